@@ -1,5 +1,6 @@
 -- A line gives a cell to its own input only.
-use Rattle.std.proofs.Common.{◌≡◌, ℕ, zero, suc, ◌+◌, ◌<◌, List, [], ◌∷◌, length, slice_index_or, Option, Some, option_map, ap, sym, ◌∙◌, subst, Bool, true, false, cond, arith}
+use Rattle.std.proofs.lemmas.Grind.{common_steps}
+use Rattle.std.proofs.Common.{rules, ◌≡◌, ℕ, zero, suc, ◌+◌, ◌<◌, List, [], ◌∷◌, length, slice_index_or, Option, Some, option_map, subst, Bool, true, false, cond, arith}
 use Rattle.std.specs.List.{find}
 use Rattle.cq_base.specs.Arriving.{Arrival}
 use Rattle.cq_base.specs.declared.cell.Cell.{Cell}
@@ -23,17 +24,14 @@ own_line_at i lines own h = own_at 0 i i lines own h (omega arith)
 found_when : (b : Bool) (input : ℕ) (a : Arrival) (o : Option Arrival) (cell : Cell) → a.cell.id.input ≡ input →
     (option_map (λ x. x.cell) o ≡ Some cell → cell.id.input ≡ input) →
     option_map (λ x. x.cell) (cond b (Some a) o) ≡ Some cell → cell.id.input ≡ input
-found_when true input a o cell own later e =
-    let same : a.cell ≡ cell = cc in ap (λ (c : Cell). c.id.input) (sym same) ∙ own
+found_when true input a o cell own later e = grind (arith, common_steps)
 found_when false input a o cell own later e = later e
 
 found_from : (p : Arrival → Bool) (input : ℕ) (line : List Arrival) (cell : Cell) → AllFrom input line →
     option_map (λ a. a.cell) (find p line) ≡ Some cell → cell.id.input ≡ input
 found_from p input [] cell own e = absurd (let P : ⊥ = cc in P)
-found_from p input (a ∷ line) cell own e =
-    found_when (p a) input a (find p line) cell own.0 (found_from p input line cell own.1) e
+found_from p input (a ∷ line) cell own e = search (rules, found_when, found_from p input line cell own.1)
 
 pub comes_to_own : (slot i : ℕ) (lines : List (List Arrival)) (cell : Cell) → AreOwn 0 lines → i < length lines →
     option_map (λ a. a.cell) (find (is_in slot) (slice_index_or lines i [])) ≡ Some cell → cell.id.input ≡ i
-comes_to_own slot i lines cell own h e =
-    found_from (is_in slot) i (slice_index_or lines i []) cell (own_line_at i lines own h) e
+comes_to_own slot i lines cell own h e = grind (arith, common_steps, found_from, is_in, slice_index_or, own_line_at)

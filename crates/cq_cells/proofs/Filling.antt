@@ -1,7 +1,8 @@
 -- The places of a slot's arrivals are filled input by input. Those before the next input have what arrives there, and
 -- the others have what stood there before. No cell stood behind the last line, and none arrives there. So in the end
 -- each place has what arrives.
-use Rattle.std.proofs.Common.{◌≡◌, ◌≢◌, ℕ, ◌+◌, ◌<◌, ◌≤◌, List, length, get_or, set, Option, None, Some, refl, sym, ap, ◌∙◌, ⊎_elim, length-set, get_or-set_same, get_or-set_other, arith}
+use Rattle.std.proofs.lemmas.Grind.{common_steps}
+use Rattle.std.proofs.Common.{rules, ◌≡◌, ℕ, ◌+◌, ◌<◌, ◌≤◌, List, length, get_or, set, Option, None, Some, refl, ◌∙◌, length-set, get_or-set_same, get_or-set_other, arith}
 use Rattle.std.specs.Prelude.{IfSome}
 use Rattle.std.proofs.lemmas.Bool.{cases_eq, cases_lt}
 use Rattle.std.proofs.lemmas.List.{length-replicate}
@@ -17,9 +18,7 @@ use Rattle.cq_cells.proofs.Owned.{none_arrives_past}
 
 -- no cell stands anywhere
 pub none_stand : (ports : ℕ) → StandBelow ports no_arrivals
-none_stand ports =
-    let none : Option Cell = None in
-    record { places = length-replicate 64 none; beyond = λ input _. arrival_at-no_arrivals input }
+none_stand ports = search (rules, length-replicate, arrival_at-no_arrivals)
 
 -- what is asked of a cell, where there is one
 pub own_if : (o : Option Cell) (input : ℕ) → ((cell : Cell) → o ≡ Some cell → cell.id.input ≡ input) →
@@ -34,41 +33,20 @@ pub record Filling (came : List Arrival) (slot n : ℕ) (old now : List (Option 
   pub left : (i : ℕ) → n ≤ i → get_or now i None ≡ get_or old i None
 
 pub filling_first : (came : List Arrival) (slot : ℕ) (old : List (Option Cell)) → Filling came slot 0 old old
-filling_first came slot old =
-    record { places = refl; done = λ i before. absurd (omega arith); left = λ i _. refl }
+filling_first came slot old = grind (arith, common_steps)
 
 pub filling_next : (came : List Arrival) (slot n : ℕ) (old now : List (Option Cell)) (cell : Option Cell) →
     Filling came slot n old now → n < length now → cell ≡ arriving_at came slot n →
     Filling came slot (n + 1) old (set now n cell)
 filling_next came slot n old now cell f inside is =
-    let none : Option Cell = None in
-    record {
-      places = length-set now n cell ∙ f.places;
-      done = λ i before.
-          ⊎_elim
-          (λ (here : i ≡ n).
-          ap (λ k. get_or (set now n cell) k none) here ∙ get_or-set_same now n cell none inside ∙ is
-          ∙ ap (arriving_at came slot) (sym here))
-          (λ (other : i ≢ n). get_or-set_other now n i cell none other ∙ f.done i (omega arith))
-          (cases_eq i n);
-      left = λ i from.
-          let other : i ≢ n = λ e. (let P : ⊥ = omega arith in P) in
-          get_or-set_other now n i cell none other ∙ f.left i (omega arith);
-    }
+    grind (arith, common_steps, length-set, get_or-set_same, get_or-set_other, f.done, cases_eq, f.left)
 
 -- ## All inputs
 
 module _ (lines : List (List Arrival)) (slot n : ℕ) (old now : List (Option Cell)) (own : AreOwn 0 lines)
     (past : length lines ≤ n) (stand : StandBelow (length lines) old) (f : Filling (all_of lines) slot n old now) where
   each_place : (i : ℕ) → get_or now i None ≡ arriving_at (all_of lines) slot i
-  each_place i =
-      let none : Option Cell = None in
-      ⊎_elim
-      (λ (before : i < n). f.done i before)
-      (λ (from : n ≤ i).
-      f.left i from ∙ sym (unwrap_or-slice_get old i none) ∙ stand.beyond i (omega arith)
-      ∙ sym (none_arrives_past slot i lines own (omega arith)))
-      (cases_lt i n)
+  each_place i = grind (arith, common_steps, unwrap_or-slice_get old, none_arrives_past slot, cases_lt)
 
   pub all_filled : now ≡ arriving (all_of lines) slot
   unfolding arriving
@@ -77,9 +55,4 @@ module _ (lines : List (List Arrival)) (slot n : ℕ) (old now : List (Option Ce
       fill_by_all (arriving_at (all_of lines) slot) now 64 none (f.places ∙ stand.places) (λ i _. each_place i)
 
   pub still_stand : StandBelow (length lines) now
-  still_stand =
-      let none : Option Cell = None in
-      record {
-        places = f.places ∙ stand.places;
-        beyond = λ i from. unwrap_or-slice_get now i none ∙ each_place i ∙ none_arrives_past slot i lines own from;
-      }
+  still_stand = grind (arith, common_steps, unwrap_or-slice_get, each_place, none_arrives_past)

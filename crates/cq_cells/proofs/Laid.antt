@@ -1,6 +1,7 @@
 -- A line is laid out: what each step of it adds, and what stands at its end.
-use Rattle.std.proofs.Common.{◌≡◌, ℕ, ◌+◌, ◌-◌, ◌/◌, ◌^◌, ◌<◌, ◌≤◌, max, List, [], length, map, not, slice_index_or, refl, ap, sym, ◌∙◌, subst, arith}
-use Rattle.std.specs.List.{AllByRecursion, range_with_len}
+use Rattle.std.proofs.lemmas.Grind.{common_steps}
+use Rattle.std.proofs.Common.{◌≡◌, ℕ, ◌+◌, ◌-◌, ◌/◌, ◌^◌, ◌<◌, ◌≤◌, max, List, [], length, map, not, slice_index_or, refl, arith, ap, ◌∙◌}
+use Rattle.std.specs.List.{AllByRecursion}
 use Rattle.std.proofs.lemmas.List.Filters.{length-filter_both}
 use Rattle.cq_base.specs.Arriving.{Arrival, end_of}
 use Rattle.cq_pcap.specs.Captured.{Captured, rows_from, file_length}
@@ -10,7 +11,7 @@ use Rattle.cq_route.specs.Route.{route}
 use Rattle.cq_route.specs.Tables.{AreTables, ports_of}
 use Rattle.cq_cells.specs.declared.line.Row.{Row}
 use Rattle.cq_cells.specs.Lines.{AreAdded, AreRows, line_arrivals}
-use Rattle.cq_cells.specs.Schedule.{cells_of, packets_of, packet_at, cells, start, arrivals_at, first_stamp}
+use Rattle.cq_cells.specs.Schedule.{cells_of, packets_of, cells, start, arrivals_at, first_stamp, packet_at}
 use Rattle.cq_cells.specs.Traffic.{IsRecorded, is_to, number_of}
 use Rattle.cq_cells.proofs.Packets.{row_of, came_by, ends_by, longer_by, length_packet, end_packet, IsSoFar, few_by, early_by, is_row, line_is, rows_are}
 use Rattle.cq_cells.proofs.Routed.{way_is, way_to_port}
@@ -33,15 +34,7 @@ pub record AreRead (captures : List (List Captured)) (input : ℕ) (ps : List Ca
 pub are_read : (captures : List (List Captured)) (input : ℕ) (ps : List Captured) (places : List PacketRow) →
     ps ≡ packets_of captures input → places ≡ rows_from 24 ps → AllByRecursion (λ p. p.stamp < 2 ^ 63) ps →
     file_length ps ≤ 2 ^ 28 → AreRead captures input ps places
-are_read captures input ps places same placed stamps small =
-    record {
-      same = same;
-      placed = placed;
-      many =
-          ap (λ (rows : List PacketRow). length rows) placed ∙ length-rows_from 24 ps
-          ∙ ap (λ (qs : List Captured). length qs) same;
-      recorded = subst (λ (qs : List Captured). IsRecorded qs) same (record { stamps = stamps; small = small });
-    }
+are_read captures input ps places same placed stamps small = grind (arith, common_steps, length-rows_from)
 
 -- a row is that of packet k, which goes to a port
 pub record IsMade (t : Tables) (captures : List (List Captured)) (input k : ℕ) (row : Row) : Type 0 where
@@ -125,17 +118,4 @@ pub at_end : (t : Tables) (captures : List (List Captured)) (input k : ℕ) (row
     IsWhole t captures input rows free all old counts
 unfolding arrivals_at
 at_end t captures input k rows free all old counts some r last s =
-    let kept : rows ≡ map (row_of t captures input) (range_with_len 0 (length (packets_of captures input))) =
-    s.kept ∙ ap (λ (n : ℕ). map (row_of t captures input) (range_with_len 0 n)) last in
-    let line : line_arrivals input t.cell_bytes rows ≡ arrivals_at t captures input =
-    ap (λ (rs : List Row). line_arrivals input t.cell_bytes rs) kept ∙ line_is t captures input in
-    let came : came_by t captures input k ≡ arrivals_at t captures input =
-    ap (λ (n : ℕ). came_by t captures input n) last in
-    record {
-      line = line;
-      kept = subst (λ (rs : List Row). AreRows t.cell_bytes rs) (sym kept) (rows_are t captures input some r);
-      all = s.all ∙ ap (λ (as_came : List Arrival). length as_came) (came ∙ sym line);
-      few = let had = s.all in omega (arith, few_by t captures input k some r (omega arith));
-      ended = s.ended ∙ ap end_of (came ∙ sym line);
-      each = subst (λ (xs : List Arrival). AreAdded xs old counts) came s.each;
-    }
+    grind (arith, common_steps, row_of, line_is, came_by, rows_are, few_by)

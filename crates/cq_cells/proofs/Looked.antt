@@ -1,6 +1,7 @@
 -- A slot is looked up in a line. The packets of a line arrive one after another, so of all packets only the last that
 -- has begun can have a cell in the slot, and that is the cell as many places on as slots have gone by since.
-use Rattle.std.proofs.Common.{◌≡◌, ◌≢◌, ℕ, zero, suc, ◌+◌, ◌-◌, ◌<◌, ◌≤◌, eqb, leb, Bool, true, false, List, length, map, slice_index_or, None, Some, refl, sym, ap, ◌∙◌, inl, inr, subst, arith, tests}
+use Rattle.std.proofs.lemmas.Grind.{common_steps}
+use Rattle.std.proofs.Common.{rules, ◌≡◌, ◌≢◌, ℕ, zero, suc, ◌+◌, ◌-◌, ◌<◌, ◌≤◌, eqb, leb, Bool, true, false, List, length, map, slice_index_or, None, Some, refl, arith, sym, ap, ◌∙◌, subst}
 use Rattle.std.specs.List.{range_with_len, find}
 use Rattle.std.specs.List.Sorted.{IsPartitionPoint, IsNonDecreasingBy}
 use Rattle.std.proofs.lemmas.Bool.{cases_eq, cases_order, ne_eqb}
@@ -31,15 +32,7 @@ none_in s f i (suc n) slot h =
 found_in : (s : ℕ) (f : ℕ → Cell) (i n slot j : ℕ) → i ≤ j → j < i + n → s + j ≡ slot →
     find (is_in slot) (map (piece s f) (range_with_len i n)) ≡ Some (piece s f j)
 found_in s f i zero slot j from to e = absurd (omega arith)
-found_in s f i (suc n) slot j from to e =
-    elim (cases_eq i j) [
-      | inl same ↦
-          let here : eqb (s + i) slot ≡ true = grind arith in
-          rw here (ap (λ k. Some (piece s f k)) same)
-      | inr other ↦
-          let not_here : eqb (s + i) slot ≡ false = ne_eqb (s + i) slot (λ p. other (omega arith)) in
-          rw not_here (found_in s f (i + 1) n slot j (omega arith) (omega arith) e)
-    ]
+found_in s f i (suc n) slot j from to e = search (rules, cases_eq, ne_eqb, found_in s f (i + 1) n slot j)
 
 -- a packet has no cell before its start
 row_later : (input cell_bytes k : ℕ) (row : Row) (slot : ℕ) → slot < row.start →
@@ -56,14 +49,7 @@ row_over input cell_bytes k row slot h =
 pub begun_from_partition : (rows : List Row) (slot n : ℕ) → n ≤ length rows →
     IsPartitionPoint (λ row. leb row.start slot ≡ true) (λ row. leb row.start slot ≡ false) rows n →
     IsBegun rows slot n
-begun_from_partition rows slot n few p = record {
-  before =
-      λ k h. let test = p.0 k (record { start = 0; cells = 0; output = 0; class = 0; len = 0 }) (omega arith) h in
-      grind (arith, tests, test);
-  after =
-      λ k b h. let test = p.1 k (record { start = 0; cells = 0; output = 0; class = 0; len = 0 }) b h in
-      grind (arith, tests, test);
-}
+begun_from_partition rows slot n few p = grind (arith, common_steps)
 
 -- a row of nothing
 abbrev pub no_row : Row
@@ -73,33 +59,12 @@ no_row = record { start = 0; cells = 0; output = 0; class = 0; len = 0 }
 pub begun_beside : (rows : List Row) (slot n : ℕ) → IsNonDecreasingBy (λ row. row.start) rows → n ≤ length rows →
     (0 < n → (row_at rows (n - 1)).start ≤ slot) → (n < length rows → slot < (row_at rows n).start) →
     IsBegun rows slot n
-begun_beside rows slot n rise few last next = record {
-  before = λ k h.
-      let some : 0 < n = omega arith in
-      let up : (row_at rows k).start ≤ (row_at rows (n - 1)).start =
-      rise k (n - 1) no_row (omega arith) (omega arith) in
-      let begun : (row_at rows (n - 1)).start ≤ slot = last some in
-      omega arith;
-  after = λ k b h.
-      let there : n < length rows = omega arith in
-      let up : (row_at rows n).start ≤ (row_at rows k).start = rise n k no_row b h in
-      let later : slot < (row_at rows n).start = next there in
-      omega arith;
-}
+begun_beside rows slot n rise few last next = grind (arith, common_steps)
 
 -- the starts rise
 pub starts_rise : (cell_bytes : ℕ) (rows : List Row) → AreRows cell_bytes rows →
     IsNonDecreasingBy (λ row. row.start) rows
-starts_rise cell_bytes rows r i j d b h =
-    elim (cases_eq i j) [
-      | inl same ↦ let P : ℕ → Type 0 = λ k. (slice_index_or rows i d).start ≤ (slice_index_or rows k d).start in
-          subst P same (omega arith)
-      | inr other ↦
-          let ended = r.apart i j (omega arith) h in
-          let first : slice_index_or rows i d ≡ row_at rows i = get_or_default rows i d no_row (omega arith) in
-          let second : slice_index_or rows j d ≡ row_at rows j = get_or_default rows j d no_row h in
-          omega (arith, ap (λ (row : Row). row.start) first, ap (λ (row : Row). row.start) second)
-    ]
+starts_rise cell_bytes rows r i j d b h = search (rules, cases_eq, slice_index_or, r.apart, get_or_default)
 
 -- the last packet that has begun, and its row as it was read
 pub record LastBegun (rows : List Row) (slot k : ℕ) (row : Row) : Type 0 where
@@ -111,21 +76,13 @@ pub record LastBegun (rows : List Row) (slot k : ℕ) (row : Row) : Type 0 where
 pub last_begun : (rows seen : List Row) (slot n k : ℕ) (row : Row) → seen ≡ rows → n ≤ length seen →
     IsBegun seen slot n → n ≡ k + 1 → (k < length rows → row ≡ slice_index_or rows k row) →
     LastBegun rows slot k row
-last_begun rows seen slot n k row same few begun next read =
-    let inside : k < length rows = omega (arith, ap (λ (rs : List Row). length rs) same) in
-    let here : IsBegun rows slot (k + 1) =
-    subst (λ (rs : List Row). IsBegun rs slot (k + 1)) same (subst (IsBegun seen slot) next begun) in
-    let is : row ≡ row_at rows k = get_or_read rows k row inside (read inside) no_row in
-    let started = here.before k (omega arith) in
-    record { inside = inside; begun = here; is = is; before = omega (arith, ap (λ (r : Row). r.start) is) }
+last_begun rows seen slot n k row same few begun next read = grind (arith, common_steps, get_or_read)
 
 -- before the first packet nothing arrives
 pub line_none : (input cell_bytes : ℕ) (rows : List Row) (slot : ℕ) → IsBegun rows slot 0 →
     find (is_in slot) (line_arrivals input cell_bytes rows) ≡ None
 unfolding line_arrivals
-line_none input cell_bytes rows slot b =
-    find_none (is_in slot) (λ k. row_arrivals input cell_bytes k (row_at rows k)) 0 (length rows)
-    (λ k f t. row_later input cell_bytes k (row_at rows k) slot (b.after k f (omega arith)))
+line_none input cell_bytes rows slot b = grind (arith, common_steps, find_none, row_later, b.after)
 
 -- later it is a cell of the last packet that has begun, if any
 line_at : (input cell_bytes : ℕ) (rows : List Row) (slot k : ℕ) → AreRows cell_bytes rows → k < length rows →
@@ -133,19 +90,9 @@ line_at : (input cell_bytes : ℕ) (rows : List Row) (slot k : ℕ) → AreRows 
     find (is_in slot) (line_arrivals input cell_bytes rows)
     ≡ find (is_in slot) (row_arrivals input cell_bytes k (row_at rows k))
 unfolding line_arrivals
-line_at input cell_bytes rows slot k r inside b =
-    find_only (is_in slot) (λ j. row_arrivals input cell_bytes j (row_at rows j)) 0 (length rows) k (omega arith)
-    (omega arith)
-    (λ j f t other. elim (cases_order j k) [
-      | inl same ↦ absurd (other same)
-      | inr apart ↦ elim apart [
-        | inl before ↦
-            let ended = r.apart j k before inside in
-            let begun = b.before k (omega arith) in
-            row_over input cell_bytes j (row_at rows j) slot (omega arith)
-        | inr after ↦ row_later input cell_bytes j (row_at rows j) slot (b.after j (omega arith) (omega arith))
-      ]
-    ])
+line_at input cell_bytes rows slot k r inside b = find_only (is_in slot)
+    (λ j. row_arrivals input cell_bytes j (row_at rows j)) 0 (length rows) k (omega arith) (omega arith)
+    (λ j f t other. search (arith, rules, cases_order, r.apart, b.before, row_over, row_later, b.after))
 
 module _ (input cell_bytes : ℕ) (rows : List Row) (slot k : ℕ) (row : Row) (r : AreRows cell_bytes rows)
     (last : LastBegun rows slot k row) where

@@ -1,5 +1,6 @@
 -- Each line's cells arrive at its own input, so what is asked of an input is found in its line.
-use Rattle.std.proofs.Common.{◌≡◌, ◌≢◌, ℕ, zero, suc, ◌+◌, ◌<◌, ◌≤◌, max, eqb, Bool, true, false, cond, ◌&&◌, List, [], ◌∷◌, ◌++◌, length, filter, take, slice_index_or, Option, None, Some, option_map, refl, ap, sym, ◌∙◌, arith}
+use Rattle.std.proofs.lemmas.Grind.{common_steps}
+use Rattle.std.proofs.Common.{◌≡◌, ◌≢◌, ℕ, zero, suc, ◌+◌, ◌<◌, ◌≤◌, max, Bool, true, false, cond, ◌&&◌, List, [], ◌∷◌, ◌++◌, length, filter, take, slice_index_or, Option, None, Some, option_map, refl, ap, ◌∙◌, arith, sym}
 use Rattle.std.specs.List.{AllByRecursion, find}
 use Rattle.std.proofs.lemmas.Bool.{ne_eqb}
 use Rattle.std.proofs.lemmas.List.{append-nil, take_more}
@@ -18,23 +19,18 @@ AllFrom input line = AllByRecursion (λ (a : Arrival). a.cell.id.input ≡ input
 -- a line has no cell of another input
 other_line : (input i : ℕ) (line : List Arrival) → AllFrom i line → i ≢ input → filter (is_from input) line ≡ []
 other_line input i [] own other = refl
-other_line input i (a ∷ line) own other =
-    let not_its : eqb a.cell.id.input input ≡ false = ne_eqb a.cell.id.input input (λ p. other (sym own.0 ∙ p)) in
-    rw not_its (other_line input i line own.1 other)
+other_line input i (a ∷ line) own other = grind (arith, common_steps, ne_eqb, other_line input i line own.1 other)
 
 -- of its own input all
 own_line : (i : ℕ) (line : List Arrival) → AllFrom i line → filter (is_from i) line ≡ line
 own_line i [] own = refl
-own_line i (a ∷ line) own =
-    let its : eqb a.cell.id.input i ≡ true = grind (arith, own.0) in
-    rw its (ap (λ (cs : List Arrival). a ∷ cs) (own_line i line own.1))
+own_line i (a ∷ line) own = grind (arith, common_steps, own_line i line own.1)
 
 -- lines of other inputs have none
 none_from : (input i : ℕ) (lines : List (List Arrival)) → AreOwn i lines →
     ((k : ℕ) → k < length lines → i + k ≢ input) → filter (is_from input) (all_of lines) ≡ []
 none_from input i [] own others = refl
-none_from input i (line ∷ lines) own others =
-    filter-append (is_from input) line (all_of lines)
+none_from input i (line ∷ lines) own others = filter-append (is_from input) line (all_of lines)
     ∙ ap (λ (cs : List Arrival). cs ++ filter (is_from input) (all_of lines))
     (other_line input i line own.0 (λ same. others 0 (omega arith) (omega arith)))
     ∙ none_from input (i + 1) lines own.1 (λ k h same. others (suc k) (omega arith) (omega arith))
@@ -73,33 +69,23 @@ find_filter p q (a ∷ came) = go (p a) (q a) (find (λ x. p x && q x) came) (fi
 -- the cell that arrives at an input is one of those of the input
 pub arriving_of_input : (came : List Arrival) (slot input : ℕ) →
     arriving_at came slot input ≡ option_map (λ a. a.cell) (find (is_in slot) (filter (is_from input) came))
-arriving_of_input came slot input =
-    ap (λ (o : Option Arrival). option_map (λ a. a.cell) o) (find_filter (is_in slot) (is_from input) came)
+arriving_of_input came slot input = simp (option_map, find_filter, is_in)
 
 -- it is found in its line
 pub arriving_at_line : (slot k : ℕ) (lines : List (List Arrival)) → AreOwn 0 lines → k < length lines →
     arriving_at (all_of lines) slot k ≡ option_map (λ a. a.cell) (find (is_in slot) (slice_index_or lines k []))
-arriving_at_line slot k lines own h =
-    arriving_of_input (all_of lines) slot k
-    ∙ ap (λ (cs : List Arrival). option_map (λ a. a.cell) (find (is_in slot) cs))
-    (counted k 0 k lines own (omega arith) h)
+arriving_at_line slot k lines own h = grind (arith, common_steps, arriving_of_input, option_map, is_in, counted)
 
 -- past the lines none arrives
 pub none_arrives_past : (slot k : ℕ) (lines : List (List Arrival)) → AreOwn 0 lines → length lines ≤ k →
     arriving_at (all_of lines) slot k ≡ None
-none_arrives_past slot k lines own h =
-    arriving_of_input (all_of lines) slot k
-    ∙ ap (λ (cs : List Arrival). option_map (λ a. a.cell) (find (is_in slot) cs))
-    (none_from k 0 lines own (λ j b e. (let P : ⊥ = omega arith in P)))
+none_arrives_past slot k lines own h = grind (arith, common_steps, arriving_of_input, option_map, is_in, none_from)
 
 -- ## One line more
 
 pub all_of_more : (lines : List (List Arrival)) (i : ℕ) (line : List Arrival) → i < length lines →
     line ≡ slice_index_or lines i line → all_of (take (i + 1) lines) ≡ all_of (take i lines) ++ line
-all_of_more lines i line h is =
-    ap (λ (ls : List (List Arrival)). all_of ls) (take_more lines i line h)
-    ∙ flat_map-append (λ (line : List Arrival). line) (take i lines) (slice_index_or lines i line ∷ [])
-    ∙ ap (λ (cs : List Arrival). all_of (take i lines) ++ cs) (append-nil (slice_index_or lines i line) ∙ sym is)
+all_of_more lines i line h is = grind (arith, common_steps, take_more, flat_map-append, slice_index_or, append-nil)
 
 -- the end of two lists
 pub end_of-append : (xs ys : List Arrival) → end_of (xs ++ ys) ≡ max (end_of xs) (end_of ys)

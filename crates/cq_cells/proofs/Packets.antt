@@ -1,6 +1,7 @@
 -- The packets of an input, one after another. The rows so far give the arrivals so far: their number, their end, and
 -- how many are for each output.
-use Rattle.std.proofs.Common.{◌≡◌, ℕ, zero, suc, ◌+◌, ◌-◌, ◌/◌, ◌^◌, ◌<◌, ◌≤◌, max, eqb, Bool, true, false, cond, List, [], ◌∷◌, ◌++◌, length, map, filter, flat_map, take, slice_index_or, slice_set, refl, ap, sym, ◌∙◌, inl, inr, subst, arith}
+use Rattle.std.proofs.lemmas.Grind.{common_steps}
+use Rattle.std.proofs.Common.{rules, ◌≡◌, ℕ, zero, suc, ◌+◌, ◌-◌, ◌/◌, ◌^◌, ◌<◌, ◌≤◌, max, eqb, Bool, true, false, cond, List, [], ◌∷◌, ◌++◌, length, map, flat_map, take, slice_index_or, slice_set, refl, ap, arith, sym, subst, ◌∙◌, inl, inr}
 use Rattle.std.specs.List.{AllByRecursion, range_with_len, sum_by}
 use Rattle.std.proofs.lemmas.Bool.{cases_eq, ne_eqb}
 use Rattle.std.proofs.lemmas.List.{append-nil, length-append, get_or-set_same, get_or-set_other, length-set}
@@ -15,7 +16,7 @@ use Rattle.cq_pcap.specs.Captured.{Captured, file_length}
 use Rattle.cq_route.specs.declared.tables.Tables.{Tables}
 use Rattle.cq_route.specs.Route.{route}
 use Rattle.cq_cells.specs.declared.line.Row.{Row}
-use Rattle.cq_cells.specs.Lines.{AreAdded, AreRows, row_arrivals, row_at, line_arrivals}
+use Rattle.cq_cells.specs.Lines.{AreAdded, AreRows, row_at, line_arrivals}
 use Rattle.cq_cells.specs.Schedule.{cells_of, packets_of, packet_at, stamp_slot, cells, start, cell_of, arrivals_of, arrivals_at, first_stamp}
 use Rattle.cq_cells.specs.Traffic.{IsRecorded, is_to, number_of}
 use Rattle.cq_cells.proofs.Looked.{piece, no_row}
@@ -39,32 +40,22 @@ came_by t captures input k = flat_map (arrivals_of t captures input) (range_with
 
 pub came_more : (t : Tables) (captures : List (List Captured)) (input k : ℕ) →
     came_by t captures input (k + 1) ≡ came_by t captures input k ++ arrivals_of t captures input k
-came_more t captures input k =
-    ap (λ (ks : List ℕ). flat_map (arrivals_of t captures input) ks) (range_more 0 k)
-    ∙ flat_map-append (arrivals_of t captures input) (range_with_len 0 k) ((0 + k) ∷ [])
-    ∙ ap (λ (came : List Arrival). came_by t captures input k ++ came)
-    (append-nil (arrivals_of t captures input (0 + k)) ∙ ap (arrivals_of t captures input) (omega arith))
+came_more t captures input k = grind (arith, common_steps, flat_map, range_more, flat_map-append, append-nil)
 
 -- so there are more of them, and they end when the later ones do
 pub longer_by : (t : Tables) (captures : List (List Captured)) (input k : ℕ) →
     length (came_by t captures input (k + 1))
     ≡ length (came_by t captures input k) + length (arrivals_of t captures input k)
-longer_by t captures input k =
-    ap (λ (came : List Arrival). length came) (came_more t captures input k)
-    ∙ length-append (came_by t captures input k) (arrivals_of t captures input k)
+longer_by t captures input k = grind (arith, common_steps, came_more, length-append)
 
 pub ends_by : (t : Tables) (captures : List (List Captured)) (input k : ℕ) →
     end_of (came_by t captures input (k + 1))
     ≡ max (end_of (came_by t captures input k)) (end_of (arrivals_of t captures input k))
-ends_by t captures input k =
-    ap end_of (came_more t captures input k)
-    ∙ end_of-append (came_by t captures input k) (arrivals_of t captures input k)
+ends_by t captures input k = grind (arith, common_steps, came_more, end_of-append)
 
 pub length_packet : (t : Tables) (captures : List (List Captured)) (input k : ℕ) →
     length (arrivals_of t captures input k) ≡ cells t captures input k
-length_packet t captures input k =
-    length-map-range_with_len (piece (start t captures input k) (cell_of t captures input k)) 0
-    (cells t captures input k)
+length_packet t captures input k = grind (arith, common_steps, length-map-range_with_len, piece)
 
 end_pieces : (s : ℕ) (f : ℕ → Cell) (i n : ℕ) → end_of (map (piece s f) (range_with_len i (suc n))) ≡ s + (i + suc n)
 end_pieces s f i zero = omega arith
@@ -105,9 +96,7 @@ end_by t captures input (suc k) =
 -- a packet begins where those before it have ended, or later
 pub start_by : (t : Tables) (captures : List (List Captured)) (input k : ℕ) →
     start t captures input k ≡ max (stamp_slot t captures input k) (end_of (came_by t captures input k))
-start_by t captures input k =
-    start_is t captures input k
-    ∙ ap (λ (n : ℕ). max (stamp_slot t captures input k) n) (sym (end_by t captures input k))
+start_by t captures input k = grind (arith, common_steps, start_is, end_by)
 
 -- one arrival more, for the output or not
 number_when : (b : Bool) (a : Arrival) (came : List Arrival) (j : ℕ) → eqb a.cell.output j ≡ b →
@@ -127,25 +116,18 @@ number_pieces : (s : ℕ) (f : ℕ → Cell) (output j i n : ℕ) → ((m : ℕ)
     number_of (is_to j) (map (piece s f) (range_with_len i n)) ≡ cond (eqb output j) n 0
 number_pieces s f output j i zero h = none_when (eqb output j)
 number_pieces s f output j i (suc n) h =
-    number_when (eqb output j) (piece s f i) (map (piece s f) (range_with_len (i + 1) n)) j
-    (ap (λ (o : ℕ). eqb o j) (h i))
-    ∙ step_when (eqb output j) (number_of (is_to j) (map (piece s f) (range_with_len (i + 1) n))) n
-    (number_pieces s f output j (i + 1) n h)
+    grind (arith, common_steps, number_when, piece, step_when, number_pieces s f output j (i + 1) n h)
 
 -- how many cells of a packet are for an output
 number_packet : (t : Tables) (captures : List (List Captured)) (input k j : ℕ) →
     number_of (is_to j) (arrivals_of t captures input k)
     ≡ cond (eqb (row_of t captures input k).output j) (cells t captures input k) 0
 unfolding cell_of
-number_packet t captures input k j =
-    number_pieces (start t captures input k) (cell_of t captures input k) (row_of t captures input k).output j 0
-    (cells t captures input k) (λ m. refl)
+number_packet t captures input k j = search (rules, number_pieces)
 
 pub number-append : (j : ℕ) (xs ys : List Arrival) →
     number_of (is_to j) (xs ++ ys) ≡ number_of (is_to j) xs + number_of (is_to j) ys
-number-append j xs ys =
-    ap (λ (came : List Arrival). length came) (filter-append (is_to j) xs ys)
-    ∙ length-append (filter (is_to j) xs) (filter (is_to j) ys)
+number-append j xs ys = grind (arith, common_steps, filter-append, length-append)
 
 -- what is kept of the packets so far
 pub record IsSoFar (t : Tables) (captures : List (List Captured)) (input k : ℕ) (rows : List Row) (free cells : ℕ)
@@ -242,13 +224,7 @@ cells_by t captures input (suc k) some h =
 pub few_by : (t : Tables) (captures : List (List Captured)) (input k : ℕ) → 1 ≤ t.cell_bytes →
     IsRecorded (packets_of captures input) → k ≤ length (packets_of captures input) →
     length (came_by t captures input k) ≤ 2 ^ 28
-few_by t captures input k some r h =
-    let small = r.small in
-    omega (
-      arith,
-      cells_by t captures input k some h,
-      sum_by-take-le (λ (p : Captured). 16 + length p.body) (packets_of captures input) k,
-    )
+few_by t captures input k some r h = grind (arith, common_steps, cells_by, sum_by-take-le)
 
 stamp_at : (ps : List Captured) (k : ℕ) (d : Captured) → AllByRecursion (λ p. p.stamp < 2 ^ 63) ps → k < length ps →
     (slice_index_or ps k d).stamp < 2 ^ 63
@@ -289,28 +265,14 @@ pub is_row : (t : Tables) (captures : List (List Captured)) (input k : ℕ) (row
     row ≡ row_of t captures input k
 unfolding stamp_slot cells
 is_row t captures input k row origin free stamp len from ended its_stamp its_len starts cut way long =
-    let slot : (stamp - origin) / t.slot_ns ≡ stamp_slot t captures input k =
-    ap (λ (n : ℕ). (n - origin) / t.slot_ns) its_stamp
-    ∙ ap (λ (n : ℕ). ((packet_at captures input k).stamp - n) / t.slot_ns) from in
-    let begins : row.start ≡ start t captures input k =
-    starts ∙ ap (λ (n : ℕ). max n free) slot ∙ ap (λ (n : ℕ). max (stamp_slot t captures input k) n) ended
-    ∙ sym (start_by t captures input k) in
-    let many : row.cells ≡ cells t captures input k = cut ∙ ap (λ (n : ℕ). cells_of n t.cell_bytes) its_len in
-    let whole : row.len ≡ length (packet_at captures input k).body = long ∙ its_len in
-    λ e. record { start = begins e; cells = many e; output = (way e).0; class = (way e).1; len = whole e }
+    grind (arith, common_steps, start_by)
 
 -- a packet has ended when a later one begins
 pub ends_before : (t : Tables) (captures : List (List Captured)) (input j k : ℕ) → j < k →
     start t captures input j + cells t captures input j ≤ start t captures input k
 unfolding start
 ends_before t captures input j zero h = absurd (omega arith)
-ends_before t captures input j (suc k) h =
-    elim (cases_eq j k) [
-      | inl same ↦ let P : ℕ →
-          Type 0 = λ i. start t captures input i + cells t captures input i ≤ start t captures input (suc k) in
-          subst P (sym same) (omega arith)
-      | inr other ↦ omega (arith, ends_before t captures input j k (omega arith))
-    ]
+ends_before t captures input j (suc k) h = grind (arith, common_steps, cases_eq, ends_before t captures input j k)
 
 row_at_is : (t : Tables) (captures : List (List Captured)) (input n k : ℕ) → k < n →
     row_at (map (row_of t captures input) (range_with_len 0 n)) k ≡ row_of t captures input k
@@ -321,13 +283,7 @@ pub line_is : (t : Tables) (captures : List (List Captured)) (input : ℕ) →
     line_arrivals input t.cell_bytes (map (row_of t captures input)
     (range_with_len 0 (length (packets_of captures input)))) ≡ arrivals_at t captures input
 unfolding line_arrivals arrivals_at cell_of
-line_is t captures input =
-    let n : ℕ = length (packets_of captures input) in
-    let rows : List Row = map (row_of t captures input) (range_with_len 0 n) in
-    ap (λ (m : ℕ). flat_map (λ (k : ℕ). row_arrivals input t.cell_bytes k (row_at rows k)) (range_with_len 0 m))
-    (length-map-range_with_len (row_of t captures input) 0 n)
-    ∙ flat_same (λ (k : ℕ). row_arrivals input t.cell_bytes k (row_at rows k)) (arrivals_of t captures input) 0 n
-    (λ k b h. ap (row_arrivals input t.cell_bytes k) (row_at_is t captures input n k (omega arith)))
+line_is t captures input = search (rules, flat_map, length-map-range_with_len, flat_same, row_at_is)
 
 file_long : (ps : List Captured) → length ps ≤ file_length ps
 file_long [] = omega arith
@@ -348,26 +304,13 @@ rows_are t captures input some r =
       few = omega (arith, file_long ps);
       small = λ k h.
           let inside : k < length ps = omega arith in
-          let longer = longer_by t captures input k in
-          omega (
-            arith,
-            ap (λ (row : Row). row.cells) (row_at_is t captures input (length ps) k inside),
-            few_by t captures input (k + 1) some r (omega arith),
-            length_packet t captures input k,
-          );
-      cut = λ k h.
-          let is : row_at rows k ≡ row_of t captures input k = row_at_is t captures input (length ps) k (omega arith) in
-          ap (λ (row : Row). row.cells) is ∙ sym (ap (λ (row : Row). cells_of row.len t.cell_bytes) is);
-      apart = λ j k b h.
-          let first : row_at rows j ≡ row_of t captures input j =
-          row_at_is t captures input (length ps) j (omega arith) in
-          let second : row_at rows k ≡ row_of t captures input k =
-          row_at_is t captures input (length ps) k (omega arith) in
-          omega (
-            arith,
-            ends_before t captures input j k b,
-            ap (λ (row : Row). row.start) first,
-            ap (λ (row : Row). row.cells) first,
-            ap (λ (row : Row). row.start) second,
-          );
+          let longer = longer_by t captures input k in search (arith, rules, row_at_is, few_by, length_packet);
+      cut = search (arith, rules, row_at_is);
+      apart = λ j k b h. search (
+        arith,
+        rules,
+        row_at_is t captures input (length ps) j,
+        row_at_is t captures input (length ps) k,
+        ends_before t captures input j k b,
+      );
     }

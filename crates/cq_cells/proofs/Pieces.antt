@@ -1,5 +1,5 @@
 -- How a packet is cut.
-use Rattle.std.proofs.Common.{ℕ, zero, suc, ◌+◌, ◌*◌, ◌/◌, ◌%◌, ◌<◌, ◌≤◌, min, arith}
+use Rattle.std.proofs.Common.{rules, ℕ, zero, suc, ◌+◌, ◌*◌, ◌/◌, ◌%◌, ◌<◌, ◌≤◌, min, arith}
 use Rattle.std.proofs.Math.Nat.{div-le_self, mul-le-mul_right}
 use Rattle.std.proofs.lemmas.Grind.{div_ceil_times}
 use Rattle.cq_cells.specs.Schedule.{cells_of}
@@ -11,9 +11,7 @@ piece_begins len cell_bytes zero some h = omega arith
 piece_begins len cell_bytes (suc i) some h =
     let q : ℕ = len / cell_bytes + min 1 (len % cell_bytes) in
     let below : suc (suc i) ≤ q = omega arith in
-    let times : suc (suc i) * cell_bytes ≤ q * cell_bytes = mul-le-mul_right cell_bytes below in
-    let most = div_ceil_times len cell_bytes some in
-    omega arith
+    search (arith, rules, mul-le-mul_right cell_bytes below, div_ceil_times len cell_bytes some)
 
 -- a packet has a cell
 pub cells_above : (len cell_bytes : ℕ) → 0 < cells_of len cell_bytes

@@ -1,27 +1,23 @@
 -- Lists that are made number by number.
-use Rattle.std.proofs.Common.{◌≡◌, ◌≢◌, ℕ, zero, suc, ◌+◌, ◌<◌, ◌≤◌, Bool, List, [], ◌∷◌, ◌++◌, map, flat_map, Option, None, Some, refl, ap, sym, ◌∙◌, inl, inr, set, get_or, length, arith}
+use Rattle.std.proofs.lemmas.Grind.{common_steps}
+use Rattle.std.proofs.Common.{◌≡◌, ◌≢◌, ℕ, zero, suc, ◌+◌, ◌<◌, ◌≤◌, Bool, List, [], ◌∷◌, ◌++◌, map, flat_map, Option, None, Some, refl, ap, sym, ◌∙◌, set, arith, inl, inr, get_or, length}
 use Rattle.std.specs.List.{range_with_len, find}
 use Rattle.std.specs.Option.{option_or}
 use Rattle.std.proofs.lemmas.Bool.{cases_eq}
 use Rattle.std.proofs.lemmas.List.Folds.{find-append}
-use Rattle.std.proofs.lemmas.List.{map-id}
+use Rattle.std.proofs.lemmas.List.{map-id, get_or-set_same, get_or-set_other, length-set}
 use Rattle.std.proofs.lemmas.List.FromFn.{map-range_with_len_more, fill_by_all, length-map-range_with_len, get_or-map-range_with_len}
-use Rattle.std.proofs.lemmas.List.{get_or-set_same, get_or-set_other, length-set}
 
 -- the numbers up to the next one
 pub range_more : (a n : ℕ) → range_with_len a (n + 1) ≡ range_with_len a n ++ (a + n) ∷ []
-range_more a n =
-    sym (map-id (range_with_len a (n + 1))) ∙ map-range_with_len_more (λ j. j) a n (a + n) refl
+range_more a n = sym (map-id (range_with_len a (n + 1))) ∙ map-range_with_len_more (λ j. j) a n (a + n) refl
     ∙ ap (λ ns. ns ++ (a + n) ∷ []) (map-id (range_with_len a n))
 
 -- two functions that agree on the numbers make the same list
 pub flat_same : {X : Type 0} (f g : ℕ → List X) (a n : ℕ) → ((j : ℕ) → a ≤ j → j < a + n → f j ≡ g j) →
     flat_map f (range_with_len a n) ≡ flat_map g (range_with_len a n)
 flat_same f g a zero h = refl
-flat_same f g a (suc n) h =
-    let here : f a ≡ g a = h a (omega arith) (omega arith) in
-    let rest = flat_same f g (a + 1) n (λ j b e. h j (omega arith) (omega arith)) in
-    cc
+flat_same f g a (suc n) h = grind (arith, common_steps, flat_same f g (a + 1) n)
 
 -- what is found, or else nothing
 pub or_none : {X : Type 0} (o : Option X) → option_or o None ≡ o
@@ -32,11 +28,7 @@ or_none (Some x) = refl
 pub find_none : {X : Type 0} (p : X → Bool) (f : ℕ → List X) (a n : ℕ) →
     ((j : ℕ) → a ≤ j → j < a + n → find p (f j) ≡ None) → find p (flat_map f (range_with_len a n)) ≡ None
 find_none p f a zero h = refl
-find_none p f a (suc n) h =
-    let here : find p (f a) ≡ None = h a (omega arith) (omega arith) in
-    find-append p (f a) (flat_map f (range_with_len (a + 1) n))
-    ∙ ap (λ o. option_or o (find p (flat_map f (range_with_len (a + 1) n)))) here
-    ∙ find_none p f (a + 1) n (λ j b e. h j (omega arith) (omega arith))
+find_none p f a (suc n) h = grind (arith, common_steps, find-append, flat_map, find_none p f (a + 1) n)
 
 -- what is found at the one number that can have it
 pub find_only : {X : Type 0} (p : X → Bool) (f : ℕ → List X) (a n k : ℕ) → a ≤ k → k < a + n →
@@ -44,19 +36,7 @@ pub find_only : {X : Type 0} (p : X → Bool) (f : ℕ → List X) (a n k : ℕ)
     find p (flat_map f (range_with_len a n)) ≡ find p (f k)
 find_only p f a zero k from to h = absurd (omega arith)
 find_only {X = X} p f a (suc n) k from to h =
-    let rest : List X = flat_map f (range_with_len (a + 1) n) in
-    elim (cases_eq a k) [
-      | inl here ↦
-          find-append p (f a) rest
-          ∙ ap (λ o. option_or (find p (f a)) o) (find_none p f (a + 1) n
-          (λ j b e. h j (omega arith) (omega arith) (omega arith)))
-          ∙ or_none (find p (f a))
-          ∙ ap (λ j. find p (f j)) here
-      | inr other ↦
-          find-append p (f a) rest
-          ∙ ap (λ o. option_or o (find p rest)) (h a (omega arith) (omega arith) other)
-          ∙ find_only p f (a + 1) n k (omega arith) (omega arith) (λ j b e. h j (omega arith) (omega arith))
-    ]
+    grind (arith, common_steps, flat_map, cases_eq, find-append, find_none, or_none, find_only p f (a + 1) n k)
 
 -- one value that is written among those of the numbers
 pub set_one : {X : Type 0} (f g : ℕ → X) (n i : ℕ) (y : X) → i < n → g i ≡ y → ((j : ℕ) → j < n → j ≢ i → g j ≡ f j) →

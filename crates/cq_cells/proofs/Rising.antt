@@ -1,7 +1,8 @@
 -- The cells of an input arrive one after another: those of a packet in consecutive slots, and those of the next
 -- packet after them. Cells of two inputs have nothing to do with each other. So each arrival of the list is later
 -- than those before it at its input.
-use Rattle.std.proofs.Common.{◌≡◌, ℕ, zero, suc, ◌+◌, ◌*◌, ◌^◌, ◌<◌, ◌≤◌, List, [], ◌∷◌, ◌++◌, length, map, filter, flat_map, refl, sym, ap, ◌∙◌, arith}
+use Rattle.std.proofs.lemmas.Grind.{common_steps}
+use Rattle.std.proofs.Common.{rules, ◌≡◌, ℕ, zero, suc, ◌+◌, ◌*◌, ◌^◌, ◌<◌, ◌≤◌, List, [], ◌∷◌, ◌++◌, length, map, filter, flat_map, refl, arith, sym, ap, ◌∙◌}
 use Rattle.std.specs.List.{AllByRecursion, AllPairs, range_with_len}
 use Rattle.std.proofs.lemmas.List.{length-append}
 use Rattle.std.proofs.lemmas.List.Elements.{All-from_recursion}
@@ -13,7 +14,7 @@ use Rattle.cq_pcap.specs.Captured.{Captured}
 use Rattle.cq_route.specs.declared.tables.Tables.{Tables}
 use Rattle.cq_route.specs.Tables.{AreTables, classes_of, ports_of}
 use Rattle.cq_route.proofs.Bounds.{route_output, route_class}
-use Rattle.cq_cells.specs.Schedule.{packets_of, packet_at, cells, start, cell_of, arrivals_of, arrivals_at, arrivals}
+use Rattle.cq_cells.specs.Schedule.{packets_of, cells, start, cell_of, arrivals_of, arrivals_at, arrivals}
 use Rattle.cq_cells.specs.Lines.{AreOwn, all_of}
 use Rattle.std.proofs.lemmas.List.Folds.{flat_map-map}
 use Rattle.cq_cells.specs.Traffic.{IsInRange, IsLater, IsTraffic, IsShort, IsRecorded, is_from}
@@ -31,9 +32,7 @@ all_append P (x ∷ xs) ys a b = (a.0, all_append P xs ys a.1 b)
 pub all_flat : (P : Arrival → Type 0) (f : ℕ → List Arrival) (a n : ℕ) →
     ((k : ℕ) → a ≤ k → k < a + n → AllByRecursion P (f k)) → AllByRecursion P (flat_map f (range_with_len a n))
 all_flat P f a zero h = tt
-all_flat P f a (suc n) h =
-    all_append P (f a) (flat_map f (range_with_len (a + 1) n)) (h a (omega arith) (omega arith))
-    (all_flat P f (a + 1) n (λ k b e. h k (omega arith) (omega arith)))
+all_flat P f a (suc n) h = grind (arith, common_steps, all_append, flat_map, all_flat P f (a + 1) n)
 
 all_pieces : (P : Arrival → Type 0) (s : ℕ) (f : ℕ → Cell) (a n : ℕ) → ((k : ℕ) → P (piece s f k)) →
     AllByRecursion P (map (piece s f) (range_with_len a n))
@@ -49,26 +48,16 @@ all_each P Q (x ∷ xs) h a = (h x a.0, all_each P Q xs h a.1)
 pub own_input : (t : Tables) (captures : List (List Captured)) (input : ℕ) →
     AllFrom input (arrivals_at t captures input)
 unfolding arrivals_at cell_of
-own_input t captures input =
-    all_flat (λ (a : Arrival). a.cell.id.input ≡ input) (arrivals_of t captures input) 0
-    (length (packets_of captures input))
-    (λ k b h. all_pieces (λ (a : Arrival). a.cell.id.input ≡ input) (start t captures input k)
-    (cell_of t captures input k) 0 (cells t captures input k) (λ i. refl))
+own_input t captures input = search (rules, all_flat, all_pieces)
 
 -- in range
 input_in_range : (t : Tables) (captures : List (List Captured)) (input : ℕ) → AreTables t → input < ports_of t.setup →
     AllByRecursion (IsInRange (ports_of t.setup) (classes_of t.setup)) (arrivals_at t captures input)
 unfolding arrivals_at cell_of
-input_in_range t captures input a inside =
-    all_flat (IsInRange (ports_of t.setup) (classes_of t.setup)) (arrivals_of t captures input) 0
-    (length (packets_of captures input))
-    (λ k b h. all_pieces (IsInRange (ports_of t.setup) (classes_of t.setup)) (start t captures input k)
-    (cell_of t captures input k) 0 (cells t captures input k)
-    (λ i. record {
-      input = inside;
-      output = route_output t input (packet_at captures input k).body a;
-      class = route_class t input (packet_at captures input k).body a;
-    }))
+input_in_range t captures input a inside = all_flat (IsInRange (ports_of t.setup) (classes_of t.setup))
+    (arrivals_of t captures input) 0 (length (packets_of captures input)) (λ k b h. all_pieces
+    (IsInRange (ports_of t.setup) (classes_of t.setup)) (start t captures input k) (cell_of t captures input k)
+    0 (cells t captures input k) (λ i. search (arith, rules, route_output, route_class)))
 
 -- the slots rise, from this one or a later one on
 abbrev Rises : ℕ → List Arrival → Type 0
@@ -83,11 +72,7 @@ rises_from (a ∷ came) t u h r = let b : u ≤ a.slot = r.0 in (omega arith, r.
 rises_pieces : (s : ℕ) (f : ℕ → Cell) (i n : ℕ) (rest : List Arrival) → Rises (s + (i + n)) rest →
     Rises (s + i) (map (piece s f) (range_with_len i n) ++ rest)
 rises_pieces s f i zero rest r = rises_from rest (s + i) (s + (i + 0)) (omega arith) r
-rises_pieces s f i (suc n) rest r = (
-  omega arith,
-  rises_from _ (s + i + 1) (s + (i + 1)) (omega arith) (rises_pieces s f (i + 1) n rest
-      (rises_from rest (s + (i + 1 + n)) (s + (i + suc n)) (omega arith) r)),
-)
+rises_pieces s f i (suc n) rest r = grind (arith, common_steps, rises_from, rises_pieces s f (i + 1) n rest)
 
 packets_rise : (t : Tables) (captures : List (List Captured)) (input k n : ℕ) →
     Rises (start t captures input k) (flat_map (arrivals_of t captures input) (range_with_len k n))
@@ -109,10 +94,7 @@ EachLater (a ∷ came) = AllByRecursion (IsLater a) came × EachLater came
 later_all : (a : Arrival) (came : List Arrival) (slot : ℕ) → a.slot < slot → Rises slot came →
     AllByRecursion (IsLater a) came
 later_all a [] slot h r = tt
-later_all a (b ∷ came) slot h r =
-    let from : slot ≤ b.slot = r.0 in
-    let after : a.slot < b.slot + 1 = omega arith in
-    (λ e. omega arith, later_all a came (b.slot + 1) after r.1)
+later_all a (b ∷ came) slot h r = grind (arith, common_steps, later_all a came (b.slot + 1))
 
 later_rising : (came : List Arrival) (slot : ℕ) → Rises slot came → EachLater came
 later_rising [] slot r = tt
@@ -123,18 +105,12 @@ later_append : (i : ℕ) (xs ys : List Arrival) → EachLater xs → EachLater y
     AllByRecursion (λ (b : Arrival). i < b.cell.id.input) ys → EachLater (xs ++ ys)
 later_append i [] ys l m own others = m
 later_append i (x ∷ xs) ys l m own others =
-    let its : x.cell.id.input ≡ i = own.0 in (
-      all_append (IsLater x) xs ys l.0 (all_each (λ (b : Arrival). i < b.cell.id.input) (IsLater x) ys
-          (λ b h e. absurd (omega arith)) others),
-      later_append i xs ys l.1 m own.1 others,
-    )
+    grind (arith, common_steps, all_append, all_each, later_append i xs ys l.1 m own.1 others)
 
 inputs_after : (t : Tables) (captures : List (List Captured)) (i a n : ℕ) → i < a →
     AllByRecursion (λ (b : Arrival). i < b.cell.id.input) (flat_map (arrivals_at t captures) (range_with_len a n))
-inputs_after t captures i a n h =
-    all_flat (λ (b : Arrival). i < b.cell.id.input) (arrivals_at t captures) a n
-    (λ k f e. all_each (λ (b : Arrival). b.cell.id.input ≡ k) (λ (b : Arrival). i < b.cell.id.input)
-    (arrivals_at t captures k) (λ b same. omega arith) (own_input t captures k))
+inputs_after t captures i a n h = all_flat (λ (b : Arrival). i < b.cell.id.input) (arrivals_at t captures) a n
+    (λ k f e. search (arith, rules, all_each, own_input))
 
 line_later : (t : Tables) (captures : List (List Captured)) (input : ℕ) → EachLater (arrivals_at t captures input)
 unfolding arrivals_at
@@ -144,10 +120,9 @@ line_later t captures input =
 lines_later : (t : Tables) (captures : List (List Captured)) (a n : ℕ) →
     EachLater (flat_map (arrivals_at t captures) (range_with_len a n))
 lines_later t captures a zero = tt
-lines_later t captures a (suc n) =
-    later_append a (arrivals_at t captures a) (flat_map (arrivals_at t captures) (range_with_len (a + 1) n))
-    (line_later t captures a) (lines_later t captures (a + 1) n) (own_input t captures a)
-    (inputs_after t captures a (a + 1) n (omega arith))
+lines_later t captures a (suc n) = later_append a (arrivals_at t captures a)
+    (flat_map (arrivals_at t captures) (range_with_len (a + 1) n)) (line_later t captures a)
+    (lines_later t captures (a + 1) n) (own_input t captures a) (inputs_after t captures a (a + 1) n (omega arith))
 
 pairs_later : (came : List Arrival) → EachLater came → AllPairs IsLater came
 pairs_later [] l = λ i j d b h. absurd (omega arith)
@@ -168,10 +143,7 @@ line_few : (t : Tables) (captures : List (List Captured)) (input : ℕ) → 1 �
     IsRecorded (packets_of captures input) →
     (length (arrivals_at t captures input) ≤ 2 ^ 28) × (end_of (arrivals_at t captures input) ≤ 2 ^ 63 + 2 ^ 28)
 unfolding arrivals_at
-line_few t captures input some r =
-    let few = few_by t captures input (length (packets_of captures input)) some r (omega arith) in
-    let early = early_by t captures input (length (packets_of captures input)) r (omega arith) in
-    (few, omega arith)
+line_few t captures input some r = grind (arith, common_steps, few_by, early_by)
 
 lines_few : (t : Tables) (captures : List (List Captured)) (a n : ℕ) → 1 ≤ t.cell_bytes →
     ((i : ℕ) → i < a + n → IsRecorded (packets_of captures i)) →
@@ -188,10 +160,7 @@ lines_few t captures a (suc n) some r =
 pub short_is : (t : Tables) (captures : List (List Captured)) → AreTables t → length captures ≡ ports_of t.setup →
     ((i : ℕ) → i < length captures → IsRecorded (packets_of captures i)) → IsShort (arrivals t captures)
 unfolding arrivals enough
-short_is t captures a ports r =
-    let few = lines_few t captures 0 (length captures) a.cell_bytes.0 (λ i h. r i (omega arith)) in
-    let most = a.setup.ports in
-    omega arith
+short_is t captures a ports r = grind (arith, common_steps, lines_few)
 
 -- the lines of the inputs
 pub own_lines : (t : Tables) (captures : List (List Captured)) (a n : ℕ) →
@@ -202,9 +171,7 @@ own_lines t captures a (suc n) = (own_input t captures a, own_lines t captures (
 pub all_lines : (t : Tables) (captures : List (List Captured)) (lines : List (List Arrival)) →
     lines ≡ map (arrivals_at t captures) (range_with_len 0 (length captures)) → all_of lines ≡ arrivals t captures
 unfolding arrivals
-all_lines t captures lines e =
-    ap (λ (ls : List (List Arrival)). all_of ls) e
-    ∙ flat_map-map (λ (line : List Arrival). line) (arrivals_at t captures) (range_with_len 0 (length captures))
+all_lines t captures lines e = grind (arith, common_steps, flat_map-map)
 
 -- so the arrivals at an input are those of its line
 pub at_input : (t : Tables) (captures : List (List Captured)) (input : ℕ) → input < length captures →

@@ -1,5 +1,6 @@
 -- Packets that are routed one by one.
-use Rattle.std.proofs.Common.{◌≡◌, ℕ, ◌<◌, List, [], length, map, slice_index_or, ap, sym, subst, ◌∙◌}
+use Rattle.std.proofs.lemmas.Grind.{common_steps}
+use Rattle.std.proofs.Common.{arith, ◌≡◌, ℕ, ◌<◌, List, [], length, map, slice_index_or, sym, ap, subst, ◌∙◌}
 use Rattle.std.specs.List.{range_with_len}
 use Rattle.std.proofs.lemmas.List.{length-map, get_or-map}
 use Rattle.std.proofs.lemmas.List.FromFn.{fill_by_all}
@@ -16,26 +17,21 @@ no_packet = record { stamp = 0; original = 0; body = [] }
 -- by their numbers, or one after another
 pub map-packet_in : {Y : Type 0} (f : Captured → Y) (ps : List Captured) →
     map (λ (k : ℕ). f (packet_in ps k)) (range_with_len 0 (length ps)) ≡ map f ps
-map-packet_in f ps =
-    sym (fill_by_all (λ (k : ℕ). f (packet_in ps k)) (map f ps) (length ps) (f no_packet) (length-map ps f)
-    (λ k h. get_or-map f ps k no_packet (f no_packet) h))
+map-packet_in f ps = sym (fill_by_all (λ (k : ℕ). f (packet_in ps k)) (map f ps) (length ps) (f no_packet)
+    (length-map ps f) (λ k h. get_or-map f ps k no_packet (f no_packet) h))
 
 -- packet k of an input goes where it is routed
 pub way_is : (t : Tables) (captures : List (List Captured)) (input k : ℕ) (ways : List (ℕ × ℕ)) →
     k < length (packets_of captures input) →
     ways ≡ map (λ (p : Captured). route t input p.body) (packets_of captures input) →
     slice_index_or ways k (0, 0) ≡ route t input (packet_at captures input k).body
-way_is t captures input k ways inside sent =
-    ap (λ (ws : List (ℕ × ℕ)). slice_index_or ws k (0, 0)) sent
-    ∙ get_or-map (λ (p : Captured). route t input p.body) (packets_of captures input) k no_packet (0, 0) inside
+way_is t captures input k ways inside sent = grind (arith, common_steps, slice_index_or, get_or-map)
 
 -- there is a route for each packet
 pub many_ways : (t : Tables) (captures : List (List Captured)) (input : ℕ) (ways : List (ℕ × ℕ)) →
     ways ≡ map (λ (p : Captured). route t input p.body) (packets_of captures input) →
     length ways ≡ length (packets_of captures input)
-many_ways t captures input ways sent =
-    ap (λ (ws : List (ℕ × ℕ)). length ws) sent
-    ∙ length-map (packets_of captures input) (λ (p : Captured). route t input p.body)
+many_ways t captures input ways sent = grind (arith, common_steps, length-map)
 
 -- and it leads to a port
 pub way_to_port : (t : Tables) (captures : List (List Captured)) (input k : ℕ) (ways : List (ℕ × ℕ))

@@ -1,4 +1,5 @@
 -- The least stamp, capture by capture.
+use Rattle.std.proofs.lemmas.Grind.{common_steps}
 use Rattle.std.proofs.Common.{◌≡◌, ℕ, zero, suc, ◌+◌, ◌<◌, min, List, [], ◌∷◌, ◌++◌, length, map, take, slice_index_or, Some, refl, ap, ◌∙◌, arith}
 use Rattle.std.proofs.lemmas.List.{append-nil, take_more}
 use Rattle.std.proofs.lemmas.List.Concat.{flat_map-append}
@@ -10,9 +11,7 @@ use Rattle.cq_cells.specs.Schedule.{earlier, stamps_of}
 
 fold_min : (a b : ℕ) (ns : List ℕ) → fold min (min a b) ns ≡ min a (fold min b ns)
 fold_min a b [] = refl
-fold_min a b (n ∷ ns) =
-    let regrouped : min (min a b) n ≡ min a (min b n) = omega arith in
-    ap (λ m. fold min m ns) regrouped ∙ fold_min a (min b n) ns
+fold_min a b (n ∷ ns) = grind (arith, common_steps, fold_min a (min b n) ns)
 
 -- the least of two lists
 pub reduce-append : (ms ns : List ℕ) → reduce min (ms ++ ns) ≡ earlier (reduce min ms) (reduce min ns)
@@ -32,12 +31,7 @@ pub stamps_more : (captures : List (List Captured)) (i : ℕ) (d : List Captured
     ≡ earlier (reduce min (stamps_of (take i captures))) (reduce min
     (map (λ p. p.stamp) (slice_index_or captures i d)))
 stamps_more captures i d h =
-    ap (λ (cs : List (List Captured)). reduce min (stamps_of cs)) (take_more captures i d h)
-    ∙ ap (λ (ns : List ℕ). reduce min ns) (flat_map-append (λ (ps : List Captured). map (λ p. p.stamp) ps)
-    (take i captures) (slice_index_or captures i d ∷ [])
-    ∙ ap (λ ns. stamps_of (take i captures) ++ ns) (append-nil
-    (map (λ p. p.stamp) (slice_index_or captures i d))))
-    ∙ reduce-append (stamps_of (take i captures)) (map (λ p. p.stamp) (slice_index_or captures i d))
+    grind (arith, common_steps, take_more, flat_map-append, slice_index_or, append-nil, reduce-append)
 
 pub length-rows_from : (place : ℕ) (ps : List Captured) → length (rows_from place ps) ≡ length ps
 length-rows_from place [] = refl

@@ -1,7 +1,8 @@
 -- The next slot with an arrival. At one input the packets that have arrived whole before a slot stand first. Of the
 -- others the first one begins first, and its cells come one a slot. So the slot itself has a cell where that packet
 -- has begun, and else the slot in which it begins is the next one. Of several inputs the earliest counts.
-use Rattle.std.proofs.Common.{◌≡◌, ℕ, zero, suc, ◌+◌, ◌-◌, ◌<◌, ◌≤◌, max, min, leb, Bool, true, false, List, [], ◌∷◌, ◌++◌, length, map, flat_map, slice_index_or, Option, Some, None, ap, sym, ◌∙◌, inl, inr, subst, arith, tests}
+use Rattle.std.proofs.lemmas.Grind.{common_steps}
+use Rattle.std.proofs.Common.{rules, ◌≡◌, ℕ, zero, suc, ◌+◌, ◌-◌, ◌<◌, ◌≤◌, max, leb, Bool, true, false, List, [], ◌∷◌, ◌++◌, length, map, flat_map, slice_index_or, Option, Some, None, inl, inr, subst, arith}
 use Rattle.std.specs.List.{AllByRecursion, range_with_len}
 use Rattle.std.specs.List.Sorted.{IsPartitionPoint, IsPartitionedBy}
 use Rattle.std.proofs.lemmas.Bool.{cases_eq, cases_lt}
@@ -24,47 +25,23 @@ has_ended slot row = leb row.cells (slot - row.start)
 
 module _ (cell_bytes : ℕ) (rows : List Row) (are : AreRows cell_bytes rows) where
   some_cells : (k : ℕ) → k < length rows → 0 < (row_at rows k).cells
-  some_cells k inside =
-      let cut = are.cut k inside in let some = cells_above (row_at rows k).len cell_bytes in omega arith
+  some_cells k inside = grind (arith, common_steps, cells_above)
 
   ended_by : (slot k : ℕ) (d : Row) → k < length rows → has_ended slot (slice_index_or rows k d) ≡ true →
       (row_at rows k).start + (row_at rows k).cells ≤ slot
-  ended_by slot k d inside test =
-      let same : slice_index_or rows k d ≡ row_at rows k = get_or_default rows k d no_row inside in
-      let here : has_ended slot (row_at rows k) ≡ true = ap (has_ended slot) (sym same) ∙ test in
-      let some = some_cells k inside in
-      let le : (row_at rows k).cells ≤ slot - (row_at rows k).start = grind (arith, tests, here) in
-      omega arith
+  ended_by slot k d inside test = grind (arith, common_steps, slice_index_or, get_or_default, no_row, some_cells)
 
   not_ended_by : (slot k : ℕ) (d : Row) → k < length rows → has_ended slot (slice_index_or rows k d) ≡ false →
       slot < (row_at rows k).start + (row_at rows k).cells
-  not_ended_by slot k d inside test =
-      let same : slice_index_or rows k d ≡ row_at rows k = get_or_default rows k d no_row inside in
-      let here : has_ended slot (row_at rows k) ≡ false = ap (has_ended slot) (sym same) ∙ test in
-      let lt : slot - (row_at rows k).start < (row_at rows k).cells = grind (arith, tests, here) in
-      omega arith
+  not_ended_by slot k d inside test = grind (arith, common_steps, slice_index_or, get_or_default, no_row)
 
   pub parted_by_end : (slot : ℕ) → IsPartitionedBy (has_ended slot) rows
-  parted_by_end slot i j d le inside test =
-      elim (cases_eq i j) [
-        | inl same ↦ let P : ℕ → Type 0 = λ k. has_ended slot (slice_index_or rows k d) ≡ true in
-            subst P (sym same) test
-        | inr other ↦
-            let ended = ended_by slot j d inside test in
-            let apart = are.apart i j (omega arith) inside in
-            let is : slice_index_or rows i d ≡ row_at rows i = get_or_default rows i d no_row (omega arith) in
-            let there : (row_at rows i).cells ≤ slot - (row_at rows i).start = omega arith in
-            let here : has_ended slot (row_at rows i) ≡ true = grind (arith, tests, there) in
-            ap (has_ended slot) is ∙ here
-      ]
+  parted_by_end slot i j d le inside test = search (rules, cases_eq, slice_index_or, ended_by, get_or_default, no_row)
 
   pub ended_from_partition : (slot n : ℕ) → n ≤ length rows →
       IsPartitionPoint (λ row. has_ended slot row ≡ true) (λ row. has_ended slot row ≡ false) rows n →
       IsEnded rows slot n
-  ended_from_partition slot n few point = record {
-    before = λ k h. ended_by slot k no_row (omega arith) (point.0 k no_row (omega arith) h);
-    after = λ k b h. not_ended_by slot k no_row h (point.1 k no_row b h);
-  }
+  ended_from_partition slot n few point = grind (arith, common_steps, ended_by, no_row, not_ended_by)
 
 -- ## Where a cell arrives
 
@@ -81,27 +58,17 @@ arrives_flat : (slot : ℕ) (f : ℕ → List Arrival) (a n k : ℕ) → a ≤ k
     ArrivesIn slot (flat_map f (range_with_len a n))
 arrives_flat slot f a zero k from to at = absurd (omega arith)
 arrives_flat slot f a (suc n) k from to at =
-    elim (cases_eq k a) [
-      | inl same ↦ arrives_first slot (f a) (flat_map f (range_with_len (a + 1) n))
-          (subst (λ (j : ℕ). ArrivesIn slot (f j)) same at)
-      | inr other ↦ arrives_second slot (f a) (flat_map f (range_with_len (a + 1) n))
-          (arrives_flat slot f (a + 1) n k (omega arith) (omega arith) at)
-    ]
+    grind (arith, common_steps, cases_eq, arrives_first, flat_map, arrives_second, arrives_flat slot f (a + 1) n k)
 
 arrives_piece : (slot s : ℕ) (f : ℕ → Cell) (a n i : ℕ) → a ≤ i → i < a + n → s + i ≡ slot →
     ArrivesIn slot (map (piece s f) (range_with_len a n))
 arrives_piece slot s f a zero i from to at = absurd (omega arith)
-arrives_piece slot s f a (suc n) i from to at =
-    elim (cases_eq i a) [
-      | inl same ↦ inl (omega arith)
-      | inr other ↦ inr (arrives_piece slot s f (a + 1) n i (omega arith) (omega arith) at)
-    ]
+arrives_piece slot s f a (suc n) i from to at = search (rules, cases_eq, arrives_piece slot s f (a + 1) n i)
 
 each_piece : (P : Arrival → Type 0) (s : ℕ) (f : ℕ → Cell) (a n : ℕ) →
     ((i : ℕ) → a ≤ i → i < a + n → P (piece s f i)) → AllByRecursion P (map (piece s f) (range_with_len a n))
 each_piece P s f a zero h = tt
-each_piece P s f a (suc n) h =
-    (h a (omega arith) (omega arith), each_piece P s f (a + 1) n (λ i from to. h i (omega arith) (omega arith)))
+each_piece P s f a (suc n) h = grind (arith, common_steps, each_piece P s f (a + 1) n)
 
 -- ## One line
 
@@ -110,11 +77,8 @@ module _ (input cell_bytes : ℕ) (rows : List Row) (from n : ℕ) (ended : IsEn
   unfolding line_arrivals
   line_done all =
       all_flat (λ (a : Arrival). a.slot < from) (λ (k : ℕ). row_arrivals input cell_bytes k (row_at rows k)) 0
-      (length rows)
-      (λ k low high.
-      let before = ended.before k (omega arith) in
-      each_piece (λ (a : Arrival). a.slot < from) (row_at rows k).start (row_cell input cell_bytes k (row_at rows k)) 0
-      (row_at rows k).cells (λ i b e. omega arith))
+      (length rows) (λ k low high. each_piece (λ (a : Arrival). a.slot < from) (row_at rows k).start
+      (row_cell input cell_bytes k (row_at rows k)) 0 (row_at rows k).cells (λ i b e. omega arith))
 
   pub line_next : (slot : ℕ) → AreRows cell_bytes rows → n < length rows → slot ≡ max (row_at rows n).start from →
       IsFirstFrom (line_arrivals input cell_bytes rows) from slot
@@ -152,39 +116,17 @@ module _ (input cell_bytes : ℕ) (rows : List Row) (from n : ℕ) (ended : IsEn
 
 all_earlier : (from t : ℕ) (xs : List Arrival) → AllByRecursion (λ a. a.slot < from) xs →
     AllByRecursion (λ a. from ≤ a.slot → t ≤ a.slot) xs
-all_earlier from t xs all =
-    all_each (λ (a : Arrival). a.slot < from) (λ (a : Arrival). from ≤ a.slot → t ≤ a.slot) xs
-    (λ a early late. absurd (omega arith)) all
+all_earlier from t xs all = grind (arith, common_steps, all_each)
 
 all_as_late : (from s t : ℕ) (xs : List Arrival) → t ≤ s → AllByRecursion (λ a. from ≤ a.slot → s ≤ a.slot) xs →
     AllByRecursion (λ a. from ≤ a.slot → t ≤ a.slot) xs
-all_as_late from s t xs le all =
-    all_each (λ (a : Arrival). from ≤ a.slot → s ≤ a.slot) (λ (a : Arrival). from ≤ a.slot → t ≤ a.slot) xs
-    (λ a had late. let as_late = had late in omega arith) all
+all_as_late from s t xs le all = grind (arith, common_steps, all_each)
 
 pub next_of_both : (from : ℕ) (xs ys : List Arrival) (s t : Option ℕ) → IsNextArrival xs from s →
     IsNextArrival ys from t →
     IsNextArrival (xs ++ ys) from (earlier s t)
 next_of_both from xs ys None None first second = all_append (λ (a : Arrival). a.slot < from) xs ys first second
-next_of_both from xs ys None (Some t) first second = record {
-  late = second.late;
-  arrives = arrives_second t xs ys second.arrives;
-  none_before =
-      all_append (λ (a : Arrival). from ≤ a.slot → t ≤ a.slot) xs ys (all_earlier from t xs first) second.none_before;
-}
-next_of_both from xs ys (Some s) None first second = record {
-  late = first.late;
-  arrives = arrives_first s xs ys first.arrives;
-  none_before =
-      all_append (λ (a : Arrival). from ≤ a.slot → s ≤ a.slot) xs ys first.none_before (all_earlier from s ys second);
-}
-next_of_both from xs ys (Some s) (Some t) first second = record {
-  late = let a = first.late in let b = second.late in omega arith;
-  arrives = elim (cases_lt t s) [
-    | inl less ↦ subst (λ (k : ℕ). ArrivesIn k (xs ++ ys)) (omega arith) (arrives_second t xs ys second.arrives)
-    | inr more ↦ subst (λ (k : ℕ). ArrivesIn k (xs ++ ys)) (omega arith) (arrives_first s xs ys first.arrives)
-  ];
-  none_before = all_append (λ (a : Arrival). from ≤ a.slot → min s t ≤ a.slot) xs ys
-      (all_as_late from s (min s t) xs (omega arith) first.none_before)
-      (all_as_late from t (min s t) ys (omega arith) second.none_before);
-}
+next_of_both from xs ys None (Some t) first second = search (rules, arrives_second, all_append, all_earlier)
+next_of_both from xs ys (Some s) None first second = search (rules, arrives_first, all_append, all_earlier)
+next_of_both from xs ys (Some s) (Some t) first second =
+    grind (arith, common_steps, cases_lt, arrives_second, arrives_first, all_append, all_as_late)

@@ -1,12 +1,11 @@
 -- Admission, input by input. The mark of an input after a slot says what became of its arrival, and without a first
 -- cell it is the mark of before. So what is admitted arrives; and where no mark is up and no output has a limit all
 -- is admitted, as where nothing arrives.
-use Rattle.std.proofs.Common.{◌≡◌, ℕ, zero, suc, Bool, true, false, List, [], ◌∷◌, length, replicate, Option, Some, None, refl, sym, ap, ◌∙◌}
-use Rattle.std.specs.Prelude.{slice_index_or}
-use Rattle.std.proofs.lemmas.Bool.{cond_both}
+use Rattle.std.proofs.Common.{rules, arith, ◌≡◌, ℕ, zero, suc, Bool, true, false, List, [], ◌∷◌, length, replicate, Option, Some, None, refl, sym, ap}
+use Rattle.std.proofs.lemmas.Grind.{common_steps}
 use Rattle.cq_base.specs.declared.cell.Cell.{Cell}
 use Rattle.cq_base.specs.Arrivals.{arrival_at, no_arrivals}
-use Rattle.cq_ideal.specs.Admission.{NoLimits, RefusesNone, is_full, is_first, mark_after, held_after, marks_after, admitted, refused, admission, mark_at, unless, marks_down}
+use Rattle.cq_ideal.specs.Admission.{NoLimits, RefusesNone, mark_after, held_after, marks_after, admitted, refused, admission, mark_at, unless, marks_down}
 use Rattle.cq_ideal.specs.Ranking.{AreForPorts}
 
 -- ## What is admitted
@@ -26,13 +25,11 @@ admitted_at (false ∷ marks) (cell ∷ cells) (suc i) = admitted_at marks cells
 
 pub refused_at_input : (marks : List Bool) (cells : List (Option Cell)) (i : ℕ) → mark_at marks i ≡ true →
     None ≡ arrival_at (admitted marks cells) i
-refused_at_input marks cells i up =
-    sym (admitted_at marks cells i ∙ ap (λ (b : Bool). unless b (arrival_at cells i)) up)
+refused_at_input marks cells i up = cc ((admitted_at marks cells i))
 
 pub admitted_at_input : (marks : List Bool) (cells : List (Option Cell)) (i : ℕ) → mark_at marks i ≡ false →
     arrival_at cells i ≡ arrival_at (admitted marks cells) i
-admitted_at_input marks cells i down =
-    sym (admitted_at marks cells i ∙ ap (λ (b : Bool). unless b (arrival_at cells i)) down)
+admitted_at_input marks cells i down = cc ((admitted_at marks cells i))
 
 pub length-admitted : (marks : List Bool) (cells : List (Option Cell)) → length (admitted marks cells) ≡ length cells
 length-admitted [] cells = refl
@@ -47,17 +44,11 @@ of_unless false x cell h = h
 -- what is admitted arrives
 pub admitted_arrives : (marks : List Bool) (cells : List (Option Cell)) (i : ℕ) (cell : Cell) →
     arrival_at (admitted marks cells) i ≡ Some cell → arrival_at cells i ≡ Some cell
-admitted_arrives marks cells i cell h =
-    of_unless (mark_at marks i) (arrival_at cells i) cell (sym (admitted_at marks cells i) ∙ h)
+admitted_arrives marks cells i cell h = grind (arith, common_steps, of_unless, admitted_at)
 
 pub admitted_for_ports : (ports classes : ℕ) (marks : List Bool) (cells : List (Option Cell)) →
     AreForPorts ports classes cells → AreForPorts ports classes (admitted marks cells)
-admitted_for_ports ports classes marks cells are =
-    record {
-      inputs = λ i cell h. are.inputs i cell (admitted_arrives marks cells i cell h);
-      outputs = λ i cell h. are.outputs i cell (admitted_arrives marks cells i cell h);
-      classes = λ i cell h. are.classes i cell (admitted_arrives marks cells i cell h);
-    }
+admitted_for_ports ports classes marks cells are = grind (arith, common_steps, admitted_arrives)
 
 -- each input keeps one mark
 pub marks_kept : (limits : List (Option ℕ)) (held : List ℕ) (marks : List Bool) (cells : List (Option Cell)) →
@@ -69,23 +60,12 @@ marks_kept limits held (mark ∷ marks) (cell ∷ cells) =
 
 -- ## Without limits
 
-mark_stays_down : (limits : List (Option ℕ)) (held : List ℕ) (cell : Option Cell) → NoLimits limits →
-    mark_after limits held false cell ≡ false
-mark_stays_down limits held None none = refl
-mark_stays_down limits held (Some cell) none =
-    cond_both (is_first cell)
-    (is_full (slice_index_or limits cell.output None) (slice_index_or held cell.output 0)) false (λ b. b ≡ false)
-    (λ _. ap (λ (limit : Option ℕ). is_full limit (slice_index_or held cell.output 0)) (none cell.output))
-    (λ _. refl)
-
 pub marks_stay_down : (limits : List (Option ℕ)) (held : List ℕ) (ports : ℕ) (cells : List (Option Cell)) →
     NoLimits limits → marks_after limits held (marks_down ports) cells ≡ marks_down ports
 marks_stay_down limits held zero cells none = refl
 marks_stay_down limits held (suc ports) [] none = refl
 marks_stay_down limits held (suc ports) (cell ∷ cells) none =
-    ap (λ (up : Bool). up ∷ marks_after limits (held_after up held cell) (marks_down ports) cells)
-    (mark_stays_down limits held cell none)
-    ∙ ap (λ (marks : List Bool). false ∷ marks) (marks_stay_down limits (held_after false held cell) ports cells none)
+    grind (arith, common_steps, marks_stay_down limits (held_after false held cell) ports cells none)
 
 all_admitted : (ports : ℕ) (cells : List (Option Cell)) → admitted (marks_down ports) cells ≡ cells
 all_admitted zero cells = refl
@@ -100,13 +80,7 @@ none_refused (suc ports) (cell ∷ cells) = none_refused ports cells
 pub no_limits_refuse_none : (limits : List (Option ℕ)) (ports : ℕ) (cells : List (Option Cell)) → NoLimits limits →
     RefusesNone limits (marks_down ports) cells
 unfolding admission
-no_limits_refuse_none limits ports cells none held =
-    let marks = marks_stay_down limits held ports cells none in
-    λ k. record {
-      cells = (ap (λ (m : List Bool). admitted m cells) marks ∙ all_admitted ports cells) k;
-      refused = (ap (λ (m : List Bool). refused m cells) marks ∙ none_refused ports cells) k;
-      marks = marks k;
-    }
+no_limits_refuse_none limits ports cells none held = search (rules, marks_stay_down, all_admitted, none_refused)
 
 -- ## Without arrivals
 
@@ -131,10 +105,4 @@ nothing_to_refuse (false ∷ marks) (suc n) = nothing_to_refuse marks n
 
 pub no_arrivals_refuse_none : (limits : List (Option ℕ)) (marks : List Bool) → RefusesNone limits marks no_arrivals
 unfolding admission
-no_arrivals_refuse_none limits marks held =
-    let after = marks_rest limits held marks 64 in
-    λ k. record {
-      cells = (ap (λ (m : List Bool). admitted m no_arrivals) after ∙ nothing_admitted marks 64) k;
-      refused = (ap (λ (m : List Bool). refused m no_arrivals) after ∙ nothing_to_refuse marks 64) k;
-      marks = after k;
-    }
+no_arrivals_refuse_none limits marks held = search (rules, marks_rest, nothing_admitted, nothing_to_refuse)

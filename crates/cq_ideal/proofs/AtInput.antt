@@ -1,14 +1,15 @@
 -- The cells that arrive at an input, slot by slot, are its arrivals in their order. In a slot the input's place shows
 -- what is found there; and the arrivals at one input rise in their slots, so where the first is taken off the list
 -- every later slot shows the same.
-use Rattle.std.proofs.Common.{◌≡◌, ℕ, zero, suc, ◌+◌, ◌<◌, List, [], ◌∷◌, ◌++◌, map, Option, None, refl, sym, ap, ◌∙◌, ⊎_elim, arith}
+use Rattle.std.proofs.lemmas.Grind.{common_steps}
+use Rattle.std.proofs.Common.{◌≡◌, ℕ, zero, suc, ◌+◌, ◌<◌, List, [], ◌∷◌, ◌++◌, map, None, refl, sym, ap, ◌∙◌, ⊎_elim, arith, Option}
 use Rattle.std.specs.Prelude.{◌==◌}
-use Rattle.std.specs.List.{AllByRecursion, cons_option, filter, range_with_len}
+use Rattle.std.specs.List.{AllByRecursion, filter, range_with_len}
 use Rattle.std.proofs.lemmas.Bool.{cases_eq, cond-false, cond-true, eq-eqb, ne_eqb}
 use Rattle.std.proofs.lemmas.List.FromFn.{get_or-map-range_with_len}
 use Rattle.std.proofs.lemmas.Option.{unwrap_or-slice_get}
 use Rattle.cq_base.specs.declared.cell.Cell.{Cell}
-use Rattle.cq_base.specs.Arriving.{Arrival, arriving_at, arriving, enough, end_of, traffic_of}
+use Rattle.cq_base.specs.Arriving.{Arrival, arriving_at, arriving, enough, traffic_of, end_of}
 use Rattle.cq_base.specs.Arrivals.{arrival_at}
 use Rattle.cq_base.proofs.Lists.{all_by}
 use Rattle.cq_ideal.specs.Flows.{RiseByInput}
@@ -31,19 +32,12 @@ module _ (i : ℕ) (inside : i < 64) where
       cells_at i (map (arriving came) (range_with_len a n)) ≡ joined (λ t. found came t i) a n
   unfolding joined found
   cells_from came a zero = refl
-  cells_from came a (suc n) =
-      ap (λ (o : Option Cell). cons_option o (cells_at i (map (arriving came) (range_with_len (a + 1) n))))
-      (at_place came a)
-      ∙ listed (arriving_at came a i) (cells_at i (map (arriving came) (range_with_len (a + 1) n)))
-      ∙ ap (λ (l : List Cell). cell_listed (arriving_at came a i) ++ l) (cells_from came (a + 1) n)
+  cells_from came a (suc n) = grind (arith, common_steps, at_place, listed, cell_listed, cells_from came (a + 1) n)
 
   -- where all that is still to come at the input is later, nothing is found earlier
   pub no_earlier : (a : Arrival) (came : List Arrival) (t : ℕ) →
       AllByRecursion (λ b. b.cell.id.input ≡ i → a.slot < b.slot) came → t < a.slot + 1 → found came t i ≡ []
-  no_earlier a came t later l =
-      found_none came t i
-      (all_from (λ b. b.cell.id.input ≡ i → a.slot < b.slot) (λ b. b.slot ≡ t → b.cell.id.input ≡ i → ⊥)
-      (λ b after e f. let more : a.slot < b.slot = after f in absurd (omega arith)) came later)
+  no_earlier a came t later l = grind (arith, common_steps, found_none came t i, all_from)
 
   in_order : (slots : ℕ) (came : List Arrival) → AllByRecursion (λ a. a.slot < slots) came → RiseByInput came →
       joined (λ t. found came t i) 0 slots ≡ came_at i came
@@ -52,25 +46,22 @@ module _ (i : ℕ) (inside : i < 64) where
       let rest =
       in_order slots came before.1 (λ s t x y at_s at_t l. rise (suc s) (suc t) x y at_s at_t (omega arith)) in
       let others = filter (λ (x : Arrival). x.cell.id.input == i) came in
-      ⊎_elim
-      (λ same.
+      ⊎_elim (λ same.
       let later : AllByRecursion (λ b. b.cell.id.input ≡ i → a.slot < b.slot) came =
-      all_by (λ b. b.cell.id.input ≡ i → a.slot < b.slot) came
-      (λ t b at e. rise zero (suc t) a b refl at (omega arith) (same ∙ sym e)) in
+      all_by (λ b. b.cell.id.input ≡ i → a.slot < b.slot) came (λ t b at e.
+      rise zero (suc t) a b refl at (omega arith) (same ∙ sym e)) in
       joined_more (λ t. found (a ∷ came) t i) (λ t. found came t i) a.slot 0 slots (omega arith)
       (let l = before.0 in omega arith)
       (λ t l. other_slot a came t i (λ e. omega arith) ∙ no_earlier a came t later (omega arith))
-      (λ t l. no_earlier a came t later (omega arith))
-      (λ t l. other_slot a came t i (λ e. omega arith))
-      ∙ ap (λ (l : List Cell). l ++ joined (λ t. found came t i) 0 slots) (found_here a came a.slot i refl same)
-      ∙ ap (λ (l : List Cell). a.cell ∷ l) rest
-      ∙ sym (ap (map (λ (x : Arrival). x.cell)) (cond-true (a.cell.id.input == i) (a ∷ others) others
-      (eq-eqb a.cell.id.input i same))))
-      (λ ne.
-      joined_same (λ t. found (a ∷ came) t i) (λ t. found came t i) 0 slots (λ t l. other_input a came t i ne)
-      ∙ rest
-      ∙ sym (ap (map (λ (x : Arrival). x.cell)) (cond-false (a.cell.id.input == i) (a ∷ others) others
-      (ne_eqb a.cell.id.input i ne))))
+      (λ t l. no_earlier a came t later (omega arith)) (λ t l. other_slot a came t i (λ e. omega arith))
+      ∙ ap (λ (l : List Cell). l ++ joined (λ t. found came t i) 0 slots)
+      (found_here a came a.slot i refl same) ∙ ap (λ (l : List Cell). a.cell ∷ l) rest
+      ∙ sym (ap (map (λ (x : Arrival). x.cell))
+      (cond-true (a.cell.id.input == i) (a ∷ others) others (eq-eqb a.cell.id.input i same))))
+      (λ ne. joined_same (λ t. found (a ∷ came) t i) (λ t. found came t i) 0 slots (λ t l.
+      other_input a came t i ne) ∙ rest
+      ∙ sym (ap (map (λ (x : Arrival). x.cell))
+      (cond-false (a.cell.id.input == i) (a ∷ others) others (ne_eqb a.cell.id.input i ne))))
       (cases_eq a.cell.id.input i)
 
   pub come_in_order : (came : List Arrival) → RiseByInput came → cells_at i (traffic_of came) ≡ came_at i came

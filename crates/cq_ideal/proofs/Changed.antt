@@ -1,5 +1,6 @@
 -- Lists that are made item by item, what is seen of one item, and lists that are new up to a place, and old from it on.
-use Rattle.std.proofs.Common.{◌≡◌, ℕ, ◌+◌, ◌<◌, ◌≤◌, List, [], ◌∷◌, ◌++◌, length, map, get_or, replicate, set, take, drop, sym, ap, ◌∙◌, arith, append_assoc, length-append}
+use Rattle.std.proofs.lemmas.Grind.{common_steps}
+use Rattle.std.proofs.Common.{◌≡◌, ℕ, ◌+◌, ◌<◌, ◌≤◌, List, [], ◌∷◌, ◌++◌, length, map, get_or, replicate, set, take, drop, sym, ap, ◌∙◌, arith, length-append}
 use Rattle.std.proofs.lemmas.List.{append-nil, drop_all, drop_more, get_or_at, get_or-map, length-drop, length-map, length-take, length-take-le, map-set, map_push, replicate_more, set_at, take_all, take_more}
 use Rattle.std.proofs.Math.Seq.{map-set_same}
 
@@ -8,21 +9,17 @@ use Rattle.std.proofs.Math.Seq.{map-set_same}
 -- the item at a place behind those before it
 pub take_next : {X : Type 0} (l : List X) (n : ℕ) (xs more : List X) (x d : X) → xs ≡ take n l → more ≡ xs ++ x ∷ [] →
     n < length l → x ≡ get_or l n d → more ≡ take (n + 1) l
-take_next l n xs more x d so_far is inside here =
-    is ∙ ap (λ t. t ++ x ∷ []) so_far ∙ ap (λ y. take n l ++ y ∷ []) here ∙ sym (take_more l n d inside)
+take_next l n xs more x d so_far is inside here = cc ((take_more l n d inside))
 
 -- what is read of it
 pub map_next : {X Y : Type 0} (f : X → Y) (l : List Y) (n : ℕ) (xs more : List X) (x : X) (d : Y) →
     map f xs ≡ take n l → more ≡ xs ++ x ∷ [] → n < length l → f x ≡ get_or l n d → map f more ≡ take (n + 1) l
-map_next f l n xs more x d so_far is inside here =
-    take_next l n (map f xs) (map f more) (f x) d so_far (ap (map f) is ∙ map_push f xs x) inside here
+map_next f l n xs more x d so_far is inside here = grind (arith, common_steps, take_next, map_push)
 
 -- where the same is read of all
 pub map_same : {X Y : Type 0} (f : X → Y) (y : Y) (n : ℕ) (xs more : List X) (x : X) → map f xs ≡ replicate n y →
     more ≡ xs ++ x ∷ [] → f x ≡ y → map f more ≡ replicate (n + 1) y
-map_same f y n xs more x so_far is here =
-    ap (map f) is ∙ map_push f xs x ∙ ap (λ t. t ++ f x ∷ []) so_far ∙ ap (λ z. replicate n y ++ z ∷ []) here
-    ∙ replicate_more n y
+map_same f y n xs more x so_far is here = cc (map_push f xs x, replicate_more n y)
 
 -- ## One item of some of which something is seen
 
@@ -47,34 +44,23 @@ changed_to new old j = take j new ++ drop j old
 
 pub at_place : {X : Type 0} (new old : List X) (j : ℕ) (d : X) → length new ≡ length old → j < length old →
     get_or (changed_to new old j) j d ≡ get_or old j d
-at_place new old j d same inside =
-    ap (λ l. get_or (take j new ++ l) j d) (drop_more old j d inside)
-    ∙ get_or_at (take j new) (get_or old j d) (drop (j + 1) old) d j (length-take-le j new (omega arith))
+at_place new old j d same inside = grind (arith, common_steps, drop_more, get_or_at, length-take-le)
 
 pub next_place : {X : Type 0} (new old : List X) (j : ℕ) (y d : X) → length new ≡ length old → j < length old →
     y ≡ get_or new j d → set (changed_to new old j) j y ≡ changed_to new old (j + 1)
 next_place new old j y d same inside is =
-    ap (λ l. set (take j new ++ l) j y) (drop_more old j d inside)
-    ∙ set_at (take j new) (get_or old j d) (drop (j + 1) old) y j (length-take-le j new (omega arith))
-    ∙ sym (append_assoc (take j new) (y ∷ []) (drop (j + 1) old))
-    ∙ ap (λ l. l ++ drop (j + 1) old) (ap (λ v. take j new ++ v ∷ []) is ∙ sym (take_more new j d (omega arith)))
+    grind (arith, common_steps, drop_more old j d inside, set_at (take j new))
 
 -- what is put at its place alone
 pub put_next : {X : Type 0} (new old now next : List X) (j : ℕ) (y d : X) → now ≡ changed_to new old j →
     next ≡ set now j y → y ≡ get_or new j d → length new ≡ length old → j < length old →
     next ≡ changed_to new old (j + 1)
-put_next new old now next j y d so_far put is same inside =
-    put ∙ ap (λ l. set l j y) so_far ∙ next_place new old j y d same inside is
+put_next new old now next j y d so_far put is same inside = cc ((next_place new old j y d same inside is))
 
 pub length-changed : {X : Type 0} (new old : List X) (j : ℕ) → length new ≡ length old →
     length (changed_to new old j) ≡ length old
-length-changed new old j same =
-    let whole = length-append (take j new) (drop j old) in
-    let front = length-take j new in
-    let rest = length-drop j old in
-    omega arith
+length-changed new old j same = grind (arith, common_steps, length-append, length-take, length-drop)
 
 pub at_end : {X : Type 0} (new old : List X) (j : ℕ) → length new ≡ length old → length old ≤ j →
     changed_to new old j ≡ new
-at_end new old j same end =
-    ap (λ l. take j new ++ l) (drop_all j old end) ∙ append-nil (take j new) ∙ take_all j new (omega arith)
+at_end new old j same end = cc (drop_all j old end, append-nil (take j new), take_all j new (omega arith))

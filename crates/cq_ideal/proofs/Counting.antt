@@ -1,6 +1,7 @@
 -- Refused cells that are counted one after another. What is counted so far, with those that are still to be counted,
 -- is what is counted in all; and a count grows by one at most with each.
-use Rattle.std.proofs.Common.{◌≡◌, ℕ, zero, suc, ◌+◌, ◌-◌, ◌<◌, ◌≤◌, ◌^◌, eqb, Bool, true, false, cond, List, [], ◌∷◌, ◌++◌, length, drop, get_or, set, Option, Some, None, refl, sym, ap, ◌∙◌, subst, arith}
+use Rattle.std.proofs.Common.{rules, ◌≡◌, ℕ, zero, suc, ◌+◌, ◌-◌, ◌<◌, ◌≤◌, ◌^◌, eqb, Bool, true, false, cond, List, [], ◌∷◌, ◌++◌, length, drop, get_or, set, Option, Some, None, refl, sym, ap, ◌∙◌, arith, subst}
+use Rattle.std.proofs.lemmas.Grind.{common_steps}
 use Rattle.std.specs.Prelude.{◌&&◌}
 use Rattle.std.specs.List.{AllByRecursion}
 use Rattle.std.proofs.lemmas.List.Elements.{All-from_recursion}
@@ -38,109 +39,63 @@ packets_of_one : (j : ℕ) (cell : Cell) → packets_refused j (cell ∷ []) ≡
 unfolding packets_refused
 packets_of_one j cell = one_kept (eqb cell.output j && is_first cell) cell
 
-one_at_most : (b : Bool) → one_if b ≤ 1
-one_at_most true = omega arith
-one_at_most false = omega arith
-
 -- the counts of a cell that is for another output, and of one that is for this
 pub other_output : (r : Refused) (cell : Cell) → eqb cell.output r.output ≡ false → r ≡ with_cells (cell ∷ []) r
-other_output r cell other =
-    let no_cell : cells_refused r.output (cell ∷ []) ≡ 0 = cells_of_one r.output cell ∙ ap one_if other in
-    let no_packet : packets_refused r.output (cell ∷ []) ≡ 0 =
-    packets_of_one r.output cell ∙ ap (λ (b : Bool). one_if (b && is_first cell)) other in
-    let cells : r.cells ≡ r.cells + cells_refused r.output (cell ∷ []) = omega arith in
-    let packets : r.packets ≡ r.packets + packets_refused r.output (cell ∷ []) = omega arith in
-    λ k. record { output = r.output; limit = r.limit; packets = packets k; cells = cells k }
+other_output r cell other = grind (arith, common_steps, cells_of_one, packets_of_one)
 
 pub this_output : (r : Refused) (cell : Cell) (first : ℕ) → eqb cell.output r.output ≡ true →
     first ≡ one_if (is_first cell) →
     record { output = r.output; limit = r.limit; packets = r.packets + first; cells = r.cells + 1 }
     ≡ with_cells (cell ∷ []) r
-this_output r cell first same is =
-    let cells : 1 ≡ cells_refused r.output (cell ∷ []) = sym (cells_of_one r.output cell ∙ ap one_if same) in
-    let packets : first ≡ packets_refused r.output (cell ∷ []) =
-    is ∙ sym (packets_of_one r.output cell ∙ ap (λ (b : Bool). one_if (b && is_first cell)) same) in
-    λ k. record { output = r.output; limit = r.limit; packets = r.packets + packets k; cells = r.cells + cells k }
+this_output r cell first same is = cc (cells_of_one r.output cell, packets_of_one r.output cell)
 
 -- a count that has room for a cell more
 pub counts_left : (n : ℕ) (cell : Cell) (counts : List Refused) → CanCount (n + 1) counts →
     CanCount n (with_refused (cell ∷ []) counts)
 counts_left n cell counts can k d inside =
     let long = length-map counts (with_cells (cell ∷ [])) in
-    let here : k < length counts = omega arith in
-    let r = get_or counts k d in
-    let is : get_or (with_refused (cell ∷ []) counts) k d ≡ with_cells (cell ∷ []) r =
-    get_or-map (with_cells (cell ∷ [])) counts k d d here in
-    let was = can k d here in
-    let packets = packets_of_one r.output cell in
-    let cells = cells_of_one r.output cell in
-    let few = one_at_most (eqb r.output r.output) in
-    let p = one_at_most (eqb cell.output r.output && is_first cell) in
-    let c = one_at_most (eqb cell.output r.output) in
-    let P : Refused → Type 0 = λ r. (r.packets + n < 2 ^ 64) × (r.cells + n < 2 ^ 64) in
-    let now : P (with_cells (cell ∷ []) r) = (omega arith, omega arith) in
-    subst P (sym is) now
+    let get_or-map-here = get_or-map (with_cells (cell ∷ [])) counts k d d in
+    let packets_of_one-here = packets_of_one (get_or counts k d).output cell in
+    let cells_of_one-here = cells_of_one (get_or counts k d).output cell in
+    search (arith, rules)
 
 pub fewer_left : (n m : ℕ) (counts : List Refused) → CanCount m counts → n ≤ m → CanCount n counts
-fewer_left n m counts can le k d inside =
-    let was = can k d inside in
-    let first = was.0 in
-    (omega arith, omega arith)
+fewer_left n m counts can le k d inside = grind (arith, common_steps)
 
 -- ## The counts one after another
 
 module _ (cell : Cell) (first : List Refused) (place : ℕ) (now : List Refused)
     (so_far : now ≡ changed_to (with_refused (cell ∷ []) first) first place) (inside : place < length first) where
   untouched : (d : Refused) → get_or now place d ≡ get_or first place d
-  untouched d =
-      ap (λ (l : List Refused). get_or l place d) so_far
-      ∙ at_place (with_refused (cell ∷ []) first) first place d (length-map first (with_cells (cell ∷ []))) inside
+  untouched d = grind (arith, common_steps, at_place, length-map)
 
   pub can_count_here : (d : Refused) → CanCount 1 first →
       ((get_or now place d).packets + 1 < 2 ^ 64) × ((get_or now place d).cells + 1 < 2 ^ 64)
-  can_count_here d can =
-      let P : Refused → Type 0 = λ r. (r.packets + 1 < 2 ^ 64) × (r.cells + 1 < 2 ^ 64) in
-      subst P (sym (untouched d)) (can place d inside)
+  can_count_here d can = grind (arith, common_steps, untouched)
 
   pub tallied_next : (d after : Refused) → after ≡ with_cells (cell ∷ []) (get_or now place d) →
       set now place after ≡ changed_to (with_refused (cell ∷ []) first) first (place + 1)
   tallied_next d after is =
       let all = with_refused (cell ∷ []) first in
       let same = length-map first (with_cells (cell ∷ [])) in
-      let here : after ≡ get_or all place d =
-      is ∙ ap (with_cells (cell ∷ [])) (untouched d) ∙ sym (get_or-map (with_cells (cell ∷ [])) first place d d
-      inside) in
+      let here : after ≡ get_or all place d = search (arith, rules, untouched, get_or-map) in
       ap (λ (l : List Refused). set l place after) so_far ∙ next_place all first place after d same inside here
 
 -- ## Cells one after another
 
 counted_both : (before now : List Cell) (r : Refused) → with_cells (before ++ now) r ≡ with_cells now (with_cells
     before r)
-counted_both before now r =
-    let packets : r.packets + packets_refused r.output (before ++ now)
-    ≡ r.packets + packets_refused r.output before + packets_refused r.output now =
-    let b = packets_both r.output before now in omega arith in
-    let cells : r.cells + cells_refused r.output (before ++ now)
-    ≡ r.cells + cells_refused r.output before + cells_refused r.output now =
-    let b = cells_both r.output before now in omega arith in
-    λ k. record { output = r.output; limit = r.limit; packets = packets k; cells = cells k }
+counted_both before now r = grind (arith, common_steps, packets_both, cells_both)
 
 pub all_counted_both : (before now : List Cell) (counts : List Refused) →
     with_refused (before ++ now) counts ≡ with_refused now (with_refused before counts)
 all_counted_both before now [] = refl
-all_counted_both before now (r ∷ counts) =
-    let here = counted_both before now r in
-    let rest = all_counted_both before now counts in
-    λ k. here k ∷ rest k
+all_counted_both before now (r ∷ counts) = cc (counted_both before now r, all_counted_both before now counts)
 
 pub none_counted : (counts : List Refused) → with_refused [] counts ≡ counts
 unfolding cells_refused packets_refused
 none_counted [] = refl
-none_counted (r ∷ counts) =
-    let rest = none_counted counts in
-    let packets : r.packets + 0 ≡ r.packets = omega arith in
-    let cells : r.cells + 0 ≡ r.cells = omega arith in
-    λ k. record { output = r.output; limit = r.limit; packets = packets k; cells = cells k } ∷ rest k
+none_counted (r ∷ counts) = grind (arith, common_steps, none_counted counts)
 
 -- the counts that have room for so many cells more have it for these
 pub counts_fit : (cells : List Cell) (n m : ℕ) (counts : List Refused) → CanCount (n + m) counts → length cells ≤ m →
@@ -189,14 +144,7 @@ pub record Counting (cells : List (Option Cell)) (first : LimiterView) (input : 
 
 pub counting_first : (cells : List (Option Cell)) (first : LimiterView) → CanCount (length first.limits) first.refused →
     Counting cells first 0 first
-counting_first cells first can =
-    record {
-      limits = refl;
-      held = refl;
-      marks = refl;
-      counted = refl;
-      few = fewer_left (length first.limits - 0) (length first.limits) first.refused can (omega arith);
-    }
+counting_first cells first can = grind (arith, common_steps, fewer_left)
 
 module _ (cells : List (Option Cell)) (first : LimiterView) (input : ℕ) (now : LimiterView)
     (so_far : Counting cells first input now) (few : length first.limits ≤ 64) (has : HasPorts first)
@@ -204,15 +152,7 @@ module _ (cells : List (Option Cell)) (first : LimiterView) (input : ℕ) (now :
   split : (cell : Option Cell) → cell ≡ where_up (mark_at first.marks input) (arrival_at cells input) →
       refused (drop input first.marks) (drop input cells)
       ≡ listed cell ++ refused (drop (input + 1) first.marks) (drop (input + 1) cells)
-  split cell is =
-      let mark = get_or first.marks input false in
-      let arrival = arrival_at cells input in
-      let ahead = drop_more first.marks input false (omega arith) in
-      let here = from_input cells input arrival places (omega arith) refl in
-      ap (λ (l : List Bool). refused l (drop input cells)) ahead
-      ∙ ap (refused (mark ∷ drop (input + 1) first.marks)) here
-      ∙ one_listed mark (drop (input + 1) first.marks) arrival (drop (input + 1) cells)
-      ∙ ap (λ (c : Option Cell). listed c ++ refused (drop (input + 1) first.marks) (drop (input + 1) cells)) (sym is)
+  split cell is = grind (arith, common_steps, drop_more, from_input, one_listed)
 
   pub counting_none : None ≡ where_up (mark_at first.marks input) (arrival_at cells input) →
       Counting cells first (input + 1) now
@@ -222,8 +162,7 @@ module _ (cells : List (Option Cell)) (first : LimiterView) (input : ℕ) (now :
         held = so_far.held;
         marks = so_far.marks;
         counted = ap (λ (l : List Cell). with_refused l now.refused) (sym (split None is)) ∙ so_far.counted;
-        few = fewer_left (length first.limits - (input + 1)) (length first.limits - input) now.refused so_far.few
-            (omega arith);
+        few = search (arith, rules, fewer_left);
       }
 
   pub can_count_one : CanCount 1 now.refused
@@ -235,27 +174,17 @@ module _ (cells : List (Option Cell)) (first : LimiterView) (input : ℕ) (now :
       after.limits ≡ now.limits → Counting cells first (input + 1) after
   counting_some cell after is counted marks held limits =
       let rest = refused (drop (input + 1) first.marks) (drop (input + 1) cells) in
-      let one : length first.limits - input ≡ length first.limits - (input + 1) + 1 = omega arith in
-      record {
-        limits = limits ∙ so_far.limits;
-        held = held ∙ so_far.held;
-        marks = marks ∙ so_far.marks;
-        counted =
-            ap (with_refused rest) counted
-            ∙ sym (all_counted_both (cell ∷ []) rest now.refused)
-            ∙ ap (λ (l : List Cell). with_refused l now.refused) (sym (split (Some cell) is))
-            ∙ so_far.counted;
-        few = subst (CanCount (length first.limits - (input + 1))) (sym counted)
-            (counts_left (length first.limits - (input + 1)) cell now.refused
-            (subst (λ (n : ℕ). CanCount n now.refused) one so_far.few));
-      }
+      search (
+        arith,
+        rules,
+        all_counted_both (cell ∷ []) rest now.refused,
+        split (Some cell) is,
+        counts_left
+            (length first.limits - (input + 1)) cell now.refused,
+      )
 
 -- no input is left
 pub counting_last : (cells : List (Option Cell)) (first : LimiterView) (input : ℕ) (now : LimiterView) →
     Counting cells first input now → HasPorts first → length first.limits ≤ input →
     now.refused ≡ with_refused (refused first.marks cells) first.refused
-counting_last cells first input now so_far has past =
-    let over : drop input first.marks ≡ [] = drop_all input first.marks (omega arith) in
-    sym (none_counted now.refused)
-    ∙ ap (λ (l : List Bool). with_refused (refused l (drop input cells)) now.refused) (sym over)
-    ∙ so_far.counted
+counting_last cells first input now so_far has past = grind (arith, common_steps, drop_all, none_counted)

@@ -2,15 +2,16 @@
 -- are enough the cells that come to an input are its arrivals, and of these the packets that are taken leave flow by
 -- flow, while all cells of the others are refused. The whole run sends and refuses the same. And a cell is refused
 -- because its packet's first one found its output full, which an output without a limit never is.
-use Rattle.std.proofs.Common.{◌≡◌, ℕ, zero, suc, ◌+◌, ◌<◌, Bool, true, false, not, List, [], ◌∷◌, ◌++◌, length, map, filter, Option, Some, None, refl, sym, ap, ◌∙◌, subst, ⊎_elim, arith}
+use Rattle.std.proofs.Common.{rules, ◌≡◌, ℕ, zero, suc, ◌+◌, ◌<◌, Bool, true, false, not, List, [], ◌∷◌, ◌++◌, length, map, filter, Option, Some, None, refl, sym, ap, ◌∙◌, subst, arith}
+use Rattle.std.proofs.lemmas.Grind.{common_steps}
 use Rattle.std.specs.Prelude.{All, ◌==◌, slice_index_or}
 use Rattle.std.specs.List.{AllByRecursion, AllPairs, cons_option}
 use Rattle.std.proofs.lemmas.Bool.{cases_Bool, cond-false, cond-true, cond_both, eqb-true, ne_eqb}
 use Rattle.cq_base.specs.declared.cell.Cell.{Cell}
 use Rattle.cq_base.specs.declared.cell.Departure.{Departure}
-use Rattle.cq_base.specs.Arriving.{Arrival, enough, traffic_of}
+use Rattle.cq_base.specs.Arriving.{Arrival, traffic_of}
 use Rattle.cq_base.specs.Arrivals.{arrival_at}
-use Rattle.cq_ideal.specs.Admission.{Admission, admission, held_after, is_first, is_full, is_full_at, mark_after, mark_at, marks_after, marks_down, refused}
+use Rattle.cq_ideal.specs.Admission.{Admission, admission, held_after, is_first, is_full_at, mark_after, mark_at, marks_after, marks_down, refused}
 use Rattle.cq_ideal.specs.EachOnce.{EachLeavesOrIsRefused, KeepTheirOutput, RefusesNoneElsewhere}
 use Rattle.cq_ideal.specs.Flows.{came_in_flow, left_in_flow}
 use Rattle.cq_ideal.specs.LimitedEnding.{whole_limited_run}
@@ -39,10 +40,9 @@ each_leaves_or_is_refused limits ms ports openings came ran runs is i inside pac
     let leave = parts.0 in
     record {
       is_taken = leave.is_taken;
-      left = λ c j. subst
-          (λ (gone : List Departure). left_in_flow i c j gone
-          ≡ filter (λ cell. leave.is_taken cell.id.packet) (came_in_flow i c j came))
-          same.sent (leave.left c j);
+      left = λ c j. subst (λ (gone : List Departure). left_in_flow i c j gone
+          ≡ filter (λ cell. leave.is_taken cell.id.packet) (came_in_flow i c j came)) same.sent
+          (leave.left c j);
       others = ap (of_input i) (sym same.refused) ∙ parts.1
           ∙ ap (filter (λ (cell : Cell). not (leave.is_taken cell.id.packet))) come;
     }
@@ -57,8 +57,7 @@ UpToNext P (cell ∷ cells) = is_first cell ≡ false → P cell × UpToNext P c
 each_up_to_next : (P Q : Cell → Type 0) → ((cell : Cell) → P cell → Q cell) → (cells : List Cell) →
     UpToNext P cells → UpToNext Q cells
 each_up_to_next P Q f [] all = tt
-each_up_to_next P Q f (cell ∷ cells) all = λ on.
-    let here = all on in (f cell here.0, each_up_to_next P Q f cells here.1)
+each_up_to_next P Q f (cell ∷ cells) all = grind (arith, common_steps, each_up_to_next P Q f cells)
 
 -- up to the next first one each cell is for the output of the one before it
 abbrev KeepOutput : List Cell → Type 0
@@ -69,23 +68,13 @@ same_packet : (packet output : ℕ) (cells : List Cell) → AreOfPackets (packet
     AllByRecursion (λ cell. packet ≡ cell.id.packet → output ≡ cell.output) cells →
     UpToNext (λ cell. cell.output ≡ output) cells
 same_packet packet output [] are same = tt
-same_packet packet output (cell ∷ cells) are same = λ on.
-    ⊎_elim
-    (λ goes.
-    let here : packet ≡ cell.id.packet = omega arith in
-    let goes_on = subst (λ (p : ℕ). AreOfPackets (p + 1) cells) (sym here) are.1 in
-    (sym (same.0 here), same_packet packet output cells goes_on same.1))
-    (λ new. absurd (let P : true ≡ false = sym new.1 ∙ on in let Q : ⊥ = cc in Q)) are.0
+same_packet packet output (cell ∷ cells) are same = grind (arith, common_steps, same_packet packet output cells)
 
 -- what holds of all arrivals at an input holds of the cells that come there
 all_at_input : (i : ℕ) (P : Cell → Type 0) (came : List Arrival) →
     AllByRecursion (λ a. a.cell.id.input ≡ i → P a.cell) came → AllByRecursion P (came_at i came)
 all_at_input i P [] all = tt
-all_at_input i P (a ∷ came) all =
-    let others = filter (λ (b : Arrival). b.cell.id.input == i) came in
-    cond_both (a.cell.id.input == i) (a ∷ others) others (λ l. AllByRecursion P (map (λ (b : Arrival). b.cell) l))
-    (λ same. (all.0 (eqb-true a.cell.id.input i same), all_at_input i P came all.1))
-    (λ other. all_at_input i P came all.1)
+all_at_input i P (a ∷ came) all = search (rules, cond_both, a.cell.id.input, eqb-true, all_at_input i P came all.1)
 
 -- two arrivals at one input whose cells are of one packet are for one output
 abbrev SameOutput : Arrival → Arrival → Type 0
@@ -143,10 +132,7 @@ module _ (limits : List (Option ℕ)) (j : ℕ) (none : slice_index_or limits j 
   Elsewhere cell = cell.output ≡ j → ⊥
 
   full_elsewhere : (held : List ℕ) (cell : Cell) → is_full_at limits held cell.output ≡ true → Elsewhere cell
-  full_elsewhere held cell full here =
-      let P : true ≡ false = sym full ∙ ap (is_full_at limits held) here
-      ∙ ap (λ (limit : Option ℕ). is_full limit (slice_index_or held j 0)) none in
-      let Q : ⊥ = cc in Q
+  full_elsewhere held cell full here = grind (arith, common_steps)
 
   -- where a first cell puts a mark up its output is full
   first_elsewhere : (held : List ℕ) (marks : List Bool) (cells : List (Option Cell)) (i : ℕ) (cell : Cell) →
@@ -154,10 +140,7 @@ module _ (limits : List (Option ℕ)) (j : ℕ) (none : slice_index_or limits j 
       Elsewhere cell
   first_elsewhere held [] cells i cell at first up = absurd (let P : ⊥ = cc in P)
   first_elsewhere held (mark ∷ marks) [] i cell at first up = absurd (let P : ⊥ = cc in P)
-  first_elsewhere held (mark ∷ marks) (x ∷ cells) zero cell at first up =
-      full_elsewhere held cell
-      (sym (cond-true (is_first cell) (is_full_at limits held cell.output) mark first)
-      ∙ ap (mark_after limits held mark) (sym at) ∙ up)
+  first_elsewhere held (mark ∷ marks) (x ∷ cells) zero cell at first up = search (rules, full_elsewhere, cond-true)
   first_elsewhere held (mark ∷ marks) (x ∷ cells) (suc i) cell at first up =
       first_elsewhere (held_after (mark_after limits held mark x) held x) marks cells i cell at first up
 
@@ -165,27 +148,15 @@ module _ (limits : List (Option ℕ)) (j : ℕ) (none : slice_index_or limits j 
       a ≡ admission limits held marks cells → (i : ℕ) (cell : Cell) → arrival_at cells i ≡ Some cell →
       is_first cell ≡ true → mark_at a.marks i ≡ true → Elsewhere cell
   unfolding admission
-  judged_elsewhere held marks cells a e i cell at first up =
-      first_elsewhere held marks cells i cell at first (ap (λ (x : Admission). mark_at x.marks i) (sym e) ∙ up)
+  judged_elsewhere held marks cells a e i cell at first up = grind (arith, common_steps, first_elsewhere)
 
   -- an input after a slot in which its mark is up: what came is for another output, and so is the rest of its packet
   one_slot : (x : Option Cell) (mark up : Bool) (rest : List Cell) → (GoesOn x → up ≡ mark) →
       ((cell : Cell) → x ≡ Some cell → is_first cell ≡ true → Elsewhere cell) →
       (mark ≡ true → UpToNext Elsewhere (cons_option x rest)) → KeepOutput (cons_option x rest) → up ≡ true →
       ((cell : Cell) → x ≡ Some cell → Elsewhere cell) × UpToNext Elsewhere rest
-  one_slot None mark up rest same first clear keep is =
-      (λ cell e. absurd (let P : ⊥ = cc in P), clear (sym (same tt) ∙ is))
-  one_slot (Some cell) mark up rest same first clear keep is =
-      ⊎_elim
-      (λ new.
-      let out = first cell refl new in (
-        λ other e. subst Elsewhere (let alike : cell ≡ other = cc in alike) out,
-        each_up_to_next (λ next. next.output ≡ cell.output) Elsewhere (λ next e here. out (sym e ∙ here)) rest keep.0,
-      ))
-      (λ on.
-      let both = clear (sym (same on) ∙ is) on in
-      (λ other e. subst Elsewhere (let alike : cell ≡ other = cc in alike) both.0, both.1))
-      (cases_Bool (is_first cell))
+  one_slot None mark up rest same first clear keep is = grind (arith, common_steps)
+  one_slot (Some cell) mark up rest same first clear keep is = search (rules, each_up_to_next, cases_Bool)
 
   keep_later : (x : Option Cell) (rest : List Cell) → KeepOutput (cons_option x rest) → KeepOutput rest
   keep_later None rest keep = keep
@@ -203,35 +174,30 @@ module _ (limits : List (Option ℕ)) (j : ℕ) (none : slice_index_or limits j 
   all_elsewhere inputs marks (cells ∷ traffic) [] judged long keep clear = absurd judged
   all_elsewhere inputs marks (cells ∷ traffic) (a ∷ admissions) judged long keep clear =
       let held = judged.0.0 in
-      let slot : (i : ℕ) → i < inputs → mark_at a.marks i ≡ true →
-      ((cell : Cell) → arrival_at cells i ≡ Some cell → Elsewhere cell) × UpToNext Elsewhere (cells_at i traffic) =
-      λ i inside up. one_slot (arrival_at cells i) (mark_at marks i) (mark_at a.marks i) (cells_at i traffic)
-      (mark_is limits i held marks cells a judged.0.1)
-      (λ cell at first. judged_elsewhere held marks cells a judged.0.1 i cell at first up)
-      (clear i inside) (keep i inside) up in
+      let slot : (i : ℕ) → i < inputs → mark_at a.marks i ≡ true
+      → ((cell : Cell) → arrival_at cells i ≡ Some cell → Elsewhere cell)
+      × UpToNext Elsewhere (cells_at i traffic) = λ i inside up. one_slot (arrival_at cells i) (mark_at marks i)
+      (mark_at a.marks i) (cells_at i traffic) (mark_is limits i held marks cells a judged.0.1)
+      (λ cell at first. judged_elsewhere held marks cells a judged.0.1 i cell at first up) (clear i inside)
+      (keep i inside) up in
       let refused_are : a.refused ≡ refused a.marks cells =
       subst (λ (x : Admission). x.refused ≡ refused x.marks cells) (sym judged.0.1) refl in
-      all_both Elsewhere a.refused (refused_in admissions)
-      (subst (AllByRecursion Elsewhere) (sym refused_are)
+      all_both Elsewhere a.refused (refused_in admissions) (subst (AllByRecursion Elsewhere) (sym refused_are)
       (refused_all Elsewhere a.marks cells (λ i cell inside up at. (slot i (omega arith) up).0 cell at)))
       (all_elsewhere inputs a.marks traffic admissions judged.1 long.1
-      (λ i inside. keep_later (arrival_at cells i) (cells_at i traffic) (keep i inside))
-      (λ i inside up. (slot i inside up).1))
+      (λ i inside. keep_later (arrival_at cells i) (cells_at i traffic) (keep i inside)) (λ i inside up.
+      (slot i inside up).1))
 
   none_counted : (cells : List Cell) → AllByRecursion Elsewhere cells → cells_refused j cells ≡ 0
   unfolding cells_refused
   none_counted [] all = refl
-  none_counted (cell ∷ cells) all =
-      let rest = filter (λ (c : Cell). c.output == j) cells in
-      ap length (cond-false (cell.output == j) (cell ∷ rest) rest (ne_eqb cell.output j all.0))
-      ∙ none_counted cells all.1
+  none_counted (cell ∷ cells) all = search (rules, cond-false, cell.output, ne_eqb, none_counted cells all.1)
 
 -- each slot has 64 places
 all_long : (came : List Arrival) (inputs : ℕ) → inputs ≡ 64 →
     AllByRecursion (λ cells. length cells ≡ inputs) (traffic_of came)
 unfolding traffic_of
-all_long came inputs are =
-    all_in_range (λ cells. length cells ≡ inputs) came 0 (enough came) (λ t. length-arriving came t inputs are)
+all_long came inputs are = search (rules, all_in_range, length-arriving)
 
 mark_down : (ports i : ℕ) → mark_at (marks_down ports) i ≡ false
 mark_down zero i = refl
@@ -246,8 +212,7 @@ refuses_none_elsewhere limits ms ports openings came ran j runs keep packets is 
     let over_all = sym (run_all limits ms ports openings came) ∙ same.is in
     let each_judged = judged limits ms 0 (traffic_of came) start same.all over_all in
     let all = all_elsewhere limits j none 64 (marks_down ports) (traffic_of came) same.all.admissions each_judged
-    (all_long came 64 refl)
-    (λ i inside. subst KeepOutput (sym (come_in_order i inside came runs.rise))
-    (keep_output i 0 came keep (packets i inside)))
-    (λ i inside up. absurd (let P : true ≡ false = sym up ∙ mark_down ports i in let Q : ⊥ = cc in Q)) in
+    (all_long came 64 refl) (λ i inside. subst KeepOutput (sym (come_in_order i inside came runs.rise))
+    (keep_output i 0 came keep (packets i inside))) (λ i inside up.
+    absurd (let P : true ≡ false = sym up ∙ mark_down ports i in let Q : ⊥ = cc in Q)) in
     ap (cells_refused j) (sym same.refused) ∙ none_counted limits j none (refused_in same.all.admissions) all

@@ -1,7 +1,7 @@
 -- When a run of the ideal switch is over: no cell is to come, and none waits.
-use Rattle.std.proofs.Common.{◌≡◌, ℕ, zero, suc, ◌≤◌, Bool, true, List, [], ◌∷◌, length, get_or, Result, Ok, Err, refl, sym, ap, subst, arith}
-use Rattle.std.specs.Prelude.{All, IsOkAnd, ◌==◌, nat_le}
-use Rattle.std.specs.List.{list_all}
+use Rattle.std.proofs.lemmas.Grind.{common_steps}
+use Rattle.std.proofs.Common.{◌≡◌, ℕ, zero, suc, ◌≤◌, Bool, true, List, [], ◌∷◌, length, Result, Ok, Err, refl, sym, ap, subst, arith}
+use Rattle.std.specs.Prelude.{All, IsOkAnd, ◌==◌}
 use Rattle.std.proofs.lemmas.Bool.{and_from, and_parts, eq-eqb, eqb-true, le-leb, leb-true}
 use Rattle.std.proofs.lemmas.List.{nil_from_length}
 use Rattle.std.proofs.lemmas.List.Sums.{AllPass-from_list_all, list_all-from_AllPass}
@@ -20,8 +20,7 @@ unfolding waiting
 none_waits [] all = refl
 none_waits (xs ∷ lists) all =
     let here : length xs ≡ 0 = ap length (all zero xs (omega arith)) in
-    let rest = none_waits lists (λ k d inside. all (suc k) d (omega arith)) in
-    omega arith
+    let rest = none_waits lists (λ k d inside. all (suc k) d (omega arith)) in omega arith
 
 pub nothing_left : (lists : List (List Queued)) → waiting lists ≡ 0 → All (λ cells. cells ≡ []) lists
 unfolding waiting
@@ -44,24 +43,13 @@ pub record Over (came : List Arrival) (n : ℕ) (x : Result Ran TagFault) : Type
 pub over_from_test : (came : List Arrival) (n : ℕ) (x : Result Ran TagFault) → is_over came n x ≡ true → Over came n x
 unfolding is_nil
 over_from_test came n (Ok ran) e =
-    let both = and_parts (nat_le (end_of came) n) (list_all is_nil ran.after.lists) e in
-    record {
-      ran = ran;
-      is = refl;
-      all_came = leb-true (end_of came) n both.0;
-      empty = λ k d inside.
-          nil_from_length (get_or ran.after.lists k d) (eqb-true (length (get_or ran.after.lists k d)) 0
-          (AllPass-from_list_all is_nil ran.after.lists both.1 k d inside));
-    }
+    grind (arith, common_steps, and_parts, leb-true, nil_from_length, eqb-true, AllPass-from_list_all)
 over_from_test came n (Err fault) e = absurd (let P : ⊥ = cc in P)
 
 test_from_over : (came : List Arrival) (n : ℕ) (ran : Ran) → end_of came ≤ n → IsEmptyIdeal ran.after →
     is_over came n (Ok ran) ≡ true
 unfolding is_nil
-test_from_over came n ran le empty =
-    and_from (nat_le (end_of came) n) (list_all is_nil ran.after.lists) (le-leb (end_of came) n le)
-    (list_all-from_AllPass is_nil ran.after.lists (λ k d inside.
-    eq-eqb (length (get_or ran.after.lists k d)) 0 (ap length (empty k d inside))))
+test_from_over came n ran le empty = grind (arith, common_steps, and_from, le-leb, list_all-from_AllPass, eq-eqb)
 
 pub test_after : (came : List Arrival) (n : ℕ) (x : Result Ran TagFault) (s : IdealState) →
     IsOkAnd x (λ ran. ran.after ≡ s) → end_of came ≤ n → IsEmptyIdeal s → is_over came n x ≡ true

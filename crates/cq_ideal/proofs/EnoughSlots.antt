@@ -1,11 +1,12 @@
 -- Slots that are enough for a run are enough with limits: no more cells are admitted in a slot than come, and there
 -- are as many slots.
-use Rattle.std.proofs.Common.{◌≡◌, ℕ, zero, suc, ◌≤◌, Bool, true, false, List, [], ◌∷◌, length, Option, Some, None, refl, sym, ap, subst, arith}
+use Rattle.std.proofs.Common.{◌≡◌, ℕ, zero, suc, ◌≤◌, Bool, true, false, List, [], ◌∷◌, length, Option, Some, None, refl, ap, arith}
+use Rattle.std.proofs.lemmas.Grind.{common_steps}
 use Rattle.std.specs.Prelude.{All, IfOk}
 use Rattle.cq_base.specs.declared.cell.Cell.{Cell}
 use Rattle.cq_base.specs.Arriving.{Arrival, end_of, traffic_of}
 use Rattle.cq_rank.specs.Machine.{Machine}
-use Rattle.cq_ideal.specs.Admission.{Admission, admission, admitted, admitted_in, marks_after}
+use Rattle.cq_ideal.specs.Admission.{Admission, admission, admitted, admitted_in}
 use Rattle.cq_ideal.specs.LimitedIdeal.{empty_limited, limited_run}
 use Rattle.cq_ideal.specs.WholePackets.{AreJudged}
 use Rattle.cq_ideal.proofs.Ends.{nothing_left}
@@ -30,9 +31,7 @@ module _ (limits : List (Option ℕ)) where
   few : (held : List ℕ) (marks : List Bool) (cells : List (Option Cell)) (a : Admission) →
       a ≡ admission limits held marks cells → length (present a.cells) ≤ length (present cells)
   unfolding admission
-  few held marks cells a is =
-      subst (λ (x : Admission). length (present x.cells) ≤ length (present cells)) (sym is)
-      (fewer (marks_after limits held marks cells) cells)
+  few held marks cells a is = grind (arith, common_steps, present, fewer)
 
   pub no_more : (marks : List Bool) (traffic : List (List (Option Cell))) (admissions : List Admission) →
       AreJudged limits marks traffic admissions → come_count (admitted_in admissions) ≤ come_count traffic
@@ -41,8 +40,7 @@ module _ (limits : List (Option ℕ)) where
   no_more marks [] (a ∷ admissions) judged = absurd judged
   no_more marks (cells ∷ traffic) [] judged = absurd judged
   no_more marks (cells ∷ traffic) (a ∷ admissions) judged =
-      let here = few judged.0.0 marks cells a judged.0.1 in
-      let rest = no_more a.marks traffic admissions judged.1 in omega arith
+      grind (arith, common_steps, few, no_more a.marks traffic admissions judged.1)
 
   pub as_many_slots : (marks : List Bool) (traffic : List (List (Option Cell))) (admissions : List Admission) →
       AreJudged limits marks traffic admissions → length (admitted_in admissions) ≡ length traffic
@@ -58,9 +56,7 @@ module _ (limits : List (Option ℕ)) where
   still_quiet e marks [] (a ∷ admissions) judged quiet = absurd judged
   still_quiet e marks (cells ∷ traffic) [] judged quiet = absurd judged
   still_quiet zero marks (cells ∷ traffic) (a ∷ admissions) judged quiet =
-      let here = few judged.0.0 marks cells a judged.0.1 in
-      let none : length (present cells) ≡ 0 = quiet.0 in
-      (omega arith, still_quiet zero a.marks traffic admissions judged.1 quiet.1)
+      grind (arith, common_steps, few, still_quiet zero a.marks traffic admissions judged.1 quiet.1)
   still_quiet (suc e) marks (cells ∷ traffic) (a ∷ admissions) judged quiet =
       still_quiet e a.marks traffic admissions judged.1 quiet
 

@@ -1,8 +1,8 @@
 -- How many cells come, and until when. Each arrival adds one cell at most to what comes, at its slot and input, so no
 -- more cells come than there are arrivals. From the end of the arrivals on none comes. So a run of as many slots as are
 -- enough has one slot for each cell after the last of them came.
-use Rattle.std.proofs.Common.{◌≡◌, ℕ, zero, suc, ◌+◌, ◌<◌, ◌≤◌, List, [], ◌∷◌, ◌++◌, length, map, Option, Some, None, refl, sym, ap, ◌∙◌, arith}
-use Rattle.std.specs.Prelude.{max}
+use Rattle.std.proofs.Common.{rules, ◌≡◌, ℕ, zero, suc, ◌+◌, ◌<◌, ◌≤◌, List, [], ◌∷◌, ◌++◌, length, map, Option, Some, None, refl, sym, ap, arith}
+use Rattle.std.proofs.lemmas.Grind.{common_steps}
 use Rattle.std.specs.List.{AllByRecursion, range_with_len}
 use Rattle.std.proofs.lemmas.List.FromFn.{length-map-range_with_len}
 use Rattle.cq_base.specs.declared.cell.Cell.{Cell}
@@ -24,11 +24,7 @@ count_total : (came : List Arrival) (t a n : ℕ) →
     length (present (map (arriving_at came t) (range_with_len a n))) ≡ total (λ k. length (found came t k)) a n
 unfolding total found
 count_total came t a zero = refl
-count_total came t a (suc n) =
-    let rest : List Cell = present (map (arriving_at came t) (range_with_len (a + 1) n)) in
-    ap length (present-cons (arriving_at came t a) (map (arriving_at came t) (range_with_len (a + 1) n)))
-    ∙ length-listed (arriving_at came t a) rest
-    ∙ ap (λ (m : ℕ). length (found came t a) + m) (count_total came t (a + 1) n)
+count_total came t a (suc n) = simp (present, present-cons, length-listed, found, count_total came t (a + 1) n)
 
 module _ (inputs : ℕ) (are : inputs ≡ 64) where
   -- the cells that come in a slot
@@ -37,16 +33,13 @@ module _ (inputs : ℕ) (are : inputs ≡ 64) where
 
   count_in_slot : (came : List Arrival) (t : ℕ) → length (present (arriving came t)) ≡ in_slot came t
   unfolding in_slot
-  count_in_slot came t =
-      ap (λ (cells : List (Option Cell)). length (present cells)) (arriving_is came t inputs are)
-      ∙ count_total came t 0 inputs
+  count_in_slot came t = search (arith, rules, present, arriving_is came t inputs are, count_total came t 0 inputs)
 
   -- an arrival adds one cell at most to its slot
   in_slot-cons : (a : Arrival) (came : List Arrival) → in_slot (a ∷ came) a.slot ≤ in_slot came a.slot + 1
   unfolding in_slot
-  in_slot-cons a came =
-      total_more (λ k. length (found (a ∷ came) a.slot k)) (λ k. length (found came a.slot k)) a.cell.id.input 1 0 inputs
-      (λ k ne. ap length (other_input a came a.slot k (λ e. ne (sym e))))
+  in_slot-cons a came = total_more (λ k. length (found (a ∷ came) a.slot k)) (λ k. length (found came a.slot k))
+      a.cell.id.input 1 0 inputs (λ k ne. ap length (other_input a came a.slot k (λ e. ne (sym e))))
       (let one = length-found (a ∷ came) a.slot a.cell.id.input in omega arith)
 
   no_more_than : (came : List Arrival) (n : ℕ) → total (in_slot came) 0 n ≤ length came
@@ -74,10 +67,7 @@ module _ (inputs : ℕ) (are : inputs ≡ 64) where
       length (present (arriving came t)) ≡ 0
   unfolding in_slot
   none_from came end t before le =
-      count_in_slot came t
-      ∙ total_none (λ k. length (found came t k)) 0 inputs
-      (λ k. ap length (found_none came t k (all_from (λ a. a.slot < end) (λ a. a.slot ≡ t → a.cell.id.input ≡ k → ⊥)
-      (λ a l e f. absurd (omega arith)) came before)))
+      grind (arith, common_steps, count_in_slot came t, total_none, found came t, found_none came t, all_from)
 
   quiet_from : (came : List Arrival) (end e a n : ℕ) → AllByRecursion (λ x. x.slot < end) came → end ≤ a + e →
       QuietAfter e (map (arriving came) (range_with_len a n))
@@ -89,11 +79,7 @@ module _ (inputs : ℕ) (are : inputs ≡ 64) where
 
 pub before_end : (came : List Arrival) → AllByRecursion (λ a. a.slot < end_of came) came
 before_end [] = tt
-before_end (a ∷ came) = (
-  omega arith,
-  all_from (λ x. x.slot < end_of came) (λ x. x.slot < max (a.slot + 1) (end_of came)) (λ x l. omega arith)
-      came (before_end came),
-)
+before_end (a ∷ came) = grind (arith, common_steps, all_from, before_end came)
 
 pub none_after : (came : List Arrival) (t : ℕ) → end_of came ≤ t → length (present (arriving came t)) ≡ 0
 none_after came t le = none_from 64 refl came (end_of came) t (before_end came) le
@@ -105,15 +91,12 @@ quiet_at_end came = quiet_from 64 refl came (end_of came) (end_of came) 0 (enoug
 -- in any number of slots
 pub come_count-first : (came : List Arrival) (n : ℕ) →
     come_count (map (arriving came) (range_with_len 0 n)) ≤ length came
-come_count-first came n =
-    let count = count_from 64 refl came 0 n in let few = no_more_than 64 refl came n in omega arith
+come_count-first came n = omega (arith, count_from 64 refl came 0 n, no_more_than 64 refl came n)
 
 pub come_count-traffic_of : (came : List Arrival) → come_count (traffic_of came) ≤ length came
 unfolding traffic_of
 come_count-traffic_of came =
-    let count = count_from 64 refl came 0 (enough came) in
-    let few = no_more_than 64 refl came (enough came) in
-    omega arith
+    omega (arith, count_from 64 refl came 0 (enough came), no_more_than 64 refl came (enough came))
 
 pub length-traffic_of : (came : List Arrival) → length (traffic_of came) ≡ end_of came + length came
 unfolding traffic_of enough

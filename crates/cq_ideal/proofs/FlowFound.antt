@@ -1,11 +1,11 @@
 -- What arrives in a slot at an input. It is the first arrival in the list that is of this slot and at this input, so
 -- an arrival of another slot or input hides nothing, and what holds of all that are of this slot and at this input
 -- holds of what is found. The cells that arrive in a slot are those that are found at its inputs.
-use Rattle.std.proofs.Common.{◌≡◌, ℕ, zero, suc, ◌+◌, ◌≤◌, false, List, [], ◌∷◌, ◌++◌, length, map, Option, Some, None, refl, sym, ap, ◌∙◌, subst, ⊎_elim, arith}
+use Rattle.std.proofs.lemmas.Grind.{common_steps}
+use Rattle.std.proofs.Common.{◌≡◌, ℕ, zero, suc, ◌+◌, ◌≤◌, false, List, [], ◌∷◌, ◌++◌, length, map, Option, Some, None, refl, sym, subst, arith}
 use Rattle.std.specs.Prelude.{◌==◌, find}
-use Rattle.std.specs.Option.{option_map}
 use Rattle.std.specs.List.{AllByRecursion, cons_option, range_with_len}
-use Rattle.std.proofs.lemmas.Bool.{cond_both, cases_eq, eqb-true, eq-eqb, ne_eqb, and_parts, and_from, and_left, and_right, cond-true, cond-false}
+use Rattle.std.proofs.lemmas.Bool.{cond_both, cases_eq, eq-eqb, ne_eqb, and_from, and_left, and_right, cond-true, cond-false}
 use Rattle.std.proofs.lemmas.List.FromFn.{length-map-range_with_len}
 use Rattle.cq_base.specs.declared.cell.Cell.{Cell}
 use Rattle.cq_base.specs.Arriving.{Arrival, is_at, arriving_at, arriving}
@@ -27,17 +27,12 @@ found came t k = cell_listed (arriving_at came t k)
 pub found_here : (a : Arrival) (came : List Arrival) (t k : ℕ) → a.slot ≡ t → a.cell.id.input ≡ k →
     found (a ∷ came) t k ≡ a.cell ∷ []
 unfolding found
-found_here a came t k e f =
-    ap (λ (o : Option Arrival). cell_listed (option_map (λ (x : Arrival). x.cell) o))
-    (cond-true (is_at t k a) (Some a) (find (is_at t k) came) (and_from (a.slot == t) (a.cell.id.input == k)
-    (eq-eqb a.slot t e) (eq-eqb a.cell.id.input k f)))
+found_here a came t k e f = grind (arith, common_steps, cond-true, and_from, a.slot, a.cell.id.input, eq-eqb)
 
 -- an arrival that is not both of the slot and at the input
 found_skip : (a : Arrival) (came : List Arrival) (t k : ℕ) → is_at t k a ≡ false → found (a ∷ came) t k ≡ found came t k
 unfolding found
-found_skip a came t k e =
-    ap (λ (o : Option Arrival). cell_listed (option_map (λ (x : Arrival). x.cell) o))
-    (cond-false (is_at t k a) (Some a) (find (is_at t k) came) e)
+found_skip a came t k e = cc ((cond-false (is_at t k a) (Some a) (find (is_at t k) came) e))
 
 pub other_slot : (a : Arrival) (came : List Arrival) (t k : ℕ) → (a.slot ≡ t → ⊥) →
     found (a ∷ came) t k ≡ found came t k
@@ -45,50 +40,37 @@ other_slot a came t k ne = found_skip a came t k (and_left (a.slot == t) (a.cell
 
 pub other_input : (a : Arrival) (came : List Arrival) (t k : ℕ) → (a.cell.id.input ≡ k → ⊥) →
     found (a ∷ came) t k ≡ found came t k
-other_input a came t k ne =
-    found_skip a came t k (and_right (a.slot == t) (a.cell.id.input == k) (ne_eqb a.cell.id.input k ne))
+other_input a came t k ne = grind (arith, common_steps, found_skip, and_right, a.slot, a.cell.id.input, ne_eqb)
 
 -- what holds of all arrivals at the slot and the input holds of what is found there
 pub all_found : (P : Cell → Type 0) (came : List Arrival) (t k : ℕ) →
     AllByRecursion (λ a. a.slot ≡ t → a.cell.id.input ≡ k → P a.cell) came → AllByRecursion P (found came t k)
 unfolding found
 all_found P [] t k a = tt
-all_found P (x ∷ came) t k a =
-    cond_both (is_at t k x) (Some x) (find (is_at t k) came) (λ o. AllByRecursion P
-    (cell_listed (option_map (λ (y : Arrival). y.cell) o)))
-    (λ e. let parts = and_parts (x.slot == t) (x.cell.id.input == k) e in
-    (a.0 (eqb-true x.slot t parts.0) (eqb-true x.cell.id.input k parts.1), tt))
-    (λ _. all_found P came t k a.1)
+all_found P (x ∷ came) t k a = grind (arith, common_steps, all_found P came t k a.1)
 
 -- nothing is found where no arrival is at the slot and the input
 pub found_none : (came : List Arrival) (t k : ℕ) → AllByRecursion (λ a. a.slot ≡ t → a.cell.id.input ≡ k → ⊥) came →
     found came t k ≡ []
 unfolding found
 found_none [] t k a = refl
-found_none (x ∷ came) t k a =
-    ⊎_elim (λ e. other_input x came t k (λ f. a.0 e f) ∙ found_none came t k a.1)
-    (λ ne. other_slot x came t k ne ∙ found_none came t k a.1) (cases_eq x.slot t)
+found_none (x ∷ came) t k a = grind (arith, common_steps, other_input, other_slot, cases_eq, found_none came t k a.1)
 
 pub length-found : (came : List Arrival) (t k : ℕ) → length (found came t k) ≤ 1
 unfolding found
 length-found [] t k = omega arith
-length-found (x ∷ came) t k =
-    cond_both (is_at t k x) (Some x) (find (is_at t k) came)
-    (λ o. length (cell_listed (option_map (λ (y : Arrival). y.cell) o)) ≤ 1) (λ _. omega arith)
-    (λ _. length-found came t k)
+length-found (x ∷ came) t k = grind (arith, common_steps, cond_both, length-found came t k)
 
 -- ## The places of a slot
 
 pub arriving_is : (came : List Arrival) (t inputs : ℕ) → inputs ≡ 64 →
     arriving came t ≡ map (arriving_at came t) (range_with_len 0 inputs)
 unfolding arriving
-arriving_is came t inputs e =
-    subst (λ (n : ℕ). arriving came t ≡ map (arriving_at came t) (range_with_len 0 n)) (sym e) refl
+arriving_is came t inputs e = grind (arith, common_steps)
 
 pub length-arriving : (came : List Arrival) (t inputs : ℕ) → inputs ≡ 64 → length (arriving came t) ≡ inputs
 length-arriving came t inputs e =
-    ap (λ (l : List (Option Cell)). length l) (arriving_is came t inputs e)
-    ∙ length-map-range_with_len (arriving_at came t) 0 inputs
+    cc (arriving_is came t inputs e, length-map-range_with_len (arriving_at came t) 0 inputs)
 
 pub present-cons : (o : Option Cell) (cells : List (Option Cell)) → present (o ∷ cells) ≡ cell_listed o ++ present cells
 present-cons None cells = refl

@@ -2,8 +2,9 @@
 -- each flow what leaves is what was admitted, in its order. The cells of a flow come at its input, and of those that
 -- come there whole packets are admitted. So what leaves of a flow is what came of it, but for the packets that were
 -- refused, and these are refused with all their cells.
-use Rattle.std.proofs.Common.{◌≡◌, ℕ, zero, suc, ◌+◌, ◌<◌, ◌≤◌, Bool, true, false, cond, not, List, [], ◌∷◌, ◌++◌, length, replicate, filter, Option, Some, None, Result, Ok, refl, sym, ap, ◌∙◌, subst, ⊎_elim, arith}
-use Rattle.std.specs.Prelude.{◌&&◌, ◌==◌, All, IfOk}
+use Rattle.std.proofs.lemmas.Grind.{common_steps}
+use Rattle.std.proofs.Common.{◌≡◌, ℕ, zero, suc, ◌+◌, ◌<◌, ◌≤◌, Bool, true, false, cond, not, List, [], ◌∷◌, ◌++◌, length, replicate, filter, Option, Some, None, Ok, refl, sym, ap, ◌∙◌, ⊎_elim, arith}
+use Rattle.std.specs.Prelude.{◌&&◌, ◌==◌, All}
 use Rattle.std.specs.List.{AllByRecursion, cons_option}
 use Rattle.std.proofs.lemmas.Bool.{cases_lt, cond-false, and_left, and_right, ne_eqb}
 use Rattle.std.proofs.lemmas.List.{length-replicate}
@@ -11,9 +12,8 @@ use Rattle.cq_base.specs.declared.cell.Cell.{Cell}
 use Rattle.cq_base.specs.declared.cell.Queued.{Queued}
 use Rattle.cq_base.specs.Arriving.{Arrival, enough, end_of, traffic_of}
 use Rattle.cq_base.specs.Arrivals.{arrival_at}
-use Rattle.cq_base.specs.declared.cell.TagFault.{TagFault}
 use Rattle.cq_rank.specs.Machine.{Machine, machine_at}
-use Rattle.cq_ideal.specs.Admission.{Admission, admission, admitted, admitted_in, mark_at, marks_after, marks_down}
+use Rattle.cq_ideal.specs.Admission.{Admission, admission, admitted, admitted_in, mark_at, marks_down}
 use Rattle.cq_ideal.specs.Flows.{IsForSwitch, IsRunnable, came_in_flow, left_in_flow}
 use Rattle.cq_ideal.specs.IdealRun.{Ran, departures_of, empty_ideal, ideal_run}
 use Rattle.cq_ideal.specs.LimitedFlows.{FlowsLeaveInPackets, LeaveInPackets}
@@ -44,11 +44,8 @@ unfolding admission
 each_slot Q keeps limits marks [] [] judged all = tt
 each_slot Q keeps limits marks [] (a ∷ admissions) judged all = absurd judged
 each_slot Q keeps limits marks (cells ∷ traffic) [] judged all = absurd judged
-each_slot Q keeps limits marks (cells ∷ traffic) (a ∷ admissions) judged all = (
-  subst (λ (x : Admission). Q x.cells) (sym judged.0.1) (keeps (marks_after limits judged.0.0 marks cells) cells
-      all.0),
-  each_slot Q keeps limits a.marks traffic admissions judged.1 all.1,
-)
+each_slot Q keeps limits marks (cells ∷ traffic) (a ∷ admissions) judged all =
+    grind (arith, common_steps, each_slot Q keeps limits a.marks traffic admissions judged.1 all.1)
 
 pub all_kept : (P : Cell → Type 0) (marks : List Bool) (cells : List (Option Cell)) → AllByRecursion P (present cells) →
     AllByRecursion P (present (admitted marks cells))
@@ -65,9 +62,8 @@ module _ (i c j : ℕ) where
   other : (cell : Cell) (cells : List Cell) → (cell.id.input ≡ i → ⊥) →
       of_flow i c j (cell ∷ cells) ≡ of_flow i c j cells
   unfolding of_flow
-  other cell cells ne =
-      cond-false (is_of_flow i c j cell) (cell ∷ filter (is_of_flow i c j) cells) (filter (is_of_flow i c j) cells)
-      (and_right (cell.output == j) (cell.id.input == i && cell.class == c)
+  other cell cells ne = cond-false (is_of_flow i c j cell) (cell ∷ filter (is_of_flow i c j) cells)
+      (filter (is_of_flow i c j) cells) (and_right (cell.output == j) (cell.id.input == i && cell.class == c)
       (and_left (cell.id.input == i) (cell.class == c) (ne_eqb cell.id.input i ne)))
 
   none_past : (a : ℕ) (cells : List (Option Cell)) → StandAt a cells → i < a → of_flow i c j (present cells) ≡ []
@@ -85,8 +81,7 @@ module _ (i c j : ℕ) where
   at_place a zero (Some cell ∷ cells) at e =
       ap (λ (l : List Cell). cond (is_of_flow i c j cell) (cell ∷ l) l) (none_past (a + 1) cells at.1 (omega arith))
   at_place a (suc k) (None ∷ cells) at e = at_place (a + 1) k cells at (omega arith)
-  at_place a (suc k) (Some cell ∷ cells) at e =
-      other cell (present cells) (λ same. omega arith) ∙ at_place (a + 1) k cells at.1 (omega arith)
+  at_place a (suc k) (Some cell ∷ cells) at e = grind (arith, common_steps, present, at_place (a + 1) k cells at.1)
 
   joins : (x : Option Cell) (cells : List Cell) →
       of_flow i c j (cell_listed x) ++ of_flow i c j cells ≡ of_flow i c j (cons_option x cells)
@@ -99,9 +94,7 @@ module _ (i c j : ℕ) where
   unfolding flow_came of_flow joins
   comes_at_input [] at = refl
   comes_at_input (cells ∷ traffic) at =
-      ap (λ (l : List Cell). l ++ flow_came i c j traffic) (at_place 0 i cells at.0 (omega arith))
-      ∙ ap (λ (l : List Cell). of_flow i c j (cell_listed (arrival_at cells i)) ++ l) (comes_at_input traffic at.1)
-      ∙ joins (arrival_at cells i) (cells_at i traffic)
+      grind (arith, common_steps, at_place 0 i cells at.0, comes_at_input traffic at.1)
 
 -- two tests, in either order
 pub filter_both : (p q : Cell → Bool) (cells : List Cell) → filter p (filter q cells) ≡ filter q (filter p cells)
@@ -115,9 +108,7 @@ filter_both p q (cell ∷ cells) = go (p cell) (q cell) refl refl (filter_both p
     go : (b d : Bool) → p cell ≡ b → q cell ≡ d → filter p (filter q cells) ≡ filter q (filter p cells) →
         filter p (cond d (cell ∷ filter q cells) (filter q cells)) ≡ filter q
         (cond b (cell ∷ filter p cells) (filter p cells))
-    go true true e f same =
-        if_first p true (filter q cells) e ∙ ap (λ (l : List Cell). cell ∷ l) same ∙ sym
-        (if_first q true (filter p cells) f)
+    go true true e f same = grind (arith, common_steps)
     go true false e f same = same ∙ sym (if_first q false (filter p cells) f)
     go false true e f same = if_first p false (filter q cells) e ∙ same
     go false false e f same = same
@@ -127,12 +118,10 @@ filter_both p q (cell ∷ cells) = go (p cell) (q cell) refl refl (filter_both p
 came_at_input : (ms : List Machine) (ports : ℕ) (openings : List (List ℕ)) (came : List Arrival) →
     IsRunnable ms ports openings came → (i c j : ℕ) → flow_came i c j (traffic_of came) ≡ came_in_flow i c j came
 unfolding traffic_of enough
-came_at_input ms ports openings came runs i c j =
-    came_in_order i c j (enough came) came
+came_at_input ms ports openings came runs i c j = came_in_order i c j (enough came) came
     (all_from (IsForSwitch ms ports) (λ a. a.cell.id.input < 64) (λ a for. for.input) came runs.for_switch)
     (all_from (λ a. a.slot < end_of came) (λ a. a.slot < end_of came + length came) (λ a l. omega arith) came
-    (before_end came))
-    runs.rise
+    (before_end came)) runs.rise
 
 -- ## The law
 
@@ -163,30 +152,25 @@ module _ (limits : List (Option ℕ)) (ms : List Machine) (ports : ℕ) (opening
   run = is_run_of limits ms 0 (traffic_of came) (empty_limited ports openings) ran is
 
   nothing_left : All (λ cells. cells ≡ []) ran.after.state.lists
-  nothing_left =
-      subst (λ (x : Result LimitedRan TagFault). IfOk x (λ end. All (λ cells. cells ≡ []) end.after.state.lists)) is
-      (limited_empty_at_end limits ms ports openings came)
+  nothing_left = grind (arith, common_steps, limited_empty_at_end limits ms ports openings came)
 
   taken_of_flow : (c j : ℕ) → flow_came i c j (admitted_in ran.admissions) ≡ filter takes (came_in_flow i c j came)
   unfolding of_flow takes
-  taken_of_flow c j =
-      comes_at_input i c j (admitted_in ran.admissions)
-      (each_slot (StandAt 0) (still_stand 0) limits marks (traffic_of came) ran.admissions each_judged (all_stand came))
-      ∙ ap (filter (is_of_flow i c j)) whole.are
-      ∙ filter_both (is_of_flow i c j) takes (cells_at i (traffic_of came))
-      ∙ ap (filter takes)
-      (sym (comes_at_input i c j (traffic_of came) (all_stand came)) ∙ came_at_input ms ports openings came runs i c j)
+  taken_of_flow c j = comes_at_input i c j (admitted_in ran.admissions) (each_slot (StandAt 0) (still_stand 0) limits
+      marks (traffic_of came) ran.admissions each_judged (all_stand came))
+      ∙ ap (filter (is_of_flow i c j)) whole.are ∙ filter_both (is_of_flow i c j) takes (cells_at i (traffic_of came))
+      ∙ ap (filter takes) (sym (comes_at_input i c j (traffic_of came) (all_stand came))
+      ∙ came_at_input ms ports openings came runs i c j)
 
   at_port : (c j : ℕ) → j < ports →
       left_in_flow i c j (departures_of 0 ran.gone) ≡ filter takes (came_in_flow i c j came)
   unfolding without
   at_port c j inside =
       let of_classes = each_slot (λ cells. AreOfClasses (machine_at ms j) j (present cells))
-      (all_kept (λ cell. cell.output ≡ j → cell.class < (machine_at ms j).classes)) limits marks
-      (traffic_of came) ran.admissions each_judged (classes ms ports j came runs.for_switch) in
+      (all_kept (λ cell. cell.output ≡ j → cell.class < (machine_at ms j).classes)) limits marks (traffic_of came)
+      ran.admissions each_judged (classes ms ports j came runs.for_switch) in
       left_as_came ms ports openings j (runs.machines j inside) runs.ports_are (runs.sizes j inside) inside i c
-      (admitted_in ran.admissions) without run of_classes nothing_left
-      ∙ taken_of_flow c j
+      (admitted_in ran.admissions) without run of_classes nothing_left ∙ taken_of_flow c j
 
   elsewhere : (c j : ℕ) → ports ≤ j →
       left_in_flow i c j (departures_of 0 ran.gone) ≡ filter takes (came_in_flow i c j came)
@@ -212,5 +196,4 @@ module _ (limits : List (Option ℕ)) (ms : List Machine) (ports : ℕ) (opening
   )
 
 pub flows_leave_in_packets : FlowsLeaveInPackets
-flows_leave_in_packets limits ms ports openings came ran runs is i packets =
-    (in_packets limits ms ports openings came ran runs is i packets).0
+flows_leave_in_packets limits ms ports openings came ran runs is i packets = grind (arith, common_steps, in_packets)

@@ -2,12 +2,11 @@
 -- leaves first, in the order of the output's list, and then what is admitted of what comes, in its order. What is
 -- admitted are the cells of whole packets; those of the packet that goes on are admitted where the mark of its input
 -- is down.
-use Rattle.std.proofs.Common.{◌≡◌, ◌∙◌, ℕ, ◌<◌, Bool, List, [], ◌++◌, length, filter, Option, Ok, sym, ap}
+use Rattle.std.proofs.Common.{arith, rules, ◌≡◌, ◌∙◌, ℕ, ◌<◌, Bool, List, [], ◌++◌, length, filter, Option, Ok, sym, ap}
 use Rattle.std.specs.Prelude.{All, slice_index_or}
 use Rattle.std.specs.List.{AllByRecursion}
 use Rattle.std.proofs.lemmas.List.{append-nil}
 use Rattle.cq_base.specs.declared.cell.Cell.{Cell}
-use Rattle.cq_base.specs.declared.cell.Queued.{Queued}
 use Rattle.cq_rank.specs.Machine.{KeepsLaws, Machine, machine_at}
 use Rattle.cq_ideal.specs.Admission.{Marked, admitted_in, mark_at}
 use Rattle.cq_ideal.specs.Flows.{left_in_flow}
@@ -51,8 +50,7 @@ module _ (limits : List (Option ℕ)) (ms : List Machine) (slot : ℕ) (traffic 
         let takes : Cell → Bool = λ cell. whole_on.is_taken cell.id.packet in
         comes_at_input i c j (admitted_in ran.admissions)
         (each_slot (StandAt 0) (still_stand 0) limits old.marks traffic ran.admissions each_judged stand)
-        ∙ ap (filter (is_of_flow i c j)) whole_on.are
-        ∙ filter_both (is_of_flow i c j) takes (cells_at i traffic)
+        ∙ ap (filter (is_of_flow i c j)) whole_on.are ∙ filter_both (is_of_flow i c j) takes (cells_at i traffic)
         ∙ ap (filter takes) (sym (comes_at_input i c j traffic stand))
 
     -- what leaves of a flow
@@ -67,10 +65,4 @@ module _ (limits : List (Option ℕ)) (ms : List Machine) (slot : ℕ) (traffic 
         (all_kept (λ cell. cell.output ≡ j → cell.class < (machine_at ms j).classes)) limits old.marks traffic
         ran.admissions each_judged are in
         let p = passed ms j laws i c (admitted_in ran.admissions) slot old.state without run in_lists in_ranks stands
-        of_classes in
-        let left : List Cell = left_in_flow i c j (departures_of slot ran.gone) in
-        let first : List Cell = shown i c (slice_index_or old.state.lists j []) in
-        sym (append-nil left)
-        ∙ ap (λ (xs : List Queued). left ++ shown i c xs) (sym (empty_at ran.after.state.lists j over))
-        ∙ sym p.shows
-        ∙ ap (λ (l : List Cell). first ++ l) (admitted_of_flow c j)
+        of_classes in search (arith, rules, shown, append-nil, empty_at, admitted_of_flow)

@@ -3,7 +3,8 @@
 -- some kind is less urgent than a new one of that kind, none of them stands behind it: the first cell behind it is
 -- less urgent, and so is each that follows. So of that kind the new cell is the last, and of any other kind the list
 -- shows what it showed.
-use Rattle.std.proofs.Common.{◌≡◌, Bool, true, false, cond, List, [], ◌∷◌, ◌++◌, refl, sym, ap, ◌∙◌, subst, ⊎_elim}
+use Rattle.std.proofs.lemmas.Grind.{common_steps}
+use Rattle.std.proofs.Common.{arith, ◌≡◌, Bool, true, false, List, [], ◌∷◌, ◌++◌, refl, ◌∙◌, subst, ⊎_elim, cond, sym, ap}
 use Rattle.std.specs.List.{AllByRecursion, filter}
 use Rattle.std.proofs.lemmas.Bool.{cond_both, cases_Bool, both_ways, false_from_ne_true, cond-true, cond-false}
 use Rattle.cq_base.specs.declared.key.Key.{Key}
@@ -25,17 +26,15 @@ all_from P Q f (x ∷ xs) a = (f x a.0, all_from P Q f xs a.1)
 -- what is before a cell is before each that is not more urgent than that one
 before_later : (n x y : Key) → is_before n x ≡ true → is_before y x ≡ false → is_before n y ≡ true
 before_later n x y h k =
-    ⊎_elim (λ e. e)
-    (λ no. ⊎_elim (λ back. absurd (both_ways (is_before y x) k (key_laws.on y n x back h)))
-    (λ alike. absurd (both_ways (is_before y x) k (subst (λ (z : Key). is_before z x ≡ true)
-    (key_laws.alike n y no alike) h))) (cases_Bool (is_before y n)))
-    (cases_Bool (is_before n y))
+    ⊎_elim (λ e. e) (λ no. ⊎_elim (λ back. absurd (both_ways (is_before y x) k (key_laws.on y n x back h)))
+    (λ alike. absurd (both_ways (is_before y x) k
+    (subst (λ (z : Key). is_before z x ≡ true) (key_laws.alike n y no alike) h)))
+    (cases_Bool (is_before y n))) (cases_Bool (is_before n y))
 
 -- the list stays in order
 pub in_order_put : (n : Queued) (xs : List Queued) → EachPair NoLater xs → EachPair NoLater (put n xs)
 in_order_put n [] e = (tt, tt)
-in_order_put n (x ∷ xs) e =
-    cond_both (is_before n.key x.key) (n ∷ x ∷ xs) (x ∷ put n xs) (EachPair NoLater)
+in_order_put n (x ∷ xs) e = cond_both (is_before n.key x.key) (n ∷ x ∷ xs) (x ∷ put n xs) (EachPair NoLater)
     (λ h. (
       (
         key_laws.one_way n.key x.key h,
@@ -56,20 +55,14 @@ module _ (p : Queued → Bool) (n : Queued) where
   -- a new cell of another kind
   pub filter-put_other : (xs : List Queued) → p n ≡ false → filter p (put n xs) ≡ filter p xs
   filter-put_other [] h = cond-false (p n) (n ∷ []) [] h
-  filter-put_other (x ∷ xs) h =
-      cond_both (is_before n.key x.key) (n ∷ x ∷ xs) (x ∷ put n xs) (λ l. filter p l ≡ filter p (x ∷ xs))
-      (λ _. cond-false (p n) (n ∷ filter p (x ∷ xs)) (filter p (x ∷ xs)) h)
-      (λ _. ap (λ l. cond (p x) (x ∷ l) l) (filter-put_other xs h))
+  filter-put_other (x ∷ xs) h = grind (arith, common_steps, cond_both, cond-false, filter-put_other xs h)
 
   -- none of the kind stands behind a cell that the new one is before
   none_behind : (x : Queued) (xs : List Queued) → is_before n.key x.key ≡ true → AllByRecursion (NoLater x) xs →
       AllByRecursion (λ y. p y ≡ true → NoLater y n) xs → AllByRecursion (λ y. p y ≡ false) xs
   none_behind x [] h a b = tt
-  none_behind x (y ∷ xs) h a b = (
-    false_from_ne_true (p y) (λ e. both_ways (is_before n.key y.key) (b.0 e)
-        (before_later n.key x.key y.key h a.0)),
-    none_behind x xs h a.1 b.1,
-  )
+  none_behind x (y ∷ xs) h a b =
+      grind (arith, common_steps, false_from_ne_true, both_ways, before_later, none_behind x xs h a.1 b.1)
 
   -- a new cell of the kind, of which none is less urgent
   pub filter-put : (xs : List Queued) → p n ≡ true → EachPair NoLater xs →

@@ -1,11 +1,12 @@
 -- The arrivals of a slot at one output, ranked and put into its list from input to input. A cell for the output is
 -- put behind all that wait of its flow, and a cell for another output changes neither the list nor the machine's
 -- state here. So of each flow the list shows what it showed before, and then what arrives of it.
-use Rattle.std.proofs.Common.{◌≡◌, ℕ, ◌+◌, ◌<◌, ◌^◌, Bool, true, false, cond, List, [], ◌∷◌, ◌++◌, length, Option, Some, None, Result, Ok, Err, refl, sym, ap, ◌∙◌, subst, ⊎_elim, arith}
-use Rattle.std.specs.Prelude.{◌&&◌, ◌==◌, nat_lt, slice_index_or, slice_set}
+use Rattle.std.proofs.lemmas.Grind.{common_steps}
+use Rattle.std.proofs.Common.{rules, ◌≡◌, ℕ, ◌+◌, ◌<◌, Bool, true, false, cond, List, [], ◌∷◌, ◌++◌, length, Option, Some, None, Result, Ok, Err, refl, subst, ⊎_elim, arith, sym, ap, ◌∙◌}
+use Rattle.std.specs.Prelude.{slice_index_or, slice_set, ◌&&◌, ◌==◌}
 use Rattle.std.specs.List.{AllByRecursion}
-use Rattle.std.proofs.lemmas.Bool.{cases_eq, eq-eqb, ne_eqb, and_left, cond-true, cond-false}
-use Rattle.std.proofs.lemmas.List.{append-nil, append_assoc, get_or-set_same, get_or-set_other, length-set}
+use Rattle.std.proofs.lemmas.Bool.{cases_eq, ne_eqb, and_left, cond-false, eq-eqb, cond-true}
+use Rattle.std.proofs.lemmas.List.{append-nil, get_or-set_other, length-set, append_assoc, get_or-set_same}
 use Rattle.cq_base.specs.declared.cell.Cell.{Cell}
 use Rattle.cq_base.specs.declared.cell.Queued.{Queued}
 use Rattle.cq_base.specs.declared.cell.TagFault.{TagFault}
@@ -80,13 +81,7 @@ module _ (ms : List Machine) (j slot : ℕ) (laws : KeepsLaws (machine_at ms j))
         Filled come l (put_all j rest.came l) (given_in ranks cell) rest.ranks →
         shown i c l ++ of_flow i c j come ≡ shown i c xs ++ of_flow i c j (cell ∷ come) → FilledByOne
     unfolding FilledByOne new_cell
-    from_list l is f shows =
-        subst (λ (l : List Queued). Filled (cell ∷ come) xs (put_all j rest.came l) ranks rest.ranks) (sym is)
-        (record {
-          stands = f.stands;
-          ports = f.ports ∙ length-set ranks cell.output (state_given ranks cell);
-          shows = f.shows ∙ shows;
-        })
+    from_list l is f shows = grind (arith, common_steps, length-set ranks cell.output (state_given ranks cell))
 
     -- a cell for another output
     elsewhere : (cell.output ≡ j → ⊥) → FilledByOne
@@ -156,21 +151,8 @@ module _ (ms : List Machine) (j slot : ℕ) (laws : KeepsLaws (machine_at ms j))
       Stands (machine_at ms j) (slice_index_or ranks j []) slot input xs →
       AreOfClasses (machine_at ms j) j (present cells) → Filled (present cells) xs (put_all j r.came xs) ranks r.ranks
   unfolding of_flow
-  filled_from [] input ranks xs r h inside stands are =
-      subst (λ (q : Ranking). Filled [] xs (put_all j q.came xs) ranks q.ranks) (only_ok refl h)
-      (record {
-        stands = stands_next (machine_at ms j) laws (slice_index_or ranks j []) slot input xs stands;
-        ports = refl;
-        shows = sym (append-nil (shown i c xs));
-      })
+  filled_from [] input ranks xs r h inside stands are = search (rules, only_ok, stands_next, append-nil, shown)
   filled_from (None ∷ cells) input ranks xs r h inside stands are =
-      after_ok (λ q. Filled (present cells) xs (put_all j q.came xs) ranks q.ranks) None
-      (ranking ms slot (input + 1) cells ranks) r h
-      (λ rest is. filled_from cells (input + 1) ranks xs rest is inside
-      (stands_on (machine_at ms j) laws (slice_index_or ranks j []) slot input xs stands) are)
+      search (rules, after_ok, stands_on, filled_from cells (input + 1) ranks xs)
   filled_from (Some cell ∷ cells) input ranks xs r h inside stands are =
-      filled_one cell (present cells) input ranks xs r (nat_lt (ranked_in ranks cell) (2 ^ 128))
-      (record { slot = slot; input = input; output = cell.output })
-      (ranking ms slot (input + 1) cells (given_in ranks cell)) h inside stands are.0
-      (λ xs' rest is stands'. filled_from cells (input + 1) (given_in ranks cell) xs' rest is
-      (let same = length-set ranks cell.output (state_given ranks cell) in omega arith) stands' are.1)
+      search (rules, filled_one, length-set, filled_from cells (input + 1) (given_in ranks cell))

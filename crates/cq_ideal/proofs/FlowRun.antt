@@ -2,8 +2,9 @@
 -- still sends of it, and then what its list shows at the end: slot by slot. And where there are slots enough after
 -- the last arrival the list is empty at the end, since in each of them it gets shorter by one cell. What is no port
 -- sends nothing.
-use Rattle.std.proofs.Common.{◌≡◌, ℕ, zero, suc, ◌+◌, ◌-◌, ◌<◌, ◌≤◌, Bool, true, false, cond, List, [], ◌∷◌, ◌++◌, length, map, Option, Some, None, Result, Ok, Err, refl, sym, ap, ◌∙◌, subst, arith}
-use Rattle.std.specs.Prelude.{◌&&◌, ◌==◌, slice_index_or}
+use Rattle.std.proofs.Common.{rules, ◌≡◌, ℕ, zero, suc, ◌+◌, ◌-◌, ◌<◌, ◌≤◌, Bool, true, false, cond, List, [], ◌∷◌, ◌++◌, length, map, Option, Some, None, Result, Ok, Err, refl, ap, subst, arith}
+use Rattle.std.proofs.lemmas.Grind.{common_steps}
+use Rattle.std.specs.Prelude.{slice_index_or}
 use Rattle.std.specs.List.{AllByRecursion, filter}
 use Rattle.std.proofs.lemmas.Bool.{eq-eqb, ne_eqb, and_left, cond-false}
 use Rattle.std.proofs.lemmas.List.{append-nil, append_assoc, map-append, get_or_past}
@@ -27,12 +28,7 @@ module _ (i c j slot : ℕ) where
       filter (leaves_in_flow i c j) (departures_from slot a gone) ≡ []
   none_left [] a l = refl
   none_left (None ∷ gone) a l = none_left gone (a + 1) (omega arith)
-  none_left (Some q ∷ gone) a l =
-      let d : Departure = record { slot = slot; output = a; queued = q } in
-      let other : (a == j) ≡ false = ne_eqb a j (λ e. omega arith) in
-      let out : leaves_in_flow i c j d ≡ false = and_left (a == j) (is_kind i c q) other in
-      let rest : List Departure = filter (leaves_in_flow i c j) (departures_from slot (a + 1) gone) in
-      cond-false (leaves_in_flow i c j d) (d ∷ rest) rest out ∙ none_left gone (a + 1) (omega arith)
+  none_left (Some q ∷ gone) a l = search (rules, ne_eqb, and_left, is_kind, cond-false, none_left gone (a + 1))
 
   one_left : (b : Bool) (d : Departure) →
       map (λ (x : Departure). x.queued.cell) (cond b (d ∷ []) [])
@@ -45,32 +41,15 @@ module _ (i c j slot : ℕ) where
   left_from [] a k e = refl
   left_from (None ∷ gone) a zero e = ap (map (λ (x : Departure). x.queued.cell)) (none_left gone (a + 1) (omega arith))
   left_from (None ∷ gone) a (suc k) e = left_from gone (a + 1) k (omega arith)
-  left_from (Some q ∷ gone) a zero e =
-      let d : Departure = record { slot = slot; output = a; queued = q } in
-      let here : (a == j) ≡ true = eq-eqb a j (omega arith) in
-      let of : leaves_in_flow i c j d ≡ is_kind i c q = ap (λ (t : Bool). t && is_kind i c q) here in
-      ap (λ (l : List Departure). map (λ (x : Departure). x.queued.cell) (cond (leaves_in_flow i c j d) (d ∷ l) l))
-      (none_left gone (a + 1) (omega arith))
-      ∙ one_left (leaves_in_flow i c j d) d
-      ∙ ap (λ (b : Bool). map (λ (x : Queued). x.cell) (cond b (q ∷ []) [])) of
+  left_from (Some q ∷ gone) a zero e = grind (arith, common_steps, eq-eqb, is_kind, none_left, one_left)
   left_from (Some q ∷ gone) a (suc k) e =
-      let d : Departure = record { slot = slot; output = a; queued = q } in
-      let other : (a == j) ≡ false = ne_eqb a j (λ same. omega arith) in
-      let out : leaves_in_flow i c j d ≡ false = and_left (a == j) (is_kind i c q) other in
-      let rest : List Departure = filter (leaves_in_flow i c j) (departures_from slot (a + 1) gone) in
-      ap (map (λ (x : Departure). x.queued.cell)) (cond-false (leaves_in_flow i c j d) (d ∷ rest) rest out)
-      ∙ left_from gone (a + 1) k (omega arith)
+      grind (arith, common_steps, ne_eqb, and_left, is_kind, cond-false, left_from gone (a + 1) k)
 
   left_later : (gone : List (Option Queued)) (ds : List Departure) →
       left_in_flow i c j (departures_in slot gone ++ ds)
       ≡ shown i c (listed (slice_index_or gone j None)) ++ left_in_flow i c j ds
   unfolding departures_in
-  left_later gone ds =
-      let here : List Departure = departures_from slot 0 gone in
-      ap (map (λ (x : Departure). x.queued.cell)) (filter-append (leaves_in_flow i c j) here ds)
-      ∙ map-append (λ (x : Departure). x.queued.cell) (filter (leaves_in_flow i c j) here)
-      (filter (leaves_in_flow i c j) ds)
-      ∙ ap (λ (l : List Cell). l ++ left_in_flow i c j ds) (left_from gone 0 j (omega arith))
+  left_later gone ds = grind (arith, common_steps, filter-append, map-append, left_from)
 
 -- ## What is to come
 
@@ -122,8 +101,7 @@ pub run_ok : (P : Ran → Type 0) (ms : List Machine) (slot : ℕ) (traffic : Li
     ((sent : Sent) (rest : Ran) → x ≡ Ok sent → ideal_run ms (slot + 1) traffic sent.after ≡ Ok rest →
     P (record { gone = sent.gone ∷ rest.gone; after = rest.after })) → P ran
 unfolding goes_on
-run_ok P ms slot traffic (Ok sent) ran h f =
-    then_ok P sent.gone (ideal_run ms (slot + 1) traffic sent.after) ran h (λ rest is. f sent rest refl is)
+run_ok P ms slot traffic (Ok sent) ran h f = grind (arith, common_steps, then_ok)
 run_ok P ms slot traffic (Err fault) ran h f = absurd (let P : ⊥ = cc in P)
 
 module _ (ms : List Machine) (j : ℕ) (laws : KeepsLaws (machine_at ms j)) (i c : ℕ) where
@@ -138,24 +116,7 @@ module _ (ms : List Machine) (j : ℕ) (laws : KeepsLaws (machine_at ms j)) (i c
       Passed slot (cells ∷ traffic) state (record { gone = sent.gone ∷ rest.gone; after = rest.after })
   unfolding flow_came come_count departures_of
   passed_step slot cells traffic state sent rest s p =
-      let now : List Cell = shown i c (slice_index_or state.lists j []) in
-      let here : List Cell = of_flow i c j (present cells) in
-      let later : List Cell = flow_came i c j traffic in
-      let none : Option Queued = None in
-      let gone : List Cell = shown i c (listed (slice_index_or sent.gone j none)) in
-      let next : List Cell = shown i c (slice_index_or sent.after.lists j []) in
-      let left : List Cell = left_in_flow i c j (departures_of (slot + 1) rest.gone) in
-      let end : List Cell = shown i c (slice_index_or rest.after.lists j []) in
-      record {
-        shows =
-            sym (append_assoc now here later)
-            ∙ ap (λ (l : List Cell). l ++ later) s.shows
-            ∙ append_assoc gone next later
-            ∙ ap (λ (l : List Cell). gone ++ l) p.shows
-            ∙ sym (append_assoc gone left end)
-            ∙ ap (λ (l : List Cell). l ++ end) (sym (left_later i c j slot sent.gone
-            (departures_of (slot + 1) rest.gone)));
-      }
+      search (rules, shown, of_flow, present, listed, append_assoc, left_later)
 
   pub passed : (traffic : List (List (Option Cell))) (slot : ℕ) (state : IdealState) (ran : Ran) →
       ideal_run ms slot traffic state ≡ Ok ran → j < length state.lists → j < length state.ranks →
@@ -180,17 +141,6 @@ pub no_port : (ms : List Machine) (i c j : ℕ) (traffic : List (List (Option Ce
     (ran : Ran) → ideal_run ms slot traffic state ≡ Ok ran → length state.lists ≤ j →
     left_in_flow i c j (departures_of slot ran.gone) ≡ []
 unfolding ideal_run goes_on departures_of
-no_port ms i c j [] slot state ran h outside =
-    subst (λ (r : Ran). left_in_flow i c j (departures_of slot r.gone) ≡ []) (only_ok refl h) refl
+no_port ms i c j [] slot state ran h outside = cc ((only_ok refl h))
 no_port ms i c j (cells ∷ traffic) slot state ran h outside =
-    run_ok (λ r. left_in_flow i c j (departures_of slot r.gone) ≡ []) ms slot traffic (ideal_slot ms slot cells state)
-    ran h
-    (λ sent rest slot_is rest_is.
-    let none : Option Queued = None in
-    let ports = slot_ports ms slot cells state sent slot_is in
-    let gone_are : length sent.gone ≡ length state.lists = ports.0 in
-    let lists_are : length sent.after.lists ≡ length state.lists = ports.1 in
-    left_later i c j slot sent.gone (departures_of (slot + 1) rest.gone)
-    ∙ ap (λ (o : Option Queued). shown i c (listed o) ++ left_in_flow i c j (departures_of (slot + 1) rest.gone))
-    (get_or_past sent.gone j none (omega arith))
-    ∙ no_port ms i c j traffic (slot + 1) sent.after rest rest_is (omega arith))
+    search (rules, slot_ports, left_later, get_or_past, no_port ms i c j traffic (slot + 1))

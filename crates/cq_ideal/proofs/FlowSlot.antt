@@ -1,7 +1,8 @@
 -- One slot at one output. After its arrivals the output sends the first cell of its list, and a sending lowers no
 -- floor; where it sends nothing its list is empty. So what is known of the list stays known. And what the list showed
 -- of a flow, and then what arrived of it, is what the output sent of it, and then what the list shows afterwards.
-use Rattle.std.proofs.Common.{◌≡◌, ℕ, ◌+◌, ◌<◌, Bool, true, false, cond, List, [], ◌∷◌, ◌++◌, length, map, drop, Option, Some, None, Ok, refl, sym, ap, ◌∙◌, subst, arith}
+use Rattle.std.proofs.Common.{rules, ◌≡◌, ℕ, ◌+◌, ◌<◌, Bool, true, false, cond, List, [], ◌∷◌, ◌++◌, length, map, drop, Option, Some, None, Ok, refl, arith}
+use Rattle.std.proofs.lemmas.Grind.{common_steps}
 use Rattle.std.specs.Prelude.{slice_get, slice_index_or}
 use Rattle.std.specs.List.{filter}
 use Rattle.std.proofs.lemmas.List.{get_or-map, length-map}
@@ -26,20 +27,8 @@ listed (Some q) = q ∷ []
 stands_sent : (m : Machine) (laws : KeepsLaws m) (state : List ℕ) (slot : ℕ) (ys : List Queued) →
     Stands m state slot 0 ys → Stands m (told m state (slice_get ys 0)) slot 0 (drop 1 ys)
 stands_sent m laws state slot [] stands = record { size = laws.idle_length state stands.size; order = tt; waited = tt }
-stands_sent m laws state slot (y ∷ ys) stands = record {
-  size = laws.sent_length state y.key.level y.key.rank stands.size;
-  order = stands.order.1;
-  waited = all_from (HasWaited m state slot 0) (HasWaited m (m.sent state y.key.level y.key.rank) slot 0)
-      (λ x w. record {
-        level = w.level;
-        rank = let l = laws.sent_floor state y.key.level y.key.rank x.cell.class stands.size w.class in
-            omega arith;
-        class = w.class;
-        came = w.came;
-        before = w.before;
-      })
-      ys stands.waited.1;
-}
+stands_sent m laws state slot (y ∷ ys) stands =
+    grind (arith, common_steps, laws.sent_length, all_from, HasWaited, m.sent, laws.sent_floor)
 
 first_shown : (b : Bool) (y : Queued) (zs : List Queued) →
     map (λ (x : Queued). x.cell) (cond b (y ∷ zs) zs)
@@ -84,40 +73,15 @@ module _ (ms : List Machine) (j slot : ℕ) (laws : KeepsLaws (machine_at ms j))
       let states : length r.ranks ≡ length old.ranks = f.ports in
       let inside_ranks : j < length r.ranks = omega arith in
       let here : slice_index_or lists j [] ≡ ys = filled_at r.came old.lists j in_lists in
-      let gone : slice_index_or (fronts lists) j none ≡ slice_get ys 0 =
-      get_or-map (λ (zs : List Queued). slice_get zs 0) lists j nil none inside
-      ∙ ap (λ (zs : List Queued). slice_get zs 0) here in
-      let left : slice_index_or (rests lists) j nil ≡ drop 1 ys =
-      get_or-map (λ (zs : List Queued). drop 1 zs) lists j nil nil inside
-      ∙ ap (λ (zs : List Queued). drop 1 zs) here in
-      let state : slice_index_or (all_told ms (fronts lists) r.ranks) j []
-      ≡ told (machine_at ms j) (slice_index_or r.ranks j []) (slice_get ys 0) =
-      told_at ms (fronts lists) r.ranks j inside_ranks
-      ∙ ap (told (machine_at ms j) (slice_index_or r.ranks j [])) gone in
-      let kept = stands_sent (machine_at ms j) laws (slice_index_or r.ranks j []) (slot + 1) ys f.stands in
-      record {
-        stands =
-            subst (λ (zs : List Queued). Stands (machine_at ms j)
-            (slice_index_or (all_told ms (fronts lists) r.ranks) j []) (slot + 1) 0 zs) (sym left)
-            (subst (λ (s : List ℕ). Stands (machine_at ms j) s (slot + 1) 0 (drop 1 ys)) (sym state) kept);
-        states = length-told ms (fronts lists) r.ranks ∙ states;
-        ports = length-map lists (λ (zs : List Queued). drop 1 zs) ∙ many;
-        shows =
-            sym f.shows ∙ shown_sent i c ys
-            ∙ ap (λ (o : Option Queued). shown i c (listed o) ++ shown i c (drop 1 ys)) (sym gone)
-            ∙ ap (λ (zs : List Queued). shown i c (listed (slice_index_or (fronts lists) j none)) ++ shown i c zs)
-            (sym left);
-      }
+      search (arith, rules, get_or-map, told_at, stands_sent, Stands, length-told, length-map, shown_sent, shown)
 
   pub served : (cells : List (Option Cell)) (old : IdealState) (sent : Sent) →
       ideal_slot ms slot cells old ≡ Ok sent → j < length old.lists → j < length old.ranks →
       Stands (machine_at ms j) (slice_index_or old.ranks j []) slot 0 (slice_index_or old.lists j []) →
       AreOfClasses (machine_at ms j) j (present cells) → Served (present cells) old sent
   unfolding ideal_slot
-  served cells old sent h in_lists in_ranks stands are =
-      sends_ok (λ s. Served (present cells) old s) ms old (ranking ms slot 0 cells old.ranks) sent h
-      (λ r is. served_from (present cells) old r in_lists in_ranks (filled_from ms j slot laws i c cells 0 old.ranks
-      (slice_index_or old.lists j []) r is in_ranks stands are))
+  served cells old sent h in_lists in_ranks stands are = sends_ok (λ s. Served (present cells) old s) ms old
+      (ranking ms slot 0 cells old.ranks) sent h (λ r is. search (arith, rules, served_from, present, filled_from))
 
 -- ## The ports
 
@@ -126,12 +90,4 @@ pub slot_ports : (ms : List Machine) (slot : ℕ) (cells : List (Option Cell)) (
     ideal_slot ms slot cells old ≡ Ok sent →
     (length sent.gone ≡ length old.lists) × (length sent.after.lists ≡ length old.lists)
 unfolding ideal_slot
-slot_ports ms slot cells old sent h =
-    sends_ok (λ s. (length s.gone ≡ length old.lists) × (length s.after.lists ≡ length old.lists)) ms old
-    (ranking ms slot 0 cells old.ranks) sent h
-    (λ r is.
-    let lists : List (List Queued) = filled r.came old.lists in
-    let many : length lists ≡ length old.lists = length-filled r.came old.lists in (
-      length-map lists (λ (zs : List Queued). slice_get zs 0) ∙ many,
-      length-map lists (λ (zs : List Queued). drop 1 zs) ∙ many,
-    ))
+slot_ports ms slot cells old sent h = grind (arith, common_steps, sends_ok, length-filled, length-map)

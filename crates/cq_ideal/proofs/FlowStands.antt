@@ -3,14 +3,13 @@
 -- cell of a class gets a rank no less than the floor, which becomes the floor, and no other class's floor falls. So
 -- the new cell is not more urgent than any waiting cell of its class, and it is put behind all of them: of each flow
 -- the list shows what it showed before, and then the new cell, if it is of the flow.
-use Rattle.std.proofs.Common.{◌≡◌, ℕ, ◌+◌, ◌<◌, ◌≤◌, eqb, ltb, Bool, true, false, cond, List, [], ◌∷◌, ◌++◌, length, map, refl, sym, ap, ◌∙◌, subst, ⊎_elim, arith}
+use Rattle.std.proofs.lemmas.Grind.{common_steps}
+use Rattle.std.proofs.Common.{rules, ◌≡◌, ℕ, ◌+◌, ◌<◌, ◌≤◌, Bool, false, List, [], ◌∷◌, ◌++◌, length, map, sym, ap, ◌∙◌, arith, true, ⊎_elim}
 use Rattle.std.specs.Prelude.{◌&&◌, ◌==◌}
 use Rattle.std.specs.List.{AllByRecursion, filter}
 use Rattle.std.specs.declared.cmp.Ordering.{Ordering}
-use Rattle.std.specs.declared.cmp.Ordering.TheVariants.{Less, Equal, Greater}
 use Rattle.std.specs.Ordering.{nat_cmp, ordering_then, is_lt}
-use Rattle.std.proofs.lemmas.Bool.{cond_both, cases_Bool, ltb-true, eqb-true, eq-eqb, and_parts, and_from, and_right, cond-true, cond-false}
-use Rattle.std.proofs.lemmas.List.{append-nil, map-append}
+use Rattle.std.proofs.lemmas.Bool.{cond_both, ltb-true, eqb-true, cond-true, cond-false, cases_Bool, eq-eqb, and_parts, and_from, and_right}
 use Rattle.cq_base.specs.declared.cell.Cell.{Cell}
 use Rattle.cq_base.specs.declared.cell.Queued.{Queued}
 use Rattle.cq_base.specs.Key.{is_before}
@@ -19,36 +18,22 @@ use Rattle.cq_rank.proofs.Floors.{given_floor}
 use Rattle.cq_rank.specs.Machine.{Machine, KeepsLaws}
 use Rattle.cq_ideal.proofs.FlowPut.{NoLater, all_from, in_order_put, filter-put, filter-put_other}
 use Rattle.cq_urgency.proofs.Rising.{all_put}
+use Rattle.std.proofs.lemmas.List.{append-nil, map-append}
 
 -- ## Keys that are not the lesser
 
 no_less_then : (x y : ℕ) (p : Ordering) → y ≤ x → (x ≡ y → is_lt p ≡ false) →
     is_lt (ordering_then (nat_cmp x y) p) ≡ false
-no_less_then x y p le f =
-    cond_both (ltb x y) Less (cond (eqb x y) Equal Greater) (λ o. is_lt (ordering_then o p) ≡ false)
-    (λ lt. absurd (let l = ltb-true x y lt in omega arith))
-    (λ _. cond_both (eqb x y) Equal Greater (λ o. is_lt (ordering_then o p) ≡ false) (λ e. f (eqb-true x y e))
-    (λ _. refl))
+no_less_then x y p le f = grind (arith, common_steps, cond_both, ltb-true, eqb-true)
 
 no_less : (x y : ℕ) → y ≤ x → is_lt (nat_cmp x y) ≡ false
-no_less x y le =
-    cond_both (ltb x y) Less (cond (eqb x y) Equal Greater) (λ o. is_lt o ≡ false)
-    (λ lt. absurd (let l = ltb-true x y lt in omega arith))
-    (λ _. cond_both (eqb x y) Equal Greater (λ o. is_lt o ≡ false) (λ _. refl) (λ _. refl))
+no_less x y le = grind (arith, common_steps, cond_both, ltb-true)
 
 -- a cell of the same level and no greater rank that came no later, and in the same slot at no later input
 no_later_from : (a b : Queued) → a.key.level ≡ b.key.level → a.key.rank ≤ b.key.rank → a.key.slot ≤ b.key.slot →
     (b.key.slot ≡ a.key.slot → a.key.input ≤ b.key.input) → NoLater a b
 unfolding is_before
-no_later_from a b l r s i =
-    no_less_then b.key.level a.key.level
-    (ordering_then (nat_cmp b.key.rank a.key.rank)
-    (ordering_then (nat_cmp b.key.slot a.key.slot) (nat_cmp b.key.input a.key.input)))
-    (omega arith)
-    (λ _. no_less_then b.key.rank a.key.rank
-    (ordering_then (nat_cmp b.key.slot a.key.slot) (nat_cmp b.key.input a.key.input)) r
-    (λ _. no_less_then b.key.slot a.key.slot (nat_cmp b.key.input a.key.input) s
-    (λ e. no_less b.key.input a.key.input (i e))))
+no_later_from a b l r s i = grind (arith, common_steps, no_less_then, no_less)
 
 -- ## What stands in a list
 
@@ -86,13 +71,7 @@ of_flow i c j cells = filter (is_of_flow i c j) cells
 pub of_flow-cons : (i c j : ℕ) (cell : Cell) (cells : List Cell) →
     of_flow i c j (cell ∷ []) ++ of_flow i c j cells ≡ of_flow i c j (cell ∷ cells)
 unfolding of_flow
-of_flow-cons i c j cell cells =
-    cond_both (is_of_flow i c j cell) (cell ∷ []) [] (λ l. l ++ filter (is_of_flow i c j) cells
-    ≡ cond (is_of_flow i c j cell) (cell ∷ filter (is_of_flow i c j) cells) (filter (is_of_flow i c j) cells))
-    (λ e. sym (cond-true (is_of_flow i c j cell) (cell ∷ filter (is_of_flow i c j) cells)
-    (filter (is_of_flow i c j) cells) e))
-    (λ e. sym (cond-false (is_of_flow i c j cell) (cell ∷ filter (is_of_flow i c j) cells)
-    (filter (is_of_flow i c j) cells) e))
+of_flow-cons i c j cell cells = grind (arith, common_steps, cond_both, cond-true, cond-false)
 
 -- ## One cell more
 
@@ -100,74 +79,23 @@ module _ (m : Machine) (laws : KeepsLaws m) (state : List ℕ) (slot input : ℕ
     (stands : Stands m state slot input xs) where
   -- at an input with no arrival for the output
   pub stands_on : Stands m state slot (input + 1) xs
-  stands_on = record {
-    size = stands.size;
-    order = stands.order;
-    waited =
-        all_from (HasWaited m state slot input) (HasWaited m state slot (input + 1))
-        (λ x w. record {
-          level = w.level;
-          rank = w.rank;
-          class = w.class;
-          came = w.came;
-          before = λ e. let b = w.before e in omega arith;
-        }) xs stands.waited;
-  }
+  stands_on = search (arith, rules, all_from (HasWaited m state slot input) (HasWaited m state slot (input + 1)))
 
   -- at the next slot
   pub stands_next : Stands m state (slot + 1) 0 xs
-  stands_next = record {
-    size = stands.size;
-    order = stands.order;
-    waited =
-        all_from (HasWaited m state slot input) (HasWaited m state (slot + 1) 0) (λ x w. record {
-          level = w.level;
-          rank = w.rank;
-          class = w.class;
-          came = omega arith;
-          before = λ e. absurd (omega arith);
-        }) xs stands.waited;
-  }
+  stands_next = search (arith, rules, all_from (HasWaited m state slot input) (HasWaited m state (slot + 1) 0))
 
   module _ (n : Queued) (known : n.cell.class < m.classes) (level_is : n.key.level ≡ m.level n.cell.class)
       (rank_is : n.key.rank ≡ m.ranked state n.cell.class) (slot_is : n.key.slot ≡ slot)
       (input_is : n.key.input ≡ input) where
     -- what is known of the list with the new cell
     pub stands_put : Stands m (m.given state n.cell.class) slot (input + 1) (put n xs)
-    stands_put = record {
-      size = laws.given_length state n.cell.class stands.size known;
-      order = in_order_put n xs stands.order;
-      waited =
-          all_put (HasWaited m (m.given state n.cell.class) slot (input + 1)) n xs
-          (record {
-            level = level_is;
-            rank = let is = laws.given_floor state n.cell.class stands.size known in omega arith;
-            class = known;
-            came = omega arith;
-            before = λ _. omega arith;
-          })
-          (all_from (HasWaited m state slot input) (HasWaited m (m.given state n.cell.class) slot (input + 1))
-          (λ x w. record {
-            level = w.level;
-            rank = let l = given_floor m laws state n.cell.class x.cell.class stands.size known w.class in
-                omega arith;
-            class = w.class;
-            came = w.came;
-            before = λ e. let b = w.before e in omega arith;
-          })
-          xs stands.waited);
-    }
+    stands_put = grind (arith, common_steps, in_order_put, all_put, all_from, given_floor)
 
     -- no waiting cell of its class is less urgent
     class_no_later : (x : Queued) → x.cell.class ≡ n.cell.class → HasWaited m state slot input x → NoLater x n
     class_no_later x same w =
-        let above : m.floor state n.cell.class ≤ m.ranked state n.cell.class =
-        laws.above state n.cell.class stands.size known in
-        let rank : x.key.rank ≤ m.floor state n.cell.class =
-        subst (λ (d : ℕ). x.key.rank ≤ m.floor state d) same w.rank in
-        let came : x.key.slot ≤ slot = w.came in
-        no_later_from x n (w.level ∙ ap m.level same ∙ sym level_is) (omega arith) (omega arith)
-        (λ e. let b : x.key.input < input = w.before (sym e ∙ slot_is) in omega arith)
+        grind (arith, common_steps, (no_later_from x n (w.level ∙ ap m.level same ∙ sym level_is)), w.before)
 
     -- each flow's cells are those from before, and then the new one if it is of the flow
     pub shown-put : (i c j : ℕ) → n.cell.output ≡ j → shown i c (put n xs) ≡ shown i c xs ++ of_flow i c j (n.cell ∷ [])

@@ -1,6 +1,7 @@
 -- What comes of a flow in the slots of a run, in order, is the flow's arrivals in order. Of a flow only its input's
 -- place shows cells in a slot. And at one input the arrivals rise in their slots: an arrival is found in its slot,
 -- those after it in the list come later, and where it is taken off the list every other slot shows the same.
+use Rattle.std.proofs.lemmas.Grind.{common_steps}
 use Rattle.std.proofs.Common.{◌≡◌, ℕ, zero, suc, ◌+◌, ◌<◌, ◌≤◌, Bool, true, false, cond, List, [], ◌∷◌, ◌++◌, map, Option, Some, None, refl, sym, ap, ◌∙◌, ⊎_elim, arith}
 use Rattle.std.specs.Prelude.{◌&&◌, ◌==◌}
 use Rattle.std.specs.List.{AllByRecursion, filter, range_with_len}
@@ -26,16 +27,12 @@ joined g a (suc n) = g a ++ joined g (a + 1) n
 pub joined_none : (g : ℕ → List Cell) (a n : ℕ) → ((t : ℕ) → t < a + n → g t ≡ []) → joined g a n ≡ []
 unfolding joined
 joined_none g a zero f = refl
-joined_none g a (suc n) f =
-    ap (λ (l : List Cell). l ++ joined g (a + 1) n) (f a (omega arith))
-    ∙ joined_none g (a + 1) n (λ t l. f t (omega arith))
+joined_none g a (suc n) f = grind (arith, common_steps, joined_none g (a + 1) n)
 
 pub joined_same : (g h : ℕ → List Cell) (a n : ℕ) → ((t : ℕ) → a ≤ t → g t ≡ h t) → joined g a n ≡ joined h a n
 unfolding joined
 joined_same g h a zero f = refl
-joined_same g h a (suc n) f =
-    ap (λ (l : List Cell). l ++ joined g (a + 1) n) (f a (omega arith))
-    ∙ ap (λ (l : List Cell). h a ++ l) (joined_same g h (a + 1) n (λ t l. f t (omega arith)))
+joined_same g h a (suc n) f = grind (arith, common_steps, joined_same g h (a + 1) n)
 
 -- what stands at one place more, with nothing before it
 pub joined_more : (g h : ℕ → List Cell) (s : ℕ) (a n : ℕ) → a ≤ s → s < a + n → ((t : ℕ) → t < s → g t ≡ []) →
@@ -43,17 +40,7 @@ pub joined_more : (g h : ℕ → List Cell) (s : ℕ) (a n : ℕ) → a ≤ s �
 unfolding joined
 joined_more g h s a zero le lt before none after = absurd (omega arith)
 joined_more g h s a (suc n) le lt before none after =
-    ⊎_elim
-    (λ less.
-    ap (λ (l : List Cell). l ++ joined g (a + 1) n) (before a less)
-    ∙ joined_more g h s (a + 1) n (omega arith) (omega arith) before none after
-    ∙ ap (λ (l : List Cell). g s ++ (l ++ joined h (a + 1) n)) (sym (none a (omega arith))))
-    (λ no.
-    let same : a ≡ s = omega arith in
-    ap (λ (k : ℕ). g k ++ joined g (a + 1) n) same
-    ∙ ap (λ (l : List Cell). g s ++ l) (joined_same g h (a + 1) n (λ t l. after t (omega arith)))
-    ∙ ap (λ (l : List Cell). g s ++ (l ++ joined h (a + 1) n)) (sym (none a (omega arith))))
-    (cases_lt a s)
+    grind (arith, common_steps, joined_same, cases_lt, joined_more g h s (a + 1) n)
 
 -- ## A flow in one slot
 
@@ -132,9 +119,7 @@ flow_from : (i c j : ℕ) (came : List Arrival) (a n : ℕ) → AllByRecursion (
 unfolding flow_came joined
 flow_from i c j came a zero inside = refl
 flow_from i c j came a (suc n) inside =
-    ap (λ (l : List Cell). l ++ flow_came i c j (map (arriving came) (range_with_len (a + 1) n)))
-    (flow_in_slot i c j came a 64 refl inside)
-    ∙ ap (λ (l : List Cell). of_flow i c j (found came a i) ++ l) (flow_from i c j came (a + 1) n inside)
+    grind (arith, common_steps, flow_in_slot, flow_from i c j came (a + 1) n inside)
 
 first_came : (b : Bool) (a : Arrival) (zs : List Arrival) →
     cond b (a.cell ∷ []) [] ++ map (λ (x : Arrival). x.cell) zs ≡ map (λ (x : Arrival). x.cell) (cond b (a ∷ zs) zs)

@@ -1,8 +1,9 @@
 -- How many cells the outputs hold. The number of each is the length of its list, and stays that as cells are put into
 -- the lists and taken out of them.
-use Rattle.std.proofs.Common.{◌≡◌, ℕ, zero, suc, ◌+◌, ◌-◌, ◌<◌, List, [], ◌∷◌, length, map, get_or, set, drop, replicate, Option, refl, sym, ap, ◌∙◌, subst, arith}
+use Rattle.std.proofs.lemmas.Grind.{common_steps}
+use Rattle.std.proofs.Common.{◌≡◌, ℕ, zero, suc, ◌+◌, ◌-◌, ◌<◌, List, [], ◌∷◌, length, map, get_or, set, drop, replicate, Option, refl, ap, ◌∙◌, arith}
 use Rattle.std.specs.Prelude.{IfSome, slice_get}
-use Rattle.std.proofs.lemmas.List.{ext_get_or, get_or-map, length-map, length-replicate, length-set, map-set, set-get_or}
+use Rattle.std.proofs.lemmas.List.{ext_get_or, get_or-map, length-replicate, map-set, set-get_or, length-map}
 use Rattle.cq_base.specs.declared.cell.Cell.{Cell}
 use Rattle.cq_base.specs.declared.cell.Departure.{Departure}
 use Rattle.cq_base.specs.declared.cell.Queued.{Queued}
@@ -21,11 +22,7 @@ no_cells (suc n) = ap (λ (l : List ℕ). 0 ∷ l) (no_cells n)
 
 pub holds_none : (limiter : LimiterView) (ports : ℕ) (lists : List (List Queued)) → length limiter.limits ≡ ports →
     limiter.held ≡ replicate ports 0 → lists ≡ replicate ports [] → HoldsLists lists limiter
-holds_none limiter ports lists limits held empty =
-    record {
-      ports = limits ∙ sym (ap length empty ∙ length-replicate ports []);
-      held = held ∙ no_cells ports ∙ ap (map length) (sym empty);
-    }
+holds_none limiter ports lists limits held empty = grind (arith, common_steps, length-replicate, no_cells)
 
 -- ## A cell that leaves
 
@@ -41,35 +38,19 @@ module _ (lists : List (List Queued)) (limiter : LimiterView) (output : ℕ) (in
 
   pub holds_some : (left : Option Queued) → left ≡ slice_get (list_at lists output) 0 →
       IfSome left (λ _. 0 < get_or limiter.held output 0)
-  holds_some left is =
-      let P : Option Queued → Type 0 = λ o. IfSome o (λ _. 0 < get_or limiter.held output 0) in
-      subst P (sym is) (some_held (list_at lists output) refl)
+  holds_some left is = grind (arith, common_steps, some_held (list_at lists output) refl)
 
   without : (cells : List Queued) → list_at lists output ≡ cells →
       held_without (slice_get cells 0) output (map length lists) ≡ map length (set lists output (drop 1 cells))
-  without [] e =
-      ap (map length) (sym (ap (set lists output) (sym e) ∙ set-get_or lists output []))
+  without [] e = cc ((set-get_or lists output []))
   without (q ∷ cells) e =
-      let long : get_or (map length lists) output 0 ≡ suc (length cells) =
-      get_or-map length lists output [] 0 inside ∙ ap length e in
-      let less : get_or (map length lists) output 0 - 1 ≡ length cells = omega arith in
-      ap (set (map length lists) output) less ∙ sym (map-set length lists output cells)
+      grind (arith, common_steps, get_or-map length lists output [] 0 inside, map-set length lists output cells)
 
   pub holds_without : (left : Option Queued) (lists' : List (List Queued)) (after : LimiterView) →
       left ≡ slice_get (list_at lists output) 0 → lists' ≡ set lists output (drop 1 (list_at lists output)) →
       after.held ≡ held_without left output limiter.held → after.limits ≡ limiter.limits → HoldsLists lists' after
   holds_without left lists' after is taken held limits =
-      let nil : List Queued = [] in
-      record {
-        ports = ap length limits ∙ holds.ports ∙ sym (ap length taken ∙ length-set lists output (drop 1 (list_at
-            lists output)));
-        held =
-            held
-            ∙ ap (λ (o : Option Queued). held_without o output limiter.held) is
-            ∙ ap (held_without (slice_get (list_at lists output) 0) output) holds.held
-            ∙ without (list_at lists output) refl
-            ∙ ap (map length) (sym taken);
-      }
+      grind (arith, common_steps, without (list_at lists output) refl)
 
 -- the walk over the outputs, where each that sends a cell holds it no longer
 pub record SendsAll (M : List ℕ → Machine) (slot : ℕ) (first_ranks : RanksView) (first_queues : QueuesView)

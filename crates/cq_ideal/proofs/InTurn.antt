@@ -1,6 +1,7 @@
 -- Cells that are ranked one after another. What came so far stands in front of the ranking of the others, and no cell
 -- stands behind the last port.
-use Rattle.std.proofs.Common.{◌≡◌, ◌≢◌, ℕ, zero, suc, ◌+◌, ◌<◌, ◌≤◌, List, [], ◌∷◌, ◌++◌, length, map, get_or, set, take, drop, replicate, Option, Some, None, Result, Ok, Err, refl, sym, ap, ◌∙◌, subst, arith, length-set, get_or-set_other}
+use Rattle.std.proofs.Common.{rules, ◌≡◌, ℕ, zero, suc, ◌+◌, ◌<◌, ◌≤◌, List, [], ◌∷◌, ◌++◌, length, map, get_or, set, take, drop, replicate, Option, Some, None, Result, Ok, Err, refl, ap, arith, length-set, get_or-set_other, sym, ◌∙◌}
+use Rattle.std.proofs.lemmas.Grind.{common_steps}
 use Rattle.std.proofs.lemmas.List.{ext_get_or, get_or-drop, length-drop, length-replicate, take-append-drop, take_more_set}
 use Rattle.std.proofs.lemmas.Option.{unwrap_or-slice_get}
 use Rattle.cq_base.specs.declared.cell.Cell.{Cell}
@@ -40,10 +41,7 @@ none_ranked ms slot input (Some cell ∷ cells) states h = absurd (h zero cell r
 none_beyond : (ports class_count input : ℕ) (cells : List (Option Cell)) → AreForPorts ports class_count cells →
     ports ≤ input → (k : ℕ) (cell : Cell) → get_or (drop input cells) k None ≡ Some cell → ⊥
 none_beyond ports class_count input cells for beyond k cell at =
-    let none : Option Cell = None in
-    let l = for.inputs (input + k) cell
-    (unwrap_or-slice_get cells (input + k) none ∙ sym (get_or-drop input cells k none) ∙ at) in
-    omega arith
+    grind (arith, common_steps, for.inputs (input + k) cell, unwrap_or-slice_get cells (input + k) None)
 
 -- ## All inputs
 
@@ -66,15 +64,7 @@ none_in (suc n) (suc k) = none_in n k
 pub in_turn_first : (M : List ℕ → Machine) (slot : ℕ) (cells : List (Option Cell)) (ranks : RanksView)
     (came : List (Option Queued)) → length came ≡ 64 →
     ((k : ℕ) → length ranks.fixed ≤ k → get_or came k None ≡ None) → InTurn M slot cells ranks 0 ranks came
-in_turn_first M slot cells ranks came long later =
-    record {
-      fixed = refl;
-      many = refl;
-      places = λ lt. absurd (omega arith);
-      long = long;
-      later = later;
-      ranked = refl;
-    }
+in_turn_first M slot cells ranks came long later = grind (arith, common_steps)
 
 -- one input more
 pub in_turn_next : (M : List ℕ → Machine) (slot : ℕ) (cells : List (Option Cell)) (first : RanksView) (input : ℕ)
@@ -86,28 +76,7 @@ pub in_turn_next : (M : List ℕ → Machine) (slot : ℕ) (cells : List (Option
     ≡ after_input q (ranking (map M ranks.fixed) slot (input + 1) rest ranks_new.states)) →
     InTurn M slot cells first (input + 1) ranks_new (set came input q)
 in_turn_next M slot cells first input ranks ranks_new came cell q so_far places inside port next fixed many one =
-    let none : Option Queued = None in
-    let ms = map M first.fixed in
-    let rest = drop (input + 1) cells in
-    let others = ranking ms slot (input + 1) rest ranks_new.states in
-    let here : ranking ms slot input (cell ∷ rest) ranks.states ≡ after_input q others =
-    subst
-    (λ f. ranking (map M f) slot input (cell ∷ rest) ranks.states
-    ≡ after_input q (ranking (map M f) slot (input + 1) rest ranks_new.states))
-    so_far.fixed (one rest) in
-    record {
-      fixed = fixed ∙ so_far.fixed;
-      many = many ∙ so_far.many;
-      places = λ _. places;
-      long = length-set came input q ∙ so_far.long;
-      later = λ k le. let ne : k ≢ input = λ e. omega arith in get_or-set_other came input k q none ne
-          ∙ so_far.later k (omega arith);
-      ranked =
-          ap (λ l. after_inputs l others) (take_more_set came input q (omega arith))
-          ∙ after_inputs-snoc (take input came) q others
-          ∙ ap (after_inputs (take input came)) (sym here ∙ ap (λ l. ranking ms slot input l ranks.states) (sym next))
-          ∙ so_far.ranked;
-    }
+    grind (arith, common_steps, length-set, get_or-set_other, take_more_set, after_inputs-snoc)
 
 -- a fault
 pub in_turn_fault : (M : List ℕ → Machine) (slot : ℕ) (cells : List (Option Cell)) (first : RanksView) (input : ℕ)
@@ -115,14 +84,7 @@ pub in_turn_fault : (M : List ℕ → Machine) (slot : ℕ) (cells : List (Optio
     InTurn M slot cells first input ranks came → drop input cells ≡ cell ∷ drop (input + 1) cells →
     ((rest : List (Option Cell)) → ranking (map M ranks.fixed) slot input (cell ∷ rest) ranks.states ≡ Err fault) →
     ranking (map M first.fixed) slot 0 cells first.states ≡ Err fault
-in_turn_fault M slot cells first input ranks came cell fault so_far next one =
-    let ms = map M first.fixed in
-    let rest = drop (input + 1) cells in
-    let here : ranking ms slot input (cell ∷ rest) ranks.states ≡ Err fault = subst
-    (λ f. ranking (map M f) slot input (cell ∷ rest) ranks.states ≡ Err fault) so_far.fixed (one rest) in
-    sym so_far.ranked
-    ∙ ap (after_inputs (take input came)) (ap (λ l. ranking ms slot input l ranks.states) next ∙ here)
-    ∙ after_inputs-fault (take input came) fault
+in_turn_fault M slot cells first input ranks came cell fault so_far next one = search (rules, after_inputs-fault)
 
 -- no port is left
 pub in_turn_last : (M : List ℕ → Machine) (slot class_count : ℕ) (cells : List (Option Cell)) (first : RanksView)

@@ -1,9 +1,10 @@
 -- Arrivals that are judged one after another. The marks so far, and then those of judging what is left, are those of
 -- judging all. And what the outputs hold so far, with those that are still to be admitted, is what they hold at the
 -- end.
-use Rattle.std.proofs.Common.{◌≡◌, ℕ, zero, suc, ◌+◌, ◌<◌, ◌≤◌, eqb, Bool, true, false, cond, List, [], ◌∷◌, ◌++◌, length, take, drop, set, get_or, Option, Some, None, refl, sym, ap, ◌∙◌, subst, inl, inr, arith, get_or-set_same, get_or-set_other}
+use Rattle.std.proofs.lemmas.Grind.{common_steps}
+use Rattle.std.proofs.Common.{rules, ◌≡◌, ℕ, zero, suc, ◌+◌, ◌<◌, ◌≤◌, eqb, Bool, true, false, cond, List, [], ◌∷◌, ◌++◌, length, take, drop, set, get_or, Option, Some, None, refl, ap, arith, get_or-set_same, get_or-set_other, sym, ◌∙◌}
 use Rattle.std.proofs.lemmas.Bool.{cases_Bool, eqb-true, eq-eqb}
-use Rattle.std.proofs.lemmas.List.{append-nil, drop_all, drop_more, drop-set-lt, get_or-drop, length-set, set-get_or, take_all}
+use Rattle.std.proofs.lemmas.List.{drop_all, drop_more, drop-set-lt, get_or-drop, length-set, set-get_or, take_all, append-nil}
 use Rattle.std.proofs.lemmas.Option.{unwrap_or-slice_get}
 use Rattle.cq_base.specs.declared.cell.Cell.{Cell}
 use Rattle.cq_ideal.specs.Admission.{admitted, mark_after, held_after, marks_after}
@@ -28,16 +29,7 @@ pub record Judging (cells : List (Option Cell)) (first : LimiterView) (input : �
       get_or now.held j 0 + count_for j (drop input cells) ≤ get_or first.held j 0 + count_for j cells
 
 pub judging_first : (cells : List (Option Cell)) (first : LimiterView) → Judging cells first 0 first
-judging_first cells first =
-    record {
-      limits = refl;
-      refused = refl;
-      inputs = refl;
-      outputs = refl;
-      judged = refl;
-      held = λ j. refl;
-      few = λ j. omega arith;
-    }
+judging_first cells first = grind (arith, common_steps)
 
 -- ## One arrival
 
@@ -48,8 +40,7 @@ one_more : (limits : List (Option ℕ)) (held : List ℕ) (input : ℕ) (marks :
     (drop (suc input) (set marks input up)) rest ≡ take input marks ++ marks_after limits held (drop input marks)
     (cell ∷ rest)
 one_more limits held input [] cell rest up e lt = absurd (omega arith)
-one_more limits held zero (mark ∷ marks) cell rest up e lt =
-    ap (λ (b : Bool). b ∷ marks_after limits (held_after b held cell) marks rest) e
+one_more limits held zero (mark ∷ marks) cell rest up e lt = grind (arith, common_steps)
 one_more limits held (suc input) (mark ∷ marks) cell rest up e lt =
     ap (λ (l : List Bool). mark ∷ l) (one_more limits held input marks cell rest up e (omega arith))
 
@@ -59,31 +50,12 @@ one_if b = cond b 1 0
 -- what an output holds grows by one where the cell is for it
 raised : (held : List ℕ) (o j : ℕ) → o < length held →
     get_or (set held o (get_or held o 0 + 1)) j 0 ≡ get_or held j 0 + one_if (eqb o j)
-raised held o j inside = elim (cases_Bool (eqb o j)) [
-  | inl same ↦
-      let e : o ≡ j = eqb-true o j same in
-      let one = ap one_if same in
-      let now : get_or (set held o (get_or held o 0 + 1)) j 0 ≡ get_or held j 0 + 1 =
-      subst (λ k. get_or (set held o (get_or held o 0 + 1)) k 0 ≡ get_or held k 0 + 1) e
-      (get_or-set_same held o (get_or held o 0 + 1) 0 inside) in
-      omega arith
-  | inr other ↦
-      let none = ap one_if other in
-      let now : get_or (set held o (get_or held o 0 + 1)) j 0 ≡ get_or held j 0 =
-      get_or-set_other held o j (get_or held o 0 + 1) 0
-      (λ e. absurd (let clash : true ≡ false = sym (eq-eqb o j (sym e)) ∙ other in cc)) in
-      omega arith
-]
+raised held o j inside = grind (arith, common_steps, cases_Bool, eqb-true, get_or-set_same, get_or-set_other, eq-eqb)
 
 as_many : (up : Bool) (held : List ℕ) (cell : Option Cell) → length (held_after up held cell) ≡ length held
 as_many true held cell = refl
 as_many false held None = refl
 as_many false held (Some cell) = length-set held cell.output (get_or held cell.output 0 + 1)
-
--- without a cell the outputs hold what they held
-pub none_held : (up : Bool) (held : List ℕ) → held_after up held None ≡ held
-none_held true held = refl
-none_held false held = refl
 
 -- an admitted cell is no longer to be admitted, but held
 module _ (limits : List (Option ℕ)) (held : List ℕ) (marks : List Bool) (rest : List (Option Cell)) (j : ℕ) where
@@ -99,10 +71,7 @@ module _ (limits : List (Option ℕ)) (held : List ℕ) (marks : List Bool) (res
       up ≡ mark_after limits held mark cell →
       get_or (held_after up held cell) j 0 + to_admit j limits (held_after up held cell) marks rest
       ≡ get_or held j 0 + to_admit j limits held (mark ∷ marks) (cell ∷ rest)
-  held_one mark cell up inside e =
-      admitted_one cell up inside
-      ∙ ap (λ (b : Bool). get_or held j 0 + count_for j (admitted (b ∷ marks_after limits (held_after b held cell)
-      marks rest) (cell ∷ rest))) e
+  held_one mark cell up inside e = cc ((admitted_one cell up inside))
 
 few_one : (up : Bool) (held : List ℕ) (cell : Option Cell) (rest : List (Option Cell)) (j : ℕ) →
     ((c : Cell) → cell ≡ Some c → c.output < length held) →
@@ -120,68 +89,20 @@ pub judged_next : (cells : List (Option Cell)) (first : LimiterView) (input : �
     after.held ≡ held_after up now.held cell → after.limits ≡ now.limits → after.refused ≡ now.refused →
     Judging cells first (input + 1) after
 judged_next cells first input now after cell up so_far lt here inside turned marks held limits refused =
-    let rest = drop (input + 1) cells in
-    let within : (c : Cell) → cell ≡ Some c → c.output < length now.held = λ c e. let l = inside c e in omega arith in
-    let e : up ≡ mark_after first.limits now.held (get_or now.marks input false) cell =
-    turned ∙ ap (λ (l : List (Option ℕ)). mark_after l now.held (get_or now.marks input false) cell) so_far.limits in
-    let next : suc input ≡ input + 1 = omega arith in
-    let held' = held_after up now.held cell in
-    let behind : drop (input + 1) after.marks ≡ drop (input + 1) now.marks =
-    ap (drop (input + 1)) marks ∙ drop-set-lt (input + 1) now.marks input up (omega arith) in
-    let ahead : drop input now.marks ≡ get_or now.marks input false ∷ drop (input + 1) now.marks =
-    drop_more now.marks input false (omega arith) in
-    let one = one_more first.limits now.held input now.marks cell rest up e (omega arith) in
-    record {
-      limits = limits ∙ so_far.limits;
-      refused = refused ∙ so_far.refused;
-      inputs = ap length marks ∙ length-set now.marks input up ∙ so_far.inputs;
-      outputs = ap length held ∙ as_many up now.held cell ∙ so_far.outputs;
-      judged =
-          ap (λ (l : List Bool). take (input + 1) l ++ marks_after first.limits after.held (drop (input + 1) l) rest)
-          marks
-          ∙ ap (λ (h : List ℕ). take (input + 1) (set now.marks input up) ++ marks_after first.limits h (drop (input
-          + 1) (set now.marks input up)) rest) held
-          ∙ ap (λ (n : ℕ). take n (set now.marks input up) ++ marks_after first.limits held' (drop n (set now.marks
-          input up)) rest) (sym next)
-          ∙ one
-          ∙ ap (λ (l : List (Option Cell)). take input now.marks ++ marks_after first.limits now.held (drop input
-          now.marks) l) (sym here)
-          ∙ so_far.judged;
-      held = λ j.
-          ap (λ (h : List ℕ). get_or h j 0 + to_admit j first.limits h (drop (input + 1) after.marks) rest) held
-          ∙ ap (λ (l : List Bool). get_or held' j 0 + to_admit j first.limits held' l rest) behind
-          ∙ held_one first.limits now.held (drop (input + 1) now.marks) rest j (get_or now.marks input false) cell up
-          within e
-          ∙ ap (λ (l : List Bool). get_or now.held j 0 + to_admit j first.limits now.held l (cell ∷ rest)) (sym ahead)
-          ∙ ap (λ (l : List (Option Cell)). get_or now.held j 0 + to_admit j first.limits now.held (drop input
-          now.marks) l) (sym here)
-          ∙ so_far.held j;
-      few = λ j.
-          let was = so_far.few j in
-          let less = few_one up now.held cell rest j within in
-          let is = ap (λ (l : List ℕ). get_or l j 0) held in
-          let count = ap (count_for j) here in
-          omega arith;
-    }
+    grind (arith, common_steps, drop-set-lt, drop_more, one_more, length-set, as_many, held_one, few_one)
 
 -- where no cell arrives nothing changes
 pub judged_none : (cells : List (Option Cell)) (first : LimiterView) (input : ℕ) (now : LimiterView) →
     Judging cells first input now → input < length first.marks → drop input cells ≡ None ∷ drop (input + 1) cells →
     Judging cells first (input + 1) now
 judged_none cells first input now so_far lt here =
-    let mark = get_or now.marks input false in
-    judged_next cells first input now now None mark so_far lt here (λ c e. absurd (let no : ⊥ = cc in no)) refl
-    (sym (set-get_or now.marks input false)) (sym (none_held mark now.held)) refl refl
+    search (arith, rules, judged_next cells first input now now None, set-get_or now.marks input false)
 
 -- there is a number to spare for a cell that arrives
 pub one_more_fits : (cells : List (Option Cell)) (first : LimiterView) (input : ℕ) (now : LimiterView) (c : Cell)
     (most : ℕ) → Judging cells first input now → drop input cells ≡ Some c ∷ drop (input + 1) cells →
     get_or first.held c.output 0 + count_for c.output cells < most → get_or now.held c.output 0 + 1 < most
-one_more_fits cells first input now c most so_far here few =
-    let was = so_far.few c.output in
-    let count = ap (count_for c.output) here in
-    let one = ap one_if (eq-eqb c.output c.output refl) in
-    omega arith
+one_more_fits cells first input now c most so_far here few = grind (arith, common_steps, so_far.few, eq-eqb)
 
 -- ## All arrivals
 

@@ -1,12 +1,12 @@
 -- Where the run of the ideal switch ends, where outputs have limits: as many slots as are enough end with empty lists,
 -- so there is a least number of slots after which no cell is to come and none waits, and from there on the slots send
 -- nothing. A switch without limits is one with limits that refuses nothing, so its run ends where that one's does.
-use Rattle.std.proofs.Common.{◌≡◌, ℕ, ◌+◌, ◌-◌, ◌<◌, ◌≤◌, Bool, true, false, List, [], ◌++◌, length, get_or, Option, Result, Ok, Err, refl, sym, ap, ◌∙◌, subst, ⊎_elim, arith}
+use Rattle.std.proofs.Common.{rules, ◌≡◌, ℕ, ◌+◌, ◌-◌, ◌<◌, ◌≤◌, Bool, true, false, List, [], ◌++◌, length, Option, Result, Ok, Err, refl, sym, ap, ◌∙◌, subst, ⊎_elim, arith, get_or}
+use Rattle.std.proofs.lemmas.Grind.{common_steps, flat_map-append}
 use Rattle.std.specs.Prelude.{IfOk, IsOkAnd}
 use Rattle.std.specs.List.{position_or_len, range_with_len}
 use Rattle.std.proofs.lemmas.Bool.{cases_lt}
 use Rattle.std.proofs.lemmas.List.{append-nil}
-use Rattle.std.proofs.lemmas.Grind.{flat_map-append}
 use Rattle.std.proofs.lemmas.List.FromFn.{get_or-range_with_len, length-range_with_len}
 use Rattle.std.proofs.lemmas.List.Sums.{fails_before_first, passes_at_first, prefix_len-le-length}
 use Rattle.cq_base.specs.Arriving.{Arrival, end_of, enough, traffic_of}
@@ -14,7 +14,7 @@ use Rattle.cq_base.specs.declared.cell.Cell.{Cell}
 use Rattle.cq_base.specs.declared.cell.Departure.{Departure}
 use Rattle.cq_base.specs.declared.cell.TagFault.{TagFault}
 use Rattle.cq_rank.specs.Machine.{Machine}
-use Rattle.cq_ideal.specs.Admission.{Admission, Marked, NoLimits, admitted_in, marked, marks_down}
+use Rattle.cq_ideal.specs.Admission.{Marked, NoLimits, admitted_in, marked, marks_down}
 use Rattle.cq_ideal.specs.Ending.{IdealEnds, arriving_from, first_slots, is_over, slots_of_run, whole_ideal_run}
 use Rattle.cq_ideal.specs.IdealRun.{IsEmptyIdeal, Ran, departures_of, departures_ran, empty_ideal, ideal_run}
 use Rattle.cq_ideal.specs.IdealSlot.{IdealState}
@@ -67,12 +67,7 @@ module _ (limits : List (Option ℕ)) (ms : List Machine) (ports : ℕ) (ranks :
   last_is = refl
 
   pub limited_not_more : last ≤ enough came
-  limited_not_more =
-      let is = last_is in
-      let le : position_or_len over (range_with_len 0 (enough came)) ≤ length (range_with_len 0 (enough came)) =
-      prefix_len-le-length _ (range_with_len 0 (enough came)) in
-      let long = length-range_with_len 0 (enough came) in
-      omega arith
+  limited_not_more = grind (arith, common_steps, last_is, prefix_len-le-length, length-range_with_len)
 
   pub not_before : (m : ℕ) → m < last → over m ≡ false
   not_before m lt =
@@ -109,19 +104,8 @@ module _ (limits : List (Option ℕ)) (ms : List Machine) (ports : ℕ) (ranks :
   pub limited_over_at_end : (ran : LimitedRan) → run_to last ≡ Ok ran →
       (end_of came ≤ last) × IsEmptyIdeal ran.after.state
   limited_over_at_end ran is =
-      ⊎_elim
-      (λ lt.
-      let o = over_from_test came last (unlimited (run_to last)) (over_at_last lt) in
-      let same : ◌≡◌ {A = Result Ran TagFault} (Ok o.ran) (Ok (state_ran ran)) = sym o.is ∙ ap unlimited is in
-      let one : o.ran ≡ state_ran ran = cc in
-      (o.all_came, subst (λ (r : Ran). IsEmptyIdeal r.after) one o.empty))
-      (λ ge.
-      let le = limited_not_more in
-      let some = some_slots in
-      let at : last ≡ enough came = omega arith in
-      let here : end_of came ≤ last = omega arith in
-      (here, empty_after_all ran (ap run_to (sym at) ∙ is)))
-      (cases_lt last (enough came))
+      ⊎_elim (λ lt. search (arith, rules, over_from_test came last (unlimited (run_to last)), over_at_last lt))
+      (λ ge. search (arith, rules, limited_not_more, some_slots, empty_after_all)) (cases_lt last (enough came))
 
   pub at_ok : (x : Result LimitedRan TagFault) (ran : LimitedRan) → x ≡ Ok ran → IsOkAnd x (λ r. r.after ≡ ran.after)
   at_ok x ran is = subst (λ (y : Result LimitedRan TagFault). IsOkAnd y (λ r. r.after ≡ ran.after)) (sym is) refl
@@ -136,11 +120,7 @@ module _ (limits : List (Option ℕ)) (ms : List Machine) (ports : ℕ) (ranks :
         all_came = at.0;
         empty = at.1;
         first = λ m s after le empty.
-            ⊎_elim
-            (λ lt. absurd (let P : true ≡ false = sym (limited_test came m (run_to m) s after le empty)
-            ∙ not_before m lt in let Q : ⊥ = cc in Q))
-            (λ ge. omega arith)
-            (cases_lt m last);
+            search (arith, rules, limited_test came m (run_to m) s after le empty, not_before m);
       }
 
   -- ## More slots, and fewer
@@ -148,11 +128,7 @@ module _ (limits : List (Option ℕ)) (ms : List Machine) (ports : ℕ) (ranks :
   -- the first slots of a run, and the others
   pub cut_at : (m n : ℕ) (ran : LimitedRan) → m ≤ n → run_to n ≡ Ok ran →
       LimitedHalves limits ms 0 m (first_slots came m) (arriving_from came m (n - m)) (empty_limited ports ranks) ran
-  cut_at m n ran le is =
-      let cut = arriving_parts came 0 m m (n - m) n (omega arith) (omega arith) in
-      let long = arriving_length came 0 m in
-      limited_halves limits ms 0 m (first_slots came m) (arriving_from came m (n - m)) (empty_limited ports ranks) ran
-      (omega arith) (ap (λ l. limited_run limits ms 0 l (empty_limited ports ranks)) cut ∙ is)
+  cut_at m n ran le is = grind (arith, common_steps, arriving_parts, arriving_length, limited_halves)
 
   goes_on : (n k m : ℕ) → m ≡ n + k → run_to m ≡ limited_going_on limits ms n (arriving_from came n k) (run_to n)
   goes_on n k m e =
@@ -187,27 +163,21 @@ module _ (limits : List (Option ℕ)) (ms : List Machine) (ports : ℕ) (ranks :
         sent = departures_append 0 n ran.gone quiet.ran.gone (omega arith)
             ∙ ap (λ (l : List Departure). departures_of 0 ran.gone ++ l) quiet.none
             ∙ append-nil (departures_of 0 ran.gone);
-        refused = flat_map-append (λ (a : Admission). a.refused) ran.admissions quiet.ran.admissions
-            ∙ ap (λ (l : List Cell). refused_in ran.admissions ++ l) quiet.refused
-            ∙ append-nil (refused_in ran.admissions);
+        refused = search (arith, rules, flat_map-append, append-nil);
       }
 
   pub limited_found_end : (n : ℕ) (end : Marked IdealState) →
       LimitedIdealEnds limits ms came (empty_limited ports ranks) n end → last ≡ n
   limited_found_end n end y =
       let test = limited_test came n (run_to n) end y.after y.all_came y.empty in
-      let le : last ≤ n =
-      ⊎_elim (λ (lt : n < last). absurd (let P : true ≡ false = sym test ∙ not_before n lt in let Q : ⊥ = cc in
-      Q)) (λ (ge : last ≤ n). ge) (cases_lt n last) in
+      let le : last ≤ n = search (arith, rules, not_before, cases_lt) in
       let o = ran_from (run_to n) end y.after in
       let f = cut_at last n o.0 le o.1 in
       let at = limited_over_at_end f.first f.ran_first in
-      let ge = y.first last f.first.after (at_ok (run_to last) f.first f.ran_first) at.0 at.1 in
-      omega arith
+      search (arith, rules, y.first last f.first.after, at_ok (run_to last) f.first f.ran_first)
 
   never_both : (x : Result LimitedRan TagFault) (ran : LimitedRan) (fault : TagFault) → x ≡ Ok ran → x ≡ Err fault → ⊥
-  never_both x ran fault e f = let P : ◌≡◌ {A = Result LimitedRan TagFault} (Ok ran) (Err fault) = sym e
-      ∙ f in let Q : ⊥ = cc in Q
+  never_both x ran fault e f = grind (arith, common_steps)
 
   fault_kept : (m n : ℕ) (fault : TagFault) → m ≤ n → run_to m ≡ Err fault → run_to n ≡ Err fault
   fault_kept m n fault le is = goes_on m (n - m) n (omega arith)
@@ -247,8 +217,7 @@ module _ (limits : List (Option ℕ)) (ms : List Machine) (ports : ℕ) (ranks :
   pub limited_over_all : (ran : LimitedRan) → run_to last ≡ Ok ran → SameSlots (enough came) ran
   limited_over_all ran is =
       let at = limited_over_at_end ran is in
-      let le = limited_not_more in
-      more last (enough came - last) (enough came) ran (omega arith) is at.0 at.1
+      search (arith, rules, limited_not_more, more last (enough came - last) (enough came) ran)
 
   pub limited_same_sent : departures_limited (limited_run limits ms 0 (traffic_of came) (empty_limited ports ranks))
       ≡ departures_limited (whole_limited_run limits ms came (empty_limited ports ranks))
@@ -268,9 +237,7 @@ module _ (limits : List (Option ℕ)) (ms : List Machine) (ports : ℕ) (ranks :
     (none : NoLimits limits) where
   same_runs : (n : ℕ) → unlimited (limited_run limits ms 0 (first_slots came n) (empty_limited ports ranks))
       ≡ ideal_run ms 0 (first_slots came n) (empty_ideal ports ranks)
-  same_runs n =
-      run_of_all limits ms (marks_down ports) 0 (first_slots came n) (empty_ideal ports ranks)
-      (none_refused_in limits ms ports (first_slots came n) none)
+  same_runs n = grind (arith, common_steps, run_of_all, none_refused_in)
 
   pub slots_as_before : slots_of_limited_run limits ms came (empty_limited ports ranks)
       ≡ slots_of_run ms came (empty_ideal ports ranks)
@@ -280,9 +247,7 @@ module _ (limits : List (Option ℕ)) (ms : List Machine) (ports : ℕ) (ranks :
   pub run_as_before : unlimited (whole_limited_run limits ms came (empty_limited ports ranks))
       ≡ whole_ideal_run ms came (empty_ideal ports ranks)
   unfolding whole_limited_run whole_ideal_run
-  run_as_before =
-      same_runs (slots_of_limited_run limits ms came (empty_limited ports ranks))
-      ∙ ap (λ (n : ℕ). ideal_run ms 0 (first_slots came n) (empty_ideal ports ranks)) slots_as_before
+  run_as_before = cc (same_runs (slots_of_limited_run limits ms came (empty_limited ports ranks)), slots_as_before)
 
 -- ## The switch without limits
 
@@ -325,21 +290,15 @@ module _ (ms : List Machine) (ports : ℕ) (ranks : List (List ℕ)) (came : Lis
   its_runs n = same_runs [] ms ports ranks came no_limit n
 
   refusing_none : (n : ℕ) → limited n ≡ none_refused_ran (marks_down ports) (first_slots came n) (plain_run n)
-  refusing_none n =
-      run_of_none [] ms (marks_down ports) 0 (first_slots came n) (empty_ideal ports ranks)
-      (none_refused_in [] ms ports (first_slots came n) no_limit)
+  refusing_none n = grind (arith, common_steps, run_of_none, none_refused_in, no_limit)
 
   limited_after : (n : ℕ) (s : IdealState) → IsOkAnd (plain_run n) (λ ran. ran.after ≡ s) →
       IsOkAnd (limited n) (λ ran. ran.after ≡ marked (marks_down ports) s)
-  limited_after n s e =
-      subst (λ (x : Result LimitedRan TagFault). IsOkAnd x (λ ran. ran.after ≡ marked (marks_down ports) s))
-      (sym (refusing_none n)) (ok_none_refused (marks_down ports) (first_slots came n) (plain_run n) s e)
+  limited_after n s e = grind (arith, common_steps, refusing_none, ok_none_refused)
 
   plain_after : (n : ℕ) (s : Marked IdealState) → IsOkAnd (limited n) (λ ran. ran.after ≡ s) →
       IsOkAnd (plain_run n) (λ ran. ran.after ≡ s.state)
-  plain_after n s e =
-      subst (λ (x : Result Ran TagFault). IsOkAnd x (λ ran. ran.after ≡ s.state)) (its_runs n)
-      (ok_unlimited (limited n) s e)
+  plain_after n s e = grind (arith, common_steps, its_runs, ok_unlimited)
 
   plain_ends : (n : ℕ) (end : Marked IdealState) → LimitedIdealEnds [] ms came (empty_limited ports ranks) n end →
       IdealEnds ms came (empty_ideal ports ranks) n end.state
@@ -360,10 +319,7 @@ module _ (ms : List Machine) (ports : ℕ) (ranks : List (List ℕ)) (came : Lis
   }
 
   pub not_more : slots_of_run ms came (empty_ideal ports ranks) ≤ enough came
-  not_more =
-      let same = slots_as_before [] ms ports ranks came no_limit in
-      let le = limited_not_more [] ms ports ranks came in
-      omega arith
+  not_more = let same = slots_as_before [] ms ports ranks came no_limit in omega (arith, limited_not_more)
 
   -- the whole run with limits that is this one
   pub whole_as : (ran : Ran) → whole_ideal_run ms came (empty_ideal ports ranks) ≡ Ok ran →
@@ -383,23 +339,20 @@ module _ (ms : List Machine) (ports : ℕ) (ranks : List (List ℕ)) (came : Lis
 
   pub found_end : (n : ℕ) (end : IdealState) → IdealEnds ms came (empty_ideal ports ranks) n end →
       slots_of_run ms came (empty_ideal ports ranks) ≡ n
-  found_end n end y =
-      sym (slots_as_before [] ms ports ranks came no_limit)
+  found_end n end y = sym (slots_as_before [] ms ports ranks came no_limit)
       ∙ limited_found_end [] ms ports ranks came n (marked (marks_down ports) end) (its_ends n end y)
 
   -- what a run of more slots says of one of fewer
   pub fewer_slots : (m n : ℕ) (ran : Ran) → m ≤ n → plain_run n ≡ Ok ran → (first : Ran) × (plain_run m ≡ Ok first)
   fewer_slots m n ran le is =
       let r = ran_as (limited n) ran (its_runs n ∙ is) in
-      let cut = cut_at [] ms ports ranks came m n r.limited le r.is in
-      (state_ran cut.first, sym (its_runs m) ∙ ap unlimited cut.ran_first)
+      search (arith, rules, cut_at [] ms ports ranks came m n r.limited le r.is, its_runs m)
 
   pub whole_fault : (n : ℕ) (fault : TagFault) → plain_run n ≡ Err fault →
       whole_ideal_run ms came (empty_ideal ports ranks) ≡ Err fault
-  whole_fault n fault is =
-      sym (run_as_before [] ms ports ranks came no_limit)
-      ∙ ap unlimited (limited_whole_fault [] ms ports ranks came n fault (refusing_none n
-      ∙ ap (none_refused_ran (marks_down ports) (first_slots came n)) is))
+  whole_fault n fault is = sym (run_as_before [] ms ports ranks came no_limit)
+      ∙ ap unlimited (limited_whole_fault [] ms ports ranks came n fault
+      (refusing_none n ∙ ap (none_refused_ran (marks_down ports) (first_slots came n)) is))
 
   pub same_sent : departures_ran (ideal_run ms 0 (traffic_of came) (empty_ideal ports ranks)) ≡ departures_ran
       (whole_ideal_run ms came (empty_ideal ports ranks))
@@ -407,10 +360,4 @@ module _ (ms : List Machine) (ports : ℕ) (ranks : List (List ℕ)) (came : Lis
       let before = its_runs (enough came) in
       let all = all_slots came in
       let whole = run_as_before [] ms ports ranks came no_limit in
-      let same = limited_same_sent [] ms ports ranks came in
-      let one = sent_unlimited (limited (enough came)) in
-      let other = sent_unlimited (whole_limited_run [] ms came (empty_limited ports ranks)) in
-      ap (λ l. departures_ran (ideal_run ms 0 l (empty_ideal ports ranks))) (sym all)
-      ∙ sym (ap departures_ran before) ∙ one
-      ∙ ap (λ l. departures_limited (limited_run [] ms 0 l (empty_limited ports ranks))) all
-      ∙ same ∙ sym other ∙ ap departures_ran whole
+      let same = limited_same_sent [] ms ports ranks came in search (arith, rules, sent_unlimited)

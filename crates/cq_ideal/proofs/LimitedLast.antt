@@ -2,7 +2,7 @@
 -- Behind the last arrival the run goes on only while a cell waits. So a cell waits as the last such slot begins, and
 -- one departs in it. Without limits a cell departs in the slot of the last arrival too, so the last departure is in the
 -- last slot.
-use Rattle.std.proofs.Common.{◌≡◌, ℕ, zero, suc, ◌+◌, ◌-◌, ◌<◌, ◌≤◌, true, false, List, [], ◌∷◌, ◌++◌, length, Option, Ok, refl, sym, ap, ◌∙◌, ⊎_elim, arith}
+use Rattle.std.proofs.Common.{rules, ◌≡◌, ℕ, zero, suc, ◌+◌, ◌-◌, ◌<◌, ◌≤◌, true, false, List, [], ◌∷◌, ◌++◌, length, Option, Ok, refl, sym, ap, ◌∙◌, ⊎_elim, arith}
 use Rattle.std.specs.Prelude.{max}
 use Rattle.std.specs.List.{AllByRecursion}
 use Rattle.std.proofs.lemmas.Bool.{cases_lt}
@@ -21,7 +21,7 @@ use Rattle.cq_ideal.specs.LimitedIdeal.{LimitedRan, empty_limited}
 use Rattle.cq_ideal.proofs.Ends.{nothing_left}
 use Rattle.cq_ideal.proofs.EnoughSlots.{as_many_slots}
 use Rattle.cq_ideal.proofs.LastSlot.{comes, counted_in, of_slot, slots_of-append, slots_within}
-use Rattle.cq_ideal.proofs.LimitedEnds.{at_ok, cut_at, ends, gone_long, limited_over_at_end, limited_test, no_limit, not_before, run_to, slots_as_before, state_ran, whole_as}
+use Rattle.cq_ideal.proofs.LimitedEnds.{at_ok, cut_at, gone_long, limited_over_at_end, limited_test, no_limit, not_before, run_to, slots_as_before, state_ran, whole_as}
 use Rattle.cq_ideal.proofs.LimitedRuns.{is_run_of, judged}
 use Rattle.cq_ideal.proofs.Parted.{arriving_here, arriving_length, departures_append, first_slot, measured}
 use Rattle.cq_ideal.proofs.Waiting.{counted, some_waits, waiting}
@@ -62,13 +62,12 @@ module _ (limits : List (Option ℕ)) (ms : List Machine) (ports : ℕ) (ranks :
   one_waits : (slot : ℕ) (first : LimitedRan) → slot < slots → end_of came ≤ slot →
       run_to limits ms ports ranks came slot ≡ Ok first → 0 < waiting first.after.state.lists
   one_waits slot first lt le is =
-      ⊎_elim (λ (some : 0 < waiting first.after.state.lists). some)
-      (λ (none : waiting first.after.state.lists ≤ 0).
+      ⊎_elim (λ (some : 0 < waiting first.after.state.lists). some) (λ (none : waiting first.after.state.lists ≤ 0).
       let over = limited_test came slot (run_to limits ms ports ranks came slot) first.after
       (at_ok limits ms ports ranks came (run_to limits ms ports ranks came slot) first is) le
       (nothing_left first.after.state.lists (omega arith)) in
-      absurd (let P : true ≡ false = sym over ∙ not_before limits ms ports ranks came slot lt in let Q : ⊥ = cc in Q))
-      (cases_lt 0 (waiting first.after.state.lists))
+      absurd (let P : true ≡ false = sym over ∙ not_before limits ms ports ranks came slot lt in
+      let Q : ⊥ = cc in Q)) (cases_lt 0 (waiting first.after.state.lists))
 
   late : (slot : ℕ) → slots ≡ slot + 1 → end_of came ≤ slot → slots_of (departures_of 0 ran.gone) ≡ slot + 1
   late slot e le =
@@ -122,20 +121,13 @@ module _ (ms : List Machine) (ports : ℕ) (came : List Arrival) (all : AllByRec
       (ap (λ l. ideal_run ms slot l s) (sym (arriving_here came slot n)) ∙ is) in
       let count = counted ms slot (arriving came slot) s p.sent p.ran_slot in
       let both = slots_of-append (departures_in slot p.sent.gone) (departures_of (slot + 1) p.second.gone) in
-      let are : slots_of (departures_of slot ran.gone) ≡ slots_of
-      (departures_in slot p.sent.gone ++ departures_of (slot + 1) p.second.gone) =
+      let are : slots_of (departures_of slot ran.gone)
+      ≡ slots_of (departures_in slot p.sent.gone ++ departures_of (slot + 1) p.second.gone) =
       ap (λ (r : Ran). slots_of (departures_of slot r.gone)) p.both in
-      ⊎_elim
-      (λ (later : 0 < k).
-      let rest = departs_at_end n (k - 1) (slot + 1) p.sent.after p.second (omega arith) (omega arith) (omega arith)
-      p.ran_second in
-      omega arith)
+      ⊎_elim (λ (later : 0 < k). search (arith, rules, departs_at_end n (k - 1) (slot + 1) p.sent.after p.second))
       (λ (now : k ≤ 0).
       let c = comes ms ports came slot all (omega arith) in
-      let one = counted_in ports came slot 64 refl c in
-      let sent = of_slot slot p.sent.gone (count.departs c.cell.output (omega arith) (omega arith)) in
-      omega arith)
-      (cases_lt 0 k)
+      let one = counted_in ports came slot 64 refl c in search (arith, rules, of_slot)) (cases_lt 0 k)
 
 pub last_departs : (ms : List Machine) (ports : ℕ) (ranks : List (List ℕ)) (came : List Arrival) →
     AllByRecursion (IsForSwitch ms ports) came → (ran : Ran) →
@@ -147,13 +139,4 @@ last_departs ms ports ranks came all ran whole =
     let w = whole_as ms ports ranks came ran whole in
     let same = slots_as_before [] ms ports ranks came no_limit in
     let slots = limited_slots [] ms ports ranks came w.limited w.is in
-    let gone = ap (λ (r : Ran). slots_of (departures_of 0 r.gone)) w.same in
-    let by = (ends ms ports ranks came ran whole).all_came in
-    let long = length-replicate ports nil in
-    ⊎_elim
-    (λ (some : 0 < end_of came).
-    let last = departs_at_end ms ports came all (slots_of_run ms came (empty_ideal ports ranks)) (end_of came - 1) 0
-    (empty_ideal ports ranks) ran (omega arith) (omega arith) (omega arith) whole in
-    omega arith)
-    (λ (none : end_of came ≤ 0). omega arith)
-    (cases_lt 0 (end_of came))
+    search (arith, rules, length-replicate ports nil, departs_at_end ms ports)

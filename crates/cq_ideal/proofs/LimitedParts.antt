@@ -14,7 +14,7 @@ use Rattle.cq_ideal.specs.IdealSlot.{IdealState}
 use Rattle.cq_ideal.specs.LimitedIdeal.{LimitedRan, LimitedSent, limited_run, limited_slot, then_limited}
 use Rattle.cq_ideal.specs.Refused.{refused_in}
 use Rattle.cq_ideal.proofs.FlowRank.{only_ok}
-use Rattle.cq_ideal.proofs.LimitedRuns.{none_in, none_refused_ran, run_of_none}
+use Rattle.cq_ideal.proofs.LimitedRuns.{none_in, run_of_none, none_refused_ran}
 use Rattle.cq_ideal.proofs.Parted.{quiet_from, stays_empty}
 use Rattle.cq_ideal.proofs.Waiting.{waiting}
 

@@ -1,7 +1,8 @@
 -- A run with limits is the run without limits of the admitted arrivals: both step through the same slots, and end at
 -- the same fault. Where no output has a limit all arrivals are admitted, so it is the run without limits of all
 -- arrivals.
-use Rattle.std.proofs.Common.{◌≡◌, ℕ, zero, suc, ◌+◌, Bool, List, [], ◌∷◌, map, replicate, Option, None, Result, Ok, Err, refl, sym, ap, ◌∙◌, subst}
+use Rattle.std.proofs.lemmas.Grind.{common_steps}
+use Rattle.std.proofs.Common.{rules, arith, ◌≡◌, ℕ, zero, suc, ◌+◌, Bool, List, [], ◌∷◌, map, replicate, Option, None, Result, Ok, Err, refl, ap, ◌∙◌}
 use Rattle.std.specs.List.{AllByRecursion}
 use Rattle.cq_base.specs.declared.cell.Cell.{Cell}
 use Rattle.cq_base.specs.Arrivals.{no_arrivals}
@@ -11,7 +12,7 @@ use Rattle.cq_rank.specs.Machine.{Machine}
 use Rattle.cq_ideal.specs.Admission.{Admission, Marked, NoLimits, RefusesNone, admitted_in, marked, marks_down, nothing_refused}
 use Rattle.cq_ideal.specs.IdealSlot.{IdealState, Sent, ideal_slot}
 use Rattle.cq_ideal.specs.IdealRun.{Ran, then_ran, ideal_run, nothing_sent}
-use Rattle.cq_ideal.specs.LimitedIdeal.{LimitedSent, LimitedRan, ideal_held, ideal_admission, with_admission, limited_slot, then_limited, in_front, limited_run, nothing_came, admitted_traffic, unlimited}
+use Rattle.cq_ideal.specs.LimitedIdeal.{LimitedSent, LimitedRan, with_admission, limited_slot, then_limited, in_front, limited_run, nothing_came, admitted_traffic, unlimited}
 use Rattle.cq_ideal.specs.WholePackets.{AreJudged}
 use Rattle.cq_ideal.proofs.Admitted.{no_arrivals_refuse_none, no_limits_refuse_none}
 
@@ -49,10 +50,7 @@ module _ (limits : List (Option ℕ)) (ms : List Machine) where
       unlimited (goes_on slot traffic (with_admission a x))
       ≡ then_run ms slot (admitted_later slot traffic (with_admission a x)) x
   unfolding goes_on admitted_later then_run
-  same_step slot traffic a (Ok sent) rest =
-      let after : Marked IdealState = record { state = sent.after; marks = a.marks } in
-      let one : LimitedSent = record { admission = a; gone = sent.gone; after = after } in
-      unlimited_then one (limited_run limits ms (slot + 1) traffic after) ∙ ap (then_ran sent.gone) (rest after)
+  same_step slot traffic a (Ok sent) rest = grind (arith, common_steps, unlimited_then)
   same_step slot traffic a (Err fault) rest = refl
 
   pub run_of_admitted : (slot : ℕ) (traffic : List (List (Option Cell))) (old : Marked IdealState) →
@@ -60,19 +58,14 @@ module _ (limits : List (Option ℕ)) (ms : List Machine) where
       (admitted_traffic limits ms slot traffic old) old.state
   unfolding limited_run admitted_traffic limited_slot ideal_run goes_on admitted_later then_run
   run_of_admitted slot [] old = refl
-  run_of_admitted slot (cells ∷ traffic) old =
-      let a = ideal_admission limits cells old in
-      same_step slot traffic a (ideal_slot ms slot a.cells old.state) (run_of_admitted (slot + 1) traffic)
+  run_of_admitted slot (cells ∷ traffic) old = search (rules, same_step, run_of_admitted (slot + 1) traffic)
 
   -- ## One slot of a run
 
   -- it says which marks are up after it
   its_admission : (a : Admission) (x : Result Sent TagFault) (sent : LimitedSent) → with_admission a x ≡ Ok sent →
       (sent.admission ≡ a) × (sent.after.marks ≡ a.marks)
-  its_admission a (Ok s) sent h =
-      let is : record { admission = a; gone = s.gone; after = marked a.marks s.after } ≡ sent =
-      cc in
-      (ap (λ (y : LimitedSent). y.admission) (sym is), ap (λ (y : LimitedSent). y.after.marks) (sym is))
+  its_admission a (Ok s) sent h = grind (arith, common_steps)
   its_admission a (Err fault) sent h = absurd (let P : ⊥ = cc in P)
 
   module _ (slot : ℕ) (cells : List (Option Cell)) (traffic : List (List (Option Cell))) (old : Marked IdealState) where
@@ -91,19 +84,14 @@ module _ (limits : List (Option ℕ)) (ms : List Machine) where
         admitted_traffic limits ms slot (cells ∷ traffic) old ≡ sent.admission.cells ∷ admitted_traffic limits ms
         (slot + 1) traffic sent.after
     unfolding admitted_traffic admitted_later limited_slot
-    admitted_step sent is =
-        let a = ideal_admission limits cells old in
-        let its = its_admission a (ideal_slot ms slot a.cells old.state) sent is in
-        ap (λ (x : Result LimitedSent TagFault). a.cells ∷ admitted_later slot traffic x) is
-        ∙ ap (λ (x : Admission). x.cells ∷ admitted_traffic limits ms (slot + 1) traffic sent.after) (sym its.0)
+    admitted_step sent is = grind (arith, common_steps, its_admission)
 
   -- ## A run that ends without a fault
 
   then_ok : (P : LimitedRan → Type 0) (sent : LimitedSent) (x : Result LimitedRan TagFault) (ran : LimitedRan) →
       then_limited sent x ≡ Ok ran →
       ((rest : LimitedRan) → x ≡ Ok rest → P (in_front sent rest)) → P ran
-  then_ok P sent (Ok rest) ran h f =
-      let is : in_front sent rest ≡ ran = cc in subst P is (f rest refl)
+  then_ok P sent (Ok rest) ran h f = grind (arith, common_steps)
   then_ok P sent (Err fault) ran h f = absurd (let P : ⊥ = cc in P)
 
   slot_ok : (P : LimitedRan → Type 0) (slot : ℕ) (traffic : List (List (Option Cell)))
@@ -111,53 +99,33 @@ module _ (limits : List (Option ℕ)) (ms : List Machine) where
       ((sent : LimitedSent) (rest : LimitedRan) → x ≡ Ok sent →
       limited_run limits ms (slot + 1) traffic sent.after ≡ Ok rest → P (in_front sent rest)) → P ran
   unfolding goes_on
-  slot_ok P slot traffic (Ok sent) ran h f =
-      then_ok P sent (limited_run limits ms (slot + 1) traffic sent.after) ran h (λ rest more. f sent rest refl more)
+  slot_ok P slot traffic (Ok sent) ran h f = grind (arith, common_steps, then_ok)
   slot_ok P slot traffic (Err fault) ran h f = absurd (let P : ⊥ = cc in P)
 
   -- each slot was judged
   pub judged : (slot : ℕ) (traffic : List (List (Option Cell))) (old : Marked IdealState) (ran : LimitedRan) →
       limited_run limits ms slot traffic old ≡ Ok ran → AreJudged limits old.marks traffic ran.admissions
   unfolding limited_run goes_on limited_slot
-  judged slot [] old ran h =
-      let is : record { admissions = []; gone = []; after = old } ≡ ran = cc in subst
-      (λ (y : LimitedRan). AreJudged limits old.marks [] y.admissions) is tt
-  judged slot (cells ∷ traffic) old ran h =
-      slot_ok (λ y. AreJudged limits old.marks (cells ∷ traffic) y.admissions) slot traffic
-      (limited_slot limits ms slot cells old) ran h
-      (λ sent rest is more.
-      let a = ideal_admission limits cells old in
-      let its = its_admission a (ideal_slot ms slot a.cells old.state) sent is in
-      let stay : sent.after.marks ≡ sent.admission.marks = its.1 ∙ ap (λ (x : Admission). x.marks) (sym its.0) in (
-        (ideal_held old.state, its.0),
-        subst (λ (marks : List Bool). AreJudged limits marks traffic rest.admissions) stay
-            (judged (slot + 1) traffic sent.after rest more),
-      ))
+  judged slot [] old ran h = grind (arith, common_steps)
+  judged slot (cells ∷ traffic) old ran h = slot_ok (λ y. AreJudged limits old.marks (cells ∷ traffic) y.admissions)
+      slot traffic (limited_slot limits ms slot cells old) ran h (λ sent rest is more.
+      search (arith, rules, its_admission, judged (slot + 1) traffic sent.after rest more))
 
   -- what was admitted is what its admissions say
   pub admitted_are : (slot : ℕ) (traffic : List (List (Option Cell))) (old : Marked IdealState) (ran : LimitedRan) →
       limited_run limits ms slot traffic old ≡ Ok ran →
       admitted_traffic limits ms slot traffic old ≡ admitted_in ran.admissions
   unfolding limited_run goes_on admitted_traffic
-  admitted_are slot [] old ran h =
-      let is : record { admissions = []; gone = []; after = old } ≡ ran = cc in ap
-      (λ (y : LimitedRan). admitted_in y.admissions) is
+  admitted_are slot [] old ran h = grind (arith, common_steps)
   admitted_are slot (cells ∷ traffic) old ran h =
-      slot_ok (λ y. admitted_traffic limits ms slot (cells ∷ traffic) old ≡ admitted_in y.admissions) slot traffic
-      (limited_slot limits ms slot cells old) ran h
-      (λ sent rest is more. admitted_step slot cells traffic old sent is
-      ∙ ap (λ (l : List (List (Option Cell))). sent.admission.cells ∷ l)
-      (admitted_are (slot + 1) traffic sent.after rest more))
+      grind (arith, common_steps, slot_ok, admitted_step, admitted_are (slot + 1) traffic)
 
   -- so it is the run without limits of these
   pub is_run_of : (slot : ℕ) (traffic : List (List (Option Cell))) (old : Marked IdealState) (ran : LimitedRan) →
       limited_run limits ms slot traffic old ≡ Ok ran →
       ideal_run ms slot (admitted_in ran.admissions) old.state ≡ Ok
       (record { gone = ran.gone; after = ran.after.state })
-  is_run_of slot traffic old ran h =
-      ap (λ (came : List (List (Option Cell))). ideal_run ms slot came old.state)
-      (sym (admitted_are slot traffic old ran h))
-      ∙ sym (run_of_admitted slot traffic old) ∙ ap unlimited h
+  is_run_of slot traffic old ran h = cc (admitted_are slot traffic old ran h, run_of_admitted slot traffic old)
 
   -- ## Where nothing is refused
 
@@ -168,10 +136,7 @@ module _ (limits : List (Option ℕ)) (ms : List Machine) where
         ≡ ideal_run ms (slot + 1) traffic s) →
         then_run ms slot (admitted_later slot traffic (with_admission a x)) x ≡ then_run ms slot traffic x
     unfolding admitted_later then_run
-    all_later slot traffic a (Ok sent) stay rest =
-        ap (λ (m : List Bool). then_ran sent.gone (ideal_run ms (slot + 1)
-        (admitted_traffic limits ms (slot + 1) traffic (marked m sent.after)) sent.after)) stay
-        ∙ ap (then_ran sent.gone) (rest sent.after)
+    all_later slot traffic a (Ok sent) stay rest = grind (arith, common_steps)
     all_later slot traffic a (Err fault) stay rest = refl
 
     all_admitted : (slot : ℕ) (traffic : List (List (Option Cell))) (s : IdealState) →
@@ -179,14 +144,7 @@ module _ (limits : List (Option ℕ)) (ms : List Machine) where
         ideal_run ms slot (admitted_traffic limits ms slot traffic (marked marks s)) s ≡ ideal_run ms slot traffic s
     unfolding admitted_traffic limited_slot ideal_run then_run admitted_later
     all_admitted slot [] s none = refl
-    all_admitted slot (cells ∷ traffic) s none =
-        let a = ideal_admission limits cells (marked marks s) in
-        let passed = none.0 (ideal_held s) in
-        let all : a.cells ≡ cells = ap (λ (x : Admission). x.cells) passed in
-        let stay : a.marks ≡ marks = ap (λ (x : Admission). x.marks) passed in
-        all_later slot traffic a (ideal_slot ms slot a.cells s) stay
-        (λ after. all_admitted (slot + 1) traffic after none.1)
-        ∙ ap (λ (here : List (Option Cell)). then_run ms slot traffic (ideal_slot ms slot here s)) all
+    all_admitted slot (cells ∷ traffic) s none = search (rules, all_later, all_admitted (slot + 1) traffic)
 
     pub run_of_all : (slot : ℕ) (traffic : List (List (Option Cell))) (s : IdealState) →
         AllByRecursion (RefusesNone limits marks) traffic →
@@ -208,21 +166,14 @@ module _ (limits : List (Option ℕ)) (ms : List Machine) where
         goes_on slot traffic (with_admission (nothing_refused marks cells) x)
         ≡ none_refused_ran marks (cells ∷ traffic) (then_run ms slot traffic x)
     unfolding goes_on then_run
-    goes_on_without slot cells traffic (Ok sent) rest =
-        ap (then_limited (record {
-          admission = nothing_refused marks cells;
-          gone = sent.gone;
-          after = marked marks sent.after;
-        })) (rest sent.after)
-        ∙ none_between cells traffic sent.gone sent.after (ideal_run ms (slot + 1) traffic sent.after)
+    goes_on_without slot cells traffic (Ok sent) rest = grind (arith, common_steps, none_between)
     goes_on_without slot cells traffic (Err fault) rest = refl
 
     pub slot_of_none : (slot : ℕ) (cells : List (Option Cell)) (s : IdealState) → RefusesNone limits marks cells →
         limited_slot limits ms slot cells (marked marks s)
         ≡ with_admission (nothing_refused marks cells) (ideal_slot ms slot cells s)
     unfolding limited_slot
-    slot_of_none slot cells s none =
-        ap (λ (a : Admission). with_admission a (ideal_slot ms slot a.cells s)) (none (ideal_held s))
+    slot_of_none slot cells s none = grind (arith, common_steps)
 
     pub run_of_none : (slot : ℕ) (traffic : List (List (Option Cell))) (s : IdealState) →
         AllByRecursion (RefusesNone limits marks) traffic →
@@ -231,9 +182,7 @@ module _ (limits : List (Option ℕ)) (ms : List Machine) where
     unfolding limited_run ideal_run goes_on then_run
     run_of_none slot [] s none = refl
     run_of_none slot (cells ∷ traffic) s none =
-        ap (goes_on slot traffic) (slot_of_none slot cells s none.0)
-        ∙ goes_on_without slot cells traffic (ideal_slot ms slot cells s)
-        (λ after. run_of_none (slot + 1) traffic after none.1)
+        grind (arith, common_steps, slot_of_none, goes_on_without, run_of_none (slot + 1) traffic)
 
   pub none_refused_in : (ports : ℕ) (traffic : List (List (Option Cell))) → NoLimits limits →
       AllByRecursion (RefusesNone limits (marks_down ports)) traffic
@@ -261,9 +210,6 @@ pub rest_refuses_none : (limits : List (Option ℕ)) (ms : List Machine) (slots 
 rest_refuses_none limits ms slots slot ports marks s after ran =
     run_of_none limits ms marks slot (replicate slots no_arrivals) s (none_in limits marks slots)
     ∙ ap (none_refused_ran marks (replicate slots no_arrivals)) ran
-    ∙ ap (λ (l : List Admission). Ok (record {
-      admissions = l;
-      gone = replicate slots (replicate ports None);
-      after = marked marks after;
-    }))
+    ∙ ap (λ (l : List Admission). Ok
+    (record { admissions = l; gone = replicate slots (replicate ports None); after = marked marks after }))
     (each_same (nothing_refused marks) slots no_arrivals)

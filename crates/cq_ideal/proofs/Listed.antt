@@ -1,13 +1,13 @@
 -- The list of one output among those of all. What stands at its place is read through all lists and all rooms, and a
 -- call that changes it changes these at its place alone.
-use Rattle.std.proofs.Common.{◌≡◌, ℕ, zero, suc, ◌+◌, ◌<◌, ◌≤◌, ◌^◌, eqb, Bool, true, List, [], ◌∷◌, ◌++◌, length, map, get_or, set, take, replicate, refl, sym, ap, ◌∙◌, subst, arith}
+use Rattle.std.proofs.Common.{rules, ◌≡◌, ℕ, zero, suc, ◌+◌, ◌<◌, ◌≤◌, ◌^◌, eqb, Bool, List, [], ◌∷◌, ◌++◌, length, map, get_or, set, take, replicate, sym, ap, subst, arith}
+use Rattle.std.proofs.lemmas.Grind.{common_steps}
 use Rattle.std.specs.Prelude.{All, IsTrue, ◌↔◌}
 use Rattle.std.specs.List.{list_all}
 use Rattle.std.proofs.lemmas.List.{get_or-map, length-map, length-replicate, get_or-replicate}
 use Rattle.std.proofs.lemmas.List.Elements.{All-push}
 use Rattle.std.proofs.lemmas.List.Folds.{list_all-map}
-use Rattle.std.proofs.lemmas.List.Sums.{AllPass-from_list_all, list_all-from_AllPass}
-use Rattle.std.proofs.lemmas.Bool.{eqb-true, eq-eqb}
+use Rattle.std.proofs.lemmas.List.Sums.{list_all-from_AllPass}
 use Rattle.cq_base.specs.declared.cell.Queued.{Queued}
 use Rattle.cq_ideal.proofs.Changed.{item_inside, map_next, map_same, seen_at, seen_same, seen_set}
 use Rattle.cq_ideal.specs.Parts.{AreWithinRooms, IsWithin, QueueView, QueuesView, list_at}
@@ -55,13 +55,7 @@ pub one_made : (rooms : List ℕ) (n : ℕ) (items more : List QueueView) (q : Q
     more ≡ items ++ q ∷ [] → n < length rooms → q.cells ≡ [] → q.room ≡ get_or rooms n 0 → q.room < 2 ^ 64 →
     Made rooms (n + 1) more
 one_made rooms n items more q made is inside empty room one =
-    let none : List Queued = [] in
-    let few : QueueView → Type 0 = λ q. q.room < 2 ^ 64 in
-    record {
-      lists = map_same cells_in none n items more q made.lists is empty;
-      rooms_are = map_next room_in rooms n items more q 0 made.rooms_are is inside room;
-      few = subst (All few) (sym is) (All-push few items q made.few one);
-    }
+    grind (arith, common_steps, map_same, rooms_are, map_next, All-push)
 
 -- empty lists are within any room
 pub empty_within : (items : List QueueView) (n : ℕ) → map cells_in items ≡ replicate n [] →
@@ -71,11 +65,7 @@ empty_within items n e few k d inside =
     let items_long = length-map items cells_in in
     let none : List Queued = [] in
     let count = length-replicate n none in
-    let nothing : (get_or items k d).cells ≡ none =
-    sym (get_or-map cells_in items k d none inside) ∙ ap (λ l. get_or l k none) e
-    ∙ get_or-replicate n k none none (omega arith) in
-    let zero = ap length nothing in
-    (omega arith, few k d inside)
+    search (arith, rules, get_or-map cells_in items k d none inside, get_or-replicate n k none none)
 
 -- each list is within its room
 pub within_rooms : (items : List QueueView) (v : QueuesView) → All IsWithin items →
@@ -104,18 +94,8 @@ few_rooms items v held view_is j =
 abbrev none_in : List Queued → Bool
 none_in cells = eqb (length cells) 0
 
-nil_of : (cells : List Queued) → none_in cells ≡ true → cells ≡ []
-nil_of [] e = refl
-nil_of (c ∷ cells) e = absurd (let n = eqb-true (length (c ∷ cells)) 0 e in omega arith)
-
-of_nil : (cells : List Queued) → cells ≡ [] → none_in cells ≡ true
-of_nil cells e = eq-eqb (length cells) 0 (ap length e)
-
 pub none_wait : (items : List QueueView) (lists : List (List Queued)) (b : Bool) →
     b ≡ list_all (λ q. eqb (length q.cells) 0) items → map cells_in items ≡ lists →
     IsTrue b ↔ All (λ cells. cells ≡ []) lists
 none_wait items lists b e l =
-    let is : b ≡ list_all none_in lists = e ∙ sym (list_all-map none_in cells_in items) ∙ ap (list_all none_in) l in (
-      λ t k d inside. nil_of (get_or lists k d) (AllPass-from_list_all none_in lists (sym is ∙ t) k d inside),
-      λ all. is ∙ list_all-from_AllPass none_in lists (λ k d inside. of_nil (get_or lists k d) (all k d inside)),
-    )
+    grind (arith, common_steps, list_all-map none_in cells_in items, list_all-from_AllPass none_in lists)

@@ -1,13 +1,12 @@
 -- That keys are apart. What waits arrived before the next slot, and what comes in this slot has the slot and its own
 -- input in its key. So no cell that comes has the key of one that waits, nor that of another that comes; and what is
 -- left when the outputs have sent arrived before the slot that follows.
-use Rattle.std.proofs.Common.{◌≡◌, ℕ, zero, suc, ◌+◌, ◌<◌, ◌≤◌, cond, List, [], ◌∷◌, length, get_or, drop, replicate, Option, Some, None, Ok, refl, sym, ap, subst, inl, inr, arith}
+use Rattle.std.proofs.Common.{rules, ◌≡◌, ℕ, zero, suc, ◌+◌, ◌≤◌, cond, List, [], ◌∷◌, get_or, drop, replicate, Option, Some, None, Ok, refl, arith, ◌<◌, length, sym, subst, inl, inr}
+use Rattle.std.proofs.lemmas.Grind.{common_steps}
 use Rattle.std.specs.List.{AllByRecursion}
-use Rattle.std.proofs.lemmas.Bool.{cases_lt, cond_both}
-use Rattle.std.proofs.lemmas.List.{get_or_past}
+use Rattle.std.proofs.lemmas.Bool.{cond_both, cases_lt}
 use Rattle.cq_base.specs.declared.cell.Cell.{Cell}
 use Rattle.cq_base.specs.declared.cell.Queued.{Queued}
-use Rattle.cq_base.specs.declared.key.Key.{Key}
 use Rattle.cq_base.specs.Cells.{ArrivedBefore, put, is_for}
 use Rattle.cq_base.proofs.Lists.{other_key_newest}
 use Rattle.cq_rank.specs.Machine.{Machine}
@@ -18,10 +17,10 @@ use Rattle.cq_ideal.proofs.Came.{came_from}
 use Rattle.cq_ideal.proofs.FlowPut.{all_from}
 use Rattle.cq_urgency.proofs.Rising.{all_put}
 use Rattle.cq_ideal.proofs.Waiting.{filled_at, length-filled}
+use Rattle.std.proofs.lemmas.List.{get_or_past}
 
 pub arrived_later : (a b : ℕ) (lists : List (List Queued)) → a ≤ b → AllArrivedBefore a lists → AllArrivedBefore b lists
-arrived_later a b lists le arrived j =
-    all_from (λ x. x.key.slot < a) (λ x. x.key.slot < b) (λ x lt. omega arith) (list_at lists j) (arrived j)
+arrived_later a b lists le arrived j = grind (arith, common_steps, all_from)
 
 -- no cell waits where no list has one
 pub arrived_none : (slot n : ℕ) → AllArrivedBefore slot (replicate n [])
@@ -33,18 +32,7 @@ module _ (ms : List Machine) (slot : ℕ) (cells : List (Option Cell)) (ranks : 
     (ok : ranking ms slot 0 cells ranks ≡ Ok r) (lists : List (List Queued))
     (arrived : AllArrivedBefore slot lists) where
   pub own_keys : HaveOwnKeys r.came lists
-  own_keys =
-      record {
-        waiting = λ k q at j.
-            other_key_newest q (list_at lists j)
-            (subst (λ (s : ℕ). ArrivedBefore s (list_at lists j))
-            (sym (came_from ms slot 0 cells ranks r ok k q at).slot_is) (arrived j));
-        others = λ k n q p lt at at' same.
-            let first = (came_from ms slot 0 cells ranks r ok k q at).input_is in
-            let second = (came_from ms slot 0 cells ranks r ok n p at').input_is in
-            let input = ap (λ (key : Key). key.input) same in
-            omega arith;
-      }
+  own_keys = search (arith, rules, other_key_newest, came_from ms slot 0 cells ranks r ok)
 
   all_put_all : (P : Queued → Type 0) (j : ℕ) (came : List (Option Queued)) (xs : List Queued) →
       ((k : ℕ) (q : Queued) → get_or came k None ≡ Some q → P q) → AllByRecursion P xs →

@@ -2,7 +2,8 @@
 -- what became of it becomes of all its cells. Where the cells are those of packets of rising numbers, the admitted
 -- ones are by induction all cells of some of the packets, and the refused ones all cells of the others: the packet
 -- that goes on is admitted where the mark is down, and for the rest the first cell of the next one decides.
-use Rattle.std.proofs.Common.{◌≡◌, ℕ, zero, suc, ◌+◌, ◌<◌, ◌≤◌, Bool, true, false, cond, not, List, [], ◌∷◌, filter, Option, Some, None, refl, sym, ap, ◌∙◌, subst, ⊎_elim, arith}
+use Rattle.std.proofs.Common.{rules, ◌≡◌, ℕ, zero, suc, ◌+◌, ◌<◌, ◌≤◌, Bool, true, false, cond, not, List, [], ◌∷◌, filter, Option, Some, None, refl, sym, ap, ◌∙◌, subst, ⊎_elim, arith}
+use Rattle.std.proofs.lemmas.Grind.{common_steps}
 use Rattle.std.specs.Prelude.{nat_lt}
 use Rattle.std.specs.List.{AllByRecursion, cons_option}
 use Rattle.std.proofs.lemmas.Bool.{cond-false, lt-ltb, le-ltb}
@@ -47,10 +48,7 @@ same_filter : (b : Bool → Bool) (f g : ℕ → Bool) (cells : List Cell) →
     AllByRecursion (λ cell. f cell.id.packet ≡ g cell.id.packet) cells →
     filter (λ cell. b (f cell.id.packet)) cells ≡ filter (λ cell. b (g cell.id.packet)) cells
 same_filter b f g [] same = refl
-same_filter b f g (cell ∷ cells) same =
-    let rest = filter (λ (c : Cell). b (f c.id.packet)) cells in
-    ap (λ (t : Bool). cond (b t) (cell ∷ rest) rest) same.0
-    ∙ ap (λ (l : List Cell). cond (b (g cell.id.packet)) (cell ∷ l) l) (same_filter b f g cells same.1)
+same_filter b f g (cell ∷ cells) same = cc ((same_filter b f g cells same.1))
 
 past : (b : Bool) (f : ℕ → Bool) (n : ℕ) (cell : Cell) → n ≤ cell.id.packet →
     f cell.id.packet ≡ cond (nat_lt cell.id.packet n) b (f cell.id.packet)
@@ -60,10 +58,7 @@ past b f n cell at = sym (cond-false (nat_lt cell.id.packet n) b (f cell.id.pack
 beyond : (b : Bool) (f : ℕ → Bool) (n next : ℕ) (cells : List Cell) → n < next → AreOfPackets next cells →
     AllByRecursion (λ cell. f cell.id.packet ≡ cond (nat_lt cell.id.packet n) b (f cell.id.packet)) cells
 beyond b f n next [] lt are = tt
-beyond b f n next (cell ∷ cells) lt are =
-    let at : n ≤ cell.id.packet = ⊎_elim (λ on. omega arith)
-    (λ new. omega arith) are.0 in
-    (past b f n cell at, beyond b f n (cell.id.packet + 1) cells (omega arith) are.1)
+beyond b f n next (cell ∷ cells) lt are = grind (arith, common_steps, past, beyond b f n (cell.id.packet + 1) cells)
 
 kept : (up b : Bool) (cell : Cell) (taken : List Cell) → b ≡ not up →
     cons_option (unless up (Some cell)) taken ≡ cond b (cell ∷ taken) taken
@@ -79,32 +74,22 @@ step : (next : ℕ) (mark up : Bool) (x : Option Cell) (came taken refused : Lis
     AreOfPackets next (cons_option x came) → ((n : ℕ) → AreOfPackets n came → TakenOrRefused n up came taken refused) →
     TakenOrRefused next mark (cons_option x came) (cons_option (unless up x) taken)
     (cons_option (where_up up x) refused)
-step next mark true None came taken refused same are rest =
-    subst (λ (m : Bool). TakenOrRefused next m came taken refused) (same tt) (rest next are)
-step next mark false None came taken refused same are rest =
-    subst (λ (m : Bool). TakenOrRefused next m came taken refused) (same tt) (rest next are)
+step next mark true None came taken refused same are rest = grind (arith, common_steps)
+step next mark false None came taken refused same are rest = grind (arith, common_steps)
 step next mark up (Some cell) came taken refused same are rest =
     let r = rest (cell.id.packet + 1) are.1 in
     let f = r.is_taken in
     let all : cons_option (unless up (Some cell)) taken ≡ filter (λ c. f c.id.packet) (cell ∷ came) =
-    kept up (f cell.id.packet) cell taken (r.before cell.id.packet refl)
-    ∙ ap (λ (l : List Cell). cond (f cell.id.packet) (cell ∷ l) l) r.are in
+    search (arith, rules, kept) in
     let none : cons_option (where_up up (Some cell)) refused ≡ filter (λ c. not (f c.id.packet)) (cell ∷ came) =
-    left_out up (f cell.id.packet) cell refused (r.before cell.id.packet refl)
-    ∙ ap (λ (l : List Cell). cond (not (f cell.id.packet)) (cell ∷ l) l) r.others in
-    ⊎_elim
-    (λ on. record {
-      is_taken = f;
-      before = λ packet e.
-          ap f (let p : packet ≡ cell.id.packet = omega arith in p)
-          ∙ r.before cell.id.packet refl ∙ ap not (same on.1);
-      are = all;
-      others = none;
-    })
-    (λ new.
+    search (arith, rules, left_out) in
+    ⊎_elim (λ on. search (arith, rules)) (λ new.
     let g : ℕ → Bool = λ n. cond (nat_lt n next) (not mark) (f n) in
-    let alike : AllByRecursion (λ c. f c.id.packet ≡ g c.id.packet) (cell ∷ came) =
-    (past (not mark) f next cell new.0, beyond (not mark) f next (cell.id.packet + 1) came (omega arith) are.1) in
+    let alike : AllByRecursion (λ c. f c.id.packet ≡ g c.id.packet) (cell ∷ came) = (
+      past (not mark) f next
+          cell new.0,
+      beyond (not mark) f next (cell.id.packet + 1) came (omega arith) are.1,
+    ) in
     record {
       is_taken = g;
       before = λ packet e. ap (λ (b : Bool). cond b (not mark) (f packet)) (lt-ltb packet next (omega arith));
@@ -118,15 +103,12 @@ module _ (limits : List (Option ℕ)) (i : ℕ) where
   admitted_is : (held : List ℕ) (marks : List Bool) (cells : List (Option Cell)) (a : Admission) →
       a ≡ admission limits held marks cells → arrival_at a.cells i ≡ unless (mark_at a.marks i) (arrival_at cells i)
   unfolding admission
-  admitted_is held marks cells a e =
-      subst (λ (x : Admission). arrival_at x.cells i ≡ unless (mark_at x.marks i) (arrival_at cells i)) (sym e)
-      (admitted_at (marks_after limits held marks cells) cells i)
+  admitted_is held marks cells a e = cc ((admitted_at (marks_after limits held marks cells) cells i))
 
   pub mark_is : (held : List ℕ) (marks : List Bool) (cells : List (Option Cell)) (a : Admission) →
       a ≡ admission limits held marks cells → GoesOn (arrival_at cells i) → mark_at a.marks i ≡ mark_at marks i
   unfolding admission
-  mark_is held marks cells a e on =
-      ap (λ (x : Admission). mark_at x.marks i) e ∙ mark_stays limits held marks cells i on
+  mark_is held marks cells a e on = cc ((mark_stays limits held marks cells i on))
 
   -- the cells that are refused at the input
   abbrev pub refused_here : List (List (Option Cell)) → List Admission → List Cell
@@ -151,13 +133,11 @@ module _ (limits : List (Option ℕ)) (i : ℕ) where
       let out = cons_option (where_up (mark_at a.marks i) (arrival_at cells i)) others in
       let came = cells_at i (cells ∷ traffic) in
       subst (λ (x : Option Cell). TakenOrRefused next (mark_at marks i) came (cons_option x later) out)
-      (sym (admitted_is held marks cells a judged.0.1))
-      (step next (mark_at marks i) (mark_at a.marks i) (arrival_at cells i) (cells_at i traffic) later others
-      (mark_is held marks cells a judged.0.1) are
+      (sym (admitted_is held marks cells a judged.0.1)) (step next (mark_at marks i) (mark_at a.marks i)
+      (arrival_at cells i) (cells_at i traffic) later others (mark_is held marks cells a judged.0.1) are
       (λ n rest. taken_or_refused n a.marks traffic admissions judged.1 rest))
 
   pub whole_packets : (marks : List Bool) (traffic : List (List (Option Cell))) (admissions : List Admission) →
       AreJudged limits marks traffic admissions → AreOfPackets 0 (cells_at i traffic) →
       AreWholePackets (cells_at i traffic) (cells_at i (admitted_in admissions))
-  whole_packets marks traffic admissions judged are =
-      let t = taken_or_refused 0 marks traffic admissions judged are in record { is_taken = t.is_taken; are = t.are }
+  whole_packets marks traffic admissions judged are = grind (arith, common_steps, taken_or_refused)

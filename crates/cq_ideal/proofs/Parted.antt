@@ -1,6 +1,7 @@
 -- What arrives in some slots and in those behind them, and what is sent in these. The first slot of a run, and the run
 -- behind it. Slots in which nothing comes, from a state in which nothing waits, send nothing and meet no fault.
-use Rattle.std.proofs.Common.{◌≡◌, ℕ, zero, suc, ◌+◌, ◌≤◌, List, [], ◌∷◌, ◌++◌, length, map, replicate, Option, None, Some, Result, Ok, Err, refl, sym, ap, ◌∙◌, subst, arith, append_assoc}
+use Rattle.std.proofs.Common.{rules, ◌≡◌, ℕ, zero, suc, ◌+◌, ◌≤◌, List, [], ◌∷◌, ◌++◌, length, map, replicate, Option, None, Some, Result, Ok, Err, refl, ap, ◌∙◌, arith, append_assoc}
+use Rattle.std.proofs.lemmas.Grind.{common_steps}
 use Rattle.std.specs.List.{range_with_len}
 use Rattle.std.proofs.lemmas.List.{nil_from_length}
 use Rattle.std.proofs.lemmas.List.FromFn.{length-map-range_with_len}
@@ -35,15 +36,9 @@ arriving_length came slot n = length-map-range_with_len (arriving came) slot n
 pub arriving_parts : (came : List Arrival) (a b n m k : ℕ) → b ≡ a + n → k ≡ n + m →
     arriving_from came a n ++ arriving_from came b m ≡ arriving_from came a k
 unfolding arriving_from
-arriving_parts came a b zero m k e f =
-    let here : b ≡ a = omega arith in
-    let long : m ≡ k = omega arith in
-    ap (λ (x : ℕ). map (arriving came) (range_with_len x m)) here
-    ∙ ap (λ (x : ℕ). map (arriving came) (range_with_len a x)) long
+arriving_parts came a b zero m k e f = grind (arith, common_steps)
 arriving_parts came a b (suc n) m zero e f = absurd (omega arith)
-arriving_parts came a b (suc n) m (suc k) e f =
-    ap (λ (l : List (List (Option Cell))).
-    arriving came a ∷ l) (arriving_parts came (a + 1) b n m k (omega arith) (omega arith))
+arriving_parts came a b (suc n) m (suc k) e f = cc ((arriving_parts came (a + 1) b n m k (omega arith) (omega arith)))
 
 nobody : (cells : List (Option Cell)) (n : ℕ) → length cells ≡ n → length (present cells) ≡ 0 →
     cells ≡ replicate n None
@@ -51,24 +46,19 @@ nobody [] zero long none = refl
 nobody [] (suc n) long none = absurd (omega arith)
 nobody (None ∷ cells) zero long none = absurd (omega arith)
 nobody (Some cell ∷ cells) zero long none = absurd (omega arith)
-nobody (None ∷ cells) (suc n) long none =
-    ap (λ (l : List (Option Cell)). None ∷ l) (nobody cells n (omega arith) none)
+nobody (None ∷ cells) (suc n) long none = cc ((nobody cells n (omega arith) none))
 nobody (Some cell ∷ cells) (suc n) long none = absurd (omega arith)
 
 pub none_arrive : (came : List Arrival) (t inputs : ℕ) → inputs ≡ 64 → end_of came ≤ t →
     arriving came t ≡ replicate inputs None
-none_arrive came t inputs are le =
-    nobody (arriving came t) inputs (length-arriving came t inputs are) (none_after came t le)
+none_arrive came t inputs are le = search (rules, nobody, length-arriving, none_after)
 
 -- from the end of the arrivals on none comes
 pub quiet_from : (came : List Arrival) (n slot : ℕ) → end_of came ≤ slot →
     arriving_from came slot n ≡ replicate n no_arrivals
 unfolding arriving_from
 quiet_from came zero slot le = refl
-quiet_from came (suc n) slot le =
-    ap (λ (cells : List (Option Cell)).
-    cells ∷ map (arriving came) (range_with_len (slot + 1) n)) (none_arrive came slot 64 refl le)
-    ∙ ap (λ (l : List (List (Option Cell))). no_arrivals ∷ l) (quiet_from came n (slot + 1) (omega arith))
+quiet_from came (suc n) slot le = grind (arith, common_steps, none_arrive, quiet_from came n (slot + 1))
 
 -- a slot, and then the run from it on
 abbrev pub next_slot : List Machine → ℕ → List (List (Option Cell)) → Result Sent TagFault → Result Ran TagFault
@@ -89,15 +79,7 @@ module _ (ms : List Machine) where
   pub first_slot : (slot : ℕ) (cells : List (Option Cell)) (traffic : List (List (Option Cell))) (s : IdealState)
       (ran : Ran) → ideal_run ms slot (cells ∷ traffic) s ≡ Ok ran → FirstSlot slot cells traffic s ran
   unfolding ideal_run goes_on
-  first_slot slot cells traffic s ran e =
-      run_ok (FirstSlot slot cells traffic s) ms slot traffic (ideal_slot ms slot cells s) ran e
-      (λ sent second is more. record {
-        sent = sent;
-        second = second;
-        ran_slot = is;
-        ran_second = more;
-        both = refl;
-      })
+  first_slot slot cells traffic s ran e = grind (arith, common_steps, run_ok)
 
   -- a run sends in as many slots as it has, and has as many lists at its end as at its start
   pub record Measured (traffic : List (List (Option Cell))) (s : IdealState) (ran : Ran) : Type 0 where
@@ -107,17 +89,11 @@ module _ (ms : List Machine) where
   pub measured : (slot : ℕ) (traffic : List (List (Option Cell))) (s : IdealState) (ran : Ran) →
       ideal_run ms slot traffic s ≡ Ok ran → Measured traffic s ran
   unfolding ideal_run
-  measured slot [] s ran e =
-      subst (Measured [] s) (only_ok refl e) (record { slots = refl; ports = refl })
+  measured slot [] s ran e = grind (arith, common_steps, only_ok)
   measured slot (cells ∷ traffic) s ran e =
       let p = first_slot slot cells traffic s ran e in
       let rest = measured (slot + 1) traffic p.sent.after p.second p.ran_second in
-      let one = counted ms slot cells s p.sent p.ran_slot in
-      subst (Measured (cells ∷ traffic) s) (sym p.both) (record {
-        slots = ap suc rest.slots;
-        ports = rest.ports
-            ∙ one.ports;
-      })
+      let one = counted ms slot cells s p.sent p.ran_slot in search (arith, rules)
 
 -- ## What is sent
 
@@ -125,9 +101,7 @@ pub departures_append : (slot b : ℕ) (xs ys : List (List (Option Queued))) →
     departures_of slot (xs ++ ys) ≡ departures_of slot xs ++ departures_of b ys
 unfolding departures_of
 departures_append slot b [] ys e = let here : slot ≡ b = omega arith in ap (λ (n : ℕ). departures_of n ys) here
-departures_append slot b (x ∷ xs) ys e =
-    ap (λ (l : List Departure). departures_in slot x ++ l) (departures_append (slot + 1) b xs ys (omega arith))
-    ∙ sym (append_assoc (departures_in slot x) (departures_of (slot + 1) xs) (departures_of b ys))
+departures_append slot b (x ∷ xs) ys e = search (rules, append_assoc, departures_append (slot + 1) b xs ys)
 
 -- ## Nothing comes, and nothing waits
 

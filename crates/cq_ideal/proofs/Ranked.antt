@@ -9,11 +9,7 @@ use Rattle.cq_ideal.specs.Parts.{RanksView}
 -- there are as many states as machines
 pub as_many : {R : Type 0} (F S : R → List ℕ) (items : List R) (v : RanksView) →
     record { fixed = map F items; states = map S items } ≡ v → length v.states ≡ length v.fixed
-as_many F S items v view_is =
-    sym (ap (λ (w : RanksView). length w.states) view_is)
-    ∙ length-map items S
-    ∙ sym (length-map items F)
-    ∙ ap (λ (w : RanksView). length w.fixed) view_is
+as_many F S items v view_is = cc (length-map items S, length-map items F)
 
 module _ {R : Type 0} (F S : R → List ℕ) (items : List R) (o : ℕ) {r : R} {v : RanksView}
     (inside : o < length v.fixed) (is : r ≡ get_or items o r)

@@ -1,7 +1,8 @@
 -- Counts of what is refused. A count over two lists is the sum of the counts over each, so counts add up slot by
 -- slot, output by output. And an arriving cell is admitted or refused by the mark of its input, so it is counted
 -- once.
-use Rattle.std.proofs.Common.{◌≡◌, ℕ, zero, suc, ◌+◌, eqb, Bool, true, false, cond, List, [], ◌∷◌, ◌++◌, length, filter, replicate, Option, Some, None, refl, sym, ap, ◌∙◌, append_assoc, arith}
+use Rattle.std.proofs.lemmas.Grind.{common_steps}
+use Rattle.std.proofs.Common.{◌≡◌, ℕ, ◌+◌, eqb, Bool, true, false, cond, List, [], ◌∷◌, ◌++◌, length, filter, Option, Some, None, refl, ap, ◌∙◌, append_assoc, arith}
 use Rattle.std.specs.List.{enumerate_from, filter_map}
 use Rattle.std.specs.Option.{option_map}
 use Rattle.std.proofs.lemmas.List.{append-nil, length-append}
@@ -37,11 +38,7 @@ more_from : (j : ℕ) (limits : List (Option ℕ)) (before now : List Cell) →
 unfolding counts_from
 more_from j [] before now = refl
 more_from j (None ∷ limits) before now = more_from (j + 1) limits before now
-more_from j (Some limit ∷ limits) before now =
-    let packets = packets_both j before now in
-    let cells = cells_both j before now in
-    let rest = more_from (j + 1) limits before now in
-    λ k. record { output = j; limit = limit; packets = packets k; cells = cells k } ∷ rest k
+more_from j (Some limit ∷ limits) before now = simp (packets_both, cells_both, more_from (j + 1) limits before now)
 
 -- where nothing was refused yet
 pub none_from : (j : ℕ) (limits : List (Option ℕ)) →
@@ -63,14 +60,6 @@ pub counts_at_end : (j : ℕ) → counts_from j [] [] ≡ []
 unfolding counts_from
 counts_at_end j = refl
 
--- where no output has a limit there is no count
-no_counts_from : (j n : ℕ) → counts_from j (replicate n None) [] ≡ []
-no_counts_from j zero = counts_at_end j
-no_counts_from j (suc n) = none_from j (replicate n None) ∙ no_counts_from (j + 1) n
-
-pub no_counts : (n : ℕ) → refused_counts (replicate n None) [] ≡ []
-no_counts n = sym (counts_from_first (replicate n None)) ∙ no_counts_from 0 n
-
 pub counts_more : (limits : List (Option ℕ)) (before now : List Cell) →
     refused_counts limits (before ++ now) ≡ with_refused now (refused_counts limits before)
 unfolding refused_counts counts_from
@@ -89,9 +78,7 @@ all_zero limits = zero_from 0 limits
 pub one_slot_more : (admissions : List Admission) (a : Admission) →
     refused_in (admissions ++ a ∷ []) ≡ refused_in admissions ++ a.refused
 one_slot_more [] a = append-nil a.refused
-one_slot_more (b ∷ admissions) a =
-    ap (λ (l : List Cell). b.refused ++ l) (one_slot_more admissions a) ∙ sym
-    (append_assoc b.refused (refused_in admissions) a.refused)
+one_slot_more (b ∷ admissions) a = grind (arith, common_steps, b.refused, append_assoc, one_slot_more admissions a)
 
 -- ## Each cell once
 
@@ -117,9 +104,7 @@ each_once j [] cells = let none = of_none j in omega arith
 each_once j (mark ∷ marks) [] = let none = of_none j in omega arith
 each_once j (true ∷ marks) (None ∷ cells) = each_once j marks cells
 each_once j (false ∷ marks) (None ∷ cells) = each_once j marks cells
-each_once j (true ∷ marks) (Some cell ∷ cells) =
-    let rest = each_once j marks cells in
-    let here = cells_cons j cell (refused marks cells) in omega arith
+each_once j (true ∷ marks) (Some cell ∷ cells) = grind (arith, common_steps, cells_cons, each_once j marks cells)
 each_once j (false ∷ marks) (Some cell ∷ cells) = let rest = each_once j marks cells in omega arith
 
 pub counts_once : EachCountsOnce

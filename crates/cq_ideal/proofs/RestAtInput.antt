@@ -1,5 +1,6 @@
 -- The cells that arrive at an input from a slot on, slot by slot, are its arrivals of these slots in their order.
-use Rattle.std.proofs.Common.{◌≡◌, ℕ, zero, suc, ◌+◌, ◌<◌, ◌≤◌, true, false, not, List, [], ◌∷◌, ◌++◌, Bool, map, refl, sym, ap, ◌∙◌, ⊎_elim, arith}
+use Rattle.std.proofs.Common.{rules, ◌≡◌, ℕ, zero, suc, ◌+◌, ◌<◌, ◌≤◌, true, not, List, [], ◌∷◌, ◌++◌, Bool, map, refl, sym, ap, ◌∙◌, ⊎_elim, arith}
+use Rattle.std.proofs.lemmas.Grind.{common_steps}
 use Rattle.std.specs.Prelude.{◌==◌, nat_lt}
 use Rattle.std.specs.List.{AllByRecursion, filter}
 use Rattle.std.proofs.lemmas.Bool.{cases_eq, cases_lt, cond-false, cond-true, eq-eqb, le-ltb, lt-ltb, ne_eqb}
@@ -32,43 +33,32 @@ cells_of line = map (λ (a : Arrival). a.cell) line
 module _ (i : ℕ) (inside : i < 64) where
   in_order_from : (from slots : ℕ) (came : List Arrival) → AllByRecursion (λ a. a.slot < from + slots) came →
       RiseByInput came → joined (λ t. found came t i) from slots ≡ cells_of (rest_of from (line_at i came))
-  in_order_from from slots [] before rise =
-      joined_none (λ t. found [] t i) from slots (λ t l. found_none [] t i tt)
+  in_order_from from slots [] before rise = grind (arith, common_steps, joined_none, found [], found_none [])
   in_order_from from slots (a ∷ came) before rise =
-      let rest = in_order_from from slots came before.1
-      (λ s t x y at_s at_t l. rise (suc s) (suc t) x y at_s at_t (omega arith)) in
+      let rest = in_order_from from slots came before.1 (λ s t x y at_s at_t l.
+      rise (suc s) (suc t) x y at_s at_t (omega arith)) in
       let others : List Arrival = line_at i came in
       let later : List Arrival = rest_of from others in
       let parts : List Arrival → List Cell = λ l. cells_of (rest_of from l) in
-      ⊎_elim
-      (λ same.
+      ⊎_elim (λ same.
       let kept : line_at i (a ∷ came) ≡ a ∷ others =
       cond-true (a.cell.id.input == i) (a ∷ others) others (eq-eqb a.cell.id.input i same) in
-      ⊎_elim
-      (λ early.
-      let out : is_from_on from a ≡ false = ap not (lt-ltb a.slot from early) in
-      joined_same (λ t. found (a ∷ came) t i) (λ t. found came t i) from slots
-      (λ t l. other_slot a came t i (λ e. omega arith))
-      ∙ rest
-      ∙ sym (ap parts kept ∙ ap cells_of (cond-false (is_from_on from a) (a ∷ later) later out)))
+      ⊎_elim (λ early. search (arith, rules, lt-ltb, joined_same, found, other_slot, cond-false))
       (λ late.
       let in_rest : is_from_on from a ≡ true = ap not (le-ltb a.slot from late) in
       let after : AllByRecursion (λ b. b.cell.id.input ≡ i → a.slot < b.slot) came =
-      all_by (λ b. b.cell.id.input ≡ i → a.slot < b.slot) came
-      (λ t b at e. rise zero (suc t) a b refl at (omega arith) (same ∙ sym e)) in
+      all_by (λ b. b.cell.id.input ≡ i → a.slot < b.slot) came (λ t b at e.
+      rise zero (suc t) a b refl at (omega arith) (same ∙ sym e)) in
       joined_more (λ t. found (a ∷ came) t i) (λ t. found came t i) a.slot from slots late
-      (let l = before.0 in omega arith)
-      (λ t l. other_slot a came t i (λ e. omega arith) ∙ no_earlier i inside a came t after (omega arith))
-      (λ t l. no_earlier i inside a came t after l)
-      (λ t l. other_slot a came t i (λ e. omega arith))
-      ∙ ap (λ (l : List Cell). l ++ joined (λ t. found came t i) from slots) (found_here a came a.slot i refl same)
-      ∙ ap (λ (l : List Cell). a.cell ∷ l) rest
+      (let l = before.0 in omega arith) (λ t l. other_slot a came t i (λ e. omega arith)
+      ∙ no_earlier i inside a came t after (omega arith))
+      (λ t l. no_earlier i inside a came t after l) (λ t l.
+      other_slot a came t i (λ e. omega arith))
+      ∙ ap (λ (l : List Cell). l ++ joined (λ t. found came t i) from slots)
+      (found_here a came a.slot i refl same) ∙ ap (λ (l : List Cell). a.cell ∷ l) rest
       ∙ sym (ap parts kept ∙ ap cells_of (cond-true (is_from_on from a) (a ∷ later) later in_rest)))
       (cases_lt a.slot from))
-      (λ ne.
-      joined_same (λ t. found (a ∷ came) t i) (λ t. found came t i) from slots (λ t l. other_input a came t i ne)
-      ∙ rest
-      ∙ sym (ap parts (cond-false (a.cell.id.input == i) (a ∷ others) others (ne_eqb a.cell.id.input i ne))))
+      (λ ne. search (arith, rules, joined_same, found, other_input, cond-false, a.cell.id.input, ne_eqb))
       (cases_eq a.cell.id.input i)
 
   pub comes_from : (came : List Arrival) (from slots : ℕ) → RiseByInput came → end_of came ≤ from + slots →

@@ -1,7 +1,8 @@
 -- Slots in which nothing waits and nothing comes. Such a slot sends nothing, and only tells each machine that its
 -- output was idle. A machine that keeps the laws is not changed by a second idle slot, so that many such slots do
 -- what one does.
-use Rattle.std.proofs.Common.{◌≡◌, ℕ, zero, suc, ◌+◌, ◌-◌, ◌<◌, ◌≤◌, List, [], ◌∷◌, length, map, get_or, set, replicate, Option, Some, None, Result, Ok, refl, sym, ap, ◌∙◌, inl, inr, subst, arith}
+use Rattle.std.proofs.Common.{rules, ◌≡◌, ℕ, zero, suc, ◌+◌, ◌-◌, ◌<◌, ◌≤◌, List, [], ◌∷◌, length, map, get_or, set, replicate, Option, Some, None, Result, Ok, refl, sym, ap, ◌∙◌, arith, subst}
+use Rattle.std.proofs.lemmas.Grind.{common_steps}
 use Rattle.std.proofs.lemmas.Bool.{cases_eq}
 use Rattle.std.proofs.lemmas.List.{ext_get_or, get_or-map, length-replicate}
 use Rattle.cq_base.specs.Arrivals.{no_arrivals}
@@ -9,7 +10,7 @@ use Rattle.cq_base.specs.declared.cell.Queued.{Queued}
 use Rattle.cq_base.specs.declared.cell.TagFault.{TagFault}
 use Rattle.cq_rank.specs.Machine.{KeepsLaws, Machine, first_come, machine_at, told}
 use Rattle.cq_ideal.specs.Ideal.{IdealSwitch}
-use Rattle.cq_ideal.specs.IdealRun.{IsEmptyIdeal, Ran, empty_ideal, ideal_run, nothing_sent, then_ran}
+use Rattle.cq_ideal.specs.IdealRun.{IsEmptyIdeal, empty_ideal, ideal_run, nothing_sent}
 use Rattle.cq_ideal.specs.IdealSlot.{IdealState, Sent, all_told, fronts, ideal_sends, ideal_slot, rests}
 use Rattle.cq_ideal.specs.Parts.{FitTogether, QueuesView, RanksView, all_idle, state_of}
 use Rattle.cq_ideal.specs.Ranking.{after_input, ranking}
@@ -47,10 +48,7 @@ no_list (suc n) (suc i) = no_list n i
 pub all_empty : (s : IdealState) (n : ℕ) → IsEmptyIdeal s → length s.lists ≡ n → s ≡ empty_ideal n s.ranks
 all_empty s n empty long =
     let none : List Queued = [] in
-    let lists : s.lists ≡ replicate n none =
-    ext_get_or none s.lists (replicate n none) (long ∙ sym (length-replicate n none))
-    (λ i inside. empty i none inside ∙ sym (no_list n i)) in
-    ap (λ (l : List (List Queued)). let t : IdealState = record { lists = l; ranks = s.ranks } in t) lists
+    search (arith, rules, ext_get_or none s.lists (replicate n none), length-replicate n none, no_list n)
 
 -- ## The slots
 
@@ -76,11 +74,7 @@ module _ (ms : List Machine) (n : ℕ) where
       ≡ Ok (nothing_sent count n (empty_ideal n ranks))
   unfolding ideal_run
   quiet_run zero slot ranks same = refl
-  quiet_run (suc count) slot ranks same =
-      ap (next_slot ms (slot + 1) (replicate count no_arrivals)) (quiet_slot slot ranks)
-      ∙ ap (λ (r : List (List ℕ)).
-      then_ran (replicate n None) (ideal_run ms (slot + 1) (replicate count no_arrivals) (empty_ideal n r))) same
-      ∙ ap (then_ran (replicate n None)) (quiet_run count (slot + 1) ranks same)
+  quiet_run (suc count) slot ranks same = search (rules, next_slot, quiet_slot, quiet_run count (slot + 1) ranks same)
 
   -- so many slots are as one, where a second one changes nothing
   pub rested_run : (count slot : ℕ) (ranks rested : List (List ℕ)) → 0 < count → rested ≡ all_idle ms n ranks →
@@ -89,19 +83,13 @@ module _ (ms : List Machine) (n : ℕ) where
       ≡ Ok (nothing_sent count n (empty_ideal n rested))
   unfolding ideal_run
   rested_run zero slot ranks rested some is again = absurd (omega arith)
-  rested_run (suc count) slot ranks rested some is again =
-      ap (next_slot ms (slot + 1) (replicate count no_arrivals)) (quiet_slot slot ranks)
-      ∙ ap (λ (r : List (List ℕ)).
-      then_ran (replicate n None) (ideal_run ms (slot + 1) (replicate count no_arrivals) (empty_ideal n r))) (sym is)
-      ∙ ap (then_ran (replicate n None)) (quiet_run count (slot + 1) rested again)
+  rested_run (suc count) slot ranks rested some is again = search (rules, next_slot, quiet_slot, quiet_run)
 
 -- ## The machines
 
 idle_at : (ms : List Machine) (n : ℕ) (ranks : List (List ℕ)) (j : ℕ) → j < length ranks →
     get_or (all_idle ms n ranks) j [] ≡ (machine_at ms j).idle (get_or ranks j [])
-idle_at ms n ranks j inside =
-    told_at ms (replicate n None) ranks j inside
-    ∙ ap (told (machine_at ms j) (get_or ranks j [])) (none_at n j)
+idle_at ms n ranks j inside = cc (told_at ms (replicate n None) ranks j inside, none_at n j)
 
 -- the machines of the outputs before this one have been told, and their states had their sizes
 pub record Resting (M : List ℕ → Machine) (first_fixed first_states : List (List ℕ)) (output : ℕ)
@@ -137,30 +125,13 @@ module _ (M : List ℕ → Machine) (first_fixed first_states : List (List ℕ))
       let here : get_or states output [] ≡ get_or first_states output [] =
       ap (λ l. get_or l output []) so_far.told_so_far ∙ at_place idle first_states output [] many within in
       let as_told : told (machine_at (map M fixed) output) (get_or states output []) None ≡ get_or idle output [] =
-      ap (λ f. told (machine_at (map M f) output) (get_or states output []) None) so_far.same
-      ∙ ap (λ s. told (machine_at ms output) s None) here
-      ∙ sym (idle_at ms ports first_states output within) in
-      record {
-        same = kept ∙ so_far.same;
-        told_so_far =
-            now
-            ∙ ap (λ l. set l output (told (machine_at (map M fixed) output) (get_or states output []) None))
-            so_far.told_so_far
-            ∙ next_place idle first_states output _ [] many within as_told;
-        sized = λ j below. elim (cases_eq j output) [
-          | inl at ↦ subst (λ (k : ℕ). length (get_or first_states k []) ≡ (machine_at ms k).size) (sym at)
-              (ap length (sym here) ∙ sized ∙ ap (λ f. (machine_at (map M f) output).size) so_far.same)
-          | inr other ↦ so_far.sized j (omega arith)
-        ];
-      }
+      search (arith, rules, idle_at) in search (arith, rules, next_place, cases_eq, so_far.sized)
 
   pub resting_last : (output : ℕ) (fixed states : List (List ℕ)) →
       Resting M first_fixed first_states output fixed states →
       length first_fixed ≤ output → states ≡ all_idle (map M first_fixed) (length first_fixed) first_states
   unfolding ms ports idle
-  resting_last output fixed states so_far end =
-      so_far.told_so_far
-      ∙ at_end idle first_states output (length-told ms (replicate ports None) first_states) (omega arith)
+  resting_last output fixed states so_far end = grind (arith, common_steps, at_end, length-told)
 
   -- a second idle slot changes nothing
   pub resting_again : (output : ℕ) (fixed states : List (List ℕ)) →
@@ -200,22 +171,10 @@ pub rested : (M : List ℕ → Machine) (ranks new : RanksView) (queues : Queues
     ideal_run (map M switch.fixed) switch.next (replicate (to - switch.next) no_arrivals) switch.state
     ≡ Ok (nothing_sent (to - switch.next) (length switch.fixed) (state_of new queues))
 rested M ranks new queues switch to fixed state fit empty later states again =
-    let p = length switch.fixed in
-    let count = to - switch.next in
-    let traffic = replicate count no_arrivals in
-    let ms = map M switch.fixed in
-    let nil : List Queued = [] in
-    let long : length ranks.fixed ≡ p = ap length fixed in
-    let ports : length switch.state.lists ≡ p =
-    ap (λ (s : IdealState). length s.lists) (sym state) ∙ fit.lists ∙ sym fit.fixed ∙ long in
-    let opening : switch.state ≡ empty_ideal p switch.state.ranks = all_empty switch.state p empty ports in
-    let lists : queues.lists ≡ replicate p nil =
-    ap (λ (s : IdealState). s.lists) state ∙ ap (λ (s : IdealState). s.lists) opening in
-    let kept : switch.state.ranks ≡ ranks.states = ap (λ (s : IdealState). s.ranks) (sym state) in
-    let idle : (rs : List (List ℕ)) → all_idle (map M ranks.fixed) (length ranks.fixed) rs ≡ all_idle ms p rs =
-    λ rs. ap (λ (f : List (List ℕ)). all_idle (map M f) (length f) rs) fixed in
-    ap (ideal_run ms switch.next traffic) opening
-    ∙ rested_run ms p count switch.next switch.state.ranks new.states (omega arith)
-    (states ∙ idle ranks.states ∙ ap (all_idle ms p) (sym kept)) (sym (idle new.states) ∙ again)
-    ∙ ap (λ (l : List (List Queued)).
-    let x : Result Ran TagFault = Ok (nothing_sent count p (record { lists = l; ranks = new.states })) in x) (sym lists)
+    grind (
+      arith,
+      common_steps,
+      all_empty switch.state (length switch.fixed) empty,
+      rested_run (map M switch.fixed)
+          (length switch.fixed) (to - switch.next) switch.next switch.state.ranks new.states,
+    )

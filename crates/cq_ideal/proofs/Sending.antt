@@ -1,9 +1,10 @@
 -- The walk over the outputs. Behind this output all is as the slot leaves it, and from it on as the slot found it:
 -- that is so for the lists and for the states of the machines. What is sent so far, and then the departures of the
 -- outputs from this one on, are all departures of the slot.
-use Rattle.std.proofs.Common.{◌≡◌, ℕ, ◌+◌, ◌<◌, ◌≤◌, List, [], ◌∷◌, ◌++◌, length, map, get_or, set, drop, Option, Some, None, refl, sym, ap, ◌∙◌, arith, append_assoc, length-append, length-set}
+use Rattle.std.proofs.Common.{rules, ◌≡◌, ℕ, ◌+◌, ◌<◌, ◌≤◌, List, [], ◌∷◌, ◌++◌, length, map, get_or, set, drop, Option, Some, None, refl, sym, ap, ◌∙◌, arith, append_assoc, length-append, length-set}
+use Rattle.std.proofs.lemmas.Grind.{common_steps}
 use Rattle.std.specs.Prelude.{slice_get}
-use Rattle.std.proofs.lemmas.List.{get_or-map, length-map, drop_more, drop_all, append-nil}
+use Rattle.std.proofs.lemmas.List.{get_or-map, length-map, drop_more}
 use Rattle.std.proofs.lemmas.List.FromFn.{get_or-map-range_with_len, length-map-range_with_len}
 use Rattle.cq_base.specs.declared.cell.Departure.{Departure}
 use Rattle.cq_base.specs.declared.cell.Queued.{Queued}
@@ -11,7 +12,7 @@ use Rattle.cq_base.specs.Room.{RoomView}
 use Rattle.cq_rank.specs.Machine.{Machine, machine_at, told}
 use Rattle.cq_ideal.specs.Ideal.{HaveLeft}
 use Rattle.cq_ideal.specs.IdealSlot.{all_told, fronts, rests, departures_from, departures_in}
-use Rattle.cq_ideal.proofs.Changed.{at_end, at_place, changed_to, next_place}
+use Rattle.cq_ideal.proofs.Changed.{at_place, changed_to, next_place}
 use Rattle.cq_ideal.specs.Parts.{AreTold, FirstsHaveLeft, FitTogether, RanksView, QueuesView, list_at}
 
 -- ## The walk
@@ -38,15 +39,12 @@ pub record Sending (M : List ℕ → Machine) (slot : ℕ) (first_ranks : RanksV
 pub length-told : (ms : List Machine) (gone : List (Option Queued)) (ranks : List (List ℕ)) →
     length (all_told ms gone ranks) ≡ length ranks
 unfolding all_told
-length-told ms gone ranks =
-    length-map-range_with_len (λ j. told (machine_at ms j) (get_or ranks j []) (get_or gone j None)) 0 (length ranks)
+length-told ms gone ranks = omega (arith, length-map-range_with_len)
 
 pub told_at : (ms : List Machine) (gone : List (Option Queued)) (ranks : List (List ℕ)) (j : ℕ) → j < length ranks →
     get_or (all_told ms gone ranks) j [] ≡ told (machine_at ms j) (get_or ranks j []) (get_or gone j None)
 unfolding all_told
-told_at ms gone ranks j inside =
-    get_or-map-range_with_len (λ j. told (machine_at ms j) (get_or ranks j []) (get_or gone j None)) 0 (length ranks)
-    j j [] inside (omega arith)
+told_at ms gone ranks j inside = grind (arith, common_steps, get_or-map-range_with_len)
 
 -- the machine of the next output is told
 pub told_next : (ms : List Machine) (gone : List (Option Queued)) (old states new : List (List ℕ)) (j : ℕ)
@@ -58,24 +56,13 @@ told_next ms gone old states new j q inside so_far is now =
     let here : get_or states j [] ≡ get_or old j [] =
     ap (λ l. get_or l j []) so_far ∙ at_place (all_told ms gone old) old j [] many inside in
     let as_told : told (machine_at ms j) (get_or states j []) q ≡ get_or (all_told ms gone old) j [] =
-    ap (λ s. told (machine_at ms j) s q) here ∙ ap (told (machine_at ms j) (get_or old j [])) is
-    ∙ sym (told_at ms gone old j inside) in
-    now ∙ ap (λ l. set l j (told (machine_at ms j) (get_or states j []) q)) so_far
-    ∙ next_place (all_told ms gone old) old j _ [] many inside as_told
+    search (arith, rules, told_at) in search (arith, rules, next_place)
 
 pub sending_first : (M : List ℕ → Machine) (slot : ℕ) (ranks : RanksView) (queues : QueuesView)
     (sent : RoomView Departure) → length queues.lists ≤ sent.spare →
     Sending M slot ranks queues sent 0 ranks queues sent
 unfolding departures_in
-sending_first M slot ranks queues sent room =
-    record {
-      kept = record { fixed = refl; rooms = refl; long = refl };
-      states = refl;
-      lists = refl;
-      items = refl;
-      spare = refl;
-      room = omega arith;
-    }
+sending_first M slot ranks queues sent room = grind (arith, common_steps)
 
 -- what is put at the end of what was sent
 abbrev pub one_sent : ℕ → ℕ → Option Queued → List Departure
@@ -164,27 +151,4 @@ pub sending_last : {M : List ℕ → Machine} {slot : ℕ} {first_ranks : RanksV
     Sending M slot first_ranks first_queues first_sent output ranks queues sent → length first_queues.lists ≤ output →
     AreSent M slot first_ranks first_queues first_sent ranks queues sent
 sending_last {M} {slot} {first_ranks} {first_queues} {first_sent} {output} {sent = sent} fit so_far end =
-    let ms = map M first_ranks.fixed in
-    let old = first_queues.lists in
-    let fronts_long = length-map old (λ (xs : List Queued). slice_get xs 0) in
-    let none_left : drop output (fronts old) ≡ [] = drop_all output (fronts old) (omega arith) in
-    let items : sent.items ≡ first_sent.items ++ departures_in slot (fronts old) =
-    sym (append-nil sent.items) ∙ ap (λ l. sent.items ++ departures_from slot output l) (sym none_left)
-    ∙ so_far.items in
-    let long = ap length items in
-    let longer = length-append first_sent.items (departures_in slot (fronts old)) in
-    let states = fit.states in
-    record {
-      told = record {
-        fixed = so_far.kept.fixed;
-        states =
-            so_far.states
-            ∙ at_end (all_told ms (fronts old) first_ranks.states) first_ranks.states output
-            (length-told ms (fronts old) first_ranks.states) (omega arith);
-      };
-      gone = record {
-        lists = so_far.lists ∙ at_end (rests old) old output (length-map old (λ xs. drop 1 xs)) end;
-        rooms = so_far.kept.rooms;
-      };
-      left = record { items = items; spare = omega arith };
-    }
+    grind (arith, common_steps, length-told)

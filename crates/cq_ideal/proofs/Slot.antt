@@ -1,6 +1,7 @@
 -- A slot is what the parts do one after the other: the arrivals are judged, those that are admitted are ranked and go
 -- into the lists, and then the outputs send.
-use Rattle.std.proofs.Common.{◌≡◌, ℕ, ◌+◌, ◌<◌, ◌^◌, Bool, false, List, [], length, map, get_or, Option, Result, Ok, Err, refl, sym, ap, ◌∙◌, subst, arith}
+use Rattle.std.proofs.lemmas.Grind.{common_steps}
+use Rattle.std.proofs.Common.{◌≡◌, ℕ, ◌+◌, ◌<◌, ◌^◌, Bool, false, List, length, map, get_or, Option, Result, Ok, Err, refl, sym, ap, ◌∙◌, subst, arith}
 use Rattle.std.specs.Prelude.{IfOk}
 use Rattle.std.proofs.lemmas.List.{get_or-map}
 use Rattle.cq_base.specs.declared.cell.Cell.{Cell}
@@ -10,12 +11,11 @@ use Rattle.cq_base.specs.declared.cell.Departure.{Departure}
 use Rattle.cq_base.specs.Room.{RoomView}
 use Rattle.cq_rank.specs.Machine.{Machine}
 use Rattle.cq_rank.specs.Switch.{class_count}
-use Rattle.cq_ideal.specs.declared.refused.Refused.{Refused}
 use Rattle.cq_ideal.specs.Admission.{Admission, Marked, admission, admitted, marked, marks_after, refused}
 use Rattle.cq_ideal.specs.Ideal.{IdealSwitch, HasRoomFor, marked_state}
 use Rattle.cq_ideal.specs.IdealSlot.{IdealState, Sent, ideal_slot, ideal_sends, filled, fronts, rests, all_told}
 use Rattle.cq_ideal.specs.LimitedIdeal.{LimitedSent, ideal_held, limited_slot, with_admission}
-use Rattle.cq_ideal.specs.Limiter.{CanCount, HoldsLists, LimiterView}
+use Rattle.cq_ideal.specs.Limiter.{HoldsLists, LimiterView}
 use Rattle.cq_ideal.specs.OneSlot.{CanHaveSlot}
 use Rattle.cq_ideal.specs.Parts.{AreParts, AreWithinRooms, CameToPorts, FitTogether, RanksView, QueuesView, AllArrivedBefore, HaveOwnKeys, HaveRoomFor, state_of}
 use Rattle.cq_ideal.specs.Ranking.{AreForPorts, Ranking, ranking}
@@ -53,21 +53,14 @@ module _ (M : List ℕ → Machine) (slot : ℕ) (cells : List (Option Cell)) (v
       ≡ ideal_sends (map M ranks.fixed) (state_of ranks queues)
       (ranking (map M ranks.fixed) slot 0 cells ranks.states)
   unfolding ideal_slot
-  slot_is =
-      ap (λ s. ideal_slot (map M v.fixed) slot cells s) (sym state)
-      ∙ ap (λ f. ideal_slot (map M f) slot cells (state_of ranks queues)) (sym fixed)
+  slot_is = grind (arith, common_steps)
 
   pub slot_ok : (ranks_new : RanksView) (queues_new : QueuesView) (came : List (Option Queued)) →
       ranking (map M ranks.fixed) slot 0 cells ranks.states ≡ Ok (record { came = came; ranks = ranks_new.states }) →
       queues_new.lists ≡ filled came queues.lists → ranks_new.fixed ≡ ranks.fixed →
       ideal_slot (map M v.fixed) slot cells v.state ≡ Ok
       (sent_from (map M ranks_new.fixed) (state_of ranks_new queues_new))
-  slot_ok ranks_new queues_new came ok lists same =
-      slot_is
-      ∙ ap (ideal_sends (map M ranks.fixed) (state_of ranks queues)) ok
-      ∙ ap (λ (l : List (List Queued)). Ok (sent_from (map M ranks.fixed)
-      (record { lists = l; ranks = ranks_new.states }))) (sym lists)
-      ∙ ap (λ f. Ok (sent_from (map M f) (state_of ranks_new queues_new))) (sym same)
+  slot_ok ranks_new queues_new came ok lists same = cc (slot_is)
 
   pub slot_fault : (fault : TagFault) → ranking (map M ranks.fixed) slot 0 cells ranks.states ≡ Err fault →
       ideal_slot (map M v.fixed) slot cells v.state ≡ Err fault
@@ -77,13 +70,7 @@ module _ (M : List ℕ → Machine) (slot : ℕ) (cells : List (Option Cell)) (v
 room_for_came : (ms : List Machine) (slot : ℕ) (cells : List (Option Cell)) (ranks : List (List ℕ)) (r : Ranking)
     (v : IdealSwitch) (queues : QueuesView) → ranking ms slot 0 cells ranks ≡ Ok r → queues.lists ≡ v.state.lists →
     queues.rooms ≡ v.rooms → HasRoomFor cells v → HaveRoomFor r.came queues
-room_for_came ms slot cells ranks r v queues ok lists rooms room j inside =
-    let count = came_for ms slot cells ranks r ok j in
-    let long = ap length rooms in
-    let held = ap (λ (l : List (List Queued)). length (get_or l j [])) lists in
-    let same = ap (λ (l : List ℕ). get_or l j 0) rooms in
-    let had = room j (omega arith) in
-    omega arith
+room_for_came ms slot cells ranks r v queues ok lists rooms room j inside = grind (arith, common_steps, came_for)
 
 -- ## Slots with limits
 
@@ -97,8 +84,7 @@ limited_is : (limits : List (Option ℕ)) (ms : List Machine) (slot : ℕ) (cell
     limited_slot limits ms slot cells old
     ≡ with_admission (by_marks marks cells) (ideal_slot ms slot (admitted marks cells) old.state)
 unfolding limited_slot admission
-limited_is limits ms slot cells old marks is =
-    ap (λ (m : List Bool). with_admission (by_marks m cells) (ideal_slot ms slot (admitted m cells) old.state)) (sym is)
+limited_is limits ms slot cells old marks is = grind (arith, common_steps)
 
 -- the switch of these parts
 abbrev pub seen : RanksView → QueuesView → LimiterView → ℕ → Bool → IdealSwitch
@@ -137,24 +123,7 @@ pub begun : (M : List ℕ → Machine) (slot : ℕ) (cells : List (Option Cell))
     (queues : QueuesView) (old : LimiterView) (room : RoomView Departure) (next : ℕ) (stopped : Bool) →
     seen ranks queues old next stopped ≡ v → AreParts (map M ranks.fixed) ranks queues old next stopped →
     CanHaveSlot (map M v.fixed) slot cells v room → Begun M slot cells v ranks queues old room
-begun M slot cells v ranks queues old room next stopped is parts can =
-    let at : next ≡ slot = ap (λ (w : IdealSwitch). w.next) is ∙ sym can.next in
-    record {
-      fixed = ap (λ (w : IdealSwitch). w.fixed) is;
-      state = ap (λ (w : IdealSwitch). w.state) is;
-      rooms = ap (λ (w : IdealSwitch). w.rooms) is;
-      limits = ap (λ (w : IdealSwitch). w.limits) is;
-      marks = ap (λ (w : IdealSwitch). w.marks) is;
-      refused = ap (λ (w : IdealSwitch). w.refused) is;
-      parts = record {
-        fit = parts.fit;
-        limits = parts.limits;
-        marks = parts.marks;
-        arrived = subst (λ (n : ℕ). AllArrivedBefore n queues.lists) at parts.arrived;
-        holds = λ _. parts.holds (ap (λ (w : IdealSwitch). w.stopped) is ∙ can.running);
-      };
-      can = can;
-    }
+begun M slot cells v ranks queues old room next stopped is parts can = grind (arith, common_steps, parts.holds)
 
 -- ## What follows
 
@@ -168,48 +137,20 @@ module _ {M : List ℕ → Machine} {slot : ℕ} {cells : List (Option Cell)} {v
   holds = known.parts.holds refl
 
   comes : AreForPorts (length (map M ranks.fixed)) (class_count (map M ranks.fixed)) cells
-  comes =
-      subst (λ (f : List (List ℕ)). AreForPorts (length (map M ranks.fixed)) (class_count (map M f)) cells)
-      (sym known.fixed)
-      (subst (λ (n : ℕ). AreForPorts n (class_count (map M v.fixed)) cells)
-      (sym (ap length known.fixed) ∙ known.parts.fit.fixed) known.can.arrivals)
+  comes = grind (arith, common_steps)
 
   -- its arrivals can be taken in
   pub can_take_in : AreWithinRooms queues → ((j : ℕ) → get_or queues.rooms j 0 < 2 ^ 64) →
       CanTakeIn (map M ranks.fixed) cells old
-  can_take_in within few = record {
-    machines = known.parts.fit.machines;
-    ports = known.parts.limits;
-    arrivals = comes;
-    held = λ j inside.
-        let long = ap length known.rooms in
-        let had = known.can.spare j (omega arith) in
-        let list = ap (λ (l : List (List Queued)). length (get_or l j [])) lists_are in
-        let same = ap (λ (l : List ℕ). get_or l j 0) known.rooms in
-        let here = within j in
-        let top = few j in
-        let held : get_or old.held j 0 ≡ length (get_or queues.lists j []) =
-        ap (λ (l : List ℕ). get_or l j 0) holds.held ∙ get_or-map length queues.lists j [] 0 (omega arith) in
-        omega arith;
-    refused =
-        subst (λ (r : List Refused). CanCount (length old.limits) r) (sym known.refused)
-        (subst (λ (n : ℕ). CanCount n v.refused) (sym (ap length known.fixed) ∙ known.parts.fit.fixed
-        ∙ sym known.parts.limits) known.can.refused);
-  }
+  can_take_in within few = grind (arith, common_steps, comes, lists_are, get_or-map length queues.lists)
 
   -- what is admitted finds room too
   pub admitted_room : (marks : List Bool) → HasRoomFor (admitted marks cells) v
-  admitted_room marks j inside =
-      let all = known.can.spare j inside in
-      let split = each_once j marks cells in omega arith
+  admitted_room marks j inside = omega (arith, each_once j marks cells)
 
   module _ {judged : LimiterView} (judges : HasJudged cells old judged) where
     marks_are : judged.marks ≡ marks_after v.limits (ideal_held v.state) v.marks cells
-    marks_are =
-        judges.marks
-        ∙ ap (λ (l : List (Option ℕ)). marks_after l old.held old.marks cells) known.limits
-        ∙ ap (λ (h : List ℕ). marks_after v.limits h old.marks cells) (holds.held ∙ ap (map length) lists_are)
-        ∙ ap (λ (m : List Bool). marks_after v.limits (ideal_held v.state) m cells) known.marks
+    marks_are = grind (arith, common_steps, lists_are)
 
     judged_slot : limited_slot v.limits (map M v.fixed) slot cells (marked_state v)
         ≡ with_admission (by_marks judged.marks cells)
@@ -235,27 +176,22 @@ module _ {M : List ℕ → Machine} {slot : ℕ} {cells : List (Option Cell)} {v
           let classes = class_count (map M ranks.fixed) in
           came_to_ports (map M ranks.fixed) slot _ classes (admitted judged.marks cells) ranks.states r taken.ranked
           (admitted_for_ports _ classes judged.marks cells
-          (subst (λ (n : ℕ). AreForPorts n classes cells) (sym known.parts.fit.lists) comes))
-          taken.long
+          (subst (λ (n : ℕ). AreForPorts n classes cells) (sym known.parts.fit.lists) comes)) taken.long
 
       pub have_room : HaveRoomFor came queues
-      have_room =
-          room_for_came (map M ranks.fixed) slot (admitted judged.marks cells) ranks.states r v queues taken.ranked
-          lists_are known.rooms (admitted_room judged.marks)
+      have_room = room_for_came (map M ranks.fixed) slot (admitted judged.marks cells) ranks.states r v queues
+          taken.ranked lists_are known.rooms (admitted_room judged.marks)
 
       pub have_keys : HaveOwnKeys came queues.lists
-      have_keys =
-          own_keys (map M ranks.fixed) slot (admitted judged.marks cells) ranks.states r taken.ranked queues.lists
-          known.parts.arrived
+      have_keys = own_keys (map M ranks.fixed) slot (admitted judged.marks cells) ranks.states r taken.ranked
+          queues.lists known.parts.arrived
 
       -- once they are in the lists
       module _ (queues_new : QueuesView) (lists : queues_new.lists ≡ filled came queues.lists)
           (same : ranks_new.fixed ≡ ranks.fixed) where
         pub fit_then : length ranks_new.states ≡ length ranks.states → queues_new.rooms ≡ queues.rooms →
             FitTogether (map M ranks_new.fixed) ranks_new queues_new
-        fit_then many rooms =
-            fit_same M ranks ranks_new queues queues_new known.parts.fit same many
-            (ap length lists ∙ length-filled came queues.lists) rooms
+        fit_then many rooms = grind (arith, common_steps, fit_same, length-filled)
 
         pub holds_then : HoldsLists queues_new.lists judged
         holds_then =
@@ -272,9 +208,7 @@ module _ {M : List ℕ → Machine} {slot : ℕ} {cells : List (Option Cell)} {v
 
         pub admitted_ok : ideal_slot (map M v.fixed) slot (admitted judged.marks cells) v.state
             ≡ Ok (sent_from (map M ranks_new.fixed) (state_of ranks_new queues_new))
-        admitted_ok =
-            slot_ok M slot (admitted judged.marks cells) v ranks queues known.fixed known.state ranks_new queues_new
-            came taken.ranked lists same
+        admitted_ok = grind (arith, common_steps, slot_ok)
 
         pub limited_ok : limited_slot v.limits (map M v.fixed) slot cells (marked_state v)
             ≡ Ok (limited_sent_from judged.marks cells (map M ranks_new.fixed) (state_of ranks_new queues_new))

@@ -1,7 +1,8 @@
 -- Each cell stands at the place of the input that its id names, in each slot of a run, and among the admitted ones
 -- too. So of the cells that are refused in a slot only the one at the place of an input is of that input, and it is
 -- refused where the mark is up.
-use Rattle.std.proofs.Common.{◌≡◌, ℕ, zero, suc, ◌+◌, ◌<◌, Bool, true, false, List, [], ◌∷◌, ◌++◌, map, filter, Option, Some, None, refl, sym, ap, ◌∙◌, subst, arith}
+use Rattle.std.proofs.lemmas.Grind.{common_steps}
+use Rattle.std.proofs.Common.{◌≡◌, ℕ, zero, suc, ◌+◌, ◌<◌, Bool, true, false, List, [], ◌∷◌, map, filter, Option, Some, None, refl, sym, ap, ◌∙◌, arith, ◌++◌}
 use Rattle.std.specs.Prelude.{◌==◌}
 use Rattle.std.specs.List.{AllByRecursion, range_with_len}
 use Rattle.std.proofs.lemmas.Bool.{cond-false, cond-true, eq-eqb, ne_eqb}
@@ -9,7 +10,7 @@ use Rattle.std.proofs.lemmas.List.Elements.{filter-append}
 use Rattle.cq_base.specs.declared.cell.Cell.{Cell}
 use Rattle.cq_base.specs.Arriving.{Arrival, arriving, arriving_at, enough, traffic_of}
 use Rattle.cq_base.specs.Arrivals.{arrival_at}
-use Rattle.cq_ideal.specs.Admission.{Admission, admission, admitted, mark_at, marks_after, refused}
+use Rattle.cq_ideal.specs.Admission.{Admission, admission, admitted, mark_at, refused}
 use Rattle.cq_ideal.specs.Limiter.{where_up}
 use Rattle.cq_ideal.specs.Refused.{refused_in}
 use Rattle.cq_ideal.specs.WholePackets.{AreJudged}
@@ -70,8 +71,7 @@ module _ (i : ℕ) where
   of_input cells = filter (λ cell. cell.id.input == i) cells
 
   other_input : (cell : Cell) (cells : List Cell) → (cell.id.input ≡ i → ⊥) → of_input (cell ∷ cells) ≡ of_input cells
-  other_input cell cells ne =
-      cond-false (cell.id.input == i) (cell ∷ of_input cells) (of_input cells) (ne_eqb cell.id.input i ne)
+  other_input cell cells ne = grind (arith, common_steps, cond-false, cell.id.input, ne_eqb)
 
   none_past : (a : ℕ) (marks : List Bool) (cells : List (Option Cell)) → StandAt a cells → i < a →
       of_input (refused marks cells) ≡ []
@@ -100,8 +100,7 @@ module _ (i : ℕ) where
   refused_at_place a (suc k) (false ∷ marks) (None ∷ cells) at e =
       refused_at_place (a + 1) k marks cells at (omega arith)
   refused_at_place a (suc k) (true ∷ marks) (Some cell ∷ cells) at e =
-      other_input cell (refused marks cells) (λ same. omega arith)
-      ∙ refused_at_place (a + 1) k marks cells at.1 (omega arith)
+      grind (arith, common_steps, other_input, refused_at_place (a + 1) k marks cells at.1)
   refused_at_place a (suc k) (false ∷ marks) (Some cell ∷ cells) at e =
       refused_at_place (a + 1) k marks cells at.1 (omega arith)
 
@@ -109,9 +108,7 @@ module _ (i : ℕ) where
       (a : Admission) → a ≡ admission limits held marks cells → StandAt 0 cells →
       of_input a.refused ≡ cell_listed (where_up (mark_at a.marks i) (arrival_at cells i))
   unfolding admission
-  refused_is limits held marks cells a e at =
-      subst (λ (x : Admission). of_input x.refused ≡ cell_listed (where_up (mark_at x.marks i) (arrival_at cells i)))
-      (sym e) (refused_at_place 0 i (marks_after limits held marks cells) cells at (omega arith))
+  refused_is limits held marks cells a e at = grind (arith, common_steps, cell_listed, refused_at_place)
 
   pub refused_are : (limits : List (Option ℕ)) (marks : List Bool) (traffic : List (List (Option Cell)))
       (admissions : List Admission) → AreJudged limits marks traffic admissions → AllByRecursion (StandAt 0) traffic →

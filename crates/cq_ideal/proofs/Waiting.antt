@@ -2,19 +2,20 @@
 -- together get as many cells as arrive, and each list as many as arrive for its output. A list that is not empty
 -- sends one cell. So what waits and what is sent are together what waited and what arrived, and unless nothing waits
 -- after the slot fewer cells wait than waited and arrived.
-use Rattle.std.proofs.Common.{◌≡◌, ◌≢◌, ℕ, zero, suc, ◌+◌, ◌-◌, ◌<◌, ◌≤◌, ◌^◌, Bool, true, false, cond, List, [], ◌∷◌, length, map, drop, get_or, Option, Some, None, Result, Ok, Err, refl, sym, ap, ◌∙◌, subst, ⊎_elim, arith}
-use Rattle.std.specs.Prelude.{is_some, nat_lt, slice_get, slice_index_or, slice_set}
+use Rattle.std.proofs.lemmas.Grind.{common_steps}
+use Rattle.std.proofs.Common.{rules, ◌≡◌, ◌≢◌, ℕ, zero, suc, ◌+◌, ◌-◌, ◌<◌, ◌≤◌, Bool, true, false, cond, List, [], ◌∷◌, length, map, drop, Option, Some, None, Result, Ok, Err, refl, sym, ap, ◌∙◌, subst, arith}
+use Rattle.std.specs.Prelude.{is_some, slice_index_or}
 use Rattle.std.specs.List.{range_with_len}
 use Rattle.std.proofs.lemmas.Bool.{cond_both, cases_eq, ne_eqb, cond-false}
-use Rattle.std.proofs.lemmas.List.{get_or-map, length-map, ext_get_or}
+use Rattle.std.proofs.lemmas.List.{length-map, ext_get_or}
 use Rattle.std.proofs.lemmas.List.FromFn.{get_or-map-range_with_len, length-map-range_with_len}
 use Rattle.cq_base.specs.declared.cell.Cell.{Cell}
 use Rattle.cq_base.specs.declared.cell.Queued.{Queued}
 use Rattle.cq_base.specs.declared.cell.TagFault.{TagFault}
 use Rattle.cq_base.specs.Cells.{put, is_for}
-use Rattle.cq_rank.specs.Machine.{Machine, machine_at}
+use Rattle.cq_rank.specs.Machine.{Machine}
 use Rattle.cq_ideal.specs.Ideal.{count_for}
-use Rattle.cq_ideal.specs.Ranking.{Ranking, ranking, after_input, keyed}
+use Rattle.cq_ideal.specs.Ranking.{Ranking, ranking, after_input}
 use Rattle.cq_ideal.specs.Parts.{count_to}
 use Rattle.cq_ideal.specs.IdealSlot.{IdealState, Sent, put_all, filled, fronts, rests, all_told, ideal_sends, ideal_slot, departures_from, departures_in}
 use Rattle.cq_urgency.proofs.Rising.{length_put}
@@ -35,21 +36,14 @@ total_none f a (suc n) z = let here = z a in let rest = total_none f (a + 1) n z
 pub total_same : (f g : ℕ → ℕ) (a n : ℕ) → ((t : ℕ) → a ≤ t → f t ≡ g t) → total f a n ≡ total g a n
 unfolding total
 total_same f g a zero e = refl
-total_same f g a (suc n) e =
-    let here = e a (omega arith) in let rest = total_same f g (a + 1) n (λ t l. e t (omega arith)) in omega arith
+total_same f g a (suc n) e = grind (arith, common_steps, total_same f g (a + 1) n)
 
 -- so many more at one place at most
 pub total_more : (f g : ℕ → ℕ) (s d a n : ℕ) → ((t : ℕ) → t ≢ s → f t ≡ g t) → f s ≤ g s + d →
     total f a n ≤ total g a n + d
 unfolding total
 total_more f g s d a zero e le = omega arith
-total_more f g s d a (suc n) e le =
-    ⊎_elim
-    (λ same.
-    let here : f a ≤ g a + d = subst (λ (k : ℕ). f k ≤ g k + d) (sym same) le in
-    let rest = total_same f g (a + 1) n (λ t l. e t (λ is. omega arith)) in omega arith)
-    (λ ne. let here = e a ne in let rest = total_more f g s d (a + 1) n e le in omega arith)
-    (cases_eq a s)
+total_more f g s d a (suc n) e le = search (rules, total_same, cases_eq, total_more f g s d (a + 1) n e le)
 
 -- ## All lists together
 
@@ -88,22 +82,12 @@ total_put (Some q ∷ came) f a n =
 pub filled_none : (lists : List (List Queued)) → filled [] lists ≡ lists
 unfolding filled
 filled_none lists =
-    ext_get_or [] (filled [] lists) lists (length-map-range_with_len (λ (j : ℕ). get_or lists j []) 0 (length lists))
-    (λ i inside.
-    let here : i < length lists =
-    let l = length-map-range_with_len (λ (j : ℕ). get_or lists j []) 0 (length lists) in omega arith in
-    get_or-map-range_with_len (λ (j : ℕ). get_or lists j []) 0 (length lists) i i [] here (omega arith))
+    search (arith, rules, ext_get_or [] (filled [] lists) lists, length-map-range_with_len, get_or-map-range_with_len)
 
 waiting-filled : (came : List (Option Queued)) (lists : List (List Queued)) →
     waiting (filled came lists) ≤ waiting lists + count_here came
 unfolding filled
-waiting-filled came lists =
-    let f = λ (j : ℕ). slice_index_or lists j [] in
-    let all = waiting-map (λ j. put_all j came (f j)) 0 (length lists) in
-    let none = waiting-map f 0 (length lists) in
-    let same : waiting (filled [] lists) ≡ waiting lists = ap waiting (filled_none lists) in
-    let more = total_put came f 0 (length lists) in
-    omega arith
+waiting-filled came lists = grind (arith, common_steps, waiting-map, filled_none lists, total_put came)
 
 -- what is sent of the lists, and what is left of them
 sent_of_waiting : (slot j : ℕ) (lists : List (List Queued)) →
@@ -168,22 +152,11 @@ length-put_all j (Some q ∷ came) xs =
 pub ranked_cells : (ms : List Machine) (slot input : ℕ) (cells : List (Option Cell)) (ranks : List (List ℕ))
     (r : Ranking) → ranking ms slot input cells ranks ≡ Ok r → map cell_here r.came ≡ cells
 unfolding cell_here
-ranked_cells ms slot input [] ranks r h =
-    subst (λ (r : Ranking). map cell_here r.came ≡ []) (only_ok refl h) refl
+ranked_cells ms slot input [] ranks r h = grind (arith, common_steps, only_ok)
 ranked_cells ms slot input (None ∷ cells) ranks r h =
-    after_ok (λ r. map cell_here r.came ≡ None ∷ cells) None (ranking ms slot (input + 1) cells ranks) r h
-    (λ rest is. ap (λ (l : List (Option Cell)). None ∷ l) (ranked_cells ms slot (input + 1) cells ranks rest is))
+    grind (arith, common_steps, after_ok, ranked_cells ms slot (input + 1) cells ranks)
 ranked_cells ms slot input (Some cell ∷ cells) ranks r h =
-    let rank = (machine_at ms cell.output).ranked (slice_index_or ranks cell.output []) cell.class in
-    let given =
-    slice_set ranks cell.output ((machine_at ms cell.output).given (slice_index_or ranks cell.output [])
-    cell.class) in
-    let q = keyed cell ((machine_at ms cell.output).level cell.class) rank slot input in
-    let rest = ranking ms slot (input + 1) cells given in
-    after_ok (λ r. map cell_here r.came ≡ Some cell ∷ cells) (Some q) rest r
-    (fits_ok (nat_lt rank (2 ^ 128)) (after_input (Some q) rest)
-    (record { slot = slot; input = input; output = cell.output }) r h)
-    (λ rest is. ap (λ (l : List (Option Cell)). Some cell ∷ l) (ranked_cells ms slot (input + 1) cells given rest is))
+    search (rules, after_ok, fits_ok, ranked_cells ms slot (input + 1) cells)
 
 -- ## One slot
 
@@ -206,27 +179,17 @@ pub record Counted (slot : ℕ) (cells : List (Option Cell)) (old : IdealState) 
 pub length-filled : (came : List (Option Queued)) (lists : List (List Queued)) →
     length (filled came lists) ≡ length lists
 unfolding filled
-length-filled came lists =
-    length-map-range_with_len (λ (k : ℕ). put_all k came (slice_index_or lists k [])) 0 (length lists)
+length-filled came lists = grind (arith, common_steps, length-map-range_with_len)
 
 pub filled_at : (came : List (Option Queued)) (lists : List (List Queued)) (j : ℕ) → j < length lists →
     slice_index_or (filled came lists) j [] ≡ put_all j came (slice_index_or lists j [])
 unfolding filled
-filled_at came lists j inside =
-    get_or-map-range_with_len (λ (k : ℕ). put_all k came (slice_index_or lists k [])) 0 (length lists) j j [] inside
-    (omega arith)
+filled_at came lists j inside = grind (arith, common_steps, get_or-map-range_with_len)
 
 -- each list then has the cells that came for its output beside its own
 pub filled_long : (came : List (Option Queued)) (lists : List (List Queued)) (j : ℕ) → j < length lists →
     length (slice_index_or (filled came lists) j []) ≡ length (slice_index_or lists j []) + count_to j came
-filled_long came lists j inside =
-    ap (λ (xs : List Queued). length xs) (filled_at came lists j inside)
-    ∙ length-put_all j came (slice_index_or lists j [])
-
--- what a list gives away, and what is left of it
-front_and_rest : (xs : List Queued) → cond (is_some (slice_get xs 0)) 1 0 + length (drop 1 xs) ≡ length xs
-front_and_rest [] = omega arith
-front_and_rest (x ∷ xs) = omega arith
+filled_long came lists j inside = grind (arith, common_steps, filled_at, length-put_all)
 
 left_of : (cells : List (Option Cell)) (old : IdealState) (r : Ranking) → map cell_here r.came ≡ cells → (j : ℕ) →
     j < length old.lists →
@@ -234,18 +197,7 @@ left_of : (cells : List (Option Cell)) (old : IdealState) (r : Ranking) → map 
     + length (slice_index_or (rests (filled r.came old.lists)) j [])
     ≡ length (slice_index_or old.lists j []) + count_for j cells
 left_of cells old r same j inside =
-    let lists = filled r.came old.lists in
-    let long : length lists ≡ length old.lists = length-filled r.came old.lists in
-    let none : Option Queued = None in
-    let here : j < length lists = omega arith in
-    let front = ap (λ (o : Option Queued). let n : ℕ = cond (is_some o) 1 0 in n)
-    (get_or-map (λ (xs : List Queued). slice_get xs 0) lists j [] none here) in
-    let rest = ap (λ (xs : List Queued). length xs)
-    (get_or-map (λ (xs : List Queued). drop 1 xs) lists j [] [] here) in
-    let split = front_and_rest (slice_index_or lists j []) in
-    let full = filled_long r.came old.lists j inside in
-    let count : count_to j r.came ≡ count_for j cells = count_to-cells j r.came ∙ ap (count_for j) same in
-    omega arith
+    grind (arith, common_steps, filled_long r.came old.lists j inside, count_to-cells j r.came)
 
 counted_sent : (ms : List Machine) (slot : ℕ) (cells : List (Option Cell)) (old : IdealState) (r : Ranking) →
     map cell_here r.came ≡ cells →
@@ -272,11 +224,7 @@ counted_sent ms slot cells old r same =
       left = left_of cells old r same;
       all = omega arith;
       fewer = omega arith;
-      departs = λ j inside some.
-          let full = filled_long r.came old.lists j inside in
-          let count : count_to j r.came ≡ count_for j cells = count_to-cells j r.came ∙ ap (count_for j) same in
-          let one = one_of_all lists j in
-          omega arith;
+      departs = search (arith, rules, filled_long r.came old.lists, count_to-cells, one_of_all lists);
     }
 
 pub sends_ok : (P : Sent → Type 0) (ms : List Machine) (old : IdealState) (x : Result Ranking TagFault) (sent : Sent) →
@@ -295,8 +243,7 @@ sends_ok P ms old (Err fault) sent h f = absurd (let P : ⊥ = cc in P)
 pub counted : (ms : List Machine) (slot : ℕ) (cells : List (Option Cell)) (old : IdealState) (sent : Sent) →
     ideal_slot ms slot cells old ≡ Ok sent → Counted slot cells old sent
 unfolding ideal_slot
-counted ms slot cells old sent h =
-    sends_ok (Counted slot cells old) ms old (ranking ms slot 0 cells old.ranks) sent h
+counted ms slot cells old sent h = sends_ok (Counted slot cells old) ms old (ranking ms slot 0 cells old.ranks) sent h
     (λ r is. counted_sent ms slot cells old r (ranked_cells ms slot 0 cells old.ranks r is))
 
 -- a slot in which no cell comes meets no fault

@@ -2,6 +2,7 @@
 -- A slot makes the first count greater by no more than the cells that come, and if then any cell waits, one at least
 -- is sent. So after the last slot with an arrival no more cells wait than came in all, and each later slot takes one
 -- of them.
+use Rattle.std.proofs.lemmas.Grind.{common_steps}
 use Rattle.std.proofs.Common.{◌≡◌, ℕ, zero, suc, ◌+◌, ◌≤◌, List, [], ◌∷◌, length, replicate, Option, Result, Ok, Err, refl, ap, arith}
 use Rattle.std.specs.Prelude.{All, IfOk}
 use Rattle.cq_base.specs.declared.cell.Cell.{Cell}
@@ -24,15 +25,13 @@ pub empties : (ms : List Machine) (traffic : List (List (Option Cell))) (slot e 
     ideal_run ms slot traffic s ≡ Ok ran → QuietAfter e traffic →
     waiting s.lists + come_count traffic + e ≤ length traffic → waiting ran.after.lists ≡ 0
 unfolding ideal_run come_count
-empties ms [] slot e s ran is quiet enough =
-    let left = ap (λ (r : Ran). waiting r.after.lists) (only_ok refl is) in omega arith
+empties ms [] slot e s ran is quiet enough = grind (arith, common_steps, waiting, only_ok)
 empties ms (cells ∷ traffic) slot e s ran is quiet enough =
     let p = first_slot ms slot cells traffic s ran is in
     let same = ap (λ (r : Ran). waiting r.after.lists) p.both in
-    let none =
-    drained e cells traffic (waiting s.lists) (waiting p.sent.after.lists) (waiting p.second.after.lists) quiet enough
-    (counted ms slot cells s p.sent p.ran_slot).fewer
-    (λ e' quiet' enough'. empties ms traffic (slot + 1) e' p.sent.after p.second p.ran_second quiet' enough') in
+    let none = drained e cells traffic (waiting s.lists) (waiting p.sent.after.lists) (waiting p.second.after.lists)
+    quiet enough (counted ms slot cells s p.sent p.ran_slot).fewer (λ e' quiet' enough'.
+    empties ms traffic (slot + 1) e' p.sent.after p.second p.ran_second quiet' enough') in
     omega arith
 
 pub waiting-empty : (ports : ℕ) → waiting (replicate ports []) ≡ 0

@@ -1,6 +1,7 @@
 -- What arrives in a slot is for the ports and of the classes, and each cell comes at its own input. It is found among
 -- all cells that come, and what holds of each of these holds of it.
-use Rattle.std.proofs.Common.{◌≡◌, ℕ, zero, suc, ◌+◌, ◌<◌, List, map, get_or, Option, Some, None, refl, sym, ap, ◌∙◌, subst, ⊎_elim, arith}
+use Rattle.std.proofs.lemmas.Grind.{common_steps}
+use Rattle.std.proofs.Common.{◌≡◌, ℕ, zero, suc, ◌+◌, ◌<◌, List, map, Some, None, arith, get_or, Option, sym, ap, ◌∙◌, ⊎_elim, subst}
 use Rattle.std.specs.List.{AllByRecursion, range_with_len}
 use Rattle.std.proofs.lemmas.Bool.{cases_lt}
 use Rattle.std.proofs.lemmas.List.{get_or_past}
@@ -24,10 +25,7 @@ record Fits (ports classes k : ℕ) (cell : Cell) : Type 0 where
 pub one_found : (P : Cell → Type 0) (came : List Arrival) (t k : ℕ) (cell : Cell) →
     AllByRecursion P (found came t k) → arriving_at came t k ≡ Some cell → P cell
 unfolding found
-one_found P came t k cell all is =
-    let one : AllByRecursion P (cell_listed (Some cell)) =
-    subst (λ (o : Option Cell). AllByRecursion P (cell_listed o)) is all in
-    one.0
+one_found P came t k cell all is = grind (arith, common_steps, cell_listed)
 
 arriving_fits : (ports classes : ℕ) (came : List Arrival) (t k : ℕ) (cell : Cell) →
     AllByRecursion (IsInRange ports classes) came → arriving_at came t k ≡ Some cell → Fits ports classes k cell
@@ -55,17 +53,7 @@ place_of came t input inputs cell are at =
 
 pub arrivals_for : (ports classes : ℕ) (came : List Arrival) (t : ℕ) → IsTraffic ports classes came →
     AreForPorts ports classes (arriving came t)
-arrivals_for ports classes came t traffic = record {
-  inputs =
-      λ input cell at. (arriving_fits ports classes came t input cell traffic.in_range
-      (place_of came t input 64 cell refl at)).input;
-  outputs =
-      λ input cell at. (arriving_fits ports classes came t input cell traffic.in_range
-      (place_of came t input 64 cell refl at)).output;
-  classes =
-      λ input cell at. (arriving_fits ports classes came t input cell traffic.in_range
-      (place_of came t input 64 cell refl at)).class;
-}
+arrivals_for ports classes came t traffic = grind (arith, common_steps, arriving_fits, place_of)
 
 -- and so is what arrives in so many slots
 pub slots_fit : (ports classes : ℕ) (came : List Arrival) (slot n : ℕ) → IsTraffic ports classes came →

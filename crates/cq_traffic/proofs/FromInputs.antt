@@ -1,5 +1,6 @@
 -- What is still to come at one input. Each arrival adds one cell at most to what comes at its input.
-use Rattle.std.proofs.Common.{◌≡◌, ℕ, zero, suc, ◌+◌, ◌≤◌, Bool, true, false, cond, List, [], ◌∷◌, ◌++◌, length, Option, Some, None, refl, sym, ap, ⊎_elim, arith}
+use Rattle.std.proofs.lemmas.Grind.{common_steps}
+use Rattle.std.proofs.Common.{◌≡◌, ℕ, zero, suc, ◌+◌, ◌≤◌, Bool, true, false, cond, List, [], ◌∷◌, ◌++◌, length, Option, Some, None, refl, sym, ap, arith}
 use Rattle.std.specs.Prelude.{is_some}
 use Rattle.std.specs.List.{filter}
 use Rattle.std.proofs.lemmas.Bool.{cases_eq, eq-eqb}
@@ -39,33 +40,17 @@ module _ (i : ℕ) where
   pub from_last : (came : List Arrival) (slot n : ℕ) →
       come_from i came slot (suc n) ≡ come_from i came slot n + length (found came (slot + n) i)
   unfolding come_from total
-  from_last came slot zero =
-      let at : slot ≡ slot + 0 = omega arith in
-      let same = ap (λ (t : ℕ). length (found came t i)) at in
-      omega arith
-  from_last came slot (suc n) =
-      let rest = from_last came (slot + 1) n in
-      let at : slot + 1 + n ≡ slot + suc n = omega arith in
-      let same = ap (λ (t : ℕ). length (found came t i)) at in
-      omega arith
+  from_last came slot zero = grind (arith, common_steps, found)
+  from_last came slot (suc n) = grind (arith, common_steps, found, from_last came (slot + 1) n)
 
   one_more : (a : Arrival) (came : List Arrival) →
       length (found (a ∷ came) a.slot i) ≤ length (found came a.slot i) + bit (is_from i a)
-  one_more a came =
-      ⊎_elim
-      (λ e.
-      let one : length (found (a ∷ came) a.slot i) ≡ 1 = ap length (found_here a came a.slot i refl e) in
-      let is : bit (is_from i a) ≡ 1 = ap bit (eq-eqb a.cell.id.input i e) in
-      omega arith)
-      (λ ne. let same : length (found (a ∷ came) a.slot i) ≡ length (found came a.slot i) = ap length
-      (other_input a came a.slot i ne) in omega arith)
-      (cases_eq a.cell.id.input i)
+  one_more a came = grind (arith, common_steps, found, found_here, eq-eqb, other_input, cases_eq)
 
   pub no_more_from : (came : List Arrival) (n : ℕ) → come_from i came 0 n ≤ number_of (is_from i) came
   unfolding come_from
   no_more_from [] n =
-      let none = total_none (λ t. length (found [] t i)) 0 n (λ t. ap length (found_none [] t i tt)) in
-      omega arith
+      let none = total_none (λ t. length (found [] t i)) 0 n (λ t. ap length (found_none [] t i tt)) in omega arith
   no_more_from (a ∷ came) n =
       let more =
       total_more (λ t. length (found (a ∷ came) t i)) (λ t. length (found came t i)) a.slot (bit (is_from i a)) 0 n

@@ -37,11 +37,8 @@ before_end (a ∷ came) slot (inl here) = omega arith
 before_end (a ∷ came) slot (inr later) = let rest = before_end came slot later in omega arith
 
 no_stretch : (came : List Arrival) (slot : ℕ) → IsQuiet came slot slot
-no_stretch came slot = record {
-  late = omega arith;
-  none = λ t from to. absurd (omega arith);
-  more = λ later. absurd (omega arith);
-}
+no_stretch came slot =
+    record { late = omega arith; none = λ t from to. absurd (omega arith); more = λ later. absurd (omega arith) }
 
 quiet_to_first : (came : List Arrival) (slot next : ℕ) → IsFirstFrom came slot next → IsQuiet came slot next
 quiet_to_first came slot next is = record {
@@ -55,8 +52,7 @@ quiet_to_first came slot next is = record {
 
 -- none arrives up to the next arrival, or up to the slot itself
 pub quiet_of : {came : List Arrival} {slot next : ℕ} → IsQuietUntil came slot next → IsQuiet came slot next
-quiet_of {came} {slot} {next} is =
-    ⊎_elim (λ more. quiet_to_first came slot next (is.first more))
+quiet_of {came} {slot} {next} is = ⊎_elim (λ more. quiet_to_first came slot next (is.first more))
     (λ over. subst (λ (n : ℕ). IsQuiet came slot n) (sym (is.over over)) (no_stretch came slot))
     (cases_lt slot (end_of came))
 
@@ -66,10 +62,8 @@ ends_before (a ∷ came) slot all = let rest = ends_before came slot all.1 in le
 
 pub until_next : (came : List Arrival) (slot : ℕ) (next : Option ℕ) → IsNextArrival came slot next →
     IsQuietUntil came slot (unwrap_or next slot)
-until_next came slot None all = record {
-  first = λ more. absurd (let over = ends_before came slot all in omega arith);
-  over = λ _. refl;
-}
+until_next came slot None all =
+    record { first = λ more. absurd (let over = ends_before came slot all in omega arith); over = λ _. refl }
 until_next came slot (Some next) is = record {
   first = λ _. is;
   over = λ over. absurd (let late = is.late in let more = before_end came next is.arrives in omega arith);
@@ -78,12 +72,10 @@ until_next came slot (Some next) is = record {
 -- up to a slot that is no later than the next arrival none arrives
 pub none_up_to : (came : List Arrival) (slot n : ℕ) (next : Option ℕ) → IsNextArrival came slot next →
     n ≤ unwrap_or next n → (t : ℕ) → slot ≤ t → t < n → arriving came t ≡ no_arrivals
-none_up_to came slot n None all le t from to =
-    none_arrive came t 64 refl
+none_up_to came slot n None all le t from to = none_arrive came t 64 refl
     (all_each (λ (a : Arrival). a.slot < slot) (λ (a : Arrival). a.slot ≡ t → ⊥) came (λ a had at. omega arith) all)
-none_up_to came slot n (Some next) is le t from to =
-    none_arrive came t 64 refl
-    (all_each (λ (a : Arrival). slot ≤ a.slot → next ≤ a.slot) (λ (a : Arrival). a.slot ≡ t → ⊥) came
+none_up_to came slot n (Some next) is le t from to = none_arrive came t 64 refl (all_each
+    (λ (a : Arrival). slot ≤ a.slot → next ≤ a.slot) (λ (a : Arrival). a.slot ≡ t → ⊥) came
     (λ a had at. let later = had (omega arith) in omega arith) is.none_before)
 
 -- the next arrival, but no later than the last slot
@@ -114,8 +106,7 @@ pub quiet_slots : (came : List Arrival) (slot k : ℕ) →
     arriving_from came slot k ≡ replicate k no_arrivals
 unfolding arriving_from
 quiet_slots came slot zero quiet = refl
-quiet_slots came slot (suc k) quiet =
-    ap (λ (cells : List (Option Cell)). cells ∷ arriving_from came (slot + 1) k)
+quiet_slots came slot (suc k) quiet = ap (λ (cells : List (Option Cell)). cells ∷ arriving_from came (slot + 1) k)
     (quiet slot (omega arith) (omega arith))
     ∙ ap (λ (l : List (List (Option Cell))). no_arrivals ∷ l)
     (quiet_slots came (slot + 1) k (λ t from to. quiet t (omega arith) (omega arith)))

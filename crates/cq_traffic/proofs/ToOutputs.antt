@@ -1,5 +1,6 @@
 -- What is still to come for one output. Each arrival adds one cell at most to what comes, at its slot and input, and
 -- only to what comes for its output. So no more cells come for an output than there are arrivals for it.
+use Rattle.std.proofs.lemmas.Grind.{common_steps}
 use Rattle.std.proofs.Common.{◌≡◌, ℕ, zero, suc, ◌+◌, ◌≤◌, Bool, true, false, cond, List, [], ◌∷◌, ◌++◌, length, map, Option, Some, None, refl, sym, ap, ◌∙◌, arith}
 use Rattle.std.specs.Prelude.{◌==◌}
 use Rattle.std.specs.List.{range_with_len, filter}
@@ -33,10 +34,7 @@ come_for-append j (cells ∷ before) after = let rest = come_for-append j before
 pub for_last : (j : ℕ) (came : List Arrival) (slot : ℕ) →
     come_for j (first_slots came (slot + 1)) ≡ come_for j (first_slots came slot) + count_for j (arriving came slot)
 unfolding come_for
-for_last j came slot =
-    let more = ap (come_for j) (first_more came slot) in
-    let both = come_for-append j (first_slots came slot) (arriving came slot ∷ []) in
-    omega arith
+for_last j came slot = grind (arith, common_steps, first_more, come_for-append)
 
 -- how many of these cells are for the output
 count_to : ℕ → List Cell → ℕ
@@ -54,10 +52,7 @@ module _ (j : ℕ) where
       count_for j (map (arriving_at came t) (range_with_len a n)) ≡ total (λ k. count_to j (found came t k)) a n
   unfolding total found
   count_in_places came t a zero = refl
-  count_in_places came t a (suc n) =
-      let here = count_for-cons (arriving_at came t a) (map (arriving_at came t) (range_with_len (a + 1) n)) in
-      let rest = count_in_places came t (a + 1) n in
-      omega arith
+  count_in_places came t a (suc n) = grind (arith, common_steps, count_for-cons, count_in_places came t (a + 1) n)
 
   module _ (inputs : ℕ) (are : inputs ≡ 64) where
     -- the cells for the output that come in a slot
@@ -82,8 +77,7 @@ module _ (j : ℕ) where
     no_more_than : (came : List Arrival) (n : ℕ) → total (in_slot came) 0 n ≤ number_of (is_to j) came
     unfolding in_slot count_to
     no_more_than [] n =
-        let none =
-        total_none (in_slot []) 0 n (λ t. total_none (λ k. count_to j (found [] t k)) 0 inputs
+        let none = total_none (in_slot []) 0 n (λ t. total_none (λ k. count_to j (found [] t k)) 0 inputs
         (λ k. ap (count_to j) (found_none [] t k tt))) in
         omega arith
     no_more_than (a ∷ came) n =
@@ -110,12 +104,9 @@ module _ (j : ℕ) where
   pub come_for-traffic_of : (came : List Arrival) → come_for j (traffic_of came) ≤ number_of (is_to j) came
   unfolding traffic_of
   come_for-traffic_of came =
-      let count = count_from 64 refl came 0 (enough came) in
-      let few = no_more_than 64 refl came (enough came) in
-      omega arith
+      omega (arith, count_from 64 refl came 0 (enough came), no_more_than 64 refl came (enough came))
 
   -- so it is in any number of slots
   pub no_more_to : (came : List Arrival) (n : ℕ) → come_for j (first_slots came n) ≤ number_of (is_to j) came
   unfolding arriving_from
-  no_more_to came n =
-      let count = count_from 64 refl came 0 n in let few = no_more_than 64 refl came n in omega arith
+  no_more_to came n = omega (arith, count_from 64 refl came 0 n, no_more_than 64 refl came n)

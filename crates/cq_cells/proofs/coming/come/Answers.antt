@@ -1,4 +1,4 @@
-use Rattle.std.proofs.Common.{◌≡◌, ◌+◌, List, [], Option, option_map, slice_index_or, ap, sym, ◌∙◌, subst, arith}
+use Rattle.std.proofs.Common.{rules, ◌≡◌, ◌+◌, List, [], Option, option_map, slice_index_or, ap, sym, ◌∙◌, subst, arith}
 use Rattle.std.specs.Prelude.{ℕ}
 use Rattle.std.specs.List.{find}
 use Rattle.std.proofs.lemmas.List.{get_or_read}
@@ -24,9 +24,8 @@ put-requires-clause-own c =
     let i = c.lines.input in
     let line : c.index-lines-input.result ≡ slice_index_or lines i [] =
     get_or_read lines i _ c.lines-test.true c.index-lines-input.is [] in
-    own_if c.cell_near-cell.result i
-    (λ cell is. comes_to_own c.args.slot i lines cell c.requires.own c.lines-test.true
-    (sym (ap (shown c.args.slot) line) ∙ sym c.cell_near-cell.ensures ∙ is))
+    own_if c.cell_near-cell.result i (λ cell is. comes_to_own c.args.slot i lines cell c.requires.own
+    c.lines-test.true (sym (ap (shown c.args.slot) line) ∙ sym c.cell_near-cell.ensures ∙ is))
 
 pub lines-preserved : goal.lines-preserved
 lines-preserved c =
@@ -39,20 +38,12 @@ lines-preserved c =
     let few = c.requires.few in
     let inside = c.lines-test.true in
     subst (λ (now : List (Option Cell)). Filling (all_of lines) c.args.slot (i + 1) c.args.arrivals.now now)
-    (sym c.put.ensures)
-    (filling_next (all_of lines) c.args.slot i c.args.arrivals.now c.lines.arrivals c.cell_near-cell.result
-    c.lines.invariant (omega arith)
-    (c.cell_near-cell.ensures ∙ ap (shown c.args.slot) line
-    ∙ sym (arriving_at_line c.args.slot i lines c.requires.own inside)))
+    (sym c.put.ensures) (filling_next (all_of lines) c.args.slot i c.args.arrivals.now c.lines.arrivals
+    c.cell_near-cell.result c.lines.invariant (omega arith) (c.cell_near-cell.ensures
+    ∙ ap (shown c.args.slot) line ∙ sym (arriving_at_line c.args.slot i lines c.requires.own inside)))
 
 pub returns-clause-cells : goal.returns-clause-cells
-returns-clause-cells c =
-    let past = c.lines-test.false in
-    all_filled c.args.lines.now c.args.slot c.lines.input c.args.arrivals.now c.lines.arrivals c.requires.own
-    (omega arith) c.requires.stand c.lines.invariant
+returns-clause-cells c = search (arith, rules, all_filled)
 
 pub returns-clause-stand : goal.returns-clause-stand
-returns-clause-stand c =
-    let past = c.lines-test.false in
-    still_stand c.args.lines.now c.args.slot c.lines.input c.args.arrivals.now c.lines.arrivals c.requires.own
-    (omega arith) c.requires.stand c.lines.invariant
+returns-clause-stand c = search (arith, rules, still_stand)

@@ -1,5 +1,4 @@
-use Rattle.std.proofs.Common.{◌≡◌, Option, None, refl, sym, ap, ◌∙◌, ⊎_elim, arith}
-use Rattle.std.specs.Prelude.{is_some}
+use Rattle.std.proofs.Common.{rules, ◌≡◌, Option, None, refl, sym, ◌∙◌, ⊎_elim, arith}
 use Rattle.std.proofs.lemmas.Bool.{cases_lt, true≢false}
 use Rattle.std.proofs.lemmas.List.{ext_get_or, length-replicate}
 use Rattle.std.proofs.lemmas.Option.{unwrap_or-slice_get}
@@ -12,13 +11,7 @@ pub inputs-init : goal.inputs-init
 inputs-init c = λ i before. absurd (omega arith)
 
 pub returns-then-is_some : goal.returns-then-is_some
-returns-then-is_some c = (
-  λ no. absurd (true≢false (sym no)),
-  λ none.
-      let here : c.at.result ≡ None =
-      c.at.ensures.answer ∙ ap (λ l. arrival_at l c.inputs.input) none ∙ arrival_at-no_arrivals c.inputs.input in
-      sym (sym c.if-is_some.true ∙ c.is_some.ensures ∙ ap (λ (o : Option Cell). is_some o) here),
-)
+returns-then-is_some c = search (arith, rules, true≢false, arrival_at-no_arrivals c.inputs.input)
 
 pub returns : goal.returns
 returns c = (
@@ -28,12 +21,10 @@ returns c = (
       let past = c.inputs-test.false in
       let places = c.requires.places in
       let size = length-replicate 64 nobody in
-      ext_get_or nobody cells no_arrivals (omega arith)
-      (λ i inside.
-      let here : arrival_at cells i ≡ None =
-      ⊎_elim (λ below. c.inputs.invariant i (omega arith)) (λ from. c.requires.beyond i from)
-      (cases_lt i c.args.ports) in
-      sym (unwrap_or-slice_get cells i nobody) ∙ here
-      ∙ sym (arrival_at-no_arrivals i) ∙ unwrap_or-slice_get no_arrivals i nobody),
+      ext_get_or nobody cells no_arrivals (omega arith) (λ i inside.
+      let here : arrival_at cells i ≡ None = ⊎_elim (λ below. c.inputs.invariant i (omega arith))
+      (λ from. c.requires.beyond i from) (cases_lt i c.args.ports) in
+      sym (unwrap_or-slice_get cells i nobody) ∙ here ∙ sym (arrival_at-no_arrivals i)
+      ∙ unwrap_or-slice_get no_arrivals i nobody),
   λ _. refl,
 )

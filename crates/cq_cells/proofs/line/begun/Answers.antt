@@ -6,8 +6,7 @@ use Rattle.cq_cells.proofs.line.begun.Goals as goal
 
 pub returns-clause-begun : goal.returns-clause-begun
 returns-clause-begun c =
-    let point =
-    IsPartitionPoint-from_clause (λ (row : Row). leb row.start c.args.slot) c.args.rows.now
+    let point = IsPartitionPoint-from_clause (λ (row : Row). leb row.start c.args.slot) c.args.rows.now
     c.partition_point.result c.partition_point.ensures.partitioned
     (IsPartitionedBy-leb (λ (row : Row). row.start) c.args.rows.now c.args.slot c.requires)
     (λ a r q k. search (rules, tests)) in

@@ -18,11 +18,10 @@ collect-requires-clause-ready g c κs within =
     let ends = c.into_par_iter.ensures in
     let many : length c.rows-packets.result.now ≡ length ps =
     ap (λ (rows : List PacketRow). length rows) c.rows-packets.ensures.rows ∙ length-rows_from 24 ps in
-    let inside =
-    nat_range-All (λ k. k < length ps) 0 (length c.rows-packets.result.now)
-    (λ k low high. omega (arith, many, high)) in
-    rw (c.map.ensures.base, c.map.ensures.f, c.with_min_len.ensures.base, ends.0, ends.1)
-    (λ k d lt. ((inside k d lt, c.requires), λ y p. tt))
+    let inside = nat_range-All (λ k. k < length ps) 0 (length c.rows-packets.result.now) (λ k low high.
+    omega (arith, many, high)) in
+    rw (c.map.ensures.base, c.map.ensures.f, c.with_min_len.ensures.base, ends.0, ends.1) (λ k d lt.
+    ((inside k d lt, c.requires), λ y p. tt))
 
 pub returns : goal.returns
 returns g c =

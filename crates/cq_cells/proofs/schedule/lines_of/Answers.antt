@@ -1,23 +1,19 @@
-use Rattle.std.proofs.Common.{◌≡◌, ℕ, ◌+◌, ◌^◌, ◌≤◌, List, [], ◌∷◌, ◌++◌, length, map, inl, inr, subst, ap, sym, ◌∙◌, arith}
-use Rattle.std.specs.List.{range_with_len}
+use Rattle.std.proofs.Common.{rules, arith, ◌≡◌, ℕ, ◌+◌, ◌^◌, ◌≤◌, List, [], ◌∷◌, ◌++◌, length, map, inl, inr, subst, ap, sym, ◌∙◌}
 use Rattle.std.proofs.lemmas.Bool.{cases_eq}
 use Rattle.std.proofs.lemmas.List.{append-nil}
 use Rattle.std.proofs.lemmas.List.Concat.{flat_map-append}
 use Rattle.std.proofs.lemmas.List.FromFn.{map-range_with_len_more}
+use Rattle.cq_cells.proofs.Laid.{filter_few}
+use Rattle.cq_cells.proofs.Packets.{number-append}
+use Rattle.cq_cells.proofs.schedule.lines_of.Goals as goal
+use Rattle.std.specs.List.{range_with_len}
 use Rattle.cq_base.specs.Arriving.{Arrival}
 use Rattle.cq_cells.specs.Lines.{all_of}
 use Rattle.cq_cells.specs.Schedule.{arrivals_at, packets_of}
 use Rattle.cq_cells.specs.Traffic.{IsRecorded, is_to, number_of}
-use Rattle.cq_cells.proofs.Laid.{filter_few}
-use Rattle.cq_cells.proofs.Packets.{number-append}
-use Rattle.cq_cells.proofs.schedule.lines_of.Goals as goal
 
 pub of-requires-clause-room : goal.of-requires-clause-room
-of-requires-clause-room g c j h =
-    let ports = c.inputs.invariant.ports in
-    let small = c.inputs.invariant.small j (omega arith) in
-    let most = c.requires.tables.setup.ports in
-    omega (arith, c.requires.captures, c.inputs-test.true)
+of-requires-clause-room g c j h = search (arith, rules, c.inputs.invariant.small)
 
 pub inputs-preserved : goal.inputs-preserved
 inputs-preserved g c =

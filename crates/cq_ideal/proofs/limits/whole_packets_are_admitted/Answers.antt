@@ -1,3 +1,4 @@
+use Rattle.std.proofs.Common.{arith, rules}
 use Rattle.cq_ideal.specs.Admission.{admission, marks_after}
 use Rattle.cq_ideal.proofs.Admitted.{admitted_at}
 use Rattle.cq_ideal.proofs.AtInput.{come_in_order}
@@ -10,13 +11,11 @@ unfolding admission
 returns-clause-by_mark c = λ limits held marks cells i. admitted_at (marks_after limits held marks cells) cells i
 
 pub returns-clause-run : goal.returns-clause-run
-returns-clause-run c =
-    λ limits ms slot traffic old ran i is packets. whole_packets limits i old.marks traffic ran.admissions
-    (judged limits ms slot traffic old ran is) packets
+returns-clause-run c = λ limits ms slot traffic old ran i is packets.
+    whole_packets limits i old.marks traffic ran.admissions (judged limits ms slot traffic old ran is) packets
 
 pub returns-clause-judged : goal.returns-clause-judged
-returns-clause-judged c =
-    λ limits marks traffic i admissions is packets. whole_packets limits i marks traffic admissions is packets
+returns-clause-judged c = search (arith, rules, whole_packets)
 
 pub returns-clause-in_order : goal.returns-clause-in_order
 returns-clause-in_order c = λ i came inside rise. come_in_order i inside came rise

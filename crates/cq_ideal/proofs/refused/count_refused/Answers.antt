@@ -1,21 +1,12 @@
-use Rattle.std.proofs.Common.{arith}
+use Rattle.std.proofs.Common.{rules, arith}
 use Rattle.cq_ideal.proofs.Counting.{can_count_here, tallied_next}
 use Rattle.cq_ideal.proofs.refused.count_refused.Goals as goal
 
 pub with_cell-requires-clause-packets : goal.with_cell-requires-clause-packets
-with_cell-requires-clause-packets c =
-    let test = c.outputs-test.true in
-    (can_count_here c.args.cell c.args.refused.now c.outputs.place c.outputs.refused c.outputs.invariant (omega
-    arith) _ c.requires).0
+with_cell-requires-clause-packets c = search (arith, rules, can_count_here)
 
 pub with_cell-requires-clause-cells : goal.with_cell-requires-clause-cells
-with_cell-requires-clause-cells c =
-    let test = c.outputs-test.true in
-    (can_count_here c.args.cell c.args.refused.now c.outputs.place c.outputs.refused c.outputs.invariant (omega
-    arith) _ c.requires).1
+with_cell-requires-clause-cells c = search (arith, rules, can_count_here)
 
 pub outputs-preserved : goal.outputs-preserved
-outputs-preserved c =
-    let test = c.outputs-test.true in
-    tallied_next c.args.cell c.args.refused.now c.outputs.place c.outputs.refused c.outputs.invariant (omega arith) _
-    c.with_cell.result c.with_cell.ensures
+outputs-preserved c = search (arith, rules, tallied_next)

@@ -1,8 +1,7 @@
-use Rattle.std.proofs.Common.{◌≡◌, ◌+◌, ◌++◌, map, length, refl, sym, ap, ◌∙◌, arith, append-nil}
+use Rattle.std.proofs.Common.{rules, ◌≡◌, ◌+◌, ◌++◌, length, sym, ap, ◌∙◌, arith, append-nil}
 use Rattle.std.proofs.lemmas.List.{length-map}
 use Rattle.cq_base.specs.declared.cell.Departure.{Departure}
 use Rattle.cq_base.specs.Room.{RoomView}
-use Rattle.cq_ideal.specs.IdealSlot.{fronts}
 use Rattle.cq_ideal.proofs.Holding.{SendsAll, holds_some, holds_without}
 use Rattle.cq_ideal.proofs.Sending.{Sending, sending_first, sending_next, sending_last, one_sent, length-told}
 use Rattle.cq_ideal.proofs.TakenIn.{fit_same}
@@ -10,49 +9,38 @@ use Rattle.cq_ideal.proofs.send.send.Goals as goal
 use Rattle.cq_ideal.proofs.send.send.Goals.{in-Some, in-None}
 
 pub outputs-init : goal.outputs-init
-outputs-init g c =
-    record {
-      sending = sending_first g.R.Rank.machine c.args.slot c.args.ranks.now c.args.queues.now c.args.sent.now
-          (omega arith);
-      holds = c.requires.holds;
-      judges = record { marks = refl; refused = refl; limits = refl };
-    }
+outputs-init g c = search (arith, rules, sending_first)
 
 pub sent-requires-clause-output : goal.sent-requires-clause-output
-sent-requires-clause-output g c =
-    let held = ap length c.outputs.invariant.holds.held in
-    let mapped = length-map c.outputs.queues.lists length in
-    omega arith
+sent-requires-clause-output g c = search (arith, rules, length-map)
 
 pub sent-requires-clause-holds : goal.sent-requires-clause-holds
 sent-requires-clause-holds g c =
-    holds_some c.outputs.queues.lists c.outputs.limiter c.outputs.output (omega arith) c.outputs.invariant.holds
-    c.pop-gone.result c.pop-gone.ensures.first
+    search (arith, rules, holds_some c.outputs.queues.lists c.outputs.limiter c.outputs.output)
 
 pub outputs-preserved : goal.outputs-preserved
 outputs-preserved g c =
     let inv = c.outputs.invariant.sending in
     let output = c.outputs.output in
     let gone = c.pop-gone.result in
-    let step : (sent : RoomView Departure) → sent.items ≡ c.outputs.sent.items ++ one_sent c.args.slot output gone →
-    sent.spare + length (one_sent c.args.slot output gone) ≡ c.outputs.sent.spare →
-    Sending g.R.Rank.machine c.args.slot c.args.ranks.now c.args.queues.now c.args.sent.now (output + 1)
+    let step : (sent : RoomView Departure) → sent.items ≡ c.outputs.sent.items ++ one_sent c.args.slot output gone
+    → sent.spare + length (one_sent c.args.slot output gone) ≡ c.outputs.sent.spare
+    → Sending g.R.Rank.machine c.args.slot c.args.ranks.now c.args.queues.now c.args.sent.now (output + 1)
     c.told.new.self c.pop-gone.new.self sent =
-    λ sent items spare.
-    sending_next g.R.Rank.machine c.args.slot c.args.ranks.now c.args.queues.now c.args.sent.now output
-    c.outputs.ranks c.outputs.queues c.outputs.sent gone c.told.new.self c.pop-gone.new.self sent inv
-    (omega arith) (omega arith) c.pop-gone.ensures.first c.pop-gone.ensures.lists c.pop-gone.ensures.rooms
-    c.told.ensures.fixed c.told.ensures.states items spare in
+    λ sent items spare. sending_next g.R.Rank.machine c.args.slot c.args.ranks.now c.args.queues.now
+    c.args.sent.now output c.outputs.ranks c.outputs.queues c.outputs.sent gone c.told.new.self
+    c.pop-gone.new.self sent inv (omega arith) (omega arith) c.pop-gone.ensures.first c.pop-gone.ensures.lists
+    c.pop-gone.ensures.rooms c.told.ensures.fixed c.told.ensures.states items spare in
     let was = c.outputs.invariant.judges in
-    let keep : (sent : RoomView Departure) → Sending g.R.Rank.machine c.args.slot c.args.ranks.now c.args.queues.now
-    c.args.sent.now (output + 1) c.told.new.self c.pop-gone.new.self sent →
-    SendsAll g.R.Rank.machine c.args.slot c.args.ranks.now c.args.queues.now c.args.limiter.now c.args.sent.now
-    (output + 1) c.told.new.self c.pop-gone.new.self c.sent.new.self sent =
-    λ sent sending. record {
+    let keep : (sent : RoomView Departure)
+    → Sending g.R.Rank.machine c.args.slot c.args.ranks.now c.args.queues.now c.args.sent.now (output + 1)
+    c.told.new.self c.pop-gone.new.self sent
+    → SendsAll g.R.Rank.machine c.args.slot c.args.ranks.now c.args.queues.now c.args.limiter.now c.args.sent.now
+    (output + 1) c.told.new.self c.pop-gone.new.self c.sent.new.self sent = λ sent sending. record {
       sending = sending;
-      holds = holds_without c.outputs.queues.lists c.outputs.limiter output (omega arith) c.outputs.invariant.holds
-          gone c.pop-gone.new.self.lists c.sent.new.self c.pop-gone.ensures.first c.pop-gone.ensures.lists
-          c.sent.ensures.held c.sent.ensures.limits;
+      holds = holds_without c.outputs.queues.lists c.outputs.limiter output (omega arith)
+          c.outputs.invariant.holds gone c.pop-gone.new.self.lists c.sent.new.self c.pop-gone.ensures.first
+          c.pop-gone.ensures.lists c.sent.ensures.held c.sent.ensures.limits;
       judges = record {
         marks = c.sent.ensures.marks ∙ was.marks;
         refused = c.sent.ensures.refused ∙ was.refused;
@@ -85,10 +73,4 @@ pub returns-clause-left : goal.returns-clause-left
 returns-clause-left g c = (sending_last c.requires.fit c.outputs.invariant.sending (omega arith)).left
 
 pub returns-clause-fit : goal.returns-clause-fit
-returns-clause-fit g c =
-    let inv = c.outputs.invariant.sending in
-    let ms = map g.R.Rank.machine c.args.ranks.now.fixed in
-    let told = returns-clause-told g c in
-    fit_same g.R.Rank.machine c.args.ranks.now c.outputs.ranks c.args.queues.now c.outputs.queues c.requires.fit
-    told.fixed (ap length told.states
-    ∙ length-told ms (fronts c.args.queues.now.lists) c.args.ranks.now.states) inv.kept.long inv.kept.rooms
+returns-clause-fit g c = search (arith, rules, returns-clause-told, fit_same, length-told)

@@ -1,4 +1,4 @@
-use Rattle.std.proofs.Common.{ℕ, ◌+◌, ◌<◌, [], length, slice_index_or, ap, ◌∙◌, arith}
+use Rattle.std.proofs.Common.{rules, slice_index_or, arith, ℕ, ◌+◌, ap, ◌∙◌, ◌<◌, length}
 use Rattle.std.proofs.lemmas.List.{get_or_read}
 use Rattle.cq_cells.proofs.Laid.{AreRead, AreSmall, IsMade, IsWhole, are_read, at_end, next_row, still_small}
 use Rattle.cq_cells.proofs.Packets.{so_far_more}
@@ -11,32 +11,19 @@ use Rattle.cq_cells.proofs.line.Line.of.Goals.{After-packets, After-row_of-row, 
 -- the packets are those of the input
 read : (c : After-rows-packets) →
     AreRead c.args.captures.now c.args.input c.index-captures-input.result c.rows-packets.result.now
-read c =
-    let packets = c.rows-packets.ensures in
-    are_read c.args.captures.now c.args.input c.index-captures-input.result c.rows-packets.result.now
-    (get_or_read c.args.captures.now c.args.input c.index-captures-input.result c.requires.place
-    c.index-captures-input.is [])
-    packets.rows packets.stamps packets.small
+read c = search (arith, rules, are_read, get_or_read)
 
 -- the row is that of the packet at which the loop stands
 made : (c : After-row_of-row) →
     AreRead c.args.captures.now c.args.input c.index-captures-input.result c.rows-packets.result.now →
     IsMade c.args.tables.now c.args.captures.now c.args.input c.packets.k c.row_of-row.result
-made c known =
-    let row = c.row_of-row.ensures in
-    next_row c.args.tables.now c.args.captures.now c.args.input c.packets.k c.index-captures-input.result
-    c.rows-packets.result.now c.args.routes.now c.row_of-row.result c.args.first_stamp c.packets.free
-    c.requires.tables known c.packets-test.true c.requires.routes c.requires.first_stamp
-    c.packets.invariant.so_far.ended row.start row.cells row.route row.len
+made c known = search (arith, rules, next_row)
 
 -- and with its cells the counts stay small
 small : (c : After-row_of-row) →
     AreRead c.args.captures.now c.args.input c.index-captures-input.result c.rows-packets.result.now →
     AreSmall c.row_of-row.result c.packets.cells c.args.to_output.now c.packets.to_output
-small c known =
-    still_small c.args.tables.now c.args.captures.now c.args.input c.packets.k c.packets.rows.items c.packets.free
-    c.packets.cells c.args.to_output.now c.packets.to_output c.row_of-row.result c.requires.tables.cell_bytes.0
-    known.recorded (made c known) c.packets.invariant.so_far
+small c known = search (arith, rules, still_small, made)
 
 -- in the end the line stands whole
 whole : (c : After-packets) →
@@ -98,10 +85,7 @@ overflow_add-to_output c =
     omega (arith, c.from-in-packets.ensures)
 
 pub push_reserved-requires : goal.push_reserved-requires
-push_reserved-requires c =
-    let room = c.packets.invariant.room in
-    let filled = c.packets.invariant.filled in
-    omega (arith, c.packets-test.true)
+push_reserved-requires c = search (arith, rules)
 
 pub packets-preserved : goal.packets-preserved
 packets-preserved c =
@@ -130,8 +114,7 @@ invariant_of-result c =
 
 pub returns-clause-line : goal.returns-clause-line
 returns-clause-line c =
-    let at = goal.at.returns-clause-line c in
-    (whole at.After-packets (read at.After-rows-packets)).line
+    let at = goal.at.returns-clause-line c in (whole at.After-packets (read at.After-rows-packets)).line
 
 pub returns-clause-few : goal.returns-clause-few
 returns-clause-few c =
@@ -143,5 +126,4 @@ returns-clause-few c =
 
 pub returns-clause-counts : goal.returns-clause-counts
 returns-clause-counts c =
-    let at = goal.at.returns-clause-counts c in
-    (whole at.After-packets (read at.After-rows-packets)).each
+    let at = goal.at.returns-clause-counts c in (whole at.After-packets (read at.After-rows-packets)).each

@@ -1,4 +1,4 @@
-use Rattle.std.proofs.Common.{◌≡◌, ℕ, ◌+◌, ◌≤◌, List, [], length, get_or, map, sym, ap, refl, ◌∙◌, subst, arith}
+use Rattle.std.proofs.Common.{rules, ◌≡◌, ℕ, ◌+◌, ◌≤◌, List, [], length, get_or, map, sym, ap, refl, ◌∙◌, subst, arith}
 use Rattle.std.specs.Prelude.{Bool}
 use Rattle.cq_ideal.specs.Admission.{admitted, marked, refused}
 use Rattle.cq_ideal.specs.Ideal.{IdealSwitch, answer_to}
@@ -15,14 +15,10 @@ use Rattle.cq_ideal.proofs.ideal.Ideal.slot.Goals.{After-self}
 known : (g : given.Over) (c : After-self g) →
     Begun g.R.Rank.machine c.args.slot c.args.arrivals.now c.args.self.now c.self.inside.ranks c.self.inside.queues
     c.self.inside.limiter c.args.sent.now
-known g c =
-    begun g.R.Rank.machine c.args.slot c.args.arrivals.now c.args.self.now c.self.inside.ranks c.self.inside.queues
-    c.self.inside.limiter c.args.sent.now c.self.inside.next c.self.inside.stopped c.self.view_is c.self.invariant
-    c.requires
+known g c = search (arith, rules, begun)
 
 pub take_in-requires : goal.take_in-requires
-take_in-requires g c =
-    can_take_in (known g (goal.at.take_in-requires g c).After-self) c.len.ensures.within c.len.ensures.few
+take_in-requires g c = search (arith, rules, can_take_in, known g (goal.at.take_in-requires g c).After-self)
 
 pub arrive-requires : goal.arrive-requires
 arrive-requires g c =
@@ -38,10 +34,9 @@ arrive-requires g c =
     }
 
 pub send-requires-clause-fit : goal.send-requires-clause-fit
-send-requires-clause-fit g c =
-    fit_then (known g (goal.at.send-requires-clause-fit g c).After-self) c.take_in.ensures.judged
-    c.in_default.ensures.taken c.arrive.new.self c.arrive.ensures.lists c.take_in.ensures.fixed
-    c.take_in.ensures.many c.arrive.ensures.rooms
+send-requires-clause-fit g c = fit_then (known g (goal.at.send-requires-clause-fit g c).After-self)
+    c.take_in.ensures.judged c.in_default.ensures.taken c.arrive.new.self c.arrive.ensures.lists
+    c.take_in.ensures.fixed c.take_in.ensures.many c.arrive.ensures.rooms
 
 pub send-requires-clause-holds : goal.send-requires-clause-holds
 send-requires-clause-holds g c =
@@ -75,28 +70,14 @@ returns-in-Err-clause-answer g c =
     c.take_in.ensures.judged c.in-Err.ensures.fault))
 
 pub returns-in-Err-clause-slot : goal.returns-in-Err-clause-slot
-returns-in-Err-clause-slot g c =
-    nothing_done _ c.in-Err.fault _ (limited_fault (known g (goal.at.returns-in-Err-clause-slot g c).After-self)
-    c.take_in.ensures.judged c.in-Err.ensures.fault)
+returns-in-Err-clause-slot g c = nothing_done _ c.in-Err.fault _ (limited_fault
+    (known g (goal.at.returns-in-Err-clause-slot g c).After-self) c.take_in.ensures.judged c.in-Err.ensures.fault)
 
 pub returns-in-Err-clause-unchanged : goal.returns-in-Err-clause-unchanged
-returns-in-Err-clause-unchanged g c =
-    let begins = known g (goal.at.returns-in-Err-clause-unchanged g c).After-self in
-    record {
-      sent = refl;
-      lists = ap (λ (s : IdealState). s.lists) begins.state;
-      refused = c.in-Err.ensures.stays ∙ begins.refused;
-      next = ap (λ (v : IdealSwitch). v.next) c.self.view_is;
-    }
+returns-in-Err-clause-unchanged g c = search (arith, rules, known)
 
 pub returns-in-Err-clause-same : goal.returns-in-Err-clause-same
-returns-in-Err-clause-same g c =
-    let begins = known g (goal.at.returns-in-Err-clause-same g c).After-self in
-    record {
-      fixed = c.take_in.ensures.fixed ∙ begins.fixed;
-      limits = c.take_in.ensures.judged.limits ∙ begins.limits;
-      rooms = begins.rooms;
-    }
+returns-in-Err-clause-same g c = search (arith, rules, known)
 
 pub returns-clause-answer : goal.returns-clause-answer
 returns-clause-answer g c =
@@ -114,8 +95,8 @@ returns-clause-slot g c =
     let lists = ap (λ (s : IdealState). s.lists) begins.state in
     let within = subst (λ l. (j : ℕ) → length (get_or l j []) ≤ get_or c.self.inside.queues.rooms j 0) lists
     c.len.ensures.within in
-    let held = subst (λ r. (j : ℕ) → length (get_or c.args.self.now.state.lists j []) ≤ get_or r j 0) begins.rooms
-    within in
+    let held =
+    subst (λ r. (j : ℕ) → length (get_or c.args.self.now.state.lists j []) ≤ get_or r j 0) begins.rooms within in
     let new : IdealSwitch = record {
       fixed = c.send.new.ranks.fixed;
       limits = c.send.new.limiter.limits;
@@ -127,30 +108,20 @@ returns-clause-slot g c =
       stopped = c.self.inside.stopped;
     } in
     done _ _ _ (limited_ok begins c.take_in.ensures.judged c.in_default.ensures.taken c.arrive.new.self
-    c.arrive.ensures.lists c.take_in.ensures.fixed)
-    (record {
-      state =
-          ap (λ (m : List Bool). marked m left) c.send.ensures.judges.marks
+    c.arrive.ensures.lists c.take_in.ensures.fixed) (record {
+      state = ap (λ (m : List Bool). marked m left) c.send.ensures.judges.marks
           ∙ ap (λ (s : IdealState). marked marks s) state;
       sent = c.send.ensures.left;
       spare =
           spare_follows _ c.args.slot (admitted marks cells) c.args.self.now new _ (admitted_room begins marks)
           (ap length (sym lists) ∙ inv.lists ∙ sym inv.rooms ∙ ap length begins.rooms) held
-          (c.send.ensures.gone.rooms ∙ c.arrive.ensures.rooms ∙ begins.rooms)
-          (admitted_ok begins c.take_in.ensures.judged c.in_default.ensures.taken c.arrive.new.self
-          c.arrive.ensures.lists c.take_in.ensures.fixed)
-          state;
-      refused =
-          c.send.ensures.judges.refused ∙ c.in_default.ensures.taken.refused
+          (c.send.ensures.gone.rooms ∙ c.arrive.ensures.rooms ∙ begins.rooms) (admitted_ok begins
+          c.take_in.ensures.judged c.in_default.ensures.taken c.arrive.new.self c.arrive.ensures.lists
+          c.take_in.ensures.fixed) state;
+      refused = c.send.ensures.judges.refused ∙ c.in_default.ensures.taken.refused
           ∙ ap (with_refused (refused marks cells)) begins.refused;
       next = refl;
     })
 
 pub returns-clause-same : goal.returns-clause-same
-returns-clause-same g c =
-    let begins = known g (goal.at.returns-clause-same g c).After-self in
-    record {
-      fixed = c.send.ensures.told.fixed ∙ c.take_in.ensures.fixed ∙ begins.fixed;
-      limits = c.send.ensures.judges.limits ∙ c.take_in.ensures.judged.limits ∙ begins.limits;
-      rooms = c.send.ensures.gone.rooms ∙ c.arrive.ensures.rooms ∙ begins.rooms;
-    }
+returns-clause-same g c = search (arith, rules, known)

@@ -1,4 +1,4 @@
-use Rattle.std.proofs.Common.{Some, false, get_or, drop, ◌+◌, ◌∷◌, refl, sym, ap, ◌∙◌, subst, arith}
+use Rattle.std.proofs.Common.{rules, Some, false, get_or, drop, ◌+◌, ◌∷◌, refl, sym, ap, ◌∙◌, subst, arith}
 use Rattle.std.specs.Prelude.{Option}
 use Rattle.cq_base.specs.declared.cell.Cell.{Cell}
 use Rattle.cq_ideal.specs.Admission.{mark_after}
@@ -12,12 +12,7 @@ inputs-init c = judging_first c.args.arrivals.now c.args.self.now
 
 pub turn-requires-clause-few : goal.turn-requires-clause-few
 turn-requires-clause-few c =
-    let cell = c.in-Some.cell in
-    let at = sym c.in-Some.is ∙ c.at.ensures.answer in
-    let here = from_input c.args.arrivals.now c.inputs.input (Some cell) c.at.ensures.arrivals.places (omega arith)
-    at in
-    one_more_fits c.args.arrivals.now c.args.self.now c.inputs.input c.inputs.self cell _ c.inputs.invariant here
-    (c.requires.held cell.output (c.requires.arrivals.outputs c.inputs.input cell (sym at)))
+    search (arith, rules, from_input, one_more_fits, c.requires.held, c.requires.arrivals.outputs)
 
 pub inputs-preserved : goal.inputs-preserved
 inputs-preserved c =
@@ -43,13 +38,10 @@ inputs-preserved c =
     ]
 
 pub returns-clause-marks : goal.returns-clause-marks
-returns-clause-marks c =
-    (judged_last c.inputs.invariant c.len-ports.ensures.ports c.requires.arrivals (omega arith)).marks
+returns-clause-marks c = search (arith, rules, judged_last)
 
 pub returns-clause-held : goal.returns-clause-held
-returns-clause-held c =
-    λ j inside. (judged_last c.inputs.invariant c.len-ports.ensures.ports c.requires.arrivals (omega arith)).held j
+returns-clause-held c = search (arith, rules, judged_last)
 
 pub returns-clause-ports : goal.returns-clause-ports
-returns-clause-ports c =
-    (judged_last c.inputs.invariant c.len-ports.ensures.ports c.requires.arrivals (omega arith)).ports
+returns-clause-ports c = search (arith, rules, judged_last)

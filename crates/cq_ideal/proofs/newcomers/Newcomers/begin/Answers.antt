@@ -1,14 +1,9 @@
-use Rattle.std.proofs.Common.{List, Option, None, get_or, sym, ap, ◌∙◌, arith}
-use Rattle.cq_base.specs.declared.cell.Queued.{Queued}
+use Rattle.std.proofs.Common.{arith}
 use Rattle.cq_ideal.proofs.UsedPlaces.{none_used}
 use Rattle.cq_ideal.proofs.newcomers.Newcomers.begin.Goals as goal
 
 pub returns-then-self-inputs-clause-beyond : goal.returns-then-self-inputs-clause-beyond
-returns-then-self-inputs-clause-beyond c k from =
-    let few = c.if-self-inputs.true in
-    let none : Option Queued = None in
-    sym (ap (λ (places : List (Option Queued)). get_or places k none) c.self.view_is)
-    ∙ c.self.invariant.beyond k (omega arith)
+returns-then-self-inputs-clause-beyond c k from = cc (c.self.invariant.beyond k (omega arith))
 
 pub invariant_of-self : goal.invariant_of-self
 invariant_of-self c = none_used 0 c.clear.new.places c.clear.ensures

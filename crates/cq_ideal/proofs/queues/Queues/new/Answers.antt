@@ -1,3 +1,4 @@
+use Rattle.std.proofs.Common.{arith, rules}
 use Rattle.cq_ideal.proofs.Listed.{empty_within, one_made}
 use Rattle.cq_ideal.proofs.queues.Queues.new.Goals as goal
 
@@ -8,5 +9,4 @@ loop-room-preserved c =
     c.in_ok-new.ensures.cells c.in_ok-new.ensures.room c.in_ok-new.ensures.few
 
 pub invariant_of-result : goal.invariant_of-result
-invariant_of-result c = empty_within c.loop-room.queues.items c.loop-room.room-index c.loop-room.invariant.lists
-    c.loop-room.invariant.few
+invariant_of-result c = search (arith, rules, empty_within)

@@ -1,11 +1,10 @@
-use Rattle.std.proofs.Common.{length, None, sym, ◌∙◌}
+use Rattle.std.proofs.Common.{arith, rules, length, None, sym, ◌∙◌}
 use Rattle.cq_rank.specs.Machine.{told}
 use Rattle.cq_ideal.proofs.Ranked.{seen, fixed_after, states_after}
 use Rattle.cq_ideal.proofs.ranks.Ranks.idle.Goals as goal
 
 pub returns-clause-fixed : goal.returns-clause-fixed
-returns-clause-fixed g c =
-    fixed_after _ _ _ _ c.requires c.index_mut.ensures.value c.self.view_is _ c.tell_idle.ensures.fixed
+returns-clause-fixed g c = search (arith, rules, fixed_after)
 
 pub returns-clause-states : goal.returns-clause-states
 returns-clause-states g c =

@@ -8,6 +8,5 @@ level-requires g c =
     g.R.Rank.machine (λ m s. m.classes))) c.requires.class
 
 pub returns : goal.returns
-returns g c =
-    c.level.ensures.level
+returns g c = c.level.ensures.level
     ∙ seen _ _ _ _ c.requires.output c.index.ensures c.self.view_is g.R.Rank.machine (λ m s. m.level c.args.class)

@@ -1,4 +1,4 @@
-use Rattle.std.proofs.Common.{◌≡◌, ◌<◌, ◌≤◌, ◌↔◌, ◌^◌, ◌∙◌, ℕ, subst, sym}
+use Rattle.std.proofs.Common.{arith, rules, ◌≡◌, ◌<◌, ◌≤◌, ◌↔◌, ◌^◌, ◌∙◌, ℕ, subst, sym}
 use Rattle.std.specs.Prelude.{IfOk, IsErr}
 use Rattle.std.proofs.lemmas.Result.{on_ok_weaker, on_err_weaker}
 use Rattle.cq_ideal.proofs.Ranked.{seen, fixed_after, many_after, states_after, states_same}
@@ -10,12 +10,10 @@ rank-requires g c =
     g.R.Rank.machine (λ m s. m.classes))) c.requires.class
 
 pub returns-clause-fixed : goal.returns-clause-fixed
-returns-clause-fixed g c =
-    fixed_after _ _ _ _ c.requires.output c.index_mut.ensures.value c.self.view_is _ c.rank.ensures.fixed
+returns-clause-fixed g c = search (arith, rules, fixed_after)
 
 pub returns-clause-rank : goal.returns-clause-rank
-returns-clause-rank g c =
-    subst (λ (n : ℕ). IfOk c.rank.result (λ rank. rank ≡ n)) (seen _ _ _ _ c.requires.output
+returns-clause-rank g c = subst (λ (n : ℕ). IfOk c.rank.result (λ rank. rank ≡ n)) (seen _ _ _ _ c.requires.output
     c.index_mut.ensures.value c.self.view_is g.R.Rank.machine (λ m s. m.ranked s c.args.class)) c.rank.ensures.rank
 
 pub returns-clause-given : goal.returns-clause-given
@@ -30,9 +28,7 @@ returns-clause-overflow g c =
     c.index_mut.ensures.value c.self.view_is g.R.Rank.machine (λ m s. m.ranked s c.args.class)) c.rank.ensures.overflow
 
 pub returns-clause-refused : goal.returns-clause-refused
-returns-clause-refused g c =
-    on_err_weaker c.rank.result (λ same. states_same _ _ _ _ c.requires.output c.index_mut.ensures.value
-    c.self.view_is _ same) c.rank.ensures.refused
+returns-clause-refused g c = search (arith, rules, on_err_weaker, states_same)
 
 pub returns-clause-many : goal.returns-clause-many
 returns-clause-many g c = many_after _ _ _ _ c.requires.output c.index_mut.ensures.value c.self.view_is c.rank.new.self

@@ -1,4 +1,4 @@
-use Rattle.std.proofs.Common.{◌≡◌, ◌+◌, List, ◌∷◌, drop, Option, None, Some, refl, sym, ◌∙◌, subst, arith}
+use Rattle.std.proofs.Common.{rules, ◌≡◌, ◌+◌, List, ◌∷◌, drop, Option, None, Some, refl, sym, ◌∙◌, subst, arith}
 use Rattle.std.proofs.lemmas.Result.{err_from_is_err_and}
 use Rattle.cq_base.specs.declared.cell.Cell.{Cell}
 use Rattle.cq_base.specs.declared.cell.Queued.{Queued}
@@ -11,10 +11,7 @@ use Rattle.cq_ideal.proofs.ranks.Ranks.take.Goals as goal
 use Rattle.cq_ideal.proofs.ranks.Ranks.take.Goals.{in-None, in-Some+in_ok-queued-in-Some}
 
 pub inputs-init : goal.inputs-init
-inputs-init g c =
-    let ports = c.len-ports.ensures.value in
-    in_turn_first g.R.Rank.machine c.args.slot (admitted c.args.limiter.now.marks c.args.arrivals.now)
-    c.args.self.now c.begin.new.self c.begin.ensures.long (λ k from. c.begin.ensures.beyond k (omega arith))
+inputs-init g c = search (arith, rules, in_turn_first, c.begin.ensures.beyond)
 
 pub inputs-preserved : goal.inputs-preserved
 inputs-preserved g c =
@@ -27,21 +24,20 @@ inputs-preserved g c =
     from_input cells input o c.admitted.ensures.places (omega arith) (sym is ∙ c.admitted.ensures.answer) in
     let step = in_turn_next g.R.Rank.machine c.args.slot cells c.args.self.now input c.inputs.self in
     elim c.match-admitted.branch [
-      | in-None w ↦
-          subst (λ (r : RanksView). InTurn g.R.Rank.machine c.args.slot cells c.args.self.now (input + 1) r
-          c.match-admitted.came) (sym w.self-is)
-          (subst (λ (came : List (Option Queued)). InTurn g.R.Rank.machine c.args.slot cells c.args.self.now (input + 1)
-          c.inputs.self came) (sym (w.came-is ∙ w.put.ensures))
-          (step c.inputs.self c.inputs.came None None c.inputs.invariant c.admitted.ensures.places (omega arith)
-          (omega arith) (next None w.in-None.is) refl refl (λ rest. refl)))
-      | in-Some+in_ok-queued-in-Some w ↦
-          subst (λ (r : RanksView). InTurn g.R.Rank.machine c.args.slot cells c.args.self.now (input + 1) r
-          c.match-admitted.came) (sym w.self-is)
-          (subst (λ (came : List (Option Queued)). InTurn g.R.Rank.machine c.args.slot cells c.args.self.now (input + 1)
-          w.keyed.new.self came) (sym (w.came-is ∙ w.put-in-Some.ensures))
-          (step w.keyed.new.self c.inputs.came (Some w.in-Some.cell) (Some w.in_ok-queued-in-Some.queued)
-          c.inputs.invariant c.admitted.ensures.places (omega arith) (omega arith)
-          (next (Some w.in-Some.cell) w.in-Some.is) w.keyed.ensures.fixed w.keyed.ensures.many
+      | in-None w ↦ subst (λ (r : RanksView).
+          InTurn g.R.Rank.machine c.args.slot cells c.args.self.now (input + 1) r c.match-admitted.came)
+          (sym w.self-is) (subst (λ (came : List (Option Queued)).
+          InTurn g.R.Rank.machine c.args.slot cells c.args.self.now (input + 1) c.inputs.self came)
+          (sym (w.came-is ∙ w.put.ensures)) (step c.inputs.self c.inputs.came None None c.inputs.invariant
+          c.admitted.ensures.places (omega arith) (omega arith) (next None w.in-None.is) refl refl
+          (λ rest. refl)))
+      | in-Some+in_ok-queued-in-Some w ↦ subst (λ (r : RanksView).
+          InTurn g.R.Rank.machine c.args.slot cells c.args.self.now (input + 1) r c.match-admitted.came)
+          (sym w.self-is) (subst (λ (came : List (Option Queued)).
+          InTurn g.R.Rank.machine c.args.slot cells c.args.self.now (input + 1) w.keyed.new.self came)
+          (sym (w.came-is ∙ w.put-in-Some.ensures)) (step w.keyed.new.self c.inputs.came (Some w.in-Some.cell)
+          (Some w.in_ok-queued-in-Some.queued) c.inputs.invariant c.admitted.ensures.places (omega arith)
+          (omega arith) (next (Some w.in-Some.cell) w.in-Some.is) w.keyed.ensures.fixed w.keyed.ensures.many
           w.in_ok-queued-in-Some.ensures.came))
     ]
 
