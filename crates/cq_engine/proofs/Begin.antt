@@ -1,5 +1,6 @@
 -- Before the first slot nothing waits and nothing was counted.
-use Rattle.std.proofs.Common.{◌≡◌, ℕ, zero, suc, List, [], Option, Some, None, length, replicate, sym, ap, ◌∙◌, subst, arith}
+use Rattle.std.proofs.Common.{rules, ◌≡◌, ℕ, zero, suc, List, [], Option, Some, None, length, replicate, sym, ◌∙◌, arith}
+use Rattle.std.proofs.lemmas.Grind.{common_steps}
 use Rattle.std.specs.Prelude.{slice_get}
 use Rattle.std.proofs.lemmas.List.{length-replicate}
 use Rattle.std.proofs.lemmas.Option.{same_Some}
@@ -10,7 +11,7 @@ use Rattle.cq_base.specs.declared.figures.Figures.{Figures}
 use Rattle.cq_rank.specs.Machine.{Machine}
 use Rattle.cq_rank.specs.Switch.{AreForOneSwitch}
 use Rattle.cq_ideal.specs.IdealRun.{empty_ideal}
-use Rattle.cq_laws.specs.Fabric.{Fabric, empty_fabric}
+use Rattle.cq_laws.specs.Fabric.{empty_fabric}
 use Rattle.cq_laws.specs.Measures.{no_figures}
 use Rattle.cq_laws.proofs.WholeRuns.{empty_agree}
 use Rattle.cq_laws.proofs.LeastRun.{more_at_first}
@@ -39,31 +40,18 @@ first_up ms n ranks one ports =
       agrees = empty_agree n ranks;
       inputs = length-replicate n no_input ∙ sym (length-replicate n none);
       outputs = length-replicate n no_output ∙ sym ports;
-      counts = record {
-        inputs = λ i y at. let is = ap (λ (z : InputFigures). z.cells) (replicated n i no_input y at) in omega arith;
-        outputs = λ j y at. let is = ap (λ (z : OutputFigures). z.cells) (replicated n j no_output y at) in omega arith;
-      };
+      counts = search (arith, rules, replicated);
     }
 
 pub in_step_first : (ms : List Machine) (n : ℕ) (ranks : List (List ℕ)) (q : Queues) (x : Figures) →
     AreForOneSwitch ms → length ms ≡ n → q.inputs ≡ replicate n [] → q.buffers ≡ replicate n [] → x ≡ no_figures n →
     IsInStep ms 0 x (fabric_of q ranks)
-in_step_first ms n ranks q x one ports inputs buffers figures =
-    let had : Fabric = fabric_of q ranks in
-    let want : Fabric = empty_fabric n ranks in
-    let fabric : had ≡ want = cc in
-    subst (λ (f : Fabric). IsInStep ms 0 x f) (sym fabric)
-    (subst (λ (y : Figures). IsInStep ms 0 y (empty_fabric n ranks)) (sym figures) (first_up ms n ranks one ports))
+in_step_first ms n ranks q x one ports inputs buffers figures = grind (arith, common_steps, first_up)
 
 -- so an engine begins by looking at the arriving cells alone
 seen_first : (n : ℕ) (ranks : List (List ℕ)) (q : Queues) (x : Figures) → q.inputs ≡ replicate n [] →
     q.buffers ≡ replicate n [] → x ≡ no_figures n → IsSeen look.Arriving x (fabric_of q ranks)
-seen_first n ranks q x inputs buffers figures =
-    let had : Fabric = fabric_of q ranks in
-    let want : Fabric = empty_fabric n ranks in
-    let fabric : had ≡ want = cc in
-    subst (λ (f : Fabric). IsSeen look.Arriving x f) (sym fabric)
-    (subst (λ (y : Figures). IsSeen look.Arriving y (empty_fabric n ranks)) (sym figures) (more_at_first n ranks))
+seen_first n ranks q x inputs buffers figures = grind (arith, common_steps, more_at_first)
 
 -- and no output holds a cell
 pub running_first : (ms : List Machine) (n : ℕ) (ranks : List (List ℕ)) (q : Queues) (x : Figures) (l : LimiterView) →
@@ -71,9 +59,4 @@ pub running_first : (ms : List Machine) (n : ℕ) (ranks : List (List ℕ)) (q :
     x ≡ no_figures n → length l.limits ≡ n → l.held ≡ replicate n 0 →
     IsRunning ms 0 look.Arriving x (fabric_of q ranks) l
 running_first ms n ranks q x l one ports states inputs buffers figures limits held =
-    record {
-      in_step = in_step_first ms n ranks q x one ports inputs buffers figures;
-      seen = seen_first n ranks q x inputs buffers figures;
-      ranks = states ∙ sym ports;
-      holds = holds_first n ranks q l inputs buffers limits held;
-    }
+    grind (arith, common_steps, in_step_first, seen_first, holds_first)

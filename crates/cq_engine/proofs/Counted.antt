@@ -1,6 +1,7 @@
 -- How many cells each output holds, counted in one walk over the lists: at first those of the buffers, and of each
 -- list those for the output more.
-use Rattle.std.proofs.Common.{◌≡◌, ◌≢◌, ℕ, zero, suc, ◌+◌, ◌^◌, ◌<◌, ◌≤◌, List, [], ◌∷◌, ◌++◌, length, map, get_or, set, take, refl, sym, ap, ◌∙◌, subst, ⊎_elim, arith}
+use Rattle.std.proofs.lemmas.Grind.{common_steps}
+use Rattle.std.proofs.Common.{rules, ◌≡◌, ℕ, zero, suc, ◌+◌, ◌^◌, ◌<◌, ◌≤◌, List, [], ◌∷◌, ◌++◌, length, map, get_or, set, take, refl, sym, ◌∙◌, subst, arith}
 use Rattle.std.specs.Prelude.{All, filter}
 use Rattle.std.proofs.lemmas.Bool.{cases_eq, cond_both, eq-eqb, ne_eqb}
 use Rattle.std.proofs.lemmas.List.{ext_get_or, get_or-map, get_or-set_other, get_or-set_same, length-map, take_all, take_more}
@@ -20,29 +21,17 @@ number_for j cells = length (filter (is_for j) cells)
 
 number_cons : (j : ℕ) (c : Queued) (cells : List Queued) →
     number_for j (c ∷ cells) ≡ bit (is_for j c) + number_for j cells
-number_cons j c cells =
-    let rest = filter (is_for j) cells in
-    cond_both (is_for j c) (c ∷ rest) rest (λ l. length l ≡ bit (is_for j c) + length rest)
-    (λ e. let b = bit_true (is_for j c) e in omega arith)
-    (λ e. let b = bit_false (is_for j c) e in omega arith)
+number_cons j c cells = grind (arith, common_steps, cond_both, bit, bit_true, bit_false)
 
 number_push : (j : ℕ) (cells : List Queued) (c : Queued) →
     number_for j (cells ++ c ∷ []) ≡ number_for j cells + bit (is_for j c)
 number_push j [] c = let one = number_cons j c [] in omega arith
-number_push j (x ∷ cells) c =
-    let now = number_cons j x (cells ++ c ∷ []) in
-    let was = number_cons j x cells in
-    let rest = number_push j cells c in
-    omega arith
+number_push j (x ∷ cells) c = grind (arith, common_steps, number_cons, number_push j cells c)
 
 number_take : (j n : ℕ) (cells : List Queued) → number_for j (take n cells) ≤ number_for j cells
 number_take j zero cells = omega arith
 number_take j (suc n) [] = omega arith
-number_take j (suc n) (c ∷ cells) =
-    let now = number_cons j c (take n cells) in
-    let all = number_cons j c cells in
-    let rest = number_take j n cells in
-    omega arith
+number_take j (suc n) (c ∷ cells) = grind (arith, common_steps, number_cons, number_take j n cells)
 
 -- ## One list
 
@@ -54,40 +43,19 @@ module _ (old held : List ℕ) (cells : List Queued) (at : ℕ) (inside : at < l
     (so_far : AreCounted old held (take at cells)) (there : (get_or cells at d).cell.output < length old) where
   one_more : (j : ℕ) →
       number_for j (take (at + 1) cells) ≡ number_for j (take at cells) + bit (is_for j (get_or cells at d))
-  one_more j =
-      ap (number_for j) (take_more cells at d inside) ∙ number_push j (take at cells) (get_or cells at d)
+  one_more j = grind (arith, common_steps, take_more, number_push)
 
   pub count_fits : ((j : ℕ) → j < length old → get_or old j 0 + number_for j cells < 2 ^ 64) →
       get_or held (get_or cells at d).cell.output 0 + 1 < 2 ^ 64
   count_fits fit =
       let o = (get_or cells at d).cell.output in
-      let few = fit o there in
-      let was = so_far o there in
-      let now = one_more o in
-      let one = bit_true (is_for o (get_or cells at d)) (eq-eqb o o refl) in
-      let within = number_take o (at + 1) cells in
-      omega arith
+      search (arith, rules, one_more o, bit_true, eq-eqb o o refl, number_take o (at + 1) cells)
 
   pub count_next : (new : List ℕ) → length held ≡ length old →
       new ≡ set held (get_or cells at d).cell.output (get_or held (get_or cells at d).cell.output 0 + 1) →
       AreCounted old new (take (at + 1) cells)
   count_next new same is j below =
-      let o = (get_or cells at d).cell.output in
-      let was = so_far j below in
-      let now = one_more j in
-      ⊎_elim
-      (λ (e : o ≡ j).
-      let one = bit_true (is_for j (get_or cells at d)) (eq-eqb o j e) in
-      let put = ap (λ (l : List ℕ). get_or l j 0) is
-      ∙ ap (λ (k : ℕ). get_or (set held k (get_or held k 0 + 1)) j 0) e
-      ∙ get_or-set_same held j (get_or held j 0 + 1) 0 (omega arith) in
-      omega arith)
-      (λ (ne : o ≢ j).
-      let none = bit_false (is_for j (get_or cells at d)) (ne_eqb o j ne) in
-      let kept = ap (λ (l : List ℕ). get_or l j 0) is
-      ∙ get_or-set_other held o j (get_or held o 0 + 1) 0 (λ e. ne (sym e)) in
-      omega arith)
-      (cases_eq o j)
+      search (rules, one_more, bit_true, eq-eqb, get_or-set_same, bit_false, ne_eqb, get_or-set_other, cases_eq)
 
 -- ## All lists
 
@@ -109,61 +77,29 @@ pub record HeldSoFar (f : Fabric) (i : ℕ) (held : List ℕ) : Type 0 where
 
 pub held_first : (f : Fabric) (held : List ℕ) → length f.buffers ≡ length f.inputs → held ≡ map length f.buffers →
     HeldSoFar f 0 held
-held_first f held square is =
-    let long : length held ≡ length f.buffers = ap length is ∙ length-map f.buffers length in
-    let none : List Queued = [] in
-    record {
-      ports = long ∙ square;
-      counts = λ j inside.
-          let same : get_or held j 0 ≡ length (buffer f j) =
-          ap (λ (l : List ℕ). get_or l j 0) is ∙ get_or-map length f.buffers j none 0 (omega arith) in
-          omega arith;
-    }
+held_first f held square is = grind (arith, common_steps, length-map, get_or-map)
 
 module _ (f : Fabric) (i : ℕ) (held : List ℕ) (so_far : HeldSoFar f i held) (inside : i < length f.inputs)
     (cells : List Queued) (here : cells ≡ list_of f.inputs i) where
   next_waiting : (j : ℕ) → waiting_for j (take (i + 1) f.inputs) ≡ waiting_for j (take i f.inputs) + number_for j cells
-  next_waiting j =
-      let none : List Queued = [] in
-      ap (waiting_for j) (take_more f.inputs i none inside)
-      ∙ waiting_push j (take i f.inputs) (list_of f.inputs i)
-      ∙ ap (λ (l : List Queued). waiting_for j (take i f.inputs) + number_for j l) (sym here)
+  next_waiting j = grind (arith, common_steps, take_more, waiting_push)
 
   pub cells_inside : ((k : ℕ) (c : Queued) → IsAmong c (input f k) → c.cell.output < length f.inputs) →
       All (λ c. c.cell.output < length held) cells
   cells_inside outputs k d within =
       let among : IsAmong (get_or cells k d) (input f i) =
       subst (IsAmong (get_or cells k d)) here (among_at cells k (get_or cells k d) (slice_get-get_or cells k d within))
-      in
-      let low = outputs i (get_or cells k d) among in
-      omega arith
+      in search (arith, rules)
 
   pub cells_fit : ((j : ℕ) → j < length f.inputs → held_for j f < 2 ^ 64) →
       (j : ℕ) → j < length held → get_or held j 0 + number_for j cells < 2 ^ 64
   cells_fit fit j below =
-      let few = fit j (omega arith) in
-      let was = so_far.counts j (omega arith) in
-      let now = next_waiting j in
-      let within = waiting_take j (i + 1) f.inputs in
-      omega arith
+      let few = fit j (omega arith) in search (arith, rules, next_waiting j, waiting_take j (i + 1) f.inputs)
 
   pub held_next : (new : List ℕ) → length new ≡ length held →
       ((j : ℕ) → j < length held → get_or new j 0 ≡ get_or held j 0 + number_for j cells) → HeldSoFar f (i + 1) new
-  held_next new same counted = record {
-    ports = same ∙ so_far.ports;
-    counts = λ j below.
-        let was = so_far.counts j below in
-        let more = counted j (omega arith) in
-        let now = next_waiting j in
-        omega arith;
-  }
+  held_next new same counted = grind (arith, common_steps, next_waiting)
 
 pub held_last : (f : Fabric) (i : ℕ) (held : List ℕ) → HeldSoFar f i held → length f.inputs ≤ i → held ≡ fabric_held f
-held_last f i held so_far past =
-    ext_get_or 0 held (fabric_held f) (so_far.ports ∙ sym (held_long f))
-    (λ j below.
-    let within : j < length f.inputs = omega arith in
-    let counts = so_far.counts j within in
-    let all = ap (waiting_for j) (take_all i f.inputs past) in
-    let is = held_at f j within in
-    omega arith)
+held_last f i held so_far past = ext_get_or 0 held (fabric_held f) (so_far.ports ∙ sym (held_long f))
+    (λ j below. search (arith, rules, so_far.counts, take_all, held_at))

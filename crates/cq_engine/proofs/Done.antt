@@ -1,5 +1,5 @@
 -- A slot that is done, as clauses see it: what is seen of the parts of the engine before it and after it.
-use Rattle.std.proofs.Common.{◌≡◌, ◌+◌, ◌++◌, ℕ, Bool, List, Option, length, map, ap, ◌∙◌, sym, subst, arith}
+use Rattle.std.proofs.Common.{rules, ◌≡◌, ◌+◌, ◌++◌, ℕ, Bool, List, Option, length, map, ap, ◌∙◌, sym, subst, arith}
 use Rattle.cq_base.specs.Room.{RoomView}
 use Rattle.cq_base.specs.declared.cell.Cell.{Cell}
 use Rattle.cq_base.specs.declared.cell.Departure.{Departure}
@@ -28,8 +28,7 @@ made_as {new = new} is made = subst (λ (v : EngineView). IsMadeAs v new) is mad
 
 pub stopped_as : {old shown new : EngineView} {sent sent' : RoomView Departure} {note note' : RoomView Transfer} →
     shown ≡ old → HasStopped shown new sent sent' note note' → HasStopped old new sent sent' note note'
-stopped_as {new = new} {sent = sent} {sent' = sent'} {note = note} {note' = note'} is stopped =
-    subst (λ (v : EngineView). HasStopped v new sent sent' note note') is stopped
+stopped_as {new = new} {sent = sent} {sent' = sent'} {note = note} {note' = note'} is stopped = search (rules)
 
 -- ## The slot
 
@@ -57,12 +56,7 @@ module _ (M : List ℕ → Machine) (fixed states : List (List ℕ)) (q : Queues
       is
       (record {
         record_of = record { admission = by_marks taken.marks cells; of_slot = done.of_slot };
-        is_slot =
-            record {
-              admits = admits_are l (fabric_of q states) cells taken.marks holds judged;
-              runs = done.is_slot;
-              marks = released.marks;
-            };
+        is_slot = search (arith, rules, admits_are);
         departed = left.items ∙ ap (λ g. sent.items ++ departures_in slot g) (sym done.gone);
         departed_room = omega arith;
         crossed = items ∙ ap (λ t. note.items ++ t) (sym done.crossed);

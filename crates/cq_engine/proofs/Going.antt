@@ -2,7 +2,8 @@
 -- in lists and buffers of their rooms: no two cells of a list have one key, since no two places have. By the law on
 -- sound fabrics it is in step with the ideal switch of its cells. Of the slacks nothing is claimed, since the first
 -- slot looks at all of them.
-use Rattle.std.proofs.Common.{◌≡◌, ◌≢◌, ℕ, zero, suc, ◌<◌, List, [], ◌∷◌, length, Option, Some, refl, sym, ap, ◌∙◌, subst, arith}
+use Rattle.std.proofs.Common.{rules, ◌≡◌, ◌≢◌, ℕ, zero, suc, ◌<◌, List, [], ◌∷◌, length, Option, Some, refl, arith}
+use Rattle.std.proofs.lemmas.Grind.{common_steps}
 use Rattle.std.specs.Prelude.{slice_get}
 use Rattle.cq_base.specs.declared.cell.Queued.{Queued}
 use Rattle.cq_base.specs.declared.figures.Figures.{Figures}
@@ -14,7 +15,7 @@ use Rattle.cq_ideal.specs.Limiter.{LimiterView}
 use Rattle.cq_rank.specs.Machine.{Machine}
 use Rattle.cq_rank.specs.Switch.{AreForOneSwitch}
 use Rattle.cq_laws.specs.Fabric.{Fabric, input}
-use Rattle.cq_laws.specs.Frozen.{fabric_in, ideal_of}
+use Rattle.cq_laws.specs.Frozen.{fabric_in}
 use Rattle.cq_laws.specs.Holding.{fabric_held}
 use Rattle.cq_laws.specs.Places.{NoKeyTwice, Waiting}
 use Rattle.cq_laws.specs.declared.frozen.Frozen.{Frozen}
@@ -30,20 +31,11 @@ use Rattle.cq_engine.specs.declared.measure.Look.TheVariants as look
 pub same_figures : (x : Figures) (inputs : List InputFigures) (outputs : List OutputFigures) → inputs ≡ x.inputs →
     outputs ≡ x.outputs →
     record { slots = x.slots; proposals = x.proposals; most = x.most; inputs = inputs; outputs = outputs } ≡ x
-same_figures x inputs outputs e g =
-    λ k. record { slots = x.slots; proposals = x.proposals; most = x.most; inputs = e k; outputs = g k }
+same_figures x inputs outputs e g = grind (arith, common_steps)
 
 pub same_frozen : (a b : Frozen) → a.next ≡ b.next → a.figures ≡ b.figures → a.refused ≡ b.refused →
     a.marks ≡ b.marks → a.ranks ≡ b.ranks → a.lists ≡ b.lists → a.buffers ≡ b.buffers → a ≡ b
-same_frozen a b e1 e2 e3 e4 e5 e6 e7 = λ k. record {
-  next = e1 k;
-  figures = e2 k;
-  refused = e3 k;
-  marks = e4 k;
-  ranks = e5 k;
-  lists = e6 k;
-  buffers = e7 k;
-}
+same_frozen a b e1 e2 e3 e4 e5 e6 e7 = grind (arith, common_steps)
 
 -- ## What waits in lists and buffers
 
@@ -59,11 +51,8 @@ place_same : (i s t : ℕ) → Waiting i s ≡ Waiting i t → s ≡ t
 place_same i s t e = cc
 
 keys_differ : (f : Fabric) (i : ℕ) → NoKeyTwice f → KeysDiffer (input f i)
-keys_differ f i differ =
-    pairs_by (λ a b. a.key ≢ b.key) (input f i)
-    (λ s t a b u v l e.
-    let one : s ≡ t = place_same i s t (differ (Waiting i s) (Waiting i t) a b u v e) in
-    absurd (omega arith))
+keys_differ f i differ = pairs_by (λ a b. a.key ≢ b.key) (input f i) (λ s t a b u v l e.
+    search (arith, rules, place_same i s t (differ (Waiting i s) (Waiting i t) a b u v e)))
 
 pub can_hold : (ms : List Machine) (limits : List (Option ℕ)) (from to : List ℕ) (x : Frozen) →
     CanGoOn ms limits from to x → CanHold from to x.lists x.buffers
@@ -91,27 +80,9 @@ module _ (ms : List Machine) (limits : List (Option ℕ)) (from to : List ℕ) (
     (can : CanGoOn ms limits from to x) (l : LimiterView) (limits_are : l.limits ≡ limits)
     (long : length limits ≡ length ms) (held : l.held ≡ fabric_held (fabric_in x)) where
   frozen_runs : IsRunning ms x.next look.All x.figures (fabric_in x) l
-  frozen_runs = record {
-    in_step = record {
-      machines = one;
-      ports = can.ports.lists;
-      ideal = ideal_of (fabric_in x);
-      agrees = agrees_of x.next (fabric_in x) can.sound;
-      inputs = can.ports.inputs ∙ sym can.ports.lists;
-      outputs = can.ports.outputs;
-      counts = can.counts;
-    };
-    seen = tt;
-    ranks = can.ports.ranks;
-    holds = record { ports = ap length limits_are ∙ long ∙ sym can.ports.lists; held = held };
-  }
+  frozen_runs = grind (arith, common_steps, agrees_of x.next (fabric_in x) can.sound)
 
   pub goes_on : (q : Queues) (states : List (List ℕ)) (figures : Figures) → q.inputs ≡ x.lists →
       q.buffers ≡ x.buffers → states ≡ x.ranks → figures ≡ x.figures →
       IsRunning ms x.next look.All figures (fabric_of q states) l
-  goes_on q states figures inputs buffers ranks seen =
-      let had : Fabric = fabric_of q states in
-      let want : Fabric = fabric_in x in
-      let fabric : had ≡ want = λ k. record { inputs = inputs k; buffers = buffers k; ranks = ranks k } in
-      subst (λ (f : Fabric). IsRunning ms x.next look.All figures f l) (sym fabric)
-      (subst (λ (y : Figures). IsRunning ms x.next look.All y (fabric_in x) l) (sym seen) frozen_runs)
+  goes_on q states figures inputs buffers ranks seen = grind (arith, common_steps, frozen_runs)

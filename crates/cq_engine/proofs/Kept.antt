@@ -1,6 +1,7 @@
 -- How many cells for an output there are, through a slot with input-best matchings: as through any slot with stable
 -- ones.
-use Rattle.std.proofs.Common.{ℕ, ◌+◌, ◌≤◌, List, length, Option}
+use Rattle.std.proofs.lemmas.Grind.{common_steps}
+use Rattle.std.proofs.Common.{arith, ℕ, ◌+◌, ◌≤◌, List, length, Option}
 use Rattle.std.specs.Prelude.{if◌then◌else◌, is_some}
 use Rattle.cq_base.specs.declared.cell.Cell.{Cell}
 use Rattle.cq_base.specs.Arrivals.{arrival_at}
@@ -28,9 +29,7 @@ module _ (limits : List (Option ℕ)) (ms : List Machine) (slot : ℕ) (cells : 
     (r : LimitedRecord) (s : LimitedFabricSlot IsInputBest limits ms slot cells f r g) where
   pub limited_lists_kept : (i : ℕ) →
       length (input g.state i) ≤ length (input f.state i) + (if is_some (arrival_at cells i) then 1 else 0)
-  limited_lists_kept =
-      stable_limited_lists_kept limits ms slot cells f g r (stable_limited_slot ms limits slot cells f g r s)
+  limited_lists_kept = grind (arith, common_steps, stable_limited_lists_kept, stable_limited_slot)
 
   pub limited_outputs_kept : (j : ℕ) → held_for j g.state ≤ held_for j f.state + count_for j cells
-  limited_outputs_kept =
-      stable_limited_outputs_kept limits ms slot cells f g r (stable_limited_slot ms limits slot cells f g r s)
+  limited_outputs_kept = grind (arith, common_steps, stable_limited_outputs_kept, stable_limited_slot)

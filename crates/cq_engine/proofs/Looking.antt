@@ -1,7 +1,8 @@
 -- The least slack of a list, cell after cell: the least of the slacks so far and of one more is the lesser of the two.
-use Rattle.std.proofs.Common.{◌≡◌, ℕ, zero, suc, ◌+◌, ◌-◌, ◌<◌, List, [], ◌∷◌, ◌++◌, length, get_or, take, Option, Some, refl, sym, ap, ◌∙◌, arith}
+use Rattle.std.proofs.lemmas.Grind.{common_steps}
+use Rattle.std.proofs.Common.{◌≡◌, ℕ, zero, suc, ◌+◌, ◌-◌, ◌<◌, List, [], ◌∷◌, ◌++◌, length, get_or, take, Option, Some, refl, ap, arith, sym, ◌∙◌}
 use Rattle.std.specs.Prelude.{fold, min, slice_get}
-use Rattle.std.specs.List.{enumerate_from, reduce}
+use Rattle.std.specs.List.{reduce, enumerate_from}
 use Rattle.std.proofs.lemmas.List.{get_or-map, length-map, take_more}
 use Rattle.std.proofs.lemmas.List.FromFn.{get_or-enumerate_from, length-enumerate_from}
 use Rattle.std.proofs.lemmas.Option.{same_Some, slice_get-get_or, slice_get_within}
@@ -23,8 +24,7 @@ reduce_push (y ∷ ys) x = ap (λ (n : ℕ). Some n) (fold_push y ys x)
 
 pub length-slacks : (f : Fabric) (i : ℕ) → length (slacks f i) ≡ length (input f i)
 unfolding slacks
-length-slacks f i =
-    length-map (enumerate_from 0 (input f i)) (λ at. cushion_of f at.1 - at.0) ∙ length-enumerate_from 0 (input f i)
+length-slacks f i = grind (arith, common_steps, length-map, length-enumerate_from)
 
 slack_there : (f : Fabric) (i p : ℕ) (c : Queued) → slice_get (input f i) p ≡ Some c →
     get_or (slacks f i) p 0 ≡ cushion_of f c - p

@@ -1,6 +1,7 @@
 -- What the parts of an engine show of what a slot asks. It is asked of the engine as clauses see it. Moved to the
 -- parts it is one record, which the lemmas take.
-use Rattle.std.proofs.Common.{◌≡◌, ◌<◌, ◌≤◌, ◌^◌, ℕ, Bool, false, List, Option, length, map, get_or, sym, ap, ◌∙◌, subst, arith, Ok}
+use Rattle.std.proofs.lemmas.Grind.{common_steps}
+use Rattle.std.proofs.Common.{rules, ◌≡◌, ◌<◌, ◌≤◌, ◌^◌, ℕ, Bool, false, List, Option, length, map, get_or, ◌∙◌, arith, Ok}
 use Rattle.std.proofs.lemmas.List.{length-map}
 use Rattle.cq_base.specs.declared.cell.Cell.{Cell}
 use Rattle.cq_base.specs.declared.figures.Figures.{Figures}
@@ -59,26 +60,11 @@ module _ (M : List ℕ → Machine) (v : EngineView) (fixed states : List (List 
     (x : Figures) (next : ℕ) (looks : Look) (stopped : Bool) (is : seen fixed states q l x next stopped ≡ v)
     (invariant : stopped ≡ false → IsRunning (map M fixed) next looks x (fabric_of q states) l) where
   pub up : (slot : ℕ) → slot ≡ v.next → v.stopped ≡ false → IsRunning (map M fixed) slot looks x (fabric_of q states) l
-  up slot now running =
-      subst (λ n. IsRunning (map M fixed) n looks x (fabric_of q states) l)
-      (ap (λ (w : EngineView). w.next) is ∙ sym now)
-      (invariant (ap (λ (w : EngineView). w.stopped) is ∙ running))
+  up slot now running = grind (arith, common_steps)
 
   pub begun : (slot : ℕ) (cells : List (Option Cell)) → Begins M slot cells v →
       Begun (map M fixed) slot cells q states l looks x
-  begun slot cells begins =
-      let here : Begins M slot cells (seen fixed states q l x next stopped) =
-      subst (λ (w : EngineView). Begins M slot cells w) (sym is) begins in
-      let running = up slot begins.next begins.running in
-      let long = length-map fixed M in
-      let ports = running.holds.ports ∙ running.in_step.ports ∙ long in
-      record {
-        running = running;
-        come = subst (λ (n : ℕ). AreForPorts n (class_count (map M fixed)) cells) (sym long) here.come;
-        list_room = λ i cell at. here.list_room i cell at;
-        buffer_room = λ j inside. here.buffer_room j (let long = length-map fixed M in omega arith);
-        refused = subst (λ (n : ℕ). CanCount n l.refused) (sym ports) here.refused;
-      }
+  begun slot cells begins = search (rules, up, length-map)
 
 -- ## What follows
 
@@ -90,14 +76,7 @@ module _ {ms : List Machine} {slot : ℕ} {cells : List (Option Cell)} {q : Queu
   -- its arrivals can be taken in: the numbers of cells that outputs hold stay below 2^64
   pub can_take_in : ((j : ℕ) → length (list_of q.buffers j) ≤ get_or q.to_outputs j 0) →
       ((j : ℕ) → get_or q.to_outputs j 0 < 2 ^ 64) → CanTakeIn ms cells l
-  can_take_in within fits = record {
-    machines = known.running.in_step.machines;
-    ports = ports_are;
-    arrivals = known.come;
-    held = numbers_fit q states l cells known.running.holds
-        (λ j inside. known.buffer_room j (omega arith)) within fits;
-    refused = known.refused;
-  }
+  can_take_in within fits = grind (arith, common_steps, ports_are, numbers_fit)
 
   -- ## What is admitted by some marks
 

@@ -1,7 +1,8 @@
 -- A slot of the engine: that of the fabric below, with the figures that are counted of it. What each phase asks for
 -- is shown there, for any stable matchings, and input-best ones are stable.
-use Rattle.std.proofs.Common.{◌≡◌, ℕ, zero, suc, ◌+◌, ◌-◌, ◌≤◌, eqb, Bool, true, false, List, [], ◌∷◌, ◌++◌, length, map, Option, Some, None, refl, sym, ap, ◌∙◌, subst, arith}
-use Rattle.std.specs.Prelude.{if◌then◌else◌, min, max, fold, sum, slice_get, is_some, option_and_then}
+use Rattle.std.proofs.lemmas.Grind.{common_steps}
+use Rattle.std.proofs.Common.{rules, ◌≡◌, ℕ, zero, suc, ◌+◌, ◌-◌, ◌≤◌, eqb, Bool, true, false, List, [], ◌∷◌, ◌++◌, length, map, Option, Some, None, refl, sym, ap, ◌∙◌, arith, subst}
+use Rattle.std.specs.Prelude.{if◌then◌else◌, min, max, slice_get, is_some, option_and_then}
 use Rattle.std.specs.List.{enumerate_from, list_any, position_or_len, reduce}
 use Rattle.std.specs.Option.{option_map}
 use Rattle.std.proofs.lemmas.Option.{same_Some}
@@ -41,8 +42,7 @@ bit b = if b then 1 else 0
 
 -- the slack of the cell that came, as it is recorded
 abbrev slack_of_came : ℕ → Queues → List (List ℕ) → ℕ → Option Queued → Option ℕ
-slack_of_came slot q ranks i came =
-    option_map
+slack_of_came slot q ranks i came = option_map
     (λ c. cushion_of (fabric_of q ranks) c - position_or_len (λ x. eqb x.key.slot slot) (list_of q.inputs i)) came
 
 by_place_same : {X : Type 0} (f g : ℕ → X → X) (n : ℕ) (xs : List X) →
@@ -59,9 +59,7 @@ placed : {X : Type 0} (f : ℕ → X → X) (n : ℕ) (xs : List X) (i : ℕ) (y
 placed f n [] i y h = absurd (let P : ⊥ = cc in P)
 placed f n (x ∷ xs) zero y h =
     let at : n + 0 ≡ n = omega arith in (x, refl, ap (λ k. f k x) at ∙ same_Some (f n x) y h)
-placed f n (x ∷ xs) (suc i) y h =
-    let r = placed f (n + 1) xs i y h in
-    let at : n + suc i ≡ n + 1 + i = omega arith in (r.0, r.1, ap (λ k. f k r.0) at ∙ r.2)
+placed f n (x ∷ xs) (suc i) y h = grind (arith, common_steps, placed f (n + 1) xs i y h)
 
 bit_most : (b : Bool) → bit b ≤ 1
 bit_most true = omega arith
@@ -72,12 +70,7 @@ count_one : {X : Type 0} (cells : X → ℕ) (after : ℕ → X → X) (moved : 
     ((i : ℕ) (y : X) → cells (after i y) ≡ cells y + bit (is_some (came_to moved i))) →
     ((i : ℕ) (y : X) → slice_get xs i ≡ Some y → cells y ≤ n) → (i : ℕ) (y : X) →
     slice_get (map (λ at. after at.0 at.1) (enumerate_from 0 xs)) i ≡ Some y → cells y ≤ n + 1
-count_one cells after moved n xs more fit i y at =
-    let p = placed after 0 xs i y at in
-    let had = fit i p.0 p.1 in
-    let one = bit_most (is_some (came_to moved (0 + i))) in
-    let is : cells p.0 + bit (is_some (came_to moved (0 + i))) ≡ cells y = sym (more (0 + i) p.0) ∙ ap cells p.2 in
-    omega arith
+count_one cells after moved n xs more fit i y at = grind (arith, common_steps, placed, bit_most)
 
 counts_fit : (slot : ℕ) (x : Figures) (r : SlotRecord) → CountsFit slot x → CountsFit (slot + 1) (figures_after x r)
 unfolding figures_after input_after output_after
@@ -100,12 +93,7 @@ pub figures_are : (x y : Figures) (r : SlotRecord) (p1 p2 : ℕ) → p1 ≡ prop
     y.inputs ≡ map (λ at. input_after r at.0 at.1) (enumerate_from 0 x.inputs) →
     y.outputs ≡ map (λ at. output_after r at.0 at.1) (enumerate_from 0 x.outputs) → y ≡ figures_after x r
 unfolding figures_after proposals_in
-figures_are x y r p1 p2 first second slots all most inputs outputs =
-    let p : ℕ = proposals (orders_of r.arrived.inputs) r.first in
-    let q : ℕ = proposals (orders_of r.sent.inputs) r.second in
-    let sums : y.proposals ≡ x.proposals + sum (p ∷ q ∷ []) = omega arith in
-    let greatest : y.most ≡ max x.most (fold max 0 (p ∷ q ∷ [])) = omega arith in
-    λ k. record { slots = slots k; proposals = sums k; most = greatest k; inputs = inputs k; outputs = outputs k }
+figures_are x y r p1 p2 first second slots all most inputs outputs = grind (arith, common_steps)
 
 -- ## What is known of a slot
 
@@ -155,16 +143,7 @@ module _ {ms : List Machine} {slot : ℕ} {q0 : Queues} {ranks0 : List (List ℕ
     of_slot = recorded known arrived room (moved_of crossed1) sent (moved_of crossed2)
 
     is_slot : FabricSlot IsInputBest ms slot cells (fabric_of q0 ranks0) of_slot (fabric_of q4 ranks2)
-    is_slot =
-        record {
-          numbered = refl;
-          arrive = arrive known arrived;
-          first_chosen = crossed1.best;
-          fill = fill known arrived room (moved_of crossed1) sent;
-          depart = depart known arrived room (moved_of crossed1) sent;
-          second_chosen = crossed2.best;
-          finish = record { moves = crossed2.moves; ranks = refl };
-        }
+    is_slot = grind (arith, common_steps, arrive, fill, moved_of, depart)
 
     stable : FabricSlot IsStable ms slot cells (fabric_of q0 ranks0) of_slot (fabric_of q4 ranks2)
     stable = stable_slot ms slot cells (fabric_of q0 ranks0) (fabric_of q4 ranks2) of_slot is_slot
@@ -196,24 +175,13 @@ module _ {ms : List Machine} {slot : ℕ} {q0 : Queues} {ranks0 : List (List ℕ
     input_told : (looks : Look) → IsSeen looks x (fabric_of q0 ranks0) → (i : ℕ) (y : InputFigures) →
         slice_get x.inputs i ≡ Some y → input_counted looks q1 i (came_to came i) y ≡ input_after of_slot i y
     unfolding input_counted input_after
-    input_told looks seen i y at =
-        ap
-        (λ (k : Option ℕ). record {
-          cells = y.cells + bit (is_some (came_to came i));
-          longest = max y.longest (length (list_of q1.inputs i));
-          slack = k;
-        })
-        (slack_told looks seen i y at)
+    input_told looks seen i y at = grind (arith, common_steps, slack_told)
 
     counted_inputs : (looks : Look) → IsSeen looks x (fabric_of q0 ranks0) →
         map (λ at. input_counted looks q1 at.0 (came_to came at.0) at.1) (enumerate_from 0 x.inputs)
         ≡ map (λ at. input_after of_slot at.0 at.1) (enumerate_from 0 x.inputs)
-    counted_inputs looks seen =
-        by_place_same (λ k. input_counted looks q1 k (came_to came k)) (input_after of_slot) 0 x.inputs
-        (λ i y k e at.
-        let is : k ≡ i = omega arith in
-        ap (λ n. input_counted looks q1 n (came_to came n) y) is ∙ input_told looks seen i y at
-        ∙ ap (λ n. input_after of_slot n y) (sym is))
+    counted_inputs looks seen = by_place_same (λ k. input_counted looks q1 k (came_to came k)) (input_after of_slot) 0
+        x.inputs (λ i y k e at. search (arith, rules, input_told))
 
     output_told : (j : ℕ) (y : OutputFigures) →
         output_counted slot (came_to (fronts q2.buffers) j) y ≡ output_after of_slot j y
@@ -223,17 +191,13 @@ module _ {ms : List Machine} {slot : ℕ} {q0 : Queues} {ranks0 : List (List ℕ
     counted_outputs :
         map (λ at. output_counted slot (came_to (fronts q2.buffers) at.0) at.1) (enumerate_from 0 x.outputs)
         ≡ map (λ at. output_after of_slot at.0 at.1) (enumerate_from 0 x.outputs)
-    counted_outputs =
-        by_place_same (λ k. output_counted slot (came_to (fronts q2.buffers) k)) (output_after of_slot) 0 x.outputs
-        (λ i y k e at. output_told k y)
+    counted_outputs = grind (arith, common_steps, by_place_same, output_told)
 
     same : SendsAlike ms slot cells known.ideal (fronts q2.buffers) (fabric_of q4 ranks2)
     same = alike known arrived room (moved_of crossed1) sent (moved_of crossed2)
 
     seen_after : IsSeen look.Arriving (figures_after x of_slot) (fabric_of q4 ranks2)
-    seen_after =
-        more_after ms slot classes cells (fabric_of q0 ranks0) (fabric_of q4 ranks2) known.ideal of_slot known.agrees
-        (come known) stable x up.inputs
+    seen_after = search (rules, more_after, come, stable)
 
     in_step : IsInStep ms (slot + 1) (figures_after x of_slot) (fabric_of q4 ranks2)
     in_step =

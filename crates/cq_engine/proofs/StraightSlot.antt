@@ -5,9 +5,10 @@
 -- transfer empties the lists and puts each cell alone into the buffer of its output, which sends it. After that nothing
 -- waits and nothing is offered, and the second matching is empty. The lists and buffers in between are made here for
 -- the proof alone.
-use Rattle.std.proofs.Common.{◌≡◌, ℕ, zero, suc, ◌+◌, ◌-◌, ◌*◌, ◌<◌, ◌≤◌, eqb, true, false, List, [], ◌∷◌, ◌++◌, length, map, drop, get_or, replicate, Option, Some, None, refl, sym, ap, ◌∙◌, subst, ⊎_elim, arith}
-use Rattle.std.specs.Prelude.{All, IfSome, if◌then◌else◌, insert, is_some, max, min, slice_get}
-use Rattle.std.specs.List.{cons_option, enumerate_from, filter_map, list_any, position_or_len, range_with_len, reduce, sum_by}
+use Rattle.std.proofs.lemmas.Grind.{common_steps}
+use Rattle.std.proofs.Common.{rules, ◌≡◌, ℕ, zero, suc, ◌+◌, ◌-◌, ◌*◌, ◌<◌, ◌≤◌, true, List, [], ◌∷◌, ◌++◌, length, map, drop, get_or, replicate, Option, Some, None, refl, sym, ap, ◌∙◌, subst, ⊎_elim, arith}
+use Rattle.std.specs.Prelude.{All, IfSome, if◌then◌else◌, is_some, max, min, slice_get}
+use Rattle.std.specs.List.{cons_option, enumerate_from, filter_map, list_any, range_with_len, reduce, sum_by}
 use Rattle.std.specs.Option.{option_map, option_to_list}
 use Rattle.std.proofs.Math.ListN.{get_or-map}
 use Rattle.std.proofs.lemmas.Bool.{cases_lt, cond_both, eq-eqb}
@@ -21,7 +22,7 @@ use Rattle.cq_base.specs.declared.cell.Queued.{Queued}
 use Rattle.cq_base.specs.declared.cell.Transfer.{Transfer}
 use Rattle.cq_base.specs.declared.figures.Figures.{Figures}
 use Rattle.cq_base.specs.declared.figures.InputFigures.{InputFigures}
-use Rattle.cq_base.specs.Cells.{cushion, first_for, is_for, place_of_arrival, put}
+use Rattle.cq_base.specs.Cells.{cushion, first_for, is_for, put}
 use Rattle.cq_rank.specs.Machine.{Machine}
 use Rattle.cq_ideal.specs.IdealSlot.{all_told, fronts, rests}
 use Rattle.cq_ideal.specs.Limiter.{LimiterView}
@@ -61,36 +62,19 @@ for_own : (c : Queued) → is_for c.cell.output c ≡ true
 for_own c = eq-eqb c.cell.output c.cell.output refl
 
 first_alone : (c : Queued) → first_for c.cell.output (c ∷ []) ≡ Some c
-first_alone c =
-    let none : Option Queued = None in
-    cond_both (is_for c.cell.output c) (Some c) none (λ o. o ≡ Some c) (λ _. refl)
-    (λ no. absurd (let clash : true ≡ false = sym (for_own c) ∙ no in let P : ⊥ = cc in P))
+first_alone c = grind (arith, common_steps, cond_both, for_own)
 
 left_alone : (q : Option Queued) → [] ≡ list_taken (wanted q) (alone q)
 left_alone None = refl
-left_alone (Some c) =
-    let nil : List Queued = [] in
-    cond_both (is_for c.cell.output c) nil (c ∷ nil) (λ l. nil ≡ l) (λ _. refl)
-    (λ no. absurd (let clash : true ≡ false = sym (for_own c) ∙ no in let P : ⊥ = cc in P))
+left_alone (Some c) = grind (arith, common_steps, cond_both, for_own)
 
 arrives_alone : (f : Fabric) (q : Option Queued) → alone q ≡ list_arrived f q []
 arrives_alone f None = refl
-arrives_alone f (Some c) =
-    let nil : List Queued = [] in
-    let first : 0 ≡ place_of_arrival (cushion_of f c) c nil = omega arith in ap (λ (p : ℕ). insert nil p c) first
+arrives_alone f (Some c) = grind (arith, common_steps)
 
 noted_alone : (slot i : ℕ) (q : Option Queued) → noted slot 1 i (alone q) (wanted q) ≡ crossing slot i q
 noted_alone slot i None = refl
-noted_alone slot i (Some c) =
-    ap
-    (option_map (λ (d : Queued). let t : Transfer = record {
-      slot = slot;
-      phase = 1;
-      input = i;
-      output = c.cell.output;
-      id = d.cell.id;
-    } in t))
-    (first_alone c)
+noted_alone slot i (Some c) = grind (arith, common_steps, first_alone)
 
 -- an input offers what it has, and to no other
 first_choice : (q : Option Queued) → depth (output_order (alone q)) (wanted q) ≡ 0
@@ -99,8 +83,7 @@ first_choice (Some c) = place_head [] c.cell.output c.cell.output refl
 
 offers_wanted : (q : Option Queued) (j : ℕ) → wanted q ≡ Some j → IsListed (output_order (alone q)) j
 offers_wanted None j h = absurd (let P : ⊥ = cc in P)
-offers_wanted (Some c) j h =
-    let at = place_head [] c.cell.output j (same_Some c.cell.output j h) in omega arith
+offers_wanted (Some c) j h = grind (arith, common_steps, place_head, same_Some)
 
 wants_offered : (q : Option Queued) (j : ℕ) → IsListed (output_order (alone q)) j → wanted q ≡ Some j
 wants_offered None j h = absurd (omega arith)
@@ -121,8 +104,7 @@ same_map f g (x ∷ xs) same = ap (λ y. y ∷ map f xs) (same x) ∙ ap (λ l. 
 same_kept : {X Y : Type 0} (f g : X → Option Y) (xs : List X) → ((x : X) → f x ≡ g x) →
     filter_map f xs ≡ filter_map g xs
 same_kept f g [] same = refl
-same_kept f g (x ∷ xs) same =
-    ap (λ o. cons_option o (filter_map f xs)) (same x) ∙ ap (cons_option (g x)) (same_kept f g xs same)
+same_kept f g (x ∷ xs) same = grind (arith, common_steps, same_kept f g xs same)
 
 abbrev size : {Y : Type 0} → Option Y → ℕ
 size None = 0
@@ -135,12 +117,7 @@ size_cons (Some y) ys = omega arith
 sum_sizes : {X Y : Type 0} (f : X → ℕ) (h : X → Option Y) (xs : List X) → ((x : X) → f x ≡ size (h x)) →
     sum_by f xs ≡ length (filter_map h xs)
 sum_sizes f h [] same = refl
-sum_sizes f h (x ∷ xs) same =
-    let here = same x in
-    let rest = sum_sizes f h xs same in
-    let all = sum_by-cons f x xs in
-    let long = size_cons (h x) (filter_map h xs) in
-    omega arith
+sum_sizes f h (x ∷ xs) same = grind (arith, common_steps, sum_by-cons, size_cons, sum_sizes f h xs same)
 
 front_alone : (q : Option Queued) → slice_get (alone q) 0 ≡ q
 front_alone None = refl
@@ -148,17 +125,14 @@ front_alone (Some c) = refl
 
 fronts_alone : (gone : List (Option Queued)) → fronts (map alone gone) ≡ gone
 fronts_alone [] = refl
-fronts_alone (q ∷ gone) =
-    ap (λ (o : Option Queued). o ∷ fronts (map alone gone)) (front_alone q) ∙ ap (λ l. q ∷ l) (fronts_alone gone)
+fronts_alone (q ∷ gone) = grind (arith, common_steps, front_alone, fronts_alone gone)
 
 rest_alone : (q : Option Queued) → drop 1 (alone q) ≡ []
 rest_alone None = refl
 rest_alone (Some c) = refl
 
 no_cell : (lists : List (List Queued)) → All (λ cells. cells ≡ []) lists → (i : ℕ) → list_of lists i ≡ []
-no_cell lists empty i =
-    let nil : List Queued = [] in
-    ⊎_elim (λ inside. empty i nil inside) (λ past. get_or_past lists i nil past) (cases_lt i (length lists))
+no_cell lists empty i = grind (arith, common_steps, get_or_past, cases_lt)
 
 rests_alone : (buffers : List (List Queued)) (gone : List (Option Queued)) → length gone ≡ length buffers →
     All (λ cells. cells ≡ []) buffers → buffers ≡ rests (map alone gone)
@@ -167,8 +141,7 @@ rests_alone buffers gone long empty =
     let none : Option Queued = None in
     let rest : List Queued → List Queued = λ xs. drop 1 xs in
     ext_get_or nil buffers (rests (map alone gone))
-    (sym (length-map (map alone gone) rest ∙ length-map gone alone ∙ long))
-    (λ j below. no_cell buffers empty j
+    (sym (length-map (map alone gone) rest ∙ length-map gone alone ∙ long)) (λ j below. no_cell buffers empty j
     ∙ sym (get_or-map rest (map alone gone) j nil ∙ ap rest (get_or-map alone gone j none)
     ∙ rest_alone (get_or gone j none)))
 
@@ -185,17 +158,12 @@ crossings_none slot came = refl
 
 pub crossings_past : (slot n : ℕ) (came : List (Option Queued)) → came_to came n ≡ None →
     crossings slot (n + 1) came ≡ crossings slot n came
-crossings_past slot n came none =
-    crossings_more slot n came
-    ∙ ap (λ (q : Option Queued). crossings slot n came ++ option_to_list (crossing slot n q)) none
-    ∙ append-nil (crossings slot n came)
+crossings_past slot n came none = grind (arith, common_steps, crossings_more, append-nil)
 
 pub crossings_one : (slot n : ℕ) (came : List (Option Queued)) (c : Queued) → came_to came n ≡ Some c →
     let t : Transfer = record { slot = slot; phase = 1; input = n; output = c.cell.output; id = c.cell.id } in
     crossings slot (n + 1) came ≡ crossings slot n came ++ t ∷ []
-crossings_one slot n came c is =
-    crossings_more slot n came
-    ∙ ap (λ (q : Option Queued). crossings slot n came ++ option_to_list (crossing slot n q)) is
+crossings_one slot n came c is = grind (arith, common_steps, crossings_more)
 
 -- one an input at most
 pub crossings_few : (slot n : ℕ) (came : List (Option Queued)) → length (crossings slot n came) ≤ n
@@ -211,17 +179,12 @@ crossings_few slot n came = few 0 n
 
     few : (a m : ℕ) → length (filter_map h (range_with_len a m)) ≤ m
     few a zero = omega arith
-    few a (suc m) =
-        let here = one_most (h a) in
-        let rest = few (a + 1) m in
-        let long = size_cons (h a) (filter_map h (range_with_len (a + 1) m)) in
-        omega arith
+    few a (suc m) = grind (arith, common_steps, one_most, size_cons, few (a + 1) m)
 
 -- no more than there are pairs of ports
 pub at_most_square : (n : ℕ) → n ≤ n * n
 at_most_square zero = omega arith
-at_most_square (suc k) =
-    let fits = row_fits k (suc k) (suc k) (suc k) (omega arith) (omega arith) in omega arith
+at_most_square (suc k) = grind (arith, common_steps, row_fits)
 
 -- ## The slot
 
@@ -262,12 +225,7 @@ module _ {ms : List Machine} {slot : ℕ} {q : Queues} {ranks0 : List (List ℕ)
 
   abbrev filled : Queues
   filled =
-      record {
-        inputs = q.inputs;
-        buffers = map alone gone;
-        from_inputs = q.from_inputs;
-        to_outputs = q.to_outputs;
-      }
+      record { inputs = q.inputs; buffers = map alone gone; from_inputs = q.from_inputs; to_outputs = q.to_outputs }
 
   lists_long : length lists ≡ n
   lists_long = length-map-range_with_len (λ i. alone (came_to came i)) 0 n
@@ -276,24 +234,13 @@ module _ {ms : List Machine} {slot : ℕ} {q : Queues} {ranks0 : List (List ℕ)
   pairs_long = length-map-range_with_len (λ i. wanted (came_to came i)) 0 n
 
   list_is : (i : ℕ) → list_of lists i ≡ alone (came_to came i)
-  list_is i =
-      let nil : List Queued = [] in
-      ⊎_elim
-      (λ inside. get_or-map-range_with_len (λ k. alone (came_to came k)) 0 n i i nil inside (omega arith))
-      (λ past. get_or_past lists i nil (let long = lists_long in omega arith) ∙ ap alone (sym (none_past i past)))
-      (cases_lt i n)
+  list_is i = grind (arith, common_steps, get_or-map-range_with_len, get_or_past, lists_long, none_past, cases_lt)
 
   partner_is : (i : ℕ) → partner_of pairs i ≡ wanted (came_to came i)
-  partner_is i =
-      let none : Option ℕ = None in
-      ⊎_elim
-      (λ inside. get_or-map-range_with_len (λ k. wanted (came_to came k)) 0 n i i none inside (omega arith))
-      (λ past. get_or_past pairs i none (let long = pairs_long in omega arith) ∙ ap wanted (sym (none_past i past)))
-      (cases_lt i n)
+  partner_is i = grind (arith, common_steps, get_or-map-range_with_len, get_or_past, pairs_long, none_past, cases_lt)
 
   order_is : (i : ℕ) → outputs_of (orders_of lists) i ≡ output_order (alone (came_to came i))
-  order_is i =
-      let nil : List Queued = [] in get_or-map output_order lists i nil ∙ ap output_order (list_is i)
+  order_is i = let nil : List Queued = [] in get_or-map output_order lists i nil ∙ ap output_order (list_is i)
 
   -- the cell of a pair
   pair_cell : (i j : ℕ) → partner_of pairs i ≡ Some j →
@@ -309,17 +256,14 @@ module _ {ms : List Machine} {slot : ℕ} {q : Queues} {ranks0 : List (List ℕ)
   -- ## The first matching
 
   at_best : (i : ℕ) → partner_place (orders_of lists) pairs i ≡ 0
-  at_best i =
-      ap (λ l. depth l (partner_of pairs i)) (order_is i)
-      ∙ ap (depth (output_order (alone (came_to came i)))) (partner_is i) ∙ first_choice (came_to came i)
+  at_best i = grind (arith, common_steps, order_is, partner_is, first_choice)
 
   once : (i k j : ℕ) → partner_of pairs i ≡ Some j → partner_of pairs k ≡ Some j → i ≡ k
   once i k j h g =
       let a = pair_cell i j h in
       let b = pair_cell k j g in
       let same : a.0 ≡ b.0 =
-      same_Some a.0 b.0
-      (sym (pair_gone i a.0 a.1) ∙ ap (came_to gone) (a.2 ∙ sym b.2) ∙ pair_gone k b.0 b.1) in
+      same_Some a.0 b.0 (sym (pair_gone i a.0 a.1) ∙ ap (came_to gone) (a.2 ∙ sym b.2) ∙ pair_gone k b.0 b.1) in
       sym ((keyed known).input_is i a.0 a.1) ∙ ap (λ (c : Queued). c.key.input) same
       ∙ (keyed known).input_is k b.0 b.1
 
@@ -333,8 +277,7 @@ module _ {ms : List Machine} {slot : ℕ} {q : Queues} {ranks0 : List (List ℕ)
           once = once;
         };
         settled = λ i j h ne. absurd
-            (ne (partner_is i
-            ∙ wants_offered (came_to came i) j (subst (λ l. IsListed l j) (order_is i) h)));
+            (ne (partner_is i ∙ wants_offered (came_to came i) j (subst (λ l. IsListed l j) (order_is i) h)));
       }
 
   pairs_best : IsInputBest (orders_of lists) pairs
@@ -343,46 +286,21 @@ module _ {ms : List Machine} {slot : ℕ} {q : Queues} {ranks0 : List (List ℕ)
   proposes_once : (i : ℕ) (o : Option Queued) → outputs_of (orders_of lists) i ≡ output_order (alone o) →
       partner_of pairs i ≡ wanted o →
       spent (outputs_of (orders_of lists) i) (partner_of pairs i) ≡ size (crossing slot i o)
-  proposes_once i None order partner =
-      ap (λ l. spent l (partner_of pairs i)) order ∙ ap (spent (output_order (alone None))) partner
-  proposes_once i (Some c) order partner =
-      let first = place_head [] c.cell.output c.cell.output refl in
-      ap (λ l. spent l (partner_of pairs i)) order ∙ ap (spent (output_order (alone (Some c)))) partner
-      ∙ omega arith
+  proposes_once i None order partner = grind (arith, common_steps)
+  proposes_once i (Some c) order partner = grind (arith, common_steps, place_head)
 
   all_proposed : length (crossings slot n came) ≡ proposals (orders_of lists) pairs
   unfolding crossings
-  all_proposed =
-      let o = orders_of lists in
-      let f : ℕ → ℕ = λ i. spent (outputs_of o i) (partner_of pairs i) in
-      let h : ℕ → Option Transfer = λ i. crossing slot i (came_to came i) in
-      let many : n ≡ ports o = sym (length-map lists output_order ∙ lists_long) in
-      ap (λ (k : ℕ). length (filter_map h (range_with_len 0 k))) many
-      ∙ sym (sum-map f (range_with_len 0 (ports o))
-      ∙ sum_sizes f h (range_with_len 0 (ports o))
-      (λ i. proposes_once i (came_to came i) (order_is i) (partner_is i)))
+  all_proposed = search (rules, length-map, lists_long, sum-map, sum_sizes, proposes_once, order_is, partner_is)
 
   all_noted : transfers_of pairs lists slot 1 ≡ crossings slot n came
   unfolding crossings transfers_of
-  all_noted =
-      let f : ℕ → Option Transfer = λ i. noted slot 1 i (list_of lists i) (partner_of pairs i) in
-      let h : ℕ → Option Transfer = λ i. crossing slot i (came_to came i) in
-      ap (λ (k : ℕ). filter_map f (range_with_len 0 k)) pairs_long
-      ∙ same_kept f h (range_with_len 0 n)
-      (λ i. ap (λ l. noted slot 1 i l (partner_of pairs i)) (list_is i)
-      ∙ ap (noted slot 1 i (alone (came_to came i))) (partner_is i) ∙ noted_alone slot i (came_to came i))
+  all_noted = grind (arith, common_steps, pairs_long, same_kept, list_is, partner_is, noted_alone)
 
   -- ## The phases
 
   arrived : HaveArrived q came listed
-  arrived =
-      record {
-        ports = lists_long;
-        lists = λ i. list_is i ∙ arrives_alone (fabric_of q []) (came_to came i)
-            ∙ ap (list_arrived (fabric_of q []) (came_to came i)) (sym (no_list i));
-        buffers = refl;
-        to_outputs = refl;
-      }
+  arrived = grind (arith, common_steps, lists_long, list_is, arrives_alone, no_list)
 
   buffer_is : (j : ℕ) → list_of (map alone gone) j ≡ alone (came_to gone j)
   buffer_is j = let none : Option Queued = None in get_or-map alone gone j none
@@ -398,13 +316,9 @@ module _ {ms : List Machine} {slot : ℕ} {q : Queues} {ranks0 : List (List ℕ)
 
       go : (o : Option Queued) → came_to gone j ≡ o → came_to gone j ≡ None
       go None is = is
-      go (Some c) is =
-          absurd
-          (⊎_elim
-          (λ inside.
+      go (Some c) is = absurd (⊎_elim (λ inside.
           let from = straight.sent.only j c inside is in
-          free from.input (pair_of from.input c from.at ∙ ap Some from.output))
-          (λ past. outside c is past)
+          free from.input (pair_of from.input c from.at ∙ ap Some from.output)) (λ past. outside c is past)
           (cases_lt j n))
 
   moves : Moves pairs lists q.buffers q.inputs (map alone gone)
@@ -431,21 +345,14 @@ module _ {ms : List Machine} {slot : ℕ} {q : Queues} {ranks0 : List (List ℕ)
   crossed = record { best = pairs_best; counted = all_proposed; moves = moves }
 
   sent : (ranks2 : List (List ℕ)) → ranks2 ≡ all_told ms gone ranks1 → HaveSent ms listed ranks1 filled ranks2 q
-  sent ranks2 told =
-      record {
-        inputs = refl;
-        buffers = rests_alone q.buffers gone (straight.ports ∙ sym square) straight.buffers;
-        told = told ∙ ap (λ l. all_told ms l ranks1) (sym (fronts_alone gone));
-        to_outputs = refl;
-      }
+  sent ranks2 told = grind (arith, common_steps, rests_alone, square, fronts_alone)
 
   -- nothing is offered then
   abbrev nobody : Partners
   nobody = replicate (ports (orders_of q.inputs)) None
 
   none_offered : (i : ℕ) → outputs_of (orders_of q.inputs) i ≡ []
-  none_offered i =
-      let nil : List Queued = [] in get_or-map output_order q.inputs i nil ∙ ap output_order (no_list i)
+  none_offered i = let nil : List Queued = [] in get_or-map output_order q.inputs i nil ∙ ap output_order (no_list i)
 
   crossed_again : HaveCrossed nobody 0 q q
   crossed_again =
@@ -467,31 +374,20 @@ module _ {ms : List Machine} {slot : ℕ} {q : Queues} {ranks0 : List (List ℕ)
   arriving_least : (i : ℕ) (o : Option Queued) → arriving_slack listed i o ≡ least o
   unfolding least
   arriving_least i None = refl
-  arriving_least i (Some c) =
-      let none = no_cushion c in
-      let zero : cushion c.key (list_of q.buffers c.cell.output)
-      - position_or_len (λ x. eqb x.key.slot c.key.slot) (list_of lists i) ≡ 0 = omega arith in ap Some zero
+  arriving_least i (Some c) = grind (arith, common_steps, no_cushion)
 
   all_least : (o : Option Queued) →
       reduce min (map (λ at. cushion_of (fabric_of listed []) at.1 - at.0) (enumerate_from 0 (alone o))) ≡ least o
   unfolding least
   all_least None = refl
-  all_least (Some c) =
-      let none = no_cushion c in
-      let zero : cushion c.key (list_of q.buffers c.cell.output) - 0 ≡ 0 = omega arith in ap Some zero
+  all_least (Some c) = grind (arith, common_steps, no_cushion)
 
   seen_least : (looks : Look) (i : ℕ) → slack_seen looks listed i (came_to came i) ≡ least (came_to came i)
   unfolding slacks
   seen_least look.Arriving i = arriving_least i (came_to came i)
-  seen_least look.All i =
-      ap
-      (λ (l : List Queued). reduce min (map (λ (at : ℕ × Queued). cushion_of (fabric_of listed []) at.1 - at.0)
-      (enumerate_from 0 l)))
-      (list_is i)
-      ∙ all_least (came_to came i)
-
-  abbrev figures_of : ℕ → ℕ → Option ℕ → InputFigures
-  figures_of count longest slack = record { cells = count; longest = longest; slack = slack }
+  seen_least look.All i = ap (λ (l : List Queued).
+      reduce min (map (λ (at : ℕ × Queued). cushion_of (fabric_of listed []) at.1 - at.0) (enumerate_from 0 l)))
+      (list_is i) ∙ all_least (came_to came i)
 
   no_less : (s : Option ℕ) → s ≡ either_by min s None
   no_less None = refl
@@ -504,28 +400,13 @@ module _ {ms : List Machine} {slot : ℕ} {q : Queues} {ranks0 : List (List ℕ)
   one_passed : (looks : Look) (i : ℕ) (o : Option Queued) (x : InputFigures) → list_of lists i ≡ alone o →
       slack_seen looks listed i o ≡ least o → input_passed o x ≡ input_counted looks listed i o x
   unfolding input_counted least
-  one_passed looks i None x list slack =
-      let none : Option Queued = None in
-      let same : x.cells ≡ x.cells + 0 = omega arith in
-      let long = ap length list in
-      let longest : x.longest ≡ max x.longest (length (list_of lists i)) = omega arith in
-      ap (λ m. figures_of m x.longest x.slack) same ∙ ap (λ m. figures_of (x.cells + 0) m x.slack) longest
-      ∙ ap (figures_of (x.cells + 0) (max x.longest (length (list_of lists i))))
-      (no_less x.slack ∙ ap (either_by min x.slack) (sym slack))
-  one_passed looks i (Some c) x list slack =
-      let long = ap length list in
-      let longest : max x.longest 1 ≡ max x.longest (length (list_of lists i)) = omega arith in
-      ap (λ m. figures_of (x.cells + 1) m (Some 0)) longest
-      ∙ ap (figures_of (x.cells + 1) (max x.longest (length (list_of lists i))))
-      (least_of x.slack ∙ ap (either_by min x.slack) (sym slack))
+  one_passed looks i None x list slack = grind (arith, common_steps, no_less)
+  one_passed looks i (Some c) x list slack = grind (arith, common_steps, least_of)
 
   pub counted_passed : (looks : Look) (xs : List InputFigures) →
       map (λ at. input_passed (came_to came at.0) at.1) (enumerate_from 0 xs)
       ≡ map (λ at. input_counted looks listed at.0 (came_to came at.0) at.1) (enumerate_from 0 xs)
-  counted_passed looks xs =
-      same_map (λ (at : ℕ × InputFigures). input_passed (came_to came at.0) at.1)
-      (λ at. input_counted looks listed at.0 (came_to came at.0) at.1) (enumerate_from 0 xs)
-      (λ at. one_passed looks at.0 (came_to came at.0) at.1 (list_is at.0) (seen_least looks at.0))
+  counted_passed looks xs = grind (arith, common_steps, same_map, one_passed, list_is, seen_least)
 
   -- ## All of it
 
@@ -554,27 +435,20 @@ module _ {ms : List Machine} {slot : ℕ} {q : Queues} {ranks0 : List (List ℕ)
       let notes : transfers_of pairs lists slot 1 ++ transfers_of nobody q.inputs slot 2 ≡ crossings slot n came =
       ap (λ l. transfers_of pairs lists slot 1 ++ l) (nothing_noted (ports (orders_of q.inputs)) q.inputs slot 2)
       ∙ append-nil (transfers_of pairs lists slot 1) ∙ all_noted in
-      let long =
-      whole_slot x up known arrived room crossed (sent ranks2 told) crossed_again looks seen y
+      let long = whole_slot x up known arrived room crossed (sent ranks2 told) crossed_again looks seen y
       (record {
-        slots =
-            counts.slots
+        slots = counts.slots
             ∙ ap (λ (l : List (Option Queued)). if list_any is_some l then max x.slots (slot + 1) else x.slots)
             (sym fronts_are);
         proposed = counts.proposed;
         most = counts.most;
         inputs = counts.inputs ∙ counted_passed looks x.inputs;
-        outputs =
-            counts.outputs
-            ∙ ap (λ (l : List (Option Queued)). map (λ at. output_counted slot (came_to l at.0) at.1)
-            (enumerate_from 0 x.outputs))
+        outputs = counts.outputs
+            ∙ ap (λ (l : List (Option Queued)).
+            map (λ at. output_counted slot (came_to l at.0) at.1) (enumerate_from 0 x.outputs))
             (sym fronts_are);
       }) in
-      subst
-      (λ (l : List (Option Queued)). Whole ms slot cells x y (fabric_of q ranks0) (fabric_of q ranks2) known.ideal l
-      (crossings slot n came))
-      fronts_are
-      (subst
-      (λ (t : List Transfer). Whole ms slot cells x y (fabric_of q ranks0) (fabric_of q ranks2) known.ideal
-      (fronts (map alone gone)) t)
-      notes long)
+      subst (λ (l : List (Option Queued)).
+      Whole ms slot cells x y (fabric_of q ranks0) (fabric_of q ranks2) known.ideal l (crossings slot n came))
+      fronts_are (subst (λ (t : List Transfer). Whole ms slot cells x y (fabric_of q ranks0) (fabric_of q ranks2)
+      known.ideal (fronts (map alone gone)) t) notes long)

@@ -1,5 +1,6 @@
 -- Lists that are new up to a place, and old from it on.
-use Rattle.std.proofs.Common.{◌≡◌, ℕ, ◌+◌, ◌<◌, ◌≤◌, List, length, map, get_or, set, drop, Some, refl, sym, ap, ◌∙◌, subst, arith}
+use Rattle.std.proofs.lemmas.Grind.{common_steps}
+use Rattle.std.proofs.Common.{rules, ◌≡◌, ℕ, ◌+◌, ◌<◌, ◌≤◌, List, length, map, get_or, set, drop, Some, sym, ap, ◌∙◌, arith}
 use Rattle.std.specs.Prelude.{slice_get}
 use Rattle.std.specs.List.{enumerate_from}
 use Rattle.std.proofs.lemmas.List.FromFn.{length-enumerate_from, get_or-enumerate_from}
@@ -10,8 +11,7 @@ use Rattle.std.proofs.lemmas.List.{drop-drop, drop-set-lt, get_or-map, length-ma
 -- one item more is written, and those behind it are as they were
 pub still_behind : {X : Type 0} (now old : List X) (j : ℕ) (y : X) → drop j now ≡ drop j old →
     drop (j + 1) (set now j y) ≡ drop (j + 1) old
-still_behind now old j y same =
-    drop-set-lt (j + 1) now j y (omega arith) ∙ sym (drop-drop 1 j now) ∙ ap (drop 1) same ∙ drop-drop 1 j old
+still_behind now old j y same = grind (arith, common_steps, drop-set-lt, drop-drop)
 
 -- ## Lists of which each item is changed by its place
 
@@ -22,10 +22,7 @@ module _ {X : Type 0} (f : ℕ → X → X) (xs : List X) where
   pub at-by_place : (i : ℕ) (d : X) → i < length xs →
       get_or (map (λ at. f at.0 at.1) (enumerate_from 0 xs)) i d ≡ f i (get_or xs i d)
   at-by_place i d inside =
-      let g : ℕ × X → X = λ at. f at.0 at.1 in
-      get_or-map g (enumerate_from 0 xs) i (0, d) d (let n = length-enumerate_from 0 xs in omega arith)
-      ∙ ap g (get_or-enumerate_from 0 xs i (0, d) inside)
-      ∙ ap (λ k. f k (get_or xs i d)) (let e : 0 + i ≡ i = omega arith in e)
+      search (arith, rules, get_or-map, length-enumerate_from 0 xs, get_or-enumerate_from 0 xs i (0, d) inside)
 
   -- one item more is changed
   by_place_next : (now : List X) (i : ℕ) (y d : X) →
@@ -42,11 +39,7 @@ module _ {X : Type 0} (f : ℕ → X → X) (xs : List X) where
   not_yet : (now : List X) (i : ℕ) (d : X) →
       now ≡ changed_to (map (λ at. f at.0 at.1) (enumerate_from 0 xs)) xs i → i < length xs →
       slice_get xs i ≡ Some (get_or now i d)
-  not_yet now i d so_far inside =
-      slice_get-get_or xs i d inside
-      ∙ ap Some
-      (sym (ap (λ l. get_or l i d) so_far
-      ∙ at_place (map (λ at. f at.0 at.1) (enumerate_from 0 xs)) xs i d length-by_place inside))
+  not_yet now i d so_far inside = grind (arith, common_steps, slice_get-get_or, at_place, length-by_place)
 
 -- the items before a place are changed, and the others are as they were
 pub record IsChangedTo {X : Type 0} (f : ℕ → X → X) (xs : List X) (n : ℕ) (now : List X) : Type 0 where
@@ -58,28 +51,17 @@ module _ {X : Type 0} {f : ℕ → X → X} {xs : List X} {n : ℕ} {now : List 
   pub still_few : (number : X → ℕ) (d : X) → n < length xs → {most : ℕ} →
       ((i : ℕ) (x : X) → slice_get xs i ≡ Some x → number x < most) → {seen : List X} → seen ≡ now →
       number (get_or seen n d) < most
-  still_few number d inside {most} all is =
-      subst (λ l. number (get_or l n d) < most) (sym is)
-      (all n (get_or now n d) (not_yet f xs now n d so_far.items inside))
+  still_few number d inside {most} all is = grind (arith, common_steps, not_yet f xs now n d so_far.items inside)
 
   -- it is changed
   pub next_changed : (d y : X) → n < length xs → (seen : List X) → seen ≡ now → y ≡ f n (get_or seen n d) →
       (more : List X) → more ≡ set now n y → IsChangedTo f xs (n + 1) more
-  next_changed d y inside seen is one more put =
-      record {
-        items =
-            put
-            ∙ by_place_next f xs now n y d so_far.items inside (one ∙ ap (λ l. f n (get_or l n d)) is);
-        long = ap length put ∙ length-set now n y ∙ so_far.long;
-      }
+  next_changed d y inside seen is one more put = grind (arith, common_steps, by_place_next, length-set)
 
   -- or is what it would be
   pub next_kept : (d : X) → n < length xs → get_or now n d ≡ f n (get_or now n d) → (more : List X) → more ≡ now →
       IsChangedTo f xs (n + 1) more
-  next_kept d inside same more is =
-      next_changed d (get_or now n d) inside now refl same more (is ∙ sym (set-get_or now n d))
+  next_kept d inside same more is = search (rules, next_changed, set-get_or)
 
   pub all_changed : length xs ≤ n → now ≡ map (λ at. f at.0 at.1) (enumerate_from 0 xs)
-  all_changed past =
-      so_far.items
-      ∙ at_end (map (λ at. f at.0 at.1) (enumerate_from 0 xs)) xs n (length-by_place f xs) past
+  all_changed past = grind (arith, common_steps, at_end, length-by_place)

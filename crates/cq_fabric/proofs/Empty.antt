@@ -1,5 +1,5 @@
 -- Whether no cell waits in any of some lists.
-use Rattle.std.proofs.Common.{◌≡◌, ◌↔◌, eqb, Bool, true, List, [], ◌∷◌, length, map, get_or, refl, sym, ap, ◌∙◌, arith}
+use Rattle.std.proofs.Common.{◌≡◌, ◌↔◌, eqb, Bool, true, List, [], ◌∷◌, length, map, refl, ap, arith, get_or, sym, ◌∙◌}
 use Rattle.std.specs.Prelude.{IsTrue, All}
 use Rattle.std.specs.List.{list_all}
 use Rattle.std.proofs.lemmas.Bool.{eqb-true, eq-eqb}

@@ -1,8 +1,9 @@
 -- Cells that come into an empty list or an empty buffer in the order in which they are to stand. Each finds those
 -- ahead of it alone: in a list all more urgent cells for its output stand there, and no less urgent one, so that it
 -- goes in at the end; in a buffer all have lesser keys.
-use Rattle.std.proofs.Common.{◌≡◌, ◌≢◌, ℕ, ◌+◌, ◌<◌, ◌≤◌, cond, Bool, false, List, [], ◌∷◌, ◌++◌, length, map, get_or, take, drop, Some, refl, sym, ap, ◌∙◌, subst, ⊎_elim, arith}
-use Rattle.std.specs.Prelude.{◌&&◌, insert, slice_get}
+use Rattle.std.proofs.Common.{rules, ◌≡◌, ◌≢◌, ℕ, ◌+◌, ◌<◌, ◌≤◌, cond, Bool, false, List, [], ◌∷◌, ◌++◌, length, map, get_or, take, drop, Some, refl, sym, ap, ◌∙◌, subst, ⊎_elim, arith}
+use Rattle.std.proofs.lemmas.Grind.{common_steps}
+use Rattle.std.specs.Prelude.{◌&&◌, slice_get}
 use Rattle.std.specs.List.{AllByRecursion}
 use Rattle.std.proofs.lemmas.Bool.{and_left, and_right, cases_Bool, eqb-true}
 use Rattle.std.proofs.lemmas.List.{drop_all, drop_more, get_or-map, get_or_read, length-map, length-take-le, take-append-drop, take_all, take_more}
@@ -10,7 +11,7 @@ use Rattle.std.proofs.lemmas.List.Elements.{All-from_recursion}
 use Rattle.std.proofs.lemmas.Option.{same_Some, slice_get-get_or}
 use Rattle.cq_base.specs.declared.cell.Queued.{Queued}
 use Rattle.cq_base.specs.Key.{is_before}
-use Rattle.cq_base.specs.Cells.{EachPair, HasOtherKey, IsBefore, IsRising, MoreUrgentAhead, is_for, place_of_arrival, place_of_later, put, with_arrival}
+use Rattle.cq_base.specs.Cells.{EachPair, HasOtherKey, IsBefore, IsRising, MoreUrgentAhead, is_for, place_of_later, put, with_arrival}
 use Rattle.cq_base.proofs.Keys.{key_laws}
 use Rattle.cq_base.proofs.Lists.{ahead_of_end, first_later}
 use Rattle.cq_list.specs.InputList.{Waiting}
@@ -33,45 +34,30 @@ each_before R (x ∷ xs) ys c pairs = (here_of (R x) xs ys c pairs.0, each_befor
 
 parted_at : (cells : List Queued) (i : ℕ) (d : Queued) → i < length cells →
     cells ≡ take i cells ++ get_or cells i d ∷ drop (i + 1) cells
-parted_at cells i d inside =
-    sym (take-append-drop i cells) ∙ ap (λ (l : List Queued). take i cells ++ l) (drop_more cells i d inside)
+parted_at cells i d inside = grind (arith, common_steps, take-append-drop, drop_more)
 
 -- what holds of each cell and each behind it holds of those before a place and the one that stands there
 before_place : (R : Queued → Queued → Type 0) (cells : List Queued) (i : ℕ) (d : Queued) → i < length cells →
     EachPair R cells → AllByRecursion (λ x. R x (get_or cells i d)) (take i cells)
 before_place R cells i d inside pairs =
-    each_before R (take i cells) (drop (i + 1) cells) (get_or cells i d)
-    (subst (EachPair R) (parted_at cells i d inside) pairs)
+    grind (arith, common_steps, each_before R (take i cells) (drop (i + 1) cells), parted_at cells i d inside)
 
 -- ## The end of a list
 
 not_later : (c x : Queued) → (x.cell.output ≡ c.cell.output → IsBefore x c) →
     (is_for c.cell.output x && is_before c.key x.key) ≡ false
-not_later c x before =
-    ⊎_elim
-    (λ same.
-    and_right (is_for c.cell.output x) (is_before c.key x.key)
+not_later c x before = ⊎_elim (λ same. and_right (is_for c.cell.output x) (is_before c.key x.key)
     (key_laws.one_way x.key c.key (before (eqb-true x.cell.output c.cell.output same))))
-    (λ other. and_left (is_for c.cell.output x) (is_before c.key x.key) other)
-    (cases_Bool (is_for c.cell.output x))
+    (λ other. and_left (is_for c.cell.output x) (is_before c.key x.key) other) (cases_Bool (is_for c.cell.output x))
 
 none_later : (c : Queued) (xs : List Queued) →
     AllByRecursion (λ x. x.cell.output ≡ c.cell.output → IsBefore x c) xs → place_of_later c xs ≡ length xs
 none_later c [] all = refl
-none_later c (x ∷ xs) all =
-    let later =
-    first_later (λ (y : Queued). is_for c.cell.output y && is_before c.key y.key) x xs (not_later c x all.0) in
-    let rest = none_later c xs all.1 in
-    omega arith
+none_later c (x ∷ xs) all = grind (arith, common_steps, first_later, not_later, none_later c xs all.1)
 
 goes_last : (n : ℕ) (c : Queued) (xs : List Queued) → length xs ≡ n →
     AllByRecursion (λ x. x.cell.output ≡ c.cell.output → IsBefore x c) xs → with_arrival n c xs ≡ xs ++ c ∷ []
-goes_last n c xs long all =
-    let later = none_later c xs all in
-    let place : place_of_arrival n c xs ≡ length xs = omega arith in
-    ap (λ (p : ℕ). insert xs p c) place
-    ∙ ap (λ (l : List Queued). l ++ c ∷ drop (length xs) xs) (take_all (length xs) xs (omega arith))
-    ∙ ap (λ (l : List Queued). xs ++ c ∷ l) (drop_all (length xs) xs (omega arith))
+goes_last n c xs long all = grind (arith, common_steps, none_later, take_all, drop_all)
 
 -- the cell at a place of the cells that a list is to have, once those before it are there
 module _ (outputs most : ℕ) (cells : List Queued) (wait : CanWait outputs most cells) (at : ℕ)
@@ -80,57 +66,41 @@ module _ (outputs most : ℕ) (cells : List Queued) (wait : CanWait outputs most
   long = ap length so_far ∙ length-take-le at cells (omega arith)
 
   pub comes_in_range : w.outputs ≡ outputs → (get_or cells at d).cell.output < w.outputs
-  comes_in_range same =
-      subst (λ (n : ℕ). (get_or cells at d).cell.output < n) (sym same)
-      (All-from_recursion (λ (x : Queued). x.cell.output < outputs) cells wait.outputs at d inside)
+  comes_in_range same = grind (arith, common_steps, All-from_recursion)
 
   pub comes_anew : HasOtherKey (get_or cells at d) w.cells
-  comes_anew =
-      subst (HasOtherKey (get_or cells at d)) (sym so_far)
+  comes_anew = subst (HasOtherKey (get_or cells at d)) (sym so_far)
       (before_place (λ a b. a.key ≢ b.key) cells at d inside wait.differ)
 
   pub comes_behind : MoreUrgentAhead at (get_or cells at d) w.cells
   comes_behind = ahead_of_end at (get_or cells at d) w.cells (let l = long in omega arith)
 
   pub comes_last : with_arrival at (get_or cells at d) w.cells ≡ take (at + 1) cells
-  comes_last =
-      goes_last at (get_or cells at d) w.cells long
-      (subst
-      (AllByRecursion
-      (λ (x : Queued). x.cell.output ≡ (get_or cells at d).cell.output → IsBefore x (get_or cells at d)))
-      (sym so_far)
+  comes_last = goes_last at (get_or cells at d) w.cells long (subst (AllByRecursion (λ (x : Queued).
+      x.cell.output ≡ (get_or cells at d).cell.output → IsBefore x (get_or cells at d))) (sym so_far)
       (before_place (λ a b. a.cell.output ≡ b.cell.output → IsBefore a b) cells at d inside wait.order))
-      ∙ ap (λ (l : List Queued). l ++ get_or cells at d ∷ []) so_far
-      ∙ sym (take_more cells at d inside)
+      ∙ ap (λ (l : List Queued). l ++ get_or cells at d ∷ []) so_far ∙ sym (take_more cells at d inside)
 
 -- ## The end of a buffer
 
 other_keys : (c : Queued) (xs : List Queued) → AllByRecursion (λ x. IsBefore x c) xs → HasOtherKey c xs
 other_keys c [] all = tt
-other_keys c (x ∷ xs) all = (
-  λ same. not_before_itself c (ap (λ k. is_before k c.key) (sym same) ∙ all.0),
-  other_keys c xs all.1,
-)
+other_keys c (x ∷ xs) all = grind (arith, common_steps, not_before_itself, other_keys c xs all.1)
 
 put_last : (c : Queued) (xs : List Queued) → AllByRecursion (λ x. IsBefore x c) xs → put c xs ≡ xs ++ c ∷ []
 put_last c [] all = refl
-put_last c (x ∷ xs) all =
-    ap (λ (b : Bool). cond b (c ∷ x ∷ xs) (x ∷ put c xs)) (key_laws.one_way x.key c.key all.0)
+put_last c (x ∷ xs) all = ap (λ (b : Bool). cond b (c ∷ x ∷ xs) (x ∷ put c xs)) (key_laws.one_way x.key c.key all.0)
     ∙ ap (λ (l : List Queued). x ∷ l) (put_last c xs all.1)
 
 -- the cell at a place of the cells that a buffer is to have, once those before it are there
 module _ (cells : List Queued) (rising : IsRising cells) (at : ℕ) (inside : at < length cells) (d : Queued)
     (xs : List Queued) (so_far : xs ≡ take at cells) where
   pub stands_anew : HasOtherKey (get_or cells at d) xs
-  stands_anew =
-      subst (HasOtherKey (get_or cells at d)) (sym so_far)
-      (other_keys (get_or cells at d) (take at cells) (before_place IsBefore cells at d inside rising))
+  stands_anew = grind (arith, common_steps, other_keys, before_place IsBefore cells at d inside rising)
 
   pub stands_last : put (get_or cells at d) xs ≡ take (at + 1) cells
   stands_last =
-      ap (put (get_or cells at d)) so_far
-      ∙ put_last (get_or cells at d) (take at cells) (before_place IsBefore cells at d inside rising)
-      ∙ sym (take_more cells at d inside)
+      search (arith, rules, put_last, before_place IsBefore cells at d inside rising, take_more cells at d inside)
 
 -- ## Room
 
@@ -142,10 +112,7 @@ module _ (cells : List Queued) (at : ℕ) (inside : at < length cells) (xs : Lis
 
   pub room_stays : (more : List Queued) (left : ℕ) → more ≡ take (at + 1) cells → left + 1 ≡ spare →
       length more + left ≡ room
-  room_stays more left next one =
-      let long = ap length so_far in
-      let longer = ap length next in
-      omega (arith, length-take-le at cells (omega arith), length-take-le (at + 1) cells (omega arith))
+  room_stays more left next one = grind (arith, common_steps, length-take-le)
 
 -- ## All items
 
@@ -160,20 +127,14 @@ pub one_filled : {X : Type 0} {cells_at : X → List Queued} {room_of number : X
     length cells ≡ length sizes → IsFilled cells_at room_of number m (list_of cells n) (get_or sizes n 0) x →
     AreFilled cells_at room_of number m sizes cells (n + 1) more
 one_filled {X} {cells_at} {room_of} {number} {m} {sizes} {cells} {n} {items} {more} x so_far is inside as_many one =
-    let none : List Queued = [] in
-    record {
-      cells = map_next cells_at cells n items more x none so_far.cells is (omega arith) one.cells;
-      rooms = map_next room_of sizes n items more x 0 so_far.rooms is inside one.room;
-      numbers = map_same number m n items more x so_far.numbers is one.number;
-    }
+    grind (arith, common_steps, map_next, map_same)
 
 -- ## What waits
 
 -- the cell at a place behind those before it
 pub one_read : (cells : List Queued) (i : ℕ) (xs more : List Queued) (c : Queued) → xs ≡ take i cells →
     more ≡ xs ++ c ∷ [] → i < length cells → slice_get cells i ≡ Some c → more ≡ take (i + 1) cells
-one_read cells i xs more c so_far is inside at =
-    take_next cells i xs more c c so_far is inside
+one_read cells i xs more c so_far is inside at = take_next cells i xs more c c so_far is inside
     (same_Some c (get_or cells i c) (sym at ∙ slice_get-get_or cells i c inside))
 
 -- the cells of one item behind those of the items before it

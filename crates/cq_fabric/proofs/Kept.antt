@@ -1,6 +1,7 @@
 -- How many cells for an output there are. An arrival brings one more, a transfer moves one from the inputs to the
 -- output's buffer, and a departure takes one away. So it is in each slot with stable matchings, whoever found them.
-use Rattle.std.proofs.Common.{◌≡◌, ℕ, zero, suc, ◌+◌, ◌≤◌, eqb, Bool, true, false, List, [], ◌∷◌, length, drop, Option, Some, None, refl, sym, ap, ◌∙◌, subst, ⊎_elim, arith}
+use Rattle.std.proofs.Common.{rules, ◌≡◌, ℕ, zero, suc, ◌+◌, ◌≤◌, eqb, Bool, true, false, List, [], ◌∷◌, length, drop, Option, Some, None, refl, ap, ⊎_elim, arith, subst}
+use Rattle.std.proofs.lemmas.Grind.{common_steps}
 use Rattle.std.specs.Prelude.{if◌then◌else◌, is_some, filter, insert}
 use Rattle.std.proofs.Math.ListN.{get_or-map}
 use Rattle.std.proofs.lemmas.Bool.{cond_both}
@@ -11,7 +12,6 @@ use Rattle.cq_base.specs.Arrivals.{arrival_at}
 use Rattle.cq_base.specs.Cells.{place_of_arrival, is_for, first_for, without_first, put}
 use Rattle.cq_rank.specs.Machine.{Machine}
 use Rattle.cq_prefs.specs.FirstCells.{list_of, HasCellFor, orders_of, output_order}
-use Rattle.cq_prefs.specs.Orders.{IsListed}
 use Rattle.cq_prefs.specs.Moves.{list_taken}
 use Rattle.cq_prefs.specs.Pairing.{Partners, partner_of, IsMatching, IsStable}
 use Rattle.cq_prefs.proofs.OutputOrder.{is_output_order}
@@ -21,12 +21,13 @@ use Rattle.cq_laws.specs.Phases.{came_to, list_arrived, Transfers}
 use Rattle.cq_laws.specs.FabricSlot.{SlotRecord, FabricSlot}
 use Rattle.cq_laws.proofs.Came.{came_cell}
 use Rattle.cq_laws.proofs.Falls.{rest_of}
-use Rattle.cq_ideal.specs.Admission.{Admission, Marked, admission, mark_at, marks_after, unless}
+use Rattle.cq_ideal.specs.Admission.{Admission, Marked, admission, unless}
 use Rattle.cq_ideal.specs.Ideal.{count_for}
 use Rattle.cq_ideal.proofs.Admitted.{admitted_at}
 use Rattle.cq_ideal.proofs.Refusals.{each_once}
 use Rattle.cq_laws.specs.LimitedFabric.{LimitedFabricSlot, LimitedRecord}
 use Rattle.cq_laws.specs.Holding.{fabric_held, waiting_for, held_for}
+use Rattle.cq_prefs.specs.Orders.{IsListed}
 
 abbrev bit : Bool → ℕ
 bit b = if b then 1 else 0
@@ -41,42 +42,21 @@ comes j None = 0
 comes j (Some cell) = bit (eqb cell.output j)
 
 count_cons : (j : ℕ) (x : Queued) (xs : List Queued) → count j (x ∷ xs) ≡ bit (is_for j x) + count j xs
-count_cons j x xs =
-    cond_both (is_for j x) (x ∷ filter (is_for j) xs) (filter (is_for j) xs)
-    (λ l. length l ≡ bit (is_for j x) + count j xs)
-    (λ yes. let one : bit (is_for j x) ≡ 1 = ap bit yes in omega arith)
-    (λ no. let none : bit (is_for j x) ≡ 0 = ap bit no in omega arith)
+count_cons j x xs = grind (arith, common_steps, cond_both)
 
 count_insert : (j : ℕ) (xs : List Queued) (p : ℕ) (c : Queued) → count j (insert xs p c) ≡ bit (is_for j c) + count j xs
 count_insert j xs zero c = count_cons j c xs
 count_insert j [] (suc p) c = count_cons j c []
-count_insert j (x ∷ xs) (suc p) c =
-    let a = count_cons j x (insert xs p c) in
-    let b = count_cons j x xs in
-    let rest = count_insert j xs p c in
-    omega arith
+count_insert j (x ∷ xs) (suc p) c = grind (arith, common_steps, count_cons, count_insert j xs p c)
 
 count_left : (j k : ℕ) (xs : List Queued) → count j (without_first k xs) ≤ count j xs
 count_left j k [] = omega arith
-count_left j k (x ∷ xs) =
-    let b = count_cons j x xs in
-    cond_both (is_for k x) xs (x ∷ without_first k xs) (λ l. count j l ≤ count j (x ∷ xs))
-    (λ _. omega arith)
-    (λ _. let a = count_cons j x (without_first k xs) in let rest = count_left j k xs in omega arith)
+count_left j k (x ∷ xs) = grind (arith, common_steps, count_cons, cond_both, count_left j k xs)
 
 count_without : (j : ℕ) (xs : List Queued) (c : Queued) → first_for j xs ≡ Some c →
     count j (without_first j xs) + 1 ≡ count j xs
 count_without j [] c h = absurd (let P : ⊥ = cc in P)
-count_without j (x ∷ xs) c h =
-    let b = count_cons j x xs in
-    cond_both (is_for j x) xs (x ∷ without_first j xs) (λ l. (if is_for j x then Some x else first_for j xs) ≡ Some c
-    → count j l + 1 ≡ count j (x ∷ xs))
-    (λ yes f. let one : bit (is_for j x) ≡ 1 = ap bit yes in omega arith)
-    (λ no f.
-    let none : bit (is_for j x) ≡ 0 = ap bit no in
-    let a = count_cons j x (without_first j xs) in
-    let first : first_for j xs ≡ Some c = ap (λ b. if b then Some x else first_for j xs) (sym no) ∙ f in
-    let rest = count_without j xs c first in omega arith) h
+count_without j (x ∷ xs) c h = grind (arith, common_steps, count_cons, cond_both, count_without j xs c)
 
 count_taken : (j : ℕ) (p : Option ℕ) (xs : List Queued) → count j (list_taken p xs) ≤ count j xs
 count_taken j None xs = omega arith
@@ -92,14 +72,11 @@ sum_comes j [] [] cells same each = omega arith
 sum_comes j [] (y ∷ old) cells same each = absurd (omega arith)
 sum_comes j (x ∷ new) [] cells same each = absurd (omega arith)
 sum_comes j (x ∷ new) (y ∷ old) [] same each =
-    let here = each zero in
-    let rest = sum_comes j new old [] (omega arith) (λ i. each (suc i)) in omega arith
+    let here = each zero in let rest = sum_comes j new old [] (omega arith) (λ i. each (suc i)) in omega arith
 sum_comes j (x ∷ new) (y ∷ old) (None ∷ cells) same each =
-    let here = each zero in
-    let rest = sum_comes j new old cells (omega arith) (λ i. each (suc i)) in omega arith
+    let here = each zero in let rest = sum_comes j new old cells (omega arith) (λ i. each (suc i)) in omega arith
 sum_comes j (x ∷ new) (y ∷ old) (Some c ∷ cells) same each =
-    let here = each zero in
-    let rest = sum_comes j new old cells (omega arith) (λ i. each (suc i)) in omega arith
+    let here = each zero in let rest = sum_comes j new old cells (omega arith) (λ i. each (suc i)) in omega arith
 
 -- each list has no more than before
 sum_most : (j : ℕ) (new old : List (List Queued)) → length new ≡ length old →
@@ -108,8 +85,7 @@ sum_most j [] [] same each = omega arith
 sum_most j [] (y ∷ old) same each = absurd (omega arith)
 sum_most j (x ∷ new) [] same each = absurd (omega arith)
 sum_most j (x ∷ new) (y ∷ old) same each =
-    let here = each zero in
-    let rest = sum_most j new old (omega arith) (λ i. each (suc i)) in omega arith
+    let here = each zero in let rest = sum_most j new old (omega arith) (λ i. each (suc i)) in omega arith
 
 -- and one of them has one less
 sum_less : (j : ℕ) (new old : List (List Queued)) (k : ℕ) → length new ≡ length old →
@@ -121,8 +97,7 @@ sum_less j (x ∷ new) [] k same each less = absurd (omega arith)
 sum_less j (x ∷ new) (y ∷ old) zero same each less =
     let rest = sum_most j new old (omega arith) (λ i. each (suc i)) in omega arith
 sum_less j (x ∷ new) (y ∷ old) (suc k) same each less =
-    let here = each zero in
-    let rest = sum_less j new old k (omega arith) (λ i. each (suc i)) less in omega arith
+    let here = each zero in let rest = sum_less j new old k (omega arith) (λ i. each (suc i)) less in omega arith
 
 -- ## The phases
 
@@ -139,15 +114,11 @@ longer_one : (f : Fabric) (came : Option Queued) (cell : Option Cell) (xs : List
 longer_one f None cell xs is = omega arith
 longer_one f (Some c) cell xs is =
     let here : bit (is_some cell) ≡ 1 = ap (λ (o : Option Cell). bit (is_some o)) (is c refl) in
-    let place : place_of_arrival (cushion_of f c) c xs ≤ length xs = omega arith in
-    let more = length-insert xs (place_of_arrival (cushion_of f c) c xs) c place in omega arith
+    omega (arith, length-insert)
 
 length_left : (k : ℕ) (xs : List Queued) → length (without_first k xs) ≤ length xs
 length_left k [] = omega arith
-length_left k (x ∷ xs) =
-    cond_both (is_for k x) xs (x ∷ without_first k xs) (λ l. length l ≤ length (x ∷ xs))
-    (λ _. omega arith)
-    (λ _. let rest = length_left k xs in omega arith)
+length_left k (x ∷ xs) = grind (arith, common_steps, cond_both, length_left k xs)
 
 length_taken : (p : Option ℕ) (xs : List Queued) → length (list_taken p xs) ≤ length xs
 length_taken None xs = omega arith
@@ -169,23 +140,14 @@ moved : (m : Partners) (old new : Fabric) → IsMatching (orders_of old.inputs) 
     held_for j new ≤ held_for j old
 moved m old new matching step j =
     let each : (i : ℕ) → count j (input new i) ≤ count j (input old i) =
-    λ i. let e = ap (count j) (step.moves.taken i) in let l = count_taken j (partner_of m i) (input old i) in
-    omega arith in
-    ⊎_elim
-    (λ r.
+    search (arith, rules, step.moves.taken, count_taken) in
+    ⊎_elim (λ r.
     let cell = offered m old matching r.0 j r.1 in
     let given : length (buffer new j) ≡ length (put cell.0 (buffer old j)) =
     ap length (step.moves.given r.0 j cell.0 r.1 cell.1) in
     let longer = put_length cell.0 (buffer old j) in
-    let here = ap (count j) (step.moves.taken r.0 ∙ ap (λ p. list_taken p (input old r.0)) r.1) in
-    let one = count_without j (input old r.0) cell.0 cell.1 in
-    let less = sum_less j new.inputs old.inputs r.0 step.moves.ports.0 each (omega arith) in
-    omega arith)
-    (λ free.
-    let kept = ap length (step.moves.kept j free) in
-    let less = sum_most j new.inputs old.inputs step.moves.ports.0 each in
-    omega arith)
-    (partner_or_free m j)
+    search (arith, rules, step.moves.taken, count_without, sum_less))
+    (λ free. search (arith, rules, step.moves.kept, sum_most)) (partner_or_free m j)
 
 module _ (ms : List Machine) (slot : ℕ) (cells : List (Option Cell)) (f g : Fabric) (r : SlotRecord)
     (step : FabricSlot IsStable ms slot cells f r g) where
@@ -202,18 +164,11 @@ module _ (ms : List Machine) (slot : ℕ) (cells : List (Option Cell)) (f g : Fa
 
   pub outputs_kept : (j : ℕ) → held_for j g ≤ held_for j f + count_for j cells
   outputs_kept j =
-      let came =
-      sum_comes j r.arrived.inputs f.inputs cells step.arrive.ports (λ i.
-      let e = ap (count j) (step.arrive.lists i) in
-      let l = came_one f j (came_to r.came i) (arrival_at cells i) (input f i) (came_cell step.arrive i) in
-      omega arith) in
+      let came = sum_comes j r.arrived.inputs f.inputs cells step.arrive.ports (λ i.
+      let e = ap (count j) (step.arrive.lists i) in search (arith, rules, came_one, came_cell)) in
       let same = ap (λ bs. length (list_of bs j)) step.arrive.buffers in
       let first = moved r.first r.arrived r.filled step.first_chosen.matching step.fill j in
-      let lists = ap (waiting_for j) step.depart.inputs in
-      let rest = ap (λ bs. length (list_of bs j)) step.depart.buffers ∙ ap length (rest_of r.filled.buffers j) in
-      let less = length_drop (buffer r.filled j) in
-      let second = moved r.second r.sent g step.second_chosen.matching step.finish j in
-      omega arith
+      search (arith, rules, rest_of, length_drop, moved)
 
 -- ## With limits
 
@@ -227,21 +182,13 @@ admitted_bit : (limits : List (Option ℕ)) (held : List ℕ) (marks : List Bool
     a ≡ admission limits held marks cells → (i : ℕ) →
     bit (is_some (arrival_at a.cells i)) ≤ bit (is_some (arrival_at cells i))
 unfolding admission
-admitted_bit limits held marks cells a is i =
-    let after = marks_after limits held marks cells in
-    let here = ap (λ (b : Admission). bit (is_some (arrival_at b.cells i))) is in
-    let at = ap (λ (o : Option Cell). bit (is_some o)) (admitted_at after cells i) in
-    let less = fewer (mark_at after i) (arrival_at cells i) in
-    omega arith
+admitted_bit limits held marks cells a is i = grind (arith, common_steps, admitted_at, fewer)
 
 admitted_count : (limits : List (Option ℕ)) (held : List ℕ) (marks : List Bool) (cells : List (Option Cell))
     (a : Admission) →
     a ≡ admission limits held marks cells → (j : ℕ) → count_for j a.cells ≤ count_for j cells
 unfolding admission
-admitted_count limits held marks cells a is j =
-    let here = ap (λ (b : Admission). count_for j b.cells) is in
-    let split = each_once j (marks_after limits held marks cells) cells in
-    omega arith
+admitted_count limits held marks cells a is j = grind (arith, common_steps, each_once)
 
 module _ (limits : List (Option ℕ)) (ms : List Machine) (slot : ℕ) (cells : List (Option Cell)) (f g : Marked Fabric)
     (r : LimitedRecord) (s : LimitedFabricSlot IsStable limits ms slot cells f r g) where

@@ -1,7 +1,8 @@
 -- What the outputs of a fabric hold. Between two slots these are as many cells as the lists of an ideal switch have
 -- with which the fabric agrees. So the numbers that a limiter keeps are followed through a slot by the lists of that
 -- switch: it takes in the same cells and sends the same, and agrees again.
-use Rattle.std.proofs.Common.{◌≡◌, ◌≢◌, ℕ, zero, suc, ◌+◌, ◌-◌, ◌<◌, ◌≤◌, ◌^◌, Bool, List, [], ◌∷◌, length, map, get_or, drop, replicate, Option, Some, None, Ok, refl, sym, ap, ◌∙◌, subst, arith, get_or-set_same, get_or-set_other, length-set}
+use Rattle.std.proofs.lemmas.Grind.{common_steps}
+use Rattle.std.proofs.Common.{rules, ◌≡◌, ◌≢◌, ℕ, zero, suc, ◌+◌, ◌-◌, ◌<◌, ◌≤◌, ◌^◌, Bool, List, [], ◌∷◌, length, map, get_or, drop, replicate, Option, Some, None, Ok, refl, sym, ap, ◌∙◌, arith, get_or-set_same, get_or-set_other, length-set, subst}
 use Rattle.std.specs.Prelude.{IfSome, slice_get}
 use Rattle.std.proofs.lemmas.List.{ext_get_or, get_or-map, get_or-replicate, length-map, length-replicate}
 use Rattle.std.proofs.lemmas.List.FromFn.{get_or-map-range_with_len, length-map-range_with_len}
@@ -10,7 +11,7 @@ use Rattle.cq_base.specs.declared.cell.Queued.{Queued}
 use Rattle.cq_rank.specs.Machine.{Machine}
 use Rattle.cq_ideal.specs.Admission.{admission, admitted, marked, marks_after}
 use Rattle.cq_ideal.specs.Ideal.{count_for}
-use Rattle.cq_ideal.specs.IdealSlot.{IdealState, Sent, filled, fronts, ideal_sends, ideal_slot, rests}
+use Rattle.cq_ideal.specs.IdealSlot.{IdealState, filled, fronts, ideal_slot, rests}
 use Rattle.cq_ideal.specs.Limiter.{HoldsLists, LimiterView, held_without}
 use Rattle.cq_ideal.specs.Ranking.{Ranking, ranking}
 use Rattle.cq_ideal.proofs.Holding.{holds_filled}
@@ -57,17 +58,8 @@ holds_first n ranks q l inputs buffers limits held =
     let long = ap length inputs ∙ length-replicate n none in
     record {
       ports = limits ∙ sym long;
-      held =
-          ext_get_or 0 l.held (fabric_held f)
-          (ap length held ∙ length-replicate n 0 ∙ sym (held_long f ∙ long))
-          (λ j inside.
-          let size = ap length held ∙ length-replicate n 0 in
-          let was : get_or l.held j 0 ≡ 0 =
-          ap (λ (h : List ℕ). get_or h j 0) held ∙ get_or-replicate n j 0 0 (omega arith) in
-          let now = held_at f j (omega arith) in
-          let waits = ap (waiting_for j) inputs ∙ nothing_for j n in
-          let stands = ap (λ (b : List (List Queued)). length (get_or b j none)) buffers ∙ nothing_in j n in
-          omega arith);
+      held = ext_get_or 0 l.held (fabric_held f) (ap length held ∙ length-replicate n 0 ∙ sym (held_long f ∙ long))
+          (λ j inside. search (arith, rules, length-replicate, get_or-replicate, held_at, nothing_for, nothing_in));
     }
 
 -- ## Before a slot
@@ -77,41 +69,29 @@ pub numbers_fit : (q : Queues) (ranks : List (List ℕ)) (l : LimiterView) (cell
     HoldsFabric (fabric_of q ranks) l → BuffersHaveRoom (length q.inputs) q cells →
     ((j : ℕ) → length (list_of q.buffers j) ≤ get_or q.to_outputs j 0) → ((j : ℕ) → get_or q.to_outputs j 0 < 2 ^ 64) →
     (j : ℕ) → j < length l.limits → get_or l.held j 0 + count_for j cells < 2 ^ 64
-numbers_fit q ranks l cells holds room within top j inside =
-    let had = room j (omega arith) in
-    let fits = within j in
-    let most = top j in
-    let held = ap (λ (h : List ℕ). get_or h j 0) holds.held ∙ held_at (fabric_of q ranks) j (omega arith) in
-    omega arith
+numbers_fit q ranks l cells holds room within top j inside = grind (arith, common_steps, held_at)
 
 -- what is admitted finds room where all that comes does
 pub admitted_room : (ports : ℕ) (q : Queues) (marks : List Bool) (cells : List (Option Cell)) →
     BuffersHaveRoom ports q cells → BuffersHaveRoom ports q (admitted marks cells)
-admitted_room ports q marks cells room j inside =
-    let had = room j inside in
-    let split = each_once j marks cells in
-    omega arith
+admitted_room ports q marks cells room j inside = grind (arith, common_steps, each_once)
 
 -- what is admitted by these marks is what the fabric admits
 pub admits_are : (l : LimiterView) (f : Fabric) (cells : List (Option Cell)) (marks : List Bool) → HoldsFabric f l →
     marks ≡ marks_after l.limits l.held l.marks cells →
     by_marks marks cells ≡ fabric_admission l.limits cells (marked l.marks f)
 unfolding admission
-admits_are l f cells marks holds is =
-    ap (λ (m : List Bool). by_marks m cells)
-    (is ∙ ap (λ (h : List ℕ). marks_after l.limits h l.marks cells) holds.held)
+admits_are l f cells marks holds is = grind (arith, common_steps, by_marks)
 
 -- ## The lists of an ideal switch that agrees
 
 holds_ideal : (slot : ℕ) (f : Fabric) (ideal : IdealState) (l : LimiterView) → Agrees slot f ideal → HoldsFabric f l →
     HoldsLists ideal.lists l
-holds_ideal slot f ideal l agrees holds =
-    record { ports = holds.ports ∙ sym agrees.ports; held = holds.held ∙ hold_as_many slot f ideal agrees }
+holds_ideal slot f ideal l agrees holds = grind (arith, common_steps, hold_as_many slot f ideal agrees)
 
 holds_fabric : (slot : ℕ) (f : Fabric) (ideal : IdealState) (l : LimiterView) → Agrees slot f ideal →
     HoldsLists ideal.lists l → HoldsFabric f l
-holds_fabric slot f ideal l agrees holds =
-    record { ports = holds.ports ∙ agrees.ports; held = holds.held ∙ sym (hold_as_many slot f ideal agrees) }
+holds_fabric slot f ideal l agrees holds = grind (arith, common_steps, hold_as_many slot f ideal agrees)
 
 one_less : (xs : List Queued) (n : ℕ) → n + bit (slice_get xs 0) ≡ length xs → n ≡ length (drop 1 xs)
 one_less [] n e = omega arith
@@ -122,19 +102,8 @@ pub released : (o : Option Queued) (output : ℕ) (held held' : List ℕ) → ou
     held' ≡ held_without o output held → IfSome o (λ _. 0 < get_or held output 0) →
     (get_or held' output 0 + bit o ≡ get_or held output 0)
     × ((j : ℕ) → j ≢ output → get_or held' j 0 ≡ get_or held j 0) × (length held' ≡ length held)
-released None output held held' inside is some =
-    let here = ap (λ (l : List ℕ). get_or l output 0) is in (
-      omega arith,
-      λ j other. ap (λ (l : List ℕ). get_or l j 0) is,
-      ap length is,
-    )
-released (Some q) output held held' inside is some =
-    let less = get_or held output 0 - 1 in
-    let here = ap (λ (l : List ℕ). get_or l output 0) is ∙ get_or-set_same held output less 0 inside in (
-      omega arith,
-      λ j other. ap (λ (l : List ℕ). get_or l j 0) is ∙ get_or-set_other held output j less 0 other,
-      ap length is ∙ length-set held output less,
-    )
+released None output held held' inside is some = grind (arith, common_steps)
+released (Some q) output held held' inside is some = search (rules, get_or-set_same, get_or-set_other, length-set)
 
 -- each output that sent a cell holds one less
 holds_rests : (lists : List (List Queued)) (judged after : LimiterView) → HoldsLists lists judged →
@@ -168,12 +137,7 @@ sends_are : (ms : List Machine) (slot : ℕ) (cells : List (Option Cell)) (ideal
     ideal_slot ms slot cells ideal ≡ Ok (record { gone = gone; after = next }) →
     (fronts (filled r.came ideal.lists) ≡ gone) × (rests (filled r.came ideal.lists) ≡ next.lists)
 unfolding ideal_slot
-sends_are ms slot cells ideal r gone next ranked sent =
-    let had : Sent = sent_from ms (record { lists = filled r.came ideal.lists; ranks = r.ranks }) in
-    let want : Sent = record { gone = gone; after = next } in
-    let both : Ok had ≡ Ok want = sym (ap (ideal_sends ms ideal) ranked) ∙ sent in
-    let same : had ≡ want = cc both in
-    (ap (λ (s : Sent). s.gone) same, ap (λ (s : Sent). s.after.lists) same)
+sends_are ms slot cells ideal r gone next ranked sent = grind (arith, common_steps, sent_from)
 
 -- ## A slot
 

@@ -1,6 +1,7 @@
 -- The cell that arrived last in a list. All others arrived in slots before, so its slot finds it; and the cells for its
 -- output that stand ahead of it are more urgent, so its key finds it too.
-use Rattle.std.proofs.Common.{◌≡◌, ◌≢◌, ℕ, zero, suc, ◌+◌, ◌<◌, ◌≤◌, eqb, Bool, true, false, not, List, [], ◌∷◌, length, Some, refl, sym, ap, ◌∙◌, subst, ⊎_elim, arith}
+use Rattle.std.proofs.lemmas.Grind.{common_steps}
+use Rattle.std.proofs.Common.{rules, ◌≡◌, ◌≢◌, ℕ, zero, suc, ◌<◌, ◌≤◌, eqb, Bool, true, false, not, List, [], ◌∷◌, length, Some, refl, ap, ◌∙◌, arith}
 use Rattle.std.specs.Prelude.{◌&&◌, insert, slice_get}
 use Rattle.std.specs.List.{position_or_len}
 use Rattle.std.proofs.lemmas.Bool.{eq-eqb, ne_eqb, cases_eq}
@@ -49,36 +50,26 @@ in_slot c x = eqb x.key.slot c.key.slot
 
 finds_itself : (c : Queued) → no_sooner c c ≡ true
 unfolding no_sooner
-finds_itself c =
-    ap (λ b. b && not (is_before c.key c.key)) (eq-eqb c.cell.output c.cell.output refl)
+finds_itself c = ap (λ b. b && not (is_before c.key c.key)) (eq-eqb c.cell.output c.cell.output refl)
     ∙ ap not (key_laws.never_itself c.key)
 
 -- a cell ahead of it is for another output, or more urgent
 passes_by : (c x : Queued) → (x.cell.output ≡ c.cell.output → is_before x.key c.key ≡ true) → no_sooner c x ≡ false
 unfolding no_sooner
-passes_by c x ahead =
-    ⊎_elim
-    (λ own. ap (λ b. b && not (is_before x.key c.key)) (eq-eqb x.cell.output c.cell.output own) ∙ ap not (ahead own))
-    (λ other. ap (λ b. b && not (is_before x.key c.key)) (ne_eqb x.cell.output c.cell.output other))
-    (cases_eq x.cell.output c.cell.output)
+passes_by c x ahead = grind (arith, common_steps, eq-eqb, ne_eqb, cases_eq)
 
 found : (c : Queued) (xs : List Queued) (place : ℕ) → slice_get xs place ≡ Some c →
     ((t : ℕ) (x : Queued) → slice_get xs t ≡ Some x → x.key.slot ≡ c.key.slot → t ≡ place) → KeepsOrder xs →
     position_or_len (no_sooner c) xs ≡ position_or_len (in_slot c) xs
 unfolding in_slot
 found c [] place at alone order = absurd (let P : ⊥ = cc in P)
-found c (x ∷ xs) zero at alone order =
-    let same : c ≡ x = sym (same_Some x c at) in
-    first_here (no_sooner c) x xs (subst (λ (y : Queued). no_sooner c y ≡ true) same (finds_itself c))
-    ∙ sym (first_here (in_slot c) x xs (eq-eqb x.key.slot c.key.slot (ap (λ (y : Queued). y.key.slot) (sym same))))
+found c (x ∷ xs) zero at alone order = search (rules, same_Some, first_here, no_sooner, finds_itself, in_slot, eq-eqb)
 found c (x ∷ xs) (suc place) at alone order =
     let other : x.key.slot ≢ c.key.slot = λ same.
     (let e : 0 ≡ suc place = alone 0 x refl same in absurd (omega arith)) in
     let ahead = all_at (λ y. x.cell.output ≡ y.cell.output → is_before x.key y.key ≡ true) xs place c order.0 at in
     let rest = found c xs place at (λ t y here same. let e = alone (suc t) y here same in omega arith) order.1 in
-    first_later (no_sooner c) x xs (passes_by c x ahead)
-    ∙ ap (λ n. 1 + n) rest
-    ∙ sym (first_later (in_slot c) x xs (ne_eqb x.key.slot c.key.slot other))
+    search (arith, rules, first_later, passes_by, ne_eqb)
 
 pub found_by_key :
     (c : Queued) (xs : List Queued) → IsNewest c xs → KeepsOrder xs →

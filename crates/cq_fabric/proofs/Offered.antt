@@ -3,7 +3,8 @@
 -- is transferred, the lists change in its pairs. All keys of waiting cells differ before and after: a cell that comes
 -- has a key that none had, and cells that leave take theirs away. So the first cells of different lists have
 -- different keys, as the offers ask.
-use Rattle.std.proofs.Common.{◌≡◌, ◌≢◌, ℕ, ◌+◌, ◌<◌, ◌≤◌, ◌⊎◌, true, List, [], length, map, get_or, set, replicate, Option, Some, None, refl, sym, ap, ◌∙◌, subst, inl, inr, ⊎_elim, arith}
+use Rattle.std.proofs.lemmas.Grind.{common_steps}
+use Rattle.std.proofs.Common.{rules, ◌≡◌, ◌≢◌, ℕ, ◌+◌, ◌<◌, ◌≤◌, ◌⊎◌, true, List, [], length, map, get_or, set, replicate, Option, Some, None, refl, sym, ap, ◌∙◌, subst, inr, ⊎_elim, arith}
 use Rattle.std.specs.Prelude.{All, insert}
 use Rattle.std.specs.List.{IsDistinct}
 use Rattle.std.proofs.Math.ListN.{get_or-map}
@@ -11,9 +12,9 @@ use Rattle.std.proofs.lemmas.Bool.{cases_eq, cases_lt}
 use Rattle.std.proofs.lemmas.List.{length-map, length-replicate, get_or_past, get_or-replicate, get_or-set_same, get_or-set_other, length-set}
 use Rattle.cq_base.specs.declared.cell.Queued.{Queued}
 use Rattle.cq_base.specs.declared.key.Key.{Key}
-use Rattle.cq_base.specs.Cells.{MoreUrgentAhead, cushion, first_for, with_arrival, place_of_arrival}
+use Rattle.cq_base.specs.Cells.{MoreUrgentAhead, cushion, with_arrival, place_of_arrival, first_for}
 use Rattle.cq_list.specs.InputList.{Waiting, cells_of}
-use Rattle.cq_prefs.specs.FirstCells.{list_of, FirstKeysDiffer, IsOutputOrder, IsInputOrder, AreOrdersOf, first_key, key_before, output_order, orders_of}
+use Rattle.cq_prefs.specs.FirstCells.{list_of, FirstKeysDiffer, AreOrdersOf, first_key, key_before, orders_of}
 use Rattle.cq_prefs.specs.Moves.{Moves, list_taken}
 use Rattle.cq_prefs.specs.Orders.{Orders, no_offers, ports}
 use Rattle.cq_prefs.specs.Pairing.{Partners, partner_of, with_pair}
@@ -31,51 +32,18 @@ use Rattle.cq_fabric.proofs.Queued.{cells-at, get_or_same, firsts_apart}
 
 -- the lists are as many as ports are offered
 pub as_offered : (lists : List Waiting) (o : Orders) → o ≡ orders_of (cells_of lists) → ports o ≡ length lists
-as_offered lists o e =
-    ap ports e ∙ length-map (cells_of lists) output_order ∙ length-map lists (λ (w : Waiting). w.cells)
+as_offered lists o e = grind (arith, common_steps, length-map)
 
 -- ## No cell
 
 empty_at : (k i : ℕ) → list_of (replicate k []) i ≡ []
-empty_at k i =
-    let none : List Queued = [] in
-    ⊎_elim (λ l. get_or-replicate k i none none l)
-    (λ past. get_or_past (replicate k none) i none (omega (arith, length-replicate k none)))
-    (cases_lt i k)
+empty_at k i = grind (arith, common_steps, get_or-replicate, get_or_past, length-replicate, cases_lt)
 
 nothing_offered : (k : ℕ) → AreOrdersOf (replicate k []) (no_offers k)
 unfolding IsDistinct
 nothing_offered k =
     let none : List Queued = [] in
-    let nobody : List ℕ = [] in
-    let row : (i : ℕ) → get_or (replicate k nobody) i [] ≡ nobody = λ i.
-    ⊎_elim (λ l. get_or-replicate k i nobody nobody l)
-    (λ past. get_or_past (replicate k nobody) i nobody (omega (arith, length-replicate k nobody))) (cases_lt i k) in
-    record {
-      ports = (
-        length-replicate k nobody ∙ sym (length-replicate k none),
-        length-replicate k nobody ∙ sym (length-replicate k none),
-      );
-      outputs = λ i.
-          subst (IsOutputOrder (list_of (replicate k []) i)) (sym (row i))
-          (subst (λ cells. IsOutputOrder cells nobody) (sym (empty_at k i))
-          (record {
-            differ = tt;
-            offered = λ j. (λ h. absurd (omega arith), λ h. absurd (let P : ⊥ = cc in P));
-            by_place = λ j l h. absurd (let end = place_in-le-length [] l in omega arith);
-          }));
-      inputs = λ j _.
-          subst (IsInputOrder (replicate k []) j) (sym (row j))
-          (record {
-            differ = tt;
-            offered = λ i. (
-              λ h. absurd (omega arith),
-              λ h.
-                  let no : None ≡ Some h.0 = sym (ap (first_for j) (empty_at k i)) ∙ h.1 in let P : ⊥ = cc in absurd P,
-            );
-            by_key = λ i l c d h. absurd (let end = place_in-le-length [] l in omega arith);
-          });
-    }
+    search (arith, rules, get_or-replicate, get_or_past, length-replicate, cases_lt, empty_at, place_in-le-length)
 
 pub none_offered : (lists : List Waiting) (k : ℕ) → cells_of lists ≡ replicate k [] →
     no_offers k ≡ orders_of (cells_of lists)
@@ -92,9 +60,7 @@ none_offered lists k e =
 among_with : (buffers : List (List Queued)) (q : Option Queued) (w : Waiting) (d : Queued) →
     IsAmong d (list_with buffers q w).cells → (q ≡ Some d) ⊎ IsAmong d w.cells
 among_with buffers None w d h = inr h
-among_with buffers (Some c) w d h =
-    ⊎_elim (λ e. inl (ap Some e)) (λ k. inr k)
-    (among_insert w.cells (place_of_arrival (cushion c.key (list_of buffers c.cell.output)) c w.cells) c d h)
+among_with buffers (Some c) w d h = grind (arith, common_steps, among_insert)
 
 -- a cell has come to the list of input n with this cushion, and to no other
 pub record HasCome (lists lists' : List Waiting) (n cushion : ℕ) (c : Queued) : Type 0 where
@@ -108,9 +74,7 @@ pub set_came : (lists : List Waiting) (n cushion : ℕ) (c : Queued) (old w : Wa
 set_came lists n cushion c old w inside cells =
     record {
       long = length-set lists n w;
-      here =
-          ap (λ (x : Waiting). x.cells) (get_or-set_same lists n w no_list inside) ∙ cells
-          ∙ ap (λ (x : Waiting). with_arrival cushion c x.cells) (get_or_same lists n old no_list inside);
+      here = search (arith, rules, get_or-set_same, get_or_same);
       others = λ k other. get_or-set_other lists n k w no_list other;
     }
 
@@ -127,30 +91,15 @@ module _ {lists lists' : List Waiting} {o : Orders} {n cushion : ℕ} {c : Queue
 
   come_among : (k : ℕ) (d : Queued) → IsAmong d (list_of (cells_of lists') k) →
       ((k ≡ n) × (c ≡ d)) ⊎ IsAmong d (list_of (cells_of lists) k)
-  come_among k d h =
-      ⊎_elim
-      (λ is.
-      ⊎_elim (λ e. inl (is, e)) (λ old. inr (subst (IsAmong d) (sym (ap (list_of (cells_of lists)) is)) old))
-      (among_insert (list_of (cells_of lists) n) place c d
-      (subst (IsAmong d) (ap (list_of (cells_of lists')) is ∙ this_list) h)))
-      (λ other. inr (subst (IsAmong d) (other_list k other) h))
-      (cases_eq k n)
+  come_among k d h = grind (arith, common_steps, among_insert, this_list, other_list, cases_eq)
 
   come_apart : KeysApart (cells_of lists')
   come_apart i k x y a b e =
       let key : Queued → Key = λ q. q.key in
-      ⊎_elim
-      (λ new_x.
-      ⊎_elim
-      (λ new_y. new_x.0 ∙ sym new_y.0)
-      (λ old_y. absurd (comes.older k y old_y (sym e ∙ sym (ap key new_x.1))))
-      (come_among k y b))
-      (λ old_x.
-      ⊎_elim
-      (λ new_y. absurd (comes.older i x old_x (e ∙ sym (ap key new_y.1))))
-      (λ old_y. comes.waiting i k x y old_x old_y e)
-      (come_among k y b))
-      (come_among i x a)
+      ⊎_elim (λ new_x. ⊎_elim (λ new_y. new_x.0 ∙ sym new_y.0)
+      (λ old_y. absurd (comes.older k y old_y (sym e ∙ sym (ap key new_x.1)))) (come_among k y b))
+      (λ old_x. ⊎_elim (λ new_y. absurd (comes.older i x old_x (e ∙ sym (ap key new_y.1))))
+      (λ old_y. comes.waiting i k x y old_x old_y e) (come_among k y b)) (come_among i x a)
 
   pub come_differ : FirstKeysDiffer (cells_of lists')
   come_differ = firsts_apart (cells_of lists') come_apart
@@ -207,15 +156,7 @@ pub come_outputs : (lists lists' : List Waiting) (n : ℕ) (c : Queued) (buffers
     length lists' ≡ length lists → list_at lists' n ≡ list_with buffers (Some c) (list_at lists n) →
     ((k : ℕ) → k ≢ n → list_at lists' k ≡ list_at lists k) → All (λ list. list.outputs ≡ length lists) lists →
     All (λ list. list.outputs ≡ length lists') lists'
-come_outputs lists lists' n c buffers long here others all k d l =
-    let inside : k < length lists = omega arith in
-    ap (λ (w : Waiting). w.outputs) (get_or_same lists' k d no_list l)
-    ∙ ⊎_elim
-    (λ is. ap (λ i. (list_at lists' i).outputs) is ∙ ap (λ (w : Waiting). w.outputs) here
-    ∙ ap (λ i. (list_at lists i).outputs) (sym is))
-    (λ other. ap (λ (w : Waiting). w.outputs) (others k other))
-    (cases_eq k n)
-    ∙ all k no_list inside ∙ sym long
+come_outputs lists lists' n c buffers long here others all k d l = search (rules, get_or_same, cases_eq)
 
 -- ## Cells come, one after the other
 
@@ -226,52 +167,23 @@ module _ (came : List (Option Queued)) (buffers : List (List Queued)) (old now :
     (waits : (i : ℕ) → n ≤ i → list_at now i ≡ list_at old i) where
   was_or_came : (k : ℕ) (d : Queued) → IsAmong d (list_of (cells_of now) k) →
       ((k < n) × (came_to came k ≡ Some d)) ⊎ IsAmong d (list_of (cells_of old) k)
-  was_or_came k d h =
-      let here : IsAmong d (list_at now k).cells = subst (IsAmong d) (cells-at now k) h in
-      ⊎_elim
-      (λ l.
-      ⊎_elim (λ e. inl (l, e)) (λ m. inr (subst (IsAmong d) (sym (cells-at old k)) m))
-      (among_with buffers (came_to came k) (list_at old k) d
-      (subst (λ (w : Waiting). IsAmong d w.cells) (done k l) here)))
-      (λ past.
-      inr (subst (IsAmong d) (sym (cells-at old k)) (subst (λ (w : Waiting). IsAmong d w.cells) (waits k past) here)))
-      (cases_lt k n)
+  was_or_came k d h = search (rules, cells-at, among_with, cases_lt)
 
   pub apart_so_far : KeysApart (cells_of now)
-  apart_so_far i k x y a b e =
-      ⊎_elim
-      (λ new_x.
-      ⊎_elim
-      (λ new_y. come.each i k x y new_x.1 new_y.1 e)
-      (λ old_y. absurd (come.older i k x y new_x.1 old_y (sym e)))
-      (was_or_came k y b))
-      (λ old_x.
-      ⊎_elim
-      (λ new_y. absurd (come.older k i y x new_y.1 old_x e))
-      (λ old_y. come.waiting i k x y old_x old_y e)
-      (was_or_came k y b))
-      (was_or_came i x a)
+  apart_so_far i k x y a b e = ⊎_elim (λ new_x. ⊎_elim (λ new_y. come.each i k x y new_x.1 new_y.1 e)
+      (λ old_y. absurd (come.older i k x y new_x.1 old_y (sym e))) (was_or_came k y b)) (λ old_x.
+      ⊎_elim (λ new_y. absurd (come.older k i y x new_y.1 old_x e))
+      (λ old_y. come.waiting i k x y old_x old_y e) (was_or_came k y b)) (was_or_came i x a)
 
   pub older_so_far : (c : Queued) → came_to came n ≡ Some c → (k : ℕ) (d : Queued) →
       IsAmong d (list_of (cells_of now) k) → d.key ≢ c.key
-  older_so_far c is k d h e =
-      ⊎_elim
-      (λ new. let same = come.each k n d c new.1 is e in omega arith)
-      (λ old. come.older n k c d is old e)
-      (was_or_came k d h)
+  older_so_far c is k d h e = ⊎_elim (λ new. let same = come.each k n d c new.1 is e in omega arith)
+      (λ old. come.older n k c d is old e) (was_or_came k d h)
 
   -- one more comes
   pub next_comes : (o : Orders) (c : Queued) → came_to came n ≡ Some c → n < length now → length now ≤ 64 →
       All (λ list. list.outputs ≡ length now) now → o ≡ orders_of (cells_of now) → Comes now o n c
-  next_comes o c is inside few outputs offered =
-      record {
-        inside = inside;
-        few = few;
-        outputs = outputs;
-        offered = offered;
-        waiting = apart_so_far;
-        older = older_so_far c is;
-      }
+  next_comes o c is inside few outputs offered = search (rules, apart_so_far, older_so_far)
 
 -- what holds of the lists and the offers once the cells that came to the inputs before n are in
 pub record In (came : List (Option Queued)) (buffers : List (List Queued)) (old now : List Waiting) (o : Orders)
@@ -289,37 +201,12 @@ pub one_in : (came : List (Option Queued)) (buffers : List (List Queued)) (old n
     In came buffers old new o' (n + 1)
 one_in came buffers old now new o o' n c had is long list others follows =
     let here : list_at new n ≡ list_with buffers (came_to came n) (list_at old n) =
-    list ∙ ap (list_with buffers (Some c)) (had.waits n (let le : n ≤ n = omega arith in le))
-    ∙ ap (λ q. list_with buffers q (list_at old n)) (sym is) in
-    record {
-      long = long ∙ had.long;
-      done = λ i l. ⊎_elim
-          (λ same.
-          ap (list_at new) same ∙ here ∙ ap (λ k. list_with buffers (came_to came k) (list_at old k)) (sym same))
-          (λ other. others i other ∙ had.done i (omega arith))
-          (cases_eq i n);
-      waits = λ i l.
-          let other : i ≢ n = λ same. (let P : ⊥ = omega arith in P) in
-          others i other ∙ had.waits i (omega arith);
-      outputs = come_outputs now new n c buffers long list others had.outputs;
-      offers = follows;
-    }
+    search (arith, rules, had.waits) in
+    search (arith, rules, had.done, cases_eq, had.waits, come_outputs)
 
 pub none_in : (came : List (Option Queued)) (buffers : List (List Queued)) (old now : List Waiting) (o : Orders)
     (n : ℕ) → In came buffers old now o n → came_to came n ≡ None → In came buffers old now o (n + 1)
-none_in came buffers old now o n had is =
-    record {
-      long = had.long;
-      done = λ i l. ⊎_elim
-          (λ same.
-          had.waits i (omega arith)
-          ∙ ap (λ q. list_with buffers q (list_at old i)) (sym (ap (came_to came) same ∙ is)))
-          (λ other. had.done i (omega arith))
-          (cases_eq i n);
-      waits = λ i l. had.waits i (omega arith);
-      outputs = had.outputs;
-      offers = had.offers;
-    }
+none_in came buffers old now o n had is = grind (arith, common_steps, had.waits, had.done, cases_eq)
 
 -- ## A transfer
 
@@ -341,9 +228,8 @@ module _ (m : Partners) (lists lists' : List Waiting) (buffers buffers' : List (
 
   -- with the pairs of the matching taken out, the orders are as before
   pub moved_same : (o : Orders) → o ≡ orders_of (cells_of lists) → AreSameWithout m o (orders_of (cells_of lists'))
-  moved_same o is =
-      subst (λ p. AreSameWithout m p (orders_of (cells_of lists'))) (sym is)
-      (same_without m (cells_of lists) (cells_of lists') moves.ports.0
+  moved_same o is = subst (λ p. AreSameWithout m p (orders_of (cells_of lists'))) (sym is) (same_without m
+      (cells_of lists) (cells_of lists') moves.ports.0
       (λ i. taken_same (partner_of m i) (list_of (cells_of lists) i) (list_of (cells_of lists') i) (moves.taken i))
       (firsts_apart (cells_of lists) apart) (firsts_apart (cells_of lists') moved_apart))
 
@@ -351,9 +237,5 @@ module _ (m : Partners) (lists lists' : List Waiting) (buffers buffers' : List (
       map (λ w. w.outputs) lists' ≡ map (λ w. w.outputs) lists → All (λ list. list.outputs ≡ length lists) lists'
   moved_outputs all outputs k d l =
       let out : Waiting → ℕ = λ w. w.outputs in
-      let long = ap length outputs in
-      let old = length-map lists out in
-      let new = length-map lists' out in
-      let inside : k < length lists = omega arith in
-      sym (get_or-map out lists' k d) ∙ ap (λ xs. get_or xs k (out d)) outputs ∙ get_or-map out lists k d
-      ∙ all k d inside
+      search
+      (arith, rules, length-map lists out, length-map lists' out, get_or-map out lists' k d, get_or-map out lists k d)

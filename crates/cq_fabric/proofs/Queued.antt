@@ -1,17 +1,18 @@
 -- Lists and buffers with their rooms. A cell that goes into a list takes the room that the list has for it, and a
 -- cell that leaves gives it back, so that no list and no buffer can hold more cells, or fewer, than before.
-use Rattle.std.proofs.Common.{◌≡◌, ℕ, zero, suc, ◌+◌, ◌<◌, ◌≤◌, cond, List, [], ◌∷◌, ◌++◌, length, map, get_or, take, drop, Option, Some, None, refl, sym, ap, ◌∙◌, subst, ⊎_elim, arith, replicate}
+use Rattle.std.proofs.lemmas.Grind.{common_steps}
+use Rattle.std.proofs.Common.{rules, ◌≡◌, ℕ, zero, suc, ◌+◌, ◌<◌, ◌≤◌, cond, List, [], ◌∷◌, ◌++◌, length, map, get_or, take, drop, Option, Some, None, refl, sym, ap, ◌∙◌, ⊎_elim, arith, replicate}
 use Rattle.std.specs.Prelude.{is_some, slice_get}
 use Rattle.std.proofs.Math.ListN.{get_or-map}
 use Rattle.std.proofs.lemmas.Bool.{cases_lt, cond_both}
 use Rattle.std.proofs.lemmas.List.{length-map, get_or-map as get_or-map_inside, get_or_past, ext_get_or, drop_all, take_all, append-nil, get_or-replicate}
 use Rattle.std.proofs.lemmas.List.Edits.{length-insert}
 use Rattle.cq_base.specs.declared.cell.Queued.{Queued}
-use Rattle.cq_base.specs.Cells.{HasOtherKey, MoreUrgentAhead, cushion, is_for, first_for, without_first, place_of_arrival}
+use Rattle.cq_base.specs.Cells.{is_for, first_for, without_first}
 use Rattle.cq_ideal.specs.IdealSlot.{fronts, rests}
 use Rattle.cq_list.specs.InputList.{Waiting, cells_of}
 use Rattle.cq_urgency.specs.OutputBuffer.{Buffered, cells_in}
-use Rattle.cq_prefs.specs.FirstCells.{list_of, HasCellFor, FirstKeysDiffer, AreOrdersOf, orders_of, output_order}
+use Rattle.cq_prefs.specs.FirstCells.{list_of, HasCellFor, FirstKeysDiffer, orders_of, output_order}
 use Rattle.cq_prefs.specs.Moves.{Moves, list_taken}
 use Rattle.cq_prefs.specs.Orders.{Orders}
 use Rattle.cq_prefs.specs.Pairing.{Partners, partner_of, IsMatching}
@@ -25,9 +26,7 @@ use Rattle.cq_fabric.specs.Queues.{Queues, FitLists, KeysApart, CanCross, FitEac
 -- what a slice of a vector leaves of the vector
 pub whole : {X : Type 0} (n : ℕ) (xs old : List X) → n ≡ length xs → length old ≡ length xs →
     take n (xs ++ drop (length xs) old) ≡ xs
-whole n xs old size same =
-    ap (λ l. take n (xs ++ l)) (drop_all (length xs) old (omega arith)) ∙ ap (take n) (append-nil xs)
-    ∙ take_all n xs (omega arith)
+whole n xs old size same = grind (arith, common_steps, drop_all, append-nil, take_all)
 
 -- what clauses see of these lists and buffers
 abbrev pub shown : List Waiting → List Buffered → Queues
@@ -52,11 +51,7 @@ list_spare-at lists i = get_or-map (λ (w : Waiting). w.spare) lists i no_list
 room_is : {X : Type 0} (cells : X → List Queued) (spare : X → ℕ) (none : X) (items : List X) (i : ℕ) →
     get_or (map (λ x. length (cells x) + spare x) items) i (length (cells none) + spare none)
     ≡ length (get_or (map cells items) i (cells none)) + get_or (map spare items) i (spare none)
-room_is {X} cells spare none items i =
-    let room = get_or-map (λ (x : X). length (cells x) + spare x) items i none in
-    let waits = ap length (get_or-map cells items i none) in
-    let left = get_or-map spare items i none in
-    omega arith
+room_is {X} cells spare none items i = grind (arith, common_steps, get_or-map)
 
 list_room-is : (lists : List Waiting) (i : ℕ) →
     get_or (map list_room lists) i 0 ≡ length (list_of (cells_of lists) i) + list_spare lists i
@@ -82,8 +77,7 @@ mapped_long f new old same = sym (length-map new f) ∙ same ∙ length-map old 
 same_rooms : {X : Type 0} (room : X → ℕ) (new old : List X) → length new ≡ length old →
     ((i : ℕ) → i < length new → get_or (map room new) i 0 ≡ get_or (map room old) i 0) → map room new ≡ map room old
 same_rooms room new old long each =
-    ext_get_or 0 (map room new) (map room old) (length-map new room ∙ long ∙ sym (length-map old room))
-    (λ i l. each i (let e = length-map new room in omega arith))
+    search (arith, rules, ext_get_or 0 (map room new) (map room old), length-map new room, length-map old room)
 
 -- what is seen of items of which one is read
 module _ {X : Type 0} (f : X → List Queued) (items : List X) (seen : List (List Queued)) (is : map f items ≡ seen)
@@ -99,21 +93,7 @@ module _ {X : Type 0} (f : X → List Queued) (items : List X) (seen : List (Lis
 pub fit_each : (lists : List Waiting) (buffers : List Buffered) (came : List (Option Queued)) (n : ℕ) →
     AreSquare lists buffers n → FitLists came (shown lists buffers) → FitEach (cells_in buffers) came lists
 fit_each lists buffers came n square fit i c inside is =
-    let f = fit i c is in
-    let room_is = list_room-is lists i in
-    let spare = list_spare-at lists i in
-    let lists_long = length-map lists (λ (w : Waiting). w.cells) in
-    let buffers_long = length-map buffers (λ (b : Buffered). b.cells) in
-    let outputs = square.outputs i no_list inside in
-    record {
-      buffer = omega arith;
-      output = omega arith;
-      room = omega arith;
-      other_key = subst (HasOtherKey c) (cells-at lists i) f.other_key;
-      ahead =
-          subst (MoreUrgentAhead (cushion c.key (list_of (cells_in buffers) c.cell.output)) c) (cells-at lists i)
-          f.ahead;
-    }
+    search (rules, list_room-is, list_spare-at, length-map, square.outputs, cells-at)
 
 cells_with : (lists : List Waiting) (buffers : List Buffered) (came : Option Queued) (w : Waiting) →
     (list_with (cells_in buffers) came w).cells ≡ list_arrived (fabric_of (shown lists buffers) []) came w.cells
@@ -128,11 +108,7 @@ outputs_with buffers (Some c) w = refl
 room_with : (buffers : List (List Queued)) (came : Option Queued) (w : Waiting) →
     ((c : Queued) → came ≡ Some c → 0 < w.spare) → list_room (list_with buffers came w) ≡ list_room w
 room_with buffers None w spare = refl
-room_with buffers (Some c) w spare =
-    let some = spare c refl in
-    let x = cushion c.key (list_of buffers c.cell.output) in
-    let place : place_of_arrival x c w.cells ≤ length w.cells = omega arith in
-    let longer = length-insert w.cells (place_of_arrival x c w.cells) c place in omega arith
+room_with buffers (Some c) w spare = let some = spare c refl in omega (arith, length-insert)
 
 -- the cells that came went into these lists, which fit
 pub record HaveCome (lists : List Waiting) (buffers : List Buffered) (came : List (Option Queued)) (n : ℕ)
@@ -147,27 +123,12 @@ module _ {lists : List Waiting} {buffers : List Buffered} {came : List (Option Q
     (known : HaveCome lists buffers came n lists') where
   nobody_past : (i : ℕ) → length lists ≤ i → (o : Option Queued) → came_to came i ≡ o → o ≡ None
   nobody_past i past None is = refl
-  nobody_past i past (Some c) is =
-      let l = (known.fit i c is).inside in
-      let e = length-map lists (λ (w : Waiting). w.cells) in
-      absurd (omega arith)
+  nobody_past i past (Some c) is = grind (arith, common_steps, length-map)
 
   pub arrived_cells : (i : ℕ) →
       list_of (cells_of lists') i
       ≡ list_arrived (fabric_of (shown lists buffers) []) (came_to came i) (list_of (cells_of lists) i)
-  arrived_cells i =
-      ⊎_elim
-      (λ l.
-      cells-at lists' i ∙ ap (λ (w : Waiting). w.cells) (known.each i l)
-      ∙ cells_with lists buffers (came_to came i) (list_at lists i)
-      ∙ ap (list_arrived (fabric_of (shown lists buffers) []) (came_to came i)) (sym (cells-at lists i)))
-      (λ past.
-      get_or_past (cells_of lists') i []
-      (let e = length-map lists' (λ (w : Waiting). w.cells) in omega arith)
-      ∙ sym (get_or_past (cells_of lists) i [] (let e = length-map lists (λ (w : Waiting). w.cells) in omega arith))
-      ∙ ap (λ o. list_arrived (fabric_of (shown lists buffers) []) o (list_of (cells_of lists) i))
-      (sym (nobody_past i past (came_to came i) refl)))
-      (cases_lt i (length lists))
+  arrived_cells i = search (rules, cells-at, cells_with, get_or_past, length-map, nobody_past, cases_lt)
 
   pub arrived_rooms : map list_room lists' ≡ map list_room lists
   arrived_rooms =
@@ -179,20 +140,7 @@ module _ {lists : List Waiting} {buffers : List Buffered} {came : List (Option Q
       ∙ sym (room-at lists i))
 
   pub arrived_square : AreSquare lists' buffers n
-  arrived_square =
-      let as_many = known.square.as_many in
-      let offered = known.square.offered in
-      record {
-        few = omega arith;
-        as_many = as_many ∙ sym known.long;
-        offered = offered ∙ sym known.long;
-        outputs = λ k d l.
-            let inside : k < length lists = omega arith in
-            ap (λ (w : Waiting). w.outputs) (get_or_same lists' k d no_list l ∙ known.each k inside)
-            ∙ outputs_with (cells_in buffers) (came_to came k) (list_at lists k)
-            ∙ known.square.outputs k no_list inside
-            ∙ sym known.long;
-      }
+  arrived_square = search (rules, get_or_same, outputs_with)
 
 -- ## A transfer
 
@@ -207,9 +155,7 @@ pub has_cell : (lists : List (List Queued)) (buffers : List (List Queued)) (from
     (m : Partners) → CanCross (record { inputs = lists; buffers = buffers; from_inputs = from; to_outputs = to }) →
     o ≡ orders_of lists → IsMatching o m → HaveCells m lists
 has_cell lists buffers from to o m can is matching i j p =
-    let are : AreOrdersOf lists o =
-    subst (AreOrdersOf lists) (sym is) (are_orders lists (firsts_apart lists can.apart)) in
-    ((are.outputs i).offered j).0 (matching.offered i j p)
+    grind (arith, common_steps, are_orders lists, firsts_apart lists can.apart, matching.offered i j p)
 
 -- a matching has a place for each input
 pub matched_long : (inputs : List (List Queued)) (m : Partners) → IsMatching (orders_of inputs) m →
@@ -218,18 +164,12 @@ matched_long inputs m matching = matching.size ∙ length-map inputs output_orde
 
 pub have_room : (lists : List Waiting) (buffers : List Buffered) (m : Partners) → CanCross (shown lists buffers) →
     HaveCells m (cells_of lists) → HaveRoom m buffers
-have_room lists buffers m can have i j p =
-    let room = can.room i j (have i j p) in
-    let is = buffer_room-is buffers j in omega arith
+have_room lists buffers m can have i j p = omega (arith, can.room i j (have i j p), buffer_room-is buffers j)
 
 without_one : (j : ℕ) (xs : List Queued) (c : Queued) → first_for j xs ≡ Some c →
     length (without_first j xs) + 1 ≡ length xs
 without_one j [] c h = absurd (let P : ⊥ = cc in P)
-without_one j (x ∷ xs) c h =
-    cond_both (is_for j x) xs (x ∷ without_first j xs) (λ l. (cond (is_for j x) (Some x) (first_for j xs) ≡ Some c) →
-    length l + 1 ≡ suc (length xs))
-    (λ yes f. omega arith)
-    (λ no f. let rest = without_one j xs c (ap (λ b. cond b (Some x) (first_for j xs)) (sym no) ∙ f) in omega arith) h
+without_one j (x ∷ xs) c h = grind (arith, common_steps, cond_both, without_one j xs c)
 
 taken_room : (p : Option ℕ) (xs : List Queued) (spare : ℕ) → ((j : ℕ) → p ≡ Some j → HasCellFor xs j) →
     length (list_taken p xs) + (spare + cond (is_some p) 1 0) ≡ length xs + spare
@@ -264,22 +204,11 @@ module _ {m : Partners} {lists : List Waiting} {buffers : List Buffered} {lists'
       omega arith)
 
   pub crossed_buffer_rooms : map buffer_room buffers' ≡ map buffer_room buffers
-  crossed_buffer_rooms =
-      same_rooms buffer_room buffers' buffers buffers_long (λ j _.
+  crossed_buffer_rooms = same_rooms buffer_room buffers' buffers buffers_long (λ j _.
       let now = buffer_room-is buffers' j in
       let then = buffer_room-is buffers j in
-      ⊎_elim
-      (λ r.
-      let cell = known.have r.0 j r.1 in
-      let given = ap length (known.moves.given r.0 j cell.0 r.1 cell.1) in
-      let longer = put_length cell.0 (list_of (cells_in buffers) j) in
-      let lost = known.rooms.lost r.0 j r.1 in
-      omega arith)
-      (λ free.
-      let kept = ap length (known.moves.kept j free) in
-      let same = known.rooms.kept j free in
-      omega arith)
-      (partner_or_free m j))
+      ⊎_elim (λ r. search (arith, rules, put_length (known.have r.0 j r.1).0 (list_of (cells_in buffers) j)))
+      (λ free. search (arith, rules)) (partner_or_free m j))
 
   pub crossed_square : (n : ℕ) → AreSquare lists buffers n → AreSquare lists' buffers' n
   crossed_square n square =
@@ -289,10 +218,8 @@ module _ {m : Partners} {lists : List Waiting} {buffers : List Buffered} {lists'
         offered = square.offered ∙ sym lists_long;
         outputs = λ k d l.
             let out : Waiting → ℕ = λ w. w.outputs in
-            let e = lists_long in
-            let inside : k < length lists = omega arith in
-            sym (get_or-map out lists' k d) ∙ ap (λ xs. get_or xs k (out d)) known.outputs ∙ get_or-map out lists k d
-            ∙ square.outputs k d inside ∙ sym lists_long;
+            search
+            (arith, rules, lists_long, get_or-map out lists' k d, get_or-map out lists k d, square.outputs k d);
       }
 
 -- ## Departures
@@ -312,19 +239,11 @@ popped_room (x ∷ xs) spare = omega arith
 
 pub rooms_shown : (buffers : List Buffered) → map buffer_room (map popped buffers) ≡ map buffer_room buffers
 rooms_shown [] = refl
-rooms_shown (b ∷ buffers) =
-    ap (λ r. r ∷ map buffer_room (map popped buffers)) (popped_room b.cells b.spare)
-    ∙ ap (λ l. buffer_room b ∷ l) (rooms_shown buffers)
+rooms_shown (b ∷ buffers) = grind (arith, common_steps, popped_room, rooms_shown buffers)
 
 pub popped_square : (lists : List Waiting) (buffers : List Buffered) (n : ℕ) → AreSquare lists buffers n →
     AreSquare lists (map popped buffers) n
-popped_square lists buffers n square =
-    record {
-      few = square.few;
-      as_many = length-map buffers popped ∙ square.as_many;
-      offered = square.offered;
-      outputs = square.outputs;
-    }
+popped_square lists buffers n square = grind (arith, common_steps, length-map)
 
 -- ## New queues
 
@@ -336,9 +255,7 @@ new_square lists buffers n k few offered outputs long as_many =
       few = omega arith;
       as_many = as_many ∙ sym long;
       offered = offered ∙ sym long;
-      outputs =
-          λ t d l. sym (get_or-map out lists t d) ∙ ap (λ xs. get_or xs t (out d)) outputs
-          ∙ get_or-replicate k t k (out d) (omega arith) ∙ sym long;
+      outputs = λ t d l. search (arith, rules, get_or-map out lists t d, get_or-replicate k t k (out d));
     }
 
 -- ## One place
@@ -346,10 +263,4 @@ new_square lists buffers n k few offered outputs long as_many =
 -- what a popped buffer is, by its parts
 pub popped_by : (b b' : Buffered) (q : Option Queued) → q ≡ slice_get b.cells 0 → b'.cells ≡ drop 1 b.cells →
     b'.spare ≡ b.spare + cond (is_some q) 1 0 → b' ≡ popped b
-popped_by b b' q first cells spare =
-    let more : b'.spare ≡ b.spare + cond (is_some (slice_get b.cells 0)) 1 0 =
-    spare ∙ ap (λ (o : Option Queued). b.spare + cond (is_some o) 1 0) first in
-    let had : Buffered = record { cells = b'.cells; spare = b'.spare } in
-    let want : Buffered =
-    record { cells = drop 1 b.cells; spare = b.spare + cond (is_some (slice_get b.cells 0)) 1 0 } in
-    let same : had ≡ want = cc in same
+popped_by b b' q first cells spare = grind (arith, common_steps)

@@ -1,7 +1,8 @@
 -- Slots in which nothing waits and nothing comes. The first of them tells each machine that its output was idle, and
 -- the others change nothing. After them the fabric is as empty as before, so it is in step with an ideal switch that
 -- is empty too.
-use Rattle.std.proofs.Common.{◌≡◌, ℕ, zero, suc, ◌<◌, Bool, List, Option, length, replicate, refl, sym, ap, ◌∙◌, subst, arith}
+use Rattle.std.proofs.lemmas.Grind.{common_steps}
+use Rattle.std.proofs.Common.{◌≡◌, ℕ, zero, suc, ◌<◌, Bool, List, Option, length, replicate, refl, arith, sym, ap, ◌∙◌, subst}
 use Rattle.cq_base.specs.Arrivals.{no_arrivals}
 use Rattle.cq_rank.specs.Machine.{Machine}
 use Rattle.cq_ideal.specs.Admission.{marked}
@@ -33,14 +34,12 @@ module _ (ms : List Machine) (ports : ℕ) where
   stays_idle : (count : ℕ) (ranks : List (List ℕ)) → all_idle ms ports ranks ≡ ranks →
       idled_for ms count ports ranks ≡ ranks
   stays_idle zero ranks same = refl
-  stays_idle (suc count) ranks same =
-      ap (idled_for ms count ports) (sym (idle_is ranks) ∙ same) ∙ stays_idle count ranks same
+  stays_idle (suc count) ranks same = grind (arith, common_steps, idle_is, stays_idle count ranks same)
 
   idle_once : (count : ℕ) (ranks rested : List (List ℕ)) → 0 < count → rested ≡ all_idle ms ports ranks →
       all_idle ms ports rested ≡ rested → idled_for ms count ports ranks ≡ rested
   idle_once zero ranks rested some is again = absurd (omega arith)
-  idle_once (suc count) ranks rested some is again =
-      ap (idled_for ms count ports) (sym (idle_is ranks) ∙ sym is) ∙ stays_idle count rested again
+  idle_once (suc count) ranks rested some is again = grind (arith, common_steps, idle_is, stays_idle)
 
 -- ## The fabric
 
@@ -67,11 +66,7 @@ rested_run ms ports count slot f rested empty square long some is again =
 -- an empty fabric agrees with an empty ideal switch, whatever the slot
 pub rested_agrees : (slot later : ℕ) (f : Fabric) (ideal : IdealState) (rested : List (List ℕ)) → IsEmptyFabric f →
     Agrees slot f ideal → Agrees later (with_ranks f rested) (empty_ideal (length f.inputs) rested)
-rested_agrees slot later f ideal rested empty had =
-    let ports = length f.inputs in
-    let opening : f ≡ empty_fabric ports f.ranks = empty_is f empty had.fabric.square in
-    subst (λ (g : Fabric). Agrees later (with_ranks g rested) (empty_ideal ports rested)) (sym opening)
-    (empty_agree_at ports rested later)
+rested_agrees slot later f ideal rested empty had = grind (arith, common_steps, empty_is, empty_agree_at)
 
 -- what the outputs hold does not depend on the states of the rank machines
 pub still_held : (q : Queues) (ranks rested : List (List ℕ)) (l : LimiterView) → HoldsFabric (fabric_of q ranks) l →
@@ -86,7 +81,6 @@ pub rested_limited_run : (limits : List (Option ℕ)) (marks : List Bool) (ms : 
     rested ≡ all_idle ms ports f.ranks → all_idle ms ports rested ≡ rested →
     LimitedFabricRun IsInputBest limits ms slot (replicate count no_arrivals) (marked marks f)
     (quiet_limited_slots ms count slot ports f.ranks marks) (marked marks (with_ranks f rested))
-rested_limited_run limits marks ms ports count slot f rested empty square long some is again =
-    run_with IsInputBest limits ms marks slot (replicate count no_arrivals) _ _ _
-    (none_come IsInputBest limits ms marks count)
+rested_limited_run limits marks ms ports count slot f rested empty square long some is again = run_with IsInputBest
+    limits ms marks slot (replicate count no_arrivals) _ _ _ (none_come IsInputBest limits ms marks count)
     (rested_run ms ports count slot f rested empty square long some is again)

@@ -1,14 +1,15 @@
 -- How many cells buffers can hold: no fewer than they do, and so many that a number of 64 bits counts them.
-use Rattle.std.proofs.Common.{◌≡◌, ℕ, zero, suc, ◌+◌, ◌^◌, ◌<◌, ◌≤◌, List, [], ◌∷◌, ◌++◌, length, map, get_or, take, replicate, sym, ap, subst, ⊎_elim, arith}
+use Rattle.std.proofs.lemmas.Grind.{common_steps}
+use Rattle.std.proofs.Common.{◌≡◌, ℕ, zero, suc, ◌+◌, ◌^◌, ◌<◌, ◌≤◌, List, [], ◌∷◌, ◌++◌, length, map, get_or, take, replicate, arith, sym, ap, subst}
 use Rattle.std.specs.Prelude.{All}
 use Rattle.std.proofs.lemmas.Bool.{cases_lt}
 use Rattle.std.proofs.lemmas.List.{get_or_past, take_more}
 use Rattle.std.proofs.lemmas.List.Elements.{All-push}
-use Rattle.cq_base.specs.declared.cell.Queued.{Queued}
 use Rattle.cq_ideal.proofs.Changed.{map_next, map_same}
 use Rattle.cq_urgency.specs.OutputBuffer.{Buffered, cells_in}
 use Rattle.cq_prefs.specs.FirstCells.{list_of}
 use Rattle.cq_fabric.specs.Queues.{buffer_room}
+use Rattle.cq_base.specs.declared.cell.Queued.{Queued}
 
 pub within_rooms : (buffers : List Buffered) (j : ℕ) →
     length (list_of (cells_in buffers) j) ≤ get_or (map buffer_room buffers) j 0
@@ -17,11 +18,7 @@ within_rooms (b ∷ buffers) zero = omega arith
 within_rooms (b ∷ buffers) (suc j) = within_rooms buffers j
 
 pub rooms_fit : (rooms : List ℕ) → All (λ room. room < 2 ^ 64) rooms → (j : ℕ) → get_or rooms j 0 < 2 ^ 64
-rooms_fit rooms all j =
-    ⊎_elim
-    (λ inside. all j 0 inside)
-    (λ beyond. let none = get_or_past rooms j 0 beyond in omega arith)
-    (cases_lt j (length rooms))
+rooms_fit rooms all j = grind (arith, common_steps, get_or_past, cases_lt)
 
 -- ## New buffers
 

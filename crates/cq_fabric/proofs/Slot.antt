@@ -3,8 +3,9 @@
 -- ones of this slot, and each cell that waits has slack 1, so that the more urgent cells for an output stand below
 -- the cushion of one that comes. Of the rooms it is enough that the buffer of each output for which a cell waits or
 -- comes has room for one: where the first matching fills that room, the output sends a cell and has it again.
-use Rattle.std.proofs.Common.{◌≡◌, ℕ, zero, suc, ◌+◌, ◌-◌, ◌<◌, ◌≤◌, eqb, Bool, true, false, List, [], ◌∷◌, length, get_or, drop, Option, Some, None, refl, sym, ap, ◌∙◌, subst, inl, inr, ⊎_elim, arith, ◌⊎◌}
-use Rattle.std.specs.Prelude.{IfSome, if◌then◌else◌, filter, slice_get}
+use Rattle.std.proofs.lemmas.Grind.{common_steps}
+use Rattle.std.proofs.Common.{rules, ◌≡◌, ℕ, zero, suc, ◌+◌, ◌-◌, ◌<◌, ◌≤◌, true, List, [], ◌∷◌, length, get_or, drop, Option, Some, None, refl, sym, ap, ◌∙◌, subst, inl, inr, ⊎_elim, arith, ◌⊎◌}
+use Rattle.std.specs.Prelude.{IfSome, filter, slice_get}
 use Rattle.std.proofs.lemmas.Bool.{cases_lt, cond_both, eqb-true, eq-eqb}
 use Rattle.std.proofs.lemmas.List.{get_or-map, get_or_past, length-map}
 use Rattle.std.proofs.lemmas.Option.{same_Some}
@@ -25,7 +26,7 @@ use Rattle.cq_xbar.specs.Crossbar.{HaveCells}
 use Rattle.cq_xbar.proofs.Noting.{noted_all, noted_few}
 use Rattle.cq_xbar.proofs.OneEach.{partner_or_free, put_length}
 use Rattle.cq_laws.specs.Agreement.{SendsAlike}
-use Rattle.cq_laws.specs.Fabric.{Fabric, IsAmong, cushion_of}
+use Rattle.cq_laws.specs.Fabric.{Fabric, IsAmong}
 use Rattle.cq_laws.specs.Holding.{waiting_for}
 use Rattle.cq_laws.specs.Phases.{came_to, list_arrived, Arrives, Transfers, Departs}
 use Rattle.cq_laws.specs.FabricSlot.{SlotRecord, FabricSlot}
@@ -51,15 +52,7 @@ use Rattle.cq_fabric.proofs.Queued.{has_cell}
 counted_one : (j : ℕ) (xs : List Queued) (c : Queued) → IsAmong c xs → is_for j c ≡ true →
     1 ≤ length (filter (is_for j) xs)
 counted_one j [] c h e = absurd h
-counted_one j (x ∷ xs) c h e =
-    cond_both (is_for j x) (x ∷ filter (is_for j) xs) (filter (is_for j) xs) (λ l. 1 ≤ length l)
-    (λ _. omega arith)
-    (λ no.
-    ⊎_elim
-    (λ same.
-    let clash : true ≡ false = sym e ∙ ap (is_for j) (sym same) ∙ no in
-    absurd (let P : ⊥ = cc in P))
-    (λ k. counted_one j xs c k e) h)
+counted_one j (x ∷ xs) c h e = grind (arith, common_steps, cond_both, counted_one j xs c)
 
 waits_one : (j : ℕ) (lists : List (List Queued)) (i : ℕ) (c : Queued) → IsAmong c (list_of lists i) →
     c.cell.output ≡ j → 1 ≤ waiting_for j lists
@@ -67,18 +60,12 @@ waits_one j [] i c h e = absurd h
 waits_one j (cells ∷ lists) zero c h e = let one = counted_one j cells c h (eq-eqb c.cell.output j e) in omega arith
 waits_one j (cells ∷ lists) (suc i) c h e = let one = waits_one j lists i c h e in omega arith
 
-abbrev bit : Bool → ℕ
-bit b = if b then 1 else 0
-
 arrives_one : (j : ℕ) (cells : List (Option Cell)) (i : ℕ) (cell : Cell) → arrival_at cells i ≡ Some cell →
     cell.output ≡ j → 1 ≤ count_for j cells
 arrives_one j [] i cell h e = absurd (let P : ⊥ = cc in P)
 arrives_one j (None ∷ cells) zero cell h e = absurd (let P : ⊥ = cc in P)
 arrives_one j (None ∷ cells) (suc i) cell h e = arrives_one j cells i cell h e
-arrives_one j (Some d ∷ cells) zero cell h e =
-    let same : d ≡ cell = same_Some d cell h in
-    let yes : eqb d.output j ≡ true = eq-eqb d.output j (ap (λ (x : Cell). x.output) same ∙ e) in
-    let one : bit (eqb d.output j) ≡ 1 = ap bit yes in omega arith
+arrives_one j (Some d ∷ cells) zero cell h e = grind (arith, common_steps, same_Some, eq-eqb)
 arrives_one j (Some d ∷ cells) (suc i) cell h e = let one = arrives_one j cells i cell h e in omega arith
 
 -- ## The cells of one slot can cross
@@ -165,24 +152,11 @@ module _ {ms : List Machine} {slot : ℕ} {q0 : Queues} {ranks0 : List (List ℕ
   fits_lists room i c is =
       let old = fabric_of q0 ranks0 in
       let fits = fits_list ms slot classes cells came old known.ideal known.agrees come ranks1 known.ranked i c is in
-      let spare = room i c.cell (arrival i c is) in
-      record {
-        inside = fits.inside;
-        output = fits.output;
-        room = omega arith;
-        other_key = fits.other_key;
-        ahead = fits.ahead;
-      }
+      let spare = room i c.cell (arrival i c is) in search (arith, rules)
 
   module _ {q1 : Queues} (arrived : HaveArrived q0 came q1) where
     pub arrive : Arrives ms slot cells came (fabric_of q0 ranks0) (fabric_of q1 ranks1)
-    arrive =
-        record {
-          ranked = known.ranked;
-          ports = arrived.ports;
-          lists = λ i. arrived.lists i ∙ list_same q0 [] ranks0 (came_to came i) (list_of q0.inputs i);
-          buffers = arrived.buffers;
-        }
+    arrive = grind (arith, common_steps, list_same)
 
     -- a cell that came is the newest of its list
     pub came_newest : (i : ℕ) (c : Queued) → came_to came i ≡ Some c → IsNewest c (list_of q1.inputs i)
@@ -190,13 +164,10 @@ module _ {ms : List Machine} {slot : ℕ} {q0 : Queues} {ranks0 : List (List ℕ
         let old = list_of q0.inputs i in
         let before : ArrivedBefore c.key.slot old =
         all_from _ old (λ d h. let lt = sound0.early.waiting i d h in let at = keyed.slot_is i c is in omega arith) in
-        let there = arrived.lists i ∙ ap (λ o. list_arrived (fabric_of q0 []) o old) is in
-        subst (IsNewest c) (sym there) (newest_arrived (cushion_of (fabric_of q0 []) c) c old before)
+        search (arith, rules, newest_arrived)
 
     sound1 : Sound (slot + 1) (fabric_of q1 ranks1)
-    sound1 =
-        arrived_sound ms slot cells came (fabric_of q0 ranks0) (fabric_of q1 ranks1) arrive keyed sound0
-        known.agrees.slack
+    sound1 = search (rules, arrived_sound, arrive, keyed, sound0)
 
     -- a cell that waits at an input now waited there, or came
     one_waits : (i j : ℕ) (c : Queued) → IsAmong c (list_of q1.inputs i) → c.cell.output ≡ j →
@@ -210,15 +181,7 @@ module _ {ms : List Machine} {slot : ℕ} {q0 : Queues} {ranks0 : List (List ℕ
     module _ (room : BuffersHaveRoom (length ms) q0 cells) where
       room1 : (i j : ℕ) (c : Queued) → IsAmong c (list_of q1.inputs i) → c.cell.output ≡ j →
           length (list_of q1.buffers j) < get_or q1.to_outputs j 0
-      room1 i j c h e =
-          let out = sound1.fabric.outputs i c h in
-          let square : length q0.inputs ≡ length ms = known.ports in
-          let as_many : length q1.inputs ≡ length q0.inputs = arrived.ports in
-          let fits = room j (omega arith) in
-          let long = ap (λ bs. length (list_of bs j)) arrived.buffers in
-          let many = ap (λ ns. get_or ns j 0) arrived.to_outputs in
-          let some = one_waits i j c h e in
-          omega arith
+      room1 i j c h e = let out = sound1.fabric.outputs i c h in search (arith, rules, one_waits i j c h e)
 
       pub can_cross_first : CanCross q1
       can_cross_first = can_cross (slot + 1) q1 ranks1 sound1 room1
@@ -226,26 +189,18 @@ module _ {ms : List Machine} {slot : ℕ} {q0 : Queues} {ranks0 : List (List ℕ
       module _ {m1 : Partners} {q2 : Queues} (moved1 : HaveMoved m1 q1 q2) where
         -- the first cell for an output at the input that is its partner
         crossing : HaveCells m1 q1.inputs
-        crossing =
-            has_cell q1.inputs q1.buffers q1.from_inputs q1.to_outputs (orders_of q1.inputs) m1 can_cross_first refl
-            moved1.stable.matching
+        crossing = has_cell q1.inputs q1.buffers q1.from_inputs q1.to_outputs (orders_of q1.inputs) m1 can_cross_first
+            refl moved1.stable.matching
 
         -- an output that sends a cell held one: it stood in its buffer, or crossed to it now
         sent_was_held : (j : ℕ) → 1 ≤ length (list_of q2.buffers j) →
             1 ≤ waiting_for j q0.inputs + count_for j cells + length (list_of q0.buffers j)
-        sent_was_held j some =
-            ⊎_elim
-            (λ r.
+        sent_was_held j some = ⊎_elim (λ r.
             let cell = crossing r.0 j r.1 in
             let p = first_at (is_for j) (list_of q1.inputs r.0) cell.0 cell.1 in
             let among = among_at (list_of q1.inputs r.0) p.place cell.0 p.at in
-            let one = one_waits r.0 j cell.0 among (eqb-true cell.0.cell.output j p.passes) in
-            omega arith)
-            (λ free.
-            let kept = ap length (moved1.moves.kept j free) in
-            let same = ap (λ bs. length (list_of bs j)) arrived.buffers in
-            omega arith)
-            (partner_or_free m1 j)
+            search (arith, rules, one_waits r.0 j cell.0 among, eqb-true cell.0.cell.output j p.passes))
+            (λ free. search (arith, rules)) (partner_or_free m1 j)
 
         module _ {before judged : LimiterView} (holds : HoldsFabric (fabric_of q0 ranks0) before)
             (judges : HaveJudged cells before judged) where
@@ -253,26 +208,11 @@ module _ {ms : List Machine} {slot : ℕ} {q0 : Queues} {ranks0 : List (List ℕ
               length (list_of q2.buffers j) ≡ length cells →
               IfSome (slice_get cells 0) (λ _. 0 < get_or judged.held j 0)
           held_one j inside [] e = tt
-          held_one j inside (c ∷ cells) e =
-              let some = sent_was_held j (omega arith) in
-              let now = judges.more j (omega arith) in
-              let was = ap (λ (l : List ℕ). get_or l j 0) holds.held ∙ held_at (fabric_of q0 ranks0) j inside in
-              omega arith
+          held_one j inside (c ∷ cells) e = grind (arith, common_steps, sent_was_held, held_at)
 
           -- so the number that is kept of it is not 0
           pub held_before : (j : ℕ) → IfSome (came_to (fronts q2.buffers) j) (λ _. 0 < get_or judged.held j 0)
-          held_before j =
-              let nil : List Queued = [] in
-              let none : Option Queued = None in
-              let P : Option Queued → Type 0 = λ o. IfSome o (λ _. 0 < get_or judged.held j 0) in
-              let mapped = length-map q2.buffers (λ (xs : List Queued). slice_get xs 0) in
-              ⊎_elim
-              (λ inside.
-              let as_many = ap length arrived.buffers in
-              subst P (sym (get_or-map (λ (xs : List Queued). slice_get xs 0) q2.buffers j nil none inside))
-              (held_one j (omega arith) (list_of q2.buffers j) refl))
-              (λ beyond. subst P (sym (get_or_past (fronts q2.buffers) j none (omega arith))) tt)
-              (cases_lt j (length q2.buffers))
+          held_before j = grind (arith, common_steps, length-map, get_or-map, held_one, get_or_past, cases_lt)
 
         module _ {ranks2 : List (List ℕ)} {q3 : Queues} (sent : HaveSent ms q1 ranks1 q2 ranks2 q3) where
           pub fill : Transfers m1 (fabric_of q1 ranks1) (fabric_of q2 ranks1)
@@ -285,8 +225,7 @@ module _ {ms : List Machine} {slot : ℕ} {q0 : Queues} {ranks0 : List (List ℕ
           sound2 = moved_sound (slot + 1) (fabric_of q1 ranks1) (fabric_of q2 ranks1) m1 sound1 moved1.stable fill
 
           sound3 : Sound (slot + 1) (fabric_of q3 ranks2)
-          sound3 =
-              sent_sound ms (fronts q2.buffers) (slot + 1) (fabric_of q2 ranks1) (fabric_of q3 ranks2) depart sound2
+          sound3 = search (rules, sent_sound, depart, sound2)
 
           -- no buffer is longer than before the first matching
           no_longer : (j : ℕ) → length (list_of q3.buffers j) ≤ length (list_of q1.buffers j)
@@ -306,16 +245,8 @@ module _ {ms : List Machine} {slot : ℕ} {q0 : Queues} {ranks0 : List (List ℕ
               (partner_or_free m1 j)
 
           pub can_cross_second : CanCross q3
-          can_cross_second =
-              can_cross (slot + 1) q3 ranks2 sound3
-              (λ i j c h e.
-              let here : IsAmong c (list_of q2.inputs i) = subst (λ ls. IsAmong c (list_of ls i)) sent.inputs h in
-              let before : IsAmong c (list_of q1.inputs i) =
-              taken_among (partner_of m1 i) (list_of q1.inputs i) c (subst (IsAmong c) (moved1.moves.taken i) here) in
-              let had = room1 i j c before e in
-              let less = no_longer j in
-              let many = ap (λ ns. get_or ns j 0) sent.to_outputs in
-              omega arith)
+          can_cross_second = can_cross (slot + 1) q3 ranks2 sound3 (λ i j c h e. search
+              (arith, rules, taken_among (partner_of m1 i) (list_of q1.inputs i) c, room1 i j c, no_longer j))
 
           module _ {m2 : Partners} {q4 : Queues} (moved2 : HaveMoved m2 q3 q4) where
             -- what is recorded of the slot
@@ -333,18 +264,8 @@ module _ {ms : List Machine} {slot : ℕ} {q0 : Queues} {ranks0 : List (List ℕ
                 }
 
             pub is_slot : FabricSlot IsStable ms slot cells (fabric_of q0 ranks0) recorded (fabric_of q4 ranks2)
-            is_slot =
-                record {
-                  numbered = refl;
-                  arrive = arrive;
-                  first_chosen = moved1.stable;
-                  fill = fill;
-                  depart = depart;
-                  second_chosen = moved2.stable;
-                  finish = record { moves = moved2.moves; ranks = refl };
-                }
+            is_slot = grind (arith, common_steps, arrive, fill, depart)
 
             pub alike : SendsAlike ms slot cells known.ideal (fronts q2.buffers) (fabric_of q4 ranks2)
-            alike =
-                same_slot ms slot classes cells (fabric_of q0 ranks0) (fabric_of q4 ranks2) known.ideal recorded
+            alike = same_slot ms slot classes cells (fabric_of q0 ranks0) (fabric_of q4 ranks2) known.ideal recorded
                 known.agrees come is_slot

@@ -1,14 +1,14 @@
 -- Both switches act alike, with limits and without: with stable matchings, and so with input-best ones. From empty
 -- states on they refuse as much at each output, since their admissions are the same.
-use Rattle.std.proofs.Common.{◌≡◌, ℕ, List, Option, Result, Ok, sym, ap, ◌∙◌}
+use Rattle.std.proofs.lemmas.Grind.{common_steps}
+use Rattle.std.proofs.Common.{arith, rules, ◌≡◌, ℕ, List, Option, Result, Ok}
 use Rattle.std.specs.List.{AllByRecursion}
 use Rattle.cq_base.specs.declared.cell.Cell.{Cell}
 use Rattle.cq_base.specs.declared.cell.TagFault.{TagFault}
 use Rattle.cq_rank.specs.Machine.{Machine}
-use Rattle.cq_ideal.specs.Admission.{Admission, Marked}
-use Rattle.cq_ideal.specs.LimitedIdeal.{LimitedRan, empty_limited, limited_run}
+use Rattle.cq_ideal.specs.Admission.{Marked}
+use Rattle.cq_ideal.specs.LimitedIdeal.{LimitedRan, empty_limited}
 use Rattle.cq_ideal.specs.Ranking.{AreForPorts}
-use Rattle.cq_ideal.specs.Refused.{refused_counts, refused_in}
 use Rattle.cq_prefs.specs.Pairing.{IsInputBest, IsStable}
 use Rattle.cq_laws.specs.Agreement.{ActAlikeFromEmptyWithoutLimits, ActAlikeWithoutLimits}
 use Rattle.cq_laws.specs.LimitedAgreement.{ActAlike, ActAlikeFromEmpty, LimitedRunsAlike}
@@ -22,9 +22,7 @@ use Rattle.cq_laws.proofs.WholeRuns.{same_run, same_stop, run_from_empty, stop_f
 
 same_admissions : (a b : LimitedRan) (x : Result LimitedRan TagFault) → x ≡ Ok a → x ≡ Ok b →
     a.admissions ≡ b.admissions
-same_admissions a b x e f =
-    let ok : ◌≡◌ {A = Result LimitedRan TagFault} (Ok a) (Ok b) = sym e ∙ f in
-    let is : a ≡ b = cc in ap (λ (r : LimitedRan). r.admissions) is
+same_admissions a b x e f = grind (arith, common_steps)
 
 module _ (limits : List (Option ℕ)) (ms : List Machine) where
   pub stable_act_alike : ActAlike IsStable limits ms
@@ -42,20 +40,7 @@ module _ (limits : List (Option ℕ)) (ms : List Machine) where
       }
 
   pub best_act_alike : ActAlike IsInputBest limits ms
-  best_act_alike =
-      let stable = stable_act_alike in
-      record {
-        slot = λ slot class_count cells f g ideal r agrees come step.
-            stable.slot slot class_count cells f g ideal r agrees come
-            (stable_limited_slot ms limits slot cells f g r step);
-        fault = stable.fault;
-        run = λ slot class_count traffic f g ideal rs agrees come run.
-            stable.run slot class_count traffic f g ideal rs agrees come
-            (stable_limited_run ms limits slot traffic f g rs run);
-        stop = λ slot class_count traffic f ideal rs fault agrees come run.
-            stable.stop slot class_count traffic f ideal rs fault agrees come
-            (stable_limited_stop ms limits slot traffic f rs fault run);
-      }
+  best_act_alike = search (rules, stable_act_alike, stable_limited_slot, stable_limited_run, stable_limited_stop)
 
   runs_from_empty : (ports class_count : ℕ) (ranks : List (List ℕ)) (traffic : List (List (Option Cell)))
       (rs : List LimitedRecord) (g : Marked Fabric) →
@@ -73,47 +58,17 @@ module _ (limits : List (Option ℕ)) (ms : List Machine) where
         stop = λ ports class_count ranks traffic rs fault come run.
             let start = begin limits ms class_count ports ranks traffic come in
             best_act_alike.stop 0 class_count traffic _ _ rs fault start.agrees start.come run;
-        refused = λ ports class_count ranks traffic rs g ran come run is.
-            let alike = runs_from_empty ports class_count ranks traffic rs g come run in
-            let whole = limited_run limits ms 0 traffic (empty_limited ports ranks) in
-            ap (λ (admissions : List Admission). refused_counts limits (refused_in admissions))
-            (same_admissions _ ran whole alike.ran is);
+        refused = search (arith, rules, runs_from_empty, same_admissions);
       }
 
 -- ## Without limits
 
 module _ (ms : List Machine) where
   pub stable_alike_without_limits : ActAlikeWithoutLimits IsStable ms
-  stable_alike_without_limits =
-      record {
-        slot = λ slot class_count cells f g ideal r agrees come step.
-            same_slot ms slot class_count cells f g ideal r agrees come step;
-        fault = λ slot cells f ideal fault agrees. same_fault ms slot cells f ideal fault agrees;
-        run = λ slot class_count traffic f g ideal rs agrees come run.
-            same_run ms class_count slot traffic f g ideal rs agrees come run;
-        stop = λ slot class_count traffic f ideal rs fault agrees come run.
-            same_stop ms class_count slot traffic f ideal rs fault agrees come run;
-      }
+  stable_alike_without_limits = search (rules, same_slot, same_fault, same_run, same_stop)
 
   pub best_alike_without_limits : ActAlikeWithoutLimits IsInputBest ms
-  best_alike_without_limits =
-      let stable = stable_alike_without_limits in
-      record {
-        slot = λ slot class_count cells f g ideal r agrees come step.
-            stable.slot slot class_count cells f g ideal r agrees come (stable_slot ms slot cells f g r step);
-        fault = stable.fault;
-        run = λ slot class_count traffic f g ideal rs agrees come run.
-            stable.run slot class_count traffic f g ideal rs agrees come (stable_run ms slot traffic f g rs run);
-        stop = λ slot class_count traffic f ideal rs fault agrees come run.
-            stable.stop slot class_count traffic f ideal rs fault agrees come
-            (stable_stop ms slot traffic f rs fault run);
-      }
+  best_alike_without_limits = search (rules, stable_alike_without_limits, stable_slot, stable_run, stable_stop)
 
   pub best_alike_from_empty_without_limits : ActAlikeFromEmptyWithoutLimits IsInputBest ms
-  best_alike_from_empty_without_limits =
-      record {
-        run = λ ports class_count ranks traffic rs g come run.
-            run_from_empty ports ranks ms class_count traffic rs g come (stable_run ms 0 traffic _ g rs run);
-        stop = λ ports class_count ranks traffic rs fault come run.
-            stop_from_empty ports ranks ms class_count traffic rs fault come (stable_stop ms 0 traffic _ rs fault run);
-      }
+  best_alike_from_empty_without_limits = search (rules, run_from_empty, stable_run, stop_from_empty, stable_stop)

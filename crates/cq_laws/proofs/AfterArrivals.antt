@@ -2,12 +2,13 @@
 -- they come, which all differ: so no key is twice. Each older cell for the same output in the list has slack 1 at
 -- least, so where it is more urgent than the new cell it stands below the new cell's cushion: so the insertion keeps
 -- the order. And the cells for each output are those that were there and those that came for it.
-use Rattle.std.proofs.Common.{◌≡◌, ◌≢◌, ℕ, ◌+◌, ◌<◌, ◌⊎◌, List, length, Option, Some, None, refl, sym, ap, ◌∙◌, subst, inl, inr, ⊎_elim, arith}
+use Rattle.std.proofs.lemmas.Grind.{common_steps}
+use Rattle.std.proofs.Common.{rules, ◌≡◌, ◌≢◌, ℕ, ◌+◌, ◌<◌, ◌⊎◌, List, length, Option, Some, None, refl, sym, ap, ◌∙◌, subst, inr, ⊎_elim, arith}
 use Rattle.std.proofs.lemmas.Option.{same_Some}
 use Rattle.cq_base.specs.declared.key.Key.{Key}
 use Rattle.cq_base.specs.declared.cell.Cell.{Cell}
 use Rattle.cq_base.specs.declared.cell.Queued.{Queued}
-use Rattle.cq_base.specs.Cells.{IsRising, KeepsOrder, cushion, place_of_arrival}
+use Rattle.cq_base.specs.Cells.{IsRising, KeepsOrder, place_of_arrival}
 use Rattle.cq_base.proofs.Lists.{keeps_order_arrival}
 use Rattle.cq_rank.specs.Machine.{Machine}
 use Rattle.cq_prefs.specs.FirstCells.{list_of}
@@ -35,8 +36,7 @@ module _ (ms : List Machine) (slot : ℕ) (cells : List (Option Cell)) (came : L
   came_or_was : (q : Option Queued) (xs : List Queued) (c : Queued) → IsAmong c (list_arrived old q xs) →
       (q ≡ Some c) ⊎ IsAmong c xs
   came_or_was None xs c h = inr h
-  came_or_was (Some n) xs c h =
-      ⊎_elim (λ e. inl (ap Some e)) (λ k. inr k) (among_insert xs (place_of_arrival (cushion_of old n) n xs) n c h)
+  came_or_was (Some n) xs c h = grind (arith, common_steps, among_insert)
 
   arrived_from : (i : ℕ) (c : Queued) → IsAmong c (input new i) → (came_to came i ≡ Some c) ⊎ IsAmong c (input old i)
   arrived_from i c h = came_or_was (came_to came i) (input old i) c (subst (IsAmong c) (arrive.lists i) h)
@@ -49,9 +49,7 @@ module _ (ms : List Machine) (slot : ℕ) (cells : List (Option Cell)) (came : L
   arrived_keeps i c h = subst (IsAmong c) (sym (arrive.lists i)) (still_there (came_to came i) (input old i) c h)
 
   arrived_new : (i : ℕ) (c : Queued) → came_to came i ≡ Some c → IsAmong c (input new i)
-  arrived_new i c e =
-      subst (IsAmong c) (sym (arrive.lists i ∙ ap (λ q. list_arrived old q (input old i)) e))
-      (insert_new (input old i) (place_of_arrival (cushion_of old c) c (input old i)) c)
+  arrived_new i c e = grind (arith, common_steps, insert_new)
 
   in_buffer : (j : ℕ) (c : Queued) → IsAmong c (buffer new j) → IsAmong c (buffer old j)
   in_buffer j c h = subst (λ b. IsAmong c (list_of b j)) arrive.buffers h
@@ -61,8 +59,7 @@ module _ (ms : List Machine) (slot : ℕ) (cells : List (Option Cell)) (came : L
   arrived_fabric fabric =
       record {
         square = ap length arrive.buffers ∙ fabric.square ∙ sym arrive.ports;
-        outputs = λ i c h. subst (λ n. c.cell.output < n) (sym arrive.ports)
-            (⊎_elim (λ e. keyed.outputs i c e) (λ k. fabric.outputs i c k) (arrived_from i c h));
+        outputs = λ i c h. search (arith, rules, fabric.outputs i c, arrived_from i c h);
         own = λ j c h. fabric.own j c (in_buffer j c h);
         rising = λ j. subst (λ b. IsRising (list_of b j)) (sym arrive.buffers) (fabric.rising j);
       }
@@ -75,23 +72,17 @@ module _ (ms : List Machine) (slot : ℕ) (cells : List (Option Cell)) (came : L
     -- two cells that came with one key are one
     came_same : (i k : ℕ) (c d : Queued) → came_to came i ≡ Some c → came_to came k ≡ Some d → c.key ≡ d.key →
         (i ≡ k) × (c ≡ d)
-    came_same i k c d x y e =
-        let ik : i ≡ k = sym (keyed.input_is i c x) ∙ ap (λ (q : Key). q.input) e ∙ keyed.input_is k d y in
-        (ik, same_Some c d (sym x ∙ ap (came_to came) ik ∙ y))
+    came_same i k c d x y e = search (rules, same_Some)
 
     arrived_apart : Apart new
     unfolding new_old in_buffer
     arrived_apart =
         record {
-          waiting = λ i k c d a b e.
-              ⊎_elim
-              (λ x. ⊎_elim (λ y. came_same i k c d x y e)
+          waiting = λ i k c d a b e. ⊎_elim (λ x. ⊎_elim (λ y. came_same i k c d x y e)
               (λ y. absurd (new_old i c d x (sound.early.waiting k d y) e)) (arrived_from k d b))
               (λ x. ⊎_elim (λ y. absurd (new_old k d c y (sound.early.waiting i c x) (sym e)))
-              (λ y. sound.apart.waiting i k c d x y e) (arrived_from k d b))
-              (arrived_from i c a);
-          between = λ i j c d a b e.
-              ⊎_elim (λ x. new_old i c d x (sound.early.crossed j d (in_buffer j d b)) e)
+              (λ y. sound.apart.waiting i k c d x y e) (arrived_from k d b)) (arrived_from i c a);
+          between = λ i j c d a b e. ⊎_elim (λ x. new_old i c d x (sound.early.crossed j d (in_buffer j d b)) e)
               (λ x. sound.apart.between i j c d x (in_buffer j d b) e) (arrived_from i c a);
           crossed = λ j l c d a b e. sound.apart.crossed j l c d (in_buffer j c a) (in_buffer l d b) e;
         }
@@ -107,42 +98,21 @@ module _ (ms : List Machine) (slot : ℕ) (cells : List (Option Cell)) (came : L
     ordered : (i : ℕ) (q : Option Queued) → came_to came i ≡ q → KeepsOrder (list_arrived old q (input old i))
     unfolding new_old
     ordered i None e = sound.order i
-    ordered i (Some n) e =
-        keeps_order_arrival (cushion_of old n) n (input old i) (sound.order i)
+    ordered i (Some n) e = keeps_order_arrival (cushion_of old n) n (input old i) (sound.order i)
         (all_from _ (input old i) (λ x k same. new_old i n x e (sound.early.waiting i x k) (sym same)))
-        (λ s x at out lt.
-        let had = slack i s x at in
-        let rises = cushion_rises x.key n.key (buffer old x.cell.output) lt in
-        let same = ap (λ j. cushion n.key (buffer old j)) out in omega arith)
+        (λ s x at out lt. search (arith, rules, cushion_rises x.key n.key (buffer old x.cell.output) lt))
 
     arrived_order : ListsKeepOrder new
     arrived_order i = subst KeepsOrder (sym (arrive.lists i)) (ordered i (came_to came i) refl)
 
     pub arrived_sound : Sound (slot + 1) new
-    arrived_sound =
-        record {
-          fabric = arrived_fabric sound.fabric;
-          order = arrived_order;
-          apart = arrived_apart;
-          early = arrived_early;
-        }
+    arrived_sound = grind (arith, common_steps, arrived_fabric, arrived_order, arrived_apart, arrived_early)
 
     pub arrived_slack : HasSlack 0 new
-    arrived_slack i t c at =
-        ⊎_elim
-        (λ r. omega arith)
-        (λ r. let had = slack i r.before c r.stood in omega arith)
-        (arrivals_fall ms slot cells came old new arrive i t c at)
+    arrived_slack i t c at = grind (arith, common_steps, arrivals_fall ms slot cells came old new arrive i t c at)
 
     pub arrived_has : (j : ℕ) (c : Queued) → HasFor new j c → HasFor old j c ⊎ CameFor came j c
-    arrived_has j c h =
-        ⊎_elim (λ w. ⊎_elim (λ e. inr (w.0, e, w.2)) (λ k. inl (inl (w.0, k, w.2))) (arrived_from w.0 c w.1))
-        (λ b. inl (inr (in_buffer j c b))) h
+    arrived_has j c h = search (rules, arrived_from, in_buffer)
 
     pub has_arrived : (j : ℕ) (c : Queued) → HasFor old j c ⊎ CameFor came j c → HasFor new j c
-    has_arrived j c h =
-        ⊎_elim
-        (λ was. ⊎_elim (λ w. inl (w.0, arrived_keeps w.0 c w.1, w.2))
-        (λ b. inr (subst (λ l. IsAmong c (list_of l j)) (sym arrive.buffers) b)) was)
-        (λ r. inl (r.0, arrived_new r.0 c r.1, r.2))
-        h
+    has_arrived j c h = search (rules, arrived_keeps, arrived_new)

@@ -1,8 +1,9 @@
 -- What departures keep: they take the first cell out of each buffer, and nothing else changes.
-use Rattle.std.proofs.Common.{◌≡◌, ℕ, ◌+◌, ◌<◌, List, [], ◌∷◌, length, Option, sym, ap, ◌∙◌, subst, inr, arith, drop}
+use Rattle.std.proofs.Common.{rules, ◌≡◌, ℕ, ◌+◌, List, [], ◌∷◌, length, Option, sym, ap, ◌∙◌, subst, inr, arith, drop}
+use Rattle.std.proofs.lemmas.Grind.{common_steps}
 use Rattle.std.proofs.lemmas.List.{length-map}
 use Rattle.cq_base.specs.declared.cell.Queued.{Queued}
-use Rattle.cq_base.specs.Cells.{IsRising, KeepsOrder}
+use Rattle.cq_base.specs.Cells.{IsRising}
 use Rattle.cq_rank.specs.Machine.{Machine}
 use Rattle.cq_ideal.specs.IdealSlot.{rests}
 use Rattle.cq_prefs.specs.FirstCells.{list_of}
@@ -39,9 +40,7 @@ module _ (ms : List Machine) (gone : List (Option Queued)) (slot : ℕ) (old new
   sent_fabric fabric =
       record {
         square = ap length depart.buffers ∙ length_rests old.buffers ∙ fabric.square ∙ sym (ap length depart.inputs);
-        outputs =
-            λ i c h. subst (λ n. c.cell.output < n) (sym (ap length depart.inputs))
-            (fabric.outputs i c (same_input i c h));
+        outputs = λ i c h. search (arith, rules, fabric.outputs i c (same_input i c h));
         own = λ j c h. fabric.own j c (was_crossed j c h);
         rising = λ j. subst IsRising (sym (sent_buffer j)) (rising_rest (buffer old j) (fabric.rising j));
       }
@@ -64,16 +63,7 @@ module _ (ms : List Machine) (gone : List (Option Queued)) (slot : ℕ) (old new
       }
 
   pub sent_sound : Sound slot old → Sound slot new
-  sent_sound sound =
-      record {
-        fabric = sent_fabric sound.fabric;
-        order = λ i. subst (λ l. KeepsOrder (list_of l i)) (sym depart.inputs) (sound.order i);
-        apart = sent_apart sound.apart;
-        early = sent_early sound.early;
-      }
+  sent_sound sound = grind (arith, common_steps, sent_fabric, sound.order, sent_apart, sent_early)
 
   pub sent_slack : (n : ℕ) → HasSlack (1 + n) old → HasSlack n new
-  sent_slack n slack i t c at =
-      let r = departures_fall ms gone old new depart i t c at in
-      let had = slack i r.before c r.stood in
-      omega arith
+  sent_slack n slack i t c at = grind (arith, common_steps, departures_fall ms gone old new depart i t c at)

@@ -1,10 +1,11 @@
 -- What the transfer of a stable matching keeps. Each cell is where it was or has crossed to its output, and the first
 -- cell for an output that a list gave is in it no more: so no key is twice, and the cells for each output stay the
 -- same.
-use Rattle.std.proofs.Common.{◌≡◌, ◌≢◌, ℕ, ◌+◌, ◌<◌, ◌⊎◌, List, Option, Some, None, sym, ap, ◌∙◌, subst, ⊎_elim, arith}
+use Rattle.std.proofs.lemmas.Grind.{common_steps}
+use Rattle.std.proofs.Common.{rules, ◌≡◌, ◌≢◌, ℕ, ◌+◌, ◌<◌, ◌⊎◌, List, Option, Some, None, sym, ap, ◌∙◌, subst, ⊎_elim, arith}
 use Rattle.std.proofs.lemmas.Bool.{cases_lt, eqb-true}
 use Rattle.cq_base.specs.declared.cell.Queued.{Queued}
-use Rattle.cq_base.specs.Cells.{IsRising, KeepsOrder, is_for, first_for, place_for, without_first}
+use Rattle.cq_base.specs.Cells.{IsRising, KeepsOrder, is_for, first_for, without_first}
 use Rattle.cq_base.proofs.Lists.{each_pair_left, first_le}
 use Rattle.cq_prefs.specs.Pairing.{Partners, partner_of, IsStable}
 use Rattle.cq_prefs.specs.FirstCells.{AreOrdersOf, orders_of}
@@ -23,11 +24,7 @@ not_left : (j : ℕ) (xs : List Queued) (f : Queued) → KeepsOrder xs → first
 not_left j xs f order is h =
     let first = first_at (is_for j) xs f is in
     let r = at_among (without_first j xs) f h in
-    let st = left_at j xs r.0 f r.1 in
-    let le = first_le (is_for j) xs st.place f st.at first.passes in
-    let here = one_in_order xs first.place st.place f order first.at st.at in
-    ⊎_elim (λ lt. let same = st.stayed lt in absurd (omega arith))
-    (λ ge. let same = st.moved ge in absurd (omega arith)) (cases_lt r.0 (place_for j xs))
+    let st = left_at j xs r.0 f r.1 in search (arith, rules, first_le, one_in_order, cases_lt)
 
 from_first : (j : ℕ) (xs : List Queued) (f : Queued) → first_for j xs ≡ Some f → IsAmong f xs × (f.cell.output ≡ j)
 from_first j xs f is =
@@ -71,16 +68,12 @@ module _ (old new : Fabric) (m : Partners) (fabric : IsFabric old) (order : List
         waiting = λ i k c d a b e. apart.waiting i k c d (was_waiting i c a) (was_waiting k d b) e;
         between = λ i j c d a b e. ⊎_elim (λ y. apart.between i j c d (was_waiting i c a) y e)
             (λ y. moved_waits i y.0 j c d a y.1 y.2 e) (from_buffer j d b);
-        crossed = λ j l c d a b e.
-            ⊎_elim
-            (λ x. ⊎_elim (λ y. apart.crossed j l c d x y e)
+        crossed = λ j l c d a b e. ⊎_elim (λ x. ⊎_elim (λ y. apart.crossed j l c d x y e)
             (λ y. absurd (apart.between y.0 j d c (from_first l (input old y.0) d y.2).0 x (sym e)))
-            (from_buffer l d b))
-            (λ x. ⊎_elim
-            (λ y. absurd (apart.between x.0 l c d (from_first j (input old x.0) c x.2).0 y e))
+            (from_buffer l d b)) (λ x.
+            ⊎_elim (λ y. absurd (apart.between x.0 l c d (from_first j (input old x.0) c x.2).0 y e))
             (λ y. (apart.waiting x.0 y.0 c d (from_first j (input old x.0) c x.2).0
-            (from_first l (input old y.0) d y.2).0 e).1)
-            (from_buffer l d b))
+            (from_first l (input old y.0) d y.2).0 e).1) (from_buffer l d b))
             (from_buffer j c a);
       }
 
@@ -89,18 +82,17 @@ module _ (old new : Fabric) (m : Partners) (fabric : IsFabric old) (order : List
   moved_fabric =
       record {
         square = moves.moves.ports.1 ∙ fabric.square ∙ sym moves.moves.ports.0;
-        outputs = λ i c h. subst (λ n. c.cell.output < n) (sym moves.moves.ports.0)
-            (fabric.outputs i c (was_waiting i c h));
-        own = λ j c h. ⊎_elim (λ k. fabric.own j c k) (λ r. (from_first j (input old r.0) c r.2).1) (from_buffer j c h);
-        rising = λ j.
-            ⊎_elim
-            (λ r.
-            let f = partner_offers old new (orders_of old.inputs) m order fabric are stable moves r.0 j r.1 in
-            subst IsRising (sym (moves.moves.given r.0 j f.0 r.1 f.1))
-            (rising_put f.0 (buffer old j) (fabric.rising j) (λ d k e. apart.between r.0 j f.0 d
-            (from_first j (input old r.0) f.0 f.1).0 k e)))
-            (λ none. subst IsRising (sym (moves.moves.kept j none)) (fabric.rising j))
-            (sender m j);
+        outputs = λ i c h.
+            subst (λ n. c.cell.output < n) (sym moves.moves.ports.0) (fabric.outputs i c (was_waiting i c h));
+        own =
+            λ j c h. ⊎_elim (λ k. fabric.own j c k) (λ r. (from_first j (input old r.0) c r.2).1) (from_buffer j c h);
+        rising = λ j. ⊎_elim (λ r.
+            let f =
+            partner_offers old new (orders_of old.inputs) m order fabric are stable moves r.0 j r.1 in
+            subst IsRising (sym (moves.moves.given r.0 j f.0 r.1 f.1)) (rising_put f.0 (buffer old j)
+            (fabric.rising j) (λ d k e.
+            apart.between r.0 j f.0 d (from_first j (input old r.0) f.0 f.1).0 k e)))
+            (λ none. subst IsRising (sym (moves.moves.kept j none)) (fabric.rising j)) (sender m j);
       }
 
 module _ (slot : ℕ) (old new : Fabric) (m : Partners) (sound : Sound slot old)
@@ -116,41 +108,28 @@ module _ (slot : ℕ) (old new : Fabric) (m : Partners) (sound : Sound slot old)
       }
 
   pub moved_sound : Sound slot new
-  moved_sound =
-      record {
-        fabric = moved_fabric old new m sound.fabric sound.order sound.apart stable moves;
-        order = moved_order old new m sound.fabric sound.order sound.apart stable moves;
-        apart = moved_apart old new m sound.fabric sound.order sound.apart stable moves;
-        early = moved_early;
-      }
+  moved_sound = grind (arith, common_steps, moved_fabric, moved_order, moved_apart, moved_early)
 
   pub moved_rises : EachRises 1 old new
-  moved_rises =
-      matching_rises old new (orders_of old.inputs) m sound.order sound.fabric (orders_are old sound.apart) stable moves
+  moved_rises = search (rules, matching_rises, orders_are)
 
   pub moved_slack : (n : ℕ) → HasSlack n old → HasSlack (1 + n) new
-  moved_slack n slack =
-      slack_risen old new (orders_of old.inputs) m sound.order sound.fabric
-      (orders_are old sound.apart) stable moves n slack
+  moved_slack n slack = search (rules, slack_risen, orders_are)
 
   pub has_moved : (j : ℕ) (c : Queued) → HasFor old j c → HasFor new j c
-  has_moved =
-      has_after old new (orders_of old.inputs) m sound.order sound.fabric (orders_are old sound.apart) stable moves
+  has_moved = search (rules, has_after, orders_are)
 
   pub moved_has : (j : ℕ) (c : Queued) → HasFor new j c → HasFor old j c
-  moved_has =
-      has_before old new (orders_of old.inputs) m sound.order sound.fabric (orders_are old sound.apart) stable moves
+  moved_has = search (rules, has_before, orders_are)
 
 -- ## The two laws, of states as they are said by places
 
 pub stable_rises : (m : Partners) (old new : Fabric) → IsFabric old → ListsKeepOrder old → NoKeyTwice old →
     IsStable (orders_of old.inputs) m → Transfers m old new → EachRises 1 old new
-stable_rises m old new fabric order differ stable moves =
-    matching_rises old new (orders_of old.inputs) m order fabric (orders_are old (apart_from old differ)) stable moves
+stable_rises m old new fabric order differ stable moves = search (rules, matching_rises, orders_are, apart_from)
 
 pub most_urgent_crosses : (m : Partners) (old new : Fabric) → IsFabric old → ListsKeepOrder old → NoKeyTwice old →
     HasSlack 0 old → IsStable (orders_of old.inputs) m → Transfers m old new → (j : ℕ) (c : Queued) →
     IsMostUrgentFor old j c → IsAmong c (buffer new j)
 most_urgent_crosses m old new fabric order differ slack stable moves =
-    least_buffered old new (orders_of old.inputs) m order fabric
-    (orders_are old (apart_from old differ)) stable moves slack
+    search (rules, least_buffered, orders_are, apart_from)

@@ -1,6 +1,6 @@
 -- What ranking gives, as the fabric sees it: each cell that came has the slot, the input at which it came, and is the
 -- one that arrived there.
-use Rattle.std.proofs.Common.{◌≡◌, ℕ, List, Option, Some, Ok, arith}
+use Rattle.std.proofs.Common.{rules, ◌≡◌, ℕ, List, Option, Some, Ok, arith}
 use Rattle.cq_base.specs.declared.cell.Cell.{Cell}
 use Rattle.cq_base.specs.declared.cell.Queued.{Queued}
 use Rattle.cq_rank.specs.Machine.{Machine}
@@ -26,9 +26,4 @@ came_cell {ms} {slot} {cells} {came} {old} {new} arrives i c is =
 pub keyed_from : (ms : List Machine) (slot ports class_count : ℕ) (cells : List (Option Cell)) (ranks : List (List ℕ))
     (r : Ranking) → ranking ms slot 0 cells ranks ≡ Ok r → AreForPorts ports class_count cells →
     Keyed slot ports r.came
-keyed_from ms slot ports class_count cells ranks r h are =
-    record {
-      slot_is = λ k q e. (came_from ms slot 0 cells ranks r h k q e).slot_is;
-      input_is = λ k q e. let is = (came_from ms slot 0 cells ranks r h k q e).input_is in omega arith;
-      outputs = λ k q e. are.outputs k q.cell (came_from ms slot 0 cells ranks r h k q e).cell_is;
-    }
+keyed_from ms slot ports class_count cells ranks r h are = search (arith, rules, came_from ms slot 0 cells ranks r h)

@@ -1,8 +1,8 @@
 -- Cushions. A cell more in a buffer raises by one the cushion of each less urgent key and lowers none, and a cell
 -- less lowers a cushion by one at most. A cushion that is not 0 shows a more urgent cell, and a greater key has no
 -- smaller cushion.
-use Rattle.std.proofs.Common.{◌≡◌, ℕ, ◌+◌, ◌<◌, ◌≤◌, Bool, true, false, List, [], ◌∷◌, length, refl, ap, inl, inr, ⊎_elim, arith}
-use Rattle.std.specs.Prelude.{filter}
+use Rattle.std.proofs.lemmas.Grind.{common_steps}
+use Rattle.std.proofs.Common.{◌≡◌, ℕ, ◌+◌, ◌<◌, ◌≤◌, Bool, true, false, List, [], ◌∷◌, ap, ⊎_elim, arith}
 use Rattle.std.proofs.lemmas.Bool.{cond_both, cases_Bool}
 use Rattle.cq_base.specs.declared.key.Key.{Key}
 use Rattle.cq_base.specs.declared.cell.Queued.{Queued}
@@ -28,11 +28,7 @@ bit_le false = omega arith
 
 pub cushion_cons : (k : Key) (x : Queued) (xs : List Queued) →
     cushion k (x ∷ xs) ≡ bit (is_before x.key k) + cushion k xs
-cushion_cons k x xs =
-    let rest = filter (λ y. is_before y.key k) xs in
-    cond_both (is_before x.key k) (x ∷ rest) rest (λ l. length l ≡ bit (is_before x.key k) + length rest)
-    (λ e. let b = bit_true (is_before x.key k) e in omega arith)
-    (λ e. let b = bit_false (is_before x.key k) e in omega arith)
+cushion_cons k x xs = grind (arith, common_steps, cond_both, bit_true, bit_false)
 
 -- a cell taken from the front
 pub cushion_tail : (k : Key) (x : Queued) (xs : List Queued) → cushion k (x ∷ xs) ≤ 1 + cushion k xs
@@ -41,11 +37,7 @@ cushion_tail k x xs = omega (arith, cushion_cons k x xs, bit_le (is_before x.key
 pub cushion_put : (k : Key) (c : Queued) (xs : List Queued) →
     cushion k (put c xs) ≡ bit (is_before c.key k) + cushion k xs
 cushion_put k c [] = cushion_cons k c []
-cushion_put k c (x ∷ xs) =
-    cond_both (is_before c.key x.key) (c ∷ x ∷ xs) (x ∷ put c xs) (λ l. cushion k l
-    ≡ bit (is_before c.key k) + cushion k (x ∷ xs))
-    (λ _. cushion_cons k c (x ∷ xs))
-    (λ _. omega (arith, cushion_cons k x (put c xs), cushion_cons k x xs, cushion_put k c xs))
+cushion_put k c (x ∷ xs) = grind (arith, common_steps, cond_both, cushion_cons, cushion_put k c xs)
 
 pub cushion_grows : (k : Key) (c : Queued) (xs : List Queued) → cushion k xs ≤ cushion k (put c xs)
 cushion_grows k c xs = omega (arith, cushion_put k c xs)
@@ -58,11 +50,7 @@ cushion_grows_by_one k c xs e = omega (arith, cushion_put k c xs, bit_true (is_b
 pub cushion_has : (k : Key) (xs : List Queued) → 0 < cushion k xs →
     (x : Queued) × IsAmong x xs × (is_before x.key k ≡ true)
 cushion_has k [] h = absurd (omega arith)
-cushion_has k (x ∷ xs) h =
-    ⊎_elim (λ e. (x, inl refl, e))
-    (λ e. let r = cushion_has k xs (omega (arith, cushion_cons k x xs, bit_false (is_before x.key k) e)) in
-    (r.0, inr r.1, r.2))
-    (cases_Bool (is_before x.key k))
+cushion_has k (x ∷ xs) h = grind (arith, common_steps, cushion_cons, bit_false, cases_Bool, cushion_has k xs)
 
 -- a greater key has no smaller cushion
 pub cushion_rises : (k l : Key) (xs : List Queued) → is_before k l ≡ true → cushion k xs ≤ cushion l xs
@@ -71,9 +59,7 @@ cushion_rises k l (x ∷ xs) h =
     let rest = cushion_rises k l xs h in
     let both = cushion_cons k x xs in
     let both' = cushion_cons l x xs in
-    ⊎_elim
-    (λ e. let b = bit_true (is_before x.key k) e in
-    let b' = bit_true (is_before x.key l) (key_laws.on x.key k l e h) in
-    omega arith)
-    (λ e. let b = bit_false (is_before x.key k) e in omega arith)
-    (cases_Bool (is_before x.key k))
+    ⊎_elim (λ e.
+    let b = bit_true (is_before x.key k) e in
+    let b' = bit_true (is_before x.key l) (key_laws.on x.key k l e h) in omega arith)
+    (λ e. let b = bit_false (is_before x.key k) e in omega arith) (cases_Bool (is_before x.key k))

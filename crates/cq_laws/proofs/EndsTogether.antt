@@ -2,20 +2,16 @@
 -- and states that agree are empty together. So the least number of slots after which the one is over is that of the
 -- other. In the last slot a cell departs, as it does in the ideal switch, so the figures tell the number of slots.
 -- And what goes on behind the end is quiet slots.
-use Rattle.std.proofs.Common.{◌≡◌, ℕ, ◌+◌, ◌-◌, ◌<◌, ◌≤◌, Bool, true, false, cond, List, [], ◌∷◌, ◌++◌, length, take, drop, map, replicate, Option, Some, None, Result, Ok, Err, refl, sym, ap, ◌∙◌, subst, ⊎_elim, arith}
+use Rattle.std.proofs.lemmas.Grind.{common_steps}
+use Rattle.std.proofs.Common.{rules, ◌≡◌, ℕ, ◌+◌, ◌-◌, ◌<◌, ◌≤◌, Bool, true, false, cond, List, [], ◌∷◌, ◌++◌, length, take, drop, map, Option, Some, None, Result, Ok, Err, refl, sym, ap, ◌∙◌, subst, ⊎_elim, arith, replicate}
 use Rattle.std.specs.Prelude.{IsOkAnd, filter, fold, is_some, max}
 use Rattle.std.specs.List.{AllByRecursion, list_any}
 use Rattle.std.proofs.lemmas.Bool.{cases_lt}
-use Rattle.std.proofs.lemmas.List.{append-nil, length-take-le, take-append-drop, take_all}
-use Rattle.std.proofs.lemmas.List.Sums.{fold-append}
+use Rattle.std.proofs.lemmas.List.{length-take-le, take-append-drop, take_all, append-nil}
 use Rattle.cq_base.specs.Arriving.{Arrival, enough, traffic_of}
-use Rattle.cq_base.specs.Arrivals.{no_arrivals}
 use Rattle.cq_base.specs.declared.cell.Cell.{Cell}
-use Rattle.cq_base.specs.declared.cell.Departure.{Departure}
 use Rattle.cq_base.specs.declared.cell.Queued.{Queued}
 use Rattle.cq_base.specs.declared.cell.TagFault.{TagFault}
-use Rattle.cq_base.specs.declared.cell.Transfer.{Transfer}
-use Rattle.cq_base.specs.declared.figures.Figures.{Figures}
 use Rattle.cq_rank.specs.Machine.{Machine}
 use Rattle.cq_ideal.specs.Ending.{IdealAfter, IdealEnds, arriving_from, first_slots, slots_of, slots_of_run, whole_ideal_run}
 use Rattle.cq_ideal.specs.Flows.{IsForSwitch}
@@ -33,10 +29,9 @@ use Rattle.cq_laws.specs.Agreement.{Agrees, EndsAlike}
 use Rattle.cq_laws.specs.Fabric.{Fabric, IsEmptyFabric, empty_fabric}
 use Rattle.cq_laws.specs.FabricRun.{BeginsWhole, FabricRun, FabricStops, WholeRun}
 use Rattle.cq_laws.specs.FabricSlot.{FabricSlot, SlotRecord}
-use Rattle.cq_laws.specs.Measures.{figures_after, figures_of, no_figures, sends}
+use Rattle.cq_laws.specs.Measures.{figures_of, sends, figures_after, no_figures}
 use Rattle.cq_laws.specs.Quiet.{idled_for, quiet_slots}
 use Rattle.cq_laws.specs.Records.{gone_in, transfers_of_run}
-use Rattle.cq_laws.specs.SlotBySlot.{AfterBy, RunBy}
 use Rattle.cq_laws.proofs.AddingUp.{figures_fold}
 use Rattle.cq_laws.proofs.InputBest.{stable_run}
 use Rattle.cq_laws.proofs.KeptParts.{departures_both, transfers_both}
@@ -44,6 +39,11 @@ use Rattle.cq_laws.proofs.OneRun.{one_run}
 use Rattle.cq_laws.proofs.Parted.{Reach, fewer_fit, reach, run_length, run_of_whole}
 use Rattle.cq_laws.proofs.QuietSlots.{empty_is, quiet_departures, quiet_figures_of_run, quiet_run, quiet_transfers_of_run}
 use Rattle.cq_laws.proofs.WholeRuns.{empty_together, run_from_empty, stop_from_empty}
+use Rattle.cq_base.specs.Arrivals.{no_arrivals}
+use Rattle.std.proofs.lemmas.List.Sums.{fold-append}
+use Rattle.cq_base.specs.declared.cell.Departure.{Departure}
+use Rattle.cq_base.specs.declared.cell.Transfer.{Transfer}
+use Rattle.cq_base.specs.declared.figures.Figures.{Figures}
 
 -- ## A whole run with input-best matchings is one with stable ones
 
@@ -54,19 +54,8 @@ same_choices : (ms : List Machine) (slot : ℕ) (traffic : List (List (Option Ce
 same_choices ms slot [] f f' g g' [] x y = y
 same_choices ms slot [] f f' g g' (r ∷ rs) x y = absurd x
 same_choices ms slot (cells ∷ traffic) f f' g g' [] x y = absurd x
-same_choices ms slot (cells ∷ traffic) f f' g g' (r ∷ rs) x y = (
-  y.0,
-  record {
-    numbered = y.1.numbered;
-    arrive = y.1.arrive;
-    first_chosen = x.1.first_chosen;
-    fill = y.1.fill;
-    depart = y.1.depart;
-    second_chosen = x.1.second_chosen;
-    finish = y.1.finish;
-  },
-  same_choices ms (slot + 1) traffic x.0 y.0 g g' rs x.2 y.2,
-)
+same_choices ms slot (cells ∷ traffic) f f' g g' (r ∷ rs) x y =
+    grind (arith, common_steps, same_choices ms (slot + 1) traffic x.0 y.0 g g' rs x.2 y.2)
 
 pub stable_whole : (ms : List Machine) (came : List Arrival) (start g : Fabric) (rs : List SlotRecord) →
     WholeRun IsInputBest ms came start rs g → WholeRun IsStable ms came start rs g
@@ -75,14 +64,10 @@ stable_whole ms came start g rs w =
       after = stable_run ms 0 (first_slots came (length rs)) start g (take (length rs) rs) w.after;
       all_came = w.all_came;
       empty = w.empty;
-      first = λ m s after late empty.
-          ⊎_elim
-          (λ (lt : m < length rs).
+      first = λ m s after late empty. ⊎_elim (λ (lt : m < length rs).
           let r = reach (FabricSlot IsInputBest ms) came start rs m (length rs) g (omega arith)
           (run_of_whole (FabricSlot IsInputBest ms) came start rs IsEmptyFabric g w) in
-          w.first m s (same_choices ms 0 (first_slots came m) start start r.state s
-          (take m rs) r.after after) late empty)
-          (λ (ge : length rs ≤ m). ge)
+          search (arith, rules, w.first, same_choices)) (λ (ge : length rs ≤ m). ge)
           (cases_lt m (length rs));
     }
 
@@ -91,10 +76,6 @@ stable_whole ms came start g rs w =
 at_ok : (x : Result Ran TagFault) (gone : List (List (Option Queued))) (s : IdealState) →
     x ≡ Ok (record { gone = gone; after = s }) → IsOkAnd x (λ r. r.after ≡ s)
 at_ok x gone s is = subst (λ (y : Result Ran TagFault). IsOkAnd y (λ r. r.after ≡ s)) (sym is) refl
-
-is_after : (x : Result Ran TagFault) (gone : List (List (Option Queued))) (s t : IdealState) →
-    x ≡ Ok (record { gone = gone; after = s }) → IsOkAnd x (λ r. r.after ≡ t) → s ≡ t
-is_after x gone s t is h = subst (λ (y : Result Ran TagFault). IsOkAnd y (λ r. r.after ≡ t)) is h
 
 module _ (ms : List Machine) (ports class_count : ℕ) (ranks : List (List ℕ)) (came : List Arrival) where
   -- each slot's arrivals are for the ports
@@ -112,19 +93,12 @@ module _ (ms : List Machine) (ports class_count : ℕ) (ranks : List (List ℕ))
 
   beside : (n : ℕ) (rs : List SlotRecord) (f : Fabric) → Fit n →
       FabricRun IsStable ms 0 (first_slots came n) (empty_fabric ports ranks) rs f → Beside n rs f
-  beside n rs f fit run =
-      let alike = run_from_empty ports ranks ms class_count (first_slots came n) rs f fit run in
-      let long = arriving_length came 0 n in
-      let at : 0 + length (first_slots came n) ≡ n = omega arith in
-      record { after = alike.after; ran = alike.ran; agrees = subst (λ k. Agrees k f alike.after) at alike.agrees }
+  beside n rs f fit run = grind (arith, common_steps, run_from_empty, arriving_length)
 
   -- the fabric is over after m slots where the ideal switch is
   over_too : (m : ℕ) (rs : List SlotRecord) (f : Fabric) (s : IdealState) → Beside m rs f →
       IdealAfter ms came (empty_ideal ports ranks) m s → IsEmptyIdeal s → IsEmptyFabric f
-  over_too m rs f s b after empty =
-      let same = is_after (ideal_run ms 0 (first_slots came m) (empty_ideal ports ranks))
-      (gone_in rs) b.after s b.ran after in
-      (empty_together m f b.after b.agrees).1 (subst IsEmptyIdeal (sym same) empty)
+  over_too m rs f s b after empty = grind (arith, common_steps, empty_together m f b.after b.agrees)
 
   module _ (rs : List SlotRecord) (g : Fabric) (fit : Fit (length rs)) (w : WholeRun IsStable ms came
       (empty_fabric ports ranks) rs g) where
@@ -165,9 +139,7 @@ module _ (ms : List Machine) (ports class_count : ℕ) (ranks : List (List ℕ))
   pub stop_alike : (n : ℕ) (rs : List SlotRecord) (fault : TagFault) → Fit n →
       FabricStops IsStable ms 0 (first_slots came n) (empty_fabric ports ranks) rs fault →
       whole_ideal_run ms came (empty_ideal ports ranks) ≡ Err fault
-  stop_alike n rs fault fit stop =
-      whole_fault ms ports ranks came n fault (stop_from_empty ports ranks ms class_count
-      (first_slots came n) rs fault fit stop)
+  stop_alike n rs fault fit stop = grind (arith, common_steps, whole_fault, stop_from_empty)
 
 -- ## The number of slots
 
@@ -249,10 +221,7 @@ module _ (ms : List Machine) (ports class_count : ℕ) (ranks : List (List ℕ))
   fewer : (m : ℕ) (s : Fabric) (ss : List SlotRecord) → m ≤ enough came →
       FabricRun IsInputBest ms 0 (first_slots came m) (empty_fabric ports ranks) ss s →
       Beside ms ports class_count ranks came m ss s
-  fewer m s ss le x =
-      beside ms ports class_count ranks came m ss s (fewer_fit (AreForPorts ports class_count) came m
-      (enough came) le all_fit)
-      (stable_run ms 0 (first_slots came m) (empty_fabric ports ranks) s ss x)
+  fewer m s ss le x = search (rules, beside, fewer_fit, all_fit, stable_run)
 
   -- the end of the ideal switch
   n : ℕ
@@ -275,8 +244,7 @@ module _ (ms : List Machine) (ports class_count : ℕ) (ranks : List (List ℕ))
   at_end = reach (FabricSlot IsInputBest ms) came (empty_fabric ports ranks) rs n (enough came) g n_few best_run
 
   many : length rs ≡ enough came
-  many = run_length (FabricSlot IsInputBest ms) 0 (first_slots came (enough came))
-      (empty_fabric ports ranks) g rs best_run ∙ arriving_length came 0 (enough came)
+  many = grind (arith, common_steps, run_length, best_run, arriving_length)
 
   cut : length (take n rs) ≡ n
   cut = let le = n_few in let long = many in length-take-le n rs (omega arith)
@@ -291,22 +259,16 @@ module _ (ms : List Machine) (ports class_count : ℕ) (ranks : List (List ℕ))
       let come = done.all_came in
       let le = n_few in
       record {
-        after =
-            subst (λ k. AfterBy (FabricSlot IsInputBest ms) came (empty_fabric ports ranks)
-            (take n rs) k at_end.state) (sym cut)
-            (subst (λ l. RunBy (FabricSlot IsInputBest ms) 0 (first_slots came n)
-            (empty_fabric ports ranks) l at_end.state) (sym (take_all n (take n rs) (omega arith))) at_end.after);
+        after = search (arith, rules, cut, take_all);
         all_came = omega arith;
         empty = empty_end;
-        first = λ m s after late empty.
-            ⊎_elim
-            (λ (lt : m < n).
+        first = λ m s after late empty. ⊎_elim (λ (lt : m < n).
             let b = fewer m s (take m (take n rs)) (omega arith) after in
-            let least = done.first m b.after (at_ok (ideal_run ms 0 (first_slots came m) (empty_ideal ports ranks))
-            (gone_in (take m (take n rs))) b.after b.ran) late ((empty_together m s b.after b.agrees).0 empty) in
-            omega arith)
-            (λ (ge : n ≤ m). omega arith)
-            (cases_lt m n);
+            let least =
+            done.first m b.after (at_ok (ideal_run ms 0 (first_slots came m) (empty_ideal ports ranks))
+            (gone_in (take m (take n rs))) b.after b.ran) late
+            ((empty_together m s b.after b.agrees).0 empty) in
+            omega arith) (λ (ge : n ≤ m). omega arith) (cases_lt m n);
       }
 
   -- what follows are quiet slots

@@ -2,9 +2,9 @@
 -- slot, so a cell that comes has another key; and each has slack 1, so that the more urgent cells for an output stand
 -- below the cushion of one that comes. All keys differ in each state of a slot, so the cells that cross have keys
 -- that are new in their buffers.
-use Rattle.std.proofs.Common.{◌≡◌, ℕ, ◌+◌, List, length, Option, Some, Ok, sym, ap, arith}
+use Rattle.std.proofs.Common.{rules, ◌≡◌, ℕ, ◌+◌, List, length, Option, Some, Ok, sym, ap, arith}
 use Rattle.cq_base.specs.Arrivals.{arrival_at}
-use Rattle.cq_base.specs.Cells.{cushion, is_for}
+use Rattle.cq_base.specs.Cells.{is_for}
 use Rattle.cq_base.specs.declared.cell.Cell.{Cell}
 use Rattle.cq_base.specs.declared.cell.Queued.{Queued}
 use Rattle.cq_base.specs.declared.key.Key.{Key}
@@ -53,11 +53,7 @@ module _ (ms : List Machine) (slot class_count : ℕ) (cells : List (Option Cell
         output = keyed.outputs i c is;
         other_key = all_from _ (input f i) (λ d h same. let lt = sound.early.waiting i d h in
             let e = ap (λ (k : Key). k.slot) same in absurd (omega arith));
-        ahead = λ s d at out lt.
-            let had = agrees.slack i s d at in
-            let rises = cushion_rises d.key c.key (buffer f d.cell.output) lt in
-            let same = ap (λ j. cushion c.key (buffer f j)) out in
-            omega arith;
+        ahead = λ s d at out lt. search (arith, rules, cushion_rises d.key c.key (buffer f d.cell.output) lt);
       }
 
   module _ (arrived : Fabric) (arrive : Arrives ms slot cells came f arrived) where
@@ -76,6 +72,5 @@ module _ (ms : List Machine) (slot class_count : ℕ) (cells : List (Option Cell
     pub can_cross_second : (m : Partners) (filled sent : Fabric) (gone : List (Option Queued)) →
         IsStable (orders_of arrived.inputs) m → Transfers m arrived filled → Departs ms gone filled sent →
         FirstsCanCross sent
-    can_cross_second m filled sent gone stable fill depart =
-        can_cross (slot + 1) sent (sent_sound ms gone (slot + 1) filled sent depart
-        (moved_sound (slot + 1) arrived filled m sound_arrived stable fill))
+    can_cross_second m filled sent gone stable fill depart = can_cross (slot + 1) sent (sent_sound ms gone (slot + 1)
+        filled sent depart (moved_sound (slot + 1) arrived filled m sound_arrived stable fill))

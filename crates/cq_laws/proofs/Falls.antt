@@ -1,16 +1,17 @@
 -- How far a slack falls. An arriving cell goes in at its cushion or ahead of it; no other cell of the list goes back
 -- by more than a place, and no buffer changes. A departure takes one cell from a buffer, so it lowers each cushion by
 -- one at most, and no input thread changes.
-use Rattle.std.proofs.Common.{◌≡◌, ℕ, zero, suc, ◌+◌, ◌≤◌, ◌⊎◌, List, [], ◌∷◌, Option, Some, None, refl, sym, ap, ◌∙◌, inl, inr, ⊎_elim, arith, drop}
+use Rattle.std.proofs.lemmas.Grind.{common_steps}
+use Rattle.std.proofs.Common.{rules, ◌≡◌, ℕ, zero, suc, ◌+◌, ◌≤◌, ◌⊎◌, List, [], ◌∷◌, Option, Some, None, refl, sym, ap, ◌∙◌, inr, arith, drop}
 use Rattle.std.specs.Prelude.{slice_get}
 use Rattle.cq_base.specs.declared.key.Key.{Key}
 use Rattle.cq_base.specs.declared.cell.Cell.{Cell}
 use Rattle.cq_base.specs.declared.cell.Queued.{Queued}
-use Rattle.cq_base.specs.Cells.{cushion, place_of_arrival}
+use Rattle.cq_base.specs.Cells.{cushion}
 use Rattle.cq_rank.specs.Machine.{Machine}
 use Rattle.cq_ideal.specs.IdealSlot.{rests}
 use Rattle.cq_prefs.specs.FirstCells.{list_of}
-use Rattle.cq_laws.specs.Fabric.{Fabric, input, buffer, cushion_of}
+use Rattle.cq_laws.specs.Fabric.{Fabric, input, cushion_of}
 use Rattle.cq_laws.specs.Phases.{came_to, list_arrived, Arrives, Departs}
 use Rattle.cq_laws.specs.Slack.{ArrivesWithSlack, Falls, EachFalls, EachArrivesOrFalls}
 use Rattle.cq_laws.proofs.Members.{inserted_at}
@@ -25,13 +26,7 @@ module _ (ms : List Machine) (slot : ℕ) (cells : List (Option Cell)) (came : L
       slice_get (list_arrived old q (input old i)) t ≡ Some c →
       ArrivesWithSlack came new i t c ⊎ Falls 1 old new i t c
   fall i t c None e at = let same = same_cushion c in inr (record { before = t; stood = at; fallen = omega arith })
-  fall i t c (Some n) e at =
-      let same = same_cushion c in
-      ⊎_elim
-      (λ r. let is = ap (cushion_of old) r.1 in
-      inl (record { arrived = e ∙ ap Some r.1; within = omega arith }))
-      (λ r. inr (record { before = r.0; stood = r.1; fallen = omega arith }))
-      (inserted_at (input old i) (place_of_arrival (cushion_of old n) n (input old i)) t n c at).was
+  fall i t c (Some n) e at = search (rules, same_cushion, inserted_at)
 
   pub arrivals_fall : EachArrivesOrFalls came old new
   arrivals_fall i t c at = fall i t c (came_to came i) refl (ap (λ xs. slice_get xs t) (sym (arrive.lists i)) ∙ at)
@@ -47,9 +42,4 @@ cushion_rest k (x ∷ xs) = cushion_tail k x xs
 
 pub departures_fall : (ms : List Machine) (gone : List (Option Queued)) (old new : Fabric) → Departs ms gone old new →
     EachFalls 1 old new
-departures_fall ms gone old new depart i t c at =
-    let j = c.cell.output in
-    let is : buffer new j ≡ drop 1 (buffer old j) = ap (λ b. list_of b j) depart.buffers ∙ rest_of old.buffers j in
-    let count = ap (cushion c.key) is in
-    let le = cushion_rest c.key (buffer old j) in
-    record { before = t; stood = ap (λ l. slice_get (list_of l i) t) (sym depart.inputs) ∙ at; fallen = omega arith }
+departures_fall ms gone old new depart i t c at = grind (arith, common_steps, rest_of, cushion_rest)

@@ -1,7 +1,8 @@
 -- Why the outputs send the same cells. The ideal list of an output covers the fabric's buffer: it has the cells of
 -- the buffer and others that still wait at the inputs, and each of those comes after a cell of the buffer. So the
 -- first cells of both are the same, and when they have left, what is left is covered again.
-use Rattle.std.proofs.Common.{◌≡◌, ℕ, zero, suc, ◌⊎◌, List, [], ◌∷◌, length, Some, refl, sym, ap, ◌∙◌, subst, inl, inr, ⊎_elim, arith, drop}
+use Rattle.std.proofs.lemmas.Grind.{common_steps}
+use Rattle.std.proofs.Common.{rules, ◌≡◌, ℕ, zero, suc, ◌⊎◌, List, [], ◌∷◌, length, Some, refl, sym, ap, ◌∙◌, inl, inr, ⊎_elim, arith, drop}
 use Rattle.std.specs.Prelude.{slice_get}
 use Rattle.std.proofs.lemmas.Bool.{true≢false}
 use Rattle.cq_base.specs.declared.cell.Queued.{Queued}
@@ -18,8 +19,7 @@ same_fronts [] [] n h = refl
 same_fronts [] (b ∷ bs) n h = absurd (omega arith)
 same_fronts (a ∷ more) [] n h = absurd (omega arith)
 same_fronts (a ∷ more) (b ∷ bs) n h =
-    let front = h zero in
-    let rest = same_fronts more bs (omega arith) (λ j. h (suc j)) in cc
+    let front = h zero in let rest = same_fronts more bs (omega arith) (λ j. h (suc j)) in cc
 
 never_both : (a b : Queued) → IsBefore a b → IsBefore b a → ⊥
 never_both a b h k = true≢false (sym k ∙ key_laws.one_way a.key b.key h)
@@ -37,10 +37,7 @@ module _ (Waits : Queued → Type 0) where
   -- no cell of the second is before the front of the first
   none_before : (a : Queued) (more buf : List Queued) → Covers (a ∷ more) buf → (d : Queued) → IsAmong d buf →
       IsBefore d a → ⊥
-  none_before a more buf h d k l =
-      ⊎_elim
-      (λ e. let self : IsBefore a a = subst (λ (x : Queued). IsBefore x a) (sym e) l in never_both a a self self)
-      (λ m. never_both d a l (all_among (IsBefore a) more d h.up.0 m)) (h.back d (inr k))
+  none_before a more buf h d k l = grind (arith, common_steps, never_both, all_among, h.back)
 
   front_not_waiting : (a : Queued) (more buf : List Queued) → Covers (a ∷ more) buf → Waits a → ⊥
   front_not_waiting a more buf h w = let d = h.behind a w in none_before a more buf h d.0 d.1 d.2
@@ -64,29 +61,11 @@ module _ (Waits : Queued → Type 0) where
       Waits c ⊎ IsAmong c (drop 1 buf)
   rest_to [] buf h c k = absurd k
   rest_to (a ∷ more) [] h c k = h.to c (inr k)
-  rest_to (a ∷ more) (b ∷ bs) h c k =
-      ⊎_elim (λ w. inl w)
-      (λ m. ⊎_elim
-      (λ e. let same = one_front a b more bs h ∙ e in
-      let lt = all_among (IsBefore a) more c h.up.0 k in
-      let self : IsBefore c c = subst (λ (x : Queued). IsBefore x c) same lt in
-      absurd (never_both c c self self))
-      (λ n. inr n) m)
-      (h.to c (inr k))
+  rest_to (a ∷ more) (b ∷ bs) h c k = grind (arith, common_steps, one_front, all_among, never_both, h.to)
 
   pub rest_back : (full buf : List Queued) → Covers full buf → (c : Queued) → Waits c ⊎ IsAmong c (drop 1 buf) →
       IsAmong c (drop 1 full)
   rest_back [] [] h c k = h.back c k
   rest_back [] (b ∷ bs) h c k = absurd (h.back b (inr (inl refl)))
   rest_back (a ∷ more) [] h c k = absurd (front_there a more [] h)
-  rest_back (a ∷ more) (b ∷ bs) h c k =
-      ⊎_elim
-      (λ w. ⊎_elim (λ e. absurd (front_not_waiting a more (b ∷ bs) h (subst Waits (sym e) w))) (λ m. m)
-      (h.back c (inl w)))
-      (λ m. ⊎_elim
-      (λ e. let same = sym (one_front a b more bs h) ∙ e in
-      let lt = all_among (IsBefore b) bs c h.up'.0 m in
-      let self : IsBefore c c = subst (λ (x : Queued). IsBefore x c) same lt in
-      absurd (never_both c c self self))
-      (λ n. n) (h.back c (inr (inr m))))
-      k
+  rest_back (a ∷ more) (b ∷ bs) h c k = search (rules, front_not_waiting, h.back, one_front, all_among, never_both)

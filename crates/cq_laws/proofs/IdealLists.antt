@@ -1,6 +1,7 @@
 -- The lists of the ideal switch after arrivals. The list of an output has what it had and what came for it, and no
 -- key twice, so it stays in the order of keys.
-use Rattle.std.proofs.Common.{◌≡◌, ◌≢◌, ℕ, zero, suc, ◌<◌, ◌⊎◌, cond, List, [], ◌∷◌, length, Option, Some, None, refl, sym, ap, ◌∙◌, subst, inl, inr, ⊎_elim, arith}
+use Rattle.std.proofs.lemmas.Grind.{common_steps}
+use Rattle.std.proofs.Common.{rules, ◌≡◌, ◌≢◌, ℕ, zero, suc, ◌<◌, ◌⊎◌, cond, List, [], ◌∷◌, length, Option, Some, None, refl, sym, ap, ◌∙◌, inl, inr, ⊎_elim, arith}
 use Rattle.std.proofs.lemmas.Bool.{cases_lt, cond_both, eqb-true, eq-eqb, ne_eqb, true≢false}
 use Rattle.std.proofs.lemmas.Option.{same_Some}
 use Rattle.std.proofs.lemmas.List.{get_or_past}
@@ -18,27 +19,15 @@ pub among_put_all : (j : ℕ) (came : List (Option Queued)) (xs : List Queued) (
     IsAmong c (put_all j came xs) → IsAmong c xs ⊎ CameFor came j c
 among_put_all j [] xs c h = inl h
 among_put_all j (None ∷ came) xs c h = ⊎_elim (λ k. inl k) (λ r. inr (suc r.0, r.1, r.2)) (among_put_all j came xs c h)
-among_put_all j (Some q ∷ came) xs c h =
-    ⊎_elim
-    (λ k.
-    cond_both (is_for j q) (put q xs) xs (λ l. IsAmong c l → IsAmong c xs ⊎ CameFor (Some q ∷ came) j c)
-    (λ e m. ⊎_elim (λ same. inr (
-      zero,
-      ap Some same,
-      ap (λ (x : Queued). x.cell.output) (sym same) ∙ eqb-true q.cell.output j e,
-    )) (λ n. inl n)
-    (among_put c q xs m))
-    (λ _ m. inl m) k)
-    (λ r. inr (suc r.0, r.1, r.2))
-    (among_put_all j came (cond (is_for j q) (put q xs) xs) c h)
+among_put_all j (Some q ∷ came) xs c h = ⊎_elim (λ k. search (arith, rules, cond_both, CameFor, eqb-true, among_put))
+    (λ r. inr (suc r.0, r.1, r.2)) (among_put_all j came (cond (is_for j q) (put q xs) xs) c h)
 
 pub put_all_keeps : (j : ℕ) (came : List (Option Queued)) (xs : List Queued) (c : Queued) → IsAmong c xs →
     IsAmong c (put_all j came xs)
 put_all_keeps j [] xs c h = h
 put_all_keeps j (None ∷ came) xs c h = put_all_keeps j came xs c h
 put_all_keeps j (Some q ∷ came) xs c h =
-    put_all_keeps j came (cond (is_for j q) (put q xs) xs) c (cond_both (is_for j q) (put q xs) xs (IsAmong c)
-    (λ _. put_old c q xs h) (λ _. h))
+    grind (arith, common_steps, put_old, put_all_keeps j came (cond (is_for j q) (put q xs) xs) c)
 
 pub put_all_new : (j : ℕ) (came : List (Option Queued)) (xs : List Queued) (c : Queued) (k : ℕ) →
     came_to came k ≡ Some c → c.cell.output ≡ j → IsAmong c (put_all j came xs)
@@ -46,10 +35,7 @@ put_all_new j [] xs c k e out = cc
 put_all_new j (None ∷ came) xs c zero e out = cc
 put_all_new j (None ∷ came) xs c (suc k) e out = put_all_new j came xs c k e out
 put_all_new j (Some q ∷ came) xs c zero e out =
-    let same = same_Some q c e in
-    put_all_keeps j came (cond (is_for j q) (put q xs) xs) c
-    (cond_both (is_for j q) (put q xs) xs (IsAmong c) (λ _. subst (λ x. IsAmong x (put q xs)) same (put_new q xs))
-    (λ no. absurd (true≢false (sym (eq-eqb q.cell.output j (ap (λ (x : Queued). x.cell.output) same ∙ out)) ∙ no))))
+    grind (arith, common_steps, same_Some, put_all_keeps, cond_both, put_new, true≢false, eq-eqb)
 put_all_new j (Some q ∷ came) xs c (suc k) e out = put_all_new j came (cond (is_for j q) (put q xs) xs) c k e out
 
 -- no key came that the list has
@@ -63,17 +49,13 @@ CameOnce came = (k l : ℕ) (q r : Queued) → came_to came k ≡ Some q → cam
 pub rising_put_all : (j : ℕ) (came : List (Option Queued)) (xs : List Queued) → IsRising xs → NewTo came xs →
     CameOnce came → IsRising (put_all j came xs)
 rising_put_all j [] xs r new once = r
-rising_put_all j (None ∷ came) xs r new once =
-    rising_put_all j came xs r (λ k. new (suc k)) (λ k l q s a b e. let n = once (suc k) (suc l) q s a b e in
-    omega arith)
-rising_put_all j (Some q ∷ came) xs r new once =
-    rising_put_all j came (cond (is_for j q) (put q xs) xs)
+rising_put_all j (None ∷ came) xs r new once = rising_put_all j came xs r (λ k. new (suc k)) (λ k l q s a b e.
+    let n = once (suc k) (suc l) q s a b e in omega arith)
+rising_put_all j (Some q ∷ came) xs r new once = rising_put_all j came (cond (is_for j q) (put q xs) xs)
     (cond_both (is_for j q) (put q xs) xs IsRising (λ _. rising_put q xs r (λ d h. new zero q d refl h)) (λ _. r))
-    (cond_both (is_for j q) (put q xs) xs (NewTo came)
-    (λ _ k s d a h e. ⊎_elim (λ same. let no : suc k
-    ≡ zero = once (suc k) zero s q a refl (e ∙ ap (λ (x : Queued). x.key) (sym same)) in
-    absurd (omega arith)) (λ m. new (suc k) s d a m e) (among_put d q xs h))
-    (λ _ k. new (suc k)))
+    (cond_both (is_for j q) (put q xs) xs (NewTo came) (λ _ k s d a h e. ⊎_elim (λ same.
+    let no : suc k ≡ zero = once (suc k) zero s q a refl (e ∙ ap (λ (x : Queued). x.key) (sym same)) in
+    absurd (omega arith)) (λ m. new (suc k) s d a m e) (among_put d q xs h)) (λ _ k. new (suc k)))
     (λ k l s t a b e. let n = once (suc k) (suc l) s t a b e in omega arith)
 
 put_all_none : (j : ℕ) (came : List (Option Queued)) (xs : List Queued) →
@@ -94,10 +76,4 @@ pub list_after : (came : List (Option Queued)) (lists : List (List Queued)) →
     list_of (filled came lists) j ≡ put_all j came (list_of lists j)
 unfolding filled
 list_after came lists inside j =
-    ⊎_elim
-    (λ lt. get_or-map-range_with_len (λ j. put_all j came (list_of lists j)) 0 (length lists) j j [] lt (omega arith))
-    (λ ge.
-    let none = put_all_none j came [] (λ k q e out. let lt = inside k q e in absurd (omega arith)) in
-    get_or_past (filled came lists) j [] (omega (arith, length_after came lists)) ∙ sym none
-    ∙ ap (put_all j came) (sym (get_or_past lists j [] ge)))
-    (cases_lt j (length lists))
+    search (rules, get_or-map-range_with_len, put_all_none, get_or_past, length_after, cases_lt)

@@ -1,9 +1,9 @@
 -- Machines that keep the laws are not changed by a second idle slot, so that many quiet slots are one.
-use Rattle.std.proofs.Common.{◌≡◌, ℕ, zero, suc, ◌+◌, ◌<◌, List, [], length, Option, None, refl, sym, ap, ◌∙◌, arith}
+use Rattle.std.proofs.lemmas.Grind.{common_steps}
+use Rattle.std.proofs.Common.{rules, ◌≡◌, ℕ, zero, suc, ◌+◌, ◌<◌, List, [], length, None, refl, arith, sym, ap, ◌∙◌}
 use Rattle.std.specs.Prelude.{slice_index_or, replicate}
 use Rattle.std.proofs.lemmas.List.{ext_get_or}
 use Rattle.std.proofs.lemmas.List.FromFn.{get_or-map-range_with_len, length-map-range_with_len}
-use Rattle.cq_base.specs.declared.cell.Queued.{Queued}
 use Rattle.cq_rank.specs.Machine.{Machine, machine_at, told}
 use Rattle.cq_ideal.proofs.Resting.{none_at}
 use Rattle.cq_ideal.specs.IdealSlot.{all_told}
@@ -20,20 +20,10 @@ module _ (ms : List Machine) (n : ℕ) where
   idled_at : (ranks : List (List ℕ)) (j : ℕ) → j < length ranks →
       slice_index_or (idled ms n ranks) j [] ≡ (machine_at ms j).idle (slice_index_or ranks j [])
   unfolding idled all_told told_idle
-  idled_at ranks j inside =
-      get_or-map-range_with_len (told_idle ranks) 0 (length ranks) j j [] inside (omega arith)
-      ∙ ap (λ (o : Option Queued). told (machine_at ms j) (slice_index_or ranks j []) o) (none_at n j)
+  idled_at ranks j inside = grind (arith, common_steps, get_or-map-range_with_len, told_idle, none_at)
 
   still_keep : (ranks : List (List ℕ)) → KeepLaws ms ranks → KeepLaws ms (idled ms n ranks)
-  still_keep ranks keep =
-      let long = length-idled ranks in
-      record {
-        laws = λ j inside. keep.laws j (omega arith);
-        sized = λ j inside.
-            let inside' : j < length ranks = omega arith in
-            ap length (idled_at ranks j inside')
-            ∙ (keep.laws j inside').idle_length (slice_index_or ranks j []) (keep.sized j inside');
-      }
+  still_keep ranks keep = grind (arith, common_steps, length-idled, keep.laws, idled_at, keep.sized)
 
   idled_twice : (ranks : List (List ℕ)) → KeepLaws ms ranks → idled ms n (idled ms n ranks) ≡ idled ms n ranks
   idled_twice ranks keep =
@@ -51,6 +41,4 @@ module _ (ms : List Machine) (n : ℕ) where
       idled_for ms (count + 1) n ranks ≡ idled ms n ranks
   idled_once zero ranks keep = refl
   idled_once (suc count) ranks keep =
-      let next : suc count + 1 ≡ suc (count + 1) = omega arith in
-      ap (λ k. idled_for ms k n ranks) next ∙ idled_once count (idled ms n ranks) (still_keep ranks keep)
-      ∙ idled_twice ranks keep
+      search (rules, idled_twice, idled_once count (idled ms n ranks) (still_keep ranks keep))

@@ -1,5 +1,6 @@
 -- A run with input-best matchings is a run with stable ones, for each input-best matching is stable.
-use Rattle.std.proofs.Common.{ℕ, List, Option}
+use Rattle.std.proofs.lemmas.Grind.{common_steps}
+use Rattle.std.proofs.Common.{arith, ℕ, List, Option}
 use Rattle.cq_base.specs.declared.cell.Cell.{Cell}
 use Rattle.cq_base.specs.declared.cell.TagFault.{TagFault}
 use Rattle.cq_rank.specs.Machine.{Machine}
@@ -14,16 +15,7 @@ use Rattle.cq_laws.proofs.Weaker.{each_run, each_stop}
 module _ (ms : List Machine) where
   pub stable_slot : (slot : ℕ) (cells : List (Option Cell)) (f g : Fabric) (r : SlotRecord) →
       FabricSlot IsInputBest ms slot cells f r g → FabricSlot IsStable ms slot cells f r g
-  stable_slot slot cells f g r s =
-      record {
-        numbered = s.numbered;
-        arrive = s.arrive;
-        first_chosen = s.first_chosen.stable;
-        fill = s.fill;
-        depart = s.depart;
-        second_chosen = s.second_chosen.stable;
-        finish = s.finish;
-      }
+  stable_slot slot cells f g r s = grind (arith, common_steps)
 
   pub stable_run : (slot : ℕ) (traffic : List (List (Option Cell))) (f g : Fabric) (rs : List SlotRecord) →
       FabricRun IsInputBest ms slot traffic f rs g → FabricRun IsStable ms slot traffic f rs g
@@ -40,24 +32,16 @@ module _ (ms : List Machine) where
     pub stable_limited_slot : (slot : ℕ) (cells : List (Option Cell)) (f g : Marked Fabric) (r : LimitedRecord) →
         LimitedFabricSlot IsInputBest limits ms slot cells f r g →
         LimitedFabricSlot IsStable limits ms slot cells f r g
-    stable_limited_slot slot cells f g r s =
-        record {
-          admits = s.admits;
-          runs = stable_slot slot r.admission.cells f.state g.state r.of_slot s.runs;
-          marks = s.marks;
-        }
+    stable_limited_slot slot cells f g r s = grind (arith, common_steps, stable_slot)
 
     pub stable_limited_run : (slot : ℕ) (traffic : List (List (Option Cell))) (f g : Marked Fabric)
         (rs : List LimitedRecord) → LimitedFabricRun IsInputBest limits ms slot traffic f rs g →
         LimitedFabricRun IsStable limits ms slot traffic f rs g
-    stable_limited_run =
-        each_run (LimitedFabricSlot IsInputBest limits ms) (LimitedFabricSlot IsStable limits ms)
+    stable_limited_run = each_run (LimitedFabricSlot IsInputBest limits ms) (LimitedFabricSlot IsStable limits ms)
         (IsLimitedFault limits ms) stable_limited_slot
 
     pub stable_limited_stop : (slot : ℕ) (traffic : List (List (Option Cell))) (f : Marked Fabric)
         (rs : List LimitedRecord) (fault : TagFault) →
         LimitedFabricStops IsInputBest limits ms slot traffic f rs fault →
         LimitedFabricStops IsStable limits ms slot traffic f rs fault
-    stable_limited_stop =
-        each_stop (LimitedFabricSlot IsInputBest limits ms) (LimitedFabricSlot IsStable limits ms)
-        (IsLimitedFault limits ms) stable_limited_slot
+    stable_limited_stop = grind (arith, common_steps, each_stop, stable_limited_slot)

@@ -1,6 +1,7 @@
 -- What each phase keeps of a fabric: that it is one, and that each output has one rank state. Ranking, and what the
 -- machines are told at the end of a slot, keep the number of states; a transfer leaves them as they are.
-use Rattle.std.proofs.Common.{◌≡◌, ℕ, List, length, Option, sym, ap, ◌∙◌}
+use Rattle.std.proofs.lemmas.Grind.{common_steps}
+use Rattle.std.proofs.Common.{arith, rules, ◌≡◌, ℕ, List, length, Option, sym, ◌∙◌}
 use Rattle.std.proofs.lemmas.List.FromFn.{length-map-range_with_len}
 use Rattle.cq_base.specs.declared.cell.Cell.{Cell}
 use Rattle.cq_base.specs.declared.cell.Queued.{Queued}
@@ -36,16 +37,11 @@ arrivals_keep ms slot class_count cells came old new whole come arrive =
 
 transfer_keeps : (m : Partners) (old new : Fabric) → IsWholeFabric old → ListsKeepOrder old → Apart old →
     IsStable (orders_of old.inputs) m → Transfers m old new → IsWholeFabric new
-transfer_keeps m old new whole order apart stable moves =
-    record {
-      fabric = moved_fabric old new m whole.fabric order apart stable moves;
-      ranks = ap length moves.ranks ∙ whole.ranks ∙ sym moves.moves.ports.0;
-    }
+transfer_keeps m old new whole order apart stable moves = grind (arith, common_steps, moved_fabric)
 
 pub transfers_keep : (m : Partners) (old new : Fabric) → IsWholeFabric old → ListsKeepOrder old → NoKeyTwice old →
     IsStable (orders_of old.inputs) m → Transfers m old new → IsWholeFabric new
-transfers_keep m old new whole order differ stable moves =
-    transfer_keeps m old new whole order (apart_from old differ) stable moves
+transfers_keep m old new whole order differ stable moves = search (rules, transfer_keeps, apart_from)
 
 length-told : (ms : List Machine) (gone : List (Option Queued)) (ranks : List (List ℕ)) →
     length (all_told ms gone ranks) ≡ length ranks
@@ -54,11 +50,7 @@ length-told ms gone ranks = length-map-range_with_len _ 0 (length ranks)
 
 pub departures_keep : (ms : List Machine) (gone : List (Option Queued)) (old new : Fabric) → IsWholeFabric old →
     Departs ms gone old new → IsWholeFabric new
-departures_keep ms gone old new whole depart =
-    record {
-      fabric = sent_fabric ms gone 0 old new depart whole.fabric;
-      ranks = ap length depart.ranks ∙ length-told ms gone old.ranks ∙ whole.ranks ∙ sym (ap length depart.inputs);
-    }
+departures_keep ms gone old new whole depart = grind (arith, common_steps, sent_fabric, length-told)
 
 pub slot_keeps : (ms : List Machine) (slot class_count : ℕ) (cells : List (Option Cell)) (f g : Fabric)
     (ideal : IdealState) (r : SlotRecord) → Agrees slot f ideal → length f.ranks ≡ length f.inputs →
@@ -70,10 +62,4 @@ slot_keeps ms slot class_count cells f g ideal r agrees ranks come step =
     let filled = transfer_keeps r.first r.arrived r.filled came sound.order sound.apart step.first_chosen step.fill in
     let sent = departures_keep ms r.gone r.filled r.sent filled step.depart in
     let sound' = after_sent ms slot class_count cells f g ideal r agrees come step in
-    record {
-      old = begun;
-      arrived = came;
-      filled = filled;
-      sent = sent;
-      new = transfer_keeps r.second r.sent g sent sound'.order sound'.apart step.second_chosen step.finish;
-    }
+    search (arith, rules, arrived, transfer_keeps)

@@ -1,10 +1,10 @@
 -- The least slack of a whole run, slot by slot.
-use Rattle.std.proofs.Common.{◌≡◌, ℕ, zero, suc, ◌+◌, ◌<◌, List, [], ◌∷◌, length, Option, Some, None, refl, sym, ap, ◌∙◌, subst, arith}
+use Rattle.std.proofs.Common.{◌≡◌, ℕ, zero, suc, ◌+◌, ◌<◌, List, [], ◌∷◌, length, Option, Some, None, refl, sym, arith, ap, ◌∙◌}
+use Rattle.std.proofs.lemmas.Grind.{common_steps}
 use Rattle.std.specs.Prelude.{min, fold, slice_get, option_and_then, filter_map, replicate}
 use Rattle.std.specs.List.{AllByRecursion, reduce, cons_option}
 use Rattle.std.proofs.lemmas.List.{length-replicate}
 use Rattle.cq_base.specs.declared.cell.Cell.{Cell}
-use Rattle.cq_base.specs.declared.cell.Queued.{Queued}
 use Rattle.cq_base.specs.declared.figures.InputFigures.{InputFigures}
 use Rattle.cq_base.specs.declared.figures.Figures.{Figures}
 use Rattle.cq_rank.specs.Machine.{Machine}
@@ -18,19 +18,13 @@ use Rattle.cq_laws.specs.FabricRun.{FabricRun}
 use Rattle.cq_laws.specs.Agreement.{Agrees}
 use Rattle.cq_laws.specs.Measures.{either_by, figures_of, figures_after, no_figures, slack_on_arrival, least_slack, HasMoreSlack}
 use Rattle.cq_laws.proofs.AddingUp.{reduce-append, min_assoc, figures_fold}
-use Rattle.cq_laws.proofs.OneSlot.{same_slot, ports_kept}
+use Rattle.cq_laws.proofs.OneSlot.{same_slot}
 use Rattle.cq_laws.proofs.WholeRuns.{empty_agree, no_place, traffic_for_empty}
-use Rattle.cq_laws.proofs.LeastSlack.{least_after, length-after, by_arrivals, more_after}
+use Rattle.cq_laws.proofs.LeastSlack.{least_after, by_arrivals, more_after}
 
 either-none : (o : Option ℕ) → either_by min o None ≡ o
 either-none None = refl
 either-none (Some n) = refl
-
-either-assoc : (a b c : Option ℕ) → either_by min (either_by min a b) c ≡ either_by min a (either_by min b c)
-either-assoc None b c = refl
-either-assoc (Some x) None c = refl
-either-assoc (Some x) (Some y) None = refl
-either-assoc (Some x) (Some y) (Some z) = ap (λ (n : ℕ). Some n) (min_assoc x y z)
 
 reduce-cons : (o : Option ℕ) (xs : List ℕ) → reduce min (cons_option o xs) ≡ either_by min o (reduce min xs)
 reduce-cons None xs = refl
@@ -47,19 +41,14 @@ module _ (ms : List Machine) (class_count : ℕ) where
   least_run slot [] f g ideal (r ∷ rs) x i agrees come run has inside = absurd run
   least_run slot (cells ∷ traffic) f g ideal [] x i agrees come run has inside = absurd run
   least_run slot (cells ∷ traffic) f g ideal (r ∷ rs) x i agrees come run has inside =
-      let one = same_slot ms slot class_count cells f run.0 ideal r agrees come.0 run.1 in
-      let ports = ports_kept ms slot class_count cells f run.0 ideal r agrees come.0 run.1 in
-      let now =
-      least_after x r i inside
-      ∙ by_arrivals ms slot class_count cells f run.0 ideal r agrees come.0 run.1 x has i in
-      let rest = filter_map (slack_on_arrival i) rs in
-      let long = length-after x r in
-      least_run (slot + 1) traffic run.0 g one.next rs (figures_after x r) i one.agrees
-      (subst (λ n. AllByRecursion (AreForPorts n class_count) traffic) (sym ports) come.1) run.2
-      (more_after ms slot class_count cells f run.0 ideal r agrees come.0 run.1 x has.ports) (omega arith)
-      ∙ ap (λ (o : Option ℕ). either_by min o (reduce min rest)) now
-      ∙ either-assoc (least_slack x i) (slack_on_arrival i r) (reduce min rest)
-      ∙ ap (either_by min (least_slack x i)) (sym (reduce-cons (slack_on_arrival i r) rest))
+      let least_after-here = least_after x r i inside in
+      let by_arrivals-here = by_arrivals ms slot class_count cells f run.0 ideal r agrees come.0 run.1 x has i in
+      let more_after-here = more_after ms slot class_count cells f run.0 ideal r agrees come.0 run.1 x has.ports in
+      let reduce-cons-here = reduce-cons (slack_on_arrival i r) (filter_map (slack_on_arrival i) rs) in
+      let least_run-here = least_run (slot + 1) traffic run.0 g
+      (same_slot ms slot class_count cells f run.0 ideal r agrees come.0 run.1).next rs (figures_after x r) i
+      (same_slot ms slot class_count cells f run.0 ideal r agrees come.0 run.1).agrees in
+      grind (arith, common_steps)
 
 -- before the first slot no input has a least slack, and no cell waits
 no_least : (n i : ℕ) →
@@ -70,13 +59,7 @@ no_least (suc n) zero = refl
 no_least (suc n) (suc i) = no_least n i
 
 pub more_at_first : (ports : ℕ) (ranks : List (List ℕ)) → HasMoreSlack (no_figures ports) (empty_fabric ports ranks)
-more_at_first ports ranks =
-    let none : InputFigures = record { cells = 0; longest = 0; slack = None } in
-    let empty : List Queued = [] in
-    record {
-      ports = length-replicate ports none ∙ sym (length-replicate ports empty);
-      more = λ i t c at. absurd (no_place ports ranks i t c at);
-    }
+more_at_first ports ranks = grind (arith, common_steps, length-replicate, no_place)
 
 pub least_of_run : (ms : List Machine) (ports class_count : ℕ) (ranks : List (List ℕ))
     (traffic : List (List (Option Cell))) (rs : List SlotRecord) (g : Fabric) (i : ℕ) →

@@ -2,7 +2,8 @@
 -- slack rises at two matchings, falls by one at most at the departures between them, and by one at most at the next
 -- arrivals. So it never falls, and each cell that waits has more slack than the least so far. After arrivals it has
 -- no less, so that of all slacks then only those of the cells that have arrived can be the least.
-use Rattle.std.proofs.Common.{◌≡◌, ℕ, zero, suc, ◌+◌, ◌-◌, ◌<◌, ◌≤◌, ◌⊎◌, Bool, true, false, List, [], ◌∷◌, length, map, Option, Some, None, refl, sym, ap, ◌∙◌, subst, inl, inr, ⊎_elim, arith}
+use Rattle.std.proofs.lemmas.Grind.{common_steps}
+use Rattle.std.proofs.Common.{rules, ◌≡◌, ℕ, zero, suc, ◌+◌, ◌-◌, ◌<◌, ◌≤◌, ◌⊎◌, Bool, true, false, List, [], ◌∷◌, length, map, Option, Some, None, refl, sym, ap, ◌∙◌, inl, inr, ⊎_elim, arith, subst}
 use Rattle.std.specs.Prelude.{◌==◌, min, fold, insert, slice_get, option_and_then}
 use Rattle.std.specs.List.{AllByRecursion, enumerate_from, position_or_len, reduce}
 use Rattle.std.specs.Option.{option_map}
@@ -52,11 +53,7 @@ min_is_one (suc x) (suc y) = ⊎_elim (λ e. inl (omega arith)) (λ e. inr (omeg
 
 least_among : (x : ℕ) (xs : List ℕ) → Among (fold min x xs) (x ∷ xs)
 least_among x [] = inl refl
-least_among x (y ∷ ys) =
-    ⊎_elim
-    (λ e. ⊎_elim (λ one. inl (sym one ∙ e)) (λ two. inr (inl (sym two ∙ e))) (min_is_one x y))
-    (λ m. inr (inr m))
-    (least_among (min x y) ys)
+least_among x (y ∷ ys) = grind (arith, common_steps, min_is_one, least_among (min x y) ys)
 
 -- numbers that are no less than a kept one, but for one of them that is told
 same_least : (kept told : Option ℕ) (all : List ℕ) →
@@ -93,8 +90,7 @@ slack_listed : (f : Fabric) (n : ℕ) (cells : List Queued) (t m : ℕ) (c : Que
     slice_get cells t ≡ Some c → Among (cushion_of f c - m) (listed_slacks f n cells)
 unfolding listed_slacks
 slack_listed f n [] t m c e h = cc
-slack_listed f n (x ∷ xs) zero m c e h =
-    let same = same_Some x c h in let at : n ≡ m = omega arith in inl (λ k. cushion_of f (same k) - at k)
+slack_listed f n (x ∷ xs) zero m c e h = grind (arith, common_steps, same_Some)
 slack_listed f n (x ∷ xs) (suc t) m c e h = inr (slack_listed f (n + 1) xs t m c (omega arith) h)
 
 listed_slack : (f : Fabric) (n : ℕ) (cells : List Queued) (v : ℕ) → Among v (listed_slacks f n cells) →
@@ -102,8 +98,7 @@ listed_slack : (f : Fabric) (n : ℕ) (cells : List Queued) (v : ℕ) → Among 
 unfolding listed_slacks
 listed_slack f n [] v h = absurd h
 listed_slack f n (x ∷ xs) v (inl e) = (zero, x, refl, omega arith)
-listed_slack f n (x ∷ xs) v (inr h) =
-    let r = listed_slack f (n + 1) xs v h in (suc r.0, r.1, r.2, omega arith)
+listed_slack f n (x ∷ xs) v (inr h) = let r = listed_slack f (n + 1) xs v h in (suc r.0, r.1, r.2, omega arith)
 
 has_slack : (f : Fabric) (i t : ℕ) (c : Queued) → slice_get (input f i) t ≡ Some c →
     Among (cushion_of f c - t) (slacks f i)
@@ -121,9 +116,7 @@ position-insert : (q : Queued → Bool) (xs : List Queued) (p : ℕ) (n : Queued
     AllByRecursion (λ x. q x ≡ false) xs → position_or_len q (insert xs p n) ≡ p
 position-insert q xs zero n le here others = first_here q n xs here
 position-insert q [] (suc p) n le here others = absurd (omega arith)
-position-insert q (x ∷ xs) (suc p) n le here others =
-    let later = first_later q x (insert xs p n) others.0 in
-    let rest = position-insert q xs p n (omega arith) here others.1 in omega arith
+position-insert q (x ∷ xs) (suc p) n le here others = search (rules, first_later, position-insert q xs p n)
 
 at_insert : (xs : List Queued) (p : ℕ) (n : Queued) → p ≤ length xs → slice_get (insert xs p n) p ≡ Some n
 at_insert xs zero n le = refl
@@ -156,21 +149,15 @@ slack_after r i xs inside =
 pub least_after : (x : Figures) (r : SlotRecord) (i : ℕ) → i < length x.inputs →
     least_slack (figures_after x r) i ≡ either_by min (least_slack x i) (reduce min (slacks r.arrived i))
 unfolding figures_after
-least_after x r i inside =
-    ap (option_and_then (λ (y : InputFigures). y.slack)) (figures_at r 0 x.inputs i i (omega arith))
-    ∙ slack_after r i x.inputs inside
+least_after x r i inside = cc (figures_at r 0 x.inputs i i (omega arith), slack_after r i x.inputs inside)
 
 pub length-after : (x : Figures) (r : SlotRecord) → length (figures_after x r).inputs ≡ length x.inputs
 unfolding figures_after
-length-after x r =
-    length-map (enumerate_from 0 x.inputs) (λ at. input_after r at.0 at.1) ∙ length-enumerate_from 0 x.inputs
+length-after x r = grind (arith, common_steps, length-map, length-enumerate_from)
 
 -- a cell waits only at an input that there is
 inside_input : (f : Fabric) (i t : ℕ) (c : Queued) → slice_get (input f i) t ≡ Some c → i < length f.inputs
-inside_input f i t c at =
-    ⊎_elim (λ lt. lt) (λ past. absurd (let no : None
-    ≡ Some c = ap (λ l. slice_get l t) (sym (get_or_past f.inputs i [] past)) ∙ at in
-    cc)) (cases_lt i (length f.inputs))
+inside_input f i t c at = grind (arith, common_steps, get_or_past, cases_lt)
 
 -- ## Over one slot
 
@@ -184,8 +171,7 @@ module _ (ms : List Machine) (slot class_count : ℕ) (cells : List (Option Cell
       moved_rises (slot + 1) r.sent g r.second (after_sent ms slot class_count cells f g ideal r agrees come step)
       step.second_chosen step.finish i t c at in
       let between = departures_fall ms r.gone r.filled r.sent step.depart i two.before c two.stood in
-      let one =
-      moved_rises (slot + 1) r.arrived r.filled r.first
+      let one = moved_rises (slot + 1) r.arrived r.filled r.first
       (arrived ms slot class_count cells f g ideal r agrees come step) step.first_chosen step.fill i
       between.before c between.stood in
       record { before = one.before; stood = one.stood; risen = omega arith }
@@ -194,11 +180,7 @@ module _ (ms : List Machine) (slot class_count : ℕ) (cells : List (Option Cell
   pub never_falls : (cells' : List (Option Cell)) (came' : List (Option Queued)) (next : Fabric) →
       Arrives ms (slot + 1) cells' came' g next → EachArrivesOr (Falls 0 r.arrived next) came' next
   never_falls cells' came' next arrive i t c at =
-      ⊎_elim
-      (λ a. inl a)
-      (λ a.
-      let b = slot_rises i a.before c a.stood in
-      inr (record { before = b.before; stood = b.stood; fallen = omega arith }))
+      ⊎_elim (λ a. inl a) (λ a. search (arith, rules, slot_rises i a.before c a.stood))
       (arrivals_fall ms (slot + 1) cells' came' g next arrive i t c at)
 
   -- the input thread with which a cell arrives is the place where it goes in
@@ -217,11 +199,7 @@ module _ (ms : List Machine) (slot class_count : ℕ) (cells : List (Option Cell
 
   pub arrival_at_place : (i : ℕ) (c : Queued) → came_to r.came i ≡ Some c →
       slice_get (input r.arrived i) (place_of_arrival (cushion_of f c) c (input f i)) ≡ Some c
-  arrival_at_place i c came =
-      let is : input r.arrived i ≡ insert (input f i) (place_of_arrival (cushion_of f c) c (input f i)) c =
-      step.arrive.lists i ∙ ap (λ q. list_arrived f q (input f i)) came in
-      ap (λ l. slice_get l (place_of_arrival (cushion_of f c) c (input f i))) is
-      ∙ at_insert (input f i) (place_of_arrival (cushion_of f c) c (input f i)) c (omega arith)
+  arrival_at_place i c came = search (rules, at_insert)
 
   -- ## With figures
 
@@ -233,20 +211,12 @@ module _ (ms : List Machine) (slot class_count : ℕ) (cells : List (Option Cell
     low i v h =
         let at = slack_of r.arrived i v h in
         let within = slack_arrived ms slot class_count cells f g ideal r agrees come step i at.0 at.1 at.2 in
-        ⊎_elim
-        (λ a.
+        ⊎_elim (λ a.
         let place = arrival_place i at.1 a.arrived in
         let order = (arrived ms slot class_count cells f g ideal r agrees come step).order i in
         let here : at.0 ≡ place_of_arrival (cushion_of f at.1) at.1 (input f i) =
         one_in_order (input r.arrived i) at.0 _ at.1 order at.2 (arrival_at_place i at.1 a.arrived) in
-        let same : cushion_of r.arrived at.1 - position_or_len (λ q. q.key.slot == r.slot) (input r.arrived i) ≡ v =
-        omega arith in
-        inl (ap (option_map (λ (c : Queued). cushion_of r.arrived c
-        - position_or_len (λ q. q.key.slot == r.slot) (input r.arrived i))) a.arrived
-        ∙ ap (λ (n : ℕ). Some n) same))
-        (λ a.
-        let more = has.more i a.before at.1 a.stood in
-        inr (more.0, more.1, omega arith))
+        search (arith, rules)) (λ a. search (arith, rules))
         (arrivals_fall ms slot cells r.came f r.arrived step.arrive i at.0 at.1 at.2)
 
     there_on : (i v : ℕ) (o : Option Queued) → came_to r.came i ≡ o →
@@ -265,9 +235,7 @@ module _ (ms : List Machine) (slot class_count : ℕ) (cells : List (Option Cell
         either_by min (least_slack x i) (reduce min (slacks r.arrived i))
         ≡ either_by min (least_slack x i) (slack_on_arrival i r)
     unfolding slack_on_arrival
-    by_arrivals i =
-        same_least (least_slack x i) (slack_on_arrival i r) (slacks r.arrived i) (low i)
-        (λ v e. there_on i v (came_to r.came i) refl e)
+    by_arrivals i = search (rules, same_least, low, there_on)
 
   -- Whatever the cells were that waited before: the figures after the slot are no greater than any slack after its
   -- arrivals, and each has risen since.
@@ -284,7 +252,5 @@ module _ (ms : List Machine) (slot class_count : ℕ) (cells : List (Option Cell
               slack_arrived ms slot class_count cells f g ideal r agrees come step i rise.before c rise.stood in
               let new =
               new_least (least_slack x i) (slacks r.arrived i) _
-              (has_slack r.arrived i rise.before c rise.stood) in
-              let is = least_after x r i (let inside = inside_input g i t c at in omega arith) in
-              (new.0, is ∙ new.1, omega arith);
+              (has_slack r.arrived i rise.before c rise.stood) in search (arith, rules, least_after, inside_input);
         }

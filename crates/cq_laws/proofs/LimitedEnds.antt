@@ -1,6 +1,7 @@
 -- Where runs with limits end. Beside the fabric the ideal switch runs, and after each slot both are empty together; so
 -- both end after the same slot.
-use Rattle.std.proofs.Common.{◌≡◌, ℕ, ◌+◌, ◌<◌, ◌≤◌, List, length, take, Option, Result, Ok, refl, sym, subst, ⊎_elim, arith}
+use Rattle.std.proofs.Common.{◌≡◌, ℕ, ◌<◌, ◌≤◌, List, length, take, Option, Result, Ok, refl, sym, subst, ⊎_elim, arith, ◌+◌}
+use Rattle.std.proofs.lemmas.Grind.{common_steps}
 use Rattle.std.specs.Prelude.{IsOkAnd}
 use Rattle.std.specs.List.{AllByRecursion}
 use Rattle.std.proofs.lemmas.Bool.{cases_lt}
@@ -20,14 +21,10 @@ use Rattle.cq_laws.specs.LimitedAgreement.{LimitedAgrees, LimitedEndsAlike}
 use Rattle.cq_laws.specs.LimitedFabric.{LimitedFabricRun, LimitedFabricSlot, LimitedRecord, LimitedWholeRun, admissions_in, empty_limited_fabric, slots_in}
 use Rattle.cq_laws.specs.Fabric.{Fabric, IsEmptyFabric}
 use Rattle.cq_laws.specs.Records.{gone_in}
-use Rattle.cq_laws.proofs.LimitedWhole.{begin, same_limited_run}
+use Rattle.cq_laws.proofs.LimitedWhole.{same_limited_run, begin}
 use Rattle.cq_laws.proofs.OneRun.{only_limited_run}
 use Rattle.cq_laws.proofs.Parted.{fewer_fit, one_whole, reach, run_of_whole}
 use Rattle.cq_laws.proofs.WholeRuns.{empty_together}
-
-after_is : (x : Result LimitedRan TagFault) (ran : LimitedRan) (t : Marked IdealState) → x ≡ Ok ran →
-    IsOkAnd x (λ r. r.after ≡ t) → ran.after ≡ t
-after_is x ran t is h = subst (λ (y : Result LimitedRan TagFault). IsOkAnd y (λ r. r.after ≡ t)) is h
 
 after_ok : (x : Result LimitedRan TagFault) (ran : LimitedRan) → x ≡ Ok ran → IsOkAnd x (λ r. r.after ≡ ran.after)
 after_ok x ran is = subst (λ (y : Result LimitedRan TagFault). IsOkAnd y (λ r. r.after ≡ ran.after)) (sym is) refl
@@ -65,10 +62,7 @@ module _ (limits : List (Option ℕ)) (ms : List Machine) (ports class_count : �
   over_too : (m : ℕ) (rs : List LimitedRecord) (f : Marked Fabric) (s : Marked IdealState) → Beside m rs f →
       LimitedIdealAfter limits ms came (empty_limited ports ranks) m s → IsEmptyIdeal s.state → IsEmptyFabric f.state
   over_too m rs f s b after empty =
-      let same = after_is (limited_run limits ms 0 (first_slots came m) (empty_limited ports ranks)) (told rs b.after) s
-      b.ran after in
-      (empty_together m f.state b.after.state b.agrees.states).1
-      (subst (λ (t : Marked IdealState). IsEmptyIdeal t.state) (sym same) empty)
+      grind (arith, common_steps, empty_together m f.state b.after.state b.agrees.states)
 
   pub limited_ends : (rs : List LimitedRecord) (g : Marked Fabric) → Fit (length rs) →
       LimitedWholeRun IsStable limits ms came (empty_limited_fabric ports ranks) rs g →
@@ -102,6 +96,5 @@ module _ (limits : List (Option ℕ)) (ms : List Machine) (ports class_count : �
 pub one_limited_whole : (limits : List (Option ℕ)) (ms : List Machine) (came : List Arrival) (start g h : Marked Fabric)
     (rs ss : List LimitedRecord) → LimitedWholeRun IsInputBest limits ms came start rs g →
     LimitedWholeRun IsInputBest limits ms came start ss h → (rs ≡ ss) × (g ≡ h)
-one_limited_whole limits ms came start g h rs ss w v =
-    one_whole (LimitedFabricSlot IsInputBest limits ms) (only_limited_run ms limits).run
-    (λ (f : Marked Fabric). IsEmptyFabric f.state) came start rs ss g h w v
+one_limited_whole limits ms came start g h rs ss w v = one_whole (LimitedFabricSlot IsInputBest limits ms)
+    (only_limited_run ms limits).run (λ (f : Marked Fabric). IsEmptyFabric f.state) came start rs ss g h w v

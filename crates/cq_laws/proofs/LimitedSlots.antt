@@ -1,18 +1,18 @@
 -- One slot with limits, from states that agree. Each output holds equally many cells in both, so both judge the
 -- arrivals alike. What is admitted is for the ports, as the arrivals are, and goes through the slot without limits:
 -- there both send the same or have the same fault, and the states agree again.
-use Rattle.std.proofs.Common.{◌≡◌, ℕ, ◌↔◌, Bool, List, length, Option, Result, Ok, Err, sym, ap, ◌∙◌, subst}
+use Rattle.std.proofs.Common.{rules, arith, ◌≡◌, ℕ, ◌↔◌, Bool, List, length, Option, Err, ◌∙◌}
+use Rattle.std.proofs.lemmas.Grind.{common_steps}
 use Rattle.cq_base.specs.declared.cell.Cell.{Cell}
 use Rattle.cq_base.specs.declared.cell.TagFault.{TagFault}
 use Rattle.cq_rank.specs.Machine.{Machine}
-use Rattle.cq_ideal.specs.Admission.{Admission, Marked, admission, marks_after}
-use Rattle.cq_ideal.specs.IdealSlot.{IdealState, Sent, ideal_slot}
-use Rattle.cq_ideal.specs.LimitedIdeal.{ideal_held, ideal_admission, with_admission, limited_slot}
-use Rattle.cq_ideal.specs.Ranking.{AreForPorts, ranking}
+use Rattle.cq_ideal.specs.Admission.{Marked, admission}
+use Rattle.cq_ideal.specs.IdealSlot.{IdealState}
+use Rattle.cq_ideal.specs.LimitedIdeal.{ideal_admission, limited_slot}
+use Rattle.cq_ideal.specs.Ranking.{AreForPorts}
 use Rattle.cq_ideal.proofs.Admitted.{admitted_for_ports}
 use Rattle.cq_prefs.specs.Pairing.{IsStable}
 use Rattle.cq_laws.specs.Fabric.{Fabric}
-use Rattle.cq_laws.specs.Holding.{fabric_held}
 use Rattle.cq_laws.specs.LimitedAgreement.{LimitedAgrees, ActsAlike}
 use Rattle.cq_laws.specs.LimitedFabric.{LimitedRecord, LimitedFabricSlot, IsLimitedFault, fabric_admission}
 use Rattle.cq_laws.specs.Slack.{HasSlack}
@@ -22,66 +22,46 @@ use Rattle.cq_laws.proofs.OneSlot.{same_fault, same_slot, slack_arrived, ports_k
 module _ (limits : List (Option ℕ)) (slot : ℕ) (cells : List (Option Cell)) (f : Marked Fabric)
     (ideal : Marked IdealState) (agrees : LimitedAgrees slot f ideal) where
   pub same_admission : fabric_admission limits cells f ≡ ideal_admission limits cells ideal
-  same_admission =
-      ap (λ held. admission limits held f.marks cells) (hold_as_many slot f.state ideal.state agrees.states)
-      ∙ ap (λ marks. admission limits (ideal_held ideal.state) marks cells) agrees.marks
+  same_admission = cc (hold_as_many slot f.state ideal.state agrees.states)
 
 pub admission_for_ports : (limits : List (Option ℕ)) (held : List ℕ) (marks : List Bool) (cells : List (Option Cell))
     (ports class_count : ℕ) → AreForPorts ports class_count cells →
     AreForPorts ports class_count (admission limits held marks cells).cells
 unfolding admission
-admission_for_ports limits held marks cells ports class_count come =
-    admitted_for_ports ports class_count (marks_after limits held marks cells) cells come
-
-with_fault : (a : Admission) (x : Result Sent TagFault) (fault : TagFault) →
-    (with_admission a x ≡ Err fault) ↔ (x ≡ Err fault)
-with_fault a (Ok sent) fault = (λ h. cc, λ h. cc)
-with_fault a (Err e) fault = (λ h. cc, λ h. cc)
+admission_for_ports limits held marks cells ports class_count come = grind (arith, common_steps, admitted_for_ports)
 
 pub same_limited_fault : (limits : List (Option ℕ)) (ms : List Machine) (slot : ℕ) (cells : List (Option Cell))
     (f : Marked Fabric) (ideal : Marked IdealState) (fault : TagFault) → LimitedAgrees slot f ideal →
     (limited_slot limits ms slot cells ideal ≡ Err fault) ↔ IsLimitedFault limits ms slot cells f fault
 unfolding limited_slot
 same_limited_fault limits ms slot cells f ideal fault agrees =
-    let a = fabric_admission limits cells f in
-    let here = same_fault ms slot a.cells f.state ideal.state fault agrees.states in
-    let faults = with_fault a (ideal_slot ms slot a.cells ideal.state) fault in
-    subst (λ (x : Admission). (with_admission x (ideal_slot ms slot x.cells ideal.state) ≡ Err fault)
-    ↔ (ranking ms slot 0 a.cells f.state.ranks ≡ Err fault)) (same_admission limits slot cells f ideal agrees)
-    (λ h. here.0 (faults.0 h), λ h. faults.1 (here.1 h))
+    let same_fault-here =
+    same_fault ms slot (fabric_admission limits cells f).cells f.state ideal.state fault agrees.states in
+    let same_admission-here = same_admission limits slot cells f ideal agrees in grind (arith, common_steps)
 
 module _ (limits : List (Option ℕ)) (ms : List Machine) (slot class_count : ℕ) (cells : List (Option Cell))
     (f g : Marked Fabric) (ideal : Marked IdealState) (r : LimitedRecord) (agrees : LimitedAgrees slot f ideal)
     (come : AreForPorts (length f.state.inputs) class_count cells)
     (step : LimitedFabricSlot IsStable limits ms slot cells f r g) where
   come_admitted : AreForPorts (length f.state.inputs) class_count r.admission.cells
-  come_admitted =
-      subst (λ (a : Admission). AreForPorts (length f.state.inputs) class_count a.cells) (sym step.admits)
-      (admission_for_ports limits (fabric_held f.state) f.marks cells (length f.state.inputs) class_count come)
+  come_admitted = grind (arith, common_steps, admission_for_ports)
 
   pub admits_alike : r.admission ≡ ideal_admission limits cells ideal
   admits_alike = step.admits ∙ same_admission limits slot cells f ideal agrees
 
   pub limited_ports_kept : length g.state.inputs ≡ length f.state.inputs
-  limited_ports_kept =
-      ports_kept ms slot class_count r.admission.cells f.state g.state ideal.state r.of_slot agrees.states
-      come_admitted step.runs
+  limited_ports_kept = grind (arith, common_steps, ports_kept, come_admitted)
 
   pub limited_slack_arrived : HasSlack 0 r.of_slot.arrived
-  limited_slack_arrived =
-      slack_arrived ms slot class_count r.admission.cells f.state g.state ideal.state r.of_slot agrees.states
-      come_admitted step.runs
+  limited_slack_arrived = grind (arith, common_steps, slack_arrived, come_admitted)
 
   pub same_limited_slot : ActsAlike limits ms slot cells ideal r g
   unfolding limited_slot
   same_limited_slot =
-      let one =
-      same_slot ms slot class_count r.admission.cells f.state g.state ideal.state r.of_slot agrees.states
+      let one = same_slot ms slot class_count r.admission.cells f.state g.state ideal.state r.of_slot agrees.states
       come_admitted step.runs in
       record {
         next = record { state = one.next; marks = r.admission.marks };
-        sent =
-            ap (λ (a : Admission). with_admission a (ideal_slot ms slot a.cells ideal.state)) (sym admits_alike)
-            ∙ ap (with_admission r.admission) one.sent;
+        sent = search (arith, rules, admits_alike);
         agrees = record { states = one.agrees; marks = step.marks };
       }

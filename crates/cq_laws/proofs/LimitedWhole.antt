@@ -1,13 +1,14 @@
 -- Whole runs with limits, slot by slot from states that agree, and the runs without limits that they are: those of
 -- the arrivals that the ideal switch admits, which are those that the fabric admits.
-use Rattle.std.proofs.Common.{◌≡◌, ℕ, ◌+◌, Bool, List, [], ◌∷◌, length, Option, Err, refl, sym, ap, ◌∙◌, subst, arith}
+use Rattle.std.proofs.lemmas.Grind.{common_steps}
+use Rattle.std.proofs.Common.{rules, ◌≡◌, ℕ, ◌+◌, List, [], ◌∷◌, length, Option, Err, refl, ap, arith, sym, subst, ◌∙◌}
 use Rattle.std.specs.List.{AllByRecursion}
 use Rattle.cq_base.specs.declared.cell.Cell.{Cell}
 use Rattle.cq_base.specs.declared.cell.TagFault.{TagFault}
 use Rattle.cq_rank.specs.Machine.{Machine}
-use Rattle.cq_ideal.specs.Admission.{Admission, Marked}
+use Rattle.cq_ideal.specs.Admission.{Marked, Admission}
 use Rattle.cq_ideal.specs.IdealSlot.{IdealState}
-use Rattle.cq_ideal.specs.LimitedIdeal.{then_limited, limited_run, admitted_traffic, empty_limited}
+use Rattle.cq_ideal.specs.LimitedIdeal.{limited_run, admitted_traffic, empty_limited, then_limited}
 use Rattle.cq_ideal.specs.Ranking.{AreForPorts}
 use Rattle.cq_ideal.specs.WholePackets.{AreJudged}
 use Rattle.cq_ideal.proofs.LimitedRuns.{run_step, run_fault, admitted_step}
@@ -15,7 +16,6 @@ use Rattle.cq_prefs.specs.Orders.{Orders}
 use Rattle.cq_prefs.specs.Pairing.{Partners, IsStable}
 use Rattle.cq_laws.specs.FabricRun.{FabricRun, FabricStops, IsFault}
 use Rattle.cq_laws.specs.Fabric.{Fabric}
-use Rattle.cq_laws.specs.Holding.{fabric_held}
 use Rattle.cq_laws.specs.LimitedAgreement.{LimitedAgrees, ActsAlike, LimitedRunsAlike}
 use Rattle.cq_laws.specs.LimitedFabric.{LimitedRecord, LimitedFabricSlot, LimitedFabricRun, LimitedFabricStops, admissions_in, slots_in, empty_limited_fabric}
 use Rattle.cq_laws.specs.Slack.{HasSlack}
@@ -45,11 +45,7 @@ module _ (limits : List (Option ℕ)) (ms : List Machine) (class_count : ℕ) wh
       record {
         alike = one;
         slack = limited_slack_arrived limits ms slot class_count cells f g ideal r s.agrees s.come.0 step;
-        stands =
-            record {
-              agrees = one.agrees;
-              come = subst (λ n. AllByRecursion (AreForPorts n class_count) traffic) (sym ports) s.come.1;
-            };
+        stands = search (arith, rules);
       }
 
   -- ## They act alike
@@ -146,10 +142,7 @@ fabric_judged MayChoose limits ms slot [] f g [] run = tt
 fabric_judged MayChoose limits ms slot [] f g (r ∷ rs) run = absurd run
 fabric_judged MayChoose limits ms slot (cells ∷ traffic) f g [] run = absurd run
 fabric_judged MayChoose limits ms slot (cells ∷ traffic) f g (r ∷ rs) run =
-    let rest = fabric_judged MayChoose limits ms (slot + 1) traffic run.0 g rs run.2 in (
-      (fabric_held f.state, run.1.admits),
-      subst (λ (marks : List Bool). AreJudged limits marks traffic (admissions_in rs)) run.1.marks rest,
-    )
+    grind (arith, common_steps, fabric_judged MayChoose limits ms (slot + 1) traffic run.0 g rs run.2)
 
 pub limited_empty_agree : (ports : ℕ) (ranks : List (List ℕ)) →
     LimitedAgrees 0 (empty_limited_fabric ports ranks) (empty_limited ports ranks)
@@ -158,5 +151,4 @@ limited_empty_agree ports ranks = record { states = empty_agree ports ranks; mar
 pub begin : (limits : List (Option ℕ)) (ms : List Machine) (class_count ports : ℕ) (ranks : List (List ℕ))
     (traffic : List (List (Option Cell))) → AllByRecursion (AreForPorts ports class_count) traffic →
     Stands limits ms class_count 0 traffic (empty_limited_fabric ports ranks) (empty_limited ports ranks)
-begin limits ms class_count ports ranks traffic come =
-    record { agrees = limited_empty_agree ports ranks; come = traffic_for_empty ports ranks class_count traffic come }
+begin limits ms class_count ports ranks traffic come = search (rules, limited_empty_agree, traffic_for_empty)

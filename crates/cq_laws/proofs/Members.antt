@@ -1,7 +1,8 @@
 -- The cells of a list, as members and by their places. First what a place shows of a member, then where the first
 -- cell for an output stands, then what becomes of the members where that cell is taken out, where a cell is put in
 -- the order of keys, and where one is inserted at a place.
-use Rattle.std.proofs.Common.{◌≡◌, ◌≢◌, ℕ, zero, suc, ◌<◌, ◌≤◌, ◌⊎◌, Bool, true, false, cond, List, [], ◌∷◌, Some, refl, sym, ap, ◌∙◌, subst, inl, inr, ⊎_elim, arith}
+use Rattle.std.proofs.Common.{◌≡◌, ◌≢◌, ℕ, zero, suc, ◌<◌, ◌≤◌, ◌⊎◌, Bool, true, false, cond, List, [], ◌∷◌, Some, refl, ap, subst, inl, inr, ⊎_elim, arith}
+use Rattle.std.proofs.lemmas.Grind.{common_steps}
 use Rattle.std.specs.Prelude.{slice_get, find, insert}
 use Rattle.std.specs.List.{AllByRecursion, position_or_len}
 use Rattle.std.proofs.lemmas.Bool.{cond_both, cases_Bool}
@@ -43,13 +44,8 @@ pub record IsFirst (p : Queued → Bool) (xs : List Queued) (c : Queued) : Type 
 
 first_in : (p : Queued → Bool) (x : Queued) (xs : List Queued) (c : Queued) (b : Bool) → p x ≡ b →
     cond b (Some x) (find p xs) ≡ Some c → (find p xs ≡ Some c → IsFirst p xs c) → IsFirst p (x ∷ xs) c
-first_in p x xs c true e h rest =
-    let same : x ≡ c = cc in
-    record { place = zero; is = sym (first_here p x xs e); at = ap Some same; passes = ap p (sym same) ∙ e }
-first_in p x xs c false e h rest =
-    let r = rest h in
-    let later = first_later p x xs e in
-    record { place = suc r.place; is = omega arith; at = r.at; passes = r.passes }
+first_in p x xs c true e h rest = grind (arith, common_steps, first_here)
+first_in p x xs c false e h rest = grind (arith, common_steps, first_later)
 
 pub first_at : (p : Queued → Bool) (xs : List Queued) (c : Queued) → find p xs ≡ Some c → IsFirst p xs c
 first_at p [] c h = cc
@@ -59,8 +55,7 @@ first_at p (x ∷ xs) c h = first_in p x xs c (p x) refl h (λ k. first_at p xs 
 pub first_of : (p : Queued → Bool) (xs : List Queued) (c : Queued) → IsAmong c xs → p c ≡ true →
     (f : Queued) × (find p xs ≡ Some f)
 first_of p [] c h e = absurd h
-first_of p (x ∷ xs) c h e =
-    cond_both (p x) (Some x) (find p xs) (λ o. (f : Queued) × (o ≡ Some f)) (λ _. (x, refl))
+first_of p (x ∷ xs) c h e = cond_both (p x) (Some x) (find p xs) (λ o. (f : Queued) × (o ≡ Some f)) (λ _. (x, refl))
     (λ no. ⊎_elim (λ same. absurd (cc (ap p same))) (λ k. first_of p xs c k e) h)
 
 -- ## A list without its first cell for an output
@@ -78,9 +73,7 @@ left_in : (j : ℕ) (x : Queued) (xs : List Queued) (t : ℕ) (c : Queued) (b : 
 left_in j x xs t c true e h rest =
     let here = first_here (is_for j) x xs e in
     record { place = suc t; at = h; moved = λ _. refl; stayed = λ l. absurd (omega arith) }
-left_in j x xs zero c false e h rest =
-    let later = first_later (is_for j) x xs e in
-    record { place = zero; at = h; moved = λ l. absurd (omega arith); stayed = λ _. refl }
+left_in j x xs zero c false e h rest = grind (arith, common_steps, first_later)
 left_in j x xs (suc t) c false e h rest =
     let later = first_later (is_for j) x xs e in
     let r = rest t h in
@@ -112,35 +105,25 @@ left_or_first j (x ∷ xs) c h = go (is_for j x) (left_or_first j xs c)
 -- what is left was there
 pub left_among : (j : ℕ) (xs : List Queued) (c : Queued) → IsAmong c (without_first j xs) → IsAmong c xs
 left_among j xs c h =
-    let r = at_among (without_first j xs) c h in
-    let s = left_at j xs r.0 c r.1 in among_at xs s.place c s.at
+    let r = at_among (without_first j xs) c h in let s = left_at j xs r.0 c r.1 in among_at xs s.place c s.at
 
 -- ## A cell put in the order of keys
 
 pub among_put : (d c : Queued) (xs : List Queued) → IsAmong d (put c xs) → (c ≡ d) ⊎ IsAmong d xs
 among_put d c [] h = h
-among_put d c (x ∷ xs) h =
-    cond_both (is_before c.key x.key) (c ∷ x ∷ xs) (x ∷ put c xs) (λ l. IsAmong d l → (c ≡ d) ⊎ IsAmong d (x ∷ xs))
-    (λ _ k. k)
-    (λ _ k. ⊎_elim (λ e. inr (inl e)) (λ m. ⊎_elim (λ e. inl e) (λ n. inr (inr n)) (among_put d c xs m)) k) h
+among_put d c (x ∷ xs) h = grind (arith, common_steps, cond_both, among_put d c xs)
 
 pub put_new : (c : Queued) (xs : List Queued) → IsAmong c (put c xs)
 put_new c [] = inl refl
-put_new c (x ∷ xs) =
-    cond_both (is_before c.key x.key) (c ∷ x ∷ xs) (x ∷ put c xs) (IsAmong c) (λ _. inl refl)
-    (λ _. inr (put_new c xs))
+put_new c (x ∷ xs) = grind (arith, common_steps, cond_both, put_new c xs)
 
 pub put_old : (d c : Queued) (xs : List Queued) → IsAmong d xs → IsAmong d (put c xs)
 put_old d c [] h = absurd h
-put_old d c (x ∷ xs) h =
-    cond_both (is_before c.key x.key) (c ∷ x ∷ xs) (x ∷ put c xs) (IsAmong d)
-    (λ _. inr h)
-    (λ _. ⊎_elim (λ e. inl e) (λ k. inr (put_old d c xs k)) h)
+put_old d c (x ∷ xs) h = grind (arith, common_steps, cond_both, put_old d c xs)
 
 pub all_put : (P : Queued → Type 0) (c : Queued) (xs : List Queued) → P c → AllByRecursion P xs →
     AllByRecursion P (put c xs)
-all_put P c xs p a =
-    all_from P (put c xs) (λ d k. ⊎_elim (λ e. subst P e p) (λ m. all_among P xs d a m) (among_put d c xs k))
+all_put P c xs p a = grind (arith, common_steps, all_from, all_among, among_put)
 
 -- a key that differs and is not before the other is after it
 pub after_other : (a b : Key) → is_before a b ≡ false → a ≢ b → is_before b a ≡ true
@@ -175,8 +158,7 @@ inserted_at xs zero (suc t) n c h = record { was = inr (t, h, omega arith) }
 inserted_at [] (suc p) zero n c h = record { was = inl (omega arith, cc) }
 inserted_at [] (suc p) (suc t) n c h = cc
 inserted_at (x ∷ xs) (suc p) zero n c h = record { was = inr (zero, h, omega arith) }
-inserted_at (x ∷ xs) (suc p) (suc t) n c h =
-    ⊎_elim (λ k. record { was = inl (omega arith, k.1) })
+inserted_at (x ∷ xs) (suc p) (suc t) n c h = ⊎_elim (λ k. record { was = inl (omega arith, k.1) })
     (λ k. record { was = inr (suc k.0, k.1, omega arith) }) (inserted_at xs p t n c h).was
 
 pub insert_new : (xs : List Queued) (p : ℕ) (n : Queued) → IsAmong n (insert xs p n)
@@ -192,5 +174,4 @@ insert_old (x ∷ xs) (suc p) n c h = ⊎_elim (λ e. inl e) (λ k. inr (insert_
 pub among_insert : (xs : List Queued) (p : ℕ) (n c : Queued) → IsAmong c (insert xs p n) → (n ≡ c) ⊎ IsAmong c xs
 among_insert xs zero n c h = h
 among_insert [] (suc p) n c h = h
-among_insert (x ∷ xs) (suc p) n c h =
-    ⊎_elim (λ e. inr (inl e)) (λ k. ⊎_elim (λ e. inl e) (λ m. inr (inr m)) (among_insert xs p n c k)) h
+among_insert (x ∷ xs) (suc p) n c h = grind (arith, common_steps, among_insert xs p n c)

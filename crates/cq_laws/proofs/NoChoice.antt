@@ -1,5 +1,6 @@
 -- Where a state and what arrives leave no choice in a slot, they leave none in a run.
-use Rattle.std.proofs.Common.{◌≡◌, ℕ, ◌+◌, List, [], ◌∷◌, Option, refl, sym, ap, ◌∙◌, subst}
+use Rattle.std.proofs.lemmas.Grind.{common_steps}
+use Rattle.std.proofs.Common.{arith, ◌≡◌, ℕ, ◌+◌, List, [], ◌∷◌, Option, refl, sym, ap, ◌∙◌}
 use Rattle.cq_base.specs.declared.cell.Cell.{Cell}
 use Rattle.cq_base.specs.declared.cell.TagFault.{TagFault}
 use Rattle.cq_laws.specs.SlotBySlot.{RunBy, StopBy, IsOneRun}
@@ -27,11 +28,7 @@ module _ {S R : Type 0} (Step : ℕ → List (Option Cell) → S → R → S →
     one_run slot (cells ∷ traffic) f g h [] ss x y = absurd x
     one_run slot (cells ∷ traffic) f g h (r ∷ rs) [] x y = absurd y
     one_run slot (cells ∷ traffic) f g h (r ∷ rs) (s ∷ ss) x y =
-        let one = no.slot slot cells f x.0 y.0 r s x.1 y.1 in
-        let y' : RunBy Step (slot + 1) traffic x.0 ss h = subst (λ (m : S). RunBy Step (slot + 1) traffic m ss h)
-        (sym one.1) y.2 in
-        let rest = one_run (slot + 1) traffic x.0 g h rs ss x.2 y' in
-        (same_cons r s rs ss one.0 rest.0, rest.1)
+        grind (arith, common_steps, same_cons, one_run (slot + 1) traffic x.0 g h rs ss x.2)
 
     one_stop : (slot : ℕ) (traffic : List (List (Option Cell))) (f : S) (rs ss : List R) (u v : TagFault) →
         StopBy Step Fault slot traffic f rs u → StopBy Step Fault slot traffic f ss v → (rs ≡ ss) × (u ≡ v)
@@ -40,11 +37,7 @@ module _ {S R : Type 0} (Step : ℕ → List (Option Cell) → S → R → S →
     one_stop slot (cells ∷ traffic) f [] (s ∷ ss) u v x y = absurd (no.never_both slot cells f y.0 s u y.1 x)
     one_stop slot (cells ∷ traffic) f (r ∷ rs) [] u v x y = absurd (no.never_both slot cells f x.0 r v x.1 y)
     one_stop slot (cells ∷ traffic) f (r ∷ rs) (s ∷ ss) u v x y =
-        let one = no.slot slot cells f x.0 y.0 r s x.1 y.1 in
-        let y' : StopBy Step Fault (slot + 1) traffic x.0 ss v = subst
-        (λ (m : S). StopBy Step Fault (slot + 1) traffic m ss v) (sym one.1) y.2 in
-        let rest = one_stop (slot + 1) traffic x.0 rs ss u v x.2 y' in
-        (same_cons r s rs ss one.0 rest.0, rest.1)
+        grind (arith, common_steps, same_cons, one_stop (slot + 1) traffic x.0 rs ss u v x.2)
 
     run_or_stop : (slot : ℕ) (traffic : List (List (Option Cell))) (f g : S) (rs ss : List R) (fault : TagFault) →
         RunBy Step slot traffic f rs g → StopBy Step Fault slot traffic f ss fault → ⊥
@@ -52,10 +45,7 @@ module _ {S R : Type 0} (Step : ℕ → List (Option Cell) → S → R → S →
     run_or_stop slot (cells ∷ traffic) f g [] ss fault x y = absurd x
     run_or_stop slot (cells ∷ traffic) f g (r ∷ rs) [] fault x y = no.never_both slot cells f x.0 r fault x.1 y
     run_or_stop slot (cells ∷ traffic) f g (r ∷ rs) (s ∷ ss) fault x y =
-        let one = no.slot slot cells f x.0 y.0 r s x.1 y.1 in
-        let y' : StopBy Step Fault (slot + 1) traffic x.0 ss fault = subst
-        (λ (m : S). StopBy Step Fault (slot + 1) traffic m ss fault) (sym one.1) y.2 in
-        run_or_stop (slot + 1) traffic x.0 g rs ss fault x.2 y'
+        grind (arith, common_steps, run_or_stop (slot + 1) traffic x.0 g rs ss fault x.2)
 
     pub one_of_each : IsOneRun Step Fault
     one_of_each = record { slot = no.slot; run = one_run; stop = one_stop; never_both = run_or_stop }

@@ -1,6 +1,7 @@
 -- Where nothing is refused a slot with limits is the slot without, and no mark moves; so it is with runs. Nothing is
 -- refused where no output has a limit and no mark is up, nor where nothing arrives.
-use Rattle.std.proofs.Common.{◌≡◌, ℕ, ◌+◌, Bool, List, [], ◌∷◌, replicate, zero, suc, Option, refl, sym, ap, ◌∙◌, subst}
+use Rattle.std.proofs.lemmas.Grind.{common_steps}
+use Rattle.std.proofs.Common.{arith, rules, ◌≡◌, ℕ, ◌+◌, Bool, List, [], ◌∷◌, replicate, zero, suc, Option, refl, sym, ap, subst}
 use Rattle.std.specs.List.{AllByRecursion}
 use Rattle.cq_base.specs.declared.cell.Cell.{Cell}
 use Rattle.cq_base.specs.declared.cell.TagFault.{TagFault}
@@ -24,18 +25,6 @@ module _ (MayChoose : Orders → Partners → Type 0) (limits : List (Option ℕ
       is_nothing : fabric_admission limits cells (marked marks f) ≡ nothing_refused marks cells
       is_nothing = none (fabric_held f)
 
-      pub slot_without : (r : LimitedRecord) (g : Marked Fabric) →
-          LimitedFabricSlot MayChoose limits ms slot cells (marked marks f) r g →
-          FabricSlot MayChoose ms slot cells f r.of_slot g.state × (r.admission ≡ nothing_refused marks cells) ×
-          (g ≡ marked marks g.state)
-      slot_without r g step =
-          let is = step.admits ∙ is_nothing in
-          let stay : g.marks ≡ marks = step.marks ∙ ap (λ (a : Admission). a.marks) is in (
-            subst (λ (a : Admission). FabricSlot MayChoose ms slot a.cells f r.of_slot g.state) is step.runs,
-            is,
-            λ k. record { state = g.state; marks = stay k },
-          )
-
       pub slot_with : (r : SlotRecord) (g : Fabric) → FabricSlot MayChoose ms slot cells f r g →
           LimitedFabricSlot MayChoose limits ms slot cells (marked marks f)
           (record { admission = nothing_refused marks cells; of_slot = r }) (marked marks g)
@@ -51,30 +40,16 @@ module _ (MayChoose : Orders → Partners → Type 0) (limits : List (Option ℕ
     abbrev None_in : List (List (Option Cell)) → Type 0
     None_in traffic = AllByRecursion (RefusesNone limits marks) traffic
 
-    same_records : (a : Admission) (r : LimitedRecord) (rs ss : List LimitedRecord) → r.admission ≡ a → rs ≡ ss →
-        r ∷ rs ≡ record { admission = a; of_slot = r.of_slot } ∷ ss
-    same_records a r rs ss e f = λ k. record { admission = e k; of_slot = r.of_slot } ∷ f k
-
     pub run_without : (slot : ℕ) (traffic : List (List (Option Cell))) (f : Fabric) (rs : List LimitedRecord)
         (g : Marked Fabric) → None_in traffic →
         LimitedFabricRun MayChoose limits ms slot traffic (marked marks f) rs g →
         FabricRun MayChoose ms slot traffic f (slots_in rs) g.state × (rs ≡ passed marks traffic (slots_in rs)) ×
         (g ≡ marked marks g.state)
-    run_without slot [] f [] g none run = (
-      ap (λ (h : Marked Fabric). h.state) run,
-      refl,
-      run ∙ ap (λ (h : Marked Fabric). marked marks h.state) (sym run),
-    )
+    run_without slot [] f [] g none run = grind (arith, common_steps)
     run_without slot [] f (r ∷ rs) g none run = absurd run
     run_without slot (cells ∷ traffic) f [] g none run = absurd run
     run_without slot (cells ∷ traffic) f (r ∷ rs) g none run =
-        let one = slot_without slot cells f none.0 r run.0 run.1 in
-        let rest = run_without (slot + 1) traffic run.0.state rs g none.1
-        (subst (λ (h : Marked Fabric). LimitedFabricRun MayChoose limits ms (slot + 1) traffic h rs g) one.2 run.2) in (
-          (run.0.state, one.0, rest.0),
-          same_records (nothing_refused marks cells) r rs (passed marks traffic (slots_in rs)) one.1 rest.1,
-          rest.2,
-        )
+        search (rules, run_without (slot + 1) traffic run.0.state rs g none.1)
 
     pub run_with : (slot : ℕ) (traffic : List (List (Option Cell))) (f g : Fabric) (rs : List SlotRecord) →
         None_in traffic → FabricRun MayChoose ms slot traffic f rs g →
@@ -82,11 +57,8 @@ module _ (MayChoose : Orders → Partners → Type 0) (limits : List (Option ℕ
     run_with slot [] f g [] none run = ap (marked marks) run
     run_with slot [] f g (r ∷ rs) none run = absurd run
     run_with slot (cells ∷ traffic) f g [] none run = absurd run
-    run_with slot (cells ∷ traffic) f g (r ∷ rs) none run = (
-      marked marks run.0,
-      slot_with slot cells f none.0 r run.0 run.1,
-      run_with (slot + 1) traffic run.0 g rs none.1 run.2,
-    )
+    run_with slot (cells ∷ traffic) f g (r ∷ rs) none run =
+        grind (arith, common_steps, slot_with, run_with (slot + 1) traffic run.0 g rs none.1 run.2)
 
     pub stop_without : (slot : ℕ) (traffic : List (List (Option Cell))) (f : Fabric) (rs : List LimitedRecord)
         (fault : TagFault) → None_in traffic →
@@ -95,13 +67,7 @@ module _ (MayChoose : Orders → Partners → Type 0) (limits : List (Option ℕ
     stop_without slot [] f rs fault none run = absurd run
     stop_without slot (cells ∷ traffic) f [] fault none run = fault_without slot cells f none.0 fault run
     stop_without slot (cells ∷ traffic) f (r ∷ rs) fault none run =
-        let one = slot_without slot cells f none.0 r run.0 run.1 in (
-          run.0.state,
-          one.0,
-          stop_without (slot + 1) traffic run.0.state rs fault none.1 (subst
-              (λ (h : Marked Fabric). LimitedFabricStops MayChoose limits ms (slot + 1) traffic h rs fault)
-              one.2 run.2),
-        )
+        grind (arith, common_steps, stop_without (slot + 1) traffic run.0.state rs fault none.1)
 
     -- ## Slots without arrivals
 

@@ -1,17 +1,18 @@
 -- Offers in which an input and an output are each other's first, and every other input has that output only, if any:
 -- their pair alone is the input-best matching, for in every stable one they are a pair. And what its transfer moves.
-use Rattle.std.proofs.Common.{◌≡◌, ◌≢◌, ℕ, zero, suc, ◌<◌, ◌≤◌, eqb, ltb, Bool, true, false, not, ◌&&◌, ◌||◌, List, [], ◌∷◌, length, Option, Some, None, refl, sym, ap, ◌∙◌, subst, inl, inr, ⊎_elim, arith, set}
+use Rattle.std.proofs.lemmas.Grind.{common_steps}
+use Rattle.std.proofs.Common.{rules, ◌≡◌, ◌≢◌, ℕ, zero, suc, ◌<◌, ◌≤◌, eqb, ltb, Bool, true, false, not, ◌&&◌, ◌||◌, List, [], ◌∷◌, length, Option, Some, None, arith, set, ap, subst, ⊎_elim}
 use Rattle.std.specs.Prelude.{replicate}
 use Rattle.std.proofs.lemmas.Bool.{cases_lt, cases_eq, and_parts, ltb-true, lt-ltb, ne_eqb}
 use Rattle.std.proofs.lemmas.Option.{same_Some}
-use Rattle.std.proofs.lemmas.List.{get_or_past, length-set, length-replicate, get_or-set_same, get_or-set_other}
+use Rattle.std.proofs.lemmas.List.{get_or_past, length-replicate, get_or-set_same, get_or-set_other}
 use Rattle.cq_base.specs.declared.cell.Queued.{Queued}
 use Rattle.cq_base.specs.Cells.{put, first_for, without_first}
 use Rattle.cq_prefs.specs.Orders.{Orders, ports, outputs_of, inputs_of, place_in, place_of, position_of, IsListed, IsOffered}
 use Rattle.cq_ideal.proofs.Resting.{none_at}
-use Rattle.cq_prefs.specs.Pairing.{Partners, partner_of, with_pair, depth, partner_place, IsStable, IsInputBest, HasBetterOutput, HasBetterInput}
+use Rattle.cq_prefs.specs.Pairing.{Partners, partner_of, with_pair, depth, IsStable, IsInputBest, HasBetterOutput, HasBetterInput}
 use Rattle.cq_prefs.specs.FirstCells.{list_of}
-use Rattle.cq_prefs.specs.Moves.{list_taken, Moves}
+use Rattle.cq_prefs.specs.Moves.{Moves}
 use Rattle.cq_prefs.proofs.Members.{among}
 use Rattle.cq_prefs.proofs.Places.{same_at_place}
 use Rattle.cq_laws.proofs.Rises.{is_partner}
@@ -30,119 +31,38 @@ pub record AreFirst (o : Orders) (i j : ℕ) : Type 0 where
 
 module _ (m : Partners) (i j : ℕ) (only : IsOnlyPair m i j) where
   pub is_pair : (k l : ℕ) → partner_of m k ≡ Some l → (k ≡ i) × (l ≡ j)
-  is_pair k l e =
-      ⊎_elim
-      (λ is. (is, same_Some l j (sym e ∙ ap (partner_of m) is ∙ only.pair)))
-      (λ other. absurd (let no : None ≡ Some l = sym (only.others k other) ∙ e in cc))
-      (cases_eq k i)
+  is_pair k l e = grind (arith, common_steps, same_Some, cases_eq)
 
   module _ (o : Orders) (first : AreFirst o i j) (size : length m ≡ ports o) where
     together : (n : Partners) → IsStable o n → partner_of n i ≡ Some j
-    together n stable =
-        ⊎_elim (λ e. e)
-        (λ ne. ⊎_elim
-        (λ (better : HasBetterOutput o n i j). absurd (omega arith))
-        (λ (better : HasBetterInput o n i j). absurd (omega arith))
-        (stable.settled i j first.offered ne))
-        (is_partner (partner_of n i) j)
+    together n stable = grind (arith, common_steps, stable.settled, is_partner)
 
     other_output : (l : ℕ) → l ≢ j → IsOffered o i l → HasBetterOutput o m i l
-    other_output l ne h =
-        let mine : partner_place o m i ≡ 0 = ap (depth (outputs_of o i)) only.pair ∙ first.place in
-        ⊎_elim (λ lt. (let P : partner_place o m i < place_of o i l = omega arith in P))
-        (λ ge. absurd (ne (sym (same_at_place (outputs_of o i) j l (omega arith) first.offered))))
-        (cases_lt 0 (place_of o i l))
+    other_output l ne h = grind (arith, common_steps, same_at_place, cases_lt)
 
     other_input : (k : ℕ) → k ≢ i → IsOffered o k j → HasBetterInput o m k j
-    other_input k ne h = (
-      i,
-      only.pair,
-      ⊎_elim (λ lt. (let P : position_of o j i < position_of o j k = omega arith in P))
-          (λ ge. absurd (ne (same_at_place (inputs_of o j) k i (omega arith) (first.shown k h))))
-          (cases_lt 0 (position_of o j k)),
-    )
+    other_input k ne h = grind (arith, common_steps, same_at_place, cases_lt)
 
     pair_stable : IsStable o m
-    pair_stable =
-        record {
-          matching = record {
-            size = size;
-            offered =
-                λ k l e. let is = is_pair k l e in
-                subst (λ a. IsOffered o a l) (sym is.0) (subst (IsOffered o i) (sym is.1) first.offered);
-            once = λ k a l e f. (is_pair k l e).0 ∙ sym (is_pair a l f).0;
-          };
-          settled = λ k l h ne.
-              ⊎_elim
-              (λ is. inl (subst (λ a. HasBetterOutput o m a l) (sym is) (other_output l
-              (λ same. ne (ap (partner_of m) is ∙ only.pair ∙ ap Some (sym same)))
-              (subst (λ a. IsOffered o a l) is h))))
-              (λ other.
-              let same = first.others k l other h in
-              inr (subst (HasBetterInput o m k) (sym same) (other_input k other (subst (IsOffered o k) same h))))
-              (cases_eq k i);
-        }
+    pair_stable = search (rules, is_pair, other_output, other_input, cases_eq)
 
     no_later : (n : Partners) → IsStable o n → (k : ℕ) → k ≢ i → (p : Option ℕ) → partner_of n k ≡ p →
         length (outputs_of o k) ≤ depth (outputs_of o k) p
     no_later n stable k other None e = omega arith
-    no_later n stable k other (Some l) e =
-        let same = first.others k l other (stable.matching.offered k l e) in
-        absurd (other (stable.matching.once k i j (e ∙ ap Some same) (together n stable)))
+    no_later n stable k other (Some l) e = search (rules, stable.matching.offered, stable.matching.once, together)
 
     pub pair_best : IsInputBest o m
-    pair_best =
-        record {
-          stable = pair_stable;
-          best = λ n stable k.
-              ⊎_elim
-              (λ is. let mine : partner_place o m k
-              ≡ 0 = ap (partner_place o m) is ∙ ap (depth (outputs_of o i)) only.pair ∙ first.place in
-              omega arith)
-              (λ other.
-              let mine : partner_place o m k ≡ length (outputs_of o k) =
-              ap (depth (outputs_of o k)) (only.others k other) in
-              let bound = no_later n stable k other (partner_of n k) refl in omega arith)
-              (cases_eq k i);
-        }
+    pair_best = search (rules, pair_stable, no_later, cases_eq)
 
   pub pair_moves : (c : Queued) (lists buffers : List (List Queued)) → first_for j (list_of lists i) ≡ Some c →
       i < length lists → j < length buffers →
       Moves m lists buffers (set lists i (without_first j (list_of lists i)))
       (set buffers j (put c (list_of buffers j)))
-  pair_moves c lists buffers front inside inside' =
-      let taken = without_first j (list_of lists i) in
-      let given = put c (list_of buffers j) in
-      record {
-        ports = (length-set lists i taken, length-set buffers j given);
-        taken = λ k.
-            ⊎_elim
-            (λ is. subst (λ a. list_of (set lists i taken) a ≡ list_taken (partner_of m a) (list_of lists a)) (sym is)
-            (get_or-set_same lists i taken [] inside
-            ∙ ap (λ p. list_taken p (list_of lists i)) (sym only.pair)))
-            (λ other. get_or-set_other lists i k taken [] other
-            ∙ ap (λ p. list_taken p (list_of lists k)) (sym (only.others k other)))
-            (cases_eq k i);
-        given = λ k l d e f.
-            let is = is_pair k l e in
-            let here : first_for j (list_of lists i) ≡ Some d =
-            ap (λ a. first_for a (list_of lists i)) (sym is.1)
-            ∙ ap (λ a. first_for l (list_of lists a)) (sym is.0) ∙ f in
-            let same : c ≡ d = same_Some c d (sym front ∙ here) in
-            subst (λ a. list_of (set buffers j given) a ≡ put d (list_of buffers a)) (sym is.1)
-            (get_or-set_same buffers j given [] inside' ∙ ap (λ x. put x (list_of buffers j)) same);
-        kept = λ l free. get_or-set_other buffers j l given [] (λ e. free i (only.pair ∙ ap Some (sym e)));
-      }
+  pair_moves c lists buffers front inside inside' = grind (arith, common_steps)
 
 -- the matching of nobody, with one pair
 pub only_pair : (n i j : ℕ) → i < n → IsOnlyPair (with_pair (replicate n None) i j) i j
-only_pair n i j h =
-    let none : Option ℕ = None in
-    let nobody = replicate n none in
-    record {
-      pair = get_or-set_same nobody i (Some j) None (let size = length-replicate n none in omega arith);
-      others = λ k ne. get_or-set_other nobody i k (Some j) None ne ∙ none_at n k;
-    }
+only_pair n i j h = grind (arith, common_steps, get_or-set_same, length-replicate, get_or-set_other, none_at)
 
 -- ## Tests that tell so, of offers that are written down
 
@@ -172,16 +92,13 @@ are_first o i j =
 
 only_listed : (j l : ℕ) (order : List ℕ) → has_only j order ≡ true → IsListed order l → l ≡ j
 only_listed j l [] only h = absurd (among [] l h)
-only_listed j l (x ∷ []) only h =
-    ⊎_elim (λ is. grind arith) (λ no. absurd no) (among (x ∷ []) l h)
+only_listed j l (x ∷ []) only h = grind (arith, common_steps, among (x ∷ []) l h)
 only_listed j l (x ∷ y ∷ order) only h = absurd (let P : ⊥ = cc in P)
 
 module _ (o : Orders) (i j : ℕ) where
   each_waits : (n : ℕ) → all_wait o i j n ≡ true → (k : ℕ) → k < n → waits o i j k ≡ true
   each_waits zero all k h = absurd (omega arith)
-  each_waits (suc n) all k h =
-      let both = and_parts (waits o i j n) (all_wait o i j n) all in
-      ⊎_elim (λ is. ap (waits o i j) is ∙ both.0) (λ ne. each_waits n both.1 k (omega arith)) (cases_eq k n)
+  each_waits (suc n) all k h = search (rules, and_parts, cases_eq, each_waits n)
 
   either : (a b : Bool) → (a || b) ≡ true → a ≡ false → b ≡ true
   either true b e other = absurd (let P : ⊥ = cc in P)

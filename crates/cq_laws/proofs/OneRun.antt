@@ -2,16 +2,16 @@
 -- after they arrived. The offers of a state have one input-best matching, and a transfer says what each list and each
 -- buffer is after it, as does a departure. So each state of a slot is one, and by induction the states and records of
 -- a run.
-use Rattle.std.proofs.Common.{◌≡◌, ℕ, zero, suc, List, [], ◌∷◌, length, Option, Some, Result, Ok, Err, refl, sym, ap, ◌∙◌, subst, ⊎_elim}
+use Rattle.std.proofs.lemmas.Grind.{common_steps}
+use Rattle.std.proofs.Common.{arith, rules, ◌≡◌, ℕ, zero, suc, List, [], ◌∷◌, length, Option, Some, Result, Ok, Err, refl, sym, ◌∙◌, ⊎_elim}
 use Rattle.std.proofs.lemmas.List.{ext_get_or}
 use Rattle.cq_base.specs.declared.cell.Cell.{Cell}
 use Rattle.cq_base.specs.declared.cell.Queued.{Queued}
 use Rattle.cq_base.specs.declared.cell.TagFault.{TagFault}
 use Rattle.cq_rank.specs.Machine.{Machine}
-use Rattle.cq_ideal.specs.Admission.{Admission, Marked}
+use Rattle.cq_ideal.specs.Admission.{Marked}
 use Rattle.cq_ideal.specs.Ranking.{Ranking, ranking}
-use Rattle.cq_ideal.specs.IdealSlot.{fronts, rests, all_told}
-use Rattle.cq_prefs.specs.Orders.{outputs_of, IsListed}
+use Rattle.cq_prefs.specs.Orders.{outputs_of}
 use Rattle.cq_prefs.specs.Pairing.{Partners, partner_of, IsStable, IsInputBest}
 use Rattle.cq_prefs.specs.FirstCells.{HasCellFor, list_of, orders_of, output_order}
 use Rattle.cq_prefs.proofs.OutputOrder.{is_output_order}
@@ -39,17 +39,7 @@ one_result a b x e f = let ok : ◌≡◌ {A = Result Ranking TagFault} (Ok a) (
 
 pub one_arrival : (ms : List Machine) (slot : ℕ) (cells : List (Option Cell)) (c d : List (Option Queued))
     (old a b : Fabric) → Arrives ms slot cells c old a → Arrives ms slot cells d old b → (c ≡ d) × (a ≡ b)
-one_arrival ms slot cells c d old a b x y =
-    let ranked : ◌≡◌ {A = Ranking} (record { came = c; ranks = a.ranks }) (record { came = d; ranks = b.ranks }) =
-    one_result _ _ _ x.ranked y.ranked in
-    let came : c ≡ d = ap (λ (q : Ranking). q.came) ranked in
-    let y' : Arrives ms slot cells c old b =
-    subst (λ (q : List (Option Queued)). Arrives ms slot cells q old b) (sym came) y in (
-      came,
-      same_fabric a b
-          (same_lists_at a.inputs b.inputs (x.ports ∙ sym y'.ports) (λ i. x.lists i ∙ sym (y'.lists i)))
-          (x.buffers ∙ sym y'.buffers) (ap (λ (q : Ranking). q.ranks) ranked),
-    )
+one_arrival ms slot cells c d old a b x y = search (rules, one_result, same_fabric, same_lists_at, x.lists)
 
 pub outputs_at : (lists : List (List Queued)) (i : ℕ) → outputs_of (orders_of lists) i ≡ output_order (list_of lists i)
 outputs_at [] i = refl
@@ -60,60 +50,34 @@ outputs_at (xs ∷ lists) (suc i) = outputs_at lists i
 offer_of : (old : Fabric) (m : Partners) → IsStable (orders_of old.inputs) m → (i j : ℕ) → partner_of m i ≡ Some j →
     HasCellFor (input old i) j
 offer_of old m stable i j e =
-    ((is_output_order (input old i)).offered j).0 (subst (λ l. IsListed l j) (outputs_at old.inputs i)
-    (stable.matching.offered i j e))
+    search (arith, rules, is_output_order (input old i), outputs_at old.inputs i, stable.matching.offered i j e)
 
 pub one_transfer : (m : Partners) (old a b : Fabric) → IsStable (orders_of old.inputs) m → Transfers m old a →
     Transfers m old b → a ≡ b
-one_transfer m old a b stable x y =
-    same_fabric a b
-    (same_lists_at a.inputs b.inputs (x.moves.ports.0 ∙ sym y.moves.ports.0)
-    (λ i. x.moves.taken i ∙ sym (y.moves.taken i)))
-    (same_lists_at a.buffers b.buffers (x.moves.ports.1 ∙ sym y.moves.ports.1) (λ j.
-    ⊎_elim
-    (λ r. let f = offer_of old m stable r.0 j r.1 in
+one_transfer m old a b stable x y = same_fabric a b (same_lists_at a.inputs b.inputs
+    (x.moves.ports.0 ∙ sym y.moves.ports.0) (λ i. x.moves.taken i ∙ sym (y.moves.taken i))) (same_lists_at a.buffers
+    b.buffers (x.moves.ports.1 ∙ sym y.moves.ports.1) (λ j. ⊎_elim (λ r.
+    let f = offer_of old m stable r.0 j r.1 in
     x.moves.given r.0 j f.0 r.1 f.1 ∙ sym (y.moves.given r.0 j f.0 r.1 f.1))
-    (λ none. x.moves.kept j none ∙ sym (y.moves.kept j none))
-    (sender m j)))
-    (x.ranks ∙ sym y.ranks)
+    (λ none. x.moves.kept j none ∙ sym (y.moves.kept j none)) (sender m j))) (x.ranks ∙ sym y.ranks)
 
 one_choice : (a b : Fabric) (m n : Partners) → a ≡ b → IsInputBest (orders_of a.inputs) m →
     IsInputBest (orders_of b.inputs) n → m ≡ n
-one_choice a b m n e x y =
-    one_input_best (orders_of a.inputs) m n x (subst (λ (f : Fabric). IsInputBest (orders_of f.inputs) n) (sym e) y)
+one_choice a b m n e x y = grind (arith, common_steps, one_input_best (orders_of a.inputs) m n x)
 
 one_move : (m n : Partners) (a b c d : Fabric) → a ≡ b → m ≡ n → IsStable (orders_of a.inputs) m → Transfers m a c →
     Transfers n b d → c ≡ d
-one_move m n a b c d e f stable x y =
-    one_transfer m a c d stable x (subst (λ (q : Partners). Transfers q a d) (sym f)
-    (subst (λ (g : Fabric). Transfers n g d) (sym e) y))
+one_move m n a b c d e f stable x y = grind (arith, common_steps, one_transfer)
 
 pub one_departure : (ms : List Machine) (u v : List (Option Queued)) (a b c d : Fabric) → a ≡ b → Departs ms u a c →
     Departs ms v b d → (u ≡ v) × (c ≡ d)
-one_departure ms u v a b c d e x y =
-    let gone : u ≡ v = x.sent ∙ ap (λ (q : Fabric). fronts q.buffers) e ∙ sym y.sent in (
-      gone,
-      same_fabric c d
-          (x.inputs ∙ ap (λ (q : Fabric). q.inputs) e ∙ sym y.inputs)
-          (x.buffers ∙ ap (λ (q : Fabric). rests q.buffers) e ∙ sym y.buffers)
-          (x.ranks ∙ ap (λ q. all_told ms q a.ranks) gone ∙ ap (λ (q : Fabric). all_told ms v q.ranks) e ∙ sym y.ranks),
-    )
+one_departure ms u v a b c d e x y = grind (arith, common_steps, same_fabric)
 
 -- ## One slot
 
 pub same_record : (a b : SlotRecord) → a.slot ≡ b.slot → a.came ≡ b.came → a.arrived ≡ b.arrived → a.first ≡ b.first →
     a.filled ≡ b.filled → a.gone ≡ b.gone → a.sent ≡ b.sent → a.second ≡ b.second → a ≡ b
-same_record a b e1 e2 e3 e4 e5 e6 e7 e8 =
-    λ k. record {
-      slot = e1 k;
-      came = e2 k;
-      arrived = e3 k;
-      first = e4 k;
-      filled = e5 k;
-      gone = e6 k;
-      sent = e7 k;
-      second = e8 k;
-    }
+same_record a b e1 e2 e3 e4 e5 e6 e7 e8 = grind (arith, common_steps)
 
 pub one_slot : (ms : List Machine) (slot : ℕ) (cells : List (Option Cell)) (f g g' : Fabric) (r r' : SlotRecord) →
     FabricSlot IsInputBest ms slot cells f r g → FabricSlot IsInputBest ms slot cells f r' g' → (r ≡ r') × (g ≡ g')
@@ -162,13 +126,7 @@ module _ (ms : List Machine) where
         LimitedFabricSlot IsInputBest limits ms slot cells f r g →
         LimitedFabricSlot IsInputBest limits ms slot cells f s h → (r ≡ s) × (g ≡ h)
     one_limited_slot slot cells f g h r s x y =
-        let admission = x.admits ∙ sym y.admits in
-        let y' : FabricSlot IsInputBest ms slot r.admission.cells f.state s.of_slot h.state =
-        subst (λ (a : Admission). FabricSlot IsInputBest ms slot a.cells f.state s.of_slot h.state)
-        (sym admission) y.runs in
-        let one = one_slot ms slot r.admission.cells f.state g.state h.state r.of_slot s.of_slot x.runs y' in
-        let marks = x.marks ∙ ap (λ (a : Admission). a.marks) admission ∙ sym y.marks in
-        (λ k. record { admission = admission k; of_slot = one.0 k }, λ k. record { state = one.1 k; marks = marks k })
+        search (arith, rules, one_slot ms slot r.admission.cells f.state g.state h.state r.of_slot s.of_slot x.runs)
 
     pub only_limited_run : IsOneRun (LimitedFabricSlot IsInputBest limits ms) (IsLimitedFault limits ms)
     only_limited_run =
@@ -176,7 +134,5 @@ module _ (ms : List Machine) where
         (record {
           slot = one_limited_slot;
           fault = λ slot cells f u v x y. no_choice.fault slot (fabric_admission limits cells f).cells f.state u v x y;
-          never_both =
-              λ slot cells f g r u x y. no_choice.never_both slot r.admission.cells f.state g.state r.of_slot u x.runs
-              (subst (λ (a : Admission). IsFault ms slot a.cells f.state u) (sym x.admits) y);
+          never_both = search (arith, rules);
         })

@@ -2,6 +2,7 @@
 -- after the arrivals, 1 after the first transfer, 0 after the departures, and 1 again after the second transfer.
 -- After the first transfer each cell that still waits at an input has slack 1, so it comes after a cell that its
 -- output has: the ideal list covers the buffer, both send the same cell, and the states agree again.
+use Rattle.std.proofs.lemmas.Grind.{common_steps}
 use Rattle.std.proofs.Common.{◌≡◌, ℕ, ◌+◌, ◌<◌, ◌↔◌, List, length, Option, Some, Result, Ok, Err, sym, ap, ◌∙◌, subst, inl, inr, ⊎_elim, arith, drop}
 use Rattle.cq_base.specs.declared.cell.Cell.{Cell}
 use Rattle.cq_base.specs.declared.key.Key.{Key}
@@ -41,10 +42,7 @@ pub same_fault : (ms : List Machine) (slot : ℕ) (cells : List (Option Cell)) (
     (fault : TagFault) → Agrees slot f ideal →
     (ideal_slot ms slot cells ideal ≡ Err fault) ↔ (ranking ms slot 0 cells f.ranks ≡ Err fault)
 unfolding ideal_slot
-same_fault ms slot cells f ideal fault agrees =
-    subst (λ ranks. (ideal_sends ms ideal (ranking ms slot 0 cells ideal.ranks) ≡ Err fault)
-    ↔ (ranking ms slot 0 cells ranks ≡ Err fault)) (sym agrees.ranks)
-    (sends_fault ms ideal (ranking ms slot 0 cells ideal.ranks) fault)
+same_fault ms slot cells f ideal fault agrees = grind (arith, common_steps, sends_fault)
 
 -- ## The same departures
 
@@ -56,26 +54,16 @@ WaitsFor f j c = (i : ℕ) × IsAmong c (input f i) × (c.cell.output ≡ j)
 behind_one : (f : Fabric) → HasSlack 1 f → (j : ℕ) (c : Queued) → WaitsFor f j c →
     (d : Queued) × IsAmong d (buffer f j) × IsBefore d c
 behind_one f slack j c w =
-    let at = at_among (input f w.0) c w.1 in
-    let more = slack w.0 at.0 c at.1 in
-    let d = cushion_has c.key (buffer f c.cell.output) (omega arith) in
-    (d.0, subst (λ n. IsAmong d.0 (buffer f n)) w.2 d.1, d.2)
+    grind (arith, common_steps, at_among (input f w.0) c w.1, cushion_has c.key (buffer f c.cell.output))
 
 pub sound_from : (slot : ℕ) (f : Fabric) (ideal : IdealState) → Agrees slot f ideal → Sound slot f
-sound_from slot f ideal agrees =
-    record {
-      fabric = agrees.fabric;
-      order = agrees.order;
-      apart = apart_from f agrees.differ;
-      early = early_from slot f agrees.earlier;
-    }
+sound_from slot f ideal agrees = grind (arith, common_steps, apart_from, early_from)
 
 module _ (ms : List Machine) (slot class_count : ℕ) (cells : List (Option Cell)) (f f' : Fabric) (ideal : IdealState)
     (r : SlotRecord) (agrees : Agrees slot f ideal) (come : AreForPorts (length f.inputs) class_count cells)
     (step : FabricSlot IsStable ms slot cells f r f') where
   pub keyed : Keyed slot (length f.inputs) r.came
-  keyed =
-      keyed_from ms slot (length f.inputs) class_count cells f.ranks
+  keyed = keyed_from ms slot (length f.inputs) class_count cells f.ranks
       (record { came = r.came; ranks = r.arrived.ranks }) step.arrive.ranked come
 
   pub old_sound : Sound slot f
@@ -129,8 +117,7 @@ module _ (ms : List Machine) (slot class_count : ℕ) (cells : List (Option Cell
   full_back : (j : ℕ) (c : Queued) → HasFor r.filled j c → IsAmong c (full j)
   full_back j c h =
       let before = moved_has (slot + 1) r.arrived r.filled r.first arrived step.first_chosen step.fill j c h in
-      subst (IsAmong c) (sym (full_is j))
-      (⊎_elim
+      subst (IsAmong c) (sym (full_is j)) (⊎_elim
       (λ was. put_all_keeps j r.came (list_of ideal.lists j) c ((agrees.same j c).1 was))
       (λ new. put_all_new j r.came (list_of ideal.lists j) c new.0 new.1 new.2)
       (arrived_has ms slot cells r.came f r.arrived step.arrive keyed old_sound agrees.slack j c before))
@@ -178,10 +165,7 @@ module _ (ms : List Machine) (slot class_count : ℕ) (cells : List (Option Cell
 
   ideal_sends_same : ideal_slot ms slot cells ideal ≡ Ok (record { gone = r.gone; after = after })
   unfolding after lists ideal_slot
-  ideal_sends_same =
-      ap (λ ranks. ideal_sends ms ideal (ranking ms slot 0 cells ranks)) (sym agrees.ranks)
-      ∙ ap (ideal_sends ms ideal) step.arrive.ranked
-      ∙ ap (λ (gone : List (Option Queued)). Ok (record { gone = gone; after = after })) same_gone
+  ideal_sends_same = grind (arith, common_steps, after, same_gone)
 
   rest_is : (j : ℕ) → list_of after.lists j ≡ drop 1 (full j)
   unfolding after full
@@ -197,22 +181,18 @@ module _ (ms : List Machine) (slot class_count : ℕ) (cells : List (Option Cell
   left_is j = sent_buffer ms r.gone (slot + 1) r.filled r.sent step.depart j
 
   after_to : (j : ℕ) (c : Queued) → IsAmong c (list_of after.lists j) → HasFor f' j c
-  after_to j c h =
-      has_moved (slot + 1) r.sent f' r.second after_sent step.second_chosen step.finish j c
+  after_to j c h = has_moved (slot + 1) r.sent f' r.second after_sent step.second_chosen step.finish j c
       (⊎_elim (λ w. inl (sent_waits j c w)) (λ b. inr (subst (IsAmong c) (sym (left_is j)) b))
       (rest_to (WaitsFor r.filled j) (full j) (buffer r.filled j) (covers j) c (subst (IsAmong c) (rest_is j) h)))
 
   after_back : (j : ℕ) (c : Queued) → HasFor f' j c → IsAmong c (list_of after.lists j)
-  after_back j c h =
-      subst (IsAmong c) (sym (rest_is j)) (rest_back (WaitsFor r.filled j) (full j) (buffer r.filled j) (covers j) c
-      (⊎_elim (λ w. inl (waits_sent j c w)) (λ b. inr (subst (IsAmong c) (left_is j) b))
+  after_back j c h = subst (IsAmong c) (sym (rest_is j)) (rest_back (WaitsFor r.filled j) (full j) (buffer r.filled j)
+      (covers j) c (⊎_elim (λ w. inl (waits_sent j c w)) (λ b. inr (subst (IsAmong c) (left_is j) b))
       (moved_has (slot + 1) r.sent f' r.second after_sent step.second_chosen step.finish j c h)))
 
   ranks_agree : f'.ranks ≡ after.ranks
   unfolding after
-  ranks_agree =
-      step.finish.ranks ∙ step.depart.ranks ∙ ap (all_told ms r.gone) step.fill.ranks
-      ∙ ap (λ gone. all_told ms gone r.arrived.ranks) (sym same_gone)
+  ranks_agree = grind (arith, common_steps, same_gone)
 
   still_agrees : Agrees (slot + 1) f' after
   unfolding after

@@ -1,6 +1,7 @@
 -- A run in parts: its first slots are a run, and where that ended the others go on. So a run over many slots passes
 -- through the end of each shorter one, and two whole runs of which each slot leaves no choice are one.
-use Rattle.std.proofs.Common.{◌≡◌, ℕ, suc, ◌+◌, ◌-◌, ◌<◌, ◌≤◌, List, [], ◌∷◌, ◌++◌, length, take, drop, Option, refl, sym, ap, subst, ⊎_elim, arith}
+use Rattle.std.proofs.lemmas.Grind.{common_steps}
+use Rattle.std.proofs.Common.{rules, ◌≡◌, ℕ, suc, ◌+◌, ◌-◌, ◌<◌, ◌≤◌, List, [], ◌∷◌, ◌++◌, length, drop, Option, refl, sym, ap, subst, ⊎_elim, arith}
 use Rattle.std.specs.List.{AllByRecursion}
 use Rattle.std.proofs.lemmas.Bool.{cases_lt}
 use Rattle.std.proofs.lemmas.List.{take_all}
@@ -17,8 +18,7 @@ all_first P (x ∷ xs) ys all = (all.0, all_first P xs ys all.1)
 
 pub fewer_fit : (P : List (Option Cell) → Type 0) (came : List Arrival) (m n : ℕ) → m ≤ n →
     AllByRecursion P (first_slots came n) → AllByRecursion P (first_slots came m)
-fewer_fit P came m n le all =
-    all_first P (first_slots came m) (arriving_from came m (n - m))
+fewer_fit P came m n le all = all_first P (first_slots came m) (arriving_from came m (n - m))
     (subst (AllByRecursion P) (sym (arriving_parts came 0 m m (n - m) n (omega arith) (omega arith))) all)
 
 module _ {S R : Type 0} (Step : ℕ → List (Option Cell) → S → R → S → Type 0) where
@@ -31,18 +31,9 @@ module _ {S R : Type 0} (Step : ℕ → List (Option Cell) → S → R → S →
 
   pub parts : (slot : ℕ) (before after : List (List (Option Cell))) (f h : S) (rs : List R) →
       RunBy Step slot (before ++ after) f rs h → HasParts Step slot before after f rs h
-  parts slot [] after f h rs x =
-      let here : slot ≡ slot + 0 = omega arith in
-      record { middle = f; first = refl; second = subst (λ n. RunBy Step n after f rs h) here x }
+  parts slot [] after f h rs x = grind (arith, common_steps)
   parts slot (cells ∷ before) after f h [] x = absurd x
-  parts slot (cells ∷ before) after f h (r ∷ rs) x =
-      let p = parts (slot + 1) before after x.0 h rs x.2 in
-      let here : slot + 1 + length before ≡ slot + length (cells ∷ before) = omega arith in
-      record {
-        middle = p.middle;
-        first = (x.0, x.1, p.first);
-        second = subst (λ n. RunBy Step n after p.middle (drop (length before) rs) h) here p.second;
-      }
+  parts slot (cells ∷ before) after f h (r ∷ rs) x = search (rules, parts (slot + 1) before after x.0 h rs x.2)
 
   module _ (came : List Arrival) (start : S) (rs : List R) where
     -- where the run is after fewer slots, and how it goes on
@@ -52,25 +43,17 @@ module _ {S R : Type 0} (Step : ℕ → List (Option Cell) → S → R → S →
       pub rest : RunBy Step m (arriving_from came m (n - m)) state (drop m rs) end
 
     pub reach : (m n : ℕ) (end : S) → m ≤ n → RunBy Step 0 (first_slots came n) start rs end → Reach m n end
-    reach m n end le run =
-        let cut = arriving_parts came 0 m m (n - m) n (omega arith) (omega arith) in
-        let long = arriving_length came 0 m in
-        let at : 0 + length (first_slots came m) ≡ m = omega arith in
-        let p = parts 0 (first_slots came m) (arriving_from came m (n - m)) start end rs (subst (λ l.
-        RunBy Step 0 l start rs end) (sym cut) run) in
-        record {
-          state = p.middle;
-          after = subst (λ k. RunBy Step 0 (first_slots came m) start (take k rs) p.middle) long p.first;
-          rest = subst (λ k. RunBy Step m (arriving_from came m (n - m)) p.middle (drop k rs) end) long (subst (λ k.
-              RunBy Step k (arriving_from came m (n - m)) p.middle
-              (drop (length (first_slots came m)) rs) end) at p.second);
-        }
+    reach m n end le run = grind (
+      arith,
+      common_steps,
+      arriving_parts came 0 m m (n - m) n,
+      arriving_length came 0 m,
+      parts 0 (first_slots came m) (arriving_from came m (n - m)) start end rs,
+    )
 
     pub run_of_whole : (IsEmpty : S → Type 0) (end : S) → WholeBy Step IsEmpty came start rs end →
         RunBy Step 0 (first_slots came (length rs)) start rs end
-    run_of_whole IsEmpty end w =
-        subst (λ l. RunBy Step 0 (first_slots came (length rs)) start l end)
-        (take_all (length rs) rs (omega arith)) w.after
+    run_of_whole IsEmpty end w = grind (arith, common_steps, take_all)
 
   -- ## One whole run
 
@@ -79,22 +62,11 @@ module _ {S R : Type 0} (Step : ℕ → List (Option Cell) → S → R → S →
       Type 0) (came : List Arrival) (start : S) where
     no_longer : (rs ss : List R) (g h : S) → WholeBy Step IsEmpty came start rs g →
         WholeBy Step IsEmpty came start ss h → length rs ≤ length ss
-    no_longer rs ss g h w v =
-        ⊎_elim
-        (λ (lt : length ss < length rs).
+    no_longer rs ss g h w v = ⊎_elim (λ (lt : length ss < length rs).
         let r = reach came start rs (length ss) (length rs) g (omega arith)
         (run_of_whole came start rs IsEmpty g w) in
-        let same = one 0 (first_slots came (length ss)) start r.state h (take (length ss) rs) ss r.after
-        (run_of_whole came start ss IsEmpty h v) in
-        w.first (length ss) r.state r.after v.all_came (subst IsEmpty (sym same.1) v.empty))
-        (λ ge. ge)
-        (cases_lt (length ss) (length rs))
+        search (arith, rules, run_of_whole, w.first)) (λ ge. ge) (cases_lt (length ss) (length rs))
 
     pub one_whole : (rs ss : List R) (g h : S) → WholeBy Step IsEmpty came start rs g →
         WholeBy Step IsEmpty came start ss h → (rs ≡ ss) × (g ≡ h)
-    one_whole rs ss g h w v =
-        let le = no_longer rs ss g h w v in
-        let ge = no_longer ss rs h g v w in
-        let same : length ss ≡ length rs = omega arith in
-        one 0 (first_slots came (length rs)) start g h rs ss (run_of_whole came start rs IsEmpty g w)
-        (subst (λ n. RunBy Step 0 (first_slots came n) start ss h) same (run_of_whole came start ss IsEmpty h v))
+    one_whole rs ss g h w v = grind (arith, common_steps, no_longer, run_of_whole)

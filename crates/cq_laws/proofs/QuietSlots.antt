@@ -1,9 +1,9 @@
 -- Where no cell waits and none comes, nothing is offered: the matching of nobody is the only one, nothing moves, and
 -- no figure changes. Only the rank machines are told that their outputs were idle.
-use Rattle.std.proofs.Common.{◌≡◌, ℕ, zero, suc, ◌+◌, ◌-◌, ◌<◌, false, cond, List, [], ◌∷◌, ◌++◌, length, map, Option, Some, None, refl, sym, ap, ◌∙◌, subst, arith}
-use Rattle.std.specs.Prelude.{All, max, min, is_some, slice_index_or, filter_map, replicate, sum, fold}
-use Rattle.std.specs.List.{range_with_len, enumerate_from, list_any, reduce, cons_option}
-use Rattle.std.specs.Option.{option_map}
+use Rattle.std.proofs.lemmas.Grind.{common_steps}
+use Rattle.std.proofs.Common.{rules, ◌≡◌, ℕ, zero, suc, ◌+◌, ◌-◌, ◌<◌, false, cond, List, [], ◌∷◌, length, map, Option, Some, None, refl, sym, ap, ◌∙◌, subst, arith}
+use Rattle.std.specs.Prelude.{All, max, min, is_some, filter_map, replicate, fold, sum}
+use Rattle.std.specs.List.{enumerate_from, list_any, reduce, cons_option}
 use Rattle.std.proofs.lemmas.List.{length-map, length-replicate, ext_get_or}
 use Rattle.std.proofs.lemmas.List.Folds.{sum_by-replicate}
 use Rattle.cq_base.specs.declared.cell.Queued.{Queued}
@@ -16,11 +16,11 @@ use Rattle.cq_ideal.specs.IdealSlot.{departures_from, departures_in}
 use Rattle.cq_ideal.specs.IdealRun.{departures_of}
 use Rattle.cq_ideal.proofs.Resting.{nobody_sends, none_at, nothing_left, ranked_none}
 use Rattle.cq_prefs.specs.Orders.{Orders, ports, outputs_of, place_in, IsOffered}
-use Rattle.cq_prefs.specs.Pairing.{Partners, partner_of, depth, partner_place, spent, proposals, IsStable, IsInputBest}
+use Rattle.cq_prefs.specs.Pairing.{partner_of, spent, proposals, IsStable, IsInputBest}
 use Rattle.cq_prefs.specs.FirstCells.{list_of, orders_of, output_order}
-use Rattle.cq_prefs.specs.Moves.{list_taken, noted, transfers_of}
-use Rattle.cq_laws.specs.Fabric.{Fabric, input, cushion_of, empty_fabric, IsEmptyFabric}
-use Rattle.cq_laws.specs.Phases.{came_to, list_arrived, Transfers}
+use Rattle.cq_prefs.specs.Moves.{transfers_of}
+use Rattle.cq_laws.specs.Fabric.{Fabric, empty_fabric, IsEmptyFabric}
+use Rattle.cq_laws.specs.Phases.{came_to, Transfers}
 use Rattle.cq_laws.specs.FabricSlot.{FabricSlot}
 use Rattle.cq_laws.specs.FabricRun.{FabricRun}
 use Rattle.cq_laws.specs.Records.{gone_in, transfers_in, transfers_of_run}
@@ -45,27 +45,10 @@ module _ (n : ℕ) where
 
   nobody_is_stable : IsStable o (replicate n None)
   unfolding o
-  nobody_is_stable =
-      let none : Option ℕ = None in
-      let empty : List Queued = [] in
-      record {
-        matching = record {
-          size = length-replicate n none ∙ sym (length-map (replicate n empty) output_order ∙ length-replicate n empty);
-          offered = λ i j e. let no : None ≡ Some j = sym (none_at n i) ∙ e in cc;
-          once = λ i k j e f. let no : None ≡ Some j = sym (none_at n i) ∙ e in cc;
-        };
-        settled = λ i j h ne. absurd (no_offer i j h);
-      }
+  nobody_is_stable = grind (arith, common_steps, length-replicate, length-map, none_at, no_offer)
 
   nobody_is_best : IsInputBest o (replicate n None)
-  nobody_is_best =
-      record {
-        stable = nobody_is_stable;
-        best = λ m stable i.
-            let place : partner_place o (replicate n None) i ≡ 0 =
-            ap (depth (outputs_of o i)) (none_at n i) ∙ ap length (no_outputs i) in
-            omega arith;
-      }
+  nobody_is_best = grind (arith, common_steps, nobody_is_stable, o, none_at, no_outputs)
 
   nothing_spent : (i : ℕ) → spent (outputs_of o i) (partner_of (replicate n None) i) ≡ 0
   nothing_spent i = ap (spent (outputs_of o i)) (none_at n i) ∙ ap length (no_outputs i)
@@ -74,25 +57,14 @@ module _ (n : ℕ) where
   unfolding o
   none_proposed =
       let count = ports o in
-      let zeros = sum_by-replicate (λ (x : ℕ). x) count 0 in
-      ap sum (map-constant (λ i. spent (outputs_of o i) (partner_of (replicate n None) i)) 0 nothing_spent 0 count)
-      ∙ zeros ∙ omega arith
+      let zeros = sum_by-replicate (λ (x : ℕ). x) count 0 in search (arith, rules, map-constant, nothing_spent)
 
 pub nobody_best : (n : ℕ) → IsInputBest (orders_of (replicate n [])) (replicate n None)
 unfolding o
 nobody_best n = nobody_is_best n
 
 pub nothing_moves : (n : ℕ) (f : Fabric) → Transfers (replicate n None) f f
-nothing_moves n f =
-    record {
-      moves = record {
-        ports = (refl, refl);
-        taken = λ i. ap (λ p. list_taken p (input f i)) (sym (none_at n i));
-        given = λ i j c e g. let no : None ≡ Some j = sym (none_at n i) ∙ e in cc;
-        kept = λ j free. refl;
-      };
-      ranks = refl;
-    }
+nothing_moves n f = grind (arith, common_steps, none_at)
 
 -- ## The slot, and slots on end
 
@@ -103,12 +75,7 @@ unfolding quiet_slot idled
 quiet ms slot n ranks =
     record {
       numbered = refl;
-      arrive = record {
-        ranked = ranked_none ms slot 0 64 ranks;
-        ports = refl;
-        lists = λ i. ap (λ q. list_arrived (empty_fabric n ranks) q (list_of (replicate n []) i)) (sym (none_at 64 i));
-        buffers = refl;
-      };
+      arrive = search (arith, rules, ranked_none, none_at);
       first_chosen = nobody_best n;
       fill = nothing_moves n (empty_fabric n ranks);
       depart = record { sent = nobody_sends n; buffers = nothing_left n; inputs = refl; ranks = refl };
@@ -120,8 +87,7 @@ pub quiet_run : (ms : List Machine) (count slot n : ℕ) (ranks : List (List ℕ
     FabricRun IsInputBest ms slot (replicate count no_arrivals) (empty_fabric n ranks)
     (quiet_slots ms count slot n ranks) (empty_fabric n (idled_for ms count n ranks))
 quiet_run ms zero slot n ranks = refl
-quiet_run ms (suc count) slot n ranks =
-    (empty_fabric n (idled ms n ranks), quiet ms slot n ranks, quiet_run ms count (slot + 1) n (idled ms n ranks))
+quiet_run ms (suc count) slot n ranks = search (rules, quiet, quiet_run ms count (slot + 1) n (idled ms n ranks))
 
 -- ## Nothing crosses, and no figure changes
 
@@ -131,16 +97,12 @@ filter_map-none h none (x ∷ xs) = ap (λ e. cons_option e (filter_map h xs)) (
 
 none_cross : (n slot phase : ℕ) → transfers_of (replicate n None) (replicate n []) slot phase ≡ []
 unfolding transfers_of
-none_cross n slot phase =
-    let nobody : Partners = replicate n None in
-    filter_map-none (λ i. noted slot phase i (list_of (replicate n []) i) (partner_of nobody i))
-    (λ i. ap (noted slot phase i (list_of (replicate n []) i)) (none_at n i)) (range_with_len 0 (length nobody))
+none_cross n slot phase = grind (arith, common_steps, filter_map-none, none_at)
 
 pub quiet_transfers : (ms : List Machine) (slot n : ℕ) (ranks : List (List ℕ)) →
     transfers_in (quiet_slot ms slot n ranks) ≡ []
 unfolding transfers_in quiet_slot
-quiet_transfers ms slot n ranks =
-    ap (λ l. l ++ transfers_of (replicate n None) (replicate n []) slot 2) (none_cross n slot 1) ∙ none_cross n slot 2
+quiet_transfers ms slot n ranks = grind (arith, common_steps, none_cross)
 
 -- no output sent a cell
 abbrev no_cells : ℕ → List (Option Queued)
@@ -161,8 +123,7 @@ same_by_place g same n (x ∷ xs) = λ k. same n x k ∷ same_by_place g same (n
 
 no_slacks : (n i : ℕ) (ranks : List (List ℕ)) → slacks (empty_fabric n ranks) i ≡ []
 unfolding slacks
-no_slacks n i ranks =
-    ap (λ l. map (λ at. cushion_of (empty_fabric n ranks) at.1 - at.0) (enumerate_from 0 l)) (empty_list n i)
+no_slacks n i ranks = grind (arith, common_steps, empty_list)
 
 either-none : (f : ℕ → ℕ → ℕ) (o : Option ℕ) → either_by f o None ≡ o
 either-none f None = refl
@@ -182,13 +143,7 @@ same_input ms slot n ranks i x =
 same_output : (ms : List Machine) (slot n : ℕ) (ranks : List (List ℕ)) (j : ℕ) (x : OutputFigures) →
     output_after (quiet_slot ms slot n ranks) j x ≡ x
 unfolding output_after quiet_slot
-same_output ms slot n ranks j x =
-    let sent : x.cells + cond (is_some (slice_index_or (no_cells n) j None)) 1 0 ≡ x.cells =
-    ap (λ (o : Option Queued). x.cells + cond (is_some o) 1 0) (none_at n j) ∙ omega arith in
-    let wait =
-    ap (λ (o : Option Queued). either_by max x.wait (option_map (λ q. slot - q.key.slot) o)) (none_at n j)
-    ∙ either-none max x.wait in
-    λ k. record { cells = sent k; wait = wait k }
+same_output ms slot n ranks j x = grind (arith, common_steps, none_at, either-none)
 
 no_proposals : (ms : List Machine) (slot n : ℕ) (ranks : List (List ℕ)) →
     proposals_in (quiet_slot ms slot n ranks) ≡ 0 ∷ 0 ∷ []
@@ -221,11 +176,7 @@ all_none lists empty =
 
 pub empty_is : (f : Fabric) → IsEmptyFabric f → length f.buffers ≡ length f.inputs →
     f ≡ empty_fabric (length f.inputs) f.ranks
-empty_is f empty square =
-    let inputs = all_none f.inputs empty.inputs in
-    let buffers : f.buffers ≡ replicate (length f.inputs) [] =
-    all_none f.buffers empty.buffers ∙ ap (λ n. replicate n []) square in
-    λ k. record { inputs = inputs k; buffers = buffers k; ranks = f.ranks }
+empty_is f empty square = grind (arith, common_steps, all_none)
 
 -- ## Many such slots
 
@@ -239,23 +190,16 @@ module _ (ms : List Machine) (n : ℕ) where
   unfolding transfers_of_run
   quiet_transfers_of_run zero slot ranks = refl
   quiet_transfers_of_run (suc count) slot ranks =
-      ap (λ l. l ++ transfers_of_run (quiet_slots ms count (slot + 1) n (idled ms n ranks)))
-      (quiet_transfers ms slot n ranks)
-      ∙ quiet_transfers_of_run count (slot + 1) (idled ms n ranks)
+      grind (arith, common_steps, quiet_transfers, quiet_transfers_of_run count (slot + 1) (idled ms n ranks))
 
   pub quiet_departures : (count slot : ℕ) (ranks : List (List ℕ)) →
       departures_of slot (gone_in (quiet_slots ms count slot n ranks)) ≡ []
   unfolding departures_of departures_in quiet_slot
   quiet_departures zero slot ranks = refl
-  quiet_departures (suc count) slot ranks =
-      ap (λ l. l ++ departures_of (slot + 1) (gone_in (quiet_slots ms count (slot + 1) n (idled ms n ranks))))
-      (no_departures n slot 0)
-      ∙ quiet_departures count (slot + 1) (idled ms n ranks)
+  quiet_departures (suc count) slot ranks = simp (no_departures, quiet_departures count (slot + 1) (idled ms n ranks))
 
   pub quiet_figures_of_run : (count slot : ℕ) (ranks : List (List ℕ)) (x : Figures) →
       fold figures_after x (quiet_slots ms count slot n ranks) ≡ x
   quiet_figures_of_run zero slot ranks x = refl
   quiet_figures_of_run (suc count) slot ranks x =
-      ap (λ (y : Figures). fold figures_after y (quiet_slots ms count (slot + 1) n (idled ms n ranks)))
-      (quiet_figures ms slot n ranks x)
-      ∙ quiet_figures_of_run count (slot + 1) (idled ms n ranks) x
+      grind (arith, common_steps, quiet_figures, quiet_figures_of_run count (slot + 1) (idled ms n ranks) x)

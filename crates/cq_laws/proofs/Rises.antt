@@ -3,7 +3,8 @@
 -- blocks. So its input thread falls or its cushion rises, and neither ever goes the other way. It follows that the
 -- most urgent cell for an output is never left: it would have slack 1, so a cushion, so a more urgent cell for the
 -- same output.
-use Rattle.std.proofs.Common.{◌≡◌, ◌≢◌, ℕ, zero, suc, ◌+◌, ◌<◌, ◌≤◌, ◌⊎◌, List, [], ◌∷◌, Option, Some, None, refl, sym, ap, ◌∙◌, subst, inl, inr, ⊎_elim, arith}
+use Rattle.std.proofs.Common.{rules, ◌≡◌, ◌≢◌, ℕ, zero, suc, ◌+◌, ◌<◌, ◌≤◌, ◌⊎◌, List, [], ◌∷◌, Option, Some, None, refl, sym, ap, ◌∙◌, subst, inl, inr, ⊎_elim, arith}
+use Rattle.std.proofs.lemmas.Grind.{common_steps}
 use Rattle.std.specs.Prelude.{slice_get}
 use Rattle.std.proofs.lemmas.Bool.{cases_lt, cases_eq, eqb-true, eq-eqb, true≢false}
 use Rattle.std.proofs.lemmas.Option.{same_Some}
@@ -62,12 +63,8 @@ module _ (old new : Fabric) (o : Orders) (m : Partners) (order : (i : ℕ) → K
     -- no cell leaves a buffer
     pub cushion_kept : (j : ℕ) (k : Key) → cushion k (buffer old j) ≤ cushion k (buffer new j)
     cushion_kept j k =
-        ⊎_elim
-        (λ r. let f = partner_offers r.0 j r.1 in
-        let e = ap (cushion k) (moves.moves.given r.0 j f.0 r.1 f.1) in
-        omega (arith, e, cushion_grows k f.0 (buffer old j)))
-        (λ none. let e = ap (cushion k) (moves.moves.kept j none) in omega (arith, e))
-        (sender m j)
+        ⊎_elim (λ r. let f = partner_offers r.0 j r.1 in search (arith, rules, cushion_grows k f.0 (buffer old j)))
+        (λ none. let e = ap (cushion k) (moves.moves.kept j none) in omega (arith, e)) (sender m j)
 
     -- an output that has an input that it prefers gained a cell that is more urgent
     cushion_gained : (i s : ℕ) (c : Queued) → slice_get (input old i) s ≡ Some c → HasBetterInput o m i c.cell.output →
@@ -82,15 +79,11 @@ module _ (old new : Fabric) (o : Orders) (m : Partners) (order : (i : ℕ) → K
         let d_c : IsBefore d.0 c =
         ⊎_elim (λ e. subst (IsBefore d.0) e d_f) (λ b. key_laws.on d.0.key f.0.key c.key d_f b)
         (first_least j (input old i) s c f.0 (order i) at refl f.1) in
-        let e = ap (cushion c.key) (moves.moves.given k j d.0 better.1 d.1) in
-        omega (arith, e, cushion_grows_by_one c.key d.0 (buffer old j) d_c)
+        search (arith, rules, cushion_grows_by_one c.key d.0 (buffer old j) d_c)
 
     -- an input without a partner has none that it prefers
     no_better : (i j : ℕ) → partner_of m i ≡ None → IsOffered o i j → HasBetterOutput o m i j → ⊥
-    no_better i j e offered better =
-        let past : depth (outputs_of o i) None
-        < place_of o i j = subst (λ p. depth (outputs_of o i) p < place_of o i j) e better in
-        omega arith
+    no_better i j e offered better = grind (arith, common_steps)
 
     rise : (i t : ℕ) (c : Queued) (p : Option ℕ) → partner_of m i ≡ p →
         slice_get (list_taken p (input old i)) t ≡ Some c → Rises 1 old new i t c
@@ -110,31 +103,24 @@ module _ (old new : Fabric) (o : Orders) (m : Partners) (order : (i : ℕ) → K
         let le : place_for j xs ≤ st.place = first_le (is_for j) xs st.place c st.at (eq-eqb j j refl) in
         let kept = cushion_kept j c.key in
         let ahead : place_for k xs ≤ st.place → Rises 1 old new i t c = λ l.
-        let behind : st.place ≡ suc t =
-        ⊎_elim (λ lt. let same = st.stayed lt in absurd (omega arith)) (λ ge. st.moved ge)
-        (cases_lt t (place_for k xs)) in
+        let behind : st.place ≡ suc t = ⊎_elim (λ lt. let same = st.stayed lt in absurd (omega arith))
+        (λ ge. st.moved ge) (cases_lt t (place_for k xs)) in
         record { before = st.place; stood = st.at; risen = omega arith } in
         let is_offered = ((are.outputs i).offered j).1 (first_of (is_for j) xs c among (eq-eqb j j refl)) in
-        ⊎_elim
-        (λ same. ahead (subst (λ n. place_for n xs ≤ st.place) (sym same) le))
-        (λ ne.
-        ⊎_elim
-        (λ b.
-        let lt = (are.outputs i).by_place k j (subst (λ p. depth (outputs_of o i) p < place_of o i j) e b) in
-        ahead (omega arith))
-        (λ b.
+        ⊎_elim (λ same. ahead (subst (λ n. place_for n xs ≤ st.place) (sym same) le)) (λ ne.
+        ⊎_elim (λ b.
+        let lt = (are.outputs i).by_place k j
+        (subst (λ p. depth (outputs_of o i) p < place_of o i j) e b) in
+        ahead (omega arith)) (λ b.
         let more = cushion_gained i st.place c st.at b in
-        let no_later : t ≤ st.place =
-        ⊎_elim (λ lt. let same = st.stayed lt in omega arith) (λ ge. let same = st.moved ge in omega arith)
-        (cases_lt t (place_for k xs)) in
+        let no_later : t ≤ st.place = ⊎_elim (λ lt. let same = st.stayed lt in omega arith)
+        (λ ge. let same = st.moved ge in omega arith) (cases_lt t (place_for k xs)) in
         record { before = st.place; stood = st.at; risen = omega arith })
-        (stable.settled i j is_offered (λ q. ne (same_Some k j (sym e ∙ q)))))
-        (cases_eq k j)
+        (stable.settled i j is_offered (λ q. ne (same_Some k j (sym e ∙ q))))) (cases_eq k j)
 
     pub matching_rises : EachRises 1 old new
     unfolding rise
-    matching_rises i t c at =
-        rise i t c (partner_of m i) refl (ap (λ xs. slice_get xs t) (sym (moves.moves.taken i)) ∙ at)
+    matching_rises i t c at = grind (arith, common_steps, rise)
 
     -- ## The cells for an output stay the same
 
@@ -146,22 +132,14 @@ module _ (old new : Fabric) (o : Orders) (m : Partners) (order : (i : ℕ) → K
     -- in a buffer there is what was there and what was taken for it
     pub buffer_from : (j : ℕ) (c : Queued) → IsAmong c (buffer new j) →
         IsAmong c (buffer old j) ⊎ ((i : ℕ) × (partner_of m i ≡ Some j) × (first_for j (input old i) ≡ Some c))
-    buffer_from j c h =
-        ⊎_elim
-        (λ r.
-        let f = partner_offers r.0 j r.1 in
-        ⊎_elim (λ e. inr (r.0, r.1, f.1 ∙ ap Some e)) (λ k. inl k) (among_put c f.0 (buffer old j)
-        (subst (IsAmong c) (moves.moves.given r.0 j f.0 r.1 f.1) h)))
-        (λ none. inl (subst (IsAmong c) (moves.moves.kept j none) h))
-        (sender m j)
+    buffer_from j c h = ⊎_elim (λ r. search (arith, rules, among_put c (partner_offers r.0 j r.1).0 (buffer old j)))
+        (λ none. inl (subst (IsAmong c) (moves.moves.kept j none) h)) (sender m j)
 
     pub buffer_keeps : (j : ℕ) (c : Queued) → IsAmong c (buffer old j) → IsAmong c (buffer new j)
-    buffer_keeps j c h =
-        ⊎_elim
-        (λ r. let f = partner_offers r.0 j r.1 in
+    buffer_keeps j c h = ⊎_elim (λ r.
+        let f = partner_offers r.0 j r.1 in
         subst (IsAmong c) (sym (moves.moves.given r.0 j f.0 r.1 f.1)) (put_old c f.0 (buffer old j) h))
-        (λ none. subst (IsAmong c) (sym (moves.moves.kept j none)) h)
-        (sender m j)
+        (λ none. subst (IsAmong c) (sym (moves.moves.kept j none)) h) (sender m j)
 
     taken_among : (p : Option ℕ) (xs : List Queued) (c : Queued) → IsAmong c (list_taken p xs) → IsAmong c xs
     taken_among None xs c h = h
@@ -177,46 +155,26 @@ module _ (old new : Fabric) (o : Orders) (m : Partners) (order : (i : ℕ) → K
 
     pub has_after : (j : ℕ) (c : Queued) → HasFor old j c → HasFor new j c
     unfolding first_among left_or_taken
-    has_after j c h =
-        ⊎_elim
-        (λ w.
-        ⊎_elim
-        (λ l. inl (w.0, subst (IsAmong c) (sym (moves.moves.taken w.0)) l, w.2))
-        (λ r.
+    has_after j c h = ⊎_elim (λ w.
+        ⊎_elim (λ l. inl (w.0, subst (IsAmong c) (sym (moves.moves.taken w.0)) l, w.2)) (λ r.
         let out = (first_among r.0 (input old w.0) c r.2).1 in
-        let there : IsAmong c (buffer new r.0) =
-        subst (IsAmong c) (sym (moves.moves.given w.0 r.0 c r.1 r.2)) (put_new c (buffer old r.0)) in
-        inr (subst (λ n. IsAmong c (buffer new n)) (sym out ∙ w.2) there))
-        (left_or_taken (partner_of m w.0) (input old w.0) c w.1))
-        (λ b. inr (buffer_keeps j c b))
-        h
+        search (arith, rules, put_new c (buffer old r.0)))
+        (left_or_taken (partner_of m w.0) (input old w.0) c w.1)) (λ b. inr (buffer_keeps j c b)) h
 
     pub has_before : (j : ℕ) (c : Queued) → HasFor new j c → HasFor old j c
     unfolding first_among
-    has_before j c h =
-        ⊎_elim
-        (λ w. inl (w.0, input_from w.0 c w.1, w.2))
-        (λ b. ⊎_elim (λ k. inr k) (λ r. let f = first_among j (input old r.0) c r.2 in inl (r.0, f.0, f.1))
-        (buffer_from j c b))
-        h
+    has_before j c h = ⊎_elim (λ w. inl (w.0, input_from w.0 c w.1, w.2)) (λ b. ⊎_elim (λ k. inr k)
+        (λ r. let f = first_among j (input old r.0) c r.2 in inl (r.0, f.0, f.1)) (buffer_from j c b)) h
 
     -- ## Head of line
 
     pub slack_risen : (n : ℕ) → HasSlack n old → HasSlack (1 + n) new
-    slack_risen n slack i t c at =
-        let r = matching_rises i t c at in
-        let had = slack i r.before c r.stood in
-        omega arith
+    slack_risen n slack i t c at = grind (arith, common_steps, matching_rises i t c at)
 
     pub least_buffered : HasSlack 0 old → (j : ℕ) (c : Queued) → IsMostUrgentFor old j c → IsAmong c (buffer new j)
-    least_buffered slack j c least =
-        ⊎_elim
-        (λ w.
+    least_buffered slack j c least = ⊎_elim (λ w.
         let at = at_among (input new w.0) c w.1 in
         let more = slack_risen 0 slack w.0 at.0 c at.1 in
         let d = cushion_has c.key (buffer new c.cell.output) (omega arith) in
-        let there : IsAmong d.0 (buffer new j) = subst (λ n. IsAmong d.0 (buffer new n)) w.2 d.1 in
-        let no = least.least d.0 (has_before j d.0 (inr there)) in
-        absurd (true≢false (sym d.2 ∙ no)))
-        (λ b. b)
+        search (arith, rules, least.least d.0, has_before j d.0, true≢false)) (λ b. b)
         (has_after j c least.there)

@@ -2,7 +2,8 @@
 -- in order in each input's list, no key is twice, and every cell is from before a slot. That no key is twice is said
 -- of two cells at inputs, of one at an input and one that has crossed, and of two that have crossed; by their places
 -- it is the same.
-use Rattle.std.proofs.Common.{◌≡◌, ◌≢◌, ℕ, ◌<◌, List, Some, refl, sym, ap, ◌∙◌, ⊎_elim, arith}
+use Rattle.std.proofs.lemmas.Grind.{common_steps}
+use Rattle.std.proofs.Common.{rules, ◌≡◌, ◌≢◌, ℕ, ◌<◌, List, Some, refl, sym, ap, ◌∙◌, arith}
 use Rattle.std.specs.Prelude.{slice_get}
 use Rattle.std.proofs.lemmas.Bool.{cases_lt, true≢false}
 use Rattle.std.proofs.lemmas.Option.{same_Some}
@@ -36,19 +37,11 @@ pub record Sound (slot : ℕ) (f : Fabric) : Type 0 where
 
 waiting_same : (f : Fabric) (i k s t : ℕ) (c d : Queued) → slice_get (input f i) s ≡ Some c →
     slice_get (input f k) t ≡ Some d → Waiting i s ≡ Waiting k t → (i ≡ k) × (c ≡ d)
-waiting_same f i k s t c d a b e =
-    let one : i ≡ k = cc in
-    let two : s ≡ t = cc in
-    let lists : slice_get (input f i) s ≡ slice_get (input f k) t = cc in
-    (one, same_Some c d (sym a ∙ lists ∙ b))
+waiting_same f i k s t c d a b e = grind (arith, common_steps, same_Some)
 
 crossed_same : (f : Fabric) (i k s t : ℕ) (c d : Queued) → slice_get (buffer f i) s ≡ Some c →
     slice_get (buffer f k) t ≡ Some d → Crossed i s ≡ Crossed k t → c ≡ d
-crossed_same f i k s t c d a b e =
-    let one : i ≡ k = cc in
-    let two : s ≡ t = cc in
-    let lists : slice_get (buffer f i) s ≡ slice_get (buffer f k) t = cc in
-    same_Some c d (sym a ∙ lists ∙ b)
+crossed_same f i k s t c d a b e = grind (arith, common_steps, same_Some)
 
 other_place : (i s j t : ℕ) → Waiting i s ≢ Crossed j t
 other_place i s j t e = cc
@@ -62,8 +55,7 @@ apart_from f differ =
           waiting_same f i k p.0 q.0 c d p.1 q.1 (differ (Waiting i p.0) (Waiting k q.0) c d p.1 q.1 e);
       between =
           λ i j c d a b e. let p = at_among (input f i) c a in
-          let q = at_among (buffer f j) d b in
-          other_place i p.0 j q.0 (differ (Waiting i p.0) (Crossed j q.0) c d p.1 q.1 e);
+          search (arith, rules, at_among (buffer f j) d b, other_place i p.0 j (at_among (buffer f j) d b).0);
       crossed =
           λ j l c d a b e. let p = at_among (buffer f j) c a in
           let q = at_among (buffer f l) d b in
@@ -85,10 +77,7 @@ not_before_itself c h = true≢false (sym h ∙ key_laws.never_itself c.key)
 -- where no cell is related to itself, none stands at two places
 one_place : (R : Queued → Queued → Type 0) (xs : List Queued) (s t : ℕ) (c : Queued) → (R c c → ⊥) → EachPair R xs →
     slice_get xs s ≡ Some c → slice_get xs t ≡ Some c → s ≡ t
-one_place R xs s t c never e a b =
-    ⊎_elim (λ lt. absurd (never (each_pair_at R xs s t c c e a b lt)))
-    (λ ge. ⊎_elim (λ lt. absurd (never (each_pair_at R xs t s c c e b a lt))) (λ ge'. omega arith) (cases_lt t s))
-    (cases_lt s t)
+one_place R xs s t c never e a b = grind (arith, common_steps, each_pair_at, cases_lt)
 
 pub one_in_order : (xs : List Queued) (s t : ℕ) (c : Queued) →
     EachPair (λ a b. a.cell.output ≡ b.cell.output → IsBefore a b) xs → slice_get xs s ≡ Some c →

@@ -1,7 +1,8 @@
 -- The transfers of a phase tell its matching. They stand in the order of the inputs, at most one each, so two lists
 -- of them that are equal are equal input by input. And a partner in a matching is offered, so its input has a first
 -- cell for it, and that is noted.
-use Rattle.std.proofs.Common.{◌≡◌, ℕ, zero, suc, ◌+◌, ◌<◌, ◌≤◌, List, [], ◌∷◌, length, Option, None, Some, refl, ap, sym, subst, ◌∙◌, arith, ⊎_elim}
+use Rattle.std.proofs.Common.{rules, ◌≡◌, ℕ, zero, suc, ◌+◌, ◌<◌, ◌≤◌, List, ◌∷◌, length, Option, None, Some, refl, ap, sym, subst, ◌∙◌, arith}
+use Rattle.std.proofs.lemmas.Grind.{common_steps}
 use Rattle.std.specs.List.{filter_map, range_with_len, cons_option}
 use Rattle.std.specs.Option.{option_map}
 use Rattle.std.proofs.lemmas.Bool.{cases_lt}
@@ -25,34 +26,27 @@ OwnInput h = (i : ℕ) (t : Transfer) → h i ≡ Some t → t.input ≡ i
 first_here : (h : ℕ → Option Transfer) (a : ℕ) (rest : List Transfer) (t : Transfer) (ts : List Transfer) (o : Option
     Transfer) → OwnInput h → h a ≡ o → cons_option o rest ≡ t ∷ ts → (rest ≡ t ∷ ts → a + 1 ≤ t.input) → a ≤ t.input
 first_here h a rest t ts None own is e later = let high = later e in omega arith
-first_here h a rest t ts (Some u) own is e later = let same : u ≡ t = cc in let input = own a u is in
-    let to = ap (λ (x : Transfer). x.input) same in omega arith
+first_here h a rest t ts (Some u) own is e later = grind (arith, common_steps)
 
 -- the first that is noted from an input on is of none before it
 first_from : (h : ℕ → Option Transfer) → OwnInput h → (a n : ℕ) (t : Transfer) (ts : List Transfer) →
     filter_map h (range_with_len a n) ≡ t ∷ ts → a ≤ t.input
-first_from h own a zero t ts e = let none : List Transfer = [] in absurd (let clash : none ≡ t ∷ ts = e in
-    let P : ⊥ = cc in P)
-first_from h own a (suc n) t ts e = first_here h a (filter_map h (range_with_len (a + 1) n)) t ts (h a) own refl e
-    (first_from h own (a + 1) n t ts)
+first_from h own a zero t ts e = grind (arith, common_steps)
+first_from h own a (suc n) t ts e = grind (arith, common_steps, first_here, first_from h own (a + 1) n t ts)
 
 same_here : (h k : ℕ → Option Transfer) (a n : ℕ) (o q : Option Transfer) → OwnInput h → OwnInput k → h a ≡ o →
     k a ≡ q → cons_option o (filter_map h (range_with_len (a + 1) n)) ≡ cons_option q (filter_map k (range_with_len
     (a + 1) n)) → (o ≡ q) × (filter_map h (range_with_len (a + 1) n) ≡ filter_map k (range_with_len (a + 1) n))
 same_here h k a n None None own_h own_k is_h is_k e = (refl, e)
-same_here h k a n None (Some v) own_h own_k is_h is_k e =
-    let high = first_from h own_h (a + 1) n v _ e in let input = own_k a v is_k in absurd (omega arith)
-same_here h k a n (Some u) None own_h own_k is_h is_k e =
-    let high = first_from k own_k (a + 1) n u _ (sym e) in let input = own_h a u is_h in absurd (omega arith)
+same_here h k a n None (Some v) own_h own_k is_h is_k e = grind (arith, common_steps, first_from)
+same_here h k a n (Some u) None own_h own_k is_h is_k e = grind (arith, common_steps, first_from)
 same_here h k a n (Some u) (Some v) own_h own_k is_h is_k e = (let same : u ≡ v = cc in ap Some same, cc)
 
 one_by_one : (h k : ℕ → Option Transfer) → OwnInput h → OwnInput k → (a n : ℕ) →
     filter_map h (range_with_len a n) ≡ filter_map k (range_with_len a n) → (i : ℕ) → a ≤ i → i < a + n → h i ≡ k i
 one_by_one h k own_h own_k a zero e i low high = absurd (omega arith)
 one_by_one h k own_h own_k a (suc n) e i low high =
-    let here = same_here h k a n (h a) (k a) own_h own_k refl refl e in
-    ⊎_elim (λ later. one_by_one h k own_h own_k (a + 1) n here.1 i (omega arith) (omega arith))
-    (λ now. let is : a ≡ i = omega arith in subst (λ b. h b ≡ k b) is here.0) (cases_lt a i)
+    grind (arith, common_steps, same_here, cases_lt, one_by_one h k own_h own_k (a + 1) n)
 
 -- ## Partners
 
@@ -87,18 +81,9 @@ module _ (slot phase i : ℕ) (cells : List Queued) where
       HasCellFor cells j) → noted slot phase i cells p ≡ noted slot phase i cells q → p ≡ q
   unfolding crosses
   same_partner None None has_p has_q e = refl
-  same_partner None (Some j) has_p has_q e = let c = has_q j refl in
-      absurd (let none : Option Transfer = None in let clash : none ≡ Some (crosses j c.0) = e
-      ∙ noted_some j c.0 c.1 in let P : ⊥ = cc in P)
-  same_partner (Some j) None has_p has_q e = let c = has_p j refl in
-      absurd (let none : Option Transfer = None in let clash : none ≡ Some (crosses j c.0) = sym e
-      ∙ noted_some j c.0 c.1 in let P : ⊥ = cc in P)
-  same_partner (Some j) (Some l) has_p has_q e =
-      let c = has_p j refl in
-      let d = has_q l refl in
-      let both : Some (crosses j c.0) ≡ Some (crosses l d.0) = sym (noted_some j c.0 c.1) ∙ e ∙ noted_some l d.0 d.1 in
-      let same : crosses j c.0 ≡ crosses l d.0 = cc in
-      ap (λ (x : Transfer). Some x.output) same
+  same_partner None (Some j) has_p has_q e = grind (arith, common_steps, crosses, noted_some)
+  same_partner (Some j) None has_p has_q e = grind (arith, common_steps, crosses, noted_some)
+  same_partner (Some j) (Some l) has_p has_q e = grind (arith, common_steps, crosses, noted_some)
 
 -- an input that has a partner has a cell for it
 offer_of : (lists : List (List Queued)) (m : Partners) → IsStable (orders_of lists) m → (i j : ℕ) →
@@ -117,7 +102,6 @@ transfers_tell lists m n slot phase stable_m stable_n e =
     (offer_of lists n stable_n i)
     (one_by_one (λ i. noted slot phase i (list_of lists i) (partner_of m i)) (λ i. noted slot phase i (list_of lists
     i) (partner_of n i))
-    (λ i t. own_noted slot phase i (list_of lists i) (partner_of m i) t) (λ i t. own_noted slot phase i (list_of
-    lists i) (partner_of n i) t)
+    (λ i t. own_noted slot phase i (list_of lists i) (partner_of m i) t) (λ i t. search (arith, rules, own_noted))
     0 (length m) (e ∙ ap (λ size. filter_map (λ i. noted slot phase i (list_of lists i) (partner_of n i))
     (range_with_len 0 size)) (sym size)) i (omega arith) (omega arith)))

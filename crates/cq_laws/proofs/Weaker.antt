@@ -1,5 +1,5 @@
 -- Where each slot of one kind is one of another, so are runs.
-use Rattle.std.proofs.Common.{ℕ, ◌+◌, List, [], ◌∷◌, Option}
+use Rattle.std.proofs.Common.{rules, ℕ, ◌+◌, List, [], ◌∷◌, Option}
 use Rattle.cq_base.specs.declared.cell.Cell.{Cell}
 use Rattle.cq_base.specs.declared.cell.TagFault.{TagFault}
 use Rattle.cq_laws.specs.SlotBySlot.{RunBy, StopBy}
@@ -12,8 +12,7 @@ module _ {S R : Type 0} (Step Step' : ℕ → List (Option Cell) → S → R →
   each_run slot [] f g [] run = run
   each_run slot [] f g (r ∷ rs) run = run
   each_run slot (cells ∷ traffic) f g [] run = run
-  each_run slot (cells ∷ traffic) f g (r ∷ rs) run =
-      (run.0, each slot cells f run.0 r run.1, each_run (slot + 1) traffic run.0 g rs run.2)
+  each_run slot (cells ∷ traffic) f g (r ∷ rs) run = search (rules, each_run (slot + 1) traffic run.0 g rs run.2)
 
   pub each_stop : (slot : ℕ) (traffic : List (List (Option Cell))) (f : S) (rs : List R) (fault : TagFault) →
       StopBy Step Fault slot traffic f rs fault → StopBy Step' Fault slot traffic f rs fault

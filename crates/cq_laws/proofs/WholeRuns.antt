@@ -1,6 +1,7 @@
 -- Whole runs, slot by slot from states that agree. The empty states agree, so what holds of agreeing states holds
 -- from the first slot on.
-use Rattle.std.proofs.Common.{◌≡◌, ℕ, zero, suc, ◌+◌, ◌↔◌, List, [], ◌∷◌, length, Option, Some, None, Result, Ok, Err, refl, sym, ap, ◌∙◌, subst, inl, inr, ⊎_elim, arith}
+use Rattle.std.proofs.lemmas.Grind.{common_steps}
+use Rattle.std.proofs.Common.{rules, ◌≡◌, ℕ, zero, suc, ◌+◌, ◌↔◌, List, [], ◌∷◌, length, Option, Some, None, Result, Ok, Err, refl, sym, ap, ◌∙◌, inl, inr, arith, ⊎_elim, subst}
 use Rattle.std.specs.Prelude.{All, slice_get, replicate}
 use Rattle.std.specs.List.{AllByRecursion}
 use Rattle.std.proofs.lemmas.List.{length-replicate, get_or_past, get_or_default}
@@ -8,7 +9,6 @@ use Rattle.std.proofs.lemmas.Bool.{cases_lt}
 use Rattle.cq_base.specs.declared.cell.Cell.{Cell}
 use Rattle.cq_base.specs.declared.cell.Queued.{Queued}
 use Rattle.cq_base.specs.declared.cell.TagFault.{TagFault}
-use Rattle.cq_base.specs.Cells.{IsRising, KeepsOrder}
 use Rattle.cq_rank.specs.Machine.{Machine}
 use Rattle.cq_ideal.specs.Ranking.{AreForPorts}
 use Rattle.cq_ideal.specs.IdealSlot.{IdealState, Sent}
@@ -98,8 +98,7 @@ none_among (x ∷ xs) c e h = cc
 
 -- each list of lists is empty, by its place
 all_empty : (lists : List (List Queued)) → All (λ cells. cells ≡ []) lists → (i : ℕ) → list_of lists i ≡ []
-all_empty lists empty i =
-    ⊎_elim (λ inside. empty i [] inside) (λ past. get_or_past lists i [] past) (cases_lt i (length lists))
+all_empty lists empty i = grind (arith, common_steps, get_or_past, cases_lt)
 
 each_empty : (lists : List (List Queued)) → ((i : ℕ) → list_of lists i ≡ []) → All (λ cells. cells ≡ []) lists
 each_empty lists empty i d inside = get_or_default lists i d [] inside ∙ empty i
@@ -143,26 +142,7 @@ module _ (ports : ℕ) (ranks : List (List ℕ)) where
 
   -- without cells they agree, whatever the slot
   pub empty_agree_at : (slot : ℕ) → Agrees slot (empty_fabric ports ranks) (empty_ideal ports ranks)
-  empty_agree_at slot = record {
-    fabric = record {
-      square = refl;
-      outputs = λ i c h. absurd (no_cell i c h);
-      own = λ j c h. absurd (no_cell j c h);
-      rising = λ j. subst IsRising (sym (empty_list ports j)) tt;
-    };
-    ports = refl;
-    ranks = refl;
-    rising = λ j. subst IsRising (sym (empty_list ports j)) tt;
-    same =
-        λ j c. (
-          λ h. absurd (no_cell j c h),
-          λ h. ⊎_elim (λ w. absurd (no_cell w.0 c w.1)) (λ b. absurd (no_cell j c b)) h,
-        );
-    order = λ i. subst KeepsOrder (sym (empty_list ports i)) tt;
-    differ = λ p q c d a b e. absurd (nowhere p c a);
-    earlier = λ p c h. absurd (nowhere p c h);
-    slack = λ i t c h. absurd (no_place i t c h);
-  }
+  empty_agree_at slot = grind (arith, common_steps, no_cell, empty_list, nowhere, no_place)
 
   pub empty_agree : Agrees 0 (empty_fabric ports ranks) (empty_ideal ports ranks)
   empty_agree = empty_agree_at 0
@@ -170,21 +150,16 @@ module _ (ports : ℕ) (ranks : List (List ℕ)) where
   pub traffic_for_empty : (class_count : ℕ) (traffic : List (List (Option Cell))) →
       AllByRecursion (AreForPorts ports class_count) traffic →
       AllByRecursion (AreForPorts (length (empty_fabric ports ranks).inputs) class_count) traffic
-  traffic_for_empty class_count traffic h =
-      subst (λ n. AllByRecursion (AreForPorts n class_count) traffic) (sym (length-replicate ports [])) h
+  traffic_for_empty class_count traffic h = grind (arith, common_steps, length-replicate)
 
   pub run_from_empty : (ms : List Machine) (class_count : ℕ) (traffic : List (List (Option Cell)))
       (rs : List SlotRecord) (g : Fabric) → AllByRecursion (AreForPorts ports class_count) traffic →
       FabricRun IsStable ms 0 traffic (empty_fabric ports ranks) rs g →
       RunsAlike ms 0 traffic (empty_ideal ports ranks) rs g
-  run_from_empty ms class_count traffic rs g come run =
-      same_run ms class_count 0 traffic (empty_fabric ports ranks) g (empty_ideal ports ranks) rs empty_agree
-      (traffic_for_empty class_count traffic come) run
+  run_from_empty ms class_count traffic rs g come run = search (rules, same_run, empty_agree, traffic_for_empty)
 
   pub stop_from_empty : (ms : List Machine) (class_count : ℕ) (traffic : List (List (Option Cell)))
       (rs : List SlotRecord) (fault : TagFault) → AllByRecursion (AreForPorts ports class_count) traffic →
       FabricStops IsStable ms 0 traffic (empty_fabric ports ranks) rs fault →
       ideal_run ms 0 traffic (empty_ideal ports ranks) ≡ Err fault
-  stop_from_empty ms class_count traffic rs fault come run =
-      same_stop ms class_count 0 traffic (empty_fabric ports ranks) (empty_ideal ports ranks) rs fault empty_agree
-      (traffic_for_empty class_count traffic come) run
+  stop_from_empty ms class_count traffic rs fault come run = search (rules, same_stop, empty_agree, traffic_for_empty)

@@ -1,6 +1,7 @@
 -- That the worked records are the run with input-best matchings: in each phase in which a cell crosses, its input and
 -- its output are each other's first, and all other inputs have cells for that output only. A test tells so.
-use Rattle.std.proofs.Common.{◌≡◌, ℕ, zero, suc, ◌<◌, true, List, [], ◌∷◌, length, Option, Some, None, Ok, refl, sym, ◌∙◌, subst, arith, set}
+use Rattle.std.proofs.lemmas.Grind.{common_steps}
+use Rattle.std.proofs.Common.{◌≡◌, ℕ, zero, suc, ◌<◌, true, List, [], ◌∷◌, length, Option, Some, None, Ok, refl, sym, ◌∙◌, arith, set}
 use Rattle.std.specs.Prelude.{replicate}
 use Rattle.std.proofs.lemmas.List.{length-map, length-set}
 use Rattle.cq_base.specs.declared.cell.Cell.{Cell}
@@ -53,10 +54,7 @@ crosses f i j c first three_ports front inside inside' =
     }
 
 nobody : (f : Fabric) → f.inputs ≡ replicate 3 [] → Phase (replicate 3 None) f f
-nobody f none = record {
-  best = subst (λ l. IsInputBest (orders_of l) (replicate 3 None)) (sym none) (nobody_best 3);
-  moved = nothing_moves 3 f;
-}
+nobody f none = grind (arith, common_steps, nobody_best, nothing_moves)
 
 -- what comes to an input goes into its list
 abbrev ComesTo : Fabric → SlotRecord → ℕ → Type 0
@@ -77,15 +75,7 @@ slot_of : {cells : List (Option Cell)} {new : Fabric} (old : Fabric) (r : SlotRe
     Phase r.first r.arrived r.filled → r.gone ≡ fronts r.filled.buffers → r.sent.buffers ≡ rests r.filled.buffers →
     r.sent.inputs ≡ r.filled.inputs → r.sent.ranks ≡ all_told first_come_all r.gone r.filled.ranks →
     Phase r.second r.sent new → FabricSlot IsInputBest first_come_all r.slot cells old r new
-slot_of old r ranked ports lists buffers fill gone rest inputs ranks finish = record {
-  numbered = refl;
-  arrive = record { ranked = ranked; ports = ports; lists = lists; buffers = buffers };
-  first_chosen = fill.best;
-  fill = fill.moved;
-  depart = record { sent = gone; buffers = rest; inputs = inputs; ranks = ranks };
-  second_chosen = finish.best;
-  finish = finish.moved;
-}
+slot_of old r ranked ports lists buffers fill gone rest inputs ranks finish = grind (arith, common_steps)
 
 -- ## The slots
 
@@ -101,23 +91,19 @@ after1 = three [] [] [] (from_input2 ∷ []) [] []
 worked0 : FabricSlot IsInputBest first_come_all 0
     (Some (lone_cell 0 0 0) ∷ Some (lone_cell 1 0 0) ∷ Some (lone_cell 2 0 0) ∷ []) none_left slot0 after0
 unfolding all_told is_before place_in
-worked0 =
-    slot_of none_left slot0 refl refl (at_inputs none_left slot0 refl refl refl (λ i. refl)) refl
+worked0 = slot_of none_left slot0 refl refl (at_inputs none_left slot0 refl refl refl (λ i. refl)) refl
     (crosses slot0.arrived 0 0 from_input0 refl refl refl (omega arith) (omega arith)) refl refl refl refl
     (crosses slot0.sent 1 0 from_input1 refl refl refl (omega arith) (omega arith))
 
 worked1 : FabricSlot IsInputBest first_come_all 1 (None ∷ None ∷ Some (lone_cell 2 1 1) ∷ []) after0 slot1 after1
 unfolding all_told is_before place_in
-worked1 =
-    slot_of after0 slot1 refl refl (at_inputs after0 slot1 refl refl refl (λ i. refl)) refl
+worked1 = slot_of after0 slot1 refl refl (at_inputs after0 slot1 refl refl refl (λ i. refl)) refl
     (crosses slot1.arrived 2 1 for_output1 refl refl refl (omega arith) (omega arith)) refl refl refl refl
     (crosses slot1.sent 2 0 from_input2 refl refl refl (omega arith) (omega arith))
 
 worked2 : FabricSlot IsInputBest first_come_all 2 (None ∷ None ∷ None ∷ []) after1 slot2 none_left
 unfolding all_told
-worked2 =
-    slot_of after1 slot2 refl refl (at_inputs after1 slot2 refl refl refl (λ i. refl)) refl
-    (nobody slot2.arrived refl) refl refl refl refl (nobody none_left refl)
+worked2 = grind (arith, common_steps, slot_of, at_inputs, nobody)
 
 pub runs : FabricRun IsInputBest first_come_all 0 three_slots (empty_fabric 3 three_empty) worked_records
     (empty_fabric 3 three_empty)

@@ -1,23 +1,19 @@
-use Rattle.std.proofs.Common.{length, ap, ◌∙◌}
+use Rattle.std.proofs.Common.{arith, rules, length, ap, ◌∙◌}
 use Rattle.std.proofs.lemmas.List.{length-set}
 use Rattle.cq_engine.proofs.Counted.{count_fits, count_next}
 use Rattle.cq_engine.proofs.copied.count_each.Goals as goal
 
 pub count_one-requires-clause-output : goal.count_one-requires-clause-output
-count_one-requires-clause-output c =
-    rw c.places.invariant.ports (c.requires.outputs c.places.at _ c.places-test.true)
+count_one-requires-clause-output c = search (arith, rules, c.requires.outputs)
 
 pub count_one-requires-clause-fits : goal.count_one-requires-clause-fits
-count_one-requires-clause-fits c =
-    count_fits c.args.held.now c.places.held c.args.cells.now c.places.at c.places-test.true _ c.places.invariant.counts
-    (c.requires.outputs c.places.at _ c.places-test.true) c.requires.fit
+count_one-requires-clause-fits c = search (arith, rules, count_fits, c.requires.outputs)
 
 pub places-preserved : goal.places-preserved
-places-preserved c = record {
-  ports = ap length c.count_one.ensures ∙ length-set c.places.held _ _ ∙ c.places.invariant.ports;
-  counts =
-      count_next c.args.held.now c.places.held c.args.cells.now c.places.at c.places-test.true _
-      c.places.invariant.counts
-      (c.requires.outputs c.places.at _ c.places-test.true) c.count_one.new.held c.places.invariant.ports
-      c.count_one.ensures;
-}
+places-preserved c =
+    record {
+      ports = ap length c.count_one.ensures ∙ length-set c.places.held _ _ ∙ c.places.invariant.ports;
+      counts = count_next c.args.held.now c.places.held c.args.cells.now c.places.at c.places-test.true _
+          c.places.invariant.counts (c.requires.outputs c.places.at _ c.places-test.true) c.count_one.new.held
+          c.places.invariant.ports c.count_one.ensures;
+    }

@@ -4,7 +4,5 @@ use Rattle.cq_engine.proofs.copied.count_each.Given as goal
 
 -- the cells before this place are counted
 abbrev pub invariant-places : goal.invariant-places
-invariant-places l = record {
-  ports : length l.held ≡ length l.fn.held;
-  counts : AreCounted l.fn.held l.held (take l.at l.cells);
-}
+invariant-places l =
+    record { ports : length l.held ≡ length l.fn.held; counts : AreCounted l.fn.held l.held (take l.at l.cells) }

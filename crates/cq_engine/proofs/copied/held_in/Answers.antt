@@ -1,6 +1,5 @@
-use Rattle.std.proofs.Common.{◌≡◌, ◌<◌, List, [], length, map, ap, ◌∙◌, arith}
+use Rattle.std.proofs.Common.{rules, ◌≡◌, ◌<◌, length, map, ap, ◌∙◌, arith}
 use Rattle.std.proofs.lemmas.List.{get_or_read}
-use Rattle.cq_base.specs.declared.cell.Queued.{Queued}
 use Rattle.cq_prefs.specs.FirstCells.{list_of}
 use Rattle.cq_laws.specs.Frozen.{fabric_in}
 use Rattle.cq_engine.proofs.Counted.{cells_fit, cells_inside, held_first, held_last, held_next}
@@ -9,31 +8,20 @@ use Rattle.cq_engine.proofs.copied.held_in.Goals.{After-as_slice}
 
 -- the cells that are counted are those of the input's list
 here : (c : After-as_slice) → c.as_slice.result.now ≡ list_of (fabric_in c.args.from.now).inputs c.inputs.input
-here c =
-    c.as_slice.ensures
-    ∙ get_or_read c.as_slice-lists.result.now c.inputs.input c.index-lists-input.result c.inputs-test.true
-    c.index-lists-input.is []
-    ∙ ap (λ (l : List (List Queued)). list_of l c.inputs.input) c.as_slice-lists.ensures
+here c = search (arith, rules, get_or_read)
 
 inside : (c : After-as_slice) → c.inputs.input < length c.args.from.now.lists
 inside c = let long = ap length c.as_slice-lists.ensures in omega arith
 
 pub inputs-init : goal.inputs-init
-inputs-init c =
-    held_first (fabric_in c.args.from.now) c.in_ok-held.held c.requires.square
+inputs-init c = held_first (fabric_in c.args.from.now) c.in_ok-held.held c.requires.square
     (c.in_ok-held.ensures ∙ ap (map length) c.as_slice-buffers.ensures)
 
 pub count_each-requires-clause-outputs : goal.count_each-requires-clause-outputs
-count_each-requires-clause-outputs c =
-    let at = (goal.at.count_each-requires-clause-outputs c).After-as_slice in
-    cells_inside (fabric_in c.args.from.now) c.inputs.input c.inputs.held c.inputs.invariant (inside at)
-    c.as_slice.result.now (here at) c.requires.outputs
+count_each-requires-clause-outputs c = search (arith, rules, cells_inside, inside, here)
 
 pub count_each-requires-clause-fit : goal.count_each-requires-clause-fit
-count_each-requires-clause-fit c =
-    let at = (goal.at.count_each-requires-clause-fit c).After-as_slice in
-    cells_fit (fabric_in c.args.from.now) c.inputs.input c.inputs.held c.inputs.invariant (inside at)
-    c.as_slice.result.now (here at) c.requires.fit
+count_each-requires-clause-fit c = search (arith, rules, cells_fit, inside, here)
 
 pub inputs-preserved : goal.inputs-preserved
 inputs-preserved c =
@@ -42,6 +30,4 @@ inputs-preserved c =
     c.as_slice.result.now (here at) c.count_each.new.held c.count_each.ensures.ports c.count_each.ensures.counts
 
 pub returns : goal.returns
-returns c =
-    let long = ap length c.as_slice-lists.ensures in
-    held_last (fabric_in c.args.from.now) c.inputs.input c.inputs.held c.inputs.invariant (omega arith)
+returns c = search (arith, rules, held_last)

@@ -1,4 +1,4 @@
-use Rattle.std.proofs.Common.{ℕ, List, [], ◌∷◌, ◌++◌, length, map, take, sym, ap, ◌∙◌}
+use Rattle.std.proofs.Common.{[], length, ℕ, List, ◌∷◌, ◌++◌, map, take, sym, ap, ◌∙◌}
 use Rattle.std.proofs.lemmas.List.{get_or_read, map_more}
 use Rattle.cq_engine.proofs.copied.lengths_of.Goals as goal
 

@@ -1,7 +1,5 @@
-use Rattle.std.proofs.Common.{Option, None, get_or, ap, sym, ◌∙◌, arith}
-use Rattle.cq_base.specs.declared.cell.Queued.{Queued}
+use Rattle.std.proofs.Common.{rules, None, sym, ◌∙◌, arith}
 use Rattle.cq_base.specs.declared.figures.InputFigures.{InputFigures}
-use Rattle.cq_engine.specs.Measuring.{input_counted}
 use Rattle.cq_fabric.proofs.Changed.{all_changed, next_changed, still_few}
 use Rattle.cq_engine.proofs.measure.count_inputs.Goals as goal
 
@@ -19,13 +17,7 @@ pub input_counted-counted-requires-clause-newest : goal.input_counted-counted-re
 input_counted-counted-requires-clause-newest c q is = c.requires.newest c.inputs.input q (sym c.at.ensures ∙ is)
 
 pub inputs-preserved : goal.inputs-preserved
-inputs-preserved c =
-    next_changed c.inputs.invariant none _ (omega arith) _ c.as_slice.ensures
-    (c.input_counted-counted.ensures
-    ∙ ap
-    (λ (o : Option Queued).
-    input_counted c.args.look c.args.queues.now c.inputs.input o (get_or c.as_slice.result.now c.inputs.input none))
-    c.at.ensures) _ c.set.ensures
+inputs-preserved c = search (arith, rules, next_changed)
 
 pub returns : goal.returns
 returns c = all_changed c.inputs.invariant (omega arith)

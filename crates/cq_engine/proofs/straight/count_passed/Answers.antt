@@ -17,13 +17,11 @@ pub inputs-preserved : goal.inputs-preserved
 inputs-preserved c =
     elim c.match-at.branch [
       | in-Some w ↦
-          next_changed c.inputs.invariant none _ (omega arith) _ w.as_slice.ensures
-          (w.input_passed-counted.ensures
+          next_changed c.inputs.invariant none _ (omega arith) _ w.as_slice.ensures (w.input_passed-counted.ensures
           ∙ ap (λ (q : Option Queued). input_passed q (get_or w.as_slice.result.now c.inputs.input none))
           (sym w.in-Some.is ∙ c.at.ensures)) _ (w.inputs-is ∙ w.set.ensures)
-      | in_default w ↦
-          next_kept c.inputs.invariant none (omega arith)
-          (ap (λ (q : Option Queued). input_passed q (get_or c.inputs.inputs c.inputs.input none))
+      | in_default w ↦ next_kept c.inputs.invariant none (omega arith) (ap
+          (λ (q : Option Queued). input_passed q (get_or c.inputs.inputs c.inputs.input none))
           (sym w.in_default.is ∙ c.at.ensures)) _ w.inputs-is
     ]
 

@@ -1,12 +1,12 @@
-use Rattle.std.proofs.Common.{◌≡◌, List, Option, None, [], ◌∷◌, ◌++◌, set, map, take, get_or, sym, ap, ◌∙◌, length-set, arith}
+use Rattle.std.proofs.Common.{None, map, get_or, length-set, arith, ◌≡◌, List, Option, [], ◌∷◌, ◌++◌, set, take, sym, ap, ◌∙◌}
 use Rattle.std.proofs.lemmas.List.{length-map, take_more, take_more_set, get_or-map}
-use Rattle.cq_base.specs.declared.cell.Queued.{Queued}
-use Rattle.cq_urgency.specs.OutputBuffer.{Buffered}
 use Rattle.cq_fabric.specs.Queues.{front_of, popped}
 use Rattle.cq_ideal.proofs.Changed.{at_place, next_place}
 use Rattle.cq_fabric.proofs.Changed.{still_behind}
 use Rattle.cq_fabric.proofs.Queued.{popped_by}
 use Rattle.cq_fabric.proofs.gone.pop_each.Goals as goal
+use Rattle.cq_base.specs.declared.cell.Queued.{Queued}
+use Rattle.cq_urgency.specs.OutputBuffer.{Buffered}
 
 pub outputs-preserved : goal.outputs-preserved
 outputs-preserved c =

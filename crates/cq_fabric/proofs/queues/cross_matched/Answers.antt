@@ -1,21 +1,11 @@
-use Rattle.std.proofs.Common.{◌≡◌, sym, ◌∙◌, subst}
-use Rattle.std.specs.Prelude.{All}
-use Rattle.cq_list.specs.InputList.{cells_of}
+use Rattle.std.proofs.Common.{arith, rules, ◌≡◌, sym, subst}
 use Rattle.cq_fabric.proofs.Queued.{HaveCrossed, firsts_apart, lists_long}
 use Rattle.cq_fabric.proofs.Offered.{as_offered, moved_apart, moved_same, moved_outputs}
 use Rattle.cq_fabric.proofs.queues.cross_matched.Goals as goal
+use Rattle.std.specs.Prelude.{All}
 
 pub renew-requires-clause-lists : goal.renew-requires-clause-lists
-renew-requires-clause-lists c =
-    let crossed : HaveCrossed c.args.matching.now c.args.lists.now c.args.buffers.now c.transfer.new.lists
-    c.transfer.new.buffers =
-    record {
-      have = c.requires.pairs.cells;
-      moves = c.transfer.ensures.moves;
-      rooms = c.transfer.ensures.room;
-      outputs = c.transfer.ensures.outputs;
-    } in
-    lists_long crossed ∙ sym (as_offered c.args.lists.now c.args.offers.now c.requires.follow.offers)
+renew-requires-clause-lists c = search (arith, rules, HaveCrossed, lists_long, as_offered)
 
 pub renew-requires-clause-outputs : goal.renew-requires-clause-outputs
 renew-requires-clause-outputs c =
@@ -25,16 +15,10 @@ renew-requires-clause-outputs c =
     c.transfer.ensures.moves c.requires.follow.outputs c.transfer.ensures.outputs)
 
 pub renew-requires-clause-keys : goal.renew-requires-clause-keys
-renew-requires-clause-keys c =
-    firsts_apart (cells_of c.transfer.new.lists)
-    (moved_apart c.args.matching.now c.args.lists.now c.transfer.new.lists _ _ c.requires.follow.apart
-    c.transfer.ensures.moves)
+renew-requires-clause-keys c = search (arith, rules, firsts_apart, moved_apart)
 
 pub renew-requires-clause-ports : goal.renew-requires-clause-ports
-renew-requires-clause-ports c =
-    sym (as_offered c.args.lists.now c.args.offers.now c.requires.follow.offers ∙ c.requires.pairs.lists)
+renew-requires-clause-ports c = search (arith, rules, as_offered)
 
 pub renew-requires-clause-others : goal.renew-requires-clause-others
-renew-requires-clause-others c =
-    moved_same c.args.matching.now c.args.lists.now c.transfer.new.lists _ _ c.requires.follow.apart
-    c.transfer.ensures.moves c.args.offers.now c.requires.follow.offers
+renew-requires-clause-others c = search (arith, rules, moved_same)

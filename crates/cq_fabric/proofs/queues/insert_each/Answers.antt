@@ -28,9 +28,8 @@ inputs-preserved c =
           (one_in came buffers old c.inputs.lists w.insert_one.new.lists c.inputs.offers w.insert_one.new.offers n
           w.in-Some.queued c.inputs.invariant (sym c.at.ensures ∙ w.in-Some.is) one.ports one.list one.others
           one.offers))
-      | in_default w ↦
-          subst (λ (ls : List Waiting). In came buffers old ls c.match-at.offers (n + 1)) (sym w.lists-is)
-          (subst (λ (o : Orders). In came buffers old c.inputs.lists o (n + 1)) (sym w.offers-is)
+      | in_default w ↦ subst (λ (ls : List Waiting). In came buffers old ls c.match-at.offers (n + 1))
+          (sym w.lists-is) (subst (λ (o : Orders). In came buffers old c.inputs.lists o (n + 1)) (sym w.offers-is)
           (none_in came buffers old c.inputs.lists c.inputs.offers n c.inputs.invariant
           (sym c.at.ensures ∙ w.in_default.is)))
     ]

@@ -1,4 +1,4 @@
-use Rattle.std.proofs.Common.{refl, ◌∙◌, subst, arith}
+use Rattle.std.proofs.Common.{rules, refl, subst, arith}
 use Rattle.std.specs.Fn.{FnReturnsAt}
 use Rattle.std.proofs.lemmas.List.{length-map, take_all}
 use Rattle.cq_fabric.proofs.Filling.{one_told}
@@ -9,11 +9,8 @@ items-preserved g c cells_at tells =
     let x = c.index-items-at.result in
     one_told cells_at c.args.items.now c.items.at x c.items.all.items c.push.new.self.items c.in_ok-cells.cells
     (c.items.invariant cells_at tells) c.in_ok-push.ensures.items c.items-test.true c.index-items-at.is
-    (tells x c.in_ok-cells.cells
-    (subst (FnReturnsAt g.F.Fn c.args.tell x) c.in_ok-cells.was
+    (tells x c.in_ok-cells.cells (subst (FnReturnsAt g.F.Fn c.args.tell x) c.in_ok-cells.was
     (record { shown = _; shows = refl; says = record { met = c.tell.ensures } })))
 
 pub returns : goal.returns
-returns g c cells_at tells =
-    let long = length-map c.args.items.now cells_at in
-    c.of.ensures ∙ c.items.invariant cells_at tells ∙ take_all c.items.at _ (omega arith)
+returns g c cells_at tells = search (arith, rules, length-map, c.items.invariant, take_all)

@@ -1,14 +1,12 @@
-use Rattle.std.proofs.Common.{◌≡◌, ℕ, List, length, get_or, subst, arith}
-use Rattle.cq_base.specs.declared.cell.Queued.{Queued}
-use Rattle.cq_fabric.specs.Telling.{AreFilled, IsFilled}
+use Rattle.std.proofs.Common.{rules, arith, List, get_or, subst}
 use Rattle.cq_fabric.proofs.Filling.{given_at, one_filled}
 use Rattle.cq_fabric.proofs.standing.filled_each.Given as given
 use Rattle.cq_fabric.proofs.standing.filled_each.Goals as goal
+use Rattle.cq_base.specs.declared.cell.Queued.{Queued}
+use Rattle.cq_fabric.specs.Telling.{IsFilled}
 
 pub fill-requires : goal.fill-requires
-fill-requires g c =
-    c.requires.can c.places.at c.as_slice.result c.places-test.true
-    (given_at _ _ c.index-cells-at.is c.places-test.true c.requires.as_many c.as_slice.ensures)
+fill-requires g c = search (arith, rules, c.requires.can, given_at)
 
 pub places-preserved : goal.places-preserved
 places-preserved g c cells_at room_of number n fills =
@@ -22,6 +20,4 @@ places-preserved g c cells_at room_of number n fills =
 
 pub returns : goal.returns
 returns g c cells_at room_of number n fills =
-    let all : c.places.at ≡ length c.args.rooms.now = omega arith in
-    subst (λ (k : ℕ). AreFilled cells_at room_of number n c.args.rooms.now c.args.cells.now k c.places.made.items) all
-    (c.places.invariant cells_at room_of number n fills)
+    search (arith, rules, c.places.invariant cells_at room_of number n fills)

@@ -1,4 +1,4 @@
-use Rattle.std.proofs.Common.{◌∙◌, arith}
+use Rattle.std.proofs.Common.{rules, arith}
 use Rattle.std.proofs.lemmas.List.{take_all}
 use Rattle.cq_fabric.proofs.Filling.{one_read}
 use Rattle.cq_fabric.proofs.standing.told.Goals as goal
@@ -10,5 +10,4 @@ places-preserved g c all long tells =
     (tells c.places.place c.at.result c.places-test.true c.at.ensures)
 
 pub returns : goal.returns
-returns g c all long tells =
-    c.of.ensures ∙ c.places.invariant all long tells ∙ take_all c.places.place all (omega arith)
+returns g c all long tells = search (arith, rules, c.places.invariant, take_all)

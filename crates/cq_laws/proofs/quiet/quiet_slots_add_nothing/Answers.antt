@@ -1,3 +1,4 @@
+use Rattle.std.proofs.Common.{arith, rules}
 use Rattle.cq_laws.proofs.QuietSlots.{quiet, quiet_run, quiet_departures, quiet_transfers_of_run, quiet_figures_of_run, empty_is}
 use Rattle.cq_laws.proofs.Idling.{idled_once}
 use Rattle.cq_laws.proofs.quiet.quiet_slots_add_nothing.Goals as goal
@@ -9,11 +10,7 @@ pub returns-clause-run : goal.returns-clause-run
 returns-clause-run c = quiet_run
 
 pub returns-clause-nothing : goal.returns-clause-nothing
-returns-clause-nothing c = λ ms ports count slot ranks. record {
-  departures = quiet_departures ms ports count slot ranks;
-  transfers = quiet_transfers_of_run ms ports count slot ranks;
-  figures = quiet_figures_of_run ms ports count slot ranks;
-}
+returns-clause-nothing c = search (arith, rules, quiet_departures, quiet_transfers_of_run, quiet_figures_of_run)
 
 pub returns-clause-empty : goal.returns-clause-empty
 returns-clause-empty c = empty_is

@@ -1,11 +1,10 @@
-use Rattle.std.proofs.Common.{◌≡◌, ◌+◌, ◌*◌, ◌<◌, ◌≤◌, ◌++◌, ℕ, List, length, get_or, map, take, refl, sym, ap, ◌∙◌, subst, arith, append_assoc, length-append}
+use Rattle.std.proofs.Common.{rules, ◌≡◌, ◌+◌, ◌*◌, ◌<◌, ◌≤◌, ◌++◌, ℕ, List, length, get_or, map, refl, sym, ap, ◌∙◌, subst, arith, append_assoc, length-append}
 use Rattle.std.specs.Prelude.{IfSome, Option, max, slice_get}
 use Rattle.std.proofs.lemmas.List.{length-map}
 use Rattle.cq_base.specs.declared.cell.Queued.{Queued}
 use Rattle.cq_base.specs.declared.figures.Figures.{Figures}
-use Rattle.cq_base.specs.declared.figures.OutputFigures.{OutputFigures}
 use Rattle.cq_rank.specs.Switch.{class_count}
-use Rattle.cq_ideal.specs.Admission.{Admission, admitted}
+use Rattle.cq_ideal.specs.Admission.{admitted}
 use Rattle.cq_ideal.specs.IdealSlot.{all_told, fronts}
 use Rattle.cq_ideal.specs.Ranking.{ranking}
 use Rattle.cq_prefs.specs.Moves.{transfers_of}
@@ -17,10 +16,9 @@ use Rattle.cq_fabric.proofs.Limits.{admits_are, still_holds}
 use Rattle.cq_fabric.proofs.Slot.{came_newest, came_outputs, can_cross_first, can_cross_second, come_apart, few_cross, fits_lists, held_before}
 use Rattle.cq_ideal.proofs.Sending.{length-told}
 use Rattle.cq_engine.specs.Crossing.{CanBeCrossed}
-use Rattle.cq_engine.specs.Engine.{EngineView, IsRunning, answer_to, its_admission}
+use Rattle.cq_engine.specs.Engine.{its_admission, IsRunning}
 use Rattle.cq_engine.specs.Sending.{CanSend}
 use Rattle.cq_engine.specs.Straight.{GoStraight, crossings}
-use Rattle.cq_engine.specs.declared.measure.Look.TheVariants.{Arriving}
 use Rattle.cq_engine.proofs.Shown.{Begun, begun, buffers_room, can_take_in, lists_room, ports_are, ranked}
 use Rattle.cq_engine.proofs.Done.{made_as, slot_done, stopped_as}
 use Rattle.cq_engine.proofs.Slot.{HaveCrossed, Whole, moved_of, whole_slot}
@@ -28,6 +26,7 @@ use Rattle.cq_engine.proofs.StraightSlot.{at_most_square, crossings_few, held_st
 use Rattle.cq_engine.proofs.engine.Engine.slot.Given as given
 use Rattle.cq_engine.proofs.engine.Engine.slot.Goals as goal
 use Rattle.cq_engine.proofs.engine.Engine.slot.Goals.{After-arrive, After-cross-first, After-cross-second, After-depart, After-take_in, After-of_outputs, After-pass-crossed, After-self, In_default}
+use Rattle.cq_engine.specs.declared.measure.Look.TheVariants.{Arriving}
 
 -- ## What is known, call by call
 
@@ -35,24 +34,11 @@ use Rattle.cq_engine.proofs.engine.Engine.slot.Goals.{After-arrive, After-cross-
 known : (g : given.Over) (c : After-self g) →
     Begun (map g.R.Rank.machine c.self.inside.ranks.fixed) c.args.slot c.args.arrivals.now c.self.inside.queues
     c.self.inside.ranks.states c.self.inside.limiter c.self.inside.look c.self.inside.figures
-known g c =
-    let e = c.self.inside in
-    begun g.R.Rank.machine c.args.self.now e.ranks.fixed e.ranks.states e.queues e.limiter e.figures e.next e.look
-    e.stopped c.self.view_is c.self.invariant.1 c.args.slot c.args.arrivals.now
-    (record {
-      running = c.requires.running;
-      next = c.requires.next;
-      come = c.requires.arrivals;
-      list_room = c.requires.ready.list_room;
-      buffer_room = c.requires.ready.buffer_room;
-      refused = c.requires.ready.refused;
-    })
+known g c = search (arith, rules, begun)
 
 -- clauses see as many machines as there are inputs
 ports_seen : (g : given.Over) (c : After-self g) → length c.self.inside.queues.inputs ≡ length c.args.self.now.fixed
-ports_seen g c =
-    (known g c).running.in_step.ports ∙ length-map c.self.inside.ranks.fixed g.R.Rank.machine
-    ∙ ap (λ (v : EngineView). length v.fixed) c.self.view_is
+ports_seen g c = search (arith, rules, known, length-map)
 
 -- what the machines are asked to rank is what the fabric admits
 asks : (g : given.Over) (c : After-take_in g) →
@@ -61,15 +47,7 @@ asks : (g : given.Over) (c : After-take_in g) →
     (admitted c.take_in.new.limiter.marks c.args.arrivals.now) c.self.inside.ranks.states
     ≡ ranking (map g.R.Rank.machine c.args.self.now.fixed) c.args.slot 0
     (its_admission c.args.arrivals.now c.args.self.now).cells c.args.self.now.fabric.ranks
-asks g c holds =
-    let e = c.self.inside in
-    let M = g.R.Rank.machine in
-    let cells = c.args.arrivals.now in
-    ap (λ (a : Admission). ranking (map M e.ranks.fixed) c.args.slot 0 a.cells e.ranks.states)
-    (admits_are e.limiter (fabric_of e.queues e.ranks.states) cells c.take_in.new.limiter.marks holds
-    c.take_in.ensures.judged.marks)
-    ∙ ap (λ (v : EngineView). ranking (map M v.fixed) c.args.slot 0 (its_admission cells v).cells v.fabric.ranks)
-    c.self.view_is
+asks g c holds = search (arith, rules, admits_are)
 
 -- once what is admitted has its keys
 taken : (g : given.Over) (c : In_default g) →
@@ -78,27 +56,17 @@ taken : (g : given.Over) (c : In_default g) →
     AreRanked (map g.R.Rank.machine c.self.inside.ranks.fixed) c.args.slot c.self.inside.queues
     c.self.inside.ranks.states (admitted c.take_in.new.limiter.marks c.args.arrivals.now)
     (class_count (map g.R.Rank.machine c.self.inside.ranks.fixed)) c.take_in.new.came c.take_in.new.ranks.states
-taken g c begins =
-    ranked begins c.take_in.new.limiter.marks c.take_in.new.came c.take_in.new.ranks.states
-    c.in_default.ensures.taken.ranked
+taken g c begins = search (arith, rules, ranked)
 
 -- once it has arrived
 arrived : (g : given.Over) (c : After-arrive g) →
     HaveArrived c.self.inside.queues c.take_in.new.came c.arrive.new.self
-arrived g c =
-    record {
-      ports = c.arrive.ensures.ports;
-      lists = c.arrive.ensures.lists;
-      buffers = c.arrive.ensures.buffers;
-      to_outputs = c.arrive.ensures.to_outputs;
-    }
+arrived g c = search (arith, rules)
 
 -- what each output holds then
 judged : (g : given.Over) (c : After-take_in g) →
     HaveJudged (admitted c.take_in.new.limiter.marks c.args.arrivals.now) c.self.inside.limiter c.take_in.new.limiter
-judged g c =
-    let was = c.take_in.ensures.judged in
-    record { limits = was.limits; as_many = was.ports.held ∙ ap length was.limits; more = was.held }
+judged g c = search (arith, rules)
 
 -- these cells can be sent, if each output that sends one holds a cell
 can_send : (g : given.Over) (c : After-take_in g) →
@@ -108,64 +76,24 @@ can_send : (g : given.Over) (c : After-take_in g) →
     x.outputs ≡ c.self.inside.figures.outputs →
     ((j : ℕ) → IfSome (came_to gone j) (λ _. 0 < get_or c.take_in.new.limiter.held j 0)) →
     CanSend c.args.slot gone c.take_in.new.ranks c.take_in.new.limiter x c.args.sent.now
-can_send g c begins gone long {x} outputs holds =
-    let up = begins.running.in_step in
-    let ports = up.ports in
-    let many = length-map c.self.inside.ranks.fixed g.R.Rank.machine in
-    let held = (judged g c).as_many in
-    let limits = ports_are begins in
-    let looks = ap (λ (v : EngineView). length v.fixed) c.self.view_is in
-    let fixed = ap length c.take_in.ensures.fixed in
-    let early = c.requires.early in
-    record {
-      early = early;
-      machines = omega arith;
-      states = omega arith;
-      held = omega arith;
-      holds = holds;
-      sent = omega arith;
-      outputs = ap length outputs ∙ up.outputs ∙ sym ports ∙ sym long;
-      counts = λ j y there.
-          let counted = up.counts.outputs j y (ap (λ (l : List OutputFigures). slice_get l j) (sym outputs) ∙ there) in
-          omega arith;
-    }
+can_send g c begins gone long {x} outputs holds = search (arith, rules, length-map, judged, ports_are)
 
 -- once the first matching has crossed
 crossed : (g : given.Over) (c : After-cross-first g) →
     HaveCrossed c.cross-first.ensures.matching c.cross-first.result c.arrive.new.self c.cross-first.new.queues
-crossed g c =
-    record {
-      best = c.cross-first.ensures.best;
-      counted = c.cross-first.ensures.count;
-      moves = c.cross-first.ensures.moves;
-    }
+crossed g c = search (arith, rules)
 
 -- once the outputs have sent, and the machines are told
 sent : (g : given.Over) (c : After-depart g) →
     HaveSent (map g.R.Rank.machine c.self.inside.ranks.fixed) c.arrive.new.self c.take_in.new.ranks.states
     c.cross-first.new.queues c.depart.new.ranks.states c.depart.new.queues
-sent g c =
-    let gone = fronts c.cross-first.new.queues.buffers in
-    record {
-      inputs = c.depart.ensures.inputs;
-      buffers = c.depart.ensures.buffers;
-      told =
-          c.depart.ensures.sent.told
-          ∙ ap (λ (fixed : List (List ℕ)). all_told (map g.R.Rank.machine fixed) gone c.take_in.new.ranks.states)
-          c.take_in.ensures.fixed;
-      to_outputs = c.depart.ensures.to_outputs ∙ c.cross-first.ensures.to_outputs;
-    }
+sent g c = search (arith, rules)
 
 -- once the second matching has crossed too
 crossed_again : (g : given.Over) (c : After-cross-second g) →
     HaveCrossed c.cross-second.ensures.matching c.cross-second.result c.depart.new.queues
     c.cross-second.new.queues
-crossed_again g c =
-    record {
-      best = c.cross-second.ensures.best;
-      counted = c.cross-second.ensures.count;
-      moves = c.cross-second.ensures.moves;
-    }
+crossed_again g c = search (arith, rules)
 
 -- all that the slot comes to
 whole : (g : given.Over) (c : goal.After-count_proposals-2 g) →
@@ -200,21 +128,13 @@ whole g c =
 -- each cell that came is at the place of its output
 straight : (g : given.Over) (c : After-of_outputs g) →
     GoStraight c.self.inside.queues c.take_in.new.came c.of_outputs.result.now
-straight g c =
-    let shown = c.of_outputs.ensures ∙ ap (λ n. take n c.go_straight.new.gone) c.ports-ports.ensures.value in
-    subst (GoStraight c.self.inside.queues c.take_in.new.came) (sym shown)
-    (c.go_straight.ensures.sent c.if-go_straight.true)
+straight g c = search (arith, rules, c.go_straight.ensures.sent)
 
 -- what the machines are told
 told_straight : (g : given.Over) (c : After-pass-crossed g) →
     c.pass-crossed.new.ranks.states
     ≡ all_told (map g.R.Rank.machine c.self.inside.ranks.fixed) c.of_outputs.result.now c.take_in.new.ranks.states
-told_straight g c =
-    c.pass-crossed.ensures.sent.told
-    ∙ ap
-    (λ (fixed : List (List ℕ)).
-    all_told (map g.R.Rank.machine fixed) c.of_outputs.result.now c.take_in.new.ranks.states)
-    c.take_in.ensures.fixed
+told_straight g c = search (arith, rules)
 
 -- no more cells cross than there are ports
 few_proposed : (g : given.Over) (c : After-pass-crossed g) →
@@ -223,13 +143,7 @@ few_proposed : (g : given.Over) (c : After-pass-crossed g) →
     GoStraight c.self.inside.queues c.take_in.new.came c.of_outputs.result.now →
     c.pass-crossed.new.figures.proposals + (c.pass-crossed.result + 0)
     ≤ c.args.self.now.figures.proposals + 2 * (length c.args.self.now.fixed * length c.args.self.now.fixed)
-few_proposed g c begins is =
-    let few = crossings_few c.args.slot (length c.of_outputs.result.now) c.take_in.new.came in
-    let was = ap (λ (v : EngineView). v.figures.proposals) c.self.view_is in
-    let long = length-map c.self.inside.ranks.fixed g.R.Rank.machine in
-    let looks = ap (λ (v : EngineView). length v.fixed) c.self.view_is in
-    let squared = at_most_square (length c.args.self.now.fixed) in
-    omega arith
+few_proposed g c begins is = search (arith, rules, crossings_few, length-map, at_most_square)
 
 -- all that the slot comes to
 all_straight : (g : given.Over) (c : goal.After-count_proposals g) →
@@ -252,14 +166,11 @@ all_straight g c =
     let many = did.many ∙ ap (λ (n : ℕ). length (crossings slot n c.take_in.new.came)) is.ports in
     whole_straight (taken g at.In_default begins) (lists_room begins marks) is (buffers_room begins marks) x
     begins.running.in_step c.self.inside.look begins.running.seen c.pass-crossed.new.ranks.states
-    (told_straight g at.After-pass-crossed) c.count_proposals.new.figures
-    (record {
+    (told_straight g at.After-pass-crossed) c.count_proposals.new.figures (record {
       slots = counted.slots ∙ did.sent.slots;
-      proposed =
-          counted.proposals ∙ ap (λ (n : ℕ). n + (c.pass-crossed.result + 0)) did.sent.proposals
+      proposed = counted.proposals ∙ ap (λ (n : ℕ). n + (c.pass-crossed.result + 0)) did.sent.proposals
           ∙ ap (λ (n : ℕ). x.proposals + (n + 0)) many;
-      most =
-          counted.most ∙ ap (λ (n : ℕ). max n (max c.pass-crossed.result 0)) did.sent.most
+      most = counted.most ∙ ap (λ (n : ℕ). max n (max c.pass-crossed.result 0)) did.sent.most
           ∙ ap (λ (n : ℕ). max x.most (max n 0)) many;
       inputs = counted.inputs ∙ did.input_figures;
       outputs = counted.outputs ∙ did.sent.outputs;
@@ -268,14 +179,11 @@ all_straight g c =
 -- ## What the calls ask for
 
 pub take_in-requires : goal.take_in-requires
-take_in-requires g c =
-    can_take_in (known g (goal.at.take_in-requires g c).After-self) c.ports-ports.ensures.within
-    c.ports-ports.ensures.rooms
+take_in-requires g c = search (arith, rules, can_take_in, known)
 
 pub go_straight-requires : goal.go_straight-requires
 go_straight-requires g c =
-    let at = goal.at.go_straight-requires g c in
-    came_outputs (taken g at.In_default (known g at.After-self))
+    let at = goal.at.go_straight-requires g c in came_outputs (taken g at.In_default (known g at.After-self))
 
 pub pass-crossed-requires-clause-send : goal.pass-crossed-requires-clause-send
 pass-crossed-requires-clause-send g c =
@@ -288,16 +196,10 @@ pass-crossed-requires-clause-send g c =
     begins.running.holds (judged g at.After-take_in))
 
 pub pass-crossed-requires-clause-few : goal.pass-crossed-requires-clause-few
-pass-crossed-requires-clause-few g c =
-    let at = goal.at.pass-crossed-requires-clause-few g c in
-    let long = (straight g at.After-of_outputs).ports in
-    omega arith
+pass-crossed-requires-clause-few g c = search (arith, rules, straight)
 
 pub count_proposals-requires : goal.count_proposals-requires
-count_proposals-requires g c =
-    let at = goal.at.count_proposals-requires g c in
-    let few = few_proposed g at.After-pass-crossed (known g at.After-self) (straight g at.After-of_outputs) in
-    omega arith
+count_proposals-requires g c = search (arith, rules, few_proposed, known, straight)
 
 pub arrive-requires-clause-fit : goal.arrive-requires-clause-fit
 arrive-requires-clause-fit g c =
@@ -307,8 +209,7 @@ arrive-requires-clause-fit g c =
 
 pub arrive-requires-clause-come : goal.arrive-requires-clause-come
 arrive-requires-clause-come g c =
-    let at = goal.at.arrive-requires-clause-come g c in
-    come_apart (taken g at.In_default (known g at.After-self))
+    let at = goal.at.arrive-requires-clause-come g c in come_apart (taken g at.In_default (known g at.After-self))
 
 pub count_inputs-requires-clause-outputs : goal.count_inputs-requires-clause-outputs
 count_inputs-requires-clause-outputs g c =
@@ -343,10 +244,9 @@ depart-requires g c =
     let moved = c.cross-first.ensures.moves.ports.1 in
     let came = ap length c.arrive.ensures.buffers in
     let square = c.ports-ports.ensures.buffers in
-    can_send g at.After-take_in begins (fronts buffers) (long ∙ moved ∙ came ∙ square) refl
-    (held_before (taken g at.In_default begins) (arrived g at.After-arrive)
-    (buffers_room begins c.take_in.new.limiter.marks) (moved_of (crossed g at.After-cross-first)) begins.running.holds
-    (judged g at.After-take_in))
+    can_send g at.After-take_in begins (fronts buffers) (long ∙ moved ∙ came ∙ square) refl (held_before
+    (taken g at.In_default begins) (arrived g at.After-arrive) (buffers_room begins c.take_in.new.limiter.marks)
+    (moved_of (crossed g at.After-cross-first)) begins.running.holds (judged g at.After-take_in))
 
 pub cross-second-requires-clause-can : goal.cross-second-requires-clause-can
 cross-second-requires-clause-can g c =
@@ -397,10 +297,7 @@ invariant_of-self-2 g c =
     )
 
 pub returns-in-Err-clause-answer : goal.returns-in-Err-clause-answer
-returns-in-Err-clause-answer g c =
-    let at = goal.at.returns-in-Err-clause-answer g c in
-    let asked = asks g at.After-take_in (known g at.After-self).running.holds in
-    sym (ap answer_to (sym asked ∙ c.in-Err.ensures.fault))
+returns-in-Err-clause-answer g c = search (arith, rules, asks, known)
 
 pub invariant_of-self-then-go_straight : goal.invariant_of-self-then-go_straight
 invariant_of-self-then-go_straight g c =
@@ -430,10 +327,7 @@ invariant_of-self-then-go_straight g c =
     )
 
 pub returns-then-go_straight-clause-answer : goal.returns-then-go_straight-clause-answer
-returns-then-go_straight-clause-answer g c =
-    let at = goal.at.returns-then-go_straight-clause-answer g c in
-    let asked = asks g at.After-take_in (known g at.After-self).running.holds in
-    sym (ap answer_to (sym asked ∙ c.in_default.ensures.taken.ranked))
+returns-then-go_straight-clause-answer g c = search (arith, rules, asks, known)
 
 pub returns-then-go_straight-clause-slot : goal.returns-then-go_straight-clause-slot
 returns-then-go_straight-clause-slot g c =
@@ -447,15 +341,11 @@ returns-then-go_straight-clause-slot g c =
     e.stopped c.self.view_is (known g at.After-self).running.holds c.take_in.ensures.judged.marks
     c.in_default.ensures.taken.refused c.pass-crossed.new.ranks.fixed c.pass-crossed.new.ranks.states e.queues
     c.pass-crossed.new.limiter c.count_proposals.new.figures (slot + 1) (all_straight g c) did.sent.released
-    did.sent.left
-    (did.note ∙ ap (λ (n : ℕ). c.args.note.now.items ++ crossings slot n came) is.ports)
+    did.sent.left (did.note ∙ ap (λ (n : ℕ). c.args.note.now.items ++ crossings slot n came) is.ports)
     (ap (λ (n : ℕ). c.pass-crossed.new.note.spare + length (crossings slot n came)) (sym is.ports) ∙ did.note_room)
 
 pub returns-clause-answer : goal.returns-clause-answer
-returns-clause-answer g c =
-    let at = goal.at.returns-clause-answer g c in
-    let asked = asks g at.After-take_in (known g at.After-self).running.holds in
-    sym (ap answer_to (sym asked ∙ c.in_default.ensures.taken.ranked))
+returns-clause-answer g c = search (arith, rules, asks, known)
 
 pub returns-clause-slot : goal.returns-clause-slot
 returns-clause-slot g c =
@@ -476,72 +366,21 @@ returns-clause-slot g c =
 -- ## What stays
 
 pub returns-in-Err-clause-stays : goal.returns-in-Err-clause-stays
-returns-in-Err-clause-stays g c =
-    stopped_as c.self.view_is
-    (record {
-      unsent = refl;
-      unnoted = refl;
-      figures = refl;
-      refused = c.in-Err.ensures.stays;
-      lists = refl;
-      buffers = refl;
-      next = refl;
-    })
+returns-in-Err-clause-stays g c = search (arith, rules, stopped_as)
 
 pub returns-in-Err-clause-made : goal.returns-in-Err-clause-made
-returns-in-Err-clause-made g c =
-    made_as c.self.view_is
-    (record {
-      fixed = c.take_in.ensures.fixed;
-      limits = c.take_in.ensures.judged.limits;
-      from_inputs = refl;
-      to_outputs = refl;
-    })
+returns-in-Err-clause-made g c = search (arith, rules, made_as)
 
 pub returns-then-go_straight-clause-made : goal.returns-then-go_straight-clause-made
-returns-then-go_straight-clause-made g c =
-    let sent = c.pass-crossed.ensures.sent in
-    made_as c.self.view_is
-    (record {
-      fixed = sent.fixed ∙ c.take_in.ensures.fixed;
-      limits = sent.released.limits ∙ c.take_in.ensures.judged.limits;
-      from_inputs = refl;
-      to_outputs = refl;
-    })
+returns-then-go_straight-clause-made g c = search (arith, rules, made_as)
 
 pub returns-clause-made : goal.returns-clause-made
-returns-clause-made g c =
-    let one = c.cross-first.ensures in
-    let left = c.depart.ensures in
-    let two = c.cross-second.ensures in
-    made_as c.self.view_is
-    (record {
-      fixed = left.sent.fixed ∙ c.take_in.ensures.fixed;
-      limits = left.sent.released.limits ∙ c.take_in.ensures.judged.limits;
-      from_inputs = two.from_inputs ∙ left.from_inputs ∙ one.from_inputs ∙ c.arrive.ensures.from_inputs;
-      to_outputs = two.to_outputs ∙ left.to_outputs ∙ one.to_outputs ∙ c.arrive.ensures.to_outputs;
-    })
+returns-clause-made g c = search (arith, rules, made_as)
 
 -- ## The next slot
 
 pub returns-then-go_straight-clause-went_on : goal.returns-then-go_straight-clause-went_on
-returns-then-go_straight-clause-went_on g c =
-    let at = goal.at.returns-then-go_straight-clause-went_on g c in
-    let few = few_proposed g at.After-pass-crossed (known g at.After-self) (straight g at.After-of_outputs) in
-    record { next = refl; few = omega arith }
+returns-then-go_straight-clause-went_on g c = search (arith, rules, few_proposed, known, straight)
 
 pub returns-clause-went_on : goal.returns-clause-went_on
-returns-clause-went_on g c =
-    let begins = known g (goal.at.returns-clause-went_on g c).After-self in
-    let n = length c.args.self.now.fixed in
-    let long = length-map c.self.inside.ranks.fixed g.R.Rank.machine in
-    let looks = ap (λ (v : EngineView). length v.fixed) c.self.view_is in
-    let gone = ap length c.depart.ensures.inputs in
-    let first : c.cross-first.result ≤ n * n =
-    subst (λ (k : ℕ). c.cross-first.result ≤ k * k) (let e : length c.arrive.new.self.inputs ≡ n = omega arith in e)
-    c.cross-first.ensures.few in
-    let second : c.cross-second.result ≤ n * n =
-    subst (λ (k : ℕ). c.cross-second.result ≤ k * k) (let e : length c.depart.new.queues.inputs ≡ n = omega arith in e)
-    c.cross-second.ensures.few in
-    let was = ap (λ (v : EngineView). v.figures.proposals) c.self.view_is in
-    record { next = refl; few = omega arith }
+returns-clause-went_on g c = search (arith, rules, known, length-map)

@@ -1,15 +1,14 @@
-use Rattle.std.proofs.Common.{◌≡◌, ◌<◌, ℕ, List, [], length, map, take, drop, ◌++◌, sym, ap, ◌∙◌, subst, arith}
-use Rattle.std.specs.Prelude.{All}
+use Rattle.std.proofs.Common.{rules, ◌≡◌, List, [], length, map, take, drop, ◌++◌, sym, ap, ◌∙◌, subst, arith}
 use Rattle.cq_list.specs.InputList.{Waiting, cells_of}
-use Rattle.cq_urgency.specs.OutputBuffer.{Buffered, cells_in}
-use Rattle.cq_prefs.specs.FirstCells.{list_of, orders_of}
+use Rattle.cq_prefs.specs.FirstCells.{list_of}
 use Rattle.cq_prefs.specs.Orders.{ports}
 use Rattle.cq_laws.specs.Phases.{came_to, list_arrived}
-use Rattle.cq_fabric.specs.Queues.{Queues as Held, ComeApart, FitLists, FitEach, AreSquare, AreOffered, fabric_of, list_room, list_at, list_with}
+use Rattle.cq_fabric.specs.Queues.{Queues as Held, FitLists, AreSquare, AreOffered, fabric_of, list_room, FitEach}
 use Rattle.cq_fabric.proofs.Queued.{HaveCome, shown, whole, fit_each, arrived_cells, arrived_rooms, arrived_square}
 use Rattle.cq_fabric.proofs.Offered.{as_offered}
 use Rattle.cq_fabric.proofs.queues.Queues.arrive.Goals as goal
 use Rattle.cq_fabric.proofs.queues.Queues.arrive.Goals.{After-self}
+use Rattle.cq_urgency.specs.OutputBuffer.{Buffered, cells_in}
 
 -- ## What is known, call by call
 
@@ -22,31 +21,13 @@ fits c = subst (FitLists c.args.came.now) (sym c.self.view_is) c.requires.fit
 come : (c : goal.After-self-1) →
     HaveCome c.self.inside.lists.items c.self.inside.buffers.items c.args.came.now (ports c.self.inside.offers)
     c.insert_each.new.lists
-come c =
-    let lists = c.self.inside.lists.items in
-    let new = c.insert_each.new.lists in
-    let came = c.args.came.now in
-    record {
-      square = c.self.invariant.square;
-      fit = fits (goal.at.invariant_of-self c).After-self;
-      long = c.insert_each.ensures.ports ∙ ap length c.deref_mut.ensures.value;
-      each =
-          subst
-          (λ (bs : List Buffered). (i : ℕ) → i < length lists →
-          list_at new i ≡ list_with (cells_in bs) (came_to came i) (list_at lists i)) c.deref.ensures.value
-          (subst
-          (λ (ls : List Waiting). (i : ℕ) → i < length ls →
-          list_at new i ≡ list_with (cells_in c.deref.result.now) (came_to came i) (list_at ls i))
-          c.deref_mut.ensures.value c.insert_each.ensures.lists);
-    }
+come c = search (arith, rules, fits)
 
 -- the vector of the lists is its slice again
 lists_are : (c : goal.After-self-1) →
     take c.self.inside.lists.len (c.insert_each.new.lists ++ drop (length c.insert_each.new.lists)
     c.self.inside.lists.items) ≡ c.insert_each.new.lists
-lists_are c =
-    let value = ap length c.deref_mut.ensures.value in
-    whole c.self.inside.lists.len c.insert_each.new.lists c.self.inside.lists.items (omega arith) (omega arith)
+lists_are c = search (arith, rules, whole)
 
 -- ## What is asked, and what stands afterwards
 
@@ -67,40 +48,31 @@ invariant_of-self c =
     let new = c.insert_each.new.lists in
     let offers = c.insert_each.new.offers in
     let follows = c.insert_each.ensures.offers in
-    let offered : ports c.self.inside.offers ≡ ports offers =
-    as_offered lists c.self.inside.offers c.self.invariant.offered ∙ sym (come c).long
-    ∙ sym (as_offered new offers follows) in
-    subst (λ (ls : List Waiting). AreOffered ls buffers offers) (sym (lists_are c))
-    (record {
+    let offered : ports c.self.inside.offers ≡ ports offers = as_offered lists c.self.inside.offers
+    c.self.invariant.offered ∙ sym (come c).long ∙ sym (as_offered new offers follows) in
+    subst (λ (ls : List Waiting). AreOffered ls buffers offers) (sym (lists_are c)) (record {
       square = subst (AreSquare new buffers) offered (arrived_square (come c));
       offered = follows;
       rooms = c.self.invariant.rooms;
     })
 
 pub insert_each-requires-clause-come : goal.insert_each-requires-clause-come
-insert_each-requires-clause-come c =
-    subst (λ (ls : List Waiting). ComeApart c.args.came.now (cells_of ls)) (sym c.deref_mut.ensures.value)
-    (subst (λ (q : Held). ComeApart c.args.came.now q.inputs) (sym c.self.view_is) c.requires.come)
+insert_each-requires-clause-come c = search (arith, rules)
 
 pub insert_each-requires-clause-outputs : goal.insert_each-requires-clause-outputs
-insert_each-requires-clause-outputs c =
-    subst (λ (ls : List Waiting). All (λ list. list.outputs ≡ length ls) ls) (sym c.deref_mut.ensures.value)
-    c.self.invariant.square.outputs
+insert_each-requires-clause-outputs c = search (arith, rules)
 
 pub insert_each-requires-clause-offers : goal.insert_each-requires-clause-offers
-insert_each-requires-clause-offers c =
-    c.self.invariant.offered ∙ ap (λ (ls : List Waiting). orders_of (cells_of ls)) (sym c.deref_mut.ensures.value)
+insert_each-requires-clause-offers c = search (arith, rules)
 
 pub returns-clause-lists : goal.returns-clause-lists
 returns-clause-lists c i =
     let new = c.insert_each.new.lists in
     let came = came_to c.args.came.now i in
     ap (λ (ls : List Waiting). list_of (cells_of ls) i) (lists_are c)
-    ∙ subst
-    (λ (q : Held). list_of (cells_of new) i ≡ list_arrived (fabric_of q []) came (list_of q.inputs i)) c.self.view_is
-    (arrived_cells (come c) i)
+    ∙ subst (λ (q : Held). list_of (cells_of new) i ≡ list_arrived (fabric_of q []) came (list_of q.inputs i))
+    c.self.view_is (arrived_cells (come c) i)
 
 pub returns-clause-from_inputs : goal.returns-clause-from_inputs
-returns-clause-from_inputs c =
-    ap (λ (ls : List Waiting). map list_room ls) (lists_are c) ∙ arrived_rooms (come c)
+returns-clause-from_inputs c = ap (λ (ls : List Waiting). map list_room ls) (lists_are c) ∙ arrived_rooms (come c)
     ∙ ap (λ (q : Held). q.from_inputs) c.self.view_is

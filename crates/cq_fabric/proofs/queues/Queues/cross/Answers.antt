@@ -1,15 +1,13 @@
-use Rattle.std.proofs.Common.{◌≡◌, ℕ, List, length, map, take, drop, ◌++◌, sym, ap, ◌∙◌, subst, arith, ◌^◌, ◌<◌}
-use Rattle.std.specs.Prelude.{All}
+use Rattle.std.proofs.Common.{rules, ◌≡◌, List, length, map, take, drop, ◌++◌, sym, ap, ◌∙◌, subst, arith}
 use Rattle.std.proofs.lemmas.List.{length-map}
 use Rattle.cq_list.specs.InputList.{Waiting, cells_of}
 use Rattle.cq_urgency.specs.OutputBuffer.{Buffered, cells_in}
 use Rattle.cq_prefs.specs.FirstCells.{orders_of}
-use Rattle.cq_prefs.specs.Moves.{Moves}
-use Rattle.cq_prefs.specs.Orders.{Orders, ports}
+use Rattle.cq_prefs.specs.Orders.{Orders}
 use Rattle.cq_prefs.specs.Pairing.{Partners, IsMatching}
-use Rattle.cq_xbar.specs.Crossbar.{HaveCells, MovesRoom}
+use Rattle.cq_xbar.specs.Crossbar.{HaveCells}
 use Rattle.cq_fabric.specs.Crossing.{CanCrossInPairs, CanFollow}
-use Rattle.cq_fabric.specs.Queues.{Queues as Held, CanCross, AreSquare, AreOffered, list_room, buffer_room}
+use Rattle.cq_fabric.specs.Queues.{Queues as Held, CanCross, list_room, buffer_room}
 use Rattle.cq_fabric.proofs.Offered.{as_offered}
 use Rattle.cq_fabric.proofs.Queued.{HaveCrossed, shown, whole, has_cell, have_room, lists_long, buffers_long, crossed_list_rooms, crossed_buffer_rooms, crossed_square, matched_long}
 use Rattle.cq_fabric.proofs.queues.Queues.cross.Goals as goal
@@ -27,53 +25,25 @@ have_cells lists buffers now o m view can orders matching =
 
 -- each pair of the matching has a cell that can cross
 have : (c : After-self) → HaveCells c.args.matching.now (cells_of c.self.inside.lists.items)
-have c =
-    have_cells c.self.inside.lists.items c.self.inside.buffers.items c.args.self.now c.self.inside.offers
-    c.args.matching.now c.self.view_is c.requires.cells c.self.invariant.offered c.requires.matching
+have c = search (arith, rules, have_cells)
 
 -- what the transfer says of the vectors, from what it says of their slices
 crossed : (c : goal.After-self-2-1) →
     HaveCrossed c.args.matching.now c.self.inside.lists.items c.self.inside.buffers.items c.cross_matched.new.lists
     c.cross_matched.new.buffers
-crossed c =
-    let m = c.args.matching.now in
-    let lists' = c.cross_matched.new.lists in
-    let buffers' = c.cross_matched.new.buffers in
-    let all = c.cross_matched.ensures in
-    let e = c.deref_mut.ensures.value in
-    let f = c.deref_mut-2.ensures.value in
-    record {
-      have = have (goal.at.invariant_of-self c).After-self;
-      moves =
-          subst
-          (λ (ls : List Waiting).
-          Moves m (cells_of ls) (cells_in c.self.inside.buffers.items) (cells_of lists') (cells_in buffers')) e
-          (subst
-          (λ (bs : List Buffered).
-          Moves m (cells_of c.deref_mut.result.now) (cells_in bs) (cells_of lists') (cells_in buffers')) f all.moves);
-      rooms =
-          subst (λ (ls : List Waiting). MovesRoom m ls c.self.inside.buffers.items lists' buffers') e
-          (subst (λ (bs : List Buffered). MovesRoom m c.deref_mut.result.now bs lists' buffers') f all.room);
-      outputs = all.outputs ∙ ap (map (λ (w : Waiting). w.outputs)) e;
-    }
+crossed c = search (arith, rules, have)
 
 -- the vector of the lists is its slice again
 lists_are : (c : goal.After-self-2-1) →
     take c.self.inside.lists.len (c.cross_matched.new.lists ++ drop (length c.cross_matched.new.lists)
     c.self.inside.lists.items) ≡ c.cross_matched.new.lists
-lists_are c =
-    let long = lists_long (crossed c) in
-    let value = ap length c.deref_mut.ensures.value in
-    whole c.self.inside.lists.len c.cross_matched.new.lists c.self.inside.lists.items (omega arith) (omega arith)
+lists_are c = search (arith, rules, lists_long, crossed, whole)
 
 -- and so is that of the buffers
 buffers_are : (c : goal.After-self-2-1) →
     take c.self.inside.buffers.len (c.cross_matched.new.buffers ++ drop (length c.cross_matched.new.buffers)
     c.self.inside.buffers.items) ≡ c.cross_matched.new.buffers
-buffers_are c =
-    let long = buffers_long (crossed c) in
-    let value = ap length c.deref_mut-2.ensures.value in
-    whole c.self.inside.buffers.len c.cross_matched.new.buffers c.self.inside.buffers.items (omega arith) (omega arith)
+buffers_are c = search (arith, rules, buffers_long, crossed, whole)
 
 -- ## What is asked, and what stands afterwards
 
@@ -88,8 +58,7 @@ cross_matched-requires-clause-pairs c =
     sym (length-map lists (λ (w : Waiting). w.cells)) ∙ ap (λ (q : Held). length q.inputs) c.self.view_is
     ∙ sym (matched_long c.args.self.now.inputs m c.requires.matching) in
     subst (λ (ls : List Waiting). CanCrossInPairs m ls c.deref_mut-2.result.now) (sym c.deref_mut.ensures.value)
-    (subst (CanCrossInPairs m lists) (sym c.deref_mut-2.ensures.value)
-    (record {
+    (subst (CanCrossInPairs m lists) (sym c.deref_mut-2.ensures.value) (record {
       lists = long;
       buffers = c.self.invariant.square.as_many ∙ long;
       cells = all;
@@ -101,49 +70,17 @@ pub cross_matched-requires-clause-follow : goal.cross_matched-requires-clause-fo
 cross_matched-requires-clause-follow c =
     let can = subst CanCross (sym c.self.view_is) c.requires.cells in
     subst (λ (ls : List Waiting). CanFollow ls c.self.inside.offers) (sym c.deref_mut.ensures.value)
-    (record {
-      apart = can.apart;
-      outputs = c.self.invariant.square.outputs;
-      offers = c.self.invariant.offered;
-    })
+    (record { apart = can.apart; outputs = c.self.invariant.square.outputs; offers = c.self.invariant.offered })
 
 pub cross_matched-requires-clause-note : goal.cross_matched-requires-clause-note
-cross_matched-requires-clause-note c =
-    let long = matched_long c.args.self.now.inputs c.args.matching.now c.requires.matching in
-    omega arith
+cross_matched-requires-clause-note c = search (arith, rules, matched_long)
 
 pub invariant_of-self : goal.invariant_of-self
-invariant_of-self c =
-    let lists = c.self.inside.lists.items in
-    let new = c.cross_matched.new.lists in
-    let filled = c.cross_matched.new.buffers in
-    let offers = c.cross_matched.new.offers in
-    let x = crossed c in
-    let follows = c.cross_matched.ensures.offers in
-    let offered : ports c.self.inside.offers ≡ ports offers =
-    as_offered lists c.self.inside.offers c.self.invariant.offered ∙ sym (lists_long x)
-    ∙ sym (as_offered new offers follows) in
-    subst
-    (λ (ls : List Waiting).
-    AreOffered ls
-    (take c.self.inside.buffers.len (filled ++ drop (length filled) c.self.inside.buffers.items)) offers)
-    (sym (lists_are c))
-    (subst (λ (bs : List Buffered). AreOffered new bs offers) (sym (buffers_are c))
-    (record {
-      square =
-          subst (AreSquare new filled) offered (crossed_square x (ports c.self.inside.offers) c.self.invariant.square);
-      offered = follows;
-      rooms =
-          subst (λ (rooms : List ℕ). All (λ room. room < 2 ^ 64) rooms) (sym (crossed_buffer_rooms x))
-          c.self.invariant.rooms;
-    }))
+invariant_of-self c = search
+    (arith, rules, crossed, as_offered, lists_long, lists_are, buffers_are, crossed_square, crossed_buffer_rooms)
 
 pub returns-clause-from_inputs : goal.returns-clause-from_inputs
-returns-clause-from_inputs c =
-    ap (λ (ls : List Waiting). map list_room ls) (lists_are c) ∙ crossed_list_rooms (crossed c)
-    ∙ ap (λ (q : Held). q.from_inputs) c.self.view_is
+returns-clause-from_inputs c = search (arith, rules, lists_are, crossed_list_rooms, crossed)
 
 pub returns-clause-to_outputs : goal.returns-clause-to_outputs
-returns-clause-to_outputs c =
-    ap (λ (bs : List Buffered). map buffer_room bs) (buffers_are c) ∙ crossed_buffer_rooms (crossed c)
-    ∙ ap (λ (q : Held). q.to_outputs) c.self.view_is
+returns-clause-to_outputs c = search (arith, rules, buffers_are, crossed_buffer_rooms, crossed)

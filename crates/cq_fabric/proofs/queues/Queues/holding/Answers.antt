@@ -1,11 +1,8 @@
-use Rattle.std.proofs.Common.{◌≡◌, arith, rules, ℕ, ◌^◌, ◌<◌, List, [], length, sym, ap, ◌∙◌, subst}
-use Rattle.std.specs.Prelude.{All, slice_index}
+use Rattle.std.proofs.Common.{arith, rules, [], length, sym, ap, ◌∙◌}
 use Rattle.std.proofs.lemmas.List.{length-map, length-replicate, length-take-le, take_all}
-use Rattle.cq_list.specs.InputList.{Waiting, cells_of}
+use Rattle.cq_list.specs.InputList.{Waiting}
 use Rattle.cq_urgency.specs.OutputBuffer.{Buffered}
-use Rattle.cq_prefs.specs.FirstCells.{list_of, orders_of}
 use Rattle.cq_prefs.specs.Orders.{ports}
-use Rattle.cq_fabric.specs.Holding.{CanStand, CanWait}
 use Rattle.cq_fabric.specs.Queues.{AreSquare, buffer_room, list_room}
 use Rattle.cq_fabric.specs.Telling.{AreFilled}
 use Rattle.cq_fabric.proofs.Queued.{get_or_same, new_square}
@@ -14,34 +11,22 @@ use Rattle.cq_fabric.proofs.queues.Queues.holding.Goals as goal
 use Rattle.cq_fabric.proofs.queues.Queues.holding.Goals.{In_ok-offers}
 
 pub filled_each-requires-clause-can : goal.filled_each-requires-clause-can
-filled_each-requires-clause-can c i given inside is =
-    let room = slice_index c.args.from_inputs.now i in
-    let few = c.requires.few in
-    let wait : CanWait (length c.args.from_inputs.now) room given.now =
-    subst (CanWait (length c.args.from_inputs.now) room) (sym is)
-    (subst (λ (n : ℕ). CanWait n room (list_of c.args.lists.now i)) c.requires.lists
-    (c.requires.hold.inputs i (omega arith))) in
-    search (rules, few, wait)
+filled_each-requires-clause-can c i given inside is = search (arith, rules, c.requires.hold.inputs)
 
 pub filled_each-requires-2-clause-can : goal.filled_each-requires-2-clause-can
-filled_each-requires-2-clause-can c i given inside is =
-    let stand : CanStand (slice_index c.args.to_outputs.now i) given.now =
-    subst (CanStand (slice_index c.args.to_outputs.now i)) (sym is) (c.requires.hold.outputs i (omega arith)) in
-    search (rules, stand)
+filled_each-requires-2-clause-can c i given inside is = search (arith, rules, c.requires.hold.outputs)
 
 -- the lists and the buffers have their cells and their rooms
 lists_filled : (c : In_ok-offers) →
     AreFilled (λ (w : Waiting). w.cells) list_room (λ (w : Waiting). w.outputs) (length c.args.from_inputs.now)
     c.args.from_inputs.now c.args.lists.now (length c.args.from_inputs.now) c.in_ok-waiting.waiting.items
-lists_filled c =
-    c.in_ok-waiting.ensures (λ (w : Waiting). w.cells) list_room (λ (w : Waiting). w.outputs)
+lists_filled c = c.in_ok-waiting.ensures (λ (w : Waiting). w.cells) list_room (λ (w : Waiting). w.outputs)
     (length c.args.from_inputs.now) (λ room given x filled. search rules)
 
 buffers_filled : (c : In_ok-offers) →
     AreFilled (λ (b : Buffered). b.cells) buffer_room (λ (b : Buffered). 0) 0 c.args.to_outputs.now c.args.buffers.now
     (length c.args.to_outputs.now) c.in_ok-crossed.crossed.items
-buffers_filled c =
-    c.in_ok-crossed.ensures (λ (b : Buffered). b.cells) buffer_room (λ (b : Buffered). 0) 0
+buffers_filled c = c.in_ok-crossed.ensures (λ (b : Buffered). b.cells) buffer_room (λ (b : Buffered). 0) 0
     (λ room given x filled. search rules)
 
 -- there are as many lists as buffers, and so many are offered
@@ -59,37 +44,25 @@ square c =
     ∙ length-take-le (length c.args.to_outputs.now) c.args.buffers.now (omega arith) ∙ c.requires.square)
 
 pub fill-requires-clause-lists : goal.fill-requires-clause-lists
-fill-requires-clause-lists c =
-    ap length c.deref.ensures.value ∙ sym (square (goal.at.fill-requires-clause-lists c).In_ok-offers).offered
+fill-requires-clause-lists c = omega (arith, square (goal.at.fill-requires-clause-lists c).In_ok-offers)
 
 pub fill-requires-clause-outputs : goal.fill-requires-clause-outputs
-fill-requires-clause-outputs c =
-    let made = square (goal.at.fill-requires-clause-outputs c).In_ok-offers in
-    let n = ports c.in_ok-offers.offers in
-    subst (λ (ls : List Waiting). All (λ list. list.outputs ≡ n) ls) (sym c.deref.ensures.value)
-    (subst (λ (m : ℕ). All (λ list. list.outputs ≡ m) c.in_ok-waiting.waiting.items) (sym made.offered) made.outputs)
+fill-requires-clause-outputs c = search (arith, rules, square (goal.at.fill-requires-clause-outputs c).In_ok-offers)
 
 pub invariant_of-result : goal.invariant_of-result
 invariant_of-result c =
-    let made = square (goal.at.invariant_of-result c).In_ok-offers in
-    let follows = c.fill.ensures.orders ∙ ap (λ (ls : List Waiting). orders_of (cells_of ls)) c.deref.ensures.value in
-    record {
-      square =
-          record {
-            few = made.few;
-            as_many = made.as_many;
-            offered = as_offered c.in_ok-waiting.waiting.items c.fill.new.self follows;
-            outputs = made.outputs;
-          };
-      offered = follows;
-      rooms =
-          subst (λ (rooms : List ℕ). All (λ room. room < 2 ^ 64) rooms)
-          (sym ((buffers_filled (goal.at.invariant_of-result c).In_ok-offers).rooms
-          ∙ take_all (length c.args.to_outputs.now) c.args.to_outputs.now (omega arith)))
-          (λ k d inside.
-          subst (λ (n : ℕ). n < 2 ^ 64) (get_or_same c.args.to_outputs.now k 0 d inside)
-          (omega (arith, c.type_inv.to_outputs k)));
-    }
+    search (
+      arith,
+      rules,
+      square (goal.at.invariant_of-result c).In_ok-offers,
+      square,
+      as_offered
+          c.in_ok-waiting.waiting.items c.fill.new.self,
+      buffers_filled (goal.at.invariant_of-result c).In_ok-offers,
+      take_all (length c.args.to_outputs.now) c.args.to_outputs.now,
+      get_or_same c.args.to_outputs.now,
+      c.type_inv.to_outputs,
+    )
 
 pub returns : goal.returns
 returns c =
