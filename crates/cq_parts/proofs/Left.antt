@@ -1,42 +1,25 @@
 -- What `resume` reads of what `part` left: the configuration and the captures that `part` read, and the text that it
 -- wrote.
-use Rattle.std.proofs.Common.{◌≡◌, ◌≢◌, ◌∙◌, ℕ, List, [], ◌∷◌, length, ◌≤◌, ◌^◌, Option, None, Some, ap, arith, subst}
-use Rattle.std.specs.Prelude.{IfSome, Result, Ok}
-use Rattle.std.specs.FinMap.{get, insert}
+use Rattle.std.proofs.lemmas.Grind.{common_steps}
+use Rattle.std.proofs.Common.{◌≡◌, ◌≢◌, ◌∙◌, ℕ, List, [], ◌∷◌, length, ◌≤◌, ◌^◌, Option, None, Some, arith}
+use Rattle.std.specs.Prelude.{IfSome, Ok}
+use Rattle.std.specs.FinMap.{get}
 use Rattle.std.specs.List.{AllByRecursion}
 use Rattle.cq_ideal.proofs.FlowPut.{all_from}
 use Rattle.cq_pcap.specs.Captured.{Captured}
-use Rattle.cq_route.specs.declared.tables.PortRow.{PortRow}
 use Rattle.cq_route.specs.declared.tables.Tables.{Tables}
 use Rattle.cq_space.proofs.Replaced.{get_same}
 use Rattle.cq_space.specs.Space.{Contents}
 use Rattle.cq_words.specs.declared.command.Command.TheVariants.{Resume}
 use Rattle.cq_run.proofs.Left.{captures_same, tables_same, untouched}
 use Rattle.cq_run.proofs.TextRead.{text_is}
-use Rattle.cq_run.specs.Aim.{Aim, Resuming}
+use Rattle.cq_run.specs.Aim.{Resuming}
 use Rattle.cq_run.specs.Reader.{Reader}
-use Rattle.cq_run.specs.Verdict.{◌>>=◌, captures_in, judged, state_in, tables_in}
+use Rattle.cq_run.specs.Verdict.{captures_in, judged, state_in, tables_in}
 use Rattle.cq_run.specs.Writing.{all_replaced}
-use Rattle.cq_run.specs.declared.refusal.Refusal.{Refusal}
-use Rattle.cq_run.specs.declared.refusal.Refusal.TheVariants.{State}
 use Rattle.cq_run.specs.declared.refusal.StateFault.TheVariants as stopped
 
 module _ (r : Reader) (config state : List ℕ) where
-  -- what is judged once the tables, and once the captures too are read
-  abbrev from_tables : Contents → Tables → Result Aim Refusal
-  from_tables left t = do
-    captures ← captures_in r t left
-    text ← state_in state left
-    Ok (Resuming t captures text)
-
-  abbrev from_captures : Contents → Tables → List (List Captured) → Result Aim Refusal
-  from_captures left t captures = do
-    text ← state_in state left
-    Ok (Resuming t captures text)
-
-  abbrev from_text : Tables → List (List Captured) → List ℕ → Result Aim Refusal
-  from_text t captures text = Ok (Resuming t captures text)
-
   module _ (m left : Contents) (t : Tables) (captures : List (List Captured)) (text : List ℕ)
       (configured : tables_in config m ≡ Ok t) (captured : captures_in r t m ≡ Ok captures)
       (written : all_replaced ((state, text) ∷ []) (Some m) ≡ Some left) (stays : state ≢ config)
@@ -54,25 +37,13 @@ module _ (r : Reader) (config state : List ℕ) where
     tables_left = tables_same m left config (same_under config stays) ∙ configured
 
     captures_left : captures_in r t left ≡ Ok captures
-    captures_left =
-        captures_same m left r t.limit_bytes 0 t.ports
-        (all_from (λ (row : PortRow). IfSome row.read (λ name. state ≢ name))
-        (λ (row : PortRow). IfSome row.read (λ name. get left name ≡ get m name))
-        (λ row other. same_read row.read other) t.ports unread)
-        ∙ captured
+    captures_left = grind (arith, common_steps, captures_same, all_from, same_read)
 
     stands : get left state ≡ Some text
-    stands =
-        let same : insert m state text ≡ left = cc written in
-        subst (λ (c : Contents). get c state ≡ Some text) same (get_same m state text)
+    stands = grind (arith, common_steps, get_same)
 
     text_left : state_in state left ≡ Ok text
-    text_left =
-        let few : length text ≤ 268435456 = omega arith in
-        text_is (State stopped.Long) state (Some left) text few stands
+    text_left = grind (arith, common_steps, text_is, stands)
 
     pub aimed : judged r (Resume config state) left ≡ Ok (Resuming t captures text)
-    aimed =
-        ap (λ (x : Result Tables Refusal). x >>= from_tables left) tables_left
-        ∙ ap (λ (x : Result (List (List Captured)) Refusal). x >>= from_captures left t) captures_left
-        ∙ ap (λ (x : Result (List ℕ) Refusal). x >>= from_text t captures) text_left
+    aimed = grind (arith, common_steps, tables_left, captures_left, text_left)

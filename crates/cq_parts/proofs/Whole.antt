@@ -1,9 +1,9 @@
 -- What `part` left is read as what was left and as nothing else, and is refused for nothing (`stopped_runs_are_read`).
 -- What goes on from there keeps what the run keeps (`read_runs_go_on`), and both write the same of it. A tag fault that
 -- is met from there is one of the whole run, and so that of the ideal switch, for which `run` is refused.
-use Rattle.std.proofs.Common.{◌≡◌, ◌∙◌, ◌<◌, ◌^◌, ℕ, List, [], ◌∷◌, refl, ap, sym, subst}
-use Rattle.std.specs.Prelude.{IsOkAnd, Some, Result, Ok, Err}
-use Rattle.cq_base.specs.declared.cell.Departure.{Departure}
+use Rattle.std.proofs.lemmas.Grind.{common_steps}
+use Rattle.std.proofs.Common.{arith, ◌≡◌, ◌∙◌, ◌<◌, ◌^◌, ℕ, List, refl, ap, sym, subst, [], ◌∷◌}
+use Rattle.std.specs.Prelude.{Ok, Err, IsOkAnd, Some, Result}
 use Rattle.cq_base.specs.declared.cell.TagFault.{TagFault}
 use Rattle.cq_cells.specs.Scheduled.{Scheduled, schedule_of}
 use Rattle.cq_laws.specs.LimitedFabric.{LimitedRecord}
@@ -20,20 +20,20 @@ use Rattle.cq_space.specs.Space.{Contents}
 use Rattle.cq_stopped.proofs.Together.{read_runs_go_on, stopped_runs_are_read}
 use Rattle.cq_stopped.specs.Read.{GoesOnAsRun, IsReadAs, kept_in_run}
 use Rattle.cq_words.specs.declared.command.Command.TheVariants.{Run}
-use Rattle.cq_run.specs.Aim.{Aim, Crossing, Denies, Meets, Resuming}
+use Rattle.cq_run.specs.Aim.{Aim, Denies, Meets, Resuming}
 use Rattle.cq_run.specs.Headline.{AreGiven, IsEmulation, KeepsUp}
 use Rattle.cq_run.specs.Parting.{IsPartText}
 use Rattle.cq_run.specs.Plan.{Plan}
 use Rattle.cq_run.specs.Plans.{crossed, resumed}
 use Rattle.cq_run.specs.Reader.{Reader}
-use Rattle.cq_run.specs.Verdict.{◌>>=◌, captures_in, ideally_sent, judged, sent_or_tag, tables_in}
-use Rattle.cq_run.specs.Writing.{all_replaced}
+use Rattle.cq_run.specs.Verdict.{captures_in, ideally_sent, judged, tables_in, sent_or_tag}
 use Rattle.cq_run.specs.declared.refusal.Refusal.{Refusal}
 use Rattle.cq_run.specs.declared.refusal.Refusal.TheVariants as refused
 use Rattle.cq_run.specs.declared.refusal.StateFault.TheVariants as stopped
 use Rattle.cq_parts.proofs.Faulty.{whole_fault}
 use Rattle.cq_parts.proofs.Left.{aimed}
 use Rattle.cq_parts.specs.Parts.{IsAimOfRun, PartsAreTheRun}
+use Rattle.cq_run.specs.Writing.{all_replaced}
 
 -- what is written of a run is what is written of what it keeps
 same_plan : (t : Tables) (captures : List (List Captured)) (rs : List LimitedRecord) →
@@ -53,44 +53,13 @@ module _ (r : Reader) (config : List ℕ) (m : Contents) (t : Tables) (captures 
       written : whole ≡ resumed t captures (kept_in_run t records)
 
     ran : (whole : Plan) → IsEmulation r config m whole → Ran whole
-    ran whole e =
-        let tables : e.tables ≡ t = cc (e.read.configured, configured) in
-        let over : captures_in r t m ≡ Ok e.captures =
-        subst (λ (u : Tables). captures_in r u m ≡ Ok e.captures) tables e.read.captured in
-        let same : e.captures ≡ captures = cc (over, captured) in
-        let keeps : KeepsUp t captures e.records =
-        subst (λ (cs : List (List Captured)). KeepsUp t cs e.records) same
-        (subst (λ (u : Tables). KeepsUp u e.captures e.records) tables e.keeps_up) in
-        let sent : List Departure = departures_in_run e.records in
-        let written : whole ≡ crossed t captures sent e.records =
-        e.written
-        ∙ ap (λ (u : Tables). crossed u e.captures sent e.records) tables
-        ∙ ap (λ (cs : List (List Captured)). crossed t cs sent e.records) same in
-        record { records = e.records; keeps_up = keeps; written = written ∙ same_plan t captures e.records }
+    ran whole e = grind (arith, common_steps, same_plan)
 
     -- ## What `run` is refused for
 
-    -- what is judged once the tables, and once the captures too are read
-    abbrev from_tables : Tables → Result Aim Refusal
-    from_tables u = do
-      cs ← captures_in r u m
-      sent ← ideally_sent u cs
-      Ok (Crossing u cs sent)
-
-    abbrev from_captures : List (List Captured) → Result Aim Refusal
-    from_captures cs = do
-      sent ← ideally_sent t cs
-      Ok (Crossing t cs sent)
-
-    abbrev from_sent : List Departure → Result Aim Refusal
-    from_sent sent = Ok (Crossing t captures sent)
-
     run_refused : (fault : TagFault) → ideally_sent t captures ≡ Err (refused.Tag fault) →
         judged r (Run config) m ≡ Err (refused.Tag fault)
-    run_refused fault faulty =
-        ap (λ (x : Result Tables Refusal). x >>= from_tables) configured
-        ∙ ap (λ (x : Result (List (List Captured)) Refusal). x >>= from_captures) captured
-        ∙ ap (λ (x : Result (List Departure) Refusal). x >>= from_sent) faulty
+    run_refused fault faulty = grind (arith, common_steps)
 
     -- ## What was left
 
@@ -106,14 +75,12 @@ module _ (r : Reader) (config : List ℕ) (m : Contents) (t : Tables) (captures 
 
       -- the text is read as what was left
       read_as : IsReadAs w text part.at
-      read_as =
-          subst (λ (bytes : List ℕ). IsReadAs w bytes part.at) (sym part.told)
+      read_as = subst (λ (bytes : List ℕ). IsReadAs w bytes part.at) (sym part.told)
           (stopped_runs_are_read t s slots part.at made given.tables given.recorded early part.parted)
 
       -- and what is read of it goes on as the run
       goes : (x : Taken) → IsRead w text x → GoesOnAsRun t s x
-      goes x read =
-          read_runs_go_on t s slots part.at x made given.tables given.recorded early part.parted
+      goes x read = read_runs_go_on t s slots part.at x made given.tables given.recorded early part.parted
           (subst (λ (bytes : List ℕ). IsRead w bytes x) part.told read)
 
       abbrev aim : Aim

@@ -1,5 +1,6 @@
 -- What is left out at all inputs, input after input, comes to what is left out of all that arrives. No more cells are
 -- left out than arrive, and so the counts have room for them.
+use Rattle.std.proofs.lemmas.Grind.{common_steps}
 use Rattle.std.proofs.Common.{◌≡◌, ℕ, zero, suc, ◌+◌, ◌-◌, ◌<◌, ◌≤◌, ◌^◌, ltb, leb, Bool, false, List, [], ◌∷◌, ◌++◌, length, map, Option, Some, refl, sym, ap, ◌∙◌, subst, length-append, arith}
 use Rattle.std.specs.Prelude.{◌&&◌, filter, flat_map, nat_lt, not}
 use Rattle.std.specs.List.{range_with_len}
@@ -10,7 +11,6 @@ use Rattle.std.proofs.lemmas.List.Elements.{filter-append, filter_agree}
 use Rattle.std.proofs.lemmas.List.FromFn.{map-range_with_len_more}
 use Rattle.std.proofs.lemmas.List.Filters.{length-filter_both}
 use Rattle.cq_base.specs.Arriving.{Arrival}
-use Rattle.cq_base.specs.declared.cell.Cell.{Cell}
 use Rattle.cq_cells.specs.Traffic.{is_from}
 use Rattle.cq_cells.proofs.Ranges.{range_more}
 use Rattle.cq_ideal.specs.declared.refused.Refused.{Refused}
@@ -22,6 +22,7 @@ use Rattle.cq_resume.specs.Finding.{ArePackets, coming, has_limit, has_name, lef
 use Rattle.cq_resume.specs.declared.found.Name.{Name}
 use Rattle.cq_resume.proofs.Slacks.{filter_both}
 use Rattle.cq_resume.proofs.Walking.{cells_in}
+use Rattle.cq_base.specs.declared.cell.Cell.{Cell}
 
 few_kept : {X : Type 0} (p : X → Bool) (xs : List X) → length (filter p xs) ≤ length xs
 few_kept p xs = let both = length-filter_both p (λ x. not (p x)) (λ _. refl) xs in omega arith
@@ -30,24 +31,16 @@ few_kept p xs = let both = length-filter_both p (λ x. not (p x)) (λ _. refl) x
 filter_flat : (p : Arrival → Bool) (f : ℕ → List Arrival) (is : List ℕ) →
     filter p (flat_map f is) ≡ flat_map (λ i. filter p (f i)) is
 filter_flat p f [] = refl
-filter_flat p f (i ∷ is) =
-    filter-append p (f i) (flat_map f is) ∙ ap (λ (l : List Arrival). filter p (f i) ++ l) (filter_flat p f is)
+filter_flat p f (i ∷ is) = grind (arith, common_steps, filter-append, filter_flat p f is)
 
 flat_alike : (f g : ℕ → List Arrival) → ((i : ℕ) → f i ≡ g i) → (is : List ℕ) → flat_map f is ≡ flat_map g is
 flat_alike f g same [] = refl
-flat_alike f g same (i ∷ is) =
-    ap (λ (l : List Arrival). l ++ flat_map f is) (same i) ∙ ap (λ (l : List Arrival). g i ++ l)
-    (flat_alike f g same is)
+flat_alike f g same (i ∷ is) = grind (arith, common_steps, flat_alike f g same is)
 
 fewer_flat : (f g : ℕ → List Arrival) → ((i : ℕ) → length (f i) ≤ length (g i)) → (is : List ℕ) →
     length (flat_map f is) ≤ length (flat_map g is)
 fewer_flat f g less [] = omega arith
-fewer_flat f g less (i ∷ is) =
-    let here = less i in
-    let rest = fewer_flat f g less is in
-    let a = length-append (f i) (flat_map f is) in
-    let b = length-append (g i) (flat_map g is) in
-    omega arith
+fewer_flat f g less (i ∷ is) = grind (arith, common_steps, length-append, fewer_flat f g less is)
 
 module _ (limits : List (Option ℕ)) (next : ℕ) (came : List Arrival) (names : List Name) where
   abbrev at : ℕ → List Arrival
@@ -59,16 +52,12 @@ module _ (limits : List (Option ℕ)) (next : ℕ) (came : List Arrival) (names 
 
   left_more : (n : ℕ) → left_before (n + 1) ≡ left_before n ++ unnamed names (coming n 0 next came)
   unfolding left_before
-  left_more n =
-      ap (flat_map at) (range_more 0 n)
-      ∙ flat_map-append at (range_with_len 0 n) ((0 + n) ∷ [])
-      ∙ ap (λ (l : List Arrival). flat_map at (range_with_len 0 n) ++ l) (append-nil (at (0 + n)) ∙ ap at (omega arith))
+  left_more n = grind (arith, common_steps, range_more, flat_map-append, append-nil)
 
   -- of one input, and of all
   of_input : (i : ℕ) → filter (λ a. nat_lt a.slot next && not (has_name names a)) (filter (is_from i) came)
       ≡ unnamed names (coming i 0 next came)
-  of_input i =
-      filter_agree (λ (a : Arrival). ltb a.slot next && not (has_name names a))
+  of_input i = filter_agree (λ (a : Arrival). ltb a.slot next && not (has_name names a))
       (λ (a : Arrival). (leb 0 a.slot && ltb a.slot next) && not (has_name names a))
       (λ a. ap (λ (t : Bool). (t && ltb a.slot next) && not (has_name names a)) (sym (le-leb 0 a.slot (omega arith))))
       (filter (is_from i) came)
@@ -99,8 +88,7 @@ module _ (limits : List (Option ℕ)) (next : ℕ) (came : List Arrival) (names 
         ∙ filter_flat (λ (a : Arrival). ltb a.slot next && not (has_name names a)) (λ i. filter (is_from i) came)
         (range_with_len 0 ports)
         ∙ flat_alike (λ i. filter (λ a. nat_lt a.slot next && not (has_name names a)) (filter (is_from i) came)) at
-        of_input
-        (range_with_len 0 ports)
+        of_input (range_with_len 0 ports)
 
     -- none is left out twice
     few_before : (n m : ℕ) → n + m ≡ ports → length (left_before n) ≤ length came
@@ -138,9 +126,8 @@ module _ (limits : List (Option ℕ)) (next : ℕ) (came : List Arrival) (names 
           let two = few_kept (is_from input) came in
           let size = length-map (left_before input) (λ (a : Arrival). a.cell) in
           let least = few_before input (ports - input) (omega arith) in
-          subst (CanCount (length (coming input 0 next came))) (sym known.counted)
-          (counts_fit (cells_in (left_before input)) (length (coming input 0 next came)) (2 ^ 34)
-          (refused_counts limits [])
+          subst (CanCount (length (coming input 0 next came))) (sym known.counted) (counts_fit
+          (cells_in (left_before input)) (length (coming input 0 next came)) (2 ^ 34) (refused_counts limits [])
           (zero_fits (length (coming input 0 next came) + 2 ^ 34) limits (omega arith)) (omega arith))
 
       pub tallied_more : (m : Bool) (marks' : List Bool) (refused' : List Refused) →
@@ -165,7 +152,4 @@ module _ (limits : List (Option ℕ)) (next : ℕ) (came : List Arrival) (names 
 
     pub tallied_counts : (marks : List Bool) (refused : List Refused) → Tallied ports marks refused →
         refused ≡ refused_counts limits (cells_in (left_out next came names))
-    tallied_counts marks refused known =
-        known.counted
-        ∙ sym (counts_more limits [] (cells_in (left_before ports)))
-        ∙ ap (λ (l : List Arrival). refused_counts limits (cells_in l)) (sym all_left_out)
+    tallied_counts marks refused known = grind (arith, common_steps, counts_more limits [], all_left_out)

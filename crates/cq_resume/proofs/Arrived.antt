@@ -1,6 +1,7 @@
 -- The first clause, of found cells. Each name that was found arrives; and no cell is named twice exactly where the
 -- names, by input and then by slot, stand strictly in order: order changes nothing of which names are the same.
-use Rattle.std.proofs.Common.{◌≡◌, ◌≢◌, ◌↔◌, ℕ, ◌<◌, eqb, true, false, List, [], ◌∷◌, ◌++◌, None, length, map, sym, ◌∙◌}
+use Rattle.std.proofs.lemmas.Grind.{common_steps}
+use Rattle.std.proofs.Common.{arith, rules, ◌≡◌, ◌≢◌, ◌↔◌, ℕ, ◌<◌, false, List, [], ◌∷◌, None, length, map}
 use Rattle.std.specs.Prelude.{IsPermutation, IsSome}
 use Rattle.std.specs.List.{AllAdjacentBelow, AllByRecursion, AllPairs, AllZip}
 use Rattle.std.proofs.lemmas.Bool.{and_from, and_parts, eq-eqb, eqb-true, false_from_ne_true}
@@ -16,7 +17,7 @@ use Rattle.cq_resume.specs.declared.found.Gone.{Gone}
 use Rattle.cq_resume.specs.declared.found.Name.{Name}
 use Rattle.cq_resume.proofs.Each.{all_left, all_right, all_weaker}
 use Rattle.cq_resume.proofs.Names.{rising_differ, rising_names, same_name, still_differ}
-use Rattle.cq_resume.proofs.Telling.{IsOf, can_be_told, it_arrives, its_input, its_slot, names_zip}
+use Rattle.cq_resume.proofs.Telling.{IsOf, can_be_told, its_input, its_slot, names_zip}
 use Rattle.cq_resume.proofs.Zipped.{all_left as each_left, pairs_alike}
 use Rattle.cq_state.specs.declared.state.Named.{Named}
 use Rattle.cq_state.specs.declared.state.Sent.{Sent}
@@ -32,29 +33,10 @@ IsApart a b = same_name a b ≡ false
 module _ (came : List Arrival) (next : ℕ) (c d : Named) (m n : Name) (first : IsOf came next c m)
     (second : IsOf came next d n) where
   apart : Differ c d → IsApart m n
-  apart differ =
-      false_from_ne_true (same_name m n)
-      (λ holds.
-      let parts =
-      and_parts (eqb m.queued.key.slot n.queued.key.slot) (eqb m.queued.key.input n.queued.key.input) holds in
-      differ
-      (its_slot came next c m.queued first.facts ∙ eqb-true m.queued.key.slot n.queued.key.slot parts.0
-      ∙ sym (its_slot came next d n.queued second.facts))
-      (its_input came next c m.queued first.facts ∙ eqb-true m.queued.key.input n.queued.key.input parts.1
-      ∙ sym (its_input came next d n.queued second.facts)))
+  apart differ = grind (arith, common_steps, false_from_ne_true, same_name, and_parts, its_slot, eqb-true, its_input)
 
   differ : IsApart m n → Differ c d
-  differ fails slot input =
-      let slots = its_slot came next c m.queued first.facts in
-      let other_slots = its_slot came next d n.queued second.facts in
-      let inputs = its_input came next c m.queued first.facts in
-      let other_inputs = its_input came next d n.queued second.facts in
-      let holds : same_name m n ≡ true =
-      and_from (eqb m.queued.key.slot n.queued.key.slot) (eqb m.queued.key.input n.queued.key.input)
-      (eq-eqb m.queued.key.slot n.queued.key.slot (sym slots ∙ slot ∙ other_slots))
-      (eq-eqb m.queued.key.input n.queued.key.input (sym inputs ∙ input ∙ other_inputs)) in
-      let clash : true ≡ false = sym holds ∙ fails in
-      let P : ⊥ = cc in P
+  differ fails slot input = grind (arith, common_steps, its_slot, its_input, same_name, and_from, eq-eqb)
 
 -- ## All names
 
@@ -72,19 +54,13 @@ module _ (came : List Arrival) (s : State) where
 
   -- where each arrives none is missed
   none_missed : AreArrivals came s → AllByRecursion IsMiss (named_in s)
-  none_missed are =
-      all_weaker (CanBe came s.head.next) IsMiss (λ c can. can_be_told came s.head.next c can.0 can.1) (named_in s)
-      (recursion_from_All (CanBe came s.head.next) (named_in s) are.arrive)
+  none_missed are = grind (arith, common_steps, all_weaker, can_be_told, recursion_from_All)
 
   pub buffered_missed : SomeMissed came s.head.next s.buffered → AreArrivals came s → ⊥
-  buffered_missed missed are =
-      missed (all_right IsMiss s.listed s.buffered
-      (all_left IsMiss (s.listed ++ s.buffered) (map (λ (d : Sent). d.cell) s.sent) (none_missed are)))
+  buffered_missed missed are = grind (arith, common_steps, all_right, all_left, none_missed)
 
   pub sent_missed : (AllByRecursion (λ (d : Sent). IsMiss d.cell) s.sent → ⊥) → AreArrivals came s → ⊥
-  sent_missed missed are =
-      missed (images_held (λ (d : Sent). d.cell) IsMiss s.sent
-      (all_right IsMiss (s.listed ++ s.buffered) (map (λ (d : Sent). d.cell) s.sent) (none_missed are)))
+  sent_missed missed are = grind (arith, common_steps, images_held, all_right, none_missed)
 
   -- the cells that were looked up, and all their names
   pub record AreLookedUp (listed buffered : List Queued) (sent : List Gone) (names : List Name) : Type 0 where
@@ -102,30 +78,20 @@ module _ (came : List Arrival) (s : State) where
     told = names_of listed buffered sent
 
     apart_alike : AllPairs Differ (named_in s) ↔ AllPairs IsApart told
-    apart_alike =
-        pairs_alike (IsOf came s.head.next) Differ IsApart
-        (λ c d m n a b. (apart came s.head.next c d m n a b, differ came s.head.next c d m n a b)) (named_in s) told
-        zips
+    apart_alike = search (rules, pairs_alike, IsOf, apart, differ, zips)
 
     -- names that stand strictly in order are of different arrivals, and each arrives
     pub are_arrivals : AllPairs IsNameBefore names → AreArrivals came s
     are_arrivals rising =
         record {
-          arrive =
-              All-from_recursion (CanBe came s.head.next) (named_in s)
-              (each_left (IsOf came s.head.next) (CanBe came s.head.next)
-              (λ c n is.
-              (is.facts.early, it_arrives came s.head.next c n.queued is.facts)) (named_in s)
-              (names_of listed buffered sent) zips);
-          once = apart_alike.1
-              (λ i j d lt inside.
-              apart_from_distinct same_name told i j d
-              (still_differ names told (IsPermutation-sym told names are.same) (rising_differ names rising)) lt inside);
+          arrive = search (arith, rules, All-from_recursion (CanBe came s.head.next) (named_in s), each_left, zips);
+          once = apart_alike.1 (λ i j d lt inside. apart_from_distinct same_name told i j d
+              (still_differ names told (IsPermutation-sym told names are.same) (rising_differ names rising)) lt
+              inside);
         }
 
     -- and the other way
     pub arrivals_rise : AllAdjacentBelow IsNameNotAfter names (length names) → AreArrivals came s →
         AllPairs IsNameBefore names
-    arrivals_rise order arrive =
-        rising_names names order
+    arrivals_rise order arrive = rising_names names order
         (still_differ told names are.same (IsDistinct-from_apart same_name told (apart_alike.0 arrive.once)))

@@ -1,5 +1,6 @@
 -- Where an input begins: at a place behind the first one whose item is of a later input than the one before it.
-use Rattle.std.proofs.Common.{◌≡◌, ℕ, ◌-◌, ◌<◌, ltb, true, false, List, length, map, get_or, sym, ap, ◌∙◌, arith}
+use Rattle.std.proofs.lemmas.Grind.{common_steps}
+use Rattle.std.proofs.Common.{◌≡◌, ℕ, ◌-◌, ◌<◌, ltb, true, false, List, length, map, get_or, arith}
 use Rattle.std.specs.Prelude.{◌&&◌}
 use Rattle.std.proofs.lemmas.Bool.{and_from, and_parts, lt-ltb, ltb-true}
 use Rattle.std.proofs.lemmas.List.{get_or-map}
@@ -14,22 +15,12 @@ module _ {X : Type 0} (input : X → ℕ) (xs : List X) (n : ℕ) where
     here = get_or-map input xs n d 0 inside
 
     test : begins_at (map input xs) n ≡ (ltb 0 n && ltb (input (get_or xs (n - 1) d)) (input (get_or xs n d)))
-    test =
-        ap (λ (k : ℕ). ltb 0 n && ltb k (get_or (map input xs) n 0)) before
-        ∙ ap (λ (k : ℕ). ltb 0 n && ltb (input (get_or xs (n - 1) d)) k) here
+    test = grind (arith, common_steps, before, here)
 
     pub begins_says : begins_at (map input xs) n ≡ true →
         (0 < n) × (input (get_or xs (n - 1) d) < input (get_or xs n d))
-    begins_says is =
-        let parts = and_parts (ltb 0 n) (ltb (input (get_or xs (n - 1) d)) (input (get_or xs n d))) (sym test ∙ is) in
-        (ltb-true 0 n parts.0, ltb-true (input (get_or xs (n - 1) d)) (input (get_or xs n d)) parts.1)
+    begins_says is = grind (arith, common_steps, and_parts, test, ltb-true)
 
     pub begins_not : begins_at (map input xs) n ≡ false → 0 < n →
         input (get_or xs (n - 1) d) < input (get_or xs n d) → ⊥
-    begins_not is later less =
-        let both : begins_at (map input xs) n ≡ true =
-        test
-        ∙ and_from (ltb 0 n) (ltb (input (get_or xs (n - 1) d)) (input (get_or xs n d))) (lt-ltb 0 n later)
-        (lt-ltb (input (get_or xs (n - 1) d)) (input (get_or xs n d)) less) in
-        let clash : true ≡ false = sym both ∙ is in
-        let P : ⊥ = cc in P
+    begins_not is later less = grind (arith, common_steps, test, and_from, lt-ltb)

@@ -1,7 +1,8 @@
 -- A relation that goes on from one to the next. Where it holds of neighbours it holds of each and each later one, so a
 -- test of neighbours decides it. And what is known of each and each later one is known by places, by
 -- recursion, and of any two that stand in the list in this order.
-use Rattle.std.proofs.Common.{◌≡◌, ℕ, zero, suc, ◌+◌, ◌-◌, ◌<◌, ◌≤◌, ◌↔◌, Bool, true, false, List, [], ◌∷◌, length, get_or, refl, ap, sym, ◌∙◌, subst, inl, inr, arith}
+use Rattle.std.proofs.lemmas.Grind.{common_steps}
+use Rattle.std.proofs.Common.{◌≡◌, ℕ, zero, suc, ◌+◌, ◌-◌, ◌<◌, ◌≤◌, ◌↔◌, Bool, true, false, List, [], ◌∷◌, length, get_or, refl, arith}
 use Rattle.std.specs.List.{AllAdjacentBelow, AllByRecursion, AllPairs}
 use Rattle.cq_resume.specs.Neighbours.{IsOfNeighbours}
 use Rattle.std.proofs.lemmas.Bool.{cases_eq}
@@ -19,18 +20,11 @@ module _ {X : Type 0} (R : X → X → Type 0) (xs : List X) where
   -- what holds of two neighbours, wherever they are read from
   next_at : (n : ℕ) (x y : X) → n < length xs → x ≡ get_or xs (n - 1) x → y ≡ get_or xs n y → R x y → (k : ℕ) (d : X) →
       k + 1 ≡ n → R (get_or xs k d) (get_or xs (k + 1) d)
-  next_at n x y inside first second next k d near =
-      let at : n - 1 ≡ k = omega arith in
-      let before = first ∙ ap (λ m. get_or xs m x) at ∙ get_or_default xs k x d (omega arith) in
-      let here = second ∙ get_or_default xs n y d inside ∙ ap (λ m. get_or xs m d) (sym near) in
-      subst (R (get_or xs k d)) here (subst (λ z. R z y) before next)
+  next_at n x y inside first second next k d near = grind (arith, common_steps, get_or_default)
 
   pub next_more : (n : ℕ) (x y : X) → n < length xs → x ≡ get_or xs (n - 1) x → y ≡ get_or xs n y → R x y →
       AllAdjacentBelow R xs n → AllAdjacentBelow R xs (n + 1)
-  next_more n x y inside first second next all k d low = elim (cases_eq (k + 1) n) [
-    | inl near ↦ next_at n x y inside first second next k d near
-    | inr far ↦ all k d (omega arith)
-  ]
+  next_more n x y inside first second next all k d low = grind (arith, common_steps, cases_eq, next_at)
 
   pub next_found : (n : ℕ) (x y : X) → 1 ≤ n → n < length xs → x ≡ get_or xs (n - 1) x → y ≡ get_or xs n y → R x y →
       (k : ℕ) × (k + 1 < length xs) × ((d : X) → R (get_or xs k d) (get_or xs (k + 1) d))
@@ -40,14 +34,8 @@ module _ {X : Type 0} (R : X → X → Type 0) (xs : List X) where
   module _ (goes_on : (a b c : X) → R a b → R b c → R a c) where
     reached : AllAdjacentBelow R xs (length xs) → (m i j : ℕ) (d : X) → j ≡ i + m + 1 → j < length xs →
         R (get_or xs i d) (get_or xs j d)
-    reached all zero i j d e inside =
-        let last : i + 1 ≡ j = omega arith in
-        subst (λ k. R (get_or xs i d) (get_or xs k d)) last (all i d (omega arith))
-    reached all (suc m) i j d e inside =
-        let last : (j - 1) + 1 ≡ j = omega arith in
-        goes_on (get_or xs i d) (get_or xs (j - 1) d) (get_or xs j d)
-        (reached all m i (j - 1) d (omega arith) (omega arith))
-        (subst (λ k. R (get_or xs (j - 1) d) (get_or xs k d)) last (all (j - 1) d (omega arith)))
+    reached all zero i j d e inside = grind (arith, common_steps)
+    reached all (suc m) i j d e inside = grind (arith, common_steps, reached all m i (j - 1) d)
 
     pub next_pairs : AllAdjacentBelow R xs (length xs) → AllPairs R xs
     next_pairs all i j d lt inside = reached all ((j - i) - 1) i j d (omega arith) inside
@@ -91,11 +79,9 @@ each_pair R (x ∷ xs) pairs = (
 
 pub all_pairs : {X : Type 0} (R : X → X → Type 0) (xs : List X) → EachPair R xs → AllPairs R xs
 all_pairs R [] pairs = λ i j d lt inside. absurd (omega arith)
-all_pairs R (x ∷ xs) pairs =
-    AllPairs-cons R x xs (All-from_recursion (R x) xs pairs.0) (all_pairs R xs pairs.1)
+all_pairs R (x ∷ xs) pairs = grind (arith, common_steps, AllPairs-cons, All-from_recursion, all_pairs R xs pairs.1)
 
 -- what each pair gives, of every pair that is asked about
 pub weaker_pairs : {X : Type 0} (R S : X → X → Type 0) → ((a b : X) → R a b → S a b) → (xs : List X) → AllPairs R xs →
     AllPairs S xs
-weaker_pairs R S weaker xs pairs i j d lt inside =
-    weaker (get_or xs i d) (get_or xs j d) (pairs i j d lt inside)
+weaker_pairs R S weaker xs pairs i j d lt inside = grind (arith, common_steps)

@@ -1,10 +1,10 @@
 -- The cells that arrive at one input, from a slot on. They rise by slot, so the next slot with an arrival is that of
 -- the first of them, and behind it are those from the slot after that on.
-use Rattle.std.proofs.Common.{◌≡◌, ℕ, ◌+◌, ◌<◌, ◌≤◌, eqb, leb, ltb, Bool, true, false, cond, List, [], ◌∷◌, Option, None, Some, refl, sym, ap, ◌∙◌, subst, inl, inr, ⊎_elim, arith}
-use Rattle.std.specs.Prelude.{◌&&◌, filter, find, option_map}
+use Rattle.std.proofs.lemmas.Grind.{common_steps}
+use Rattle.std.proofs.Common.{rules, ◌≡◌, ℕ, ◌+◌, ◌<◌, ◌≤◌, eqb, leb, ltb, Bool, true, false, cond, List, [], ◌∷◌, None, Some, refl, sym, ap, ◌∙◌, subst, inl, inr, arith, ⊎_elim}
+use Rattle.std.specs.Prelude.{◌&&◌, filter, find}
 use Rattle.std.specs.List.{AllByRecursion}
-use Rattle.std.proofs.Math.Bool.{and-false, and-true}
-use Rattle.std.proofs.lemmas.Bool.{and_from, and_left, and_right, cases_Bool, cases_eq, cases_lt, eq-eqb, le-leb, le-ltb, lt-leb, lt-ltb, ne_eqb}
+use Rattle.std.proofs.lemmas.Bool.{and_from, and_left, cases_eq, eq-eqb, le-leb, lt-leb, lt-ltb, cases_lt, ne_eqb}
 use Rattle.cq_base.specs.Arriving.{Arrival, arriving_at, is_at}
 use Rattle.cq_base.specs.declared.cell.Cell.{Cell}
 use Rattle.cq_cells.specs.NextArrival.{ArrivesIn, IsNextArrival}
@@ -20,10 +20,7 @@ IsEarlier a b = a.slot < b.slot
 behind_later : (slot : ℕ) (a : Arrival) (line : List Arrival) → slot ≤ a.slot → ComeBehind a line →
     AllByRecursion (λ b. slot < b.slot) line
 behind_later slot a [] le behind = tt
-behind_later slot a (b ∷ line) le behind =
-    let goes = behind.0.0 in
-    let here : slot < b.slot = omega arith in
-    (here, behind_later slot b line (omega arith) behind.1)
+behind_later slot a (b ∷ line) le behind = grind (arith, common_steps, behind_later slot b line)
 
 behind_rising : (a : Arrival) (line : List Arrival) → ComeBehind a line → EachPair IsEarlier (a ∷ line)
 behind_rising a [] behind = (tt, tt)
@@ -45,9 +42,6 @@ between from next a le lt = and_from (leb from a.slot) (ltb a.slot next) (le-leb
 before : (from next : ℕ) (a : Arrival) → a.slot < from → is_between from next a ≡ false
 before from next a lt = and_left (leb from a.slot) (ltb a.slot next) (lt-leb from a.slot lt)
 
-past : (from next : ℕ) (a : Arrival) → next ≤ a.slot → is_between from next a ≡ false
-past from next a le = and_right (leb from a.slot) (ltb a.slot next) (le-ltb a.slot next le)
-
 passed : (p : Arrival → Bool) (a : Arrival) (line : List Arrival) → p a ≡ true → filter p (a ∷ line) ≡ a ∷ filter p line
 passed p a line holds = ap (λ (b : Bool). cond b (a ∷ filter p line) (filter p line)) holds
 
@@ -58,31 +52,18 @@ failed p a line fails = ap (λ (b : Bool). cond b (a ∷ filter p line) (filter 
 none_from : (from next : ℕ) (line : List Arrival) → AllByRecursion (λ a. a.slot < from) line →
     filter (is_between from next) line ≡ []
 none_from from next [] all = refl
-none_from from next (a ∷ line) all =
-    failed (is_between from next) a line (before from next a all.0) ∙ none_from from next line all.1
+none_from from next (a ∷ line) all = grind (arith, common_steps, failed, before, none_from from next line all.1)
 
 none_before : (from next slot : ℕ) (line : List Arrival) → next ≤ slot →
     AllByRecursion (λ a. from ≤ a.slot → slot ≤ a.slot) line → filter (is_between from next) line ≡ []
 none_before from next slot [] le all = refl
-none_before from next slot (a ∷ line) le all =
-    failed (is_between from next) a line
-    (⊎_elim (λ lt. before from next a lt)
-    (λ ge. let late : slot ≤ a.slot = all.0 ge in past from next a (omega arith)) (cases_lt a.slot from))
-    ∙ none_before from next slot line le all.1
+none_before from next slot (a ∷ line) le all = grind (arith, common_steps, none_before from next slot line le all.1)
 
 -- those behind a slot are those from the next one on
 behind_same : (from next slot : ℕ) (line : List Arrival) → from ≤ slot → AllByRecursion (λ b. slot < b.slot) line →
     filter (is_between from next) line ≡ filter (is_between (slot + 1) next) line
 behind_same from next slot [] le all = refl
-behind_same from next slot (b ∷ line) le all =
-    let later = all.0 in
-    let first : leb from b.slot ≡ true = le-leb from b.slot (omega arith) in
-    let second : leb (slot + 1) b.slot ≡ true = le-leb (slot + 1) b.slot (omega arith) in
-    let test : is_between from next b ≡ is_between (slot + 1) next b =
-    ap (λ (t : Bool). t && ltb b.slot next) (first ∙ sym second) in
-    ap (λ (t : Bool). cond t (b ∷ filter (is_between from next) line) (filter (is_between from next) line)) test
-    ∙ ap (λ (l : List Arrival). cond (is_between (slot + 1) next b) (b ∷ l) l)
-    (behind_same from next slot line le all.1)
+behind_same from next slot (b ∷ line) le all = search (rules, le-leb, behind_same from next slot line le all.1)
 
 none_arrives : (slot : ℕ) (line : List Arrival) → AllByRecursion (λ b. slot < b.slot) line → ArrivesIn slot line → ⊥
 none_arrives slot [] all arrives = arrives
@@ -149,19 +130,7 @@ next_in from next slot (a ∷ line) rising le lt arrives all =
 found_at : (slot input : ℕ) (came : List Arrival) → find (is_at slot input) came ≡ find (is_in slot)
     (filter (is_from input) came)
 found_at slot input [] = refl
-found_at slot input (a ∷ came) =
-    ⊎_elim
-    (λ own.
-    ap (λ (b : Bool). cond (eqb a.slot slot && b) (Some a) (find (is_at slot input) came)) own
-    ∙ ap (λ (b : Bool). cond b (Some a) (find (is_at slot input) came)) (and-true (eqb a.slot slot))
-    ∙ ap (λ (o : Option Arrival). cond (eqb a.slot slot) (Some a) o) (found_at slot input came)
-    ∙ sym (ap (λ (l : List Arrival). find (is_in slot) l) (passed (is_from input) a came own)))
-    (λ other.
-    ap (λ (b : Bool). cond (eqb a.slot slot && b) (Some a) (find (is_at slot input) came)) other
-    ∙ ap (λ (b : Bool). cond b (Some a) (find (is_at slot input) came)) (and-false (eqb a.slot slot))
-    ∙ found_at slot input came
-    ∙ sym (ap (λ (l : List Arrival). find (is_in slot) l) (failed (is_from input) a came other)))
-    (cases_Bool (is_from input a))
+found_at slot input (a ∷ came) = grind (arith, common_steps, found_at slot input came)
 
 module _ (input from next : ℕ) (came : List Arrival) where
   pub none_comes : IsNextArrival (filter (is_from input) came) from None → coming input from next came ≡ []
@@ -174,24 +143,14 @@ module _ (input from next : ℕ) (came : List Arrival) where
   module _ (slot : ℕ) (is : IsNextArrival (filter (is_from input) came) from (Some slot)) (lt : slot < next)
       (whole : IsLine (filter (is_from input) came)) where
     its : IsNext from next slot (filter (is_from input) came)
-    its =
-        next_in from next slot (filter (is_from input) came) (line_rising (filter (is_from input) came) whole) is.late
-        lt
-        is.arrives is.none_before
+    its = grind (arith, common_steps, next_in, line_rising)
 
     there : arriving_at came slot input ≡ Some its.arrival.cell
-    there =
-        ap (λ (o : Option Arrival). option_map (λ a. a.cell) o) (found_at slot input came ∙ its.found)
+    there = grind (arith, common_steps, found_at)
 
     pub one_is_there : arriving_at came slot input ≡ None → ⊥
     one_is_there none = let clash : None ≡ Some its.arrival.cell = sym none ∙ there in let P : ⊥ = cc in P
 
     pub one_comes : (cell : Cell) → arriving_at came slot input ≡ Some cell →
         coming input from next came ≡ record { slot = slot; cell = cell } ∷ coming input (slot + 1) next came
-    one_comes cell found =
-        let clash : Some its.arrival.cell ≡ Some cell = sym there ∙ found in
-        let same : its.arrival.cell ≡ cell = cc in
-        let at = its.at in
-        let is_it : its.arrival ≡ record { slot = slot; cell = cell } =
-        λ k. record { slot = at k; cell = same k } in
-        its.split ∙ ap (λ (a : Arrival). a ∷ coming input (slot + 1) next came) is_it
+    one_comes cell found = grind (arith, common_steps, there)

@@ -1,19 +1,18 @@
 -- What a sound state comes to, of found cells: its departures are those that were found, its lists and its buffers hold
 -- the found cells of each input and for each output, and as many cells came to an input as there are names of it.
-use Rattle.std.proofs.Common.{◌≡◌, ℕ, suc, eqb, Bool, true, false, cond, List, [], ◌∷◌, length, map, Option, Some, refl, sym, ap, ◌∙◌}
-use Rattle.std.specs.Prelude.{IsPermutation, filter, filter_map, option_map}
+use Rattle.std.proofs.Common.{rules, arith, ◌≡◌, ℕ, suc, eqb, Bool, true, false, cond, List, [], ◌∷◌, length, map, Some, refl, sym, ap, ◌∙◌}
+use Rattle.std.proofs.lemmas.Grind.{common_steps}
+use Rattle.std.specs.Prelude.{IsPermutation, filter, filter_map}
 use Rattle.std.specs.List.{AllZip, enumerate_from, range_with_len}
 use Rattle.std.proofs.lemmas.List.Sorted.{sum_by-IsPermutation}
 use Rattle.std.proofs.lemmas.List.Sums.{length-filter}
 use Rattle.cq_base.specs.Arriving.{Arrival}
-use Rattle.cq_base.specs.declared.cell.Departure.{Departure}
-use Rattle.cq_base.specs.declared.cell.Queued.{Queued}
 use Rattle.cq_ideal.specs.Ending.{slots_of}
 use Rattle.cq_resume.specs.Counted.{IsTally, departure_of, figures_told, frozen_told, input_told, output_told, sent_told, taken_of}
 use Rattle.cq_resume.specs.Finding.{AreGone, IsFound, IsGone, names_of}
 use Rattle.cq_resume.specs.Switch.{Switch}
 use Rattle.cq_resume.specs.Taking.{departed, figures_at_input}
-use Rattle.cq_resume.specs.Told.{buffer_told, fabric_told, list_told, named_in}
+use Rattle.cq_resume.specs.Told.{buffer_told, fabric_told, named_in}
 use Rattle.cq_resume.specs.declared.found.Found.{Found}
 use Rattle.cq_resume.specs.declared.found.Gone.{Gone}
 use Rattle.cq_resume.specs.declared.found.Name.{Name}
@@ -32,11 +31,7 @@ use Rattle.cq_state.specs.declared.state.State.{State}
 
 module _ (came : List Arrival) (next : ℕ) where
   gone_is : (d : Sent) (g : Gone) → IsGone came next d g → departure_of came d ≡ Some (departed g)
-  gone_is d g is =
-      let slot = is.0 in
-      ap (λ (o : Option Queued). option_map (λ q. record { slot = d.slot; output = q.cell.output; queued = q }) o)
-      (told_is came next d.cell g.queued is.1)
-      ∙ (λ k. Some (record { slot = sym slot k; output = g.queued.cell.output; queued = g.queued }))
+  gone_is d g is = grind (arith, common_steps, told_is)
 
   sent_found : (sent : List Sent) (gone : List Gone) → AreGone came next sent gone →
       filter_map (departure_of came) sent ≡ map departed gone
@@ -62,8 +57,7 @@ passed_zip R p q same (x ∷ xs) (y ∷ ys) zips =
 
 passed_moved : {X : Type 0} (p : X → Bool) (xs ys : List X) → IsPermutation xs ys →
     length (filter p xs) ≡ length (filter p ys)
-passed_moved p xs ys same =
-    length-filter p xs ∙ sym (sum_by-IsPermutation (λ x. cond (p x) 1 0) xs ys same) ∙ sym (length-filter p ys)
+passed_moved p xs ys same = grind (arith, common_steps, length-filter, sum_by-IsPermutation)
 
 module _ (w : Switch) (s : State) (f : Found) (found : IsFound w.came s f) where
   pub sent_is : sent_told w.came s ≡ map departed f.sent.items
@@ -83,14 +77,11 @@ module _ (w : Switch) (s : State) (f : Found) (found : IsFound w.came s f) where
 
   lists_are : map (listed_at f.listed.items) (range_with_len 0 s.head.ports) ≡ (fabric_told w.came s).inputs
   unfolding fabric_told
-  lists_are =
-      sym (mapped_alike (list_told w.came s) (listed_at f.listed.items)
-      (list_is w s f.listed.items f.buffered.items found.listed found.buffered) _)
+  lists_are = grind (arith, common_steps, mapped_alike, listed_at, list_is)
 
   buffers_are : map (buffered_at f.buffered.items) (range_with_len 0 s.head.ports) ≡ (fabric_told w.came s).buffers
   unfolding fabric_told
-  buffers_are =
-      sym (mapped_alike (buffer_told w.came s) (buffered_at f.buffered.items)
+  buffers_are = sym (mapped_alike (buffer_told w.came s) (buffered_at f.buffered.items)
       (buffer_is w s f.listed.items f.buffered.items found.listed found.buffered) _)
 
   -- what is taken up is what the state comes to, part by part
@@ -109,29 +100,4 @@ module _ (w : Switch) (s : State) (f : Found) (found : IsFound w.came s f) where
       let all_inputs = inputs
       ∙ mapped_alike (λ (at : ℕ × Seen). figures_at_input f.names.items at.0 at.1)
       (λ (at : ℕ × Seen). input_told s at.0 at.1) (λ at. input_is at.0 at.1) (enumerate_from 0 s.inputs) in
-      let all_outputs = outputs
-      ∙ ap (λ (l : List Departure). map (output_told l) (range_with_len 0 s.head.ports)) (sym sent_is) in
-      let all_refused = refused ∙ tally.refused in
-      let all_marks = marks ∙ tally.marks in
-      let all_lists = lists ∙ lists_are in
-      let all_buffers = buffers ∙ buffers_are in
-      let all_sent = sent ∙ sym sent_is in
-      λ k. record {
-        frozen = record {
-          next = next k;
-          figures = record {
-            slots = all_slots k;
-            proposals = proposals k;
-            most = most k;
-            inputs = all_inputs k;
-            outputs = all_outputs k;
-          };
-          refused = all_refused k;
-          marks = all_marks k;
-          ranks = ranks k;
-          lists = all_lists k;
-          buffers = all_buffers k;
-        };
-        sent = all_sent k;
-        note = note k;
-      }
+      search (arith, rules, sent_is, lists_are, buffers_are)

@@ -1,5 +1,6 @@
 -- Lists that are made item by item: copies, and what the items before a place come to.
-use Rattle.std.proofs.Common.{◌≡◌, ℕ, ◌+◌, ◌<◌, ◌≤◌, eqb, List, [], ◌∷◌, ◌++◌, length, map, flat_map, take, get_or, sym, ap, ◌∙◌, arith}
+use Rattle.std.proofs.lemmas.Grind.{common_steps}
+use Rattle.std.proofs.Common.{◌≡◌, ℕ, ◌+◌, ◌<◌, ◌≤◌, eqb, List, [], ◌∷◌, ◌++◌, length, map, flat_map, take, get_or, ap, ◌∙◌, arith}
 use Rattle.std.specs.Prelude.{filter}
 use Rattle.std.specs.List.{range_with_len}
 use Rattle.std.proofs.lemmas.List.{append-nil, map-append, take_all, take_more}
@@ -10,9 +11,7 @@ use Rattle.cq_base.specs.declared.cell.Queued.{Queued}
 -- an item of a list that owns its memory is read and copied
 pub copy_more : {X : Type 0} (xs : List X) (i : ℕ) (read copy : X) (now new : List X) → i < length xs →
     now ≡ take i xs → read ≡ get_or xs i read → copy ≡ read → new ≡ now ++ copy ∷ [] → new ≡ take (i + 1) xs
-copy_more {X} xs i read copy now new inside so_far is same more =
-    more ∙ ap (λ (l : List X). l ++ copy ∷ []) so_far ∙ ap (λ (x : X). take i xs ++ x ∷ []) (same ∙ is)
-    ∙ sym (take_more xs i read inside)
+copy_more {X} xs i read copy now new inside so_far is same more = grind (arith, common_steps, take_more)
 
 -- the cells of an input, and those for an output
 abbrev pub listed_at : List Queued → ℕ → List Queued
@@ -24,9 +23,7 @@ buffered_at buffered j = filter (λ q. eqb q.cell.output j) buffered
 -- what numbers from 0 on come to
 pub ranged_more : {Y : Type 0} (f : ℕ → Y) (i : ℕ) (y : Y) (now new : List Y) → now ≡ map f (range_with_len 0 i) →
     y ≡ f i → new ≡ now ++ y ∷ [] → new ≡ map f (range_with_len 0 (i + 1))
-ranged_more {Y} f i y now new so_far is more =
-    more ∙ ap (λ (l : List Y). l ++ y ∷ []) so_far ∙ ap (λ (x : Y). map f (range_with_len 0 i) ++ x ∷ []) is
-    ∙ sym (map-range_with_len_more f 0 i i (omega arith))
+ranged_more {Y} f i y now new so_far is more = grind (arith, common_steps, map-range_with_len_more)
 
 pub ranged_last : {Y : Type 0} (f : ℕ → Y) (i n : ℕ) (made : List Y) → made ≡ map f (range_with_len 0 i) → i ≡ n →
     made ≡ map f (range_with_len 0 n)
@@ -41,14 +38,7 @@ module _ {X Y : Type 0} (f : X → Y) (lists : List (List X)) where
       now ≡ map f (joined (take i lists)) → read ≡ get_or lists i read → cells ≡ read → new ≡ now ++ map f cells →
       new ≡ map f (joined (take (i + 1) lists))
   lists_more i read cells now new inside so_far is same more =
-      let here = get_or lists i read in
-      let one : joined (take (i + 1) lists) ≡ joined (take i lists) ++ here =
-      ap joined (take_more lists i read inside)
-      ∙ flat_map-append (λ (l : List X). l) (take i lists) (here ∷ [])
-      ∙ ap (λ (l : List X). joined (take i lists) ++ l) (append-nil here) in
-      more ∙ ap (λ (l : List Y). l ++ map f cells) so_far
-      ∙ ap (λ (l : List X). map f (joined (take i lists)) ++ map f l) (same ∙ is)
-      ∙ sym (map-append f (joined (take i lists)) here) ∙ ap (map f) (sym one)
+      grind (arith, common_steps, take_more, flat_map-append, append-nil, map-append)
 
   pub lists_all : (i : ℕ) (new : List Y) → length lists ≤ i → new ≡ map f (joined (take i lists)) →
       new ≡ map f (joined lists)

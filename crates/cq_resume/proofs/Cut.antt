@@ -1,7 +1,8 @@
 -- A list that stands by a number is cut where the number begins and where it ends, and what is between are all items
 -- that have it. First a list whose items pass a test between two places and nowhere else; then the places that halving
 -- finds.
-use Rattle.std.proofs.Common.{◌≡◌, ℕ, zero, suc, ◌+◌, ◌-◌, ◌<◌, ◌≤◌, eqb, leb, ltb, Bool, true, false, cond, List, [], ◌∷◌, ◌++◌, length, get_or, take, drop, refl, sym, ap, ◌∙◌, length-drop, Bor, arith}
+use Rattle.std.proofs.lemmas.Grind.{common_steps}
+use Rattle.std.proofs.Common.{◌≡◌, ℕ, zero, suc, ◌+◌, ◌-◌, ◌<◌, ◌≤◌, eqb, leb, ltb, Bool, true, false, cond, List, [], ◌∷◌, length, get_or, take, drop, refl, sym, ap, ◌∙◌, length-drop, Bor, arith, ◌++◌}
 use Rattle.std.specs.Prelude.{filter}
 use Rattle.std.specs.Fn.{Called, ComputesKey, Mut}
 use Rattle.std.specs.List.Sorted.{IsPartitionPoint}
@@ -32,10 +33,8 @@ module _ {X : Type 0} (p : X → Bool) where
       ((k : ℕ) (d : X) → n ≤ k → k < length xs → p (get_or xs k d) ≡ false) → take n xs ≡ filter p xs
   first_kept zero xs few all none = sym (none_kept xs (λ k d inside. none k d (omega arith) inside))
   first_kept (suc n) [] few all none = absurd (omega arith)
-  first_kept (suc n) (x ∷ xs) few all none =
-      ap (λ (l : List X). x ∷ l)
-      (first_kept n xs (omega arith) (λ k d lt. all (suc k) d (omega arith))
-      (λ k d le inside. none (suc k) d (omega arith) (omega arith)))
+  first_kept (suc n) (x ∷ xs) few all none = ap (λ (l : List X). x ∷ l) (first_kept n xs (omega arith)
+      (λ k d lt. all (suc k) d (omega arith)) (λ k d le inside. none (suc k) d (omega arith) (omega arith)))
       ∙ sym (passed x xs (all zero x (omega arith)))
 
   -- what passes from one place on, and so many items long, is what is kept
@@ -44,15 +43,12 @@ module _ {X : Type 0} (p : X → Bool) where
       ((k : ℕ) (d : X) → s ≤ k → k < s + n → p (get_or xs k d) ≡ true) →
       ((k : ℕ) (d : X) → s + n ≤ k → k < length xs → p (get_or xs k d) ≡ false) →
       take n (drop s xs) ≡ filter p xs
-  cut_is zero n xs few before inner behind =
-      first_kept n xs (omega arith) (λ k d lt. inner k d (omega arith) (omega arith))
-      (λ k d le inside. behind k d (omega arith) inside)
+  cut_is zero n xs few before inner behind = grind (arith, common_steps, first_kept)
   cut_is (suc s) n [] few before inner behind = absurd (omega arith)
   cut_is (suc s) n (x ∷ xs) few before inner behind =
       cut_is s n xs (omega arith) (λ k d lt. before (suc k) d (omega arith))
-      (λ k d le lt. inner (suc k) d (omega arith) (omega arith))
-      (λ k d le inside. behind (suc k) d (omega arith) (omega arith))
-      ∙ sym (failed x xs (before zero x (omega arith)))
+      (λ k d le lt. inner (suc k) d (omega arith) (omega arith)) (λ k d le inside.
+      behind (suc k) d (omega arith) (omega arith)) ∙ sym (failed x xs (before zero x (omega arith)))
 
 -- a list that does not fall is cut behind the last item that is no greater, and what is left before the first that is
 -- no less
@@ -68,23 +64,10 @@ module _ {X : Type 0} (key : X → ℕ) (t start end : ℕ) (xs upto : List X) (
   size = ap (λ (l : List X). length l) cut ∙ length-take-le end xs high
 
   not_above : (k : ℕ) (d : X) → k < length upto → key (get_or upto k d) ≤ t
-  not_above k d inside =
-      let long = size in
-      let same : get_or upto k d ≡ get_or xs k d =
-      ap (λ (l : List X). get_or l k d) cut ∙ get_or-take end xs k d (omega arith) in
-      let le : key (get_or xs k d) ≤ t = leb-true (key (get_or xs k d)) t (to.0 k d (omega arith) (omega arith)) in
-      let own : key (get_or upto k d) ≡ key (get_or xs k d) = ap key same in
-      omega arith
+  not_above k d inside = grind (arith, common_steps, size, get_or-take, leb-true)
 
   behind_none : filter its (drop end xs) ≡ []
-  behind_none =
-      none_kept its (drop end xs)
-      (λ k d inside.
-      let long = length-drop end xs in
-      let same : key (get_or (drop end xs) k d) ≡ key (get_or xs (end + k) d) = ap key (get_or-drop end xs k d) in
-      let more : t < key (get_or xs (end + k) d) =
-      leb-false (key (get_or xs (end + k) d)) t (to.1 (end + k) d (omega arith) (omega arith)) in
-      ne_eqb (key (get_or (drop end xs) k d)) t (λ e. let P : ⊥ = omega arith in P))
+  behind_none = grind (arith, common_steps, none_kept, length-drop, get_or-drop, leb-false, ne_eqb)
 
   whole : filter its upto ≡ filter its xs
   whole =
@@ -95,15 +78,4 @@ module _ {X : Type 0} (key : X → ℕ) (t start end : ℕ) (xs upto : List X) (
       ∙ ap (filter its) (take-append-drop end xs)
 
   pub cut_at : take (length upto - start) (drop start upto) ≡ filter (λ x. eqb (key x) t) xs
-  cut_at =
-      cut_is its start (length upto - start) upto (omega arith)
-      (λ k d lt.
-      let less : key (get_or upto k d) < t = ltb-true (key (get_or upto k d)) t (from.0 k d (omega arith) lt) in
-      ne_eqb (key (get_or upto k d)) t (λ e. let P : ⊥ = omega arith in P))
-      (λ k d le lt.
-      let inside : k < length upto = omega arith in
-      let least : t ≤ key (get_or upto k d) = ltb-false (key (get_or upto k d)) t (from.1 k d le inside) in
-      let most = not_above k d inside in
-      eq-eqb (key (get_or upto k d)) t (omega arith))
-      (λ k d le inside. absurd (omega arith))
-      ∙ whole
+  cut_at = grind (arith, common_steps, cut_is, ltb-true, ne_eqb, ltb-false, not_above, eq-eqb, whole)

@@ -1,6 +1,7 @@
 -- The departures of found cells: they stand by slot, they are before the next one, and each is at one of the outputs.
 -- There it is counted.
-use Rattle.std.proofs.Common.{◌≡◌, ℕ, ◌+◌, ◌<◌, ◌≤◌, ◌^◌, eqb, List, [], ◌∷◌, length, map, get_or, set, take, refl, ap, ◌∙◌, ⊎_elim, arith}
+use Rattle.std.proofs.lemmas.Grind.{common_steps}
+use Rattle.std.proofs.Common.{rules, ◌≡◌, ℕ, ◌+◌, ◌<◌, ◌≤◌, ◌^◌, eqb, List, [], ◌∷◌, length, map, get_or, set, take, refl, ⊎_elim, arith}
 use Rattle.std.specs.Prelude.{not}
 use Rattle.std.specs.List.{AllByRecursion, AllPairs, range_with_len}
 use Rattle.std.proofs.lemmas.List.{length-take-le}
@@ -30,8 +31,7 @@ each_later (g ∷ gone) pairs = (
 )
 
 pub departed_rising : (gone : List Gone) → AllPairs IsSentBefore gone → AllPairs IsNoLater (map departed gone)
-departed_rising gone pairs =
-    all_pairs IsNoLater (map departed gone) (each_later gone (each_pair IsSentBefore gone pairs))
+departed_rising gone pairs = search (rules, all_pairs, IsNoLater, each_later, each_pair)
 
 pub departed_low : (next : ℕ) (gone : List Gone) → next < 2 ^ 63 → AllByRecursion (IsTimely next) gone →
     AllByRecursion (λ d. d.slot < 2 ^ 63) (map departed gone)
@@ -40,8 +40,7 @@ departed_low next gone early =
 
 pub departed_for : (ports : ℕ) (gone : List Gone) → AllByRecursion (λ g. g.queued.cell.output < ports) gone →
     AllByRecursion (λ d. d.output < ports) (map departed gone)
-departed_for ports =
-    all_departed (λ (g : Gone). g.queued.cell.output < ports) (λ (d : Departure). d.output < ports) (λ g is. is)
+departed_for ports = search (rules, all_departed)
 
 -- ## One departure at its output
 
@@ -56,23 +55,12 @@ module _ (sent : List Departure) (ports i : ℕ) (e : Departure) (now : List Out
     (all : AllByRecursion (λ d. d.output < ports) sent) (read : OutputFigures)
     (is : read ≡ get_or now (get_or sent i e).output read) where
   there : read ≡ output_told (take i sent) (get_or sent i e).output
-  there =
-      is ∙ figures_there sent ports i e now so_far inside
-      (all_at (λ (d : Departure). d.output < ports) sent i e inside all) read
+  there = grind (arith, common_steps, figures_there, all_at)
 
   -- it has sent no more cells than there are departures before this one
   pub fewer_sent : read.cells ≤ i
-  fewer_sent =
-      let cells : read.cells ≡ (output_told (take i sent) (get_or sent i e).output).cells =
-      ap (λ (x : OutputFigures). x.cells) there in
-      let few = few_told (take i sent) (get_or sent i e).output in
-      let long = length-take-le i sent in
-      omega arith
+  fewer_sent = grind (arith, common_steps, there, few_told, length-take-le)
 
   pub departure_counted : (x : OutputFigures) → x ≡ with_departure (get_or sent i e).output read (get_or sent i e) →
       set now (get_or sent i e).output x ≡ map (output_told (take (i + 1) sent)) (range_with_len 0 ports)
-  departure_counted x counted =
-      outputs_more sent ports i e now so_far inside
-      (all_at (λ (d : Departure). d.output < ports) sent i e inside all) x
-      (counted
-      ∙ ap (λ (y : OutputFigures). with_departure (get_or sent i e).output y (get_or sent i e)) there)
+  departure_counted x counted = grind (arith, common_steps, outputs_more, all_at, there)

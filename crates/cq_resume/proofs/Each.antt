@@ -1,5 +1,6 @@
 -- A walk that asks something of each item, one after another, decides whether it holds of all.
-use Rattle.std.proofs.Common.{◌≡◌, ℕ, zero, suc, ◌+◌, ◌<◌, ◌≤◌, ◌↔◌, Bool, true, false, List, [], ◌∷◌, ◌++◌, length, get_or, take, refl, sym, ◌∙◌, subst, arith}
+use Rattle.std.proofs.lemmas.Grind.{common_steps}
+use Rattle.std.proofs.Common.{◌≡◌, ℕ, zero, suc, ◌+◌, ◌<◌, ◌≤◌, ◌↔◌, Bool, true, false, List, [], ◌∷◌, ◌++◌, length, get_or, take, arith}
 use Rattle.std.specs.List.{All, AllByRecursion}
 use Rattle.std.proofs.lemmas.List.{take_all, take_more}
 use Rattle.std.proofs.lemmas.List.Elements.{All-from_recursion, recursion_from_All}
@@ -24,21 +25,15 @@ module _ {X : Type 0} (P : X → Type 0) where
 
   pub all_more : (xs : List X) (i : ℕ) (d : X) → i < length xs → AllByRecursion P (take i xs) → P (get_or xs i d) →
       AllByRecursion P (take (i + 1) xs)
-  all_more xs i d inside all here =
-      subst (λ (l : List X). AllByRecursion P l) (sym (take_more xs i d inside))
-      (all_both (take i xs) (get_or xs i d ∷ []) all (here, tt))
+  all_more xs i d inside all here = grind (arith, common_steps, take_more, all_both)
 
   pub all_hold : (xs : List X) (i : ℕ) → length xs ≤ i → AllByRecursion P (take i xs) →
       (true ≡ true) ↔ AllByRecursion P xs
-  all_hold xs i past all =
-      ((λ _. subst (λ (l : List X). AllByRecursion P l) (take_all i xs past) all), (λ _. refl))
+  all_hold xs i past all = grind (arith, common_steps, take_all)
 
   pub all_fail : (xs : List X) (i : ℕ) (d : X) (r : Bool) → i < length xs → ((r ≡ true) ↔ P (get_or xs i d)) →
       r ≡ false → (false ≡ true) ↔ AllByRecursion P xs
-  all_fail xs i d r inside is fails = (
-    (λ clash. absurd (let Q : ⊥ = cc in Q)),
-    (λ all. sym fails ∙ is.1 (all_at xs i d inside all)),
-  )
+  all_fail xs i d r inside is fails = grind (arith, common_steps, all_at)
 
 pub all_weaker : {X : Type 0} (P Q : X → Type 0) → ((x : X) → P x → Q x) → (xs : List X) → AllByRecursion P xs →
     AllByRecursion Q xs
@@ -47,12 +42,8 @@ all_weaker P Q weaker (x ∷ xs) all = (weaker x all.0, all_weaker P Q weaker xs
 
 -- what holds of both sides of a clause alike holds of all items alike
 pub all_same : {X : Type 0} (P Q : X → Type 0) → ((x : X) → P x ↔ Q x) → (xs : List X) → All P xs ↔ AllByRecursion Q xs
-all_same P Q same xs = (
-  (λ all. all_weaker P Q (λ x. (same x).0) xs (recursion_from_All P xs all)),
-  (λ all. All-from_recursion P xs (all_weaker Q P (λ x. (same x).1) xs all)),
-)
+all_same P Q same xs = grind (arith, common_steps, all_weaker, recursion_from_All, All-from_recursion)
 
 pub all_each : {X : Type 0} (P Q : X → Type 0) (xs : List X) → AllByRecursion (λ x. P x × Q x) xs →
     AllByRecursion P xs × AllByRecursion Q xs
-all_each P Q xs all =
-    (all_weaker (λ x. P x × Q x) P (λ x both. both.0) xs all, all_weaker (λ x. P x × Q x) Q (λ x both. both.1) xs all)
+all_each P Q xs all = grind (arith, common_steps, all_weaker)

@@ -1,7 +1,8 @@
 -- The fifth clause, of found cells. Of any two names of one flow the one that arrived first leaves first: said of the
 -- names by input and slot, each and each later one; or of any two that stand among the lines. Of departures it says
 -- that they were sent in the order of arrival, since those of one output stand by the slots in which they were sent.
-use Rattle.std.proofs.Common.{◌≡◌, ℕ, ◌<◌, ◌↔◌, ◌⊎◌, eqb, true, false, List, [], ◌∷◌, ◌++◌, length, map, get_or, sym, ap, ◌∙◌, subst, inl, inr, ⊎_elim, arith}
+use Rattle.std.proofs.Common.{rules, ◌≡◌, ℕ, ◌<◌, ◌↔◌, ◌⊎◌, true, false, List, [], ◌∷◌, ◌++◌, length, map, get_or, sym, ap, subst, inl, inr, ⊎_elim, arith}
+use Rattle.std.proofs.lemmas.Grind.{common_steps}
 use Rattle.std.specs.Prelude.{All, Contains, IsPermutation}
 use Rattle.std.specs.List.{AllByRecursion, AllPairs, AllZip}
 use Rattle.std.proofs.lemmas.Bool.{and_from, cases_order, eq-eqb}
@@ -41,23 +42,7 @@ never_itself m (inr (same, less)) = omega arith
 -- two are one
 either_way : {X : Type 0} (P : X → X → Type 0) (xs : List X) → AllPairs P xs → (x y : X) → Contains xs x →
     Contains xs y → P x y ⊎ ((x ≡ y) ⊎ P y x)
-either_way {X} P xs pairs x y at to =
-    let i = at.0 in
-    let j = to.0 in
-    let inner : i < length xs = at.1 in
-    let outer : j < length xs = to.1 in
-    let x_is : get_or xs i x ≡ x = at.2 in
-    let y_is : get_or xs j x ≡ y = get_or_default xs j x y outer ∙ to.2 in
-    elim (cases_order i j) [
-      | inl even ↦ inr (inl (sym x_is ∙ ap (λ (k : ℕ). get_or xs k x) even ∙ y_is))
-      | inr ways ↦ elim ways [
-        | inl lt ↦
-            inl (subst (λ (a : X). P a y) x_is (subst (λ (b : X). P (get_or xs i x) b) y_is (pairs i j x lt outer)))
-        | inr gt ↦
-            let turned = subst (λ (b : X). P (get_or xs j x) b) x_is (pairs j i x gt inner) in
-            inr (inr (subst (λ (a : X). P a x) y_is turned))
-      ]
-    ]
+either_way {X} P xs pairs x y at to = search (arith, rules, get_or_default xs to.0 x y to.1, cases_order at.0 to.0)
 
 module _ (told names : List Name) (same : IsPermutation told names) (rising : AllPairs IsNameBefore names) where
   pub flows_hold : FlowsStand names → FlowsHold told
@@ -77,8 +62,7 @@ module _ (told names : List Name) (same : IsPermutation told names) (rising : Al
   flows_stand hold i j d lt inside =
       let back = IsPermutation-sym told names same in
       let among : (k : ℕ) → k < length names → Has told (get_or names k d) =
-      λ k within. has_from_place told (get_or names k d)
-      (Contains-permutation names told (get_or names k d) back
+      λ k within. has_from_place told (get_or names k d) (Contains-permutation names told (get_or names k d) back
       (has_place names (get_or names k d) (has_at names k d within))) in
       hold (get_or names i d) (get_or names j d) (among i (omega arith)) (among j inside) (rising i j d lt inside)
 
@@ -144,24 +128,13 @@ module _ (listing buffering : List Queued) (sending : List Gone) (next : ℕ) (s
       (has_cases listing buffering q has))
 
   sent_told : (g : Gone) → Has sending g → Has told (sent_name g)
-  sent_told g has =
-      has_right (map waiting_name listing ++ map waiting_name buffering) (map sent_name sending) (sent_name g)
-      (has_image sent_name sending g has)
+  sent_told g has = has_right (map waiting_name listing ++ map waiting_name buffering) (map sent_name sending)
+      (sent_name g) (has_image sent_name sending g has)
 
   -- a name of the lines waits or was sent
   told_cases : (m : Name) → Has told m →
       ((q : Queued) × Has waiting q × (waiting_name q ≡ m)) ⊎ ((g : Gone) × Has sending g × (sent_name g ≡ m))
-  told_cases m has =
-      ⊎_elim
-      (λ waits.
-      ⊎_elim
-      (λ first. let it = image_has waiting_name listing m first in
-      inl (it.0, has_left listing buffering it.0 it.1, it.2))
-      (λ second. let it = image_has waiting_name buffering m second in
-      inl (it.0, has_right listing buffering it.0 it.1, it.2))
-      (has_cases (map waiting_name listing) (map waiting_name buffering) m waits))
-      (λ gone. let it = image_has sent_name sending m gone in inr (it.0, it.1, it.2))
-      (has_cases (map waiting_name listing ++ map waiting_name buffering) (map sent_name sending) m has)
+  told_cases m has = grind (arith, common_steps, image_has, has_left, has_right, has_cases)
 
   abbrev AreApart : Gone → Gone → Type 0
   AreApart g h = IsApart (sent_name g) (sent_name h)
@@ -170,8 +143,7 @@ module _ (listing buffering : List Queued) (sending : List Gone) (next : ℕ) (s
   waits = map waiting_name listing ++ map waiting_name buffering
 
   apart_sent : AllPairs AreApart sending
-  apart_sent =
-      all_pairs AreApart sending
+  apart_sent = all_pairs AreApart sending
       (pairs_of_images sent_name IsApart sending (pairs_right IsApart waits (map sent_name sending) apart))
 
   apart_waits : (q : Queued) (g : Gone) → Has waits (waiting_name q) → Has sending g →
@@ -193,12 +165,7 @@ module _ (listing buffering : List Queued) (sending : List Gone) (next : ℕ) (s
 
   one_name : (a b : Name) → a.queued.key.slot ≡ b.queued.key.slot → a.queued.key.input ≡ b.queued.key.input →
       IsApart a b → ⊥
-  one_name a b slot input other =
-      let both : same_name a b ≡ true =
-      and_from (eqb a.queued.key.slot b.queued.key.slot) (eqb a.queued.key.input b.queued.key.input)
-      (eq-eqb a.queued.key.slot b.queued.key.slot slot) (eq-eqb a.queued.key.input b.queued.key.input input) in
-      let clash : true ≡ false = sym both ∙ other in
-      let P : ⊥ = cc in P
+  one_name a b slot input other = grind (arith, common_steps, same_name, and_from, eq-eqb)
 
   -- the names that leave in the order of arrival keep it
   flows_keep : FlowsHold told → Keep waiting sending
@@ -209,45 +176,39 @@ module _ (listing buffering : List Queued) (sending : List Gone) (next : ℕ) (s
             let h = get_or sending j d in
             let order = stand.ordered i j d lt inside in
             let other = apart_sent i j d lt inside in
-            ⊎_elim
-            (λ even. absurd (one_name (sent_name g) (sent_name h) even one.input other))
-            (λ ways.
-            ⊎_elim (λ less. less)
-            (λ more.
+            ⊎_elim (λ even. absurd (one_name (sent_name g) (sent_name h) even one.input other))
+            (λ ways. ⊎_elim (λ less. less) (λ more.
             let leaves : h.slot < g.slot =
             hold (sent_name h) (sent_name g) (sent_told h (has_at sending j d inside))
             (sent_told g (has_at sending i d (omega arith))) (inr (sym one.input, more))
-            (record { input = sym one.input; output = sym one.output; class = sym one.class }) in
+            (record {
+              input = sym one.input;
+              output = sym one.output;
+              class = sym one.class;
+            }) in
             let output = one.output in
-            absurd
-            (⊎_elim (λ before. omega arith) (λ same. let e = same.0 in omega arith) order)) ways)
-            (cases_order g.queued.key.slot h.queued.key.slot);
-        after = all_from_has (λ (g : Gone). AllByRecursion (StayBehind g) waiting) sending
-            (λ g gone. all_from_has (StayBehind g) waiting
-            (λ q waits one.
-            ⊎_elim
-            (λ even. absurd (one_name (waiting_name q) (sent_name g) (sym even) (sym one.input)
-            (apart_waits q g (among_waits q waits) gone)))
-            (λ ways.
-            ⊎_elim (λ less. less)
-            (λ more.
-            let leaves : ⊥ =
-            hold (waiting_name q) (sent_name g) (waits_told q waits) (sent_told g gone) (inr (sym one.input, more))
-            (record { input = sym one.input; output = sym one.output; class = sym one.class }) in
-            absurd leaves) ways)
-            (cases_order g.queued.key.slot q.key.slot)));
+            absurd (⊎_elim (λ before. omega arith) (λ same. let e = same.0 in omega arith) order))
+            ways) (cases_order g.queued.key.slot h.queued.key.slot);
+        after = all_from_has (λ (g : Gone). AllByRecursion (StayBehind g) waiting) sending (λ g gone.
+            all_from_has (StayBehind g) waiting (λ q waits one.
+            ⊎_elim (λ even. absurd (one_name (waiting_name q) (sent_name g) (sym even) (sym one.input)
+            (apart_waits q g (among_waits q waits) gone))) (λ ways.
+            ⊎_elim (λ less. less) (λ more.
+            let leaves : ⊥ = hold (waiting_name q) (sent_name g) (waits_told q waits)
+            (sent_told g gone) (inr (sym one.input, more)) (record {
+              input = sym one.input;
+              output = sym one.output;
+              class = sym one.class;
+            }) in
+            absurd leaves) ways) (cases_order g.queued.key.slot q.key.slot)));
         queued = all_from_has (λ (a : Queued). AllByRecursion (LeaveInTurn a) waiting) waiting
-            (λ a first. all_from_has (LeaveInTurn a) waiting
-            (λ b second one less.
-            hold (waiting_name a) (waiting_name b) (waits_told a first) (waits_told b second) (inr (one.input, less))
+            (λ a first. all_from_has (LeaveInTurn a) waiting (λ b second one less. hold (waiting_name a)
+            (waiting_name b) (waits_told a first) (waits_told b second) (inr (one.input, less))
             (record { input = one.input; output = one.output; class = one.class })));
       }
 
   flow : (m n : Name) (q r : Queued) → m.queued ≡ q → n.queued ≡ r → InOneFlow m n → OneFlow q r
-  flow m n q r first second one =
-      subst (λ (b : Queued). OneFlow q b) second
-      (subst (λ (a : Queued). OneFlow a n.queued) first
-      (record { input = one.input; output = one.output; class = one.class }))
+  flow m n q r first second one = grind (arith, common_steps)
 
   -- and the other way
   keep_flows : Keep waiting sending → FlowsHold told
@@ -336,29 +297,10 @@ module _ (w : Switch) (s : State) (listing buffering : List Queued) (sending : L
 
   module _ (c d : Named) (q r : Queued) (a : Facts w.came s.head.next c q) (b : Facts w.came s.head.next d r) where
     one_flow : OfOneFlow w.came c d ↔ OneFlow q r
-    one_flow =
-        let input = its_input w.came s.head.next c q a in
-        let output = its_output w.came s.head.next c q a in
-        let class = its_class w.came s.head.next c q a in
-        let to_input = its_input w.came s.head.next d r b in
-        let to_output = its_output w.came s.head.next d r b in
-        let to_class = its_class w.came s.head.next d r b in (
-          (λ one. record {
-            input = sym input ∙ one.input ∙ to_input;
-            output = sym output ∙ one.output ∙ to_output;
-            class = sym class ∙ one.class ∙ to_class;
-          }),
-          (λ one. record {
-            input = input ∙ one.input ∙ sym to_input;
-            output = output ∙ one.output ∙ sym to_output;
-            class = class ∙ one.class ∙ sym to_class;
-          }),
-        )
+    one_flow = grind (arith, common_steps, its_input, its_output, its_class)
 
     later : (c.slot < d.slot) ↔ (q.key.slot < r.key.slot)
-    later =
-        let x = its_slot w.came s.head.next c q a in
-        let y = its_slot w.came s.head.next d r b in ((λ lt. omega arith), (λ lt. omega arith))
+    later = grind (arith, common_steps, its_slot)
 
     later_in_flow : (OfOneFlow w.came c d → c.slot < d.slot) ↔ (OneFlow q r → q.key.slot < r.key.slot)
     later_in_flow = implied one_flow later
@@ -383,18 +325,16 @@ module _ (w : Switch) (s : State) (listing buffering : List Queued) (sending : L
   keep_alike =
       let waiting = listing ++ buffering in
       let sent =
-      pairs_alike Sending NamedKeep GoneKeep
-      (λ d e g h a b. later_in_flow d.cell e.cell g.queued h.queued (facts d.cell g.queued a.1)
-      (facts e.cell h.queued b.1)) s.sent sending third in
-      let after =
-      alls_alike Sending (λ d. All (NamedBehind d) (queued_in s)) (λ g. AllByRecursion (StayBehind g) waiting)
-      (λ d g a. alls_alike Told (NamedBehind d) (StayBehind g)
-      (λ c q b. later_in_flow d.cell c g.queued q (facts d.cell g.queued a.1) (facts c q b)) (queued_in s) waiting zips)
-      s.sent sending third in
-      let queued =
-      alls_alike Told (λ c. All (NamedInTurn c) (queued_in s)) (λ q. AllByRecursion (LeaveInTurn q) waiting)
-      (λ c q a. alls_alike Told (NamedInTurn c) (LeaveInTurn q)
-      (λ d r b. in_turn c d q r (facts c q a) (facts d r b)) (queued_in s) waiting zips) (queued_in s) waiting zips in (
+      pairs_alike Sending NamedKeep GoneKeep (λ d e g h a b. later_in_flow d.cell e.cell g.queued h.queued
+      (facts d.cell g.queued a.1) (facts e.cell h.queued b.1)) s.sent sending third in
+      let after = alls_alike Sending (λ d. All (NamedBehind d) (queued_in s))
+      (λ g. AllByRecursion (StayBehind g) waiting) (λ d g a. alls_alike Told (NamedBehind d) (StayBehind g)
+      (λ c q b. later_in_flow d.cell c g.queued q (facts d.cell g.queued a.1) (facts c q b)) (queued_in s)
+      waiting zips) s.sent sending third in
+      let queued = alls_alike Told (λ c. All (NamedInTurn c) (queued_in s))
+      (λ q. AllByRecursion (LeaveInTurn q) waiting) (λ c q a. alls_alike Told (NamedInTurn c) (LeaveInTurn q)
+      (λ d r b. in_turn c d q r (facts c q a) (facts d r b)) (queued_in s) waiting zips) (queued_in s)
+      waiting zips in (
         (λ keep. record { sent = sent.0 keep.sent; after = after.0 keep.after; queued = queued.0 keep.queued }),
         (λ keep. record { sent = sent.1 keep.sent; after = after.1 keep.after; queued = queued.1 keep.queued }),
       )
@@ -408,7 +348,6 @@ module _ (w : Switch) (s : State) (listing buffering : List Queued) (sending : L
         let told = names_of listing buffering sending in (
           (λ keep. flows_stand told names same rising
               (keep_flows listing buffering sending s.head.next stand apart (keep_alike.0 keep))),
-          (λ flows. keep_alike.1
-              (flows_keep listing buffering sending s.head.next stand apart
+          (λ flows. keep_alike.1 (flows_keep listing buffering sending s.head.next stand apart
               (flows_hold told names same rising flows))),
         )

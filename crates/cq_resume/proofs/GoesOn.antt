@@ -1,8 +1,9 @@
 -- What a run goes on from. The cells that a sound state names are different arrivals before its next slot. So the
 -- fabric that it tells of stands in order, no key is in it twice, and in each list, for each output and in each count
 -- there are no more cells than came, and none has more than there were slots.
-use Rattle.std.proofs.Common.{◌≡◌, ◌≢◌, ℕ, zero, suc, ◌+◌, ◌<◌, ◌≤◌, ◌^◌, ◌⊎◌, Bool, true, false, cond, List, [], ◌∷◌, length, get_or, map, Option, None, Some, refl, sym, ap, ◌∙◌, subst, inl, inr, ⊎_elim, arith, length-append}
-use Rattle.std.specs.Prelude.{◌==◌, ◌&&◌, IsSome, filter, find, nat_lt, not, slice_get}
+use Rattle.std.proofs.lemmas.Grind.{common_steps}
+use Rattle.std.proofs.Common.{rules, ◌≡◌, ◌≢◌, ℕ, zero, suc, ◌+◌, ◌<◌, ◌≤◌, ◌^◌, ◌⊎◌, Bool, true, false, cond, List, [], ◌∷◌, length, get_or, map, Option, None, Some, refl, sym, ap, ◌∙◌, subst, inl, inr, ⊎_elim, arith, length-append}
+use Rattle.std.specs.Prelude.{◌==◌, IsSome, filter, nat_lt, slice_get}
 use Rattle.std.specs.List.{AllByRecursion, enumerate_from, filter_map, range_with_len}
 use Rattle.std.specs.Option.{option_map}
 use Rattle.std.proofs.lemmas.Bool.{and_parts, cases_Bool, cases_lt, eq-eqb, eqb-true, lt-ltb, ne_eqb}
@@ -16,11 +17,9 @@ use Rattle.cq_base.specs.declared.cell.Departure.{Departure}
 use Rattle.cq_base.specs.declared.cell.Queued.{Queued}
 use Rattle.cq_base.specs.declared.figures.InputFigures.{InputFigures}
 use Rattle.cq_base.specs.declared.figures.OutputFigures.{OutputFigures}
-use Rattle.cq_base.specs.Key.{is_before}
 use Rattle.cq_base.specs.declared.key.Key.{Key}
 use Rattle.cq_cells.specs.Traffic.{IsInRange as IsOfSwitch, IsTraffic, is_from, is_to, number_of}
 use Rattle.cq_ideal.proofs.Waiting.{total, total_more, total_none}
-use Rattle.cq_ideal.specs.Admission.{is_first}
 use Rattle.cq_ideal.specs.Refused.{cells_refused, packets_refused, refused_at, refused_counts}
 use Rattle.cq_ideal.specs.declared.refused.Refused.{Refused}
 use Rattle.cq_laws.specs.Fabric.{Fabric, IsAmong, buffer, input}
@@ -33,15 +32,15 @@ use Rattle.cq_resume.proofs.Chained.{EachPair, each_pair}
 use Rattle.cq_resume.proofs.Each.{all_weaker}
 use Rattle.cq_resume.proofs.Having.{Has, all_from_has, all_of_has, has_kept, has_left, has_right, kept_has}
 use Rattle.cq_resume.proofs.Pooled.{AreApart, Stands, has_there, image_at, kept_few, looked_few, looked_up, no_more, numbers_few, one_place, pairs_cross, pairs_kept, pairs_left, pairs_looked_up, pairs_right, pairs_with}
-use Rattle.cq_resume.specs.Counted.{departure_of, figures_told, firsts_at, frozen_told, input_told, is_refused, latest, output_told, refused_arrivals, sent_told}
+use Rattle.cq_resume.specs.Counted.{departure_of, figures_told, frozen_told, refused_arrivals, sent_told, input_told, output_told}
 use Rattle.cq_resume.specs.Sound.{IsBufferedBefore, IsSentBefore, IsSound}
 use Rattle.cq_resume.specs.Switch.{HasShape, Switch}
-use Rattle.cq_resume.specs.Told.{arriving_cell, buffer_told, fabric_told, is_ahead, is_named, key_of, list_told, named_in, output_in, output_of, queued_in, queued_of}
+use Rattle.cq_resume.specs.Told.{arriving_cell, buffer_told, fabric_told, is_ahead, key_of, list_told, named_in, output_in, output_of, queued_in, queued_of}
 use Rattle.cq_state.specs.State.{IsInRange}
 use Rattle.cq_state.specs.declared.state.Named.{Named}
-use Rattle.cq_state.specs.declared.state.Seen.{Seen}
 use Rattle.cq_state.specs.declared.state.Sent.{Sent}
 use Rattle.cq_state.specs.declared.state.State.{State}
+use Rattle.cq_state.specs.declared.state.Seen.{Seen}
 
 -- the arrivals before this slot
 abbrev pub came_before : ℕ → List Arrival → List Arrival
@@ -72,12 +71,7 @@ module _ (told : ℕ → List Queued) (many : ℕ) where
   told_at i inside = get_or-map-range_with_len told 0 many i i [] inside (omega arith)
 
   of_told : (P : List Queued → Type 0) → P [] → (i : ℕ) → P (told i) → P (get_or each_told i [])
-  of_told P none i here =
-      ⊎_elim (λ inside. subst P (sym (told_at i inside)) here)
-      (λ past.
-      let long = length-map-range_with_len told 0 many in
-      subst P (sym (get_or_past each_told i [] (omega arith))) none)
-      (cases_lt i many)
+  of_told P none i here = grind (arith, common_steps, told_at, length-map-range_with_len, get_or_past, cases_lt)
 
 -- ## A name and its arrival
 
@@ -91,25 +85,8 @@ pub record FoundAt (came : List Arrival) (t i : ℕ) (cell : Cell) : Type 0 wher
 
 pub found_at : (came : List Arrival) (t i : ℕ) (cell : Cell) → arriving_at came t i ≡ Some cell → FoundAt came t i cell
 found_at [] t i cell is = absurd (let P : ⊥ = cc in P)
-found_at (a ∷ came) t i cell is =
-    ⊎_elim
-    (λ here.
-    let one : Some a.cell ≡ Some cell =
-    sym (ap (λ (b : Bool). option_map (λ (x : Arrival). x.cell) (cond b (Some a) (find (is_at t i) came))) here) ∙ is in
-    let parts = and_parts (a.slot == t) (a.cell.id.input == i) here in
-    record {
-      arrival = a;
-      has = inl refl;
-      slot = eqb-true a.slot t parts.0;
-      input = eqb-true a.cell.id.input i parts.1;
-      own = let same : a.cell ≡ cell = cc in same;
-    })
-    (λ past.
-    let later : arriving_at came t i ≡ Some cell =
-    sym (ap (λ (b : Bool). option_map (λ (x : Arrival). x.cell) (cond b (Some a) (find (is_at t i) came))) past) ∙ is in
-    let it = found_at came t i cell later in
-    record { arrival = it.arrival; has = inr it.has; slot = it.slot; input = it.input; own = it.own })
-    (cases_Bool (is_at t i a))
+found_at (a ∷ came) t i cell is = ⊎_elim (λ here. search (arith, rules, and_parts, a.slot, a.cell.id.input, eqb-true))
+    (λ past. search (arith, rules, found_at came t i cell)) (cases_Bool (is_at t i a))
 
 pub some_cell : (o : Option Cell) → IsSome o → (cell : Cell) × (o ≡ Some cell)
 some_cell None some = absurd (let P : ⊥ = cc in P)
@@ -127,13 +104,10 @@ cell_with c cell = record { cell = cell; key = key_of c }
 its_cell : (c : Named) (o : Option Cell) (q : Queued) →
     option_map (cell_with c) o ≡ Some q → (o ≡ Some q.cell) × (q.key ≡ key_of c)
 its_cell c None q is = absurd (let P : ⊥ = cc in P)
-its_cell c (Some cell) q is =
-    let same : cell_with c cell ≡ q = cc in
-    (ap (λ (x : Queued). Some x.cell) same, sym (ap (λ (x : Queued). x.key) same))
+its_cell c (Some cell) q is = grind (arith, common_steps)
 
 pub is_cell_of : (came : List Arrival) (c : Named) (q : Queued) → queued_of came c ≡ Some q → IsCellOf came c q
-is_cell_of came c q is =
-    let both = its_cell c (arriving_cell came c) q is in record { arrives = both.0; key = both.1 }
+is_cell_of came c q is = grind (arith, common_steps, its_cell)
 
 -- two names are of different arrivals
 abbrev pub Differ : Named → Named → Type 0
@@ -149,27 +123,14 @@ names_few : (test : Arrival → Bool) (next : ℕ) (came : List Arrival) (names 
     ((c : Named) (a : Arrival) → Has names c → arriving_cell came c ≡ Some a.cell → a.cell.id.input ≡ c.input →
     test a ≡ true) →
     length names ≤ number_of test (came_before next came)
-names_few test next came names pairs arrive passes =
-    no_more IsOfArrival names (filter test (came_before next came))
+names_few test next came names pairs arrive passes = no_more IsOfArrival names (filter test (came_before next came))
     (pairs_with Differ (AreApart IsOfArrival) (λ (c : Named). Has names c)
     (λ c d _ _ differ a first second. differ (sym first.0 ∙ second.0) (sym first.1 ∙ second.1)) names
-    (all_from_has (λ (c : Named). Has names c) names (λ c has. has)) pairs)
-    (all_from_has (Stands IsOfArrival (filter test (came_before next came))) names
-    (λ c has.
+    (all_from_has (λ (c : Named). Has names c) names (λ c has. has)) pairs) (all_from_has
+    (Stands IsOfArrival (filter test (came_before next came))) names (λ c has.
     let comes = arrive c has in
     let some = some_cell (arriving_cell came c) comes.1 in
-    let it = found_at came c.slot c.input some.0 some.1 in
-    let slot = it.slot in
-    let early = comes.0 in
-    let before : nat_lt it.arrival.slot next ≡ true = lt-ltb it.arrival.slot next (omega arith) in
-    record {
-      one = it.arrival;
-      has =
-          has_kept test (came_before next came) it.arrival
-          (has_kept (λ (a : Arrival). nat_lt a.slot next) came it.arrival it.has before)
-          (passes c it.arrival has (some.1 ∙ ap (λ (x : Cell). Some x) (sym it.own)) it.input);
-      own = (it.slot, it.input);
-    }))
+    let it = found_at came c.slot c.input some.0 some.1 in search (arith, rules, lt-ltb, has_kept)))
 
 -- ## Lists as other modules say them
 
@@ -197,8 +158,7 @@ same_outputs : (limits : List (Option ℕ)) (cells : List Cell) (j : ℕ) →
     ≡ filter_map (λ (at : ℕ × Option ℕ). option_map (limit_at at.0) at.1) (enumerate_from j limits)
 same_outputs [] cells j = refl
 same_outputs (None ∷ limits) cells j = same_outputs limits cells (j + 1)
-same_outputs (Some limit ∷ limits) cells j =
-    ap (λ (l : List (ℕ × ℕ)). limit_at j limit ∷ l) (same_outputs limits cells (j + 1))
+same_outputs (Some limit ∷ limits) cells j = grind (arith, common_steps, same_outputs limits cells (j + 1))
 
 are_counts : (limits : List (Option ℕ)) (cells : List Cell) → AreCountsOf limits (refused_counts limits cells)
 unfolding refused_counts
@@ -219,10 +179,7 @@ counts_few : (limits : List (Option ℕ)) (cells : List Cell) (j n : ℕ) → le
 unfolding cells_refused packets_refused
 counts_few [] cells j n le = tt
 counts_few (None ∷ limits) cells j n le = counts_few limits cells (j + 1) n le
-counts_few (Some limit ∷ limits) cells j n le =
-    let packets = fewer_kept (λ (cell : Cell). cell.output == j && is_first cell) cells in
-    let some = fewer_kept (λ (cell : Cell). cell.output == j) cells in
-    ((omega arith, omega arith), counts_few limits cells (j + 1) n le)
+counts_few (Some limit ∷ limits) cells j n le = search (rules, fewer_kept, counts_few limits cells (j + 1) n le)
 
 all_few : (limits : List (Option ℕ)) (cells : List Cell) (n : ℕ) → length cells ≤ n →
     AllByRecursion (λ (r : Refused). (r.packets ≤ n) × (r.cells ≤ n)) (refused_counts limits cells)
@@ -253,8 +210,7 @@ module _ (w : Switch) (s : State) (in_range : IsInRange s) (shape : HasShape w s
   Comes c = (c.slot < s.head.next) × IsSome (arriving_cell w.came c)
 
   pub comes : (c : Named) → Has (named_in s) c → Comes c
-  comes c has =
-      all_of_has Comes (named_in s) c (recursion_from_All Comes (named_in s) sound.arrivals.arrive) has
+  comes c has = all_of_has Comes (named_in s) c (recursion_from_All Comes (named_in s) sound.arrivals.arrive) has
 
   differ : EachPair Differ (named_in s)
   differ = each_pair Differ (named_in s) sound.arrivals.once
@@ -307,15 +263,10 @@ module _ (w : Switch) (s : State) (in_range : IsInRange s) (shape : HasShape w s
 
   -- cells of one key are of one name's arrival
   one_arrival : (c d : Named) (q r : Queued) → t c ≡ Some q → t d ≡ Some r → q.key ≡ r.key → Differ c d → ⊥
-  one_arrival c d q r first second same differ =
-      differ (sym (its_slot c q first) ∙ ap (λ (k : Key). k.slot) same ∙ its_slot d r second)
-      (sym (its_input c q first) ∙ ap (λ (k : Key). k.input) same ∙ its_input d r second)
+  one_arrival c d q r first second same differ = grind (arith, common_steps, differ, its_slot, its_input)
 
   pub in_order : (c d : Named) (q r : Queued) → t c ≡ Some q → t d ≡ Some r → is_ahead c d ≡ true → IsBefore q r
-  in_order c d q r first second ahead =
-      ap (λ (k : Key). is_before k r.key) (is_cell_of w.came c q first).key
-      ∙ ap (λ (k : Key). is_before (key_of c) k) (is_cell_of w.came d r second).key
-      ∙ ahead
+  in_order c d q r first second ahead = grind (arith, common_steps, is_cell_of)
 
   -- the list of an input and the buffer of an output
   pub list_is : (i : ℕ) → i < s.head.ports → input f i ≡ list_told w.came s i
@@ -349,20 +300,12 @@ module _ (w : Switch) (s : State) (in_range : IsInRange s) (shape : HasShape w s
     pub here : q.cell.output ≡ j
 
   pub in_list : (i : ℕ) (q : Queued) → Has (input f i) q → InList i q
-  in_list i q =
-      of_list (λ (l : List Queued). Has l q → InList i q) (λ none. absurd none) i
-      (λ has.
-      let it = looked_up t (filter (at_input i) s.listed) q has in
-      let kept = kept_has (at_input i) s.listed it.origin it.has in
-      record { name = it.origin; has = kept.0; here = eqb-true it.origin.input i kept.1; is = it.is })
+  in_list i q = of_list (λ (l : List Queued). Has l q → InList i q) (λ none. absurd none) i (λ has.
+      search (arith, rules, looked_up, kept_has, eqb-true))
 
   pub in_buffer : (j : ℕ) (q : Queued) → Has (buffer f j) q → InBuffer j q
-  in_buffer j q =
-      of_buffer (λ (l : List Queued). Has l q → InBuffer j q) (λ none. absurd none) j
-      (λ has.
-      let kept = kept_has (is_for j) (filter_map t s.buffered) q has in
-      let it = looked_up t s.buffered q kept.0 in
-      record { name = it.origin; has = it.has; is = it.is; here = eqb-true q.cell.output j kept.1 })
+  in_buffer j q = of_buffer (λ (l : List Queued). Has l q → InBuffer j q) (λ none. absurd none) j
+      (λ has. search (arith, rules, kept_has, looked_up, eqb-true))
 
   -- ## It is sound
 
@@ -378,15 +321,12 @@ module _ (w : Switch) (s : State) (in_range : IsInRange s) (shape : HasShape w s
   Leads a b = a.cell.output ≡ b.cell.output → IsBefore a b
 
   list_stands : (i : ℕ) → EachPair Leads (list_told w.came s i)
-  list_stands i =
-      pairs_looked_up t IsFirst Leads
-      (λ c d q r ahead first second same.
+  list_stands i = pairs_looked_up t IsFirst Leads (λ c d q r ahead first second same.
       in_order c d q r first second (ahead (its_output c q first ∙ same ∙ sym (its_output d r second))))
-      (filter (at_input i) s.listed)
-      (pairs_with IsFirstThere IsFirst (λ (c : Named). c.input ≡ i) (λ c d one two ahead. ahead (one ∙ sym two))
-      (filter (at_input i) s.listed)
-      (all_from_has (λ (c : Named). c.input ≡ i) (filter (at_input i) s.listed)
-      (λ c has. eqb-true c.input i (kept_has (at_input i) s.listed c has).1))
+      (filter (at_input i) s.listed) (pairs_with IsFirstThere IsFirst (λ (c : Named). c.input ≡ i)
+      (λ c d one two ahead. ahead (one ∙ sym two)) (filter (at_input i) s.listed) (all_from_has
+      (λ (c : Named). c.input ≡ i) (filter (at_input i) s.listed) (λ c has.
+      eqb-true c.input i (kept_has (at_input i) s.listed c has).1))
       (pairs_kept IsFirstThere (at_input i) s.listed (each_pair IsFirstThere s.listed sound.order.keys)))
 
   list_differs : (i : ℕ) → EachPair (λ (a b : Queued). a.key ≡ b.key → ⊥) (list_told w.came s i)
@@ -401,33 +341,24 @@ module _ (w : Switch) (s : State) (in_range : IsInRange s) (shape : HasShape w s
 
   stands_ahead : (c d : Named) (q r : Queued) → IsBufferedBefore w.came c d → t c ≡ Some q → t d ≡ Some r →
       StandsAhead q r
-  stands_ahead c d q r (inl lt) first second =
-      let one : output_of w.came c ≡ q.cell.output = its_output c q first in
-      let two : output_of w.came d ≡ r.cell.output = its_output d r second in
-      inl (omega arith)
-  stands_ahead c d q r (inr both) first second =
-      inr (sym (its_output c q first) ∙ both.0 ∙ its_output d r second, in_order c d q r first second both.1)
+  stands_ahead c d q r (inl lt) first second = grind (arith, common_steps, its_output)
+  stands_ahead c d q r (inr both) first second = grind (arith, common_steps, its_output, in_order)
 
   ahead_of_one : (j : ℕ) (a b : Queued) → a.cell.output ≡ j → b.cell.output ≡ j → StandsAhead a b → IsBefore a b
   ahead_of_one j a b one two (inl lt) = absurd (omega arith)
   ahead_of_one j a b one two (inr both) = both.1
 
   buffer_stands : (j : ℕ) → EachPair IsBefore (buffer_told w.came s j)
-  buffer_stands j =
-      pairs_with StandsAhead IsBefore (λ (q : Queued). q.cell.output ≡ j) (λ a b one two ahead.
-      ahead_of_one j a b one two ahead) (buffer_told w.came s j)
-      (all_from_has (λ (q : Queued). q.cell.output ≡ j) (buffer_told w.came s j)
-      (λ q has. eqb-true q.cell.output j (kept_has (is_for j) (filter_map t s.buffered) q has).1))
-      (pairs_kept StandsAhead (is_for j) (filter_map t s.buffered)
-      (pairs_looked_up t (IsBufferedBefore w.came) StandsAhead
-      (λ c d q r before first second. stands_ahead c d q r before first second) s.buffered
+  buffer_stands j = pairs_with StandsAhead IsBefore (λ (q : Queued). q.cell.output ≡ j)
+      (λ a b one two ahead. ahead_of_one j a b one two ahead) (buffer_told w.came s j) (all_from_has
+      (λ (q : Queued). q.cell.output ≡ j) (buffer_told w.came s j) (λ q has.
+      eqb-true q.cell.output j (kept_has (is_for j) (filter_map t s.buffered) q has).1))
+      (pairs_kept StandsAhead (is_for j) (filter_map t s.buffered) (pairs_looked_up t (IsBufferedBefore w.came)
+      StandsAhead (λ c d q r before first second. stands_ahead c d q r before first second) s.buffered
       (each_pair (IsBufferedBefore w.came) s.buffered sound.order.buffers)))
 
   buffer_differs : (j : ℕ) → EachPair (λ (a b : Queued). a.key ≡ b.key → ⊥) (buffer_told w.came s j)
-  buffer_differs j =
-      pairs_kept (λ (a b : Queued). a.key ≡ b.key → ⊥) (is_for j) (filter_map t s.buffered)
-      (pairs_looked_up t Differ (λ (a b : Queued). a.key ≡ b.key → ⊥)
-      (λ c d q r differ first second same. one_arrival c d q r first second same differ) s.buffered buffered_differ)
+  buffer_differs j = search (arith, rules, pairs_kept, pairs_looked_up t Differ, differ, one_arrival, buffered_differ)
 
   abbrev SameKey : Queued → Queued → Type 0
   SameKey a b = a.key ≡ b.key
@@ -436,14 +367,10 @@ module _ (w : Switch) (s : State) (in_range : IsInRange s) (shape : HasShape w s
   places_differ (Waiting i k) (Waiting j l) c d first second same =
       let one = in_list i c (has_there (input f i) k c first) in
       let two = in_list j d (has_there (input f j) l d second) in
-      let inputs : i ≡ j =
-      sym one.here ∙ sym (its_input one.name c one.is) ∙ ap (λ (x : Key). x.input) same ∙ its_input two.name d two.is
-      ∙ two.here in
-      let threads : k ≡ l =
-      one_place SameKey (λ a b e. sym e) (input f i)
-      (of_list (λ (xs : List Queued). EachPair (λ (a b : Queued). SameKey a b → ⊥) xs) tt i (list_differs i)) k l c d
-      first
-      (subst (λ (n : ℕ). slice_get (input f n) l ≡ Some d) (sym inputs) second) same in
+      let inputs : i ≡ j = search (arith, rules, its_input) in
+      let threads : k ≡ l = one_place SameKey (λ a b e. sym e) (input f i)
+      (of_list (λ (xs : List Queued). EachPair (λ (a b : Queued). SameKey a b → ⊥) xs) tt i (list_differs i)) k l
+      c d first (subst (λ (n : ℕ). slice_get (input f n) l ≡ Some d) (sym inputs) second) same in
       ap (λ (n : ℕ). Waiting n k) inputs ∙ ap (λ (n : ℕ). Waiting j n) threads
   places_differ (Waiting i k) (Crossed j l) c d first second same =
       let one = in_list i c (has_there (input f i) k c first) in
@@ -462,30 +389,20 @@ module _ (w : Switch) (s : State) (in_range : IsInRange s) (shape : HasShape w s
       sym (its_slot one.name c one.is) ∙ ap (λ (x : Key). x.slot) same ∙ its_slot two.name d two.is in
       let inputs : one.name.input ≡ two.name.input =
       sym (its_input one.name c one.is) ∙ ap (λ (x : Key). x.input) same ∙ its_input two.name d two.is in
-      let arrivals : arriving_cell w.came one.name ≡ arriving_cell w.came two.name =
-      ap (λ (n : ℕ). arriving_at w.came n one.name.input) slots
-      ∙ ap (λ (n : ℕ). arriving_at w.came two.name.slot n) inputs in
-      let outputs : i ≡ j =
-      sym one.here ∙ sym (its_output one.name c one.is) ∙ ap output_in arrivals ∙ its_output two.name d two.is
-      ∙ two.here in
-      let places : k ≡ l =
-      one_place SameKey (λ a b e. sym e) (buffer f i)
-      (of_buffer (λ (xs : List Queued). EachPair (λ (a b : Queued). SameKey a b → ⊥) xs) tt i (buffer_differs i)) k l c
-      d
-      first (subst (λ (n : ℕ). slice_get (buffer f n) l ≡ Some d) (sym outputs) second) same in
+      let arrivals : arriving_cell w.came one.name ≡ arriving_cell w.came two.name = search (arith, rules) in
+      let outputs : i ≡ j = search (arith, rules, its_output) in
+      let places : k ≡ l = one_place SameKey (λ a b e. sym e) (buffer f i)
+      (of_buffer (λ (xs : List Queued). EachPair (λ (a b : Queued). SameKey a b → ⊥) xs) tt i (buffer_differs i))
+      k l c d first (subst (λ (n : ℕ). slice_get (buffer f n) l ≡ Some d) (sym outputs) second) same in
       ap (λ (n : ℕ). Crossed n k) outputs ∙ ap (λ (n : ℕ). Crossed j n) places
 
   all_before : (p : Place) (c : Queued) → cell_at f p ≡ Some c → c.key.slot < s.head.next
   all_before (Waiting i k) c is =
       let one = in_list i c (has_there (input f i) k c is) in
-      let slot : c.key.slot ≡ one.name.slot = its_slot one.name c one.is in
-      let early : one.name.slot < s.head.next = (comes one.name (listed_named one.name one.has)).0 in
-      omega arith
+      search (arith, rules, its_slot one.name c one.is, comes one.name, listed_named one.name one.has)
   all_before (Crossed j k) c is =
       let one = in_buffer j c (has_there (buffer f j) k c is) in
-      let slot : c.key.slot ≡ one.name.slot = its_slot one.name c one.is in
-      let early : one.name.slot < s.head.next = (comes one.name (buffered_named one.name one.has)).0 in
-      omega arith
+      search (arith, rules, comes one.name, buffered_named one.name one.has)
 
   inputs_many : length f.inputs ≡ s.head.ports
   unfolding fabric_told
@@ -502,17 +419,13 @@ module _ (w : Switch) (s : State) (in_range : IsInRange s) (shape : HasShape w s
         fabric = record {
           square = buffers_many ∙ sym inputs_many;
           outputs = λ i c among.
-              let one = in_list i c (has_of_among (input f i) c among) in
-              let within = (of_traffic one.name c one.is).output in
-              omega arith;
+              let one = in_list i c (has_of_among (input f i) c among) in search (arith, rules, of_traffic);
           own = λ j c among. (in_buffer j c (has_of_among (buffer f j) c among)).here;
-          rising = λ j.
-              each_cell IsBefore (buffer f j)
+          rising = λ j. each_cell IsBefore (buffer f j)
               (of_buffer (λ (xs : List Queued). EachPair IsBefore xs) tt j (buffer_stands j));
         };
-        order = λ i.
-            each_cell Leads (input f i)
-            (of_list (λ (xs : List Queued). EachPair Leads xs) tt i (list_stands i));
+        order =
+            λ i. each_cell Leads (input f i) (of_list (λ (xs : List Queued). EachPair Leads xs) tt i (list_stands i));
         slack = sound.slack;
         differ = places_differ;
         earlier = all_before;
@@ -522,19 +435,10 @@ module _ (w : Switch) (s : State) (in_range : IsInRange s) (shape : HasShape w s
   are_own =
       record {
         listed = λ i c among.
-            let one = in_list i c (has_of_among (input f i) c among) in
-            let own = of_traffic one.name c one.is in (
-              own.input ∙ one.here,
-              its_input one.name c one.is ∙ one.here,
-              own.class,
-            );
+            let one = in_list i c (has_of_among (input f i) c among) in search (arith, rules, of_traffic, its_input);
         buffered = λ j c among.
             let one = in_buffer j c (has_of_among (buffer f j) c among) in
-            let own = of_traffic one.name c one.is in (
-              subst (λ (i : ℕ). i < length w.machines) (sym own.input) own.within,
-              its_input one.name c one.is ∙ sym own.input,
-              own.class,
-            );
+            let own = of_traffic one.name c one.is in omega (arith, its_input);
       }
 
   -- ## No more wait than came
@@ -545,13 +449,11 @@ module _ (w : Switch) (s : State) (in_range : IsInRange s) (shape : HasShape w s
       of_list (λ (l : List Queued). length l ≤ number_of (is_from i) (came_before s.head.next w.came))
       (let none : 0 ≤ number_of (is_from i) (came_before s.head.next w.came) = omega arith in none) i
       (let told : length (list_told w.came s i) ≤ length names = looked_few t names in
-      let few : length names ≤ number_of (is_from i) (came_before s.head.next w.came) =
-      names_few (is_from i) s.head.next w.came names (pairs_kept Differ (at_input i) s.listed listed_differ)
-      (λ c has. comes c (listed_named c (kept_has (at_input i) s.listed c has).0))
-      (λ c a has arrives input.
+      let few : length names ≤ number_of (is_from i) (came_before s.head.next w.came) = names_few (is_from i)
+      s.head.next w.came names (pairs_kept Differ (at_input i) s.listed listed_differ)
+      (λ c has. comes c (listed_named c (kept_has (at_input i) s.listed c has).0)) (λ c a has arrives input.
       eq-eqb a.cell.id.input i (input ∙ eqb-true c.input i (kept_has (at_input i) s.listed c has).1)) in
-      let both : length (list_told w.came s i) ≤ number_of (is_from i) (came_before s.head.next w.came) = omega arith in
-      both)
+      omega (arith))
 
   module _ (j : ℕ) where
     abbrev for_it : Named → Bool
@@ -583,18 +485,7 @@ module _ (w : Switch) (s : State) (in_range : IsInRange s) (shape : HasShape w s
 
         here : (c.input == c.input) ≡ true →
             listed_for (c ∷ names) c.input ≤ listed_for names c.input + length (filter for_it (c ∷ []))
-        here is =
-            let kept : List Named = filter (at_input c.input) names in
-            let first : listed_for (c ∷ names) c.input ≡ length (filter (is_for j) (filter_map t (c ∷ kept))) =
-            ap (λ (b : Bool). length (filter (is_for j) (filter_map t (cond b (c ∷ kept) kept)))) is in
-            let one : length (filter (is_for j) (filter_map t (c ∷ []))) ≤ length (filter for_it (c ∷ [])) =
-            kept_few t (is_for j) for_it its_for (c ∷ []) in
-            let both : length (filter (is_for j) (filter_map t (c ∷ kept))) ≡
-            length (filter (is_for j) (filter_map t (c ∷ []))) + length (filter (is_for j) (filter_map t kept)) =
-            ap (λ (l : List Queued). length (filter (is_for j) l)) (filter_map-append t (c ∷ []) kept)
-            ∙ ap (λ (l : List Queued). length l) (filter-append (is_for j) (filter_map t (c ∷ [])) (filter_map t kept))
-            ∙ length-append (filter (is_for j) (filter_map t (c ∷ []))) (filter (is_for j) (filter_map t kept)) in
-            omega arith
+        here is = grind (arith, common_steps, kept_few, its_for, filter_map-append, filter-append, length-append)
 
     waiting_is : (a n : ℕ) →
         waiting_for j (map (list_told w.came s) (range_with_len a n)) ≡ total (listed_for s.listed) a n
@@ -607,8 +498,7 @@ module _ (w : Switch) (s : State) (in_range : IsInRange s) (shape : HasShape w s
     all_waiting = waiting_is 0 s.head.ports
 
     buffered_few : length (buffer f j) ≤ length (filter for_it s.buffered)
-    buffered_few =
-        of_buffer (λ (l : List Queued). length l ≤ length (filter for_it s.buffered))
+    buffered_few = of_buffer (λ (l : List Queued). length l ≤ length (filter for_it s.buffered))
         (let none : 0 ≤ length (filter for_it s.buffered) = omega arith in none) j
         (kept_few t (is_for j) for_it its_for s.buffered)
 
@@ -619,14 +509,11 @@ module _ (w : Switch) (s : State) (in_range : IsInRange s) (shape : HasShape w s
         let crossed = buffered_few in
         let names = filter for_it (queued_in s) in
         let both : length names ≡ length (filter for_it s.listed) + length (filter for_it s.buffered) =
-        ap (λ (l : List Named). length l) (filter-append for_it s.listed s.buffered)
-        ∙ length-append (filter for_it s.listed) (filter for_it s.buffered) in
+        search (arith, rules, filter-append, length-append) in
         let few : length names ≤ number_of (is_to j) (came_before s.head.next w.came) =
         names_few (is_to j) s.head.next w.came names (pairs_kept Differ for_it (queued_in s) queued_differ)
         (λ c has. comes c (queued_named c (kept_has for_it (queued_in s) c has).0))
-        (λ c a has arrives input.
-        eq-eqb a.cell.output j
-        (sym (ap output_in arrives) ∙ eqb-true (output_of w.came c) j (kept_has for_it (queued_in s) c has).1)) in
+        (λ c a has arrives input. search (arith, rules, eq-eqb, eqb-true, kept_has)) in
         omega arith
 
   -- ## No more were counted than there were slots
@@ -635,9 +522,7 @@ module _ (w : Switch) (s : State) (in_range : IsInRange s) (shape : HasShape w s
   input_counts i =
       let names = filter (at_input i) (named_in s) in
       let at_one = all_from_has (λ (c : Named). (c.slot < s.head.next) × (c.input ≡ i)) names
-      (λ c has.
-      let kept = kept_has (at_input i) (named_in s) c has in
-      ((comes c kept.0).0, eqb-true c.input i kept.1)) in
+      (λ c has. search (arith, rules, kept_has, comes, eqb-true)) in
       numbers_few (λ (c : Named). c.slot) names s.head.next
       (pairs_with Differ (λ (c d : Named). c.slot ≢ d.slot) (λ (c : Named). (c.slot < s.head.next) × (c.input ≡ i))
       (λ c d one two differ same. differ same (one.1 ∙ sym two.1)) names at_one
@@ -675,46 +560,24 @@ module _ (w : Switch) (s : State) (in_range : IsInRange s) (shape : HasShape w s
       kept_few (departure_of w.came) (λ (d : Departure). d.output == j) (sent_to j) (departure_to j) s.sent in
       let timely : AllByRecursion IsTimely s.sent = recursion_from_All IsTimely s.sent sound.order.sent_times in
       let at_one = all_from_has (λ (d : Sent). (d.slot < s.head.next) × (output_of w.came d.cell ≡ j)) sent
-      (λ d has.
-      let kept = kept_has (sent_to j) s.sent d has in
-      ((all_of_has IsTimely s.sent d timely kept.0).1, eqb-true (output_of w.came d.cell) j kept.1)) in
+      (λ d has. search (arith, rules, kept_has, all_of_has, eqb-true)) in
       let few : length sent ≤ s.head.next =
-      numbers_few (λ (d : Sent). d.slot) sent s.head.next
-      (pairs_with (IsSentBefore w.came) (λ (d e : Sent). d.slot ≢ e.slot)
-      (λ (d : Sent). (d.slot < s.head.next) × (output_of w.came d.cell ≡ j))
-      (λ d e one two before same.
-      let first = one.1 in
-      let second = two.1 in
-      ⊎_elim (λ lt. omega arith) (λ both. let lt = both.1 in omega arith) before) sent at_one
-      (pairs_kept (IsSentBefore w.came) (sent_to j) s.sent
-      (each_pair (IsSentBefore w.came) s.sent sound.order.sent)))
+      numbers_few (λ (d : Sent). d.slot) sent s.head.next (pairs_with (IsSentBefore w.came)
+      (λ (d e : Sent). d.slot ≢ e.slot) (λ (d : Sent). (d.slot < s.head.next) × (output_of w.came d.cell ≡ j))
+      (λ d e one two before same. search (arith, rules)) sent at_one (pairs_kept (IsSentBefore w.came)
+      (sent_to j) s.sent (each_pair (IsSentBefore w.came) s.sent sound.order.sent)))
       (all_weaker (λ (d : Sent). (d.slot < s.head.next) × (output_of w.came d.cell ≡ j))
       (λ (d : Sent). d.slot < s.head.next) (λ d both. both.0) sent at_one) in
       omega arith
 
   lost_few : length (map (λ (a : Arrival). a.cell) (refused_arrivals w.came s)) ≤ length w.came
-  lost_few =
-      let same = length-map (refused_arrivals w.came s) (λ (a : Arrival). a.cell) in
-      let few = fewer_kept (λ (a : Arrival). nat_lt a.slot s.head.next && not (is_named (named_in s) a)) w.came in
-      omega arith
+  lost_few = grind (arith, common_steps, length-map, fewer_kept)
 
   -- ## Together
 
   has_ports : HasPorts (length w.machines) (frozen_told w s)
   unfolding frozen_told fabric_told figures_told
-  has_ports =
-      record {
-        lists = length-map-range_with_len (list_told w.came s) 0 s.head.ports ∙ ports_are;
-        buffers = length-map-range_with_len (buffer_told w.came s) 0 s.head.ports ∙ ports_are;
-        marks =
-            length-map-range_with_len (λ (i : ℕ). is_refused w.came s (latest (firsts_at w.came s i))) 0 s.head.ports
-            ∙ ports_are;
-        ranks = in_range.outputs_told ∙ ports_are;
-        inputs =
-            length-map (enumerate_from 0 s.inputs) (λ (at : ℕ × Seen). input_told s at.0 at.1)
-            ∙ length-enumerate_from 0 s.inputs ∙ in_range.inputs_told ∙ ports_are;
-        outputs = length-map-range_with_len (output_told (sent_told w.came s)) 0 s.head.ports ∙ ports_are;
-      }
+  has_ports = grind (arith, common_steps, length-map-range_with_len, ports_are, length-map, length-enumerate_from)
 
   pub goes_on : GoesOn w (frozen_told w s)
   unfolding frozen_told fabric_told figures_told

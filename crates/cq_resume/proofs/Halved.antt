@@ -1,6 +1,7 @@
 -- What halving finds in cells that stand in order: the cells of one output, of cells that stand by output, which stand
 -- by their keys.
-use Rattle.std.proofs.Common.{◌≡◌, ℕ, ◌≤◌, eqb, Bool, true, false, cond, List, [], ◌∷◌, get_or, refl, sym, ap, subst, inl, inr, arith}
+use Rattle.std.proofs.lemmas.Grind.{common_steps}
+use Rattle.std.proofs.Common.{◌≡◌, ℕ, ◌≤◌, eqb, Bool, true, false, List, [], ◌∷◌, get_or, refl, ap, inl, inr, arith}
 use Rattle.std.specs.Prelude.{filter}
 use Rattle.std.specs.List.{AllPairs}
 use Rattle.std.specs.List.Sorted.{IsNonDecreasingBy}
@@ -39,19 +40,8 @@ module _ (j : ℕ) where
       before y own its (inr (same, less)) = less
 
       by : (b : Bool) → of_output x ≡ b → IsRising (filter of_output xs) → IsRising (filter of_output (x ∷ xs))
-      by true is rest =
-          subst (λ (l : List Queued). IsRising l)
-          (sym (ap (λ (b : Bool). cond b (x ∷ filter of_output xs) (filter of_output xs)) is)) (
-            all_from_has (IsBefore x) (filter of_output xs)
-                (λ y has.
-                let its = kept_has of_output xs y has in
-                before y (eqb-true x.cell.output j is) (eqb-true y.cell.output j its.1)
-                (all_of_has (IsBufferedBefore x) xs y pairs.0 its.0)),
-            rest,
-          )
-      by false is rest =
-          subst (λ (l : List Queued). IsRising l)
-          (sym (ap (λ (b : Bool). cond b (x ∷ filter of_output xs) (filter of_output xs)) is)) rest
+      by true is rest = grind (arith, common_steps, all_from_has, kept_has, eqb-true, all_of_has)
+      by false is rest = grind (arith, common_steps)
 
   pub buffer_rises : (xs : List Queued) → BuffersStand xs → IsRising (filter (λ q. eqb q.cell.output j) xs)
   buffer_rises xs stand = rising_kept xs (each_pair IsBufferedBefore xs stand)

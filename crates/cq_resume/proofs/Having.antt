@@ -1,5 +1,6 @@
 -- What a list has: an item is the first, or one of the others. What holds of each item holds of those that it has, and
 -- the other way; and so it is for two.
+use Rattle.std.proofs.lemmas.Grind.{common_steps}
 use Rattle.std.proofs.Common.{◌≡◌, ℕ, zero, suc, ◌<◌, ◌⊎◌, Bool, true, false, cond, List, [], ◌∷◌, ◌++◌, length, map, get_or, refl, sym, ap, ◌∙◌, subst, inl, inr, ⊎_elim, arith}
 use Rattle.std.specs.Prelude.{Contains, filter}
 use Rattle.std.specs.List.{AllByRecursion}
@@ -18,9 +19,7 @@ pub has_place : {X : Type 0} (xs : List X) (x : X) → Has xs x → Contains xs 
 has_place [] x has = absurd has
 has_place (y ∷ ys) x (inl same) = (zero, (let P : 0 < length (y ∷ ys) = omega arith in P), same)
 has_place (y ∷ ys) x (inr rest) =
-    let at = has_place ys x rest in
-    let inside = at.1 in
-    (suc at.0, (let P : suc at.0 < length (y ∷ ys) = omega arith in P), at.2)
+    let at = has_place ys x rest in (suc at.0, (let P : suc at.0 < length (y ∷ ys) = omega arith in P), at.2)
 
 pub has_from_place : {X : Type 0} (xs : List X) (x : X) → Contains xs x → Has xs x
 has_from_place xs x at = subst (λ y. Has xs y) at.2 (has_at xs at.0 x at.1)
@@ -71,10 +70,7 @@ pair_of_has R (z ∷ zs) x y pairs (inr a) (inr b) = pair_of_has R zs x y pairs.
 pub pairs_from_has : {X : Type 0} (R : X → X → Type 0) (xs : List X) →
     ((x y : X) → Has xs x → Has xs y → R x y) → EachPair R xs
 pairs_from_has R [] each = tt
-pairs_from_has R (z ∷ zs) each = (
-  all_from_has (R z) zs (λ y has. each z y (inl refl) (inr has)),
-  pairs_from_has R zs (λ x y first second. each x y (inr first) (inr second)),
-)
+pairs_from_has R (z ∷ zs) each = grind (arith, common_steps, all_from_has, pairs_from_has R zs)
 
 -- ## What passes a test
 

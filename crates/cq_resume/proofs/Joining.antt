@@ -2,7 +2,8 @@
 -- ones of the run, and the others go on from there to the same end. Where it is stopped later, nothing waits any more
 -- and nothing comes, and the slots behind the end add nothing. A tag fault of the run comes behind the slots that were
 -- done, for these had none.
-use Rattle.std.proofs.Common.{◌≡◌, ℕ, zero, suc, ◌+◌, ◌-◌, ◌<◌, ◌≤◌, Bool, List, [], ◌∷◌, ◌++◌, length, take, drop, fold, replicate, Option, refl, sym, ap, ◌∙◌, subst, ⊎_elim, append_assoc, length-drop, arith}
+use Rattle.std.proofs.lemmas.Grind.{common_steps}
+use Rattle.std.proofs.Common.{rules, ◌≡◌, ℕ, zero, suc, ◌+◌, ◌-◌, ◌<◌, ◌≤◌, Bool, List, [], ◌∷◌, ◌++◌, length, take, drop, fold, replicate, Option, refl, sym, ap, ◌∙◌, subst, ⊎_elim, append_assoc, length-drop, arith}
 use Rattle.std.proofs.lemmas.Bool.{cases_lt}
 use Rattle.std.proofs.lemmas.List.{append-nil, length-map, map-append, take-append-drop, take_all}
 use Rattle.std.proofs.lemmas.List.Concat.{flat_map-append}
@@ -10,14 +11,12 @@ use Rattle.std.proofs.lemmas.List.Elements.{All-replicate}
 use Rattle.cq_base.specs.Arrivals.{no_arrivals}
 use Rattle.cq_base.specs.Arriving.{end_of}
 use Rattle.cq_base.specs.declared.cell.Cell.{Cell}
-use Rattle.cq_base.specs.declared.cell.Departure.{Departure}
 use Rattle.cq_base.specs.declared.cell.Queued.{Queued}
 use Rattle.cq_base.specs.declared.cell.TagFault.{TagFault}
-use Rattle.cq_base.specs.declared.cell.Transfer.{Transfer}
-use Rattle.cq_ideal.specs.Admission.{Admission, Marked, marked}
+use Rattle.cq_ideal.specs.Admission.{Marked, marked}
 use Rattle.cq_ideal.specs.Ending.{arriving_from}
 use Rattle.cq_ideal.specs.IdealRun.{departures_of}
-use Rattle.cq_ideal.specs.Refused.{refused_in, with_refused}
+use Rattle.cq_ideal.specs.Refused.{refused_in}
 use Rattle.cq_ideal.proofs.Counting.{all_counted_both, none_counted}
 use Rattle.cq_ideal.proofs.Parted.{arriving_length, arriving_parts, quiet_from}
 use Rattle.cq_laws.specs.Fabric.{Fabric, IsEmptyFabric, empty_fabric}
@@ -51,47 +50,26 @@ fold_both f b (x ∷ xs) ys = fold_both f (f b x) xs ys
 -- records behind others are kept behind what these left
 kept_both : (k : Kept) (first next : ℕ) (rs ss : List LimitedRecord) → first + length rs ≡ next →
     kept_on k first (rs ++ ss) ≡ kept_on (kept_on k first rs) next ss
-kept_both k first next rs ss long =
-    let slots : slots_in (rs ++ ss) ≡ slots_in rs ++ slots_in ss =
-    map-append (λ (r : LimitedRecord). r.of_slot) rs ss in
-    let size = length-map rs (λ (r : LimitedRecord). r.of_slot) in
-    let sent : k.sent ++ departures_of first (gone_in (slots_in (rs ++ ss)))
-    ≡ (k.sent ++ departures_of first (gone_in (slots_in rs))) ++ departures_of next (gone_in (slots_in ss)) =
-    ap (λ (l : List SlotRecord). k.sent ++ departures_of first (gone_in l)) slots
-    ∙ ap (λ (l : List Departure). k.sent ++ l) (departures_on (slots_in rs) (slots_in ss) first next (omega arith))
-    ∙ sym (append_assoc k.sent (departures_of first (gone_in (slots_in rs))) (departures_of next (gone_in (slots_in
-    ss)))) in
-    let note : k.note ++ transfers_of_run (slots_in (rs ++ ss))
-    ≡ (k.note ++ transfers_of_run (slots_in rs)) ++ transfers_of_run (slots_in ss) =
-    ap (λ (l : List SlotRecord). k.note ++ transfers_of_run l) slots
-    ∙ ap (λ (l : List Transfer). k.note ++ l) (transfers_both (slots_in rs) (slots_in ss))
-    ∙ sym (append_assoc k.note (transfers_of_run (slots_in rs)) (transfers_of_run (slots_in ss))) in
-    let figures : fold figures_after k.figures (slots_in (rs ++ ss))
-    ≡ fold figures_after (fold figures_after k.figures (slots_in rs)) (slots_in ss) =
-    ap (λ (l : List SlotRecord). fold figures_after k.figures l) slots
-    ∙ fold_both figures_after k.figures (slots_in rs) (slots_in ss) in
-    let admissions : refused_in (admissions_in (rs ++ ss))
-    ≡ refused_in (admissions_in rs) ++ refused_in (admissions_in ss) =
-    ap refused_in (map-append (λ (r : LimitedRecord). r.admission) rs ss)
-    ∙ flat_map-append (λ (a : Admission). a.refused) (admissions_in rs) (admissions_in ss) in
-    let refused : with_refused (refused_in (admissions_in (rs ++ ss))) k.refused
-    ≡ with_refused (refused_in (admissions_in ss)) (with_refused (refused_in (admissions_in rs)) k.refused) =
-    ap (λ (l : List Cell). with_refused l k.refused) admissions
-    ∙ all_counted_both (refused_in (admissions_in rs)) (refused_in (admissions_in ss)) k.refused in
-    λ t. record { sent = sent t; note = note t; figures = figures t; refused = refused t }
+kept_both k first next rs ss long = grind (
+  arith,
+  common_steps,
+  map-append,
+  length-map,
+  k.sent,
+  departures_on,
+  append_assoc,
+  k.note,
+  transfers_both,
+  fold_both,
+  flat_map-append,
+  all_counted_both,
+)
 
 -- records that add nothing
 kept_same : (k : Kept) (next : ℕ) (rs : List LimitedRecord) → departures_of next (gone_in (slots_in rs)) ≡ [] →
     transfers_of_run (slots_in rs) ≡ [] → fold figures_after k.figures (slots_in rs) ≡ k.figures →
     refused_in (admissions_in rs) ≡ [] → kept_on k next rs ≡ k
-kept_same k next rs departures transfers figures none =
-    let sent : k.sent ++ departures_of next (gone_in (slots_in rs)) ≡ k.sent =
-    ap (λ (l : List Departure). k.sent ++ l) departures ∙ append-nil k.sent in
-    let note : k.note ++ transfers_of_run (slots_in rs) ≡ k.note =
-    ap (λ (l : List Transfer). k.note ++ l) transfers ∙ append-nil k.note in
-    let refused : with_refused (refused_in (admissions_in rs)) k.refused ≡ k.refused =
-    ap (λ (l : List Cell). with_refused l k.refused) none ∙ none_counted k.refused in
-    λ t. record { sent = sent t; note = note t; figures = figures t; refused = refused t }
+kept_same k next rs departures transfers figures none = search (rules, k.sent, append-nil, k.note, none_counted)
 
 kept_none : (k : Kept) (next : ℕ) → kept_on k next [] ≡ k
 unfolding departures_of transfers_of_run
@@ -101,9 +79,7 @@ module _ (ms : List Machine) (n : ℕ) (marks : List Bool) where
   quiet_records : (count slot : ℕ) (ranks : List (List ℕ)) →
       slots_in (quiet_limited_slots ms count slot n ranks marks) ≡ quiet_slots ms count slot n ranks
   quiet_records zero slot ranks = refl
-  quiet_records (suc count) slot ranks =
-      let rest = quiet_records count (slot + 1) (idled ms n ranks) in
-      cc
+  quiet_records (suc count) slot ranks = search (rules, quiet_records count (slot + 1) (idled ms n ranks))
 
   none_refused : (count slot : ℕ) (ranks : List (List ℕ)) →
       refused_in (admissions_in (quiet_limited_slots ms count slot n ranks marks)) ≡ []
@@ -135,18 +111,10 @@ module _ {S R : Type 0} (Step : ℕ → List (Option Cell) → S → R → S →
   stop_parts : (slot : ℕ) (before after : List (List (Option Cell))) (f : S) (rs : List R) (fault : TagFault) →
       StopBy Step Fault slot (before ++ after) f rs fault → length before ≤ length rs →
       StopParts slot before after f rs fault
-  stop_parts slot [] after f rs fault x le =
-      let here : slot ≡ slot + 0 = omega arith in
-      record { middle = f; first = refl; second = subst (λ (n : ℕ). StopBy Step Fault n after f rs fault) here x }
+  stop_parts slot [] after f rs fault x le = grind (arith, common_steps)
   stop_parts slot (cells ∷ before) after f [] fault x le = absurd (omega arith)
   stop_parts slot (cells ∷ before) after f (r ∷ rs) fault x le =
-      let p = stop_parts (slot + 1) before after x.0 rs fault x.2 (omega arith) in
-      let here : slot + 1 + length before ≡ slot + length (cells ∷ before) = omega arith in
-      record {
-        middle = p.middle;
-        first = (x.0, x.1, p.first);
-        second = subst (λ (n : ℕ). StopBy Step Fault n after p.middle (drop (length before) rs) fault) here p.second;
-      }
+      grind (arith, common_steps, stop_parts (slot + 1) before after x.0 rs fault x.2)
 
   -- one that stops among them
   stop_early : (slot : ℕ) (before after : List (List (Option Cell))) (f : S) (rs : List R) (fault : TagFault) →
@@ -180,10 +148,7 @@ module _ {X : Type 0} where
 
   take_parts : (n m : ℕ) (xs : List X) → take (n + m) xs ≡ take n xs ++ take m (drop n xs)
   take_parts zero m xs = let same : 0 + m ≡ m = omega arith in ap (λ (k : ℕ). take k xs) same
-  take_parts (suc n) m [] =
-      let more : suc n + m ≡ suc (n + m) = omega arith in
-      let nothing : List X = [] in
-      ap (λ (k : ℕ). take k nothing) more ∙ sym (no_more m)
+  take_parts (suc n) m [] = grind (arith, common_steps, no_more m)
   take_parts (suc n) m (x ∷ xs) =
       let more : suc n + m ≡ suc (n + m) = omega arith in
       ap (λ (k : ℕ). take k (x ∷ xs)) more ∙ ap (λ (l : List X). x ∷ l) (take_parts n m xs)
@@ -202,28 +167,14 @@ module _ (limits : List (Option ℕ)) (ms : List Machine) where
 
   slot_square : (cells : List (Option Cell)) (slot : ℕ) (f g : Fabric) (r : SlotRecord) →
       FabricSlot IsInputBest ms slot cells f r g → IsSquare f → IsSquare g
-  slot_square cells slot f g r x square =
-      let arrived = x.arrive.ports in
-      let kept : length r.arrived.buffers ≡ length f.buffers =
-      ap (λ (l : List (List Queued)). length l) x.arrive.buffers in
-      let filled = x.fill.moves.ports.0 in
-      let filled_too = x.fill.moves.ports.1 in
-      let sent : length r.sent.inputs ≡ length r.filled.inputs =
-      ap (λ (l : List (List Queued)). length l) x.depart.inputs in
-      let gone : length r.sent.buffers ≡ length r.filled.buffers =
-      ap (λ (l : List (List Queued)). length l) x.depart.buffers
-      ∙ length-map r.filled.buffers (λ (xs : List Queued). drop 1 xs) in
-      let last = x.finish.moves.ports.0 in
-      let last_too = x.finish.moves.ports.1 in
-      omega arith
+  slot_square cells slot f g r x square = grind (arith, common_steps, length-map)
 
   run_square : (slot : ℕ) (traffic : List (List (Option Cell))) (f g : Marked Fabric) (rs : List LimitedRecord) →
       RunBy Step slot traffic f rs g → IsSquare f.state → IsSquare g.state
   run_square slot [] f g [] x square = subst (λ (m : Marked Fabric). IsSquare m.state) (sym x) square
   run_square slot [] f g (r ∷ rs) x square = absurd x
   run_square slot (cells ∷ traffic) f g [] x square = absurd x
-  run_square slot (cells ∷ traffic) f g (r ∷ rs) x square =
-      run_square (slot + 1) traffic x.0 g rs x.2
+  run_square slot (cells ∷ traffic) f g (r ∷ rs) x square = run_square (slot + 1) traffic x.0 g rs x.2
       (slot_square r.admission.cells slot f.state x.0.state r.of_slot x.1.runs square)
 
 -- ## From a slot on
@@ -244,31 +195,24 @@ module _ (w : Switch) where
   -- all records of a run to its end
   whole_run : (next : ℕ) (start end : Marked Fabric) (rs : List LimitedRecord) → RunsOn w next start rs end →
       RunBy StepOf next (arriving_from w.came next (length rs)) start rs end
-  whole_run next start end rs r =
-      subst (λ (l : List LimitedRecord). RunBy StepOf next (arriving_from w.came next (length rs)) start l end)
-      (take_all (length rs) rs (omega arith)) r.after
+  whole_run next start end rs r = grind (arith, common_steps, take_all)
 
   -- of two runs to their ends neither is shorter
   no_longer : (next : ℕ) (start g h : Marked Fabric) (rs ss : List LimitedRecord) → RunsOn w next start rs g →
       RunsOn w next start ss h → length rs ≤ length ss
-  no_longer next start g h rs ss r s =
-      ⊎_elim
-      (λ (lt : length ss < length rs).
+  no_longer next start g h rs ss r s = ⊎_elim (λ (lt : length ss < length rs).
       let n = length ss in
       let cut = arriving_parts w.came next (next + n) n (length rs - n) (length rs) refl (omega arith) in
       let long = arriving_length w.came next n in
-      let p =
-      parts StepOf next (arriving_from w.came next n) (arriving_from w.came (next + n) (length rs - n)) start g rs
-      (subst (λ (l : List (List (Option Cell))). RunBy StepOf next l start rs g) (sym cut)
+      let p = parts StepOf next (arriving_from w.came next n) (arriving_from w.came (next + n) (length rs - n))
+      start g rs (subst (λ (l : List (List (Option Cell))). RunBy StepOf next l start rs g) (sym cut)
       (whole_run next start g rs r)) in
       let first : RunBy StepOf next (arriving_from w.came next n) start (take n rs) p.middle =
-      subst (λ (k : ℕ). RunBy StepOf next (arriving_from w.came next n) start (take k rs) p.middle) long p.first in
+      subst (λ (k : ℕ). RunBy StepOf next (arriving_from w.came next n) start (take k rs) p.middle) long
+      p.first in
       let same = one.run next (arriving_from w.came next n) start p.middle h (take n rs) ss first
       (whole_run next start h ss s) in
-      r.first n p.middle first s.all_came
-      (subst (λ (m : Marked Fabric). IsEmptyFabric m.state) (sym same.1) s.empty))
-      (λ ge. ge)
-      (cases_lt (length ss) (length rs))
+      search (arith, rules, r.first)) (λ ge. ge) (cases_lt (length ss) (length rs))
 
   one_on : (next : ℕ) (start g h : Marked Fabric) (rs ss : List LimitedRecord) → RunsOn w next start rs g →
       RunsOn w next start ss h → rs ≡ ss
@@ -284,13 +228,7 @@ module _ (w : Switch) where
   over_at : (next : ℕ) (start : Marked Fabric) → end_of w.came ≤ next → IsEmptyFabric start.state →
       RunsOn w next start [] start
   unfolding arriving_from
-  over_at next start late empty =
-      record {
-        after = refl;
-        all_came = omega arith;
-        empty = empty;
-        first = λ m s run came_all none. omega arith;
-      }
+  over_at next start late empty = grind (arith, common_steps)
 
   -- ## A run that was stopped
 
@@ -302,9 +240,7 @@ module _ (w : Switch) where
     there = marked_in at.frozen
 
     many : length part.records ≡ slots
-    many =
-        run_length StepOf 0 (arriving_from w.came 0 slots) start there part.records part.runs
-        ∙ arriving_length w.came 0 slots
+    many = grind (arith, common_steps, run_length, arriving_length)
 
     begins : 0 + length (arriving_from w.came 0 slots) ≡ slots
     begins = let long = arriving_length w.came 0 slots in omega arith
@@ -313,20 +249,15 @@ module _ (w : Switch) where
     join : (n : ℕ) (rs : List LimitedRecord) (end : Marked Fabric) →
         RunBy StepOf slots (arriving_from w.came slots n) there rs end →
         RunBy StepOf 0 (arriving_from w.came 0 (slots + n)) start (part.records ++ rs) end
-    join n rs end run =
-        subst (λ (l : List (List (Option Cell))). RunBy StepOf 0 l start (part.records ++ rs) end)
-        (arriving_parts w.came 0 slots slots n (slots + n) (omega arith) refl)
-        (on.run 0 (arriving_from w.came 0 slots) (arriving_from w.came slots n) start there end part.records rs
-        part.runs
+    join n rs end run = subst (λ (l : List (List (Option Cell))). RunBy StepOf 0 l start (part.records ++ rs) end)
+        (arriving_parts w.came 0 slots slots n (slots + n) (omega arith) refl) (on.run 0
+        (arriving_from w.came 0 slots) (arriving_from w.came slots n) start there end part.records rs part.runs
         (subst (λ (k : ℕ). RunBy StepOf k (arriving_from w.came slots n) there rs end) (sym begins) run))
 
     -- what is kept of both
     kept_joined : (rs : List LimitedRecord) →
         kept_on (nothing_kept w) 0 (part.records ++ rs) ≡ kept_on (kept_in at) slots rs
-    kept_joined rs =
-        let size = many in
-        kept_both (nothing_kept w) 0 slots part.records rs (omega arith)
-        ∙ ap (λ (k : Kept). kept_on k slots rs) (sym part.kept)
+    kept_joined rs = grind (arith, common_steps, many, kept_both (nothing_kept w) 0 slots part.records rs)
 
     module _ (rs : List LimitedRecord) (end : Marked Fabric) (runs : RunsOn w 0 start rs end) where
       -- stopped no later than at its end
@@ -334,33 +265,21 @@ module _ (w : Switch) where
         rest : RunsOn w slots there (drop slots rs) end × (rs ≡ part.records ++ drop slots rs)
         rest =
             let r = reach StepOf w.came start rs slots (length rs) end within (whole_run 0 start end rs runs) in
-            let same = one.run 0 (arriving_from w.came 0 slots) start r.state there (take slots rs) part.records r.after
-            part.runs in
+            let same = one.run 0 (arriving_from w.came 0 slots) start r.state there (take slots rs) part.records
+            r.after part.runs in
             let size = length-drop slots rs in
             let more : length (drop slots rs) ≡ length rs - slots = omega arith in
             let run : RunBy StepOf slots (arriving_from w.came slots (length (drop slots rs))) there (drop slots rs)
-            end =
-            subst (λ (n : ℕ). RunBy StepOf slots (arriving_from w.came slots n) there (drop slots rs) end) (sym more)
-            (subst (λ (m : Marked Fabric). RunBy StepOf slots (arriving_from w.came slots (length rs - slots)) m (drop
-            slots rs) end) same.1 r.rest) in
-            let whole : rs ≡ part.records ++ drop slots rs =
-            sym (take-append-drop slots rs)
-            ∙ ap (λ (l : List LimitedRecord). l ++ drop slots rs) same.0 in
+            end = search (arith, rules) in
+            let whole : rs ≡ part.records ++ drop slots rs = search (arith, rules, take-append-drop) in
             let late = runs.all_came in (
               record {
-                after = subst (λ (l : List LimitedRecord). RunBy StepOf slots (arriving_from w.came slots (length (drop
-                    slots rs))) there l end)
-                    (sym (take_all (length (drop slots rs)) (drop slots rs) (omega arith))) run;
+                after = search (arith, rules, take_all);
                 all_came = omega arith;
                 empty = runs.empty;
-                first = λ m s after came_all none.
-                    let both : take (slots + m) rs ≡ part.records ++ take m (drop slots rs) =
-                    take_parts slots m rs ∙ ap (λ (l : List LimitedRecord). l ++ take m (drop slots rs)) same.0 in
-                    let reached : RunBy StepOf 0 (arriving_from w.came 0 (slots + m)) start (take (slots + m) rs) s =
-                    subst (λ (l : List LimitedRecord). RunBy StepOf 0 (arriving_from w.came 0 (slots + m)) start l s)
-                    (sym both) (join m (take m (drop slots rs)) s after) in
-                    let least = runs.first (slots + m) s reached (omega arith) none in
-                    omega arith;
+                first = λ
+                    m s after came_all none. search
+                    (arith, rules, take_parts slots m rs, join m (take m (drop slots rs)) s after);
               },
               whole,
             )
@@ -425,11 +344,7 @@ module _ (w : Switch) where
         rests =
             let late = runs.all_came in
             let none : List Queued = [] in
-            let empty : IsEmptyFabric resting.state =
-            record {
-              inputs = All-replicate (λ (cells : List Queued). cells ≡ none) ports none refl;
-              buffers = All-replicate (λ (cells : List Queued). cells ≡ none) ports none refl;
-            } in
+            let empty : IsEmptyFabric resting.state = search (arith, rules, All-replicate) in
             over_at slots there (omega arith)
             (subst (λ (m : Marked Fabric). IsEmptyFabric m.state) (sym over.1) empty)
 
@@ -444,32 +359,13 @@ module _ (w : Switch) where
 
     -- ## The laws
 
-    at_next : (rs : List LimitedRecord) (end : Marked Fabric) → RunsOn w slots there rs end →
-        RunsOn w at.frozen.next there rs end
-    at_next rs end runs = subst (λ (n : ℕ). RunsOn w n there rs end) (sym part.next) runs
-
     pub part_resumes : (whole : Kept) → IsWhole w ranks whole → IsResumed w at whole
     part_resumes whole is =
-        ⊎_elim
-        (λ behind.
-        record {
-          records = [];
-          end = there;
-          runs = at_next [] there (rests is.records is.end is.runs behind);
-          kept_is = is.kept_is ∙ kept_over is.records is.end is.runs behind
-              ∙ ap (λ (n : ℕ). kept_on (kept_in at) n []) (sym part.next);
-        })
-        (λ within.
-        let its = rest is.records is.end is.runs within in
-        record {
-          records = drop slots is.records;
-          end = is.end;
-          runs = at_next (drop slots is.records) is.end its.0;
-          kept_is = is.kept_is ∙ ap (λ (l : List LimitedRecord). kept_on (nothing_kept w) 0 l) its.1
-              ∙ kept_joined (drop slots is.records)
-              ∙ ap (λ (n : ℕ). kept_on (kept_in at) n (drop slots is.records)) (sym part.next);
-        })
-        (cases_lt (length is.records) slots)
+        let rests-here = rests is.records is.end is.runs in
+        let kept_over-here = kept_over is.records is.end is.runs in
+        let rest-here = rest is.records is.end is.runs in
+        let kept_joined-here = kept_joined (drop slots is.records) in
+        search (arith, rules)
 
     pub part_is_run : (kept whole : Kept) → IsResumed w at kept → IsWhole w ranks whole → kept ≡ whole
     part_is_run kept whole resumed is =
@@ -483,10 +379,7 @@ module _ (w : Switch) where
     module _ (fault : TagFault) (count : ℕ) (rs : List LimitedRecord)
         (stops : StopBy StepOf FaultOf 0 (arriving_from w.came 0 count) start rs fault) where
       few : length rs < count
-      few =
-          let long = arriving_length w.came 0 count in
-          let lt = stop_length StepOf FaultOf 0 (arriving_from w.came 0 count) start rs fault stops in
-          omega arith
+      few = grind (arith, common_steps, arriving_length, stop_length)
 
       never_early : length rs < slots → ⊥
       never_early lt =
@@ -495,14 +388,10 @@ module _ (w : Switch) where
           let long = arriving_length w.came 0 n in
           let whole = arriving_parts w.came 0 n n (count - n) count (omega arith) (omega arith) in
           let first : StopBy StepOf FaultOf 0 (arriving_from w.came 0 n) start rs fault =
-          stop_early StepOf FaultOf 0 (arriving_from w.came 0 n) (arriving_from w.came n (count - n)) start rs fault
-          (subst (λ (l : List (List (Option Cell))). StopBy StepOf FaultOf 0 l start rs fault) (sym whole) stops)
-          (omega arith) in
+          search (arith, rules, stop_early) in
           let cut = arriving_parts w.came 0 n n (slots - n) slots (omega arith) (omega arith) in
           let among : StopBy StepOf FaultOf 0 (arriving_from w.came 0 slots) start rs fault =
-          subst (λ (l : List (List (Option Cell))). StopBy StepOf FaultOf 0 l start rs fault) cut
-          (stop_later StepOf FaultOf 0 (arriving_from w.came 0 n) (arriving_from w.came n (slots - n)) start rs fault
-          first) in
+          search (arith, rules, stop_later) in
           one.never_both 0 (arriving_from w.came 0 slots) start there part.records rs fault part.runs among
 
       met_later : slots ≤ length rs → IsResumedFault w at fault
@@ -510,36 +399,21 @@ module _ (w : Switch) where
           let enough = few in
           let long = arriving_length w.came 0 slots in
           let cut = arriving_parts w.came 0 slots slots (count - slots) count (omega arith) (omega arith) in
-          let p =
-          stop_parts StepOf FaultOf 0 (arriving_from w.came 0 slots) (arriving_from w.came slots (count - slots))
-          start rs fault
+          let p = stop_parts StepOf FaultOf 0 (arriving_from w.came 0 slots)
+          (arriving_from w.came slots (count - slots)) start rs fault
           (subst (λ (l : List (List (Option Cell))). StopBy StepOf FaultOf 0 l start rs fault) (sym cut) stops)
           (omega arith) in
           let same = one.run 0 (arriving_from w.came 0 slots) start p.middle there
           (take (length (arriving_from w.came 0 slots)) rs) part.records p.first part.runs in
-          let ones = drop (length (arriving_from w.came 0 slots)) rs in
-          let here : StopBy StepOf FaultOf slots (arriving_from w.came slots (count - slots)) there ones fault =
-          subst (λ (m : Marked Fabric). StopBy StepOf FaultOf slots (arriving_from w.came slots (count - slots)) m ones
-          fault) same.1
-          (subst (λ (k : ℕ). StopBy StepOf FaultOf k (arriving_from w.came slots (count - slots)) p.middle ones fault)
-          begins p.second) in
-          record {
-            count = count - slots;
-            records = ones;
-            stops = subst (λ (n : ℕ). StopBy StepOf FaultOf n (arriving_from w.came n (count - slots)) there ones fault)
-                (sym part.next) here;
-          }
+          search (arith, rules, begins)
 
     pub part_fault : (fault : TagFault) → IsWholeFault w ranks fault → IsResumedFault w at fault
-    part_fault fault is =
-        ⊎_elim (λ early. absurd (never_early fault is.count is.records is.stops early))
-        (λ within. met_later fault is.count is.records is.stops within) (cases_lt (length is.records) slots)
+    part_fault fault is = grind (arith, common_steps, never_early, met_later, cases_lt)
 
     pub part_fault_back : (fault : TagFault) → IsResumedFault w at fault → IsWholeFault w ranks fault
     part_fault_back fault is =
         let here : StopBy StepOf FaultOf slots (arriving_from w.came slots is.count) there is.records fault =
-        subst (λ (n : ℕ). StopBy StepOf FaultOf n (arriving_from w.came n is.count) there is.records fault) part.next
-        is.stops in
+        search (arith, rules) in
         record {
           count = slots + is.count;
           records = part.records ++ is.records;
@@ -552,10 +426,4 @@ module _ (w : Switch) where
         }
 
 pub parts_join : PartsJoin
-parts_join =
-    record {
-      run = λ w ranks slots at kept whole few part resumed is. part_is_run w ranks slots at part kept whole resumed is;
-      resumes = λ w ranks slots at whole few part is. part_resumes w ranks slots at part whole is;
-      fault = λ w ranks slots at fault few part is. part_fault w ranks slots at part fault is;
-      whole_fault = λ w ranks slots at fault few part is. part_fault_back w ranks slots at part fault is;
-    }
+parts_join = search (rules, part_is_run, part_resumes, part_fault, part_fault_back)

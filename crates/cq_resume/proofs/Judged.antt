@@ -1,8 +1,9 @@
 -- What judging asks of each of its steps, and what it gives, of a state in range and of this shape, of which the cells
 -- were found.
-use Rattle.std.proofs.Common.{◌≡◌, ℕ, ◌<◌, ◌≤◌, ◌↔◌, false, List, [], ◌∷◌, ◌++◌, map, refl, sym, ◌∙◌, arith}
+use Rattle.std.proofs.lemmas.Grind.{common_steps}
+use Rattle.std.proofs.Common.{rules, ◌≡◌, ℕ, ◌<◌, ◌≤◌, ◌↔◌, false, List, [], ◌∷◌, map, refl, ◌∙◌, arith, ◌++◌}
 use Rattle.std.proofs.lemmas.List.{length-map}
-use Rattle.std.proofs.lemmas.List.Elements.{All-from_recursion, recursion_from_All}
+use Rattle.std.proofs.lemmas.List.Elements.{recursion_from_All, All-from_recursion}
 use Rattle.std.proofs.lemmas.List.Sorted.{All-permutation, IsPermutation-sym}
 use Rattle.std.proofs.lemmas.Map.Keys.{apart_from_distinct}
 use Rattle.std.specs.List.{AllByRecursion}
@@ -16,7 +17,6 @@ use Rattle.cq_resume.specs.Sound.{AreArrivals, AreBelowFloors, AreWholePackets, 
 use Rattle.cq_resume.specs.Switch.{HasShape, switch_of}
 use Rattle.cq_resume.specs.Taking.{CanTakeUp}
 use Rattle.cq_resume.specs.declared.found.Found.{Found}
-use Rattle.cq_resume.specs.declared.found.Gone.{Gone}
 use Rattle.cq_resume.specs.declared.found.Name.{Name}
 use Rattle.cq_resume.specs.declared.packets.Tally.{Tally}
 use Rattle.cq_resume.proofs.Chained.{EachPair, each_pair}
@@ -45,13 +45,7 @@ images_low ports [] all = tt
 images_low ports (d ∷ sent) all = (all.0.1.input, images_low ports sent all.1)
 
 pub inputs_low : (s : State) → IsInRange s → IsForPorts s.head.ports s
-inputs_low s range =
-    let low : (names : List Named) → AllByRecursion (IsNamed s.head.ports) names →
-    AllByRecursion (λ c. c.input < s.head.ports) names =
-    all_weaker (IsNamed s.head.ports) (λ (c : Named). c.input < s.head.ports) (λ c is. is.input) in
-    all_both (λ (c : Named). c.input < s.head.ports) (s.listed ++ s.buffered) (map (λ (d : Sent). d.cell) s.sent)
-    (all_both (λ (c : Named). c.input < s.head.ports) s.listed s.buffered (low s.listed range.listed)
-    (low s.buffered range.buffered)) (images_low s.head.ports s.sent range.sent)
+inputs_low s range = grind (arith, common_steps, all_weaker, all_both, s.listed, images_low)
 
 of_images : {A B : Type 0} (f : A → B) (P : B → Type 0) (xs : List A) → AllByRecursion (λ x. P (f x)) xs →
     AllByRecursion P (map f xs)
@@ -99,35 +93,18 @@ module _ (t : Tables) (c : Scheduled) (s : State) (f : Found) (k : Known t c s f
   -- ## In order
 
   pub order_is : StandInOrder (switch_of t c) s ↔ AreOrdered f s.head.next s.moved
-  order_is =
-      order_alike (switch_of t c) s f.listed.items f.buffered.items f.sent.items k.found.listed k.found.buffered
-      k.found.sent
+  order_is = order_alike (switch_of t c) s f.listed.items f.buffered.items f.sent.items k.found.listed
+      k.found.buffered k.found.sent
 
   -- what goes on needs of it
   pub can_take_up : AreOrdered f s.head.next s.moved → CanTakeUp s f
-  can_take_up is =
-      let ports = ports_are in
-      let most = k.range.head.ports in
-      record {
-        few = most.1;
-        next = k.range.head.next;
-        inputs = k.range.inputs_told;
-        lists = is.0.inputs;
-        buffers = is.1;
-        sent = is.2;
-        outputs = all_weaker (λ (g : Gone). IsCellFor t.setup g.queued)
-            (λ (g : Gone). g.queued.cell.output < s.head.ports) (λ g both. let low = both.0 in omega arith) f.sent.items
-            sent_for;
-        names = k.found.ordered;
-      }
+  can_take_up is = grind (arith, common_steps, ports_are, all_weaker, sent_for)
 
   -- ## Slack
 
   pub inputs_of_list : AllByRecursion (λ q. q.key.input < s.head.ports) f.listed.items
-  inputs_of_list =
-      (all_alike (IsTold c.came s.head.next) (λ (n : Named). n.input < s.head.ports)
-      (λ (q : Queued). q.key.input < s.head.ports)
-      (λ n q is.
+  inputs_of_list = (all_alike (IsTold c.came s.head.next) (λ (n : Named). n.input < s.head.ports)
+      (λ (q : Queued). q.key.input < s.head.ports) (λ n q is.
       let same = its_input c.came s.head.next n q (told_facts c.came s.head.next n q is) in
       ((λ low. omega arith), (λ low. omega arith))) s.listed f.listed.items k.found.listed).0
       (all_weaker (IsNamed s.head.ports) (λ (n : Named). n.input < s.head.ports) (λ n is. is.input) s.listed
@@ -140,21 +117,15 @@ module _ (t : Tables) (c : Scheduled) (s : State) (f : Found) (k : Known t c s f
       (λ q both. let low = both.0 in omega arith) f.listed.items cells_for.0
 
   pub slack_is : HaveSlack (switch_of t c) s ↔ HaveRoom f
-  slack_is =
-      slack_alike (switch_of t c) s f.listed.items f.buffered.items k.found.listed k.found.buffered inputs_of_list
-      outputs_inside
+  slack_is = search (rules, slack_alike, inputs_of_list, outputs_inside)
 
   -- ## Packets
 
   pub packets_is : AreWholePackets (switch_of t c) s ↔ PacketsStand t.limits s.head.next c.came f.names.items
-  packets_is =
-      packets_alike (switch_of t c) s f.listed.items f.buffered.items f.sent.items k.found.listed k.found.buffered
-      k.found.sent f.names.items k.found.same
+  packets_is = search (rules, packets_alike)
 
   pub tally_from : (x : Tally) → TalliesUp t.limits s.head.next c.came f.names.items x → IsTally (switch_of t c) s x
-  tally_from x up =
-      tally_is (switch_of t c) s f.listed.items f.buffered.items f.sent.items k.found.listed k.found.buffered
-      k.found.sent f.names.items k.found.same x (k.tables.limits.ports_are ∙ sym ports_are) up
+  tally_from x up = search (rules, tally_is, ports_are)
 
   -- ## Flows
 
@@ -184,21 +155,15 @@ module _ (t : Tables) (c : Scheduled) (s : State) (f : Found) (k : Known t c s f
   IsApart a b = same_name a b ≡ false
 
   apart : EachPair IsApart told
-  apart =
-      each_pair IsApart told
-      (λ i j d lt inside.
-      apart_from_distinct same_name told i j d
-      (still_differ f.names.items told (IsPermutation-sym told f.names.items k.found.same)
+  apart = each_pair IsApart told (λ i j d lt inside. apart_from_distinct same_name told i j d (still_differ
+      f.names.items told (IsPermutation-sym told f.names.items k.found.same)
       (rising_differ f.names.items k.found.ordered)) lt inside)
 
   pub flows_is : SentStand s.head.next f.sent.items → KeepArrivalOrder (switch_of t c) s ↔ FlowsStand f.names.items
-  flows_is stand =
-      flows_alike (switch_of t c) s f.listed.items f.buffered.items f.sent.items k.found.listed k.found.buffered
-      k.found.sent f.names.items k.found.same k.found.ordered stand apart
+  flows_is stand = search (rules, flows_alike, apart)
 
   -- ## Floors
 
   pub floors_is : AreBelowFloors (switch_of t c) s ↔ StandBelow t.setup s.ranks f
-  floors_is =
-      floors_alike (switch_of t c) s f.listed.items f.buffered.items f.sent.items k.found.listed k.found.buffered
-      k.found.sent t.setup refl
+  floors_is = floors_alike (switch_of t c) s f.listed.items f.buffered.items f.sent.items k.found.listed
+      k.found.buffered k.found.sent t.setup refl

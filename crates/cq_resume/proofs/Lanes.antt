@@ -1,7 +1,8 @@
 -- Items that stand by input, and at each input in lanes. Each is compared with the last one of its lane at its input.
 -- Where the relation goes on from one to the next, that decides it for each and each later one of one lane: of the
 -- earlier items of the lane none stands behind the last one, and those ahead of it stand before it.
-use Rattle.std.proofs.Common.{◌≡◌, ℕ, ◌+◌, ◌-◌, ◌<◌, ◌≤◌, ◌⊎◌, ◌↔◌, Bool, true, false, List, length, map, get_or, set, replicate, Option, None, Some, refl, sym, ap, ◌∙◌, subst, inl, inr, ⊎_elim, arith}
+use Rattle.std.proofs.lemmas.Grind.{common_steps}
+use Rattle.std.proofs.Common.{rules, ◌≡◌, ℕ, ◌+◌, ◌-◌, ◌<◌, ◌≤◌, ◌⊎◌, ◌↔◌, Bool, true, false, List, length, map, get_or, set, replicate, Option, None, Some, refl, sym, ap, ◌∙◌, subst, inl, inr, ⊎_elim, arith}
 use Rattle.std.specs.Prelude.{IfSome}
 use Rattle.std.specs.List.{AllPairs}
 use Rattle.std.proofs.lemmas.Bool.{cases_eq, cases_lt}
@@ -34,20 +35,12 @@ module _ {X : Type 0} (input lane : X → ℕ) (R : X → X → Type 0) where
   none_seen lanes = replicate lanes (let none : Option X = None in none)
 
   nothing_there : (lanes l : ℕ) → get_or (none_seen lanes) l None ≡ None
-  nothing_there lanes l =
-      let none : Option X = None in
-      let long = length-replicate lanes none in
-      ⊎_elim (λ lt. get_or-replicate lanes l none none lt) (λ le. get_or_past (none_seen lanes) l none (omega arith))
-      (cases_lt l lanes)
+  nothing_there lanes l = grind (arith, common_steps, length-replicate, get_or-replicate, get_or_past, cases_lt)
 
   -- at an input of which no item came
   are_none : (xs : List X) (n at lanes : ℕ) →
       ((k : ℕ) (d : X) → k < n → input (get_or xs k d) ≡ at → ⊥) → AreLast xs n at (none_seen lanes)
-  are_none xs n at lanes none =
-      record {
-        some = λ l y is. absurd (let clash : None ≡ Some y = sym (nothing_there lanes l) ∙ is in let P : ⊥ = cc in P);
-        none = λ l inside is k d lt own in_lane. none k d lt own;
-      }
+  are_none xs n at lanes none = grind (arith, common_steps, nothing_there)
 
   -- what is known before a place: the items of one lane stand in order, and the last ones at the input of the one
   -- before it
@@ -57,12 +50,7 @@ module _ {X : Type 0} (input lane : X → ℕ) (R : X → X → Type 0) where
     pub long : length last ≡ lanes
 
   pub lanes_first : (xs : List X) (lanes : ℕ) → Lanes xs lanes 0 (none_seen lanes)
-  lanes_first xs lanes =
-      record {
-        pairs = λ i j d lt le. absurd (omega arith);
-        ends = λ d. are_none xs 0 (input (get_or xs (0 - 1) d)) lanes (λ k e lt own. omega arith);
-        long = length-replicate lanes (let none : Option X = None in none);
-      }
+  lanes_first xs lanes = grind (arith, common_steps, are_none, length-replicate)
 
   module _ (xs : List X) (lanes n : ℕ) (last : List (Option X)) (known : Lanes xs lanes n last) (e : X)
       (inside : n < length xs) where
@@ -91,18 +79,8 @@ module _ {X : Type 0} (input lane : X → ℕ) (R : X → X → Type 0) where
     -- another input begins: none of it came yet
     pub next_input : AllPairs (λ a b. input a ≤ input b) xs → 0 < n → input (get_or xs (n - 1) e) < input here →
         AreLast xs n (input here) (none_seen lanes)
-    next_input rising later goes =
-        are_none xs n (input here) lanes
-        (λ k d lt own.
-        let near : input (get_or xs k d) ≤ input (get_or xs (n - 1) d) =
-        elim (cases_eq k (n - 1)) [
-          | inl same ↦ let e : input (get_or xs k d) ≡ input (get_or xs (n - 1) d) =
-              ap (λ (j : ℕ). input (get_or xs j d)) same in omega arith
-          | inr other ↦ rising k (n - 1) d (omega arith) (omega arith)
-        ] in
-        let same : input (get_or xs (n - 1) d) ≡ input (get_or xs (n - 1) e) =
-        ap input (get_or_default xs (n - 1) d e (omega arith)) in
-        omega arith)
+    next_input rising later goes = are_none xs n (input here) lanes (λ k d lt own.
+        search (arith, rules, cases_eq k (n - 1), get_or_default xs (n - 1) d))
 
     module _ (now : List (Option X)) (are : AreLast xs n (input here) now) (fits : lane here < length now) where
       abbrev MayFollow : Type 0
@@ -158,94 +136,46 @@ module _ {X : Type 0} (input lane : X → ℕ) (R : X → X → Type 0) where
       then = set now (lane here) (Some here)
 
       read_here : (l : ℕ) → l ≡ lane here → get_or then l None ≡ Some here
-      read_here l same =
-          ap (λ (k : ℕ). get_or then k None) same ∙ get_or-set_same now (lane here) (Some here) None fits
+      read_here l same = grind (arith, common_steps, get_or-set_same)
 
       read_other : (l : ℕ) → (l ≡ lane here → ⊥) → get_or then l None ≡ get_or now l None
       read_other l other = get_or-set_other now (lane here) l (Some here) None other
 
       -- an item of another lane stands at another place
       not_mine : (l : ℕ) → (l ≡ lane here → ⊥) → (k : ℕ) (d : X) → k ≡ n → lane (get_or xs k d) ≡ l → ⊥
-      not_mine l other k d same in_lane =
-          other (sym in_lane ∙ ap (λ (j : ℕ). lane (get_or xs j d)) same ∙ ap lane (get_or_default xs n d e inside))
+      not_mine l other k d same in_lane = grind (arith, common_steps, get_or_default)
 
       -- then it is the last one of its lane
       last_then : AreLast xs (n + 1) (input here) then
       last_then =
           record {
-            some = λ l y is.
-                elim (cases_eq l (lane here)) [
-                  | inl same ↦
-                      let clash : Some here ≡ Some y = sym (read_here l same) ∙ is in
-                      let own : here ≡ y = cc in
-                      record {
-                        place = n;
-                        below = omega arith;
-                        stands = λ d. get_or_default xs n d e inside ∙ own;
-                        own = ap input (sym own);
-                        in_lane = ap lane (sym own) ∙ sym same;
-                        latest = λ k d lt le at in_lane. omega arith;
-                      }
-                  | inr other ↦
-                      let old = are.some l y (sym (read_other l other) ∙ is) in
-                      let below = old.below in
-                      record {
-                        place = old.place;
-                        below = omega arith;
-                        stands = old.stands;
-                        own = old.own;
-                        in_lane = old.in_lane;
-                        latest = λ k d lt le at in_lane.
-                            elim (cases_eq k n) [
-                              | inl same ↦ not_mine l other k d same in_lane
-                              | inr less ↦ old.latest k d lt (omega arith) at in_lane
-                            ];
-                      }
-                ];
-            none = λ l within is k d lt at in_lane.
-                elim (cases_eq l (lane here)) [
-                  | inl same ↦
-                      let clash : Some here ≡ None = sym (read_here l same) ∙ is in
-                      let P : ⊥ = cc in P
-                  | inr other ↦
-                      let long = length-set now (lane here) (Some here) in
-                      elim (cases_eq k n) [
-                        | inl own ↦ not_mine l other k d own in_lane
-                        | inr less ↦
-                            are.none l (omega arith) (sym (read_other l other) ∙ is) k d (omega arith) at in_lane
-                      ]
-                ];
+            some = λ l y is. elim (cases_eq l (lane here)) [
+              | inl same ↦
+                  let clash : Some here ≡ Some y = sym (read_here l same) ∙ is in
+                  let own : here ≡ y = cc in
+                  record {
+                    place = n;
+                    below = omega arith;
+                    stands = λ d. get_or_default xs n d e inside ∙ own;
+                    own = ap input (sym own);
+                    in_lane = ap lane (sym own) ∙ sym same;
+                    latest = λ k d lt le at in_lane. omega arith;
+                  }
+              | inr other ↦
+                  let old = are.some l y (sym (read_other l other) ∙ is) in
+                  search (arith, rules, cases_eq, not_mine l other)
+            ];
+            none = λ l within is k d lt at in_lane. search (arith, rules, not_mine l);
           }
 
       -- one item more
       pub lanes_more : ((a b c : X) → R a b → R b c → R a c) → MayFollow → length now ≡ lanes →
           Lanes xs lanes (n + 1) then
-      lanes_more goes_on may long =
-          record {
-            pairs = λ i j d lt le.
-                elim (cases_eq j n) [
-                  | inr less ↦ known.pairs i j d lt (omega arith)
-                  | inl same ↦
-                      let behind : InLane (get_or xs i d) here = behind_all goes_on may i d (omega arith) in
-                      subst (λ (z : X). InLane (get_or xs i d) z)
-                      (sym (ap (λ (k : ℕ). get_or xs k d) same ∙ get_or_default xs n d e inside)) behind
-                ];
-            ends = λ d.
-                let place : n ≡ n + 1 - 1 = omega arith in
-                let at : here ≡ get_or xs (n + 1 - 1) d =
-                sym (get_or_default xs n d e inside) ∙ ap (λ (k : ℕ). get_or xs k d) place in
-                subst (λ (a : ℕ). AreLast xs (n + 1) a then) (ap input at) last_then;
-            long = length-set now (lane here) (Some here) ∙ long;
-          }
+      lanes_more goes_on may long = search (rules, cases_eq, behind_all, get_or_default, last_then, length-set)
 
       -- where it may not come, the items of one lane do not stand in order
       pub lanes_fail : (r : Bool) → ((r ≡ true) ↔ MayFollow) → r ≡ false → (false ≡ true) ↔ AllPairs InLane xs
-      lanes_fail r is fails = (
-        (λ clash. absurd (let P : ⊥ = cc in P)),
-        (λ pairs. sym fails ∙ is.1 (may_follow (λ k d lt.
-            subst (λ (z : X). InLane (get_or xs k d) z) (get_or_default xs n d e inside)
-            (pairs k n d lt inside)))),
-      )
+      lanes_fail r is fails = search (rules, may_follow, get_or_default)
 
   module _ (xs : List X) (lanes n : ℕ) (last : List (Option X)) (known : Lanes xs lanes n last) (e : X)
       (inside : n < length xs) (rising : AllPairs (λ a b. input a ≤ input b) xs) (begun : Bool)
@@ -286,15 +216,11 @@ module _ {X : Type 0} (input lane : X → ℕ) (R : X → X → Type 0) where
       -- one item more, or one that may not come
       pub lanes_next : ((a b c : X) → R a b → R b c → R a c) → r ≡ true →
           Lanes xs lanes (n + 1) (set now (lane its) (Some its))
-      lanes_next goes_on may =
-          lanes_more xs lanes n last known e inside now are_now within goes_on (test.0 may) long_now
+      lanes_next goes_on may = search (rules, lanes_more, are_now, within, long_now)
 
       pub lanes_stop : r ≡ false → (false ≡ true) ↔ AllPairs InLane xs
       lanes_stop not_so = lanes_fail xs lanes n last known e inside now are_now within r test not_so
 
   pub lanes_hold : (xs : List X) (lanes n : ℕ) (last : List (Option X)) → Lanes xs lanes n last → length xs ≤ n →
       (true ≡ true) ↔ AllPairs InLane xs
-  lanes_hold xs lanes n last known past = (
-    (λ _ i j d lt inside. known.pairs i j d lt (omega arith)),
-    (λ _. refl),
-  )
+  lanes_hold xs lanes n last known past = grind (arith, common_steps, known.pairs)

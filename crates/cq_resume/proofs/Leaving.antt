@@ -1,6 +1,7 @@
 -- One name more of those that stand by input and then by slot. It is compared with the last one of its flow, for which
 -- a place is kept.
-use Rattle.std.proofs.Common.{◌≡◌, ℕ, ◌+◌, ◌*◌, ◌<◌, ◌≤◌, ◌⊎◌, ◌↔◌, Bool, true, false, List, length, map, get_or, set, Option, None, Some, subst, arith}
+use Rattle.std.proofs.lemmas.Grind.{common_steps}
+use Rattle.std.proofs.Common.{◌≡◌, ℕ, ◌+◌, ◌*◌, ◌<◌, ◌≤◌, ◌⊎◌, ◌↔◌, Bool, true, false, List, length, map, get_or, set, Option, None, Some, arith}
 use Rattle.std.specs.Prelude.{IfSome}
 use Rattle.std.specs.List.{AllByRecursion, AllPairs}
 use Rattle.std.proofs.lemmas.List.{get_or_read}
@@ -26,35 +27,21 @@ module _ (names : List Name) (ports n : ℕ) (last : List (Option Name))
   rising = weaker_pairs IsNameBefore (λ (a b : Name). input_of a ≤ input_of b) name_inputs names ordered
 
   fits : flow_of here < ports * 16
-  fits =
-      let own =
-      all_at (λ (m : Name). (m.queued.cell.output < ports) × (m.queued.cell.class < 16)) names n e inside each in
-      let output = own.0 in
-      let class = own.1 in
-      omega arith
+  fits = grind (arith, common_steps, all_at)
 
   flow_fits : flow_of here < length now
-  flow_fits =
-      let long : length now ≡ ports * 16 =
-      long_now input_of flow_of LeavesFirst names (ports * 16) n last known e inside rising begun is now ways in
-      let low = fits in
-      omega arith
+  flow_fits = grind (arith, common_steps, long_now, input_of, flow_of, LeavesFirst, rising, fits)
 
   module _ (read : Option Name) (own : read ≡ get_or now (flow_of here) read) (r : Bool)
       (test : (r ≡ true) ↔ IfSome read (λ y. LeavesFirst y here)) where
     test_there : (r ≡ true) ↔ IfSome (get_or now (flow_of here) None) (λ y. LeavesFirst y here)
-    test_there =
-        subst (λ (o : Option Name). (r ≡ true) ↔ IfSome o (λ y. LeavesFirst y here))
-        (get_or_read now (flow_of here) read flow_fits own None) test
+    test_there = grind (arith, common_steps, LeavesFirst, get_or_read, flow_of, flow_fits)
 
     pub flow_next : r ≡ true →
         Lanes input_of flow_of LeavesFirst names (ports * 16) (n + 1) (set now (flow_of here) (Some here))
-    flow_next may =
-        lanes_next input_of flow_of LeavesFirst names (ports * 16) n last known e inside rising begun is now ways fits r
-        test_there leaves_on may
+    flow_next may = lanes_next input_of flow_of LeavesFirst names (ports * 16) n last known e inside rising begun is
+        now ways fits r test_there leaves_on may
 
     pub flow_stops : r ≡ false → (false ≡ true) ↔ FlowsStand names
-    flow_stops fails =
-        through
-        (lanes_stop input_of flow_of LeavesFirst names (ports * 16) n last known e inside rising begun is now ways fits
-        r test_there fails) (flows_as_lanes ports names each)
+    flow_stops fails = through (lanes_stop input_of flow_of LeavesFirst names (ports * 16) n last known e inside
+        rising begun is now ways fits r test_there fails) (flows_as_lanes ports names each)

@@ -1,12 +1,13 @@
 -- The walk over the cells of one input ends with a mark exactly where each packet that has begun is named whole, or not
 -- at all and its output has a limit. Cells of one packet come one behind the other, so each is compared with the one
 -- before it. The mark is up where the last cell is not named, which is of the packet that began last.
-use Rattle.std.proofs.Common.{◌≡◌, ℕ, ◌<◌, ◌⊎◌, eqb, Bool, true, false, cond, List, [], ◌∷◌, None, Some, refl, sym, ap, ◌∙◌, inl, inr, ⊎_elim, arith}
-use Rattle.std.specs.Prelude.{◌||◌, ◌==◌, not}
+use Rattle.std.proofs.lemmas.Grind.{common_steps}
+use Rattle.std.proofs.Common.{rules, ◌≡◌, ℕ, ◌<◌, ◌⊎◌, eqb, Bool, true, false, List, [], ◌∷◌, None, Some, refl, inl, inr, arith}
+use Rattle.std.specs.Prelude.{◌==◌, not}
 use Rattle.std.specs.List.{AllByRecursion}
-use Rattle.std.proofs.lemmas.Bool.{and_parts, cases_Bool, eq-eqb, ne_eqb}
+use Rattle.std.proofs.lemmas.Bool.{and_parts, cases_Bool, eq-eqb}
 use Rattle.cq_base.specs.Arriving.{Arrival}
-use Rattle.cq_resume.specs.Finding.{ComeBehind, IsLine, is_same, mark_on, may_come}
+use Rattle.cq_resume.specs.Finding.{ComeBehind, IsLine, mark_on, may_come}
 use Rattle.cq_resume.proofs.Chained.{EachPair}
 
 module _ (named : Arrival → Bool) (limited : ℕ → Bool) where
@@ -24,25 +25,7 @@ module _ (named : Arrival → Bool) (limited : ℕ → Bool) where
   -- what it says of a cell that it may come
   left_out : (mark : Bool) (b : Arrival) → may mark b ≡ true → IsAllowed b
   unfolding may
-  left_out mark b holds none =
-      let parts = and_parts ((b.cell.id.index == 0) || is_same mark (not (named b)))
-      (named b || limited b.cell.output) holds in
-      sym (ap (λ (t : Bool). t || limited b.cell.output) none) ∙ parts.1
-
-  same_says : (m t : Bool) → is_same (not m) (not t) ≡ true → t ≡ m
-  same_says true true holds = refl
-  same_says true false holds = holds
-  same_says false true holds = sym holds
-  same_says false false holds = refl
-
-  -- and of one that goes on with a packet that it is named as the one before it
-  goes_on : (mark : Bool) (b : Arrival) → may (not mark) b ≡ true → eqb b.cell.id.index 0 ≡ false → named b ≡ mark
-  unfolding may
-  goes_on mark b holds later =
-      let parts = and_parts ((b.cell.id.index == 0) || is_same (not mark) (not (named b)))
-      (named b || limited b.cell.output) holds in
-      same_says mark (named b)
-      (sym (ap (λ (t : Bool). t || is_same (not mark) (not (named b))) later) ∙ parts.0)
+  left_out mark b holds none = grind (arith, common_steps, and_parts, b.cell.id.index)
 
   -- ## A walk that ends
 
@@ -50,15 +33,7 @@ module _ (named : Arrival → Bool) (limited : ℕ → Bool) where
   one_step : (mark m : Bool) (b : Arrival) (line : List Arrival) → mark_on named limited mark (b ∷ line) ≡ Some m →
       (may mark b ≡ true) × (mark_on named limited (not (named b)) line ≡ Some m)
   unfolding may
-  one_step mark m b line ends =
-      ⊎_elim
-      (λ holds. (holds, sym (ap (λ (t : Bool). cond t (mark_on named limited (not (named b)) line) None) holds) ∙ ends))
-      (λ fails.
-      let none : mark_on named limited mark (b ∷ line) ≡ None =
-      ap (λ (t : Bool). cond t (mark_on named limited (not (named b)) line) None) fails in
-      let clash : None ≡ Some m = sym none ∙ ends in
-      absurd (let P : ⊥ = cc in P))
-      (cases_Bool (may mark b))
+  one_step mark m b line ends = grind (arith, common_steps, cases_Bool, may)
 
   -- the cells of each packet are named alike, and all that are not named may be left out
   pub record Stand (line : List Arrival) : Type 0 where
@@ -69,10 +44,7 @@ module _ (named : Arrival → Bool) (limited : ℕ → Bool) where
   later_packets : (packet : ℕ) (a : Arrival) (line : List Arrival) → packet < a.cell.id.packet → ComeBehind a line →
       AllByRecursion (λ b. packet < b.cell.id.packet) line
   later_packets packet a [] lt behind = tt
-  later_packets packet a (b ∷ line) lt behind =
-      let here : packet < b.cell.id.packet =
-      ⊎_elim (λ on. let same = on.0 in omega arith) (λ next. let more = next.0 in omega arith) behind.0.1 in
-      (here, later_packets packet b line here behind.1)
+  later_packets packet a (b ∷ line) lt behind = grind (arith, common_steps, later_packets packet b line)
 
   no_alike : (a : Arrival) (line : List Arrival) → AllByRecursion (λ b. a.cell.id.packet < b.cell.id.packet) line →
       AllByRecursion (AlikeIn a) line
@@ -82,36 +54,23 @@ module _ (named : Arrival → Bool) (limited : ℕ → Bool) where
   as_before : (a b : Arrival) (line : List Arrival) → b.cell.id.packet ≡ a.cell.id.packet → named b ≡ named a →
       AllByRecursion (AlikeIn b) line → AllByRecursion (AlikeIn a) line
   as_before a b [] packet same all = tt
-  as_before a b (c ∷ line) packet same all =
-      ((λ own. all.0 (packet ∙ own) ∙ same), as_before a b line packet same all.1)
+  as_before a b (c ∷ line) packet same all = grind (arith, common_steps, as_before a b line packet same all.1)
 
   -- of a walk that ends, behind a cell
   behind_alike : (a : Arrival) (line : List Arrival) (m : Bool) → ComeBehind a line →
       mark_on named limited (not (named a)) line ≡ Some m → EachPair AlikeIn (a ∷ line) × AllByRecursion IsAllowed line
   behind_alike a [] m behind ends = ((tt, tt), tt)
   behind_alike a (b ∷ line) m behind ends =
-      let step = one_step (not (named a)) m b line ends in
-      let rest = behind_alike b line m behind.1 step.1 in
-      let own : AllByRecursion (AlikeIn a) (b ∷ line) =
-      ⊎_elim
-      (λ on.
-      let next = on.1 in
-      let later : eqb b.cell.id.index 0 ≡ false = ne_eqb b.cell.id.index 0 (λ e. let P : ⊥ = omega arith in P) in
-      let same : named b ≡ named a = goes_on (named a) b step.0 later in
-      ((λ own. same), as_before a b line on.0 same rest.0.0))
-      (λ next.
-      let more = next.0 in
-      ((λ own. absurd (omega arith)), no_alike a line (later_packets a.cell.id.packet b line more behind.1)))
-      behind.0.1 in
-      ((own, rest.0), (left_out (not (named a)) b step.0, rest.1))
+      let as_before-here = as_before a b line in
+      let no_alike-here = no_alike a line in
+      let later_packets-here = later_packets a.cell.id.packet b line in
+      let behind_alike-here = behind_alike b line m behind.1 in
+      grind (arith, common_steps)
 
   pub line_stands : (line : List Arrival) (m : Bool) → IsLine line → mark_on named limited false line ≡ Some m →
       Stand line
   line_stands [] m is ends = record { alike = tt; allowed = tt }
-  line_stands (a ∷ line) m is ends =
-      let step = one_step false m a line ends in
-      let rest = behind_alike a line m is.1 step.1 in
-      record { alike = rest.0; allowed = (left_out false a step.0, rest.1) }
+  line_stands (a ∷ line) m is ends = grind (arith, common_steps, one_step, behind_alike, left_out)
 
   -- the last cell
   unfoldable pub last_of : Arrival → List Arrival → Arrival
@@ -149,21 +108,15 @@ module _ (named : Arrival → Bool) (limited : ℕ → Bool) where
   step_stops : (mark : Bool) (b : Arrival) (line : List Arrival) → may mark b ≡ true →
       mark_on named limited mark (b ∷ line) ≡ None → mark_on named limited (not (named b)) line ≡ None
   unfolding may
-  step_stops mark b line holds stops =
-      sym (ap (λ (t : Bool). cond t (mark_on named limited (not (named b)) line) None) holds) ∙ stops
+  step_stops mark b line holds stops = grind (arith, common_steps)
 
   -- where all stand it ends
   behind_ends : (a : Arrival) (line : List Arrival) → ComeBehind a line → EachPair AlikeIn (a ∷ line) →
       AllByRecursion IsAllowed line → mark_on named limited (not (named a)) line ≡ None → ⊥
   behind_ends a [] behind alike all stops = let P : ⊥ = cc in P
   behind_ends a (b ∷ line) behind alike all stops =
-      let first : (eqb b.cell.id.index 0 ≡ true) ⊎ (named b ≡ named a) =
-      ⊎_elim (λ on. inr (alike.0.0 (sym on.0))) (λ next. inl (eq-eqb b.cell.id.index 0 next.1)) behind.0.1 in
-      let holds : may (not (named a)) b ≡ true = may_come_true b (named a) first all.0 in
-      behind_ends b line behind.1 alike.1 all.1 (step_stops (not (named a)) b line holds stops)
+      grind (arith, common_steps, behind_ends b line behind.1 alike.1 all.1)
 
   pub line_ends : (line : List Arrival) → IsLine line → Stand line → mark_on named limited false line ≡ None → ⊥
   line_ends [] is stand stops = let P : ⊥ = cc in P
-  line_ends (a ∷ line) is stand stops =
-      let holds : may false a ≡ true = may_come_true a true (inl (eq-eqb a.cell.id.index 0 is.0)) stand.allowed.0 in
-      behind_ends a line is.1 stand.alike stand.allowed.1 (step_stops false a line holds stops)
+  line_ends (a ∷ line) is stand stops = search (rules, may, may_come_true, eq-eqb, behind_ends, step_stops)

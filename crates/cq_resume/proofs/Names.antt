@@ -1,7 +1,8 @@
 -- Names that stand by input and then by slot. Sorted by both they stand so, but for names that are the same; and where
 -- no two are the same they do. The name of an arrival, if there is one, stands where halving finds the first that is
 -- not ahead of it.
-use Rattle.std.proofs.Common.{◌≡◌, ◌≢◌, ℕ, zero, suc, ◌+◌, ◌<◌, ◌≤◌, ◌⊎◌, eqb, ltb, Bool, true, false, List, [], ◌∷◌, length, get_or, refl, sym, ap, ◌∙◌, subst, inl, inr, ⊎_elim, Bor, arith}
+use Rattle.std.proofs.Common.{rules, ◌≡◌, ◌≢◌, ℕ, zero, suc, ◌<◌, ◌≤◌, ◌⊎◌, eqb, ltb, Bool, true, false, List, [], ◌∷◌, length, get_or, refl, sym, ap, ◌∙◌, subst, inl, inr, ⊎_elim, Bor, arith}
+use Rattle.std.proofs.lemmas.Grind.{common_steps}
 use Rattle.std.specs.Prelude.{◌&&◌, ◌||◌, IsPermutation}
 use Rattle.std.specs.Fn.{Called, ComputesKey, Mut}
 use Rattle.std.specs.List.{AllAdjacentBelow, AllPairs, IsDistinct, list_any}
@@ -27,20 +28,7 @@ pair_cmp a b = ordering_then (nat_cmp a.0 b.0) (nat_cmp a.1 b.1)
 -- of two pairs of which the second is not less, the first is less or the same in its first part, and then no greater
 -- in the other
 not_less : (i s j t : ℕ) → is_lt (ordering_then (nat_cmp j i) (nat_cmp t s)) ≡ false → (i < j) ⊎ ((i ≡ j) × (s ≤ t))
-not_less i s j t fails =
-    ⊎_elim
-    (λ same.
-    let tied : is_lt (ordering_then (nat_cmp j i) (nat_cmp t s)) ≡ is_lt (nat_cmp t s) =
-    simp (le-ltb j i (omega arith), eq-eqb j i (omega arith)) in
-    inr (same, ge_from_not_lt t s (sym tied ∙ fails)))
-    (λ apart.
-    ⊎_elim (λ less. inl less)
-    (λ more.
-    let holds : is_lt (ordering_then (nat_cmp j i) (nat_cmp t s)) ≡ true = simp (lt-ltb j i more) in
-    let clash : true ≡ false = sym holds ∙ fails in
-    absurd (let P : ⊥ = cc in P))
-    apart)
-    (cases_order i j)
+not_less i s j t fails = grind (arith, common_steps, le-ltb, eq-eqb, ge_from_not_lt, lt-ltb, cases_order)
 
 pub names_sorted : {F : Type 0} {g : Mut F (Bor Name × Unit {0}) (ℕ × ℕ)} {f : F} (xs : List Name) →
     ((key : Name → ℕ × ℕ) → ComputesKey g key f → IsSortedByKey key pair_cmp xs) →
@@ -49,9 +37,7 @@ pub names_sorted : {F : Type 0} {g : Mut F (Bor Name × Unit {0}) (ℕ × ℕ)} 
 names_sorted {g = g} {f = f} xs sorted calls k d inside =
     let up =
     sorted arrival_key (always_returns_same g (λ a r. r ≡ arrival_key a.0.now) f calls) k d (omega arith) inside in
-    let a = get_or xs k d in
-    let b = get_or xs (k + 1) d in
-    not_less a.queued.key.input a.queued.key.slot b.queued.key.input b.queued.key.slot up
+    search (arith, rules, not_less)
 
 -- ## Names that differ
 
@@ -60,14 +46,10 @@ abbrev pub same_name : Name → Name → Bool
 same_name a b = eqb a.queued.key.slot b.queued.key.slot && eqb a.queued.key.input b.queued.key.input
 
 eqb_flips : (m n : ℕ) → eqb m n ≡ eqb n m
-eqb_flips m n =
-    ⊎_elim (λ same. eq-eqb m n same ∙ sym (eq-eqb n m (sym same)))
-    (λ other. ne_eqb m n other ∙ sym (ne_eqb n m (λ e. other (sym e)))) (cases_eq m n)
+eqb_flips m n = grind (arith, common_steps, eq-eqb, ne_eqb, cases_eq)
 
 pub name_flips : (a b : Name) → same_name a b ≡ same_name b a
-name_flips a b =
-    ap (λ (t : Bool). t && eqb a.queued.key.input b.queued.key.input) (eqb_flips a.queued.key.slot b.queued.key.slot)
-    ∙ ap (λ (t : Bool). eqb b.queued.key.slot a.queued.key.slot && t) (eqb_flips a.queued.key.input b.queued.key.input)
+name_flips a b = grind (arith, common_steps, eqb_flips)
 
 strictly : (a b : Name) → IsNameNotAfter a b → same_name a b ≡ false → IsNameBefore a b
 strictly a b (inl less) other = inl less
@@ -89,9 +71,7 @@ strictly a b (inr (same, le)) other =
 pub rising_names : (xs : List Name) → AllAdjacentBelow IsNameNotAfter xs (length xs) → IsDistinct same_name xs →
     AllPairs IsNameBefore xs
 rising_names xs order differ =
-    next_pairs IsNameBefore xs name_on
-    (λ k d inside. strictly (get_or xs k d) (get_or xs (k + 1) d) (order k d inside)
-    (apart_from_distinct same_name xs k (k + 1) d differ (omega arith) inside))
+    next_pairs IsNameBefore xs name_on (λ k d inside. search (arith, rules, strictly, apart_from_distinct))
 
 pub still_differ : (xs ys : List Name) → IsPermutation xs ys → IsDistinct same_name xs → IsDistinct same_name ys
 still_differ = IsDistinct-IsPermutation same_name name_flips
@@ -114,8 +94,7 @@ rising_differ xs rising =
 
 -- whether a name is ahead of an arrival, and whether it is its own
 abbrev pub is_ahead : ℕ → ℕ → Name → Bool
-is_ahead input slot n =
-    ltb n.queued.key.input input || (eqb n.queued.key.input input && ltb n.queued.key.slot slot)
+is_ahead input slot n = ltb n.queued.key.input input || (eqb n.queued.key.input input && ltb n.queued.key.slot slot)
 
 abbrev pub is_its : ℕ → ℕ → Name → Bool
 is_its input slot n = eqb n.queued.key.slot slot && eqb n.queued.key.input input
@@ -123,34 +102,17 @@ is_its input slot n = eqb n.queued.key.slot slot && eqb n.queued.key.input input
 -- what it says in numbers
 ahead_says : (input slot : ℕ) (n : Name) → is_ahead input slot n ≡ true →
     (n.queued.key.input < input) ⊎ ((n.queued.key.input ≡ input) × (n.queued.key.slot < slot))
-ahead_says input slot n holds =
-    ⊎_elim (λ less. inl (ltb-true n.queued.key.input input less))
-    (λ both.
-    let parts = and_parts (eqb n.queued.key.input input) (ltb n.queued.key.slot slot) both in
-    inr (eqb-true n.queued.key.input input parts.0, ltb-true n.queued.key.slot slot parts.1))
-    (or_cases (ltb n.queued.key.input input) (eqb n.queued.key.input input && ltb n.queued.key.slot slot) holds)
+ahead_says input slot n holds = grind (arith, common_steps, ltb-true, and_parts, eqb-true, or_cases)
 
 says_ahead : (input slot : ℕ) (n : Name) →
     (n.queued.key.input < input) ⊎ ((n.queued.key.input ≡ input) × (n.queued.key.slot < slot)) →
     is_ahead input slot n ≡ true
-says_ahead input slot n (inl less) =
-    or_left (ltb n.queued.key.input input) (eqb n.queued.key.input input && ltb n.queued.key.slot slot)
-    (lt-ltb n.queued.key.input input less)
-says_ahead input slot n (inr (same, less)) =
-    or_right (ltb n.queued.key.input input) (eqb n.queued.key.input input && ltb n.queued.key.slot slot)
-    (and_from (eqb n.queued.key.input input) (ltb n.queued.key.slot slot) (eq-eqb n.queued.key.input input same)
-    (lt-ltb n.queued.key.slot slot less))
+says_ahead input slot n (inl less) = grind (arith, common_steps, or_left, lt-ltb)
+says_ahead input slot n (inr (same, less)) = grind (arith, common_steps, or_right, and_from, eq-eqb, lt-ltb)
 
 not_its : (input slot : ℕ) (n : Name) → ((n.queued.key.slot ≡ slot) → (n.queued.key.input ≡ input) → ⊥) →
     is_its input slot n ≡ false
-not_its input slot n other =
-    ⊎_elim
-    (λ same.
-    and_right (eqb n.queued.key.slot slot) (eqb n.queued.key.input input)
-    (ne_eqb n.queued.key.input input (λ e. other same e)))
-    (λ fails. and_left (eqb n.queued.key.slot slot) (eqb n.queued.key.input input)
-    (ne_eqb n.queued.key.slot slot fails))
-    (cases_eq n.queued.key.slot slot)
+not_its input slot n other = grind (arith, common_steps, and_right, ne_eqb, and_left, cases_eq)
 
 pub ahead_parts : (input slot : ℕ) (names : List Name) → AllPairs IsNameBefore names →
     IsPartitionedBy (is_ahead input slot) names
@@ -174,8 +136,7 @@ ahead_parts input slot names order i j d le inside holds =
 none_any : {X : Type 0} (p : X → Bool) (xs : List X) → ((k : ℕ) (d : X) → k < length xs → p (get_or xs k d) ≡ false) →
     list_any p xs ≡ false
 none_any p [] none = refl
-none_any p (x ∷ xs) none =
-    or_from (p x) (list_any p xs) (none zero x (omega arith))
+none_any p (x ∷ xs) none = or_from (p x) (list_any p xs) (none zero x (omega arith))
     (none_any p xs (λ k d inside. none (suc k) d (omega arith)))
 
 any_only : {X : Type 0} (p : X → Bool) (xs : List X) (n : ℕ) (e : X) → n < length xs →
@@ -195,15 +156,11 @@ any_only p (x ∷ xs) (suc n) e inside none =
 module _ (input slot : ℕ) (names : List Name) (order : AllPairs IsNameBefore names) (at : ℕ) (few : at ≤ length names)
     (point : IsPartitionPoint (λ n. is_ahead input slot n ≡ true) (λ n. is_ahead input slot n ≡ false) names at) where
   ahead_not_its : (k : ℕ) (d : Name) → k < at → is_its input slot (get_or names k d) ≡ false
-  ahead_not_its k d lt =
-      let n = get_or names k d in
-      let before = ahead_says input slot n (point.0 k d (omega arith) lt) in
-      not_its input slot n (λ same own. ⊎_elim (λ less. omega arith) (λ less. let l = less.1 in omega arith) before)
+  ahead_not_its k d lt = grind (arith, common_steps, ahead_says, not_its)
 
   -- past the last name there is none
   pub named_past : length names ≤ at → false ≡ list_any (is_its input slot) names
-  named_past past =
-      sym (none_any (is_its input slot) names (λ k d inside. ahead_not_its k d (omega arith)))
+  named_past past = grind (arith, common_steps, none_any, ahead_not_its)
 
   pub named_here : (e : Name) → at < length names →
       is_its input slot (get_or names at e) ≡ list_any (is_its input slot) names

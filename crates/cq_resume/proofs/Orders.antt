@@ -1,5 +1,6 @@
 -- The orders in which the lines of a state stand go on from one to the next: those of lists, of buffers, of departures,
 -- of transfers and of names, and the one in which the cells of a flow leave.
+use Rattle.std.proofs.lemmas.Grind.{common_steps}
 use Rattle.std.proofs.Common.{◌≡◌, ℕ, ◌+◌, ◌*◌, ◌<◌, ◌≤◌, ◌↔◌, List, [], ◌∷◌, Option, None, Some, inl, inr, ◌∙◌, arith}
 use Rattle.std.specs.List.{AllByRecursion, AllPairs}
 use Rattle.cq_base.specs.Cells.{IsBefore}
@@ -111,12 +112,8 @@ each_flow (x ∷ xs) pairs = (beside xs pairs.0, each_flow xs pairs.1)
 pub flows_as_lanes : (ports : ℕ) (xs : List Name) →
     AllByRecursion (λ n. (n.queued.cell.output < ports) × (n.queued.cell.class < 16)) xs →
     AllPairs (InLane input_of flow_of LeavesFirst) xs ↔ FlowsStand xs
-flows_as_lanes ports xs each = (
-  (λ pairs. all_pairs LeavesEarlier xs (each_flow xs (each_pair (InLane input_of flow_of LeavesFirst) xs pairs))),
-  (λ pairs. all_pairs (InLane input_of flow_of LeavesFirst) xs
-      (each_lane xs (all_each (λ (n : Name). n.queued.cell.output < ports) (λ n. n.queued.cell.class < 16) xs each).1
-      (each_pair LeavesEarlier xs pairs))),
-)
+flows_as_lanes ports xs each =
+    grind (arith, common_steps, all_pairs, each_flow, each_pair, InLane, each_lane, all_each)
 
 pub through : {A B C : Type 0} → A ↔ B → B ↔ C → A ↔ C
 through ab bc = ((λ a. bc.0 (ab.0 a)), (λ c. ab.1 (bc.1 c)))

@@ -1,7 +1,8 @@
 -- No more items than a pool has, where each item stands for one of the pool and no two stand for the same. So items
 -- with different numbers below a bound are no more than the bound. And what a walk over a list keeps: items and pairs
 -- of items that are looked up.
-use Rattle.std.proofs.Common.{◌≡◌, ◌≢◌, ℕ, zero, suc, ◌+◌, ◌<◌, ◌≤◌, ◌⊎◌, Bool, true, false, cond, List, [], ◌∷◌, ◌++◌, length, map, Option, None, Some, refl, sym, ap, ◌∙◌, subst, inl, inr, ⊎_elim, arith}
+use Rattle.std.proofs.lemmas.Grind.{common_steps}
+use Rattle.std.proofs.Common.{rules, ◌≡◌, ◌≢◌, ℕ, zero, suc, ◌+◌, ◌<◌, ◌≤◌, ◌⊎◌, Bool, true, false, cond, List, [], ◌∷◌, ◌++◌, length, map, Option, None, Some, refl, sym, ap, ◌∙◌, subst, inl, inr, ⊎_elim, arith}
 use Rattle.std.specs.Prelude.{filter, slice_get}
 use Rattle.std.specs.List.{AllByRecursion, cons_option, filter_map, range_with_len}
 use Rattle.std.proofs.lemmas.Bool.{cases_eq}
@@ -21,20 +22,10 @@ record Without {X : Type 0} (pool : List X) (x : X) : Type 0 where
 without : {X : Type 0} (pool : List X) (x : X) → Has pool x → Without pool x
 without [] x has = absurd has
 without (y ∷ ys) x (inl same) =
-    record {
-      left = ys;
-      fewer = refl;
-      others = λ z has. ⊎_elim (λ e. inl (sym e ∙ same)) (λ more. inr more) has;
-    }
+    record { left = ys; fewer = refl; others = λ z has. ⊎_elim (λ e. inl (sym e ∙ same)) (λ more. inr more) has }
 without (y ∷ ys) x (inr later) =
     let it = without ys x later in
-    record {
-      left = y ∷ it.left;
-      fewer = ap suc it.fewer;
-      others = λ z has.
-          ⊎_elim (λ e. inr (inl e))
-          (λ more. ⊎_elim (λ e. inl e) (λ stays. inr (inr stays)) (it.others z more)) has;
-    }
+    record { left = y ∷ it.left; fewer = ap suc it.fewer; others = search (arith, rules) }
 
 module _ {A B : Type 0} (R : A → B → Type 0) where
   -- two items stand for nothing together
@@ -52,10 +43,7 @@ module _ {A B : Type 0} (R : A → B → Type 0) where
   still pool x b w own [] apart all = tt
   still pool x b w own (y ∷ ys) apart all =
       let its = all.0 in
-      let here : Stands w.left y =
-      ⊎_elim (λ (same : its.one ≡ b). absurd (apart.0 b own (subst (R y) same its.own)))
-      (λ (has : Has w.left its.one). record { one = its.one; has = has; own = its.own }) (w.others its.one its.has) in
-      (here, still pool x b w own ys apart.1 all.1)
+      let here : Stands w.left y = search (arith, rules) in (here, still pool x b w own ys apart.1 all.1)
 
   pub no_more : (xs : List A) (pool : List B) → EachPair AreApart xs → AllByRecursion (Stands pool) xs →
       length xs ≤ length pool
@@ -160,8 +148,7 @@ module _ {A B : Type 0} (f : A → Option B) where
       by : (o : Option B) → f x ≡ o → length (filter p (filter_map f xs)) ≤ length (filter q xs) →
           length (filter p (cons_option o (filter_map f xs))) ≤ length (cond (q x) (x ∷ filter q xs) (filter q xs))
       by None none rest = let more = longer (q x) in omega arith
-      by (Some y) some rest =
-          both (p y) (q x) (filter p (filter_map f xs)) y (λ passes. gives x y some passes) rest
+      by (Some y) some rest = grind (arith, common_steps, both)
 
   pub looked_few : (xs : List A) → length (filter_map f xs) ≤ length xs
   looked_few [] = omega arith
@@ -186,13 +173,9 @@ pub one_place : {X : Type 0} (Alike : X → X → Type 0) → ((x y : X) → Ali
 one_place Alike back [] pairs i j x y first second alike = absurd (let P : ⊥ = cc in P)
 one_place Alike back (z ∷ zs) pairs zero zero x y first second alike = refl
 one_place {X} Alike back (z ∷ zs) pairs zero (suc j) x y first second alike =
-    let same : z ≡ x = cc in
-    absurd (all_of_has (λ (v : X). Alike z v → ⊥) zs y pairs.0 (has_there zs j y second)
-    (subst (λ (v : X). Alike v y) (sym same) alike))
+    grind (arith, common_steps, all_of_has, has_there zs j y second)
 one_place {X} Alike back (z ∷ zs) pairs (suc i) zero x y first second alike =
-    let same : z ≡ y = cc in
-    absurd (all_of_has (λ (v : X). Alike z v → ⊥) zs x pairs.0 (has_there zs i x first)
-    (subst (λ (v : X). Alike v x) (sym same) (back x y alike)))
+    grind (arith, common_steps, all_of_has, has_there zs i x first)
 one_place Alike back (z ∷ zs) pairs (suc i) (suc j) x y first second alike =
     ap suc (one_place Alike back zs pairs.1 i j x y first second alike)
 
@@ -207,8 +190,7 @@ image_at f (x ∷ xs) (suc i) y is = image_at f xs i y is
 
 has_number : (a n k : ℕ) → a ≤ k → k < a + n → Has (range_with_len a n) k
 has_number a zero k low high = absurd (omega arith)
-has_number a (suc n) k low high =
-    ⊎_elim (λ same. inl same) (λ other. inr (has_number (a + 1) n k (omega arith) (omega arith))) (cases_eq a k)
+has_number a (suc n) k low high = grind (arith, common_steps, cases_eq, has_number (a + 1) n k)
 
 -- different numbers below a bound
 pub numbers_few : {A : Type 0} (f : A → ℕ) (xs : List A) (n : ℕ) → EachPair (λ x y. f x ≢ f y) xs →

@@ -1,12 +1,13 @@
 -- Each found cell is one that arrives: so it goes to one of the outputs, is of one of the classes, and came to one of
 -- the inputs.
-use Rattle.std.proofs.Common.{◌≡◌, ℕ, ◌<◌, Bool, true, false, cond, List, [], ◌∷◌, Some, ap, arith}
+use Rattle.std.proofs.lemmas.Grind.{common_steps}
+use Rattle.std.proofs.Common.{◌≡◌, ℕ, ◌<◌, Bool, true, false, cond, List, [], ◌∷◌, Some, arith}
 use Rattle.std.specs.Prelude.{find, option_map}
 use Rattle.std.specs.List.{AllByRecursion}
-use Rattle.cq_base.specs.Arriving.{Arrival, is_at}
+use Rattle.cq_base.specs.Arriving.{Arrival}
 use Rattle.cq_base.specs.declared.cell.Cell.{Cell}
 use Rattle.cq_base.specs.declared.cell.Queued.{Queued}
-use Rattle.cq_cells.specs.Traffic.{IsInRange, IsTraffic}
+use Rattle.cq_cells.specs.Traffic.{IsTraffic}
 use Rattle.cq_resume.specs.Finding.{AreGone, AreFound, IsGone, IsTold}
 use Rattle.cq_resume.specs.declared.found.Gone.{Gone}
 use Rattle.cq_resume.proofs.Telling.{told_facts}
@@ -33,15 +34,7 @@ module _ (ports classes : ℕ) (came : List Arrival) (traffic : IsTraffic ports 
   IsFor q = (q.cell.output < ports) × (q.cell.class < classes)
 
   one_for : (c : Named) (q : Queued) → IsTold came next c q → IsFor q
-  one_for c q is =
-      let facts = told_facts came next c q is in
-      let it =
-      found_holds (IsInRange ports classes) (is_at c.slot c.input) came q.cell traffic.in_range facts.arrives in
-      let output : it.0.cell.output ≡ q.cell.output = ap (λ (x : Cell). x.output) it.2 in
-      let class : it.0.cell.class ≡ q.cell.class = ap (λ (x : Cell). x.class) it.2 in
-      let low = it.1.output in
-      let few = it.1.class in
-      (omega arith, omega arith)
+  one_for c q is = grind (arith, common_steps, told_facts, found_holds)
 
   pub told_for : (names : List Named) (told : List Queued) → AreFound came next names told → AllByRecursion IsFor told
   told_for = all_right (IsTold came next) IsFor one_for

@@ -1,13 +1,14 @@
 -- The schedule of captures: its cells are those of its inputs, input after input, and at each input packet comes after
 -- packet, each from its first cell to its last. A packet has a cell at least, its cells come one a slot, and the next
 -- one begins when it has ended, or later.
-use Rattle.std.proofs.Common.{◌≡◌, ℕ, zero, suc, ◌+◌, ◌-◌, ◌<◌, List, ◌++◌, length, map, flat_map, refl, sym, ap, ◌∙◌, subst, inl, inr, arith}
+use Rattle.std.proofs.lemmas.Grind.{common_steps}
+use Rattle.std.proofs.Common.{◌≡◌, ℕ, zero, suc, ◌+◌, ◌-◌, ◌<◌, List, ◌++◌, length, map, flat_map, refl, inl, inr, arith, sym, subst}
 use Rattle.std.specs.Prelude.{filter}
 use Rattle.std.specs.List.{range_with_len}
 use Rattle.cq_base.specs.Arriving.{Arrival}
 use Rattle.cq_cells.specs.Schedule.{arrivals, arrivals_at, arrivals_of, cell_of, cells, packet_at, packets_of, start}
 use Rattle.cq_cells.specs.Scheduled.{Scheduled}
-use Rattle.cq_cells.specs.Traffic.{IsInRange, IsTraffic, is_from}
+use Rattle.cq_cells.specs.Traffic.{IsTraffic, is_from}
 use Rattle.cq_cells.proofs.Looked.{piece}
 use Rattle.cq_cells.proofs.Packets.{ends_before}
 use Rattle.cq_cells.proofs.Pieces.{cells_above}
@@ -40,11 +41,8 @@ module _ (t : Tables) (captures : List (List Captured)) (input : ℕ) where
   -- the cells of a packet behind one of them, and then those of later ones
   behind : (k i n : ℕ) (rest : List Arrival) → ComeBehind (cell_in k (i + n)) rest →
       ComeBehind (cell_in k i) (map (cell_in k) (range_with_len (i + 1) n) ++ rest)
-  behind k i zero rest last =
-      let same : i + 0 ≡ i = omega arith in subst (λ (j : ℕ). ComeBehind (cell_in k j) rest) same last
-  behind k i (suc n) rest last =
-      let same : i + suc n ≡ i + 1 + n = omega arith in
-      (goes_on k i, behind k (i + 1) n rest (subst (λ (j : ℕ). ComeBehind (cell_in k j) rest) same last))
+  behind k i zero rest last = grind (arith, common_steps)
+  behind k i (suc n) rest last = grind (arith, common_steps, goes_on, behind k (i + 1) n rest)
 
   packet_is : (k i : ℕ) → (cell_in k i).cell.id.packet ≡ k
   unfolding cell_of
@@ -61,10 +59,7 @@ module _ (t : Tables) (captures : List (List Captured)) (input : ℕ) where
   one_packet : (k n : ℕ) (rest : List Arrival) → cells t captures input k ≡ suc n →
       ((a : Arrival) → a.cell.id.packet < k + 1 → a.slot < start t captures input (k + 1) → ComeBehind a rest) →
       ComeBehind (cell_in k 0) (map (cell_in k) (range_with_len (0 + 1) n) ++ rest)
-  one_packet k n rest many later =
-      let own = packet_is k (0 + n) in
-      let ends = ends_before t captures input k (k + 1) (omega arith) in
-      behind k 0 n rest (later (cell_in k (0 + n)) (omega arith) (omega arith))
+  one_packet k n rest many later = grind (arith, common_steps, packet_is, ends_before, behind)
 
   come_behind : (k m : ℕ) (a : Arrival) → a.cell.id.packet < k → a.slot < start t captures input k →
       ComeBehind a (packets_from k m)
@@ -98,24 +93,10 @@ module _ (t : Tables) (captures : List (List Captured)) (tables : AreTables t)
   by_input : arrivals t captures
       ≡ flat_map (λ i. filter (is_from i) (arrivals t captures)) (range_with_len 0 (length captures))
   unfolding arrivals
-  by_input =
-      flat_same (arrivals_at t captures) (λ i. filter (is_from i) (arrivals t captures)) 0 (length captures)
-      (λ i least lt. sym (at_input t captures i (omega arith)))
+  by_input = grind (arith, common_steps, flat_same, at_input)
 
   pub packets_of_schedule : ArePackets (length captures) (arrivals t captures)
-  packets_of_schedule =
-      let traffic = traffic_is t captures tables ports in
-      record {
-        by_input = by_input;
-        lines = λ i inside. subst (λ (l : List Arrival). IsLine l) (sym (at_input t captures i inside))
-            (input_is_line t captures i);
-        inputs = all_weaker (IsInRange (ports_of t.setup) (classes_of t.setup))
-            (λ a. a.cell.id.input < length captures) (λ a is. let low = is.input in omega arith) (arrivals t captures)
-            traffic.in_range;
-        outputs = all_weaker (IsInRange (ports_of t.setup) (classes_of t.setup))
-            (λ a. a.cell.output < length captures) (λ a is. let low = is.output in omega arith) (arrivals t captures)
-            traffic.in_range;
-      }
+  packets_of_schedule = grind (arith, common_steps, traffic_is, by_input, at_input, input_is_line, all_weaker)
 
 -- what is known of the schedule of tables
 pub record IsKnown (t : Tables) (s : Scheduled) : Type 0 where
@@ -124,15 +105,4 @@ pub record IsKnown (t : Tables) (s : Scheduled) : Type 0 where
   pub packets : ArePackets s.ports s.came
 
 pub schedule_known : (t : Tables) (s : Scheduled) → AreTables t → IsScheduleOf t s → IsKnown t s
-schedule_known t s tables is =
-    let same = is.schedule in
-    let ports : s.ports ≡ length is.captures = ap (λ (x : Scheduled). x.ports) same in
-    let came : s.came ≡ arrivals t is.captures = ap (λ (x : Scheduled). x.came) same in
-    record {
-      ports = ports ∙ is.ports;
-      traffic = subst (λ (l : List Arrival). IsTraffic (ports_of t.setup) (classes_of t.setup) l) (sym came)
-          (traffic_is t is.captures tables is.ports);
-      packets = subst (λ (n : ℕ). ArePackets n s.came) (sym ports)
-          (subst (λ (l : List Arrival). ArePackets (length is.captures) l) (sym came)
-          (packets_of_schedule t is.captures tables is.ports));
-    }
+schedule_known t s tables is = grind (arith, common_steps, traffic_is, packets_of_schedule)

@@ -1,15 +1,15 @@
 -- The third clause, of found cells. The list of an input in the fabric that is told of are the found cells of that
 -- input, in their order, so as many stand ahead of a cell there as cells of its input stand ahead of it among all. And
 -- its cushion is counted among all buffered cells.
-use Rattle.std.proofs.Common.{◌≡◌, ℕ, zero, suc, ◌<◌, ◌≤◌, ◌↔◌, eqb, Bool, true, false, cond, List, [], ◌∷◌, length, map, take, Option, None, Some, refl, sym, ap, ◌∙◌, inl, inr, ⊎_elim, arith}
+use Rattle.std.proofs.lemmas.Grind.{common_steps}
+use Rattle.std.proofs.Common.{rules, ◌≡◌, ℕ, zero, suc, ◌<◌, ◌≤◌, ◌↔◌, eqb, Bool, true, false, cond, List, [], ◌∷◌, length, take, Option, Some, refl, sym, ap, ◌∙◌, inl, inr, ⊎_elim, arith}
 use Rattle.std.specs.Prelude.{◌&&◌, filter, filter_map, slice_get}
-use Rattle.std.specs.List.{AllByRecursion, cons_option, range_with_len}
+use Rattle.std.specs.List.{AllByRecursion, cons_option}
 use Rattle.std.proofs.lemmas.Bool.{cases_Bool, cases_lt, eq-eqb, eqb-true}
 use Rattle.std.proofs.lemmas.List.{get_or_past, map-id}
 use Rattle.std.proofs.lemmas.List.FromFn.{get_or-map-range_with_len, length-map-range_with_len}
 use Rattle.cq_base.specs.Arriving.{Arrival}
 use Rattle.cq_base.specs.Cells.{is_for}
-use Rattle.cq_base.specs.Key.{is_before}
 use Rattle.cq_base.specs.declared.cell.Queued.{Queued}
 use Rattle.cq_laws.specs.Fabric.{buffer, cushion_of, input}
 use Rattle.cq_resume.specs.Finding.{AreFound, IsTold, SlackStands, cushion_in, thread_in}
@@ -78,23 +78,8 @@ module _ (i : ℕ) where
   at_place : (xs : List Queued) (place : ℕ) (c : Queued) → slice_get xs place ≡ Some c → c.key.input ≡ i →
       slice_get (filter of_input xs) (length (filter of_input (take place xs))) ≡ Some c
   at_place [] place c is own = absurd (let P : ⊥ = cc in P)
-  at_place (x ∷ xs) zero c is own =
-      let same : x ≡ c = cc in
-      let mine : of_input x ≡ true = eq-eqb x.key.input i (ap (λ (q : Queued). q.key.input) same ∙ own) in
-      ap (λ (l : List Queued). slice_get l zero) (kept x xs mine) ∙ is
-  at_place (x ∷ xs) (suc place) c is own =
-      ⊎_elim
-      (λ mine.
-      ap (λ (l : List Queued). slice_get l (length (filter of_input (take (suc place) (x ∷ xs))))) (kept x xs mine)
-      ∙ ap (λ (k : ℕ). slice_get (x ∷ filter of_input xs) k)
-      (ap (λ (l : List Queued). length l) (kept x (take place xs) mine))
-      ∙ at_place xs place c is own)
-      (λ other.
-      ap (λ (l : List Queued). slice_get l (length (filter of_input (take (suc place) (x ∷ xs))))) (left x xs other)
-      ∙ ap (λ (k : ℕ). slice_get (filter of_input xs) k)
-      (ap (λ (l : List Queued). length l) (left x (take place xs) other))
-      ∙ at_place xs place c is own)
-      (cases_Bool (of_input x))
+  at_place (x ∷ xs) zero c is own = grind (arith, common_steps, eq-eqb, kept)
+  at_place (x ∷ xs) (suc place) c is own = search (rules, kept, left, cases_Bool, at_place xs place c is own)
 
 -- two tests one after the other are one
 module _ {X : Type 0} (p q : X → Bool) where
@@ -149,9 +134,7 @@ module _ (came : List Arrival) (next : ℕ) where
   all_found : (names : List Named) (found : List Queued) → AreFound came next names found →
       filter_map (queued_of came) names ≡ found
   all_found names found zips =
-      same_mapped (IsTold came next) (queued_of came) (λ (q : Queued). q)
-      (λ c q is. told_is came next c q is) names found zips
-      ∙ map-id found
+      search (arith, rules, same_mapped (IsTold came next) (queued_of came), map-id found)
 
 module _ (w : Switch) (s : State) (listing buffering : List Queued)
     (first : AreFound w.came s.head.next s.listed listing)
@@ -160,31 +143,23 @@ module _ (w : Switch) (s : State) (listing buffering : List Queued)
   list_is i = found_of_input w.came s.head.next i s.listed listing first
 
   pub buffer_is : (j : ℕ) → buffer_told w.came s j ≡ filter (is_for j) buffering
-  buffer_is j =
-      ap (λ (l : List Queued). filter (is_for j) l) (all_found w.came s.head.next s.buffered buffering second)
+  buffer_is j = grind (arith, common_steps, all_found)
 
   pub input_is : (i : ℕ) → i < s.head.ports → input (fabric_told w.came s) i ≡ filter (of_input i) listing
   unfolding fabric_told
-  input_is i inside =
-      get_or-map-range_with_len (list_told w.came s) 0 s.head.ports i i [] inside (omega arith) ∙ list_is i
+  input_is i inside = grind (arith, common_steps, get_or-map-range_with_len, list_is)
 
   no_input : (i : ℕ) → s.head.ports ≤ i → input (fabric_told w.came s) i ≡ []
   unfolding fabric_told
-  no_input i past =
-      let long = length-map-range_with_len (list_told w.came s) 0 s.head.ports in
-      get_or_past (map (list_told w.came s) (range_with_len 0 s.head.ports)) i [] (omega arith)
+  no_input i past = grind (arith, common_steps, length-map-range_with_len, get_or_past)
 
   pub buffer_there : (j : ℕ) → j < s.head.ports → buffer (fabric_told w.came s) j ≡ filter (is_for j) buffering
   unfolding fabric_told
-  buffer_there j inside =
-      get_or-map-range_with_len (buffer_told w.came s) 0 s.head.ports j j [] inside (omega arith) ∙ buffer_is j
+  buffer_there j inside = grind (arith, common_steps, get_or-map-range_with_len, buffer_is)
 
   cushion_is : (c : Queued) → c.cell.output < s.head.ports →
       cushion_of (fabric_told w.came s) c ≡ length (cushion_in buffering c)
-  cushion_is c inside =
-      ap (λ (l : List Queued). length (filter (λ x. is_before x.key c.key) l)) (buffer_there c.cell.output inside)
-      ∙ ap (λ (l : List Queued). length l) (filter_both (λ (x : Queued). is_before x.key c.key) (is_for c.cell.output)
-      buffering)
+  cushion_is c inside = grind (arith, common_steps, buffer_there, filter_both)
 
   module _ (inputs : AllByRecursion (λ q. q.key.input < s.head.ports) listing)
       (outputs : AllByRecursion (λ q. q.cell.output < s.head.ports) listing) where
@@ -202,22 +177,13 @@ module _ (w : Switch) (s : State) (listing buffering : List Queued)
         omega arith
 
     slack_clause : SlackStands listing buffering → HaveSlack w s
-    slack_clause stands i thread c is =
-        ⊎_elim
-        (λ inside.
-        let it = at_thread i listing thread c (sym (ap (λ (l : List Queued). slice_get l thread) (input_is i inside))
-        ∙ is) in
+    slack_clause stands i thread c is = ⊎_elim (λ inside.
+        let it = at_thread i listing thread c
+        (sym (ap (λ (l : List Queued). slice_get l thread) (input_is i inside)) ∙ is) in
         let has = has_there listing it.place c it.stands in
         let to = all_of_has (λ (q : Queued). q.cell.output < s.head.ports) listing c outputs has in
-        let more = stands it.place c it.stands in
-        let size : length (thread_in listing it.place c.key.input) ≡ thread =
-        ap (λ (k : ℕ). length (thread_in listing it.place k)) it.own ∙ it.ahead in
-        let cushion = cushion_is c to in
-        omega arith)
-        (λ past.
-        let none : None ≡ Some c = sym (ap (λ (l : List Queued). slice_get l thread) (no_input i past)) ∙ is in
-        absurd (let P : ⊥ = cc in P))
-        (cases_lt i s.head.ports)
+        let more = stands it.place c it.stands in search (arith, rules, cushion_is))
+        (λ past. search (arith, rules, no_input)) (cases_lt i s.head.ports)
 
     pub slack_alike : HaveSlack w s ↔ SlackStands listing buffering
     slack_alike = (slack_found, slack_clause)

@@ -1,6 +1,7 @@
 -- Judging, step by step. A clause is known by what a test of the found cells decides. Where a step fails it names the
 -- first clause that fails, since those before it are known; and a state is sound of which all are known.
-use Rattle.std.proofs.Common.{◌≡◌, ◌↔◌, ℕ, ◌+◌, ◌<◌, ◌∙◌, Bool, true, false, inl, inr, sym, subst, arith}
+use Rattle.std.proofs.lemmas.Grind.{common_steps}
+use Rattle.std.proofs.Common.{rules, ◌≡◌, ◌↔◌, ℕ, ◌+◌, ◌<◌, Bool, true, false, inl, inr, arith}
 use borrow.Author.Count.{below_more, below_none}
 use Rattle.cq_cells.specs.Scheduled.{Scheduled}
 use Rattle.cq_resume.specs.Finding.{FlowsStand, PacketsStand}
@@ -16,9 +17,7 @@ use Rattle.cq_state.specs.declared.state.State.{State}
 
 -- what is tested and fails does not hold
 pub denied : {P : Type 0} {b : Bool} → (b ≡ true) ↔ P → b ≡ false → P → ⊥
-denied test fails holds =
-    let clash : true ≡ false = sym (test.1 holds) ∙ fails in
-    let Q : ⊥ = cc in Q
+denied test fails holds = grind (arith, common_steps)
 
 -- ## One clause after another
 
@@ -39,11 +38,8 @@ module _ (w : Switch) (s : State) where
     two_more both = one_more (n + 1) (one_more n before (first.1 both.0)) (second.1 both.1)
 
     pub two_refused : (r : StateRefusal) → IsFirstOfTwo n P Q r → IsFirstOf w s r
-    two_refused (refusal.Unsound clause) (inl (is, fails)) =
-        subst (IsFirstUnsound w s) (sym is) (first_fails n before (λ holds. fails (first.0 holds)))
-    two_refused (refusal.Unsound clause) (inr (is, had, fails)) =
-        subst (IsFirstUnsound w s) (sym is)
-        (first_fails (n + 1) (one_more n before (first.1 had)) (λ holds. fails (second.0 holds)))
+    two_refused (refusal.Unsound clause) (inl (is, fails)) = grind (arith, common_steps, first_fails)
+    two_refused (refusal.Unsound clause) (inr (is, had, fails)) = grind (arith, common_steps, first_fails, one_more)
     two_refused refusal.NoMemory why = tt
     two_refused (refusal.Text line) why = absurd why
     two_refused refusal.Shape why = absurd why
@@ -52,8 +48,7 @@ module _ (w : Switch) (s : State) where
 
 module _ (t : Tables) (c : Scheduled) (s : State) (f : Found) (k : Known t c s f) where
   arrivals_known : Before (switch_of t c) s 2
-  arrivals_known =
-      one_more (switch_of t c) s 1 (one_more (switch_of t c) s 0 (below_none (Clause (switch_of t c) s)) tt) k.arrivals
+  arrivals_known = grind (arith, common_steps, one_more, below_none)
 
   pub stand_refused : (r : StateRefusal) → IsFirstOfTwo 2 (AreOrdered f s.head.next s.moved) (HaveRoom f) r →
       IsFirstOf (switch_of t c) s r
@@ -65,8 +60,7 @@ module _ (t : Tables) (c : Scheduled) (s : State) (f : Found) (k : Known t c s f
 
     pub packets_refused : (PacketsStand t.limits s.head.next c.came f.names.items → ⊥) →
         IsFirstUnsound (switch_of t c) s 4
-    packets_refused fails =
-        first_fails (switch_of t c) s 4 order_known (λ whole. fails ((packets_is t c s f k).0 whole))
+    packets_refused fails = grind (arith, common_steps, first_fails, order_known, packets_is)
 
     module _ (packets : PacketsStand t.limits s.head.next c.came f.names.items) where
       packets_known : Before (switch_of t c) s 5
@@ -74,8 +68,7 @@ module _ (t : Tables) (c : Scheduled) (s : State) (f : Found) (k : Known t c s f
 
       pub leave_refused : (r : StateRefusal) →
           IsFirstOfTwo 5 (FlowsStand f.names.items) (StandBelow t.setup s.ranks f) r → IsFirstOf (switch_of t c) s r
-      leave_refused =
-          two_refused (switch_of t c) s 5 packets_known _ _ (flows_is t c s f k stand.0.2) (floors_is t c s f k)
+      leave_refused = search (rules, two_refused, packets_known, flows_is, floors_is)
 
       pub is_sound : FlowsStand f.names.items × StandBelow t.setup s.ranks f → IsSound (switch_of t c) s
       is_sound leave =

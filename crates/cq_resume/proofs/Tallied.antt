@@ -1,17 +1,17 @@
 -- The fourth clause, of the names that were found, input by input. At each input the cells that arrive before the next
 -- slot are those of packets one after another, so that each packet is named whole, or not at all, says it of any two of
 -- them; and the packet that began last is that of the last cell.
-use Rattle.std.proofs.Common.{◌≡◌, ℕ, ◌<◌, ◌≤◌, eqb, leb, ltb, Bool, true, false, cond, List, [], ◌∷◌, fold, Option, None, Some, refl, sym, ap, ◌∙◌, subst, inl, inr, ⊎_elim, arith}
-use Rattle.std.specs.Prelude.{◌&&◌, ◌==◌, filter, is_some, nat_lt, not, slice_index_or}
+use Rattle.std.proofs.lemmas.Grind.{common_steps}
+use Rattle.std.proofs.Common.{rules, ◌≡◌, ℕ, ◌<◌, ◌≤◌, eqb, leb, ltb, Bool, true, false, cond, List, [], ◌∷◌, fold, Option, Some, refl, sym, ap, ◌∙◌, subst, inl, inr, ⊎_elim, arith}
+use Rattle.std.specs.Prelude.{◌&&◌, ◌==◌, filter, nat_lt, not}
 use Rattle.std.specs.List.{list_any}
-use Rattle.std.proofs.lemmas.Bool.{and_from, and_parts, and_right, cases_Bool, cases_lt, eq-eqb, eqb-true, le-leb, le-ltb, lt-ltb, ltb-true, ne_eqb, or_from, or_left, or_right}
+use Rattle.std.proofs.lemmas.Bool.{and_from, and_parts, and_right, cases_Bool, cases_lt, eq-eqb, eqb-true, le-leb, le-ltb, lt-ltb, ltb-true, or_from, or_left, or_right}
 use Rattle.std.proofs.lemmas.List.Elements.{filter_agree}
 use Rattle.cq_base.specs.Arriving.{Arrival}
 use Rattle.cq_cells.specs.Traffic.{is_from}
 use Rattle.cq_resume.specs.Counted.{latest}
 use Rattle.cq_resume.specs.Finding.{ArePackets, ComeBehind, IsLine, IsWholePacket, PacketsStand, coming, firsts_before, has_limit, has_name, is_left_out, mark_on}
-use Rattle.cq_resume.specs.Switch.{HasLimit}
-use Rattle.cq_resume.specs.Told.{is_of_packet, packet_before}
+use Rattle.cq_resume.specs.Told.{packet_before}
 use Rattle.cq_resume.specs.declared.found.Name.{Name}
 use Rattle.cq_resume.proofs.Coming.{is_between}
 use Rattle.cq_resume.proofs.Having.{Has, all_from_has, all_of_has, has_kept, kept_has, pair_of_has, pairs_from_has}
@@ -26,32 +26,20 @@ module _ (next : ℕ) where
 
   passes : (b : Arrival) (line : List Arrival) → is_early b ≡ true →
       filter (is_between 0 next) (b ∷ line) ≡ b ∷ filter (is_between 0 next) line
-  passes b line is =
-      ap (λ (t : Bool). cond t (b ∷ filter (is_between 0 next) line) (filter (is_between 0 next) line)) is
+  passes b line is = grind (arith, common_steps, is_between)
 
   drops : (b : Arrival) (line : List Arrival) → is_early b ≡ false →
       filter (is_between 0 next) (b ∷ line) ≡ filter (is_between 0 next) line
-  drops b line is =
-      ap (λ (t : Bool). cond t (b ∷ filter (is_between 0 next) line) (filter (is_between 0 next) line)) is
+  drops b line is = grind (arith, common_steps, is_between)
 
   is_late : (b : Arrival) → is_early b ≡ false → next ≤ b.slot
-  is_late b is =
-      ⊎_elim
-      (λ lt.
-      let early : is_early b ≡ true =
-      and_from (leb 0 b.slot) (ltb b.slot next) (le-leb 0 b.slot (omega arith)) (lt-ltb b.slot next lt) in
-      let clash : true ≡ false = sym early ∙ is in
-      absurd (let P : ⊥ = cc in P))
-      (λ ge. ge) (cases_lt b.slot next)
+  is_late b is = grind (arith, common_steps, and_from, le-leb, lt-ltb, cases_lt)
 
   -- behind a late one all are late
   none_behind : (b : Arrival) (line : List Arrival) → next ≤ b.slot → ComeBehind b line →
       filter (is_between 0 next) line ≡ []
   none_behind b [] late behind = refl
-  none_behind b (c ∷ line) late behind =
-      let goes = behind.0.0 in
-      drops c line (and_right (leb 0 c.slot) (ltb c.slot next) (le-ltb c.slot next (omega arith)))
-      ∙ none_behind c line (omega arith) behind.1
+  none_behind b (c ∷ line) late behind = grind (arith, common_steps, drops, and_right, le-ltb, none_behind c line)
 
   early_behind : (a : Arrival) (line : List Arrival) → ComeBehind a line →
       ComeBehind a (filter (is_between 0 next) line)
@@ -109,11 +97,7 @@ first_behind all (c ∷ line) a b behind among known has =
 
 first_of : (line : List Arrival) (b : Arrival) → IsLine line → Has line b → IsFirstOf line b
 first_of [] b is has = absurd has
-first_of (a ∷ line) b is has =
-    let here : IsFirstOf (a ∷ line) a =
-    record { first = a; there = inl refl; begins = is.0; packet = refl; output = refl } in
-    ⊎_elim (λ same. subst (λ (x : Arrival). IsFirstOf (a ∷ line) x) same here)
-    (λ rest. first_behind (a ∷ line) line a b is.1 (λ c more. inr more) here rest) has
+first_of (a ∷ line) b is has = grind (arith, common_steps, first_behind)
 
 -- ## Whole packets
 
@@ -125,54 +109,19 @@ module _ (limits : List (Option ℕ)) (ports next : ℕ) (came : List Arrival) (
   -- what is among them
   in_line : (i : ℕ) (b : Arrival) → Has (coming i 0 next came) b →
       Has came b × (b.cell.id.input ≡ i) × (b.slot < next)
-  in_line i b has =
-      let early = kept_has (is_between 0 next) (filter (is_from i) came) b has in
-      let own = kept_has (is_from i) came b early.0 in (
-        own.0,
-        eqb-true b.cell.id.input i own.1,
-        ltb-true b.slot next (and_parts (leb 0 b.slot) (ltb b.slot next) early.1).1,
-      )
+  in_line i b has = grind (arith, common_steps, kept_has, is_between, eqb-true, ltb-true, and_parts)
 
   to_line : (b : Arrival) → Has came b → b.slot < next → Has (coming b.cell.id.input 0 next came) b
-  to_line b has early =
-      has_kept (is_between 0 next) (filter (is_from b.cell.id.input) came) b
-      (has_kept (is_from b.cell.id.input) came b has (eq-eqb b.cell.id.input b.cell.id.input refl))
-      (and_from (leb 0 b.slot) (ltb b.slot next) (le-leb 0 b.slot (omega arith)) (lt-ltb b.slot next early))
+  to_line b has early = grind (arith, common_steps, has_kept, is_between, eq-eqb, and_from, le-leb, lt-ltb)
 
   -- and what is of a packet
   in_packet : (a b : Arrival) → Has (packet_before came next a) b →
       Has came b × (b.cell.id.input ≡ a.cell.id.input) × (b.cell.id.packet ≡ a.cell.id.packet) × (b.slot < next)
-  in_packet a b has =
-      let own = kept_has (λ (x : Arrival). is_of_packet a x && ltb x.slot next) came b has in
-      let parts = and_parts (is_of_packet a b) (ltb b.slot next) own.1 in
-      let both = and_parts (eqb b.cell.id.input a.cell.id.input) (eqb b.cell.id.packet a.cell.id.packet) parts.0 in (
-        own.0,
-        eqb-true b.cell.id.input a.cell.id.input both.0,
-        eqb-true b.cell.id.packet a.cell.id.packet both.1,
-        ltb-true b.slot next parts.1,
-      )
+  in_packet a b has = grind (arith, common_steps, kept_has, and_parts, eqb-true, ltb-true)
 
   to_packet : (a b : Arrival) → Has came b → b.cell.id.input ≡ a.cell.id.input →
       b.cell.id.packet ≡ a.cell.id.packet → b.slot < next → Has (packet_before came next a) b
-  to_packet a b has input packet early =
-      has_kept (λ (x : Arrival). is_of_packet a x && ltb x.slot next) came b has
-      (and_from (is_of_packet a b) (ltb b.slot next)
-      (and_from (eqb b.cell.id.input a.cell.id.input) (eqb b.cell.id.packet a.cell.id.packet)
-      (eq-eqb b.cell.id.input a.cell.id.input input) (eq-eqb b.cell.id.packet a.cell.id.packet packet))
-      (lt-ltb b.slot next early))
-
-  limit_there : (j : ℕ) → has_limit limits j ≡ true → HasLimit limits j
-  limit_there j is = by (slice_index_or limits j None) refl is
-    where
-      by : (o : Option ℕ) → slice_index_or limits j None ≡ o → is_some (slice_index_or limits j None) ≡ true →
-          HasLimit limits j
-      by None none some =
-          let clash : false ≡ true = sym (ap (λ (x : Option ℕ). is_some x) none) ∙ some in
-          absurd (let P : ⊥ = cc in P)
-      by (Some limit) at some = (limit, at)
-
-  limit_is : (j : ℕ) → HasLimit limits j → has_limit limits j ≡ true
-  limit_is j has = ap (λ (x : Option ℕ). is_some x) has.1
+  to_packet a b has input packet early = grind (arith, common_steps, has_kept, and_from, eq-eqb, lt-ltb)
 
   abbrev pub LineStands : ℕ → Type 0
   LineStands i = Stand (has_name names) (has_limit limits) (coming i 0 next came)
@@ -180,53 +129,27 @@ module _ (limits : List (Option ℕ)) (ports next : ℕ) (came : List Arrival) (
   -- two cells of one packet are named alike
   alike_there : (i : ℕ) → LineStands i → (a b : Arrival) → Has (coming i 0 next came) a →
       Has (coming i 0 next came) b → a.cell.id.packet ≡ b.cell.id.packet → has_name names b ≡ has_name names a
-  alike_there i stand a b first second packet =
-      ⊎_elim
-      (λ ways. ⊎_elim (λ on. on packet) (λ back. sym (back (sym packet))) ways)
-      (λ same. ap (has_name names) (sym same))
-      (pair_of_has (AlikeIn (has_name names) (has_limit limits)) (coming i 0 next came) a b stand.alike first second)
+  alike_there i stand a b first second packet = grind (arith, common_steps, pair_of_has, AlikeIn)
 
   -- where all inputs stand so do all packets
   pub packets_stand : ((i : ℕ) → i < ports → LineStands i) → PacketsStand limits next came names
   packets_stand stand =
       all_from_has (λ (a : Arrival). a.cell.id.index ≡ 0 → a.slot < next → IsWholePacket limits next came names a) came
       (λ a has begins early.
-      let i = a.cell.id.input in
-      let low = all_of_has (λ (x : Arrival). x.cell.id.input < ports) came a are.inputs has in
-      let here = stand i low in
-      let own = to_line a has early in
-      let same : (b : Arrival) → Has (packet_before came next a) b → has_name names b ≡ has_name names a =
-      λ b among.
-      let its = in_packet a b among in
-      let there : Has (coming i 0 next came) b =
-      subst (λ (k : ℕ). Has (coming k 0 next came) b) its.1 (to_line b its.0 its.3) in
-      alike_there i here a b own there (sym its.2) in
-      ⊎_elim
-      (λ mine. inl (all_from_has (λ (b : Arrival). has_name names b ≡ true) (packet_before came next a)
-      (λ b among. same b among ∙ mine)))
-      (λ none. inr (
-        all_from_has (λ (b : Arrival). has_name names b ≡ false) (packet_before came next a)
-            (λ b among. same b among ∙ none),
-        limit_there a.cell.output
-            (all_of_has (IsAllowed (has_name names) (has_limit limits)) (coming i 0 next came) a here.allowed own none),
-      ))
-      (cases_Bool (has_name names a)))
+      let in_packet-here = in_packet a in
+      let alike_there-here = alike_there a.cell.id.input in
+      let cases_Bool-here = cases_Bool (has_name names a) in
+      search (arith, rules, all_of_has, to_line, all_from_has))
 
   -- and the other way
   whole_of : PacketsStand limits next came names → (i : ℕ) → i < ports → (b : Arrival) →
       Has (coming i 0 next came) b → (f : IsFirstOf (coming i 0 next came) b) →
       IsWholePacket limits next came names f.first
-  whole_of stand i inside b has f =
-      let its = in_line i f.first f.there in
-      all_of_has (λ (a : Arrival). a.cell.id.index ≡ 0 → a.slot < next → IsWholePacket limits next came names a) came
-      f.first stand its.0 f.begins its.2
+  whole_of stand i inside b has f = grind (arith, common_steps, in_line, all_of_has)
 
   among_first : (i : ℕ) (b : Arrival) → Has (coming i 0 next came) b → (f : IsFirstOf (coming i 0 next came) b) →
       Has (packet_before came next f.first) b
-  among_first i b has f =
-      let its = in_line i b has in
-      let own = in_line i f.first f.there in
-      to_packet f.first b its.0 (its.1 ∙ sym own.1) (sym f.packet) its.2
+  among_first i b has f = grind (arith, common_steps, in_line, to_packet)
 
   pub lines_stand : PacketsStand limits next came names → (i : ℕ) → i < ports → LineStands i
   lines_stand stand i inside =
@@ -234,32 +157,16 @@ module _ (limits : List (Option ℕ)) (ports next : ℕ) (came : List Arrival) (
         alike = pairs_from_has (AlikeIn (has_name names) (has_limit limits)) (coming i 0 next came)
             (λ a b first second packet.
             let f = first_of (coming i 0 next came) a (whole i inside) first in
-            let own = among_first i a first f in
-            let its = in_line i b second in
-            let lead = in_line i f.first f.there in
-            let there : Has (packet_before came next f.first) b =
-            to_packet f.first b its.0 (its.1 ∙ sym lead.1) (sym packet ∙ sym f.packet) its.2 in
-            ⊎_elim
-            (λ all.
-            all_of_has (λ (x : Arrival). has_name names x ≡ true) (packet_before came next f.first) b all there
-            ∙ sym (all_of_has (λ (x : Arrival). has_name names x ≡ true) (packet_before came next f.first) a all own))
-            (λ none.
-            all_of_has (λ (x : Arrival). has_name names x ≡ false) (packet_before came next f.first) b none.0 there
-            ∙ sym (all_of_has (λ (x : Arrival). has_name names x ≡ false) (packet_before came next f.first) a none.0
-            own))
-            (whole_of stand i inside a first f));
+            let among_first-here = among_first i a first f in
+            let in_line-here = in_line i b second in
+            let in_line-here-too = in_line i f.first f.there in
+            let to_packet-here = to_packet f.first b (in_line i b second).0 in
+            search (arith, rules, all_of_has));
         allowed = all_from_has (IsAllowed (has_name names) (has_limit limits)) (coming i 0 next came)
             (λ b has left.
             let f = first_of (coming i 0 next came) b (whole i inside) has in
             let own = among_first i b has f in
-            ⊎_elim
-            (λ all.
-            let mine = all_of_has (λ (x : Arrival). has_name names x ≡ true) (packet_before came next f.first) b all
-            own in
-            let clash : true ≡ false = sym mine ∙ left in
-            absurd (let P : ⊥ = cc in P))
-            (λ none. ap (has_limit limits) (sym f.output) ∙ limit_is f.first.cell.output none.1)
-            (whole_of stand i inside b has f));
+            search (arith, rules, all_of_has, whole_of stand i inside b has f));
       }
 
   -- ## Marks
@@ -282,32 +189,7 @@ module _ (limits : List (Option ℕ)) (ports next : ℕ) (came : List Arrival) (
   unfolding last_of
   last_first all a [] f behind among there packet le = record { there = there; packet = packet }
   last_first all a (b ∷ rest) f behind among there packet le =
-      let goes = behind.0.0 in
-      ⊎_elim
-      (λ on.
-      let next = on.1 in
-      let not_first : is_first b ≡ false = ne_eqb b.cell.id.index 0 (λ e. let P : ⊥ = omega arith in P) in
-      let same : fold later_one f (filter is_first (b ∷ rest)) ≡ fold later_one f (filter is_first rest) =
-      ap (λ (t : Bool). fold later_one f (cond t (b ∷ filter is_first rest) (filter is_first rest))) not_first in
-      let inner =
-      last_first all b rest f behind.1 (λ c has. among c (inr has)) there (packet ∙ sym on.0) (omega arith) in
-      record {
-        there = subst (λ (x : Arrival). Has all x) (sym same) inner.there;
-        packet = ap (λ (x : Arrival). x.cell.id.packet) same ∙ inner.packet;
-      })
-      (λ begins.
-      let first : is_first b ≡ true = eq-eqb b.cell.id.index 0 begins.1 in
-      let later : later_one f b ≡ b = ap (λ (t : Bool). cond t b f) (lt-ltb f.slot b.slot (omega arith)) in
-      let same : fold later_one f (filter is_first (b ∷ rest)) ≡ fold later_one b (filter is_first rest) =
-      ap (λ (t : Bool). fold later_one f (cond t (b ∷ filter is_first rest) (filter is_first rest))) first
-      ∙ ap (λ (x : Arrival). fold later_one x (filter is_first rest)) later in
-      let inner =
-      last_first all b rest b behind.1 (λ c has. among c (inr has)) (among b (inl refl)) refl (omega arith) in
-      record {
-        there = subst (λ (x : Arrival). Has all x) (sym same) inner.there;
-        packet = ap (λ (x : Arrival). x.cell.id.packet) same ∙ inner.packet;
-      })
-      behind.0.1
+      grind (arith, common_steps, last_first all b rest f behind.1, last_first all b rest b behind.1)
 
   last_has : (a : Arrival) (rest : List Arrival) → Has (a ∷ rest) (last_of (has_name names) (has_limit limits) a rest)
   unfolding last_of

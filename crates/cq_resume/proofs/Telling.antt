@@ -1,6 +1,7 @@
 -- What it says that a name was looked up: its cell arrives in its slot at its input, before the next slot, and has the
 -- name's key. So names and found cells belong together, place by place.
-use Rattle.std.proofs.Common.{◌≡◌, ℕ, ◌<◌, ltb, Bool, cond, List, [], ◌∷◌, ◌++◌, map, Option, None, Some, refl, sym, ap, ◌∙◌, subst, ⊎_elim}
+use Rattle.std.proofs.lemmas.Grind.{common_steps}
+use Rattle.std.proofs.Common.{arith, ◌≡◌, ℕ, ◌<◌, List, [], ◌∷◌, ◌++◌, map, Option, None, Some, sym, ap}
 use Rattle.std.specs.Prelude.{IsSome, option_map}
 use Rattle.std.specs.List.{AllZip}
 use Rattle.std.proofs.lemmas.Bool.{cases_Bool, lt-ltb, ltb-true}
@@ -8,12 +9,11 @@ use Rattle.cq_base.specs.Arriving.{Arrival}
 use Rattle.cq_base.specs.declared.cell.Cell.{Cell}
 use Rattle.cq_base.specs.declared.cell.Queued.{Queued}
 use Rattle.cq_base.specs.declared.key.Key.{Key}
-use Rattle.cq_resume.specs.Finding.{AreGone, AreFound, IsGone, IsTold, names_of, sent_name, told_of, waiting_name}
+use Rattle.cq_resume.specs.Finding.{AreGone, AreFound, IsTold, names_of, told_of}
 use Rattle.cq_resume.specs.Told.{arriving_cell, class_in, class_of, key_of, named_in, output_in, output_of, queued_of}
 use Rattle.cq_resume.specs.declared.found.Gone.{Gone}
 use Rattle.cq_resume.specs.declared.found.Name.{Name}
 use Rattle.cq_state.specs.declared.state.Named.{Named}
-use Rattle.cq_state.specs.declared.state.Sent.{Sent}
 use Rattle.cq_state.specs.declared.state.State.{State}
 
 -- ## One name
@@ -29,31 +29,14 @@ module _ (came : List Arrival) (next : ℕ) (c : Named) where
 
   keyed : (o : Option Cell) (q : Queued) → option_map with_key o ≡ Some q → (o ≡ Some q.cell) × (q.key ≡ key_of c)
   keyed None q is = absurd (let P : ⊥ = cc in P)
-  keyed (Some cell) q is =
-      let same : with_key cell ≡ q = cc in
-      (ap (λ (x : Queued). Some x.cell) same, sym (ap (λ (x : Queued). x.key) same))
+  keyed (Some cell) q is = grind (arith, common_steps)
 
   pub told_facts : (q : Queued) → IsTold came next c q → Facts came next c q
-  told_facts q is =
-      ⊎_elim
-      (λ holds.
-      let own : queued_of came c ≡ Some q = sym (ap (λ (b : Bool). cond b (queued_of came c) None) holds) ∙ is in
-      let parts = keyed (arriving_cell came c) q own in
-      record { early = ltb-true c.slot next holds; arrives = parts.0; key = parts.1 })
-      (λ fails.
-      let clash : None ≡ Some q = sym (ap (λ (b : Bool). cond b (queued_of came c) None) fails) ∙ is in
-      absurd (let P : ⊥ = cc in P))
-      (cases_Bool (ltb c.slot next))
+  told_facts q is = grind (arith, common_steps, keyed, ltb-true, cases_Bool)
 
   -- it is what is looked up
   pub told_is : (q : Queued) → IsTold came next c q → queued_of came c ≡ Some q
-  told_is q is =
-      ⊎_elim
-      (λ early. sym (ap (λ (b : Bool). cond b (queued_of came c) None) early) ∙ is)
-      (λ late.
-      let clash : None ≡ Some q = sym (ap (λ (b : Bool). cond b (queued_of came c) None) late) ∙ is in
-      absurd (let P : ⊥ = cc in P))
-      (cases_Bool (ltb c.slot next))
+  told_is q is = grind (arith, common_steps, cases_Bool)
 
   -- a name of which a cell arrives before the next slot has its cell
   arriving_told : (o : Option Cell) → IsSome o → option_map with_key o ≡ None → ⊥
@@ -61,9 +44,7 @@ module _ (came : List Arrival) (next : ℕ) (c : Named) where
   arriving_told (Some cell) some none = let P : ⊥ = cc in P
 
   pub can_be_told : c.slot < next → IsSome (arriving_cell came c) → told_of came next c ≡ None → ⊥
-  can_be_told early some none =
-      arriving_told (arriving_cell came c) some
-      (sym (ap (λ (b : Bool). cond b (queued_of came c) None) (lt-ltb c.slot next early)) ∙ none)
+  can_be_told early some none = grind (arith, common_steps, arriving_told, lt-ltb)
 
   module _ (q : Queued) (facts : Facts came next c q) where
     pub its_output : output_of came c ≡ q.cell.output
@@ -83,12 +64,6 @@ module _ (came : List Arrival) (next : ℕ) (c : Named) where
 
     pub its_rank : c.rank ≡ q.key.rank
     its_rank = sym (ap (λ (k : Key). k.rank) facts.key)
-
-    its_some : (o : Option Cell) → o ≡ Some q.cell → IsSome o
-    its_some o is = subst (λ (x : Option Cell). IsSome x) (sym is) refl
-
-    pub it_arrives : IsSome (arriving_cell came c)
-    it_arrives = its_some (arriving_cell came c) facts.arrives
 
 -- ## All names
 
@@ -125,12 +100,4 @@ pub names_zip : (came : List Arrival) (s : State) (listed buffered : List Queued
     AreGone came s.head.next s.sent sent →
     AllZip (IsOf came s.head.next) (named_in s) (names_of listed buffered sent)
 names_zip came s listed buffered sent first second third =
-    let next = s.head.next in
-    let waits = zip_right (IsTold came next) (IsOf came next) waiting_name
-    (λ c q is. record { facts = told_facts came next c q is }) in
-    zip_both (IsOf came next) (s.listed ++ s.buffered) (map waiting_name listed ++ map waiting_name buffered)
-    (map (λ (d : Sent). d.cell) s.sent) (map sent_name sent)
-    (zip_both (IsOf came next) s.listed (map waiting_name listed) s.buffered (map waiting_name buffered)
-    (waits s.listed listed first) (waits s.buffered buffered second))
-    (zip_images (IsGone came next) (IsOf came next) (λ (d : Sent). d.cell) sent_name
-    (λ d g is. record { facts = told_facts came next d.cell g.queued is.1 }) s.sent sent third)
+    grind (arith, common_steps, zip_right, told_facts, zip_both, s.listed, zip_images)

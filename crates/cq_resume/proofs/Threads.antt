@@ -1,9 +1,10 @@
 -- How many cells stand ahead of each in its input's list, counted on from one cell to the next. Where an input begins,
 -- none stands ahead, since the cells before it are of earlier inputs.
-use Rattle.std.proofs.Common.{◌≡◌, ℕ, ◌+◌, ◌-◌, ◌<◌, ◌≤◌, ◌⊎◌, ◌↔◌, eqb, Bool, true, false, cond, not, List, [], ◌∷◌, ◌++◌, length, map, get_or, take, Some, refl, sym, ap, ◌∙◌, subst, inl, inr, ⊎_elim, length-append, length-take, arith}
-use Rattle.std.specs.Prelude.{filter, slice_get}
+use Rattle.std.proofs.Common.{rules, ◌≡◌, ℕ, ◌+◌, ◌-◌, ◌<◌, ◌≤◌, ◌⊎◌, ◌↔◌, eqb, Bool, true, false, not, List, length, map, get_or, take, Some, refl, sym, ap, ◌∙◌, inl, inr, ⊎_elim, length-append, length-take, arith}
+use Rattle.std.proofs.lemmas.Grind.{common_steps}
+use Rattle.std.specs.Prelude.{slice_get}
 use Rattle.std.specs.List.{AllPairs}
-use Rattle.std.proofs.lemmas.Bool.{cases_eq, cases_lt, eq-eqb, ne_eqb}
+use Rattle.std.proofs.lemmas.Bool.{cases_eq, cases_lt, eq-eqb}
 use Rattle.std.proofs.lemmas.List.{get_or-take, get_or_default}
 use Rattle.std.proofs.lemmas.List.Elements.{filter_more}
 use Rattle.std.proofs.lemmas.List.Filters.{length-filter_both}
@@ -21,15 +22,11 @@ pub record Threads (listed buffered : List Queued) (n thread : ℕ) : Type 0 whe
       length (thread_in listed place t.key.input) < length (cushion_in buffered t)
 
 pub threads_first : (listed buffered : List Queued) → Threads listed buffered 0 0
-threads_first listed buffered =
-    record { counted = λ d. refl; few = omega arith; stand = λ place t lt is. absurd (omega arith) }
+threads_first listed buffered = grind (arith, common_steps)
 
 pub threads_hold : (listed buffered : List Queued) (n thread : ℕ) → Threads listed buffered n thread →
     length listed ≤ n → (true ≡ true) ↔ SlackStands listed buffered
-threads_hold listed buffered n thread known past = (
-  (λ _ place t is. let inside = slice_get_within listed place t is in known.stand place t (omega arith) is),
-  (λ _. refl),
-)
+threads_hold listed buffered n thread known past = grind (arith, common_steps, slice_get_within, known.stand)
 
 module _ (listed buffered : List Queued) (n thread : ℕ) (known : Threads listed buffered n thread) (e : Queued)
     (inside : n < length listed) where
@@ -58,84 +55,40 @@ module _ (listed buffered : List Queued) (n thread : ℕ) (known : Threads liste
   -- another input begins
   pub next_thread : AllPairs IsNoLaterInput listed → 0 < n →
       (get_or listed (n - 1) e).key.input < here.key.input → 0 ≡ length (thread_in listed n here.key.input)
-  next_thread rising later goes =
-      sym (ap (λ (l : List Queued). length l)
-      (none_kept (λ (o : Queued). eqb o.key.input here.key.input) (take n listed)
-      (λ k d lt.
-      let size = length-take n listed in
-      let below : k < n = omega arith in
-      let read : get_or (take n listed) k d ≡ get_or listed k d = get_or-take n listed k d below in
-      let near : (get_or listed k d).key.input ≤ (get_or listed (n - 1) d).key.input =
-      elim (cases_eq k (n - 1)) [
-        | inl same ↦
-            let is : (get_or listed k d).key.input ≡ (get_or listed (n - 1) d).key.input =
-            ap (λ (j : ℕ). (get_or listed j d).key.input) same in
-            omega arith
-        | inr other ↦ rising k (n - 1) d (omega arith) (omega arith)
-      ] in
-      let last : (get_or listed (n - 1) d).key.input ≡ (get_or listed (n - 1) e).key.input =
-      ap (λ (q : Queued). q.key.input) (get_or_default listed (n - 1) d e (omega arith)) in
-      let own : (get_or (take n listed) k d).key.input ≡ (get_or listed k d).key.input =
-      ap (λ (q : Queued). q.key.input) read in
-      ne_eqb (get_or (take n listed) k d).key.input here.key.input (λ same. let P : ⊥ = omega arith in P))))
+  next_thread rising later goes = sym (ap (λ (l : List Queued). length l) (none_kept
+      (λ (o : Queued). eqb o.key.input here.key.input) (take n listed) (λ k d lt.
+      search (arith, rules, get_or-take n listed k d, get_or_default listed (n - 1) d e))))
 
   module _ (now : ℕ) (counted : now ≡ length (thread_in listed n here.key.input)) where
     pub thread_few : now ≤ n
     thread_few =
         let test : Queued → Bool = λ o. eqb o.key.input here.key.input in
         let kept = length-filter_both test (λ o. not (test o)) (λ _. refl) (take n listed) in
-        let size = length-take n listed in
-        omega arith
+        search (arith, rules, length-take)
 
     pub threads_more : now < length (cushion_in buffered here) → Threads listed buffered (n + 1) (now + 1)
-    threads_more slack =
-        record {
-          counted = λ d.
-              let place : n + 1 - 1 ≡ n = omega arith in
-              let at : get_or listed (n + 1 - 1) d ≡ here =
-              ap (λ (k : ℕ). get_or listed k d) place ∙ get_or_default listed n d e inside in
-              let test : Queued → Bool = λ o. eqb o.key.input here.key.input in
-              let own : test here ≡ true = eq-eqb here.key.input here.key.input refl in
-              let one : filter test (take (n + 1) listed) ≡ filter test (take n listed) ++ here ∷ [] =
-              filter_more test listed n e inside
-              ∙ ap (λ (b : Bool). filter test (take n listed) ++ cond b (here ∷ []) []) own in
-              let long : length (filter test (take (n + 1) listed)) ≡ now + 1 =
-              ap (λ (l : List Queued). length l) one ∙ length-append (filter test (take n listed)) (here ∷ [])
-              ∙ ap (λ (k : ℕ). k + 1) (sym counted) in
-              sym (ap (λ (q : Queued). length (thread_in listed (n + 1) q.key.input)) at ∙ long);
-          few = let at_most = thread_few in omega arith;
-          stand = λ place t lt is.
-              elim (cases_eq place n) [
-                | inr less ↦ known.stand place t (omega arith) is
-                | inl same ↦
-                    let own : here ≡ t =
-                    ap (λ (k : ℕ). get_or listed k e) (sym same) ∙ get_or_from_slice_get listed place t e is in
-                    let P : ℕ → Queued → Type 0 =
-                    λ k q. length (thread_in listed k q.key.input) < length (cushion_in buffered q) in
-                    let first : P n here = omega arith in
-                    subst (λ (q : Queued). P place q) own (subst (λ (k : ℕ). P k here) (sym same) first)
-              ];
-        }
+    threads_more slack = grind (
+      arith,
+      common_steps,
+      get_or_default,
+      eq-eqb,
+      filter_more,
+      length-append,
+      thread_few,
+      cases_eq,
+      get_or_from_slice_get,
+    )
 
     pub threads_fail : length (cushion_in buffered here) ≤ now → (false ≡ true) ↔ SlackStands listed buffered
-    threads_fail short = (
-      (λ clash. absurd (let P : ⊥ = cc in P)),
-      (λ all.
-          let lt : length (thread_in listed n here.key.input) < length (cushion_in buffered here) =
-          all n here (slice_get-get_or listed n e inside) in
-          absurd (omega arith)),
-    )
+    threads_fail short = grind (arith, common_steps, slice_get-get_or)
 
   -- at a place where an input begins, or where it does not
   now_counted : AllPairs IsNoLaterInput listed → (begun : Bool) (now : ℕ) →
       begun ≡ begins_at (map (λ (q : Queued). q.key.input) listed) n →
       ((begun ≡ true) × (now ≡ 0)) ⊎ ((begun ≡ false) × (now ≡ thread)) →
       now ≡ length (thread_in listed n here.key.input)
-  now_counted rising begun now is (inl begins) =
-      let says = begins_says (λ (q : Queued). q.key.input) listed n e inside (sym is ∙ begins.0) in
-      begins.1 ∙ next_thread rising says.0 says.1
-  now_counted rising begun now is (inr goes_on) =
-      goes_on.1 ∙ same_thread rising (begins_not (λ (q : Queued). q.key.input) listed n e inside (sym is ∙ goes_on.0))
+  now_counted rising begun now is (inl begins) = grind (arith, common_steps, begins_says, next_thread)
+  now_counted rising begun now is (inr goes_on) = grind (arith, common_steps, same_thread, begins_not)
 
   -- one cell more, or one that has too little
   pub threads_next : AllPairs IsNoLaterInput listed → (begun : Bool) (now cushion : ℕ) →

@@ -1,6 +1,7 @@
 -- The walks over all inputs ended with a mark: so all packets stand, and the marks and the counts are those of what is
 -- left out. Or one stopped: so a packet does not stand.
-use Rattle.std.proofs.Common.{◌≡◌, ℕ, ◌<◌, Bool, false, List, length, map, get_or, Option, None, Some, sym, ap, ◌∙◌, arith}
+use Rattle.std.proofs.lemmas.Grind.{common_steps}
+use Rattle.std.proofs.Common.{rules, ◌≡◌, ℕ, ◌<◌, Bool, false, List, length, map, get_or, Option, None, Some, sym, ap, ◌∙◌, arith}
 use Rattle.std.specs.List.{range_with_len}
 use Rattle.std.proofs.lemmas.List.{get_or-map, get_or_default, length-map, same_lists}
 use Rattle.std.proofs.lemmas.List.FromFn.{get_or-map-range_with_len, length-map-range_with_len}
@@ -27,9 +28,7 @@ module _ (limits : List (Option ℕ)) (next : ℕ) (came : List Arrival) (names 
   module _ (marks : List Bool) (refused : List Refused) (known : Tallied limits next came names ports marks
       refused) where
     many : length marks ≡ ports
-    many =
-        sym (length-map marks (λ (m : Bool). Some m)) ∙ ap (λ (l : List (Option Bool)). length l) known.marked
-        ∙ length-map-range_with_len (mark_at limits next came names) 0 ports
+    many = grind (arith, common_steps, length-map, length-map-range_with_len, mark_at)
 
     mark_there : (i : ℕ) → i < ports → mark_at limits next came names i ≡ Some (get_or marks i false)
     mark_there i inside =
@@ -39,9 +38,7 @@ module _ (limits : List (Option ℕ)) (next : ℕ) (came : List Arrival) (names 
         ∙ get_or-map (λ (m : Bool). Some m) marks i false None (omega arith)
 
     stands : (i : ℕ) → i < ports → LineStands limits ports next came names are i
-    stands i inside =
-        line_stands (has_name names) (has_limit limits) (coming i 0 next came) (get_or marks i false)
-        (whole limits ports next came names are i inside) (mark_there i inside)
+    stands i inside = search (rules, line_stands, whole, mark_there)
 
     pub all_stand : PacketsStand limits next came names
     all_stand = packets_stand limits ports next came names are stands
@@ -63,7 +60,4 @@ module _ (limits : List (Option ℕ)) (next : ℕ) (came : List Arrival) (names 
     pub tallies_up : (x : Tally) → length limits ≡ ports → x.marks ≡ marks → x.refused ≡ refused →
         TalliesUp limits next came names x
     tallies_up x as_many own_marks own_counts =
-        record {
-          marks = own_marks ∙ all_marks ∙ ap (λ (n : ℕ). map told (range_with_len 0 n)) (sym as_many);
-          refused = own_counts ∙ tallied_counts limits next came names ports are marks refused known;
-        }
+        grind (arith, common_steps, all_marks, tallied_counts limits next came names ports are marks refused known)

@@ -1,12 +1,12 @@
 -- The walk over the cells of one input, cell by cell: the mark so far with the cells that are left gives the mark in
 -- the end, and so do the counts. Each step takes the first of the cells that are left.
-use Rattle.std.proofs.Common.{◌≡◌, ℕ, suc, ◌+◌, ◌<◌, eqb, Bool, true, false, cond, List, [], ◌∷◌, ◌++◌, length, map, Option, None, Some, refl, sym, ap, ◌∙◌, subst, inl, arith}
-use Rattle.std.specs.Prelude.{◌&&◌, ◌==◌, filter, not}
+use Rattle.std.proofs.Common.{rules, ◌≡◌, ℕ, suc, ◌+◌, ◌<◌, eqb, Bool, true, false, cond, List, [], ◌∷◌, ◌++◌, length, map, Option, None, Some, refl, sym, ap, ◌∙◌, subst, inl, arith}
+use Rattle.std.proofs.lemmas.Grind.{common_steps}
+use Rattle.std.specs.Prelude.{◌&&◌, ◌==◌, not}
 use Rattle.std.specs.List.{AllByRecursion, list_any}
 use Rattle.std.proofs.lemmas.Bool.{eqb-true}
 use Rattle.cq_base.specs.Arriving.{Arrival}
 use Rattle.cq_base.specs.declared.cell.Cell.{Cell}
-use Rattle.cq_cells.specs.Traffic.{is_from}
 use Rattle.cq_ideal.specs.declared.refused.Refused.{Refused}
 use Rattle.cq_ideal.specs.Limiter.{CanCount}
 use Rattle.cq_ideal.specs.Refused.{with_refused}
@@ -38,9 +38,7 @@ module _ {names : List Name} {limits : List (Option ℕ)} {all left : List Arriv
   walked_mark = sym (ap (λ (l : List Arrival). mark_on (has_name names) (has_limit limits) mark l) none) ∙ known.marks
 
   pub walked_counts : now ≡ with_refused (cells_in (unnamed names all)) first
-  walked_counts =
-      sym (none_counted now)
-      ∙ sym (ap (λ (l : List Arrival). with_refused (cells_in (unnamed names l)) now) none) ∙ known.counted
+  walked_counts = grind (arith, common_steps, none_counted)
 
 module _ (names : List Name) (limits : List (Option ℕ)) (all left rest : List Arrival) (mark : Bool)
     (first now : List Refused) (known : Walked names limits all left mark first now) (a : Arrival)
@@ -57,14 +55,10 @@ module _ (names : List Name) (limits : List (Option ℕ)) (all left rest : List 
 
   -- a cell that may not come ends the walk
   pub walked_stop : MayCome ≡ false → None ≡ mark_on (has_name names) (has_limit limits) false all
-  walked_stop fails =
-      sym (step ∙ ap (λ (b : Bool). cond b (mark_on (has_name names) (has_limit limits) (not named) rest) None) fails)
-      ∙ known.marks
+  walked_stop fails = grind (arith, common_steps, step)
 
   pub can_count : CanCount 1 now
-  can_count =
-      let long : length left ≡ suc (length rest) = ap (λ (l : List Arrival). length l) splits in
-      fewer_left 1 (length left) now known.few (omega arith)
+  can_count = grind (arith, common_steps, fewer_left)
 
   one_left : (b : Bool) → named ≡ b → cells_in (unnamed names (a ∷ rest))
       ≡ cond (not b) (a.cell ∷ []) [] ++ cells_in (unnamed names rest)
@@ -99,9 +93,7 @@ module _ (names : List Name) (limits : List (Option ℕ)) (all left rest : List 
       room = subst (λ (n : ℕ). CanCount n now) long known.few
 
       fits : (b : Bool) → CanCount (length rest) (with_refused (cond (not b) (a.cell ∷ []) []) now)
-      fits true =
-          subst (CanCount (length rest)) (sym (none_counted now))
-          (fewer_left (length rest) (length rest + 1) now room (omega arith))
+      fits true = grind (arith, common_steps, none_counted, fewer_left, room)
       fits false = counts_left (length rest) a.cell now room
 
 -- ## As it is walked
@@ -113,9 +105,7 @@ module _ (ports input from next : ℕ) (came : List Arrival) (a : Arrival) (rest
   there =
       let among : Has (coming input from next came) a =
       subst (λ (l : List Arrival). Has l a) (sym splits) (inl refl) in
-      let early = kept_has (is_between from next) (filter (is_from input) came) a among in
-      let own = kept_has (is_from input) came a early.0 in
-      (own.0, eqb-true a.cell.id.input input own.1)
+      search (arith, rules, kept_has, is_between, eqb-true)
 
   pub goes_inside : AllByRecursion (λ x. x.cell.output < ports) came → a.cell.output < ports
   goes_inside all = all_of_has (λ (x : Arrival). x.cell.output < ports) came a all there.0
@@ -134,21 +124,14 @@ module _ (input from next : ℕ) (came : List Arrival) {names : List Name} {limi
   its = record { slot = slot; cell = cell }
 
   its_name : is_told ≡ has_name names its
-  its_name =
-      let own : cell.id.input ≡ input = comes_here 0 input from next came its rest splits in
-      name
-      ∙ ap (λ (i : ℕ). list_any (λ n. eqb n.queued.key.slot slot && eqb n.queued.key.input i) names) (sym own)
+  its_name = grind (arith, common_steps, comes_here 0 input from next came its rest splits)
 
   its_test : may ≡ may_come (cell.id.index == 0) (has_name names its) (has_limit limits cell.output) mark
-  its_test =
-      test ∙ ap (λ (b : Bool). may_come (cell.id.index == 0) b limited mark) its_name
-      ∙ ap (λ (b : Bool). may_come (cell.id.index == 0) (has_name names its) b mark) limit
+  its_test = grind (arith, common_steps, its_name)
 
   -- it may not come
   pub walk_stops : may ≡ false → None ≡ mark_on (has_name names) (has_limit limits) false all
-  walk_stops is =
-      walked_stop names limits all (coming input from next came) rest mark first now known its splits
-      (sym its_test ∙ is)
+  walk_stops is = grind (arith, common_steps, walked_stop, its_test)
 
   pub walk_counts : CanCount 1 now
   walk_counts = can_count names limits all (coming input from next came) rest mark first now known its splits

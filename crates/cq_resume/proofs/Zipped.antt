@@ -1,8 +1,9 @@
 -- Two lists whose items belong together, place by place. What holds of the items of the one holds of those of the other
 -- where it holds of any two that belong together.
-use Rattle.std.proofs.Common.{◌≡◌, ℕ, ◌+◌, ◌<◌, ◌≤◌, ◌↔◌, List, [], ◌∷◌, ◌++◌, length, get_or, map, take, refl, sym, ap, ◌∙◌, subst}
+use Rattle.std.proofs.Common.{rules, arith, ◌≡◌, ℕ, ◌+◌, ◌<◌, ◌≤◌, ◌↔◌, List, [], ◌∷◌, ◌++◌, length, get_or, map, take, refl, subst}
+use Rattle.std.proofs.lemmas.Grind.{common_steps}
 use Rattle.std.specs.Prelude.{All, filter_map, Option, Some}
-use Rattle.std.specs.List.{AllByRecursion, AllPairs, AllZip, cons_option}
+use Rattle.std.specs.List.{AllByRecursion, AllPairs, AllZip}
 use Rattle.std.proofs.lemmas.List.{take_all, take_more}
 use Rattle.std.proofs.lemmas.List.Elements.{All-from_recursion, recursion_from_All}
 use Rattle.cq_resume.proofs.Chained.{EachPair, all_pairs, each_pair}
@@ -26,10 +27,7 @@ module _ {A B : Type 0} (R : A → B → Type 0) where
   -- one more of each
   pub zip_more : (xs : List A) (i : ℕ) (d : A) (ys new : List B) (y : B) → i < length xs → AllZip R (take i xs) ys →
       R (get_or xs i d) y → new ≡ ys ++ y ∷ [] → AllZip R (take (i + 1) xs) new
-  zip_more xs i d ys new y inside zips own is =
-      subst (λ (l : List B). AllZip R (take (i + 1) xs) l) (sym is)
-      (subst (λ (l : List A). AllZip R l (ys ++ y ∷ [])) (sym (take_more xs i d inside))
-      (zip_push (take i xs) ys (get_or xs i d) y zips own))
+  zip_more xs i d ys new y inside zips own is = grind (arith, common_steps, take_more, zip_push)
 
   pub zip_all : (xs : List A) (i : ℕ) (ys : List B) → length xs ≤ i → AllZip R (take i xs) ys → AllZip R xs ys
   zip_all xs i ys past zips = subst (λ (l : List A). AllZip R l ys) (take_all i xs past) zips
@@ -40,27 +38,21 @@ module _ {A B : Type 0} (R : A → B → Type 0) where
   all_alike P Q same [] [] zips = ((λ _. tt), (λ _. tt))
   all_alike P Q same [] (y ∷ ys) zips = absurd zips
   all_alike P Q same (x ∷ xs) [] zips = absurd zips
-  all_alike P Q same (x ∷ xs) (y ∷ ys) zips =
-      let here = same x y zips.0 in
-      let rest = all_alike P Q same xs ys zips.1 in
-      ((λ all. (here.0 all.0, rest.0 all.1)), (λ all. (here.1 all.0, rest.1 all.1)))
+  all_alike P Q same (x ∷ xs) (y ∷ ys) zips = grind (arith, common_steps, all_alike P Q same xs ys zips.1)
 
   pub alls_alike : (P : A → Type 0) (Q : B → Type 0) → ((x : A) (y : B) → R x y → P x ↔ Q y) → (xs : List A)
       (ys : List B) → AllZip R xs ys → All P xs ↔ AllByRecursion Q ys
   alls_alike P Q same xs ys zips =
-      let each = all_alike P Q same xs ys zips in
-      ((λ all. each.0 (recursion_from_All P xs all)), (λ all. All-from_recursion P xs (each.1 all)))
+      search (arith, rules, all_alike P Q same xs ys zips, recursion_from_All P xs, All-from_recursion P xs)
 
   -- what holds of each item by its own
   pub all_left : (P : A → Type 0) → ((x : A) (y : B) → R x y → P x) → (xs : List A) (ys : List B) → AllZip R xs ys →
       AllByRecursion P xs
-  all_left P give xs ys zips =
-      (all_alike P (λ _. Unit {0}) (λ x y own. ((λ _. tt), (λ _. give x y own))) xs ys zips).1 (nothing_of ys)
+  all_left P give xs ys zips = grind (arith, common_steps, all_alike P, nothing_of ys)
 
   pub all_right : (Q : B → Type 0) → ((x : A) (y : B) → R x y → Q y) → (xs : List A) (ys : List B) → AllZip R xs ys →
       AllByRecursion Q ys
-  all_right Q give xs ys zips =
-      (all_alike (λ _. Unit {0}) Q (λ x y own. ((λ _. give x y own), (λ _. tt))) xs ys zips).0 (nothing_of xs)
+  all_right Q give xs ys zips = grind (arith, common_steps, all_alike, nothing_of xs)
 
   -- and of two of one side
   module _ (P : A → A → Type 0) (Q : B → B → Type 0)
@@ -69,17 +61,11 @@ module _ {A B : Type 0} (R : A → B → Type 0) where
     each_alike [] [] zips = ((λ _. tt), (λ _. tt))
     each_alike [] (y ∷ ys) zips = absurd zips
     each_alike (x ∷ xs) [] zips = absurd zips
-    each_alike (x ∷ xs) (y ∷ ys) zips =
-        let here = all_alike (P x) (Q y) (λ x' y' own. same x x' y y' zips.0 own) xs ys zips.1 in
-        let rest = each_alike xs ys zips.1 in
-        ((λ all. (here.0 all.0, rest.0 all.1)), (λ all. (here.1 all.0, rest.1 all.1)))
+    each_alike (x ∷ xs) (y ∷ ys) zips = grind (arith, common_steps, all_alike, each_alike xs ys zips.1)
 
     pub pairs_alike : (xs : List A) (ys : List B) → AllZip R xs ys → AllPairs P xs ↔ AllPairs Q ys
     pairs_alike xs ys zips =
-        let each = each_alike xs ys zips in (
-          (λ pairs. all_pairs Q ys (each.0 (each_pair P xs pairs))),
-          (λ pairs. all_pairs P xs (each.1 (each_pair Q ys pairs))),
-        )
+        search (arith, rules, each_alike xs ys zips, all_pairs Q ys, all_pairs P xs, each_pair P xs, each_pair Q ys)
 
   -- where each item of the first list comes to something that its own comes to, the lists come to the same
   module _ {C : Type 0} (f : A → Option C) (g : B → C) where
@@ -88,6 +74,4 @@ module _ {A B : Type 0} (R : A → B → Type 0) where
     same_mapped give [] [] zips = refl
     same_mapped give [] (y ∷ ys) zips = absurd zips
     same_mapped give (x ∷ xs) [] zips = absurd zips
-    same_mapped give (x ∷ xs) (y ∷ ys) zips =
-        ap (λ (o : Option C). cons_option o (filter_map f xs)) (give x y zips.0)
-        ∙ ap (λ (l : List C). g y ∷ l) (same_mapped give xs ys zips.1)
+    same_mapped give (x ∷ xs) (y ∷ ys) zips = grind (arith, common_steps, same_mapped give xs ys zips.1)

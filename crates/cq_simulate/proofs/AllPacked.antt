@@ -2,10 +2,11 @@
 -- are the others, and each output stands where a walk over its own departures would stand (`SoFar`), with the packets
 -- of that walk in its bytes (`Walked`). One departure more goes on with the walk at its output, and passes by those
 -- at all others.
-use Rattle.std.proofs.Common.{◌≡◌, ◌≢◌, ℕ, ◌+◌, ◌<◌, ◌≤◌, All, List, [], ◌∷◌, ◌++◌, length, map, drop, get_or, set, Option, Some, None, refl, sym, ap, ◌∙◌, subst, ⊎_elim, arith}
+use Rattle.std.proofs.Common.{rules, ◌≡◌, ◌≢◌, ℕ, ◌+◌, ◌<◌, ◌≤◌, All, List, [], ◌∷◌, ◌++◌, length, map, drop, get_or, set, Option, Some, None, refl, sym, ap, ◌∙◌, subst, arith}
+use Rattle.std.proofs.lemmas.Grind.{common_steps}
 use Rattle.std.specs.Prelude.{IfSome}
 use Rattle.std.proofs.lemmas.Bool.{cases_eq}
-use Rattle.std.proofs.lemmas.List.{append-nil, drop_more, get_or-set_other, get_or-set_same, length-drop, length-set, take_all}
+use Rattle.std.proofs.lemmas.List.{append-nil, drop_more, get_or-set_other, get_or-set_same, length-drop, length-set}
 use Rattle.cq_base.specs.Packed.{unpacked}
 use Rattle.cq_base.specs.declared.cell.Departure.{Departure}
 use Rattle.cq_base.specs.declared.packed.PackedDeparture.{PackedDeparture}
@@ -15,7 +16,7 @@ use Rattle.cq_pcap.specs.Written.{record_of, written}
 use Rattle.cq_pcap.specs.declared.write.OutPacket.{OutPacket}
 use Rattle.cq_route.specs.Tables.{ports_of}
 use Rattle.cq_route.specs.declared.tables.Tables.{Tables}
-use Rattle.cq_simulate.specs.Packets.{ArePacked, HaveLeftOf, packets_out}
+use Rattle.cq_simulate.specs.Packets.{ArePacked, HaveLeftOf}
 use Rattle.cq_simulate.specs.Pieces.{CanBeJoined, IsCaptured, IsEmptied, Took, left_with, records_of}
 use Rattle.cq_simulate.specs.declared.packing.Packing.{Packing}
 use Rattle.cq_simulate.proofs.Departed.{departed_captured, departed_class, departed_output}
@@ -24,14 +25,12 @@ use Rattle.cq_simulate.proofs.Taking.{SoFar, at_first, at_other, cell_fits, kept
 
 -- with a cell that is not the last nothing leaves
 pub none_left : (bytes : List ℕ) (left is : Option OutPacket) → left ≡ is → left ≡ None → bytes ≡ bytes ++ records_of is
-none_left bytes left is same none =
-    sym (append-nil bytes) ∙ ap (λ (o : Option OutPacket). bytes ++ records_of o) (sym none ∙ same)
+none_left bytes left is same none = grind (arith, common_steps, append-nil)
 
 -- the first one that is left, as it is
 pub first_unpacked : (left rest : List PackedDeparture) (p : PackedDeparture) (d : Departure) → left ≡ p ∷ rest →
     d ≡ unpacked p → map unpacked left ≡ d ∷ map unpacked rest
-first_unpacked left rest p d first is =
-    ap (λ (ps : List PackedDeparture). map unpacked ps) first ∙ ap (λ (x : Departure). x ∷ map unpacked rest) (sym is)
+first_unpacked left rest p d first is = grind (arith, common_steps)
 
 -- ## All outputs
 
@@ -73,9 +72,7 @@ module _ {t : Tables} {captures : List (List Captured)} {sent left rest : List D
   is_first = sym so_far.others ∙ first
 
   inside : so_far.done < length sent
-  inside =
-      let l : length (drop so_far.done sent) ≡ length (d ∷ rest) = ap (λ (ds : List Departure). length ds) is_first in
-      omega (arith, l, length-drop so_far.done sent)
+  inside = grind (arith, common_steps, is_first, length-drop)
 
   parts : get_or sent so_far.done d ∷ drop (so_far.done + 1) sent ≡ d ∷ rest
   parts = sym (drop_more sent so_far.done d inside) ∙ is_first
@@ -91,18 +88,11 @@ module _ {t : Tables} {captures : List (List Captured)} {sent left rest : List D
 
   module _ {stamp : ℕ} (of_run : HaveLeftOf t captures sent stamp) where
     pub at_port : d.output < length places
-    at_port =
-        let of_port : (get_or sent so_far.done d).output < ports_of t.setup =
-        departed_output of_run so_far.done d inside in
-        let same : (get_or sent so_far.done d).output ≡ d.output = its_output in
-        let as_many : length places ≡ ports_of t.setup = so_far.outputs in
-        omega arith
+    at_port = grind (arith, common_steps, departed_output, inside, its_output)
 
     module _ (place : Packing) (is : place ≡ get_or places d.output place) where
       own : Walked t captures sent d.output so_far.done place
-      own =
-          subst (λ (p : Packing). Walked t captures sent d.output so_far.done p) (sym is)
-          (so_far.each d.output place at_port)
+      own = grind (arith, common_steps, at_port)
 
       -- its cell is the next
       pub can_take : CanBeJoined captures place.joiner d
@@ -143,16 +133,11 @@ module _ {t : Tables} {captures : List (List Captured)} {sent left rest : List D
         }
 
         gone_on : Walked t captures sent d.output (so_far.done + 1) new
-        gone_on =
-            gone_on_with (left_with t captures (get_or sent so_far.done d)) refl took_here.bytes took_here.small
+        gone_on = gone_on_with (left_with t captures (get_or sent so_far.done d)) refl took_here.bytes took_here.small
 
         at_its_output : (j : ℕ) (p : Packing) → j ≡ d.output →
             Walked t captures sent j (so_far.done + 1) (get_or (set places d.output new) j p)
-        at_its_output j p same =
-            subst (λ (n : ℕ). Walked t captures sent n (so_far.done + 1) (get_or (set places d.output new) n p))
-            (sym same)
-            (subst (λ (q : Packing). Walked t captures sent d.output (so_far.done + 1) q)
-            (sym (get_or-set_same places d.output new p at_port)) gone_on)
+        at_its_output j p same = grind (arith, common_steps, get_or-set_same, at_port, gone_on)
 
         at_another : (j : ℕ) (p : Packing) → j < length places → j ≢ d.output →
             Walked t captures sent j (so_far.done + 1) (get_or (set places d.output new) j p)
@@ -176,21 +161,10 @@ module _ {t : Tables} {captures : List (List Captured)} {sent left rest : List D
           outputs = length-set places d.output new ∙ so_far.outputs;
           each = λ j p in_set.
               let same_length : length (set places d.output new) ≡ length places = length-set places d.output new in
-              let in_places : j < length places = omega arith in
-              ⊎_elim (at_its_output j p) (at_another j p in_places) (cases_eq j d.output);
+              search (arith, rules, at_its_output j p, at_another j p, cases_eq j d.output);
         }
 
 -- where no departure is left all packets are put together
 pub all_packed : (t : Tables) (captures : List (List Captured)) (sent left : List Departure) (places : List Packing) →
     AllSoFar t captures sent left places → left ≡ [] → ArePacked t captures sent places
-all_packed t captures sent left places so_far none =
-    let l : length (drop so_far.done sent) ≡ 0 = ap (λ (ds : List Departure). length ds) (sym so_far.others ∙ none) in
-    let end : length sent ≤ so_far.done = omega (arith, l, length-drop so_far.done sent) in
-    record {
-      outputs = so_far.outputs;
-      bytes = λ j p inside.
-          let was = so_far.each j p inside in
-          was.bytes
-          ∙ ap written (was.so_far.made
-          ∙ ap (λ (ds : List Departure). packets_out t captures ds j) (take_all so_far.done sent end));
-    }
+all_packed t captures sent left places so_far none = grind (arith, common_steps, length-drop so_far.done sent)

@@ -1,15 +1,16 @@
 -- Each cell that departs has arrived. Of each input and class the cells of the packets that are taken in leave an
 -- output as they came. So what holds of all cells that arrive holds of each that departs: it is of a packet of its
 -- input's capture.
-use Rattle.std.proofs.Common.{◌≡◌, ℕ, zero, suc, ◌+◌, ◌<◌, ◌≤◌, Bool, true, false, cond, List, [], ◌∷◌, ◌++◌, length, map, flat_map, get_or, Result, Ok, Err, refl, sym, ap, ◌∙◌, subst, ⊎_elim, arith}
-use Rattle.std.specs.Prelude.{◌&&◌, ◌==◌, max}
+use Rattle.std.proofs.Common.{rules, ◌≡◌, ℕ, zero, suc, ◌+◌, ◌<◌, ◌≤◌, Bool, true, false, cond, List, [], ◌∷◌, ◌++◌, length, map, flat_map, get_or, Result, Ok, Err, refl, sym, ap, ◌∙◌, subst, arith}
+use Rattle.std.proofs.lemmas.Grind.{common_steps}
+use Rattle.std.specs.Prelude.{max}
 use Rattle.std.specs.List.{AllByRecursion, filter, range_with_len}
 use Rattle.std.proofs.lemmas.Bool.{cases_eq, cond_both, cond-true, eq-eqb, ne_eqb, and_from, and_left}
 use Rattle.cq_base.specs.Arriving.{Arrival, end_of, traffic_of}
 use Rattle.cq_base.specs.declared.cell.Cell.{Cell}
 use Rattle.cq_base.specs.declared.cell.Departure.{Departure}
 use Rattle.cq_base.specs.declared.cell.TagFault.{TagFault}
-use Rattle.cq_cells.specs.Schedule.{packet_at, packets_of, cells, start, cell_of, arrivals_of, arrivals_at, arrivals}
+use Rattle.cq_cells.specs.Schedule.{packets_of, cells, start, cell_of, arrivals_of, arrivals_at, arrivals}
 use Rattle.cq_cells.specs.Traffic.{IsInRange, IsTraffic}
 use Rattle.cq_cells.proofs.Pieces.{piece_begins}
 use Rattle.cq_cells.proofs.Rising.{traffic_is}
@@ -60,10 +61,7 @@ left_in_packets t captures sent are many h i =
 all_came : (P : Cell → Type 0) (i c j : ℕ) (came : List Arrival) → AllByRecursion (λ a. P a.cell) came →
     AllByRecursion P (came_in_flow i c j came)
 all_came P i c j [] all = tt
-all_came P i c j (a ∷ came) all =
-    cond_both (comes_in_flow i c j a) (a ∷ filter (comes_in_flow i c j) came) (filter (comes_in_flow i c j) came)
-    (λ l. AllByRecursion P (map (λ (x : Arrival). x.cell) l))
-    (λ _. (all.0, all_came P i c j came all.1)) (λ _. all_came P i c j came all.1)
+all_came P i c j (a ∷ came) all = grind (arith, common_steps, cond_both, all_came P i c j came all.1)
 
 rest_left : (P : Cell → Type 0) (b : Bool) (d : Departure) (l : List Departure) →
     AllByRecursion P (map (λ (x : Departure). x.queued.cell) (cond b (d ∷ l) l)) → AllByRecursion P
@@ -75,30 +73,17 @@ one_left : (P : Cell → Type 0) (i c j : ℕ) (sent : List Departure) (k : ℕ)
     AllByRecursion P (left_in_flow i c j sent) → k < length sent → leaves_in_flow i c j (get_or sent k e) ≡ true → P
     (get_or sent k e).queued.cell
 one_left P i c j [] k e all inside of = absurd (omega arith)
-one_left P i c j (d ∷ sent) zero e all inside of =
-    let first : AllByRecursion P (map (λ (x : Departure). x.queued.cell) (d ∷ filter (leaves_in_flow i c j) sent)) =
-    subst (λ (l : List Departure). AllByRecursion P (map (λ (x : Departure). x.queued.cell) l))
-    (cond-true (leaves_in_flow i c j d) (d ∷ filter (leaves_in_flow i c j) sent) (filter (leaves_in_flow i c j) sent)
-    of) all in
-    first.0
-one_left P i c j (d ∷ sent) (suc k) e all inside of =
-    one_left P i c j sent k e (rest_left P (leaves_in_flow i c j d) d (filter (leaves_in_flow i c j) sent) all)
-    (omega arith) of
+one_left P i c j (d ∷ sent) zero e all inside of = grind (arith, common_steps, cond-true)
+one_left P i c j (d ∷ sent) (suc k) e all inside of = one_left P i c j sent k e
+    (rest_left P (leaves_in_flow i c j d) d (filter (leaves_in_flow i c j) sent) all) (omega arith) of
 
 own_flow : (d : Departure) → leaves_in_flow d.queued.cell.id.input d.queued.cell.class d.output d ≡ true
-own_flow d =
-    let cell : Cell = d.queued.cell in
-    and_from (d.output == d.output) (cell.id.input == cell.id.input && cell.class == cell.class)
-    (eq-eqb d.output d.output refl)
-    (and_from (cell.id.input == cell.id.input) (cell.class == cell.class) (eq-eqb cell.id.input cell.id.input refl)
-    (eq-eqb cell.class cell.class refl))
+own_flow d = grind (arith, common_steps, and_from, d.output, eq-eqb)
 
 all_taken : (P : Cell → Type 0) (p : Cell → Bool) (cells : List Cell) → AllByRecursion P cells →
     AllByRecursion P (filter p cells)
 all_taken P p [] all = tt
-all_taken P p (x ∷ cells) all =
-    cond_both (p x) (x ∷ filter p cells) (filter p cells) (AllByRecursion P)
-    (λ _. (all.0, all_taken P p cells all.1)) (λ _. all_taken P p cells all.1)
+all_taken P p (x ∷ cells) all = grind (arith, common_steps, cond_both, all_taken P p cells all.1)
 
 -- what holds of all that came of its flow holds of a cell that departs
 module _ (t : Tables) (captures : List (List Captured)) (sent : List Departure)
@@ -110,10 +95,7 @@ module _ (t : Tables) (captures : List (List Captured)) (sent : List Departure)
       let d : Departure = get_or sent k e in
       let i = d.queued.cell.id.input in
       let c = d.queued.cell.class in
-      let l = whole i in
-      let came = came_in_flow i c d.output (arrivals t captures) in
-      let taken = all_taken P (λ cell. l.is_taken cell.id.packet) came all in
-      one_left P i c d.output sent k e (subst (AllByRecursion P) (sym (l.left c d.output)) taken) inside (own_flow d)
+      let l = whole i in search (arith, rules, all_taken P, one_left P i c d.output sent k e, own_flow d)
 
   pub departed : (P : Cell → Type 0) → AllByRecursion (λ a. P a.cell) (arrivals t captures) →
       P (get_or sent k e).queued.cell
@@ -131,9 +113,7 @@ module _ (P : Arrival → Type 0) where
   all_flat : (f : ℕ → List Arrival) (a n : ℕ) → ((k : ℕ) → k < a + n → AllByRecursion P (f k)) →
       AllByRecursion P (flat_map f (range_with_len a n))
   all_flat f a zero h = tt
-  all_flat f a (suc n) h =
-      all_joined (f a) (flat_map f (range_with_len (a + 1) n)) (h a (omega arith))
-      (all_flat f (a + 1) n (λ k l. h k (omega arith)))
+  all_flat f a (suc n) h = grind (arith, common_steps, all_joined, flat_map, all_flat f (a + 1) n)
 
   all_made : (f : ℕ → Arrival) (a n : ℕ) → ((k : ℕ) → k < a + n → P (f k)) →
       AllByRecursion P (map f (range_with_len a n))
@@ -143,42 +123,30 @@ module _ (P : Arrival → Type 0) where
 all_captured : (t : Tables) (captures : List (List Captured)) → 1 ≤ t.cell_bytes →
     AllByRecursion (λ a. IsCaptured captures a.cell) (arrivals t captures)
 unfolding arrivals arrivals_at cell_of cells
-all_captured t captures some =
-    all_flat (λ a. IsCaptured captures a.cell) (arrivals_at t captures) 0 (length captures)
+all_captured t captures some = all_flat (λ a. IsCaptured captures a.cell) (arrivals_at t captures) 0 (length captures)
     (λ i in_captures. all_flat (λ a. IsCaptured captures a.cell) (arrivals_of t captures i) 0
-    (length (packets_of captures i))
-    (λ k in_packets. all_made (λ a. IsCaptured captures a.cell)
-    (λ (n : ℕ). record { slot = start t captures i k + n; cell = cell_of t captures i k n }) 0 (cells t captures i k)
-    (λ n in_cells. let begins = piece_begins (length (packet_at captures i k).body) t.cell_bytes n some (omega arith) in
-    record { input = omega arith; packet = omega arith; piece = omega arith })))
+    (length (packets_of captures i)) (λ k in_packets. all_made (λ a. IsCaptured captures a.cell)
+    (λ (n : ℕ). record { slot = start t captures i k + n; cell = cell_of t captures i k n }) 0
+    (cells t captures i k) (λ n in_cells. search (arith, rules, piece_begins))))
 
 -- a flow in which a cell came is one of a port
 module _ (ports i c j : ℕ) where
   for_port : (a : Arrival) → comes_in_flow i c j a ≡ true → a.cell.output < ports → j < ports
-  for_port a of less = ⊎_elim
-      (λ (same : a.cell.output ≡ j). omega arith)
-      (λ ne. let other = and_left (a.cell.output == j) (a.cell.id.input == i && a.cell.class == c)
-      (ne_eqb a.cell.output j ne) in absurd (let P : ⊥ = cc in P))
-      (cases_eq a.cell.output j)
+  for_port a of less = grind (arith, common_steps, and_left, ne_eqb, cases_eq)
 
   came_for_port : (came : List Arrival) → AllByRecursion (λ a. a.cell.output < ports) came →
       AllByRecursion (λ (_ : Cell). j < ports) (came_in_flow i c j came)
   came_for_port [] all = tt
-  came_for_port (a ∷ came) all =
-      cond_both (comes_in_flow i c j a) (a ∷ filter (comes_in_flow i c j) came) (filter (comes_in_flow i c j) came)
-      (λ l. AllByRecursion (λ (_ : Cell). j < ports) (map (λ (x : Arrival). x.cell) l))
-      (λ of. (for_port a of all.0, came_for_port came all.1)) (λ _. came_for_port came all.1)
+  came_for_port (a ∷ came) all = grind (arith, common_steps, cond_both, for_port, came_for_port came all.1)
 
 module _ {t : Tables} {captures : List (List Captured)} {sent : List Departure} {stamp : ℕ}
     (of_run : HaveLeftOf t captures sent stamp) (k : ℕ) (e : Departure) (inside : k < length sent) where
   pub departed_captured : IsCaptured captures (get_or sent k e).queued.cell
   departed_captured =
-      departed t captures sent of_run.whole k e inside (IsCaptured captures)
-      (all_captured t captures (omega arith))
+      departed t captures sent of_run.whole k e inside (IsCaptured captures) (all_captured t captures (omega arith))
 
   pub departed_class : (get_or sent k e).queued.cell.class < length t.setup.classes
-  departed_class =
-      departed t captures sent of_run.whole k e inside (λ cell. cell.class < length t.setup.classes)
+  departed_class = departed t captures sent of_run.whole k e inside (λ cell. cell.class < length t.setup.classes)
       (all_from (IsInRange (ports_of t.setup) (classes_of t.setup)) (λ a. a.cell.class < length t.setup.classes)
       (λ a r. r.class) (arrivals t captures) (traffic_is t captures of_run.tables of_run.captures).in_range)
 
@@ -198,9 +166,7 @@ module _ {t : Tables} {captures : List (List Captured)} {sent : List Departure} 
 pub slots_are : (t : Tables) (came : List Arrival) (sent : List Departure) → ideal_departures t came ≡ Ok sent →
     slots_ran t came ≡ max (end_of came) (slots_of sent)
 unfolding ideal_departures ran_ideal
-slots_are t came sent h =
-    ran_ok (λ sent. slots_ran t came ≡ max (end_of came) (slots_of sent)) (ran_ideal t came) sent h
-    (λ ran is. limited_slots t.limits (machines_of t.setup) (ports_of t.setup) (openings_of t.setup) came ran is)
+slots_are t came sent h = grind (arith, common_steps, ran_ok, limited_slots)
 
 -- and where no output has a limit a cell departs in its last slot
 pub last_departs_without_limits : (t : Tables) (came : List Arrival) (sent : List Departure) → NoLimits t.limits →
@@ -211,8 +177,7 @@ last_departs_without_limits t came sent none is traffic h =
     let ms = machines_of t.setup in
     let ports = ports_of t.setup in
     let ranks = openings_of t.setup in
-    ran_ok (λ sent. slots_ran t came ≡ slots_of sent) (ran_ideal t came) sent h
-    (λ ran is_ok.
+    ran_ok (λ sent. slots_ran t came ≡ slots_of sent) (ran_ideal t came) sent h (λ ran is_ok.
     slots_as_before t.limits ms ports ranks came none
     ∙ sym (last_departs ms ports ranks came (runnable t.setup came is traffic).for_switch
     (record { gone = ran.gone; after = ran.after.state })

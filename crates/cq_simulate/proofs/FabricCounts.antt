@@ -1,7 +1,8 @@
 -- One slot of the fabric by its numbers. The cells that wait at the inputs grow by those that arrive and fall by one
 -- for each transfer. A phase has no more proposals than the number of ports squared, and none where no cell waits at
 -- an input.
-use Rattle.std.proofs.Common.{◌≡◌, ℕ, zero, suc, ◌+◌, ◌*◌, ◌≤◌, ◌<◌, Bool, true, false, cond, List, [], ◌∷◌, length, length-append, map, get_or, Option, Some, None, refl, ap, ◌∙◌, subst, arith, mul-le-mul}
+use Rattle.std.proofs.lemmas.Grind.{common_steps}
+use Rattle.std.proofs.Common.{rules, ◌≡◌, ℕ, zero, suc, ◌+◌, ◌*◌, ◌≤◌, Bool, true, false, cond, List, [], ◌∷◌, length, length-append, Option, Some, None, refl, ap, ◌∙◌, subst, arith, mul-le-mul}
 use Rattle.std.specs.Prelude.{sum}
 use Rattle.std.specs.List.{range_with_len, filter_map, cons_option}
 use Rattle.std.specs.Option.{option_map}
@@ -11,7 +12,7 @@ use Rattle.std.proofs.lemmas.List.Edits.{length-insert}
 use Rattle.std.proofs.lemmas.List.FromFn.{length-map-range_with_len, get_or-map-range_with_len}
 use Rattle.std.proofs.lemmas.List.Sums.{sum_by-le}
 use Rattle.cq_base.specs.Arrivals.{arrival_at}
-use Rattle.cq_base.specs.Cells.{place_of_arrival, is_for, first_for, without_first}
+use Rattle.cq_base.specs.Cells.{is_for}
 use Rattle.cq_base.specs.declared.cell.Cell.{Cell}
 use Rattle.cq_base.specs.declared.cell.Queued.{Queued}
 use Rattle.cq_base.specs.declared.cell.Transfer.{Transfer}
@@ -25,7 +26,7 @@ use Rattle.cq_laws.proofs.OneRun.{outputs_at}
 use Rattle.cq_laws.proofs.OneSlot.{arrived, after_sent}
 use Rattle.cq_laws.proofs.Sound.{Sound}
 use Rattle.cq_laws.specs.Agreement.{Agrees}
-use Rattle.cq_laws.specs.Fabric.{Fabric, IsFabric, input, cushion_of}
+use Rattle.cq_laws.specs.Fabric.{Fabric, IsFabric, input}
 use Rattle.cq_laws.specs.FabricSlot.{SlotRecord, FabricSlot}
 use Rattle.cq_laws.specs.Measures.{proposals_in}
 use Rattle.cq_laws.specs.Phases.{Transfers, came_to, list_arrived}
@@ -34,7 +35,7 @@ use Rattle.cq_prefs.proofs.InputOrder.{OutputsInRange, are_offers}
 use Rattle.cq_prefs.proofs.Places.{outputs_at_most}
 use Rattle.cq_prefs.specs.FirstCells.{list_of, orders_of, output_order}
 use Rattle.cq_prefs.specs.Moves.{list_taken, noted, transfers_of}
-use Rattle.cq_prefs.specs.Orders.{Orders, ports, outputs_of, place_in}
+use Rattle.cq_prefs.specs.Orders.{Orders, ports, outputs_of}
 use Rattle.cq_prefs.specs.Pairing.{Partners, partner_of, spent, proposals, IsMatching, IsInputBest}
 use Rattle.cq_rank.specs.Machine.{Machine}
 use Rattle.cq_traffic.proofs.FromInputs.{one_if}
@@ -52,10 +53,7 @@ total_most f g h a (suc n) le = let here = le a in let rest = total_most f g h (
 pub total_next : (f : ℕ → ℕ) (a b n : ℕ) → b ≡ suc a → total f b n ≡ total (λ i. f (suc i)) a n
 unfolding total
 total_next f a b zero e = refl
-total_next f a b (suc n) e =
-    let here : f b ≡ f (suc a) = ap f e in
-    let rest : total f (b + 1) n ≡ total (λ i. f (suc i)) (a + 1) n = total_next f (a + 1) (b + 1) n (omega arith) in
-    omega arith
+total_next f a b (suc n) e = grind (arith, common_steps, total, total_next f (a + 1) (b + 1) n)
 
 -- ## Arrivals
 
@@ -74,15 +72,12 @@ all_arrivals [] (suc n) = let none = total_none (λ i. one_if (arrival_at [] i))
 all_arrivals (None ∷ cells) (suc n) =
     let next : total (λ i. one_if (arrival_at (None ∷ cells) i)) (0 + 1) n
     ≡ total (λ i. one_if (arrival_at cells i)) 0 n =
-    total_next (λ i. one_if (arrival_at (None ∷ cells) i)) 0 (0 + 1) n refl in
-    let rest = all_arrivals cells n in
-    omega arith
+    total_next (λ i. one_if (arrival_at (None ∷ cells) i)) 0 (0 + 1) n refl in omega (arith, all_arrivals cells n)
 all_arrivals (Some cell ∷ cells) (suc n) =
     let next : total (λ i. one_if (arrival_at (Some cell ∷ cells) i)) (0 + 1) n
     ≡ total (λ i. one_if (arrival_at cells i)) 0 n =
     total_next (λ i. one_if (arrival_at (Some cell ∷ cells) i)) 0 (0 + 1) n refl in
-    let rest = all_arrivals cells n in
-    omega arith
+    omega (arith, all_arrivals cells n)
 
 -- how many cells wait at the first n inputs
 unfoldable pub at_inputs : Fabric → ℕ → ℕ
@@ -91,10 +86,7 @@ at_inputs f n = total (λ i. length (input f i)) 0 n
 longer_one : (f : Fabric) (came : Option Queued) (cell : Option Cell) (xs : List Queued) →
     ((c : Queued) → came ≡ Some c → cell ≡ Some c.cell) → length (list_arrived f came xs) ≤ length xs + one_if cell
 longer_one f None cell xs is = omega arith
-longer_one f (Some c) cell xs is =
-    let here : one_if cell ≡ 1 = ap one_if (is c refl) in
-    let place : place_of_arrival (cushion_of f c) c xs ≤ length xs = omega arith in
-    let more = length-insert xs (place_of_arrival (cushion_of f c) c xs) c place in omega arith
+longer_one f (Some c) cell xs is = let here : one_if cell ≡ 1 = ap one_if (is c refl) in omega (arith, length-insert)
 
 -- ## A transfer
 
@@ -110,10 +102,7 @@ length-cons_option (Some t) ts = omega arith
 length_taken : (p : Option ℕ) (xs : List Queued) → length (list_taken p xs) ≤ length xs
 length_taken None xs = omega arith
 length_taken (Some j) [] = omega arith
-length_taken (Some j) (x ∷ xs) =
-    cond_both (is_for j x) xs (x ∷ without_first j xs) (λ l. length l ≤ length (x ∷ xs))
-    (λ _. omega arith)
-    (λ _. let rest = length_taken (Some j) xs in omega arith)
+length_taken (Some j) (x ∷ xs) = grind (arith, common_steps, cond_both, length_taken (Some j) xs)
 
 one_left : (h : Queued → Transfer) (b : Bool) (x : Queued) (o : Option Queued) (rest xs : List Queued) →
     one_crosses (option_map h o) + length rest ≤ length xs → one_crosses (option_map h (cond b (Some x) o)) + length
@@ -126,66 +115,37 @@ module _ (slot phase : ℕ) where
       (list_taken p xs) ≤ length xs
   one_taken i None xs = omega arith
   one_taken i (Some j) [] = omega arith
-  one_taken i (Some j) (x ∷ xs) =
-      one_left (λ (c : Queued). record { slot = slot; phase = phase; input = i; output = j; id = c.cell.id })
-      (is_for j x) x (first_for j xs) (without_first j xs) xs (one_taken i (Some j) xs)
+  one_taken i (Some j) (x ∷ xs) = grind (arith, common_steps, one_left, one_taken i (Some j) xs)
 
   module _ (m : Partners) (f g : Fabric) (step : Transfers m f g) where
     some_cross : (a n : ℕ) → length (filter_map (λ i. noted slot phase i (input f i) (partner_of m i))
         (range_with_len a n)) + total (λ i. length (input g i)) a n ≤ total (λ i. length (input f i)) a n
     unfolding total
     some_cross a zero = omega arith
-    some_cross a (suc n) =
-        let one = one_taken a (partner_of m a) (input f a) in
-        let left : length (input g a) ≡ length (list_taken (partner_of m a) (input f a)) =
-        ap length (step.moves.taken a) in
-        let rest = some_cross (a + 1) n in
-        let more =
-        length-cons_option (noted slot phase a (input f a) (partner_of m a))
-        (filter_map (λ i. noted slot phase i (input f i) (partner_of m i)) (range_with_len (a + 1) n)) in
-        omega arith
+    some_cross a (suc n) = grind (arith, common_steps, one_taken, length-cons_option, some_cross (a + 1) n)
 
     all_cross : (n : ℕ) → length m ≡ n → length (transfers_of m f.inputs slot phase) + at_inputs g n ≤ at_inputs f n
     unfolding transfers_of at_inputs
-    all_cross n same =
-        subst (λ (n : ℕ). length (transfers_of m f.inputs slot phase) + at_inputs g n ≤ at_inputs f n) same
-        (some_cross 0 (length m))
+    all_cross n same = subst (λ (n : ℕ). length (transfers_of m f.inputs slot phase) + at_inputs g n ≤ at_inputs f n)
+        same (some_cross 0 (length m))
 
 pub shorter : (m : Partners) (f g : Fabric) → Transfers m f g → (i : ℕ) → length (input g i) ≤ length (input f i)
-shorter m f g step i =
-    let e : length (input g i) ≡ length (list_taken (partner_of m i) (input f i)) =
-    ap length (step.moves.taken i) in let l = length_taken (partner_of m i) (input f i) in omega arith
+shorter m f g step i = grind (arith, common_steps, step.moves.taken, length_taken)
 
 -- ## Proposals
 
 module _ (o : Orders) (m : Partners) (is : IsMatching o m) where
-  spent_few : (i : ℕ) (p : Option ℕ) → partner_of m i ≡ p → spent (outputs_of o i) p ≤ length (outputs_of o i)
-  spent_few i None e = omega arith
-  spent_few i (Some j) e =
-      let l : place_in (outputs_of o i) j < length (outputs_of o i) = is.offered i j e in omega arith
-
   -- where no order is longer than this
   proposals_within : (b : ℕ) → ((i : ℕ) → length (outputs_of o i) ≤ b) → proposals o m ≤ ports o * b
   proposals_within b few =
       let f : ℕ → ℕ = λ i. spent (outputs_of o i) (partner_of m i) in
-      let n = ports o in
-      let long = length-map-range_with_len f 0 n in
-      let all : sum (map f (range_with_len 0 n)) ≤ length (map f (range_with_len 0 n)) * b =
-      sum_by-le (λ (x : ℕ). x) b (map f (range_with_len 0 n))
-      (λ k d inside.
-      let here : get_or (map f (range_with_len 0 n)) k d ≡ f k =
-      get_or-map-range_with_len f 0 n k k d (omega arith) (omega arith) in
-      let one : f k ≤ length (outputs_of o k) = spent_few k (partner_of m k) refl in
-      let most = few k in
-      omega arith) in
-      subst (λ (k : ℕ). sum (map f (range_with_len 0 n)) ≤ k * b) long all
+      search (arith, rules, length-map-range_with_len f 0 (ports o), sum_by-le, get_or-map-range_with_len f 0 (ports o))
 
 in_range : (f : Fabric) → IsFabric f → OutputsInRange f.inputs
 in_range f is i j c first =
     let at = first_at (is_for j) (input f i) c first in
     let same : c.cell.output ≡ j = eqb-true c.cell.output j at.passes in
-    let inside = is.outputs i c (among_at (input f i) at.place c at.at) in
-    omega arith
+    search (arith, rules, is.outputs i c, among_at (input f i) at.place c at.at)
 
 module _ (f : Fabric) (m : Partners) (is : IsMatching (orders_of f.inputs) m) where
   pub proposals_few : IsFabric f → proposals (orders_of f.inputs) m ≤ length f.inputs * length f.inputs
@@ -198,10 +158,7 @@ module _ (f : Fabric) (m : Partners) (is : IsMatching (orders_of f.inputs) m) wh
   pub proposals_none : ((i : ℕ) → length (input f i) ≡ 0) → proposals (orders_of f.inputs) m ≡ 0
   proposals_none none =
       let o = orders_of f.inputs in
-      let within : proposals o m ≤ ports o * 0 = proposals_within o m is 0
-      (λ i. let e : length (outputs_of o i) ≡ 0 = ap length (outputs_at f.inputs i ∙ ap output_order
-      (nil_from_length (input f i) (none i))) in omega arith) in
-      omega arith
+      search (arith, rules, proposals_within o m is 0, outputs_at f.inputs, nil_from_length)
 
 -- ## A slot
 
@@ -222,9 +179,7 @@ module _ (ms : List Machine) (slot : ℕ) (cells : List (Option Cell)) (f g : Fa
   arrived_all n =
       let most =
       total_most (λ i. length (input r.arrived i)) (λ i. length (input f i)) (λ i. one_if (arrival_at cells i)) 0 n
-      arrived_one in
-      let all = all_arrivals cells n in
-      omega arith
+      arrived_one in search (arith, rules, all_arrivals)
 
   sent_same : (i : ℕ) → length (input r.sent i) ≡ length (input r.filled i)
   sent_same i = ap (λ (ls : List (List Queued)). length (list_of ls i)) step.depart.inputs
@@ -246,14 +201,7 @@ module _ (ms : List Machine) (slot : ℕ) (cells : List (Option Cell)) (f g : Fa
   pub cross_few : (n : ℕ) → length f.inputs ≡ n → length (transfers_in r) + at_inputs g n ≤ at_inputs f n + length
       (present cells)
   unfolding transfers_in
-  cross_few n same =
-      let came = arrived_all n in
-      let first = all_cross r.slot 1 r.first r.arrived r.filled step.fill n (first_size ∙ same) in
-      let sent = sent_all n in
-      let second = all_cross r.slot 2 r.second r.sent g step.finish n (second_size ∙ same) in
-      let both =
-      length-append (transfers_of r.first r.arrived.inputs r.slot 1) (transfers_of r.second r.sent.inputs r.slot 2) in
-      omega arith
+  cross_few n same = search (rules, arrived_all, all_cross, first_size, sent_all, second_size, length-append)
 
   -- where no cell waits and none arrives none is proposed
   pub none_proposed : ((i : ℕ) → length (input f i) ≡ 0) → length (present cells) ≡ 0 → sum (proposals_in r) ≡ 0
@@ -276,13 +224,7 @@ module _ (ms : List Machine) (slot : ℕ) (cells : List (Option Cell)) (f g : Fa
       let stable = stable_slot ms slot cells f g r step in
       let one : Sound (slot + 1) r.arrived = arrived ms slot classes cells f g ideal r agrees come stable in
       let two : Sound (slot + 1) r.sent = after_sent ms slot classes cells f g ideal r agrees come stable in
-      let first : proposals (orders_of r.arrived.inputs) r.first ≤ length f.inputs * length f.inputs =
-      subst (λ (n : ℕ). proposals (orders_of r.arrived.inputs) r.first ≤ n * n) step.arrive.ports
-      (proposals_few r.arrived r.first step.first_chosen.stable.matching one.fabric) in
-      let second : proposals (orders_of r.sent.inputs) r.second ≤ length f.inputs * length f.inputs =
-      subst (λ (n : ℕ). proposals (orders_of r.sent.inputs) r.second ≤ n * n) sent_ports
-      (proposals_few r.sent r.second step.second_chosen.stable.matching two.fabric) in
-      omega arith
+      search (arith, rules, proposals_few, sent_ports)
 
 pub square_few : (n : ℕ) → n ≤ 64 → n * n ≤ 4096
 square_few n few = let square : n * n ≤ 64 * 64 = mul-le-mul few few in omega arith

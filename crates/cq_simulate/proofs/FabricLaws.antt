@@ -2,7 +2,8 @@
 -- ports and classes in every slot, and so are those that it admits; and the run begins where nothing waits and no
 -- mark is up, where the fabric and the ideal switch agree. By its own records it is a run without limits of what they
 -- admit, and so its matchings and its slack are what they are without limits.
-use Rattle.std.proofs.Common.{◌≡◌, ℕ, ◌+◌, ◌<◌, ◌≤◌, List, [], ◌∷◌, take, Option, Ok, ap, ◌∙◌, refl, sym, subst, ⊎_elim, arith}
+use Rattle.std.proofs.lemmas.Grind.{common_steps}
+use Rattle.std.proofs.Common.{rules, ◌≡◌, ℕ, ◌+◌, ◌<◌, ◌≤◌, List, [], ◌∷◌, take, Option, Ok, ap, ◌∙◌, refl, sym, subst, ⊎_elim, arith}
 use Rattle.std.specs.Prelude.{All, IsOkAnd, Result, length}
 use Rattle.std.specs.List.{AllByRecursion}
 use Rattle.std.proofs.lemmas.Bool.{cases_lt}
@@ -11,7 +12,7 @@ use Rattle.cq_cells.specs.Traffic.{IsTraffic}
 use Rattle.cq_base.specs.declared.cell.Cell.{Cell}
 use Rattle.cq_base.specs.declared.cell.TagFault.{TagFault}
 use Rattle.cq_rank.specs.Machine.{Machine}
-use Rattle.cq_ideal.specs.Admission.{Admission, Marked, NoLimits, admitted_in}
+use Rattle.cq_ideal.specs.Admission.{Marked, NoLimits, admitted_in}
 use Rattle.cq_ideal.specs.Ending.{first_slots, slots_of}
 use Rattle.cq_ideal.specs.IdealRun.{empty_ideal}
 use Rattle.cq_ideal.specs.IdealSlot.{IdealState}
@@ -30,7 +31,6 @@ use Rattle.cq_laws.specs.Agreement.{Agrees}
 use Rattle.cq_laws.specs.Fabric.{Fabric, IsEmptyFabric, empty_fabric}
 use Rattle.cq_laws.specs.FabricRun.{FabricRun}
 use Rattle.cq_laws.specs.FabricSlot.{SlotRecord}
-use Rattle.cq_laws.specs.Holding.{fabric_held}
 use Rattle.cq_laws.specs.LimitedFabric.{LimitedFabricRun, LimitedFabricSlot, LimitedRecord, LimitedWholeRun, admissions_in, empty_limited_fabric, slots_in}
 use Rattle.cq_laws.specs.Measures.{figures_of}
 use Rattle.cq_laws.specs.Records.{gone_in}
@@ -60,23 +60,8 @@ module _ (limits : List (Option ℕ)) (ms : List Machine) where
   same_choices slot [] f f' g g' [] x y = y
   same_choices slot [] f f' g g' (r ∷ rs) x y = absurd x
   same_choices slot (cells ∷ traffic) f f' g g' [] x y = absurd x
-  same_choices slot (cells ∷ traffic) f f' g g' (r ∷ rs) x y = (
-    y.0,
-    record {
-      admits = y.1.admits;
-      runs = record {
-        numbered = y.1.runs.numbered;
-        arrive = y.1.runs.arrive;
-        first_chosen = x.1.runs.first_chosen;
-        fill = y.1.runs.fill;
-        depart = y.1.runs.depart;
-        second_chosen = x.1.runs.second_chosen;
-        finish = y.1.runs.finish;
-      };
-      marks = y.1.marks;
-    },
-    same_choices (slot + 1) traffic x.0 y.0 g g' rs x.2 y.2,
-  )
+  same_choices slot (cells ∷ traffic) f f' g g' (r ∷ rs) x y =
+      grind (arith, common_steps, same_choices (slot + 1) traffic x.0 y.0 g g' rs x.2 y.2)
 
   pub stable_whole : (came : List Arrival) (start g : Marked Fabric) (rs : List LimitedRecord) →
       LimitedWholeRun IsInputBest limits ms came start rs g → LimitedWholeRun IsStable limits ms came start rs g
@@ -85,14 +70,11 @@ module _ (limits : List (Option ℕ)) (ms : List Machine) where
         after = stable_limited_run ms limits 0 (first_slots came (length rs)) start g (take (length rs) rs) w.after;
         all_came = w.all_came;
         empty = w.empty;
-        first = λ m s after late empty.
-            ⊎_elim
-            (λ (lt : m < length rs).
-            let r = reach (LimitedFabricSlot IsInputBest limits ms) came start rs m (length rs) g (omega arith)
-            (run_of_whole (LimitedFabricSlot IsInputBest limits ms) came start rs (λ f. IsEmptyFabric f.state) g w) in
-            w.first m s (same_choices 0 (first_slots came m) start start r.state s
-            (take m rs) r.after after) late empty)
-            (λ (ge : length rs ≤ m). ge)
+        first = λ m s after late empty. ⊎_elim (λ (lt : m < length rs).
+            let r = reach (LimitedFabricSlot IsInputBest limits ms) came start rs m (length rs) g
+            (omega arith) (run_of_whole (LimitedFabricSlot IsInputBest limits ms) came start rs
+            (λ f. IsEmptyFabric f.state) g w) in
+            search (arith, rules, w.first, same_choices)) (λ (ge : length rs ≤ m). ge)
             (cases_lt m (length rs));
       }
 
@@ -104,11 +86,8 @@ module _ (limits : List (Option ℕ)) (ms : List Machine) where
   admitted_fit ports classes slot [] f g [] come run = tt
   admitted_fit ports classes slot [] f g (r ∷ rs) come run = absurd run
   admitted_fit ports classes slot (cells ∷ traffic) f g [] come run = absurd run
-  admitted_fit ports classes slot (cells ∷ traffic) f g (r ∷ rs) come run = (
-    subst (λ (a : Admission). AreForPorts ports classes a.cells) (sym run.1.admits)
-        (admission_for_ports limits (fabric_held f.state) f.marks cells ports classes come.0),
-    admitted_fit ports classes (slot + 1) traffic run.0 g rs come.1 run.2,
-  )
+  admitted_fit ports classes slot (cells ∷ traffic) f g (r ∷ rs) come run =
+      search (rules, admission_for_ports, admitted_fit ports classes (slot + 1) traffic run.0 g rs come.1 run.2)
 
 -- ## The slots of the records
 
@@ -134,14 +113,8 @@ each_best ms class_count slot (cells ∷ traffic) f g ideal (r ∷ rs) agrees co
     let one = same_slot ms slot class_count cells f next ideal r agrees come.0 stable in
     let ports = ports_kept ms slot class_count cells f next ideal r agrees come.0 stable in
     let before = (arrived ms slot class_count cells f next ideal r agrees come.0 stable).apart in
-    let after = (after_sent ms slot class_count cells f next ideal r agrees come.0 stable).apart in (
-      (
-        record { orders = orders_are r.arrived before; best = is.first_chosen },
-        record { orders = orders_are r.sent after; best = is.second_chosen },
-      ),
-      each_best ms class_count (slot + 1) traffic next g one.next rs one.agrees (subst (λ n.
-          AllByRecursion (AreForPorts n class_count) traffic) (sym ports) come.1) rest,
-    )
+    let after = (after_sent ms slot class_count cells f next ideal r agrees come.0 stable).apart in
+    search (arith, rules, orders_are, each_best ms class_count (slot + 1) traffic next g one.next rs one.agrees)
 
 -- ## The run of tables
 
@@ -162,28 +135,22 @@ module _ (t : Tables) (came : List Arrival) where
 
   runs : (rs : List LimitedRecord) (is : IsFabricRun t came rs) →
       LimitedFabricRun IsInputBest t.limits ms 0 (first_slots came (length rs)) start rs is.end
-  runs rs is =
-      run_of_whole (LimitedFabricSlot IsInputBest t.limits ms) came start rs (λ f. IsEmptyFabric f.state) is.end is.runs
+  runs rs is = grind (arith, common_steps, run_of_whole)
 
   -- without limits, of what it admits
   plainly : (rs : List LimitedRecord) (is : IsFabricRun t came rs) →
       FabricRun IsInputBest ms 0 (admitted_in (admissions_in rs)) plain (slots_in rs) is.end.state
-  plainly rs is =
-      recorded IsInputBest t.limits ms 0 (first_slots came (length rs)) start is.end rs (runs rs is)
+  plainly rs is = grind (arith, common_steps, recorded, runs)
 
   pub slots_sent : (rs : List LimitedRecord) → IsFabricRun t came rs →
       (figures_of (ports_of t.setup) (slots_in rs)).slots ≡ slots_of (departures_in_run rs)
-  slots_sent rs is =
-      slots_of_figures IsInputBest ms (ports_of t.setup) (admitted_in (admissions_in rs)) plain is.end.state
-      (slots_in rs) (plainly rs is)
+  slots_sent rs is = slots_of_figures IsInputBest ms (ports_of t.setup) (admitted_in (admissions_in rs)) plain
+      is.end.state (slots_in rs) (plainly rs is)
 
   module _ (rs : List LimitedRecord) (traffic : IsTraffic (ports_of t.setup) (classes_of t.setup) came)
       (is : IsFabricRun t came rs) where
     fits : AllByRecursion (AreForPorts (length plain.inputs) (classes_of t.setup)) (admitted_in (admissions_in rs))
-    fits =
-        traffic_for_empty (ports_of t.setup) (openings_of t.setup) (classes_of t.setup) (admitted_in (admissions_in rs))
-        (admitted_fit t.limits ms (ports_of t.setup) (classes_of t.setup) 0 (first_slots came (length rs)) start is.end
-        rs (traffic_fits (length rs) traffic) (runs rs is))
+    fits = grind (arith, common_steps, traffic_for_empty, admitted_fit, traffic_fits, runs)
 
     -- with stable matchings it is one too
     stable : LimitedWholeRun IsStable t.limits ms came start rs is.end
@@ -193,10 +160,8 @@ module _ (t : Tables) (came : List Arrival) where
     as_many_slots = stable_slots t came rs is.end traffic stable
 
     pub best_in_each : AreInputBest rs
-    best_in_each =
-        of_slots IsBestIn rs
-        (each_best ms (classes_of t.setup) 0 (admitted_in (admissions_in rs)) plain is.end.state
-        (empty_ideal (ports_of t.setup) (openings_of t.setup)) (slots_in rs)
+    best_in_each = of_slots IsBestIn rs (each_best ms (classes_of t.setup) 0 (admitted_in (admissions_in rs)) plain
+        is.end.state (empty_ideal (ports_of t.setup) (openings_of t.setup)) (slots_in rs)
         (empty_agree (ports_of t.setup) (openings_of t.setup)) fits (plainly rs is))
 
     pub slot_by_slot : SendsSlotBySlot t came rs
@@ -210,49 +175,31 @@ module _ (t : Tables) (came : List Arrival) where
     sends_as_ideal = stable_sends t came rs is.end traffic stable
 
     pub always_slack : AlwaysHasSlack rs
-    always_slack =
-        of_slots (λ r. HasSlack 0 r.arrived) rs
-        (run_slack ms (classes_of t.setup) 0 (admitted_in (admissions_in rs)) plain is.end.state
-        (empty_ideal (ports_of t.setup) (openings_of t.setup)) (slots_in rs)
-        (empty_agree (ports_of t.setup) (openings_of t.setup)) fits
+    always_slack = of_slots (λ r. HasSlack 0 r.arrived) rs (run_slack ms (classes_of t.setup) 0
+        (admitted_in (admissions_in rs)) plain is.end.state (empty_ideal (ports_of t.setup) (openings_of t.setup))
+        (slots_in rs) (empty_agree (ports_of t.setup) (openings_of t.setup)) fits
         (stable_run ms 0 (admitted_in (admissions_in rs)) plain is.end.state (slots_in rs) (plainly rs is)))
 
     pub emulates : EmulatesIdeal t came rs is
-    emulates = record {
-      slot_by_slot = slot_by_slot;
-      departures = sends_as_ideal;
-      input_best = best_in_each;
-      slack = always_slack;
-      ends = as_many_slots;
-      -- it ends with the last arrival, or with the last departure
-      slots =
-          let many = as_many_slots in
-          let last = slots_are t came (departures_in_run rs) sends_as_ideal in
-          let told = slots_sent rs is in
-          omega arith;
-      drained = is.runs.empty;
-    }
+    emulates =
+        search (rules, slot_by_slot, sends_as_ideal, best_in_each, always_slack, as_many_slots, slots_are, slots_sent)
 
     -- where no output has a limit a cell departs in the last slot
     pub all_slots_send : NoLimits t.limits → IsSetup t.setup →
         (figures_of (ports_of t.setup) (slots_in rs)).slots ≡ length rs
     all_slots_send none in_range =
-        slots_sent rs is
-        ∙ sym (last_departs_without_limits t came (departures_in_run rs) none in_range traffic sends_as_ideal)
-        ∙ as_many_slots
+        grind (arith, common_steps, slots_sent, last_departs_without_limits, sends_as_ideal, as_many_slots)
 
   pub kept_as_ideal : (run : kept.FabricRun) → IsTraffic (ports_of t.setup) (classes_of t.setup) came →
       IsKeptOf t came run → ideal_departures t came ≡ Ok run.sent.items
   kept_as_ideal run traffic kept = sends_as_ideal kept.records traffic kept.is_run ∙ ap Ok (sym kept.sent)
 
   pub only_one : (rs ss : List LimitedRecord) → IsFabricRun t came rs → IsFabricRun t came ss → rs ≡ ss
-  only_one rs ss one other =
-      (one_limited_whole t.limits ms came start one.end other.end rs ss one.runs other.runs).0
+  only_one rs ss one other = grind (arith, common_steps, one_limited_whole)
 
   -- no output has sent more cells than the run has slots
   pub once_each_slot : (rs : List LimitedRecord) → IsFabricRun t came rs →
       All (λ x. x.cells ≤ (figures_of (ports_of t.setup) (slots_in rs)).slots)
       (figures_of (ports_of t.setup) (slots_in rs)).outputs
-  once_each_slot rs is =
-      once_a_slot ms (admitted_in (admissions_in rs)) plain is.end.state (slots_in rs) (ports_of t.setup)
-      (plainly rs is)
+  once_each_slot rs is = once_a_slot ms (admitted_in (admissions_in rs)) plain is.end.state (slots_in rs)
+      (ports_of t.setup) (plainly rs is)

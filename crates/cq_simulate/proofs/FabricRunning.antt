@@ -4,13 +4,13 @@
 -- each list, in each buffer, and in the lists of departures and of transfers, as each admitted cell leaves once and
 -- crosses once. While a cell waits one leaves in each slot, so that the slots do not end before the cells, and there
 -- are no more slots with proposals than cells; and a slot has no more than twice the number of ports squared.
-use Rattle.std.proofs.Common.{take, ◌≡◌, ℕ, zero, suc, ◌+◌, ◌-◌, ◌*◌, ◌<◌, ◌≤◌, false, List, [], ◌∷◌, ◌++◌, length, map, Option, refl, sym, ap, ◌∙◌, subst, ⊎_elim, arith, length-append, Bool, true, append_assoc}
-use Rattle.std.specs.Prelude.{sum, fold, slice_index}
-use Rattle.std.specs.List.{range_with_len, flat_map}
+use Rattle.std.proofs.Common.{rules, take, ◌≡◌, ℕ, zero, suc, ◌+◌, ◌-◌, ◌*◌, ◌<◌, ◌≤◌, false, List, [], ◌∷◌, ◌++◌, length, map, Option, refl, sym, ap, ◌∙◌, subst, ⊎_elim, arith, length-append, Bool, true, append_assoc}
+use Rattle.std.proofs.lemmas.Grind.{common_steps}
+use Rattle.std.specs.Prelude.{sum, slice_index}
+use Rattle.std.specs.List.{flat_map}
 use Rattle.std.proofs.lemmas.Bool.{cases_lt}
 use Rattle.std.proofs.lemmas.List.{length-map, get_or_past, map-append, take_all, take-append-le, append-nil}
 use Rattle.std.proofs.lemmas.List.FromFn.{map-range_with_len_more}
-use Rattle.cq_base.specs.Arrivals.{arrival_at}
 use Rattle.cq_base.specs.Arriving.{Arrival, arriving, end_of}
 use Rattle.cq_base.specs.Room.{RoomView}
 use Rattle.cq_base.specs.declared.cell.Cell.{Cell}
@@ -28,14 +28,14 @@ use Rattle.cq_ideal.proofs.FlowCount.{none_after}
 use Rattle.cq_ideal.proofs.Parted.{arriving_length, arriving_here, arriving_parts}
 use Rattle.cq_ideal.proofs.Refusals.{one_slot_more}
 use Rattle.cq_ideal.proofs.Waiting.{counted, waiting, total}
-use Rattle.cq_ideal.specs.Admission.{Admission, Marked}
+use Rattle.cq_ideal.specs.Admission.{Marked}
 use Rattle.cq_ideal.specs.Ending.{arriving_from}
 use Rattle.cq_ideal.specs.Ideal.{HaveLeft}
 use Rattle.cq_ideal.specs.IdealRun.{departures_of}
 use Rattle.cq_ideal.specs.IdealSlot.{IdealState, departures_in}
 use Rattle.cq_ideal.specs.LimitedIdeal.{LimitedSent}
 use Rattle.cq_ideal.specs.Ranking.{AreForPorts}
-use Rattle.cq_ideal.specs.Refused.{refused_in, with_refused}
+use Rattle.cq_ideal.specs.Refused.{refused_in}
 use Rattle.cq_laws.proofs.InputBest.{stable_limited_slot}
 use Rattle.cq_laws.proofs.Joined.{all_go_on}
 use Rattle.cq_laws.proofs.KeptParts.{departures_one, transfers_both, transfers_one, departures_on}
@@ -49,7 +49,7 @@ use Rattle.cq_laws.specs.Holding.{fabric_held, held_for}
 use Rattle.cq_laws.specs.LimitedAgreement.{LimitedAgrees}
 use Rattle.cq_laws.specs.LimitedFabric.{IsLimitedFault, LimitedFabricRun, LimitedFabricSlot, LimitedRecord, admissions_in, slots_in, LimitedFabricStops}
 use Rattle.cq_laws.specs.Measures.{figures_after, proposals_in}
-use Rattle.cq_laws.specs.Records.{gone_in, transfers_in, transfers_of_run}
+use Rattle.cq_laws.specs.Records.{gone_in, transfers_of_run}
 use Rattle.cq_prefs.specs.Pairing.{IsInputBest}
 use Rattle.cq_rank.specs.Machine.{Machine}
 use Rattle.cq_simulate.proofs.FabricCounts.{at_inputs, cross_few, none_proposed, proposed_few, square_few, total_next}
@@ -110,12 +110,7 @@ pub record Crossing (whole : Bool) (ms : List Machine) (came : List Arrival) (fi
 
 -- a later slot changes none of it either
 pub made_on : {first now after : EngineView} → IsMadeAs first now → IsMadeAs now after → IsMadeAs first after
-made_on was is = record {
-  fixed = is.fixed ∙ was.fixed;
-  limits = is.limits ∙ was.limits;
-  from_inputs = is.from_inputs ∙ was.from_inputs;
-  to_outputs = is.to_outputs ∙ was.to_outputs;
-}
+made_on was is = grind (arith, common_steps)
 
 -- the slot was done, and what left in it, which stood in a list of its own, stands behind what was sent
 pub record Passed (ms : List Machine) (slot : ℕ) (cells : List (Option Cell)) (now after : EngineView)
@@ -128,10 +123,7 @@ pub record Passed (ms : List Machine) (slot : ℕ) (cells : List (Option Cell)) 
 waiting-sum : (lists : List (List Queued)) → waiting lists ≡ sum (map length lists)
 unfolding waiting
 waiting-sum [] = refl
-waiting-sum (cells ∷ lists) =
-    let rest = waiting-sum lists in
-    let more = sum_by-cons (λ (n : ℕ). n) (length cells) (map length lists) in
-    omega arith
+waiting-sum (cells ∷ lists) = grind (arith, common_steps, sum_by-cons, waiting-sum lists)
 
 -- as many cells wait in the ideal switch as the fabric holds
 pub all_wait : (slot : ℕ) (f : Fabric) (ideal : IdealState) → Agrees slot f ideal →
@@ -147,15 +139,12 @@ inputs_joined (cells ∷ lists) =
     let next : total (λ i. length (list_of (cells ∷ lists) i)) (0 + 1) (length lists) ≡ total
     (λ i. length (list_of lists i)) 0 (length lists) =
     total_next (λ i. length (list_of (cells ∷ lists) i)) 0 (0 + 1) (length lists) refl in
-    let rest = inputs_joined lists in
-    let both = length-append cells (flat_map (λ (l : List Queued). l) lists) in
-    omega arith
+    let rest = inputs_joined lists in search (arith, rules, length-append)
 
 pub all_at_inputs : (f : Fabric) (p : ℕ) → length f.inputs ≡ p →
     at_inputs f p ≡ length (flat_map (λ (cells : List Queued). cells) f.inputs)
 unfolding at_inputs
-all_at_inputs f p same =
-    ap (λ (n : ℕ). total (λ i. length (input f i)) 0 n) (sym same) ∙ inputs_joined f.inputs
+all_at_inputs f p same = ap (λ (n : ℕ). total (λ i. length (input f i)) 0 n) (sym same) ∙ inputs_joined f.inputs
 
 -- where the engine goes on it agrees with the ideal switch of its cells
 abbrev ideal_at : EngineView → Marked IdealState
@@ -220,10 +209,7 @@ crossing_first whole ms came first sent note n ready slots =
 -- ## A slot
 
 none_at : (f : Fabric) → IsEmptyFabric f → (i : ℕ) → length (input f i) ≡ 0
-none_at f empty i =
-    let nil : List Queued = [] in
-    ⊎_elim (λ inside. ap length (empty.inputs i nil inside)) (λ past.
-    ap length (get_or_past f.inputs i nil past)) (cases_lt i (length f.inputs))
+none_at f empty i = grind (arith, common_steps, empty.inputs, get_or_past, cases_lt)
 
 -- one record more
 slots_more : (rs : List LimitedRecord) (r : LimitedRecord) → slots_in (rs ++ r ∷ []) ≡ slots_in rs ++ r.of_slot ∷ []
@@ -231,33 +217,22 @@ slots_more rs r = map-append (λ (r : LimitedRecord). r.of_slot) rs (r ∷ [])
 
 refused_more : (rs : List LimitedRecord) (r : LimitedRecord) →
     refused_in (admissions_in (rs ++ r ∷ [])) ≡ refused_in (admissions_in rs) ++ r.admission.refused
-refused_more rs r =
-    ap (λ (l : List Admission). refused_in l) (map-append (λ (r : LimitedRecord). r.admission) rs (r ∷ []))
-    ∙ one_slot_more (admissions_in rs) r.admission
+refused_more rs r = grind (arith, common_steps, map-append, one_slot_more)
 
 -- the slots so far and one more
 next_slots : (came : List Arrival) (a n slot k : ℕ) → a + n ≡ slot → k ≡ n + 1 →
     arriving_from came a n ++ arriving came slot ∷ [] ≡ arriving_from came a k
 unfolding arriving_from
-next_slots came a n slot k at more =
-    sym (map-range_with_len_more (arriving came) a n slot at)
-    ∙ ap (λ (m : ℕ). map (arriving came) (range_with_len a m)) (sym more)
+next_slots came a n slot k at more = grind (arith, common_steps, map-range_with_len_more)
 
 -- those that are left, this one first
 slots_left : (came : List Arrival) (a n slot j k : ℕ) → a + n ≡ slot → k ≡ n + suc j →
     arriving_from came a n ++ arriving came slot ∷ arriving_from came (slot + 1) j ≡ arriving_from came a k
-slots_left came a n slot j k at long =
-    ap (λ (l : List (List (Option Cell))). arriving_from came a n ++ l) (sym (arriving_here came slot j))
-    ∙ arriving_parts came a slot n (suc j) k (sym at) long
+slots_left came a n slot j k at long = ap (λ (l : List (List (Option Cell))). arriving_from came a n ++ l)
+    (sym (arriving_here came slot j)) ∙ arriving_parts came a slot n (suc j) k (sym at) long
 
 module _ (whole : Bool) (ms : List Machine) (came : List Arrival) (first : EngineView) (first_sent : RoomView Departure)
     (first_note : RoomView Transfer) where
-  -- these slots of the run are these records
-  abbrev Ran : ℕ → List LimitedRecord → Marked Fabric → Type 0
-  Ran m rs f =
-      LimitedFabricRun IsInputBest first.limits ms first.next (arriving_from came first.next m) (marked_fabric first) rs
-      f
-
   empty_beside : (slot : ℕ) (f : Marked Fabric) (ideal : Marked IdealState) → LimitedAgrees slot f ideal →
       waiting ideal.state.lists ≡ 0 → IsEmptyFabric f.state
   empty_beside slot f ideal agrees none =
@@ -268,8 +243,6 @@ module _ (whole : Bool) (ms : List Machine) (came : List Arrival) (first : Engin
       Crossing whole ms came first first_sent first_note slot n now sent note → whole ≡ true →
       (end_of came ≤ slot → IsEmptyFabric now.fabric → ⊥) → 0 < n
   crossing_left slot zero now sent note c is more =
-      let few : waiting c.ideal.state.lists + come_count (arriving_from came slot zero) + (end_of came - slot) ≤ 0 =
-      c.few is in
       absurd (more (omega arith) (empty_beside slot (marked_fabric now) c.ideal c.agrees (omega arith)))
   crossing_left slot (suc n) now sent note c is more = omega arith
 
@@ -282,13 +255,7 @@ module _ (whole : Bool) (ms : List Machine) (came : List Arrival) (first : Engin
       ⊎_elim
       (λ (before : m < length c.records). c.going is m f before run late empty)
       (λ (now_or_later : length c.records ≤ m).
-      let at : m ≡ length c.records = omega arith in
-      let all : take m c.records ≡ c.records = take_all m c.records now_or_later in
-      let here : Ran (length c.records) c.records f =
-      subst (λ (k : ℕ). Ran k c.records f) at (subst (λ (l : List LimitedRecord). Ran m l f) all run) in
-      let same = ((only_limited_run ms first.limits).run first.next (arriving_from came first.next (length c.records))
-      (marked_fabric first) f (marked_fabric now) c.records c.records here c.went.runs).1 in
-      more (omega arith) (subst (λ (g : Marked Fabric). IsEmptyFabric g.state) same empty))
+      search (arith, rules, take_all m c.records now_or_later, only_limited_run ms first.limits))
       (cases_lt m (length c.records))
 
   pub crossing_next : (slot n : ℕ) (now : EngineView) (sent : RoomView Departure) (note : RoomView Transfer)
@@ -311,7 +278,8 @@ module _ (whole : Bool) (ms : List Machine) (came : List Arrival) (first : Engin
       let admitted = r.admission.cells in
       let ideal = c.ideal in
       let step : LimitedFabricSlot IsInputBest first.limits ms slot cells f r g =
-      subst (λ (l : List (Option ℕ)). LimitedFabricSlot IsInputBest l ms slot cells f r g) c.went.limits done.is_slot in
+      subst (λ (l : List (Option ℕ)). LimitedFabricSlot IsInputBest l ms slot cells f r g) c.went.limits
+      done.is_slot in
       let stable = stable_limited_slot ms first.limits slot cells f g r step in
       let come : AreForPorts (length now.fabric.inputs) classes cells =
       subst (λ (k : ℕ). AreForPorts k classes cells) (sym c.ports) for_ports in
@@ -340,106 +308,54 @@ module _ (whole : Bool) (ms : List Machine) (came : List Arrival) (first : Engin
           runs =
               let so_far = arriving_length came first.next (length c.records) in
               let at : slot ≡ first.next + length (arriving_from came first.next (length c.records)) = omega arith in
-              subst (λ (l : List (List (Option Cell))).
-              LimitedFabricRun IsInputBest first.limits ms first.next l (marked_fabric first) (c.records ++ r ∷ []) g)
+              subst (λ (l : List (List (Option Cell))). LimitedFabricRun IsInputBest first.limits ms first.next l
+              (marked_fabric first) (c.records ++ r ∷ []) g)
               (next_slots came first.next (length c.records) slot (length (c.records ++ r ∷ [])) long (omega arith))
               ((all_go_on (LimitedFabricSlot IsInputBest first.limits ms) (IsLimitedFault first.limits ms)).slot
-              first.next
-              (arriving_from came first.next (length c.records)) cells (marked_fabric first) f g c.records r c.went.runs
+              first.next (arriving_from came first.next (length c.records)) cells (marked_fabric first) f g
+              c.records r c.went.runs
               (subst (λ (k : ℕ). LimitedFabricSlot IsInputBest first.limits ms k cells f r g) at step));
           departed =
               let seen = length-map c.records (λ (r : LimitedRecord). r.of_slot) in
-              passed.put.items
-              ∙ ap (λ (l : List Departure). l ++ gone) c.went.departed
-              ∙ append_assoc first_sent.items (departures_of first.next (gone_in (slots_in c.records))) gone
-              ∙ ap (λ (l : List Departure). first_sent.items ++ l)
-              (ap (λ (l : List Departure). departures_of first.next (gone_in (slots_in c.records)) ++ l)
-              (sym (departures_one slot r.of_slot))
-              ∙ sym (departures_on (slots_in c.records) (r.of_slot ∷ []) first.next slot (omega arith))
-              ∙ ap (λ (l : List SlotRecord). departures_of first.next (gone_in l)) (sym one_more));
-          crossed =
-              done.crossed
-              ∙ ap (λ (l : List Transfer). l ++ transfers_in r.of_slot) c.went.crossed
-              ∙ append_assoc first_note.items (transfers_of_run (slots_in c.records)) (transfers_in r.of_slot)
-              ∙ ap (λ (l : List Transfer). first_note.items ++ l)
-              (ap (λ (l : List Transfer). transfers_of_run (slots_in c.records) ++ l) (sym (transfers_one r.of_slot))
-              ∙ sym (transfers_both (slots_in c.records) (r.of_slot ∷ []))
-              ∙ ap transfers_of_run (sym one_more));
-          counted =
-              done.counted
-              ∙ ap (λ (x : Figures). figures_after x r.of_slot) c.went.counted
-              ∙ sym (fold-append figures_after first.figures (slots_in c.records) (r.of_slot ∷ []))
-              ∙ ap (λ (l : List SlotRecord). fold figures_after first.figures l) (sym one_more);
-          refused =
-              done.refused
-              ∙ ap (with_refused r.admission.refused) c.went.refused
-              ∙ sym (all_counted_both (refused_in (admissions_in c.records)) r.admission.refused first.refused)
-              ∙ ap (λ (l : List Cell). with_refused l first.refused) (sym (refused_more c.records r));
+              search (
+                arith,
+                rules,
+                append_assoc first_sent.items (departures_of first.next (gone_in (slots_in c.records))) gone,
+                departures_one slot r.of_slot,
+                departures_on (slots_in c.records) (r.of_slot ∷ []) first.next slot,
+              );
+          crossed = search (arith, rules, append_assoc, transfers_one, transfers_both);
+          counted = search (arith, rules, fold-append);
+          refused = search (
+            arith,
+            rules,
+            all_counted_both (refused_in (admissions_in c.records)) r.admission.refused first.refused,
+            refused_more c.records r,
+          );
           limits = made.limits ∙ c.went.limits;
           running = running;
         };
-        lists = λ i inside.
-            let had = c.lists i inside in
-            let from = from_here i came slot n in
-            let kept = limited_lists_kept first.limits ms slot cells f g r step i in
-            let one = some_one (arrival_at cells i) in
-            let comes = arrives_found came slot i in
-            omega arith;
-        buffers = λ j inside.
-            let had = c.buffers j inside in
-            let to = for_here j came slot n in
-            let kept = limited_outputs_kept first.limits ms slot cells f g r step j in
-            omega arith;
-        spare =
-            let had : waiting ideal.state.lists + come_count (arriving_from came slot (suc n)) + p ≤ sent.spare =
-            c.spare in
-            let all : length (departures_in slot o.sent.gone) + waiting o.sent.after.lists ≤ waiting ideal.state.lists +
-            length (present admitted) = k.all in
-            let same : length gone ≡ length (departures_in slot o.sent.gone) =
-            ap (λ (l : List (Option Queued)). length (departures_in slot l)) o.gone in
-            let left : sent_new.spare + length gone ≡ sent.spare = passed.put.spare in
-            omega arith;
-        room =
-            let had : at_inputs f.state p + come_count (arriving_from came slot (suc n)) + 2 * p ≤ note.spare =
-            c.room in
-            let cross = cross_few ms slot admitted f.state g.state r.of_slot step.runs p c.ports in
-            let left : note_new.spare + length (transfers_in r.of_slot) ≡ note.spare = done.crossed_room in
-            omega arith;
+        lists =
+            let limited_lists_kept-here = limited_lists_kept first.limits ms slot cells f g r step in
+            let arrives_found-here = arrives_found came slot in search (arith, rules, c.lists, from_here, some_one);
+        buffers = search (arith, rules, for_here, limited_outputs_kept first.limits ms slot cells f g r step);
+        spare = search (arith, rules, waiting, come_count, present);
+        room = search (arith, rules, at_inputs, come_count, cross_few);
         proposed =
-            let had : now.figures.proposals + 8192 * (waiting ideal.state.lists + come_count
-            (arriving_from came slot (suc n))) ≤ first.figures.proposals + 8192 * length came = c.proposed in
-            let more : after.figures.proposals ≡ now.figures.proposals + sum (proposals_in r.of_slot) =
-            ap (λ (x : Figures). x.proposals) done.counted ∙ proposals_more now.figures r.of_slot in
-            let inputs : length now.fabric.inputs ≡ p = c.ports in
-            let square = square_few (length now.fabric.inputs) (omega arith) in
-            let most = proposed_few ms slot admitted f.state g.state r.of_slot step.runs classes ideal.state
-            c.agrees.states (subst (λ (a : Admission). AreForPorts (length now.fabric.inputs) classes a.cells)
-            (sym step.admits) (admission_for_ports first.limits (fabric_held now.fabric) now.marks cells
-            (length now.fabric.inputs) classes come)) in
-            ⊎_elim
-            (λ (some : 0 < waiting ideal.state.lists + length (present admitted)). omega arith)
-            (λ (none : waiting ideal.state.lists + length (present admitted) ≤ 0).
-            let quiet = none_proposed ms slot admitted f.state g.state r.of_slot step.runs
-            (none_at f.state (empty_beside slot f ideal c.agrees (omega arith))) (omega arith) in
-            omega arith)
-            (cases_lt 0 (waiting ideal.state.lists + length (present admitted)));
-        many =
-            let had : length (refused_in (admissions_in c.records)) + come_count (arriving_from came slot (suc n)) ≤
-            length (to_come first.next came) = c.many in
-            let all = ap (λ (l : List Cell). length l) (refused_more c.records r)
-            ∙ length-append (refused_in (admissions_in c.records)) r.admission.refused in
-            omega arith;
-        few = λ is.
-            let had : waiting ideal.state.lists + come_count (arriving_from came slot (suc n)) + (end_of came - slot) ≤
-            suc n = c.few is in
-            fewer_left (waiting ideal.state.lists) (waiting alike.next.state.lists) (length (present cells))
-            (come_count (arriving_from came (slot + 1) n)) (end_of came) slot n (omega arith) (omega arith)
-            (λ le. none_after came slot le) (λ le. none_come came n (slot + 1) le);
+            let proposals_more-here = proposals_more now.figures r.of_slot in
+            let square_few-here = square_few (length now.fabric.inputs) in
+            let proposed_few-here = proposed_few ms slot admitted f.state g.state r.of_slot step.runs classes in
+            let admission_for_ports-here = admission_for_ports first.limits (fabric_held now.fabric) now.marks cells
+            (length now.fabric.inputs) classes come in
+            let none_proposed-here = none_proposed ms slot admitted f.state g.state r.of_slot step.runs in
+            let none_at-here = none_at f.state in
+            let empty_beside-here = empty_beside slot f in search (arith, rules);
+        many = search (arith, rules, come_count, refused_more, length-append);
+        few = search (arith, rules, waiting, come_count, c.few, fewer_left, present, none_after, none_come);
         going = λ is m h before run le empty.
             let same : take m (c.records ++ r ∷ []) ≡ take m c.records =
             take-append-le m c.records (r ∷ []) (omega arith) in
-            not_before slot (suc n) now sent note c is (more is) m h (omega arith)
-            (subst (λ (l : List LimitedRecord). Ran m l h) same run) le empty;
+            search (arith, rules, not_before slot (suc n) now sent note c is (more is) m h);
       }
 
   -- ## The end of the loop
@@ -447,17 +363,7 @@ module _ (whole : Bool) (ms : List Machine) (came : List Arrival) (first : Engin
   pub crossing_over : (slot n : ℕ) (now : EngineView) (sent : RoomView Departure) (note : RoomView Transfer) →
       Crossing whole ms came first first_sent first_note slot n now sent note → whole ≡ true → end_of came ≤ slot →
       IsEmptyFabric now.fabric → HasRunOn ms came first now first_sent sent first_note note
-  crossing_over slot n now sent note c is late empty =
-      let long : first.next + length c.records ≡ slot = c.long in
-      record {
-        records = c.records;
-        went = c.went;
-        all_came = omega arith;
-        empty = empty;
-        first = λ m f run le none.
-            ⊎_elim (λ (before : m < length c.records). absurd (c.going is m f before run le none)) (λ ge. ge)
-            (cases_lt m (length c.records));
-      }
+  crossing_over slot n now sent note c is late empty = grind (arith, common_steps, cases_lt)
 
   -- a tag fault at the next slot stops the run, whatever comes behind it
   pub crossing_fault : (slot n : ℕ) (now : EngineView) (sent : RoomView Departure) (note : RoomView Transfer)

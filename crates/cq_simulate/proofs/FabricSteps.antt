@@ -1,9 +1,10 @@
 -- What each step of the loop over the slots of the fabric asks for, where so many slots are left as are not yet over.
-use Rattle.std.proofs.Common.{◌≡◌, ◌↔◌, ℕ, suc, ◌+◌, ◌-◌, ◌*◌, ◌<◌, ◌≤◌, ◌^◌, Bool, true, false, List, [], ◌++◌, length, map, replicate, Option, Some, Result, Ok, Err, refl, sym, ap, ◌∙◌, subst, ⊎_elim, arith}
-use Rattle.std.specs.Prelude.{IsTrue, slice_index}
+use Rattle.std.proofs.lemmas.Grind.{common_steps}
+use Rattle.std.proofs.Common.{rules, ◌≡◌, ◌↔◌, ℕ, suc, ◌+◌, ◌-◌, ◌<◌, ◌≤◌, ◌^◌, Bool, true, false, List, [], ◌++◌, length, map, replicate, Option, Some, Result, Ok, Err, refl, sym, ap, ◌∙◌, subst, arith}
+use Rattle.std.specs.Prelude.{IsTrue}
 use Rattle.std.proofs.lemmas.Bool.{cases_lt}
 use Rattle.cq_base.specs.Arrivals.{arrival_at, no_arrivals}
-use Rattle.cq_base.specs.Arriving.{Arrival, arriving, end_of, enough}
+use Rattle.cq_base.specs.Arriving.{Arrival, arriving, end_of}
 use Rattle.cq_base.specs.Room.{RoomView}
 use Rattle.cq_base.specs.declared.cell.Cell.{Cell}
 use Rattle.cq_base.specs.declared.cell.Departure.{Departure}
@@ -12,22 +13,19 @@ use Rattle.cq_base.specs.declared.cell.Transfer.{Transfer}
 use Rattle.cq_cells.specs.Traffic.{IsShort}
 use Rattle.cq_engine.specs.Engine.{EngineView, HaveBufferRoom, HaveListRoom, IsMadeAs, IsReadyFor, SlotDone, answer_to, its_admission, marked_fabric, ports_of}
 use Rattle.cq_engine.specs.Resting.{HasRested}
-use Rattle.cq_ideal.specs.Admission.{Marked}
-use Rattle.cq_ideal.specs.Ideal.{HaveLeft, count_for}
+use Rattle.cq_ideal.specs.Ideal.{HaveLeft}
 use Rattle.cq_ideal.specs.Limiter.{CanCount}
 use Rattle.cq_ideal.specs.Ranking.{AreForPorts, Ranking, ranking}
-use Rattle.cq_ideal.specs.declared.refused.Refused.{Refused}
-use Rattle.cq_laws.specs.Fabric.{Fabric, IsEmptyFabric}
+use Rattle.cq_laws.specs.Fabric.{IsEmptyFabric}
 use Rattle.cq_laws.specs.LimitedFabric.{LimitedFabricRun, fabric_admission, admissions_in}
 use Rattle.cq_laws.specs.LimitedQuiet.{quiet_limited_slots}
 use Rattle.cq_prefs.specs.Pairing.{IsInputBest}
 use Rattle.cq_rank.specs.Machine.{Machine}
 use Rattle.cq_rank.specs.Switch.{class_count}
-use Rattle.cq_simulate.proofs.FabricCounts.{square_few}
 use Rattle.cq_simulate.proofs.FabricRunning.{Crossing, Passed, crossing_fault, crossing_first, crossing_left, crossing_next, crossing_over, over_by, over_by_is}
 use Rattle.cq_simulate.proofs.Handed.{IsFree, few_left, free_again, left_with_all}
 use Rattle.cq_simulate.proofs.Steps.{ends_early}
-use Rattle.cq_simulate.proofs.FabricStretches.{crossing_rest, same_fabric}
+use Rattle.cq_simulate.proofs.FabricStretches.{crossing_rest}
 use Rattle.cq_ideal.proofs.Counting.{counts_fit}
 use Rattle.cq_ideal.specs.Refused.{refused_in}
 use Rattle.cq_simulate.specs.GoingOn.{HasPartedTo, HasRunOn, IsReadyOn, IsReadyPart, NoneCome, StopsWithin}
@@ -47,30 +45,12 @@ rank_err (Err other) fault e = let same : other ≡ fault = cc in ap (λ (f : Ta
 -- from where the engine stands a run to its end has few slots
 over_few : (came : List Arrival) (next : ℕ) → next < 2 ^ 63 → IsShort came → length came ≤ 2 ^ 34 →
     over_by came next ≤ 2 ^ 63 + 2 ^ 36
-over_few came next early short few =
-    let ends = ends_early came in
-    let all : enough came ≤ 2 ^ 63 + 2 ^ 35 = short in
-    let over = over_by_is came next in
-    omega arith
-
-ends_in : (came : List Arrival) (next : ℕ) → end_of came ≤ over_by came next
-ends_in came next = let over = over_by_is came next in omega arith
-
--- a quiet stretch ends within the run
-skipped_within : (came : List Arrival) (slot next end : ℕ) → IsQuiet came slot next → end_of came ≤ end → slot ≤ end →
-    next ≤ end
-skipped_within came slot next end quiet ends inside =
-    let late : slot ≤ next = quiet.late in
-    ⊎_elim (λ lt. let before = quiet.more lt in omega arith) (λ ge. omega arith) (cases_lt slot next)
+over_few came next early short few = grind (arith, common_steps, ends_early, over_by_is)
 
 -- where no slot is skipped nothing comes either
 pub quiet_if : {came : List Arrival} {slot next : ℕ} → slot ≤ next → (slot < next → IsQuiet came slot next) →
     IsQuiet came slot next
-quiet_if late is = record {
-  late = late;
-  none = λ t from to. (is (omega arith)).none t from to;
-  more = λ some. (is some).more some;
-}
+quiet_if late is = grind (arith, common_steps)
 
 starts_in : (came : List Arrival) (next : ℕ) → next ≤ over_by came next
 starts_in came next = let over = over_by_is came next in omega arith
@@ -133,16 +113,14 @@ module _ (whole : Bool) (end : ℕ) (M : List ℕ → Machine) (came : List Arri
 
   at_first : first.next ≤ end → (whole ≡ true → end ≡ over_by came first.next) →
       Before first.next first first_sent first_note
-  at_first le slots = crossing_first whole (map M first.fixed) came first first_sent first_note (end - first.next) ready
-      (λ is. let all = slots is in omega arith)
+  at_first le slots = grind (arith, common_steps, crossing_first)
 
   -- of a run to its end
   a_slot_left : (slot : ℕ) (now : EngineView) (sent : RoomView Departure) (note : RoomView Transfer) →
       Before slot now sent note → whole ≡ true → (end_of came ≤ slot → IsEmptyFabric now.fabric → ⊥) → slot < end
   a_slot_left slot now sent note b is more =
-      let some =
-      crossing_left whole (map M first.fixed) came first first_sent first_note slot (end - slot) now sent note
-      b is more in
+      let some = crossing_left whole (map M first.fixed) came first first_sent first_note slot (end - slot) now sent
+      note b is more in
       omega arith
 
   module _ (slot : ℕ) (now : EngineView) (sent : RoomView Departure) (note : RoomView Transfer)
@@ -156,8 +134,7 @@ module _ (whole : Bool) (end : ℕ) (M : List ℕ → Machine) (came : List Arri
     one_more = omega arith
 
     b_next : Crossing whole (map M first.fixed) came first first_sent first_note slot (suc left) now sent note
-    b_next = subst (λ (n : ℕ). Crossing whole (map M first.fixed) came first first_sent first_note slot n now sent note)
-        one_more b
+    b_next = grind (arith, common_steps, Crossing, one_more)
 
     early : slot < 2 ^ 64 - 1
     early = omega arith
@@ -170,79 +147,35 @@ module _ (whole : Bool) (end : ℕ) (M : List ℕ → Machine) (came : List Arri
 
     arrivals_fit : (cells : List (Option Cell)) → cells ≡ arriving came slot →
         AreForPorts (length now.fixed) (class_count (map M now.fixed)) cells
-    arrivals_fit cells are =
-        subst (λ (cells : List (Option Cell)). AreForPorts (length now.fixed) (class_count (map M now.fixed)) cells)
-        (sym are)
-        (subst (λ (fixed : List (List ℕ)). AreForPorts (length fixed) (class_count (map M fixed))
-        (arriving came slot)) (sym b.made.fixed) for_ports)
+    arrivals_fit cells are = grind (arith, common_steps, for_ports)
 
     list_room : (cells : List (Option Cell)) → cells ≡ arriving came slot → HaveListRoom cells now
     list_room cells are i cell at =
-        let there : arrival_at (arriving came slot) i ≡ Some cell = ap (λ (l : List (Option Cell)). arrival_at l i)
-        (sym are) ∙ at in
+        let there : arrival_at (arriving came slot) i ≡ Some cell = search (arith, rules) in
         let inside : i < length first.fixed = for_ports.inputs i cell there in
         let had = b_next.lists i inside in
         let from = from_here i came slot left in
-        let comes = arrives_found came slot i in
-        let one : one_if (arrival_at (arriving came slot) i) ≡ 1 = ap one_if there in
-        let same : slice_index now.from_inputs i ≡ slice_index first.from_inputs i =
-        ap (λ (l : List ℕ). slice_index l i) b.made.from_inputs in
-        omega arith
+        let comes = arrives_found came slot i in search (arith, rules, one_if)
 
     buffer_room : (cells : List (Option Cell)) → cells ≡ arriving came slot → HaveBufferRoom cells now
     buffer_room cells are j within =
         let ports = same_ports in
         let inside : j < length first.fixed = omega arith in
-        let had = b_next.buffers j inside in
-        let to = for_here j came slot left in
-        let here : count_for j cells ≡ count_for j (arriving came slot) = ap (count_for j) are in
-        let same : slice_index now.to_outputs j ≡ slice_index first.to_outputs j =
-        ap (λ (l : List ℕ). slice_index l j) b.made.to_outputs in
-        omega arith
+        let had = b_next.buffers j inside in search (arith, rules, for_here)
 
     sent_room : length now.fixed ≤ sent.spare
     sent_room = let ports = same_ports in omega arith
-
-    note_room : 2 * length now.fixed ≤ note.spare
-    note_room = let ports = same_ports in omega arith
-
-    proposals_fit : now.figures.proposals + 2 * (length now.fixed * length now.fixed) < 2 ^ 64
-    proposals_fit =
-        let ports = same_ports in
-        let most : length first.fixed ≤ 64 = ready.ports in
-        let square = square_few (length now.fixed) (omega arith) in
-        let cells : length came ≤ 2 ^ 34 = ready.few in
-        let before : first.figures.proposals < 2 ^ 63 = ready.proposals in
-        omega arith
 
     can_refuse : CanCount (ports_of now) now.refused
     can_refuse =
         let most : ports_of first ≤ 64 = ready.ports in
         let lost = refused_in (admissions_in b.records) in
-        let room : CanCount (ports_of first + length lost) first.refused = λ k d inside.
-        let packets = (ready.refused k d inside).0 in
-        let cells = (ready.refused k d inside).1 in
-        (omega arith, omega arith) in
-        subst (λ (n : ℕ). CanCount n now.refused) (sym same_ports)
-        (subst (λ (counts : List Refused). CanCount (ports_of first) counts) (sym b.went.refused)
-        (counts_fit lost (ports_of first) (length lost) first.refused room (omega arith)))
+        let room : CanCount (ports_of first + length lost) first.refused = search (arith, rules) in
+        search (arith, rules, counts_fit lost (ports_of first) (length lost) first.refused room)
 
     can_run : (cells : List (Option Cell)) → cells ≡ arriving came slot → (leaving : RoomView Departure) →
         length now.fixed ≤ leaving.spare → CanRun M slot cells now leaving note
-    can_run cells are leaving room =
-        record {
-          early = early;
-          arrivals = arrivals_fit cells are;
-          ready =
-              record {
-                list_room = list_room cells are;
-                buffer_room = buffer_room cells are;
-                refused = can_refuse;
-                sent_room = room;
-                note_room = note_room;
-                proposals = proposals_fit;
-              };
-        }
+    can_run cells are leaving room = search (rules, arrivals_fit, list_room, buffer_room, can_refuse)
 
     at_next : (cells : List (Option Cell)) (after : EngineView) (leaving leaving_new sent_new : RoomView Departure)
         (note_new : RoomView Transfer) → cells ≡ arriving came slot →
@@ -251,13 +184,12 @@ module _ (whole : Bool) (end : ℕ) (M : List ℕ → Machine) (came : List Arri
         Before (slot + 1) after sent_new note_new
     unfolding left
     at_next cells after leaving leaving_new sent_new note_new are had passed =
-        crossing_next whole (map M first.fixed) came first first_sent first_note slot left now sent note after sent_new
-        note_new (class_count (map M first.fixed)) b_next more ready.ports for_ports
-        (subst (λ (fixed : List (List ℕ)). Passed (map M fixed) slot (arriving came slot) now after leaving leaving_new
-        sent sent_new note note_new) b.made.fixed
-        (subst (λ (cells : List (Option Cell)). Passed (map M now.fixed) slot cells now after leaving leaving_new sent
-        sent_new note note_new) are passed))
-        had.running had.next had.made
+        crossing_next whole (map M first.fixed) came first first_sent first_note slot left now sent note after
+        sent_new note_new (class_count (map M first.fixed)) b_next more ready.ports for_ports
+        (subst (λ (fixed : List (List ℕ)). Passed (map M fixed) slot (arriving came slot) now after leaving
+        leaving_new sent sent_new note note_new) b.made.fixed (subst (λ (cells : List (Option Cell)).
+        Passed (map M now.fixed) slot cells now after leaving leaving_new sent sent_new note note_new) are
+        passed)) had.running had.next had.made
 
     at_fault : (cells : List (Option Cell)) (fault : TagFault) (j count : ℕ) → slot + suc j ≡ first.next + count →
         cells ≡ arriving came slot →
@@ -284,9 +216,7 @@ module _ (whole : Bool) (end : ℕ) (M : List ℕ → Machine) (came : List Arri
     ran : LimitedFabricRun IsInputBest now.limits (map M first.fixed) slot (replicate (next - slot) no_arrivals)
         (marked_fabric now) (quiet_limited_slots (map M first.fixed) (next - slot) slot
         (ports_of now) now.fabric.ranks now.marks) (marked_fabric new)
-    ran = subst (λ (fixed : List (List ℕ)). LimitedFabricRun IsInputBest now.limits (map M fixed) slot (replicate
-        (next - slot) no_arrivals) (marked_fabric now) (quiet_limited_slots (map M fixed) (next - slot) slot
-        (ports_of now) now.fabric.ranks now.marks) (marked_fabric new)) b.made.fixed rested.slots
+    ran = grind (arith, common_steps)
 
     at_rest : Before next new sent note
     at_rest =
@@ -294,44 +224,28 @@ module _ (whole : Bool) (end : ℕ) (M : List ℕ → Machine) (came : List Arri
         let there : slot + (next - slot) ≡ next = omega arith in
         let classes = class_count (map M first.fixed) in
         subst (λ (t : ℕ).
-        Crossing whole (map M first.fixed) came first first_sent first_note t (end - next) new sent note) there
-        (crossing_rest whole (map M first.fixed) came first first_sent sent first_note note (length now.fixed) classes
-        ready.ports
-        (λ t. arrivals_for (length first.fixed) classes came t ready.traffic) (next - slot) slot (end - next)
-        (end - slot) now.fabric.ranks now.marks now new left b
-        (λ t from to. quiet t from (omega arith)) (λ is some. let before = to_come is (omega arith) in omega arith) ran
-        rested.figures (rested.next ∙ sym there) rested.running rested.refused
-        (record {
+        Crossing whole (map M first.fixed) came first first_sent first_note t (end - next) new sent note)
+        there (crossing_rest whole (map M first.fixed) came first first_sent sent first_note note (length now.fixed)
+        classes ready.ports (λ t. arrivals_for (length first.fixed) classes came t ready.traffic) (next - slot)
+        slot (end - next) (end - slot) now.fabric.ranks now.marks now new left b
+        (λ t from to. quiet t from (omega arith))
+        (λ is some. let before = to_come is (omega arith) in omega arith) ran rested.figures
+        (rested.next ∙ sym there) rested.running rested.refused (record {
           fixed = rested.fixed;
           limits = rested.limits;
           from_inputs = rested.from_inputs;
           to_outputs = rested.to_outputs;
         }))
 
-    more_at_rest : (whole ≡ true → end_of came ≤ slot → IsEmptyFabric now.fabric → ⊥) → whole ≡ true →
-        end_of came ≤ next → IsEmptyFabric new.fabric → ⊥
-    more_at_rest more is le empty =
-        ⊎_elim
-        (λ lt. let before = to_come is lt in omega arith)
-        (λ ge.
-        let same : marked_fabric new ≡ marked_fabric now = same_fabric now.limits (map M first.fixed)
-        (next - slot) slot (ports_of now) now.fabric.ranks now.marks (marked_fabric now) (marked_fabric new)
-        (omega arith) ran in
-        more is (omega arith) (subst IsEmptyFabric (ap (λ (m : Marked Fabric). m.state) same) empty))
-        (cases_lt slot next)
-
   at_end : (slot : ℕ) (now : EngineView) (sent : RoomView Departure) (note : RoomView Transfer) →
       Before slot now sent note → whole ≡ true → end_of came ≤ slot → IsEmptyFabric now.fabric →
       HasRunOn (map M first.fixed) came first now first_sent sent first_note note
-  at_end slot now sent note b is le empty =
-      crossing_over whole (map M first.fixed) came first first_sent first_note slot
-      (end - slot) now sent note b is le empty
+  at_end slot now sent note b is le empty = grind (arith, common_steps, crossing_over)
 
   at_last : (slot : ℕ) (now : EngineView) (sent : RoomView Departure) (note : RoomView Transfer) →
       Before slot now sent note → slot ≡ end →
       HasPartedTo (map M first.fixed) came end first now first_sent sent first_note note
-  at_last slot now sent note b is =
-      record { records = b.records; went = b.went; reached = b.long ∙ is; next = b.next ∙ is; ports = b.ports }
+  at_last slot now sent note b is = grind (arith, common_steps)
 
 -- ## Where a run stands
 
@@ -341,9 +255,7 @@ module _ {whole : Bool} {end : ℕ} {M : List ℕ → Machine} {came : List Arri
     (here : Stands whole end M came first first_sent first_note slot now sent note) where
   -- each output can send a cell
   pub room_here : length now.fixed ≤ sent.spare
-  room_here =
-      sent_room whole end M came first first_sent first_note here.ready here.few slot now sent note here.crossing
-      here.more here.some
+  room_here = grind (arith, common_steps, sent_room)
 
   -- a list that is free has a place for each of them
   pub places_here : {leaving : RoomView Departure} → IsFree (length first.fixed) leaving →
@@ -354,18 +266,12 @@ module _ {whole : Bool} {end : ℕ} {M : List ℕ → Machine} {came : List Arri
   pub can_take_over : {cells : List (Option Cell)} {after : EngineView} {leaving left : RoomView Departure}
       {note_new : RoomView Transfer} → IsFree (length first.fixed) leaving →
       HasHad (map M now.fixed) slot cells now after leaving left note note_new → length left.items ≤ sent.spare
-  can_take_over free had =
-      let few = few_leave free had in
-      let same = ap (λ (l : List (List ℕ)). length l) here.crossing.made.fixed in
-      let room = room_here in
-      omega arith
+  can_take_over free had = grind (arith, common_steps, few_leave, room_here)
 
   -- the slot finds all that it asks for
   pub can_run_here : (cells : List (Option Cell)) → cells ≡ arriving came slot → (leaving : RoomView Departure) →
       length now.fixed ≤ leaving.spare → CanRun M slot cells now leaving note
-  can_run_here =
-      can_run whole end M came first first_sent first_note here.ready here.few slot now sent note here.crossing
-      here.more here.some
+  can_run_here = search (rules, can_run)
 
   -- once it is run, the run stands at the next one
   pub next_here : (cells : List (Option Cell)) (after : EngineView) {leaving left : RoomView Departure}
@@ -374,35 +280,28 @@ module _ {whole : Bool} {end : ℕ} {M : List ℕ → Machine} {came : List Arri
       Passed (map M now.fixed) slot cells now after leaving left sent sent_new note note_new →
       Crossing whole (map M first.fixed) came first first_sent first_note (slot + 1) (end - (slot + 1)) after sent_new
       note_new
-  next_here cells after {leaving} {left} =
-      at_next whole end M came first first_sent first_note here.ready here.few slot now sent note here.crossing
-      here.more here.some cells after leaving left
+  next_here cells after {leaving} {left} = search (rules, at_next)
 
   -- and a tag fault of the slot is one at which the run stops
   pub fault_here : (cells : List (Option Cell)) (fault : TagFault) (j count : ℕ) → slot + suc j ≡ first.next + count →
       cells ≡ arriving came slot →
       Err fault ≡ answer_to (ranking (map M now.fixed) slot 0 (its_admission cells now).cells now.fabric.ranks) →
       StopsWithin (map M first.fixed) came first count fault
-  fault_here =
-      at_fault whole end M came first first_sent first_note here.ready here.few slot now sent note here.crossing
-      here.more here.some
+  fault_here = search (rules, at_fault)
 
 -- ## A run to its end
 
 module _ (M : List ℕ → Machine) {came : List Arrival} {first : EngineView} {first_sent : RoomView Departure}
     {first_note : RoomView Transfer} (ready : IsReadyOn (map M first.fixed) came first first_sent first_note) where
   abbrev pub Runs : ℕ → EngineView → RoomView Departure → RoomView Transfer → Type 0
-  Runs slot now sent note =
-      Crossing true (map M first.fixed) came first first_sent first_note slot (over_by came first.next - slot) now
-      sent note
+  Runs slot now sent note = Crossing true (map M first.fixed) came first first_sent first_note slot
+      (over_by came first.next - slot) now sent note
 
   few_all : over_by came first.next ≤ 2 ^ 63 + 2 ^ 36
   few_all = over_few came first.next ready.early ready.short ready.few
 
   pub run_begins : Runs first.next first first_sent first_note
-  run_begins =
-      at_first true (over_by came first.next) M came first first_sent first_note ready few_all
-      (starts_in came first.next) (λ _. refl)
+  run_begins = grind (arith, common_steps, at_first, over_by, few_all, starts_in)
 
   -- quiet slots are skipped
   module _ {slot : ℕ} {now : EngineView} {sent : RoomView Departure} {note : RoomView Transfer}
@@ -416,28 +315,11 @@ module _ (M : List ℕ → Machine) {came : List Arrival} {first : EngineView} {
         let still : true ≡ true → end_of came ≤ slot → IsEmptyFabric now.fabric → ⊥ = λ _. more in
         let some : slot < over_by came first.next =
         a_slot_left true end M came first first_sent first_note ready few_all slot now sent note runs refl more in
-        let within = skipped_within came slot next end quiet (ends_in came first.next) (omega arith) in
-        let there =
-        at_rest true end M came first first_sent first_note ready few_all slot next now new sent note runs quiet.late
-        within quiet.none (λ _ lt. quiet.more lt) rested in
-        let going =
-        more_at_rest true end M came first first_sent first_note ready few_all slot next now new sent note runs
-        quiet.late within quiet.none (λ _ lt. quiet.more lt) rested still in
-        record {
-          ready = ready;
-          few = few_all;
-          crossing = there;
-          more = going;
-          some =
-              a_slot_left true end M came first first_sent first_note ready few_all next new sent note there refl
-              (going refl);
-        }
+        search (arith, rules, at_rest, few_all)
 
     pub run_ends : (end_of came ≤ slot) × IsEmptyFabric now.fabric →
         HasRunOn (map M first.fixed) came first now first_sent sent first_note note
-    run_ends over =
-        at_end true (over_by came first.next) M came first first_sent first_note ready few_all slot now sent note runs
-        refl over.0 over.1
+    run_ends over = grind (arith, common_steps, at_end, over_by, few_all)
 
 -- ## A run up to a slot
 
@@ -452,8 +334,7 @@ module _ (M : List ℕ → Machine) {came : List Arrival} {last : ℕ} {first : 
   few_slots = omega arith
 
   pub part_begins : Parts first.next first first_sent first_note
-  part_begins =
-      at_first false last M came first first_sent first_note ready.ready few_slots ready.next (λ is. never is)
+  part_begins = grind (arith, common_steps, at_first, few_slots, never)
 
   module _ {slot : ℕ} {now : EngineView} {sent : RoomView Departure} {note : RoomView Transfer}
       (parts : Parts slot now sent note) where
@@ -461,23 +342,10 @@ module _ (M : List ℕ → Machine) {came : List Arrival} {last : ℕ} {first : 
     pub part_rests : {next : ℕ} {new : EngineView} → slot ≤ last → slot ≤ next →
         (slot < next → (next ≤ last) × NoneCome came slot next) →
         HasRested (map M now.fixed) slot next now new → Parts next new sent note × (next ≤ last)
-    part_rests {next} before late skipped rested =
-        let within : next ≤ last = ⊎_elim (λ lt. (skipped lt).0) (λ ge. omega arith) (cases_lt slot next) in (
-          at_rest false last M came first first_sent first_note ready.ready few_slots slot _ now _ sent note parts late
-              within (λ t from to. (skipped (omega arith)).1 t from to) (λ is lt. never is) rested,
-          within,
-        )
+    part_rests {next} before late skipped rested = grind (arith, common_steps, cases_lt, at_rest, few_slots, never)
 
     pub part_stands : slot < last → Stands false last M came first first_sent first_note slot now sent note
-    part_stands some =
-        record {
-          ready = ready.ready;
-          few = few_slots;
-          crossing = parts;
-          more = λ is late empty. never is;
-          some = some;
-        }
+    part_stands some = grind (arith, common_steps, few_slots, never)
 
     pub part_ends : slot ≡ last → HasPartedTo (map M first.fixed) came last first now first_sent sent first_note note
-    part_ends =
-        at_last false last M came first first_sent first_note ready.ready few_slots slot now sent note parts
+    part_ends = grind (arith, common_steps, at_last, few_slots)

@@ -1,6 +1,6 @@
 -- Stretches of slots that the fabric skips. What is known before the first of them is known after each, as after any
 -- slot: none sends a cell, moves or refuses one, or changes a figure.
-use Rattle.std.proofs.Common.{◌≡◌, ℕ, zero, suc, ◌+◌, ◌<◌, ◌≤◌, Bool, true, false, List, [], ◌++◌, length, replicate, Option, refl, sym, ap, ◌∙◌, subst, arith}
+use Rattle.std.proofs.Common.{◌≡◌, ℕ, zero, suc, ◌+◌, ◌<◌, ◌≤◌, Bool, true, false, List, [], length, replicate, Option, refl, sym, ap, subst, arith, ◌++◌, ◌∙◌}
 use Rattle.std.proofs.lemmas.List.{append-nil}
 use Rattle.cq_base.specs.Arrivals.{no_arrivals}
 use Rattle.cq_base.specs.Arriving.{Arrival, arriving, end_of}
@@ -10,11 +10,9 @@ use Rattle.cq_base.specs.declared.cell.Departure.{Departure}
 use Rattle.cq_base.specs.declared.cell.Transfer.{Transfer}
 use Rattle.cq_engine.specs.Engine.{EngineView, IsMadeAs, SlotDone, marked_fabric, ports_of}
 use Rattle.cq_ideal.proofs.Counting.{none_counted}
-use Rattle.cq_ideal.specs.Admission.{Marked}
 use Rattle.cq_ideal.specs.IdealSlot.{departures_in}
 use Rattle.cq_ideal.specs.Ranking.{AreForPorts}
 use Rattle.cq_laws.proofs.QuietSlots.{quiet_figures, quiet_transfers}
-use Rattle.cq_laws.specs.Fabric.{Fabric}
 use Rattle.cq_laws.specs.LimitedFabric.{LimitedFabricRun, LimitedRecord}
 use Rattle.cq_laws.specs.LimitedQuiet.{quiet_limited_slot, quiet_limited_slots}
 use Rattle.cq_laws.specs.Quiet.{idled, quiet_slot}
@@ -23,13 +21,6 @@ use Rattle.cq_prefs.specs.Pairing.{IsInputBest}
 use Rattle.cq_rank.specs.Machine.{Machine}
 use Rattle.cq_simulate.proofs.FabricRunning.{Crossing, Passed, crossing_next}
 use Rattle.cq_simulate.proofs.Stretches.{nobody_departs}
-
-pub same_fabric : (limits : List (Option ℕ)) (ms : List Machine) (k slot ports : ℕ) (ranks : List (List ℕ))
-    (marks : List Bool) (f g : Marked Fabric) → k ≡ 0 →
-    LimitedFabricRun IsInputBest limits ms slot (replicate k no_arrivals) f
-    (quiet_limited_slots ms k slot ports ranks marks) g → g ≡ f
-same_fabric limits ms zero slot ports ranks marks f g none ran = ran
-same_fabric limits ms (suc k) slot ports ranks marks f g none ran = absurd (omega arith)
 
 quiet_gone : (ms : List Machine) (slot ports : ℕ) (ranks : List (List ℕ)) →
     departures_in slot (quiet_slot ms slot ports ranks).gone ≡ []

@@ -1,6 +1,7 @@
 -- What a slot sent stands in a list of its own, in which nothing stood before, until the departures of the run take it
 -- over. So what holds of that list holds of the departures of the run.
-use Rattle.std.proofs.Common.{◌≡◌, ◌+◌, ◌≤◌, ℕ, List, [], ◌++◌, length, Option, ap, ◌∙◌, subst, arith}
+use Rattle.std.proofs.lemmas.Grind.{common_steps}
+use Rattle.std.proofs.Common.{◌≡◌, ◌+◌, ◌≤◌, ℕ, List, [], ◌++◌, length, Option, ap, ◌∙◌, arith}
 use Rattle.cq_base.specs.Room.{RoomView}
 use Rattle.cq_base.specs.declared.cell.Departure.{Departure}
 use Rattle.cq_base.specs.declared.cell.Queued.{Queued}
@@ -32,7 +33,4 @@ module _ {slot ports : ℕ} {gone : List (Option Queued)} {leaving left : RoomVi
   -- the departures of the run took over what stood in it
   pub left_with_all : {sent sent_new : RoomView Departure} → sent_new.items ≡ sent.items ++ left.items →
       sent_new.spare + length left.items ≡ sent.spare → HaveLeft slot gone sent sent_new
-  left_with_all {sent} {sent_new} items spare = record {
-    items = items ∙ ap (λ (ds : List Departure). sent.items ++ ds) all_new;
-    spare = subst (λ (ds : List Departure). sent_new.spare + length ds ≡ sent.spare) all_new spare;
-  }
+  left_with_all {sent} {sent_new} items spare = grind (arith, common_steps, sent.items, all_new)

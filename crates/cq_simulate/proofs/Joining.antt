@@ -2,23 +2,21 @@
 -- those of one packet after another, each whole and in order; those that leave are all cells of some of these
 -- packets. So each cell is the next of the packet that is open, or the first of one where none is; and at the last
 -- cell of a packet all its pieces are together, which are its frame.
-use Rattle.std.proofs.Common.{◌≡◌, ℕ, zero, suc, ◌+◌, ◌-◌, ◌*◌, ◌/◌, ◌<◌, ◌≤◌, Bool, true, false, cond, List, [], ◌∷◌, ◌++◌, length, map, flat_map, take, drop, min, Option, Some, None, refl, sym, ap, ◌∙◌, subst, ⊎_elim, arith}
-use Rattle.std.specs.Prelude.{◌&&◌, ◌==◌, max}
-use Rattle.std.specs.Int.{div_ceil}
+use Rattle.std.proofs.lemmas.Grind.{common_steps, div_ceil_times}
+use Rattle.std.proofs.Common.{rules, ◌≡◌, ℕ, zero, suc, ◌+◌, ◌-◌, ◌*◌, ◌<◌, Bool, true, false, cond, List, [], ◌∷◌, ◌++◌, length, map, flat_map, take, drop, min, Option, Some, None, refl, sym, ap, ◌∙◌, subst, ⊎_elim, arith}
+use Rattle.std.specs.Prelude.{◌&&◌, ◌==◌}
 use Rattle.std.specs.List.{filter, range_with_len}
 use Rattle.std.proofs.lemmas.Bool.{cases_Bool, cond-true, cond-false, eqb-true, eq-eqb, ne_eqb, and_parts}
-use Rattle.std.proofs.lemmas.Grind.{div_ceil_times}
 use Rattle.std.proofs.lemmas.Nat.{div-mul-add}
 use Rattle.std.proofs.lemmas.List.{append-nil, map-append}
 use Rattle.std.proofs.lemmas.List.Elements.{filter-append}
 use Rattle.std.proofs.lemmas.List.Concat.{flat_map-append}
 use Rattle.cq_base.specs.Arriving.{Arrival}
 use Rattle.cq_base.specs.declared.cell.Cell.{Cell}
-use Rattle.cq_cells.specs.Schedule.{packets_of, packet_at, cells, cells_of, start, cell_of, arrivals_of, arrivals_at, arrivals}
+use Rattle.cq_cells.specs.Schedule.{packet_at, cells, cells_of, start, cell_of, arrivals_of, arrivals_at, arrivals}
 use Rattle.cq_ideal.specs.Flows.{comes_in_flow, came_in_flow}
 use Rattle.cq_pcap.specs.Captured.{Captured}
-use Rattle.cq_reasm.specs.Cutting.{AreCutFrom, joined_pieces}
-use Rattle.cq_reasm.specs.Cutting.{cells_of as count_of}
+use Rattle.cq_reasm.specs.Cutting.{AreCutFrom, joined_pieces, cells_of as count_of}
 use Rattle.cq_reasm.specs.Piece.{Piece}
 use Rattle.cq_reasm.specs.Joining.{IsNext, open_after}
 use Rattle.cq_simulate.specs.Pieces.{Fits, opened, piece_at}
@@ -32,16 +30,7 @@ use Rattle.cq_cells.proofs.Ranges.{range_more}
 
 ceil_is : (len cell_bytes : ℕ) → 0 < cell_bytes → cells_of len cell_bytes ≡ count_of len cell_bytes
 unfolding cells_of
-ceil_is len cell_bytes some =
-    let up = div_ceil len cell_bytes in
-    let bounds = div_ceil_times len cell_bytes some in
-    let low : len ≤ up * cell_bytes = bounds.0 in
-    let high : up * cell_bytes < len + cell_bytes = bounds.1 in
-    let rest = len + (cell_bytes - 1) - up * cell_bytes in
-    let parts : len + (cell_bytes - 1) ≡ up * cell_bytes + rest = omega arith in
-    let is : (len + (cell_bytes - 1)) / cell_bytes ≡ up =
-    ap (λ (n : ℕ). n / cell_bytes) parts ∙ div-mul-add up cell_bytes rest (omega arith) in
-    ap (max 1) (sym is)
+ceil_is len cell_bytes some = grind (arith, common_steps, div_ceil_times, div-mul-add)
 
 -- ## What a cell carries
 
@@ -69,11 +58,7 @@ module _ (t : Tables) (captures : List (List Captured)) (input : ℕ) (some : 0 
 
   pieces_more : (k m : ℕ) → pieces k (m + 1) ≡ pieces k m ++ piece_of (frame k) t.cell_bytes m
   unfolding pieces
-  pieces_more k m =
-      ap (flat_map (piece_of (frame k) t.cell_bytes)) (range_more 0 m)
-      ∙ flat_map-append (piece_of (frame k) t.cell_bytes) (range_with_len 0 m) ((0 + m) ∷ [])
-      ∙ ap (λ (l : List ℕ). pieces k m ++ l) (append-nil (piece_of (frame k) t.cell_bytes (0 + m)))
-      ∙ ap (λ (n : ℕ). pieces k m ++ piece_of (frame k) t.cell_bytes n) (omega arith)
+  pieces_more k m = grind (arith, common_steps, flat_map, range_more, flat_map-append, append-nil)
 
   -- a cell of a packet, with what it carries
   carried : ℕ → ℕ → Piece
@@ -141,11 +126,7 @@ module _ (t : Tables) (captures : List (List Captured)) (input : ℕ) (some : 0 
   whole_is k m last =
       let end : m + 1 ≡ cells t captures input k =
       eqb-true (m + 1) (cells t captures input k) (sym (last_is k m) ∙ last) in
-      ap (λ (l : List ℕ). l ++ piece_at captures (cell_of t captures input k m)) (taken_so_far k m)
-      ∙ ap (λ (l : List ℕ). pieces k m ++ l) (piece_is k m)
-      ∙ sym (pieces_more k m)
-      ∙ ap (pieces k) end
-      ∙ all_pieces k
+      search (arith, rules, taken_so_far k m, piece_is k m, pieces_more k m, all_pieces k)
 
   fits : (k m : ℕ) → Fits captures (open_at_cell k m) (cell_of t captures input k m)
   unfolding frame cell_of
@@ -154,30 +135,17 @@ module _ (t : Tables) (captures : List (List Captured)) (input : ℕ) (some : 0 
   grown_is : (k m : ℕ) → Some (with_piece (open_at_cell k m) k (piece_of (frame k) t.cell_bytes m)) ≡ open_at_cell k
       (m + 1)
   unfolding open_at_cell pieces
-  grown_is k zero =
-      let e : pieces k 1 ≡ piece_of (frame k) t.cell_bytes 0 = append-nil (piece_of (frame k) t.cell_bytes 0) in
-      ap (λ (l : List ℕ). let o : Option Open = Some (record { packet = k; taken = 1; body = l }) in o) (sym e)
+  grown_is k zero = grind (arith, common_steps, append-nil)
   grown_is k (suc m) =
       let e : pieces k (suc m + 1) ≡ pieces k (suc m) ++ piece_of (frame k) t.cell_bytes (suc m) =
-      pieces_more k (suc m) in
-      let n : suc (suc m) ≡ suc m + 1 = omega arith in
-      ap (λ (l : List ℕ). let o : Option Open = Some (record { packet = k; taken = suc m + 1; body = l }) in o) (sym e)
-      ∙ ap (λ (j : ℕ). let o : Option Open = Some (record { packet = k; taken = j; body = pieces k j }) in o) (sym n)
-      ∙ ap (open_at_cell k) n
+      pieces_more k (suc m) in search (arith, rules)
 
   after_cell : (k m r : ℕ) → m + suc r ≡ cells t captures input k →
       open_after (open_at_cell k m) (cell_of t captures input k m) (piece_at captures (cell_of t captures input k m)) ≡
       open_with k (m + 1) r
   unfolding open_with cell_of
-  after_cell k m zero e =
-      ap (λ (b : Bool). cond b None (Some (with_piece (open_at_cell k m) k
-      (piece_at captures (cell_of t captures input k m))))) (eq-eqb (m + 1) (cells t captures input k) (omega arith))
-  after_cell k m (suc r) e =
-      ap (λ (b : Bool). cond b None (Some (with_piece (open_at_cell k m) k
-      (piece_at captures (cell_of t captures input k m))))) (ne_eqb (m + 1) (cells t captures input k)
-      (λ same. omega arith))
-      ∙ ap (λ (l : List ℕ). let o : Option Open = Some (with_piece (open_at_cell k m) k l) in o) (piece_is k m)
-      ∙ grown_is k m
+  after_cell k m zero e = grind (arith, common_steps, eq-eqb)
+  after_cell k m (suc r) e = grind (arith, common_steps, ne_eqb, piece_is, grown_is)
 
   -- all cells of a packet
   pub packet_cells : ℕ → List Cell
@@ -195,15 +163,8 @@ module _ (t : Tables) (captures : List (List Captured)) (input : ℕ) (some : 0 
   unfolding open_with
   walk k later cell rest go zero m e p is = go p is
   walk k later cell rest go (suc r) m e [] is =
-      let same : cell_of t captures input k m ≡ cell = cc in
-      subst (Fits captures (open_at_cell k m)) same (fits k m)
-  walk k later cell rest go (suc r) m e (x ∷ p) is =
-      let same : cell_of t captures input k m ≡ x = cc in
-      let others : map (cell_of t captures input k) (range_with_len (m + 1) r) ++ later ≡ p ++ cell ∷ rest = cc in
-      subst (λ (c : Cell). Fits captures (opened captures (open_after (open_at_cell k m) c (piece_at captures c)) p)
-      cell) same
-      (subst (λ (o : Option Open). Fits captures (opened captures o p) cell) (sym (after_cell k m r e))
-      (walk k later cell rest go r (m + 1) (omega arith) p others))
+      let same : cell_of t captures input k m ≡ cell = cc in subst (Fits captures (open_at_cell k m)) same (fits k m)
+  walk k later cell rest go (suc r) m e (x ∷ p) is = search (rules, after_cell, walk k later cell rest go r (m + 1))
 
   -- each cell of some packets, one after another
   pub each_fits : (ks : List ℕ) (p : List Cell) (cell : Cell) (rest : List Cell) →
@@ -211,11 +172,9 @@ module _ (t : Tables) (captures : List (List Captured)) (input : ℕ) (some : 0 
   unfolding packet_cells open_with open_at_cell
   each_fits [] [] cell rest is = absurd (let P : ⊥ = cc in P)
   each_fits [] (x ∷ p) cell rest is = absurd (let P : ⊥ = cc in P)
-  each_fits (k ∷ ks) p cell rest is =
-      subst (λ (o : Option Open). Fits captures (opened captures o p) cell)
-      (closed_at_first k (cells t captures input k))
-      (walk k (flat_map packet_cells ks) cell rest (λ q same. each_fits ks q cell rest same) (cells t captures input k)
-      0 (omega arith) p is)
+  each_fits (k ∷ ks) p cell rest is = subst (λ (o : Option Open). Fits captures (opened captures o p) cell)
+      (closed_at_first k (cells t captures input k)) (walk k (flat_map packet_cells ks) cell rest
+      (λ q same. each_fits ks q cell rest same) (cells t captures input k) 0 (omega arith) p is)
 
   -- ## The packets that are taken in
 
@@ -274,37 +233,25 @@ module _ (t : Tables) (captures : List (List Captured)) (input : ℕ) (some : 0 
   module _ (c j : ℕ) where
     flow_joined : (xs ys : List Arrival) → came_in_flow input c j (xs ++ ys) ≡ came_in_flow input c j xs ++ came_in_flow
         input c j ys
-    flow_joined xs ys =
-        ap (map (λ (x : Arrival). x.cell)) (filter-append (comes_in_flow input c j) xs ys)
-        ∙ map-append (λ (x : Arrival). x.cell) (filter (comes_in_flow input c j) xs)
-        (filter (comes_in_flow input c j) ys)
+    flow_joined xs ys = grind (arith, common_steps, filter-append, map-append)
 
     flow_over : (f : ℕ → List Arrival) (a n : ℕ) → ((k : ℕ) → AreWhole (came_in_flow input c j (f k))) →
         AreWhole (came_in_flow input c j (flat_map f (range_with_len a n)))
     unfolding AreWhole
     flow_over f a zero whole = ([], refl)
-    flow_over f a (suc n) whole =
-        subst AreWhole (sym (flow_joined (f a) (flat_map f (range_with_len (a + 1) n))))
+    flow_over f a (suc n) whole = subst AreWhole (sym (flow_joined (f a) (flat_map f (range_with_len (a + 1) n))))
         (whole_joined (came_in_flow input c j (f a)) (came_in_flow input c j (flat_map f (range_with_len (a + 1) n)))
         (whole a) (flow_over f (a + 1) n whole))
 
     all_in_flow : (f : ℕ → Arrival) (a n : ℕ) → ((m : ℕ) → comes_in_flow input c j (f m) ≡ true) →
         came_in_flow input c j (map f (range_with_len a n)) ≡ map (λ (m : ℕ). (f m).cell) (range_with_len a n)
     all_in_flow f a zero e = refl
-    all_in_flow f a (suc n) e =
-        let rest = map f (range_with_len (a + 1) n) in
-        ap (map (λ (x : Arrival). x.cell)) (cond-true (comes_in_flow input c j (f a))
-        (f a ∷ filter (comes_in_flow input c j) rest) (filter (comes_in_flow input c j) rest) (e a))
-        ∙ ap (λ (l : List Cell). (f a).cell ∷ l) (all_in_flow f (a + 1) n e)
+    all_in_flow f a (suc n) e = grind (arith, common_steps, cond-true, all_in_flow f (a + 1) n e)
 
     none_in_flow : (f : ℕ → Arrival) (a n : ℕ) → ((m : ℕ) → comes_in_flow input c j (f m) ≡ false) →
         came_in_flow input c j (map f (range_with_len a n)) ≡ []
     none_in_flow f a zero e = refl
-    none_in_flow f a (suc n) e =
-        let rest = map f (range_with_len (a + 1) n) in
-        ap (map (λ (x : Arrival). x.cell)) (cond-false (comes_in_flow input c j (f a))
-        (f a ∷ filter (comes_in_flow input c j) rest) (filter (comes_in_flow input c j) rest) (e a))
-        ∙ none_in_flow f (a + 1) n e
+    none_in_flow f a (suc n) e = grind (arith, common_steps, cond-false, none_in_flow f (a + 1) n e)
 
     -- the arrival of a cell
     arrival : ℕ → ℕ → ℕ → Arrival
@@ -312,9 +259,8 @@ module _ (t : Tables) (captures : List (List Captured)) (input : ℕ) (some : 0 
 
     -- whether a packet is of the flow
     of_flow : ℕ → ℕ → Bool
-    of_flow i k =
-        (route t i (packet_at captures i k).body).0 == j && (i == input &&
-        (route t i (packet_at captures i k).body).1 == c)
+    of_flow i k = (route t i (packet_at captures i k).body).0 == j
+        && (i == input && (route t i (packet_at captures i k).body).1 == c)
 
     flow_is : (i k m : ℕ) → comes_in_flow input c j (arrival i k m) ≡ of_flow i k
     unfolding arrival of_flow cell_of
@@ -322,14 +268,12 @@ module _ (t : Tables) (captures : List (List Captured)) (input : ℕ) (some : 0 
 
     packet_whole : (i k : ℕ) → AreWhole (came_in_flow input c j (arrivals_of t captures i k))
     unfolding arrival of_flow AreWhole packet_cells
-    packet_whole i k =
-        ⊎_elim
-        (λ yes_.
-        let parts =
-        and_parts ((route t i (packet_at captures i k).body).0 == j)
+    packet_whole i k = ⊎_elim (λ yes_.
+        let parts = and_parts ((route t i (packet_at captures i k).body).0 == j)
         (i == input && (route t i (packet_at captures i k).body).1 == c) yes_ in
         let own : i ≡ input =
-        eqb-true i input (and_parts (i == input) ((route t i (packet_at captures i k).body).1 == c) parts.1).0 in (
+        eqb-true i input
+        (and_parts (i == input) ((route t i (packet_at captures i k).body).1 == c) parts.1).0 in (
           k ∷ [],
           all_in_flow (arrival i k) 0 (cells t captures i k) (λ m. flow_is i k m ∙ yes_)
               ∙ ap (λ (n : ℕ). map (cell_of t captures n k) (range_with_len 0 (cells t captures n k))) own
@@ -340,9 +284,7 @@ module _ (t : Tables) (captures : List (List Captured)) (input : ℕ) (some : 0 
 
     flow_whole : AreWhole (came_in_flow input c j (arrivals t captures))
     unfolding arrivals arrivals_at
-    flow_whole =
-        flow_over (arrivals_at t captures) 0 (length captures)
-        (λ i. flow_over (arrivals_of t captures i) 0 (length (packets_of captures i)) (λ k. packet_whole i k))
+    flow_whole = grind (arith, common_steps, flow_over, packet_whole)
 
     -- each cell of the packets that are taken in is the next when those before it were taken
     pub flow_fits : (is_taken : ℕ → Bool) (p : List Cell) (cell : Cell) (rest : List Cell) →
@@ -350,7 +292,4 @@ module _ (t : Tables) (captures : List (List Captured)) (input : ℕ) (some : 0 
         Fits captures (opened captures None p) cell
     unfolding AreWhole
     flow_fits is_taken p cell rest is =
-        let w = flow_whole in
-        each_fits (filter is_taken w.0) p cell rest
-        (sym (taken_packets is_taken w.0)
-        ∙ ap (filter (λ (cell : Cell). is_taken cell.id.packet)) (sym w.1) ∙ is)
+        let w = flow_whole in search (arith, rules, each_fits (filter is_taken w.0) p, taken_packets is_taken w.0)

@@ -1,10 +1,10 @@
 -- Each packet leaves its output or is refused there, once, and so are all of them together. Where a packet is one of
 -- those that are taken in at its input its last cell leaves in its flow, and where it is not its first cell is one of
 -- those that were refused. And each cell that left or was refused is of a packet that came.
-use Rattle.std.proofs.Common.{◌≡◌, ℕ, ◌+◌, ◌<◌, Bool, true, false, cond, not, List, length, filter, refl, sym, ap, ◌∙◌, arith}
+use Rattle.std.proofs.Common.{rules, ◌≡◌, ℕ, ◌+◌, ◌<◌, Bool, true, false, cond, not, List, length, filter, refl, sym, ap, ◌∙◌, arith}
+use Rattle.std.proofs.lemmas.Grind.{common_steps}
 use Rattle.std.specs.Prelude.{◌&&◌, ◌==◌, sum_by}
 use Rattle.std.specs.List.{AllByRecursion, range_with_len}
-use Rattle.std.proofs.lemmas.Bool.{eq-eqb, eqb-true}
 use Rattle.std.proofs.lemmas.List.{length-map}
 use Rattle.std.proofs.lemmas.List.Sums.{length-filter, sum-map}
 use Rattle.cq_base.specs.Arriving.{Arrival}
@@ -27,21 +27,6 @@ use Rattle.cq_simulate.specs.EachPacket.{number_for, number_from, output_of, tim
 use Rattle.cq_simulate.specs.Packets.{ends_packet_at, leaving, packets_out}
 
 -- ## Tests of a cell, in another order
-
--- the class says no more where it is that of the packet
-in_flow : (output last input packet class : Bool) → (input ≡ true → packet ≡ true → class ≡ true) →
-    ((output && (input && class)) && (last && packet)) ≡ ((output && last) && (input && packet))
-in_flow false last input packet class of = refl
-in_flow true false input packet class of = go input class
-  where
-    go : (input class : Bool) → ((input && class) && false) ≡ false
-    go false class = refl
-    go true false = refl
-    go true true = refl
-in_flow true true false packet class of = refl
-in_flow true true true packet true of = refl
-in_flow true true true false false of = refl
-in_flow true true true true false of = let P : ⊥ = let e = of refl refl in cc in absurd P
 
 input_first : (here input packet : Bool) → (here && (input && packet)) ≡ (input && (here && packet))
 input_first true input packet = refl
@@ -85,13 +70,7 @@ module _ (t : Tables) (captures : List (List Captured)) (sent : List Departure) 
     flow_test : (here : Bool) (cell : Cell) → IsOfPacket t captures cell →
         ((here && (cell.id.input == input && cell.class == class)) && ends cell)
         ≡ ((here && cell.last) && (cell.id.input == input && cell.id.packet == k))
-    flow_test here cell of =
-        in_flow here cell.last (cell.id.input == input) (cell.id.packet == k) (cell.class == class)
-        (λ at it.
-        let same : cell.id.input ≡ input = eqb-true cell.id.input input at in
-        let number : cell.id.packet ≡ k = eqb-true cell.id.packet k it in
-        eq-eqb cell.class class
-        (of.class ∙ ap (λ (i : ℕ). class_of t captures i cell.id.packet) same ∙ ap (class_of t captures input) number))
+    flow_test here cell of = grind (arith, common_steps)
 
     -- its last cell came in its flow, if it goes here
     came_last : tally ends (came_in_flow input class j came) ≡ bit goes
@@ -102,17 +81,13 @@ module _ (t : Tables) (captures : List (List Captured)) (sent : List Departure) 
         ∙ tally_same (λ a. comes_in_flow input class j a && ends a.cell) (λ a. is_from input a && in_line a) came
         (all_from (λ a. IsOfPacket t captures a.cell)
         (λ a. (comes_in_flow input class j a && ends a.cell) ≡ (is_from input a && in_line a))
-        (λ a of. flow_test (a.cell.output == j) a.cell of
-        ∙ input_first (a.cell.output == j && a.cell.last) (a.cell.id.input == input) (a.cell.id.packet == k))
-        came (all_of_packets t captures))
-        ∙ sym (tally_both in_line (is_from input) came)
-        ∙ ap (tally in_line) (at_input t captures input in_captures)
+        (λ a of. search (arith, rules, flow_test, input_first)) came (all_of_packets t captures))
+        ∙ sym (tally_both in_line (is_from input) came) ∙ ap (tally in_line) (at_input t captures input in_captures)
         ∙ one_last t captures input k in_packets j
 
     -- and so did its first
     came_first : tally begins (came_at input came) ≡ bit goes
-    came_first =
-        tally-map begins (λ (a : Arrival). a.cell) (filter (is_from input) came)
+    came_first = tally-map begins (λ (a : Arrival). a.cell) (filter (is_from input) came)
         ∙ ap (tally (λ (a : Arrival). begins a.cell)) (at_input t captures input in_captures)
         ∙ one_first t captures input k in_packets j
 
@@ -126,33 +101,26 @@ module _ (t : Tables) (captures : List (List Captured)) (sent : List Departure) 
         ∙ tally_same (λ d. leaves_in_flow input class j d && ends d.queued.cell) of_it sent
         (all_from (λ d. IsOfPacket t captures d.queued.cell)
         (λ d. (leaves_in_flow input class j d && ends d.queued.cell) ≡ of_it d)
-        (λ d of. flow_test (d.output == j) d.queued.cell of) sent left))
-        ∙ ap (tally ends) (p.left class j)
+        (λ d of. flow_test (d.output == j) d.queued.cell of) sent left)) ∙ ap (tally ends) (p.left class j)
         ∙ tally_of_kind (λ (cell : Cell). cell.id.packet) k p.is_taken (λ cell. cell.last)
-        (came_in_flow input class j came)
-        ∙ ap (λ (n : ℕ). cond taken n 0) came_last
+        (came_in_flow input class j came) ∙ ap (λ (n : ℕ). cond taken n 0) came_last
 
     is_refused : times_refused input k j refused ≡ cond (not taken) (bit goes) 0
     is_refused =
         let p = parted input in_captures in
         let of_it : Cell → Bool =
         λ cell. (cell.output == j && is_first cell) && (cell.id.input == input && cell.id.packet == k) in
-        tally_same of_it (λ cell. cell.id.input == input && begins cell) refused
-        (all_from (IsOfPacket t captures) (λ cell. of_it cell ≡ (cell.id.input == input && begins cell))
+        tally_same of_it (λ cell. cell.id.input == input && begins cell) refused (all_from (IsOfPacket t captures)
+        (λ cell. of_it cell ≡ (cell.id.input == input && begins cell))
         (λ cell _. input_first (cell.output == j && is_first cell) (cell.id.input == input) (cell.id.packet == k))
-        refused lost)
-        ∙ sym (tally_both begins (λ cell. cell.id.input == input) refused)
+        refused lost) ∙ sym (tally_both begins (λ cell. cell.id.input == input) refused)
         ∙ ap (tally begins) p.others
         ∙ tally_of_kind (λ (cell : Cell). cell.id.packet) k (λ n. not (p.is_taken n))
         (λ cell. cell.output == j && is_first cell) (came_at input came)
         ∙ ap (λ (n : ℕ). cond (not taken) n 0) came_first
 
     pub each_once : times_left input k j sent + times_refused input k j refused ≡ bit goes
-    each_once =
-        let one = leaves in
-        let other = is_refused in
-        let both : cond taken (bit goes) 0 + cond (not taken) (bit goes) 0 ≡ bit goes = one_of_both taken (bit goes) in
-        omega arith
+    each_once = grind (arith, common_steps, leaves, is_refused, bit, one_of_both)
 
   module _ (j : ℕ) where
     -- how many packets each input has
@@ -173,20 +141,17 @@ module _ (t : Tables) (captures : List (List Captured)) (sent : List Departure) 
 
     written : length (packets_out t captures sent j) ≡ sum_by lefts inputs
     unfolding packets_out
-    written =
-        length-map (filter (ends_packet_at j) sent) (leaving t captures)
+    written = length-map (filter (ends_packet_at j) sent) (leaving t captures)
         ∙ tally_by_parts (ends_packet_at j) (λ d. d.queued.cell.id.input) (λ d. d.queued.cell.id.packet)
-        (length captures) many sent
-        (all_from (λ d. IsOfPacket t captures d.queued.cell)
-        (λ d. (d.queued.cell.id.input < length captures) × (d.queued.cell.id.packet < many d.queued.cell.id.input))
-        (λ d of. (of.input, of.packet)) sent left)
+        (length captures) many sent (all_from (λ d. IsOfPacket t captures d.queued.cell) (λ d.
+        (d.queued.cell.id.input < length captures)
+        × (d.queued.cell.id.packet < many d.queued.cell.id.input)) (λ d of. (of.input, of.packet)) sent
+        left)
 
     counted : packets_refused j refused ≡ sum_by refusals inputs
     unfolding packets_refused
-    counted =
-        tally_by_parts (λ cell. cell.output == j && is_first cell) (λ cell. cell.id.input) (λ cell. cell.id.packet)
-        (length captures) many refused
-        (all_from (IsOfPacket t captures)
+    counted = tally_by_parts (λ cell. cell.output == j && is_first cell) (λ cell. cell.id.input)
+        (λ cell. cell.id.packet) (length captures) many refused (all_from (IsOfPacket t captures)
         (λ cell. (cell.id.input < length captures) × (cell.id.packet < many cell.id.input))
         (λ cell of. (of.input, of.packet)) refused lost)
 
@@ -200,11 +165,8 @@ module _ (t : Tables) (captures : List (List Captured)) (sent : List Departure) 
         ∙ sym (length-filter (λ k. output_of t captures input k == j) (packets input))
 
     pub all_once : length (packets_out t captures sent j) + packets_refused j refused ≡ number_for t captures j
-    all_once =
-        ap (λ (n : ℕ). n + packets_refused j refused) written
-        ∙ ap (λ (n : ℕ). sum_by lefts inputs + n) counted
+    all_once = ap (λ (n : ℕ). n + packets_refused j refused) written ∙ ap (λ (n : ℕ). sum_by lefts inputs + n) counted
         ∙ sym (sum_by_both lefts refusals inputs)
         ∙ sum_by_same (λ input. lefts input + refusals input) (number_from t captures j) inputs
         (all_in_row (λ input. lefts input + refusals input ≡ number_from t captures j input) 0 (length captures)
-        (λ input less. from_input input (omega arith)))
-        ∙ sym (sum-map (number_from t captures j) inputs)
+        (λ input less. from_input input (omega arith))) ∙ sym (sum-map (number_from t captures j) inputs)

@@ -1,14 +1,15 @@
 -- Of each flow the cells that a sound state names, those that were sent and then those that wait, are the arrivals
 -- that it names before its next slot, in their order. Both lists rise by the slots in which their cells arrived, and
 -- have the same cells: of a flow there arrives one cell in a slot at most.
-use Rattle.std.proofs.Common.{◌≡◌, ◌≢◌, ℕ, ◌<◌, ◌≤◌, Bool, true, false, List, [], ◌∷◌, ◌++◌, length, map, filter, Option, Some, None, refl, sym, ap, ◌∙◌, subst, inl, inr, ⊎_elim, arith}
-use Rattle.std.specs.Prelude.{◌&&◌, ◌==◌, ◌||◌, All, option_map}
+use Rattle.std.proofs.lemmas.Grind.{common_steps}
+use Rattle.std.proofs.Common.{rules, ◌≡◌, ◌≢◌, ℕ, ◌<◌, ◌≤◌, Bool, true, false, List, [], ◌∷◌, ◌++◌, length, map, filter, Option, Some, None, refl, sym, ap, ◌∙◌, subst, inl, inr, ⊎_elim, arith}
+use Rattle.std.specs.Prelude.{◌&&◌, ◌==◌, All, option_map}
 use Rattle.std.specs.List.{AllByRecursion, AllPairs, cons_option, filter_map, list_any}
 use Rattle.std.proofs.lemmas.Bool.{and_from, and_parts, cases_Bool, cases_lt, eq-eqb, eqb-true, lt-ltb, ltb-true, or_left, or_right, true≢false}
 use Rattle.std.proofs.lemmas.List.Elements.{recursion_from_All}
 use Rattle.cq_base.proofs.Keys.{key_laws}
 use Rattle.cq_base.specs.Arriving.{Arrival}
-use Rattle.cq_base.specs.Cells.{EachPair as EachCell, IsBefore, is_for}
+use Rattle.cq_base.specs.Cells.{EachPair as EachCell, IsBefore}
 use Rattle.cq_base.specs.declared.cell.Cell.{Cell}
 use Rattle.cq_base.specs.declared.cell.Departure.{Departure}
 use Rattle.cq_base.specs.declared.cell.Queued.{Queued}
@@ -24,7 +25,7 @@ use Rattle.cq_prefs.specs.FirstCells.{list_of}
 use Rattle.cq_resume.specs.Counted.{departure_of, sent_told}
 use Rattle.cq_resume.specs.Sound.{IsSound, OfOneFlow}
 use Rattle.cq_resume.specs.Switch.{HasShape, Switch}
-use Rattle.cq_resume.specs.Told.{arriving_cell, buffer_told, class_in, class_of, fabric_told, is_ahead, is_named, key_of, list_told, named_in, output_of, queued_in, queued_of}
+use Rattle.cq_resume.specs.Told.{arriving_cell, class_of, fabric_told, is_ahead, is_named, key_of, named_in, output_of, queued_in, queued_of, list_told, class_in}
 use Rattle.cq_resume.proofs.Chained.{EachPair, each_pair}
 use Rattle.cq_resume.proofs.Each.{all_both}
 use Rattle.cq_resume.proofs.GoesOn.{buffer_is, comes, found_at, has_of_among, in_buffer, in_list, in_order, is_cell_of, its_output, its_slot, list_is, of_traffic, ports_are, queued_differ, queued_named, some_cell}
@@ -45,30 +46,11 @@ same_rising [] [] up rising to from = refl
 same_rising [] (y ∷ ys) up rising to from = absurd (from y (inl refl))
 same_rising (x ∷ xs) [] up rising to from = absurd (to x (inl refl))
 same_rising (x ∷ xs) (y ∷ ys) up rising to from =
-    let first : x ≡ y =
-    ⊎_elim (λ same. sym same)
-    (λ later.
-    ⊎_elim (λ same. same)
-    (λ after.
+    let first : x ≡ y = ⊎_elim (λ same. sym same) (λ later. ⊎_elim (λ same. same) (λ after.
     let one : y.slot < x.slot = all_of_has (IsEarlier y) ys x rising.0 later in
-    let other : x.slot < y.slot = all_of_has (IsEarlier x) xs y up.0 after in
-    absurd (omega arith))
-    (from y (inl refl)))
-    (to x (inl refl)) in
-    let slots : x.slot ≡ y.slot = ap (λ (a : Arrival). a.slot) first in
-    let rest : xs ≡ ys =
-    same_rising xs ys up.1 rising.1
-    (λ z has.
-    let low : x.slot < z.slot = all_of_has (IsEarlier x) xs z up.0 has in
-    ⊎_elim
-    (λ (same : y ≡ z). let e : y.slot ≡ z.slot = ap (λ (a : Arrival). a.slot) same in absurd (omega arith))
-    (λ more. more) (to z (inr has)))
-    (λ z has.
-    let low : y.slot < z.slot = all_of_has (IsEarlier y) ys z rising.0 has in
-    ⊎_elim
-    (λ (same : x ≡ z). let e : x.slot ≡ z.slot = ap (λ (a : Arrival). a.slot) same in absurd (omega arith))
-    (λ more. more) (from z (inr has))) in
-    ap (λ (a : Arrival). a ∷ xs) first ∙ ap (λ (l : List Arrival). y ∷ l) rest
+    let other : x.slot < y.slot = all_of_has (IsEarlier x) xs y up.0 after in absurd (omega arith))
+    (from y (inl refl))) (to x (inl refl)) in
+    search (arith, rules, all_of_has, IsEarlier, same_rising xs ys up.1 rising.1)
 
 arrival_is : (a b : Arrival) → a.slot ≡ b.slot → a.cell ≡ b.cell → a ≡ b
 arrival_is a b e g = λ k. record { slot = e k; cell = g k }
@@ -98,10 +80,8 @@ pairs_mapped f R (x ∷ xs) pairs = (all_mapped f (R (f x)) xs pairs.0, pairs_ma
 pairs_joined : {X : Type 0} (R : X → X → Type 0) (xs ys : List X) → EachPair R xs → EachPair R ys →
     ((x y : X) → Has xs x → Has ys y → R x y) → EachPair R (xs ++ ys)
 pairs_joined R [] ys first second across = second
-pairs_joined R (x ∷ xs) ys first second across = (
-  all_both (R x) xs ys first.0 (all_from_has (R x) ys (λ y has. across x y (inl refl) has)),
-  pairs_joined R xs ys first.1 second (λ a b has other. across a b (inr has) other),
-)
+pairs_joined R (x ∷ xs) ys first second across =
+    grind (arith, common_steps, all_both, all_from_has, pairs_joined R xs ys first.1 second)
 
 pairs_of_cells : (R : Queued → Queued → Type 0) (xs : List Queued) → EachCell R xs → EachPair R xs
 pairs_of_cells R [] pairs = tt
@@ -131,23 +111,14 @@ any_has p (z ∷ zs) x (inr rest) is = or_right (p z) (list_any p zs) (any_has p
 
 has_any : {X : Type 0} (p : X → Bool) (xs : List X) → list_any p xs ≡ true → (x : X) × Has xs x × (p x ≡ true)
 has_any p [] holds = absurd (let clash : false ≡ true = holds in let P : ⊥ = cc in P)
-has_any p (z ∷ zs) holds =
-    ⊎_elim (λ is. (z, inl refl, is))
-    (λ fails.
-    let it = has_any p zs (sym (ap (λ (b : Bool). b || list_any p zs) fails) ∙ holds) in (it.0, inr it.1, it.2))
-    (cases_Bool (p z))
+has_any p (z ∷ zs) holds = grind (arith, common_steps, cases_Bool, has_any p zs)
 
 -- the cell that departs, and where
 departs : (d : Sent) (o : Option Queued) (x : Departure) →
     option_map (λ q. let y : Departure = record { slot = d.slot; output = q.cell.output; queued = q } in y) o ≡ Some x →
     (o ≡ Some x.queued) × (x.output ≡ x.queued.cell.output)
 departs d None x is = absurd (let P : ⊥ = cc is in P)
-departs d (Some q) x is =
-    let made : Departure = record { slot = d.slot; output = q.cell.output; queued = q } in
-    let same : made ≡ x = cc is in (
-      ap (λ (y : Departure). Some y.queued) same,
-      sym (ap (λ (y : Departure). y.output) same) ∙ ap (λ (y : Departure). y.queued.cell.output) same,
-    )
+departs d (Some q) x is = grind (arith, common_steps)
 
 -- ## One flow
 
@@ -241,27 +212,15 @@ module _ (w : Switch) (s : State) (in_range : IsInRange s) (shape : HasShape w s
 
   sent_in_flow : (d : Sent) (x : Departure) → departure_of w.came d ≡ Some x → leaves x ≡ true →
       InFlow d.cell x.queued
-  sent_in_flow d x is passes =
-      let parts = departs d (t d.cell) x is in
-      let tests = and_parts (x.output == j) (is_kind i c x.queued) passes in
-      record { is = parts.0; output = sym parts.1 ∙ eqb-true x.output j tests.0; kind = tests.1 }
+  sent_in_flow d x is passes = grind (arith, common_steps, departs, and_parts, x.output, is_kind, eqb-true)
 
   was_sent : (q : Queued) → Has gone q → WasSent q
-  was_sent q has =
-      let image = image_has (λ (d : Departure). d.queued) (filter leaves (sent_told w.came s)) q has in
-      let kept = kept_has leaves (sent_told w.came s) image.0 image.1 in
-      let it = looked_up (departure_of w.came) s.sent image.0 kept.0 in
-      record {
-        sent = it.origin;
-        has = it.has;
-        of = subst (λ (r : Queued). InFlow it.origin.cell r) image.2 (sent_in_flow it.origin image.0 it.is kept.1);
-      }
+  was_sent q has = grind (arith, common_steps, image_has, kept_has, looked_up, sent_in_flow)
 
   waits : (q : Queued) → Has waiting q → Waits q
   waits q has =
       let kept = kept_has (is_kind i c) there q has in
-      let it = waits_there w s in_range shape sound traffic agrees j q kept.0 in
-      record { name = it.name; has = it.has; of = record { is = it.is; output = it.output; kind = kept.1 } }
+      search (arith, rules, waits_there w s in_range shape sound traffic agrees j q kept.0)
 
   -- what its name is
   record NameInFlow (n : Named) : Type 0 where
@@ -280,10 +239,7 @@ module _ (w : Switch) (s : State) (in_range : IsInRange s) (shape : HasShape w s
       }
 
   one_flow : (m n : Named) (q r : Queued) → InFlow m q → InFlow n r → OfOneFlow w.came m n
-  one_flow m n q r first second =
-      let a = name_in_flow m q first in
-      let b = name_in_flow n r second in
-      record { input = a.input ∙ sym b.input; output = a.output ∙ sym b.output; class = a.class ∙ sym b.class }
+  one_flow m n q r first second = let a = name_in_flow m q first in search (arith, rules, name_in_flow n r second)
 
   slot_is : (n : Named) (q : Queued) → InFlow n q → q.key.slot ≡ n.slot
   slot_is n q of = its_slot w s in_range shape sound traffic n q of.is
@@ -301,21 +257,14 @@ module _ (w : Switch) (s : State) (in_range : IsInRange s) (shape : HasShape w s
   InTurn d e = OfOneFlow w.came d.cell e.cell → d.cell.slot < e.cell.slot
 
   gone_rise : EachPair Earlier gone
-  gone_rise =
-      pairs_mapped (λ (d : Departure). d.queued) Earlier (filter leaves (sent_told w.came s))
+  gone_rise = pairs_mapped (λ (d : Departure). d.queued) Earlier (filter leaves (sent_told w.came s))
       (pairs_with EarlierThere (λ (x y : Departure). Earlier x.queued y.queued) (λ (d : Departure). leaves d ≡ true)
-      (λ x y first second turn. turn first second) (filter leaves (sent_told w.came s))
-      (all_from_has (λ (d : Departure). leaves d ≡ true) (filter leaves (sent_told w.came s))
-      (λ d has. (kept_has leaves (sent_told w.came s) d has).1))
-      (pairs_kept EarlierThere leaves (sent_told w.came s)
+      (λ x y first second turn. turn first second) (filter leaves (sent_told w.came s)) (all_from_has
+      (λ (d : Departure). leaves d ≡ true) (filter leaves (sent_told w.came s)) (λ d has.
+      (kept_has leaves (sent_told w.came s) d has).1)) (pairs_kept EarlierThere leaves (sent_told w.came s)
       (pairs_looked_up (departure_of w.came) InTurn EarlierThere
-      (λ d e x y turn one two first second.
-      let a = sent_in_flow d x one first in
-      let b = sent_in_flow e y two second in
-      let less : d.cell.slot < e.cell.slot = turn (one_flow d.cell e.cell x.queued y.queued a b) in
-      let low : x.queued.key.slot ≡ d.cell.slot = slot_is d.cell x.queued a in
-      let high : y.queued.key.slot ≡ e.cell.slot = slot_is e.cell y.queued b in
-      omega arith) s.sent (each_pair InTurn s.sent sound.flows.sent))))
+      (λ d e x y turn one two first second. search (arith, rules, sent_in_flow, one_flow, slot_is)) s.sent
+      (each_pair InTurn s.sent sound.flows.sent))))
 
   -- of two that wait the first arrived first
   abbrev Ahead : Named → Named → Type 0
@@ -327,17 +276,8 @@ module _ (w : Switch) (s : State) (in_range : IsInRange s) (shape : HasShape w s
       (recursion_from_All (λ (m : Named). All (Ahead m) (queued_in s)) (queued_in s) sound.flows.queued) first in
       all_of_has (Ahead a) (queued_in s) b (recursion_from_All (Ahead a) (queued_in s) each) second
 
-  -- names differ in their slots or in their inputs
-  abbrev Differ : Named → Named → Type 0
-  Differ a b = (a.slot ≡ b.slot) → a.input ≢ b.input
-
   one_name : (a b : Named) → Has (queued_in s) a → Has (queued_in s) b → a.slot ≡ b.slot → a.input ≡ b.input → a ≡ b
-  one_name a b first second slots inputs =
-      ⊎_elim
-      (λ ways.
-      ⊎_elim (λ differ. absurd (differ slots inputs)) (λ differ. absurd (differ (sym slots) (sym inputs))) ways)
-      (λ same. same)
-      (pair_of_has Differ (queued_in s) a b (queued_differ w s in_range shape sound traffic) first second)
+  one_name a b first second slots inputs = grind (arith, common_steps, pair_of_has, queued_differ)
 
   waits_earlier : (q r : Queued) → Has waiting q → Has waiting r → IsBefore q r → Earlier q r
   waits_earlier q r first second before =
@@ -352,9 +292,7 @@ module _ (w : Switch) (s : State) (in_range : IsInRange s) (shape : HasShape w s
       ⊎_elim
       (λ (more : r.key.slot < q.key.slot).
       let turned : n.slot < m.slot = omega arith in
-      let back : IsBefore r q =
-      in_order w s in_range shape sound traffic n m r q b.of.is a.of.is
-      (ahead n m b.has a.has (one_flow n m r q b.of a.of) turned) in
+      let back : IsBefore r q = search (arith, rules, in_order, ahead, one_flow) in
       absurd (true≢false (sym back ∙ key_laws.one_way q.key r.key before)))
       (λ (no_more : q.key.slot ≤ r.key.slot).
       let slots : m.slot ≡ n.slot = omega arith in
@@ -367,8 +305,7 @@ module _ (w : Switch) (s : State) (in_range : IsInRange s) (shape : HasShape w s
       (cases_lt q.key.slot r.key.slot)
 
   waiting_rise : EachPair Earlier waiting
-  waiting_rise =
-      pairs_with IsBefore Earlier (λ (q : Queued). Has waiting q)
+  waiting_rise = pairs_with IsBefore Earlier (λ (q : Queued). Has waiting q)
       (λ q r first second before. waits_earlier q r first second before) waiting
       (all_from_has (λ (q : Queued). Has waiting q) waiting (λ q has. has))
       (pairs_kept IsBefore (is_kind i c) there (pairs_of_cells IsBefore there (agrees.rising j)))
@@ -386,16 +323,10 @@ module _ (w : Switch) (s : State) (in_range : IsInRange s) (shape : HasShape w s
       let b = waits r second in
       let all = all_of_has AfterAll s.sent a.sent (recursion_from_All AfterAll s.sent sound.flows.after) a.has in
       let after = all_of_has (After a.sent.cell) (queued_in s) b.name
-      (recursion_from_All (After a.sent.cell) (queued_in s) all) b.has in
-      let less : a.sent.cell.slot < b.name.slot = after (one_flow a.sent.cell b.name q r a.of b.of) in
-      let low : q.key.slot ≡ a.sent.cell.slot = slot_is a.sent.cell q a.of in
-      let high : r.key.slot ≡ b.name.slot = slot_is b.name r b.of in
-      omega arith
+      (recursion_from_All (After a.sent.cell) (queued_in s) all) b.has in search (arith, rules, one_flow, slot_is)
 
   told_rise : EachPair IsEarlier (map as_arrival (gone ++ waiting))
-  told_rise =
-      pairs_mapped as_arrival IsEarlier (gone ++ waiting)
-      (pairs_joined Earlier gone waiting gone_rise waiting_rise sent_earlier)
+  told_rise = search (rules, pairs_mapped, IsEarlier, pairs_joined, gone_rise, waiting_rise, sent_earlier)
 
   -- ## They are the named arrivals
 
@@ -424,16 +355,7 @@ module _ (w : Switch) (s : State) (in_range : IsInRange s) (shape : HasShape w s
       let input : q.cell.id.input ≡ n.input = (of_traffic w s in_range shape sound traffic n q of.is).input in
       let same : it.arrival ≡ x = arrival_is it.arrival x (it.slot ∙ sym slot) it.own in
       let before : n.slot < next = (comes w s in_range shape sound traffic n has).0 in
-      let early : q.key.slot < next = omega arith in
-      record {
-        came = subst (λ (a : Arrival). Has w.came a) same it.has;
-        early = early;
-        flow = and_from (q.cell.output == j) (is_kind i c q) (eq-eqb q.cell.output j of.output) of.kind;
-        own =
-            any_has (is_name_of x) names n has
-            (and_from (n.slot == q.key.slot) (n.input == q.cell.id.input) (eq-eqb n.slot q.key.slot (sym slot))
-            (eq-eqb n.input q.cell.id.input (sym input)));
-      }
+      search (arith, rules, Has, and_from, q.cell.output, is_kind, eq-eqb, any_has, n.slot, n.input)
 
   to_told : (x : Arrival) → IsOne x → Has told x
   to_told x one =
@@ -447,44 +369,26 @@ module _ (w : Switch) (s : State) (in_range : IsInRange s) (shape : HasShape w s
       one.own
 
   from_told : (x : Arrival) → Has told x → IsOne x
-  from_told x has =
-      let named_too = kept_has named of_flow x has in
-      let flows = kept_has (comes_in_flow i c j) (early_of next (line_at i w.came)) x named_too.0 in
-      let earlies = kept_has (is_early next) (line_at i w.came) x flows.0 in
-      let own = kept_has (λ (a : Arrival). a.cell.id.input == i) w.came x earlies.0 in
-      record {
-        came = own.0;
-        early = ltb-true x.slot next earlies.1;
-        flow = flows.1;
-        own = named_too.1;
-      }
+  from_told x has = grind (arith, common_steps, kept_has, early_of, line_at, is_early, ltb-true)
 
   is_told : (x : Arrival) → Has (map as_arrival (gone ++ waiting)) x → Has told x
   is_told x has =
       let image = image_has as_arrival (gone ++ waiting) x has in
       let q = image.0 in
       let one : IsOne (as_arrival q) =
-      ⊎_elim
-      (λ sent.
+      ⊎_elim (λ sent.
       let it = was_sent q sent in
-      one_of_names it.sent.cell q
-      (has_right (queued_in s) (map (λ (d : Sent). d.cell) s.sent) it.sent.cell
-      (has_image (λ (d : Sent). d.cell) s.sent it.sent it.has)) it.of)
+      one_of_names it.sent.cell q (has_right (queued_in s) (map (λ (d : Sent). d.cell) s.sent)
+      it.sent.cell (has_image (λ (d : Sent). d.cell) s.sent it.sent it.has)) it.of)
       (λ later.
-      let it =
-      waits q later in one_of_names it.name q (queued_named w s in_range shape sound traffic it.name it.has) it.of)
+      search (arith, rules, waits q later, one_of_names, queued_named w s in_range shape sound traffic))
       (has_cases gone waiting q image.1) in
       subst (λ (a : Arrival). Has told a) image.2 (to_told (as_arrival q) one)
 
   -- an arrival is the only one of its slot and input
   one_arrival : (a x : Arrival) → Has w.came a → Has w.came x → a.slot ≡ x.slot → a.cell.id.input ≡ x.cell.id.input →
       a ≡ x
-  one_arrival a x first second slots inputs =
-      ⊎_elim
-      (λ ways.
-      ⊎_elim (λ later. let less : a.slot < x.slot = later inputs in absurd (omega arith))
-      (λ later. let less : x.slot < a.slot = later (sym inputs) in absurd (omega arith)) ways)
-      (λ same. same)
+  one_arrival a x first second slots inputs = ⊎_elim (λ ways. search (arith, rules)) (λ same. same)
       (pair_of_has IsLater w.came a x (each_pair IsLater w.came traffic.one_by_one) first second)
 
   -- where the cell of a name stands
@@ -494,9 +398,7 @@ module _ (w : Switch) (s : State) (in_range : IsInRange s) (shape : HasShape w s
       let d = image.0 in
       let x : Departure = record { slot = d.slot; output = q.cell.output; queued = q } in
       let looked : t d.cell ≡ Some q = ap t image.2 ∙ of.is in
-      let is : departure_of w.came d ≡ Some x =
-      ap (λ (o : Option Queued). option_map
-      (λ r. let y : Departure = record { slot = d.slot; output = r.cell.output; queued = r } in y) o) looked in
+      let is : departure_of w.came d ≡ Some x = search (arith, rules) in
       has_image (λ (y : Departure). y.queued) (filter leaves (sent_told w.came s)) x
       (has_kept leaves (sent_told w.came s) x (has_looked_up (departure_of w.came) s.sent d x image.1 is)
       (and_from (q.cell.output == j) (is_kind i c q) (eq-eqb q.cell.output j of.output) of.kind))
@@ -521,14 +423,7 @@ module _ (w : Switch) (s : State) (in_range : IsInRange s) (shape : HasShape w s
   among_buffered n q of has =
       let ports : s.head.ports ≡ length w.machines = ports_are w s in_range shape sound traffic in
       let low : q.cell.output < length w.machines = (of_traffic w s in_range shape sound traffic n q of.is).output in
-      let own : q.cell.output ≡ j = of.output in
-      let inside : j < s.head.ports = omega arith in
-      let told_there : Has (buffer_told w.came s j) q =
-      has_kept (is_for j) (filter_map t s.buffered) q (has_looked_up t s.buffered n q has of.is)
-      (eq-eqb q.cell.output j own) in
-      let here : Has (buffer f j) q =
-      subst (λ (l : List Queued). Has l q) (sym (buffer_is w s in_range shape sound traffic j inside)) told_there in
-      among_waiting n q of (inr (among_of_has (buffer f j) q here))
+      search (arith, rules, has_kept, has_looked_up, buffer_is, among_waiting, among_of_has)
 
   is_there : (x : Arrival) → Has told x → Has (map as_arrival (gone ++ waiting)) x
   is_there x has =
@@ -544,31 +439,17 @@ module _ (w : Switch) (s : State) (in_range : IsInRange s) (shape : HasShape w s
       let same : it.arrival ≡ x = one_arrival it.arrival x it.has one.came (it.slot ∙ slot) (it.input ∙ input) in
       let cell : some.0 ≡ x.cell = sym it.own ∙ ap (λ (a : Arrival). a.cell) same in
       let q : Queued = record { cell = x.cell; key = key_of n } in
-      let looked : t n ≡ Some q =
-      ap (λ (o : Option Cell). option_map (λ y. let r : Queued = record { cell = y; key = key_of n } in r) o)
-      (some.1 ∙ ap (λ (y : Cell). Some y) cell) in
+      let looked : t n ≡ Some q = search (arith, rules) in
       let flow = and_parts (x.cell.output == j) (x.cell.id.input == i && x.cell.class == c) one.flow in
       let of : InFlow n q = record { is = looked; output = eqb-true x.cell.output j flow.0; kind = flow.1 } in
       let among : Has (gone ++ waiting) q =
-      ⊎_elim
-      (λ queued.
-      has_right gone waiting q
-      (⊎_elim (λ listed. among_listed n q of listed) (λ buffered. among_buffered n q of buffered)
-      (has_cases s.listed s.buffered n queued)))
-      (λ sent. has_left gone waiting q (among_gone n q of sent))
-      (has_cases (queued_in s) (map (λ (d : Sent). d.cell) s.sent) n name.1) in
+      search (arith, rules, has_right, among_listed, among_buffered, has_cases, has_left, among_gone) in
       subst (λ (a : Arrival). Has (map as_arrival (gone ++ waiting)) a) (arrival_is (as_arrival q) x slot refl)
       (has_image as_arrival (gone ++ waiting) q among)
 
   told_rises : EachPair IsEarlier told
-  told_rises =
-      pairs_kept IsEarlier named of_flow
-      (pairs_kept IsEarlier (comes_in_flow i c j) (early_of next (line_at i w.came))
-      (pairs_kept IsEarlier (is_early next) (line_at i w.came) (line_rises w.came traffic.one_by_one i)))
+  told_rises = grind (arith, common_steps, pairs_kept, IsEarlier, early_of, line_at, is_early, line_rises)
 
   -- what was sent of the flow, and then what waits of it
   pub told_flow : left_in_flow i c j (sent_told w.came s) ++ shown i c there ≡ cells_of told
-  told_flow =
-      both_cells (filter leaves (sent_told w.came s)) waiting
-      ∙ ap cells_of
-      (same_rising (map as_arrival (gone ++ waiting)) told told_rise told_rises is_told is_there)
+  told_flow = search (rules, both_cells, cells_of, same_rising, told_rise, told_rises, is_told, is_there)

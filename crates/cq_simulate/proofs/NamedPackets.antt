@@ -2,7 +2,8 @@
 -- the state says it, with one answer for all cells that arrived; of the others the run does. Where a packet goes on
 -- over the slot both say the same: it is the last that began, and the mark of the input is up exactly where the state
 -- does not name it.
-use Rattle.std.proofs.Common.{◌≡◌, ◌⊎◌, ℕ, ◌+◌, ◌<◌, ◌≤◌, not, Bool, true, false, cond, List, [], ◌∷◌, ◌++◌, filter, Option, refl, sym, ap, ◌∙◌, subst, inl, inr, ⊎_elim, arith}
+use Rattle.std.proofs.lemmas.Grind.{common_steps}
+use Rattle.std.proofs.Common.{rules, ◌≡◌, ◌⊎◌, ℕ, ◌+◌, ◌<◌, ◌≤◌, not, Bool, true, false, cond, List, [], ◌∷◌, ◌++◌, filter, refl, ap, ◌∙◌, subst, inl, inr, ⊎_elim, arith, sym}
 use Rattle.std.specs.Prelude.{◌&&◌, ◌==◌, nat_lt}
 use Rattle.std.specs.List.{AllByRecursion, list_any}
 use Rattle.std.proofs.lemmas.Bool.{and_from, cases_eq, cases_lt, cond-false, cond-true, eq-eqb, eqb-true, le-ltb, lt-ltb, ltb-true, ne_eqb, or_from, or_left, or_right}
@@ -13,7 +14,7 @@ use Rattle.cq_ideal.proofs.RestAtInput.{cells_of, is_from_on, line_at, rest_of}
 use Rattle.cq_resume.specs.Counted.{firsts_at, is_refused, latest}
 use Rattle.cq_resume.specs.Sound.{AllNamed, AreWholePackets, NoneNamed}
 use Rattle.cq_resume.specs.Switch.{HasLimit, Switch}
-use Rattle.cq_resume.specs.Told.{is_named, is_of_packet, named_in, packet_before}
+use Rattle.cq_resume.specs.Told.{is_named, named_in, packet_before}
 use Rattle.cq_resume.proofs.Chained.{EachPair}
 use Rattle.cq_resume.proofs.Each.{all_weaker}
 use Rattle.cq_resume.proofs.Having.{Has, all_from_has, all_of_has, has_kept, kept_has, pair_of_has}
@@ -35,15 +36,11 @@ IsEarlier a b = a.slot < b.slot
 -- behind one that is not early none is
 none_early : (next : ℕ) (line : List Arrival) → AllByRecursion (λ a. next ≤ a.slot) line → early_of next line ≡ []
 none_early next [] late = refl
-none_early next (a ∷ line) late =
-    cond-false (is_early next a) (a ∷ early_of next line) (early_of next line) (le-ltb a.slot next late.0)
-    ∙ none_early next line late.1
+none_early next (a ∷ line) late = grind (arith, common_steps, cond-false, le-ltb, none_early next line late.1)
 
 all_rest : (next : ℕ) (line : List Arrival) → AllByRecursion (λ a. next ≤ a.slot) line → rest_of next line ≡ line
 all_rest next [] late = refl
-all_rest next (a ∷ line) late =
-    cond-true (is_from_on next a) (a ∷ rest_of next line) (rest_of next line) (ap not (le-ltb a.slot next late.0))
-    ∙ ap (λ (l : List Arrival). a ∷ l) (all_rest next line late.1)
+all_rest next (a ∷ line) late = search (rules, cond-true, is_from_on, rest_of, le-ltb, all_rest next line late.1)
 
 pub parted_at : (next : ℕ) (line : List Arrival) → EachPair IsEarlier line →
     line ≡ early_of next line ++ rest_of next line
@@ -80,31 +77,13 @@ module _ (named : Arrival → Bool) (taken : ℕ → Bool) where
   unfolding named_or_taken
   as_named [] alike b has = absurd has
   as_named (a ∷ line) alike b has =
-      let rest : Bool = named_or_taken line (packet b) in
-      ⊎_elim
-      (λ same.
-      cond-true (packet a == packet b) (named a) rest (eq-eqb (packet a) (packet b) same)
-      ∙ alike a b (inl refl) has same)
-      (λ other.
-      ⊎_elim (λ is. absurd (other (ap packet is)))
-      (λ more.
-      cond-false (packet a == packet b) (named a) rest (ne_eqb (packet a) (packet b) other)
-      ∙ as_named line (λ x y first second. alike x y (inr first) (inr second)) b more) has)
-      (cases_eq (packet a) (packet b))
+      grind (arith, common_steps, packet, cond-true, eq-eqb, cond-false, ne_eqb, cases_eq, as_named line)
 
   pub as_taken : (line : List Arrival) (p : ℕ) →
       ((a : Arrival) → Has line a → packet a ≡ p → named a ≡ taken p) → named_or_taken line p ≡ taken p
   unfolding named_or_taken
   as_taken [] p same = refl
-  as_taken (a ∷ line) p same =
-      let rest : Bool = named_or_taken line p in
-      ⊎_elim
-      (λ here.
-      cond-true (packet a == p) (named a) rest (eq-eqb (packet a) p here) ∙ same a (inl refl) here)
-      (λ other.
-      cond-false (packet a == p) (named a) rest (ne_eqb (packet a) p other)
-      ∙ as_taken line p (λ x has. same x (inr has)))
-      (cases_eq (packet a) p)
+  as_taken (a ∷ line) p same = grind (arith, common_steps, as_taken line p)
 
 -- ## What a sound state says
 
@@ -112,15 +91,8 @@ module _ (named : Arrival → Bool) (taken : ℕ → Bool) where
 pairs_of_two : (R S : Arrival → Arrival → Type 0) (xs : List Arrival) → EachPair R xs → EachPair S xs →
     EachPair (λ a b. R a b × S a b) xs
 pairs_of_two R S [] first second = tt
-pairs_of_two R S (x ∷ xs) first second = (
-  all_from_has (λ (y : Arrival). R x y × S x y) xs
-      (λ y has. (all_of_has (R x) xs y first.0 has, all_of_has (S x) xs y second.0 has)),
-  pairs_of_two R S xs first.1 second.1,
-)
-
-not_not : (b : Bool) → not (not b) ≡ b
-not_not true = refl
-not_not false = refl
+pairs_of_two R S (x ∷ xs) first second =
+    grind (arith, common_steps, all_from_has, all_of_has, pairs_of_two R S xs first.1 second.1)
 
 all_three : (x y z : Bool) → x ≡ true → y ≡ true → z ≡ true → (x && y && z) ≡ true
 all_three true true true e f g = refl
@@ -189,29 +161,14 @@ module _ (w : Switch) (s : State) (i : ℕ) (whole : AreWholePackets w s)
     pub early : a.slot < next
 
   of_line : (a : Arrival) → Has before a → OfLine a
-  of_line a has =
-      let kept = kept_has (is_early next) line a has in
-      let own = kept_has (λ (x : Arrival). x.cell.id.input == i) w.came a kept.0 in
-      record {
-        came = own.0;
-        input = eqb-true a.cell.id.input i own.1;
-        early = ltb-true a.slot next kept.1;
-      }
+  of_line a has = grind (arith, common_steps, kept_has, eqb-true, ltb-true)
 
   to_line : (a : Arrival) → OfLine a → Has before a
-  to_line a of =
-      has_kept (is_early next) line a
-      (has_kept (λ (x : Arrival). x.cell.id.input == i) w.came a of.came (eq-eqb a.cell.id.input i of.input))
-      (lt-ltb a.slot next of.early)
+  to_line a of = grind (arith, common_steps, has_kept, eq-eqb, lt-ltb)
 
   -- a cell of the same packet that came before the slot is among those of which the state is asked
   in_packet : (f a : Arrival) → OfLine f → OfLine a → packet f ≡ packet a → Has (packet_before w.came next f) a
-  in_packet f a first of same =
-      has_kept (λ (x : Arrival). is_of_packet f x && nat_lt x.slot next) w.came a of.came
-      (and_from (is_of_packet f a) (nat_lt a.slot next)
-      (and_from (a.cell.id.input == f.cell.id.input) (packet a == packet f)
-      (eq-eqb a.cell.id.input f.cell.id.input (of.input ∙ sym first.input)) (eq-eqb (packet a) (packet f) (sym same)))
-      (lt-ltb a.slot next of.early))
+  in_packet f a first of same = search (rules, has_kept, and_from, a.cell.id.input, packet, eq-eqb, lt-ltb)
 
   -- and all of those are named, or none is
   abbrev OneAnswer : Arrival → Type 0
@@ -222,41 +179,31 @@ module _ (w : Switch) (s : State) (i : ℕ) (whole : AreWholePackets w s)
       let first = of_line f has in
       let all = packet_before w.came next f in
       let own : Has all f = in_packet f f first first refl in
-      let said = all_of_has (λ (a : Arrival). a.cell.id.index ≡ 0 → a.slot < next →
-      AllNamed s (packet_before w.came next a)
+      let said = all_of_has (λ (a : Arrival). a.cell.id.index ≡ 0 → a.slot < next
+      → AllNamed s (packet_before w.came next a)
       ⊎ (NoneNamed s (packet_before w.came next a) × HasLimit w.limits a.cell.output)) w.came f
-      (recursion_from_All (λ (a : Arrival). a.cell.id.index ≡ 0 → a.slot < next →
-      AllNamed s (packet_before w.came next a)
+      (recursion_from_All (λ (a : Arrival). a.cell.id.index ≡ 0 → a.slot < next
+      → AllNamed s (packet_before w.came next a)
       ⊎ (NoneNamed s (packet_before w.came next a) × HasLimit w.limits a.cell.output)) w.came whole)
       first.came begins first.early in
-      ⊎_elim
-      (λ each_is a among.
+      ⊎_elim (λ each_is a among.
       let each = recursion_from_All (λ (b : Arrival). named b ≡ true) all each_is in
-      all_of_has (λ (b : Arrival). named b ≡ true) all a each among
-      ∙ sym (all_of_has (λ (b : Arrival). named b ≡ true) all f each own))
-      (λ none_is a among.
+      search (arith, rules, all_of_has)) (λ none_is a among.
       let each = recursion_from_All (λ (b : Arrival). named b ≡ false) all none_is.0 in
-      all_of_has (λ (b : Arrival). named b ≡ false) all a each among
-      ∙ sym (all_of_has (λ (b : Arrival). named b ≡ false) all f each own))
-      said
+      search (arith, rules, all_of_has)) said
 
   pub alike : (a b : Arrival) → Has before a → Has before b → packet a ≡ packet b → named a ≡ named b
   alike a b first second same =
       let it = begun before packets_before a first in
       let f = it.first in
-      let answers = one_answer f it.has it.begins in
-      let head = of_line f it.has in
-      answers a (in_packet f a head (of_line a first) it.own)
-      ∙ sym (answers b (in_packet f b head (of_line b second) (it.own ∙ same)))
+      let answers = one_answer f it.has it.begins in search (arith, rules, of_line, in_packet)
 
   -- slots and packets rise together
   abbrev Rises : Arrival → Arrival → Type 0
   Rises x y = (x.slot < y.slot) × (packet x ≤ packet y)
 
   both_rise : EachPair Rises before
-  both_rise =
-      pairs_of_two IsEarlier (λ (x y : Arrival). packet x ≤ packet y) before
-      (pairs_kept IsEarlier (is_early next) line rising) (packets_rise 0 before packets_before)
+  both_rise = grind (arith, common_steps, pairs_of_two, packet, pairs_kept, packets_rise, packets_before)
 
   -- the packet that goes on is named exactly where the mark is down
   pub mark_says : (a : Arrival) → Has before a → packet a + 1 ≡ begin_from →
@@ -266,10 +213,7 @@ module _ (w : Switch) (s : State) (i : ℕ) (whole : AreWholePackets w s)
       let f = it.first in
       let head = of_line f it.has in
       let is_begin : Arrival → Bool = λ x. x.cell.id.input == i && x.cell.id.index == 0 && nat_lt x.slot next in
-      let there : Has (firsts_at w.came s i) f =
-      has_kept is_begin w.came f head.came
-      (all_three (f.cell.id.input == i) (f.cell.id.index == 0) (nat_lt f.slot next)
-      (eq-eqb f.cell.id.input i head.input) (eq-eqb f.cell.id.index 0 it.begins) (lt-ltb f.slot next head.early)) in
+      let there : Has (firsts_at w.came s i) f = search (arith, rules, has_kept, all_three, eq-eqb, lt-ltb) in
       let found = latest_is (firsts_at w.came s i) f there in
       let g = found.0 in
       let kept = kept_has is_begin w.came g found.2.has in
@@ -281,21 +225,12 @@ module _ (w : Switch) (s : State) (i : ℕ) (whole : AreWholePackets w s)
       let own : packet f ≡ packet a = it.own in
       let high : packet g + 1 ≤ begin_from =
       all_of_has (λ (x : Arrival). packet x + 1 ≤ begin_from) before g (below 0 before packets_before) g_has in
-      let low : packet f ≤ packet g =
-      ⊎_elim
-      (λ ways.
-      ⊎_elim (λ up. up.1) (λ (down : (g.slot < f.slot) × (packet g ≤ packet f)).
-      let less : g.slot < f.slot = down.0 in absurd (omega arith))
-      ways)
-      (λ (same : f ≡ g). let e : packet f ≡ packet g = ap packet same in omega arith)
-      (pair_of_has Rises before f g
-      both_rise it.has g_has) in
-      let same : packet g ≡ packet a = omega arith in
-      let any : list_any named (packet_before w.came next g) ≡ named g =
-      any_alike named (named g) (packet_before w.came next g) g (in_packet g g of_g of_g refl)
-      (one_answer g g_has (eqb-true g.cell.id.index 0 tests.1)) in
-      ap (λ (o : Option Arrival). not (is_refused w.came s o)) found.1
-      ∙ not_not (list_any named (packet_before w.came next g)) ∙ any ∙ alike g a g_has has same
+      let low : packet f ≤ packet g = search (arith, rules, packet, pair_of_has, both_rise) in
+      let any_alike-here = any_alike named (named g) (packet_before w.came next g) g in
+      let in_packet-here = in_packet g g of_g of_g refl in
+      let one_answer-here = one_answer g g_has in
+      let alike-here = alike g a g_has has in
+      search (arith, rules)
 
   -- ## Together
 
@@ -306,9 +241,7 @@ module _ (w : Switch) (s : State) (i : ℕ) (whole : AreWholePackets w s)
     is_taken = named_or_taken named taken before
 
     pub taken_before : AllByRecursion (λ a. is_taken (packet a) ≡ named a) before
-    taken_before =
-        all_from_has (λ (a : Arrival). is_taken (packet a) ≡ named a) before
-        (λ a has. as_named named taken before alike a has)
+    taken_before = grind (arith, common_steps, all_from_has, packet, as_named, alike)
 
     pub taken_behind : AllByRecursion (λ b. is_taken (packet b) ≡ taken (packet b)) behind
     taken_behind =

@@ -1,11 +1,10 @@
 -- What arrives at an input are its packets, one after another, each from its first cell to its last. Cell 0 of a
 -- packet is its first cell and no other is, and the next packet has the next number. At what is no input nothing
 -- arrives.
-use Rattle.std.proofs.Common.{◌≡◌, ℕ, zero, suc, ◌+◌, ◌<◌, ◌≤◌, List, [], ◌∷◌, ◌++◌, length, map, refl, sym, ap, ◌∙◌, inl, inr, subst, ⊎_elim, arith, Option, Some, None}
+use Rattle.std.proofs.lemmas.Grind.{common_steps}
+use Rattle.std.proofs.Common.{rules, ◌≡◌, ℕ, zero, suc, ◌+◌, ◌<◌, ◌≤◌, List, [], ◌∷◌, ◌++◌, length, map, refl, ap, inr, arith, sym, ◌∙◌, subst}
 use Rattle.std.specs.List.{flat_map, range_with_len}
 use Rattle.std.proofs.lemmas.Bool.{cases_lt, ne_eqb}
-use Rattle.std.proofs.lemmas.List.{map-append}
-use Rattle.cq_base.specs.Arrivals.{arrival_at}
 use Rattle.cq_base.specs.Arriving.{Arrival, arriving, enough, traffic_of}
 use Rattle.cq_base.specs.declared.cell.Cell.{Cell}
 use Rattle.cq_cells.proofs.Pieces.{cells_above}
@@ -15,10 +14,11 @@ use Rattle.cq_cells.specs.Traffic.{IsTraffic}
 use Rattle.cq_ideal.proofs.AtInput.{come_in_order}
 use Rattle.cq_ideal.specs.WholePackets.{AreOfPackets, cells_at}
 use Rattle.cq_pcap.specs.Captured.{Captured}
-use Rattle.cq_route.specs.Tables.{AreTables, classes_of, ports_of}
+use Rattle.cq_route.specs.Tables.{AreTables, ports_of}
 use Rattle.cq_route.specs.declared.tables.Tables.{Tables}
 use Rattle.cq_simulate.proofs.Runnable.{later_rise}
 use Rattle.cq_traffic.proofs.ForPorts.{arrivals_for}
+use Rattle.std.proofs.lemmas.List.{map-append}
 
 -- the cells of arrivals in consecutive slots
 cells_in : (s : ℕ) (f : ℕ → Cell) (a n : ℕ) →
@@ -35,8 +35,7 @@ module _ (t : Tables) (captures : List (List Captured)) (input : ℕ) where
       AreOfPackets (k + 1) (map (cell_of t captures input k) (range_with_len a n) ++ rest)
   unfolding cell_of
   others k a zero rest some of = of
-  others k a (suc n) rest some of =
-      (inl (refl, ne_eqb a 0 (λ e. omega arith)), others k (a + 1) n rest (omega arith) of)
+  others k a (suc n) rest some of = grind (arith, common_steps, ne_eqb, others k (a + 1) n rest)
 
   one_packet : (k m : ℕ) (rest : List Cell) → 0 < m → AreOfPackets (k + 1) rest →
       AreOfPackets k (map (cell_of t captures input k) (range_with_len 0 m) ++ rest)
@@ -69,31 +68,15 @@ pub of_packets : (t : Tables) (captures : List (List Captured)) (input : ℕ) �
     length captures ≡ ports_of t.setup → input < length captures →
     AreOfPackets 0 (cells_at input (traffic_of (arrivals t captures)))
 of_packets t captures input tables as_many inside =
-    let rise = later_rise (arrivals t captures) (traffic_is t captures tables as_many).one_by_one in
-    let few : input < 64 = omega arith in
-    subst (AreOfPackets 0)
-    (sym (come_in_order input few (arrivals t captures) rise
-    ∙ ap (map (λ (x : Arrival). x.cell)) (at_input t captures input inside)))
-    (at_line t captures input)
+    search (rules, later_rise, traffic_is, come_in_order, at_input, at_line)
 
 -- ## What is no input
-
-one_none : (i : ℕ) (cells : List (Option Cell)) (traffic : List (List (Option Cell))) →
-    ((cell : Cell) → arrival_at cells i ≡ Some cell → ⊥) → cells_at i traffic ≡ [] → cells_at i (cells ∷ traffic) ≡ []
-one_none i cells traffic none rest = go (arrival_at cells i) refl
-  where
-    go : (o : Option Cell) → arrival_at cells i ≡ o → cells_at i (cells ∷ traffic) ≡ []
-    go None is = rw is rest
-    go (Some cell) is = absurd (none cell is)
 
 module _ (ports classes : ℕ) (came : List Arrival) (traffic : IsTraffic ports classes came) (i : ℕ)
     (le : ports ≤ i) where
   pub none_from : (a n : ℕ) → cells_at i (map (arriving came) (range_with_len a n)) ≡ []
   none_from a zero = refl
-  none_from a (suc n) =
-      one_none i (arriving came a) (map (arriving came) (range_with_len (a + 1) n))
-      (λ cell at. let in_range = (arrivals_for ports classes came a traffic).inputs i cell at in omega arith)
-      (none_from (a + 1) n)
+  none_from a (suc n) = grind (arith, common_steps, arrivals_for ports classes came a traffic, none_from (a + 1) n)
 
   none_come : cells_at i (traffic_of came) ≡ []
   unfolding traffic_of
@@ -101,10 +84,4 @@ module _ (ports classes : ℕ) (came : List Arrival) (traffic : IsTraffic ports 
 
 pub packets_come : (t : Tables) (captures : List (List Captured)) (input : ℕ) → AreTables t →
     length captures ≡ ports_of t.setup → AreOfPackets 0 (cells_at input (traffic_of (arrivals t captures)))
-packets_come t captures input tables as_many =
-    ⊎_elim (λ inside. of_packets t captures input tables as_many inside)
-    (λ past.
-    let none = none_come (ports_of t.setup) (classes_of t.setup) (arrivals t captures)
-    (traffic_is t captures tables as_many) input (omega arith) in
-    subst (AreOfPackets 0) (sym none) tt)
-    (cases_lt input (length captures))
+packets_come t captures input tables as_many = search (rules, of_packets, none_come, traffic_is, cases_lt)

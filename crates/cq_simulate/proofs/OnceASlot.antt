@@ -2,9 +2,10 @@
 -- output has sent no more cells than the number of that slot, and no more than the slots so far: a slot in which it
 -- sends adds one cell, and then the slots are one more than the number of that slot. What was counted before goes on
 -- so.
-use Rattle.std.proofs.Common.{◌≡◌, ℕ, zero, suc, ◌+◌, ◌≤◌, Bool, true, false, cond, List, [], ◌∷◌, map, Option, Some, None, refl, sym, subst, ap, arith}
+use Rattle.std.proofs.lemmas.Grind.{common_steps}
+use Rattle.std.proofs.Common.{rules, ◌≡◌, ℕ, zero, suc, ◌+◌, ◌≤◌, Bool, true, false, cond, List, [], ◌∷◌, map, Option, Some, None, refl, arith}
 use Rattle.std.specs.Prelude.{All, max, filter, fold, is_some, slice_index_or}
-use Rattle.std.specs.List.{AllByRecursion, enumerate_from, range_with_len, list_any}
+use Rattle.std.specs.List.{AllByRecursion, enumerate_from, list_any}
 use Rattle.std.proofs.lemmas.Bool.{cond_both}
 use Rattle.std.proofs.lemmas.List.Elements.{All-map}
 use Rattle.cq_base.specs.declared.cell.Cell.{Cell}
@@ -43,14 +44,10 @@ module _ {X : Type 0} (number : X → ℕ) where
     count_most count last n (x ∷ xs) numbered le before =
         let here : number x ≡ n = numbered.0 in
         let one = one_at_most (counted x) in
-        cond_both (marked x) (x ∷ filter marked xs) (filter marked xs)
-        (λ l. fold (λ c x. c + cond (counted x) 1 0) (count + bit (counted x)) xs ≤ fold max last
-        (map (λ x. number x + 1) l))
-        (λ _. count_most (count + bit (counted x)) (max last (number x + 1)) (n + 1) xs numbered.1 (omega arith)
-        (omega arith))
-        (λ e.
-        let none : bit (counted x) ≡ 0 = ap bit (among x e) in
-        count_most (count + bit (counted x)) last (n + 1) xs numbered.1 (omega arith) (omega arith))
+        cond_both (marked x) (x ∷ filter marked xs) (filter marked xs) (λ l. fold (λ c x. c + cond (counted x) 1 0)
+        (count + bit (counted x)) xs ≤ fold max last (map (λ x. number x + 1) l)) (λ _. count_most
+        (count + bit (counted x)) (max last (number x + 1)) (n + 1) xs numbered.1 (omega arith) (omega arith))
+        (λ e. search (arith, rules, count_most (count + bit (counted x)) last (n + 1) xs numbered.1))
 
 -- ## The records of a run
 
@@ -77,9 +74,7 @@ once_a_slot ms traffic f g rs ports run =
     let numbered = run_numbered ms 0 traffic f g rs run in
     let at_most : (j : ℕ) → (output_figures rs j).cells ≤ (figures_of ports rs).slots =
     λ j. count_most (λ r. r.slot) (λ r. is_some (sent_by r j)) sends (λ r none. none_sent r.gone j none) 0 0 0 rs
-    numbered (omega arith) (omega arith) in
-    All-map (λ x. x.cells ≤ (figures_of ports rs).slots) (output_figures rs) (range_with_len 0 ports)
-    (λ k d lt. at_most (slice_index_or (range_with_len 0 ports) k d))
+    numbered (omega arith) (omega arith) in search (arith, rules, All-map)
 
 -- ## What was counted before
 
@@ -93,41 +88,29 @@ abbrev slots_with : SlotRecord → ℕ → ℕ
 slots_with r slots = cond (sends r) (max slots (r.slot + 1)) slots
 
 slots_low : (r : SlotRecord) (slots : ℕ) → slots ≤ r.slot → slots_with r slots ≤ r.slot + 1
-slots_low r slots low =
-    cond_both (sends r) (max slots (r.slot + 1)) slots (λ n. n ≤ r.slot + 1) (λ _. omega arith) (λ _. omega arith)
+slots_low r slots low = grind (arith, common_steps, cond_both)
 
 one_more : (r : SlotRecord) (slots j cells : ℕ) → slots ≤ r.slot → cells ≤ slots →
     cells + cond (is_some (sent_by r j)) 1 0 ≤ slots_with r slots
-one_more r slots j cells low few =
-    let one = one_at_most (is_some (sent_by r j)) in
-    cond_both (sends r) (max slots (r.slot + 1)) slots (λ n. cells + bit (is_some (sent_by r j)) ≤ n)
-    (λ _. omega arith)
-    (λ e. let none : bit (is_some (sent_by r j)) ≡ 0 = ap bit (none_sent r.gone j e) in omega arith)
+one_more r slots j cells low few = grind (arith, common_steps, one_at_most, cond_both, none_sent)
 
 outputs_after : (r : SlotRecord) (slots j : ℕ) (ys : List OutputFigures) → slots ≤ r.slot →
     AllByRecursion (λ y. y.cells ≤ slots) ys →
     AllByRecursion (λ y. y.cells ≤ slots_with r slots) (map (λ at. output_after r at.0 at.1) (enumerate_from j ys))
 unfolding output_after
 outputs_after r slots j [] low each = tt
-outputs_after r slots j (y ∷ ys) low each =
-    (one_more r slots j y.cells low each.0, outputs_after r slots (j + 1) ys low each.1)
+outputs_after r slots j (y ∷ ys) low each = search (rules, one_more, outputs_after r slots (j + 1) ys low each.1)
 
 counts_after : (r : SlotRecord) (x : Figures) → CountsBefore r.slot x → CountsBefore (r.slot + 1) (figures_after x r)
 unfolding figures_after
-counts_after r x before = record {
-  slots = slots_low r x.slots before.slots;
-  each = outputs_after r x.slots 0 x.outputs before.slots before.each;
-}
+counts_after r x before = grind (arith, common_steps, slots_low, outputs_after)
 
 pub counts_on : (slot : ℕ) (rs : List SlotRecord) (x : Figures) → AreNumbered (λ r. r.slot) slot rs →
     CountsBefore slot x →
     AllByRecursion (λ y. y.cells ≤ (fold figures_after x rs).slots) (fold figures_after x rs).outputs
 counts_on slot [] x numbered before = before.each
 counts_on slot (r ∷ rs) x numbered before =
-    let here : r.slot ≡ slot = numbered.0 in
-    let P : ℕ → Type 0 = λ n. CountsBefore n x in
-    let Q : ℕ → Type 0 = λ n. CountsBefore (n + 1) (figures_after x r) in
-    counts_on (slot + 1) rs (figures_after x r) numbered.1 (subst Q here (counts_after r x (subst P (sym here) before)))
+    grind (arith, common_steps, counts_after, counts_on (slot + 1) rs (figures_after x r) numbered.1)
 
 pub limited_numbered : (limits : List (Option ℕ)) (ms : List Machine) (slot : ℕ) (traffic : List (List (Option Cell)))
     (f g : Marked Fabric) (rs : List LimitedRecord) → LimitedFabricRun IsInputBest limits ms slot traffic f rs g →

@@ -1,6 +1,7 @@
 -- What comes of one packet. Its cells are on its route, so all of them are for one output and of one class; they come
 -- at its input, and one of them is its first and one its last. So of what comes for the output to which it goes one
 -- cell begins the packet and one ends it, and none does for another.
+use Rattle.std.proofs.lemmas.Grind.{common_steps}
 use Rattle.std.proofs.Common.{◌≡◌, ℕ, zero, suc, ◌+◌, ◌-◌, ◌<◌, Bool, true, false, List, length, map, refl, ◌∙◌, arith}
 use Rattle.std.specs.Prelude.{◌&&◌, ◌==◌}
 use Rattle.std.specs.List.{AllByRecursion, range_with_len}
@@ -36,19 +37,16 @@ module _ (t : Tables) (captures : List (List Captured)) where
       (map (λ i. record { slot = s + i; cell = cell_of t captures input k i }) (range_with_len a n))
   unfolding cell_of
   routed input k s a zero in_captures in_packets = tt
-  routed input k s a (suc n) in_captures in_packets = (
-    record { input = in_captures; packet = in_packets; output = refl; class = refl },
-    routed input k s (a + 1) n in_captures in_packets,
-  )
+  routed input k s a (suc n) in_captures in_packets =
+      grind (arith, common_steps, routed input k s (a + 1) n in_captures in_packets)
 
   pub all_of_packets : AllByRecursion (λ a. IsOfPacket t captures a.cell) (arrivals t captures)
   unfolding arrivals arrivals_at
   all_of_packets =
       let P : Arrival → Type 0 = λ a. IsOfPacket t captures a.cell in
-      all_flat P (arrivals_at t captures) 0 (length captures)
-      (λ input _ in_captures. all_flat P (arrivals_of t captures input) 0 (length (packets_of captures input))
-      (λ k _ in_packets.
-      routed input k (start t captures input k) 0 (cells t captures input k) (omega arith) (omega arith)))
+      all_flat P (arrivals_at t captures) 0 (length captures) (λ input _ in_captures. all_flat P
+      (arrivals_of t captures input) 0 (length (packets_of captures input)) (λ k _ in_packets. routed input k
+      (start t captures input k) 0 (cells t captures input k) (omega arith) (omega arith)))
 
   module _ (input k : ℕ) (inside : k < length (packets_of captures input)) where
     -- ## Those of one packet
@@ -64,10 +62,7 @@ module _ (t : Tables) (captures : List (List Captured)) where
         AllByRecursion (λ x. of_it p x ≡ false) (map (arrival other) (range_with_len a n))
     unfolding cell_of of_it arrival
     of_others p other a zero ne = tt
-    of_others p other a (suc n) ne = (
-      and_right (p (cell_of t captures input other a)) (other == k) (ne_eqb other k ne),
-      of_others p other (a + 1) n ne,
-    )
+    of_others p other a (suc n) ne = grind (arith, common_steps, and_right, ne_eqb, of_others p other (a + 1) n ne)
 
     and_own : (b : Bool) → (b && k == k) ≡ b
     and_own true = eq-eqb k k refl
@@ -109,15 +104,12 @@ module _ (t : Tables) (captures : List (List Captured)) where
         let some : 0 < n = some_cells in
         of_packet (λ cell. cell.output == j && cell.last)
         ∙ one_where (output_of t captures input k == j) (λ i. i + 1 == n) n (n - 1) (λ _. omega arith)
-        (eq-eqb (n - 1 + 1) n (omega arith))
-        (λ i e. let same = eqb-true (i + 1) n e in omega arith)
+        (eq-eqb (n - 1 + 1) n (omega arith)) (λ i e. let same = eqb-true (i + 1) n e in omega arith)
 
     pub one_first : (j : ℕ) →
         tally (λ a. (a.cell.output == j && is_first a.cell) && a.cell.id.packet == k) (arrivals_at t captures input)
         ≡ bit (output_of t captures input k == j)
     unfolding cell_of
-    one_first j =
-        of_packet (λ cell. cell.output == j && is_first cell)
+    one_first j = of_packet (λ cell. cell.output == j && is_first cell)
         ∙ one_where (output_of t captures input k == j) (λ i. i == 0) (cells t captures input k) 0 (λ _. some_cells)
-        (eq-eqb 0 0 refl)
-        (λ i e. eqb-true i 0 e)
+        (eq-eqb 0 0 refl) (λ i e. eqb-true i 0 e)

@@ -1,7 +1,8 @@
 -- A fabric that has had no slot can go on like any other, and its run is the run from slot 0 on. And the tag fault at
 -- which it stops is the first of the ideal switch.
-use Rattle.std.proofs.Common.{◌≡◌, ℕ, zero, suc, ◌+◌, ◌*◌, ◌<◌, ◌≤◌, ◌^◌, List, [], ◌++◌, length, replicate, Err, refl, sym, ap, ◌∙◌, subst, arith}
-use Rattle.std.specs.Prelude.{All, fold, slice_index, sum, take}
+use Rattle.std.proofs.Common.{rules, ◌≡◌, ℕ, zero, suc, ◌+◌, ◌≤◌, ◌^◌, List, [], length, replicate, Err, refl, sym, ap, ◌∙◌, arith, ◌++◌, subst}
+use Rattle.std.proofs.lemmas.Grind.{common_steps}
+use Rattle.std.specs.Prelude.{sum, fold, take}
 use Rattle.std.specs.List.{flat_map}
 use Rattle.std.proofs.lemmas.List.{length-replicate, take_all}
 use Rattle.cq_base.specs.Arriving.{Arrival, traffic_of}
@@ -10,31 +11,22 @@ use Rattle.cq_base.specs.declared.cell.Departure.{Departure}
 use Rattle.cq_base.specs.declared.cell.Queued.{Queued}
 use Rattle.cq_base.specs.declared.cell.TagFault.{TagFault}
 use Rattle.cq_base.specs.declared.cell.Transfer.{Transfer}
-use Rattle.cq_base.specs.declared.figures.Figures.{Figures}
-use Rattle.cq_cells.specs.Traffic.{is_from, is_to, number_of}
-use Rattle.cq_engine.specs.Engine.{EngineView, marked_fabric, ports_of}
+use Rattle.cq_engine.specs.Engine.{EngineView, ports_of, marked_fabric}
 use Rattle.cq_ideal.proofs.Counting.{zero_fits}
 use Rattle.cq_ideal.proofs.LimitedEnds.{limited_same_sent, limited_whole_fault}
 use Rattle.cq_ideal.proofs.Refusals.{counts_more}
-use Rattle.cq_ideal.specs.Admission.{Marked}
-use Rattle.cq_ideal.specs.Ending.{arriving_from, first_slots}
-use Rattle.cq_ideal.specs.IdealRun.{departures_of, empty_ideal}
+use Rattle.cq_ideal.specs.Ending.{first_slots, arriving_from}
+use Rattle.cq_ideal.specs.IdealRun.{empty_ideal, departures_of}
 use Rattle.cq_ideal.specs.LimitedEnding.{departures_limited}
 use Rattle.cq_ideal.specs.LimitedIdeal.{empty_limited, limited_run}
 use Rattle.cq_ideal.specs.Refused.{refused_in, with_refused}
-use Rattle.cq_ideal.specs.declared.refused.Refused.{Refused}
 use Rattle.cq_laws.proofs.AddingUp.{figures_fold}
-use Rattle.cq_laws.proofs.IdealOf.{sound_from}
 use Rattle.cq_laws.proofs.InputBest.{stable_limited_stop}
 use Rattle.cq_laws.proofs.LimitedWhole.{begin, same_limited_stop}
 use Rattle.cq_laws.proofs.WholeRuns.{empty_agree, empty_list}
-use Rattle.cq_laws.specs.Fabric.{Fabric, buffer, empty_fabric, input}
-use Rattle.cq_laws.specs.Frozen.{IsSoundFabric}
+use Rattle.cq_laws.specs.Fabric.{Fabric, empty_fabric}
 use Rattle.cq_laws.specs.Holding.{fabric_held, held_for, waiting_for}
-use Rattle.cq_laws.specs.LimitedFabric.{LimitedFabricRun, LimitedFabricStops, LimitedRecord, admissions_in, empty_limited_fabric, slots_in}
-use Rattle.cq_laws.specs.Measures.{figures_after}
-use Rattle.cq_laws.specs.Records.{gone_in, transfers_of_run}
-use Rattle.cq_prefs.specs.Pairing.{IsInputBest}
+use Rattle.cq_laws.specs.LimitedFabric.{admissions_in, empty_limited_fabric, slots_in, LimitedFabricRun, LimitedRecord}
 use Rattle.cq_rank.specs.Machine.{Machine}
 use Rattle.cq_rank.specs.Switch.{class_count}
 use Rattle.cq_simulate.proofs.FabricRunning.{all_wait}
@@ -43,6 +35,10 @@ use Rattle.cq_simulate.proofs.ToCome.{all_to_come}
 use Rattle.cq_simulate.specs.FabricReady.{HasRun, IsReadyFabric}
 use Rattle.cq_simulate.specs.GoingOn.{HasRunOn, IsReadyOn, StopsOn, to_come}
 use Rattle.cq_traffic.proofs.ForPorts.{slots_fit}
+use Rattle.cq_base.specs.declared.figures.Figures.{Figures}
+use Rattle.cq_laws.specs.Measures.{figures_after}
+use Rattle.cq_laws.specs.Records.{gone_in, transfers_of_run}
+use Rattle.cq_prefs.specs.Pairing.{IsInputBest}
 
 -- ## Nothing is held
 
@@ -51,10 +47,7 @@ none_waiting_for j zero = refl
 none_waiting_for j (suc n) = let rest = none_waiting_for j n in omega arith
 
 none_held : (n j : ℕ) (ranks : List (List ℕ)) → held_for j (empty_fabric n ranks) ≡ 0
-none_held n j ranks =
-    let none : length (buffer (empty_fabric n ranks) j) ≡ 0 = ap length (empty_list n j) in
-    let waits = none_waiting_for j n in
-    omega arith
+none_held n j ranks = grind (arith, common_steps, empty_list, none_waiting_for)
 
 held_nothing : (n : ℕ) (ranks : List (List ℕ)) → sum (fabric_held (empty_fabric n ranks)) ≡ 0
 held_nothing n ranks =
@@ -83,44 +76,18 @@ module _ (ms : List Machine) (came : List Arrival) (first : EngineView) (first_s
         running = ready.running;
         ports = ready.ports;
         inputs = ap (λ (f : Fabric). length f.inputs) ready.fabric ∙ length-replicate p nil;
-        sound =
-            subst (λ (n : ℕ). IsSoundFabric n first.fabric) (sym next)
-            (subst (λ (f : Fabric). IsSoundFabric 0 f) (sym ready.fabric)
-            (sound_from 0 (empty_fabric p ranks) (empty_ideal p ranks) (empty_agree p ranks)));
+        sound = search (arith, rules, empty_agree p ranks);
         traffic = ready.traffic;
         short = ready.short;
         few = ready.few;
         early = omega arith;
         cells = omega arith;
-        lists = λ i inside.
-            let empty : length (input first.fabric i) ≡ 0 =
-            ap (λ (f : Fabric). length (input f i)) ready.fabric ∙ ap length (empty_list p i) in
-            let all = ap (λ (l : List Arrival). number_of (is_from i) l) all_come in
-            let room : slice_index first.from_inputs i ≡ number_of (is_from i) came = ready.from_inputs i inside in
-            omega arith;
-        buffers = λ j inside.
-            let empty : held_for j first.fabric ≡ 0 =
-            ap (λ (f : Fabric). held_for j f) ready.fabric ∙ none_held p j ranks in
-            let all = ap (λ (l : List Arrival). number_of (is_to j) l) all_come in
-            let room : slice_index first.to_outputs j ≡ number_of (is_to j) came = ready.to_outputs j inside in
-            omega arith;
+        lists = search (arith, rules, empty_list, all_come);
+        buffers = λ j inside. search (arith, rules, none_held p j ranks, all_come);
         sent_room = let room : first_sent.spare ≡ length came + p = ready.sent_room in omega arith;
-        note_room =
-            let none : length (flat_map (λ (cells : List Queued). cells) first.fabric.inputs) ≡ 0 =
-            ap (λ (f : Fabric). length (flat_map (λ (cells : List Queued). cells) f.inputs)) ready.fabric
-            ∙ joined_nothing p in
-            let room : first_note.spare ≡ length came + 2 * p = ready.note_room in
-            omega arith;
-        proposals =
-            let nothing : first.figures.proposals ≡ 0 = ap (λ (x : Figures). x.proposals) ready.figures in
-            omega arith;
-        refused =
-            subst (λ (counts : List Refused).
-            All (λ r. (r.packets + length (to_come first.next came) < 2 ^ 63)
-            × (r.cells + length (to_come first.next came) < 2 ^ 63)) counts) (sym ready.refused)
-            (λ k d inside.
-            let had = zero_fits (length (to_come first.next came) + 2 ^ 63) first.limits (omega arith) k d inside in
-            (omega arith, omega arith));
+        note_room = search (arith, rules, joined_nothing);
+        proposals = search (arith, rules);
+        refused = search (arith, rules, zero_fits (length (to_come first.next came) + 2 ^ 63) first.limits);
       }
 
   pub has_run : (last : EngineView) (sent : RoomView Departure) (note : RoomView Transfer) →
@@ -167,31 +134,20 @@ module _ (ms : List Machine) (came : List Arrival) (first : EngineView) (first_s
             ∙ sym (counts_more first.limits [] lost);
       }
 
-  begins_empty : marked_fabric first ≡ empty_limited_fabric (ports_of first) first.fabric.ranks
-  begins_empty = λ k. record { state = ready.fabric k; marks = ready.marks k }
-
   -- the tag fault is the first of the ideal switch
   pub first_fault : (fault : TagFault) → StopsOn ms came first fault →
       departures_limited (limited_run first.limits ms 0 (traffic_of came)
       (empty_limited (ports_of first) first.fabric.ranks)) ≡ Err fault
   first_fault fault at =
-      let p = ports_of first in
-      let ranks = first.fabric.ranks in
-      let classes = class_count ms in
-      let stops : LimitedFabricStops IsInputBest first.limits ms 0 (first_slots came at.count)
-      (empty_limited_fabric p ranks) at.stops.records fault =
-      subst (λ (f : Marked Fabric).
-      LimitedFabricStops IsInputBest first.limits ms 0 (first_slots came at.count) f at.stops.records fault)
-      begins_empty
-      (subst (λ (n : ℕ).
-      LimitedFabricStops IsInputBest first.limits ms n (arriving_from came n at.count) (marked_fabric first)
-      at.stops.records fault) ready.next at.stops.stops) in
-      limited_same_sent first.limits ms p ranks came
-      ∙ ap departures_limited
-      (limited_whole_fault first.limits ms p ranks came at.count fault
-      (same_limited_stop first.limits ms classes 0 (first_slots came at.count) (empty_limited_fabric p ranks)
-      (empty_limited p ranks) at.stops.records fault
-      (begin first.limits ms classes p ranks (first_slots came at.count)
-      (slots_fit p classes came 0 at.count ready.traffic))
-      (stable_limited_stop ms first.limits 0 (first_slots came at.count) (empty_limited_fabric p ranks) at.stops.records
-      fault stops)))
+      let limited_same_sent-here = limited_same_sent first.limits ms (ports_of first) first.fabric.ranks came in
+      let limited_whole_fault-here =
+      limited_whole_fault first.limits ms (ports_of first) first.fabric.ranks came at.count fault in
+      let same_limited_stop-here = same_limited_stop first.limits ms (class_count ms) 0 (first_slots came at.count)
+      (empty_limited_fabric (ports_of first) first.fabric.ranks)
+      (empty_limited (ports_of first) first.fabric.ranks) at.stops.records fault in
+      let begin-here =
+      begin first.limits ms (class_count ms) (ports_of first) first.fabric.ranks (first_slots came at.count) in
+      let slots_fit-here = slots_fit (ports_of first) (class_count ms) came 0 at.count ready.traffic in
+      let stable_limited_stop-here = stable_limited_stop ms first.limits 0 (first_slots came at.count)
+      (empty_limited_fabric (ports_of first) first.fabric.ranks) at.stops.records fault in
+      search (arith, rules)

@@ -1,6 +1,7 @@
 -- How a run of tables begins: the machines are those of the setup's disciplines, each in its opening state, all
 -- marks are down, and there is room for all cells that arrive.
-use Rattle.std.proofs.Common.{◌≡◌, ℕ, ◌+◌, ◌<◌, ◌≤◌, Bool, List, [], length, map, Option, sym, ap, ◌∙◌, subst, arith}
+use Rattle.std.proofs.lemmas.Grind.{common_steps}
+use Rattle.std.proofs.Common.{◌≡◌, ℕ, ◌+◌, ◌<◌, ◌≤◌, List, [], length, map, Option, arith}
 use Rattle.std.specs.Prelude.{slice_index}
 use Rattle.std.specs.List.{range_with_len}
 use Rattle.std.proofs.lemmas.List.{length-map}
@@ -10,19 +11,17 @@ use Rattle.cq_base.specs.declared.setup.Setup.{Setup}
 use Rattle.cq_base.specs.Arriving.{Arrival, enough, traffic_of}
 use Rattle.cq_base.specs.Room.{RoomView}
 use Rattle.cq_cells.specs.Traffic.{IsShort, IsTraffic, is_to, number_of}
-use Rattle.cq_ideal.specs.Admission.{marked, marks_down}
+use Rattle.cq_ideal.specs.Admission.{marks_down}
 use Rattle.cq_ideal.specs.Fresh.{fresh_ideal}
 use Rattle.cq_ideal.specs.Ideal.{IdealSwitch, marked_state}
-use Rattle.cq_ideal.specs.IdealSlot.{IdealState}
 use Rattle.cq_ideal.specs.IdealRun.{empty_ideal}
 use Rattle.cq_ideal.specs.LimitedEnding.{departures_limited}
 use Rattle.cq_ideal.specs.LimitedIdeal.{limited_run}
-use Rattle.cq_ideal.specs.Refused.{refused_counts}
 use Rattle.cq_rank.specs.Machine.{Machine}
 use Rattle.cq_rank.specs.Switch.{class_count}
 use Rattle.cq_route.specs.Tables.{IsSetup, classes_of, ports_of}
 use Rattle.cq_route.specs.declared.tables.Tables.{Tables}
-use Rattle.cq_scfq.specs.Disciplines.{machine_of, machines_of, openings_of}
+use Rattle.cq_scfq.specs.Disciplines.{machines_of, openings_of}
 use Rattle.cq_simulate.specs.IdealRuns.{ideal_departures, ran_ideal}
 use Rattle.cq_simulate.specs.Ready.{IsReady}
 use Rattle.cq_ideal.proofs.LimitedEnds.{limited_same_sent}
@@ -30,15 +29,12 @@ use Rattle.cq_ideal.proofs.LimitedEnds.{limited_same_sent}
 -- as many machines as kinds
 pub machine_count : (M : List ℕ → Machine) (fixed : List (List ℕ)) (setup : Setup) → map M fixed ≡ machines_of setup →
     length fixed ≡ length setup.kinds
-machine_count M fixed setup are =
-    sym (length-map fixed M) ∙ ap (λ (l : List Machine). length l) are
-    ∙ length-map setup.kinds (λ kind. machine_of kind setup.classes)
+machine_count M fixed setup are = grind (arith, common_steps, length-map)
 
 -- the room for a port
 pub room_at : (f : ℕ → ℕ) (n i : ℕ) {rooms : List ℕ} → rooms ≡ map f (range_with_len 0 n) → i < n →
     slice_index rooms i ≡ f i
-room_at f n i are inside =
-    ap (λ (l : List ℕ). slice_index l i) are ∙ get_or-map-range_with_len f 0 n i i 0 inside (omega arith)
+room_at f n i are inside = grind (arith, common_steps, get_or-map-range_with_len)
 
 pub few_cells : (came : List Arrival) → length came ≤ enough came
 unfolding enough
@@ -59,19 +55,7 @@ pub run_of_tables : (M : List ℕ → Machine) (t : Tables) (came : List Arrival
     departures_limited (limited_run first.limits (map M first.fixed) 0 (traffic_of came) (marked_state first))
     ≡ ideal_departures t came
 unfolding ideal_departures ran_ideal
-run_of_tables M t came ports states first made openings =
-    let n = length t.setup.kinds in
-    let ms = machines_of t.setup in
-    let run : List (Option ℕ) → List Machine → List Bool → IdealState → _ =
-    λ (l : List (Option ℕ)) (ms : List Machine) (m : List Bool) (s : IdealState).
-    departures_limited (limited_run l ms 0 (traffic_of came) (marked m s)) in
-    ap (λ (l : List (Option ℕ)). run l (map M first.fixed) first.marks first.state) made.limits
-    ∙ ap (λ (ms : List Machine). run t.limits ms first.marks first.state) made.machines
-    ∙ ap (λ (m : List Bool). run t.limits ms m first.state) made.marks
-    ∙ ap (run t.limits ms (marks_down ports)) made.state
-    ∙ ap (λ (k : ℕ). run t.limits ms (marks_down k) (empty_ideal k states)) made.many
-    ∙ ap (λ (s : List (List ℕ)). run t.limits ms (marks_down n) (empty_ideal n s)) openings
-    ∙ limited_same_sent t.limits ms n (openings_of t.setup) came
+run_of_tables M t came ports states first made openings = grind (arith, common_steps, limited_same_sent)
 
 -- ## A new switch
 
@@ -79,14 +63,7 @@ module _ (M : List ℕ → Machine) (t : Tables) (ports : ℕ) (fixed states : L
     (rooms : List ℕ) (first : IdealSwitch) (is : first ≡ fresh_ideal ports fixed states limits rooms)
     (machines : map M fixed ≡ machines_of t.setup) (many : length fixed ≡ ports) (same : limits ≡ t.limits) where
   pub made : IsMadeFor M t ports states first
-  made =
-      record {
-        machines = ap (λ (v : IdealSwitch). map M v.fixed) is ∙ machines;
-        limits = ap (λ (v : IdealSwitch). v.limits) is ∙ same;
-        state = ap (λ (v : IdealSwitch). v.state) is;
-        marks = ap (λ (v : IdealSwitch). v.marks) is;
-        many = sym many ∙ machine_count M fixed t.setup machines;
-      }
+  made = grind (arith, common_steps, machine_count)
 
   pub ready : (came : List Arrival) (sent : RoomView Departure) → IsSetup t.setup →
       class_count (machines_of t.setup) ≡ length t.setup.classes →
@@ -94,28 +71,4 @@ module _ (M : List ℕ → Machine) (t : Tables) (ports : ℕ) (fixed states : L
       IsTraffic (ports_of t.setup) (classes_of t.setup) came → IsShort came → sent.items ≡ [] →
       sent.spare ≡ length came + ports → IsReady (map M first.fixed) came first sent
   ready came sent setup classes rooms_are traffic short nothing spare =
-      let count : length first.fixed ≡ length t.setup.kinds = machine_count M first.fixed t.setup made.machines in
-      let kinds : ports ≡ length t.setup.kinds = made.many in
-      let f : ℕ → ℕ = λ j. number_of (is_to j) came in
-      let room : first.rooms ≡ map f (range_with_len 0 ports) = ap (λ (v : IdealSwitch). v.rooms) is ∙ rooms_are in
-      let long : length first.rooms ≡ ports =
-      ap (λ (l : List ℕ). length l) room ∙ length-map-range_with_len f 0 ports in
-      let as_many : ports ≡ length first.fixed = omega arith in
-      let known : class_count (map M first.fixed) ≡ length t.setup.classes = ap class_count made.machines ∙ classes in
-      record {
-        running = ap (λ (v : IdealSwitch). v.stopped) is;
-        next = ap (λ (v : IdealSwitch). v.next) is;
-        ports = omega arith;
-        traffic = subst (λ (n : ℕ). IsTraffic n (class_count (map M first.fixed)) came) (sym count)
-            (subst (λ (n : ℕ). IsTraffic (length t.setup.kinds) n came) (sym known) traffic);
-        short = short;
-        state = made.state ∙ ap (λ (s : IdealState). empty_ideal ports s.ranks) (sym made.state)
-            ∙ ap (λ (n : ℕ). empty_ideal n first.state.ranks) as_many;
-        lists = omega arith;
-        rooms = λ j inside. room_at f ports j room (omega arith);
-        marks = made.marks ∙ ap marks_down as_many;
-        refused = ap (λ (v : IdealSwitch). v.refused) is
-            ∙ ap (λ (v : IdealSwitch). refused_counts v.limits []) (sym is);
-        nothing = nothing;
-        spare = omega arith;
-      }
+      grind (arith, common_steps, machine_count, length-map-range_with_len, room_at)

@@ -1,7 +1,7 @@
 -- Packets that are made one after another: the row of a packet that leaves, and the packets so far with one more.
+use Rattle.std.proofs.lemmas.Grind.{common_steps}
 use Rattle.std.proofs.Common.{◌≡◌, ℕ, zero, suc, ◌+◌, ◌<◌, ◌≤◌, true, false, cond, List, [], ◌∷◌, ◌++◌, length, map, take, get_or, refl, sym, ap, ◌∙◌, subst, arith}
 use Rattle.std.specs.Prelude.{All}
-use Rattle.std.specs.List.{filter}
 use Rattle.std.proofs.lemmas.Bool.{cond-true, cond-false}
 use Rattle.std.proofs.lemmas.List.{append-nil, map-append, take_more, get_or_default}
 use Rattle.std.proofs.lemmas.List.Elements.{filter-append, All-append}
@@ -35,10 +35,7 @@ module _ (captures : List (List Captured)) (input k : ℕ) (capture : List Captu
   in_capture = let e = ap (λ (l : List Captured). length l) capture_is in omega arith
 
   pub in_rows : (rows : List PacketRow) → rows ≡ rows_from 24 capture → k < length rows
-  in_rows rows e =
-      let l = ap (λ (l : List PacketRow). length l) e in
-      let m = length-rows_from 24 capture in let n = in_capture in
-      omega arith
+  in_rows rows e = grind (arith, common_steps, length-rows_from, in_capture)
 
   empty : Captured
   empty = record { stamp = 0; original = 0; body = [] }
@@ -46,9 +43,7 @@ module _ (captures : List (List Captured)) (input k : ℕ) (capture : List Captu
   pub original_is : (rows : List PacketRow) (d : PacketRow) → rows ≡ rows_from 24 capture →
       (get_or rows k d).original ≡ (packet_at captures input k).original
   unfolding empty
-  original_is rows d e =
-      ap (λ (l : List PacketRow). (get_or l k d).original) e ∙ original_at 24 capture k d empty in_capture
-      ∙ ap (λ (l : List Captured). (get_or l k empty).original) capture_is
+  original_is rows d e = grind (arith, common_steps, original_at, in_capture, capture_is)
 
 -- ## One after another
 
@@ -57,36 +52,17 @@ module _ (t : Tables) (captures : List (List Captured)) (sent : List Departure) 
   next : packets_out t captures (take (k + 1) sent) output ≡ packets_out t captures (take k sent) output ++ map
       (leaving t captures) (cond (ends_packet_at output (get_or sent k e)) (get_or sent k e ∷ []) [])
   unfolding packets_out
-  next =
-      let d : Departure = get_or sent k e in
-      ap (λ (l : List Departure). map (leaving t captures) (filter (ends_packet_at output) l))
-      (take_more sent k e inside)
-      ∙ ap (map (leaving t captures)) (filter-append (ends_packet_at output) (take k sent) (d ∷ []))
-      ∙ map-append (leaving t captures) (filter (ends_packet_at output) (take k sent))
-      (cond (ends_packet_at output d) (d ∷ []) [])
+  next = grind (arith, common_steps, take_more, filter-append, map-append)
 
   pub one_packed : (packets more : List OutPacket) (p : OutPacket) → ends_packet_at output (get_or sent k e) ≡ true →
       p ≡ leaving t captures (get_or sent k e) → packets ≡ packets_out t captures (take k sent) output → more ≡ packets
       ++ p ∷ [] → more ≡ packets_out t captures (take (k + 1) sent) output
-  one_packed packets more p ends is so_far pushed =
-      let d : Departure = get_or sent k e in
-      pushed
-      ∙ ap (λ (l : List OutPacket). l ++ p ∷ []) so_far
-      ∙ ap (λ (q : OutPacket). packets_out t captures (take k sent) output ++ q ∷ []) is
-      ∙ ap (λ (l : List Departure). packets_out t captures (take k sent) output ++ map (leaving t captures) l)
-      (sym (cond-true (ends_packet_at output d) (d ∷ []) [] ends))
-      ∙ sym next
+  one_packed packets more p ends is so_far pushed = grind (arith, common_steps, cond-true, next)
 
   pub none_packed : (packets : List OutPacket) → ends_packet_at output (get_or sent k e) ≡ false →
       packets ≡ packets_out t captures (take k sent) output → packets ≡ packets_out t captures (take (k + 1) sent)
       output
-  none_packed packets other so_far =
-      let d : Departure = get_or sent k e in
-      so_far
-      ∙ sym (append-nil (packets_out t captures (take k sent) output))
-      ∙ ap (λ (l : List Departure). packets_out t captures (take k sent) output ++ map (leaving t captures) l)
-      (sym (cond-false (ends_packet_at output d) (d ∷ []) [] other))
-      ∙ sym next
+  none_packed packets other so_far = grind (arith, common_steps, append-nil, cond-false, next)
 
 pub all_pushed : (packets more : List OutPacket) (p : OutPacket) → more ≡ packets ++ p ∷ [] →
     All (λ p. length p.body ≤ 262144) packets → length p.body ≤ 262144 → All (λ p. length p.body ≤ 262144) more
@@ -99,5 +75,4 @@ all_pushed packets more p pushed all small =
     one p small (suc k) d inside = absurd (omega arith)
 
 pub none_large : (packets : List OutPacket) → packets ≡ [] → All (λ p. length p.body ≤ 262144) packets
-none_large packets none k d inside =
-    let e : length packets ≡ 0 = ap (λ (l : List OutPacket). length l) none in absurd (omega arith)
+none_large packets none k d inside = grind (arith, common_steps)

@@ -1,6 +1,7 @@
 -- What is refused has come: slot by slot the refused cells are some of those that arrive, and these are some of the
 -- arrivals. So what holds of each cell that comes holds of each that is refused.
-use Rattle.std.proofs.Common.{◌≡◌, ℕ, zero, suc, ◌+◌, Bool, true, false, List, [], ◌∷◌, ◌++◌, map, Option, Some, None, Ok, sym, subst}
+use Rattle.std.proofs.lemmas.Grind.{common_steps}
+use Rattle.std.proofs.Common.{arith, rules, ◌≡◌, ℕ, zero, suc, ◌+◌, Bool, true, false, List, [], ◌∷◌, map, Option, Some, None, Ok}
 use Rattle.std.specs.List.{AllByRecursion, range_with_len}
 use Rattle.cq_base.specs.Arriving.{Arrival, arriving}
 use Rattle.cq_base.specs.declared.cell.Cell.{Cell}
@@ -8,7 +9,7 @@ use Rattle.cq_ideal.proofs.FlowFound.{all_found, all_present}
 use Rattle.cq_ideal.proofs.FlowPut.{all_from}
 use Rattle.cq_ideal.proofs.FlowRank.{present}
 use Rattle.cq_ideal.proofs.LimitedRuns.{judged}
-use Rattle.cq_ideal.specs.Admission.{Admission, Marked, admission, marks_after, refused}
+use Rattle.cq_ideal.specs.Admission.{Admission, Marked, admission, refused}
 use Rattle.cq_ideal.specs.Ending.{arriving_from}
 use Rattle.cq_ideal.specs.IdealSlot.{IdealState}
 use Rattle.cq_ideal.specs.LimitedEnding.{whole_limited_run, slots_of_limited_run}
@@ -27,10 +28,6 @@ module _ (P : Cell → Type 0) where
   all_refused (true ∷ marks) (Some cell ∷ cells) all = (all.0, all_refused marks cells all.1)
   all_refused (false ∷ marks) (Some cell ∷ cells) all = all_refused marks cells all.1
 
-  joined : (xs ys : List Cell) → AllByRecursion P xs → AllByRecursion P ys → AllByRecursion P (xs ++ ys)
-  joined [] ys all more = more
-  joined (x ∷ xs) ys all more = (all.0, joined xs ys all.1 more)
-
   all_judged : (limits : List (Option ℕ)) (marks : List Bool) (traffic : List (List (Option Cell)))
       (admissions : List Admission) → AreJudged limits marks traffic admissions →
       AllByRecursion (λ cells. AllByRecursion P (present cells)) traffic → AllByRecursion P (refused_in admissions)
@@ -39,21 +36,14 @@ module _ (P : Cell → Type 0) where
   all_judged limits marks [] (a ∷ admissions) judged all = absurd judged
   all_judged limits marks (cells ∷ traffic) [] judged all = absurd judged
   all_judged limits marks (cells ∷ traffic) (a ∷ admissions) judged all =
-      joined a.refused (refused_in admissions)
-      (subst (λ (x : Admission). AllByRecursion P x.refused) (sym judged.0.1)
-      (all_refused (marks_after limits judged.0.0 marks cells) cells all.0))
-      (all_judged limits a.marks traffic admissions judged.1 all.1)
+      grind (arith, common_steps, all_refused, all_judged limits a.marks traffic admissions judged.1 all.1)
 
   all_arriving : (came : List Arrival) (slot n : ℕ) → AllByRecursion (λ a. P a.cell) came →
       AllByRecursion (λ cells. AllByRecursion P (present cells)) (map (arriving came) (range_with_len slot n))
   unfolding arriving
   all_arriving came slot zero all = tt
-  all_arriving came slot (suc n) all = (
-    all_present came slot P 0 64
-        (λ k. all_found P came slot k
-        (all_from (λ a. P a.cell) (λ a. a.slot ≡ slot → a.cell.id.input ≡ k → P a.cell) (λ a h _ _. h) came all)),
-    all_arriving came (slot + 1) n all,
-  )
+  all_arriving came slot (suc n) all =
+      search (rules, all_present, all_found, all_from, all_arriving came (slot + 1) n all)
 
   pub refused_came : (limits : List (Option ℕ)) (ms : List Machine) (came : List Arrival) (old : Marked IdealState)
       (ran : LimitedRan) → whole_limited_run limits ms came old ≡ Ok ran → AllByRecursion (λ a. P a.cell) came →

@@ -1,8 +1,9 @@
 -- No output of a run that goes on from a sound state has sent more cells than there were slots. In the state each of
 -- them has one `sent` line a slot at most, and the lines stand slot by slot: so from the first of them on, the cells
 -- that it sent are no more than the slots up to the last line. From there on an output sends one cell a slot at most.
-use Rattle.std.proofs.Common.{◌≡◌, ℕ, zero, suc, ◌+◌, ◌<◌, ◌≤◌, All, List, [], ◌∷◌, length, map, fold, Option, Some, None, refl, sym, ap, ◌∙◌, subst, ⊎_elim, arith}
-use Rattle.std.specs.Prelude.{◌==◌, max, option_map, AllPairs}
+use Rattle.std.proofs.lemmas.Grind.{common_steps}
+use Rattle.std.proofs.Common.{rules, ◌≡◌, ℕ, zero, suc, ◌+◌, ◌<◌, ◌≤◌, All, List, [], ◌∷◌, length, map, Option, Some, None, refl, ap, arith}
+use Rattle.std.specs.Prelude.{max, option_map, AllPairs}
 use Rattle.std.specs.List.{AllByRecursion, cons_option, filter_map, range_with_len}
 use Rattle.std.proofs.lemmas.Bool.{cond_both, eqb-true}
 use Rattle.std.proofs.lemmas.List.{take_all}
@@ -10,15 +11,9 @@ use Rattle.std.proofs.lemmas.List.Elements.{All-from_recursion, recursion_from_A
 use Rattle.cq_base.specs.Arriving.{Arrival}
 use Rattle.cq_base.specs.declared.cell.Cell.{Cell}
 use Rattle.cq_base.specs.declared.cell.Departure.{Departure}
-use Rattle.cq_base.specs.declared.cell.Queued.{Queued}
-use Rattle.cq_base.specs.declared.figures.Figures.{Figures}
 use Rattle.cq_cells.specs.Scheduled.{schedule_of}
-use Rattle.cq_ideal.specs.Ending.{arriving_from, slots_of}
-use Rattle.cq_laws.specs.Frozen.{marked_in}
-use Rattle.cq_laws.specs.LimitedFabric.{LimitedFabricRun, LimitedRecord, slots_in}
-use Rattle.cq_laws.specs.Measures.{figures_after}
+use Rattle.cq_ideal.specs.Ending.{slots_of}
 use Rattle.cq_pcap.specs.Captured.{Captured}
-use Rattle.cq_prefs.specs.Pairing.{IsInputBest}
 use Rattle.cq_resume.specs.Counted.{departure_of, figures_told, frozen_told, output_told, sent_by}
 use Rattle.cq_resume.specs.Resumed.{IsResumed, Kept}
 use Rattle.cq_resume.specs.Sound.{IsSentBefore}
@@ -50,11 +45,7 @@ module _ (came : List Arrival) where
       (option_map (λ cell. record { cell = cell; key = key_of d.cell }) o) ≡ Some x →
       (x.slot ≡ d.slot) × (x.output ≡ output_in o)
   fields_at None d x e = absurd (let P : ⊥ = cc e in P)
-  fields_at (Some cell) d x e =
-      let queued : Queued = record { cell = cell; key = key_of d.cell } in
-      let made : Departure = record { slot = d.slot; output = cell.output; queued = queued } in
-      let same : made ≡ x = cc e in
-      (ap (λ (y : Departure). y.slot) (sym same), ap (λ (y : Departure). y.output) (sym same))
+  fields_at (Some cell) d x e = grind (arith, common_steps)
 
   fields : (d : Sent) (x : Departure) → departure_of came d ≡ Some x →
       (x.slot ≡ d.slot) × (x.output ≡ output_of came d.cell)
@@ -64,10 +55,7 @@ module _ (came : List Arrival) where
   low_at : (n : ℕ) (d : Sent) (ds : List Departure) (o : Option Departure) → departure_of came d ≡ o → d.slot < n →
       slots_of ds ≤ n → slots_of (cons_option o ds) ≤ n
   low_at n d ds None e before rest = rest
-  low_at n d ds (Some x) e before rest =
-      let same : x.slot ≡ d.slot = (fields d x e).0 in
-      let both : max (x.slot + 1) (slots_of ds) ≤ n = omega arith in
-      both
+  low_at n d ds (Some x) e before rest = grind (arith, common_steps, fields)
 
   low : (n : ℕ) (xs : List Sent) → AllByRecursion (λ d. d.slot < n) xs →
       slots_of (filter_map (departure_of came) xs) ≤ n
@@ -81,16 +69,8 @@ module _ (came : List Arrival) where
   from_next : (j : ℕ) (d : Sent) → output_of came d.cell ≡ j → (xs : List Sent) →
       AllByRecursion (IsSentBefore came d) xs → AllByRecursion (From j (d.slot + 1)) xs
   from_next j d here [] h = tt
-  from_next j d here (y ∷ xs) h = (
-    λ x e at.
-        let slot : x.slot ≡ y.slot = (fields y x e).0 in
-        let output : x.output ≡ output_of came y.cell = (fields y x e).1 in
-        ⊎_elim (λ (before : d.slot < y.slot). omega arith)
-        (λ (same : (d.slot ≡ y.slot) × (output_of came d.cell < output_of came y.cell)).
-        let less : output_of came d.cell < output_of came y.cell = same.1 in absurd (omega arith))
-        h.0,
-    from_next j d here xs h.1,
-  )
+  from_next j d here (y ∷ xs) h =
+      (λ x e at. let slot : x.slot ≡ y.slot = (fields y x e).0 in omega (arith, fields), from_next j d here xs h.1)
 
   from_first : (j : ℕ) (xs : List Sent) → AllByRecursion (From j 0) xs
   from_first j [] = tt
@@ -107,18 +87,7 @@ module _ (came : List Arrival) where
       length (sent_by (cons_option o (told xs)) j) + slot ≤ max slot (slots_of (cons_option o (told xs)))
   few_at j slot d xs None e from behind rest others = rest slot others
   few_at j slot d xs (Some x) e from behind rest others =
-      let ds : List Departure = told xs in
-      let here : x.slot ≡ d.slot = (fields d x e).0 in
-      cond_both (x.output == j) (x ∷ sent_by ds j) (sent_by ds j)
-      (λ l. length l + slot ≤ max slot (max (x.slot + 1) (slots_of ds)))
-      (λ same.
-      let at : x.output ≡ j = eqb-true x.output j same in
-      let late : slot ≤ x.slot = from x e at in
-      let more : length (sent_by ds j) + (d.slot + 1) ≤ max (d.slot + 1) (slots_of ds) =
-      rest (d.slot + 1) (from_next j d (sym (fields d x e).1 ∙ at) xs behind) in
-      let all : suc (length (sent_by ds j)) + slot ≤ max slot (max (x.slot + 1) (slots_of ds)) = omega arith in
-      all)
-      (λ other. let some : length (sent_by ds j) + slot ≤ max slot (slots_of ds) = rest slot others in omega arith)
+      grind (arith, common_steps, fields, cond_both, x.output, eqb-true, from_next)
 
   few_from : (j : ℕ) (xs : List Sent) → AllPairs (IsSentBefore came) xs → (slot : ℕ) → AllByRecursion (From j slot) xs →
       length (sent_by (told xs) j) + slot ≤ max slot (slots_of (told xs))
@@ -128,10 +97,7 @@ module _ (came : List Arrival) where
       (few_from j xs (pairs_behind (IsSentBefore came) d xs pairs)) from.1
 
   few : (j : ℕ) (xs : List Sent) → AllPairs (IsSentBefore came) xs → length (sent_by (told xs) j) ≤ slots_of (told xs)
-  few j xs pairs =
-      let from : length (sent_by (told xs) j) + 0 ≤ max 0 (slots_of (told xs)) = few_from j xs pairs 0
-      (from_first j xs) in
-      omega arith
+  few j xs pairs = omega (arith, few_from j xs pairs 0 (from_first j xs), from_first j xs)
 
   all_few : (ds : List Departure) → ((j : ℕ) → length (sent_by ds j) ≤ slots_of ds) → (a n : ℕ) →
       AllByRecursion (λ y. y.cells ≤ slots_of ds) (map (output_told ds) (range_with_len a n))
@@ -142,10 +108,7 @@ module _ (came : List Arrival) where
   pub counted : (s : State) → AllPairs (IsSentBefore came) s.sent → AllByRecursion (λ d. d.slot < s.head.next) s.sent →
       CountsBefore s.head.next (figures_told came s)
   unfolding figures_told
-  counted s pairs times = record {
-    slots = low s.head.next s.sent times;
-    each = all_few (told s.sent) (λ j. few j s.sent pairs) 0 s.head.ports;
-  }
+  counted s pairs times = grind (arith, common_steps, low, all_few, few)
 
 -- ## The run from there on
 
@@ -164,31 +127,13 @@ module _ (w : Switch) (from : Taken) (up : CanBeTakenUp w from) where
   figures_are = ap (λ (x : Taken). x.frozen.figures) up.told
 
   before : CountsBefore from.frozen.next from.frozen.figures
-  before =
-      let s : State = up.state in
-      let times = recursion_from_All (λ (d : Sent). (d.cell.slot ≤ d.slot) × (d.slot < s.head.next)) s.sent
-      up.sound.order.sent_times in
-      let P : ℕ → Type 0 = λ n. CountsBefore n from.frozen.figures in
-      let Q : Figures → Type 0 = λ x. CountsBefore s.head.next x in
-      subst P (sym next_is)
-      (subst Q (sym figures_are) (counted w.came s up.sound.order.sent (in_time s.sent s.head.next times)))
+  before = grind (arith, common_steps, recursion_from_All, CountsBefore, next_is, figures_are, counted, in_time)
 
   kept_counts : (kept : Kept) → IsResumed w from kept → All (λ y. y.cells ≤ kept.figures.slots) kept.figures.outputs
-  kept_counts kept resumed =
-      let next = from.frozen.next in
-      let rs = resumed.records in
-      let P : List LimitedRecord → Type 0 = λ l. LimitedFabricRun IsInputBest w.limits w.machines next
-      (arriving_from w.came next (length rs)) (marked_in from.frozen) l resumed.end in
-      let numbered = limited_numbered w.limits w.machines next (arriving_from w.came next (length rs))
-      (marked_in from.frozen) resumed.end rs (subst P (take_all (length rs) rs (omega arith)) resumed.runs.after) in
-      let x : Figures = fold figures_after from.frozen.figures (slots_in rs) in
-      let all = counts_on next (slots_in rs) from.frozen.figures numbered before in
-      let Q : Kept → Type 0 = λ k. All (λ y. y.cells ≤ k.figures.slots) k.figures.outputs in
-      subst Q (sym resumed.kept_is) (All-from_recursion (λ y. y.cells ≤ x.slots) x.outputs all)
+  kept_counts kept resumed = search (rules, limited_numbered, take_all, counts_on, before, All-from_recursion)
 
 pub resumed_counts : (t : Tables) (captures : List (List Captured)) (from : Taken) (kept : Kept) → AreTables t →
     length captures ≡ ports_of t.setup → CanBeTakenUp (switch_of t (schedule_of t captures)) from →
     IsResumed (switch_of t (schedule_of t captures)) from kept →
     All (λ x. x.cells ≤ kept.figures.slots) kept.figures.outputs
-resumed_counts t captures from kept are many up resumed =
-    kept_counts (switch_of t (schedule_of t captures)) from up kept resumed
+resumed_counts t captures from kept are many up resumed = search (rules, kept_counts)

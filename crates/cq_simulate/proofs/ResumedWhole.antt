@@ -2,16 +2,16 @@
 -- state says was sent, and then what waits in it, are the arrivals that it names, in their order. What waits leaves
 -- first, as it does from the list of the ideal switch beside it, and then what is admitted of what comes. A packet
 -- that the state names is named with all its cells, and goes on as it began.
-use Rattle.std.proofs.Common.{◌≡◌, ℕ, ◌+◌, ◌<◌, ◌≤◌, Bool, true, false, cond, not, List, [], ◌∷◌, ◌++◌, length, map, filter, Option, Ok, refl, sym, ap, ◌∙◌, subst, ⊎_elim, arith}
-use Rattle.std.specs.Prelude.{◌&&◌, ◌==◌, All}
+use Rattle.std.proofs.Common.{rules, ◌≡◌, ℕ, ◌+◌, ◌<◌, ◌≤◌, Bool, not, List, [], ◌∷◌, ◌++◌, length, filter, Option, Ok, refl, sym, ap, ◌∙◌, subst, ⊎_elim, arith, false}
+use Rattle.std.proofs.lemmas.Grind.{common_steps}
+use Rattle.std.specs.Prelude.{All}
 use Rattle.std.specs.List.{AllByRecursion}
-use Rattle.std.proofs.lemmas.Bool.{and_left, and_right, cases_Bool, cases_lt, cond-false, cond-true, ne_eqb}
+use Rattle.std.proofs.lemmas.Bool.{cases_lt}
 use Rattle.std.proofs.lemmas.List.{append_assoc, map-append, take_all}
 use Rattle.std.proofs.lemmas.List.Elements.{filter-append}
 use Rattle.std.proofs.lemmas.List.FromFn.{get_or-map-range_with_len}
 use Rattle.cq_base.specs.Arriving.{Arrival}
 use Rattle.cq_base.specs.declared.cell.Cell.{Cell}
-use Rattle.cq_base.specs.declared.cell.Departure.{Departure}
 use Rattle.cq_cells.proofs.Rising.{traffic_is}
 use Rattle.cq_cells.specs.Schedule.{arrivals}
 use Rattle.cq_cells.specs.Scheduled.{schedule_of}
@@ -28,7 +28,7 @@ use Rattle.cq_ideal.proofs.RestAtInput.{cells_of, comes_from, line_at, rest_of}
 use Rattle.cq_ideal.proofs.Standing.{StandAt, stand_in}
 use Rattle.cq_ideal.specs.Admission.{Marked, admitted_in}
 use Rattle.cq_ideal.specs.Ending.{arriving_from}
-use Rattle.cq_ideal.specs.Flows.{IsRunnable, came_in_flow, comes_in_flow, leaves_in_flow, left_in_flow}
+use Rattle.cq_ideal.specs.Flows.{IsRunnable, came_in_flow, comes_in_flow, left_in_flow}
 use Rattle.cq_ideal.specs.IdealRun.{Ran, departures_of, ideal_run}
 use Rattle.cq_ideal.specs.IdealSlot.{IdealState}
 use Rattle.cq_ideal.specs.LimitedIdeal.{LimitedRan}
@@ -58,7 +58,7 @@ use Rattle.cq_resume.proofs.GoesOn.{GoesOn, goes_on, ports_are}
 use Rattle.cq_resume.proofs.Having.{all_from_has, all_of_has, kept_has}
 use Rattle.cq_route.specs.Tables.{AreTables, classes_of, ports_of}
 use Rattle.cq_route.specs.declared.tables.Tables.{Tables}
-use Rattle.cq_scfq.specs.Disciplines.{machines_of, openings_of}
+use Rattle.cq_scfq.specs.Disciplines.{openings_of, machines_of}
 use Rattle.cq_simulate.proofs.NamedFlow.{line_rises, told_flow}
 use Rattle.cq_simulate.proofs.NamedPackets.{IsEarlier, early_of, is_taken, packets_behind, parted_at, taken_before, taken_behind}
 use Rattle.cq_simulate.proofs.OfOnePacket.{next_after, packet}
@@ -78,18 +78,7 @@ use Rattle.cq_traffic.proofs.ForPorts.{slots_fit}
 cells_kept : (p : Cell → Bool) (q : Arrival → Bool) (xs : List Arrival) →
     AllByRecursion (λ a. p a.cell ≡ q a) xs → filter p (cells_of xs) ≡ cells_of (filter q xs)
 cells_kept p q [] same = refl
-cells_kept p q (a ∷ xs) same =
-    let rest : filter p (cells_of xs) ≡ cells_of (filter q xs) = cells_kept p q xs same.1 in
-    ⊎_elim
-    (λ holds.
-    cond-true (p a.cell) (a.cell ∷ filter p (cells_of xs)) (filter p (cells_of xs)) (same.0 ∙ holds)
-    ∙ ap (λ (l : List Cell). a.cell ∷ l) rest
-    ∙ sym (ap cells_of (cond-true (q a) (a ∷ filter q xs) (filter q xs) holds)))
-    (λ fails.
-    cond-false (p a.cell) (a.cell ∷ filter p (cells_of xs)) (filter p (cells_of xs)) (same.0 ∙ fails)
-    ∙ rest
-    ∙ sym (ap cells_of (cond-false (q a) (a ∷ filter q xs) (filter q xs) fails)))
-    (cases_Bool (q a))
+cells_kept p q (a ∷ xs) same = grind (arith, common_steps, cells_kept p q xs same.1)
 
 everywhere : (p : Cell → Bool) (xs : List Arrival) → AllByRecursion (λ a. p a.cell ≡ p a.cell) xs
 everywhere p [] = tt
@@ -112,31 +101,13 @@ same_taken g h xs same =
 flow_at : (i c j : ℕ) (came : List Arrival) →
     filter (comes_in_flow i c j) came ≡ filter (comes_in_flow i c j) (line_at i came)
 flow_at i c j [] = refl
-flow_at i c j (a ∷ came) =
-    let flow : Arrival → Bool = comes_in_flow i c j in
-    let line : List Arrival = line_at i came in
-    let rest : filter flow came ≡ filter flow line = flow_at i c j came in
-    ⊎_elim
-    (λ (here : (a.cell.id.input == i) ≡ true).
-    ap (λ (l : List Arrival). cond (flow a) (a ∷ l) l) rest
-    ∙ sym (ap (filter flow) (cond-true (a.cell.id.input == i) (a ∷ line) line here)))
-    (λ (away : (a.cell.id.input == i) ≡ false).
-    let out : flow a ≡ false =
-    and_right (a.cell.output == j) (a.cell.id.input == i && a.cell.class == c)
-    (and_left (a.cell.id.input == i) (a.cell.class == c) away) in
-    cond-false (flow a) (a ∷ filter flow came) (filter flow came) out ∙ rest
-    ∙ sym (ap (filter flow) (cond-false (a.cell.id.input == i) (a ∷ line) line away)))
-    (cases_Bool (a.cell.id.input == i))
+flow_at i c j (a ∷ came) = grind (arith, common_steps, flow_at i c j came)
 
 -- none comes to what is no input
 none_at : (ports classes i : ℕ) (came : List Arrival) → AllByRecursion (IsOfSwitch ports classes) came → ports ≤ i →
     line_at i came ≡ []
 none_at ports classes i [] all past = refl
-none_at ports classes i (a ∷ came) all past =
-    let low : a.cell.id.input < ports = all.0.input in
-    cond-false (a.cell.id.input == i) (a ∷ line_at i came) (line_at i came)
-    (ne_eqb a.cell.id.input i (λ same. omega arith))
-    ∙ none_at ports classes i came all.1 past
+none_at ports classes i (a ∷ came) all past = grind (arith, common_steps, none_at ports classes i came all.1 past)
 
 no_first : (xs ys : List Cell) → xs ++ ys ≡ [] → xs ≡ []
 no_first [] ys none = refl
@@ -214,24 +185,18 @@ module _ (t : Tables) (captures : List (List Captured)) (are : AreTables t) (man
   slots = arriving_from came next (length rs)
 
   runs_on : RunsOn w next start rs resumed.end
-  runs_on =
-      subst (λ (x : Marked Fabric). RunsOn w next x rs resumed.end) begins
-      (subst (λ (n : ℕ). RunsOn w n (marked_in (frozen_told w s)) rs resumed.end) next_is resumed.runs)
+  runs_on = grind (arith, common_steps, begins, next_is)
 
   fabric_runs : LimitedFabricRun IsInputBest w.limits w.machines next slots start rs resumed.end
-  fabric_runs =
-      subst (λ (l : List LimitedRecord). LimitedFabricRun IsInputBest w.limits w.machines next slots start l
-      resumed.end)
+  fabric_runs = subst
+      (λ (l : List LimitedRecord). LimitedFabricRun IsInputBest w.limits w.machines next slots start l resumed.end)
       (take_all (length rs) rs (omega arith)) runs_on.after
 
   fits : AllByRecursion (AreForPorts (length f.inputs) (classes_of t.setup)) slots
-  fits =
-      subst (λ (n : ℕ). AllByRecursion (AreForPorts n (classes_of t.setup)) slots) (sym inputs_are)
-      (slots_fit ports (classes_of t.setup) came next (length rs) comes_as)
+  fits = grind (arith, common_steps, inputs_are, slots_fit, comes_as)
 
   alike : LimitedRunsAlike w.limits w.machines next slots beside rs resumed.end
-  alike =
-      (best_act_alike w.limits w.machines).run next (classes_of t.setup) slots start resumed.end beside rs
+  alike = (best_act_alike w.limits w.machines).run next (classes_of t.setup) slots start resumed.end beside rs
       (record { states = agrees; marks = refl }) fits fabric_runs
 
   abbrev ran : LimitedRan
@@ -247,9 +212,8 @@ module _ (t : Tables) (captures : List (List Captured)) (are : AreTables t) (man
 
   of_classes : (j : ℕ) → AllByRecursion (λ cells. AreOfClasses (machine_at w.machines j) j (present cells)) slots
   unfolding arriving_from
-  of_classes j =
-      all_in_range (λ cells. AreOfClasses (machine_at w.machines j) j (present cells)) came next (length rs)
-      (class_in_slot w.machines ports j came 64 refl runs.for_switch)
+  of_classes j = all_in_range (λ cells. AreOfClasses (machine_at w.machines j) j (present cells)) came next
+      (length rs) (class_in_slot w.machines ports j came 64 refl runs.for_switch)
 
   -- ## At one input
 
@@ -271,13 +235,10 @@ module _ (t : Tables) (captures : List (List Captured)) (are : AreTables t) (man
 
     -- all its cells are those of packets
     line_packets : AreOfPackets 0 (cells_of line)
-    line_packets =
-        ⊎_elim
-        (λ (inside : i < ports).
+    line_packets = ⊎_elim (λ (inside : i < ports).
         subst (AreOfPackets 0) (come_in_order i (let few : i < 64 = omega arith in few) came runs.rise)
         (packets_come t captures i are many))
-        (λ (past : ports ≤ i).
-        subst (λ (l : List Arrival). AreOfPackets 0 (cells_of l)) (sym (no_line past)) tt)
+        (λ (past : ports ≤ i). subst (λ (l : List Arrival). AreOfPackets 0 (cells_of l)) (sym (no_line past)) tt)
         (cases_lt i ports)
 
     rises : EachPair IsEarlier line
@@ -289,9 +250,7 @@ module _ (t : Tables) (captures : List (List Captured)) (are : AreTables t) (man
 
     -- those that come from the slot on
     slots_are : cells_at i slots ≡ cells_of late
-    slots_are =
-        ⊎_elim
-        (λ (inside : i < ports).
+    slots_are = ⊎_elim (λ (inside : i < ports).
         comes_from i (let few : i < 64 = omega arith in few) came next (length rs) runs.rise runs_on.all_came)
         (λ (past : ports ≤ i).
         nothing past ∙ sym (ap (λ (l : List Arrival). cells_of (rest_of next l)) (no_line past)))
@@ -301,8 +260,7 @@ module _ (t : Tables) (captures : List (List Captured)) (are : AreTables t) (man
     begin = next_after 0 early
 
     late_packets : AreOfPackets begin (cells_at i slots)
-    late_packets =
-        subst (AreOfPackets begin) (sym slots_are) (packets_behind w s i sound.packets rises line_packets)
+    late_packets = subst (AreOfPackets begin) (sym slots_are) (packets_behind w s i sound.packets rises line_packets)
 
     -- what is taken of the packets that come
     abbrev taken : ℕ → Bool
@@ -360,29 +318,19 @@ module _ (t : Tables) (captures : List (List Captured)) (are : AreTables t) (man
           ∙ map-append (λ (a : Arrival). a.cell) (filter flow early) (filter flow late)
 
       early_taken : filter takes_cell (cells_of (filter flow early)) ≡ cells_of told
-      early_taken =
-          cells_kept takes_cell named (filter flow early)
-          (still (λ a. takes (packet a) ≡ named a) flow early
-          (taken_before w s i sound.packets rises line_packets taken goes_as_marked))
+      early_taken = cells_kept takes_cell named (filter flow early) (still (λ a. takes (packet a) ≡ named a) flow
+          early (taken_before w s i sound.packets rises line_packets taken goes_as_marked))
 
       late_taken : filter takes_cell later ≡ filter taken_cell later
-      late_taken =
-          same_taken takes taken (filter flow late)
-          (still (λ b. takes (packet b) ≡ taken (packet b)) flow late
-          (taken_behind w s i sound.packets rises line_packets taken goes_as_marked))
+      late_taken = same_taken takes taken (filter flow late) (still (λ b. takes (packet b) ≡ taken (packet b)) flow
+          late (taken_behind w s i sound.packets rises line_packets taken goes_as_marked))
 
       takes_parts : filter takes_cell (came_in_flow i c j came) ≡ cells_of told ++ filter taken_cell later
-      takes_parts =
-          ap (filter takes_cell) came_parts
-          ∙ filter-append takes_cell (cells_of (filter flow early)) later
-          ∙ ap (λ (l : List Cell). l ++ filter takes_cell later) early_taken
-          ∙ ap (λ (l : List Cell). cells_of told ++ l) late_taken
+      takes_parts = grind (arith, common_steps, came_parts, filter-append, cells_of, early_taken, late_taken)
 
       flow_late : flow_came i c j slots ≡ later
       unfolding of_flow
-      flow_late =
-          comes_at_input i c j slots stand
-          ∙ ap (filter (is_of_flow i c j)) slots_are
+      flow_late = comes_at_input i c j slots stand ∙ ap (filter (is_of_flow i c j)) slots_are
           ∙ cells_kept (is_of_flow i c j) flow late (everywhere (is_of_flow i c j) late)
 
       -- ## What left
@@ -392,13 +340,7 @@ module _ (t : Tables) (captures : List (List Captured)) (are : AreTables t) (man
       sent_is = ap (λ (k : Kept). k.sent) resumed.kept_is
 
       left_is : left_in_flow i c j kept.sent ≡ first_left ++ left_in_flow i c j (departures_of next ran.gone)
-      left_is =
-          let first : List Departure = sent_told came s in
-          let rest : List Departure = departures_of next ran.gone in
-          let cell_of : Departure → Cell = λ d. d.queued.cell in
-          ap (left_in_flow i c j) sent_is
-          ∙ ap (map cell_of) (filter-append (leaves_in_flow i c j) first rest)
-          ∙ map-append cell_of (filter (leaves_in_flow i c j) first) (filter (leaves_in_flow i c j) rest)
+      left_is = grind (arith, common_steps, sent_is, filter-append, map-append)
 
       told_first : first_left ++ waits ≡ cells_of told
       told_first = told_flow w s in_range shape sound traffic i c j agrees
@@ -414,17 +356,14 @@ module _ (t : Tables) (captures : List (List Captured)) (are : AreTables t) (man
           let states : length f.ranks ≡ ports = ranks_are in
           let rest : List Cell = filter taken_cell (flow_came i c j slots) in
           left_is
-          ∙ ap (λ (l : List Cell). first_left ++ l)
-          (flow_on w.limits w.machines next slots beside ran alike.ran stand over i begin late_packets c j
-          (runs.machines j inside)
+          ∙ ap (λ (l : List Cell). first_left ++ l) (flow_on w.limits w.machines next slots beside ran alike.ran stand
+          over i begin late_packets c j (runs.machines j inside)
           (let low : j < length (ideal_of f).lists = omega arith in low)
           (let low : j < length (ideal_of f).ranks = omega arith in low)
           (stands_there w s in_range shape sound traffic agrees j in_machines (right_classes t.setup j inside))
-          (of_classes j))
-          ∙ sym (append_assoc first_left waits rest)
+          (of_classes j)) ∙ sym (append_assoc first_left waits rest)
           ∙ ap (λ (l : List Cell). l ++ rest) told_first
-          ∙ ap (λ (l : List Cell). cells_of told ++ filter taken_cell l) flow_late
-          ∙ sym takes_parts
+          ∙ ap (λ (l : List Cell). cells_of told ++ filter taken_cell l) flow_late ∙ sym takes_parts
 
       -- nothing is for what is no output
       abbrev without : Ran
@@ -450,17 +389,9 @@ module _ (t : Tables) (captures : List (List Captured)) (are : AreTables t) (man
           ∙ none_left ∙ sym nothing
 
     pub left_whole : LeftInPackets came i kept.sent
-    left_whole =
-        record {
-          is_taken = takes;
-          left = λ c j. ⊎_elim (λ (inside : j < ports). at_port c j inside) (λ (past : ports ≤ j). elsewhere c j past)
-              (cases_lt j ports);
-        }
+    left_whole = record { is_taken = takes; left = search (arith, rules, at_port, elsewhere, cases_lt) }
 
 pub resumed_whole : (t : Tables) (captures : List (List Captured)) (from : Taken) (kept : Kept) → AreTables t →
     length captures ≡ ports_of t.setup → CanBeTakenUp (switch_of t (schedule_of t captures)) from →
     IsResumed (switch_of t (schedule_of t captures)) from kept → LeaveWhole (arrivals t captures) kept.sent
-resumed_whole t captures from kept are many up resumed =
-    let w = switch_of t (schedule_of t captures) in
-    let again : IsResumed w (taken_of w up.state) kept = subst (λ (x : Taken). IsResumed w x kept) up.told resumed in
-    λ i. left_whole t captures are many up.state up.in_range up.shape up.sound kept again i
+resumed_whole t captures from kept are many up resumed = grind (arith, common_steps, left_whole)

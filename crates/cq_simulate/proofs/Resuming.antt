@@ -1,7 +1,7 @@
 -- What a run that goes on says of the tables that its fabric is made for: the resumed run to its end, or the tag
 -- fault at which it stops.
-use Rattle.std.proofs.Common.{◌≡◌, ℕ, ◌++◌, List, length, map, Option, sym, ap, ◌∙◌, subst, arith}
-use Rattle.std.specs.Prelude.{take}
+use Rattle.std.proofs.Common.{rules, ◌≡◌, ℕ, ◌++◌, List, map, Option, sym, ap, ◌∙◌, subst, arith}
+use Rattle.std.proofs.lemmas.Grind.{common_steps}
 use Rattle.std.proofs.lemmas.List.{take_all}
 use Rattle.cq_base.specs.Room.{RoomView}
 use Rattle.cq_base.specs.declared.cell.Departure.{Departure}
@@ -13,13 +13,11 @@ use Rattle.cq_ideal.specs.Admission.{Marked}
 use Rattle.cq_ideal.specs.Ending.{arriving_from}
 use Rattle.cq_ideal.specs.IdealRun.{departures_of}
 use Rattle.cq_laws.specs.Fabric.{Fabric}
-use Rattle.cq_laws.specs.Frozen.{marked_in}
 use Rattle.cq_laws.specs.LimitedFabric.{LimitedFabricRun, LimitedFabricStops, LimitedRecord, slots_in}
 use Rattle.cq_laws.specs.Records.{gone_in, transfers_of_run}
-use Rattle.cq_laws.specs.declared.frozen.Frozen.{Frozen}
 use Rattle.cq_prefs.specs.Pairing.{IsInputBest}
 use Rattle.cq_rank.specs.Machine.{Machine}
-use Rattle.cq_resume.specs.Resumed.{IsResumed, Kept, RunsOn, Stops, kept_on}
+use Rattle.cq_resume.specs.Resumed.{IsResumed, Kept}
 use Rattle.cq_resume.specs.Switch.{switch_of}
 use Rattle.cq_resume.specs.declared.taken.Taken.{Taken}
 use Rattle.cq_route.specs.declared.tables.Tables.{Tables}
@@ -54,8 +52,7 @@ module _ (M : List ℕ → Machine) (t : Tables) (s : Scheduled) (first : Engine
 
   of_engine : (m : ℕ) (rs : List LimitedRecord) (f : Marked Fabric) → RunBy m rs f t.limits (machines_of t.setup) →
       RunBy m rs f first.limits (map M first.fixed)
-  of_engine m rs f run =
-      by_tables (λ l ms. RunBy m rs f l ms → RunBy m rs f first.limits (map M first.fixed)) (λ here. here) run
+  of_engine m rs f run = grind (arith, common_steps, by_tables)
 
   -- and where it stops, the switch does
   pub stop_of_switch : (m : ℕ) (rs : List LimitedRecord) (fault : TagFault) →
@@ -81,54 +78,22 @@ module _ (M : List ℕ → Machine) (t : Tables) (s : Scheduled) (first : Engine
       record {
         records = rs;
         end = marked_fabric last;
-        runs =
-            subst (λ (x : Frozen). RunsOn (switch_of t s) x.next (marked_in x) rs (marked_fabric last)) stood
-            (record {
-              after =
-                  of_switch M t s first machines limits (length rs) (take (length rs) rs) (marked_fabric last)
-                  (subst (λ (l : List LimitedRecord).
-                  LimitedFabricRun IsInputBest first.limits (map M first.fixed) first.next
-                  (arriving_from s.came first.next (length rs)) (marked_fabric first) l (marked_fabric last))
-                  (sym (take_all (length rs) rs (omega arith))) has.went.runs);
-              all_came = has.all_came;
-              empty = has.empty;
-              first = λ m f run le none.
-                  has.first m f (of_engine M t s first machines limits m (take m rs) f run) le none;
-            });
-        kept_is =
-            subst (λ (x : Frozen).
-            kept ≡ kept_on
-            (record { sent = taken.sent; note = taken.note; figures = x.figures; refused = x.refused }) x.next rs) stood
-            (λ k. record {
-              sent = sent_is k;
-              note = note_is k;
-              figures = has.went.counted k;
-              refused = has.went.refused k;
-            });
+        runs = search (arith, rules, of_switch, take_all, has.first, of_engine);
+        kept_is = search (arith, rules, has.went.counted, has.went.refused);
       }
 
   pub resumed_of : (first_sent : RoomView Departure) (first_note : RoomView Transfer) (run : PackedFabricRun) →
       HasKept (map M first.fixed) s.came first first_sent first_note run → first_sent.items ≡ taken.sent →
       first_note.items ≡ taken.note → IsResumed (switch_of t s) taken (kept_of (unpacked_run run))
   resumed_of first_sent first_note run kept sent_was note_was =
-      subst (λ (kept : Kept). IsResumed (switch_of t s) taken kept)
-      (λ k. record {
+      subst (λ (kept : Kept). IsResumed (switch_of t s) taken kept) (λ k. record {
         sent = run.sent.items;
         note = run.note.items;
         figures = sym kept.figures k;
         refused = sym kept.refused k;
-      })
-      (went_on kept.last first_sent run.sent first_note run.note kept.ran sent_was note_was)
+      }) (went_on kept.last first_sent run.sent first_note run.note kept.ran sent_was note_was)
 
   pub resumed_fault : (why : RunRefusal) → IsRefusalOn (map M first.fixed) s.came first why →
       IsResumeFault (switch_of t s) taken why
-  resumed_fault (refusal.Tag fault) at =
-      record {
-        count = at.count;
-        records = at.stops.records;
-        stops =
-            subst (λ (x : Frozen).
-            Stops (switch_of t s) x.next (arriving_from s.came x.next at.count) (marked_in x) at.stops.records fault)
-            stood (stop_of_switch M t s first machines limits at.count at.stops.records fault at.stops.stops);
-      }
+  resumed_fault (refusal.Tag fault) at = grind (arith, common_steps, stop_of_switch)
   resumed_fault refusal.NoMemory at = tt

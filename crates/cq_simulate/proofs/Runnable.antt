@@ -1,5 +1,6 @@
 -- A setup's switch can run over what arrives: the machine of each discipline keeps the laws of machines and begins
 -- in a state of its size, and the arrivals rise by input.
+use Rattle.std.proofs.lemmas.Grind.{common_steps}
 use Rattle.std.proofs.Common.{◌≡◌, ℕ, zero, suc, ◌+◌, ◌<◌, List, [], ◌∷◌, length, get_or, Some, sym, ap, ◌∙◌, subst, arith, refl}
 use Rattle.std.specs.Prelude.{slice_get, slice_index_or}
 use Rattle.std.specs.List.{AllPairs}
@@ -10,8 +11,8 @@ use Rattle.cq_base.specs.declared.setup.ClassRow.{ClassRow}
 use Rattle.cq_base.specs.declared.setup.Kind.{Kind}
 use Rattle.cq_base.specs.declared.setup.Kind.TheVariants.{FirstCome, Priority, Fair}
 use Rattle.cq_base.specs.declared.setup.Setup.{Setup}
-use Rattle.cq_cells.specs.Traffic.{IsInRange, IsLater, IsTraffic}
-use Rattle.cq_ideal.specs.Flows.{IsForSwitch, IsRunnable, RiseByInput}
+use Rattle.cq_cells.specs.Traffic.{IsLater, IsTraffic}
+use Rattle.cq_ideal.specs.Flows.{IsRunnable, RiseByInput}
 use Rattle.cq_ideal.proofs.FlowPut.{all_from}
 use Rattle.cq_rank.specs.Machine.{Machine, KeepsLaws, machine_at, first_come}
 use Rattle.cq_rank.specs.MachineLaws.{first_come_laws, priority_laws}
@@ -51,9 +52,7 @@ module _ (setup : Setup) (j : ℕ) (inside : j < length setup.kinds) where
   keeps_laws = subst KeepsLaws (sym machine_is) (machine_laws kind setup.classes)
 
   pub right_size : length (slice_index_or (openings_of setup) j []) ≡ (machine_at (machines_of setup) j).size
-  right_size =
-      ap (λ (l : List ℕ). length l) opening_is ∙ opening_size kind setup.classes
-      ∙ ap (λ (m : Machine). m.size) (sym machine_is)
+  right_size = grind (arith, common_steps, opening_is, opening_size, machine_is)
 
   pub right_classes : (machine_at (machines_of setup) j).classes ≡ length setup.classes
   right_classes = ap (λ (m : Machine). m.classes) machine_is ∙ machine_classes kind setup.classes
@@ -73,16 +72,4 @@ pub runnable : (setup : Setup) (came : List Arrival) → IsSetup setup →
     IsTraffic (ports_of setup) (classes_of setup) came →
     IsRunnable (machines_of setup) (ports_of setup) (openings_of setup) came
 runnable setup came is traffic =
-    record {
-      machines = λ j inside. keeps_laws setup j inside;
-      ports_are = length-map setup.kinds (λ (k : Kind). opening_of k setup.classes);
-      sizes = λ j inside. right_size setup j inside;
-      for_switch = all_from (IsInRange (ports_of setup) (classes_of setup))
-          (IsForSwitch (machines_of setup) (ports_of setup))
-          (λ a r. record {
-            input = omega arith;
-            output = r.output;
-            class = let e = right_classes setup a.cell.output r.output in omega arith;
-          }) came traffic.in_range;
-      rise = later_rise came traffic.one_by_one;
-    }
+    grind (arith, common_steps, keeps_laws, length-map, right_size, all_from, right_classes, later_rise)

@@ -5,7 +5,8 @@
 -- than the slots that are left after the last arrival: in each of these a cell leaves, while one waits. So the slots
 -- do not end before the cells. Once no cell is to come and none waits, the slots that are left send nothing and meet
 -- no fault.
-use Rattle.std.proofs.Common.{◌≡◌, ℕ, zero, suc, ◌+◌, ◌-◌, ◌<◌, ◌≤◌, ◌^◌, Bool, true, false, List, [], ◌∷◌, ◌++◌, length, replicate, Option, Some, None, Result, Ok, Err, refl, sym, ap, ◌∙◌, subst, ⊎_elim, arith, append_assoc}
+use Rattle.std.proofs.Common.{◌≡◌, ℕ, zero, suc, ◌+◌, ◌-◌, ◌<◌, ◌≤◌, Bool, true, false, List, [], ◌∷◌, ◌++◌, length, replicate, Option, Some, None, Result, Ok, Err, refl, sym, ap, ◌∙◌, subst, arith, append_assoc, ◌^◌}
+use Rattle.std.proofs.lemmas.Grind.{common_steps}
 use Rattle.std.specs.Prelude.{slice_index_or}
 use Rattle.std.proofs.lemmas.Bool.{cases_lt}
 use Rattle.std.proofs.lemmas.List.{append-nil, length-append, length-replicate, get_or-replicate}
@@ -17,7 +18,7 @@ use Rattle.cq_base.specs.Arriving.{Arrival, arriving, end_of, enough}
 use Rattle.cq_base.specs.Room.{RoomView}
 use Rattle.cq_cells.specs.Traffic.{IsShort, number_of, is_to}
 use Rattle.cq_rank.specs.Machine.{Machine}
-use Rattle.cq_ideal.specs.Admission.{Admission, Marked, admission, admitted, marked, marks_after, refused}
+use Rattle.cq_ideal.specs.Admission.{Admission, Marked, admission, admitted, marked, refused}
 use Rattle.cq_ideal.specs.Ideal.{IdealSwitch, HaveLeft, count_for, marked_state}
 use Rattle.cq_ideal.specs.IdealSlot.{IdealState, Sent, ideal_slot, departures_in}
 use Rattle.cq_ideal.specs.IdealRun.{departures_of}
@@ -80,19 +81,13 @@ module _ (limits : List (Option ℕ)) (ms : List Machine) (came : List Arrival) 
       limited_slot limits ms slot (arriving came slot) state ≡ Err fault →
       run_from limits ms came slot (suc n) state ≡ Err fault
   unfolding run_from
-  next_fault slot n state fault is =
-      ap (λ (l : List (List (Option Cell))). sent_from slot (limited_run limits ms slot l state))
-      (arriving_here came slot n)
-      ∙ ap (sent_from slot) (run_fault limits ms slot (arriving came slot) (arriving_from came (slot + 1) n) state
-      fault is)
+  next_fault slot n state fault is = grind (arith, common_steps, arriving_here, run_fault)
 
   -- once no cell is to come and none waits, nothing is sent and no fault is met
   over : (n slot : ℕ) (state : Marked IdealState) → end_of came ≤ slot → waiting state.state.lists ≡ 0 →
       run_from limits ms came slot n state ≡ Ok []
   unfolding run_from
-  over n slot state le none =
-      let quiet = limited_stays_empty limits ms came n slot state le none in
-      ap (sent_from slot) quiet.is ∙ ap (λ (l : List Departure). Ok l) quiet.none
+  over n slot state le none = grind (arith, common_steps, limited_stays_empty limits ms came n slot state le none)
 
 sent_after-twice : (a b : List Departure) (x : Result (List Departure) TagFault) →
     sent_after a (sent_after b x) ≡ sent_after (a ++ b) x
@@ -118,12 +113,7 @@ pub record Once (cells : List (Option Cell)) (a : Admission) : Type 0 where
 once : (limits : List (Option ℕ)) (held : List ℕ) (marks : List Bool) (cells : List (Option Cell)) →
     Once cells (admission limits held marks cells)
 unfolding admission
-once limits held marks cells =
-    let after = marks_after limits held marks cells in
-    record {
-      all = all_once after cells;
-      each = λ j. let one = each_once j after cells in omega arith;
-    }
+once limits held marks cells = grind (arith, common_steps, all_once, each_once)
 
 -- a slot is one without limits of what is admitted
 pub record OfAdmitted (ms : List Machine) (slot : ℕ) (cells : List (Option Cell)) (old : Marked IdealState)
@@ -175,8 +165,7 @@ pub record Running (ms : List Machine) (came : List Arrival) (first : IdealSwitc
 -- it is the same switch after a later slot too
 pub same_on : {first now after : IdealSwitch} → IsSameSwitch first now → IsSameSwitch now after →
     IsSameSwitch first after
-same_on was is =
-    record { fixed = is.fixed ∙ was.fixed; limits = is.limits ∙ was.limits; rooms = is.rooms ∙ was.rooms }
+same_on was is = grind (arith, common_steps)
 
 pub waiting-none : (n : ℕ) → waiting (replicate n []) ≡ 0
 unfolding waiting
@@ -237,18 +226,13 @@ come_here came slot n = refl
 pub none_come : (came : List Arrival) (n slot : ℕ) → end_of came ≤ slot → come_count (arriving_from came slot n) ≡ 0
 unfolding arriving_from come_count
 none_come came zero slot le = refl
-none_come came (suc n) slot le = let here = none_after came slot le in
-    let rest : come_count (arriving_from came (slot + 1) n) ≡ 0 = none_come came n (slot + 1) (omega arith) in
-    omega arith
+none_come came (suc n) slot le = grind (arith, common_steps, none_after, come_count, none_come came n (slot + 1))
 
 -- where a cell is still to come or waits, a slot is left
 pub slot_left : (ms : List Machine) (came : List Arrival) (first : IdealSwitch) (first_sent : RoomView Departure)
     (slot n : ℕ) (now : IdealSwitch) (sent : RoomView Departure) → Running ms came first first_sent slot n now sent →
     (end_of came ≤ slot → waiting now.state.lists ≡ 0 → ⊥) → 0 < n
-slot_left ms came first first_sent slot zero now sent r more =
-    let few : waiting now.state.lists + come_count (arriving_from came slot zero) + (end_of came - slot) ≤ 0 =
-    r.few in
-    absurd (more (omega arith) (omega arith))
+slot_left ms came first first_sent slot zero now sent r more = grind (arith, common_steps, waiting, come_count)
 slot_left ms came first first_sent slot (suc n) now sent r more = omega arith
 
 -- no count of refused cells and packets is near its type's end
@@ -269,9 +253,7 @@ can_count ms came first first_sent slot n now sent r ports short =
 pub fewer_left : (before after here rest end slot n : ℕ) → after ≤ before + here - 1 →
     before + (here + rest) + (end - slot) ≤ suc n → (end ≤ slot → here ≡ 0) → (end ≤ slot + 1 → rest ≡ 0) →
     after + rest + (end - (slot + 1)) ≤ n
-fewer_left before after here rest end slot n less few none over =
-    ⊎_elim (λ lt. omega arith) (λ ge. let z : here ≡ 0 = none ge in let r : rest ≡ 0 = over (omega arith) in
-    omega arith) (cases_lt slot end)
+fewer_left before after here rest end slot n less few none over = grind (arith, common_steps, over, cases_lt)
 
 pub running_next : (ms : List Machine) (came : List Arrival) (first : IdealSwitch) (first_sent : RoomView Departure)
     (slot n : ℕ) (now : IdealSwitch) (sent : RoomView Departure) (after : IdealSwitch) (sent_new : RoomView Departure)
@@ -354,14 +336,11 @@ pub running_over : (ms : List Machine) (came : List Arrival) (first : IdealSwitc
     (slot n : ℕ) (now : IdealSwitch) (sent : RoomView Departure) → Running ms came first first_sent slot n now sent →
     end_of came ≤ slot → waiting now.state.lists ≡ 0 →
     run_from first.limits ms came 0 (enough came) (marked_state first) ≡ Ok sent.items
-running_over ms came first first_sent slot n now sent r le none =
-    r.whole ∙ ap (sent_after sent.items) (over first.limits ms came n slot (marked_state now) le none)
-    ∙ ap (λ (l : List Departure). Ok l) (append-nil sent.items)
+running_over ms came first first_sent slot n now sent r le none = grind (arith, common_steps, over, append-nil)
 
 pub running_fault : (ms : List Machine) (came : List Arrival) (first : IdealSwitch) (first_sent : RoomView Departure)
     (slot n : ℕ) (now : IdealSwitch) (sent : RoomView Departure) (fault : TagFault) →
     Running ms came first first_sent slot (suc n) now sent →
     limited_slot first.limits ms slot (arriving came slot) (marked_state now) ≡ Err fault →
     run_from first.limits ms came 0 (enough came) (marked_state first) ≡ Err fault
-running_fault ms came first first_sent slot n now sent fault r is =
-    r.whole ∙ ap (sent_after sent.items) (next_fault first.limits ms came slot n (marked_state now) fault is)
+running_fault ms came first first_sent slot n now sent fault r is = grind (arith, common_steps, next_fault)

@@ -1,14 +1,14 @@
 -- What a stable run of tables sends. With any stable matchings the fabric ends where the ideal switch ends, and has
 -- sent what that sends.
-use Rattle.std.proofs.Common.{◌≡◌, ◌∙◌, ℕ, List, length, ap}
+use Rattle.std.proofs.lemmas.Grind.{common_steps}
+use Rattle.std.proofs.Common.{arith, ◌≡◌, List, length, ap}
 use Rattle.std.specs.Prelude.{Ok}
 use Rattle.cq_base.specs.Arriving.{Arrival}
 use Rattle.cq_cells.specs.Traffic.{IsTraffic}
 use Rattle.cq_ideal.proofs.LimitedEnds.{limited_found_end}
 use Rattle.cq_ideal.specs.Admission.{Marked}
-use Rattle.cq_ideal.specs.Ending.{first_slots}
 use Rattle.cq_ideal.specs.LimitedEnding.{departures_limited, whole_limited_run}
-use Rattle.cq_ideal.specs.LimitedIdeal.{LimitedRan, empty_limited, limited_run}
+use Rattle.cq_ideal.specs.LimitedIdeal.{LimitedRan, empty_limited}
 use Rattle.cq_laws.proofs.LimitedEnds.{limited_ends}
 use Rattle.cq_laws.specs.Fabric.{Fabric}
 use Rattle.cq_laws.specs.LimitedAgreement.{LimitedEndsAlike}
@@ -29,14 +29,12 @@ module _ (t : Tables) (came : List Arrival) (rs : List LimitedRecord) (end : Mar
   -- the run of the ideal switch ends with that of the fabric
   pub alike : LimitedEndsAlike t.limits (machines_of t.setup) came (empty_limited (ports_of t.setup)
       (openings_of t.setup)) rs end
-  alike =
-      limited_ends t.limits (machines_of t.setup) (ports_of t.setup) (classes_of t.setup) (openings_of t.setup) came rs
-      end (slots_fit (ports_of t.setup) (classes_of t.setup) came 0 (length rs) traffic) whole
+  alike = limited_ends t.limits (machines_of t.setup) (ports_of t.setup) (classes_of t.setup) (openings_of t.setup)
+      came rs end (slots_fit (ports_of t.setup) (classes_of t.setup) came 0 (length rs) traffic) whole
 
   pub stable_slots : slots_ran t came ≡ length rs
-  stable_slots =
-      limited_found_end t.limits (machines_of t.setup) (ports_of t.setup) (openings_of t.setup) came (length rs)
-      alike.after alike.ends
+  stable_slots = limited_found_end t.limits (machines_of t.setup) (ports_of t.setup) (openings_of t.setup) came
+      (length rs) alike.after alike.ends
 
   -- what it did
   abbrev pub told : LimitedRan
@@ -45,10 +43,7 @@ module _ (t : Tables) (came : List Arrival) (rs : List LimitedRecord) (end : Mar
   pub whole_ran : whole_limited_run t.limits (machines_of t.setup) came (empty_limited (ports_of t.setup)
       (openings_of t.setup)) ≡ Ok told
   unfolding whole_limited_run
-  whole_ran =
-      ap (λ (n : ℕ). limited_run t.limits (machines_of t.setup) 0 (first_slots came n) (empty_limited (ports_of t.setup)
-      (openings_of t.setup))) stable_slots
-      ∙ alike.ran
+  whole_ran = grind (arith, common_steps, stable_slots)
 
   pub stable_sends : ideal_departures t came ≡ Ok (departures_in_run rs)
   unfolding ideal_departures ran_ideal

@@ -1,12 +1,11 @@
 -- What waits for an output in a sound state stands there as in a run: in the order of the keys, each cell with the
 -- level of its class and a rank below the floor, and each arrived in an earlier slot.
-use Rattle.std.proofs.Common.{◌≡◌, ℕ, ◌<◌, ◌≤◌, List, [], ◌∷◌, length, sym, ap, ◌∙◌, subst, arith}
+use Rattle.std.proofs.Common.{rules, ◌≡◌, ℕ, ◌<◌, List, [], ◌∷◌, length, arith, ◌≤◌, sym, ap, ◌∙◌, subst}
 use Rattle.std.specs.Prelude.{slice_index_or}
 use Rattle.std.proofs.lemmas.List.Elements.{recursion_from_All}
 use Rattle.cq_base.proofs.Keys.{key_laws}
 use Rattle.cq_base.specs.Cells.{EachPair as EachCell, IsBefore}
 use Rattle.cq_base.specs.declared.cell.Queued.{Queued}
-use Rattle.cq_base.specs.declared.key.Key.{Key}
 use Rattle.cq_cells.specs.Traffic.{IsTraffic}
 use Rattle.cq_ideal.proofs.FlowPut.{NoLater, all_from}
 use Rattle.cq_ideal.proofs.FlowStands.{HasWaited, Stands}
@@ -17,12 +16,13 @@ use Rattle.cq_prefs.specs.FirstCells.{list_of}
 use Rattle.cq_rank.specs.Machine.{Machine, machine_at}
 use Rattle.cq_resume.specs.Sound.{IsBelowFloor, IsSound}
 use Rattle.cq_resume.specs.Switch.{HasShape, Switch}
-use Rattle.cq_resume.specs.Told.{class_in, class_of, fabric_told, output_of, queued_in}
-use Rattle.cq_resume.proofs.GoesOn.{comes, is_cell_of, its_output, its_slot, of_traffic, ports_are, queued_named}
+use Rattle.cq_resume.specs.Told.{fabric_told, queued_in, class_in, class_of, output_of}
+use Rattle.cq_resume.proofs.GoesOn.{comes, of_traffic, ports_are, queued_named, is_cell_of, its_output, its_slot}
 use Rattle.cq_resume.proofs.Having.{Has, all_from_has, all_of_has}
 use Rattle.cq_simulate.proofs.NamedFlow.{waits_there}
 use Rattle.cq_state.specs.State.{IsInRange}
 use Rattle.cq_state.specs.declared.state.State.{State}
+use Rattle.cq_base.specs.declared.key.Key.{Key}
 
 none_later : (xs : List Queued) → EachCell IsBefore xs → EachCell NoLater xs
 none_later [] rising = tt
@@ -80,15 +80,4 @@ module _ (w : Switch) (s : State) (in_range : IsInRange s) (shape : HasShape w s
   ranks_are = agrees.ranks
 
   pub stands_there : Stands m (slice_index_or (ideal_of f).ranks j []) s.head.next 0 there
-  stands_there =
-      let many : length s.ranks ≡ s.head.ports = in_range.outputs_told in
-      let ports : s.head.ports ≡ length w.machines = ports_are w s in_range shape sound traffic in
-      let known : Stands m (slice_index_or s.ranks j []) s.head.next 0 there =
-      record {
-        size = shape.ranks j (let low : j < length s.ranks = omega arith in low);
-        order = none_later there (agrees.rising j);
-        waited =
-            all_from_has (HasWaited m (slice_index_or s.ranks j []) s.head.next 0) there
-            (λ q has. has_waited q has);
-      } in
-      subst (λ (l : List (List ℕ)). Stands m (slice_index_or l j []) s.head.next 0 there) ranks_are known
+  stands_there = search (rules, ports_are, Stands, none_later, all_from_has, HasWaited, has_waited, ranks_are)

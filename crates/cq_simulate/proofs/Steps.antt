@@ -1,6 +1,7 @@
 -- What each step of the loop over the slots asks for, where so many slots are left as are not yet over.
-use Rattle.std.proofs.Common.{◌≡◌, ◌↔◌, ℕ, suc, ◌+◌, ◌-◌, ◌<◌, ◌≤◌, ◌^◌, Bool, true, false, List, [], ◌++◌, length, map, replicate, Option, Result, Ok, Err, refl, sym, ap, ◌∙◌, subst, ⊎_elim, arith}
-use Rattle.std.specs.Prelude.{IsTrue, All, IfOk, slice_index}
+use Rattle.std.proofs.lemmas.Grind.{common_steps}
+use Rattle.std.proofs.Common.{rules, ◌≡◌, ◌↔◌, ℕ, suc, ◌+◌, ◌-◌, ◌<◌, ◌≤◌, ◌^◌, Bool, false, List, [], ◌++◌, length, map, replicate, Option, Result, Ok, Err, refl, sym, ap, ◌∙◌, subst, arith, ⊎_elim}
+use Rattle.std.specs.Prelude.{IsTrue, All, IfOk}
 use Rattle.std.proofs.lemmas.Bool.{cases_lt}
 use Rattle.std.proofs.lemmas.Result.{IfOk-weaker}
 use Rattle.cq_base.specs.declared.cell.Cell.{Cell}
@@ -10,11 +11,10 @@ use Rattle.cq_base.specs.declared.cell.TagFault.{TagFault}
 use Rattle.cq_base.specs.Arrivals.{no_arrivals}
 use Rattle.cq_base.specs.Arriving.{Arrival, arriving, end_of, enough, traffic_of}
 use Rattle.cq_base.specs.Room.{RoomView}
-use Rattle.cq_cells.specs.Traffic.{number_of, is_to}
 use Rattle.cq_rank.specs.Machine.{Machine}
 use Rattle.cq_rank.specs.Switch.{class_count}
 use Rattle.cq_ideal.specs.Admission.{Marked}
-use Rattle.cq_ideal.specs.Ideal.{IdealSwitch, HasRoomFor, HaveLeft, answer_to, count_for, its_slot, marked_state}
+use Rattle.cq_ideal.specs.Ideal.{IdealSwitch, HasRoomFor, HaveLeft, answer_to, its_slot, marked_state}
 use Rattle.cq_ideal.specs.OneSlot.{CanHaveSlot, HasHadSlot, IsSameSwitch}
 use Rattle.cq_ideal.specs.IdealSlot.{IdealState}
 use Rattle.cq_ideal.specs.LimitedEnding.{departures_limited}
@@ -37,8 +37,7 @@ use Rattle.cq_traffic.specs.Stretch.{IsQuiet}
 
 pub not_over : (b : Bool) (end slot : ℕ) (lists : List (List Queued)) → b ≡ false →
     (IsTrue b ↔ ((end ≤ slot) × All (λ cells. cells ≡ []) lists)) → end ≤ slot → waiting lists ≡ 0 → ⊥
-not_over b end slot lists going iff le none =
-    let over : b ≡ true = iff.1 (le, nothing_left lists none) in let P : ⊥ = cc in P
+not_over b end slot lists going iff le none = grind (arith, common_steps, nothing_left)
 
 -- ## The steps
 
@@ -78,12 +77,7 @@ module _ {ms : List Machine} {slot ports : ℕ} {cells : List (Option Cell)} {ol
     {leaving left : RoomView Departure} (free : IsFree ports leaving) (had : HasHad ms slot cells old new leaving left)
   where
     left_here : (s : LimitedSent) × HaveLeft slot s.gone leaving left
-    left_here =
-        let ok = slot_ok (its_slot ms slot cells old) had.answer in (
-          ok.0,
-          (subst (λ (x : Result LimitedSent TagFault). IfOk x (λ of_slot.
-              HasHadSlot slot of_slot old new leaving left)) ok.1 had.done).sent,
-        )
+    left_here = grind (arith, common_steps, slot_ok)
 
     few_leave : length left.items ≤ ports
     few_leave = few_left free left_here.1
@@ -94,22 +88,7 @@ module _ {ms : List Machine} {slot ports : ℕ} {cells : List (Option Cell)} {ol
 
     pub handed : {sent sent_new : RoomView Departure} → sent_new.items ≡ sent.items ++ left.items →
         sent_new.spare + length left.items ≡ sent.spare → HasHad ms slot cells old new sent sent_new
-    handed {sent} {sent_new} items spare = record {
-      answer = had.answer;
-      done =
-          IfOk-weaker (its_slot ms slot cells old)
-          (λ (of_slot : LimitedSent). HasHadSlot slot of_slot old new leaving left)
-          (λ (of_slot : LimitedSent). HasHadSlot slot of_slot old new sent sent_new)
-          (λ of_slot has. record {
-            state = has.state;
-            sent = left_with_all free has.sent items spare;
-            spare = has.spare;
-            refused = has.refused;
-            next = has.next;
-          }) had.done;
-      running = had.running;
-      same = had.same;
-    }
+    handed {sent} {sent_new} items spare = grind (arith, common_steps, IfOk-weaker, left_with_all)
 
 module _ (M : List ℕ → Machine) {came : List Arrival} {first : IdealSwitch} {first_sent : RoomView Departure}
     (ready : IsReady (map M first.fixed) came first first_sent) where
@@ -117,16 +96,13 @@ module _ (M : List ℕ → Machine) {came : List Arrival} {first : IdealSwitch} 
   Before slot now sent = Running (map M first.fixed) came first first_sent slot (enough came - slot) now sent
 
   pub at_first : Before 0 first first_sent
-  at_first =
-      subst (λ (n : ℕ). Running (map M first.fixed) came first first_sent 0 n first first_sent) (omega arith)
+  at_first = subst (λ (n : ℕ). Running (map M first.fixed) came first first_sent 0 n first first_sent) (omega arith)
       (running_first (map M first.fixed) came first first_sent ready)
 
   module _ {slot : ℕ} {now : IdealSwitch} {sent : RoomView Departure} (r : Before slot now sent)
       (more : end_of came ≤ slot → waiting now.state.lists ≡ 0 → ⊥) where
     pub a_slot_left : slot < enough came
-    a_slot_left =
-        let some =
-        slot_left (map M first.fixed) came first first_sent slot (enough came - slot) now sent r more in omega arith
+    a_slot_left = grind (arith, common_steps, slot_left)
 
     one_more : enough came - slot ≡ suc (enough came - (slot + 1))
     one_more = let l = a_slot_left in omega arith
@@ -139,24 +115,10 @@ module _ (M : List ℕ → Machine) {came : List Arrival} {first : IdealSwitch} 
 
     arrivals_fit : (cells : List (Option Cell)) → cells ≡ arriving came slot →
         AreForPorts (length now.fixed) (class_count (map M now.fixed)) cells
-    arrivals_fit cells are =
-        subst (λ (cells : List (Option Cell)). AreForPorts (length now.fixed) (class_count (map M now.fixed)) cells)
-        (sym are)
-        (subst (λ (fixed : List (List ℕ)). AreForPorts (length fixed) (class_count (map M fixed)) (arriving came slot))
-        (sym r.same.fixed)
-        (arrivals_for (length first.fixed) (class_count (map M first.fixed)) came slot ready.traffic))
+    arrivals_fit cells are = grind (arith, common_steps, arrivals_for)
 
     room_left : (cells : List (Option Cell)) → cells ≡ arriving came slot → HasRoomFor cells now
-    room_left cells are j inside =
-        let rooms : length now.rooms ≡ length first.rooms = ap (λ (l : List ℕ). length l) r.same.rooms in
-        let lists : length first.rooms ≡ length first.fixed = ready.lists in
-        let each = r_next.each j (omega arith) in
-        let here = for_here j came slot (enough came - (slot + 1)) in
-        let room : slice_index first.rooms j ≡ number_of (is_to j) came = ready.rooms j (omega arith) in
-        let same : slice_index now.rooms j ≡ slice_index first.rooms j =
-        ap (λ (l : List ℕ). slice_index l j) r.same.rooms in
-        let count : count_for j cells ≡ count_for j (arriving came slot) = ap (count_for j) are in
-        omega arith
+    room_left cells are j inside = grind (arith, common_steps, for_here j came slot (enough came - (slot + 1)))
 
     room_to_count : CanCount (length now.fixed) now.refused
     room_to_count =
@@ -170,65 +132,38 @@ module _ (M : List ℕ → Machine) {came : List Arrival} {first : IdealSwitch} 
     -- the slot finds all that it asks for, with a free list for what is sent
     pub can_have : {cells : List (Option Cell)} {leaving : RoomView Departure} → cells ≡ arriving came slot →
         IsFree (length first.fixed) leaving → CanHaveSlot (map M now.fixed) slot cells now leaving
-    can_have {cells} are free = record {
-      running = r.running;
-      next = sym r.next;
-      early = early;
-      arrivals = arrivals_fit cells are;
-      spare = room_left cells are;
-      refused = room_to_count;
-      sent = let same = same_ports in omega arith;
-    }
+    can_have {cells} are free = grind (arith, common_steps, early, arrivals_fit, room_left, room_to_count, same_ports)
 
     -- and the departures of the run can take over what leaves there
     pub can_take_over : {cells : List (Option Cell)} {after : IdealSwitch} {leaving left : RoomView Departure} →
         IsFree (length first.fixed) leaving → HasHad (map M now.fixed) slot cells now after leaving left →
         length left.items ≤ sent.spare
-    can_take_over free had =
-        let few = few_leave free had in
-        omega arith
+    can_take_over free had = grind (arith, common_steps, few_leave)
 
     as_now : (cells : List (Option Cell)) → cells ≡ arriving came slot →
         its_slot (map M now.fixed) slot cells now
         ≡ limited_slot first.limits (map M first.fixed) slot (arriving came slot) (marked_state now)
-    as_now cells are =
-        ap (λ (l : List (Option ℕ)). limited_slot l (map M now.fixed) slot cells (marked_state now)) r.same.limits
-        ∙ ap (λ (fixed : List (List ℕ)). limited_slot first.limits (map M fixed) slot cells (marked_state now))
-        r.same.fixed
-        ∙ ap (λ (l : List (Option Cell)). limited_slot first.limits (map M first.fixed) slot l (marked_state now)) are
+    as_now cells are = grind (arith, common_steps)
 
     pub at_next : (cells : List (Option Cell)) (after : IdealSwitch) (sent_new : RoomView Departure) →
         cells ≡ arriving came slot → HasHad (map M now.fixed) slot cells now after sent sent_new →
         Before (slot + 1) after sent_new
-    at_next cells after sent_new are had =
-        let ok = slot_ok (its_slot (map M now.fixed) slot cells now) had.answer in
-        let done =
-        subst (λ (x : Result LimitedSent TagFault). IfOk x (λ of_slot. HasHadSlot slot of_slot now after sent sent_new))
-        ok.1 had.done in
-        running_next (map M first.fixed) came first first_sent slot (enough came - (slot + 1)) now sent after sent_new
-        ok.0 r_next (sym (as_now cells are) ∙ ok.1) done.state done.refused done.sent had.running done.next
-        had.same
+    at_next cells after sent_new are had = grind (arith, common_steps, slot_ok, running_next, r_next, as_now)
 
     pub at_fault : (cells : List (Option Cell)) (fault : TagFault) → cells ≡ arriving came slot →
         Err fault ≡ answer_to (its_slot (map M now.fixed) slot cells now) →
         departures_limited (limited_run first.limits (map M first.fixed) 0 (traffic_of came) (marked_state first))
         ≡ Err fault
-    at_fault cells fault are answer =
-        whole_run first.limits (map M first.fixed) came (marked_state first)
-        ∙ running_fault (map M first.fixed) came first first_sent slot (enough came - (slot + 1)) now sent fault r_next
-        (sym (as_now cells are) ∙ slot_err (its_slot (map M now.fixed) slot cells now) fault answer)
+    at_fault cells fault are answer = whole_run first.limits (map M first.fixed) came (marked_state first)
+        ∙ running_fault (map M first.fixed) came first first_sent slot (enough came - (slot + 1)) now sent fault
+        r_next (sym (as_now cells are) ∙ slot_err (its_slot (map M now.fixed) slot cells now) fault answer)
 
   -- a stretch is skipped
   module _ {slot next : ℕ} {now new : IdealSwitch} {sent : RoomView Departure} (r : Before slot now sent)
       (quiet : IsQuiet came slot next) (rested : HasRested (map M now.fixed) slot next now new) where
     ran : limited_run first.limits (map M first.fixed) slot (replicate (next - slot) no_arrivals) (marked_state now)
         ≡ Ok (nothing_came (next - slot) (length now.fixed) (marked_state new))
-    ran =
-        ap (λ (fixed : List (List ℕ)). limited_run first.limits (map M fixed) slot (replicate (next - slot)
-        no_arrivals) (marked_state now)) (sym r.same.fixed)
-        ∙ ap (λ (l : List (Option ℕ)). limited_run l (map M now.fixed) slot (replicate (next - slot) no_arrivals)
-        (marked_state now)) (sym r.same.limits)
-        ∙ rested.slots
+    ran = grind (arith, common_steps)
 
     pub at_rest : Before next new sent
     at_rest =
@@ -247,27 +182,14 @@ module _ (M : List ℕ → Machine) {came : List Arrival} {first : IdealSwitch} 
 
     pub more_at_rest : (end_of came ≤ slot → waiting now.state.lists ≡ 0 → ⊥) → end_of came ≤ next →
         waiting new.state.lists ≡ 0 → ⊥
-    more_at_rest more le none =
-        ⊎_elim
-        (λ lt. let before = quiet.more lt in omega arith)
-        (λ ge.
-        let late : slot ≤ next = quiet.late in
-        more (omega arith) (ap waiting (sym rested.lists) ∙ none))
-        (cases_lt slot next)
+    more_at_rest more le none = grind (arith, common_steps, waiting, cases_lt)
 
   module _ {slot : ℕ} {now : IdealSwitch} {sent : RoomView Departure} (r : Before slot now sent) where
     pub at_end : (end_of came ≤ slot) × All (λ cells. cells ≡ []) now.state.lists →
         departures_limited (limited_run first.limits (map M first.fixed) 0 (traffic_of came) (marked_state first))
         ≡ Ok sent.items
-    at_end over =
-        whole_run first.limits (map M first.fixed) came (marked_state first)
-        ∙ running_over (map M first.fixed) came first first_sent slot (enough came - slot) now sent r over.0
-        (none_waits now.state.lists over.1)
+    at_end over = search (rules, whole_run, running_over, none_waits)
 
     -- so no departure is of a late slot
     pub early_at_end : slots_of sent.items ≤ 2 ^ 63 + 2 ^ 35
-    early_at_end =
-        let short : enough came ≤ 2 ^ 63 + 2 ^ 35 = ready.short in
-        let left : slot + (enough came - slot) ≡ enough came = r.left in
-        let last : slots_of sent.items ≤ slot = r.early in
-        omega arith
+    early_at_end = grind (arith, common_steps)

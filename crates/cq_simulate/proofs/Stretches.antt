@@ -1,10 +1,10 @@
 -- Stretches of slots that are skipped, since no cell comes in them and none waits. What is known of the ideal switch
 -- before the first of them is known after the last: none sends a cell, nothing is refused, and the lists stay as they
 -- are.
-use Rattle.std.proofs.Common.{◌≡◌, ℕ, zero, suc, ◌+◌, ◌-◌, ◌<◌, ◌≤◌, false, List, [], ◌++◌, length, replicate, Option, None, Result, Ok, Err, refl, sym, ap, ◌∙◌, ⊎_elim, subst, arith}
+use Rattle.std.proofs.lemmas.Grind.{common_steps}
+use Rattle.std.proofs.Common.{rules, ◌≡◌, ℕ, zero, suc, ◌+◌, ◌-◌, ◌<◌, ◌≤◌, false, List, [], ◌++◌, length, replicate, Option, None, Result, Ok, Err, refl, sym, ap, ◌∙◌, ⊎_elim, subst, arith}
 use Rattle.std.specs.Prelude.{slice_index_or}
 use Rattle.std.proofs.lemmas.Bool.{cases_lt}
-use Rattle.std.proofs.lemmas.List.{length-replicate}
 use Rattle.cq_base.specs.Arrivals.{no_arrivals}
 use Rattle.cq_base.specs.Arriving.{Arrival, arriving, end_of, enough}
 use Rattle.cq_base.specs.Room.{RoomView}
@@ -13,7 +13,7 @@ use Rattle.cq_base.specs.declared.cell.Departure.{Departure}
 use Rattle.cq_base.specs.declared.cell.Queued.{Queued}
 use Rattle.cq_base.specs.declared.cell.TagFault.{TagFault}
 use Rattle.cq_ideal.proofs.FlowRun.{come_count}
-use Rattle.cq_ideal.proofs.LimitedParts.{behind, limited_going_on, limited_parts}
+use Rattle.cq_ideal.proofs.LimitedParts.{behind, limited_parts, limited_going_on}
 use Rattle.cq_ideal.proofs.Parted.{arriving_parts}
 use Rattle.cq_ideal.specs.Admission.{Admission, Marked, nothing_refused}
 use Rattle.cq_ideal.specs.Ending.{arriving_from, slots_of}
@@ -28,6 +28,7 @@ use Rattle.cq_ideal.proofs.Waiting.{waiting}
 use Rattle.cq_simulate.proofs.Running.{Running, come_here, run_from, same_on, sent_after, sent_from}
 use Rattle.cq_traffic.proofs.Quiet.{quiet_slots}
 use Rattle.cq_traffic.proofs.ToOutputs.{come_for, for_here}
+use Rattle.std.proofs.lemmas.List.{length-replicate}
 
 -- ## The ideal switch
 
@@ -39,33 +40,15 @@ nobody_departs n slot = no_departures n slot 0
 fewer_come : (count : List (List (Option Cell)) → ℕ) (came : List Arrival) →
     ((slot n : ℕ) → count (arriving_from came (slot + 1) n) ≤ count (arriving_from came slot (suc n))) →
     (slot k n : ℕ) → count (arriving_from came (slot + k) n) ≤ count (arriving_from came slot (k + n))
-fewer_come count came less slot zero n =
-    let at : slot + 0 ≡ slot = omega arith in
-    let none : 0 + n ≡ n = omega arith in
-    let same = ap (λ (t : ℕ). count (arriving_from came t n)) at in
-    let long = ap (λ (l : ℕ). count (arriving_from came slot l)) none in
-    omega arith
-fewer_come count came less slot (suc k) n =
-    let at : slot + 1 + k ≡ slot + suc k = omega arith in
-    let more : suc k + n ≡ suc (k + n) = omega arith in
-    let same = ap (λ (t : ℕ). count (arriving_from came t n)) at in
-    let long = ap (λ (l : ℕ). count (arriving_from came slot l)) more in
-    let here = less slot (k + n) in
-    let rest = fewer_come count came less (slot + 1) k n in
-    omega arith
+fewer_come count came less slot zero n = grind (arith, common_steps)
+fewer_come count came less slot (suc k) n = grind (arith, common_steps, fewer_come count came less (slot + 1) k n)
 
 -- the slots of the stretch send nothing
 nothing_departs : (k slot ports : ℕ) (gone : List (List (Option Queued))) →
     departures_of slot (replicate k (replicate ports None) ++ gone) ≡ departures_of (slot + k) gone
 unfolding departures_of
-nothing_departs zero slot ports gone =
-    let at : slot ≡ slot + 0 = omega arith in ap (λ (t : ℕ). departures_of t gone) at
-nothing_departs (suc k) slot ports gone =
-    let at : slot + 1 + k ≡ slot + suc k = omega arith in
-    ap (λ (l : List Departure). l ++ departures_of (slot + 1) (replicate k (replicate ports None) ++ gone))
-    (nobody_departs ports slot)
-    ∙ nothing_departs k (slot + 1) ports gone
-    ∙ ap (λ (t : ℕ). departures_of t gone) at
+nothing_departs zero slot ports gone = grind (arith, common_steps)
+nothing_departs (suc k) slot ports gone = search (rules, nobody_departs, nothing_departs k (slot + 1) ports gone)
 
 sent_behind : (k slot ports : ℕ) (admissions : List Admission) (x : Result LimitedRan TagFault) →
     sent_from slot (behind admissions (replicate k (replicate ports None)) x) ≡ sent_from (slot + k) x
@@ -104,8 +87,6 @@ running_rest ms came first first_sent sent ports k slot n m now after left r qui
     let fewer : come_count (arriving_from came (slot + k) n) ≤ come_count (arriving_from came slot m) =
     subst (λ (l : ℕ). come_count (arriving_from came (slot + k) n) ≤ come_count (arriving_from came slot l)) (sym left)
     (fewer_come come_count came (λ t l. let here = come_here came t l in omega arith) slot k n) in
-    let spare : waiting now.state.lists + come_count (arriving_from came slot m) + length first.fixed ≤ sent.spare =
-    r.spare in
     let few : waiting now.state.lists + come_count (arriving_from came slot m) + (end_of came - slot) ≤ m = r.few in
     let many : length r.lost + come_count (arriving_from came slot m) ≤ length came = r.many in
     let last : slots_of sent.items ≤ slot = r.early in

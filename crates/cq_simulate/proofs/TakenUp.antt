@@ -1,12 +1,12 @@
 -- A fabric that is taken up can go on. What waits in it came before the slot that it stands at, and what is to come
 -- comes from that slot on, so both together are no more than what comes in all: at each input, for each output, and
 -- of all cells.
-use Rattle.std.proofs.Common.{◌≡◌, ℕ, zero, suc, ◌+◌, ◌*◌, ◌<◌, ◌≤◌, ◌^◌, Bool, true, false, cond, List, [], ◌∷◌, length, map, Option, refl, sym, ap, ◌∙◌, subst, ⊎_elim, arith}
-use Rattle.std.specs.Prelude.{◌==◌, filter, slice_index, sum}
+use Rattle.std.proofs.Common.{rules, ◌≡◌, ℕ, zero, suc, ◌+◌, ◌*◌, ◌<◌, ◌≤◌, ◌^◌, Bool, true, false, cond, List, [], ◌∷◌, length, map, Option, refl, sym, ap, ◌∙◌, arith, subst}
+use Rattle.std.proofs.lemmas.Grind.{common_steps}
+use Rattle.std.specs.Prelude.{◌==◌, filter, sum, slice_index}
 use Rattle.std.specs.List.{flat_map, range_with_len}
 use Rattle.std.proofs.lemmas.Bool.{cases_lt, le-leb, le-ltb, lt-leb, lt-ltb, ne_eqb}
 use Rattle.std.proofs.lemmas.List.{length-map}
-use Rattle.std.proofs.lemmas.List.Elements.{All-from_recursion}
 use Rattle.std.proofs.lemmas.List.Sums.{sum_by-cons}
 use Rattle.cq_base.specs.Arriving.{Arrival}
 use Rattle.cq_base.specs.Room.{RoomView}
@@ -17,9 +17,7 @@ use Rattle.cq_cells.specs.Traffic.{IsShort, IsTraffic, is_from, is_to, number_of
 use Rattle.cq_cells.specs.Scheduled.{Scheduled}
 use Rattle.cq_engine.specs.Engine.{CanGoOn, EngineView, frozen_of}
 use Rattle.cq_ideal.proofs.Waiting.{total, total_more, total_none}
-use Rattle.cq_ideal.specs.declared.refused.Refused.{Refused}
 use Rattle.cq_laws.specs.Fabric.{Fabric, input}
-use Rattle.cq_laws.specs.Frozen.{AreCountsOf, AreOwn, fabric_in}
 use Rattle.cq_laws.specs.Holding.{fabric_held, held_for}
 use Rattle.cq_laws.specs.declared.frozen.Frozen.{Frozen}
 use Rattle.cq_rank.specs.Machine.{Machine}
@@ -40,6 +38,8 @@ use Rattle.cq_simulate.specs.PartedRuns.{CanBeTakenUp}
 use Rattle.cq_simulate.specs.ScheduleFor.{IsScheduleFor}
 use Rattle.cq_simulate.specs.declared.ports.Ports.{Ports}
 use Rattle.cq_traffic.proofs.FromInputs.{bit}
+use Rattle.std.proofs.lemmas.List.Elements.{All-from_recursion}
+use Rattle.cq_ideal.specs.declared.refused.Refused.{Refused}
 
 -- ## What came and what is to come
 
@@ -55,22 +55,18 @@ number-cons p a xs = one_more (p a) a (filter p xs)
 -- an arrival before the slot is one of those that came, and no other
 came_first : (next : ℕ) (a : Arrival) (xs : List Arrival) → a.slot < next →
     came_before next (a ∷ xs) ≡ a ∷ came_before next xs
-came_first next a xs lt =
-    ap (λ (b : Bool). cond b (a ∷ came_before next xs) (came_before next xs)) (lt-ltb a.slot next lt)
+came_first next a xs lt = grind (arith, common_steps, came_before, lt-ltb)
 
 not_to_come : (next : ℕ) (a : Arrival) (xs : List Arrival) → a.slot < next → to_come next (a ∷ xs) ≡ to_come next xs
-not_to_come next a xs lt =
-    ap (λ (b : Bool). cond b (a ∷ to_come next xs) (to_come next xs)) (lt-leb next a.slot lt)
+not_to_come next a xs lt = grind (arith, common_steps, lt-leb)
 
 not_come : (next : ℕ) (a : Arrival) (xs : List Arrival) → next ≤ a.slot →
     came_before next (a ∷ xs) ≡ came_before next xs
-not_come next a xs ge =
-    ap (λ (b : Bool). cond b (a ∷ came_before next xs) (came_before next xs)) (le-ltb a.slot next ge)
+not_come next a xs ge = grind (arith, common_steps, came_before, le-ltb)
 
 comes_first : (next : ℕ) (a : Arrival) (xs : List Arrival) → next ≤ a.slot →
     to_come next (a ∷ xs) ≡ a ∷ to_come next xs
-comes_first next a xs ge =
-    ap (λ (b : Bool). cond b (a ∷ to_come next xs) (to_come next xs)) (le-leb next a.slot ge)
+comes_first next a xs ge = grind (arith, common_steps, le-leb)
 
 -- each arrival is of one of the two
 both_parts : (p : Arrival → Bool) (next : ℕ) (came : List Arrival) →
@@ -78,41 +74,14 @@ both_parts : (p : Arrival → Bool) (next : ℕ) (came : List Arrival) →
 both_parts p next [] = refl
 both_parts p next (a ∷ came) =
     let rest = both_parts p next came in
-    let all : number_of p (a ∷ came) ≡ bit (p a) + number_of p came = number-cons p a came in
-    ⊎_elim
-    (λ (lt : a.slot < next).
-    let x : number_of p (came_before next (a ∷ came)) ≡ bit (p a) + number_of p (came_before next came) =
-    ap (λ (l : List Arrival). number_of p l) (came_first next a came lt) ∙ number-cons p a (came_before next came) in
-    let y : number_of p (to_come next (a ∷ came)) ≡ number_of p (to_come next came) =
-    ap (λ (l : List Arrival). number_of p l) (not_to_come next a came lt) in
-    omega arith)
-    (λ (ge : next ≤ a.slot).
-    let x : number_of p (came_before next (a ∷ came)) ≡ number_of p (came_before next came) =
-    ap (λ (l : List Arrival). number_of p l) (not_come next a came ge) in
-    let y : number_of p (to_come next (a ∷ came)) ≡ bit (p a) + number_of p (to_come next came) =
-    ap (λ (l : List Arrival). number_of p l) (comes_first next a came ge) ∙ number-cons p a (to_come next came) in
-    omega arith)
-    (cases_lt a.slot next)
+    search (arith, rules, bit, number-cons, came_before, came_first, not_to_come, not_come, comes_first, cases_lt)
 
 all_parts : (next : ℕ) (came : List Arrival) →
     length (came_before next came) + length (to_come next came) ≡ length came
 all_parts next [] = refl
 all_parts next (a ∷ came) =
     let rest = all_parts next came in
-    ⊎_elim
-    (λ (lt : a.slot < next).
-    let x : length (came_before next (a ∷ came)) ≡ suc (length (came_before next came)) =
-    ap (λ (l : List Arrival). length l) (came_first next a came lt) in
-    let y : length (to_come next (a ∷ came)) ≡ length (to_come next came) =
-    ap (λ (l : List Arrival). length l) (not_to_come next a came lt) in
-    omega arith)
-    (λ (ge : next ≤ a.slot).
-    let x : length (came_before next (a ∷ came)) ≡ length (came_before next came) =
-    ap (λ (l : List Arrival). length l) (not_come next a came ge) in
-    let y : length (to_come next (a ∷ came)) ≡ suc (length (to_come next came)) =
-    ap (λ (l : List Arrival). length l) (comes_first next a came ge) in
-    omega arith)
-    (cases_lt a.slot next)
+    search (arith, rules, came_before, came_first, not_to_come, not_come, comes_first, cases_lt)
 
 -- ## Of all inputs, and for all outputs
 
@@ -145,10 +114,7 @@ total_le f g a (suc n) le = let here = le a in let rest = total_le f g (a + 1) n
 summed : (f : ℕ → ℕ) (a n : ℕ) → sum (map f (range_with_len a n)) ≡ total f a n
 unfolding total
 summed f a zero = refl
-summed f a (suc n) =
-    let rest = summed f (a + 1) n in
-    let more = sum_by-cons (λ (k : ℕ). k) (f a) (map f (range_with_len (a + 1) n)) in
-    omega arith
+summed f a (suc n) = grind (arith, common_steps, sum_by-cons, summed f (a + 1) n)
 
 all_held : (f : Fabric) → sum (fabric_held f) ≡ total (λ j. held_for j f) 0 (length f.inputs)
 unfolding fabric_held
@@ -189,11 +155,7 @@ machines_many t = length-map t.setup.kinds (λ kind. machine_of kind t.setup.cla
 
 goes_of : (t : Tables) (s : Scheduled) (taken : Taken) → CanBeTakenUp (switch_of t s) taken →
     IsTraffic (ports_of t.setup) (classes_of t.setup) s.came → GoesOn (switch_of t s) taken.frozen
-goes_of t s taken sound traffic =
-    let w = switch_of t s in
-    subst (λ (x : Frozen). GoesOn w x) (sym (ap (λ (x : Taken). x.frozen) sound.told))
-    (goes_on w sound.state sound.in_range sound.shape sound.sound
-    (subst (λ (n : ℕ). IsTraffic n (classes_of t.setup) s.came) (sym (machines_many t)) traffic))
+goes_of t s taken sound traffic = grind (arith, common_steps, GoesOn, goes_on, machines_many)
 
 module _ (w : Switch) where
   -- the engine can be made to go on from there
@@ -203,28 +165,7 @@ module _ (w : Switch) where
       to_outputs ≡ map (λ j. number_of (is_to j) w.came) (range_with_len 0 (length w.machines)) →
       CanGoOn ms limits from_inputs to_outputs x
   can_go_on x ms limits from_inputs to_outputs goes machines classes are from to =
-      let n = length w.machines in
-      let comes : ℕ → ℕ = λ i. number_of (is_from i) w.came in
-      let leaves : ℕ → ℕ = λ j. number_of (is_to j) w.came in
-      subst (λ (l : List Machine). CanGoOn l limits from_inputs to_outputs x) (sym machines)
-      (record {
-        ports = goes.ports;
-        sound = goes.sound;
-        own = subst (λ (k : ℕ). AreOwn n k (fabric_in x)) (sym classes) goes.own;
-        sized = goes.sized;
-        refused = subst (λ (l : List (Option ℕ)). AreCountsOf l x.refused) (sym are) goes.refused;
-        counts = record { inputs = goes.inputs; outputs = goes.outputs };
-        list_rooms = λ i inside.
-            let had = goes.lists i in
-            let parts = both_parts (is_from i) x.next w.came in
-            let room : slice_index from_inputs i ≡ number_of (is_from i) w.came = room_at comes n i from inside in
-            omega arith;
-        buffer_rooms = λ j inside.
-            let had = goes.buffers j in
-            let parts = both_parts (is_to j) x.next w.came in
-            let room : slice_index to_outputs j ≡ number_of (is_to j) w.came = room_at leaves n j to inside in
-            omega arith;
-      })
+      grind (arith, common_steps, goes.lists, both_parts, room_at, goes.buffers)
 
   -- and runs on over what is to come
   ready_from : (M : List ℕ → Machine) (engine : EngineView) (sent : RoomView Departure) (note : RoomView Transfer) →
@@ -288,8 +229,7 @@ module _ (w : Switch) where
 
 by_machine : (is : ℕ → Arrival → Bool) (t : Tables) (came : List Arrival) →
     by_port is t came ≡ map (λ port. number_of (is port) came) (range_with_len 0 (length (machines_of t.setup)))
-by_machine is t came =
-    ap (λ (n : ℕ). map (λ port. number_of (is port) came) (range_with_len 0 n)) (sym (machines_many t))
+by_machine is t came = grind (arith, common_steps, machines_many)
 
 module _ {t : Tables} {s : Scheduled} {taken : Taken} {p : Ports} (are : ArePortsFor t s.came p)
     (sound : CanBeTakenUp (switch_of t s) taken) (fit : IsScheduleFor t s) where

@@ -1,7 +1,8 @@
 -- The walk over the departures. Of each input and class that is open which the cells taken so far leave open, and the
 -- packets made so far are those that left.
-use Rattle.std.proofs.Common.{◌≡◌, ◌≢◌, ℕ, suc, ◌+◌, ◌<◌, ◌≤◌, Bool, true, false, cond, List, [], ◌∷◌, ◌++◌, length, map, take, drop, get_or, Option, Some, None, refl, sym, ap, ◌∙◌, subst, ⊎_elim, inl, inr, arith}
-use Rattle.std.specs.Prelude.{◌&&◌, ◌==◌, All}
+use Rattle.std.proofs.lemmas.Grind.{common_steps}
+use Rattle.std.proofs.Common.{rules, ◌≡◌, ◌≢◌, ℕ, suc, ◌+◌, ◌<◌, ◌≤◌, Bool, true, false, cond, List, [], ◌∷◌, ◌++◌, length, map, take, drop, get_or, Option, Some, None, refl, sym, ap, ◌∙◌, subst, arith}
+use Rattle.std.specs.Prelude.{◌==◌, All}
 use Rattle.std.specs.List.{filter}
 use Rattle.std.proofs.lemmas.Bool.{cases_eq, cond-true, cond-false, eq-eqb, ne_eqb, and_from, and_left, and_right}
 use Rattle.std.proofs.lemmas.List.{append-nil, map-append, take_more, drop_more, take-append-drop}
@@ -24,22 +25,16 @@ use Rattle.cq_simulate.proofs.Packed.{none_packed, one_packed}
 -- the cells of a flow among some departures and then others
 flow-append : (i c j : ℕ) (xs ys : List Departure) → left_in_flow i c j (xs ++ ys) ≡ left_in_flow i c j xs ++
     left_in_flow i c j ys
-flow-append i c j xs ys =
-    ap (map (λ (x : Departure). x.queued.cell)) (filter-append (leaves_in_flow i c j) xs ys)
-    ∙ map-append (λ (x : Departure). x.queued.cell) (filter (leaves_in_flow i c j) xs)
-    (filter (leaves_in_flow i c j) ys)
+flow-append i c j xs ys = grind (arith, common_steps, filter-append, map-append)
 
 of_flow : (i c j : ℕ) (d : Departure) (ds : List Departure) → leaves_in_flow i c j d ≡ true →
     left_in_flow i c j (d ∷ ds) ≡ d.queued.cell ∷ left_in_flow i c j ds
-of_flow i c j d ds e =
-    ap (map (λ (x : Departure). x.queued.cell)) (cond-true (leaves_in_flow i c j d)
-    (d ∷ filter (leaves_in_flow i c j) ds) (filter (leaves_in_flow i c j) ds) e)
+of_flow i c j d ds e = ap (map (λ (x : Departure). x.queued.cell))
+    (cond-true (leaves_in_flow i c j d) (d ∷ filter (leaves_in_flow i c j) ds) (filter (leaves_in_flow i c j) ds) e)
 
 of_other : (i c j : ℕ) (d : Departure) (ds : List Departure) → leaves_in_flow i c j d ≡ false →
     left_in_flow i c j (d ∷ ds) ≡ left_in_flow i c j ds
-of_other i c j d ds e =
-    ap (map (λ (x : Departure). x.queued.cell)) (cond-false (leaves_in_flow i c j d)
-    (d ∷ filter (leaves_in_flow i c j) ds) (filter (leaves_in_flow i c j) ds) e)
+of_other i c j d ds e = grind (arith, common_steps, cond-false)
 
 -- what is known when so many departures were gone through
 pub record SoFar (t : Tables) (captures : List (List Captured)) (sent : List Departure) (output k : ℕ)
@@ -55,44 +50,24 @@ module _ (t : Tables) (captures : List (List Captured)) (sent : List Departure) 
     (inside : k < length sent) where
   next_flow : (i c : ℕ) → left_in_flow i c output (take (k + 1) sent) ≡ left_in_flow i c output (take k sent) ++
       left_in_flow i c output (get_or sent k e ∷ [])
-  next_flow i c =
-      ap (left_in_flow i c output) (take_more sent k e inside)
-      ∙ flow-append i c output (take k sent) (get_or sent k e ∷ [])
+  next_flow i c = grind (arith, common_steps, take_more, flow-append)
 
   -- a departure of another pair, or at another output
   pub same_flow : (i c : ℕ) → leaves_in_flow i c output (get_or sent k e) ≡ false →
       left_in_flow i c output (take (k + 1) sent) ≡ left_in_flow i c output (take k sent)
-  same_flow i c other =
-      next_flow i c ∙ ap (λ (l : List Cell). left_in_flow i c output (take k sent) ++ l)
-      (of_other i c output (get_or sent k e) [] other) ∙ append-nil (left_in_flow i c output (take k sent))
+  same_flow i c other = grind (arith, common_steps, next_flow, of_other, append-nil)
 
   pub at_other : {joiner : JoinerView} {packets : List OutPacket} → SoFar t captures sent output k joiner packets →
       (get_or sent k e).output ≢ output → SoFar t captures sent output (k + 1) joiner packets
   at_other {packets = packets} so_far ne =
       let d : Departure = get_or sent k e in
       let away : (d.output == output) ≡ false = ne_eqb d.output output ne in
-      record {
-        inputs = so_far.inputs;
-        classes = so_far.classes;
-        open_packets = λ i c few.
-            so_far.open_packets i c few
-            ∙ ap (opened captures None) (sym (same_flow i c
-            (and_left (d.output == output) (d.queued.cell.id.input == i && d.queued.cell.class == c) away)));
-        made =
-            none_packed t captures sent output k e inside packets
-            (and_left (d.output == output) d.queued.cell.last away) so_far.made;
-        small = so_far.small;
-      }
+      search (arith, rules, same_flow, none_packed t captures sent output k e inside packets)
 
   module _ (here : (get_or sent k e).output ≡ output) where
     own : leaves_in_flow (get_or sent k e).queued.cell.id.input (get_or sent k e).queued.cell.class output
         (get_or sent k e) ≡ true
-    own =
-        let d : Departure = get_or sent k e in
-        let c : Cell = d.queued.cell in
-        and_from (d.output == output) (c.id.input == c.id.input && c.class == c.class) (eq-eqb d.output output here)
-        (and_from (c.id.input == c.id.input) (c.class == c.class) (eq-eqb c.id.input c.id.input refl)
-        (eq-eqb c.class c.class refl))
+    own = grind (arith, common_steps, and_from, eq-eqb)
 
     pub cell_fits : {joiner : JoinerView} {packets : List OutPacket} {stamp : ℕ} →
         SoFar t captures sent output k joiner packets → HaveLeftOf t captures sent stamp →
@@ -103,13 +78,12 @@ module _ (t : Tables) (captures : List (List Captured)) (sent : List Departure) 
         let d : Departure = get_or sent k e in
         let i = d.queued.cell.id.input in
         let c = d.queued.cell.class in
-        let parts : take k sent ++ (d ∷ drop (k + 1) sent) ≡ sent =
-        ap (λ (l : List Departure). take k sent ++ l) (sym (drop_more sent k e inside)) ∙ take-append-drop k sent in
+        let parts : take k sent ++ (d ∷ drop (k + 1) sent) ≡ sent = ap (λ (l : List Departure). take k sent ++ l)
+        (sym (drop_more sent k e inside)) ∙ take-append-drop k sent in
         let l = of_run.whole i in
         subst (λ (o : Option Open). Fits captures o d.queued.cell) (sym (so_far.open_packets i c few))
-        (flow_fits t captures i (omega arith) c output l.is_taken
-        (left_in_flow i c output (take k sent)) d.queued.cell (left_in_flow i c output (drop (k + 1) sent))
-        (sym (l.left c output)
+        (flow_fits t captures i (omega arith) c output l.is_taken (left_in_flow i c output (take k sent))
+        d.queued.cell (left_in_flow i c output (drop (k + 1) sent)) (sym (l.left c output)
         ∙ ap (left_in_flow i c output) (sym parts)
         ∙ flow-append i c output (take k sent) (d ∷ drop (k + 1) sent)
         ∙ ap (λ (l : List Cell). left_in_flow i c output (take k sent) ++ l)
@@ -127,53 +101,20 @@ module _ (t : Tables) (captures : List (List Captured)) (sent : List Departure) 
           open_at joiner_new (get_or sent k e).queued.cell.id.input (get_or sent k e).queued.cell.class ≡ opened
           captures None (left_in_flow (get_or sent k e).queued.cell.id.input (get_or sent k e).queued.cell.class output
           (take (k + 1) sent))
-      of_pair few =
-          let d : Departure = get_or sent k e in
-          let i = d.queued.cell.id.input in
-          let c = d.queued.cell.class in
-          pair
-          ∙ ap (λ (o : Option Open). open_after o d.queued.cell (piece_at captures d.queued.cell))
-          (so_far.open_packets i c few)
-          ∙ sym (opened-append captures None (left_in_flow i c output (take k sent)) (d.queued.cell ∷ []))
-          ∙ ap (λ (l : List Cell). opened captures None (left_in_flow i c output (take k sent) ++ l))
-          (sym (of_flow i c output d [] own))
-          ∙ ap (opened captures None) (sym (next_flow i c))
+      of_pair few = grind (arith, common_steps, opened-append, own, next_flow)
 
       of_others : (i c : ℕ) → c < length t.setup.classes → IsOtherPair i c (get_or sent k e).queued.cell →
           leaves_in_flow i c output (get_or sent k e) ≡ false → open_at joiner_new i c ≡ opened captures None
           (left_in_flow i c output (take (k + 1) sent))
-      of_others i c few other away =
-          others i c (omega arith) other ∙ so_far.open_packets i c few
-          ∙ ap (opened captures None) (sym (same_flow i c away))
+      of_others i c few other away = grind (arith, common_steps, same_flow)
 
       open_next : (i c : ℕ) → c < length t.setup.classes → open_at joiner_new i c ≡ opened captures None
           (left_in_flow i c output (take (k + 1) sent))
-      open_next i c few =
-          let d : Departure = get_or sent k e in
-          ⊎_elim
-          (λ (same_input : i ≡ d.queued.cell.id.input).
-          ⊎_elim
-          (λ (same_class : c ≡ d.queued.cell.class).
-          subst (λ (n : ℕ). open_at joiner_new n c ≡ opened captures None (left_in_flow n c output (take (k + 1) sent)))
-          (sym same_input)
-          (subst (λ (n : ℕ). open_at joiner_new d.queued.cell.id.input n ≡ opened captures None
-          (left_in_flow d.queued.cell.id.input n output (take (k + 1) sent))) (sym same_class) (of_pair (omega arith))))
-          (λ ne. of_others i c few (inr ne) (and_right (d.output == output)
-          (d.queued.cell.id.input == i && d.queued.cell.class == c)
-          (and_right (d.queued.cell.id.input == i) (d.queued.cell.class == c)
-          (ne_eqb d.queued.cell.class c (λ x. ne (sym x))))))
-          (cases_eq c d.queued.cell.class))
-          (λ ne. of_others i c few (inl ne) (and_right (d.output == output)
-          (d.queued.cell.id.input == i && d.queued.cell.class == c)
-          (and_left (d.queued.cell.id.input == i) (d.queued.cell.class == c)
-          (ne_eqb d.queued.cell.id.input i (λ x. ne (sym x))))))
-          (cases_eq i d.queued.cell.id.input)
+      open_next i c few = grind (arith, common_steps, of_pair, of_others, and_right, ne_eqb, cases_eq, and_left)
 
       -- what ends at this output
       ends : (b : Bool) → (get_or sent k e).queued.cell.last ≡ b → ends_packet_at output (get_or sent k e) ≡ b
-      ends b last =
-          let d : Departure = get_or sent k e in
-          ap (λ (x : Bool). x && d.queued.cell.last) (eq-eqb d.output output here) ∙ last
+      ends b last = grind (arith, common_steps, eq-eqb)
 
       pub kept : left_with t captures (get_or sent k e) ≡ None → SoFar t captures sent output (k + 1) joiner_new packets
       kept none = record {
@@ -218,30 +159,16 @@ pub at_first : (t : Tables) (captures : List (List Captured)) (sent : List Depar
     (packets : List OutPacket) → joiner.inputs ≡ length captures → joiner.classes ≡ length t.setup.classes →
     ((i c : ℕ) → open_at joiner i c ≡ None) → packets ≡ [] → All (λ p. length p.body ≤ 262144) packets → SoFar t
     captures sent output 0 joiner packets
-at_first t captures sent output joiner packets inputs classes none nothing small = record {
-  inputs = inputs;
-  classes = classes;
-  open_packets = λ i c few. none i c;
-  made = nothing ∙ none_out t captures output;
-  small = small;
-}
+at_first t captures sent output joiner packets inputs classes none nothing small = search (rules, none_out)
 
 none_of : (p : Departure → Bool) (xs : List Departure) → ((k : ℕ) (e : Departure) → k < length xs → p (get_or xs k e)
     ≡ false) → filter p xs ≡ []
 none_of p [] h = refl
-none_of p (x ∷ xs) h =
-    cond-false (p x) (x ∷ filter p xs) (filter p xs) (h 0 x (omega arith))
+none_of p (x ∷ xs) h = cond-false (p x) (x ∷ filter p xs) (filter p xs) (h 0 x (omega arith))
     ∙ none_of p xs (λ k e l. h (suc k) e (omega arith))
 
 -- at what is no port nothing departs
 pub nowhere : {t : Tables} {captures : List (List Captured)} {sent : List Departure} {stamp : ℕ} (output : ℕ) →
     HaveLeftOf t captures sent stamp → ports_of t.setup ≤ output → packets_out t captures sent output ≡ []
 unfolding packets_out
-nowhere {t} {captures} {sent} output of_run none =
-    ap (map (leaving t captures))
-    (none_of (ends_packet_at output) sent
-    (λ k e inside.
-    let d : Departure = get_or sent k e in
-    let at_port : d.output < ports_of t.setup = departed_output of_run k e inside in
-    and_left (d.output == output) d.queued.cell.last (ne_eqb d.output output
-    (λ (same : d.output ≡ output). absurd (omega arith)))))
+nowhere {t} {captures} {sent} output of_run none = search (rules, none_of, departed_output, and_left, ne_eqb)

@@ -1,10 +1,11 @@
 -- How many of a list pass a test. A tally of what passes one test, taken of what passes another, is one of what
 -- passes both; of numbers in a row of which one passes it is 1; and of two sums, one within the other, either may be
 -- taken first. So the tally of a list is the sum of those of its parts, where each item that passes is in one of them.
-use Rattle.std.proofs.Common.{◌≡◌, ℕ, zero, suc, ◌+◌, ◌<◌, ◌≤◌, Bool, true, false, cond, List, [], ◌∷◌, ◌++◌, length, map, filter, flat_map, refl, sym, ap, ◌∙◌, subst, inl, inr, ⊎_elim, arith}
+use Rattle.std.proofs.lemmas.Grind.{common_steps}
+use Rattle.std.proofs.Common.{◌≡◌, ℕ, zero, suc, ◌+◌, ◌<◌, ◌≤◌, Bool, true, false, cond, List, [], ◌∷◌, ◌++◌, length, map, filter, flat_map, refl, sym, ap, ◌∙◌, subst, ⊎_elim, arith}
 use Rattle.std.specs.Prelude.{◌&&◌, ◌==◌, sum_by}
 use Rattle.std.specs.List.{AllByRecursion, range_with_len}
-use Rattle.std.proofs.lemmas.Bool.{and_parts, and_right, cases_eq, eq-eqb, eqb-true, false_from_ne_true, ne_eqb}
+use Rattle.std.proofs.lemmas.Bool.{and_parts, and_right, cases_eq, eq-eqb, eqb-true, ne_eqb}
 use Rattle.std.proofs.lemmas.List.Elements.{filter-append}
 use Rattle.std.proofs.lemmas.List.{length-append}
 use Rattle.std.proofs.lemmas.List.Sums.{length-filter, sum_by-cons}
@@ -41,32 +42,18 @@ module _ {X : Type 0} where
   -- what passes the second test, and of this what passes the first
   pub tally_both : (p q : X → Bool) (xs : List X) → tally p (filter q xs) ≡ tally (λ x. q x && p x) xs
   tally_both p q [] = refl
-  tally_both p q (x ∷ xs) =
-      let rest = tally_both p q xs in
-      let kept = kept_more p (q x) x (filter q xs) in
-      let all = one_more (λ y. q y && p y) x xs in
-      omega arith
+  tally_both p q (x ∷ xs) = grind (arith, common_steps, kept_more, one_more, tally_both p q xs)
 
   pub tally_same : (p q : X → Bool) (xs : List X) → AllByRecursion (λ x. p x ≡ q x) xs → tally p xs ≡ tally q xs
   tally_same p q [] same = refl
-  tally_same p q (x ∷ xs) same =
-      let rest = tally_same p q xs same.1 in
-      let one = one_more p x xs in
-      let other = one_more q x xs in
-      let here : bit (p x) ≡ bit (q x) = ap bit same.0 in
-      omega arith
+  tally_same p q (x ∷ xs) same = grind (arith, common_steps, one_more, tally_same p q xs same.1)
 
   pub tally_none : (p : X → Bool) (xs : List X) → AllByRecursion (λ x. p x ≡ false) xs → tally p xs ≡ 0
   tally_none p [] none = refl
-  tally_none p (x ∷ xs) none =
-      let rest = tally_none p xs none.1 in
-      let one = one_more p x xs in
-      let here : bit (p x) ≡ 0 = ap bit none.0 in
-      omega arith
+  tally_none p (x ∷ xs) none = grind (arith, common_steps, one_more, tally_none p xs none.1)
 
   tally-append : (p : X → Bool) (xs ys : List X) → tally p (xs ++ ys) ≡ tally p xs + tally p ys
-  tally-append p xs ys =
-      ap (λ (l : List X). length l) (filter-append p xs ys) ∙ length-append (filter p xs) (filter p ys)
+  tally-append p xs ys = grind (arith, common_steps, filter-append, length-append)
 
   -- of some kinds, what is of this kind and passes: it is there where the kind is one of these
   pub tally_of_kind : (kind : X → ℕ) (k : ℕ) (taken : ℕ → Bool) (p : X → Bool) (xs : List X) →
@@ -93,45 +80,24 @@ module _ {X : Type 0} where
 
 pub tally-map : {X Y : Type 0} (p : X → Bool) (f : Y → X) (ys : List Y) → tally p (map f ys) ≡ tally (λ y. p (f y)) ys
 tally-map p f [] = refl
-tally-map p f (y ∷ ys) =
-    let rest = tally-map p f ys in
-    let one = one_more p (f y) (map f ys) in
-    let other = one_more (λ z. p (f z)) y ys in
-    omega arith
+tally-map p f (y ∷ ys) = grind (arith, common_steps, one_more, tally-map p f ys)
 
 -- ## Numbers in a row
 
 none_in_row : (p : ℕ → Bool) (a n : ℕ) → ((i : ℕ) → a ≤ i → p i ≡ false) → tally p (range_with_len a n) ≡ 0
 none_in_row p a zero none = refl
-none_in_row p a (suc n) none =
-    let rest = none_in_row p (a + 1) n (λ i l. none i (omega arith)) in
-    let one = one_more p a (range_with_len (a + 1) n) in
-    let here : bit (p a) ≡ 0 = ap bit (none a (omega arith)) in
-    omega arith
+none_in_row p a (suc n) none = grind (arith, common_steps, one_more, none_in_row p (a + 1) n)
 
 -- one number passes, and it is among them
 one_in_row : (p : ℕ → Bool) (a n k : ℕ) → a ≤ k → k < a + n → p k ≡ true → ((i : ℕ) → p i ≡ true → i ≡ k) →
     tally p (range_with_len a n) ≡ 1
 one_in_row p a zero k from to here only = absurd (omega arith)
-one_in_row p a (suc n) k from to here only =
-    let one = one_more p a (range_with_len (a + 1) n) in
-    elim (cases_eq a k) [
-      | inl same ↦
-          let rest = none_in_row p (a + 1) n
-          (λ i l. false_from_ne_true (p i) (λ e. let at = only i e in absurd (omega arith))) in
-          let first : bit (p a) ≡ 1 = ap (λ (i : ℕ). bit (p i)) same ∙ ap bit here in
-          omega arith
-      | inr other ↦
-          let rest = one_in_row p (a + 1) n k (omega arith) (omega arith) here only in
-          let first : bit (p a) ≡ 0 = ap bit (false_from_ne_true (p a) (λ e. other (only a e))) in
-          omega arith
-    ]
+one_in_row p a (suc n) k from to here only = grind (arith, common_steps, none_in_row, one_in_row p (a + 1) n k)
 
 -- so it is one where something else holds too, and else none
 pub one_where : (b : Bool) (p : ℕ → Bool) (n k : ℕ) → (b ≡ true → k < n) → p k ≡ true → ((i : ℕ) → p i ≡ true → i ≡ k) →
     tally (λ i. b && p i) (range_with_len 0 n) ≡ bit b
-one_where true p n k inside here only =
-    let less = inside refl in one_in_row p 0 n k (omega arith) (omega arith) here only
+one_where true p n k inside here only = grind (arith, common_steps, one_in_row p 0 n k)
 one_where false p n k inside here only = none_in_row (λ i. false && p i) 0 n (λ i l. refl)
 
 -- what holds of each number of a row
@@ -142,28 +108,13 @@ all_in_row P a (suc n) each = (each a (omega arith), all_in_row P (a + 1) n (λ 
 no_list : {X : Type 0} (p : X → Bool) (f : ℕ → List X) (a n k : ℕ) → k < a →
     ((i : ℕ) → (i ≡ k → ⊥) → tally p (f i) ≡ 0) → tally p (flat_map f (range_with_len a n)) ≡ 0
 no_list p f a zero k past none = refl
-no_list p f a (suc n) k past none =
-    let parts = tally-append p (f a) (flat_map f (range_with_len (a + 1) n)) in
-    let rest = no_list p f (a + 1) n k (omega arith) none in
-    let first = none a (λ e. omega arith) in
-    omega arith
+no_list p f a (suc n) k past none = grind (arith, common_steps, tally-append, flat_map, no_list p f (a + 1) n k)
 
 -- of lists in a row one alone holds what passes
 pub one_list : {X : Type 0} (p : X → Bool) (f : ℕ → List X) (a n k : ℕ) → a ≤ k → k < a + n →
     ((i : ℕ) → (i ≡ k → ⊥) → tally p (f i) ≡ 0) → tally p (flat_map f (range_with_len a n)) ≡ tally p (f k)
 one_list p f a zero k from to none = absurd (omega arith)
-one_list p f a (suc n) k from to none =
-    let parts = tally-append p (f a) (flat_map f (range_with_len (a + 1) n)) in
-    elim (cases_eq a k) [
-      | inl same ↦
-          let rest = no_list p f (a + 1) n k (omega arith) none in
-          let first : tally p (f a) ≡ tally p (f k) = ap (λ (i : ℕ). tally p (f i)) same in
-          omega arith
-      | inr other ↦
-          let rest = one_list p f (a + 1) n k (omega arith) (omega arith) none in
-          let first = none a other in
-          omega arith
-    ]
+one_list p f a (suc n) k from to none = grind (arith, common_steps, no_list p f (a + 1) n k, one_list p f (a + 1) n k)
 
 -- ## Sums
 
@@ -174,28 +125,15 @@ and_joined false b c = refl
 module _ {X : Type 0} where
   pub sum_by_same : (f g : X → ℕ) (xs : List X) → AllByRecursion (λ x. f x ≡ g x) xs → sum_by f xs ≡ sum_by g xs
   sum_by_same f g [] same = refl
-  sum_by_same f g (x ∷ xs) same =
-      let rest = sum_by_same f g xs same.1 in
-      let here : f x ≡ g x = same.0 in
-      let one = sum_by-cons f x xs in
-      let other = sum_by-cons g x xs in
-      omega arith
+  sum_by_same f g (x ∷ xs) same = grind (arith, common_steps, sum_by-cons, sum_by_same f g xs same.1)
 
   pub sum_by_both : (f g : X → ℕ) (xs : List X) → sum_by (λ x. f x + g x) xs ≡ sum_by f xs + sum_by g xs
   sum_by_both f g [] = refl
-  sum_by_both f g (x ∷ xs) =
-      let rest = sum_by_both f g xs in
-      let one = sum_by-cons f x xs in
-      let other = sum_by-cons g x xs in
-      let both = sum_by-cons (λ y. f y + g y) x xs in
-      omega arith
+  sum_by_both f g (x ∷ xs) = grind (arith, common_steps, sum_by-cons, sum_by_both f g xs)
 
   none_summed : (xs : List X) → sum_by (λ (x : X). 0) xs ≡ 0
   none_summed [] = refl
-  none_summed (x ∷ xs) =
-      let rest = none_summed xs in
-      let one = sum_by-cons (λ (y : X). 0) x xs in
-      omega arith
+  none_summed (x ∷ xs) = grind (arith, common_steps, sum_by-cons, none_summed xs)
 
   -- two sums, in either order
   exchanged : {I : Type 0} (f : I → X → ℕ) (is : List I) (xs : List X) →
@@ -255,14 +193,13 @@ module _ {X : Type 0} (p : X → Bool) (outer inner : X → ℕ) (n : ℕ) (many
   unfolding in_part
   one_inner i [] all = tt
   one_inner i (x ∷ xs) all = (
-    tally_same (λ k. p x && (outer x == i && inner x == k)) (λ k. (p x && outer x == i) && inner x == k)
-        (range_with_len 0 (many i))
-        (all_in_row (λ k. (p x && (outer x == i && inner x == k)) ≡ ((p x && outer x == i) && inner x == k)) 0 (many i)
+    tally_same (λ k. p x && (outer x == i && inner x == k))
+        (λ k. (p x && outer x == i) && inner x == k) (range_with_len 0 (many i)) (all_in_row
+        (λ k. (p x && (outer x == i && inner x == k)) ≡ ((p x && outer x == i) && inner x == k)) 0 (many i)
         (λ k _. and_joined (p x) (outer x == i) (inner x == k)))
-        ∙ one_where (p x && outer x == i) (λ k. inner x == k) (many i) (inner x)
-        (λ e. subst (λ (m : ℕ). inner x < many m) (eqb-true (outer x) i (and_parts (p x) (outer x == i) e).1) all.0.1)
-        (eq-eqb (inner x) (inner x) refl)
-        (λ k e. sym (eqb-true (inner x) k e)),
+        ∙ one_where (p x && outer x == i) (λ k. inner x == k) (many i) (inner x) (λ e. subst
+        (λ (m : ℕ). inner x < many m) (eqb-true (outer x) i (and_parts (p x) (outer x == i) e).1) all.0.1)
+        (eq-eqb (inner x) (inner x) refl) (λ k e. sym (eqb-true (inner x) k e)),
     one_inner i xs all.1,
   )
 
@@ -271,10 +208,9 @@ module _ {X : Type 0} (p : X → Bool) (outer inner : X → ℕ) (n : ℕ) (many
       ≡ sum_by (λ i. sum_by (λ k. tally (λ x. p x && (outer x == i && inner x == k)) xs) (range_with_len 0 (many i)))
       (range_with_len 0 n)
   unfolding in_part
-  tally_by_parts xs all =
-      tally_by_part p (λ i x. p x && outer x == i) n xs (one_outer xs all)
+  tally_by_parts xs all = tally_by_part p (λ i x. p x && outer x == i) n xs (one_outer xs all)
       ∙ sum_by_same (λ i. tally (λ x. p x && outer x == i) xs)
       (λ i. sum_by (λ k. tally (in_part i k) xs) (range_with_len 0 (many i))) (range_with_len 0 n)
-      (all_in_row
-      (λ i. tally (λ x. p x && outer x == i) xs ≡ sum_by (λ k. tally (in_part i k) xs) (range_with_len 0 (many i))) 0 n
-      (λ i _. tally_by_part (λ x. p x && outer x == i) (in_part i) (many i) xs (one_inner i xs all)))
+      (all_in_row (λ i. tally (λ x. p x && outer x == i) xs
+      ≡ sum_by (λ k. tally (in_part i k) xs) (range_with_len 0 (many i))) 0 n (λ i _.
+      tally_by_part (λ x. p x && outer x == i) (in_part i) (many i) xs (one_inner i xs all)))

@@ -1,10 +1,10 @@
 -- What is still to come. The first arrival of a slot from this one on is the same among all arrivals as among those
 -- that are still to come. So in any slots from this one on no more cells come than are to come, and no more for an
 -- output or at an input than are to come for it or at it.
-use Rattle.std.proofs.Common.{◌≡◌, ℕ, zero, suc, ◌+◌, ◌≤◌, Bool, cond, List, [], ◌∷◌, ◌++◌, length, map, Option, Some, refl, sym, ap, ◌∙◌, arith}
-use Rattle.std.specs.Prelude.{◌==◌, find, nat_le}
+use Rattle.std.proofs.Common.{rules, ◌≡◌, ℕ, zero, suc, ◌+◌, ◌≤◌, List, [], ◌∷◌, ◌++◌, length, map, Option, refl, sym, ap, ◌∙◌, arith, cond, Some}
+use Rattle.std.proofs.lemmas.Grind.{common_steps}
+use Rattle.std.specs.Prelude.{find, ◌==◌, nat_le}
 use Rattle.std.specs.List.{range_with_len}
-use Rattle.std.specs.Option.{option_map}
 use Rattle.std.proofs.Math.Dec.{leb-zero}
 use Rattle.std.proofs.lemmas.Bool.{and_left, cond-false, cond_both, leb-false, ne_eqb}
 use Rattle.cq_base.specs.declared.cell.Cell.{Cell}
@@ -34,16 +34,12 @@ find_kept s t k le (a ∷ came) =
     find_kept s t k le came ∙ sym (cond-false (is_at t k a) (Some a) (find (is_at t k) came) other))
 
 at_kept : (s t k : ℕ) → s ≤ t → (came : List Arrival) → arriving_at (to_come s came) t k ≡ arriving_at came t k
-at_kept s t k le came =
-    ap (λ (o : Option Arrival). option_map (λ (a : Arrival). a.cell) o) (find_kept s t k le came)
+at_kept s t k le came = grind (arith, common_steps, find_kept)
 
 places_kept : (s t : ℕ) → s ≤ t → (came : List Arrival) (a n : ℕ) →
     map (arriving_at (to_come s came) t) (range_with_len a n) ≡ map (arriving_at came t) (range_with_len a n)
 places_kept s t le came a zero = refl
-places_kept s t le came a (suc n) =
-    ap (λ (o : Option Cell). o ∷ map (arriving_at (to_come s came) t) (range_with_len (a + 1) n))
-    (at_kept s t a le came)
-    ∙ ap (λ (l : List (Option Cell)). arriving_at came t a ∷ l) (places_kept s t le came (a + 1) n)
+places_kept s t le came a (suc n) = grind (arith, common_steps, at_kept, places_kept s t le came (a + 1) n)
 
 arriving_kept : (s t : ℕ) → s ≤ t → (came : List Arrival) (inputs : ℕ) → inputs ≡ 64 →
     arriving (to_come s came) t ≡ arriving came t
@@ -54,10 +50,7 @@ slots_kept : (s t : ℕ) → s ≤ t → (came : List Arrival) (n : ℕ) →
     arriving_from (to_come s came) t n ≡ arriving_from came t n
 unfolding arriving_from
 slots_kept s t le came zero = refl
-slots_kept s t le came (suc n) =
-    ap (λ (cells : List (Option Cell)). cells ∷ map (arriving (to_come s came)) (range_with_len (t + 1) n))
-    (arriving_kept s t le came 64 refl)
-    ∙ ap (λ (l : List (List (Option Cell))). arriving came t ∷ l) (slots_kept s (t + 1) (omega arith) came n)
+slots_kept s t le came (suc n) = cc (arriving_kept s t le came 64 refl, slots_kept s (t + 1) (omega arith) came n)
 
 -- and those of slots behind others are of all
 slots_behind : (came : List Arrival) (s n : ℕ) →
@@ -106,14 +99,9 @@ for_few j s n came =
 
 total_behind : (f : ℕ → ℕ) (a m n b k : ℕ) → b ≡ a + m → k ≡ m + n → total f b n ≤ total f a k
 unfolding total
-total_behind f a zero n b k e g =
-    let at : b ≡ a = omega arith in
-    let long : n ≡ k = omega arith in
-    let same : total f b n ≡ total f a k = ap (λ (x : ℕ). total f x n) at ∙ ap (λ (x : ℕ). total f a x) long in
-    omega arith
+total_behind f a zero n b k e g = grind (arith, common_steps, total)
 total_behind f a (suc m) n b zero e g = absurd (omega arith)
-total_behind f a (suc m) n b (suc k) e g =
-    let rest = total_behind f (a + 1) m n b k (omega arith) (omega arith) in omega arith
+total_behind f a (suc m) n b (suc k) e g = grind (arith, common_steps, total_behind f (a + 1) m n b k)
 
 found_kept : (s t k : ℕ) → s ≤ t → (came : List Arrival) → found (to_come s came) t k ≡ found came t k
 unfolding found
@@ -124,15 +112,11 @@ unfolding come_from
 from_few i s n came =
     let x = to_come s came in
     let kept : total (λ t. length (found x t i)) s n ≡ total (λ t. length (found came t i)) s n =
-    total_same (λ t. length (found x t i)) (λ t. length (found came t i)) s n
-    (λ t le. ap (λ (l : List Cell). length l) (found_kept s t i le came)) in
+    search (arith, rules, total_same, found, found_kept) in
     let behind = total_behind (λ t. length (found x t i)) 0 s n s (s + n) (omega arith) (omega arith) in
-    let few : total (λ t. length (found x t i)) 0 (s + n) ≤ number_of (is_from i) x = no_more_from i x (s + n) in
-    omega arith
+    search (arith, rules, total, found, no_more_from)
 
 -- from slot 0 on all are to come
 pub all_to_come : (came : List Arrival) → to_come 0 came ≡ came
 all_to_come [] = refl
-all_to_come (a ∷ came) =
-    ap (λ (b : Bool). cond b (a ∷ to_come 0 came) (to_come 0 came)) (leb-zero a.slot)
-    ∙ ap (λ (l : List Arrival). a ∷ l) (all_to_come came)
+all_to_come (a ∷ came) = grind (arith, common_steps, leb-zero, all_to_come came)

@@ -1,14 +1,14 @@
 -- Each text that is allowed is that of a state. From the front on: where a kind is due, the lines that lead to the
 -- end of the text begin with those of this kind, each of which tells what its fields say, and what is behind them
 -- leads to the end from where the next kind is due.
-use Rattle.std.proofs.Common.{◌≡◌, ℕ, ◌+◌, ◌<◌, ◌≤◌, List, [], ◌∷◌, ◌++◌, length, Option, refl, ap, sym, subst, ◌∙◌, arith, ⊎_elim, inl, inr}
+use Rattle.std.proofs.lemmas.Grind.{common_steps}
+use Rattle.std.proofs.Common.{◌≡◌, ℕ, ◌+◌, ◌<◌, ◌≤◌, List, [], ◌∷◌, ◌++◌, length, Option, refl, ap, subst, ◌∙◌, arith, ⊎_elim, inl, inr}
 use Rattle.std.specs.Prelude.{IsTrue, ◌⊎◌}
 use Rattle.std.specs.List.{AllByRecursion}
-use Rattle.cq_lines.specs.Texts.{Leads}
 use Rattle.cq_lines.specs.Ranges.{Within}
 use Rattle.cq_state.proofs.Written.{at, Completes}
 use Rattle.cq_state.specs.declared.kind.Kind.{Kind}
-use Rattle.cq_state.specs.StateText.{Line, Place, Comes, MayEnd, is_free, needed, ranges, further, ports_behind}
+use Rattle.cq_state.specs.StateText.{Line, is_free, needed, ranges, further, ports_behind}
 use Rattle.cq_state.specs.State.{numbered}
 
 abbrev pub line_of : Kind → List (Option ℕ) → Line
@@ -21,8 +21,7 @@ of_kind k x e = ap (λ j. line_of j x.fields) e
 ends : (k : Kind) (due : List Kind) (seen ports : ℕ) → Completes (at (k ∷ due) seen ports) [] →
     (needed ports k ≤ seen) × Completes (at due 0 ports) []
 unfolding Completes
-ends k due seen ports c = let whole : MayEnd (at (k ∷ due) seen ports) = subst MayEnd (sym c.1) c.2 in
-    (whole.0, (at due 0 ports, refl, whole.1))
+ends k due seen ports c = grind (arith, common_steps)
 
 -- a line of the kind that is due first, or all of its lines stand there
 pub record One (k : Kind) (due : List Kind) (seen ports : ℕ) (x : Line) (xs : List Line) : Type 0 where
@@ -35,14 +34,7 @@ goes_on : (k : Kind) (due : List Kind) (seen ports : ℕ) (x : Line) (xs : List 
     Completes (at (k ∷ due) seen ports) (x ∷ xs) →
     One k due seen ports x xs ⊎ ((needed ports k ≤ seen) × Completes (at due 0 ports) (x ∷ xs))
 unfolding Completes
-goes_on k due seen ports x xs c = ⊎_elim
-    (λ one. inl (record {
-      is = of_kind k x one.kind;
-      room = one.room;
-      within = one.within;
-      rest = (c.0, subst (λ (p : Place). Leads Comes p xs c.0) one.leads c.1.2, c.2);
-    }))
-    (λ later. inr (later.0, (c.0, (c.1.0, later.1, c.1.2), c.2))) c.1.1
+goes_on k due seen ports x xs c = grind (arith, common_steps, of_kind)
 
 -- ## One line
 
@@ -50,10 +42,7 @@ module _ (k : Kind) (not_free : IsTrue (is_free k) → ⊥) (needs_one : (ports 
     Kind) where
   no_more : (ports : ℕ) (xs : List Line) → Completes (at (k ∷ due) 1 ports) xs → Completes (at due 0 ports) xs
   no_more ports [] c = (ends k due 1 ports c).1
-  no_more ports (x ∷ xs) c = ⊎_elim
-      (λ one. ⊎_elim (λ free. absurd (not_free free)) (λ low. let needs = needs_one ports in absurd (omega arith))
-      one.room)
-      (λ later. later.1) (goes_on k due 1 ports x xs c)
+  no_more ports (x ∷ xs) c = grind (arith, common_steps, goes_on k due 1 ports x xs c)
 
   pub record OneTold (ports : ℕ) (xs : List Line) : Type 0 where
     pub fields : List (Option ℕ)
@@ -64,16 +53,8 @@ module _ (k : Kind) (not_free : IsTrue (is_free k) → ⊥) (needs_one : (ports 
 
   pub one_told : (ports : ℕ) (xs : List Line) → Completes (at (k ∷ due) 0 ports) xs → OneTold ports xs
   one_told ports [] c = let enough = (ends k due 0 ports c).0 in let needs = needs_one ports in absurd (omega arith)
-  one_told ports (x ∷ xs) c = ⊎_elim
-      (λ one. record {
-        fields = x.fields;
-        behind = xs;
-        is = ap (λ y. y ∷ xs) one.is;
-        within = one.within;
-        rest = no_more (ports_behind ports k x.fields) xs one.rest;
-      })
-      (λ later. let enough = later.0 in let needs = needs_one ports in absurd (omega arith))
-      (goes_on k due 0 ports x xs c)
+  one_told ports (x ∷ xs) c =
+      grind (arith, common_steps, no_more (ports_behind ports k x.fields) xs, goes_on k due 0 ports x xs c)
 
 -- ## Many lines
 

@@ -1,7 +1,8 @@
 -- What the fields of a line tell. Fields are in the ranges of a kind of line exactly where they are the numbers of
 -- what the line tells, and these are in their own ranges. Fields are taken one by one, for each range asks for its
 -- own.
-use Rattle.std.proofs.Common.{◌≡◌, ℕ, zero, suc, ◌-◌, ◌^◌, ◌<◌, ◌≤◌, true, false, List, [], ◌∷◌, length, map, get_or, Option, None, Some, refl, ap, sym, ◌∙◌, arith}
+use Rattle.std.proofs.Common.{rules, ◌≡◌, ℕ, zero, suc, ◌-◌, ◌^◌, ◌<◌, ◌≤◌, true, false, List, [], ◌∷◌, length, map, get_or, Option, None, Some, refl, ap, sym, ◌∙◌, arith}
+use Rattle.std.proofs.lemmas.Grind.{common_steps}
 use Rattle.std.proofs.lemmas.List.{length-map}
 use Rattle.std.specs.Prelude.{⊤, IfSome, unwrap_or}
 use Rattle.std.specs.List.{AllByRecursion}
@@ -55,9 +56,7 @@ slack_within (Some n) is = let small : n < 2 ^ 63 = is in (omega arith, omega ar
 
 pub seen_within : (i : ℕ) (x : Seen) → i < 2 ^ 128 → IsSeen x →
     Within (between i i ∷ count ∷ count_or_none ∷ []) 0 (Some i ∷ Some x.longest ∷ x.slack ∷ [])
-seen_within i x small is =
-    let longest : x.longest < 2 ^ 63 = is.0 in
-    fits_within _ _ (own_within i small, ((omega arith, omega arith, omega arith), (slack_within x.slack is.1, tt)))
+seen_within i x small is = grind (arith, common_steps, fits_within, own_within, slack_within)
 
 numbers_within : (ns : List ℕ) → AllByRecursion (λ n. n < 2 ^ 128) ns → (i : ℕ) → i < length ns →
     InRange any_number (get_or (map Some ns) i None)
@@ -86,21 +85,7 @@ count_in_range : (n : ℕ) → IsCount n → InRange count (Some n)
 count_in_range n is = let small : n < 2 ^ 63 = is in (omega arith, omega arith, omega arith)
 
 named_fits : (ports : ℕ) (c : Named) → ports ≤ 64 → IsNamed ports c → Fits (cell ports) (map Some (cell_numbers c))
-named_fits ports c few is =
-    let level = is.level in
-    let rank = is.rank in (
-      (omega arith, level, omega arith),
-      (
-        (omega arith, omega arith, rank),
-        (
-          count_in_range c.slot is.slot,
-          (
-            low_in_range ports c.input few is.input,
-            tt,
-          ),
-        ),
-      ),
-    )
+named_fits ports c few is = grind (arith, common_steps, count_in_range, low_in_range)
 
 pub named_within : (ports : ℕ) (c : Named) → ports ≤ 64 → IsNamed ports c →
     Within (cell ports) 0 (map Some (cell_numbers c))
@@ -112,33 +97,11 @@ sent_within ports d few is = fits_within _ _ (count_in_range d.slot is.0, named_
 
 pub moved_within : (ports : ℕ) (t : Transfer) → ports ≤ 64 → IsMoved ports t →
     Within (ranges ports 0 Moved) 0 (map Some (t.slot ∷ t.phase ∷ t.input ∷ t.output ∷ t.id.packet ∷ t.id.index ∷ []))
-moved_within ports t few is =
-    let phase = is.phase in
-    let packet = is.packet in
-    let index = is.index in
-    fits_within _ _ (
-      count_in_range t.slot is.slot,
-      (
-        (phase.0, phase.1, omega arith),
-        (
-          low_in_range ports t.input few is.input,
-          (
-            low_in_range ports t.output few is.output,
-            ((omega arith, omega arith, omega arith), ((omega arith, omega arith, omega arith), tt)),
-          ),
-        ),
-      ),
-    )
+moved_within ports t few is = grind (arith, common_steps, fits_within, count_in_range, low_in_range)
 
 pub shape_within : (h : Head) → IsHead h → Within (ranges 0 0 Shape) 0 (map Some (h.ports ∷ h.classes ∷ h.t0 ∷ h.total ∷
     []))
-shape_within h is =
-    let ports = is.ports in
-    let classes = is.classes in
-    fits_within _ _ (
-      (ports.0, ports.1, omega arith),
-      ((classes.0, classes.1, omega arith), (count_in_range h.t0 is.t0, (count_in_range h.total is.total, tt))),
-    )
+shape_within h is = grind (arith, common_steps, fits_within, count_in_range)
 
 pub count_within : (n : ℕ) → IsCount n → Within (count ∷ []) 0 (Some n ∷ [])
 count_within n is = fits_within _ _ (count_in_range n is, tt)
@@ -163,8 +126,7 @@ all_first (f ∷ fs) = ap (λ gs. f ∷ gs) (all_first fs ∙ sym (first_behind 
 
 -- the fields of a line without further numbers
 spread : (rs : List Range) (fs : List (Option ℕ)) → Within rs 0 fs → fs ≡ first_from fs 0 (length rs)
-spread rs fs w = let enough = w.enough in let few = w.few in let size : length fs ≡ length rs = omega arith in
-    all_first fs ∙ ap (first_from fs 0) size
+spread rs fs w = grind (arith, common_steps, all_first)
 
 -- where no `-` may stand, a number within its range stands
 record IsNumber (fs : List (Option ℕ)) (i least most : ℕ) : Type 0 where
@@ -180,47 +142,21 @@ number_told least most (Some n) is = (refl, is.0, is.1, is.2)
 
 is_number : (fs : List (Option ℕ)) (i least most : ℕ) → InRange (between least most) (get_or fs i None) →
     IsNumber fs i least most
-is_number fs i least most h = let told = number_told least most (get_or fs i None) h in
-    record { is = told.0; low = told.1; high = told.2; fits = told.3 }
+is_number fs i least most h = grind (arith, common_steps, number_told)
 
 pub version_told : (fs : List (Option ℕ)) → Within (between 1 1 ∷ []) 0 fs → fs ≡ Some 1 ∷ []
-version_told fs w =
-    let enough : 1 ≤ length fs = w.enough in
-    let whole : fs ≡ get_or fs 0 None ∷ [] = spread (between 1 1 ∷ []) fs w in
-    let one = is_number fs 0 1 1 (w.each 0 (omega arith)) in
-    let low = one.low in
-    let high = one.high in
-    let same : number_at fs 0 ≡ 1 = omega arith in
-    whole ∙ ap (λ f. f ∷ []) (one.is ∙ ap Some same)
+version_told fs w = grind (arith, common_steps, spread, is_number, w.each)
 
 pub end_told : (fs : List (Option ℕ)) → Within [] 0 fs → fs ≡ []
 end_told fs w = spread [] fs w
 
 pub count_told : (fs : List (Option ℕ)) → Within (count ∷ []) 0 fs → (fs ≡ Some (number_at fs 0) ∷ []) × IsCount
     (number_at fs 0)
-count_told fs w =
-    let enough : 1 ≤ length fs = w.enough in
-    let whole : fs ≡ get_or fs 0 None ∷ [] = spread (count ∷ []) fs w in
-    let one = is_number fs 0 0 (2 ^ 63 - 1) (w.each 0 (omega arith)) in
-    let high = one.high in
-    (whole ∙ ap (λ f. f ∷ []) one.is, omega arith)
+count_told fs w = grind (arith, common_steps, spread, is_number, w.each)
 
 pub counts_told : (fs : List (Option ℕ)) → Within (count ∷ count ∷ []) 0 fs → (fs ≡ Some (number_at fs 0) ∷ Some
     (number_at fs 1) ∷ []) × IsCount (number_at fs 0) × IsCount (number_at fs 1)
-counts_told fs w =
-    let enough : 2 ≤ length fs = w.enough in
-    let whole : fs ≡ get_or fs 0 None ∷ get_or fs 1 None ∷ [] = spread (count ∷ count ∷ []) fs w in
-    let first = is_number fs 0 0 (2 ^ 63 - 1) (w.each 0 (omega arith)) in
-    let second = is_number fs 1 0 (2 ^ 63 - 1) (w.each 1 (omega arith)) in
-    let e = first.is in
-    let f = second.is in
-    let low = first.high in
-    let high = second.high in (
-      whole ∙ ap (λ g. g ∷ get_or fs 1 None ∷ []) e ∙ ap (λ g. Some (number_at fs 0) ∷ g ∷ []) f,
-      omega arith,
-      omega
-          arith,
-    )
+counts_told fs w = grind (arith, common_steps, spread, is_number, w.each)
 
 four : (fs : List (Option ℕ)) (a b c d : Option ℕ) (w x y z : ℕ) → fs ≡ a ∷ b ∷ c ∷ d ∷ [] → a ≡ Some w →
     b ≡ Some x → c ≡ Some y → d ≡ Some z → fs ≡ map Some (w ∷ x ∷ y ∷ z ∷ [])
@@ -243,51 +179,15 @@ pub record IsShape (fs : List (Option ℕ)) : Type 0 where
   pub total : IsCount (number_at fs 3)
 
 pub shape_told : (fs : List (Option ℕ)) → Within (ranges 0 0 Shape) 0 fs → IsShape fs
-shape_told fs w =
-    let enough : 4 ≤ length fs = w.enough in
-    let ports = is_number fs 0 1 64 (w.each 0 (omega arith)) in
-    let classes = is_number fs 1 1 16 (w.each 1 (omega arith)) in
-    let t0 = is_number fs 2 0 (2 ^ 63 - 1) (w.each 2 (omega arith)) in
-    let total = is_number fs 3 0 (2 ^ 63 - 1) (w.each 3 (omega arith)) in
-    let early = t0.high in
-    let much = total.high in
-    record {
-      fields = four fs _ _ _ _ _ _ _ _ (spread (ranges 0 0 Shape) fs w) ports.is classes.is t0.is total.is;
-      ports = (ports.low, ports.high);
-      classes = (classes.low, classes.high);
-      t0 = omega arith;
-      total = omega arith;
-    }
+shape_told fs w = grind (arith, common_steps, is_number, w.each, four, spread)
 
 pub named_told : (ports : ℕ) (fs : List (Option ℕ)) → 1 ≤ ports → Within (cell ports) 0 fs →
     (fs ≡ map Some (cell_numbers (named_of fs 0))) × IsNamed ports (named_of fs 0)
-named_told ports fs some w =
-    let enough : 4 ≤ length fs = w.enough in
-    let level = is_number fs 0 0 15 (w.each 0 (omega arith)) in
-    let rank = is_number fs 1 0 (2 ^ 128 - 1) (w.each 1 (omega arith)) in
-    let slot = is_number fs 2 0 (2 ^ 63 - 1) (w.each 2 (omega arith)) in
-    let input = is_number fs 3 0 (ports - 1) (w.each 3 (omega arith)) in
-    let early = slot.high in
-    let low = input.high in (
-      four fs _ _ _ _ _ _ _ _ (spread (cell ports) fs w) level.is rank.is slot.is input.is,
-      record { level = level.high; rank = rank.fits; slot = omega arith; input = omega arith },
-    )
+named_told ports fs some w = grind (arith, common_steps, is_number, w.each, four, spread)
 
 pub sent_told : (ports : ℕ) (fs : List (Option ℕ)) → 1 ≤ ports → Within (count ∷ cell ports) 0 fs →
     (fs ≡ map Some ((sent_of fs).slot ∷ cell_numbers (sent_of fs).cell)) × IsSent ports (sent_of fs)
-sent_told ports fs some w =
-    let enough : 5 ≤ length fs = w.enough in
-    let sent = is_number fs 0 0 (2 ^ 63 - 1) (w.each 0 (omega arith)) in
-    let level = is_number fs 1 0 15 (w.each 1 (omega arith)) in
-    let rank = is_number fs 2 0 (2 ^ 128 - 1) (w.each 2 (omega arith)) in
-    let slot = is_number fs 3 0 (2 ^ 63 - 1) (w.each 3 (omega arith)) in
-    let input = is_number fs 4 0 (ports - 1) (w.each 4 (omega arith)) in
-    let late = sent.high in
-    let early = slot.high in
-    let low = input.high in (
-      five fs _ _ _ _ _ _ _ _ _ _ (spread (count ∷ cell ports) fs w) sent.is level.is rank.is slot.is input.is,
-      (omega arith, record { level = level.high; rank = rank.fits; slot = omega arith; input = omega arith }),
-    )
+sent_told ports fs some w = grind (arith, common_steps, is_number, w.each, five, spread)
 
 pub moved_told : (ports : ℕ) (fs : List (Option ℕ)) → 1 ≤ ports → Within (ranges ports 0 Moved) 0 fs →
     (fs ≡ map Some (number_at fs 0 ∷ number_at fs 1 ∷ number_at fs 2 ∷ number_at fs 3 ∷ number_at fs 4 ∷ number_at fs
@@ -299,24 +199,7 @@ moved_told ports fs some w =
     let input = is_number fs 2 0 (ports - 1) (w.each 2 (omega arith)) in
     let output = is_number fs 3 0 (ports - 1) (w.each 3 (omega arith)) in
     let packet = is_number fs 4 0 (2 ^ 32 - 1) (w.each 4 (omega arith)) in
-    let index = is_number fs 5 0 (2 ^ 32 - 1) (w.each 5 (omega arith)) in
-    let late = slot.high in
-    let from = input.high in
-    let to = output.high in
-    let high = packet.high in
-    let far = index.high in (
-      six fs _ _ _ _ _ _ _ _ _ _ _ _ (spread (ranges ports 0 Moved) fs w) slot.is phase.is input.is output.is
-          packet.is index.is,
-      record {
-        slot = omega arith;
-        phase = (phase.low, phase.high);
-        input = omega arith;
-        output = omega arith;
-        packet = omega arith;
-        index = omega arith;
-        own = refl;
-      },
-    )
+    let index = is_number fs 5 0 (2 ^ 32 - 1) (w.each 5 (omega arith)) in search (arith, rules, six, spread)
 
 slack_told : (f : Option ℕ) → InRange count_or_none f → IfSome f IsCount
 slack_told None is = tt
@@ -324,20 +207,7 @@ slack_told (Some n) is = let high : n ≤ 2 ^ 63 - 1 = is.1 in omega arith
 
 pub seen_told : (i : ℕ) (fs : List (Option ℕ)) → Within (between i i ∷ count ∷ count_or_none ∷ []) 0 fs →
     (fs ≡ Some i ∷ Some (number_at fs 1) ∷ get_or fs 2 None ∷ []) × IsSeen (seen_of fs)
-seen_told i fs w =
-    let enough : 3 ≤ length fs = w.enough in
-    let whole : fs ≡ get_or fs 0 None ∷ get_or fs 1 None ∷ get_or fs 2 None ∷ [] = spread (between i i ∷ count
-    ∷ count_or_none ∷ []) fs w in
-    let own = is_number fs 0 i i (w.each 0 (omega arith)) in
-    let longest = is_number fs 1 0 (2 ^ 63 - 1) (w.each 1 (omega arith)) in
-    let low = own.low in
-    let high = own.high in
-    let far = longest.high in
-    let same : number_at fs 0 ≡ i = omega arith in (
-      whole ∙ ap (λ f. f ∷ get_or fs 1 None ∷ get_or fs 2 None ∷ []) (own.is ∙ ap Some same)
-          ∙ ap (λ f. Some i ∷ f ∷ get_or fs 2 None ∷ []) longest.is,
-      (omega arith, slack_told (get_or fs 2 None) (w.each 2 (omega arith))),
-    )
+seen_told i fs w = grind (arith, common_steps, spread, is_number, w.each, slack_told)
 
 rest_told : (gs : List (Option ℕ)) → ((i : ℕ) → i < length gs → InRange any_number (get_or gs i None)) →
     (gs ≡ map Some (map (λ f. unwrap_or f 0) gs)) × AllByRecursion (λ n. n < 2 ^ 128) (map (λ f. unwrap_or f 0) gs)
@@ -355,10 +225,4 @@ rank_told j (f ∷ gs) w =
     let low = own.1 in
     let high = own.2 in
     let same : unwrap_or f 0 ≡ j = omega arith in
-    let rest = rest_told gs (λ i inside. w.each (suc i) (omega arith)) in
-    let few = w.few in
-    let size : length (map (λ f. unwrap_or f 0) gs) ≡ length gs = length-map gs (λ f. unwrap_or f 0) in (
-      ap (λ g. g ∷ gs) (own.0 ∙ ap Some same)
-          ∙ ap (λ hs. Some j ∷ hs) rest.0,
-      (omega arith, rest.1),
-    )
+    let rest = rest_told gs (λ i inside. w.each (suc i) (omega arith)) in search (arith, rules, length-map)

@@ -1,7 +1,8 @@
 -- A state's text is read in one way. The words of the kinds differ, and each ends where its first field or the line
 -- ends, so a line tells its kind, and then its fields. The kinds that are due rise in the table, so a kind is due
 -- once, and a line leads to one place.
-use Rattle.std.proofs.Common.{◌≡◌, ℕ, ◌<◌, ◌≤◌, ltb, eqb, cond, List, [], ◌∷◌, ◌++◌, get_or, Option, refl, ap, sym, subst, ◌∙◌, arith, ⊎_elim, append_assoc}
+use Rattle.std.proofs.lemmas.Grind.{common_steps}
+use Rattle.std.proofs.Common.{rules, ◌≡◌, ℕ, ◌<◌, ◌≤◌, ltb, eqb, cond, List, [], ◌∷◌, ◌++◌, get_or, Option, refl, ap, sym, subst, ◌∙◌, arith, append_assoc}
 use Rattle.std.specs.Prelude.{⊤}
 use Rattle.std.proofs.lemmas.List.{append-nil}
 use Rattle.cq_lines.specs.Lines.{line, ending}
@@ -59,13 +60,10 @@ kind_of_word Moved = refl
 kind_of_word End = refl
 
 word_of_line : (k : Kind) (fs : List (Option ℕ)) (more : List ℕ) → first_word (line (word k) fs ++ more) ≡ word k ++ []
-word_of_line k fs more = ap first_word (append_assoc (word k) (ending fs) more) ∙ word_first k (ending fs ++ more)
-    ∙ ap (λ t. word k ++ t) (no_word fs more)
+word_of_line k fs more = grind (arith, common_steps, append_assoc, word_first, no_word)
 
 one_kind : (j k : Kind) (fs gs : List (Option ℕ)) (a b : List ℕ) → line (word j) fs ++ a ≡ line (word k) gs ++ b → j ≡ k
-one_kind j k fs gs a b e =
-    let same = sym (word_of_line j fs a) ∙ ap first_word e ∙ word_of_line k gs b in
-    sym (kind_of_word j) ∙ ap kind_of (sym (append-nil (word j)) ∙ same ∙ append-nil (word k)) ∙ kind_of_word k
+one_kind j k fs gs a b e = grind (arith, common_steps, word_of_line, kind_of_word, append-nil)
 
 same_line : (x y : Line) (a b : List ℕ) → spelled x ++ a ≡ spelled y ++ b → (x ≡ y) × (a ≡ b)
 same_line x y a b e =
@@ -104,32 +102,21 @@ above_less m n (k ∷ due) l a = let high = a.0 in (omega arith, a.1)
 comes_above : (n : ℕ) (due : List Kind) (seen ports : ℕ) (x : Line) (next : Place) → Above n due →
     ComesAt due seen ports x next → n < order x.kind
 comes_above n [] seen ports x next a c = absurd c
-comes_above n (k ∷ due) seen ports x next a c =
-    ⊎_elim (λ one. let high = a.0 in let is = ap order one.kind in omega arith)
-    (λ later. let high = a.0 in let higher = comes_above (order k) due 0 ports x next a.1 later.1 in omega arith) c
+comes_above n (k ∷ due) seen ports x next a c = search (rules, comes_above (order k) due 0 ports x next a.1)
 
 due_once : (k : Kind) (due : List Kind) (seen ports : ℕ) (x : Line) (next : Place) → Above (order k) due →
     ComesAt due seen ports x next → x.kind ≡ k → ⊥
-due_once k due seen ports x next a c e = let high = comes_above (order k) due seen ports x next a c in
-    let is = ap order e in omega arith
+due_once k due seen ports x next a c e = grind (arith, common_steps, comes_above)
 
 one_place : (n : ℕ) (due : List Kind) (seen ports : ℕ) (x : Line) (q r : Place) → Above n due →
     ComesAt due seen ports x q → ComesAt due seen ports x r → q ≡ r
 one_place n [] seen ports x q r a c d = absurd c
-one_place n (k ∷ due) seen ports x q r a c d =
-    ⊎_elim
-    (λ one. ⊎_elim (λ other. one.leads ∙ sym other.leads) (λ later. absurd (due_once k due 0 ports x r a.1 later.1
-    one.kind)) d)
-    (λ later. ⊎_elim (λ other. absurd (due_once k due 0 ports x q a.1 later.1 other.kind)) (λ also. one_place (order
-    k) due 0 ports x q r a.1 later.1 also.1) d) c
+one_place n (k ∷ due) seen ports x q r a c d = search (rules, due_once, one_place (order k) due 0 ports x q r a.1)
 
 still_above : (n : ℕ) (due : List Kind) (seen ports : ℕ) (x : Line) (q : Place) → Above n due →
     ComesAt due seen ports x q → Above n q.due
 still_above n [] seen ports x q a c = absurd c
-still_above n (k ∷ due) seen ports x q a c =
-    ⊎_elim (λ one. subst (λ (p : Place). Above n p.due) (sym one.leads) a)
-    (λ later. let high = a.0 in above_less n (order k) q.due (omega arith) (still_above (order k) due 0 ports x q a.1
-    later.1)) c
+still_above n (k ∷ due) seen ports x q a c = search (rules, above_less, still_above (order k) due 0 ports x q a.1)
 
 rising : Above 0 kinds
 unfolding order

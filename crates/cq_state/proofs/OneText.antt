@@ -1,6 +1,7 @@
 -- States and texts stand one for one. What the lines of a text that is allowed tell is a state in range, and its
 -- lines are those of the text. And who gathers what the lines of a state tell has the state again, so states with
 -- the same lines are the same.
+use Rattle.std.proofs.lemmas.Grind.{common_steps}
 use Rattle.std.proofs.Common.{◌≡◌, ℕ, ◌+◌, ◌≤◌, false, true, List, [], ◌∷◌, ◌++◌, length, map, drop, Option, Some, refl, ap, sym, subst, ◌∙◌, arith, rules, append_assoc, ⊎_elim, inl, inr}
 use Rattle.std.specs.Prelude.{IsTrue, unwrap_or, ◌⊎◌}
 use Rattle.std.specs.List.{AllByRecursion}
@@ -31,9 +32,7 @@ module _ {X : Type 0} (line : ℕ → X → Line) (put : State → List X → St
   part_adds : (xs : List X) (n : ℕ) (s : State) (rest : List Line) → AllByRecursion Is xs →
       gathered s (numbered line n xs ++ rest) ≡ gathered (put s xs) rest
   part_adds [] n s rest all = ap (λ t. gathered t rest) (sym (none s))
-  part_adds (x ∷ xs) n s rest all =
-      ap (λ t. gathered t (numbered line (n + 1) xs ++ rest)) (one s n x all.0)
-      ∙ part_adds xs (n + 1) (put s (x ∷ [])) rest all.1 ∙ ap (λ t. gathered t rest) (more s x xs)
+  part_adds (x ∷ xs) n s rest all = grind (arith, common_steps, part_adds xs (n + 1) (put s (x ∷ [])) rest all.1)
 
 -- lines without numbers
 abbrev plain : {X : Type 0} → (X → Line) → ℕ → X → Line
@@ -74,9 +73,7 @@ of_parts head inputs ranks listed buffered sent moved =
 
 inputs_add : (xs : List Seen) (s : State) (rest : List Line) → gathered s (numbered input_line 0 xs ++ rest)
     ≡ gathered (with_inputs s xs) rest
-inputs_add xs s rest = part_adds input_line with_inputs (λ _. Unit {0}) (λ t. ap (λ l. record t { inputs = l })
-    (append-nil t.inputs)) (λ t x ys. ap (λ l. record t { inputs = l }) (append_assoc t.inputs (x ∷ []) ys)) (λ t n x _.
-    refl) xs 0 s rest (all_any xs)
+inputs_add xs s rest = search (arith, rules, part_adds input_line with_inputs, append-nil, append_assoc, all_any xs)
 
 same_numbers : (ns : List ℕ) → map (λ f. unwrap_or f 0) (map Some ns) ≡ ns
 same_numbers [] = refl
@@ -84,10 +81,8 @@ same_numbers (n ∷ ns) = ap (λ ms. n ∷ ms) (same_numbers ns)
 
 ranks_add : (xs : List (List ℕ)) (s : State) (rest : List Line) → gathered s (numbered rank_line 0 xs ++ rest)
     ≡ gathered (with_ranks s xs) rest
-ranks_add xs s rest = part_adds rank_line with_ranks (λ _. Unit {0}) (λ t. ap (λ l. record t { ranks = l }) (append-nil
-    t.ranks)) (λ t x ys. ap (λ l. record t { ranks = l }) (append_assoc t.ranks (x ∷ []) ys)) (λ t n x _. ap (λ ns.
-    record
-    t { ranks = t.ranks ++ ns ∷ [] }) (same_numbers x)) xs 0 s rest (all_any xs)
+ranks_add xs s rest =
+    search (arith, rules, part_adds rank_line with_ranks, append-nil, append_assoc, same_numbers, all_any xs)
 
 listed_add : (xs : List Named) (s : State) (rest : List Line) → gathered s (map (cell_line Listed) xs ++ rest)
     ≡ gathered (with_listed s xs) rest
@@ -131,9 +126,7 @@ all_own ports (t ∷ xs) all = (all.0.own, all_own ports xs all.1)
 
 pub state_again : (s : State) → IsInRange s → gathered nothing (state_lines s) ≡ s
 unfolding state_lines
-state_again s is =
-    inputs_add s.inputs (record nothing { head = s.head }) _ ∙ ranks_add s.ranks _ _ ∙ listed_add s.listed _ _
-    ∙ buffered_add s.buffered _ _ ∙ sent_add s.sent _ _ ∙ moved_add s.moved _ _ (all_own s.head.ports s.moved is.moved)
+state_again s is = search (rules, inputs_add, ranks_add, listed_add, buffered_add, sent_add, moved_add, all_own)
 
 -- ## What a text tells
 

@@ -1,6 +1,7 @@
 -- Reading a state's text line by line. What is gathered is what the lines that were read tell, and one line more adds
 -- what it tells. Where the text may end, its lines are those of a state, so what is gathered is that state.
-use Rattle.std.proofs.Common.{◌≡◌, ◌≢◌, ℕ, ◌+◌, ◌^◌, ◌<◌, ◌≤◌, true, List, [], ◌∷◌, ◌++◌, length, refl, ap, sym, subst, ◌∙◌, arith, ⊎_elim, length-append}
+use Rattle.std.proofs.lemmas.Grind.{common_steps}
+use Rattle.std.proofs.Common.{◌≡◌, ◌≢◌, ℕ, ◌+◌, ◌^◌, ◌<◌, ◌≤◌, true, List, [], ◌∷◌, ◌++◌, length, refl, ap, sym, subst, ◌∙◌, arith, length-append}
 use Rattle.std.specs.Prelude.{◌==◌}
 use Rattle.std.specs.List.{flat_map}
 use Rattle.std.proofs.lemmas.Bool.{eqb-true}
@@ -23,9 +24,7 @@ use Rattle.cq_state.specs.StateText.{Line, Place, ComesAt, Comes, MayEnd, spelle
 pub low_line : (due : List Kind) (seen ports : ℕ) (x : Line) (next : Place) → ports < 2 ^ 16 →
     ComesAt due seen ports x next → AreLow x.kind x.fields
 low_line [] seen ports x next few c = absurd c
-low_line (k ∷ due) seen ports x next few c = ⊎_elim
-    (λ one. subst (λ j. AreLow j x.fields) (sym one.kind) (are_low k x.fields ports seen few one.within))
-    (λ later. low_line due 0 ports x next few later.1) c
+low_line (k ∷ due) seen ports x next few c = grind (arith, common_steps, are_low, low_line due 0 ports x next few)
 
 gathered_more : (s : State) (xs : List Line) (x : Line) → gathered s (xs ++ x ∷ []) ≡ added x.kind x.fields (gathered s
     xs)
@@ -55,8 +54,7 @@ line_told text told after line place next rest behind x had comes e adds shorter
 
 none_left : (rest : List ℕ) → true ≡ (length rest == 0) → rest ≡ []
 none_left [] e = refl
-none_left (c ∷ rest) e = let size : length (c ∷ rest) ≡ 0 = eqb-true (length (c ∷ rest)) 0 (sym e) in absurd (omega
-    arith)
+none_left (c ∷ rest) e = grind (arith, common_steps, eqb-true)
 
 pub state_told : (text : List ℕ) (told : Gathered) (line : ℕ) (place : kept.Place) (rest : List ℕ) (s : State) →
     ReadSoFar text told line place rest → true ≡ (length rest == 0) → MayEnd (place_of place) → s ≡ state_of told →
@@ -65,23 +63,13 @@ unfolding Completes
 state_told text told line place rest s had none may is =
     let each = each_told had.lines (place_of place, had.so_far.allowed, may) in
     let same : s ≡ each.0 = is ∙ had.gives ∙ ap (gathered nothing) each.2 ∙ state_again each.0 each.1 in
-    let whole : text ≡ flat_map spelled had.lines = had.so_far.spelled ∙ ap (λ r. flat_map spelled had.lines ++ r)
-    (none_left rest none) ∙ append-nil (flat_map spelled had.lines) in (
-      subst IsInRange (sym same) each.1,
-      whole ∙ ap (flat_map spelled) each.2 ∙ ap state_text (sym same),
-    )
+    let whole : text ≡ flat_map spelled had.lines =
+    had.so_far.spelled ∙ ap (λ r. flat_map spelled had.lines ++ r) (none_left rest none)
+    ∙ append-nil (flat_map spelled had.lines) in
+    (subst IsInRange (sym same) each.1, whole ∙ ap (flat_map spelled) each.2 ∙ ap state_text (sym same))
 
 pub fault_told : (text : List ℕ) (told : Gathered) (line : ℕ) (place : kept.Place) (rest : List ℕ) →
     ReadSoFar text told line place rest → ((x : Line) (next : Place) (more : List ℕ) →
     Comes (place_of place) x next → rest ≢ spelled x ++ more) → (rest ≡ [] → MayEnd (place_of place) → ⊥) →
     IsStateFault text line
-fault_told text told line place rest had no_line no_end = record {
-  before = had.lines;
-  last = place_of place;
-  rest = rest;
-  number = had.number;
-  allowed = had.so_far.allowed;
-  spelled = had.so_far.spelled;
-  no_line = λ x more next comes. no_line x next more comes;
-  no_end = no_end;
-}
+fault_told text told line place rest had no_line no_end = grind (arith, common_steps)

@@ -1,5 +1,6 @@
 -- Writing a state's text part by part. A part is put line by line. Parts that are put one after another are one
 -- text, which is seen from the end back: what is put last stands behind what was put before it.
+use Rattle.std.proofs.lemmas.Grind.{common_steps}
 use Rattle.std.proofs.Common.{◌≡◌, ℕ, ◌+◌, ◌<◌, ◌≤◌, List, [], ◌∷◌, ◌++◌, length, map, take, get_or, Option, ap, sym, ◌∙◌, arith, append_assoc, length-take}
 use Rattle.std.specs.List.{flat_map}
 use Rattle.std.proofs.lemmas.List.{append-nil, map-append, take_more, take_all}
@@ -22,9 +23,7 @@ one_line x = append-nil (spelled x)
 -- what is put behind a part stands with it behind what was there before
 put_behind : (old now new : List ℕ) (xs ys : List Line) → now ≡ old ++ text xs → new ≡ now ++ text ys →
     new ≡ old ++ text (xs ++ ys)
-put_behind old now new xs ys e f =
-    f ∙ ap (λ t. t ++ text ys) e ∙ append_assoc old (text xs) (text ys)
-    ∙ ap (λ t. old ++ t) (sym (flat_map-append spelled xs ys))
+put_behind old now new xs ys e f = grind (arith, common_steps, append_assoc, flat_map-append)
 
 line_behind : (old now new : List ℕ) (xs : List Line) (x : Line) → now ≡ old ++ text xs → new ≡ now ++ spelled x →
     new ≡ old ++ text (xs ++ x ∷ [])
@@ -37,20 +36,14 @@ same_line k fs x own fields = ap (of_parts k) fields ∙ ap (λ j. of_parts j x.
 numbered_more : {X : Type 0} (line : ℕ → X → Line) (n : ℕ) (xs : List X) (x : X) → numbered line n (xs ++ x ∷ [])
     ≡ numbered line n xs ++ line (n + length xs) x ∷ []
 numbered_more line n [] x = let e : n + 0 ≡ n = omega arith in ap (λ m. line m x ∷ []) (sym e)
-numbered_more line n (y ∷ xs) x =
-    let e : (n + 1) + length xs ≡ n + length (y ∷ xs) = omega arith in
-    ap (λ ls. line n y ∷ ls) (numbered_more line (n + 1) xs x
-    ∙ ap (λ m. numbered line (n + 1) xs ++ line m x ∷ []) e)
+numbered_more line n (y ∷ xs) x = grind (arith, common_steps, numbered_more line (n + 1) xs x)
 
 -- the items of a list, a line each
 module _ {X : Type 0} (xs : List X) (old : List ℕ) where
   pub each_put : (line : X → Line) (i : ℕ) (d : X) (now new : List ℕ) → i < length xs →
       now ≡ old ++ text (map line (take i xs)) → new ≡ now ++ spelled (line (get_or xs i d)) →
       new ≡ old ++ text (map line (take (i + 1) xs))
-  each_put line i d now new inside e f =
-      let x = get_or xs i d in
-      line_behind old now new (map line (take i xs)) (line x) e f
-      ∙ ap (λ ls. old ++ text ls) (sym (ap (map line) (take_more xs i d inside) ∙ map-append line (take i xs) (x ∷ [])))
+  each_put line i d now new inside e f = grind (arith, common_steps, line_behind, take_more, map-append)
 
   pub lines_put : (line : X → Line) (i : ℕ) (new : List ℕ) → length xs ≤ i →
       new ≡ old ++ text (map line (take i xs)) → new ≡ old ++ text (map line xs)
@@ -61,23 +54,14 @@ module _ {X : Type 0} (xs : List X) (old : List ℕ) (k : Kind) where
   pub line_put : (line : X → Line) → ((x : X) → (line x).kind ≡ k) → (i : ℕ) (d : X) (fs : List (Option ℕ)) (now new :
       List ℕ) → i < length xs → now ≡ old ++ text (map line (take i xs)) → fs ≡ (line (get_or xs i d)).fields →
       new ≡ now ++ spelled (record { kind = k; fields = fs }) → new ≡ old ++ text (map line (take (i + 1) xs))
-  line_put line own i d fs now new inside e fields f =
-      let x = get_or xs i d in
-      each_put xs old line i d now new inside e
-      (f ∙ ap (λ z. now ++ spelled z) (same_line k fs (line x) (own x) fields))
+  line_put line own i d fs now new inside e fields f = grind (arith, common_steps, each_put, same_line)
 
   pub numbered_line_put : (line : ℕ → X → Line) → ((i : ℕ) (x : X) → (line i x).kind ≡ k) → (i : ℕ) (d : X) (fs : List
       (Option ℕ)) (now new : List ℕ) → i < length xs → now ≡ old ++ text (numbered line 0 (take i xs)) →
       fs ≡ (line i (get_or xs i d)).fields → new ≡ now ++ spelled (record { kind = k; fields = fs }) →
       new ≡ old ++ text (numbered line 0 (take (i + 1) xs))
   numbered_line_put line own i d fs now new inside e fields f =
-      let x = get_or xs i d in
-      let size : 0 + length (take i xs) ≡ i = omega (arith, length-take i xs) in
-      line_behind old now new (numbered line 0 (take i xs)) (line i x) e (f ∙ ap (λ z. now ++ spelled z) (same_line k fs
-      (line i x) (own i x) fields))
-      ∙ ap (λ ls. old ++ text ls) (sym (ap (numbered line 0) (take_more xs i d inside) ∙ numbered_more line 0 (take
-      i xs) x
-      ∙ ap (λ m. numbered line 0 (take i xs) ++ line m x ∷ []) size))
+      grind (arith, common_steps, length-take, line_behind, same_line, take_more, numbered_more)
 
   pub numbered_lines_put : (line : ℕ → X → Line) (i : ℕ) (new : List ℕ) → length xs ≤ i →
       new ≡ old ++ text (numbered line 0 (take i xs)) → new ≡ old ++ text (numbered line 0 xs)
@@ -89,12 +73,9 @@ pub state_put : (s : State) (t0 t1 t2 t3 t4 t5 t6 t7 t8 : List ℕ) → t1 ≡ t
     t6 ≡ t5 ++ text (map sent_line s.sent) → t7 ≡ t6 ++ text (map moved_line s.moved) →
     t8 ≡ t7 ++ spelled (numbers End []) → t8 ≡ t0 ++ state_text s
 unfolding state_lines
-state_put s t0 t1 t2 t3 t4 t5 t6 t7 t8 head inputs ranks listed buffered sent moved end =
-    put_behind t0 t1 t8 (head_lines s.head) _ head
-    (put_behind t1 t2 t8 (numbered input_line 0 s.inputs) _ inputs
-    (put_behind t2 t3 t8 (numbered rank_line 0 s.ranks) _ ranks
-    (put_behind t3 t4 t8 (map (cell_line Listed) s.listed) _ listed
-    (put_behind t4 t5 t8 (map (cell_line Buffered) s.buffered) _ buffered
-    (put_behind t5 t6 t8 (map sent_line s.sent) _ sent
-    (put_behind t6 t7 t8 (map moved_line s.moved) (numbers End [] ∷ []) moved
+state_put s t0 t1 t2 t3 t4 t5 t6 t7 t8 head inputs ranks listed buffered sent moved end = put_behind t0 t1 t8
+    (head_lines s.head) _ head (put_behind t1 t2 t8 (numbered input_line 0 s.inputs) _ inputs (put_behind t2 t3 t8
+    (numbered rank_line 0 s.ranks) _ ranks (put_behind t3 t4 t8 (map (cell_line Listed) s.listed) _ listed
+    (put_behind t4 t5 t8 (map (cell_line Buffered) s.buffered) _ buffered (put_behind t5 t6 t8
+    (map sent_line s.sent) _ sent (put_behind t6 t7 t8 (map moved_line s.moved) (numbers End [] ∷ []) moved
     (end ∙ ap (λ t. t7 ++ t) (sym (one_line (numbers End []))))))))))

@@ -2,13 +2,14 @@
 -- part of the text comes where its kind is due, behind so many lines of it, if what stands behind the part completes
 -- the text from there on. And where a kind has all its lines, what completes the text where the next kind is due does
 -- so here.
-use Rattle.std.proofs.Common.{◌≡◌, ℕ, ◌+◌, ◌^◌, ◌<◌, ◌≤◌, List, [], ◌∷◌, ◌++◌, length, map, Some, refl, ap, sym, subst, arith, lit≤, inl, inr}
+use Rattle.std.proofs.lemmas.Grind.{common_steps}
+use Rattle.std.proofs.Common.{rules, ◌≡◌, ℕ, ◌+◌, ◌^◌, ◌<◌, ◌≤◌, List, [], ◌∷◌, ◌++◌, length, map, Some, refl, sym, subst, arith, lit≤, inr}
 use Rattle.std.specs.List.{AllByRecursion}
 use Rattle.cq_lines.specs.Texts.{Leads}
 use Rattle.cq_lines.specs.Ranges.{Within}
 use Rattle.cq_state.proofs.Fields.{fits_within, count_within, counts_within, shape_within, seen_within, rank_within, named_within, sent_within, moved_within}
 use Rattle.cq_state.specs.declared.kind.Kind.{Kind}
-use Rattle.cq_state.specs.declared.kind.Kind.TheVariants.{Version, Next, Shape, Sum, Input, Rank, Listed, Buffered, Sent, Moved, End}
+use Rattle.cq_state.specs.declared.kind.Kind.TheVariants.{Version, Input, Rank, Listed, Buffered, Sent, Moved, End}
 use Rattle.cq_state.specs.declared.state.Named.{Named}
 use Rattle.cq_state.specs.declared.state.State.{State}
 use Rattle.cq_state.specs.StateText.{Line, Place, Comes, HasRoom, MayEnd, needed, ranges, further, ports_behind, start, cell, IsStateText}
@@ -32,21 +33,7 @@ one_more : (k : Kind) (due : List Kind) (seen ports ports_next : ℕ) (x : Line)
     ports_next ≡ ports_behind ports k x.fields → Completes (at (k ∷ due) (seen + 1) ports_next) xs →
     Completes (at (k ∷ due) seen ports) (x ∷ xs)
 unfolding Completes
-one_more k due seen ports ports_next x xs own room within told c = (
-  c.0,
-  (
-    at (k ∷ due) (seen + 1) ports_next,
-    inl (record {
-      kind = own;
-      room = room;
-      within = within;
-      leads = ap (at
-          (k ∷ due) (seen + 1)) told;
-    }),
-    c.1,
-  ),
-  c.2,
-)
+one_more k due seen ports ports_next x xs own room within told c = grind (arith, common_steps)
 
 -- a part of lines of a free kind
 free_part : {X : Type 0} (k : Kind) (due : List Kind) (ports : ℕ) (line : X → Line) (own : (x : X) →
@@ -67,16 +54,9 @@ numbered_part : {X : Type 0} (k : Kind) (due : List Kind) (ports : ℕ) (line : 
     AllByRecursion (λ x. Within (ranges ports i k) (further k) (line i x).fields) xs) → needed ports k ≤ 64 →
     Completes (at (k ∷ due) (n + length xs) ports) rest →
     Completes (at (k ∷ due) n ports) (numbered line n xs ++ rest)
-numbered_part k due ports line own told [] rest n few all low after = subst (λ m. Completes (at (k ∷ due) m ports) rest)
-    (let e : n + 0 ≡ n = omega arith in e) after
+numbered_part k due ports line own told [] rest n few all low after = grind (arith, common_steps)
 numbered_part k due ports line own told (x ∷ xs) rest n few all low after =
-    let here : n < needed ports k = omega arith in
-    let count : n + length (x ∷ xs) ≡ (n + 1) + length xs = omega arith in
-    one_more k due n ports ports (line n x) (numbered line (n + 1) xs ++ rest) (own n x) (inr here)
-    ((all n (omega arith)).0) (told n x)
-    (numbered_part k due ports line own told xs rest (n + 1) (omega arith) (λ i small. (all i small).1) low
-    (subst (λ m. Completes
-    (at (k ∷ due) m ports) rest) count after))
+    grind (arith, common_steps, one_more, numbered_part k due ports line own told xs rest (n + 1))
 
 version_within : Within (ranges 0 0 Version) 0 (Some 1 ∷ [])
 version_within = fits_within _ _ ((lit≤ tt, lit≤ tt, lit≤ tt), tt)
@@ -118,14 +98,10 @@ module _ (s : State) (is : IsInRange s) where
       s.head.ports 0) refl (at (End ∷ []) 1 s.head.ports, refl, (lit≤ tt, tt))
 
   moved_due : (seen : ℕ) → Completes (at (Moved ∷ End ∷ []) seen s.head.ports) (from_moved s)
-  moved_due = free_part Moved (End ∷ []) s.head.ports moved_line (λ _. refl) (λ _. inl refl) (λ _. refl) s.moved _
-      (all_within _ _ (λ t is_moved seen. moved_within s.head.ports t few is_moved) s.moved is.moved)
-      (λ seen. skip Moved (End ∷ []) seen s.head.ports _ (omega arith) end_due)
+  moved_due = grind (arith, common_steps, free_part, all_within, moved_within, few, skip, end_due)
 
   sent_due : (seen : ℕ) → Completes (at (Sent ∷ Moved ∷ End ∷ []) seen s.head.ports) (from_sent s)
-  sent_due = free_part Sent (Moved ∷ End ∷ []) s.head.ports sent_line (λ _. refl) (λ _. inl refl) (λ _. refl) s.sent _
-      (all_within _ _ (λ d is_sent seen. sent_within s.head.ports d few is_sent) s.sent is.sent)
-      (λ seen. skip Sent (Moved ∷ End ∷ []) seen s.head.ports _ (omega arith) (moved_due 0))
+  sent_due = grind (arith, common_steps, free_part, all_within, sent_within, few, skip, moved_due)
 
   cells_due : (k : Kind) (due : List Kind) (own : (seen : ℕ) → HasRoom s.head.ports k seen) (cells : List Named)
       (rest : List Line) → ((seen : ℕ) → ranges s.head.ports seen k ≡ cell s.head.ports) → further k ≡ 0 →
@@ -133,21 +109,14 @@ module _ (s : State) (is : IsInRange s) where
       s.head.ports ≡ ports_behind s.head.ports k (cell_line k c).fields) → AllByRecursion (IsNamed s.head.ports) cells →
       ((seen : ℕ) → Completes (at (k ∷ due) seen s.head.ports) rest) → (seen : ℕ) →
       Completes (at (k ∷ due) seen s.head.ports) (map (cell_line k) cells ++ rest)
-  cells_due k due own cells rest same none told all after = free_part k due s.head.ports (cell_line k) (λ _. refl) own
-      told cells rest (all_within _ _ (λ c is_named seen. subst (λ rs. Within rs (further k) (cell_line k c).fields)
-      (sym
-      (same seen)) (subst (λ n. Within (cell s.head.ports) n (cell_line k c).fields) (sym none) (named_within
-      s.head.ports c few is_named))) cells all) after
+  cells_due k due own cells rest same none told all after = search (rules, free_part, all_within, named_within, few)
 
   buffered_due : (seen : ℕ) → Completes (at (Buffered ∷ Sent ∷ Moved ∷ End ∷ []) seen s.head.ports) (from_buffered s)
-  buffered_due = cells_due Buffered (Sent ∷ Moved ∷ End ∷ []) (λ _. inl refl) s.buffered _ (λ _. refl) refl (λ _. refl)
-      is.buffered (λ seen. skip Buffered (Sent ∷ Moved ∷ End ∷ []) seen s.head.ports _ (omega arith) (sent_due 0))
+  buffered_due = grind (arith, common_steps, cells_due, skip, sent_due)
 
   listed_due : (seen : ℕ) → Completes (at (Listed ∷ Buffered ∷ Sent ∷ Moved ∷ End ∷ []) seen s.head.ports) (from_listed
       s)
-  listed_due = cells_due Listed (Buffered ∷ Sent ∷ Moved ∷ End ∷ []) (λ _. inl refl) s.listed _ (λ _. refl) refl (λ _.
-      refl) is.listed (λ seen. skip Listed (Buffered ∷ Sent ∷ Moved ∷ End ∷ []) seen s.head.ports _ (omega arith)
-      (buffered_due 0))
+  listed_due = grind (arith, common_steps, cells_due, skip, buffered_due)
 
   all_told : (n : ℕ) → n ≡ s.head.ports → (0 + n ≤ s.head.ports) × (s.head.ports ≤ 0 + n)
   all_told n e = (omega arith, omega arith)
@@ -161,26 +130,11 @@ module _ (s : State) (is : IsInRange s) where
 
   inputs_due : Completes (at (Input ∷ Rank ∷ Listed ∷ Buffered ∷ Sent ∷ Moved ∷ End ∷ []) 0 s.head.ports)
       (from_inputs s)
-  inputs_due =
-      let told = all_told (length s.inputs) is.inputs_told in
-      numbered_part Input _ s.head.ports input_line (λ _ _. refl) (λ _ _. refl) s.inputs _ 0 told.0 (λ i small.
-      all_within
-      _ _ (λ x. seen_within i x small) s.inputs is.inputs) few (skip Input _ (0 + length s.inputs) s.head.ports _ told.1
-      ranks_due)
+  inputs_due = grind (arith, common_steps, all_told, numbered_part, all_within, seen_within, few, skip, ranks_due)
 
   whole : Completes start (state_lines s)
   unfolding state_lines
-  whole =
-      let h = s.head in
-      one_more Version _ 0 0 0 (numbers Version (1 ∷ [])) _ refl (inr (lit≤ tt)) version_within refl (skip Version _
-      1 0 _ (lit≤ tt)
-      (one_more Next _ 0 0 0 (numbers Next (h.next ∷ [])) _ refl (inr (lit≤ tt)) (count_within h.next is.head.next) refl
-      (skip Next _ 1 0 _ (lit≤ tt)
-      (one_more Shape _ 0 0 h.ports (numbers Shape (h.ports ∷ h.classes ∷ h.t0 ∷ h.total ∷ [])) _ refl (inr (lit≤
-      tt)) (shape_within h is.head) refl (skip Shape _ 1 h.ports _ (lit≤ tt)
-      (one_more Sum _ 0 h.ports h.ports (numbers Sum (h.proposals ∷ h.most ∷ [])) _ refl (inr (lit≤ tt)) (counts_within
-      h.proposals h.most is.head.proposals is.head.most) refl
-      (skip Sum _ 1 h.ports _ (lit≤ tt) inputs_due)))))))
+  whole = search (rules, one_more, version_within, skip, count_within, shape_within, counts_within, inputs_due)
 
 -- the text of a state in range is that of its lines
 pub state_has_text : (s : State) → IsInRange s → IsStateText (state_lines s) (state_text s)

@@ -1,8 +1,9 @@
 -- What the state of a stopped run tells of cells is what there was: each name comes to its cell, each list to the list
 -- of its input, each buffer to that of its output, and each departure to itself.
-use Rattle.std.proofs.Common.{◌≡◌, ℕ, zero, suc, ◌+◌, ◌<◌, Bool, true, false, cond, List, [], ◌∷◌, ◌++◌, length, map, Option, Some, refl, sym, ap, ◌∙◌, inl, inr, arith}
+use Rattle.std.proofs.Common.{rules, ◌≡◌, ℕ, zero, suc, ◌+◌, ◌<◌, Bool, true, false, cond, List, [], ◌∷◌, ◌++◌, length, map, Option, Some, refl, sym, ap, ◌∙◌, arith}
+use Rattle.std.proofs.lemmas.Grind.{common_steps}
 use Rattle.std.specs.Prelude.{◌==◌, filter, option_map, slice_index_or}
-use Rattle.std.specs.List.{cons_option, filter_map, range_with_len}
+use Rattle.std.specs.List.{filter_map, range_with_len}
 use Rattle.std.proofs.lemmas.Bool.{eq-eqb, ne_eqb}
 use Rattle.std.proofs.lemmas.List.{append-nil}
 use Rattle.std.proofs.lemmas.List.Elements.{filter-append}
@@ -31,15 +32,11 @@ use Rattle.cq_stopped.specs.Stopped.{told_state}
 
 filter_all : {X : Type 0} (p : X → Bool) (xs : List X) → ((x : X) → Has xs x → p x ≡ true) → filter p xs ≡ xs
 filter_all p [] each = refl
-filter_all {X} p (x ∷ xs) each =
-    ap (λ (b : Bool). cond b (x ∷ filter p xs) (filter p xs)) (each x (inl refl))
-    ∙ ap (λ (l : List X). x ∷ l) (filter_all p xs (λ y has. each y (inr has)))
+filter_all {X} p (x ∷ xs) each = grind (arith, common_steps, filter_all p xs)
 
 filter_none : {X : Type 0} (p : X → Bool) (xs : List X) → ((x : X) → Has xs x → p x ≡ false) → filter p xs ≡ []
 filter_none p [] each = refl
-filter_none p (x ∷ xs) each =
-    ap (λ (b : Bool). cond b (x ∷ filter p xs) (filter p xs)) (each x (inl refl))
-    ∙ filter_none p xs (λ y has. each y (inr has))
+filter_none p (x ∷ xs) each = grind (arith, common_steps, filter_none p xs)
 
 module _ {X : Type 0} (number : X → ℕ) where
   abbrev is_numbered : ℕ → X → Bool
@@ -53,27 +50,17 @@ module _ {X : Type 0} (number : X → ℕ) where
   later a xs xss own k x has = let e = own (suc k) x has in omega arith
 
   none_past : (a i : ℕ) (xss : List (List X)) → i < a → AreNumbered a xss → filter (is_numbered i) (all_of xss) ≡ []
-  none_past a i xss lt own =
-      filter_none (is_numbered i) (all_of xss)
-      (λ x has.
-      let it = is_at xss x has in
-      let e = own it.place x it.has in
-      ne_eqb (number x) i (λ same. omega arith))
+  none_past a i xss lt own = grind (arith, common_steps, filter_none, all_of, is_at, ne_eqb)
 
   sifted : (a i : ℕ) (xss : List (List X)) → AreNumbered a xss → (k : ℕ) → a + k ≡ i →
       filter (is_numbered i) (all_of xss) ≡ list_at xss k
   sifted a i [] own k is = refl
-  sifted a i (xs ∷ xss) own zero is =
-      filter-append (is_numbered i) xs (all_of xss)
+  sifted a i (xs ∷ xss) own zero is = filter-append (is_numbered i) xs (all_of xss)
       ∙ ap (λ (l : List X). l ++ filter (is_numbered i) (all_of xss))
-      (filter_all (is_numbered i) xs
-      (λ x has. let e = own zero x has in eq-eqb (number x) i (omega arith)))
-      ∙ ap (λ (l : List X). xs ++ l) (none_past (a + 1) i xss (omega arith) (later a xs xss own))
-      ∙ append-nil xs
-  sifted a i (xs ∷ xss) own (suc k) is =
-      filter-append (is_numbered i) xs (all_of xss)
-      ∙ ap (λ (l : List X). l ++ filter (is_numbered i) (all_of xss))
-      (filter_none (is_numbered i) xs
+      (filter_all (is_numbered i) xs (λ x has. let e = own zero x has in eq-eqb (number x) i (omega arith)))
+      ∙ ap (λ (l : List X). xs ++ l) (none_past (a + 1) i xss (omega arith) (later a xs xss own)) ∙ append-nil xs
+  sifted a i (xs ∷ xss) own (suc k) is = filter-append (is_numbered i) xs (all_of xss)
+      ∙ ap (λ (l : List X). l ++ filter (is_numbered i) (all_of xss)) (filter_none (is_numbered i) xs
       (λ x has. let e = own zero x has in ne_eqb (number x) i (λ same. omega arith)))
       ∙ sifted (a + 1) i xss (later a xs xss own) k (omega arith)
 
@@ -95,9 +82,7 @@ filter_images {X} {Y} f p (x ∷ xs) = by (p (f x)) (filter_images f p xs)
 told_again : {X Y : Type 0} (f : X → Y) (g : Y → Option X) (xs : List X) → ((x : X) → Has xs x → g (f x) ≡ Some x) →
     filter_map g (map f xs) ≡ xs
 told_again f g [] each = refl
-told_again {X} f g (x ∷ xs) each =
-    ap (λ (o : Option X). cons_option o (filter_map g (map f xs))) (each x (inl refl))
-    ∙ ap (λ (l : List X). x ∷ l) (told_again f g xs (λ y has. each y (inr has)))
+told_again {X} f g (x ∷ xs) each = grind (arith, common_steps, told_again f g xs)
 
 -- lists by their places
 by_places : {X : Type 0} (f : ℕ → X) (d : X) (a : ℕ) (xs : List X) →
@@ -106,9 +91,8 @@ by_places f d a [] each = refl
 by_places {X} f d a (x ∷ xs) each =
     let first : f a ≡ x = ap f (let e : a ≡ a + 0 = omega arith in e) ∙ each zero (omega arith) in
     ap (λ (y : X). y ∷ map f (range_with_len (a + 1) (length xs))) first
-    ∙ ap (λ (l : List X). x ∷ l)
-    (by_places f d (a + 1) xs
-    (λ k lt. ap f (let e : a + 1 + k ≡ a + suc k = omega arith in e) ∙ each (suc k) (omega arith)))
+    ∙ ap (λ (l : List X). x ∷ l) (by_places f d (a + 1) xs (λ k lt.
+    ap f (let e : a + 1 + k ≡ a + suc k = omega arith in e) ∙ each (suc k) (omega arith)))
 
 module _ (w : Switch) (at : Taken) (ideal : IdealState) (cs : List (List (Option Queued)))
     (known : Known w at.frozen.next (fabric_in at.frozen) ideal cs at.sent) where
@@ -127,27 +111,22 @@ module _ (w : Switch) (at : Taken) (ideal : IdealState) (cs : List (List (Option
 
   list_again : (i : ℕ) → list_told w.came (told_state w at) i ≡ input f i
   unfolding state_of
-  list_again i =
-      ap (filter_map (queued_of w.came))
-      (filter_images named_as (λ (c : Named). c.input == i) (all_of at.frozen.lists)
-      ∙ ap (map named_as)
-      (sift (λ (q : Queued). q.key.input) at.frozen.lists
+  list_again i = ap (filter_map (queued_of w.came)) (filter_images named_as (λ (c : Named). c.input == i)
+      (all_of at.frozen.lists)
+      ∙ ap (map named_as) (sift (λ (q : Queued). q.key.input) at.frozen.lists
       (λ k q has. let e = known.placed k q (among_of_has (input f k) q has) in omega arith) i))
       ∙ told_again named_as (queued_of w.came) (input f i) (λ q has. cell_again q (its_cell i q has))
 
   buffer_again : (j : ℕ) → buffer_told w.came (told_state w at) j ≡ buffer f j
   unfolding state_of
-  buffer_again j =
-      ap (filter (is_for j))
-      (told_again named_as (queued_of w.came) (all_of at.frozen.buffers)
+  buffer_again j = ap (filter (is_for j)) (told_again named_as (queued_of w.came) (all_of at.frozen.buffers)
       (λ q has. let it = is_at at.frozen.buffers q has in cell_again q (crossed it.place q it.has)))
       ∙ sift (λ (q : Queued). q.cell.output) at.frozen.buffers
       (λ k q has. let e = known.agrees.fabric.own k q (among_of_has (buffer f k) q has) in omega arith) j
 
   lists_again : map (list_told w.came (told_state w at)) (range_with_len 0 (length at.frozen.lists)) ≡ at.frozen.lists
-  lists_again =
-      by_places (list_told w.came (told_state w at)) [] 0 at.frozen.lists
-      (λ k lt. ap (list_told w.came (told_state w at)) (let e : 0 + k ≡ k = omega arith in e) ∙ list_again k)
+  lists_again = by_places (list_told w.came (told_state w at)) [] 0 at.frozen.lists (λ k lt.
+      ap (list_told w.came (told_state w at)) (let e : 0 + k ≡ k = omega arith in e) ∙ list_again k)
 
   buffers_again : map (buffer_told w.came (told_state w at)) (range_with_len 0 (length at.frozen.lists))
       ≡ at.frozen.buffers
@@ -158,21 +137,14 @@ module _ (w : Switch) (at : Taken) (ideal : IdealState) (cs : List (List (Option
 
   pub fabric_same : fabric_told w.came (told_state w at) ≡ fabric_in at.frozen
   unfolding fabric_told state_of
-  fabric_same =
-      let lists = lists_again in
-      let buffers = buffers_again in
-      λ k. record { inputs = lists k; buffers = buffers k; ranks = at.frozen.ranks }
+  fabric_same = grind (arith, common_steps, lists_again, buffers_again)
 
   -- ## Departures
 
   departure_again : (d : Departure) → Has at.sent d → departure_of w.came (sent_as d) ≡ Some d
   departure_again d has =
       let it = has_left_it w at.frozen.next f ideal cs at.sent known d has in
-      let right = all_of_has (IsSentRight w at.frozen.next) at.sent d known.departed has in
-      let made : Queued → Departure = λ q. record { slot = d.slot; output = q.cell.output; queued = q } in
-      let own = right.own in
-      let same : made d.queued ≡ d = λ k. record { slot = d.slot; output = sym own k; queued = d.queued } in
-      ap (option_map made) (cell_again d.queued it.kept) ∙ ap (λ (x : Departure). Some x) same
+      search (arith, rules, all_of_has, IsSentRight, cell_again)
 
   pub sent_same : at.sent ≡ sent_told w.came (told_state w at)
   unfolding state_of

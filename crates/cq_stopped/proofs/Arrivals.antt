@@ -1,11 +1,11 @@
 -- The first clause: each name is of an arrival before the next slot, and none is there twice. Two that wait under one
 -- name are one cell, and that stands at one place; what left has other names than what waits; and what left one output
 -- left it once.
-use Rattle.std.proofs.Common.{◌≡◌, ℕ, ◌<◌, List, map, Option, refl, sym, ap, ◌∙◌, subst, arith}
+use Rattle.std.proofs.Common.{rules, ◌≡◌, ℕ, ◌<◌, List, map, Option, sym, ap, subst, arith, refl, ◌∙◌}
+use Rattle.std.proofs.lemmas.Grind.{common_steps}
 use Rattle.std.specs.Prelude.{IsSome}
 use Rattle.std.proofs.lemmas.List.Elements.{All-from_recursion}
 use Rattle.cq_base.specs.Cells.{IsBefore}
-use Rattle.cq_base.specs.declared.cell.Cell.{Cell}
 use Rattle.cq_base.specs.declared.cell.Departure.{Departure}
 use Rattle.cq_base.specs.declared.cell.Queued.{Queued}
 use Rattle.cq_ideal.specs.IdealSlot.{IdealState}
@@ -26,9 +26,10 @@ use Rattle.cq_state.specs.declared.state.Sent.{Sent}
 use Rattle.cq_stopped.proofs.Joined.{all_of, is_at, pairs_join, pairs_of_all, pairs_of_images}
 use Rattle.cq_stopped.proofs.Named.{Waiting, is_of_one, is_waiting}
 use Rattle.cq_stopped.proofs.Ran.{IsSentRight, Known}
-use Rattle.cq_stopped.proofs.Standing.{differ_left, each_listed, each_pair_of, each_sent, has_left_it, same_cell, same_waiting, waits_at, waits_behind}
+use Rattle.cq_stopped.proofs.Standing.{differ_left, each_listed, each_sent, has_left_it, same_cell, same_waiting, waits_at, waits_behind}
 use Rattle.cq_stopped.proofs.Stepping.{among_of_has}
 use Rattle.cq_stopped.specs.Stopped.{told_state}
+use Rattle.cq_base.specs.declared.cell.Cell.{Cell}
 
 module _ (w : Switch) (at : Taken) (ideal : IdealState) (cs : List (List (Option Queued)))
     (known : Known w at.frozen.next (fabric_in at.frozen) ideal cs at.sent) where
@@ -43,8 +44,7 @@ module _ (w : Switch) (at : Taken) (ideal : IdealState) (cs : List (List (Option
   Other a b = Differ (named_as a) (named_as b)
 
   one : (a b : Queued) → It a → It b → a.key.slot ≡ b.key.slot → a.key.input ≡ b.key.input → a ≡ b
-  one a b first second slot place =
-      same_waiting w at.frozen.next f ideal cs at.sent known a b first second (slot, place)
+  one a b first second slot place = grind (arith, common_steps, same_waiting)
 
   itself : (a b : Queued) → a ≡ b → IsBefore a b → ⊥
   itself a b same before = not_before_itself a (subst (λ (x : Queued). IsBefore a x) (sym same) before)
@@ -60,28 +60,19 @@ module _ (w : Switch) (at : Taken) (ideal : IdealState) (cs : List (List (Option
   listed_pairs : EachPair Other (all_of at.frozen.lists)
   listed_pairs =
       each_listed w at.frozen.next f ideal cs at.sent known Other (λ _. It) at_input
-      (λ _ a b first second leads slot place.
-      let same = one a b first second slot place in
-      itself a b same (leads (ap (λ (q : Queued). q.cell.output) same)))
+      (λ _ a b first second leads slot place. search (arith, rules, one, itself))
       (λ i k a b lt first second slot place.
       let own = known.placed i a (among_of_has (input f i) a first) in
       let other = known.placed k b (among_of_has (input f k) b second) in
       omega arith)
 
   buffered_pairs : EachPair Other (all_of at.frozen.buffers)
-  buffered_pairs =
-      pairs_of_all Other at.frozen.buffers
-      (λ j.
-      pairs_with IsBefore Other It
-      (λ a b first second before slot place. itself a b (one a b first second slot place) before) (buffer f j)
-      (all_from_has It (buffer f j) (in_buffer j))
-      (each_pair_of IsBefore (buffer f j) (known.agrees.fabric.rising j)))
+  buffered_pairs = pairs_of_all Other at.frozen.buffers
+      (λ j. search (arith, rules, pairs_with IsBefore Other It, itself, all_from_has It (buffer f j), in_buffer j))
       (λ j l a b lt first second slot place.
       let same = one a b (in_buffer j a first) (in_buffer l b second) slot place in
       let own = known.agrees.fabric.own j a (among_of_has (buffer f j) a first) in
-      let other = known.agrees.fabric.own l b (among_of_has (buffer f l) b second) in
-      let outputs = ap (λ (q : Queued). q.cell.output) same in
-      omega arith)
+      let other = known.agrees.fabric.own l b (among_of_has (buffer f l) b second) in search (arith, rules))
 
   crossed : (a b : Queued) → Has (all_of at.frozen.lists) a → Has (all_of at.frozen.buffers) b → Other a b
   crossed a b first second slot place =
@@ -98,24 +89,16 @@ module _ (w : Switch) (at : Taken) (ideal : IdealState) (cs : List (List (Option
       let buffered = map named_as (all_of at.frozen.buffers) in
       pairs_join Differ listed buffered (pairs_of_images named_as Differ (all_of at.frozen.lists) listed_pairs)
       (pairs_of_images named_as Differ (all_of at.frozen.buffers) buffered_pairs)
-      (λ c d first second.
-      let x = image_has named_as (all_of at.frozen.lists) c first in
-      let y = image_has named_as (all_of at.frozen.buffers) d second in
-      subst (λ (e : Named). Differ e d) x.2
-      (subst (λ (e : Named). Differ (named_as x.0) e) y.2 (crossed x.0 y.0 x.1 y.1)))
+      (λ c d first second. search (arith, rules, image_has, all_of, Differ, crossed))
 
   -- ## What left
 
   sent_pairs : EachPair (λ (d e : Departure). Other d.queued e.queued) at.sent
-  sent_pairs =
-      each_sent w at.frozen.next f ideal cs at.sent known (λ (d e : Departure). Other d.queued e.queued)
+  sent_pairs = each_sent w at.frozen.next f ideal cs at.sent known (λ (d e : Departure). Other d.queued e.queued)
       (λ d e first second follows slot place.
       let x = has_left_it w at.frozen.next f ideal cs at.sent known d first in
       let y = has_left_it w at.frozen.next f ideal cs at.sent known e second in
-      let cell = same_cell w at.frozen.next f ideal cs at.sent known d.queued e.queued x.kept y.kept (slot, place) in
-      let own = all_of_has (IsSentRight w at.frozen.next) at.sent d known.departed first in
-      let other = all_of_has (IsSentRight w at.frozen.next) at.sent e known.departed second in
-      (follows (own.own ∙ ap (λ (c : Cell). c.output) cell ∙ sym other.own)).differ slot place)
+      search (arith, rules, same_cell, all_of_has, IsSentRight))
 
   pub arrivals_are : AreArrivals w.came (told_state w at)
   unfolding state_of

@@ -1,14 +1,15 @@
 -- A run of the fabric of which each slot is known: beside it the ideal switch runs, which agrees with it before the
 -- slot, and what arrives in the slot is for the ports. And what becomes of the cells of a slot: those for an output
 -- that were there, and those that came for it, are there still or have left.
-use Rattle.std.proofs.Common.{◌≡◌, ℕ, zero, suc, ◌+◌, ◌⊎◌, List, [], ◌∷◌, length, Option, None, Some, refl, sym, ap, ◌∙◌, subst, inl, inr, ⊎_elim, drop}
+use Rattle.std.proofs.lemmas.Grind.{common_steps}
+use Rattle.std.proofs.Common.{arith, rules, ◌≡◌, ℕ, zero, suc, ◌+◌, ◌⊎◌, List, [], ◌∷◌, length, Option, None, Some, refl, inl, inr, ⊎_elim, drop, sym, ◌∙◌, subst}
 use Rattle.std.specs.Prelude.{slice_get, slice_index_or}
 use Rattle.std.proofs.lemmas.List.{length-replicate}
 use Rattle.cq_base.specs.Arriving.{arriving}
 use Rattle.cq_base.specs.declared.cell.Cell.{Cell}
 use Rattle.cq_base.specs.declared.cell.Queued.{Queued}
 use Rattle.cq_cells.specs.Traffic.{IsTraffic}
-use Rattle.cq_ideal.specs.Admission.{Admission, Marked}
+use Rattle.cq_ideal.specs.Admission.{Marked}
 use Rattle.cq_ideal.specs.Ending.{arriving_from}
 use Rattle.cq_ideal.specs.IdealSlot.{IdealState, fronts}
 use Rattle.cq_ideal.specs.LimitedIdeal.{empty_limited}
@@ -16,13 +17,11 @@ use Rattle.cq_ideal.specs.Ranking.{AreForPorts}
 use Rattle.cq_laws.proofs.AfterArrivals.{CameFor, Keyed, arrived_has}
 use Rattle.cq_laws.proofs.AfterDepartures.{sent_buffer}
 use Rattle.cq_laws.proofs.AfterTransfer.{moved_has}
-use Rattle.cq_laws.proofs.InputBest.{stable_limited_slot}
-use Rattle.cq_laws.proofs.LimitedSlots.{admission_for_ports, limited_ports_kept, same_limited_slot}
+use Rattle.cq_laws.proofs.LimitedSlots.{admission_for_ports, same_limited_slot, limited_ports_kept}
 use Rattle.cq_laws.proofs.LimitedWhole.{limited_empty_agree}
 use Rattle.cq_laws.proofs.OneSlot.{after_sent, arrived, keyed, old_sound}
 use Rattle.cq_laws.proofs.Sound.{Sound}
 use Rattle.cq_laws.specs.Fabric.{Fabric, IsAmong, buffer}
-use Rattle.cq_laws.specs.Holding.{fabric_held}
 use Rattle.cq_laws.specs.LimitedAgreement.{LimitedAgrees}
 use Rattle.cq_laws.specs.LimitedFabric.{LimitedFabricSlot, LimitedRecord}
 use Rattle.cq_laws.specs.Places.{HasFor}
@@ -33,6 +32,7 @@ use Rattle.cq_resume.specs.Parts.{opening}
 use Rattle.cq_resume.specs.Resumed.{Runs}
 use Rattle.cq_resume.specs.Switch.{Switch}
 use Rattle.cq_traffic.proofs.ForPorts.{arrivals_for}
+use Rattle.cq_laws.proofs.InputBest.{stable_limited_slot}
 
 -- the first cell of a list, or what is left of it
 first_or_rest : (xs : List Queued) (q : Queued) → (slice_get xs 0 ≡ Some q) ⊎ IsAmong q (drop 1 xs) → IsAmong q xs
@@ -93,74 +93,41 @@ module _ (w : Switch) where
   module _ (slot : ℕ) (cells : List (Option Cell)) (f g : Marked Fabric) (r : LimitedRecord)
       (k : KnownSlot slot cells f r g) where
     pub admitted_come : AreForPorts (length f.state.inputs) w.classes r.admission.cells
-    admitted_come =
-        subst (λ (a : Admission). AreForPorts (length f.state.inputs) w.classes a.cells) (sym k.step.admits)
-        (admission_for_ports w.limits (fabric_held f.state) f.marks cells (length f.state.inputs) w.classes k.come)
+    admitted_come = grind (arith, common_steps, admission_for_ports)
 
     pub keyed_here : Keyed slot (length f.state.inputs) r.of_slot.came
-    keyed_here =
-        keyed w.machines slot w.classes r.admission.cells f.state g.state k.ideal.state r.of_slot k.agrees.states
-        admitted_come k.step.runs
+    keyed_here = grind (arith, common_steps, keyed, admitted_come)
 
     pub old_is : Sound slot f.state
-    old_is =
-        old_sound w.machines slot w.classes r.admission.cells f.state g.state k.ideal.state r.of_slot k.agrees.states
-        admitted_come k.step.runs
+    old_is = search (rules, old_sound, admitted_come)
 
     pub arrived_is : Sound (slot + 1) r.of_slot.arrived
-    arrived_is =
-        arrived w.machines slot w.classes r.admission.cells f.state g.state k.ideal.state r.of_slot k.agrees.states
-        admitted_come k.step.runs
+    arrived_is = search (rules, arrived, admitted_come)
 
     pub sent_is : Sound (slot + 1) r.of_slot.sent
-    sent_is =
-        after_sent w.machines slot w.classes r.admission.cells f.state g.state k.ideal.state r.of_slot k.agrees.states
-        admitted_come k.step.runs
+    sent_is = search (rules, after_sent, admitted_come)
 
     pub left_is : (j : ℕ) → buffer r.of_slot.sent j ≡ drop 1 (buffer r.of_slot.filled j)
-    left_is j =
-        sent_buffer w.machines r.of_slot.gone (slot + 1) r.of_slot.filled r.of_slot.sent k.step.runs.depart j
+    left_is j = grind (arith, common_steps, sent_buffer)
 
     gone_is : (j : ℕ) → slice_index_or r.of_slot.gone j None ≡ slice_get (buffer r.of_slot.filled j) 0
-    gone_is j =
-        ap (λ (l : List (Option Queued)). slice_index_or l j None) k.step.runs.depart.sent
-        ∙ front_at r.of_slot.filled.buffers j
+    gone_is j = grind (arith, common_steps, front_at)
 
     -- what holds of each cell that was there or came holds of each at every moment of the slot
     module _ (P : ℕ → Queued → Type 0) (all : (j : ℕ) (q : Queued) →
         HasFor f.state j q ⊎ CameFor r.of_slot.came j q → P j q)
       where
         pub of_arrived : (j : ℕ) (q : Queued) → HasFor r.of_slot.arrived j q → P j q
-        of_arrived j q has =
-            all j q
-            (arrived_has w.machines slot r.admission.cells r.of_slot.came f.state r.of_slot.arrived k.step.runs.arrive
-            keyed_here old_is k.agrees.states.slack j q has)
+        of_arrived j q has = search (rules, arrived_has, keyed_here, old_is)
 
         pub of_filled : (j : ℕ) (q : Queued) → HasFor r.of_slot.filled j q → P j q
-        of_filled j q has =
-            of_arrived j q
-            (moved_has (slot + 1) r.of_slot.arrived r.of_slot.filled r.of_slot.first arrived_is k.step.runs.first_chosen
-            k.step.runs.fill j q has)
+        of_filled j q has = search (rules, of_arrived, moved_has, arrived_is)
 
         pub of_gone : (j : ℕ) (q : Queued) → slice_index_or r.of_slot.gone j None ≡ Some q → P j q
-        of_gone j q left =
-            of_filled j q (inr (first_or_rest (buffer r.of_slot.filled j) q (inl (sym (gone_is j) ∙ left))))
+        of_gone j q left = grind (arith, common_steps, of_filled, first_or_rest, gone_is)
 
         pub of_sent : (j : ℕ) (q : Queued) → HasFor r.of_slot.sent j q → P j q
-        of_sent j q has =
-            of_filled j q
-            (⊎_elim
-            (λ w. inl (
-              w.0,
-              subst (λ (l : List (List Queued)). IsAmong q (list_of l w.0)) k.step.runs.depart.inputs
-                  w.1,
-              w.2,
-            ))
-            (λ b. inr (first_or_rest (buffer r.of_slot.filled j) q (inr (subst (IsAmong q) (left_is j) b)))) has)
+        of_sent j q has = grind (arith, common_steps, of_filled, first_or_rest, left_is)
 
         pub of_new : (j : ℕ) (q : Queued) → HasFor g.state j q → P j q
-        of_new j q has =
-            of_sent j q
-            (moved_has (slot + 1) r.of_slot.sent g.state r.of_slot.second sent_is k.step.runs.second_chosen
-            k.step.runs.finish
-            j q has)
+        of_new j q has = search (rules, of_sent, moved_has, sent_is)

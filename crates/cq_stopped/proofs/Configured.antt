@@ -2,7 +2,8 @@
 -- keep the laws of machines and begin in a state of their size, and its arrivals, of which there are not many. They
 -- come packet after packet at each input. A capture is a file of 2^28 bytes at most, and each packet and each cell of
 -- it takes a byte there, so that no packet's number and no cell's place in its packet comes near 2^32.
-use Rattle.std.proofs.Common.{◌≡◌, ℕ, zero, suc, ◌+◌, ◌*◌, ◌<◌, ◌≤◌, ◌^◌, min, List, [], ◌∷◌, length, map, flat_map, refl, sym, ap, ◌∙◌, subst, arith, length-append}
+use Rattle.std.proofs.lemmas.Grind.{common_steps}
+use Rattle.std.proofs.Common.{rules, ◌≡◌, ℕ, zero, suc, ◌+◌, ◌*◌, ◌<◌, ◌≤◌, ◌^◌, min, List, [], ◌∷◌, length, map, flat_map, refl, sym, ap, ◌∙◌, subst, arith, length-append}
 use Rattle.std.specs.Prelude.{fold, replicate, slice_index_or, slice_set, sum_by}
 use Rattle.std.specs.List.{AllByRecursion, range_with_len}
 use Rattle.std.proofs.lemmas.List.{length-map}
@@ -13,7 +14,7 @@ use Rattle.cq_base.specs.declared.setup.Kind.{Kind}
 use Rattle.cq_base.specs.declared.setup.Kind.TheVariants.{FirstCome, Priority, Fair}
 use Rattle.cq_base.specs.declared.setup.Setup.{Setup}
 use Rattle.cq_cells.proofs.Looked.{piece}
-use Rattle.cq_cells.proofs.Packets.{came_by, came_more, few_by, length_packet}
+use Rattle.cq_cells.proofs.Packets.{came_more, few_by, length_packet, came_by}
 use Rattle.cq_cells.proofs.Rising.{all_flat}
 use Rattle.cq_cells.specs.Schedule.{arrivals, arrivals_at, arrivals_of, cell_of, cells, first_stamp, least, packets_of, start}
 use Rattle.cq_cells.specs.Scheduled.{Scheduled}
@@ -28,7 +29,6 @@ use Rattle.cq_resume.specs.Switch.{IsScheduleOf, Switch, switch_of}
 use Rattle.cq_route.specs.Tables.{AreTables, IsSetup}
 use Rattle.cq_route.specs.declared.tables.Tables.{Tables}
 use Rattle.cq_scfq.specs.Disciplines.{machine_of, machines_of, opening_of, openings_of}
-use Rattle.cq_scfq.specs.Fair.{fair_rank}
 use Rattle.cq_simulate.proofs.Runnable.{keeps_laws, kind, machine_is, right_classes, right_size}
 use Rattle.cq_stopped.proofs.Joined.{all_of_images}
 use Rattle.cq_stopped.specs.Stopped.{AreRecorded}
@@ -90,12 +90,7 @@ zeros_low (suc n) = ((let P : 0 < 2 ^ 128 = omega arith in P), zeros_low n)
 machine_low : (kind : Kind) (rows : List ClassRow) → KeepsLow (machine_of kind rows)
 machine_low FirstCome rows = record { given = λ s c all low. all; sent = λ s l r all low. all; idle = λ s all. all }
 machine_low Priority rows = record { given = λ s c all low. all; sent = λ s l r all low. all; idle = λ s all. all }
-machine_low Fair rows =
-    record {
-      given = λ s c all low. set_low s c (fair_rank rows s c) all low;
-      sent = λ s l r all low. set_low s (length rows + l) r all low;
-      idle = λ s all. zeros_low (length rows + level_count);
-    }
+machine_low Fair rows = grind (arith, common_steps, set_low, zeros_low)
 
 opening_low : (kind : Kind) (rows : List ClassRow) → AreLow (opening_of kind rows)
 opening_low FirstCome rows = tt
@@ -115,21 +110,10 @@ machines_low (k ∷ kinds) rows (suc j) = machines_low kinds rows j
 
 module _ (setup : Setup) (j : ℕ) (inside : j < length setup.kinds) where
   small_size : length setup.classes ≤ 16 → (machine_at (machines_of setup) j).size ≤ 32
-  small_size few =
-      let k = kind setup j inside in
-      let same : (machine_at (machines_of setup) j).size ≡ (machine_of k setup.classes).size =
-      ap (λ (m : Machine). m.size) (machine_is setup j inside) in
-      let most = machine_size k setup.classes in
-      omega arith
+  small_size few = grind (arith, common_steps, kind, machine_is, machine_size)
 
   low_level : (c : ℕ) → c < length setup.classes → IsSetup setup → (machine_at (machines_of setup) j).level c ≤ 15
-  low_level c known is =
-      let same : (machine_at (machines_of setup) j).level c ≡ (row_at setup.classes c).level =
-      ap (λ (m : Machine). m.level c) (machine_is setup j inside) ∙ machine_level (kind setup j inside) setup.classes c
-      in
-      let none : ClassRow = record { level = 0; priority = 0; cost = 0 } in
-      let low : (row_at setup.classes c).level < 16 = is.levels c none known in
-      omega arith
+  low_level c known is = grind (arith, common_steps, machine_is, machine_level, kind, is.levels)
 
 -- ## The captures
 
@@ -138,37 +122,24 @@ module _ (t : Tables) (captures : List (List Captured)) where
       length (flat_map (arrivals_at t captures) (range_with_len a n)) ≤ n * 2 ^ 28
   unfolding arrivals_at
   lines_short a zero some each = omega arith
-  lines_short a (suc n) some each =
-      let first : length (arrivals_at t captures a) ≤ 2 ^ 28 =
-      few_by t captures a (length (packets_of captures a)) some (each a (omega arith)) (omega arith) in
-      let rest : length (flat_map (arrivals_at t captures) (range_with_len (a + 1) n)) ≤ n * 2 ^ 28 =
-      lines_short (a + 1) n some (λ i lt. each i (omega arith)) in
-      let both =
-      length-append (arrivals_at t captures a) (flat_map (arrivals_at t captures) (range_with_len (a + 1) n)) in
-      omega arith
+  lines_short a (suc n) some each = search (rules, few_by, flat_map, length-append, lines_short (a + 1) n some)
 
   all_short : AreTables t → length captures ≤ 64 → ((i : ℕ) → i < length captures →
       IsRecorded (packets_of captures i)) →
       length (arrivals t captures) ≤ 2 ^ 34
   unfolding arrivals
-  all_short tables few each =
-      let most = lines_short 0 (length captures) tables.cell_bytes.0 (λ i lt. each i (omega arith)) in
-      omega arith
+  all_short tables few each = grind (arith, common_steps, lines_short)
 
   -- the cells of a packet with a number below a bound, up to a number of its cells
   all_pieces : (P : Arrival → Type 0) (input k a n : ℕ) →
       ((i : ℕ) → i < a + n → P (piece (start t captures input k) (cell_of t captures input k) i)) →
       AllByRecursion P (map (piece (start t captures input k) (cell_of t captures input k)) (range_with_len a n))
   all_pieces P input k a zero each = tt
-  all_pieces P input k a (suc n) each =
-      (each a (omega arith), all_pieces P input k (a + 1) n (λ i lt. each i (omega arith)))
+  all_pieces P input k a (suc n) each = grind (arith, common_steps, all_pieces P input k (a + 1) n)
 
   few_packets : (ps : List Captured) → length ps ≤ sum_by (λ (p : Captured). 16 + length p.body) ps
   few_packets [] = omega arith
-  few_packets (p ∷ ps) =
-      let rest = few_packets ps in
-      let more = sum_by-cons (λ (q : Captured). 16 + length q.body) p ps in
-      omega arith
+  few_packets (p ∷ ps) = grind (arith, common_steps, sum_by-cons, few_packets ps)
 
   small_here : (input : ℕ) → 1 ≤ t.cell_bytes → IsRecorded (packets_of captures input) →
       AllByRecursion HasSmallName (arrivals_at t captures input)
@@ -193,8 +164,7 @@ module _ (t : Tables) (captures : List (List Captured)) where
       AllByRecursion HasSmallName (arrivals t captures)
   unfolding arrivals
   small_names some each =
-      all_flat HasSmallName (arrivals_at t captures) 0 (length captures)
-      (λ k from lt. small_here k some (each k (omega arith)))
+      grind (arith, common_steps, all_flat HasSmallName (arrivals_at t captures) 0 (length captures), small_here)
 
 -- ## The first stamp
 
@@ -213,18 +183,15 @@ stamps_low : (captures : List (List Captured)) →
     ((i : ℕ) → i < length captures → IsRecorded (packets_of captures i)) →
     AllByRecursion IsStamp (flat_map (λ (ps : List Captured). map (λ (p : Captured). p.stamp) ps) captures)
 stamps_low [] each = tt
-stamps_low (ps ∷ captures) each =
-    all_both IsStamp (map (λ (p : Captured). p.stamp) ps)
+stamps_low (ps ∷ captures) each = all_both IsStamp (map (λ (p : Captured). p.stamp) ps)
     (flat_map (λ (ps : List Captured). map (λ (p : Captured). p.stamp) ps) captures)
-    (all_of_images (λ (p : Captured). p.stamp) IsStamp ps (each zero (omega arith)).stamps) (stamps_low captures (λ
-    i lt. each (suc i) (omega arith)))
+    (all_of_images (λ (p : Captured). p.stamp) IsStamp ps (each zero (omega arith)).stamps)
+    (stamps_low captures (λ i lt. each (suc i) (omega arith)))
 
 first_low : (captures : List (List Captured)) → ((i : ℕ) → i < length captures → IsRecorded (packets_of captures i)) →
     first_stamp captures < 2 ^ 63
 unfolding first_stamp
-first_low captures each =
-    least_low (flat_map (λ (ps : List Captured). map (λ (p : Captured). p.stamp) ps) captures) (stamps_low captures
-    each)
+first_low captures each = grind (arith, common_steps, least_low, flat_map, stamps_low)
 
 -- ## Together
 
@@ -250,8 +217,7 @@ configured t s made tables recorded =
       first_stamp = omega arith;
       traffic = subst (λ (n : ℕ). IsTraffic n (length setup.classes) s.came) (sym many) known.traffic;
       packets = subst (λ (n : ℕ). ArePackets n s.came) (known.ports ∙ sym many) known.packets;
-      names = subst (λ (l : List Arrival). AllByRecursion HasSmallName l) (sym came)
-          (small_names t made.captures tables.cell_bytes.0 recorded);
+      names = search (arith, rules, small_names);
       few_cells = omega arith;
       laws = λ j inside. keeps_laws setup j (omega arith);
       same = λ j inside. right_classes setup j (omega arith);

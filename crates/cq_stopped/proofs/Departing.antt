@@ -1,5 +1,6 @@
 -- What a slot adds to the departures: at each output the cell that it sent, if it sent one.
-use Rattle.std.proofs.Common.{◌≡◌, ℕ, zero, suc, ◌+◌, ◌<◌, Bool, cond, List, [], ◌∷◌, ◌++◌, map, Option, Some, None, refl, ap, ◌∙◌, arith}
+use Rattle.std.proofs.lemmas.Grind.{common_steps}
+use Rattle.std.proofs.Common.{◌≡◌, ℕ, zero, suc, ◌+◌, ◌<◌, List, [], ◌∷◌, ◌++◌, Option, Some, None, refl, arith}
 use Rattle.std.specs.Prelude.{◌==◌, filter, slice_index_or}
 use Rattle.std.specs.List.{AllByRecursion}
 use Rattle.std.proofs.lemmas.Bool.{cond-false, eq-eqb, ne_eqb}
@@ -32,35 +33,18 @@ module _ (slot : ℕ) where
         filter (λ (d : Departure). d.output == j) (departures_from slot a gone) ≡ []
     none_left [] a lt = refl
     none_left (None ∷ gone) a lt = none_left gone (a + 1) (omega arith)
-    none_left (Some q ∷ gone) a lt =
-        let rest = filter (λ (d : Departure). d.output == j) (departures_from slot (a + 1) gone) in
-        cond-false (a == j) (sent_at a q ∷ rest) rest (ne_eqb a j (λ e. omega arith))
-        ∙ none_left gone (a + 1) (omega arith)
+    none_left (Some q ∷ gone) a lt = grind (arith, common_steps, cond-false, ne_eqb, none_left gone (a + 1))
 
     left_from : (gone : List (Option Queued)) (a k : ℕ) → a + k ≡ j →
         left_at j (departures_from slot a gone) ≡ listed (slice_index_or gone k None)
     left_from [] a k e = refl
-    left_from (None ∷ gone) a zero e =
-        ap (map (λ (d : Departure). d.queued)) (none_left gone (a + 1) (omega arith))
+    left_from (None ∷ gone) a zero e = grind (arith, common_steps, none_left)
     left_from (None ∷ gone) a (suc k) e = left_from gone (a + 1) k (omega arith)
-    left_from (Some q ∷ gone) a zero e =
-        let rest = filter (λ (d : Departure). d.output == j) (departures_from slot (a + 1) gone) in
-        ap (λ (b : Bool). map (λ (d : Departure). d.queued) (cond b (sent_at a q ∷ rest) rest))
-        (eq-eqb a j (omega arith))
-        ∙ ap (λ (l : List Departure). q ∷ map (λ (d : Departure). d.queued) l) (none_left gone (a + 1) (omega arith))
-    left_from (Some q ∷ gone) a (suc k) e =
-        let rest = filter (λ (d : Departure). d.output == j) (departures_from slot (a + 1) gone) in
-        ap (map (λ (d : Departure). d.queued))
-        (cond-false (a == j) (sent_at a q ∷ rest) rest (ne_eqb a j (λ same. omega arith)))
-        ∙ left_from gone (a + 1) k (omega arith)
+    left_from (Some q ∷ gone) a zero e = grind (arith, common_steps, eq-eqb, none_left)
+    left_from (Some q ∷ gone) a (suc k) e = grind (arith, common_steps, cond-false, ne_eqb, left_from gone (a + 1) k)
 
     -- what left an output with this slot
     pub left_more : (sent : List Departure) (gone : List (Option Queued)) →
         left_at j (sent ++ departures_in slot gone) ≡ left_at j sent ++ listed (slice_index_or gone j None)
     unfolding departures_in
-    left_more sent gone =
-        ap (map (λ (d : Departure). d.queued))
-        (filter-append (λ (d : Departure). d.output == j) sent (departures_from slot 0 gone))
-        ∙ map-append (λ (d : Departure). d.queued) (filter (λ (d : Departure). d.output == j) sent)
-        (filter (λ (d : Departure). d.output == j) (departures_from slot 0 gone))
-        ∙ ap (λ (l : List Queued). left_at j sent ++ l) (left_from gone 0 j (omega arith))
+    left_more sent gone = grind (arith, common_steps, filter-append, map-append, left_at, left_from)

@@ -1,7 +1,8 @@
 -- The figures. What an output sent and how long it kept a cell are read off its departures, one for each slot in
 -- which it sent. And as many names are of an input as cells came to it: names of one input have different slots, and
 -- they are just those in which a cell came.
-use Rattle.std.proofs.Common.{◌≡◌, ◌≢◌, ℕ, zero, suc, ◌+◌, ◌-◌, ◌<◌, ◌≤◌, eqb, Bool, true, false, cond, List, [], ◌∷◌, ◌++◌, length, map, fold, max, Option, None, Some, refl, sym, ap, ◌∙◌, inl, inr, ⊎_elim, arith}
+use Rattle.std.proofs.Common.{rules, ◌≡◌, ◌≢◌, ℕ, zero, suc, ◌+◌, ◌-◌, ◌<◌, ◌≤◌, eqb, Bool, true, false, cond, List, [], ◌∷◌, ◌++◌, length, map, fold, max, Option, None, Some, refl, sym, ap, ◌∙◌, ⊎_elim, arith}
+use Rattle.std.proofs.lemmas.Grind.{common_steps}
 use Rattle.std.specs.Prelude.{◌&&◌, ◌==◌, count_by, filter, filter_map, is_some, option_map, slice_index_or}
 use Rattle.std.specs.List.{cons_option, enumerate_from, list_any, range_with_len, reduce}
 use Rattle.std.proofs.lemmas.Bool.{and_from, and_parts, cases_eq, cases_lt, eq-eqb, eqb-true, ne_eqb}
@@ -64,8 +65,7 @@ slots_append (x ∷ xs) ys = let rest = slots_append xs ys in omega arith
 
 fold_most : (a : ℕ) (xs : List ℕ) → fold max a xs ≡ max a (fold max 0 xs)
 fold_most a [] = omega arith
-fold_most a (x ∷ xs) =
-    let one = fold_most (max a x) xs in let two = fold_most (max 0 x) xs in omega arith
+fold_most a (x ∷ xs) = grind (arith, common_steps, fold_most (max a x) xs, fold_most (max 0 x) xs)
 
 slots_are : (slot : ℕ) (rs : List SlotRecord) → AreNumbered slot rs →
     slots_of (departures_of slot (gone_in rs)) ≡ fold max 0 (map (λ (r : SlotRecord). r.slot + 1) (filter sends rs))
@@ -94,10 +94,7 @@ module _ (j : ℕ) where
   none_its : (slot a : ℕ) (gone : List (Option Queued)) → j < a → filter is_its (departures_from slot a gone) ≡ []
   none_its slot a [] past = refl
   none_its slot a (None ∷ gone) past = none_its slot (a + 1) gone (omega arith)
-  none_its slot a (Some q ∷ gone) past =
-      let rest = filter is_its (departures_from slot (a + 1) gone) in
-      ap (λ (b : Bool). cond b (departure slot a q ∷ rest) rest) (ne_eqb a j (λ e. let P : ⊥ = omega arith in P))
-      ∙ none_its slot (a + 1) gone (omega arith)
+  none_its slot a (Some q ∷ gone) past = grind (arith, common_steps, ne_eqb, none_its slot (a + 1) gone)
 
   abbrev told_of : ℕ → Option Queued → List Departure
   told_of slot o = cons_option (option_map (departure slot j) o) []
@@ -108,16 +105,8 @@ module _ (j : ℕ) where
   its_one slot a k [] is = refl
   its_one slot a zero (None ∷ gone) is = none_its slot (a + 1) gone (omega arith)
   its_one slot a (suc k) (None ∷ gone) is = its_one slot (a + 1) k gone (omega arith)
-  its_one slot a zero (Some q ∷ gone) is =
-      let same : a ≡ j = omega arith in
-      let rest = filter is_its (departures_from slot (a + 1) gone) in
-      ap (λ (b : Bool). cond b (departure slot a q ∷ rest) rest) (eq-eqb a j same)
-      ∙ ap (λ (l : List Departure). departure slot a q ∷ l) (none_its slot (a + 1) gone (omega arith))
-      ∙ ap (λ (i : ℕ). departure slot i q ∷ []) same
-  its_one slot a (suc k) (Some q ∷ gone) is =
-      let rest = filter is_its (departures_from slot (a + 1) gone) in
-      ap (λ (b : Bool). cond b (departure slot a q ∷ rest) rest) (ne_eqb a j (λ e. let P : ⊥ = omega arith in P))
-      ∙ its_one slot (a + 1) k gone (omega arith)
+  its_one slot a zero (Some q ∷ gone) is = grind (arith, common_steps, eq-eqb, none_its)
+  its_one slot a (suc k) (Some q ∷ gone) is = grind (arith, common_steps, ne_eqb, its_one slot (a + 1) k gone)
 
   -- the departure of a record
   abbrev its_departure : SlotRecord → Option Departure
@@ -185,22 +174,16 @@ module _ (j : ℕ) where
 
 numbers_from : (a n t : ℕ) → a ≤ t → t < a + n → Has (range_with_len a n) t
 numbers_from a zero t low high = absurd (omega arith)
-numbers_from a (suc n) t low high =
-    ⊎_elim (λ same. inl same) (λ other. inr (numbers_from (a + 1) n t (omega arith) (omega arith))) (cases_eq a t)
+numbers_from a (suc n) t low high = grind (arith, common_steps, cases_eq, numbers_from (a + 1) n t)
 
 numbers_low : (a n t : ℕ) → Has (range_with_len a n) t → a ≤ t
 numbers_low a zero t has = absurd has
-numbers_low a (suc n) t has =
-    ⊎_elim (λ (same : a ≡ t). (let le : a ≤ t = omega arith in le))
+numbers_low a (suc n) t has = ⊎_elim (λ (same : a ≡ t). (let le : a ≤ t = omega arith in le))
     (λ more. let low = numbers_low (a + 1) n t more in (let le : a ≤ t = omega arith in le)) has
 
 numbers_differ : (a n : ℕ) → EachPair (λ (t u : ℕ). t ≢ u) (range_with_len a n)
 numbers_differ a zero = tt
-numbers_differ a (suc n) = (
-  all_from_has (λ (u : ℕ). a ≢ u) (range_with_len (a + 1) n)
-      (λ u has same. let low = numbers_low (a + 1) n u has in (let P : ⊥ = omega arith in P)),
-  numbers_differ (a + 1) n,
-)
+numbers_differ a (suc n) = grind (arith, common_steps, all_from_has, numbers_low, numbers_differ (a + 1) n)
 
 -- a cell of this input that is nowhere else spoken of
 abbrev some_arrival : ℕ → ℕ → Arrival
@@ -256,19 +239,11 @@ module _ (names : List Named) (rs : List LimitedRecord) (differ : EachPair Diffe
 
   -- none comes past the last record
   comes_inside : (t : ℕ) → comes t ≡ true → t < length rs
-  comes_inside t is =
-      ⊎_elim (λ lt. lt)
-      (λ past.
-      let long = length-map rs (λ (r : LimitedRecord). r.of_slot.came) in
-      let none : slice_index_or (came_of rs) t [] ≡ [] = get_or_past (came_of rs) t [] (omega arith) in
-      let clash : false ≡ true = sym (ap (λ (l : List (Option Queued)). is_some (came_to l i)) none) ∙ is in
-      absurd (let P : ⊥ = cc in P))
-      (cases_lt t (length rs))
+  comes_inside t is = grind (arith, common_steps, length-map, came_of, get_or_past, cases_lt)
 
   -- names of the input have different slots, in which a cell comes
   name_comes : (c : Named) → Has names c → c.input ≡ i → comes c.slot ≡ true
-  name_comes c has same =
-      sym (named_is (some_arrival c.slot i))
+  name_comes c has same = sym (named_is (some_arrival c.slot i))
       ∙ any_has (λ (d : Named). eqb d.slot c.slot && eqb d.input i) names c has
       (and_from (eqb c.slot c.slot) (eqb c.input i) (eq-eqb c.slot c.slot refl) (eq-eqb c.input i same))
 
@@ -278,23 +253,12 @@ module _ (names : List Named) (rs : List LimitedRecord) (differ : EachPair Diffe
   names_few : length (filter own names) ≤ length slots
   names_few =
       let mine = filter own names in
-      let at_one = all_from_has (λ (c : Named). c.input ≡ i) mine
-      (λ c has. eqb-true c.input i (kept_has own names c has).1) in
-      no_more IsOfSlot mine slots
-      (pairs_with Differ (AreApart IsOfSlot) (λ (c : Named). c.input ≡ i)
+      let at_one =
+      all_from_has (λ (c : Named). c.input ≡ i) mine (λ c has. eqb-true c.input i (kept_has own names c has).1) in
+      no_more IsOfSlot mine slots (pairs_with Differ (AreApart IsOfSlot) (λ (c : Named). c.input ≡ i)
       (λ c d one two apart t first second. apart (first ∙ sym second) (one ∙ sym two)) mine at_one
-      (pairs_kept Differ own names differ))
-      (all_from_has (Stands IsOfSlot slots) mine
-      (λ c has.
-      let kept = kept_has own names c has in
-      let passes = name_comes c kept.0 (eqb-true c.input i kept.1) in
-      let low = comes_inside c.slot passes in
-      record {
-        one = c.slot;
-        has = has_kept comes (range_with_len 0 (length rs)) c.slot
-            (numbers_from 0 (length rs) c.slot (omega arith) (omega arith)) passes;
-        own = refl;
-      }))
+      (pairs_kept Differ own names differ)) (all_from_has (Stands IsOfSlot slots) mine (λ c has.
+      search (arith, rules, kept_has, name_comes, eqb-true, comes_inside, has_kept, numbers_from)))
 
   abbrev IsSlotOf : ℕ → Named → Type 0
   IsSlotOf t c = c.slot ≡ t
@@ -302,19 +266,15 @@ module _ (names : List Named) (rs : List LimitedRecord) (differ : EachPair Diffe
   slots_few : length slots ≤ length (filter own names)
   slots_few =
       let mine = filter own names in
-      no_more IsSlotOf slots mine
-      (pairs_with (λ (t u : ℕ). t ≢ u) (AreApart IsSlotOf) (λ (t : ℕ). comes t ≡ true)
-      (λ t u one two apart c first second. apart (sym first ∙ second)) slots
-      (all_from_has (λ (t : ℕ). comes t ≡ true) slots
-      (λ t has. (kept_has comes (range_with_len 0 (length rs)) t has).1))
+      no_more IsSlotOf slots mine (pairs_with (λ (t u : ℕ). t ≢ u) (AreApart IsSlotOf) (λ (t : ℕ). comes t ≡ true)
+      (λ t u one two apart c first second. apart (sym first ∙ second)) slots (all_from_has
+      (λ (t : ℕ). comes t ≡ true) slots (λ t has. (kept_has comes (range_with_len 0 (length rs)) t has).1))
       (pairs_kept (λ (t u : ℕ). t ≢ u) comes (range_with_len 0 (length rs)) (numbers_differ 0 (length rs))))
-      (all_from_has (Stands IsSlotOf mine) slots
-      (λ t has.
+      (all_from_has (Stands IsSlotOf mine) slots (λ t has.
       let passes = (kept_has comes (range_with_len 0 (length rs)) t has).1 in
-      let it =
-      some_passes (λ (d : Named). eqb d.slot t && eqb d.input i) names (named_is (some_arrival t i) ∙ passes) in
-      let parts = and_parts (eqb it.one.slot t) (eqb it.one.input i) it.passes in
-      record { one = it.one; has = has_kept own names it.one it.has parts.1; own = eqb-true it.one.slot t parts.0 }))
+      let it = some_passes (λ (d : Named). eqb d.slot t && eqb d.input i) names
+      (named_is (some_arrival t i) ∙ passes) in
+      search (arith, rules, and_parts, has_kept, eqb-true)))
 
   pub names_counted : length (filter own names)
       ≡ count_by (λ (r : SlotRecord). is_some (came_to r.came i)) (slots_in rs)
@@ -332,18 +292,12 @@ inputs_same : (st : State) (f : ℕ → InputFigures) (a n : ℕ) → ((i : ℕ)
     map (λ (x : ℕ × Seen). input_told st x.0 x.1) (enumerate_from a (map seen_as (map f (range_with_len a n))))
     ≡ map f (range_with_len a n)
 inputs_same st f a zero each = refl
-inputs_same st f a (suc n) each =
-    let here = each a in
-    let rest = inputs_same st f (a + 1) n each in
-    λ k. here k ∷ rest k
+inputs_same st f a (suc n) each = grind (arith, common_steps, inputs_same st f (a + 1) n each)
 
 outputs_same : (f g : ℕ → OutputFigures) (a n : ℕ) → ((j : ℕ) → f j ≡ g j) →
     map f (range_with_len a n) ≡ map g (range_with_len a n)
 outputs_same f g a zero each = refl
-outputs_same f g a (suc n) each =
-    let here = each a in
-    let rest = outputs_same f g (a + 1) n each in
-    λ k. here k ∷ rest k
+outputs_same f g a (suc n) each = grind (arith, common_steps, outputs_same f g (a + 1) n each)
 
 module _ (came : List Arrival) (st : State) (rs : List LimitedRecord) (numbered : AreNumbered 0 (slots_in rs))
     (differ : EachPair Differ (named_in st))
@@ -352,36 +306,10 @@ module _ (came : List Arrival) (st : State) (rs : List LimitedRecord) (numbered 
     (sent : sent_told came st ≡ departures_of 0 (gone_in (slots_in rs))) where
   input_same : (i : ℕ) → input_told st i (seen_as (input_figures (slots_in rs) i)) ≡ input_figures (slots_in rs) i
   unfolding input_figures
-  input_same i =
-      let cells = names_counted (named_in st) rs differ named_is i in
-      λ k. record {
-        cells = cells k;
-        longest = (input_figures (slots_in rs) i).longest;
-        slack = (input_figures (slots_in rs) i).slack;
-      }
+  input_same i = grind (arith, common_steps, names_counted)
 
   pub figures_are : st.head.ports ≡ ports → st.head.proposals ≡ x.proposals → st.head.most ≡ x.most →
       st.inputs ≡ map seen_as x.inputs → x ≡ figures_told came st
   unfolding figures_told figures_of
   figures_are many proposals most inputs =
-      let all = slots_in rs in
-      let slots : x.slots ≡ slots_of (sent_told came st) =
-      ap (λ (y : Figures). y.slots) figures ∙ sym (slots_are 0 all numbered) ∙ ap slots_of (sym sent) in
-      let seen : x.inputs ≡ map (λ (y : ℕ × Seen). input_told st y.0 y.1) (enumerate_from 0 st.inputs) =
-      ap (λ (y : Figures). y.inputs) figures
-      ∙ sym (inputs_same st (input_figures all) 0 ports input_same)
-      ∙ ap (λ (l : List InputFigures). map (λ (y : ℕ × Seen). input_told st y.0 y.1) (enumerate_from 0 (map seen_as l)))
-      (sym (ap (λ (y : Figures). y.inputs) figures))
-      ∙ ap (λ (l : List Seen). map (λ (y : ℕ × Seen). input_told st y.0 y.1) (enumerate_from 0 l)) (sym inputs) in
-      let left : x.outputs ≡ map (output_told (sent_told came st)) (range_with_len 0 st.head.ports) =
-      ap (λ (y : Figures). y.outputs) figures
-      ∙ sym (outputs_same (output_told (sent_told came st)) (output_figures all) 0 ports
-      (λ j. output_same j all (sent_told came st) numbered sent))
-      ∙ ap (λ (n : ℕ). map (output_told (sent_told came st)) (range_with_len 0 n)) (sym many) in
-      λ k. record {
-        slots = slots k;
-        proposals = sym proposals k;
-        most = sym most k;
-        inputs = seen k;
-        outputs = left k;
-      }
+      grind (arith, common_steps, slots_are, inputs_same, input_same, outputs_same, output_same)

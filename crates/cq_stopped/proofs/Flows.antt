@@ -1,7 +1,8 @@
 -- The fifth clause: the cells of each flow left in the order of arrival, those that wait came after them, and of two
 -- that wait the one that came first goes first. What left an output, and then what waits for it in the order of keys,
 -- stands so.
-use Rattle.std.proofs.Common.{◌≡◌, ℕ, ◌<◌, ◌⊎◌, true, List, map, Option, sym, ap, ◌∙◌, subst, ⊎_elim, arith}
+use Rattle.std.proofs.Common.{rules, ◌≡◌, ℕ, ◌<◌, ◌⊎◌, true, List, map, Option, sym, ap, subst, ⊎_elim, arith, ◌∙◌}
+use Rattle.std.proofs.lemmas.Grind.{common_steps}
 use Rattle.std.proofs.lemmas.List.Elements.{All-from_recursion}
 use Rattle.cq_base.specs.Cells.{IsBefore}
 use Rattle.cq_base.specs.declared.cell.Departure.{Departure}
@@ -41,12 +42,7 @@ module _ (w : Switch) (at : Taken) (ideal : IdealState) (cs : List (List (Option
 
   of_one : (a b : Queued) → Keeps w at ideal cs known a → Keeps w at ideal cs known b →
       Flow (named_as a) (named_as b) → AreOfOne a b
-  of_one a b first second flow =
-      record {
-        input = flow.input;
-        output = sym (its_output w at ideal cs known a first) ∙ flow.output ∙ its_output w at ideal cs known b second;
-        class = sym (its_class w at ideal cs known a first) ∙ flow.class ∙ its_class w at ideal cs known b second;
-      }
+  of_one a b first second flow = grind (arith, common_steps, its_output, its_class)
 
   -- ## What left
 
@@ -80,13 +76,10 @@ module _ (w : Switch) (at : Taken) (ideal : IdealState) (cs : List (List (Option
       let j = a.cell.output in
       let there : Has (list_of ideal.lists a.cell.output) b =
       subst (λ (o : ℕ). Has (list_of ideal.lists o) b) (sym both.output) second.there in
-      ⊎_elim
-      (λ (either : (IsBefore a b × Follows a b) ⊎ (IsBefore b a × Follows b a)).
-      ⊎_elim (λ (x : IsBefore a b × Follows a b). x.0)
-      (λ (x : IsBefore b a × Follows b a).
+      ⊎_elim (λ (either : (IsBefore a b × Follows a b) ⊎ (IsBefore b a × Follows b a)).
+      ⊎_elim (λ (x : IsBefore a b × Follows a b). x.0) (λ (x : IsBefore b a × Follows b a).
       let late = x.1.later (sym both.input) (sym both.class) in absurd (omega arith)) either)
-      (λ (same : a ≡ b).
-      let slots = ap (λ (q : Queued). q.key.slot) same in absurd (omega arith))
+      (λ (same : a ≡ b). let slots = ap (λ (q : Queued). q.key.slot) same in absurd (omega arith))
       (pair_of_has (λ (x y : Queued). IsBefore x y × Follows x y) (list_of ideal.lists j) a b
       (pairs_both IsBefore Follows (list_of ideal.lists j)
       (each_pair_of IsBefore (list_of ideal.lists j) (known.agrees.rising j))
@@ -99,31 +92,18 @@ module _ (w : Switch) (at : Taken) (ideal : IdealState) (cs : List (List (Option
       let After : Sent → Named → Type 0 = λ d c. Flow d.cell c → d.cell.slot < c.slot in
       let Ahead : Named → Named → Type 0 = λ a b. Flow a b → a.slot < b.slot → is_ahead a b ≡ true in
       record {
-        sent =
-            all_pairs (λ (d e : Sent). Flow d.cell e.cell → d.cell.slot < e.cell.slot) (map sent_as at.sent)
+        sent = all_pairs (λ (d e : Sent). Flow d.cell e.cell → d.cell.slot < e.cell.slot) (map sent_as at.sent)
             (pairs_of_images sent_as (λ (d e : Sent). Flow d.cell e.cell → d.cell.slot < e.cell.slot) at.sent
             sent_in_turn);
         after =
-            All-from_recursion _ (map sent_as at.sent)
-            (all_from_has _ (map sent_as at.sent)
-            (λ d has.
+            All-from_recursion _ (map sent_as at.sent) (all_from_has _ (map sent_as at.sent) (λ d has.
             let image = image_has sent_as at.sent d has in
-            All-from_recursion (After d) queued
-            (all_from_has (After d) queued
-            (λ c there.
+            All-from_recursion (After d) queued (all_from_has (After d) queued (λ c there.
             let it = is_waiting w at ideal cs known c there in
-            subst (λ (e : Sent). After e c) image.2
-            (subst (λ (x : Named). After (sent_as image.0) x) it.is
-            (waits_after image.0 it.cell image.1 it.waits))))));
-        queued =
-            All-from_recursion _ queued
-            (all_from_has _ queued
-            (λ a first.
+            search (arith, rules, waits_after)))));
+        queued = All-from_recursion _ queued (all_from_has _ queued (λ a first.
             let x = is_waiting w at ideal cs known a first in
-            All-from_recursion (Ahead a) queued
-            (all_from_has (Ahead a) queued
-            (λ b second.
+            All-from_recursion (Ahead a) queued (all_from_has (Ahead a) queued (λ b second.
             let y = is_waiting w at ideal cs known b second in
-            subst (λ (c : Named). Ahead c b) x.is
-            (subst (λ (c : Named). Ahead (named_as x.cell) c) y.is (goes_first x.cell y.cell x.waits y.waits))))));
+            search (arith, rules, goes_first)))));
       }

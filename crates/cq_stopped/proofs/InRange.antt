@@ -1,14 +1,12 @@
 -- The numbers of a stopped run's state are in range.
-use Rattle.std.proofs.Common.{◌≡◌, ℕ, zero, suc, ◌+◌, ◌-◌, ◌<◌, ◌≤◌, ◌^◌, Bool, not, List, [], ◌∷◌, length, map, fold, min, max, refl, sym, ap, ◌∙◌, subst, arith}
-use Rattle.std.specs.Prelude.{IfSome, filter, slice_index_or, sum}
+use Rattle.std.proofs.lemmas.Grind.{common_steps}
+use Rattle.std.proofs.Common.{rules, ◌≡◌, ℕ, zero, suc, ◌+◌, ◌-◌, ◌<◌, ◌≤◌, ◌^◌, Bool, not, List, [], ◌∷◌, length, map, fold, min, max, refl, sym, ap, ◌∙◌, subst, arith}
+use Rattle.std.specs.Prelude.{IfSome, filter, slice_index_or}
 use Rattle.std.specs.List.{AllByRecursion, enumerate_from, flat_map, range_with_len, reduce}
 use Rattle.std.proofs.lemmas.List.{length-map}
 use Rattle.std.proofs.lemmas.List.Filters.{length-filter_both}
 use Rattle.std.proofs.lemmas.List.FromFn.{length-map-range_with_len}
-use Rattle.cq_base.specs.Key.{is_before}
 use Rattle.cq_base.specs.declared.cell.Queued.{Queued}
-use Rattle.cq_base.specs.declared.cell.Transfer.{Transfer}
-use Rattle.cq_base.specs.declared.figures.Figures.{Figures}
 use Rattle.cq_ideal.specs.Ending.{arriving_from}
 use Rattle.cq_ideal.specs.IdealSlot.{IdealState}
 use Rattle.cq_laws.proofs.AddingUp.{figures_fold}
@@ -16,8 +14,8 @@ use Rattle.cq_laws.specs.Fabric.{Fabric, cushion_of, input}
 use Rattle.cq_laws.specs.FabricSlot.{SlotRecord}
 use Rattle.cq_laws.specs.Frozen.{fabric_in, marked_in}
 use Rattle.cq_laws.specs.LimitedFabric.{LimitedRecord, slots_in}
-use Rattle.cq_laws.specs.Measures.{figures_of, input_figures, proposals_in, slacks}
-use Rattle.cq_laws.specs.Records.{transfers_in, transfers_of_run}
+use Rattle.cq_laws.specs.Measures.{figures_of, input_figures, slacks}
+use Rattle.cq_laws.specs.Records.{transfers_of_run}
 use Rattle.cq_prefs.specs.FirstCells.{list_of}
 use Rattle.cq_rank.specs.Machine.{machine_at}
 use Rattle.cq_resume.proofs.Each.{all_both}
@@ -64,10 +62,7 @@ module _ (last : ℕ) where
   cushions_few : (f : Fabric) → ((j : ℕ) → length (list_of f.buffers j) ≤ last) → (a : ℕ) (cells : List Queued) →
       AllByRecursion IsFew (map (λ (at : ℕ × Queued). cushion_of f at.1 - at.0) (enumerate_from a cells))
   cushions_few f few a [] = tt
-  cushions_few f few a (c ∷ cells) =
-      let most = few c.cell.output in
-      let less = few_kept (λ (x : Queued). is_before x.key c.key) (list_of f.buffers c.cell.output) in
-      ((let P : cushion_of f c - a ≤ last = omega arith in P), cushions_few f few (a + 1) cells)
+  cushions_few f few a (c ∷ cells) = grind (arith, common_steps, few_kept, cushions_few f few (a + 1) cells)
 
   module _ (ports : ℕ) where
     longest_few : (i : ℕ) (rs : List SlotRecord) → AllByRecursion (IsRecordedWithin ports last) rs →
@@ -79,19 +74,12 @@ module _ (last : ℕ) where
         AllByRecursion IsFew (flat_map (λ (r : SlotRecord). slacks r.arrived i) rs)
     unfolding slacks
     slacks_few i [] all = tt
-    slacks_few i (r ∷ rs) all =
-        all_both IsFew (slacks r.arrived i) (flat_map (λ (r : SlotRecord). slacks r.arrived i) rs)
-        (cushions_few r.arrived all.0.cushions 0 (input r.arrived i)) (slacks_few i rs all.1)
+    slacks_few i (r ∷ rs) all = grind (arith, common_steps, all_both, cushions_few, slacks_few i rs all.1)
 
     one_seen : last < 2 ^ 63 → (i : ℕ) (rs : List SlotRecord) → AllByRecursion (IsRecordedWithin ports last) rs →
         IsSeen (seen_as (input_figures rs i))
     unfolding input_figures
-    one_seen low i rs all =
-        let most = most_few 0 (map (λ (r : SlotRecord). length (input r.arrived i)) rs) (omega arith) (longest_few i
-        rs all) in (
-          (let P : fold max 0 (map (λ (r : SlotRecord). length (input r.arrived i)) rs) < 2 ^ 63 = omega arith in P),
-          least_some low (flat_map (λ (r : SlotRecord). slacks r.arrived i) rs) (slacks_few i rs all),
-        )
+    one_seen low i rs all = grind (arith, common_steps, most_few, longest_few, least_some, slacks_few)
 
     pub all_seen : last < 2 ^ 63 → (rs : List SlotRecord) → AllByRecursion (IsRecordedWithin ports last) rs →
         (a n : ℕ) →
@@ -103,8 +91,7 @@ module _ (last : ℕ) where
         AllByRecursion (IsMoved ports) (transfers_of_run rs)
     unfolding transfers_of_run
     all_moved [] all = tt
-    all_moved (r ∷ rs) all = all_both (IsMoved ports) (transfers_in r) (flat_map transfers_in rs) all.0.moved
-        (all_moved rs all.1)
+    all_moved (r ∷ rs) all = grind (arith, common_steps, all_both, all_moved rs all.1)
 
 -- ## Rank states
 
@@ -126,48 +113,31 @@ module _ (w : Switch) (ranks : List (List ℕ)) (at : Taken) (rs : List LimitedR
   slots_known = known_run w configured.traffic at.frozen.next ranks rs (marked_in at.frozen) runs
 
   pub within : RunsWithin ports 0 at.frozen.next at.frozen.next rs (marked_in at.frozen)
-  within =
-      run_within w configured.names configured.low 0 at.frozen.next at.frozen.next (opening w ranks)
-      (marked_in at.frozen) rs slots_known (omega arith) early
-      (empty_within ports ranks configured.openings_low)
+  within = run_within w configured.names configured.low 0 at.frozen.next at.frozen.next (opening w ranks)
+      (marked_in at.frozen) rs slots_known (omega arith) early (empty_within ports ranks configured.openings_low)
 
   pub figures_are_of : at.frozen.figures ≡ figures_of ports (slots_in rs)
   figures_are_of = ap (λ (k : Kept). k.figures) kept ∙ sym (figures_fold ports (slots_in rs))
 
   proposals_low : at.frozen.figures.proposals < 2 ^ 63
   unfolding figures_of
-  proposals_low =
-      let same : at.frozen.figures.proposals ≡ sum (flat_map proposals_in (slots_in rs)) =
-      ap (λ (x : Figures). x.proposals) figures_are_of in
-      let all = all_proposed w configured.few at.frozen.next ranks (marked_in at.frozen) rs slots_known in
-      omega arith
+  proposals_low = grind (arith, common_steps, figures_are_of, all_proposed, slots_known)
 
   most_low : at.frozen.figures.most < 2 ^ 63
   unfolding figures_of
-  most_low =
-      let same : at.frozen.figures.most ≡ fold max 0 (flat_map proposals_in (slots_in rs)) =
-      ap (λ (x : Figures). x.most) figures_are_of in
-      let less = most_of_all 0 (flat_map proposals_in (slots_in rs)) in
-      let all = all_proposed w configured.few at.frozen.next ranks (marked_in at.frozen) rs slots_known in
-      omega arith
+  most_low = grind (arith, common_steps, figures_are_of, most_of_all, all_proposed, slots_known)
 
   seen_many : length (map seen_as at.frozen.figures.inputs) ≡ ports
   unfolding figures_of
-  seen_many =
-      length-map at.frozen.figures.inputs seen_as
-      ∙ ap (λ (x : Figures). length x.inputs) figures_are_of
-      ∙ length-map-range_with_len (input_figures (slots_in rs)) 0 ports
+  seen_many = grind (arith, common_steps, length-map, figures_are_of, length-map-range_with_len)
 
   seen_right : AllByRecursion IsSeen (map seen_as at.frozen.figures.inputs)
   unfolding figures_of
   seen_right =
-      subst (λ (x : Figures). AllByRecursion IsSeen (map seen_as x.inputs)) (sym figures_are_of)
-      (all_seen at.frozen.next ports early (slots_in rs) within.records 0 ports)
+      search (arith, rules, figures_are_of, all_seen at.frozen.next ports early (slots_in rs) within.records 0 ports)
 
   moved_right : AllByRecursion (IsMoved ports) at.note
-  moved_right =
-      subst (λ (l : List Transfer). AllByRecursion (IsMoved ports) l) (sym (ap (λ (k : Kept). k.note) kept))
-      (all_moved at.frozen.next ports (slots_in rs) within.records)
+  moved_right = grind (arith, common_steps, all_moved at.frozen.next ports (slots_in rs) within.records)
 
   module _ (ideal : IdealState)
       (known : Known w at.frozen.next (fabric_in at.frozen) ideal (came_of rs) at.sent) where
@@ -188,8 +158,7 @@ module _ (w : Switch) (ranks : List (List ℕ)) (at : Taken) (rs : List LimitedR
         let own = it.kept.own in
         let level : q.key.level ≡ (machine_at w.machines q.cell.output).level q.cell.class = own.keyed.level in
         let low = configured.level q.cell.output q.cell.class it.kept.inside own.keyed.class in
-        subst (λ (n : Named). IsNamed ports n) it.is
-        (record {
+        subst (λ (n : Named). IsNamed ports n) it.is (record {
           level = (let le : q.key.level ≤ 15 = omega arith in le);
           rank = own.keyed.rank;
           slot = (let lt : q.key.slot < 2 ^ 63 = omega arith in lt);
@@ -198,32 +167,25 @@ module _ (w : Switch) (ranks : List (List ℕ)) (at : Taken) (rs : List LimitedR
 
     queued_right : (names : List Named) → ((c : Named) → Has names c → Has (queued_in (told_state w at)) c) →
         AllByRecursion (IsNamed ports) names
-    queued_right names among =
-        let st = told_state w at in
-        all_from_has (IsNamed ports) names
-        (λ c has. named_right c (has_left (queued_in st) (map (λ (d : Sent). d.cell) st.sent) c (among c has)))
+    queued_right names among = search (rules, all_from_has, named_right, has_left)
 
     listed_right : AllByRecursion (IsNamed ports) (told_state w at).listed
-    listed_right =
-        queued_right (told_state w at).listed (has_left (told_state w at).listed (told_state w at).buffered)
+    listed_right = grind (arith, common_steps, queued_right, has_left)
 
     buffered_right : AllByRecursion (IsNamed ports) (told_state w at).buffered
-    buffered_right =
-        queued_right (told_state w at).buffered (has_right (told_state w at).listed (told_state w at).buffered)
+    buffered_right = grind (arith, common_steps, queued_right, has_right)
 
     sent_right : AllByRecursion (IsSent ports) (told_state w at).sent
     unfolding state_of
     sent_right =
         let st = told_state w at in
         let sent = map sent_as at.sent in
-        all_from_has (IsSent ports) sent
-        (λ x has.
+        all_from_has (IsSent ports) sent (λ x has.
         let it = image_has sent_as at.sent x has in
         let before = (all_of_has (IsSentRight w at.frozen.next) at.sent it.0 known.departed it.1).before in
         let slot : it.0.slot ≡ x.slot = ap (λ (y : Sent). y.slot) it.2 in (
           (let lt : x.slot < 2 ^ 63 = omega arith in lt),
-          named_right x.cell
-              (has_right (queued_in st) (map (λ (d : Sent). d.cell) sent) x.cell
+          named_right x.cell (has_right (queued_in st) (map (λ (d : Sent). d.cell) sent) x.cell
               (has_image (λ (d : Sent). d.cell) sent x has)),
         ))
 

@@ -1,6 +1,7 @@
 -- Lists that are joined, sifted and mapped: what they have, and what holds of each of their items and each that stands
 -- behind it.
-use Rattle.std.proofs.Common.{◌≡◌, ℕ, zero, suc, ◌<◌, Bool, true, false, cond, List, [], ◌∷◌, ◌++◌, map, refl, sym, ap, ◌∙◌, subst, inl, inr, ⊎_elim, arith}
+use Rattle.std.proofs.lemmas.Grind.{common_steps}
+use Rattle.std.proofs.Common.{rules, ◌≡◌, ℕ, zero, suc, ◌<◌, Bool, true, false, cond, List, [], ◌∷◌, ◌++◌, map, refl, sym, ap, ◌∙◌, subst, inl, inr, ⊎_elim, arith}
 use Rattle.std.specs.Prelude.{◌==◌, filter, slice_index_or}
 use Rattle.std.specs.List.{AllByRecursion, flat_map, list_any}
 use Rattle.std.proofs.lemmas.Bool.{eq-eqb, or_left, or_right}
@@ -24,8 +25,7 @@ module _ {X : Type 0} where
 
   pub is_at : (xss : List (List X)) (x : X) → Has (all_of xss) x → IsAt xss x
   is_at [] x has = absurd has
-  is_at (xs ∷ xss) x has =
-      ⊎_elim (λ (here : Has xs x). record { place = zero; has = here })
+  is_at (xs ∷ xss) x has = ⊎_elim (λ (here : Has xs x). record { place = zero; has = here })
       (λ (later : Has (all_of xss) x). let it = is_at xss x later in record { place = suc it.place; has = it.has })
       (has_cases xs (all_of xss) x has)
 
@@ -38,19 +38,15 @@ module _ {X : Type 0} where
     pub pairs_join : (xs ys : List X) → EachPair R xs → EachPair R ys →
         ((x y : X) → Has xs x → Has ys y → R x y) → EachPair R (xs ++ ys)
     pairs_join [] ys first second cross = second
-    pairs_join (x ∷ xs) ys first second cross = (
-      all_both (R x) xs ys first.0 (all_from_has (R x) ys (λ y has. cross x y (inl refl) has)),
-      pairs_join xs ys first.1 second (λ z y one two. cross z y (inr one) two),
-    )
+    pairs_join (x ∷ xs) ys first second cross =
+        grind (arith, common_steps, all_both, all_from_has, pairs_join xs ys first.1 second)
 
     -- within each list, and from each list to each later one
     pub pairs_of_all : (xss : List (List X)) → ((i : ℕ) → EachPair R (list_at xss i)) →
         ((i k : ℕ) (x y : X) → i < k → Has (list_at xss i) x → Has (list_at xss k) y → R x y) → EachPair R (all_of xss)
     pairs_of_all [] within across = tt
-    pairs_of_all (xs ∷ xss) within across =
-        pairs_join xs (all_of xss) (within zero)
-        (pairs_of_all xss (λ i. within (suc i))
-        (λ i k x y lt one two. across (suc i) (suc k) x y (omega arith) one two))
+    pairs_of_all (xs ∷ xss) within across = pairs_join xs (all_of xss) (within zero) (pairs_of_all xss
+        (λ i. within (suc i)) (λ i k x y lt one two. across (suc i) (suc k) x y (omega arith) one two))
         (λ x y one two. let it = is_at xss y two in across zero (suc it.place) x y (omega arith) one it.has)
 
   all_of_both : (P Q : X → Type 0) (xs : List X) → AllByRecursion P xs → AllByRecursion Q xs →
@@ -61,8 +57,7 @@ module _ {X : Type 0} where
   pub pairs_both : (R S : X → X → Type 0) (xs : List X) → EachPair R xs → EachPair S xs →
       EachPair (λ x y. R x y × S x y) xs
   pairs_both R S [] first second = tt
-  pairs_both R S (x ∷ xs) first second =
-      (all_of_both (R x) (S x) xs first.0 second.0, pairs_both R S xs first.1 second.1)
+  pairs_both R S (x ∷ xs) first second = grind (arith, common_steps, all_of_both, pairs_both R S xs first.1 second.1)
 
   -- ## Some item passes
 
@@ -138,17 +133,11 @@ module _ {X Y : Type 0} (number : X → ℕ) (f : X → Y) where
         AllByRecursion (λ y. number x ≡ number y → R (f x) (f y)) xs
     first_pairs x xs pairs =
         let rest = filter (λ z. number z == number x) xs in
-        let all : EachPair R (f x ∷ map f rest) =
-        subst (λ (b : Bool). EachPair R (map f (cond b (x ∷ rest) rest))) (eq-eqb (number x) (number x) refl) pairs in
-        all_from_has (λ y. number x ≡ number y → R (f x) (f y)) xs
-        (λ y has same. all_of_has (R (f x)) (map f rest) (f y) all.0 (has_number xs y (number x) (sym same) has))
+        search (arith, rules, all_from_has, all_of_has (R (f x)) (map f rest), has_number xs)
 
     -- what holds of each pair of one number
     pub pairs_by_number : (P : ℕ → Type 0) (xs : List X) → AllByRecursion (λ x. P (number x)) xs →
         ((j : ℕ) → P j → EachPair R (of_number j xs)) →
         EachPair (λ x y. number x ≡ number y → R (f x) (f y)) xs
     pairs_by_number P [] own pairs = tt
-    pairs_by_number P (x ∷ xs) own pairs = (
-      first_pairs x xs (pairs (number x) own.0),
-      pairs_by_number P xs own.1 (λ j p. of_first x xs j (pairs j p)),
-    )
+    pairs_by_number P (x ∷ xs) own pairs = search (rules, first_pairs, of_first, pairs_by_number P xs own.1)

@@ -1,7 +1,8 @@
 -- The departures and the transfers of a run stand in order: slot by slot, those of a slot by output, and by phase and
 -- input.
-use Rattle.std.proofs.Common.{◌≡◌, ℕ, zero, suc, ◌+◌, ◌<◌, ◌≤◌, ◌⊎◌, List, [], ◌∷◌, length, map, Option, Some, None, refl, sym, ap, ◌∙◌, subst, inl, inr, arith}
-use Rattle.std.specs.List.{AllByRecursion, filter_map, flat_map, range_with_len}
+use Rattle.std.proofs.lemmas.Grind.{common_steps}
+use Rattle.std.proofs.Common.{rules, ◌≡◌, ℕ, zero, suc, ◌+◌, ◌<◌, ◌≤◌, ◌⊎◌, List, [], ◌∷◌, length, map, Option, Some, None, refl, inr, arith, inl}
+use Rattle.std.specs.List.{AllByRecursion, range_with_len, flat_map}
 use Rattle.std.specs.Option.{option_map}
 use Rattle.cq_base.specs.Arriving.{arriving}
 use Rattle.cq_base.specs.Cells.{first_for}
@@ -44,12 +45,7 @@ no_earlier : (slot : ℕ) (slots : List (List (Option Queued))) →
     AllByRecursion (λ (d : Departure). slot ≤ d.slot) (departures_of slot slots)
 unfolding departures_of
 no_earlier slot [] = tt
-no_earlier slot (gone ∷ slots) =
-    all_both (λ (d : Departure). slot ≤ d.slot) (departures_in slot gone) (departures_of (slot + 1) slots)
-    (all_weaker (λ (d : Departure). d.slot ≡ slot) (λ (d : Departure). slot ≤ d.slot) (λ d same. omega arith)
-    (departures_in slot gone) (of_slot slot gone))
-    (all_weaker (λ (d : Departure). slot + 1 ≤ d.slot) (λ (d : Departure). slot ≤ d.slot) (λ d late. omega arith)
-    (departures_of (slot + 1) slots) (no_earlier (slot + 1) slots))
+no_earlier slot (gone ∷ slots) = search (rules, all_both, all_weaker, of_slot, no_earlier (slot + 1) slots)
 
 slot_in_order : (slot a : ℕ) (gone : List (Option Queued)) → EachPair DepartsBefore (departures_from slot a gone)
 slot_in_order slot a [] = tt
@@ -66,14 +62,7 @@ pub departures_in_order : (slot : ℕ) (slots : List (List (Option Queued))) →
 unfolding departures_of departures_in
 departures_in_order slot [] = tt
 departures_in_order slot (gone ∷ slots) =
-    pairs_join DepartsBefore (departures_in slot gone) (departures_of (slot + 1) slots) (slot_in_order slot 0 gone)
-    (departures_in_order (slot + 1) slots)
-    (λ d e first second.
-    let now = all_of_has (λ (x : Departure). x.slot ≡ slot) (departures_in slot gone) d (of_slot slot gone) first in
-    let late =
-    all_of_has (λ (x : Departure). slot + 1 ≤ x.slot) (departures_of (slot + 1) slots) e (no_earlier (slot + 1) slots)
-    second in
-    inl (let lt : d.slot < e.slot = omega arith in lt))
+    search (rules, pairs_join, slot_in_order, all_of_has, of_slot, no_earlier, departures_in_order (slot + 1) slots)
 
 -- ## Transfers
 
@@ -93,13 +82,7 @@ noted_is slot phase i cells (Some output) t is = by (first_for output cells) is
 
     by : (o : Option Queued) → option_map made o ≡ Some t → IsOfInput slot phase i t
     by None is = absurd (let P : ⊥ = cc in P)
-    by (Some c) is =
-        let same : made c ≡ t = cc in
-        record {
-          slot_is = ap (λ (x : Transfer). x.slot) (sym same);
-          phase_is = ap (λ (x : Transfer). x.phase) (sym same);
-          input_is = ap (λ (x : Transfer). x.input) (sym same);
-        }
+    by (Some c) is = grind (arith, common_steps)
 
 range_from : (b a n : ℕ) → b ≤ a → AllByRecursion (λ (k : ℕ). b ≤ k) (range_with_len a n)
 range_from b a zero le = tt
@@ -107,11 +90,7 @@ range_from b a (suc n) le = (le, range_from b (a + 1) n (omega arith))
 
 range_rises : (a n : ℕ) → EachPair (λ (i k : ℕ). i < k) (range_with_len a n)
 range_rises a zero = tt
-range_rises a (suc n) = (
-  all_weaker (λ (k : ℕ). a + 1 ≤ k) (λ (k : ℕ). a < k) (λ k le. omega arith) (range_with_len (a + 1) n)
-      (range_from (a + 1) (a + 1) n (omega arith)),
-  range_rises (a + 1) n,
-)
+range_rises a (suc n) = grind (arith, common_steps, all_weaker, range_from, range_rises (a + 1) n)
 
 module _ (m : Partners) (lists : List (List Queued)) (slot phase : ℕ) where
   abbrev of_input : ℕ → Option Transfer
@@ -124,49 +103,21 @@ module _ (m : Partners) (lists : List (List Queued)) (slot phase : ℕ) where
 
   pub phase_transfers : AllByRecursion IsOfPhase (transfers_of m lists slot phase)
   unfolding transfers_of
-  phase_transfers =
-      all_from_has IsOfPhase (filter_map of_input (range_with_len 0 (length m)))
-      (λ t has.
-      let it = looked_up of_input (range_with_len 0 (length m)) t has in
-      let own = noted_is slot phase it.origin (list_of lists it.origin) (partner_of m it.origin) t it.is in
-      record { slot_is = own.slot_is; phase_is = own.phase_is })
+  phase_transfers = search (rules, all_from_has, looked_up, noted_is)
 
   pub phase_in_order : EachPair IsMovedBefore (transfers_of m lists slot phase)
   unfolding transfers_of
-  phase_in_order =
-      pairs_looked_up of_input (λ (i k : ℕ). i < k) IsMovedBefore
-      (λ i k a b lt first second.
-      let x = noted_is slot phase i (list_of lists i) (partner_of m i) a first in
-      let y = noted_is slot phase k (list_of lists k) (partner_of m k) b second in
-      let less : a.input < b.input = omega arith in
-      inr (x.slot_is ∙ sym y.slot_is, inr (x.phase_is ∙ sym y.phase_is, less)))
-      (range_with_len 0 (length m)) (range_rises 0 (length m))
+  phase_in_order = pairs_looked_up of_input (λ (i k : ℕ). i < k) IsMovedBefore
+      (λ i k a b lt first second. search (arith, rules, noted_is)) (range_with_len 0 (length m))
+      (range_rises 0 (length m))
 
 slot_transfers : (r : SlotRecord) → AllByRecursion (λ (t : Transfer). t.slot ≡ r.slot) (transfers_in r)
 unfolding transfers_in
-slot_transfers r =
-    all_both (λ (t : Transfer). t.slot ≡ r.slot) (transfers_of r.first r.arrived.inputs r.slot 1)
-    (transfers_of r.second r.sent.inputs r.slot 2)
-    (all_weaker (IsOfPhase r.first r.arrived.inputs r.slot 1) (λ (t : Transfer). t.slot ≡ r.slot) (λ t is. is.slot_is)
-    (transfers_of r.first r.arrived.inputs r.slot 1) (phase_transfers r.first r.arrived.inputs r.slot 1))
-    (all_weaker (IsOfPhase r.second r.sent.inputs r.slot 2) (λ (t : Transfer). t.slot ≡ r.slot) (λ t is. is.slot_is)
-    (transfers_of r.second r.sent.inputs r.slot 2) (phase_transfers r.second r.sent.inputs r.slot 2))
+slot_transfers r = grind (arith, common_steps, all_both, all_weaker, phase_transfers)
 
 slot_moved : (r : SlotRecord) → EachPair IsMovedBefore (transfers_in r)
 unfolding transfers_in
-slot_moved r =
-    let first = transfers_of r.first r.arrived.inputs r.slot 1 in
-    let second = transfers_of r.second r.sent.inputs r.slot 2 in
-    pairs_join IsMovedBefore first second (phase_in_order r.first r.arrived.inputs r.slot 1)
-    (phase_in_order r.second r.sent.inputs r.slot 2)
-    (λ a b one two.
-    let x =
-    all_of_has (IsOfPhase r.first r.arrived.inputs r.slot 1) first a (phase_transfers r.first r.arrived.inputs r.slot 1)
-    one in
-    let y =
-    all_of_has (IsOfPhase r.second r.sent.inputs r.slot 2) second b (phase_transfers r.second r.sent.inputs r.slot 2)
-    two in
-    inr (x.slot_is ∙ sym y.slot_is, inl (let lt : a.phase < b.phase = omega arith in lt)))
+slot_moved r = grind (arith, common_steps, pairs_join, phase_in_order, all_of_has, phase_transfers)
 
 -- the transfers of some slots
 pub record AreMoved (from to : ℕ) (ts : List Transfer) : Type 0 where
@@ -211,7 +162,4 @@ module _ (w : Switch) where
   pub moved_in_order : (n : ℕ) (f g : Marked Fabric) (rs : List LimitedRecord) →
       Runs w 0 (arriving_from w.came 0 n) f rs g → AreMoved 0 n (transfers_of_run (slots_in rs))
   unfolding arriving_from
-  moved_in_order n f g rs run =
-      let it = moved_from n 0 f g rs run in
-      let e : 0 + n ≡ n = omega arith in
-      subst (λ (k : ℕ). AreMoved 0 k (transfers_of_run (slots_in rs))) e it
+  moved_in_order n f g rs run = grind (arith, common_steps, moved_from)

@@ -1,6 +1,7 @@
 -- The numbers of the rank states fit 128 bits, since the run would stop at the first rank that does not.
-use Rattle.std.proofs.Common.{◌≡◌, ℕ, zero, suc, ◌+◌, ◌<◌, ◌^◌, List, [], ◌∷◌, length, map, Option, None, Some, Result, Ok, refl, sym, ap, ◌∙◌, subst}
-use Rattle.std.specs.Prelude.{nat_lt, slice_index_or, slice_set}
+use Rattle.std.proofs.lemmas.Grind.{common_steps}
+use Rattle.std.proofs.Common.{arith, rules, ◌≡◌, ℕ, zero, suc, ◌+◌, ◌<◌, ◌^◌, List, [], ◌∷◌, length, map, Option, None, Some, Result, Ok, refl}
+use Rattle.std.specs.Prelude.{slice_index_or, slice_set}
 use Rattle.std.specs.List.{AllByRecursion, range_with_len}
 use Rattle.std.proofs.lemmas.Bool.{ltb-true}
 use Rattle.cq_base.specs.declared.cell.Cell.{Cell}
@@ -8,7 +9,7 @@ use Rattle.cq_base.specs.declared.cell.Queued.{Queued}
 use Rattle.cq_base.specs.declared.cell.TagFault.{TagFault}
 use Rattle.cq_ideal.proofs.FlowRank.{only_ok}
 use Rattle.cq_ideal.specs.IdealSlot.{all_told}
-use Rattle.cq_ideal.specs.Ranking.{Ranking, after_input, keyed, ranking}
+use Rattle.cq_ideal.specs.Ranking.{Ranking, after_input, ranking}
 use Rattle.cq_laws.specs.Phases.{came_to}
 use Rattle.cq_rank.specs.Machine.{Machine, machine_at, told}
 use Rattle.cq_stopped.proofs.Configured.{AreLow, KeepsLow}
@@ -38,42 +39,15 @@ low_came o came first rest (suc k) q is = rest k q is
 
 behind_low : (o : Option Queued) (x : Result Ranking TagFault) (r : Ranking) → after_input o x ≡ Ok r →
     ((q : Queued) → o ≡ Some q → q.key.rank < 2 ^ 128) → ((s : Ranking) → x ≡ Ok s → RankedLow s) → RankedLow r
-behind_low o x r h first rest =
-    let it = behind o x r h in
-    let low = rest it.rest it.is in
-    record {
-      states = subst (λ (l : List (List ℕ)). AllByRecursion AreLow l) (sym it.states) low.states;
-      came = λ k q is.
-          low_came o it.rest.came first low.came k q
-          (sym (ap (λ (l : List (Option Queued)). came_to l k) it.came) ∙ is);
-    }
+behind_low o x r h first rest = grind (arith, common_steps, behind, AreLow, low_came)
 
 module _ (ms : List Machine) (keeps : (j : ℕ) → KeepsLow (machine_at ms j)) where
   pub ranked_low : (slot i : ℕ) (cells : List (Option Cell)) (states : List (List ℕ)) (r : Ranking) →
       AllByRecursion AreLow states → ranking ms slot i cells states ≡ Ok r → RankedLow r
-  ranked_low slot i [] states r all h =
-      subst RankedLow (only_ok refl h)
-      (record { states = all; came = λ k q is. absurd (let clash : None ≡ Some q = is in let P : ⊥ = cc in P) })
-  ranked_low slot i (None ∷ cells) states r all h =
-      behind_low None (ranking ms slot (i + 1) cells states) r h
-      (λ q none. absurd (let P : ⊥ = cc in P))
-      (λ s is. ranked_low slot (i + 1) cells states s all is)
+  ranked_low slot i [] states r all h = grind (arith, common_steps, only_ok)
+  ranked_low slot i (None ∷ cells) states r all h = search (rules, behind_low, ranked_low slot (i + 1) cells states)
   ranked_low slot i (Some cell ∷ cells) states r all h =
-      let m = machine_at ms cell.output in
-      let state = slice_index_or states cell.output [] in
-      let rank = m.ranked state cell.class in
-      let next = slice_set states cell.output (m.given state cell.class) in
-      let q : Queued = keyed cell (m.level cell.class) rank slot i in
-      let later = ranking ms slot (i + 1) cells next in
-      let fault : TagFault = record { slot = slot; input = i; output = cell.output } in
-      let ok = fits (nat_lt rank (2 ^ 128)) (after_input (Some q) later) fault r h in
-      let low : rank < 2 ^ 128 = ltb-true rank (2 ^ 128) ok.0 in
-      behind_low (Some q) later r ok.1
-      (λ p is. let same : q ≡ p = cc in subst (λ (x : Queued). x.key.rank < 2 ^ 128) same low)
-      (λ s is.
-      ranked_low slot (i + 1) cells next s
-      (low_set states cell.output (m.given state cell.class) all
-      ((keeps cell.output).given state cell.class (low_at states cell.output all) low)) is)
+      search (rules, fits, ltb-true, behind_low, low_set, low_at, ranked_low slot (i + 1) cells)
 
   -- after the outputs were told what they sent
   one_told : (j : ℕ) (s : List ℕ) (o : Option Queued) → AreLow s → ((q : Queued) → o ≡ Some q → q.key.rank < 2 ^ 128) →
@@ -86,10 +60,8 @@ module _ (ms : List Machine) (keeps : (j : ℕ) → KeepsLow (machine_at ms j)) 
       AllByRecursion AreLow (map (λ j. told (machine_at ms j) (slice_index_or states j []) (slice_index_or gone j None))
       (range_with_len a n))
   told_from gone states a zero all sent = tt
-  told_from gone states a (suc n) all sent = (
-    one_told a (slice_index_or states a []) (slice_index_or gone a None) (low_at states a all) (λ q is. sent a q is),
-    told_from gone states (a + 1) n all sent,
-  )
+  told_from gone states a (suc n) all sent =
+      search (rules, one_told, low_at, told_from gone states (a + 1) n all sent)
 
   pub told_low : (gone : List (Option Queued)) (states : List (List ℕ)) → AllByRecursion AreLow states →
       ((j : ℕ) (q : Queued) → slice_index_or gone j None ≡ Some q → q.key.rank < 2 ^ 128) →

@@ -1,6 +1,7 @@
 -- The names in the state of a stopped run. Each is of a cell that left or waits, and each such cell has its name. So
 -- an arrival is named exactly where its cell came in.
-use Rattle.std.proofs.Common.{◌≡◌, ℕ, Bool, true, false, List, ◌++◌, map, Option, Some, None, refl, sym, ap, ◌∙◌, subst, ⊎_elim}
+use Rattle.std.proofs.lemmas.Grind.{common_steps}
+use Rattle.std.proofs.Common.{arith, rules, ◌≡◌, ℕ, Bool, true, false, List, ◌++◌, map, Option, Some, None, refl, sym, ap, ◌∙◌, ⊎_elim}
 use Rattle.std.specs.Prelude.{◌&&◌, ◌==◌, is_some}
 use Rattle.std.specs.List.{list_any}
 use Rattle.std.proofs.lemmas.Bool.{and_from, and_parts, cases_Bool, eq-eqb, eqb-true}
@@ -50,10 +51,7 @@ module _ (w : Switch) (at : Taken) (ideal : IdealState) (cs : List (List (Option
 
   of_image : (lists : List (List Queued)) (c : Named) →
       ((i : ℕ) (q : Queued) → Has (list_of lists i) q → Waiting q) → Has (map named_as (all_of lists)) c → IsWaiting c
-  of_image lists c waits has =
-      let it = image_has named_as (all_of lists) c has in
-      let place = is_at lists it.0 it.1 in
-      record { cell = it.0; is = it.2; waits = waits place.place it.0 place.has }
+  of_image lists c waits has = search (rules, image_has, all_of, is_at)
 
   pub is_waiting : (c : Named) → Has (queued_in (told_state w at)) c → IsWaiting c
   unfolding state_of
@@ -64,18 +62,12 @@ module _ (w : Switch) (at : Taken) (ideal : IdealState) (cs : List (List (Option
 
   pub is_of_one : (c : Named) → Has (named_in (told_state w at)) c → IsOfOne c
   unfolding state_of
-  is_of_one c has =
-      ⊎_elim
-      (λ (queued : Has (queued_in (told_state w at)) c).
+  is_of_one c has = ⊎_elim (λ (queued : Has (queued_in (told_state w at)) c).
       let it = is_waiting c queued in record { cell = it.cell; is = it.is; kept = it.waits.kept })
       (λ (sent : Has (map (λ (d : Sent). d.cell) (map sent_as at.sent)) c).
       let outer = image_has (λ (d : Sent). d.cell) (map sent_as at.sent) c sent in
       let inner = image_has sent_as at.sent outer.0 outer.1 in
-      record {
-        cell = inner.0.queued;
-        is = ap (λ (d : Sent). d.cell) inner.2 ∙ outer.2;
-        kept = (has_left_it w at.frozen.next f ideal cs at.sent known inner.0 inner.1).kept;
-      })
+      search (arith, rules, has_left_it w at.frozen.next f ideal cs at.sent known inner.0 inner.1))
       (has_cases (queued_in (told_state w at)) (map (λ (d : Sent). d.cell) (map sent_as at.sent)) c has)
 
   -- ## What a name tells
@@ -91,9 +83,7 @@ module _ (w : Switch) (at : Taken) (ideal : IdealState) (cs : List (List (Option
   waits_named : (q : Queued) → Has (map named_as (all_of at.frozen.lists) ++ map named_as (all_of at.frozen.buffers))
       (named_as q) → Has (named_in (told_state w at)) (named_as q)
   unfolding state_of
-  waits_named q has =
-      has_left (map named_as (all_of at.frozen.lists) ++ map named_as (all_of at.frozen.buffers))
-      (map (λ (d : Sent). d.cell) (map sent_as at.sent)) (named_as q) has
+  waits_named q has = grind (arith, common_steps, has_left, all_of)
 
   pub name_waits : (i : ℕ) (q : Queued) → Has (input f i) q → Has (named_in (told_state w at)) (named_as q)
   name_waits i q has =
@@ -118,14 +108,10 @@ module _ (w : Switch) (at : Taken) (ideal : IdealState) (cs : List (List (Option
   pub name_held : (t i : ℕ) (q : Queued) → IsHeld ideal at.sent t i q → Has (named_in (told_state w at)) (named_as q)
   name_held t i q it =
       let j = q.cell.output in
-      ⊎_elim
-      (λ (gone : Has (left_at j at.sent) q).
+      ⊎_elim (λ (gone : Has (left_at j at.sent) q).
       let image = image_has (λ (d : Departure). d.queued) _ q gone in
-      let kept = kept_has (λ (d : Departure). d.output == j) at.sent image.0 image.1 in
-      subst (λ (x : Queued). Has (named_in (told_state w at)) (named_as x)) image.2 (name_left image.0 kept.0))
-      (λ (there : Has (list_of ideal.lists j) q).
-      ⊎_elim
-      (λ (at_input : (k : ℕ) × IsAmong q (input f k) × (q.cell.output ≡ j)).
+      search (arith, rules, kept_has, Has, name_left)) (λ (there : Has (list_of ideal.lists j) q).
+      ⊎_elim (λ (at_input : (k : ℕ) × IsAmong q (input f k) × (q.cell.output ≡ j)).
       name_waits at_input.0 q (has_of_among (input f at_input.0) q at_input.1))
       (λ (crossed : IsAmong q (buffer f j)). name_behind j q (has_of_among (buffer f j) q crossed))
       ((known.agrees.same j q).0 (among_of_has (list_of ideal.lists j) q there)))

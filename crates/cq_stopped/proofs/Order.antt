@@ -1,6 +1,6 @@
 -- The second clause: all lines stand in order. Those of the lists are told list by list, and those of the buffers
 -- buffer by buffer; departures and transfers are told as the run made them.
-use Rattle.std.proofs.Common.{◌≡◌, ℕ, ◌<◌, ◌≤◌, true, List, map, Option, sym, ◌∙◌, subst, inl, inr, ⊎_elim, arith}
+use Rattle.std.proofs.Common.{rules, ◌≡◌, ℕ, ◌<◌, ◌≤◌, true, List, map, Option, sym, ◌∙◌, arith, subst}
 use Rattle.std.proofs.lemmas.List.Elements.{All-from_recursion}
 use Rattle.cq_base.specs.Cells.{IsBefore}
 use Rattle.cq_base.specs.declared.cell.Departure.{Departure}
@@ -23,7 +23,7 @@ use Rattle.cq_stopped.proofs.Joined.{all_of, pairs_of_all, pairs_of_images}
 use Rattle.cq_stopped.proofs.Lined.{AreMoved, DepartsBefore}
 use Rattle.cq_stopped.proofs.Named.{Keeps, Waiting, its_output}
 use Rattle.cq_stopped.proofs.Ran.{IsSentRight, Known}
-use Rattle.cq_stopped.proofs.Standing.{each_listed, each_pair_of, has_left_it, waits_at, waits_behind}
+use Rattle.cq_stopped.proofs.Standing.{each_listed, has_left_it, waits_at, waits_behind}
 use Rattle.cq_stopped.proofs.Stepping.{among_of_has}
 use Rattle.cq_stopped.specs.Stopped.{told_state}
 
@@ -54,19 +54,16 @@ module _ (w : Switch) (at : Taken) (ideal : IdealState) (cs : List (List (Option
   NoLaterInput a b = a.key.input ≤ b.key.input
 
   inputs_rise : EachPair NoLaterInput (all_of at.frozen.lists)
-  inputs_rise =
-      each_listed w at.frozen.next f ideal cs at.sent known NoLaterInput (λ i q. q.key.input ≡ i) placed
-      (λ i a b first second leads. omega arith)
-      (λ i k a b lt first second. let x = placed i a first in let y = placed k b second in omega arith)
+  inputs_rise = each_listed w at.frozen.next f ideal cs at.sent known NoLaterInput (λ i q. q.key.input ≡ i) placed
+      (λ i a b first second leads. omega arith) (λ i k a b lt first second.
+      let x = placed i a first in let y = placed k b second in omega arith)
 
   abbrev Leads : Queued → Queued → Type 0
-  Leads a b =
-      a.key.input ≡ b.key.input → output_of w.came (named_as a) ≡ output_of w.came (named_as b) →
-      is_ahead (named_as a) (named_as b) ≡ true
+  Leads a b = a.key.input ≡ b.key.input → output_of w.came (named_as a) ≡ output_of w.came (named_as b)
+      → is_ahead (named_as a) (named_as b) ≡ true
 
   keys_rise : EachPair Leads (all_of at.frozen.lists)
-  keys_rise =
-      each_listed w at.frozen.next f ideal cs at.sent known Leads (λ _. It) at_input
+  keys_rise = each_listed w at.frozen.next f ideal cs at.sent known Leads (λ _. It) at_input
       (λ _ a b first second leads inputs outputs. leads (sym (out a first.kept) ∙ outputs ∙ out b second.kept))
       (λ i k a b lt first second inputs outputs.
       let x = placed i a first in let y = placed k b second in absurd (omega arith))
@@ -82,22 +79,12 @@ module _ (w : Switch) (at : Taken) (ideal : IdealState) (cs : List (List (Option
   is_in : (j : ℕ) (q : Queued) → Has (buffer f j) q → IsIn j q
   is_in j q has =
       let it = in_buffer j q has in
-      record {
-        kept = it.kept;
-        own = out q it.kept ∙ known.agrees.fabric.own j q (among_of_has (buffer f j) q has);
-      }
+      record { kept = it.kept; own = out q it.kept ∙ known.agrees.fabric.own j q (among_of_has (buffer f j) q has) }
 
   buffers_rise : EachPair Buffered (all_of at.frozen.buffers)
-  buffers_rise =
-      pairs_of_all Buffered at.frozen.buffers
-      (λ j.
-      pairs_with IsBefore Buffered (IsIn j) (λ a b first second before. inr (first.own ∙ sym second.own, before))
-      (buffer f j) (all_from_has (IsIn j) (buffer f j) (is_in j))
-      (each_pair_of IsBefore (buffer f j) (known.agrees.fabric.rising j)))
-      (λ j l a b lt first second.
-      let x = (is_in j a first).own in
-      let y = (is_in l b second).own in
-      inl (let less : output_of w.came (named_as a) < output_of w.came (named_as b) = omega arith in less))
+  buffers_rise = pairs_of_all Buffered at.frozen.buffers
+      (λ j. search (arith, rules, pairs_with IsBefore Buffered (IsIn j), all_from_has (IsIn j) (buffer f j), is_in j))
+      (λ j l a b lt first second. search (arith, rules, is_in))
 
   -- ## What left
 
@@ -110,21 +97,11 @@ module _ (w : Switch) (at : Taken) (ideal : IdealState) (cs : List (List (Option
   at_own : (d : Departure) → Has at.sent d → IsAtOwn d
   at_own d has =
       let x = has_left_it w at.frozen.next f ideal cs at.sent known d has in
-      let right = all_of_has (IsSentRight w at.frozen.next) at.sent d known.departed has in
-      record { own = out d.queued x.kept ∙ sym right.own }
+      search (arith, rules, all_of_has, IsSentRight, out)
 
   sent_rise : EachPair SentBefore at.sent
-  sent_rise =
-      pairs_with DepartsBefore SentBefore IsAtOwn
-      (λ d e first second before.
-      ⊎_elim (λ (lt : d.slot < e.slot). inl lt)
-      (λ (both : (d.slot ≡ e.slot) × (d.output < e.output)).
-      inr (
-        both.0,
-        (let less : output_of w.came (named_as d.queued) < output_of w.came (named_as e.queued) = omega arith in less),
-      ))
-      before)
-      at.sent (all_from_has IsAtOwn at.sent at_own) departs
+  sent_rise = pairs_with DepartsBefore SentBefore IsAtOwn (λ d e first second before. search (arith, rules)) at.sent
+      (all_from_has IsAtOwn at.sent at_own) departs
 
   pub stand_in_order : StandInOrder w (told_state w at)
   unfolding state_of

@@ -1,7 +1,8 @@
 -- How many proposals a run makes. A phase has no more than the number of ports squared, and none where no cell waits
 -- at an input. And in each slot in which a cell waits or comes one leaves, so there are no more such slots than cells
 -- that came.
-use Rattle.std.proofs.Common.{◌≡◌, ℕ, zero, suc, ◌+◌, ◌*◌, ◌-◌, ◌<◌, ◌≤◌, true, List, [], ◌∷◌, ◌++◌, length, map, fold, max, replicate, Option, Some, None, refl, sym, ap, ◌∙◌, subst, inl, ⊎_elim, arith, mul-le-mul}
+use Rattle.std.proofs.lemmas.Grind.{common_steps}
+use Rattle.std.proofs.Common.{rules, ◌≡◌, ℕ, zero, suc, ◌+◌, ◌*◌, ◌-◌, ◌≤◌, true, List, [], ◌∷◌, ◌++◌, length, map, fold, max, replicate, Option, Some, None, refl, sym, ap, ◌∙◌, subst, inl, arith, mul-le-mul}
 use Rattle.std.specs.Prelude.{is_some, sum}
 use Rattle.std.specs.List.{flat_map}
 use Rattle.std.proofs.lemmas.Bool.{cases_lt}
@@ -15,7 +16,7 @@ use Rattle.cq_ideal.proofs.FlowCount.{come_count-first}
 use Rattle.cq_ideal.proofs.FlowRank.{present}
 use Rattle.cq_ideal.proofs.FlowRun.{come_count}
 use Rattle.cq_ideal.proofs.Waiting.{counted, waiting}
-use Rattle.cq_ideal.specs.Admission.{Admission, Marked, admission, admitted, marks_after}
+use Rattle.cq_ideal.specs.Admission.{Marked, admission}
 use Rattle.cq_ideal.specs.Ending.{arriving_from}
 use Rattle.cq_ideal.specs.IdealRun.{empty_ideal}
 use Rattle.cq_ideal.specs.IdealSlot.{IdealState, Sent}
@@ -61,8 +62,7 @@ unfolding waiting
 none_among [] j q none has = has
 none_among ([] ∷ lists) zero q none has = has
 none_among ((x ∷ xs) ∷ lists) zero q none has = (let P : ⊥ = omega arith in P)
-none_among (xs ∷ lists) (suc j) q none has =
-    let rest : waiting lists ≡ 0 = omega arith in none_among lists j q rest has
+none_among (xs ∷ lists) (suc j) q none has = grind (arith, common_steps, waiting, none_among lists j q)
 
 empty_waits : (n : ℕ) → waiting (replicate n []) ≡ 0
 unfolding waiting
@@ -89,35 +89,26 @@ module _ (w : Switch) (few : length w.machines ≤ 64) where
 
       came_few : came ≤ length (present (arriving w.came slot))
       unfolding admission
-      came_few =
-          let after = marks_after w.limits (fabric_held f.state) f.marks (arriving w.came slot) in
-          let same : came ≡ length (present (admitted after (arriving w.came slot))) =
-          ap (λ (a : Admission). length (present a.cells)) k.step.admits in
-          let less = fewer after (arriving w.came slot) in
-          omega arith
+      came_few = grind (arith, common_steps, present, fewer)
 
       -- the ideal switch beside it
       beside : SendsAlike w.machines slot r.admission.cells k.ideal.state r.of_slot.gone g.state
-      beside =
-          same_slot w.machines slot w.classes r.admission.cells f.state g.state k.ideal.state r.of_slot k.agrees.states
-          (admitted_come w slot (arriving w.came slot) f g r k) k.step.runs
+      beside = search (rules, same_slot, admitted_come)
 
       fewer_wait : waits g.state ≤ waits f.state + came - 1
       fewer_wait =
           let before = waits_is slot f.state k.ideal.state k.agrees.states in
           let after = waits_is (slot + 1) g.state beside.next beside.agrees in
           let sent : Sent = record { gone = r.of_slot.gone; after = beside.next } in
-          let less = (counted w.machines slot r.admission.cells k.ideal.state sent beside.sent).fewer in
-          omega arith
+          let less = (counted w.machines slot r.admission.cells k.ideal.state sent beside.sent).fewer in omega arith
 
       proposed_few : sum (proposals_in r.of_slot) ≤ 8192
       unfolding proposals_in
       proposed_few =
           let arrived_many : length r.of_slot.arrived.inputs ≡ length w.machines =
           k.step.runs.arrive.ports ∙ k.ports_are in
-          let sent_many : length r.of_slot.sent.inputs ≡ length w.machines =
-          ap (λ (l : List (List Queued)). length l) k.step.runs.depart.inputs ∙ k.step.runs.fill.moves.ports.0
-          ∙ arrived_many in
+          let sent_many : length r.of_slot.sent.inputs ≡ length w.machines = ap (λ (l : List (List Queued)). length l)
+          k.step.runs.depart.inputs ∙ k.step.runs.fill.moves.ports.0 ∙ arrived_many in
           let square = square_few (length w.machines) few in
           let first : proposals (orders_of r.of_slot.arrived.inputs) r.of_slot.first
           ≤ length w.machines * length w.machines =
@@ -174,23 +165,11 @@ module _ (w : Switch) (few : length w.machines ≤ 64) where
               absurd (omega arith)
 
           no_arrival : (i : ℕ) → length (input r.of_slot.arrived i) ≡ 0
-          no_arrival i =
-              ap (λ (l : List Queued). length l) (k.step.runs.arrive.lists i)
+          no_arrival i = ap (λ (l : List Queued). length l) (k.step.runs.arrive.lists i)
               ∙ comes_none i (came_to r.of_slot.came i) refl (no_lists none i)
 
       slot_proposed : sum (proposals_in r.of_slot) + 8192 * waits g.state ≤ 8192 * (waits f.state + came)
-      slot_proposed =
-          let less = fewer_wait in
-          let most = proposed_few in
-          ⊎_elim
-          (λ (lt : 0 < waits f.state + came).
-          let le : sum (proposals_in r.of_slot) + 8192 * waits g.state ≤ 8192 * (waits f.state + came) = omega arith
-          in le)
-          (λ (ge : waits f.state + came ≤ 0).
-          let none = none_proposed (omega arith) (omega arith) in
-          let le : sum (proposals_in r.of_slot) + 8192 * waits g.state ≤ 8192 * (waits f.state + came) = omega arith
-          in le)
-          (cases_lt 0 (waits f.state + came))
+      slot_proposed = grind (arith, common_steps, fewer_wait, proposed_few, none_proposed, cases_lt)
 
   -- ## In a run
 
@@ -198,8 +177,7 @@ module _ (w : Switch) (few : length w.machines ≤ 64) where
       sum (flat_map proposals_in (slots_in rs)) + 8192 * waits g.state
       ≤ 8192 * (waits f.state + come_count (arriving_from w.came slot n))
   unfolding arriving_from come_count
-  run_proposed slot zero f g [] run =
-      let same : waits g.state ≡ waits f.state = ap (λ (h : Marked Fabric). waits h.state) run in omega arith
+  run_proposed slot zero f g [] run = grind (arith, common_steps)
   run_proposed slot zero f g (r ∷ rs) run = absurd run
   run_proposed slot (suc n) f g [] run = absurd run
   run_proposed slot (suc n) f g (r ∷ rs) run =
@@ -217,17 +195,12 @@ module _ (w : Switch) (few : length w.machines ≤ 64) where
   unfolding arriving_from
   all_proposed slots ranks g rs run =
       let most = run_proposed 0 slots (opening w ranks) g rs run in
-      let start =
-      waits_is 0 (opening w ranks).state (empty_ideal (length w.machines) ranks)
+      let start = waits_is 0 (opening w ranks).state (empty_ideal (length w.machines) ranks)
       (limited_empty_agree (length w.machines) ranks).states in
       let none = empty_waits (length w.machines) in
-      let come = come_count-first w.came slots in
-      omega arith
+      let come = come_count-first w.came slots in omega arith
 
 -- the greatest is no more than all together
 pub most_of_all : (a : ℕ) (xs : List ℕ) → fold max a xs ≤ a + sum xs
 most_of_all a [] = omega arith
-most_of_all a (x ∷ xs) =
-    let rest = most_of_all (max a x) xs in
-    let all = sum_by-cons (λ (n : ℕ). n) x xs in
-    omega arith
+most_of_all a (x ∷ xs) = grind (arith, common_steps, sum_by-cons, most_of_all (max a x) xs)

@@ -2,10 +2,10 @@
 -- each came in an earlier slot. In the order of keys none of these stands behind it: each has its level and no greater
 -- rank. So of each two cells, what left the output and then what waits there, the one ahead goes before the other as
 -- it did.
-use Rattle.std.proofs.Common.{◌≡◌, ◌≢◌, ℕ, zero, suc, ◌+◌, ◌<◌, ◌≤◌, eqb, Bool, true, false, cond, List, [], ◌∷◌, ◌++◌, Option, Some, None, refl, sym, ap, ◌∙◌, inl, inr, ⊎_elim, arith}
+use Rattle.std.proofs.lemmas.Grind.{common_steps}
+use Rattle.std.proofs.Common.{◌≡◌, ℕ, zero, suc, ◌+◌, ◌<◌, ◌≤◌, true, false, List, [], ◌∷◌, ◌++◌, Option, Some, None, refl, ap, inl, inr, ⊎_elim, arith}
 use Rattle.std.specs.List.{AllByRecursion}
 use Rattle.std.specs.declared.cmp.Ordering.{Ordering}
-use Rattle.std.specs.declared.cmp.Ordering.TheVariants.{Less, Equal, Greater}
 use Rattle.std.specs.Ordering.{is_lt, nat_cmp, ordering_then}
 use Rattle.std.proofs.lemmas.Bool.{both_ways, cases_lt, cond_both, eq-eqb, eqb-true, le-ltb, lt-ltb, false_from_ne_true}
 use Rattle.cq_base.proofs.Keys.{key_laws}
@@ -25,15 +25,7 @@ use Rattle.cq_stopped.proofs.Ran.{Follows}
 -- ## A lesser key
 
 less_then : (x y : ℕ) (p : Ordering) → x ≤ y → (x ≡ y → is_lt p ≡ true) → is_lt (ordering_then (nat_cmp x y) p) ≡ true
-less_then x y p le f =
-    ⊎_elim
-    (λ (lt : x < y).
-    ap (λ (b : Bool). is_lt (ordering_then (cond b Less (cond (eqb x y) Equal Greater)) p)) (lt-ltb x y lt))
-    (λ (ge : y ≤ x).
-    let same : x ≡ y = omega arith in
-    ap (λ (b : Bool). is_lt (ordering_then (cond b Less (cond (eqb x y) Equal Greater)) p)) (le-ltb x y ge)
-    ∙ ap (λ (b : Bool). is_lt (ordering_then (cond b Equal Greater) p)) (eq-eqb x y same) ∙ f same)
-    (cases_lt x y)
+less_then x y p le f = grind (arith, common_steps, lt-ltb, le-ltb, eq-eqb, cases_lt)
 
 less : (x y : ℕ) (p : Ordering) → x < y → is_lt (ordering_then (nat_cmp x y) p) ≡ true
 less x y p lt = less_then x y p (omega arith) (λ e. absurd (omega arith))
@@ -41,12 +33,7 @@ less x y p lt = less_then x y p (omega arith) (λ e. absurd (omega arith))
 -- of one level, with no greater rank and of an earlier slot
 pub is_less : (a b : Key) → a.level ≡ b.level → a.rank ≤ b.rank → a.slot < b.slot → is_before a b ≡ true
 unfolding is_before
-is_less a b level rank slot =
-    less_then a.level b.level
-    (ordering_then (nat_cmp a.rank b.rank) (ordering_then (nat_cmp a.slot b.slot) (nat_cmp a.input b.input)))
-    (let le : a.level ≤ b.level = omega arith in le)
-    (λ _. less_then a.rank b.rank (ordering_then (nat_cmp a.slot b.slot) (nat_cmp a.input b.input)) rank
-    (λ _. less a.slot b.slot (nat_cmp a.input b.input) slot))
+is_less a b level rank slot = grind (arith, common_steps, less_then, less)
 
 -- what comes before none that a cell comes before does not come before the cell
 none_before : (n x y : Key) → is_before n x ≡ true → is_before y x ≡ false → is_before y n ≡ false
@@ -80,11 +67,8 @@ module _ (R : Queued → Queued → Type 0) (q : Queued) where
   pub put_pairs : (left xs : List Queued) → EachCell NoLater xs → EachPair R (left ++ xs) →
       AllByRecursion (λ x. R x q) (left ++ xs) → AllByRecursion MayStandBehind xs → EachPair R (left ++ put q xs)
   put_pairs [] xs order pairs ahead after = waiting_pairs xs order pairs ahead after
-  put_pairs (z ∷ zs) xs order pairs ahead after = (
-    all_both (R z) zs (put q xs) (all_left (R z) zs xs pairs.0)
-        (all_put (R z) q xs ahead.0 (all_right (R z) zs xs pairs.0)),
-    put_pairs zs xs order pairs.1 ahead.1 after,
-  )
+  put_pairs (z ∷ zs) xs order pairs ahead after =
+      grind (arith, common_steps, all_left, all_put, all_right, put_pairs zs xs order pairs.1 ahead.1 after)
 
 -- ## The cells of a slot are put
 
@@ -95,9 +79,7 @@ module _ (j slot : ℕ) where
     pub before : x.key.slot ≡ slot → x.key.input < a
 
   earlier_on : (a : ℕ) (xs : List Queued) → AllByRecursion (IsEarlier a) xs → AllByRecursion (IsEarlier (a + 1)) xs
-  earlier_on a xs all =
-      all_from (IsEarlier a) (IsEarlier (a + 1))
-      (λ x e. record { came = e.came; before = λ same. let lt = e.before same in omega arith }) xs all
+  earlier_on a xs all = grind (arith, common_steps, all_from)
 
   -- each comes in the slot at its input, these from input a on
   pub record Come (a : ℕ) (came : List (Option Queued)) : Type 0 where
@@ -118,36 +100,19 @@ module _ (j slot : ℕ) where
 
   module _ (a : ℕ) (q : Queued) (slot_is : q.key.slot ≡ slot) (input_is : q.key.input ≡ a) where
     ahead : (x : Queued) → IsEarlier a x → Follows x q
-    ahead x e =
-        record {
-          differ = λ same inputs. let lt = e.before (same ∙ slot_is) in omega arith;
-          later = λ inputs classes.
-              let other : x.key.slot ≢ slot = λ same. let lt = e.before same in omega arith in
-              ⊎_elim (λ (lt : x.key.slot < slot). let l : x.key.slot < q.key.slot = omega arith in l)
-              (λ (ge : slot ≤ x.key.slot). absurd (other (omega arith))) (cases_lt x.key.slot slot);
-        }
+    ahead x e = grind (arith, common_steps, e.before, cases_lt)
 
     after : (x : Queued) → IsEarlier a x →
         (x.key.slot < slot → x.cell.class ≡ q.cell.class → is_before x.key q.key ≡ true) →
         is_before x.key q.key ≡ false → Follows q x
-    after x e old late =
-        record {
-          differ = λ same inputs. let lt = e.before (sym same ∙ slot_is) in omega arith;
-          later = λ inputs classes.
-              ⊎_elim
-              (λ (lt : x.key.slot < slot). absurd (both_ways (is_before x.key q.key) late (old lt (sym classes))))
-              (λ (ge : slot ≤ x.key.slot).
-              let lt = e.before (let same : x.key.slot ≡ slot = omega arith in same) in absurd (omega arith))
-              (cases_lt x.key.slot slot);
-        }
+    after x e old late = grind (arith, common_steps, e.before, both_ways, cases_lt)
 
   pub pairs_put_all : (came : List (Option Queued)) (a : ℕ) (left xs : List Queued) → Come a came →
       AllByRecursion (IsEarlier a) (left ++ xs) → OldAhead came xs → EachCell NoLater xs →
       EachPair Follows (left ++ xs) → EachPair Follows (left ++ put_all j came xs)
   pairs_put_all [] a left xs come earlier old order pairs = pairs
-  pairs_put_all (None ∷ came) a left xs come earlier old order pairs =
-      pairs_put_all came (a + 1) left xs (come_on a None came come) (earlier_on a (left ++ xs) earlier)
-      (λ k q x at. old (suc k) q x at) order pairs
+  pairs_put_all (None ∷ came) a left xs come earlier old order pairs = pairs_put_all came (a + 1) left xs
+      (come_on a None came come) (earlier_on a (left ++ xs) earlier) (λ k q x at. old (suc k) q x at) order pairs
   pairs_put_all (Some q ∷ came) a left xs come earlier old order pairs =
       cond_both (is_for j q) (put q xs) xs (λ l. EachPair Follows (left ++ put_all j came l))
       (λ here.

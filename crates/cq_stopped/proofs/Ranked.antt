@@ -1,7 +1,8 @@
 -- What the cells of a slot are ranked: each has the level of its class, a rank that fits, and one that is no less than
 -- the floor that its class had before the slot, since no rank that is given lowers a floor.
-use Rattle.std.proofs.Common.{◌≡◌, ℕ, zero, suc, ◌+◌, ◌<◌, ◌≤◌, ◌^◌, Bool, true, false, cond, List, [], ◌∷◌, length, Option, Some, None, Result, Ok, Err, refl, sym, ap, ◌∙◌, subst, ⊎_elim, arith}
-use Rattle.std.specs.Prelude.{nat_lt, slice_index_or, slice_set}
+use Rattle.std.proofs.lemmas.Grind.{common_steps}
+use Rattle.std.proofs.Common.{rules, ◌≡◌, ℕ, zero, suc, ◌+◌, ◌<◌, ◌≤◌, ◌^◌, Bool, true, false, cond, List, [], ◌∷◌, length, Option, Some, None, Result, Ok, Err, refl, sym, ap, ◌∙◌, subst, arith}
+use Rattle.std.specs.Prelude.{slice_index_or, slice_set}
 use Rattle.std.proofs.lemmas.Bool.{cases_eq, ltb-true}
 use Rattle.std.proofs.lemmas.List.{get_or-set_other, get_or-set_same, length-set}
 use Rattle.std.proofs.lemmas.Option.{same_Some}
@@ -25,14 +26,7 @@ pub record Behind (o : Option Queued) (x : Result Ranking TagFault) (r : Ranking
   pub states : r.ranks ≡ rest.ranks
 
 pub behind : (o : Option Queued) (x : Result Ranking TagFault) (r : Ranking) → after_input o x ≡ Ok r → Behind o x r
-behind o (Ok rest) r h =
-    let same = only_ok h refl in
-    record {
-      rest = rest;
-      is = refl;
-      came = ap (λ (y : Ranking). y.came) same;
-      states = ap (λ (y : Ranking). y.ranks) same;
-    }
+behind o (Ok rest) r h = grind (arith, common_steps, only_ok)
 behind o (Err fault) r h = absurd (let P : ⊥ = cc in P)
 
 pub fits : (b : Bool) (x : Result Ranking TagFault) (fault : TagFault) (r : Ranking) → cond b x (Err fault) ≡ Ok r →
@@ -67,47 +61,12 @@ module _ (ms : List Machine) (slot : ℕ) where
     sized = keep.sized cell.output known.inside
 
     still_keep : KeepLaws ms (after ranks cell)
-    still_keep =
-        record {
-          laws = λ j inside. let same = many in keep.laws j (let l : j < length ranks = omega arith in l);
-          sized = λ j inside.
-              ⊎_elim
-              (λ (same : cell.output ≡ j).
-              subst (λ (o : ℕ). length (slice_index_or (after ranks cell) o []) ≡ (machine_at ms o).size) same
-              (ap (λ (s : List ℕ). length s) (get_or-set_same ranks cell.output (given ranks cell) [] known.inside)
-              ∙ (keep.laws cell.output known.inside).given_length (slice_index_or ranks cell.output []) cell.class sized
-              known.class))
-              (λ ne.
-              ap (λ (s : List ℕ). length s)
-              (get_or-set_other ranks cell.output j (given ranks cell) [] (λ e. ne (sym e)))
-              ∙ (let same = many in keep.sized j (let l : j < length ranks = omega arith in l)))
-              (cases_eq cell.output j);
-        }
+    still_keep = grind (arith, common_steps, many, sized, get_or-set_same, get_or-set_other, cases_eq)
 
     rises : (j d : ℕ) → j < length ranks → d < (machine_at ms j).classes →
         (machine_at ms j).floor (slice_index_or ranks j []) d
         ≤ (machine_at ms j).floor (slice_index_or (after ranks cell) j []) d
-    rises j d inside class =
-        ⊎_elim
-        (λ (same : cell.output ≡ j).
-        subst (λ (o : ℕ).
-        d < (machine_at ms o).classes →
-        (machine_at ms o).floor (slice_index_or ranks o []) d
-        ≤ (machine_at ms o).floor (slice_index_or (after ranks cell) o []) d) same
-        (λ here.
-        subst (λ (s : List ℕ).
-        (machine_at ms cell.output).floor (slice_index_or ranks cell.output []) d
-        ≤ (machine_at ms cell.output).floor s d)
-        (sym (get_or-set_same ranks cell.output (given ranks cell) [] known.inside))
-        (given_floor (machine_at ms cell.output) (keep.laws cell.output known.inside)
-        (slice_index_or ranks cell.output []) cell.class d sized known.class here)) class)
-        (λ ne.
-        let kept : slice_index_or (after ranks cell) j [] ≡ slice_index_or ranks j [] =
-        get_or-set_other ranks cell.output j (given ranks cell) [] (λ e. ne (sym e)) in
-        let same = ap (λ (s : List ℕ). (machine_at ms j).floor s d) kept in
-        let le : (machine_at ms j).floor (slice_index_or ranks j []) d
-        ≤ (machine_at ms j).floor (slice_index_or (after ranks cell) j []) d = omega arith in le)
-        (cases_eq cell.output j)
+    rises j d inside class = search (rules, get_or-set_same, given_floor, sized, get_or-set_other, cases_eq)
 
   -- what a cell at an input gets
   abbrev one_at : ℕ → List (List ℕ) → Cell → Queued
@@ -120,38 +79,19 @@ module _ (ms : List Machine) (slot : ℕ) where
       ranking ms slot i (Some cell ∷ cells) ranks ≡ Ok r →
       ((one_at i ranks cell).key.rank < 2 ^ 128)
       × Behind (Some (one_at i ranks cell)) (ranking ms slot (i + 1) cells (after ranks cell)) r
-  one_behind i cell cells ranks r h =
-      let rank = (one_at i ranks cell).key.rank in
-      let f = fits (nat_lt rank (2 ^ 128)) _ _ r h in (
-        ltb-true rank (2 ^ 128) f.0,
-        behind (Some (one_at i ranks cell)) (ranking ms slot (i + 1) cells (after ranks cell)) r f.1,
-      )
+  one_behind i cell cells ranks r h = grind (arith, common_steps, fits, ltb-true, behind)
 
   pub ranked_from : (i : ℕ) (cells : List (Option Cell)) (ranks : List (List ℕ)) (r : Ranking) → KeepLaws ms ranks →
       ((k : ℕ) (cell : Cell) → arrival_at cells k ≡ Some cell → IsKnown (length ranks) cell) →
       ranking ms slot i cells ranks ≡ Ok r → (k : ℕ) (q : Queued) → came_to r.came k ≡ Some q → IsRanked ranks q
-  ranked_from i [] ranks r keep known h k q at =
-      let clash : None ≡ Some q = ap (λ (x : Ranking). came_to x.came k) (only_ok refl h) ∙ at in
-      absurd (let P : ⊥ = cc in P)
-  ranked_from i (None ∷ cells) ranks r keep known h zero q at =
-      let b = behind None (ranking ms slot (i + 1) cells ranks) r h in
-      let clash : None ≡ Some q = ap (λ (l : List (Option Queued)). came_to l 0) (sym b.came) ∙ at in
-      absurd (let P : ⊥ = cc in P)
+  ranked_from i [] ranks r keep known h k q at = grind (arith, common_steps, only_ok)
+  ranked_from i (None ∷ cells) ranks r keep known h zero q at = grind (arith, common_steps, behind)
   ranked_from i (None ∷ cells) ranks r keep known h (suc k) q at =
       let b = behind None (ranking ms slot (i + 1) cells ranks) r h in
       ranked_from (i + 1) cells ranks b.rest keep (λ l cell is. known (suc l) cell is) b.is k q
       (ap (λ (l : List (Option Queued)). came_to l (suc k)) (sym b.came) ∙ at)
   ranked_from i (Some cell ∷ cells) ranks r keep known h zero q at =
-      let here = known zero cell refl in
-      let b = one_behind i cell cells ranks r h in
-      let came = ap (λ (l : List (Option Queued)). came_to l 0) (sym b.1.came) in
-      subst (λ (x : Queued). IsRanked ranks x) (same_Some (one_at i ranks cell) q (came ∙ at))
-      (record {
-        level = refl;
-        rank = b.0;
-        above = (keep.laws cell.output here.inside).above (slice_index_or ranks cell.output []) cell.class
-            (keep.sized cell.output here.inside) here.class;
-      })
+      let here = known zero cell refl in search (arith, rules, one_behind, same_Some, keep.laws, keep.sized)
   ranked_from i (Some cell ∷ cells) ranks r keep known h (suc k) q at =
       let here = known zero cell refl in
       let b = (one_behind i cell cells ranks r h).1 in
@@ -162,5 +102,4 @@ module _ (ms : List Machine) (slot : ℕ) where
       ranked_from (i + 1) cells (after ranks cell) b.rest (still_keep ranks keep cell here)
       (λ l other is. subst (λ (n : ℕ). IsKnown n other) (sym same) (known (suc l) other is)) b.is k q at' in
       let own = known (suc k) q.cell (came_from ms slot (i + 1) cells (after ranks cell) b.rest b.is k q at').cell_is in
-      let up = rises ranks keep cell here q.cell.output q.cell.class own.inside own.class in
-      record { level = it.level; rank = it.rank; above = omega arith }
+      search (arith, rules, rises)

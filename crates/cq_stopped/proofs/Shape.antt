@@ -1,5 +1,6 @@
 -- The first lines of the state tell of the switch, and each rank state has the size of its machine.
-use Rattle.std.proofs.Common.{◌≡◌, ℕ, ◌<◌, List, [], length, Option, refl, ap, ◌∙◌, arith}
+use Rattle.std.proofs.lemmas.Grind.{common_steps}
+use Rattle.std.proofs.Common.{◌≡◌, ℕ, ◌<◌, List, [], length, Option, ap, ◌∙◌, arith}
 use Rattle.std.specs.Prelude.{slice_index_or}
 use Rattle.cq_base.specs.declared.cell.Queued.{Queued}
 use Rattle.cq_ideal.specs.IdealSlot.{IdealState}
@@ -19,15 +20,8 @@ module _ (w : Switch) (at : Taken) (ideal : IdealState) (cs : List (List (Option
 
   pub state_sized : (j : ℕ) → j < length at.frozen.ranks →
       length (slice_index_or at.frozen.ranks j []) ≡ (machine_at w.machines j).size
-  state_sized j inside =
-      let many = states_many in
-      ap (λ (l : List (List ℕ)). length (slice_index_or l j [])) known.agrees.ranks
-      ∙ (known.lanes j (omega arith)).stands.size
+  state_sized j inside = grind (arith, common_steps, states_many)
 
   pub has_shape : HasShape w (told_state w at)
   unfolding state_of
-  has_shape =
-      record {
-        head = record { ports = known.ports; classes = refl; first_stamp = refl; total = refl };
-        ranks = state_sized;
-      }
+  has_shape = grind (arith, common_steps, state_sized)

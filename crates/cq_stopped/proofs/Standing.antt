@@ -1,12 +1,11 @@
 -- Where the cells of a stopped run stand: each one that waits at an input or at an output waits for its output in the
 -- ideal switch, and each one that left is among those that left its output. So of two that wait under one name both
 -- are one, and of all others the names differ.
-use Rattle.std.proofs.Common.{◌≡◌, ℕ, ◌<◌, ◌≤◌, ◌⊎◌, List, [], ◌∷◌, length, Option, Some, refl, sym, ap, ◌∙◌, subst, inl, inr, ⊎_elim, arith}
+use Rattle.std.proofs.lemmas.Grind.{common_steps}
+use Rattle.std.proofs.Common.{rules, ◌≡◌, ℕ, ◌<◌, List, [], ◌∷◌, length, Option, refl, sym, ◌∙◌, subst, inl, inr, arith}
 use Rattle.std.proofs.lemmas.Bool.{cases_lt}
 use Rattle.std.proofs.lemmas.List.{get_or_past}
-use Rattle.cq_base.specs.Arriving.{arriving_at}
 use Rattle.cq_base.specs.Cells.{EachPair as EachCell, IsBefore}
-use Rattle.cq_base.specs.declared.cell.Cell.{Cell}
 use Rattle.cq_base.specs.declared.cell.Departure.{Departure}
 use Rattle.cq_base.specs.declared.cell.Queued.{Queued}
 use Rattle.cq_ideal.specs.IdealSlot.{IdealState}
@@ -50,13 +49,7 @@ module _ (w : Switch) (n : ℕ) (f : Fabric) (ideal : IdealState) (cs : List (Li
     pub there : Has (left_at d.queued.cell.output sent) d.queued
 
   kept_at : (q : Queued) → q.cell.output < length w.machines → Has (pool_at q.cell.output sent ideal) q → IsKept q
-  kept_at q inside has =
-      record {
-        inside = inside;
-        own = all_of_has (IsOwn w n q.cell.output) (pool_at q.cell.output sent ideal) q
-            (known.lanes q.cell.output inside).own has;
-        pool = has;
-      }
+  kept_at q inside has = grind (arith, common_steps, all_of_has, IsOwn, pool_at)
 
   waits_for : (j : ℕ) (q : Queued) → q.cell.output ≡ j → HasFor f j q → Waits q
   waits_for j q same has =
@@ -65,70 +58,34 @@ module _ (w : Switch) (n : ℕ) (f : Fabric) (ideal : IdealState) (cs : List (Li
       subst (λ (o : ℕ). Has (list_of ideal.lists o) q) (sym same) (has_of_among (list_of ideal.lists j) q among) in
       let many : length ideal.lists ≡ length w.machines = known.agrees.ports ∙ known.ports in
       let inside : q.cell.output < length w.machines =
-      ⊎_elim (λ (lt : q.cell.output < length w.machines). lt)
-      (λ (ge : length w.machines ≤ q.cell.output).
-      absurd (subst (λ (l : List Queued). Has l q)
-      (get_or_past ideal.lists q.cell.output []
-      (let le : length ideal.lists ≤ q.cell.output = omega arith in le)) there))
-      (cases_lt q.cell.output (length w.machines)) in
-      record {
-        kept = kept_at q inside (has_right (left_at q.cell.output sent) (list_of ideal.lists q.cell.output) q there);
-        there = there;
-      }
+      search (arith, rules, Has, get_or_past, cases_lt) in search (arith, rules, kept_at, has_right, left_at)
 
   pub waits_at : (i : ℕ) (q : Queued) → Has (input f i) q → Waits q
   waits_at i q has = waits_for q.cell.output q refl (inl (i, among_of_has (input f i) q has, refl))
 
   pub waits_behind : (j : ℕ) (q : Queued) → Has (buffer f j) q → Waits q
   waits_behind j q has =
-      let among = among_of_has (buffer f j) q has in
-      waits_for j q (known.agrees.fabric.own j q among) (inr among)
+      let among = among_of_has (buffer f j) q has in waits_for j q (known.agrees.fabric.own j q among) (inr among)
 
   pub has_left_it : (d : Departure) → Has sent d → Left d
   has_left_it d has =
       let right = all_of_has (IsSentRight w n) sent d known.departed has in
       let there : Has (left_at d.queued.cell.output sent) d.queued =
       has_number (λ (e : Departure). e.output) (λ (e : Departure). e.queued) sent d d.queued.cell.output right.own
-      has in
-      let inside : d.queued.cell.output < length w.machines =
-      subst (λ (o : ℕ). o < length w.machines) right.own right.inside in
-      record {
-        kept =
-            kept_at d.queued inside
-            (has_left (left_at d.queued.cell.output sent) (list_of ideal.lists d.queued.cell.output) d.queued there);
-        there = there;
-      }
+      has in search (arith, rules, kept_at d.queued, has_left, left_at d.queued.cell.output sent)
 
   -- ## One name
 
   -- cells of one name are one cell of the schedule
   pub same_cell : (a b : Queued) → IsKept a → IsKept b → SameName a b → a.cell ≡ b.cell
-  same_cell a b one two name =
-      let both : Some a.cell ≡ Some b.cell =
-      sym one.own.keyed.arrives
-      ∙ ap (λ (t : ℕ). arriving_at w.came t a.key.input) name.0
-      ∙ ap (λ (i : ℕ). arriving_at w.came b.key.slot i) name.1
-      ∙ two.own.keyed.arrives in
-      let same : a.cell ≡ b.cell = cc in same
+  same_cell a b one two name = grind (arith, common_steps)
 
   pairs_at : (j : ℕ) → j < length w.machines → EachPair Follows (pool_at j sent ideal)
   pairs_at j inside = (known.lanes j inside).pairs
 
   -- two that wait under one name are one
   pub same_waiting : (a b : Queued) → Waits a → Waits b → SameName a b → a ≡ b
-  same_waiting a b one two name =
-      let o = a.cell.output in
-      let outputs : a.cell.output ≡ b.cell.output =
-      ap (λ (c : Cell). c.output) (same_cell a b one.kept two.kept name) in
-      let there : Has (list_of ideal.lists a.cell.output) b =
-      subst (λ (j : ℕ). Has (list_of ideal.lists j) b) (sym outputs) two.there in
-      ⊎_elim
-      (λ (either : Follows a b ⊎ Follows b a).
-      ⊎_elim (λ (before : Follows a b). absurd (before.differ name.0 name.1))
-      (λ (before : Follows b a). absurd (before.differ (sym name.0) (sym name.1))) either)
-      (λ (same : a ≡ b). same)
-      (pair_of_has Follows (list_of ideal.lists o) a b
-      (pairs_right Follows (left_at o sent) (list_of ideal.lists o) (pairs_at o one.kept.inside)) one.there there)
+  same_waiting a b one two name = search (rules, same_cell, Has, pair_of_has, pairs_right, left_at, pairs_at)
 
   -- of what left an output, what waits for it follows
   pub follows_left : (d : Departure) (q : Queued) → Has sent d → Waits q → d.queued.cell.output ≡ q.cell.output →
@@ -141,11 +98,7 @@ module _ (w : Switch) (n : ℕ) (f : Fabric) (ideal : IdealState) (cs : List (Li
 
   -- what waits has another name than what left
   pub differ_left : (d : Departure) (q : Queued) → Has sent d → Waits q → SameName q d.queued → ⊥
-  differ_left d q has waits name =
-      let gone = has_left_it d has in
-      let outputs : d.queued.cell.output ≡ q.cell.output =
-      ap (λ (c : Cell). c.output) (sym (same_cell q d.queued waits.kept gone.kept name)) in
-      (follows_left d q has waits outputs).differ (sym name.0) (sym name.1)
+  differ_left d q has waits name = let gone = has_left_it d has in search (arith, rules, follows_left d q has waits)
 
   left_pairs : (j : ℕ) → j < length w.machines → EachPair Follows (left_at j sent)
   left_pairs j inside = pairs_left Follows (left_at j sent) (list_of ideal.lists j) (pairs_at j inside)
@@ -154,14 +107,11 @@ module _ (w : Switch) (n : ℕ) (f : Fabric) (ideal : IdealState) (cs : List (Li
   pub each_sent : (R : Departure → Departure → Type 0) →
       ((d e : Departure) → Has sent d → Has sent e → (d.output ≡ e.output → Follows d.queued e.queued) → R d e) →
       EachPair R sent
-  each_sent R tells =
-      pairs_with (λ (d e : Departure). d.output ≡ e.output → Follows d.queued e.queued) R
+  each_sent R tells = pairs_with (λ (d e : Departure). d.output ≡ e.output → Follows d.queued e.queued) R
       (λ (d : Departure). Has sent d) tells sent (all_from_has (λ (d : Departure). Has sent d) sent (λ d has. has))
       (pairs_by_number (λ (d : Departure). d.output) (λ (d : Departure). d.queued) Follows
-      (λ j. j < length w.machines) sent
-      (all_weaker (IsSentRight w n) (λ (d : Departure). d.output < length w.machines) (λ d right. right.inside) sent
-      known.departed)
-      left_pairs)
+      (λ j. j < length w.machines) sent (all_weaker (IsSentRight w n)
+      (λ (d : Departure). d.output < length w.machines) (λ d right. right.inside) sent known.departed) left_pairs)
 
   -- and so of the lists: each cell stands in its list by what is known of it there
   pub each_listed : (R : Queued → Queued → Type 0) (It : ℕ → Queued → Type 0) →
@@ -169,12 +119,9 @@ module _ (w : Switch) (n : ℕ) (f : Fabric) (ideal : IdealState) (cs : List (Li
       ((i : ℕ) (a b : Queued) → It i a → It i b → (a.cell.output ≡ b.cell.output → IsBefore a b) → R a b) →
       ((i k : ℕ) (a b : Queued) → i < k → Has (input f i) a → Has (input f k) b → R a b) →
       EachPair R (all_of f.inputs)
-  each_listed R It are leads apart =
-      pairs_of_all R f.inputs
-      (λ i.
+  each_listed R It are leads apart = pairs_of_all R f.inputs (λ i.
       pairs_with (λ (a b : Queued). a.cell.output ≡ b.cell.output → IsBefore a b) R (It i) (leads i) (input f i)
-      (all_from_has (It i) (input f i) (are i)) (each_pair_of _ (input f i) (known.agrees.order i)))
-      apart
+      (all_from_has (It i) (input f i) (are i)) (each_pair_of _ (input f i) (known.agrees.order i))) apart
 
   pub waiting_pairs : (j : ℕ) → j < length w.machines → EachPair Follows (list_of ideal.lists j)
   waiting_pairs j inside = pairs_right Follows (left_at j sent) (list_of ideal.lists j) (pairs_at j inside)

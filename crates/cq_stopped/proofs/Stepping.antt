@@ -1,7 +1,8 @@
 -- One slot of a run that may be stopped. The ideal switch goes on beside the fabric. At each output the cells that
 -- come queue up behind those that left and those that wait, and where one leaves it is the first that waits: what left
 -- and then what waits is the same list. So what is known before the slot is known after it.
-use Rattle.std.proofs.Common.{◌≡◌, ℕ, zero, suc, ◌+◌, ◌<◌, ◌≤◌, List, [], ◌∷◌, ◌++◌, drop, length, Option, Some, None, Result, Ok, refl, sym, ap, ◌∙◌, subst, inl, inr, ⊎_elim, arith, length-append}
+use Rattle.std.proofs.lemmas.Grind.{common_steps}
+use Rattle.std.proofs.Common.{rules, ◌≡◌, ℕ, zero, suc, ◌+◌, ◌<◌, ◌≤◌, List, [], ◌∷◌, ◌++◌, drop, length, Option, Some, None, Ok, refl, sym, ap, ◌∙◌, subst, inl, inr, ⊎_elim, arith, length-append}
 use Rattle.std.specs.Prelude.{slice_get, slice_index_or}
 use Rattle.std.specs.List.{AllByRecursion}
 use Rattle.std.proofs.lemmas.Bool.{cases_eq, cases_lt}
@@ -12,14 +13,13 @@ use Rattle.cq_base.specs.Arriving.{arriving, arriving_at}
 use Rattle.cq_base.specs.declared.cell.Cell.{Cell}
 use Rattle.cq_base.specs.declared.cell.Departure.{Departure}
 use Rattle.cq_base.specs.declared.cell.Queued.{Queued}
-use Rattle.cq_base.specs.declared.cell.TagFault.{TagFault}
 use Rattle.cq_ideal.proofs.Admitted.{admitted_arrives}
 use Rattle.cq_ideal.proofs.Came.{Came, came_from}
 use Rattle.cq_ideal.proofs.FlowRank.{AreOfClasses, present}
 use Rattle.cq_ideal.proofs.FlowSlot.{Served, listed, served}
 use Rattle.cq_ideal.proofs.FlowStands.{HasWaited}
-use Rattle.cq_ideal.specs.Admission.{Admission, Marked, admission, marks_after}
-use Rattle.cq_ideal.specs.IdealSlot.{IdealState, Sent, all_told, departures_from, departures_in, filled, fronts, ideal_sends, ideal_slot, put_all, rests}
+use Rattle.cq_ideal.specs.Admission.{Marked, admission}
+use Rattle.cq_ideal.specs.IdealSlot.{IdealState, Sent, all_told, departures_from, departures_in, filled, fronts, ideal_slot, put_all, rests}
 use Rattle.cq_ideal.specs.Ranking.{AreForPorts, ranking}
 use Rattle.cq_laws.proofs.AfterArrivals.{CameFor, Keyed}
 use Rattle.cq_laws.proofs.Falls.{rest_of}
@@ -31,7 +31,6 @@ use Rattle.cq_laws.proofs.OneSlot.{keyed, ports_kept, same_slot}
 use Rattle.cq_laws.specs.Agreement.{SendsAlike}
 use Rattle.cq_laws.specs.Fabric.{Fabric, IsAmong, input}
 use Rattle.cq_laws.specs.FabricSlot.{FabricSlot}
-use Rattle.cq_laws.specs.Holding.{fabric_held}
 use Rattle.cq_laws.specs.LimitedFabric.{LimitedFabricSlot, LimitedRecord}
 use Rattle.cq_laws.specs.Phases.{came_to, list_arrived}
 use Rattle.cq_laws.specs.Quiet.{KeepLaws}
@@ -76,21 +75,13 @@ first_has (y ∷ ys) q is = inl (same_Some y q is)
 -- what came up to a slot, and what came in it
 module _ (cs : List (List (Option Queued))) (c : List (Option Queued)) (n : ℕ) (long : length cs ≡ n) (i : ℕ) where
   pub came_before : (t : ℕ) → t < n → came_in (cs ++ c ∷ []) t i ≡ came_in cs t i
-  came_before t lt =
-      ap (λ (l : List (Option Queued)). came_to l i)
-      (get_or_append_left cs (c ∷ []) [] t (let l : t < length cs = omega arith in l))
+  came_before t lt = grind (arith, common_steps, get_or_append_left)
 
   pub came_now : came_in (cs ++ c ∷ []) n i ≡ came_to c i
-  came_now =
-      ap (λ (m : ℕ). came_in (cs ++ c ∷ []) m i) (let e : n ≡ length cs + 0 = omega arith in e)
-      ∙ ap (λ (l : List (Option Queued)). came_to l i) (get_or-append-add cs (c ∷ []) 0 [])
+  came_now = grind (arith, common_steps, came_in, get_or-append-add)
 
   pub none_later : (t : ℕ) → n < t → came_in (cs ++ c ∷ []) t i ≡ None
-  none_later t lt =
-      let one : List (List (Option Queued)) = c ∷ [] in
-      let all : length (cs ++ one) ≡ length cs + length one = length-append cs one in
-      ap (λ (l : List (Option Queued)). came_to l i)
-      (get_or_past (cs ++ one) t [] (let le : length (cs ++ one) ≤ t = omega arith in le))
+  none_later t lt = grind (arith, common_steps, length-append, get_or_past)
 
 module _ (w : Switch) (ranks : List (List ℕ)) (configured : IsConfigured w ranks) (n : ℕ) (f g : Marked Fabric)
     (r : LimitedRecord) (ideal : IdealState) (cs : List (List (Option Queued))) (sent : List Departure)
@@ -99,39 +90,28 @@ module _ (w : Switch) (ranks : List (List ℕ)) (configured : IsConfigured w ran
   -- ## What comes
 
   come : AreForPorts (length f.state.inputs) w.classes r.admission.cells
-  come =
-      subst (λ (a : Admission). AreForPorts (length f.state.inputs) w.classes a.cells) (sym step.admits)
-      (admission_for_ports w.limits (fabric_held f.state) f.marks (arriving w.came n) (length f.state.inputs) w.classes
-      (subst (λ (ports : ℕ). AreForPorts ports w.classes (arriving w.came n)) (sym known.ports)
-      (arrivals_for (length w.machines) w.classes w.came n configured.traffic)))
+  come = grind (arith, common_steps, admission_for_ports, arrivals_for)
 
   pub arrives : (i : ℕ) (cell : Cell) → arrival_at r.admission.cells i ≡ Some cell →
       arriving_at w.came n i ≡ Some cell
   unfolding admission
-  arrives i cell at =
-      place_of w.came n i 64 cell refl
-      (admitted_arrives (marks_after w.limits (fabric_held f.state) f.marks (arriving w.came n)) (arriving w.came n) i
-      cell (ap (λ (a : Admission). arrival_at a.cells i) (sym step.admits) ∙ at))
+  arrives i cell at = grind (arith, common_steps, place_of, admitted_arrives)
 
   stable : FabricSlot IsStable w.machines n r.admission.cells f.state r.of_slot g.state
   stable = stable_slot w.machines n r.admission.cells f.state g.state r.of_slot step.runs
 
   alike : SendsAlike w.machines n r.admission.cells ideal r.of_slot.gone g.state
-  alike =
-      same_slot w.machines n w.classes r.admission.cells f.state g.state ideal r.of_slot known.agrees come stable
+  alike = grind (arith, common_steps, same_slot, come, stable)
 
   pub next : IdealState
   next = alike.next
 
   its_keys : Keyed n (length f.state.inputs) r.of_slot.came
-  its_keys =
-      keyed w.machines n w.classes r.admission.cells f.state g.state ideal r.of_slot known.agrees come stable
+  its_keys = grind (arith, common_steps, keyed, come, stable)
 
   as_ranked : ranking w.machines n 0 r.admission.cells ideal.ranks
       ≡ Ok (record { came = r.of_slot.came; ranks = r.of_slot.arrived.ranks })
-  as_ranked =
-      ap (λ (l : List (List ℕ)). ranking w.machines n 0 r.admission.cells l) (sym known.agrees.ranks)
-      ∙ step.runs.arrive.ranked
+  as_ranked = grind (arith, common_steps)
 
   many : length ideal.lists ≡ length w.machines
   many = known.agrees.ports ∙ known.ports
@@ -145,11 +125,7 @@ module _ (w : Switch) (ranks : List (List ℕ)) (configured : IsConfigured w ran
       record { inside = omega arith; class = omega arith }
 
   keep : KeepLaws w.machines ideal.ranks
-  keep =
-      record {
-        laws = λ j inside. configured.laws j (let lt : j < length w.machines = omega arith in lt);
-        sized = λ j inside. (known.lanes j (let lt : j < length w.machines = omega arith in lt)).stands.size;
-      }
+  keep = grind (arith, common_steps)
 
   its_came : (k : ℕ) (q : Queued) → came_to r.of_slot.came k ≡ Some q → Came n 0 r.admission.cells k q
   its_came = came_from w.machines n 0 r.admission.cells ideal.ranks _ as_ranked
@@ -192,12 +168,7 @@ module _ (w : Switch) (ranks : List (List ℕ)) (configured : IsConfigured w ran
 
   made_is : made ≡ record { gone = r.of_slot.gone; after = next }
   unfolding made lists ideal_slot next
-  made_is =
-      let sends : ideal_slot w.machines n r.admission.cells ideal ≡ Ok made =
-      ap (ideal_sends w.machines ideal) as_ranked in
-      let end : Sent = record { gone = r.of_slot.gone; after = alike.next } in
-      let both : ◌≡◌ {A = Result Sent TagFault} (Ok made) (Ok end) = sym sends ∙ alike.sent in
-      let same : made ≡ end = cc in same
+  made_is = grind (arith, common_steps, as_ranked)
 
   -- the list of an output with what comes for it
   abbrev full : ℕ → List Queued
@@ -205,9 +176,7 @@ module _ (w : Switch) (ranks : List (List ℕ)) (configured : IsConfigured w ran
 
   full_is : (j : ℕ) → list_of lists j ≡ full j
   unfolding lists
-  full_is j =
-      list_after r.of_slot.came ideal.lists
-      (λ k q at. let lt = its_keys.outputs k q at in omega arith) j
+  full_is j = list_after r.of_slot.came ideal.lists (λ k q at. let lt = its_keys.outputs k q at in omega arith) j
 
   lists_many : length lists ≡ length w.machines
   unfolding lists
@@ -220,36 +189,22 @@ module _ (w : Switch) (ranks : List (List ℕ)) (configured : IsConfigured w ran
       let length_is = lists_many in
       ap (λ (x : Sent). slice_index_or x.gone j none) (sym made_is)
       ∙ get_or-map (λ (zs : List Queued). slice_get zs 0) lists j [] none
-      (let lt : j < length lists = omega arith in lt)
-      ∙ ap (λ (zs : List Queued). slice_get zs 0) (full_is j)
+      (let lt : j < length lists = omega arith in lt) ∙ ap (λ (zs : List Queued). slice_get zs 0) (full_is j)
 
   none_gone : (j : ℕ) → length w.machines ≤ j → slice_index_or r.of_slot.gone j None ≡ None
   unfolding made
-  none_gone j outside =
-      let none : Option Queued = None in
-      let length_is = lists_many in
-      let many_gone : length (fronts lists) ≡ length lists = length-map lists (λ (zs : List Queued). slice_get zs 0) in
-      ap (λ (x : Sent). slice_index_or x.gone j none) (sym made_is)
-      ∙ get_or_past (fronts lists) j none (let le : length (fronts lists) ≤ j = omega arith in le)
+  none_gone j outside = grind (arith, common_steps, lists_many, length-map, made_is, get_or_past)
 
   next_is : (j : ℕ) → list_of next.lists j ≡ drop 1 (full j)
   unfolding made
-  next_is j =
-      ap (λ (x : Sent). list_of x.after.lists j) (sym made_is) ∙ rest_of lists j
-      ∙ ap (λ (zs : List Queued). drop 1 zs) (full_is j)
+  next_is j = grind (arith, common_steps, made_is, rest_of, full_is)
 
   abbrev pub sent_next : List Departure
   sent_next = sent ++ departures_in n r.of_slot.gone
 
   -- what left and what waits
   pool_is : (j : ℕ) → j < length w.machines → pool_at j sent_next next ≡ left_at j sent ++ full j
-  pool_is j inside =
-      ap (λ (l : List Queued). l ++ list_of next.lists j)
-      (left_more n j sent r.of_slot.gone
-      ∙ ap (λ (o : Option Queued). left_at j sent ++ listed o) (gone_is j inside))
-      ∙ ap (λ (l : List Queued). (left_at j sent ++ listed (slice_get (full j) 0)) ++ l) (next_is j)
-      ∙ append_assoc (left_at j sent) (listed (slice_get (full j) 0)) (drop 1 (full j))
-      ∙ ap (λ (l : List Queued). left_at j sent ++ l) (first_rest (full j))
+  pool_is j inside = search (rules, left_more, left_at, listed, gone_is, next_is, append_assoc, first_rest)
 
   -- ## At each output
 
@@ -264,44 +219,28 @@ module _ (w : Switch) (ranks : List (List ℕ)) (configured : IsConfigured w ran
     own_waiting = all_right (IsOwn w n j) (left_at j sent) (list_of ideal.lists j) lane.own
 
     older : (q : Queued) → IsOwn w n j q → IsOwn w (n + 1) j q
-    older q own =
-        record { keyed = own.keyed; here = own.here; before = let l : q.key.slot < n + 1 = omega arith in l }
+    older q own = grind (arith, common_steps, keyed)
 
     pub own_full : AllByRecursion (IsOwn w (n + 1) j) (full j)
     own_full =
-        all_from_has (IsOwn w (n + 1) j) (full j)
-        (λ q has.
-        ⊎_elim
-        (λ (was : IsAmong q (list_of ideal.lists j)).
-        older q
-        (all_of_has (IsOwn w n j) (list_of ideal.lists j) q own_waiting (has_of_among (list_of ideal.lists j) q was)))
-        (λ (new : CameFor r.of_slot.came j q).
+        all_from_has (IsOwn w (n + 1) j) (full j) (λ q has. ⊎_elim (λ (was : IsAmong q (list_of ideal.lists j)).
+        older q (all_of_has (IsOwn w n j) (list_of ideal.lists j) q own_waiting
+        (has_of_among (list_of ideal.lists j) q was))) (λ (new : CameFor r.of_slot.came j q).
         let c = its_came new.0 q new.1 in
         record {
           keyed = is_keyed new.0 q new.1;
           here = new.2;
           before = let l : q.key.slot < n + 1 = omega arith in l;
-        })
-        (among_put_all j r.of_slot.came (list_of ideal.lists j) q (among_of_has (full j) q has)))
+        }) (among_put_all j r.of_slot.came (list_of ideal.lists j) q (among_of_has (full j) q has)))
 
     own_all : AllByRecursion (IsOwn w (n + 1) j) (left_at j sent ++ full j)
-    own_all =
-        all_both (IsOwn w (n + 1) j) (left_at j sent) (full j)
-        (all_weaker (IsOwn w n j) (IsOwn w (n + 1) j) older (left_at j sent) own_left) own_full
+    own_all = search (rules, all_both, IsOwn, left_at, all_weaker, older, own_left, own_full)
 
     earlier : AllByRecursion (IsEarlier j n 0) (left_at j sent ++ list_of ideal.lists j)
-    earlier =
-        all_weaker (IsOwn w n j) (IsEarlier j n 0)
-        (λ q own.
-        record { came = omega arith; before = λ same. absurd (omega arith) })
-        (left_at j sent ++ list_of ideal.lists j) lane.own
+    earlier = grind (arith, common_steps, all_weaker, IsOwn, IsEarlier, left_at)
 
     comes : Come j n 0 r.of_slot.came
-    comes =
-        record {
-          slot_is = λ k q at. (its_came k q at).slot_is;
-          input_is = λ k q at. (its_came k q at).input_is;
-        }
+    comes = search (rules, its_came)
 
     old_ahead : OldAhead j n r.of_slot.came (list_of ideal.lists j)
     old_ahead k q x at output among before class =
@@ -324,10 +263,8 @@ module _ (w : Switch) (ranks : List (List ℕ)) (configured : IsConfigured w ran
         (let le : x.key.rank ≤ q.key.rank = omega arith in le) (let lt : x.key.slot < q.key.slot = omega arith in lt)
 
     classes : AreOfClasses (machine_at w.machines j) j (present r.admission.cells)
-    classes =
-        all_present (λ (cell : Cell). cell.output ≡ j → cell.class < (machine_at w.machines j).classes)
-        r.admission.cells
-        (λ k cell at same.
+    classes = all_present (λ (cell : Cell). cell.output ≡ j → cell.class < (machine_at w.machines j).classes)
+        r.admission.cells (λ k cell at same.
         let known_cell = its_known k cell at in
         subst (λ (o : ℕ). cell.class < (machine_at w.machines o).classes) same known_cell.class)
 
@@ -346,10 +283,9 @@ module _ (w : Switch) (ranks : List (List ℕ)) (configured : IsConfigured w ran
         record {
           stands = its_served.stands;
           own = subst (λ (l : List Queued). AllByRecursion (IsOwn w (n + 1) j) l) (sym (pool_is j inside)) own_all;
-          pairs =
-              subst (λ (l : List Queued). EachPair Follows l) (sym (pool_is j inside))
-              (pairs_put_all j n r.of_slot.came 0 (left_at j sent) (list_of ideal.lists j) comes earlier old_ahead
-              lane.stands.order lane.pairs);
+          pairs = subst (λ (l : List Queued). EachPair Follows l) (sym (pool_is j inside)) (pairs_put_all j n
+              r.of_slot.came 0 (left_at j sent) (list_of ideal.lists j) comes earlier old_ahead lane.stands.order
+              lane.pairs);
         }
 
   -- ## Where cells stand
@@ -376,31 +312,22 @@ module _ (w : Switch) (ranks : List (List ℕ)) (configured : IsConfigured w ran
           IsAmong c (list_arrived f.state o (input f.state i)) → c.key.input ≡ i
       came_or_was None is there = known.placed i c there
       came_or_was (Some q) is there =
-          ⊎_elim
-          (λ (same : q ≡ c). its_keys.input_is i c (is ∙ ap (λ (x : Queued). Some x) same))
-          (λ (was : IsAmong c (input f.state i)). known.placed i c was)
-          (among_insert (input f.state i) _ q c there)
+          ⊎_elim (λ (same : q ≡ c). its_keys.input_is i c (is ∙ ap (λ (x : Queued). Some x) same))
+          (λ (was : IsAmong c (input f.state i)). known.placed i c was) (among_insert (input f.state i) _ q c there)
 
   -- ## Departures
 
   departed_next : AllByRecursion (IsSentRight w (n + 1)) sent_next
   unfolding departures_in
-  departed_next =
-      all_both (IsSentRight w (n + 1)) sent (departures_from n 0 r.of_slot.gone)
-      (all_weaker (IsSentRight w n) (IsSentRight w (n + 1))
-      (λ d right.
-      record {
+  departed_next = all_both (IsSentRight w (n + 1)) sent (departures_from n 0 r.of_slot.gone) (all_weaker
+      (IsSentRight w n) (IsSentRight w (n + 1)) (λ d right. record {
         own = right.own;
         inside = right.inside;
         from = right.from;
         before = let l : d.slot < n + 1 = omega arith in l;
-      }) sent known.departed)
-      (each_departs n (IsSentRight w (n + 1)) r.of_slot.gone 0
-      (λ k j q is at.
-      ⊎_elim
-      (λ (inside : k < length w.machines).
-      let own =
-      all_of_has (IsOwn w (n + 1) k) (full k) q (own_full k inside)
+      }) sent known.departed) (each_departs n (IsSentRight w (n + 1)) r.of_slot.gone 0 (λ k j q is at.
+      ⊎_elim (λ (inside : k < length w.machines).
+      let own = all_of_has (IsOwn w (n + 1) k) (full k) q (own_full k inside)
       (first_has (full k) q (sym (gone_is k inside) ∙ at)) in
       record { own = omega arith; inside = omega arith; from = omega arith; before = omega arith })
       (λ (outside : length w.machines ≤ k).
@@ -439,9 +366,7 @@ module _ (w : Switch) (ranks : List (List ℕ)) (configured : IsConfigured w ran
 
   lists_next : length next.lists ≡ length w.machines
   unfolding made
-  lists_next =
-      ap (λ (x : Sent). length x.after.lists) (sym made_is)
-      ∙ length-map lists (λ (zs : List Queued). drop 1 zs) ∙ lists_many
+  lists_next = grind (arith, common_steps, made_is, length-map, lists_many)
 
   held_next : (t i : ℕ) (q : Queued) → came_in came_next t i ≡ Some q → IsHeld next sent_next t i q
   held_next t i q is =
@@ -494,8 +419,7 @@ module _ (w : Switch) (ranks : List (List ℕ)) (configured : IsConfigured w ran
       (cases_lt t n)
 
   states_next : length next.ranks ≡ length w.machines
-  states_next =
-      (its_served 0 (let lt : 0 < length w.machines = omega arith in lt)).states ∙ known.states
+  states_next = (its_served 0 (let lt : 0 < length w.machines = omega arith in lt)).states ∙ known.states
 
   -- ## Together
 
@@ -504,9 +428,8 @@ module _ (w : Switch) (ranks : List (List ℕ)) (configured : IsConfigured w ran
   known_next =
       record {
         agrees = alike.agrees;
-        ports =
-            ports_kept w.machines n w.classes r.admission.cells f.state g.state ideal r.of_slot known.agrees come stable
-            ∙ known.ports;
+        ports = ports_kept w.machines n w.classes r.admission.cells f.state g.state ideal r.of_slot known.agrees come
+            stable ∙ known.ports;
         states = states_next;
         lanes = λ j inside. next_lane j inside;
         placed = placed_next;

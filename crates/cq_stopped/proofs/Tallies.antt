@@ -1,8 +1,9 @@
 -- The fourth clause, the marks and what was refused. At each input the walk over the arrivals ends with the mark of
 -- the run, so each packet is named whole or not at all, and the mark is that of the packet that began last. And what
 -- was refused slot by slot is, counted by any test, what is not named input by input.
-use Rattle.std.proofs.Common.{◌≡◌, ℕ, zero, suc, ◌+◌, ◌<◌, ◌≤◌, ◌⊎◌, eqb, Bool, true, false, cond, List, [], ◌∷◌, ◌++◌, length, length-append, map, Option, None, Some, refl, sym, ap, ◌∙◌, subst, inl, inr, ⊎_elim, arith}
-use Rattle.std.specs.Prelude.{All, ◌&&◌, ◌||◌, ◌==◌, filter, flat_map, is_some, nat_lt, not}
+use Rattle.std.proofs.lemmas.Grind.{common_steps}
+use Rattle.std.proofs.Common.{rules, ◌≡◌, ℕ, zero, suc, ◌+◌, ◌<◌, ◌≤◌, ◌⊎◌, eqb, Bool, true, false, cond, List, [], ◌∷◌, length, length-append, map, Option, None, Some, refl, sym, ap, ◌∙◌, subst, ⊎_elim, arith}
+use Rattle.std.specs.Prelude.{All, filter, flat_map, is_some}
 use Rattle.std.specs.List.{AllByRecursion, list_any, range_with_len}
 use Rattle.std.proofs.lemmas.Bool.{cases_eq, eq-eqb, ne_eqb}
 use Rattle.std.proofs.lemmas.List.{get_or-map, get_or-replicate, length-map, length-replicate, map-append, same_lists}
@@ -15,7 +16,7 @@ use Rattle.cq_ideal.proofs.Admitted.{marks_kept}
 use Rattle.cq_ideal.proofs.Packets.{refused_here}
 use Rattle.cq_ideal.proofs.Standing.{StandAt, of_input, refused_are as refused_of_input, stand_in}
 use Rattle.cq_ideal.proofs.Waiting.{total, total_none}
-use Rattle.cq_ideal.specs.Admission.{Admission, Marked, admission, is_first, mark_at, marks_after, refused}
+use Rattle.cq_ideal.specs.Admission.{Marked, admission, mark_at, marks_after, refused, Admission}
 use Rattle.cq_ideal.specs.Ending.{arriving_from}
 use Rattle.cq_ideal.specs.Refused.{cells_refused, packets_refused, refused_counts, refused_in, with_refused}
 use Rattle.cq_ideal.specs.declared.refused.Refused.{Refused}
@@ -51,8 +52,7 @@ bit b = cond b 1 0
 total_sum : (f g h : ℕ → ℕ) (a n : ℕ) → ((i : ℕ) → f i ≡ g i + h i) → total f a n ≡ total g a n + total h a n
 unfolding total
 total_sum f g h a zero each = refl
-total_sum f g h a (suc n) each =
-    let here = each a in let rest = total_sum f g h (a + 1) n each in omega arith
+total_sum f g h a (suc n) each = grind (arith, common_steps, total_sum f g h (a + 1) n each)
 
 module _ (p : Cell → Bool) where
   -- how many pass the test
@@ -80,28 +80,13 @@ module _ (p : Cell → Bool) where
   no_place : (x : Cell) (a n : ℕ) → x.id.input < a → total (at_own x) a n ≡ 0
   unfolding total
   no_place x a zero past = refl
-  no_place x a (suc n) past =
-      let here : at_own x a ≡ 0 = ap (λ (b : Bool). cond b (bit (p x)) 0) (ne_eqb x.id.input a (λ e. let P : ⊥ =
-      omega arith in P)) in
-      let rest = no_place x (a + 1) n (omega arith) in
-      omega arith
+  no_place x a (suc n) past = grind (arith, common_steps, ne_eqb, no_place x (a + 1) n)
 
   one_place : (x : Cell) (a n : ℕ) → a ≤ x.id.input → x.id.input < a + n → total (at_own x) a n ≡ bit (p x)
   unfolding total
   one_place x a zero from to = absurd (omega arith)
-  one_place x a (suc n) from to =
-      ⊎_elim
-      (λ (same : x.id.input ≡ a).
-      let here : at_own x a ≡ bit (p x) = ap (λ (b : Bool). cond b (bit (p x)) 0) (eq-eqb x.id.input a same) in
-      let rest = no_place x (a + 1) n (omega arith) in
-      let all : at_own x a + total (at_own x) (a + 1) n ≡ bit (p x) = omega arith in
-      all)
-      (λ other.
-      let here : at_own x a ≡ 0 = ap (λ (b : Bool). cond b (bit (p x)) 0) (ne_eqb x.id.input a other) in
-      let rest = one_place x (a + 1) n (omega arith) (omega arith) in
-      let all : at_own x a + total (at_own x) (a + 1) n ≡ bit (p x) = omega arith in
-      all)
-      (cases_eq x.id.input a)
+  one_place x a (suc n) from to = ⊎_elim (λ (same : x.id.input ≡ a). search (arith, rules, eq-eqb, no_place, total))
+      (λ other. search (arith, rules, ne_eqb, total, one_place x (a + 1) n)) (cases_eq x.id.input a)
 
   by_inputs : (xs : List Cell) (n : ℕ) → AllByRecursion (λ (c : Cell). c.id.input < n) xs →
       number xs ≡ total (λ i. number (of_input i xs)) 0 n
@@ -110,43 +95,23 @@ module _ (p : Cell → Bool) where
       let first = number_cons x xs in
       let rest = by_inputs xs n low.1 in
       let here = one_place x 0 n (omega arith) (omega arith) in
-      let both =
-      total_sum (λ i. number (of_input i (x ∷ xs))) (at_own x) (λ i. number (of_input i xs)) 0 n
-      (λ i. number_here i x xs) in
-      omega arith
+      search (arith, rules, total_sum, of_input, number_here)
 
   of_flat : (f : ℕ → List Cell) (a n : ℕ) → number (flat_map f (range_with_len a n)) ≡ total (λ i. number (f i)) a n
   unfolding total
   of_flat f a zero = refl
-  of_flat f a (suc n) =
-      let rest = of_flat f (a + 1) n in
-      let both : number (f a ++ flat_map f (range_with_len (a + 1) n))
-      ≡ number (f a) + number (flat_map f (range_with_len (a + 1) n)) =
-      ap (λ (l : List Cell). length l) (filter-append p (f a) (flat_map f (range_with_len (a + 1) n)))
-      ∙ length-append (filter p (f a)) (filter p (flat_map f (range_with_len (a + 1) n))) in
-      omega arith
+  of_flat f a (suc n) = grind (arith, common_steps, filter-append, length-append, of_flat f (a + 1) n)
 
 -- counts of cells of which each test passes as many are the same
 same_counts : (xs ys : List Cell) → ((p : Cell → Bool) → length (filter p xs) ≡ length (filter p ys)) →
     (counts : List Refused) → with_refused xs counts ≡ with_refused ys counts
 unfolding cells_refused packets_refused
 same_counts xs ys same [] = refl
-same_counts xs ys same (r ∷ counts) =
-    let packets = same (λ (cell : Cell). cell.output == r.output && is_first cell) in
-    let cells = same (λ (cell : Cell). cell.output == r.output) in
-    let rest = same_counts xs ys same counts in
-    λ k. record {
-      output = r.output;
-      limit = r.limit;
-      packets = r.packets + packets k;
-      cells = r.cells + cells k;
-    } ∷ rest k
+same_counts xs ys same (r ∷ counts) = grind (arith, common_steps, r.output, same_counts xs ys same counts)
 
 cells_flat : (f : ℕ → List Arrival) (is : List ℕ) → cells_in (flat_map f is) ≡ flat_map (λ i. cells_in (f i)) is
 cells_flat f [] = refl
-cells_flat f (i ∷ is) =
-    map-append (λ (a : Arrival). a.cell) (f i) (flat_map f is)
-    ∙ ap (λ (l : List Cell). cells_in (f i) ++ l) (cells_flat f is)
+cells_flat f (i ∷ is) = grind (arith, common_steps, map-append, cells_in, cells_flat f is)
 
 -- ## What is refused is of an input that has a mark
 
@@ -157,8 +122,7 @@ refused_low a [] cells n at le = tt
 refused_low a (mark ∷ marks) [] n at le = tt
 refused_low a (true ∷ marks) (None ∷ cells) n at le = refused_low (a + 1) marks cells n at (omega arith)
 refused_low a (false ∷ marks) (None ∷ cells) n at le = refused_low (a + 1) marks cells n at (omega arith)
-refused_low a (true ∷ marks) (Some cell ∷ cells) n at le =
-    (omega arith, refused_low (a + 1) marks cells n at.1 (omega arith))
+refused_low a (true ∷ marks) (Some cell ∷ cells) n at le = search (rules, refused_low (a + 1) marks cells n at.1)
 refused_low a (false ∷ marks) (Some cell ∷ cells) n at le = refused_low (a + 1) marks cells n at.1 (omega arith)
 
 module _ (w : Switch) where
@@ -169,10 +133,7 @@ module _ (w : Switch) where
   marks_many slot zero f g [] run = ap (λ (h : Marked Fabric). length h.marks) run
   marks_many slot zero f g (r ∷ rs) run = absurd run
   marks_many slot (suc n) f g [] run = absurd run
-  marks_many slot (suc n) f g (r ∷ rs) run =
-      marks_many (slot + 1) n run.0 g rs run.2
-      ∙ ap (λ (l : List Bool). length l) run.1.marks ∙ ap (λ (a : Admission). length a.marks) run.1.admits
-      ∙ marks_kept w.limits (fabric_held f.state) f.marks (arriving w.came slot)
+  marks_many slot (suc n) f g (r ∷ rs) run = search (rules, marks_kept, marks_many (slot + 1) n run.0 g rs run.2)
 
   all_low : (slot n ports : ℕ) (f g : Marked Fabric) (rs : List LimitedRecord) →
       Runs w slot (arriving_from w.came slot n) f rs g → length f.marks ≤ ports →
@@ -197,27 +158,18 @@ module _ (w : Switch) where
 
 abbrev no_cell : Cell
 no_cell =
-    record {
-      id = record { input = 0; packet = 0; index = 0 };
-      output = 0;
-      class = 0;
-      last = false;
-      at = 0;
-      len = 0;
-    }
+    record { id = record { input = 0; packet = 0; index = 0 }; output = 0; class = 0; last = false; at = 0; len = 0 }
 
 abbrev as_name : Named → Name
 as_name c = record { queued = record { cell = no_cell; key = key_of c }; sent = None }
 
 has_as_name : (names : List Named) (a : Arrival) → has_name (map as_name names) a ≡ is_named names a
 has_as_name [] a = refl
-has_as_name (c ∷ names) a =
-    ap (λ (b : Bool). (eqb c.slot a.slot && eqb c.input a.cell.id.input) || b) (has_as_name names a)
+has_as_name (c ∷ names) a = grind (arith, common_steps, has_as_name names a)
 
 any_same : (p q : Arrival → Bool) → ((a : Arrival) → p a ≡ q a) → (xs : List Arrival) → list_any p xs ≡ list_any q xs
 any_same p q same [] = refl
-any_same p q same (x ∷ xs) =
-    ap (λ (b : Bool). b || list_any p xs) (same x) ∙ ap (λ (b : Bool). q x || b) (any_same p q same xs)
+any_same p q same (x ∷ xs) = grind (arith, common_steps, any_same p q same xs)
 
 -- ## Together
 
@@ -254,18 +206,14 @@ module _ (w : Switch) (ranks : List (List ℕ)) (st : State) (rs : List LimitedR
       let many : length (opening w ranks).marks ≡ ports = length-replicate ports false in
       walked w i (below i inside) (are.lines i inside) (λ a. has_name names a) (came_of rs) next
       (λ a. same_name a ∙ named_is a) 0 next (opening w ranks) g rs runs (omega arith) (omega arith)
-      (λ k.
-      let place : 0 + k ≡ k = omega arith in
-      ap (λ (t : ℕ). came_in (came_of rs) t i) place)
+      (λ k. search (arith, rules, came_in, came_of))
       (subst (λ (b : Bool). Follow (λ a. has_name names a) w.limits b (coming i 0 next w.came)) (sym (marks_down i
       inside))
       (line_follows (λ a. has_name names a) w.limits (coming i 0 next w.came) (line_is i inside)))
 
   ends_marked : (i : ℕ) → i < ports → walk_mark w.limits next w.came names i ≡ Some (mark_at g.marks i)
-  ends_marked i inside =
-      ap (λ (b : Bool). mark_on (has_name names) (has_limit w.limits) b (coming i 0 next w.came)) (sym (marks_down i
-      inside))
-      ∙ (walk i inside).ends
+  ends_marked i inside = ap (λ (b : Bool). mark_on (has_name names) (has_limit w.limits) b (coming i 0 next w.came))
+      (sym (marks_down i inside)) ∙ (walk i inside).ends
 
   many_marks : length g.marks ≡ ports
   many_marks = marks_many w 0 next (opening w ranks) g rs runs ∙ length-replicate ports false
@@ -279,11 +227,7 @@ module _ (w : Switch) (ranks : List (List ℕ)) (st : State) (rs : List LimitedR
       let second = length-map-range_with_len ends 0 ports in
       let many = many_marks in
       same_lists some (map ends (range_with_len 0 ports)) (omega arith)
-      (λ k d inside.
-      let low : k < ports = omega arith in
-      get_or-map (λ (m : Bool). Some m) g.marks k false d (omega arith)
-      ∙ sym (ends_marked k low)
-      ∙ sym (get_or-map-range_with_len ends 0 ports k k d low (omega arith)))
+      (λ k d inside. search (arith, rules, get_or-map, ends_marked k, get_or-map-range_with_len ends 0 ports k k d))
 
   -- what was refused, by input
   lost_here : (i : ℕ) → i < ports → of_input i (refused_in (admissions_in rs)) ≡ cells_in (unnamed names (coming i 0
@@ -293,8 +237,7 @@ module _ (w : Switch) (ranks : List (List ℕ)) (st : State) (rs : List LimitedR
   lost_here i inside =
       refused_of_input i w.limits (opening w ranks).marks (arriving_from w.came 0 next) (admissions_in rs)
       (fabric_judged IsInputBest w.limits w.machines 0 (arriving_from w.came 0 next) (opening w ranks) g rs runs)
-      (stand_in w.came 0 next)
-      ∙ (walk i inside).lost_are
+      (stand_in w.came 0 next) ∙ (walk i inside).lost_are
 
   lost_counted : (p : Cell → Bool) → length (filter p (refused_in (admissions_in rs)))
       ≡ length (filter p (cells_in (left_before w.limits next w.came names ports)))
@@ -304,24 +247,16 @@ module _ (w : Switch) (ranks : List (List ℕ)) (st : State) (rs : List LimitedR
       let many : length (opening w ranks).marks ≡ ports = length-replicate ports false in
       let low = all_low w 0 next ports (opening w ranks) g rs runs (omega arith) (stand_in w.came 0 next) in
       let f : ℕ → List Cell = λ i. cells_in (unnamed names (coming i 0 next w.came)) in
-      by_inputs p lost ports low
-      ∙ sym (of_flat p (λ i. of_input i lost) 0 ports)
-      ∙ ap (λ (l : List Cell). length (filter p l))
-      (flat_same (λ i. of_input i lost) f 0 ports (λ i from inside. lost_here i (omega arith))
+      by_inputs p lost ports low ∙ sym (of_flat p (λ i. of_input i lost) 0 ports)
+      ∙ ap (λ (l : List Cell). length (filter p l)) (flat_same (λ i. of_input i lost) f 0 ports
+      (λ i from inside. lost_here i (omega arith))
       ∙ sym (cells_flat (λ i. unnamed names (coming i 0 next w.came)) (range_with_len 0 ports)))
 
   abbrev counts : List Refused
   counts = with_refused (refused_in (admissions_in rs)) (refused_counts w.limits [])
 
   known : Tallied w.limits next w.came names ports g.marks counts
-  known =
-      record {
-        marked = marks_walked;
-        counted =
-            same_counts (refused_in (admissions_in rs)) (cells_in (left_before w.limits next w.came names ports))
-            lost_counted
-            (refused_counts w.limits []);
-      }
+  known = grind (arith, common_steps, marks_walked, same_counts, cells_in, left_before, lost_counted)
 
   -- ## The fourth clause
 
@@ -335,42 +270,28 @@ module _ (w : Switch) (ranks : List (List ℕ)) (st : State) (rs : List LimitedR
 
   alike : (t : Bool) (xs : List Arrival) → AllByRecursion (λ b. has_name names b ≡ t) xs →
       All (λ b. is_named (named_in st) b ≡ t) xs
-  alike t xs all =
-      All-from_recursion (λ (b : Arrival). is_named (named_in st) b ≡ t) xs
-      (all_weaker (λ (b : Arrival). has_name names b ≡ t) (λ (b : Arrival). is_named (named_in st) b ≡ t)
-      (λ b is. sym (same_name b) ∙ is) xs all)
+  alike t xs all = grind (arith, common_steps, All-from_recursion, all_weaker, same_name)
 
   pub packets_are : AreWholePackets w st
-  packets_are =
-      All-from_recursion ByState w.came
-      (all_weaker ByNames ByState
-      (λ a by begins early.
-      ⊎_elim (λ all. inl (alike true (packet_before w.came next a) all))
-      (λ none. inr (alike false (packet_before w.came next a) none.0, none.1)) (by begins early)) w.came
-      (all_stand w.limits next w.came names ports are g.marks counts known))
+  packets_are = All-from_recursion ByState w.came (all_weaker ByNames ByState (λ a by begins early. search
+      (arith, rules, alike true (packet_before w.came next a), alike false (packet_before w.came next a)))
+      w.came (all_stand w.limits next w.came names ports are g.marks counts known))
 
   -- ## The marks, and the counts
 
   same_mark : (o : Option Arrival) → is_left_out names next w.came o ≡ is_refused w.came st o
   same_mark None = refl
-  same_mark (Some a) = ap not (any_same (has_name names) (is_named (named_in st)) same_name (packet_before w.came
-      next a))
+  same_mark (Some a) = grind (arith, common_steps, any_same, same_name)
 
   pub marks_are : ports ≡ st.head.ports → g.marks ≡ marks_told w.came st
-  marks_are many =
-      all_marks w.limits next w.came names ports are g.marks counts known
+  marks_are many = all_marks w.limits next w.came names ports are g.marks counts known
       ∙ mapped_alike (λ i. is_left_out names next w.came (latest (firsts_before i next w.came)))
       (λ i. is_refused w.came st (latest (firsts_at w.came st i)))
       (λ i. same_mark (latest (firsts_at w.came st i))) (range_with_len 0 ports)
       ∙ ap (λ (n : ℕ). map (λ i. is_refused w.came st (latest (firsts_at w.came st i))) (range_with_len 0 n)) many
 
   left_same : left_out next w.came names ≡ refused_arrivals w.came st
-  left_same =
-      filter_agree (λ (a : Arrival). nat_lt a.slot next && not (has_name names a))
-      (λ (a : Arrival). nat_lt a.slot next && not (is_named (named_in st) a))
-      (λ a. ap (λ (b : Bool). nat_lt a.slot next && not b) (same_name a)) w.came
+  left_same = grind (arith, common_steps, filter_agree, same_name)
 
   pub counts_are : counts ≡ refused_counts w.limits (map (λ a. a.cell) (refused_arrivals w.came st))
-  counts_are =
-      tallied_counts w.limits next w.came names ports are g.marks counts known
-      ∙ ap (λ (l : List Arrival). refused_counts w.limits (map (λ a. a.cell) l)) left_same
+  counts_are = simp (tallied_counts, known, left_same)

@@ -1,8 +1,7 @@
 -- All of it together: what a stopped run of a configured switch leaves is told by a state that can be taken up, and the
 -- text of that state is read as what was left, so what goes on from there is the run.
-use Rattle.std.proofs.Common.{ℕ, ◌<◌, ◌^◌, List, sym, ap, subst}
-use Rattle.cq_base.specs.declared.cell.Departure.{Departure}
-use Rattle.cq_base.specs.declared.cell.Transfer.{Transfer}
+use Rattle.std.proofs.lemmas.Grind.{common_steps}
+use Rattle.std.proofs.Common.{arith, rules, ℕ, ◌<◌, ◌^◌, List, sym, subst}
 use Rattle.cq_ideal.specs.Ending.{arriving_from}
 use Rattle.cq_ideal.specs.IdealRun.{departures_of}
 use Rattle.cq_laws.specs.Frozen.{fabric_in, marked_in}
@@ -11,7 +10,7 @@ use Rattle.cq_laws.specs.Records.{gone_in}
 use Rattle.cq_resume.proofs.Chained.{EachPair}
 use Rattle.cq_resume.proofs.Joining.{parts_join}
 use Rattle.cq_resume.specs.Parts.{IsParted, opening}
-use Rattle.cq_resume.specs.Resumed.{Kept, Runs}
+use Rattle.cq_resume.specs.Resumed.{Runs}
 use Rattle.cq_resume.specs.Switch.{Switch, switch_of}
 use Rattle.cq_resume.specs.declared.taken.Taken.{Taken}
 use Rattle.cq_scfq.specs.Disciplines.{openings_of}
@@ -35,10 +34,7 @@ use Rattle.cq_stopped.specs.Stopped.{CanBeTakenUp, StoppedRunsAreSound}
 module _ (w : Switch) (ranks : List (List ℕ)) (made : IsConfigured w ranks) (slots : ℕ) (early : slots < 2 ^ 63)
     (at : Taken) (parted : IsParted w ranks slots at) where
   runs : Runs w 0 (arriving_from w.came 0 at.frozen.next) (opening w ranks) parted.records (marked_in at.frozen)
-  runs =
-      subst (λ (n : ℕ).
-      Runs w 0 (arriving_from w.came 0 n) (opening w ranks) parted.records (marked_in at.frozen)) (sym parted.next)
-      parted.runs
+  runs = grind (arith, common_steps)
 
   low : at.frozen.next < 2 ^ 63
   low = subst (λ (n : ℕ). n < 2 ^ 63) (sym parted.next) early
@@ -48,20 +44,13 @@ module _ (w : Switch) (ranks : List (List ℕ)) (made : IsConfigured w ranks) (s
   stopped = stopped_is w ranks made at.frozen.next parted.records (marked_in at.frozen) runs
 
   known : Known w at.frozen.next (fabric_in at.frozen) stopped.ideal (came_of parted.records) at.sent
-  known =
-      subst (λ (l : List Departure).
-      Known w at.frozen.next (fabric_in at.frozen) stopped.ideal (came_of parted.records) l)
-      (sym (ap (λ (k : Kept). k.sent) parted.kept)) stopped.known
+  known = search (rules, Known, came_of)
 
   departs : EachPair DepartsBefore at.sent
-  departs =
-      subst (λ (l : List Departure). EachPair DepartsBefore l) (sym (ap (λ (k : Kept). k.sent) parted.kept))
-      (departures_in_order 0 (gone_in (slots_in parted.records)))
+  departs = grind (arith, common_steps, EachPair, DepartsBefore, departures_in_order)
 
   moved : AreMoved 0 at.frozen.next at.note
-  moved =
-      subst (λ (l : List Transfer). AreMoved 0 at.frozen.next l) (sym (ap (λ (k : Kept). k.note) parted.kept))
-      (moved_in_order w at.frozen.next (opening w ranks) (marked_in at.frozen) parted.records runs)
+  moved = grind (arith, common_steps, AreMoved, moved_in_order, runs)
 
   can_be_taken_up : CanBeTakenUp w at
   can_be_taken_up =
@@ -82,12 +71,10 @@ module _ (w : Switch) (ranks : List (List ℕ)) (made : IsConfigured w ranks) (s
       }
 
 pub stopped_runs_are_sound : StoppedRunsAreSound
-stopped_runs_are_sound t s slots at made tables recorded early parted =
-    can_be_taken_up (switch_of t s) (openings_of t.setup) (configured t s made tables recorded) slots early at parted
+stopped_runs_are_sound t s slots at made tables recorded early parted = search (rules, can_be_taken_up, configured)
 
 pub stopped_runs_are_read : StoppedRunsAreRead
-stopped_runs_are_read t s slots at made tables recorded early parted =
-    read_as (switch_of t s) at (stopped_runs_are_sound t s slots at made tables recorded early parted)
+stopped_runs_are_read t s slots at made tables recorded early parted = search (rules, read_as, stopped_runs_are_sound)
 
 -- what is read is what was left, parts join, and the run is the whole one
 pub read_runs_go_on : ReadRunsGoOn
@@ -95,8 +82,7 @@ read_runs_go_on t s slots at x made tables recorded early parted read =
     let w = switch_of t s in
     let ranks = openings_of t.setup in
     let told = stopped_runs_are_read t s slots at made tables recorded early parted in
-    subst (λ (y : Taken). GoesOnAsRun t s y) (sym (told.alone x read))
-    (record {
+    subst (λ (y : Taken). GoesOnAsRun t s y) (sym (told.alone x read)) (record {
       run = λ rs kept is resumed.
           parts_join.run w ranks slots at kept (kept_in_run t rs) early parted resumed (whole_is t s rs is);
       resumes = λ rs is. parts_join.resumes w ranks slots at (kept_in_run t rs) early parted (whole_is t s rs is);

@@ -1,13 +1,13 @@
 -- What the state of a stopped run comes to is what was left: the fabric and the departures, as each name tells of its
 -- cell; the figures, since as many names are of an input as cells came to it; and the marks and the counts, since the
 -- arrivals that are not named are those that were refused. And so each packet is named whole, or was refused whole.
-use Rattle.std.proofs.Common.{◌≡◌, ℕ, ◌<◌, ◌^◌, List, length, map, refl, sym, ap, ◌∙◌}
+use Rattle.std.proofs.lemmas.Grind.{common_steps}
+use Rattle.std.proofs.Common.{arith, rules, ◌≡◌, ℕ, ◌<◌, ◌^◌, List, map, sym, ap, ◌∙◌, length, refl}
 use Rattle.cq_base.specs.Arriving.{Arrival}
 use Rattle.cq_ideal.specs.Ending.{arriving_from}
 use Rattle.cq_ideal.specs.IdealRun.{departures_of}
 use Rattle.cq_ideal.specs.IdealSlot.{IdealState}
 use Rattle.cq_ideal.specs.Refused.{refused_counts}
-use Rattle.cq_laws.specs.Fabric.{Fabric}
 use Rattle.cq_laws.specs.Frozen.{fabric_in, marked_in}
 use Rattle.cq_laws.specs.LimitedFabric.{LimitedRecord, slots_in}
 use Rattle.cq_laws.specs.Records.{gone_in}
@@ -19,7 +19,6 @@ use Rattle.cq_resume.specs.Reading.{state_of}
 use Rattle.cq_resume.specs.Resumed.{Kept, Runs, kept_in, kept_on}
 use Rattle.cq_resume.specs.Sound.{AreWholePackets}
 use Rattle.cq_resume.specs.Switch.{Switch}
-use Rattle.cq_resume.specs.Told.{named_in}
 use Rattle.cq_resume.specs.declared.taken.Taken.{Taken}
 use Rattle.cq_state.specs.declared.state.State.{State}
 use Rattle.cq_stopped.proofs.Again.{fabric_same, sent_same}
@@ -31,6 +30,7 @@ use Rattle.cq_stopped.proofs.Named.{named_is}
 use Rattle.cq_stopped.proofs.Ran.{Known, came_of}
 use Rattle.cq_stopped.proofs.Tallies.{counts_are, marks_are, packets_are}
 use Rattle.cq_stopped.specs.Stopped.{told_state}
+use Rattle.cq_resume.specs.Told.{named_in}
 
 module _ (w : Switch) (ranks : List (List ℕ)) (at : Taken) (rs : List LimitedRecord) (configured : IsConfigured w ranks)
     (runs : Runs w 0 (arriving_from w.came 0 at.frozen.next) (opening w ranks) rs (marked_in at.frozen))
@@ -42,14 +42,11 @@ module _ (w : Switch) (ranks : List (List ℕ)) (at : Taken) (rs : List LimitedR
   -- the fourth clause
   pub packets_whole : AreWholePackets w (told_state w at)
   unfolding state_of
-  packets_whole =
-      packets_are w ranks st rs (marked_in at.frozen) configured.few configured.packets runs
-      (named_is w at ideal (came_of rs) known)
+  packets_whole = search (rules, packets_are, named_is, came_of)
 
   marks_same : at.frozen.marks ≡ marks_told w.came (told_state w at)
   unfolding state_of
-  marks_same =
-      marks_are w ranks st rs (marked_in at.frozen) configured.few configured.packets runs
+  marks_same = marks_are w ranks st rs (marked_in at.frozen) configured.few configured.packets runs
       (named_is w at ideal (came_of rs) known) (sym known.ports)
 
   refused_same : at.frozen.refused ≡ refused_counts w.limits (map (λ (a : Arrival). a.cell) (refused_arrivals w.came
@@ -74,25 +71,9 @@ module _ (w : Switch) (ranks : List (List ℕ)) (at : Taken) (rs : List LimitedR
 
   frozen_same : at.frozen ≡ frozen_told w (told_state w at)
   unfolding frozen_told state_of
-  frozen_same =
-      let figures = figures_same in
-      let refused = refused_same in
-      let marks = marks_same in
-      let fabric = fabric_same w at ideal (came_of rs) known in
-      λ k. record {
-        next = at.frozen.next;
-        figures = figures k;
-        refused = refused k;
-        marks = marks k;
-        ranks = at.frozen.ranks;
-        lists = sym (ap (λ (f : Fabric). f.inputs) fabric) k;
-        buffers = sym (ap (λ (f : Fabric). f.buffers) fabric) k;
-      }
+  frozen_same = grind (arith, common_steps, figures_same, refused_same, marks_same, fabric_same, came_of)
 
   -- it comes to what was left
   pub taken_same : at ≡ taken_of w (told_state w at)
   unfolding state_of
-  taken_same =
-      let frozen = frozen_same in
-      let sent = sent_same w at ideal (came_of rs) known in
-      λ k. record { frozen = frozen k; sent = sent k; note = at.note }
+  taken_same = grind (arith, common_steps, frozen_same, sent_same, came_of)

@@ -2,10 +2,11 @@
 -- and so whether it is named. Only the first cell of a packet moves the mark, up only where its output has a limit,
 -- and the other cells of the packet are for the same output. So a walk over the arrivals that compares each with the
 -- mark before it ends, with the mark of the run.
-use Rattle.std.proofs.Common.{◌≡◌, ◌≢◌, ℕ, zero, suc, ◌+◌, ◌<◌, ◌≤◌, ◌^◌, eqb, leb, ltb, Bool, true, false, cond, List, [], ◌∷◌, length, Option, None, Some, Ok, refl, sym, ap, ◌∙◌, subst, inl, inr, ⊎_elim, arith}
+use Rattle.std.proofs.lemmas.Grind.{common_steps}
+use Rattle.std.proofs.Common.{rules, ◌≡◌, ℕ, zero, suc, ◌+◌, ◌<◌, ◌≤◌, ◌^◌, eqb, leb, ltb, Bool, true, false, cond, List, [], ◌∷◌, length, Option, None, Some, Ok, refl, sym, ap, ◌∙◌, subst, inl, inr, ⊎_elim, arith}
 use Rattle.std.specs.Prelude.{◌&&◌, ◌||◌, ◌==◌, filter, find, is_some, nat_lt, not, slice_index_or, slice_set, option_map}
 use Rattle.std.specs.List.{AllByRecursion, cons_option}
-use Rattle.std.proofs.lemmas.Bool.{and_parts, and_right, cases_Bool, cases_lt, eq-eqb, eqb-true, le-leb, le-ltb, lt-leb}
+use Rattle.std.proofs.lemmas.Bool.{and_parts, and_right, cases_Bool, cases_lt, eq-eqb, eqb-true, le-ltb, lt-leb}
 use Rattle.std.proofs.lemmas.List.FromFn.{get_or-map-range_with_len}
 use Rattle.std.proofs.lemmas.Option.{unwrap_or-slice_get}
 use Rattle.cq_base.specs.Arrivals.{arrival_at}
@@ -18,7 +19,7 @@ use Rattle.cq_cells.specs.Traffic.{is_from}
 use Rattle.cq_ideal.proofs.Admitted.{admitted_at, marks_kept}
 use Rattle.cq_ideal.proofs.FlowRank.{only_ok}
 use Rattle.cq_ideal.proofs.Packets.{refused_here}
-use Rattle.cq_ideal.specs.Admission.{Admission, Marked, admission, held_after, is_full, is_full_at, mark_after, mark_at, marks_after, unless}
+use Rattle.cq_ideal.specs.Admission.{Marked, admission, held_after, is_full, is_full_at, mark_after, mark_at, marks_after, unless, Admission}
 use Rattle.cq_ideal.specs.Ending.{arriving_from}
 use Rattle.cq_ideal.specs.Limiter.{where_up}
 use Rattle.cq_ideal.specs.Ranking.{Ranking, after_input, keyed, ranking}
@@ -41,8 +42,7 @@ use Rattle.cq_stopped.proofs.Ranked.{behind, fits}
 -- a cell came just where one arrives
 pub came_where : (ms : List Machine) (slot i : ℕ) (cells : List (Option Cell)) (ranks : List (List ℕ)) (r : Ranking) →
     ranking ms slot i cells ranks ≡ Ok r → (k : ℕ) → is_some (came_to r.came k) ≡ is_some (arrival_at cells k)
-came_where ms slot i [] ranks r h k =
-    ap (λ (y : Ranking). is_some (came_to y.came k)) (only_ok h refl)
+came_where ms slot i [] ranks r h k = ap (λ (y : Ranking). is_some (came_to y.came k)) (only_ok h refl)
 came_where ms slot i (None ∷ cells) ranks r h zero =
     let it = behind None (ranking ms slot (i + 1) cells ranks) r h in
     ap (λ (l : List (Option Queued)). is_some (came_to l zero)) it.came
@@ -96,27 +96,9 @@ full_limited limits held j full = by (slice_index_or limits j None) refl full
 -- ## The arrivals at an input from a slot on
 
 module _ (i slot end : ℕ) where
-  -- a test that no arrival of this slot passes says the same one slot later
-  later_same : (a : Arrival) → a.slot ≢ slot → is_between slot end a ≡ is_between (slot + 1) end a
-  later_same a other =
-      ⊎_elim
-      (λ lt.
-      ap (λ (t : Bool). t && ltb a.slot end) (lt-leb slot a.slot lt ∙ sym (lt-leb (slot + 1) a.slot (omega arith))))
-      (λ ge.
-      let more : slot + 1 ≤ a.slot = omega arith in
-      ap (λ (t : Bool). t && ltb a.slot end) (le-leb slot a.slot ge ∙ sym (le-leb (slot + 1) a.slot more)))
-      (cases_lt a.slot slot)
-
-  here_first : (a : Arrival) (came : List Arrival) → is_at slot i a ≡ true → find (is_at slot i) (a ∷ came) ≡ Some a
-  here_first a came is = ap (λ (b : Bool). cond b (Some a) (find (is_at slot i) came)) is
-
   past_first : (a : Arrival) (came : List Arrival) → is_at slot i a ≡ false →
       find (is_at slot i) (a ∷ came) ≡ find (is_at slot i) came
   past_first a came is = ap (λ (b : Bool). cond b (Some a) (find (is_at slot i) came)) is
-
-  own_test : (a : Arrival) → is_from i a ≡ true → a.slot ≡ slot → is_at slot i a ≡ true
-  own_test a own same =
-      ap (λ (b : Bool). eqb a.slot slot && b) own ∙ ap (λ (b : Bool). b && true) (eq-eqb a.slot slot same)
 
   nothing : (o : Option Arrival) → option_map (λ (a : Arrival). a.cell) o ≡ None → o ≡ None
   nothing None none = refl
@@ -126,34 +108,7 @@ module _ (i slot end : ℕ) where
   none_at : (came : List Arrival) → find (is_at slot i) came ≡ None →
       coming i slot end came ≡ coming i (slot + 1) end came
   none_at [] none = refl
-  none_at (a ∷ came) none =
-      ⊎_elim
-      (λ found. let clash : Some a ≡ None = sym (here_first a came found) ∙ none in absurd (let P : ⊥ = cc in P))
-      (λ other.
-      let rest = none_at came (sym (past_first a came other) ∙ none) in
-      ⊎_elim
-      (λ own.
-      let ne : a.slot ≢ slot =
-      λ same.
-      let clash : true ≡ false = sym (own_test a own same) ∙ other in
-      let P : ⊥ = cc in P in
-      let test = later_same a ne in
-      let first = ap (λ (b : Bool). filter (is_between slot end) (cond b (a ∷ filter (is_from i) came) (filter
-      (is_from i) came))) own in
-      let last = ap (λ (b : Bool). filter (is_between (slot + 1) end) (cond b (a ∷ filter (is_from i) came) (filter
-      (is_from i) came))) own in
-      first
-      ∙ ap (λ (b : Bool). cond b (a ∷ coming i slot end came) (coming i slot end came)) test
-      ∙ ap (λ (l : List Arrival). cond (is_between (slot + 1) end a) (a ∷ l) l) rest
-      ∙ sym last)
-      (λ foreign.
-      ap (λ (b : Bool). filter (is_between slot end) (cond b (a ∷ filter (is_from i) came) (filter (is_from i) came)))
-      foreign
-      ∙ rest
-      ∙ sym (ap (λ (b : Bool). filter (is_between (slot + 1) end) (cond b (a ∷ filter (is_from i) came) (filter (is_from
-      i) came))) foreign))
-      (cases_Bool (is_from i a)))
-      (cases_Bool (is_at slot i a))
+  none_at (a ∷ came) none = grind (arith, common_steps, none_at came)
 
   -- where one arrives it arrives at the input
   some_at : (came : List Arrival) (cell : Cell) → arriving_at came slot i ≡ Some cell →
@@ -193,13 +148,7 @@ module _ (i slot end : ℕ) where
   pub one_comes_now : (came : List Arrival) (cell : Cell) → slot < end → IsLine (filter (is_from i) came) →
       arriving_at came slot i ≡ Some cell →
       coming i slot end came ≡ record { slot = slot; cell = cell } ∷ coming i (slot + 1) end came
-  one_comes_now came cell lt whole found =
-      one_comes i slot end came slot
-      (record {
-        late = (let le : slot ≤ slot = omega arith in le);
-        arrives = some_at came cell found;
-        none_before = late_all (filter (is_from i) came);
-      }) lt whole cell found
+  one_comes_now came cell lt whole found = search (rules, one_comes, some_at, late_all)
 
   pub comes_none_past : (came : List Arrival) → end ≤ slot → coming i slot end came ≡ []
   comes_none_past came past = none_of (filter (is_from i) came)
@@ -230,29 +179,14 @@ module _ (named : Arrival → Bool) (limits : List (Option ℕ)) where
 
   pub line_follows : (line : List Arrival) → IsLine line → Follow false line
   line_follows [] is = record { chain = λ a rest same. absurd (let P : ⊥ = cc in P); may = tt }
-  line_follows (a ∷ line) is =
-      record {
-        chain = λ b rest same.
-            let first : a ≡ b = cc in
-            let others : line ≡ rest = cc in
-            subst (λ (l : List Arrival). ComeBehind b l) others (subst (λ (x : Arrival). ComeBehind x line) first is.1);
-        may = λ later up. absurd (let clash : false ≡ true = up in let P : ⊥ = cc in P);
-      }
+  line_follows (a ∷ line) is = grind (arith, common_steps)
 
   module _ (a : Arrival) (rest : List Arrival) (mark next : Bool) (held : List ℕ)
       (follow : Follow mark (a ∷ rest)) (turns : next ≡ mark_after limits held mark (Some a.cell))
       (named_is : named a ≡ not next) where
     -- a refused cell is for an output that has a limit
     limited_here : next ≡ true → has_limit limits a.cell.output ≡ true
-    limited_here up =
-        ⊎_elim
-        (λ first.
-        full_limited limits held a.cell.output
-        (sym (ap (λ (b : Bool). cond b (is_full_at limits held a.cell.output) mark) first) ∙ sym turns ∙ up))
-        (λ later.
-        follow.may later (sym (ap (λ (b : Bool). cond b (is_full_at limits held a.cell.output) mark) later) ∙ sym
-        turns ∙ up))
-        (cases_Bool (eqb a.cell.id.index 0))
+    limited_here up = grind (arith, common_steps, full_limited, cases_Bool)
 
     named_or_limited : (t : Bool) → next ≡ t → (named a || has_limit limits a.cell.output) ≡ true
     named_or_limited true up =
@@ -261,27 +195,14 @@ module _ (named : Arrival → Bool) (limits : List (Option ℕ)) where
         or_yes : (b : Bool) → (b || true) ≡ true
         or_yes true = refl
         or_yes false = refl
-    named_or_limited false down =
-        ap (λ (b : Bool). b || has_limit limits a.cell.output) (named_is ∙ ap not down)
+    named_or_limited false down = ap (λ (b : Bool). b || has_limit limits a.cell.output) (named_is ∙ ap not down)
 
     as_marked : (m : Bool) → is_same m (not (not m)) ≡ true
     as_marked true = refl
     as_marked false = refl
 
     comes_right : may_come (a.cell.id.index == 0) (named a) (has_limit limits a.cell.output) mark ≡ true
-    comes_right =
-        let second = named_or_limited next refl in
-        ap (λ (b : Bool). (eqb a.cell.id.index 0 || is_same mark (not (named a))) && b) second
-        ∙ ap (λ (b : Bool). b && true)
-        (⊎_elim
-        (λ first. ap (λ (b : Bool). b || is_same mark (not (named a))) first)
-        (λ later.
-        let kept : next ≡ mark =
-        turns ∙ ap (λ (b : Bool). cond b (is_full_at limits held a.cell.output) mark) later in
-        ap (λ (b : Bool). b || is_same mark (not (named a))) later
-        ∙ ap (λ (b : Bool). is_same mark (not b)) (named_is ∙ ap not kept)
-        ∙ as_marked mark)
-        (cases_Bool (eqb a.cell.id.index 0)))
+    comes_right = grind (arith, common_steps, named_or_limited, as_marked, cases_Bool)
 
     back : (b : Bool) → not (not b) ≡ b
     back true = refl
@@ -289,10 +210,7 @@ module _ (named : Arrival → Bool) (limits : List (Option ℕ)) where
 
     pub step_ends : (m : Bool) → mark_on named (has_limit limits) next rest ≡ Some m →
         mark_on named (has_limit limits) mark (a ∷ rest) ≡ Some m
-    step_ends m ends =
-        ap (λ (b : Bool). cond b (mark_on named (has_limit limits) (not (named a)) rest) None) comes_right
-        ∙ ap (λ (b : Bool). mark_on named (has_limit limits) b rest) (ap not named_is ∙ back next)
-        ∙ ends
+    step_ends m ends = grind (arith, common_steps, comes_right, back)
 
     pub step_follows : Follow next rest
     step_follows =
@@ -310,12 +228,7 @@ module _ (named : Arrival → Bool) (limits : List (Option ℕ)) where
 
         goes : (line : List Arrival) → ComeBehind a line → MayGoOn next line
         goes [] behind = tt
-        goes (c ∷ line) behind = λ later up.
-            ⊎_elim (λ on. ap (λ (j : ℕ). has_limit limits j) on.2 ∙ limited_here up)
-            (λ begins.
-            let clash : true ≡ false = sym (eq-eqb c.cell.id.index 0 begins.1) ∙ later in
-            absurd (let P : ⊥ = cc in P))
-            behind.0.1
+        goes (c ∷ line) behind = grind (arith, common_steps, limited_here, eq-eqb)
 
 -- ## Slot by slot
 
@@ -363,20 +276,11 @@ module _ (w : Switch) (i : ℕ) (few : i < 64) (whole : IsLine (filter (is_from 
 
     marks_long : length g.marks ≡ length f.marks
     unfolding admission
-    marks_long =
-        ap (λ (l : List Bool). length l) marks ∙ ap (λ (a : Admission). length a.marks) admits
-        ∙ marks_kept w.limits (fabric_held f.state) f.marks (arriving w.came slot)
+    marks_long = grind (arith, common_steps, marks_kept)
 
     taken_is : arrival_at r.admission.cells i ≡ unless (mark_at r.admission.marks i) (arriving_at w.came slot i)
     unfolding admission
-    taken_is =
-        subst (λ (a : Admission). arrival_at a.cells i ≡ unless (mark_at a.marks i) (arriving_at w.came slot i))
-        (sym admits)
-        (admitted_at (marks_after w.limits (fabric_held f.state) f.marks (arriving w.came slot)) (arriving w.came
-        slot) i
-        ∙ ap (unless (mark_at (marks_after w.limits (fabric_held f.state) f.marks (arriving w.came slot)) i))
-        (arrival_is
-        slot))
+    taken_is = grind (arith, common_steps, admitted_at, arrival_is)
 
     -- one slot more, whose arrival is this or none
     slot_more : (o : Option Cell) → arriving_at w.came slot i ≡ o → slot < end → (lost : List Cell) (last : Bool) →
@@ -389,22 +293,18 @@ module _ (w : Switch) (i : ℕ) (few : i < 64) (whole : IsLine (filter (is_from 
     slot_more None none lt lost last follow here rest =
         let up = mark_at r.admission.marks i in
         let same = none_comes_now i slot end w.came none in
-        let kept : mark_at g.marks i ≡ mark_at f.marks i =
-        ap (λ (l : List Bool). mark_at l i) marks ∙ mark_is.1
+        let kept : mark_at g.marks i ≡ mark_at f.marks i = ap (λ (l : List Bool). mark_at l i) marks ∙ mark_is.1
         ∙ ap (mark_after w.limits mark_is.0 (mark_at f.marks i)) none in
-        let it =
-        rest
-        (subst (λ (l : List Arrival). Follow named w.limits (mark_at g.marks i) l) same
+        let it = rest (subst (λ (l : List Arrival). Follow named w.limits (mark_at g.marks i) l) same
         (subst (λ (b : Bool). Follow named w.limits b (coming i slot end w.came)) (sym kept) follow)) in
         let nothing : cons_option (where_up up (arrival_at (arriving w.came slot) i)) lost ≡ lost =
-        ap (λ (o : Option Cell). cons_option (where_up up o) lost) (arrival_is slot ∙ none) ∙ nothing_lost up lost in
+        ap (λ (o : Option Cell). cons_option (where_up up o) lost) (arrival_is slot ∙ none)
+        ∙ nothing_lost up lost in
         record {
-          ends =
-              ap (λ (b : Bool). mark_on named (has_limit w.limits) b (coming i slot end w.came)) (sym kept)
+          ends = ap (λ (b : Bool). mark_on named (has_limit w.limits) b (coming i slot end w.came)) (sym kept)
               ∙ ap (mark_on named (has_limit w.limits) (mark_at g.marks i)) same ∙ it.ends;
           lost_are =
-              nothing ∙ it.lost_are
-              ∙ ap (λ (l : List Arrival). cells_in (filter (λ a. not (named a)) l)) (sym same);
+              nothing ∙ it.lost_are ∙ ap (λ (l : List Arrival). cells_in (filter (λ a. not (named a)) l)) (sym same);
         }
     slot_more (Some cell) some lt lost last follow here rest =
         let up = mark_at r.admission.marks i in

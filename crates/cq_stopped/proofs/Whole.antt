@@ -1,6 +1,6 @@
 -- A run of a configured switch up to a slot: what is known of the empty fabric is known after each slot.
-use Rattle.std.proofs.Common.{◌≡◌, ℕ, zero, suc, ◌+◌, ◌<◌, ◌≤◌, List, [], ◌∷◌, ◌++◌, length, map, replicate, Option, Some, None, refl, sym, subst, ⊎_elim, arith}
-use Rattle.std.specs.Prelude.{slice_index_or}
+use Rattle.std.proofs.lemmas.Grind.{common_steps}
+use Rattle.std.proofs.Common.{◌≡◌, ℕ, zero, suc, ◌+◌, List, [], ◌∷◌, ◌++◌, length, map, replicate, Option, sym, subst, arith}
 use Rattle.std.specs.List.{range_with_len}
 use Rattle.std.proofs.lemmas.Bool.{cases_lt}
 use Rattle.std.proofs.lemmas.List.{append-nil, append_assoc, get_or-replicate, get_or_past, length-replicate}
@@ -12,7 +12,7 @@ use Rattle.cq_ideal.specs.Ending.{arriving_from}
 use Rattle.cq_ideal.specs.IdealRun.{departures_of, empty_ideal}
 use Rattle.cq_ideal.specs.IdealSlot.{IdealState, departures_in}
 use Rattle.cq_laws.proofs.LimitedWhole.{limited_empty_agree}
-use Rattle.cq_laws.specs.Fabric.{Fabric, IsAmong, empty_fabric}
+use Rattle.cq_laws.specs.Fabric.{Fabric, empty_fabric}
 use Rattle.cq_laws.specs.LimitedFabric.{LimitedRecord, slots_in}
 use Rattle.cq_laws.specs.Records.{gone_in}
 use Rattle.cq_prefs.specs.FirstCells.{list_of}
@@ -39,17 +39,15 @@ module _ (w : Switch) (ranks : List (List ℕ)) (configured : IsConfigured w ran
       let e : a ≡ a + 0 = omega arith in
       record {
         ideal = ideal;
-        known =
-            subst (λ (n : ℕ). Known w n g.state ideal (cs ++ []) (sent ++ [])) e
-            (subst (λ (l : List Departure). Known w a g.state ideal (cs ++ []) l) (sym (append-nil sent))
+        known = subst (λ (n : ℕ). Known w n g.state ideal (cs ++ []) (sent ++ [])) e (subst
+            (λ (l : List Departure). Known w a g.state ideal (cs ++ []) l) (sym (append-nil sent))
             (subst (λ (l : List (List (Option Queued))). Known w a g.state ideal l sent) (sym (append-nil cs))
             (subst (λ (h : Marked Fabric). Known w a h.state ideal cs sent) (sym run) known)));
       }
   run_known zero a f g (r ∷ rs) ideal cs sent known run = absurd run
   run_known (suc m) a f g [] ideal cs sent known run = absurd run
   run_known (suc m) a f g (r ∷ rs) ideal cs sent known run =
-      let rest =
-      run_known m (a + 1) run.0 g rs (next w ranks configured a f run.0 r ideal cs sent known run.1)
+      let rest = run_known m (a + 1) run.0 g rs (next w ranks configured a f run.0 r ideal cs sent known run.1)
       (came_next w ranks configured a f run.0 r ideal cs sent known run.1)
       (sent_next w ranks configured a f run.0 r ideal cs sent known run.1)
       (known_next w ranks configured a f run.0 r ideal cs sent known run.1) run.2 in
@@ -57,14 +55,10 @@ module _ (w : Switch) (ranks : List (List ℕ)) (configured : IsConfigured w ran
       let e : a + 1 + m ≡ a + suc m = omega arith in
       record {
         ideal = rest.ideal;
-        known =
-            subst (λ (n : ℕ).
-            Known w n g.state rest.ideal (cs ++ r.of_slot.came ∷ came_of rs)
-            (sent ++ (departures_in a r.of_slot.gone ++ later))) e
-            (subst (λ (l : List Departure).
-            Known w (a + 1 + m) g.state rest.ideal (cs ++ r.of_slot.came ∷ came_of rs) l)
-            (append_assoc sent (departures_in a r.of_slot.gone) later)
-            (subst (λ (l : List (List (Option Queued))).
+        known = subst (λ (n : ℕ). Known w n g.state rest.ideal (cs ++ r.of_slot.came ∷ came_of rs)
+            (sent ++ (departures_in a r.of_slot.gone ++ later))) e (subst
+            (λ (l : List Departure). Known w (a + 1 + m) g.state rest.ideal (cs ++ r.of_slot.came ∷ came_of rs) l)
+            (append_assoc sent (departures_in a r.of_slot.gone) later) (subst (λ (l : List (List (Option Queued))).
             Known w (a + 1 + m) g.state rest.ideal l ((sent ++ departures_in a r.of_slot.gone) ++ later))
             (append_assoc cs (r.of_slot.came ∷ []) (came_of rs)) rest.known));
       }
@@ -72,42 +66,15 @@ module _ (w : Switch) (ranks : List (List ℕ)) (configured : IsConfigured w ran
   -- ## The empty fabric
 
   nothing_at : (i : ℕ) → list_of (replicate (length w.machines) []) i ≡ []
-  nothing_at i =
-      let none : List Queued = [] in
-      ⊎_elim (λ (lt : i < length w.machines). get_or-replicate (length w.machines) i none none lt)
-      (λ (ge : length w.machines ≤ i).
-      get_or_past (replicate (length w.machines) none) i none
-      (let same = length-replicate (length w.machines) none in
-      let le : length (replicate (length w.machines) none) ≤ i = omega arith in le))
-      (cases_lt i (length w.machines))
+  nothing_at i = grind (arith, common_steps, get_or-replicate, get_or_past, length-replicate, cases_lt)
 
   known_first : Known w 0 (empty_fabric (length w.machines) ranks) (empty_ideal (length w.machines) ranks) [] []
-  known_first =
-      let none : List Queued = [] in
-      record {
-        agrees = (limited_empty_agree (length w.machines) ranks).states;
-        ports = length-replicate (length w.machines) none;
-        states = configured.openings;
-        lanes = λ j inside.
-            subst (λ (l : List Queued). Lane w 0 j (slice_index_or ranks j []) [] l) (sym (nothing_at j))
-            (record {
-              stands = record { size = configured.sizes j inside; order = tt; waited = tt };
-              own = tt;
-              pairs = tt;
-            });
-        placed = λ i c among.
-            absurd (subst (λ (l : List Queued). IsAmong c l) (nothing_at i) among);
-        departed = tt;
-        long = refl;
-        origin = λ j q inside has. absurd (subst (λ (l : List Queued). Has l q) (nothing_at j) has);
-        held = λ t i q is. absurd (let clash : None ≡ Some q = is in let P : ⊥ = cc in P);
-      }
+  known_first = grind (arith, common_steps, limited_empty_agree, length-replicate, Lane, nothing_at, Has)
 
   pub stopped_is : (n : ℕ) (rs : List LimitedRecord) (f : Marked Fabric) →
       Runs w 0 (arriving_from w.came 0 n) (opening w ranks) rs f →
       Ended n f (came_of rs) (departures_of 0 (gone_in (slots_in rs)))
   unfolding arriving_from
-  stopped_is n rs f runs =
-      subst (λ (m : ℕ). Ended m f (came_of rs) (departures_of 0 (gone_in (slots_in rs))))
+  stopped_is n rs f runs = subst (λ (m : ℕ). Ended m f (came_of rs) (departures_of 0 (gone_in (slots_in rs))))
       (let e : 0 + n ≡ n = omega arith in e)
       (run_known n 0 (opening w ranks) f rs (empty_ideal (length w.machines) ranks) [] [] known_first runs)

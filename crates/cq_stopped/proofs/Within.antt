@@ -2,22 +2,21 @@
 -- that cross to an output one makes up for the cell that leaves, if any waits there. The cells are arrivals, with
 -- ranks that fit, and those of an input's list came to that input. So what is recorded of a slot is within bounds
 -- too.
-use Rattle.std.proofs.Common.{◌≡◌, ℕ, zero, suc, ◌+◌, ◌<◌, ◌≤◌, ◌⊎◌, ◌^◌, List, [], ◌∷◌, drop, length, length-drop, replicate, Option, None, Some, refl, sym, ap, ◌∙◌, subst, inl, inr, ⊎_elim, arith}
+use Rattle.std.proofs.lemmas.Grind.{common_steps}
+use Rattle.std.proofs.Common.{rules, ◌≡◌, ℕ, zero, suc, ◌+◌, ◌<◌, ◌≤◌, ◌⊎◌, ◌^◌, List, [], ◌∷◌, length, replicate, Option, None, Some, refl, sym, ap, ◌∙◌, subst, inl, inr, ⊎_elim, arith, drop, length-drop}
 use Rattle.std.specs.Prelude.{filter_map}
 use Rattle.std.specs.List.{AllByRecursion, cons_option, range_with_len}
 use Rattle.std.specs.Option.{option_map}
 use Rattle.std.proofs.lemmas.Bool.{cases_lt, cond_both, eqb-true}
 use Rattle.std.proofs.lemmas.List.{get_or-replicate, get_or_past, length-replicate}
 use Rattle.std.proofs.lemmas.List.Edits.{length-insert}
-use Rattle.cq_base.specs.Arrivals.{arrival_at}
 use Rattle.cq_base.specs.Arriving.{arriving, arriving_at}
-use Rattle.cq_base.specs.Cells.{first_for, is_for, place_of_arrival, put}
-use Rattle.cq_base.specs.Key.{is_before}
+use Rattle.cq_base.specs.Cells.{first_for, is_for, put}
 use Rattle.cq_base.specs.declared.cell.Cell.{Cell}
 use Rattle.cq_base.specs.declared.cell.Queued.{Queued}
 use Rattle.cq_base.specs.declared.cell.Transfer.{Transfer}
 use Rattle.cq_ideal.proofs.Admitted.{admitted_arrives}
-use Rattle.cq_ideal.specs.Admission.{Admission, Marked, admission, marks_after}
+use Rattle.cq_ideal.specs.Admission.{Marked, admission}
 use Rattle.cq_ideal.specs.Ending.{arriving_from}
 use Rattle.cq_ideal.specs.IdealSlot.{all_told}
 use Rattle.cq_laws.proofs.AfterArrivals.{CameFor}
@@ -25,9 +24,8 @@ use Rattle.cq_laws.proofs.Came.{came_from}
 use Rattle.cq_laws.proofs.Members.{among_at, among_insert, first_at, left_among}
 use Rattle.cq_laws.proofs.Rises.{partner_offers, sender}
 use Rattle.cq_laws.proofs.Sound.{Sound, orders_are}
-use Rattle.cq_laws.specs.Fabric.{Fabric, IsAmong, buffer, cushion_of, empty_fabric, input}
+use Rattle.cq_laws.specs.Fabric.{Fabric, IsAmong, buffer, empty_fabric, input}
 use Rattle.cq_laws.specs.FabricSlot.{SlotRecord}
-use Rattle.cq_laws.specs.Holding.{fabric_held}
 use Rattle.cq_laws.specs.LimitedFabric.{LimitedRecord, slots_in}
 use Rattle.cq_laws.specs.Phases.{Transfers, came_to, list_arrived}
 use Rattle.cq_laws.specs.Places.{HasFor}
@@ -52,16 +50,11 @@ use Rattle.cq_traffic.proofs.ForPorts.{place_of}
 
 longer_one : (f : Fabric) (came : Option Queued) (xs : List Queued) → length (list_arrived f came xs) ≤ length xs + 1
 longer_one f None xs = omega arith
-longer_one f (Some c) xs =
-    let place : place_of_arrival (cushion_of f c) c xs ≤ length xs = omega arith in
-    let more = length-insert xs (place_of_arrival (cushion_of f c) c xs) c place in
-    omega arith
+longer_one f (Some c) xs = grind (arith, common_steps, length-insert)
 
 length_put : (c : Queued) (xs : List Queued) → length (put c xs) ≡ suc (length xs)
 length_put c [] = refl
-length_put c (x ∷ xs) =
-    cond_both (is_before c.key x.key) (c ∷ x ∷ xs) (x ∷ put c xs) (λ l. length l ≡ suc (suc (length xs))) (λ _. refl)
-    (λ _. ap suc (length_put c xs))
+length_put c (x ∷ xs) = grind (arith, common_steps, cond_both, length_put c xs)
 
 taken_among : (p : Option ℕ) (xs : List Queued) (q : Queued) → IsAmong q (list_taken p xs) → IsAmong q xs
 taken_among None xs q has = has
@@ -70,9 +63,7 @@ taken_among (Some j) xs q has = left_among j xs q has
 came_or_was : (f : Fabric) (came : Option Queued) (xs : List Queued) (q : Queued) → IsAmong q (list_arrived f came xs) →
     (came ≡ Some q) ⊎ IsAmong q xs
 came_or_was f None xs q has = inr has
-came_or_was f (Some c) xs q has =
-    ⊎_elim (λ same. inl (ap (λ (x : Queued). Some x) same)) (λ more. inr more)
-    (among_insert xs (place_of_arrival (cushion_of f c) c xs) c q has)
+came_or_was f (Some c) xs q has = grind (arith, common_steps, among_insert)
 
 module _ (m : Partners) (old new : Fabric) (moves : Transfers m old new) where
   still_among : (i : ℕ) (q : Queued) → IsAmong q (input new i) → IsAmong q (input old i)
@@ -80,24 +71,10 @@ module _ (m : Partners) (old new : Fabric) (moves : Transfers m old new) where
 
   one_crosses : (slot : ℕ) → Sound slot old → IsStable (orders_of old.inputs) m → (j : ℕ) →
       length (buffer new j) ≤ length (buffer old j) + 1
-  one_crosses slot sound stable j =
-      ⊎_elim
-      (λ r.
-      let f =
-      partner_offers old new (orders_of old.inputs) m sound.order sound.fabric (orders_are old sound.apart) stable
-      moves r.0
-      j r.1 in
-      let e : length (buffer new j) ≡ length (put f.0 (buffer old j)) =
-      ap (λ (l : List Queued). length l) (moves.moves.given r.0 j f.0 r.1 f.1) in
-      let more = length_put f.0 (buffer old j) in
-      let le : length (buffer new j) ≤ length (buffer old j) + 1 = omega arith in
-      le)
-      (λ none.
-      let e : length (buffer new j) ≡ length (buffer old j) =
-      ap (λ (l : List Queued). length l) (moves.moves.kept j none) in
-      let le : length (buffer new j) ≤ length (buffer old j) + 1 = omega arith in
-      le)
-      (sender m j)
+  one_crosses slot sound stable j = ⊎_elim (λ r.
+      let f = partner_offers old new (orders_of old.inputs) m sound.order sound.fabric
+      (orders_are old sound.apart) stable moves r.0 j r.1 in
+      search (arith, rules, length_put f.0 (buffer old j))) (λ none. search (arith, rules)) (sender m j)
 
 -- ## What is noted of a transfer
 
@@ -146,8 +123,7 @@ module _ (ports slot phase : ℕ) (early : slot < 2 ^ 63) (known_phase : (1 ≤ 
 
       moved_from : (a n : ℕ) → AllByRecursion (IsMoved ports) (filter_map note (range_with_len a n))
       moved_from a zero = tt
-      moved_from a (suc n) =
-          one_moved a (partner_of m a) (filter_map note (range_with_len (a + 1) n)) (moved_from (a + 1) n)
+      moved_from a (suc n) = grind (arith, common_steps, one_moved, moved_from (a + 1) n)
 
       all_moved : AllByRecursion (IsMoved ports) (transfers_of m lists slot phase)
       unfolding transfers_of
@@ -185,25 +161,16 @@ module _ (w : Switch) (names : AllByRecursion HasSmallName w.came) (keeps : (j :
     module _ (slot : ℕ) (f g : Marked Fabric) (r : LimitedRecord)
         (k : KnownSlot w slot (arriving w.came slot) f r g) (within : IsWithin slot f.state) where
       ranked : RankedLow (record { came = r.of_slot.came; ranks = r.of_slot.arrived.ranks })
-      ranked =
-          ranked_low w.machines keeps slot 0 r.admission.cells f.state.ranks (record {
-            came = r.of_slot.came;
-            ranks = r.of_slot.arrived.ranks;
-          }) within.states k.step.runs.arrive.ranked
+      ranked = search (rules, ranked_low)
 
       -- a cell that came is an arrival
       arrives : (i : ℕ) (q : Queued) → came_to r.of_slot.came i ≡ Some q → arriving_at w.came slot i ≡ Some q.cell
       unfolding admission
       arrives i q is =
-          let at =
-          (came_from w.machines slot 0 r.admission.cells f.state.ranks (record {
-            came = r.of_slot.came;
-            ranks = r.of_slot.arrived.ranks;
-          }) k.step.runs.arrive.ranked i q is).cell_is in
-          place_of w.came slot i 64 q.cell refl
-          (admitted_arrives (marks_after w.limits (fabric_held f.state) f.marks (arriving w.came slot)) (arriving
-          w.came slot) i
-          q.cell (ap (λ (a : Admission). arrival_at a.cells i) (sym k.step.admits) ∙ at))
+          let at = (came_from w.machines slot 0 r.admission.cells f.state.ranks
+          (record { came = r.of_slot.came; ranks = r.of_slot.arrived.ranks }) k.step.runs.arrive.ranked i q
+          is).cell_is in
+          search (arith, rules, place_of, admitted_arrives)
 
       came_fit : (i : ℕ) (q : Queued) → came_to r.of_slot.came i ≡ Some q → IsFit q × (q.cell.id.input ≡ i)
       came_fit i q is =
@@ -224,40 +191,24 @@ module _ (w : Switch) (names : AllByRecursion HasSmallName w.came) (keeps : (j :
 
       arrived_own : (i : ℕ) (q : Queued) → IsAmong q (input r.of_slot.arrived i) → q.cell.id.input ≡ i
       arrived_own i q has =
-          ⊎_elim (λ comes. (came_fit i q comes).1) (λ was. within.own i q was)
-          (came_or_was f.state (came_to r.of_slot.came i) (input f.state i) q
-          (subst (IsAmong q) (k.step.runs.arrive.lists i) has))
+          ⊎_elim (λ comes. (came_fit i q comes).1) (λ was. within.own i q was) (came_or_was f.state
+          (came_to r.of_slot.came i) (input f.state i) q (subst (IsAmong q) (k.step.runs.arrive.lists i) has))
 
       sent_among : (i : ℕ) (q : Queued) → IsAmong q (input r.of_slot.sent i) → IsAmong q (input r.of_slot.arrived i)
-      sent_among i q has =
-          still_among r.of_slot.first r.of_slot.arrived r.of_slot.filled k.step.runs.fill i q
+      sent_among i q has = still_among r.of_slot.first r.of_slot.arrived r.of_slot.filled k.step.runs.fill i q
           (subst (λ (l : List (List Queued)). IsAmong q (list_of l i)) k.step.runs.depart.inputs has)
 
       arrived_list : (i : ℕ) → length (input r.of_slot.arrived i) ≤ slot + 1
-      arrived_list i =
-          let e : length (input r.of_slot.arrived i) ≡ length (list_arrived f.state (came_to r.of_slot.came i)
-          (input f.state
-          i)) =
-          ap (λ (l : List Queued). length l) (k.step.runs.arrive.lists i) in
-          let more = longer_one f.state (came_to r.of_slot.came i) (input f.state i) in
-          let had = within.lists i in
-          omega arith
+      arrived_list i = grind (arith, common_steps, longer_one)
 
       new_list : (i : ℕ) → length (input g.state i) ≤ slot + 1
       new_list i =
           let arrived = arrived_list i in
           let filled = shorter r.of_slot.first r.of_slot.arrived r.of_slot.filled k.step.runs.fill i in
-          let sent : length (input r.of_slot.sent i) ≡ length (input r.of_slot.filled i) =
-          ap (λ (l : List (List Queued)). length (list_of l i)) k.step.runs.depart.inputs in
-          let new = shorter r.of_slot.second r.of_slot.sent g.state k.step.runs.finish i in
-          omega arith
+          search (arith, rules, shorter r.of_slot.second r.of_slot.sent g.state k.step.runs.finish i)
 
       arrived_buffer : (j : ℕ) → length (buffer r.of_slot.arrived j) ≤ slot
-      arrived_buffer j =
-          let e : length (buffer r.of_slot.arrived j) ≡ length (buffer f.state j) =
-          ap (λ (l : List (List Queued)). length (list_of l j)) k.step.runs.arrive.buffers in
-          let had = within.buffers j in
-          omega arith
+      arrived_buffer j = grind (arith, common_steps)
 
       new_buffer : (j : ℕ) → length (buffer g.state j) ≤ slot + 1
       new_buffer j =
@@ -274,12 +225,10 @@ module _ (w : Switch) (names : AllByRecursion HasSmallName w.came) (keeps : (j :
           omega arith
 
       new_states : AllByRecursion AreLow g.state.ranks
-      new_states =
-          subst (λ (l : List (List ℕ)). AllByRecursion AreLow l)
-          (sym (k.step.runs.finish.ranks ∙ k.step.runs.depart.ranks
-          ∙ ap (all_told w.machines r.of_slot.gone) k.step.runs.fill.ranks))
-          (told_low w.machines keeps r.of_slot.gone r.of_slot.arrived.ranks ranked.states
-          (λ j q left. (of_gone w slot (arriving w.came slot) f g r k Fits all_fit j q left).rank))
+      new_states = subst (λ (l : List (List ℕ)). AllByRecursion AreLow l) (sym (k.step.runs.finish.ranks
+          ∙ k.step.runs.depart.ranks ∙ ap (all_told w.machines r.of_slot.gone) k.step.runs.fill.ranks))
+          (told_low w.machines keeps r.of_slot.gone r.of_slot.arrived.ranks ranked.states (λ j q left.
+          (of_gone w slot (arriving w.came slot) f g r k Fits all_fit j q left).rank))
 
       pub next_within : IsWithin (slot + 1) g.state
       next_within =
@@ -287,9 +236,7 @@ module _ (w : Switch) (names : AllByRecursion HasSmallName w.came) (keeps : (j :
             lists = new_list;
             buffers = new_buffer;
             fit = λ j q has. of_new w slot (arriving w.came slot) f g r k Fits all_fit j q has;
-            own = λ i q has.
-                arrived_own i q
-                (sent_among i q (still_among r.of_slot.second r.of_slot.sent g.state k.step.runs.finish i q has));
+            own = search (arith, rules, arrived_own, sent_among, still_among);
             states = new_states;
           }
 
@@ -304,12 +251,7 @@ module _ (w : Switch) (names : AllByRecursion HasSmallName w.came) (keeps : (j :
           let among : IsAmong c (input moment i) = among_at (input moment i) at.place c at.at in
           let out : c.cell.output ≡ j = eqb-true c.cell.output j at.passes in
           let low = outputs i c among in
-          let inside : i < length moment.inputs =
-          ⊎_elim (λ lt. lt)
-          (λ past.
-          let none : input moment i ≡ [] = get_or_past moment.inputs i [] past in
-          absurd (subst (λ (l : List Queued). IsAmong c l) none among))
-          (cases_lt i (length moment.inputs)) in
+          let inside : i < length moment.inputs = search (arith, rules, get_or_past, cases_lt) in
           record {
             input = omega arith;
             output = omega arith;
@@ -353,25 +295,14 @@ module _ (w : Switch) (names : AllByRecursion HasSmallName w.came) (keeps : (j :
     pub run_within : (slot n last : ℕ) (f g : Marked Fabric) (rs : List LimitedRecord) → KnownRun w slot n f rs g →
         slot + n ≤ last → last < 2 ^ 63 → IsWithin slot f.state → RunsWithin (length w.machines) slot n last rs g
     unfolding arriving_from
-    run_within slot zero last f g [] run le low within =
-        let e : slot ≡ slot + 0 = omega arith in
-        record {
-          ends = subst (λ (n : ℕ). IsWithin n g.state) e
-              (subst (λ (h : Marked Fabric). IsWithin slot h.state) (sym run) within);
-          records = tt;
-          numbered = tt;
-        }
+    run_within slot zero last f g [] run le low within = grind (arith, common_steps)
     run_within slot zero last f g (r ∷ rs) run le low within = absurd run
     run_within slot (suc n) last f g [] run le low within = absurd run
     run_within slot (suc n) last f g (r ∷ rs) run le low within =
         let e : slot + 1 + n ≡ slot + suc n = omega arith in
         let rest =
         run_within (slot + 1) n last run.0 g rs run.2 (omega arith) low (next_within slot f run.0 r run.1 within) in
-        record {
-          ends = subst (λ (n : ℕ). IsWithin n g.state) e rest.ends;
-          records = (recorded slot f run.0 r run.1 within last (omega arith) low, rest.records);
-          numbered = (run.1.step.runs.numbered, rest.numbered);
-        }
+        search (arith, rules, recorded slot f run.0 r run.1 within last)
 
 -- nothing is in the empty fabric
 pub empty_within : (ports : ℕ) (ranks : List (List ℕ)) → AllByRecursion AreLow ranks →

@@ -1,24 +1,16 @@
-use Rattle.std.proofs.Common.{arith}
+use Rattle.std.proofs.Common.{rules, arith}
 use Rattle.cq_resume.specs.Finding.{StandsBelow}
 use Rattle.cq_resume.proofs.Each.{all_fail, all_hold, all_more}
 use Rattle.cq_resume.proofs.floors.are_below_floors.Goals as goal
 
 pub returns-then-not-is_below_floor : goal.returns-then-not-is_below_floor
-returns-then-not-is_below_floor c =
-    let inside = c.places-test.true in
-    all_fail (StandsBelow c.args.setup.now c.args.ranks.now) c.args.cells.now c.places.at _ c.is_below_floor.result
-    (omega arith)
-    c.is_below_floor.ensures c.if-not-is_below_floor.true
+returns-then-not-is_below_floor c = search (arith, rules, all_fail)
 
 pub places-preserved : goal.places-preserved
 places-preserved c =
     let inside = c.places-test.true in
     all_more (StandsBelow c.args.setup.now c.args.ranks.now) c.args.cells.now c.places.at _ (omega arith)
-    c.places.invariant
-    (c.is_below_floor.ensures.0 c.if-not-is_below_floor.false)
+    c.places.invariant (c.is_below_floor.ensures.0 c.if-not-is_below_floor.false)
 
 pub returns : goal.returns
-returns c =
-    let past = c.places-test.false in
-    all_hold (StandsBelow c.args.setup.now c.args.ranks.now) c.args.cells.now c.places.at (omega arith)
-    c.places.invariant
+returns c = search (arith, rules, all_hold)

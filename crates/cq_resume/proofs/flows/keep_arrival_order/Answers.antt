@@ -1,9 +1,9 @@
-use Rattle.std.proofs.Common.{◌≡◌, ◌*◌, ◌⊎◌, true, false, List, Option, inl, inr, sym, ap, ◌∙◌, subst, arith}
+use Rattle.std.proofs.Common.{rules, ◌≡◌, ◌*◌, ◌⊎◌, true, false, List, Option, sym, subst, arith}
 use Rattle.cq_resume.specs.declared.found.Name.{Name}
 use Rattle.cq_resume.proofs.Lanes.{Lanes, lanes_first, lanes_hold, none_seen}
 use Rattle.cq_resume.proofs.Leaving.{flow_next, flow_stops}
 use Rattle.cq_resume.proofs.Orders.{LeavesFirst, flow_of, flows_as_lanes, input_of, through}
-use Rattle.cq_resume.proofs.flows.keep_arrival_order.Goals.{After-may_leave, then-begins+in_ok-last-2, else-begins}
+use Rattle.cq_resume.proofs.flows.keep_arrival_order.Goals.{After-may_leave}
 use Rattle.cq_resume.proofs.flows.keep_arrival_order.Goals as goal
 
 -- the names of an input begin here, or go on
@@ -11,16 +11,12 @@ ways : (c : After-may_leave) →
     ((c.begins.result ≡ true)
     × (c.if-begins.last.items ≡ none_seen input_of flow_of LeavesFirst (c.args.ports * 16))) ⊎
     ((c.begins.result ≡ false) × (c.if-begins.last.items ≡ c.places.last.items))
-ways c = elim c.if-begins.branch [
-  | then-begins+in_ok-last-2 w ↦ inl (w.if-begins.true, ap (λ v. v.items) w.last-is ∙ w.in_ok-last-2.ensures)
-  | else-begins w ↦ inr (w.if-begins.false, ap (λ v. v.items) w.last-is)
-]
+ways c = search (arith, rules)
 
 pub places-init : goal.places-init
 places-init c =
     subst (λ (l : List (Option Name)). Lanes input_of flow_of LeavesFirst c.args.names.now (c.args.ports * 16) 0 l)
-    (sym c.in_ok-last.ensures)
-    (lanes_first input_of flow_of LeavesFirst c.args.names.now (c.args.ports * 16))
+    (sym c.in_ok-last.ensures) (lanes_first input_of flow_of LeavesFirst c.args.names.now (c.args.ports * 16))
 
 pub places-preserved : goal.places-preserved
 places-preserved c =
@@ -39,8 +35,4 @@ returns-then-not-may_leave c =
     c.may_leave.result c.may_leave.ensures c.if-not-may_leave.true
 
 pub returns : goal.returns
-returns c =
-    let past = c.places-test.false in
-    through
-    (lanes_hold input_of flow_of LeavesFirst c.args.names.now (c.args.ports * 16) c.places.at c.places.last.items
-    c.places.invariant (omega arith)) (flows_as_lanes c.args.ports c.args.names.now c.requires.names)
+returns c = search (arith, rules, through, lanes_hold, input_of, flow_of, LeavesFirst, c.args.ports, flows_as_lanes)

@@ -1,7 +1,7 @@
-use Rattle.std.proofs.Common.{◌≡◌, ◌<◌, ◌++◌, true, false, List, Option, None, Some, map, refl, sym, ◌∙◌, subst}
+use Rattle.std.proofs.Common.{arith, rules, ◌≡◌, ◌<◌, ◌++◌, true, false, List, Option, None, Some, map, refl, sym, ◌∙◌, subst}
 use Rattle.std.specs.Prelude.{IfNone, IfSome}
 use Rattle.std.specs.List.{AllByRecursion, AllPairs, AllZip}
-use Rattle.cq_resume.specs.Finding.{IsGone, IsNameBefore, IsTold, SomeMissed, told_of}
+use Rattle.cq_resume.specs.Finding.{IsNameBefore, told_of, SomeMissed}
 use Rattle.cq_resume.specs.declared.found.Name.{Name}
 use Rattle.cq_resume.proofs.Arrived.{AreLookedUp, are_arrivals, arrivals_rise, buffered_missed, images_held, sent_missed}
 use Rattle.cq_resume.proofs.Each.{all_left, all_right}
@@ -20,24 +20,12 @@ none_is o P is holds = subst (λ (a : Option _). IfNone a P) is holds
 -- the same of the same lists
 zip_same : {A B : Type 0} (R : A → B → Type 0) (xs xs' : List A) (ys ys' : List B) → xs ≡ xs' → ys' ≡ ys →
     AllZip R xs ys → AllZip R xs' ys'
-zip_same {A} {B} R xs xs' ys ys' own is all =
-    subst (λ (l : List A). AllZip R l ys') own (subst (λ (l : List B). AllZip R xs l) (sym is) all)
+zip_same {A} {B} R xs xs' ys ys' own is all = search (arith, rules)
 
 -- what was looked up, where no name is missed
 looked_up : (c : In_ok-names) → AreLookedUp c.args.schedule.now.came c.args.state.now c.deref.result.now
     c.deref-2.result.now c.deref-3.result.now c.in_ok-names.names.items
-looked_up c =
-    let came = c.args.schedule.now.came in
-    let next = c.args.state.now.head.next in
-    record {
-      listed_are = zip_same (IsTold came next) _ _ _ _ c.as_slice.ensures c.deref.ensures.value
-          (some_is _ _ _ c.in-Some.is c.in_ok-listed.ensures.told);
-      buffered_are = zip_same (IsTold came next) _ _ _ _ c.as_slice-2.ensures c.deref-2.ensures.value
-          (some_is _ _ _ c.in-Some-buffered.is c.in_ok-buffered.ensures.told);
-      sent_are = zip_same (IsGone came next) _ _ _ _ c.as_slice-3.ensures c.deref-3.ensures.value
-          (some_is _ _ _ c.in-Some-sent.is c.in_ok-sent.ensures.gone);
-      same = c.in_ok-names.ensures.same;
-    }
+looked_up c = search (arith, rules, zip_same, some_is)
 
 pub told_all-requires-2 : goal.told_all-requires-2
 told_all-requires-2 c =
@@ -89,7 +77,6 @@ returns-then-not-differ-clause-refused c = (
 )
 
 pub returns-clause-arrive : goal.returns-clause-arrive
-returns-clause-arrive c =
-    are_arrivals _ _ (looked_up (goal.at.returns-clause-arrive c).In_ok-names)
+returns-clause-arrive c = are_arrivals _ _ (looked_up (goal.at.returns-clause-arrive c).In_ok-names)
     (subst (λ (l : List Name). AllPairs IsNameBefore l) c.deref-4.ensures.value
     (c.differ.ensures.0 c.if-not-differ.false))

@@ -10,8 +10,7 @@ returns-then-not-holds g c =
     let answered = λ (b : Bool). FnReturnsAtPair g.F.Fn c.args.holds x.result y.result b in
     record {
       each = next_found (λ a b. FnReturnsAtPair g.F.Fn c.args.holds a b false) c.args.items.now c.places.at _ _
-          c.places.auto.at c.places-test.true x.is y.is
-          (subst answered c.if-not-holds.true
+          c.places.auto.at c.places-test.true x.is y.is (subst answered c.if-not-holds.true
           (record { first = _; second = _; shows = (refl, refl); says = record { met = c.holds.ensures } }));
     }
 
@@ -21,7 +20,6 @@ places-preserved g c =
     let y = c.index-items-at-in-places in
     let answered = λ (b : Bool). FnReturnsAtPair g.F.Fn c.args.holds x.result y.result b in
     next_more (λ a b. FnReturnsAtPair g.F.Fn c.args.holds a b true) c.args.items.now c.places.at _ _
-    c.places-test.true x.is y.is
-    (subst answered c.if-not-holds.false
+    c.places-test.true x.is y.is (subst answered c.if-not-holds.false
     (record { first = _; second = _; shows = (refl, refl); says = record { met = c.holds.ensures } }))
     c.places.invariant

@@ -5,6 +5,5 @@ use Rattle.cq_resume.proofs.Orders.{buffered_on}
 use Rattle.cq_resume.proofs.order.buffers_in_order.Goals as goal
 
 pub returns : goal.returns
-returns c =
-    neighbours_decide IsBufferedBefore c.args.buffered.now buffered_on c.neighbours_hold.ensures
+returns c = neighbours_decide IsBufferedBefore c.args.buffered.now buffered_on c.neighbours_hold.ensures
     (λ a b r k. search rules)

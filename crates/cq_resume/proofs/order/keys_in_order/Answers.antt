@@ -1,10 +1,10 @@
-use Rattle.std.proofs.Common.{◌≡◌, ℕ, ◌<◌, ◌⊎◌, true, false, List, Option, inl, inr, sym, subst, ◌∙◌, arith}
+use Rattle.std.proofs.Common.{rules, ◌≡◌, ℕ, ◌<◌, ◌⊎◌, true, false, List, Option, sym, subst, arith}
 use Rattle.cq_base.specs.Cells.{IsBefore}
 use Rattle.cq_base.specs.declared.cell.Queued.{Queued}
 use Rattle.cq_resume.proofs.Each.{all_at}
 use Rattle.cq_resume.proofs.Lanes.{Lanes, lanes_first, lanes_hold, lanes_next, lanes_stop, none_seen}
 use Rattle.cq_resume.proofs.Orders.{urgent_on}
-use Rattle.cq_resume.proofs.order.keys_in_order.Goals.{After-may_follow, then-begins, else-begins}
+use Rattle.cq_resume.proofs.order.keys_in_order.Goals.{After-may_follow}
 use Rattle.cq_resume.proofs.order.keys_in_order.Goals as goal
 
 abbrev of_input : Queued → ℕ
@@ -17,16 +17,11 @@ of_output q = q.cell.output
 ways : (c : After-may_follow) →
     ((c.begins.result ≡ true) × (c.if-begins.last ≡ none_seen of_input of_output IsBefore 64)) ⊎
     ((c.begins.result ≡ false) × (c.if-begins.last ≡ c.places.last))
-ways c = elim c.if-begins.branch [
-  | then-begins w ↦ inl (w.if-begins.true, w.last-is ∙ w.none_seen-last-then-begins.ensures)
-  | else-begins w ↦ inr (w.if-begins.false, w.last-is)
-]
+ways c = search (arith, rules)
 
 pub places-init : goal.places-init
-places-init c =
-    subst (λ (l : List (Option Queued)). Lanes of_input of_output IsBefore c.args.listed.now 64 0
-    l) (sym c.none_seen-last.ensures)
-    (lanes_first of_input of_output IsBefore c.args.listed.now 64)
+places-init c = subst (λ (l : List (Option Queued)). Lanes of_input of_output IsBefore c.args.listed.now 64 0 l)
+    (sym c.none_seen-last.ensures) (lanes_first of_input of_output IsBefore c.args.listed.now 64)
 
 pub places-preserved : goal.places-preserved
 places-preserved c =
@@ -47,12 +42,7 @@ returns-then-not-may_follow c =
     c.may_follow.result c.may_follow.ensures c.if-not-may_follow.true
 
 pub bounds-last-output : goal.bounds-last-output
-bounds-last-output c =
-    let inside = c.places-test.true in
-    all_at (λ (q : Queued). q.cell.output < 64) c.args.listed.now c.places.at _ (omega arith) c.requires.outputs
+bounds-last-output c = search (arith, rules, all_at)
 
 pub returns : goal.returns
-returns c =
-    let past = c.places-test.false in
-    lanes_hold of_input of_output IsBefore c.args.listed.now 64
-    c.places.at c.places.last c.places.invariant (omega arith)
+returns c = search (arith, rules, lanes_hold)

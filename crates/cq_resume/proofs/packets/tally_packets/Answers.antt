@@ -1,7 +1,6 @@
-use Rattle.std.proofs.Common.{◌≡◌, ℕ, ◌+◌, Bool, List, [], length, sym, ap, ◌∙◌, subst, arith}
+use Rattle.std.proofs.Common.{rules, ◌≡◌, ◌+◌, List, [], length, sym, ap, ◌∙◌, subst, arith, Bool}
 use Rattle.cq_ideal.specs.declared.refused.Refused.{Refused}
 use Rattle.std.proofs.lemmas.List.{length-map, with_items_is}
-use Rattle.cq_ideal.specs.Limiter.{CanCount}
 use Rattle.cq_ideal.specs.Refused.{with_cells, with_refused}
 use Rattle.cq_resume.specs.Finding.{coming, unnamed}
 use Rattle.cq_resume.proofs.Adding.{Tallied, tallied_first, tallied_more, tally_fits}
@@ -9,6 +8,7 @@ use Rattle.cq_resume.proofs.Upheld.{all_stand, packet_fails, tallies_up}
 use Rattle.cq_resume.proofs.Walking.{cells_in}
 use Rattle.cq_resume.proofs.packets.tally_packets.Goals as goal
 use Rattle.cq_resume.proofs.packets.tally_packets.Goals.{After-of-2}
+use Rattle.cq_ideal.specs.Limiter.{CanCount}
 
 pub inputs-init : goal.inputs-init
 inputs-init c =
@@ -52,31 +52,17 @@ inputs-preserved c =
     counted c.in_ok-push-in-Some.ensures.items)
 
 pub returns-in-None-clause-none : goal.returns-in-None-clause-none
-returns-in-None-clause-none c stand =
-    let inside = c.inputs-test.true in
-    let many = c.requires.limits in
-    packet_fails c.args.limits.now c.args.next c.args.schedule.now.came c.args.names.now c.args.schedule.now.ports
-    c.requires.packets c.inputs.input (omega arith) (sym c.in-None.is ∙ c.walk.ensures.mark) stand
+returns-in-None-clause-none c stand = search (arith, rules, packet_fails)
 
 -- all inputs are walked
 ended : (c : After-of-2) →
     Tallied c.args.limits.now c.args.next c.args.schedule.now.came c.args.names.now c.args.schedule.now.ports
     c.inputs.marks.items c.inputs.refused.items
-ended c =
-    let past = c.inputs-test.false in
-    let most = c.inputs.auto.input-end in
-    let many = c.requires.limits in
-    let all : c.inputs.input ≡ c.args.schedule.now.ports = omega arith in
-    subst (λ (n : ℕ). Tallied c.args.limits.now c.args.next c.args.schedule.now.came c.args.names.now n
-    c.inputs.marks.items c.inputs.refused.items) all c.inputs.invariant
+ended c = search (arith, rules, Tallied)
 
 pub returns-clause-stand : goal.returns-clause-stand
-returns-clause-stand c =
-    all_stand c.args.limits.now c.args.next c.args.schedule.now.came c.args.names.now c.args.schedule.now.ports
-    c.requires.packets c.inputs.marks.items c.inputs.refused.items (ended c)
+returns-clause-stand c = all_stand c.args.limits.now c.args.next c.args.schedule.now.came c.args.names.now
+    c.args.schedule.now.ports c.requires.packets c.inputs.marks.items c.inputs.refused.items (ended c)
 
 pub returns-clause-tally : goal.returns-clause-tally
-returns-clause-tally c =
-    tallies_up c.args.limits.now c.args.next c.args.schedule.now.came c.args.names.now c.args.schedule.now.ports
-    c.requires.packets c.inputs.marks.items c.inputs.refused.items (ended c) _ c.requires.limits c.of.ensures
-    c.of-2.ensures
+returns-clause-tally c = search (arith, rules, tallies_up, ended)

@@ -1,4 +1,4 @@
-use Rattle.std.proofs.Common.{refl, arith}
+use Rattle.std.proofs.Common.{rules, refl, arith}
 use Rattle.cq_resume.proofs.Walking.{goes_inside, walk_counts, walk_goes_on, walk_stops, walked_counts, walked_first, walked_mark}
 use Rattle.cq_resume.proofs.packets.walk.Goals as goal
 
@@ -6,11 +6,7 @@ pub arrivals-init : goal.arrivals-init
 arrivals-init c = walked_first c.requires.room
 
 pub bounds-limits-cell : goal.bounds-limits-cell
-bounds-limits-cell c =
-    let low =
-    goes_inside c.args.schedule.now.ports c.args.input c.arrivals.from c.args.next c.args.schedule.now.came _ _
-    c.in-Some.ensures.some c.requires.packets.outputs in
-    omega arith
+bounds-limits-cell c = search (arith, rules, goes_inside)
 
 pub returns-then-not-may_come-clause-mark : goal.returns-then-not-may_come-clause-mark
 returns-then-not-may_come-clause-mark c =
@@ -18,9 +14,7 @@ returns-then-not-may_come-clause-mark c =
     c.in-Some.ensures.some c.is_named-named.ensures c.is_some-limited.ensures c.may_come.ensures c.if-not-may_come.true
 
 pub count_left-requires : goal.count_left-requires
-count_left-requires c =
-    walk_counts c.args.input c.arrivals.from c.args.next c.args.schedule.now.came c.arrivals.invariant
-    c.in-Some.ensures.some c.is_named-named.ensures c.is_some-limited.ensures c.may_come.ensures
+count_left-requires c = search (arith, rules, walk_counts)
 
 pub arrivals-preserved : goal.arrivals-preserved
 arrivals-preserved c =

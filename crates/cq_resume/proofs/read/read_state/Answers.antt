@@ -1,4 +1,4 @@
-use Rattle.std.proofs.Common.{arith}
+use Rattle.std.proofs.Common.{rules, arith}
 use Rattle.cq_resume.proofs.Scheduling.{schedule_known}
 use Rattle.cq_resume.proofs.read.read_state.Goals as goal
 
@@ -9,8 +9,7 @@ pub has_shape-requires-clause-told : goal.has_shape-requires-clause-told
 has_shape-requires-clause-told c = c.in_ok-state.ensures.read.0.outputs_told
 
 pub judge-requires-clause-ports : goal.judge-requires-clause-ports
-judge-requires-clause-ports c =
-    (schedule_known c.args.tables.now c.args.schedule.now c.requires.tables c.requires.schedule).ports
+judge-requires-clause-ports c = search (arith, rules, schedule_known)
 
 pub judge-requires-clause-traffic : goal.judge-requires-clause-traffic
 judge-requires-clause-traffic c =

@@ -1,16 +1,13 @@
-use Rattle.std.proofs.Common.{◌≡◌, ◌⊎◌, true, false, inl, inr, arith}
+use Rattle.std.proofs.Common.{rules, ◌≡◌, ◌⊎◌, true, false, arith}
 use Rattle.cq_resume.proofs.Threads.{threads_first, threads_hold, threads_next, threads_stop}
-use Rattle.cq_resume.proofs.slack.have_slack.Goals.{After-cushion_of-cushion, then-begins, else-begins}
+use Rattle.cq_resume.proofs.slack.have_slack.Goals.{After-cushion_of-cushion}
 use Rattle.cq_resume.proofs.slack.have_slack.Goals as goal
 
 -- a list begins here, or goes on
 ways : (c : After-cushion_of-cushion) →
     ((c.begins.result ≡ true) × (c.if-begins.thread ≡ 0)) ⊎
     ((c.begins.result ≡ false) × (c.if-begins.thread ≡ c.places.thread))
-ways c = elim c.if-begins.branch [
-  | then-begins w ↦ inl (w.if-begins.true, w.thread-is)
-  | else-begins w ↦ inr (w.if-begins.false, w.thread-is)
-]
+ways c = search (arith, rules)
 
 pub places-init : goal.places-init
 places-init c = threads_first c.args.listed.now c.args.buffered.now
@@ -31,6 +28,4 @@ returns-then-cushion-thread c =
     c.if-cushion-thread.true
 
 pub returns : goal.returns
-returns c =
-    let past = c.places-test.false in
-    threads_hold c.args.listed.now c.args.buffered.now c.places.at c.places.thread c.places.invariant (omega arith)
+returns c = search (arith, rules, threads_hold)

@@ -1,7 +1,5 @@
-use Rattle.std.proofs.Common.{◌≡◌, ◌↔◌, true, List, inl, inr, refl, subst}
+use Rattle.std.proofs.Common.{arith, rules, ◌≡◌, ◌↔◌, true, List, subst, inr, refl}
 use Rattle.cq_base.specs.declared.cell.Transfer.{Transfer}
-use Rattle.cq_base.specs.declared.cell.Queued.{Queued}
-use Rattle.cq_resume.specs.Finding.{SlackStands}
 use Rattle.cq_resume.specs.Steps.{AreOrdered, HaveRoom}
 use Rattle.cq_resume.proofs.Stepped.{denied}
 use Rattle.cq_resume.proofs.sound.stand.Goals as goal
@@ -14,16 +12,11 @@ order_is c =
     c.as_slice.ensures c.in_order.ensures
 
 room_is : (c : After-have_slack) → (c.have_slack.result ≡ true) ↔ HaveRoom c.args.found.now
-room_is c =
-    subst (λ (l : List Queued). (c.have_slack.result ≡ true) ↔ SlackStands c.args.found.now.listed.items l)
-    c.deref-2.ensures.value
-    (subst (λ (l : List Queued). (c.have_slack.result ≡ true) ↔ SlackStands l c.deref-2.result.now)
-    c.deref.ensures.value c.have_slack.ensures)
+room_is c = search (arith, rules)
 
 pub returns-then-not-in_order-clause-refused : goal.returns-then-not-in_order-clause-refused
 returns-then-not-in_order-clause-refused c =
-    let at = goal.at.returns-then-not-in_order-clause-refused c in
-    inl (refl, denied (order_is at.After-in_order) c.if-not-in_order.true)
+    search (arith, rules, denied, order_is (goal.at.returns-then-not-in_order-clause-refused c).After-in_order)
 
 pub returns-then-not-have_slack-clause-refused : goal.returns-then-not-have_slack-clause-refused
 returns-then-not-have_slack-clause-refused c =

@@ -1,4 +1,4 @@
-use Rattle.std.proofs.Common.{List, length, get_or, ap, ◌∙◌, arith}
+use Rattle.std.proofs.Common.{List, length, get_or, ap, arith}
 use Rattle.std.specs.Prelude.{None}
 use Rattle.cq_resume.specs.Taking.{figures_at_input}
 use Rattle.cq_resume.specs.declared.found.Name.{Name}
@@ -12,16 +12,12 @@ inputs-preserved c =
     let none : Seen = record { longest = 0; slack = None } in
     let cells = ap (λ (l : List Name). length l) c.names_at.ensures in
     placed_more (figures_at_input c.args.names.now) c.args.seen.now c.inputs.input none _ c.inputs.inputs.items
-    c.push.new.self.items (omega arith) c.inputs.invariant
-    (λ k. record {
+    c.push.new.self.items (omega arith) c.inputs.invariant (λ k. record {
       cells = cells k;
       longest = (get_or c.args.seen.now c.inputs.input none).longest;
       slack = (get_or c.args.seen.now c.inputs.input none).slack;
-    })
-    c.in_ok-push.ensures.items
+    }) c.in_ok-push.ensures.items
 
 pub returns : goal.returns
-returns c =
-    c.of.ensures
-    ∙ placed_all (figures_at_input c.args.names.now) c.args.seen.now c.inputs.input c.inputs.inputs.items
-    c.inputs-test.false c.inputs.invariant
+returns c = cc (placed_all (figures_at_input c.args.names.now) c.args.seen.now c.inputs.input c.inputs.inputs.items
+    c.inputs-test.false c.inputs.invariant)

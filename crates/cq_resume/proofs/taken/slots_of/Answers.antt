@@ -1,4 +1,4 @@
-use Rattle.std.proofs.Common.{◌≡◌, ◌<◌, ◌∙◌, eqb, false, List, [], ◌∷◌, length, sym, arith}
+use Rattle.std.proofs.Common.{rules, ◌≡◌, ◌<◌, eqb, false, List, [], ◌∷◌, length, arith}
 use Rattle.cq_base.specs.declared.cell.Departure.{Departure}
 use Rattle.cq_resume.proofs.Chained.{each_pair}
 use Rattle.cq_resume.proofs.Departed.{IsNoLater, slots_last}
@@ -9,6 +9,4 @@ some_there [] fails = absurd (let P : ⊥ = cc in P)
 some_there (d ∷ sent) fails = omega arith
 
 pub returns : goal.returns
-returns c =
-    slots_last c.args.sent.now _ (each_pair IsNoLater c.args.sent.now c.requires.rising)
-    (some_there c.args.sent.now (sym c.is_empty.ensures ∙ c.if-is_empty.false))
+returns c = search (arith, rules, slots_last, each_pair, IsNoLater, some_there)

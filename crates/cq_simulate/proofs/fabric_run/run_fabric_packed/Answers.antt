@@ -1,4 +1,4 @@
-use Rattle.std.proofs.Common.{sym, ◌∙◌}
+use Rattle.std.proofs.Common.{arith, rules, sym, ◌∙◌}
 use Rattle.std.proofs.lemmas.Result.{IfErr-weaker, IfOk-weaker}
 use Rattle.cq_simulate.proofs.FabricLaws.{kept_as_ideal}
 use Rattle.cq_simulate.proofs.FabricOpening.{IsMade, can_begin, made_for, no_run, port_count, run_is_kept}
@@ -10,30 +10,22 @@ use Rattle.cq_simulate.proofs.fabric_run.run_fabric_packed.Goals.{In_ok-engine}
 -- the engine is made for the tables and the schedule, with room for all that it is to send and to note
 made : (g : given.Over) (c : In_ok-engine g) →
     IsMade c.args.tables.now c.args.schedule.now c.in_ok-engine.engine c.in_ok-sent.sent c.in_ok-note.note
-made g c =
-    made_for c.requires c.port_count-ports.ensures c.total-total.ensures.cells c.total-total.ensures.few
-    c.in_ok-engine.ensures c.in_ok-sent.ensures.items c.in_ok-sent.ensures.spare c.in_ok-note.ensures.items
-    c.in_ok-note.ensures.spare
+made g c = search (arith, rules, made_for)
 
 pub run_on-requires-clause-ready : goal.run_on-requires-clause-ready
-run_on-requires-clause-ready g c =
-    λ _ _. can_begin (made g (goal.at.run_on-requires-clause-ready g c).In_ok-engine)
+run_on-requires-clause-ready g c = λ _ _. can_begin (made g (goal.at.run_on-requires-clause-ready g c).In_ok-engine)
 
 pub run_on-requires-clause-ports : goal.run_on-requires-clause-ports
 run_on-requires-clause-ports g c = λ _ _. c.port_count-ports.ensures ∙ sym (port_count c.in_ok-engine.ensures)
 
 pub returns-clause-run : goal.returns-clause-run
-returns-clause-run g c =
-    IfOk-weaker c.run_on.result _ _ (run_is_kept (made g (goal.at.returns-clause-run g c).In_ok-engine))
-    c.run_on.ensures.run
+returns-clause-run g c = search (arith, rules, IfOk-weaker, run_is_kept, made)
 
 pub returns-clause-as_ideal : goal.returns-clause-as_ideal
-returns-clause-as_ideal g c =
-    IfOk-weaker c.run_on.result _ _
+returns-clause-as_ideal g c = IfOk-weaker c.run_on.result _ _
     (λ run kept. kept_as_ideal c.args.tables.now c.args.schedule.now.came (unpacked_run run) c.requires.traffic kept)
     (returns-clause-run g c)
 
 pub returns-clause-refused : goal.returns-clause-refused
-returns-clause-refused g c =
-    IfErr-weaker c.run_on.result _ _ (no_run (made g (goal.at.returns-clause-refused g c).In_ok-engine))
-    c.run_on.ensures.refused
+returns-clause-refused g c = IfErr-weaker c.run_on.result _ _
+    (no_run (made g (goal.at.returns-clause-refused g c).In_ok-engine)) c.run_on.ensures.refused

@@ -1,5 +1,4 @@
-use Rattle.std.proofs.Common.{◌+◌, ◌-◌, ◌<◌, ◌^◌, true, zero, map, ap, sym, ◌∙◌, arith, rules}
-use Rattle.std.specs.Result.{is_err}
+use Rattle.std.proofs.Common.{◌+◌, ◌-◌, true, zero, map, ◌∙◌, arith, rules, ◌<◌, sym}
 use Rattle.std.proofs.lemmas.Result.{err_from_is_err_and}
 use Rattle.cq_base.specs.Arriving.{end_of}
 use Rattle.cq_laws.specs.Fabric.{IsEmptyFabric}
@@ -17,56 +16,38 @@ stands : (g : given.Over) (c : After-arrivals g) →
     Stands true (over_by c.args.schedule.now.came c.args.engine.now.next) g.R.Rank.machine c.args.schedule.now.came
     c.args.engine.now c.args.sent.now c.args.note.now c.skip-slot.result c.skip-slot.new.engine c.slots.sent
     c.slots.note
-stands g c =
-    run_stands g.R.Rank.machine c.requires.ready c.slots.invariant.runs
-    (goes_on c.is_over.result (end_of c.args.schedule.now.came) c.slots.slot
-    (IsEmptyFabric c.slots.engine.fabric) c.slots-test.true
-    c.is_over.ensures)
-    (quiet_if c.skip-slot.ensures.late
-    (λ lt. let told = c.skip-slot.ensures.told (c.skip-slot.ensures.idle lt) in search (rules, quiet_of)))
+stands g c = run_stands g.R.Rank.machine c.requires.ready c.slots.invariant.runs (goes_on c.is_over.result
+    (end_of c.args.schedule.now.came) c.slots.slot (IsEmptyFabric c.slots.engine.fabric) c.slots-test.true
+    c.is_over.ensures) (quiet_if c.skip-slot.ensures.late (λ lt.
+    let told = c.skip-slot.ensures.told (c.skip-slot.ensures.idle lt) in search (rules, quiet_of)))
     c.skip-slot.ensures.rested
 
 -- and finds all that it asks for, with a list of its own for what leaves
 can : (g : given.Over) (c : After-arrivals g) →
     CanRun g.R.Rank.machine c.skip-slot.result c.arrivals.result.now c.skip-slot.new.engine c.slots.leaving
     c.slots.note
-can g c =
-    can_run_here (stands g c) c.arrivals.result.now (c.arrivals.ensures ∙ c.skip-slot.ensures.came) c.slots.leaving
-    (places_here (stands g c) c.slots.invariant.free)
+can g c = can_run_here (stands g c) c.arrivals.result.now (c.arrivals.ensures ∙ c.skip-slot.ensures.came)
+    c.slots.leaving (places_here (stands g c) c.slots.invariant.free)
 
 -- what the engine says of the slot
 had : (g : given.Over) (c : In_ok-slot g) →
     HasHad (map g.R.Rank.machine c.skip-slot.new.engine.fixed) c.skip-slot.result c.arrivals.result.now
     c.skip-slot.new.engine c.slot.new.self c.slots.leaving c.slot.new.sent c.slots.note c.slot.new.note
-had g c =
-    record {
-      done = c.in_ok-slot.ensures.slot;
-      running = c.slot.ensures.stopped ∙ ap is_err c.in_ok-slot.was;
-      next = c.in_ok-slot.ensures.went_on.next;
-      made = c.slot.ensures.made;
-    }
+had g c = search (arith, rules)
 
 -- ## The loop
 
 pub slots-init : goal.slots-init
-slots-init g c =
-    rw c.next-slot.ensures
-    (record {
-      runs = run_begins g.R.Rank.machine c.requires.ready;
-      free = record { none = c.requires.none; few = c.requires.few };
-    })
+slots-init g c = search (arith, rules, run_begins)
 
 pub slot-requires-clause-early : goal.slot-requires-clause-early
-slot-requires-clause-early g c =
-    λ _ _. (can g (goal.at.slot-requires-clause-early g c).After-arrivals).early
+slot-requires-clause-early g c = omega (arith, can g (goal.at.slot-requires-clause-early g c).After-arrivals)
 
 pub slot-requires-clause-arrivals : goal.slot-requires-clause-arrivals
-slot-requires-clause-arrivals g c =
-    λ _ _. (can g (goal.at.slot-requires-clause-arrivals g c).After-arrivals).arrivals
+slot-requires-clause-arrivals g c = search (arith, rules, can)
 
 pub slot-requires-clause-ready : goal.slot-requires-clause-ready
-slot-requires-clause-ready g c =
-    λ _ _. (can g (goal.at.slot-requires-clause-ready g c).After-arrivals).ready
+slot-requires-clause-ready g c = search (arith, rules, can g (goal.at.slot-requires-clause-ready g c).After-arrivals)
 
 pub returns-in_err-slot-clause-fault : goal.returns-in_err-slot-clause-fault
 returns-in_err-slot-clause-fault g c =
@@ -82,9 +63,7 @@ returns-in_err-slot-clause-fault g c =
     })
 
 pub overflow_add-slot : goal.overflow_add-slot
-overflow_add-slot g c =
-    let fits : c.skip-slot.result < 2 ^ 64 - 1 = (can g (goal.at.overflow_add-slot g c).After-arrivals).early in
-    omega arith
+overflow_add-slot g c = omega (arith, can g (goal.at.overflow_add-slot g c).After-arrivals)
 
 pub slots-smaller : goal.slots-smaller
 slots-smaller g c =
@@ -93,22 +72,18 @@ slots-smaller g c =
     omega arith
 
 pub take_all-requires : goal.take_all-requires
-take_all-requires g c =
-    let at = goal.at.take_all-requires g c in
-    can_take_over (stands g at.After-arrivals) c.slots.invariant.free (had g at.In_ok-slot)
+take_all-requires g c = search (arith, rules, can_take_over, stands, had)
 
 pub slots-preserved : goal.slots-preserved
 slots-preserved g c =
     let at = goal.at.slots-preserved g c in
     record {
-      runs =
-          next_here (stands g at.After-arrivals) c.arrivals.result.now c.slot.new.self c.take_all.new.self
+      runs = next_here (stands g at.After-arrivals) c.arrivals.result.now c.slot.new.self c.take_all.new.self
           c.slot.new.note (c.arrivals.ensures ∙ c.skip-slot.ensures.came) (had g at.In_ok-slot)
-          (taken_over c.slots.invariant.free (had g at.In_ok-slot) c.take_all.ensures.items
-          c.take_all.ensures.spare);
-      free = emptied c.slots.invariant.free (had g at.In_ok-slot) c.take_all.ensures.none_left c.take_all.ensures.room;
+          (taken_over c.slots.invariant.free (had g at.In_ok-slot) c.take_all.ensures.items c.take_all.ensures.spare);
+      free =
+          emptied c.slots.invariant.free (had g at.In_ok-slot) c.take_all.ensures.none_left c.take_all.ensures.room;
     }
 
 pub returns-clause-run : goal.returns-clause-run
-returns-clause-run g c =
-    run_ends g.R.Rank.machine c.requires.ready c.slots.invariant.runs (c.is_over.ensures.0 c.slots-test.false)
+returns-clause-run g c = search (arith, rules, run_ends)

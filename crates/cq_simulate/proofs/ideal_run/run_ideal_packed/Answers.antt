@@ -1,10 +1,10 @@
-use Rattle.std.proofs.Common.{◌≡◌, ℕ, List, length, map, ap, sym, ◌∙◌, arith}
+use Rattle.std.proofs.Common.{rules, ◌≡◌, ℕ, length, map, ap, ◌∙◌, arith}
 use Rattle.std.specs.List.{range_with_len}
 use Rattle.std.proofs.lemmas.List.{length-map}
 use Rattle.std.proofs.lemmas.List.FromFn.{length-map-range_with_len}
 use Rattle.std.proofs.lemmas.Result.{err_from_is_err_and}
 use Rattle.cq_base.specs.Arriving.{traffic_of}
-use Rattle.cq_ideal.specs.Ideal.{IdealSwitch, marked_state}
+use Rattle.cq_ideal.specs.Ideal.{marked_state}
 use Rattle.cq_ideal.specs.LimitedEnding.{departures_limited}
 use Rattle.cq_ideal.specs.LimitedIdeal.{limited_run}
 use Rattle.cq_cells.specs.Traffic.{is_to, number_of}
@@ -15,45 +15,25 @@ use Rattle.cq_simulate.proofs.ideal_run.run_ideal_packed.Goals as goal
 use Rattle.cq_simulate.proofs.ideal_run.run_ideal_packed.Goals.{In_ok-ideal}
 
 pub overflow_add-total : goal.overflow_add-total
-overflow_add-total c =
-    let items = c.in_ok-ranks.ranks.items in
-    let count : length (map fixed_of items) ≡ length c.args.tables.now.setup.kinds =
-    machine_count machine_from (map fixed_of items) c.args.tables.now.setup c.in_ok-ranks.ensures.machines in
-    let same : length (map fixed_of items) ≡ length items = length-map items fixed_of in
-    let cells = few_cells c.args.schedule.now.came in
-    omega (arith, c.requires.short, c.total.ensures.cells, c.len-ports.ensures)
+overflow_add-total c = search (arith, rules, machine_count, length-map, few_cells)
 
 pub new-requires-2-clause-rooms : goal.new-requires-2-clause-rooms
-new-requires-2-clause-rooms c =
-    let f : ℕ → ℕ = λ j. number_of (is_to j) c.args.schedule.now.came in
-    let len : c.len-ports.result ≡ length c.in_ok-ranks.ranks.items =
-    omega (arith, c.len-ports.ensures, c.in_ok-ranks.ranks.ok) in
-    ap (λ (l : List ℕ). length l) (c.as_slice.ensures.value ∙ c.in_ok-rooms.ensures)
-    ∙ length-map-range_with_len f 0 c.len-ports.result ∙ len
+new-requires-2-clause-rooms c = search (arith, rules, length-map-range_with_len)
 
 pub new-requires-2-clause-limits : goal.new-requires-2-clause-limits
-new-requires-2-clause-limits c =
-    let items = c.in_ok-ranks.ranks.items in
-    let count =
-    machine_count machine_from (map fixed_of items) c.args.tables.now.setup c.in_ok-ranks.ensures.machines in
-    ap length c.as_slice-2.ensures ∙ c.requires.tables.limits.ports_are ∙ sym count ∙ length-map items fixed_of
+new-requires-2-clause-limits c = search (arith, rules, machine_count, length-map)
 
 -- the switch is made for the tables
 made_for : (c : In_ok-ideal) →
     IsMadeFor machine_from c.args.tables.now (length c.in_ok-ranks.ranks.items)
     (map state_of c.in_ok-ranks.ranks.items) c.in_ok-ideal.ideal
-made_for c =
-    let items = c.in_ok-ranks.ranks.items in
-    made machine_from c.args.tables.now (length items) (map fixed_of items) (map state_of items)
-    c.as_slice-2.result.now c.as_slice.result.now c.in_ok-ideal.ideal c.in_ok-ideal.ensures
-    c.in_ok-ranks.ensures.machines (length-map items fixed_of) c.as_slice-2.ensures
+made_for c = search (arith, rules, made, length-map)
 
 -- and its run is theirs
 run_of : (c : In_ok-ideal) → departures_limited (limited_run c.in_ok-ideal.ideal.limits
     (map machine_from c.in_ok-ideal.ideal.fixed) 0 (traffic_of c.args.schedule.now.came)
     (marked_state c.in_ok-ideal.ideal)) ≡ ideal_departures c.args.tables.now c.args.schedule.now.came
-run_of c =
-    run_of_tables machine_from c.args.tables.now c.args.schedule.now.came (length c.in_ok-ranks.ranks.items)
+run_of c = run_of_tables machine_from c.args.tables.now c.args.schedule.now.came (length c.in_ok-ranks.ranks.items)
     (map state_of c.in_ok-ranks.ranks.items) c.in_ok-ideal.ideal (made_for c) c.in_ok-ranks.ensures.states
 
 pub run_slots-requires-clause-ready : goal.run_slots-requires-clause-ready
@@ -71,19 +51,10 @@ run_slots-requires-clause-ready c =
     (c.in_ok-sent.ensures.spare ∙ omega (arith, len, c.total.ensures.cells))
 
 pub run_slots-requires-clause-few : goal.run_slots-requires-clause-few
-run_slots-requires-clause-few c =
-    let items = c.in_ok-ranks.ranks.items in
-    let len : c.len-ports.result ≡ length items = omega (arith, c.len-ports.ensures, c.in_ok-ranks.ranks.ok) in
-    let fixed : length c.in_ok-ideal.ideal.fixed ≡ length items =
-    ap (λ (v : IdealSwitch). length v.fixed) c.in_ok-ideal.ensures ∙ length-map items fixed_of in
-    c.in_ok-leaving.ensures.spare ∙ omega (arith, len, fixed)
+run_slots-requires-clause-few c = search (arith, rules, length-map)
 
 pub returns-in_err-run_slots-clause-refused : goal.returns-in_err-run_slots-clause-refused
-returns-in_err-run_slots-clause-refused c =
-    let p = err_from_is_err_and c.from_residual-in_err-run_slots.result c.from_residual-in_err-run_slots.ensures.1 in
-    rw (p.1, p.2)
-    (sym (run_of (goal.at.returns-in_err-run_slots-clause-refused c).In_ok-ideal) ∙ c.in_err-run_slots.ensures.fault)
+returns-in_err-run_slots-clause-refused c = search (arith, rules, err_from_is_err_and, run_of)
 
 pub returns-clause-sent : goal.returns-clause-sent
-returns-clause-sent c =
-    sym (run_of (goal.at.returns-clause-sent c).In_ok-ideal) ∙ c.in_ok-run_slots.ensures.sent
+returns-clause-sent c = search (arith, rules, run_of)

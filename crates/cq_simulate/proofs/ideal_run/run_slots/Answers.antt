@@ -1,5 +1,4 @@
-use Rattle.std.proofs.Common.{◌≡◌, ◌≤◌, map, ap, sym, ◌∙◌, arith}
-use Rattle.std.specs.Result.{is_err}
+use Rattle.std.proofs.Common.{rules, ◌≡◌, ◌≤◌, map, sym, ◌∙◌, arith}
 use Rattle.std.proofs.lemmas.Result.{err_from_is_err_and}
 use Rattle.cq_base.specs.Arriving.{end_of}
 use Rattle.cq_ideal.proofs.Waiting.{waiting}
@@ -14,9 +13,7 @@ use Rattle.cq_simulate.proofs.ideal_run.run_slots.Goals.{After-arrivals, In_ok-s
 stands : (g : given.Over) (c : After-arrivals g) →
     Before g.R.Rank.machine c.requires.ready
     c.skip-slot.result c.skip-slot.new.ideal c.slots.sent
-stands g c =
-    at_rest g.R.Rank.machine c.requires.ready c.slots.invariant.runs
-    c.skip-slot.ensures.quiet c.skip-slot.ensures.rested
+stands g c = search (arith, rules, at_rest)
 
 -- and is not over there
 going : (g : given.Over) (c : After-arrivals g) → end_of c.args.schedule.now.came ≤ c.skip-slot.result →
@@ -31,22 +28,12 @@ going g c =
 had : (g : given.Over) (c : In_ok-slot g) →
     HasHad (map g.R.Rank.machine c.skip-slot.new.ideal.fixed) c.skip-slot.result c.arrivals.result.now
     c.skip-slot.new.ideal c.slot.new.self c.slots.leaving c.slot.new.sent
-had g c =
-    record {
-      answer = sym c.in_ok-slot.was ∙ c.slot.ensures.answer;
-      done = c.slot.ensures.slot;
-      running = c.slot.ensures.stopped ∙ ap is_err c.in_ok-slot.was;
-      same = c.slot.ensures.same;
-    }
+had g c = search (arith, rules)
 
 -- ## The loop
 
 pub slots-init : goal.slots-init
-slots-init g c =
-    record {
-      runs = at_first g.R.Rank.machine c.requires.ready;
-      free = record { none = c.requires.none; few = c.requires.few };
-    }
+slots-init g c = search (arith, rules, at_first)
 
 pub slot-requires : goal.slot-requires
 slot-requires g c =
@@ -58,9 +45,8 @@ pub returns-in_err-slot-clause-fault : goal.returns-in_err-slot-clause-fault
 returns-in_err-slot-clause-fault g c =
     let at = (goal.at.returns-in_err-slot-clause-fault g c).After-arrivals in
     let p = err_from_is_err_and c.from_residual.result c.from_residual.ensures.1 in
-    rw (p.1, p.2)
-    (at_fault g.R.Rank.machine c.requires.ready (stands g at) (going g at)
-    c.arrivals.result.now c.in_err-slot.field-0.0 (c.arrivals.ensures ∙ c.skip-slot.ensures.came)
+    rw (p.1, p.2) (at_fault g.R.Rank.machine c.requires.ready (stands g at) (going g at) c.arrivals.result.now
+    c.in_err-slot.field-0.0 (c.arrivals.ensures ∙ c.skip-slot.ensures.came)
     (sym c.in_err-slot.was ∙ c.slot.ensures.answer))
 
 pub slots-smaller : goal.slots-smaller
@@ -71,21 +57,17 @@ slots-smaller g c =
     omega arith
 
 pub take_all-requires : goal.take_all-requires
-take_all-requires g c =
-    let at = goal.at.take_all-requires g c in
-    can_take_over g.R.Rank.machine c.requires.ready (stands g at.After-arrivals) (going g at.After-arrivals)
-    c.slots.invariant.free (had g at.In_ok-slot)
+take_all-requires g c = search (arith, rules, can_take_over, stands, going, had)
 
 pub slots-preserved : goal.slots-preserved
 slots-preserved g c =
     let at = goal.at.slots-preserved g c in
     record {
-      runs =
-          at_next g.R.Rank.machine c.requires.ready (stands g at.After-arrivals)
-          (going g at.After-arrivals) c.arrivals.result.now c.slot.new.self c.take_all.new.self
-          (c.arrivals.ensures ∙ c.skip-slot.ensures.came)
+      runs = at_next g.R.Rank.machine c.requires.ready (stands g at.After-arrivals) (going g at.After-arrivals)
+          c.arrivals.result.now c.slot.new.self c.take_all.new.self (c.arrivals.ensures ∙ c.skip-slot.ensures.came)
           (handed c.slots.invariant.free (had g at.In_ok-slot) c.take_all.ensures.items c.take_all.ensures.spare);
-      free = emptied c.slots.invariant.free (had g at.In_ok-slot) c.take_all.ensures.none_left c.take_all.ensures.room;
+      free =
+          emptied c.slots.invariant.free (had g at.In_ok-slot) c.take_all.ensures.none_left c.take_all.ensures.room;
     }
 
 pub returns-clause-sent : goal.returns-clause-sent
@@ -93,5 +75,4 @@ returns-clause-sent g c =
     at_end g.R.Rank.machine c.requires.ready c.slots.invariant.runs (c.is_over.ensures.0 c.slots-test.false)
 
 pub returns-clause-early : goal.returns-clause-early
-returns-clause-early g c =
-    early_at_end g.R.Rank.machine c.requires.ready c.slots.invariant.runs
+returns-clause-early g c = search (arith, rules, early_at_end)

@@ -1,13 +1,11 @@
-use Rattle.std.proofs.Common.{◌≤◌, List, ap, arith, length, sym, ◌∙◌}
+use Rattle.std.proofs.Common.{rules, arith, sym, ◌∙◌, ap, length}
 use Rattle.std.proofs.lemmas.List.{take_all}
-use Rattle.cq_base.specs.declared.cell.Departure.{Departure}
-use Rattle.cq_reasm.specs.Joining.{JoinerView}
 use Rattle.cq_simulate.proofs.Departed.{departed_captured, departed_class}
 use Rattle.cq_simulate.proofs.Packed.{all_pushed, none_large}
-use Rattle.cq_simulate.specs.Packets.{packets_out}
 use Rattle.cq_simulate.proofs.Taking.{at_first, at_other, cell_fits, kept, nowhere, packed}
 use Rattle.cq_simulate.proofs.packets.packets_of.Goals as goal
 use Rattle.cq_simulate.proofs.packets.packets_of.Goals.{then-departure-output+in_ok-left+in-Some+in_ok-push-in-Some, then-departure-output+in_ok-left+in-None, else-departure-output}
+use Rattle.cq_reasm.specs.Joining.{JoinerView}
 
 pub departures-init : goal.departures-init
 departures-init c =
@@ -19,23 +17,16 @@ departures-init c =
     (none_large c.new-packets.result.items c.new-packets.ensures.items)
 
 pub take-requires-clause-input : goal.take-requires-clause-input
-take-requires-clause-input c =
-    let same = c.departures.invariant.inputs in
-    let inside = (departed_captured c.requires c.departures.departure-index _ c.departures-test.true).input in
-    rw same inside
+take-requires-clause-input c = search (arith, rules, departed_captured)
 
 pub take-requires-clause-class : goal.take-requires-clause-class
-take-requires-clause-class c =
-    rw c.departures.invariant.classes (departed_class c.requires c.departures.departure-index _ c.departures-test.true)
+take-requires-clause-class c = search (arith, rules, departed_class)
 
 pub take-requires-clause-captured : goal.take-requires-clause-captured
 take-requires-clause-captured c = departed_captured c.requires c.departures.departure-index _ c.departures-test.true
 
 pub take-requires-clause-fits : goal.take-requires-clause-fits
-take-requires-clause-fits c =
-    cell_fits c.args.tables.now c.args.captures.now c.args.sent.now c.args.output
-    c.departures.departure-index _ c.departures-test.true c.if-departure-output.true c.departures.invariant c.requires
-    (departed_class c.requires c.departures.departure-index _ c.departures-test.true)
+take-requires-clause-fits c = search (arith, rules, cell_fits, departed_class)
 
 pub departures-preserved : goal.departures-preserved
 departures-preserved c =
@@ -46,28 +37,20 @@ departures-preserved c =
     let inv = c.departures.invariant in
     elim c.if-departure-output.branch [
       | then-departure-output+in_ok-left+in-Some+in_ok-push-in-Some w ↦
-          rw (w.joiner-is, w.packets-is)
-          (packed t captures sent c.args.output k _ c.departures-test.true w.if-departure-output.true
-          w.take.new.joiner inv w.take.ensures.inputs w.take.ensures.classes w.in_ok-left.ensures.pair
-          w.take.ensures.others w.in-Some.packet w.push.new.self.items
+          rw (w.joiner-is, w.packets-is) (packed t captures sent c.args.output k _ c.departures-test.true
+          w.if-departure-output.true w.take.new.joiner inv w.take.ensures.inputs w.take.ensures.classes
+          w.in_ok-left.ensures.pair w.take.ensures.others w.in-Some.packet w.push.new.self.items
           (sym w.in-Some.is ∙ w.in_ok-left.ensures.packet) w.in_ok-push-in-Some.ensures.items
           (all_pushed c.departures.packets.items w.push.new.self.items w.in-Some.packet
           w.in_ok-push-in-Some.ensures.items inv.small (rw w.in-Some.is at w.in_ok-left.ensures.body)))
       | then-departure-output+in_ok-left+in-None w ↦
-          rw (w.joiner-is, w.packets-is)
-          (kept t captures sent c.args.output k _ c.departures-test.true w.if-departure-output.true
-          w.take.new.joiner inv w.take.ensures.inputs w.take.ensures.classes w.in_ok-left.ensures.pair
-          w.take.ensures.others
-          (sym w.in_ok-left.ensures.packet ∙ w.in-None.is))
-      | else-departure-output w ↦
-          rw (w.joiner-is, w.packets-is) (at_other t captures sent c.args.output k _ c.departures-test.true
-          inv w.if-departure-output.false)
+          rw (w.joiner-is, w.packets-is) (kept t captures sent c.args.output k _ c.departures-test.true
+          w.if-departure-output.true w.take.new.joiner inv w.take.ensures.inputs w.take.ensures.classes
+          w.in_ok-left.ensures.pair w.take.ensures.others (sym w.in_ok-left.ensures.packet ∙ w.in-None.is))
+      | else-departure-output w ↦ rw (w.joiner-is, w.packets-is)
+          (at_other t captures sent c.args.output k _ c.departures-test.true inv w.if-departure-output.false)
     ]
 
 pub returns-clause-nowhere : goal.returns-clause-nowhere
-returns-clause-nowhere c none =
-    let end : length c.args.sent.now ≤ c.departures.departure-index = omega (arith, c.departures-test.false) in
-    c.departures.invariant.made
-    ∙ ap (λ (l : List Departure). packets_out c.args.tables.now c.args.captures.now l c.args.output)
-    (take_all c.departures.departure-index c.args.sent.now end)
-    ∙ nowhere c.args.output c.requires none
+returns-clause-nowhere c none = search
+    (arith, rules, take_all c.departures.departure-index c.args.sent.now, nowhere c.args.output c.requires none)

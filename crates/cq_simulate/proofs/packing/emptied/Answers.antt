@@ -1,4 +1,4 @@
-use Rattle.std.proofs.Common.{All, sym, subst, arith}
+use Rattle.std.proofs.Common.{rules, arith, All, sym, subst}
 use Rattle.std.proofs.lemmas.List.Elements.{All-push}
 use Rattle.cq_simulate.specs.Pieces.{IsEmptied}
 use Rattle.cq_simulate.proofs.packing.emptied.Goals as goal
@@ -13,5 +13,4 @@ places-preserved c =
     }
 
 pub returns-clause-outputs : goal.returns-clause-outputs
-returns-clause-outputs c =
-    omega (arith, c.places.invariant.most, c.len.ensures, c.places-test.false, c.places.places.ok)
+returns-clause-outputs c = search (arith, rules)

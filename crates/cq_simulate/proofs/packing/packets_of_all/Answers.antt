@@ -1,18 +1,10 @@
-use Rattle.std.proofs.Common.{◌<◌, length, map, ap, subst, ◌∙◌, arith}
-use Rattle.std.specs.Prelude.{All}
+use Rattle.std.proofs.Common.{rules, length, map, ap, arith, ◌<◌}
 use Rattle.cq_base.specs.Packed.{unpacked}
-use Rattle.cq_simulate.specs.Pieces.{IsEmptied}
 use Rattle.cq_simulate.proofs.AllPacked.{all_packed, at_port, can_take, first_unpacked, none_yet, one_more}
 use Rattle.cq_simulate.proofs.packing.packets_of_all.Goals as goal
 
 pub departures-init : goal.departures-init
-departures-init c =
-    let captures = c.args.captures.now in
-    let places = c.in_ok-places.places.items in
-    none_yet c.args.tables.now captures c.args.sent.items (map unpacked c.into_supply-left.result) places
-    c.into_supply-left.ensures (c.in_ok-places.ensures.outputs ∙ c.requires.captures)
-    (subst (λ n. All (IsEmptied (length captures) n) places) (ap (λ l. length l) c.as_slice.ensures)
-    c.in_ok-places.ensures.each)
+departures-init c = search (arith, rules, none_yet)
 
 pub index_mut-requires : goal.index_mut-requires
 index_mut-requires c =
@@ -26,8 +18,7 @@ pub take-requires-clause-can : goal.take-requires-clause-can
 take-requires-clause-can c =
     let first = first_unpacked c.departures.left c.pop_first.new.self c.in-Some.packed c.departure-departure.result
     c.in-Some.ensures c.departure-departure.ensures in
-    can_take c.departures.invariant first c.requires
-    c.index_mut.result.now c.index_mut.ensures.value
+    can_take c.departures.invariant first c.requires c.index_mut.result.now c.index_mut.ensures.value
 
 pub departures-smaller : goal.departures-smaller
 departures-smaller c = let shorter = ap length c.in-Some.ensures in omega arith
@@ -41,6 +32,5 @@ departures-preserved c =
     c.take.new.self c.in_ok-take.ensures
 
 pub returns : goal.returns
-returns c =
-    all_packed c.args.tables.now c.args.captures.now c.args.sent.items (map unpacked c.departures.left)
+returns c = all_packed c.args.tables.now c.args.captures.now c.args.sent.items (map unpacked c.departures.left)
     c.departures.places.items c.departures.invariant (ap (map unpacked) c.in_default.ensures.0)

@@ -3,7 +3,5 @@ use Rattle.cq_simulate.proofs.parted_run.holding.Given as goal
 
 -- the items before this place are there, and there is room for the others and for so many more
 abbrev pub invariant-places : goal.invariant-places
-invariant-places g l = record {
-  items : l.room.items ≡ take l.at l.items;
-  spare : l.room.spare + l.at ≡ length l.items + l.fn.spare;
-}
+invariant-places g l =
+    record { items : l.room.items ≡ take l.at l.items; spare : l.room.spare + l.at ≡ length l.items + l.fn.spare }

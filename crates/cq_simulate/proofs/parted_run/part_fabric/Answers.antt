@@ -1,7 +1,6 @@
-use Rattle.std.proofs.Common.{length, ap, ◌∙◌, arith}
+use Rattle.std.proofs.Common.{rules, ap, arith}
 use Rattle.std.proofs.lemmas.Result.{err_from_is_err_and}
 use Rattle.cq_engine.specs.Engine.{EngineView}
-use Rattle.cq_laws.specs.declared.frozen.Frozen.{Frozen}
 use Rattle.cq_simulate.proofs.FabricOpening.{IsMade, can_begin, made_for, port_count}
 use Rattle.cq_simulate.proofs.Parting.{part_fault, parted_of}
 use Rattle.cq_simulate.proofs.parted_run.part_fabric.Given as given
@@ -11,10 +10,7 @@ use Rattle.cq_simulate.proofs.parted_run.part_fabric.Goals.{In_ok-engine}
 -- the engine is made for the tables and the schedule, with room for all that it is to send and to note
 made : (g : given.Over) (c : In_ok-engine g) →
     IsMade c.args.tables.now c.args.schedule.now c.in_ok-engine.engine c.in_ok-sent.sent c.in_ok-note.note
-made g c =
-    made_for c.requires.fit c.port_count-ports.ensures c.total-total.ensures.cells c.total-total.ensures.few
-    c.in_ok-engine.ensures c.in_ok-sent.ensures.items c.in_ok-sent.ensures.spare c.in_ok-note.ensures.items
-    c.in_ok-note.ensures.spare
+made g c = search (arith, rules, made_for)
 
 pub run_before-requires-clause-ready : goal.run_before-requires-clause-ready
 run_before-requires-clause-ready g c =
@@ -43,6 +39,4 @@ returns-clause-parted g c =
 
 -- the fabric that stands still has a list for each port
 pub returns-clause-ports : goal.returns-clause-ports
-returns-clause-ports g c =
-    ap (λ (x : Frozen). length x.lists) c.in_ok-frozen.ensures ∙ c.in_ok-run_before.ensures.run.ports
-    ∙ port_count c.in_ok-engine.ensures
+returns-clause-ports g c = search (arith, rules, port_count)

@@ -1,7 +1,7 @@
-use Rattle.std.proofs.Common.{ℕ, List, length, map, ap, ◌∙◌, sym}
+use Rattle.std.proofs.Common.{arith, rules, map, ap, ◌∙◌}
 use Rattle.std.proofs.lemmas.List.{length-map}
 use Rattle.std.proofs.lemmas.Result.{IfErr-weaker, IfOk-weaker}
-use Rattle.cq_scfq.specs.Discipline.{fixed_of, machine_from}
+use Rattle.cq_scfq.specs.Discipline.{machine_from}
 use Rattle.cq_simulate.proofs.FabricOpening.{can_be_made}
 use Rattle.cq_simulate.proofs.Resuming.{resumed_fault, resumed_of}
 use Rattle.cq_simulate.proofs.TakenUp.{can_thaw, runs_on}
@@ -10,14 +10,11 @@ use Rattle.cq_simulate.proofs.parted_run.resume_fabric.Goals as goal
 -- ## What the engine is made of
 
 pub thaw-requires-clause-made : goal.thaw-requires-clause-made
-thaw-requires-clause-made g c =
-    can_be_made c.args.tables.now c.args.schedule.now.came c.in_ok-ports.ports c.requires.fit.tables
-    c.in_ok-ports.ensures c.as_slice-3.ensures.value c.as_slice-4.ensures.value c.as_slice-5.ensures
+thaw-requires-clause-made g c = search (arith, rules, can_be_made)
 
 pub thaw-requires-clause-goes_on : goal.thaw-requires-clause-goes_on
-thaw-requires-clause-goes_on g c =
-    can_thaw c.in_ok-ports.ensures c.requires.sound c.requires.fit c.as_slice-3.ensures.value c.as_slice-4.ensures.value
-    c.as_slice-5.ensures
+thaw-requires-clause-goes_on g c = can_thaw c.in_ok-ports.ensures c.requires.sound c.requires.fit
+    c.as_slice-3.ensures.value c.as_slice-4.ensures.value c.as_slice-5.ensures
 
 -- ## The run that goes on
 
@@ -30,25 +27,16 @@ run_on-requires-clause-ready g c =
     c.in_ok-sent.ensures.spare c.in_ok-note.ensures.spare
 
 pub run_on-requires-clause-ports : goal.run_on-requires-clause-ports
-run_on-requires-clause-ports g c =
-    λ _ _. c.port_count-count.ensures ∙ sym c.in_ok-ports.ensures.many
-    ∙ sym (length-map c.in_ok-ports.ports.ranks.items fixed_of)
-    ∙ sym (ap (λ (l : List (List ℕ)). length l) c.in_ok-engine.ensures.fixed)
+run_on-requires-clause-ports g c = search (arith, rules, length-map)
 
 pub returns-clause-run : goal.returns-clause-run
 returns-clause-run g c =
     let is = c.in_ok-engine.ensures in
-    IfOk-weaker c.run_on.result _ _
-    (λ run kept. resumed_of machine_from c.args.tables.now c.args.schedule.now c.in_ok-engine.engine c.args.taken.now
-    (ap (map machine_from) is.fixed ∙ c.in_ok-ports.ensures.machines) (is.limits ∙ c.as_slice-5.ensures) is.frozen
-    c.in_ok-sent.sent c.in_ok-note.note run kept (c.in_ok-sent.ensures.items ∙ c.as_slice.ensures)
-    (c.in_ok-note.ensures.items ∙ c.as_slice-2.ensures))
+    IfOk-weaker c.run_on.result _ _ (λ run kept. resumed_of machine_from c.args.tables.now c.args.schedule.now
+    c.in_ok-engine.engine c.args.taken.now (ap (map machine_from) is.fixed ∙ c.in_ok-ports.ensures.machines)
+    (is.limits ∙ c.as_slice-5.ensures) is.frozen c.in_ok-sent.sent c.in_ok-note.note run kept
+    (c.in_ok-sent.ensures.items ∙ c.as_slice.ensures) (c.in_ok-note.ensures.items ∙ c.as_slice-2.ensures))
     c.run_on.ensures.run
 
 pub returns-clause-refused : goal.returns-clause-refused
-returns-clause-refused g c =
-    let is = c.in_ok-engine.ensures in
-    IfErr-weaker c.run_on.result _ _
-    (resumed_fault machine_from c.args.tables.now c.args.schedule.now c.in_ok-engine.engine c.args.taken.now
-    (ap (map machine_from) is.fixed ∙ c.in_ok-ports.ensures.machines) (is.limits ∙ c.as_slice-5.ensures) is.frozen)
-    c.run_on.ensures.refused
+returns-clause-refused g c = search (arith, rules, IfErr-weaker, resumed_fault)

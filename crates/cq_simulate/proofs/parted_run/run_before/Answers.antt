@@ -1,4 +1,4 @@
-use Rattle.std.proofs.Common.{◌+◌, ◌-◌, ◌≤◌, false, ap, sym, ◌∙◌, arith, rules}
+use Rattle.std.proofs.Common.{◌+◌, ◌-◌, ◌≤◌, false, ap, ◌∙◌, arith, rules, sym}
 use Rattle.std.specs.Result.{is_err}
 use Rattle.std.proofs.lemmas.Result.{err_from_is_err_and}
 use Rattle.cq_simulate.proofs.FabricSteps.{CanRun, Stands, can_run_here, fault_here, next_here, part_begins, part_ends, part_rests, part_stands, room_here}
@@ -12,41 +12,28 @@ use Rattle.cq_simulate.proofs.parted_run.run_before.Goals.{After-arrivals-arriva
 stands : (g : given.Over) (c : After-arrivals-arrivals g) →
     Stands false c.args.last g.R.Rank.machine c.args.schedule.now.came c.args.engine.now c.args.sent.now
     c.args.note.now c.skip-slot.result c.skip-slot.new.engine c.slots.sent c.slots.note
-stands g c =
-    part_stands g.R.Rank.machine c.requires.ready
-    (part_rests g.R.Rank.machine c.requires.ready c.slots.invariant.crossing c.slots.invariant.before
-    c.skip-slot.ensures.late (λ lt. let told = c.skip-slot.ensures.told (c.skip-slot.ensures.idle lt) in search rules)
-    c.skip-slot.ensures.rested).0 c.if-slot-last.false
+stands g c = search (arith, rules, part_stands, part_rests, c.skip-slot.ensures.told, c.skip-slot.ensures.idle)
 
 -- and finds all that it asks for
 can : (g : given.Over) (c : After-arrivals-arrivals g) →
     CanRun g.R.Rank.machine c.skip-slot.result c.arrivals-arrivals.result.now
     c.skip-slot.new.engine c.slots.sent c.slots.note
-can g c =
-    can_run_here (stands g c) c.arrivals-arrivals.result.now (c.arrivals-arrivals.ensures
-    ∙ c.skip-slot.ensures.came) c.slots.sent (room_here (stands g c))
+can g c = can_run_here (stands g c) c.arrivals-arrivals.result.now
+    (c.arrivals-arrivals.ensures ∙ c.skip-slot.ensures.came) c.slots.sent (room_here (stands g c))
 
 -- ## The loop
 
 pub slots-init : goal.slots-init
-slots-init g c =
-    rw c.next-slot.ensures
-    (record {
-      crossing = part_begins g.R.Rank.machine c.requires.ready;
-      before = c.requires.ready.next;
-    })
+slots-init g c = search (arith, rules, part_begins)
 
 pub slot-requires-clause-early : goal.slot-requires-clause-early
-slot-requires-clause-early g c =
-    λ _ _. (can g (goal.at.slot-requires-clause-early g c).After-arrivals-arrivals).early
+slot-requires-clause-early g c = search (arith, rules, can)
 
 pub slot-requires-clause-arrivals : goal.slot-requires-clause-arrivals
-slot-requires-clause-arrivals g c =
-    λ _ _. (can g (goal.at.slot-requires-clause-arrivals g c).After-arrivals-arrivals).arrivals
+slot-requires-clause-arrivals g c = search (arith, rules, can)
 
 pub slot-requires-clause-ready : goal.slot-requires-clause-ready
-slot-requires-clause-ready g c =
-    λ _ _. (can g (goal.at.slot-requires-clause-ready g c).After-arrivals-arrivals).ready
+slot-requires-clause-ready g c = λ _ _. (can g (goal.at.slot-requires-clause-ready g c).After-arrivals-arrivals).ready
 
 pub returns-in_err-slot-clause-fault : goal.returns-in_err-slot-clause-fault
 returns-in_err-slot-clause-fault g c =
@@ -64,23 +51,19 @@ slots-smaller g c = omega arith
 pub slots-preserved : goal.slots-preserved
 slots-preserved g c =
     record {
-      crossing =
-          next_here (stands g (goal.at.slots-preserved g c).After-arrivals-arrivals)
+      crossing = next_here (stands g (goal.at.slots-preserved g c).After-arrivals-arrivals)
           c.arrivals-arrivals.result.now c.slot.new.self c.slot.new.sent c.slot.new.note
-          (c.arrivals-arrivals.ensures ∙ c.skip-slot.ensures.came)
-          (record {
+          (c.arrivals-arrivals.ensures ∙ c.skip-slot.ensures.came) (record {
             done = c.in_ok-slot.ensures.slot;
             running = c.slot.ensures.stopped ∙ ap is_err c.in_ok-slot.was;
             next = c.in_ok-slot.ensures.went_on.next;
             made = c.slot.ensures.made;
-          })
-          (record {
+          }) (record {
             done = c.in_ok-slot.ensures.slot;
-            put =
-                record {
-                  items = c.in_ok-slot.ensures.slot.departed;
-                  spare = c.in_ok-slot.ensures.slot.departed_room;
-                };
+            put = record {
+              items = c.in_ok-slot.ensures.slot.departed;
+              spare = c.in_ok-slot.ensures.slot.departed_room;
+            };
           });
       before = omega arith;
     }
@@ -95,5 +78,4 @@ returns-then-slot-last-clause-run g c =
     part_ends g.R.Rank.machine c.requires.ready rests.0 (omega arith)
 
 pub returns-clause-run : goal.returns-clause-run
-returns-clause-run g c =
-    part_ends g.R.Rank.machine c.requires.ready c.slots.invariant.crossing (omega arith)
+returns-clause-run g c = search (arith, rules, part_ends)

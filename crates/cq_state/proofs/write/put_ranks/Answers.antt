@@ -12,6 +12,5 @@ outputs-preserved c =
     ∙ ap (λ ns. Some c.outputs.output ∷ map Some ns) numbers) c.in_ok-put_numbers.ensures
 
 pub returns : goal.returns
-returns c =
-    numbered_lines_put c.args.ranks.now c.args.text.now.items kind.Rank rank_line c.outputs.output _
+returns c = numbered_lines_put c.args.ranks.now c.args.text.now.items kind.Rank rank_line c.outputs.output _
     c.outputs-test.false c.outputs.invariant
