@@ -2,7 +2,8 @@
 -- the run. So of two faults of phases neither stands before the other, for a run that goes on past a phase has made
 -- the transfers of a stable matching there, as its lines say. For the same reason no fault stands within a whole run
 -- that moves what the lines say, and none behind it, for the run is over there. And two such runs are one.
-use Rattle.std.proofs.Common.{◌≡◌, ◌≢◌, ℕ, suc, ◌+◌, ◌-◌, ◌<◌, ◌≤◌, ◌⊎◌, inl, inr, List, [], ◌∷◌, ◌++◌, length, take, drop, Option, refl, sym, ap, ◌∙◌, subst, ⊎_elim, arith}
+use Rattle.std.proofs.lemmas.Grind.{common_steps}
+use Rattle.std.proofs.Common.{rules, ◌≡◌, ◌≢◌, ℕ, suc, ◌+◌, ◌-◌, ◌<◌, ◌≤◌, ◌⊎◌, inl, inr, List, [], ◌∷◌, ◌++◌, length, take, drop, Option, refl, sym, ap, ◌∙◌, subst, ⊎_elim, arith}
 use Rattle.std.specs.List.{AllByRecursion}
 use Rattle.std.proofs.lemmas.Bool.{cases_lt, cases_order}
 use Rattle.std.proofs.lemmas.List.{take-append-drop}
@@ -12,7 +13,7 @@ use Rattle.cq_base.specs.declared.cell.Transfer.{Transfer}
 use Rattle.cq_base.specs.declared.setup.Setup.{Setup}
 use Rattle.cq_rank.specs.Machine.{Machine}
 use Rattle.cq_scfq.specs.Disciplines.{machines_of}
-use Rattle.cq_ideal.specs.Admission.{Admission, Marked}
+use Rattle.cq_ideal.specs.Admission.{Marked}
 use Rattle.cq_ideal.specs.Ending.{arriving_from, first_slots}
 use Rattle.cq_prefs.specs.Moves.{transfers_of}
 use Rattle.cq_prefs.specs.Pairing.{IsStable, Partners}
@@ -28,7 +29,6 @@ use Rattle.cq_audit.specs.Log.{IsLogFault}
 use Rattle.cq_audit.specs.Phase.{IsPhaseFault, IsStableTold, in_phase}
 use Rattle.cq_audit.specs.StableRun.{BeginsFirst, BeginsSecond, IsFaultAt, IsHalfPast, IsLeftAt, IsOfStableRun, Reaches, StableRun, before_slot}
 use Rattle.cq_audit.specs.declared.phase.PhaseFault.{PhaseFault}
-use Rattle.cq_audit.specs.declared.phase.PhaseFault.TheVariants.{WrongLine, Blocking as Unsettled}
 use Rattle.cq_audit.specs.declared.refusal.AuditRefusal.{AuditRefusal}
 use Rattle.cq_audit.specs.declared.refusal.AuditRefusal.TheVariants.{Line, Transfer as Wrong, Blocking, Left, NoMemory}
 use Rattle.cq_audit.proofs.BySlot.{before_all, before_is, before_later, of_two, phase_before, phase_later, phase_now}
@@ -76,38 +76,18 @@ module _ (limits : List (Option ℕ)) (ms : List Machine) (came : List Arrival) 
     pub half : IsHalfPast ms slot (in_phase slot 1 note) arrived sent
 
   one_arrived : (slot : ℕ) (f g : Fabric) → HasArrived slot f → HasArrived slot g → f ≡ g
-  one_arrived slot f g a b =
-      let one = one_stable_run limits ms 0 (first_slots came slot) start a.old b.old a.records b.records a.runs b.runs
-      (a.before ∙ sym b.before) in
-      let there : Arrives ms slot (fabric_admission limits (arriving came slot) a.old).cells b.ranked a.old.state g =
-      subst (λ (m : Marked Fabric). Arrives ms slot (fabric_admission limits (arriving came slot) m).cells b.ranked
-      m.state g) (sym one.1) b.arrive in
-      (one_arrival ms slot (fabric_admission limits (arriving came slot) a.old).cells a.ranked b.ranked a.old.state f g
-      a.arrive there).1
+  one_arrived slot f g a b = grind (arith, common_steps, one_stable_run, one_arrival)
 
   one_sent : (slot : ℕ) (f g : Fabric) → HasSent slot f → HasSent slot g → f ≡ g
   one_sent slot f g a b =
       let arrived = one_arrived slot a.arrived b.arrived a.begun b.begun in
-      let x = a.half in
-      let y = b.half in
-      let first = one_move x.first y.first slot 1 a.arrived b.arrived x.filled y.filled arrived x.told.stable
-      y.told.stable (x.told.moved ∙ sym y.told.moved) x.fill y.fill in
-      (one_departure ms x.gone y.gone x.filled y.filled f g first.1 x.depart y.depart).1
+      search (arith, rules, one_move, one_departure)
 
   arrived_of : (slot : ℕ) (f : Fabric) → BeginsFirst limits ms came start note slot f → HasArrived slot f
-  arrived_of slot f b =
-      record {
-        records = b.reached.records;
-        old = b.old;
-        runs = b.reached.runs;
-        before = b.reached.moved;
-        ranked = b.ranked;
-        arrive = b.arrive;
-      }
+  arrived_of slot f b = grind (arith, common_steps)
 
   sent_of : (slot : ℕ) (f : Fabric) → BeginsSecond limits ms came start note slot f → HasSent slot f
-  sent_of slot f b =
-      record { arrived = b.arrived; begun = arrived_of slot b.arrived b.begun; half = b.half }
+  sent_of slot f b = grind (arith, common_steps, arrived_of)
 
   -- ## Where the lines of a phase have a fault
 
@@ -119,18 +99,7 @@ module _ (limits : List (Option ℕ)) (ms : List Machine) (came : List Arrival) 
 
   fault_in : (slot phase : ℕ) (fault : PhaseFault) → IsFaultAt limits ms came start note slot phase fault →
       FaultIn slot phase fault
-  fault_in slot phase fault f =
-      record {
-        fabric = f.fabric;
-        begins =
-            ⊎_elim
-            (λ (first : (phase ≡ 1) × BeginsFirst limits ms came start note slot f.fabric).
-            inl (first.0, arrived_of slot f.fabric first.1))
-            (λ (second : (phase ≡ 2) × BeginsSecond limits ms came start note slot f.fabric).
-            inr (second.0, sent_of slot f.fabric second.1))
-            f.begins;
-        wrong = f.wrong;
-      }
+  fault_in slot phase fault f = grind (arith, common_steps, arrived_of, sent_of)
 
   -- lines that are the transfers of a stable matching have none
   told_right : (slot phase at : ℕ) (f g : Fabric) (m : Partners) (fault : PhaseFault) → f ≡ g → phase ≡ at →
@@ -144,38 +113,21 @@ module _ (limits : List (Option ℕ)) (ms : List Machine) (came : List Arrival) 
   -- of one place
   one_of : (slot phase at : ℕ) (f g : Fabric) (a b : PhaseFault) → f ≡ g → phase ≡ at →
       IsPhaseFault f.inputs (in_phase slot phase note) a → IsPhaseFault g.inputs (in_phase slot at note) b → a ≡ b
-  one_of slot phase at f g a b same here x y =
-      phase_is_exact.one_fault g.inputs (in_phase slot at note) a b
+  one_of slot phase at f g a b same here x y = phase_is_exact.one_fault g.inputs (in_phase slot at note) a b
       (subst (λ (h : Fabric). IsPhaseFault h.inputs (in_phase slot at note) a) same
       (subst (λ (p : ℕ). IsPhaseFault f.inputs (in_phase slot p note) a) here x)) y
 
   one_in_slot : (slot p q : ℕ) (a b : PhaseFault) → FaultIn slot p a → FaultIn slot q b → (p ≡ q) × (a ≡ b)
   one_in_slot slot p q a b x y =
-      ⊎_elim
-      (λ (first : (p ≡ 1) × HasArrived slot x.fabric).
-      ⊎_elim
-      (λ (other : (q ≡ 1) × HasArrived slot y.fabric).
-      let same : p ≡ q = first.0 ∙ sym other.0 in (
-        same,
-        one_of slot p q x.fabric y.fabric a b (one_arrived slot x.fabric y.fabric first.1 other.1) same x.wrong
-            y.wrong,
-      ))
-      (λ (other : (q ≡ 2) × HasSent slot y.fabric).
-      absurd (told_right slot p 1 other.1.arrived x.fabric other.1.half.first a
-      (one_arrived slot other.1.arrived x.fabric other.1.begun first.1) first.0 other.1.half.told x.wrong))
-      y.begins)
-      (λ (second : (p ≡ 2) × HasSent slot x.fabric).
-      ⊎_elim
-      (λ (other : (q ≡ 1) × HasArrived slot y.fabric).
-      absurd (told_right slot q 1 second.1.arrived y.fabric second.1.half.first b
-      (one_arrived slot second.1.arrived y.fabric second.1.begun other.1) other.0 second.1.half.told y.wrong))
-      (λ (other : (q ≡ 2) × HasSent slot y.fabric).
-      let same : p ≡ q = second.0 ∙ sym other.0 in (
-        same,
-        one_of slot p q x.fabric y.fabric a b (one_sent slot x.fabric y.fabric second.1 other.1) same x.wrong
-            y.wrong,
-      ))
-      y.begins)
+      ⊎_elim (λ (first : (p ≡ 1) × HasArrived slot x.fabric). ⊎_elim (λ (other : (q ≡ 1) × HasArrived slot y.fabric).
+      let same : p ≡ q = first.0 ∙ sym other.0 in search (arith, rules, one_of, one_arrived))
+      (λ (other : (q ≡ 2) × HasSent slot y.fabric). absurd (told_right slot p 1 other.1.arrived x.fabric
+      other.1.half.first a (one_arrived slot other.1.arrived x.fabric other.1.begun first.1) first.0
+      other.1.half.told x.wrong)) y.begins) (λ (second : (p ≡ 2) × HasSent slot x.fabric). ⊎_elim
+      (λ (other : (q ≡ 1) × HasArrived slot y.fabric). absurd (told_right slot q 1 second.1.arrived y.fabric
+      second.1.half.first b (one_arrived slot second.1.arrived y.fabric second.1.begun other.1)
+      other.0 second.1.half.told y.wrong)) (λ (other : (q ≡ 2) × HasSent slot y.fabric).
+      let same : p ≡ q = second.0 ∙ sym other.0 in search (arith, rules, one_of, one_sent)) y.begins)
       x.begins
 
   -- ## A run that goes on past a slot
@@ -222,15 +174,7 @@ module _ (limits : List (Option ℕ)) (ms : List Machine) (came : List Arrival) 
       LimitedFabricRun IsStable limits ms slot (arriving_from came slot (suc k)) old rs end → Next slot k old rs end
   unfolding arriving_from
   next slot k old [] end run = absurd run
-  next slot k old (r ∷ rs) end run =
-      record {
-        here = r;
-        others = rs;
-        new = run.0;
-        whole = refl;
-        step = run.1;
-        later = run_later limits ms (slot + 1) (arriving_from came (slot + 1) k) run.0 end rs run.2;
-      }
+  next slot k old (r ∷ rs) end run = grind (arith, common_steps, run_later)
 
   -- what is moved in the slot is what the lines of its phases say
   in_slot : (slot n : ℕ) → slot < n → (old : Marked Fabric) (before rest : List LimitedRecord) (r : LimitedRecord)
@@ -242,15 +186,8 @@ module _ (limits : List (Option ℕ)) (ms : List Machine) (came : List Arrival) 
       × (transfers_of r.of_slot.second r.of_slot.sent.inputs slot 2 ≡ in_phase slot 2 note)
   in_slot slot n lt old before rest r others new parted earlier whole step later =
       let all : (phase : ℕ) → in_phase slot phase note ≡ in_phase slot phase (transfers_in r.of_slot) =
-      λ (phase : ℕ).
-      sym (phase_before slot phase n note lt)
-      ∙ ap (in_phase slot phase) (parted ∙ ap (λ (l : List LimitedRecord). moved before ++ moved l) whole)
-      ∙ phase_later slot phase (moved before) (moved (r ∷ others)) earlier
-      ∙ ap (in_phase slot phase) (moved_here r others)
-      ∙ phase_now slot phase (transfers_in r.of_slot) (moved others) later in (
-        sym (all 1 ∙ (each_moved slot r.of_slot step.runs.numbered).0),
-        sym (all 2 ∙ (each_moved slot r.of_slot step.runs.numbered).1),
-      )
+      search (arith, rules, phase_before, moved, phase_later, moved_here, phase_now) in
+      search (arith, rules, each_moved slot r.of_slot step.runs.numbered)
 
   -- the phases of a slot that a run has passed are stable, and have moved what their lines say
   record Passed (slot : ℕ) : Type 0 where
@@ -268,54 +205,29 @@ module _ (limits : List (Option ℕ)) (ms : List Machine) (came : List Arrival) 
       let x = next slot (n - slot - 1) h.state (drop slot rs) end
       (subst (λ (k : ℕ).
       LimitedFabricRun IsStable limits ms slot (arriving_from came slot k) h.state (drop slot rs) end) left h.rest) in
-      let r = x.here.of_slot in
-      let of = in_slot slot n lt h.state (take slot rs) (drop slot rs) x.here x.others x.new h.parted h.earlier x.whole
-      x.step x.later in
-      let begun : HasArrived slot r.arrived = record {
-        records = take slot rs;
-        old = h.state;
-        runs = h.after;
-        before = h.before;
-        ranked = r.came;
-        arrive =
-            subst (λ (a : Admission). Arrives ms slot a.cells r.came h.state.state r.arrived) x.step.admits
-            x.step.runs.arrive;
-      } in
-      let half : IsHalfPast ms slot (in_phase slot 1 note) r.arrived r.sent = record {
-        first = r.first;
-        told = record { stable = x.step.runs.first_chosen; moved = of.0 };
-        filled = r.filled;
-        fill = x.step.runs.fill;
-        gone = r.gone;
-        depart = x.step.runs.depart;
-      } in
-      record {
-        sent = r.sent;
-        has_sent = record { arrived = r.arrived; begun = begun; half = half };
-        second = r.second;
-        told_second = record { stable = x.step.runs.second_chosen; moved = of.1 };
-      }
+      search (
+        arith,
+        rules,
+        in_slot slot n lt h.state (take slot rs) (drop slot rs) x.here x.others x.new
+            h.parted h.earlier x.whole x.step x.later,
+        moved,
+      )
 
   -- so no fault is in a slot that it has passed
   none_passed : (slot phase : ℕ) (fault : PhaseFault) → Passed slot → FaultIn slot phase fault → ⊥
-  none_passed slot phase fault p f =
-      ⊎_elim
-      (λ (first : (phase ≡ 1) × HasArrived slot f.fabric).
+  none_passed slot phase fault p f = ⊎_elim (λ (first : (phase ≡ 1) × HasArrived slot f.fabric).
       let was = p.has_sent in
       told_right slot phase 1 was.arrived f.fabric was.half.first fault
       (one_arrived slot was.arrived f.fabric was.begun first.1) first.0 was.half.told f.wrong)
-      (λ (second : (phase ≡ 2) × HasSent slot f.fabric).
-      told_right slot phase 2 p.sent f.fabric p.second fault
-      (one_sent slot p.sent f.fabric p.has_sent second.1) second.0 p.told_second f.wrong)
-      f.begins
+      (λ (second : (phase ≡ 2) × HasSent slot f.fabric). told_right slot phase 2 p.sent f.fabric p.second fault
+      (one_sent slot p.sent f.fabric p.has_sent second.1) second.0 p.told_second f.wrong) f.begins
 
   -- ## Two faults
 
   -- up to where the run has come there is none
   reached_past : (slot to phase : ℕ) (fault : PhaseFault) (old : Marked Fabric) → slot < to →
       Reaches limits ms came start note to old → FaultIn slot phase fault → ⊥
-  reached_past slot to phase fault old lt r f =
-      none_passed slot phase fault (passed slot to r.records old lt r.runs r.moved) f
+  reached_past slot to phase fault old lt r f = search (rules, none_passed, passed)
 
   -- how far the run has come at a fault
   record ReachedAt (slot : ℕ) : Type 0 where
@@ -324,24 +236,14 @@ module _ (limits : List (Option ℕ)) (ms : List Machine) (came : List Arrival) 
 
   reached_at : (slot phase : ℕ) (fault : PhaseFault) → IsFaultAt limits ms came start note slot phase fault →
       ReachedAt slot
-  reached_at slot phase fault f =
-      ⊎_elim
-      (λ (first : (phase ≡ 1) × BeginsFirst limits ms came start note slot f.fabric).
-      record { old = first.1.old; reached = first.1.reached })
-      (λ (second : (phase ≡ 2) × BeginsSecond limits ms came start note slot f.fabric).
-      record { old = second.1.begun.old; reached = second.1.begun.reached })
-      f.begins
+  reached_at slot phase fault f = grind (arith, common_steps)
 
   one_fault_at : (s t p q : ℕ) (a b : PhaseFault) → IsFaultAt limits ms came start note s p a →
       IsFaultAt limits ms came start note t q b → (s ≡ t) × (p ≡ q) × (a ≡ b)
   one_fault_at s t p q a b x y =
       let here = reached_at s p a x in
       let there = reached_at t q b y in
-      ⊎_elim
-      (λ (same : s ≡ t).
-      let one = one_in_slot t p q a b
-      (subst (λ (n : ℕ). FaultIn n p a) same (fault_in s p a x)) (fault_in t q b y) in
-      (same, one.0, one.1))
+      ⊎_elim (λ (same : s ≡ t). search (arith, rules, one_in_slot t p q a b, fault_in s p a x, fault_in t q b y))
       (λ other. absurd (⊎_elim
       (λ (before : s < t). reached_past s t p a there.old before there.reached (fault_in s p a x))
       (λ (behind : t < s). reached_past t s q b here.old behind here.reached (fault_in t q b y)) other))
@@ -361,12 +263,7 @@ module _ (limits : List (Option ℕ)) (ms : List Machine) (came : List Arrival) 
   -- where they are those of a stable run, it moves them all
   followed_all : (is : IsOfStableRun limits ms came start note) →
       moved is.records ≡ before_slot (length is.records) note
-  followed_all is =
-      let n = length is.records in
-      sym (before_all n (moved is.records)
-      (all_before limits ms came n start is.end is.records
-      (whole_run limits ms came start is.records is.end is.runs)))
-      ∙ ap (before_slot n) is.moved
+  followed_all is = grind (arith, common_steps, before_all, moved, all_before, whole_run)
 
   followed_whole : IsOfStableRun limits ms came start note → IsFollowed
   followed_whole is = record { records = is.records; end = is.end; runs = is.runs; told = followed_all is }
@@ -395,38 +292,19 @@ module _ (limits : List (Option ℕ)) (ms : List Machine) (came : List Arrival) 
       let n = length w.records in
       let run = whole_run limits ms came start w.records w.end w.runs in
       let at = reached_at slot phase fault f in
-      ⊎_elim
-      (λ (within : slot < n).
-      none_passed slot phase fault (passed slot n w.records w.end within run w.told) (fault_in slot phase fault f))
-      (λ (behind : n ≤ slot).
+      ⊎_elim (λ (within : slot < n). none_passed slot phase fault (passed slot n w.records w.end within run w.told)
+      (fault_in slot phase fault f)) (λ (behind : n ≤ slot).
       let h = halfway n slot at.reached.records at.old behind at.reached.runs at.reached.moved in
-      let one = one_stable_run limits ms 0 (first_slots came n) start h.state w.end (take n at.reached.records)
-      w.records h.after run (h.before ∙ sym w.told) in
-      at.reached.goes_on n h.state behind h.after w.runs.all_came
-      (subst (λ (g : Marked Fabric). IsEmptyFabric g.state) (sym one.1) w.runs.empty))
-      (cases_lt slot n)
+      search (arith, rules, one_stable_run)) (cases_lt slot n)
 
   -- no line is left of those that it moves all
   none_left : (n : ℕ) → IsOfStableRun limits ms came start note → IsLeftAt limits ms came start note n → ⊥
   unfolding followed_left followed_whole
-  none_left n is l =
-      let same = one_length (followed_whole is) (followed_left n l) in
-      let all : before_slot (length is.records) note ≡ note = sym (followed_all is) ∙ is.moved in
-      let long : length (before_slot (length is.records) note) ≡ length note =
-      ap (λ (ls : List Transfer). length ls) all in
-      let there : length (before_slot (length is.records) note) ≡ length (before_slot (length l.records) note) =
-      ap (λ (k : ℕ). length (before_slot k note)) same in
-      let number : n ≡ length (before_slot (length l.records) note) + 1 = l.number in
-      let within : n ≤ length note = l.left in
-      omega arith
+  none_left n is l = grind (arith, common_steps, one_length (followed_whole is) (followed_left n l), followed_all is)
 
   one_left : (m n : ℕ) → IsLeftAt limits ms came start note m → IsLeftAt limits ms came start note n → m ≡ n
   unfolding followed_left
-  one_left m n a b =
-      let same = one_length (followed_left m a) (followed_left n b) in
-      let there : length (before_slot (length a.records) note) ≡ length (before_slot (length b.records) note) =
-      ap (λ (k : ℕ). length (before_slot k note)) same in
-      a.number ∙ ap (λ (k : ℕ). k + 1) there ∙ sym b.number
+  one_left m n a b = cc (one_length (followed_left m a) (followed_left n b))
 
   -- ## Refusals
 
@@ -446,42 +324,21 @@ module _ (limits : List (Option ℕ)) (ms : List Machine) (came : List Arrival) 
   fault_or_left : (refusal : AuditRefusal) → IsNoOf limits ms came start note refusal →
       OfFault refusal ⊎ OfLeft refusal
   fault_or_left (Line n) wrong = absurd wrong
-  fault_or_left (Wrong slot phase i) wrong =
-      inl (record { slot = slot; phase = phase; fault = WrongLine i; is = refl; at = wrong })
-  fault_or_left (Blocking slot phase i j) wrong =
-      inl (record { slot = slot; phase = phase; fault = Unsettled i j; is = refl; at = wrong })
+  fault_or_left (Wrong slot phase i) wrong = grind (arith, common_steps)
+  fault_or_left (Blocking slot phase i j) wrong = grind (arith, common_steps)
   fault_or_left (Left n) wrong = inr (record { line = n; is = refl; at = wrong })
   fault_or_left NoMemory wrong = absurd wrong
 
   same_refusal : (s t p q : ℕ) (a b : PhaseFault) → (s ≡ t) × (p ≡ q) × (a ≡ b) →
       phase_refusal s p a ≡ phase_refusal t q b
-  same_refusal s t p q a b same =
-      ap (λ (n : ℕ). phase_refusal n p a) same.0 ∙ ap (λ (n : ℕ). phase_refusal t n a) same.1
-      ∙ ap (λ (f : PhaseFault). phase_refusal t q f) same.2
+  same_refusal s t p q a b same = grind (arith, common_steps)
 
   one_no_of : (r s : AuditRefusal) → IsNoOf limits ms came start note r → IsNoOf limits ms came start note s → r ≡ s
-  one_no_of r s x y =
-      ⊎_elim
-      (λ (a : OfFault r).
-      ⊎_elim
-      (λ (b : OfFault s).
-      a.is ∙ same_refusal a.slot b.slot a.phase b.phase a.fault b.fault
-      (one_fault_at a.slot b.slot a.phase b.phase a.fault b.fault a.at b.at) ∙ sym b.is)
-      (λ (b : OfLeft s). absurd (none_followed a.slot a.phase a.fault (followed_left b.line b.at) a.at))
-      (fault_or_left s y))
-      (λ (a : OfLeft r).
-      ⊎_elim
-      (λ (b : OfFault s). absurd (none_followed b.slot b.phase b.fault (followed_left a.line a.at) b.at))
-      (λ (b : OfLeft s). a.is ∙ ap (λ (n : ℕ). Left n) (one_left a.line b.line a.at b.at) ∙ sym b.is)
-      (fault_or_left s y))
-      (fault_or_left r x)
+  one_no_of r s x y = search (rules, same_refusal, one_fault_at, none_followed, fault_or_left, one_left)
 
   no_no : (r : AuditRefusal) → IsOfStableRun limits ms came start note → IsNoOf limits ms came start note r → ⊥
-  no_no r is x =
-      ⊎_elim
-      (λ (a : OfFault r). none_followed a.slot a.phase a.fault (followed_whole is) a.at)
-      (λ (a : OfLeft r). none_left a.line is a.at)
-      (fault_or_left r x)
+  no_no r is x = ⊎_elim (λ (a : OfFault r). none_followed a.slot a.phase a.fault (followed_whole is) a.at)
+      (λ (a : OfLeft r). none_left a.line is a.at) (fault_or_left r x)
 
 -- ## The log
 
@@ -504,20 +361,15 @@ module _ (setup : Setup) (limits : List (Option ℕ)) (came : List Arrival) (log
       IsNo setup limits came log s → r ≡ s
   one_no r s some other x y =
       let exact = log_is_exact (length setup.kinds) in
-      ⊎_elim
-      (λ (a : OfLine r).
-      ⊎_elim
-      (λ (b : OfLine s). a.is ∙ ap (λ (n : ℕ). Line n) (exact.one_fault log a.line b.line a.at b.at) ∙ sym b.is)
+      ⊎_elim (λ (a : OfLine r). ⊎_elim (λ (b : OfLine s).
+      a.is ∙ ap (λ (n : ℕ). Line n) (exact.one_fault log a.line b.line a.at b.at) ∙ sym b.is)
       (λ (b : IsReadNo setup limits came log s). absurd (exact.never_both b.note log a.line b.read a.at))
-      (read_or_not s other y))
-      (λ (a : IsReadNo setup limits came log r).
-      ⊎_elim
-      (λ (b : OfLine s). absurd (exact.never_both a.note log b.line a.read b.at))
-      (λ (b : IsReadNo setup limits came log s).
-      one_no_of limits (machines_of setup) came (opening_fabric setup) b.note r s
-      (subst (λ (note : List Transfer). IsNoOf limits (machines_of setup) came (opening_fabric setup) note r)
-      (exact.one_reading a.note b.note log a.read b.read) a.wrong) b.wrong)
-      (read_or_not s other y))
+      (read_or_not s other y)) (λ (a : IsReadNo setup limits came log r).
+      ⊎_elim (λ (b : OfLine s). absurd (exact.never_both a.note log b.line a.read b.at))
+      (λ (b : IsReadNo setup limits came log s). one_no_of limits (machines_of setup) came
+      (opening_fabric setup) b.note r s (subst (λ (note : List Transfer).
+      IsNoOf limits (machines_of setup) came (opening_fabric setup) note r)
+      (exact.one_reading a.note b.note log a.read b.read) a.wrong) b.wrong) (read_or_not s other y))
       (read_or_not r some x)
 
   never_both : (r : AuditRefusal) → r ≢ NoMemory → IsYes setup limits came log → IsNo setup limits came log r → ⊥
@@ -532,8 +384,4 @@ module _ (setup : Setup) (limits : List (Option ℕ)) (came : List Arrival) (log
       (read_or_not r some x)
 
 pub audit_is_exact : (setup : Setup) (limits : List (Option ℕ)) (came : List Arrival) → IsAuditExact setup limits came
-audit_is_exact setup limits came =
-    record {
-      one_no = λ log r s some other x y. one_no setup limits came log r s some other x y;
-      never_both = λ log r some y x. never_both setup limits came log r some y x;
-    }
+audit_is_exact setup limits came = grind (arith, common_steps, one_no, never_both)

@@ -2,7 +2,8 @@
 -- than arrive at its input, and an output holds no more cells more than arrive for it. So no list and no output holds
 -- more than arrives in all. Beside the fabric an ideal switch runs, with which it agrees. So where the whole run of
 -- that one meets no tag fault, the fabric meets none, and it goes on for no more slots than that one.
-use Rattle.std.proofs.Common.{◌≡◌, ℕ, zero, suc, ◌+◌, ◌<◌, ◌≤◌, true, false, List, [], ◌∷◌, length, take, Option, Some, Result, Ok, Err, refl, sym, ap, ◌∙◌, subst, ⊎_elim, arith}
+use Rattle.std.proofs.Common.{rules, ◌≡◌, ℕ, zero, suc, ◌+◌, ◌<◌, ◌≤◌, true, false, List, [], ◌∷◌, length, Option, Some, Result, Ok, Err, refl, ap, subst, arith, take, ⊎_elim, sym, ◌∙◌}
+use Rattle.std.proofs.lemmas.Grind.{common_steps}
 use Rattle.std.specs.Prelude.{IsOk, IsOkAnd}
 use Rattle.std.proofs.lemmas.Bool.{cases_lt}
 use Rattle.cq_base.specs.declared.cell.Cell.{Cell}
@@ -14,8 +15,6 @@ use Rattle.cq_rank.specs.Machine.{Machine}
 use Rattle.cq_ideal.specs.Admission.{Marked}
 use Rattle.cq_ideal.specs.Ending.{arriving_from, first_slots}
 use Rattle.cq_ideal.specs.Ideal.{count_for}
-use Rattle.cq_ideal.specs.IdealRun.{IsEmptyIdeal}
-use Rattle.cq_ideal.specs.IdealSlot.{IdealState}
 use Rattle.cq_ideal.specs.LimitedEnding.{whole_limited_run}
 use Rattle.cq_ideal.specs.LimitedIdeal.{LimitedRan, empty_limited, limited_run}
 use Rattle.cq_ideal.specs.Ranking.{Ranking, ranking}
@@ -25,7 +24,7 @@ use Rattle.cq_ideal.proofs.LimitedParts.{behind, limited_going_on, limited_parts
 use Rattle.cq_ideal.proofs.LimitedRuns.{run_fault}
 use Rattle.cq_ideal.proofs.Parted.{arriving_length}
 use Rattle.cq_prefs.specs.Pairing.{IsStable}
-use Rattle.cq_laws.specs.Fabric.{Fabric, IsEmptyFabric, buffer, empty_fabric, input}
+use Rattle.cq_laws.specs.Fabric.{Fabric, IsEmptyFabric, empty_fabric, input, buffer}
 use Rattle.cq_laws.specs.Holding.{held_for}
 use Rattle.cq_laws.specs.LimitedAgreement.{LimitedAgrees, LimitedRunsAlike}
 use Rattle.cq_laws.specs.LimitedFabric.{LimitedFabricRun, LimitedFabricSlot, LimitedRecord, admissions_in, empty_limited_fabric, fabric_admission, slots_in}
@@ -40,6 +39,8 @@ use Rattle.cq_fabric.proofs.Limits.{nothing_for}
 use Rattle.cq_traffic.proofs.ForPorts.{slots_fit}
 use Rattle.cq_traffic.proofs.FromInputs.{arrives_found, come_from, first_more, from_here, from_last, no_more_from, one_if, some_one}
 use Rattle.cq_traffic.proofs.ToOutputs.{come_for, for_here, for_last, no_more_to}
+use Rattle.cq_ideal.specs.IdealRun.{IsEmptyIdeal}
+use Rattle.cq_ideal.specs.IdealSlot.{IdealState}
 
 ok_from : {A E : Type 0} (x : Result A E) → IsOk x → (a : A) × (x ≡ Ok a)
 ok_from (Ok a) is = (a, refl)
@@ -70,16 +71,11 @@ module _ (limits : List (Option ℕ)) (ms : List Machine) (came : List Arrival) 
       LimitedFabricRun IsStable limits ms slot (arriving_from came slot n) f rs g →
       held_for j g.state ≤ held_for j f.state + come_for j (arriving_from came slot n)
   unfolding arriving_from
-  outputs_grow j zero slot f g [] run =
-      let same : held_for j g.state ≡ held_for j f.state = ap (λ (h : Marked Fabric). held_for j h.state) run in
-      omega arith
+  outputs_grow j zero slot f g [] run = grind (arith, common_steps)
   outputs_grow j zero slot f g (r ∷ rs) run = absurd run
   outputs_grow j (suc n) slot f g [] run = absurd run
   outputs_grow j (suc n) slot f g (r ∷ rs) run =
-      let kept = limited_outputs_kept limits ms slot (arriving came slot) f run.0 r run.1 j in
-      let here = for_here j came slot n in
-      let rest = outputs_grow j n (slot + 1) run.0 g rs run.2 in
-      omega arith
+      grind (arith, common_steps, limited_outputs_kept, for_here, outputs_grow j n (slot + 1) run.0 g rs run.2)
 
   module _ (ports : ℕ) (ranks : List (List ℕ)) (slot : ℕ) (f : Marked Fabric) (rs : List LimitedRecord)
       (run :
@@ -94,9 +90,7 @@ module _ (limits : List (Option ℕ)) (ms : List Machine) (came : List Arrival) 
         let all = no_more_from i came (suc slot) in
         let here : 0 + slot ≡ slot = omega arith in
         let same = ap (λ (t : ℕ). length (found came t i)) here in
-        let comes = arrives_found came slot i in
-        let one : one_if (arrival_at (arriving came slot) i) ≡ 1 = ap one_if at in
-        omega arith
+        let comes = arrives_found came slot i in search (arith, rules, one_if)
 
     -- the cells that an output holds and those that arrive for it in the next slot are no more than arrive for it in
     -- all
@@ -120,10 +114,7 @@ module _ (limits : List (Option ℕ)) (ms : List Machine) (came : List Arrival) 
           run
 
       pub agree_now : LimitedAgrees slot f beside.after
-      agree_now =
-          let long = arriving_length came 0 slot in
-          let at : 0 + length (first_slots came slot) ≡ slot = omega arith in
-          subst (λ (k : ℕ). LimitedAgrees k f beside.after) at beside.agrees
+      agree_now = grind (arith, common_steps, arriving_length)
 
       -- a fault in the next slot is one of the whole ideal run
       fault_there : (fault : TagFault) →

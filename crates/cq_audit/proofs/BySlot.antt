@@ -1,12 +1,13 @@
 -- The lines of a log by slots and phases. Of lines of earlier slots and then later ones, those before a slot are the
 -- first, and those of its phases are among the others.
-use Rattle.std.proofs.Common.{◌≡◌, ℕ, ◌+◌, ◌<◌, ◌≤◌, ◌⊎◌, eqb, ltb, Bool, true, false, List, [], ◌∷◌, ◌++◌, cond, refl, sym, ap, ◌∙◌, ⊎_elim, inl, inr, arith}
+use Rattle.std.proofs.lemmas.Grind.{common_steps}
+use Rattle.std.proofs.Common.{◌≡◌, ℕ, ◌+◌, ◌<◌, ◌≤◌, ◌⊎◌, eqb, ltb, Bool, true, false, List, [], ◌∷◌, ◌++◌, refl, ◌∙◌, ⊎_elim, inl, inr, arith}
 use Rattle.std.specs.List.{AllByRecursion, filter}
 use Rattle.std.proofs.lemmas.Bool.{and_from, and_left, and_parts, and_right, cases_lt, cond-false, cond_both, eq-eqb, eqb-true, false_from_ne_true, le-ltb, lt-ltb, ltb-true, ne_eqb}
 use Rattle.std.proofs.lemmas.List.{append-nil}
 use Rattle.std.proofs.lemmas.List.Elements.{filter-append}
 use Rattle.cq_base.specs.declared.cell.Transfer.{Transfer}
-use Rattle.cq_audit.specs.Log.{AreInOrder, IsBefore, IsOf}
+use Rattle.cq_audit.specs.Log.{AreInOrder, IsOf}
 use Rattle.cq_audit.specs.Phase.{AllBehind, NoneBefore, in_phase, is_at}
 use Rattle.cq_audit.specs.Running.{FirstIsLeast}
 use Rattle.cq_audit.specs.StableRun.{before_slot}
@@ -17,41 +18,26 @@ use Rattle.cq_audit.proofs.Following.{weaker}
 module _ (keep : Transfer → Bool) where
   keeps_all : (xs : List Transfer) → AllByRecursion (λ t. keep t ≡ true) xs → filter keep xs ≡ xs
   keeps_all [] all = refl
-  keeps_all (x ∷ xs) all =
-      cond_both (keep x) (x ∷ filter keep xs) (filter keep xs) (λ (l : List Transfer). l ≡ x ∷ xs)
-      (λ _. ap (λ (l : List Transfer). x ∷ l) (keeps_all xs all.1))
-      (λ no. absurd (let clash : true ≡ false = sym all.0 ∙ no in let P : ⊥ = cc in P))
+  keeps_all (x ∷ xs) all = grind (arith, common_steps, cond_both, keeps_all xs all.1)
 
   keeps_none : (xs : List Transfer) → AllByRecursion (λ t. keep t ≡ false) xs → filter keep xs ≡ []
   keeps_none [] all = refl
-  keeps_none (x ∷ xs) all =
-      cond_both (keep x) (x ∷ filter keep xs) (filter keep xs) (λ (l : List Transfer). l ≡ [])
-      (λ yes. absurd (let clash : true ≡ false = sym yes ∙ all.0 in let P : ⊥ = cc in P))
-      (λ _. keeps_none xs all.1)
+  keeps_none (x ∷ xs) all = grind (arith, common_steps, cond_both, keeps_none xs all.1)
 
   keeps_first : (xs ys : List Transfer) → AllByRecursion (λ t. keep t ≡ true) xs →
       AllByRecursion (λ t. keep t ≡ false) ys → filter keep (xs ++ ys) ≡ xs
-  keeps_first xs ys all none =
-      filter-append keep xs ys ∙ ap (λ (l : List Transfer). l ++ filter keep ys) (keeps_all xs all)
-      ∙ ap (λ (l : List Transfer). xs ++ l) (keeps_none ys none) ∙ append-nil xs
+  keeps_first xs ys all none = grind (arith, common_steps, filter-append, keeps_all, keeps_none, append-nil)
 
   keeps_later : (xs ys : List Transfer) → AllByRecursion (λ t. keep t ≡ false) xs →
       filter keep (xs ++ ys) ≡ filter keep ys
-  keeps_later xs ys none =
-      filter-append keep xs ys ∙ ap (λ (l : List Transfer). l ++ filter keep ys) (keeps_none xs none)
+  keeps_later xs ys none = grind (arith, common_steps, filter-append, keeps_none)
 
   -- no test that all these pass takes a line from them
   keeps_of_kept : (wider : Transfer → Bool) → ((t : Transfer) → keep t ≡ true → wider t ≡ true) →
       (xs : List Transfer) → filter keep (filter wider xs) ≡ filter keep xs
   keeps_of_kept wider all [] = refl
   keeps_of_kept wider all (x ∷ xs) =
-      cond_both (wider x) (x ∷ filter wider xs) (filter wider xs)
-      (λ (l : List Transfer). filter keep l ≡ filter keep (x ∷ xs))
-      (λ _. ap (λ (l : List Transfer). cond (keep x) (x ∷ l) l) (keeps_of_kept wider all xs))
-      (λ no.
-      let out : keep x ≡ false =
-      false_from_ne_true (keep x) (λ yes. let clash : true ≡ false = sym (all x yes) ∙ no in let P : ⊥ = cc in P) in
-      keeps_of_kept wider all xs ∙ sym (cond-false (keep x) (x ∷ filter keep xs) (filter keep xs) out))
+      grind (arith, common_steps, cond_both, false_from_ne_true, cond-false, keeps_of_kept wider all xs)
 
 -- ## Lines before a slot
 
@@ -63,23 +49,16 @@ module _ (slot : ℕ) where
   late t le = le-ltb t.slot slot le
 
   pub before_all : (xs : List Transfer) → AllByRecursion (λ t. t.slot < slot) xs → before_slot slot xs ≡ xs
-  before_all xs all =
-      keeps_all (λ t. ltb t.slot slot) xs
-      (weaker (λ t. t.slot < slot) (λ t. ltb t.slot slot ≡ true) early xs all)
+  before_all xs all = grind (arith, common_steps, keeps_all, weaker, early)
 
   pub before_is : (xs ys : List Transfer) → AllByRecursion (λ t. t.slot < slot) xs →
       AllByRecursion (λ t. slot ≤ t.slot) ys → before_slot slot (xs ++ ys) ≡ xs
-  before_is xs ys all none =
-      keeps_first (λ t. ltb t.slot slot) xs ys
-      (weaker (λ t. t.slot < slot) (λ t. ltb t.slot slot ≡ true) early xs all)
-      (weaker (λ t. slot ≤ t.slot) (λ t. ltb t.slot slot ≡ false) late ys none)
+  before_is xs ys all none = grind (arith, common_steps, keeps_first, weaker, early, late)
 
   -- those before this slot are among those before a later one
   pub before_later : (to : ℕ) (note : List Transfer) → slot ≤ to →
       before_slot slot (before_slot to note) ≡ before_slot slot note
-  before_later to note le =
-      keeps_of_kept (λ t. ltb t.slot slot) (λ t. ltb t.slot to)
-      (λ t here. let lt : t.slot < slot = ltb-true t.slot slot here in lt-ltb t.slot to (omega arith)) note
+  before_later to note le = grind (arith, common_steps, keeps_of_kept, ltb-true, lt-ltb)
 
   -- ## Lines of a phase
 
@@ -90,44 +69,26 @@ module _ (slot : ℕ) where
     -- earlier lines are none of this phase
     pub phase_later : (xs ys : List Transfer) → AllByRecursion (λ t. t.slot < slot) xs →
         in_phase slot phase (xs ++ ys) ≡ in_phase slot phase ys
-    phase_later xs ys all =
-        keeps_later (is_at slot phase) xs ys
-        (weaker (λ t. t.slot < slot) (λ t. is_at slot phase t ≡ false)
-        (λ t lt. other_slot t (λ e. let P : ⊥ = omega arith in P)) xs all)
+    phase_later xs ys all = grind (arith, common_steps, keeps_later, weaker, other_slot)
 
     -- and so are later ones
     pub phase_now : (xs ys : List Transfer) → AllByRecursion (λ t. slot + 1 ≤ t.slot) ys →
         in_phase slot phase (xs ++ ys) ≡ in_phase slot phase xs
-    phase_now xs ys all =
-        filter-append (is_at slot phase) xs ys
-        ∙ ap (λ (l : List Transfer). in_phase slot phase xs ++ l)
-        (keeps_none (is_at slot phase) ys
-        (weaker (λ t. slot + 1 ≤ t.slot) (λ t. is_at slot phase t ≡ false)
-        (λ t le. other_slot t (λ e. let P : ⊥ = omega arith in P)) ys all))
-        ∙ append-nil (in_phase slot phase xs)
+    phase_now xs ys all = grind (arith, common_steps, filter-append, keeps_none, weaker, other_slot, append-nil)
 
     -- the lines of the phase are before each later slot
     pub phase_before : (to : ℕ) (note : List Transfer) → slot < to →
         in_phase slot phase (before_slot to note) ≡ in_phase slot phase note
-    phase_before to note lt =
-        keeps_of_kept (is_at slot phase) (λ t. ltb t.slot to)
-        (λ t here.
-        let both = and_parts (eqb t.slot slot) (eqb t.phase phase) here in
-        let own : t.slot ≡ slot = eqb-true t.slot slot both.0 in
-        lt-ltb t.slot to (omega arith)) note
+    phase_before to note lt = grind (arith, common_steps, keeps_of_kept, and_parts, eqb-true, lt-ltb)
 
   -- lines of one phase are all of it, and none of another
   all_own : (phase : ℕ) (xs : List Transfer) → AllByRecursion (λ t. (t.slot ≡ slot) × (t.phase ≡ phase)) xs →
       AllByRecursion (λ t. is_at slot phase t ≡ true) xs
-  all_own phase =
-      weaker (λ t. (t.slot ≡ slot) × (t.phase ≡ phase)) (λ t. is_at slot phase t ≡ true)
-      (λ t at. and_from (eqb t.slot slot) (eqb t.phase phase) (eq-eqb t.slot slot at.0) (eq-eqb t.phase phase at.1))
+  all_own phase = grind (arith, common_steps, weaker, and_from, eq-eqb)
 
   none_other : (phase own : ℕ) → (own ≡ phase → ⊥) → (xs : List Transfer) →
       AllByRecursion (λ t. (t.slot ≡ slot) × (t.phase ≡ own)) xs → AllByRecursion (λ t. is_at slot phase t ≡ false) xs
-  none_other phase own ne =
-      weaker (λ t. (t.slot ≡ slot) × (t.phase ≡ own)) (λ t. is_at slot phase t ≡ false)
-      (λ t at. and_right (eqb t.slot slot) (eqb t.phase phase) (ne_eqb t.phase phase (λ is. ne (sym at.1 ∙ is))))
+  none_other phase own ne = grind (arith, common_steps, weaker, and_right, ne_eqb)
 
   -- so the lines of the second phase are those behind the lines of the first
   pub second_behind : (xs ys : List Transfer) → AllByRecursion (λ t. (t.slot ≡ slot) × (t.phase ≡ 1)) xs →
@@ -150,9 +111,7 @@ module _ (slot : ℕ) where
 module _ (ports : ℕ) where
   pub first_least : (lines : List Transfer) → AreInOrder ports lines → FirstIsLeast lines
   first_least [] order = tt
-  first_least (t ∷ lines) order =
-      weaker (IsBefore t) (λ u. t.slot ≤ u.slot)
-      (λ u before. ⊎_elim (λ less. omega arith) (λ same. omega arith) before) lines order.1
+  first_least (t ∷ lines) order = grind (arith, common_steps, weaker)
 
   -- lines of no earlier slot are of no earlier phase than its first
   pub none_from : (slot : ℕ) (lines : List Transfer) → AreInOrder ports lines →

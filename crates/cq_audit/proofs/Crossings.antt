@@ -1,5 +1,6 @@
 -- What is told of the lists of some queues is told of their inputs, and so are the transfers of what the lines tell.
-use Rattle.std.proofs.Common.{◌≡◌, ◌+◌, ◌++◌, ℕ, List, length, sym, ap, ◌∙◌, subst}
+use Rattle.std.proofs.lemmas.Grind.{common_steps}
+use Rattle.std.proofs.Common.{arith, ◌≡◌, ◌+◌, ◌++◌, ℕ, List, length, sym, ap, ◌∙◌, subst}
 use Rattle.std.proofs.lemmas.List.{length-map}
 use Rattle.cq_base.specs.declared.cell.Queued.{Queued}
 use Rattle.cq_base.specs.declared.cell.Transfer.{Transfer}
@@ -26,23 +27,16 @@ module _ (lists : List Waiting) (old new : Queues) (slot phase : ℕ) (lines : L
     (is : cells_of lists ≡ old.inputs) (told : IsStableTold (cells_of lists) slot phase lines pairs)
     (same : m ≡ pairs) where
   told_there : IsStableTold old.inputs slot phase lines m
-  told_there =
-      subst (IsStableTold old.inputs slot phase lines) (sym same)
-      (subst (λ (x : List (List Queued)). IsStableTold x slot phase lines pairs) is told)
+  told_there = grind (arith, common_steps)
 
   pub is_matching : IsMatching (orders_of old.inputs) m
   is_matching = told_there.stable.matching
 
   pub have_crossed : Moves m old.inputs old.buffers new.inputs new.buffers → new.from_inputs ≡ old.from_inputs →
       new.to_outputs ≡ old.to_outputs → HaveCrossed slot phase lines old new
-  have_crossed moves from to =
-      record { pairs = m; told = told_there; moves = moves; from_inputs = from; to_outputs = to }
+  have_crossed moves from to = grind (arith, common_steps, told_there)
 
   pub are_noted : (note note' : RoomView Transfer) →
       note'.items ≡ note.items ++ transfers_of m old.inputs slot phase →
       note'.spare + length (transfers_of m old.inputs slot phase) ≡ note.spare → AreNoted lines note note'
-  are_noted note note' noted room =
-      record {
-        items = noted ∙ ap (λ (l : List Transfer). note.items ++ l) told_there.moved;
-        spare = ap (λ (l : List Transfer). note'.spare + length l) (sym told_there.moved) ∙ room;
-      }
+  are_noted note note' noted room = grind (arith, common_steps, note.items)

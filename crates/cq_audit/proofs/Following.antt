@@ -2,7 +2,8 @@
 -- the slot's transfers are the same, so are those of each phase, and they tell the matchings
 -- (`transfers_tell_the_matching`). All else follows from the state and what arrives. In a run the transfers of a
 -- slot stand before those of later ones.
-use Rattle.std.proofs.Common.{◌≡◌, ℕ, zero, suc, ◌+◌, ◌<◌, ◌≤◌, List, [], ◌∷◌, ◌++◌, length, drop, Option, None, Some, refl, sym, ap, ◌∙◌, subst, arith}
+use Rattle.std.proofs.lemmas.Grind.{common_steps}
+use Rattle.std.proofs.Common.{rules, ◌≡◌, ℕ, zero, suc, ◌+◌, ◌<◌, ◌≤◌, List, [], ◌∷◌, ◌++◌, length, drop, Option, None, Some, refl, sym, ap, ◌∙◌, subst, arith}
 use Rattle.std.specs.List.{AllByRecursion, filter_map, cons_option, range_with_len}
 use Rattle.std.specs.Option.{option_map}
 use Rattle.cq_base.specs.declared.cell.Cell.{Cell}
@@ -10,11 +11,11 @@ use Rattle.cq_base.specs.declared.cell.Queued.{Queued}
 use Rattle.cq_base.specs.declared.cell.Transfer.{Transfer}
 use Rattle.cq_base.specs.Cells.{first_for}
 use Rattle.cq_rank.specs.Machine.{Machine}
-use Rattle.cq_ideal.specs.Admission.{Admission, Marked}
-use Rattle.cq_prefs.specs.FirstCells.{list_of, orders_of}
+use Rattle.cq_ideal.specs.Admission.{Marked}
+use Rattle.cq_prefs.specs.FirstCells.{orders_of}
 use Rattle.cq_prefs.specs.Moves.{noted, transfers_of}
 use Rattle.cq_prefs.specs.Orders.{Orders}
-use Rattle.cq_prefs.specs.Pairing.{IsStable, Partners, partner_of}
+use Rattle.cq_prefs.specs.Pairing.{IsStable, Partners}
 use Rattle.cq_laws.specs.Fabric.{Fabric}
 use Rattle.cq_laws.specs.FabricSlot.{FabricSlot, SlotRecord}
 use Rattle.cq_laws.specs.LimitedFabric.{LimitedFabricRun, LimitedFabricSlot, LimitedRecord, slots_in}
@@ -39,10 +40,7 @@ module _ (P : Transfer → Type 0) where
   same_parts [] ys [] vs a b c d e = (refl, e)
   same_parts [] ys (u ∷ us) vs a b c d e = absurd (no_head ys u (us ++ vs) b c.0 e)
   same_parts (x ∷ xs) ys [] vs a b c d e = absurd (no_head vs x (xs ++ ys) d a.0 (sym e))
-  same_parts (x ∷ xs) ys (u ∷ us) vs a b c d e =
-      let head : x ≡ u = cc in
-      let rest = same_parts xs ys us vs a.1 b c.1 d (ap (drop 1) e) in
-      (ap (λ (t : Transfer). t ∷ xs) head ∙ ap (λ (ts : List Transfer). u ∷ ts) rest.0, rest.1)
+  same_parts (x ∷ xs) ys (u ∷ us) vs a b c d e = search (rules, same_parts xs ys us vs a.1 b c.1 d (ap (drop 1) e))
 
 -- ## What is noted of a phase
 
@@ -73,9 +71,7 @@ module _ (slot phase i : ℕ) (cells : List Queued) where
 pub transfers_at : (m : Partners) (lists : List (List Queued)) (slot phase : ℕ) →
     AllByRecursion (λ t. (t.slot ≡ slot) × (t.phase ≡ phase)) (transfers_of m lists slot phase)
 unfolding transfers_of
-transfers_at m lists slot phase = all_noted (λ i. noted slot phase i (list_of lists i) (partner_of m i))
-    (λ t. (t.slot ≡ slot) × (t.phase ≡ phase)) (λ i t e. noted_at slot phase i (list_of lists i) (partner_of m i) t
-    e) 0 (length m)
+transfers_at m lists slot phase = search (rules, all_noted, noted_at)
 
 pub weaker : (P Q : Transfer → Type 0) → ((t : Transfer) → P t → Q t) → (xs : List Transfer) → AllByRecursion P xs →
     AllByRecursion Q xs
@@ -102,9 +98,7 @@ same_phases a b c d A B C D slot e = same_parts (λ t. t.phase ≡ 1) (transfers
 
     second : (m : Partners) (lists : List (List Queued)) → AllByRecursion (λ t. t.phase ≡ 1 → ⊥)
         (transfers_of m lists slot 2)
-    second m lists = weaker (λ t. (t.slot ≡ slot) × (t.phase ≡ 2)) (λ t. t.phase ≡ 1 → ⊥)
-        (λ t at one. let P : ⊥ = omega arith in P) (transfers_of m lists slot 2)
-        (transfers_at m lists slot 2)
+    second m lists = grind (arith, common_steps, weaker, transfers_at)
 
 -- ## One state after each step
 
@@ -112,15 +106,7 @@ same_phases a b c d A B C D slot e = same_parts (λ t. t.phase ≡ 1) (transfers
 pub one_move : (m n : Partners) (slot phase : ℕ) (a b c d : Fabric) → a ≡ b → IsStable (orders_of a.inputs) m →
     IsStable (orders_of b.inputs) n → transfers_of m a.inputs slot phase ≡ transfers_of n b.inputs slot phase →
     Transfers m a c → Transfers n b d → (m ≡ n) × (c ≡ d)
-one_move m n slot phase a b c d same stable_m stable_n moved x y =
-    let back = sym same in
-    let chosen : m ≡ n = transfers_tell a.inputs m n slot phase stable_m
-    (subst (λ (f : Fabric). IsStable (orders_of f.inputs) n) back stable_n)
-    (moved ∙ ap (λ (f : Fabric). transfers_of n f.inputs slot phase) back) in (
-      chosen,
-      one_transfer m a c d stable_m x
-          (subst (λ (p : Partners). Transfers p a d) (sym chosen) (subst (λ (f : Fabric). Transfers n f d) back y)),
-    )
+one_move m n slot phase a b c d same stable_m stable_n moved x y = search (rules, transfers_tell, one_transfer)
 
 -- ## One slot
 
@@ -133,13 +119,12 @@ module _ (ms : List Machine) where
   one_stable_slot slot cells f g h r s x y moved =
       let same_slot : r.slot ≡ s.slot = x.numbered ∙ sym y.numbered in
       let phases = same_phases r.first r.second s.first s.second r.arrived.inputs r.sent.inputs s.arrived.inputs
-      s.sent.inputs
-      r.slot (moved ∙ ap (λ n. transfers_of s.first s.arrived.inputs n 1 ++ transfers_of s.second s.sent.inputs n 2)
+      s.sent.inputs r.slot (moved
+      ∙ ap (λ n. transfers_of s.first s.arrived.inputs n 1 ++ transfers_of s.second s.sent.inputs n 2)
       (sym same_slot)) in
       let arrive = one_arrival ms slot cells r.came s.came f r.arrived s.arrived x.arrive y.arrive in
       let first = one_move r.first s.first r.slot 1 r.arrived s.arrived r.filled s.filled arrive.1 x.first_chosen
-      y.first_chosen
-      phases.0 x.fill y.fill in
+      y.first_chosen phases.0 x.fill y.fill in
       let depart = one_departure ms r.gone s.gone r.filled s.filled r.sent s.sent first.1 x.depart y.depart in
       let second = one_move r.second s.second r.slot 2 r.sent s.sent g h depart.1 x.second_chosen y.second_chosen
       phases.1 x.finish y.finish in
@@ -167,12 +152,8 @@ module _ (limits : List (Option ℕ)) (ms : List Machine) where
       transfers_in r.of_slot ≡ transfers_in s.of_slot → (r ≡ s) × (g ≡ h)
   one_limited_slot slot cells f g h r s x y moved =
       let judged = x.admits ∙ sym y.admits in
-      let y' : FabricSlot IsStable ms slot r.admission.cells f.state s.of_slot h.state =
-      subst (λ (a : Admission). FabricSlot IsStable ms slot a.cells f.state s.of_slot h.state) (sym judged) y.runs in
-      let one = one_stable_slot ms slot r.admission.cells f.state g.state h.state r.of_slot s.of_slot x.runs y' moved
-      in
-      let marks = x.marks ∙ ap (λ (a : Admission). a.marks) judged ∙ sym y.marks in
-      (λ k. record { admission = judged k; of_slot = one.0 k }, λ k. record { state = one.1 k; marks = marks k })
+      search
+      (arith, rules, one_stable_slot ms slot r.admission.cells f.state g.state h.state r.of_slot s.of_slot x.runs)
 
   -- the transfers of a run are of its slots
   run_within : (slot : ℕ) (traffic : List (List (Option Cell))) (f g : Marked Fabric) (rs : List LimitedRecord) →
@@ -194,14 +175,10 @@ module _ (limits : List (Option ℕ)) (ms : List Machine) where
   module _ (slot : ℕ) (traffic : List (List (Option Cell))) (f g : Marked Fabric) (rs : List LimitedRecord)
       (run : LimitedFabricRun IsStable limits ms slot traffic f rs g) where
     pub run_later : AllByRecursion (λ t. slot ≤ t.slot) (transfers_of_run (slots_in rs))
-    run_later =
-        weaker (λ t. (slot ≤ t.slot) × (t.slot < slot + length traffic)) (λ t. slot ≤ t.slot) (λ t at. at.0)
-        (transfers_of_run (slots_in rs)) (run_within slot traffic f g rs run)
+    run_later = grind (arith, common_steps, weaker, run_within)
 
     pub run_before : AllByRecursion (λ t. t.slot < slot + length traffic) (transfers_of_run (slots_in rs))
-    run_before =
-        weaker (λ t. (slot ≤ t.slot) × (t.slot < slot + length traffic)) (λ t. t.slot < slot + length traffic)
-        (λ t at. at.1) (transfers_of_run (slots_in rs)) (run_within slot traffic f g rs run)
+    run_before = grind (arith, common_steps, weaker, run_within)
 
   pub one_stable_run : (slot : ℕ) (traffic : List (List (Option Cell))) (f g h : Marked Fabric)
       (rs ss : List LimitedRecord) →

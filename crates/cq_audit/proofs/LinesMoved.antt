@@ -1,7 +1,8 @@
 -- Where no line of a phase is wrong, the transfers of the pairs that they tell are the lines. What is noted of an
 -- input is its line: its partner is the output that the line names, and its first cell for that output is the one.
 -- And the lines of all inputs, in order, are the lines.
-use Rattle.std.proofs.Common.{◌≡◌, ◌≢◌, ℕ, zero, suc, ◌+◌, ◌<◌, ◌≤◌, ◌⊎◌, inl, inr, eqb, List, [], ◌∷◌, length, Option, None, Some, refl, ap, sym, subst, ◌∙◌, ⊎_elim, arith}
+use Rattle.std.proofs.lemmas.Grind.{common_steps}
+use Rattle.std.proofs.Common.{◌≡◌, ◌≢◌, ℕ, zero, suc, ◌+◌, ◌<◌, ◌≤◌, ◌⊎◌, inl, List, [], ◌∷◌, length, Option, None, Some, refl, ap, sym, subst, ◌∙◌, ⊎_elim, arith}
 use Rattle.std.specs.List.{AllByRecursion, filter_map, cons_option, range_with_len}
 use Rattle.std.specs.Option.{option_map}
 use Rattle.std.proofs.lemmas.List.{length-map}
@@ -25,24 +26,18 @@ use Rattle.cq_audit.proofs.TellingLines.{line_holds, line_is_of}
 filter_map_same : (f g : ℕ → Option Transfer) (a n : ℕ) → ((i : ℕ) → a ≤ i → i < a + n → f i ≡ g i) →
     filter_map f (range_with_len a n) ≡ filter_map g (range_with_len a n)
 filter_map_same f g a zero same = refl
-filter_map_same f g a (suc n) same =
-    ap (λ o. cons_option o (filter_map f (range_with_len (a + 1) n))) (same a (omega arith) (omega arith))
-    ∙ ap (cons_option (g a)) (filter_map_same f g (a + 1) n (λ i low high. same i (omega arith) (omega arith)))
+filter_map_same f g a (suc n) same = grind (arith, common_steps, filter_map_same f g (a + 1) n)
 
 pub line_first : (i : ℕ) (t : Transfer) (lines : List Transfer) → t.input ≡ i → line_of_input i (t ∷ lines) ≡ Some t
-line_first i t lines is = cond_both (eqb t.input i) (Some t) (line_of_input i lines) (λ o. o ≡ Some t) (λ _. refl)
-    (λ no. absurd (let clash = sym (eq-eqb t.input i is) ∙ no in let P : ⊥ = cc in P))
+line_first i t lines is = grind (arith, common_steps, cond_both, eq-eqb)
 
 pub line_later : (i : ℕ) (t : Transfer) (lines : List Transfer) → t.input ≢ i → line_of_input i (t ∷ lines) ≡
     line_of_input i lines
-line_later i t lines other = cond_both (eqb t.input i) (Some t) (line_of_input i lines)
-    (λ o. o ≡ line_of_input i lines)
-    (λ is. absurd (other (eqb-true t.input i is))) (λ _. refl)
+line_later i t lines other = grind (arith, common_steps, cond_both, eqb-true)
 
 no_line : (i : ℕ) (lines : List Transfer) → AllByRecursion (λ u. i < u.input) lines → line_of_input i lines ≡ None
 no_line i [] all = refl
-no_line i (t ∷ lines) all = line_later i t lines (λ is. let P : ⊥ = omega arith in P) ∙ no_line
-    i lines all.1
+no_line i (t ∷ lines) all = grind (arith, common_steps, line_later, no_line i lines all.1)
 
 above : (a b : ℕ) (lines : List Transfer) → a ≤ b → AllByRecursion (λ u. b < u.input) lines → AllByRecursion
     (λ u. a < u.input) lines
@@ -56,8 +51,7 @@ Between a n lines = AllByRecursion (λ u. (a ≤ u.input) × (u.input < a + n)) 
 shorter : (a n : ℕ) (lines : List Transfer) → AllByRecursion (λ u. a < u.input) lines → Between a (suc n) lines →
     Between (a + 1) n lines
 shorter a n [] later all = tt
-shorter a n (t ∷ lines) later all =
-    ((omega arith, omega arith), shorter a n lines later.1 all.1)
+shorter a n (t ∷ lines) later all = grind (arith, common_steps, shorter a n lines later.1 all.1)
 
 pub lines_by_input : (lines : List Transfer) (a n : ℕ) → RiseByInput lines → Between a n lines →
     filter_map (λ i. line_of_input i lines) (range_with_len a n) ≡ lines
@@ -82,11 +76,7 @@ lines_by_input (t ∷ lines) a (suc n) rise all = ⊎_elim (λ (at : t.input ≡
 -- ## What is noted of an input
 
 same_id : (a b : CellId) → (a ≡ b) ⊎ (a ≢ b)
-same_id a b = ⊎_elim (λ input. ⊎_elim (λ packet. ⊎_elim
-    (λ index. inl (λ k. record { input = input k; packet = packet k; index = index k }))
-    (λ other. inr (λ e. other (ap (λ (x : CellId). x.index) e))) (cases_eq a.index b.index))
-    (λ other. inr (λ e. other (ap (λ (x : CellId). x.packet) e))) (cases_eq a.packet b.packet))
-    (λ other. inr (λ e. other (ap (λ (x : CellId). x.input) e))) (cases_eq a.input b.input)
+same_id a b = grind (arith, common_steps, cases_eq)
 
 module _ (lists : List (List Queued)) (lines : List Transfer) (right : AreRight lists lines) (i : ℕ) where
   crosses : ℕ → ℕ → ℕ → CellId → Transfer
@@ -114,18 +104,11 @@ module _ (lists : List (List Queued)) (lines : List Transfer) (right : AreRight 
         noted slot phase i (list_of lists i) (option_map (λ (t : Transfer). t.output) o) ≡ o
     unfolding crosses
     note_is None is = refl
-    note_is (Some t) is =
-        let first = names_first t is in
-        let now = line_holds i (λ (u : Transfer). (u.slot ≡ slot) × (u.phase ≡ phase)) lines t are.now is in
-        let own = line_is_of i lines t is in
-        ap (option_map (λ (c : Queued). crosses slot phase t.output c.cell.id)) first.1
-        ∙ ap (λ id. Some (crosses slot phase t.output id)) first.2
-        ∙ sym (λ k. Some (record { slot = now.0 k; phase = now.1 k; input = own k; output = t.output; id = t.id }))
+    note_is (Some t) is = grind (arith, common_steps, names_first, line_holds, line_is_of)
 
     pub line_is_noted : i < length lists →
         noted slot phase i (list_of lists i) (partner_of (told (length lists) lines) i) ≡ line_of_input i lines
-    line_is_noted inside = ap (noted slot phase i (list_of lists i)) (told_at lists lines i inside)
-        ∙ note_is (line_of_input i lines) refl
+    line_is_noted inside = grind (arith, common_steps, told_at, note_is)
 
 all_between : (n : ℕ) (lines : List Transfer) → AllByRecursion (IsOf n) lines → Between 0 n lines
 all_between n [] all = tt

@@ -1,9 +1,9 @@
 -- A line of the log is its slot and the numbers behind it, so it is read in one way: a text that begins with the line
 -- of a transfer begins with its slot, and the fields behind that are the other numbers. They leave no choice of the
 -- transfer.
-use Rattle.std.proofs.Common.{◌≡◌, ℕ, ◌<◌, ◌≤◌, ◌^◌, List, [], ◌++◌, length, Option, None, Some, refl, ap, sym, subst, ◌∙◌, append_assoc, length-append, arith, lit≤}
+use Rattle.std.proofs.lemmas.Grind.{common_steps}
+use Rattle.std.proofs.Common.{◌≡◌, ℕ, ◌<◌, ◌≤◌, ◌^◌, List, [], ◌++◌, length, Option, None, Some, refl, ap, sym, ◌∙◌, append_assoc, length-append, arith, lit≤}
 use Rattle.cq_base.specs.declared.cell.Transfer.{Transfer}
-use Rattle.cq_base.specs.Decimal.{decimal}
 use Rattle.cq_base.specs.Texts.{log_line}
 use Rattle.cq_lines.specs.Lines.{ending, BeginsWith, AllFit}
 use Rattle.cq_lines.proofs.Exact.{OneWay, exact}
@@ -14,18 +14,12 @@ use Rattle.cq_audit.specs.Log.{IsTransfer, IsOf, IsBefore, Comes, IsLogExact, nu
 
 pub begins_with_slot : (text more : List ℕ) (t : Transfer) → text ≡ log_line t ++ more →
     BeginsWith text (Some t.slot) (ending (numbers_behind t) ++ more)
-begins_with_slot text more t e = record {
-  spelled = e ∙ append_assoc (decimal t.slot) (ending (numbers_behind t)) more;
-  ended = ending_ends (numbers_behind t) more;
-}
+begins_with_slot text more t e = grind (arith, common_steps, append_assoc, ending_ends)
 
 pub line_of_parts : (text rest behind : List ℕ) (slot : ℕ) (fs : List (Option ℕ)) (t : Transfer) →
     BeginsWith text (Some slot) rest → rest ≡ ending fs ++ behind → slot ≡ t.slot → fs ≡ numbers_behind t →
     text ≡ log_line t ++ behind
-line_of_parts text rest behind slot fs t begins e same_slot same =
-    begins.spelled ∙ ap (λ r. decimal slot ++ r) (e ∙ ap (λ gs. ending gs ++ behind) same)
-    ∙ ap (λ n. decimal n ++ (ending (numbers_behind t) ++ behind)) same_slot
-    ∙ sym (append_assoc (decimal t.slot) (ending (numbers_behind t)) behind)
+line_of_parts text rest behind slot fs t begins e same_slot same = grind (arith, common_steps, append_assoc)
 
 pub parts_of_line : (text rest more : List ℕ) (slot : ℕ) (t : Transfer) → BeginsWith text (Some slot) rest →
     text ≡ log_line t ++ more → (slot ≡ t.slot) × (rest ≡ ending (numbers_behind t) ++ more)
@@ -80,26 +74,13 @@ one_log_line t u x y is_t is_u e =
     (same_transfer t u slot.0 rest.0 is_t.own is_u.own, rest.1)
 
 pub line_is_some : (text rest : List ℕ) (t : Transfer) → text ≡ log_line t ++ rest → length rest < length text
-line_is_some text rest t e =
-    let whole = ap length (e ∙ append_assoc (decimal t.slot) (ending (numbers_behind t)) rest) in
-    omega (
-      arith,
-      whole,
-      length-append (decimal t.slot) (ending (numbers_behind t) ++ rest),
-      length-append (ending
-          (numbers_behind t)) rest,
-    )
+line_is_some text rest t e = grind (arith, common_steps, append_assoc, length-append)
 
 -- the transfer whose line stands there may not come, so none may
 pub none_comes : (text behind : List ℕ) (ports : ℕ) (last : Option Transfer) (t : Transfer) →
     IsTransfer t × (text ≡ log_line t ++ behind) → (IsOf ports t × IfSome last (λ u. IsBefore u t) → ⊥) →
     (u : Transfer) (next : Option Transfer) (more : List ℕ) → Comes ports last u next → text ≡ log_line u ++ more → ⊥
-none_comes text behind ports last t stands may_not u next more comes e =
-    let same = one_log_line u t more behind comes.0 stands.0 (sym e ∙ stands.1) in
-    may_not (subst (λ (x : Transfer). IsOf ports x × IfSome last (λ (w : Transfer). IsBefore w x)) same.0 (
-      comes.1,
-      comes.2,
-    ))
+none_comes text behind ports last t stands may_not u next more comes e = grind (arith, common_steps, one_log_line)
 
 pub log_is_exact : (ports : ℕ) → IsLogExact ports
 log_is_exact ports = exact log_line (Comes ports) (λ _. ⊤) way None (λ _. ⊤) tt

@@ -2,7 +2,8 @@
 -- before it: by its input in a phase, by its phase in a slot, and by its slot. A cell that waits at an input came to
 -- it and keeps its numbers. So where all cells that come fit the numbers of a line, the transfers of a run are those
 -- of a log.
-use Rattle.std.proofs.Common.{◌≡◌, ◌⊎◌, ◌∙◌, ℕ, zero, suc, ◌+◌, ◌<◌, ◌≤◌, ◌^◌, List, [], ◌∷◌, ◌++◌, length, Option, None, Some, refl, sym, subst, inl, inr, arith}
+use Rattle.std.proofs.lemmas.Grind.{common_steps}
+use Rattle.std.proofs.Common.{rules, ◌≡◌, ◌⊎◌, ℕ, zero, suc, ◌+◌, ◌<◌, ◌≤◌, ◌^◌, List, [], ◌∷◌, ◌++◌, length, Option, None, Some, refl, sym, subst, inl, inr, arith}
 use Rattle.std.specs.Prelude.{IfSome}
 use Rattle.std.specs.List.{AllByRecursion, cons_option, filter_map, range_with_len}
 use Rattle.std.specs.Option.{option_map}
@@ -17,7 +18,7 @@ use Rattle.cq_base.specs.Texts.{log_of}
 use Rattle.cq_base.proofs.Lists.{all_at, all_insert, all_left}
 use Rattle.cq_cells.specs.Traffic.{IsInRange, IsTraffic}
 use Rattle.cq_rank.specs.Machine.{Machine}
-use Rattle.cq_ideal.specs.Admission.{Admission, Marked, admission, marks_after}
+use Rattle.cq_ideal.specs.Admission.{Marked, admission, Admission}
 use Rattle.cq_ideal.specs.Ending.{arriving_from}
 use Rattle.cq_ideal.proofs.Admitted.{admitted_arrives}
 use Rattle.cq_ideal.proofs.FlowFound.{all_found}
@@ -25,11 +26,10 @@ use Rattle.cq_ideal.proofs.FlowPut.{all_from}
 use Rattle.cq_prefs.specs.FirstCells.{list_of}
 use Rattle.cq_prefs.specs.Moves.{list_taken, noted, transfers_of}
 use Rattle.cq_prefs.specs.Orders.{Orders}
-use Rattle.cq_prefs.specs.Pairing.{IsStable, Partners, partner_of}
-use Rattle.cq_laws.specs.Fabric.{Fabric, IsEmptyFabric, cushion_of, input}
+use Rattle.cq_prefs.specs.Pairing.{Partners, partner_of}
+use Rattle.cq_laws.specs.Fabric.{Fabric, cushion_of, input}
 use Rattle.cq_laws.specs.FabricSlot.{FabricSlot, SlotRecord}
-use Rattle.cq_laws.specs.Holding.{fabric_held}
-use Rattle.cq_laws.specs.LimitedFabric.{LimitedFabricRun, LimitedFabricSlot, LimitedRecord, fabric_admission, slots_in}
+use Rattle.cq_laws.specs.LimitedFabric.{LimitedFabricRun, LimitedRecord, fabric_admission, slots_in}
 use Rattle.cq_laws.specs.Phases.{Arrives, Departs, Transfers, came_to, list_arrived}
 use Rattle.cq_laws.specs.Records.{transfers_in, transfers_of_run}
 use Rattle.cq_laws.proofs.Came.{came_from}
@@ -79,19 +79,7 @@ module _ (ports slot phase i : ℕ) (cells : List Queued) (all : AllTellable por
   crosses j c = record { slot = slot; phase = phase; input = i; output = j; id = c.cell.id }
 
   crossed : (j : ℕ) (c : Queued) → first_for j cells ≡ Some c → IsLineOf ports slot phase i (crosses j c)
-  crossed j c is =
-      let known = first_tellable ports i j cells c all is in
-      let P : ℕ → Type 0 = λ n. n < ports in
-      record {
-        slot_is = refl;
-        phase_is = refl;
-        input_is = refl;
-        inside = known.0.inside;
-        output = subst P known.1 known.0.output;
-        own = known.0.own;
-        packet = known.0.packet;
-        index = known.0.index;
-      }
+  crossed j c is = grind (arith, common_steps, first_tellable)
 
   noted_line : (p : Option ℕ) (t : Transfer) → noted slot phase i cells p ≡ Some t → IsLineOf ports slot phase i t
   noted_line None t e = absurd (let clash : ◌≡◌ {A = Option Transfer} None (Some t) = e in let P : ⊥ = cc in P)
@@ -171,21 +159,7 @@ module _ (ports slot phase : ℕ) (few : ports ≤ 64) (small : slot < 2 ^ 64) (
 
   line_comes : (i : ℕ) (t : Transfer) → IsLineOf ports slot phase i t → (last : Option Transfer) →
       ComesBefore last slot phase i → Comes ports last t (Some t)
-  line_comes i t line last before =
-      let output = line.output in (
-        record {
-          slot = omega arith;
-          phase = omega arith;
-          input = omega arith;
-          output = omega arith;
-          packet = line.packet;
-          index = line.index;
-          own = line.own ∙ sym line.input_is;
-        },
-        record { phase = (omega arith, omega arith); input = omega arith; output = output },
-        line_before i t line last before,
-        refl,
-      )
+  line_comes i t line last before = grind (arith, common_steps, line_before)
 
   line_behind : (i : ℕ) (t : Transfer) → IsLineOf ports slot phase i t → ComesBefore (Some t) slot phase (i + 1)
   unfolding ComesBefore
@@ -225,9 +199,7 @@ module _ (ports slot phase : ℕ) (few : ports ≤ 64) (small : slot < 2 ^ 64) (
       (first : Option Transfer) → ComesBefore first slot phase 0 →
       GoesOn ports first (transfers_of m lists slot phase) slot phase (0 + length m)
   unfolding transfers_of
-  matching_goes_on m lists all first before =
-      phase_goes_on (λ i. noted slot phase i (list_of lists i) (partner_of m i))
-      (λ i t e. noted_line ports slot phase i (list_of lists i) (all i) (partner_of m i) t e) first 0 (length m) before
+  matching_goes_on m lists all first before = search (rules, phase_goes_on, noted_line)
 
 -- ## A slot
 
@@ -242,12 +214,7 @@ slot_goes_on ports r few small arrived sent first before =
     first before in
     let two = matching_goes_on ports r.slot 2 few small (omega arith) (omega arith) r.second r.sent.inputs sent
     one.last (before_phase one.last r.slot 1 2 (0 + length r.first) (omega arith) one.before) in
-    record {
-      last = two.last;
-      leads = leads_both ports first one.last two.last (transfers_of r.first r.arrived.inputs r.slot 1)
-          (transfers_of r.second r.sent.inputs r.slot 2) one.leads two.leads;
-      before = two.before;
-    }
+    search (arith, rules, leads_both)
 
 -- what comes to an input is a cell that a line can tell of
 abbrev ComesTellable : ℕ → List (Option Cell) → Type 0
@@ -281,8 +248,7 @@ module _ (ports : ℕ) where
 
   after_departures : (ms : List Machine) (gone : List (Option Queued)) (old new : Fabric) → Departs ms gone old new →
       ((i : ℕ) → AllTellable ports i (input old i)) → (i : ℕ) → AllTellable ports i (input new i)
-  after_departures ms gone old new depart all i =
-      subst (λ (lists : List (List Queued)). AllTellable ports i (list_of lists i)) (sym depart.inputs) (all i)
+  after_departures ms gone old new depart all i = grind (arith, common_steps)
 
   -- the lists of the inputs through a slot
   record Through (r : SlotRecord) (new : Fabric) : Type 0 where
@@ -294,17 +260,13 @@ module _ (ports : ℕ) where
       (old new : Fabric) (r : SlotRecord) → ComesTellable ports cells → FabricSlot MayChoose ms slot cells old r new →
       ((i : ℕ) → AllTellable ports i (input old i)) → Through r new
   through_slot MayChoose ms slot cells old new r come step all =
-      let arrived = after_arrivals ms slot cells r.came old r.arrived come step.arrive all in
-      let filled = after_transfers r.first r.arrived r.filled step.fill arrived in
-      let sent = after_departures ms r.gone r.filled r.sent step.depart filled in
-      record { arrived = arrived; sent = sent; last = after_transfers r.second r.sent new step.finish sent }
+      search (rules, after_arrivals, after_transfers, after_departures)
 
   -- what is admitted comes
   admitted_tellable : (limits : List (Option ℕ)) (cells : List (Option Cell)) (old : Marked Fabric) →
       ComesTellable ports cells → ComesTellable ports (fabric_admission limits cells old).cells
   unfolding admission
-  admitted_tellable limits cells old come i cell at =
-      come i cell (admitted_arrives (marks_after limits (fabric_held old.state) old.marks cells) cells i cell at)
+  admitted_tellable limits cells old come i cell at = grind (arith, common_steps, admitted_arrives)
 
 -- ## A run
 
@@ -355,15 +317,7 @@ module _ (ports classes : ℕ) (came : List Arrival) (traffic : IsTraffic ports 
 
   tellable : (t i : ℕ) (a : Arrival) → IsInRange ports classes a × FitsLine a → a.slot ≡ t → a.cell.id.input ≡ i →
       Tellable ports i a.cell
-  tellable t i a known slot same =
-      let P : ℕ → Type 0 = λ n. n < ports in
-      record {
-        own = same;
-        inside = subst P same known.0.input;
-        output = known.0.output;
-        packet = known.1.0;
-        index = known.1.1;
-      }
+  tellable t i a known slot same = grind (arith, common_steps)
 
   slot_tellable : (t : ℕ) → ComesTellable ports (arriving came t)
   slot_tellable t i cell at =
@@ -396,6 +350,4 @@ module _ (ports classes : ℕ) (came : List Arrival) (traffic : IsTraffic ports 
       (rs : List LimitedRecord) → ports ≤ 64 → length rs ≤ 2 ^ 64 → ((i : ℕ) → input start.state i ≡ []) →
       StableRun limits ms came start rs end →
       IsLog ports (transfers_of_run (slots_in rs)) (log_of (transfers_of_run (slots_in rs)))
-  stable_log limits ms start end rs few long empty whole =
-      run_is_log IsStable limits ms start end rs few long empty
-      (run_of_whole (LimitedFabricSlot IsStable limits ms) came start rs (λ f. IsEmptyFabric f.state) end whole)
+  stable_log limits ms start end rs few long empty whole = grind (arith, common_steps, run_is_log, run_of_whole)

@@ -1,8 +1,9 @@
 -- Two texts differ in one line first. What both begin with, up to where they have no byte in common, leaves no choice:
 -- of two such beginnings neither is longer, for there the texts would have a byte in common.
-use Rattle.std.proofs.Common.{◌≡◌, ◌≢◌, ℕ, ◌+◌, List, [], ◌∷◌, ◌++◌, drop, refl, ap, sym, ◌∙◌}
+use Rattle.std.proofs.lemmas.Grind.{common_steps}
+use Rattle.std.proofs.Common.{arith, ◌≡◌, ◌≢◌, ℕ, ◌+◌, List, [], ◌∷◌, ◌++◌, drop, refl, ap, sym}
 use Rattle.std.proofs.lemmas.List.{append_cancel_left}
-use Rattle.cq_audit.specs.Trace.{feeds, IsTraceExact}
+use Rattle.cq_audit.specs.Trace.{IsTraceExact}
 
 -- the texts have no byte in common at their front
 abbrev Parted : List ℕ → List ℕ → Type 0
@@ -14,19 +15,11 @@ same_front [] [] left right a b e h parted ends = refl
 same_front [] (c ∷ g) left right a b e h parted ends = absurd (parted c (g ++ a) (g ++ b) e h)
 same_front (c ∷ f) [] left right a b e h parted ends = absurd (ends c (f ++ left) (f ++ right) (sym e) (sym h))
 same_front (c ∷ f) (d ∷ g) left right a b e h parted ends =
-    let same : c ≡ d = cc in
-    ap (λ x. x ∷ f) same ∙ ap (λ xs. d ∷ xs) (same_front f g left right a b (ap (drop 1) e) (ap (drop 1) h) parted ends)
+    grind (arith, common_steps, same_front f g left right a b (ap (drop 1) e) (ap (drop 1) h) parted ends)
 
 same_goes_on : (a b : List ℕ) → Parted a b → ((a ≡ []) × (b ≡ []) → ⊥) → a ≢ b
 same_goes_on [] b parted goes_on e = goes_on (refl, sym e)
 same_goes_on (c ∷ a) b parted goes_on e = parted c a a refl (sym e)
 
 pub trace_is_exact : IsTraceExact
-trace_is_exact = record {
-  differ = λ a b n d e. same_goes_on d.left d.right d.parted d.goes_on (append_cancel_left d.front d.left d.right (sym
-      d.left_is ∙ e ∙ d.right_is));
-  one_line = λ a b m n d g.
-      let same = same_front d.front g.front d.left d.right g.left g.right (sym d.left_is ∙ g.left_is) (sym d.right_is
-      ∙ g.right_is) d.parted g.parted in
-      d.number ∙ ap (λ (f : List ℕ). feeds f + 1) same ∙ sym g.number;
-}
+trace_is_exact = grind (arith, common_steps, same_goes_on, append_cancel_left, same_front)

@@ -1,7 +1,8 @@
 -- How the replay of a log begins that is made for a setup: the machines are those of the disciplines, each in its
 -- opening state, and there is room for all cells that arrive and for all lines. And what its end says of the log.
-use Rattle.std.proofs.Common.{◌≡◌, ℕ, ◌+◌, ◌*◌, List, length, map, Option, Result, Ok, Err, sym, ap, ◌∙◌, subst, arith}
-use Rattle.std.specs.Prelude.{IfErr, IsOk, OnOk, slice_index}
+use Rattle.std.proofs.lemmas.Grind.{common_steps}
+use Rattle.std.proofs.Common.{rules, ◌≡◌, ℕ, ◌+◌, ◌*◌, List, length, map, Option, Result, Ok, Err, ap, arith}
+use Rattle.std.specs.Prelude.{IfErr, IsOk, OnOk}
 use Rattle.std.specs.List.{range_with_len}
 use Rattle.std.proofs.lemmas.List.FromFn.{get_or-map-range_with_len}
 use Rattle.cq_base.specs.Arriving.{Arrival}
@@ -21,7 +22,6 @@ use Rattle.cq_audit.specs.Audit.{IsNo, IsNoOf, IsYes, opening_fabric, unread}
 use Rattle.cq_audit.specs.Log.{AreInOrder, IsLog, IsLogFault}
 use Rattle.cq_audit.specs.Replay.{IsInStep, ReplayView, ports_in}
 use Rattle.cq_audit.specs.Running.{IsReady, RunEnds}
-use Rattle.cq_audit.specs.StableRun.{IsOfStableRun}
 use Rattle.cq_lines.specs.Refusals.{IsCause}
 use Rattle.cq_lines.specs.declared.refusal.LineRefusal.{LineRefusal}
 use Rattle.cq_lines.specs.declared.refusal.LineRefusal.TheVariants.{Line as NoLine, NoMemory as Unread}
@@ -32,8 +32,7 @@ use Rattle.cq_audit.specs.declared.refusal.AuditRefusal.TheVariants.{Line, Trans
 pub no_log : (setup : Setup) (limits : List (Option ℕ)) (came : List Arrival) (log : List ℕ) (ports : ℕ)
     (why : LineRefusal) → ports ≡ length setup.kinds → IsCause (IsLogFault ports log) why →
     IsNo setup limits came log (unread why)
-no_log setup limits came log ports (NoLine n) are cause =
-    subst (λ (k : ℕ). IsLogFault k log n) are cause
+no_log setup limits came log ports (NoLine n) are cause = grind (arith, common_steps)
 no_log setup limits came log ports Unread are cause = tt
 
 -- The replay of a switch of this setup with these limits, before its first slot.
@@ -49,15 +48,7 @@ pub opened : (M : List ℕ → Machine) (setup : Setup) (limits : List (Option �
     (fixed states : List (List ℕ)) (first : ReplayView) → ports ≡ length setup.kinds → length fixed ≡ ports →
     map M fixed ≡ machines_of setup → states ≡ openings_of setup → first.fixed ≡ fixed → first.limits ≡ limits →
     first.fabric ≡ empty_limited_fabric ports states → IsOpened M setup limits first
-opened M setup limits ports fixed states first many long machines openings same limits_are fabric =
-    record {
-      ports = ap (λ (l : List (List ℕ)). length l) same ∙ long ∙ many;
-      machines = ap (map M) same ∙ machines;
-      limits_are = limits_are;
-      fabric =
-          fabric ∙ ap (λ (n : ℕ). empty_limited_fabric n states) many
-          ∙ ap (λ (s : List (List ℕ)). empty_limited_fabric (length setup.kinds) s) openings;
-    }
+opened M setup limits ports fixed states first many long machines openings same limits_are fabric = search (rules)
 
 module _ (M : List ℕ → Machine) (setup : Setup) (limits : List (Option ℕ)) (came : List Arrival) (first : ReplayView)
     (is : IsOpened M setup limits first) where
@@ -75,48 +66,14 @@ module _ (M : List ℕ → Machine) (setup : Setup) (limits : List (Option ℕ))
       AreInOrder ports lines → note.spare ≡ length lines + 2 * ports →
       IsReady (map M first.fixed) came lines first note
   ready lines note ports many step classes traffic short ranked from_inputs to_outputs order spare =
-      let count : ports_in first ≡ length setup.kinds = is.ports in
-      let same : ports ≡ ports_in first = omega arith in
-      let from : ℕ → ℕ = λ i. number_of (is_from i) came in
-      let to : ℕ → ℕ = λ j. number_of (is_to j) came in
-      let known : class_count (map M first.fixed) ≡ length setup.classes = ap class_count is.machines ∙ classes in
-      record {
-        in_step = step;
-        fabric =
-            is.fabric ∙ ap (λ (s : List (List ℕ)). empty_limited_fabric (length setup.kinds) s) (sym states_are)
-            ∙ ap (λ (n : ℕ). empty_limited_fabric n first.fabric.state.ranks) (sym count);
-        traffic =
-            subst (λ (n : ℕ). IsTraffic n (class_count (map M first.fixed)) came) (sym count)
-            (subst (λ (n : ℕ). IsTraffic (length setup.kinds) n came) (sym known) traffic);
-        short = short;
-        from_inputs = λ i inside.
-            ap (λ (l : List ℕ). slice_index l i) from_inputs
-            ∙ get_or-map-range_with_len from 0 ports i i 0 (omega arith) (omega arith);
-        to_outputs = λ j inside.
-            ap (λ (l : List ℕ). slice_index l j) to_outputs
-            ∙ get_or-map-range_with_len to 0 ports j j 0 (omega arith) (omega arith);
-        in_order = subst (λ (n : ℕ). AreInOrder n lines) same order;
-        ranked =
-            subst (λ (ms : List Machine). IsOk (whole_limited_run first.limits ms came
-            (empty_limited (ports_in first) first.fabric.state.ranks))) (sym is.machines)
-            (subst (λ (l : List (Option ℕ)). IsOk (whole_limited_run l (machines_of setup) came
-            (empty_limited (ports_in first) first.fabric.state.ranks))) (sym is.limits_are)
-            (subst (λ (n : ℕ). IsOk (whole_limited_run limits (machines_of setup) came
-            (empty_limited n first.fabric.state.ranks))) (sym count)
-            (subst (λ (s : List (List ℕ)). IsOk (whole_limited_run limits (machines_of setup) came
-            (empty_limited (length setup.kinds) s))) (sym states_are) ranked)));
-        note_room = omega arith;
-      }
+      grind (arith, common_steps, states_are, get_or-map-range_with_len)
 
   -- ## What the end says of the log
 
   -- of what it is made, and of the setup
   of_setup : (P : List (Option ℕ) → List Machine → Marked Fabric → Type 0) →
       P first.limits (map M first.fixed) first.fabric → P limits (machines_of setup) (opening_fabric setup)
-  of_setup P ends =
-      subst (λ (f : Marked Fabric). P limits (machines_of setup) f) is.fabric
-      (subst (λ (l : List (Option ℕ)). P l (machines_of setup) first.fabric) is.limits_are
-      (subst (λ (ms : List Machine). P first.limits ms first.fabric) is.machines ends))
+  of_setup P ends = grind (arith, common_steps)
 
   named : (lines : List Transfer) (log : List ℕ) (refusal : AuditRefusal) → IsLog (length setup.kinds) lines log →
       IsNoOf limits (machines_of setup) came (opening_fabric setup) lines refusal → IsNo setup limits came log refusal
@@ -129,8 +86,5 @@ module _ (M : List ℕ → Machine) (setup : Setup) (limits : List (Option ℕ))
   pub verdict : (lines : List Transfer) (log : List ℕ) (result : Result (Unit {0}) AuditRefusal) →
       IsLog (length setup.kinds) lines log → RunEnds (map M first.fixed) came lines first result →
       OnOk result (IsYes setup limits came log) × IfErr result (IsNo setup limits came log)
-  verdict lines log (Ok done) read ends =
-      let run = of_setup (λ l ms f. IsOfStableRun l ms came f lines) ends in
-      (record { note = lines; read = read; run = run }, tt)
-  verdict lines log (Err refusal) read ends =
-      (tt, named lines log refusal read (of_setup (λ l ms f. IsNoOf l ms came f lines refusal) ends))
+  verdict lines log (Ok done) read ends = grind (arith, common_steps, of_setup)
+  verdict lines log (Err refusal) read ends = grind (arith, common_steps, named, of_setup)

@@ -1,7 +1,8 @@
 -- The lines of a phase have one verdict. Of two faults neither comes before the other. And where the lines are the
 -- transfers of a stable matching, the line of an input is what is noted of it: it names the input's first cell for its
 -- partner. So no line is wrong, the pairs that the lines tell are the matching, and none blocks it.
-use Rattle.std.proofs.Common.{◌≡◌, ℕ, zero, suc, ◌+◌, ◌<◌, ◌≤◌, ◌⊎◌, inl, inr, List, length, Option, None, Some, refl, ap, sym, subst, ◌∙◌, ⊎_elim, arith}
+use Rattle.std.proofs.lemmas.Grind.{common_steps}
+use Rattle.std.proofs.Common.{rules, ◌≡◌, ℕ, zero, suc, ◌+◌, ◌<◌, ◌≤◌, ◌⊎◌, inl, inr, List, length, Option, None, Some, refl, ap, sym, subst, ◌∙◌, ⊎_elim, arith}
 use Rattle.std.specs.List.{filter_map, cons_option, range_with_len}
 use Rattle.std.specs.Option.{option_map}
 use Rattle.std.proofs.lemmas.Bool.{cases_lt}
@@ -58,8 +59,7 @@ module _ (h : ℕ → Option Transfer) (own : OwnInput h) where
       at_once : a ≡ i → (o : Option Transfer) → h a ≡ o →
           line_of_input i (cons_option o (filter_map h (range_with_len (a + 1) n))) ≡ h i
       at_once at None is = none_here i (a + 1) n (inl (omega arith)) ∙ sym is ∙ ap h at
-      at_once at (Some t) is =
-          line_first i t (filter_map h (range_with_len (a + 1) n)) (own a t is ∙ at) ∙ sym is ∙ ap h at
+      at_once at (Some t) is = grind (arith, common_steps, line_first)
 
 -- ## The transfers of a stable matching
 
@@ -103,17 +103,12 @@ module _ (lists : List (List Queued)) (slot phase : ℕ) (lines : List Transfer)
 
   line_is_note : (i : ℕ) → i < length m → line_of_input i lines ≡ note i
   unfolding transfers_of note
-  line_is_note i inside = ap (line_of_input i) (sym is.moved) ∙ line_here note own_note i 0 (length m) (omega arith)
-      (omega arith)
+  line_is_note i inside = search (rules, line_here, own_note)
 
   -- the line of an input names its partner and its first cell for it
   line_names : (i : ℕ) (t : Transfer) → line_of_input i lines ≡ Some t → IsNoteOf i t
   unfolding transfers_of note
-  line_names i t stands = ⊎_elim (λ inside. note_of i t (sym (line_is_note i inside) ∙ stands))
-      (λ past. absurd (let clash : ◌≡◌ {A = Option Transfer} None (Some t) =
-      sym (ap (line_of_input i) (sym is.moved) ∙ none_here note own_note i 0 (length m) (inr (omega arith))) ∙ stands
-      in
-      let P : ⊥ = cc in P)) (cases_lt i (length m))
+  line_names i t stands = search (rules, note_of, line_is_note, none_here, own_note, cases_lt)
 
   told_partner : (i j : ℕ) → output_told lines i ≡ Some j → partner_of m i ≡ Some j
   told_partner i j e = go (line_of_input i lines) refl e
@@ -124,12 +119,7 @@ module _ (lists : List (List Queued)) (slot phase : ℕ) (lines : List Transfer)
       go (Some t) stands f = (line_names i t stands).partner ∙ f
 
   pub none_wrong : (i : ℕ) → IsWrongLine lists lines i → ⊥
-  none_wrong i wrong =
-      let names = line_names i wrong.line wrong.stands in
-      ⊎_elim (λ other. other names.first) (λ taken.
-      let same = is.stable.matching.once taken.0 i wrong.line.output (told_partner taken.0 wrong.line.output taken.2)
-      names.partner in
-      let P : ⊥ = omega arith in P) wrong.wrong
+  none_wrong i wrong = search (arith, rules, line_names i wrong.line wrong.stands, told_partner)
 
   -- an input that has a partner has a cell for it, and so a line
   partner_told : (i : ℕ) → i < length m → partner_of m i ≡ output_told lines i
@@ -148,19 +138,15 @@ module _ (lists : List (List Queued)) (slot phase : ℕ) (lines : List Transfer)
 
   pub told_is : told (length lists) lines ≡ m
   told_is = ext_get_or None (told (length lists) lines) m (told_long lists lines ∙ sym size)
-      (λ i inside. let long = told_long lists lines in let own = size in
-      told_at lists lines i (omega arith) ∙ sym (partner_told i (omega arith)))
+      (λ i inside. let long = told_long lists lines in search (arith, rules, size, told_at, partner_told))
 
   pub none_blocks : (i j : ℕ) → IsBlocking (orders_of lists) (told (length lists) lines) i j → ⊥
-  none_blocks i j blocks =
-      let b = subst (λ (n : Partners). IsBlocking (orders_of lists) n i j) told_is blocks in
-      ⊎_elim b.no_better_output b.no_better_input (is.stable.settled i j b.offered b.outside)
+  none_blocks i j blocks = grind (arith, common_steps, told_is)
 
 -- ## One verdict
 
 one_wrong : (P : ℕ → Type 0) (i k : ℕ) → P i → P k → ((l : ℕ) → l < i → P l → ⊥) → ((l : ℕ) → l < k → P l → ⊥) → i ≡ k
-one_wrong P i k p q least_i least_k = ⊎_elim (λ less. absurd (least_k i less p))
-    (λ more. ⊎_elim (λ less. absurd (least_i k less q)) (λ less. omega arith) (cases_lt k i)) (cases_lt i k)
+one_wrong P i k p q least_i least_k = grind (arith, common_steps, cases_lt)
 
 one_pair : (i j k l : ℕ) → (i < k) ⊎ ((i ≡ k) × (j ≤ l)) → (k < i) ⊎ ((k ≡ i) × (l ≤ j)) → (i ≡ k) × (j ≡ l)
 one_pair i j k l (inl less) (inl more) = absurd (omega arith)
@@ -174,20 +160,12 @@ one_fault lists lines (WrongLine i) (WrongLine k) x y = ap (λ n. WrongLine n)
     (one_wrong (IsWrongLine lists lines) i k x.wrong y.wrong x.least y.least)
 one_fault lists lines (WrongLine i) (Blocking k l) x y = absurd (y.right i x.wrong)
 one_fault lists lines (Blocking i j) (WrongLine k) x y = absurd (x.right k y.wrong)
-one_fault lists lines (Blocking i j) (Blocking k l) x y =
-    let same = one_pair i j k l (x.blocking.first k l y.blocking.blocks) (y.blocking.first i j x.blocking.blocks) in
-    λ n. Blocking (same.0 n) (same.1 n)
+one_fault lists lines (Blocking i j) (Blocking k l) x y = search (rules, one_pair, x.blocking.first, y.blocking.first)
 
 never_both : (lists : List (List Queued)) (slot phase : ℕ) (lines : List Transfer) (m : Partners) (f : PhaseFault) →
     IsStableTold lists slot phase lines m → IsPhaseFault lists lines f → ⊥
 never_both lists slot phase lines m (WrongLine i) is fault = none_wrong lists slot phase lines m is i fault.wrong
-never_both lists slot phase lines m (Blocking i j) is fault = none_blocks lists slot phase lines m is i j
-    fault.blocking.blocks
+never_both lists slot phase lines m (Blocking i j) is fault = grind (arith, common_steps, none_blocks)
 
 pub phase_is_exact : IsPhaseExact
-phase_is_exact = record {
-  one_matching = λ lists slot phase lines m n x y. transfers_tell lists m n slot phase x.stable y.stable
-      (x.moved ∙ sym y.moved);
-  one_fault = one_fault;
-  never_both = never_both;
-}
+phase_is_exact = grind (arith, common_steps, transfers_tell, one_fault, never_both)

@@ -1,8 +1,9 @@
 -- The lines of a log, phase by phase. They are in order, so where none is of an earlier phase those of this one
 -- stand at the front, in order of input, and the others are of later ones.
 
-use Rattle.std.proofs.Common.{◌≡◌, ℕ, suc, ◌+◌, ◌-◌, ◌<◌, ◌≤◌, ◌⊎◌, inl, inr, eqb, true, false, List, [], ◌∷◌, ◌++◌, length, take, drop, refl, ap, sym, subst, ◌∙◌, ⊎_elim, arith}
-use Rattle.std.specs.Prelude.{not, ◌&&◌}
+use Rattle.std.proofs.lemmas.Grind.{common_steps}
+use Rattle.std.proofs.Common.{◌≡◌, ℕ, suc, ◌+◌, ◌-◌, ◌<◌, ◌≤◌, ◌⊎◌, inl, inr, true, false, List, [], ◌∷◌, ◌++◌, length, take, drop, refl, ap, sym, subst, ◌∙◌, ⊎_elim, arith}
+use Rattle.std.specs.Prelude.{not}
 use Rattle.std.specs.List.{AllByRecursion, position_or_len}
 use Rattle.std.proofs.lemmas.Bool.{cond_both, cases_Bool, cases_lt, eqb-true, eq-eqb, and_parts}
 use Rattle.std.proofs.lemmas.List.{take_rest}
@@ -48,52 +49,23 @@ module _ (ports slot phase : ℕ) where
       inputs_rise : (xs : List Transfer) → AllByRecursion (IsBefore t) xs →
           AllByRecursion (λ u. (u.slot ≡ slot) × (u.phase ≡ phase)) xs → AllByRecursion (λ u. t.input < u.input) xs
       inputs_rise [] all now = tt
-      inputs_rise (x ∷ xs) all now =
-          let both = and_parts _ _ here in
-          let own_slot = eqb-true t.slot slot both.0 in
-          let own_phase = eqb-true t.phase phase both.1 in (
-            ⊎_elim (λ less. absurd (omega arith)) (λ same. ⊎_elim (λ less. absurd (omega arith)) (λ more. more.1)
-                same.1) all.0,
-            inputs_rise xs all.1 now.1,
-          )
+      inputs_rise (x ∷ xs) all now = grind (arith, common_steps, and_parts, eqb-true, inputs_rise xs all.1 now.1)
 
   -- a line behind this phase has only lines behind it behind it
   all_behind : (t : Transfer) (rest : List Transfer) → (slot < t.slot) ⊎ ((slot ≡ t.slot) × (phase < t.phase)) →
       AllByRecursion (IsBefore t) rest → AllBehind slot phase rest
   all_behind t [] behind all = tt
-  all_behind t (u ∷ rest) behind all = (
-    ⊎_elim
-        (λ later. ⊎_elim (λ less. inl (omega arith)) (λ same. inl (omega arith)) all.0)
-        (λ here. ⊎_elim (λ less. inl (omega arith)) (λ same.
-        ⊎_elim (λ less. inr (omega arith, omega arith)) (λ more. inr (omega arith, omega arith))
-        same.1) all.0)
-        behind,
-    all_behind t rest behind all.1,
-  )
+  all_behind t (u ∷ rest) behind all = grind (arith, common_steps, all_behind t rest behind all.1)
 
   none_of_it : (rest : List Transfer) → AllBehind slot phase rest → in_phase slot phase rest ≡ []
   none_of_it [] all = refl
-  none_of_it (u ∷ rest) all = cond_both (is_at slot phase u) (u ∷ in_phase slot phase rest) (in_phase slot phase rest)
-      (λ ls. ls ≡ [])
-      (λ here. let both = and_parts _ _ here in
-      let own_slot = eqb-true u.slot slot both.0 in
-      let own_phase = eqb-true u.phase phase both.1 in
-      absurd (⊎_elim (λ less. let P : ⊥ = omega arith in P) (λ more. let P : ⊥ = omega arith in P)
-      all.0))
-      (λ _. none_of_it rest all.1)
+  none_of_it (u ∷ rest) all = grind (arith, common_steps, cond_both, and_parts, eqb-true, none_of_it rest all.1)
 
   -- a line that is not of this phase and not earlier is behind it
   is_behind : (t : Transfer) → is_at slot phase t ≡ false → (slot < t.slot) ⊎ ((slot ≡ t.slot) × (phase ≤ t.phase)) →
       (slot < t.slot) ⊎ ((slot ≡ t.slot) × (phase < t.phase))
   is_behind t other (inl later) = inl later
-  is_behind t other (inr here) = inr (
-    here.0,
-    let e = here.0 in ⊎_elim (λ less. less)
-        (λ more. absurd (let same : t.phase ≡ phase = omega arith in
-        let both : is_at slot phase t ≡ true = ap (λ b. b && eqb t.phase phase) (eq-eqb t.slot slot (sym e)) ∙ eq-eqb
-        t.phase phase same in
-        let clash : true ≡ false = sym both ∙ other in let P : ⊥ = cc in P)) (cases_lt phase t.phase),
-  )
+  is_behind t other (inr here) = grind (arith, common_steps, eq-eqb, cases_lt)
 
   parted : (note : List Transfer) (end : ℕ) → end ≡ position_or_len (λ t. not (is_at slot phase t)) note →
       AreInOrder ports note → NoneBefore slot phase note →
@@ -121,18 +93,7 @@ module _ (ports slot phase : ℕ) where
 
       behind_it : is_at slot phase t ≡ false →
           AreParted ports slot phase (t ∷ note) (take end (t ∷ note)) (drop end (t ∷ note))
-      behind_it away =
-          let first : end ≡ 0 = is ∙ first_here (λ u. not (is_at slot phase u)) t note (ap not away) in
-          let behind = is_behind t away none.0 in
-          let all : AllBehind slot phase (t ∷ note) = (behind, all_behind t note behind order.1) in
-          subst (λ n. AreParted ports slot phase (t ∷ note) (take n (t ∷ note)) (drop n (t ∷ note))) (sym first)
-          (record {
-            own = sym (none_of_it (t ∷ note) all);
-            whole = refl;
-            of_phase = record { of = tt; now = tt; rise = tt };
-            in_order = order;
-            behind = all;
-          })
+      behind_it away = grind (arith, common_steps, first_here, is_behind, all_behind, none_of_it)
 
   -- the same of two slices
   pub parted_at : (note : List Transfer) (end : ℕ) → end ≡ position_or_len (λ t. not (is_at slot phase t)) note →

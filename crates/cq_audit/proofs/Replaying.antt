@@ -3,7 +3,8 @@
 -- its lines say, and slots that are skipped move nothing. So the lines that are left are those of this slot and of
 -- later ones. At a fault of a phase all before it is known, and at the end of the run no line is left, or the first
 -- that is left is not reached.
-use Rattle.std.proofs.Common.{◌≡◌, ℕ, ◌+◌, ◌-◌, ◌*◌, ◌<◌, ◌≤◌, zero, suc, List, [], ◌∷◌, ◌++◌, length, take, replicate, Option, Bool, refl, sym, ap, ◌∙◌, subst, ⊎_elim, arith, append_assoc, length-append}
+use Rattle.std.proofs.lemmas.Grind.{common_steps}
+use Rattle.std.proofs.Common.{rules, ◌≡◌, ℕ, ◌+◌, ◌-◌, ◌*◌, ◌<◌, ◌≤◌, zero, suc, List, [], ◌∷◌, ◌++◌, length, replicate, Option, Bool, refl, ap, ◌∙◌, arith, append_assoc, length-append}
 use Rattle.std.proofs.lemmas.Bool.{cases_lt}
 use Rattle.std.proofs.lemmas.List.{append-nil, take-append-le, take_all}
 use Rattle.cq_base.specs.Arrivals.{no_arrivals}
@@ -65,18 +66,7 @@ starts limits ms came f = refl
 
 pub replaying_first : (ms : List Machine) (came : List Arrival) (lines : List Transfer) (first : ReplayView)
     (note : RoomView Transfer) → IsReady ms came lines first note → Replaying ms came lines first 0 lines first note
-replaying_first ms came lines first note ready =
-    record {
-      records = [];
-      runs = starts first.limits ms came first.fabric;
-      going = λ m f before run late empty. omega arith;
-      told = sym (ap (λ (l : List Transfer). l ++ lines) none_moved);
-      in_order = ready.in_order;
-      none_before = none_first (ports_in first) lines ready.in_order;
-      in_step = ready.in_step;
-      made = made_alike first;
-      note_room = ready.note_room;
-    }
+replaying_first ms came lines first note ready = search (rules, starts, none_moved, none_first, made_alike)
 
 -- ## What is moved by one slot more, and by slots in which nothing happens
 
@@ -88,9 +78,7 @@ none_moved_by : (ms : List Machine) (k slot ports : ℕ) (ranks : List (List ℕ
 unfolding transfers_of_run
 none_moved_by ms zero slot ports ranks marks = refl
 none_moved_by ms (suc k) slot ports ranks marks =
-    ap (λ (l : List Transfer). l ++ moved (quiet_limited_slots ms k (slot + 1) ports (idled ms ports ranks) marks))
-    (quiet_transfers ms slot ports ranks)
-    ∙ none_moved_by ms k (slot + 1) ports (idled ms ports ranks) marks
+    search (rules, moved, quiet_transfers, none_moved_by ms k (slot + 1) ports (idled ms ports ranks) marks)
 
 module _ {ms : List Machine} {came : List Arrival} {lines : List Transfer} {first : ReplayView} where
   -- ## The run so far
@@ -99,10 +87,7 @@ module _ {ms : List Machine} {came : List Arrival} {lines : List Transfer} {firs
   module _ {slot : ℕ} {rest : List Transfer} {now : ReplayView} {note : RoomView Transfer}
       (b : Replaying ms came lines first slot rest now note) where
     pub one_each : length b.records ≡ slot
-    one_each =
-        run_length (LimitedFabricSlot IsStable first.limits ms) 0 (first_slots came slot) first.fabric now.fabric
-        b.records b.runs
-        ∙ arriving_length came 0 slot
+    one_each = grind (arith, common_steps, run_length, arriving_length)
 
   module _ {slot : ℕ} {rest : List Transfer} {now : ReplayView} {note : RoomView Transfer}
       (b : Replaying ms came lines first slot rest now note)
@@ -112,20 +97,7 @@ module _ {ms : List Machine} {came : List Arrival} {lines : List Transfer} {firs
         AfterBy (LimitedFabricSlot IsStable first.limits ms) came first.fabric b.records m f → end_of came ≤ m →
         IsEmptyFabric f.state → ⊥
     not_over m f le run late empty =
-        let many = one_each b in
-        ⊎_elim
-        (λ (before : m < slot). b.going m f before run late empty)
-        (λ (reached : slot ≤ m).
-        let at : m ≡ slot = omega arith in
-        let whole : take m b.records ≡ b.records = take_all m b.records (omega arith) in
-        let here : LimitedFabricRun IsStable first.limits ms 0 (first_slots came slot) first.fabric b.records f =
-        subst (λ (k : ℕ). LimitedFabricRun IsStable first.limits ms 0 (first_slots came k) first.fabric b.records f) at
-        (subst (λ (l : List LimitedRecord).
-        LimitedFabricRun IsStable first.limits ms 0 (first_slots came m) first.fabric l f) whole run) in
-        let one = one_stable_run first.limits ms 0 (first_slots came slot) first.fabric f now.fabric b.records b.records
-        here b.runs refl in
-        more (omega arith) (subst (λ (g : Marked Fabric). IsEmptyFabric g.state) one.1 empty))
-        (cases_lt m slot)
+        grind (arith, common_steps, one_each b, take_all, one_stable_run first.limits ms 0, cases_lt)
 
     -- ## A slot
 
@@ -134,49 +106,24 @@ module _ {ms : List Machine} {came : List Arrival} {lines : List Transfer} {firs
         SlotReplayed ms slot cells rest left now new note note' →
         Replaying ms came lines first (slot + 1) left new note'
     replaying_next cells left new note' are had =
-        let r = had.of_slot in
-        let long = arriving_length came 0 slot in
-        let many = one_each b in
-        let at : slot ≡ 0 + length (first_slots came slot) = omega arith in
-        let step : LimitedFabricSlot IsStable first.limits ms slot (arriving came slot) now.fabric r new.fabric =
-        subst (λ (l : List (Option Cell)). LimitedFabricSlot IsStable first.limits ms slot l now.fabric r new.fabric)
-        are
-        (subst (λ (l : List (Option ℕ)). LimitedFabricSlot IsStable l ms slot cells now.fabric r new.fabric)
-        b.made.limits
-        had.is_slot) in
-        let parts = moved_more b.records r in
-        let same_ports : length now.fixed ≡ length first.fixed = ap (λ (l : List (List ℕ)). length l) b.made.fixed in
-        record {
-          records = b.records ++ r ∷ [];
-          runs =
-              subst (λ (l : List (List (Option Cell))).
-              LimitedFabricRun IsStable first.limits ms 0 l first.fabric (b.records ++ r ∷ []) new.fabric)
-              (sym (first_more came slot))
-              ((all_go_on (LimitedFabricSlot IsStable first.limits ms) (IsLimitedFault first.limits ms)).slot 0
-              (first_slots came slot) (arriving came slot) first.fabric now.fabric new.fabric b.records r b.runs
-              (subst (λ (k : ℕ).
-              LimitedFabricSlot IsStable first.limits ms k (arriving came slot) now.fabric r new.fabric) at step));
-          going = λ m f before run late empty.
-              let fewer : take m (b.records ++ r ∷ []) ≡ take m b.records =
-              take-append-le m b.records (r ∷ []) (omega arith) in
-              not_over m f (omega arith)
-              (subst (λ (l : List LimitedRecord).
-              LimitedFabricRun IsStable first.limits ms 0 (first_slots came m) first.fabric l f) fewer run) late empty;
-          told =
-              b.told ∙ ap (λ (l : List Transfer). moved b.records ++ l) had.moved
-              ∙ sym (append_assoc (moved b.records) (transfers_in r.of_slot) left)
-              ∙ ap (λ (l : List Transfer). l ++ left) (sym parts);
-          in_order = subst (λ (n : ℕ). AreInOrder n left) same_ports had.in_order;
-          none_before = none_next (ports_in now) slot left had.in_order had.behind;
-          in_step = had.in_step;
-          made = made_on b.made had.made;
-          note_room =
-              let room : note'.spare + length (transfers_in r.of_slot) ≡ note.spare = had.note_room in
-              let was : note.spare ≡ length rest + 2 * ports_in first = b.note_room in
-              let sum = ap length had.moved in
-              let split = length-append (transfers_in r.of_slot) left in
-              omega arith;
-        }
+        search (
+          arith,
+          rules,
+          arriving_length came 0 slot,
+          one_each b,
+          moved_more b.records had.of_slot,
+          first_more
+              came slot,
+          all_go_on (LimitedFabricSlot IsStable first.limits ms) (IsLimitedFault first.limits ms),
+          take-append-le,
+          not_over,
+          moved b.records,
+          append_assoc,
+          none_next (ports_in now) slot left had.in_order
+              had.behind,
+          made_on b.made had.made,
+          length-append (transfers_in had.of_slot.of_slot) left,
+        )
 
   -- ## A stretch
 
@@ -184,76 +131,37 @@ module _ {ms : List Machine} {came : List Arrival} {lines : List Transfer} {firs
       (b : Replaying ms came lines first slot rest now note) (still : IsStill came rest slot next)
       (rested : HasRested ms slot next now new) where
     abbrev quiet_records : List LimitedRecord
-    quiet_records =
-        quiet_limited_slots ms (next - slot) slot (ports_in now) now.fabric.state.ranks now.fabric.marks
+    quiet_records = quiet_limited_slots ms (next - slot) slot (ports_in now) now.fabric.state.ranks now.fabric.marks
 
     ran : LimitedFabricRun IsStable first.limits ms slot (replicate (next - slot) no_arrivals) now.fabric quiet_records
         new.fabric
-    ran =
-        subst (λ (l : List (Option ℕ)). LimitedFabricRun IsStable l ms slot (replicate (next - slot) no_arrivals)
-        now.fabric
-        (quiet_limited_slots ms (next - slot) slot (ports_in now) now.fabric.state.ranks now.fabric.marks) new.fabric)
-        b.made.limits rested.slots
+    ran = grind (arith, common_steps)
 
     -- what arrives up to the slot, and then nothing, is what arrives up to the other
     slots_are : first_slots came slot ++ replicate (next - slot) no_arrivals ≡ first_slots came next
     slots_are =
-        let late : slot ≤ next = still.late in
-        ap (λ (l : List (List (Option Cell))). first_slots came slot ++ l)
-        (sym (quiet_slots came slot (next - slot) (λ t from to. still.none t from (omega arith))))
-        ∙ arriving_parts came 0 slot slot (next - slot) next (omega arith) (omega arith)
+        search (arith, rules, quiet_slots came slot (next - slot), arriving_parts came 0 slot slot (next - slot) next)
 
     pub replaying_rested : Replaying ms came lines first next rest new note
-    replaying_rested =
-        let late : slot ≤ next = still.late in
-        let many = one_each b in
-        let long = arriving_length came 0 slot in
-        let at : slot ≡ 0 + length (first_slots came slot) = omega arith in
-        let whole : LimitedFabricRun IsStable first.limits ms 0 (first_slots came next) first.fabric
-        (b.records ++ quiet_records) new.fabric =
-        subst (λ (l : List (List (Option Cell))).
-        LimitedFabricRun IsStable first.limits ms 0 l first.fabric (b.records ++ quiet_records) new.fabric) slots_are
-        ((all_go_on (LimitedFabricSlot IsStable first.limits ms) (IsLimitedFault first.limits ms)).run 0
-        (first_slots came slot) (replicate (next - slot) no_arrivals) first.fabric now.fabric new.fabric b.records
-        quiet_records b.runs
-        (subst (λ (k : ℕ). LimitedFabricRun IsStable first.limits ms k (replicate (next - slot) no_arrivals) now.fabric
-        quiet_records new.fabric) at ran)) in
-        record {
-          records = b.records ++ quiet_records;
-          runs = whole;
-          going = λ m f before run over empty.
-              ⊎_elim
-              (λ (earlier : m < slot).
-              let fewer : take m (b.records ++ quiet_records) ≡ take m b.records =
-              take-append-le m b.records quiet_records (omega arith) in
-              b.going m f earlier
-              (subst (λ (l : List LimitedRecord).
-              LimitedFabricRun IsStable first.limits ms 0 (first_slots came m) first.fabric l f) fewer run) over empty)
-              (λ (later : slot ≤ m). let before_end : next < end_of came = still.more (omega arith) in omega arith)
-              (cases_lt m slot);
-          told =
-              b.told
-              ∙ ap (λ (l : List Transfer). l ++ rest)
-              (sym (moved_parts b.records quiet_records
-              ∙ ap (λ (l : List Transfer). moved b.records ++ l)
-              (none_moved_by ms (next - slot) slot (ports_in now) now.fabric.state.ranks now.fabric.marks)
-              ∙ append-nil (moved b.records)));
-          in_order = b.in_order;
-          none_before = none_from (ports_in first) next rest b.in_order still.no_line;
-          in_step = rested.in_step;
-          made = made_on b.made rested.made;
-          note_room = b.note_room;
-        }
+    replaying_rested = grind (
+      arith,
+      common_steps,
+      one_each b,
+      arriving_length came 0,
+      slots_are,
+      all_go_on (LimitedFabricSlot IsStable first.limits ms) (IsLimitedFault first.limits ms),
+      ran,
+      take-append-le,
+      cases_lt,
+      moved_parts b.records quiet_records,
+      moved b.records,
+      none_moved_by ms,
+      append-nil,
+      none_from (ports_in first) next rest b.in_order still.no_line,
+      made_on b.made rested.made,
+    )
 
     -- what was not over is not over after it
     pub more_at_rest : (end_of came ≤ slot → IsEmptyFabric now.fabric.state → ⊥) → end_of came ≤ next →
         IsEmptyFabric new.fabric.state → ⊥
-    more_at_rest more over empty =
-        ⊎_elim
-        (λ (later : slot < next). let before_end : next < end_of came = still.more later in omega arith)
-        (λ (none : next ≤ slot).
-        let late : slot ≤ next = still.late in
-        let same : new.fabric ≡ now.fabric = same_fabric now.limits ms (next - slot) slot now new.fabric (omega arith)
-        rested.slots in
-        more (omega arith) (subst (λ (g : Marked Fabric). IsEmptyFabric g.state) same empty))
-        (cases_lt slot next)
+    more_at_rest more over empty = grind (arith, common_steps, same_fabric, cases_lt)

@@ -25,15 +25,13 @@ use Rattle.cq_audit.proofs.Following.{weaker}
 
 -- none of the lines is of an earlier slot
 pub all_late : (slot : ℕ) (lines : List Transfer) → NoneBefore slot 1 lines → AllByRecursion (λ t. slot ≤ t.slot) lines
-all_late slot lines none =
-    weaker (λ t. (slot < t.slot) ⊎ ((slot ≡ t.slot) × (1 ≤ t.phase))) (λ t. slot ≤ t.slot)
+all_late slot lines none = weaker (λ t. (slot < t.slot) ⊎ ((slot ≡ t.slot) × (1 ≤ t.phase))) (λ t. slot ≤ t.slot)
     (λ t had. ⊎_elim (λ later. omega arith) (λ here. omega arith) had) lines none
 
 module _ (came : List Arrival) (slot next : ℕ) (quiet : IsQuiet came slot next) where
   -- there is no line
   pub still_to_arrival : (lines : List Transfer) → None ≡ slice_get lines 0 → IsStill came lines slot next
-  still_to_arrival [] none =
-      record { late = quiet.late; none = quiet.none; no_line = tt; more = quiet.more }
+  still_to_arrival [] none = record { late = quiet.late; none = quiet.none; no_line = tt; more = quiet.more }
   still_to_arrival (t ∷ lines) none =
       absurd (let clash : ◌≡◌ {A = Option Transfer} None (Some t) = none in let P : ⊥ = cc in P)
 
@@ -74,18 +72,17 @@ module _ {came : List Arrival} {slot next : ℕ} (until : IsQuietUntil came slot
   -- and at the line, if it is earlier, there is a line
   pub until_line : (t : Transfer) → NoneBefore slot 1 lines → FirstIsLeast lines → Some t ≡ slice_get lines 0 →
       IsStillUntil came lines slot (min next t.slot)
-  until_line t before least is = record {
-    still = still_to_line came slot next (quiet_of until) lines t before least is;
-    ends = λ more.
-        ⊎_elim
-        (λ lt.
-        let first : next ≡ min next t.slot = omega arith in
-        inl (subst (λ (k : ℕ). ArrivesIn k came) first (until.first more).arrives))
-        (λ ge.
-        let first : t.slot ≡ min next t.slot = omega arith in
-        inr (subst (λ (k : ℕ). HasLineOf k lines) first (first_has_line lines t is)))
-        (cases_lt next t.slot);
-  }
+  until_line t before least is =
+      record {
+        still = still_to_line came slot next (quiet_of until) lines t before least is;
+        ends = λ more. ⊎_elim (λ lt.
+            let first : next ≡ min next t.slot = omega arith in
+            inl (subst (λ (k : ℕ). ArrivesIn k came) first (until.first more).arrives))
+            (λ ge.
+            let first : t.slot ≡ min next t.slot = omega arith in
+            inr (subst (λ (k : ℕ). HasLineOf k lines) first (first_has_line lines t is)))
+            (cases_lt next t.slot);
+      }
 
 -- no slot is skipped
 pub not_skipped : (came : List Arrival) (slot : ℕ) (lines : List Transfer) → NoneBefore slot 1 lines →

@@ -3,8 +3,8 @@
 -- the lines is one of the phase in which it comes. What is known where the slot begins is one record, and so is what
 -- each step leaves: what comes is judged and ranked and arrives, the lines of the first phase are gone by, the outputs
 -- send, and the lines of the second are gone by.
-use Rattle.std.proofs.Common.{◌≡◌, ℕ, ◌+◌, ◌<◌, ◌≤◌, ◌^◌, ◌⊎◌, inl, inr, true, false, Bool, List, ◌++◌, length, map, get_or, Option, Result, Ok, Err, sym, ap, ◌∙◌, subst, ⊎_elim, arith, append_assoc, length-append}
-use Rattle.std.specs.Prelude.{IsOk, slice_get}
+use Rattle.std.proofs.lemmas.Grind.{common_steps}
+use Rattle.std.proofs.Common.{rules, ◌≡◌, ℕ, ◌+◌, ◌<◌, ◌≤◌, ◌^◌, Bool, List, ◌++◌, length, map, get_or, Option, Ok, Err, sym, ap, ◌∙◌, subst, arith, append_assoc, length-append}
 use Rattle.std.proofs.lemmas.List.{length-map}
 use Rattle.cq_base.specs.declared.cell.Cell.{Cell}
 use Rattle.cq_base.specs.declared.cell.Queued.{Queued}
@@ -13,17 +13,16 @@ use Rattle.cq_base.specs.declared.cell.Transfer.{Transfer}
 use Rattle.cq_base.specs.Room.{RoomView}
 use Rattle.cq_rank.specs.Machine.{Machine}
 use Rattle.cq_rank.specs.Switch.{class_count}
-use Rattle.cq_ideal.specs.Admission.{Admission, admitted, marked, marks_after}
+use Rattle.cq_ideal.specs.Admission.{admitted, marked, marks_after}
 use Rattle.cq_ideal.specs.Ideal.{count_for}
-use Rattle.cq_ideal.specs.IdealSlot.{all_told, fronts}
+use Rattle.cq_ideal.specs.IdealSlot.{fronts}
 use Rattle.cq_ideal.specs.Limiter.{ComeToPorts, LimiterView}
 use Rattle.cq_ideal.specs.Parts.{RanksView}
-use Rattle.cq_ideal.specs.Ranking.{AreForPorts, Ranking, ranking}
+use Rattle.cq_ideal.specs.Ranking.{ranking}
 use Rattle.cq_ideal.proofs.Admitted.{admitted_arrives, admitted_for_ports}
 use Rattle.cq_ideal.proofs.Sending.{length-told}
 use Rattle.cq_ideal.proofs.Slot.{by_marks}
 use Rattle.cq_prefs.specs.FirstCells.{list_of}
-use Rattle.cq_prefs.specs.Moves.{transfers_of}
 use Rattle.cq_laws.specs.Agreement.{SendsAlike}
 use Rattle.cq_laws.specs.FabricSlot.{SlotRecord}
 use Rattle.cq_laws.specs.LimitedFabric.{fabric_admission}
@@ -48,15 +47,10 @@ use Rattle.cq_audit.proofs.Following.{weaker}
 -- the lines of the second phase stand behind those of the first
 pub second_lines : (ports slot : ℕ) (lines first behind : List Transfer) → AreParted ports slot 1 lines first behind →
     in_phase slot 2 lines ≡ in_phase slot 2 behind
-second_lines ports slot lines first behind parted =
-    ap (in_phase slot 2) parted.whole ∙ second_behind slot first behind parted.of_phase.now
+second_lines ports slot lines first behind parted = grind (arith, common_steps, second_behind)
 
 pub second_may_come : (slot : ℕ) (lines : List Transfer) → AllBehind slot 1 lines → NoneBefore slot 2 lines
-second_may_come slot lines =
-    weaker (λ t. (slot < t.slot) ⊎ ((slot ≡ t.slot) × (1 < t.phase)))
-    (λ t. (slot < t.slot) ⊎ ((slot ≡ t.slot) × (2 ≤ t.phase)))
-    (λ t had. ⊎_elim (λ later. inl later) (λ here. inr (here.0, omega arith)) had)
-    lines
+second_may_come slot lines = grind (arith, common_steps, weaker)
 
 -- ## Before a slot
 
@@ -73,8 +67,7 @@ module _ (M : List ℕ → Machine) {slot : ℕ} {v : ReplayView} (ranks : Ranks
 
   pub begun : {cells : List (Option Cell)} {lines : List Transfer} {note : RoomView Transfer} →
       CanReplay (map M v.fixed) slot cells lines v note → Begun M slot cells lines note v ranks q l
-  begun {cells} {lines} {note} can =
-      record { is = is; can = subst (λ w. CanReplay (map M w.fixed) slot cells lines w note) (sym is) can }
+  begun {cells} {lines} {note} can = grind (arith, common_steps)
 
 -- ## What comes
 
@@ -87,12 +80,7 @@ module _ (M : List ℕ → Machine) {slot : ℕ} {cells : List (Option Cell)} (r
   many = length-map ranks.fixed M
 
   pub come_to_ports : ComeToPorts (length l.limits) cells
-  come_to_ports =
-      let long = many in
-      record {
-        inputs = λ input cell at. let lt = can.arrivals.inputs input cell at in omega arith;
-        outputs = λ input cell at. let lt = can.arrivals.outputs input cell at in omega arith;
-      }
+  come_to_ports = grind (arith, common_steps, many)
 
   holds : HoldsFabric (fabric_of q ranks.states) l
   holds = record { ports = can.in_step.limits ∙ sym can.in_step.ports; held = can.in_step.held }
@@ -104,9 +92,7 @@ module _ (M : List ℕ → Machine) {slot : ℕ} {cells : List (Option Cell)} (r
   pub held_fits : ((j : ℕ) → length (list_of q.buffers j) ≤ get_or q.to_outputs j 0) →
       ((j : ℕ) → get_or q.to_outputs j 0 < 2 ^ 64) → (j : ℕ) → j < length l.limits →
       get_or l.held j 0 + count_for j cells < 2 ^ 64
-  held_fits =
-      numbers_fit q ranks.states l cells holds
-      (λ j inside. buffers_room j (omega arith))
+  held_fits = grind (arith, common_steps, numbers_fit, holds, buffers_room)
 
   module _ (marks : List Bool) where
     -- what is admitted by these marks is what the fabric admits
@@ -117,27 +103,13 @@ module _ (M : List ℕ → Machine) {slot : ℕ} {cells : List (Option Cell)} (r
     -- the ranks of what is admitted fit, and so they are found to
     pub no_fault : marks ≡ marks_after l.limits l.held l.marks cells → (fault : TagFault) →
         ranking machines slot 0 (admitted marks cells) ranks.states ≡ Err fault → ⊥
-    no_fault are fault err =
-        let clash : false ≡ true =
-        subst (λ (r : Result Ranking TagFault). IsOk r)
-        (ap (λ (a : Admission). ranking machines slot 0 a.cells ranks.states) (sym (admitted_is are)) ∙ err)
-        can.ranked in
-        let P : ⊥ = cc in P
+    no_fault are fault err = grind (arith, common_steps, admitted_is)
 
     module _ (came : List (Option Queued)) (states : List (List ℕ))
         (is : ranking machines slot 0 (admitted marks cells) ranks.states ≡ Ok (record { came = came; ranks = states }))
       where
         keyed : AreRanked machines slot q ranks.states (admitted marks cells) (class_count machines) came states
-        keyed =
-            record {
-              ideal = can.in_step.ideal;
-              agrees = can.in_step.agrees;
-              ports = can.in_step.ports;
-              for_ports =
-                  admitted_for_ports (length machines) (class_count machines) marks cells
-                  (subst (λ (n : ℕ). AreForPorts n (class_count machines) cells) (sym many) can.arrivals);
-              ranked = is;
-            }
+        keyed = grind (arith, common_steps, admitted_for_ports, many)
 
         pub fit : FitLists came q
         fit = fits_lists keyed (λ i cell at. can.list_room i cell (admitted_arrives marks cells i cell at))
@@ -162,13 +134,10 @@ module _ {M : List ℕ → Machine} {slot : ℕ} {cells : List (Option Cell)} {l
   ranked = keyed M ranks0 q0 l known.can.come judged.marks come.came ranks1.states come.ranked
 
   arrived : HaveArrived q0 come.came q1
-  arrived =
-      record { ports = come.ports; lists = come.lists; buffers = come.buffers; to_outputs = come.to_outputs }
+  arrived = grind (arith, common_steps)
 
   judges : HaveJudged comes l judged
-  judges =
-      let was = come.judged in
-      record { limits = was.limits; as_many = was.ports.held ∙ ap length was.limits; more = was.held }
+  judges = grind (arith, common_steps)
 
   room : BuffersHaveRoom (length ms) q0 comes
   room = admitted_room (length ms) q0 judged.marks cells (buffers_room M ranks0 q0 l known.can.come)
@@ -182,21 +151,11 @@ module _ {M : List ℕ → Machine} {slot : ℕ} {cells : List (Option Cell)} {l
 
   arrives : Arrives ms slot (fabric_admission l.limits cells (marked l.marks (fabric_of q0 ranks0.states))).cells
       come.came (fabric_of q0 ranks0.states) (fabric_of q1 ranks1.states)
-  arrives =
-      subst
-      (λ (a : Admission).
-      Arrives ms slot a.cells come.came (fabric_of q0 ranks0.states) (fabric_of q1 ranks1.states))
-      admits (slot_arrives ranked arrived)
+  arrives = grind (arith, common_steps, admits, slot_arrives, ranked, arrived)
 
   -- the lines of the first phase can be gone by
   pub first_goes : CanGoBy slot 1 lines q1 note
-  first_goes =
-      record {
-        cells = can_cross_first ranked arrived room;
-        in_order = subst (λ (n : ℕ). AreInOrder n lines) (sym first_long) known.can.in_order;
-        none_before = known.can.none_before;
-        room = let long = first_long in omega arith;
-      }
+  first_goes = search (rules, can_cross_first, ranked, arrived, room, first_long)
 
   -- a fault of the parts is one of what is seen of them
   seen : (f : SlotFault) → IsSlotFault ms slot cells lines (shown ranks0 q0 l) f →
@@ -205,9 +164,7 @@ module _ {M : List ℕ → Machine} {slot : ℕ} {cells : List (Option Cell)} {l
 
   pub first_fault : (f : SlotFault) → (f.phase ≡ 1) × IsPhaseFault q1.inputs (in_phase slot 1 lines) f.fault →
       IsSlotFault (map M v.fixed) slot cells lines v f
-  first_fault f is =
-      let there = fabric_of q1 ranks1.states in
-      seen f (inl (is.0, record { ranked = come.came; arrived = there; arrive = arrives; wrong = is.1 }))
+  first_fault f is = grind (arith, common_steps, seen, ranked, arrived, arrives)
 
   module _ {behind : List Transfer} {q2 : Queues} {note1 : RoomView Transfer}
       (one : HasGoneBy slot 1 lines behind q1 q2 note note1) where
@@ -216,10 +173,7 @@ module _ {M : List ℕ → Machine} {slot : ℕ} {cells : List (Option Cell)} {l
 
     -- so many outputs may send
     gone_long : length (fronts q2.buffers) ≡ length ranks0.fixed
-    gone_long =
-        length-map q2.buffers (λ (xs : List Queued). slice_get xs 0) ∙ one.crossed.moves.ports.1
-        ∙ ap length come.buffers ∙ known.can.come.in_step.agrees.fabric.square ∙ known.can.come.in_step.ports
-        ∙ length-map ranks0.fixed M
+    gone_long = grind (arith, common_steps, length-map)
 
     pub can_send : CanSend ranks1 q2 judged
     can_send =
@@ -237,15 +191,7 @@ module _ {M : List ℕ → Machine} {slot : ℕ} {cells : List (Option Cell)} {l
     module _ {ranks2 : RanksView} {q3 : Queues} {after : LimiterView}
         (sent : HaveAllSent (map M ranks1.fixed) ranks1 ranks2 q2 q3 judged after) where
       have_sent : HaveSent ms q1 ranks1.states q2 ranks2.states q3
-      have_sent =
-          record {
-            inputs = sent.inputs;
-            buffers = sent.buffers;
-            told =
-                sent.told
-                ∙ ap (λ (fixed : List (List ℕ)). all_told (map M fixed) (fronts q2.buffers) ranks1.states) come.fixed;
-            to_outputs = sent.to_outputs ∙ one.crossed.to_outputs;
-          }
+      have_sent = grind (arith, common_steps)
 
       second_long : length q3.inputs ≡ length q1.inputs
       second_long = ap length sent.inputs ∙ one.crossed.moves.ports.0
@@ -256,13 +202,8 @@ module _ {M : List ℕ → Machine} {slot : ℕ} {cells : List (Option Cell)} {l
           let few = few_cross one.crossed.pairs q1.inputs slot 1 one.crossed.told.stable.matching in
           let same = ap length one.crossed.told.moved in
           let long = first_long in
-          let again = second_long in
-          record {
-            cells = can_cross_second ranked arrived room moved1 have_sent;
-            in_order = subst (λ (n : ℕ). AreInOrder n behind) (sym second_long) one.parted.in_order;
-            none_before = second_may_come slot behind one.parted.behind;
-            room = omega arith;
-          }
+          search
+          (arith, rules, second_long, can_cross_second, ranked, arrived, room, moved1, have_sent, second_may_come)
 
       half : IsHalfPast ms slot (in_phase slot 1 lines) (fabric_of q1 ranks1.states) (fabric_of q3 ranks2.states)
       half =
@@ -277,21 +218,7 @@ module _ {M : List ℕ → Machine} {slot : ℕ} {cells : List (Option Cell)} {l
 
       pub second_fault : (f : SlotFault) → (f.phase ≡ 2) × IsPhaseFault q3.inputs (in_phase slot 2 behind) f.fault →
           IsSlotFault (map M v.fixed) slot cells lines v f
-      second_fault f is =
-          let wrong =
-          subst (λ (ls : List Transfer). IsPhaseFault q3.inputs ls f.fault)
-          (sym (second_lines (length q1.inputs) slot lines one.own behind one.parted)) is.1 in
-          seen f (inr (
-            is.0,
-            record {
-              ranked = come.came;
-              arrived = fabric_of q1 ranks1.states;
-              arrive = arrives;
-              sent = fabric_of q3 ranks2.states;
-              half = half;
-              wrong = wrong;
-            },
-          ))
+      second_fault f is = search (rules, second_lines, seen, ranked, arrived, arrives, half)
 
       module _ {rest : List Transfer} {q4 : Queues} {note2 : RoomView Transfer}
           (two : HasGoneBy slot 2 behind rest q3 q4 note1 note2) where
@@ -305,8 +232,7 @@ module _ {M : List ℕ → Machine} {slot : ℕ} {cells : List (Option Cell)} {l
         alike = sends_alike ranked arrived room moved1 have_sent moved2
 
         still_held : HoldsFabric (fabric_of q4 ranks2.states) after
-        still_held =
-            still_holds ranked (fronts q2.buffers) (fabric_of q4 ranks2.states) l judged after alike
+        still_held = still_holds ranked (fronts q2.buffers) (fabric_of q4 ranks2.states) l judged after alike
             (holds M ranks0 q0 l known.can.come) judges sent.released
 
         next_step : IsInStep ms (slot + 1) (shown ranks2 q4 after)
@@ -325,45 +251,21 @@ module _ {M : List ℕ → Machine} {slot : ℕ} {cells : List (Option Cell)} {l
 
         moved : transfers_in of_slot ≡ one.own ++ two.own
         unfolding transfers_in
-        moved =
-            ap (λ (ls : List Transfer). ls ++ transfers_of two.crossed.pairs q3.inputs slot 2) one.crossed.told.moved
-            ∙ ap (λ (ls : List Transfer). one.own ++ ls) two.crossed.told.moved
+        moved = grind (arith, common_steps)
 
         pub replayed : SlotReplayed (map M v.fixed) slot cells lines rest v (shown ranks2 q4 after) note note2
         replayed =
             let both = moved in
-            subst
-            (λ (w : ReplayView).
-            SlotReplayed (map M w.fixed) slot cells lines rest w (shown ranks2 q4 after) note note2)
-            known.is
+            subst (λ (w : ReplayView).
+            SlotReplayed (map M w.fixed) slot cells lines rest w (shown ranks2 q4 after) note note2) known.is
             (record {
               of_slot = record { admission = by_marks judged.marks cells; of_slot = of_slot };
-              is_slot =
-                  record {
-                    admits = admits;
-                    runs = is_slot ranked arrived room moved1 have_sent moved2;
-                    marks = sent.released.marks;
-                  };
-              moved =
-                  one.parted.whole ∙ ap (λ (ls : List Transfer). one.own ++ ls) two.parted.whole
-                  ∙ sym (append_assoc one.own two.own rest) ∙ ap (λ (ls : List Transfer). ls ++ rest) (sym both);
+              is_slot = search (arith, rules, admits, is_slot, ranked, arrived, room, moved1, have_sent, moved2);
+              moved = search (arith, rules, append_assoc);
               in_order = subst (λ (n : ℕ). AreInOrder n rest) (second_long ∙ first_long) two.parted.in_order;
               behind = two.parted.behind;
               in_step = next_step;
-              made =
-                  record {
-                    fixed = sent.fixed ∙ come.fixed;
-                    limits = sent.released.limits ∙ judges.limits;
-                    from_inputs =
-                        two.crossed.from_inputs ∙ sent.from_inputs ∙ one.crossed.from_inputs ∙ come.from_inputs;
-                    to_outputs = two.crossed.to_outputs ∙ sent.to_outputs ∙ one.crossed.to_outputs ∙ come.to_outputs;
-                  };
-              noted =
-                  two.noted.items ∙ ap (λ (ls : List Transfer). ls ++ two.own) one.noted.items
-                  ∙ append_assoc note.items one.own two.own
-                  ∙ ap (λ (ls : List Transfer). note.items ++ ls) (sym both);
-              note_room =
-                  let long = ap length both in
-                  let sum = length-append one.own two.own in
-                  omega arith;
+              made = search (arith, rules);
+              noted = search (arith, rules, append_assoc);
+              note_room = search (arith, rules, length-append);
             })

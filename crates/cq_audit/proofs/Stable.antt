@@ -2,7 +2,8 @@
 -- input and the output of its first cell, so it is offered, and no output is in two of them, for the greater of two
 -- inputs would have a wrong line. A pair outside it that is offered does not block, so one of its ends has a partner
 -- that it prefers.
-use Rattle.std.proofs.Common.{◌≡◌, ℕ, ◌<◌, ◌⊎◌, inl, inr, List, length, Option, None, Some, refl, ap, sym, subst, ◌∙◌, ⊎_elim, arith}
+use Rattle.std.proofs.Common.{rules, ◌≡◌, ℕ, ◌<◌, ◌⊎◌, inl, inr, List, length, Option, None, Some, refl, ap, sym, subst, ◌∙◌, ⊎_elim, arith}
+use Rattle.std.proofs.lemmas.Grind.{common_steps}
 use Rattle.std.specs.Option.{option_map}
 use Rattle.std.proofs.lemmas.Bool.{cases_lt}
 use Rattle.std.proofs.lemmas.List.{get_or_past, length-map}
@@ -12,7 +13,7 @@ use Rattle.cq_base.specs.declared.cell.Queued.{Queued}
 use Rattle.cq_base.specs.declared.cell.Transfer.{Transfer}
 use Rattle.cq_base.specs.Cells.{first_for}
 use Rattle.cq_prefs.specs.FirstCells.{HasCellFor, list_of, orders_of, output_order}
-use Rattle.cq_prefs.specs.Orders.{Orders, IsListed, place_of, position_of}
+use Rattle.cq_prefs.specs.Orders.{Orders, place_of, position_of}
 use Rattle.cq_prefs.specs.Pairing.{HasBetterInput, HasBetterOutput, IsMatching, IsStable, Partners, partner_of, partner_place}
 use Rattle.cq_prefs.proofs.OutputOrder.{is_output_order}
 use Rattle.cq_laws.proofs.OneRun.{outputs_at}
@@ -69,10 +70,7 @@ module _ (lists : List (List Queued)) (lines : List Transfer) where
   -- a partner is that of an input, and its line names it
   module _ (i j : ℕ) (is : partner_of (told (length lists) lines) i ≡ Some j) where
     pub told_inside : i < length lists
-    told_inside = ⊎_elim (λ inside. inside) (λ past. absurd (
-        let clash : ◌≡◌ {A = Option ℕ} None (Some j) = sym (get_or_past (told (length lists) lines) i None
-        (let long = told_long in omega arith)) ∙ is in
-        let P : ⊥ = cc in P)) (cases_lt i (length lists))
+    told_inside = grind (arith, common_steps, get_or_past, told_long, cases_lt)
 
     pub told_line : output_told lines i ≡ Some j
     told_line = sym (told_at i told_inside) ∙ is
@@ -99,23 +97,14 @@ module _ (lists : List (List Queued)) (lines : List Transfer) where
     apart : (i k j : ℕ) → output_told lines i ≡ Some j → output_told lines k ≡ Some j → i < k → ⊥
     apart i k j at_i at_k before =
         let line = line_of k j (line_of_input k lines) refl at_k in
-        right k (record {
-          line = line.0;
-          stands = line.1;
-          wrong = inr (i, before, at_i ∙ ap Some (sym line.2));
-        })
+        right k (record { line = line.0; stands = line.1; wrong = inr (i, before, at_i ∙ ap Some (sym line.2)) })
 
     pub told_matching : IsMatching (orders_of lists) (told (length lists) lines)
     told_matching = record {
       size = told_long ∙ sym (length-map lists output_order);
       offered = λ i j is. let line = line_of i j (line_of_input i lines) refl (told_line i j is) in
-          subst (λ order. IsListed order j) (sym (outputs_at lists i))
-          (((is_output_order (list_of lists i)).offered j).1
-          (subst (HasCellFor (list_of lists i)) line.2 (has_cell i line.0 line.1)));
-      once = λ i k j at_i at_k. ⊎_elim (λ before. absurd (apart i k j (told_line i j at_i) (told_line k j at_k)
-          before))
-          (λ after. ⊎_elim (λ before. absurd (apart k i j (told_line k j at_k) (told_line i j at_i) before))
-          (λ before. omega arith) (cases_lt k i)) (cases_lt i k);
+          search (arith, rules, outputs_at lists i, is_output_order (list_of lists i), has_cell i line.0 line.1);
+      once = search (arith, rules, apart, told_line, cases_lt);
     }
 
     pub told_stable : ((i j : ℕ) → IsBlocking (orders_of lists) (told (length lists) lines) i j → ⊥) →

@@ -1,6 +1,7 @@
 -- What each step of the loop over the slots of a replay asks for and comes to.
-use Rattle.std.proofs.Common.{◌≡◌, ◌↔◌, ℕ, ◌+◌, ◌-◌, ◌*◌, ◌<◌, ◌≤◌, ◌^◌, inl, inr, Bool, true, false, List, [], ◌++◌, length, take, map, ◌⊎◌, Option, Result, Ok, Err, sym, ap, ◌∙◌, subst, ⊎_elim, arith, length-append}
-use Rattle.std.specs.Prelude.{IfErr, IsOk, IsTrue, OnOk, slice_index}
+use Rattle.std.proofs.lemmas.Grind.{common_steps}
+use Rattle.std.proofs.Common.{rules, ◌≡◌, ◌↔◌, ℕ, ◌+◌, ◌-◌, ◌<◌, ◌≤◌, Bool, true, false, List, [], length, map, ◌⊎◌, Option, Result, Ok, Err, ap, subst, ⊎_elim, arith, length-append, sym, inl, inr}
+use Rattle.std.specs.Prelude.{IfErr, IsOk, IsTrue, OnOk}
 use Rattle.std.specs.List.{AllByRecursion}
 use Rattle.std.proofs.lemmas.Bool.{cases_lt}
 use Rattle.std.proofs.lemmas.List.{append-nil, take_all}
@@ -8,7 +9,6 @@ use Rattle.cq_base.specs.Arriving.{Arrival, arriving, end_of, enough}
 use Rattle.cq_base.specs.Room.{RoomView}
 use Rattle.cq_base.specs.declared.cell.Cell.{Cell}
 use Rattle.cq_base.specs.declared.cell.Transfer.{Transfer}
-use Rattle.cq_cells.specs.Traffic.{is_from, is_to, number_of}
 use Rattle.cq_rank.specs.Machine.{Machine}
 use Rattle.cq_rank.specs.Switch.{class_count}
 use Rattle.cq_ideal.specs.Admission.{Marked}
@@ -16,8 +16,7 @@ use Rattle.cq_ideal.specs.Ending.{first_slots}
 use Rattle.cq_ideal.specs.Ranking.{AreForPorts, ranking}
 use Rattle.cq_prefs.specs.Pairing.{IsStable}
 use Rattle.cq_laws.specs.Fabric.{Fabric, IsEmptyFabric}
-use Rattle.cq_laws.specs.LimitedFabric.{LimitedFabricRun, LimitedFabricSlot, LimitedRecord, empty_limited_fabric, fabric_admission}
-use Rattle.cq_laws.specs.SlotBySlot.{AfterBy}
+use Rattle.cq_laws.specs.LimitedFabric.{LimitedFabricRun, LimitedRecord, empty_limited_fabric, fabric_admission, LimitedFabricSlot}
 use Rattle.cq_traffic.proofs.ForPorts.{arrivals_for}
 use Rattle.cq_audit.specs.Audit.{IsNoOf, phase_refusal, refusal_of}
 use Rattle.cq_audit.specs.Log.{AreInOrder}
@@ -35,6 +34,7 @@ use Rattle.cq_audit.proofs.BySlot.{before_is, phase_later}
 use Rattle.cq_audit.proofs.Replaying.{Replaying, more_at_rest, not_over, one_each, replaying_first, replaying_next, replaying_rested}
 use Rattle.cq_audit.proofs.Skips.{all_late}
 use Rattle.cq_audit.proofs.WholeFollowing.{all_before, moved}
+use Rattle.cq_laws.specs.SlotBySlot.{AfterBy}
 
 pub goes_on : (b : Bool) (end slot : ℕ) (Empty : Type 0) → b ≡ false → (IsTrue b ↔ ((end ≤ slot) × Empty)) →
     end ≤ slot → Empty → ⊥
@@ -63,41 +63,32 @@ module _ (M : List ℕ → Machine) {came : List Arrival} {lines : List Transfer
   from_start : (slot : ℕ) (f : Marked Fabric) (rs : List LimitedRecord) →
       LimitedFabricRun IsStable first.limits (map M first.fixed) 0 (first_slots came slot) first.fabric rs f →
       LimitedFabricRun IsStable first.limits (map M first.fixed) 0 (first_slots came slot) start rs f
-  from_start slot f rs run =
-      subst (λ (g : Marked Fabric).
-      LimitedFabricRun IsStable first.limits (map M first.fixed) 0 (first_slots came slot) g rs f) ready.fabric run
+  from_start slot f rs run = grind (arith, common_steps)
 
   -- ## Slots that are skipped
 
   module _ {slot : ℕ} {rest : List Transfer} {now : ReplayView} {note : RoomView Transfer}
       (b : Before slot rest now note) where
     pub skip_in_step : IsInStep (map M now.fixed) slot now
-    skip_in_step =
-        subst (λ (fixed : List (List ℕ)). IsInStep (map M fixed) slot now) (sym b.made.fixed) b.in_step
+    skip_in_step = grind (arith, common_steps)
 
     pub rest_in_order : AreInOrder (ports_in now) rest
-    rest_in_order =
-        subst (λ (fixed : List (List ℕ)). AreInOrder (length fixed) rest) (sym b.made.fixed) b.in_order
+    rest_in_order = grind (arith, common_steps)
 
     -- what was moved so far is of earlier slots
     all_earlier : AllByRecursion (λ t. t.slot < slot) (moved b.records)
-    all_earlier =
-        all_before first.limits (map M first.fixed) came slot first.fabric now.fabric b.records b.runs
+    all_earlier = grind (arith, common_steps, all_before)
 
     -- so it is what the lines before the slot say
     told_before : moved b.records ≡ before_slot slot lines
-    told_before =
-        sym (ap (before_slot slot) b.told
-        ∙ before_is slot (moved b.records) rest all_earlier (all_late slot rest b.none_before))
+    told_before = grind (arith, common_steps, before_is, moved, all_earlier, all_late)
 
     -- and the lines of a phase of the slot are among those that are left
     same_lines : (phase : ℕ) → in_phase slot phase lines ≡ in_phase slot phase rest
-    same_lines phase =
-        ap (in_phase slot phase) b.told ∙ phase_later slot phase (moved b.records) rest all_earlier
+    same_lines phase = grind (arith, common_steps, phase_later, moved, all_earlier)
 
     pub rest_is_short : length rest ≤ length lines
-    rest_is_short =
-        let sum = ap length b.told in let split = length-append (moved b.records) rest in omega arith
+    rest_is_short = grind (arith, common_steps, length-append, moved)
 
     module _ {next : ℕ} {new : ReplayView} (still : IsStill came rest slot next)
         (rested : HasRested (map M now.fixed) slot next now new) where
@@ -139,102 +130,52 @@ module _ (M : List ℕ → Machine) {came : List Arrival} {lines : List Transfer
 
     fit : IsOk (ranking (map M now.fixed) slot 0 (fabric_admission now.limits (arriving came slot) now.fabric).cells
         now.fabric.state.ranks)
-    fit =
-        subst (λ (fixed : List (List ℕ)). IsOk (ranking (map M fixed) slot 0
-        (fabric_admission now.limits (arriving came slot) now.fabric).cells now.fabric.state.ranks)) (sym b.made.fixed)
-        (subst (λ (l : List (Option ℕ)). IsOk (ranking (map M first.fixed) slot 0
-        (fabric_admission l (arriving came slot) now.fabric).cells now.fabric.state.ranks)) (sym b.made.limits)
-        (ranks_fit first.limits (map M first.fixed) came (ports_in first) first.fabric.state.ranks slot now.fabric
-        b.records run_from_start (class_count (map M first.fixed)) ready.traffic ready.ranked))
+    fit = grind (arith, common_steps, ranks_fit, run_from_start)
 
     lists_have_room : HasListRoom (arriving came slot) now
     lists_have_room i cell at =
         let inside : i < ports_in first = for_ports.inputs i cell at in
-        let short =
-        list_is_short first.limits (map M first.fixed) came (ports_in first) first.fabric.state.ranks slot now.fabric
-        b.records run_from_start i cell at in
-        let room : slice_index first.from_inputs i ≡ number_of (is_from i) came = ready.from_inputs i inside in
-        let same : slice_index now.from_inputs i ≡ slice_index first.from_inputs i =
-        ap (λ (l : List ℕ). slice_index l i) b.made.from_inputs in
-        omega arith
+        search (arith, rules, list_is_short, run_from_start)
 
     buffers_have_room : HasBufferRoom (arriving came slot) now
-    buffers_have_room j within =
-        let ports = same_ports in
-        let inside : j < ports_in first = omega arith in
-        let short =
-        output_is_short first.limits (map M first.fixed) came (ports_in first) first.fabric.state.ranks slot now.fabric
-        b.records run_from_start j in
-        let room : slice_index first.to_outputs j ≡ number_of (is_to j) came = ready.to_outputs j inside in
-        let same : slice_index now.to_outputs j ≡ slice_index first.to_outputs j =
-        ap (λ (l : List ℕ). slice_index l j) b.made.to_outputs in
-        omega arith
+    buffers_have_room j within = grind (arith, common_steps, same_ports, output_is_short, run_from_start)
 
     can_replay : (cells : List (Option Cell)) → cells ≡ arriving came slot →
         CanReplay (map M now.fixed) slot cells rest now note
-    can_replay cells are =
-        subst (λ (l : List (Option Cell)). CanReplay (map M now.fixed) slot l rest now note) (sym are)
-        (record {
-          come =
-              record {
-                in_step = skip_in_step b;
-                arrivals =
-                    subst (λ (fixed : List (List ℕ)). AreForPorts (length fixed) (class_count (map M fixed))
-                    (arriving came slot)) (sym b.made.fixed) for_ports;
-                ranked = fit;
-                list_room = lists_have_room;
-                buffer_room = buffers_have_room;
-              };
-          early =
-              let left = a_slot_left in
-              let short : enough came ≤ 2 ^ 63 + 2 ^ 35 = ready.short in
-              omega arith;
-          in_order = rest_in_order b;
-          none_before = b.none_before;
-          note_room =
-              let ports = same_ports in
-              let room : note.spare ≡ length rest + 2 * ports_in first = b.note_room in
-              omega arith;
-        })
+    can_replay cells are = grind (
+      arith,
+      common_steps,
+      skip_in_step,
+      for_ports,
+      fit,
+      lists_have_room,
+      buffers_have_room,
+      a_slot_left,
+      rest_in_order,
+      same_ports,
+    )
 
     at_next : (cells : List (Option Cell)) (left : List Transfer) (new : ReplayView) (note' : RoomView Transfer) →
         cells ≡ arriving came slot → SlotReplayed (map M now.fixed) slot cells rest left now new note note' →
         Before (slot + 1) left new note'
-    at_next cells left new note' are had =
-        replaying_next b more cells left new note' are
-        (subst (λ (fixed : List (List ℕ)). SlotReplayed (map M fixed) slot cells rest left now new note note')
-        b.made.fixed had)
+    at_next cells left new note' are had = search (rules, replaying_next)
 
     -- ## A fault
 
     reached : Reaches first.limits (map M first.fixed) came first.fabric lines slot now.fabric
-    reached =
-        record {
-          records = b.records;
-          runs = b.runs;
-          moved = told_before b;
-          goes_on = not_over b more;
-        }
+    reached = grind (arith, common_steps, moved, told_before b, goes_on, not_over b more)
 
     -- where a phase begins there, a fault of its lines among those that are left is one of all lines
     fault_at : (phase own : ℕ) (f : Fabric) (fault : PhaseFault) → phase ≡ own →
         Begins first.limits (map M first.fixed) came first.fabric lines slot phase f →
         IsPhaseFault f.inputs (in_phase slot own rest) fault →
         IsFaultAt first.limits (map M first.fixed) came first.fabric lines slot phase fault
-    fault_at phase own f fault is begins wrong =
-        record {
-          fabric = f;
-          begins = begins;
-          wrong =
-              subst (λ (ls : List Transfer). IsPhaseFault f.inputs ls fault)
-              (sym (same_lines b phase ∙ ap (λ (p : ℕ). in_phase slot p rest) is)) wrong;
-        }
+    fault_at phase own f fault is begins wrong = grind (arith, common_steps, same_lines b phase)
 
     -- the lines of the first phase among those that are left are all of it
     half_past : (arrived sent : Fabric) → IsHalfPast (map M first.fixed) slot (in_phase slot 1 rest) arrived sent →
         IsHalfPast (map M first.fixed) slot (in_phase slot 1 lines) arrived sent
-    half_past arrived sent =
-        subst (λ (ls : List Transfer). IsHalfPast (map M first.fixed) slot ls arrived sent) (sym (same_lines b 1))
+    half_past arrived sent = grind (arith, common_steps, same_lines b 1)
 
     at_fault : (cells : List (Option Cell)) (fault : SlotFault) → cells ≡ arriving came slot →
         IsSlotFault (map M now.fixed) slot cells rest now fault →
@@ -301,48 +242,12 @@ module _ (M : List ℕ → Machine) {came : List Arrival} {lines : List Transfer
   module _ {slot : ℕ} {rest : List Transfer} {now : ReplayView} {note : RoomView Transfer}
       (b : Before slot rest now note) (late : end_of came ≤ slot) (empty : IsEmptyFabric now.fabric.state) where
     whole : StableRun first.limits (map M first.fixed) came first.fabric b.records now.fabric
-    whole =
-        let many = one_each b in
-        let Ran : ℕ → List LimitedRecord → Type 0 = λ (k : ℕ) (l : List LimitedRecord).
-        LimitedFabricRun IsStable first.limits (map M first.fixed) 0 (first_slots came k) first.fabric l now.fabric in
-        record {
-          after =
-              subst (λ (k : ℕ). Ran k (take k b.records)) (sym many)
-              (subst (λ (l : List LimitedRecord). Ran slot l) (sym (take_all slot b.records (omega arith))) b.runs);
-          all_came = omega arith;
-          empty = empty;
-          first = λ m f run over none.
-              ⊎_elim
-              (λ (before : m < slot). absurd (b.going m f before run over none))
-              (λ (reached : slot ≤ m). omega arith)
-              (cases_lt m slot);
-        }
+    whole = grind (arith, common_steps, one_each b, take_all, reached, cases_lt)
 
     pub at_end : (result : Result (Unit {0}) AuditRefusal) → OnOk result (rest ≡ []) →
         IfErr result (λ refusal.
         (refusal ≡ Left (length lines - length rest + 1)) × (0 < length rest)) →
         RunEnds (map M first.fixed) came lines first result
-    at_end (Ok done) none some =
-        record {
-          records = b.records;
-          end = now.fabric;
-          runs = whole;
-          moved = sym (b.told ∙ ap (λ (l : List Transfer). moved b.records ++ l) none ∙ append-nil (moved b.records));
-        }
+    at_end (Ok done) none some = grind (arith, common_steps, whole, moved, append-nil)
     at_end (Err refusal) none some =
-        let many = one_each b in
-        let before : before_slot (length b.records) lines ≡ moved b.records =
-        ap (λ (k : ℕ). before_slot k lines) many ∙ sym (told_before b) in
-        let as_many = ap length before in
-        let sum = ap length b.told in
-        let split = length-append (moved b.records) rest in
-        let left : 0 < length rest = some.1 in
-        subst (λ (r : AuditRefusal). IsNoOf first.limits (map M first.fixed) came first.fabric lines r) (sym some.0)
-        (record {
-          records = b.records;
-          end = now.fabric;
-          runs = whole;
-          moved = sym before;
-          number = omega arith;
-          left = omega arith;
-        })
+        grind (arith, common_steps, one_each b, moved b.records, moved, told_before b, length-append, whole)

@@ -1,6 +1,7 @@
 -- The lines of a phase, told input by input. Once the inputs below n had their turn, their partners are what their
 -- lines tell and no other input has one, so an output that is taken then is taken by a lesser input's line.
-use Rattle.std.proofs.Common.{◌≡◌, ◌≢◌, ℕ, zero, suc, ◌+◌, ◌<◌, ◌≤◌, ◌⊎◌, inl, inr, eqb, List, [], ◌∷◌, length, map, get_or, Option, None, Some, refl, ap, sym, subst, ◌∙◌, ⊎_elim, arith}
+use Rattle.std.proofs.lemmas.Grind.{common_steps}
+use Rattle.std.proofs.Common.{rules, ◌≡◌, ◌≢◌, ℕ, zero, suc, ◌+◌, ◌<◌, ◌≤◌, ◌⊎◌, inl, inr, List, [], ◌∷◌, length, map, get_or, Option, None, Some, ap, sym, subst, ◌∙◌, ⊎_elim, arith}
 use Rattle.std.specs.Prelude.{replicate}
 use Rattle.std.specs.Option.{option_map}
 use Rattle.std.specs.List.{AllByRecursion, range_with_len}
@@ -28,18 +29,12 @@ cells_at (x ∷ lists) (suc i) w inside is = cells_at lists i w (omega arith) is
 module _ (i : ℕ) where
   pub line_is_of : (lines : List Transfer) (t : Transfer) → line_of_input i lines ≡ Some t → t.input ≡ i
   line_is_of [] t e = absurd (let P : ⊥ = cc in P)
-  line_is_of (u ∷ lines) t e =
-      cond_both (eqb u.input i) (Some u) (line_of_input i lines) (λ o. o ≡ Some t → t.input ≡ i)
-      (λ is same. let here : u ≡ t = cc in sym (ap (λ (x : Transfer). x.input) here) ∙ eqb-true u.input i is)
-      (λ _ later. line_is_of lines t later) e
+  line_is_of (u ∷ lines) t e = grind (arith, common_steps, cond_both, eqb-true, line_is_of lines t)
 
   pub line_holds : (P : Transfer → Type 0) (lines : List Transfer) (t : Transfer) → AllByRecursion P lines →
       line_of_input i lines ≡ Some t → P t
   line_holds P [] t all e = absurd (let Q : ⊥ = cc in Q)
-  line_holds P (u ∷ lines) t all e =
-      cond_both (eqb u.input i) (Some u) (line_of_input i lines) (λ o. o ≡ Some t → P t)
-      (λ _ same. let here : u ≡ t = cc in subst P here all.0)
-      (λ _ later. line_holds P lines t all.1 later) e
+  line_holds P (u ∷ lines) t all e = grind (arith, common_steps, cond_both, line_holds P lines t all.1)
 
 -- ## The pairs so far
 
@@ -53,14 +48,7 @@ pub record ToldUntil (lists : List (List Queued)) (lines : List Transfer) (n : �
 -- before the first input
 pub none_told : (lists : List (List Queued)) (lines : List Transfer) (ports : ℕ) → ports ≡ length lists →
     ToldUntil lists lines 0 (replicate ports None)
-none_told lists lines ports e =
-    let none : Option ℕ = None in record {
-      size = length-replicate ports none ∙ e;
-      inside = omega arith;
-      done = λ i l. absurd (omega arith);
-      free = λ i l. nobody ports i;
-      right = λ i l. absurd (omega arith);
-    }
+none_told lists lines ports e = grind (arith, common_steps, length-replicate, nobody)
 
 module _ (lists : List (List Queued)) (lines : List Transfer) (n : ℕ) (m : Partners)
     (had : ToldUntil lists lines n m) where
@@ -84,10 +72,7 @@ module _ (lists : List (List Queued)) (lines : List Transfer) (n : ℕ) (m : Par
 
   -- it has none
   pub no_line : n < length lists → line_of_input n lines ≡ None → ToldUntil lists lines (n + 1) m
-  no_line below none = one_more m refl below (had.free n (omega arith) ∙ sym
-      (ap (option_map (λ (t : Transfer). t.output)) none))
-      (λ i _. refl) (λ wrong. let clash : ◌≡◌ {A = Option Transfer} None (Some wrong.line) = sym none ∙ wrong.stands in
-      let P : ⊥ = cc in P)
+  no_line below none = grind (arith, common_steps, one_more)
 
   module _ (t : Transfer) (stands : line_of_input n lines ≡ Some t) where
     told_here : output_told lines n ≡ Some t.output
@@ -137,8 +122,4 @@ module _ (lists : List (List Queued)) (lines : List Transfer) (n : ℕ) (m : Par
         ∙ sym (get_or-map-range_with_len (output_told lines) 0 ports i i None (omega arith) (omega arith)))
 
     pub all_right : AllByRecursion (IsOf ports) lines → AreRight lists lines
-    all_right inside i wrong =
-        ⊎_elim (λ less. had.right i (omega arith) wrong)
-        (λ more. let of = line_holds i (IsOf ports) lines wrong.line inside wrong.stands in
-        let own = line_is_of i lines wrong.line wrong.stands in
-        absurd (omega arith)) (cases_lt i n)
+    all_right inside i wrong = search (rules, line_holds, line_is_of, cases_lt)

@@ -1,6 +1,7 @@
 -- Of whole stable runs one has these transfers. The longer of two runs passes through as many slots as the other
 -- has, and its transfers in them are all those of the other, since its later ones are of later slots. So it is where
 -- the other ended: nothing is to come and nothing waits, and it ends there too.
+use Rattle.std.proofs.lemmas.Grind.{common_steps}
 use Rattle.std.proofs.Common.{◌≡◌, ℕ, ◌+◌, ◌<◌, ◌≤◌, List, [], ◌∷◌, ◌++◌, length, take, drop, Option, refl, sym, ap, ◌∙◌, subst, ⊎_elim, arith, append_assoc, ◌-◌}
 use Rattle.std.specs.List.{AllByRecursion}
 use Rattle.std.proofs.lemmas.Bool.{cases_lt}
@@ -15,7 +16,7 @@ use Rattle.cq_rank.specs.Machine.{Machine}
 use Rattle.cq_prefs.specs.Pairing.{IsStable}
 use Rattle.cq_laws.specs.Fabric.{Fabric, IsEmptyFabric}
 use Rattle.cq_laws.specs.LimitedFabric.{LimitedFabricRun, LimitedFabricSlot, LimitedRecord, slots_in}
-use Rattle.cq_laws.specs.Records.{transfers_in, transfers_of_run}
+use Rattle.cq_laws.specs.Records.{transfers_of_run}
 use Rattle.cq_laws.proofs.Parted.{reach, run_of_whole}
 use Rattle.cq_audit.specs.StableRun.{StableRun}
 use Rattle.cq_audit.proofs.Following.{NoneOf, one_stable_run, run_before, run_later, same_parts, weaker}
@@ -27,18 +28,14 @@ moved rs = transfers_of_run (slots_in rs)
 pub moved_parts : (xs ys : List LimitedRecord) → moved (xs ++ ys) ≡ moved xs ++ moved ys
 unfolding transfers_of_run
 moved_parts [] ys = refl
-moved_parts (x ∷ xs) ys = ap (λ (l : List Transfer). transfers_in x.of_slot ++ l) (moved_parts xs ys)
-    ∙ sym (append_assoc (transfers_in x.of_slot) (moved xs) (moved ys))
+moved_parts (x ∷ xs) ys = grind (arith, common_steps, append_assoc, moved_parts xs ys)
 
 module _ (limits : List (Option ℕ)) (ms : List Machine) (came : List Arrival) where
   -- the transfers of a run of so many slots are of these slots
   pub all_before : (n : ℕ) (f g : Marked Fabric) (rs : List LimitedRecord) →
       LimitedFabricRun IsStable limits ms 0 (first_slots came n) f rs g →
       AllByRecursion (λ t. t.slot < n) (moved rs)
-  all_before n f g rs run =
-      let long = arriving_length came 0 n in
-      weaker (λ t. t.slot < 0 + length (first_slots came n)) (λ t. t.slot < n) (λ t lt. omega arith) (moved rs)
-      (run_before limits ms 0 (first_slots came n) f g rs run)
+  all_before n f g rs run = grind (arith, common_steps, arriving_length, weaker, run_before)
 
   module _ (start : Marked Fabric) where
     Step : ℕ → List (Option Cell) → Marked Fabric → LimitedRecord → Marked Fabric → Type 0
@@ -78,10 +75,4 @@ module _ (limits : List (Option ℕ)) (ms : List Machine) (came : List Arrival) 
 
     pub one_whole_run : (rs ss : List LimitedRecord) (g h : Marked Fabric) → StableRun limits ms came start rs g →
         StableRun limits ms came start ss h → moved rs ≡ moved ss → (rs ≡ ss) × (g ≡ h)
-    one_whole_run rs ss g h w v same =
-        let le = no_longer rs ss g h w v same in
-        let ge = no_longer ss rs h g v w (sym same) in
-        let long : length ss ≡ length rs = omega arith in
-        one_stable_run limits ms 0 (first_slots came (length rs)) start g h rs ss (whole_run rs g w)
-        (subst (λ n. LimitedFabricRun IsStable limits ms 0 (first_slots came n) start ss h) long (whole_run ss h v))
-        same
+    one_whole_run rs ss g h w v same = grind (arith, common_steps, no_longer, one_stable_run, whole_run)

@@ -1,6 +1,7 @@
 -- One word after another. What was drawn, joined with what the generator still gives, is the whole list; at its end
 -- nothing is left to be drawn.
-use Rattle.std.proofs.Common.{◌≡◌, ℕ, suc, ◌+◌, ◌-◌, ◌<◌, ◌≤◌, List, [], ◌∷◌, ◌++◌, length, ap, sym, ◌∙◌, append_assoc, arith}
+use Rattle.std.proofs.lemmas.Grind.{common_steps}
+use Rattle.std.proofs.Common.{◌≡◌, ℕ, suc, ◌+◌, ◌-◌, ◌<◌, ◌≤◌, List, [], ◌∷◌, ◌++◌, length, append_assoc, arith}
 use Rattle.std.proofs.lemmas.List.{append-nil, length_push}
 use Rattle.rand_core.specs.Steps.{first_words}
 use Rattle.rand_pcg.specs.Lcg.{Lcg}
@@ -16,33 +17,17 @@ pub record Draws (seed count : ℕ) (words : List ℕ) (generator : Lcg) : Type 
 one_more : {S : Type 0} (step : S → ℕ × S) (words : List ℕ) (s t : S) (w n m : ℕ) → n ≡ suc m → (w, t) ≡ step s →
     (words ++ w ∷ []) ++ first_words step m t ≡ words ++ first_words step n s
 unfolding first_words
-one_more {S} step words s t w n m e drawn =
-    append_assoc words (w ∷ []) (first_words step m t)
-    ∙ ap (λ (p : ℕ × S). words ++ p.0 ∷ first_words step m p.1) drawn
-    ∙ ap (λ (k : ℕ). words ++ first_words step k s) (sym e)
+one_more {S} step words s t w n m e drawn = grind (arith, common_steps, append_assoc)
 
 pub draws_none : (seed count : ℕ) → Draws seed count [] (generator_of seed)
 unfolding first_draws
-draws_none seed count = record {
-  within = omega arith;
-  joins = let e : count - 0 ≡ count = omega arith in ap (λ (n : ℕ). first_words pcg32 n (generator_of seed)) e;
-}
+draws_none seed count = grind (arith, common_steps)
 
 pub draws_more : (seed count : ℕ) (words : List ℕ) (before after : Lcg) (w : ℕ) → length words < count →
     (w, after) ≡ pcg32 before → Draws seed count words before → Draws seed count (words ++ w ∷ []) after
-draws_more seed count words before after w left drawn d =
-    let long : length (words ++ w ∷ []) ≡ length words + 1 = length_push words w in
-    let e : count - length words ≡ suc (count - length (words ++ w ∷ [])) = omega arith in
-    record {
-      within = omega arith;
-      joins =
-          one_more pcg32 words before after w (count - length words) (count - length (words ++ w ∷ [])) e drawn
-          ∙ d.joins;
-    }
+draws_more seed count words before after w left drawn d = grind (arith, common_steps, length_push, one_more)
 
 pub draws_all : (seed count : ℕ) (words : List ℕ) (generator : Lcg) → count ≤ length words →
     Draws seed count words generator → words ≡ first_draws seed count
 unfolding first_words
-draws_all seed count words generator enough d =
-    let none : 0 ≡ count - length words = omega arith in
-    sym (append-nil words) ∙ ap (λ (n : ℕ). words ++ first_words pcg32 n generator) none ∙ d.joins
+draws_all seed count words generator enough d = grind (arith, common_steps, append-nil)

@@ -1,14 +1,13 @@
 -- The tables are in range, and no address stands twice, since the last bytes of two addresses differ.
-use Rattle.std.proofs.Common.{◌≡◌, ℕ, ◌<◌, ◌≤◌, List, Option, None, get_or, ap, sym, ◌∙◌, subst, arith}
+use Rattle.std.proofs.Common.{rules, ◌≡◌, ℕ, ◌<◌, ◌≤◌, List, Option, None, get_or, ap, sym, ◌∙◌, arith}
 use Rattle.std.proofs.lemmas.List.{length-replicate, get_or-replicate}
 use Rattle.std.proofs.lemmas.List.FromFn.{length-map-range_with_len}
 use Rattle.std.specs.Int.{IsInRange}
-use Rattle.cq_base.specs.declared.setup.ClassRow.{ClassRow}
 use Rattle.cq_route.specs.declared.tables.AddressRow.{AddressRow}
 use Rattle.cq_route.specs.declared.tables.RuleRow.{RuleRow}
 use Rattle.cq_route.specs.Tables.{AreTables, ports_of}
-use Rattle.std.specs.Prelude.{IfSome, ◌≢◌}
-use Rattle.cq_gen.specs.Tables.{soak_address, soak_class, soak_kind, soak_port, soak_rule, soak_setup, soak_tables}
+use Rattle.std.specs.Prelude.{◌≢◌}
+use Rattle.cq_gen.specs.Tables.{soak_address, soak_kind, soak_port, soak_rule, soak_setup, soak_tables}
 use Rattle.cq_gen.proofs.Counted.{all_counted, all_pairs_counted}
 
 pub soak_ports : (ports : ℕ) → ports_of (soak_setup ports) ≡ ports
@@ -27,33 +26,18 @@ tables_in_range ports range =
     let no_limit : Option ℕ = None in
     let limits = length-replicate ports no_limit in
     record {
-      setup = record {
-        classes = (omega arith, omega arith);
-        ports = (omega arith, omega arith);
-        levels = all_counted (λ (row : ClassRow). row.level < 16) soak_class 8 (λ k l. omega arith);
-        costs = all_counted (λ (row : ClassRow). 1 ≤ row.cost) soak_class 8 (λ k l. omega arith);
-      };
+      setup = search (arith, rules, all_counted);
       cell_bytes = (omega arith, omega arith);
       slot_ns = (omega arith, omega arith);
       limit_bytes = (omega arith, omega arith);
       workers = (omega arith, omega arith);
       files = length-replicate ports soak_port ∙ sym count;
-      limits = record {
-        ports_are = limits ∙ sym count;
-        some = λ k d inside.
-            subst (λ (limit : Option ℕ). IfSome limit (λ n. 1 ≤ n))
-            (sym (get_or-replicate ports k no_limit d (omega arith))) tt;
-      };
+      limits = search (arith, rules, get_or-replicate);
       default_output = omega arith;
       default_class = omega arith;
-      addresses_differ =
-          all_pairs_counted (λ (a b : AddressRow). a.mac ≢ b.mac) soak_address ports
+      addresses_differ = all_pairs_counted (λ (a b : AddressRow). a.mac ≢ b.mac) soak_address ports
           (λ i j l e. let same : i ≡ j = ap (λ (mac : List ℕ). get_or mac 5 0) e in omega arith);
-      outputs =
-          all_counted (λ (row : AddressRow). row.output < ports_of (soak_setup ports)) soak_address ports
-          (λ k l. omega arith);
-      inputs =
-          all_counted (λ (row : RuleRow). IfSome row.input (λ input. input < ports_of (soak_setup ports))) soak_rule 8
-          (λ k l. tt);
+      outputs = search (arith, rules, all_counted);
+      inputs = search (arith, rules, all_counted);
       rule_classes = all_counted (λ (row : RuleRow). row.class < 8) soak_rule 8 (λ k l. l);
     }

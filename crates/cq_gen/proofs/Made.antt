@@ -1,5 +1,6 @@
 -- What the captures of all inputs come to: those of the definition, one for each input, with a packet for each slot.
-use Rattle.std.proofs.Common.{◌≡◌, ℕ, ◌*◌, List, length, map, All, ap, sym, subst, ◌∙◌}
+use Rattle.std.proofs.lemmas.Grind.{common_steps}
+use Rattle.std.proofs.Common.{arith, ◌≡◌, ℕ, ◌*◌, List, length, map, All, ap, sym, subst, ◌∙◌}
 use Rattle.std.proofs.lemmas.List.FromFn.{length-map-range_with_len}
 use Rattle.std.specs.List.{range_with_len}
 use Rattle.cq_pcap.specs.Captured.{Captured}
@@ -14,9 +15,7 @@ module _ (ports slots : ℕ) (words drawn : List ℕ) (captures : List (List Cap
   captures_of_draws = each ∙ ap (λ (ws : List ℕ). map (packets_to ws ports slots) (range_with_len 0 ports)) same
 
   pub captures_count : length captures ≡ ports
-  captures_count =
-      ap (λ (cs : List (List Captured)). length cs) each
-      ∙ length-map-range_with_len (packets_to words ports slots) 0 ports
+  captures_count = grind (arith, common_steps, length-map-range_with_len)
 
   pub captures_lengths : All (λ packets. length packets ≡ slots) captures
   captures_lengths =

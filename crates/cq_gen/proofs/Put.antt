@@ -1,6 +1,6 @@
 -- The packets of an input are put into its file one after another: after each slot it is the file of the packets so
 -- far.
-use Rattle.std.proofs.Common.{◌≡◌, ℕ, ◌+◌, List, [], ◌∷◌, ◌++◌, map, refl, ap, sym, ◌∙◌}
+use Rattle.std.proofs.Common.{rules, ◌≡◌, ℕ, ◌+◌, List, [], ◌∷◌, ◌++◌, map, ap, sym, ◌∙◌}
 use Rattle.std.proofs.lemmas.List.{map-append}
 use Rattle.cq_pcap.specs.Captured.{Captured}
 use Rattle.cq_pcap.specs.Written.{record_of, written}
@@ -21,9 +21,7 @@ module _ (words : List ℕ) (ports input : ℕ) where
   -- and with one slot more
   more : (slot : ℕ) → packets_to words ports slot input ++ made_in slot ∷ [] ≡ packets_to words ports (slot + 1) input
   unfolding packets_to made_in
-  more slot =
-      let so_far = packets_to words ports slot input in
-      counted_more made_in slot so_far (so_far ++ made_in slot ∷ []) (made_in slot) refl refl refl
+  more slot = search (rules, counted_more)
 
   pub one_put : (slot : ℕ) (bytes new : List ℕ) → bytes ≡ written (map to_write (packets_to words ports slot input)) →
       new ≡ bytes ++ record_of (to_write (packet_of ports slot input (draw_for words ports slot input))) →

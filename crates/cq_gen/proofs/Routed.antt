@@ -1,30 +1,23 @@
 -- A made packet goes where its word says. Its destination is the address of one output and of no other, and its tag
 -- has the priority of one rule and of no other, so what is found is that one.
-use Rattle.std.proofs.Common.{◌≡◌, ℕ, zero, suc, ◌+◌, ◌*◌, ◌/◌, ◌%◌, ◌<◌, ◌≤◌, ◌^◌, Bool, true, false, cond, ◌&&◌, eqb, length, map, find, Option, Some, inl, inr, refl, sym, ap, ◌∙◌, arith, mod-lt}
+use Rattle.std.proofs.lemmas.Grind.{common_steps}
+use Rattle.std.proofs.Common.{rules, ◌≡◌, ℕ, zero, suc, ◌+◌, ◌*◌, ◌/◌, ◌%◌, ◌<◌, ◌≤◌, ◌^◌, Bool, true, false, ◌&&◌, length, map, find, Some, refl, sym, ap, arith, mod-lt, Option}
 use Rattle.std.proofs.lemmas.Bool.{cases_eq, eq-eqb, ne_eqb}
 use Rattle.std.specs.Int.{IsInRange}
 use Rattle.std.specs.List.{range_with_len}
-use Rattle.std.specs.Option.{option_map_or}
 use Rattle.cq_frame.specs.Frame.{destination, priority}
 use Rattle.cq_frame.specs.declared.frame.FrameParts.{FrameParts}
-use Rattle.cq_route.specs.Route.{class_for, fields_of, is_met, is_to, output_for, route}
-use Rattle.cq_route.specs.declared.tables.AddressRow.{AddressRow}
-use Rattle.cq_route.specs.declared.tables.RuleRow.{RuleRow}
+use Rattle.cq_route.specs.Route.{class_for, is_met, is_to, output_for, route}
 use Rattle.cq_gen.specs.Packets.{frame_of, output_address, packet_of}
 use Rattle.cq_gen.specs.Tables.{soak_address, soak_rule, soak_tables}
+use Rattle.std.specs.Option.{option_map_or}
+use Rattle.cq_route.specs.declared.tables.AddressRow.{AddressRow}
 
 -- what is found is the item of the only number that passes
 found_counted : {X : Type 0} (test : X → Bool) (f : ℕ → X) (j a n : ℕ) → a ≤ j → j < a + n → test (f j) ≡ true →
     ((k : ℕ) → (k ≡ j → ⊥) → test (f k) ≡ false) → find test (map f (range_with_len a n)) ≡ Some (f j)
 found_counted test f j a zero low high here other = absurd (omega arith)
-found_counted {X} test f j a (suc n) low high here other =
-    let rest : Option X = find test (map f (range_with_len (a + 1) n)) in
-    elim (cases_eq a j) [
-      | inl same ↦ ap (λ (b : Bool). cond b (Some (f a)) rest) (ap (λ (k : ℕ). test (f k)) same ∙ here)
-          ∙ ap (λ (k : ℕ). Some (f k)) same
-      | inr apart ↦ ap (λ (b : Bool). cond b (Some (f a)) rest) (other a apart)
-          ∙ found_counted test f j (a + 1) n (omega arith) (omega arith) here other
-    ]
+found_counted {X} test f j a (suc n) low high here other = search (rules, cases_eq, found_counted test f j (a + 1) n)
 
 destination_is : (output input rank : ℕ) → destination (frame_of output input rank) ≡ Some (output_address output)
 unfolding destination frame_of
@@ -32,8 +25,7 @@ destination_is output input rank = refl
 
 priority_is : (output input rank : ℕ) → priority (frame_of output input rank) ≡ Some rank
 unfolding priority frame_of
-priority_is output input rank =
-    let e : (256 * (rank * 32) + 0) / 2 ^ 13 ≡ rank = omega arith in ap (λ (n : ℕ). Some n) e
+priority_is output input rank = grind (arith, common_steps)
 
 is_to_output : (output : ℕ) → is_to (Some (output_address output)) (soak_address output) ≡ true
 is_to_output output = ap (λ (b : Bool). b && true) (eq-eqb output output refl)
@@ -54,41 +46,26 @@ with_priority fields rank = fields.pcp ≡ Some rank
 
 met_by_own : (input rank : ℕ) (fields : FrameParts) → with_priority fields rank →
     is_met input fields (soak_rule rank) ≡ true
-met_by_own input rank fields e =
-    ap (λ (pcp : Option ℕ). (option_map_or (λ n. eqb n rank) pcp false && true) && true) e
-    ∙ ap (λ (b : Bool). (b && true) && true) (eq-eqb rank rank refl)
+met_by_own input rank fields e = grind (arith, common_steps, eq-eqb)
 
 met_by_other : (input rank : ℕ) (fields : FrameParts) → with_priority fields rank → (k : ℕ) → (k ≡ rank → ⊥) →
     is_met input fields (soak_rule k) ≡ false
-met_by_other input rank fields e k apart =
-    ap (λ (pcp : Option ℕ). (option_map_or (λ n. eqb n k) pcp false && true) && true) e
-    ∙ ap (λ (b : Bool). (b && true) && true) (ne_eqb rank k (λ same. apart (sym same)))
+met_by_other input rank fields e k apart = grind (arith, common_steps, ne_eqb)
 
 class_is : (ports input rank : ℕ) (fields : FrameParts) → rank < 8 → with_priority fields rank →
     class_for (soak_tables ports) input fields ≡ rank
 unfolding soak_tables
-class_is ports input rank fields few e =
-    ap (λ (r : Option RuleRow). option_map_or (λ rule. rule.class) r 0)
-    (found_counted (is_met input fields) soak_rule rank 0 8 (omega arith) (omega arith)
-    (met_by_own input rank fields e) (met_by_other input rank fields e))
+class_is ports input rank fields few e = grind (arith, common_steps, found_counted, met_by_own, met_by_other)
 
 frame_routed : (ports input output rank : ℕ) → output < ports → rank < 8 →
     route (soak_tables ports) input (frame_of output input rank) ≡ (output, rank)
 unfolding route
-frame_routed ports input output rank inside few =
-    let bytes = frame_of output input rank in
-    let to : output_for (soak_tables ports) (destination bytes) ≡ output =
-    ap (output_for (soak_tables ports)) (destination_is output input rank) ∙ output_is ports output inside in
-    let in_class : class_for (soak_tables ports) input (fields_of bytes) ≡ rank =
-    class_is ports input rank (fields_of bytes) few (priority_is output input rank) in
-    λ i. (to i, in_class i)
+frame_routed ports input output rank inside few = search (rules, destination_is, output_is, class_is, priority_is)
 
 pub packet_routed : (ports slot input word : ℕ) → IsInRange 1 64 ports → word < 2 ^ 32 →
     route (soak_tables ports) input (packet_of ports slot input word).body ≡ (word % ports, word / 2 ^ 29)
 unfolding packet_of
-packet_routed ports slot input word range fits =
-    let some : 0 < ports = let low = range.0 in omega arith in
-    frame_routed ports input (word % ports) (word / 2 ^ 29) (mod-lt word some) (omega arith)
+packet_routed ports slot input word range fits = grind (arith, common_steps, frame_routed, mod-lt)
 
 pub packet_fills_one_cell : (ports slot input word : ℕ) →
     length (packet_of ports slot input word).body ≤ (soak_tables ports).cell_bytes

@@ -1,6 +1,7 @@
 -- Made packets are small: each fits a record, and all records of an input fit a file. So the file that is written is
 -- read again as the same packets, and no fault of a file can come.
 use Rattle.std.proofs.Common.{◌≡◌, ℕ, ◌+◌, ◌*◌, ◌<◌, ◌≤◌, ◌^◌, List, [], ◌∷◌, ◌++◌, length, map, false, Ok, Err, IfSome, refl, ap, sym, subst, ◌∙◌, arith, length-append}
+use Rattle.std.proofs.lemmas.Grind.{common_steps}
 use Rattle.std.proofs.lemmas.List.{length-map}
 use Rattle.std.proofs.lemmas.List.FromFn.{length-map-range_with_len}
 use Rattle.std.specs.List.{AllByRecursion, flat_map}
@@ -8,13 +9,12 @@ use Rattle.cq_pcap.specs.Captured.{Captured}
 use Rattle.cq_pcap.specs.Faults.{fault_of}
 use Rattle.cq_pcap.specs.Reading.{packets_of}
 use Rattle.cq_pcap.specs.Record.{Record, spelling}
-use Rattle.cq_pcap.specs.Written.{IsWritable, read_again, record_of, written, written_header, written_record}
+use Rattle.cq_pcap.specs.Written.{IsWritable, read_again, record_of, written, written_header}
 use Rattle.cq_pcap.specs.declared.read.PcapRefusal.{PcapRefusal}
 use Rattle.cq_pcap.specs.declared.read.PcapRefusal.TheVariants as refusal
 use Rattle.cq_pcap.specs.declared.write.OutPacket.{OutPacket}
 use Rattle.cq_pcap.proofs.SpeltIsRead.{spelt_is_read}
 use Rattle.cq_pcap.proofs.WrittenIsSpelt.{written_is_spelt}
-use Rattle.cq_gen.specs.Draws.{draw_for}
 use Rattle.cq_gen.specs.Packets.{frame_of, packet_of, packets_to, to_write}
 use Rattle.cq_gen.proofs.Counted.{all_by_counted}
 
@@ -31,23 +31,17 @@ packet_small ports slot input word early = record { stamp = omega arith; origina
 packets_small : (words : List ℕ) (ports slots input : ℕ) → slots ≤ 20000 →
     AllByRecursion IsSmall (packets_to words ports slots input)
 unfolding packets_to
-packets_small words ports slots input few =
-    all_by_counted IsSmall (λ slot. packet_of ports slot input (draw_for words ports slot input)) 0 slots
-    (λ slot early. packet_small ports slot input (draw_for words ports slot input) (omega arith))
+packets_small words ports slots input few = grind (arith, common_steps, all_by_counted IsSmall, packet_small ports)
 
 pub length-packets_to : (words : List ℕ) (ports slots input : ℕ) → length (packets_to words ports slots input) ≡ slots
 unfolding packets_to
-length-packets_to words ports slots input =
-    length-map-range_with_len (λ slot. packet_of ports slot input (draw_for words ports slot input)) 0 slots
+length-packets_to words ports slots input = grind (arith, common_steps, length-map-range_with_len)
 
 -- ## What is written of small packets
 
 writable : (ps : List OutPacket) → AllByRecursion IsSmall (map read_again ps) → AllByRecursion IsWritable ps
 writable [] small = tt
-writable (p ∷ ps) small =
-    let original : p.original ≡ 60 = small.0.original in
-    let body : length p.body ≡ 60 = small.0.body in
-    (record { stamp = small.0.stamp; original = omega arith; body = omega arith }, writable ps small.1)
+writable (p ∷ ps) small = grind (arith, common_steps, writable ps small.1)
 
 length-spelling : (r : Record) (rest : List ℕ) → length (spelling false r ++ rest) ≡ 16 + (length r.body + length rest)
 length-spelling r rest = omega (arith, length-append r.body rest)
@@ -58,9 +52,7 @@ spelt ps = flat_map record_of ps
 
 length-spelt : (ps : List OutPacket) → AllByRecursion IsSmall (map read_again ps) → length (spelt ps) ≡ 76 * length ps
 length-spelt [] small = refl
-length-spelt (p ∷ ps) small =
-    let body : length p.body ≡ 60 = small.0.body in
-    omega (arith, body, length-spelling (written_record p) (spelt ps), length-spelt ps small.1)
+length-spelt (p ∷ ps) small = grind (arith, common_steps, length-spelling, length-spelt ps small.1)
 
 length-written : (ps : List OutPacket) → length (written ps) ≡ 24 + length (spelt ps)
 length-written ps = length-append written_header (spelt ps)
@@ -82,10 +74,7 @@ module _ (words : List ℕ) (ports slots input : ℕ) (few : slots ≤ 20000) (b
 
   pub file_small : length bytes ≤ 2 ^ 28
   unfolding packets
-  file_small =
-      let ps = map to_write packets in
-      let count : length ps ≡ slots = length-map packets to_write ∙ length-packets_to words ports slots input in
-      omega (arith, ap length wrote, length-written ps, length-spelt ps small)
+  file_small = grind (arith, common_steps, length-map, length-packets_to, length-written, length-spelt, small)
 
   pub file_read : packets_of bytes ≡ Ok (packets_to words ports slots input)
   unfolding packets

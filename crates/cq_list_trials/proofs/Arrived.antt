@@ -1,6 +1,6 @@
 -- Cells that arrived in slots before this one: they arrived before the next one too, also what is left of them where
 -- one left, and with the newest among them.
-use Rattle.std.proofs.Common.{◌≡◌, ℕ, ◌+◌, ◌<◌, cond, List, [], ◌∷◌, length, drop, Option, Some, ap, arith}
+use Rattle.std.proofs.Common.{rules, ◌≡◌, ℕ, ◌+◌, ◌<◌, cond, List, [], ◌∷◌, length, drop, Option, arith}
 use Rattle.std.specs.Prelude.{is_some}
 use Rattle.std.proofs.lemmas.Bool.{cond_both}
 use Rattle.cq_base.specs.declared.cell.Queued.{Queued}
@@ -9,9 +9,7 @@ use Rattle.cq_base.proofs.Lists.{all_at, all_by, all_left}
 use Rattle.cq_urgency.proofs.Rising.{all_put}
 
 pub older_still : (slot : ℕ) (xs : List Queued) → ArrivedBefore slot xs → ArrivedBefore (slot + 1) xs
-older_still slot xs before =
-    all_by _ xs
-    (λ t c at.
+older_still slot xs before = all_by _ xs (λ t c at.
     let l : c.key.slot < slot = all_at (λ x. x.key.slot < slot) xs t c before at in omega arith)
 
 -- ## A list
@@ -28,16 +26,9 @@ count_taken taken = cond (is_some taken) 1 0
 pub length_left : (j : ℕ) (xs : List Queued) →
     length (without_first j xs) + count_taken (first_for j xs) ≡ length xs
 length_left j [] = omega arith
-length_left j (x ∷ xs) =
-    cond_both (is_for j x) xs (x ∷ without_first j xs)
-    (λ l. length l + count_taken (first_for j (x ∷ xs)) ≡ length (x ∷ xs))
-    (λ e. let one : count_taken (first_for j (x ∷ xs)) ≡ 1 =
-    ap (λ b. count_taken (cond b (Some x) (first_for j xs))) e in omega arith)
-    (λ e.
-    let same : count_taken (first_for j (x ∷ xs)) ≡ count_taken (first_for j xs) =
-    ap (λ b. count_taken (cond b (Some x) (first_for j xs))) e in
-    let rest = length_left j xs in
-    omega arith)
+length_left j (x ∷ xs) = cond_both (is_for j x) xs (x ∷ without_first j xs)
+    (λ l. length l + count_taken (first_for j (x ∷ xs)) ≡ length (x ∷ xs)) (λ e. search (arith, rules))
+    (λ e. search (arith, rules, length_left j xs))
 
 -- ## A buffer
 

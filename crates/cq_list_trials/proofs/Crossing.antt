@@ -1,8 +1,7 @@
 -- The worked transfer: of three inputs the first is matched with output 1 and the last with output 0.
-use Rattle.std.proofs.Common.{◌≡◌, ℕ, zero, suc, ◌<◌, List, [], ◌∷◌, Some, None, sym, ap, ◌∙◌, subst, arith}
+use Rattle.std.proofs.Common.{rules, ◌≡◌, ℕ, zero, suc, ◌<◌, List, [], ◌∷◌, Some, None, sym, ap, ◌∙◌, subst, arith}
 use Rattle.std.proofs.lemmas.Option.{same_Some}
 use Rattle.cq_base.specs.declared.cell.Queued.{Queued}
-use Rattle.cq_base.specs.Cells.{HasOtherKey}
 use Rattle.cq_urgency.specs.OutputBuffer.{Buffered}
 use Rattle.cq_prefs.specs.FirstCells.{list_of, HasCellFor}
 use Rattle.cq_prefs.specs.Pairing.{Partners, partner_of, IsFreeOutput}
@@ -27,9 +26,7 @@ pub keys_are_new : (m : Partners) (lists buffers : List (List Queued)) → m ≡
     buffers ≡ [] ∷ [] ∷ [] ∷ [] → KeysAreNew m lists buffers
 keys_are_new m lists buffers is none i j c p found =
     let empty : (k : ℕ) → list_of buffers k ≡ list_of ([] ∷ [] ∷ [] ∷ []) k =
-    λ k. ap (λ (b : List (List Queued)). list_of b k) none in
-    both_pairs (λ i j. HasOtherKey c (list_of buffers j)) m is (subst (HasOtherKey c) (sym (empty 1)) tt)
-    (subst (HasOtherKey c) (sym (empty 0)) tt) i j p
+    λ k. ap (λ (b : List (List Queued)). list_of b k) none in search (arith, rules, both_pairs)
 
 pub have_room : (m : Partners) (buffers : List Buffered) → m ≡ Some 1 ∷ None ∷ Some 0 ∷ [] →
     0 < buffer_spare buffers 0 → 0 < buffer_spare buffers 1 → HaveRoom m buffers

@@ -1,10 +1,9 @@
 -- Lists that change in slot after slot, each in the cells for the partner of its input: a cell came, or the first one
 -- went. The cells of a list are those of its input and came in different slots, so all keys differ. And each list is as
 -- before but for the partner, so the orders are so but for the pairs.
-use Rattle.std.proofs.Common.{◌≡◌, ℕ, ◌+◌, ◌<◌, ◌≤◌, true, false, List, [], length, get_or, set, Some, None, refl, sym, ap, ◌∙◌, subst, ⊎_elim, arith}
+use Rattle.std.proofs.Common.{rules, ◌≡◌, ℕ, ◌+◌, ◌<◌, ◌≤◌, true, false, List, [], length, get_or, set, Some, None, refl, sym, ap, ◌∙◌, subst, ⊎_elim, arith}
 use Rattle.std.specs.Prelude.{All, slice_get}
 use Rattle.std.specs.List.{AllByRecursion}
-use Rattle.std.specs.Option.{option_map}
 use Rattle.std.proofs.Math.ListN.{get_or-map}
 use Rattle.std.proofs.lemmas.Bool.{cases_eq, cases_lt, eq-eqb, eqb-true}
 use Rattle.std.proofs.lemmas.List.{length-map, length-set, get_or_past, get_or_default, get_or-set_same, get_or-set_other}
@@ -14,7 +13,7 @@ use Rattle.std.proofs.lemmas.Option.{same_Some, slice_get_within, slice_get-get_
 use Rattle.cq_base.specs.declared.cell.Queued.{Queued}
 use Rattle.cq_base.specs.declared.key.Key.{Key}
 use Rattle.cq_base.specs.Key.{is_before}
-use Rattle.cq_base.specs.Cells.{KeepsOrder, MoreUrgentAhead, ArrivedBefore, is_for, first_for, place_for, without_first, place_of_arrival, with_arrival}
+use Rattle.cq_base.specs.Cells.{KeepsOrder, MoreUrgentAhead, ArrivedBefore, is_for, first_for, place_for, without_first, with_arrival}
 use Rattle.cq_base.proofs.Keys.{key_laws}
 use Rattle.cq_base.proofs.Lists.{all_at, each_pair_at, first_le, all_left, all_insert, arrived_newest}
 use Rattle.cq_list.specs.InputList.{Waiting, cells_of}
@@ -39,37 +38,23 @@ ahead_of_first cushion c xs order later place x at same before =
     let f : Queued = get_or xs n x in
     let at_first : slice_get xs n ≡ Some f = slice_get-get_or xs n x inside in
     let own : f.cell.output ≡ j = eqb-true f.cell.output j (passes_at_first (is_for j) xs x inside) in
-    let ahead : is_before f.key c.key ≡ true =
-    ⊎_elim
-    (λ lt. key_laws.on f.key x.key c.key (each_pair_at _ xs n place f x order at_first at lt (own ∙ sym same)) before)
-    (λ ge.
-    let here : place ≡ n = omega arith in
-    subst (λ (y : Queued). is_before y.key c.key ≡ true)
-    (same_Some x f (sym at ∙ ap (slice_get xs) here ∙ at_first)) before)
-    (cases_lt n place) in
-    let key : Queued → Key = λ q. q.key in
-    let no : is_before f.key c.key ≡ false =
-    sym (ap (λ o. key_before (option_map key o) (Some c.key)) (find_at (is_for j) xs ∙ at_first)) ∙ later in
-    absurd (let P : ⊥ = cc in P)
+    let ahead : is_before f.key c.key ≡ true = ⊎_elim (λ lt. key_laws.on f.key x.key c.key
+    (each_pair_at _ xs n place f x order at_first at lt (own ∙ sym same)) before)
+    (λ ge. search (arith, rules, same_Some)) (cases_lt n place) in
+    search (arith, rules, find_at)
 
 own_still : (slot i : ℕ) (list : Waiting) → IsOwn slot i list → IsOwn (slot + 1) i list
 own_still slot i list own =
-    record {
-      input = own.input;
-      older = older_still slot list.cells own.older;
-      room = omega arith;
-    }
+    record { input = own.input; older = older_still slot list.cells own.older; room = omega arith }
 
 -- the first cell for output j went
 pub own_left : (slot i j : ℕ) (old new : Waiting) → IsOwn slot i old → new.cells ≡ without_first j old.cells →
     old.spare ≤ new.spare → IsOwn (slot + 1) i new
-own_left slot i j old new own cells room =
-    own_still slot i new
-    (record {
-      input = subst (AllByRecursion (λ c. c.key.input ≡ i)) (sym cells) (all_left _ j old.cells own.input);
-      older = subst (ArrivedBefore slot) (sym cells) (all_left _ j old.cells own.older);
-      room = omega arith;
-    })
+own_left slot i j old new own cells room = own_still slot i new (record {
+  input = subst (AllByRecursion (λ c. c.key.input ≡ i)) (sym cells) (all_left _ j old.cells own.input);
+  older = subst (ArrivedBefore slot) (sym cells) (all_left _ j old.cells own.older);
+  room = omega arith;
+})
 
 -- a cell came
 pub own_come : (slot i cushion : ℕ) (c : Queued) (old new : Waiting) → IsOwn slot i old → c.key.input ≡ i →
@@ -77,21 +62,12 @@ pub own_come : (slot i cushion : ℕ) (c : Queued) (old new : Waiting) → IsOwn
     IsOwn (slot + 1) i new
 own_come slot i cushion c old new own input now cells room =
     let older : ArrivedBefore c.key.slot old.cells = subst (λ s. ArrivedBefore s old.cells) (sym now) own.older in
-    record {
-      input = subst (AllByRecursion (λ x. x.key.input ≡ i)) (sym cells)
-          (all_insert _ old.cells (place_of_arrival cushion c old.cells) c input own.input);
-      older = subst (ArrivedBefore (slot + 1)) (sym cells)
-          (subst (λ s. ArrivedBefore (s + 1) (with_arrival cushion c old.cells)) now
-          (arrived_newest cushion c old.cells older));
-      room = omega arith;
-    }
+    search (arith, rules, all_insert, arrived_newest)
 
 changed_same : (j : ℕ) (old new : List Queued) → HasChanged j old new → IsSameBut (Some j) old new
 changed_same j old new changed =
-    ⊎_elim
-    (λ come. same_but_arrival (Some j) old new come.place come.cell (ap Some (sym come.output)) come.cells)
-    (λ gone. same_but_taken (Some j) old new j refl gone)
-    changed
+    ⊎_elim (λ come. same_but_arrival (Some j) old new come.place come.cell (ap Some (sym come.output)) come.cells)
+    (λ gone. same_but_taken (Some j) old new j refl gone) changed
 
 -- ## All lists
 
@@ -133,13 +109,10 @@ module _ {m : Partners} {slot n : ℕ} {old now : List Waiting} (had : Changing 
       record {
         long = had.long;
         outputs = had.outputs;
-        done = λ i none l inside.
-            ⊎_elim
-            (λ is.
-            subst (IsOwn (slot + 1) i) (sym (had.waits i none (omega arith) inside))
+        done =
+            λ i none l inside. ⊎_elim (λ is. subst (IsOwn (slot + 1) i) (sym (had.waits i none (omega arith) inside))
             (own_still slot i (get_or old i none) (own i none inside)))
-            (λ other. had.done i none (omega arith) inside)
-            (cases_eq i n);
+            (λ other. had.done i none (omega arith) inside) (cases_eq i n);
         waits = λ i none l inside. had.waits i none (omega arith) inside;
         same = had.same;
       }
@@ -156,44 +129,18 @@ module _ {m : Partners} {slot n : ℕ} {old now : List Waiting} (had : Changing 
       let here : (d : Waiting) → get_or (set now n w) n d ≡ w = λ d. get_or-set_same now n w d within in
       record {
         long = length-set now n w ∙ had.long;
-        outputs = λ k d l.
-            ⊎_elim
-            (λ is.
-            ap (λ i. (get_or (set now n w) i d).outputs) is ∙ ap (λ (x : Waiting). x.outputs) (here d) ∙ outputs
-            ∙ had.outputs n none within)
-            (λ other.
-            ap (λ (x : Waiting). x.outputs) (get_or-set_other now n k w d other)
-            ∙ had.outputs k d (omega (arith, length-set now n w)))
-            (cases_eq k n);
-        done = λ i d l i_inside.
-            ⊎_elim
-            (λ is.
-            subst (λ k. IsOwn (slot + 1) k (get_or (set now n w) k d)) (sym is)
-            (subst (IsOwn (slot + 1) n) (sym (here d)) own))
-            (λ other.
-            subst (IsOwn (slot + 1) i) (sym (get_or-set_other now n i w d other))
-            (had.done i d (omega arith) i_inside))
-            (cases_eq i n);
-        waits = λ i d l i_inside.
-            get_or-set_other now n i w d (λ is. (let P : ⊥ = omega arith in P))
-            ∙ had.waits i d (omega arith) i_inside;
-        same = λ i.
-            ⊎_elim
-            (λ is.
-            subst (λ k. IsSameBut (partner_of m k) (list_of (cells_of old) k) (list_of (cells_of (set now n w)) k))
-            (sym is)
-            (subst (λ p. IsSameBut p (list_of (cells_of old) n) (list_of (cells_of (set now n w)) n)) (sym partner)
-            (subst (λ xs. IsSameBut (Some j) xs (list_of (cells_of (set now n w)) n))
-            (ap (λ (x : Waiting). x.cells) was ∙ sym (cells-at old n))
-            (subst (IsSameBut (Some j) (get_or now n none).cells)
+        outputs = search (arith, rules, get_or-set_other, length-set, cases_eq);
+        done = search (arith, rules, get_or-set_other, cases_eq);
+        waits = search (arith, rules, get_or-set_other);
+        same = λ i. ⊎_elim (λ is. subst (λ k. IsSameBut (partner_of m k) (list_of (cells_of old) k)
+            (list_of (cells_of (set now n w)) k)) (sym is) (subst
+            (λ p. IsSameBut p (list_of (cells_of old) n) (list_of (cells_of (set now n w)) n))
+            (sym partner) (subst (λ xs. IsSameBut (Some j) xs (list_of (cells_of (set now n w)) n))
+            (ap (λ (x : Waiting). x.cells) was ∙ sym (cells-at old n)) (subst
+            (IsSameBut (Some j) (get_or now n none).cells)
             (sym (cells-at (set now n w) n ∙ ap (λ (x : Waiting). x.cells) (here no_list)))
             (changed_same j (get_or now n none).cells w.cells changed)))))
-            (λ other.
-            subst (IsSameBut (partner_of m i) (list_of (cells_of old) i))
-            (cells-at now i ∙ ap (λ (x : Waiting). x.cells) (sym (get_or-set_other now n i w no_list other))
-            ∙ sym (cells-at (set now n w) i))
-            (had.same i))
-            (cases_eq i n);
+            (λ other. search (arith, rules, IsSameBut, cells-at, get_or-set_other)) (cases_eq i n);
       }
 
   pub all_own : length old ≤ n → AreOwn (slot + 1) now
@@ -201,7 +148,6 @@ module _ {m : Partners} {slot n : ℕ} {old now : List Waiting} (had : Changing 
 
   pub all_same : AreOwn slot old → length old ≤ n →
       AreSameWithout m (orders_of (cells_of old)) (orders_of (cells_of now))
-  all_same own end =
-      same_without m (cells_of old) (cells_of now)
+  all_same own end = same_without m (cells_of old) (cells_of now)
       (length-map now (λ (w : Waiting). w.cells) ∙ had.long ∙ sym (length-map old (λ (w : Waiting). w.cells)))
       had.same (own_keys slot old own) (own_keys (slot + 1) now (all_own end))

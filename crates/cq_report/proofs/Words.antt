@@ -1,15 +1,13 @@
 -- Words that are put one behind another, each with a blank or the line feed behind it, make a line, and lines a text.
-use Rattle.std.proofs.Common.{◌≡◌, ℕ, List, [], ◌∷◌, ◌++◌, ap, ◌∙◌, append_assoc}
+use Rattle.std.proofs.lemmas.Grind.{common_steps}
+use Rattle.std.proofs.Common.{arith, ◌≡◌, ℕ, List, [], ◌∷◌, ◌++◌, append_assoc}
 
 -- what is put behind a word is put behind all
 pub word_then : (start old new word rest : List ℕ) (blank : ℕ) → old ≡ start ++ (word ++ blank ∷ []) →
     new ≡ old ++ rest →
     new ≡ start ++ (word ++ blank ∷ rest)
-word_then start old new word rest blank o n =
-    n ∙ ap (λ ys. ys ++ rest) o ∙ append_assoc start (word ++ blank ∷ []) rest
-    ∙ ap (λ ys. start ++ ys) (append_assoc word (blank ∷ []) rest)
+word_then start old new word rest blank o n = grind (arith, common_steps, append_assoc)
 
 -- three lines of one word
 pub three_lines : (t₀ t₁ t₂ t₃ a b c : List ℕ) → t₁ ≡ t₀ ++ a → t₂ ≡ t₁ ++ b → t₃ ≡ t₂ ++ c → t₃ ≡ t₀ ++ (a ++ b ++ c)
-three_lines t₀ t₁ t₂ t₃ a b c e₁ e₂ e₃ =
-    e₃ ∙ ap (λ ys. ys ++ c) (e₂ ∙ ap (λ ys. ys ++ b) e₁ ∙ append_assoc t₀ a b) ∙ append_assoc t₀ (a ++ b) c
+three_lines t₀ t₁ t₂ t₃ a b c e₁ e₂ e₃ = grind (arith, common_steps, append_assoc)

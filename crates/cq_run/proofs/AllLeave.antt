@@ -1,10 +1,11 @@
 -- Every packet leaves a switch of one port without a limit, once and in its place. Each cell leaves in the slot in
 -- which it comes (`OnePort`), so the departures are the arrivals. Of a packet's cells the last one alone is marked as
 -- last, so a packet leaves with it, in its slot. And the arrivals are those of one packet after another.
-use Rattle.std.proofs.Common.{◌≡◌, ℕ, zero, suc, ◌+◌, ◌-◌, ◌*◌, ◌<◌, ◌≤◌, Bool, true, false, cond, List, [], ◌∷◌, ◌++◌, length, map, flat_map, Result, Ok, Err, refl, sym, ap, ◌∙◌, subst, arith}
+use Rattle.std.proofs.lemmas.Grind.{common_steps}
+use Rattle.std.proofs.Common.{◌≡◌, ℕ, zero, suc, ◌+◌, ◌-◌, ◌*◌, ◌<◌, ◌≤◌, Bool, true, false, cond, List, [], ◌∷◌, length, map, flat_map, Result, Ok, Err, refl, sym, ap, ◌∙◌, subst, arith}
 use Rattle.std.specs.Prelude.{◌&&◌, ◌==◌, None}
 use Rattle.std.specs.List.{AllByRecursion, AllPairs, filter, range_with_len}
-use Rattle.std.proofs.lemmas.Bool.{eq-eqb, ne_eqb, cond-true, cond-false}
+use Rattle.std.proofs.lemmas.Bool.{eq-eqb, cond-true}
 use Rattle.std.proofs.lemmas.List.{append-nil}
 use Rattle.std.proofs.lemmas.List.Elements.{filter-append}
 use Rattle.cq_base.specs.Arriving.{Arrival, end_of, enough, traffic_of}
@@ -134,13 +135,8 @@ module _ (t : Tables) (captures : List (List Captured)) where
 last_alone : (f : ℕ → Arrival) (total : ℕ) → ((i : ℕ) → (f i).cell.last ≡ (i + 1 == total)) → (n a : ℕ) →
     total ≡ a + suc n → filter is_last (map f (range_with_len a (suc n))) ≡ f (a + n) ∷ []
 last_alone f total marks zero a e =
-    cond-true (is_last (f a)) (f a ∷ []) [] (marks a ∙ eq-eqb (a + 1) total (omega arith))
-    ∙ ap (λ (i : ℕ). f i ∷ []) (let same : a ≡ a + zero = omega arith in same)
-last_alone f total marks (suc n) a e =
-    let rest : List Arrival = filter is_last (map f (range_with_len (a + 1) (suc n))) in
-    cond-false (is_last (f a)) (f a ∷ rest) rest (marks a ∙ ne_eqb (a + 1) total (λ same. omega arith))
-    ∙ last_alone f total marks n (a + 1) (omega arith)
-    ∙ ap (λ (i : ℕ). f i ∷ []) (let same : a + 1 + n ≡ a + suc n = omega arith in same)
+    grind (arith, common_steps, cond-true (is_last (f a)) (f a ∷ []) [], eq-eqb (a + 1) total)
+last_alone f total marks (suc n) a e = grind (arith, common_steps, last_alone f total marks n (a + 1))
 
 module _ (t : Tables) (captures : List (List Captured)) where
   abbrev arrival_of : ℕ → ℕ → Arrival
@@ -172,12 +168,7 @@ module _ (t : Tables) (captures : List (List Captured)) where
   lasts : (n a : ℕ) → filter is_last (flat_map (arrivals_of t captures 0) (range_with_len a n)) ≡ map last_of
       (range_with_len a n)
   lasts zero a = refl
-  lasts (suc n) a =
-      filter-append is_last (arrivals_of t captures 0 a)
-      (flat_map (arrivals_of t captures 0) (range_with_len (a + 1) n))
-      ∙ ap (λ (l : List Arrival). l ++ filter is_last
-      (flat_map (arrivals_of t captures 0) (range_with_len (a + 1) n))) (lasts_of a)
-      ∙ ap (λ (l : List Arrival). last_of a ∷ l) (lasts n (a + 1))
+  lasts (suc n) a = simp (filter-append, flat_map, lasts_of, lasts n (a + 1))
 
 module _ (t : Tables) (packets : List Captured) where
   abbrev one : List (List Captured)
@@ -201,5 +192,4 @@ module _ (t : Tables) (packets : List Captured) where
       sent_in_slot t (arrivals t one) sent single none (traffic_is t one are (sym single)) h in
       outs t one sent in_slot.output
       ∙ ap (λ (l : List Arrival). map (with_slot t one) (filter is_last l)) (in_slot.cells ∙ arrivals_are)
-      ∙ ap (map (with_slot t one)) (lasts t one (length packets) 0)
-      ∙ as_passed (length packets) 0
+      ∙ ap (map (with_slot t one)) (lasts t one (length packets) 0) ∙ as_passed (length packets) 0

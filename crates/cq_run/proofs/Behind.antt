@@ -96,9 +96,8 @@ module _ (r : Reader) (limit input : ℕ) (row : PortRow) (rows : List PortRow) 
   first_ends : (R : List ℕ → Type 0) (old new : Space) (halt : Halt) →
       Judges Ahead (packets_at r input limit row.read) R old new (Err halt) →
       Judges Ahead (captures_from r limit input (row ∷ rows)) R old new (Err halt)
-  first_ends R old new halt h =
-      judges_as_err first_then (captures_from r limit input (row ∷ rows)) first_is R old new halt
-      (judges_then (packets_at r input limit row.read) then_later R R old new halt (λ name u. u) h)
+  first_ends R old new halt h = judges_as_err first_then (captures_from r limit input (row ∷ rows)) first_is R old new
+      halt (judges_then (packets_at r input limit row.read) then_later R R old new halt (λ name u. u) h)
 
   -- the first file could not be read, and no later one was
   pub file_ends : (R : List ℕ → Type 0) (old new : Space) (halt : Halt) →
@@ -156,15 +155,14 @@ module _ {S : Type 0} {space : S → Space} {keeps : S → S → Type 0} {row : 
           let Q : List ℕ → Type 0 = Unread space may_fail keeps mid new in
           let R : List ℕ → Type 0 = Unread space may_fail keeps old new in
           judges_as_err (first_then r limit input row rows) (captures_from r limit input (row ∷ rows))
-          (first_is r limit input row rows) R (space old) (space new) halt
-          (judges_after (packets_at r input limit row.read) (then_later r limit input row rows) R Q R (space old)
-          (space mid) (space new) packets halt (packets_stay r input limit row.read)
+          (first_is r limit input row rows) R (space old) (space new) halt (judges_after
+          (packets_at r input limit row.read) (then_later r limit input row rows) R Q R (space old) (space mid)
+          (space new) packets halt (packets_stay r input limit row.read)
           (λ name. fails_after space may_fail keeps (Reads name) old mid new lasts b.uncounted kept)
           (judged_first r input limit R (space old) (space mid) packets row.read begun b.decoding closed told
-          b.uncounted h)
-          (judges_then (captures_from r limit (input + 1) rows)
-          (λ (others : List (List Captured)) (m : Contents). Ok (packets ∷ others)) Q Q (space mid) (space new) halt
-          (λ name u. u) g))
+          b.uncounted h) (judges_then (captures_from r limit (input + 1) rows)
+          (λ (others : List (List Captured)) (m : Contents). Ok (packets ∷ others)) Q Q (space mid) (space new)
+          halt (λ name u. u) g))
 
       -- all are sound
       pub all_arrive : {others : List (List Captured)} → Judges Ahead (captures_from r limit (input + 1) rows)
@@ -176,14 +174,12 @@ module _ {S : Type 0} {space : S → Space} {keeps : S → S → Type 0} {row : 
           let R : List ℕ → Type 0 = Unread space may_fail keeps old new in
           let all : List (List Captured) = packets ∷ others in
           judges_as_ok (first_then r limit input row rows) (captures_from r limit input (row ∷ rows))
-          (first_is r limit input row rows) R (space old) (space new) all
-          (judges_both (packets_at r input limit row.read) (then_later r limit input row rows) R R R (space old)
-          (space mid) (space new) packets all
-          (judged_first r input limit R (space old) (space mid) packets row.read begun b.decoding closed told
-          b.uncounted h)
-          (judges_both (captures_from r limit (input + 1) rows)
-          (λ (others : List (List Captured)) (m : Contents). Ok (packets ∷ others)) Q R R (space mid) (space new)
-          (space new) others all g (judges_computed (Ok all) R (space new) all g.closed refl)))
+          (first_is r limit input row rows) R (space old) (space new) all (judges_both
+          (packets_at r input limit row.read) (then_later r limit input row rows) R R R (space old) (space mid)
+          (space new) packets all (judged_first r input limit R (space old) (space mid) packets row.read begun
+          b.decoding closed told b.uncounted h) (judges_both (captures_from r limit (input + 1) rows)
+          (λ (others : List (List Captured)) (m : Contents). Ok (packets ∷ others)) Q R R (space mid)
+          (space new) (space new) others all g (judges_computed (Ok all) R (space new) all g.closed refl)))
 
       -- all are sound, and memory ran out after that
       pub memory_ends : {others : List (List Captured)} → Judges Ahead (captures_from r limit (input + 1) rows)

@@ -1,6 +1,7 @@
 -- The captures of the outputs, one after another: those that were made and those that are still to be made are all.
 -- Each is that which was built at its output.
-use Rattle.std.proofs.Common.{◌≡◌, ◌<◌, ◌≤◌, ◌∙◌, ℕ, ◌+◌, List, [], ◌∷◌, ◌++◌, length, drop, get_or, refl, ap, sym, subst, add-one, append_assoc, arith}
+use Rattle.std.proofs.lemmas.Grind.{common_steps}
+use Rattle.std.proofs.Common.{rules, ◌≡◌, ◌<◌, ◌≤◌, ◌∙◌, ℕ, ◌+◌, List, [], ◌∷◌, ◌++◌, length, drop, get_or, refl, ap, sym, subst, add-one, append_assoc, arith}
 use Rattle.std.specs.Prelude.{Result, Ok, Err}
 use Rattle.std.proofs.lemmas.List.{append-nil, drop_all, drop_more, length-drop}
 use Rattle.cq_base.specs.Texts.{trace_of, log_of}
@@ -18,7 +19,6 @@ use Rattle.cq_run.specs.Switching.{IsSent, IsSwitched}
 use Rattle.cq_run.specs.Verdict.{sent_or_tag}
 use Rattle.cq_run.specs.declared.switching.Switched.{Switched}
 use Rattle.cq_simulate.proofs.Departed.{left_in_packets}
-use Rattle.cq_simulate.specs.IdealRuns.{ideal_departures}
 use Rattle.cq_simulate.specs.Packets.{ArePacked, LeaveWhole}
 use Rattle.cq_simulate.specs.declared.packing.Packing.{Packing}
 
@@ -37,11 +37,8 @@ sent_ok sent (Err fault) h = absurd (let P : ⊥ = cc h in P)
 -- what the ideal switch sends leaves in whole packets
 pub switched_whole : (t : Tables) (captures : List (List Captured)) (s : Switched) → AreTables t →
     length captures ≡ ports_of t.setup → IsSwitched t captures s → IsSent t captures s
-switched_whole t captures s are many is = record {
-  whole = left_in_packets t captures s.sent.items are many
-      (sent_ok s.sent.items (ideal_departures t (arrivals t captures)) is.sent);
-  first_stamp = is.first_stamp;
-}
+switched_whole t captures s are many is =
+    grind (arith, common_steps, left_in_packets t captures s.sent.items are many)
 
 module _ (t : Tables) (captures : List (List Captured)) (sent : List Departure) where
   -- what leaves in whole packets of captures that were lent
@@ -62,18 +59,14 @@ module _ (t : Tables) (captures : List (List Captured)) (sent : List Departure) 
     in_places = let outputs : length places ≡ ports_of t.setup = packed.outputs in omega arith
 
     pub some_left : drop output places ≡ [] → ⊥
-    some_left none =
-        let l : length (drop output places) ≡ 0 = ap (λ (ps : List Packing). length ps) none in
-        let inside : output < length places = in_places in
-        absurd (omega (arith, l, length-drop output places))
+    some_left none = grind (arith, common_steps, in_places, length-drop output places)
 
     module _ (place : Packing) (rest : List Packing) (first : drop output places ≡ place ∷ rest) where
       parts : get_or places output place ∷ drop (output + 1) places ≡ place ∷ rest
       parts = sym (drop_more places output place in_places) ∙ first
 
       pub file_is : place.bytes.items ≡ capture_out t captures sent output
-      file_is =
-          sym (ap (λ (ps : List Packing). (get_or ps 0 place).bytes.items) parts)
+      file_is = sym (ap (λ (ps : List Packing). (get_or ps 0 place).bytes.items) parts)
           ∙ packed.bytes output place in_places
 
       pub others_left : rest ≡ drop (output + 1) places
@@ -132,20 +125,14 @@ module _ (t : Tables) (captures : List (List Captured)) (sent : List Departure) 
   pub made_all : (rows : List PortRow) (k : ℕ) (made all : List (List ℕ × List ℕ)) → length rows ≤ k →
       made ++ captures_out t captures sent k (drop k rows) ≡ all → made ≡ all
   unfolding captures_out
-  made_all rows k made all over so_far =
-      sym (append-nil made) ∙ ap (λ (rs : List PortRow). made ++ captures_out t captures sent k rs)
-      (sym (drop_all k rows over)) ∙ so_far
+  made_all rows k made all over so_far = cc (append-nil made, drop_all k rows over)
 
   -- a plan with these and the trace
   pub switched_is : (plan : Plan) (made more : List (List ℕ × List ℕ)) (bytes : List ℕ) →
       made ≡ captures_out t captures sent 0 t.ports → more ≡ made ++ (t.trace, bytes) ∷ [] → bytes ≡ trace_of sent
       → plan.writes ≡ more → plan.text ≡ [] → plan ≡ switched t captures sent
   unfolding switched
-  switched_is plan made more bytes all pushed traced writes none =
-      plan_is plan (captures_out t captures sent 0 t.ports ++ (t.trace, trace_of sent) ∷ []) []
-      (writes ∙ pushed ∙ ap (λ (ws : List (List ℕ × List ℕ)). ws ++ (t.trace, bytes) ∷ []) all
-      ∙ ap (λ (b : List ℕ). captures_out t captures sent 0 t.ports ++ (t.trace, b) ∷ []) traced)
-      none
+  switched_is plan made more bytes all pushed traced writes none = search (arith, rules)
 
   -- these, the trace and the log
   pub crossed_writes : (made traced logged : List (List ℕ × List ℕ)) (trace log : List ℕ) (note : List Transfer) →
@@ -154,9 +141,4 @@ module _ (t : Tables) (captures : List (List Captured)) (sent : List Departure) 
       → trace ≡ trace_of sent → log ≡ log_of note →
       logged ≡ captures_out t captures sent 0 t.ports ++ (t.trace, trace_of sent) ∷ (t.log, log_of note) ∷ []
   crossed_writes made traced logged trace log note all first second is_trace is_log =
-      second
-      ∙ ap (λ (ws : List (List ℕ × List ℕ)). ws ++ (t.log, log) ∷ []) first
-      ∙ append_assoc made ((t.trace, trace) ∷ []) ((t.log, log) ∷ [])
-      ∙ ap (λ (ws : List (List ℕ × List ℕ)). ws ++ (t.trace, trace) ∷ (t.log, log) ∷ []) all
-      ∙ ap (λ (b : List ℕ). captures_out t captures sent 0 t.ports ++ (t.trace, b) ∷ (t.log, log) ∷ []) is_trace
-      ∙ ap (λ (b : List ℕ). captures_out t captures sent 0 t.ports ++ (t.trace, trace_of sent) ∷ (t.log, b) ∷ []) is_log
+      cc (append_assoc made ((t.trace, trace) ∷ []) ((t.log, log) ∷ []))

@@ -1,16 +1,16 @@
 -- The numbers of the cells of captures fit a line of the log: a capture has few packets, and a packet few cells.
-use Rattle.std.proofs.Common.{◌≡◌, ◌+◌, ◌^◌, ◌<◌, ◌≤◌, ◌∙◌, ℕ, zero, suc, List, length, map, ap, arith}
+use Rattle.std.proofs.Common.{◌+◌, ◌^◌, ◌<◌, ◌≤◌, ℕ, zero, suc, List, length, map, arith, ◌≡◌, ◌∙◌, ap}
 use Rattle.std.specs.List.{AllByRecursion, range_with_len}
-use Rattle.std.proofs.lemmas.List.{length-append}
 use Rattle.std.proofs.lemmas.List.FromFn.{length-map-range_with_len}
 use Rattle.cq_audit.proofs.Noted.{FitsLine}
 use Rattle.cq_base.specs.Arriving.{Arrival}
-use Rattle.cq_cells.proofs.Packets.{came_by, came_more, few_by, length_packet, row_of, rows_are}
+use Rattle.cq_cells.proofs.Packets.{came_more, few_by, rows_are, came_by, length_packet, row_of}
 use Rattle.cq_cells.proofs.Rising.{all_flat}
-use Rattle.cq_cells.specs.Schedule.{arrivals, arrivals_at, arrivals_of, cell_of, cells, packets_of, start}
+use Rattle.cq_cells.specs.Schedule.{arrivals, arrivals_at, arrivals_of, cell_of, packets_of, start, cells}
 use Rattle.cq_cells.specs.Traffic.{IsRecorded}
 use Rattle.cq_pcap.specs.Captured.{Captured}
 use Rattle.cq_route.specs.declared.tables.Tables.{Tables}
+use Rattle.std.proofs.lemmas.List.{length-append}
 
 module _ (t : Tables) (captures : List (List Captured)) (some : 1 ≤ t.cell_bytes) where
   -- a cell of a packet as it arrives
@@ -43,13 +43,11 @@ module _ (t : Tables) (captures : List (List Captured)) (some : 1 ≤ t.cell_byt
   input_fits : (input : ℕ) → IsRecorded (packets_of captures input) →
       AllByRecursion FitsLine (arrivals_at t captures input)
   unfolding arrivals_at
-  input_fits input recorded =
-      all_flat FitsLine (arrivals_of t captures input) 0 (length (packets_of captures input))
+  input_fits input recorded = all_flat FitsLine (arrivals_of t captures input) 0 (length (packets_of captures input))
       (λ k from inside. packet_fits input k recorded (omega arith))
 
   pub all_fit : ((i : ℕ) → i < length captures → IsRecorded (packets_of captures i)) →
       AllByRecursion FitsLine (arrivals t captures)
   unfolding arrivals
-  all_fit recorded =
-      all_flat FitsLine (arrivals_at t captures) 0 (length captures)
-      (λ input from inside. input_fits input (recorded input (omega arith)))
+  all_fit recorded = all_flat FitsLine (arrivals_at t captures) 0 (length captures) (λ input from inside.
+      input_fits input (recorded input (omega arith)))

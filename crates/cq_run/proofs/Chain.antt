@@ -1,7 +1,8 @@
 -- One judgement after another. Where the first ends without an answer, so do both; where it has one, both end as the
 -- second does. A name that the second is to read is to be read by both, since the first comes to the same without it,
 -- or misses it.
-use Rattle.std.proofs.Common.{◌≡◌, ◌∙◌, ◌⊎◌, ℕ, IsTrue, List, ap, refl, sym, subst, inl, inr}
+use Rattle.std.proofs.Common.{rules, arith, ◌≡◌, ◌∙◌, ◌⊎◌, ℕ, IsTrue, List, ap, refl, sym, inl}
+use Rattle.std.proofs.lemmas.Grind.{common_steps}
 use Rattle.std.specs.Prelude.{Option, None, Some, IfSome, Result, Ok, Err}
 use Rattle.std.specs.FinMap.{remove}
 use Rattle.cq_space.specs.Space.{Contents, Space, Closed}
@@ -13,22 +14,12 @@ use Rattle.cq_run.specs.Refusals.{meaning_of}
 use Rattle.cq_run.specs.Verdict.{◌>>=◌}
 use Rattle.cq_run.specs.Judging.{IsRefused, IsToRead, Halts, IsHaltOf, Judges}
 use Rattle.cq_run.specs.Pace.{AnyName, InTurn, Pace}
-use Rattle.cq_run.proofs.Counted.{counts_same, halts_at, name_after, outrun_after, rose_from}
+use Rattle.cq_run.proofs.Counted.{counts_same, halts_at, name_after, outrun_after}
 use Rattle.cq_run.proofs.Stays.{Stays}
-
--- a computation that is refused is refused whatever the contents
-refused_so : {A : Type 0} (told : Option Contents) (r : Result A Refusal) (refusal : Refusal) → r ≡ Err refusal →
-    IsTrue (meaning_of refusal).untold → IsRefused (λ (m : Contents). r) told refusal
-refused_so None r refusal e u = u
-refused_so (Some m) r refusal e u = e
 
 pub halts_computed : {A : Type 0} (p : Pace) (r : Result A Refusal) (R : List ℕ → Type 0) (old new : Space)
     (halt : Halt) → new.faults ≡ old.faults → IsHaltOf r halt → Halts p (λ (m : Contents). r) R old new halt
-halts_computed p r R old new (Refused refusal) l h = (
-  refused_so old.told r refusal h.0 h.1,
-  counts_same p (IsTrue (meaning_of refusal).outruns × AnyName R) old.faults
-      new.faults l,
-)
+halts_computed p r R old new (Refused refusal) l h = grind (arith, common_steps)
 halts_computed p r R old new (Unread name) l h = absurd h
 halts_computed p r R old new NoMemory l h = counts_same p (AnyName R) old.faults new.faults l
 
@@ -53,39 +44,15 @@ unfolding Stays
 goes_on whole j f None x s e h = tt
 goes_on {A} {B} whole j f (Some m) x s e h = record {
   same = h.same ∙ ap (λ (r : Result A Refusal). r >>= (λ (z : A). f z m)) e;
-  without = λ name.
-      let rest : Result A Refusal → Result B Refusal = λ r. r >>= (λ (z : A). f z (remove m name)) in
-      elim (h.without name) [
-        | inl same ↦ elim (s m name x e)
-            [ inl kept ↦ inl (same ∙ ap rest kept) | inr missed ↦ inr (same ∙ ap rest missed) ]
-        | inr missed ↦ inr missed
-      ];
+  without = search (arith, rules, h.without);
 }
 
 module _ {B : Type 0} (whole rest : Contents → Result B Refusal) where
-  refused_back : (told : Option Contents) (refusal : Refusal) → IfSome told (ComesTo whole rest) →
-      IsRefused rest told refusal → IsRefused whole told refusal
-  refused_back None refusal c h = h
-  refused_back (Some m) refusal c h = c.same ∙ h
-
-  read_back : (told : Option Contents) (name : List ℕ) → IfSome told (ComesTo whole rest) → IsToRead rest told name →
-      IsToRead whole told name
-  read_back None name c h = tt
-  read_back (Some m) name c h = elim (c.without name) [ inl same ↦ same ∙ h | inr missed ↦ missed ]
-
   halts_back : (p : Pace) (R S : List ℕ → Type 0) (old mid new : Space) (halt : Halt) →
       ((name : List ℕ) → R name → S name) → IfSome old.told (ComesTo whole rest) → mid.told ≡ old.told →
       mid.faults ≡ old.faults → Halts p rest R mid new halt → Halts p whole S old new halt
-  halts_back p R S old mid new (Refused refusal) i c t l h = (
-    refused_back old.told refusal c
-        (let P : Option Contents → Type 0 = λ o. IsRefused rest o refusal in subst P t h.0),
-    outrun_after p (IsTrue (meaning_of refusal).outruns) R S old.faults mid.faults new.faults i l h.1,
-  )
-  halts_back p R S old mid new (Unread name) i c t l h = (
-    rose_from old.faults mid.faults new.faults l h.0,
-    i name h.1,
-    read_back old.told name c (let P : Option Contents → Type 0 = λ o. IsToRead rest o name in subst P t h.2),
-  )
+  halts_back p R S old mid new (Refused refusal) i c t l h = grind (arith, common_steps)
+  halts_back p R S old mid new (Unread name) i c t l h = grind (arith, common_steps)
   halts_back p R S old mid new NoMemory i c t l h = name_after p R S old.faults mid.faults new.faults i l h
 
   -- what ends the rest ends the whole
@@ -93,13 +60,7 @@ module _ {B : Type 0} (whole rest : Contents → Result B Refusal) where
       ((name : List ℕ) → R name → S name) → IfSome old.told (ComesTo whole rest) → mid.told ≡ old.told →
       mid.faults ≡ old.faults → Judges p rest R mid new (Err halt) → Judges p whole S old new (Err halt)
   judges_back {p} R S old mid new halt i c t l h =
-      record {
-        ok = tt;
-        halt = halts_back p R S old mid new halt i c t l h.halt;
-        closed = h.closed;
-        told = h.told ∙ t;
-        uncounted = tt;
-      }
+      grind (arith, common_steps, halts_back p R S old mid new halt i c t l h.halt)
 
 -- ## One after the other
 
@@ -108,35 +69,20 @@ module _ {A B : Type 0} (j : Contents → Result A Refusal) (f : A → Contents 
   abbrev both : Contents → Result B Refusal
   both m = j m >>= (λ x. f x m)
 
-  refused_then : (told : Option Contents) (refusal : Refusal) → IsRefused j told refusal → IsRefused both told refusal
-  refused_then None refusal h = h
-  refused_then (Some m) refusal h = ap (λ (r : Result A Refusal). r >>= (λ (x : A). f x m)) h
-
   read_then : (told : Option Contents) (name : List ℕ) → IsToRead j told name → IsToRead both told name
   read_then None name h = tt
   read_then (Some m) name h = ap (λ (r : Result A Refusal). r >>= (λ (x : A). f x (remove m name))) h
 
   halts_then : (p : Pace) (R S : List ℕ → Type 0) (old new : Space) (halt : Halt) →
       ((name : List ℕ) → R name → S name) → Halts p j R old new halt → Halts p both S old new halt
-  halts_then p R S old new (Refused refusal) i h = (
-    refused_then old.told refusal h.0,
-    outrun_after p (IsTrue (meaning_of refusal).outruns) R S old.faults
-        old.faults new.faults i refl h.1,
-  )
+  halts_then p R S old new (Refused refusal) i h = grind (arith, common_steps)
   halts_then p R S old new (Unread name) i h = (h.0, i name h.1, read_then old.told name h.2)
   halts_then p R S old new NoMemory i h = name_after p R S old.faults old.faults new.faults i refl h
 
   -- the first ends both
   pub judges_then : {p : Pace} (R S : List ℕ → Type 0) (old new : Space) (halt : Halt) →
       ((name : List ℕ) → R name → S name) → Judges p j R old new (Err halt) → Judges p both S old new (Err halt)
-  judges_then {p} R S old new halt i h =
-      record {
-        ok = tt;
-        halt = halts_then p R S old new halt i h.halt;
-        closed = h.closed;
-        told = h.told;
-        uncounted = tt;
-      }
+  judges_then {p} R S old new halt i h = grind (arith, common_steps, halts_then p R S old new halt i h.halt)
 
   ok_after : (told : Option Contents) (x : A) (y : B) → IfSome told (λ m. j m ≡ Ok x) →
       IfSome told (λ m. f x m ≡ Ok y) → IfSome told (λ m. both m ≡ Ok y)
@@ -147,23 +93,13 @@ module _ {A B : Type 0} (j : Contents → Result A Refusal) (f : A → Contents 
   pub judges_after : {q p : Pace} (Q R S : List ℕ → Type 0) (old mid new : Space) (x : A) (halt : Halt) → Stays j →
       ((name : List ℕ) → R name → S name) → Judges q j Q old mid (Ok x) → Judges p (f x) R mid new (Err halt) →
       Judges p both S old new (Err halt)
-  judges_after {q} {p} Q R S old mid new x halt s i g h =
-      judges_back both (f x) R S old mid new halt i
+  judges_after {q} {p} Q R S old mid new x halt s i g h = judges_back both (f x) R S old mid new halt i
       (goes_on both j f old.told x s g.ok (comes_to_itself both old.told)) g.told g.uncounted h
 
   -- both have an answer
   pub judges_both : {q p : Pace} (Q R S : List ℕ → Type 0) (old mid new : Space) (x : A) (y : B) →
       Judges q j Q old mid (Ok x) → Judges p (f x) R mid new (Ok y) → Judges p both S old new (Ok y)
-  judges_both Q R S old mid new x y g h =
-      record {
-        ok =
-            ok_after old.told x y g.ok (let P : Option Contents → Type 0 = λ o. IfSome o (λ m. f x m ≡ Ok y) in
-            subst P g.told h.ok);
-        halt = tt;
-        closed = h.closed;
-        told = h.told ∙ g.told;
-        uncounted = h.uncounted ∙ g.uncounted;
-      }
+  judges_both Q R S old mid new x y g h = grind (arith, common_steps, ok_after old.told x y g.ok)
 
 -- more may be said of names that are unread
 pub halts_more : {A : Type 0} (p : Pace) (j : Contents → Result A Refusal) (R S : List ℕ → Type 0) (old new : Space)
@@ -179,26 +115,12 @@ pub judges_more : {A : Type 0} (p : Pace) (j : Contents → Result A Refusal) (R
     → Judges p j R old new result → Judges p j S old new result
 judges_more p j R S old new (Ok x) i h =
     record { ok = h.ok; halt = tt; closed = h.closed; told = h.told; uncounted = h.uncounted }
-judges_more p j R S old new (Err halt) i h =
-    record {
-      ok = tt;
-      halt = halts_more p j R S old new halt i h.halt;
-      closed = h.closed;
-      told = h.told;
-      uncounted = tt;
-    }
+judges_more p j R S old new (Err halt) i h = grind (arith, common_steps, halts_more p j R S old new halt i h.halt)
 
 -- what ends judging in turn ends it at either pace
 pub judges_at : {A : Type 0} (p : Pace) (j : Contents → Result A Refusal) (R : List ℕ → Type 0) (old new : Space)
     (halt : Halt) → Judges InTurn j R old new (Err halt) → Judges p j R old new (Err halt)
-judges_at p j R old new halt h =
-    record {
-      ok = tt;
-      halt = halts_at p j R old new halt h.halt;
-      closed = h.closed;
-      told = h.told;
-      uncounted = tt;
-    }
+judges_at p j R old new halt h = grind (arith, common_steps, halts_at p j R old new halt h.halt)
 
 -- an answer says nothing of names that are unread
 pub judges_any : {A : Type 0} {p q : Pace} (j : Contents → Result A Refusal) (R S : List ℕ → Type 0) (old new : Space)
@@ -209,8 +131,7 @@ judges_any j R S old new x h =
 -- a computation that ends without an answer, where nothing was read
 pub judges_computed_err : {A : Type 0} (p : Pace) (r : Result A Refusal) (R : List ℕ → Type 0) (at : Space)
     (halt : Halt) → at.mode ≡ Closed → IsHaltOf r halt → Judges p (λ (m : Contents). r) R at at (Err halt)
-judges_computed_err p r R at halt c h =
-    record { ok = tt; halt = halts_computed p r R at at halt refl h; closed = c; told = refl; uncounted = tt }
+judges_computed_err p r R at halt c h = grind (arith, common_steps, halts_computed p r R at at halt refl h)
 
 computed_told : {A : Type 0} (told : Option Contents) (r : Result A Refusal) (x : A) → r ≡ Ok x →
     IfSome told (λ (m : Contents). r ≡ Ok x)
@@ -220,8 +141,7 @@ computed_told (Some m) r x e = e
 -- one that has an answer
 pub judges_computed : {A : Type 0} {p : Pace} (r : Result A Refusal) (R : List ℕ → Type 0) (at : Space) (x : A) →
     at.mode ≡ Closed → r ≡ Ok x → Judges p (λ (m : Contents). r) R at at (Ok x)
-judges_computed r R at x c e =
-    record { ok = computed_told at.told r x e; halt = tt; closed = c; told = refl; uncounted = refl }
+judges_computed r R at x c e = grind (arith, common_steps, computed_told at.told r x e)
 
 -- judgements that come to the same of all contents
 module _ {A : Type 0} (j k : Contents → Result A Refusal) (same : (m : Contents) → j m ≡ k m) where
@@ -245,10 +165,8 @@ module _ {A : Type 0} (j k : Contents → Result A Refusal) (same : (m : Content
 
   pub judges_as_ok : {p : Pace} (R : List ℕ → Type 0) (old new : Space) (x : A) → Judges p j R old new (Ok x) →
       Judges p k R old new (Ok x)
-  judges_as_ok R old new x h =
-      record { ok = ok_as old.told x h.ok; halt = tt; closed = h.closed; told = h.told; uncounted = h.uncounted }
+  judges_as_ok R old new x h = grind (arith, common_steps, ok_as old.told x h.ok)
 
   pub judges_as_err : {p : Pace} (R : List ℕ → Type 0) (old new : Space) (halt : Halt) →
       Judges p j R old new (Err halt) → Judges p k R old new (Err halt)
-  judges_as_err {p} R old new halt h =
-      record { ok = tt; halt = halts_as p R old new halt h.halt; closed = h.closed; told = h.told; uncounted = tt }
+  judges_as_err {p} R old new halt h = grind (arith, common_steps, halts_as p R old new halt h.halt)

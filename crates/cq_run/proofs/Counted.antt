@@ -1,5 +1,6 @@
 -- The count of faults where an answer tells of none, at either pace.
-use Rattle.std.proofs.Common.{◌≡◌, ◌∙◌, ℕ, IsTrue, List, refl, inl, inr, arith}
+use Rattle.std.proofs.lemmas.Grind.{common_steps}
+use Rattle.std.proofs.Common.{rules, ◌≡◌, ◌∙◌, ℕ, IsTrue, List, refl, inl, inr, arith}
 use Rattle.std.specs.Prelude.{Result, Ok, Err}
 use Rattle.cq_space.specs.Causes.{Rose}
 use Rattle.cq_space.specs.Space.{Contents, Space}
@@ -29,16 +30,14 @@ counts_after Ahead U V old mid new f e (inr h) = inr (rose_from old mid new e h.
 -- more may be said of a name that was unread
 pub name_after : (pace : Pace) (R S : List ℕ → Type 0) (old mid new : ℕ) → ((name : List ℕ) → R name → S name)
     → mid ≡ old → Uncounted pace (AnyName R) mid new → Uncounted pace (AnyName S) old new
-name_after pace R S old mid new i e h =
-    counts_after pace (AnyName R) (AnyName S) old mid new (λ u. record { name = u.name; is = i u.name u.is }) e h
+name_after pace R S old mid new i e h = search (arith, rules, counts_after pace (AnyName R) (AnyName S) old mid new)
 
 -- the same beside something that stays
 pub outrun_after : (pace : Pace) (T : Type 0) (R S : List ℕ → Type 0) (old mid new : ℕ)
     → ((name : List ℕ) → R name → S name) → mid ≡ old → Uncounted pace (T × AnyName R) mid new
     → Uncounted pace (T × AnyName S) old new
 outrun_after pace T R S old mid new i e h =
-    counts_after pace (T × AnyName R) (T × AnyName S) old mid new
-    (λ u. (u.0, record { name = u.1.name; is = i u.1.name u.1.is })) e h
+    grind (arith, common_steps, counts_after pace (T × AnyName R) (T × AnyName S) old mid new)
 
 -- what ends reading in turn ends it ahead
 pub halts_ahead : {A : Type 0} (j : Contents → Result A Refusal) (R : List ℕ → Type 0) (old new : Space) (halt : Halt)

@@ -1,15 +1,14 @@
 -- What is kept of a run of the crossbar switch, and the plan that is made of it.
-use Rattle.std.proofs.Common.{◌≡◌, ◌<◌, ◌∙◌, ◌++◌, ◌∷◌, [], ℕ, List, length, ap, sym, subst}
+use Rattle.std.proofs.lemmas.Grind.{common_steps}
+use Rattle.std.proofs.Common.{arith, ◌≡◌, ◌<◌, ◌∙◌, ◌++◌, ◌∷◌, [], ℕ, List, length, ap}
 use Rattle.std.specs.Prelude.{Ok}
 use Rattle.cq_base.specs.Arriving.{Arrival}
 use Rattle.cq_base.specs.Texts.{trace_of, log_of}
 use Rattle.cq_base.specs.declared.cell.Departure.{Departure}
 use Rattle.cq_base.specs.declared.cell.Transfer.{Transfer}
-use Rattle.cq_base.specs.declared.figures.Figures.{Figures}
 use Rattle.cq_cells.specs.Schedule.{arrivals, first_stamp, packets_of}
 use Rattle.cq_cells.specs.Traffic.{IsRecorded, IsTraffic}
-use Rattle.cq_laws.specs.LimitedFabric.{LimitedRecord, slots_in}
-use Rattle.cq_laws.specs.Measures.{figures_of}
+use Rattle.cq_laws.specs.LimitedFabric.{LimitedRecord}
 use Rattle.cq_pcap.specs.Captured.{Captured}
 use Rattle.cq_report.specs.Report.{report_with}
 use Rattle.cq_route.specs.Tables.{AreTables, classes_of, ports_of}
@@ -25,7 +24,6 @@ use Rattle.cq_run.specs.Plan.{Plan}
 use Rattle.cq_run.specs.Plans.{captures_out, crossed, report_on, reported}
 use Rattle.cq_run.specs.Reader.{Reader}
 use Rattle.cq_run.specs.Switching.{IsCrossed, IsCrossing}
-use Rattle.cq_run.specs.Verdict.{sent_or_tag}
 use Rattle.cq_run.specs.declared.switching.Crossed.{Crossed}
 use Rattle.cq_run.proofs.Captures.{plan_is}
 
@@ -55,24 +53,12 @@ pub is_crossed : (t : Tables) (captures : List (List Captured)) (came : List Arr
     ideal_departures t came ≡ Ok run.sent.items →
     IsCrossed t captures (record { run = run; first_stamp = stamp })
 is_crossed t captures came run stamp given e s traffic kept sent =
-    let P : List Arrival → Type 0 = λ c. IsFabricRun t c kept.records in
-    let Q : List Arrival → Type 0 = λ c. IsTraffic (ports_of t.setup) (classes_of t.setup) c in
-    record {
-      switched = record { sent = ap sent_or_tag (ap (ideal_departures t) (sym e) ∙ sent); first_stamp = s };
-      records = kept.records;
-      keeps_up = keeps_up t captures kept.records given (subst Q e traffic) (subst P e kept.is_run);
-      departed = kept.sent;
-      note = kept.note;
-      figures = kept.figures;
-      refused = kept.refused;
-    }
+    grind (arith, common_steps, keeps_up, keeps_up t captures kept.records given)
 
 module _ (t : Tables) (captures : List (List Captured)) (c : Crossed) (is : IsCrossed t captures c) (plan : Plan) where
   -- its report tells the figures and the counts of the records
   report_is : report_with c.run.figures c.run.refused.items ≡ report_on t is.records
-  report_is =
-      ap (λ (f : Figures). report_with f c.run.refused.items) is.figures
-      ∙ ap (report_with (figures_of (ports_of t.setup) (slots_in is.records))) is.refused
+  report_is = cc
 
   -- a plan with its captures, its trace, its log and its report
   pub plan_crossed :
@@ -80,11 +66,9 @@ module _ (t : Tables) (captures : List (List Captured)) (c : Crossed) (is : IsCr
       ++ (t.trace, trace_of c.run.sent.items) ∷ (t.log, log_of c.run.note.items) ∷ [] →
       plan.text ≡ report_with c.run.figures c.run.refused.items → plan ≡ crossed t captures c.run.sent.items is.records
   unfolding crossed
-  plan_crossed writes text =
-      plan_is plan _ _
-      (writes ∙ ap (λ (note : List Transfer). captures_out t captures c.run.sent.items 0 t.ports
-      ++ (t.trace, trace_of c.run.sent.items) ∷ (t.log, log_of note) ∷ []) is.note)
-      (text ∙ report_is)
+  plan_crossed writes text = plan_is plan _ _ (writes
+      ∙ ap (λ (note : List Transfer). captures_out t captures c.run.sent.items 0 t.ports
+      ++ (t.trace, trace_of c.run.sent.items) ∷ (t.log, log_of note) ∷ []) is.note) (text ∙ report_is)
 
   -- a plan with its report alone
   pub plan_reported : plan.writes ≡ [] → plan.text ≡ report_with c.run.figures c.run.refused.items →
@@ -98,14 +82,8 @@ pub crossing : (t : Tables) (captures : List (List Captured)) (c : Crossed) (is 
     plan.writes ≡ captures_out t captures c.run.sent.items 0 t.ports ++ (t.trace, trace_of c.run.sent.items)
     ∷ (t.log, log_of c.run.note.items) ∷ [] →
     plan.text ≡ report_with c.run.figures c.run.refused.items → IsCrossing t captures plan
-crossing t captures c is plan writes text = record {
-  sent = c.run.sent.items;
-  is_sent = is.switched.sent;
-  records = is.records;
-  keeps_up = is.keeps_up;
-  departed = is.departed;
-  written = plan_crossed t captures c is plan writes text;
-}
+crossing t captures c is plan writes text =
+    grind (arith, common_steps, keeps_up, plan_crossed t captures c is plan writes text)
 
 module _ (t : Tables) (captures : List (List Captured)) (plan : Plan) (is : IsCrossing t captures plan) where
   -- what is written of what was read

@@ -41,19 +41,15 @@ module _ {S : Type 0} {space : S → Space} {may_fail : Call → S → S → Typ
       IsJudged space may_fail keeps p (Run config) old now result
   run_judged {given = given} is (Ok plan) crossing refused =
       sent_plans (λ s. refl) Crossing (λ r. refl) (λ name. tt) is crossing.sent plan crossing.is_sent
-      (crossing.records, crossing.keeps_up.runs, crossing.written) (all_any plan.writes)
-      (λ r.
-      told_map (space old).told _ _ (emulates given.tables given.captures plan crossing r config) (read_told is r))
-  run_judged is (Err halt) crossing refused =
-      sent_halts (λ s. refl) Crossing (λ r. refl) (λ name. tt) is halt refused
+      (crossing.records, crossing.keeps_up.runs, crossing.written) (all_any plan.writes) (λ r. told_map
+      (space old).told _ _ (emulates given.tables given.captures plan crossing r config) (read_told is r))
+  run_judged is (Err halt) crossing refused = sent_halts (λ s. refl) Crossing (λ r. refl) (λ name. tt) is halt refused
 
   -- the same of the ideal switch
   pub ideal_judged : {now : S} {given : Given} → IsGiven space keeps config old now given →
       (result : Result Plan Halt) → IfOk result (IsIdeal given.tables given.captures) →
       IfErr result (IsHaltOf (ideally_sent given.tables given.captures)) →
       IsJudged space may_fail keeps p (Ideal config) old now result
-  ideal_judged is (Ok plan) ideal refused =
-      sent_plans (λ s. refl) switching (λ r. refl) (λ name. tt) is ideal.sent plan ideal.is_sent ideal.written
-      (all_any plan.writes) (λ r. told_any (space old).told _ (λ m. tt))
-  ideal_judged is (Err halt) ideal refused =
-      sent_halts (λ s. refl) switching (λ r. refl) (λ name. tt) is halt refused
+  ideal_judged is (Ok plan) ideal refused = sent_plans (λ s. refl) switching (λ r. refl) (λ name. tt) is ideal.sent
+      plan ideal.is_sent ideal.written (all_any plan.writes) (λ r. told_any (space old).told _ (λ m. tt))
+  ideal_judged is (Err halt) ideal refused = sent_halts (λ s. refl) switching (λ r. refl) (λ name. tt) is halt refused

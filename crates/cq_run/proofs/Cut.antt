@@ -1,10 +1,11 @@
 -- A cut that is told from after judging is told from before it: judging that comes to a plan leaves contents and the
 -- count of faults as they are.
-use Rattle.std.proofs.Common.{◌≡◌, ℕ, ◌∙◌, List, [], ◌∷◌, take, ap, sym, subst, inl, inr}
-use Rattle.std.specs.Prelude.{Option, Result, Ok, Err, IsErrAnd}
+use Rattle.std.proofs.Common.{arith, ◌≡◌, ℕ, ◌∙◌, List, [], ◌∷◌, ap, subst, inl, inr, take}
+use Rattle.std.proofs.lemmas.Grind.{common_steps}
+use Rattle.std.specs.Prelude.{Result, Ok, Err, IsErrAnd}
 use Rattle.std.specs.Io.KnownBytes.{append_known}
 use Rattle.cq_space.specs.Causes.{Rose}
-use Rattle.cq_space.specs.Space.{Contents, Space, IsCutAt, replaced}
+use Rattle.cq_space.specs.Space.{Space, replaced}
 use Rattle.cq_run.specs.declared.stop.Unwritten.{Unwritten}
 use Rattle.cq_run.specs.declared.stop.Unwritten.TheVariants.{File, Output}
 use Rattle.cq_words.specs.declared.command.Command.{Command}
@@ -20,10 +21,7 @@ use Rattle.cq_run.proofs.Counted.{rose_from}
 
 short_from : (w : List ℕ × List ℕ) (old mid new : Space) → mid.told ≡ old.told → mid.faults ≡ old.faults →
     IsCutShort w mid new → IsCutShort w old new
-short_from w old mid new t l h = record {
-  cause = rose_from old.faults mid.faults new.faults l h.cause;
-  told = let P : Option Contents → Type 0 = λ o. IsCutAt w.0 w.1 o new.told in subst P t h.told;
-}
+short_from w old mid new t l h = grind (arith, common_steps, rose_from old.faults mid.faults new.faults l h.cause)
 
 file_from : (ws : List (List ℕ × List ℕ)) (name : List ℕ) (old mid new : Space) → mid.told ≡ old.told →
     mid.faults ≡ old.faults → IsCutAtFile ws name mid new → IsCutAtFile ws name old new
@@ -57,8 +55,7 @@ pub cut_ends : (p : Pace) (r : Reader) (R U V : List ℕ → Type 0) (T : Type 0
     mid.out ≡ old.out → IsCut U T plan mid new at → CommandEnds p r R V T command old new end
 cut_ends p r R U V T command plan old mid new at (Ok x) e j i t l o h = absurd e
 cut_ends p r R U V T command plan old mid new at (Err stop) e j i t l o h =
-    let P : Stop → Type 0 = λ s. CommandEnds p r R V T command old new (Err s) in
-    subst P (sym e) (plan, j, cut_from U V T plan old mid new at i t l o h)
+    grind (arith, common_steps, cut_from U V T plan old mid new at i t l o h)
 
 -- a command whose plan is done ends so
 pub done_ends : (p : Pace) (r : Reader) (R W : List ℕ → Type 0) (T : Type 0) (command : Command) (plan : Plan)

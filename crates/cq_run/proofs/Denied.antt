@@ -1,5 +1,6 @@
 -- What an audit comes to once the ideal run is there: the log is judged, and then the trace is compared.
-use Rattle.std.proofs.Common.{◌≡◌, ◌∙◌, ℕ, List, refl, sym, ap, subst, inl, inr}
+use Rattle.std.proofs.Common.{rules, arith, ◌≡◌, ◌∙◌, ℕ, List, refl, sym, ap, subst, inl, inr}
+use Rattle.std.proofs.lemmas.Grind.{common_steps}
 use Rattle.std.specs.Prelude.{Result, Ok, Err, IsOk}
 use Rattle.cq_audit.specs.Audit.{IsNo, IsYes}
 use Rattle.cq_audit.specs.Trace.{DiffersFirst}
@@ -46,9 +47,6 @@ ranks_fit t came sent e =
     fits_at (whole_limited_run t.limits (machines_of t.setup) came
     (empty_limited (ports_of t.setup) (openings_of t.setup))) sent e
 
-same_departures : (ran : Result (List Departure) TagFault) (a b : List Departure) → ran ≡ Ok a → ran ≡ Ok b → a ≡ b
-same_departures ran a b e f = let both = sym e ∙ f in let same : a ≡ b = cc both in same
-
 -- ## The log and the trace
 
 module _ (t : Tables) (captures : List (List Captured)) (came : List Arrival) (trace log : List ℕ)
@@ -82,9 +80,7 @@ module _ (t : Tables) (captures : List (List Captured)) (came : List Arrival) (t
     -- a log that is refused
     pub log_denied : (refusal : AuditRefusal) → IsNo t.setup t.limits came log refusal →
         IsAuditHalted t captures trace log (halt_for_log refusal)
-    log_denied refusal h =
-        let P : List Arrival → Type 0 = λ c. IsNo t.setup t.limits c log refusal in
-        log_denied_at refusal (subst P is h)
+    log_denied refusal h = grind (arith, common_steps, log_denied_at refusal)
 
     module _ (yes : IsYes t.setup t.limits came log) where
       log_is : IsYes t.setup t.limits (arrivals t captures) log
@@ -94,23 +90,12 @@ module _ (t : Tables) (captures : List (List Captured)) (came : List Arrival) (t
       pub trace_denied : (text : List ℕ) (n : ℕ) → text ≡ trace_of sent → DiffersFirst trace text n →
           IsAuditHalted t captures trace log (Refused (Audit (Trace n)))
       trace_denied text n same differs =
-          let P : List ℕ → Type 0 = λ x. DiffersFirst trace x n in
-          inr (record {
-            sent = sent;
-            ideally = ideally;
-            denial = Trace n;
-            denied = (log_is, subst P same differs);
-            is = refl;
-          })
+          let P : List ℕ → Type 0 = λ x. DiffersFirst trace x n in search (arith, rules, ideally, log_is)
 
       -- the run of the log sends what the ideal switch sends
       departed : IsTraffic (ports_of t.setup) (classes_of t.setup) came → sent ≡ departures_in_run log_is.run.records
       departed traffic =
-          let P : List Arrival → Type 0 = λ c. IsTraffic (ports_of t.setup) (classes_of t.setup) c in
-          let sends : ideal_departures t (arrivals t captures) ≡ Ok (departures_in_run log_is.run.records) =
-          stable_sends t (arrivals t captures) log_is.run.records log_is.run.end (subst P is traffic) log_is.run.runs in
-          same_departures (ideal_departures t (arrivals t captures)) sent (departures_in_run log_is.run.records)
-          (ap (ideal_departures t) (sym is) ∙ departs) sends
+          grind (arith, common_steps, stable_sends t (arrivals t captures) log_is.run.records log_is.run.end)
 
       -- and a trace that is the same
       pub both_passed : (text : List ℕ) → IsTraffic (ports_of t.setup) (classes_of t.setup) came →

@@ -1,7 +1,8 @@
 -- What stands under a name after files were written. A name that is none of theirs has what it had, and the last of a
 -- name stays.
-use Rattle.std.proofs.Common.{◌≡◌, ◌≢◌, ◌∙◌, ◌+◌, ◌++◌, ℕ, suc, Bool, true, false, cond, List, [], ◌∷◌, Option, Some, refl, ap, sym, subst}
-use Rattle.std.specs.Prelude.{None, IfSome, Result, Ok}
+use Rattle.std.proofs.lemmas.Grind.{common_steps}
+use Rattle.std.proofs.Common.{arith, rules, ◌≡◌, ◌≢◌, ◌∙◌, ◌+◌, ◌++◌, ℕ, suc, Bool, true, false, cond, List, [], ◌∷◌, Option, Some, refl, ap, sym}
+use Rattle.std.specs.Prelude.{IfSome}
 use Rattle.std.specs.FinMap.{get, get-insert, insert}
 use Rattle.std.specs.List.{AllByRecursion}
 use Rattle.std.specs.Cmp.Lexicographic.{nat_list_cmp_total, slice_cmp}
@@ -14,11 +15,9 @@ use Rattle.cq_route.specs.declared.tables.PortRow.{PortRow}
 use Rattle.cq_route.specs.declared.tables.Tables.{Tables}
 use Rattle.cq_space.proofs.Replaced.{get_same}
 use Rattle.cq_space.specs.Space.{Contents}
-use Rattle.cq_tables.specs.Document.{read_or_refused}
-use Rattle.cq_run.specs.declared.refusal.Refusal.{Refusal}
 use Rattle.cq_run.specs.Plans.{captures_out}
 use Rattle.cq_run.specs.Reader.{Reader}
-use Rattle.cq_run.specs.Verdict.{◌>>=◌, capture_of, captures_from, found_or_missing, packets_at, read_or_refused_for, tables_in}
+use Rattle.cq_run.specs.Verdict.{captures_from, tables_in}
 use Rattle.cq_run.specs.Writing.{all_replaced}
 
 -- ## One name
@@ -41,9 +40,7 @@ untouched (w ∷ ws) m left name e none =
 pub last_two : (ws : List (List ℕ × List ℕ)) (m left : Contents) (a x b y : List ℕ) → a ≢ b
     → all_replaced (ws ++ (a, x) ∷ (b, y) ∷ []) (Some m) ≡ Some left → (get left a ≡ Some x) × (get left b ≡ Some y)
 last_two [] m left a x b y ne e =
-    let same : insert (insert m a x) b y ≡ left = cc e in
-    let P : Contents → Type 0 = λ c. (get c a ≡ Some x) × (get c b ≡ Some y) in
-    subst P same (other_same (insert m a x) b y a (λ f. ne (sym f)) ∙ get_same m a x, get_same (insert m a x) b y)
+    grind (arith, common_steps, other_same (insert m a x) b y a, get_same m a x, get_same (insert m a x) b y)
 last_two (w ∷ ws) m left a x b y ne e = last_two ws (insert m w.0 w.1) left a x b y ne e
 
 -- ## All that is written
@@ -69,32 +66,15 @@ outputs_named P t captures sent k (row ∷ rows) all = (all.0, outputs_named P t
 
 module _ (m left : Contents) where
   pub tables_same : (config : List ℕ) → get left config ≡ get m config → tables_in config left ≡ tables_in config m
-  tables_same config same =
-      ap (λ (o : Option (List ℕ)). found_or_missing config o
-      >>= (λ (bytes : List ℕ). read_or_refused_for (read_or_refused bytes))) same
+  tables_same config same = cc
 
   -- the name, if there is one, has what it had
   abbrev IsSame : Option (List ℕ) → Type 0
   IsSame read = IfSome read (λ name. get left name ≡ get m name)
-
-  packets_same : (r : Reader) (input limit : ℕ) (read : Option (List ℕ)) → IsSame read →
-      packets_at r input limit read left ≡ packets_at r input limit read m
-  packets_same r input limit None same = refl
-  packets_same r input limit (Some name) same =
-      ap (λ (o : Option (List ℕ)). found_or_missing name o >>= capture_of r input limit) same
-
-  -- the packets of an input with those of the later ones
-  abbrev with_others : Result (List (List Captured)) Refusal → List Captured → Result (List (List Captured)) Refusal
-  with_others later packets =
-      later >>= (λ others. let all : Result (List (List Captured)) Refusal = Ok (packets ∷ others) in all)
 
   pub captures_same : (r : Reader) (limit input : ℕ) (rows : List PortRow) →
       AllByRecursion (λ row. IsSame row.read) rows →
       captures_from r limit input rows left ≡ captures_from r limit input rows m
   unfolding captures_from
   captures_same r limit input [] same = refl
-  captures_same r limit input (row ∷ rows) same =
-      ap (λ (x : Result (List Captured) Refusal). x >>= with_others (captures_from r limit (input + 1) rows left))
-      (packets_same r input limit row.read same.0)
-      ∙ ap (λ (x : Result (List (List Captured)) Refusal). packets_at r input limit row.read m >>= with_others x)
-      (captures_same r limit (input + 1) rows same.1)
+  captures_same r limit input (row ∷ rows) same = search (arith, rules, captures_same r limit (input + 1) rows same.1)

@@ -1,7 +1,8 @@
 -- The files that an accepted configuration names. No two names clash, so a file that is read is none that is written,
 -- and the trace is not the log.
-use Rattle.std.proofs.Common.{◌≡◌, ◌≢◌, ◌⊎◌, ◌∙◌, ◌++◌, ◌&&◌, ℕ, suc, Bool, true, false, not, List, [], ◌∷◌, Option, None, Some, Ok, codes, length, is_some, refl, ap, sym, subst, inl, inr}
-use Rattle.std.specs.Prelude.{IfSome, nat_le, option_map, unwrap_or}
+use Rattle.std.proofs.Common.{rules, arith, ◌≡◌, ◌≢◌, ◌⊎◌, ◌++◌, ◌&&◌, ℕ, suc, Bool, true, false, not, List, [], ◌∷◌, Option, None, Some, Ok, codes, is_some, refl, sym, subst, inl, inr}
+use Rattle.std.proofs.lemmas.Grind.{common_steps}
+use Rattle.std.specs.Prelude.{IfSome, option_map, unwrap_or}
 use Rattle.std.specs.List.{AllByRecursion, list_any}
 use Rattle.std.specs.Str.{bytes_eq}
 use Rattle.std.proofs.lemmas.Bool.{and_from, and_left, and_right, not_from_false, or_parts}
@@ -12,10 +13,9 @@ use Rattle.cq_route.specs.declared.tables.PortRow.{PortRow}
 use Rattle.cq_route.specs.declared.tables.Tables.{Tables}
 use Rattle.cq_tables.specs.declared.place.Array.TheVariants.{Ports}
 use Rattle.cq_tables.specs.declared.place.Place.TheVariants.{Element, Top}
-use Rattle.cq_tables.specs.declared.refusal.Wrong.TheVariants.{DuplicateFile, NotToml, TooLong}
-use Rattle.cq_tables.specs.Check.{Check, at, first, refused, unless}
-use Rattle.cq_tables.specs.Document.{Named, apart_from, checks_in, clash, default_checks, document, file_check, files_in, files_of, judged, names_of, read_at, read_of, read_or_refused, tables_of, top_keys, top_of, verdict, whole, written_at}
-use Rattle.cq_tables.specs.Key.{table_checks}
+use Rattle.cq_tables.specs.declared.refusal.Wrong.TheVariants.{DuplicateFile}
+use Rattle.cq_tables.specs.Check.{Check, at, first, unless}
+use Rattle.cq_tables.specs.Document.{Named, apart_from, checks_in, clash, file_check, files_in, files_of, judged, names_of, read_at, read_of, read_or_refused, tables_of, top_of, verdict, written_at}
 
 -- ## Checks that hold
 
@@ -35,16 +35,7 @@ accepted (Some r) u t h = absurd (let P : ⊥ = cc h in P)
 -- of all checks of a text, that of its files is the last
 files_checked : (text : List ℕ) → first (checks_in text (top_of text)) ≡ None →
     file_check (tables_of (top_of text)) ≡ None
-files_checked text h =
-    let top = top_of text in
-    let last : List Check = file_check (tables_of top) ∷ [] in
-    let keys : List Check = table_checks Top (top_keys top) top in
-    let is_toml : Check = at whole (unless (is_some (document text)) NotToml) in
-    let short = none_rest (at whole (unless (nat_le (length text) 1048576) TooLong))
-    (is_toml ∷ keys ++ (default_checks top ++ last)) h in
-    let parsed = none_rest is_toml (keys ++ (default_checks top ++ last)) short.1 in
-    (none_rest (file_check (tables_of top)) []
-    (none_behind (default_checks top) last (none_behind keys (default_checks top ++ last) parsed.1))).0
+files_checked text h = let top = top_of text in search (arith, rules, is_some, none_rest, none_behind)
 
 files_apart : (text : List ℕ) (t : Tables) → read_or_refused text ≡ Ok t → file_check t ≡ None
 unfolding read_or_refused
@@ -72,8 +63,7 @@ none_any p [] h = tt
 none_any p (x ∷ xs) h = let parts = or_parts (p x) (list_any p xs) h in (parts.0, none_any p xs parts.1)
 
 no_clash : (b : Bool) (path : List ℕ) → at path (unless (not b) DuplicateFile) ≡ None → b ≡ false
-no_clash true path h =
-    absurd (let wrong : ◌≡◌ {A = Check} (Some (refused path DuplicateFile)) None = h in let P : ⊥ = cc in P)
+no_clash true path h = cc
 no_clash false path h = refl
 
 last_of : (P : Named → Type 0) (xs : List Named) (n : Named) → AllByRecursion P (xs ++ n ∷ []) → P n
@@ -98,8 +88,7 @@ pairs_in earlier (n ∷ names) h =
     let more : List Named = earlier ++ n ∷ [] in
     let step = none_rest (check_of earlier n) (apart_from more names) h in (
       all_from (IsClear more) (λ (k : Named). clash k n ≡ false)
-          (λ k clear. last_of (λ (a : Named). clash k a ≡ false) earlier n clear) names
-          (all_clear more names step.1),
+          (λ k clear. last_of (λ (a : Named). clash k a ≡ false) earlier n clear) names (all_clear more names step.1),
       pairs_in more names step.1,
     )
 
@@ -109,13 +98,11 @@ names_apart text t h = pairs_in [] (files_in t) (files_apart text t h)
 -- ## Two names
 
 clashes : (a b : Named) → a.file ≡ b.file → (b.is_read && a.is_read) ≡ false → clash a b ≡ true
-clashes a b same written =
-    and_from (not (b.is_read && a.is_read)) (bytes_eq a.file b.file)
+clashes a b same written = and_from (not (b.is_read && a.is_read)) (bytes_eq a.file b.file)
     (not_from_false (b.is_read && a.is_read) written) ((bytes_eq-Decides a.file b.file).1 same)
 
 never_same : (a b : Named) → clash a b ≡ false → (b.is_read && a.is_read) ≡ false → a.file ≢ b.file
-never_same a b clear written same =
-    let both : true ≡ false = sym (clashes a b same written) ∙ clear in let P : ⊥ = cc in P
+never_same a b clear written same = cc (clashes a b same written)
 
 abbrev Among : Named → List Named → Type 0
 Among n [] = ⊥
@@ -139,15 +126,11 @@ among_right (x ∷ xs) ys n k = inr (among_right xs ys n k)
 read_or_written : (xs : List Named) → ArePairs xs → (r w : Named) → Among r xs → Among w xs →
     r.is_read ≡ true → w.is_read ≡ false → r.file ≢ w.file
 read_or_written [] pairs r w k l read written same = k
-read_or_written (x ∷ xs) pairs r w (inl e) (inl f) read written same =
-    let both : true ≡ false = sym read ∙ ap (λ (n : Named). n.is_read) (sym e ∙ f) ∙ written in let P : ⊥ = cc in P
+read_or_written (x ∷ xs) pairs r w (inl e) (inl f) read written same = cc
 read_or_written (x ∷ xs) pairs r w (inl e) (inr l) read written same =
-    never_same w x (at_among (λ (n : Named). clash n x ≡ false) xs w pairs.0 l) (and_right x.is_read w.is_read written)
-    (sym same ∙ ap (λ (n : Named). n.file) (sym e))
+    grind (arith, common_steps, never_same w x, at_among, and_right x.is_read w.is_read written)
 read_or_written (x ∷ xs) pairs r w (inr k) (inl f) read written same =
-    never_same r x (at_among (λ (n : Named). clash n x ≡ false) xs r pairs.0 k)
-    (and_left x.is_read r.is_read (ap (λ (n : Named). n.is_read) f ∙ written))
-    (same ∙ ap (λ (n : Named). n.file) (sym f))
+    grind (arith, common_steps, never_same r x, at_among, and_left x.is_read r.is_read)
 read_or_written (x ∷ xs) pairs r w (inr k) (inr l) read written same =
     read_or_written xs pairs.1 r w k l read written same
 
@@ -193,8 +176,7 @@ module _ (t : Tables) (pairs : ArePairs (files_in t)) where
   -- a name of the ports that is read is none that is written
   unlike : (r w : Named) → Among r (files_of 0 t.ports) → Among w (files_in t) →
       r.is_read ≡ true → w.is_read ≡ false → w.file ≢ r.file
-  unlike r w k l read written same =
-      read_or_written (files_in t) pairs r w (inr (inr k)) l read written (sym same)
+  unlike r w k l read written same = read_or_written (files_in t) pairs r w (inr (inr k)) l read written (sym same)
 
   -- so it is with each that they read
   pub reads_unwritten : AllByRecursion (λ row. IfSome row.read (IsUnwritten t)) t.ports

@@ -1,33 +1,29 @@
 -- No judgement of contents refuses the words: they are judged before any file is asked for.
-use Rattle.std.proofs.Common.{◌≡◌, ℕ, ◌+◌, Bool, true, false, cond, List, [], ◌∷◌, length, ap}
+use Rattle.std.proofs.lemmas.Grind.{common_steps}
+use Rattle.std.proofs.Common.{arith, rules, ◌≡◌, ℕ, ◌+◌, Bool, true, false, cond, List, [], ◌∷◌, length, ap}
 use Rattle.std.specs.Prelude.{Option, None, Some, Result, Ok, Err, nat_lt}
 use Rattle.std.specs.FinMap.{get}
 use Rattle.cq_space.specs.Space.{Contents}
 use Rattle.cq_base.specs.declared.cell.Departure.{Departure}
 use Rattle.cq_base.specs.declared.cell.TagFault.{TagFault}
 use Rattle.cq_pcap.specs.Captured.{Captured}
-use Rattle.cq_pcap.specs.Faults.{Fault}
-use Rattle.cq_cells.specs.Schedule.{arrivals}
 use Rattle.cq_route.specs.declared.tables.PortRow.{PortRow}
 use Rattle.cq_route.specs.declared.tables.Tables.{Tables}
 use Rattle.cq_route.specs.Plain.{plain_tables}
-use Rattle.cq_simulate.specs.IdealRuns.{ideal_departures}
 use Rattle.cq_tables.specs.Check.{Refused}
 use Rattle.cq_tables.specs.Document.{read_or_refused}
 use Rattle.cq_words.specs.declared.command.Command.{Command}
 use Rattle.cq_words.specs.declared.command.Command.TheVariants.{Pass, Check, Ideal, Run, Soak, Audit, Part, Resume}
 use Rattle.cq_run.specs.declared.refusal.Refusal.{Refusal}
-use Rattle.cq_run.specs.declared.refusal.Refusal.TheVariants.{Words, Capture, Audit as Denied, State}
+use Rattle.cq_run.specs.declared.refusal.Refusal.TheVariants.{Words, Audit as Denied, State}
 use Rattle.cq_run.specs.declared.refusal.CaptureFault.TheVariants.{Long}
 use Rattle.cq_run.specs.declared.refusal.StateFault.TheVariants as stopped
-use Rattle.cq_gen.specs.Packets.{soak_captures}
 use Rattle.cq_gen.specs.Tables.{soak_tables}
-use Rattle.cq_run.specs.Aim.{Aim, Auditing, Exactly, Crossing, Parting, Reporting, Resuming}
+use Rattle.cq_run.specs.Aim.{Aim, Auditing, Exactly, Crossing, Parting, Resuming}
 use Rattle.cq_run.specs.declared.denial.Denial.{Denial}
-use Rattle.cq_run.specs.declared.denial.Denial.TheVariants.{LongLog, LongTrace}
-use Rattle.cq_run.specs.Plans.{checked, passed, switched}
+use Rattle.cq_run.specs.Plans.{checked}
 use Rattle.cq_run.specs.Reader.{Reader}
-use Rattle.cq_run.specs.Verdict.{◌>>=◌, named, found_or_missing, tables_in, read_or_refused_for, capture_in, capture_of, read_or_faulty, packets_at, captures_from, captures_in, sent_or_tag, ideally_sent, judged, short_in, short_or, state_in, text_in}
+use Rattle.cq_run.specs.Verdict.{◌>>=◌, named, found_or_missing, tables_in, read_or_refused_for, capture_in, packets_at, captures_from, captures_in, sent_or_tag, ideally_sent, judged, short_in, short_or, state_in, text_in}
 
 -- the words are not refused
 abbrev pub IsOfContents : {A : Type 0} → Result A Refusal → Type 0
@@ -46,30 +42,17 @@ never_configured : (r : Result Tables Refused) → IsOfContents (read_or_refused
 never_configured (Ok tables) h = cc
 never_configured (Err refused) h = cc
 
-never_faulty : (input : ℕ) (r : Result (List Captured) Fault) → IsOfContents (read_or_faulty input r)
-never_faulty input (Ok packets) h = cc
-never_faulty input (Err fault) h = cc
-
-never_long : (input limit : ℕ) (b : Bool) (r : Result (List Captured) Refusal) → IsOfContents r →
-    IsOfContents (cond b (Err (Capture input (Long limit))) r)
-never_long input limit true r n h = cc
-never_long input limit false r n h = n h
-
 never_tag : (r : Result (List Departure) TagFault) → IsOfContents (sent_or_tag r)
 never_tag (Ok sent) h = cc
 never_tag (Err fault) h = cc
 
 never_tables : (name : List ℕ) (m : Contents) → IsOfContents (tables_in name m)
-never_tables name m =
-    never_then (named m name) (λ bytes. read_or_refused_for (read_or_refused bytes)) (never_found name (get m name))
-    (λ bytes. never_configured (read_or_refused bytes))
+never_tables name m = never_then (named m name) (λ bytes. read_or_refused_for (read_or_refused bytes))
+    (never_found name (get m name)) (λ bytes. never_configured (read_or_refused bytes))
 
 never_capture : (r : Reader) (name : List ℕ) (input limit : ℕ) (m : Contents) →
     IsOfContents (capture_in r name input limit m)
-never_capture r name input limit m =
-    never_then (named m name) (capture_of r input limit) (never_found name (get m name))
-    (λ bytes. never_long input limit (nat_lt limit (length bytes)) (read_or_faulty input (r.read bytes))
-    (never_faulty input (r.read bytes)))
+never_capture r name input limit m = grind (arith, common_steps)
 
 never_packets : (r : Reader) (input limit : ℕ) (read : Option (List ℕ)) (m : Contents) →
     IsOfContents (packets_at r input limit read m)
@@ -80,12 +63,10 @@ never_captures : (r : Reader) (limit input : ℕ) (rows : List PortRow) (m : Con
     IsOfContents (captures_from r limit input rows m)
 unfolding captures_from
 never_captures r limit input [] m h = cc
-never_captures r limit input (row ∷ rows) m h =
-    never_then (packets_at r input limit row.read m)
+never_captures r limit input (row ∷ rows) m h = never_then (packets_at r input limit row.read m)
     (λ packets. captures_from r limit (input + 1) rows m >>= (λ others. Ok (packets ∷ others)))
     (never_packets r input limit row.read m)
-    (λ packets. never_then (captures_from r limit (input + 1) rows m) (λ others. Ok (packets ∷ others))
-    (never_captures r limit (input + 1) rows m) (λ others e. cc)) h
+    (λ packets. search (arith, rules, never_then, never_captures r limit (input + 1) rows m)) h
 
 never_long_text : (long : Refusal) → (long ≡ Words → ⊥) → (b : Bool) (r : Result (List ℕ) Refusal) → IsOfContents r →
     IsOfContents (cond b (Err long) r)
@@ -94,8 +75,7 @@ never_long_text long other false r n h = n h
 
 never_short : (long : Refusal) → (long ≡ Words → ⊥) → (name : List ℕ) (m : Contents) →
     IsOfContents (short_in long name m)
-never_short long other name m =
-    never_then (named m name) (short_or long) (never_found name (get m name))
+never_short long other name m = never_then (named m name) (short_or long) (never_found name (get m name))
     (λ bytes. never_long_text long other (nat_lt 268435456 (length bytes)) (Ok bytes) (λ e. cc))
 
 never_text : (long : Denial) (name : List ℕ) (m : Contents) → IsOfContents (text_in long name m)
@@ -114,73 +94,27 @@ never_switched : (r : Reader) (config : List ℕ) (m : Contents)
 never_switched r config m aim =
     let last : Tables → List (List Captured) → List Departure → Result Aim Refusal =
     λ tables captures sent. Ok (aim tables captures sent) in
-    never_then (tables_in config m) (λ tables.
-    captures_in r tables m >>= (λ captures. ideally_sent tables captures >>= (λ sent. last tables captures sent)))
-    (never_tables config m)
-    (λ tables. never_then (captures_in r tables m)
-    (λ captures. ideally_sent tables captures >>= (λ sent. last tables captures sent))
-    (never_captures r tables.limit_bytes 0 tables.ports m)
-    (λ captures. never_then (ideally_sent tables captures) (λ sent. last tables captures sent)
-    (never_tag (ideal_departures tables (arrivals tables captures))) (λ sent e. cc)))
+    search (arith, rules, never_then, never_tables, never_captures, never_tag)
 
 pub never_words : (r : Reader) (command : Command) (m : Contents) → IsOfContents (judged r command m)
 never_words r (Pass from to) m =
-    let tables = plain_tables from to in
-    let aim : List Captured → List Departure → Result Aim Refusal =
-    λ packets sent. Ok (Exactly (passed from to packets sent)) in
-    never_then (capture_in r from 0 tables.limit_bytes m)
-    (λ packets. ideally_sent tables (packets ∷ []) >>= (λ sent. aim packets sent))
-    (never_capture r from 0 tables.limit_bytes m)
-    (λ packets. never_then (ideally_sent tables (packets ∷ [])) (λ sent. aim packets sent)
-    (never_tag (ideal_departures tables (arrivals tables (packets ∷ [])))) (λ sent e. cc))
+    let tables = plain_tables from to in search (arith, rules, never_then, never_capture, never_tag)
 never_words r (Check config) m =
     let aim : Tables → Result Aim Refusal = λ tables. Ok (Exactly (checked tables)) in
     never_then (tables_in config m) aim (never_tables config m) (λ tables e. cc)
-never_words r (Ideal config) m =
-    never_switched r config m (λ tables captures sent. Exactly (switched tables captures sent))
+never_words r (Ideal config) m = search (arith, rules, never_switched r config m)
 never_words r (Run config) m = never_switched r config m (λ tables captures sent. Crossing tables captures sent)
 never_words r (Soak seed ports slots) m =
-    let tables = soak_tables ports in
-    let captures = soak_captures seed ports slots in
-    let aim : List Departure → Result Aim Refusal = λ sent. Ok (Reporting tables captures) in
-    never_then (ideally_sent tables captures) aim (never_tag (ideal_departures tables (arrivals tables captures)))
-    (λ sent e. cc)
+    let tables = soak_tables ports in search (arith, rules, never_then, never_tag)
 never_words r (Audit config) m =
     let aim : Tables → List (List Captured) → List ℕ → List ℕ → List Departure → Result Aim Refusal =
     λ tables captures trace log sent. Ok (Auditing tables captures sent trace log) in
-    never_then (tables_in config m)
-    (λ tables. captures_in r tables m >>=
-    (λ captures. text_in LongTrace tables.trace m >>=
-    (λ trace. text_in LongLog tables.log m >>=
-    (λ log. ideally_sent tables captures >>= (λ sent. aim tables captures trace log sent)))))
-    (never_tables config m)
-    (λ tables. never_then (captures_in r tables m)
-    (λ captures. text_in LongTrace tables.trace m >>=
-    (λ trace. text_in LongLog tables.log m >>=
-    (λ log. ideally_sent tables captures >>= (λ sent. aim tables captures trace log sent))))
-    (never_captures r tables.limit_bytes 0 tables.ports m)
-    (λ captures. never_then (text_in LongTrace tables.trace m)
-    (λ trace. text_in LongLog tables.log m >>=
-    (λ log. ideally_sent tables captures >>= (λ sent. aim tables captures trace log sent)))
-    (never_text LongTrace tables.trace m)
-    (λ trace. never_then (text_in LongLog tables.log m)
-    (λ log. ideally_sent tables captures >>= (λ sent. aim tables captures trace log sent))
-    (never_text LongLog tables.log m)
-    (λ log. never_then (ideally_sent tables captures) (λ sent. aim tables captures trace log sent)
-    (never_tag (ideal_departures tables (arrivals tables captures))) (λ sent e. cc)))))
+    search (arith, rules, never_then, never_tables, never_captures, never_text, never_tag)
 never_words r (Part config slots state) m =
     let aim : Tables → List (List Captured) → Result Aim Refusal =
     λ tables captures. Ok (Parting tables captures slots state) in
-    never_then (tables_in config m) (λ tables. captures_in r tables m >>= (λ captures. aim tables captures))
-    (never_tables config m)
-    (λ tables. never_then (captures_in r tables m) (λ captures. aim tables captures)
-    (never_captures r tables.limit_bytes 0 tables.ports m)
-    (λ captures e. cc))
+    search (arith, rules, never_then, never_tables, never_captures)
 never_words r (Resume config state) m =
     let aim : Tables → List (List Captured) → List ℕ → Result Aim Refusal =
     λ tables captures text. Ok (Resuming tables captures text) in
-    never_then (tables_in config m) (λ tables. captures_in r tables m >>=
-    (λ captures. state_in state m >>= (λ text. aim tables captures text))) (never_tables config m)
-    (λ tables. never_then (captures_in r tables m) (λ captures. state_in state m >>= (λ text. aim tables captures text))
-    (never_captures r tables.limit_bytes 0 tables.ports m)
-    (λ captures. never_then (state_in state m) (λ text. aim tables captures text) (never_state state m) (λ text e. cc)))
+    search (arith, rules, never_then, never_tables, never_captures, never_state)

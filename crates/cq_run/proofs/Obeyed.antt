@@ -1,5 +1,6 @@
 -- How a command ends that was judged and, where that came to a plan, performed.
-use Rattle.std.proofs.Common.{◌≡◌, ℕ, List, refl, inl, inr, subst, sym}
+use Rattle.std.proofs.lemmas.Grind.{common_steps}
+use Rattle.std.proofs.Common.{arith, ◌≡◌, ℕ, List, refl, inl, inr}
 use Rattle.std.specs.Prelude.{Result, Ok, Err, IsErrAnd}
 use Rattle.cq_space.specs.Call.{Call}
 use Rattle.cq_space.specs.Failing.{Fails, Lasts, Reads, Writes}
@@ -40,9 +41,7 @@ module _ {S : Type 0} (space : S → Space) (may_fail : Call → S → S → Typ
       CommandEnds pace r (λ name. Fails space may_fail keeps (Reads name) old mid) U T command (at old) (at mid) end
   judging_ends r U T halt (Ok x) e h = absurd e
   judging_ends r U T halt (Err stop) e h =
-      let P : Stop → Type 0 = λ s. CommandEnds pace r (λ name. Fails space may_fail keeps (Reads name) old mid) U T
-      command (at old) (at mid) (Err s) in
-      subst P (sym e) (decides_halt pace _ _ _ _ halt (h.judges r), record { told = h.told; out = refl })
+      grind (arith, common_steps, decides_halt pace _ _ _ _ halt (h.judges r), h.judges r)
 
   module _ (plan : Plan) (judged : IsJudged space may_fail keeps pace command old mid (Ok plan)) (r : Reader)
       (R : List ℕ → Type 0) (T : Type 0) where

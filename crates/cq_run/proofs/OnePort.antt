@@ -1,12 +1,12 @@
 -- A switch of one port sends each cell in the slot in which it comes. Cells come one after another, at most one in a
 -- slot. So no cell waits when a slot begins; the cell that comes is alone in the one list, and leaves.
+use Rattle.std.proofs.lemmas.Grind.{common_steps}
 use Rattle.std.proofs.Common.{◌≡◌, ℕ, zero, suc, ◌+◌, ◌<◌, ◌≤◌, Bool, true, false, cond, List, [], ◌∷◌, map, replicate, Option, Some, None, Result, Ok, Err, refl, sym, ap, ◌∙◌, subst, ⊎_elim, arith}
 use Rattle.std.specs.Prelude.{◌==◌, ◌^◌, nat_lt, find, slice_set, slice_index_or}
 use Rattle.std.specs.Option.{option_map}
 use Rattle.std.specs.List.{AllByRecursion, range_with_len}
 use Rattle.std.proofs.lemmas.Bool.{cases_eq, cond-true, eq-eqb, ne_eqb, and_from, and_left, and_right, cond-false}
 use Rattle.cq_base.specs.Arriving.{Arrival, arriving, arriving_at, is_at}
-use Rattle.cq_base.specs.Cells.{is_for, put}
 use Rattle.cq_base.specs.declared.cell.Cell.{Cell}
 use Rattle.cq_base.specs.declared.cell.Departure.{Departure}
 use Rattle.cq_base.specs.declared.cell.Queued.{Queued}
@@ -36,22 +36,19 @@ InTurnFrom slot (a ∷ came) = IsNextFrom slot a × InTurnFrom (a.slot + 1) came
 all_none : (f : ℕ → Option Cell) (a n : ℕ) → ((k : ℕ) → a ≤ k → f k ≡ None) →
     map f (range_with_len a n) ≡ replicate n None
 all_none f a zero e = refl
-all_none f a (suc n) e =
-    ap (λ (o : Option Cell). o ∷ map f (range_with_len (a + 1) n)) (e a (omega arith))
+all_none f a (suc n) e = ap (λ (o : Option Cell). o ∷ map f (range_with_len (a + 1) n)) (e a (omega arith))
     ∙ ap (λ (l : List (Option Cell)). None ∷ l) (all_none f (a + 1) n (λ k l. e k (omega arith)))
 
 all_same : {X : Type 0} (f g : ℕ → X) (a n : ℕ) → ((k : ℕ) → a ≤ k → f k ≡ g k) →
     map f (range_with_len a n) ≡ map g (range_with_len a n)
 all_same f g a zero e = refl
-all_same {X} f g a (suc n) e =
-    ap (λ (x : X). x ∷ map f (range_with_len (a + 1) n)) (e a (omega arith))
+all_same {X} f g a (suc n) e = ap (λ (x : X). x ∷ map f (range_with_len (a + 1) n)) (e a (omega arith))
     ∙ ap (λ (l : List X). g a ∷ l) (all_same f g (a + 1) n (λ k l. e k (omega arith)))
 
 -- an arrival that is not of this slot and at this input hides nothing
 skipped : (a : Arrival) (came : List Arrival) (t k : ℕ) → is_at t k a ≡ false →
     arriving_at (a ∷ came) t k ≡ arriving_at came t k
-skipped a came t k e =
-    ap (option_map (λ (x : Arrival). x.cell)) (cond-false (is_at t k a) (Some a) (find (is_at t k) came) e)
+skipped a came t k e = cc (cond-false (is_at t k a) (Some a) (find (is_at t k) came) e)
 
 other_slot : (a : Arrival) (came : List Arrival) (t k : ℕ) → (a.slot ≡ t → ⊥) →
     arriving_at (a ∷ came) t k ≡ arriving_at came t k
@@ -59,50 +56,40 @@ other_slot a came t k ne = skipped a came t k (and_left (a.slot == t) (a.cell.id
 
 other_input : (a : Arrival) (came : List Arrival) (t k : ℕ) → (a.cell.id.input ≡ k → ⊥) →
     arriving_at (a ∷ came) t k ≡ arriving_at came t k
-other_input a came t k ne =
-    skipped a came t k (and_right (a.slot == t) (a.cell.id.input == k) (ne_eqb a.cell.id.input k ne))
+other_input a came t k ne = simp (skipped, and_right, a.slot, a.cell.id.input, ne_eqb)
 
 -- none comes before its slot, or at another input
 none_before : (slot : ℕ) (came : List Arrival) (t k : ℕ) → InTurnFrom slot came → t < slot → arriving_at came t k ≡ None
 none_before slot [] t k turn less = refl
 none_before slot (a ∷ came) t k turn less =
-    let from = turn.0.from in
-    other_slot a came t k (λ e. omega arith) ∙ none_before (a.slot + 1) came t k turn.1 (omega arith)
+    grind (arith, common_steps, other_slot a came t k, none_before (a.slot + 1) came t k turn.1)
 
 none_elsewhere : (slot : ℕ) (came : List Arrival) (t k : ℕ) → InTurnFrom slot came → 0 < k → arriving_at came t k ≡ None
 none_elsewhere slot [] t k turn some = refl
 none_elsewhere slot (a ∷ came) t k turn some =
-    let input = turn.0.input in
-    other_input a came t k (λ e. omega arith) ∙ none_elsewhere (a.slot + 1) came t k turn.1 some
+    grind (arith, common_steps, other_input a came t k, none_elsewhere (a.slot + 1) came t k turn.1 some)
 
 module _ (inputs : ℕ) (many : suc inputs ≡ 64) where
   none_comes : (slot : ℕ) (came : List Arrival) (t : ℕ) → InTurnFrom slot came → t < slot →
       arriving came t ≡ replicate (suc inputs) None
-  none_comes slot came t turn less =
-      arriving_is came t (suc inputs) many
+  none_comes slot came t turn less = arriving_is came t (suc inputs) many
       ∙ all_none (arriving_at came t) 0 (suc inputs) (λ k _. none_before slot came t k turn less)
 
   one_comes : (slot : ℕ) (a : Arrival) (came : List Arrival) → InTurnFrom slot (a ∷ came) →
       arriving (a ∷ came) a.slot ≡ Some a.cell ∷ replicate inputs None
   one_comes slot a came turn =
-      let here : is_at a.slot 0 a ≡ true =
-      and_from (a.slot == a.slot) (a.cell.id.input == 0) (eq-eqb a.slot a.slot refl)
-      (eq-eqb a.cell.id.input 0 turn.0.input) in
-      let first : arriving_at (a ∷ came) a.slot 0 ≡ Some a.cell =
-      ap (option_map (λ (x : Arrival). x.cell))
+      let here : is_at a.slot 0 a ≡ true = and_from (a.slot == a.slot) (a.cell.id.input == 0)
+      (eq-eqb a.slot a.slot refl) (eq-eqb a.cell.id.input 0 turn.0.input) in
+      let first : arriving_at (a ∷ came) a.slot 0 ≡ Some a.cell = ap (option_map (λ (x : Arrival). x.cell))
       (cond-true (is_at a.slot 0 a) (Some a) (find (is_at a.slot 0) came) here) in
       arriving_is (a ∷ came) a.slot (suc inputs) many
       ∙ ap (λ (o : Option Cell). o ∷ map (arriving_at (a ∷ came) a.slot) (range_with_len 1 inputs)) first
-      ∙ ap (λ (l : List (Option Cell)). Some a.cell ∷ l)
-      (all_none (arriving_at (a ∷ came) a.slot) 1 inputs
+      ∙ ap (λ (l : List (Option Cell)). Some a.cell ∷ l) (all_none (arriving_at (a ∷ came) a.slot) 1 inputs
       (λ k l. none_elsewhere slot (a ∷ came) a.slot k turn (omega arith)))
 
   same_later : (a : Arrival) (came : List Arrival) (t : ℕ) → a.slot < t → arriving (a ∷ came) t ≡ arriving came t
   same_later a came t less =
-      arriving_is (a ∷ came) t (suc inputs) many
-      ∙ all_same (arriving_at (a ∷ came) t) (arriving_at came t) 0 (suc inputs)
-      (λ k _. other_slot a came t k (λ e. omega arith))
-      ∙ sym (arriving_is came t (suc inputs) many)
+      grind (arith, common_steps, arriving_is (a ∷ came) t (suc inputs) many, arriving_is came t (suc inputs) many)
 
   later_slots : (a : Arrival) (came : List Arrival) (s n : ℕ) → a.slot < s →
       arriving_from (a ∷ came) s n ≡ arriving_from came s n
@@ -122,9 +109,7 @@ put_none (suc n) xs = put_none n xs
 
 filled_one : (n : ℕ) (q : Queued) → q.cell.output ≡ 0 → filled (Some q ∷ replicate n None) ([] ∷ []) ≡ (q ∷ []) ∷ []
 unfolding filled
-filled_one n q out =
-    ap (λ (xs : List Queued). xs ∷ []) (put_none n (cond (is_for 0 q) (put q []) [])
-    ∙ cond-true (is_for 0 q) (q ∷ []) [] (eq-eqb q.cell.output 0 out))
+filled_one n q out = simp (put_none, cond-true, eq-eqb)
 
 filled_none : (n : ℕ) → filled (replicate n None) ([] ∷ []) ≡ [] ∷ []
 unfolding filled
@@ -137,24 +122,21 @@ module _ (ms : List Machine) (slot : ℕ) (ranks : List (List ℕ)) where
       → (sent.gone ≡ fronts lists) × (sent.after ≡ record { lists = rests lists; ranks = sent.after.ranks })
   sends_of came rs lists sent is h =
       let full : List (List Queued) = filled came ([] ∷ []) in
-      let made : Sent =
-      record {
+      let made : Sent = record {
         gone = fronts full;
         after = record { lists = rests full; ranks = all_told ms (fronts full) rs };
       } in
       let same : made ≡ sent = cc h in
       let kept : sent.after.lists ≡ rests lists = ap (λ (x : Sent). x.after.lists) (sym same) ∙ ap rests is in (
-        ap (λ (x : Sent). x.gone) (sym same)
-            ∙ ap fronts is,
-        ap (λ (l : List (List Queued)).
-            let s : IdealState = record { lists = l; ranks = sent.after.ranks } in s) kept,
+        ap (λ (x : Sent). x.gone) (sym same) ∙ ap fronts is,
+        ap (λ (l : List (List Queued)). let s : IdealState = record { lists = l; ranks = sent.after.ranks } in s)
+            kept,
       )
 
   none_sent : (n : ℕ) (sent : Sent) → ideal_slot ms slot (replicate n None) (alone ranks) ≡ Ok sent
       → (sent.gone ≡ None ∷ []) × (sent.after ≡ alone sent.after.ranks)
   unfolding ideal_slot
-  none_sent n sent h =
-      sends_of (replicate n None) ranks ([] ∷ []) sent (filled_none n)
+  none_sent n sent h = sends_of (replicate n None) ranks ([] ∷ []) sent (filled_none n)
       (sym (ap (ideal_sends ms (alone ranks)) (ranked_none ms slot 0 n ranks)) ∙ h)
 
   one_sent : (n : ℕ) (cell : Cell) (sent : Sent) → cell.output ≡ 0 →
@@ -201,8 +183,7 @@ ran_then : (gone : List (Option Queued)) (y : Result Ran TagFault) (ran : Ran) �
     (rest : Ran) × (y ≡ Ok rest) × (ran.gone ≡ gone ∷ rest.gone)
 ran_then gone (Ok rest) ran h =
     let made : Ran = record { gone = gone ∷ rest.gone; after = rest.after } in
-    let same : made ≡ ran = cc h in
-    (rest, refl, ap (λ (x : Ran). x.gone) (sym same))
+    let same : made ≡ ran = cc h in (rest, refl, ap (λ (x : Ran). x.gone) (sym same))
 ran_then gone (Err fault) ran h = absurd (let P : ⊥ = cc h in P)
 
 sent_then : (ms : List Machine) (slot : ℕ) (traffic : List (List (Option Cell))) (x : Result Sent TagFault)
@@ -244,15 +225,12 @@ in_slot_one s a q came gone e f h = record {
 as_gone : (s : ℕ) (came : List Arrival) (gone other : List (List (Option Queued))) → gone ≡ other →
     AreInSlot came (departures_of s other) → AreInSlot came (departures_of s gone)
 as_gone s came gone other e h =
-    let P : List (List (Option Queued)) → Type 0 = λ g. AreInSlot came (departures_of s g) in
-    subst P (sym e) h
+    let P : List (List (Option Queued)) → Type 0 = λ g. AreInSlot came (departures_of s g) in subst P (sym e) h
 
 module _ (ms : List Machine) (inputs : ℕ) (many : suc inputs ≡ 64) where
   run_empty : (s : ℕ) (ranks : List (List ℕ)) (ran : Ran) → ideal_run ms s [] (alone ranks) ≡ Ok ran → ran.gone ≡ []
   unfolding ideal_run
-  run_empty s ranks ran h =
-      let made : Ran = record { gone = []; after = alone ranks } in
-      let same : made ≡ ran = cc h in ap (λ (x : Ran). x.gone) (sym same)
+  run_empty s ranks ran h = cc
 
   run_slot : (s : ℕ) (cells : List (Option Cell)) (traffic : List (List (Option Cell))) (ranks : List (List ℕ))
       (ran : Ran) → ideal_run ms s (cells ∷ traffic) (alone ranks) ≡ Ok ran
@@ -279,24 +257,24 @@ module _ (ms : List Machine) (inputs : ℕ) (many : suc inputs ≡ 64) where
       (sym (ap (ideal_run ms (s + 1) (arriving_from [] (s + 1) n)) sent.1) ∙ step.3) in
       as_gone s [] ran.gone ((None ∷ []) ∷ step.2.gone)
       (step.4 ∙ ap (λ (g : List (Option Queued)). g ∷ step.2.gone) sent.0) (in_slot_none s [] step.2.gone rest)
-  each_in_its_slot (suc n) s (a ∷ came) ranks ran turn before h =
-      ⊎_elim
-      (λ (e : a.slot ≡ s).
+  each_in_its_slot (suc n) s (a ∷ came) ranks ran turn before h = ⊎_elim (λ (e : a.slot ≡ s).
       let cells : arriving (a ∷ came) s ≡ Some a.cell ∷ replicate inputs None =
       ap (arriving (a ∷ came)) (sym e) ∙ one_comes inputs many s a came turn in
       let step = run_slot s (Some a.cell ∷ replicate inputs None) (arriving_from came (s + 1) n) ranks ran
-      (sym (ap (λ (c : List (Option Cell)). ideal_run ms s (c ∷ arriving_from (a ∷ came) (s + 1) n) (alone ranks)) cells
-      ∙ ap (λ (l : List (List (Option Cell))). ideal_run ms s ((Some a.cell ∷ replicate inputs None) ∷ l)
-      (alone ranks)) (later_slots inputs many a came (s + 1) n (omega arith))) ∙ h) in
+      (sym (ap (λ (c : List (Option Cell)).
+      ideal_run ms s (c ∷ arriving_from (a ∷ came) (s + 1) n) (alone ranks)) cells
+      ∙ ap (λ (l : List (List (Option Cell))).
+      ideal_run ms s ((Some a.cell ∷ replicate inputs None) ∷ l) (alone ranks))
+      (later_slots inputs many a came (s + 1) n (omega arith))) ∙ h) in
       let sent = one_sent ms s ranks inputs a.cell step.0 turn.0.output step.1 in
-      let turned : InTurnFrom (s + 1) came = let P : ℕ → Type 0 = λ k. InTurnFrom (k + 1) came in subst P e turn.1 in
+      let turned : InTurnFrom (s + 1) came =
+      let P : ℕ → Type 0 = λ k. InTurnFrom (k + 1) came in subst P e turn.1 in
       let rest = each_in_its_slot n (s + 1) came step.0.after.ranks step.2 turned
       (all_from (λ b. b.slot < s + suc n) (λ b. b.slot < s + 1 + n) (λ b l. omega arith) came before.1)
       (sym (ap (ideal_run ms (s + 1) (arriving_from came (s + 1) n)) sent.3) ∙ step.3) in
       as_gone s (a ∷ came) ran.gone ((Some sent.0 ∷ []) ∷ step.2.gone)
       (step.4 ∙ ap (λ (g : List (Option Queued)). g ∷ step.2.gone) sent.2)
-      (in_slot_one s a sent.0 came step.2.gone e sent.1 rest))
-      (λ (ne : a.slot ≡ s → ⊥).
+      (in_slot_one s a sent.0 came step.2.gone e sent.1 rest)) (λ (ne : a.slot ≡ s → ⊥).
       let from = turn.0.from in
       let later : s + 1 ≤ a.slot = omega arith in
       let turned : InTurnFrom (s + 1) (a ∷ came) =
@@ -304,13 +282,12 @@ module _ (ms : List Machine) (inputs : ℕ) (many : suc inputs ≡ 64) where
       let cells : arriving (a ∷ came) s ≡ replicate (suc inputs) None =
       none_comes inputs many (s + 1) (a ∷ came) s turned (omega arith) in
       let step = run_slot s (replicate (suc inputs) None) (arriving_from (a ∷ came) (s + 1) n) ranks ran
-      (sym (ap (λ (c : List (Option Cell)). ideal_run ms s (c ∷ arriving_from (a ∷ came) (s + 1) n) (alone ranks))
-      cells) ∙ h) in
+      (sym (ap (λ (c : List (Option Cell)).
+      ideal_run ms s (c ∷ arriving_from (a ∷ came) (s + 1) n) (alone ranks)) cells) ∙ h) in
       let sent = none_sent ms s ranks (suc inputs) step.0 step.1 in
       let rest = each_in_its_slot n (s + 1) (a ∷ came) step.0.after.ranks step.2 turned
       (all_from (λ b. b.slot < s + suc n) (λ b. b.slot < s + 1 + n) (λ b l. omega arith) (a ∷ came) before)
       (sym (ap (ideal_run ms (s + 1) (arriving_from (a ∷ came) (s + 1) n)) sent.1) ∙ step.3) in
       as_gone s (a ∷ came) ran.gone ((None ∷ []) ∷ step.2.gone)
       (step.4 ∙ ap (λ (g : List (Option Queued)). g ∷ step.2.gone) sent.0)
-      (in_slot_none s (a ∷ came) step.2.gone rest))
-      (cases_eq a.slot s)
+      (in_slot_none s (a ∷ came) step.2.gone rest)) (cases_eq a.slot s)

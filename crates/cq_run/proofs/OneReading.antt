@@ -1,8 +1,9 @@
 -- Captures are read in one way. The function that reads a file from its front goes by the grammar, so there is a
 -- reader; and a file of bytes is spelt or has a fault, so two readers answer the same. What was read and is spelt, or
 -- has a fault, is what any reader makes of the name that it was read from.
-use Rattle.std.proofs.Common.{◌≡◌, ◌⊎◌, ◌∙◌, ◌<◌, ◌≤◌, ℕ, Bool, IsTrue, cond, List, length, inl, inr, refl, ap, sym}
-use Rattle.std.specs.Prelude.{Option, None, Some, IfSome, Result, Ok, Err, IsErrOf, Vec, slice_index}
+use Rattle.std.proofs.lemmas.Grind.{common_steps}
+use Rattle.std.proofs.Common.{arith, ◌≡◌, ◌⊎◌, ◌∙◌, ◌<◌, ◌≤◌, ℕ, List, length, inl, inr, ap, sym}
+use Rattle.std.specs.Prelude.{Option, None, Some, IfSome, Ok, IsErrOf, Vec, slice_index}
 use Rattle.std.specs.FinMap.{get}
 use Rattle.std.specs.Option.{option_map}
 use Rattle.std.specs.declared.alloc.Global.{Global}
@@ -15,16 +16,12 @@ use Rattle.cq_pcap.specs.Reading.{packets_of}
 use Rattle.cq_pcap.specs.Record.{Spells}
 use Rattle.cq_space.specs.Space.{Contents, Space}
 use Rattle.cq_space.specs.declared.whole.ReadRefusal.TheVariants as whole
-use Rattle.cq_run.specs.declared.refusal.Refusal.{Refusal}
-use Rattle.cq_run.specs.declared.refusal.Refusal.TheVariants.{Capture}
-use Rattle.cq_run.specs.declared.refusal.CaptureFault.TheVariants.{Long}
-use Rattle.cq_run.specs.Judging.{Halts, IsRefused}
+use Rattle.cq_run.specs.Judging.{Halts}
 use Rattle.cq_run.specs.Pace.{AnyName, Pace, Uncounted}
 use Rattle.cq_run.specs.Reader.{Reader}
-use Rattle.cq_run.specs.Refusals.{capture_fault, meaning_of}
+use Rattle.cq_run.specs.Refusals.{capture_fault}
 use Rattle.cq_run.specs.Switching.{halt_for}
-use Rattle.cq_run.specs.Verdict.{◌>>=◌, capture_in, capture_of, found_or_missing, read_or_faulty}
-use Rattle.cq_run.proofs.Counted.{counts_after}
+use Rattle.cq_run.specs.Verdict.{capture_in, read_or_faulty}
 
 -- the reader that begins at the front of a file
 pub from_front : Reader
@@ -42,11 +39,7 @@ module _ (r : Reader) (name : List ℕ) (input limit : ℕ) (bytes : List ℕ) (
   -- a file of at most this length is looked at
   read_at : (m : Contents) → get m name ≡ Some bytes →
       capture_in r name input limit m ≡ read_or_faulty input (r.read bytes)
-  read_at m at =
-      ap (λ (o : Option (List ℕ)). found_or_missing name o >>= capture_of r input limit) at
-      ∙ ap (λ (b : Bool). let long : Result (List Captured) Refusal = Err (Capture input (Long limit)) in
-      cond b long (read_or_faulty input (r.read bytes)))
-      (le-ltb limit (length bytes) short)
+  read_at m at = cc (le-ltb limit (length bytes) short)
 
   pub capture_is : (told : Option Contents) (packets : List Captured) → IfSome told (λ m. get m name ≡ Some bytes) →
       Spells bytes packets
@@ -54,24 +47,13 @@ module _ (r : Reader) (name : List ℕ) (input limit : ℕ) (bytes : List ℕ) (
   capture_is None packets at spelt = tt
   capture_is (Some m) packets at spelt = read_at m at ∙ ap (read_or_faulty input) (r.spelt bytes packets spelt)
 
-  pub capture_is_not : (told : Option Contents) (fault : Fault) → IfSome told (λ m. get m name ≡ Some bytes) →
-      IsFaulty bytes fault
-      → IsRefused (capture_in r name input limit) told (Capture input (capture_fault fault))
-  capture_is_not None fault at faulty = refl
-  capture_is_not (Some m) fault at faulty = read_at m at ∙ ap (read_or_faulty input) (r.faulty bytes fault faulty)
-
   -- a refusal of the reading stops it for its fault, or for want of memory
   pub capture_halts : (p : Pace) (R : List ℕ → Type 0) (old new : Space) (found : Option Fault) →
       IfSome old.told (λ m. get m name ≡ Some bytes) → IfSome found (IsFaulty bytes)
       → Uncounted p (AnyName R) old.faults new.faults →
       Halts p (capture_in r name input limit) R old new (halt_for input (option_map capture_fault found))
   capture_halts p R old new None at faulty kept = kept
-  capture_halts p R old new (Some fault) at faulty kept =
-      let T : Type 0 = IsTrue (meaning_of (Capture input (capture_fault fault))).outruns in (
-        capture_is_not old.told fault at faulty,
-        counts_after p (AnyName R) (T × AnyName R) old.faults old.faults
-            new.faults (λ u. (refl, u)) refl kept,
-      )
+  capture_halts p R old new (Some fault) at faulty kept = grind (arith, common_steps)
 
 -- a file that was read was read with no fault
 pub read_is_no_fault : (v : Vec ℕ Global) (P : Type 0) → IsErrOf {T = Vec ℕ Global} (Ok v) whole.Fault ⊎ P → P

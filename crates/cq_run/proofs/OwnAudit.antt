@@ -12,7 +12,7 @@ use Rattle.cq_audit.proofs.OneDifference.{trace_is_exact}
 use Rattle.cq_audit.specs.Audit.{IsYes, opening_fabric}
 use Rattle.cq_audit.specs.declared.refusal.AuditRefusal.{AuditRefusal}
 use Rattle.cq_audit.specs.declared.refusal.AuditRefusal.TheVariants as of_log
-use Rattle.cq_base.specs.Arriving.{Arrival, enough}
+use Rattle.cq_base.specs.Arriving.{Arrival}
 use Rattle.cq_base.specs.Texts.{log_of, trace_of}
 use Rattle.cq_base.specs.declared.cell.Departure.{Departure}
 use Rattle.cq_base.specs.declared.cell.Transfer.{Transfer}
@@ -21,14 +21,12 @@ use Rattle.cq_cells.specs.Schedule.{arrivals}
 use Rattle.cq_cells.specs.Traffic.{IsTraffic}
 use Rattle.cq_ideal.proofs.FlowPut.{all_from}
 use Rattle.cq_ideal.proofs.LimitedEnds.{limited_not_more}
-use Rattle.cq_laws.proofs.WholeRuns.{empty_list}
 use Rattle.cq_laws.specs.LimitedFabric.{LimitedRecord, slots_in}
 use Rattle.cq_laws.specs.Records.{transfers_of_run}
 use Rattle.cq_pcap.specs.Captured.{Captured}
 use Rattle.cq_route.specs.Tables.{classes_of, ports_of}
-use Rattle.cq_route.specs.declared.tables.PortRow.{PortRow}
 use Rattle.cq_route.specs.declared.tables.Tables.{Tables}
-use Rattle.cq_scfq.specs.Disciplines.{machines_of, openings_of}
+use Rattle.cq_scfq.specs.Disciplines.{machines_of}
 use Rattle.cq_simulate.proofs.FabricLaws.{as_many_slots, sends_as_ideal, stable_whole}
 use Rattle.cq_simulate.specs.FabricRuns.{departures_in_run}
 use Rattle.cq_simulate.specs.IdealRuns.{slots_ran}
@@ -49,11 +47,12 @@ use Rattle.cq_run.specs.Reader.{Reader}
 use Rattle.cq_run.specs.RunsAudited.{RunsAreAudited}
 use Rattle.cq_run.specs.Verdict.{◌>>=◌, captures_in, found_or_missing, ideally_sent, judged, read_or_refused_for, sent_or_tag, tables_in, text_in}
 use Rattle.cq_run.specs.Writing.{all_replaced}
-use Rattle.cq_run.proofs.Audited.{from_captures, from_log, from_trace, last}
 use Rattle.cq_run.proofs.CapturesFit.{all_fit}
 use Rattle.cq_run.proofs.Left.{all_of_two, all_with_two, captures_same, last_two, outputs_named, tables_same, untouched}
 use Rattle.cq_run.proofs.NamesApart.{ArePairs, IsUnwritten, names_apart, reads_unwritten, trace_or_log}
 use Rattle.cq_run.proofs.TextRead.{text_is}
+use Rattle.cq_route.specs.declared.tables.PortRow.{PortRow}
+use Rattle.cq_laws.proofs.WholeRuns.{empty_list}
 
 -- ## The configuration was accepted
 
@@ -105,11 +104,7 @@ module _ (t : Tables) (captures : List (List Captured)) (rs : List LimitedRecord
     few_slots =
         let came : List Arrival = arrivals t captures in
         let same : slots_ran t came ≡ length rs = as_many_slots t came rs traffic keeps.runs in
-        let enough_are : slots_ran t came ≤ enough came =
-        limited_not_more t.limits (machines_of t.setup) (ports_of t.setup) (openings_of t.setup) came in
-        let short : enough came ≤ 2 ^ 63 + 2 ^ 35 =
-        short_is t captures keeps.given.tables keeps.given.each keeps.given.recorded in
-        omega arith
+        omega (arith, limited_not_more, short_is)
 
     -- its log is that of a stable run
     log_is : IsYes t.setup t.limits (arrivals t captures) (log_of note)
@@ -163,9 +158,8 @@ module _ (t : Tables) (captures : List (List Captured)) (rs : List LimitedRecord
         (short : AllByRecursion (λ w. length w.1 ≤ 268435456) files) where
       -- a name that is none of theirs has what it had
       same_under : (name : List ℕ) → IsUnwritten t name → get left name ≡ get m name
-      same_under name none =
-          untouched files m left name written
-          (all_with_two (λ w. w.0 ≢ name) outputs (t.trace, trace_of sent) (t.log, log_of note)
+      same_under name none = untouched files m left name written (all_with_two (λ w. w.0 ≢ name) outputs
+          (t.trace, trace_of sent) (t.log, log_of note)
           (outputs_named (λ (n : List ℕ). n ≢ name) t captures sent 0 t.ports none.outputs) none.trace none.log)
 
       same_read : (o : Option (List ℕ)) → IfSome o (IsUnwritten t) → IfSome o (λ name. get left name ≡ get m name)
@@ -188,16 +182,14 @@ module _ (t : Tables) (captures : List (List Captured)) (rs : List LimitedRecord
       StandsLast = (get left t.trace ≡ Some (trace_of sent)) × (get left t.log ≡ Some (log_of note))
 
       stand_last : StandsLast
-      stand_last =
-          last_two outputs m left t.trace (trace_of sent) t.log (log_of note)
+      stand_last = last_two outputs m left t.trace (trace_of sent) t.log (log_of note)
           (trace_or_log t (apart_in config m t configured)) written
 
       abbrev AreShort : Type 0
       AreShort = (length (trace_of sent) ≤ 268435456) × (length (log_of note) ≤ 268435456)
 
       are_short : AreShort
-      are_short =
-          all_of_two (λ w. length w.1 ≤ 268435456) outputs (t.trace, trace_of sent) (t.log, log_of note) short
+      are_short = all_of_two (λ w. length w.1 ≤ 268435456) outputs (t.trace, trace_of sent) (t.log, log_of note) short
 
       trace_left : text_in why.LongTrace t.trace left ≡ Ok (trace_of sent)
       trace_left = text_is (refused.Audit why.LongTrace) t.trace (Some left) (trace_of sent) are_short.0 stand_last.0
@@ -208,19 +200,9 @@ module _ (t : Tables) (captures : List (List Captured)) (rs : List LimitedRecord
       ideally : ideally_sent t captures ≡ Ok sent
       ideally = ap sent_or_tag (sends_as_ideal t (arrivals t captures) rs traffic keeps.runs)
 
-      -- what is aimed at once the ideal run is known
-      abbrev aim_of : List Departure → Result Aim Refusal
-      aim_of ds = Ok (Auditing t captures ds (trace_of sent) (log_of note))
-
       -- it aims at a yes
       aimed : judged r (Audit config) left ≡ Ok aim
-      aimed =
-          ap (λ (x : Result Tables Refusal). x >>= (λ u. from_captures r config u left)) tables_left
-          ∙ ap (λ (x : Result (List (List Captured)) Refusal). x >>= (λ cs. from_trace r config t cs left))
-          captures_left
-          ∙ ap (λ (x : Result (List ℕ) Refusal). x >>= (λ trace. from_log r config t captures trace left)) trace_left
-          ∙ ap (λ (x : Result (List ℕ) Refusal). x >>= (λ log. last r config t captures (trace_of sent) log)) log_left
-          ∙ ap (λ (x : Result (List Departure) Refusal). x >>= aim_of) ideally
+      aimed = simp (tables_left, captures_left, trace_left, log_left, ideally)
 
       -- the aim is met, and not denied
       abbrev IsSound : Result Aim Refusal → Type 0

@@ -1,7 +1,8 @@
 -- Judging the words of stopping a run and of taking one up: the configuration, its captures, and then the text of a
 -- state. Where all of them are there, they aim at the text of the state, or at what the run keeps that goes on, which
 -- is met or denied.
-use Rattle.std.proofs.Common.{◌≡◌, ◌++◌, ◌∷◌, [], ℕ, IsTrue, List, refl, sym, subst, inr}
+use Rattle.std.proofs.lemmas.Grind.{common_steps}
+use Rattle.std.proofs.Common.{arith, rules, ◌≡◌, ◌++◌, ◌∷◌, [], ℕ, IsTrue, List, refl, sym, subst}
 use Rattle.std.specs.Prelude.{IfErr, IfOk, IfSome, Option, Result, Ok, Err}
 use Rattle.std.specs.List.{AllByRecursion}
 use Rattle.cq_base.specs.Texts.{log_of, trace_of}
@@ -61,10 +62,8 @@ module _ (given : Given) where
 
   part_settles : (slots : ℕ) (name : List ℕ) (halt : Halt) → IsPartHalt given.tables given.captures slots halt →
       Settles (Ok (parting slots name)) (Err halt)
-  part_settles slots name (Refused refusal) h = (
-    untold (IsPartRefusal given.tables given.captures slots) (λ h. h) (λ name h. h) refusal h,
-    inr (parting slots name, refl, h),
-  )
+  part_settles slots name (Refused refusal) h =
+      grind (arith, common_steps, untold (IsPartRefusal given.tables given.captures slots))
   part_settles slots name (Unread unread) h = h
   part_settles slots name NoMemory h = tt
 
@@ -73,10 +72,8 @@ module _ (given : Given) where
 
   resume_settles : (text : List ℕ) (halt : Halt) → IsResumeHalt given.tables given.captures text halt →
       Settles (Ok (resuming text)) (Err halt)
-  resume_settles text (Refused refusal) h = (
-    untold (IsResumeRefusal given.tables given.captures text) (λ h. h) (λ name h. h) refusal h,
-    inr (resuming text, refl, h),
-  )
+  resume_settles text (Refused refusal) h =
+      grind (arith, common_steps, untold (IsResumeRefusal given.tables given.captures text))
   resume_settles text (Unread unread) h = h
   resume_settles text NoMemory h = tt
 
@@ -94,17 +91,15 @@ module _ {S : Type 0} {space : S → Space} {may_fail : Call → S → S → Typ
     -- reading ends it
     pub part_ends : {new : S} {halt : Halt} → EndsGiven space may_fail keeps InTurn config old new halt →
         IsJudged space may_fail keeps InTurn (Part config slots name) old new (Err halt)
-    part_ends ended =
-        given_ends space may_fail keeps (Part config slots name) (λ s. refl) old config (part_rest slots name)
-        (λ r. refl) (λ name. tt) _ _ ended
+    part_ends ended = given_ends space may_fail keeps (Part config slots name) (λ s. refl) old config
+        (part_rest slots name) (λ r. refl) (λ name. tt) _ _ ended
 
     module _ {now : S} {given : Given} (is : IsGiven space keeps config old now given) where
       part_settled : (result : Result Plan Halt) → Settles (Ok (parting given slots name)) result →
           IfOk result (λ plan. AllByRecursion (λ write. write.0 ≡ name) plan.writes) →
           ((r : Reader) → IfOk result (λ plan. IfSome (space old).told (λ m. IsStopped r config slots name m plan))) →
           IsJudged space may_fail keeps InTurn (Part config slots name) old now result
-      part_settled =
-          settled space may_fail keeps (Part config slots name) (λ s. refl) old now _
+      part_settled = settled space may_fail keeps (Part config slots name) (λ s. refl) old now _
           (given_so space may_fail keeps (Part config slots name) (λ s. refl) old config (part_rest slots name)
           (λ r. refl) (λ name. tt) now given is)
 
@@ -120,15 +115,7 @@ module _ {S : Type 0} {space : S → Space} {may_fail : Call → S → S → Typ
           let P : Plan → Type 0 = λ p. AllByRecursion (λ write. write.0 ≡ name) p.writes in
           part_settled (Ok plan) (parting given slots name, refl, (text, text_is, written))
           (subst P (sym written) (refl, tt)) (λ r.
-          told_map (space old).told _ _ (λ m are_read. record {
-            tables = given.tables;
-            captures = given.captures;
-            read = are_read;
-            given = are;
-            text = text;
-            stopped = text_is;
-            written = written;
-          }) (read_told is r))
+          told_map (space old).told _ _ (λ m are_read. search (arith, rules)) (read_told is r))
 
   -- ## Going on
 
@@ -136,25 +123,22 @@ module _ {S : Type 0} {space : S → Space} {may_fail : Call → S → S → Typ
     -- reading ends it
     pub resume_ends : {new : S} {halt : Halt} → EndsGiven space may_fail keeps InTurn config old new halt →
         IsJudged space may_fail keeps InTurn (Resume config name) old new (Err halt)
-    resume_ends ended =
-        given_ends space may_fail keeps (Resume config name) (λ s. refl) old config (resume_rest name) (λ r. refl)
-        (λ name. tt) _ _ ended
+    resume_ends ended = given_ends space may_fail keeps (Resume config name) (λ s. refl) old config (resume_rest name)
+        (λ r. refl) (λ name. tt) _ _ ended
 
     module _ (lasts : Lasts keeps) {mid now : S} {given : Given} (is : IsGiven space keeps config old mid given)
         (kept : keeps mid now) where
       resume_reached : Reached space may_fail keeps (Resume config name) (λ s. refl) old mid
           (λ r. resume_rest name r given.tables given.captures)
-      resume_reached =
-          given_so space may_fail keeps (Resume config name) (λ s. refl) old config (resume_rest name) (λ r. refl)
-          (λ name. tt) mid given is
+      resume_reached = given_so space may_fail keeps (Resume config name) (λ s. refl) old config (resume_rest name)
+          (λ r. refl) (λ name. tt) mid given is
 
       -- the text ends it
       pub text_ends : {halt : Halt} → Judges InTurn (state_in name)
           (λ asked. (asked ≡ name) × Fails space may_fail keeps (Reads asked) mid now) (space mid) (space now)
           (Err halt) → IsJudged space may_fail keeps InTurn (Resume config name) old now (Err halt)
-      text_ends {halt} h =
-          read_ends space may_fail keeps (Resume config name) (λ s. refl) old lasts mid now (λ r. state_in name)
-          (λ r text (m : Contents). Ok (resuming given text)) resume_reached kept _ halt (λ r. h)
+      text_ends {halt} h = read_ends space may_fail keeps (Resume config name) (λ s. refl) old lasts mid now
+          (λ r. state_in name) (λ r text (m : Contents). Ok (resuming given text)) resume_reached kept _ halt (λ r. h)
           (λ asked u. (tt, u.1))
 
       module _ {Q : List ℕ → Type 0} {text : List ℕ}
@@ -163,8 +147,7 @@ module _ {S : Type 0} {space : S → Space} {may_fail : Call → S → S → Typ
             IfOk result (λ plan. AllByRecursion (λ write. Unit {0}) plan.writes) →
             ((r : Reader) → IfOk result (λ plan. IfSome (space old).told (λ m. IsTakenUp r config name m plan))) →
             IsJudged space may_fail keeps InTurn (Resume config name) old now result
-        resume_settled =
-            settled space may_fail keeps (Resume config name) (λ s. refl) old now _
+        resume_settled = settled space may_fail keeps (Resume config name) (λ s. refl) old now _
             (read_on space may_fail keeps (Resume config name) (λ s. refl) old lasts mid now (λ r. state_in name)
             (λ r text (m : Contents). Ok (resuming given text)) resume_reached kept Q text
             (λ r. short_stays (State stopped.Long) name) (λ r. read))
@@ -177,18 +160,8 @@ module _ {S : Type 0} {space : S → Space} {may_fail : Call → S → S → Typ
             let P : Option Contents → Type 0 = λ o. IfSome o (λ m. state_in name m ≡ Ok text) in
             resume_settled (Ok plan)
             (Resuming given.tables given.captures text, refl, (met.kept, met.goes_on, met.written))
-            (all_any plan.writes) (λ r.
-            told_two (space old).told _ _ _ (λ m are_read d. record {
-              tables = given.tables;
-              captures = given.captures;
-              read = are_read;
-              given = met.given;
-              text = text;
-              found = text_stands (State stopped.Long) name m text d;
-              kept = met.kept;
-              goes_on = met.goes_on;
-              written = met.written;
-            }) (read_told is r) (subst P is.told read.ok))
+            (all_any plan.writes) (λ r. told_two (space old).told _ _ _
+            (λ m are_read d. search (arith, rules, text_stands)) (read_told is r) (subst P is.told read.ok))
         resume_judged (Err halt) met refused =
             resume_settled (Err halt) (resume_settles given text halt refused) tt (λ r. tt)
 
@@ -199,5 +172,4 @@ pub resuming_is : (t : Tables) (captures : List (List Captured)) (text : List �
     ∷ (t.log, log_of c.run.note.items) ∷ [] →
     plan.text ≡ report_with c.run.figures c.run.refused.items → IsResuming t captures text plan
 unfolding resumed
-resuming_is t captures text c plan are goes writes report =
-    record { given = are; kept = kept_by c; goes_on = goes; written = plan_is plan _ _ writes report }
+resuming_is t captures text c plan are goes writes report = search (arith, rules, plan_is plan _ _ writes report)

@@ -1,5 +1,6 @@
 -- What leaves a switch of one port, from the one capture that is read.
-use Rattle.std.proofs.Common.{◌≡◌, ◌∙◌, ◌∷◌, [], ℕ, List, ap, refl, sym, subst}
+use Rattle.std.proofs.lemmas.Grind.{common_steps}
+use Rattle.std.proofs.Common.{arith, ◌≡◌, ◌∷◌, [], ℕ, List, ap, refl, sym, subst}
 use Rattle.std.specs.Prelude.{IfErr, IfOk, IfSome, Result, Ok, Err}
 use Rattle.std.specs.List.{AllByRecursion}
 use Rattle.cq_base.specs.declared.cell.Departure.{Departure}
@@ -57,14 +58,7 @@ module _ (from to : List ℕ) (packets : List Captured) where
 
     passage_at : (r : Reader) → AreTables (plain_tables from to) → (m : Contents) →
         capture_in r from 0 (plain_tables from to).limit_bytes m ≡ Ok packets → IsPassage r from to m plan
-    passage_at r are m captured = record {
-      packets = packets;
-      captured = captured;
-      records = is.records;
-      keeps_up = is.keeps_up;
-      written = plan_passed ∙ ap (passed from to packets) is.departed;
-      whole = is.writes ∙ ap (λ (bytes : List ℕ). (to, bytes) ∷ []) (leaves_all is.sent are is.is_sent);
-    }
+    passage_at r are m captured = grind (arith, common_steps, plan_passed, leaves_all is.sent are is.is_sent)
 
 module _ {S : Type 0} (space : S → Space) (may_fail : Call → S → S → Type 0) (keeps : S → S → Type 0)
     (lasts : Lasts keeps) (from to : List ℕ) (old : S) (closed : (space old).mode ≡ Closed) where
@@ -96,11 +90,10 @@ module _ {S : Type 0} (space : S → Space) (may_fail : Call → S → S → Typ
         IfOk result (λ plan. AllByRecursion (λ write. write.0 ≡ to) plan.writes) →
         ((r : Reader) → IfOk result (λ plan. IfSome (space old).told (λ m. IsPassage r from to m plan))) →
         IsJudged space may_fail keeps InTurn (Pass from to) old new result
-    settles_plain packets h =
-        settled space may_fail keeps (Pass from to) (λ s. refl) old new (passing_of from to packets)
-        (read_on space may_fail keeps (Pass from to) (λ s. refl) old lasts old new (λ r. capture_in r from 0 limit)
-        (λ r packets (m : Contents). passing_of from to packets) passing_begun kept R packets
-        (λ r. capture_stays r from 0 limit) h)
+    settles_plain packets h = settled space may_fail keeps (Pass from to) (λ s. refl) old new
+        (passing_of from to packets) (read_on space may_fail keeps (Pass from to) (λ s. refl) old lasts old new
+        (λ r. capture_in r from 0 limit) (λ r packets (m : Contents). passing_of from to packets) passing_begun kept
+        R packets (λ r. capture_stays r from 0 limit) h)
 
     judged_plain : (packets : List Captured) → AreTables (plain_tables from to) →
         ((r : Reader) → Judges InTurn (capture_in r from 0 limit) R (space old) (space new) (Ok packets)) →
@@ -109,9 +102,8 @@ module _ {S : Type 0} (space : S → Space) (may_fail : Call → S → S → Typ
         IsJudged space may_fail keeps InTurn (Pass from to) old new result
     judged_plain packets are h (Ok plan) is refused =
         let P : List (List ℕ × List ℕ) → Type 0 = λ ws. AllByRecursion (λ write. write.0 ≡ to) ws in
-        settles_plain packets h (Ok plan)
-        (ok_settles _ (λ sent. Exactly (passed from to packets sent)) is.sent plan is.is_sent
-        (plan_passed from to packets plan is)) (subst P (sym is.writes) (refl, tt))
+        settles_plain packets h (Ok plan) (ok_settles _ (λ sent. Exactly (passed from to packets sent)) is.sent plan
+        is.is_sent (plan_passed from to packets plan is)) (subst P (sym is.writes) (refl, tt))
         (λ r. told_map (space old).told _ _ (passage_at from to packets plan is r are) (h r).ok)
     judged_plain packets are h (Err halt) is refused =
         settles_plain packets h (Err halt) (refused_settles _ _ halt refused) tt (λ r. tt)

@@ -1,5 +1,5 @@
 -- From one judgement after another to a plan that meets what is aimed at.
-use Rattle.std.proofs.Common.{◌≡◌, ◌∙◌, ℕ, List, [], ◌∷◌, refl, sym, ap, subst, inl}
+use Rattle.std.proofs.Common.{rules, arith, ◌≡◌, ◌∙◌, ℕ, List, [], ◌∷◌, refl, sym, ap, subst}
 use Rattle.std.specs.Prelude.{IfSome, Result, Ok, Err, IfOk, IfErr, IsOk, IsOkAnd}
 use Rattle.std.specs.List.{AllByRecursion}
 use Rattle.cq_base.specs.declared.cell.Departure.{Departure}
@@ -49,10 +49,7 @@ same_faults command old new e = sym (known_faults command new) ∙ e ∙ known_f
 
 pub rose_known : (command : Command) (old new : Space) →
     Rose (known_to command old).faults (known_to command new).faults → Rose old.faults new.faults
-rose_known command old new r =
-    let P : ℕ → Type 0 = λ n. Rose n new.faults in
-    let Q : ℕ → Type 0 = λ n. Rose (known_to command old).faults n in
-    subst P (known_faults command old) (subst Q (known_faults command new) r)
+rose_known command old new r = omega (arith, known_faults command old, known_faults command new)
 
 -- the count of faults that a command knows of is that of the file space
 pub counts_known : (p : Pace) (U V : Type 0) (command : Command) (old new : Space) → (U → V) →
@@ -107,8 +104,7 @@ module _ {S : Type 0} {space : S → Space} {may_fail : Call → S → S → Typ
         result → IfOk result (λ plan. AllByRecursion (λ write. MayWrite command write.0) plan.writes) →
         ((r : Reader) → IfOk result (λ plan. IfSome (space old).told (λ m. Emulates r command m plan))) →
         IsJudged space may_fail keeps p command old now result
-    sent_settled =
-        settled space may_fail keeps command knows old now _
+    sent_settled = settled space may_fail keeps command knows old now _
         (given_so space may_fail keeps command knows old config (sent_of aim_of) same any now given is)
 
     -- the run ends it
@@ -168,8 +164,7 @@ module _ {S : Type 0} (space : S → Space) (may_fail : Call → S → S → Typ
         told = refl;
       }
   soak_judged (Err halt) meets none is halts = record {
-    judges = λ r.
-        inl (judges_computed_err InTurn (sent >>= (λ _. Ok aim)) _ _ halt closed (reported_halt sent halt halts));
+    judges = search (arith, rules, judges_computed_err, reported_halt);
     kept = kept;
     names = tt;
     emulates = λ r. tt;

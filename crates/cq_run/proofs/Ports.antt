@@ -1,8 +1,9 @@
 -- The captures of the ports, one after another. Reading those of some ports, then that of the next, and then those of
 -- the rest, is reading them all, and what ends one of these ends the whole.
-use Rattle.std.proofs.Common.{◌≡◌, ◌<◌, ◌≤◌, ◌∙◌, ℕ, ◌+◌, List, [], ◌∷◌, ◌++◌, length, take, drop, get_or, refl, ap, sym, subst, arith, length-take-le}
+use Rattle.std.proofs.Common.{rules, ◌≡◌, ◌<◌, ◌≤◌, ◌∙◌, ℕ, ◌+◌, List, [], ◌∷◌, ◌++◌, length, take, drop, get_or, refl, ap, sym, subst, arith, length-take-le}
+use Rattle.std.proofs.lemmas.Grind.{common_steps}
 use Rattle.std.specs.Prelude.{Result, Ok, Err}
-use Rattle.std.proofs.lemmas.List.{drop_more, take-append-drop, take_all, take_more}
+use Rattle.std.proofs.lemmas.List.{take_all, take_more}
 use Rattle.cq_space.specs.Space.{Contents, Space, Closed}
 use Rattle.cq_pcap.specs.Captured.{Captured}
 use Rattle.cq_route.specs.declared.tables.PortRow.{PortRow}
@@ -18,18 +19,6 @@ use Rattle.cq_run.proofs.Chain.{judges_then, judges_after, judges_any, judges_bo
 abbrev Packets : Type 0
 Packets = List Captured
 
-regrouped : (a : Result Packets Refusal) (b : Result (List Packets) Refusal) (c : Result Packets Refusal)
-    (d : Result (List Packets) Refusal)
-    →
-    (a >>= (λ p. (b >>= (λ made. c >>= (λ q. d >>= (λ rest. Ok (made ++ q ∷ rest))))) >>=
-    (λ others. Ok (p ∷ others)))) ≡ ((a >>= (λ p. b >>= (λ others. Ok (p ∷ others)))) >>=
-    (λ made. c >>= (λ q. d >>= (λ rest. Ok (made ++ q ∷ rest)))))
-regrouped (Err e) b c d = refl
-regrouped (Ok p) (Err e) c d = refl
-regrouped (Ok p) (Ok made) (Err e) d = refl
-regrouped (Ok p) (Ok made) (Ok q) (Err e) = refl
-regrouped (Ok p) (Ok made) (Ok q) (Ok rest) = refl
-
 -- the ports before one, that port, and those after it
 pub split_at : (r : Reader) (limit input at : ℕ) (xs : List PortRow) (row : PortRow) (ys : List PortRow)
     (m : Contents) → at ≡ input + length xs
@@ -38,38 +27,22 @@ pub split_at : (r : Reader) (limit input at : ℕ) (xs : List PortRow) (row : Po
     (λ made. packets_at r at limit row.read m >>=
     (λ q. captures_from r limit (at + 1) ys m >>= (λ rest. Ok (made ++ q ∷ rest)))))
 unfolding captures_from
-split_at r limit input at [] row ys m e =
-    let same : at ≡ input = omega (arith, e) in
-    ap (λ (n : ℕ). packets_at r n limit row.read m >>=
-    (λ (q : Packets). captures_from r limit (n + 1) ys m >>= (λ rest.
-    let s : Result (List Packets) Refusal = Ok (q ∷ rest) in s))) (sym same)
+split_at r limit input at [] row ys m e = let same : at ≡ input = omega (arith, e) in search (arith, rules)
 split_at r limit input at (x ∷ xs) row ys m e =
-    ap (λ (s : Result (List Packets) Refusal). packets_at r input limit x.read m >>=
-    (λ (p : Packets). s >>= (λ others. let t : Result (List Packets) Refusal = Ok (p ∷ others) in t)))
-    (split_at r limit (input + 1) at xs row ys m (omega (arith, e)))
-    ∙ regrouped (packets_at r input limit x.read m) (captures_from r limit (input + 1) xs m)
-    (packets_at r at limit row.read m) (captures_from r limit (at + 1) ys m)
+    grind (arith, common_steps, split_at r limit (input + 1) at xs row ys m)
 
 module _ (r : Reader) (limit : ℕ) (rows : List PortRow) (k : ℕ) (row : PortRow) (inside : k < length rows)
     (is : row ≡ get_or rows k row) where
   length_before : length (take k rows) ≡ k
   length_before = length-take-le k rows (omega (arith, inside))
 
-  around : rows ≡ take k rows ++ row ∷ drop (k + 1) rows
-  around =
-      sym (take-append-drop k rows) ∙ ap (λ (rs : List PortRow). take k rows ++ rs) (drop_more rows k row inside)
-      ∙ ap (λ (r : PortRow). take k rows ++ r ∷ drop (k + 1) rows) (sym is)
-
   abbrev then_rest : List Packets → Contents → Result (List Packets) Refusal
-  then_rest made m =
-      packets_at r k limit row.read m >>=
-      (λ q. captures_from r limit (k + 1) (drop (k + 1) rows) m >>= (λ rest. Ok (made ++ q ∷ rest)))
+  then_rest made m = packets_at r k limit row.read m >>= (λ q.
+      captures_from r limit (k + 1) (drop (k + 1) rows) m >>= (λ rest. Ok (made ++ q ∷ rest)))
 
   all_is : (m : Contents) → (captures_from r limit 0 (take k rows) m >>= (λ made. then_rest made m)) ≡ captures_from r
       limit 0 rows m
-  all_is m =
-      sym (ap (λ (rs : List PortRow). captures_from r limit 0 rs m) around
-      ∙ split_at r limit 0 k (take k rows) row (drop (k + 1) rows) m (omega (arith, length_before)))
+  all_is m = grind (arith, common_steps, split_at r limit 0 k (take k rows) row (drop (k + 1) rows) m)
 
   -- what ends reading at this port ends reading them all
   pub ends_all : (Q R S : List ℕ → Type 0) (old mid new : Space) (made : List Packets) (halt : Halt) →
@@ -95,9 +68,7 @@ module _ (r : Reader) (limit : ℕ) (rows : List PortRow) (k : ℕ) (row : PortR
   more_is : (m : Contents) → (captures_from r limit 0 (take k rows) m >>= (λ made. then_this made m)) ≡ captures_from
       r limit 0 (take (k + 1) rows) m
   unfolding captures_from
-  more_is m =
-      sym (ap (λ (rs : List PortRow). captures_from r limit 0 rs m) take_more_is
-      ∙ split_at r limit 0 k (take k rows) row [] m (omega (arith, length_before)))
+  more_is m = grind (arith, common_steps, take_more_is, split_at r limit 0 k (take k rows) row [] m, length_before)
 
   -- one port more
   pub reads_more : (Q R : List ℕ → Type 0) (old mid new : Space) (made : List Packets) (q : Packets)
@@ -121,8 +92,7 @@ pub reads_all : (r : Reader) (limit : ℕ) (rows : List PortRow) (k : ℕ) (Q R 
     (made : List Packets) → length rows ≤ k →
     Judges InTurn (captures_from r limit 0 (take k rows)) Q old new (Ok made) →
     Judges InTurn (captures_from r limit 0 rows) R old new (Ok made)
-reads_all r limit rows k Q R old new made over h =
-    judges_any (captures_from r limit 0 rows) Q R old new made
+reads_all r limit rows k Q R old new made over h = judges_any (captures_from r limit 0 rows) Q R old new made
     (let P : List PortRow → Type 0 = λ rs. Judges InTurn (captures_from r limit 0 rs) Q old new (Ok made) in
     subst P (take_all k rows over) h)
 

@@ -1,17 +1,16 @@
 -- Texts that are put one after another. A text that was cut short after others were put whole is a front of all: what
 -- was taken before it has a known length, so the front's length is that and the piece's. A front of a text is a front
 -- of each longer text.
+use Rattle.std.proofs.lemmas.Grind.{common_steps, flat_map-append}
 use Rattle.std.proofs.Common.{◌≡◌, ◌<◌, ◌≤◌, ℕ, ◌+◌, List, [], ◌∷◌, ◌++◌, length, take, drop, get_or, Bor, refl, ap, sym, subst, ◌∙◌, arith, append_assoc}
 use Rattle.std.specs.Prelude.{Option, None, Some, Result, Ok, Err, IsErr}
 use Rattle.std.specs.Io.KnownBytes.{append_known}
 use Rattle.std.specs.List.{flat_map}
 use Rattle.std.proofs.lemmas.List.{append-nil, take_at, take-append-drop, drop_more}
-use Rattle.std.proofs.lemmas.Grind.{flat_map-append}
 use Rattle.std.proofs.Math.Seq.{take-append-add}
 use Rattle.cq_space.specs.Causes.{Rose}
 use Rattle.cq_run.specs.World.{Taken}
 use Rattle.cq_run.specs.Line.{Puts, line}
-use Rattle.cq_run.proofs.Counted.{rose_from}
 
 -- the digits that were written at the front
 pub front_is : (text old new : List ℕ) (count : ℕ) → count ≡ length text → new ≡ text ++ drop count old →
@@ -27,16 +26,14 @@ line_in_pieces head text text' e = ap (λ ys. head ++ (ys ++ 10 ∷ [])) e ∙ s
 pub line_of_two : (a b b' c d d' : List ℕ) → b ≡ b' → d ≡ d' →
     a ++ (b ++ (c ++ (d ++ 10 ∷ []))) ≡ line (a ++ b' ++ c ++ d')
 unfolding line
-line_of_two a b b' c d d' e f =
-    ap (λ ys. a ++ (ys ++ (c ++ (d ++ 10 ∷ [])))) e ∙ ap (λ ys. a ++ (b' ++ (c ++ (ys ++ 10 ∷ [])))) f
-    ∙ simp append_assoc
+line_of_two a b b' c d d' e f = ap (λ ys. a ++ (ys ++ (c ++ (d ++ 10 ∷ [])))) e
+    ∙ ap (λ ys. a ++ (b' ++ (c ++ (ys ++ 10 ∷ [])))) f ∙ simp append_assoc
 
 -- and of three
 pub line_of_three : (a b b' c d d' e f f' : List ℕ) → b ≡ b' → d ≡ d' → f ≡ f' →
     a ++ (b ++ (c ++ (d ++ (e ++ (f ++ 10 ∷ []))))) ≡ line (a ++ b' ++ c ++ d' ++ e ++ f')
 unfolding line
-line_of_three a b b' c d d' e f f' p q r =
-    ap (λ ys. a ++ (ys ++ (c ++ (d ++ (e ++ (f ++ 10 ∷ [])))))) p
+line_of_three a b b' c d d' e f f' p q r = ap (λ ys. a ++ (ys ++ (c ++ (d ++ (e ++ (f ++ 10 ∷ [])))))) p
     ∙ ap (λ ys. a ++ (b' ++ (c ++ (ys ++ (e ++ (f ++ 10 ∷ [])))))) q
     ∙ ap (λ ys. a ++ (b' ++ (c ++ (d' ++ (e ++ (ys ++ 10 ∷ [])))))) r ∙ simp append_assoc
 
@@ -47,9 +44,7 @@ line_after a b b' c text e = ap (λ ys. a ++ (ys ++ c) ++ (text ++ 10 ∷ [])) e
 
 -- a text of two numbers in pieces: each has a text before it
 pub two_in_pieces : (a b b' c d d' : List ℕ) → b ≡ b' → d ≡ d' → a ++ (b ++ (c ++ (d ++ []))) ≡ a ++ b' ++ c ++ d'
-two_in_pieces a b b' c d d' e f =
-    ap (λ ys. a ++ (ys ++ (c ++ (d ++ [])))) e ∙ ap (λ ys. a ++ (b' ++ (c ++ (ys ++ [])))) f
-    ∙ ap (λ ys. a ++ (b' ++ (c ++ ys))) (append-nil d') ∙ simp append_assoc
+two_in_pieces a b b' c d d' e f = grind (arith, common_steps, append-nil d', append_assoc)
 
 pub puts_as : {E : Type 0} (a b : List ℕ) (old new : Taken) (r : Result (Unit {0}) E) → a ≡ b → Puts a old new r →
     Puts b old new r
@@ -80,34 +75,13 @@ pub puts_cut : {E : Type 0} (a b : List ℕ) (old new : Taken) (r : Result (Unit
     (n : ℕ) × (new.bytes ≡ append_known old.bytes (take n a)) → old.faults ≤ new.faults → Rose old.faults new.faults →
     Puts (a ++ b) old new r
 puts_cut a b old new r err front later rose =
-    puts_front (a ++ b) old new r err (
-      length (take front.0 a),
-      front.1
-          ∙ ap (append_known old.bytes) (front_of_longer a b front.0),
-    ) later rose
+    grind (arith, common_steps, puts_front (a ++ b) old new r err, front_of_longer a b front.0)
 
 -- the first of two texts was put whole, and then the second was put
 pub puts_then : {E : Type 0} (a b : List ℕ) (old mid new : Taken) (r : Result (Unit {0}) E) →
     mid.bytes ≡ append_known old.bytes a → mid.faults ≡ old.faults → Puts b mid new r → Puts (a ++ b) old new r
-puts_then a b old mid new (Ok x) e l h = record {
-  bytes = h.bytes ∙ ap (λ k. append_known k b) e ∙ append_known-append_known old.bytes a b;
-  cause = record { later = let later = h.cause.later in omega arith; uncounted = h.cause.uncounted ∙ l; failed = tt };
-}
-puts_then a b old mid new (Err f) e l h = record {
-  bytes = (
-    length a + h.bytes.0,
-    h.bytes.1
-        ∙ ap (λ k. append_known k (take h.bytes.0 b)) e
-        ∙ append_known-append_known old.bytes a (take h.bytes.0 b)
-        ∙ ap (append_known old.bytes) (sym (take-append-add a b h.bytes.0)),
-  );
-  cause =
-      record {
-        later = let later = h.cause.later in omega arith;
-        uncounted = tt;
-        failed = rose_from old.faults mid.faults new.faults l h.cause.failed;
-      };
-}
+puts_then a b old mid new (Ok x) e l h = grind (arith, common_steps, append_known-append_known old.bytes a b)
+puts_then a b old mid new (Err f) e l h = grind (arith, common_steps, take-append-add a b h.bytes.0)
 
 -- a line whose head is put first
 line_behind : (head text : List ℕ) → head ++ line text ≡ line (head ++ text)
@@ -130,9 +104,7 @@ module _ {E : Type 0} (head text : List ℕ) {old new : Taken} {r : Result (Unit
 pieces_at : (ps : List (Bor (List ℕ))) (i : ℕ) (d : Bor (List ℕ)) → i < length ps →
     flat_map (λ p. p.now) ps ≡ flat_map (λ p. p.now) (take i ps)
     ++ ((get_or ps i d).now ++ flat_map (λ p. p.now) (drop (i + 1) ps))
-pieces_at ps i d h =
-    ap (flat_map (λ p. p.now)) (sym (take-append-drop i ps) ∙ ap (λ qs. take i ps ++ qs) (drop_more ps i d h))
-    ∙ flat_map-append (λ p. p.now) (take i ps) (get_or ps i d ∷ drop (i + 1) ps)
+pieces_at ps i d h = grind (arith, common_steps, take-append-drop i ps, drop_more ps i d h, flat_map-append)
 
 -- the piece at a place was cut short, after those before it
 pub pieces_cut : {E : Type 0} (ps : List (Bor (List ℕ))) (i : ℕ) (d : Bor (List ℕ)) (start old new : Taken)
@@ -140,8 +112,7 @@ pub pieces_cut : {E : Type 0} (ps : List (Bor (List ℕ))) (i : ℕ) (d : Bor (L
     old.bytes ≡ append_known start.bytes (flat_map (λ p. p.now) (take i ps)) → old.faults ≡ start.faults →
     (n : ℕ) × (new.bytes ≡ append_known old.bytes (take n (get_or ps i d).now)) → old.faults ≤ new.faults →
     Rose old.faults new.faults → Puts (flat_map (λ p. p.now) ps) start new r
-pieces_cut ps i d start old new r err h put uncounted front later rose =
-    puts_as _ (flat_map (λ p. p.now) ps) start new r (sym (pieces_at ps i d h))
-    (puts_then (flat_map (λ p. p.now) (take i ps)) ((get_or ps i d).now ++ flat_map (λ p. p.now) (drop (i + 1) ps))
-    start old new r put uncounted
+pieces_cut ps i d start old new r err h put uncounted front later rose = puts_as _ (flat_map (λ p. p.now) ps) start
+    new r (sym (pieces_at ps i d h)) (puts_then (flat_map (λ p. p.now) (take i ps))
+    ((get_or ps i d).now ++ flat_map (λ p. p.now) (drop (i + 1) ps)) start old new r put uncounted
     (puts_cut (get_or ps i d).now (flat_map (λ p. p.now) (drop (i + 1) ps)) old new r err front later rose))

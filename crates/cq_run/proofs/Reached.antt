@@ -1,7 +1,8 @@
 -- What is known at a moment of judging a command. All that was judged so far was accepted: no fault was counted, the
 -- file space is closed, its contents are as before, and of these the command comes to what is left to judge. So where a
 -- name that is read next is unread or refused, or what was read is judged, that is what the command comes to.
-use Rattle.std.proofs.Common.{◌≡◌, ◌∙◌, ◌⊎◌, ℕ, IsTrue, List, ap, refl, sym, subst, inl, inr}
+use Rattle.std.proofs.Common.{rules, arith, ◌≡◌, ◌∙◌, ◌⊎◌, ℕ, IsTrue, List, ap, sym, subst, inl, inr}
+use Rattle.std.proofs.lemmas.Grind.{common_steps}
 use Rattle.std.specs.Prelude.{Option, None, Some, IfOk, IfSome, IsOkAnd, Result, Ok, Err}
 use Rattle.std.specs.List.{AllByRecursion}
 use Rattle.cq_pcap.specs.Captured.{Captured}
@@ -73,8 +74,7 @@ module _ {S : Type 0} (space : S → Space) (may_fail : Call → S → S → Typ
       Decides p (judged r command) (Failed new) (known_to command (space old)) (known_to command (space new)) result
   known p r new result h =
       let P : Space → Type 0 = λ s. Decides p (judged r command) (Failed new) s (space new) result in
-      let Q : Space → Type 0 = λ s. Decides p (judged r command) (Failed new) (known_to command (space old)) s result in
-      subst Q (sym (knows (space new))) (subst P (sym (knows (space old))) h)
+      search (arith, rules)
 
   -- judging ends without a plan
   pub halted : {p : Pace} (new : S) (halt : Halt) → ((r : Reader) →
@@ -98,13 +98,7 @@ module _ {S : Type 0} (space : S → Space) (may_fail : Call → S → S → Typ
 
   -- at first all is left
   pub begun : Lasts keeps → (space old).mode ≡ Closed → Reached old (λ r. judged r command)
-  begun lasts closed = record {
-    comes = λ r. comes_to_itself (judged r command) (space old).told;
-    kept = lasts.none old;
-    closed = closed;
-    told = refl;
-    uncounted = refl;
-  }
+  begun lasts closed = grind (arith, common_steps, comes_to_itself, lasts.none old)
 
   -- a command that judges what a configuration gives, and may read any name
   module _ (config : List ℕ) (rest : Reader → Tables → List (List Captured) → Contents → Result Aim Refusal)
@@ -116,9 +110,8 @@ module _ {S : Type 0} (space : S → Space) (may_fail : Call → S → S → Typ
     given_ends {p} new halt ended =
         let R : List ℕ → Type 0 = λ name. Fails space may_fail keeps (Reads name) old new in
         let P : (Contents → Result Aim Refusal) → Type 0 = λ j. Judges p j R (space old) (space new) (Err halt) in
-        halted new halt (λ r.
-        judges_more p (judged r command) R (Failed new) (space old) (space new) (Err halt) (λ name u. (any name, u))
-        (subst P (sym (same r)) (ended.ends r (rest r)))) ended.kept
+        halted new halt (λ r. judges_more p (judged r command) R (Failed new) (space old) (space new) (Err halt)
+        (λ name u. (any name, u)) (subst P (sym (same r)) (ended.ends r (rest r)))) ended.kept
 
     -- once it is read, what is judged of it is left
     pub given_so : (now : S) (given : Given) → IsGiven space keeps config old now given →
@@ -149,9 +142,8 @@ module _ {S : Type 0} (space : S → Space) (may_fail : Call → S → S → Typ
     read_on {q} Q x stays h =
         let P : Reader → Option Contents → Type 0 = λ r o. IfSome o (λ m. j r m ≡ Ok x) in
         record {
-          comes = λ r.
-              goes_on (judged r command) (j r) (f r) (space old).told x (stays r) (subst (P r) reached.told (h r).ok)
-              (reached.comes r);
+          comes = λ r. goes_on (judged r command) (j r) (f r) (space old).told x (stays r)
+              (subst (P r) reached.told (h r).ok) (reached.comes r);
           kept = lasts.both old mid new reached.kept kept;
           closed = (h from_front).closed;
           told = (h from_front).told ∙ reached.told;
@@ -164,27 +156,16 @@ module _ {S : Type 0} (space : S → Space) (may_fail : Call → S → S → Typ
         ((name : List ℕ) → R name → MayRead command name × Fails space may_fail keeps (Reads name) mid new) →
         IsJudged space may_fail keeps p command old new (Err halt)
     read_ends {p} R halt h i =
-        let since : (name : List ℕ) → R name → Failed new name = λ name u. (
-          (i name u).0,
-          fails_after space may_fail keeps (Reads name) old mid new lasts reached.uncounted reached.kept (i name u).1,
-        ) in
-        halted new halt (λ r.
-        judges_back (judged r command) (λ (m : Contents). j r m >>= (λ x. f r x m)) (Failed new) (Failed new)
-        (space old) (space mid) (space new) halt (λ name u. u) (reached.comes r) reached.told reached.uncounted
-        (judges_then (j r) (f r) R (Failed new) (space mid) (space new) halt since (h r)))
+        let since : (name : List ℕ) → R name → Failed new name = search (arith, rules, fails_after) in
+        halted new halt (λ r. judges_back (judged r command) (λ (m : Contents). j r m >>= (λ x. f r x m)) (Failed new)
+        (Failed new) (space old) (space mid) (space new) halt (λ name u. u) (reached.comes r) reached.told
+        reached.uncounted (judges_then (j r) (f r) R (Failed new) (space mid) (space new) halt since (h r)))
         (lasts.both old mid new reached.kept kept)
 
   -- memory runs out
   pub no_memory : {p : Pace} (now : S) (rest : Reader → Contents → Result Aim Refusal) → Reached now rest →
       IsJudged space may_fail keeps p command old now (Err NoMemory)
-  no_memory {p} now rest reached =
-      halted now NoMemory (λ r. record {
-        ok = tt;
-        halt = counts_same p _ (space old).faults (space now).faults reached.uncounted;
-        closed = reached.closed;
-        told = reached.told;
-        uncounted = tt;
-      }) reached.kept
+  no_memory {p} now rest reached = halted now NoMemory (λ r. search (arith, rules, counts_same)) reached.kept
 
   -- ## What was read is judged
 
@@ -196,34 +177,19 @@ module _ {S : Type 0} (space : S → Space) (may_fail : Call → S → S → Typ
 
     aims : {p : Pace} (r : Reader) (R : List ℕ → Type 0) (aim : Aim) → v ≡ Ok aim →
         Judges p (judged r command) R (space old) (space now) (Ok aim)
-    aims {p} r R aim e = record {
-      ok = aims_at r (space old).told aim e (reached.comes r);
-      halt = tt;
-      closed = reached.closed;
-      told = reached.told;
-      uncounted = reached.uncounted;
-    }
+    aims {p} r R aim e = grind (arith, common_steps, aims_at r (space old).told aim e (reached.comes r))
 
     refuses : {p : Pace} (halt : Halt) → IsHaltOf v halt → IsJudged space may_fail keeps p command old now (Err halt)
-    refuses {p} halt h =
-        halted now halt (λ r.
-        judges_back (judged r command) (λ (m : Contents). v) (Failed now) (Failed now) (space old) (space now)
-        (space now) halt (λ name u. u) (reached.comes r) reached.told reached.uncounted
-        (judges_computed_err p v (Failed now) (space now) halt reached.closed h)) reached.kept
+    refuses {p} halt h = halted now halt (λ r. judges_back (judged r command) (λ (m : Contents). v) (Failed now)
+        (Failed now) (space old) (space now) (space now) halt (λ name u. u) (reached.comes r) reached.told
+        reached.uncounted (judges_computed_err p v (Failed now) (space now) halt reached.closed h)) reached.kept
 
     denies : {p : Pace} (refusal : Refusal) (aim : Aim) → IsTrue (meaning_of refusal).untold → v ≡ Ok aim →
         Denies aim refusal → IsJudged space may_fail keeps p command old now (Err (Refused refusal))
     denies {p} refusal aim untold e denied = record {
       judges = λ r.
           let judges : Judges p (judged r command) (Failed now) (space old) (space now) (Ok aim) = aims r _ aim e in
-          known p r now (Err (Refused refusal)) (inr (record {
-            halts = (
-              denied_at (judged r command) (space old).told aim refusal untold denied judges.ok,
-              reached.uncounted,
-            );
-            closed = reached.closed;
-            told = reached.told;
-          }));
+          search (arith, rules, known, denied_at);
       kept = reached.kept;
       names = tt;
       emulates = λ r. tt;

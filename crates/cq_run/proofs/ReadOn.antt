@@ -1,6 +1,6 @@
 -- Reading a configuration and its captures: where one of these ends it, it ends judging of whatever they would give,
 -- and where both are there, that is given. The captures may be read in turn or ahead.
-use Rattle.std.proofs.Common.{◌≡◌, ◌∙◌, ℕ, List, length, subst}
+use Rattle.std.proofs.Common.{arith, rules, ◌≡◌, ◌∙◌, ℕ, List, length, subst}
 use Rattle.std.specs.Prelude.{IfSome, Option, Ok, Err}
 use Rattle.cq_pcap.specs.Captured.{Captured}
 use Rattle.cq_route.specs.Tables.{AreTables, ports_of}
@@ -28,13 +28,7 @@ module _ {S : Type 0} {space : S → Space} {may_fail : Call → S → S → Typ
   pub tables_end : {halt : Halt} → keeps old new → Judges InTurn (tables_in config)
       (λ name. (name ≡ config) × Fails space may_fail keeps (Reads name) old new) (space old) (space new) (Err halt) →
       EndsGiven space may_fail keeps p config old new halt
-  tables_end {halt} kept h = record {
-    ends = λ r rest.
-        judges_at p _ _ (space old) (space new) halt
-        (judges_then (tables_in config) (λ (t : Tables) (m : Contents). captures_in r t m >>= (λ cs. rest t cs m)) _
-        (λ name. Fails space may_fail keeps (Reads name) old new) (space old) (space new) halt (λ name u. u.1) h);
-    kept = kept;
-  }
+  tables_end {halt} kept h = record { ends = search (arith, rules, judges_at, judges_then); kept = kept }
 
   -- the captures end it
   pub captures_end : {mid : S} {t : Tables} {Q : List ℕ → Type 0} {halt : Halt} → Lasts keeps →

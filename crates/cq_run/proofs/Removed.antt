@@ -5,17 +5,15 @@ use Rattle.std.specs.Cmp.{eq_by_cmp_equiv}
 use Rattle.std.specs.Cmp.Lexicographic.{nat_list_cmp_total}
 use Rattle.std.specs.FinMap.{get, remove, get-remove}
 use Rattle.cq_space.specs.Space.{Contents}
-use Rattle.cq_run.specs.Verdict.{◌>>=◌, capture_in, capture_of, found_or_missing}
+use Rattle.cq_run.specs.Verdict.{capture_in}
 use Rattle.cq_run.specs.Judging.{IsToRead}
 use Rattle.cq_run.specs.Reader.{Reader}
 
 pub get-remove_same : (m : Contents) (name : List ℕ) → get (remove m name) name ≡ None
-get-remove_same m name =
-    get-remove nat_list_cmp_total m name name
+get-remove_same m name = get-remove nat_list_cmp_total m name name
     ∙ ap (λ b. cond b None (get m name)) ((eq_by_cmp_equiv nat_list_cmp_total).refl name)
 
 pub capture_is_to_read : (r : Reader) (told : Option Contents) (name : List ℕ) (input limit : ℕ) →
     IsToRead (capture_in r name input limit) told name
 capture_is_to_read r None name input limit = tt
-capture_is_to_read r (Some m) name input limit =
-    ap (λ o. found_or_missing name o >>= capture_of r input limit) (get-remove_same m name)
+capture_is_to_read r (Some m) name input limit = cc (get-remove_same m name)

@@ -39,22 +39,12 @@ use Rattle.cq_run.specs.Switching.{halt_of}
 pub same_state : (x : Frozen) (sent sent' : List Departure) (note note' : List Transfer) (a a' b b' n n' : ℕ) →
     sent ≡ sent' → note ≡ note' → a ≡ a' → b ≡ b' → n ≡ n' →
     state_of x sent note a b n ≡ state_of x sent' note' a' b' n'
-same_state x sent sent' note note' a a' b b' n n' e f g h i =
-    ap (λ (ds : List Departure). state_of x ds note a b n) e
-    ∙ ap (λ (ts : List Transfer). state_of x sent' ts a b n) f
-    ∙ ap (λ (k : ℕ). state_of x sent' note' k b n) g
-    ∙ ap (λ (k : ℕ). state_of x sent' note' a' k n) h
-    ∙ ap (λ (k : ℕ). state_of x sent' note' a' b' k) i
+same_state x sent sent' note note' a a' b b' n n' e f g h i = cc
 
 -- what was read can be taken up
 pub taken_up : {w : Switch} {text : List ℕ} {from : Taken} → IsRead w text from → CanBeTakenUp w from
-taken_up read = record {
-  state = read.state;
-  in_range = read.in_range;
-  shape = read.shape;
-  sound = read.sound;
-  told = read.told;
-}
+taken_up read =
+    record { state = read.state; in_range = read.in_range; shape = read.shape; sound = read.sound; told = read.told }
 
 module _ (t : Tables) (captures : List (List Captured)) where
   abbrev schedule : Scheduled

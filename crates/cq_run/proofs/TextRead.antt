@@ -1,7 +1,8 @@
 -- What is told of a text, as the trace or the log of an audit or the state of a stopped run, from what was read under
 -- its name: its bytes, where they are not too many. The name that was asked for is the one that is to be read, or a
 -- copy of it.
-use Rattle.std.proofs.Common.{◌≡◌, ◌<◌, ◌≤◌, ◌⊎◌, ◌∙◌, ℕ, Bool, IsTrue, true, false, cond, List, [], length, refl, sym, ap, subst, inl, inr, arith}
+use Rattle.std.proofs.lemmas.Grind.{common_steps}
+use Rattle.std.proofs.Common.{rules, ◌≡◌, ◌<◌, ◌≤◌, ◌⊎◌, ℕ, Bool, IsTrue, true, false, cond, List, [], length, refl, ap, subst, inl, inr, arith}
 use Rattle.std.specs.Prelude.{nat_lt, Option, None, Some, IfSome, Result, Ok, Err, IsErrOf, Vec, unwrap_or}
 use Rattle.std.specs.FinMap.{get, remove}
 use Rattle.std.specs.declared.alloc.Global.{Global}
@@ -21,10 +22,7 @@ module _ (long : Refusal) (name : List ℕ) where
   -- a text of at most this length is looked at
   text_at : (m : Contents) (bytes : List ℕ) → length bytes ≤ 268435456 → get m name ≡ Some bytes →
       short_in long name m ≡ Ok bytes
-  text_at m bytes short at =
-      ap (λ (o : Option (List ℕ)). found_or_missing name o >>= short_or long) at
-      ∙ ap (λ (b : Bool). let over : Result (List ℕ) Refusal = Err long in cond b over (Ok bytes))
-      (le-ltb 268435456 (length bytes) short)
+  text_at m bytes short at = cc (le-ltb 268435456 (length bytes) short)
 
   pub text_is : (told : Option Contents) (bytes : List ℕ) → length bytes ≤ 268435456 →
       IfSome told (λ m. get m name ≡ Some bytes)
@@ -36,17 +34,13 @@ module _ (long : Refusal) (name : List ℕ) where
   long_at : (m : Contents) (o : Option (List ℕ)) → get m name ≡ o → 268435456 < length (unwrap_or o []) →
       short_in long name m ≡ Err long
   long_at m None e h = absurd (omega arith)
-  long_at m (Some bytes) e h =
-      ap (λ (o : Option (List ℕ)). found_or_missing name o >>= short_or long) e
-      ∙ ap (λ (b : Bool). let over : Result (List ℕ) Refusal = Err long in cond b over (Ok bytes))
-      (lt-ltb 268435456 (length bytes) h)
+  long_at m (Some bytes) e h = cc (lt-ltb 268435456 (length bytes) h)
 
   pub text_long : (told : Option Contents) (asked : List ℕ) → IsTrue (meaning_of long).untold → asked ≡ name →
       IfSome told (λ m. 268435456 < length (bytes_of m asked))
       → IsRefused (short_in long name) told long
   text_long None asked untold a h = untold
-  text_long (Some m) asked untold a h =
-      let P : List ℕ → Type 0 = λ n. 268435456 < length (bytes_of m n) in long_at m _ refl (subst P a h)
+  text_long (Some m) asked untold a h = grind (arith, common_steps, long_at m _ refl)
 
   missing_at : (m : Contents) → get m name ≡ None → short_in long name m ≡ Err (Missing name)
   missing_at m at = ap (λ (o : Option (List ℕ)). found_or_missing name o >>= short_or long) at
@@ -54,8 +48,7 @@ module _ (long : Refusal) (name : List ℕ) where
   -- it is missed under the name that was asked for
   missing_as : (m : Contents) (asked : List ℕ) → asked ≡ name → get m name ≡ None →
       short_in long name m ≡ Err (Missing asked)
-  missing_as m asked a at =
-      missing_at m at ∙ ap (λ (n : List ℕ). let r : Result (List ℕ) Refusal = Err (Missing n) in r) (sym a)
+  missing_as m asked a at = cc (missing_at m at)
 
   pub text_missed : (told : Option Contents) (asked : List ℕ) → asked ≡ name → Lacks told asked →
       IsRefused (short_in long name) told (Missing asked)
@@ -65,9 +58,7 @@ module _ (long : Refusal) (name : List ℕ) where
   pub text_is_to_read : (told : Option Contents) (asked : List ℕ) → asked ≡ name →
       IsToRead (short_in long name) told asked
   text_is_to_read None asked a = tt
-  text_is_to_read (Some m) asked a =
-      ap (λ (n : List ℕ). short_in long name (remove m n)) a ∙ missing_as (remove m name) asked a
-      (get-remove_same m name)
+  text_is_to_read (Some m) asked a = search (arith, rules, missing_as (remove m name) asked a, get-remove_same m name)
 
 -- ## What was accepted
 

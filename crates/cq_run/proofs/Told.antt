@@ -1,6 +1,6 @@
 -- What holds of told contents, and of what a sink tells.
 use Rattle.std.proofs.Common.{ℕ, List, inl, inr}
-use Rattle.std.specs.Prelude.{Option, None, Some, IfSome, IsSomeAnd, MatchOption, Result, Ok, Err}
+use Rattle.std.specs.Prelude.{Option, None, Some, IfSome, Result, Ok, Err}
 use Rattle.cq_run.specs.Line.{Puts, TakesText}
 use Rattle.cq_run.specs.World.{Taken}
 
@@ -19,22 +19,6 @@ told_two (Some m) P Q R f g h = f m g h
 pub told_any : {A : Type 0} (told : Option A) (P : A → Type 0) → ((m : A) → P m) → IfSome told P
 told_any None P f = tt
 told_any (Some m) P f = f m
-
--- a fact that stands beside another one for contents that are not told
-pub told_of_match : {A : Type 0} (told : Option A) (U : Type 0) (P : A → Type 0) → MatchOption told U P → IfSome told P
-told_of_match None U P h = tt
-told_of_match (Some m) U P h = h
-
--- contents are told where the other fact cannot hold
-pub told_is_some : {A : Type 0} (told : Option A) (U : Type 0) (P : A → Type 0) → ¬ U → MatchOption told U P →
-    IsSomeAnd told P
-told_is_some None U P n h = n h
-told_is_some (Some m) U P n h = h
-
-pub some_map : {A : Type 0} (told : Option A) (P Q : A → Type 0) → ((m : A) → P m → Q m) → IsSomeAnd told P →
-    IsSomeAnd told Q
-some_map None P Q f h = h
-some_map (Some m) P Q f h = f m h
 
 -- a sink that was given a text took it, or, where that failed, a front of it
 pub took : {E : Type 0} (text : List ℕ) (old new : Taken) (result : Result (Unit {0}) E) → Puts text old new result →

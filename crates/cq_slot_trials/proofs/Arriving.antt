@@ -1,6 +1,6 @@
 -- Arrivals at the ports of a switch. No arrivals are for any ports, and one cell more, for one of the ports, is for
 -- them too. And no more cells come for an output, are admitted there, or are refused than there are places.
-use Rattle.std.proofs.Common.{◌≡◌, ◌≢◌, ℕ, ◌+◌, ◌<◌, ◌≤◌, eqb, Bool, true, false, cond, List, [], ◌∷◌, length, get_or, set, Option, Some, None, sym, ap, ◌∙◌, inl, inr, ◌⊎◌, arith, get_or-set_same, get_or-set_other}
+use Rattle.std.proofs.Common.{rules, ◌≡◌, ℕ, ◌+◌, ◌<◌, ◌≤◌, eqb, Bool, true, false, cond, List, [], ◌∷◌, length, get_or, Option, Some, None, sym, ap, ◌∙◌, inl, inr, ◌⊎◌, arith, get_or-set_same, get_or-set_other, ◌≢◌, set}
 use Rattle.std.proofs.lemmas.Bool.{cases_Bool, cases_lt, eqb-true, eq-eqb}
 use Rattle.std.proofs.lemmas.List.{set_past, get_or-replicate, get_or_past, length-replicate}
 use Rattle.std.proofs.lemmas.Option.{unwrap_or-slice_get, same_Some}
@@ -67,21 +67,9 @@ pub for_ports_with : (ports classes : ℕ) (cells : List (Option Cell)) (input :
     AreForPorts ports classes (with_arrival cells input cell)
 for_ports_with ports classes cells input cell for at_port for_port of_class =
     record {
-      inputs =
-          λ i c at. elim (set_or_before cells input cell i c at) [
-            | inl set ↦ let e = set.0 in omega arith
-            | inr before ↦ for.inputs i c before
-          ];
-      outputs =
-          λ i c at. elim (set_or_before cells input cell i c at) [
-            | inl set ↦ let e = ap (λ (c : Cell). c.output) set.1 in omega arith
-            | inr before ↦ for.outputs i c before
-          ];
-      classes =
-          λ i c at. elim (set_or_before cells input cell i c at) [
-            | inl set ↦ let e = ap (λ (c : Cell). c.class) set.1 in omega arith
-            | inr before ↦ for.classes i c before
-          ];
+      inputs = search (arith, rules, set_or_before, for.inputs);
+      outputs = search (arith, rules, set_or_before, for.outputs);
+      classes = search (arith, rules, set_or_before, for.classes);
     }
 
 -- no more cells come for an output than there are places
@@ -100,10 +88,7 @@ pub admitted_most : (limits : List (Option ℕ)) (held : List ℕ) (marks : List
     a ≡ admission limits held marks cells → count_for j a.cells ≤ length cells
 unfolding admission
 admitted_most limits held marks cells j a is =
-    let same = ap (λ (b : Admission). count_for j b.cells) is in
-    let split = each_once j (marks_after limits held marks cells) cells in
-    let most = count_most j cells in
-    omega arith
+    let same = ap (λ (b : Admission). count_for j b.cells) is in omega (arith, each_once, count_most)
 
 pub refusals_most : (limits : List (Option ℕ)) (held : List ℕ) (marks : List Bool) (cells : List (Option Cell))
     (a : Admission) →

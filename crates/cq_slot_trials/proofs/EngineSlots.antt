@@ -1,5 +1,5 @@
 -- The slots of the engine's trials: four ports, and how many cells there are after so many slots.
-use Rattle.std.proofs.Common.{◌≡◌, ℕ, ◌+◌, ◌*◌, ◌^◌, ◌<◌, ◌≤◌, Bool, true, false, List, [], ◌∷◌, length, get_or, Option, sym, ap, ◌∙◌, subst, arith}
+use Rattle.std.proofs.Common.{rules, ◌≡◌, ℕ, ◌+◌, ◌*◌, ◌^◌, ◌<◌, ◌≤◌, Bool, true, false, List, [], ◌∷◌, length, get_or, Option, sym, ap, ◌∙◌, subst, arith}
 use Rattle.std.specs.Prelude.{Err, Ok, OnOk, Result, if◌then◌else◌, is_some}
 use Rattle.std.proofs.lemmas.List.{get_or-replicate}
 use Rattle.cq_base.specs.declared.cell.Cell.{Cell}
@@ -31,18 +31,13 @@ four_at n j l = get_or-replicate 4 j n 0 l
 pub list_room : (e : EngineView) (cells : List (Option Cell)) (n : ℕ) → AreForPorts 4 2 cells →
     e.from_inputs ≡ 40 ∷ 40 ∷ 40 ∷ 40 ∷ [] → ((i : ℕ) → length (input e.fabric i) ≤ n) → n < 40 → HaveListRoom cells e
 list_room e cells n come room few early i cell at =
-    let here = ap (λ (l : List ℕ). get_or l i 0) room ∙ four_at 40 i (come.inputs i cell at) in
-    let held = few i in
-    omega arith
+    let here = ap (λ (l : List ℕ). get_or l i 0) room ∙ four_at 40 i (come.inputs i cell at) in omega (arith)
 
 pub buffer_room : (e : EngineView) (cells : List (Option Cell)) (n : ℕ) → length cells ≡ 64 → length e.fixed ≡ 4 →
     e.to_outputs ≡ 2560 ∷ 2560 ∷ 2560 ∷ 2560 ∷ [] → ((j : ℕ) → held_for j e.fabric ≤ 64 * n) → n < 40 →
     HaveBufferRoom cells e
 buffer_room e cells n places ports room held early j inside =
-    let here = ap (λ (l : List ℕ). get_or l j 0) room ∙ four_at 2560 j (omega arith) in
-    let few = held j in
-    let most = count_most j cells in
-    omega arith
+    let here = ap (λ (l : List ℕ). get_or l j 0) room ∙ four_at 2560 j (omega arith) in omega (arith, count_most)
 
 module _ (ms : List Machine) (slot : ℕ) (cells : List (Option Cell)) (old new : EngineView)
     (sent sent' : RoomView Departure) (note note' : RoomView Transfer)
@@ -71,28 +66,19 @@ module _ (ms : List Machine) (slot : ℕ) (cells : List (Option Cell)) (old new 
       let had = few j in
       let kept =
       outputs_kept ms slot record_is.admission.cells old.fabric new.fabric record_is.of_slot slot_done.is_slot.runs j
-      in
-      let most =
-      admitted_most old.limits (fabric_held old.fabric) old.marks cells j record_is.admission slot_done.is_slot.admits
-      in
-      omega arith
+      in search (arith, rules, admitted_most)
 
   pub grown_after : (n : ℕ) → length cells ≡ 64 → ports_of old ≡ 4 → HasGrown n old → HasGoneOn slot old new →
       HasGrown (n + 1) new
   grown_after n places four had went =
-      let squared = ap (λ (k : ℕ). 2 * (k * k)) four in
-      let made = had.proposals in
-      let few = went.few in
-      record { lists = lists_after n had.lists; held = held_after n places had.held; proposals = omega arith }
+      let squared = ap (λ (k : ℕ). 2 * (k * k)) four in search (arith, rules, lists_after, held_after)
 
   pub counts_after : length cells ≡ 64 → (n : ℕ) → CanCount (n + 64) old.refused → CanCount n new.refused
   unfolding record_is
   counts_after places n can =
       let few =
       refusals_most old.limits (fabric_held old.fabric) old.marks cells record_is.admission slot_done.is_slot.admits
-      in
-      subst (CanCount n) (sym slot_done.refused)
-      (counts_fit record_is.admission.refused n 64 old.refused can (omega arith))
+      in search (arith, rules, counts_fit record_is.admission.refused n 64 old.refused can)
 
 -- what it knows where it is made: no cell waits, and none is counted
 module _ (ports : ℕ) (fixed states : List (List ℕ)) (from_inputs to_outputs : List ℕ) (limits : List (Option ℕ))
@@ -101,10 +87,8 @@ module _ (ports : ℕ) (fixed states : List (List ℕ)) (from_inputs to_outputs 
   counts_first n few = subst (λ (v : EngineView). CanCount n v.refused) (sym is) (zero_fits n limits few)
 
   pub grown_first : HasGrown 0 e
-  grown_first =
-      subst (HasGrown 0) (sym is)
-      (record {
-        lists = λ i. let none = nothing_in i ports in omega arith;
-        held = λ j. let none = nothing_in j ports in let nobody = nothing_for j ports in omega arith;
-        proposals = omega arith;
-      })
+  grown_first = subst (HasGrown 0) (sym is) (record {
+    lists = λ i. let none = nothing_in i ports in omega arith;
+    held = λ j. let none = nothing_in j ports in let nobody = nothing_for j ports in omega arith;
+    proposals = omega arith;
+  })

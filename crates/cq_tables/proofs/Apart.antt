@@ -107,8 +107,7 @@ apart_first t e = rw e
 
 pub apart_next : (t : Tables) (i : ℕ) (row : PortRow) → i < length t.ports → row ≡ get_or t.ports i row →
     first (apart_from (files_before t i) (names_of i row)) ≡ None → Apart t i → Apart t (i + 1)
-apart_next t i row small is held apart =
-    rw add-one (apart
+apart_next t i row small is held apart = rw add-one (apart
     ∙ (ap first (port_step t i row small is)
     ∙ (first-append (apart_from (files_before t i) (names_of i row)) _ ∙ rw held)))
 
@@ -120,8 +119,7 @@ apart_stops r t i row small is told apart =
     rw (apart, port_step t i row small is) (here_in r (apart_from (files_before t i) (names_of i row)) _ told)
 
 pub apart_all : (t : Tables) (i : ℕ) → length t.ports ≤ i → Apart t i → file_check t ≡ None
-apart_all t i past apart =
-    apart
+apart_all t i past apart = apart
     ∙ (ap (λ (names : List Named). first (apart_from (files_before t i) names)) (files_past t.ports i i past)
     ∙ first_none)
 

@@ -1,5 +1,6 @@
 -- Checks in order: where one holds, the next ones decide, and where one does not, it is the first.
-use Rattle.std.proofs.Common.{◌≡◌, ℕ, List, [], ◌∷◌, ◌++◌, Some, None, Result, Ok, Err, IfErr, IfOk, refl, ◌∙◌}
+use Rattle.std.proofs.lemmas.Grind.{common_steps}
+use Rattle.std.proofs.Common.{arith, ◌≡◌, ℕ, List, [], ◌∷◌, ◌++◌, Some, None, Result, Ok, Err, IfErr, IfOk, refl, ◌∙◌}
 use Rattle.cq_tables.specs.declared.refusal.TableRefusal.{TableRefusal}
 use Rattle.cq_tables.specs.declared.refusal.TableRefusal.TheVariants as refusal
 use Rattle.toml.specs.Data.{Data, Members}
@@ -28,10 +29,6 @@ refuses_first c d (refusal.At code path) h = rw h
 pub first_here : (c : Check) (cs : List Check) (r : TableRefusal) → Refuses c r → Refuses (first (c ∷ cs)) r
 unfolding first
 first_here c cs r h = refuses_first c (first cs) r h
-
-pub first_later : (c : Check) (cs : List Check) (r : TableRefusal) → c ≡ None → Refuses (first cs) r →
-    Refuses (first (c ∷ cs)) r
-first_later c cs r e h = rw (first_on c cs e) h
 
 -- all hold
 pub first_all : (c : Check) (cs : List Check) → c ≡ None → first cs ≡ None → first (c ∷ cs) ≡ None
@@ -87,8 +84,7 @@ pub element_refuses : {A : Type 0} (r : Result A TableRefusal) (array : Array) (
     (d : Data) (place : Place) (table : Members) → table_type d ≡ None → place ≡ Element array i → table ≡ members d
     → IfErr r (Refuses (first (table_checks place (keys place) table))) →
     IfErr r (Refuses (element_check array (λ _. keys) i d))
-element_refuses r array keys i d place table type there seen told =
-    otherwise_later r _ _ (rw type) (rw (there, seen) at told)
+element_refuses r array keys i d place table type there seen told = grind (arith, common_steps, otherwise_later)
 
 pub element_holds : {A : Type 0} (r : Result A TableRefusal) (array : Array) (keys : Place → List Key) (i : ℕ)
     (d : Data) (place : Place) (table : Members) → table_type d ≡ None → place ≡ Element array i → table ≡ members d

@@ -1,5 +1,5 @@
 -- The keys of a table ascend, so the least one that is not known is the first.
-use Rattle.std.proofs.Common.{◌≡◌, ℕ, Bool, not, List, [], ◌∷◌, map, Some, option_map, String, Global, Bor, Less, string_bytes, refl, sym, inl, inr}
+use Rattle.std.proofs.Common.{◌≡◌, ℕ, Bool, not, List, [], ◌∷◌, map, Some, option_map, String, Global, Bor, Less, string_bytes, refl, inl, inr, sym}
 use Rattle.std.proofs.lemmas.Bool.{cases_Bool}
 use Rattle.std.proofs.lemmas.Cmp.{nat_list_cmp_total}
 use Rattle.std.specs.Prelude.{find}

@@ -1,5 +1,6 @@
 -- Addresses that are known: a set of them has those of the rows so far, and they differ.
-use Rattle.std.proofs.Common.{◌≡◌, ◌≢◌, ℕ, zero, suc, ◌+◌, ◌<◌, Bool, true, false, ◌||◌, List, [], ◌∷◌, ◌++◌, length, get_or, take, map, Option, Some, None, Result, IfErr, Ordering, Less, Equal, Greater, nat_cmp, refl, ap, ◌∙◌, sym, arith}
+use Rattle.std.proofs.Common.{rules, ◌≡◌, ◌≢◌, ℕ, zero, suc, ◌+◌, ◌<◌, Bool, true, false, ◌||◌, List, [], ◌∷◌, ◌++◌, length, get_or, take, map, Option, Some, None, Result, IfErr, Ordering, Less, Equal, Greater, nat_cmp, refl, ap, ◌∙◌, sym, arith}
+use Rattle.std.proofs.lemmas.Grind.{common_steps}
 use Rattle.std.specs.Cmp.Lexicographic.{slice_cmp}
 use Rattle.std.specs.List.{AllPairs, list_any}
 use Rattle.std.specs.Ordering.{is_eq, match_ordering}
@@ -10,22 +11,18 @@ use Rattle.std.proofs.lemmas.Bool.{not-true, or_parts}
 use Rattle.std.proofs.lemmas.Map.Text.{is_eq-slice_cmp}
 use Rattle.std.proofs.lemmas.Slice.Eq.{bytes_eq-Decides}
 use Rattle.std.proofs.lemmas.List.Quantifiers.{all_pairs_push}
-use Rattle.toml.specs.Data.{Data, get_member}
+use Rattle.toml.specs.Data.{Data}
 use Rattle.toml.specs.View.{view}
 use Rattle.toml.specs.declared.value.Value.{Value}
 use Rattle.cq_route.specs.declared.tables.AddressRow.{AddressRow}
 use Rattle.cq_tables.specs.declared.refusal.Wrong.TheVariants.{DuplicateAddress}
-use Rattle.cq_tables.specs.declared.refusal.Wrong.{Wrong}
 use Rattle.cq_tables.specs.declared.refusal.TableRefusal.{TableRefusal}
 use Rattle.cq_tables.specs.declared.place.Array.TheVariants.{Addresses}
-use Rattle.cq_tables.specs.declared.place.Place.TheVariants.{Element}
-use Rattle.cq_tables.specs.Check.{Check, Refuses, at, each, first, otherwise}
-use Rattle.cq_tables.specs.Document.{address_keys, address_row, and_then, element_check, is_new, mac_in, number_below}
-use Rattle.cq_tables.specs.Key.{key_check, no_other, required}
-use Rattle.cq_tables.specs.Place.{element_path, path}
-use Rattle.cq_tables.specs.Value.{address, address_value, members, table_type}
+use Rattle.cq_tables.specs.Check.{Check, Refuses, each, first}
+use Rattle.cq_tables.specs.Document.{address_keys, address_row, and_then, element_check, is_new, mac_in}
+use Rattle.cq_tables.specs.Key.{required}
+use Rattle.cq_tables.specs.Value.{address, address_value, members}
 use Rattle.cq_tables.proofs.Walk.{Walked, rows_of, walked_more, walked_none, walked_stop}
-use Rattle.std.proofs.Common.{codes}
 
 -- whether the address is one of these
 abbrev pub has : List (List ℕ) → List ℕ → Bool
@@ -48,8 +45,7 @@ inserted : (o : Ordering) (mac x q : List ℕ) (xs rest : List (List ℕ)) → o
     → has (match_ordering o (mac ∷ x ∷ xs) (x ∷ xs) (x ∷ rest)) q ≡ (bytes_eq q mac || (bytes_eq q x || has xs q))
 inserted Less mac x q xs rest is e = refl
 inserted Equal mac x q xs rest is e =
-    let same : mac ≡ x = (bytes_eq-Decides mac x).0 (sym (is_eq-slice_cmp mac x) ∙ ap is_eq (sym is)) in
-    rw same (sym (or_self_left (bytes_eq q x) (has xs q)))
+    search (arith, rules, bytes_eq-Decides mac x, is_eq-slice_cmp mac x, or_self_left (bytes_eq q x) (has xs q))
 inserted Greater mac x q xs rest is e = rw e (or_swap (bytes_eq q mac) (bytes_eq q x) (has xs q))
 
 -- one more address in a set
@@ -76,14 +72,7 @@ address_check ports vs = element_check Addresses (λ i. address_keys ports (take
 pub same_check : (ports i : ℕ) (vs : List Value) (d : Data) (known : List (List ℕ)) →
     ((q : List ℕ) → has known q ≡ has (take i (macs_of vs)) q)
     → element_check Addresses (λ _. address_keys ports known) i d ≡ address_check ports vs i d
-same_check ports i vs d known same =
-    ap
-    (λ (wrong : Option Wrong). otherwise (at (element_path Addresses i) (table_type d)) (first (
-    no_other (Element Addresses i) (codes "mac" ∷ codes "output" ∷ []) (members d)
-    ∷ at (path (Element Addresses i) (codes "mac")) wrong
-    ∷ key_check (Element Addresses i) (codes "output") (required (number_below 63 ports)) (members d)
-    ∷ [])))
-    (mac_same known (take i (macs_of vs)) same (get_member (codes "mac") (members d)))
+same_check ports i vs d known same = grind (arith, common_steps, mac_same)
 
 -- ---- the walk over the addresses
 
@@ -103,17 +92,12 @@ take_macs (v ∷ vs) (suc i) = ap (λ t. mac_in (members (view v)) ∷ t) (take_
 has_last : (rows : List AddressRow) (row : AddressRow) (q : List ℕ) →
     has (map mac (rows ++ row ∷ [])) q ≡ (bytes_eq q row.mac || has (map mac rows) q)
 has_last [] row q = refl
-has_last (r ∷ rows) row q =
-    rw (has_last rows row q) (or_swap (bytes_eq q row.mac) (bytes_eq q r.mac) (has (map mac rows) q))
+has_last (r ∷ rows) row q = grind (arith, common_steps, or_swap, has_last rows row q)
 
 others : (rows : List AddressRow) (q : List ℕ) → has (map mac rows) q ≡ false → (k : ℕ) (d : AddressRow) →
     k < length rows → (get_or rows k d).mac ≢ q
 others [] q h k d small = absurd (omega arith)
-others (r ∷ rows) q h zero d small =
-    λ e.
-    let clash : true ≡ false =
-    sym ((bytes_eq-Decides q r.mac).1 (sym e)) ∙ (or_parts (bytes_eq q r.mac) (has (map mac rows) q) h).0 in
-    cc
+others (r ∷ rows) q h zero d small = grind (arith, common_steps, bytes_eq-Decides, or_parts)
 others (r ∷ rows) q h (suc k) d small =
     others rows q (or_parts (bytes_eq q r.mac) (has (map mac rows) q) h).1 k d (omega arith)
 
@@ -126,13 +110,10 @@ pub record Walked_apart (ports : ℕ) (vs : List Value) (i : ℕ) (known : List 
 same_at : (ports i : ℕ) (vs : List Value) (d : Data) (known : List (List ℕ)) (rows : List AddressRow) →
     Walked_apart ports vs i known rows
     → element_check Addresses (λ _. address_keys ports known) i d ≡ address_check ports vs i d
-same_at ports i vs d known rows w =
-    same_check ports i vs d known (λ q. w.knows q
-    ∙ ap (λ (macs : List (List ℕ)). has macs q) (ap (map mac) w.walked.read ∙ take_macs vs i))
+same_at ports i vs d known rows w = same_check ports i vs d known (λ q. search (arith, rules, w.knows, take_macs))
 
 pub apart_none : (ports : ℕ) (vs : List Value) → Walked_apart ports vs 0 [] []
-apart_none ports vs =
-    record { walked = walked_none _ _ _ _; knows = λ q. refl; differ = λ i j d e small less. absurd (omega arith) }
+apart_none ports vs = grind (arith, common_steps, walked_none)
 
 module _ {ports : ℕ} {vs : List Value} {i : ℕ} {known : List (List ℕ)} {rows : List AddressRow}
     (w : Walked_apart ports vs i known rows) where
@@ -142,11 +123,10 @@ module _ {ports : ℕ} {vs : List Value} {i : ℕ} {known : List (List ℕ)} {ro
       → ((q : List ℕ) → has known_after q ≡ (bytes_eq q row.mac || has known q)) → after ≡ rows ++ row ∷ [] →
       Walked_apart ports vs (i + 1) known_after after
   apart_more v {row} small is held reads below fresh added pushed = rw pushed (record {
-    walked =
-        walked_more w.walked v small is (sym (same_at ports i vs (view v) known rows w) ∙ held) reads below refl;
+    walked = walked_more w.walked v small is (sym (same_at ports i vs (view v) known rows w) ∙ held) reads below
+        refl;
     knows = λ q. added q ∙ (ap (λ (b : Bool). bytes_eq q row.mac || b) (w.knows q) ∙ sym (has_last rows row q));
-    differ =
-        all_pairs_push (λ (a b : AddressRow). a.mac ≢ b.mac) rows row w.differ
+    differ = all_pairs_push (λ (a b : AddressRow). a.mac ≢ b.mac) rows row w.differ
         (others rows row.mac (sym (w.knows row.mac) ∙ not-true (has known row.mac) fresh));
   })
 
@@ -154,6 +134,4 @@ module _ {ports : ℕ} {vs : List Value} {i : ℕ} {known : List (List ℕ)} {ro
       → IfErr r (Refuses (element_check Addresses (λ _. address_keys ports known) i (view v))) →
       IfErr r (Refuses (first (each (address_check ports vs) 0 (map view vs))))
   apart_stop r v small is told =
-      let told_here : IfErr r (Refuses (address_check ports vs i (view v))) =
-      rw (same_at ports i vs (view v) known rows w) at told in
-      walked_stop w.walked r v small is told_here
+      grind (arith, common_steps, same_at ports i vs (view v) known rows w, walked_stop w.walked r v small is)

@@ -1,11 +1,9 @@
 -- The document that a text is, and the verdict on it.
-use Rattle.std.proofs.Common.{◌≡◌, ℕ, false, nat_le, ◌<◌, ◌≤◌, List, [], ◌∷◌, ◌++◌, Option, Some, None, Result, Ok, Err, IfErr, codes, length, is_some, unwrap_or, subst, ap, ◌∙◌, sym, inl, inr}
+use Rattle.std.proofs.lemmas.Grind.{common_steps}
+use Rattle.std.proofs.Common.{arith, ◌≡◌, ℕ, nat_le, ◌<◌, ◌≤◌, List, [], ◌∷◌, ◌++◌, Option, Some, None, Result, Ok, Err, IfErr, length, is_some, unwrap_or, subst, ap, ◌∙◌, sym, le-leb}
 use Rattle.std.specs.Prelude.{IsUtf8}
-use Rattle.std.specs.Str.{is_utf8}
-use Rattle.std.proofs.lemmas.Bool.{cases_Bool}
+use Rattle.std.proofs.lemmas.Bool.{cases_Bool, lt-leb}
 use Rattle.std.proofs.lemmas.Str.{is_utf8-from_IsUtf8, IsUtf8-from_is_utf8}
-use Rattle.std.proofs.Common.{le-leb}
-use Rattle.std.proofs.lemmas.Bool.{lt-leb}
 use Rattle.toml.specs.Data.{Members, no_members}
 use Rattle.toml.specs.Parse.{parse_document}
 use Rattle.cq_route.specs.declared.tables.Tables.{Tables}
@@ -25,17 +23,7 @@ document_some text top utf8 e = rw (is_utf8-from_IsUtf8 text utf8) e
 
 pub document_none : (text : List ℕ) → (IsUtf8 text → parse_document text ≡ None) → document text ≡ None
 unfolding document
-document_none text h =
-    elim (cases_Bool (is_utf8 text)) [
-      | inl utf8 ↦ rw utf8 (h (IsUtf8-from_is_utf8 text utf8))
-      | inr other ↦ rw other
-    ]
-
--- a text that is too long is refused for that
-pub too_long : (text : List ℕ) → nat_le (length text) 1048576 ≡ false →
-    read_or_refused text ≡ Err (record { code = 10; path = codes "-" })
-unfolding read_or_refused first
-too_long text long = rw long
+document_none text h = grind (arith, common_steps, cases_Bool, IsUtf8-from_is_utf8)
 
 refused_so : (c : Check) (t : Tables) (r : TableRefusal) → Refuses c r → IsRefusedFor (judged c t) r
 refused_so c t refusal.NoMemory h = tt
@@ -63,9 +51,7 @@ refused_in (Err e) text h = read_refused text e h
 
 pub long_told : (text : List ℕ) (r : TableRefusal) → 1048576 < length text →
     Refuses (Some (refused whole TooLong)) r → IsRefusedFor (read_or_refused text) r
-long_told text r long told =
-    let test : nat_le (length text) 1048576 ≡ false = lt-leb (length text) 1048576 long in
-    read_refused text r (first_here _ _ r (rw test told))
+long_told text r long told = grind (arith, common_steps, nat_le, lt-leb, read_refused, first_here)
 
 pub no_document : {A : Type 0} (text : List ℕ) (r : Result A TableRefusal) → length text ≤ 1048576 →
     IfErr r (Refuses (at whole (unless (is_some (document text)) NotToml))) →
@@ -77,8 +63,7 @@ left_of : (text : List ℕ) (top : Members) → length text ≤ 1048576 → docu
     →
     verdict text
     ≡ first ((table_checks Top (top_keys top) top ++ default_checks top) ++ (file_check (tables_of top) ∷ []))
-left_of text top small is =
-    ap (λ (o : Option Members). first (checks_in text (unwrap_or o no_members))) is
+left_of text top small is = ap (λ (o : Option Members). first (checks_in text (unwrap_or o no_members))) is
     ∙ (first_on _ _ (fits text small)
     ∙ first_on _ _ (ap (λ (o : Option Members). at whole (unless (is_some o) NotToml)) is))
 
@@ -86,9 +71,8 @@ pub table_fault : {A : Type 0} (text : List ℕ) (top : Members) (r : Result A T
     document text ≡ Some top
     → IfErr r (Refuses (first (table_checks Top (top_keys top) top ++ default_checks top))) →
     IfErr r (IsRefusedFor (read_or_refused text))
-table_fault text top r small is told =
-    refused_in r text (rw (left_of text top small is) (here_in r
-    (table_checks Top (top_keys top) top ++ default_checks top) _ told))
+table_fault text top r small is told = refused_in r text
+    (rw (left_of text top small is) (here_in r (table_checks Top (top_keys top) top ++ default_checks top) _ told))
 
 pub file_fault : {A : Type 0} (text : List ℕ) (top : Members) (t : Tables) (r : Result A TableRefusal) →
     length text ≤ 1048576 → document text ≡ Some top
@@ -105,8 +89,6 @@ pub read_all : (text : List ℕ) (top : Members) (t : Tables) → length text �
     file_check t ≡ None → read_or_refused text ≡ Ok t
 read_all text top t small is held value apart =
     let last : file_check (tables_of top) ≡ None = ap file_check (sym value) ∙ apart in
-    read_ok text t
-    (left_of text top small is
-    ∙ all_in (table_checks Top (top_keys top) top ++ default_checks top) _ held
-    (first_all _ _ last first_none))
+    read_ok text t (left_of text top small is
+    ∙ all_in (table_checks Top (top_keys top) top ++ default_checks top) _ held (first_all _ _ last first_none))
     (value ∙ ap (λ (o : Option Members). tables_of (unwrap_or o no_members)) (sym is))

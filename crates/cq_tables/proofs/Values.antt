@@ -1,9 +1,8 @@
 -- What values are seen as.
 use Rattle.std.proofs.Common.{◌≡◌, ◌↔◌, ℕ, suc, ◌<◌, ◌^◌, Bool, true, false, ◌&&◌, IsTrue, EachIndex, slice_index, if◌then◌else◌, nat_lt, nat_le, ◌≤◌, IfSome, Option, List, [], ◌∷◌, length, get_or, map, Some, None, Result, Ok, Err, refl, ap, sym, inl, inr}
-use Rattle.std.specs.Result.{result_ok}
+use Rattle.std.specs.Result.{result_ok, OkIff}
 use Rattle.std.proofs.lemmas.Bool.{and_parts, cases_Bool, lt-ltb, leb-true, ltb-true}
 use Rattle.std.specs.Int.{IsInRange}
-use Rattle.std.specs.Result.{OkIff}
 use Rattle.std.specs.Str.{all_ascii_digits}
 use Rattle.std.specs.Str.Parse.{digits_value, ParsesUnsigned}
 use Rattle.std.proofs.lemmas.Str.Parse.{IsNumeralModel, numerals_by_value, tells_all_ascii_digits, tells_by_index, parse_digits}
@@ -46,10 +45,8 @@ same_test false false f g = refl
 
 pub tells_all_digits : (b : Bool) (text : List ℕ) →
     (IsTrue b ↔ EachIndex text (λ i. IsInRange 48 57 (slice_index text i))) → b ≡ all_ascii_digits text
-tells_all_digits b text both =
-    same_test b (all_ascii_digits text)
-    (λ e. whole.from text (by_index.to text (both.0 e)))
-    (λ e. both.1 (by_index.from text (whole.to text e)))
+tells_all_digits b text both = same_test b (all_ascii_digits text)
+    (λ e. whole.from text (by_index.to text (both.0 e))) (λ e. both.1 (by_index.from text (whole.to text e)))
 
 -- what `parse` gives of a text of digits is what the text writes
 pub parsed_is_written : {E : Type 0} (text : List ℕ) (r : Result ℕ E) →

@@ -1,27 +1,24 @@
 -- What version 1 accepts as classes version 2 accepts too. A class that version 1 accepts has no key but the priority
 -- and the cost, and so none that version 2 does not know. And since it has no level, its level is the default, which
 -- every class has in version 1. So it is from class to class.
-use Rattle.std.proofs.Common.{◌≡◌, ◌||◌, ℕ, suc, Bool, true, false, cond, List, [], ◌∷◌, map, Option, Some, None, refl, sym, ap, ◌∙◌, subst}
-use Rattle.std.specs.Prelude.{codes, option_map, unwrap_or}
+use Rattle.std.proofs.lemmas.Grind.{common_steps}
+use Rattle.std.proofs.Common.{arith, rules, ◌≡◌, ◌||◌, ℕ, suc, Bool, true, false, cond, List, [], ◌∷◌, map, Option, Some, None, refl, ap}
+use Rattle.std.specs.Prelude.{codes, option_map}
 use Rattle.std.specs.declared.cmp.Ordering.{Ordering}
 use Rattle.std.specs.declared.cmp.Ordering.TheVariants.{Less, Equal, Greater}
 use Rattle.std.specs.Ordering.{nat_cmp, is_lt, match_ordering}
 use Rattle.std.specs.Cmp.Lexicographic.{slice_cmp}
-use Rattle.std.specs.FinMap.{slice_cmp-IsAntisymmetric, nat_cmp-IsAntisymmetric}
-use Rattle.std.specs.Str.{bytes_eq}
 use Rattle.std.proofs.lemmas.Bool.{cond-true}
 use Rattle.toml.specs.Data.{Data, Members, no_members, member, get_member}
-use Rattle.cq_base.specs.declared.setup.ClassRow.{ClassRow}
 use Rattle.cq_tables.specs.declared.place.Array.TheVariants.{Classes}
 use Rattle.cq_tables.specs.declared.place.Place.{Place}
-use Rattle.cq_tables.specs.declared.place.Place.TheVariants.{Element}
 use Rattle.cq_tables.specs.declared.refusal.Wrong.TheVariants.{UnknownKey}
 use Rattle.cq_tables.specs.declared.version.Version.TheVariants.{One, Two}
 use Rattle.cq_tables.specs.Check.{Check, at, each, first, otherwise, refused}
 use Rattle.cq_tables.specs.Document.{class_array, class_keys, class_row, class_rows, element_check, elements_at, or_one}
 use Rattle.cq_tables.specs.Key.{check_of, is_among, key_check, least_unknown, lesser, no_other, optional, table_checks}
-use Rattle.cq_tables.specs.Place.{array_key, element_path, path}
-use Rattle.cq_tables.specs.Value.{array_of, integer_in, integer_value, members, table_type, wide_from}
+use Rattle.cq_tables.specs.Place.{array_key, path}
+use Rattle.cq_tables.specs.Value.{array_of, members, wide_from}
 use Rattle.cq_tables.proofs.Checks.{first_all, first_none}
 
 -- ## Checks in a row
@@ -68,11 +65,7 @@ known_first false k o h = absurd (some_lesser k o h)
 known_more : (table : Members) → least_unknown first_keys table ≡ None → least_unknown all_keys table ≡ None
 unfolding least_unknown
 known_more no_members h = refl
-known_more (member k d ms) h =
-    let known = known_first (is_among first_keys k) k (least_unknown first_keys ms) h in
-    cond-true (is_among all_keys k) (least_unknown all_keys ms) (lesser k (least_unknown all_keys ms))
-    (either_more (bytes_eq k (codes "priority")) (bytes_eq k (codes "cost")) (bytes_eq k (codes "level")) known.0)
-    ∙ known_more ms known.1
+known_more (member k d ms) h = grind (arith, common_steps, known_first, cond-true, either_more, known_more ms)
 
 passed_over : (o : Ordering) (found : Option Data) (d : Data) → (o ≡ Equal → ⊥) → found ≡ None →
     match_ordering o found (Some d) found ≡ None
@@ -82,18 +75,12 @@ passed_over Greater found d ne none = none
 
 -- the level is none of the keys of version 1
 not_level : (k : List ℕ) → is_among first_keys k ≡ true → slice_cmp nat_cmp (codes "level") k ≡ Equal → ⊥
-not_level k known same =
-    let is : codes "level" ≡ k = slice_cmp-IsAntisymmetric nat_cmp-IsAntisymmetric (codes "level") k same in
-    let clash : false ≡ true = subst (λ (n : List ℕ). is_among first_keys n ≡ true) (sym is) known in
-    let P : ⊥ = cc in P
+not_level k known same = grind (arith, common_steps)
 
 no_level : (table : Members) → least_unknown first_keys table ≡ None → get_member (codes "level") table ≡ None
 unfolding least_unknown
 no_level no_members h = refl
-no_level (member k d ms) h =
-    let known = known_first (is_among first_keys k) k (least_unknown first_keys ms) h in
-    passed_over (slice_cmp nat_cmp (codes "level") k) (get_member (codes "level") ms) d (not_level k known.0)
-    (no_level ms known.1)
+no_level (member k d ms) h = grind (arith, common_steps, known_first, passed_over, not_level, no_level ms)
 
 -- ## One class
 
@@ -110,9 +97,6 @@ module _ (place : Place) (table : Members) (holds : first (table_checks place (c
     abbrev cost : Check
     cost = key_check place (codes "cost") (optional (wide_from 1)) table
 
-    abbrev level : Check
-    level = key_check place (codes "level") (optional (integer_in 0 15)) table
-
     parts : (no_other place first_keys table ≡ None) × (first (priority ∷ cost ∷ []) ≡ None)
     parts = first_parts (no_other place first_keys table) (priority ∷ cost ∷ []) holds
 
@@ -120,29 +104,10 @@ module _ (place : Place) (table : Members) (holds : first (table_checks place (c
     all_known = none_unknown place (least_unknown first_keys table) parts.0
 
     keys_hold : first (table_checks place (class_keys Two place) table) ≡ None
-    keys_hold =
-        let ranks = first_parts priority (cost ∷ []) parts.1 in
-        let costs = first_parts cost [] ranks.1 in
-        let unknown : no_other place all_keys table ≡ None =
-        ap (λ (o : Option (List ℕ)). option_map (λ (name : List ℕ). refused (path place name) UnknownKey) o)
-        (known_more table all_known) in
-        let levels : level ≡ None =
-        ap (λ (o : Option Data). at (path place (codes "level")) (optional (integer_in 0 15) o))
-        (no_level table all_known) in
-        first_all (no_other place all_keys table) (priority ∷ cost ∷ level ∷ []) unknown
-        (first_all priority (cost ∷ level ∷ []) ranks.0
-        (first_all cost (level ∷ []) costs.0 (first_all level [] levels first_none)))
+    keys_hold = grind (arith, common_steps, first_parts, known_more, all_known, no_level, first_all, first_none)
 
     row_same : class_row Two table ≡ class_row One table
-    row_same =
-        ap
-        (λ (o : Option Data).
-        let row : ClassRow = record {
-          level = unwrap_or (option_map integer_value o) 0;
-          priority = (class_row One table).priority;
-          cost = (class_row One table).cost;
-        } in
-        row) (no_level table all_known)
+    row_same = grind (arith, common_steps, no_level, all_known)
 
 abbrev in_one : ℕ → Data → Check
 in_one = element_check Classes (λ _. class_keys One)
@@ -150,39 +115,24 @@ in_one = element_check Classes (λ _. class_keys One)
 abbrev in_two : ℕ → Data → Check
 in_two = element_check Classes (λ _. class_keys Two)
 
--- the checks of a class's own keys
-abbrev of_one : ℕ → Data → Check
-of_one i d = first (table_checks (Element Classes i) (class_keys One (Element Classes i)) (members d))
-
-abbrev of_two : ℕ → Data → Check
-of_two i d = first (table_checks (Element Classes i) (class_keys Two (Element Classes i)) (members d))
-
 class_holds : (i : ℕ) (d : Data) → in_one i d ≡ None → in_two i d ≡ None
-class_holds i d h =
-    then_other (at (element_path Classes i) (table_type d)) (of_one i d) (of_two i d)
-    (keys_hold (Element Classes i) (members d)) h
+class_holds i d h = grind (arith, common_steps, then_other, keys_hold)
 
 class_same : (i : ℕ) (d : Data) → in_one i d ≡ None → class_row Two (members d) ≡ class_row One (members d)
-class_same i d h =
-    row_same (Element Classes i) (members d) (both_none (at (element_path Classes i) (table_type d)) (of_one i d) h).1
+class_same i d h = grind (arith, common_steps, row_same, both_none)
 
 -- ## All classes
 
 all_hold : (i : ℕ) (ds : List Data) → first (each in_one i ds) ≡ None → first (each in_two i ds) ≡ None
 unfolding each
 all_hold i [] h = first_none
-all_hold i (d ∷ ds) h =
-    let two = first_parts (in_one i d) (each in_one (suc i) ds) h in
-    first_all (in_two i d) (each in_two (suc i) ds) (class_holds i d two.0) (all_hold (suc i) ds two.1)
+all_hold i (d ∷ ds) h = grind (arith, common_steps, first_parts, first_all, class_holds, all_hold (suc i) ds)
 
 all_same : (i : ℕ) (ds : List Data) → first (each in_one i ds) ≡ None →
     map (class_row Two) (map members ds) ≡ map (class_row One) (map members ds)
 unfolding each
 all_same i [] h = refl
-all_same i (d ∷ ds) h =
-    let two = first_parts (in_one i d) (each in_one (suc i) ds) h in
-    ap (λ (row : ClassRow). row ∷ map (class_row Two) (map members ds)) (class_same i d two.0)
-    ∙ ap (λ (rows : List ClassRow). class_row One (members d) ∷ rows) (all_same (suc i) ds two.1)
+all_same i (d ∷ ds) h = grind (arith, common_steps, first_parts, class_same, all_same (suc i) ds)
 
 module _ (top : Members) (holds : check_of top (class_array One) ≡ None) where
   -- the classes that the document states
@@ -193,8 +143,7 @@ module _ (top : Members) (holds : check_of top (class_array One) ≡ None) where
   may_be_there = at (array_key Classes) (optional (array_of 1 16) (get_member (codes "class") top))
 
   pub accepted : check_of top (class_array Two) ≡ None
-  accepted =
-      then_other may_be_there (first (each in_one 0 stated)) (first (each in_two 0 stated)) (all_hold 0 stated) holds
+  accepted = search (rules, then_other, all_hold)
 
   pub same_classes : class_rows Two top ≡ class_rows One top
   same_classes = ap or_one (all_same 0 stated (both_none may_be_there (first (each in_one 0 stated)) holds).1)

@@ -1,5 +1,5 @@
 -- A walk over the elements of an array: what is checked and read so far, and what is left to check.
-use Rattle.std.proofs.Common.{◌≡◌, ℕ, zero, suc, ◌+◌, ◌<◌, ◌≤◌, List, [], ◌∷◌, ◌++◌, length, get_or, take, drop, map, None, Result, IfErr, All, refl, ap, ◌∙◌, sym, arith, add-one}
+use Rattle.std.proofs.Common.{rules, ◌≡◌, ℕ, zero, suc, ◌+◌, ◌<◌, ◌≤◌, List, [], ◌∷◌, ◌++◌, length, get_or, take, drop, map, None, Result, IfErr, All, refl, ap, ◌∙◌, sym, arith, add-one}
 use Rattle.toml.specs.Data.{Data, Members}
 use Rattle.toml.specs.View.{view}
 use Rattle.toml.specs.declared.value.Value.{Value}
@@ -75,10 +75,7 @@ module _ {A : Type 0} where
         let holds : check i (view (get_or vs i v)) ≡ None = ap (λ (u : Value). check i (view u)) (sym is) ∙ held in
         rw (pushed, add-one) (record {
           checked = w.checked ∙ (ap first (each_drop check vs i i v small) ∙ first_on _ _ holds);
-          read =
-              ap (λ (t : List A). t ++ x ∷ []) w.read
-              ∙ (ap (λ (y : A). rows_of row (take i vs) ++ y ∷ [])
-              (reads ∙ ap (λ (u : Value). row (members (view u))) is) ∙ sym (rows_more row vs i v small));
+          read = search (arith, rules, rows_more);
           kept = kept_more P rows x w.kept p;
         })
 

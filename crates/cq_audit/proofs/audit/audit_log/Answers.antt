@@ -1,14 +1,11 @@
-use Rattle.std.proofs.Common.{◌≡◌, ℕ, List, length, map, sym, ap, ◌∙◌, subst, arith}
+use Rattle.std.proofs.Common.{rules, ◌≡◌, ℕ, List, length, map, sym, ap, ◌∙◌, subst, arith}
 use Rattle.std.specs.List.{range_with_len}
 use Rattle.std.proofs.lemmas.List.{length-map}
 use Rattle.std.proofs.lemmas.List.FromFn.{length-map-range_with_len}
 use Rattle.std.proofs.lemmas.Result.{err_from_is_err_and}
 use Rattle.cq_base.specs.declared.cell.Transfer.{Transfer}
 use Rattle.cq_cells.specs.Traffic.{is_from, is_to, number_of}
-use Rattle.cq_rank.specs.Machine.{Machine}
-use Rattle.cq_rank.specs.Switch.{AreForOneSwitch}
-use Rattle.cq_scfq.specs.Discipline.{fixed_of, machine_from, state_of}
-use Rattle.cq_scfq.specs.Disciplines.{opening_of}
+use Rattle.cq_scfq.specs.Discipline.{machine_from}
 use Rattle.cq_audit.specs.Log.{AreInOrder, IsLog}
 use Rattle.cq_audit.proofs.Opened.{IsOpened, no_log, opened, ready, verdict}
 use Rattle.cq_audit.proofs.Rising.{log_in_order}
@@ -19,9 +16,7 @@ use Rattle.cq_audit.proofs.audit.audit_log.Goals.{After-as_slice-3, After-len-po
 
 -- there is a rank for each output of the setup
 ranked : (c : In_ok-ranks) → length c.in_ok-ranks.ranks.items ≡ length c.args.setup.now.kinds
-ranked c =
-    sym (length-map c.in_ok-ranks.ranks.items state_of) ∙ ap length c.in_ok-ranks.ensures.states
-    ∙ length-map c.args.setup.now.kinds (λ kind. opening_of kind c.args.setup.now.classes)
+ranked c = search (arith, rules, length-map)
 
 -- and their number is that of the ports
 counted : (c : After-len-ports) → c.len-ports.result ≡ length c.in_ok-ranks.ranks.items
@@ -30,21 +25,12 @@ counted c = omega (arith, c.len-ports.ensures, c.in_ok-ranks.ranks.ok)
 -- the replay is that of the setup, before its first slot
 stands : (c : After-as_slice-3) → length c.in_ok-ranks.ranks.items ≡ length c.args.setup.now.kinds →
     IsOpened machine_from c.args.setup.now c.args.limits.now c.in_ok-replay.replay
-stands c kinds =
-    let items = c.in_ok-ranks.ranks.items in
-    let from = c.in_ok-ranks.ensures in
-    let made = c.in_ok-replay.ensures in
-    opened machine_from c.args.setup.now c.args.limits.now (length items) (map fixed_of items) (map state_of items)
-    c.in_ok-replay.replay kinds (length-map items fixed_of)
-    from.machines from.states made.fixed made.limits made.fabric
+stands c kinds = search (arith, rules, opened, length-map)
 
 -- and it goes by the lines of the log
 logged : (c : After-as_slice-3) → c.len-ports.result ≡ length c.args.setup.now.kinds →
     IsLog (length c.args.setup.now.kinds) c.as_slice-3.result.now c.args.log.now
-logged c as_many =
-    subst (λ (n : ℕ). IsLog n c.as_slice-3.result.now c.args.log.now) as_many
-    (subst (λ (l : List Transfer). IsLog c.len-ports.result l c.args.log.now) (sym c.as_slice-3.ensures.value)
-    c.in_ok-lines.ensures.read)
+logged c as_many = search (arith, rules)
 
 -- ## What is asked, and what the audit says
 
@@ -57,27 +43,16 @@ returns-in_err-lines-clause-no c =
     c.in_err-lines.field-0.0 (counted at.After-len-ports ∙ ranked at.In_ok-ranks) c.in_err-lines.ensures.cause)
 
 pub new-requires-2-clause-machines : goal.new-requires-2-clause-machines
-new-requires-2-clause-machines c =
-    subst (λ (ms : List Machine). AreForOneSwitch ms) (sym c.in_ok-ranks.ensures.machines)
-    (c.in_ok-ranks.ensures.one_switch c.requires.some c.requires.few)
+new-requires-2-clause-machines c = search (arith, rules, c.in_ok-ranks.ensures.one_switch)
 
 pub new-requires-2-clause-limits : goal.new-requires-2-clause-limits
-new-requires-2-clause-limits c =
-    c.requires.limits_are ∙ sym (ranked (goal.at.new-requires-2-clause-limits c).In_ok-ranks)
+new-requires-2-clause-limits c = cc (ranked (goal.at.new-requires-2-clause-limits c).In_ok-ranks)
 
 pub new-requires-2-clause-from_inputs : goal.new-requires-2-clause-from_inputs
-new-requires-2-clause-from_inputs c =
-    let f : ℕ → ℕ = λ i. number_of (is_from i) c.args.schedule.now.came in
-    ap (λ (l : List ℕ). length l) (c.as_slice.ensures.value ∙ c.in_ok-from_inputs.ensures)
-    ∙ length-map-range_with_len f 0 c.len-ports.result
-    ∙ counted (goal.at.new-requires-2-clause-from_inputs c).After-len-ports
+new-requires-2-clause-from_inputs c = search (arith, rules, length-map-range_with_len, counted)
 
 pub new-requires-2-clause-to_outputs : goal.new-requires-2-clause-to_outputs
-new-requires-2-clause-to_outputs c =
-    let f : ℕ → ℕ = λ j. number_of (is_to j) c.args.schedule.now.came in
-    ap (λ (l : List ℕ). length l) (c.as_slice-2.ensures.value ∙ c.in_ok-to_outputs.ensures)
-    ∙ length-map-range_with_len f 0 c.len-ports.result
-    ∙ counted (goal.at.new-requires-2-clause-to_outputs c).After-len-ports
+new-requires-2-clause-to_outputs c = search (arith, rules, length-map-range_with_len, counted)
 
 pub replay_run-requires : goal.replay_run-requires
 replay_run-requires c =
@@ -90,19 +65,15 @@ replay_run-requires c =
     let lines = c.as_slice-3.ensures.value in
     let many : length c.as_slice-3.result.now ≡ length c.in_ok-lines.lines.items =
     ap (λ (l : List Transfer). length l) lines in
-    let order =
-    subst (λ (n : ℕ). AreInOrder n c.as_slice-3.result.now) len
-    (subst (λ (l : List Transfer). AreInOrder c.len-ports.result l) (sym lines)
+    let order = subst (λ (n : ℕ). AreInOrder n c.as_slice-3.result.now) len (subst
+    (λ (l : List Transfer). AreInOrder c.len-ports.result l) (sym lines)
     (log_in_order c.len-ports.result c.in_ok-lines.lines.items c.args.log.now c.in_ok-lines.ensures.read)) in
     ready machine_from c.args.setup.now c.args.limits.now c.args.schedule.now.came c.in_ok-replay.replay
-    (stands at.After-as_slice-3 (ranked at.In_ok-ranks))
-    c.as_slice-3.result.now c.in_ok-note.note (length items) (ranked at.In_ok-ranks) made.in_step
-    (c.in_ok-ranks.ensures.classes c.requires.some) c.requires.traffic c.requires.short c.requires.ranked
-    (made.from_inputs ∙ c.as_slice.ensures.value ∙ c.in_ok-from_inputs.ensures
-    ∙ ap (λ (n : ℕ). map from (range_with_len 0 n)) len)
-    (made.to_outputs ∙ c.as_slice-2.ensures.value ∙ c.in_ok-to_outputs.ensures
-    ∙ ap (λ (n : ℕ). map to (range_with_len 0 n)) len)
-    order
+    (stands at.After-as_slice-3 (ranked at.In_ok-ranks)) c.as_slice-3.result.now c.in_ok-note.note (length items)
+    (ranked at.In_ok-ranks) made.in_step (c.in_ok-ranks.ensures.classes c.requires.some) c.requires.traffic
+    c.requires.short c.requires.ranked (made.from_inputs ∙ c.as_slice.ensures.value ∙ c.in_ok-from_inputs.ensures
+    ∙ ap (λ (n : ℕ). map from (range_with_len 0 n)) len) (made.to_outputs ∙ c.as_slice-2.ensures.value
+    ∙ c.in_ok-to_outputs.ensures ∙ ap (λ (n : ℕ). map to (range_with_len 0 n)) len) order
     (c.in_ok-note.ensures.spare ∙ omega (arith, len, many, c.len.ensures, c.in_ok-lines.lines.ok))
 
 pub returns : goal.returns

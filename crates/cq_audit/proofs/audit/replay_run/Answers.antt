@@ -1,13 +1,13 @@
-use Rattle.std.proofs.Common.{◌≤◌, Err, map, sym, subst, ◌∙◌, arith}
+use Rattle.std.proofs.Common.{rules, ◌≤◌, map, ◌∙◌, arith, Err, sym, subst}
 use Rattle.cq_base.specs.Arriving.{end_of}
 use Rattle.cq_laws.specs.Fabric.{IsEmptyFabric}
 use Rattle.cq_audit.specs.Replay.{CanReplay}
-use Rattle.cq_audit.specs.Running.{RunEnds}
-use Rattle.cq_audit.specs.declared.refusal.AuditRefusal.{AuditRefusal}
 use Rattle.cq_audit.proofs.Steps.{at_end, at_first, can_there, fault_there, goes_on, left_there, next_there, rest_in_order, rest_is_short, skip_in_step}
 use Rattle.cq_audit.proofs.audit.replay_run.Given as given
 use Rattle.cq_audit.proofs.audit.replay_run.Goals as goal
 use Rattle.cq_audit.proofs.audit.replay_run.Goals.{After-arrivals-arrivals, After-skip-slot}
+use Rattle.cq_audit.specs.Running.{RunEnds}
+use Rattle.cq_audit.specs.declared.refusal.AuditRefusal.{AuditRefusal}
 
 pub slots-init : goal.slots-init
 slots-init g c = at_first g.R.Rank.machine c.requires
@@ -21,22 +21,18 @@ skip-slot-requires-clause-in_order g c = rest_in_order g.R.Rank.machine c.requir
 -- the loop goes on at this slot
 goes : (g : given.Over) (c : After-skip-slot g) → end_of c.args.schedule.now.came ≤ c.slots.slot →
     IsEmptyFabric c.slots.replay.fabric.state → ⊥
-goes g c =
-    goes_on c.is_over.result (end_of c.args.schedule.now.came) c.slots.slot
-    (IsEmptyFabric c.slots.replay.fabric.state) c.slots-test.true c.is_over.ensures
+goes g c = search (arith, rules, goes_on)
 
 -- all that the slot asks for
 can : (g : given.Over) (c : After-arrivals-arrivals g) →
     (end_of c.args.schedule.now.came ≤ c.slots.slot → IsEmptyFabric c.slots.replay.fabric.state → ⊥) →
     CanReplay (map g.R.Rank.machine c.skip-slot.new.replay.fixed) c.skip-slot.result c.arrivals-arrivals.result.now
     c.slots.rest.now c.skip-slot.new.replay c.slots.note
-can g c more =
-    can_there g.R.Rank.machine c.requires c.slots.invariant more c.skip-slot.ensures.still c.skip-slot.ensures.rested
-    c.arrivals-arrivals.result.now (c.arrivals-arrivals.ensures ∙ c.arrive.ensures)
+can g c more = can_there g.R.Rank.machine c.requires c.slots.invariant more c.skip-slot.ensures.still
+    c.skip-slot.ensures.rested c.arrivals-arrivals.result.now (c.arrivals-arrivals.ensures ∙ c.arrive.ensures)
 
 pub slot-requires : goal.slot-requires
-slot-requires g c =
-    let at = goal.at.slot-requires g c in can g at.After-arrivals-arrivals (goes g at.After-skip-slot)
+slot-requires g c = search (arith, rules, can, goes)
 
 pub returns-in-Err : goal.returns-in-Err
 returns-in-Err g c =

@@ -1,7 +1,7 @@
 use Rattle.std.proofs.Common.{ℕ, sym, subst}
-use Rattle.cq_audit.specs.Running.{IsStillUntil}
 use Rattle.cq_audit.proofs.Skips.{until_arrival, until_line}
 use Rattle.cq_audit.proofs.audit.still_until.Goals as goal
+use Rattle.cq_audit.specs.Running.{IsStillUntil}
 
 pub returns-in-Some : goal.returns-in-Some
 returns-in-Some c =

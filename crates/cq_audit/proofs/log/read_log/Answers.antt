@@ -1,4 +1,4 @@
-use Rattle.std.proofs.Common.{◌≡◌, ◌∷◌, ◌++◌, [], None, Some, rules}
+use Rattle.std.proofs.Common.{None, Some, rules, ◌≡◌, ◌∷◌, ◌++◌, []}
 use Rattle.cq_base.specs.Texts.{log_line}
 use Rattle.cq_lines.proofs.Going.{one_line_more}
 use Rattle.cq_audit.specs.Log.{Comes}

@@ -1,13 +1,10 @@
-use Rattle.std.proofs.Common.{length, sym, ap, ◌∙◌}
-use Rattle.cq_prefs.specs.Orders.{ports}
+use Rattle.std.proofs.Common.{arith, rules}
 use Rattle.cq_audit.proofs.LinesMoved.{judged_stable, offers_long}
 use Rattle.cq_audit.proofs.Stable.{told_size}
 use Rattle.cq_audit.proofs.phase.stable_told.Goals as goal
 
 pub first_blocking-requires : goal.first_blocking-requires
-first_blocking-requires c =
-    ap length c.in-Ok.ensures.pairs ∙ told_size (length c.args.lists.now) c.args.lines.now
-    ∙ sym (ap ports c.requires.offers ∙ offers_long c.args.lists.now)
+first_blocking-requires c = search (arith, rules, told_size, offers_long)
 
 pub returns-in-None-clause-stable : goal.returns-in-None-clause-stable
 returns-in-None-clause-stable c =

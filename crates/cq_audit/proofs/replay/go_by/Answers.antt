@@ -1,6 +1,5 @@
-use Rattle.std.proofs.Common.{List, length, refl, subst}
-use Rattle.cq_base.specs.declared.cell.Transfer.{Transfer}
-use Rattle.cq_audit.specs.Phase.{AreParted, IsPhaseFault}
+use Rattle.std.proofs.Common.{arith, rules, length}
+use Rattle.cq_audit.specs.Phase.{AreParted}
 use Rattle.cq_audit.proofs.replay.go_by.Goals as goal
 use Rattle.cq_audit.proofs.replay.go_by.Goals.{After-part}
 
@@ -14,17 +13,7 @@ cross-requires-clause-lines c = (parted (goal.at.cross-requires-clause-lines c).
 
 pub returns-in-Ok-clause-gone_by : goal.returns-in-Ok-clause-gone_by
 returns-in-Ok-clause-gone_by c =
-    record {
-      own = c.part.result.0.now;
-      parted = parted (goal.at.returns-in-Ok-clause-gone_by c).After-part;
-      crossed = c.in-Ok.ensures.crossed;
-      noted = c.in-Ok.ensures.noted;
-    }
+    search (arith, rules, parted, parted (goal.at.returns-in-Ok-clause-gone_by c).After-part)
 
 pub returns-in-Err-clause-fault : goal.returns-in-Err-clause-fault
-returns-in-Err-clause-fault c =
-    let lines = parted (goal.at.returns-in-Err-clause-fault c).After-part in (
-      refl,
-      subst (λ (ls : List Transfer). IsPhaseFault c.args.queues.now.inputs ls c.in-Err.fault) lines.own
-          c.in-Err.ensures.fault,
-    )
+returns-in-Err-clause-fault c = search (arith, rules, parted)

@@ -1,4 +1,4 @@
-use Rattle.std.proofs.Common.{◌≡◌, ◌+◌, ◌<◌, length, List, Some, sym, ◌∙◌, subst, arith}
+use Rattle.std.proofs.Common.{rules, ◌≡◌, ◌+◌, ◌<◌, length, List, Some, sym, ◌∙◌, subst, arith}
 use Rattle.std.proofs.lemmas.List.{length-map}
 use Rattle.cq_base.specs.declared.cell.Queued.{Queued}
 use Rattle.cq_list.specs.InputList.{Waiting, cells_of}
@@ -11,10 +11,7 @@ use Rattle.cq_audit.proofs.told.told.Goals.{After-inputs, In-Some, in-Some+then-
 
 -- the output of a line is one of the ports
 fits : (c : In-Some) → c.in-Some.line.output < length c.inputs.pairs
-fits c =
-    let of = line_holds c.inputs.input (IsOf (length c.args.lists.now)) c.args.lines.now c.in-Some.line
-    c.requires.lines (sym c.line_of.ensures ∙ c.in-Some.is) in
-    let long = length-map c.args.lists.now (λ (w : Waiting). w.cells) in omega arith
+fits c = search (arith, rules, line_holds, length-map)
 
 -- all inputs are looked at in the end
 ended : (c : After-inputs) → c.inputs.input ≡ length c.args.lists.now
@@ -24,14 +21,7 @@ pub is_right-requires : goal.is_right-requires
 is_right-requires c = fits (goal.at.is_right-requires c).In-Some
 
 pub join-requires : goal.join-requires
-join-requires c =
-    let long = length-map c.args.lists.now (λ (w : Waiting). w.cells) in
-    record {
-      input = omega arith;
-      output = fits (goal.at.join-requires c).In-Some;
-      free_input = c.inputs.invariant.free c.inputs.input (omega arith);
-      free_output = c.is_right.ensures.free c.if-is_right.true;
-    }
+join-requires c = search (arith, rules, length-map, fits, c.inputs.invariant.free, c.is_right.ensures.free)
 
 pub inputs-preserved : goal.inputs-preserved
 inputs-preserved c =
@@ -52,23 +42,17 @@ inputs-preserved c =
           let free = w.is_right.ensures.free w.if-is_right.true in
           let joined : with_pair c.inputs.pairs n t.output ≡ c.match-line_of.pairs =
           let a = w.pairs-is in let b = w.join.ensures in cc in
-          subst (ToldUntil (cells_of lists) lines (n + 1)) joined
-          (right_line (cells_of lists) lines n c.inputs.pairs c.inputs.invariant t stands below (omega arith) names
-          free)
+          subst (ToldUntil (cells_of lists) lines (n + 1)) joined (right_line (cells_of lists) lines n c.inputs.pairs
+          c.inputs.invariant t stands below (omega arith) names free)
       | in_default w ↦
-          let stays : c.inputs.pairs ≡ c.match-line_of.pairs = let a = w.pairs-is in cc in
-          subst (ToldUntil (cells_of lists) lines (n + 1)) stays
-          (no_line (cells_of lists) lines n c.inputs.pairs c.inputs.invariant below
-          (sym c.line_of.ensures ∙ w.in_default.is))
+          let stays : c.inputs.pairs ≡ c.match-line_of.pairs =
+          let a = w.pairs-is in cc in
+          subst (ToldUntil (cells_of lists) lines (n + 1)) stays (no_line (cells_of lists) lines n c.inputs.pairs
+          c.inputs.invariant below (sym c.line_of.ensures ∙ w.in_default.is))
     ]
 
 pub returns-clause-pairs : goal.returns-clause-pairs
-returns-clause-pairs c =
-    all_told (cells_of c.args.lists.now) c.args.lines.now c.inputs.input c.inputs.pairs c.inputs.invariant
-    (length c.args.lists.now) (sym (length-map c.args.lists.now (λ (w : Waiting). w.cells))) (ended c)
+returns-clause-pairs c = search (arith, rules, all_told, length-map, ended)
 
 pub returns-clause-right : goal.returns-clause-right
-returns-clause-right c =
-    all_right (cells_of c.args.lists.now) c.args.lines.now c.inputs.input c.inputs.pairs c.inputs.invariant
-    (length c.args.lists.now) (sym (length-map c.args.lists.now (λ (w : Waiting). w.cells))) (ended c)
-    c.requires.lines
+returns-clause-right c = search (arith, rules, all_right, length-map, ended)

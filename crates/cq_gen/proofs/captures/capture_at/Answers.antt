@@ -1,21 +1,13 @@
+use Rattle.std.proofs.Common.{arith, rules}
 use Rattle.cq_gen.proofs.Small.{file_read, file_small, only_memory, same_packets}
 use Rattle.cq_gen.proofs.captures.capture_at.Goals as goal
 
 pub read_capture-requires : goal.read_capture-requires
-read_capture-requires c =
-    file_small c.args.words.now c.args.ports c.args.slots c.args.input c.requires.slots c.in_ok-bytes.bytes.items
-    c.in_ok-bytes.ensures
+read_capture-requires c = file_small c.args.words.now c.args.ports c.args.slots c.args.input c.requires.slots
+    c.in_ok-bytes.bytes.items c.in_ok-bytes.ensures
 
 pub unreachable-requires : goal.unreachable-requires
-unreachable-requires c =
-    let read =
-    file_read c.args.words.now c.args.ports c.args.slots c.args.input c.requires.slots c.in_ok-bytes.bytes.items
-    c.in_ok-bytes.ensures in
-    c.in_default.not-NoMemory (only_memory c.in_ok-bytes.bytes.items _ c.in-Err.refusal read c.in-Err.ensures.unread)
+unreachable-requires c = search (arith, rules, file_read, c.in_default.not-NoMemory, only_memory)
 
 pub returns-in-Ok : goal.returns-in-Ok
-returns-in-Ok c =
-    let read =
-    file_read c.args.words.now c.args.ports c.args.slots c.args.input c.requires.slots c.in_ok-bytes.bytes.items
-    c.in_ok-bytes.ensures in
-    same_packets c.in_ok-bytes.bytes.items c.in-Ok.capture _ read c.in-Ok.ensures.read
+returns-in-Ok c = search (arith, rules, file_read, same_packets)

@@ -1,10 +1,9 @@
-use Rattle.std.proofs.Common.{◌≡◌, ◌∷◌, ◌++◌, [], rules}
+use Rattle.std.proofs.Common.{rules}
 use Rattle.cq_gen.specs.Packets.{packets_to}
 use Rattle.cq_gen.proofs.Counted.{counted_more}
 use Rattle.cq_gen.proofs.captures.captures_of.Goals as goal
 
 pub inputs-preserved : goal.inputs-preserved
 inputs-preserved c =
-    let pushed : c.push.new.self.items ≡ c.inputs.captures.items ++ c.in_ok-capture.capture ∷ [] = search rules in
-    counted_more (packets_to c.args.words.now c.args.ports c.args.slots) c.inputs.input c.inputs.captures.items
-    c.push.new.self.items c.in_ok-capture.capture c.inputs.invariant pushed c.in_ok-capture.ensures
+    cc (counted_more (packets_to c.args.words.now c.args.ports c.args.slots) c.inputs.input c.inputs.captures.items
+    c.push.new.self.items c.in_ok-capture.capture c.inputs.invariant (search rules) c.in_ok-capture.ensures)

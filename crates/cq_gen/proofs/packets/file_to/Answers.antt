@@ -2,10 +2,8 @@ use Rattle.cq_gen.proofs.Put.{none_put, one_put}
 use Rattle.cq_gen.proofs.packets.file_to.Goals as goal
 
 pub slots-init : goal.slots-init
-slots-init c =
-    none_put c.args.words.now c.args.ports c.args.input c.in_ok-bytes.bytes.items c.in_ok-bytes.ensures
+slots-init c = none_put c.args.words.now c.args.ports c.args.input c.in_ok-bytes.bytes.items c.in_ok-bytes.ensures
 
 pub slots-preserved : goal.slots-preserved
-slots-preserved c =
-    one_put c.args.words.now c.args.ports c.args.input c.slots.slot c.slots.bytes.items c.put_made.new.out.items
-    c.slots.invariant c.in_ok-put_made.ensures
+slots-preserved c = one_put c.args.words.now c.args.ports c.args.input c.slots.slot c.slots.bytes.items
+    c.put_made.new.out.items c.slots.invariant c.in_ok-put_made.ensures

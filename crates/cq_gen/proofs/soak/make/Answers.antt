@@ -1,4 +1,4 @@
-use Rattle.std.proofs.Common.{ap, sym, subst, ◌∙◌, arith}
+use Rattle.std.proofs.Common.{rules, ap, sym, subst, ◌∙◌, arith}
 use Rattle.std.proofs.lemmas.Nat.{mul-le}
 use Rattle.cq_route.specs.declared.tables.Tables.{Tables}
 use Rattle.cq_route.specs.Tables.{AreTables, ports_of}
@@ -16,17 +16,10 @@ pub returns-clause-ports : goal.returns-clause-ports
 returns-clause-ports c = ap (λ (t : Tables). ports_of t.setup) c.in_ok-tables.ensures ∙ tables_ports c.args.ports
 
 pub returns-clause-captures : goal.returns-clause-captures
-returns-clause-captures c =
-    captures_made c.args.seed c.args.ports c.args.slots _
-    (captures_of_draws c.args.ports c.args.slots _ _ _ (c.as_slice.ensures.value ∙ c.in_ok-words.ensures.words)
-    c.in_ok-captures.ensures)
+returns-clause-captures c = search (arith, rules, captures_made, captures_of_draws)
 
 pub returns-clause-inputs : goal.returns-clause-inputs
-returns-clause-inputs c =
-    captures_count c.args.ports c.args.slots _ _ _ (c.as_slice.ensures.value ∙ c.in_ok-words.ensures.words)
-    c.in_ok-captures.ensures
+returns-clause-inputs c = search (arith, rules, captures_count)
 
 pub returns-clause-packets : goal.returns-clause-packets
-returns-clause-packets c =
-    captures_lengths c.args.ports c.args.slots _ _ _ (c.as_slice.ensures.value ∙ c.in_ok-words.ensures.words)
-    c.in_ok-captures.ensures
+returns-clause-packets c = search (arith, rules, captures_lengths)

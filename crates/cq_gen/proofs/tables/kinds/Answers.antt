@@ -3,7 +3,6 @@ use Rattle.std.proofs.lemmas.Iterator.{items_from_collect, YieldsList-from_map, 
 use Rattle.cq_gen.proofs.tables.kinds.Goals as goal
 
 pub returns : goal.returns
-returns c =
-    items_from_collect _ c.collect.ensures.ran (YieldsList-from_map _ _
-    (YieldsList-from_range 0 _ _ c.map.ensures.source (omega arith)) c.map.ensures.closure
-    (λ x r q k. search rules))
+returns c = items_from_collect _ c.collect.ensures.ran (YieldsList-from_map _ _
+    (YieldsList-from_range 0 _ _ c.map.ensures.source (omega arith)) c.map.ensures.closure (λ x r q k.
+    search rules))

@@ -4,6 +4,5 @@ use Rattle.cq_gen.specs.Tables.{soak_rule}
 use Rattle.cq_gen.proofs.tables.rules.Goals as goal
 
 pub returns : goal.returns
-returns c =
-    items_from_collect _ c.collect.ensures.ran (YieldsList-from_map _ soak_rule
+returns c = items_from_collect _ c.collect.ensures.ran (YieldsList-from_map _ soak_rule
     (YieldsList-from_range 0 8 8 c.map.ensures.source refl) c.map.ensures.closure (λ x r q k. search rules))

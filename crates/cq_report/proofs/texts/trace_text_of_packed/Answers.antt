@@ -1,18 +1,17 @@
 use Rattle.std.proofs.Common.{[], ◌++◌, ap, ◌∙◌, arith}
 use Rattle.std.proofs.lemmas.List.{take_all}
-use Rattle.std.specs.List.{flat_map}
 use Rattle.cq_base.specs.Packed.{unpacked}
 use Rattle.cq_base.specs.Texts.{trace_line, trace_of}
 use Rattle.cq_base.specs.declared.cell.Departure.{Departure}
 use Rattle.cq_base.specs.declared.packed.PackedDeparture.{PackedDeparture}
 use Rattle.cq_report.proofs.OneMore.{lines_of_these, one_line_more}
 use Rattle.cq_report.proofs.texts.trace_text_of_packed.Goals as goal
+use Rattle.std.specs.List.{flat_map}
 
 pub departures-preserved : goal.departures-preserved
-departures-preserved c =
-    one_line_more (λ (p : PackedDeparture). trace_line (unpacked p)) c.args.sent.now c.departures.packed-index _ []
-    (c.departures.text.items ++ c.departures.sheet) _ c.departures-test.true c.departures.invariant
-    (c.in_ok-put_departure.ensures
+departures-preserved c = one_line_more (λ (p : PackedDeparture). trace_line (unpacked p)) c.args.sent.now
+    c.departures.packed-index _ [] (c.departures.text.items ++ c.departures.sheet) _ c.departures-test.true
+    c.departures.invariant (c.in_ok-put_departure.ensures
     ∙ ap (λ (d : Departure). (c.departures.text.items ++ c.departures.sheet) ++ trace_line d) c.departure.ensures)
 
 pub returns : goal.returns

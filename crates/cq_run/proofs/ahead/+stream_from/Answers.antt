@@ -1,6 +1,5 @@
-use Rattle.std.proofs.Common.{◌≡◌, [], ap, arith, length, List}
+use Rattle.std.proofs.Common.{rules, ◌≡◌, [], arith}
 use Rattle.std.proofs.lemmas.List.{nil_from_length}
-use Rattle.cq_pcap.specs.Captured.{Captured}
 use Rattle.cq_run.proofs.Behind.{Unread, all_arrive, begun_is, begun_small, capture_ends, file_ends, later_ends, memory_ends, none_arrive}
 use Rattle.cq_run.proofs.Exits.{exit_is}
 use Rattle.cq_run.proofs.ahead.+stream_from.Goals as goal
@@ -12,9 +11,8 @@ returns-in-None-clause-judges g t c = λ r.
     let none : c.args.rows.now ≡ [] = nil_from_length c.args.rows.now c.in-None.ensures.cases in
     let F = g.F.Files in
     let files = c.args.files.now in
-    rw (none, c.of.ensures, c.new.ensures.items)
-    (none_arrive r c.args.tables.now.limit_bytes c.args.input (Unread F.space F.may_fail F.keeps files files)
-    (F.space files) c.requires.closed)
+    rw (none, c.of.ensures, c.new.ensures.items) (none_arrive r c.args.tables.now.limit_bytes c.args.input
+    (Unread F.space F.may_fail F.keeps files files) (F.space files) c.requires.closed)
 
 pub finish_port-requires-clause-begun : goal.finish_port-requires-clause-begun
 finish_port-requires-clause-begun g t c = begun_is c.in_ok-begun-in-Some.ensures.begun
@@ -59,10 +57,4 @@ returns-in_ok-in_front-in-Some-clause-judges g t c = λ r.
     c.in_ok-capture-in-Some.capture c.in_ok-capture-in-Some.ensures.spelt (c.in_ok-captures-in-Some.ensures.judges r))
 
 pub returns-in_ok-in_front-in-Some-clause-each : goal.returns-in_ok-in_front-in-Some-clause-each
-returns-in_ok-in_front-in-Some-clause-each g t c =
-    omega (
-      arith,
-      ap (λ (cs : List (List Captured)). length cs) c.in_ok-in_front-in-Some.ensures,
-      c.in_ok-captures-in-Some.ensures.each,
-      c.in-Some.ensures.cases.1,
-    )
+returns-in_ok-in_front-in-Some-clause-each g t c = search (arith, rules)

@@ -1,6 +1,5 @@
-use Rattle.std.proofs.Common.{◌∙◌, ℕ, List, subst, sym}
+use Rattle.std.proofs.Common.{arith, rules, ◌∙◌, ℕ, List, subst}
 use Rattle.cq_space.specs.Failing.{Fails, Reads}
-use Rattle.cq_run.specs.Input.{IsFileOf}
 use Rattle.cq_run.specs.Judging.{Halts}
 use Rattle.cq_run.specs.Pace.{InTurn}
 use Rattle.cq_run.specs.Verdict.{capture_in}
@@ -17,28 +16,14 @@ returns-in_err-bytes-in-Some-clause-halts g c =
     let new = space c.read_file.new.files in
     let S : List ℕ → Type 0 = λ asked.
     Fails space g.F.Files.may_fail g.F.Files.keeps (Reads asked) c.args.files.now c.read_file.new.files in
-    rw (exit_is _ c.from_residual-in_err-bytes-in-Some.ensures.1)
-    (λ r.
+    rw (exit_is _ c.from_residual-in_err-bytes-in-Some.ensures.1) (λ r.
     let P : List ℕ → Type 0 = λ n. Halts InTurn (capture_in r n c.args.input c.args.limit) S old new halt in
-    rw c.in-Some.is
-    (subst P (c.in_ok-name-in-Some.ensures ∙ c.text.ensures)
+    rw c.in-Some.is (subst P (c.in_ok-name-in-Some.ensures ∙ c.text.ensures)
     (halts_more InTurn _ _ S old new halt (λ name u. u.1) (c.in_err-bytes-in-Some.ensures.halts r))))
 
 pub returns-in_ok-begin-in-Some-clause-begun : goal.returns-in_ok-begin-in-Some-clause-begun
-returns-in_ok-begin-in-Some-clause-begun g c =
-    let told = (g.F.Files.space c.args.files.now).told in
-    let P : List ℕ → Type 0 = λ n. IsFileOf n c.args.limit told c.in_ok-bytes-in-Some.bytes.items in
-    let Q : List ℕ → Type 0 = λ bs. IsFileOf c.in-Some.name c.args.limit told bs in
-    record {
-      decoding = rw c.in-Some.is (
-        c.in_ok-begin-in-Some.ensures.begun,
-        subst Q (sym c.in_ok-begin-in-Some.ensures.source)
-            (subst P (c.in_ok-name-in-Some.ensures ∙ c.text.ensures) c.in_ok-bytes-in-Some.ensures.file),
-      );
-      uncounted = c.in_ok-bytes-in-Some.ensures.uncounted;
-    }
+returns-in_ok-begin-in-Some-clause-begun g c = search (arith, rules, g.F.Files.space)
 
 -- want of memory for the rings: the file was read with no fault
 pub returns-in_err-begin-in-Some-clause-halts : goal.returns-in_err-begin-in-Some-clause-halts
-returns-in_err-begin-in-Some-clause-halts g c =
-    rw (exit_is _ c.from_residual-in_err-begin-in-Some.ensures.1) (λ r. c.in_ok-bytes-in-Some.ensures.uncounted)
+returns-in_err-begin-in-Some-clause-halts g c = search (arith, rules, exit_is)

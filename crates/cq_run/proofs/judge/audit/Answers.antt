@@ -7,9 +7,8 @@ pub returns-in_err-given : goal.returns-in_err-given
 returns-in_err-given g c = rw (exit_is _ c.from_residual.ensures.1) (audit_ends c.in_err-given.ensures.ends)
 
 pub returns-in_err-trace : goal.returns-in_err-trace
-returns-in_err-trace g c =
-    rw (exit_is _ c.from_residual-in_err-trace.ensures.1)
-    (trace_ends g.met.F.Files.lasts c.in_ok-given.ensures.given c.read_text.ensures.kept c.in_err-trace.ensures.judges)
+returns-in_err-trace g c = rw (exit_is _ c.from_residual-in_err-trace.ensures.1) (trace_ends g.met.F.Files.lasts
+    c.in_ok-given.ensures.given c.read_text.ensures.kept c.in_err-trace.ensures.judges)
 
 pub returns-in_err-log : goal.returns-in_err-log
 returns-in_err-log g c =
@@ -26,9 +25,8 @@ returns-in_err-audit_texts g c =
     c.read_text-2.ensures.kept c.in_ok-log.ensures.judges c.in_err-audit_texts.field-0.0 halted)
 
 pub returns-in_err-build_yes : goal.returns-in_err-build_yes
-returns-in_err-build_yes g c =
-    rw (exit_is _ c.from_residual-in_err-build_yes.ensures.1)
-    (audit_halts g.met.F.Files.lasts c.in_ok-given.ensures.given c.read_text.ensures.kept c.in_ok-trace.ensures.judges
+returns-in_err-build_yes g c = rw (exit_is _ c.from_residual-in_err-build_yes.ensures.1) (audit_halts
+    g.met.F.Files.lasts c.in_ok-given.ensures.given c.read_text.ensures.kept c.in_ok-trace.ensures.judges
     c.read_text-2.ensures.kept c.in_ok-log.ensures.judges _ (inl tt))
 
 pub returns : goal.returns

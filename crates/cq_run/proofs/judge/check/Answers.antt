@@ -1,4 +1,4 @@
-use Rattle.std.proofs.Common.{◌≡◌, ℕ, List, refl, subst, sym}
+use Rattle.std.proofs.Common.{arith, rules, ◌≡◌, ℕ, List, refl, subst, sym}
 use Rattle.std.specs.Prelude.{IfOk, IfSome, Option, Result, Ok, Err}
 use Rattle.std.specs.List.{AllByRecursion}
 use Rattle.cq_route.specs.declared.tables.Tables.{Tables}
@@ -41,9 +41,7 @@ module _ {S : Type 0} (space : S → Space) (may_fail : Call → S → S → Typ
       Judges InTurn (tables_in config) R (space old) (space new) (Err halt) →
       ((name : List ℕ) → R name → (name ≡ config) × Fails space may_fail keeps (Reads name) old new) →
       IsJudged space may_fail keeps InTurn (Check config) old new (Err halt)
-  tables_end R halt h i =
-      read_ends space may_fail keeps (Check config) (λ s. refl) old lasts old new (λ r. tables_in config) aim_of
-      at_first kept R halt (λ r. h) i
+  tables_end R halt h i = search (arith, rules, read_ends, at_first)
 
   tables_read : (Q : List ℕ → Type 0) (tables : Tables) →
       Judges InTurn (tables_in config) Q (space old) (space new) (Ok tables) → (result : Result Plan Halt) →
@@ -51,25 +49,13 @@ module _ {S : Type 0} (space : S → Space) (may_fail : Call → S → S → Typ
       IfOk result (λ plan. AllByRecursion (λ write. ⊥) plan.writes) →
       IsJudged space may_fail keeps InTurn (Check config) old new result
   tables_read Q tables h result settles names =
-      settled space may_fail keeps (Check config) (λ s. refl) old new _
-      (read_on space may_fail keeps (Check config) (λ s. refl) old lasts old new (λ r. tables_in config) aim_of at_first
-      kept Q tables (λ r. tables_stay config) (λ r. h)) result settles names (λ r. of_no_plan result (space old).told)
+      search (arith, rules, settled, read_on, at_first, tables_stay, of_no_plan)
 
 pub returns-in_err-tables : goal.returns-in_err-tables
-returns-in_err-tables g c =
-    let F = g.F.Files in
-    rw (exit_is _ c.from_residual.ensures.1)
-    (tables_end F.space F.may_fail F.keeps c.args.config c.args.files.now c.read_configuration.new.files
-    g.met.F.Files.lasts c.requires c.read_configuration.ensures.kept _ c.in_err-tables.field-0.0
-    c.in_err-tables.ensures.judges (λ name u. u))
+returns-in_err-tables g c = search (arith, rules, exit_is, tables_end)
 
 pub returns-in_err-build_check : goal.returns-in_err-build_check
-returns-in_err-build_check g c =
-    let F = g.F.Files in
-    rw (exit_is _ c.from_residual-in_err-build_check.ensures.1)
-    (tables_read F.space F.may_fail F.keeps c.args.config c.args.files.now c.read_configuration.new.files
-    g.met.F.Files.lasts c.requires c.read_configuration.ensures.kept _ c.in_ok-tables.tables
-    c.in_ok-tables.ensures.judges _ tt tt)
+returns-in_err-build_check g c = search (arith, rules, exit_is, tables_read)
 
 pub returns : goal.returns
 returns g c =

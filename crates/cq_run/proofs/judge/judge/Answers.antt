@@ -6,36 +6,30 @@ use Rattle.cq_run.proofs.Planned.{sent_ends, soak_judged}
 use Rattle.cq_run.proofs.judge.judge.Goals as goal
 
 pub returns-in_err-given-in-Ideal : goal.returns-in_err-given-in-Ideal
-returns-in_err-given-in-Ideal g c =
-    rw (exit_is _ c.from_residual.ensures.1, c.in-Ideal.is)
+returns-in_err-given-in-Ideal g c = rw (exit_is _ c.from_residual.ensures.1, c.in-Ideal.is)
     (sent_ends (λ s. refl) switching (λ r. refl) (λ name. tt) c.in_err-given-in-Ideal.ensures.ends)
 
 pub returns-in_ok-given-in-Ideal : goal.returns-in_ok-given-in-Ideal
-returns-in_ok-given-in-Ideal g c =
-    rw c.in-Ideal.is
+returns-in_ok-given-in-Ideal g c = rw c.in-Ideal.is
     (ideal_judged c.in_ok-given-in-Ideal.ensures.given c.ideal.result c.ideal.ensures.ideal c.ideal.ensures.refused)
 
 pub returns-in_err-given-in-Run : goal.returns-in_err-given-in-Run
-returns-in_err-given-in-Run g c =
-    rw (c.in-Run.is, exit_is _ c.from_residual-in_err-given-in-Run.ensures.1)
+returns-in_err-given-in-Run g c = rw (c.in-Run.is, exit_is _ c.from_residual-in_err-given-in-Run.ensures.1)
     (run_ends c.in_err-given-in-Run.ensures.ends)
 
 pub returns-in_ok-given-in-Run : goal.returns-in_ok-given-in-Run
-returns-in_ok-given-in-Run g c =
-    rw c.in-Run.is
+returns-in_ok-given-in-Run g c = rw c.in-Run.is
     (run_judged c.in_ok-given-in-Run.ensures.given c.cross.result c.cross.ensures.crossing c.cross.ensures.refused)
 
 pub returns-in-Soak : goal.returns-in-Soak
 returns-in-Soak g c =
     let F = g.F.Files in
-    rw c.in-Soak.is
-    (soak_judged F.space F.may_fail F.keeps c.in-Soak.seed c.in-Soak.ports c.in-Soak.slots c.args.files.now
-    c.requires.closed (g.met.F.Files.lasts.none _) c.soak.result c.soak.ensures.meets c.soak.ensures.writes
-    c.soak.ensures.sent c.soak.ensures.refused)
+    rw c.in-Soak.is (soak_judged F.space F.may_fail F.keeps c.in-Soak.seed c.in-Soak.ports c.in-Soak.slots
+    c.args.files.now c.requires.closed (g.met.F.Files.lasts.none _) c.soak.result c.soak.ensures.meets
+    c.soak.ensures.writes c.soak.ensures.sent c.soak.ensures.refused)
 
 pub returns-in_err-given-in-Resume : goal.returns-in_err-given-in-Resume
-returns-in_err-given-in-Resume g c =
-    rw (exit_is _ c.from_residual-in_err-given-in-Resume.ensures.1, c.in-Resume.is)
+returns-in_err-given-in-Resume g c = rw (exit_is _ c.from_residual-in_err-given-in-Resume.ensures.1, c.in-Resume.is)
     (resume_ends c.in_err-given-in-Resume.ensures.ends)
 
 pub returns-in_err-text-in-Resume : goal.returns-in_err-text-in-Resume
@@ -45,7 +39,6 @@ returns-in_err-text-in-Resume g c =
     c.in_err-text-in-Resume.ensures.judges)
 
 pub returns-in_ok-text-in-Resume : goal.returns-in_ok-text-in-Resume
-returns-in_ok-text-in-Resume g c =
-    rw c.in-Resume.is
-    (resume_judged g.met.F.Files.lasts c.in_ok-given-in-Resume.ensures.given c.read_stopped.ensures.kept
-    c.in_ok-text-in-Resume.ensures.judges c.resume.result c.resume.ensures.resuming c.resume.ensures.refused)
+returns-in_ok-text-in-Resume g c = rw c.in-Resume.is (resume_judged g.met.F.Files.lasts
+    c.in_ok-given-in-Resume.ensures.given c.read_stopped.ensures.kept c.in_ok-text-in-Resume.ensures.judges
+    c.resume.result c.resume.ensures.resuming c.resume.ensures.refused)

@@ -1,21 +1,15 @@
-use Rattle.std.proofs.Common.{◌≡◌, ◌∙◌, ap}
+use Rattle.std.proofs.Common.{arith, rules, ◌≡◌, ◌∙◌, ap}
 use Rattle.cq_route.specs.Plain.{plain_tables}
-use Rattle.cq_route.specs.Tables.{ports_of}
-use Rattle.cq_route.specs.declared.tables.Tables.{Tables}
 use Rattle.cq_run.proofs.Passed.{passing_ends, passing_judged, passing_no_memory}
 use Rattle.cq_run.proofs.Exits.{exit_is}
 use Rattle.cq_run.proofs.judge.pass.Goals as goal
 
 pub pass_on-requires-clause-port : goal.pass_on-requires-clause-port
 unfolding plain_tables
-pass_on-requires-clause-port g c κs within =
-    ap (λ (t : Tables). ports_of t.setup) c.in_ok-tables.ensures.tables
+pass_on-requires-clause-port g c κs within = search (arith, rules)
 
 pub returns-in_err-tables : goal.returns-in_err-tables
-returns-in_err-tables g c =
-    let F = g.F.Files in
-    rw (exit_is _ c.from_residual.ensures.1)
-    (passing_no_memory F.space F.may_fail F.keeps g.met.F.Files.lasts c.args.from c.args.to c.args.files.now c.requires)
+returns-in_err-tables g c = search (arith, rules, exit_is, passing_no_memory)
 
 pub returns-in_err-capture : goal.returns-in_err-capture
 returns-in_err-capture g c =

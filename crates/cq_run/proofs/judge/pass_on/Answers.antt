@@ -1,4 +1,4 @@
-use Rattle.std.proofs.Common.{◌≡◌, ◌∙◌, ◌++◌, ◌∷◌, [], List, length, ap, subst, sym}
+use Rattle.std.proofs.Common.{arith, rules, ◌≡◌, ◌∙◌, ◌++◌, ◌∷◌, [], List, ap, subst}
 use Rattle.cq_pcap.specs.Captured.{Captured}
 use Rattle.cq_run.specs.Plans.{capture_out}
 use Rattle.cq_run.specs.Switching.{IsCrossed}
@@ -9,19 +9,13 @@ use Rattle.cq_run.proofs.judge.pass_on.Goals as goal
 -- the capture stands alone
 alone : (cs before after : List (List Captured)) (packets : List Captured) → cs ≡ after →
     after ≡ before ++ packets ∷ [] → before ≡ [] → cs ≡ packets ∷ []
-alone cs before after packets e pushed none =
-    e ∙ pushed ∙ ap (λ (cs : List (List Captured)). cs ++ packets ∷ []) none
+alone cs before after packets e pushed none = search (arith, rules)
 
 pub switch_by_crossbar-requires-clause-captures : goal.switch_by_crossbar-requires-clause-captures
-switch_by_crossbar-requires-clause-captures g c κs within =
-    let one = alone _ _ _ _ c.of-captures.ensures c.in_ok-put_capture.ensures c.new-captures.ensures.items in
-    ap (λ (cs : List (List Captured)). length cs) (c.as_slice.ensures ∙ one) ∙ sym c.requires.port
+switch_by_crossbar-requires-clause-captures g c κs within = search (arith, rules, alone)
 
 pub returns-in_err-crossed-clause-refused : goal.returns-in_err-crossed-clause-refused
-returns-in_err-crossed-clause-refused g c =
-    let one = alone _ _ _ _ c.of-captures.ensures c.in_ok-put_capture.ensures c.new-captures.ensures.items in
-    rw (exit_is _ c.from_residual-in_err-crossed.ensures.1)
-    (rw (c.as_slice.ensures ∙ one) at c.in_err-crossed.ensures.refused)
+returns-in_err-crossed-clause-refused g c = search (arith, rules, alone, exit_is)
 
 pub returns-clause-passing : goal.returns-clause-passing
 returns-clause-passing g c =
@@ -35,10 +29,8 @@ returns-clause-passing g c =
       records = is.records;
       keeps_up = is.keeps_up;
       departed = is.departed;
-      writes =
-          c.in_ok-build_passed.ensures.writes
-          ∙ ap (λ (run : Switched).
-          (c.args.to, capture_out c.args.tables c.of-captures.result run.sent.items 0) ∷ [])
+      writes = c.in_ok-build_passed.ensures.writes
+          ∙ ap (λ (run : Switched). (c.args.to, capture_out c.args.tables c.of-captures.result run.sent.items 0) ∷ [])
           c.into_switched-switched.ensures
           ∙ ap (λ (cs : List (List Captured)). (c.args.to, capture_out c.args.tables cs sent 0) ∷ []) one;
       text = c.in_ok-build_passed.ensures.text;

@@ -1,15 +1,13 @@
+use Rattle.std.proofs.Common.{arith, rules}
 use Rattle.cq_run.proofs.Exits.{exit_is}
 use Rattle.cq_run.proofs.Parted.{resuming_is}
 use Rattle.cq_run.proofs.judge.resume.Goals as goal
 
 pub build_crossed-requires-clause-run : goal.build_crossed-requires-clause-run
-build_crossed-requires-clause-run g c =
-    (rw (c.as_slice.ensures, c.as_slice-2.ensures) at c.in_ok-crossed.ensures.resumed).sent
+build_crossed-requires-clause-run g c = search (arith, rules)
 
 pub returns-in_err-crossed-clause-refused : goal.returns-in_err-crossed-clause-refused
-returns-in_err-crossed-clause-refused g c =
-    rw (exit_is _ c.from_residual.ensures.1)
-    (rw (c.as_slice.ensures, c.as_slice-2.ensures) at c.in_err-crossed.ensures.refused)
+returns-in_err-crossed-clause-refused g c = search (arith, rules, exit_is)
 
 pub returns-clause-resuming : goal.returns-clause-resuming
 returns-clause-resuming g c =

@@ -1,4 +1,4 @@
-use Rattle.std.proofs.Common.{◌∙◌, ap, arith, length, List}
+use Rattle.std.proofs.Common.{rules, ◌∙◌, ap, arith, length, List}
 use Rattle.cq_route.specs.declared.tables.PortRow.{PortRow}
 use Rattle.cq_run.proofs.CrossingRun.{run_ends, run_judged}
 use Rattle.cq_run.proofs.Exits.{exit_is}
@@ -6,25 +6,18 @@ use Rattle.cq_run.proofs.ReadOn.{captures_end, given_read, tables_end}
 use Rattle.cq_run.proofs.judge.run_ahead.Goals as goal
 
 pub stream_from-requires-clause-few : goal.stream_from-requires-clause-few
-stream_from-requires-clause-few g c κs within =
-    let tables = c.in_ok-tables.ensures.in_range in
-    omega (arith, ap (λ (rows : List PortRow). length rows) c.as_slice-rows.ensures, tables.files, tables.setup.ports)
+stream_from-requires-clause-few g c κs within = search (arith, rules)
 
 pub returns-in_err-tables : goal.returns-in_err-tables
-returns-in_err-tables g c =
-    rw (exit_is _ c.from_residual.ensures.1)
-    (run_ends (tables_end c.read_configuration.ensures.kept c.in_err-tables.ensures.judges))
+returns-in_err-tables g c = search (arith, rules, exit_is, run_ends, tables_end)
 
 pub returns-in_err-captures : goal.returns-in_err-captures
-returns-in_err-captures g c =
-    rw (exit_is _ c.from_residual-in_err-captures.ensures.1)
-    (run_ends (captures_end g.met.F.Files.lasts c.in_ok-tables.ensures.judges c.read_configuration.ensures.kept
+returns-in_err-captures g c = rw (exit_is _ c.from_residual-in_err-captures.ensures.1) (run_ends
+    (captures_end g.met.F.Files.lasts c.in_ok-tables.ensures.judges c.read_configuration.ensures.kept
     (λ r. rw c.as_slice-rows.ensures at (c.in_err-captures.ensures.judges r)) c.stream_from.ensures.kept))
 
 pub cross-requires-clause-captures : goal.cross-requires-clause-captures
-cross-requires-clause-captures g c κs within =
-    c.in_ok-captures.ensures.each ∙ ap (λ (rows : List PortRow). length rows) c.as_slice-rows.ensures
-    ∙ c.in_ok-tables.ensures.in_range.files
+cross-requires-clause-captures g c κs within = search (arith, rules)
 
 pub returns : goal.returns
 returns g c =

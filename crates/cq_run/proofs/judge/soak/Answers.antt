@@ -14,8 +14,7 @@ returns-clause-meets g c =
     let made = soak_captures c.args.seed c.args.ports c.args.slots in
     let P : List (List Captured) → Type 0 = λ cs. IsCrossed c.in_ok-soak.soak.tables cs x in
     let Q : Tables → Type 0 = λ t. IsCrossed t made x in
-    let is : IsCrossed (soak_tables c.args.ports) made x =
-    subst Q c.in_ok-soak.ensures.tables
+    let is : IsCrossed (soak_tables c.args.ports) made x = subst Q c.in_ok-soak.ensures.tables
     (subst P (c.deref.ensures.value ∙ c.in_ok-soak.ensures.captures) c.in_ok-crossed.ensures.crossed) in
     let text = c.in_ok-build_report.ensures.text ∙ ap (report_with x.run.figures) c.deref-2.ensures.value in (
       is.records,

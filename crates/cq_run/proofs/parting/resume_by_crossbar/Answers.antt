@@ -1,14 +1,11 @@
+use Rattle.std.proofs.Common.{arith, rules}
 use Rattle.cq_run.proofs.Crossed.{are_given}
 use Rattle.cq_run.proofs.Stopped.{resume_halt, resume_refused, resumed_by, taken_up}
 use Rattle.cq_run.proofs.Exits.{exit_is}
 use Rattle.cq_run.proofs.parting.resume_by_crossbar.Goals as goal
 
 pub read_state-requires-clause-schedule : goal.read_state-requires-clause-schedule
-read_state-requires-clause-schedule g c = record {
-  captures = c.args.captures.now;
-  ports = c.requires.captures;
-  schedule = c.in_ok-schedule.ensures.schedule;
-}
+read_state-requires-clause-schedule g c = search (arith, rules)
 
 pub resume_fabric-requires-clause-sound : goal.resume_fabric-requires-clause-sound
 resume_fabric-requires-clause-sound g c κs within = taken_up c.in_ok-taken.ensures.read
@@ -17,23 +14,14 @@ pub returns-clause-resumed : goal.returns-clause-resumed
 returns-clause-resumed g c =
     let is = c.in_ok-schedule.ensures.schedule in
     resumed_by c.args.tables.now c.args.captures.now c.args.text.now c.in_ok-taken.taken
-    (rw is at c.in_ok-taken.ensures.read) c.in_ok-resumed.resumed
-    (rw is at c.in_ok-resumed.ensures.run)
+    (rw is at c.in_ok-taken.ensures.read) c.in_ok-resumed.resumed (rw is at c.in_ok-resumed.ensures.run)
     (are_given _ _ c.requires.tables c.requires.captures c.in_ok-schedule.ensures.recorded) c.t0.result
     (rw is at c.t0.ensures)
 
 -- ## A text that is refused, and a tag fault
 
 pub returns-in_err-taken-clause-refused : goal.returns-in_err-taken-clause-refused
-returns-in_err-taken-clause-refused g c =
-    rw (exit_is _ c.from_residual-in_err-taken.ensures.1)
-    (resume_refused c.args.tables.now c.args.captures.now c.args.text.now c.in_err-taken.field-0.0
-    (rw c.in_ok-schedule.ensures.schedule at c.in_err-taken.ensures.cause))
+returns-in_err-taken-clause-refused g c = search (arith, rules, exit_is, resume_refused)
 
 pub returns-in_err-resumed-clause-refused : goal.returns-in_err-resumed-clause-refused
-returns-in_err-resumed-clause-refused g c =
-    let is = c.in_ok-schedule.ensures.schedule in
-    let refused = rw is at c.in_err-resumed.ensures.refused in
-    rw (exit_is _ c.from_residual-in_err-resumed.ensures.1)
-    (resume_halt c.args.tables.now c.args.captures.now c.args.text.now c.in_ok-taken.taken
-    (rw is at c.in_ok-taken.ensures.read) c.in_err-resumed.field-0.0 refused)
+returns-in_err-resumed-clause-refused g c = search (arith, rules, exit_is, resume_halt)

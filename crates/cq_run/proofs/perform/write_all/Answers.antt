@@ -1,5 +1,5 @@
 use Rattle.std.proofs.Common.{◌≡◌, ◌∙◌, ℕ, List, subst, sym}
-use Rattle.cq_space.specs.Failing.{Fails, Writes}
+use Rattle.cq_space.specs.Failing.{Writes, Fails}
 use Rattle.cq_run.proofs.Failed.{fails_after}
 use Rattle.cq_run.proofs.perform.write_all.Goals as goal
 

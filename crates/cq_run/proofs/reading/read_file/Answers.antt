@@ -1,10 +1,9 @@
-use Rattle.std.proofs.Common.{ℕ, List, ap, arith, refl, subst}
-use Rattle.std.specs.Prelude.{◌≡◌, Err, IfSome, Some}
-use Rattle.std.specs.FinMap.{get}
-use Rattle.cq_space.specs.Failing.{Fails, Reads}
+use Rattle.std.proofs.Common.{rules, arith, ℕ, List, ap, refl, subst}
 use Rattle.cq_run.proofs.OneReading.{read_is_no_fault}
 use Rattle.cq_run.proofs.Removed.{capture_is_to_read}
 use Rattle.cq_run.proofs.reading.read_file.Goals as goal
+use Rattle.std.specs.Prelude.{Err}
+use Rattle.cq_space.specs.Failing.{Fails, Reads}
 
 pub returns-in-Err-Fault-clause-halts : goal.returns-in-Err-Fault-clause-halts
 returns-in-Err-Fault-clause-halts g c = λ r.
@@ -16,11 +15,7 @@ returns-in-Err-Fault-clause-halts g c = λ r.
     )
 
 pub returns-in-Ok-clause-file : goal.returns-in-Ok-clause-file
-returns-in-Ok-clause-file g c =
-    let whole = c.in-Ok.ensures.whole in
-    let P : List ℕ → Type 0 =
-    λ n. IfSome (g.F.Files.space c.args.files.now).told (λ m. get m n ≡ Some c.in-Ok.bytes.items) in
-    record { short = omega (arith, whole.short, c.in-Ok.bytes.ok); whole = subst P c.text.ensures whole.whole }
+returns-in-Ok-clause-file g c = search (arith, rules, g.F.Files.space)
 
 pub returns-in-Ok-clause-uncounted : goal.returns-in-Ok-clause-uncounted
 returns-in-Ok-clause-uncounted g c = read_is_no_fault c.in-Ok.bytes _ c.in-Ok.ensures.whole.uncounted

@@ -1,11 +1,10 @@
+use Rattle.std.proofs.Common.{arith, rules}
 use Rattle.cq_run.proofs.ReadOn.{captures_end, given_read, tables_end}
 use Rattle.cq_run.proofs.Exits.{exit_is}
 use Rattle.cq_run.proofs.reading.read_given.Goals as goal
 
 pub returns-in_err-tables-clause-ends : goal.returns-in_err-tables-clause-ends
-returns-in_err-tables-clause-ends g c =
-    rw (exit_is _ c.from_residual.ensures.1)
-    (tables_end c.read_configuration.ensures.kept c.in_err-tables.ensures.judges)
+returns-in_err-tables-clause-ends g c = search (arith, rules, exit_is, tables_end)
 
 pub returns-in_err-captures-clause-ends : goal.returns-in_err-captures-clause-ends
 returns-in_err-captures-clause-ends g c =
@@ -14,7 +13,6 @@ returns-in_err-captures-clause-ends g c =
     c.in_err-captures.ensures.judges c.read_inputs.ensures.kept)
 
 pub returns-clause-given : goal.returns-clause-given
-returns-clause-given g c =
-    given_read g.met.F.Files.lasts c.in_ok-tables.ensures.in_range c.in_ok-tables.ensures.judges
-    c.read_configuration.ensures.kept c.in_ok-captures.ensures.judges c.in_ok-captures.ensures.each
-    c.read_inputs.ensures.kept
+returns-clause-given g c = given_read g.met.F.Files.lasts c.in_ok-tables.ensures.in_range
+    c.in_ok-tables.ensures.judges c.read_configuration.ensures.kept c.in_ok-captures.ensures.judges
+    c.in_ok-captures.ensures.each c.read_inputs.ensures.kept

@@ -1,3 +1,4 @@
+use Rattle.std.proofs.Common.{arith, rules}
 use Rattle.cq_pcap.specs.Faults.{fault_of}
 use Rattle.cq_run.specs.Pace.{InTurn}
 use Rattle.cq_run.proofs.OneReading.{capture_halts, capture_is}
@@ -5,22 +6,14 @@ use Rattle.cq_run.proofs.Exits.{exit_is}
 use Rattle.cq_run.proofs.reading.read_input.Goals as goal
 
 pub returns-in_err-bytes-clause-judges : goal.returns-in_err-bytes-clause-judges
-returns-in_err-bytes-clause-judges g c = λ r.
-    rw (exit_is _ c.from_residual.ensures.1)
-    record {
-      ok = tt;
-      halt = c.in_err-bytes.ensures.halts r;
-      closed = c.read_file.ensures.closed;
-      told = c.read_file.ensures.told;
-      uncounted = tt;
-    }
+returns-in_err-bytes-clause-judges g c =
+    search (arith, rules, exit_is _ c.from_residual.ensures.1, c.in_err-bytes.ensures.halts)
 
 pub returns-in-Ok-clause-judges : goal.returns-in-Ok-clause-judges
 returns-in-Ok-clause-judges g c = λ r.
     let file = c.in_ok-bytes.ensures.file in
     record {
-      ok =
-          capture_is r c.args.name c.args.input c.args.limit c.in_ok-bytes.bytes.items file.short
+      ok = capture_is r c.args.name c.args.input c.args.limit c.in_ok-bytes.bytes.items file.short
           (g.F.Files.space c.args.files.now).told c.in-Ok.capture file.whole c.in-Ok.ensures.spelt;
       halt = tt;
       closed = c.read_file.ensures.closed;

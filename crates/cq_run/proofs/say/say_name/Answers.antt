@@ -1,8 +1,6 @@
-use Rattle.std.proofs.Common.{◌∙◌}
+use Rattle.std.proofs.Common.{arith, rules}
 use Rattle.cq_run.proofs.Put.{puts_as, line_in_pieces}
 use Rattle.cq_run.proofs.say.say_name.Goals as goal
 
 pub returns : goal.returns
-returns g c =
-    puts_as _ _ _ _ _ (line_in_pieces c.args.head.now _ c.args.name.now (c.as_bytes.ensures.value ∙ c.text.ensures))
-    c.put_pieces.ensures
+returns g c = search (arith, rules, puts_as, line_in_pieces)

@@ -1,4 +1,4 @@
-use Rattle.std.proofs.Common.{inl, refl, sym}
+use Rattle.std.proofs.Common.{arith, rules, sym}
 use Rattle.cq_words.specs.declared.command.Command.TheVariants.{Run}
 use Rattle.cq_run.specs.Pace.{Ahead}
 use Rattle.cq_run.specs.World.{taken_by, world}
@@ -8,8 +8,7 @@ use Rattle.cq_run.proofs.stream.stream.Goals as goal
 
 -- want of memory for the name: nothing was read
 pub returns-in_err-name-clause-ends : goal.returns-in_err-name-clause-ends
-returns-in_err-name-clause-ends g c = λ r.
-    rw (exit_is _ c.from_residual.ensures.1) (inl (inl refl), record { told = refl; out = refl })
+returns-in_err-name-clause-ends g c = search (arith, rules, exit_is)
 
 pub returns-in_err-work-clause-ends : goal.returns-in_err-work-clause-ends
 returns-in_err-work-clause-ends g c = λ r.

@@ -38,27 +38,22 @@ returns-in-Some g c =
     let command : Option Command = Some (Run c.in-Some.config.now) in
     let is = c.answer.ensures.status in
     record {
-      answer = rw (e.0, e.1)
-          (λ r. record {
-            end = c.stream-end.result;
-            ends = rw c.in-Some.ensures.runs (c.stream-end.ensures.ends r);
-            status = is;
-            tells = c.answer.ensures.tells;
-          });
+      answer = rw (e.0, e.1) (λ r. record {
+        end = c.stream-end.result;
+        ends = rw c.in-Some.ensures.runs (c.stream-end.ensures.ends r);
+        status = is;
+        tells = c.answer.ensures.tells;
+      });
       causes = rw (e.0, e.1) (λ r.
-          let P : Option Command → Type 0 = λ o.
-          StatusCauses Ahead (judged_or_words r o) (known_by o old.files) old new c.answer.result in
-          subst P (sym c.in-Some.ensures.runs)
-          (causes_at Ahead r _ _ _ command old new c.stream-end.result c.answer.result is
-          (c.stream-end.ensures.ends r)));
-      headline = rw (e.0, c.in-Some.ensures.runs)
-          (λ r wanted run done. emulated_at Ahead r _ _ _ command old new c.stream-end.result (sym is ∙ done)
-          (c.stream-end.ensures.ends r) wanted run);
-      no_command = rw (e.0, c.in-Some.ensures.runs)
-          (words_end Ahead from_front _ _ _ command old new c.stream-end.result c.answer.result is
-          (c.stream-end.ensures.ends from_front));
-      words_only = rw (e.0, c.in-Some.ensures.runs)
-          (only_words Ahead from_front _ _ _ command old new c.stream-end.result c.answer.result is
-          (c.stream-end.ensures.ends from_front));
+          let P : Option Command → Type 0 =
+          λ o. StatusCauses Ahead (judged_or_words r o) (known_by o old.files) old new c.answer.result in
+          subst P (sym c.in-Some.ensures.runs) (causes_at Ahead r _ _ _ command old new c.stream-end.result
+          c.answer.result is (c.stream-end.ensures.ends r)));
+      headline = rw (e.0, c.in-Some.ensures.runs) (λ r wanted run done. emulated_at Ahead r _ _ _ command old new
+          c.stream-end.result (sym is ∙ done) (c.stream-end.ensures.ends r) wanted run);
+      no_command = rw (e.0, c.in-Some.ensures.runs) (words_end Ahead from_front _ _ _ command old new
+          c.stream-end.result c.answer.result is (c.stream-end.ensures.ends from_front));
+      words_only = rw (e.0, c.in-Some.ensures.runs) (only_words Ahead from_front _ _ _ command old new
+          c.stream-end.result c.answer.result is (c.stream-end.ensures.ends from_front));
       closed = c.stream-end.ensures.closed;
     }

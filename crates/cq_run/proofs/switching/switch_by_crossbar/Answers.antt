@@ -1,17 +1,11 @@
-use Rattle.std.proofs.Common.{◌≤◌, ◌∙◌, All, ap, sym, subst}
-use Rattle.cq_base.specs.declared.figures.Figures.{Figures}
+use Rattle.std.proofs.Common.{arith, rules, ◌≤◌, All, sym, subst}
 use Rattle.cq_simulate.proofs.FabricLaws.{once_each_slot}
 use Rattle.cq_run.proofs.Crossed.{is_crossed}
 use Rattle.cq_run.proofs.switching.switch_by_crossbar.Goals as goal
+use Rattle.cq_base.specs.declared.figures.Figures.{Figures}
 
 pub returns-clause-crossed : goal.returns-clause-crossed
-returns-clause-crossed g c =
-    is_crossed c.args.tables.now c.args.captures.now c.in_ok-schedule.schedule.came c.in_ok-run.run'
-    c.t0.result
-    (record { tables = c.requires.tables; each = c.requires.captures; recorded = c.in_ok-schedule.ensures.recorded })
-    (ap (λ s. s.came) c.in_ok-schedule.ensures.schedule)
-    (c.t0.ensures ∙ ap (λ s. s.first_stamp) c.in_ok-schedule.ensures.schedule)
-    c.in_ok-schedule.ensures.traffic c.in_ok-run.ensures.run c.in_ok-run.ensures.as_ideal
+returns-clause-crossed g c = search (arith, rules, is_crossed)
 
 pub returns-clause-reportable : goal.returns-clause-reportable
 returns-clause-reportable g c =

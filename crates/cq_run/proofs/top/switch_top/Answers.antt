@@ -1,4 +1,4 @@
-use Rattle.std.proofs.Common.{map, string_bytes, ◌∙◌, sym}
+use Rattle.std.proofs.Common.{arith, rules, map, string_bytes, ◌∙◌, sym}
 use Rattle.cq_words.specs.Words.{command_for}
 use Rattle.cq_run.specs.Pace.{InTurn}
 use Rattle.cq_run.specs.World.{world}
@@ -7,13 +7,7 @@ use Rattle.cq_run.proofs.OneReading.{from_front}
 use Rattle.cq_run.proofs.top.switch_top.Goals as goal
 
 pub returns-clause-answer : goal.returns-clause-answer
-returns-clause-answer g c =
-    λ r. record {
-      end = c.run-end.result;
-      ends = c.run-end.ensures.ends r;
-      status = c.answer.ensures.status;
-      tells = c.answer.ensures.tells;
-    }
+returns-clause-answer g c = search (arith, rules, c.run-end.ensures.ends)
 
 pub returns-clause-causes : goal.returns-clause-causes
 returns-clause-causes g c = λ r.

@@ -1,12 +1,10 @@
-use Rattle.std.proofs.Common.{◌≡◌, [], rules, arith}
+use Rattle.std.proofs.Common.{rules, arith}
 use Rattle.cq_tables.proofs.Macs.{apart_more, apart_none, apart_stop}
 use Rattle.cq_tables.proofs.Walk.{walked_read}
 use Rattle.cq_tables.proofs.addresses.address_rows.Goals as goal
 
 pub addresses-init : goal.addresses-init
-addresses-init c =
-    let empty : c.new-known.result.keys ≡ [] = search rules in
-    rw (c.new-rows.ensures.items, empty) (apart_none _ _)
+addresses-init c = search (arith, rules, apart_none)
 
 pub returns-in_err-row-clause-refused : goal.returns-in_err-row-clause-refused
 returns-in_err-row-clause-refused c =

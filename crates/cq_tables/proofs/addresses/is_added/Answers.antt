@@ -1,4 +1,4 @@
-use Rattle.std.proofs.Common.{ap, not, ◌∙◌, List, ℕ}
+use Rattle.std.proofs.Common.{arith, rules, ap, not, ◌∙◌}
 use Rattle.cq_tables.proofs.Macs.{has, has-insert, set_has}
 use Rattle.cq_tables.proofs.addresses.is_added.Goals as goal
 
@@ -6,6 +6,4 @@ pub returns-clause-new : goal.returns-clause-new
 returns-clause-new c = c.in_ok-insert.ensures.added ∙ ap not (set_has c.args.mac c.args.known.now.keys)
 
 pub returns-clause-known : goal.returns-clause-known
-returns-clause-known c q =
-    ap (λ (macs : List (List ℕ)). has macs q) c.in_ok-insert.ensures.keys
-    ∙ has-insert c.args.known.now.keys c.args.mac q
+returns-clause-known c q = search (arith, rules, has, has-insert)

@@ -7,6 +7,5 @@ returns-in_err-row-clause-refused c =
     walked_stop c.classes.invariant _ _ (omega arith) c.index-values-index.is (search rules)
 
 pub classes-preserved : goal.classes-preserved
-classes-preserved c =
-    walked_more c.classes.invariant _ (omega arith) c.index-values-index.is c.in_ok-row.ensures.held
+classes-preserved c = walked_more c.classes.invariant _ (omega arith) c.index-values-index.is c.in_ok-row.ensures.held
     c.in_ok-row.ensures.value (c.in_ok-row.ensures.level, c.in_ok-row.ensures.cost) (search rules)

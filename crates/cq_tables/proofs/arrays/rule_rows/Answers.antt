@@ -7,6 +7,5 @@ returns-in_err-row-clause-refused c =
     walked_stop c.rules.invariant _ _ (omega arith) c.index-values-index.is (search rules)
 
 pub rules-preserved : goal.rules-preserved
-rules-preserved c =
-    walked_more c.rules.invariant _ (omega arith) c.index-values-index.is c.in_ok-row.ensures.held
+rules-preserved c = walked_more c.rules.invariant _ (omega arith) c.index-values-index.is c.in_ok-row.ensures.held
     c.in_ok-row.ensures.value (c.in_ok-row.ensures.input, c.in_ok-row.ensures.class) (search rules)

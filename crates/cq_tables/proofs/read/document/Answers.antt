@@ -1,4 +1,4 @@
-use Rattle.std.proofs.Common.{◌≡◌, true, false, sym, ◌∙◌}
+use Rattle.std.proofs.Common.{arith, rules}
 use Rattle.cq_tables.proofs.Text.{document_none, document_some}
 use Rattle.cq_tables.proofs.read.document.Goals as goal
 
@@ -6,9 +6,4 @@ pub returns-in-Ok-clause-held : goal.returns-in-Ok-clause-held
 returns-in-Ok-clause-held c = document_some c.args.bytes.now _ c.in-Ok.ensures.ok.0 c.in-Ok.ensures.ok.1
 
 pub returns-else-is_memory-clause-refused : goal.returns-else-is_memory-clause-refused
-returns-else-is_memory-clause-refused c =
-    let none =
-    document_none c.args.bytes.now (c.in-Err.ensures.refused (λ m. let e : false
-    ≡ true = sym c.if-is_memory.false ∙ c.is_memory.ensures.1 m in
-    cc)) in
-    rw none c.refusal.ensures
+returns-else-is_memory-clause-refused c = search (arith, rules, document_none, c.in-Err.ensures.refused)

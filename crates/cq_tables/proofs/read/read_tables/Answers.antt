@@ -12,8 +12,7 @@ pub returns-in_err-top-clause-refused : goal.returns-in_err-top-clause-refused
 returns-in_err-top-clause-refused c = no_document c.args.bytes.now _ (omega arith) (search rules)
 
 pub returns-in_err-tables-clause-refused : goal.returns-in_err-tables-clause-refused
-returns-in_err-tables-clause-refused c =
-    table_fault c.args.bytes.now (table_view c.in_ok-top.top) _ (omega arith) c.in_ok-top.ensures.held (search rules)
+returns-in_err-tables-clause-refused c = search (arith, rules, table_fault)
 
 pub returns-in_err-files_differ-clause-refused : goal.returns-in_err-files_differ-clause-refused
 returns-in_err-files_differ-clause-refused c =
@@ -24,7 +23,4 @@ returns-in_err-files_differ-clause-refused c =
     c.in_ok-top.ensures.held c.in_ok-tables.ensures.held c.in_ok-tables.ensures.value raw
 
 pub returns-clause-tables : goal.returns-clause-tables
-returns-clause-tables c =
-    read_all c.args.bytes.now (table_view c.in_ok-top.top) c.in_ok-tables.tables (omega arith)
-    c.in_ok-top.ensures.held c.in_ok-tables.ensures.held c.in_ok-tables.ensures.value
-    c.in_ok-files_differ.ensures.held
+returns-clause-tables c = search (arith, rules, read_all)

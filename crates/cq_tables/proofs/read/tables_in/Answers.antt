@@ -1,4 +1,4 @@
-use Rattle.std.proofs.Common.{◌≡◌, ℕ, List, ◌∷◌, ◌++◌, None, Result, IfErr, ap, sym, ◌∙◌, length, rules}
+use Rattle.std.proofs.Common.{arith, ◌≡◌, ℕ, List, ◌∷◌, ◌++◌, None, Result, IfErr, ap, sym, ◌∙◌, length, rules}
 use Rattle.toml.specs.Data.{Members}
 use Rattle.toml.specs.View.{table_view}
 use Rattle.cq_tables.specs.declared.figures.Figures.{Figures}
@@ -14,8 +14,7 @@ use Rattle.cq_tables.proofs.read.tables_in.Goals as goal
 past_files : {A : Type 0} (r : Result A TableRefusal) (keys trace log : Check) (figures cs : List Check) → keys ≡ None →
     first figures ≡ None → trace ≡ None → log ≡ None → IfErr r (Refuses (first cs)) →
     IfErr r (Refuses (first (keys ∷ (figures ++ (trace ∷ log ∷ cs)))))
-past_files r keys trace log figures cs k f t l told =
-    later r keys _ k (later_in r figures _ f (later r trace _ t (later r log cs l told)))
+past_files r keys trace log figures cs k f t l told = search (arith, rules, later, later_in)
 
 -- the checks of the defaults are those of the figures that were read and of what was counted
 defaults_are : (top : Members) (figures : Figures) (ports classes : ℕ) → figures ≡ figures_of top → ports ≡ ports_in top
@@ -24,13 +23,11 @@ defaults_are top figures ports classes read counted classed = rw (read, counted,
 
 pub returns-in_err-only-clause-refused : goal.returns-in_err-only-clause-refused
 returns-in_err-only-clause-refused c =
-    let told = c.in_err-only.ensures {u = tt} in
-    here _ _ _ (search (rules, told.refused))
+    let told = c.in_err-only.ensures {u = tt} in here _ _ _ (search (rules, told.refused))
 
 pub returns-in_err-figures-clause-refused : goal.returns-in_err-figures-clause-refused
-returns-in_err-figures-clause-refused c =
-    later _ _ _ c.in_ok-only.ensures.held (here_in _ (checks_of (table_view c.args.top.now) (figure_keys Top)) _
-    (search rules))
+returns-in_err-figures-clause-refused c = later _ _ _ c.in_ok-only.ensures.held
+    (here_in _ (checks_of (table_view c.args.top.now) (figure_keys Top)) _ (search rules))
 
 pub returns-in_err-trace-clause-refused : goal.returns-in_err-trace-clause-refused
 returns-in_err-trace-clause-refused c =
@@ -56,9 +53,8 @@ returns-in_err-port_rows-clause-refused c =
 pub returns-in_err-address_rows-clause-refused : goal.returns-in_err-address_rows-clause-refused
 returns-in_err-address_rows-clause-refused c =
     past_files _ _ _ _ (checks_of (table_view c.args.top.now) (figure_keys Top)) _ c.in_ok-only.ensures.held
-    c.in_ok-figures.ensures.held c.in_ok-trace.ensures.held c.in_ok-log.ensures.held
-    (later _ _ _ c.in_ok-class_rows.ensures.held (later _ _ _ c.in_ok-port_rows.ensures.held
-    (here _ _ _ (search rules))))
+    c.in_ok-figures.ensures.held c.in_ok-trace.ensures.held c.in_ok-log.ensures.held (later _ _ _
+    c.in_ok-class_rows.ensures.held (later _ _ _ c.in_ok-port_rows.ensures.held (here _ _ _ (search rules))))
 
 pub returns-in_err-rule_rows-clause-refused : goal.returns-in_err-rule_rows-clause-refused
 returns-in_err-rule_rows-clause-refused c =

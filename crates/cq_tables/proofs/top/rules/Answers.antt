@@ -1,11 +1,9 @@
+use Rattle.std.proofs.Common.{arith, rules}
 use Rattle.cq_tables.proofs.Checks.{otherwise_holds, otherwise_later}
 use Rattle.cq_tables.proofs.top.rules.Goals as goal
 
 pub returns-clause-held : goal.returns-clause-held
-returns-clause-held c =
-    let told = c.rule_rows.ensures.held in
-    otherwise_holds c.rule_rows.result _ _ c.in_ok-values.ensures.held
-    (rw (c.in_ok-values.ensures.value, c.requires.ports, c.requires.classes) at told)
+returns-clause-held c = search (arith, rules, otherwise_holds)
 
 pub returns-clause-refused : goal.returns-clause-refused
 returns-clause-refused c =

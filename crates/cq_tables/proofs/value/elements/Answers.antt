@@ -1,9 +1,9 @@
-use Rattle.std.proofs.Common.{◌≡◌, true, false, length, Some, sym}
-use Rattle.toml.specs.Data.{as_array}
+use Rattle.std.proofs.Common.{sym, ◌≡◌, false, length, Some, true}
 use Rattle.toml.specs.View.{view, items_view}
-use Rattle.cq_tables.specs.Value.{is_from}
 use Rattle.cq_tables.proofs.Values.{array_view_in}
 use Rattle.cq_tables.proofs.value.elements.Goals as goal
+use Rattle.toml.specs.Data.{as_array}
+use Rattle.cq_tables.specs.Value.{is_from}
 
 pub returns-in-Some-clause-held : goal.returns-in-Some-clause-held
 returns-in-Some-clause-held c =

@@ -9,8 +9,7 @@ use Rattle.cq_list_trials.proofs.tests.followed.change_each.Goals.{in-Some, in_d
 pub loop-input-preserved : goal.loop-input-preserved
 loop-input-preserved c =
     elim c.match-partner_of.branch [
-      | in-Some w ↦
-          rw w.lists-is (one_changed c.loop-input.invariant w.in-Some.output w.index-lists-input.result
+      | in-Some w ↦ rw w.lists-is (one_changed c.loop-input.invariant w.in-Some.output w.index-lists-input.result
           w.change_one.new.list (sym c.partner_of.ensures.partner ∙ w.in-Some.is) (omega arith)
           w.change_one.ensures.outputs w.change_one.ensures.own w.change_one.ensures.changed)
       | in_default w ↦ rw w.lists-is (past_changed c.loop-input.invariant c.requires.own)

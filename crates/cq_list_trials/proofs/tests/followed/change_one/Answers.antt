@@ -3,12 +3,10 @@ use Rattle.cq_list_trials.proofs.Followed.{own_left, own_come}
 use Rattle.cq_list_trials.proofs.tests.followed.change_one.Goals as goal
 
 pub returns-then-below-eq0-clause-own : goal.returns-then-below-eq0-clause-own
-returns-then-below-eq0-clause-own c =
-    own_left c.args.slot c.args.input c.args.output c.args.list.now c.take.new.self c.requires.own c.take.ensures.cells
-    (omega arith)
+returns-then-below-eq0-clause-own c = own_left c.args.slot c.args.input c.args.output c.args.list.now c.take.new.self
+    c.requires.own c.take.ensures.cells (omega arith)
 
 pub returns-else-below-eq0-clause-own : goal.returns-else-below-eq0-clause-own
-returns-else-below-eq0-clause-own c =
-    own_come c.args.slot c.args.input c.drawn_cushion-cushion.result c.waiting-queued.result c.args.list.now
-    c.insert.new.self c.requires.own c.waiting-queued.ensures.input c.waiting-queued.ensures.slot c.insert.ensures.cells
-    c.insert.ensures.spare
+returns-else-below-eq0-clause-own c = own_come c.args.slot c.args.input c.drawn_cushion-cushion.result
+    c.waiting-queued.result c.args.list.now c.insert.new.self c.requires.own c.waiting-queued.ensures.input
+    c.waiting-queued.ensures.slot c.insert.ensures.cells c.insert.ensures.spare

@@ -4,7 +4,4 @@ use Rattle.cq_list_trials.proofs.tests.followed.renewed_offers_are_those_that_ar
 
 -- the offers that are filled anew are of as many ports
 abbrev pub invariant-loop-change : goal.invariant-loop-change
-invariant-loop-change g l = record {
-  switch : l.switch ≡ l.ports;
-  filled : ports l.filled ≡ l.ports;
-}
+invariant-loop-change g l = record { switch : l.switch ≡ l.ports; filled : ports l.filled ≡ l.ports }

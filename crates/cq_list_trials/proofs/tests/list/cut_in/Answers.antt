@@ -2,5 +2,4 @@ use Rattle.std.proofs.Common.{arith}
 use Rattle.cq_list_trials.proofs.tests.list.cut_in.Goals as goal
 
 pub insert-requires-clause-ahead : goal.insert-requires-clause-ahead
-insert-requires-clause-ahead c =
-    c.least_cushion-least.ensures c.max-had.result (omega arith)
+insert-requires-clause-ahead c = c.least_cushion-least.ensures c.max-had.result (omega arith)

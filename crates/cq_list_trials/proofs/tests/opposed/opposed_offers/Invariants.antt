@@ -4,7 +4,5 @@ use Rattle.cq_list_trials.proofs.tests.opposed.opposed_offers.Given as goal
 
 -- there is a list for each input before this one
 abbrev pub invariant-lists : goal.invariant-lists
-invariant-lists l = record {
-  len : length l.lists.items ≡ l.input;
-  outputs : All (λ list. list.outputs ≡ l.count) l.lists.items;
-}
+invariant-lists l =
+    record { len : length l.lists.items ≡ l.input; outputs : All (λ list. list.outputs ≡ l.count) l.lists.items }

@@ -14,9 +14,8 @@ packets_of-requires g c =
     record {
       tables = c.requires.tables;
       captures = c.requires.captures;
-      whole =
-          subst P (sym c.items.ensures)
-          (left_in_packets t captures c.in_ok-run.run'.sent.items c.requires.tables c.requires.captures
+      whole = subst P (sym c.items.ensures) (left_in_packets t captures c.in_ok-run.run'.sent.items c.requires.tables
+          c.requires.captures
           (ap (λ s. ideal_departures t s.came) (sym c.in_ok-schedule.ensures.schedule) ∙ c.in_ok-run.ensures.sent));
       t0 = search rules;
     }
@@ -27,8 +26,7 @@ packets_of_all-requires g c =
     record {
       tables = c.requires.tables;
       captures = c.requires.captures;
-      whole =
-          left_in_packets t c.args.captures.now c.in_ok-sent.sent.items c.requires.tables c.requires.captures
+      whole = left_in_packets t c.args.captures.now c.in_ok-sent.sent.items c.requires.tables c.requires.captures
           (ap (λ s. ideal_departures t s.came) (sym c.in_ok-schedule.ensures.schedule) ∙ c.in_ok-sent.ensures.sent);
       t0 = search rules;
     }

@@ -11,9 +11,7 @@ slots-init g c = record {
 
 pub step-requires-clause-counts : goal.step-requires-clause-counts
 step-requires-clause-counts g c =
-    let test = c.slots-test.true in
-    let few = c.requires.few in
-    λ _ _. c.slots.invariant.counts 4 (omega arith)
+    let test = c.slots-test.true in let few = c.requires.few in λ _ _. c.slots.invariant.counts 4 (omega arith)
 
 pub slots-preserved : goal.slots-preserved
 slots-preserved g c = record {

@@ -16,11 +16,9 @@ slot-requires-clause-ready g c =
     let note = c.requires.note in
     let few : e.figures.proposals + 2 * (4 * 4) < 2 ^ 64 = omega arith in
     λ _ _. record {
-      list_room =
-          list_room e cells e.next c.args.coming.now.for_ports c.requires.trial.from_inputs c.requires.grown.lists
-          early;
-      buffer_room =
-          buffer_room e cells e.next c.at-places.ensures.arrivals.places four c.requires.trial.to_outputs
+      list_room = list_room e cells e.next c.args.coming.now.for_ports c.requires.trial.from_inputs
+          c.requires.grown.lists early;
+      buffer_room = buffer_room e cells e.next c.at-places.ensures.arrivals.places four c.requires.trial.to_outputs
           c.requires.grown.held early;
       refused = subst (λ (n : ℕ). CanCount n e.refused) (sym four) c.requires.counts;
       sent_room = omega arith;
@@ -37,17 +35,13 @@ returns-clause-next g c =
 
 pub returns-clause-grown : goal.returns-clause-grown
 returns-clause-grown g c =
-    on_both c.slot.result
-    (λ slot_done went. grown_after (map g.R.Rank.machine c.args.engine.now.fixed) c.next.result
-    c.args.coming.now.arrivals c.args.engine.now c.slot.new.self c.args.sent.now c.slot.new.sent c.args.note.now
-    c.slot.new.note slot_done c.args.engine.now.next c.at-places.ensures.arrivals.places c.requires.trial.ports
-    c.requires.grown went)
-    c.slot.ensures.slot c.slot.ensures.went_on
+    on_both c.slot.result (λ slot_done went. grown_after (map g.R.Rank.machine c.args.engine.now.fixed) c.next.result
+    c.args.coming.now.arrivals c.args.engine.now c.slot.new.self c.args.sent.now c.slot.new.sent
+    c.args.note.now c.slot.new.note slot_done c.args.engine.now.next c.at-places.ensures.arrivals.places
+    c.requires.trial.ports c.requires.grown went) c.slot.ensures.slot c.slot.ensures.went_on
 
 pub returns-clause-counts : goal.returns-clause-counts
 returns-clause-counts g c =
-    on_ok_weaker c.slot.result
-    (λ slot_done. counts_after (map g.R.Rank.machine c.args.engine.now.fixed) c.next.result c.args.coming.now.arrivals
-    c.args.engine.now c.slot.new.self c.args.sent.now c.slot.new.sent c.args.note.now c.slot.new.note slot_done
-    c.at-places.ensures.arrivals.places)
-    c.slot.ensures.slot
+    on_ok_weaker c.slot.result (λ slot_done. counts_after (map g.R.Rank.machine c.args.engine.now.fixed) c.next.result
+    c.args.coming.now.arrivals c.args.engine.now c.slot.new.self c.args.sent.now c.slot.new.sent
+    c.args.note.now c.slot.new.note slot_done c.at-places.ensures.arrivals.places) c.slot.ensures.slot

@@ -43,6 +43,5 @@ slots-preserved g c =
       counts = λ n few. c.in_default.ensures.stepped.counts n (c.slots.invariant.counts (n + 64) (omega arith));
       spare = λ j inside.
           let was = c.slots.invariant.spare j inside in
-          let now = c.in_default.ensures.stepped.spare j inside in
-          omega arith;
+          let now = c.in_default.ensures.stepped.spare j inside in omega arith;
     }

@@ -20,16 +20,13 @@ slot-requires g c =
       running = c.requires.running;
       next = c.next.ensures;
       early = omega arith;
-      arrivals =
-          subst (λ (n : ℕ). AreForPorts n (class_count (map g.R.Rank.machine c.args.ideal.now.fixed)) cells) (sym ports)
-          (subst (λ (n : ℕ). AreForPorts 3 n cells) (sym classes) c.args.coming.now.for_ports);
-      spare =
-          λ j inside.
+      arrivals = subst (λ (n : ℕ). AreForPorts n (class_count (map g.R.Rank.machine c.args.ideal.now.fixed)) cells)
+          (sym ports) (subst (λ (n : ℕ). AreForPorts 3 n cells) (sym classes) c.args.coming.now.for_ports);
+      spare = λ j inside.
           let rooms = c.requires.rooms in
           let spare = c.requires.spare j (omega arith) in
           let places = c.at-places.ensures.arrivals.places in
-          let most = count_most j cells in
-          omega arith;
+          let most = count_most j cells in omega arith;
       refused = subst (λ (n : ℕ). CanCount n c.args.ideal.now.refused) (sym ports) c.requires.counts;
       sent = omega arith;
     }
