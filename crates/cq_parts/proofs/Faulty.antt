@@ -39,15 +39,11 @@ whole_fault t captures fault are each is =
     let traffic : IsTraffic p classes came = traffic_is t captures are each in
     let ports : length (machines_of t.setup) ≡ ports_of t.setup =
     length-map t.setup.kinds (λ kind. machine_of kind t.setup.classes) in
-    let stops : LimitedFabricStops IsInputBest t.limits ms 0 (first_slots came is.count) (empty_limited_fabric p ranks)
-    is.records fault =
-    subst (λ (n : ℕ).
-    LimitedFabricStops IsInputBest t.limits ms 0 (first_slots came is.count) (empty_limited_fabric n ranks) is.records
-    fault) ports is.stops in
-    ap departures_limited
-    (limited_whole_fault t.limits ms p ranks came is.count fault
-    (same_limited_stop t.limits ms classes 0 (first_slots came is.count) (empty_limited_fabric p ranks)
-    (empty_limited p ranks) is.records fault
-    (begin t.limits ms classes p ranks (first_slots came is.count) (slots_fit p classes came 0 is.count traffic))
-    (stable_limited_stop ms t.limits 0 (first_slots came is.count) (empty_limited_fabric p ranks) is.records fault
-    stops)))
+    let stops : LimitedFabricStops IsInputBest t.limits ms 0 (first_slots came is.count)
+    (empty_limited_fabric p ranks) is.records fault = subst (λ (n : ℕ). LimitedFabricStops IsInputBest t.limits ms
+    0 (first_slots came is.count) (empty_limited_fabric n ranks) is.records fault) ports is.stops in
+    ap departures_limited (limited_whole_fault t.limits ms p ranks came is.count fault (same_limited_stop t.limits ms
+    classes 0 (first_slots came is.count) (empty_limited_fabric p ranks) (empty_limited p ranks) is.records
+    fault (begin t.limits ms classes p ranks (first_slots came is.count)
+    (slots_fit p classes came 0 is.count traffic)) (stable_limited_stop ms t.limits 0
+    (first_slots came is.count) (empty_limited_fabric p ranks) is.records fault stops)))

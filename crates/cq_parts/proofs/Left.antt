@@ -1,7 +1,6 @@
 -- What `resume` reads of what `part` left: the configuration and the captures that `part` read, and the text that it
 -- wrote.
-use Rattle.std.proofs.lemmas.Grind.{common_steps}
-use Rattle.std.proofs.Common.{◌≡◌, ◌≢◌, ◌∙◌, ℕ, List, [], ◌∷◌, length, ◌≤◌, ◌^◌, Option, None, Some, arith}
+use Rattle.std.proofs.Common.{rules, ◌≡◌, ◌≢◌, ℕ, List, [], ◌∷◌, length, ◌≤◌, ◌^◌, Some, arith}
 use Rattle.std.specs.Prelude.{IfSome, Ok}
 use Rattle.std.specs.FinMap.{get}
 use Rattle.std.specs.List.{AllByRecursion}
@@ -29,21 +28,11 @@ module _ (r : Reader) (config state : List ℕ) where
     same_under : (name : List ℕ) → state ≢ name → get left name ≡ get m name
     same_under name other = untouched ((state, text) ∷ []) m left name written (other, tt)
 
-    same_read : (o : Option (List ℕ)) → IfSome o (λ name. state ≢ name) → IfSome o (λ name. get left name ≡ get m name)
-    same_read None other = tt
-    same_read (Some name) other = same_under name other
-
-    tables_left : tables_in config left ≡ Ok t
-    tables_left = tables_same m left config (same_under config stays) ∙ configured
-
     captures_left : captures_in r t left ≡ Ok captures
-    captures_left = grind (arith, common_steps, captures_same, all_from, same_read)
-
-    stands : get left state ≡ Some text
-    stands = grind (arith, common_steps, get_same)
+    captures_left = search (arith, rules, captures_same, all_from, same_under)
 
     text_left : state_in state left ≡ Ok text
-    text_left = grind (arith, common_steps, text_is, stands)
+    text_left = search (arith, rules, text_is, get_same)
 
     pub aimed : judged r (Resume config state) left ≡ Ok (Resuming t captures text)
-    aimed = grind (arith, common_steps, tables_left, captures_left, text_left)
+    aimed = search (arith, rules, captures_left, text_left, tables_same, same_under)

@@ -93,7 +93,8 @@ module _ (r : Reader) (config : List ℕ) (m : Contents) (t : Tables) (captures 
             record {
               from = part.at;
               read = read_as.read;
-              resumed = (goes part.at read_as.read).resumes it.records it.keeps_up.runs;
+              resumed = (goes part.at read_as.read).resumes it.records
+                  it.keeps_up.runs;
             },
             it.written,
           )
@@ -115,10 +116,8 @@ module _ (r : Reader) (config : List ℕ) (m : Contents) (t : Tables) (captures 
       denied (refused.Configuration code path) is = absurd is
       denied (refused.Capture input fault) is = absurd is
       denied (refused.Audit denial) is = absurd is
-      denied (refused.Tag fault) is =
-          run_refused fault
-          (ap sent_or_tag
-          (whole_fault t captures fault given.tables given.each ((goes is.from is.read).whole_fault fault is.stops)))
+      denied (refused.Tag fault) is = run_refused fault (ap sent_or_tag (whole_fault t captures fault given.tables
+          given.each ((goes is.from is.read).whole_fault fault is.stops)))
       denied (refused.State stopped.Long) is = absurd is
       denied (refused.State (stopped.Line n)) is = absurd (never (of_state.Text n) (λ e. cc) is)
       denied (refused.State stopped.Shape) is = absurd (never of_state.Shape (λ e. cc) is)
@@ -135,6 +134,5 @@ parts_are_the_run r config state slots m left is =
     let read = stops.read in
     let aims = aimed r config state m left stops.tables stops.captures stops.text read.configured read.captured
     written is.configuration_stays is.captures_stay stops.stopped.short in
-    subst (λ (v : Result Aim Refusal). IsOkAnd v (IsAimOfRun r config m)) (sym aims)
-    (aim_of_run r config m stops.tables stops.captures read.configured read.captured stops.given slots is.early
-    stops.text stops.stopped)
+    subst (λ (v : Result Aim Refusal). IsOkAnd v (IsAimOfRun r config m)) (sym aims) (aim_of_run r config m
+    stops.tables stops.captures read.configured read.captured stops.given slots is.early stops.text stops.stopped)

@@ -1,9 +1,9 @@
 -- Every packet leaves a switch of one port without a limit, once and in its place. Each cell leaves in the slot in
 -- which it comes (`OnePort`), so the departures are the arrivals. Of a packet's cells the last one alone is marked as
 -- last, so a packet leaves with it, in its slot. And the arrivals are those of one packet after another.
+use Rattle.std.proofs.Common.{rules, ◌≡◌, ℕ, zero, suc, ◌+◌, ◌-◌, ◌*◌, ◌<◌, ◌≤◌, Bool, List, [], ◌∷◌, length, map, flat_map, Result, Ok, Err, refl, sym, ap, ◌∙◌, subst, arith}
 use Rattle.std.proofs.lemmas.Grind.{common_steps}
-use Rattle.std.proofs.Common.{◌≡◌, ℕ, zero, suc, ◌+◌, ◌-◌, ◌*◌, ◌<◌, ◌≤◌, Bool, true, false, cond, List, [], ◌∷◌, length, map, flat_map, Result, Ok, Err, refl, sym, ap, ◌∙◌, subst, arith}
-use Rattle.std.specs.Prelude.{◌&&◌, ◌==◌, None}
+use Rattle.std.specs.Prelude.{◌==◌, None}
 use Rattle.std.specs.List.{AllByRecursion, AllPairs, filter, range_with_len}
 use Rattle.std.proofs.lemmas.Bool.{eq-eqb, cond-true}
 use Rattle.std.proofs.lemmas.List.{append-nil}
@@ -114,22 +114,10 @@ module _ (t : Tables) (captures : List (List Captured)) where
       let p = packet_at captures a.cell.id.input a.cell.id.packet in
       record { stamp = first_stamp captures + a.slot * t.slot_ns; original = p.original; body = p.body }
 
-  one_out : (b : Bool) (d : Departure) (gone : List Departure) (came : List Arrival) →
-      map (leaving t captures) gone ≡ map with_slot came
-      → map (leaving t captures) (cond b (d ∷ gone) gone) ≡ map with_slot (cond b (as_arrival d ∷ came) came)
-  one_out true d gone came e = ap (λ (l : List OutPacket). leaving t captures d ∷ l) e
-  one_out false d gone came e = e
-
   outs : (sent : List Departure) → AllByRecursion (λ d. d.output ≡ 0) sent →
       map (leaving t captures) (filter (ends_packet_at 0) sent) ≡ map with_slot (filter is_last (map as_arrival sent))
   outs [] all = refl
-  outs (d ∷ sent) all =
-      let own : ends_packet_at 0 d ≡ d.queued.cell.last =
-      ap (λ (b : Bool). b && d.queued.cell.last) (eq-eqb d.output 0 all.0) in
-      ap (λ (b : Bool). map (leaving t captures)
-      (cond b (d ∷ filter (ends_packet_at 0) sent) (filter (ends_packet_at 0) sent))) own
-      ∙ one_out d.queued.cell.last d (filter (ends_packet_at 0) sent) (filter is_last (map as_arrival sent))
-      (outs sent all.1)
+  outs (d ∷ sent) all = search (arith, rules, eq-eqb, as_arrival, outs sent all.1)
 
 -- of a packet's arrivals the last one alone is marked
 last_alone : (f : ℕ → Arrival) (total : ℕ) → ((i : ℕ) → (f i).cell.last ≡ (i + 1 == total)) → (n a : ℕ) →

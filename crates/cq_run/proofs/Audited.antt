@@ -1,6 +1,5 @@
 -- Judging an audit: the configuration, its captures, the trace, the log, and then the ideal run. Where all of them
 -- are there it aims at a yes, which the log and the trace meet or deny.
-use Rattle.std.proofs.lemmas.Grind.{common_steps}
 use Rattle.std.proofs.Common.{arith, rules, ◌≡◌, ◌∙◌, ℕ, List, refl, sym, ap, subst, inl, inr}
 use Rattle.std.specs.Prelude.{Option, IfOk, IfSome, Result, Ok, Err}
 use Rattle.std.specs.List.{AllByRecursion}
@@ -18,7 +17,7 @@ use Rattle.cq_run.specs.declared.refusal.Refusal.{Refusal}
 use Rattle.cq_run.specs.declared.refusal.Refusal.TheVariants.{Audit as Audited}
 use Rattle.cq_run.specs.declared.stop.Halt.{Halt}
 use Rattle.cq_run.specs.Aim.{Aim, Auditing}
-use Rattle.cq_run.specs.AuditEnds.{IsAuditHalted, IsAuditNo, IsAuditPassed}
+use Rattle.cq_run.specs.AuditEnds.{IsAuditHalted, IsAuditPassed}
 use Rattle.cq_run.specs.Given.{EndsGiven, IsGiven}
 use Rattle.cq_run.specs.Headline.{AreRead, IsAudited}
 use Rattle.cq_run.specs.Judged.{IsJudged}
@@ -57,12 +56,9 @@ module _ (given : Given) (trace log : List ℕ) where
   abbrev aimed : Result Aim Refusal
   aimed = ideally_sent given.tables given.captures >>= (λ sent. Ok (aim_of sent))
 
-  denial_settles : (halt : Halt) → IsAuditNo given.tables given.captures trace log halt → Settles aimed (Err halt)
-  denial_settles halt n = grind (arith, common_steps, Settles aimed)
-
   halt_settles : (halt : Halt) → IsAuditHalted given.tables given.captures trace log halt → Settles aimed (Err halt)
   halt_settles halt (inl ends) = search (arith, rules, refused_settles (ideally_sent given.tables given.captures))
-  halt_settles halt (inr n) = denial_settles halt n
+  halt_settles halt (inr n) = search (arith, rules, Settles)
 
   -- what a yes says
   emulates_at : (r : Reader) (config : List ℕ) (plan : Plan) → IsAuditPassed given.tables given.captures trace log →

@@ -1,7 +1,7 @@
 -- Reading ahead. The first input's file was read before those of the later ones, and its capture is looked at only when
 -- these have been read. Reading leaves contents as they are, so the first capture is judged as if nothing had come
 -- between. Where it ends the whole, the later inputs say nothing but what the count of faults may show.
-use Rattle.std.proofs.Common.{◌≡◌, ◌∙◌, ◌≤◌, ℕ, ◌+◌, ◌^◌, List, [], ◌∷◌, ap, arith, inl, length, refl, subst, sym}
+use Rattle.std.proofs.Common.{rules, ◌≡◌, ◌∙◌, ◌≤◌, ℕ, ◌+◌, ◌^◌, List, [], ◌∷◌, ap, arith, inl, length, refl, subst, sym}
 use Rattle.std.specs.Prelude.{Option, None, Some, IfSome, MatchOption, Result, Ok, Err}
 use Rattle.cq_pcap.specs.Captured.{Captured}
 use Rattle.cq_pcap.specs.Record.{Spells}
@@ -64,21 +64,6 @@ module _ (r : Reader) (input limit : ℕ) where
   judged_first R old mid packets read begun b c t l h =
       record { ok = arrived old.told packets read begun b h; halt = tt; closed = c; told = t; uncounted = l }
 
--- it can be finished
-is_begun : (read : Option (List ℕ)) (limit : ℕ) (told : Option Contents) (begun : Option Decoding)
-    → IsBegunFor read limit told begun → IfSome begun IsBegun
-is_begun None limit told None b = tt
-is_begun None limit told (Some d) b = absurd b
-is_begun (Some name) limit told None b = absurd b
-is_begun (Some name) limit told (Some d) b = b.0
-
-is_small : (read : Option (List ℕ)) (limit : ℕ) (told : Option Contents) (begun : Option Decoding)
-    → limit ≤ 2 ^ 28 → IsBegunFor read limit told begun → IfSome begun (λ d. length (source d) ≤ 2 ^ 28)
-is_small None limit told None small b = tt
-is_small None limit told (Some d) small b = absurd b
-is_small (Some name) limit told None small b = absurd b
-is_small (Some name) limit told (Some d) small b = let s : length (source d) ≤ limit = b.1.short in omega arith
-
 -- ## The first input, and those after it
 
 module _ (r : Reader) (limit input : ℕ) (row : PortRow) (rows : List PortRow) where
@@ -114,10 +99,10 @@ module _ (r : Reader) (limit input : ℕ) (row : PortRow) (rows : List PortRow) 
 module _ {row : PortRow} {limit : ℕ} {old mid : Space} {begun : Option Decoding}
     (b : HasBegun row limit old mid begun) where
   pub begun_is : IfSome begun IsBegun
-  begun_is = is_begun row.read limit old.told begun b.decoding
+  begun_is = search (arith, rules)
 
   pub begun_small : limit ≤ 2 ^ 28 → IfSome begun (λ d. length (source d) ≤ 2 ^ 28)
-  begun_small small = is_small row.read limit old.told begun small b.decoding
+  begun_small small = search (arith, rules)
 
 -- what failed since the first file was read failed since this call began, for no fault was counted before
 module _ {S : Type 0} {space : S → Space} {keeps : S → S → Type 0} {row : PortRow} {limit : ℕ} {old mid : S}

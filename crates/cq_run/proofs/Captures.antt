@@ -69,32 +69,12 @@ module _ (t : Tables) (captures : List (List Captured)) (sent : List Departure) 
       file_is = sym (ap (λ (ps : List Packing). (get_or ps 0 place).bytes.items) parts)
           ∙ packed.bytes output place in_places
 
-      pub others_left : rest ≡ drop (output + 1) places
-      others_left = sym (ap (λ (ps : List Packing). drop 1 ps) parts)
-
   -- the first output, and those after it
   captures_of_more : (k : ℕ) (row : PortRow) (rows : List PortRow) →
       captures_out t captures sent k (row ∷ rows) ≡ (row.write, capture_out t captures sent k) ∷ captures_out t
       captures sent (k + 1) rows
   unfolding captures_out
   captures_of_more k row rows = rw add-one refl
-
-  -- what was made of the first k, with what is to be made of the rest
-  pub made_more : (rows : List PortRow) (k : ℕ) (row : PortRow) (d : PortRow) (made more all : List (List ℕ × List ℕ))
-      (name bytes : List ℕ) → k < length rows → row ≡ get_or rows k d → name ≡ row.write →
-      bytes ≡ capture_out t captures sent k → more ≡ made ++ (name, bytes) ∷ []
-      → made ++ captures_out t captures sent k (drop k rows) ≡ all →
-      more ++ captures_out t captures sent (k + 1) (drop (k + 1) rows) ≡ all
-  made_more rows k row d made more all name bytes inside is named built pushed so_far =
-      let rest = captures_out t captures sent (k + 1) (drop (k + 1) rows) in
-      ap (λ (ws : List (List ℕ × List ℕ)). ws ++ rest) pushed
-      ∙ append_assoc made ((name, bytes) ∷ []) rest
-      ∙ ap (λ (n : List ℕ). made ++ (n, bytes) ∷ rest) (named ∙ ap (λ (r : PortRow). r.write) is)
-      ∙ ap (λ (b : List ℕ). made ++ ((get_or rows k d).write, b) ∷ rest) built
-      ∙ ap (λ (ws : List (List ℕ × List ℕ)). made ++ ws)
-      (sym (ap (captures_out t captures sent k) (drop_more rows k d inside)
-      ∙ captures_of_more k (get_or rows k d) (drop (k + 1) rows)))
-      ∙ so_far
 
   -- what is known when the captures of so many outputs were taken
   pub record Building (rows : List PortRow) (k : ℕ) (writes : List (List ℕ × List ℕ)) (left : List Packing) :
@@ -110,16 +90,7 @@ module _ (t : Tables) (captures : List (List Captured)) (sent : List Departure) 
       length rows ≡ ports_of t.setup → row ≡ get_or rows k d → left ≡ place ∷ rest →
       more ≡ writes ++ (row.write, place.bytes.items) ∷ [] → Building rows (k + 1) more rest
   one_built rows k row d writes more left rest place so_far inside files is first pushed =
-      let there : k < ports_of t.setup = omega arith in
-      let taken = sym so_far.others ∙ first in
-      record {
-        places = so_far.places;
-        packed = so_far.packed;
-        others = others_left so_far.places so_far.packed k there place rest taken;
-        made =
-            made_more rows k row d writes more (captures_out t captures sent 0 rows) row.write place.bytes.items inside
-            is refl (file_is so_far.places so_far.packed k there place rest taken) pushed so_far.made;
-      }
+      search (arith, rules, file_is, append_assoc, drop_more, captures_of_more, parts)
 
   -- at the end all are made
   pub made_all : (rows : List PortRow) (k : ℕ) (made all : List (List ℕ × List ℕ)) → length rows ≤ k →

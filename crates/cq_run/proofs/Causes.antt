@@ -3,7 +3,7 @@
 -- is none, one with the status of read faults comes only where contents are told, and words are refused only where
 -- they are no command.
 use Rattle.std.proofs.lemmas.Grind.{common_steps}
-use Rattle.std.proofs.Common.{arith, rules, ◌≡◌, ◌≢◌, ◌⊎◌, ℕ, IsTrue, List, [], ◌∷◌, refl, ap, sym, subst, ◌∙◌, inl, inr}
+use Rattle.std.proofs.Common.{arith, rules, ◌≡◌, ◌≢◌, ◌⊎◌, ℕ, IsTrue, List, [], ◌∷◌, refl, ap, sym, ◌∙◌, inl, inr}
 use Rattle.std.specs.Prelude.{Option, None, Some, IfSome, MatchOption, Result, Ok, Err, IsOkAnd}
 use Rattle.cq_space.specs.Causes.{Rose}
 use Rattle.cq_space.specs.Space.{Contents, Space}
@@ -18,16 +18,15 @@ use Rattle.cq_run.specs.declared.stop.Stop.{Stop}
 use Rattle.cq_run.specs.declared.stop.Stop.TheVariants.{Halted, Cut}
 use Rattle.cq_run.specs.Headline.{Emulates}
 use Rattle.cq_run.specs.Plan.{Plan}
-use Rattle.cq_run.specs.Aim.{Aim, Auditing, Crossing, Denies, Exactly, Meets, Parting, Reporting, Resuming}
-use Rattle.cq_run.specs.Pace.{Pace, Uncounted, AnyName}
+use Rattle.cq_run.specs.Aim.{Aim, Denies, Meets}
+use Rattle.cq_run.specs.Pace.{Pace, Uncounted}
 use Rattle.cq_run.specs.Planning.{CommandHalts, IsDenial, known_to, known_by}
 use Rattle.cq_run.specs.Reader.{Reader}
 use Rattle.cq_run.specs.Refusals.{meaning_of}
-use Rattle.cq_run.specs.Judging.{IsRefused}
 use Rattle.cq_run.specs.Verdict.{judged, judged_or_words, MayRead}
 use Rattle.cq_run.specs.World.{World, IsUntouched}
 use Rattle.cq_run.specs.Writing.{IsDone, IsCutAtFile}
-use Rattle.cq_run.specs.Ending.{CallsFor, CommandEnds, EndsFor, WordsEnd, status_of}
+use Rattle.cq_run.specs.Ending.{CallsFor, CommandEnds, EndsFor, status_of}
 use Rattle.cq_run.specs.StatusCauses.{StatusCauses}
 use Rattle.cq_run.proofs.Never.{never_words}
 use Rattle.cq_run.proofs.Counted.{counts_same, rose_from}
@@ -44,9 +43,6 @@ not_done_not_cut (Capture input fault) = (λ e. cc, λ e. cc)
 not_done_not_cut (Tag fault) = (λ e. cc, λ e. cc)
 not_done_not_cut (Audit denial) = (λ e. cc, λ e. cc)
 not_done_not_cut (State fault) = (λ e. cc, λ e. cc)
-
-not_done : (r : Refusal) → (meaning_of r).status ≢ status.Done
-not_done r = (not_done_not_cut r).0
 
 -- only the refusal of an input's capture is told before a fault of a name that is read behind it
 outruns_is : (r : Refusal) → IsTrue (meaning_of r).outruns → (meaning_of r).status ≡ status.Capture
@@ -69,21 +65,6 @@ cut_rose [] name old new h = absurd h
 cut_rose (w ∷ ws) name old new (inl h) = h.1.cause
 cut_rose (w ∷ ws) name old new (inr h) = omega (arith, rose_from, cut_rose ws name h.0 new h.2)
 
--- a fact of what is aimed at where one plan meets it
-aimed : (v : Result Aim Refusal) (P Q : Aim → Type 0) → ((aim : Aim) → P aim → Q aim) → IsOkAnd v P → IsOkAnd v Q
-aimed (Ok aim) P Q f h = f aim h
-aimed (Err e) P Q f h = absurd h
-
--- a verdict calls for the status of its refusal, and of what denies its aim
-refused_status : (v : Result Aim Refusal) (r : Refusal) → v ≡ Err r → CallsFor v (meaning_of r).status
-refused_status v r e =
-    let P : Result Aim Refusal → Type 0 = λ x. CallsFor x (meaning_of r).status in subst P (sym e) refl
-
-denied_status : (v : Result Aim Refusal) (r : Refusal) → IsOkAnd v (λ aim. Denies aim r) →
-    CallsFor v (meaning_of r).status
-denied_status (Ok aim) r h = inr (r, h, refl)
-denied_status (Err e) r h = absurd h
-
 -- want of memory says nothing of the verdict
 memory_causes : (p : Pace) (v : Contents → Result Aim Refusal) (known : Option Contents) (old new : World) →
     Uncounted p (Outruns status.NoMemory) old.files.faults new.files.faults → IsUntouched old new →
@@ -104,73 +85,41 @@ refusal_causes : (p : Pace) (v : Contents → Result Aim Refusal) (known : Optio
     (old new : World) → MatchOption known (IsTrue (meaning_of r).untold) (λ m. v m ≡ Err r)
     → Uncounted p (Outruns (meaning_of r).status) old.files.faults new.files.faults → IsUntouched old new →
     StatusCauses p v known old new (meaning_of r).status
-refusal_causes p v known r old new h c u = search (arith, rules, halted_causes p v known r old new, refused_status)
+refusal_causes p v known r old new h c u = search (arith, rules, halted_causes)
 
 -- a denial denies it
 denial_causes : (p : Pace) (v : Contents → Result Aim Refusal) (known : Option Contents) (r : Refusal)
     (old new : World) → IsDenial v known r
     → Uncounted p (Outruns (meaning_of r).status) old.files.faults new.files.faults → IsUntouched old new →
     StatusCauses p v known old new (meaning_of r).status
-denial_causes p v known r old new h c u = search (arith, rules, halted_causes p v known r old new, denied_status)
+denial_causes p v known r old new h c u = search (arith, rules, halted_causes)
 
 -- a plan that was cut short is aimed at, and the cut was counted
 cut_causes : (p : Pace) (v : Contents → Result Aim Refusal) (known : Option Contents) (plan : Plan) (old new : World)
     → IfSome known (λ m. IsOkAnd (v m) (λ aim. Meets aim plan)) →
     Rose old.files.faults new.files.faults ⊎ Rose old.out.faults new.out.faults →
     StatusCauses p v known old new status.WriteFault
-cut_causes p v known plan old new by rose = grind (arith, common_steps, told_map known, aimed)
-
--- each way to halt, by whether judging ended it or an aim was denied
-module _ (p : Pace) (a : Reader) (R : List ℕ → Type 0) (command : Command) (old new : World) where
-  abbrev Asked : List ℕ → Type 0
-  Asked name = MayRead command name × R name
-
-  refused_at : (r : Refusal) → IsUntouched old new
-      → CommandHalts p (judged a command) Asked (known_to command old.files) (known_to command new.files) (Refused r)
-      → StatusCauses p (judged a command) (known_to command old.files).told old new (meaning_of r).status
-  refused_at r u (inl h) =
-      let U : Type 0 = IsTrue (meaning_of r).outruns × AnyName Asked in
-      search (arith, rules, refusal_causes, counts_known, outruns_is)
-  refused_at r u (inr h) = denial_causes p (judged a command) (known_to command old.files).told r old new h.0
-      (counts_same p (Outruns (meaning_of r).status) old.files.faults new.files.faults
-      (same_faults command old.files new.files h.1)) u
-
-  unread_rose : (name : List ℕ) → CommandHalts p (judged a command) Asked (known_to command old.files)
-      (known_to command new.files) (Unread name)
-      → Rose old.files.faults new.files.faults
-  unread_rose name (inl h) = rose_known command old.files new.files h.0
-  unread_rose name (inr h) = absurd h
-
-  memory_counts : CommandHalts p (judged a command) Asked (known_to command old.files) (known_to command new.files)
-      NoMemory
-      → Uncounted p (Outruns status.NoMemory) old.files.faults new.files.faults
-  memory_counts (inl h) =
-      counts_known p (AnyName Asked) (Outruns status.NoMemory) command old.files new.files (λ u. inr refl) h
-  memory_counts (inr h) = absurd h
+cut_causes p v known plan old new by rose = search (arith, rules, told_map)
 
 command_causes : (p : Pace) (a : Reader) (R W : List ℕ → Type 0) (T : Type 0) (command : Command) (old new : World)
     (end : Result (Unit {0}) Stop) → CommandEnds p a R W T command old new end →
     StatusCauses p (judged a command) (known_to command old.files).told old new (status_of end)
 command_causes p a R W T command old new (Ok x) h = grind (arith, common_steps)
-command_causes p a R W T command old new (Err (Halted (Refused r))) h = refused_at p a R command old new r h.1 h.0
-command_causes p a R W T command old new (Err (Halted (Unread name))) h =
-    grind (arith, common_steps, unread_rose p a R command old new name h.0)
-command_causes p a R W T command old new (Err (Halted NoMemory)) h = memory_causes p (judged a command)
-    (known_to command old.files).told old new (memory_counts p a R command old new h.0) h.1
+command_causes p a R W T command old new (Err (Halted (Refused r))) h =
+    search (arith, rules, refusal_causes, counts_known, outruns_is, denial_causes, counts_same, same_faults)
+command_causes p a R W T command old new (Err (Halted (Unread name))) h = search (arith, rules, rose_known)
+command_causes p a R W T command old new (Err (Halted NoMemory)) h =
+    search (arith, rules, memory_causes, counts_known)
 command_causes p a R W T command old new (Err (Cut (File name))) h =
     cut_causes p (judged a command) (known_to command old.files).told h.0 old new h.1.verdict
     (inl (cut_rose h.0.writes name old.files new.files h.2.0))
 command_causes p a R W T command old new (Err (Cut Output)) h =
     cut_causes p (judged a command) (known_to command old.files).told h.0 old new h.1.verdict (inr h.2.0.cause)
 
-words_causes : (p : Pace) (a : Reader) (old new : World) (end : Result (Unit {0}) Stop) → WordsEnd old new end →
-    StatusCauses p (judged_or_words a None) old.files.told old new (status_of end)
-words_causes p a old new end (e, h) = grind (arith, common_steps)
-
 causes : (p : Pace) (a : Reader) (R W : List ℕ → Type 0) (T : Type 0) (command : Option Command) (old new : World)
     (end : Result (Unit {0}) Stop) → EndsFor p a R W T command old new end →
     StatusCauses p (judged_or_words a command) (known_by command old.files) old new (status_of end)
-causes p a R W T None old new end h = words_causes p a old new end h
+causes p a R W T None old new end h = search (arith, rules)
 causes p a R W T (Some c) old new end h = command_causes p a R W T c old new end h
 
 -- the top call's status is that of its end
@@ -191,34 +140,15 @@ words_is (Tag fault) e = cc
 words_is (Audit denial) e = cc
 words_is (State fault) e = cc
 
-not_refused : (a : Reader) (command : Command) (told : Option Contents) → IsRefused (judged a command) told Words → ⊥
-not_refused a command None h = cc
-not_refused a command (Some m) h = never_words a command m h
-
--- and no aim is denied so
-never_denied : (aim : Aim) → Denies aim Words → ⊥
-never_denied (Exactly plan) h = h
-never_denied (Crossing tables captures sent) h = h
-never_denied (Reporting tables captures) h = h
-never_denied (Auditing tables captures sent trace log) h = h
-never_denied (Parting tables captures slots name) h = h
-never_denied (Resuming tables captures text) h = h
-
 never_denied_at : (v : Result Aim Refusal) → IsOkAnd v (λ aim. Denies aim Words) → ⊥
-never_denied_at (Ok aim) h = never_denied aim h
+never_denied_at (Ok aim) h = search (arith, rules)
 never_denied_at (Err e) h = h
-
-not_denied : (a : Reader) (command : Command) (told : Option Contents) → IsDenial (judged a command) told Words → ⊥
-not_denied a command None h = cc
-not_denied a command (Some m) h = never_denied_at (judged a command m) h
 
 not_words_at : (p : Pace) (a : Reader) (R : List ℕ → Type 0) (command : Command) (old new : World) (r : Refusal) →
     r ≡ Words
     → CommandHalts p (judged a command) R (known_to command old.files) (known_to command new.files) (Refused r) → ⊥
-not_words_at p a R command old new r is (inl h) =
-    grind (arith, common_steps, not_refused a command (known_to command old.files).told)
-not_words_at p a R command old new r is (inr h) =
-    grind (arith, common_steps, not_denied a command (known_to command old.files).told)
+not_words_at p a R command old new r is (inl h) = search (arith, rules, never_words)
+not_words_at p a R command old new r is (inr h) = search (arith, rules, never_denied_at)
 
 not_words : (p : Pace) (a : Reader) (R W : List ℕ → Type 0) (T : Type 0) (command : Command) (old new : World)
     (end : Result (Unit {0}) Stop) → CommandEnds p a R W T command old new end → status_of end ≡ status.Words → ⊥
@@ -244,21 +174,13 @@ only_words p a R W T (Some c) old new end answer e h w = absurd (not_words p a R
 
 -- ## The headline
 
--- a command that is done emulates
-emulated : (p : Pace) (a : Reader) (R W : List ℕ → Type 0) (T : Type 0) (command : Option Command) (old new : World)
-    (x : Unit {0})
-    → EndsFor p a R W T command old new (Ok x) → (c : Command) → command ≡ Some c
-    → IfSome old.files.told (λ m. (plan : Plan) × Emulates a c m plan × IsDone plan old new)
-emulated p a R W T None old new x h c e = absurd (let P : ⊥ = cc e in P)
-emulated p a R W T (Some d) old new x h c e = let same : d ≡ c = cc e in search (arith, rules, told_map)
-
 -- the same of an end that is known by its status
 pub emulated_at : (p : Pace) (a : Reader) (R W : List ℕ → Type 0) (T : Type 0) (command : Option Command)
     (old new : World) (end : Result (Unit {0}) Stop)
     → status_of end ≡ status.Done → EndsFor p a R W T command old new end → (c : Command) → command ≡ Some c
     → IfSome old.files.told (λ m. (plan : Plan) × Emulates a c m plan × IsDone plan old new)
-emulated_at p a R W T command old new (Ok x) done h c e = emulated p a R W T command old new x h c e
-emulated_at p a R W T command old new (Err (Halted (Refused r))) done h c e = absurd (not_done r done)
+emulated_at p a R W T command old new (Ok x) done h c e = search (arith, rules, told_map)
+emulated_at p a R W T command old new (Err (Halted (Refused r))) done h c e = search (arith, rules, not_done_not_cut)
 emulated_at p a R W T command old new (Err (Halted (Unread name))) done h c e = absurd (let P : ⊥ = cc done in P)
 emulated_at p a R W T command old new (Err (Halted NoMemory)) done h c e = absurd (let P : ⊥ = cc done in P)
 emulated_at p a R W T command old new (Err (Cut at)) done h c e = absurd (let P : ⊥ = cc done in P)

@@ -12,16 +12,10 @@ use Rattle.cq_run.specs.declared.stop.Halt.{Halt}
 use Rattle.cq_run.specs.declared.stop.Halt.TheVariants.{Refused, Unread, NoMemory}
 use Rattle.cq_run.specs.Refusals.{meaning_of}
 use Rattle.cq_run.specs.Verdict.{◌>>=◌}
-use Rattle.cq_run.specs.Judging.{IsRefused, IsToRead, Halts, IsHaltOf, Judges}
-use Rattle.cq_run.specs.Pace.{AnyName, InTurn, Pace}
+use Rattle.cq_run.specs.Judging.{IsToRead, Halts, IsHaltOf, Judges}
+use Rattle.cq_run.specs.Pace.{InTurn, Pace}
 use Rattle.cq_run.proofs.Counted.{counts_same, halts_at, name_after, outrun_after}
 use Rattle.cq_run.proofs.Stays.{Stays}
-
-pub halts_computed : {A : Type 0} (p : Pace) (r : Result A Refusal) (R : List ℕ → Type 0) (old new : Space)
-    (halt : Halt) → new.faults ≡ old.faults → IsHaltOf r halt → Halts p (λ (m : Contents). r) R old new halt
-halts_computed p r R old new (Refused refusal) l h = grind (arith, common_steps)
-halts_computed p r R old new (Unread name) l h = absurd h
-halts_computed p r R old new NoMemory l h = counts_same p (AnyName R) old.faults new.faults l
 
 -- ## The rest of a judgement
 
@@ -48,19 +42,11 @@ goes_on {A} {B} whole j f (Some m) x s e h = record {
 }
 
 module _ {B : Type 0} (whole rest : Contents → Result B Refusal) where
-  halts_back : (p : Pace) (R S : List ℕ → Type 0) (old mid new : Space) (halt : Halt) →
-      ((name : List ℕ) → R name → S name) → IfSome old.told (ComesTo whole rest) → mid.told ≡ old.told →
-      mid.faults ≡ old.faults → Halts p rest R mid new halt → Halts p whole S old new halt
-  halts_back p R S old mid new (Refused refusal) i c t l h = grind (arith, common_steps)
-  halts_back p R S old mid new (Unread name) i c t l h = grind (arith, common_steps)
-  halts_back p R S old mid new NoMemory i c t l h = name_after p R S old.faults mid.faults new.faults i l h
-
   -- what ends the rest ends the whole
   pub judges_back : {p : Pace} (R S : List ℕ → Type 0) (old mid new : Space) (halt : Halt) →
       ((name : List ℕ) → R name → S name) → IfSome old.told (ComesTo whole rest) → mid.told ≡ old.told →
       mid.faults ≡ old.faults → Judges p rest R mid new (Err halt) → Judges p whole S old new (Err halt)
-  judges_back {p} R S old mid new halt i c t l h =
-      grind (arith, common_steps, halts_back p R S old mid new halt i c t l h.halt)
+  judges_back {p} R S old mid new halt i c t l h = search (arith, rules, name_after)
 
 -- ## One after the other
 
@@ -69,25 +55,10 @@ module _ {A B : Type 0} (j : Contents → Result A Refusal) (f : A → Contents 
   abbrev both : Contents → Result B Refusal
   both m = j m >>= (λ x. f x m)
 
-  read_then : (told : Option Contents) (name : List ℕ) → IsToRead j told name → IsToRead both told name
-  read_then None name h = tt
-  read_then (Some m) name h = ap (λ (r : Result A Refusal). r >>= (λ (x : A). f x (remove m name))) h
-
-  halts_then : (p : Pace) (R S : List ℕ → Type 0) (old new : Space) (halt : Halt) →
-      ((name : List ℕ) → R name → S name) → Halts p j R old new halt → Halts p both S old new halt
-  halts_then p R S old new (Refused refusal) i h = grind (arith, common_steps)
-  halts_then p R S old new (Unread name) i h = (h.0, i name h.1, read_then old.told name h.2)
-  halts_then p R S old new NoMemory i h = name_after p R S old.faults old.faults new.faults i refl h
-
   -- the first ends both
   pub judges_then : {p : Pace} (R S : List ℕ → Type 0) (old new : Space) (halt : Halt) →
       ((name : List ℕ) → R name → S name) → Judges p j R old new (Err halt) → Judges p both S old new (Err halt)
-  judges_then {p} R S old new halt i h = grind (arith, common_steps, halts_then p R S old new halt i h.halt)
-
-  ok_after : (told : Option Contents) (x : A) (y : B) → IfSome told (λ m. j m ≡ Ok x) →
-      IfSome told (λ m. f x m ≡ Ok y) → IfSome told (λ m. both m ≡ Ok y)
-  ok_after None x y e h = tt
-  ok_after (Some m) x y e h = ap (λ (r : Result A Refusal). r >>= (λ (z : A). f z m)) e ∙ h
+  judges_then {p} R S old new halt i h = search (arith, rules, name_after)
 
   -- the second ends both
   pub judges_after : {q p : Pace} (Q R S : List ℕ → Type 0) (old mid new : Space) (x : A) (halt : Halt) → Stays j →
@@ -99,7 +70,7 @@ module _ {A B : Type 0} (j : Contents → Result A Refusal) (f : A → Contents 
   -- both have an answer
   pub judges_both : {q p : Pace} (Q R S : List ℕ → Type 0) (old mid new : Space) (x : A) (y : B) →
       Judges q j Q old mid (Ok x) → Judges p (f x) R mid new (Ok y) → Judges p both S old new (Ok y)
-  judges_both Q R S old mid new x y g h = grind (arith, common_steps, ok_after old.told x y g.ok)
+  judges_both Q R S old mid new x y g h = search (arith, rules)
 
 -- more may be said of names that are unread
 pub halts_more : {A : Type 0} (p : Pace) (j : Contents → Result A Refusal) (R S : List ℕ → Type 0) (old new : Space)
@@ -131,42 +102,23 @@ judges_any j R S old new x h =
 -- a computation that ends without an answer, where nothing was read
 pub judges_computed_err : {A : Type 0} (p : Pace) (r : Result A Refusal) (R : List ℕ → Type 0) (at : Space)
     (halt : Halt) → at.mode ≡ Closed → IsHaltOf r halt → Judges p (λ (m : Contents). r) R at at (Err halt)
-judges_computed_err p r R at halt c h = grind (arith, common_steps, halts_computed p r R at at halt refl h)
-
-computed_told : {A : Type 0} (told : Option Contents) (r : Result A Refusal) (x : A) → r ≡ Ok x →
-    IfSome told (λ (m : Contents). r ≡ Ok x)
-computed_told None r x e = tt
-computed_told (Some m) r x e = e
+judges_computed_err p r R at halt c h = search (arith, rules, counts_same)
 
 -- one that has an answer
 pub judges_computed : {A : Type 0} {p : Pace} (r : Result A Refusal) (R : List ℕ → Type 0) (at : Space) (x : A) →
     at.mode ≡ Closed → r ≡ Ok x → Judges p (λ (m : Contents). r) R at at (Ok x)
-judges_computed r R at x c e = grind (arith, common_steps, computed_told at.told r x e)
+judges_computed r R at x c e = search (arith, rules)
 
 -- judgements that come to the same of all contents
 module _ {A : Type 0} (j k : Contents → Result A Refusal) (same : (m : Contents) → j m ≡ k m) where
-  refused_as : (told : Option Contents) (refusal : Refusal) → IsRefused j told refusal → IsRefused k told refusal
-  refused_as None refusal h = h
-  refused_as (Some m) refusal h = sym (same m) ∙ h
-
   read_as : (told : Option Contents) (name : List ℕ) → IsToRead j told name → IsToRead k told name
   read_as None name h = tt
   read_as (Some m) name h = sym (same (remove m name)) ∙ h
 
-  ok_as : (told : Option Contents) (x : A) → IfSome told (λ m. j m ≡ Ok x) → IfSome told (λ m. k m ≡ Ok x)
-  ok_as None x h = tt
-  ok_as (Some m) x h = sym (same m) ∙ h
-
-  halts_as : (p : Pace) (R : List ℕ → Type 0) (old new : Space) (halt : Halt) → Halts p j R old new halt →
-      Halts p k R old new halt
-  halts_as p R old new (Refused refusal) h = (refused_as old.told refusal h.0, h.1)
-  halts_as p R old new (Unread name) h = (h.0, h.1, read_as old.told name h.2)
-  halts_as p R old new NoMemory h = h
-
   pub judges_as_ok : {p : Pace} (R : List ℕ → Type 0) (old new : Space) (x : A) → Judges p j R old new (Ok x) →
       Judges p k R old new (Ok x)
-  judges_as_ok R old new x h = grind (arith, common_steps, ok_as old.told x h.ok)
+  judges_as_ok R old new x h = search (arith, rules)
 
   pub judges_as_err : {p : Pace} (R : List ℕ → Type 0) (old new : Space) (halt : Halt) →
       Judges p j R old new (Err halt) → Judges p k R old new (Err halt)
-  judges_as_err {p} R old new halt h = grind (arith, common_steps, halts_as p R old new halt h.halt)
+  judges_as_err {p} R old new halt h = search (arith, rules, read_as)

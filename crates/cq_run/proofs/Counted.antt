@@ -1,6 +1,6 @@
 -- The count of faults where an answer tells of none, at either pace.
 use Rattle.std.proofs.lemmas.Grind.{common_steps}
-use Rattle.std.proofs.Common.{rules, ◌≡◌, ◌∙◌, ℕ, IsTrue, List, refl, inl, inr, arith}
+use Rattle.std.proofs.Common.{rules, ◌≡◌, ◌∙◌, ℕ, List, inl, inr, arith}
 use Rattle.std.specs.Prelude.{Result, Ok, Err}
 use Rattle.cq_space.specs.Causes.{Rose}
 use Rattle.cq_space.specs.Space.{Contents, Space}
@@ -9,7 +9,6 @@ use Rattle.cq_run.specs.declared.stop.Halt.{Halt}
 use Rattle.cq_run.specs.declared.stop.Halt.TheVariants.{Refused, Unread, NoMemory}
 use Rattle.cq_run.specs.Judging.{Halts, Judges}
 use Rattle.cq_run.specs.Pace.{Pace, InTurn, Ahead, Uncounted, AnyName}
-use Rattle.cq_run.specs.Refusals.{meaning_of}
 
 -- a fault that was counted since some moment was counted since the start
 pub rose_from : (old mid new : ℕ) → mid ≡ old → Rose mid new → Rose old new
@@ -51,17 +50,8 @@ pub halts_at : {A : Type 0} (p : Pace) (j : Contents → Result A Refusal) (R : 
 halts_at InTurn j R old new halt h = h
 halts_at Ahead j R old new halt h = halts_ahead j R old new halt h
 
--- whatever ended reading ahead, its count is as before, or some name was unread
-pub counted_ahead : {A : Type 0} (j : Contents → Result A Refusal) (R : List ℕ → Type 0) (old new : Space) (halt : Halt)
-    → Halts Ahead j R old new halt → Uncounted Ahead (AnyName R) old.faults new.faults
-counted_ahead j R old new (Refused refusal) h =
-    let U : Type 0 = IsTrue (meaning_of refusal).outruns × AnyName R in
-    counts_after Ahead U (AnyName R) old.faults old.faults new.faults (λ u. u.1) refl h.1
-counted_ahead j R old new (Unread name) h = inr (h.0, record { name = name; is = h.1 })
-counted_ahead j R old new NoMemory h = h
-
 -- and where nothing did
 pub counts_of : {A : Type 0} (j : Contents → Result A Refusal) (R : List ℕ → Type 0) (old new : Space)
     (result : Result A Halt) → Judges Ahead j R old new result → Uncounted Ahead (AnyName R) old.faults new.faults
 counts_of j R old new (Ok x) h = inl h.uncounted
-counts_of j R old new (Err halt) h = counted_ahead j R old new halt h.halt
+counts_of j R old new (Err halt) h = search (arith, rules, counts_after)

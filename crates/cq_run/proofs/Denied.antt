@@ -1,7 +1,7 @@
 -- What an audit comes to once the ideal run is there: the log is judged, and then the trace is compared.
-use Rattle.std.proofs.Common.{rules, arith, ◌≡◌, ◌∙◌, ℕ, List, refl, sym, ap, subst, inl, inr}
+use Rattle.std.proofs.Common.{rules, arith, ◌≡◌, ◌∙◌, ℕ, List, sym, ap, subst}
 use Rattle.std.proofs.lemmas.Grind.{common_steps}
-use Rattle.std.specs.Prelude.{Result, Ok, Err, IsOk}
+use Rattle.std.specs.Prelude.{Ok, IsOk}
 use Rattle.cq_audit.specs.Audit.{IsNo, IsYes}
 use Rattle.cq_audit.specs.Trace.{DiffersFirst}
 use Rattle.cq_audit.specs.declared.refusal.AuditRefusal.{AuditRefusal}
@@ -9,11 +9,10 @@ use Rattle.cq_audit.specs.declared.refusal.AuditRefusal.TheVariants as of_log
 use Rattle.cq_base.specs.Arriving.{Arrival}
 use Rattle.cq_base.specs.Texts.{trace_of}
 use Rattle.cq_base.specs.declared.cell.Departure.{Departure}
-use Rattle.cq_base.specs.declared.cell.TagFault.{TagFault}
 use Rattle.cq_cells.specs.Schedule.{arrivals}
 use Rattle.cq_cells.specs.Traffic.{IsTraffic}
-use Rattle.cq_ideal.specs.LimitedEnding.{departures_limited, whole_limited_run}
-use Rattle.cq_ideal.specs.LimitedIdeal.{LimitedRan, empty_limited}
+use Rattle.cq_ideal.specs.LimitedEnding.{whole_limited_run}
+use Rattle.cq_ideal.specs.LimitedIdeal.{empty_limited}
 use Rattle.cq_pcap.specs.Captured.{Captured}
 use Rattle.cq_route.specs.Tables.{classes_of, ports_of}
 use Rattle.cq_route.specs.declared.tables.Tables.{Tables}
@@ -23,64 +22,40 @@ use Rattle.cq_simulate.specs.FabricRuns.{departures_in_run}
 use Rattle.cq_simulate.specs.IdealRuns.{IsRefusalOf, ideal_departures, ran_ideal}
 use Rattle.cq_simulate.specs.declared.refusal.RunRefusal.{RunRefusal}
 use Rattle.cq_simulate.specs.declared.refusal.RunRefusal.TheVariants as run
-use Rattle.cq_run.specs.declared.denial.Denial.TheVariants.{Blocking, Left, Line, Trace, Transfer}
+use Rattle.cq_run.specs.declared.denial.Denial.TheVariants.{Trace}
 use Rattle.cq_run.specs.declared.refusal.Refusal.TheVariants.{Audit}
 use Rattle.cq_run.specs.declared.stop.Halt.TheVariants.{Refused}
 use Rattle.cq_run.specs.AuditEnds.{IsAuditHalted, IsAuditPassed}
 use Rattle.cq_run.specs.Auditing.{halt_for_log}
-use Rattle.cq_run.specs.Judging.{IsHaltOf}
 use Rattle.cq_run.specs.Switching.{halt_of}
 use Rattle.cq_run.specs.Verdict.{ideally_sent, sent_or_tag}
 
 -- ## The ideal run
-
-fits_at : (x : Result LimitedRan TagFault) (sent : List Departure) → departures_limited x ≡ Ok sent → IsOk x
-fits_at (Ok ran) sent e = refl
-fits_at (Err fault) sent e = absurd (let P : ⊥ = cc e in P)
 
 -- where it has departures, each rank fits
 pub ranks_fit : (t : Tables) (came : List Arrival) (sent : List Departure) → ideal_departures t came ≡ Ok sent →
     IsOk (whole_limited_run t.limits (machines_of t.setup) came
     (empty_limited (ports_of t.setup) (openings_of t.setup)))
 unfolding ideal_departures ran_ideal
-ranks_fit t came sent e =
-    fits_at (whole_limited_run t.limits (machines_of t.setup) came
-    (empty_limited (ports_of t.setup) (openings_of t.setup))) sent e
+ranks_fit t came sent e = search (arith, rules)
 
 -- ## The log and the trace
 
 module _ (t : Tables) (captures : List (List Captured)) (came : List Arrival) (trace log : List ℕ)
     (is : came ≡ arrivals t captures) where
-  run_halt_at : (refusal : RunRefusal) → IsRefusalOf (ideal_departures t came) refusal →
-      IsHaltOf (ideally_sent t captures) (halt_of refusal)
-  run_halt_at (run.Tag fault) h = (ap sent_or_tag (ap (ideal_departures t) (sym is) ∙ h), refl)
-  run_halt_at run.NoMemory h = tt
-
   -- the ideal run has no result
   pub run_refused : (refusal : RunRefusal) → IsRefusalOf (ideal_departures t came) refusal →
       IsAuditHalted t captures trace log (halt_of refusal)
-  run_refused refusal h = inl (run_halt_at refusal h)
+  run_refused refusal h = search (arith, rules)
 
   module _ (sent : List Departure) (departs : ideal_departures t came ≡ Ok sent) where
     ideally : ideally_sent t captures ≡ Ok sent
     ideally = ap sent_or_tag (ap (ideal_departures t) (sym is) ∙ departs)
 
-    log_denied_at : (refusal : AuditRefusal) → IsNo t.setup t.limits (arrivals t captures) log refusal →
-        IsAuditHalted t captures trace log (halt_for_log refusal)
-    log_denied_at (of_log.Line n) h =
-        inr (record { sent = sent; ideally = ideally; denial = Line n; denied = h; is = refl })
-    log_denied_at (of_log.Transfer slot phase i) h =
-        inr (record { sent = sent; ideally = ideally; denial = Transfer slot phase i; denied = h; is = refl })
-    log_denied_at (of_log.Blocking slot phase i j) h =
-        inr (record { sent = sent; ideally = ideally; denial = Blocking slot phase i j; denied = h; is = refl })
-    log_denied_at (of_log.Left n) h =
-        inr (record { sent = sent; ideally = ideally; denial = Left n; denied = h; is = refl })
-    log_denied_at of_log.NoMemory h = inl tt
-
     -- a log that is refused
     pub log_denied : (refusal : AuditRefusal) → IsNo t.setup t.limits came log refusal →
         IsAuditHalted t captures trace log (halt_for_log refusal)
-    log_denied refusal h = grind (arith, common_steps, log_denied_at refusal)
+    log_denied refusal h = search (arith, rules, ideally)
 
     module _ (yes : IsYes t.setup t.limits came log) where
       log_is : IsYes t.setup t.limits (arrivals t captures) log

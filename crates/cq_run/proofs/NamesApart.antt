@@ -4,7 +4,6 @@ use Rattle.std.proofs.Common.{rules, arith, ◌≡◌, ◌≢◌, ◌⊎◌, ◌
 use Rattle.std.proofs.lemmas.Grind.{common_steps}
 use Rattle.std.specs.Prelude.{IfSome, option_map, unwrap_or}
 use Rattle.std.specs.List.{AllByRecursion, list_any}
-use Rattle.std.specs.Str.{bytes_eq}
 use Rattle.std.proofs.lemmas.Bool.{and_from, and_left, and_right, not_from_false, or_parts}
 use Rattle.std.proofs.lemmas.Slice.Eq.{bytes_eq-Decides}
 use Rattle.cq_ideal.proofs.FlowPut.{all_from}
@@ -15,7 +14,7 @@ use Rattle.cq_tables.specs.declared.place.Array.TheVariants.{Ports}
 use Rattle.cq_tables.specs.declared.place.Place.TheVariants.{Element, Top}
 use Rattle.cq_tables.specs.declared.refusal.Wrong.TheVariants.{DuplicateFile}
 use Rattle.cq_tables.specs.Check.{Check, at, first, unless}
-use Rattle.cq_tables.specs.Document.{Named, apart_from, checks_in, clash, file_check, files_in, files_of, judged, names_of, read_at, read_of, read_or_refused, tables_of, top_of, verdict, written_at}
+use Rattle.cq_tables.specs.Document.{Named, apart_from, checks_in, clash, file_check, files_in, files_of, names_of, read_at, read_of, read_or_refused, tables_of, top_of, written_at}
 
 -- ## Checks that hold
 
@@ -24,24 +23,14 @@ unfolding first
 none_rest None cs h = (refl, h)
 none_rest (Some r) cs h = absurd (let clash : ◌≡◌ {A = Check} (Some r) None = h in let P : ⊥ = cc in P)
 
-none_behind : (cs ds : List Check) → first (cs ++ ds) ≡ None → first ds ≡ None
-none_behind [] ds h = h
-none_behind (c ∷ cs) ds h = none_behind cs ds (none_rest c (cs ++ ds) h).1
-
-accepted : (c : Check) (u t : Tables) → judged c u ≡ Ok t → (c ≡ None) × (u ≡ t)
-accepted None u t h = (refl, let same : u ≡ t = cc h in same)
-accepted (Some r) u t h = absurd (let P : ⊥ = cc h in P)
-
 -- of all checks of a text, that of its files is the last
 files_checked : (text : List ℕ) → first (checks_in text (top_of text)) ≡ None →
     file_check (tables_of (top_of text)) ≡ None
-files_checked text h = let top = top_of text in search (arith, rules, is_some, none_rest, none_behind)
+files_checked text h = search (arith, rules, is_some, none_rest)
 
 files_apart : (text : List ℕ) (t : Tables) → read_or_refused text ≡ Ok t → file_check t ≡ None
 unfolding read_or_refused
-files_apart text t h =
-    let read = accepted (verdict text) (tables_of (top_of text)) t h in
-    subst (λ (u : Tables). file_check u ≡ None) read.1 (files_checked text read.0)
+files_apart text t h = search (arith, rules, files_checked)
 
 -- ## Names that do not clash
 
@@ -97,12 +86,8 @@ names_apart text t h = pairs_in [] (files_in t) (files_apart text t h)
 
 -- ## Two names
 
-clashes : (a b : Named) → a.file ≡ b.file → (b.is_read && a.is_read) ≡ false → clash a b ≡ true
-clashes a b same written = and_from (not (b.is_read && a.is_read)) (bytes_eq a.file b.file)
-    (not_from_false (b.is_read && a.is_read) written) ((bytes_eq-Decides a.file b.file).1 same)
-
 never_same : (a b : Named) → clash a b ≡ false → (b.is_read && a.is_read) ≡ false → a.file ≢ b.file
-never_same a b clear written same = cc (clashes a b same written)
+never_same a b clear written same = search (arith, rules, and_from, not_from_false, bytes_eq-Decides)
 
 abbrev Among : Named → List Named → Type 0
 Among n [] = ⊥

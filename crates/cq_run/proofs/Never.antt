@@ -1,8 +1,7 @@
 -- No judgement of contents refuses the words: they are judged before any file is asked for.
 use Rattle.std.proofs.lemmas.Grind.{common_steps}
-use Rattle.std.proofs.Common.{arith, rules, ◌≡◌, ℕ, ◌+◌, Bool, true, false, cond, List, [], ◌∷◌, length, ap}
-use Rattle.std.specs.Prelude.{Option, None, Some, Result, Ok, Err, nat_lt}
-use Rattle.std.specs.FinMap.{get}
+use Rattle.std.proofs.Common.{arith, rules, ◌≡◌, ℕ, ◌+◌, List, [], ◌∷◌, ap}
+use Rattle.std.specs.Prelude.{Option, None, Some, Result, Ok, Err}
 use Rattle.cq_space.specs.Space.{Contents}
 use Rattle.cq_base.specs.declared.cell.Departure.{Departure}
 use Rattle.cq_base.specs.declared.cell.TagFault.{TagFault}
@@ -10,20 +9,16 @@ use Rattle.cq_pcap.specs.Captured.{Captured}
 use Rattle.cq_route.specs.declared.tables.PortRow.{PortRow}
 use Rattle.cq_route.specs.declared.tables.Tables.{Tables}
 use Rattle.cq_route.specs.Plain.{plain_tables}
-use Rattle.cq_tables.specs.Check.{Refused}
-use Rattle.cq_tables.specs.Document.{read_or_refused}
 use Rattle.cq_words.specs.declared.command.Command.{Command}
 use Rattle.cq_words.specs.declared.command.Command.TheVariants.{Pass, Check, Ideal, Run, Soak, Audit, Part, Resume}
 use Rattle.cq_run.specs.declared.refusal.Refusal.{Refusal}
-use Rattle.cq_run.specs.declared.refusal.Refusal.TheVariants.{Words, Audit as Denied, State}
-use Rattle.cq_run.specs.declared.refusal.CaptureFault.TheVariants.{Long}
+use Rattle.cq_run.specs.declared.refusal.Refusal.TheVariants.{Words}
 use Rattle.cq_run.specs.declared.refusal.StateFault.TheVariants as stopped
 use Rattle.cq_gen.specs.Tables.{soak_tables}
-use Rattle.cq_run.specs.Aim.{Aim, Auditing, Exactly, Crossing, Parting, Resuming}
-use Rattle.cq_run.specs.declared.denial.Denial.{Denial}
+use Rattle.cq_run.specs.Aim.{Aim, Exactly, Crossing, Parting}
 use Rattle.cq_run.specs.Plans.{checked}
 use Rattle.cq_run.specs.Reader.{Reader}
-use Rattle.cq_run.specs.Verdict.{◌>>=◌, named, found_or_missing, tables_in, read_or_refused_for, capture_in, packets_at, captures_from, captures_in, sent_or_tag, ideally_sent, judged, short_in, short_or, state_in, text_in}
+use Rattle.cq_run.specs.Verdict.{◌>>=◌, found_or_missing, tables_in, capture_in, captures_from, captures_in, sent_or_tag, ideally_sent, judged, short_in}
 
 -- the words are not refused
 abbrev pub IsOfContents : {A : Type 0} → Result A Refusal → Type 0
@@ -38,51 +33,27 @@ never_found : (name : List ℕ) (o : Option (List ℕ)) → IsOfContents (found_
 never_found name None h = cc
 never_found name (Some bytes) h = cc
 
-never_configured : (r : Result Tables Refused) → IsOfContents (read_or_refused_for r)
-never_configured (Ok tables) h = cc
-never_configured (Err refused) h = cc
-
 never_tag : (r : Result (List Departure) TagFault) → IsOfContents (sent_or_tag r)
 never_tag (Ok sent) h = cc
 never_tag (Err fault) h = cc
 
 never_tables : (name : List ℕ) (m : Contents) → IsOfContents (tables_in name m)
-never_tables name m = never_then (named m name) (λ bytes. read_or_refused_for (read_or_refused bytes))
-    (never_found name (get m name)) (λ bytes. never_configured (read_or_refused bytes))
+never_tables name m = search (arith, rules, never_then, never_found)
 
 never_capture : (r : Reader) (name : List ℕ) (input limit : ℕ) (m : Contents) →
     IsOfContents (capture_in r name input limit m)
 never_capture r name input limit m = grind (arith, common_steps)
 
-never_packets : (r : Reader) (input limit : ℕ) (read : Option (List ℕ)) (m : Contents) →
-    IsOfContents (packets_at r input limit read m)
-never_packets r input limit None m h = cc
-never_packets r input limit (Some name) m h = never_capture r name input limit m h
-
 never_captures : (r : Reader) (limit input : ℕ) (rows : List PortRow) (m : Contents) →
     IsOfContents (captures_from r limit input rows m)
 unfolding captures_from
 never_captures r limit input [] m h = cc
-never_captures r limit input (row ∷ rows) m h = never_then (packets_at r input limit row.read m)
-    (λ packets. captures_from r limit (input + 1) rows m >>= (λ others. Ok (packets ∷ others)))
-    (never_packets r input limit row.read m)
-    (λ packets. search (arith, rules, never_then, never_captures r limit (input + 1) rows m)) h
-
-never_long_text : (long : Refusal) → (long ≡ Words → ⊥) → (b : Bool) (r : Result (List ℕ) Refusal) → IsOfContents r →
-    IsOfContents (cond b (Err long) r)
-never_long_text long other true r n h = let is : long ≡ Words = cc h in other is
-never_long_text long other false r n h = n h
+never_captures r limit input (row ∷ rows) m h =
+    search (arith, rules, never_then, never_capture, never_captures r limit (input + 1) rows m)
 
 never_short : (long : Refusal) → (long ≡ Words → ⊥) → (name : List ℕ) (m : Contents) →
     IsOfContents (short_in long name m)
-never_short long other name m = never_then (named m name) (short_or long) (never_found name (get m name))
-    (λ bytes. never_long_text long other (nat_lt 268435456 (length bytes)) (Ok bytes) (λ e. cc))
-
-never_text : (long : Denial) (name : List ℕ) (m : Contents) → IsOfContents (text_in long name m)
-never_text long name m = never_short (Denied long) (λ e. cc) name m
-
-never_state : (name : List ℕ) (m : Contents) → IsOfContents (state_in name m)
-never_state name m = never_short (State stopped.Long) (λ e. cc) name m
+never_short long other name m = search (arith, rules, never_then, never_found)
 
 -- no command comes to that
 never_switched : (r : Reader) (config : List ℕ) (m : Contents)
@@ -107,14 +78,9 @@ never_words r (Run config) m = never_switched r config m (λ tables captures sen
 never_words r (Soak seed ports slots) m =
     let tables = soak_tables ports in search (arith, rules, never_then, never_tag)
 never_words r (Audit config) m =
-    let aim : Tables → List (List Captured) → List ℕ → List ℕ → List Departure → Result Aim Refusal =
-    λ tables captures trace log sent. Ok (Auditing tables captures sent trace log) in
-    search (arith, rules, never_then, never_tables, never_captures, never_text, never_tag)
+    search (arith, rules, never_then, never_tables, never_captures, never_tag, never_short)
 never_words r (Part config slots state) m =
     let aim : Tables → List (List Captured) → Result Aim Refusal =
     λ tables captures. Ok (Parting tables captures slots state) in
     search (arith, rules, never_then, never_tables, never_captures)
-never_words r (Resume config state) m =
-    let aim : Tables → List (List Captured) → List ℕ → Result Aim Refusal =
-    λ tables captures text. Ok (Resuming tables captures text) in
-    search (arith, rules, never_then, never_tables, never_captures, never_state)
+never_words r (Resume config state) m = search (arith, rules, never_then, never_tables, never_captures, never_short)

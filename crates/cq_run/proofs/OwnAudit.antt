@@ -2,7 +2,7 @@
 -- written, so over what is left the same tables and captures are judged; the trace and the log stand there as they were
 -- written. The run with input-best matchings is a stable one, and its log is read as what it is spelt from. A yes that
 -- holds is never denied.
-use Rattle.std.proofs.Common.{◌≡◌, ◌≢◌, ◌≤◌, ◌^◌, ◌+◌, ◌∙◌, ◌++◌, ℕ, List, [], ◌∷◌, length, Option, None, Some, refl, ap, sym, subst, arith}
+use Rattle.std.proofs.Common.{rules, ◌≡◌, ◌≢◌, ◌≤◌, ◌^◌, ◌+◌, ◌∙◌, ◌++◌, ℕ, List, [], ◌∷◌, length, Option, None, Some, refl, ap, subst, arith}
 use Rattle.std.specs.Prelude.{IfSome, IsOkAnd, Result, Ok, Err}
 use Rattle.std.specs.FinMap.{get}
 use Rattle.std.specs.List.{AllByRecursion}
@@ -141,15 +141,6 @@ module _ (t : Tables) (captures : List (List Captured)) (rs : List LimitedRecord
     never_denied (why.Trace n) denied =
         let exact = trace_is_exact in exact.differ (trace_of sent) (trace_of sent) n denied.1 refl
 
-    never : (refusal : Refusal) → Denies aim refusal → ⊥
-    never refused.Words denied = denied
-    never (refused.Missing name) denied = denied
-    never (refused.Configuration code path) denied = denied
-    never (refused.Capture input fault) denied = denied
-    never (refused.Tag fault) denied = denied
-    never (refused.Audit denial) denied = never_denied denial denied
-    never (refused.State fault) denied = denied
-
     -- ## What is judged of what was left
 
     module _ (r : Reader) (config : List ℕ) (m left : Contents) (configured : tables_in config m ≡ Ok t)
@@ -166,13 +157,9 @@ module _ (t : Tables) (captures : List (List Captured)) (rs : List LimitedRecord
       same_read None none = tt
       same_read (Some name) none = same_under name none
 
-      tables_left : tables_in config left ≡ Ok t
-      tables_left = tables_same m left config (untouched files m left config written stays) ∙ configured
-
       captures_left : captures_in r t left ≡ Ok captures
-      captures_left =
-          captures_same m left r t.limit_bytes 0 t.ports
-          (all_from (λ (row : PortRow). IfSome row.read (IsUnwritten t))
+      captures_left = captures_same m left r t.limit_bytes 0 t.ports (all_from
+          (λ (row : PortRow). IfSome row.read (IsUnwritten t))
           (λ (row : PortRow). IfSome row.read (λ name. get left name ≡ get m name))
           (λ row none. same_read row.read none) t.ports (reads_unwritten t (apart_in config m t configured)))
           ∙ captured
@@ -200,16 +187,13 @@ module _ (t : Tables) (captures : List (List Captured)) (rs : List LimitedRecord
       ideally : ideally_sent t captures ≡ Ok sent
       ideally = ap sent_or_tag (sends_as_ideal t (arrivals t captures) rs traffic keeps.runs)
 
-      -- it aims at a yes
-      aimed : judged r (Audit config) left ≡ Ok aim
-      aimed = simp (tables_left, captures_left, trace_left, log_left, ideally)
-
       -- the aim is met, and not denied
       abbrev IsSound : Result Aim Refusal → Type 0
       IsSound v = IsOkAnd v (λ a. Meets a audited × ((refusal : Refusal) → Denies a refusal → ⊥))
 
       audited_so : IsSound (judged r (Audit config) left)
-      audited_so = subst IsSound (sym aimed) (meets, never)
+      audited_so = search
+          (arith, rules, meets, never_denied, captures_left, trace_left, log_left, ideally, tables_same, untouched)
 
 -- ## What `run` leaves
 

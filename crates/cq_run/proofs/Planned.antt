@@ -1,6 +1,6 @@
 -- From one judgement after another to a plan that meets what is aimed at.
-use Rattle.std.proofs.Common.{rules, arith, ◌≡◌, ◌∙◌, ℕ, List, [], ◌∷◌, refl, sym, ap, subst}
-use Rattle.std.specs.Prelude.{IfSome, Result, Ok, Err, IfOk, IfErr, IsOk, IsOkAnd}
+use Rattle.std.proofs.Common.{rules, arith, ◌≡◌, ◌∙◌, ℕ, List, [], ◌∷◌, refl, sym, subst}
+use Rattle.std.specs.Prelude.{IfSome, Result, Ok, Err, IfOk, IfErr, IsOk}
 use Rattle.std.specs.List.{AllByRecursion}
 use Rattle.cq_base.specs.declared.cell.Departure.{Departure}
 use Rattle.cq_gen.specs.Packets.{soak_captures}
@@ -15,7 +15,6 @@ use Rattle.cq_words.specs.declared.command.Command.TheVariants.{Pass, Check, Ide
 use Rattle.cq_run.specs.declared.reading.Given.{Given}
 use Rattle.cq_run.specs.declared.refusal.Refusal.{Refusal}
 use Rattle.cq_run.specs.declared.stop.Halt.{Halt}
-use Rattle.cq_run.specs.declared.stop.Halt.TheVariants.{Refused, Unread, NoMemory}
 use Rattle.cq_run.specs.Aim.{Aim, Reporting, Meets}
 use Rattle.cq_run.specs.Ending.{IsPlanned}
 use Rattle.cq_run.specs.Given.{EndsGiven, IsGiven, judged_of_given}
@@ -60,20 +59,12 @@ counts_known p U V command old new f h =
     counts_after p U V old.faults old.faults new.faults f refl
     (subst P (known_faults command old) (subst Q (known_faults command new) h))
 
-aimed_at : (v : Result Aim Refusal) (aim : Aim) (plan : Plan) → v ≡ Ok aim → Meets aim plan →
-    IsOkAnd v (λ a. Meets a plan)
-aimed_at v aim plan e h = let P : Result Aim Refusal → Type 0 = λ r. IsOkAnd r (λ a. Meets a plan) in subst P (sym e) h
-
 -- a plan that was judged is one of the command
 pub planned : (p : Pace) (r : Reader) (command : Command) (R : List ℕ → Type 0) (old new : Space) (plan : Plan) →
     Plans p (judged r command) R (known_to command old) (known_to command new) (Ok plan)
     → AllByRecursion (λ write. MayWrite command write.0) plan.writes →
     IfSome old.told (λ m. Emulates r command m plan) → IsPlanned r command old plan
-planned p r command R old new plan (aim, meets, judges) names emulates = record {
-  verdict = told_map (known_to command old).told _ _ (λ m e. aimed_at (judged r command m) aim plan e meets) judges.ok;
-  names = names;
-  emulates = emulates;
-}
+planned p r command R old new plan (aim, meets, judges) names emulates = search (arith, rules, told_map)
 
 -- judging that comes to a plan counts no fault
 pub plans_uncounted : (p : Pace) (r : Reader) (command : Command) (R : List ℕ → Type 0) (old new : Space)
@@ -142,13 +133,6 @@ module _ {S : Type 0} (space : S → Space) (may_fail : Call → S → S → Typ
   reported_ok (Ok sent) h = refl
   reported_ok (Err e) h = absurd (let P : ⊥ = cc in P)
 
-  reported_halt : (r : Result (List Departure) Refusal) (halt : Halt) → IsHaltOf r halt →
-      IsHaltOf (r >>= (λ _. Ok aim)) halt
-  reported_halt r (Refused refusal) h =
-      (ap (λ (r : Result (List Departure) Refusal). let a : Result Aim Refusal = Ok aim in r >>= (λ _. a)) h.0, h.1)
-  reported_halt r (Unread name) h = absurd h
-  reported_halt r NoMemory h = h
-
   -- nothing is read: the run is computed
   pub soak_judged : (result : Result Plan Halt) → IfOk result (Meets aim) → IfOk result (λ plan. plan.writes ≡ []) →
       IfOk result (λ _. IsOk sent) → IfErr result (IsHaltOf sent) →
@@ -163,14 +147,7 @@ module _ {S : Type 0} (space : S → Space) (may_fail : Call → S → S → Typ
         closed = closed;
         told = refl;
       }
-  soak_judged (Err halt) meets none is halts = record {
-    judges = search (arith, rules, judges_computed_err, reported_halt);
-    kept = kept;
-    names = tt;
-    emulates = λ r. tt;
-    closed = closed;
-    told = refl;
-  }
+  soak_judged (Err halt) meets none is halts = search (arith, rules, judges_computed_err)
 
 -- a plan of any names
 pub all_any : (ws : List (List ℕ × List ℕ)) → AllByRecursion (λ _. Unit {0}) ws

@@ -1,9 +1,9 @@
 -- Texts that are put one after another. A text that was cut short after others were put whole is a front of all: what
 -- was taken before it has a known length, so the front's length is that and the piece's. A front of a text is a front
 -- of each longer text.
+use Rattle.std.proofs.Common.{rules, ◌≡◌, ◌<◌, ◌≤◌, ℕ, ◌+◌, List, [], ◌∷◌, ◌++◌, length, take, drop, get_or, Bor, refl, ap, sym, subst, ◌∙◌, arith, append_assoc}
 use Rattle.std.proofs.lemmas.Grind.{common_steps, flat_map-append}
-use Rattle.std.proofs.Common.{◌≡◌, ◌<◌, ◌≤◌, ℕ, ◌+◌, List, [], ◌∷◌, ◌++◌, length, take, drop, get_or, Bor, refl, ap, sym, subst, ◌∙◌, arith, append_assoc}
-use Rattle.std.specs.Prelude.{Option, None, Some, Result, Ok, Err, IsErr}
+use Rattle.std.specs.Prelude.{Result, Ok, Err, IsErr}
 use Rattle.std.specs.Io.KnownBytes.{append_known}
 use Rattle.std.specs.List.{flat_map}
 use Rattle.std.proofs.lemmas.List.{append-nil, take_at, take-append-drop, drop_more}
@@ -50,16 +50,10 @@ pub puts_as : {E : Type 0} (a b : List ℕ) (old new : Taken) (r : Result (Unit 
     Puts b old new r
 puts_as a b old new r e h = let P : List ℕ → Type 0 = λ t. Puts t old new r in subst P e h
 
-append_known-append_known : (known : Option (List ℕ)) (a b : List ℕ) →
-    append_known (append_known known a) b ≡ append_known known (a ++ b)
-append_known-append_known None a b = refl
-append_known-append_known (Some xs) a b = ap Some (append_assoc xs a b)
-
 -- a front of a text is a front of a longer one
 front_of_longer : (a b : List ℕ) (n : ℕ) → take n a ≡ take (length (take n a)) (a ++ b)
-front_of_longer a b n =
-    sym (ap (take (length (take n a))) (ap (λ ys. ys ++ b) (sym (take-append-drop n a))
-    ∙ append_assoc (take n a) (drop n a) b)
+front_of_longer a b n = sym (ap (take (length (take n a)))
+    (ap (λ ys. ys ++ b) (sym (take-append-drop n a)) ∙ append_assoc (take n a) (drop n a) b)
     ∙ take_at (take n a) (drop n a ++ b) (length (take n a)) refl)
 
 -- an error after a front of the text
@@ -80,7 +74,7 @@ puts_cut a b old new r err front later rose =
 -- the first of two texts was put whole, and then the second was put
 pub puts_then : {E : Type 0} (a b : List ℕ) (old mid new : Taken) (r : Result (Unit {0}) E) →
     mid.bytes ≡ append_known old.bytes a → mid.faults ≡ old.faults → Puts b mid new r → Puts (a ++ b) old new r
-puts_then a b old mid new (Ok x) e l h = grind (arith, common_steps, append_known-append_known old.bytes a b)
+puts_then a b old mid new (Ok x) e l h = search (arith, rules, append_assoc)
 puts_then a b old mid new (Err f) e l h = grind (arith, common_steps, take-append-add a b h.bytes.0)
 
 -- a line whose head is put first

@@ -44,19 +44,9 @@ unfolding Stays
 pure_stays r m name x h = inl h
 
 module _ {A B : Type 0} (j : Contents → Result A Refusal) (f : A → Contents → Result B Refusal) where
-  then_stays_at : Stays j → ((x : A) → Stays (f x)) → (m : Contents) (name : List ℕ) (y : B) (r : Result A Refusal) →
-      j m ≡ r → (r >>= (λ x. f x m)) ≡ Ok y
-      → ((j (remove m name) >>= (λ x. f x (remove m name))) ≡ Ok y)
-      ⊎ ((j (remove m name) >>= (λ x. f x (remove m name))) ≡ Err (Missing name))
-  unfolding Stays
-  then_stays_at first then m name y (Ok x) e h =
-      let rest : Result A Refusal → Result B Refusal = λ s. s >>= (λ (z : A). f z (remove m name)) in
-      search (arith, rules)
-  then_stays_at first then m name y (Err r) e h = cc
-
   pub then_stays : Stays j → ((x : A) → Stays (f x)) → Stays (λ (m : Contents). j m >>= (λ x. f x m))
   unfolding Stays
-  then_stays first then m name y h = then_stays_at first then m name y _ refl h
+  then_stays first then m name y h = search (arith, rules)
 
 pub tables_stay : (name : List ℕ) → Stays (tables_in name)
 tables_stay name = then_stays (λ (m : Contents). named m name)

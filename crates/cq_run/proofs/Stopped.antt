@@ -101,16 +101,15 @@ module _ (t : Tables) (captures : List (List Captured)) where
         -- there were slots
         pub resumed_by : (stamp : ℕ) → stamp ≡ schedule.first_stamp → IsResumedBy t captures text
             (record { run = run; first_stamp = stamp })
-        resumed_by stamp e = record {
-          given = given;
-          resumed = record { from = from; read = read; resumed = resumed };
-          sent = record {
-            whole =
-                resumed_whole t captures from (kept_of (unpacked_run run)) given.tables given.each (taken_up read)
-                resumed;
-            first_stamp = e;
-          };
-          reportable =
-              resumed_counts t captures from (kept_of (unpacked_run run)) given.tables given.each (taken_up read)
-              resumed;
-        }
+        resumed_by stamp e =
+            record {
+              given = given;
+              resumed = record { from = from; read = read; resumed = resumed };
+              sent = record {
+                whole = resumed_whole t captures from (kept_of (unpacked_run run)) given.tables given.each
+                    (taken_up read) resumed;
+                first_stamp = e;
+              };
+              reportable = resumed_counts t captures from (kept_of (unpacked_run run)) given.tables given.each
+                  (taken_up read) resumed;
+            }

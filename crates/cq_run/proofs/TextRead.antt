@@ -1,9 +1,8 @@
 -- What is told of a text, as the trace or the log of an audit or the state of a stopped run, from what was read under
 -- its name: its bytes, where they are not too many. The name that was asked for is the one that is to be read, or a
 -- copy of it.
-use Rattle.std.proofs.lemmas.Grind.{common_steps}
-use Rattle.std.proofs.Common.{rules, ◌≡◌, ◌<◌, ◌≤◌, ◌⊎◌, ℕ, Bool, IsTrue, true, false, cond, List, [], length, refl, ap, subst, inl, inr, arith}
-use Rattle.std.specs.Prelude.{nat_lt, Option, None, Some, IfSome, Result, Ok, Err, IsErrOf, Vec, unwrap_or}
+use Rattle.std.proofs.Common.{rules, ◌≡◌, ◌<◌, ◌≤◌, ◌⊎◌, ℕ, IsTrue, List, length, subst, inl, inr, arith}
+use Rattle.std.specs.Prelude.{Option, None, Some, IfSome, Result, Ok, Err, IsErrOf, Vec}
 use Rattle.std.specs.FinMap.{get, remove}
 use Rattle.std.specs.declared.alloc.Global.{Global}
 use Rattle.std.proofs.lemmas.Bool.{le-ltb, lt-ltb}
@@ -15,40 +14,26 @@ use Rattle.cq_run.specs.declared.refusal.Refusal.{Refusal}
 use Rattle.cq_run.specs.declared.refusal.Refusal.TheVariants.{Missing}
 use Rattle.cq_run.specs.Judging.{IsRefused, IsToRead}
 use Rattle.cq_run.specs.Refusals.{meaning_of}
-use Rattle.cq_run.specs.Verdict.{◌>>=◌, found_or_missing, short_in, short_or}
+use Rattle.cq_run.specs.Verdict.{short_in}
 use Rattle.cq_run.proofs.Removed.{get-remove_same}
 
 module _ (long : Refusal) (name : List ℕ) where
-  -- a text of at most this length is looked at
-  text_at : (m : Contents) (bytes : List ℕ) → length bytes ≤ 268435456 → get m name ≡ Some bytes →
-      short_in long name m ≡ Ok bytes
-  text_at m bytes short at = cc (le-ltb 268435456 (length bytes) short)
-
   pub text_is : (told : Option Contents) (bytes : List ℕ) → length bytes ≤ 268435456 →
       IfSome told (λ m. get m name ≡ Some bytes)
       → IfSome told (λ m. short_in long name m ≡ Ok bytes)
   text_is None bytes short at = tt
-  text_is (Some m) bytes short at = text_at m bytes short at
-
-  -- and a longer one is not
-  long_at : (m : Contents) (o : Option (List ℕ)) → get m name ≡ o → 268435456 < length (unwrap_or o []) →
-      short_in long name m ≡ Err long
-  long_at m None e h = absurd (omega arith)
-  long_at m (Some bytes) e h = cc (lt-ltb 268435456 (length bytes) h)
+  text_is (Some m) bytes short at = search (arith, rules, le-ltb)
 
   pub text_long : (told : Option Contents) (asked : List ℕ) → IsTrue (meaning_of long).untold → asked ≡ name →
       IfSome told (λ m. 268435456 < length (bytes_of m asked))
       → IsRefused (short_in long name) told long
   text_long None asked untold a h = untold
-  text_long (Some m) asked untold a h = grind (arith, common_steps, long_at m _ refl)
-
-  missing_at : (m : Contents) → get m name ≡ None → short_in long name m ≡ Err (Missing name)
-  missing_at m at = ap (λ (o : Option (List ℕ)). found_or_missing name o >>= short_or long) at
+  text_long (Some m) asked untold a h = search (arith, rules, lt-ltb)
 
   -- it is missed under the name that was asked for
   missing_as : (m : Contents) (asked : List ℕ) → asked ≡ name → get m name ≡ None →
       short_in long name m ≡ Err (Missing asked)
-  missing_as m asked a at = cc (missing_at m at)
+  missing_as m asked a at = search (arith, rules)
 
   pub text_missed : (told : Option Contents) (asked : List ℕ) → asked ≡ name → Lacks told asked →
       IsRefused (short_in long name) told (Missing asked)
@@ -62,24 +47,12 @@ module _ (long : Refusal) (name : List ℕ) where
 
 -- ## What was accepted
 
--- a text that was accepted stands under its name
-accepted : (long : Refusal) (over : Bool) (whole : Result (List ℕ) Refusal) (bytes : List ℕ) →
-    cond over (Err long) whole ≡ Ok bytes → whole ≡ Ok bytes
-accepted long true whole bytes h = absurd (let P : ⊥ = cc h in P)
-accepted long false whole bytes h = h
-
 same_text : (a b : List ℕ) → ◌≡◌ {A = Result (List ℕ) Refusal} (Ok a) (Ok b) → a ≡ b
 same_text a b h = let same : a ≡ b = cc h in same
 
-stands_at : (long : Refusal) (name : List ℕ) (o : Option (List ℕ)) (bytes : List ℕ) →
-    (found_or_missing name o >>= short_or long) ≡ Ok bytes → o ≡ Some bytes
-stands_at long name None bytes h = absurd (let P : ⊥ = cc h in P)
-stands_at long name (Some text) bytes h =
-    ap Some (same_text text bytes (accepted long (nat_lt 268435456 (length text)) (Ok text) bytes h))
-
 pub text_stands : (long : Refusal) (name : List ℕ) (m : Contents) (bytes : List ℕ) → short_in long name m ≡ Ok bytes →
     get m name ≡ Some bytes
-text_stands long name m bytes h = stands_at long name (get m name) bytes h
+text_stands long name m bytes h = search (arith, rules, same_text)
 
 -- a name that is missing was read with no fault
 pub missing_is_no_fault : (r : ReadRefusal) (P : Type 0) → r ≡ whole.Missing →

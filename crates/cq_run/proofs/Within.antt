@@ -1,14 +1,13 @@
 -- The numbers of a command that words are are in their ranges.
-use Rattle.std.proofs.Common.{◌≡◌, ◌<◌, ◌≤◌, ◌^◌, ℕ, Bool, true, false, cond, List, [], ◌∷◌, refl, subst, arith}
+use Rattle.std.proofs.Common.{rules, ◌≡◌, ◌<◌, ◌≤◌, ◌^◌, ℕ, Bool, true, false, cond, List, [], ◌∷◌, refl, subst, arith}
 use Rattle.std.specs.Prelude.{◌&&◌, nat_le, Option, None, Some, codes, option_map}
 use Rattle.std.specs.Int.{IsInRange}
-use Rattle.std.specs.List.{list_all}
 use Rattle.std.specs.Str.{bytes_eq}
 use Rattle.std.proofs.lemmas.Bool.{leb-true}
 use Rattle.cq_words.specs.Numbers.{is_numeral, number_from, value_of}
-use Rattle.cq_words.specs.Words.{command_for, form_of, is_value, most_slots, soak_of, with_config, with_three, with_two}
+use Rattle.cq_words.specs.Words.{command_for, most_slots, soak_of, with_three, with_two}
 use Rattle.cq_words.specs.declared.command.Command.{Command}
-use Rattle.cq_words.specs.declared.command.Command.TheVariants.{Pass, Check, Ideal, Run, Soak, Audit, Part, Resume}
+use Rattle.cq_words.specs.declared.command.Command.TheVariants.{Pass, Soak, Part, Resume}
 use Rattle.cq_run.specs.Planning.{IsWithinRange}
 
 -- a command that there may be
@@ -46,13 +45,6 @@ soak_within (Some seed) (Some ports) None g h = none_within
 soak_within (Some seed) None slots g h = none_within
 soak_within None ports slots g h = none_within
 
-config_within : (word config : List ℕ) → IsWithin (with_config word config)
-config_within word config =
-    either_within (bytes_eq word (codes "check")) _ _ (some_within (Check config) tt)
-    (either_within (bytes_eq word (codes "ideal")) _ _ (some_within (Ideal config) tt)
-    (either_within (bytes_eq word (codes "run")) _ _ (some_within (Run config) tt)
-    (either_within (bytes_eq word (codes "audit")) _ _ (some_within (Audit config) tt) none_within)))
-
 two_within : (word first second : List ℕ) → IsWithin (with_two word first second)
 two_within word first second =
     either_within (bytes_eq word (codes "pass")) _ _ (some_within (Pass first second) tt)
@@ -74,15 +66,8 @@ three_within word first second third =
     (either_within (bytes_eq word (codes "part")) _ _
     (parted_within first third (number_from 0 most_slots second) (slots_within second)) none_within)
 
-form_within : (word : List ℕ) (values : List (List ℕ)) → IsWithin (form_of word values)
-form_within word [] = none_within
-form_within word (config ∷ []) = config_within word config
-form_within word (first ∷ second ∷ []) = two_within word first second
-form_within word (first ∷ second ∷ third ∷ []) = three_within word first second third
-form_within word (a ∷ b ∷ c ∷ d ∷ rest) = none_within
-
 pub words_within : (words : List (List ℕ)) (command : Command) → command_for words ≡ Some command →
     IsWithinRange command
 words_within [] = none_within
 words_within (word ∷ values) =
-    either_within (list_all is_value values) (form_of word values) None (form_within word values) none_within
+    search (arith, rules, either_within, none_within, two_within, three_within, some_within)

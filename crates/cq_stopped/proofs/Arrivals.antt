@@ -108,26 +108,20 @@ module _ (w : Switch) (at : Taken) (ideal : IdealState) (cs : List (List (Option
       let sent = map (λ (d : Sent). d.cell) (map sent_as at.sent) in
       let Comes : Named → Type 0 = λ c. (c.slot < at.frozen.next) × IsSome (arriving_cell w.came c) in
       record {
-        arrive =
-            All-from_recursion Comes names
-            (all_from_has Comes names
-            (λ c has.
+        arrive = All-from_recursion Comes names (all_from_has Comes names (λ c has.
             let it = is_of_one w at ideal cs known c has in
             subst Comes it.is (
               it.kept.own.before,
               subst (λ (o : Option Cell). IsSome o) (sym it.kept.own.keyed.arrives) refl,
             )));
-        once =
-            all_pairs Differ names
-            (pairs_join Differ queued sent queued_pairs
-            (pairs_of_images (λ (d : Sent). d.cell) Differ (map sent_as at.sent)
+        once = all_pairs Differ names (pairs_join Differ queued sent queued_pairs (pairs_of_images
+            (λ (d : Sent). d.cell) Differ (map sent_as at.sent)
             (pairs_of_images sent_as (λ (d e : Sent). Differ d.cell e.cell) at.sent sent_pairs))
             (λ c d first second.
             let x = is_waiting w at ideal cs known c first in
             let outer = image_has (λ (e : Sent). e.cell) (map sent_as at.sent) d second in
             let inner = image_has sent_as at.sent outer.0 outer.1 in
-            subst (λ (e : Named). Differ e d) x.is
-            (subst (λ (e : Named). Differ (named_as x.cell) e) (ap (λ (e : Sent). e.cell) inner.2 ∙ outer.2)
-            (λ slot place.
-            differ_left w at.frozen.next f ideal cs at.sent known inner.0 x.cell inner.1 x.waits (slot, place)))));
+            subst (λ (e : Named). Differ e d) x.is (subst (λ (e : Named). Differ (named_as x.cell) e)
+            (ap (λ (e : Sent). e.cell) inner.2 ∙ outer.2) (λ slot place. differ_left w at.frozen.next f
+            ideal cs at.sent known inner.0 x.cell inner.1 x.waits (slot, place)))));
       }

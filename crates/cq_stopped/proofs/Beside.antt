@@ -2,7 +2,7 @@
 -- slot, and what arrives in the slot is for the ports. And what becomes of the cells of a slot: those for an output
 -- that were there, and those that came for it, are there still or have left.
 use Rattle.std.proofs.lemmas.Grind.{common_steps}
-use Rattle.std.proofs.Common.{arith, rules, ◌≡◌, ℕ, zero, suc, ◌+◌, ◌⊎◌, List, [], ◌∷◌, length, Option, None, Some, refl, inl, inr, ⊎_elim, drop, sym, ◌∙◌, subst}
+use Rattle.std.proofs.Common.{arith, rules, ◌≡◌, ℕ, zero, suc, ◌+◌, ◌⊎◌, List, [], ◌∷◌, length, Option, None, Some, inl, inr, ⊎_elim, drop, sym, ◌∙◌, subst}
 use Rattle.std.specs.Prelude.{slice_get, slice_index_or}
 use Rattle.std.proofs.lemmas.List.{length-replicate}
 use Rattle.cq_base.specs.Arriving.{arriving}
@@ -11,10 +11,10 @@ use Rattle.cq_base.specs.declared.cell.Queued.{Queued}
 use Rattle.cq_cells.specs.Traffic.{IsTraffic}
 use Rattle.cq_ideal.specs.Admission.{Marked}
 use Rattle.cq_ideal.specs.Ending.{arriving_from}
-use Rattle.cq_ideal.specs.IdealSlot.{IdealState, fronts}
+use Rattle.cq_ideal.specs.IdealSlot.{IdealState}
 use Rattle.cq_ideal.specs.LimitedIdeal.{empty_limited}
 use Rattle.cq_ideal.specs.Ranking.{AreForPorts}
-use Rattle.cq_laws.proofs.AfterArrivals.{CameFor, Keyed, arrived_has}
+use Rattle.cq_laws.proofs.AfterArrivals.{CameFor, arrived_has}
 use Rattle.cq_laws.proofs.AfterDepartures.{sent_buffer}
 use Rattle.cq_laws.proofs.AfterTransfer.{moved_has}
 use Rattle.cq_laws.proofs.LimitedSlots.{admission_for_ports, same_limited_slot, limited_ports_kept}
@@ -26,7 +26,6 @@ use Rattle.cq_laws.specs.LimitedAgreement.{LimitedAgrees}
 use Rattle.cq_laws.specs.LimitedFabric.{LimitedFabricSlot, LimitedRecord}
 use Rattle.cq_laws.specs.Places.{HasFor}
 use Rattle.cq_laws.specs.SlotBySlot.{RunBy}
-use Rattle.cq_prefs.specs.FirstCells.{list_of}
 use Rattle.cq_prefs.specs.Pairing.{IsStable}
 use Rattle.cq_resume.specs.Parts.{opening}
 use Rattle.cq_resume.specs.Resumed.{Runs}
@@ -38,11 +37,6 @@ use Rattle.cq_laws.proofs.InputBest.{stable_limited_slot}
 first_or_rest : (xs : List Queued) (q : Queued) → (slice_get xs 0 ≡ Some q) ⊎ IsAmong q (drop 1 xs) → IsAmong q xs
 first_or_rest [] q has = ⊎_elim (λ none. absurd (let P : ⊥ = cc in P)) (λ more. more) has
 first_or_rest (x ∷ xs) q has = ⊎_elim (λ first. let same : x ≡ q = cc in inl same) (λ more. inr more) has
-
-front_at : (lists : List (List Queued)) (j : ℕ) → slice_index_or (fronts lists) j None ≡ slice_get (list_of lists j) 0
-front_at [] j = refl
-front_at (cells ∷ lists) zero = refl
-front_at (cells ∷ lists) (suc j) = front_at lists j
 
 module _ (w : Switch) where
   -- what is known of a slot
@@ -95,12 +89,6 @@ module _ (w : Switch) where
     pub admitted_come : AreForPorts (length f.state.inputs) w.classes r.admission.cells
     admitted_come = grind (arith, common_steps, admission_for_ports)
 
-    pub keyed_here : Keyed slot (length f.state.inputs) r.of_slot.came
-    keyed_here = grind (arith, common_steps, keyed, admitted_come)
-
-    pub old_is : Sound slot f.state
-    old_is = search (rules, old_sound, admitted_come)
-
     pub arrived_is : Sound (slot + 1) r.of_slot.arrived
     arrived_is = search (rules, arrived, admitted_come)
 
@@ -110,21 +98,18 @@ module _ (w : Switch) where
     pub left_is : (j : ℕ) → buffer r.of_slot.sent j ≡ drop 1 (buffer r.of_slot.filled j)
     left_is j = grind (arith, common_steps, sent_buffer)
 
-    gone_is : (j : ℕ) → slice_index_or r.of_slot.gone j None ≡ slice_get (buffer r.of_slot.filled j) 0
-    gone_is j = grind (arith, common_steps, front_at)
-
     -- what holds of each cell that was there or came holds of each at every moment of the slot
     module _ (P : ℕ → Queued → Type 0) (all : (j : ℕ) (q : Queued) →
         HasFor f.state j q ⊎ CameFor r.of_slot.came j q → P j q)
       where
         pub of_arrived : (j : ℕ) (q : Queued) → HasFor r.of_slot.arrived j q → P j q
-        of_arrived j q has = search (rules, arrived_has, keyed_here, old_is)
+        of_arrived j q has = search (arith, rules, arrived_has, keyed, admitted_come, old_sound)
 
         pub of_filled : (j : ℕ) (q : Queued) → HasFor r.of_slot.filled j q → P j q
         of_filled j q has = search (rules, of_arrived, moved_has, arrived_is)
 
         pub of_gone : (j : ℕ) (q : Queued) → slice_index_or r.of_slot.gone j None ≡ Some q → P j q
-        of_gone j q left = grind (arith, common_steps, of_filled, first_or_rest, gone_is)
+        of_gone j q left = grind (arith, common_steps, of_filled, first_or_rest)
 
         pub of_sent : (j : ℕ) (q : Queued) → HasFor r.of_slot.sent j q → P j q
         of_sent j q has = grind (arith, common_steps, of_filled, first_or_rest, left_is)

@@ -3,8 +3,8 @@
 -- come packet after packet at each input. A capture is a file of 2^28 bytes at most, and each packet and each cell of
 -- it takes a byte there, so that no packet's number and no cell's place in its packet comes near 2^32.
 use Rattle.std.proofs.lemmas.Grind.{common_steps}
-use Rattle.std.proofs.Common.{rules, ◌≡◌, ℕ, zero, suc, ◌+◌, ◌*◌, ◌<◌, ◌≤◌, ◌^◌, min, List, [], ◌∷◌, length, map, flat_map, refl, sym, ap, ◌∙◌, subst, arith, length-append}
-use Rattle.std.specs.Prelude.{fold, replicate, slice_index_or, slice_set, sum_by}
+use Rattle.std.proofs.Common.{rules, ◌≡◌, ℕ, zero, suc, ◌+◌, ◌*◌, ◌<◌, ◌≤◌, ◌^◌, min, List, [], ◌∷◌, length, map, flat_map, sym, ap, ◌∙◌, subst, arith, length-append}
+use Rattle.std.specs.Prelude.{fold, replicate, slice_index_or, sum_by}
 use Rattle.std.specs.List.{AllByRecursion, range_with_len}
 use Rattle.std.proofs.lemmas.List.{length-map}
 use Rattle.std.proofs.lemmas.List.Sums.{sum_by-cons}
@@ -16,11 +16,10 @@ use Rattle.cq_base.specs.declared.setup.Setup.{Setup}
 use Rattle.cq_cells.proofs.Looked.{piece}
 use Rattle.cq_cells.proofs.Packets.{came_more, few_by, length_packet, came_by}
 use Rattle.cq_cells.proofs.Rising.{all_flat}
-use Rattle.cq_cells.specs.Schedule.{arrivals, arrivals_at, arrivals_of, cell_of, cells, first_stamp, least, packets_of, start}
+use Rattle.cq_cells.specs.Schedule.{arrivals, arrivals_at, arrivals_of, cell_of, cells, first_stamp, packets_of, start}
 use Rattle.cq_cells.specs.Scheduled.{Scheduled}
 use Rattle.cq_cells.specs.Traffic.{IsRecorded, IsTraffic}
 use Rattle.cq_pcap.specs.Captured.{Captured}
-use Rattle.cq_rank.specs.Classes.{level_count, row_at}
 use Rattle.cq_rank.specs.Machine.{KeepsLaws, Machine, machine_at}
 use Rattle.cq_resume.proofs.Each.{all_both}
 use Rattle.cq_resume.proofs.Scheduling.{schedule_known}
@@ -68,21 +67,6 @@ pub record IsConfigured (w : Switch) (ranks : List (List ℕ)) : Type 0 where
 
 -- ## The machines of a setup
 
-machine_level : (kind : Kind) (rows : List ClassRow) (c : ℕ) → (machine_of kind rows).level c ≡ (row_at rows c).level
-machine_level FirstCome rows c = refl
-machine_level Priority rows c = refl
-machine_level Fair rows c = refl
-
-machine_size : (kind : Kind) (rows : List ClassRow) → (machine_of kind rows).size ≤ length rows + level_count
-machine_size FirstCome rows = omega arith
-machine_size Priority rows = omega arith
-machine_size Fair rows = omega arith
-
-set_low : (s : List ℕ) (i v : ℕ) → AreLow s → v < 2 ^ 128 → AreLow (slice_set s i v)
-set_low [] i v all low = tt
-set_low (n ∷ s) zero v all low = (low, all.1)
-set_low (n ∷ s) (suc i) v all low = (all.0, set_low s i v all.1 low)
-
 zeros_low : (n : ℕ) → AreLow (replicate n 0)
 zeros_low zero = tt
 zeros_low (suc n) = ((let P : 0 < 2 ^ 128 = omega arith in P), zeros_low n)
@@ -90,17 +74,12 @@ zeros_low (suc n) = ((let P : 0 < 2 ^ 128 = omega arith in P), zeros_low n)
 machine_low : (kind : Kind) (rows : List ClassRow) → KeepsLow (machine_of kind rows)
 machine_low FirstCome rows = record { given = λ s c all low. all; sent = λ s l r all low. all; idle = λ s all. all }
 machine_low Priority rows = record { given = λ s c all low. all; sent = λ s l r all low. all; idle = λ s all. all }
-machine_low Fair rows = grind (arith, common_steps, set_low, zeros_low)
-
-opening_low : (kind : Kind) (rows : List ClassRow) → AreLow (opening_of kind rows)
-opening_low FirstCome rows = tt
-opening_low Priority rows = tt
-opening_low Fair rows = zeros_low (length rows + level_count)
+machine_low Fair rows = grind (arith, common_steps, zeros_low)
 
 openings_all : (kinds : List Kind) (rows : List ClassRow) →
     AllByRecursion AreLow (map (λ (k : Kind). opening_of k rows) kinds)
 openings_all [] rows = tt
-openings_all (k ∷ kinds) rows = (opening_low k rows, openings_all kinds rows)
+openings_all (k ∷ kinds) rows = search (arith, rules, zeros_low, openings_all kinds rows)
 
 machines_low : (kinds : List Kind) (rows : List ClassRow) (j : ℕ) →
     KeepsLow (machine_at (map (λ (k : Kind). machine_of k rows) kinds) j)
@@ -110,10 +89,10 @@ machines_low (k ∷ kinds) rows (suc j) = machines_low kinds rows j
 
 module _ (setup : Setup) (j : ℕ) (inside : j < length setup.kinds) where
   small_size : length setup.classes ≤ 16 → (machine_at (machines_of setup) j).size ≤ 32
-  small_size few = grind (arith, common_steps, kind, machine_is, machine_size)
+  small_size few = search (arith, rules, kind, machine_is)
 
   low_level : (c : ℕ) → c < length setup.classes → IsSetup setup → (machine_at (machines_of setup) j).level c ≤ 15
-  low_level c known is = grind (arith, common_steps, machine_is, machine_level, kind, is.levels)
+  low_level c known is = search (arith, rules, machine_is, kind)
 
 -- ## The captures
 
@@ -147,18 +126,17 @@ module _ (t : Tables) (captures : List (List Captured)) where
   small_here input some is =
       let ps = packets_of captures input in
       let many = few_packets ps in
-      all_flat HasSmallName (arrivals_of t captures input) 0 (length ps)
-      (λ k from lt.
-      let all : length (came_by t captures input (k + 1)) ≤ 2 ^ 28 = few_by t captures input (k + 1) some is (omega
-      arith) in
-      let more : length (came_by t captures input (k + 1)) ≡
-      length (came_by t captures input k) + length (arrivals_of t captures input k) =
+      all_flat HasSmallName (arrivals_of t captures input) 0 (length ps) (λ k from lt.
+      let all : length (came_by t captures input (k + 1)) ≤ 2 ^ 28 =
+      few_by t captures input (k + 1) some is (omega arith) in
+      let more : length (came_by t captures input (k + 1))
+      ≡ length (came_by t captures input k) + length (arrivals_of t captures input k) =
       ap (λ (l : List Arrival). length l) (came_more t captures input k)
       ∙ length-append (came_by t captures input k) (arrivals_of t captures input k) in
-      let size : length (arrivals_of t captures input k) ≡ cells t captures input k = length_packet t captures input
-      k in
-      all_pieces HasSmallName input k 0 (cells t captures input k)
-      (λ i below. ((let P : k < 2 ^ 32 = omega arith in P), (let P : i < 2 ^ 32 = omega arith in P))))
+      let size : length (arrivals_of t captures input k) ≡ cells t captures input k =
+      length_packet t captures input k in
+      all_pieces HasSmallName input k 0 (cells t captures input k) (λ i below.
+      ((let P : k < 2 ^ 32 = omega arith in P), (let P : i < 2 ^ 32 = omega arith in P))))
 
   small_names : 1 ≤ t.cell_bytes → ((i : ℕ) → i < length captures → IsRecorded (packets_of captures i)) →
       AllByRecursion HasSmallName (arrivals t captures)
@@ -175,10 +153,6 @@ least_of : (a : ℕ) (ns : List ℕ) → fold min a ns ≤ a
 least_of a [] = omega arith
 least_of a (n ∷ ns) = let rest = least_of (min a n) ns in omega arith
 
-least_low : (ns : List ℕ) → AllByRecursion IsStamp ns → least ns < 2 ^ 63
-least_low [] all = omega arith
-least_low (n ∷ ns) all = let le = least_of n ns in omega arith
-
 stamps_low : (captures : List (List Captured)) →
     ((i : ℕ) → i < length captures → IsRecorded (packets_of captures i)) →
     AllByRecursion IsStamp (flat_map (λ (ps : List Captured). map (λ (p : Captured). p.stamp) ps) captures)
@@ -191,7 +165,7 @@ stamps_low (ps ∷ captures) each = all_both IsStamp (map (λ (p : Captured). p.
 first_low : (captures : List (List Captured)) → ((i : ℕ) → i < length captures → IsRecorded (packets_of captures i)) →
     first_stamp captures < 2 ^ 63
 unfolding first_stamp
-first_low captures each = grind (arith, common_steps, least_low, flat_map, stamps_low)
+first_low captures each = search (arith, rules, flat_map, stamps_low, least_of)
 
 -- ## Together
 

@@ -14,7 +14,6 @@ use Rattle.cq_base.specs.declared.cell.Departure.{Departure}
 use Rattle.cq_base.specs.declared.cell.Queued.{Queued}
 use Rattle.cq_base.specs.declared.figures.Figures.{Figures}
 use Rattle.cq_base.specs.declared.figures.InputFigures.{InputFigures}
-use Rattle.cq_base.specs.declared.figures.OutputFigures.{OutputFigures}
 use Rattle.cq_ideal.specs.Ending.{slots_of}
 use Rattle.cq_ideal.specs.IdealRun.{departures_of}
 use Rattle.cq_ideal.specs.IdealSlot.{departures_from, departures_in}
@@ -294,11 +293,6 @@ inputs_same : (st : State) (f : ℕ → InputFigures) (a n : ℕ) → ((i : ℕ)
 inputs_same st f a zero each = refl
 inputs_same st f a (suc n) each = grind (arith, common_steps, inputs_same st f (a + 1) n each)
 
-outputs_same : (f g : ℕ → OutputFigures) (a n : ℕ) → ((j : ℕ) → f j ≡ g j) →
-    map f (range_with_len a n) ≡ map g (range_with_len a n)
-outputs_same f g a zero each = refl
-outputs_same f g a (suc n) each = grind (arith, common_steps, outputs_same f g (a + 1) n each)
-
 module _ (came : List Arrival) (st : State) (rs : List LimitedRecord) (numbered : AreNumbered 0 (slots_in rs))
     (differ : EachPair Differ (named_in st))
     (named_is : (a : Arrival) → is_named (named_in st) a ≡ is_some (came_in (came_of rs) a.slot a.cell.id.input))
@@ -311,5 +305,4 @@ module _ (came : List Arrival) (st : State) (rs : List LimitedRecord) (numbered 
   pub figures_are : st.head.ports ≡ ports → st.head.proposals ≡ x.proposals → st.head.most ≡ x.most →
       st.inputs ≡ map seen_as x.inputs → x ≡ figures_told came st
   unfolding figures_told figures_of
-  figures_are many proposals most inputs =
-      grind (arith, common_steps, slots_are, inputs_same, input_same, outputs_same, output_same)
+  figures_are many proposals most inputs = search (arith, rules, slots_are, inputs_same, input_same, output_same)

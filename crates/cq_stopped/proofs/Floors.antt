@@ -25,9 +25,7 @@ module _ (w : Switch) (at : Taken) (ideal : IdealState) (cs : List (List (Option
   below q waits = grind (arith, common_steps, its_output, its_class, all_of_has, HasWaited)
 
   pub below_floors : AreBelowFloors w (told_state w at)
-  below_floors =
-      All-from_recursion (IsBelowFloor w (told_state w at)) (queued_in (told_state w at))
-      (all_from_has (IsBelowFloor w (told_state w at)) (queued_in (told_state w at))
-      (λ c has.
+  below_floors = All-from_recursion (IsBelowFloor w (told_state w at)) (queued_in (told_state w at))
+      (all_from_has (IsBelowFloor w (told_state w at)) (queued_in (told_state w at)) (λ c has.
       let it = is_waiting w at ideal cs known c has in
       subst (λ (n : Named). IsBelowFloor w (told_state w at) n) it.is (below it.cell it.waits)))

@@ -50,9 +50,7 @@ module _ (w : Switch) (at : Taken) (ideal : IdealState) (cs : List (List (Option
   InTurn d e = Flow (named_as d.queued) (named_as e.queued) → d.queued.key.slot < e.queued.key.slot
 
   sent_in_turn : EachPair InTurn at.sent
-  sent_in_turn =
-      each_sent w at.frozen.next f ideal cs at.sent known InTurn
-      (λ d e first second follows flow.
+  sent_in_turn = each_sent w at.frozen.next f ideal cs at.sent known InTurn (λ d e first second follows flow.
       let x = has_left_it w at.frozen.next f ideal cs at.sent known d first in
       let y = has_left_it w at.frozen.next f ideal cs at.sent known e second in
       let both = of_one d.queued e.queued x.kept y.kept flow in

@@ -1,8 +1,8 @@
 -- The numbers of a stopped run's state are in range.
 use Rattle.std.proofs.lemmas.Grind.{common_steps}
 use Rattle.std.proofs.Common.{rules, ◌≡◌, ℕ, zero, suc, ◌+◌, ◌-◌, ◌<◌, ◌≤◌, ◌^◌, Bool, not, List, [], ◌∷◌, length, map, fold, min, max, refl, sym, ap, ◌∙◌, subst, arith}
-use Rattle.std.specs.Prelude.{IfSome, filter, slice_index_or}
-use Rattle.std.specs.List.{AllByRecursion, enumerate_from, flat_map, range_with_len, reduce}
+use Rattle.std.specs.Prelude.{filter, slice_index_or}
+use Rattle.std.specs.List.{AllByRecursion, enumerate_from, flat_map, range_with_len}
 use Rattle.std.proofs.lemmas.List.{length-map}
 use Rattle.std.proofs.lemmas.List.Filters.{length-filter_both}
 use Rattle.std.proofs.lemmas.List.FromFn.{length-map-range_with_len}
@@ -26,7 +26,7 @@ use Rattle.cq_resume.specs.Resumed.{Kept, Runs, kept_in, kept_on}
 use Rattle.cq_resume.specs.Switch.{Switch}
 use Rattle.cq_resume.specs.Told.{named_in, queued_in}
 use Rattle.cq_resume.specs.declared.taken.Taken.{Taken}
-use Rattle.cq_state.specs.State.{AreRankNumbers, IsCount, IsInRange, IsMoved, IsNamed, IsSeen, IsSent}
+use Rattle.cq_state.specs.State.{AreRankNumbers, IsInRange, IsMoved, IsNamed, IsSeen, IsSent}
 use Rattle.cq_state.specs.declared.state.Named.{Named}
 use Rattle.cq_state.specs.declared.state.Sent.{Sent}
 use Rattle.cq_stopped.proofs.Beside.{KnownRun, known_run}
@@ -55,10 +55,6 @@ module _ (last : ℕ) where
   least_few a [] le = le
   least_few a (n ∷ ns) le = least_few (min a n) ns (omega arith)
 
-  least_some : last < 2 ^ 63 → (ns : List ℕ) → AllByRecursion IsFew ns → IfSome (reduce min ns) IsCount
-  least_some low [] all = tt
-  least_some low (n ∷ ns) all = let le = least_few n ns all.0 in let P : fold min n ns < 2 ^ 63 = omega arith in P
-
   cushions_few : (f : Fabric) → ((j : ℕ) → length (list_of f.buffers j) ≤ last) → (a : ℕ) (cells : List Queued) →
       AllByRecursion IsFew (map (λ (at : ℕ × Queued). cushion_of f at.1 - at.0) (enumerate_from a cells))
   cushions_few f few a [] = tt
@@ -79,7 +75,7 @@ module _ (last : ℕ) where
     one_seen : last < 2 ^ 63 → (i : ℕ) (rs : List SlotRecord) → AllByRecursion (IsRecordedWithin ports last) rs →
         IsSeen (seen_as (input_figures rs i))
     unfolding input_figures
-    one_seen low i rs all = grind (arith, common_steps, most_few, longest_few, least_some, slacks_few)
+    one_seen low i rs all = search (arith, rules, most_few, longest_few, slacks_few, least_few)
 
     pub all_seen : last < 2 ^ 63 → (rs : List SlotRecord) → AllByRecursion (IsRecordedWithin ports last) rs →
         (a n : ℕ) →
@@ -144,11 +140,9 @@ module _ (w : Switch) (ranks : List (List ℕ)) (at : Taken) (rs : List LimitedR
     states_right : AllByRecursion AreRankNumbers at.frozen.ranks
     states_right =
         let many = states_many w at ideal (came_of rs) known in
-        rank_numbers at.frozen.ranks within.ends.states
-        (λ j inside.
+        rank_numbers at.frozen.ranks within.ends.states (λ j inside.
         let size = state_sized w at ideal (came_of rs) known j inside in
-        let small = configured.small j (omega arith) in
-        omega arith)
+        let small = configured.small j (omega arith) in omega arith)
 
     -- the name of a cell that the run keeps
     named_right : (c : Named) → Has (named_in (told_state w at)) c → IsNamed ports c

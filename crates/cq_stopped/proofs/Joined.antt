@@ -120,15 +120,6 @@ module _ {X Y : Type 0} (number : X → ℕ) (f : X → Y) where
   has_number xs y j same has = subst (λ (n : ℕ). Has (of_number n xs) (f y)) same (number_has xs y has)
 
   module _ (R : Y → Y → Type 0) where
-    of_first : (x : X) (xs : List X) (j : ℕ) → EachPair R (of_number j (x ∷ xs)) → EachPair R (of_number j xs)
-    of_first x xs j pairs = by (number x == j) pairs
-      where
-        by : (b : Bool) →
-            EachPair R (map f (cond b (x ∷ filter (λ z. number z == j) xs) (filter (λ z. number z == j) xs))) →
-            EachPair R (of_number j xs)
-        by true pairs = pairs.1
-        by false pairs = pairs
-
     first_pairs : (x : X) (xs : List X) → EachPair R (of_number (number x) (x ∷ xs)) →
         AllByRecursion (λ y. number x ≡ number y → R (f x) (f y)) xs
     first_pairs x xs pairs =
@@ -140,4 +131,4 @@ module _ {X Y : Type 0} (number : X → ℕ) (f : X → Y) where
         ((j : ℕ) → P j → EachPair R (of_number j xs)) →
         EachPair (λ x y. number x ≡ number y → R (f x) (f y)) xs
     pairs_by_number P [] own pairs = tt
-    pairs_by_number P (x ∷ xs) own pairs = search (rules, first_pairs, of_first, pairs_by_number P xs own.1)
+    pairs_by_number P (x ∷ xs) own pairs = search (arith, rules, first_pairs, EachPair, pairs_by_number P xs own.1)

@@ -52,8 +52,8 @@ slot_in_order slot a [] = tt
 slot_in_order slot a (None ∷ gone) = slot_in_order slot (a + 1) gone
 slot_in_order slot a (Some q ∷ gone) =
     let one : Departure = record { slot = slot; output = a; queued = q } in (
-      each_departs slot (λ (e : Departure). DepartsBefore one e) gone (a + 1)
-          (λ k j p is at. inr (refl, (let lt : a < j = omega arith in lt))),
+      each_departs slot (λ (e : Departure). DepartsBefore one e) gone (a + 1) (λ k j p is at.
+          inr (refl, (let lt : a < j = omega arith in lt))),
       slot_in_order slot (a + 1) gone,
     )
 
@@ -139,24 +139,18 @@ module _ (w : Switch) where
       let of = slot_transfers r.of_slot in
       let rest = moved_from m (a + 1) run.0 g rs run.2 in
       record {
-        pairs =
-            pairs_join IsMovedBefore here later (slot_moved r.of_slot) rest.pairs
-            (λ s t first second.
+        pairs = pairs_join IsMovedBefore here later (slot_moved r.of_slot) rest.pairs (λ s t first second.
             let now = all_of_has (λ (x : Transfer). x.slot ≡ r.of_slot.slot) here s of first in
             let late = all_of_has (λ (x : Transfer). a + 1 ≤ x.slot) later t rest.late second in
             inl (let lt : s.slot < t.slot = omega arith in lt));
-        late =
-            all_both (λ (t : Transfer). a ≤ t.slot) here later
-            (all_weaker (λ (t : Transfer). t.slot ≡ r.of_slot.slot) (λ (t : Transfer). a ≤ t.slot)
-            (λ t same. omega arith) here of)
-            (all_weaker (λ (t : Transfer). a + 1 ≤ t.slot) (λ (t : Transfer). a ≤ t.slot) (λ t le. omega arith) later
-            rest.late);
-        early =
-            all_both (λ (t : Transfer). t.slot < a + suc m) here later
-            (all_weaker (λ (t : Transfer). t.slot ≡ r.of_slot.slot) (λ (t : Transfer). t.slot < a + suc m)
-            (λ t same. omega arith) here of)
-            (all_weaker (λ (t : Transfer). t.slot < a + 1 + m) (λ (t : Transfer). t.slot < a + suc m)
-            (λ t lt. omega arith) later rest.early);
+        late = all_both (λ (t : Transfer). a ≤ t.slot) here later (all_weaker
+            (λ (t : Transfer). t.slot ≡ r.of_slot.slot) (λ (t : Transfer). a ≤ t.slot) (λ t same. omega arith) here
+            of) (all_weaker (λ (t : Transfer). a + 1 ≤ t.slot) (λ (t : Transfer). a ≤ t.slot) (λ t le. omega arith)
+            later rest.late);
+        early = all_both (λ (t : Transfer). t.slot < a + suc m) here later (all_weaker
+            (λ (t : Transfer). t.slot ≡ r.of_slot.slot) (λ (t : Transfer). t.slot < a + suc m)
+            (λ t same. omega arith) here of) (all_weaker (λ (t : Transfer). t.slot < a + 1 + m)
+            (λ (t : Transfer). t.slot < a + suc m) (λ t lt. omega arith) later rest.early);
       }
 
   pub moved_in_order : (n : ℕ) (f g : Marked Fabric) (rs : List LimitedRecord) →

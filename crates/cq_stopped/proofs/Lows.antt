@@ -1,6 +1,6 @@
 -- The numbers of the rank states fit 128 bits, since the run would stop at the first rank that does not.
 use Rattle.std.proofs.lemmas.Grind.{common_steps}
-use Rattle.std.proofs.Common.{arith, rules, ◌≡◌, ℕ, zero, suc, ◌+◌, ◌<◌, ◌^◌, List, [], ◌∷◌, length, map, Option, None, Some, Result, Ok, refl}
+use Rattle.std.proofs.Common.{arith, rules, ◌≡◌, ℕ, zero, suc, ◌+◌, ◌<◌, ◌^◌, List, [], ◌∷◌, length, map, Option, None, Some, Result, Ok}
 use Rattle.std.specs.Prelude.{slice_index_or, slice_set}
 use Rattle.std.specs.List.{AllByRecursion, range_with_len}
 use Rattle.std.proofs.lemmas.Bool.{ltb-true}
@@ -31,15 +31,9 @@ pub record RankedLow (r : Ranking) : Type 0 where
   pub states : AllByRecursion AreLow r.ranks
   pub came : (k : ℕ) (q : Queued) → came_to r.came k ≡ Some q → q.key.rank < 2 ^ 128
 
-low_came : (o : Option Queued) (came : List (Option Queued)) → ((q : Queued) → o ≡ Some q → q.key.rank < 2 ^ 128) →
-    ((k : ℕ) (q : Queued) → came_to came k ≡ Some q → q.key.rank < 2 ^ 128) →
-    (k : ℕ) (q : Queued) → came_to (o ∷ came) k ≡ Some q → q.key.rank < 2 ^ 128
-low_came o came first rest zero q is = first q is
-low_came o came first rest (suc k) q is = rest k q is
-
 behind_low : (o : Option Queued) (x : Result Ranking TagFault) (r : Ranking) → after_input o x ≡ Ok r →
     ((q : Queued) → o ≡ Some q → q.key.rank < 2 ^ 128) → ((s : Ranking) → x ≡ Ok s → RankedLow s) → RankedLow r
-behind_low o x r h first rest = grind (arith, common_steps, behind, AreLow, low_came)
+behind_low o x r h first rest = search (arith, rules, behind, AreLow)
 
 module _ (ms : List Machine) (keeps : (j : ℕ) → KeepsLow (machine_at ms j)) where
   pub ranked_low : (slot i : ℕ) (cells : List (Option Cell)) (states : List (List ℕ)) (r : Ranking) →
@@ -49,19 +43,12 @@ module _ (ms : List Machine) (keeps : (j : ℕ) → KeepsLow (machine_at ms j)) 
   ranked_low slot i (Some cell ∷ cells) states r all h =
       search (rules, fits, ltb-true, behind_low, low_set, low_at, ranked_low slot (i + 1) cells)
 
-  -- after the outputs were told what they sent
-  one_told : (j : ℕ) (s : List ℕ) (o : Option Queued) → AreLow s → ((q : Queued) → o ≡ Some q → q.key.rank < 2 ^ 128) →
-      AreLow (told (machine_at ms j) s o)
-  one_told j s None low sent = (keeps j).idle s low
-  one_told j s (Some q) low sent = (keeps j).sent s q.key.level q.key.rank low (sent q refl)
-
   told_from : (gone : List (Option Queued)) (states : List (List ℕ)) (a n : ℕ) → AllByRecursion AreLow states →
       ((j : ℕ) (q : Queued) → slice_index_or gone j None ≡ Some q → q.key.rank < 2 ^ 128) →
       AllByRecursion AreLow (map (λ j. told (machine_at ms j) (slice_index_or states j []) (slice_index_or gone j None))
       (range_with_len a n))
   told_from gone states a zero all sent = tt
-  told_from gone states a (suc n) all sent =
-      search (rules, one_told, low_at, told_from gone states (a + 1) n all sent)
+  told_from gone states a (suc n) all sent = search (arith, rules, low_at, told_from gone states (a + 1) n all sent)
 
   pub told_low : (gone : List (Option Queued)) (states : List (List ℕ)) → AllByRecursion AreLow states →
       ((j : ℕ) (q : Queued) → slice_index_or gone j None ≡ Some q → q.key.rank < 2 ^ 128) →

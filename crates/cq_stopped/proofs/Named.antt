@@ -55,8 +55,7 @@ module _ (w : Switch) (at : Taken) (ideal : IdealState) (cs : List (List (Option
 
   pub is_waiting : (c : Named) → Has (queued_in (told_state w at)) c → IsWaiting c
   unfolding state_of
-  is_waiting c has =
-      ⊎_elim (of_image at.frozen.lists c (waits_at w at.frozen.next f ideal cs at.sent known))
+  is_waiting c has = ⊎_elim (of_image at.frozen.lists c (waits_at w at.frozen.next f ideal cs at.sent known))
       (of_image at.frozen.buffers c (waits_behind w at.frozen.next f ideal cs at.sent known))
       (has_cases (map named_as (all_of at.frozen.lists)) (map named_as (all_of at.frozen.buffers)) c has)
 
@@ -87,15 +86,13 @@ module _ (w : Switch) (at : Taken) (ideal : IdealState) (cs : List (List (Option
 
   pub name_waits : (i : ℕ) (q : Queued) → Has (input f i) q → Has (named_in (told_state w at)) (named_as q)
   name_waits i q has =
-      waits_named q
-      (has_left (map named_as (all_of at.frozen.lists)) (map named_as (all_of at.frozen.buffers)) (named_as q)
-      (has_image named_as (all_of at.frozen.lists) q (has_at_place at.frozen.lists i q has)))
+      waits_named q (has_left (map named_as (all_of at.frozen.lists)) (map named_as (all_of at.frozen.buffers))
+      (named_as q) (has_image named_as (all_of at.frozen.lists) q (has_at_place at.frozen.lists i q has)))
 
   pub name_behind : (j : ℕ) (q : Queued) → Has (buffer f j) q → Has (named_in (told_state w at)) (named_as q)
   name_behind j q has =
-      waits_named q
-      (has_right (map named_as (all_of at.frozen.lists)) (map named_as (all_of at.frozen.buffers)) (named_as q)
-      (has_image named_as (all_of at.frozen.buffers) q (has_at_place at.frozen.buffers j q has)))
+      waits_named q (has_right (map named_as (all_of at.frozen.lists)) (map named_as (all_of at.frozen.buffers))
+      (named_as q) (has_image named_as (all_of at.frozen.buffers) q (has_at_place at.frozen.buffers j q has)))
 
   pub name_left : (d : Departure) → Has at.sent d → Has (named_in (told_state w at)) (named_as d.queued)
   unfolding state_of

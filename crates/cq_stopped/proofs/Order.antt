@@ -108,24 +108,16 @@ module _ (w : Switch) (at : Taken) (ideal : IdealState) (cs : List (List (Option
   stand_in_order =
       let Timely : Sent → Type 0 = λ d. (d.cell.slot ≤ d.slot) × (d.slot < at.frozen.next) in
       record {
-        lists =
-            all_pairs (λ (a b : Named). a.input ≤ b.input) (map named_as (all_of at.frozen.lists))
+        lists = all_pairs (λ (a b : Named). a.input ≤ b.input) (map named_as (all_of at.frozen.lists))
             (pairs_of_images named_as (λ (a b : Named). a.input ≤ b.input) (all_of at.frozen.lists) inputs_rise);
-        keys =
-            all_pairs _ (map named_as (all_of at.frozen.lists))
-            (pairs_of_images named_as
-            (λ (a b : Named).
-            a.input ≡ b.input → output_of w.came a ≡ output_of w.came b → is_ahead a b ≡ true)
+        keys = all_pairs _ (map named_as (all_of at.frozen.lists)) (pairs_of_images named_as
+            (λ (a b : Named). a.input ≡ b.input → output_of w.came a ≡ output_of w.came b → is_ahead a b ≡ true)
             (all_of at.frozen.lists) keys_rise);
-        buffers =
-            all_pairs (IsBufferedBefore w.came) (map named_as (all_of at.frozen.buffers))
+        buffers = all_pairs (IsBufferedBefore w.came) (map named_as (all_of at.frozen.buffers))
             (pairs_of_images named_as (IsBufferedBefore w.came) (all_of at.frozen.buffers) buffers_rise);
-        sent =
-            all_pairs (IsSentBefore w.came) (map sent_as at.sent)
+        sent = all_pairs (IsSentBefore w.came) (map sent_as at.sent)
             (pairs_of_images sent_as (IsSentBefore w.came) at.sent sent_rise);
-        sent_times =
-            All-from_recursion Timely (map sent_as at.sent)
-            (all_from_has Timely (map sent_as at.sent)
+        sent_times = All-from_recursion Timely (map sent_as at.sent) (all_from_has Timely (map sent_as at.sent)
             (λ d has.
             let image = image_has sent_as at.sent d has in
             let right = all_of_has (IsSentRight w at.frozen.next) at.sent image.0 known.departed image.1 in

@@ -2,11 +2,9 @@
 -- each came in an earlier slot. In the order of keys none of these stands behind it: each has its level and no greater
 -- rank. So of each two cells, what left the output and then what waits there, the one ahead goes before the other as
 -- it did.
+use Rattle.std.proofs.Common.{rules, ◌≡◌, ℕ, zero, suc, ◌+◌, ◌<◌, ◌≤◌, true, false, List, [], ◌∷◌, ◌++◌, Option, Some, None, refl, ap, inl, inr, ⊎_elim, arith}
 use Rattle.std.proofs.lemmas.Grind.{common_steps}
-use Rattle.std.proofs.Common.{◌≡◌, ℕ, zero, suc, ◌+◌, ◌<◌, ◌≤◌, true, false, List, [], ◌∷◌, ◌++◌, Option, Some, None, refl, ap, inl, inr, ⊎_elim, arith}
 use Rattle.std.specs.List.{AllByRecursion}
-use Rattle.std.specs.declared.cmp.Ordering.{Ordering}
-use Rattle.std.specs.Ordering.{is_lt, nat_cmp, ordering_then}
 use Rattle.std.proofs.lemmas.Bool.{both_ways, cases_lt, cond_both, eq-eqb, eqb-true, le-ltb, lt-ltb, false_from_ne_true}
 use Rattle.cq_base.proofs.Keys.{key_laws}
 use Rattle.cq_base.specs.Cells.{EachPair as EachCell, is_for, put}
@@ -24,16 +22,10 @@ use Rattle.cq_stopped.proofs.Ran.{Follows}
 
 -- ## A lesser key
 
-less_then : (x y : ℕ) (p : Ordering) → x ≤ y → (x ≡ y → is_lt p ≡ true) → is_lt (ordering_then (nat_cmp x y) p) ≡ true
-less_then x y p le f = grind (arith, common_steps, lt-ltb, le-ltb, eq-eqb, cases_lt)
-
-less : (x y : ℕ) (p : Ordering) → x < y → is_lt (ordering_then (nat_cmp x y) p) ≡ true
-less x y p lt = less_then x y p (omega arith) (λ e. absurd (omega arith))
-
 -- of one level, with no greater rank and of an earlier slot
 pub is_less : (a b : Key) → a.level ≡ b.level → a.rank ≤ b.rank → a.slot < b.slot → is_before a b ≡ true
 unfolding is_before
-is_less a b level rank slot = grind (arith, common_steps, less_then, less)
+is_less a b level rank slot = search (arith, rules, lt-ltb, le-ltb, eq-eqb, cases_lt)
 
 -- what comes before none that a cell comes before does not come before the cell
 none_before : (n x y : Key) → is_before n x ≡ true → is_before y x ≡ false → is_before y n ≡ false

@@ -63,11 +63,6 @@ all_present P (None ∷ cells) each = all_present P cells (λ k cell is. each (s
 all_present P (Some cell ∷ cells) each =
     (each zero cell refl, all_present P cells (λ k other is. each (suc k) other is))
 
--- the first and the rest are the list
-first_rest : (ys : List Queued) → listed (slice_get ys 0) ++ drop 1 ys ≡ ys
-first_rest [] = refl
-first_rest (y ∷ ys) = refl
-
 first_has : (ys : List Queued) (q : Queued) → slice_get ys 0 ≡ Some q → Has ys q
 first_has [] q is = absurd (let P : ⊥ = cc in P)
 first_has (y ∷ ys) q is = inl (same_Some y q is)
@@ -204,16 +199,13 @@ module _ (w : Switch) (ranks : List (List ℕ)) (configured : IsConfigured w ran
 
   -- what left and what waits
   pool_is : (j : ℕ) → j < length w.machines → pool_at j sent_next next ≡ left_at j sent ++ full j
-  pool_is j inside = search (rules, left_more, left_at, listed, gone_is, next_is, append_assoc, first_rest)
+  pool_is j inside = search (arith, rules, left_more, left_at, listed, gone_is, next_is, append_assoc)
 
   -- ## At each output
 
   module _ (j : ℕ) (inside : j < length w.machines) where
     lane : Lane w n j (slice_index_or ideal.ranks j []) (left_at j sent) (list_of ideal.lists j)
     lane = known.lanes j inside
-
-    own_left : AllByRecursion (IsOwn w n j) (left_at j sent)
-    own_left = all_left (IsOwn w n j) (left_at j sent) (list_of ideal.lists j) lane.own
 
     own_waiting : AllByRecursion (IsOwn w n j) (list_of ideal.lists j)
     own_waiting = all_right (IsOwn w n j) (left_at j sent) (list_of ideal.lists j) lane.own
@@ -234,7 +226,7 @@ module _ (w : Switch) (ranks : List (List ℕ)) (configured : IsConfigured w ran
         }) (among_put_all j r.of_slot.came (list_of ideal.lists j) q (among_of_has (full j) q has)))
 
     own_all : AllByRecursion (IsOwn w (n + 1) j) (left_at j sent ++ full j)
-    own_all = search (rules, all_both, IsOwn, left_at, all_weaker, older, own_left, own_full)
+    own_all = search (arith, rules, all_both, IsOwn, left_at, all_weaker, older, own_full, all_left)
 
     earlier : AllByRecursion (IsEarlier j n 0) (left_at j sent ++ list_of ideal.lists j)
     earlier = grind (arith, common_steps, all_weaker, IsOwn, IsEarlier, left_at)

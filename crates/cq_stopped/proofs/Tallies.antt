@@ -4,7 +4,7 @@
 use Rattle.std.proofs.lemmas.Grind.{common_steps}
 use Rattle.std.proofs.Common.{rules, ◌≡◌, ℕ, zero, suc, ◌+◌, ◌<◌, ◌≤◌, ◌⊎◌, eqb, Bool, true, false, cond, List, [], ◌∷◌, length, length-append, map, Option, None, Some, refl, sym, ap, ◌∙◌, subst, ⊎_elim, arith}
 use Rattle.std.specs.Prelude.{All, filter, flat_map, is_some}
-use Rattle.std.specs.List.{AllByRecursion, list_any, range_with_len}
+use Rattle.std.specs.List.{AllByRecursion, range_with_len}
 use Rattle.std.proofs.lemmas.Bool.{cases_eq, eq-eqb, ne_eqb}
 use Rattle.std.proofs.lemmas.List.{get_or-map, get_or-replicate, length-map, length-replicate, map-append, same_lists}
 use Rattle.std.proofs.lemmas.List.Elements.{All-from_recursion, filter-append, filter_agree}
@@ -167,10 +167,6 @@ has_as_name : (names : List Named) (a : Arrival) → has_name (map as_name names
 has_as_name [] a = refl
 has_as_name (c ∷ names) a = grind (arith, common_steps, has_as_name names a)
 
-any_same : (p q : Arrival → Bool) → ((a : Arrival) → p a ≡ q a) → (xs : List Arrival) → list_any p xs ≡ list_any q xs
-any_same p q same [] = refl
-any_same p q same (x ∷ xs) = grind (arith, common_steps, any_same p q same xs)
-
 -- ## Together
 
 module _ (w : Switch) (ranks : List (List ℕ)) (st : State) (rs : List LimitedRecord) (g : Marked Fabric)
@@ -281,7 +277,7 @@ module _ (w : Switch) (ranks : List (List ℕ)) (st : State) (rs : List LimitedR
 
   same_mark : (o : Option Arrival) → is_left_out names next w.came o ≡ is_refused w.came st o
   same_mark None = refl
-  same_mark (Some a) = grind (arith, common_steps, any_same, same_name)
+  same_mark (Some a) = search (arith, rules, same_name)
 
   pub marks_are : ports ≡ st.head.ports → g.marks ≡ marks_told w.came st
   marks_are many = all_marks w.limits next w.came names ports are g.marks counts known

@@ -2,18 +2,16 @@
 -- cell; the figures, since as many names are of an input as cells came to it; and the marks and the counts, since the
 -- arrivals that are not named are those that were refused. And so each packet is named whole, or was refused whole.
 use Rattle.std.proofs.lemmas.Grind.{common_steps}
-use Rattle.std.proofs.Common.{arith, rules, ◌≡◌, ℕ, ◌<◌, ◌^◌, List, map, sym, ap, ◌∙◌, length, refl}
+use Rattle.std.proofs.Common.{arith, rules, ◌≡◌, ℕ, ◌<◌, ◌^◌, List, map, sym, ap, ◌∙◌}
 use Rattle.cq_base.specs.Arriving.{Arrival}
 use Rattle.cq_ideal.specs.Ending.{arriving_from}
-use Rattle.cq_ideal.specs.IdealRun.{departures_of}
 use Rattle.cq_ideal.specs.IdealSlot.{IdealState}
 use Rattle.cq_ideal.specs.Refused.{refused_counts}
 use Rattle.cq_laws.specs.Frozen.{fabric_in, marked_in}
-use Rattle.cq_laws.specs.LimitedFabric.{LimitedRecord, slots_in}
-use Rattle.cq_laws.specs.Records.{gone_in}
+use Rattle.cq_laws.specs.LimitedFabric.{LimitedRecord}
 use Rattle.cq_resume.proofs.Chained.{each_pair}
 use Rattle.cq_resume.proofs.GoesOn.{Differ}
-use Rattle.cq_resume.specs.Counted.{figures_told, frozen_told, marks_told, refused_arrivals, sent_told, taken_of}
+use Rattle.cq_resume.specs.Counted.{figures_told, frozen_told, marks_told, refused_arrivals, taken_of}
 use Rattle.cq_resume.specs.Parts.{nothing_kept, opening}
 use Rattle.cq_resume.specs.Reading.{state_of}
 use Rattle.cq_resume.specs.Resumed.{Kept, Runs, kept_in, kept_on}
@@ -30,7 +28,6 @@ use Rattle.cq_stopped.proofs.Named.{named_is}
 use Rattle.cq_stopped.proofs.Ran.{Known, came_of}
 use Rattle.cq_stopped.proofs.Tallies.{counts_are, marks_are, packets_are}
 use Rattle.cq_stopped.specs.Stopped.{told_state}
-use Rattle.cq_resume.specs.Told.{named_in}
 
 module _ (w : Switch) (ranks : List (List ℕ)) (at : Taken) (rs : List LimitedRecord) (configured : IsConfigured w ranks)
     (runs : Runs w 0 (arriving_from w.came 0 at.frozen.next) (opening w ranks) rs (marked_in at.frozen))
@@ -53,21 +50,25 @@ module _ (w : Switch) (ranks : List (List ℕ)) (at : Taken) (rs : List LimitedR
       (told_state
       w at)))
   unfolding state_of
-  refused_same =
-      ap (λ (k : Kept). k.refused) kept
+  refused_same = ap (λ (k : Kept). k.refused) kept
       ∙ counts_are w ranks st rs (marked_in at.frozen) configured.few configured.packets runs
       (named_is w at ideal (came_of rs) known)
 
-  sent_told_is : sent_told w.came (told_state w at) ≡ departures_of 0 (gone_in (slots_in rs))
-  sent_told_is = sym (sent_same w at ideal (came_of rs) known) ∙ ap (λ (k : Kept). k.sent) kept
-
   figures_same : at.frozen.figures ≡ figures_told w.came (told_state w at)
   unfolding state_of
-  figures_same =
-      figures_are w.came st rs (within w ranks at rs configured runs kept early).numbered
-      (each_pair Differ (named_in st) (arrivals_are w at ideal (came_of rs) known).once)
-      (named_is w at ideal (came_of rs) known) at.frozen.figures (length w.machines)
-      (figures_are_of w ranks at rs configured runs kept early) sent_told_is known.ports refl refl refl
+  figures_same = search (
+    arith,
+    rules,
+    figures_are,
+    within,
+    each_pair,
+    Differ,
+    arrivals_are,
+    came_of,
+    named_is,
+    figures_are_of,
+    sent_same,
+  )
 
   frozen_same : at.frozen ≡ frozen_told w (told_state w at)
   unfolding frozen_told state_of

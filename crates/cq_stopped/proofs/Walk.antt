@@ -4,7 +4,7 @@
 -- mark before it ends, with the mark of the run.
 use Rattle.std.proofs.lemmas.Grind.{common_steps}
 use Rattle.std.proofs.Common.{rules, ◌≡◌, ℕ, zero, suc, ◌+◌, ◌<◌, ◌≤◌, ◌^◌, eqb, leb, ltb, Bool, true, false, cond, List, [], ◌∷◌, length, Option, None, Some, Ok, refl, sym, ap, ◌∙◌, subst, inl, inr, ⊎_elim, arith}
-use Rattle.std.specs.Prelude.{◌&&◌, ◌||◌, ◌==◌, filter, find, is_some, nat_lt, not, slice_index_or, slice_set, option_map}
+use Rattle.std.specs.Prelude.{◌&&◌, filter, find, is_some, nat_lt, not, slice_index_or, slice_set, option_map}
 use Rattle.std.specs.List.{AllByRecursion, cons_option}
 use Rattle.std.proofs.lemmas.Bool.{and_parts, and_right, cases_Bool, cases_lt, eq-eqb, eqb-true, le-ltb, lt-leb}
 use Rattle.std.proofs.lemmas.List.FromFn.{get_or-map-range_with_len}
@@ -19,7 +19,7 @@ use Rattle.cq_cells.specs.Traffic.{is_from}
 use Rattle.cq_ideal.proofs.Admitted.{admitted_at, marks_kept}
 use Rattle.cq_ideal.proofs.FlowRank.{only_ok}
 use Rattle.cq_ideal.proofs.Packets.{refused_here}
-use Rattle.cq_ideal.specs.Admission.{Marked, admission, held_after, is_full, is_full_at, mark_after, mark_at, marks_after, unless, Admission}
+use Rattle.cq_ideal.specs.Admission.{Marked, admission, held_after, mark_after, mark_at, marks_after, unless, Admission}
 use Rattle.cq_ideal.specs.Ending.{arriving_from}
 use Rattle.cq_ideal.specs.Limiter.{where_up}
 use Rattle.cq_ideal.specs.Ranking.{Ranking, after_input, keyed, ranking}
@@ -31,7 +31,7 @@ use Rattle.cq_rank.specs.Machine.{Machine, machine_at}
 use Rattle.cq_resume.proofs.Coming.{is_between, one_comes}
 use Rattle.cq_resume.proofs.GoesOn.{found_at}
 use Rattle.cq_resume.proofs.Walking.{cells_in}
-use Rattle.cq_resume.specs.Finding.{ComeBehind, IsLine, coming, has_limit, is_same, mark_on, may_come}
+use Rattle.cq_resume.specs.Finding.{ComeBehind, IsLine, coming, has_limit, is_same, mark_on}
 use Rattle.cq_resume.specs.Resumed.{Runs}
 use Rattle.cq_resume.specs.Switch.{Switch}
 use Rattle.cq_stopped.proofs.Ran.{came_in, came_of}
@@ -80,18 +80,6 @@ mark_moves limits held (mark ∷ marks) [] i inside = (held, refl)
 mark_moves limits held (mark ∷ marks) (cell ∷ cells) zero inside = (held, refl)
 mark_moves limits held (mark ∷ marks) (cell ∷ cells) (suc i) inside =
     mark_moves limits (held_after (mark_after limits held mark cell) held cell) marks cells i (omega arith)
-
--- an output that is full has a limit
-full_limited : (limits : List (Option ℕ)) (held : List ℕ) (j : ℕ) → is_full_at limits held j ≡ true →
-    has_limit limits j ≡ true
-full_limited limits held j full = by (slice_index_or limits j None) refl full
-  where
-    by : (o : Option ℕ) → slice_index_or limits j None ≡ o →
-        is_full (slice_index_or limits j None) (slice_index_or held j 0) ≡ true → has_limit limits j ≡ true
-    by None none is =
-        let clash : false ≡ true = sym (ap (λ (x : Option ℕ). is_full x (slice_index_or held j 0)) none) ∙ is in
-        absurd (let P : ⊥ = cc in P)
-    by (Some n) some is = ap (λ (x : Option ℕ). is_some x) some
 
 -- ## The arrivals at an input from a slot on
 
@@ -186,31 +174,15 @@ module _ (named : Arrival → Bool) (limits : List (Option ℕ)) where
       (named_is : named a ≡ not next) where
     -- a refused cell is for an output that has a limit
     limited_here : next ≡ true → has_limit limits a.cell.output ≡ true
-    limited_here up = grind (arith, common_steps, full_limited, cases_Bool)
-
-    named_or_limited : (t : Bool) → next ≡ t → (named a || has_limit limits a.cell.output) ≡ true
-    named_or_limited true up =
-        ap (λ (b : Bool). named a || b) (limited_here up) ∙ or_yes (named a)
-      where
-        or_yes : (b : Bool) → (b || true) ≡ true
-        or_yes true = refl
-        or_yes false = refl
-    named_or_limited false down = ap (λ (b : Bool). b || has_limit limits a.cell.output) (named_is ∙ ap not down)
+    limited_here up = search (arith, rules, cases_Bool)
 
     as_marked : (m : Bool) → is_same m (not (not m)) ≡ true
     as_marked true = refl
     as_marked false = refl
 
-    comes_right : may_come (a.cell.id.index == 0) (named a) (has_limit limits a.cell.output) mark ≡ true
-    comes_right = grind (arith, common_steps, named_or_limited, as_marked, cases_Bool)
-
-    back : (b : Bool) → not (not b) ≡ b
-    back true = refl
-    back false = refl
-
     pub step_ends : (m : Bool) → mark_on named (has_limit limits) next rest ≡ Some m →
         mark_on named (has_limit limits) mark (a ∷ rest) ≡ Some m
-    step_ends m ends = grind (arith, common_steps, comes_right, back)
+    step_ends m ends = search (arith, rules, as_marked, cases_Bool, limited_here)
 
     pub step_follows : Follow next rest
     step_follows =
@@ -270,8 +242,8 @@ module _ (w : Switch) (i : ℕ) (few : i < 64) (whole : IsLine (filter (is_from 
     mark_is =
         let it = mark_moves w.limits (fabric_held f.state) f.marks (arriving w.came slot) i many in (
           it.0,
-          ap (λ (a : Admission). mark_at a.marks i) admits ∙ it.1 ∙ ap (mark_after w.limits it.0 (mark_at f.marks
-              i)) (arrival_is slot),
+          ap (λ (a : Admission). mark_at a.marks i) admits ∙ it.1
+              ∙ ap (mark_after w.limits it.0 (mark_at f.marks i)) (arrival_is slot),
         )
 
     marks_long : length g.marks ≡ length f.marks
@@ -366,16 +338,11 @@ module _ (w : Switch) (i : ℕ) (few : i < 64) (whole : IsLine (filter (is_from 
       let long = marks_long slot f run.0 r many step.admits step.marks in
       let at : slot + 0 ≡ slot = omega arith in
       let here : is_some (came_in cs slot i) ≡ is_some (arrival_at r.admission.cells i) =
-      ap (λ (t : ℕ). is_some (came_in cs t i)) (sym at)
-      ∙ ap (λ (o : Option Queued). is_some o) (known 0)
-      ∙ came_where w.machines slot 0 r.admission.cells f.state.ranks (record {
-        came = r.of_slot.came;
-        ranks = r.of_slot.arrived.ranks;
-      }) step.runs.arrive.ranked i in
+      ap (λ (t : ℕ). is_some (came_in cs t i)) (sym at) ∙ ap (λ (o : Option Queued). is_some o) (known 0)
+      ∙ came_where w.machines slot 0 r.admission.cells f.state.ranks
+      (record { came = r.of_slot.came; ranks = r.of_slot.arrived.ranks }) step.runs.arrive.ranked i in
       slot_more slot f run.0 r many step.admits step.marks (arriving_at w.came slot i) refl (omega arith)
-      (refused_here w.limits i (arriving_from w.came (slot + 1) n) (admissions_in rs)) (mark_at g.marks i) follow here
-      (λ goes.
-      walked (slot + 1) n run.0 g rs run.2 (omega arith) (omega arith)
-      (λ k.
+      (refused_here w.limits i (arriving_from w.came (slot + 1) n) (admissions_in rs)) (mark_at g.marks i) follow
+      here (λ goes. walked (slot + 1) n run.0 g rs run.2 (omega arith) (omega arith) (λ k.
       let place : slot + 1 + k ≡ slot + suc k = omega arith in
       ap (λ (t : ℕ). came_in cs t i) place ∙ known (suc k)) goes)

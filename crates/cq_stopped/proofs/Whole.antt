@@ -1,6 +1,5 @@
 -- A run of a configured switch up to a slot: what is known of the empty fabric is known after each slot.
-use Rattle.std.proofs.lemmas.Grind.{common_steps}
-use Rattle.std.proofs.Common.{◌≡◌, ℕ, zero, suc, ◌+◌, List, [], ◌∷◌, ◌++◌, length, map, replicate, Option, sym, subst, arith}
+use Rattle.std.proofs.Common.{rules, ◌≡◌, ℕ, zero, suc, ◌+◌, List, [], ◌∷◌, ◌++◌, length, map, Option, sym, subst, arith}
 use Rattle.std.specs.List.{range_with_len}
 use Rattle.std.proofs.lemmas.Bool.{cases_lt}
 use Rattle.std.proofs.lemmas.List.{append-nil, append_assoc, get_or-replicate, get_or_past, length-replicate}
@@ -15,7 +14,6 @@ use Rattle.cq_laws.proofs.LimitedWhole.{limited_empty_agree}
 use Rattle.cq_laws.specs.Fabric.{Fabric, empty_fabric}
 use Rattle.cq_laws.specs.LimitedFabric.{LimitedRecord, slots_in}
 use Rattle.cq_laws.specs.Records.{gone_in}
-use Rattle.cq_prefs.specs.FirstCells.{list_of}
 use Rattle.cq_resume.proofs.Having.{Has}
 use Rattle.cq_resume.specs.Parts.{opening}
 use Rattle.cq_resume.specs.Resumed.{Runs}
@@ -65,11 +63,9 @@ module _ (w : Switch) (ranks : List (List ℕ)) (configured : IsConfigured w ran
 
   -- ## The empty fabric
 
-  nothing_at : (i : ℕ) → list_of (replicate (length w.machines) []) i ≡ []
-  nothing_at i = grind (arith, common_steps, get_or-replicate, get_or_past, length-replicate, cases_lt)
-
   known_first : Known w 0 (empty_fabric (length w.machines) ranks) (empty_ideal (length w.machines) ranks) [] []
-  known_first = grind (arith, common_steps, limited_empty_agree, length-replicate, Lane, nothing_at, Has)
+  known_first =
+      search (arith, rules, limited_empty_agree, length-replicate, Lane, Has, get_or-replicate, get_or_past, cases_lt)
 
   pub stopped_is : (n : ℕ) (rs : List LimitedRecord) (f : Marked Fabric) →
       Runs w 0 (arriving_from w.came 0 n) (opening w ranks) rs f →

@@ -5,8 +5,7 @@
 use Rattle.std.proofs.lemmas.Grind.{common_steps}
 use Rattle.std.proofs.Common.{rules, ◌≡◌, ℕ, zero, suc, ◌+◌, ◌<◌, ◌≤◌, ◌⊎◌, ◌^◌, List, [], ◌∷◌, length, replicate, Option, None, Some, refl, sym, ap, ◌∙◌, subst, inl, inr, ⊎_elim, arith, drop, length-drop}
 use Rattle.std.specs.Prelude.{filter_map}
-use Rattle.std.specs.List.{AllByRecursion, cons_option, range_with_len}
-use Rattle.std.specs.Option.{option_map}
+use Rattle.std.specs.List.{AllByRecursion, range_with_len}
 use Rattle.std.proofs.lemmas.Bool.{cases_lt, cond_both, eqb-true}
 use Rattle.std.proofs.lemmas.List.{get_or-replicate, get_or_past, length-replicate}
 use Rattle.std.proofs.lemmas.List.Edits.{length-insert}
@@ -31,7 +30,7 @@ use Rattle.cq_laws.specs.Phases.{Transfers, came_to, list_arrived}
 use Rattle.cq_laws.specs.Places.{HasFor}
 use Rattle.cq_laws.specs.Records.{transfers_in}
 use Rattle.cq_prefs.specs.FirstCells.{list_of, orders_of}
-use Rattle.cq_prefs.specs.Moves.{list_taken, noted, transfers_of}
+use Rattle.cq_prefs.specs.Moves.{noted, transfers_of}
 use Rattle.cq_prefs.specs.Pairing.{IsStable, Partners, partner_of}
 use Rattle.cq_rank.specs.Machine.{machine_at}
 use Rattle.cq_resume.proofs.Each.{all_both}
@@ -48,17 +47,9 @@ use Rattle.cq_traffic.proofs.ForPorts.{place_of}
 
 -- ## Lists that get longer and shorter
 
-longer_one : (f : Fabric) (came : Option Queued) (xs : List Queued) → length (list_arrived f came xs) ≤ length xs + 1
-longer_one f None xs = omega arith
-longer_one f (Some c) xs = grind (arith, common_steps, length-insert)
-
 length_put : (c : Queued) (xs : List Queued) → length (put c xs) ≡ suc (length xs)
 length_put c [] = refl
 length_put c (x ∷ xs) = grind (arith, common_steps, cond_both, length_put c xs)
-
-taken_among : (p : Option ℕ) (xs : List Queued) (q : Queued) → IsAmong q (list_taken p xs) → IsAmong q xs
-taken_among None xs q has = has
-taken_among (Some j) xs q has = left_among j xs q has
 
 came_or_was : (f : Fabric) (came : Option Queued) (xs : List Queued) (q : Queued) → IsAmong q (list_arrived f came xs) →
     (came ≡ Some q) ⊎ IsAmong q xs
@@ -67,7 +58,7 @@ came_or_was f (Some c) xs q has = grind (arith, common_steps, among_insert)
 
 module _ (m : Partners) (old new : Fabric) (moves : Transfers m old new) where
   still_among : (i : ℕ) (q : Queued) → IsAmong q (input new i) → IsAmong q (input old i)
-  still_among i q has = taken_among (partner_of m i) (input old i) q (subst (IsAmong q) (moves.moves.taken i) has)
+  still_among i q has = search (arith, rules, left_among)
 
   one_crosses : (slot : ℕ) → Sound slot old → IsStable (orders_of old.inputs) m → (j : ℕ) →
       length (buffer new j) ≤ length (buffer old j) + 1
@@ -93,37 +84,9 @@ module _ (ports slot phase : ℕ) (early : slot < 2 ^ 63) (known_phase : (1 ≤ 
       abbrev note : ℕ → Option Transfer
       note i = noted slot phase i (list_of lists i) (partner_of m i)
 
-      one_moved : (i : ℕ) (p : Option ℕ) (rest : List Transfer) → AllByRecursion (IsMoved ports) rest →
-          AllByRecursion (IsMoved ports) (cons_option (noted slot phase i (list_of lists i) p) rest)
-      one_moved i None rest all = all
-      one_moved i (Some j) rest all = by (first_for j (list_of lists i)) refl
-        where
-          by : (o : Option Queued) → first_for j (list_of lists i) ≡ o →
-              AllByRecursion (IsMoved ports) (cons_option (option_map (λ (c : Queued). record {
-                slot = slot;
-                phase = phase;
-                input = i;
-                output = j;
-                id = c.cell.id;
-              }) o) rest)
-          by None is = all
-          by (Some c) is =
-              let it = each i j c is in (
-                record {
-                  slot = early;
-                  phase = known_phase;
-                  input = it.input;
-                  output = it.output;
-                  packet = it.small.0;
-                  index = it.small.1;
-                  own = it.own;
-                },
-                all,
-              )
-
       moved_from : (a n : ℕ) → AllByRecursion (IsMoved ports) (filter_map note (range_with_len a n))
       moved_from a zero = tt
-      moved_from a (suc n) = grind (arith, common_steps, one_moved, moved_from (a + 1) n)
+      moved_from a (suc n) = search (arith, rules, moved_from (a + 1) n)
 
       all_moved : AllByRecursion (IsMoved ports) (transfers_of m lists slot phase)
       unfolding transfers_of
@@ -178,7 +141,8 @@ module _ (w : Switch) (names : AllByRecursion HasSmallName w.came) (keeps : (j :
           let small = all_of_has HasSmallName w.came it.arrival names it.has in (
             record {
               small = subst (λ (c : Cell). (c.id.packet < 2 ^ 32) × (c.id.index < 2 ^ 32)) it.own small;
-              rank = ranked.came i q is;
+              rank =
+                  ranked.came i q is;
             },
             ap (λ (c : Cell). c.id.input) (sym it.own) ∙ it.input,
           )
@@ -199,7 +163,7 @@ module _ (w : Switch) (names : AllByRecursion HasSmallName w.came) (keeps : (j :
           (subst (λ (l : List (List Queued)). IsAmong q (list_of l i)) k.step.runs.depart.inputs has)
 
       arrived_list : (i : ℕ) → length (input r.of_slot.arrived i) ≤ slot + 1
-      arrived_list i = grind (arith, common_steps, longer_one)
+      arrived_list i = search (arith, rules, length-insert)
 
       new_list : (i : ℕ) → length (input g.state i) ≤ slot + 1
       new_list i =
@@ -213,14 +177,12 @@ module _ (w : Switch) (names : AllByRecursion HasSmallName w.came) (keeps : (j :
       new_buffer : (j : ℕ) → length (buffer g.state j) ≤ slot + 1
       new_buffer j =
           let arrived = arrived_buffer j in
-          let filled =
-          one_crosses r.of_slot.first r.of_slot.arrived r.of_slot.filled k.step.runs.fill (slot + 1)
+          let filled = one_crosses r.of_slot.first r.of_slot.arrived r.of_slot.filled k.step.runs.fill (slot + 1)
           (arrived_is w slot (arriving w.came slot) f g r k) k.step.runs.first_chosen j in
           let sent : length (buffer r.of_slot.sent j) ≡ length (drop 1 (buffer r.of_slot.filled j)) =
           ap (λ (l : List Queued). length l) (left_is w slot (arriving w.came slot) f g r k j) in
           let less = length-drop 1 (buffer r.of_slot.filled j) in
-          let new =
-          one_crosses r.of_slot.second r.of_slot.sent g.state k.step.runs.finish (slot + 1)
+          let new = one_crosses r.of_slot.second r.of_slot.sent g.state k.step.runs.finish (slot + 1)
           (sent_is w slot (arriving w.came slot) f g r k) k.step.runs.second_chosen j in
           omega arith
 
@@ -266,25 +228,20 @@ module _ (w : Switch) (names : AllByRecursion HasSmallName w.came) (keeps : (j :
           let early : r.of_slot.slot < 2 ^ 63 = omega arith in
           let arrived_many : length r.of_slot.arrived.inputs ≡ length w.machines =
           k.step.runs.arrive.ports ∙ k.ports_are in
-          let sent_many : length r.of_slot.sent.inputs ≡ length w.machines =
-          ap (λ (l : List (List Queued)). length l) k.step.runs.depart.inputs ∙ k.step.runs.fill.moves.ports.0
-          ∙ arrived_many in
+          let sent_many : length r.of_slot.sent.inputs ≡ length w.machines = ap (λ (l : List (List Queued)). length l)
+          k.step.runs.depart.inputs ∙ k.step.runs.fill.moves.ports.0 ∙ arrived_many in
           record {
             longest = λ i. let less = arrived_list i in omega arith;
             cushions = λ j. let less = arrived_buffer j in omega arith;
-            moved = all_both (IsMoved (length w.machines)) (transfers_of r.of_slot.first r.of_slot.arrived.inputs
-                r.of_slot.slot 1)
-                (transfers_of r.of_slot.second r.of_slot.sent.inputs r.of_slot.slot 2)
-                (all_moved (length w.machines) r.of_slot.slot 1 early (omega arith, omega arith)
-                r.of_slot.arrived.inputs
-                r.of_slot.first
+            moved = all_both (IsMoved (length w.machines))
+                (transfers_of r.of_slot.first r.of_slot.arrived.inputs r.of_slot.slot 1)
+                (transfers_of r.of_slot.second r.of_slot.sent.inputs r.of_slot.slot 2) (all_moved (length w.machines)
+                r.of_slot.slot 1 early (omega arith, omega arith) r.of_slot.arrived.inputs r.of_slot.first
                 (crosses r.of_slot.arrived arrived_many
                 (λ i q has. (arrived_is w slot (arriving w.came slot) f g r k).fabric.outputs i q has)
-                (λ j q has. of_arrived w slot (arriving w.came slot) f g r k Fits all_fit j q has)
-                arrived_own))
+                (λ j q has. of_arrived w slot (arriving w.came slot) f g r k Fits all_fit j q has) arrived_own))
                 (all_moved (length w.machines) r.of_slot.slot 2 early (omega arith, omega arith) r.of_slot.sent.inputs
-                r.of_slot.second
-                (crosses r.of_slot.sent sent_many
+                r.of_slot.second (crosses r.of_slot.sent sent_many
                 (λ i q has. (sent_is w slot (arriving w.came slot) f g r k).fabric.outputs i q has)
                 (λ j q has. of_sent w slot (arriving w.came slot) f g r k Fits all_fit j q has)
                 (λ i q has. arrived_own i q (sent_among i q has))));

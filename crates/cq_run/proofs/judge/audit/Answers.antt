@@ -12,9 +12,8 @@ returns-in_err-trace g c = rw (exit_is _ c.from_residual-in_err-trace.ensures.1)
 
 pub returns-in_err-log : goal.returns-in_err-log
 returns-in_err-log g c =
-    rw (exit_is _ c.from_residual-in_err-log.ensures.1)
-    (log_ends g.met.F.Files.lasts c.in_ok-given.ensures.given c.read_text.ensures.kept c.in_ok-trace.ensures.judges
-    c.read_text-2.ensures.kept c.in_err-log.ensures.judges)
+    rw (exit_is _ c.from_residual-in_err-log.ensures.1) (log_ends g.met.F.Files.lasts c.in_ok-given.ensures.given
+    c.read_text.ensures.kept c.in_ok-trace.ensures.judges c.read_text-2.ensures.kept c.in_err-log.ensures.judges)
 
 pub returns-in_err-audit_texts : goal.returns-in_err-audit_texts
 returns-in_err-audit_texts g c =

@@ -34,9 +34,8 @@ returns-in_err-given-in-Resume g c = rw (exit_is _ c.from_residual-in_err-given-
 
 pub returns-in_err-text-in-Resume : goal.returns-in_err-text-in-Resume
 returns-in_err-text-in-Resume g c =
-    rw (exit_is _ c.from_residual-in_err-text-in-Resume.ensures.1, c.in-Resume.is)
-    (text_ends g.met.F.Files.lasts c.in_ok-given-in-Resume.ensures.given c.read_stopped.ensures.kept
-    c.in_err-text-in-Resume.ensures.judges)
+    rw (exit_is _ c.from_residual-in_err-text-in-Resume.ensures.1, c.in-Resume.is) (text_ends g.met.F.Files.lasts
+    c.in_ok-given-in-Resume.ensures.given c.read_stopped.ensures.kept c.in_err-text-in-Resume.ensures.judges)
 
 pub returns-in_ok-text-in-Resume : goal.returns-in_ok-text-in-Resume
 returns-in_ok-text-in-Resume g c = rw c.in-Resume.is (resume_judged g.met.F.Files.lasts

@@ -10,11 +10,13 @@ invariant-loop-writes g l =
     let now = g.F.Files.space l.files in
     record {
       closed : now.mode ≡ Closed;
-      told : all_replaced l.writes.items now.told ≡ all_replaced l.fn.writes.items start.told;
-      uncounted : now.faults ≡ start.faults;
+      told : all_replaced l.writes.items now.told
+          ≡ all_replaced l.fn.writes.items start.told;
+      uncounted : now.faults
+          ≡ start.faults;
       kept : g.F.Files.keeps l.fn.files l.files;
-      cut : (name : List ℕ) (end : Space) → IsCutAtFile l.writes.items name now end →
-          IsCutAtFile l.fn.writes.items name start end;
+      cut : (name : List ℕ) (end : Space)
+          → IsCutAtFile l.writes.items name now end → IsCutAtFile l.fn.writes.items name start end;
     }
 
 abbrev pub decreases-loop-writes : goal.decreases-loop-writes

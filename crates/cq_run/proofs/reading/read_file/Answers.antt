@@ -7,8 +7,8 @@ use Rattle.cq_space.specs.Failing.{Fails, Reads}
 
 pub returns-in-Err-Fault-clause-halts : goal.returns-in-Err-Fault-clause-halts
 returns-in-Err-Fault-clause-halts g c = λ r.
-    let P : List ℕ → Type 0 =
-    λ n. Fails g.F.Files.space g.F.Files.may_fail g.F.Files.keeps (Reads n) c.args.files.now c.read_whole.new.files in (
+    let P : List ℕ → Type 0 = λ n. Fails g.F.Files.space g.F.Files.may_fail g.F.Files.keeps (Reads n)
+    c.args.files.now c.read_whole.new.files in (
       c.in-Err-Fault.ensures.whole.fault (ap Err c.in-Err-Fault.field-0-is),
       (refl, subst P c.text.ensures (c.in-Err-Fault.ensures.why (ap Err c.in-Err-Fault.field-0-is))),
       capture_is_to_read r (g.F.Files.space c.args.files.now).told c.args.name c.args.input c.args.limit,

@@ -7,8 +7,7 @@ pub returns-in_err-tables-clause-ends : goal.returns-in_err-tables-clause-ends
 returns-in_err-tables-clause-ends g c = search (arith, rules, exit_is, tables_end)
 
 pub returns-in_err-captures-clause-ends : goal.returns-in_err-captures-clause-ends
-returns-in_err-captures-clause-ends g c =
-    rw (exit_is _ c.from_residual-in_err-captures.ensures.1)
+returns-in_err-captures-clause-ends g c = rw (exit_is _ c.from_residual-in_err-captures.ensures.1)
     (captures_end g.met.F.Files.lasts c.in_ok-tables.ensures.judges c.read_configuration.ensures.kept
     c.in_err-captures.ensures.judges c.read_inputs.ensures.kept)
 

@@ -47,12 +47,12 @@ pub read_port-requires-clause-closed : goal.read_port-requires-clause-closed
 read_port-requires-clause-closed g c = (c.ports.invariant.judged from_front).closed
 
 pub returns-in_err-put_capture-clause-judges : goal.returns-in_err-put_capture-clause-judges
-returns-in_err-put_capture-clause-judges g c = λ r.
-    rw (exit_is _ c.from_residual-in_err-put_capture.ensures.1)
-    record {
-      ok = tt;
-      halt = (c.in_ok-capture.ensures.judges r).uncounted ∙ (c.ports.invariant.judged r).uncounted;
-      closed = (c.in_ok-capture.ensures.judges r).closed;
-      told = (c.in_ok-capture.ensures.judges r).told ∙ (c.ports.invariant.judged r).told;
-      uncounted = tt;
-    }
+returns-in_err-put_capture-clause-judges g c = λ r. rw (exit_is _ c.from_residual-in_err-put_capture.ensures.1) record {
+  ok = tt;
+  halt = (c.in_ok-capture.ensures.judges r).uncounted
+      ∙ (c.ports.invariant.judged r).uncounted;
+  closed = (c.in_ok-capture.ensures.judges r).closed;
+  told =
+      (c.in_ok-capture.ensures.judges r).told ∙ (c.ports.invariant.judged r).told;
+  uncounted = tt;
+}
