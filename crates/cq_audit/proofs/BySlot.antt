@@ -1,17 +1,13 @@
 -- The lines of a log by slots and phases. Of lines of earlier slots and then later ones, those before a slot are the
 -- first, and those of its phases are among the others.
-use Rattle.std.proofs.lemmas.Grind.{common_steps}
-use Rattle.std.proofs.Common.{◌≡◌, ℕ, ◌+◌, ◌<◌, ◌≤◌, ◌⊎◌, eqb, ltb, Bool, true, false, List, [], ◌∷◌, ◌++◌, refl, ◌∙◌, ⊎_elim, inl, inr, arith}
-use Rattle.std.specs.List.{AllByRecursion, filter}
-use Rattle.std.proofs.lemmas.Bool.{and_from, and_left, and_parts, and_right, cases_lt, cond-false, cond_both, eq-eqb, eqb-true, false_from_ne_true, le-ltb, lt-ltb, ltb-true, ne_eqb}
-use Rattle.std.proofs.lemmas.List.{append-nil}
-use Rattle.std.proofs.lemmas.List.Elements.{filter-append}
-use Rattle.cq_base.specs.declared.cell.Transfer.{Transfer}
-use Rattle.cq_audit.specs.Log.{AreInOrder, IsOf}
-use Rattle.cq_audit.specs.Phase.{AllBehind, NoneBefore, in_phase, is_at}
-use Rattle.cq_audit.specs.Running.{FirstIsLeast}
-use Rattle.cq_audit.specs.StableRun.{before_slot}
-use Rattle.cq_audit.proofs.Following.{weaker}
+-- The lines of a log, phase by phase. They are in order, so where none is of an earlier phase those of this one
+-- stand at the front, in order of input, and the others are of later ones.
+use Rattle.cq_audit.proofs.Terms.{rules, ◌≡◌, ℕ, ◌+◌, ◌<◌, ◌≤◌, Bool, true, false, List, [], ◌∷◌, ◌++◌, refl, arith, suc, ◌-◌, ◌⊎◌, take, drop, ap, ⊎_elim, common_steps, AllByRecursion, filter, position_or_len, and_from, and_left, and_parts, and_right, cases_lt, cond-false, cond_both, eq-eqb, eqb-true, false_from_ne_true, le-ltb, lt-ltb, ltb-true, ne_eqb, cases_Bool, append-nil, append_cancel_left, filter-append, Transfer, AreInOrder, IsBefore, IsOf, AllBehind, NoneBefore, in_phase, is_at, AreParted, FirstIsLeast, before_slot, all_weaker, not, first_here, first_later, all_front}
+
+pub all_give : {X : Type 0} (P Q S : X → Type 0) → ((x : X) → P x → Q x → S x) → (xs : List X) →
+    AllByRecursion P xs → AllByRecursion Q xs → AllByRecursion S xs
+all_give P Q S give [] p q = tt
+all_give P Q S give (x ∷ xs) p q = (give x p.0 q.0, all_give P Q S give xs p.1 q.1)
 
 -- ## What is kept of lines by a test
 
@@ -42,18 +38,19 @@ module _ (keep : Transfer → Bool) where
 -- ## Lines before a slot
 
 module _ (slot : ℕ) where
-  early : (t : Transfer) → t.slot < slot → ltb t.slot slot ≡ true
-  early t lt = lt-ltb t.slot slot lt
-
-  late : (t : Transfer) → slot ≤ t.slot → ltb t.slot slot ≡ false
-  late t le = le-ltb t.slot slot le
-
   pub before_all : (xs : List Transfer) → AllByRecursion (λ t. t.slot < slot) xs → before_slot slot xs ≡ xs
-  before_all xs all = grind (arith, common_steps, keeps_all, weaker, early)
+  before_all xs all = grind (arith, common_steps, keeps_all, all_weaker, lt-ltb)
 
   pub before_is : (xs ys : List Transfer) → AllByRecursion (λ t. t.slot < slot) xs →
       AllByRecursion (λ t. slot ≤ t.slot) ys → before_slot slot (xs ++ ys) ≡ xs
-  before_is xs ys all none = grind (arith, common_steps, keeps_first, weaker, early, late)
+  before_is xs ys all none = grind (arith, common_steps, keeps_first, all_weaker, lt-ltb, le-ltb)
+
+  -- so they are parted in one way
+  pub one_parting : (xs ys us vs : List Transfer) → AllByRecursion (λ t. t.slot < slot) xs →
+      AllByRecursion (λ t. slot ≤ t.slot) ys → AllByRecursion (λ t. t.slot < slot) us →
+      AllByRecursion (λ t. slot ≤ t.slot) vs → xs ++ ys ≡ us ++ vs → (xs ≡ us) × (ys ≡ vs)
+  one_parting xs ys us vs a b c d e =
+      let same : xs ≡ us = grind (arith, common_steps, before_is) in (same, append_cancel_left us ys vs (cc))
 
   -- those before this slot are among those before a later one
   pub before_later : (to : ℕ) (note : List Transfer) → slot ≤ to →
@@ -63,82 +60,109 @@ module _ (slot : ℕ) where
   -- ## Lines of a phase
 
   module _ (phase : ℕ) where
-    other_slot : (t : Transfer) → (t.slot ≡ slot → ⊥) → is_at slot phase t ≡ false
-    other_slot t ne = and_left (eqb t.slot slot) (eqb t.phase phase) (ne_eqb t.slot slot ne)
-
     -- earlier lines are none of this phase
     pub phase_later : (xs ys : List Transfer) → AllByRecursion (λ t. t.slot < slot) xs →
         in_phase slot phase (xs ++ ys) ≡ in_phase slot phase ys
-    phase_later xs ys all = grind (arith, common_steps, keeps_later, weaker, other_slot)
+    phase_later xs ys all = grind (arith, common_steps, keeps_later, all_weaker, and_left, ne_eqb)
 
     -- and so are later ones
     pub phase_now : (xs ys : List Transfer) → AllByRecursion (λ t. slot + 1 ≤ t.slot) ys →
         in_phase slot phase (xs ++ ys) ≡ in_phase slot phase xs
-    phase_now xs ys all = grind (arith, common_steps, filter-append, keeps_none, weaker, other_slot, append-nil)
+    phase_now xs ys all = grind (
+      arith,
+      common_steps,
+      filter-append,
+      keeps_none,
+      all_weaker,
+      and_left,
+      ne_eqb,
+      append-nil,
+    )
 
     -- the lines of the phase are before each later slot
     pub phase_before : (to : ℕ) (note : List Transfer) → slot < to →
         in_phase slot phase (before_slot to note) ≡ in_phase slot phase note
     phase_before to note lt = grind (arith, common_steps, keeps_of_kept, and_parts, eqb-true, lt-ltb)
 
-  -- lines of one phase are all of it, and none of another
-  all_own : (phase : ℕ) (xs : List Transfer) → AllByRecursion (λ t. (t.slot ≡ slot) × (t.phase ≡ phase)) xs →
-      AllByRecursion (λ t. is_at slot phase t ≡ true) xs
-  all_own phase = grind (arith, common_steps, weaker, and_from, eq-eqb)
-
   none_other : (phase own : ℕ) → (own ≡ phase → ⊥) → (xs : List Transfer) →
       AllByRecursion (λ t. (t.slot ≡ slot) × (t.phase ≡ own)) xs → AllByRecursion (λ t. is_at slot phase t ≡ false) xs
-  none_other phase own ne = grind (arith, common_steps, weaker, and_right, ne_eqb)
+  none_other phase own ne = grind (arith, common_steps, all_weaker, and_right, ne_eqb)
 
   -- so the lines of the second phase are those behind the lines of the first
   pub second_behind : (xs ys : List Transfer) → AllByRecursion (λ t. (t.slot ≡ slot) × (t.phase ≡ 1)) xs →
       in_phase slot 2 (xs ++ ys) ≡ in_phase slot 2 ys
-  second_behind xs ys first =
-      keeps_later (is_at slot 2) xs ys (none_other 2 1 (λ is. let P : ⊥ = omega arith in P) xs first)
+  second_behind xs ys first = keeps_later (is_at slot 2) xs ys (none_other 2 1 (λ is. cc) xs first)
 
   -- of the lines of the first phase and then those of the second
   pub of_two : (xs ys : List Transfer) → AllByRecursion (λ t. (t.slot ≡ slot) × (t.phase ≡ 1)) xs →
       AllByRecursion (λ t. (t.slot ≡ slot) × (t.phase ≡ 2)) ys →
       (in_phase slot 1 (xs ++ ys) ≡ xs) × (in_phase slot 2 (xs ++ ys) ≡ ys)
-  of_two xs ys first second = (
-    keeps_first (is_at slot 1) xs ys (all_own 1 xs first)
-        (none_other 1 2 (λ is. let P : ⊥ = omega arith in P) ys second),
-    second_behind xs ys first ∙ keeps_all (is_at slot 2) ys (all_own 2 ys second),
-  )
+  of_two xs ys first second =
+      search (arith, rules, keeps_first, none_other, second_behind, keeps_all, all_weaker, and_from, eq-eqb)
 
 -- ## Lines in order
 
 module _ (ports : ℕ) where
   pub first_least : (lines : List Transfer) → AreInOrder ports lines → FirstIsLeast lines
   first_least [] order = tt
-  first_least (t ∷ lines) order = grind (arith, common_steps, weaker)
+  first_least (t ∷ lines) order = grind (arith, common_steps, all_weaker)
 
   -- lines of no earlier slot are of no earlier phase than its first
   pub none_from : (slot : ℕ) (lines : List Transfer) → AreInOrder ports lines →
       AllByRecursion (λ t. slot ≤ t.slot) lines → NoneBefore slot 1 lines
   none_from slot [] order all = tt
-  none_from slot (t ∷ lines) order all = (here t order.0 all.0, none_from slot lines order.2 all.1)
-    where
-      here : (u : Transfer) → IsOf ports u → slot ≤ u.slot → (slot < u.slot) ⊎ ((slot ≡ u.slot) × (1 ≤ u.phase))
-      here u of le =
-          ⊎_elim (λ less. inl less) (λ more. inr (omega arith, omega arith)) (cases_lt slot u.slot)
+  none_from slot (t ∷ lines) order all =
+      grind (arith, common_steps, cases_lt, none_from slot lines order.2 all.1)
 
   pub none_first : (lines : List Transfer) → AreInOrder ports lines → NoneBefore 0 1 lines
-  none_first lines order = none_from 0 lines order (all lines)
-    where
-      all : (ls : List Transfer) → AllByRecursion (λ t. 0 ≤ t.slot) ls
-      all [] = tt
-      all (t ∷ ls) = (omega arith, all ls)
+  none_first [] order = tt
+  none_first (t ∷ lines) order = grind (arith, common_steps, cases_lt, none_first lines order.2)
 
   -- behind the second phase of a slot they are of later slots
   pub none_next : (slot : ℕ) (lines : List Transfer) → AreInOrder ports lines → AllBehind slot 2 lines →
       NoneBefore (slot + 1) 1 lines
-  none_next slot lines order behind = none_from (slot + 1) lines order (later lines order behind)
-    where
-      later : (ls : List Transfer) → AreInOrder ports ls → AllBehind slot 2 ls →
-          AllByRecursion (λ t. slot + 1 ≤ t.slot) ls
-      later [] o b = tt
-      later (t ∷ ls) o b = (
-        ⊎_elim (λ less. omega arith) (λ here. absurd (omega arith)) b.0,
-        later ls o.2 b.1,
-      )
+  none_next slot [] order behind = tt
+  none_next slot (t ∷ lines) order behind =
+      grind (arith, common_steps, cases_lt, none_next slot lines order.2 behind.1)
+
+module _ (ports slot phase : ℕ) where
+  -- a line of this phase, and one behind it that is not earlier
+  at_front : (t : Transfer) (rest lines behind : List Transfer) → is_at slot phase t ≡ true → IsOf ports t →
+      AllByRecursion (IsBefore t) rest → AreParted ports slot phase rest lines behind →
+      AreParted ports slot phase (t ∷ rest) (t ∷ lines) behind
+  at_front t rest lines behind here of later had =
+      let both = and_parts _ _ here in
+      let own_slot = eqb-true t.slot slot both.0 in
+      let own_phase = eqb-true t.phase phase both.1 in
+      let front = all_front (IsBefore t) lines behind (rw had.whole at later) in
+      let rise = all_give _ _ (λ u. t.input < u.input) (λ u before now. grind arith) lines front had.of_phase.now in
+      let own : in_phase slot phase (t ∷ rest) ≡ t ∷ in_phase slot phase rest = grind (arith, common_steps) in
+      search (arith, rules)
+
+  -- a line behind this phase has only lines behind it behind it
+  all_behind : (t : Transfer) (rest : List Transfer) → (slot < t.slot) ⊎ ((slot ≡ t.slot) × (phase < t.phase)) →
+      AllByRecursion (IsBefore t) rest → AllBehind slot phase rest
+  all_behind t rest behind = all_weaker _ _ (λ u after. grind arith) rest
+
+  none_of_it : (rest : List Transfer) → AllBehind slot phase rest → in_phase slot phase rest ≡ []
+  none_of_it [] all = refl
+  none_of_it (u ∷ rest) all = grind (arith, common_steps, cond_both, and_parts, eqb-true, none_of_it rest all.1)
+
+  -- a line that is not of this phase and not earlier is behind it
+  is_behind : (t : Transfer) → is_at slot phase t ≡ false → (slot < t.slot) ⊎ ((slot ≡ t.slot) × (phase ≤ t.phase)) →
+      (slot < t.slot) ⊎ ((slot ≡ t.slot) × (phase < t.phase))
+  is_behind t other none = grind (arith, common_steps, eq-eqb, cases_lt)
+
+  pub parted : (note : List Transfer) (end : ℕ) → end ≡ position_or_len (λ t. not (is_at slot phase t)) note →
+      AreInOrder ports note → NoneBefore slot phase note →
+      AreParted ports slot phase note (take end note) (drop end note)
+  parted [] end is order none = rw is (search (arith, rules))
+  parted (t ∷ note) end is order none =
+      let rest = position_or_len (λ u. not (is_at slot phase u)) note in
+      let had = parted note rest refl order.2 none.1 in
+      ⊎_elim (λ (here : is_at slot phase t ≡ true).
+      let step = first_later (λ u. not (is_at slot phase u)) t note (ap not here) in
+      let next : end ≡ suc rest = omega arith in
+      rw next (at_front t note (take rest note) (drop rest note) here order.0 order.1 had))
+      (λ away. grind (arith, common_steps, first_here, is_behind, all_behind, none_of_it))
+      (cases_Bool (is_at slot phase t))

@@ -1,22 +1,16 @@
+mod Terms
 pub mod LogLines
-pub mod Front
 pub mod OneDifference
 pub mod Mirrored
-pub mod Stable
 pub mod TellingLines
 pub mod LinesMoved
 pub mod PhaseExact
-pub mod Phases
-pub mod Rising
 pub mod Crossings
 pub mod Following
 pub mod WholeFollowing
 pub mod Slots
-pub mod Stands
 pub mod BySlot
 pub mod Skips
-pub mod Replaying
-pub mod Bounded
 pub mod Steps
 pub mod Opened
 pub mod AuditExact

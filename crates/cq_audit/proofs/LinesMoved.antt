@@ -1,32 +1,83 @@
+-- Where no line is wrong and no pair blocks, the pairs that the lines tell are a stable matching: each is of an
+-- input and the output of its first cell, so it is offered, and no output is in two of them, for the greater of two
+-- inputs would have a wrong line. A pair outside it that is offered does not block, so one of its ends has a partner
+-- that it prefers.
 -- Where no line of a phase is wrong, the transfers of the pairs that they tell are the lines. What is noted of an
 -- input is its line: its partner is the output that the line names, and its first cell for that output is the one.
 -- And the lines of all inputs, in order, are the lines.
-use Rattle.std.proofs.lemmas.Grind.{common_steps}
-use Rattle.std.proofs.Common.{◌≡◌, ◌≢◌, ℕ, zero, suc, ◌+◌, ◌<◌, ◌≤◌, ◌⊎◌, inl, List, [], ◌∷◌, length, Option, None, Some, refl, ap, sym, subst, ◌∙◌, ⊎_elim, arith}
-use Rattle.std.specs.List.{AllByRecursion, filter_map, cons_option, range_with_len}
-use Rattle.std.specs.Option.{option_map}
-use Rattle.std.proofs.lemmas.List.{length-map}
-use Rattle.std.proofs.lemmas.Bool.{cases_lt, cases_eq, cond_both, eqb-true, eq-eqb}
-use Rattle.cq_base.specs.declared.cell.CellId.{CellId}
-use Rattle.cq_base.specs.declared.cell.Queued.{Queued}
-use Rattle.cq_base.specs.declared.cell.Transfer.{Transfer}
-use Rattle.cq_base.specs.Cells.{first_for}
-use Rattle.cq_list.specs.InputList.{Waiting, cells_of}
-use Rattle.cq_prefs.specs.FirstCells.{list_of, orders_of, output_order}
-use Rattle.cq_prefs.specs.Moves.{noted, transfers_of}
-use Rattle.cq_prefs.specs.Orders.{Orders, ports}
-use Rattle.cq_prefs.specs.Pairing.{Partners, partner_of}
-use Rattle.cq_audit.specs.Log.{IsOf}
-use Rattle.cq_audit.specs.Phase.{AreOfPhase, AreRight, IsBlocking, IsStableTold, RiseByInput, first_id, line_of_input, told}
-use Rattle.cq_audit.proofs.Stable.{told_at, told_long, told_stable}
+use Rattle.cq_audit.proofs.Terms.{common_steps, ◌≡◌, ◌≢◌, ℕ, zero, suc, ◌+◌, ◌<◌, ◌≤◌, ◌⊎◌, List, [], ◌∷◌, length, Option, None, Some, refl, ap, ◌∙◌, ⊎_elim, arith, rules, inl, inr, sym, AllByRecursion, filter_map, range_with_len, option_map, length-map, get_or_past, cases_eq, cond_both, eqb-true, eq-eqb, cases_lt, Queued, Transfer, first_for, Waiting, cells_of, list_of, orders_of, HasCellFor, output_order, noted, transfers_of, Orders, ports, IsOffered, place_of, position_of, Partners, partner_of, HasBetterInput, HasBetterOutput, IsMatching, IsStable, partner_place, AreOfPhase, AreRight, IsBlocking, IsStableTold, RiseByInput, line_of_input, told, first_id, output_told, all_weaker, get_or-map-range_with_len, length-map-range_with_len, is_output_order, outputs_at}
+use Rattle.cq_audit.proofs.BySlot.{all_give}
 use Rattle.cq_audit.proofs.TellingLines.{line_holds, line_is_of}
+use Rattle.cq_base.specs.declared.cell.CellId.{CellId}
+use Rattle.cq_laws.proofs.Rises.{sender}
+
+-- ## Settled
+
+module _ (o : Orders) (m : Partners) (matching : IsMatching o m) (none : (i j : ℕ) → IsBlocking o m i j → ⊥) where
+  settled : (i j : ℕ) → IsOffered o i j → partner_of m i ≢ Some j → HasBetterOutput o m i j ⊎ HasBetterInput o m i j
+  settled i j offered outside = ⊎_elim (λ better. inl better) (λ (worse : place_of o i j ≤ partner_place o m i).
+      let block : (HasBetterInput o m i j → ⊥) → ⊥ = λ no. none i j
+      (record { offered = offered; outside = outside; no_better_output = λ b. omega arith; no_better_input = no }) in
+      ⊎_elim (λ joined. ⊎_elim (λ better. inr (joined.0, joined.1, better)) (λ (low : position_of o j i ≤ _).
+      absurd (block (λ b. let same = matching.once b.0 joined.0 j b.1 joined.1 in grind arith)))
+      (cases_lt (position_of o j joined.0) (position_of o j i))) (λ free. absurd (block (λ b. free b.0 b.1)))
+      (sender m j)) (cases_lt (partner_place o m i) (place_of o i j))
+
+-- ## What the lines tell
+
+pub some_of : {A B : Type 0} (f : A → B) (o : Option A) (b : B) → option_map f o ≡ Some b →
+    (a : A) × (o ≡ Some a) × (f a ≡ b)
+some_of f o b e = grind (arith, common_steps)
+
+same_id : (a : Option CellId) (b : CellId) → (a ≡ Some b) ⊎ (a ≢ Some b)
+same_id a b = grind (arith, common_steps, cases_eq)
+
+pub told_size : (ports : ℕ) (lines : List Transfer) → length (told ports lines) ≡ ports
+unfolding told
+told_size ports lines = length-map-range_with_len (output_told lines) 0 ports
+
+module _ (lists : List (List Queued)) (lines : List Transfer) where
+  pub told_at : (i : ℕ) → i < length lists → partner_of (told (length lists) lines) i ≡ output_told lines i
+  unfolding told
+  told_at i inside = get_or-map-range_with_len (output_told lines) 0 (length lists) i i None inside (omega arith)
+
+  pub told_long : length (told (length lists) lines) ≡ length lists
+  told_long = told_size (length lists) lines
+
+  -- a partner is that of an input, and its line names it
+  module _ (i j : ℕ) (is : partner_of (told (length lists) lines) i ≡ Some j) where
+    pub told_line : output_told lines i ≡ Some j
+    told_line = search (arith, rules, told_at, get_or_past, told_long, cases_lt)
+
+  module _ (right : AreRight lists lines) where
+    -- the line of an input names its first cell for an output, so there is one
+    pub names_first : (i : ℕ) (t : Transfer) → line_of_input i lines ≡ Some t →
+        first_id t.output (list_of lists i) ≡ Some t.id
+    names_first i t stands =
+        ⊎_elim (λ same. same) (λ other. absurd (right i (record { line = t; stands = stands; wrong = inl other })))
+        (same_id (first_id t.output (list_of lists i)) t.id)
+
+    has_cell : (i : ℕ) (t : Transfer) → line_of_input i lines ≡ Some t → HasCellFor (list_of lists i) t.output
+    has_cell i t stands =
+        let c = some_of (λ q. q.cell.id) (first_for t.output (list_of lists i)) t.id (names_first i t stands) in
+        (c.0, c.1)
+
+    apart : (i k j : ℕ) → output_told lines i ≡ Some j → output_told lines k ≡ Some j → i < k → ⊥
+    apart i k j at_i at_k before = grind (arith, common_steps, right k)
+
+    pub told_matching : IsMatching (orders_of lists) (told (length lists) lines)
+    told_matching = record {
+      size = told_long ∙ sym (length-map lists output_order);
+      offered = λ i j is. let line = some_of (λ t. t.output) (line_of_input i lines) j (told_line i j is) in
+          search (arith, rules, outputs_at lists i, is_output_order (list_of lists i), has_cell i line.0 line.1);
+      once = search (arith, rules, apart, told_line, cases_lt);
+    }
+
+    pub told_stable : ((i j : ℕ) → IsBlocking (orders_of lists) (told (length lists) lines) i j → ⊥) →
+        IsStable (orders_of lists) (told (length lists) lines)
+    told_stable none = record { matching = told_matching; settled = settled _ _ told_matching none }
 
 -- ## The lines of all inputs
-
-filter_map_same : (f g : ℕ → Option Transfer) (a n : ℕ) → ((i : ℕ) → a ≤ i → i < a + n → f i ≡ g i) →
-    filter_map f (range_with_len a n) ≡ filter_map g (range_with_len a n)
-filter_map_same f g a zero same = refl
-filter_map_same f g a (suc n) same = grind (arith, common_steps, filter_map_same f g (a + 1) n)
 
 pub line_first : (i : ℕ) (t : Transfer) (lines : List Transfer) → t.input ≡ i → line_of_input i (t ∷ lines) ≡ Some t
 line_first i t lines is = grind (arith, common_steps, cond_both, eq-eqb)
@@ -37,82 +88,52 @@ line_later i t lines other = grind (arith, common_steps, cond_both, eqb-true)
 
 no_line : (i : ℕ) (lines : List Transfer) → AllByRecursion (λ u. i < u.input) lines → line_of_input i lines ≡ None
 no_line i [] all = refl
-no_line i (t ∷ lines) all = grind (arith, common_steps, line_later, no_line i lines all.1)
-
-above : (a b : ℕ) (lines : List Transfer) → a ≤ b → AllByRecursion (λ u. b < u.input) lines → AllByRecursion
-    (λ u. a < u.input) lines
-above a b [] le all = tt
-above a b (t ∷ lines) le all = (omega arith, above a b lines le all.1)
+no_line i (t ∷ lines) all = grind (arith, common_steps, cond_both, eqb-true, no_line i lines all.1)
 
 -- all lines are of the n inputs from a on
 abbrev Between : ℕ → ℕ → List Transfer → Type 0
 Between a n lines = AllByRecursion (λ u. (a ≤ u.input) × (u.input < a + n)) lines
 
-shorter : (a n : ℕ) (lines : List Transfer) → AllByRecursion (λ u. a < u.input) lines → Between a (suc n) lines →
-    Between (a + 1) n lines
-shorter a n [] later all = tt
-shorter a n (t ∷ lines) later all = grind (arith, common_steps, shorter a n lines later.1 all.1)
+later_between : (a n b : ℕ) (lines : List Transfer) → a ≤ b → AllByRecursion (λ u. b < u.input) lines →
+    Between a (suc n) lines → Between (a + 1) n lines
+later_between a n b lines le = all_give _ _ _ (λ u above between. (omega arith, omega arith)) lines
 
-pub lines_by_input : (lines : List Transfer) (a n : ℕ) → RiseByInput lines → Between a n lines →
-    filter_map (λ i. line_of_input i lines) (range_with_len a n) ≡ lines
-lines_by_input [] a zero rise all = refl
-lines_by_input (t ∷ lines) a zero rise all = let low = all.0.0 in let high = all.0.1 in absurd (omega arith)
-lines_by_input [] a (suc n) rise all = lines_by_input [] (a + 1) n tt tt
-lines_by_input (t ∷ lines) a (suc n) rise all = ⊎_elim (λ (at : t.input ≡ a).
-    ap (λ o. cons_option o (filter_map (λ i. line_of_input i (t ∷ lines)) (range_with_len (a + 1) n)))
-    (line_first a t lines at)
-    ∙ ap (λ (ls : List Transfer). t ∷ ls) (filter_map_same (λ i. line_of_input i (t ∷ lines))
-    (λ i. line_of_input i lines) (a + 1) n
-    (λ i low high. line_later i t lines (λ (is : t.input ≡ i). let P : ⊥ = omega arith in P))
-    ∙ lines_by_input lines (a + 1) n rise.1 (shorter a n lines (above a t.input lines (omega arith) rise.0) all.1)))
+-- what tells of each input its line, tells the lines
+lines_by_input : (f : ℕ → Option Transfer) (lines : List Transfer) (a n : ℕ) →
+    ((i : ℕ) → a ≤ i → i < a + n → f i ≡ line_of_input i lines) → RiseByInput lines → Between a n lines →
+    filter_map f (range_with_len a n) ≡ lines
+lines_by_input f [] a zero same rise all = refl
+lines_by_input f (t ∷ lines) a zero same rise all = absurd (grind arith)
+lines_by_input f [] a (suc n) same rise all =
+    let rest = lines_by_input f [] (a + 1) n (λ i low high. same i (omega arith) (omega arith)) tt tt in
+    let here = same a (omega arith) (omega arith) in grind (arith, common_steps)
+lines_by_input f (t ∷ lines) a (suc n) same rise all = ⊎_elim (λ (at : t.input ≡ a).
+    let rest = lines_by_input f lines (a + 1) n (λ i low high. same i (omega arith) (omega arith)
+    ∙ line_later i t lines (λ is. let P : ⊥ = omega arith in P)) rise.1
+    (later_between a n t.input lines (omega arith) rise.0 all.1) in
+    let here = same a (omega arith) (omega arith) ∙ line_first a t lines at in grind (arith, common_steps))
     (λ (other : t.input ≢ a).
-    let later : a < t.input = ⊎_elim (λ less. less) (λ more. absurd (other (omega arith))) (cases_lt a t.input) in
-    let all_later = above a t.input lines (omega arith) rise.0 in
-    ap (λ o. cons_option o (filter_map (λ i. line_of_input i (t ∷ lines)) (range_with_len (a + 1) n)))
-    (no_line a (t ∷ lines) (later, all_later))
-    ∙ lines_by_input (t ∷ lines) (a + 1) n rise (shorter a n (t ∷ lines) (later, all_later) all))
-    (cases_eq t.input a)
+    let low = all.0.0 in
+    let later = all_weaker _ _ (λ u above. omega arith) lines rise.0 in
+    let rest = lines_by_input f (t ∷ lines) (a + 1) n (λ i low high. same i (omega arith) (omega arith)) rise
+    (later_between a n a (t ∷ lines) (omega arith) (omega arith, later) all) in
+    let here = same a (omega arith) (omega arith) in grind (arith, common_steps, no_line)) (cases_eq t.input a)
 
 -- ## What is noted of an input
 
-same_id : (a b : CellId) → (a ≡ b) ⊎ (a ≢ b)
-same_id a b = grind (arith, common_steps, cases_eq)
+module _ (lists : List (List Queued)) (lines : List Transfer) (right : AreRight lists lines) (i slot phase : ℕ)
+    (are : AreOfPhase (length lists) slot phase lines) where
+  note_is : (o : Option Transfer) → line_of_input i lines ≡ o →
+      noted slot phase i (list_of lists i) (option_map (λ (t : Transfer). t.output) o) ≡ o
+  note_is None is = refl
+  note_is (Some t) is =
+      let c = some_of (λ q. q.cell.id) (first_for t.output (list_of lists i)) t.id
+      (names_first lists lines right i t is) in
+      grind (arith, common_steps, line_holds, line_is_of)
 
-module _ (lists : List (List Queued)) (lines : List Transfer) (right : AreRight lists lines) (i : ℕ) where
-  crosses : ℕ → ℕ → ℕ → CellId → Transfer
-  crosses slot phase j id = record { slot = slot; phase = phase; input = i; output = j; id = id }
-
-  -- its line names its first cell
-  pub names_first : (t : Transfer) → line_of_input i lines ≡ Some t →
-      (c : Queued) × (first_for t.output (list_of lists i) ≡ Some c) × (c.cell.id ≡ t.id)
-  names_first t stands = from (first_for t.output (list_of lists i)) refl
-    where
-      wrong_unless : (first_id t.output (list_of lists i) ≢ Some t.id) → ⊥
-      wrong_unless other = right i (record { line = t; stands = stands; wrong = inl other })
-
-      from : (o : Option Queued) → first_for t.output (list_of lists i) ≡ o →
-          (c : Queued) × (first_for t.output (list_of lists i) ≡ Some c) × (c.cell.id ≡ t.id)
-      from None none = absurd (wrong_unless (λ named.
-          let clash : ◌≡◌ {A = Option CellId} None (Some t.id) = sym
-          (ap (option_map (λ (c : Queued). c.cell.id)) none) ∙ named in cc))
-      from (Some c) some = ⊎_elim (λ same. (c, some, same)) (λ other. absurd (wrong_unless (λ named.
-          let both : Some c.cell.id ≡ Some t.id = sym (ap (option_map (λ (d : Queued). d.cell.id)) some) ∙ named in
-          let own : c.cell.id ≡ t.id = cc in other own))) (same_id c.cell.id t.id)
-
-  module _ (ports slot phase : ℕ) (are : AreOfPhase ports slot phase lines) where
-    note_is : (o : Option Transfer) → line_of_input i lines ≡ o →
-        noted slot phase i (list_of lists i) (option_map (λ (t : Transfer). t.output) o) ≡ o
-    unfolding crosses
-    note_is None is = refl
-    note_is (Some t) is = grind (arith, common_steps, names_first, line_holds, line_is_of)
-
-    pub line_is_noted : i < length lists →
-        noted slot phase i (list_of lists i) (partner_of (told (length lists) lines) i) ≡ line_of_input i lines
-    line_is_noted inside = grind (arith, common_steps, told_at, note_is)
-
-all_between : (n : ℕ) (lines : List Transfer) → AllByRecursion (IsOf n) lines → Between 0 n lines
-all_between n [] all = tt
-all_between n (t ∷ lines) all = ((omega arith, omega arith), all_between n lines all.1)
+  line_is_noted : i < length lists →
+      noted slot phase i (list_of lists i) (partner_of (told (length lists) lines) i) ≡ line_of_input i lines
+  line_is_noted inside = rw (told_at lists lines i inside) (note_is (line_of_input i lines) refl)
 
 pub told_moves : (lists : List (List Queued)) (lines : List Transfer) (slot phase : ℕ) → AreRight lists lines →
     AreOfPhase (length lists) slot phase lines → transfers_of (told (length lists) lines) lists slot phase ≡ lines
@@ -120,10 +141,9 @@ unfolding transfers_of
 told_moves lists lines slot phase right are =
     let note : ℕ → Option Transfer = λ i. noted slot phase i (list_of lists i)
     (partner_of (told (length lists) lines) i) in
-    ap (λ n. filter_map note (range_with_len 0 n)) (told_long lists lines)
-    ∙ filter_map_same note (λ i. line_of_input i lines) 0 (length lists)
-    (λ i low high. line_is_noted lists lines right i (length lists) slot phase are (omega arith))
-    ∙ lines_by_input lines 0 (length lists) are.rise (all_between (length lists) lines are.of)
+    ap (λ n. filter_map note (range_with_len 0 n)) (told_long lists lines) ∙ lines_by_input note lines 0 (length lists)
+    (λ i low high. line_is_noted lists lines right i slot phase are (omega arith)) are.rise
+    (all_weaker _ _ (λ t of. (omega arith, omega arith)) lines are.of)
 
 -- the same of lists, and of the offers of what they hold
 pub judged_stable : (lists : List Waiting) (lines : List Transfer) (slot phase : ℕ) (m : Partners) (o : Orders) →
@@ -132,17 +152,11 @@ pub judged_stable : (lists : List Waiting) (lines : List Transfer) (slot phase :
     IsStableTold (cells_of lists) slot phase lines m
 judged_stable lists lines slot phase m o orders pairs right are none =
     let long = length-map lists (λ (w : Waiting). w.cells) in
-    let same : told (length (cells_of lists)) lines ≡ m = ap (λ n. told n lines) long ∙ sym pairs in
-    let are' : AreOfPhase (length (cells_of lists)) slot phase lines =
-    subst (λ n. AreOfPhase n slot phase lines) (sym long) are in
-    let none' : (i j : ℕ) → IsBlocking (orders_of (cells_of lists)) (told (length (cells_of lists)) lines) i j → ⊥ =
-    subst (λ (q : Orders). (i j : ℕ) → IsBlocking q (told (length (cells_of lists)) lines) i j → ⊥) orders
-    (subst (λ (n : Partners). (i j : ℕ) → IsBlocking o n i j → ⊥) (sym same) none) in
-    subst (IsStableTold (cells_of lists) slot phase lines) same (record {
-      stable = told_stable (cells_of lists) lines right none';
-      moved = told_moves (cells_of lists) lines slot phase right are';
+    rw (pairs, ← long) (record {
+      stable = told_stable (cells_of lists) lines right (rw (orders, pairs, ← long) at none);
+      moved = told_moves (cells_of lists) lines slot phase right (rw (← long) at are);
     })
 
 -- as many offers as lists
 pub offers_long : (lists : List Waiting) → ports (orders_of (cells_of lists)) ≡ length lists
-offers_long lists = length-map (cells_of lists) output_order ∙ length-map lists (λ (w : Waiting). w.cells)
+offers_long lists = simp length-map

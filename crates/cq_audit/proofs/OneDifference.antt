@@ -1,9 +1,9 @@
 -- Two texts differ in one line first. What both begin with, up to where they have no byte in common, leaves no choice:
 -- of two such beginnings neither is longer, for there the texts would have a byte in common.
-use Rattle.std.proofs.lemmas.Grind.{common_steps}
-use Rattle.std.proofs.Common.{arith, ◌≡◌, ◌≢◌, ℕ, ◌+◌, List, [], ◌∷◌, ◌++◌, drop, refl, ap, sym}
-use Rattle.std.proofs.lemmas.List.{append_cancel_left}
-use Rattle.cq_audit.specs.Trace.{IsTraceExact}
+-- Comparing two texts byte by byte. What was the same so far stands at the front of both, and one same byte more
+-- stands there too.
+use Rattle.cq_audit.proofs.Terms.{common_steps, arith, ◌≡◌, ◌≢◌, ℕ, ◌+◌, List, [], ◌∷◌, ◌++◌, drop, refl, ap, sym, ◌≤◌, length, append_assoc, rules, append_cancel_left}
+use Rattle.cq_audit.specs.Trace.{IsTraceExact, feeds}
 
 -- the texts have no byte in common at their front
 abbrev Parted : List ℕ → List ℕ → Type 0
@@ -23,3 +23,21 @@ same_goes_on (c ∷ a) b parted goes_on e = parted c a a refl (sym e)
 
 pub trace_is_exact : IsTraceExact
 trace_is_exact = grind (arith, common_steps, same_goes_on, append_cancel_left, same_front)
+
+pub record SameSoFar (a b left right : List ℕ) (line : ℕ) : Type 0 where
+  pub front : List ℕ
+  pub left_is : a ≡ front ++ left
+  pub right_is : b ≡ front ++ right
+  pub number : line ≡ feeds front + 1
+  pub low : line + length left ≤ length a + 1
+
+feeds_more : (xs : List ℕ) (c : ℕ) → feeds (xs ++ c ∷ []) ≡ feeds xs + feeds (c ∷ [])
+feeds_more [] c = omega arith
+feeds_more (x ∷ xs) c = grind (arith, common_steps, feeds_more xs c)
+
+pub one_same_more : (a b left right x y : List ℕ) (c line next bit : ℕ) → SameSoFar a b left right line →
+    left ≡ c ∷ x → right ≡ c ∷ y → feeds (c ∷ []) ≡ bit → bit ≤ 1 → next ≡ line + bit → SameSoFar a b x y next
+one_same_more a b left right x y c line next bit had e f is small told =
+    let more = feeds_more had.front c in
+    let size = ap length e in
+    search (arith, rules, append_assoc)

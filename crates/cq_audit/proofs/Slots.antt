@@ -3,54 +3,27 @@
 -- the lines is one of the phase in which it comes. What is known where the slot begins is one record, and so is what
 -- each step leaves: what comes is judged and ranked and arrives, the lines of the first phase are gone by, the outputs
 -- send, and the lines of the second are gone by.
-use Rattle.std.proofs.lemmas.Grind.{common_steps}
-use Rattle.std.proofs.Common.{rules, ◌≡◌, ℕ, ◌+◌, ◌<◌, ◌≤◌, ◌^◌, Bool, List, ◌++◌, length, map, get_or, Option, Ok, Err, sym, ap, ◌∙◌, subst, arith, append_assoc, length-append}
-use Rattle.std.proofs.lemmas.List.{length-map}
-use Rattle.cq_base.specs.declared.cell.Cell.{Cell}
-use Rattle.cq_base.specs.declared.cell.Queued.{Queued}
-use Rattle.cq_base.specs.declared.cell.TagFault.{TagFault}
-use Rattle.cq_base.specs.declared.cell.Transfer.{Transfer}
-use Rattle.cq_base.specs.Room.{RoomView}
-use Rattle.cq_rank.specs.Machine.{Machine}
-use Rattle.cq_rank.specs.Switch.{class_count}
-use Rattle.cq_ideal.specs.Admission.{admitted, marked, marks_after}
-use Rattle.cq_ideal.specs.Ideal.{count_for}
+-- A replay before its first slot, and after slots in which nothing happens.
+use Rattle.cq_audit.proofs.Terms.{common_steps, rules, ◌≡◌, ℕ, ◌+◌, ◌<◌, ◌≤◌, ◌^◌, Bool, List, ◌++◌, length, map, get_or, Option, Ok, Err, sym, ap, ◌∙◌, subst, arith, append_assoc, length-append, [], replicate, length-map, length-replicate, Cell, Queued, TagFault, Transfer, RoomView, Machine, class_count, AreForOneSwitch, admitted, marked, marks_after, marks_down, count_for, ranking, admitted_arrives, admitted_for_ports, list_of, SlotRecord, fabric_admission, LimitedFabricRun, empty_limited_fabric, Arrives, transfers_in, ComeApart, FitLists, Queues, fabric_of, admits_are, admitted_room, numbers_fit, still_holds, holds_first, AllBehind, IsPhaseFault, NoneBefore, in_phase, CanCome, CanReplay, IsInStep, IsSlotFault, ReplayView, SlotReplayed, shown, IsHalfPast, SlotFault, all_weaker, no_arrivals, IsStable, IsEmptyFabric, empty_fabric, quiet_limited_slots, empty_agree}
 use Rattle.cq_ideal.specs.IdealSlot.{fronts}
 use Rattle.cq_ideal.specs.Limiter.{ComeToPorts, LimiterView}
-use Rattle.cq_ideal.specs.Parts.{RanksView}
-use Rattle.cq_ideal.specs.Ranking.{ranking}
-use Rattle.cq_ideal.proofs.Admitted.{admitted_arrives, admitted_for_ports}
+use Rattle.cq_ideal.specs.Parts.{RanksView, all_idle}
 use Rattle.cq_ideal.proofs.Sending.{length-told}
 use Rattle.cq_ideal.proofs.Slot.{by_marks}
-use Rattle.cq_prefs.specs.FirstCells.{list_of}
-use Rattle.cq_laws.specs.Agreement.{SendsAlike}
-use Rattle.cq_laws.specs.FabricSlot.{SlotRecord}
-use Rattle.cq_laws.specs.LimitedFabric.{fabric_admission}
-use Rattle.cq_laws.specs.Phases.{Arrives}
-use Rattle.cq_laws.specs.Records.{transfers_in}
+use Rattle.cq_laws.specs.Agreement.{SendsAlike, Agrees}
 use Rattle.cq_fabric.specs.Held.{HoldsFabric}
-use Rattle.cq_fabric.specs.Queues.{ComeApart, FitLists, Queues, fabric_of}
 use Rattle.cq_fabric.proofs.Known.{AreRanked, BuffersHaveRoom, HaveArrived, HaveJudged, HaveMoved, HaveSent}
-use Rattle.cq_fabric.proofs.Limits.{admits_are, admitted_room, numbers_fit, still_holds}
 use Rattle.cq_fabric.proofs.Slot.{alike as sends_alike, arrive as slot_arrives, can_cross_first, can_cross_second, come_apart, depart as slot_departs, few_cross, fill as slot_fills, fits_lists, held_before, is_slot, recorded}
-use Rattle.cq_audit.specs.Log.{AreInOrder}
-use Rattle.cq_audit.specs.Phase.{AllBehind, AreParted, IsPhaseFault, NoneBefore, in_phase}
-use Rattle.cq_audit.specs.Replay.{CanCome, CanReplay, IsInStep, IsSlotFault, ReplayView, SlotReplayed, shown}
 use Rattle.cq_audit.specs.SlotSteps.{CanGoBy, CanSend, HasGoneBy, HaveAllSent, HaveCome}
-use Rattle.cq_audit.specs.StableRun.{IsHalfPast}
-use Rattle.cq_audit.specs.declared.replay.SlotFault.{SlotFault}
 use Rattle.cq_audit.proofs.BySlot.{second_behind}
-use Rattle.cq_audit.proofs.Following.{weaker}
+use Rattle.cq_laws.proofs.InputBest.{stable_limited_run}
+use Rattle.cq_fabric.proofs.Rested.{rested_agrees, rested_limited_run, still_held}
+use Rattle.cq_ideal.specs.IdealRun.{empty_ideal}
 
 -- ## The lines of two phases
 
--- the lines of the second phase stand behind those of the first
-pub second_lines : (ports slot : ℕ) (lines first behind : List Transfer) → AreParted ports slot 1 lines first behind →
-    in_phase slot 2 lines ≡ in_phase slot 2 behind
-second_lines ports slot lines first behind parted = grind (arith, common_steps, second_behind)
-
 pub second_may_come : (slot : ℕ) (lines : List Transfer) → AllBehind slot 1 lines → NoneBefore slot 2 lines
-second_may_come slot lines = grind (arith, common_steps, weaker)
+second_may_come slot lines = grind (arith, common_steps, all_weaker)
 
 -- ## Before a slot
 
@@ -67,7 +40,7 @@ module _ (M : List ℕ → Machine) {slot : ℕ} {v : ReplayView} (ranks : Ranks
 
   pub begun : {cells : List (Option Cell)} {lines : List Transfer} {note : RoomView Transfer} →
       CanReplay (map M v.fixed) slot cells lines v note → Begun M slot cells lines note v ranks q l
-  begun {cells} {lines} {note} can = grind (arith, common_steps)
+  begun can = grind (arith, common_steps)
 
 -- ## What comes
 
@@ -80,13 +53,13 @@ module _ (M : List ℕ → Machine) {slot : ℕ} {cells : List (Option Cell)} (r
   many = length-map ranks.fixed M
 
   pub come_to_ports : ComeToPorts (length l.limits) cells
-  come_to_ports = grind (arith, common_steps, many)
+  come_to_ports = grind (arith, common_steps, length-map)
 
   holds : HoldsFabric (fabric_of q ranks.states) l
-  holds = record { ports = can.in_step.limits ∙ sym can.in_step.ports; held = can.in_step.held }
+  holds = grind (arith, common_steps)
 
   buffers_room : BuffersHaveRoom (length machines) q cells
-  buffers_room j inside = can.buffer_room j (let long = many in omega arith)
+  buffers_room j inside = grind (arith, common_steps, length-map, can.buffer_room)
 
   -- the numbers of cells that outputs hold stay below 2^64
   pub held_fits : ((j : ℕ) → length (list_of q.buffers j) ≤ get_or q.to_outputs j 0) →
@@ -95,24 +68,19 @@ module _ (M : List ℕ → Machine) {slot : ℕ} {cells : List (Option Cell)} (r
   held_fits = grind (arith, common_steps, numbers_fit, holds, buffers_room)
 
   module _ (marks : List Bool) where
-    -- what is admitted by these marks is what the fabric admits
-    admitted_is : marks ≡ marks_after l.limits l.held l.marks cells →
-        by_marks marks cells ≡ fabric_admission l.limits cells (marked l.marks (fabric_of q ranks.states))
-    admitted_is are = admits_are l (fabric_of q ranks.states) cells marks holds are
-
     -- the ranks of what is admitted fit, and so they are found to
     pub no_fault : marks ≡ marks_after l.limits l.held l.marks cells → (fault : TagFault) →
         ranking machines slot 0 (admitted marks cells) ranks.states ≡ Err fault → ⊥
-    no_fault are fault err = grind (arith, common_steps, admitted_is)
+    no_fault are fault err = search (arith, rules, admits_are, holds)
 
     module _ (came : List (Option Queued)) (states : List (List ℕ))
         (is : ranking machines slot 0 (admitted marks cells) ranks.states ≡ Ok (record { came = came; ranks = states }))
       where
         keyed : AreRanked machines slot q ranks.states (admitted marks cells) (class_count machines) came states
-        keyed = grind (arith, common_steps, admitted_for_ports, many)
+        keyed = grind (arith, common_steps, admitted_for_ports, length-map)
 
         pub fit : FitLists came q
-        fit = fits_lists keyed (λ i cell at. can.list_room i cell (admitted_arrives marks cells i cell at))
+        fit = fits_lists keyed (search (arith, rules, can.list_room, admitted_arrives))
 
         pub apart : ComeApart came q.inputs
         apart = come_apart keyed
@@ -140,14 +108,14 @@ module _ {M : List ℕ → Machine} {slot : ℕ} {cells : List (Option Cell)} {l
   judges = grind (arith, common_steps)
 
   room : BuffersHaveRoom (length ms) q0 comes
-  room = admitted_room (length ms) q0 judged.marks cells (buffers_room M ranks0 q0 l known.can.come)
+  room = search (arith, rules, admitted_room, buffers_room)
 
   admits : by_marks judged.marks cells
       ≡ fabric_admission l.limits cells (marked l.marks (fabric_of q0 ranks0.states))
-  admits = admitted_is M ranks0 q0 l known.can.come judged.marks come.judged.marks
+  admits = search (arith, rules, admits_are, holds)
 
   first_long : length q1.inputs ≡ length ranks0.fixed
-  first_long = come.ports ∙ known.can.come.in_step.ports ∙ length-map ranks0.fixed M
+  first_long = search (arith, rules, length-map)
 
   arrives : Arrives ms slot (fabric_admission l.limits cells (marked l.marks (fabric_of q0 ranks0.states))).cells
       come.came (fabric_of q0 ranks0.states) (fabric_of q1 ranks1.states)
@@ -160,7 +128,7 @@ module _ {M : List ℕ → Machine} {slot : ℕ} {cells : List (Option Cell)} {l
   -- a fault of the parts is one of what is seen of them
   seen : (f : SlotFault) → IsSlotFault ms slot cells lines (shown ranks0 q0 l) f →
       IsSlotFault (map M v.fixed) slot cells lines v f
-  seen f = subst (λ (w : ReplayView). IsSlotFault (map M w.fixed) slot cells lines w f) known.is
+  seen f is = rw (← known.is) is
 
   pub first_fault : (f : SlotFault) → (f.phase ≡ 1) × IsPhaseFault q1.inputs (in_phase slot 1 lines) f.fault →
       IsSlotFault (map M v.fixed) slot cells lines v f
@@ -169,29 +137,21 @@ module _ {M : List ℕ → Machine} {slot : ℕ} {cells : List (Option Cell)} {l
   module _ {behind : List Transfer} {q2 : Queues} {note1 : RoomView Transfer}
       (one : HasGoneBy slot 1 lines behind q1 q2 note note1) where
     moved1 : HaveMoved one.crossed.pairs q1 q2
-    moved1 = record { stable = one.crossed.told.stable; moves = one.crossed.moves }
+    moved1 = search (arith, rules)
 
     -- so many outputs may send
     gone_long : length (fronts q2.buffers) ≡ length ranks0.fixed
-    gone_long = grind (arith, common_steps, length-map)
+    gone_long = grind (arith, common_steps, length-map, first_long)
 
     pub can_send : CanSend ranks1 q2 judged
     can_send =
-        let up = known.can.come.in_step in
-        let many = length-map ranks0.fixed M in
-        let fixed = ap length come.fixed in
-        record {
-          few = let long = gone_long in omega arith;
-          machines = gone_long ∙ sym fixed;
-          states = come.many ∙ up.ranks ∙ many ∙ sym fixed;
-          counts = gone_long ∙ sym (judges.as_many ∙ up.limits ∙ many);
-          holds = held_before ranked arrived room moved1 (holds M ranks0 q0 l known.can.come) judges;
-        }
+        let before = held_before ranked arrived room moved1 (holds M ranks0 q0 l known.can.come) judges in
+        search (arith, rules, gone_long, first_long, length-map, before)
 
     module _ {ranks2 : RanksView} {q3 : Queues} {after : LimiterView}
         (sent : HaveAllSent (map M ranks1.fixed) ranks1 ranks2 q2 q3 judged after) where
       have_sent : HaveSent ms q1 ranks1.states q2 ranks2.states q3
-      have_sent = grind (arith, common_steps)
+      have_sent = search (arith, rules)
 
       second_long : length q3.inputs ≡ length q1.inputs
       second_long = ap length sent.inputs ∙ one.crossed.moves.ports.0
@@ -207,23 +167,18 @@ module _ {M : List ℕ → Machine} {slot : ℕ} {cells : List (Option Cell)} {l
 
       half : IsHalfPast ms slot (in_phase slot 1 lines) (fabric_of q1 ranks1.states) (fabric_of q3 ranks2.states)
       half =
-          record {
-            first = one.crossed.pairs;
-            told = record { stable = one.crossed.told.stable; moved = one.crossed.told.moved ∙ one.parted.own };
-            filled = fabric_of q2 ranks1.states;
-            fill = slot_fills ranked arrived room moved1 have_sent;
-            gone = fronts q2.buffers;
-            depart = slot_departs ranked arrived room moved1 have_sent;
-          }
+          let filled = slot_fills ranked arrived room moved1 have_sent in
+          let gone = slot_departs ranked arrived room moved1 have_sent in
+          search (arith, rules)
 
       pub second_fault : (f : SlotFault) → (f.phase ≡ 2) × IsPhaseFault q3.inputs (in_phase slot 2 behind) f.fault →
           IsSlotFault (map M v.fixed) slot cells lines v f
-      second_fault f is = search (rules, second_lines, seen, ranked, arrived, arrives, half)
+      second_fault f is = search (arith, rules, seen, ranked, arrived, arrives, half, second_behind)
 
       module _ {rest : List Transfer} {q4 : Queues} {note2 : RoomView Transfer}
           (two : HasGoneBy slot 2 behind rest q3 q4 note1 note2) where
         moved2 : HaveMoved two.crossed.pairs q3 q4
-        moved2 = record { stable = two.crossed.told.stable; moves = two.crossed.moves }
+        moved2 = search (arith, rules)
 
         abbrev of_slot : SlotRecord
         of_slot = recorded ranked arrived room moved1 have_sent moved2
@@ -231,41 +186,82 @@ module _ {M : List ℕ → Machine} {slot : ℕ} {cells : List (Option Cell)} {l
         alike : SendsAlike ms slot comes ranked.ideal (fronts q2.buffers) (fabric_of q4 ranks2.states)
         alike = sends_alike ranked arrived room moved1 have_sent moved2
 
-        still_held : HoldsFabric (fabric_of q4 ranks2.states) after
-        still_held = still_holds ranked (fronts q2.buffers) (fabric_of q4 ranks2.states) l judged after alike
+        holds_still : HoldsFabric (fabric_of q4 ranks2.states) after
+        holds_still = still_holds ranked (fronts q2.buffers) (fabric_of q4 ranks2.states) l judged after alike
             (holds M ranks0 q0 l known.can.come) judges sent.released
 
         next_step : IsInStep ms (slot + 1) (shown ranks2 q4 after)
-        next_step =
-            let was = known.can.come.in_step in
-            record {
-              machines = was.machines;
-              ports = two.crossed.moves.ports.0 ∙ second_long ∙ come.ports ∙ was.ports;
-              ranks =
-                  ap length have_sent.told ∙ length-told ms (fronts q2.buffers) ranks1.states ∙ come.many ∙ was.ranks;
-              limits = ap length (sent.released.limits ∙ judges.limits) ∙ was.limits;
-              held = still_held.held;
-              ideal = alike.next;
-              agrees = alike.agrees;
-            }
+        next_step = search (arith, rules, second_long, have_sent, length-told, judges, holds_still, alike)
 
         moved : transfers_in of_slot ≡ one.own ++ two.own
         unfolding transfers_in
-        moved = grind (arith, common_steps)
+        moved = search (arith, rules)
 
         pub replayed : SlotReplayed (map M v.fixed) slot cells lines rest v (shown ranks2 q4 after) note note2
         replayed =
             let both = moved in
-            subst (λ (w : ReplayView).
-            SlotReplayed (map M w.fixed) slot cells lines rest w (shown ranks2 q4 after) note note2) known.is
-            (record {
+            let long = second_long ∙ first_long in
+            let slot_is = is_slot ranked arrived room moved1 have_sent moved2 in
+            rw (← known.is) (record {
               of_slot = record { admission = by_marks judged.marks cells; of_slot = of_slot };
-              is_slot = search (arith, rules, admits, is_slot, ranked, arrived, room, moved1, have_sent, moved2);
+              is_slot = search (arith, rules, admits, slot_is);
               moved = search (arith, rules, append_assoc);
-              in_order = subst (λ (n : ℕ). AreInOrder n rest) (second_long ∙ first_long) two.parted.in_order;
+              in_order = rw (← long) two.parted.in_order;
               behind = two.parted.behind;
               in_step = next_step;
               made = search (arith, rules);
               noted = search (arith, rules, append_assoc);
               note_room = search (arith, rules, length-append);
             })
+
+-- ## Before the first slot
+
+-- parts that were made for so many ports: no cell waits, no output holds one, and no mark is up
+pub record AreNew (n : ℕ) (q : Queues) (l : LimiterView) : Type 0 where
+  pub inputs : q.inputs ≡ replicate n []
+  pub buffers : q.buffers ≡ replicate n []
+  pub limits : length l.limits ≡ n
+  pub held : l.held ≡ replicate n 0
+  pub marks : l.marks ≡ marks_down n
+
+module _ {n : ℕ} {q : Queues} {l : LimiterView} (new : AreNew n q l) (ranks : RanksView) where
+  -- the lists and buffers of such queues are those of the empty fabric
+  first_fabric : fabric_of q ranks.states ≡ empty_fabric n ranks.states
+  first_fabric = grind (arith, common_steps)
+
+  pub opening_is : {states : List (List ℕ)} → ranks.states ≡ states →
+      marked l.marks (fabric_of q ranks.states) ≡ empty_limited_fabric n states
+  opening_is same = grind (arith, common_steps, first_fabric)
+
+  pub in_step_first : {ms : List Machine} → AreForOneSwitch ms → length ms ≡ n → length ranks.states ≡ n →
+      IsInStep ms 0 (shown ranks q l)
+  in_step_first one ports long =
+      let none : List Queued = [] in
+      let many = length-replicate n none in
+      let held = (holds_first n ranks.states q l new.inputs new.buffers new.limits new.held).held in
+      let agrees : Agrees 0 (fabric_of q ranks.states) (empty_ideal n ranks.states) =
+      rw first_fabric (empty_agree n ranks.states) in
+      search (arith, rules)
+
+-- ## After slots in which nothing happens
+
+module _ (ms : List Machine) (slot to : ℕ) (ranks rested : RanksView) (q : Queues) (l : LimiterView)
+    (step : IsInStep ms slot (shown ranks q l)) (empty : IsEmptyFabric (fabric_of q ranks.states)) where
+  pub rested_step : length rested.states ≡ length ranks.states → IsInStep ms to (shown rested q l)
+  rested_step long = grind (
+    arith,
+    common_steps,
+    still_held q ranks.states rested.states l (record { ports = step.limits ∙ sym step.ports; held = step.held }),
+    rested_agrees slot to (fabric_of q ranks.states) step.ideal rested.states empty step.agrees,
+  )
+
+  pub rested_run : (ports count : ℕ) → length ms ≡ ports → 0 < count → rested.states ≡ all_idle ms ports ranks.states →
+      all_idle ms ports rested.states ≡ rested.states →
+      LimitedFabricRun IsStable l.limits ms slot (replicate count no_arrivals)
+      (marked l.marks (fabric_of q ranks.states)) (quiet_limited_slots ms count slot ports ranks.states l.marks)
+      (marked l.marks (fabric_of q rested.states))
+  rested_run ports count many some is again =
+      let square = step.agrees.fabric.square in
+      let run =
+      rested_limited_run l.limits l.marks ms ports count slot (fabric_of q ranks.states) rested.states empty in
+      search (arith, rules, stable_limited_run, run)

@@ -1,253 +1,297 @@
+-- The replay of a log, slot by slot. Before each slot the fabric has had the slots before it, with stable matchings,
+-- and what was moved in them is what the lines before it say; the run is over after none of them. A slot moves what
+-- its lines say, and slots that are skipped move nothing. So the lines that are left are those of this slot and of
+-- later ones. At a fault of a phase all before it is known, and at the end of the run no line is left, or the first
+-- that is left is not reached.
 -- What each step of the loop over the slots of a replay asks for and comes to.
-use Rattle.std.proofs.lemmas.Grind.{common_steps}
-use Rattle.std.proofs.Common.{rules, ◌≡◌, ◌↔◌, ℕ, ◌+◌, ◌-◌, ◌<◌, ◌≤◌, Bool, true, false, List, [], length, map, ◌⊎◌, Option, Result, Ok, Err, ap, subst, ⊎_elim, arith, length-append, sym, inl, inr}
-use Rattle.std.specs.Prelude.{IfErr, IsOk, IsTrue, OnOk}
-use Rattle.std.specs.List.{AllByRecursion}
-use Rattle.std.proofs.lemmas.Bool.{cases_lt}
-use Rattle.std.proofs.lemmas.List.{append-nil, take_all}
-use Rattle.cq_base.specs.Arriving.{Arrival, arriving, end_of, enough}
-use Rattle.cq_base.specs.Room.{RoomView}
-use Rattle.cq_base.specs.declared.cell.Cell.{Cell}
-use Rattle.cq_base.specs.declared.cell.Transfer.{Transfer}
-use Rattle.cq_rank.specs.Machine.{Machine}
-use Rattle.cq_rank.specs.Switch.{class_count}
-use Rattle.cq_ideal.specs.Admission.{Marked}
-use Rattle.cq_ideal.specs.Ending.{first_slots}
-use Rattle.cq_ideal.specs.Ranking.{AreForPorts, ranking}
-use Rattle.cq_prefs.specs.Pairing.{IsStable}
-use Rattle.cq_laws.specs.Fabric.{Fabric, IsEmptyFabric}
-use Rattle.cq_laws.specs.LimitedFabric.{LimitedFabricRun, LimitedRecord, empty_limited_fabric, fabric_admission, LimitedFabricSlot}
-use Rattle.cq_traffic.proofs.ForPorts.{arrivals_for}
-use Rattle.cq_audit.specs.Audit.{IsNoOf, phase_refusal, refusal_of}
-use Rattle.cq_audit.specs.Log.{AreInOrder}
-use Rattle.cq_audit.specs.Phase.{IsPhaseFault, in_phase}
-use Rattle.cq_audit.specs.Replay.{CanReplay, HasBufferRoom, HasListRoom, HasRested, IsFirstFault, IsInStep, IsSecondFault, IsSlotFault, ReplayView, SlotReplayed, ports_in}
-use Rattle.cq_audit.specs.Running.{IsReady, IsStill, RunEnds}
-use Rattle.cq_audit.specs.StableRun.{Begins, IsFaultAt, IsHalfPast, Reaches, StableRun, before_slot}
-use Rattle.cq_audit.specs.declared.phase.PhaseFault.{PhaseFault}
-use Rattle.cq_audit.specs.declared.phase.PhaseFault.TheVariants.{WrongLine, Blocking as Unsettled}
-use Rattle.cq_audit.specs.declared.refusal.AuditRefusal.{AuditRefusal}
-use Rattle.cq_audit.specs.declared.refusal.AuditRefusal.TheVariants.{Left}
-use Rattle.cq_audit.specs.declared.replay.SlotFault.{SlotFault}
-use Rattle.cq_audit.proofs.Bounded.{list_is_short, output_is_short, ranks_fit, slots_bounded}
-use Rattle.cq_audit.proofs.BySlot.{before_is, phase_later}
-use Rattle.cq_audit.proofs.Replaying.{Replaying, more_at_rest, not_over, one_each, replaying_first, replaying_next, replaying_rested}
-use Rattle.cq_audit.proofs.Skips.{all_late}
-use Rattle.cq_audit.proofs.WholeFollowing.{all_before, moved}
-use Rattle.cq_laws.specs.SlotBySlot.{AfterBy}
+-- What bounds a run of a fabric with stable matchings over all cells that arrive. In a slot a list gets no more cells
+-- than arrive at its input, and an output holds no more cells more than arrive for it. So no list and no output holds
+-- more than arrives in all. Beside the fabric an ideal switch runs, with which it agrees. So where the whole run of
+-- that one meets no tag fault, the fabric meets none, and it goes on for no more slots than that one.
+use Rattle.cq_audit.proofs.Terms.{common_steps, rules, ◌≡◌, ◌↔◌, ℕ, ◌+◌, ◌-◌, ◌<◌, ◌≤◌, Bool, false, List, [], length, map, Option, Result, Err, arith, length-append, ◌*◌, zero, suc, ◌∷◌, ◌++◌, replicate, refl, append_assoc, IfErr, IsOk, IsTrue, OnOk, cases_lt, append-nil, take_all, take-append-le, Arrival, arriving, end_of, enough, RoomView, Cell, Transfer, Machine, class_count, Marked, first_slots, arriving_from, ranking, IsStable, Fabric, IsEmptyFabric, LimitedFabricRun, empty_limited_fabric, fabric_admission, IsLimitedFault, LimitedFabricSlot, LimitedRecord, arrivals_for, refusal_of, AreInOrder, in_phase, NoneBefore, CanReplay, HasRested, IsInStep, IsSlotFault, ReplayView, SlotReplayed, ports_in, IsMadeAs, IsReady, IsStill, RunEnds, Reaches, StableRun, before_slot, AuditRefusal, Left, SlotFault, no_arrivals, arriving_length, arriving_parts, quiet_limited_slots, transfers_in, transfers_of_run, AfterBy, run_length, first_more, quiet_slots, Ok, ap, Some, TagFault, arrival_at, IsTraffic, is_from, is_to, number_of, count_for, whole_limited_run, empty_limited, empty_fabric, input, reach, empty_list, empty_together, nothing_for, slots_fit, arrives_found, come_from, from_here, from_last, no_more_from, one_if, some_one}
+use Rattle.cq_audit.proofs.BySlot.{before_is, phase_later, none_first, none_from, none_next}
+use Rattle.cq_audit.proofs.Skips.{all_late, made_alike, made_on, same_fabric}
+use Rattle.cq_audit.proofs.WholeFollowing.{all_before, moved, moved_parts}
+use Rattle.cq_laws.specs.Quiet.{idled}
+use Rattle.cq_laws.proofs.Joined.{all_go_on}
+use Rattle.cq_laws.proofs.KeptParts.{transfers_one}
+use Rattle.cq_laws.proofs.QuietSlots.{quiet_transfers}
+use Rattle.cq_audit.proofs.Following.{one_stable_run}
+use Rattle.cq_ideal.proofs.LimitedEnds.{last, limited_ends, limited_not_more, limited_whole_fault}
+use Rattle.cq_ideal.proofs.LimitedParts.{limited_parts}
+use Rattle.cq_ideal.proofs.LimitedRuns.{run_fault}
+use Rattle.cq_laws.specs.Holding.{held_for}
+use Rattle.cq_laws.specs.LimitedAgreement.{LimitedAgrees, LimitedRunsAlike}
+use Rattle.cq_laws.proofs.LimitedSlots.{same_limited_fault}
+use Rattle.cq_laws.proofs.LimitedWhole.{begin, same_limited_run}
+use Rattle.cq_fabric.proofs.Kept.{limited_lists_kept, limited_outputs_kept}
+use Rattle.cq_traffic.proofs.ToOutputs.{come_for, for_here, for_last, no_more_to}
+
+ok_from : {A E : Type 0} (x : Result A E) → IsOk x → (a : A) × (x ≡ Ok a)
+ok_from x is = grind (arith, common_steps)
+
+module _ (limits : List (Option ℕ)) (ms : List Machine) (came : List Arrival) where
+  -- ## How many cells wait
+
+  grow : (n slot : ℕ) (f g : Marked Fabric) (rs : List LimitedRecord) →
+      LimitedFabricRun IsStable limits ms slot (arriving_from came slot n) f rs g →
+      ((i : ℕ) → length (input g.state i) ≤ length (input f.state i) + come_from i came slot n)
+      × ((j : ℕ) → held_for j g.state ≤ held_for j f.state + come_for j (arriving_from came slot n))
+  unfolding arriving_from
+  grow zero slot f g [] run = (λ i. grind (arith, common_steps), λ j. grind (arith, common_steps))
+  grow (suc n) slot f g (r ∷ rs) run =
+      let rest = grow n (slot + 1) run.0 g rs run.2 in (
+        λ i. let kept = limited_lists_kept limits ms slot (arriving came slot) f run.0 r run.1 i in
+            grind (arith, common_steps, some_one, arrives_found, from_here, rest.0 i),
+        λ j. grind (arith, common_steps, limited_outputs_kept, for_here, rest.1 j),
+      )
+  grow _ slot f g _ run = absurd run
+
+  module _ (ports : ℕ) (ranks : List (List ℕ)) (slot : ℕ) (f : Marked Fabric) (rs : List LimitedRecord)
+      (run : LimitedFabricRun IsStable limits ms 0 (first_slots came slot) (empty_limited_fabric ports ranks) rs f)
+    where
+      -- where a cell arrives in the next slot, fewer wait at its input than arrive there in all
+      pub list_is_short : (i : ℕ) (cell : Cell) → arrival_at (arriving came slot) i ≡ Some cell →
+          length (input f.state i) < number_of (is_from i) came
+      list_is_short i cell at =
+          let grown = (grow slot 0 (empty_limited_fabric ports ranks) f rs run).0 i in
+          let none : length (input (empty_fabric ports ranks) i) ≡ 0 = ap length (empty_list ports i) in
+          let all = no_more_from i came (suc slot) in
+          let comes = arrives_found came slot i in search (arith, rules, one_if, from_last)
+
+      -- the cells that an output holds and those that arrive for it in the next slot are no more than arrive for it in
+      -- all
+      pub output_is_short : (j : ℕ) → held_for j f.state + count_for j (arriving came slot) ≤ number_of (is_to j) came
+      output_is_short j =
+          let grown = (grow slot 0 (empty_limited_fabric ports ranks) f rs run).1 j in
+          grind (arith, common_steps, empty_list, nothing_for, for_last, no_more_to j came (slot + 1))
+
+      -- ## Beside the ideal switch
+
+      module _ (classes : ℕ) (traffic : IsTraffic ports classes came) where
+        pub beside : LimitedRunsAlike limits ms 0 (first_slots came slot) (empty_limited ports ranks) rs f
+        beside = same_limited_run limits ms classes 0 (first_slots came slot) (empty_limited_fabric ports ranks) f _ rs
+            (begin limits ms classes ports ranks _ (slots_fit ports classes came 0 slot traffic)) run
+
+        pub agree_now : LimitedAgrees slot f beside.after
+        agree_now = grind (arith, common_steps, arriving_length)
+
+        -- a fault in the next slot is one of the whole ideal run
+        fault_there : (fault : TagFault) →
+            ranking ms slot 0 (fabric_admission limits (arriving came slot) f).cells f.state.ranks ≡ Err fault →
+            whole_limited_run limits ms came (empty_limited ports ranks) ≡ Err fault
+        fault_there fault is =
+            let start = empty_limited ports ranks in
+            let long = arriving_length came 0 slot in
+            let at : slot ≡ 0 + length (first_slots came slot) = omega arith in
+            let here = (same_limited_fault limits ms slot (arriving came slot) f beside.after fault agree_now).1 is in
+            let first = first_more came slot in
+            let parts = limited_parts limits ms 0 slot (first_slots came slot) (arriving came slot ∷ []) start at in
+            let stops = run_fault limits ms slot (arriving came slot) [] beside.after fault here in
+            limited_whole_fault limits ms ports ranks came (slot + 1) fault (rw (first, parts, beside.ran, stops))
+
+        -- the ranks of what is admitted in the next slot fit
+        pub ranks_fit : IsOk (whole_limited_run limits ms came (empty_limited ports ranks)) →
+            IsOk (ranking ms slot 0 (fabric_admission limits (arriving came slot) f).cells f.state.ranks)
+        ranks_fit whole = grind (arith, common_steps, fault_there)
+
+  -- ## Where the run ends
+
+  module _ (ports classes : ℕ) (ranks : List (List ℕ)) (traffic : IsTraffic ports classes came)
+      (whole : IsOk (whole_limited_run limits ms came (empty_limited ports ranks))) where
+    -- after as many slots as the ideal switch has, no cell is to come and none waits
+    over_there : (f : Marked Fabric) (rs : List LimitedRecord) →
+        LimitedFabricRun IsStable limits ms 0 (first_slots came (last limits ms ports ranks came))
+        (empty_limited_fabric ports ranks) rs f →
+        (end_of came ≤ last limits ms ports ranks came) × IsEmptyFabric f.state
+    over_there f rs run =
+        let n = last limits ms ports ranks came in
+        let ran = ok_from _ whole in
+        let ends = limited_ends limits ms ports ranks came ran.0 ran.1 in
+        let alike = beside ports ranks n f rs run classes traffic in
+        let agrees = agree_now ports ranks n f rs run classes traffic in
+        let after = rw alike.ran at ends.after in
+        (ends.all_came, (empty_together n f.state alike.after.state agrees.states).1 (rw after ends.empty))
+
+    -- so a run that is over at no slot up to this one has no more slots
+    pub slots_bounded : (slot : ℕ) (f : Marked Fabric) (rs : List LimitedRecord) →
+        LimitedFabricRun IsStable limits ms 0 (first_slots came slot) (empty_limited_fabric ports ranks) rs f →
+        ((m : ℕ) (g : Marked Fabric) → m ≤ slot →
+        AfterBy (LimitedFabricSlot IsStable limits ms) came (empty_limited_fabric ports ranks) rs m g →
+        end_of came ≤ m → IsEmptyFabric g.state → ⊥) → slot < enough came
+    slots_bounded slot f rs run not_over =
+        let few = limited_not_more limits ms ports ranks came in
+        let far = reach (LimitedFabricSlot IsStable limits ms) came (empty_limited_fabric ports ranks) rs
+        (last limits ms ports ranks came) slot f in
+        search (arith, rules, far, run, over_there, not_over, cases_lt)
+
+-- ## What is known before a slot
+
+-- what is known before a slot, where these lines are left
+pub record Replaying (M : List ℕ → Machine) (came : List Arrival) (lines : List Transfer) (first : ReplayView)
+    (slot : ℕ) (rest : List Transfer) (now : ReplayView) (note : RoomView Transfer) : Type 0 where
+  pub records : List LimitedRecord
+  pub runs : LimitedFabricRun IsStable first.limits (map M first.fixed) 0 (first_slots came slot) first.fabric records
+      now.fabric
+  pub going : (m : ℕ) (f : Marked Fabric) → m < slot →
+      AfterBy (LimitedFabricSlot IsStable first.limits (map M first.fixed)) came first.fabric records m f →
+      end_of came ≤ m → IsEmptyFabric f.state → ⊥
+  pub told : lines ≡ moved records ++ rest
+  pub in_order : AreInOrder (ports_in now) rest
+  pub none_before : NoneBefore slot 1 rest
+  pub in_step : IsInStep (map M now.fixed) slot now
+  pub made : IsMadeAs first now
+  pub note_room : note.spare ≡ length rest + 2 * ports_in now
+
+-- ## Before the first slot
+
+pub replaying_first : (M : List ℕ → Machine) (came : List Arrival) (lines : List Transfer) (first : ReplayView)
+    (note : RoomView Transfer) → IsReady (map M first.fixed) came lines first note →
+    Replaying M came lines first 0 lines first note
+unfolding arriving_from transfers_of_run
+replaying_first M came lines first note ready = search (arith, rules, none_first, made_alike)
+
+-- ## What is moved by one slot more, and by slots in which nothing happens
+
+moved_more : (rs : List LimitedRecord) (r : LimitedRecord) → moved (rs ++ r ∷ []) ≡ moved rs ++ transfers_in r.of_slot
+moved_more rs r = grind (arith, common_steps, moved_parts, transfers_one)
+
+none_moved_by : (ms : List Machine) (k slot ports : ℕ) (ranks : List (List ℕ)) (marks : List Bool) →
+    moved (quiet_limited_slots ms k slot ports ranks marks) ≡ []
+unfolding transfers_of_run
+none_moved_by ms zero slot ports ranks marks = refl
+none_moved_by ms (suc k) slot ports ranks marks =
+    grind (arith, common_steps, quiet_transfers, none_moved_by ms k (slot + 1) ports (idled ms ports ranks) marks)
 
 pub goes_on : (b : Bool) (end slot : ℕ) (Empty : Type 0) → b ≡ false → (IsTrue b ↔ ((end ≤ slot) × Empty)) →
     end ≤ slot → Empty → ⊥
-goes_on b end slot Empty going iff le none = let over : b ≡ true = iff.1 (le, none) in let P : ⊥ = cc in P
+goes_on b end slot Empty going iff le none = grind (arith, common_steps, iff.1)
 
--- a fault of a phase, as a refusal
-no_of : (limits : List (Option ℕ)) (ms : List Machine) (came : List Arrival) (start : Marked Fabric)
-    (lines : List Transfer) (slot phase : ℕ) (fault : PhaseFault) →
-    IsFaultAt limits ms came start lines slot phase fault →
-    IsNoOf limits ms came start lines (phase_refusal slot phase fault)
-no_of limits ms came start lines slot phase (WrongLine i) is = is
-no_of limits ms came start lines slot phase (Unsettled i j) is = is
+module _ {M : List ℕ → Machine} {came : List Arrival} {lines : List Transfer} {first : ReplayView} {slot : ℕ}
+    {rest : List Transfer} {now : ReplayView} {note : RoomView Transfer}
+    (b : Replaying M came lines first slot rest now note) where
+  -- the run has a record for each slot
+  one_each : length b.records ≡ slot
+  one_each = grind (arith, common_steps, run_length, arriving_length)
 
-module _ (M : List ℕ → Machine) {came : List Arrival} {lines : List Transfer} {first : ReplayView}
-    {first_note : RoomView Transfer} (ready : IsReady (map M first.fixed) came lines first first_note) where
-  abbrev pub Before : ℕ → List Transfer → ReplayView → RoomView Transfer → Type 0
-  Before slot rest now note = Replaying (map M first.fixed) came lines first slot rest now note
+  -- what was moved is what the lines before the slot say
+  told_before : moved b.records ≡ before_slot slot lines
+  told_before = grind (arith, common_steps, before_is, moved, all_before, all_late)
 
-  pub at_first : Before 0 lines first first_note
-  at_first = replaying_first (map M first.fixed) came lines first first_note ready
+  -- and the lines of a phase of the slot are among those that are left
+  same_lines : (phase : ℕ) → in_phase slot phase lines ≡ in_phase slot phase rest
+  same_lines phase = grind (arith, common_steps, phase_later, moved, all_before)
 
-  -- the fabric before the first slot
-  abbrev start : Marked Fabric
-  start = empty_limited_fabric (ports_in first) first.fabric.state.ranks
-
-  from_start : (slot : ℕ) (f : Marked Fabric) (rs : List LimitedRecord) →
-      LimitedFabricRun IsStable first.limits (map M first.fixed) 0 (first_slots came slot) first.fabric rs f →
-      LimitedFabricRun IsStable first.limits (map M first.fixed) 0 (first_slots came slot) start rs f
-  from_start slot f rs run = grind (arith, common_steps)
+  pub rest_is_short : length rest ≤ length lines
+  rest_is_short = grind (arith, common_steps, length-append, moved)
 
   -- ## Slots that are skipped
 
-  module _ {slot : ℕ} {rest : List Transfer} {now : ReplayView} {note : RoomView Transfer}
-      (b : Before slot rest now note) where
-    pub skip_in_step : IsInStep (map M now.fixed) slot now
-    skip_in_step = grind (arith, common_steps)
+  module _ {next : ℕ} {new : ReplayView} (still : IsStill came rest slot next)
+      (rested : HasRested (map M now.fixed) slot next now new) where
+    abbrev quiet_records : List LimitedRecord
+    quiet_records = quiet_limited_slots (map M first.fixed) (next - slot) slot (ports_in now) now.fabric.state.ranks
+        now.fabric.marks
 
-    pub rest_in_order : AreInOrder (ports_in now) rest
-    rest_in_order = grind (arith, common_steps)
+    pub past : Replaying M came lines first next rest new note
+    past =
+        let one = one_each in
+        let joined = all_go_on (LimitedFabricSlot IsStable first.limits (map M first.fixed))
+        (IsLimitedFault first.limits (map M first.fixed)) in
+        let parts = moved_parts b.records quiet_records in
+        let before = none_from (ports_in now) next rest b.in_order still.no_line in
+        let made = made_on b.made rested.made in
+        -- what arrives up to the slot, and then nothing, is what arrives up to the other
+        let parts_are = arriving_parts came 0 slot slot (next - slot) next in
+        let are : first_slots came slot ++ replicate (next - slot) no_arrivals ≡ first_slots came next =
+        search (arith, rules, quiet_slots came slot (next - slot), parts_are) in
+        let run : LimitedFabricRun IsStable first.limits (map M first.fixed) slot (replicate (next - slot) no_arrivals)
+        now.fabric quiet_records new.fabric = grind (arith, common_steps) in
+        grind (arith, common_steps, arriving_length, joined, take-append-le, cases_lt, none_moved_by, append-nil)
 
-    -- what was moved so far is of earlier slots
-    all_earlier : AllByRecursion (λ t. t.slot < slot) (moved b.records)
-    all_earlier = grind (arith, common_steps, all_before)
-
-    -- so it is what the lines before the slot say
-    told_before : moved b.records ≡ before_slot slot lines
-    told_before = grind (arith, common_steps, before_is, moved, all_earlier, all_late)
-
-    -- and the lines of a phase of the slot are among those that are left
-    same_lines : (phase : ℕ) → in_phase slot phase lines ≡ in_phase slot phase rest
-    same_lines phase = grind (arith, common_steps, phase_later, moved, all_earlier)
-
-    pub rest_is_short : length rest ≤ length lines
-    rest_is_short = grind (arith, common_steps, length-append, moved)
-
-    module _ {next : ℕ} {new : ReplayView} (still : IsStill came rest slot next)
-        (rested : HasRested (map M now.fixed) slot next now new) where
-      as_first : HasRested (map M first.fixed) slot next now new
-      as_first = subst (λ (fixed : List (List ℕ)). HasRested (map M fixed) slot next now new) b.made.fixed rested
-
-      at_rest : Before next rest new note
-      at_rest = replaying_rested b still as_first
-
-      going_at_rest : (end_of came ≤ slot → IsEmptyFabric now.fabric.state → ⊥) → end_of came ≤ next →
-          IsEmptyFabric new.fabric.state → ⊥
-      going_at_rest = more_at_rest b still as_first
+    -- what was not over is not over after it
+    pub not_over_past : (end_of came ≤ slot → IsEmptyFabric now.fabric.state → ⊥) → end_of came ≤ next →
+        IsEmptyFabric new.fabric.state → ⊥
+    not_over_past more over empty = grind (arith, common_steps, same_fabric, cases_lt)
 
   -- ## A slot
 
-  module _ {slot : ℕ} {rest : List Transfer} {now : ReplayView} {note : RoomView Transfer}
-      (b : Before slot rest now note) (more : end_of came ≤ slot → IsEmptyFabric now.fabric.state → ⊥) where
-    run_from_start : LimitedFabricRun IsStable first.limits (map M first.fixed) 0 (first_slots came slot) start
-        b.records
-        now.fabric
-    run_from_start = from_start slot now.fabric b.records b.runs
+  module _ (more : end_of came ≤ slot → IsEmptyFabric now.fabric.state → ⊥) where
+    -- the run is over at no slot up to this one
+    not_over : (m : ℕ) (f : Marked Fabric) → m ≤ slot →
+        AfterBy (LimitedFabricSlot IsStable first.limits (map M first.fixed)) came first.fabric b.records m f →
+        end_of came ≤ m → IsEmptyFabric f.state → ⊥
+    not_over m f le run late empty =
+        let one = one_stable_run first.limits (map M first.fixed) 0 in
+        grind (arith, common_steps, one_each, take_all, one, cases_lt)
 
-    -- the run ends, and a slot is left
-    a_slot_left : slot < enough came
-    a_slot_left =
-        slots_bounded first.limits (map M first.fixed) came (ports_in first) (class_count (map M first.fixed))
-        first.fabric.state.ranks ready.traffic ready.ranked slot now.fabric b.records run_from_start
-        (λ m f le run late empty.
-        not_over b more m f le
-        (subst (λ (g : Marked Fabric). AfterBy (LimitedFabricSlot IsStable first.limits (map M first.fixed)) came g
-        b.records m f) (sym ready.fabric) run)
-        late empty)
-
-    same_ports : ports_in now ≡ ports_in first
-    same_ports = ap (λ (l : List (List ℕ)). length l) b.made.fixed
-
-    for_ports : AreForPorts (ports_in first) (class_count (map M first.fixed)) (arriving came slot)
-    for_ports = arrivals_for (ports_in first) (class_count (map M first.fixed)) came slot ready.traffic
-
-    fit : IsOk (ranking (map M now.fixed) slot 0 (fabric_admission now.limits (arriving came slot) now.fabric).cells
-        now.fabric.state.ranks)
-    fit = grind (arith, common_steps, ranks_fit, run_from_start)
-
-    lists_have_room : HasListRoom (arriving came slot) now
-    lists_have_room i cell at =
-        let inside : i < ports_in first = for_ports.inputs i cell at in
-        search (arith, rules, list_is_short, run_from_start)
-
-    buffers_have_room : HasBufferRoom (arriving came slot) now
-    buffers_have_room j within = grind (arith, common_steps, same_ports, output_is_short, run_from_start)
-
-    can_replay : (cells : List (Option Cell)) → cells ≡ arriving came slot →
-        CanReplay (map M now.fixed) slot cells rest now note
-    can_replay cells are = grind (
-      arith,
-      common_steps,
-      skip_in_step,
-      for_ports,
-      fit,
-      lists_have_room,
-      buffers_have_room,
-      a_slot_left,
-      rest_in_order,
-      same_ports,
-    )
-
-    at_next : (cells : List (Option Cell)) (left : List Transfer) (new : ReplayView) (note' : RoomView Transfer) →
+    pub at_next : (cells : List (Option Cell)) (left : List Transfer) (new : ReplayView) (note' : RoomView Transfer) →
         cells ≡ arriving came slot → SlotReplayed (map M now.fixed) slot cells rest left now new note note' →
-        Before (slot + 1) left new note'
-    at_next cells left new note' are had = search (rules, replaying_next)
+        Replaying M came lines first (slot + 1) left new note'
+    at_next cells left new note' are had =
+        let step = rw (b.made.limits, b.made.fixed) at had.is_slot in
+        let one = one_each in
+        let more_moved = moved_more b.records had.of_slot in
+        let joined = all_go_on (LimitedFabricSlot IsStable first.limits (map M first.fixed))
+        (IsLimitedFault first.limits (map M first.fixed)) in
+        let before = none_next (ports_in now) slot left had.in_order had.behind in
+        let made = made_on b.made had.made in
+        let long = arriving_length came 0 slot in
+        let in_step = rw (← had.made.fixed) at had.in_step in
+        let in_order = rw (← had.made.fixed) at had.in_order in
+        search (arith, rules, first_more, joined, take-append-le, not_over, append_assoc, length-append)
 
     -- ## A fault
 
     reached : Reaches first.limits (map M first.fixed) came first.fabric lines slot now.fabric
-    reached = grind (arith, common_steps, moved, told_before b, goes_on, not_over b more)
+    reached = grind (arith, common_steps, moved, told_before, goes_on, not_over)
 
-    -- where a phase begins there, a fault of its lines among those that are left is one of all lines
-    fault_at : (phase own : ℕ) (f : Fabric) (fault : PhaseFault) → phase ≡ own →
-        Begins first.limits (map M first.fixed) came first.fabric lines slot phase f →
-        IsPhaseFault f.inputs (in_phase slot own rest) fault →
-        IsFaultAt first.limits (map M first.fixed) came first.fabric lines slot phase fault
-    fault_at phase own f fault is begins wrong = grind (arith, common_steps, same_lines b phase)
-
-    -- the lines of the first phase among those that are left are all of it
-    half_past : (arrived sent : Fabric) → IsHalfPast (map M first.fixed) slot (in_phase slot 1 rest) arrived sent →
-        IsHalfPast (map M first.fixed) slot (in_phase slot 1 lines) arrived sent
-    half_past arrived sent = grind (arith, common_steps, same_lines b 1)
-
-    at_fault : (cells : List (Option Cell)) (fault : SlotFault) → cells ≡ arriving came slot →
+    pub at_fault : (cells : List (Option Cell)) (fault : SlotFault) → cells ≡ arriving came slot →
         IsSlotFault (map M now.fixed) slot cells rest now fault →
         RunEnds (map M first.fixed) came lines first (Err (refusal_of slot fault))
     at_fault cells fault are is =
-        let Of : List (Option ℕ) → List (List ℕ) → List (Option Cell) → Type 0 =
-        λ (l : List (Option ℕ)) (fixed : List (List ℕ)) (cs : List (Option Cell)).
-        ((fault.phase ≡ 1) × IsFirstFault l (map M fixed) slot cs rest now.fabric fault.fault)
-        ⊎ ((fault.phase ≡ 2) × IsSecondFault l (map M fixed) slot cs rest now.fabric fault.fault) in
-        let here : Of first.limits first.fixed (arriving came slot) =
-        subst (λ (l : List (Option ℕ)). Of l first.fixed (arriving came slot)) b.made.limits
-        (subst (λ (fixed : List (List ℕ)). Of now.limits fixed (arriving came slot)) b.made.fixed
-        (subst (λ (cs : List (Option Cell)). Of now.limits now.fixed cs) are is)) in
-        no_of first.limits (map M first.fixed) came first.fabric lines slot fault.phase fault.fault
-        (⊎_elim
-        (λ one.
-        let f = one.1 in
-        fault_at fault.phase 1 f.arrived fault.fault one.0
-        (inl (one.0, record { old = now.fabric; reached = reached; ranked = f.ranked; arrive = f.arrive })) f.wrong)
-        (λ two.
-        let f = two.1 in
-        fault_at fault.phase 2 f.sent fault.fault two.0
-        (inr (
-          two.0,
-          record {
-            arrived = f.arrived;
-            begun = record { old = now.fabric; reached = reached; ranked = f.ranked; arrive = f.arrive };
-            half = half_past f.arrived f.sent f.half;
-          },
-        )) f.wrong)
-        here)
+        let here = rw (are, b.made.limits, b.made.fixed) at is in
+        let first_lines = same_lines 1 in
+        let second_lines = same_lines 2 in
+        let far = reached in
+        grind (arith, common_steps)
 
-  -- ## A turn of the loop: slots are skipped, and then comes one
+    -- ## What a slot asks for
 
-  module _ {slot : ℕ} {rest : List Transfer} {now : ReplayView} {note : RoomView Transfer}
-      (b : Before slot rest now note) (more : end_of came ≤ slot → IsEmptyFabric now.fabric.state → ⊥) {next : ℕ}
-      {new : ReplayView} (still : IsStill came rest slot next) (rested : HasRested (map M now.fixed) slot next now new)
-    where
-      reached_next : Before next rest new note
-      reached_next = at_rest b still rested
+    module _ {first_note : RoomView Transfer} (ready : IsReady (map M first.fixed) came lines first first_note) where
+      run_from_start : LimitedFabricRun IsStable first.limits (map M first.fixed) 0 (first_slots came slot)
+          (empty_limited_fabric (ports_in first) first.fabric.state.ranks) b.records now.fabric
+      run_from_start = search (arith, rules)
 
-      not_over_there : end_of came ≤ next → IsEmptyFabric new.fabric.state → ⊥
-      not_over_there = going_at_rest b still rested more
+      -- the run ends, and a slot is left
+      pub a_slot_left : slot < enough came
+      a_slot_left = search (arith, rules, slots_bounded, run_from_start, not_over)
 
-      pub left_there : next < enough came
-      left_there = a_slot_left reached_next not_over_there
+      fit : IsOk (ranking (map M now.fixed) slot 0 (fabric_admission now.limits (arriving came slot) now.fabric).cells
+          now.fabric.state.ranks)
+      fit = grind (arith, common_steps, ranks_fit, run_from_start)
 
-      pub can_there : (cells : List (Option Cell)) → cells ≡ arriving came next →
-          CanReplay (map M new.fixed) next cells rest new note
-      can_there = can_replay reached_next not_over_there
-
-      pub next_there : {cells : List (Option Cell)} {left : List Transfer} {after : ReplayView}
-          {note' : RoomView Transfer} → cells ≡ arriving came next →
-          SlotReplayed (map M new.fixed) next cells rest left new after note note' → Before (next + 1) left after note'
-      next_there are had = at_next reached_next not_over_there _ _ _ _ are had
-
-      pub fault_there : {cells : List (Option Cell)} {fault : SlotFault} → cells ≡ arriving came next →
-          IsSlotFault (map M new.fixed) next cells rest new fault →
-          RunEnds (map M first.fixed) came lines first (Err (refusal_of next fault))
-      fault_there are is = at_fault reached_next not_over_there _ _ are is
+      pub can_replay : (cells : List (Option Cell)) → cells ≡ arriving came slot →
+          CanReplay (map M now.fixed) slot cells rest now note
+      can_replay cells are =
+          let run = run_from_start in
+          let for_ports = arrivals_for (ports_in first) (class_count (map M first.fixed)) came slot ready.traffic in
+          search (arith, rules, fit, a_slot_left, list_is_short, output_is_short)
 
   -- ## The end of the loop
 
-  module _ {slot : ℕ} {rest : List Transfer} {now : ReplayView} {note : RoomView Transfer}
-      (b : Before slot rest now note) (late : end_of came ≤ slot) (empty : IsEmptyFabric now.fabric.state) where
+  module _ (late : end_of came ≤ slot) (empty : IsEmptyFabric now.fabric.state) where
     whole : StableRun first.limits (map M first.fixed) came first.fabric b.records now.fabric
-    whole = grind (arith, common_steps, one_each b, take_all, reached, cases_lt)
+    whole = grind (arith, common_steps, one_each, take_all, reached, cases_lt)
 
     pub at_end : (result : Result (Unit {0}) AuditRefusal) → OnOk result (rest ≡ []) →
         IfErr result (λ refusal.
         (refusal ≡ Left (length lines - length rest + 1)) × (0 < length rest)) →
         RunEnds (map M first.fixed) came lines first result
-    at_end (Ok done) none some = grind (arith, common_steps, whole, moved, append-nil)
-    at_end (Err refusal) none some =
-        grind (arith, common_steps, one_each b, moved b.records, moved, told_before b, length-append, whole)
+    at_end result none some =
+        let told = told_before in
+        let long = one_each in
+        let all = whole in
+        let size = length-append (moved b.records) rest in
+        let right = append-nil (moved b.records) in
+        grind (arith, common_steps)

@@ -1,25 +1,14 @@
--- Of whole stable runs one has these transfers. The longer of two runs passes through as many slots as the other
--- has, and its transfers in them are all those of the other, since its later ones are of later slots. So it is where
--- the other ended: nothing is to come and nothing waits, and it ends there too.
-use Rattle.std.proofs.lemmas.Grind.{common_steps}
-use Rattle.std.proofs.Common.{◌≡◌, ℕ, ◌+◌, ◌<◌, ◌≤◌, List, [], ◌∷◌, ◌++◌, length, take, drop, Option, refl, sym, ap, ◌∙◌, subst, ⊎_elim, arith, append_assoc, ◌-◌}
-use Rattle.std.specs.List.{AllByRecursion}
-use Rattle.std.proofs.lemmas.Bool.{cases_lt}
-use Rattle.std.proofs.lemmas.List.{append-nil, take-append-drop}
-use Rattle.cq_base.specs.Arriving.{Arrival}
-use Rattle.cq_base.specs.declared.cell.Cell.{Cell}
-use Rattle.cq_base.specs.declared.cell.Transfer.{Transfer}
-use Rattle.cq_ideal.specs.Admission.{Marked}
-use Rattle.cq_ideal.specs.Ending.{arriving_from, first_slots}
-use Rattle.cq_ideal.proofs.Parted.{arriving_length}
-use Rattle.cq_rank.specs.Machine.{Machine}
-use Rattle.cq_prefs.specs.Pairing.{IsStable}
-use Rattle.cq_laws.specs.Fabric.{Fabric, IsEmptyFabric}
-use Rattle.cq_laws.specs.LimitedFabric.{LimitedFabricRun, LimitedFabricSlot, LimitedRecord, slots_in}
-use Rattle.cq_laws.specs.Records.{transfers_of_run}
-use Rattle.cq_laws.proofs.Parted.{reach, run_of_whole}
-use Rattle.cq_audit.specs.StableRun.{StableRun}
-use Rattle.cq_audit.proofs.Following.{NoneOf, one_stable_run, run_before, run_later, same_parts, weaker}
+-- Of whole stable runs one has these transfers. A run that goes on past a slot has moved before it what the lines
+-- before the slot say. So the longer of two runs, after as many slots as the other has, is where the other ended:
+-- nothing is to come and nothing waits, and it ends there too.
+-- A log has one verdict. Up to where its lines say so, the fabric has no choice: the transfers of a stable run tell
+-- the run. So of two faults of phases neither stands before the other, for a run that goes on past a phase has made
+-- the transfers of a stable matching there, as its lines say. For the same reason no fault stands within a whole run
+-- that moves what the lines say, and none behind it, for the run is over there. And two such runs are one.
+use Rattle.cq_audit.proofs.Terms.{common_steps, rules, ◌≡◌, ℕ, ◌+◌, ◌<◌, ◌≤◌, List, [], ◌∷◌, ◌++◌, length, take, drop, Option, refl, sym, arith, append_assoc, ◌-◌, AllByRecursion, cases_lt, take-append-drop, take-take, Arrival, end_of, Transfer, Marked, arriving_from, first_slots, arriving_length, Machine, IsStable, Fabric, IsEmptyFabric, LimitedFabricRun, LimitedFabricSlot, LimitedRecord, slots_in, transfers_of_run, AfterBy, reach, run_of_whole, Reaches, StableRun, before_slot, all_weaker, suc, ◌⊎◌, inl, inr, ap, ◌∙◌, ⊎_elim, cases_order, Partners, transfers_in, one_arrival, one_departure, IsNoOf, phase_refusal, IsStableTold, in_phase, Begins, BeginsFirst, IsFaultAt, IsLeftAt, IsOfStableRun, PhaseFault, AuditRefusal, Left}
+use Rattle.cq_audit.proofs.BySlot.{before_all, before_is, before_later, phase_before, phase_later, phase_now}
+use Rattle.cq_audit.proofs.Following.{each_moved, one_move, one_stable_run, run_later, run_within}
+use Rattle.cq_audit.proofs.PhaseExact.{phase_is_exact}
 
 -- the transfers of records
 abbrev pub moved : List LimitedRecord → List Transfer
@@ -35,44 +24,234 @@ module _ (limits : List (Option ℕ)) (ms : List Machine) (came : List Arrival) 
   pub all_before : (n : ℕ) (f g : Marked Fabric) (rs : List LimitedRecord) →
       LimitedFabricRun IsStable limits ms 0 (first_slots came n) f rs g →
       AllByRecursion (λ t. t.slot < n) (moved rs)
-  all_before n f g rs run = grind (arith, common_steps, arriving_length, weaker, run_before)
+  all_before n f g rs run = grind (arith, common_steps, arriving_length, all_weaker, run_within)
 
   module _ (start : Marked Fabric) where
-    Step : ℕ → List (Option Cell) → Marked Fabric → LimitedRecord → Marked Fabric → Type 0
-    Step = LimitedFabricSlot IsStable limits ms
+    abbrev pub Runs : ℕ → List LimitedRecord → Marked Fabric → Type 0
+    Runs n rs f = LimitedFabricRun IsStable limits ms 0 (first_slots came n) start rs f
 
-    nothing_waits : Marked Fabric → Type 0
-    nothing_waits f = IsEmptyFabric f.state
+    abbrev pub Whole : List LimitedRecord → Marked Fabric → Type 0
+    Whole rs end = StableRun limits ms came start rs end
 
-    pub whole_run : (rs : List LimitedRecord) (g : Marked Fabric) → StableRun limits ms came start rs g →
-        LimitedFabricRun IsStable limits ms 0 (first_slots came (length rs)) start rs g
-    unfolding Step nothing_waits
-    whole_run rs g w = run_of_whole Step came start rs nothing_waits g w
+    pub whole_run : (rs : List LimitedRecord) (g : Marked Fabric) → Whole rs g → Runs (length rs) rs g
+    whole_run rs g w =
+        run_of_whole (LimitedFabricSlot IsStable limits ms) came start rs (λ f. IsEmptyFabric f.state) g w
 
-    no_longer : (rs ss : List LimitedRecord) (g h : Marked Fabric) → StableRun limits ms came start rs g →
-        StableRun limits ms came start ss h → moved rs ≡ moved ss → length rs ≤ length ss
-    unfolding Step NoneOf
-    no_longer rs ss g h w v same = ⊎_elim (λ (fewer : length ss < length rs). shorter fewer) (λ enough. enough)
-        (cases_lt (length ss) (length rs))
-      where
-        shorter : length ss < length rs → length rs ≤ length ss
-        shorter fewer =
-            let n = length ss in
-            let r = reach Step came start rs n (length rs) g (omega arith) (whole_run rs g w) in
-            let later = run_later limits ms n (arriving_from came n (length rs - n)) r.state g (drop n rs) r.rest in
-            let parted : moved (take n rs) ++ moved (drop n rs) ≡ moved ss ++ [] =
-            sym (moved_parts (take n rs) (drop n rs)) ∙ ap moved (take-append-drop n rs) ∙ same ∙ sym
-            (append-nil (moved ss)) in
-            let both = same_parts (λ t. t.slot < n) (moved (take n rs)) (moved (drop n rs)) (moved ss) []
-            (all_before n start r.state (take n rs) r.after)
-            (weaker (λ t. n ≤ t.slot) (λ t. t.slot < n → ⊥) (λ t l b. let P : ⊥ = omega arith in P)
-            (moved (drop n rs)) later)
-            (all_before n start h ss (whole_run ss h v)) tt parted in
-            let one = one_stable_run limits ms 0 (first_slots came n) start r.state h (take n rs) ss r.after
-            (whole_run ss h v) both.0 in
-            w.first n r.state r.after v.all_came
-            (subst (λ (f : Marked Fabric). IsEmptyFabric f.state) (sym one.1) v.empty)
+    -- it is over at no slot up to this one
+    abbrev pub Going : ℕ → List LimitedRecord → Type 0
+    Going slot rs = (m : ℕ) (f : Marked Fabric) → m ≤ slot →
+        AfterBy (LimitedFabricSlot IsStable limits ms) came start rs m f → end_of came ≤ m → IsEmptyFabric f.state → ⊥
+
+    pub whole_going : (slot : ℕ) (rs : List LimitedRecord) (g : Marked Fabric) → slot < length rs → Whole rs g →
+        Going slot rs
+    whole_going slot rs g lt w m f le after late empty = grind (arith, w.first)
+
+    -- where they are all lines, it moves what those up to its end say
+    pub followed : (rs : List LimitedRecord) (g : Marked Fabric) (note : List Transfer) → Whole rs g →
+        moved rs ≡ note → moved rs ≡ before_slot (length rs) note
+    followed rs g note w same = grind (arith, common_steps, before_all, all_before, whole_run)
+
+    module _ (note : List Transfer) where
+      -- ## A run that goes on past a slot
+
+      pub record Halfway (m n : ℕ) (rs : List LimitedRecord) (end : Marked Fabric) : Type 0 where
+        pub state : Marked Fabric
+        pub after : Runs m (take m rs) state
+        pub rest : LimitedFabricRun IsStable limits ms m (arriving_from came m (n - m)) state (drop m rs) end
+        pub before : moved (take m rs) ≡ before_slot m note
+        pub parted : before_slot n note ≡ moved (take m rs) ++ moved (drop m rs)
+
+      pub halfway : (m n : ℕ) (rs : List LimitedRecord) (end : Marked Fabric) → m ≤ n → Runs n rs end →
+          moved rs ≡ before_slot n note → Halfway m n rs end
+      halfway m n rs end le run told =
+          let r = reach (LimitedFabricSlot IsStable limits ms) came start rs m n end le run in
+          let parts = moved_parts (take m rs) (drop m rs) in
+          let whole = take-append-drop m rs in
+          let earlier = all_before m start r.state (take m rs) r.after in
+          let later = run_later limits ms m (arriving_from came m (n - m)) r.state end (drop m rs) r.rest in
+          let first = before_is m (moved (take m rs)) (moved (drop m rs)) earlier later in
+          let same = before_later m n note le in
+          search (arith, rules)
+
+      pub reaches : (m n : ℕ) (rs : List LimitedRecord) (end : Marked Fabric) (h : Halfway m n rs end) →
+          Going m rs → Reaches limits ms came start note m h.state
+      reaches m n rs end h going = search (arith, rules, take-take)
+
+      -- ## A whole run that moves what the lines up to its end say
+
+      pub record IsFollowed : Type 0 where
+        pub records : List LimitedRecord
+        pub end : Marked Fabric
+        pub runs : Whole records end
+        pub told : moved records ≡ before_slot (length records) note
+
+      not_longer : (a b : IsFollowed) → length a.records < length b.records → ⊥
+      not_longer a b lt =
+          let n = length a.records in
+          let run = whole_run a.records a.end a.runs in
+          let other = whole_run b.records b.end b.runs in
+          let h = halfway n (length b.records) b.records b.end (omega arith) other b.told in
+          let going = whole_going n b.records b.end lt b.runs n h.state (omega arith) h.after a.runs.all_came in
+          search (arith, rules, one_stable_run, going)
+
+      pub one_length : (a b : IsFollowed) → length a.records ≡ length b.records
+      one_length a b = grind (arith, common_steps, not_longer, cases_lt)
+
+      -- ## The states that the lines leave no choice of
+
+      abbrev Begun : ℕ → ℕ → Fabric → Type 0
+      Begun slot phase f = Begins limits ms came start note slot phase f
+
+      one_first : (slot : ℕ) (f g : Fabric) → BeginsFirst limits ms came start note slot f →
+          BeginsFirst limits ms came start note slot g → f ≡ g
+      one_first slot f g a b = grind (arith, common_steps, one_stable_run, one_arrival)
+
+      one_begun : (slot phase : ℕ) (f g : Fabric) → Begun slot phase f → Begun slot phase g → f ≡ g
+      one_begun slot phase f g (inl a) (inl b) = one_first slot f g a.1 b.1
+      one_begun slot phase f g (inl a) (inr b) = absurd (omega arith)
+      one_begun slot phase f g (inr a) (inl b) = absurd (omega arith)
+      one_begun slot phase f g (inr a) (inr b) =
+          let arrived = one_first slot a.1.arrived b.1.arrived a.1.begun b.1.begun in
+          search (arith, rules, one_move, one_departure)
+
+      -- ## Where the lines of a phase have a fault
+
+      abbrev FaultAt : ℕ → ℕ → PhaseFault → Type 0
+      FaultAt slot phase fault = IsFaultAt limits ms came start note slot phase fault
+
+      -- the lines of the phase are the transfers of a stable matching
+      record IsSettled (slot phase : ℕ) : Type 0 where
+        pub fabric : Fabric
+        pub begins : Begun slot phase fabric
+        pub pairs : Partners
+        pub told : IsStableTold fabric.inputs slot phase (in_phase slot phase note) pairs
+
+      -- so they have none
+      none_settled : (slot phase : ℕ) (fault : PhaseFault) → IsSettled slot phase → FaultAt slot phase fault → ⊥
+      none_settled slot phase fault s f =
+          let same = one_begun slot phase s.fabric f.fabric s.begins f.begins in
+          search (arith, rules, phase_is_exact.never_both)
+
+      -- where the second phase begins the first is
+      first_of : (slot phase : ℕ) (f : Fabric) → Begun slot phase f → phase ≡ 2 → IsSettled slot 1
+      first_of slot phase f (inl a) is = absurd (omega arith)
+      first_of slot phase f (inr b) is = search (arith, rules)
+
+      none_passed : (slot phase : ℕ) (fault : PhaseFault) → IsSettled slot 2 → FaultAt slot phase fault → ⊥
+      none_passed slot phase fault s f = ⊎_elim
+          (λ one. none_settled slot phase fault (rw one.0 (first_of slot 2 s.fabric s.begins refl)) f)
+          (λ two. none_settled slot phase fault (rw two.0 s) f) f.begins
+
+      -- in one slot there is one
+      one_phase : (slot p q : ℕ) (a b : PhaseFault) → FaultAt slot p a → FaultAt slot q b → p ≡ q
+      one_phase slot p q a b x y = ⊎_elim (λ first. ⊎_elim (λ same. first.0 ∙ sym same.0)
+          (λ other. absurd (none_settled slot p a (rw first.0 (first_of slot q y.fabric y.begins other.0)) x)) y.begins)
+          (λ second. ⊎_elim
+          (λ other. absurd (none_settled slot q b (rw other.0 (first_of slot p x.fabric x.begins second.0)) y))
+          (λ same. second.0 ∙ sym same.0) y.begins) x.begins
+
+      -- ## A run that goes on past a slot
+
+      -- what is moved in the next slot of a run is what the lines of its phases say, so both are settled
+      next_settled : (slot k : ℕ) (old : Marked Fabric) (rs : List LimitedRecord) (end : Marked Fabric) →
+          Reaches limits ms came start note slot old →
+          ((phase : ℕ) → in_phase slot phase (moved rs) ≡ in_phase slot phase note) →
+          LimitedFabricRun IsStable limits ms slot (arriving_from came slot (suc k)) old rs end → IsSettled slot 2
+      unfolding arriving_from transfers_of_run
+      next_settled slot k old [] end reached same run = absurd run
+      next_settled slot k old (r ∷ rs) end reached same run =
+          let now : (phase : ℕ) → in_phase slot phase (transfers_in r.of_slot) ≡ in_phase slot phase note =
+          grind (arith, common_steps, phase_now, run_later, same) in
+          let first = now 1 in
+          let second = now 2 in
+          search (arith, rules, each_moved r.of_slot)
+
+      passed : (slot n : ℕ) (rs : List LimitedRecord) (end : Marked Fabric) → slot < n → Runs n rs end →
+          moved rs ≡ before_slot n note → Going slot rs → IsSettled slot 2
+      passed slot n rs end lt run told going =
+          let h = halfway slot n rs end (omega arith) run told in
+          let left : n - slot ≡ suc (n - slot - 1) = omega arith in
+          let earlier = all_before slot start h.state (take slot rs) h.after in
+          next_settled slot (n - slot - 1) h.state (drop slot rs) end (reaches slot n rs end h going)
+          (λ phase. sym (phase_later slot phase (moved (take slot rs)) (moved (drop slot rs)) earlier)
+          ∙ ap (in_phase slot phase) (sym h.parted) ∙ phase_before slot phase n note lt) (rw left at h.rest)
+
+      -- ## Two faults
+
+      -- how far the run has come at a fault
+      reached_at : (slot phase : ℕ) (fault : PhaseFault) → FaultAt slot phase fault →
+          (old : Marked Fabric) × Reaches limits ms came start note slot old
+      reached_at slot phase fault f = grind (arith, common_steps)
+
+      none_later : (s t p q : ℕ) (a b : PhaseFault) → FaultAt s p a → FaultAt t q b → s < t → ⊥
+      none_later s t p q a b x y lt = let r = reached_at t q b y in
+          none_passed s p a (passed s t r.1.records r.0 lt r.1.runs r.1.moved (grind (arith, common_steps))) x
+
+      one_fault_at : (s t p q : ℕ) (a b : PhaseFault) → FaultAt s p a → FaultAt t q b → (s ≡ t) × (p ≡ q) × (a ≡ b)
+      one_fault_at s t p q a b x y = ⊎_elim (λ same.
+          let there = rw same at x in
+          let phase = one_phase t p q a b there y in
+          let here = rw phase at there in
+          let fabric = one_begun t q here.fabric y.fabric here.begins y.begins in
+          (same, phase, search (arith, rules, phase_is_exact.one_fault))) (λ other. absurd
+          (⊎_elim (none_later s t p q a b x y) (none_later t s q p b a y x) other)) (cases_order s t)
+
+      -- ## A whole run that moves what the lines up to its end say
+
+      followed_left : (n : ℕ) → IsLeftAt limits ms came start note n → IsFollowed
+      followed_left l = search (arith, rules)
+
+      followed_whole : IsOfStableRun limits ms came start note → IsFollowed
+      followed_whole is = search (arith, rules, followed)
+
+      -- no phase has a fault: none of a slot of the run, and the run reaches no other
+      none_followed : (slot phase : ℕ) (fault : PhaseFault) → IsFollowed → FaultAt slot phase fault → ⊥
+      none_followed slot phase fault w f =
+          let n = length w.records in
+          let run = whole_run w.records w.end w.runs in
+          let at = reached_at slot phase fault f in
+          ⊎_elim (λ (within : slot < n). none_passed slot phase fault (passed slot n w.records w.end within run w.told
+          (whole_going slot w.records w.end within w.runs)) f)
+          (λ (behind : n ≤ slot).
+          let h = halfway n slot at.1.records at.0 behind at.1.runs at.1.moved in
+          search (arith, rules, one_stable_run)) (cases_lt slot n)
+
+      -- no line is left of those that it moves all
+      none_left : (n : ℕ) → IsOfStableRun limits ms came start note → IsLeftAt limits ms came start note n → ⊥
+      unfolding followed_left followed_whole
+      none_left n is l =
+          let long = one_length (followed_whole is) (followed_left n l) in
+          let told = (followed_whole is).told in grind (arith, common_steps)
+
+      one_left : (m n : ℕ) → IsLeftAt limits ms came start note m → IsLeftAt limits ms came start note n → m ≡ n
+      unfolding followed_left
+      one_left m n a b = cc (one_length (followed_left m a) (followed_left n b))
+
+      -- ## Refusals
+
+      -- a fault of a phase, or a line that is left
+      abbrev OfFault : AuditRefusal → Type 0
+      OfFault refusal = (slot : ℕ) × (phase : ℕ) × (fault : PhaseFault) × (refusal ≡ phase_refusal slot phase fault)
+          × FaultAt slot phase fault
+
+      abbrev OfLeft : AuditRefusal → Type 0
+      OfLeft refusal = (n : ℕ) × (refusal ≡ Left n) × IsLeftAt limits ms came start note n
+
+      fault_or_left : (refusal : AuditRefusal) → IsNoOf limits ms came start note refusal →
+          OfFault refusal ⊎ OfLeft refusal
+      fault_or_left refusal wrong = grind (arith, common_steps)
+
+      pub one_no_of : (r s : AuditRefusal) → IsNoOf limits ms came start note r →
+          IsNoOf limits ms came start note s → r ≡ s
+      one_no_of r s x y = search (arith, rules, one_fault_at, none_followed, fault_or_left, one_left)
+
+      pub no_no : (r : AuditRefusal) → IsOfStableRun limits ms came start note → IsNoOf limits ms came start note r → ⊥
+      no_no r is x = search (arith, rules, none_followed, followed_whole, none_left, fault_or_left)
 
     pub one_whole_run : (rs ss : List LimitedRecord) (g h : Marked Fabric) → StableRun limits ms came start rs g →
         StableRun limits ms came start ss h → moved rs ≡ moved ss → (rs ≡ ss) × (g ≡ h)
-    one_whole_run rs ss g h w v same = grind (arith, common_steps, no_longer, one_stable_run, whole_run)
+    one_whole_run rs ss g h w v same =
+        let long = one_length (moved rs)
+        (record { records = rs; end = g; runs = w; told = followed rs g (moved rs) w refl })
+        (record { records = ss; end = h; runs = v; told = followed ss h (moved rs) v (sym same) }) in
+        grind (arith, common_steps, one_stable_run, whole_run)

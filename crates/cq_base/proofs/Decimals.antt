@@ -1,11 +1,7 @@
 -- How a number is written digit by digit. A number below ten is one digit. Any other is the number without its last
 -- digit, and then that digit, so it is one digit longer. A number below 2 ^ 128 is below 10 ^ 39, so it has at most 39
 -- digits. And a digit that is written right behind those at the front leaves what comes after it as it was.
-use Rattle.std.proofs.Common.{rules, ◌≡◌, ℕ, ◌+◌, ◌<◌, ◌≤◌, ◌/◌, ◌%◌, ◌^◌, List, [], ◌∷◌, ◌++◌, length, map, refl, ap, sym, ◌∙◌, arith, lit≤, zero, suc, set, drop, length-append, append_assoc}
-use Rattle.std.proofs.lemmas.Grind.{common_steps}
-use Rattle.std.specs.Int.Digits.{digits_of}
-use Rattle.std.proofs.lemmas.Int.Digits.{digits_of_step, length-digits_of-le}
-use Rattle.std.proofs.lemmas.List.{map-append, length-map, length-drop, drop-drop}
+use Rattle.cq_base.proofs.Terms.{rules, ◌≡◌, ℕ, ◌+◌, ◌<◌, ◌≤◌, ◌/◌, ◌%◌, ◌^◌, List, [], ◌∷◌, ◌++◌, length, map, refl, ap, sym, ◌∙◌, arith, lit≤, zero, suc, set, drop, length-append, append_assoc, common_steps, digits_of, digits_of_step, length-digits_of-le, map-append, length-map, length-drop, drop-drop}
 use Rattle.cq_base.specs.Decimal.{decimal}
 
 pub decimal_above : (n : ℕ) → 0 < n → decimal n ≡ map (λ d. 48 + d) (digits_of 10 n)
@@ -52,10 +48,9 @@ pub one_more_digit : (n count : ℕ) (to mid : List ℕ) → 10 ≤ n → count 
     set mid count (48 + n % 10) ≡ decimal n ++ drop (count + 1) to
 one_more_digit n count to mid h c k m =
     let r : 0 < length (drop count to) = omega (arith, length-drop count to) in
-    ap (λ ys. set ys count (48 + n % 10)) m
-    ∙ ap (λ i. set (decimal (n / 10) ++ drop count to) i (48 + n % 10)) c
+    ap (λ ys. set ys count (48 + n % 10)) m ∙ ap (λ i. set (decimal (n / 10) ++ drop count to) i (48 + n % 10)) c
     ∙ set-append_seam (decimal (n / 10)) (drop count to) (48 + n % 10)
-    ∙ ap (λ ys. decimal (n / 10) ++ ys) (first_set (drop count to) (48 + n % 10) r
-    ∙ ap (λ ys. (48 + n % 10) ∷ ys) (drop-drop 1 count to))
+    ∙ ap (λ ys. decimal (n / 10) ++ ys)
+    (first_set (drop count to) (48 + n % 10) r ∙ ap (λ ys. (48 + n % 10) ∷ ys) (drop-drop 1 count to))
     ∙ sym (append_assoc (decimal (n / 10)) ((48 + n % 10) ∷ []) (drop (count + 1) to))
     ∙ ap (λ ds. ds ++ drop (count + 1) to) (sym (decimal_more n h))

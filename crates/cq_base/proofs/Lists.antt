@@ -4,17 +4,8 @@
 -- of arrival: a cell that goes in at the least of the three places stands after every more urgent cell for its
 -- output, for these stand below its cushion, and before every less urgent one, for the first of these is one of the
 -- three places.
-use Rattle.std.proofs.lemmas.Grind.{common_steps}
-use Rattle.std.proofs.Common.{rules, ◌≡◌, ◌≢◌, ℕ, zero, suc, ◌+◌, ◌<◌, ◌≤◌, Bool, true, false, not, cond, List, [], ◌∷◌, length, get_or, Option, None, Some, refl, sym, ap, ◌∙◌, subst, ⊎_elim, arith}
-use Rattle.std.specs.Prelude.{◌&&◌, slice_get, position, unwrap_or, insert}
-use Rattle.std.specs.List.{AllByRecursion, position_or_len}
-use Rattle.std.proofs.lemmas.Bool.{cond_both, eqb-true, eq-eqb, and_parts, and_from, cases_Bool, cases_lt, ltb-false}
-use Rattle.std.proofs.lemmas.Option.{slice_get_within, slice_get_past, slice_get-get_or, same_Some}
-use Rattle.std.proofs.lemmas.List.Folds.{find_at}
-use Rattle.std.proofs.lemmas.List.Sums.{passes_at_first}
-use Rattle.cq_base.specs.declared.key.Key.{Key}
+use Rattle.cq_base.proofs.Terms.{common_steps, rules, ◌≡◌, ◌≢◌, ℕ, zero, suc, ◌+◌, ◌<◌, ◌≤◌, Bool, true, false, not, cond, List, [], ◌∷◌, length, get_or, Option, None, Some, refl, sym, ap, ◌∙◌, subst, ⊎_elim, arith, ◌&&◌, slice_get, position, unwrap_or, insert, AllByRecursion, position_or_len, cond_both, eqb-true, eq-eqb, and_parts, and_from, cases_Bool, cases_lt, ltb-false, slice_get_within, slice_get_past, slice_get-get_or, same_Some, find_at, passes_at_first, Key, is_before}
 use Rattle.cq_base.specs.declared.cell.Queued.{Queued}
-use Rattle.cq_base.specs.Key.{is_before}
 use Rattle.cq_base.specs.Cells.{IsBefore, EachPair, KeepsOrder, KeysDiffer, HasOtherKey, MoreUrgentAhead, ArrivedBefore, is_for, first_for, without_first, place_of_later, place_of_arrival, with_arrival}
 use Rattle.cq_base.proofs.Keys.{key_laws}
 
@@ -73,9 +64,6 @@ pub place_found : {X : Type 0} (p : X → Bool) (xs : List X) (o : Option ℕ) (
     n ≡ unwrap_or o (length xs) → n ≡ position_or_len p xs
 place_found p xs o n e f = grind (arith, common_steps, cond_both, ltb-false, first_inside)
 
-position-none : {X : Type 0} (p : X → Bool) (xs : List X) → position p xs ≡ None → length xs ≤ position_or_len p xs
-position-none p xs h = grind (arith, common_steps, cond_both, ltb-false)
-
 -- ## The first cell for an output taken out
 
 pub all_left : (P : Queued → Type 0) (j : ℕ) (xs : List Queued) → AllByRecursion P xs →
@@ -100,7 +88,7 @@ none_left j (x ∷ xs) h = go (is_for j x) h (none_left j xs)
 -- what is left where a search for the first cell for the output found none
 pub taken_none : (j : ℕ) (xs : List Queued) → position (is_for j) xs ≡ None →
     (None ≡ first_for j xs) × (xs ≡ without_first j xs)
-taken_none j xs h = grind (arith, common_steps, find_at, slice_get_past, position-none, none_left)
+taken_none j xs h = search (arith, rules, find_at, slice_get_past, none_left, cond_both, ltb-false)
 
 -- ## A cell inserted at a place
 
@@ -117,8 +105,8 @@ each_pair_insert R xs zero n e before after = (all_by (R n) xs (λ s c h. after 
 each_pair_insert R [] (suc p) n e before after = (tt, tt)
 each_pair_insert R (x ∷ xs) (suc p) n e before after = (
   all_insert (R x) xs p n (before zero x refl (omega arith)) e.0,
-  each_pair_insert R xs p n e.1 (λ s y h l. before (suc s) y h (omega arith))
-      (λ s y h l. after (suc s) y h (omega arith)),
+  each_pair_insert R xs p n e.1 (λ s y h l. before (suc s) y h (omega arith)) (λ s y h l.
+      after (suc s) y h (omega arith)),
 )
 
 pub keys_differ_insert : (xs : List Queued) (p : ℕ) (n : Queued) → KeysDiffer xs → HasOtherKey n xs →
@@ -138,11 +126,6 @@ module _ (cushion : ℕ) (n : Queued) (xs : List Queued) (order : KeepsOrder xs)
 
   differs : (s : ℕ) (x : Queued) → slice_get xs s ≡ Some x → x.key ≢ n.key
   differs s x at = all_at (λ y. y.key ≢ n.key) xs s x other at
-
-  before_arrival : (s : ℕ) (x : Queued) → slice_get xs s ≡ Some x → s < place_of_arrival cushion n xs →
-      x.cell.output ≡ n.cell.output → IsBefore x n
-  unfolding is_later
-  before_arrival s x at l e = search (rules, after_other, differs, first_le, and_from, eq-eqb, cases_Bool)
 
   after_arrival : (s : ℕ) (x : Queued) → slice_get xs s ≡ Some x → place_of_arrival cushion n xs ≤ s →
       n.cell.output ≡ x.cell.output → IsBefore n x
@@ -164,7 +147,8 @@ module _ (cushion : ℕ) (n : Queued) (xs : List Queued) (order : KeepsOrder xs)
       (cases_Bool (is_before n.key x.key))
 
   pub keeps_order_arrival : KeepsOrder (with_arrival cushion n xs)
-  keeps_order_arrival = each_pair_insert _ xs (place_of_arrival cushion n xs) n order before_arrival after_arrival
+  keeps_order_arrival = search
+      (arith, rules, each_pair_insert, after_arrival, after_other, differs, first_le, and_from, eq-eqb, cases_Bool)
 
 -- ## The newest cell
 

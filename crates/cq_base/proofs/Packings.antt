@@ -1,10 +1,6 @@
 -- Departures that are packed one after another, and put together again. One more that is packed stands for one more
 -- of the list, and one that is put together again is the first of those that are left.
-use Rattle.std.proofs.lemmas.Grind.{common_steps}
-use Rattle.std.proofs.Common.{arith, rules, ◌≡◌, ℕ, ◌+◌, ◌<◌, List, [], ◌∷◌, ◌++◌, length, map, take, get_or, append_assoc}
-use Rattle.std.proofs.lemmas.List.{append-nil, map-append, take_more}
-use Rattle.cq_base.specs.Packed.{unpacked}
-use Rattle.cq_base.specs.declared.cell.Departure.{Departure}
+use Rattle.cq_base.proofs.Terms.{common_steps, arith, rules, ◌≡◌, ℕ, ◌+◌, ◌<◌, List, [], ◌∷◌, ◌++◌, length, map, take, get_or, append_assoc, append-nil, map-append, take_more, unpacked, Departure}
 use Rattle.cq_base.specs.declared.packed.PackedDeparture.{PackedDeparture}
 
 pub one_packed : (sent : List Departure) (i : ℕ) (d : Departure) (start : List Departure)

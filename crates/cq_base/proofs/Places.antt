@@ -1,21 +1,14 @@
 -- What stands at the places of arrivals. Where no cell came every place answers none, inside the list and beyond it,
 -- so there is no cell of which anything is asked. And what is read at a place, if it is a cell, stands at its own
 -- input, also where it was put there in place of another.
-use Rattle.std.proofs.lemmas.Grind.{common_steps}
-use Rattle.std.proofs.Common.{rules, ◌≡◌, ◌<◌, ℕ, List, get_or, set, Option, None, Some, Bor, refl, sym, ◌∙◌, length-set, get_or-set_same, get_or-set_other, arith, ◌≢◌, ap, ⊎_elim}
-use Rattle.std.specs.Prelude.{IfSome, unwrap_or}
-use Rattle.std.specs.Option.{option_copied, option_flatten, option_map}
-use Rattle.std.proofs.lemmas.Bool.{cases_eq, cases_lt}
-use Rattle.std.proofs.lemmas.List.{length-replicate, get_or-replicate}
-use Rattle.std.proofs.lemmas.Option.{slice_get_past, unwrap_or-slice_get}
+use Rattle.cq_base.proofs.Terms.{common_steps, rules, ◌≡◌, ◌<◌, ℕ, List, get_or, set, Option, None, Some, Bor, sym, ◌∙◌, length-set, get_or-set_same, get_or-set_other, arith, ◌≢◌, ap, ⊎_elim, IfSome, unwrap_or, option_copied, option_flatten, option_map, cases_eq, cases_lt, length-replicate, get_or-replicate, slice_get_past, unwrap_or-slice_get}
 use Rattle.cq_base.specs.declared.cell.Cell.{Cell}
 use Rattle.cq_base.specs.Arrivals.{AreArrivals, arrival_at, no_arrivals}
 
 pub arrival_at-no_arrivals : (input : ℕ) → arrival_at no_arrivals input ≡ None
 arrival_at-no_arrivals input =
     let none : Option Cell = None in
-    ⊎_elim
-    (λ inside. unwrap_or-slice_get no_arrivals input none ∙ get_or-replicate 64 input none none inside)
+    ⊎_elim (λ inside. unwrap_or-slice_get no_arrivals input none ∙ get_or-replicate 64 input none none inside)
     (λ beyond. ap (λ (o : Option (Option Cell)). unwrap_or o none) (slice_get_past no_arrivals input beyond))
     (cases_lt input 64)
 
@@ -34,16 +27,11 @@ own_at : (input : ℕ) (cells : List (Option Cell)) (o : Option Cell) → AreArr
 own_at input cells None are is = tt
 own_at input cells (Some cell) are is = are.own_input input cell (sym is)
 
-option_flatten-copied : (found : Option (Bor (Option Cell))) →
-    option_flatten (option_copied found) ≡ unwrap_or (option_map (λ b. b.now) found) None
-option_flatten-copied None = refl
-option_flatten-copied (Some b) = refl
-
 -- what was read at a place and then copied is a cell of that input
 pub own_read : (input : ℕ) (cells : List (Option Cell)) (found : Option (Bor (Option Cell))) (o : Option Cell) →
     AreArrivals cells → ((d : Option Cell) → unwrap_or (option_map (λ b. b.now) found) d ≡ get_or cells input d) →
     o ≡ option_flatten (option_copied found) → IfSome o (λ cell. cell.id.input ≡ input)
-own_read input cells found o are read is = search (rules, own_at, option_flatten-copied, unwrap_or-slice_get)
+own_read input cells found o are read is = search (arith, rules, own_at, unwrap_or-slice_get)
 
 -- ## One place
 
@@ -63,14 +51,10 @@ put_are cells input o are place own =
       own_input = λ i cell at.
           let read : get_or (set cells input o) i none ≡ Some cell =
           sym (unwrap_or-slice_get (set cells input o) i none) ∙ at in
-          ⊎_elim
-          (λ (here : i ≡ input).
-          let is : o ≡ Some cell =
-          sym (get_or-set_same cells input o none (omega arith))
+          ⊎_elim (λ (here : i ≡ input).
+          let is : o ≡ Some cell = sym (get_or-set_same cells input o none (omega arith))
           ∙ ap (λ k. get_or (set cells input o) k none) (sym here) ∙ read in
-          own_of o cell input is own ∙ sym here)
-          (λ (other : i ≢ input).
-          are.own_input i cell
+          own_of o cell input is own ∙ sym here) (λ (other : i ≢ input). are.own_input i cell
           (unwrap_or-slice_get cells i none ∙ sym (get_or-set_other cells input i o none other) ∙ read))
           (cases_eq i input);
     }

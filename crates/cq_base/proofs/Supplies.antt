@@ -1,9 +1,5 @@
 -- A list that is kept turned round: what is taken from the end of what is kept is the first item of the list.
-use Rattle.std.proofs.lemmas.Grind.{common_steps}
-use Rattle.std.proofs.Common.{arith, ◌≡◌, ◌+◌, List, [], ◌∷◌, ◌++◌, reverse, Option, Some, None, MatchOption, option_to_list, vec_len}
-use Rattle.std.specs.Prelude.{Vec}
-use Rattle.std.specs.declared.alloc.Global.{Global}
-use Rattle.std.proofs.lemmas.List.{nil_from_length, reverse-append}
+use Rattle.cq_base.proofs.Terms.{common_steps, arith, ◌≡◌, ◌+◌, List, [], ◌∷◌, ◌++◌, reverse, Option, Some, None, MatchOption, option_to_list, vec_len, Vec, Global, nil_from_length, reverse-append}
 
 pub first_taken : {T : Type 0} (list : List T) (kept rest : Vec T Global) (taken : Option T) →
     list ≡ reverse kept.items → kept.items ≡ rest.items ++ option_to_list taken →

@@ -1,19 +1,7 @@
 -- The places of a slot's arrivals are filled input by input. Those before the next input have what arrives there, and
 -- the others have what stood there before. No cell stood behind the last line, and none arrives there. So in the end
 -- each place has what arrives.
-use Rattle.std.proofs.lemmas.Grind.{common_steps}
-use Rattle.std.proofs.Common.{rules, ◌≡◌, ℕ, ◌+◌, ◌<◌, ◌≤◌, List, length, get_or, set, Option, None, Some, refl, ◌∙◌, length-set, get_or-set_same, get_or-set_other, arith}
-use Rattle.std.specs.Prelude.{IfSome}
-use Rattle.std.proofs.lemmas.Bool.{cases_eq, cases_lt}
-use Rattle.std.proofs.lemmas.List.{length-replicate}
-use Rattle.std.proofs.lemmas.List.FromFn.{fill_by_all}
-use Rattle.std.proofs.lemmas.Option.{unwrap_or-slice_get}
-use Rattle.cq_base.specs.Arrivals.{no_arrivals}
-use Rattle.cq_base.specs.Arriving.{Arrival, arriving_at, arriving}
-use Rattle.cq_base.specs.declared.cell.Cell.{Cell}
-use Rattle.cq_base.proofs.Places.{arrival_at-no_arrivals}
-use Rattle.cq_cells.specs.Coming.{StandBelow}
-use Rattle.cq_cells.specs.Lines.{AreOwn, all_of}
+use Rattle.cq_cells.proofs.Terms.{common_steps, rules, ◌≡◌, ℕ, ◌+◌, ◌<◌, ◌≤◌, List, length, get_or, set, Option, None, Some, refl, ◌∙◌, length-set, get_or-set_same, get_or-set_other, arith, IfSome, cases_eq, cases_lt, length-replicate, fill_by_all, unwrap_or-slice_get, no_arrivals, Arrival, arriving_at, arriving, Cell, arrival_at-no_arrivals, StandBelow, AreOwn, all_of}
 use Rattle.cq_cells.proofs.Owned.{none_arrives_past}
 
 -- no cell stands anywhere
@@ -51,7 +39,7 @@ module _ (lines : List (List Arrival)) (slot n : ℕ) (old now : List (Option Ce
   pub all_filled : now ≡ arriving (all_of lines) slot
   unfolding arriving
   all_filled =
-      let none : Option Cell = None in
+      let none = None in
       fill_by_all (arriving_at (all_of lines) slot) now 64 none (f.places ∙ stand.places) (λ i _. each_place i)
 
   pub still_stand : StandBelow (length lines) now

@@ -1,24 +1,35 @@
--- A line is laid out: what each step of it adds, and what stands at its end.
-use Rattle.std.proofs.lemmas.Grind.{common_steps}
-use Rattle.std.proofs.Common.{◌≡◌, ℕ, ◌+◌, ◌-◌, ◌/◌, ◌^◌, ◌<◌, ◌≤◌, max, List, [], length, map, not, slice_index_or, refl, arith, ap, ◌∙◌}
-use Rattle.std.specs.List.{AllByRecursion}
-use Rattle.std.proofs.lemmas.List.Filters.{length-filter_both}
-use Rattle.cq_base.specs.Arriving.{Arrival, end_of}
-use Rattle.cq_pcap.specs.Captured.{Captured, rows_from, file_length}
-use Rattle.cq_pcap.specs.declared.capture.PacketRow.{PacketRow}
-use Rattle.cq_route.specs.declared.tables.Tables.{Tables}
-use Rattle.cq_route.specs.Route.{route}
-use Rattle.cq_route.specs.Tables.{AreTables, ports_of}
-use Rattle.cq_cells.specs.declared.line.Row.{Row}
-use Rattle.cq_cells.specs.Lines.{AreAdded, AreRows, line_arrivals}
-use Rattle.cq_cells.specs.Schedule.{cells_of, packets_of, cells, start, arrivals_at, first_stamp, packet_at}
-use Rattle.cq_cells.specs.Traffic.{IsRecorded, is_to, number_of}
-use Rattle.cq_cells.proofs.Packets.{row_of, came_by, ends_by, longer_by, length_packet, end_packet, IsSoFar, few_by, early_by, is_row, line_is, rows_are}
-use Rattle.cq_cells.proofs.Routed.{way_is, way_to_port}
-use Rattle.cq_cells.proofs.Stamps.{IsRowOf, length-rows_from, row_is_of}
+-- A line is laid out: where its packets go, what each step of it adds, and what stands at its end.
+use Rattle.cq_cells.proofs.Terms.{rules, ◌≡◌, ℕ, ◌+◌, ◌-◌, ◌/◌, ◌^◌, ◌<◌, ◌≤◌, max, List, length, map, not, slice_index_or, refl, arith, common_steps, AllByRecursion, length-filter_both, Arrival, end_of, Captured, rows_from, file_length, PacketRow, Tables, route, AreTables, ports_of, Row, AreAdded, AreRows, line_arrivals, cells_of, packets_of, cells, start, stamp_slot, arrivals_at, first_stamp, IsRecorded, is_to, number_of, [], sym, ◌∙◌, range_with_len, length-map, get_or-map, fill_by_all, route_output, packet_at, packet_in}
+use Rattle.cq_cells.proofs.Packets.{start_by, row_of, came_by, ends_by, longer_by, length_packet, end_packet, IsSoFar, few_by, early_by, line_is, rows_are}
+use Rattle.cq_cells.proofs.Stamps.{length-rows_from, row_is_of}
+
+-- ## Routes
 
 abbrev no_packet : Captured
 no_packet = record { stamp = 0; original = 0; body = [] }
+
+-- by their numbers, or one after another
+pub map-packet_in : {Y : Type 0} (f : Captured → Y) (ps : List Captured) →
+    map (λ (k : ℕ). f (packet_in ps k)) (range_with_len 0 (length ps)) ≡ map f ps
+map-packet_in f ps = sym (fill_by_all (λ (k : ℕ). f (packet_in ps k)) (map f ps) (length ps) (f no_packet)
+    (length-map ps f) (λ k h. get_or-map f ps k no_packet (f no_packet) h))
+
+-- the packets of an input were routed one by one
+module _ (t : Tables) (captures : List (List Captured)) (input : ℕ) (ways : List (ℕ × ℕ))
+    (sent : ways ≡ map (λ (p : Captured). route t input p.body) (packets_of captures input)) where
+  way_is : (k : ℕ) → k < length (packets_of captures input) →
+      slice_index_or ways k (0, 0) ≡ route t input (packet_at captures input k).body
+  way_is k inside = grind (arith, common_steps, slice_index_or, get_or-map)
+
+  pub many_ways : length ways ≡ length (packets_of captures input)
+  many_ways = grind (arith, common_steps, length-map)
+
+  -- each leads to a port
+  way_to_port : (k output class : ℕ) → AreTables t → k < length (packets_of captures input) →
+      (output, class) ≡ slice_index_or ways k (0, 0) → output < ports_of t.setup
+  way_to_port k output class a inside its = let way = its ∙ way_is k inside in search (arith, rules, route_output)
+
+-- ## Rows
 
 abbrev no_place : PacketRow
 no_place = record { stamp = 0; original = 0; at = 0; len = 0 }
@@ -51,26 +62,11 @@ pub next_row : (t : Tables) (captures : List (List Captured)) (input k : ℕ) (p
     row.cells ≡ cells_of (slice_index_or places k no_place).len t.cell_bytes →
     (row.output, row.class) ≡ slice_index_or ways k (0, 0) → row.len ≡ (slice_index_or places k no_place).len →
     IsMade t captures input k row
+unfolding stamp_slot cells
 next_row t captures input k ps places ways row origin free tables read inside sent from ended starts cut routed long =
-    let many = read.many in
-    let within : k < length (packets_of captures input) = omega arith in
-    let first : k < length ps = omega (arith, ap (λ (qs : List Captured). length qs) read.same) in
-    let is : IsRowOf (slice_index_or ps k no_packet) (slice_index_or (rows_from 24 ps) k no_place) =
-    row_is_of 24 ps k no_place no_packet first in
-    let here : slice_index_or ps k no_packet ≡ packet_at captures input k =
-    ap (λ (qs : List Captured). slice_index_or qs k no_packet) read.same in
-    let there : slice_index_or places k no_place ≡ slice_index_or (rows_from 24 ps) k no_place =
-    ap (λ (rows : List PacketRow). slice_index_or rows k no_place) read.placed in
-    record {
-      within = within;
-      is =
-          is_row t captures input k row origin free (slice_index_or places k no_place).stamp
-          (slice_index_or places k no_place).len from ended
-          (ap (λ (r : PacketRow). r.stamp) there ∙ is.stamp ∙ ap (λ (p : Captured). p.stamp) here)
-          (ap (λ (r : PacketRow). r.len) there ∙ is.len ∙ ap (λ (p : Captured). length p.body) here)
-          starts cut (routed ∙ way_is t captures input k ways within sent) long;
-      to_port = way_to_port t captures input k ways row.output row.class tables within sent routed;
-    }
+    let its = row_is_of 24 ps k no_place (record { stamp = 0; original = 0; body = [] }) in
+    let to = way_to_port t captures input ways sent k row.output row.class tables in
+    grind (arith, common_steps, start_by, row_is_of, way_is, to, its)
 
 pub filter_few : (j : ℕ) (came : List Arrival) → number_of (is_to j) came ≤ length came
 filter_few j came = omega (arith, length-filter_both (is_to j) (λ (a : Arrival). not (is_to j a)) (λ _. refl) came)
@@ -86,21 +82,14 @@ pub still_small : (t : Tables) (captures : List (List Captured)) (input k : ℕ)
     (old counts : List ℕ) (row : Row) → 1 ≤ t.cell_bytes → IsRecorded (packets_of captures input) →
     IsMade t captures input k row → IsSoFar t captures input k rows free all old counts → AreSmall row all old counts
 still_small t captures input k rows free all old counts row some r made s =
-    let inside = made.within in
-    let had = s.all in
     let longer = longer_by t captures input k in
-    let starts : row.start ≡ start t captures input k = ap (λ (w : Row). w.start) made.is in
-    let cut : row.cells ≡ cells t captures input k = ap (λ (w : Row). w.cells) made.is in
     let ends = ends_by t captures input k in
-    let few = few_by t captures input (k + 1) some r (omega arith) in
-    let early = early_by t captures input (k + 1) r (omega arith) in
-    record {
-      ends = omega (arith, end_packet t captures input k);
-      all = omega (arith, length_packet t captures input k);
-      each = λ own.
-          let added = s.each row.output own in
-          omega (arith, length_packet t captures input k, filter_few row.output (came_by t captures input k));
-    }
+    let few = few_by t captures input (k + 1) some r in
+    let early = early_by t captures input (k + 1) r in
+    let its_end = end_packet t captures input k in
+    let its_length = length_packet t captures input k in
+    let of_output = filter_few row.output in
+    search (arith, rules, longer, ends, few, early, its_end, its_length, s.each row.output, of_output, came_by)
 
 -- what stands at the end of a line
 pub record IsWhole (t : Tables) (captures : List (List Captured)) (input : ℕ) (rows : List Row) (free cells : ℕ)

@@ -1,15 +1,6 @@
 -- A slot is looked up in a line. The packets of a line arrive one after another, so of all packets only the last that
 -- has begun can have a cell in the slot, and that is the cell as many places on as slots have gone by since.
-use Rattle.std.proofs.lemmas.Grind.{common_steps}
-use Rattle.std.proofs.Common.{rules, ◌≡◌, ◌≢◌, ℕ, zero, suc, ◌+◌, ◌-◌, ◌<◌, ◌≤◌, eqb, leb, Bool, true, false, List, length, map, slice_index_or, None, Some, refl, arith, sym, ap, ◌∙◌, subst}
-use Rattle.std.specs.List.{range_with_len, find}
-use Rattle.std.specs.List.Sorted.{IsPartitionPoint, IsNonDecreasingBy}
-use Rattle.std.proofs.lemmas.Bool.{cases_eq, cases_order, ne_eqb}
-use Rattle.std.proofs.lemmas.List.{get_or_default, get_or_read}
-use Rattle.cq_base.specs.Arriving.{Arrival}
-use Rattle.cq_base.specs.declared.cell.Cell.{Cell}
-use Rattle.cq_cells.specs.declared.line.Row.{Row}
-use Rattle.cq_cells.specs.Lines.{AreRows, IsBegun, row_cell, row_arrivals, row_at, line_arrivals}
+use Rattle.cq_cells.proofs.Terms.{common_steps, rules, ◌≡◌, ◌≢◌, ℕ, zero, suc, ◌+◌, ◌-◌, ◌<◌, ◌≤◌, eqb, leb, Bool, true, false, List, length, map, slice_index_or, None, Some, refl, arith, range_with_len, find, IsPartitionPoint, IsNonDecreasingBy, cases_eq, cases_order, ne_eqb, get_or_default, get_or_read, Arrival, Cell, Row, AreRows, IsBegun, row_cell, row_arrivals, row_at, line_arrivals}
 use Rattle.cq_cells.proofs.Ranges.{find_none, find_only}
 
 -- whether it arrives in the slot
@@ -25,7 +16,7 @@ none_in : (s : ℕ) (f : ℕ → Cell) (i n slot : ℕ) → ((j : ℕ) → i ≤
     find (is_in slot) (map (piece s f) (range_with_len i n)) ≡ None
 none_in s f i zero slot h = refl
 none_in s f i (suc n) slot h =
-    let other : eqb (s + i) slot ≡ false = ne_eqb (s + i) slot (h i (omega arith) (omega arith)) in
+    let other = ne_eqb (s + i) slot (h i (omega arith) (omega arith)) in
     rw other (none_in s f (i + 1) n slot (λ j b e. h j (omega arith) (omega arith)))
 
 -- one of them arrives in its own
@@ -34,17 +25,11 @@ found_in : (s : ℕ) (f : ℕ → Cell) (i n slot j : ℕ) → i ≤ j → j < i
 found_in s f i zero slot j from to e = absurd (omega arith)
 found_in s f i (suc n) slot j from to e = search (rules, cases_eq, ne_eqb, found_in s f (i + 1) n slot j)
 
--- a packet has no cell before its start
-row_later : (input cell_bytes k : ℕ) (row : Row) (slot : ℕ) → slot < row.start →
+-- a packet has no cell before its start, nor after its end
+row_none : (input cell_bytes k : ℕ) (row : Row) (slot : ℕ) →
+    ((j : ℕ) → 0 ≤ j → j < 0 + row.cells → row.start + j ≢ slot) →
     find (is_in slot) (row_arrivals input cell_bytes k row) ≡ None
-row_later input cell_bytes k row slot h =
-    none_in row.start (row_cell input cell_bytes k row) 0 row.cells slot (λ j b e p. omega arith)
-
--- nor after its end
-row_over : (input cell_bytes k : ℕ) (row : Row) (slot : ℕ) → row.start + row.cells ≤ slot →
-    find (is_in slot) (row_arrivals input cell_bytes k row) ≡ None
-row_over input cell_bytes k row slot h =
-    none_in row.start (row_cell input cell_bytes k row) 0 row.cells slot (λ j b e p. omega arith)
+row_none input cell_bytes k row slot = none_in row.start (row_cell input cell_bytes k row) 0 row.cells slot
 
 pub begun_from_partition : (rows : List Row) (slot n : ℕ) → n ≤ length rows →
     IsPartitionPoint (λ row. leb row.start slot ≡ true) (λ row. leb row.start slot ≡ false) rows n →
@@ -82,7 +67,7 @@ last_begun rows seen slot n k row same few begun next read = grind (arith, commo
 pub line_none : (input cell_bytes : ℕ) (rows : List Row) (slot : ℕ) → IsBegun rows slot 0 →
     find (is_in slot) (line_arrivals input cell_bytes rows) ≡ None
 unfolding line_arrivals
-line_none input cell_bytes rows slot b = grind (arith, common_steps, find_none, row_later, b.after)
+line_none input cell_bytes rows slot b = search (arith, rules, find_none, row_none, b.after)
 
 -- later it is a cell of the last packet that has begun, if any
 line_at : (input cell_bytes : ℕ) (rows : List Row) (slot k : ℕ) → AreRows cell_bytes rows → k < length rows →
@@ -92,25 +77,19 @@ line_at : (input cell_bytes : ℕ) (rows : List Row) (slot k : ℕ) → AreRows 
 unfolding line_arrivals
 line_at input cell_bytes rows slot k r inside b = find_only (is_in slot)
     (λ j. row_arrivals input cell_bytes j (row_at rows j)) 0 (length rows) k (omega arith) (omega arith)
-    (λ j f t other. search (arith, rules, cases_order, r.apart, b.before, row_over, row_later, b.after))
+    (λ j f t other. search (arith, rules, cases_order, r.apart, b.before, row_none, b.after))
 
 module _ (input cell_bytes : ℕ) (rows : List Row) (slot k : ℕ) (row : Row) (r : AreRows cell_bytes rows)
     (last : LastBegun rows slot k row) where
   -- it has ended
   pub line_over : row.cells ≤ slot - row.start → find (is_in slot) (line_arrivals input cell_bytes rows) ≡ None
   line_over over =
-      let before = last.before in
-      line_at input cell_bytes rows slot k r last.inside last.begun
-      ∙ row_over input cell_bytes k (row_at rows k) slot (subst (λ (x : Row). x.start + x.cells ≤ slot) last.is
-      (omega arith))
+      search (arith, rules, line_at input cell_bytes rows slot k r, row_none input cell_bytes k)
 
   -- it has not
   pub line_found : slot - row.start < row.cells →
       find (is_in slot) (line_arrivals input cell_bytes rows)
       ≡ Some (piece row.start (row_cell input cell_bytes k row) (slot - row.start))
   line_found few =
-      let before = last.before in
-      line_at input cell_bytes rows slot k r last.inside last.begun
-      ∙ ap (λ (x : Row). find (is_in slot) (row_arrivals input cell_bytes k x)) (sym last.is)
-      ∙ found_in row.start (row_cell input cell_bytes k row) 0 row.cells slot (slot - row.start)
-      (omega arith) (omega arith) (omega arith)
+      let found = found_in row.start (row_cell input cell_bytes k row) 0 row.cells slot (slot - row.start) in
+      search (arith, rules, line_at input cell_bytes rows slot k r, found)

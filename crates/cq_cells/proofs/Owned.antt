@@ -1,14 +1,5 @@
 -- Each line's cells arrive at its own input, so what is asked of an input is found in its line.
-use Rattle.std.proofs.lemmas.Grind.{common_steps}
-use Rattle.std.proofs.Common.{◌≡◌, ◌≢◌, ℕ, zero, suc, ◌+◌, ◌<◌, ◌≤◌, max, Bool, true, false, cond, ◌&&◌, List, [], ◌∷◌, ◌++◌, length, filter, take, slice_index_or, Option, None, Some, option_map, refl, ap, ◌∙◌, arith, sym}
-use Rattle.std.specs.List.{AllByRecursion, find}
-use Rattle.std.proofs.lemmas.Bool.{ne_eqb}
-use Rattle.std.proofs.lemmas.List.{append-nil, take_more}
-use Rattle.std.proofs.lemmas.List.Concat.{flat_map-append}
-use Rattle.std.proofs.lemmas.List.Elements.{filter-append}
-use Rattle.cq_base.specs.Arriving.{Arrival, arriving_at, end_of}
-use Rattle.cq_cells.specs.Lines.{AreOwn, all_of}
-use Rattle.cq_cells.specs.Traffic.{is_from}
+use Rattle.cq_cells.proofs.Terms.{rules, ◌≡◌, ◌≢◌, ℕ, zero, suc, ◌+◌, ◌<◌, ◌≤◌, max, Bool, ◌&&◌, List, [], ◌∷◌, ◌++◌, length, filter, take, slice_index_or, None, option_map, refl, arith, common_steps, AllByRecursion, find, ne_eqb, append-nil, take_more, flat_map-append, filter-append, Arrival, arriving_at, end_of, AreOwn, all_of, is_from, Some, Cell}
 use Rattle.cq_cells.proofs.Looked.{is_in}
 
 abbrev pub AllFrom : ℕ → List Arrival → Type 0
@@ -30,41 +21,25 @@ own_line i (a ∷ line) own = grind (arith, common_steps, own_line i line own.1)
 none_from : (input i : ℕ) (lines : List (List Arrival)) → AreOwn i lines →
     ((k : ℕ) → k < length lines → i + k ≢ input) → filter (is_from input) (all_of lines) ≡ []
 none_from input i [] own others = refl
-none_from input i (line ∷ lines) own others = filter-append (is_from input) line (all_of lines)
-    ∙ ap (λ (cs : List Arrival). cs ++ filter (is_from input) (all_of lines))
-    (other_line input i line own.0 (λ same. others 0 (omega arith) (omega arith)))
-    ∙ none_from input (i + 1) lines own.1 (λ k h same. others (suc k) (omega arith) (omega arith))
+none_from input i (line ∷ lines) own others =
+    let here = other_line input i line own.0 (λ same. others 0 (omega arith) (omega arith)) in
+    let rest = none_from input (i + 1) lines own.1 (λ k h same. others (suc k) (omega arith) (omega arith)) in
+    rw (filter-append, here) rest
 
 pub counted : (input i k : ℕ) (lines : List (List Arrival)) → AreOwn i lines → i + k ≡ input → k < length lines →
     filter (is_from input) (all_of lines) ≡ slice_index_or lines k []
 counted input i k [] own at h = absurd (omega arith)
 counted input i zero (line ∷ lines) own at h =
-    let same : i ≡ input = omega arith in
-    ap (λ (j : ℕ). filter (is_from j) (line ++ all_of lines)) (sym same)
-    ∙ filter-append (is_from i) line (all_of lines)
-    ∙ ap (λ (cs : List Arrival). filter (is_from i) line ++ cs)
-    (none_from i (i + 1) lines own.1 (λ k b e. (let P : ⊥ = omega arith in P)))
-    ∙ append-nil (filter (is_from i) line)
-    ∙ own_line i line own.0
+    search (arith, rules, filter-append, none_from i (i + 1) lines, append-nil, own_line i)
 counted input i (suc k) (line ∷ lines) own at h =
-    filter-append (is_from input) line (all_of lines)
-    ∙ ap (λ (cs : List Arrival). cs ++ filter (is_from input) (all_of lines))
-    (other_line input i line own.0 (omega arith))
-    ∙ counted input (i + 1) k lines own.1 (omega arith) (omega arith)
+    grind (arith, common_steps, filter-append, other_line input i line own.0, counted input (i + 1) k lines own.1)
 
 -- ## The cell of a slot
 
 -- what both tests find is what the one finds among what the other lets pass
 find_filter : (p q : Arrival → Bool) (came : List Arrival) → find (λ a. p a && q a) came ≡ find p (filter q came)
 find_filter p q [] = refl
-find_filter p q (a ∷ came) = go (p a) (q a) (find (λ x. p x && q x) came) (filter q came) (find_filter p q came) refl
-  where
-    go : (x y : Bool) (found : Option Arrival) (rest : List Arrival) → found ≡ find p rest → p a ≡ x →
-        cond (x && y) (Some a) found ≡ find p (cond y (a ∷ rest) rest)
-    go true true found rest e is = rw is refl
-    go true false found rest e is = e
-    go false true found rest e is = rw is e
-    go false false found rest e is = e
+find_filter p q (a ∷ came) = grind (arith, common_steps, find_filter p q came)
 
 -- the cell that arrives at an input is one of those of the input
 pub arriving_of_input : (came : List Arrival) (slot input : ℕ) →
@@ -91,3 +66,20 @@ all_of_more lines i line h is = grind (arith, common_steps, take_more, flat_map-
 pub end_of-append : (xs ys : List Arrival) → end_of (xs ++ ys) ≡ max (end_of xs) (end_of ys)
 end_of-append [] ys = omega arith
 end_of-append (x ∷ xs) ys = omega (arith, end_of-append xs ys)
+
+-- ## A line gives a cell to its own input only
+
+own_at : (k i j : ℕ) (lines : List (List Arrival)) → AreOwn k lines → i < length lines → k + i ≡ j →
+    AllFrom j (slice_index_or lines i [])
+own_at k i j [] own h e = absurd (omega arith)
+own_at k zero j (line ∷ lines) own h e = let same : k ≡ j = omega arith in rw (← same) own.0
+own_at k (suc i) j (line ∷ lines) own h e = own_at (k + 1) i j lines own.1 (omega arith) (omega arith)
+
+found_from : (p : Arrival → Bool) (input : ℕ) (line : List Arrival) (cell : Cell) → AllFrom input line →
+    option_map (λ a. a.cell) (find p line) ≡ Some cell → cell.id.input ≡ input
+found_from p input [] cell own e = cc
+found_from p input (a ∷ line) cell own e = search (arith, rules, found_from p input line cell own.1)
+
+pub comes_to_own : (slot i : ℕ) (lines : List (List Arrival)) (cell : Cell) → AreOwn 0 lines → i < length lines →
+    option_map (λ a. a.cell) (find (is_in slot) (slice_index_or lines i [])) ≡ Some cell → cell.id.input ≡ i
+comes_to_own slot i lines cell own h e = search (arith, rules, found_from, is_in, slice_index_or, own_at)

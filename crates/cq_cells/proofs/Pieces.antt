@@ -1,8 +1,5 @@
 -- How a packet is cut.
-use Rattle.std.proofs.Common.{rules, ℕ, zero, suc, ◌+◌, ◌*◌, ◌/◌, ◌%◌, ◌<◌, ◌≤◌, min, arith}
-use Rattle.std.proofs.Math.Nat.{div-le_self, mul-le-mul_right}
-use Rattle.std.proofs.lemmas.Grind.{div_ceil_times}
-use Rattle.cq_cells.specs.Schedule.{cells_of}
+use Rattle.cq_cells.proofs.Terms.{rules, ℕ, zero, suc, ◌+◌, ◌*◌, ◌/◌, ◌%◌, ◌<◌, ◌≤◌, min, arith, div-le_self, mul-le-mul_right, div_ceil_times, cells_of}
 
 -- a piece begins no later than the frame ends
 pub piece_begins : (len cell_bytes i : ℕ) → 1 ≤ cell_bytes → i < cells_of len cell_bytes → i * cell_bytes ≤ len

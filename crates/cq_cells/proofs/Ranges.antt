@@ -1,12 +1,5 @@
 -- Lists that are made number by number.
-use Rattle.std.proofs.lemmas.Grind.{common_steps}
-use Rattle.std.proofs.Common.{◌≡◌, ◌≢◌, ℕ, zero, suc, ◌+◌, ◌<◌, ◌≤◌, Bool, List, [], ◌∷◌, ◌++◌, map, flat_map, Option, None, Some, refl, ap, sym, ◌∙◌, set, arith, inl, inr, get_or, length}
-use Rattle.std.specs.List.{range_with_len, find}
-use Rattle.std.specs.Option.{option_or}
-use Rattle.std.proofs.lemmas.Bool.{cases_eq}
-use Rattle.std.proofs.lemmas.List.Folds.{find-append}
-use Rattle.std.proofs.lemmas.List.{map-id, get_or-set_same, get_or-set_other, length-set}
-use Rattle.std.proofs.lemmas.List.FromFn.{map-range_with_len_more, fill_by_all, length-map-range_with_len, get_or-map-range_with_len}
+use Rattle.cq_cells.proofs.Terms.{rules, ◌≡◌, ◌≢◌, ℕ, zero, suc, ◌+◌, ◌<◌, ◌≤◌, Bool, List, [], ◌∷◌, ◌++◌, map, flat_map, None, refl, ap, sym, ◌∙◌, set, arith, common_steps, range_with_len, find, cases_eq, find-append, map-id, get_or-set_same, get_or-set_other, length-set, map-range_with_len_more, fill_by_all, length-map-range_with_len, get_or-map-range_with_len}
 
 -- the numbers up to the next one
 pub range_more : (a n : ℕ) → range_with_len a (n + 1) ≡ range_with_len a n ++ (a + n) ∷ []
@@ -18,11 +11,6 @@ pub flat_same : {X : Type 0} (f g : ℕ → List X) (a n : ℕ) → ((j : ℕ) �
     flat_map f (range_with_len a n) ≡ flat_map g (range_with_len a n)
 flat_same f g a zero h = refl
 flat_same f g a (suc n) h = grind (arith, common_steps, flat_same f g (a + 1) n)
-
--- what is found, or else nothing
-pub or_none : {X : Type 0} (o : Option X) → option_or o None ≡ o
-or_none None = refl
-or_none (Some x) = refl
 
 -- nothing is found where no number has it
 pub find_none : {X : Type 0} (p : X → Bool) (f : ℕ → List X) (a n : ℕ) →
@@ -36,20 +24,12 @@ pub find_only : {X : Type 0} (p : X → Bool) (f : ℕ → List X) (a n k : ℕ)
     find p (flat_map f (range_with_len a n)) ≡ find p (f k)
 find_only p f a zero k from to h = absurd (omega arith)
 find_only {X = X} p f a (suc n) k from to h =
-    grind (arith, common_steps, flat_map, cases_eq, find-append, find_none, or_none, find_only p f (a + 1) n k)
+    search (arith, rules, flat_map, cases_eq, find-append, find_none, find_only p f (a + 1) n k)
 
 -- one value that is written among those of the numbers
 pub set_one : {X : Type 0} (f g : ℕ → X) (n i : ℕ) (y : X) → i < n → g i ≡ y → ((j : ℕ) → j < n → j ≢ i → g j ≡ f j) →
     set (map f (range_with_len 0 n)) i y ≡ map g (range_with_len 0 n)
-set_one f g n i y inside own others =
-    fill_by_all g (set (map f (range_with_len 0 n)) i y) n y (length-set (map f (range_with_len 0 n)) i y
-    ∙ length-map-range_with_len f 0 n)
-    (λ k h. elim (cases_eq k i) [
-      | inl same ↦
-          let fits : i < length (map f (range_with_len 0 n)) = omega (arith, length-map-range_with_len f 0 n) in
-          ap (λ j. get_or (set (map f (range_with_len 0 n)) i y) j y) same
-          ∙ get_or-set_same (map f (range_with_len 0 n)) i y y fits ∙ sym own ∙ ap g (sym same)
-      | inr other ↦
-          get_or-set_other (map f (range_with_len 0 n)) i k y y other
-          ∙ get_or-map-range_with_len f 0 n k k y h (omega arith) ∙ sym (others k h other)
-    ])
+set_one f g n i y inside own others = fill_by_all g (set (map f (range_with_len 0 n)) i y) n y
+    (length-set (map f (range_with_len 0 n)) i y ∙ length-map-range_with_len f 0 n)
+    (search
+    (arith, rules, cases_eq, length-map-range_with_len, get_or-set_same, get_or-set_other, get_or-map-range_with_len))

@@ -1,63 +1,26 @@
 -- The cells of an input arrive one after another: those of a packet in consecutive slots, and those of the next
 -- packet after them. Cells of two inputs have nothing to do with each other. So each arrival of the list is later
 -- than those before it at its input.
-use Rattle.std.proofs.lemmas.Grind.{common_steps}
-use Rattle.std.proofs.Common.{rules, ◌≡◌, ℕ, zero, suc, ◌+◌, ◌*◌, ◌^◌, ◌<◌, ◌≤◌, List, [], ◌∷◌, ◌++◌, length, map, filter, flat_map, refl, arith, sym, ap, ◌∙◌}
-use Rattle.std.specs.List.{AllByRecursion, AllPairs, range_with_len}
-use Rattle.std.proofs.lemmas.List.{length-append}
-use Rattle.std.proofs.lemmas.List.Elements.{All-from_recursion}
-use Rattle.std.proofs.lemmas.List.FromFn.{get_or-map-range_with_len, length-map-range_with_len}
-use Rattle.std.proofs.lemmas.List.Kept.{AllPairs-cons}
-use Rattle.cq_base.specs.Arriving.{Arrival, end_of, enough}
-use Rattle.cq_base.specs.declared.cell.Cell.{Cell}
-use Rattle.cq_pcap.specs.Captured.{Captured}
-use Rattle.cq_route.specs.declared.tables.Tables.{Tables}
-use Rattle.cq_route.specs.Tables.{AreTables, classes_of, ports_of}
-use Rattle.cq_route.proofs.Bounds.{route_output, route_class}
-use Rattle.cq_cells.specs.Schedule.{packets_of, cells, start, cell_of, arrivals_of, arrivals_at, arrivals}
-use Rattle.cq_cells.specs.Lines.{AreOwn, all_of}
-use Rattle.std.proofs.lemmas.List.Folds.{flat_map-map}
-use Rattle.cq_cells.specs.Traffic.{IsInRange, IsLater, IsTraffic, IsShort, IsRecorded, is_from}
+use Rattle.cq_cells.proofs.Terms.{common_steps, rules, ◌≡◌, ℕ, zero, suc, ◌+◌, ◌*◌, ◌^◌, ◌<◌, ◌≤◌, List, [], ◌∷◌, ◌++◌, length, map, filter, flat_map, refl, arith, AllByRecursion, AllPairs, range_with_len, length-append, All-from_recursion, get_or-map-range_with_len, length-map-range_with_len, AllPairs-cons, Arrival, end_of, enough, Cell, Captured, Tables, AreTables, classes_of, ports_of, route_output, route_class, packets_of, cells, start, cell_of, arrivals_of, arrivals_at, arrivals, AreOwn, all_of, flat_map-map, IsInRange, IsLater, IsTraffic, IsShort, IsRecorded, is_from, all_both}
 use Rattle.cq_cells.proofs.Looked.{piece}
 use Rattle.cq_cells.proofs.Owned.{AllFrom, counted, end_of-append}
 use Rattle.cq_cells.proofs.Packets.{few_by, early_by, ends_before}
-
--- what holds of two lists' items holds of all
-pub all_append : (P : Arrival → Type 0) (xs ys : List Arrival) → AllByRecursion P xs → AllByRecursion P ys →
-    AllByRecursion P (xs ++ ys)
-all_append P [] ys a b = b
-all_append P (x ∷ xs) ys a b = (a.0, all_append P xs ys a.1 b)
 
 -- what holds for each number holds of all
 pub all_flat : (P : Arrival → Type 0) (f : ℕ → List Arrival) (a n : ℕ) →
     ((k : ℕ) → a ≤ k → k < a + n → AllByRecursion P (f k)) → AllByRecursion P (flat_map f (range_with_len a n))
 all_flat P f a zero h = tt
-all_flat P f a (suc n) h = grind (arith, common_steps, all_append, flat_map, all_flat P f (a + 1) n)
+all_flat P f a (suc n) h = grind (arith, common_steps, all_both, flat_map, all_flat P f (a + 1) n)
 
-all_pieces : (P : Arrival → Type 0) (s : ℕ) (f : ℕ → Cell) (a n : ℕ) → ((k : ℕ) → P (piece s f k)) →
-    AllByRecursion P (map (piece s f) (range_with_len a n))
+pub all_pieces : (P : Arrival → Type 0) (s : ℕ) (f : ℕ → Cell) (a n : ℕ) →
+    ((i : ℕ) → a ≤ i → i < a + n → P (piece s f i)) → AllByRecursion P (map (piece s f) (range_with_len a n))
 all_pieces P s f a zero h = tt
-all_pieces P s f a (suc n) h = (h a, all_pieces P s f (a + 1) n h)
+all_pieces P s f a (suc n) h = grind (arith, common_steps, all_pieces P s f (a + 1) n)
 
 pub all_each : (P Q : Arrival → Type 0) (xs : List Arrival) → ((a : Arrival) → P a → Q a) → AllByRecursion P xs →
     AllByRecursion Q xs
 all_each P Q [] h a = tt
 all_each P Q (x ∷ xs) h a = (h x a.0, all_each P Q xs h a.1)
-
--- the arrivals of an input come to it
-pub own_input : (t : Tables) (captures : List (List Captured)) (input : ℕ) →
-    AllFrom input (arrivals_at t captures input)
-unfolding arrivals_at cell_of
-own_input t captures input = search (rules, all_flat, all_pieces)
-
--- in range
-input_in_range : (t : Tables) (captures : List (List Captured)) (input : ℕ) → AreTables t → input < ports_of t.setup →
-    AllByRecursion (IsInRange (ports_of t.setup) (classes_of t.setup)) (arrivals_at t captures input)
-unfolding arrivals_at cell_of
-input_in_range t captures input a inside = all_flat (IsInRange (ports_of t.setup) (classes_of t.setup))
-    (arrivals_of t captures input) 0 (length (packets_of captures input)) (λ k b h. all_pieces
-    (IsInRange (ports_of t.setup) (classes_of t.setup)) (start t captures input k) (cell_of t captures input k)
-    0 (cells t captures input k) (λ i. search (arith, rules, route_output, route_class)))
 
 -- the slots rise, from this one or a later one on
 abbrev Rises : ℕ → List Arrival → Type 0
@@ -73,18 +36,6 @@ rises_pieces : (s : ℕ) (f : ℕ → Cell) (i n : ℕ) (rest : List Arrival) �
     Rises (s + i) (map (piece s f) (range_with_len i n) ++ rest)
 rises_pieces s f i zero rest r = rises_from rest (s + i) (s + (i + 0)) (omega arith) r
 rises_pieces s f i (suc n) rest r = grind (arith, common_steps, rises_from, rises_pieces s f (i + 1) n rest)
-
-packets_rise : (t : Tables) (captures : List (List Captured)) (input k n : ℕ) →
-    Rises (start t captures input k) (flat_map (arrivals_of t captures input) (range_with_len k n))
-packets_rise t captures input k zero = tt
-packets_rise t captures input k (suc n) =
-    let later : Rises (start t captures input (k + 1))
-    (flat_map (arrivals_of t captures input) (range_with_len (k + 1) n)) =
-    packets_rise t captures input (k + 1) n in
-    rises_from _ (start t captures input k) (start t captures input k + 0) (omega arith)
-    (rises_pieces (start t captures input k) (cell_of t captures input k) 0 (cells t captures input k) _
-    (rises_from _ (start t captures input k + (0 + cells t captures input k)) (start t captures input (k + 1))
-    (omega (arith, ends_before t captures input k (k + 1) (omega arith))) later))
 
 -- each is later than those before it
 abbrev EachLater : List Arrival → Type 0
@@ -105,82 +56,97 @@ later_append : (i : ℕ) (xs ys : List Arrival) → EachLater xs → EachLater y
     AllByRecursion (λ (b : Arrival). i < b.cell.id.input) ys → EachLater (xs ++ ys)
 later_append i [] ys l m own others = m
 later_append i (x ∷ xs) ys l m own others =
-    grind (arith, common_steps, all_append, all_each, later_append i xs ys l.1 m own.1 others)
-
-inputs_after : (t : Tables) (captures : List (List Captured)) (i a n : ℕ) → i < a →
-    AllByRecursion (λ (b : Arrival). i < b.cell.id.input) (flat_map (arrivals_at t captures) (range_with_len a n))
-inputs_after t captures i a n h = all_flat (λ (b : Arrival). i < b.cell.id.input) (arrivals_at t captures) a n
-    (λ k f e. search (arith, rules, all_each, own_input))
-
-line_later : (t : Tables) (captures : List (List Captured)) (input : ℕ) → EachLater (arrivals_at t captures input)
-unfolding arrivals_at
-line_later t captures input =
-    later_rising _ (start t captures input 0) (packets_rise t captures input 0 (length (packets_of captures input)))
-
-lines_later : (t : Tables) (captures : List (List Captured)) (a n : ℕ) →
-    EachLater (flat_map (arrivals_at t captures) (range_with_len a n))
-lines_later t captures a zero = tt
-lines_later t captures a (suc n) = later_append a (arrivals_at t captures a)
-    (flat_map (arrivals_at t captures) (range_with_len (a + 1) n)) (line_later t captures a)
-    (lines_later t captures (a + 1) n) (own_input t captures a) (inputs_after t captures a (a + 1) n (omega arith))
+    grind (arith, common_steps, all_both, all_each, later_append i xs ys l.1 m own.1 others)
 
 pairs_later : (came : List Arrival) → EachLater came → AllPairs IsLater came
 pairs_later [] l = λ i j d b h. absurd (omega arith)
 pairs_later (a ∷ came) l = AllPairs-cons IsLater a came (All-from_recursion (IsLater a) came l.0) (pairs_later came l.1)
 
-pub traffic_is : (t : Tables) (captures : List (List Captured)) → AreTables t → length captures ≡ ports_of t.setup →
-    IsTraffic (ports_of t.setup) (classes_of t.setup) (arrivals t captures)
-unfolding arrivals
-traffic_is t captures a ports = record {
-  in_range =
-      all_flat (IsInRange (ports_of t.setup) (classes_of t.setup)) (arrivals_at t captures) 0 (length captures)
-      (λ k b h. input_in_range t captures k a (omega arith));
-  one_by_one = pairs_later _ (lines_later t captures 0 (length captures));
-}
+module _ (t : Tables) (captures : List (List Captured)) where
+  -- the arrivals of an input come to it
+  pub own_input : (input : ℕ) → AllFrom input (arrivals_at t captures input)
+  unfolding arrivals_at cell_of
+  own_input input = search (rules, all_flat, all_pieces)
 
--- a line is short
-line_few : (t : Tables) (captures : List (List Captured)) (input : ℕ) → 1 ≤ t.cell_bytes →
-    IsRecorded (packets_of captures input) →
-    (length (arrivals_at t captures input) ≤ 2 ^ 28) × (end_of (arrivals_at t captures input) ≤ 2 ^ 63 + 2 ^ 28)
-unfolding arrivals_at
-line_few t captures input some r = grind (arith, common_steps, few_by, early_by)
+  -- in range
+  input_in_range : (input : ℕ) → AreTables t → input < ports_of t.setup →
+      AllByRecursion (IsInRange (ports_of t.setup) (classes_of t.setup)) (arrivals_at t captures input)
+  unfolding arrivals_at cell_of
+  input_in_range input a inside = all_flat (IsInRange (ports_of t.setup) (classes_of t.setup))
+      (arrivals_of t captures input) 0 (length (packets_of captures input)) (λ k b h. all_pieces
+      (IsInRange (ports_of t.setup) (classes_of t.setup)) (start t captures input k) (cell_of t captures input k)
+      0 (cells t captures input k) (λ i low high. search (arith, rules, route_output, route_class)))
 
-lines_few : (t : Tables) (captures : List (List Captured)) (a n : ℕ) → 1 ≤ t.cell_bytes →
-    ((i : ℕ) → i < a + n → IsRecorded (packets_of captures i)) →
-    (length (flat_map (arrivals_at t captures) (range_with_len a n)) ≤ n * 2 ^ 28)
-    × (end_of (flat_map (arrivals_at t captures) (range_with_len a n)) ≤ 2 ^ 63 + 2 ^ 28)
-lines_few t captures a zero some r = (omega arith, omega arith)
-lines_few t captures a (suc n) some r =
-    let first = line_few t captures a some (r a (omega arith)) in
-    let rest = lines_few t captures (a + 1) n some (λ i h. r i (omega arith)) in
-    let xs : List Arrival = arrivals_at t captures a in
-    let ys : List Arrival = flat_map (arrivals_at t captures) (range_with_len (a + 1) n) in
-    (omega (arith, length-append xs ys), omega (arith, end_of-append xs ys))
+  packets_rise : (input k n : ℕ) →
+      Rises (start t captures input k) (flat_map (arrivals_of t captures input) (range_with_len k n))
+  packets_rise input k zero = tt
+  packets_rise input k (suc n) =
+      let later = packets_rise input (k + 1) n in
+      rises_from _ (start t captures input k) (start t captures input k + 0) (omega arith)
+      (rises_pieces (start t captures input k) (cell_of t captures input k) 0 (cells t captures input k) _
+      (search (arith, rules, rises_from, ends_before)))
 
-pub short_is : (t : Tables) (captures : List (List Captured)) → AreTables t → length captures ≡ ports_of t.setup →
-    ((i : ℕ) → i < length captures → IsRecorded (packets_of captures i)) → IsShort (arrivals t captures)
-unfolding arrivals enough
-short_is t captures a ports r = grind (arith, common_steps, lines_few)
+  inputs_after : (i a n : ℕ) → i < a →
+      AllByRecursion (λ (b : Arrival). i < b.cell.id.input) (flat_map (arrivals_at t captures) (range_with_len a n))
+  inputs_after i a n h = all_flat (λ (b : Arrival). i < b.cell.id.input) (arrivals_at t captures) a n
+      (λ k f e. search (arith, rules, all_each, own_input))
 
--- the lines of the inputs
-pub own_lines : (t : Tables) (captures : List (List Captured)) (a n : ℕ) →
-    AreOwn a (map (arrivals_at t captures) (range_with_len a n))
-own_lines t captures a zero = tt
-own_lines t captures a (suc n) = (own_input t captures a, own_lines t captures (a + 1) n)
+  line_later : (input : ℕ) → EachLater (arrivals_at t captures input)
+  unfolding arrivals_at
+  line_later input =
+      later_rising _ (start t captures input 0) (packets_rise input 0 (length (packets_of captures input)))
 
-pub all_lines : (t : Tables) (captures : List (List Captured)) (lines : List (List Arrival)) →
-    lines ≡ map (arrivals_at t captures) (range_with_len 0 (length captures)) → all_of lines ≡ arrivals t captures
-unfolding arrivals
-all_lines t captures lines e = grind (arith, common_steps, flat_map-map)
+  lines_later : (a n : ℕ) → EachLater (flat_map (arrivals_at t captures) (range_with_len a n))
+  lines_later a zero = tt
+  lines_later a (suc n) = later_append a (arrivals_at t captures a)
+      (flat_map (arrivals_at t captures) (range_with_len (a + 1) n)) (line_later a)
+      (lines_later (a + 1) n) (own_input a) (inputs_after a (a + 1) n (omega arith))
 
--- so the arrivals at an input are those of its line
-pub at_input : (t : Tables) (captures : List (List Captured)) (input : ℕ) → input < length captures →
-    filter (is_from input) (arrivals t captures) ≡ arrivals_at t captures input
-at_input t captures input inside =
-    let nothing : List Arrival = [] in
-    let n = length captures in
-    let lines : List (List Arrival) = map (arrivals_at t captures) (range_with_len 0 n) in
-    let many : length lines ≡ n = length-map-range_with_len (arrivals_at t captures) 0 n in
-    ap (filter (is_from input)) (sym (all_lines t captures lines refl))
-    ∙ counted input 0 input lines (own_lines t captures 0 n) (omega arith) (omega arith)
-    ∙ get_or-map-range_with_len (arrivals_at t captures) 0 n input input nothing inside (omega arith)
+  pub traffic_is : AreTables t → length captures ≡ ports_of t.setup →
+      IsTraffic (ports_of t.setup) (classes_of t.setup) (arrivals t captures)
+  unfolding arrivals
+  traffic_is a ports = record {
+    in_range =
+        all_flat (IsInRange (ports_of t.setup) (classes_of t.setup)) (arrivals_at t captures) 0 (length captures)
+        (λ k b h. input_in_range k a (omega arith));
+    one_by_one = pairs_later _ (lines_later 0 (length captures));
+  }
+
+  -- a line is short
+  line_few : (input : ℕ) → 1 ≤ t.cell_bytes → IsRecorded (packets_of captures input) →
+      (length (arrivals_at t captures input) ≤ 2 ^ 28) × (end_of (arrivals_at t captures input) ≤ 2 ^ 63 + 2 ^ 28)
+  unfolding arrivals_at
+  line_few input some r = grind (arith, common_steps, few_by, early_by)
+
+  lines_few : (a n : ℕ) → 1 ≤ t.cell_bytes → ((i : ℕ) → i < a + n → IsRecorded (packets_of captures i)) →
+      (length (flat_map (arrivals_at t captures) (range_with_len a n)) ≤ n * 2 ^ 28)
+      × (end_of (flat_map (arrivals_at t captures) (range_with_len a n)) ≤ 2 ^ 63 + 2 ^ 28)
+  lines_few a zero some r = (omega arith, omega arith)
+  lines_few a (suc n) some r =
+      let first = line_few a some (r a (omega arith)) in
+      search (arith, rules, flat_map, length-append, end_of-append, lines_few (a + 1) n some)
+
+  pub short_is : AreTables t → length captures ≡ ports_of t.setup →
+      ((i : ℕ) → i < length captures → IsRecorded (packets_of captures i)) → IsShort (arrivals t captures)
+  unfolding arrivals enough
+  short_is a ports r = grind (arith, common_steps, lines_few)
+
+  -- the lines of the inputs
+  pub own_lines : (a n : ℕ) → AreOwn a (map (arrivals_at t captures) (range_with_len a n))
+  own_lines a zero = tt
+  own_lines a (suc n) = (own_input a, own_lines (a + 1) n)
+
+  pub all_lines : (lines : List (List Arrival)) →
+      lines ≡ map (arrivals_at t captures) (range_with_len 0 (length captures)) → all_of lines ≡ arrivals t captures
+  unfolding arrivals
+  all_lines lines e = grind (arith, common_steps, flat_map-map)
+
+  -- so the arrivals at an input are those of its line
+  pub at_input : (input : ℕ) → input < length captures →
+      filter (is_from input) (arrivals t captures) ≡ arrivals_at t captures input
+  at_input input inside =
+      let n = length captures in
+      let lines = map (arrivals_at t captures) (range_with_len 0 n) in
+      let many = length-map-range_with_len (arrivals_at t captures) 0 n in
+      let there = get_or-map-range_with_len (arrivals_at t captures) 0 n input input [] inside in
+      search (arith, rules, many, all_lines lines refl, counted input 0 input lines, own_lines 0 n, there)

@@ -1,21 +1,10 @@
 -- The next slot with an arrival. At one input the packets that have arrived whole before a slot stand first. Of the
 -- others the first one begins first, and its cells come one a slot. So the slot itself has a cell where that packet
 -- has begun, and else the slot in which it begins is the next one. Of several inputs the earliest counts.
-use Rattle.std.proofs.lemmas.Grind.{common_steps}
-use Rattle.std.proofs.Common.{rules, ◌≡◌, ℕ, zero, suc, ◌+◌, ◌-◌, ◌<◌, ◌≤◌, max, leb, Bool, true, false, List, [], ◌∷◌, ◌++◌, length, map, flat_map, slice_index_or, Option, Some, None, inl, inr, subst, arith}
-use Rattle.std.specs.List.{AllByRecursion, range_with_len}
-use Rattle.std.specs.List.Sorted.{IsPartitionPoint, IsPartitionedBy}
-use Rattle.std.proofs.lemmas.Bool.{cases_eq, cases_lt}
-use Rattle.std.proofs.lemmas.List.{get_or_default}
-use Rattle.cq_base.specs.Arriving.{Arrival}
-use Rattle.cq_base.specs.declared.cell.Cell.{Cell}
-use Rattle.cq_cells.specs.declared.line.Row.{Row}
-use Rattle.cq_cells.specs.Lines.{AreRows, IsEnded, line_arrivals, row_arrivals, row_at, row_cell}
-use Rattle.cq_cells.specs.NextArrival.{ArrivesIn, IsFirstFrom, IsNextArrival}
-use Rattle.cq_cells.specs.Schedule.{earlier}
+use Rattle.cq_cells.proofs.Terms.{common_steps, rules, ◌≡◌, ℕ, zero, suc, ◌+◌, ◌-◌, ◌<◌, ◌≤◌, max, leb, Bool, true, false, List, [], ◌∷◌, ◌++◌, length, map, flat_map, slice_index_or, Option, Some, None, inl, inr, arith, AllByRecursion, range_with_len, IsPartitionPoint, IsPartitionedBy, cases_eq, cases_lt, get_or_default, Arrival, Cell, Row, AreRows, IsEnded, line_arrivals, row_arrivals, row_at, row_cell, ArrivesIn, IsFirstFrom, IsNextArrival, earlier, all_both}
 use Rattle.cq_cells.proofs.Looked.{no_row, piece}
 use Rattle.cq_cells.proofs.Pieces.{cells_above}
-use Rattle.cq_cells.proofs.Rising.{all_append, all_each, all_flat}
+use Rattle.cq_cells.proofs.Rising.{all_each, all_flat, all_pieces}
 
 -- ## Which packets have arrived whole
 
@@ -31,17 +20,13 @@ module _ (cell_bytes : ℕ) (rows : List Row) (are : AreRows cell_bytes rows) wh
       (row_at rows k).start + (row_at rows k).cells ≤ slot
   ended_by slot k d inside test = grind (arith, common_steps, slice_index_or, get_or_default, no_row, some_cells)
 
-  not_ended_by : (slot k : ℕ) (d : Row) → k < length rows → has_ended slot (slice_index_or rows k d) ≡ false →
-      slot < (row_at rows k).start + (row_at rows k).cells
-  not_ended_by slot k d inside test = grind (arith, common_steps, slice_index_or, get_or_default, no_row)
-
   pub parted_by_end : (slot : ℕ) → IsPartitionedBy (has_ended slot) rows
   parted_by_end slot i j d le inside test = search (rules, cases_eq, slice_index_or, ended_by, get_or_default, no_row)
 
   pub ended_from_partition : (slot n : ℕ) → n ≤ length rows →
       IsPartitionPoint (λ row. has_ended slot row ≡ true) (λ row. has_ended slot row ≡ false) rows n →
       IsEnded rows slot n
-  ended_from_partition slot n few point = grind (arith, common_steps, ended_by, no_row, not_ended_by)
+  ended_from_partition slot n few point = search (arith, rules, ended_by, no_row, slice_index_or, get_or_default)
 
 -- ## Where a cell arrives
 
@@ -65,11 +50,6 @@ arrives_piece : (slot s : ℕ) (f : ℕ → Cell) (a n i : ℕ) → a ≤ i → 
 arrives_piece slot s f a zero i from to at = absurd (omega arith)
 arrives_piece slot s f a (suc n) i from to at = search (rules, cases_eq, arrives_piece slot s f (a + 1) n i)
 
-each_piece : (P : Arrival → Type 0) (s : ℕ) (f : ℕ → Cell) (a n : ℕ) →
-    ((i : ℕ) → a ≤ i → i < a + n → P (piece s f i)) → AllByRecursion P (map (piece s f) (range_with_len a n))
-each_piece P s f a zero h = tt
-each_piece P s f a (suc n) h = grind (arith, common_steps, each_piece P s f (a + 1) n)
-
 -- ## One line
 
 module _ (input cell_bytes : ℕ) (rows : List Row) (from n : ℕ) (ended : IsEnded rows from n) where
@@ -77,7 +57,7 @@ module _ (input cell_bytes : ℕ) (rows : List Row) (from n : ℕ) (ended : IsEn
   unfolding line_arrivals
   line_done all =
       all_flat (λ (a : Arrival). a.slot < from) (λ (k : ℕ). row_arrivals input cell_bytes k (row_at rows k)) 0
-      (length rows) (λ k low high. each_piece (λ (a : Arrival). a.slot < from) (row_at rows k).start
+      (length rows) (λ k low high. all_pieces (λ (a : Arrival). a.slot < from) (row_at rows k).start
       (row_cell input cell_bytes k (row_at rows k)) 0 (row_at rows k).cells (λ i b e. omega arith))
 
   pub line_next : (slot : ℕ) → AreRows cell_bytes rows → n < length rows → slot ≡ max (row_at rows n).start from →
@@ -85,48 +65,33 @@ module _ (input cell_bytes : ℕ) (rows : List Row) (from n : ℕ) (ended : IsEn
   unfolding line_arrivals
   line_next slot are inside is =
       let last = ended.after n (omega arith) inside in
+      let start = (row_at rows n).start in
+      let cell = row_cell input cell_bytes n (row_at rows n) in
+      let piece_of_last = arrives_piece slot start cell 0 (row_at rows n).cells (slot - start) in
       let some = some_cells cell_bytes rows are n inside in
       let cells : ℕ → List Arrival = λ k. row_arrivals input cell_bytes k (row_at rows k) in
       let P : Arrival → Type 0 = λ a. from ≤ a.slot → slot ≤ a.slot in
       record {
         late = omega arith;
         arrives = arrives_flat slot cells 0 (length rows) n (omega arith) (omega arith)
-            (arrives_piece slot (row_at rows n).start (row_cell input cell_bytes n (row_at rows n)) 0
-            (row_at rows n).cells
-            (slot - (row_at rows n).start) (omega arith) (omega arith) (omega arith));
+            (search (arith, rules, piece_of_last));
         none_before = all_flat P cells 0 (length rows) (λ k low high.
-            each_piece P (row_at rows k).start (row_cell input cell_bytes k (row_at rows k)) 0 (row_at rows k).cells
+            all_pieces P (row_at rows k).start (row_cell input cell_bytes k (row_at rows k)) 0 (row_at rows k).cells
             (λ i b e. later k i inside is last are (omega arith) (omega arith)));
       }
     where
       later : (k i : ℕ) → n < length rows → slot ≡ max (row_at rows n).start from →
           from < (row_at rows n).start + (row_at rows n).cells → AreRows cell_bytes rows → k < length rows →
           i < (row_at rows k).cells → from ≤ (row_at rows k).start + i → slot ≤ (row_at rows k).start + i
-      later k i inside is last are within some at =
-          elim (cases_lt k n) [
-            | inl before ↦ let over = ended.before k before in absurd (omega arith)
-            | inr after ↦ elim (cases_eq n k) [
-              | inl same ↦ subst (λ (j : ℕ). from ≤ (row_at rows j).start + i → slot ≤ (row_at rows j).start + i) same
-                  (λ had. omega arith) at
-              | inr other ↦ let apart = are.apart n k (omega arith) within in omega arith
-            ]
-          ]
+      later k i inside is last are within some at = search (arith, rules, cases_lt, cases_eq, are.apart)
 
 -- ## Several lines
-
-all_earlier : (from t : ℕ) (xs : List Arrival) → AllByRecursion (λ a. a.slot < from) xs →
-    AllByRecursion (λ a. from ≤ a.slot → t ≤ a.slot) xs
-all_earlier from t xs all = grind (arith, common_steps, all_each)
-
-all_as_late : (from s t : ℕ) (xs : List Arrival) → t ≤ s → AllByRecursion (λ a. from ≤ a.slot → s ≤ a.slot) xs →
-    AllByRecursion (λ a. from ≤ a.slot → t ≤ a.slot) xs
-all_as_late from s t xs le all = grind (arith, common_steps, all_each)
 
 pub next_of_both : (from : ℕ) (xs ys : List Arrival) (s t : Option ℕ) → IsNextArrival xs from s →
     IsNextArrival ys from t →
     IsNextArrival (xs ++ ys) from (earlier s t)
-next_of_both from xs ys None None first second = all_append (λ (a : Arrival). a.slot < from) xs ys first second
-next_of_both from xs ys None (Some t) first second = search (rules, arrives_second, all_append, all_earlier)
-next_of_both from xs ys (Some s) None first second = search (rules, arrives_first, all_append, all_earlier)
+next_of_both from xs ys None None first second = search (arith, rules, all_both)
+next_of_both from xs ys None (Some t) first second = search (arith, rules, arrives_second, all_both, all_each)
+next_of_both from xs ys (Some s) None first second = search (arith, rules, arrives_first, all_both, all_each)
 next_of_both from xs ys (Some s) (Some t) first second =
-    grind (arith, common_steps, cases_lt, arrives_second, arrives_first, all_append, all_as_late)
+    search (arith, rules, cases_lt, arrives_second, arrives_first, all_both, all_each)

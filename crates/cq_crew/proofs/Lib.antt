@@ -1,2 +1,3 @@
+mod Terms
 pub mod Working
 pub mod Phases

@@ -1,11 +1,7 @@
 -- What closing a ledger says of the phase, and what a core says that has settled.
-use Rattle.std.proofs.lemmas.Grind.{common_steps}
-use Rattle.std.proofs.Common.{◌≡◌, arith}
-use Rattle.cq_prefs.specs.Orders.{Orders, AreOffers}
+use Rattle.cq_crew.proofs.Terms.{common_steps, ◌≡◌, arith, Orders, AreOffers, IsFew, LedgerState, SeatState, IsSeatOf}
 use Rattle.cq_prefs.specs.Pairing.{IsInputBest, proposals}
 use Rattle.cq_prefs.specs.declared.outcome.Phase.{Phase}
-use Rattle.cq_ledger.specs.Plays.{IsFew}
-use Rattle.cq_ledger.specs.Seats.{LedgerState, SeatState, IsSeatOf}
 use Rattle.cq_pair.specs.Progress.{Progress, IsReached}
 use Rattle.cq_pair.proofs.Reached.{made-most}
 use Rattle.cq_crew.specs.Settling.{IsBestAfter, IsBestPhase}

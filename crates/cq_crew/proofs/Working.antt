@@ -1,17 +1,9 @@
 -- What claims, proposals and joins do to what a seat has claimed and seen: nothing of it is ever lost.
-use Rattle.std.proofs.lemmas.Grind.{common_steps}
-use Rattle.std.proofs.Common.{rules, ℕ, ◌≡◌, ◌≢◌, ◌⊎◌, inl, inr, ◌+◌, ◌-◌, ◌*◌, ◌<◌, ◌≤◌, ◌^◌, Option, Some, None, refl, sym, ◌∙◌, ap, arith, subst}
-use Rattle.std.specs.Prelude.{IsSome, option_map}
-use Rattle.std.proofs.lemmas.Bool.{cases_lt, cases_eq}
-use Rattle.cq_prefs.specs.Orders.{ports}
+use Rattle.cq_crew.proofs.Terms.{common_steps, rules, ℕ, ◌≡◌, inl, inr, ◌+◌, ◌-◌, ◌*◌, ◌<◌, Option, Some, None, refl, ap, arith, IsSome, option_map, cases_lt, cases_eq, ports, IsFew, LedgerState, SeatState, IsSeatOf, IsProposed, HasClaimed, HasTried, HaveTried, ProposesFor, Grows, IsIdleAfter, HasWorked}
 use Rattle.cq_prefs.specs.declared.outcome.Outcome.{Outcome}
 use Rattle.cq_ledger.specs.declared.view.View.{View}
-use Rattle.cq_ledger.specs.Plays.{IsFew}
-use Rattle.cq_ledger.specs.Seats.{LedgerState, SeatState, IsSeatOf, IsProposed}
 use Rattle.cq_ledger.specs.Steps.{claim_refused, claim_taken, first_tried, joined}
-use Rattle.cq_ledger.specs.Views.{HasClaimed}
 use Rattle.cq_ledger.proofs.Views.{bit-or_same, bit-left}
-use Rattle.cq_crew.specs.Work.{HasTried, HaveTried, ProposesFor, Grows, IsIdleAfter, HasWorked}
 
 -- ## Views that grow
 
@@ -24,12 +16,6 @@ grows-after u v w a b = grind (arith, common_steps, b.claims, a.claims, b.seen, 
 pub grows-proposing : (v w : View) → ProposesFor v w → Grows v w
 grows-proposing v w p = grind (arith, common_steps)
 
-pub grows-taken : (v : View) (i : ℕ) → Grows v (claim_taken v i)
-grows-taken v i = record { claims = λ q h. bit-left v.claims (2 ^ i) q h; seen = λ q h. h; made = omega arith }
-
-pub grows-refused : (v : View) (i : ℕ) → Grows v (claim_refused v i)
-grows-refused v i = record { claims = λ q h. h; seen = λ q h. bit-left v.seen (2 ^ i) q h; made = omega arith }
-
 pub grows-joined : (v w : View) → Grows v (joined v w)
 grows-joined v w = grind (arith, common_steps, bit-left)
 
@@ -41,27 +27,12 @@ tried-grown v w g i (inr h) = inr (g.seen i h)
 
 -- the first input, and then those after it
 pub tried-first : (v w : View) (k : ℕ) → Grows v w → HasTried v k → (n : ℕ) → HaveTried w (k + 1) n → HaveTried w k n
-tried-first v w k g here n above i low high = go (cases_eq i k)
-  where
-    go : (i ≡ k) ⊎ (i ≢ k) → HasTried w i
-    go (inl e) = let P : ℕ → Type 0 = λ m. HasTried w m in subst P (sym e) (tried-grown v w g k here)
-    go (inr d) = above i (let l : k ≤ i = low in let e : i ≢ k = d in omega arith) high
+tried-first v w k g here n above i low high =
+    let first = tried-grown v w g k here in grind (arith, common_steps, cases_eq, above)
 
 -- one input more
 pub tried-next : (v w : View) (k n : ℕ) → Grows v w → HaveTried v k n → HasTried w n → HaveTried w k (n + 1)
-tried-next v w k n g before here i low high = go (cases_eq i n)
-  where
-    go : (i ≡ n) ⊎ (i ≢ n) → HasTried w i
-    go (inl e) = let P : ℕ → Type 0 = λ m. HasTried w m in subst P (sym e) here
-    go (inr d) = tried-grown v w g i (before i low (let h : i < n + 1 = high in let e : i ≢ n = d in omega arith))
-
--- upwards from a number, and then up to it
-pub tried-around : (v w : View) (k n : ℕ) → Grows v w → HaveTried v k n → HaveTried w 0 k → HaveTried w 0 n
-tried-around v w k n g above below i low high = go (cases_lt i k)
-  where
-    go : (i < k) ⊎ (k ≤ i) → HasTried w i
-    go (inl l) = below i low l
-    go (inr m) = tried-grown v w g i (above i m high)
+tried-next v w k n g before here i low high = grind (arith, common_steps, cases_eq, tried-grown v w g i, before i)
 
 -- ## Seats with an empty hand
 
@@ -73,17 +44,12 @@ idle-after l u s t a b = record { seat = b.seat; hand = b.hand; grows = grows-af
 pub idle-taken : (l : LedgerState) (v u : View) (s : SeatState) (i : ℕ) → u ≡ claim_taken v i → IsSeatOf l s →
     s.view.hand ≡ None → ProposesFor u s.view → IsIdleAfter l v s × HasTried s.view i
 idle-taken l v u s i is of empty proposes =
-    let P : View → Type 0 = λ x. Grows v x in
-    let Q : View → Type 0 = λ x. HasTried x i in
-    let first : Grows v u = subst P (sym is) (grows-taken v i) in
-    let rest : Grows u s.view = grows-proposing u s.view proposes in
-    let here : HasTried u i = subst Q (sym is) (inl (bit-or_same v.claims i)) in
-    (record { seat = of; hand = empty; grows = grows-after v u s.view first rest }, tried-grown u s.view rest i here)
+    search (arith, rules, grows-proposing, bit-or_same, grows-after, tried-grown, bit-left)
 
 -- a claim that found it claimed
 pub idle-refused : (l : LedgerState) (v : View) (s : SeatState) (i : ℕ) → v.hand ≡ None → s.view ≡ claim_refused v i →
     IsSeatOf l s → IsIdleAfter l v s × HasTried s.view i
-idle-refused l v s i empty is of = grind (arith, common_steps, grows-refused v i, bit-or_same v.seen i)
+idle-refused l v s i empty is of = search (arith, rules, bit-or_same, bit-left)
 
 -- a join of another seat
 pub idle-joined : (l : LedgerState) (v w : View) (s t : SeatState) → IsIdleAfter l v s → IsSeatOf l t →
@@ -108,7 +74,7 @@ begun-first v worker is = ap (λ (o : Option ℕ). first_tried o worker) is
 -- both halves of the inputs
 pub worked : (l : LedgerState) (u : View) (s t : SeatState) (k n : ℕ) → n ≡ ports l.offers → IsIdleAfter l u s →
     HaveTried s.view k n → IsIdleAfter l s.view t → HaveTried t.view 0 k → HasWorked l u t
-worked l u s t k n is a above b below = grind (arith, common_steps, idle-after, tried-around)
+worked l u s t k n is a above b below = search (arith, rules, idle-after, cases_lt, tried-grown)
 
 pub worked-joined : (l : LedgerState) (v w : View) (s t : SeatState) → HasWorked l v s → IsSeatOf l t →
     t.view ≡ joined s.view w → HasWorked l v t
@@ -117,26 +83,20 @@ worked-joined l v w s t a of is = search (rules, idle-joined, tried-joined)
 -- one claimed input more
 pub claimed-next : (v : View) (n : ℕ) → ((i : ℕ) → i < n → HasClaimed v i) → HasClaimed v n → (i : ℕ) → i < n + 1 →
     HasClaimed v i
-claimed-next v n before here i high = go (cases_eq i n)
-  where
-    go : (i ≡ n) ⊎ (i ≢ n) → HasClaimed v i
-    go (inl e) = let P : ℕ → Type 0 = λ m. HasClaimed v m in subst P (sym e) here
-    go (inr d) = before i (let h : i < n + 1 = high in let e : i ≢ n = d in omega arith)
+claimed-next v n before here i high = grind (arith, common_steps, cases_eq, before i)
 
 -- ## Proposals
 
 -- a hand shows an input where it has one
 pub hand-some : (hand : Option (ℕ × ℕ)) (shown : Option ℕ) (input : ℕ) →
     shown ≡ option_map (λ (h : ℕ × ℕ). h.0) hand → shown ≡ Some input → IsSome hand
-hand-some None shown input e f = absurd (let g : None ≡ Some input = sym e ∙ f in let P : ⊥ = cc in P)
-hand-some (Some h) shown input e f = refl
+hand-some hand shown input e f = grind (arith, common_steps)
 
 -- what is told of a proposal: the input that the hand shows, and the answer
 pub hand-told : (hand : Option (ℕ × ℕ)) (shown : Option ℕ) (input : ℕ) (answer : Outcome) →
     shown ≡ option_map (λ (h : ℕ × ℕ). h.0) hand
     → shown ≡ Some input → option_map {U = ℕ × Outcome} (λ (h : ℕ × ℕ). (h.0, answer)) hand ≡ Some (input, answer)
-hand-told None shown input answer e f = absurd (let g : None ≡ Some input = sym e ∙ f in let P : ⊥ = cc in P)
-hand-told (Some h) shown input answer e f = grind (arith, common_steps)
+hand-told hand shown input answer e f = grind (arith, common_steps)
 
 pub proposes-same : (v : View) → ProposesFor v v
 proposes-same v = record { claims = refl; seen = refl; began = refl; made = omega arith }
@@ -148,19 +108,8 @@ proposes-next u v w answer before some is = go v.hand refl some
     go : (hand : Option (ℕ × ℕ)) → v.hand ≡ hand → IsSome hand → ProposesFor u w
     go None e s = absurd (let P : ⊥ = cc in P)
     go (Some (i, p)) e s =
-        let view = (is i p e).view in
-        let made : w.made ≡ v.made + 1 = ap (λ (x : View). x.made) view in
-        record {
-          claims = ap (λ (x : View). x.claims) view ∙ before.claims;
-          seen = ap (λ (x : View). x.seen) view ∙ before.seen;
-          began = ap (λ (x : View). x.began) view ∙ before.began;
-          made = omega arith;
-        }
-
--- fewer proposals are left
-less_left : (most a b : ℕ) → b ≡ a + 1 → b ≤ most → most - b < most - a
-less_left most a b e h = omega arith
+        let view = (is i p e).view in grind (arith, common_steps)
 
 pub proposals-left : (l : LedgerState) (s t : SeatState) → IsSeatOf l t → t.view.made ≡ s.view.made + 1 →
     IsFew t.view → ports l.offers * ports l.offers - t.view.made < ports l.offers * ports l.offers - s.view.made
-proposals-left l s t of made few = grind (arith, common_steps, less_left)
+proposals-left l s t of made few = search (arith, rules)

@@ -1,19 +1,7 @@
 -- How many cells each output holds, counted in one walk over the lists: at first those of the buffers, and of each
 -- list those for the output more.
-use Rattle.std.proofs.lemmas.Grind.{common_steps}
-use Rattle.std.proofs.Common.{rules, ◌≡◌, ℕ, zero, suc, ◌+◌, ◌^◌, ◌<◌, ◌≤◌, List, [], ◌∷◌, ◌++◌, length, map, get_or, set, take, refl, sym, ◌∙◌, subst, arith}
-use Rattle.std.specs.Prelude.{All, filter}
-use Rattle.std.proofs.lemmas.Bool.{cases_eq, cond_both, eq-eqb, ne_eqb}
-use Rattle.std.proofs.lemmas.List.{ext_get_or, get_or-map, get_or-set_other, get_or-set_same, length-map, take_all, take_more}
-use Rattle.std.proofs.lemmas.Option.{slice_get-get_or}
-use Rattle.cq_base.specs.declared.cell.Queued.{Queued}
-use Rattle.cq_base.specs.Cells.{is_for}
-use Rattle.cq_prefs.specs.FirstCells.{list_of}
-use Rattle.cq_laws.specs.Fabric.{Fabric, IsAmong, buffer, input}
-use Rattle.cq_laws.specs.Holding.{fabric_held, held_for, waiting_for}
+use Rattle.cq_engine.proofs.Terms.{common_steps, rules, ◌≡◌, ℕ, zero, suc, ◌+◌, ◌^◌, ◌<◌, ◌≤◌, List, [], ◌∷◌, ◌++◌, length, map, get_or, set, take, refl, sym, ◌∙◌, subst, arith, All, filter, cases_eq, cond_both, eq-eqb, ne_eqb, ext_get_or, get_or-map, get_or-set_other, get_or-set_same, length-map, take_all, take_more, slice_get-get_or, Queued, is_for, list_of, Fabric, IsAmong, buffer, input, fabric_held, held_for, waiting_for, among_at, held_at, held_long}
 use Rattle.cq_laws.proofs.Cushions.{bit, bit_false, bit_true}
-use Rattle.cq_laws.proofs.Members.{among_at}
-use Rattle.cq_fabric.proofs.Limits.{held_at, held_long}
 
 -- how many of the cells are for output j
 abbrev pub number_for : ℕ → List Queued → ℕ
@@ -22,11 +10,6 @@ number_for j cells = length (filter (is_for j) cells)
 number_cons : (j : ℕ) (c : Queued) (cells : List Queued) →
     number_for j (c ∷ cells) ≡ bit (is_for j c) + number_for j cells
 number_cons j c cells = grind (arith, common_steps, cond_both, bit, bit_true, bit_false)
-
-number_push : (j : ℕ) (cells : List Queued) (c : Queued) →
-    number_for j (cells ++ c ∷ []) ≡ number_for j cells + bit (is_for j c)
-number_push j [] c = let one = number_cons j c [] in omega arith
-number_push j (x ∷ cells) c = grind (arith, common_steps, number_cons, number_push j cells c)
 
 number_take : (j n : ℕ) (cells : List Queued) → number_for j (take n cells) ≤ number_for j cells
 number_take j zero cells = omega arith
@@ -43,7 +26,7 @@ module _ (old held : List ℕ) (cells : List Queued) (at : ℕ) (inside : at < l
     (so_far : AreCounted old held (take at cells)) (there : (get_or cells at d).cell.output < length old) where
   one_more : (j : ℕ) →
       number_for j (take (at + 1) cells) ≡ number_for j (take at cells) + bit (is_for j (get_or cells at d))
-  one_more j = grind (arith, common_steps, take_more, number_push)
+  one_more j = grind (arith, common_steps, take_more, number_cons)
 
   pub count_fits : ((j : ℕ) → j < length old → get_or old j 0 + number_for j cells < 2 ^ 64) →
       get_or held (get_or cells at d).cell.output 0 + 1 < 2 ^ 64

@@ -1,30 +1,16 @@
 -- A slot that is done, as clauses see it: what is seen of the parts of the engine before it and after it.
-use Rattle.std.proofs.Common.{rules, ◌≡◌, ◌+◌, ◌++◌, ℕ, Bool, List, Option, length, map, ap, ◌∙◌, sym, subst, arith}
-use Rattle.cq_base.specs.Room.{RoomView}
-use Rattle.cq_base.specs.declared.cell.Cell.{Cell}
+use Rattle.cq_engine.proofs.Terms.{rules, ◌≡◌, ◌+◌, ◌++◌, ℕ, Bool, List, Option, length, map, ap, ◌∙◌, arith, RoomView, Cell, Queued, Transfer, Figures, Machine, admitted, marks_after, refused, HaveLeft, IdealState, departures_in, LimiterView, HoldsFabric, Queues, fabric_of, admits_are, EngineView, HasStopped, IsMadeAs, SlotDone}
 use Rattle.cq_base.specs.declared.cell.Departure.{Departure}
-use Rattle.cq_base.specs.declared.cell.Queued.{Queued}
-use Rattle.cq_base.specs.declared.cell.Transfer.{Transfer}
-use Rattle.cq_base.specs.declared.figures.Figures.{Figures}
-use Rattle.cq_rank.specs.Machine.{Machine}
-use Rattle.cq_ideal.specs.Admission.{admitted, marks_after, refused}
-use Rattle.cq_ideal.specs.Ideal.{HaveLeft}
-use Rattle.cq_ideal.specs.IdealSlot.{IdealState, departures_in}
-use Rattle.cq_ideal.specs.Limiter.{LimiterView}
 use Rattle.cq_ideal.specs.Refused.{with_refused}
 use Rattle.cq_ideal.proofs.Slot.{by_marks}
-use Rattle.cq_fabric.specs.Held.{HoldsFabric}
-use Rattle.cq_fabric.specs.Queues.{Queues, fabric_of}
 use Rattle.cq_fabric.specs.Released.{HasReleased}
-use Rattle.cq_fabric.proofs.Limits.{admits_are}
-use Rattle.cq_engine.specs.Engine.{EngineView, HasStopped, IsMadeAs, SlotDone}
 use Rattle.cq_engine.proofs.Shown.{seen}
 use Rattle.cq_engine.proofs.Slot.{Whole}
 
 -- ## What is shown of the engine as it was seen
 
 pub made_as : {old shown new : EngineView} → shown ≡ old → IsMadeAs shown new → IsMadeAs old new
-made_as {new = new} is made = subst (λ (v : EngineView). IsMadeAs v new) is made
+made_as {new = new} is made = search (rules)
 
 pub stopped_as : {old shown new : EngineView} {sent sent' : RoomView Departure} {note note' : RoomView Transfer} →
     shown ≡ old → HasStopped shown new sent sent' note note' → HasStopped old new sent sent' note note'
@@ -50,16 +36,12 @@ module _ (M : List ℕ → Machine) (fixed states : List (List ℕ)) (q : Queues
       released left items spare =
       let gone = ap (λ g. length (departures_in slot g)) done.gone in
       let noted = ap length done.crossed in
-      subst
-      (λ (v : EngineView).
-      SlotDone (map M v.fixed) slot cells v (seen fixed' states' q' l' y next' stopped) sent sent' note note')
-      is
-      (record {
+      rw (← is) (record {
         record_of = record { admission = by_marks taken.marks cells; of_slot = done.of_slot };
         is_slot = search (arith, rules, admits_are);
-        departed = left.items ∙ ap (λ g. sent.items ++ departures_in slot g) (sym done.gone);
+        departed = rw done.gone left.items;
         departed_room = omega arith;
-        crossed = items ∙ ap (λ t. note.items ++ t) (sym done.crossed);
+        crossed = rw done.crossed items;
         crossed_room = omega arith;
         counted = done.figures;
         refused = released.refused ∙ counted;

@@ -2,28 +2,12 @@
 -- in lists and buffers of their rooms: no two cells of a list have one key, since no two places have. By the law on
 -- sound fabrics it is in step with the ideal switch of its cells. Of the slacks nothing is claimed, since the first
 -- slot looks at all of them.
-use Rattle.std.proofs.Common.{rules, ◌≡◌, ◌≢◌, ℕ, zero, suc, ◌<◌, List, [], ◌∷◌, length, Option, Some, refl, arith}
-use Rattle.std.proofs.lemmas.Grind.{common_steps}
-use Rattle.std.specs.Prelude.{slice_get}
-use Rattle.cq_base.specs.declared.cell.Queued.{Queued}
-use Rattle.cq_base.specs.declared.figures.Figures.{Figures}
-use Rattle.cq_base.specs.declared.figures.InputFigures.{InputFigures}
-use Rattle.cq_base.specs.declared.figures.OutputFigures.{OutputFigures}
-use Rattle.cq_base.specs.Cells.{EachPair, KeysDiffer}
+use Rattle.cq_engine.proofs.Terms.{rules, ◌≡◌, ◌≢◌, ℕ, zero, suc, ◌<◌, List, [], ◌∷◌, length, Option, Some, refl, arith, common_steps, slice_get, Queued, Figures, InputFigures, OutputFigures, EachPair, KeysDiffer, LimiterView, Machine, AreForOneSwitch, Fabric, input, fabric_in, fabric_held, all_from, Queues, fabric_of, CanGoOn, IsRunning}
 use Rattle.cq_base.proofs.Lists.{all_by}
-use Rattle.cq_ideal.specs.Limiter.{LimiterView}
-use Rattle.cq_rank.specs.Machine.{Machine}
-use Rattle.cq_rank.specs.Switch.{AreForOneSwitch}
-use Rattle.cq_laws.specs.Fabric.{Fabric, input}
-use Rattle.cq_laws.specs.Frozen.{fabric_in}
-use Rattle.cq_laws.specs.Holding.{fabric_held}
 use Rattle.cq_laws.specs.Places.{NoKeyTwice, Waiting}
 use Rattle.cq_laws.specs.declared.frozen.Frozen.{Frozen}
 use Rattle.cq_laws.proofs.IdealOf.{agrees_of}
-use Rattle.cq_laws.proofs.Members.{all_from}
 use Rattle.cq_fabric.specs.Holding.{CanHold}
-use Rattle.cq_fabric.specs.Queues.{Queues, fabric_of}
-use Rattle.cq_engine.specs.Engine.{CanGoOn, IsRunning}
 use Rattle.cq_engine.specs.declared.measure.Look.TheVariants as look
 
 -- ## The same, part by part

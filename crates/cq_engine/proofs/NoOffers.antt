@@ -1,19 +1,6 @@
 -- Where nothing is offered the empty matching is the best for the inputs, and no proposal is made: no offered pair is
 -- left out, and no input has an order to go down. It moves no cell, and nothing is noted of it.
-use Rattle.std.proofs.lemmas.Grind.{common_steps}
-use Rattle.std.proofs.Common.{◌≡◌, ℕ, ◌<◌, ◌≤◌, List, [], ◌∷◌, length, replicate, Option, Some, None, refl, sym, ap, ◌∙◌, arith, ◌++◌}
-use Rattle.std.specs.List.{filter_map, sum_by}
-use Rattle.std.proofs.lemmas.Bool.{cases_lt}
-use Rattle.std.proofs.lemmas.List.{append-nil, length-replicate, get_or_past}
-use Rattle.std.proofs.lemmas.List.Sums.{sum-map, sum_by-cons}
-use Rattle.cq_base.specs.declared.cell.Queued.{Queued}
-use Rattle.cq_base.specs.declared.cell.Transfer.{Transfer}
-use Rattle.cq_base.specs.Room.{RoomView}
-use Rattle.cq_fabric.specs.Queues.{Queues}
-use Rattle.cq_prefs.specs.FirstCells.{orders_of}
-use Rattle.cq_prefs.specs.Moves.{Moves, transfers_of, noted}
-use Rattle.cq_prefs.specs.Orders.{Orders, ports, outputs_of, IsOffered}
-use Rattle.cq_prefs.specs.Pairing.{partner_of, proposals, IsInputBest}
+use Rattle.cq_engine.proofs.Terms.{rules, ◌≡◌, ℕ, ◌<◌, ◌≤◌, List, [], ◌∷◌, replicate, Option, None, refl, sym, arith, common_steps, filter_map, sum_by, cases_lt, append-nil, length-replicate, get_or_past, sum-map, sum_by-cons, Queued, Transfer, RoomView, Queues, orders_of, Moves, transfers_of, noted, Orders, ports, outputs_of, proposals, IsInputBest}
 use Rattle.cq_prefs.proofs.Pairs.{nobody}
 use Rattle.cq_engine.specs.Crossing.{HasCrossed}
 
@@ -22,14 +9,8 @@ zeros f [] none = refl
 zeros f (x ∷ xs) none = grind (arith, common_steps, sum_by-cons, zeros f xs none)
 
 module _ (o : Orders) (none : (i : ℕ) → outputs_of o i ≡ []) where
-  not_offered : (i j : ℕ) → IsOffered o i j → ⊥
-  not_offered i j h = let e = ap length (none i) in omega arith
-
-  nobody_has : (i j : ℕ) → partner_of (replicate (ports o) None) i ≡ Some j → ⊥
-  nobody_has i j h = let gone : None ≡ Some j = sym (nobody (ports o) i) ∙ h in let P : ⊥ = cc in P
-
   pub none_best : IsInputBest o (replicate (ports o) None)
-  none_best = grind (arith, common_steps, length-replicate, nobody_has, not_offered, nobody)
+  none_best = search (arith, rules, length-replicate, nobody)
 
   pub none_proposed : 0 ≡ proposals o (replicate (ports o) None)
   none_proposed = grind (arith, common_steps, sum-map, zeros, nobody)
@@ -69,6 +50,6 @@ nothing_crosses slot phase q note none =
       moves = nothing_moves (ports o) q.inputs q.buffers;
       from_inputs = refl;
       to_outputs = refl;
-      noted = sym (ap (λ (l : List Transfer). note.items ++ l) noted ∙ append-nil note.items);
-      note_room = let e = ap (λ (l : List Transfer). length l) noted in omega arith;
+      noted = rw noted (sym (append-nil note.items));
+      note_room = rw noted (omega arith);
     }

@@ -1,24 +1,8 @@
 -- What the parts of an engine show of what a slot asks. It is asked of the engine as clauses see it. Moved to the
 -- parts it is one record, which the lemmas take.
-use Rattle.std.proofs.lemmas.Grind.{common_steps}
-use Rattle.std.proofs.Common.{rules, ◌≡◌, ◌<◌, ◌≤◌, ◌^◌, ℕ, Bool, false, List, Option, length, map, get_or, ◌∙◌, arith, Ok}
-use Rattle.std.proofs.lemmas.List.{length-map}
-use Rattle.cq_base.specs.declared.cell.Cell.{Cell}
-use Rattle.cq_base.specs.declared.figures.Figures.{Figures}
-use Rattle.cq_base.specs.declared.cell.Queued.{Queued}
-use Rattle.cq_rank.specs.Machine.{Machine}
-use Rattle.cq_rank.specs.Switch.{class_count}
-use Rattle.cq_ideal.specs.Admission.{admitted}
-use Rattle.cq_ideal.specs.Limiter.{CanCount, LimiterView}
+use Rattle.cq_engine.proofs.Terms.{common_steps, rules, ◌≡◌, ◌<◌, ◌≤◌, ◌^◌, ℕ, Bool, false, List, Option, length, map, get_or, ◌∙◌, arith, Ok, length-map, Cell, Figures, Queued, Machine, class_count, admitted, CanCount, LimiterView, AreForPorts, ranking, list_of, Queues, fabric_of, admitted_room, numbers_fit, AreRanked, BuffersHaveRoom, ListsHaveRoom, EngineView, HaveBufferRoom, HaveListRoom, IsRunning, ports_of, Look}
 use Rattle.cq_ideal.specs.Taking.{CanTakeIn}
-use Rattle.cq_ideal.specs.Ranking.{AreForPorts, ranking}
 use Rattle.cq_ideal.proofs.Admitted.{admitted_arrives, admitted_for_ports}
-use Rattle.cq_prefs.specs.FirstCells.{list_of}
-use Rattle.cq_fabric.specs.Queues.{Queues, fabric_of}
-use Rattle.cq_fabric.proofs.Limits.{admitted_room, numbers_fit}
-use Rattle.cq_fabric.proofs.Known.{AreRanked, BuffersHaveRoom, ListsHaveRoom}
-use Rattle.cq_engine.specs.Engine.{EngineView, HaveBufferRoom, HaveListRoom, IsRunning, ports_of}
-use Rattle.cq_engine.specs.declared.measure.Look.{Look}
 
 -- what is seen of these parts
 abbrev pub seen : List (List ℕ) → List (List ℕ) → Queues → LimiterView → Figures → ℕ → Bool → EngineView
@@ -83,17 +67,10 @@ module _ {ms : List Machine} {slot : ℕ} {cells : List (Option Cell)} {q : Queu
   pub ranked : (marks : List Bool) (came : List (Option Queued)) (ranks : List (List ℕ)) →
       ranking ms slot 0 (admitted marks cells) states ≡ Ok (record { came = came; ranks = ranks }) →
       AreRanked ms slot q states (admitted marks cells) (class_count ms) came ranks
-  ranked marks came ranks is =
-      record {
-        ideal = known.running.in_step.ideal;
-        agrees = known.running.in_step.agrees;
-        ports = known.running.in_step.ports;
-        for_ports = admitted_for_ports (length ms) (class_count ms) marks cells known.come;
-        ranked = is;
-      }
+  ranked marks came ranks is = search (arith, rules, admitted_for_ports)
 
   pub lists_room : (marks : List Bool) → ListsHaveRoom q (admitted marks cells)
-  lists_room marks i cell at = known.list_room i cell (admitted_arrives marks cells i cell at)
+  lists_room marks i cell at = search (rules, known.list_room, admitted_arrives)
 
   pub buffers_room : (marks : List Bool) → BuffersHaveRoom (length ms) q (admitted marks cells)
   buffers_room marks = admitted_room (length ms) q marks cells known.buffer_room

@@ -1,39 +1,10 @@
 -- A slot of the engine: that of the fabric below, with the figures that are counted of it. What each phase asks for
 -- is shown there, for any stable matchings, and input-best ones are stable.
-use Rattle.std.proofs.lemmas.Grind.{common_steps}
-use Rattle.std.proofs.Common.{rules, ◌≡◌, ℕ, zero, suc, ◌+◌, ◌-◌, ◌≤◌, eqb, Bool, true, false, List, [], ◌∷◌, ◌++◌, length, map, Option, Some, None, refl, sym, ap, ◌∙◌, arith, subst}
-use Rattle.std.specs.Prelude.{if◌then◌else◌, min, max, slice_get, is_some, option_and_then}
-use Rattle.std.specs.List.{enumerate_from, list_any, position_or_len, reduce}
-use Rattle.std.specs.Option.{option_map}
-use Rattle.std.proofs.lemmas.Option.{same_Some}
-use Rattle.cq_base.specs.declared.cell.Cell.{Cell}
-use Rattle.cq_base.specs.declared.cell.Queued.{Queued}
-use Rattle.cq_base.specs.declared.cell.Transfer.{Transfer}
-use Rattle.cq_base.specs.declared.figures.InputFigures.{InputFigures}
-use Rattle.cq_base.specs.declared.figures.OutputFigures.{OutputFigures}
-use Rattle.cq_base.specs.declared.figures.Figures.{Figures}
-use Rattle.cq_base.specs.Cells.{cushion}
-use Rattle.cq_rank.specs.Machine.{Machine}
-use Rattle.cq_ideal.specs.IdealSlot.{IdealState, fronts}
-use Rattle.cq_prefs.specs.FirstCells.{list_of, orders_of}
-use Rattle.cq_prefs.specs.Moves.{Moves, transfers_of}
-use Rattle.cq_prefs.specs.Pairing.{Partners, IsInputBest, IsStable, proposals}
+use Rattle.cq_engine.proofs.Terms.{common_steps, rules, ◌≡◌, ℕ, zero, suc, ◌+◌, ◌-◌, ◌≤◌, eqb, Bool, List, [], ◌∷◌, ◌++◌, length, map, Option, Some, None, refl, ap, ◌∙◌, arith, if◌then◌else◌, min, max, slice_get, is_some, option_and_then, enumerate_from, list_any, position_or_len, reduce, option_map, same_Some, Cell, Queued, Transfer, InputFigures, OutputFigures, Figures, Machine, IdealState, fronts, list_of, orders_of, Moves, transfers_of, Partners, IsInputBest, IsStable, proposals, Fabric, cushion_of, came_to, SlotRecord, FabricSlot, figures_after, input_after, output_after, either_by, slacks, slack_on_arrival, proposals_in, stable_slot, Queues, fabric_of, length-by_place, AreRanked, BuffersHaveRoom, HaveArrived, HaveMoved, HaveSent, alike, arrive, come, depart, fill, keyed, recorded, IsInStep, IsSeen, CountsFit, Look, arriving_slack, input_counted, output_counted, slack_seen}
 use Rattle.cq_laws.specs.Agreement.{SendsAlike}
-use Rattle.cq_laws.specs.Fabric.{Fabric, cushion_of}
-use Rattle.cq_laws.specs.Phases.{came_to}
-use Rattle.cq_laws.specs.FabricSlot.{SlotRecord, FabricSlot}
 use Rattle.cq_laws.specs.Records.{transfers_in}
-use Rattle.cq_laws.specs.Measures.{figures_after, input_after, output_after, either_by, least_slack, slacks, slack_on_arrival, proposals_in}
-use Rattle.cq_laws.proofs.InputBest.{stable_slot}
 use Rattle.cq_laws.proofs.LeastSlack.{by_arrivals, more_after}
-use Rattle.cq_fabric.specs.Queues.{Queues, fabric_of}
-use Rattle.cq_fabric.proofs.Changed.{length-by_place}
-use Rattle.cq_fabric.proofs.Known.{AreRanked, BuffersHaveRoom, HaveArrived, HaveMoved, HaveSent}
-use Rattle.cq_fabric.proofs.Slot.{alike, arrive, come, depart, fill, keyed, recorded}
-use Rattle.cq_engine.specs.Engine.{IsInStep, IsSeen, CountsFit}
-use Rattle.cq_engine.specs.declared.measure.Look.{Look}
 use Rattle.cq_engine.specs.declared.measure.Look.TheVariants as look
-use Rattle.cq_engine.specs.Measuring.{arriving_slack, input_counted, output_counted, slack_seen}
 
 abbrev bit : Bool → ℕ
 bit b = if b then 1 else 0
@@ -61,25 +32,18 @@ placed f n (x ∷ xs) zero y h =
     let at : n + 0 ≡ n = omega arith in (x, refl, ap (λ k. f k x) at ∙ same_Some (f n x) y h)
 placed f n (x ∷ xs) (suc i) y h = grind (arith, common_steps, placed f (n + 1) xs i y h)
 
-bit_most : (b : Bool) → bit b ≤ 1
-bit_most true = omega arith
-bit_most false = omega arith
-
 -- each item counts one more at most
 count_one : {X : Type 0} (cells : X → ℕ) (after : ℕ → X → X) (moved : List (Option Queued)) (n : ℕ) (xs : List X) →
     ((i : ℕ) (y : X) → cells (after i y) ≡ cells y + bit (is_some (came_to moved i))) →
     ((i : ℕ) (y : X) → slice_get xs i ≡ Some y → cells y ≤ n) → (i : ℕ) (y : X) →
     slice_get (map (λ at. after at.0 at.1) (enumerate_from 0 xs)) i ≡ Some y → cells y ≤ n + 1
-count_one cells after moved n xs more fit i y at = grind (arith, common_steps, placed, bit_most)
+count_one cells after moved n xs more fit i y at = search (arith, rules, placed)
 
 counts_fit : (slot : ℕ) (x : Figures) (r : SlotRecord) → CountsFit slot x → CountsFit (slot + 1) (figures_after x r)
 unfolding figures_after input_after output_after
 counts_fit slot x r fit =
-    record {
-      inputs = count_one (λ (y : InputFigures). y.cells) (input_after r) r.came slot x.inputs (λ i y. refl) fit.inputs;
-      outputs =
-          count_one (λ (y : OutputFigures). y.cells) (output_after r) r.gone slot x.outputs (λ j y. refl) fit.outputs;
-    }
+    let inputs = count_one (λ (y : InputFigures). y.cells) (input_after r) r.came slot x.inputs in
+    let outputs = count_one (λ (y : OutputFigures). y.cells) (output_after r) r.gone slot x.outputs in search (rules)
 
 outputs_long : (x : Figures) (r : SlotRecord) → length (figures_after x r).outputs ≡ length x.outputs
 unfolding figures_after
@@ -153,10 +117,7 @@ module _ {ms : List Machine} {slot : ℕ} {q0 : Queues} {ranks0 : List (List ℕ
     told_slack : (i : ℕ) (c : Option Queued) → came_to came i ≡ c →
         slack_of_came slot q1 ranks1 i c ≡ arriving_slack q1 i c
     told_slack i None is = refl
-    told_slack i (Some c) is =
-        let at = (keyed known).slot_is i c is in
-        let stands = cushion c.key (list_of q1.buffers c.cell.output) in
-        ap (λ n. Some (stands - position_or_len (λ (d : Queued). eqb d.key.slot n) (list_of q1.inputs i))) (sym at)
+    told_slack i (Some c) is = let at = (keyed known).slot_is i c is in rw at refl
 
     slack_told : (looks : Look) → IsSeen looks x (fabric_of q0 ranks0) → (i : ℕ) (y : InputFigures) →
         slice_get x.inputs i ≡ Some y →
@@ -165,12 +126,10 @@ module _ {ms : List Machine} {slot : ℕ} {q0 : Queues} {ranks0 : List (List ℕ
     unfolding slack_on_arrival slacks
     slack_told look.All seen i y at = refl
     slack_told look.Arriving seen i y at =
-        let kept : least_slack x i ≡ y.slack = ap (option_and_then (λ (z : InputFigures). z.slack)) at in
-        ap (either_by min y.slack) (sym (told_slack i (came_to came i) refl))
-        ∙ ap (λ k. either_by min k (slack_on_arrival i of_slot)) (sym kept)
-        ∙ sym (by_arrivals ms slot classes cells (fabric_of q0 ranks0) (fabric_of q4 ranks2) known.ideal of_slot
-        known.agrees (come known) stable x seen i)
-        ∙ ap (λ k. either_by min k (reduce min (slacks (fabric_of q1 ranks1) i))) kept
+        let kept = ap (option_and_then (λ (z : InputFigures). z.slack)) at in
+        let same = by_arrivals ms slot classes cells (fabric_of q0 ranks0) (fabric_of q4 ranks2) known.ideal of_slot
+        known.agrees (come known) stable x seen i in
+        search (rules, told_slack i)
 
     input_told : (looks : Look) → IsSeen looks x (fabric_of q0 ranks0) → (i : ℕ) (y : InputFigures) →
         slice_get x.inputs i ≡ Some y → input_counted looks q1 i (came_to came i) y ≡ input_after of_slot i y
@@ -200,16 +159,7 @@ module _ {ms : List Machine} {slot : ℕ} {q0 : Queues} {ranks0 : List (List ℕ
     seen_after = search (rules, more_after, come, stable)
 
     in_step : IsInStep ms (slot + 1) (figures_after x of_slot) (fabric_of q4 ranks2)
-    in_step =
-        record {
-          machines = up.machines;
-          ports = crossed2.moves.ports.0 ∙ ap length sent.inputs ∙ crossed1.moves.ports.0 ∙ arrived.ports ∙ known.ports;
-          ideal = same.next;
-          agrees = same.agrees;
-          inputs = seen_after.ports;
-          outputs = outputs_long x of_slot ∙ up.outputs;
-          counts = counts_fit slot x of_slot up.counts;
-        }
+    in_step = search (arith, rules, same, seen_after, outputs_long, counts_fit)
 
     pub whole_slot : (looks : Look) → IsSeen looks x (fabric_of q0 ranks0) → (y : Figures) →
         AreCounted looks slot q1 came (fronts q2.buffers) p1 p2 x y →
@@ -217,16 +167,6 @@ module _ {ms : List Machine} {slot : ℕ} {q0 : Queues} {ranks0 : List (List ℕ
         (transfers_of m1 q1.inputs slot 1 ++ transfers_of m2 q3.inputs slot 2)
     unfolding transfers_in
     whole_slot looks seen y counts =
-        let figures =
-        figures_are x y of_slot p1 p2 crossed1.counted crossed2.counted counts.slots counts.proposed counts.most
-        (counts.inputs ∙ counted_inputs looks seen) (counts.outputs ∙ counted_outputs) in
-        record {
-          of_slot = of_slot;
-          is_slot = is_slot;
-          gone = refl;
-          crossed = refl;
-          figures = figures;
-          in_step = subst (λ z. IsInStep ms (slot + 1) z (fabric_of q4 ranks2)) (sym figures) in_step;
-          seen = subst (λ z. IsSeen look.Arriving z (fabric_of q4 ranks2)) (sym figures) seen_after;
-          alike = same;
-        }
+        let figures = figures_are x y of_slot p1 p2 crossed1.counted crossed2.counted counts.slots counts.proposed
+        counts.most (counts.inputs ∙ counted_inputs looks seen) (counts.outputs ∙ counted_outputs) in
+        search (rules, is_slot, in_step, seen_after, same)

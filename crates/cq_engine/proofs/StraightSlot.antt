@@ -5,44 +5,10 @@
 -- transfer empties the lists and puts each cell alone into the buffer of its output, which sends it. After that nothing
 -- waits and nothing is offered, and the second matching is empty. The lists and buffers in between are made here for
 -- the proof alone.
-use Rattle.std.proofs.lemmas.Grind.{common_steps}
-use Rattle.std.proofs.Common.{rules, ◌≡◌, ℕ, zero, suc, ◌+◌, ◌-◌, ◌*◌, ◌<◌, ◌≤◌, true, List, [], ◌∷◌, ◌++◌, length, map, drop, get_or, replicate, Option, Some, None, refl, sym, ap, ◌∙◌, subst, ⊎_elim, arith}
-use Rattle.std.specs.Prelude.{All, IfSome, if◌then◌else◌, is_some, max, min, slice_get}
-use Rattle.std.specs.List.{cons_option, enumerate_from, filter_map, list_any, range_with_len, reduce, sum_by}
-use Rattle.std.specs.Option.{option_map, option_to_list}
+use Rattle.cq_engine.proofs.Terms.{common_steps, rules, ◌≡◌, ℕ, zero, suc, ◌+◌, ◌-◌, ◌*◌, ◌<◌, ◌≤◌, true, List, [], ◌∷◌, ◌++◌, length, map, drop, get_or, replicate, Option, Some, None, refl, sym, ap, ◌∙◌, ⊎_elim, arith, All, IfSome, if◌then◌else◌, is_some, max, min, slice_get, cons_option, enumerate_from, filter_map, list_any, range_with_len, reduce, sum_by, option_map, option_to_list, cases_lt, cond_both, eq-eqb, row_fits, same_Some, append-nil, ext_get_or, get_or_past, length-map, get_or-map-range_with_len, length-map-range_with_len, sum-map, sum_by-cons, Cell, Queued, Transfer, Figures, InputFigures, cushion, first_for, is_for, Machine, all_told, fronts, rests, LimiterView, list_of, orders_of, output_order, Moves, list_taken, noted, transfers_of, outputs_of, ports, IsListed, Partners, partner_of, partner_place, depth, spent, proposals, IsFreeOutput, IsInputBest, IsStable, Fabric, cushion_of, either_by, slacks, came_to, list_arrived, HoldsFabric, Queues, fabric_of, AreRanked, BuffersHaveRoom, HaveArrived, HaveJudged, HaveSent, ListsHaveRoom, fits_lists, held_before, keyed, IsInStep, IsSeen, arriving_slack, input_counted, output_counted, slack_seen, GoStraight, crossing, crossings, input_passed, Look}
 use Rattle.std.proofs.Math.ListN.{get_or-map}
-use Rattle.std.proofs.lemmas.Bool.{cases_lt, cond_both, eq-eqb}
-use Rattle.std.proofs.lemmas.Nat.{row_fits}
-use Rattle.std.proofs.lemmas.Option.{same_Some}
-use Rattle.std.proofs.lemmas.List.{append-nil, ext_get_or, get_or_past, length-map}
-use Rattle.std.proofs.lemmas.List.FromFn.{get_or-map-range_with_len, length-map-range_with_len}
-use Rattle.std.proofs.lemmas.List.Sums.{sum-map, sum_by-cons}
-use Rattle.cq_base.specs.declared.cell.Cell.{Cell}
-use Rattle.cq_base.specs.declared.cell.Queued.{Queued}
-use Rattle.cq_base.specs.declared.cell.Transfer.{Transfer}
-use Rattle.cq_base.specs.declared.figures.Figures.{Figures}
-use Rattle.cq_base.specs.declared.figures.InputFigures.{InputFigures}
-use Rattle.cq_base.specs.Cells.{cushion, first_for, is_for, put}
-use Rattle.cq_rank.specs.Machine.{Machine}
-use Rattle.cq_ideal.specs.IdealSlot.{all_told, fronts, rests}
-use Rattle.cq_ideal.specs.Limiter.{LimiterView}
-use Rattle.cq_prefs.specs.FirstCells.{list_of, orders_of, output_order}
-use Rattle.cq_prefs.specs.Moves.{Moves, list_taken, noted, transfers_of}
-use Rattle.cq_prefs.specs.Orders.{outputs_of, ports, IsListed}
-use Rattle.cq_prefs.specs.Pairing.{Partners, partner_of, partner_place, depth, spent, proposals, IsFreeOutput, IsInputBest, IsStable}
 use Rattle.cq_prefs.proofs.Members.{among, place_head}
 use Rattle.cq_xbar.proofs.Noting.{kept_more}
-use Rattle.cq_laws.specs.Fabric.{Fabric, cushion_of}
-use Rattle.cq_laws.specs.Measures.{either_by, slacks}
-use Rattle.cq_laws.specs.Phases.{came_to, list_arrived}
-use Rattle.cq_fabric.specs.Held.{HoldsFabric}
-use Rattle.cq_fabric.specs.Queues.{Queues, fabric_of}
-use Rattle.cq_fabric.proofs.Known.{AreRanked, BuffersHaveRoom, HaveArrived, HaveJudged, HaveSent, ListsHaveRoom}
-use Rattle.cq_fabric.proofs.Slot.{fits_lists, held_before, keyed}
-use Rattle.cq_engine.specs.Engine.{IsInStep, IsSeen}
-use Rattle.cq_engine.specs.Measuring.{arriving_slack, input_counted, output_counted, slack_seen}
-use Rattle.cq_engine.specs.Straight.{GoStraight, crossing, crossings, input_passed}
-use Rattle.cq_engine.specs.declared.measure.Look.{Look}
 use Rattle.cq_engine.specs.declared.measure.Look.TheVariants as look
 use Rattle.cq_engine.proofs.NoOffers.{none_best, none_proposed, nothing_moves, nothing_noted}
 use Rattle.cq_engine.proofs.Slot.{HaveCrossed, Whole, moved_of, whole_slot}
@@ -87,8 +53,7 @@ offers_wanted (Some c) j h = grind (arith, common_steps, place_head, same_Some)
 
 wants_offered : (q : Option Queued) (j : ℕ) → IsListed (output_order (alone q)) j → wanted q ≡ Some j
 wants_offered None j h = absurd (omega arith)
-wants_offered (Some c) j h =
-    ⊎_elim (λ (e : c.cell.output ≡ j). ap Some e) (λ none. absurd none) (among (c.cell.output ∷ []) j h)
+wants_offered (Some c) j h = grind (arith, common_steps, among (c.cell.output ∷ []) j h)
 
 -- the cell that is for it
 cell_of : (q : Option Queued) (j : ℕ) → wanted q ≡ Some j → (c : Queued) × (q ≡ Some c) × (c.cell.output ≡ j)
@@ -98,13 +63,11 @@ cell_of (Some c) j h = (c, refl, same_Some c.cell.output j h)
 -- ## Lists of such cells
 
 same_map : {X Y : Type 0} (f g : X → Y) (xs : List X) → ((x : X) → f x ≡ g x) → map f xs ≡ map g xs
-same_map f g [] same = refl
-same_map f g (x ∷ xs) same = ap (λ y. y ∷ map f xs) (same x) ∙ ap (λ l. g x ∷ l) (same_map f g xs same)
+same_map f g xs same = λ k. map (λ x. same x k) xs
 
 same_kept : {X Y : Type 0} (f g : X → Option Y) (xs : List X) → ((x : X) → f x ≡ g x) →
     filter_map f xs ≡ filter_map g xs
-same_kept f g [] same = refl
-same_kept f g (x ∷ xs) same = grind (arith, common_steps, same_kept f g xs same)
+same_kept f g xs same = λ k. filter_map (λ x. same x k) xs
 
 abbrev size : {Y : Type 0} → Option Y → ℕ
 size None = 0
@@ -134,16 +97,19 @@ rest_alone (Some c) = refl
 no_cell : (lists : List (List Queued)) → All (λ cells. cells ≡ []) lists → (i : ℕ) → list_of lists i ≡ []
 no_cell lists empty i = grind (arith, common_steps, get_or_past, cases_lt)
 
+none_if : {X : Type 0} (o : Option X) → ((x : X) → o ≡ Some x → ⊥) → o ≡ None
+none_if None h = refl
+none_if (Some x) h = absurd (h x refl)
+
 rests_alone : (buffers : List (List Queued)) (gone : List (Option Queued)) → length gone ≡ length buffers →
     All (λ cells. cells ≡ []) buffers → buffers ≡ rests (map alone gone)
 rests_alone buffers gone long empty =
     let nil : List Queued = [] in
     let none : Option Queued = None in
     let rest : List Queued → List Queued = λ xs. drop 1 xs in
-    ext_get_or nil buffers (rests (map alone gone))
-    (sym (length-map (map alone gone) rest ∙ length-map gone alone ∙ long)) (λ j below. no_cell buffers empty j
-    ∙ sym (get_or-map rest (map alone gone) j nil ∙ ap rest (get_or-map alone gone j none)
-    ∙ rest_alone (get_or gone j none)))
+    ext_get_or nil buffers (rests (map alone gone)) (grind (arith, common_steps, length-map)) (λ j below.
+    let left = get_or-map rest (map alone gone) j nil in
+    let was = get_or-map alone gone j none in search (rules, no_cell buffers empty, left, was, rest_alone))
 
 -- ## What is noted, input by input
 
@@ -200,11 +166,7 @@ module _ {ms : List Machine} {slot : ℕ} {q : Queues} {ranks0 : List (List ℕ)
   square = known.agrees.fabric.square
 
   none_past : (i : ℕ) → n ≤ i → came_to came i ≡ None
-  none_past i past = go (came_to came i) refl
-    where
-      go : (o : Option Queued) → came_to came i ≡ o → came_to came i ≡ None
-      go None is = is
-      go (Some c) is = absurd (let inside = (fits_lists known lists_room i c is).inside in omega arith)
+  none_past i past = grind (arith, common_steps, fits_lists known lists_room i)
 
   no_list : (i : ℕ) → list_of q.inputs i ≡ []
   no_list = no_cell q.inputs straight.lists
@@ -262,23 +224,13 @@ module _ {ms : List Machine} {slot : ℕ} {q : Queues} {ranks0 : List (List ℕ)
   once i k j h g =
       let a = pair_cell i j h in
       let b = pair_cell k j g in
-      let same : a.0 ≡ b.0 =
-      same_Some a.0 b.0 (sym (pair_gone i a.0 a.1) ∙ ap (came_to gone) (a.2 ∙ sym b.2) ∙ pair_gone k b.0 b.1) in
-      sym ((keyed known).input_is i a.0 a.1) ∙ ap (λ (c : Queued). c.key.input) same
-      ∙ (keyed known).input_is k b.0 b.1
+      let own = (keyed known).input_is in
+      grind (arith, common_steps, pair_gone i a.0, pair_gone k b.0, own i a.0, own k b.0)
 
   pairs_stable : IsStable (orders_of lists) pairs
   pairs_stable =
-      record {
-        matching = record {
-          size = pairs_long ∙ sym (length-map lists output_order ∙ lists_long);
-          offered = λ i j h. subst (λ l. IsListed l j) (sym (order_is i))
-              (offers_wanted (came_to came i) j (sym (partner_is i) ∙ h));
-          once = once;
-        };
-        settled = λ i j h ne. absurd
-            (ne (partner_is i ∙ wants_offered (came_to came i) j (subst (λ l. IsListed l j) (order_is i) h)));
-      }
+      let size = length-map lists output_order in
+      search (arith, rules, pairs_long, lists_long, offers_wanted, wants_offered, order_is, partner_is, once)
 
   pairs_best : IsInputBest (orders_of lists) pairs
   pairs_best = record { stable = pairs_stable; best = λ m stable i. let first = at_best i in omega arith }
@@ -307,39 +259,16 @@ module _ {ms : List Machine} {slot : ℕ} {q : Queues} {ranks0 : List (List ℕ)
 
   -- an output to which nobody crosses sends nothing
   none_sent : (j : ℕ) → IsFreeOutput pairs j → came_to gone j ≡ None
-  none_sent j free = go (came_to gone j) refl
-    where
-      outside : (c : Queued) → came_to gone j ≡ Some c → n ≤ j → ⊥
-      outside c is past =
-          let none : Option Queued = None in
-          let clash : none ≡ Some c = sym (get_or_past gone j none (omega arith)) ∙ is in let P : ⊥ = cc in P
+  none_sent j free =
+      none_if (came_to gone j) (λ c is. ⊎_elim (λ inside. let from = straight.sent.only j c inside is in
+      free from.input (pair_of from.input c from.at ∙ ap Some from.output))
+      (λ past. grind (arith, common_steps, get_or_past)) (cases_lt j n))
 
-      go : (o : Option Queued) → came_to gone j ≡ o → came_to gone j ≡ None
-      go None is = is
-      go (Some c) is = absurd (⊎_elim (λ inside.
-          let from = straight.sent.only j c inside is in
-          free from.input (pair_of from.input c from.at ∙ ap Some from.output)) (λ past. outside c is past)
-          (cases_lt j n))
+  ruleset pair_facts = (partner_is, list_is, pair_cell, buffer_is, pair_gone, none_sent)
 
   moves : Moves pairs lists q.buffers q.inputs (map alone gone)
   moves =
-      record {
-        ports = (sym lists_long, length-map gone alone ∙ straight.ports ∙ sym square);
-        taken = λ i. no_list i ∙ left_alone (came_to came i)
-            ∙ ap (λ p. list_taken p (alone (came_to came i))) (sym (partner_is i))
-            ∙ ap (list_taken (partner_of pairs i)) (sym (list_is i));
-        given = λ i j c h first.
-            let a = pair_cell i j h in
-            let here : first_for j (alone (Some a.0)) ≡ Some c =
-            ap (λ l. first_for j l) (sym (list_is i ∙ ap alone a.1)) ∙ first in
-            let same : a.0 ≡ c =
-            same_Some a.0 c
-            (sym (first_alone a.0) ∙ ap (λ k. first_for k (alone (Some a.0))) a.2 ∙ here) in
-            buffer_is j ∙ ap alone (ap (came_to gone) (sym a.2) ∙ pair_gone i a.0 a.1)
-            ∙ ap (λ d. alone (Some d)) same
-            ∙ ap (λ l. put c l) (sym (no_buffer j));
-        kept = λ j free. buffer_is j ∙ ap alone (none_sent j free) ∙ sym (no_buffer j);
-      }
+      search (arith, rules, pair_facts, lists_long, length-map, square, no_list, left_alone, first_alone, no_buffer)
 
   crossed : HaveCrossed pairs (length (crossings slot n came)) listed filled
   crossed = record { best = pairs_best; counted = all_proposed; moves = moves }
@@ -355,12 +284,7 @@ module _ {ms : List Machine} {slot : ℕ} {q : Queues} {ranks0 : List (List ℕ)
   none_offered i = let nil : List Queued = [] in get_or-map output_order q.inputs i nil ∙ ap output_order (no_list i)
 
   crossed_again : HaveCrossed nobody 0 q q
-  crossed_again =
-      record {
-        best = none_best (orders_of q.inputs) none_offered;
-        counted = none_proposed (orders_of q.inputs) none_offered;
-        moves = nothing_moves (ports (orders_of q.inputs)) q.inputs q.buffers;
-      }
+  crossed_again = search (rules, none_best, none_offered, none_proposed, nothing_moves)
 
   -- ## The figures
 
@@ -385,9 +309,7 @@ module _ {ms : List Machine} {slot : ℕ} {q : Queues} {ranks0 : List (List ℕ)
   seen_least : (looks : Look) (i : ℕ) → slack_seen looks listed i (came_to came i) ≡ least (came_to came i)
   unfolding slacks
   seen_least look.Arriving i = arriving_least i (came_to came i)
-  seen_least look.All i = ap (λ (l : List Queued).
-      reduce min (map (λ (at : ℕ × Queued). cushion_of (fabric_of listed []) at.1 - at.0) (enumerate_from 0 l)))
-      (list_is i) ∙ all_least (came_to came i)
+  seen_least look.All i = rw (list_is i) (all_least (came_to came i))
 
   no_less : (s : Option ℕ) → s ≡ either_by min s None
   no_less None = refl
@@ -415,8 +337,7 @@ module _ {ms : List Machine} {slot : ℕ} {q : Queues} {ranks0 : List (List ℕ)
       HoldsFabric (fabric_of q ranks0) before → HaveJudged cells before judged →
       (j : ℕ) → IfSome (came_to gone j) (λ _. 0 < get_or judged.held j 0)
   held_straight room {before} {judged} holds judges j =
-      subst (λ l. IfSome (came_to l j) (λ _. 0 < get_or judged.held j 0)) (fronts_alone gone)
-      (held_before known arrived room (moved_of crossed) holds judges j)
+      rw (← fronts_alone gone) (held_before known arrived room (moved_of crossed) holds judges j)
 
   -- what was counted of the slot
   pub record AreCountedStraight (x y : Figures) : Type 0 where
@@ -433,22 +354,12 @@ module _ {ms : List Machine} {slot : ℕ} {q : Queues} {ranks0 : List (List ℕ)
   whole_straight room x up looks seen ranks2 told y counts =
       let fronts_are = fronts_alone gone in
       let notes : transfers_of pairs lists slot 1 ++ transfers_of nobody q.inputs slot 2 ≡ crossings slot n came =
-      ap (λ l. transfers_of pairs lists slot 1 ++ l) (nothing_noted (ports (orders_of q.inputs)) q.inputs slot 2)
-      ∙ append-nil (transfers_of pairs lists slot 1) ∙ all_noted in
-      let long = whole_slot x up known arrived room crossed (sent ranks2 told) crossed_again looks seen y
-      (record {
-        slots = counts.slots
-            ∙ ap (λ (l : List (Option Queued)). if list_any is_some l then max x.slots (slot + 1) else x.slots)
-            (sym fronts_are);
+      rw (nothing_noted (ports (orders_of q.inputs)) q.inputs slot 2, append-nil) all_noted in
+      let long = whole_slot x up known arrived room crossed (sent ranks2 told) crossed_again looks seen y (record {
+        slots = rw fronts_are counts.slots;
         proposed = counts.proposed;
         most = counts.most;
         inputs = counts.inputs ∙ counted_passed looks x.inputs;
-        outputs = counts.outputs
-            ∙ ap (λ (l : List (Option Queued)).
-            map (λ at. output_counted slot (came_to l at.0) at.1) (enumerate_from 0 x.outputs))
-            (sym fronts_are);
+        outputs = rw fronts_are counts.outputs;
       }) in
-      subst (λ (l : List (Option Queued)).
-      Whole ms slot cells x y (fabric_of q ranks0) (fabric_of q ranks2) known.ideal l (crossings slot n came))
-      fronts_are (subst (λ (t : List Transfer). Whole ms slot cells x y (fabric_of q ranks0) (fabric_of q ranks2)
-      known.ideal (fronts (map alone gone)) t) notes long)
+      rw (fronts_are, notes) at long

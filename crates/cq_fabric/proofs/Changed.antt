@@ -1,12 +1,5 @@
 -- Lists that are new up to a place, and old from it on.
-use Rattle.std.proofs.lemmas.Grind.{common_steps}
-use Rattle.std.proofs.Common.{rules, ◌≡◌, ℕ, ◌+◌, ◌<◌, ◌≤◌, List, length, map, get_or, set, drop, Some, sym, ap, ◌∙◌, arith}
-use Rattle.std.specs.Prelude.{slice_get}
-use Rattle.std.specs.List.{enumerate_from}
-use Rattle.std.proofs.lemmas.List.FromFn.{length-enumerate_from, get_or-enumerate_from}
-use Rattle.std.proofs.lemmas.Option.{slice_get-get_or}
-use Rattle.cq_ideal.proofs.Changed.{at_end, at_place, changed_to, next_place}
-use Rattle.std.proofs.lemmas.List.{drop-drop, drop-set-lt, get_or-map, length-map, length-set, set-get_or}
+use Rattle.cq_fabric.proofs.Terms.{common_steps, rules, ◌≡◌, ℕ, ◌+◌, ◌<◌, ◌≤◌, List, length, map, get_or, set, drop, Some, sym, ap, ◌∙◌, arith, slice_get, enumerate_from, length-enumerate_from, get_or-enumerate_from, slice_get-get_or, at_end, at_place, changed_to, next_place, drop-drop, drop-set-lt, get_or-map, length-map, length-set, set-get_or}
 
 -- one item more is written, and those behind it are as they were
 pub still_behind : {X : Type 0} (now old : List X) (j : ℕ) (y : X) → drop j now ≡ drop j old →
@@ -35,12 +28,6 @@ module _ {X : Type 0} (f : ℕ → X → X) (xs : List X) where
       ∙ at_place (map (λ at. f at.0 at.1) (enumerate_from 0 xs)) xs i d length-by_place inside)
       ∙ sym (at-by_place i d inside))
 
-  -- an item that has not been changed
-  not_yet : (now : List X) (i : ℕ) (d : X) →
-      now ≡ changed_to (map (λ at. f at.0 at.1) (enumerate_from 0 xs)) xs i → i < length xs →
-      slice_get xs i ≡ Some (get_or now i d)
-  not_yet now i d so_far inside = grind (arith, common_steps, slice_get-get_or, at_place, length-by_place)
-
 -- the items before a place are changed, and the others are as they were
 pub record IsChangedTo {X : Type 0} (f : ℕ → X → X) (xs : List X) (n : ℕ) (now : List X) : Type 0 where
   pub items : now ≡ changed_to (map (λ at. f at.0 at.1) (enumerate_from 0 xs)) xs n
@@ -51,7 +38,7 @@ module _ {X : Type 0} {f : ℕ → X → X} {xs : List X} {n : ℕ} {now : List 
   pub still_few : (number : X → ℕ) (d : X) → n < length xs → {most : ℕ} →
       ((i : ℕ) (x : X) → slice_get xs i ≡ Some x → number x < most) → {seen : List X} → seen ≡ now →
       number (get_or seen n d) < most
-  still_few number d inside {most} all is = grind (arith, common_steps, not_yet f xs now n d so_far.items inside)
+  still_few number d inside {most} all is = search (arith, rules, slice_get-get_or, at_place, length-by_place)
 
   -- it is changed
   pub next_changed : (d y : X) → n < length xs → (seen : List X) → seen ≡ now → y ≡ f n (get_or seen n d) →

@@ -1,54 +1,24 @@
 -- Cells that come into an empty list or an empty buffer in the order in which they are to stand. Each finds those
 -- ahead of it alone: in a list all more urgent cells for its output stand there, and no less urgent one, so that it
 -- goes in at the end; in a buffer all have lesser keys.
-use Rattle.std.proofs.Common.{rules, ◌≡◌, ◌≢◌, ℕ, ◌+◌, ◌<◌, ◌≤◌, cond, Bool, false, List, [], ◌∷◌, ◌++◌, length, map, get_or, take, drop, Some, refl, sym, ap, ◌∙◌, subst, ⊎_elim, arith}
-use Rattle.std.proofs.lemmas.Grind.{common_steps}
-use Rattle.std.specs.Prelude.{◌&&◌, slice_get}
-use Rattle.std.specs.List.{AllByRecursion}
-use Rattle.std.proofs.lemmas.Bool.{and_left, and_right, cases_Bool, eqb-true}
-use Rattle.std.proofs.lemmas.List.{drop_all, drop_more, get_or-map, get_or_read, length-map, length-take-le, take-append-drop, take_all, take_more}
-use Rattle.std.proofs.lemmas.List.Elements.{All-from_recursion}
-use Rattle.std.proofs.lemmas.Option.{same_Some, slice_get-get_or}
-use Rattle.cq_base.specs.declared.cell.Queued.{Queued}
-use Rattle.cq_base.specs.Key.{is_before}
-use Rattle.cq_base.specs.Cells.{EachPair, HasOtherKey, IsBefore, IsRising, MoreUrgentAhead, is_for, place_of_later, put, with_arrival}
-use Rattle.cq_base.proofs.Keys.{key_laws}
-use Rattle.cq_base.proofs.Lists.{ahead_of_end, first_later}
-use Rattle.cq_list.specs.InputList.{Waiting}
-use Rattle.cq_prefs.specs.FirstCells.{list_of}
-use Rattle.cq_ideal.proofs.Changed.{map_next, map_same, take_next}
-use Rattle.cq_laws.proofs.Sound.{not_before_itself}
+use Rattle.cq_fabric.proofs.Terms.{rules, ◌≡◌, ◌≢◌, ℕ, zero, suc, ◌+◌, ◌<◌, ◌≤◌, false, List, [], ◌∷◌, ◌++◌, length, map, get_or, take, Some, refl, sym, ap, ◌∙◌, arith, common_steps, ◌&&◌, slice_get, AllByRecursion, and_left, and_right, cases_Bool, eqb-true, drop_all, get_or-map, get_or_read, length-map, length-take-le, take_all, take_more, All-from_recursion, same_Some, slice_get-get_or, Queued, is_before, EachPair, HasOtherKey, IsBefore, IsRising, MoreUrgentAhead, is_for, place_of_later, put, with_arrival, key_laws, ahead_of_end, first_later, Waiting, list_of, map_next, map_same, take_next, not_before_itself, AreFilled, IsFilled}
 use Rattle.cq_fabric.specs.Holding.{CanWait}
-use Rattle.cq_fabric.specs.Telling.{AreFilled, IsFilled}
 
 -- ## A cell behind those that stand before its place
-
-here_of : (P : Queued → Type 0) (xs ys : List Queued) (c : Queued) → AllByRecursion P (xs ++ c ∷ ys) → P c
-here_of P [] ys c all = all.0
-here_of P (x ∷ xs) ys c all = here_of P xs ys c all.1
-
-each_before : (R : Queued → Queued → Type 0) (xs ys : List Queued) (c : Queued) → EachPair R (xs ++ c ∷ ys) →
-    AllByRecursion (λ x. R x c) xs
-each_before R [] ys c pairs = tt
-each_before R (x ∷ xs) ys c pairs = (here_of (R x) xs ys c pairs.0, each_before R xs ys c pairs.1)
-
-parted_at : (cells : List Queued) (i : ℕ) (d : Queued) → i < length cells →
-    cells ≡ take i cells ++ get_or cells i d ∷ drop (i + 1) cells
-parted_at cells i d inside = grind (arith, common_steps, take-append-drop, drop_more)
 
 -- what holds of each cell and each behind it holds of those before a place and the one that stands there
 before_place : (R : Queued → Queued → Type 0) (cells : List Queued) (i : ℕ) (d : Queued) → i < length cells →
     EachPair R cells → AllByRecursion (λ x. R x (get_or cells i d)) (take i cells)
-before_place R cells i d inside pairs =
-    grind (arith, common_steps, each_before R (take i cells) (drop (i + 1) cells), parted_at cells i d inside)
+before_place R [] i d inside pairs = absurd (omega arith)
+before_place R (c ∷ cells) zero d inside pairs = tt
+before_place R (c ∷ cells) (suc i) d inside pairs =
+    (All-from_recursion (R c) cells pairs.0 i d (omega arith), before_place R cells i d (omega arith) pairs.1)
 
 -- ## The end of a list
 
 not_later : (c x : Queued) → (x.cell.output ≡ c.cell.output → IsBefore x c) →
     (is_for c.cell.output x && is_before c.key x.key) ≡ false
-not_later c x before = ⊎_elim (λ same. and_right (is_for c.cell.output x) (is_before c.key x.key)
-    (key_laws.one_way x.key c.key (before (eqb-true x.cell.output c.cell.output same))))
-    (λ other. and_left (is_for c.cell.output x) (is_before c.key x.key) other) (cases_Bool (is_for c.cell.output x))
+not_later c x before = search (arith, rules, and_right, and_left, cases_Bool, eqb-true, key_laws.one_way)
 
 none_later : (c : Queued) (xs : List Queued) →
     AllByRecursion (λ x. x.cell.output ≡ c.cell.output → IsBefore x c) xs → place_of_later c xs ≡ length xs
@@ -69,17 +39,15 @@ module _ (outputs most : ℕ) (cells : List Queued) (wait : CanWait outputs most
   comes_in_range same = grind (arith, common_steps, All-from_recursion)
 
   pub comes_anew : HasOtherKey (get_or cells at d) w.cells
-  comes_anew = subst (HasOtherKey (get_or cells at d)) (sym so_far)
-      (before_place (λ a b. a.key ≢ b.key) cells at d inside wait.differ)
+  comes_anew = rw so_far (before_place (λ a b. a.key ≢ b.key) cells at d inside wait.differ)
 
   pub comes_behind : MoreUrgentAhead at (get_or cells at d) w.cells
   comes_behind = ahead_of_end at (get_or cells at d) w.cells (let l = long in omega arith)
 
   pub comes_last : with_arrival at (get_or cells at d) w.cells ≡ take (at + 1) cells
-  comes_last = goes_last at (get_or cells at d) w.cells long (subst (AllByRecursion (λ (x : Queued).
-      x.cell.output ≡ (get_or cells at d).cell.output → IsBefore x (get_or cells at d))) (sym so_far)
-      (before_place (λ a b. a.cell.output ≡ b.cell.output → IsBefore a b) cells at d inside wait.order))
-      ∙ ap (λ (l : List Queued). l ++ get_or cells at d ∷ []) so_far ∙ sym (take_more cells at d inside)
+  comes_last =
+      let order = before_place (λ a b. a.cell.output ≡ b.cell.output → IsBefore a b) cells at d inside wait.order in
+      search (arith, rules, long, goes_last, take_more cells at d inside)
 
 -- ## The end of a buffer
 
@@ -89,8 +57,7 @@ other_keys c (x ∷ xs) all = grind (arith, common_steps, not_before_itself, oth
 
 put_last : (c : Queued) (xs : List Queued) → AllByRecursion (λ x. IsBefore x c) xs → put c xs ≡ xs ++ c ∷ []
 put_last c [] all = refl
-put_last c (x ∷ xs) all = ap (λ (b : Bool). cond b (c ∷ x ∷ xs) (x ∷ put c xs)) (key_laws.one_way x.key c.key all.0)
-    ∙ ap (λ (l : List Queued). x ∷ l) (put_last c xs all.1)
+put_last c (x ∷ xs) all = grind (arith, common_steps, key_laws.one_way, put_last c xs all.1)
 
 -- the cell at a place of the cells that a buffer is to have, once those before it are there
 module _ (cells : List Queued) (rising : IsRising cells) (at : ℕ) (inside : at < length cells) (d : Queued)
@@ -119,7 +86,7 @@ module _ (cells : List Queued) (at : ℕ) (inside : at < length cells) (xs : Lis
 -- what is read of one of some lists
 pub given_at : (lists : List (List Queued)) (i : ℕ) {n : ℕ} {list cells : List Queued} → list ≡ get_or lists i list →
     i < n → length lists ≡ n → cells ≡ list → cells ≡ list_of lists i
-given_at lists i {n} {list} read inside as_many is = is ∙ get_or_read lists i list (omega arith) read []
+given_at lists i {n} {list} read inside as_many is = search (arith, rules, get_or_read)
 
 pub one_filled : {X : Type 0} {cells_at : X → List Queued} {room_of number : X → ℕ} {m : ℕ} {sizes : List ℕ}
     {cells : List (List Queued)} {n : ℕ} {items more : List X} (x : X) →
@@ -143,6 +110,4 @@ pub one_told : {X : Type 0} (f : X → List Queued) (items : List X) (i : ℕ) (
     x ≡ get_or items i x → cells ≡ f x → more ≡ take (i + 1) (map f items)
 one_told f items i x all more cells so_far is inside read told =
     let none : List Queued = [] in
-    let long = length-map items f in
-    take_next (map f items) i all more cells none so_far is (omega arith)
-    (told ∙ ap f read ∙ sym (get_or-map f items i x none inside))
+    search (arith, rules, take_next (map f items) i all more cells none, length-map, get_or-map f items i x none)

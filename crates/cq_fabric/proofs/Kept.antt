@@ -1,33 +1,9 @@
 -- How many cells for an output there are. An arrival brings one more, a transfer moves one from the inputs to the
 -- output's buffer, and a departure takes one away. So it is in each slot with stable matchings, whoever found them.
-use Rattle.std.proofs.Common.{rules, ◌≡◌, ℕ, zero, suc, ◌+◌, ◌≤◌, eqb, Bool, true, false, List, [], ◌∷◌, length, drop, Option, Some, None, refl, ap, ⊎_elim, arith, subst}
-use Rattle.std.proofs.lemmas.Grind.{common_steps}
-use Rattle.std.specs.Prelude.{if◌then◌else◌, is_some, filter, insert}
+use Rattle.cq_fabric.proofs.Terms.{rules, ◌≡◌, ℕ, zero, suc, ◌+◌, ◌≤◌, eqb, Bool, List, [], ◌∷◌, length, Option, Some, None, refl, ap, ⊎_elim, arith, common_steps, if◌then◌else◌, is_some, filter, insert, cond_both, length-drop, length-insert, Cell, Queued, arrival_at, place_of_arrival, is_for, first_for, without_first, put, Machine, list_of, HasCellFor, orders_of, output_order, list_taken, Partners, partner_of, IsMatching, IsStable, partner_or_free, length_put, Fabric, input, buffer, cushion_of, list_arrived, Transfers, SlotRecord, FabricSlot, came_cell, rest_of, Admission, Marked, admission, count_for, each_once, LimitedFabricSlot, LimitedRecord, fabric_held, waiting_for, held_for}
 use Rattle.std.proofs.Math.ListN.{get_or-map}
-use Rattle.std.proofs.lemmas.Bool.{cond_both}
-use Rattle.std.proofs.lemmas.List.Edits.{length-insert}
-use Rattle.cq_base.specs.declared.cell.Cell.{Cell}
-use Rattle.cq_base.specs.declared.cell.Queued.{Queued}
-use Rattle.cq_base.specs.Arrivals.{arrival_at}
-use Rattle.cq_base.specs.Cells.{place_of_arrival, is_for, first_for, without_first, put}
-use Rattle.cq_rank.specs.Machine.{Machine}
-use Rattle.cq_prefs.specs.FirstCells.{list_of, HasCellFor, orders_of, output_order}
-use Rattle.cq_prefs.specs.Moves.{list_taken}
-use Rattle.cq_prefs.specs.Pairing.{Partners, partner_of, IsMatching, IsStable}
 use Rattle.cq_prefs.proofs.OutputOrder.{is_output_order}
-use Rattle.cq_xbar.proofs.OneEach.{partner_or_free, put_length}
-use Rattle.cq_laws.specs.Fabric.{Fabric, input, buffer, cushion_of}
-use Rattle.cq_laws.specs.Phases.{came_to, list_arrived, Transfers}
-use Rattle.cq_laws.specs.FabricSlot.{SlotRecord, FabricSlot}
-use Rattle.cq_laws.proofs.Came.{came_cell}
-use Rattle.cq_laws.proofs.Falls.{rest_of}
-use Rattle.cq_ideal.specs.Admission.{Admission, Marked, admission, unless}
-use Rattle.cq_ideal.specs.Ideal.{count_for}
 use Rattle.cq_ideal.proofs.Admitted.{admitted_at}
-use Rattle.cq_ideal.proofs.Refusals.{each_once}
-use Rattle.cq_laws.specs.LimitedFabric.{LimitedFabricSlot, LimitedRecord}
-use Rattle.cq_laws.specs.Holding.{fabric_held, waiting_for, held_for}
-use Rattle.cq_prefs.specs.Orders.{IsListed}
 
 abbrev bit : Bool → ℕ
 bit b = if b then 1 else 0
@@ -81,11 +57,8 @@ sum_comes j (x ∷ new) (y ∷ old) (Some c ∷ cells) same each =
 -- each list has no more than before
 sum_most : (j : ℕ) (new old : List (List Queued)) → length new ≡ length old →
     ((i : ℕ) → count j (list_of new i) ≤ count j (list_of old i)) → waiting_for j new ≤ waiting_for j old
-sum_most j [] [] same each = omega arith
-sum_most j [] (y ∷ old) same each = absurd (omega arith)
-sum_most j (x ∷ new) [] same each = absurd (omega arith)
-sum_most j (x ∷ new) (y ∷ old) same each =
-    let here = each zero in let rest = sum_most j new old (omega arith) (λ i. each (suc i)) in omega arith
+sum_most j new old same each =
+    let all = sum_comes j new old [] same (λ i. let e = each i in omega arith) in omega arith
 
 -- and one of them has one less
 sum_less : (j : ℕ) (new old : List (List Queued)) (k : ℕ) → length new ≡ length old →
@@ -108,25 +81,9 @@ came_one f j (Some c) cell xs is =
     let here = ap (comes j) (is c refl) in
     let more = count_insert j xs (place_of_arrival (cushion_of f c) c xs) c in omega arith
 
-longer_one : (f : Fabric) (came : Option Queued) (cell : Option Cell) (xs : List Queued) →
-    ((c : Queued) → came ≡ Some c → cell ≡ Some c.cell) →
-    length (list_arrived f came xs) ≤ length xs + bit (is_some cell)
-longer_one f None cell xs is = omega arith
-longer_one f (Some c) cell xs is =
-    let here : bit (is_some cell) ≡ 1 = ap (λ (o : Option Cell). bit (is_some o)) (is c refl) in
-    omega (arith, length-insert)
-
 length_left : (k : ℕ) (xs : List Queued) → length (without_first k xs) ≤ length xs
 length_left k [] = omega arith
 length_left k (x ∷ xs) = grind (arith, common_steps, cond_both, length_left k xs)
-
-length_taken : (p : Option ℕ) (xs : List Queued) → length (list_taken p xs) ≤ length xs
-length_taken None xs = omega arith
-length_taken (Some k) xs = length_left k xs
-
-length_drop : (xs : List Queued) → length (drop 1 xs) ≤ length xs
-length_drop [] = omega arith
-length_drop (x ∷ xs) = omega arith
 
 -- an input whose partner is output j has a cell for it
 offered : (m : Partners) (f : Fabric) → IsMatching (orders_of f.inputs) m → (i j : ℕ) → partner_of m i ≡ Some j →
@@ -134,7 +91,7 @@ offered : (m : Partners) (f : Fabric) → IsMatching (orders_of f.inputs) m → 
 offered m f matching i j p =
     let none : List Queued = [] in
     ((is_output_order (input f i)).offered j).0
-    (subst (λ o. IsListed o j) (get_or-map output_order f.inputs i none) (matching.offered i j p))
+    (rw (get_or-map output_order f.inputs i none) at (matching.offered i j p))
 
 moved : (m : Partners) (old new : Fabric) → IsMatching (orders_of old.inputs) m → Transfers m old new → (j : ℕ) →
     held_for j new ≤ held_for j old
@@ -145,22 +102,14 @@ moved m old new matching step j =
     let cell = offered m old matching r.0 j r.1 in
     let given : length (buffer new j) ≡ length (put cell.0 (buffer old j)) =
     ap length (step.moves.given r.0 j cell.0 r.1 cell.1) in
-    let longer = put_length cell.0 (buffer old j) in
+    let longer = length_put cell.0 (buffer old j) in
     search (arith, rules, step.moves.taken, count_without, sum_less))
     (λ free. search (arith, rules, step.moves.kept, sum_most)) (partner_or_free m j)
 
 module _ (ms : List Machine) (slot : ℕ) (cells : List (Option Cell)) (f g : Fabric) (r : SlotRecord)
     (step : FabricSlot IsStable ms slot cells f r g) where
   pub lists_kept : (i : ℕ) → length (input g i) ≤ length (input f i) + bit (is_some (arrival_at cells i))
-  lists_kept i =
-      let a = ap length (step.arrive.lists i) in
-      let b = longer_one f (came_to r.came i) (arrival_at cells i) (input f i) (came_cell step.arrive i) in
-      let c = ap length (step.fill.moves.taken i) in
-      let d = length_taken (partner_of r.first i) (input r.arrived i) in
-      let e = ap (λ ls. length (list_of ls i)) step.depart.inputs in
-      let k = ap length (step.finish.moves.taken i) in
-      let l = length_taken (partner_of r.second i) (input r.sent i) in
-      omega arith
+  lists_kept i = search (arith, rules, came_cell, length-insert, length_left)
 
   pub outputs_kept : (j : ℕ) → held_for j g ≤ held_for j f + count_for j cells
   outputs_kept j =
@@ -168,13 +117,9 @@ module _ (ms : List Machine) (slot : ℕ) (cells : List (Option Cell)) (f g : Fa
       let e = ap (count j) (step.arrive.lists i) in search (arith, rules, came_one, came_cell)) in
       let same = ap (λ bs. length (list_of bs j)) step.arrive.buffers in
       let first = moved r.first r.arrived r.filled step.first_chosen.matching step.fill j in
-      search (arith, rules, rest_of, length_drop, moved)
+      search (arith, rules, rest_of, length-drop, moved)
 
 -- ## With limits
-
-fewer : (up : Bool) (o : Option Cell) → bit (is_some (unless up o)) ≤ bit (is_some o)
-fewer true o = omega arith
-fewer false o = omega arith
 
 -- what is admitted is no more than what arrives
 admitted_bit : (limits : List (Option ℕ)) (held : List ℕ) (marks : List Bool) (cells : List (Option Cell))
@@ -182,7 +127,7 @@ admitted_bit : (limits : List (Option ℕ)) (held : List ℕ) (marks : List Bool
     a ≡ admission limits held marks cells → (i : ℕ) →
     bit (is_some (arrival_at a.cells i)) ≤ bit (is_some (arrival_at cells i))
 unfolding admission
-admitted_bit limits held marks cells a is i = grind (arith, common_steps, admitted_at, fewer)
+admitted_bit limits held marks cells a is i = search (arith, rules, admitted_at)
 
 admitted_count : (limits : List (Option ℕ)) (held : List ℕ) (marks : List Bool) (cells : List (Option Cell))
     (a : Admission) →
@@ -196,11 +141,9 @@ module _ (limits : List (Option ℕ)) (ms : List Machine) (slot : ℕ) (cells : 
       length (input g.state i) ≤ length (input f.state i) + (if is_some (arrival_at cells i) then 1 else 0)
   limited_lists_kept i =
       let kept = lists_kept ms slot r.admission.cells f.state g.state r.of_slot s.runs i in
-      let less = admitted_bit limits (fabric_held f.state) f.marks cells r.admission s.admits i in
-      omega arith
+      let less = admitted_bit limits (fabric_held f.state) f.marks cells r.admission s.admits i in omega arith
 
   pub limited_outputs_kept : (j : ℕ) → held_for j g.state ≤ held_for j f.state + count_for j cells
   limited_outputs_kept j =
       let kept = outputs_kept ms slot r.admission.cells f.state g.state r.of_slot s.runs j in
-      let less = admitted_count limits (fabric_held f.state) f.marks cells r.admission s.admits j in
-      omega arith
+      let less = admitted_count limits (fabric_held f.state) f.marks cells r.admission s.admits j in omega arith

@@ -2,23 +2,7 @@
 -- The pairs of a stable matching cross. The outputs send, and the machines are told. A limiter counts what came for
 -- each output. Each of these is a record over what stood there before and what stands there
 -- after, so that a lemma on a slot takes one argument for each call.
-use Rattle.std.proofs.Common.{◌≡◌, ℕ, ◌+◌, ◌-◌, ◌<◌, ◌≤◌, List, [], length, get_or, Option, Some, Ok}
-use Rattle.std.specs.Prelude.{if◌then◌else◌, is_some}
-use Rattle.cq_base.specs.declared.cell.Cell.{Cell}
-use Rattle.cq_base.specs.declared.cell.Queued.{Queued}
-use Rattle.cq_base.specs.Arrivals.{arrival_at}
-use Rattle.cq_rank.specs.Machine.{Machine}
-use Rattle.cq_ideal.specs.Ideal.{count_for}
-use Rattle.cq_ideal.specs.IdealSlot.{IdealState, all_told, fronts, rests}
-use Rattle.cq_ideal.specs.Limiter.{LimiterView}
-use Rattle.cq_ideal.specs.Ranking.{AreForPorts, ranking}
-use Rattle.cq_prefs.specs.FirstCells.{list_of, orders_of}
-use Rattle.cq_prefs.specs.Moves.{Moves}
-use Rattle.cq_prefs.specs.Pairing.{Partners, IsStable}
-use Rattle.cq_laws.specs.Agreement.{Agrees}
-use Rattle.cq_laws.specs.Holding.{waiting_for}
-use Rattle.cq_laws.specs.Phases.{came_to, list_arrived}
-use Rattle.cq_fabric.specs.Queues.{Queues, fabric_of}
+use Rattle.cq_fabric.proofs.Terms.{◌≡◌, ℕ, ◌+◌, ◌-◌, ◌<◌, ◌≤◌, List, [], length, get_or, Option, Some, Ok, if◌then◌else◌, is_some, Cell, Queued, arrival_at, Machine, count_for, IdealState, all_told, fronts, rests, LimiterView, AreForPorts, ranking, list_of, orders_of, Moves, Partners, IsStable, Agrees, waiting_for, came_to, list_arrived, Queues, fabric_of}
 
 -- ## The cells
 

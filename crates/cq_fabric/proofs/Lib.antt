@@ -1,8 +1,8 @@
+mod Terms
 pub mod Changed
 pub mod Queued
 pub mod Offered
 pub mod Newest
-pub mod Empty
 pub mod Rooms
 pub mod Kept
 pub mod Known

@@ -1,32 +1,11 @@
 -- What the outputs of a fabric hold. Between two slots these are as many cells as the lists of an ideal switch have
 -- with which the fabric agrees. So the numbers that a limiter keeps are followed through a slot by the lists of that
 -- switch: it takes in the same cells and sends the same, and agrees again.
-use Rattle.std.proofs.lemmas.Grind.{common_steps}
-use Rattle.std.proofs.Common.{rules, ◌≡◌, ◌≢◌, ℕ, zero, suc, ◌+◌, ◌-◌, ◌<◌, ◌≤◌, ◌^◌, Bool, List, [], ◌∷◌, length, map, get_or, drop, replicate, Option, Some, None, Ok, refl, sym, ap, ◌∙◌, arith, get_or-set_same, get_or-set_other, length-set, subst}
-use Rattle.std.specs.Prelude.{IfSome, slice_get}
-use Rattle.std.proofs.lemmas.List.{ext_get_or, get_or-map, get_or-replicate, length-map, length-replicate}
-use Rattle.std.proofs.lemmas.List.FromFn.{get_or-map-range_with_len, length-map-range_with_len}
-use Rattle.cq_base.specs.declared.cell.Cell.{Cell}
-use Rattle.cq_base.specs.declared.cell.Queued.{Queued}
-use Rattle.cq_rank.specs.Machine.{Machine}
-use Rattle.cq_ideal.specs.Admission.{admission, admitted, marked, marks_after}
-use Rattle.cq_ideal.specs.Ideal.{count_for}
-use Rattle.cq_ideal.specs.IdealSlot.{IdealState, filled, fronts, ideal_slot, rests}
-use Rattle.cq_ideal.specs.Limiter.{HoldsLists, LimiterView, held_without}
-use Rattle.cq_ideal.specs.Ranking.{Ranking, ranking}
+use Rattle.cq_fabric.proofs.Terms.{common_steps, rules, ◌≡◌, ◌≢◌, ℕ, zero, suc, ◌+◌, ◌-◌, ◌<◌, ◌≤◌, ◌^◌, Bool, List, [], ◌∷◌, length, map, get_or, drop, replicate, Option, Some, None, Ok, refl, sym, ap, ◌∙◌, arith, get_or-set_same, get_or-set_other, length-set, subst, IfSome, slice_get, ext_get_or, get_or-map, get_or-replicate, length-map, length-replicate, get_or-map-range_with_len, length-map-range_with_len, Cell, Queued, Machine, admission, admitted, marked, marks_after, count_for, IdealState, filled, fronts, ideal_slot, rests, HoldsLists, LimiterView, held_without, Ranking, ranking, each_once, Agrees, SendsAlike, Fabric, fabric_held, held_for, waiting_for, fabric_admission, came_to, list_of, HoldsFabric, Queues, fabric_of}
 use Rattle.cq_ideal.proofs.Holding.{holds_filled}
-use Rattle.cq_ideal.proofs.Refusals.{each_once}
 use Rattle.cq_ideal.proofs.Slot.{by_marks, sent_from}
 use Rattle.cq_ideal.proofs.Spare.{came_for}
-use Rattle.cq_laws.specs.Agreement.{Agrees, SendsAlike}
-use Rattle.cq_laws.specs.Fabric.{Fabric}
-use Rattle.cq_laws.specs.Holding.{fabric_held, held_for, waiting_for}
-use Rattle.cq_laws.specs.LimitedFabric.{fabric_admission}
-use Rattle.cq_laws.specs.Phases.{came_to}
 use Rattle.cq_laws.proofs.Held.{hold_as_many}
-use Rattle.cq_prefs.specs.FirstCells.{list_of}
-use Rattle.cq_fabric.specs.Held.{HoldsFabric}
-use Rattle.cq_fabric.specs.Queues.{Queues, fabric_of}
 use Rattle.cq_fabric.specs.Released.{HasReleased}
 use Rattle.cq_fabric.proofs.Known.{AreRanked, BuffersHaveRoom, HaveJudged, bit}
 
@@ -119,8 +98,7 @@ holds_rests lists judged after holds limits long less =
     let held = ap length holds.held in
     record {
       ports = ap length limits ∙ holds.ports ∙ sym shorter;
-      held = ext_get_or 0 after.held (map length (rests lists)) (omega arith)
-          (λ j inside.
+      held = ext_get_or 0 after.held (map length (rests lists)) (omega arith) (λ j inside.
           let within : j < length lists = omega arith in
           let was : get_or judged.held j 0 ≡ length (get_or lists j nil) =
           ap (λ (l : List ℕ). get_or l j 0) holds.held ∙ get_or-map length lists j nil 0 within in
@@ -137,7 +115,7 @@ sends_are : (ms : List Machine) (slot : ℕ) (cells : List (Option Cell)) (ideal
     ideal_slot ms slot cells ideal ≡ Ok (record { gone = gone; after = next }) →
     (fronts (filled r.came ideal.lists) ≡ gone) × (rests (filled r.came ideal.lists) ≡ next.lists)
 unfolding ideal_slot
-sends_are ms slot cells ideal r gone next ranked sent = grind (arith, common_steps, sent_from)
+sends_are ms slot cells ideal r gone next ranked sent = search (arith, rules, sent_from)
 
 -- ## A slot
 
@@ -148,7 +126,7 @@ module _ {ms : List Machine} {slot : ℕ} {q : Queues} {ranks : List (List ℕ)}
   full = filled came known.ideal.lists
 
   ideally : ranking ms slot 0 cells known.ideal.ranks ≡ Ok (record { came = came; ranks = ranks' })
-  ideally = ap (λ (r : List (List ℕ)). ranking ms slot 0 cells r) (sym known.agrees.ranks) ∙ known.ranked
+  ideally = search (rules)
 
   -- the outputs hold what the fabric has at the end of the slot
   pub still_holds : (gone : List (Option Queued)) (g : Fabric) (before judged after : LimiterView) →
@@ -158,15 +136,12 @@ module _ {ms : List Machine} {slot : ℕ} {q : Queues} {ranks : List (List ℕ)}
   still_holds gone g before judged after alike holds judges releases =
       let ranked : Ranking = record { came = came; ranks = ranks' } in
       let sends = sends_are ms slot cells known.ideal ranked gone alike.next ideally alike.sent in
-      let now : HoldsLists full judged =
-      holds_filled came cells known.ideal.lists full before judged
-      (holds_ideal slot (fabric_of q ranks) known.ideal before known.agrees holds) refl judges.limits judges.as_many
-      judges.more (came_for ms slot cells ranks ranked known.ranked) in
+      let now : HoldsLists full judged = holds_filled came cells known.ideal.lists full before judged
+      (holds_ideal slot (fabric_of q ranks) known.ideal before known.agrees holds) refl judges.limits
+      judges.as_many judges.more (came_for ms slot cells ranks ranked known.ranked) in
       let left : HoldsLists (rests full) after =
-      holds_rests full judged after now releases.limits releases.ports
-      (λ j.
+      holds_rests full judged after now releases.limits releases.ports (λ j.
       let e = ap (λ (l : List (Option Queued)). bit (came_to l j)) sends.0 in
-      let n = releases.held j in
-      omega arith) in
+      let n = releases.held j in omega arith) in
       holds_fabric (slot + 1) g alike.next after alike.agrees
       (subst (λ (l : List (List Queued)). HoldsLists l after) sends.1 left)

@@ -1,36 +1,18 @@
 -- The cell that arrived last in a list. All others arrived in slots before, so its slot finds it; and the cells for its
 -- output that stand ahead of it are more urgent, so its key finds it too.
-use Rattle.std.proofs.lemmas.Grind.{common_steps}
-use Rattle.std.proofs.Common.{rules, ◌≡◌, ◌≢◌, ℕ, zero, suc, ◌<◌, ◌≤◌, eqb, Bool, true, false, not, List, [], ◌∷◌, length, Some, refl, ap, ◌∙◌, arith}
-use Rattle.std.specs.Prelude.{◌&&◌, insert, slice_get}
-use Rattle.std.specs.List.{position_or_len}
-use Rattle.std.proofs.lemmas.Bool.{eq-eqb, ne_eqb, cases_eq}
-use Rattle.std.proofs.lemmas.Option.{same_Some}
-use Rattle.cq_base.specs.declared.cell.Queued.{Queued}
-use Rattle.cq_base.specs.Key.{is_before}
-use Rattle.cq_base.specs.Cells.{KeepsOrder, ArrivedBefore, is_for, place_of_arrival, with_arrival}
-use Rattle.cq_base.proofs.Keys.{key_laws}
-use Rattle.cq_base.proofs.Lists.{all_at, first_here, first_later}
-use Rattle.cq_fabric.specs.Newest.{IsNewest}
+use Rattle.cq_fabric.proofs.Terms.{common_steps, rules, ◌≡◌, ◌≢◌, ℕ, zero, suc, ◌<◌, ◌≤◌, eqb, Bool, true, false, not, List, [], ◌∷◌, length, Some, refl, arith, ◌&&◌, insert, slice_get, position_or_len, eq-eqb, ne_eqb, cases_eq, same_Some, Queued, is_before, KeepsOrder, ArrivedBefore, is_for, place_of_arrival, with_arrival, key_laws, all_at, first_here, first_later, IsNewest}
 
 -- an older cell ahead
 newest_later : (y c : Queued) (xs : List Queued) → y.key.slot < c.key.slot → IsNewest c xs → IsNewest c (y ∷ xs)
-newest_later y c xs older rest = record { place = suc rest.place; at = rest.at; alone = alone }
-  where
-    alone : (t : ℕ) (x : Queued) → slice_get (y ∷ xs) t ≡ Some x → x.key.slot ≡ c.key.slot → t ≡ suc rest.place
-    alone zero x at same =
-        let slot : y.key.slot ≡ x.key.slot = ap (λ (q : Queued). q.key.slot) (same_Some y x at) in
-        absurd (omega arith)
-    alone (suc t) x at same = ap suc (rest.alone t x at same)
+newest_later y c xs older rest =
+    let all = rest.alone in
+    record { place = suc rest.place; at = rest.at; alone = λ t x at same. grind (arith, common_steps, all, same_Some) }
 
 newest_insert : (xs : List Queued) (p : ℕ) (c : Queued) → p ≤ length xs → ArrivedBefore c.key.slot xs →
     IsNewest c (insert xs p c)
-newest_insert xs zero c inside before = record { place = 0; at = refl; alone = alone }
-  where
-    alone : (t : ℕ) (x : Queued) → slice_get (c ∷ xs) t ≡ Some x → x.key.slot ≡ c.key.slot → t ≡ 0
-    alone zero x at same = refl
-    alone (suc t) x at same = let older : x.key.slot < c.key.slot =
-        all_at (λ y. y.key.slot < c.key.slot) xs t x before at in absurd (omega arith)
+newest_insert xs zero c inside before =
+    let late = all_at (λ y. y.key.slot < c.key.slot) xs in
+    record { place = 0; at = refl; alone = λ t x at same. grind (arith, common_steps, late) }
 newest_insert [] (suc p) c inside before = absurd (omega arith)
 newest_insert (y ∷ xs) (suc p) c inside before =
     newest_later y c (insert xs p c) before.0 (newest_insert xs p c (omega arith) before.1)
@@ -50,8 +32,7 @@ in_slot c x = eqb x.key.slot c.key.slot
 
 finds_itself : (c : Queued) → no_sooner c c ≡ true
 unfolding no_sooner
-finds_itself c = ap (λ b. b && not (is_before c.key c.key)) (eq-eqb c.cell.output c.cell.output refl)
-    ∙ ap not (key_laws.never_itself c.key)
+finds_itself c = grind (arith, common_steps, eq-eqb, key_laws.never_itself)
 
 -- a cell ahead of it is for another output, or more urgent
 passes_by : (c x : Queued) → (x.cell.output ≡ c.cell.output → is_before x.key c.key ≡ true) → no_sooner c x ≡ false

@@ -1,27 +1,8 @@
 -- Lists and buffers with their rooms. A cell that goes into a list takes the room that the list has for it, and a
 -- cell that leaves gives it back, so that no list and no buffer can hold more cells, or fewer, than before.
-use Rattle.std.proofs.lemmas.Grind.{common_steps}
-use Rattle.std.proofs.Common.{rules, ◌≡◌, ℕ, zero, suc, ◌+◌, ◌<◌, ◌≤◌, cond, List, [], ◌∷◌, ◌++◌, length, map, get_or, take, drop, Option, Some, None, refl, sym, ap, ◌∙◌, ⊎_elim, arith, replicate}
-use Rattle.std.specs.Prelude.{is_some, slice_get}
+use Rattle.cq_fabric.proofs.Terms.{zero, suc, common_steps, rules, ◌≡◌, ℕ, ◌+◌, ◌<◌, ◌≤◌, cond, List, [], ◌∷◌, ◌++◌, length, map, get_or, take, drop, Option, Some, None, refl, sym, ap, ◌∙◌, ⊎_elim, arith, replicate, is_some, slice_get, cases_lt, cond_both, length-map, get_or_default, get_or_past, ext_get_or, drop_all, take_all, append-nil, get_or-replicate, length-insert, Queued, is_for, first_for, without_first, fronts, rests, Waiting, cells_of, Buffered, cells_in, list_of, FirstKeysDiffer, orders_of, output_order, Moves, Orders, Partners, IsMatching, are_orders, HaveCells, HaveRoom, MovesRoom, list_spare, buffer_spare, partner_or_free, length_put, came_to, list_arrived, among_at, first_at, Queues, FitLists, KeysApart, CanCross, FitEach, AreSquare, list_room, buffer_room, fabric_of, no_list, list_at, list_with, front_of, popped}
 use Rattle.std.proofs.Math.ListN.{get_or-map}
-use Rattle.std.proofs.lemmas.Bool.{cases_lt, cond_both}
-use Rattle.std.proofs.lemmas.List.{length-map, get_or-map as get_or-map_inside, get_or_past, ext_get_or, drop_all, take_all, append-nil, get_or-replicate}
-use Rattle.std.proofs.lemmas.List.Edits.{length-insert}
-use Rattle.cq_base.specs.declared.cell.Queued.{Queued}
-use Rattle.cq_base.specs.Cells.{is_for, first_for, without_first}
-use Rattle.cq_ideal.specs.IdealSlot.{fronts, rests}
-use Rattle.cq_list.specs.InputList.{Waiting, cells_of}
-use Rattle.cq_urgency.specs.OutputBuffer.{Buffered, cells_in}
-use Rattle.cq_prefs.specs.FirstCells.{list_of, HasCellFor, FirstKeysDiffer, orders_of, output_order}
-use Rattle.cq_prefs.specs.Moves.{Moves, list_taken}
-use Rattle.cq_prefs.specs.Orders.{Orders}
-use Rattle.cq_prefs.specs.Pairing.{Partners, partner_of, IsMatching}
-use Rattle.cq_prefs.proofs.InputOrder.{are_orders}
-use Rattle.cq_xbar.specs.Crossbar.{HaveCells, HaveRoom, MovesRoom, list_spare, buffer_spare}
-use Rattle.cq_xbar.proofs.OneEach.{partner_or_free, put_length}
-use Rattle.cq_laws.specs.Phases.{came_to, list_arrived}
-use Rattle.cq_laws.proofs.Members.{among_at, first_at}
-use Rattle.cq_fabric.specs.Queues.{Queues, FitLists, KeysApart, CanCross, FitEach, AreSquare, list_room, buffer_room, fabric_of, no_list, list_at, list_with, front_of, popped}
+use Rattle.std.proofs.lemmas.List.{get_or-map as get_or-map_inside}
 
 -- what a slice of a vector leaves of the vector
 pub whole : {X : Type 0} (n : ℕ) (xs old : List X) → n ≡ length xs → length old ≡ length xs →
@@ -48,30 +29,17 @@ list_spare-at : (lists : List Waiting) (i : ℕ) → list_spare lists i ≡ (lis
 list_spare-at lists i = get_or-map (λ (w : Waiting). w.spare) lists i no_list
 
 -- a room is what waits and what is spare
-room_is : {X : Type 0} (cells : X → List Queued) (spare : X → ℕ) (none : X) (items : List X) (i : ℕ) →
-    get_or (map (λ x. length (cells x) + spare x) items) i (length (cells none) + spare none)
-    ≡ length (get_or (map cells items) i (cells none)) + get_or (map spare items) i (spare none)
-room_is {X} cells spare none items i = grind (arith, common_steps, get_or-map)
-
 list_room-is : (lists : List Waiting) (i : ℕ) →
     get_or (map list_room lists) i 0 ≡ length (list_of (cells_of lists) i) + list_spare lists i
-list_room-is lists i = room_is (λ (w : Waiting). w.cells) (λ (w : Waiting). w.spare) no_list lists i
+list_room-is lists i = rw (cells-at lists i, list_spare-at lists i) (room-at lists i)
 
 buffer_room-is : (buffers : List Buffered) (j : ℕ) →
     get_or (map buffer_room buffers) j 0 ≡ length (list_of (cells_in buffers) j) + buffer_spare buffers j
-buffer_room-is buffers j =
-    room_is (λ (b : Buffered). b.cells) (λ (b : Buffered). b.spare) (record { cells = []; spare = 0 }) buffers j
-
-pub get_or_same : {X : Type 0} (xs : List X) (i : ℕ) (d e : X) → i < length xs → get_or xs i d ≡ get_or xs i e
-get_or_same [] i d e l = absurd (omega arith)
-get_or_same (x ∷ xs) zero d e l = refl
-get_or_same (x ∷ xs) (suc i) d e l = get_or_same xs i d e (omega arith)
+buffer_room-is [] j = omega arith
+buffer_room-is (b ∷ buffers) zero = refl
+buffer_room-is (b ∷ buffers) (suc j) = buffer_room-is buffers j
 
 -- ## Lists of lists
-
-mapped_long : {X Y : Type 0} (f : X → Y) (new old : List X) → length (map f new) ≡ length (map f old) →
-    length new ≡ length old
-mapped_long f new old same = sym (length-map new f) ∙ same ∙ length-map old f
 
 -- rooms that are the same place by place
 same_rooms : {X : Type 0} (room : X → ℕ) (new old : List X) → length new ≡ length old →
@@ -95,16 +63,6 @@ pub fit_each : (lists : List Waiting) (buffers : List Buffered) (came : List (Op
 fit_each lists buffers came n square fit i c inside is =
     search (rules, list_room-is, list_spare-at, length-map, square.outputs, cells-at)
 
-cells_with : (lists : List Waiting) (buffers : List Buffered) (came : Option Queued) (w : Waiting) →
-    (list_with (cells_in buffers) came w).cells ≡ list_arrived (fabric_of (shown lists buffers) []) came w.cells
-cells_with lists buffers None w = refl
-cells_with lists buffers (Some c) w = refl
-
-outputs_with : (buffers : List (List Queued)) (came : Option Queued) (w : Waiting) →
-    (list_with buffers came w).outputs ≡ w.outputs
-outputs_with buffers None w = refl
-outputs_with buffers (Some c) w = refl
-
 room_with : (buffers : List (List Queued)) (came : Option Queued) (w : Waiting) →
     ((c : Queued) → came ≡ Some c → 0 < w.spare) → list_room (list_with buffers came w) ≡ list_room w
 room_with buffers None w spare = refl
@@ -121,26 +79,19 @@ pub record HaveCome (lists : List Waiting) (buffers : List Buffered) (came : Lis
 
 module _ {lists : List Waiting} {buffers : List Buffered} {came : List (Option Queued)} {n : ℕ} {lists' : List Waiting}
     (known : HaveCome lists buffers came n lists') where
-  nobody_past : (i : ℕ) → length lists ≤ i → (o : Option Queued) → came_to came i ≡ o → o ≡ None
-  nobody_past i past None is = refl
-  nobody_past i past (Some c) is = grind (arith, common_steps, length-map)
-
   pub arrived_cells : (i : ℕ) →
       list_of (cells_of lists') i
       ≡ list_arrived (fabric_of (shown lists buffers) []) (came_to came i) (list_of (cells_of lists) i)
-  arrived_cells i = search (rules, cells-at, cells_with, get_or_past, length-map, nobody_past, cases_lt)
+  arrived_cells i = search (arith, rules, cells-at, get_or_past, length-map, cases_lt)
 
   pub arrived_rooms : map list_room lists' ≡ map list_room lists
-  arrived_rooms =
-      same_rooms list_room lists' lists known.long (λ i l.
-      let inside : i < length lists = omega arith in
-      room-at lists' i ∙ ap list_room (known.each i inside)
-      ∙ room_with (cells_in buffers) (came_to came i) (list_at lists i)
-      (λ c is. (fit_each lists buffers came n known.square known.fit i c inside is).room)
-      ∙ sym (room-at lists i))
+  arrived_rooms = same_rooms list_room lists' lists known.long (λ i l.
+      let fits = fit_each lists buffers came n known.square known.fit i in
+      let with = room_with (cells_in buffers) (came_to came i) (list_at lists i) in
+      search (arith, rules, room-at, known.each, with, fits))
 
   pub arrived_square : AreSquare lists' buffers n
-  arrived_square = search (rules, get_or_same, outputs_with)
+  arrived_square = search (arith, rules, get_or_default)
 
 -- ## A transfer
 
@@ -171,11 +122,6 @@ without_one : (j : ℕ) (xs : List Queued) (c : Queued) → first_for j xs ≡ S
 without_one j [] c h = absurd (let P : ⊥ = cc in P)
 without_one j (x ∷ xs) c h = grind (arith, common_steps, cond_both, without_one j xs c)
 
-taken_room : (p : Option ℕ) (xs : List Queued) (spare : ℕ) → ((j : ℕ) → p ≡ Some j → HasCellFor xs j) →
-    length (list_taken p xs) + (spare + cond (is_some p) 1 0) ≡ length xs + spare
-taken_room None xs spare has = omega arith
-taken_room (Some j) xs spare has = let c = has j refl in let one = without_one j xs c.0 c.1 in omega arith
-
 -- the first cells of the pairs of a matching went from these lists into these buffers
 pub record HaveCrossed (m : Partners) (lists : List Waiting) (buffers : List Buffered) (lists' : List Waiting)
     (buffers' : List Buffered) : Type 0 where
@@ -187,40 +133,25 @@ pub record HaveCrossed (m : Partners) (lists : List Waiting) (buffers : List Buf
 module _ {m : Partners} {lists : List Waiting} {buffers : List Buffered} {lists' : List Waiting}
     {buffers' : List Buffered} (known : HaveCrossed m lists buffers lists' buffers') where
   pub lists_long : length lists' ≡ length lists
-  lists_long = mapped_long (λ (w : Waiting). w.cells) lists' lists known.moves.ports.0
+  lists_long = search (arith, rules, length-map)
 
   pub buffers_long : length buffers' ≡ length buffers
-  buffers_long = mapped_long (λ (b : Buffered). b.cells) buffers' buffers known.moves.ports.1
+  buffers_long = search (arith, rules, length-map)
 
   pub crossed_list_rooms : map list_room lists' ≡ map list_room lists
-  crossed_list_rooms =
-      same_rooms list_room lists' lists lists_long (λ i _.
-      let now = list_room-is lists' i in
-      let then = list_room-is lists i in
-      let taken = ap length (known.moves.taken i) in
-      let gained = known.rooms.gained i in
-      let same =
-      taken_room (partner_of m i) (list_of (cells_of lists) i) (list_spare lists i) (λ j p. known.have i j p) in
-      omega arith)
+  crossed_list_rooms = search (arith, rules, same_rooms, lists_long, list_room-is, without_one)
 
   pub crossed_buffer_rooms : map buffer_room buffers' ≡ map buffer_room buffers
   crossed_buffer_rooms = same_rooms buffer_room buffers' buffers buffers_long (λ j _.
       let now = buffer_room-is buffers' j in
       let then = buffer_room-is buffers j in
-      ⊎_elim (λ r. search (arith, rules, put_length (known.have r.0 j r.1).0 (list_of (cells_in buffers) j)))
+      ⊎_elim (λ r. search (arith, rules, length_put (known.have r.0 j r.1).0 (list_of (cells_in buffers) j)))
       (λ free. search (arith, rules)) (partner_or_free m j))
 
   pub crossed_square : (n : ℕ) → AreSquare lists buffers n → AreSquare lists' buffers' n
   crossed_square n square =
-      record {
-        few = let e = lists_long in omega arith;
-        as_many = buffers_long ∙ square.as_many ∙ sym lists_long;
-        offered = square.offered ∙ sym lists_long;
-        outputs = λ k d l.
-            let out : Waiting → ℕ = λ w. w.outputs in
-            search
-            (arith, rules, lists_long, get_or-map out lists' k d, get_or-map out lists k d, square.outputs k d);
-      }
+      let out : Waiting → ℕ = λ w. w.outputs in
+      search (arith, rules, lists_long, buffers_long, get_or-map out, square.outputs)
 
 -- ## Departures
 
@@ -232,14 +163,9 @@ pub rests_shown : (buffers : List Buffered) → cells_in (map popped buffers) �
 rests_shown [] = refl
 rests_shown (b ∷ buffers) = ap (λ l. drop 1 b.cells ∷ l) (rests_shown buffers)
 
-popped_room : (xs : List Queued) (spare : ℕ) →
-    length (drop 1 xs) + (spare + cond (is_some (slice_get xs 0)) 1 0) ≡ length xs + spare
-popped_room [] spare = omega arith
-popped_room (x ∷ xs) spare = omega arith
-
 pub rooms_shown : (buffers : List Buffered) → map buffer_room (map popped buffers) ≡ map buffer_room buffers
 rooms_shown [] = refl
-rooms_shown (b ∷ buffers) = grind (arith, common_steps, popped_room, rooms_shown buffers)
+rooms_shown (b ∷ buffers) = search (arith, rules, rooms_shown buffers)
 
 pub popped_square : (lists : List Waiting) (buffers : List Buffered) (n : ℕ) → AreSquare lists buffers n →
     AreSquare lists (map popped buffers) n
@@ -251,12 +177,7 @@ pub new_square : (lists : List Waiting) (buffers : List Buffered) (n k : ℕ) �
     map (λ w. w.outputs) lists ≡ replicate k k → length lists ≡ k → length buffers ≡ k → AreSquare lists buffers n
 new_square lists buffers n k few offered outputs long as_many =
     let out : Waiting → ℕ = λ w. w.outputs in
-    record {
-      few = omega arith;
-      as_many = as_many ∙ sym long;
-      offered = offered ∙ sym long;
-      outputs = λ t d l. search (arith, rules, get_or-map out lists t d, get_or-replicate k t k (out d));
-    }
+    search (arith, rules, get_or-map out, get_or-replicate)
 
 -- ## One place
 

@@ -1,28 +1,15 @@
 -- Slots in which nothing waits and nothing comes. The first of them tells each machine that its output was idle, and
 -- the others change nothing. After them the fabric is as empty as before, so it is in step with an ideal switch that
 -- is empty too.
-use Rattle.std.proofs.lemmas.Grind.{common_steps}
-use Rattle.std.proofs.Common.{◌≡◌, ℕ, zero, suc, ◌<◌, Bool, List, Option, length, replicate, refl, arith, sym, ap, ◌∙◌, subst}
-use Rattle.cq_base.specs.Arrivals.{no_arrivals}
-use Rattle.cq_rank.specs.Machine.{Machine}
-use Rattle.cq_ideal.specs.Admission.{marked}
+use Rattle.cq_fabric.proofs.Terms.{common_steps, ◌≡◌, ℕ, zero, suc, ◌<◌, Bool, List, Option, length, replicate, refl, arith, rules, no_arrivals, Machine, marked, IdealState, IsInputBest, Agrees, Fabric, IsEmptyFabric, empty_fabric, LimitedFabricRun, LimiterView, fabric_held, HoldsFabric, Queues, fabric_of}
 use Rattle.cq_ideal.specs.IdealRun.{empty_ideal}
-use Rattle.cq_ideal.specs.IdealSlot.{IdealState}
 use Rattle.cq_ideal.specs.Parts.{all_idle}
-use Rattle.cq_prefs.specs.Pairing.{IsInputBest}
-use Rattle.cq_laws.specs.Agreement.{Agrees}
-use Rattle.cq_laws.specs.Fabric.{Fabric, IsEmptyFabric, empty_fabric}
 use Rattle.cq_laws.specs.FabricRun.{FabricRun}
 use Rattle.cq_laws.specs.Quiet.{idled, idled_for, quiet_slots}
-use Rattle.cq_laws.specs.LimitedFabric.{LimitedFabricRun}
 use Rattle.cq_laws.specs.LimitedQuiet.{quiet_limited_slots}
 use Rattle.cq_laws.proofs.NothingRefused.{none_come, run_with}
 use Rattle.cq_laws.proofs.QuietSlots.{empty_is, quiet_run}
 use Rattle.cq_laws.proofs.WholeRuns.{empty_agree_at}
-use Rattle.cq_ideal.specs.Limiter.{LimiterView}
-use Rattle.cq_laws.specs.Holding.{fabric_held}
-use Rattle.cq_fabric.specs.Held.{HoldsFabric}
-use Rattle.cq_fabric.specs.Queues.{Queues, fabric_of}
 
 -- ## The machines
 
@@ -53,15 +40,9 @@ pub rested_run : (ms : List Machine) (ports count slot : ℕ) (f : Fabric) (rest
     FabricRun IsInputBest ms slot (replicate count no_arrivals) f (quiet_slots ms count slot ports f.ranks)
     (record { inputs = f.inputs; buffers = f.buffers; ranks = rested })
 rested_run ms ports count slot f rested empty square long some is again =
-    let opening : f ≡ empty_fabric ports f.ranks =
-    empty_is f empty square ∙ ap (λ (n : ℕ). empty_fabric n f.ranks) long in
-    let Run : Fabric → Fabric → Type 0 = λ from to.
-    FabricRun IsInputBest ms slot (replicate count no_arrivals) from (quiet_slots ms count slot ports f.ranks) to in
-    let there : Run (empty_fabric ports f.ranks) (empty_fabric ports rested) =
-    subst (λ (ranks : List (List ℕ)). Run (empty_fabric ports f.ranks) (empty_fabric ports ranks))
-    (idle_once ms ports count f.ranks rested some is again) (quiet_run ms count slot ports f.ranks) in
-    subst (λ (from : Fabric). Run from (with_ranks f rested)) (sym opening)
-    (subst (λ (to : Fabric). Run (empty_fabric ports f.ranks) (with_ranks to rested)) (sym opening) there)
+    let opening : f ≡ empty_fabric ports f.ranks = search (arith, rules, empty_is f empty square) in
+    let once = idle_once ms ports count f.ranks rested some is again in
+    rw (opening, ← once) (quiet_run ms count slot ports f.ranks)
 
 -- an empty fabric agrees with an empty ideal switch, whatever the slot
 pub rested_agrees : (slot later : ℕ) (f : Fabric) (ideal : IdealState) (rested : List (List ℕ)) → IsEmptyFabric f →

@@ -1,15 +1,5 @@
 -- How many cells buffers can hold: no fewer than they do, and so many that a number of 64 bits counts them.
-use Rattle.std.proofs.lemmas.Grind.{common_steps}
-use Rattle.std.proofs.Common.{◌≡◌, ℕ, zero, suc, ◌+◌, ◌^◌, ◌<◌, ◌≤◌, List, [], ◌∷◌, ◌++◌, length, map, get_or, take, replicate, arith, sym, ap, subst}
-use Rattle.std.specs.Prelude.{All}
-use Rattle.std.proofs.lemmas.Bool.{cases_lt}
-use Rattle.std.proofs.lemmas.List.{get_or_past, take_more}
-use Rattle.std.proofs.lemmas.List.Elements.{All-push}
-use Rattle.cq_ideal.proofs.Changed.{map_next, map_same}
-use Rattle.cq_urgency.specs.OutputBuffer.{Buffered, cells_in}
-use Rattle.cq_prefs.specs.FirstCells.{list_of}
-use Rattle.cq_fabric.specs.Queues.{buffer_room}
-use Rattle.cq_base.specs.declared.cell.Queued.{Queued}
+use Rattle.cq_fabric.proofs.Terms.{common_steps, ◌≡◌, ℕ, zero, suc, ◌+◌, ◌^◌, ◌<◌, ◌≤◌, List, [], ◌∷◌, ◌++◌, length, map, get_or, take, replicate, arith, ap, All, cases_lt, get_or_past, take_more, All-push, map_next, map_same, Buffered, cells_in, list_of, buffer_room, Queued}
 
 pub within_rooms : (buffers : List Buffered) (j : ℕ) →
     length (list_of (cells_in buffers) j) ≤ get_or (map buffer_room buffers) j 0
@@ -33,13 +23,7 @@ pub one_made : (sizes : List ℕ) (n : ℕ) (buffers more : List Buffered) (b : 
     get_or sizes n 0 < 2 ^ 64 → Made sizes (n + 1) more
 one_made sizes n buffers more b made is inside empty spare one =
     let none : List Queued = [] in
-    let cells : Buffered → List Queued = λ x. x.cells in
-    let few : ℕ → Type 0 = λ room. room < 2 ^ 64 in
-    let room : buffer_room b ≡ get_or sizes n 0 = let long = ap length empty in omega (arith, spare) in
-    record {
-      cells = map_same cells none n buffers more b made.cells is empty;
-      rooms = map_next buffer_room sizes n buffers more b 0 made.rooms is inside room;
-      few =
-          subst (All few) (sym (take_more sizes n 0 inside))
-          (All-push few (take n sizes) (get_or sizes n 0) made.few one);
-    }
+    let few = All-push (λ room. room < 2 ^ 64) (take n sizes) (get_or sizes n 0) made.few one in
+    let long = ap length empty in
+    let cells = map_same (λ (x : Buffered). x.cells) none n buffers more b in
+    grind (arith, common_steps, cells, map_next, take_more sizes n 0 inside)

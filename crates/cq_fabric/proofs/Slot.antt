@@ -3,45 +3,13 @@
 -- ones of this slot, and each cell that waits has slack 1, so that the more urgent cells for an output stand below
 -- the cushion of one that comes. Of the rooms it is enough that the buffer of each output for which a cell waits or
 -- comes has room for one: where the first matching fills that room, the output sends a cell and has it again.
-use Rattle.std.proofs.lemmas.Grind.{common_steps}
-use Rattle.std.proofs.Common.{rules, ◌≡◌, ℕ, zero, suc, ◌+◌, ◌-◌, ◌<◌, ◌≤◌, true, List, [], ◌∷◌, length, get_or, drop, Option, Some, None, refl, sym, ap, ◌∙◌, subst, inl, inr, ⊎_elim, arith, ◌⊎◌}
-use Rattle.std.specs.Prelude.{IfSome, filter, slice_get}
-use Rattle.std.proofs.lemmas.Bool.{cases_lt, cond_both, eqb-true, eq-eqb}
-use Rattle.std.proofs.lemmas.List.{get_or-map, get_or_past, length-map}
-use Rattle.std.proofs.lemmas.Option.{same_Some}
-use Rattle.cq_base.specs.declared.cell.Cell.{Cell}
-use Rattle.cq_base.specs.declared.cell.Queued.{Queued}
-use Rattle.cq_base.specs.declared.key.Key.{Key}
-use Rattle.cq_base.specs.Arrivals.{arrival_at}
-use Rattle.cq_base.specs.Cells.{ArrivedBefore, is_for, put}
-use Rattle.cq_rank.specs.Machine.{Machine}
-use Rattle.cq_ideal.specs.Ideal.{count_for}
-use Rattle.cq_ideal.specs.Limiter.{LimiterView}
-use Rattle.cq_ideal.specs.Ranking.{AreForPorts, Ranking}
-use Rattle.cq_ideal.specs.IdealSlot.{fronts}
-use Rattle.cq_prefs.specs.FirstCells.{list_of, orders_of, output_order}
-use Rattle.cq_prefs.specs.Moves.{list_taken, transfers_of}
-use Rattle.cq_prefs.specs.Pairing.{Partners, partner_of, IsMatching, IsStable}
-use Rattle.cq_xbar.specs.Crossbar.{HaveCells}
+use Rattle.cq_fabric.proofs.Terms.{common_steps, rules, ◌≡◌, ℕ, zero, suc, ◌+◌, ◌-◌, ◌<◌, ◌≤◌, true, List, [], ◌∷◌, length, get_or, drop, Option, Some, None, refl, sym, ap, ◌∙◌, subst, inl, inr, ⊎_elim, arith, ◌⊎◌, IfSome, filter, cases_lt, cond_both, eqb-true, eq-eqb, get_or-map, get_or_past, length-drop, length-map, same_Some, Cell, Queued, Key, arrival_at, ArrivedBefore, is_for, Machine, count_for, LimiterView, AreForPorts, Ranking, fronts, list_of, orders_of, list_taken, transfers_of, Partners, partner_of, IsMatching, IsStable, HaveCells, partner_or_free, length_put, SendsAlike, Fabric, IsAmong, waiting_for, came_to, list_arrived, Arrives, Transfers, Departs, SlotRecord, FabricSlot, all_from, among_at, first_at, among_insert, left_among, Sound, came_from, keyed_from, rest_of, HoldsFabric, IsNewest, Queues, ComeApart, FitLists, CanCross, fabric_of}
 use Rattle.cq_xbar.proofs.Noting.{noted_all, noted_few}
-use Rattle.cq_xbar.proofs.OneEach.{partner_or_free, put_length}
-use Rattle.cq_laws.specs.Agreement.{SendsAlike}
-use Rattle.cq_laws.specs.Fabric.{Fabric, IsAmong}
-use Rattle.cq_laws.specs.Holding.{waiting_for}
-use Rattle.cq_laws.specs.Phases.{came_to, list_arrived, Arrives, Transfers, Departs}
-use Rattle.cq_laws.specs.FabricSlot.{SlotRecord, FabricSlot}
-use Rattle.cq_laws.proofs.Members.{all_from, among_at, first_at, among_insert, left_among}
-use Rattle.cq_laws.proofs.Sound.{Sound}
 use Rattle.cq_laws.proofs.AfterArrivals.{Keyed, arrived_sound}
 use Rattle.cq_laws.proofs.AfterTransfer.{moved_sound}
 use Rattle.cq_laws.proofs.AfterDepartures.{sent_sound}
-use Rattle.cq_laws.proofs.Came.{came_from, keyed_from}
 use Rattle.cq_laws.proofs.Entered.{can_cross as firsts_cross, fits_list}
-use Rattle.cq_laws.proofs.Falls.{rest_of}
 use Rattle.cq_laws.proofs.OneSlot.{same_slot, sound_from}
-use Rattle.cq_fabric.specs.Held.{HoldsFabric}
-use Rattle.cq_fabric.specs.Newest.{IsNewest}
-use Rattle.cq_fabric.specs.Queues.{Queues, ComeApart, FitLists, CanCross, fabric_of}
 use Rattle.cq_fabric.proofs.Known.{AreRanked, BuffersHaveRoom, HaveArrived, HaveJudged, HaveMoved, HaveSent, ListsHaveRoom}
 use Rattle.cq_fabric.proofs.Limits.{held_at}
 use Rattle.cq_fabric.proofs.Newest.{newest_arrived}
@@ -77,9 +45,7 @@ can_cross slot q ranks sound room =
     let firsts = firsts_cross slot (fabric_of q ranks) sound in
     record {
       apart = λ i k c d a b e. (sound.apart.waiting i k c d a b e).0;
-      room = λ i j has.
-          let p = first_at (is_for j) (list_of q.inputs i) has.0 has.1 in
-          room i j has.0 (among_at (list_of q.inputs i) p.place has.0 p.at) (eqb-true has.0.cell.output j p.passes);
+      room = λ i j has. search (arith, rules, first_at (is_for j) (list_of q.inputs i) has.0 has.1, among_at, eqb-true);
       keys = firsts.keys;
     }
 
@@ -90,27 +56,17 @@ came_or_was f (Some n) xs c h = ⊎_elim (λ e. inl (ap Some e)) (λ k. inr k) (
 
 -- a list without its first cell is shorter by one, or empty as before
 length_rest : (xs : List Queued) → length (drop 1 xs) ≡ length xs - 1
-length_rest [] = refl
-length_rest (x ∷ xs) = omega arith
+length_rest xs = omega (arith, length-drop 1 xs)
 
 taken_among : (p : Option ℕ) (xs : List Queued) (c : Queued) → IsAmong c (list_taken p xs) → IsAmong c xs
 taken_among None xs c h = h
 taken_among (Some j) xs c h = left_among j xs c h
 
--- the list of an input after arrivals does not depend on the states of the rank machines
-list_same : (q : Queues) (a b : List (List ℕ)) (came : Option Queued) (xs : List Queued) →
-    list_arrived (fabric_of q a) came xs ≡ list_arrived (fabric_of q b) came xs
-list_same q a b None xs = refl
-list_same q a b (Some c) xs = refl
-
 -- how many transfers a matching has
 pub few_cross : (m : Partners) (lists : List (List Queued)) (slot phase : ℕ) → IsMatching (orders_of lists) m →
     length (transfers_of m lists slot phase) ≤ length lists
 few_cross m lists slot phase matching =
-    let all = ap length (noted_all m lists slot phase) in
-    let few = noted_few m lists slot phase (length m) in
-    let size = matching.size ∙ length-map lists output_order in
-    omega arith
+    grind (arith, common_steps, noted_all m lists slot phase, noted_few m lists slot phase (length m), length-map)
 
 -- ## A slot
 
@@ -150,20 +106,19 @@ module _ {ms : List Machine} {slot : ℕ} {q0 : Queues} {ranks0 : List (List ℕ
 
   pub fits_lists : ListsHaveRoom q0 cells → FitLists came q0
   fits_lists room i c is =
-      let old = fabric_of q0 ranks0 in
-      let fits = fits_list ms slot classes cells came old known.ideal known.agrees come ranks1 known.ranked i c is in
-      let spare = room i c.cell (arrival i c is) in search (arith, rules)
+      let fits = fits_list ms slot classes cells came _ known.ideal known.agrees come ranks1 known.ranked i c is in
+      search (arith, rules, room i c.cell (arrival i c is))
 
   module _ {q1 : Queues} (arrived : HaveArrived q0 came q1) where
     pub arrive : Arrives ms slot cells came (fabric_of q0 ranks0) (fabric_of q1 ranks1)
-    arrive = grind (arith, common_steps, list_same)
+    arrive = search (arith, rules)
 
     -- a cell that came is the newest of its list
     pub came_newest : (i : ℕ) (c : Queued) → came_to came i ≡ Some c → IsNewest c (list_of q1.inputs i)
     came_newest i c is =
-        let old = list_of q0.inputs i in
-        let before : ArrivedBefore c.key.slot old =
-        all_from _ old (λ d h. let lt = sound0.early.waiting i d h in let at = keyed.slot_is i c is in omega arith) in
+        let at = keyed.slot_is i c is in
+        let before : ArrivedBefore c.key.slot (list_of q0.inputs i) =
+        all_from _ _ (λ d h. search (arith, rules, sound0.early.waiting i d h)) in
         search (arith, rules, newest_arrived)
 
     sound1 : Sound (slot + 1) (fabric_of q1 ranks1)
@@ -173,10 +128,9 @@ module _ {ms : List Machine} {slot : ℕ} {q0 : Queues} {ranks0 : List (List ℕ
     one_waits : (i j : ℕ) (c : Queued) → IsAmong c (list_of q1.inputs i) → c.cell.output ≡ j →
         1 ≤ waiting_for j q0.inputs + count_for j cells
     one_waits i j c h e =
-        ⊎_elim
-        (λ new. let one = arrives_one j cells i c.cell (arrival i c new) e in omega arith)
-        (λ was. let one = waits_one j q0.inputs i c was e in omega arith)
-        (came_or_was (fabric_of q0 []) (came_to came i) (list_of q0.inputs i) c (subst (IsAmong c) (arrived.lists i) h))
+        ⊎_elim (λ new. search (arith, rules, arrives_one, arrival))
+        (λ was. search (arith, rules, waits_one j q0.inputs i c was e))
+        (came_or_was (fabric_of q0 []) (came_to came i) (list_of q0.inputs i) c (rw (arrived.lists i) at h))
 
     module _ (room : BuffersHaveRoom (length ms) q0 cells) where
       room1 : (i j : ℕ) (c : Queued) → IsAmong c (list_of q1.inputs i) → c.cell.output ≡ j →
@@ -198,21 +152,15 @@ module _ {ms : List Machine} {slot : ℕ} {q0 : Queues} {ranks0 : List (List ℕ
         sent_was_held j some = ⊎_elim (λ r.
             let cell = crossing r.0 j r.1 in
             let p = first_at (is_for j) (list_of q1.inputs r.0) cell.0 cell.1 in
-            let among = among_at (list_of q1.inputs r.0) p.place cell.0 p.at in
-            search (arith, rules, one_waits r.0 j cell.0 among, eqb-true cell.0.cell.output j p.passes))
+            search (arith, rules, one_waits r.0 j cell.0, among_at, eqb-true))
             (λ free. search (arith, rules)) (partner_or_free m1 j)
 
         module _ {before judged : LimiterView} (holds : HoldsFabric (fabric_of q0 ranks0) before)
             (judges : HaveJudged cells before judged) where
-          held_one : (j : ℕ) → j < length q0.inputs → (cells : List Queued) →
-              length (list_of q2.buffers j) ≡ length cells →
-              IfSome (slice_get cells 0) (λ _. 0 < get_or judged.held j 0)
-          held_one j inside [] e = tt
-          held_one j inside (c ∷ cells) e = grind (arith, common_steps, sent_was_held, held_at)
-
           -- so the number that is kept of it is not 0
           pub held_before : (j : ℕ) → IfSome (came_to (fronts q2.buffers) j) (λ _. 0 < get_or judged.held j 0)
-          held_before j = grind (arith, common_steps, length-map, get_or-map, held_one, get_or_past, cases_lt)
+          held_before j =
+              grind (arith, common_steps, length-map, get_or-map, get_or_past, cases_lt, sent_was_held, held_at)
 
         module _ {ranks2 : List (List ℕ)} {q3 : Queues} (sent : HaveSent ms q1 ranks1 q2 ranks2 q3) where
           pub fill : Transfers m1 (fabric_of q1 ranks1) (fabric_of q2 ranks1)
@@ -221,27 +169,17 @@ module _ {ms : List Machine} {slot : ℕ} {q0 : Queues} {ranks0 : List (List ℕ
           pub depart : Departs ms (fronts q2.buffers) (fabric_of q2 ranks1) (fabric_of q3 ranks2)
           depart = record { sent = refl; buffers = sent.buffers; inputs = sent.inputs; ranks = sent.told }
 
-          sound2 : Sound (slot + 1) (fabric_of q2 ranks1)
-          sound2 = moved_sound (slot + 1) (fabric_of q1 ranks1) (fabric_of q2 ranks1) m1 sound1 moved1.stable fill
-
           sound3 : Sound (slot + 1) (fabric_of q3 ranks2)
-          sound3 = search (rules, sent_sound, depart, sound2)
+          sound3 = search (arith, rules, sent_sound, depart, moved_sound, sound1, fill)
 
           -- no buffer is longer than before the first matching
           no_longer : (j : ℕ) → length (list_of q3.buffers j) ≤ length (list_of q1.buffers j)
           no_longer j =
               let rest = ap (λ bs. length (list_of bs j)) sent.buffers ∙ ap length (rest_of q2.buffers j) in
-              ⊎_elim
-              (λ r.
-              let cell = crossing r.0 j r.1 in
-              let given = ap (λ l. length (drop 1 l)) (moved1.moves.given r.0 j cell.0 r.1 cell.1) in
-              let longer = put_length cell.0 (list_of q1.buffers j) in
-              let less = length_rest (put cell.0 (list_of q1.buffers j)) in
-              omega arith)
-              (λ free.
-              let kept = ap (λ l. length (drop 1 l)) (moved1.moves.kept j free) in
-              let less = length_rest (list_of q1.buffers j) in
-              omega arith)
+              ⊎_elim (λ r. let cell = crossing r.0 j r.1 in
+              let given = moved1.moves.given r.0 j cell.0 r.1 cell.1 in
+              grind (arith, common_steps, length_put, length_rest))
+              (λ free. let kept = moved1.moves.kept j free in grind (arith, common_steps, length_rest))
               (partner_or_free m1 j)
 
           pub can_cross_second : CanCross q3

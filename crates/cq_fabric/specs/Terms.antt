@@ -10,7 +10,6 @@ pub use Rattle.cq_xbar.specs.Crossbar.{MovesRoom}
 pub use Rattle.cq_laws.specs.Phases.{came_to, list_arrived}
 pub use Rattle.cq_fabric.specs.Crossing.{CanCrossInPairs, CanFollow}
 pub use Rattle.cq_fabric.specs.Holding.{CanHold, CanStand, CanWait}
-pub use Rattle.cq_fabric.specs.Newest.{IsNewest}
+pub use Rattle.cq_fabric.specs.{Newest.IsNewest, Released.HasReleased}
 pub use Rattle.cq_fabric.specs.Queues.{front_of, popped, CanCross, ComeApart, Comes, FitEach, FitLists, Fits, buffer_room, fabric_of, list_at, list_room, list_with}
-pub use Rattle.cq_fabric.specs.Released.{HasReleased}
 pub use Rattle.cq_fabric.specs.Telling.{AllAreFilled, AllAreTold, AreTold, CanFill}

@@ -1,13 +1,5 @@
 -- Lists that are made from a range of numbers: one item more, and what holds of each item.
-use Rattle.std.proofs.lemmas.Grind.{common_steps}
-use Rattle.std.proofs.Common.{rules, ◌≡◌, ℕ, zero, suc, ◌+◌, ◌<◌, List, [], ◌∷◌, ◌++◌, map, All, AllPairs, arith}
-use Rattle.std.proofs.lemmas.List.FromFn.{get_or-map-range_with_len, length-map-range_with_len, map-range_with_len_more}
-use Rattle.std.specs.List.{AllByRecursion, range_with_len}
-
--- the item of the next number was put at the end
-pub counted_more : {X : Type 0} (f : ℕ → X) (n : ℕ) (xs ys : List X) (x : X) → xs ≡ map f (range_with_len 0 n) →
-    ys ≡ xs ++ x ∷ [] → x ≡ f n → ys ≡ map f (range_with_len 0 (n + 1))
-counted_more {X} f n xs ys x before pushed is = grind (arith, common_steps, map-range_with_len_more)
+use Rattle.cq_gen.proofs.Terms.{common_steps, rules, ℕ, zero, suc, ◌+◌, ◌<◌, map, All, AllPairs, arith, get_or-map-range_with_len, length-map-range_with_len, AllByRecursion, range_with_len}
 
 pub all_counted : {X : Type 0} (P : X → Type 0) (f : ℕ → X) (n : ℕ) → ((k : ℕ) → k < n → P (f k)) →
     All P (map f (range_with_len 0 n))

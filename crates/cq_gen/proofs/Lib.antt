@@ -1,3 +1,4 @@
+mod Terms
 pub mod Counted
 pub mod Drawn
 pub mod InRange

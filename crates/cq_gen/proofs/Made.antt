@@ -1,11 +1,5 @@
 -- What the captures of all inputs come to: those of the definition, one for each input, with a packet for each slot.
-use Rattle.std.proofs.lemmas.Grind.{common_steps}
-use Rattle.std.proofs.Common.{arith, ◌≡◌, ℕ, ◌*◌, List, length, map, All, ap, sym, subst, ◌∙◌}
-use Rattle.std.proofs.lemmas.List.FromFn.{length-map-range_with_len}
-use Rattle.std.specs.List.{range_with_len}
-use Rattle.cq_pcap.specs.Captured.{Captured}
-use Rattle.cq_gen.specs.Draws.{first_draws}
-use Rattle.cq_gen.specs.Packets.{packets_to, soak_captures}
+use Rattle.cq_gen.proofs.Terms.{common_steps, arith, ◌≡◌, ℕ, ◌*◌, List, length, map, All, ap, sym, subst, ◌∙◌, length-map-range_with_len, range_with_len, Captured, first_draws, packets_to, soak_captures}
 use Rattle.cq_gen.proofs.Counted.{all_counted}
 use Rattle.cq_gen.proofs.Small.{length-packets_to}
 

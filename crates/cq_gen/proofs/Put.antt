@@ -1,13 +1,7 @@
 -- The packets of an input are put into its file one after another: after each slot it is the file of the packets so
 -- far.
-use Rattle.std.proofs.Common.{rules, ◌≡◌, ℕ, ◌+◌, List, [], ◌∷◌, ◌++◌, map, ap, sym, ◌∙◌}
-use Rattle.std.proofs.lemmas.List.{map-append}
-use Rattle.cq_pcap.specs.Captured.{Captured}
-use Rattle.cq_pcap.specs.Written.{record_of, written}
+use Rattle.cq_gen.proofs.Terms.{rules, ◌≡◌, ℕ, ◌+◌, List, [], ◌∷◌, ◌++◌, map, ap, sym, ◌∙◌, map-append, Captured, record_of, written, draw_for, packet_of, packets_to, to_write, counted_more}
 use Rattle.cq_pcap.proofs.Writing.{written_with}
-use Rattle.cq_gen.specs.Draws.{draw_for}
-use Rattle.cq_gen.specs.Packets.{packet_of, packets_to, to_write}
-use Rattle.cq_gen.proofs.Counted.{counted_more}
 
 module _ (words : List ℕ) (ports input : ℕ) where
   made_in : ℕ → Captured
@@ -29,7 +23,6 @@ module _ (words : List ℕ) (ports input : ℕ) where
   unfolding made_in
   one_put slot bytes new so_far put =
       let ps = packets_to words ports slot input in
-      put
-      ∙ ap (λ (bs : List ℕ). bs ++ record_of (to_write (made_in slot))) so_far
+      put ∙ ap (λ (bs : List ℕ). bs ++ record_of (to_write (made_in slot))) so_far
       ∙ written_with (map to_write ps) (to_write (made_in slot))
       ∙ ap written (sym (map-append to_write ps (made_in slot ∷ [])) ∙ ap (map to_write) (more slot))

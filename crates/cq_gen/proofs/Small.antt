@@ -1,21 +1,13 @@
 -- Made packets are small: each fits a record, and all records of an input fit a file. So the file that is written is
 -- read again as the same packets, and no fault of a file can come.
-use Rattle.std.proofs.Common.{◌≡◌, ℕ, ◌+◌, ◌*◌, ◌<◌, ◌≤◌, ◌^◌, List, [], ◌∷◌, ◌++◌, length, map, false, Ok, Err, IfSome, refl, ap, sym, subst, ◌∙◌, arith, length-append}
-use Rattle.std.proofs.lemmas.Grind.{common_steps}
-use Rattle.std.proofs.lemmas.List.{length-map}
-use Rattle.std.proofs.lemmas.List.FromFn.{length-map-range_with_len}
-use Rattle.std.specs.List.{AllByRecursion, flat_map}
-use Rattle.cq_pcap.specs.Captured.{Captured}
+use Rattle.cq_gen.proofs.Terms.{rules, ◌≡◌, ℕ, ◌*◌, ◌<◌, ◌≤◌, ◌^◌, List, [], ◌∷◌, length, map, Ok, Err, IfSome, refl, ap, sym, subst, ◌∙◌, arith, length-append, common_steps, length-map, length-map-range_with_len, AllByRecursion, flat_map, Captured, IsWritable, read_again, record_of, written, frame_of, packet_of, packets_to, to_write}
 use Rattle.cq_pcap.specs.Faults.{fault_of}
 use Rattle.cq_pcap.specs.Reading.{packets_of}
-use Rattle.cq_pcap.specs.Record.{Record, spelling}
-use Rattle.cq_pcap.specs.Written.{IsWritable, read_again, record_of, written, written_header}
 use Rattle.cq_pcap.specs.declared.read.PcapRefusal.{PcapRefusal}
 use Rattle.cq_pcap.specs.declared.read.PcapRefusal.TheVariants as refusal
 use Rattle.cq_pcap.specs.declared.write.OutPacket.{OutPacket}
 use Rattle.cq_pcap.proofs.SpeltIsRead.{spelt_is_read}
 use Rattle.cq_pcap.proofs.WrittenIsSpelt.{written_is_spelt}
-use Rattle.cq_gen.specs.Packets.{frame_of, packet_of, packets_to, to_write}
 use Rattle.cq_gen.proofs.Counted.{all_by_counted}
 
 -- a packet of 60 bytes, with a stamp below 2^32 seconds
@@ -43,19 +35,13 @@ writable : (ps : List OutPacket) → AllByRecursion IsSmall (map read_again ps) 
 writable [] small = tt
 writable (p ∷ ps) small = grind (arith, common_steps, writable ps small.1)
 
-length-spelling : (r : Record) (rest : List ℕ) → length (spelling false r ++ rest) ≡ 16 + (length r.body + length rest)
-length-spelling r rest = omega (arith, length-append r.body rest)
-
 -- the records of packets
 abbrev spelt : List OutPacket → List ℕ
 spelt ps = flat_map record_of ps
 
 length-spelt : (ps : List OutPacket) → AllByRecursion IsSmall (map read_again ps) → length (spelt ps) ≡ 76 * length ps
 length-spelt [] small = refl
-length-spelt (p ∷ ps) small = grind (arith, common_steps, length-spelling, length-spelt ps small.1)
-
-length-written : (ps : List OutPacket) → length (written ps) ≡ 24 + length (spelt ps)
-length-written ps = length-append written_header (spelt ps)
+length-spelt (p ∷ ps) small = search (arith, rules, length-append, length-spelt ps small.1)
 
 -- ## The packets of an input
 
@@ -74,7 +60,7 @@ module _ (words : List ℕ) (ports slots input : ℕ) (few : slots ≤ 20000) (b
 
   pub file_small : length bytes ≤ 2 ^ 28
   unfolding packets
-  file_small = grind (arith, common_steps, length-map, length-packets_to, length-written, length-spelt, small)
+  file_small = search (arith, rules, length-map, length-packets_to, length-spelt, small, length-append)
 
   pub file_read : packets_of bytes ≡ Ok (packets_to words ports slots input)
   unfolding packets

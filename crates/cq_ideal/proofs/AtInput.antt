@@ -1,73 +1,81 @@
--- The cells that arrive at an input, slot by slot, are its arrivals in their order. In a slot the input's place shows
--- what is found there; and the arrivals at one input rise in their slots, so where the first is taken off the list
--- every later slot shows the same.
-use Rattle.std.proofs.lemmas.Grind.{common_steps}
-use Rattle.std.proofs.Common.{◌≡◌, ℕ, zero, suc, ◌+◌, ◌<◌, List, [], ◌∷◌, ◌++◌, map, None, refl, sym, ap, ◌∙◌, ⊎_elim, arith, Option}
-use Rattle.std.specs.Prelude.{◌==◌}
-use Rattle.std.specs.List.{AllByRecursion, filter, range_with_len}
-use Rattle.std.proofs.lemmas.Bool.{cases_eq, cond-false, cond-true, eq-eqb, ne_eqb}
-use Rattle.std.proofs.lemmas.List.FromFn.{get_or-map-range_with_len}
-use Rattle.std.proofs.lemmas.Option.{unwrap_or-slice_get}
-use Rattle.cq_base.specs.declared.cell.Cell.{Cell}
-use Rattle.cq_base.specs.Arriving.{Arrival, arriving_at, arriving, enough, traffic_of, end_of}
-use Rattle.cq_base.specs.Arrivals.{arrival_at}
-use Rattle.cq_base.proofs.Lists.{all_by}
-use Rattle.cq_ideal.specs.Flows.{RiseByInput}
-use Rattle.cq_ideal.specs.WholePackets.{came_at, cells_at}
-use Rattle.cq_ideal.proofs.FlowCount.{before_end}
-use Rattle.cq_ideal.proofs.FlowFound.{cell_listed, found, found_here, found_none, listed, other_input, other_slot}
-use Rattle.cq_ideal.proofs.FlowPut.{all_from}
-use Rattle.cq_ideal.proofs.FlowTraffic.{joined, joined_more, joined_none, joined_same}
+-- What arrives in the slots of a run, slot by slot, is what was to arrive, in its order: the cells that come to an
+-- input, and those of a flow. At the place of the flow's input stand all its cells of a slot, so they are among the
+-- cells that come to the input.
+use Rattle.cq_ideal.proofs.Terms.{common_steps, ◌≡◌, ℕ, zero, suc, ◌+◌, ◌<◌, ◌≤◌, List, [], ◌∷◌, None, Option, refl, sym, ap, ◌∙◌, ⊎_elim, arith, AllByRecursion, and_right, cases_lt, cond-false, ne_eqb, get_or_past, unwrap_or-slice_get, Cell, Arrival, arriving, arriving_at, enough, traffic_of, arrival_at, RiseByInput, came_in_flow, came_at, cells_at}
+use Rattle.cq_ideal.proofs.Ends.{all_slots}
+use Rattle.cq_ideal.proofs.FlowFound.{cell_listed, length-arriving}
+use Rattle.cq_ideal.proofs.FlowRank.{present}
+use Rattle.cq_ideal.proofs.FlowRun.{flow_came}
+use Rattle.cq_ideal.proofs.FlowStands.{is_of_flow, of_flow}
+use Rattle.cq_ideal.proofs.RestAtInput.{IsShown, cells_of, comes_shown, is_shown, line_at, rest_of}
+use Rattle.cq_ideal.proofs.Standing.{StandAt, all_stand}
 
-module _ (i : ℕ) (inside : i < 64) where
-  at_place : (came : List Arrival) (t : ℕ) →
-      arrival_at (arriving came t) i ≡ arriving_at came t i
-  unfolding arriving
-  at_place came t =
+-- ## The cells that come to an input
+
+from_first : (line : List Arrival) → rest_of 0 line ≡ line
+from_first [] = refl
+from_first (a ∷ line) = grind (arith, common_steps, from_first line)
+
+all_shown : (i : ℕ) (came : List Arrival) → IsShown came i → RiseByInput came →
+    cells_at i (traffic_of came) ≡ came_at i came
+unfolding enough
+all_shown i came shown rise =
+    ap (cells_at i) (sym (all_slots came)) ∙ comes_shown i came shown 0 (enough came) rise (omega arith)
+    ∙ ap cells_of (from_first (line_at i came))
+
+pub come_in_order : (i : ℕ) → i < 64 → (came : List Arrival) → RiseByInput came →
+    cells_at i (traffic_of came) ≡ came_at i came
+come_in_order i inside came rise = all_shown i came (is_shown i inside came) rise
+
+-- ## A flow comes at its input
+
+module _ (i c j : ℕ) where
+  other : (cell : Cell) (cells : List Cell) → (cell.id.input ≡ i → ⊥) →
+      of_flow i c j (cell ∷ cells) ≡ of_flow i c j cells
+  unfolding of_flow
+  other cell cells ne = grind (arith, common_steps)
+
+  none_past : (a : ℕ) (cells : List (Option Cell)) → StandAt a cells → i < a → of_flow i c j (present cells) ≡ []
+  unfolding of_flow other
+  none_past a [] at lt = refl
+  none_past a (cell ∷ cells) at lt = grind (arith, common_steps, other, present, none_past (a + 1) cells)
+
+  at_place : (a k : ℕ) (cells : List (Option Cell)) → StandAt a cells → i ≡ a + k →
+      of_flow i c j (present cells) ≡ of_flow i c j (cell_listed (arrival_at cells k))
+  unfolding of_flow other none_past
+  at_place a k [] at e = refl
+  at_place a zero cells at e = grind (arith, common_steps, none_past, is_of_flow)
+  at_place a (suc k) cells at e = grind (arith, common_steps, at_place (a + 1) k)
+
+  pub comes_at_input : (traffic : List (List (Option Cell))) → AllByRecursion (StandAt 0) traffic →
+      flow_came i c j traffic ≡ of_flow i c j (cells_at i traffic)
+  unfolding flow_came of_flow
+  comes_at_input [] at = refl
+  comes_at_input (cells ∷ traffic) at =
+      grind (arith, common_steps, at_place 0 i cells at.0, comes_at_input traffic at.1)
+
+  -- the flow's arrivals are among those at the input
+  of_line : (came : List Arrival) → of_flow i c j (came_at i came) ≡ came_in_flow i c j came
+  unfolding of_flow
+  of_line [] = refl
+  of_line (a ∷ came) = grind (arith, common_steps, of_line came)
+
+  -- what is no input shows nothing
+  shown_past : (came : List Arrival) → AllByRecursion (λ a. a.cell.id.input < 64) came → 64 ≤ i → IsShown came i
+  shown_past came inputs past t =
       let none : Option Cell = None in
-      unwrap_or-slice_get (arriving came t) i none
-      ∙ get_or-map-range_with_len (arriving_at came t) 0 64 i i none inside (omega arith)
+      let long = length-arriving came t 64 refl in
+      unwrap_or-slice_get (arriving came t) i none ∙ get_or_past (arriving came t) i none (omega arith)
+      ∙ sym (nobody came inputs)
+    where
+      nobody : (came : List Arrival) → AllByRecursion (λ a. a.cell.id.input < 64) came →
+          ◌≡◌ {A = Option Cell} (arriving_at came t i) None
+      nobody [] all = refl
+      nobody (a ∷ came) all = grind (arith, common_steps, and_right, ne_eqb, cond-false, nobody came all.1)
 
-  pub cells_from : (came : List Arrival) (a n : ℕ) →
-      cells_at i (map (arriving came) (range_with_len a n)) ≡ joined (λ t. found came t i) a n
-  unfolding joined found
-  cells_from came a zero = refl
-  cells_from came a (suc n) = grind (arith, common_steps, at_place, listed, cell_listed, cells_from came (a + 1) n)
-
-  -- where all that is still to come at the input is later, nothing is found earlier
-  pub no_earlier : (a : Arrival) (came : List Arrival) (t : ℕ) →
-      AllByRecursion (λ b. b.cell.id.input ≡ i → a.slot < b.slot) came → t < a.slot + 1 → found came t i ≡ []
-  no_earlier a came t later l = grind (arith, common_steps, found_none came t i, all_from)
-
-  in_order : (slots : ℕ) (came : List Arrival) → AllByRecursion (λ a. a.slot < slots) came → RiseByInput came →
-      joined (λ t. found came t i) 0 slots ≡ came_at i came
-  in_order slots [] before rise = joined_none (λ t. found [] t i) 0 slots (λ t l. found_none [] t i tt)
-  in_order slots (a ∷ came) before rise =
-      let rest =
-      in_order slots came before.1 (λ s t x y at_s at_t l. rise (suc s) (suc t) x y at_s at_t (omega arith)) in
-      let others = filter (λ (x : Arrival). x.cell.id.input == i) came in
-      ⊎_elim (λ same.
-      let later : AllByRecursion (λ b. b.cell.id.input ≡ i → a.slot < b.slot) came =
-      all_by (λ b. b.cell.id.input ≡ i → a.slot < b.slot) came (λ t b at e.
-      rise zero (suc t) a b refl at (omega arith) (same ∙ sym e)) in
-      joined_more (λ t. found (a ∷ came) t i) (λ t. found came t i) a.slot 0 slots (omega arith)
-      (let l = before.0 in omega arith)
-      (λ t l. other_slot a came t i (λ e. omega arith) ∙ no_earlier a came t later (omega arith))
-      (λ t l. no_earlier a came t later (omega arith)) (λ t l. other_slot a came t i (λ e. omega arith))
-      ∙ ap (λ (l : List Cell). l ++ joined (λ t. found came t i) 0 slots)
-      (found_here a came a.slot i refl same) ∙ ap (λ (l : List Cell). a.cell ∷ l) rest
-      ∙ sym (ap (map (λ (x : Arrival). x.cell))
-      (cond-true (a.cell.id.input == i) (a ∷ others) others (eq-eqb a.cell.id.input i same))))
-      (λ ne. joined_same (λ t. found (a ∷ came) t i) (λ t. found came t i) 0 slots (λ t l.
-      other_input a came t i ne) ∙ rest
-      ∙ sym (ap (map (λ (x : Arrival). x.cell))
-      (cond-false (a.cell.id.input == i) (a ∷ others) others (ne_eqb a.cell.id.input i ne))))
-      (cases_eq a.cell.id.input i)
-
-  pub come_in_order : (came : List Arrival) → RiseByInput came → cells_at i (traffic_of came) ≡ came_at i came
-  unfolding traffic_of enough
-  come_in_order came rise =
-      cells_from came 0 (enough came)
-      ∙ in_order (enough came) came
-      (all_from (λ a. a.slot < end_of came) (λ a. a.slot < enough came) (λ a l. omega arith) came (before_end came))
-      rise
+  pub came_in_order : (came : List Arrival) → AllByRecursion (λ a. a.cell.id.input < 64) came → RiseByInput came →
+      flow_came i c j (traffic_of came) ≡ came_in_flow i c j came
+  came_in_order came inputs rise = comes_at_input (traffic_of came) (all_stand came)
+      ∙ ap (of_flow i c j) (⊎_elim (λ inside. come_in_order i inside came rise)
+      (λ past. all_shown i came (shown_past came inputs past) rise) (cases_lt i 64))
+      ∙ of_line came

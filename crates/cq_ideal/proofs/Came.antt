@@ -1,23 +1,13 @@
--- What ranking gives: each cell that came has the slot, the input at which it came, and is the one that arrived there.
-use Rattle.std.proofs.Common.{rules, ◌≡◌, ℕ, zero, suc, ◌+◌, Bool, true, false, cond, List, [], ◌∷◌, length, get_or, Option, Some, None, Result, Ok, Err, refl, sym, ap, ◌∙◌, arith, length-set}
-use Rattle.std.proofs.lemmas.Grind.{common_steps}
-use Rattle.std.proofs.lemmas.Option.{same_Some}
-use Rattle.cq_base.specs.declared.cell.Cell.{Cell}
-use Rattle.cq_base.specs.declared.cell.Queued.{Queued}
-use Rattle.cq_base.specs.declared.cell.TagFault.{TagFault}
-use Rattle.cq_base.specs.Arrivals.{arrival_at}
-use Rattle.cq_rank.specs.Machine.{Machine}
-use Rattle.cq_ideal.specs.Parts.{CameToPorts}
-use Rattle.cq_ideal.specs.Ranking.{Ranking, ranking, after_input, keyed, AreForPorts}
-
-after_input_ok : (q : Option Queued) (x : Result Ranking TagFault) (r : Ranking) → after_input q x ≡ Ok r →
-    (s : Ranking) × (x ≡ Ok s) × (record { came = q ∷ s.came; ranks = s.ranks } ≡ r)
-after_input_ok q (Ok s) r h = (s, refl, cc)
-after_input_ok q (Err e) r h = cc
-
-guarded_ok : (b : Bool) (x : Result Ranking TagFault) (e : TagFault) (r : Ranking) → cond b x (Err e) ≡ Ok r → x ≡ Ok r
-guarded_ok true x e r h = h
-guarded_ok false x e r h = cc
+-- What ranking gives, and how it is taken in. Each cell that came has the slot, the input at which it came, and is the
+-- one that arrived there. So keys are apart: what waits arrived before the next slot, and no cell that comes has the
+-- key of one that waits, nor that of another that comes; and what is left when the outputs have sent arrived before
+-- the slot that follows. Where cells are ranked one after another, what came so far stands in front of the ranking of
+-- the others. The definition puts them all into the lists; the code puts one after another: putting the first cell,
+-- and then the others, is putting them all, and where a list has room for all of them it has for each in turn.
+use Rattle.cq_ideal.proofs.Terms.{rules, ⊎_elim, ◌≡◌, ℕ, zero, suc, ◌+◌, List, [], ◌∷◌, length, get_or, Option, Some, None, Result, Ok, sym, ap, ◌∙◌, arith, length-set, common_steps, same_Some, Cell, Queued, TagFault, arrival_at, Machine, CameToPorts, Ranking, ranking, after_input, AreForPorts, ◌≤◌, cond, replicate, refl, ◌<◌, AllByRecursion, cond_both, cases_lt, put, is_for, other_key_newest, filled, put_all, rests, AllArrivedBefore, HaveOwnKeys, list_at, all_put, get_or_past, ◌++◌, map, set, take, drop, Err, get_or-set_other, ext_get_or, get_or-drop, length-drop, length-replicate, take-append-drop, take_more_set, unwrap_or-slice_get, RanksView, after_inputs, ◌≢◌, get_or-set_same, IfSome, cases_Bool, eqb-true, eq-eqb, length-map, drop_more, HasOtherKey, CanPut, QueuesView, FitTogether, HaveRoomFor, with_came, with_cell, length_put, all_weaker}
+use Rattle.cq_ideal.proofs.FlowRank.{after_input_ok, fits_ok}
+use Rattle.cq_ideal.proofs.Waiting.{filled_at, length-filled, filled_none}
+use Rattle.cq_ideal.proofs.Changed.{same_at}
 
 -- a cell that came has this slot, its input, and is the one that arrived there
 pub record Came (slot i : ℕ) (cells : List (Option Cell)) (k : ℕ) (q : Queued) : Type 0 where
@@ -25,28 +15,17 @@ pub record Came (slot i : ℕ) (cells : List (Option Cell)) (k : ℕ) (q : Queue
   pub input_is : q.key.input ≡ i + k
   pub cell_is : arrival_at cells k ≡ Some q.cell
 
-came_here : (slot i : ℕ) (cell : Cell) (level rank : ℕ) (rest : Result Ranking TagFault) (cells : List (Option Cell))
-    (r : Ranking) (q : Queued) → after_input (Some (keyed cell level rank slot i)) rest ≡ Ok r →
-    get_or r.came 0 None ≡ Some q → Came slot i (Some cell ∷ cells) 0 q
-came_here slot i cell level rank rest cells r q h e = grind (arith, common_steps, after_input_ok, same_Some)
-
-came_later : (slot i : ℕ) (here : Option Queued) (x : Option Cell) (rest : Result Ranking TagFault)
-    (cells : List (Option Cell)) (r : Ranking) (k : ℕ) (q : Queued) → after_input here rest ≡ Ok r →
-    get_or r.came (suc k) None ≡ Some q →
-    ((s : Ranking) → rest ≡ Ok s → get_or s.came k None ≡ Some q → Came slot (i + 1) cells k q) →
-    Came slot i (x ∷ cells) (suc k) q
-came_later slot i here x rest cells r k q h e later = grind (arith, common_steps, after_input_ok here rest r h)
-
 pub came_from : (ms : List Machine) (slot i : ℕ) (cells : List (Option Cell)) (ranks : List (List ℕ)) (r : Ranking) →
     ranking ms slot i cells ranks ≡ Ok r → (k : ℕ) (q : Queued) → get_or r.came k None ≡ Some q →
     Came slot i cells k q
 came_from ms slot i [] ranks r h k q e = grind (arith, common_steps)
-came_from ms slot i (None ∷ cells) ranks r h zero q e = grind (arith, common_steps, after_input_ok None _ r h)
+came_from ms slot i cells ranks r h zero q e = search (arith, rules, after_input_ok, fits_ok, same_Some)
 came_from ms slot i (None ∷ cells) ranks r h (suc k) q e =
-    came_later slot i None None _ cells r k q h e (λ s ok at. came_from ms slot (i + 1) cells ranks s ok k q at)
-came_from ms slot i (Some cell ∷ cells) ranks r h zero q e = search (rules, came_here, guarded_ok)
-came_from ms slot i (Some cell ∷ cells) ranks r h (suc k) q e = came_later slot i _ (Some cell) _ cells r k q
-    (guarded_ok _ _ _ r h) e (λ s ok at. came_from ms slot (i + 1) cells _ s ok k q at)
+    let w = after_input_ok None _ r h in
+    let later = came_from ms slot (i + 1) cells ranks w.0 w.1 k q (rw (← w.2) at e) in search (arith, rules)
+came_from ms slot i (Some cell ∷ cells) ranks r h (suc k) q e =
+    let w = after_input_ok _ _ r (fits_ok _ _ _ r h) in
+    let later = came_from ms slot (i + 1) cells _ w.0 w.1 k q (rw (← w.2) at e) in search (arith, rules)
 
 -- there are as many rank states as before
 pub ranks_kept : (ms : List Machine) (slot i : ℕ) (cells : List (Option Cell)) (ranks : List (List ℕ)) (r : Ranking) →
@@ -54,7 +33,7 @@ pub ranks_kept : (ms : List Machine) (slot i : ℕ) (cells : List (Option Cell))
 ranks_kept ms slot i [] ranks r h = grind (arith, common_steps)
 ranks_kept ms slot i (None ∷ cells) ranks r h = search (rules, after_input_ok, ranks_kept ms slot (i + 1) cells ranks)
 ranks_kept ms slot i (Some cell ∷ cells) ranks r h =
-    let w = after_input_ok _ _ r (guarded_ok _ _ _ r h) in
+    let w = after_input_ok _ _ r (fits_ok _ _ _ r h) in
     ap (λ (x : Ranking). length x.ranks) (sym w.2) ∙ ranks_kept ms slot (i + 1) cells _ w.0 w.1
     ∙ length-set ranks cell.output _
 
@@ -64,3 +43,221 @@ pub came_to_ports : (ms : List Machine) (slot ports class_count : ℕ) (cells : 
     AreForPorts ports class_count cells → length r.came ≡ 64 → CameToPorts ports r.came
 came_to_ports ms slot ports class_count cells ranks r h are places =
     grind (arith, common_steps, are.inputs, came_from ms slot 0 cells ranks r h, are.outputs)
+
+-- ## Keys that are apart
+
+pub arrived_later : (a b : ℕ) (lists : List (List Queued)) → a ≤ b → AllArrivedBefore a lists → AllArrivedBefore b lists
+arrived_later a b lists le arrived j = grind (arith, common_steps, all_weaker)
+
+-- no cell waits where no list has one
+pub arrived_none : (slot n : ℕ) → AllArrivedBefore slot (replicate n [])
+arrived_none slot n j = grind (arith, common_steps)
+
+module _ (ms : List Machine) (slot : ℕ) (cells : List (Option Cell)) (ranks : List (List ℕ)) (r : Ranking)
+    (ok : ranking ms slot 0 cells ranks ≡ Ok r) (lists : List (List Queued))
+    (arrived : AllArrivedBefore slot lists) where
+  pub own_keys : HaveOwnKeys r.came lists
+  own_keys = search (arith, rules, other_key_newest, came_from ms slot 0 cells ranks r ok)
+
+  all_put_all : (P : Queued → Type 0) (j : ℕ) (came : List (Option Queued)) (xs : List Queued) →
+      ((k : ℕ) (q : Queued) → get_or came k None ≡ Some q → P q) → AllByRecursion P xs →
+      AllByRecursion P (put_all j came xs)
+  all_put_all P j [] xs each all = all
+  all_put_all P j (None ∷ came) xs each all = all_put_all P j came xs (λ k q at. each (suc k) q at) all
+  all_put_all P j (Some q ∷ came) xs each all =
+      all_put_all P j came (cond (is_for j q) (put q xs) xs) (λ k p at. each (suc k) p at)
+      (cond_both (is_for j q) (put q xs) xs (AllByRecursion P) (λ _. all_put P q xs (each zero q refl) all) (λ _. all))
+
+  arrived_filled : AllArrivedBefore (slot + 1) (filled r.came lists)
+  arrived_filled j = ⊎_elim (λ (inside : j < length lists).
+      rw (filled_at r.came lists j inside)
+      (all_put_all (λ x. x.key.slot < slot + 1) j r.came (list_at lists j)
+      (λ k q at. let is = (came_from ms slot 0 cells ranks r ok k q at).slot_is in omega arith)
+      (arrived_later slot (slot + 1) lists (omega arith) arrived j)))
+      (λ (past : length lists ≤ j). let long = length-filled r.came lists in
+      rw (get_or_past (filled r.came lists) j [] (omega arith)) tt) (cases_lt j (length lists))
+
+  pub arrived_next : AllArrivedBefore (slot + 1) (rests (filled r.came lists))
+  arrived_next = left (filled r.came lists) arrived_filled
+    where
+      left : (before : List (List Queued)) → AllArrivedBefore (slot + 1) before →
+          AllArrivedBefore (slot + 1) (rests before)
+      left [] all j = tt
+      left (xs ∷ before) all zero = let here = all zero in grind (arith, common_steps)
+      left (xs ∷ before) all (suc j) = left before (λ k. all (suc k)) j
+
+-- ## Cells that are ranked one after another
+
+-- a cell at the end of those that came
+after_inputs-snoc : (came : List (Option Queued)) (q : Option Queued) (x : Result Ranking TagFault) →
+    after_inputs (came ++ q ∷ []) x ≡ after_inputs came (after_input q x)
+after_inputs-snoc [] q x = refl
+after_inputs-snoc (c ∷ came) q x = ap (after_input c) (after_inputs-snoc came q x)
+
+-- they stand in front of what came to the others
+after_inputs-ok : (came : List (Option Queued)) (r : Ranking) →
+    after_inputs came (Ok r) ≡ Ok (record { came = came ++ r.came; ranks = r.ranks })
+after_inputs-ok [] r = refl
+after_inputs-ok (c ∷ came) r = ap (after_input c) (after_inputs-ok came r)
+
+-- and nothing changes a fault
+after_inputs-fault : (came : List (Option Queued)) (fault : TagFault) → after_inputs came (Err fault) ≡ Err fault
+after_inputs-fault [] fault = refl
+after_inputs-fault (c ∷ came) fault = ap (after_input c) (after_inputs-fault came fault)
+
+-- where no cell arrives any more nobody comes
+none_ranked : (ms : List Machine) (slot input : ℕ) (cells : List (Option Cell)) (states : List (List ℕ)) →
+    ((k : ℕ) (cell : Cell) → get_or cells k None ≡ Some cell → ⊥) →
+    ranking ms slot input cells states ≡ Ok (record { came = replicate (length cells) None; ranks = states })
+none_ranked ms slot input [] states h = refl
+none_ranked ms slot input (None ∷ cells) states h =
+    ap (after_input None) (none_ranked ms slot (input + 1) cells states (λ k cell at. h (suc k) cell at))
+none_ranked ms slot input (Some cell ∷ cells) states h = absurd (h zero cell refl)
+
+-- no cell comes to an input that is no port
+none_beyond : (ports class_count input : ℕ) (cells : List (Option Cell)) → AreForPorts ports class_count cells →
+    ports ≤ input → (k : ℕ) (cell : Cell) → get_or (drop input cells) k None ≡ Some cell → ⊥
+none_beyond ports class_count input cells for beyond k cell at =
+    grind (arith, common_steps, for.inputs (input + k) cell, unwrap_or-slice_get cells (input + k) None)
+
+-- ## All inputs
+
+pub record InTurn (M : List ℕ → Machine) (slot : ℕ) (cells : List (Option Cell)) (first : RanksView) (input : ℕ)
+    (ranks : RanksView) (came : List (Option Queued)) : Type 0 where
+  pub fixed : ranks.fixed ≡ first.fixed
+  pub many : length ranks.states ≡ length first.states
+  pub places : 0 < input → length cells ≡ 64
+  pub long : length came ≡ 64
+  pub later : (k : ℕ) → length first.fixed ≤ k → get_or came k None ≡ None
+  pub ranked :
+      after_inputs (take input came) (ranking (map M first.fixed) slot input (drop input cells) ranks.states)
+      ≡ ranking (map M first.fixed) slot 0 cells first.states
+
+module _ {M : List ℕ → Machine} {slot : ℕ} {cells : List (Option Cell)} {first : RanksView} {input : ℕ}
+    {ranks : RanksView} {came : List (Option Queued)} (so_far : InTurn M slot cells first input ranks came) where
+  -- one input more
+  pub in_turn_next : (ranks_new : RanksView) (cell : Option Cell) (q : Option Queued) → length cells ≡ 64 →
+      input < 64 → input < length first.fixed → drop input cells ≡ cell ∷ drop (input + 1) cells →
+      ranks_new.fixed ≡ ranks.fixed → length ranks_new.states ≡ length ranks.states →
+      ((rest : List (Option Cell)) → ranking (map M ranks.fixed) slot input (cell ∷ rest) ranks.states
+      ≡ after_input q (ranking (map M ranks.fixed) slot (input + 1) rest ranks_new.states)) →
+      InTurn M slot cells first (input + 1) ranks_new (set came input q)
+  in_turn_next ranks_new cell q places inside port next fixed many one =
+      grind (arith, common_steps, length-set, get_or-set_other, take_more_set, after_inputs-snoc)
+
+  -- a fault
+  pub in_turn_fault : (cell : Option Cell) (fault : TagFault) → drop input cells ≡ cell ∷ drop (input + 1) cells →
+      ((rest : List (Option Cell)) → ranking (map M ranks.fixed) slot input (cell ∷ rest) ranks.states ≡ Err fault) →
+      ranking (map M first.fixed) slot 0 cells first.states ≡ Err fault
+  in_turn_fault cell fault next one = search (rules, after_inputs-fault)
+
+  -- no port is left
+  pub in_turn_last : (class_count : ℕ) → AreForPorts (length first.fixed) class_count cells →
+      0 < length first.fixed → length first.fixed ≤ input →
+      ranking (map M first.fixed) slot 0 cells first.states ≡ Ok (record { came = came; ranks = ranks.states })
+  in_turn_last class_count for some past =
+      let none : Option Queued = None in
+      let left = length (drop input cells) in
+      let places = so_far.places (omega arith) in
+      let behind : drop input came ≡ replicate left none = ext_get_or none (drop input came) (replicate left none)
+      (grind (arith, common_steps, length-drop, length-replicate))
+      (λ i inside. grind (arith, common_steps, get_or-drop, so_far.later (input + i), same_at)) in
+      let nobody = none_ranked (map M first.fixed) slot input (drop input cells) ranks.states
+      (none_beyond (length first.fixed) class_count input cells for past) in
+      let all = after_inputs-ok (take input came) (record { came = replicate left none; ranks = ranks.states }) in
+      cc (so_far.ranked, nobody, all, behind, take-append-drop input came)
+
+-- ## Putting cells into the lists
+
+-- the list of an output, with one cell put into the list of its output
+one_put : (q : Queued) (lists : List (List Queued)) (j : ℕ) → q.cell.output < length lists →
+    cond (is_for j q) (put q (list_at lists j)) (list_at lists j) ≡ list_at (with_cell q lists) j
+one_put q lists j inside = search (rules, cases_Bool, eqb-true, get_or-set_same, get_or-set_other, eq-eqb)
+
+-- with the cell that came to one input, if one did, and then those that came to the others
+filled_next : (o : Option Queued) (came : List (Option Queued)) (lists : List (List Queued)) →
+    ((q : Queued) → o ≡ Some q → q.cell.output < length lists) →
+    filled (o ∷ came) lists ≡ filled came (with_came o lists)
+unfolding filled
+filled_next q came lists inside = grind (arith, common_steps, one_put, length-set)
+
+length-with_came : (o : Option Queued) (lists : List (List Queued)) → length (with_came o lists) ≡ length lists
+length-with_came q lists = grind (arith, common_steps, length-set, put, list_at)
+
+-- where no cell came nothing changes
+pub nobody_left : (came : List (Option Queued)) (lists : List (List Queued)) →
+    ((k : ℕ) (q : Queued) → get_or came k None ≡ Some q → ⊥) → filled came lists ≡ lists
+unfolding filled
+nobody_left [] lists h = filled_none lists
+nobody_left (None ∷ came) lists h = nobody_left came lists (λ k q at. h (suc k) q at)
+nobody_left (Some q ∷ came) lists h = absurd (h zero q refl)
+
+-- ## Keys
+
+-- where two keys differ, the one cell can be put in and the other still has its own key
+own_stays : (p q : Queued) (lists : List (List Queued)) (j : ℕ) → p.cell.output < length lists → p.key ≢ q.key →
+    HasOtherKey q (list_at lists j) → HasOtherKey q (list_at (with_cell p lists) j)
+own_stays p q lists j inside apart own = grind (arith, common_steps, one_put, cond_both, all_put)
+
+-- once a cell is put in, if one came, the others still have their own keys
+own_keys_rest : (o : Option Queued) (came : List (Option Queued)) (lists : List (List Queued)) →
+    HaveOwnKeys (o ∷ came) lists → ((q : Queued) → o ≡ Some q → q.cell.output < length lists) →
+    HaveOwnKeys came (with_came o lists)
+own_keys_rest None came lists own inside = record {
+  waiting = λ k. own.waiting (suc k);
+  others = λ k n q r lt. own.others (suc k) (suc n) q r (omega arith);
+}
+own_keys_rest (Some p) came lists own inside = record {
+  waiting = λ k q at j. own_stays p q lists j (inside p refl) (own.others zero (suc k) p q (omega arith) refl at)
+      (own.waiting (suc k) q at j);
+  others = λ k n q r lt. own.others (suc k) (suc n) q r (omega arith);
+}
+
+pub if_some : (o : Option Queued) (P : Queued → Type 0) → ((q : Queued) → o ≡ Some q → P q) → IfSome o P
+if_some q P f = grind (arith, common_steps)
+
+-- ## The walk over the inputs
+
+-- the cells from an input on
+pub from_input : (cells : List (Option Cell)) (input : ℕ) (o : Option Cell) → length cells ≡ 64 → input < 64 →
+    o ≡ arrival_at cells input → drop input cells ≡ o ∷ drop (input + 1) cells
+from_input cells input o places inside is = grind (arith, common_steps, drop_more, unwrap_or-slice_get)
+
+-- What was put in so far, and then the cells of the inputs from this one on, is all that is put in; and there is room
+-- for the cells of these, and each has its own key.
+pub record Putting (came : List (Option Queued)) (first : QueuesView) (input : ℕ) (queues : QueuesView) : Type 0 where
+  pub rooms : queues.rooms ≡ first.rooms
+  pub long : length queues.lists ≡ length first.lists
+  pub room : HaveRoomFor (drop input came) queues
+  pub keys : HaveOwnKeys (drop input came) queues.lists
+  pub filled : filled (drop input came) queues.lists ≡ filled came first.lists
+
+module _ {came : List (Option Queued)} {first : QueuesView} {input : ℕ} {queues : QueuesView}
+    (ports : CameToPorts (length first.lists) came) (so_far : Putting came first input queues) where
+  -- behind the last port no cell came
+  pub putting_last : length first.lists ≤ input → queues.lists ≡ filled came first.lists
+  putting_last past = search (rules, nobody_left, ports.inputs, get_or-drop)
+
+  module _ (few : length first.lists ≤ 64) (inside : input < length first.lists) where
+    next : drop input came ≡ get_or came input None ∷ drop (input + 1) came
+    next = grind (arith, common_steps, drop_more)
+
+    -- the list of the cell that came to an input has room for it, and no cell of its key
+    pub putting_room : length first.rooms ≡ length first.lists → (q : Queued) → get_or came input None ≡ Some q →
+        CanPut q queues
+    putting_room as_many q at = grind (arith, common_steps, next, ports.outputs, so_far.keys.waiting 0 q)
+
+    pub putting_next : (new : QueuesView) → new.lists ≡ with_came (get_or came input None) queues.lists →
+        new.rooms ≡ queues.rooms → Putting came first (input + 1) new
+    putting_next new lists rooms =
+        let o = get_or came input None in
+        let port : (q : Queued) → o ≡ Some q →
+        q.cell.output < length queues.lists = grind (arith, ports.outputs input) in
+        search (arith, rules, next, port, length-with_came, own_keys_rest, filled_next, one_put, length_put)
+
+-- parts that have as many outputs as others fit as these do
+pub fit_same : (M : List ℕ → Machine) (ranks ranks_new : RanksView) (queues queues_new : QueuesView) →
+    FitTogether (map M ranks.fixed) ranks queues → ranks_new.fixed ≡ ranks.fixed →
+    length ranks_new.states ≡ length ranks.states → length queues_new.lists ≡ length queues.lists →
+    queues_new.rooms ≡ queues.rooms → FitTogether (map M ranks_new.fixed) ranks_new queues_new
+fit_same M ranks ranks_new queues queues_new fit fixed states lists rooms = grind (arith, common_steps, length-map)

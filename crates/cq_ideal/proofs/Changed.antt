@@ -1,8 +1,8 @@
 -- Lists that are made item by item, what is seen of one item, and lists that are new up to a place, and old from it on.
-use Rattle.std.proofs.lemmas.Grind.{common_steps}
-use Rattle.std.proofs.Common.{◌≡◌, ℕ, ◌+◌, ◌<◌, ◌≤◌, List, [], ◌∷◌, ◌++◌, length, map, get_or, replicate, set, take, drop, sym, ap, ◌∙◌, arith, length-append}
-use Rattle.std.proofs.lemmas.List.{append-nil, drop_all, drop_more, get_or_at, get_or-map, length-drop, length-map, length-take, length-take-le, map-set, map_push, replicate_more, set_at, take_all, take_more}
-use Rattle.std.proofs.Math.Seq.{map-set_same}
+-- So the list and the machine of one output among those of all: what stands at its place is read through the lists of
+-- all, and a call that changes it changes these at its place alone.
+use Rattle.cq_ideal.proofs.Terms.{common_steps, ◌≡◌, ℕ, zero, suc, refl, ◌+◌, ◌<◌, ◌≤◌, List, [], ◌∷◌, ◌++◌, length, map, get_or, replicate, set, take, drop, sym, ap, ◌∙◌, arith, length-append, append-nil, drop_all, drop_more, get_or_at, get_or-map, length-drop, length-map, length-take, length-take-le, map-set, map_push, replicate_more, set_at, take_all, take_more, map-set_same, Option, None, subst, length-set, get_or-set_other, length-replicate, Queued, ◌^◌, eqb, Bool, All, IsTrue, ◌↔◌, list_all, get_or-replicate, All-push, list_all-map, list_all-from_AllPass, IsWithin, QueueView, QueuesView, list_at, Machine, machine_at, first_come, RanksView}
+use Rattle.cq_ideal.specs.Newcomers.{AreUsed}
 
 -- ## One item more
 
@@ -20,6 +20,14 @@ map_next f l n xs more x d so_far is inside here = grind (arith, common_steps, t
 pub map_same : {X Y : Type 0} (f : X → Y) (y : Y) (n : ℕ) (xs more : List X) (x : X) → map f xs ≡ replicate n y →
     more ≡ xs ++ x ∷ [] → f x ≡ y → map f more ≡ replicate (n + 1) y
 map_same f y n xs more x so_far is here = cc (map_push f xs x, replicate_more n y)
+
+-- the same at each place, and behind them
+pub same_at : {X : Type 0} (d : X) (n i : ℕ) → get_or (replicate n d) i d ≡ d
+same_at d n i = grind (arith, common_steps)
+
+pub map-replicate : {X Y : Type 0} (f : X → Y) (n : ℕ) (x : X) → map f (replicate n x) ≡ replicate n (f x)
+map-replicate f zero x = refl
+map-replicate f (suc n) x = ap (λ l. f x ∷ l) (map-replicate f n x)
 
 -- ## One item of some of which something is seen
 
@@ -48,8 +56,7 @@ at_place new old j d same inside = grind (arith, common_steps, drop_more, get_or
 
 pub next_place : {X : Type 0} (new old : List X) (j : ℕ) (y d : X) → length new ≡ length old → j < length old →
     y ≡ get_or new j d → set (changed_to new old j) j y ≡ changed_to new old (j + 1)
-next_place new old j y d same inside is =
-    grind (arith, common_steps, drop_more old j d inside, set_at (take j new))
+next_place new old j y d same inside is = grind (arith, common_steps, drop_more old j d inside, set_at (take j new))
 
 -- what is put at its place alone
 pub put_next : {X : Type 0} (new old now next : List X) (j : ℕ) (y d : X) → now ≡ changed_to new old j →
@@ -64,3 +71,129 @@ length-changed new old j same = grind (arith, common_steps, length-append, lengt
 pub at_end : {X : Type 0} (new old : List X) (j : ℕ) → length new ≡ length old → length old ≤ j →
     changed_to new old j ≡ new
 at_end new old j same end = cc (drop_all j old end, append-nil (take j new), take_all j new (omega arith))
+
+-- ## Which places may have a cell: none where all were cleared, and one more at most where one was filled
+
+pub none_used : (used : ℕ) (places : List (Option Queued)) → places ≡ replicate 64 None → AreUsed used places
+none_used used places nobody =
+    let none : Option Queued = None in
+    subst (AreUsed used) (sym nobody) (record { long = length-replicate 64 none; beyond = λ k _. same_at none 64 k })
+
+pub one_used : (used now input : ℕ) (places : List (Option Queued)) (q : Option Queued) → AreUsed used places →
+    used ≤ now → input < now → AreUsed now (set places input q)
+one_used used now input places q had le inside = grind (arith, common_steps, length-set, get_or-set_other)
+
+-- ## The lists of the outputs
+
+abbrev cells_in : QueueView → List Queued
+cells_in q = q.cells
+
+abbrev room_in : QueueView → ℕ
+room_in q = q.room
+
+module _ (items : List QueueView) (o : ℕ) {q : QueueView} {v : QueuesView} (inside : o < length v.lists)
+    (is : q ≡ get_or items o q) (view_is : record { lists = map cells_in items; rooms = map room_in items } ≡ v) where
+  lists_are : map cells_in items ≡ v.lists
+  lists_are = ap (λ (w : QueuesView). w.lists) view_is
+
+  rooms_are : map room_in items ≡ v.rooms
+  rooms_are = ap (λ (w : QueuesView). w.rooms) view_is
+
+  here : o < length items
+  here = item_inside cells_in items lists_are o inside
+
+  pub cells_seen : q.cells ≡ list_at v.lists o
+  cells_seen = seen_at cells_in items lists_are o [] here is
+
+  pub room_seen : q.room ≡ get_or v.rooms o 0
+  room_seen = seen_at room_in items rooms_are o 0 here is
+
+  -- the queue is within its room, which is a number of 64 bits
+  pub is_within : All IsWithin items → IsWithin q
+  is_within held = subst IsWithin (sym is) (held o q here)
+
+  pub lists_after : (s : QueueView) {y : List Queued} → s.cells ≡ y → map cells_in (set items o s) ≡ set v.lists o y
+  lists_after s e = seen_set cells_in items lists_are o s e
+
+  pub rooms_after : (s : QueueView) → s.room ≡ q.room → map room_in (set items o s) ≡ v.rooms
+  rooms_after s e = seen_same room_in items rooms_are o s is e
+
+-- the lists that were made so far are empty, and have the rooms of the first outputs
+pub record Made (rooms : List ℕ) (n : ℕ) (items : List QueueView) : Type 0 where
+  pub lists : map (λ q. q.cells) items ≡ replicate n []
+  pub rooms_are : map (λ q. q.room) items ≡ take n rooms
+  pub few : All (λ q. q.room < 2 ^ 64) items
+
+pub one_made : (rooms : List ℕ) (n : ℕ) (items more : List QueueView) (q : QueueView) → Made rooms n items →
+    more ≡ items ++ q ∷ [] → n < length rooms → q.cells ≡ [] → q.room ≡ get_or rooms n 0 → q.room < 2 ^ 64 →
+    Made rooms (n + 1) more
+one_made rooms n items more q made is inside empty room one =
+    grind (arith, common_steps, map_same, rooms_are, map_next, All-push)
+
+-- empty lists are within any room
+pub empty_within : (items : List QueueView) (n : ℕ) → map cells_in items ≡ replicate n [] →
+    All (λ q. q.room < 2 ^ 64) items → All IsWithin items
+empty_within items n e few k d inside =
+    let none : List Queued = [] in
+    let count = length-replicate n none in
+    let same = get_or-replicate n k none none in
+    grind (arith, common_steps, length-map items cells_in, get_or-map cells_in items k d none inside)
+
+-- each list is within its room, which is a number of 64 bits
+pub within_rooms : (items : List QueueView) (v : QueuesView) → All IsWithin items →
+    record { lists = map cells_in items; rooms = map room_in items } ≡ v → (j : ℕ) →
+    (length (list_at v.lists j) ≤ get_or v.rooms j 0) × (get_or v.rooms j 0 < 2 ^ 64)
+within_rooms items v held view_is j = rw (← view_is) (go items held j)
+  where
+    go : (items : List QueueView) → All IsWithin items → (j : ℕ) →
+        (length (list_at (map cells_in items) j) ≤ get_or (map room_in items) j 0)
+        × (get_or (map room_in items) j 0 < 2 ^ 64)
+    go [] held j = (omega arith, omega arith)
+    go (q ∷ items) held zero = held zero q (omega arith)
+    go (q ∷ items) held (suc j) = go items (λ k d inside. held (suc k) d (omega arith)) j
+
+-- a list without items has length 0
+abbrev none_in : List Queued → Bool
+none_in cells = eqb (length cells) 0
+
+pub none_wait : (items : List QueueView) (lists : List (List Queued)) (b : Bool) →
+    b ≡ list_all (λ q. eqb (length q.cells) 0) items → map cells_in items ≡ lists →
+    IsTrue b ↔ All (λ cells. cells ≡ []) lists
+none_wait items lists b e l =
+    grind (arith, common_steps, list_all-map none_in cells_in items, list_all-from_AllPass none_in lists)
+
+-- ## Their machines
+
+-- there are as many states as machines
+pub as_many : {R : Type 0} (F S : R → List ℕ) (items : List R) (v : RanksView) →
+    record { fixed = map F items; states = map S items } ≡ v → length v.states ≡ length v.fixed
+as_many F S items v view_is = cc (length-map items S, length-map items F)
+
+module _ {R : Type 0} (F S : R → List ℕ) (items : List R) (o : ℕ) {r : R} {v : RanksView}
+    (inside : o < length v.fixed) (is : r ≡ get_or items o r)
+    (view_is : record { fixed = map F items; states = map S items } ≡ v) where
+  fixed_is : map F items ≡ v.fixed
+  fixed_is = ap (λ (w : RanksView). w.fixed) view_is
+
+  states_is : map S items ≡ v.states
+  states_is = ap (λ (w : RanksView). w.states) view_is
+
+  -- what a machine in its state gives
+  pub seen : (M : List ℕ → Machine) {Y : Type 0} (f : Machine → List ℕ → Y) →
+      f (M (F r)) (S r) ≡ f (machine_at (map M v.fixed) o) (get_or v.states o [])
+  seen M f =
+      let here = item_inside F items fixed_is o inside in
+      let machine = get_or-map M v.fixed o (F r) (first_come []) inside in
+      cc (seen_at F items fixed_is o (F r) here is, machine, seen_at S items states_is o [] here is)
+
+  pub fixed_after : (s : R) → F s ≡ F r → map F (set items o s) ≡ v.fixed
+  fixed_after s e = seen_same F items fixed_is o s is e
+
+  pub states_after : (s : R) {y : List ℕ} → S s ≡ y → map S (set items o s) ≡ set v.states o y
+  states_after s e = seen_set S items states_is o s e
+
+  pub states_same : (s : R) → S s ≡ S r → map S (set items o s) ≡ v.states
+  states_same s e = seen_same S items states_is o s is e
+
+  pub many_after : (s : R) → length (map S (set items o s)) ≡ length v.states
+  many_after s = length-map (set items o s) S ∙ length-set items o s ∙ sym (length-map items S) ∙ ap length states_is

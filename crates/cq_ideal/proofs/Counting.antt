@@ -1,63 +1,50 @@
--- Refused cells that are counted one after another. What is counted so far, with those that are still to be counted,
--- is what is counted in all; and a count grows by one at most with each.
-use Rattle.std.proofs.Common.{rules, ◌≡◌, ℕ, zero, suc, ◌+◌, ◌-◌, ◌<◌, ◌≤◌, ◌^◌, eqb, Bool, true, false, cond, List, [], ◌∷◌, ◌++◌, length, drop, get_or, set, Option, Some, None, refl, sym, ap, ◌∙◌, arith, subst}
-use Rattle.std.proofs.lemmas.Grind.{common_steps}
-use Rattle.std.specs.Prelude.{◌&&◌}
-use Rattle.std.specs.List.{AllByRecursion}
-use Rattle.std.proofs.lemmas.List.Elements.{All-from_recursion}
-use Rattle.std.proofs.lemmas.List.{drop_all, drop_more, get_or-map, length-map}
-use Rattle.cq_base.specs.declared.cell.Cell.{Cell}
-use Rattle.cq_base.specs.Arrivals.{arrival_at}
-use Rattle.cq_ideal.specs.declared.refused.Refused.{Refused}
-use Rattle.cq_ideal.specs.Admission.{is_first, mark_at, refused}
-use Rattle.cq_ideal.specs.Limiter.{CanCount, HasPorts, LimiterView, where_up}
-use Rattle.cq_ideal.specs.Refused.{AreAllZero, cells_refused, packets_refused, refused_counts, with_cells, with_refused}
-use Rattle.cq_ideal.proofs.Refusals.{all_zero, cells_both, packets_both}
+-- The walks of a limiter over the inputs. Refused cells are counted one after another: what is counted so far, with
+-- those that are still to be counted, is what is counted in all; and a count grows by one at most with each. Arrivals
+-- are judged one after another: the marks so far, and then those of judging what is left, are those of judging all; and
+-- what the outputs hold so far, with what is still to be admitted, is what they hold at the end.
+
+use Rattle.cq_ideal.proofs.Terms.{rules, ◌≡◌, ℕ, zero, suc, ◌+◌, ◌-◌, ◌<◌, ◌≤◌, ◌^◌, eqb, Bool, true, false, cond, List, [], ◌∷◌, ◌++◌, length, drop, get_or, set, Option, Some, None, refl, sym, ap, ◌∙◌, arith, subst, common_steps, All-from_recursion, drop_all, drop_more, get_or-map, length-map, Cell, arrival_at, Refused, is_first, mark_at, refused, CanCount, HasPorts, LimiterView, where_up, cells_refused, packets_refused, refused_counts, with_cells, with_refused, take, get_or-set_same, get_or-set_other, cases_Bool, eqb-true, eq-eqb, drop-set-lt, get_or-drop, length-set, set-get_or, take_all, append-nil, unwrap_or-slice_get, admitted, mark_after, held_after, marks_after, count_for, ComeToPorts, all_weaker}
+use Rattle.cq_ideal.proofs.Refusals.{all_zero, count_both}
 use Rattle.cq_ideal.proofs.Changed.{at_place, changed_to, next_place}
-use Rattle.cq_ideal.proofs.TakenIn.{from_input}
+use Rattle.cq_ideal.proofs.FlowFound.{cell_listed}
+use Rattle.cq_ideal.proofs.Came.{from_input}
+
+-- ## Where there are no counts
 
 -- where there are no counts there is nothing to add to
 pub nothing_to_count : (cells : List Cell) (counts : List Refused) → length counts ≡ 0 →
     counts ≡ with_refused cells counts
-nothing_to_count cells [] none = refl
-nothing_to_count cells (r ∷ rs) none = absurd (omega arith)
+nothing_to_count cells rs none = grind (arith, common_steps)
 
 -- ## One cell
 
 abbrev pub one_if : Bool → ℕ
 one_if b = cond b 1 0
 
-one_kept : (b : Bool) (cell : Cell) → length (cond b (cell ∷ []) []) ≡ one_if b
-one_kept true cell = refl
-one_kept false cell = refl
-
-cells_of_one : (j : ℕ) (cell : Cell) → cells_refused j (cell ∷ []) ≡ one_if (eqb cell.output j)
-unfolding cells_refused
-cells_of_one j cell = one_kept (eqb cell.output j) cell
-
-packets_of_one : (j : ℕ) (cell : Cell) → packets_refused j (cell ∷ []) ≡ one_if (eqb cell.output j && is_first cell)
-unfolding packets_refused
-packets_of_one j cell = one_kept (eqb cell.output j && is_first cell) cell
-
 -- the counts of a cell that is for another output, and of one that is for this
 pub other_output : (r : Refused) (cell : Cell) → eqb cell.output r.output ≡ false → r ≡ with_cells (cell ∷ []) r
-other_output r cell other = grind (arith, common_steps, cells_of_one, packets_of_one)
+unfolding cells_refused packets_refused
+other_output r cell other = grind (arith, common_steps)
 
 pub this_output : (r : Refused) (cell : Cell) (first : ℕ) → eqb cell.output r.output ≡ true →
     first ≡ one_if (is_first cell) →
     record { output = r.output; limit = r.limit; packets = r.packets + first; cells = r.cells + 1 }
     ≡ with_cells (cell ∷ []) r
-this_output r cell first same is = cc (cells_of_one r.output cell, packets_of_one r.output cell)
+unfolding cells_refused packets_refused
+this_output r cell first same is = grind (arith, common_steps)
 
 -- a count that has room for a cell more
+one_left : (n : ℕ) (cell : Cell) (r : Refused) → (r.packets + (n + 1) < 2 ^ 64) × (r.cells + (n + 1) < 2 ^ 64) →
+    ((with_cells (cell ∷ []) r).packets + n < 2 ^ 64) × ((with_cells (cell ∷ []) r).cells + n < 2 ^ 64)
+unfolding cells_refused packets_refused
+one_left n cell r can = grind (arith, common_steps)
+
 pub counts_left : (n : ℕ) (cell : Cell) (counts : List Refused) → CanCount (n + 1) counts →
     CanCount n (with_refused (cell ∷ []) counts)
 counts_left n cell counts can k d inside =
     let long = length-map counts (with_cells (cell ∷ [])) in
-    let get_or-map-here = get_or-map (with_cells (cell ∷ [])) counts k d d in
-    let packets_of_one-here = packets_of_one (get_or counts k d).output cell in
-    let cells_of_one-here = cells_of_one (get_or counts k d).output cell in
-    search (arith, rules)
+    rw (get_or-map (with_cells (cell ∷ [])) counts k d d (omega arith))
+    (one_left n cell (get_or counts k d) (can k d (omega arith)))
 
 pub fewer_left : (n m : ℕ) (counts : List Refused) → CanCount m counts → n ≤ m → CanCount n counts
 fewer_left n m counts can le k d inside = grind (arith, common_steps)
@@ -66,31 +53,26 @@ fewer_left n m counts can le k d inside = grind (arith, common_steps)
 
 module _ (cell : Cell) (first : List Refused) (place : ℕ) (now : List Refused)
     (so_far : now ≡ changed_to (with_refused (cell ∷ []) first) first place) (inside : place < length first) where
-  untouched : (d : Refused) → get_or now place d ≡ get_or first place d
-  untouched d = grind (arith, common_steps, at_place, length-map)
-
   pub can_count_here : (d : Refused) → CanCount 1 first →
       ((get_or now place d).packets + 1 < 2 ^ 64) × ((get_or now place d).cells + 1 < 2 ^ 64)
-  can_count_here d can = grind (arith, common_steps, untouched)
+  can_count_here d can = grind (arith, common_steps, at_place, length-map)
 
   pub tallied_next : (d after : Refused) → after ≡ with_cells (cell ∷ []) (get_or now place d) →
       set now place after ≡ changed_to (with_refused (cell ∷ []) first) first (place + 1)
   tallied_next d after is =
       let all = with_refused (cell ∷ []) first in
       let same = length-map first (with_cells (cell ∷ [])) in
-      let here : after ≡ get_or all place d = search (arith, rules, untouched, get_or-map) in
+      let here : after ≡ get_or all place d = search (arith, rules, common_steps, at_place, length-map, get_or-map) in
       ap (λ (l : List Refused). set l place after) so_far ∙ next_place all first place after d same inside here
 
 -- ## Cells one after another
 
-counted_both : (before now : List Cell) (r : Refused) → with_cells (before ++ now) r ≡ with_cells now (with_cells
-    before r)
-counted_both before now r = grind (arith, common_steps, packets_both, cells_both)
-
 pub all_counted_both : (before now : List Cell) (counts : List Refused) →
     with_refused (before ++ now) counts ≡ with_refused now (with_refused before counts)
+unfolding cells_refused packets_refused
 all_counted_both before now [] = refl
-all_counted_both before now (r ∷ counts) = cc (counted_both before now r, all_counted_both before now counts)
+all_counted_both before now (r ∷ counts) =
+    search (arith, rules, count_both, all_counted_both before now counts)
 
 pub none_counted : (counts : List Refused) → with_refused [] counts ≡ counts
 unfolding cells_refused packets_refused
@@ -111,27 +93,9 @@ counts_fit (cell ∷ cells) n (suc m) counts can few =
 
 -- where nothing was refused yet there is room for many
 pub zero_fits : (n : ℕ) (limits : List (Option ℕ)) → n < 2 ^ 64 → CanCount n (refused_counts limits [])
-zero_fits n limits few =
-    All-from_recursion (λ r. (r.packets + n < 2 ^ 64) × (r.cells + n < 2 ^ 64)) (refused_counts limits [])
-    (each (refused_counts limits []) (all_zero limits))
-  where
-    each : (counts : List Refused) → AreAllZero counts →
-        AllByRecursion (λ r. (r.packets + n < 2 ^ 64) × (r.cells + n < 2 ^ 64)) counts
-    each [] none = tt
-    each (r ∷ counts) none =
-        ((omega arith, omega arith), each counts none.1)
+zero_fits n limits few = search (arith, rules, All-from_recursion, all_weaker, all_zero limits)
 
 -- ## The walk over the inputs
-
-abbrev listed : Option Cell → List Cell
-listed None = []
-listed (Some cell) = cell ∷ []
-
-one_listed : (mark : Bool) (marks : List Bool) (cell : Option Cell) (cells : List (Option Cell)) →
-    refused (mark ∷ marks) (cell ∷ cells) ≡ listed (where_up mark cell) ++ refused marks cells
-one_listed true marks None cells = refl
-one_listed true marks (Some c) cells = refl
-one_listed false marks cell cells = refl
 
 pub record Counting (cells : List (Option Cell)) (first : LimiterView) (input : ℕ) (now : LimiterView) : Type 0 where
   pub limits : now.limits ≡ first.limits
@@ -142,49 +106,118 @@ pub record Counting (cells : List (Option Cell)) (first : LimiterView) (input : 
       ≡ with_refused (refused first.marks cells) first.refused
   pub few : CanCount (length first.limits - input) now.refused
 
-pub counting_first : (cells : List (Option Cell)) (first : LimiterView) → CanCount (length first.limits) first.refused →
-    Counting cells first 0 first
-counting_first cells first can = grind (arith, common_steps, fewer_left)
+module _ {cells : List (Option Cell)} {first : LimiterView} {input : ℕ} {now : LimiterView}
+    (so_far : Counting cells first input now) (has : HasPorts first) where
+  -- no input is left
+  pub counting_last : length first.limits ≤ input → now.refused ≡ with_refused (refused first.marks cells) first.refused
+  counting_last past = grind (arith, common_steps, drop_all, none_counted)
 
-module _ (cells : List (Option Cell)) (first : LimiterView) (input : ℕ) (now : LimiterView)
-    (so_far : Counting cells first input now) (few : length first.limits ≤ 64) (has : HasPorts first)
-    (inside : input < length first.limits) (places : length cells ≡ 64) where
-  split : (cell : Option Cell) → cell ≡ where_up (mark_at first.marks input) (arrival_at cells input) →
-      refused (drop input first.marks) (drop input cells)
-      ≡ listed cell ++ refused (drop (input + 1) first.marks) (drop (input + 1) cells)
-  split cell is = grind (arith, common_steps, drop_more, from_input, one_listed)
+  module _ (few : length first.limits ≤ 64) (inside : input < length first.limits) (places : length cells ≡ 64) where
+    split : (cell : Option Cell) → cell ≡ where_up (mark_at first.marks input) (arrival_at cells input) →
+        refused (drop input first.marks) (drop input cells)
+        ≡ cell_listed cell ++ refused (drop (input + 1) first.marks) (drop (input + 1) cells)
+    split cell is = search (arith, rules, drop_more, from_input)
 
-  pub counting_none : None ≡ where_up (mark_at first.marks input) (arrival_at cells input) →
-      Counting cells first (input + 1) now
-  counting_none is =
+    pub counting_none : None ≡ where_up (mark_at first.marks input) (arrival_at cells input) →
+        Counting cells first (input + 1) now
+    counting_none is = search (arith, rules, split None is, fewer_left)
+
+    pub can_count_one : CanCount 1 now.refused
+    can_count_one = fewer_left 1 (length first.limits - input) now.refused so_far.few (omega arith)
+
+    pub counting_some : (cell : Cell) (after : LimiterView) →
+        Some cell ≡ where_up (mark_at first.marks input) (arrival_at cells input) →
+        after.refused ≡ with_refused (cell ∷ []) now.refused → after.marks ≡ now.marks → after.held ≡ now.held →
+        after.limits ≡ now.limits → Counting cells first (input + 1) after
+    counting_some cell after is counted marks held limits =
+        let rest = refused (drop (input + 1) first.marks) (drop (input + 1) cells) in
+        let all = all_counted_both (cell ∷ []) rest now.refused in
+        let here = split (Some cell) is in
+        let left = counts_left (length first.limits - (input + 1)) cell now.refused in search (arith, rules, all, left)
+
+-- ## Arrivals that are judged
+
+-- how many cells will have been admitted for output j
+abbrev to_admit : ℕ → List (Option ℕ) → List ℕ → List Bool → List (Option Cell) → ℕ
+to_admit j limits held marks cells = count_for j (admitted (marks_after limits held marks cells) cells)
+
+pub record Judging (cells : List (Option Cell)) (first : LimiterView) (input : ℕ) (now : LimiterView) : Type 0 where
+  pub limits : now.limits ≡ first.limits
+  pub refused : now.refused ≡ first.refused
+  pub inputs : length now.marks ≡ length first.marks
+  pub outputs : length now.held ≡ length first.held
+  pub judged :
+      take input now.marks ++ marks_after first.limits now.held (drop input now.marks) (drop input cells)
+      ≡ marks_after first.limits first.held first.marks cells
+  pub held : (j : ℕ) → get_or now.held j 0 + to_admit j first.limits now.held (drop input now.marks) (drop input cells)
+      ≡ get_or first.held j 0 + to_admit j first.limits first.held first.marks cells
+  pub few : (j : ℕ) →
+      get_or now.held j 0 + count_for j (drop input cells) ≤ get_or first.held j 0 + count_for j cells
+
+one_more : (limits : List (Option ℕ)) (held : List ℕ) (input : ℕ) (marks : List Bool) (cell : Option Cell)
+    (rest : List (Option Cell)) (up : Bool) → up ≡ mark_after limits held (get_or marks input false) cell →
+    input < length marks →
+    take (suc input) (set marks input up) ++ marks_after limits (held_after up held cell)
+    (drop (suc input) (set marks input up)) rest ≡ take input marks ++ marks_after limits held (drop input marks)
+    (cell ∷ rest)
+one_more limits held input [] cell rest up e lt = absurd (omega arith)
+one_more limits held input (mark ∷ marks) cell rest up e lt =
+    grind (arith, common_steps, one_more limits held input marks)
+
+-- what an output holds grows by one where the cell is for it
+raised : (held : List ℕ) (o j : ℕ) → o < length held →
+    get_or (set held o (get_or held o 0 + 1)) j 0 ≡ get_or held j 0 + one_if (eqb o j)
+raised held o j inside = grind (arith, common_steps, cases_Bool, eqb-true, get_or-set_same, get_or-set_other, eq-eqb)
+
+as_many : (up : Bool) (held : List ℕ) (cell : Option Cell) → length (held_after up held cell) ≡ length held
+as_many b held cell = grind (arith, common_steps, length-set)
+
+none_to_count : (j : ℕ) (cells : List (Option Cell)) → ((k : ℕ) (c : Cell) → get_or cells k None ≡ Some c → ⊥) →
+    count_for j cells ≡ 0
+none_to_count j [] none = refl
+none_to_count j (None ∷ cells) none = none_to_count j cells (λ k c at. none (suc k) c at)
+none_to_count j (Some c ∷ cells) none = absurd (none zero c refl)
+
+pub record Judged (cells : List (Option Cell)) (first now : LimiterView) : Type 0 where
+  pub marks : now.marks ≡ marks_after first.limits first.held first.marks cells
+  pub held : (j : ℕ) → get_or now.held j 0 ≡ get_or first.held j 0 + count_for j (admitted now.marks cells)
+  pub ports : HasPorts now
+
+module _ {cells : List (Option Cell)} {first : LimiterView} {input : ℕ} {now : LimiterView}
+    (so_far : Judging cells first input now) where
+  pub judged_next : (after : LimiterView) (cell : Option Cell) (up : Bool) → input < length first.marks →
+      drop input cells ≡ cell ∷ drop (input + 1) cells →
+      ((c : Cell) → cell ≡ Some c → c.output < length first.held) →
+      up ≡ mark_after now.limits now.held (get_or now.marks input false) cell → after.marks ≡ set now.marks input up →
+      after.held ≡ held_after up now.held cell → after.limits ≡ now.limits → after.refused ≡ now.refused →
+      Judging cells first (input + 1) after
+  judged_next after cell up lt here inside turned marks held limits refused =
+      search (arith, rules, drop-set-lt, drop_more, one_more, length-set, as_many, raised)
+
+  -- where no cell arrives nothing changes
+  pub judged_none : input < length first.marks → drop input cells ≡ None ∷ drop (input + 1) cells →
+      Judging cells first (input + 1) now
+  judged_none lt here = search (arith, rules, judged_next now None, set-get_or now.marks input false)
+
+  -- there is a number to spare for a cell that arrives
+  pub one_more_fits : (c : Cell) (most : ℕ) → drop input cells ≡ Some c ∷ drop (input + 1) cells →
+      get_or first.held c.output 0 + count_for c.output cells < most → get_or now.held c.output 0 + 1 < most
+  one_more_fits c most here few = grind (arith, common_steps, so_far.few, eq-eqb)
+
+  -- after all arrivals
+  pub judged_last : HasPorts first → ComeToPorts (length first.limits) cells → length first.limits ≤ input →
+      Judged cells first now
+  judged_last has come past =
+      let none : Option Cell = None in
+      let limits = ap length so_far.limits in
+      let over : drop input now.marks ≡ [] = drop_all input now.marks (omega arith) in
+      let marks : now.marks ≡ marks_after first.limits first.held first.marks cells =
+      cc (take_all input now.marks (omega arith), append-nil (take input now.marks), so_far.judged) in
       record {
-        limits = so_far.limits;
-        held = so_far.held;
-        marks = so_far.marks;
-        counted = ap (λ (l : List Cell). with_refused l now.refused) (sym (split None is)) ∙ so_far.counted;
-        few = search (arith, rules, fewer_left);
+        marks = marks;
+        held = λ j.
+            let nothing = none_to_count j (drop input cells) (λ k c at. let l = come.inputs (input + k) c in
+            grind (arith, common_steps, unwrap_or-slice_get cells (input + k) none, get_or-drop input cells k none)) in
+            let all = so_far.held j in grind (arith, common_steps);
+        ports = record { held = omega arith; marks = omega arith };
       }
-
-  pub can_count_one : CanCount 1 now.refused
-  can_count_one = fewer_left 1 (length first.limits - input) now.refused so_far.few (omega arith)
-
-  pub counting_some : (cell : Cell) (after : LimiterView) →
-      Some cell ≡ where_up (mark_at first.marks input) (arrival_at cells input) →
-      after.refused ≡ with_refused (cell ∷ []) now.refused → after.marks ≡ now.marks → after.held ≡ now.held →
-      after.limits ≡ now.limits → Counting cells first (input + 1) after
-  counting_some cell after is counted marks held limits =
-      let rest = refused (drop (input + 1) first.marks) (drop (input + 1) cells) in
-      search (
-        arith,
-        rules,
-        all_counted_both (cell ∷ []) rest now.refused,
-        split (Some cell) is,
-        counts_left
-            (length first.limits - (input + 1)) cell now.refused,
-      )
-
--- no input is left
-pub counting_last : (cells : List (Option Cell)) (first : LimiterView) (input : ℕ) (now : LimiterView) →
-    Counting cells first input now → HasPorts first → length first.limits ≤ input →
-    now.refused ≡ with_refused (refused first.marks cells) first.refused
-counting_last cells first input now so_far has past = grind (arith, common_steps, drop_all, none_counted)

@@ -1,66 +1,95 @@
--- Slots that are enough for a run are enough with limits: no more cells are admitted in a slot than come, and there
--- are as many slots.
-use Rattle.std.proofs.Common.{◌≡◌, ℕ, zero, suc, ◌≤◌, Bool, true, false, List, [], ◌∷◌, length, Option, Some, None, refl, ap, arith}
-use Rattle.std.proofs.lemmas.Grind.{common_steps}
-use Rattle.std.specs.Prelude.{All, IfOk}
-use Rattle.cq_base.specs.declared.cell.Cell.{Cell}
-use Rattle.cq_base.specs.Arriving.{Arrival, end_of, traffic_of}
-use Rattle.cq_rank.specs.Machine.{Machine}
-use Rattle.cq_ideal.specs.Admission.{Admission, admission, admitted, admitted_in}
-use Rattle.cq_ideal.specs.LimitedIdeal.{empty_limited, limited_run}
-use Rattle.cq_ideal.specs.WholePackets.{AreJudged}
+-- The slots of a run are enough. Count the cells that wait, in all lists together, and those that are still to come.
+-- A slot makes the first count greater by no more than the cells that come, and if then any cell waits, one at least
+-- is sent. So after the last slot with an arrival no more cells wait than came in all, and each later slot takes one
+-- of them. Slots that are enough are enough with limits: no more cells are admitted in a slot than come, and there are
+-- as many slots.
+use Rattle.cq_ideal.proofs.Terms.{◌≡◌, ℕ, zero, suc, ◌≤◌, Bool, List, [], ◌∷◌, length, drop, Option, refl, ap, arith, ◌+◌, replicate, Result, Ok, common_steps, All, IfOk, Cell, Arrival, end_of, traffic_of, arriving, enough, Machine, Admission, admitted, admitted_in, empty_limited, limited_run, AreJudged, TagFault, no_arrivals, IdealState, Ran, ideal_run, empty_ideal}
+use Rattle.cq_ideal.proofs.Admitted.{its_marks}
 use Rattle.cq_ideal.proofs.Ends.{nothing_left}
 use Rattle.cq_ideal.proofs.FlowCount.{come_count-traffic_of, length-traffic_of, quiet_at_end}
-use Rattle.cq_ideal.proofs.FlowRank.{present}
-use Rattle.cq_ideal.proofs.FlowRun.{come_count, QuietAfter}
+use Rattle.cq_ideal.proofs.FlowRank.{present, only_ok}
+use Rattle.cq_ideal.proofs.FlowRun.{come_count}
 use Rattle.cq_ideal.proofs.LimitedRuns.{is_run_of, judged}
-use Rattle.cq_ideal.proofs.Whole.{empties, if_ok, waiting-empty}
+use Rattle.cq_ideal.proofs.Parted.{first_slot, none_arrive}
+use Rattle.cq_ideal.proofs.Waiting.{counted, waiting}
+
+-- Where after some slot nothing comes any more, and as many slots follow as cells came in all, each of these takes
+-- one cell that waits, so none is left.
+empties : (ms : List Machine) (traffic : List (List (Option Cell))) (slot e : ℕ) (s : IdealState) (ran : Ran) →
+    ideal_run ms slot traffic s ≡ Ok ran → come_count (drop e traffic) ≡ 0 →
+    waiting s.lists + come_count traffic + e ≤ length traffic → waiting ran.after.lists ≡ 0
+unfolding ideal_run come_count
+empties ms [] slot e s ran is quiet enough = grind (arith, common_steps, waiting, only_ok)
+empties ms (cells ∷ traffic) slot zero s ran is quiet enough =
+    let p = first_slot ms slot cells traffic s ran is in
+    let fewer = (counted ms slot cells s p.sent p.ran_slot).fewer in
+    let none : length (present cells) + come_count traffic ≡ 0 = quiet in
+    let rest = empties ms traffic (slot + 1) zero p.sent.after p.second p.ran_second (omega arith) (omega arith) in
+    cc p.both
+empties ms (cells ∷ traffic) slot (suc e) s ran is quiet enough =
+    let p = first_slot ms slot cells traffic s ran is in
+    let fewer = (counted ms slot cells s p.sent p.ran_slot).fewer in
+    let rest = empties ms traffic (slot + 1) e p.sent.after p.second p.ran_second quiet (omega arith) in cc p.both
 
 -- ## What is admitted
 
 pub fewer : (marks : List Bool) (cells : List (Option Cell)) →
     length (present (admitted marks cells)) ≤ length (present cells)
 fewer [] cells = omega arith
-fewer (mark ∷ marks) [] = omega arith
-fewer (true ∷ marks) (None ∷ cells) = fewer marks cells
-fewer (false ∷ marks) (None ∷ cells) = fewer marks cells
-fewer (true ∷ marks) (Some cell ∷ cells) = let rest = fewer marks cells in omega arith
-fewer (false ∷ marks) (Some cell ∷ cells) = let rest = fewer marks cells in omega arith
+fewer (mark ∷ marks) cells = grind (arith, common_steps, fewer marks)
 
-module _ (limits : List (Option ℕ)) where
-  few : (held : List ℕ) (marks : List Bool) (cells : List (Option Cell)) (a : Admission) →
-      a ≡ admission limits held marks cells → length (present a.cells) ≤ length (present cells)
-  unfolding admission
-  few held marks cells a is = grind (arith, common_steps, present, fewer)
+-- no more comes than in that traffic, in as many slots, and no later
+pub record ComesNoMore (all some : List (List (Option Cell))) : Type 0 where
+  pub count : (e : ℕ) → come_count (drop e some) ≤ come_count (drop e all)
+  pub slots : length some ≡ length all
 
-  pub no_more : (marks : List Bool) (traffic : List (List (Option Cell))) (admissions : List Admission) →
-      AreJudged limits marks traffic admissions → come_count (admitted_in admissions) ≤ come_count traffic
-  unfolding come_count
-  no_more marks [] [] judged = omega arith
-  no_more marks [] (a ∷ admissions) judged = absurd judged
-  no_more marks (cells ∷ traffic) [] judged = absurd judged
-  no_more marks (cells ∷ traffic) (a ∷ admissions) judged =
-      grind (arith, common_steps, few, no_more a.marks traffic admissions judged.1)
+pub no_more : (limits : List (Option ℕ)) (marks : List Bool) (traffic : List (List (Option Cell)))
+    (admissions : List Admission) → AreJudged limits marks traffic admissions →
+    ComesNoMore traffic (admitted_in admissions)
+unfolding come_count
+no_more limits marks [] [] judged = record { count = λ e. omega arith; slots = refl }
+no_more limits marks [] (a ∷ admissions) judged = absurd judged
+no_more limits marks (cells ∷ traffic) [] judged = absurd judged
+no_more limits marks (cells ∷ traffic) (a ∷ admissions) judged =
+    let here = fewer a.marks cells in
+    let are = ap (λ (l : List (Option Cell)). length (present l)) (its_marks limits marks cells a judged.0).1 in
+    let rest = no_more limits a.marks traffic admissions judged.1 in
+    let later : come_count (admitted_in admissions) ≤ come_count traffic = rest.count zero in
+    record { count = elim [ zero ↦ omega arith | suc e ↦ rest.count e ]; slots = ap suc rest.slots }
 
-  pub as_many_slots : (marks : List Bool) (traffic : List (List (Option Cell))) (admissions : List Admission) →
-      AreJudged limits marks traffic admissions → length (admitted_in admissions) ≡ length traffic
-  as_many_slots marks [] [] judged = refl
-  as_many_slots marks [] (a ∷ admissions) judged = absurd judged
-  as_many_slots marks (cells ∷ traffic) [] judged = absurd judged
-  as_many_slots marks (cells ∷ traffic) (a ∷ admissions) judged =
-      ap suc (as_many_slots a.marks traffic admissions judged.1)
+-- ## As many slots as are enough
 
-  pub still_quiet : (e : ℕ) (marks : List Bool) (traffic : List (List (Option Cell))) (admissions : List Admission) →
-      AreJudged limits marks traffic admissions → QuietAfter e traffic → QuietAfter e (admitted_in admissions)
-  still_quiet e marks [] [] judged quiet = tt
-  still_quiet e marks [] (a ∷ admissions) judged quiet = absurd judged
-  still_quiet e marks (cells ∷ traffic) [] judged quiet = absurd judged
-  still_quiet zero marks (cells ∷ traffic) (a ∷ admissions) judged quiet =
-      grind (arith, common_steps, few, still_quiet zero a.marks traffic admissions judged.1 quiet.1)
-  still_quiet (suc e) marks (cells ∷ traffic) (a ∷ admissions) judged quiet =
-      still_quiet e a.marks traffic admissions judged.1 quiet
+pub waiting-empty : (ports : ℕ) → waiting (replicate ports []) ≡ 0
+unfolding waiting
+waiting-empty zero = refl
+waiting-empty (suc ports) = let rest = waiting-empty ports in omega arith
 
--- ## The run of all arrivals
+if_ok : {A : Type 0} (P : A → Type 0) (x : Result A TagFault) → ((a : A) → x ≡ Ok a → P a) → IfOk x P
+if_ok P fault f = grind (arith, common_steps)
+
+-- where no more comes than these arrivals
+emptied : (ms : List Machine) (ports : ℕ) (ranks : List (List ℕ)) (came : List Arrival)
+    (traffic : List (List (Option Cell))) (ran : Ran) → ideal_run ms 0 traffic (empty_ideal ports ranks) ≡ Ok ran →
+    ComesNoMore (traffic_of came) traffic → All (λ cells. cells ≡ []) ran.after.lists
+emptied ms ports ranks came traffic ran is less =
+    let few = come_count-traffic_of came in
+    let slots = length-traffic_of came in
+    let none = waiting-empty ports in
+    let fewer : come_count traffic ≤ come_count (traffic_of came) = less.count zero in
+    let quiet = quiet_at_end came in
+    let later = less.count (end_of came) in
+    nothing_left ran.after.lists
+    (empties ms traffic 0 (end_of came) (empty_ideal ports ranks) ran is (omega arith) (omega arith))
+
+pub empty_at_end : (ms : List Machine) (ports : ℕ) (ranks : List (List ℕ)) (came : List Arrival) →
+    IfOk (ideal_run ms 0 (traffic_of came) (empty_ideal ports ranks))
+    (λ ran. All (λ cells. cells ≡ []) ran.after.lists)
+empty_at_end ms ports ranks came = if_ok (λ ran. All (λ cells. cells ≡ []) ran.after.lists) _ (λ ran is.
+    emptied ms ports ranks came (traffic_of came) ran is (record { count = λ e. omega arith; slots = refl }))
+
+pub none_after_end : (came : List Arrival) (t : ℕ) → enough came ≤ t → arriving came t ≡ no_arrivals
+unfolding enough
+none_after_end came t h = none_arrive came t 64 refl (omega arith)
 
 pub limited_empty_at_end : (limits : List (Option ℕ)) (ms : List Machine) (ports : ℕ) (ranks : List (List ℕ))
     (came : List Arrival) →
@@ -68,16 +97,7 @@ pub limited_empty_at_end : (limits : List (Option ℕ)) (ms : List Machine) (por
     (λ ran. All (λ cells. cells ≡ []) ran.after.state.lists)
 limited_empty_at_end limits ms ports ranks came =
     let start = empty_limited ports ranks in
-    if_ok (λ ran. All (λ cells. cells ≡ []) ran.after.state.lists) (limited_run limits ms 0 (traffic_of came) start)
-    (λ ran is.
-    let all = judged limits ms 0 (traffic_of came) start ran is in
-    let less = no_more limits start.marks (traffic_of came) ran.admissions all in
-    let long = as_many_slots limits start.marks (traffic_of came) ran.admissions all in
-    let quiet = still_quiet limits (end_of came) start.marks (traffic_of came) ran.admissions all (quiet_at_end came) in
-    let few = come_count-traffic_of came in
-    let slots = length-traffic_of came in
-    let none = waiting-empty ports in
-    nothing_left ran.after.state.lists
-    (empties ms (admitted_in ran.admissions) 0 (end_of came) start.state
-    (record { gone = ran.gone; after = ran.after.state }) (is_run_of limits ms 0 (traffic_of came) start ran is) quiet
-    (omega arith)))
+    if_ok (λ ran. All (λ cells. cells ≡ []) ran.after.state.lists) _ (λ ran is.
+    emptied ms ports ranks came (admitted_in ran.admissions) (record { gone = ran.gone; after = ran.after.state })
+    (is_run_of limits ms 0 (traffic_of came) start ran is)
+    (no_more limits start.marks (traffic_of came) ran.admissions (judged limits ms 0 (traffic_of came) start ran is)))

@@ -1,30 +1,23 @@
 -- How many cells come, and until when. Each arrival adds one cell at most to what comes, at its slot and input, so no
 -- more cells come than there are arrivals. From the end of the arrivals on none comes. So a run of as many slots as are
 -- enough has one slot for each cell after the last of them came.
-use Rattle.std.proofs.Common.{rules, ◌≡◌, ℕ, zero, suc, ◌+◌, ◌<◌, ◌≤◌, List, [], ◌∷◌, ◌++◌, length, map, Option, Some, None, refl, sym, ap, arith}
-use Rattle.std.proofs.lemmas.Grind.{common_steps}
-use Rattle.std.specs.List.{AllByRecursion, range_with_len}
-use Rattle.std.proofs.lemmas.List.FromFn.{length-map-range_with_len}
-use Rattle.cq_base.specs.declared.cell.Cell.{Cell}
-use Rattle.cq_base.specs.Arriving.{Arrival, arriving_at, arriving, end_of, enough, traffic_of}
-use Rattle.cq_ideal.proofs.FlowPut.{all_from}
+use Rattle.cq_ideal.proofs.Terms.{rules, ◌≡◌, ℕ, zero, suc, ◌+◌, ◌<◌, ◌≤◌, List, [], ◌∷◌, length, map, drop, refl, sym, ap, arith, common_steps, AllByRecursion, range_with_len, length-map-range_with_len, Arrival, arriving_at, arriving, end_of, enough, traffic_of, all_weaker}
 use Rattle.cq_ideal.proofs.FlowRank.{present}
-use Rattle.cq_ideal.proofs.FlowRun.{come_count, QuietAfter}
+use Rattle.cq_ideal.proofs.FlowRun.{come_count}
 use Rattle.cq_ideal.proofs.Waiting.{total, total_more, total_none, total_same}
-use Rattle.cq_ideal.proofs.FlowFound.{cell_listed, found, other_slot, other_input, found_none, length-found, arriving_is, present-cons}
+use Rattle.cq_ideal.proofs.FlowFound.{found, other_slot, other_input, found_none, length-found, arriving_is}
 
 -- ## The cells of one slot
-
-length-listed : (o : Option Cell) (cells : List Cell) →
-    length (cell_listed o ++ cells) ≡ length (cell_listed o) + length cells
-length-listed None cells = omega arith
-length-listed (Some cell) cells = omega arith
 
 count_total : (came : List Arrival) (t a n : ℕ) →
     length (present (map (arriving_at came t) (range_with_len a n))) ≡ total (λ k. length (found came t k)) a n
 unfolding total found
 count_total came t a zero = refl
-count_total came t a (suc n) = simp (present, present-cons, length-listed, found, count_total came t (a + 1) n)
+count_total came t a (suc n) = search (arith, rules, present, common_steps, found, count_total came t (a + 1) n)
+
+pub before_end : (came : List Arrival) → AllByRecursion (λ a. a.slot < end_of came) came
+before_end [] = tt
+before_end (a ∷ came) = grind (arith, common_steps, all_weaker, before_end came)
 
 module _ (inputs : ℕ) (are : inputs ≡ 64) where
   -- the cells that come in a slot
@@ -44,15 +37,11 @@ module _ (inputs : ℕ) (are : inputs ≡ 64) where
 
   no_more_than : (came : List Arrival) (n : ℕ) → total (in_slot came) 0 n ≤ length came
   unfolding in_slot
-  no_more_than [] n =
-      let none = total_none (in_slot []) 0 n
-      (λ t. total_none (λ k. length (found [] t k)) 0 inputs (λ k. ap length (found_none [] t k tt))) in
-      omega arith
+  no_more_than [] n = grind (arith, common_steps, total_none, found_none [])
   no_more_than (a ∷ came) n =
-      let more = total_more (in_slot (a ∷ came)) (in_slot came) a.slot 1 0 n
-      (λ t ne. total_same (λ k. length (found (a ∷ came) t k)) (λ k. length (found came t k)) 0 inputs
-      (λ k l. ap length (other_slot a came t k (λ e. ne (sym e)))))
-      (in_slot-cons a came) in
+      let more = total_more (in_slot (a ∷ came)) (in_slot came) a.slot 1 0 n (λ t ne.
+      total_same (λ k. length (found (a ∷ came) t k)) (λ k. length (found came t k)) 0 inputs
+      (λ k l. ap length (other_slot a came t k (λ e. ne (sym e))))) (in_slot-cons a came) in
       let rest = no_more_than came n in omega arith
 
   count_from : (came : List Arrival) (a n : ℕ) →
@@ -63,30 +52,28 @@ module _ (inputs : ℕ) (are : inputs ≡ 64) where
 
   -- ## The end of the arrivals
 
-  none_from : (came : List Arrival) (end t : ℕ) → AllByRecursion (λ a. a.slot < end) came → end ≤ t →
-      length (present (arriving came t)) ≡ 0
+  none_from : (came : List Arrival) (t : ℕ) → end_of came ≤ t → length (present (arriving came t)) ≡ 0
   unfolding in_slot
-  none_from came end t before le =
-      grind (arith, common_steps, count_in_slot came t, total_none, found came t, found_none came t, all_from)
+  none_from came t le =
+      let before = before_end came in
+      grind (arith, common_steps, count_in_slot came t, total_none, found came t, found_none came t, all_weaker)
 
-  quiet_from : (came : List Arrival) (end e a n : ℕ) → AllByRecursion (λ x. x.slot < end) came → end ≤ a + e →
-      QuietAfter e (map (arriving came) (range_with_len a n))
-  unfolding none_from
-  quiet_from came end e a zero before le = tt
-  quiet_from came end zero a (suc n) before le =
-      (none_from came end a before (omega arith), quiet_from came end zero (a + 1) n before (omega arith))
-  quiet_from came end (suc e) a (suc n) before le = quiet_from came end e (a + 1) n before (omega arith)
-
-pub before_end : (came : List Arrival) → AllByRecursion (λ a. a.slot < end_of came) came
-before_end [] = tt
-before_end (a ∷ came) = grind (arith, common_steps, all_from, before_end came)
+  quiet_from : (came : List Arrival) (e a n : ℕ) → end_of came ≤ a + e →
+      come_count (drop e (map (arriving came) (range_with_len a n))) ≡ 0
+  unfolding come_count
+  quiet_from came zero a zero le = refl
+  quiet_from came (suc e) a zero le = refl
+  quiet_from came zero a (suc n) le =
+      let rest = quiet_from came zero (a + 1) n (omega arith) in
+      let here = none_from came a (omega arith) in omega arith
+  quiet_from came (suc e) a (suc n) le = quiet_from came e (a + 1) n (omega arith)
 
 pub none_after : (came : List Arrival) (t : ℕ) → end_of came ≤ t → length (present (arriving came t)) ≡ 0
-none_after came t le = none_from 64 refl came (end_of came) t (before_end came) le
+none_after came t le = none_from 64 refl came t le
 
-pub quiet_at_end : (came : List Arrival) → QuietAfter (end_of came) (traffic_of came)
+pub quiet_at_end : (came : List Arrival) → come_count (drop (end_of came) (traffic_of came)) ≡ 0
 unfolding traffic_of
-quiet_at_end came = quiet_from 64 refl came (end_of came) (end_of came) 0 (enough came) (before_end came) (omega arith)
+quiet_at_end came = quiet_from 64 refl came (end_of came) 0 (enough came) (omega arith)
 
 -- in any number of slots
 pub come_count-first : (came : List Arrival) (n : ℕ) →

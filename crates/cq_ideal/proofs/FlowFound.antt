@@ -1,14 +1,7 @@
 -- What arrives in a slot at an input. It is the first arrival in the list that is of this slot and at this input, so
 -- an arrival of another slot or input hides nothing, and what holds of all that are of this slot and at this input
 -- holds of what is found. The cells that arrive in a slot are those that are found at its inputs.
-use Rattle.std.proofs.lemmas.Grind.{common_steps}
-use Rattle.std.proofs.Common.{◌≡◌, ℕ, zero, suc, ◌+◌, ◌≤◌, false, List, [], ◌∷◌, ◌++◌, length, map, Option, Some, None, refl, sym, subst, arith}
-use Rattle.std.specs.Prelude.{◌==◌, find}
-use Rattle.std.specs.List.{AllByRecursion, cons_option, range_with_len}
-use Rattle.std.proofs.lemmas.Bool.{cond_both, cases_eq, eq-eqb, ne_eqb, and_from, and_left, and_right, cond-true, cond-false}
-use Rattle.std.proofs.lemmas.List.FromFn.{length-map-range_with_len}
-use Rattle.cq_base.specs.declared.cell.Cell.{Cell}
-use Rattle.cq_base.specs.Arriving.{Arrival, is_at, arriving_at, arriving}
+use Rattle.cq_ideal.proofs.Terms.{common_steps, ◌≡◌, ℕ, zero, suc, ◌+◌, ◌≤◌, false, List, [], ◌∷◌, ◌++◌, length, map, Option, Some, None, refl, arith, ◌==◌, find, AllByRecursion, cons_option, range_with_len, cond_both, cases_eq, eq-eqb, ne_eqb, and_from, and_left, and_right, cond-true, cond-false, length-map-range_with_len, Cell, Arrival, is_at, arriving_at, arriving}
 use Rattle.cq_ideal.proofs.FlowRank.{present}
 
 -- the cell, as a list
@@ -17,8 +10,7 @@ cell_listed None = []
 cell_listed (Some cell) = cell ∷ []
 
 pub listed : (o : Option Cell) (cells : List Cell) → cons_option o cells ≡ cell_listed o ++ cells
-listed None cells = refl
-listed (Some cell) cells = refl
+listed cell cells = grind (arith, common_steps)
 
 -- the cell that arrives in a slot at an input, if one does
 unfoldable pub found : List Arrival → ℕ → ℕ → List Cell
@@ -58,8 +50,7 @@ found_none (x ∷ came) t k a = grind (arith, common_steps, other_input, other_s
 
 pub length-found : (came : List Arrival) (t k : ℕ) → length (found came t k) ≤ 1
 unfolding found
-length-found [] t k = omega arith
-length-found (x ∷ came) t k = grind (arith, common_steps, cond_both, length-found came t k)
+length-found came t k = grind (arith, common_steps, cond_both)
 
 -- ## The places of a slot
 
@@ -72,23 +63,11 @@ pub length-arriving : (came : List Arrival) (t inputs : ℕ) → inputs ≡ 64 �
 length-arriving came t inputs e =
     cc (arriving_is came t inputs e, length-map-range_with_len (arriving_at came t) 0 inputs)
 
-pub present-cons : (o : Option Cell) (cells : List (Option Cell)) → present (o ∷ cells) ≡ cell_listed o ++ present cells
-present-cons None cells = refl
-present-cons (Some cell) cells = refl
-
-module _ (came : List Arrival) (t : ℕ) where
-  -- what holds of all that is found at the inputs
-  pub all_present : (P : Cell → Type 0) (a n : ℕ) → ((k : ℕ) → AllByRecursion P (found came t k)) →
-      AllByRecursion P (present (map (arriving_at came t) (range_with_len a n)))
-  unfolding found
-  all_present P a zero f = tt
-  all_present P a (suc n) f =
-      subst (AllByRecursion P) (sym (present-cons (arriving_at came t a)
-      (map (arriving_at came t) (range_with_len (a + 1) n))))
-      (go (arriving_at came t a) (present (map (arriving_at came t) (range_with_len (a + 1) n))) (f a)
-      (all_present P (a + 1) n f))
-    where
-      go : (o : Option Cell) (cells : List Cell) → AllByRecursion P (cell_listed o) → AllByRecursion P cells →
-          AllByRecursion P (cell_listed o ++ cells)
-      go None cells x y = y
-      go (Some cell) cells x y = (x.0, y)
+-- what holds of all that is found at the inputs
+pub all_present : (came : List Arrival) (t : ℕ) (P : Cell → Type 0) (a n : ℕ) →
+    ((k : ℕ) → AllByRecursion P (found came t k)) →
+    AllByRecursion P (present (map (arriving_at came t) (range_with_len a n)))
+unfolding found
+all_present came t P a zero f = tt
+all_present came t P a (suc n) f =
+    grind (arith, common_steps, arriving_at came t a, f a, all_present came t P (a + 1) n f)

@@ -1,21 +1,11 @@
 -- One slot at one output. After its arrivals the output sends the first cell of its list, and a sending lowers no
 -- floor; where it sends nothing its list is empty. So what is known of the list stays known. And what the list showed
 -- of a flow, and then what arrived of it, is what the output sent of it, and then what the list shows afterwards.
-use Rattle.std.proofs.Common.{rules, ◌≡◌, ℕ, ◌+◌, ◌<◌, Bool, true, false, cond, List, [], ◌∷◌, ◌++◌, length, map, drop, Option, Some, None, Ok, refl, arith}
-use Rattle.std.proofs.lemmas.Grind.{common_steps}
-use Rattle.std.specs.Prelude.{slice_get, slice_index_or}
-use Rattle.std.specs.List.{filter}
-use Rattle.std.proofs.lemmas.List.{get_or-map, length-map}
-use Rattle.cq_base.specs.declared.cell.Cell.{Cell}
-use Rattle.cq_base.specs.declared.cell.Queued.{Queued}
-use Rattle.cq_rank.specs.Machine.{Machine, KeepsLaws, machine_at, told}
-use Rattle.cq_ideal.specs.Ranking.{Ranking, ranking}
-use Rattle.cq_ideal.specs.IdealSlot.{IdealState, Sent, put_all, filled, fronts, rests, all_told, ideal_slot}
-use Rattle.cq_ideal.proofs.FlowPut.{all_from}
-use Rattle.cq_ideal.proofs.FlowStands.{Stands, HasWaited, is_kind, shown, of_flow}
+use Rattle.cq_ideal.proofs.Terms.{rules, ◌≡◌, ℕ, ◌+◌, ◌<◌, List, [], ◌∷◌, ◌++◌, length, drop, Option, Some, None, Ok, arith, common_steps, slice_get, slice_index_or, get_or-map, length-map, Cell, Queued, Machine, KeepsLaws, machine_at, told, Ranking, ranking, IdealState, Sent, put_all, filled, ideal_slot, all_weaker}
+use Rattle.cq_ideal.proofs.FlowStands.{Stands, is_kind, shown, of_flow}
 use Rattle.cq_ideal.proofs.FlowRank.{present, AreOfClasses, Filled, filled_from}
 use Rattle.cq_ideal.proofs.Sending.{length-told, told_at}
-use Rattle.cq_ideal.proofs.Waiting.{filled_at, length-filled, sends_ok}
+use Rattle.cq_ideal.proofs.Waiting.{sent_by, filled_at, length-filled, sends_ok}
 
 -- the cell that was sent, as a list
 abbrev pub listed : Option Queued → List Queued
@@ -26,19 +16,10 @@ listed (Some q) = q ∷ []
 
 stands_sent : (m : Machine) (laws : KeepsLaws m) (state : List ℕ) (slot : ℕ) (ys : List Queued) →
     Stands m state slot 0 ys → Stands m (told m state (slice_get ys 0)) slot 0 (drop 1 ys)
-stands_sent m laws state slot [] stands = record { size = laws.idle_length state stands.size; order = tt; waited = tt }
-stands_sent m laws state slot (y ∷ ys) stands =
-    grind (arith, common_steps, laws.sent_length, all_from, HasWaited, m.sent, laws.sent_floor)
-
-first_shown : (b : Bool) (y : Queued) (zs : List Queued) →
-    map (λ (x : Queued). x.cell) (cond b (y ∷ zs) zs)
-    ≡ map (λ (x : Queued). x.cell) (cond b (y ∷ []) []) ++ map (λ (x : Queued). x.cell) zs
-first_shown true y zs = refl
-first_shown false y zs = refl
+stands_sent m laws state slot ys stands = grind (arith, common_steps, all_weaker)
 
 shown_sent : (i c : ℕ) (ys : List Queued) → shown i c ys ≡ shown i c (listed (slice_get ys 0)) ++ shown i c (drop 1 ys)
-shown_sent i c [] = refl
-shown_sent i c (y ∷ ys) = first_shown (is_kind i c y) y (filter (is_kind i c) ys)
+shown_sent i c ys = grind (arith, common_steps, is_kind)
 
 -- ## What stands at one output after the slot
 
@@ -55,24 +36,12 @@ module _ (ms : List Machine) (j slot : ℕ) (laws : KeepsLaws (machine_at ms j))
   served_from : (come : List Cell) (old : IdealState) (r : Ranking) → j < length old.lists → j < length old.ranks →
       Filled ms j slot laws i c come (slice_index_or old.lists j [])
       (put_all j r.came (slice_index_or old.lists j [])) old.ranks r.ranks →
-      Served come old (record {
-        gone = fronts (filled r.came old.lists);
-        after = record {
-          lists = rests (filled r.came old.lists);
-          ranks = all_told ms (fronts (filled r.came old.lists)) r.ranks;
-        };
-      })
+      Served come old (sent_by ms old r)
   served_from come old r in_lists in_ranks f =
-      let lists : List (List Queued) = filled r.came old.lists in
-      let none : Option Queued = None in
-      let nil : List Queued = [] in
-      let xs : List Queued = slice_index_or old.lists j [] in
-      let ys : List Queued = put_all j r.came xs in
-      let many : length lists ≡ length old.lists = length-filled r.came old.lists in
-      let inside : j < length lists = omega arith in
-      let states : length r.ranks ≡ length old.ranks = f.ports in
-      let inside_ranks : j < length r.ranks = omega arith in
-      let here : slice_index_or lists j [] ≡ ys = filled_at r.came old.lists j in_lists in
+      let many = length-filled r.came old.lists in
+      let inside : j < length (filled r.came old.lists) = omega arith in
+      let inside_ranks : j < length r.ranks = omega (arith, f.ports) in
+      let here = filled_at r.came old.lists j in_lists in
       search (arith, rules, get_or-map, told_at, stands_sent, Stands, length-told, length-map, shown_sent, shown)
 
   pub served : (cells : List (Option Cell)) (old : IdealState) (sent : Sent) →

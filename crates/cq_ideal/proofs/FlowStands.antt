@@ -3,37 +3,17 @@
 -- cell of a class gets a rank no less than the floor, which becomes the floor, and no other class's floor falls. So
 -- the new cell is not more urgent than any waiting cell of its class, and it is put behind all of them: of each flow
 -- the list shows what it showed before, and then the new cell, if it is of the flow.
-use Rattle.std.proofs.lemmas.Grind.{common_steps}
-use Rattle.std.proofs.Common.{rules, ◌≡◌, ℕ, ◌+◌, ◌<◌, ◌≤◌, Bool, false, List, [], ◌∷◌, ◌++◌, length, map, sym, ap, ◌∙◌, arith, true, ⊎_elim}
-use Rattle.std.specs.Prelude.{◌&&◌, ◌==◌}
-use Rattle.std.specs.List.{AllByRecursion, filter}
-use Rattle.std.specs.declared.cmp.Ordering.{Ordering}
-use Rattle.std.specs.Ordering.{nat_cmp, ordering_then, is_lt}
-use Rattle.std.proofs.lemmas.Bool.{cond_both, ltb-true, eqb-true, cond-true, cond-false, cases_Bool, eq-eqb, and_parts, and_from, and_right}
-use Rattle.cq_base.specs.declared.cell.Cell.{Cell}
-use Rattle.cq_base.specs.declared.cell.Queued.{Queued}
-use Rattle.cq_base.specs.Key.{is_before}
-use Rattle.cq_base.specs.Cells.{EachPair, put}
+use Rattle.cq_ideal.proofs.Terms.{common_steps, rules, ◌≡◌, ℕ, ◌+◌, ◌<◌, ◌≤◌, Bool, List, [], ◌∷◌, ◌++◌, length, map, sym, ap, ◌∙◌, arith, true, ⊎_elim, ◌&&◌, ◌==◌, AllByRecursion, filter, cond_both, ltb-true, eqb-true, cond-true, cond-false, cases_Bool, eq-eqb, and_parts, and_from, and_right, Cell, Queued, is_before, EachPair, put, Machine, KeepsLaws, all_put, append-nil, map-append, all_weaker}
 use Rattle.cq_rank.proofs.Floors.{given_floor}
-use Rattle.cq_rank.specs.Machine.{Machine, KeepsLaws}
-use Rattle.cq_ideal.proofs.FlowPut.{NoLater, all_from, in_order_put, filter-put, filter-put_other}
-use Rattle.cq_urgency.proofs.Rising.{all_put}
-use Rattle.std.proofs.lemmas.List.{append-nil, map-append}
+use Rattle.cq_ideal.proofs.FlowPut.{NoLater, in_order_put, filter-put, filter-put_other}
 
 -- ## Keys that are not the lesser
-
-no_less_then : (x y : ℕ) (p : Ordering) → y ≤ x → (x ≡ y → is_lt p ≡ false) →
-    is_lt (ordering_then (nat_cmp x y) p) ≡ false
-no_less_then x y p le f = grind (arith, common_steps, cond_both, ltb-true, eqb-true)
-
-no_less : (x y : ℕ) → y ≤ x → is_lt (nat_cmp x y) ≡ false
-no_less x y le = grind (arith, common_steps, cond_both, ltb-true)
 
 -- a cell of the same level and no greater rank that came no later, and in the same slot at no later input
 no_later_from : (a b : Queued) → a.key.level ≡ b.key.level → a.key.rank ≤ b.key.rank → a.key.slot ≤ b.key.slot →
     (b.key.slot ≡ a.key.slot → a.key.input ≤ b.key.input) → NoLater a b
 unfolding is_before
-no_later_from a b l r s i = grind (arith, common_steps, no_less_then, no_less)
+no_later_from a b l r s i = search (arith, rules, cond_both, ltb-true, eqb-true)
 
 -- ## What stands in a list
 
@@ -79,18 +59,18 @@ module _ (m : Machine) (laws : KeepsLaws m) (state : List ℕ) (slot input : ℕ
     (stands : Stands m state slot input xs) where
   -- at an input with no arrival for the output
   pub stands_on : Stands m state slot (input + 1) xs
-  stands_on = search (arith, rules, all_from (HasWaited m state slot input) (HasWaited m state slot (input + 1)))
+  stands_on = search (arith, rules, all_weaker (HasWaited m state slot input) (HasWaited m state slot (input + 1)))
 
   -- at the next slot
   pub stands_next : Stands m state (slot + 1) 0 xs
-  stands_next = search (arith, rules, all_from (HasWaited m state slot input) (HasWaited m state (slot + 1) 0))
+  stands_next = search (arith, rules, all_weaker (HasWaited m state slot input) (HasWaited m state (slot + 1) 0))
 
   module _ (n : Queued) (known : n.cell.class < m.classes) (level_is : n.key.level ≡ m.level n.cell.class)
       (rank_is : n.key.rank ≡ m.ranked state n.cell.class) (slot_is : n.key.slot ≡ slot)
       (input_is : n.key.input ≡ input) where
     -- what is known of the list with the new cell
     pub stands_put : Stands m (m.given state n.cell.class) slot (input + 1) (put n xs)
-    stands_put = grind (arith, common_steps, in_order_put, all_put, all_from, given_floor)
+    stands_put = grind (arith, common_steps, in_order_put, all_put, all_weaker, given_floor)
 
     -- no waiting cell of its class is less urgent
     class_no_later : (x : Queued) → x.cell.class ≡ n.cell.class → HasWaited m state slot input x → NoLater x n
@@ -100,23 +80,11 @@ module _ (m : Machine) (laws : KeepsLaws m) (state : List ℕ) (slot input : ℕ
     -- each flow's cells are those from before, and then the new one if it is of the flow
     pub shown-put : (i c j : ℕ) → n.cell.output ≡ j → shown i c (put n xs) ≡ shown i c xs ++ of_flow i c j (n.cell ∷ [])
     unfolding of_flow class_no_later
-    shown-put i c j here =
-        ⊎_elim
-        (λ k.
-        let class_is : n.cell.class ≡ c =
-        eqb-true n.cell.class c (and_parts (n.cell.id.input == i) (n.cell.class == c) k).1 in
-        let behind = all_from (HasWaited m state slot input) (λ x. is_kind i c x ≡ true → NoLater x n)
-        (λ x w e. class_no_later x
-        (eqb-true x.cell.class c (and_parts (x.cell.id.input == i) (x.cell.class == c) e).1 ∙ sym class_is) w)
-        xs stands.waited in
-        let of : is_of_flow i c j n.cell ≡ true =
-        and_from (n.cell.output == j) (is_kind i c n) (eq-eqb n.cell.output j here) k in
-        ap (map (λ x. x.cell)) (filter-put (is_kind i c) n xs k stands.order behind)
-        ∙ map-append (λ x. x.cell) (filter (is_kind i c) xs) (n ∷ [])
-        ∙ ap (λ l. shown i c xs ++ l) (sym (cond-true (is_of_flow i c j n.cell) (n.cell ∷ []) [] of)))
-        (λ k.
-        let of : is_of_flow i c j n.cell ≡ false = and_right (n.cell.output == j) (is_kind i c n) k in
-        ap (map (λ x. x.cell)) (filter-put_other (is_kind i c) n xs k)
-        ∙ sym (append-nil (shown i c xs))
-        ∙ ap (λ l. shown i c xs ++ l) (sym (cond-false (is_of_flow i c j n.cell) (n.cell ∷ []) [] of)))
-        (cases_Bool (is_kind i c n))
+    shown-put i c j here = ⊎_elim (λ k.
+        let mine = and_parts (n.cell.id.input == i) (n.cell.class == c) k in
+        let behind = all_weaker (HasWaited m state slot input) (λ x. is_kind i c x ≡ true → NoLater x n)
+        (λ x w e. grind (arith, class_no_later x, eqb-true, and_parts, mine)) xs stands.waited in
+        let put = filter-put (is_kind i c) n xs k stands.order behind in
+        grind (arith, common_steps, map-append, and_from, eq-eqb, cond-true))
+        (λ k. let put = filter-put_other (is_kind i c) n xs k in
+        grind (arith, common_steps, append-nil, and_right, cond-false)) (cases_Bool (is_kind i c n))

@@ -1,20 +1,7 @@
 -- The slots of departures: no departure of a run is behind its slots. And in the slot of the last arrival a cell comes.
-use Rattle.std.proofs.Common.{rules, ◌≡◌, ℕ, zero, suc, ◌+◌, ◌<◌, ◌≤◌, List, [], ◌∷◌, ◌++◌, length, map, Option, Some, None, ⊎_elim, arith}
-use Rattle.std.proofs.lemmas.Grind.{common_steps}
-use Rattle.std.specs.Prelude.{max}
-use Rattle.std.specs.List.{AllByRecursion, range_with_len}
-use Rattle.std.proofs.lemmas.Bool.{cases_eq, cases_lt, eq-eqb}
-use Rattle.cq_base.specs.Arriving.{Arrival, arriving, arriving_at, end_of}
-use Rattle.cq_base.specs.declared.cell.Cell.{Cell}
-use Rattle.cq_base.specs.declared.cell.Departure.{Departure}
-use Rattle.cq_base.specs.declared.cell.Queued.{Queued}
-use Rattle.cq_rank.specs.Machine.{Machine}
-use Rattle.cq_ideal.specs.Ending.{slots_of}
-use Rattle.cq_ideal.specs.Flows.{IsForSwitch}
-use Rattle.cq_ideal.specs.Ideal.{count_for}
-use Rattle.cq_ideal.specs.IdealRun.{departures_of}
-use Rattle.cq_ideal.specs.IdealSlot.{departures_from, departures_in}
-use Rattle.cq_ideal.proofs.FlowFound.{arriving_is, cell_listed, found, found_here, other_slot}
+use Rattle.cq_ideal.proofs.Terms.{rules, ◌≡◌, ℕ, ◌+◌, ◌<◌, ◌≤◌, List, [], ◌∷◌, ◌++◌, length, Option, Some, None, ⊎_elim, arith, ◌∙◌, common_steps, max, AllByRecursion, cases_eq, cases_lt, eq-eqb, Arrival, arriving, arriving_at, end_of, Cell, Departure, Queued, Machine, slots_of, IsForSwitch, count_for, departures_of, departures_from, departures_in, arrival_at}
+use Rattle.cq_ideal.proofs.RestAtInput.{is_shown}
+use Rattle.cq_ideal.proofs.FlowFound.{cell_listed, found, found_here, other_slot}
 
 -- ## The slots of departures
 
@@ -22,26 +9,21 @@ pub slots_of-append : (a b : List Departure) → slots_of (a ++ b) ≡ max (slot
 slots_of-append [] b = omega arith
 slots_of-append (d ∷ a) b = let rest = slots_of-append a b in omega arith
 
-slots_in : (slot j : ℕ) (gone : List (Option Queued)) → slots_of (departures_from slot j gone) ≤ slot + 1
-slots_in slot j [] = omega arith
+-- it is that slot where one sends
+slots_in : (slot j : ℕ) (gone : List (Option Queued)) → let sent = departures_from slot j gone in
+    (slots_of sent ≤ slot + 1) × (0 < length sent → slots_of sent ≡ slot + 1)
+slots_in slot j [] = (omega arith, λ some. absurd (omega arith))
 slots_in slot j (None ∷ gone) = slots_in slot (j + 1) gone
-slots_in slot j (Some q ∷ gone) = let rest = slots_in slot (j + 1) gone in omega arith
+slots_in slot j (Some q ∷ gone) = let rest = (slots_in slot (j + 1) gone).0 in (omega arith, λ _. omega arith)
 
 pub slots_of-departures : (slot : ℕ) (gone : List (Option Queued)) → slots_of (departures_in slot gone) ≤ slot + 1
 unfolding departures_in
-slots_of-departures slot gone = slots_in slot 0 gone
-
--- where a slot sends, it is that slot
-slot_is : (slot j : ℕ) (gone : List (Option Queued)) → 0 < length (departures_from slot j gone) →
-    slots_of (departures_from slot j gone) ≡ slot + 1
-slot_is slot j [] some = absurd (omega arith)
-slot_is slot j (None ∷ gone) some = slot_is slot (j + 1) gone some
-slot_is slot j (Some q ∷ gone) some = let rest = slots_in slot (j + 1) gone in omega arith
+slots_of-departures slot gone = (slots_in slot 0 gone).0
 
 pub of_slot : (slot : ℕ) (gone : List (Option Queued)) → 0 < length (departures_in slot gone) →
     slots_of (departures_in slot gone) ≡ slot + 1
 unfolding departures_in
-of_slot slot gone some = slot_is slot 0 gone some
+of_slot slot gone some = (slots_in slot 0 gone).1 some
 
 -- no departure is behind the slots of a run
 pub slots_within : (slot : ℕ) (gone : List (List (Option Queued))) →
@@ -69,27 +51,16 @@ comes ms ports (a ∷ came) slot all e =
     let rest : end_of came ≡ slot + 1 = search (arith, rules, cases_lt) in
     let c = comes ms ports came slot all.1 rest in search (arith, rules, other_slot)) (cases_eq a.slot slot)
 
-counted_here : (j : ℕ) (cell : Cell) (o : Option Cell) (cells : List (Option Cell)) → cell.output ≡ j →
-    cell_listed o ≡ cell ∷ [] → 1 ≤ count_for j (o ∷ cells)
-counted_here j cell None cells e is = absurd (let P : ⊥ = cc in P)
-counted_here j cell (Some x) cells e is = grind (arith, common_steps, eq-eqb x.output j)
+counted_at : (cells : List (Option Cell)) (i : ℕ) (cell : Cell) → arrival_at cells i ≡ Some cell →
+    1 ≤ count_for cell.output cells
+counted_at [] i cell at = absurd (let P : ⊥ = cc in P)
+counted_at (o ∷ cells) i cell at = grind (arith, common_steps, eq-eqb, counted_at cells)
 
-counted_behind : (j : ℕ) (o : Option Cell) (cells : List (Option Cell)) → count_for j cells ≤ count_for j (o ∷ cells)
-counted_behind j None cells = omega arith
-counted_behind j (Some x) cells = omega arith
+listed_one : (o : Option Cell) (cell : Cell) → cell_listed o ≡ cell ∷ [] → o ≡ Some cell
+listed_one o cell is = grind (arith, common_steps)
 
-counted_among : (came : List Arrival) (slot input : ℕ) (cell : Cell) (a n : ℕ) → a ≤ input → input < a + n →
-    found came slot input ≡ cell ∷ [] → 1 ≤ count_for cell.output (map (arriving_at came slot) (range_with_len a n))
-unfolding found
-counted_among came slot input cell a zero low high is = absurd (omega arith)
-counted_among came slot input cell a (suc n) low high is =
-    ⊎_elim (λ (here : a ≡ input). search (arith, rules, counted_here, cell_listed)) (λ (ne : a ≡ input → ⊥).
-    let later : a + 1 ≤ input = ⊎_elim (λ (lt : a < input). omega arith)
-    (λ (ge : input ≤ a). absurd (ne (omega arith))) (cases_lt a input) in
-    let rest = counted_among came slot input cell (a + 1) n later (omega arith) is in
-    omega (arith, counted_behind)) (cases_eq a input)
-
-pub counted_in : (ports : ℕ) (came : List Arrival) (slot inputs : ℕ) → inputs ≡ 64 → (c : Comes ports came slot) →
+pub counted_in : (ports : ℕ) (came : List Arrival) (slot : ℕ) (c : Comes ports came slot) →
     1 ≤ count_for c.cell.output (arriving came slot)
-counted_in ports came slot inputs are c =
-    grind (arith, common_steps, arriving_is came slot inputs are, counted_among came slot c.input c.cell 0 inputs)
+unfolding found
+counted_in ports came slot c = counted_at (arriving came slot) c.input c.cell
+    (is_shown c.input c.inside came slot ∙ listed_one (arriving_at came slot c.input) c.cell c.found_is)

@@ -1,7 +1,6 @@
-pub mod Judging
+mod Terms
 pub mod Counting
 pub mod Holding
-pub mod TakenIn
 pub mod Came
 pub mod Admitted
 pub mod LimitedRuns
@@ -17,18 +16,13 @@ pub mod FlowRank
 pub mod FlowRun
 pub mod FlowSlot
 pub mod FlowStands
-pub mod FlowTraffic
 pub mod AtInput
-pub mod Listed
-pub mod Ranked
 pub mod Refusals
 pub mod Changed
 pub mod Sending
 pub mod Slot
 pub mod Spare
-pub mod InTurn
 pub mod Waiting
-pub mod Whole
 pub mod Parted
 pub mod Ends
 pub mod LastSlot
@@ -39,5 +33,3 @@ pub mod LimitedLast
 pub mod EachLeaves
 pub mod FlowOn
 pub mod RestAtInput
-pub mod UsedPlaces
-pub mod OwnKeys

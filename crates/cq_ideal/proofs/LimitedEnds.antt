@@ -1,46 +1,28 @@
 -- Where the run of the ideal switch ends, where outputs have limits: as many slots as are enough end with empty lists,
 -- so there is a least number of slots after which no cell is to come and none waits, and from there on the slots send
 -- nothing. A switch without limits is one with limits that refuses nothing, so its run ends where that one's does.
-use Rattle.std.proofs.Common.{rules, ◌≡◌, ℕ, ◌+◌, ◌-◌, ◌<◌, ◌≤◌, Bool, true, false, List, [], ◌++◌, length, Option, Result, Ok, Err, refl, sym, ap, ◌∙◌, subst, ⊎_elim, arith, get_or}
-use Rattle.std.proofs.lemmas.Grind.{common_steps, flat_map-append}
-use Rattle.std.specs.Prelude.{IfOk, IsOkAnd}
-use Rattle.std.specs.List.{position_or_len, range_with_len}
-use Rattle.std.proofs.lemmas.Bool.{cases_lt}
-use Rattle.std.proofs.lemmas.List.{append-nil}
-use Rattle.std.proofs.lemmas.List.FromFn.{get_or-range_with_len, length-range_with_len}
-use Rattle.std.proofs.lemmas.List.Sums.{fails_before_first, passes_at_first, prefix_len-le-length}
-use Rattle.cq_base.specs.Arriving.{Arrival, end_of, enough, traffic_of}
-use Rattle.cq_base.specs.declared.cell.Cell.{Cell}
-use Rattle.cq_base.specs.declared.cell.Departure.{Departure}
-use Rattle.cq_base.specs.declared.cell.TagFault.{TagFault}
-use Rattle.cq_rank.specs.Machine.{Machine}
-use Rattle.cq_ideal.specs.Admission.{Marked, NoLimits, admitted_in, marked, marks_down}
-use Rattle.cq_ideal.specs.Ending.{IdealEnds, arriving_from, first_slots, is_over, slots_of_run, whole_ideal_run}
-use Rattle.cq_ideal.specs.IdealRun.{IsEmptyIdeal, Ran, departures_of, departures_ran, empty_ideal, ideal_run}
-use Rattle.cq_ideal.specs.IdealSlot.{IdealState}
-use Rattle.cq_ideal.specs.LimitedEnding.{LimitedIdealEnds, departures_limited, slots_of_limited_run, whole_limited_run}
-use Rattle.cq_ideal.specs.LimitedIdeal.{LimitedRan, empty_limited, limited_run, unlimited}
-use Rattle.cq_ideal.specs.Refused.{refused_in}
+use Rattle.cq_ideal.proofs.Terms.{rules, ◌≡◌, ℕ, ◌+◌, ◌-◌, ◌<◌, ◌≤◌, Bool, true, false, List, [], ◌++◌, length, map, Option, Result, Ok, Err, refl, sym, ap, ◌∙◌, subst, ⊎_elim, arith, get_or, common_steps, flat_map-append, IsOkAnd, position_or_len, range_with_len, cases_lt, append-nil, get_or-range_with_len, length-range_with_len, fails_before_first, passes_at_first, prefix_len-le-length, Arrival, end_of, enough, traffic_of, Cell, TagFault, Machine, Marked, NoLimits, admitted_in, marked, marks_down, nothing_refused, IdealEnds, arriving_from, first_slots, is_over, slots_of_run, whole_ideal_run, IsEmptyIdeal, Ran, departures_of, departures_ran, empty_ideal, ideal_run, IdealState, LimitedIdealEnds, departures_limited, slots_of_limited_run, whole_limited_run, LimitedRan, empty_limited, limited_run, unlimited, refused_in}
 use Rattle.cq_ideal.proofs.Ends.{all_slots, none_waits, over_from_test, test_after}
-use Rattle.cq_ideal.proofs.EnoughSlots.{as_many_slots, limited_empty_at_end}
-use Rattle.cq_ideal.proofs.LimitedParts.{LimitedHalves, behind, limited_going_on, limited_halves, limited_parts, limited_stays_empty}
+use Rattle.cq_ideal.proofs.EnoughSlots.{no_more, limited_empty_at_end}
+use Rattle.cq_ideal.proofs.LimitedParts.{behind, limited_going_on, limited_parts, limited_stays_empty}
 use Rattle.cq_ideal.proofs.LimitedRuns.{is_run_of, judged, none_refused_in, none_refused_ran, run_of_all, run_of_none}
-use Rattle.cq_ideal.proofs.Parted.{arriving_length, arriving_parts, departures_append, measured}
+use Rattle.cq_ideal.proofs.Parted.{arriving_length, arriving_parts, departures_append, sends_long}
 
 -- the run without what is said of limits
 abbrev pub state_ran : LimitedRan → Ran
 state_ran ran = record { gone = ran.gone; after = ran.after.state }
 
+ok_unlimited : (x : Result LimitedRan TagFault) (s : Marked IdealState) → IsOkAnd x (λ ran. ran.after ≡ s) →
+    IsOkAnd (unlimited x) (λ ran. ran.after ≡ s.state)
+ok_unlimited fault s e = grind (arith, common_steps)
+
 pub limited_test : (came : List Arrival) (n : ℕ) (x : Result LimitedRan TagFault) (s : Marked IdealState) →
     IsOkAnd x (λ ran. ran.after ≡ s) → end_of came ≤ n → IsEmptyIdeal s.state → is_over came n (unlimited x) ≡ true
-limited_test came n (Ok ran) s e le empty =
-    test_after came n (Ok (state_ran ran)) s.state (ap (λ (m : Marked IdealState). m.state) e) le empty
-limited_test came n (Err fault) s e le empty = absurd e
+limited_test came n x s e = test_after came n (unlimited x) s.state (ok_unlimited x s e)
 
 ran_from : (x : Result LimitedRan TagFault) (s : Marked IdealState) → IsOkAnd x (λ ran. ran.after ≡ s) →
     (ran : LimitedRan) × (x ≡ Ok ran)
-ran_from (Ok ran) s e = (ran, refl)
-ran_from (Err fault) s e = absurd e
+ran_from fault s e = grind (arith, common_steps)
 
 -- a run sends in as many slots as it has
 pub gone_long : (limits : List (Option ℕ)) (ms : List Machine) (slot : ℕ) (traffic : List (List (Option Cell)))
@@ -48,8 +30,8 @@ pub gone_long : (limits : List (Option ℕ)) (ms : List Machine) (slot : ℕ) (t
     length ran.gone ≡ length traffic
 gone_long limits ms slot traffic old ran is =
     let run = is_run_of limits ms slot traffic old ran is in
-    (measured ms slot (admitted_in ran.admissions) old.state (state_ran ran) run).slots
-    ∙ as_many_slots limits old.marks traffic ran.admissions (judged limits ms slot traffic old ran is)
+    sends_long ms slot (admitted_in ran.admissions) old.state (state_ran ran) run
+    ∙ (no_more limits old.marks traffic ran.admissions (judged limits ms slot traffic old ran is)).slots
 
 module _ (limits : List (Option ℕ)) (ms : List Machine) (ports : ℕ) (ranks : List (List ℕ)) (came : List Arrival) where
   -- the run over the first n slots
@@ -69,24 +51,21 @@ module _ (limits : List (Option ℕ)) (ms : List Machine) (ports : ℕ) (ranks :
   pub limited_not_more : last ≤ enough came
   limited_not_more = grind (arith, common_steps, last_is, prefix_len-le-length, length-range_with_len)
 
+  range_at : (m : ℕ) → m < enough came → get_or (range_with_len 0 (enough came)) m 0 ≡ m
+  range_at m lt = let at = get_or-range_with_len 0 (enough came) m 0 lt in omega arith
+
   pub not_before : (m : ℕ) → m < last → over m ≡ false
   not_before m lt =
       let is = last_is in
       let le = limited_not_more in
-      let at : get_or (range_with_len 0 (enough came)) m 0 ≡ 0 + m =
-      get_or-range_with_len 0 (enough came) m 0 (omega arith) in
-      let here : 0 + m ≡ m = omega arith in
-      ap over (sym (at ∙ here)) ∙ fails_before_first over (range_with_len 0 (enough came)) m 0 (omega arith)
+      cc (range_at m (omega arith), fails_before_first over (range_with_len 0 (enough came)) m 0 (omega arith))
 
   over_at_last : last < enough came → over last ≡ true
   over_at_last lt =
       let is = last_is in
       let long = length-range_with_len 0 (enough came) in
-      let at : get_or (range_with_len 0 (enough came)) last 0 ≡ 0 + last =
-      get_or-range_with_len 0 (enough came) last 0 (omega arith) in
-      let here : 0 + last ≡ last = omega arith in
-      ap over (sym (at ∙ here)) ∙ ap (λ (k : ℕ). over (get_or (range_with_len 0 (enough came)) k 0)) is
-      ∙ passes_at_first over (range_with_len 0 (enough came)) 0 (omega arith)
+      let passes = passes_at_first over (range_with_len 0 (enough came)) 0 (omega arith) in
+      cc (range_at last lt)
 
   pub run_all : run_to (enough came) ≡ limited_run limits ms 0 (traffic_of came) (empty_limited ports ranks)
   run_all = ap (λ l. limited_run limits ms 0 l (empty_limited ports ranks)) (all_slots came)
@@ -96,9 +75,7 @@ module _ (limits : List (Option ℕ)) (ms : List Machine) (ports : ℕ) (ranks :
   some_slots = omega arith
 
   empty_after_all : (ran : LimitedRan) → run_to (enough came) ≡ Ok ran → IsEmptyIdeal ran.after.state
-  empty_after_all ran is =
-      let P : Result LimitedRan TagFault → Type 0 = λ x. IfOk x (λ ran. IsEmptyIdeal ran.after.state) in
-      subst P (sym run_all ∙ is) (limited_empty_at_end limits ms ports ranks came)
+  empty_after_all ran is = grind (arith, common_steps, run_all, limited_empty_at_end limits ms ports ranks came)
 
   -- what is known where the run of so many slots meets no fault
   pub limited_over_at_end : (ran : LimitedRan) → run_to last ≡ Ok ran →
@@ -108,7 +85,7 @@ module _ (limits : List (Option ℕ)) (ms : List Machine) (ports : ℕ) (ranks :
       (λ ge. search (arith, rules, limited_not_more, some_slots, empty_after_all)) (cases_lt last (enough came))
 
   pub at_ok : (x : Result LimitedRan TagFault) (ran : LimitedRan) → x ≡ Ok ran → IsOkAnd x (λ r. r.after ≡ ran.after)
-  at_ok x ran is = subst (λ (y : Result LimitedRan TagFault). IsOkAnd y (λ r. r.after ≡ ran.after)) (sym is) refl
+  at_ok x ran is = grind (arith, common_steps)
 
   pub limited_ends : (ran : LimitedRan) → whole_limited_run limits ms came (empty_limited ports ranks) ≡ Ok ran →
       LimitedIdealEnds limits ms came (empty_limited ports ranks) last ran.after
@@ -125,18 +102,24 @@ module _ (limits : List (Option ℕ)) (ms : List Machine) (ports : ℕ) (ranks :
 
   -- ## More slots, and fewer
 
-  -- the first slots of a run, and the others
-  pub cut_at : (m n : ℕ) (ran : LimitedRan) → m ≤ n → run_to n ≡ Ok ran →
-      LimitedHalves limits ms 0 m (first_slots came m) (arriving_from came m (n - m)) (empty_limited ports ranks) ran
-  cut_at m n ran le is = grind (arith, common_steps, arriving_parts, arriving_length, limited_halves)
-
   goes_on : (n k m : ℕ) → m ≡ n + k → run_to m ≡ limited_going_on limits ms n (arriving_from came n k) (run_to n)
   goes_on n k m e =
       let long = arriving_length came 0 n in
-      ap (λ l. limited_run limits ms 0 l (empty_limited ports ranks))
-      (sym (arriving_parts came 0 n n k m (omega arith) e))
-      ∙ limited_parts limits ms 0 n (first_slots came n) (arriving_from came n k) (empty_limited ports ranks)
-      (omega arith)
+      let parts =
+      limited_parts limits ms 0 n (first_slots came n) (arriving_from came n k) (empty_limited ports ranks)
+      (omega arith) in
+      cc (arriving_parts came 0 n n k m (omega arith) e, parts)
+
+  -- the first slots of a run that meets no fault, and the others
+  pub record Halves (m n : ℕ) (ran : LimitedRan) : Type 0 where
+    pub first : LimitedRan
+    pub second : LimitedRan
+    pub ran_first : run_to m ≡ Ok first
+    pub ran_second : limited_run limits ms m (arriving_from came m (n - m)) first.after ≡ Ok second
+    pub gone : ran.gone ≡ first.gone ++ second.gone
+
+  pub cut_at : (m n : ℕ) (ran : LimitedRan) → m ≤ n → run_to n ≡ Ok ran → Halves m n ran
+  cut_at m n ran le is = let on = goes_on m (n - m) n (omega arith) in grind (arith, common_steps)
 
   -- a run of so many slots that sends and refuses what this one does
   pub record SameSlots (m : ℕ) (ran : LimitedRan) : Type 0 where
@@ -160,9 +143,7 @@ module _ (limits : List (Option ℕ)) (ms : List Machine) (ports : ℕ) (ranks :
         };
         is = goes_on n k m e ∙ ap (limited_going_on limits ms n (arriving_from came n k)) is
             ∙ ap (behind ran.admissions ran.gone) quiet.is;
-        sent = departures_append 0 n ran.gone quiet.ran.gone (omega arith)
-            ∙ ap (λ (l : List Departure). departures_of 0 ran.gone ++ l) quiet.none
-            ∙ append-nil (departures_of 0 ran.gone);
+        sent = cc (departures_append 0 n ran.gone quiet.ran.gone (omega arith), append-nil (departures_of 0 ran.gone));
         refused = search (arith, rules, flat_map-append, append-nil);
       }
 
@@ -176,42 +157,25 @@ module _ (limits : List (Option ℕ)) (ms : List Machine) (ports : ℕ) (ranks :
       let at = limited_over_at_end f.first f.ran_first in
       search (arith, rules, y.first last f.first.after, at_ok (run_to last) f.first f.ran_first)
 
-  never_both : (x : Result LimitedRan TagFault) (ran : LimitedRan) (fault : TagFault) → x ≡ Ok ran → x ≡ Err fault → ⊥
-  never_both x ran fault e f = grind (arith, common_steps)
-
   fault_kept : (m n : ℕ) (fault : TagFault) → m ≤ n → run_to m ≡ Err fault → run_to n ≡ Err fault
   fault_kept m n fault le is = goes_on m (n - m) n (omega arith)
       ∙ ap (limited_going_on limits ms m (arriving_from came m (n - m))) is
 
-  one_fault : (x : Result LimitedRan TagFault) (a b : TagFault) → x ≡ Err a → x ≡ Err b → a ≡ b
-  one_fault x a b e f = let P : ◌≡◌ {A = Result LimitedRan TagFault} (Err a) (Err b) = sym e ∙ f in cc
-
   -- a fault in some slots is one of the whole run
-  faulty : (n : ℕ) (fault : TagFault) → run_to n ≡ Err fault → run_to last ≡ Err fault
-  faulty n fault is = by (run_to last) refl
-    where
-      by : (x : Result LimitedRan TagFault) → run_to last ≡ x → run_to last ≡ Err fault
-      by (Ok ran) e =
-          let at = limited_over_at_end ran e in
-          absurd
-          (⊎_elim
-          (λ (lt : n < last). never_both (run_to last) ran fault e (fault_kept n last fault (omega arith) is))
-          (λ (ge : last ≤ n). let m = more last (n - last) n ran (omega arith) e at.0 at.1 in
-          never_both (run_to n) m.all fault m.is is)
-          (cases_lt n last))
-      by (Err other) e =
-          let same : other ≡ fault =
-          ⊎_elim
-          (λ (lt : n < last). one_fault (run_to last) other fault e (fault_kept n last fault (omega arith) is))
-          (λ (ge : last ≤ n). one_fault (run_to n) other fault (fault_kept last n other ge e) is)
-          (cases_lt n last) in
-          e ∙ ap Err same
+  faulty : (n : ℕ) (fault : TagFault) → run_to n ≡ Err fault → (x : Result LimitedRan TagFault) → run_to last ≡ x →
+      last ≤ n → run_to last ≡ Err fault
+  faulty n fault is (Ok ran) e le =
+      let at = limited_over_at_end ran e in
+      let m = more last (n - last) n ran (omega arith) e at.0 at.1 in
+      cc m.is
+  faulty n fault is (Err other) e le = let kept = fault_kept last n other le e in cc
 
   pub limited_whole_fault : (n : ℕ) (fault : TagFault) →
       limited_run limits ms 0 (first_slots came n) (empty_limited ports ranks) ≡ Err fault →
       whole_limited_run limits ms came (empty_limited ports ranks) ≡ Err fault
   unfolding whole_limited_run
-  limited_whole_fault n fault is = faulty n fault is
+  limited_whole_fault n fault is = ⊎_elim (λ (lt : n < last). fault_kept n last fault (omega arith) is)
+      (λ (le : last ≤ n). faulty n fault is (run_to last) refl le) (cases_lt n last)
 
   -- the run over as many slots as are enough
   pub limited_over_all : (ran : LimitedRan) → run_to last ≡ Ok ran → SameSlots (enough came) ran
@@ -225,11 +189,9 @@ module _ (limits : List (Option ℕ)) (ms : List Machine) (ports : ℕ) (ranks :
   limited_same_sent = sym (ap departures_limited run_all) ∙ by (run_to last) refl
     where
       by : (x : Result LimitedRan TagFault) → run_to last ≡ x →
-          departures_limited (run_to (enough came)) ≡ departures_limited (run_to last)
-      by (Ok ran) e =
-          let m = limited_over_all ran e in ap departures_limited m.is ∙ ap Ok m.sent ∙ sym (ap departures_limited e)
+          departures_limited (run_to (enough came)) ≡ departures_limited x
+      by (Ok ran) e = let m = limited_over_all ran e in ap departures_limited m.is ∙ ap Ok m.sent
       by (Err fault) e = ap departures_limited (fault_kept last (enough came) fault limited_not_more e)
-          ∙ sym (ap departures_limited e)
 
 -- ## Without limits
 
@@ -254,31 +216,6 @@ module _ (limits : List (Option ℕ)) (ms : List Machine) (ports : ℕ) (ranks :
 pub no_limit : NoLimits []
 no_limit j = refl
 
-ok_unlimited : (x : Result LimitedRan TagFault) (s : Marked IdealState) → IsOkAnd x (λ ran. ran.after ≡ s) →
-    IsOkAnd (unlimited x) (λ ran. ran.after ≡ s.state)
-ok_unlimited (Ok ran) s e = ap (λ (m : Marked IdealState). m.state) e
-ok_unlimited (Err fault) s e = absurd e
-
-ok_none_refused : (marks : List Bool) (traffic : List (List (Option Cell))) (x : Result Ran TagFault) (s : IdealState)
-    → IsOkAnd x (λ ran. ran.after ≡ s) →
-    IsOkAnd (none_refused_ran marks traffic x) (λ ran. ran.after ≡ marked marks s)
-ok_none_refused marks traffic (Ok ran) s e = ap (marked marks) e
-ok_none_refused marks traffic (Err fault) s e = absurd e
-
-sent_unlimited : (x : Result LimitedRan TagFault) → departures_ran (unlimited x) ≡ departures_limited x
-sent_unlimited (Ok ran) = refl
-sent_unlimited (Err fault) = refl
-
--- a run with limits that is this one
-pub record RanAs (x : Result LimitedRan TagFault) (ran : Ran) : Type 0 where
-  pub limited : LimitedRan
-  pub is : x ≡ Ok limited
-  pub same : state_ran limited ≡ ran
-
-ran_as : (x : Result LimitedRan TagFault) (ran : Ran) → unlimited x ≡ Ok ran → RanAs x ran
-ran_as (Ok limited) ran e = record { limited = limited; is = refl; same = cc }
-ran_as (Err fault) ran e = absurd (let P : ⊥ = cc in P)
-
 module _ (ms : List Machine) (ports : ℕ) (ranks : List (List ℕ)) (came : List Arrival) where
   abbrev plain_run : ℕ → Result Ran TagFault
   plain_run n = ideal_run ms 0 (first_slots came n) (empty_ideal ports ranks)
@@ -289,12 +226,18 @@ module _ (ms : List Machine) (ports : ℕ) (ranks : List (List ℕ)) (came : Lis
   its_runs : (n : ℕ) → unlimited (limited n) ≡ plain_run n
   its_runs n = same_runs [] ms ports ranks came no_limit n
 
-  refusing_none : (n : ℕ) → limited n ≡ none_refused_ran (marks_down ports) (first_slots came n) (plain_run n)
-  refusing_none n = grind (arith, common_steps, run_of_none, none_refused_in, no_limit)
+  refusing_none : (n : ℕ) (x : Result Ran TagFault) → plain_run n ≡ x →
+      limited n ≡ none_refused_ran (marks_down ports) (first_slots came n) x
+  refusing_none n x is = grind (arith, common_steps, run_of_none, none_refused_in, no_limit)
 
-  limited_after : (n : ℕ) (s : IdealState) → IsOkAnd (plain_run n) (λ ran. ran.after ≡ s) →
-      IsOkAnd (limited n) (λ ran. ran.after ≡ marked (marks_down ports) s)
-  limited_after n s e = grind (arith, common_steps, refusing_none, ok_none_refused)
+  -- the run with limits that is this one
+  abbrev pub as_limited : ℕ → Ran → LimitedRan
+  as_limited n ran =
+      record {
+        admissions = map (nothing_refused (marks_down ports)) (first_slots came n);
+        gone = ran.gone;
+        after = marked (marks_down ports) ran.after;
+      }
 
   plain_after : (n : ℕ) (s : Marked IdealState) → IsOkAnd (limited n) (λ ran. ran.after ≡ s) →
       IsOkAnd (plain_run n) (λ ran. ran.after ≡ s.state)
@@ -306,13 +249,14 @@ module _ (ms : List Machine) (ports : ℕ) (ranks : List (List ℕ)) (came : Lis
     after = plain_after n end y.after;
     all_came = y.all_came;
     empty = y.empty;
-    first = λ m s after le empty. y.first m (marked (marks_down ports) s) (limited_after m s after) le empty;
+    first = λ m s after le empty. y.first m (marked (marks_down ports) s)
+        (search (arith, rules, refusing_none m (plain_run m) refl)) le empty;
   }
 
   its_ends : (n : ℕ) (end : IdealState) → IdealEnds ms came (empty_ideal ports ranks) n end →
       LimitedIdealEnds [] ms came (empty_limited ports ranks) n (marked (marks_down ports) end)
   its_ends n end y = record {
-    after = limited_after n end y.after;
+    after = search (arith, rules, refusing_none n (plain_run n) refl);
     all_came = y.all_came;
     empty = y.empty;
     first = λ m s after le empty. y.first m s.state (plain_after m s after) le empty;
@@ -321,21 +265,18 @@ module _ (ms : List Machine) (ports : ℕ) (ranks : List (List ℕ)) (came : Lis
   pub not_more : slots_of_run ms came (empty_ideal ports ranks) ≤ enough came
   not_more = let same = slots_as_before [] ms ports ranks came no_limit in omega (arith, limited_not_more)
 
-  -- the whole run with limits that is this one
   pub whole_as : (ran : Ran) → whole_ideal_run ms came (empty_ideal ports ranks) ≡ Ok ran →
-      RanAs (whole_limited_run [] ms came (empty_limited ports ranks)) ran
-  whole_as ran is = ran_as _ ran (run_as_before [] ms ports ranks came no_limit ∙ is)
+      whole_limited_run [] ms came (empty_limited ports ranks)
+      ≡ Ok (as_limited (slots_of_run ms came (empty_ideal ports ranks)) ran)
+  unfolding whole_limited_run whole_ideal_run
+  whole_as ran is = ap limited (slots_as_before [] ms ports ranks came no_limit) ∙ refusing_none _ (Ok ran) is
 
   pub ends : (ran : Ran) → whole_ideal_run ms came (empty_ideal ports ranks) ≡ Ok ran →
       IdealEnds ms came (empty_ideal ports ranks) (slots_of_run ms came (empty_ideal ports ranks)) ran.after
   ends ran is =
-      let w = whole_as ran is in
-      subst (λ (r : Ran). IdealEnds ms came (empty_ideal ports ranks)
-      (slots_of_run ms came (empty_ideal ports ranks)) r.after) w.same
-      (subst (λ (n : ℕ). IdealEnds ms came (empty_ideal ports ranks) n w.limited.after.state)
+      subst (λ (n : ℕ). IdealEnds ms came (empty_ideal ports ranks) n ran.after)
       (slots_as_before [] ms ports ranks came no_limit)
-      (plain_ends (slots_of_limited_run [] ms came (empty_limited ports ranks)) w.limited.after
-      (limited_ends [] ms ports ranks came w.limited w.is)))
+      (plain_ends _ (marked (marks_down ports) ran.after) (limited_ends [] ms ports ranks came _ (whole_as ran is)))
 
   pub found_end : (n : ℕ) (end : IdealState) → IdealEnds ms came (empty_ideal ports ranks) n end →
       slots_of_run ms came (empty_ideal ports ranks) ≡ n
@@ -345,14 +286,13 @@ module _ (ms : List Machine) (ports : ℕ) (ranks : List (List ℕ)) (came : Lis
   -- what a run of more slots says of one of fewer
   pub fewer_slots : (m n : ℕ) (ran : Ran) → m ≤ n → plain_run n ≡ Ok ran → (first : Ran) × (plain_run m ≡ Ok first)
   fewer_slots m n ran le is =
-      let r = ran_as (limited n) ran (its_runs n ∙ is) in
-      search (arith, rules, cut_at [] ms ports ranks came m n r.limited le r.is, its_runs m)
+      let f = cut_at [] ms ports ranks came m n (as_limited n ran) le (refusing_none n (Ok ran) is) in
+      (state_ran f.first, sym (its_runs m) ∙ ap unlimited f.ran_first)
 
   pub whole_fault : (n : ℕ) (fault : TagFault) → plain_run n ≡ Err fault →
       whole_ideal_run ms came (empty_ideal ports ranks) ≡ Err fault
   whole_fault n fault is = sym (run_as_before [] ms ports ranks came no_limit)
-      ∙ ap unlimited (limited_whole_fault [] ms ports ranks came n fault
-      (refusing_none n ∙ ap (none_refused_ran (marks_down ports) (first_slots came n)) is))
+      ∙ ap unlimited (limited_whole_fault [] ms ports ranks came n fault (refusing_none n (Err fault) is))
 
   pub same_sent : departures_ran (ideal_run ms 0 (traffic_of came) (empty_ideal ports ranks)) ≡ departures_ran
       (whole_ideal_run ms came (empty_ideal ports ranks))
@@ -360,4 +300,4 @@ module _ (ms : List Machine) (ports : ℕ) (ranks : List (List ℕ)) (came : Lis
       let before = its_runs (enough came) in
       let all = all_slots came in
       let whole = run_as_before [] ms ports ranks came no_limit in
-      let same = limited_same_sent [] ms ports ranks came in search (arith, rules, sent_unlimited)
+      let same = limited_same_sent [] ms ports ranks came in search (arith, rules, common_steps)

@@ -2,50 +2,35 @@
 -- Behind the last arrival the run goes on only while a cell waits. So a cell waits as the last such slot begins, and
 -- one departs in it. Without limits a cell departs in the slot of the last arrival too, so the last departure is in the
 -- last slot.
-use Rattle.std.proofs.Common.{rules, ◌≡◌, ℕ, zero, suc, ◌+◌, ◌-◌, ◌<◌, ◌≤◌, true, false, List, [], ◌∷◌, ◌++◌, length, Option, Ok, refl, sym, ap, ◌∙◌, ⊎_elim, arith}
-use Rattle.std.specs.Prelude.{max}
-use Rattle.std.specs.List.{AllByRecursion}
-use Rattle.std.proofs.lemmas.Bool.{cases_lt}
-use Rattle.std.proofs.lemmas.List.{length-replicate}
-use Rattle.cq_base.specs.Arriving.{Arrival, arriving, end_of}
-use Rattle.cq_base.specs.declared.cell.Cell.{Cell}
-use Rattle.cq_base.specs.declared.cell.Queued.{Queued}
-use Rattle.cq_rank.specs.Machine.{Machine}
-use Rattle.cq_ideal.specs.Admission.{admitted_in}
-use Rattle.cq_ideal.specs.Ending.{arriving_from, first_slots, slots_of, slots_of_run, whole_ideal_run}
-use Rattle.cq_ideal.specs.Flows.{IsForSwitch}
-use Rattle.cq_ideal.specs.IdealRun.{Ran, departures_of, empty_ideal, ideal_run}
-use Rattle.cq_ideal.specs.IdealSlot.{IdealState, departures_in}
-use Rattle.cq_ideal.specs.LimitedEnding.{slots_of_limited_run, whole_limited_run}
-use Rattle.cq_ideal.specs.LimitedIdeal.{LimitedRan, empty_limited}
+use Rattle.cq_ideal.proofs.Terms.{common_steps, rules, ◌≡◌, ℕ, zero, suc, ◌+◌, ◌-◌, ◌<◌, ◌≤◌, List, [], ◌∷◌, length, Option, Ok, sym, ap, ◌∙◌, ⊎_elim, arith, max, slice_index_or, count_for, AllByRecursion, cases_lt, length-replicate, Arrival, arriving, end_of, Cell, Queued, Machine, admitted_in, arriving_from, first_slots, slots_of, slots_of_run, whole_ideal_run, IsForSwitch, Ran, departures_of, empty_ideal, ideal_run, IdealState, departures_in, slots_of_limited_run, whole_limited_run, LimitedRan, empty_limited}
 use Rattle.cq_ideal.proofs.Ends.{nothing_left}
-use Rattle.cq_ideal.proofs.EnoughSlots.{as_many_slots}
+use Rattle.cq_ideal.proofs.EnoughSlots.{no_more}
 use Rattle.cq_ideal.proofs.LastSlot.{comes, counted_in, of_slot, slots_of-append, slots_within}
 use Rattle.cq_ideal.proofs.LimitedEnds.{at_ok, cut_at, gone_long, limited_over_at_end, limited_test, no_limit, not_before, run_to, slots_as_before, state_ran, whole_as}
 use Rattle.cq_ideal.proofs.LimitedRuns.{is_run_of, judged}
-use Rattle.cq_ideal.proofs.Parted.{arriving_here, arriving_length, departures_append, first_slot, measured}
+use Rattle.cq_ideal.proofs.Parted.{arriving_here, arriving_length, departures_append, first_slot}
 use Rattle.cq_ideal.proofs.Waiting.{counted, some_waits, waiting}
 
 -- ## One slot
 
--- where a cell waits one departs
-one_departs : (ms : List Machine) (slot : ℕ) (traffic : List (List (Option Cell))) (s : IdealState) (ran : Ran) →
-    length traffic ≡ 1 → 0 < waiting s.lists → ideal_run ms slot traffic s ≡ Ok ran →
-    slots_of (departures_of slot ran.gone) ≡ slot + 1
+-- where a cell waits or comes one departs
+one_departs : (ms : List Machine) (slot j : ℕ) (cells : List (Option Cell)) (traffic : List (List (Option Cell)))
+    (s : IdealState) (ran : Ran) → ideal_run ms slot (cells ∷ traffic) s ≡ Ok ran → j < length s.lists →
+    0 < length (slice_index_or s.lists j []) + count_for j cells → slot + 1 ≤ slots_of (departures_of slot ran.gone)
 unfolding departures_of
-one_departs ms slot [] s ran one some is = absurd (omega arith)
-one_departs ms slot (cells ∷ later ∷ traffic) s ran one some is = absurd (omega arith)
-one_departs ms slot (cells ∷ []) s ran one some is =
-    let p = first_slot ms slot cells [] s ran is in
-    let w = some_waits s.lists some in
-    let here = of_slot slot p.sent.gone ((counted ms slot cells s p.sent p.ran_slot).departs w.0 w.1 (omega arith)) in
-    let none = (measured ms (slot + 1) [] p.sent.after p.second p.ran_second).slots in
-    let rest = slots_within (slot + 1) p.second.gone in
+one_departs ms slot j cells traffic s ran is inside some =
+    let p = first_slot ms slot cells traffic s ran is in
+    let here = of_slot slot p.sent.gone ((counted ms slot cells s p.sent p.ran_slot).departs j inside some) in
     let both = slots_of-append (departures_in slot p.sent.gone) (departures_of (slot + 1) p.second.gone) in
-    let are : slots_of (departures_of slot ran.gone) ≡ slots_of
-    (departures_in slot p.sent.gone ++ departures_of (slot + 1) p.second.gone) =
-    ap (λ (r : Ran). slots_of (departures_of slot r.gone)) p.both in
+    let are = ap (λ (r : Ran). slots_of (departures_of slot r.gone)) p.both in
     omega arith
+
+one_of_waiting : (ms : List Machine) (slot : ℕ) (traffic : List (List (Option Cell))) (s : IdealState) (ran : Ran) →
+    0 < length traffic → 0 < waiting s.lists → ideal_run ms slot traffic s ≡ Ok ran →
+    slot + 1 ≤ slots_of (departures_of slot ran.gone)
+one_of_waiting ms slot [] s ran one some is = absurd (omega arith)
+one_of_waiting ms slot (cells ∷ traffic) s ran one some is =
+    let w = some_waits s.lists some in one_departs ms slot w.0 cells traffic s ran is w.1 (omega (arith, w.2))
 
 -- ## The whole run
 
@@ -62,33 +47,27 @@ module _ (limits : List (Option ℕ)) (ms : List Machine) (ports : ℕ) (ranks :
   one_waits : (slot : ℕ) (first : LimitedRan) → slot < slots → end_of came ≤ slot →
       run_to limits ms ports ranks came slot ≡ Ok first → 0 < waiting first.after.state.lists
   one_waits slot first lt le is =
-      ⊎_elim (λ (some : 0 < waiting first.after.state.lists). some) (λ (none : waiting first.after.state.lists ≤ 0).
-      let over = limited_test came slot (run_to limits ms ports ranks came slot) first.after
+      let over = λ (none : waiting first.after.state.lists ≡ 0). limited_test came slot
+      (run_to limits ms ports ranks came slot) first.after
       (at_ok limits ms ports ranks came (run_to limits ms ports ranks came slot) first is) le
-      (nothing_left first.after.state.lists (omega arith)) in
-      absurd (let P : true ≡ false = sym over ∙ not_before limits ms ports ranks came slot lt in
-      let Q : ⊥ = cc in Q)) (cases_lt 0 (waiting first.after.state.lists))
+      (nothing_left first.after.state.lists none) in
+      let not_yet = not_before limits ms ports ranks came slot lt in grind (arith, common_steps, over)
 
-  late : (slot : ℕ) → slots ≡ slot + 1 → end_of came ≤ slot → slots_of (departures_of 0 ran.gone) ≡ slot + 1
+  late : (slot : ℕ) → slots ≡ slot + 1 → end_of came ≤ slot → slot + 1 ≤ slots_of (departures_of 0 ran.gone)
   late slot e le =
       let cut = cut_at limits ms ports ranks came slot slots ran (omega arith) it_is in
       let begun = cut.first.after in
       let last_one = arriving_from came slot (slots - slot) in
-      let admissions = cut.second.admissions in
-      let one : length (admitted_in admissions) ≡ slots - slot =
-      as_many_slots limits begun.marks last_one admissions
-      (judged limits ms slot last_one begun cut.second cut.ran_second) ∙ arriving_length came slot (slots - slot) in
-      let here : slots_of (departures_of slot cut.second.gone) ≡ slot + 1 =
-      one_departs ms slot (admitted_in admissions) begun.state (state_ran cut.second) (omega arith)
-      (one_waits slot cut.first (omega arith) le cut.ran_first)
+      let one = (no_more limits begun.marks last_one cut.second.admissions
+      (judged limits ms slot last_one begun cut.second cut.ran_second)).slots ∙ arriving_length came slot
+      (slots - slot) in
+      let here = one_of_waiting ms slot (admitted_in cut.second.admissions) begun.state (state_ran cut.second)
+      (omega arith) (one_waits slot cut.first (omega arith) le cut.ran_first)
       (is_run_of limits ms slot last_one begun cut.second cut.ran_second) in
       let long = gone_long limits ms 0 (first_slots came slot) (empty_limited ports ranks) cut.first cut.ran_first
       ∙ arriving_length came 0 slot in
-      let before = slots_within 0 cut.first.gone in
       let both = slots_of-append (departures_of 0 cut.first.gone) (departures_of slot cut.second.gone) in
-      let are : slots_of (departures_of 0 ran.gone) ≡ slots_of
-      (departures_of 0 cut.first.gone ++ departures_of slot cut.second.gone) =
-      ap (λ (gone : List (List (Option Queued))). slots_of (departures_of 0 gone)) cut.gone
+      let are = ap (λ (gone : List (List (Option Queued))). slots_of (departures_of 0 gone)) cut.gone
       ∙ ap slots_of (departures_append 0 slot cut.first.gone cut.second.gone (omega arith)) in
       omega arith
 
@@ -98,14 +77,8 @@ module _ (limits : List (Option ℕ)) (ms : List Machine) (ports : ℕ) (ranks :
       let long = gone_long limits ms 0 (first_slots came slots) (empty_limited ports ranks) ran it_is
       ∙ arriving_length came 0 slots in
       let within = slots_within 0 ran.gone in
-      by_number slots refl come (omega arith)
-    where
-      by_number : (n : ℕ) → slots ≡ n → end_of came ≤ n → slots_of (departures_of 0 ran.gone) ≤ n →
-          slots ≡ max (end_of came) (slots_of (departures_of 0 ran.gone))
-      by_number zero e come within = omega arith
-      by_number (suc slot) e come within =
-          ⊎_elim (λ (soon : end_of came < suc slot). let l = late slot (omega arith) (omega arith) in omega arith)
-          (λ (all : suc slot ≤ end_of came). omega arith) (cases_lt (end_of came) (suc slot))
+      ⊎_elim (λ (soon : end_of came < slots). let l = late (slots - 1) (omega arith) (omega arith) in omega arith)
+      (λ (all : slots ≤ end_of came). omega arith) (cases_lt (end_of came) slots)
 
 -- ## The switch without limits
 
@@ -117,17 +90,16 @@ module _ (ms : List Machine) (ports : ℕ) (came : List Arrival) (all : AllByRec
   unfolding departures_of
   departs_at_end zero k slot s ran many e lt is = absurd (omega arith)
   departs_at_end (suc n) k slot s ran many e lt is =
-      let p = first_slot ms slot (arriving came slot) (arriving_from came (slot + 1) n) s ran
-      (ap (λ l. ideal_run ms slot l s) (sym (arriving_here came slot n)) ∙ is) in
+      let run = ap (λ l. ideal_run ms slot l s) (sym (arriving_here came slot n)) ∙ is in
+      let p = first_slot ms slot (arriving came slot) (arriving_from came (slot + 1) n) s ran run in
       let count = counted ms slot (arriving came slot) s p.sent p.ran_slot in
       let both = slots_of-append (departures_in slot p.sent.gone) (departures_of (slot + 1) p.second.gone) in
-      let are : slots_of (departures_of slot ran.gone)
-      ≡ slots_of (departures_in slot p.sent.gone ++ departures_of (slot + 1) p.second.gone) =
-      ap (λ (r : Ran). slots_of (departures_of slot r.gone)) p.both in
+      let are = ap (λ (r : Ran). slots_of (departures_of slot r.gone)) p.both in
       ⊎_elim (λ (later : 0 < k). search (arith, rules, departs_at_end n (k - 1) (slot + 1) p.sent.after p.second))
       (λ (now : k ≤ 0).
       let c = comes ms ports came slot all (omega arith) in
-      let one = counted_in ports came slot 64 refl c in search (arith, rules, of_slot)) (cases_lt 0 k)
+      let one = counted_in ports came slot c in
+      search (arith, rules, one_departs ms slot c.cell.output (arriving came slot) _ s ran run)) (cases_lt 0 k)
 
 pub last_departs : (ms : List Machine) (ports : ℕ) (ranks : List (List ℕ)) (came : List Arrival) →
     AllByRecursion (IsForSwitch ms ports) came → (ran : Ran) →
@@ -136,7 +108,7 @@ pub last_departs : (ms : List Machine) (ports : ℕ) (ranks : List (List ℕ)) (
 unfolding whole_ideal_run
 last_departs ms ports ranks came all ran whole =
     let nil : List Queued = [] in
-    let w = whole_as ms ports ranks came ran whole in
+    let is = whole_as ms ports ranks came ran whole in
     let same = slots_as_before [] ms ports ranks came no_limit in
-    let slots = limited_slots [] ms ports ranks came w.limited w.is in
+    let slots = limited_slots [] ms ports ranks came _ is in
     search (arith, rules, length-replicate ports nil, departs_at_end ms ports)

@@ -1,25 +1,9 @@
 -- A run with limits is the run without limits of the admitted arrivals: both step through the same slots, and end at
 -- the same fault. Where no output has a limit all arrivals are admitted, so it is the run without limits of all
 -- arrivals.
-use Rattle.std.proofs.lemmas.Grind.{common_steps}
-use Rattle.std.proofs.Common.{rules, arith, ◌≡◌, ℕ, zero, suc, ◌+◌, Bool, List, [], ◌∷◌, map, replicate, Option, None, Result, Ok, Err, refl, ap, ◌∙◌}
-use Rattle.std.specs.List.{AllByRecursion}
-use Rattle.cq_base.specs.declared.cell.Cell.{Cell}
-use Rattle.cq_base.specs.Arrivals.{no_arrivals}
-use Rattle.cq_base.specs.declared.cell.TagFault.{TagFault}
-use Rattle.cq_base.specs.declared.cell.Queued.{Queued}
-use Rattle.cq_rank.specs.Machine.{Machine}
-use Rattle.cq_ideal.specs.Admission.{Admission, Marked, NoLimits, RefusesNone, admitted_in, marked, marks_down, nothing_refused}
-use Rattle.cq_ideal.specs.IdealSlot.{IdealState, Sent, ideal_slot}
-use Rattle.cq_ideal.specs.IdealRun.{Ran, then_ran, ideal_run, nothing_sent}
-use Rattle.cq_ideal.specs.LimitedIdeal.{LimitedSent, LimitedRan, with_admission, limited_slot, then_limited, in_front, limited_run, nothing_came, admitted_traffic, unlimited}
-use Rattle.cq_ideal.specs.WholePackets.{AreJudged}
+use Rattle.cq_ideal.proofs.Terms.{common_steps, rules, arith, ◌≡◌, ℕ, zero, suc, ◌+◌, Bool, List, [], ◌∷◌, map, replicate, Option, Result, Ok, Err, refl, ap, ◌∙◌, AllByRecursion, Cell, no_arrivals, TagFault, Machine, Admission, Marked, NoLimits, RefusesNone, admitted_in, marked, marks_down, nothing_refused, IdealState, Sent, ideal_slot, Ran, ideal_run, nothing_sent, LimitedSent, LimitedRan, with_admission, limited_slot, then_limited, in_front, limited_run, nothing_came, admitted_traffic, unlimited, AreJudged}
+use Rattle.cq_ideal.proofs.Changed.{map-replicate}
 use Rattle.cq_ideal.proofs.Admitted.{no_arrivals_refuse_none, no_limits_refuse_none}
-
--- a slot, and what follows where it had no fault
-then_run : List Machine → ℕ → List (List (Option Cell)) → Result Sent TagFault → Result Ran TagFault
-then_run ms slot traffic x =
-    elim x [ Ok sent ↦ then_ran sent.gone (ideal_run ms (slot + 1) traffic sent.after) | Err fault ↦ Err fault ]
 
 -- a run without limits, as one with limits that refuses none of these arrivals
 abbrev pub none_refused_ran : List Bool → List (List (Option Cell)) → Result Ran TagFault → Result LimitedRan TagFault
@@ -28,7 +12,7 @@ none_refused_ran marks traffic (Ok ran) =
 none_refused_ran marks traffic (Err fault) = Err fault
 
 module _ (limits : List (Option ℕ)) (ms : List Machine) where
-  goes_on : ℕ → List (List (Option Cell)) → Result LimitedSent TagFault → Result LimitedRan TagFault
+  unfoldable pub goes_on : ℕ → List (List (Option Cell)) → Result LimitedSent TagFault → Result LimitedRan TagFault
   goes_on slot traffic x =
       elim x [
         | Ok sent ↦ then_limited sent (limited_run limits ms (slot + 1) traffic sent.after)
@@ -39,34 +23,19 @@ module _ (limits : List (Option ℕ)) (ms : List Machine) where
   admitted_later slot traffic x =
       elim x [ Ok sent ↦ admitted_traffic limits ms (slot + 1) traffic sent.after | Err fault ↦ [] ]
 
-  unlimited_then : (sent : LimitedSent) (x : Result LimitedRan TagFault) →
-      unlimited (then_limited sent x) ≡ then_ran sent.gone (unlimited x)
-  unlimited_then sent (Ok ran) = refl
-  unlimited_then sent (Err fault) = refl
-
-  same_step : (slot : ℕ) (traffic : List (List (Option Cell))) (a : Admission) (x : Result Sent TagFault) →
-      ((after : Marked IdealState) → unlimited (limited_run limits ms (slot + 1) traffic after)
-      ≡ ideal_run ms (slot + 1) (admitted_traffic limits ms (slot + 1) traffic after) after.state) →
-      unlimited (goes_on slot traffic (with_admission a x))
-      ≡ then_run ms slot (admitted_later slot traffic (with_admission a x)) x
-  unfolding goes_on admitted_later then_run
-  same_step slot traffic a (Ok sent) rest = grind (arith, common_steps, unlimited_then)
-  same_step slot traffic a (Err fault) rest = refl
-
   pub run_of_admitted : (slot : ℕ) (traffic : List (List (Option Cell))) (old : Marked IdealState) →
       unlimited (limited_run limits ms slot traffic old) ≡ ideal_run ms slot
       (admitted_traffic limits ms slot traffic old) old.state
-  unfolding limited_run admitted_traffic limited_slot ideal_run goes_on admitted_later then_run
+  unfolding limited_run admitted_traffic limited_slot ideal_run goes_on admitted_later
   run_of_admitted slot [] old = refl
-  run_of_admitted slot (cells ∷ traffic) old = search (rules, same_step, run_of_admitted (slot + 1) traffic)
+  run_of_admitted slot (cells ∷ traffic) old = search (arith, rules, run_of_admitted (slot + 1) traffic)
 
   -- ## One slot of a run
 
   -- it says which marks are up after it
   its_admission : (a : Admission) (x : Result Sent TagFault) (sent : LimitedSent) → with_admission a x ≡ Ok sent →
       (sent.admission ≡ a) × (sent.after.marks ≡ a.marks)
-  its_admission a (Ok s) sent h = grind (arith, common_steps)
-  its_admission a (Err fault) sent h = absurd (let P : ⊥ = cc in P)
+  its_admission a fault sent h = grind (arith, common_steps)
 
   module _ (slot : ℕ) (cells : List (Option Cell)) (traffic : List (List (Option Cell))) (old : Marked IdealState) where
     pub run_step : (sent : LimitedSent) → limited_slot limits ms slot cells old ≡ Ok sent →
@@ -88,19 +57,12 @@ module _ (limits : List (Option ℕ)) (ms : List Machine) where
 
   -- ## A run that ends without a fault
 
-  then_ok : (P : LimitedRan → Type 0) (sent : LimitedSent) (x : Result LimitedRan TagFault) (ran : LimitedRan) →
-      then_limited sent x ≡ Ok ran →
-      ((rest : LimitedRan) → x ≡ Ok rest → P (in_front sent rest)) → P ran
-  then_ok P sent (Ok rest) ran h f = grind (arith, common_steps)
-  then_ok P sent (Err fault) ran h f = absurd (let P : ⊥ = cc in P)
-
   slot_ok : (P : LimitedRan → Type 0) (slot : ℕ) (traffic : List (List (Option Cell)))
       (x : Result LimitedSent TagFault) (ran : LimitedRan) → goes_on slot traffic x ≡ Ok ran →
       ((sent : LimitedSent) (rest : LimitedRan) → x ≡ Ok sent →
       limited_run limits ms (slot + 1) traffic sent.after ≡ Ok rest → P (in_front sent rest)) → P ran
   unfolding goes_on
-  slot_ok P slot traffic (Ok sent) ran h f = grind (arith, common_steps, then_ok)
-  slot_ok P slot traffic (Err fault) ran h f = absurd (let P : ⊥ = cc in P)
+  slot_ok P slot traffic fault ran h f = grind (arith, common_steps)
 
   -- each slot was judged
   pub judged : (slot : ℕ) (traffic : List (List (Option Cell))) (old : Marked IdealState) (ran : LimitedRan) →
@@ -130,45 +92,6 @@ module _ (limits : List (Option ℕ)) (ms : List Machine) where
   -- ## Where nothing is refused
 
   module _ (marks : List Bool) where
-    all_later : (slot : ℕ) (traffic : List (List (Option Cell))) (a : Admission) (x : Result Sent TagFault) →
-        a.marks ≡ marks →
-        ((s : IdealState) → ideal_run ms (slot + 1) (admitted_traffic limits ms (slot + 1) traffic (marked marks s)) s
-        ≡ ideal_run ms (slot + 1) traffic s) →
-        then_run ms slot (admitted_later slot traffic (with_admission a x)) x ≡ then_run ms slot traffic x
-    unfolding admitted_later then_run
-    all_later slot traffic a (Ok sent) stay rest = grind (arith, common_steps)
-    all_later slot traffic a (Err fault) stay rest = refl
-
-    all_admitted : (slot : ℕ) (traffic : List (List (Option Cell))) (s : IdealState) →
-        AllByRecursion (RefusesNone limits marks) traffic →
-        ideal_run ms slot (admitted_traffic limits ms slot traffic (marked marks s)) s ≡ ideal_run ms slot traffic s
-    unfolding admitted_traffic limited_slot ideal_run then_run admitted_later
-    all_admitted slot [] s none = refl
-    all_admitted slot (cells ∷ traffic) s none = search (rules, all_later, all_admitted (slot + 1) traffic)
-
-    pub run_of_all : (slot : ℕ) (traffic : List (List (Option Cell))) (s : IdealState) →
-        AllByRecursion (RefusesNone limits marks) traffic →
-        unlimited (limited_run limits ms slot traffic (marked marks s)) ≡ ideal_run ms slot traffic s
-    run_of_all slot traffic s none = run_of_admitted slot traffic (marked marks s) ∙ all_admitted slot traffic s none
-
-    -- and it admits all that comes, slot by slot
-    none_between : (cells : List (Option Cell)) (traffic : List (List (Option Cell))) (gone : List (Option Queued))
-        (after : IdealState) (x : Result Ran TagFault) →
-        then_limited (record { admission = nothing_refused marks cells; gone = gone; after = marked marks after })
-        (none_refused_ran marks traffic x) ≡ none_refused_ran marks (cells ∷ traffic) (then_ran gone x)
-    none_between cells traffic gone after (Ok ran) = refl
-    none_between cells traffic gone after (Err fault) = refl
-
-    goes_on_without : (slot : ℕ) (cells : List (Option Cell)) (traffic : List (List (Option Cell)))
-        (x : Result Sent TagFault) →
-        ((s : IdealState) → limited_run limits ms (slot + 1) traffic (marked marks s)
-        ≡ none_refused_ran marks traffic (ideal_run ms (slot + 1) traffic s)) →
-        goes_on slot traffic (with_admission (nothing_refused marks cells) x)
-        ≡ none_refused_ran marks (cells ∷ traffic) (then_run ms slot traffic x)
-    unfolding goes_on then_run
-    goes_on_without slot cells traffic (Ok sent) rest = grind (arith, common_steps, none_between)
-    goes_on_without slot cells traffic (Err fault) rest = refl
-
     pub slot_of_none : (slot : ℕ) (cells : List (Option Cell)) (s : IdealState) → RefusesNone limits marks cells →
         limited_slot limits ms slot cells (marked marks s)
         ≡ with_admission (nothing_refused marks cells) (ideal_slot ms slot cells s)
@@ -179,10 +102,18 @@ module _ (limits : List (Option ℕ)) (ms : List Machine) where
         AllByRecursion (RefusesNone limits marks) traffic →
         limited_run limits ms slot traffic (marked marks s)
         ≡ none_refused_ran marks traffic (ideal_run ms slot traffic s)
-    unfolding limited_run ideal_run goes_on then_run
+    unfolding limited_run ideal_run goes_on
     run_of_none slot [] s none = refl
-    run_of_none slot (cells ∷ traffic) s none =
-        grind (arith, common_steps, slot_of_none, goes_on_without, run_of_none (slot + 1) traffic)
+    run_of_none slot (cells ∷ traffic) s none = search (arith, rules, slot_of_none, run_of_none (slot + 1) traffic)
+
+    none_refused : (traffic : List (List (Option Cell))) (x : Result Ran TagFault) →
+        unlimited (none_refused_ran marks traffic x) ≡ x
+    none_refused traffic fault = grind (arith, common_steps)
+
+    pub run_of_all : (slot : ℕ) (traffic : List (List (Option Cell))) (s : IdealState) →
+        AllByRecursion (RefusesNone limits marks) traffic →
+        unlimited (limited_run limits ms slot traffic (marked marks s)) ≡ ideal_run ms slot traffic s
+    run_of_all slot traffic s none = ap unlimited (run_of_none slot traffic s none) ∙ none_refused traffic _
 
   pub none_refused_in : (ports : ℕ) (traffic : List (List (Option Cell))) → NoLimits limits →
       AllByRecursion (RefusesNone limits (marks_down ports)) traffic
@@ -197,10 +128,6 @@ pub none_in : (limits : List (Option ℕ)) (marks : List Bool) (slots : ℕ) →
 none_in limits marks zero = tt
 none_in limits marks (suc slots) = (no_arrivals_refuse_none limits marks, none_in limits marks slots)
 
-each_same : {X Y : Type 0} (f : X → Y) (n : ℕ) (x : X) → map f (replicate n x) ≡ replicate n (f x)
-each_same f zero x = refl
-each_same f (suc n) x = ap (λ l. f x ∷ l) (each_same f n x)
-
 -- many slots in which nothing comes refuse nothing
 pub rest_refuses_none : (limits : List (Option ℕ)) (ms : List Machine) (slots slot ports : ℕ) (marks : List Bool)
     (s after : IdealState) →
@@ -208,8 +135,5 @@ pub rest_refuses_none : (limits : List (Option ℕ)) (ms : List Machine) (slots 
     limited_run limits ms slot (replicate slots no_arrivals) (marked marks s)
     ≡ Ok (nothing_came slots ports (marked marks after))
 rest_refuses_none limits ms slots slot ports marks s after ran =
-    run_of_none limits ms marks slot (replicate slots no_arrivals) s (none_in limits marks slots)
-    ∙ ap (none_refused_ran marks (replicate slots no_arrivals)) ran
-    ∙ ap (λ (l : List Admission). Ok
-    (record { admissions = l; gone = replicate slots (replicate ports None); after = marked marks after }))
-    (each_same (nothing_refused marks) slots no_arrivals)
+    let run = run_of_none limits ms marks slot (replicate slots no_arrivals) s (none_in limits marks slots) in
+    cc (run, ran, map-replicate (nothing_refused marks) slots no_arrivals)

@@ -2,17 +2,8 @@
 -- what became of it becomes of all its cells. Where the cells are those of packets of rising numbers, the admitted
 -- ones are by induction all cells of some of the packets, and the refused ones all cells of the others: the packet
 -- that goes on is admitted where the mark is down, and for the rest the first cell of the next one decides.
-use Rattle.std.proofs.Common.{rules, ◌≡◌, ℕ, zero, suc, ◌+◌, ◌<◌, ◌≤◌, Bool, true, false, cond, not, List, [], ◌∷◌, filter, Option, Some, None, refl, sym, ap, ◌∙◌, subst, ⊎_elim, arith}
-use Rattle.std.proofs.lemmas.Grind.{common_steps}
-use Rattle.std.specs.Prelude.{nat_lt}
-use Rattle.std.specs.List.{AllByRecursion, cons_option}
-use Rattle.std.proofs.lemmas.Bool.{cond-false, lt-ltb, le-ltb}
-use Rattle.cq_base.specs.declared.cell.Cell.{Cell}
-use Rattle.cq_base.specs.Arrivals.{arrival_at}
-use Rattle.cq_ideal.specs.Admission.{Admission, admission, admitted_in, is_first, mark_after, held_after, marks_after, mark_at, unless}
-use Rattle.cq_ideal.specs.Limiter.{where_up}
-use Rattle.cq_ideal.specs.WholePackets.{AreJudged, AreOfPackets, AreWholePackets, cells_at}
-use Rattle.cq_ideal.proofs.Admitted.{admitted_at}
+use Rattle.cq_ideal.proofs.Terms.{rules, ◌≡◌, ℕ, zero, suc, ◌+◌, ◌<◌, ◌≤◌, Bool, true, false, cond, not, List, [], ◌∷◌, filter, Option, Some, None, refl, sym, ap, ◌∙◌, ⊎_elim, arith, common_steps, nat_lt, AllByRecursion, cons_option, cond-false, lt-ltb, le-ltb, Cell, arrival_at, Admission, admission, admitted_in, is_first, mark_after, held_after, marks_after, mark_at, unless, where_up, AreJudged, AreOfPackets, AreWholePackets, cells_at}
+use Rattle.cq_ideal.proofs.Admitted.{admitted_at, its_marks}
 
 -- ## The mark of one input
 
@@ -21,16 +12,11 @@ abbrev pub GoesOn : Option Cell → Type 0
 GoesOn None = Unit {0}
 GoesOn (Some cell) = is_first cell ≡ false
 
-mark_keeps : (limits : List (Option ℕ)) (held : List ℕ) (mark : Bool) (cell : Option Cell) → GoesOn cell →
-    mark_after limits held mark cell ≡ mark
-mark_keeps limits held mark None on = refl
-mark_keeps limits held mark (Some cell) on = cond-false (is_first cell) _ mark on
-
 pub mark_stays : (limits : List (Option ℕ)) (held : List ℕ) (marks : List Bool) (cells : List (Option Cell)) (i : ℕ) →
     GoesOn (arrival_at cells i) → mark_at (marks_after limits held marks cells) i ≡ mark_at marks i
 mark_stays limits held [] cells i on = refl
 mark_stays limits held (mark ∷ marks) [] i on = refl
-mark_stays limits held (mark ∷ marks) (cell ∷ cells) zero on = mark_keeps limits held mark cell on
+mark_stays limits held (mark ∷ marks) (cell ∷ cells) zero on = search (arith, rules, cond-false)
 mark_stays limits held (mark ∷ marks) (cell ∷ cells) (suc i) on =
     mark_stays limits (held_after (mark_after limits held mark cell) held cell) marks cells i on
 
@@ -62,13 +48,7 @@ beyond b f n next (cell ∷ cells) lt are = grind (arith, common_steps, past, be
 
 kept : (up b : Bool) (cell : Cell) (taken : List Cell) → b ≡ not up →
     cons_option (unless up (Some cell)) taken ≡ cond b (cell ∷ taken) taken
-kept true b cell taken e = ap (λ (c : Bool). cond c (cell ∷ taken) taken) (sym e)
-kept false b cell taken e = ap (λ (c : Bool). cond c (cell ∷ taken) taken) (sym e)
-
-left_out : (up b : Bool) (cell : Cell) (refused : List Cell) → b ≡ not up →
-    cons_option (where_up up (Some cell)) refused ≡ cond (not b) (cell ∷ refused) refused
-left_out true b cell refused e = ap (λ (c : Bool). cond (not c) (cell ∷ refused) refused) (sym e)
-left_out false b cell refused e = ap (λ (c : Bool). cond (not c) (cell ∷ refused) refused) (sym e)
+kept b b' cell taken e = grind (arith, common_steps)
 
 step : (next : ℕ) (mark up : Bool) (x : Option Cell) (came taken refused : List Cell) → (GoesOn x → up ≡ mark) →
     AreOfPackets next (cons_option x came) → ((n : ℕ) → AreOfPackets n came → TakenOrRefused n up came taken refused) →
@@ -82,14 +62,12 @@ step next mark up (Some cell) came taken refused same are rest =
     let all : cons_option (unless up (Some cell)) taken ≡ filter (λ c. f c.id.packet) (cell ∷ came) =
     search (arith, rules, kept) in
     let none : cons_option (where_up up (Some cell)) refused ≡ filter (λ c. not (f c.id.packet)) (cell ∷ came) =
-    search (arith, rules, left_out) in
+    search (arith, rules, common_steps) in
     ⊎_elim (λ on. search (arith, rules)) (λ new.
     let g : ℕ → Bool = λ n. cond (nat_lt n next) (not mark) (f n) in
-    let alike : AllByRecursion (λ c. f c.id.packet ≡ g c.id.packet) (cell ∷ came) = (
-      past (not mark) f next
-          cell new.0,
-      beyond (not mark) f next (cell.id.packet + 1) came (omega arith) are.1,
-    ) in
+    let later = beyond (not mark) f next (cell.id.packet + 1) came (omega arith) are.1 in
+    let alike : AllByRecursion (λ c. f c.id.packet ≡ g c.id.packet) (cell ∷ came) =
+    (past (not mark) f next cell new.0, later) in
     record {
       is_taken = g;
       before = λ packet e. ap (λ (b : Bool). cond b (not mark) (f packet)) (lt-ltb packet next (omega arith));
@@ -100,11 +78,6 @@ step next mark up (Some cell) came taken refused same are rest =
 -- ## Slot by slot
 
 module _ (limits : List (Option ℕ)) (i : ℕ) where
-  admitted_is : (held : List ℕ) (marks : List Bool) (cells : List (Option Cell)) (a : Admission) →
-      a ≡ admission limits held marks cells → arrival_at a.cells i ≡ unless (mark_at a.marks i) (arrival_at cells i)
-  unfolding admission
-  admitted_is held marks cells a e = cc ((admitted_at (marks_after limits held marks cells) cells i))
-
   pub mark_is : (held : List ℕ) (marks : List Bool) (cells : List (Option Cell)) (a : Admission) →
       a ≡ admission limits held marks cells → GoesOn (arrival_at cells i) → mark_at a.marks i ≡ mark_at marks i
   unfolding admission
@@ -127,14 +100,11 @@ module _ (limits : List (Option ℕ)) (i : ℕ) where
   taken_or_refused next marks [] (a ∷ admissions) judged are = absurd judged
   taken_or_refused next marks (cells ∷ traffic) [] judged are = absurd judged
   taken_or_refused next marks (cells ∷ traffic) (a ∷ admissions) judged are =
-      let held = judged.0.0 in
-      let later = cells_at i (admitted_in admissions) in
-      let others = refused_here traffic admissions in
-      let out = cons_option (where_up (mark_at a.marks i) (arrival_at cells i)) others in
-      let came = cells_at i (cells ∷ traffic) in
-      subst (λ (x : Option Cell). TakenOrRefused next (mark_at marks i) came (cons_option x later) out)
-      (sym (admitted_is held marks cells a judged.0.1)) (step next (mark_at marks i) (mark_at a.marks i)
-      (arrival_at cells i) (cells_at i traffic) later others (mark_is held marks cells a judged.0.1) are
+      let by = its_marks limits marks cells a judged.0 in
+      rw (ap (λ (l : List (Option Cell)). arrival_at l i) by.1 ∙ admitted_at a.marks cells i) (step next
+      (mark_at marks i) (mark_at a.marks i) (arrival_at cells i) (cells_at i traffic)
+      (cells_at i (admitted_in admissions)) (refused_here traffic admissions)
+      (mark_is judged.0.0 marks cells a judged.0.1) are
       (λ n rest. taken_or_refused n a.marks traffic admissions judged.1 rest))
 
   pub whole_packets : (marks : List Bool) (traffic : List (List (Option Cell))) (admissions : List Admission) →

@@ -1,20 +1,11 @@
--- The cells that arrive at an input from a slot on, slot by slot, are its arrivals of these slots in their order.
-use Rattle.std.proofs.Common.{rules, ◌≡◌, ℕ, zero, suc, ◌+◌, ◌<◌, ◌≤◌, true, not, List, [], ◌∷◌, ◌++◌, Bool, map, refl, sym, ap, ◌∙◌, ⊎_elim, arith}
-use Rattle.std.proofs.lemmas.Grind.{common_steps}
-use Rattle.std.specs.Prelude.{◌==◌, nat_lt}
-use Rattle.std.specs.List.{AllByRecursion, filter}
-use Rattle.std.proofs.lemmas.Bool.{cases_eq, cases_lt, cond-false, cond-true, eq-eqb, le-ltb, lt-ltb, ne_eqb}
-use Rattle.cq_base.specs.declared.cell.Cell.{Cell}
-use Rattle.cq_base.specs.Arriving.{Arrival, end_of}
-use Rattle.cq_base.proofs.Lists.{all_by}
-use Rattle.cq_ideal.specs.Ending.{arriving_from}
-use Rattle.cq_ideal.specs.Flows.{RiseByInput}
-use Rattle.cq_ideal.specs.WholePackets.{cells_at}
-use Rattle.cq_ideal.proofs.AtInput.{cells_from, no_earlier}
+-- The cells that arrive at an input from a slot on, slot by slot, are its arrivals of these slots in their order. In a
+-- slot the input's place shows what is found there; and the arrivals at one input rise in their slots, so where the
+-- first is taken off the list every later slot shows the same.
+use Rattle.cq_ideal.proofs.Terms.{◌≡◌, ℕ, zero, suc, ◌+◌, ◌<◌, ◌≤◌, not, List, [], ◌∷◌, ◌++◌, Bool, None, Option, map, refl, sym, ◌∙◌, arith, common_steps, ◌==◌, nat_lt, AllByRecursion, filter, cond_both, cases_eq, cases_lt, eq-eqb, le-ltb, lt-ltb, get_or-map-range_with_len, unwrap_or-slice_get, Cell, Arrival, arriving, arriving_at, end_of, arrival_at, all_by, arriving_from, RiseByInput, cells_at, all_weaker}
 use Rattle.cq_ideal.proofs.FlowCount.{before_end}
-use Rattle.cq_ideal.proofs.FlowFound.{found, found_here, found_none, other_input, other_slot}
-use Rattle.cq_ideal.proofs.FlowPut.{all_from}
-use Rattle.cq_ideal.proofs.FlowTraffic.{joined, joined_more, joined_none, joined_same}
+use Rattle.cq_ideal.proofs.FlowFound.{cell_listed, found, found_here, found_none, listed, other_input, other_slot}
+
+-- ## The arrivals at an input
 
 -- the arrivals at input i
 abbrev pub line_at : ℕ → List Arrival → List Arrival
@@ -30,42 +21,54 @@ rest_of from line = filter (is_from_on from) line
 abbrev pub cells_of : List Arrival → List Cell
 cells_of line = map (λ (a : Arrival). a.cell) line
 
-module _ (i : ℕ) (inside : i < 64) where
-  in_order_from : (from slots : ℕ) (came : List Arrival) → AllByRecursion (λ a. a.slot < from + slots) came →
-      RiseByInput came → joined (λ t. found came t i) from slots ≡ cells_of (rest_of from (line_at i came))
-  in_order_from from slots [] before rise = grind (arith, common_steps, joined_none, found [], found_none [])
-  in_order_from from slots (a ∷ came) before rise =
-      let rest = in_order_from from slots came before.1 (λ s t x y at_s at_t l.
-      rise (suc s) (suc t) x y at_s at_t (omega arith)) in
-      let others : List Arrival = line_at i came in
-      let later : List Arrival = rest_of from others in
-      let parts : List Arrival → List Cell = λ l. cells_of (rest_of from l) in
-      ⊎_elim (λ same.
-      let kept : line_at i (a ∷ came) ≡ a ∷ others =
-      cond-true (a.cell.id.input == i) (a ∷ others) others (eq-eqb a.cell.id.input i same) in
-      ⊎_elim (λ early. search (arith, rules, lt-ltb, joined_same, found, other_slot, cond-false))
-      (λ late.
-      let in_rest : is_from_on from a ≡ true = ap not (le-ltb a.slot from late) in
-      let after : AllByRecursion (λ b. b.cell.id.input ≡ i → a.slot < b.slot) came =
-      all_by (λ b. b.cell.id.input ≡ i → a.slot < b.slot) came (λ t b at e.
-      rise zero (suc t) a b refl at (omega arith) (same ∙ sym e)) in
-      joined_more (λ t. found (a ∷ came) t i) (λ t. found came t i) a.slot from slots late
-      (let l = before.0 in omega arith) (λ t l. other_slot a came t i (λ e. omega arith)
-      ∙ no_earlier i inside a came t after (omega arith))
-      (λ t l. no_earlier i inside a came t after l) (λ t l.
-      other_slot a came t i (λ e. omega arith))
-      ∙ ap (λ (l : List Cell). l ++ joined (λ t. found came t i) from slots)
-      (found_here a came a.slot i refl same) ∙ ap (λ (l : List Cell). a.cell ∷ l) rest
-      ∙ sym (ap parts kept ∙ ap cells_of (cond-true (is_from_on from a) (a ∷ later) later in_rest)))
-      (cases_lt a.slot from))
-      (λ ne. search (arith, rules, joined_same, found, other_input, cond-false, a.cell.id.input, ne_eqb))
-      (cases_eq a.cell.id.input i)
+-- where all that is still to come at the input is later, nothing is found earlier
+no_earlier : (i : ℕ) (a : Arrival) (came : List Arrival) (t : ℕ) →
+    AllByRecursion (λ b. b.cell.id.input ≡ i → a.slot < b.slot) came → t < a.slot + 1 → found came t i ≡ []
+no_earlier i a came t later l = grind (arith, common_steps, found_none came t i, all_weaker)
 
-  pub comes_from : (came : List Arrival) (from slots : ℕ) → RiseByInput came → end_of came ≤ from + slots →
-      cells_at i (arriving_from came from slots) ≡ cells_of (rest_of from (line_at i came))
-  unfolding arriving_from
-  comes_from came from slots rise all =
-      cells_from i inside came from slots
-      ∙ in_order_from from slots came
-      (all_from (λ a. a.slot < end_of came) (λ a. a.slot < from + slots) (λ a l. omega arith) came (before_end came))
-      rise
+later_on : (i : ℕ) (a : Arrival) (came : List Arrival) → RiseByInput (a ∷ came) → a.cell.id.input ≡ i →
+    AllByRecursion (λ b. b.cell.id.input ≡ i → a.slot < b.slot) came
+later_on i a came rise same = all_by (λ b. b.cell.id.input ≡ i → a.slot < b.slot) came (λ t b at e.
+    rise zero (suc t) a b refl at (omega arith) (same ∙ sym e))
+
+-- of the line of an input, what is found in a slot stands in front of what is later
+found_first : (i t : ℕ) (came : List Arrival) → RiseByInput came →
+    cells_of (rest_of t (line_at i came)) ≡ found came t i ++ cells_of (rest_of (t + 1) (line_at i came))
+unfolding found
+found_first i t [] rise = refl
+found_first i t (a ∷ came) rise =
+    let rest = found_first i t came (λ s t x y at_s at_t l. rise (suc s) (suc t) x y at_s at_t (omega arith)) in
+    let none = λ (same : a.cell.id.input ≡ i). no_earlier i a came t (later_on i a came rise same) in
+    grind (arith, common_steps, other_input, other_slot, found_here, cases_lt, cases_eq, eq-eqb, lt-ltb, le-ltb, none)
+
+all_past : (i t : ℕ) (came : List Arrival) → AllByRecursion (λ a. a.slot < t) came → rest_of t (line_at i came) ≡ []
+all_past i t [] before = refl
+all_past i t (a ∷ came) before = grind (arith, common_steps, cond_both, lt-ltb, all_past i t came before.1)
+
+-- the place of the input shows what arrives there, in each slot
+abbrev pub IsShown : List Arrival → ℕ → Type 0
+IsShown came i = (t : ℕ) → arrival_at (arriving came t) i ≡ arriving_at came t i
+
+pub is_shown : (i : ℕ) → i < 64 → (came : List Arrival) → IsShown came i
+unfolding arriving
+is_shown i inside came t =
+    let none : Option Cell = None in
+    unwrap_or-slice_get (arriving came t) i none
+    ∙ get_or-map-range_with_len (arriving_at came t) 0 64 i i none inside (omega arith)
+
+pub comes_shown : (i : ℕ) (came : List Arrival) → IsShown came i → (from slots : ℕ) → RiseByInput came →
+    end_of came ≤ from + slots →
+    cells_at i (arriving_from came from slots) ≡ cells_of (rest_of from (line_at i came))
+unfolding arriving_from found
+comes_shown i came shown from zero rise all =
+    let before = all_weaker (λ a. a.slot < end_of came) (λ a. a.slot < from) (λ a l. omega arith) came in
+    grind (arith, common_steps, all_past i from came, before (before_end came))
+comes_shown i came shown from (suc n) rise all =
+    let first = found_first i from came rise in
+    let rest = comes_shown i came shown (from + 1) n rise (omega arith) in
+    grind (arith, common_steps, shown, listed, cell_listed)
+
+pub comes_from : (i : ℕ) → i < 64 → (came : List Arrival) (from slots : ℕ) → RiseByInput came →
+    end_of came ≤ from + slots →
+    cells_at i (arriving_from came from slots) ≡ cells_of (rest_of from (line_at i came))
+comes_from i inside came = comes_shown i came (is_shown i inside came)

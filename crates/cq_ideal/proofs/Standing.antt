@@ -1,20 +1,9 @@
 -- Each cell stands at the place of the input that its id names, in each slot of a run, and among the admitted ones
 -- too. So of the cells that are refused in a slot only the one at the place of an input is of that input, and it is
 -- refused where the mark is up.
-use Rattle.std.proofs.lemmas.Grind.{common_steps}
-use Rattle.std.proofs.Common.{◌≡◌, ℕ, zero, suc, ◌+◌, ◌<◌, Bool, true, false, List, [], ◌∷◌, map, filter, Option, Some, None, refl, sym, ap, ◌∙◌, arith, ◌++◌}
-use Rattle.std.specs.Prelude.{◌==◌}
-use Rattle.std.specs.List.{AllByRecursion, range_with_len}
-use Rattle.std.proofs.lemmas.Bool.{cond-false, cond-true, eq-eqb, ne_eqb}
-use Rattle.std.proofs.lemmas.List.Elements.{filter-append}
-use Rattle.cq_base.specs.declared.cell.Cell.{Cell}
-use Rattle.cq_base.specs.Arriving.{Arrival, arriving, arriving_at, enough, traffic_of}
-use Rattle.cq_base.specs.Arrivals.{arrival_at}
-use Rattle.cq_ideal.specs.Admission.{Admission, admission, admitted, mark_at, refused}
-use Rattle.cq_ideal.specs.Limiter.{where_up}
-use Rattle.cq_ideal.specs.Refused.{refused_in}
-use Rattle.cq_ideal.specs.WholePackets.{AreJudged}
-use Rattle.cq_ideal.proofs.FlowFound.{all_found, cell_listed, found, listed}
+use Rattle.cq_ideal.proofs.Terms.{rules, ◌≡◌, ℕ, zero, suc, ◌+◌, ◌<◌, Bool, List, [], ◌∷◌, map, filter, Option, Some, None, refl, ap, ◌∙◌, arith, common_steps, ◌==◌, AllByRecursion, range_with_len, and_parts, eqb-true, cond-false, cond-true, eq-eqb, ne_eqb, filter-append, Cell, Arrival, arriving, arriving_at, enough, traffic_of, arrival_at, Admission, admitted, mark_at, refused, where_up, refused_in, AreJudged}
+use Rattle.cq_ideal.proofs.Admitted.{its_marks}
+use Rattle.cq_ideal.proofs.FlowFound.{cell_listed, listed}
 use Rattle.cq_ideal.proofs.Packets.{refused_here}
 
 -- each cell stands at the place of its input, from this input on
@@ -26,29 +15,18 @@ StandAt a (Some cell ∷ cells) = (cell.id.input ≡ a) × StandAt (a + 1) cells
 pub still_stand : (a : ℕ) (marks : List Bool) (cells : List (Option Cell)) → StandAt a cells →
     StandAt a (admitted marks cells)
 still_stand a [] cells at = at
-still_stand a (mark ∷ marks) [] at = tt
-still_stand a (true ∷ marks) (None ∷ cells) at = still_stand (a + 1) marks cells at
-still_stand a (false ∷ marks) (None ∷ cells) at = still_stand (a + 1) marks cells at
-still_stand a (true ∷ marks) (Some cell ∷ cells) at = still_stand (a + 1) marks cells at.1
-still_stand a (false ∷ marks) (Some cell ∷ cells) at = (at.0, still_stand (a + 1) marks cells at.1)
+still_stand a (mark ∷ marks) cells at = grind (arith, common_steps, still_stand (a + 1) marks)
 
 -- ## In a run
 
-stand_arriving : (came : List Arrival) (t a n : ℕ) → StandAt a (map (arriving_at came t) (range_with_len a n))
-unfolding found
-stand_arriving came t a zero = tt
-stand_arriving came t a (suc n) =
-    go (arriving_at came t a) (map (arriving_at came t) (range_with_len (a + 1) n))
-    (all_found (λ cell. cell.id.input ≡ a) came t a (own came)) (stand_arriving came t (a + 1) n)
-  where
-    own : (came : List Arrival) → AllByRecursion (λ x. x.slot ≡ t → x.cell.id.input ≡ a → x.cell.id.input ≡ a) came
-    own [] = tt
-    own (x ∷ came) = (λ _ e. e, own came)
+own_place : (t a : ℕ) (cells : List (Option Cell)) (came : List Arrival) → StandAt (a + 1) cells →
+    StandAt a (arriving_at came t a ∷ cells)
+own_place t a cells [] at = at
+own_place t a cells (x ∷ came) at = grind (arith, common_steps, eqb-true, and_parts, own_place t a cells came at)
 
-    go : (o : Option Cell) (cells : List (Option Cell)) → AllByRecursion (λ cell. cell.id.input ≡ a) (cell_listed o) →
-        StandAt (a + 1) cells → StandAt a (o ∷ cells)
-    go None cells is at = at
-    go (Some cell) cells is at = (is.0, at)
+stand_arriving : (came : List Arrival) (t a n : ℕ) → StandAt a (map (arriving_at came t) (range_with_len a n))
+stand_arriving came t a zero = tt
+stand_arriving came t a (suc n) = own_place t a _ came (stand_arriving came t (a + 1) n)
 
 pub stand_in : (came : List Arrival) (a n : ℕ) → AllByRecursion (StandAt 0) (map (arriving came) (range_with_len a n))
 unfolding arriving
@@ -61,10 +39,6 @@ all_stand came = stand_in came 0 (enough came)
 
 -- ## What is refused at an input
 
-nothing_up : (mark : Bool) → where_up mark None ≡ None
-nothing_up true = refl
-nothing_up false = refl
-
 module _ (i : ℕ) where
   -- the cells of this input
   abbrev pub of_input : List Cell → List Cell
@@ -76,50 +50,24 @@ module _ (i : ℕ) where
   none_past : (a : ℕ) (marks : List Bool) (cells : List (Option Cell)) → StandAt a cells → i < a →
       of_input (refused marks cells) ≡ []
   none_past a [] cells at lt = refl
-  none_past a (mark ∷ marks) [] at lt = refl
-  none_past a (true ∷ marks) (None ∷ cells) at lt = none_past (a + 1) marks cells at (omega arith)
-  none_past a (false ∷ marks) (None ∷ cells) at lt = none_past (a + 1) marks cells at (omega arith)
-  none_past a (true ∷ marks) (Some cell ∷ cells) at lt =
-      other_input cell (refused marks cells) (λ e. omega arith) ∙ none_past (a + 1) marks cells at.1 (omega arith)
-  none_past a (false ∷ marks) (Some cell ∷ cells) at lt = none_past (a + 1) marks cells at.1 (omega arith)
+  none_past a (mark ∷ marks) cells at lt = grind (arith, common_steps, other_input, refused, none_past (a + 1) marks)
 
   refused_at_place : (a k : ℕ) (marks : List Bool) (cells : List (Option Cell)) → StandAt a cells → i ≡ a + k →
       of_input (refused marks cells) ≡ cell_listed (where_up (mark_at marks k) (arrival_at cells k))
   refused_at_place a k [] cells at e = refl
-  refused_at_place a k (mark ∷ marks) [] at e = sym (ap cell_listed (nothing_up (mark_at (mark ∷ marks) k)))
-  refused_at_place a zero (true ∷ marks) (None ∷ cells) at e = none_past (a + 1) marks cells at (omega arith)
-  refused_at_place a zero (false ∷ marks) (None ∷ cells) at e = none_past (a + 1) marks cells at (omega arith)
-  refused_at_place a zero (true ∷ marks) (Some cell ∷ cells) at e =
-      let same : cell.id.input ≡ i = omega arith in
-      cond-true (cell.id.input == i) (cell ∷ of_input (refused marks cells)) (of_input (refused marks cells))
-      (eq-eqb cell.id.input i same)
-      ∙ ap (λ (l : List Cell). cell ∷ l) (none_past (a + 1) marks cells at.1 (omega arith))
-  refused_at_place a zero (false ∷ marks) (Some cell ∷ cells) at e = none_past (a + 1) marks cells at.1 (omega arith)
-  refused_at_place a (suc k) (true ∷ marks) (None ∷ cells) at e =
-      refused_at_place (a + 1) k marks cells at (omega arith)
-  refused_at_place a (suc k) (false ∷ marks) (None ∷ cells) at e =
-      refused_at_place (a + 1) k marks cells at (omega arith)
-  refused_at_place a (suc k) (true ∷ marks) (Some cell ∷ cells) at e =
-      grind (arith, common_steps, other_input, refused_at_place (a + 1) k marks cells at.1)
-  refused_at_place a (suc k) (false ∷ marks) (Some cell ∷ cells) at e =
-      refused_at_place (a + 1) k marks cells at.1 (omega arith)
-
-  refused_is : (limits : List (Option ℕ)) (held : List ℕ) (marks : List Bool) (cells : List (Option Cell))
-      (a : Admission) → a ≡ admission limits held marks cells → StandAt 0 cells →
-      of_input a.refused ≡ cell_listed (where_up (mark_at a.marks i) (arrival_at cells i))
-  unfolding admission
-  refused_is limits held marks cells a e at = grind (arith, common_steps, cell_listed, refused_at_place)
+  refused_at_place a k (mark ∷ marks) [] at e = search (arith, rules, cell_listed)
+  refused_at_place a zero marks cells at e = search (arith, rules, none_past, cond-true, of_input, refused, eq-eqb)
+  refused_at_place a (suc k) marks cells at e = grind (arith, common_steps, other_input, refused_at_place (a + 1) k)
 
   pub refused_are : (limits : List (Option ℕ)) (marks : List Bool) (traffic : List (List (Option Cell)))
       (admissions : List Admission) → AreJudged limits marks traffic admissions → AllByRecursion (StandAt 0) traffic →
       of_input (refused_in admissions) ≡ refused_here limits i traffic admissions
-  refused_are limits marks [] [] judged at = refl
-  refused_are limits marks [] (a ∷ admissions) judged at = absurd judged
+  refused_are limits marks [] admissions judged at = grind (arith, common_steps)
   refused_are limits marks (cells ∷ traffic) [] judged at = absurd judged
   refused_are limits marks (cells ∷ traffic) (a ∷ admissions) judged at =
       let here = where_up (mark_at a.marks i) (arrival_at cells i) in
-      filter-append (λ cell. cell.id.input == i) a.refused (refused_in admissions)
-      ∙ ap (λ (l : List Cell). l ++ of_input (refused_in admissions))
-      (refused_is limits judged.0.0 marks cells a judged.0.1 at.0)
-      ∙ ap (λ (l : List Cell). cell_listed here ++ l) (refused_are limits a.marks traffic admissions judged.1 at.1)
-      ∙ sym (listed here (refused_here limits i traffic admissions))
+      let both = filter-append (λ cell. cell.id.input == i) a.refused (refused_in admissions) in
+      let first = ap of_input (its_marks limits marks cells a judged.0).2
+      ∙ refused_at_place 0 i a.marks cells at.0 (omega arith) in
+      let rest = refused_are limits a.marks traffic admissions judged.1 at.1 in
+      cc (both, first, rest, listed here (refused_here limits i traffic admissions))

@@ -2,24 +2,8 @@
 -- together get as many cells as arrive, and each list as many as arrive for its output. A list that is not empty
 -- sends one cell. So what waits and what is sent are together what waited and what arrived, and unless nothing waits
 -- after the slot fewer cells wait than waited and arrived.
-use Rattle.std.proofs.lemmas.Grind.{common_steps}
-use Rattle.std.proofs.Common.{rules, ◌≡◌, ◌≢◌, ℕ, zero, suc, ◌+◌, ◌-◌, ◌<◌, ◌≤◌, Bool, true, false, cond, List, [], ◌∷◌, length, map, drop, Option, Some, None, Result, Ok, Err, refl, sym, ap, ◌∙◌, subst, arith}
-use Rattle.std.specs.Prelude.{is_some, slice_index_or}
-use Rattle.std.specs.List.{range_with_len}
-use Rattle.std.proofs.lemmas.Bool.{cond_both, cases_eq, ne_eqb, cond-false}
-use Rattle.std.proofs.lemmas.List.{length-map, ext_get_or}
-use Rattle.std.proofs.lemmas.List.FromFn.{get_or-map-range_with_len, length-map-range_with_len}
-use Rattle.cq_base.specs.declared.cell.Cell.{Cell}
-use Rattle.cq_base.specs.declared.cell.Queued.{Queued}
-use Rattle.cq_base.specs.declared.cell.TagFault.{TagFault}
-use Rattle.cq_base.specs.Cells.{put, is_for}
-use Rattle.cq_rank.specs.Machine.{Machine}
-use Rattle.cq_ideal.specs.Ideal.{count_for}
-use Rattle.cq_ideal.specs.Ranking.{Ranking, ranking, after_input}
-use Rattle.cq_ideal.specs.Parts.{count_to}
-use Rattle.cq_ideal.specs.IdealSlot.{IdealState, Sent, put_all, filled, fronts, rests, all_told, ideal_sends, ideal_slot, departures_from, departures_in}
-use Rattle.cq_urgency.proofs.Rising.{length_put}
-use Rattle.cq_ideal.proofs.FlowRank.{after_ok, fits_ok, only_ok, present}
+use Rattle.cq_ideal.proofs.Terms.{common_steps, rules, ◌≡◌, ◌≢◌, ℕ, zero, suc, ◌+◌, ◌-◌, ◌<◌, ◌≤◌, cond, List, [], ◌∷◌, length, map, Option, Some, None, Result, Ok, refl, ap, arith, is_some, slice_index_or, range_with_len, cases_eq, length-map, ext_get_or, get_or-map-range_with_len, length-map-range_with_len, Cell, Queued, TagFault, put, is_for, Machine, count_for, Ranking, ranking, count_to, IdealState, Sent, put_all, filled, fronts, rests, all_told, ideal_sends, ideal_slot, departures_from, departures_in, length_put}
+use Rattle.cq_ideal.proofs.FlowRank.{after_input_ok, fits_ok, only_ok, present}
 
 -- ## Numbers that are added over a range
 
@@ -52,11 +36,13 @@ unfoldable pub waiting : List (List Queued) → ℕ
 waiting [] = 0
 waiting (xs ∷ lists) = length xs + waiting lists
 
--- how many cells are here
-unfoldable pub count_here : List (Option Queued) → ℕ
-count_here [] = 0
-count_here (None ∷ came) = count_here came
-count_here (Some q ∷ came) = count_here came + 1
+pub cell_here : Option Queued → Option Cell
+cell_here None = None
+cell_here (Some q) = Some q.cell
+
+-- how many cells came
+abbrev count_here : List (Option Queued) → ℕ
+count_here came = length (present (map cell_here came))
 
 waiting-map : (f : ℕ → List Queued) (a n : ℕ) → waiting (map f (range_with_len a n)) ≡ total (λ j. length (f j)) a n
 unfolding waiting total
@@ -65,18 +51,15 @@ waiting-map f a (suc n) = let rest = waiting-map f (a + 1) n in omega arith
 
 total_put : (came : List (Option Queued)) (f : ℕ → List Queued) (a n : ℕ) →
     total (λ j. length (put_all j came (f j))) a n ≤ total (λ j. length (f j)) a n + count_here came
-unfolding count_here
+unfolding cell_here
 total_put [] f a n = omega arith
 total_put (None ∷ came) f a n = total_put came f a n
 total_put (Some q ∷ came) f a n =
     let g = λ (j : ℕ). cond (is_for j q) (put q (f j)) (f j) in
     let rest = total_put came g a n in
-    let more : total (λ j. length (g j)) a n ≤ total (λ j. length (f j)) a n + 1 =
-    total_more (λ j. length (g j)) (λ j. length (f j)) q.cell.output 1 a n
-    (λ t ne. ap length (cond-false (is_for t q) (put q (f t)) (f t) (ne_eqb q.cell.output t (λ e. ne (sym e)))))
-    (cond_both (is_for q.cell.output q) (put q (f q.cell.output)) (f q.cell.output)
-    (λ xs. length xs ≤ length (f q.cell.output) + 1)
-    (λ _. let l = length_put q (f q.cell.output) in omega arith) (λ _. omega arith)) in
+    let one = length_put q (f q.cell.output) in
+    let more = total_more (λ j. length (g j)) (λ j. length (f j)) q.cell.output 1 a n
+    (λ t ne. grind (arith, common_steps)) (grind (arith, common_steps)) in
     omega arith
 
 pub filled_none : (lists : List (List Queued)) → filled [] lists ≡ lists
@@ -94,21 +77,18 @@ sent_of_waiting : (slot j : ℕ) (lists : List (List Queued)) →
     length (departures_from slot j (fronts lists)) + waiting (rests lists) ≡ waiting lists
 unfolding waiting
 sent_of_waiting slot j [] = refl
-sent_of_waiting slot j ([] ∷ lists) = let rest = sent_of_waiting slot (j + 1) lists in omega arith
-sent_of_waiting slot j ((x ∷ xs) ∷ lists) = let rest = sent_of_waiting slot (j + 1) lists in omega arith
+sent_of_waiting slot j (xs ∷ lists) = grind (arith, common_steps, sent_of_waiting slot (j + 1) lists)
 
 less_waiting : (lists : List (List Queued)) → waiting (rests lists) ≤ waiting lists - 1
 unfolding waiting
 less_waiting [] = omega arith
-less_waiting ([] ∷ lists) = let rest = less_waiting lists in omega arith
-less_waiting ((x ∷ xs) ∷ lists) = let rest = less_waiting lists in omega arith
+less_waiting (xs ∷ lists) = grind (arith, common_steps, less_waiting lists)
 
 -- no list has more cells than all together
 one_of_all : (lists : List (List Queued)) (j : ℕ) → length (slice_index_or lists j []) ≤ waiting lists
 unfolding waiting
 one_of_all [] j = omega arith
-one_of_all (xs ∷ lists) zero = omega arith
-one_of_all (xs ∷ lists) (suc j) = let rest = one_of_all lists j in omega arith
+one_of_all (xs ∷ lists) j = grind (arith, common_steps, one_of_all lists)
 
 -- where a cell waits some list has one
 pub some_waits : (lists : List (List Queued)) → 0 < waiting lists →
@@ -120,16 +100,6 @@ some_waits ((x ∷ xs) ∷ lists) some = (zero, omega arith, omega arith)
 
 -- ## One list
 
-pub cell_here : Option Queued → Option Cell
-cell_here None = None
-cell_here (Some q) = Some q.cell
-
-count_here-cells : (came : List (Option Queued)) → count_here came ≡ length (present (map cell_here came))
-unfolding count_here cell_here
-count_here-cells [] = refl
-count_here-cells (None ∷ came) = count_here-cells came
-count_here-cells (Some q ∷ came) = let rest = count_here-cells came in omega arith
-
 pub count_to-cells : (j : ℕ) (came : List (Option Queued)) → count_to j came ≡ count_for j (map cell_here came)
 unfolding cell_here
 count_to-cells j [] = refl
@@ -139,13 +109,7 @@ count_to-cells j (Some q ∷ came) = let rest = count_to-cells j came in omega a
 pub length-put_all : (j : ℕ) (came : List (Option Queued)) (xs : List Queued) →
     length (put_all j came xs) ≡ length xs + count_to j came
 length-put_all j [] xs = omega arith
-length-put_all j (None ∷ came) xs = length-put_all j came xs
-length-put_all j (Some q ∷ came) xs =
-    length-put_all j came (cond (is_for j q) (put q xs) xs) ∙ one (is_for j q) (count_to j came)
-  where
-    one : (b : Bool) (n : ℕ) → length (cond b (put q xs) xs) + n ≡ length xs + (cond b 1 0 + n)
-    one true n = let l = length_put q xs in omega arith
-    one false n = omega arith
+length-put_all j (o ∷ came) xs = grind (arith, common_steps, length_put, length-put_all j came)
 
 -- ## The ranking keeps the cells
 
@@ -154,9 +118,11 @@ pub ranked_cells : (ms : List Machine) (slot input : ℕ) (cells : List (Option 
 unfolding cell_here
 ranked_cells ms slot input [] ranks r h = grind (arith, common_steps, only_ok)
 ranked_cells ms slot input (None ∷ cells) ranks r h =
-    grind (arith, common_steps, after_ok, ranked_cells ms slot (input + 1) cells ranks)
+    let w = after_input_ok None _ r h in
+    rw (← w.2) (ap (λ (l : List (Option Cell)). None ∷ l) (ranked_cells ms slot (input + 1) cells ranks w.0 w.1))
 ranked_cells ms slot input (Some cell ∷ cells) ranks r h =
-    search (rules, after_ok, fits_ok, ranked_cells ms slot (input + 1) cells)
+    let w = after_input_ok _ _ r (fits_ok _ _ _ r h) in
+    rw (← w.2) (ap (λ (l : List (Option Cell)). Some cell ∷ l) (ranked_cells ms slot (input + 1) cells _ w.0 w.1))
 
 -- ## One slot
 
@@ -191,6 +157,12 @@ pub filled_long : (came : List (Option Queued)) (lists : List (List Queued)) (j 
     length (slice_index_or (filled came lists) j []) ≡ length (slice_index_or lists j []) + count_to j came
 filled_long came lists j inside = grind (arith, common_steps, filled_at, length-put_all)
 
+-- what is sent once the cells are ranked so
+abbrev pub sent_by : List Machine → IdealState → Ranking → Sent
+sent_by ms old r =
+    let lists = filled r.came old.lists in
+    record { gone = fronts lists; after = record { lists = rests lists; ranks = all_told ms (fronts lists) r.ranks } }
+
 left_of : (cells : List (Option Cell)) (old : IdealState) (r : Ranking) → map cell_here r.came ≡ cells → (j : ℕ) →
     j < length old.lists →
     cond (is_some (slice_index_or (fronts (filled r.came old.lists)) j None)) 1 0
@@ -200,70 +172,25 @@ left_of cells old r same j inside =
     grind (arith, common_steps, filled_long r.came old.lists j inside, count_to-cells j r.came)
 
 counted_sent : (ms : List Machine) (slot : ℕ) (cells : List (Option Cell)) (old : IdealState) (r : Ranking) →
-    map cell_here r.came ≡ cells →
-    Counted slot cells old (record {
-      gone = fronts (filled r.came old.lists);
-      after = record {
-        lists = rests (filled r.came old.lists);
-        ranks = all_told ms (fronts (filled r.came old.lists)) r.ranks;
-      };
-    })
+    map cell_here r.came ≡ cells → Counted slot cells old (sent_by ms old r)
 unfolding departures_in
 counted_sent ms slot cells old r same =
     let lists = filled r.came old.lists in
-    let long : length lists ≡ length old.lists = length-filled r.came old.lists in
-    let came : count_here r.came ≡ length (present cells) =
-    count_here-cells r.came ∙ ap (λ (l : List (Option Cell)). length (present l)) same in
-    let full : waiting lists ≤ waiting old.lists + count_here r.came = waiting-filled r.came old.lists in
-    let sent : length (departures_from slot 0 (fronts lists)) + waiting (rests lists) ≡ waiting lists =
-    sent_of_waiting slot 0 lists in
-    let less : waiting (rests lists) ≤ waiting lists - 1 = less_waiting lists in
-    record {
-      ports = length-map lists (λ (xs : List Queued). drop 1 xs) ∙ long;
-      each = λ j inside. let here = left_of cells old r same j inside in omega arith;
-      left = left_of cells old r same;
-      all = omega arith;
-      fewer = omega arith;
-      departs = search (arith, rules, filled_long r.came old.lists, count_to-cells, one_of_all lists);
-    }
+    let long = length-filled r.came old.lists in
+    let full = waiting-filled r.came old.lists in
+    let sent = sent_of_waiting slot 0 lists in
+    let less = less_waiting lists in
+    let left = left_of cells old r same in
+    search (arith, rules, length-map, left, filled_long r.came old.lists, count_to-cells, one_of_all lists)
 
 pub sends_ok : (P : Sent → Type 0) (ms : List Machine) (old : IdealState) (x : Result Ranking TagFault) (sent : Sent) →
     ideal_sends ms old x ≡ Ok sent →
     ((r : Ranking) → x ≡ Ok r →
-    P (record {
-      gone = fronts (filled r.came old.lists);
-      after = record {
-        lists = rests (filled r.came old.lists);
-        ranks = all_told ms (fronts (filled r.came old.lists)) r.ranks;
-      };
-    })) → P sent
-sends_ok P ms old (Ok r) sent h f = subst P (only_ok refl h) (f r refl)
-sends_ok P ms old (Err fault) sent h f = absurd (let P : ⊥ = cc in P)
+    P (sent_by ms old r)) → P sent
+sends_ok P ms old fault sent h f = grind (arith, common_steps, only_ok)
 
 pub counted : (ms : List Machine) (slot : ℕ) (cells : List (Option Cell)) (old : IdealState) (sent : Sent) →
     ideal_slot ms slot cells old ≡ Ok sent → Counted slot cells old sent
 unfolding ideal_slot
 counted ms slot cells old sent h = sends_ok (Counted slot cells old) ms old (ranking ms slot 0 cells old.ranks) sent h
     (λ r is. counted_sent ms slot cells old r (ranked_cells ms slot 0 cells old.ranks r is))
-
--- a slot in which no cell comes meets no fault
-none_faulty : (ms : List Machine) (slot input : ℕ) (cells : List (Option Cell)) (ranks : List (List ℕ)) →
-    length (present cells) ≡ 0 → (r : Ranking) × (ranking ms slot input cells ranks ≡ Ok r)
-none_faulty ms slot input [] ranks none = (record { came = []; ranks = ranks }, refl)
-none_faulty ms slot input (None ∷ cells) ranks none =
-    let rest = none_faulty ms slot (input + 1) cells ranks none in
-    (record { came = None ∷ rest.0.came; ranks = rest.0.ranks }, ap (after_input None) rest.1)
-none_faulty ms slot input (Some cell ∷ cells) ranks none = absurd (omega arith)
-
-pub quiet_slot : (ms : List Machine) (slot : ℕ) (cells : List (Option Cell)) (old : IdealState) →
-    length (present cells) ≡ 0 → (sent : Sent) × (ideal_slot ms slot cells old ≡ Ok sent)
-unfolding ideal_slot
-quiet_slot ms slot cells old none =
-    let r = none_faulty ms slot 0 cells old.ranks none in
-    let lists = filled r.0.came old.lists in (
-      record {
-        gone = fronts lists;
-        after = record { lists = rests lists; ranks = all_told ms (fronts lists) r.0.ranks };
-      },
-      ap (ideal_sends ms old) r.1,
-    )

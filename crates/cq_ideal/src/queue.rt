@@ -38,7 +38,7 @@ impl Queue {
     }
 
     /// Puts a cell at its place in the order of keys. It takes no memory.
-    #[tactic(auto, using(cq_urgency::proofs::Rising::length_put))]
+    #[tactic(auto, using(cq_base::proofs::Putting::length_put))]
     pub fn put(&mut self, queued: Queued)
         requires room { length self.old.cells < self.old.room }
         requires other_key { HasOtherKey queued self.old.cells }

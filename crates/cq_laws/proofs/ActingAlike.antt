@@ -1,19 +1,6 @@
 -- Both switches act alike, with limits and without: with stable matchings, and so with input-best ones. From empty
 -- states on they refuse as much at each output, since their admissions are the same.
-use Rattle.std.proofs.lemmas.Grind.{common_steps}
-use Rattle.std.proofs.Common.{arith, rules, ◌≡◌, ℕ, List, Option, Result, Ok}
-use Rattle.std.specs.List.{AllByRecursion}
-use Rattle.cq_base.specs.declared.cell.Cell.{Cell}
-use Rattle.cq_base.specs.declared.cell.TagFault.{TagFault}
-use Rattle.cq_rank.specs.Machine.{Machine}
-use Rattle.cq_ideal.specs.Admission.{Marked}
-use Rattle.cq_ideal.specs.LimitedIdeal.{LimitedRan, empty_limited}
-use Rattle.cq_ideal.specs.Ranking.{AreForPorts}
-use Rattle.cq_prefs.specs.Pairing.{IsInputBest, IsStable}
-use Rattle.cq_laws.specs.Agreement.{ActAlikeFromEmptyWithoutLimits, ActAlikeWithoutLimits}
-use Rattle.cq_laws.specs.LimitedAgreement.{ActAlike, ActAlikeFromEmpty, LimitedRunsAlike}
-use Rattle.cq_laws.specs.Fabric.{Fabric}
-use Rattle.cq_laws.specs.LimitedFabric.{LimitedFabricRun, LimitedRecord, empty_limited_fabric}
+use Rattle.cq_laws.proofs.Terms.{common_steps, arith, rules, ◌≡◌, ℕ, List, Option, Result, Ok, AllByRecursion, Cell, TagFault, Machine, Marked, AreForPorts, IsInputBest, IsStable, ActAlikeFromEmptyWithoutLimits, ActAlikeWithoutLimits, Fabric, LimitedFabricRun, LimitedRecord, empty_limited_fabric, LimitedRan, empty_limited, ActAlike, ActAlikeFromEmpty, LimitedRunsAlike}
 use Rattle.cq_laws.proofs.InputBest.{stable_slot, stable_run, stable_stop, stable_limited_slot, stable_limited_run, stable_limited_stop}
 use Rattle.cq_laws.proofs.LimitedSlots.{same_limited_slot, same_limited_fault}
 use Rattle.cq_laws.proofs.LimitedWhole.{begin, same_limited_run, same_limited_stop}
@@ -28,15 +15,12 @@ module _ (limits : List (Option ℕ)) (ms : List Machine) where
   pub stable_act_alike : ActAlike IsStable limits ms
   stable_act_alike =
       record {
-        slot = λ slot class_count cells f g ideal r agrees come step.
-            same_limited_slot limits ms slot class_count cells f g ideal r agrees come step;
-        fault = λ slot cells f ideal fault agrees. same_limited_fault limits ms slot cells f ideal fault agrees;
-        run = λ slot class_count traffic f g ideal rs agrees come run.
-            same_limited_run limits ms class_count slot traffic f g ideal rs
-            (record { agrees = agrees; come = come }) run;
-        stop = λ slot class_count traffic f ideal rs fault agrees come run.
-            same_limited_stop limits ms class_count slot traffic f ideal rs fault
-            (record { agrees = agrees; come = come }) run;
+        slot = search (rules, same_limited_slot);
+        fault = search (rules, same_limited_fault);
+        run = λ slot class_count traffic f g ideal rs agrees come run. same_limited_run limits ms class_count slot
+            traffic f g ideal rs (record { agrees = agrees; come = come }) run;
+        stop = λ slot class_count traffic f ideal rs fault agrees come run. same_limited_stop limits ms class_count
+            slot traffic f ideal rs fault (record { agrees = agrees; come = come }) run;
       }
 
   pub best_act_alike : ActAlike IsInputBest limits ms

@@ -2,20 +2,7 @@
 -- they come, which all differ: so no key is twice. Each older cell for the same output in the list has slack 1 at
 -- least, so where it is more urgent than the new cell it stands below the new cell's cushion: so the insertion keeps
 -- the order. And the cells for each output are those that were there and those that came for it.
-use Rattle.std.proofs.lemmas.Grind.{common_steps}
-use Rattle.std.proofs.Common.{rules, ◌≡◌, ◌≢◌, ℕ, ◌+◌, ◌<◌, ◌⊎◌, List, length, Option, Some, None, refl, sym, ap, ◌∙◌, subst, inr, ⊎_elim, arith}
-use Rattle.std.proofs.lemmas.Option.{same_Some}
-use Rattle.cq_base.specs.declared.key.Key.{Key}
-use Rattle.cq_base.specs.declared.cell.Cell.{Cell}
-use Rattle.cq_base.specs.declared.cell.Queued.{Queued}
-use Rattle.cq_base.specs.Cells.{IsRising, KeepsOrder, place_of_arrival}
-use Rattle.cq_base.proofs.Lists.{keeps_order_arrival}
-use Rattle.cq_rank.specs.Machine.{Machine}
-use Rattle.cq_prefs.specs.FirstCells.{list_of}
-use Rattle.cq_laws.specs.Fabric.{Fabric, input, buffer, IsAmong, IsFabric, ListsKeepOrder, cushion_of}
-use Rattle.cq_laws.specs.Phases.{came_to, list_arrived, Arrives}
-use Rattle.cq_laws.specs.Places.{HasFor}
-use Rattle.cq_laws.specs.Slack.{HasSlack}
+use Rattle.cq_laws.proofs.Terms.{common_steps, rules, ◌≡◌, ◌≢◌, ℕ, ◌+◌, ◌<◌, ◌⊎◌, List, length, Option, Some, None, sym, ap, subst, ⊎_elim, arith, same_Some, Key, Cell, Queued, Machine, Fabric, input, buffer, IsAmong, IsFabric, cushion_of, came_to, list_arrived, Arrives, HasSlack, KeepsOrder, keeps_order_arrival, list_of, HasFor}
 use Rattle.cq_laws.proofs.Members.{all_from, among_insert, insert_new, insert_old}
 use Rattle.cq_laws.proofs.Cushions.{cushion_rises}
 use Rattle.cq_laws.proofs.Falls.{arrivals_fall}
@@ -33,20 +20,8 @@ CameFor came j c = (k : ℕ) × (came_to came k ≡ Some c) × (c.cell.output �
 
 module _ (ms : List Machine) (slot : ℕ) (cells : List (Option Cell)) (came : List (Option Queued)) (old new : Fabric)
     (arrive : Arrives ms slot cells came old new) (keyed : Keyed slot (length old.inputs) came) where
-  came_or_was : (q : Option Queued) (xs : List Queued) (c : Queued) → IsAmong c (list_arrived old q xs) →
-      (q ≡ Some c) ⊎ IsAmong c xs
-  came_or_was None xs c h = inr h
-  came_or_was (Some n) xs c h = grind (arith, common_steps, among_insert)
-
   arrived_from : (i : ℕ) (c : Queued) → IsAmong c (input new i) → (came_to came i ≡ Some c) ⊎ IsAmong c (input old i)
-  arrived_from i c h = came_or_was (came_to came i) (input old i) c (subst (IsAmong c) (arrive.lists i) h)
-
-  still_there : (q : Option Queued) (xs : List Queued) (c : Queued) → IsAmong c xs → IsAmong c (list_arrived old q xs)
-  still_there None xs c h = h
-  still_there (Some n) xs c h = insert_old xs (place_of_arrival (cushion_of old n) n xs) n c h
-
-  arrived_keeps : (i : ℕ) (c : Queued) → IsAmong c (input old i) → IsAmong c (input new i)
-  arrived_keeps i c h = subst (IsAmong c) (sym (arrive.lists i)) (still_there (came_to came i) (input old i) c h)
+  arrived_from i c h = search (arith, rules, among_insert)
 
   arrived_new : (i : ℕ) (c : Queued) → came_to came i ≡ Some c → IsAmong c (input new i)
   arrived_new i c e = grind (arith, common_steps, insert_new)
@@ -55,13 +30,12 @@ module _ (ms : List Machine) (slot : ℕ) (cells : List (Option Cell)) (came : L
   in_buffer j c h = subst (λ b. IsAmong c (list_of b j)) arrive.buffers h
 
   pub arrived_fabric : IsFabric old → IsFabric new
-  unfolding in_buffer
   arrived_fabric fabric =
       record {
-        square = ap length arrive.buffers ∙ fabric.square ∙ sym arrive.ports;
+        square = cc;
         outputs = λ i c h. search (arith, rules, fabric.outputs i c, arrived_from i c h);
         own = λ j c h. fabric.own j c (in_buffer j c h);
-        rising = λ j. subst (λ b. IsRising (list_of b j)) (sym arrive.buffers) (fabric.rising j);
+        rising = search (arith, rules, fabric.rising);
       }
 
   module _ (sound : Sound slot old) (slack : HasSlack 1 old) where
@@ -69,16 +43,10 @@ module _ (ms : List Machine) (slot : ℕ) (cells : List (Option Cell)) (came : L
     new_old : (k : ℕ) (q d : Queued) → came_to came k ≡ Some q → d.key.slot < slot → q.key ≢ d.key
     new_old k q d e lt same = let s = keyed.slot_is k q e in let t = ap (λ (x : Key). x.slot) same in omega arith
 
-    -- two cells that came with one key are one
-    came_same : (i k : ℕ) (c d : Queued) → came_to came i ≡ Some c → came_to came k ≡ Some d → c.key ≡ d.key →
-        (i ≡ k) × (c ≡ d)
-    came_same i k c d x y e = search (rules, same_Some)
-
     arrived_apart : Apart new
-    unfolding new_old in_buffer
     arrived_apart =
         record {
-          waiting = λ i k c d a b e. ⊎_elim (λ x. ⊎_elim (λ y. came_same i k c d x y e)
+          waiting = λ i k c d a b e. ⊎_elim (λ x. ⊎_elim (λ y. search (rules, same_Some))
               (λ y. absurd (new_old i c d x (sound.early.waiting k d y) e)) (arrived_from k d b))
               (λ x. ⊎_elim (λ y. absurd (new_old k d c y (sound.early.waiting i c x) (sym e)))
               (λ y. sound.apart.waiting i k c d x y e) (arrived_from k d b)) (arrived_from i c a);
@@ -96,17 +64,13 @@ module _ (ms : List Machine) (slot : ℕ) (cells : List (Option Cell)) (came : L
         }
 
     ordered : (i : ℕ) (q : Option Queued) → came_to came i ≡ q → KeepsOrder (list_arrived old q (input old i))
-    unfolding new_old
     ordered i None e = sound.order i
     ordered i (Some n) e = keeps_order_arrival (cushion_of old n) n (input old i) (sound.order i)
-        (all_from _ (input old i) (λ x k same. new_old i n x e (sound.early.waiting i x k) (sym same)))
+        (all_from _ (input old i) (λ x k. grind (arith, new_old i n x e, sound.early.waiting i x k)))
         (λ s x at out lt. search (arith, rules, cushion_rises x.key n.key (buffer old x.cell.output) lt))
 
-    arrived_order : ListsKeepOrder new
-    arrived_order i = subst KeepsOrder (sym (arrive.lists i)) (ordered i (came_to came i) refl)
-
     pub arrived_sound : Sound (slot + 1) new
-    arrived_sound = grind (arith, common_steps, arrived_fabric, arrived_order, arrived_apart, arrived_early)
+    arrived_sound = search (arith, rules, arrived_fabric, arrived_apart, arrived_early, ordered)
 
     pub arrived_slack : HasSlack 0 new
     arrived_slack i t c at = grind (arith, common_steps, arrivals_fall ms slot cells came old new arrive i t c at)
@@ -115,4 +79,4 @@ module _ (ms : List Machine) (slot : ℕ) (cells : List (Option Cell)) (came : L
     arrived_has j c h = search (rules, arrived_from, in_buffer)
 
     pub has_arrived : (j : ℕ) (c : Queued) → HasFor old j c ⊎ CameFor came j c → HasFor new j c
-    has_arrived j c h = search (rules, arrived_keeps, arrived_new)
+    has_arrived j c h = search (arith, rules, arrived_new, insert_old)

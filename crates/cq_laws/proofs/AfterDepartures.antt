@@ -1,15 +1,5 @@
 -- What departures keep: they take the first cell out of each buffer, and nothing else changes.
-use Rattle.std.proofs.Common.{rules, ◌≡◌, ℕ, ◌+◌, List, [], ◌∷◌, length, Option, sym, ap, ◌∙◌, subst, inr, arith, drop}
-use Rattle.std.proofs.lemmas.Grind.{common_steps}
-use Rattle.std.proofs.lemmas.List.{length-map}
-use Rattle.cq_base.specs.declared.cell.Queued.{Queued}
-use Rattle.cq_base.specs.Cells.{IsRising}
-use Rattle.cq_rank.specs.Machine.{Machine}
-use Rattle.cq_ideal.specs.IdealSlot.{rests}
-use Rattle.cq_prefs.specs.FirstCells.{list_of}
-use Rattle.cq_laws.specs.Fabric.{Fabric, input, buffer, IsAmong, IsFabric}
-use Rattle.cq_laws.specs.Phases.{Departs}
-use Rattle.cq_laws.specs.Slack.{HasSlack}
+use Rattle.cq_laws.proofs.Terms.{rules, ◌≡◌, ℕ, ◌+◌, List, [], ◌∷◌, length, Option, ap, ◌∙◌, subst, inr, arith, drop, common_steps, length-map, Queued, Machine, Fabric, input, buffer, IsAmong, IsFabric, Departs, HasSlack, IsRising, rests, list_of}
 use Rattle.cq_laws.proofs.Falls.{departures_fall, rest_of}
 use Rattle.cq_laws.proofs.Sound.{Apart, Early, Sound}
 
@@ -36,17 +26,15 @@ module _ (ms : List Machine) (gone : List (Option Queued)) (slot : ℕ) (old new
   same_input i c h = subst (λ l. IsAmong c (list_of l i)) depart.inputs h
 
   pub sent_fabric : IsFabric old → IsFabric new
-  unfolding was_crossed same_input
   sent_fabric fabric =
       record {
-        square = ap length depart.buffers ∙ length_rests old.buffers ∙ fabric.square ∙ sym (ap length depart.inputs);
+        square = cc (length_rests old.buffers);
         outputs = λ i c h. search (arith, rules, fabric.outputs i c (same_input i c h));
         own = λ j c h. fabric.own j c (was_crossed j c h);
-        rising = λ j. subst IsRising (sym (sent_buffer j)) (rising_rest (buffer old j) (fabric.rising j));
+        rising = search (rules, sent_buffer, rising_rest, fabric.rising);
       }
 
   sent_apart : Apart old → Apart new
-  unfolding was_crossed same_input
   sent_apart apart =
       record {
         waiting = λ i k c d a b e. apart.waiting i k c d (same_input i c a) (same_input k d b) e;
@@ -55,7 +43,6 @@ module _ (ms : List Machine) (gone : List (Option Queued)) (slot : ℕ) (old new
       }
 
   sent_early : Early slot old → Early slot new
-  unfolding was_crossed same_input
   sent_early early =
       record {
         waiting = λ i c h. early.waiting i c (same_input i c h);

@@ -1,22 +1,17 @@
--- What the transfer of a stable matching keeps. Each cell is where it was or has crossed to its output, and the first
--- cell for an output that a list gave is in it no more: so no key is twice, and the cells for each output stay the
--- same.
-use Rattle.std.proofs.lemmas.Grind.{common_steps}
-use Rattle.std.proofs.Common.{rules, ◌≡◌, ◌≢◌, ℕ, ◌+◌, ◌<◌, ◌⊎◌, List, Option, Some, None, sym, ap, ◌∙◌, subst, ⊎_elim, arith}
-use Rattle.std.proofs.lemmas.Bool.{cases_lt, eqb-true}
-use Rattle.cq_base.specs.declared.cell.Queued.{Queued}
-use Rattle.cq_base.specs.Cells.{IsRising, KeepsOrder, is_for, first_for, without_first}
-use Rattle.cq_base.proofs.Lists.{each_pair_left, first_le}
-use Rattle.cq_prefs.specs.Pairing.{Partners, partner_of, IsStable}
-use Rattle.cq_prefs.specs.FirstCells.{AreOrdersOf, orders_of}
-use Rattle.cq_prefs.specs.Moves.{list_taken}
-use Rattle.cq_laws.specs.Fabric.{Fabric, input, buffer, IsAmong, IsFabric, ListsKeepOrder}
-use Rattle.cq_laws.specs.Phases.{Transfers}
-use Rattle.cq_laws.specs.Places.{HasFor, IsMostUrgentFor, NoKeyTwice}
-use Rattle.cq_laws.specs.Slack.{EachRises, HasSlack}
-use Rattle.cq_laws.proofs.Members.{among_at, at_among, first_at, left_at, rising_put}
-use Rattle.cq_laws.proofs.Rises.{matching_rises, slack_risen, least_buffered, has_after, has_before, sender, partner_offers, buffer_from, input_from}
-use Rattle.cq_laws.proofs.Sound.{Apart, Early, Sound, one_in_order, orders_are, apart_from}
+-- What the transfer of a stable matching does. It leaves a cell at an input only where the input gave a cell that
+-- stood ahead of it, or its output got a cell that is more urgent: else the input and the output would be a pair that
+-- blocks. So its input thread falls or its cushion rises, and neither ever goes the other way. It follows that the
+-- most urgent cell for an output is never left: it would have slack 1, so a cushion, so a more urgent cell for the
+-- same output. And each cell is where it was or has crossed to its output, and the first cell for an output that a
+-- list gave is in it no more: so no key is twice, and the cells for each output stay the same.
+use Rattle.cq_laws.proofs.Terms.{rules, ◌≡◌, ◌≢◌, ℕ, suc, ◌+◌, ◌<◌, ◌≤◌, ◌⊎◌, ◌↔◌, List, Option, Some, None, refl, sym, ap, ◌∙◌, inl, inr, ⊎_elim, arith, common_steps, slice_get, eq-eqb, same_Some, Key, cushion_of, Queued, Fabric, input, buffer, IsAmong, IsFabric, ListsKeepOrder, Transfers, EachRises, HasSlack, put, KeepsOrder, cushion, is_for, first_for, place_for, without_first, key_laws, first_le, each_pair_left, IsListed, place_in, outputs_of, partner_of, depth, HasBetterInput, IsOutputOrder, AreOrdersOf, orders_of, list_taken, HasFor, IsMostUrgentFor}
+use Rattle.cq_prefs.specs.Pairing.{Partners, IsStable}
+use Rattle.cq_laws.proofs.Members.{from_first, among_at, at_among, first_at, first_of, left_at, left_among, left_or_first, among_put, put_new, put_old, rising_put}
+use Rattle.cq_laws.proofs.Cushions.{cushion_grows, cushion_grows_by_one, cushion_has}
+use Rattle.cq_laws.proofs.Sound.{same_cell, Apart, Early, Sound, one_in_order, orders_are}
+use Rattle.cq_laws.proofs.Rises.{first_least, is_partner, sender}
+
+-- ## Lists without a first cell
 
 -- the first cell for an output is not left
 not_left : (j : ℕ) (xs : List Queued) (f : Queued) → KeepsOrder xs → first_for j xs ≡ Some f →
@@ -24,112 +19,192 @@ not_left : (j : ℕ) (xs : List Queued) (f : Queued) → KeepsOrder xs → first
 not_left j xs f order is h =
     let first = first_at (is_for j) xs f is in
     let r = at_among (without_first j xs) f h in
-    let st = left_at j xs r.0 f r.1 in search (arith, rules, first_le, one_in_order, cases_lt)
+    let st = left_at j xs r.0 f r.1 in
+    grind (arith, one_in_order xs first.place st.place f order first.at st.at, st.side)
 
-from_first : (j : ℕ) (xs : List Queued) (f : Queued) → first_for j xs ≡ Some f → IsAmong f xs × (f.cell.output ≡ j)
-from_first j xs f is =
-    let first = first_at (is_for j) xs f is in
-    (among_at xs first.place f first.at, eqb-true f.cell.output j first.passes)
+-- where a cell that stays stood before: no sooner, and behind a cell that was taken one place later
+record Stayed (p : Option ℕ) (xs : List Queued) (t : ℕ) (c : Queued) : Type 0 where
+  place : ℕ
+  at : slice_get xs place ≡ Some c
+  no_sooner : t ≤ place
+  behind : (k : ℕ) → p ≡ Some k → place_for k xs ≤ place → place ≡ suc t
 
-order_taken : (p : Option ℕ) (xs : List Queued) → KeepsOrder xs → KeepsOrder (list_taken p xs)
-order_taken None xs e = e
-order_taken (Some k) xs e = each_pair_left _ k xs e
+stayed : (p : Option ℕ) (xs : List Queued) (t : ℕ) (c : Queued) → slice_get (list_taken p xs) t ≡ Some c →
+    Stayed p xs t c
+stayed None xs t c h = record { place = t; at = h; no_sooner = omega arith; behind = λ k e. cc }
+stayed (Some l) xs t c h =
+    let st = left_at l xs t c h in
+    record {
+      place = st.place;
+      at = st.at;
+      no_sooner = omega (arith, st.side);
+      behind = λ k e le. grind (arith, st.side, same_Some l k e);
+    }
+
+-- a partner that is preferred has its first cell ahead
+better_ahead : (order : List ℕ) (cells : List Queued) (p : Option ℕ) (j : ℕ) → IsOutputOrder cells order →
+    IsListed order j → depth order p < place_in order j →
+    (k : ℕ) × (p ≡ Some k) × (place_for k cells < place_for j cells)
+better_ahead order cells None j is listed lt = absurd (omega arith)
+better_ahead order cells (Some k) j is listed lt = (k, refl, is.by_place k j lt)
+
+left_or_taken : (p : Option ℕ) (xs : List Queued) (c : Queued) → IsAmong c xs →
+    IsAmong c (list_taken p xs) ⊎ ((k : ℕ) × (p ≡ Some k) × (first_for k xs ≡ Some c))
+left_or_taken None xs c h = inl h
+left_or_taken (Some k) xs c h = search (rules, left_or_first k xs c h)
 
 module _ (old new : Fabric) (m : Partners) (fabric : IsFabric old) (order : ListsKeepOrder old) (apart : Apart old)
     (stable : IsStable (orders_of old.inputs) m) (moves : Transfers m old new) where
   are : AreOrdersOf old.inputs (orders_of old.inputs)
   are = orders_are old apart
 
-  moved_order : ListsKeepOrder new
-  moved_order i = subst KeepsOrder (sym (moves.moves.taken i)) (order_taken (partner_of m i) (input old i) (order i))
+  -- a buffer that got a cell, the first for the output of the input whose partner it is
+  record Got (j : ℕ) : Type 0 where
+    at : ℕ
+    cell : Queued
+    partner : partner_of m at ≡ Some j
+    first : first_for j (input old at) ≡ Some cell
+    is : buffer new j ≡ put cell (buffer old j)
 
+  got : (j i : ℕ) → partner_of m i ≡ Some j → Got j
+  got j i e =
+      let f = ((are.outputs i).offered j).0 (stable.matching.offered i j e) in
+      record { at = i; cell = f.0; partner = e; first = f.1; is = moves.moves.given i j f.0 e f.1 }
+
+  same_or_got : (j : ℕ) → (buffer new j ≡ buffer old j) ⊎ Got j
+  same_or_got j = ⊎_elim (λ r. inr (got j r.0 r.1)) (λ none. inl (moves.moves.kept j none)) (sender m j)
+
+  -- ## Slacks
+
+  -- no cell leaves a buffer
+  cushion_kept : (j : ℕ) (k : Key) → cushion k (buffer old j) ≤ cushion k (buffer new j)
+  cushion_kept j k = grind (arith, common_steps, same_or_got j, cushion_grows)
+
+  -- an output that has an input that it prefers gained a cell that is more urgent
+  cushion_gained : (i s : ℕ) (c : Queued) → slice_get (input old i) s ≡ Some c →
+      HasBetterInput (orders_of old.inputs) m i c.cell.output → 1 + cushion_of old c ≤ cushion_of new c
+  unfolding got
+  cushion_gained i s c at better =
+      let j = c.cell.output in
+      let d = got j better.0 better.1 in
+      let among = among_at (input old i) s c at in
+      let f = first_of (is_for j) (input old i) c among (eq-eqb j j refl) in
+      let d_f = (are.inputs j (fabric.outputs i c among)).by_key better.0 i d.cell f.0 better.2 d.first f.1 in
+      let least = first_least j (input old i) s c f.0 (order i) at refl f.1 in
+      grind (arith, d_f, least, key_laws.on, cushion_grows_by_one c.key d.cell (buffer old j), ap (cushion c.key) d.is)
+
+  pub matching_rises : EachRises 1 old new
+  matching_rises i t c at =
+      let j = c.cell.output in
+      let xs = input old i in
+      let p = partner_of m i in
+      let st = stayed p xs t c (ap (λ l. slice_get l t) (sym (moves.moves.taken i)) ∙ at) in
+      let among = among_at xs st.place c st.at in
+      let le : place_for j xs ≤ st.place = first_le (is_for j) xs st.place c st.at (eq-eqb j j refl) in
+      let offered = ((are.outputs i).offered j).1 (first_of (is_for j) xs c among (eq-eqb j j refl)) in
+      let kept = cushion_kept j c.key in
+      let more = cushion_gained i st.place c st.at in
+      let better = better_ahead (outputs_of (orders_of old.inputs) i) xs p j (are.outputs i) offered in
+      let partner = is_partner p j in
+      let settled = stable.settled i j offered in
+      record {
+        before = st.place;
+        stood = st.at;
+        risen = grind (arith, partner, settled, st.behind, st.no_sooner, better, more);
+      }
+
+  pub slack_risen : (n : ℕ) → HasSlack n old → HasSlack (1 + n) new
+  slack_risen n slack i t c at = grind (arith, common_steps, matching_rises i t c at)
+
+  -- ## The cells for an output stay the same
+
+  -- in a buffer there is what was there and what was taken for it
   from_buffer : (j : ℕ) (c : Queued) → IsAmong c (buffer new j) →
       IsAmong c (buffer old j) ⊎ ((i : ℕ) × (partner_of m i ≡ Some j) × (first_for j (input old i) ≡ Some c))
-  from_buffer = buffer_from old new (orders_of old.inputs) m order fabric are stable moves
+  from_buffer j c h = grind (arith, common_steps, same_or_got j, among_put)
+
+  buffer_keeps : (j : ℕ) (c : Queued) → IsAmong c (buffer old j) → IsAmong c (buffer new j)
+  buffer_keeps j c h = grind (arith, common_steps, same_or_got j, put_old)
 
   was_waiting : (i : ℕ) (c : Queued) → IsAmong c (input new i) → IsAmong c (input old i)
-  was_waiting = input_from old new (orders_of old.inputs) m order fabric are stable moves
+  was_waiting i c h = search (arith, rules, left_among)
+
+  pub has_after : (j : ℕ) (c : Queued) → HasFor old j c → HasFor new j c
+  has_after j c (inr b) = inr (buffer_keeps j c b)
+  has_after j c (inl w) = ⊎_elim (λ l. inl (w.0, rw moves.moves.taken l, w.2)) (λ r.
+      let out = (from_first r.0 (input old w.0) c r.2).1 in
+      search (arith, rules, put_new c (buffer old r.0))) (left_or_taken (partner_of m w.0) (input old w.0) c w.1)
+
+  pub has_before : (j : ℕ) (c : Queued) → HasFor new j c → HasFor old j c
+  has_before j c h = ⊎_elim (λ w. inl (w.0, was_waiting w.0 c w.1, w.2)) (λ b. ⊎_elim (λ k. inr k)
+      (λ r. let f = from_first j (input old r.0) c r.2 in inl (r.0, f.0, f.1)) (from_buffer j c b)) h
+
+  -- ## Head of line
+
+  pub least_buffered : HasSlack 0 old → (j : ℕ) (c : Queued) → IsMostUrgentFor old j c → IsAmong c (buffer new j)
+  least_buffered slack j c least = ⊎_elim (λ w.
+      let at = at_among (input new w.0) c w.1 in
+      let more = slack_risen 0 slack w.0 at.0 c at.1 in
+      let d = cushion_has c.key (buffer new c.cell.output) (omega arith) in
+      grind (arith, least.least d.0, has_before j d.0)) (λ b. b) (has_after j c least.there)
+
+  -- ## What it keeps
 
   -- a cell that crossed waits nowhere
   moved_waits : (i r j : ℕ) (c f : Queued) → IsAmong c (input new i) → partner_of m r ≡ Some j →
       first_for j (input old r) ≡ Some f → c.key ≢ f.key
-  unfolding was_waiting
   moved_waits i r j c f h p is e =
       let same = apart.waiting i r c f (was_waiting i c h) (from_first j (input old r) f is).0 e in
-      let here : IsAmong f (input new r) = subst (λ n. IsAmong f (input new n)) same.0
-      (subst (λ q. IsAmong q (input new i)) same.1 h) in
-      not_left j (input old r) f (order r) is
-      (subst (IsAmong f) (moves.moves.taken r ∙ ap (λ q. list_taken q (input old r)) p) here)
+      not_left j (input old r) f (order r) is (search (arith, rules))
 
   moved_apart : Apart new
-  unfolding from_buffer was_waiting moved_waits
   moved_apart =
       record {
         waiting = λ i k c d a b e. apart.waiting i k c d (was_waiting i c a) (was_waiting k d b) e;
         between = λ i j c d a b e. ⊎_elim (λ y. apart.between i j c d (was_waiting i c a) y e)
             (λ y. moved_waits i y.0 j c d a y.1 y.2 e) (from_buffer j d b);
-        crossed = λ j l c d a b e. ⊎_elim (λ x. ⊎_elim (λ y. apart.crossed j l c d x y e)
-            (λ y. absurd (apart.between y.0 j d c (from_first l (input old y.0) d y.2).0 x (sym e)))
-            (from_buffer l d b)) (λ x.
-            ⊎_elim (λ y. absurd (apart.between x.0 l c d (from_first j (input old x.0) c x.2).0 y e))
-            (λ y. (apart.waiting x.0 y.0 c d (from_first j (input old x.0) c x.2).0
-            (from_first l (input old y.0) d y.2).0 e).1) (from_buffer l d b))
-            (from_buffer j c a);
+        crossed = λ j l c d a b e. same_cell old apart j l c d (has_before j c (inr a)) (has_before l d (inr b)) e;
       }
 
   pub moved_fabric : IsFabric new
-  unfolding from_buffer was_waiting
   moved_fabric =
       record {
-        square = moves.moves.ports.1 ∙ fabric.square ∙ sym moves.moves.ports.0;
-        outputs = λ i c h.
-            subst (λ n. c.cell.output < n) (sym moves.moves.ports.0) (fabric.outputs i c (was_waiting i c h));
-        own =
-            λ j c h. ⊎_elim (λ k. fabric.own j c k) (λ r. (from_first j (input old r.0) c r.2).1) (from_buffer j c h);
-        rising = λ j. ⊎_elim (λ r.
-            let f =
-            partner_offers old new (orders_of old.inputs) m order fabric are stable moves r.0 j r.1 in
-            subst IsRising (sym (moves.moves.given r.0 j f.0 r.1 f.1)) (rising_put f.0 (buffer old j)
-            (fabric.rising j) (λ d k e.
-            apart.between r.0 j f.0 d (from_first j (input old r.0) f.0 f.1).0 k e)))
-            (λ none. subst IsRising (sym (moves.moves.kept j none)) (fabric.rising j)) (sender m j);
+        square = cc;
+        outputs = λ i c h. rw moves.moves.ports.0 (fabric.outputs i c (was_waiting i c h));
+        own = λ j c h. grind (arith, has_before j c (inr h), fabric.own j c);
+        rising = λ j. ⊎_elim (λ e. rw e (fabric.rising j)) (λ g. rw g.is (rising_put g.cell (buffer old j)
+            (fabric.rising j) (λ d. apart.between g.at j g.cell d (from_first j (input old g.at) g.cell g.first).0)))
+            (same_or_got j);
       }
+
+  moved_early : (slot : ℕ) → Early slot old → Early slot new
+  moved_early slot early =
+      record {
+        waiting = λ i c h. early.waiting i c (was_waiting i c h);
+        crossed = λ j c h. ⊎_elim (λ w. early.waiting w.0 c w.1) (λ k. early.crossed j c k) (has_before j c (inr h));
+      }
+
+-- what is so after a transfer
+pub record Moved (slot : ℕ) (old new : Fabric) : Type 0 where
+  pub sound : Sound slot new
+  pub rises : EachRises 1 old new
+  pub slack : (n : ℕ) → HasSlack n old → HasSlack (1 + n) new
+  pub has : (j : ℕ) (c : Queued) → HasFor new j c ↔ HasFor old j c
 
 module _ (slot : ℕ) (old new : Fabric) (m : Partners) (sound : Sound slot old)
     (stable : IsStable (orders_of old.inputs) m) (moves : Transfers m old new) where
-  moved_early : Early slot new
-  moved_early =
-      record {
-        waiting = λ i c h. sound.early.waiting i c
-            (was_waiting old new m sound.fabric sound.order sound.apart stable moves i c h);
-        crossed = λ j c h. ⊎_elim (λ k. sound.early.crossed j c k)
-            (λ r. sound.early.waiting r.0 c (from_first j (input old r.0) c r.2).0)
-            (from_buffer old new m sound.fabric sound.order sound.apart stable moves j c h);
-      }
-
   pub moved_sound : Sound slot new
-  moved_sound = grind (arith, common_steps, moved_fabric, moved_order, moved_apart, moved_early)
-
-  pub moved_rises : EachRises 1 old new
-  moved_rises = search (rules, matching_rises, orders_are)
-
-  pub moved_slack : (n : ℕ) → HasSlack n old → HasSlack (1 + n) new
-  moved_slack n slack = search (rules, slack_risen, orders_are)
-
-  pub has_moved : (j : ℕ) (c : Queued) → HasFor old j c → HasFor new j c
-  has_moved = search (rules, has_after, orders_are)
+  moved_sound = search (arith, rules, moved_fabric, moved_apart, moved_early, each_pair_left)
 
   pub moved_has : (j : ℕ) (c : Queued) → HasFor new j c → HasFor old j c
-  moved_has = search (rules, has_before, orders_are)
+  moved_has = has_before old new m sound.fabric sound.order sound.apart stable moves
 
--- ## The two laws, of states as they are said by places
-
-pub stable_rises : (m : Partners) (old new : Fabric) → IsFabric old → ListsKeepOrder old → NoKeyTwice old →
-    IsStable (orders_of old.inputs) m → Transfers m old new → EachRises 1 old new
-stable_rises m old new fabric order differ stable moves = search (rules, matching_rises, orders_are, apart_from)
-
-pub most_urgent_crosses : (m : Partners) (old new : Fabric) → IsFabric old → ListsKeepOrder old → NoKeyTwice old →
-    HasSlack 0 old → IsStable (orders_of old.inputs) m → Transfers m old new → (j : ℕ) (c : Queued) →
-    IsMostUrgentFor old j c → IsAmong c (buffer new j)
-most_urgent_crosses m old new fabric order differ slack stable moves =
-    search (rules, least_buffered, orders_are, apart_from)
+  pub moved : Moved slot old new
+  moved =
+      let after = has_after old new m sound.fabric sound.order sound.apart stable moves in
+      record {
+        sound = moved_sound;
+        rises = matching_rises old new m sound.fabric sound.order sound.apart stable moves;
+        slack = slack_risen old new m sound.fabric sound.order sound.apart stable moves;
+        has = λ j c. (moved_has j c, after j c);
+      }

@@ -1,15 +1,7 @@
 -- Cushions. A cell more in a buffer raises by one the cushion of each less urgent key and lowers none, and a cell
 -- less lowers a cushion by one at most. A cushion that is not 0 shows a more urgent cell, and a greater key has no
 -- smaller cushion.
-use Rattle.std.proofs.lemmas.Grind.{common_steps}
-use Rattle.std.proofs.Common.{◌≡◌, ℕ, ◌+◌, ◌<◌, ◌≤◌, Bool, true, false, List, [], ◌∷◌, ap, ⊎_elim, arith}
-use Rattle.std.proofs.lemmas.Bool.{cond_both, cases_Bool}
-use Rattle.cq_base.specs.declared.key.Key.{Key}
-use Rattle.cq_base.specs.declared.cell.Queued.{Queued}
-use Rattle.cq_base.specs.Key.{is_before}
-use Rattle.cq_base.specs.Cells.{put, cushion}
-use Rattle.cq_base.proofs.Keys.{key_laws}
-use Rattle.cq_laws.specs.Fabric.{IsAmong}
+use Rattle.cq_laws.proofs.Terms.{rules, ◌≡◌, ℕ, ◌+◌, ◌<◌, ◌≤◌, Bool, true, false, List, [], ◌∷◌, ap, arith, common_steps, cond_both, cases_Bool, Key, Queued, IsAmong, is_before, put, cushion, key_laws}
 
 -- 1 where the test holds
 abbrev pub bit : Bool → ℕ
@@ -22,17 +14,13 @@ bit_true b e = ap bit e
 pub bit_false : (b : Bool) → b ≡ false → bit b ≡ 0
 bit_false b e = ap bit e
 
-bit_le : (b : Bool) → bit b ≤ 1
-bit_le true = omega arith
-bit_le false = omega arith
-
 pub cushion_cons : (k : Key) (x : Queued) (xs : List Queued) →
     cushion k (x ∷ xs) ≡ bit (is_before x.key k) + cushion k xs
 cushion_cons k x xs = grind (arith, common_steps, cond_both, bit_true, bit_false)
 
 -- a cell taken from the front
 pub cushion_tail : (k : Key) (x : Queued) (xs : List Queued) → cushion k (x ∷ xs) ≤ 1 + cushion k xs
-cushion_tail k x xs = omega (arith, cushion_cons k x xs, bit_le (is_before x.key k))
+cushion_tail k x xs = search (arith, rules, cushion_cons)
 
 pub cushion_put : (k : Key) (c : Queued) (xs : List Queued) →
     cushion k (put c xs) ≡ bit (is_before c.key k) + cushion k xs
@@ -56,10 +44,4 @@ cushion_has k (x ∷ xs) h = grind (arith, common_steps, cushion_cons, bit_false
 pub cushion_rises : (k l : Key) (xs : List Queued) → is_before k l ≡ true → cushion k xs ≤ cushion l xs
 cushion_rises k l [] h = omega arith
 cushion_rises k l (x ∷ xs) h =
-    let rest = cushion_rises k l xs h in
-    let both = cushion_cons k x xs in
-    let both' = cushion_cons l x xs in
-    ⊎_elim (λ e.
-    let b = bit_true (is_before x.key k) e in
-    let b' = bit_true (is_before x.key l) (key_laws.on x.key k l e h) in omega arith)
-    (λ e. let b = bit_false (is_before x.key k) e in omega arith) (cases_Bool (is_before x.key k))
+    grind (arith, common_steps, cushion_cons, bit_true, bit_false, cases_Bool, key_laws.on, cushion_rises k l xs h)

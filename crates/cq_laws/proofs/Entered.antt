@@ -2,27 +2,15 @@
 -- slot, so a cell that comes has another key; and each has slack 1, so that the more urgent cells for an output stand
 -- below the cushion of one that comes. All keys differ in each state of a slot, so the cells that cross have keys
 -- that are new in their buffers.
-use Rattle.std.proofs.Common.{rules, ◌≡◌, ℕ, ◌+◌, List, length, Option, Some, Ok, sym, ap, arith}
-use Rattle.cq_base.specs.Arrivals.{arrival_at}
-use Rattle.cq_base.specs.Cells.{is_for}
-use Rattle.cq_base.specs.declared.cell.Cell.{Cell}
-use Rattle.cq_base.specs.declared.cell.Queued.{Queued}
-use Rattle.cq_base.specs.declared.key.Key.{Key}
-use Rattle.cq_rank.specs.Machine.{Machine}
-use Rattle.cq_ideal.specs.IdealSlot.{IdealState}
-use Rattle.cq_ideal.specs.Ranking.{AreForPorts, Ranking, ranking}
-use Rattle.cq_prefs.specs.FirstCells.{orders_of}
-use Rattle.cq_prefs.specs.Pairing.{IsStable, Partners}
-use Rattle.cq_laws.specs.Agreement.{Agrees}
-use Rattle.cq_laws.specs.Entering.{FirstsCanCross, FitsList}
-use Rattle.cq_laws.specs.Fabric.{Fabric, buffer, input}
-use Rattle.cq_laws.specs.Phases.{Arrives, Departs, Transfers, came_to}
+use Rattle.cq_laws.proofs.Terms.{rules, ◌≡◌, ℕ, ◌+◌, List, length, Option, Some, Ok, sym, arith, arrival_at, Cell, Queued, Machine, IdealState, IsStable, Partners, Agrees, FirstsCanCross, FitsList, Fabric, buffer, input, Arrives, Departs, Transfers, came_to, Ranking, ranking}
+use Rattle.cq_laws.specs.Terms.{orders_of}
+use Rattle.cq_ideal.specs.Ranking.{AreForPorts}
 use Rattle.cq_laws.proofs.AfterArrivals.{arrived_sound}
 use Rattle.cq_laws.proofs.AfterDepartures.{sent_sound}
 use Rattle.cq_laws.proofs.AfterTransfer.{moved_sound}
 use Rattle.cq_laws.proofs.Came.{came_from, keyed_from}
 use Rattle.cq_laws.proofs.Cushions.{cushion_rises}
-use Rattle.cq_laws.proofs.Members.{all_from, among_at, first_at}
+use Rattle.cq_laws.proofs.Members.{all_from, from_first}
 use Rattle.cq_laws.proofs.OneSlot.{sound_from}
 use Rattle.cq_laws.proofs.Sound.{Sound, firsts_differ}
 
@@ -31,9 +19,8 @@ can_cross slot f sound =
     record {
       differ = firsts_differ f sound.apart;
       keys = λ i j c found.
-          let p = first_at (is_for j) (input f i) c found in
-          all_from _ (buffer f j) (λ d h same.
-          sound.apart.between i j c d (among_at (input f i) p.place c p.at) h (sym same));
+          let among = (from_first j (input f i) c found).0 in
+          all_from _ (buffer f j) (λ d h same. sound.apart.between i j c d among h (sym same));
     }
 
 module _ (ms : List Machine) (slot class_count : ℕ) (cells : List (Option Cell)) (came : List (Option Queued))
@@ -47,23 +34,17 @@ module _ (ms : List Machine) (slot class_count : ℕ) (cells : List (Option Cell
       let keyed = keyed_from ms slot (length f.inputs) class_count cells f.ranks r ranked come in
       let sound = sound_from slot f ideal agrees in
       let arrival : arrival_at cells i ≡ Some c.cell = (came_from ms slot 0 cells f.ranks r ranked i c is).cell_is in
-      let slot_is = keyed.slot_is i c is in
       record {
         inside = come.inputs i c.cell arrival;
         output = keyed.outputs i c is;
-        other_key = all_from _ (input f i) (λ d h same. let lt = sound.early.waiting i d h in
-            let e = ap (λ (k : Key). k.slot) same in absurd (omega arith));
+        other_key = all_from _ (input f i) (λ d h. grind (arith, sound.early.waiting i d h, keyed.slot_is i c is));
         ahead = λ s d at out lt. search (arith, rules, cushion_rises d.key c.key (buffer f d.cell.output) lt);
       }
 
   module _ (arrived : Fabric) (arrive : Arrives ms slot cells came f arrived) where
     sound_arrived : Sound (slot + 1) arrived
-    sound_arrived =
-        arrived_sound ms slot cells came f arrived arrive
-        (keyed_from ms slot (length f.inputs) class_count cells f.ranks (record {
-          came = came;
-          ranks = arrived.ranks;
-        }) arrive.ranked come)
+    sound_arrived = arrived_sound ms slot cells came f arrived arrive (keyed_from ms slot (length f.inputs)
+        class_count cells f.ranks (record { came = came; ranks = arrived.ranks }) arrive.ranked come)
         (sound_from slot f ideal agrees) agrees.slack
 
     pub can_cross_first : FirstsCanCross arrived

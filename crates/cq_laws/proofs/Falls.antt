@@ -1,19 +1,7 @@
 -- How far a slack falls. An arriving cell goes in at its cushion or ahead of it; no other cell of the list goes back
 -- by more than a place, and no buffer changes. A departure takes one cell from a buffer, so it lowers each cushion by
 -- one at most, and no input thread changes.
-use Rattle.std.proofs.lemmas.Grind.{common_steps}
-use Rattle.std.proofs.Common.{rules, ◌≡◌, ℕ, zero, suc, ◌+◌, ◌≤◌, ◌⊎◌, List, [], ◌∷◌, Option, Some, None, refl, sym, ap, ◌∙◌, inr, arith, drop}
-use Rattle.std.specs.Prelude.{slice_get}
-use Rattle.cq_base.specs.declared.key.Key.{Key}
-use Rattle.cq_base.specs.declared.cell.Cell.{Cell}
-use Rattle.cq_base.specs.declared.cell.Queued.{Queued}
-use Rattle.cq_base.specs.Cells.{cushion}
-use Rattle.cq_rank.specs.Machine.{Machine}
-use Rattle.cq_ideal.specs.IdealSlot.{rests}
-use Rattle.cq_prefs.specs.FirstCells.{list_of}
-use Rattle.cq_laws.specs.Fabric.{Fabric, input, cushion_of}
-use Rattle.cq_laws.specs.Phases.{came_to, list_arrived, Arrives, Departs}
-use Rattle.cq_laws.specs.Slack.{ArrivesWithSlack, Falls, EachFalls, EachArrivesOrFalls}
+use Rattle.cq_laws.proofs.Terms.{rules, ◌≡◌, ℕ, zero, suc, ◌⊎◌, List, [], ◌∷◌, Option, Some, None, refl, sym, ap, ◌∙◌, inr, arith, drop, slice_get, Cell, Queued, Machine, Fabric, input, cushion_of, came_to, list_arrived, Arrives, Departs, cushion, rests, list_of, ArrivesWithSlack, Falls, EachFalls, EachArrivesOrFalls}
 use Rattle.cq_laws.proofs.Members.{inserted_at}
 use Rattle.cq_laws.proofs.Cushions.{cushion_tail}
 
@@ -36,10 +24,6 @@ rest_of [] j = refl
 rest_of (xs ∷ lists) zero = refl
 rest_of (xs ∷ lists) (suc j) = rest_of lists j
 
-cushion_rest : (k : Key) (xs : List Queued) → cushion k xs ≤ 1 + cushion k (drop 1 xs)
-cushion_rest k [] = omega arith
-cushion_rest k (x ∷ xs) = cushion_tail k x xs
-
 pub departures_fall : (ms : List Machine) (gone : List (Option Queued)) (old new : Fabric) → Departs ms gone old new →
     EachFalls 1 old new
-departures_fall ms gone old new depart i t c at = grind (arith, common_steps, rest_of, cushion_rest)
+departures_fall ms gone old new depart i t c at = search (arith, rules, rest_of, cushion_tail)

@@ -1,17 +1,6 @@
 -- The lists of the ideal switch after arrivals. The list of an output has what it had and what came for it, and no
 -- key twice, so it stays in the order of keys.
-use Rattle.std.proofs.lemmas.Grind.{common_steps}
-use Rattle.std.proofs.Common.{rules, ◌≡◌, ◌≢◌, ℕ, zero, suc, ◌<◌, ◌⊎◌, cond, List, [], ◌∷◌, length, Option, Some, None, refl, sym, ap, ◌∙◌, inl, inr, ⊎_elim, arith}
-use Rattle.std.proofs.lemmas.Bool.{cases_lt, cond_both, eqb-true, eq-eqb, ne_eqb, true≢false}
-use Rattle.std.proofs.lemmas.Option.{same_Some}
-use Rattle.std.proofs.lemmas.List.{get_or_past}
-use Rattle.std.proofs.lemmas.List.FromFn.{get_or-map-range_with_len, length-map-range_with_len}
-use Rattle.cq_base.specs.declared.cell.Queued.{Queued}
-use Rattle.cq_base.specs.Cells.{IsRising, put, is_for}
-use Rattle.cq_ideal.specs.IdealSlot.{put_all, filled}
-use Rattle.cq_prefs.specs.FirstCells.{list_of}
-use Rattle.cq_laws.specs.Fabric.{IsAmong}
-use Rattle.cq_laws.specs.Phases.{came_to}
+use Rattle.cq_laws.proofs.Terms.{common_steps, rules, ◌≡◌, ◌≢◌, ℕ, zero, suc, ◌<◌, ◌⊎◌, cond, List, [], ◌∷◌, length, Option, Some, None, refl, sym, ap, ◌∙◌, inl, inr, ⊎_elim, arith, cases_lt, cond_both, eqb-true, eq-eqb, ne_eqb, true≢false, same_Some, get_or_past, get_or-map-range_with_len, Queued, IsAmong, came_to, IsRising, put, is_for, put_all, filled, list_of, length-filled}
 use Rattle.cq_laws.proofs.Members.{among_put, put_new, put_old, rising_put}
 use Rattle.cq_laws.proofs.AfterArrivals.{CameFor}
 
@@ -63,17 +52,11 @@ put_all_none : (j : ℕ) (came : List (Option Queued)) (xs : List Queued) →
 put_all_none j [] xs none = refl
 put_all_none j (None ∷ came) xs none = put_all_none j came xs (λ k. none (suc k))
 put_all_none j (Some q ∷ came) xs none =
-    ap (put_all j came) (ap (λ b. cond b (put q xs) xs) (ne_eqb q.cell.output j (none zero q refl)))
-    ∙ put_all_none j came xs (λ k. none (suc k))
-
-pub length_after : (came : List (Option Queued)) (lists : List (List Queued)) →
-    length (filled came lists) ≡ length lists
-unfolding filled
-length_after came lists = length-map-range_with_len (λ j. put_all j came (list_of lists j)) 0 (length lists)
+    rw (ne_eqb q.cell.output j (none zero q refl)) (put_all_none j came xs (λ k. none (suc k)))
 
 pub list_after : (came : List (Option Queued)) (lists : List (List Queued)) →
     ((k : ℕ) (q : Queued) → came_to came k ≡ Some q → q.cell.output < length lists) → (j : ℕ) →
     list_of (filled came lists) j ≡ put_all j came (list_of lists j)
 unfolding filled
 list_after came lists inside j =
-    search (rules, get_or-map-range_with_len, put_all_none, get_or_past, length_after, cases_lt)
+    search (rules, get_or-map-range_with_len, put_all_none, get_or_past, length-filled, cases_lt)

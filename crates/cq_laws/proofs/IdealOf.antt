@@ -1,28 +1,102 @@
--- The one ideal switch with which a sound fabric is in step. Cells whose keys differ are put in the order of their
--- keys, one after the other: each new one is before or behind every other, so the list rises, and it has the same
--- members. So the lists made of the cells that the fabric has for each output rise and have these cells: that is
+-- The one ideal switch with which a sound fabric is in step. Write the cells of the fabric for an output as one list:
+-- those of the first input, of the second and so on, and those of its buffer: all their keys differ. Put in the order
+-- of their keys, one after the other, each new one is before or behind every other, so the list rises, and it has the
+-- same members. So the lists made of the cells that the fabric has for each output rise and have these cells: that is
 -- agreement. And of two lists that rise and have the same members, the first of the one is a member of the other and
 -- no later than its first, and the other way round. So their firsts are one, and without them the lists have the same
 -- members again: they are one list.
-use Rattle.std.proofs.lemmas.Grind.{common_steps}
-use Rattle.std.proofs.Common.{rules, ◌≡◌, ◌≢◌, ℕ, ◌<◌, ◌≤◌, List, [], ◌∷◌, length, refl, sym, ap, ◌∙◌, subst, inl, inr, ⊎_elim, arith}
-use Rattle.std.proofs.lemmas.Bool.{cases_lt, true≢false}
-use Rattle.std.proofs.lemmas.List.{ext_get_or, get_or_past}
-use Rattle.std.proofs.lemmas.List.FromFn.{get_or-map-range_with_len, length-map-range_with_len}
-use Rattle.std.specs.List.{AllByRecursion}
-use Rattle.cq_base.specs.declared.cell.Queued.{Queued}
-use Rattle.cq_base.specs.Cells.{IsBefore, IsRising, KeysDiffer}
-use Rattle.cq_base.proofs.Keys.{key_laws}
-use Rattle.cq_ideal.specs.IdealSlot.{IdealState}
-use Rattle.cq_prefs.specs.FirstCells.{list_of}
-use Rattle.cq_laws.specs.Agreement.{Agrees}
-use Rattle.cq_laws.specs.Fabric.{Fabric, IsAmong, IsFabric}
-use Rattle.cq_laws.specs.Frozen.{IsSoundFabric, ideal_of, in_order}
-use Rattle.cq_laws.specs.Holding.{cells_for}
-use Rattle.cq_laws.specs.Places.{HasFor}
-use Rattle.cq_laws.proofs.Held.{HasNoRepeat, cells_once, from_cells, to_cells}
-use Rattle.cq_laws.proofs.Members.{all_among, all_from, among_put, put_new, put_old, rising_put}
-use Rattle.cq_laws.proofs.Sound.{Apart, apart_from, not_before_itself}
+use Rattle.cq_laws.proofs.Terms.{flat_map, common_steps, rules, ◌≡◌, ◌≢◌, ℕ, ◌≤◌, List, [], ◌∷◌, length, refl, sym, ◌∙◌, subst, inl, inr, ⊎_elim, arith, zero, suc, ◌+◌, ◌⊎◌, Bool, true, ◌++◌, filter, cases_lt, cond_both, eqb-true, eq-eqb, ext_get_or, get_or_past, get_or-map-range_with_len, length-map-range_with_len, Queued, IdealState, Agrees, Fabric, IsAmong, IsFabric, buffer, ListsKeepOrder, IsBefore, IsRising, KeysDiffer, KeepsOrder, is_for, list_of, IsSoundFabric, ideal_of, in_order, cells_for, HasFor}
+use Rattle.cq_laws.proofs.Members.{all_among, all_from, among_put, put_new, put_old, rising_put, no_members}
+use Rattle.cq_laws.proofs.Sound.{apart_from, not_before_itself, same_first, Apart}
+
+-- ## Members of lists that are joined or sifted
+
+among_append : (c : Queued) (xs ys : List Queued) → IsAmong c (xs ++ ys) → IsAmong c xs ⊎ IsAmong c ys
+among_append c [] ys h = inr h
+among_append c (x ∷ xs) ys h = grind (arith, common_steps, among_append c xs ys)
+
+among_left : (c : Queued) (xs ys : List Queued) → IsAmong c xs → IsAmong c (xs ++ ys)
+among_left c [] ys h = absurd h
+among_left c (x ∷ xs) ys h = ⊎_elim (λ e. inl e) (λ k. inr (among_left c xs ys k)) h
+
+among_right : (c : Queued) (xs ys : List Queued) → IsAmong c ys → IsAmong c (xs ++ ys)
+among_right c [] ys h = h
+among_right c (x ∷ xs) ys h = inr (among_right c xs ys h)
+
+among_filter : (p : Queued → Bool) (c : Queued) (xs : List Queued) → IsAmong c (filter p xs) →
+    IsAmong c xs × (p c ≡ true)
+among_filter p c [] h = absurd h
+among_filter p c (x ∷ xs) h = grind (arith, common_steps, cond_both, among_filter p c xs)
+
+filter_among : (p : Queued → Bool) (c : Queued) (xs : List Queued) → IsAmong c xs → p c ≡ true → IsAmong c (filter p xs)
+filter_among p c [] h e = absurd h
+filter_among p c (x ∷ xs) h e = grind (arith, common_steps, cond_both, filter_among p c xs)
+
+-- ## Lists whose keys differ
+
+differ_rising : (xs : List Queued) → IsRising xs → KeysDiffer xs
+differ_rising [] r = tt
+differ_rising (x ∷ xs) r = grind (arith, all_from, all_among, not_before_itself, differ_rising xs r.1)
+
+differ_append : (xs ys : List Queued) → KeysDiffer xs → KeysDiffer ys →
+    ((c d : Queued) → IsAmong c xs → IsAmong d ys → c.key ≢ d.key) → KeysDiffer (xs ++ ys)
+differ_append [] ys x y apart = y
+differ_append (c ∷ xs) ys x y apart =
+    let differ = all_from (λ d. c.key ≢ d.key) (xs ++ ys) (λ d h. ⊎_elim (all_among (λ q. c.key ≢ q.key) xs d x.0)
+    (apart c d (inl refl)) (among_append d xs ys h)) in
+    (differ, differ_append xs ys x.1 y (λ q d h. apart q d (inr h)))
+
+-- ## The cells that wait for an output
+
+module _ (j : ℕ) where
+  -- of each of these lists those for the output
+  abbrev pub waits : List (List Queued) → List Queued
+  waits lists = flat_map (filter (is_for j)) lists
+
+  waits_at : (lists : List (List Queued)) (c : Queued) → IsAmong c (waits lists) →
+      (i : ℕ) × IsAmong c (list_of lists i) × (c.cell.output ≡ j)
+  waits_at [] c h = absurd h
+  waits_at (cells ∷ lists) c h =
+      ⊎_elim (λ l. let r = among_filter (is_for j) c cells l in (zero, r.0, eqb-true c.cell.output j r.1))
+      (λ k. let r = waits_at lists c k in (suc r.0, r.1, r.2))
+      (among_append c (filter (is_for j) cells) (waits lists) h)
+
+  at_waits : (lists : List (List Queued)) (i : ℕ) (c : Queued) → IsAmong c (list_of lists i) → c.cell.output ≡ j →
+      IsAmong c (waits lists)
+  at_waits [] i c h e = absurd h
+  at_waits (cells ∷ lists) zero c h e = grind (arith, common_steps, among_left, filter_among, eq-eqb)
+  at_waits (cells ∷ lists) (suc i) c h e = grind (arith, common_steps, among_right, at_waits lists i c h e)
+
+  filter_rises : (xs : List Queued) → KeepsOrder xs → IsRising (filter (is_for j) xs)
+  filter_rises [] order = tt
+  filter_rises (x ∷ xs) order =
+      let rest = filter_rises xs order.1 in
+      let later = λ (e : is_for j x ≡ true). all_from (IsBefore x) (filter (is_for j) xs) (λ d h.
+      let a = among_filter (is_for j) d xs h in
+      all_among _ xs d order.0 a.0 (eqb-true x.cell.output j e ∙ sym (eqb-true d.cell.output j a.1))) in
+      grind (arith, cond_both, later)
+
+  waits_differ : (lists : List (List Queued)) → ((i : ℕ) → KeepsOrder (list_of lists i)) →
+      ((i k : ℕ) (c d : Queued) → IsAmong c (list_of lists i) → IsAmong d (list_of lists k) → c.key ≡ d.key → i ≡ k) →
+      KeysDiffer (waits lists)
+  waits_differ [] order apart = tt
+  waits_differ (cells ∷ lists) order apart = differ_append (filter (is_for j) cells) (waits lists)
+      (differ_rising (filter (is_for j) cells) (filter_rises cells (order zero)))
+      (waits_differ lists (λ i. order (suc i)) (λ i k c d a b e. omega (arith, apart (suc i) (suc k) c d a b e)))
+      (λ c d l r e. let at = waits_at lists d r in
+      omega (arith, apart zero (suc at.0) c d (among_filter (is_for j) c cells l).0 at.1 e))
+
+  pub to_cells : (f : Fabric) (c : Queued) → HasFor f j c → IsAmong c (cells_for j f)
+  to_cells f c h = search (rules, among_left, at_waits, among_right)
+
+  pub from_cells : (f : Fabric) (c : Queued) → IsAmong c (cells_for j f) → HasFor f j c
+  from_cells f c h = grind (arith, common_steps, waits_at f.inputs c, among_append c (waits f.inputs) (buffer f j) h)
+
+  cells_differ : (f : Fabric) → IsFabric f → ListsKeepOrder f → Apart f → KeysDiffer (cells_for j f)
+  cells_differ f fabric order apart = differ_append (waits f.inputs) (buffer f j)
+      (waits_differ f.inputs order (λ i k c d a b e. (apart.waiting i k c d a b e).0))
+      (differ_rising (buffer f j) (fabric.rising j)) (λ c d l r.
+      let at = waits_at f.inputs c l in apart.between at.0 j c d at.1 r)
 
 -- ## Cells in the order of their keys
 
@@ -39,52 +113,22 @@ rising_in_order [] differ = tt
 rising_in_order (x ∷ xs) differ = rising_put x (in_order xs) (rising_in_order xs differ.1) (λ d h.
     all_among (λ (y : Queued). x.key ≢ y.key) xs d differ.0 (among_in_order d xs h))
 
--- no two cells of a list without repeats have one key, where a key is of one cell
-keys_differ : (xs : List Queued) → HasNoRepeat xs →
-    ((c d : Queued) → IsAmong c xs → IsAmong d xs → c.key ≡ d.key → c ≡ d) → KeysDiffer xs
-keys_differ [] once one = tt
-keys_differ (x ∷ xs) once one = (
-  all_from (λ (y : Queued). x.key ≢ y.key) xs
-      (λ d h e. once.0 (subst (λ (c : Queued). IsAmong c xs) (sym (one x d (inl refl) (inr h) e)) h)),
-  keys_differ xs once.1 (λ c d a b. one c d (inr a) (inr b)),
-)
-
 -- ## Lists that rise and have the same members
-
-same_first : (x y : Queued) (xs ys : List Queued) → IsRising (x ∷ xs) → IsRising (y ∷ ys) → IsAmong x (y ∷ ys) →
-    IsAmong y (x ∷ xs) → x ≡ y
-same_first x y xs ys r s h k = ⊎_elim (λ e. sym e) (λ later. ⊎_elim (λ e. e) (λ back.
-    let y_before : IsBefore y x = all_among (IsBefore y) ys x s.0 later in
-    let x_before : IsBefore x y = all_among (IsBefore x) xs y r.0 back in
-    absurd (true≢false (sym y_before ∙ key_laws.one_way x.key y.key x_before))) k) h
-
-same_rest : (x y : Queued) (xs ys : List Queued) → x ≡ y → AllByRecursion (IsBefore x) xs →
-    ((c : Queued) → IsAmong c (x ∷ xs) → IsAmong c (y ∷ ys)) → (c : Queued) → IsAmong c xs → IsAmong c ys
-same_rest x y xs ys e low to c h = grind (arith, common_steps, all_among, not_before_itself)
 
 same_rising : (xs ys : List Queued) → IsRising xs → IsRising ys → ((c : Queued) → IsAmong c xs → IsAmong c ys) →
     ((c : Queued) → IsAmong c ys → IsAmong c xs) → xs ≡ ys
 same_rising [] [] r s to back = refl
 same_rising [] (y ∷ ys) r s to back = absurd (back y (inl refl))
 same_rising (x ∷ xs) [] r s to back = absurd (to x (inl refl))
-same_rising (x ∷ xs) (y ∷ ys) r s to back = search (rules, same_first, same_rest, same_rising xs ys r.1 s.1)
+same_rising (x ∷ xs) (y ∷ ys) r s to back =
+    search (arith, rules, same_first, all_among, not_before_itself, same_rising xs ys r.1 s.1)
 
 -- ## The cells of a fabric for an output
 
--- a key is of one cell
-same_cell : (f : Fabric) → Apart f → (j l : ℕ) (c d : Queued) → HasFor f j c → HasFor f l d → c.key ≡ d.key → c ≡ d
-same_cell f apart j l c d h k e = ⊎_elim
-    (λ w. ⊎_elim (λ v. (apart.waiting w.0 v.0 c d w.1 v.1 e).1) (λ b. absurd (apart.between w.0 l c d w.1 b e)) k)
-    (λ a. ⊎_elim (λ v. absurd (apart.between v.0 j d c v.1 a (sym e))) (λ b. apart.crossed j l c d a b e) k) h
-
 -- there are none for what is no output
 none_past : (f : Fabric) → IsFabric f → (j : ℕ) (c : Queued) → length f.inputs ≤ j → HasFor f j c → ⊥
-none_past f fabric j c past h =
-    ⊎_elim (λ w. search (arith, rules, fabric.outputs)) (λ b. search (arith, rules, get_or_past)) h
-
-no_member : (xs : List Queued) → ((c : Queued) → IsAmong c xs → ⊥) → xs ≡ []
-no_member [] none = refl
-no_member (x ∷ xs) none = absurd (none x (inl refl))
+none_past f fabric j c past (inl w) = search (arith, rules, fabric.outputs)
+none_past f fabric j c past (inr b) = search (arith, rules, get_or_past)
 
 -- ## The ideal switch of these cells
 
@@ -92,33 +136,22 @@ ports_of : (f : Fabric) → length (ideal_of f).lists ≡ length f.inputs
 unfolding ideal_of
 ports_of f = length-map-range_with_len (λ j. in_order (cells_for j f)) 0 (length f.inputs)
 
-list_inside : (f : Fabric) (j : ℕ) → j < length f.inputs → list_of (ideal_of f).lists j ≡ in_order (cells_for j f)
-unfolding ideal_of
-list_inside f j inside = grind (arith, common_steps, get_or-map-range_with_len)
-
 list_is : (f : Fabric) → IsFabric f → (j : ℕ) → list_of (ideal_of f).lists j ≡ in_order (cells_for j f)
-list_is f fabric j = ⊎_elim (λ inside. list_inside f j inside) (λ past.
-    let ports = ports_of f in
-    let none : cells_for j f ≡ [] =
-    no_member (cells_for j f) (λ c h. none_past f fabric j c past (from_cells j f c h)) in
-    get_or_past (ideal_of f).lists j [] (omega arith) ∙ ap in_order (sym none)) (cases_lt j (length f.inputs))
-
-ranks_of : (f : Fabric) → f.ranks ≡ (ideal_of f).ranks
 unfolding ideal_of
-ranks_of f = refl
+list_is f fabric j = ⊎_elim (λ inside. grind (arith, common_steps, get_or-map-range_with_len)) (λ past.
+    let none = no_members (cells_for j f) (λ c h. none_past f fabric j c past (from_cells j f c h)) in
+    grind (arith, none, ports_of f, get_or_past (ideal_of f).lists j [])) (cases_lt j (length f.inputs))
 
 pub agrees_of : (slot : ℕ) (f : Fabric) → IsSoundFabric slot f → Agrees slot f (ideal_of f)
+unfolding ideal_of
 agrees_of slot f sound =
     let apart = apart_from f sound.differ in
     record {
       fabric = sound.fabric;
       ports = ports_of f;
-      ranks = ranks_of f;
-      rising = λ j.
-          let differ : KeysDiffer (cells_for j f) =
-          keys_differ (cells_for j f) (cells_once j f sound.fabric sound.order apart)
-          (λ c d a b e. same_cell f apart j j c d (from_cells j f c a) (from_cells j f d b) e) in
-          subst IsRising (sym (list_is f sound.fabric j)) (rising_in_order (cells_for j f) differ);
+      ranks = refl;
+      rising = λ j. rw (list_is f sound.fabric j)
+          (rising_in_order (cells_for j f) (cells_differ j f sound.fabric sound.order apart));
       same = λ j c. (
         λ h. from_cells j f c (among_in_order c (cells_for j f) (subst (IsAmong c) (list_is f sound.fabric j) h)),
         λ h. subst (IsAmong c) (sym (list_is f sound.fabric j)) (in_order_among c (cells_for j f) (to_cells j f c h)),
@@ -134,14 +167,11 @@ sound_from slot f ideal agrees = grind (arith, common_steps)
 
 -- ## There is no other
 
-same_ideal : (a b : IdealState) → a.lists ≡ b.lists → a.ranks ≡ b.ranks → a ≡ b
-same_ideal a b e g = λ k. record { lists = e k; ranks = g k }
-
-one_ideal : (slot : ℕ) (f : Fabric) (a b : IdealState) → Agrees slot f a → Agrees slot f b → a ≡ b
-one_ideal slot f a b x y = same_ideal a b (ext_get_or [] a.lists b.lists (x.ports ∙ sym y.ports)
-    (λ j _. same_rising (list_of a.lists j) (list_of b.lists j) (x.rising j) (y.rising j)
-    (λ c h. (y.same j c).1 ((x.same j c).0 h)) (λ c h. (x.same j c).1 ((y.same j c).0 h))))
-    (sym x.ranks ∙ y.ranks)
-
 pub only_ideal : (slot : ℕ) (f : Fabric) (ideal : IdealState) → Agrees slot f ideal → ideal ≡ ideal_of f
-only_ideal slot f ideal agrees = search (rules, one_ideal, agrees_of, sound_from)
+only_ideal slot f a x =
+    let b = ideal_of f in
+    let y = agrees_of slot f (sound_from slot f a x) in
+    let lists = ext_get_or [] a.lists b.lists (x.ports ∙ sym y.ports) (λ j _.
+    same_rising (list_of a.lists j) (list_of b.lists j) (x.rising j) (y.rising j)
+    (λ c h. (y.same j c).1 ((x.same j c).0 h)) (λ c h. (x.same j c).1 ((y.same j c).0 h))) in
+    let ranks = sym x.ranks ∙ y.ranks in λ k. record { lists = lists k; ranks = ranks k }

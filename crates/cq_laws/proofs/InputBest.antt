@@ -1,16 +1,21 @@
 -- A run with input-best matchings is a run with stable ones, for each input-best matching is stable.
-use Rattle.std.proofs.lemmas.Grind.{common_steps}
-use Rattle.std.proofs.Common.{arith, ℕ, List, Option}
-use Rattle.cq_base.specs.declared.cell.Cell.{Cell}
-use Rattle.cq_base.specs.declared.cell.TagFault.{TagFault}
-use Rattle.cq_rank.specs.Machine.{Machine}
-use Rattle.cq_ideal.specs.Admission.{Marked}
-use Rattle.cq_prefs.specs.Pairing.{IsStable, IsInputBest}
-use Rattle.cq_laws.specs.Fabric.{Fabric}
-use Rattle.cq_laws.specs.FabricSlot.{SlotRecord, FabricSlot}
-use Rattle.cq_laws.specs.FabricRun.{FabricRun, FabricStops, IsFault}
-use Rattle.cq_laws.specs.LimitedFabric.{LimitedRecord, LimitedFabricSlot, LimitedFabricRun, LimitedFabricStops, IsLimitedFault}
-use Rattle.cq_laws.proofs.Weaker.{each_run, each_stop}
+use Rattle.cq_laws.proofs.Terms.{common_steps, arith, ℕ, List, Option, rules, ◌+◌, ◌∷◌, Cell, TagFault, Machine, Marked, IsStable, IsInputBest, Fabric, SlotRecord, FabricSlot, FabricRun, FabricStops, IsFault, LimitedRecord, LimitedFabricSlot, LimitedFabricRun, LimitedFabricStops, IsLimitedFault, RunBy, StopBy}
+
+-- ## Where each slot of one kind is one of another, so are runs
+
+module _ {S R : Type 0} (Step Step' : ℕ → List (Option Cell) → S → R → S → Type 0)
+    (Fault : ℕ → List (Option Cell) → S → TagFault → Type 0) (each : (slot : ℕ) (cells : List (Option Cell)) (f g : S)
+    (r : R) → Step slot cells f r g → Step' slot cells f r g) where
+  pub each_run : (slot : ℕ) (traffic : List (List (Option Cell))) (f g : S) (rs : List R) →
+      RunBy Step slot traffic f rs g → RunBy Step' slot traffic f rs g
+  each_run slot (cells ∷ traffic) f g (r ∷ rs) run = search (rules, each_run (slot + 1) traffic run.0 g rs run.2)
+  each_run slot traffic f g rs run = run
+
+  pub each_stop : (slot : ℕ) (traffic : List (List (Option Cell))) (f : S) (rs : List R) (fault : TagFault) →
+      StopBy Step Fault slot traffic f rs fault → StopBy Step' Fault slot traffic f rs fault
+  each_stop slot (cells ∷ traffic) f (r ∷ rs) fault run =
+      search (rules, each_stop (slot + 1) traffic run.0 rs fault run.2)
+  each_stop slot traffic f rs fault run = run
 
 module _ (ms : List Machine) where
   pub stable_slot : (slot : ℕ) (cells : List (Option Cell)) (f g : Fabric) (r : SlotRecord) →

@@ -1,30 +1,10 @@
 -- The least slack of a whole run, slot by slot.
-use Rattle.std.proofs.Common.{◌≡◌, ℕ, zero, suc, ◌+◌, ◌<◌, List, [], ◌∷◌, length, Option, Some, None, refl, sym, arith, ap, ◌∙◌}
-use Rattle.std.proofs.lemmas.Grind.{common_steps}
-use Rattle.std.specs.Prelude.{min, fold, slice_get, option_and_then, filter_map, replicate}
-use Rattle.std.specs.List.{AllByRecursion, reduce, cons_option}
-use Rattle.std.proofs.lemmas.List.{length-replicate}
-use Rattle.cq_base.specs.declared.cell.Cell.{Cell}
-use Rattle.cq_base.specs.declared.figures.InputFigures.{InputFigures}
-use Rattle.cq_base.specs.declared.figures.Figures.{Figures}
-use Rattle.cq_rank.specs.Machine.{Machine}
-use Rattle.cq_ideal.specs.Ranking.{AreForPorts}
-use Rattle.cq_ideal.specs.IdealSlot.{IdealState}
-use Rattle.cq_ideal.specs.IdealRun.{empty_ideal}
-use Rattle.cq_prefs.specs.Pairing.{IsStable}
-use Rattle.cq_laws.specs.Fabric.{Fabric, empty_fabric}
-use Rattle.cq_laws.specs.FabricSlot.{SlotRecord}
-use Rattle.cq_laws.specs.FabricRun.{FabricRun}
-use Rattle.cq_laws.specs.Agreement.{Agrees}
-use Rattle.cq_laws.specs.Measures.{either_by, figures_of, figures_after, no_figures, slack_on_arrival, least_slack, HasMoreSlack}
+use Rattle.cq_laws.proofs.Terms.{rules, ◌≡◌, ℕ, zero, suc, ◌+◌, ◌<◌, List, [], ◌∷◌, length, Option, Some, None, refl, arith, ap, ◌∙◌, common_steps, min, fold, slice_get, option_and_then, filter_map, replicate, AllByRecursion, reduce, cons_option, length-replicate, Cell, Figures, Machine, AreForPorts, IdealState, IsStable, Fabric, empty_fabric, SlotRecord, FabricRun, Agrees, least_slack, HasMoreSlack, InputFigures}
+use Rattle.cq_laws.specs.Terms.{empty_ideal, either_by, figures_of, figures_after, no_figures, slack_on_arrival}
 use Rattle.cq_laws.proofs.AddingUp.{reduce-append, min_assoc, figures_fold}
 use Rattle.cq_laws.proofs.OneSlot.{same_slot}
 use Rattle.cq_laws.proofs.WholeRuns.{empty_agree, no_place, traffic_for_empty}
 use Rattle.cq_laws.proofs.LeastSlack.{least_after, by_arrivals, more_after}
-
-either-none : (o : Option ℕ) → either_by min o None ≡ o
-either-none None = refl
-either-none (Some n) = refl
 
 reduce-cons : (o : Option ℕ) (xs : List ℕ) → reduce min (cons_option o xs) ≡ either_by min o (reduce min xs)
 reduce-cons None xs = refl
@@ -37,18 +17,16 @@ module _ (ms : List Machine) (class_count : ℕ) where
       HasMoreSlack x f → i < length x.inputs →
       least_slack (fold figures_after x rs) i
       ≡ either_by min (least_slack x i) (reduce min (filter_map (slack_on_arrival i) rs))
-  least_run slot [] f g ideal [] x i agrees come run has inside = sym (either-none (least_slack x i))
-  least_run slot [] f g ideal (r ∷ rs) x i agrees come run has inside = absurd run
-  least_run slot (cells ∷ traffic) f g ideal [] x i agrees come run has inside = absurd run
+  least_run slot [] f g ideal [] x i agrees come run has inside = search (arith, rules)
   least_run slot (cells ∷ traffic) f g ideal (r ∷ rs) x i agrees come run has inside =
       let least_after-here = least_after x r i inside in
       let by_arrivals-here = by_arrivals ms slot class_count cells f run.0 ideal r agrees come.0 run.1 x has i in
       let more_after-here = more_after ms slot class_count cells f run.0 ideal r agrees come.0 run.1 x has.ports in
       let reduce-cons-here = reduce-cons (slack_on_arrival i r) (filter_map (slack_on_arrival i) rs) in
-      let least_run-here = least_run (slot + 1) traffic run.0 g
-      (same_slot ms slot class_count cells f run.0 ideal r agrees come.0 run.1).next rs (figures_after x r) i
-      (same_slot ms slot class_count cells f run.0 ideal r agrees come.0 run.1).agrees in
+      let one = same_slot ms slot class_count cells f run.0 ideal r agrees come.0 run.1 in
+      let least_run-here = least_run (slot + 1) traffic run.0 g one.next rs (figures_after x r) i one.agrees in
       grind (arith, common_steps)
+  least_run slot traffic f g ideal rs x i agrees come run has inside = absurd run
 
 -- before the first slot no input has a least slack, and no cell waits
 no_least : (n i : ℕ) →

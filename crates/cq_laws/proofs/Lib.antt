@@ -1,3 +1,4 @@
+mod Terms
 pub mod Members
 pub mod Cushions
 pub mod Falls
@@ -8,28 +9,21 @@ pub mod AfterTransfer
 pub mod AfterDepartures
 pub mod Came
 pub mod IdealLists
-pub mod Fronts
 pub mod OneSlot
-pub mod KeptWhole
 pub mod Held
 pub mod IdealOf
 pub mod LimitedSlots
 pub mod WholeRuns
 pub mod LimitedWhole
-pub mod Weaker
 pub mod NothingRefused
 pub mod InputBest
 pub mod ActingAlike
-pub mod NoChoice
 pub mod OneRun
 pub mod AddingUp
 pub mod LeastSlack
 pub mod LeastRun
-pub mod Worked
 pub mod QuietSlots
 pub mod Joined
-pub mod Idling
-pub mod OnePair
 pub mod WorkedRun
 pub mod Parted
 pub mod KeptParts

@@ -1,21 +1,8 @@
 -- One slot with limits, from states that agree. Each output holds equally many cells in both, so both judge the
 -- arrivals alike. What is admitted is for the ports, as the arrivals are, and goes through the slot without limits:
 -- there both send the same or have the same fault, and the states agree again.
-use Rattle.std.proofs.Common.{rules, arith, ◌≡◌, ℕ, ◌↔◌, Bool, List, length, Option, Err, ◌∙◌}
-use Rattle.std.proofs.lemmas.Grind.{common_steps}
-use Rattle.cq_base.specs.declared.cell.Cell.{Cell}
-use Rattle.cq_base.specs.declared.cell.TagFault.{TagFault}
-use Rattle.cq_rank.specs.Machine.{Machine}
-use Rattle.cq_ideal.specs.Admission.{Marked, admission}
-use Rattle.cq_ideal.specs.IdealSlot.{IdealState}
-use Rattle.cq_ideal.specs.LimitedIdeal.{ideal_admission, limited_slot}
-use Rattle.cq_ideal.specs.Ranking.{AreForPorts}
-use Rattle.cq_ideal.proofs.Admitted.{admitted_for_ports}
-use Rattle.cq_prefs.specs.Pairing.{IsStable}
-use Rattle.cq_laws.specs.Fabric.{Fabric}
-use Rattle.cq_laws.specs.LimitedAgreement.{LimitedAgrees, ActsAlike}
-use Rattle.cq_laws.specs.LimitedFabric.{LimitedRecord, LimitedFabricSlot, IsLimitedFault, fabric_admission}
-use Rattle.cq_laws.specs.Slack.{HasSlack}
+use Rattle.cq_laws.proofs.Terms.{rules, arith, ◌≡◌, ℕ, ◌↔◌, Bool, List, length, Option, Err, ◌∙◌, common_steps, Cell, TagFault, Machine, IdealState, AreForPorts, IsStable, Fabric, LimitedRecord, LimitedFabricSlot, IsLimitedFault, fabric_admission, HasSlack, admission, ideal_admission, limited_slot, admitted_for_ports, LimitedAgrees, ActsAlike}
+use Rattle.cq_ideal.specs.Admission.{Marked}
 use Rattle.cq_laws.proofs.Held.{hold_as_many}
 use Rattle.cq_laws.proofs.OneSlot.{same_fault, same_slot, slack_arrived, ports_kept}
 
@@ -35,9 +22,8 @@ pub same_limited_fault : (limits : List (Option ℕ)) (ms : List Machine) (slot 
     (limited_slot limits ms slot cells ideal ≡ Err fault) ↔ IsLimitedFault limits ms slot cells f fault
 unfolding limited_slot
 same_limited_fault limits ms slot cells f ideal fault agrees =
-    let same_fault-here =
-    same_fault ms slot (fabric_admission limits cells f).cells f.state ideal.state fault agrees.states in
-    let same_admission-here = same_admission limits slot cells f ideal agrees in grind (arith, common_steps)
+    let same = same_fault ms slot (fabric_admission limits cells f).cells f.state ideal.state fault agrees.states in
+    grind (arith, common_steps, same, same_admission limits slot cells f ideal agrees)
 
 module _ (limits : List (Option ℕ)) (ms : List Machine) (slot class_count : ℕ) (cells : List (Option Cell))
     (f g : Marked Fabric) (ideal : Marked IdealState) (r : LimitedRecord) (agrees : LimitedAgrees slot f ideal)
@@ -45,9 +31,6 @@ module _ (limits : List (Option ℕ)) (ms : List Machine) (slot class_count : �
     (step : LimitedFabricSlot IsStable limits ms slot cells f r g) where
   come_admitted : AreForPorts (length f.state.inputs) class_count r.admission.cells
   come_admitted = grind (arith, common_steps, admission_for_ports)
-
-  pub admits_alike : r.admission ≡ ideal_admission limits cells ideal
-  admits_alike = step.admits ∙ same_admission limits slot cells f ideal agrees
 
   pub limited_ports_kept : length g.state.inputs ≡ length f.state.inputs
   limited_ports_kept = grind (arith, common_steps, ports_kept, come_admitted)
@@ -62,6 +45,6 @@ module _ (limits : List (Option ℕ)) (ms : List Machine) (slot class_count : �
       come_admitted step.runs in
       record {
         next = record { state = one.next; marks = r.admission.marks };
-        sent = search (arith, rules, admits_alike);
+        sent = let admits = step.admits ∙ same_admission limits slot cells f ideal agrees in search (arith, rules);
         agrees = record { states = one.agrees; marks = step.marks };
       }

@@ -1,24 +1,9 @@
 -- Whole runs with limits, slot by slot from states that agree, and the runs without limits that they are: those of
 -- the arrivals that the ideal switch admits, which are those that the fabric admits.
-use Rattle.std.proofs.lemmas.Grind.{common_steps}
-use Rattle.std.proofs.Common.{rules, ◌≡◌, ℕ, ◌+◌, List, [], ◌∷◌, length, Option, Err, refl, ap, arith, sym, subst, ◌∙◌}
-use Rattle.std.specs.List.{AllByRecursion}
-use Rattle.cq_base.specs.declared.cell.Cell.{Cell}
-use Rattle.cq_base.specs.declared.cell.TagFault.{TagFault}
-use Rattle.cq_rank.specs.Machine.{Machine}
-use Rattle.cq_ideal.specs.Admission.{Marked, Admission}
-use Rattle.cq_ideal.specs.IdealSlot.{IdealState}
-use Rattle.cq_ideal.specs.LimitedIdeal.{limited_run, admitted_traffic, empty_limited, then_limited}
-use Rattle.cq_ideal.specs.Ranking.{AreForPorts}
+use Rattle.cq_laws.proofs.Recorded.{recorded}
+use Rattle.cq_laws.proofs.Terms.{common_steps, rules, ◌≡◌, ℕ, ◌+◌, List, [], ◌∷◌, length, Option, Err, refl, arith, sym, subst, AllByRecursion, Cell, TagFault, Machine, IdealState, AreForPorts, Partners, IsStable, FabricRun, FabricStops, Fabric, LimitedRecord, LimitedFabricSlot, LimitedFabricRun, LimitedFabricStops, admissions_in, slots_in, empty_limited_fabric, HasSlack, limited_run, admitted_traffic, empty_limited, run_step, run_fault, admitted_step, admitted_are, Orders, LimitedAgrees, ActsAlike, LimitedRunsAlike}
+use Rattle.cq_ideal.specs.Admission.{Marked}
 use Rattle.cq_ideal.specs.WholePackets.{AreJudged}
-use Rattle.cq_ideal.proofs.LimitedRuns.{run_step, run_fault, admitted_step}
-use Rattle.cq_prefs.specs.Orders.{Orders}
-use Rattle.cq_prefs.specs.Pairing.{Partners, IsStable}
-use Rattle.cq_laws.specs.FabricRun.{FabricRun, FabricStops, IsFault}
-use Rattle.cq_laws.specs.Fabric.{Fabric}
-use Rattle.cq_laws.specs.LimitedAgreement.{LimitedAgrees, ActsAlike, LimitedRunsAlike}
-use Rattle.cq_laws.specs.LimitedFabric.{LimitedRecord, LimitedFabricSlot, LimitedFabricRun, LimitedFabricStops, admissions_in, slots_in, empty_limited_fabric}
-use Rattle.cq_laws.specs.Slack.{HasSlack}
 use Rattle.cq_laws.proofs.LimitedSlots.{same_admission, same_limited_fault, same_limited_slot, limited_ports_kept, limited_slack_arrived}
 use Rattle.cq_laws.proofs.WholeRuns.{empty_agree, traffic_for_empty}
 
@@ -54,53 +39,34 @@ module _ (limits : List (Option ℕ)) (ms : List Machine) (class_count : ℕ) wh
       (ideal : Marked IdealState) (rs : List LimitedRecord) → Stands slot traffic f ideal →
       LimitedFabricRun IsStable limits ms slot traffic f rs g → LimitedRunsAlike limits ms slot traffic ideal rs g
   unfolding limited_run
-  same_limited_run slot [] f g ideal [] s run =
-      let here : slot ≡ slot + 0 = omega arith in
-      record {
-        after = ideal;
-        ran = refl;
-        agrees = subst (λ n. LimitedAgrees n g ideal) here
-            (subst (λ h. LimitedAgrees slot h ideal) (sym run) s.agrees);
-      }
-  same_limited_run slot [] f g ideal (r ∷ rs) s run = absurd run
-  same_limited_run slot (cells ∷ traffic) f g ideal [] s run = absurd run
+  same_limited_run slot [] f g ideal [] s run = search (arith, rules)
   same_limited_run slot (cells ∷ traffic) f g ideal (r ∷ rs) s run =
       let went = go slot cells traffic f run.0 ideal r s run.1 in
-      let one = went.alike in
-      let rest = same_limited_run (slot + 1) traffic run.0 g one.next rs went.stands run.2 in
-      let here : slot + 1 + length traffic ≡ slot + length (cells ∷ traffic) = omega arith in
-      record {
-        after = rest.after;
-        ran = run_step limits ms slot cells traffic ideal _ one.sent ∙ ap
-            (then_limited (record { admission = r.admission; gone = r.of_slot.gone; after = one.next })) rest.ran;
-        agrees = subst (λ n. LimitedAgrees n g rest.after) here rest.agrees;
-      }
+      let rest = same_limited_run (slot + 1) traffic run.0 g went.alike.next rs went.stands run.2 in
+      let step = run_step limits ms slot cells traffic ideal _ went.alike.sent in grind (arith, common_steps)
+  same_limited_run slot traffic f g ideal rs s run = absurd run
 
   pub same_limited_stop : (slot : ℕ) (traffic : List (List (Option Cell))) (f : Marked Fabric)
       (ideal : Marked IdealState) (rs : List LimitedRecord) (fault : TagFault) → Stands slot traffic f ideal →
       LimitedFabricStops IsStable limits ms slot traffic f rs fault →
       limited_run limits ms slot traffic ideal ≡ Err fault
   same_limited_stop slot [] f ideal rs fault s run = absurd run
-  same_limited_stop slot (cells ∷ traffic) f ideal [] fault s run =
-      run_fault limits ms slot cells traffic ideal fault
+  same_limited_stop slot (cells ∷ traffic) f ideal [] fault s run = run_fault limits ms slot cells traffic ideal fault
       ((same_limited_fault limits ms slot cells f ideal fault s.agrees).1 run)
   same_limited_stop slot (cells ∷ traffic) f ideal (r ∷ rs) fault s run =
       let went = go slot cells traffic f run.0 ideal r s run.1 in
-      let one = went.alike in
-      run_step limits ms slot cells traffic ideal _ one.sent
-      ∙ ap (then_limited (record { admission = r.admission; gone = r.of_slot.gone; after = one.next }))
-      (same_limited_stop (slot + 1) traffic run.0 one.next rs fault went.stands run.2)
+      let rest = same_limited_stop (slot + 1) traffic run.0 went.alike.next rs fault went.stands run.2 in
+      cc (run_step limits ms slot cells traffic ideal _ went.alike.sent)
 
   -- after the arrivals of each slot no input thread is greater than its cushion
   pub limited_run_slack : (slot : ℕ) (traffic : List (List (Option Cell))) (f g : Marked Fabric)
       (ideal : Marked IdealState) (rs : List LimitedRecord) → Stands slot traffic f ideal →
       LimitedFabricRun IsStable limits ms slot traffic f rs g → AllByRecursion (λ r. HasSlack 0 r.of_slot.arrived) rs
   limited_run_slack slot [] f g ideal [] s run = tt
-  limited_run_slack slot [] f g ideal (r ∷ rs) s run = absurd run
-  limited_run_slack slot (cells ∷ traffic) f g ideal [] s run = absurd run
   limited_run_slack slot (cells ∷ traffic) f g ideal (r ∷ rs) s run =
       let went = go slot cells traffic f run.0 ideal r s run.1 in
       (went.slack, limited_run_slack (slot + 1) traffic run.0 g went.alike.next rs went.stands run.2)
+  limited_run_slack slot traffic f g ideal rs s run = absurd run
 
   -- ## They are runs of what is admitted
 
@@ -108,15 +74,9 @@ module _ (limits : List (Option ℕ)) (ms : List Machine) (class_count : ℕ) wh
       (rs : List LimitedRecord) → Stands slot traffic f ideal →
       LimitedFabricRun IsStable limits ms slot traffic f rs g →
       FabricRun IsStable ms slot (admitted_traffic limits ms slot traffic ideal) f.state (slots_in rs) g.state
-  unfolding admitted_traffic
-  run_through slot [] f g ideal [] s run = ap (λ (h : Marked Fabric). h.state) run
-  run_through slot [] f g ideal (r ∷ rs) s run = absurd run
-  run_through slot (cells ∷ traffic) f g ideal [] s run = absurd run
-  run_through slot (cells ∷ traffic) f g ideal (r ∷ rs) s run =
-      let went = go slot cells traffic f run.0 ideal r s run.1 in
-      subst (λ came. FabricRun IsStable ms slot came f.state (slots_in (r ∷ rs)) g.state)
-      (sym (admitted_step limits ms slot cells traffic ideal _ went.alike.sent))
-      (run.0.state, run.1.runs, run_through (slot + 1) traffic run.0 g went.alike.next rs went.stands run.2)
+  run_through slot traffic f g ideal rs s run =
+      let alike = same_limited_run slot traffic f g ideal rs s run in
+      rw (admitted_are limits ms slot traffic ideal _ alike.ran) (recorded IsStable limits ms slot traffic f g rs run)
 
   pub stop_through : (slot : ℕ) (traffic : List (List (Option Cell))) (f : Marked Fabric) (ideal : Marked IdealState)
       (rs : List LimitedRecord) (fault : TagFault) → Stands slot traffic f ideal →
@@ -125,8 +85,7 @@ module _ (limits : List (Option ℕ)) (ms : List Machine) (class_count : ℕ) wh
   unfolding admitted_traffic
   stop_through slot [] f ideal rs fault s run = absurd run
   stop_through slot (cells ∷ traffic) f ideal [] fault s run =
-      subst (λ (a : Admission). IsFault ms slot a.cells f.state fault)
-      (same_admission limits slot cells f ideal s.agrees) run
+      rw (same_admission limits slot cells f ideal s.agrees) at run
   stop_through slot (cells ∷ traffic) f ideal (r ∷ rs) fault s run =
       let went = go slot cells traffic f run.0 ideal r s run.1 in
       subst (λ came. FabricStops IsStable ms slot came f.state (slots_in (r ∷ rs)) fault)
@@ -139,10 +98,9 @@ pub fabric_judged : (MayChoose : Orders → Partners → Type 0) (limits : List 
     (traffic : List (List (Option Cell))) (f g : Marked Fabric) (rs : List LimitedRecord) →
     LimitedFabricRun MayChoose limits ms slot traffic f rs g → AreJudged limits f.marks traffic (admissions_in rs)
 fabric_judged MayChoose limits ms slot [] f g [] run = tt
-fabric_judged MayChoose limits ms slot [] f g (r ∷ rs) run = absurd run
-fabric_judged MayChoose limits ms slot (cells ∷ traffic) f g [] run = absurd run
 fabric_judged MayChoose limits ms slot (cells ∷ traffic) f g (r ∷ rs) run =
     grind (arith, common_steps, fabric_judged MayChoose limits ms (slot + 1) traffic run.0 g rs run.2)
+fabric_judged MayChoose limits ms slot traffic f g rs run = absurd run
 
 pub limited_empty_agree : (ports : ℕ) (ranks : List (List ℕ)) →
     LimitedAgrees 0 (empty_limited_fabric ports ranks) (empty_limited ports ranks)

@@ -1,18 +1,7 @@
 -- The cells of a list, as members and by their places. First what a place shows of a member, then where the first
 -- cell for an output stands, then what becomes of the members where that cell is taken out, where a cell is put in
 -- the order of keys, and where one is inserted at a place.
-use Rattle.std.proofs.Common.{◌≡◌, ◌≢◌, ℕ, zero, suc, ◌<◌, ◌≤◌, ◌⊎◌, Bool, true, false, cond, List, [], ◌∷◌, Some, refl, ap, subst, inl, inr, ⊎_elim, arith}
-use Rattle.std.proofs.lemmas.Grind.{common_steps}
-use Rattle.std.specs.Prelude.{slice_get, find, insert}
-use Rattle.std.specs.List.{AllByRecursion, position_or_len}
-use Rattle.std.proofs.lemmas.Bool.{cond_both, cases_Bool}
-use Rattle.cq_base.specs.declared.key.Key.{Key}
-use Rattle.cq_base.specs.declared.cell.Queued.{Queued}
-use Rattle.cq_base.specs.Key.{is_before}
-use Rattle.cq_base.specs.Cells.{IsBefore, IsRising, put, is_for, first_for, place_for, without_first}
-use Rattle.cq_base.proofs.Keys.{key_laws}
-use Rattle.cq_base.proofs.Lists.{first_here, first_later}
-use Rattle.cq_laws.specs.Fabric.{IsAmong}
+use Rattle.cq_laws.proofs.Terms.{rules, ◌≡◌, ◌≢◌, ℕ, zero, suc, ◌+◌, ◌<◌, ◌≤◌, ◌⊎◌, Bool, true, false, List, [], ◌∷◌, Some, refl, ap, subst, inl, inr, ⊎_elim, arith, common_steps, slice_get, find, insert, AllByRecursion, position_or_len, eqb-true, cond_both, cases_Bool, Key, Queued, IsAmong, is_before, IsBefore, IsRising, put, is_for, first_for, place_for, without_first, key_laws, first_here, first_later, all_put}
 
 -- ## Places and members
 
@@ -33,6 +22,10 @@ pub all_from : (P : Queued → Type 0) (xs : List Queued) → ((c : Queued) → 
 all_from P [] f = tt
 all_from P (x ∷ xs) f = (f x (inl refl), all_from P xs (λ c k. f c (inr k)))
 
+pub no_members : (xs : List Queued) → ((c : Queued) → IsAmong c xs → ⊥) → xs ≡ []
+no_members [] h = refl
+no_members (x ∷ xs) h = absurd (h x (inl refl))
+
 -- ## The first cell for an output
 
 -- where the first stands, and that it passes
@@ -42,14 +35,15 @@ pub record IsFirst (p : Queued → Bool) (xs : List Queued) (c : Queued) : Type 
   pub at : slice_get xs place ≡ Some c
   pub passes : p c ≡ true
 
-first_in : (p : Queued → Bool) (x : Queued) (xs : List Queued) (c : Queued) (b : Bool) → p x ≡ b →
-    cond b (Some x) (find p xs) ≡ Some c → (find p xs ≡ Some c → IsFirst p xs c) → IsFirst p (x ∷ xs) c
-first_in p x xs c true e h rest = grind (arith, common_steps, first_here)
-first_in p x xs c false e h rest = grind (arith, common_steps, first_later)
-
 pub first_at : (p : Queued → Bool) (xs : List Queued) (c : Queued) → find p xs ≡ Some c → IsFirst p xs c
 first_at p [] c h = cc
-first_at p (x ∷ xs) c h = first_in p x xs c (p x) refl h (λ k. first_at p xs c k)
+first_at p (x ∷ xs) c h = search (arith, rules, first_here, first_later, first_at p xs c)
+
+pub from_first : (j : ℕ) (xs : List Queued) (f : Queued) → first_for j xs ≡ Some f →
+    IsAmong f xs × (f.cell.output ≡ j)
+from_first j xs f is =
+    let first = first_at (is_for j) xs f is in
+    (among_at xs first.place f first.at, eqb-true f.cell.output j first.passes)
 
 -- where one passes, there is a first
 pub first_of : (p : Queued → Bool) (xs : List Queued) (c : Queued) → IsAmong c xs → p c ≡ true →
@@ -60,47 +54,32 @@ first_of p (x ∷ xs) c h e = cond_both (p x) (Some x) (find p xs) (λ o. (f : Q
 
 -- ## A list without its first cell for an output
 
--- where a cell that is left stood before
+-- where a cell that is left stood before: at this place, or at the next if that is behind the one that was taken
 pub record StoodAt (j : ℕ) (xs : List Queued) (t : ℕ) (c : Queued) : Type 0 where
   pub place : ℕ
   pub at : slice_get xs place ≡ Some c
-  pub moved : place_for j xs ≤ t → place ≡ suc t
-  pub stayed : t < place_for j xs → place ≡ t
-
-left_in : (j : ℕ) (x : Queued) (xs : List Queued) (t : ℕ) (c : Queued) (b : Bool) → is_for j x ≡ b →
-    slice_get (cond b xs (x ∷ without_first j xs)) t ≡ Some c →
-    ((s : ℕ) → slice_get (without_first j xs) s ≡ Some c → StoodAt j xs s c) → StoodAt j (x ∷ xs) t c
-left_in j x xs t c true e h rest =
-    let here = first_here (is_for j) x xs e in
-    record { place = suc t; at = h; moved = λ _. refl; stayed = λ l. absurd (omega arith) }
-left_in j x xs zero c false e h rest = grind (arith, common_steps, first_later)
-left_in j x xs (suc t) c false e h rest =
-    let later = first_later (is_for j) x xs e in
-    let r = rest t h in
-    let moved = r.moved in
-    let stayed = r.stayed in
-    record {
-      place = suc r.place;
-      at = r.at;
-      moved = λ l. ap suc (moved (omega arith));
-      stayed = λ l. ap suc (stayed (omega arith));
-    }
+  pub side : ((place ≡ t) × (t < place_for j xs)) ⊎ ((place ≡ suc t) × (place_for j xs ≤ t))
 
 pub left_at : (j : ℕ) (xs : List Queued) (t : ℕ) (c : Queued) → slice_get (without_first j xs) t ≡ Some c →
     StoodAt j xs t c
 left_at j [] t c h = cc
-left_at j (x ∷ xs) t c h = left_in j x xs t c (is_for j x) refl h (λ s k. left_at j xs s c k)
+left_at j (x ∷ xs) t c h =
+    cond_both (is_for j x) xs (x ∷ without_first j xs) (λ l. slice_get l t ≡ Some c → StoodAt j (x ∷ xs) t c) (λ e at.
+    let here = first_here (is_for j) x xs e in record { place = suc t; at = at; side = inr (refl, omega arith) })
+    (λ e. later t c (first_later (is_for j) x xs e) (left_at j xs)) h
+  where
+    later : (t : ℕ) (c : Queued) → place_for j (x ∷ xs) ≡ 1 + place_for j xs → ((s : ℕ) (c : Queued) →
+        slice_get (without_first j xs) s ≡ Some c → StoodAt j xs s c) → slice_get (x ∷ without_first j xs) t ≡ Some c →
+        StoodAt j (x ∷ xs) t c
+    later zero c e rest h = record { place = zero; at = h; side = inl (refl, omega arith) }
+    later (suc t) c e rest h =
+        let r = rest t c h in record { place = suc r.place; at = r.at; side = grind (arith, r.side) }
 
 -- a cell of the list is left, or it is the first
 pub left_or_first : (j : ℕ) (xs : List Queued) (c : Queued) → IsAmong c xs →
     IsAmong c (without_first j xs) ⊎ (first_for j xs ≡ Some c)
 left_or_first j [] c h = absurd h
-left_or_first j (x ∷ xs) c h = go (is_for j x) (left_or_first j xs c)
-  where
-    go : (b : Bool) → (IsAmong c xs → IsAmong c (without_first j xs) ⊎ (first_for j xs ≡ Some c)) →
-        IsAmong c (cond b xs (x ∷ without_first j xs)) ⊎ (cond b (Some x) (first_for j xs) ≡ Some c)
-    go true rest = ⊎_elim (λ e. inr (ap Some e)) (λ k. inl k) h
-    go false rest = ⊎_elim (λ e. inl (inl e)) (λ k. ⊎_elim (λ l. inl (inr l)) (λ f. inr f) (rest k)) h
+left_or_first j (x ∷ xs) c h = grind (arith, common_steps, cond_both, left_or_first j xs c)
 
 -- what is left was there
 pub left_among : (j : ℕ) (xs : List Queued) (c : Queued) → IsAmong c (without_first j xs) → IsAmong c xs
@@ -121,10 +100,6 @@ pub put_old : (d c : Queued) (xs : List Queued) → IsAmong d xs → IsAmong d (
 put_old d c [] h = absurd h
 put_old d c (x ∷ xs) h = grind (arith, common_steps, cond_both, put_old d c xs)
 
-pub all_put : (P : Queued → Type 0) (c : Queued) (xs : List Queued) → P c → AllByRecursion P xs →
-    AllByRecursion P (put c xs)
-all_put P c xs p a = grind (arith, common_steps, all_from, all_among, among_put)
-
 -- a key that differs and is not before the other is after it
 pub after_other : (a b : Key) → is_before a b ≡ false → a ≢ b → is_before b a ≡ true
 after_other a b h ne = ⊎_elim (λ e. e) (λ e. absurd (ne (key_laws.alike a b h e))) (cases_Bool (is_before b a))
@@ -133,16 +108,10 @@ pub rising_put : (c : Queued) (xs : List Queued) → IsRising xs → ((d : Queue
     IsRising (put c xs)
 rising_put c [] r ne = (tt, tt)
 rising_put c (x ∷ xs) r ne =
-    cond_both (is_before c.key x.key) (c ∷ x ∷ xs) (x ∷ put c xs) IsRising
-    (λ e. (
-      all_from (IsBefore c) (x ∷ xs) (λ d k. ⊎_elim (λ s. subst (IsBefore c) s e)
-          (λ m. key_laws.on c.key x.key d.key e (all_among (IsBefore x) xs d r.0 m)) k),
-      r,
-    ))
-    (λ e. (
-      all_put (IsBefore x) c xs (after_other c.key x.key e (ne x (inl refl))) r.0,
-      rising_put c xs r.1 (λ d k. ne d (inr k)),
-    ))
+    let rest = rising_put c xs r.1 (λ d k. ne d (inr k)) in
+    let later = λ (e : IsBefore c x). all_from (IsBefore c) xs (λ d m.
+    key_laws.on c.key x.key d.key e (all_among (IsBefore x) xs d r.0 m)) in
+    grind (arith, common_steps, cond_both, all_put (IsBefore x) c xs, after_other, later, ne x)
 
 -- ## A cell inserted at a place
 

@@ -2,56 +2,83 @@
 -- after the arrivals, 1 after the first transfer, 0 after the departures, and 1 again after the second transfer.
 -- After the first transfer each cell that still waits at an input has slack 1, so it comes after a cell that its
 -- output has: the ideal list covers the buffer, both send the same cell, and the states agree again.
-use Rattle.std.proofs.lemmas.Grind.{common_steps}
-use Rattle.std.proofs.Common.{◌≡◌, ℕ, ◌+◌, ◌<◌, ◌↔◌, List, length, Option, Some, Result, Ok, Err, sym, ap, ◌∙◌, subst, inl, inr, ⊎_elim, arith, drop}
-use Rattle.cq_base.specs.declared.cell.Cell.{Cell}
-use Rattle.cq_base.specs.declared.key.Key.{Key}
-use Rattle.cq_base.specs.declared.cell.Queued.{Queued}
-use Rattle.cq_base.specs.declared.cell.TagFault.{TagFault}
-use Rattle.cq_base.specs.Cells.{IsBefore, IsRising}
-use Rattle.cq_rank.specs.Machine.{Machine}
-use Rattle.cq_ideal.specs.Ranking.{Ranking, ranking, AreForPorts}
-use Rattle.cq_ideal.specs.IdealSlot.{IdealState, put_all, filled, fronts, rests, all_told, ideal_sends, ideal_slot}
-use Rattle.cq_prefs.specs.FirstCells.{list_of}
-use Rattle.cq_prefs.specs.Pairing.{IsStable}
-use Rattle.cq_laws.specs.Fabric.{Fabric, input, buffer, IsAmong}
-use Rattle.cq_laws.specs.Phases.{came_to}
-use Rattle.cq_laws.specs.Places.{HasFor}
-use Rattle.cq_laws.specs.Slack.{HasSlack}
-use Rattle.cq_laws.specs.FabricSlot.{SlotRecord, FabricSlot}
-use Rattle.cq_laws.specs.Agreement.{Agrees, SendsAlike}
-use Rattle.cq_laws.proofs.Members.{at_among}
+use Rattle.cq_laws.proofs.Terms.{rules, ◌≡◌, ℕ, ◌+◌, ◌↔◌, List, length, Option, Some, Err, sym, ap, ◌∙◌, inl, inr, ⊎_elim, arith, drop, zero, suc, ◌⊎◌, [], ◌∷◌, refl, common_steps, Cell, Queued, TagFault, Machine, AreForPorts, IsStable, Fabric, input, buffer, IsAmong, HasSlack, SlotRecord, FabricSlot, Partners, Agrees, IsWholeFabric, ListsKeepOrder, EachIsWhole, Arrives, Transfers, Departs, Key, IsBefore, IsRising, put_all, filled, fronts, rests, all_told, ideal_slot, list_of, HasFor, SendsAlike, slice_get, length-map-range_with_len, length-filled}
+use Rattle.cq_laws.specs.Terms.{ranking, orders_of}
+use Rattle.cq_ideal.specs.IdealSlot.{IdealState}
+use Rattle.cq_laws.proofs.Members.{at_among, all_among}
 use Rattle.cq_laws.proofs.Cushions.{cushion_has}
 use Rattle.cq_laws.proofs.Falls.{rest_of}
-use Rattle.cq_laws.proofs.Sound.{Sound, apart_from, early_from, differ_from, all_before}
-use Rattle.cq_laws.proofs.AfterArrivals.{Keyed, arrived_sound, arrived_slack, arrived_has, has_arrived}
-use Rattle.cq_laws.proofs.AfterTransfer.{moved_sound, moved_slack, has_moved, moved_has}
-use Rattle.cq_laws.proofs.AfterDepartures.{sent_sound, sent_slack, sent_buffer, length_rests, rising_rest}
+use Rattle.cq_laws.proofs.Sound.{Sound, apart_from, early_from, differ_from, all_before, Apart, never_both, not_before_itself, same_first}
+use Rattle.cq_laws.proofs.AfterArrivals.{Keyed, arrived_sound, arrived_slack, arrived_has, has_arrived, arrived_fabric}
+use Rattle.cq_laws.proofs.AfterTransfer.{Moved, moved, moved_fabric}
+use Rattle.cq_laws.proofs.AfterDepartures.{sent_sound, sent_slack, sent_buffer, length_rests, rising_rest, sent_fabric}
 use Rattle.cq_laws.proofs.Came.{keyed_from}
-use Rattle.cq_laws.proofs.IdealLists.{among_put_all, put_all_keeps, put_all_new, rising_put_all, length_after, list_after}
-use Rattle.cq_laws.proofs.Fronts.{same_fronts, Covers, fronts_agree, rest_to, rest_back}
+use Rattle.cq_laws.proofs.IdealLists.{among_put_all, put_all_keeps, put_all_new, rising_put_all, list_after}
+use Rattle.cq_ideal.proofs.Came.{ranks_kept}
+
+-- ## Why the outputs send the same cells
+
+-- The ideal list of an output covers the fabric's buffer: it has the cells of the buffer and others that still wait
+-- at the inputs, and each of those comes after a cell of the buffer. So the first cells of both are the same, and
+-- when they have left, what is left is covered again.
+
+pub same_fronts : (more bs : List (List Queued)) → length more ≡ length bs →
+    ((j : ℕ) → slice_get (list_of more j) 0 ≡ slice_get (list_of bs j) 0) → fronts more ≡ fronts bs
+same_fronts [] [] n h = refl
+same_fronts (a ∷ more) (b ∷ bs) n h =
+    let front = h zero in let rest = same_fronts more bs (omega arith) (λ j. h (suc j)) in cc
+same_fronts more bs n h = absurd (omega arith)
+
+-- Two rising lists, where the first has the cells of the second and others that wait, each behind a more urgent one
+-- of the second.
+module _ (Waits : Queued → Type 0) where
+  pub record Covers (full buf : List Queued) : Type 0 where
+    pub up : IsRising full
+    pub up' : IsRising buf
+    pub to : (c : Queued) → IsAmong c full → Waits c ⊎ IsAmong c buf
+    pub back : (c : Queued) → Waits c ⊎ IsAmong c buf → IsAmong c full
+    pub behind : (c : Queued) → Waits c → (d : Queued) × IsAmong d buf × IsBefore d c
+
+  -- their fronts are one, and the others of the first are those that wait and the others of the second
+  pub record Follows (full buf : List Queued) : Type 0 where
+    pub front : slice_get full 0 ≡ slice_get buf 0
+    pub to : (c : Queued) → IsAmong c (drop 1 full) → Waits c ⊎ IsAmong c (drop 1 buf)
+    pub back : (c : Queued) → Waits c ⊎ IsAmong c (drop 1 buf) → IsAmong c (drop 1 full)
+
+  -- the front does not wait
+  front_there : (a : Queued) (more buf : List Queued) → Covers (a ∷ more) buf → IsAmong a buf
+  front_there a more buf h =
+      grind (arith, common_steps, never_both, not_before_itself, all_among, h.back, h.to a (inl refl), h.behind a)
+
+  pub follows : (full buf : List Queued) → Covers full buf → Follows full buf
+  follows [] [] h = record { front = refl; to = h.to; back = h.back }
+  follows [] (b ∷ bs) h = absurd (h.back b (inr (inl refl)))
+  follows (a ∷ more) [] h = absurd (front_there a more [] h)
+  follows (a ∷ more) (b ∷ bs) h =
+      let there = front_there a more (b ∷ bs) h in
+      let same = same_first a b more bs h.up h.up' there (h.back b (inr (inl refl))) in
+      record {
+        front = ap Some same;
+        to = λ c k. grind (arith, common_steps, all_among, not_before_itself, h.to c (inr k));
+        back = λ c k. grind (arith, common_steps, all_among, never_both, not_before_itself, h.back c, h.behind c);
+      }
 
 -- ## The same tag fault
-
-sends_fault : (ms : List Machine) (ideal : IdealState) (x : Result Ranking TagFault) (fault : TagFault) →
-    (ideal_sends ms ideal x ≡ Err fault) ↔ (x ≡ Err fault)
-sends_fault ms ideal (Ok r) fault = (λ h. cc, λ h. cc)
-sends_fault ms ideal (Err e) fault = (λ h. cc, λ h. cc)
 
 pub same_fault : (ms : List Machine) (slot : ℕ) (cells : List (Option Cell)) (f : Fabric) (ideal : IdealState)
     (fault : TagFault) → Agrees slot f ideal →
     (ideal_slot ms slot cells ideal ≡ Err fault) ↔ (ranking ms slot 0 cells f.ranks ≡ Err fault)
 unfolding ideal_slot
-same_fault ms slot cells f ideal fault agrees = grind (arith, common_steps, sends_fault)
+same_fault ms slot cells f ideal fault agrees = search (arith, rules)
 
 -- ## The same departures
 
 -- a cell for output j that waits at an input
-abbrev WaitsFor : Fabric → ℕ → Queued → Type 0
-WaitsFor f j c = (i : ℕ) × IsAmong c (input f i) × (c.cell.output ≡ j)
+abbrev WaitsFor : List (List Queued) → ℕ → Queued → Type 0
+WaitsFor inputs j c = (i : ℕ) × IsAmong c (list_of inputs i) × (c.cell.output ≡ j)
 
 -- with slack 1 each such cell comes after one in the buffer
-behind_one : (f : Fabric) → HasSlack 1 f → (j : ℕ) (c : Queued) → WaitsFor f j c →
+behind_one : (f : Fabric) → HasSlack 1 f → (j : ℕ) (c : Queued) → WaitsFor f.inputs j c →
     (d : Queued) × IsAmong d (buffer f j) × IsBefore d c
 behind_one f slack j c w =
     grind (arith, common_steps, at_among (input f w.0) c w.1, cushion_has c.key (buffer f c.cell.output))
@@ -75,76 +102,50 @@ module _ (ms : List Machine) (slot class_count : ℕ) (cells : List (Option Cell
   pub slack_arrived : HasSlack 0 r.arrived
   slack_arrived = arrived_slack ms slot cells r.came f r.arrived step.arrive keyed old_sound agrees.slack
 
-  filled_sound : Sound (slot + 1) r.filled
-  filled_sound = moved_sound (slot + 1) r.arrived r.filled r.first arrived step.first_chosen step.fill
-
-  filled_slack : HasSlack 1 r.filled
-  filled_slack = moved_slack (slot + 1) r.arrived r.filled r.first arrived step.first_chosen step.fill 0 slack_arrived
+  pub first : Moved (slot + 1) r.arrived r.filled
+  first = moved (slot + 1) r.arrived r.filled r.first arrived step.first_chosen step.fill
 
   pub after_sent : Sound (slot + 1) r.sent
-  after_sent = sent_sound ms r.gone (slot + 1) r.filled r.sent step.depart filled_sound
+  after_sent = sent_sound ms r.gone (slot + 1) r.filled r.sent step.depart first.sound
 
-  slack_sent : HasSlack 0 r.sent
-  slack_sent = sent_slack ms r.gone (slot + 1) r.filled r.sent step.depart 0 filled_slack
-
-  new_sound : Sound (slot + 1) f'
-  new_sound = moved_sound (slot + 1) r.sent f' r.second after_sent step.second_chosen step.finish
-
-  new_slack : HasSlack 1 f'
-  new_slack = moved_slack (slot + 1) r.sent f' r.second after_sent step.second_chosen step.finish 0 slack_sent
+  pub second : Moved (slot + 1) r.sent f'
+  second = moved (slot + 1) r.sent f' r.second after_sent step.second_chosen step.finish
 
   -- the ideal lists with the arrivals
-  lists : List (List Queued)
+  abbrev lists : List (List Queued)
   lists = filled r.came ideal.lists
 
-  full : ℕ → List Queued
+  abbrev full : ℕ → List Queued
   full j = list_of lists j
 
-  inside : (k : ℕ) (q : Queued) → came_to r.came k ≡ Some q → q.cell.output < length ideal.lists
-  inside k q e = subst (λ n. q.cell.output < n) (sym agrees.ports) (keyed.outputs k q e)
-
   full_is : (j : ℕ) → full j ≡ put_all j r.came (list_of ideal.lists j)
-  unfolding full lists
-  full_is j = list_after r.came ideal.lists inside j
-
-  full_to : (j : ℕ) (c : Queued) → IsAmong c (full j) → HasFor r.filled j c
-  full_to j c h =
-      let here = among_put_all j r.came (list_of ideal.lists j) c (subst (IsAmong c) (full_is j) h) in
-      has_moved (slot + 1) r.arrived r.filled r.first arrived step.first_chosen step.fill j c
-      (has_arrived ms slot cells r.came f r.arrived step.arrive keyed old_sound agrees.slack j c
-      (⊎_elim (λ was. inl ((agrees.same j c).0 was)) (λ new. inr new) here))
-
-  full_back : (j : ℕ) (c : Queued) → HasFor r.filled j c → IsAmong c (full j)
-  full_back j c h =
-      let before = moved_has (slot + 1) r.arrived r.filled r.first arrived step.first_chosen step.fill j c h in
-      subst (IsAmong c) (sym (full_is j)) (⊎_elim
-      (λ was. put_all_keeps j r.came (list_of ideal.lists j) c ((agrees.same j c).1 was))
-      (λ new. put_all_new j r.came (list_of ideal.lists j) c new.0 new.1 new.2)
-      (arrived_has ms slot cells r.came f r.arrived step.arrive keyed old_sound agrees.slack j c before))
-
-  has_early : (j : ℕ) (c : Queued) → HasFor f j c → c.key.slot < slot
-  has_early j c h = ⊎_elim (λ w. old_sound.early.waiting w.0 c w.1) (λ b. old_sound.early.crossed j c b) h
+  full_is j = list_after r.came ideal.lists (λ k q e. rw agrees.ports (keyed.outputs k q e)) j
 
   full_rises : (j : ℕ) → IsRising (full j)
-  full_rises j = subst IsRising (sym (full_is j)) (rising_put_all j r.came (list_of ideal.lists j) (agrees.rising j)
-      (λ k q d e h same.
-      let lt = has_early j d ((agrees.same j d).0 h) in
-      let now = keyed.slot_is k q e in
-      let slots = ap (λ (x : Key). x.slot) same in omega arith)
-      (λ k l q s e e' same. sym (keyed.input_is k q e) ∙ ap (λ (x : Key). x.input) same ∙ keyed.input_is l s e'))
+  full_rises j = rw (full_is j) (rising_put_all j r.came (list_of ideal.lists j) (agrees.rising j) (λ k q d e h same.
+      let lt = ⊎_elim (λ w. old_sound.early.waiting w.0 d w.1) (λ b. old_sound.early.crossed j d b)
+      ((agrees.same j d).0 h) in
+      let slots = ap (λ (x : Key). x.slot) same in omega (arith, keyed.slot_is k q e))
+      (λ k l q s e e' same. cc (keyed.input_is k q e, keyed.input_is l s e')))
 
-  covers : (j : ℕ) → Covers (WaitsFor r.filled j) (full j) (buffer r.filled j)
-  covers j = record {
-    up = full_rises j;
-    up' = filled_sound.fabric.rising j;
-    to = full_to j;
-    back = full_back j;
-    behind = behind_one r.filled filled_slack j;
-  }
+  follow : (j : ℕ) → Follows (WaitsFor r.filled.inputs j) (full j) (buffer r.filled j)
+  follow j =
+      let came = list_of ideal.lists j in
+      follows (WaitsFor r.filled.inputs j) (full j) (buffer r.filled j)
+      (record {
+        up = full_rises j;
+        up' = first.sound.fabric.rising j;
+        to = λ c h. (first.has j c).1 (has_arrived ms slot cells r.came f r.arrived step.arrive keyed old_sound
+            agrees.slack j c (⊎_elim (λ was. inl ((agrees.same j c).0 was)) (λ new. inr new)
+            (among_put_all j r.came came c (rw (full_is j) at h))));
+        back = λ c h. rw (full_is j) (⊎_elim (λ was. put_all_keeps j r.came came c ((agrees.same j c).1 was))
+            (λ new. put_all_new j r.came came c new.0 new.1 new.2) (arrived_has ms slot cells r.came f r.arrived
+            step.arrive keyed old_sound agrees.slack j c ((first.has j c).0 h)));
+        behind = behind_one r.filled (first.slack 0 slack_arrived) j;
+      })
 
   as_many : length lists ≡ length f.inputs
-  unfolding lists
-  as_many = length_after r.came ideal.lists ∙ agrees.ports
+  as_many = length-filled r.came ideal.lists ∙ agrees.ports
 
   still_as_many : length r.filled.inputs ≡ length f.inputs
   still_as_many = step.fill.moves.ports.0 ∙ step.arrive.ports
@@ -153,60 +154,70 @@ module _ (ms : List Machine) (slot class_count : ℕ) (cells : List (Option Cell
   ports_kept = step.finish.moves.ports.0 ∙ ap length step.depart.inputs ∙ still_as_many
 
   same_gone : fronts lists ≡ r.gone
-  unfolding full
   same_gone =
-      let lengths : length lists ≡ length r.filled.buffers =
-      as_many ∙ sym still_as_many ∙ sym filled_sound.fabric.square in
-      same_fronts lists r.filled.buffers lengths (λ j. fronts_agree (WaitsFor r.filled j) (full j) (buffer r.filled j)
-      (covers j)) ∙ sym step.depart.sent
+      let lengths = as_many ∙ sym still_as_many ∙ sym first.sound.fabric.square in
+      same_fronts lists r.filled.buffers lengths (λ j. (follow j).front) ∙ sym step.depart.sent
 
-  after : IdealState
+  abbrev after : IdealState
   after = record { lists = rests lists; ranks = all_told ms (fronts lists) r.arrived.ranks }
-
-  ideal_sends_same : ideal_slot ms slot cells ideal ≡ Ok (record { gone = r.gone; after = after })
-  unfolding after lists ideal_slot
-  ideal_sends_same = grind (arith, common_steps, after, same_gone)
-
-  rest_is : (j : ℕ) → list_of after.lists j ≡ drop 1 (full j)
-  unfolding after full
-  rest_is j = rest_of lists j
-
-  waits_sent : (j : ℕ) (c : Queued) → WaitsFor r.sent j c → WaitsFor r.filled j c
-  waits_sent j c w = (w.0, subst (λ l. IsAmong c (list_of l w.0)) step.depart.inputs w.1, w.2)
-
-  sent_waits : (j : ℕ) (c : Queued) → WaitsFor r.filled j c → WaitsFor r.sent j c
-  sent_waits j c w = (w.0, subst (λ l. IsAmong c (list_of l w.0)) (sym step.depart.inputs) w.1, w.2)
 
   left_is : (j : ℕ) → buffer r.sent j ≡ drop 1 (buffer r.filled j)
   left_is j = sent_buffer ms r.gone (slot + 1) r.filled r.sent step.depart j
 
-  after_to : (j : ℕ) (c : Queued) → IsAmong c (list_of after.lists j) → HasFor f' j c
-  after_to j c h = has_moved (slot + 1) r.sent f' r.second after_sent step.second_chosen step.finish j c
-      (⊎_elim (λ w. inl (sent_waits j c w)) (λ b. inr (subst (IsAmong c) (sym (left_is j)) b))
-      (rest_to (WaitsFor r.filled j) (full j) (buffer r.filled j) (covers j) c (subst (IsAmong c) (rest_is j) h)))
-
-  after_back : (j : ℕ) (c : Queued) → HasFor f' j c → IsAmong c (list_of after.lists j)
-  after_back j c h = subst (IsAmong c) (sym (rest_is j)) (rest_back (WaitsFor r.filled j) (full j) (buffer r.filled j)
-      (covers j) c (⊎_elim (λ w. inl (waits_sent j c w)) (λ b. inr (subst (IsAmong c) (left_is j) b))
-      (moved_has (slot + 1) r.sent f' r.second after_sent step.second_chosen step.finish j c h)))
-
-  ranks_agree : f'.ranks ≡ after.ranks
-  unfolding after
-  ranks_agree = grind (arith, common_steps, same_gone)
-
-  still_agrees : Agrees (slot + 1) f' after
-  unfolding after
-  still_agrees = record {
-    fabric = new_sound.fabric;
-    ports = length_rests lists ∙ as_many ∙ sym ports_kept;
-    ranks = ranks_agree;
-    rising = λ j. subst IsRising (sym (rest_is j)) (rising_rest (full j) (full_rises j));
-    same = λ j c. (after_to j c, after_back j c);
-    order = new_sound.order;
-    differ = differ_from f' new_sound.fabric new_sound.order new_sound.apart;
-    earlier = all_before (slot + 1) f' new_sound.early;
-    slack = new_slack;
-  }
+  after_same : (j : ℕ) (c : Queued) → IsAmong c (list_of after.lists j) ↔ HasFor f' j c
+  after_same j c = (
+    λ h. (second.has j c).1 (rw (step.depart.inputs, left_is j) ((follow j).to c (rw (rest_of lists j) at h))),
+    λ h. rw (rest_of lists j) ((follow j).back c (rw (step.depart.inputs, left_is j) at ((second.has j c).0 h))),
+  )
 
   pub same_slot : SendsAlike ms slot cells ideal r.gone f'
-  same_slot = record { next = after; sent = ideal_sends_same; agrees = still_agrees }
+  unfolding ideal_slot
+  same_slot =
+      record {
+        next = after;
+        sent = grind (arith, common_steps, after, same_gone);
+        agrees = record {
+          fabric = second.sound.fabric;
+          ports = length_rests lists ∙ as_many ∙ sym ports_kept;
+          ranks = grind (arith, common_steps, same_gone);
+          rising = λ j. rw (rest_of lists j) (rising_rest (full j) (full_rises j));
+          same = after_same;
+          order = second.sound.order;
+          differ = differ_from f' second.sound.fabric second.sound.order second.sound.apart;
+          earlier = all_before (slot + 1) f' second.sound.early;
+          slack = second.slack 0 (sent_slack ms r.gone (slot + 1) r.filled r.sent step.depart 0
+              (first.slack 0 slack_arrived));
+        };
+      }
+
+-- ## Each phase keeps a fabric, and that each output has one rank state
+
+pub arrivals_keep : (ms : List Machine) (slot class_count : ℕ) (cells : List (Option Cell))
+    (came : List (Option Queued)) (old new : Fabric) → IsWholeFabric old →
+    AreForPorts (length old.inputs) class_count cells → Arrives ms slot cells came old new → IsWholeFabric new
+arrivals_keep ms slot class_count cells came old new whole come arrive =
+    let keyed = keyed_from ms slot (length old.inputs) class_count cells old.ranks
+    (record { came = came; ranks = new.ranks }) arrive.ranked come in
+    let ranks = ranks_kept ms slot 0 cells old.ranks (record { came = came; ranks = new.ranks }) arrive.ranked in
+    search (arith, rules, arrived_fabric)
+
+pub transfer_keeps : (m : Partners) (old new : Fabric) → IsWholeFabric old → ListsKeepOrder old → Apart old →
+    IsStable (orders_of old.inputs) m → Transfers m old new → IsWholeFabric new
+transfer_keeps m old new whole order apart stable moves = grind (arith, common_steps, moved_fabric)
+
+pub departures_keep : (ms : List Machine) (gone : List (Option Queued)) (old new : Fabric) → IsWholeFabric old →
+    Departs ms gone old new → IsWholeFabric new
+unfolding all_told
+departures_keep ms gone old new whole depart = grind (arith, common_steps, sent_fabric, length-map-range_with_len)
+
+pub slot_keeps : (ms : List Machine) (slot class_count : ℕ) (cells : List (Option Cell)) (f g : Fabric)
+    (ideal : IdealState) (r : SlotRecord) → Agrees slot f ideal → length f.ranks ≡ length f.inputs →
+    AreForPorts (length f.inputs) class_count cells → FabricSlot IsStable ms slot cells f r g → EachIsWhole f r g
+slot_keeps ms slot class_count cells f g ideal r agrees ranks come step =
+    let begun : IsWholeFabric f = record { fabric = agrees.fabric; ranks = ranks } in
+    let came = arrivals_keep ms slot class_count cells r.came f r.arrived begun come step.arrive in
+    let sound = arrived ms slot class_count cells f g ideal r agrees come step in
+    let filled = transfer_keeps r.first r.arrived r.filled came sound.order sound.apart step.first_chosen step.fill in
+    let sent = departures_keep ms r.gone r.filled r.sent filled step.depart in
+    let sound' = after_sent ms slot class_count cells f g ideal r agrees come step in
+    search (arith, rules, arrived, transfer_keeps)

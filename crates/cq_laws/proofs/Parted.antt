@@ -1,33 +1,18 @@
 -- A run in parts: its first slots are a run, and where that ended the others go on. So a run over many slots passes
 -- through the end of each shorter one, and two whole runs of which each slot leaves no choice are one.
-use Rattle.std.proofs.lemmas.Grind.{common_steps}
-use Rattle.std.proofs.Common.{rules, ◌≡◌, ℕ, suc, ◌+◌, ◌-◌, ◌<◌, ◌≤◌, List, [], ◌∷◌, ◌++◌, length, drop, Option, refl, sym, ap, subst, ⊎_elim, arith}
-use Rattle.std.specs.List.{AllByRecursion}
-use Rattle.std.proofs.lemmas.Bool.{cases_lt}
-use Rattle.std.proofs.lemmas.List.{take_all}
-use Rattle.cq_base.specs.Arriving.{Arrival}
-use Rattle.cq_base.specs.declared.cell.Cell.{Cell}
-use Rattle.cq_ideal.specs.Ending.{arriving_from, first_slots}
-use Rattle.cq_ideal.proofs.Parted.{arriving_length, arriving_parts}
-use Rattle.cq_laws.specs.SlotBySlot.{AfterBy, HasParts, RunBy, WholeBy}
-
--- what holds of all slots holds of the first
-pub all_first : {X : Type 0} (P : X → Type 0) (xs ys : List X) → AllByRecursion P (xs ++ ys) → AllByRecursion P xs
-all_first P [] ys all = tt
-all_first P (x ∷ xs) ys all = (all.0, all_first P xs ys all.1)
+use Rattle.cq_laws.proofs.Terms.{common_steps, rules, ◌≡◌, ℕ, suc, ◌+◌, ◌-◌, ◌<◌, ◌≤◌, List, [], ◌∷◌, ◌++◌, length, drop, Option, refl, ap, ⊎_elim, arith, AllByRecursion, cases_lt, take_all, Arrival, Cell, IsEnd, arriving_from, first_slots, arriving_length, arriving_parts, AfterBy, HasParts, RunBy, WholeBy, all_front}
 
 pub fewer_fit : (P : List (Option Cell) → Type 0) (came : List Arrival) (m n : ℕ) → m ≤ n →
     AllByRecursion P (first_slots came n) → AllByRecursion P (first_slots came m)
-fewer_fit P came m n le all = all_first P (first_slots came m) (arriving_from came m (n - m))
-    (subst (AllByRecursion P) (sym (arriving_parts came 0 m m (n - m) n (omega arith) (omega arith))) all)
+fewer_fit P came m n le all = all_front P (first_slots came m) (arriving_from came m (n - m))
+    (rw (arriving_parts came 0 m m (n - m) n (omega arith) (omega arith)) all)
 
 module _ {S R : Type 0} (Step : ℕ → List (Option Cell) → S → R → S → Type 0) where
   pub run_length : (slot : ℕ) (traffic : List (List (Option Cell))) (f g : S) (rs : List R) →
       RunBy Step slot traffic f rs g → length rs ≡ length traffic
   run_length slot [] f g [] x = refl
-  run_length slot [] f g (r ∷ rs) x = absurd x
-  run_length slot (cells ∷ traffic) f g [] x = absurd x
   run_length slot (cells ∷ traffic) f g (r ∷ rs) x = ap suc (run_length (slot + 1) traffic x.0 g rs x.2)
+  run_length slot traffic f g rs x = absurd x
 
   pub parts : (slot : ℕ) (before after : List (List (Option Cell))) (f h : S) (rs : List R) →
       RunBy Step slot (before ++ after) f rs h → HasParts Step slot before after f rs h
@@ -43,17 +28,31 @@ module _ {S R : Type 0} (Step : ℕ → List (Option Cell) → S → R → S →
       pub rest : RunBy Step m (arriving_from came m (n - m)) state (drop m rs) end
 
     pub reach : (m n : ℕ) (end : S) → m ≤ n → RunBy Step 0 (first_slots came n) start rs end → Reach m n end
-    reach m n end le run = grind (
-      arith,
-      common_steps,
-      arriving_parts came 0 m m (n - m) n,
-      arriving_length came 0 m,
-      parts 0 (first_slots came m) (arriving_from came m (n - m)) start end rs,
-    )
+    reach m n end le run =
+        let halves = arriving_parts came 0 m m (n - m) n in
+        let long = arriving_length came 0 m in
+        let both = parts 0 (first_slots came m) (arriving_from came m (n - m)) start end rs in
+        grind (arith, common_steps)
 
     pub run_of_whole : (IsEmpty : S → Type 0) (end : S) → WholeBy Step IsEmpty came start rs end →
         RunBy Step 0 (first_slots came (length rs)) start rs end
     run_of_whole IsEmpty end w = grind (arith, common_steps, take_all)
+
+    -- where a run ends, what goes on beside it ends too, if it is not over sooner
+    pub ends_with : {T : Type 0} (IsOver : S → Type 0) (At : ℕ → T → Type 0) (IsEmpty : T → Type 0) (s : S) (t : T) →
+        WholeBy Step IsOver came start rs s → At (length rs) t → IsEmpty t →
+        ((m : ℕ) (u : T) (v : S) → m < length rs → AfterBy Step came start rs m v → At m u → IsEmpty u → IsOver v) →
+        IsEnd came At IsEmpty (length rs) t
+    ends_with IsOver At IsEmpty s t w at empty back =
+        record {
+          after = at;
+          all_came = w.all_came;
+          empty = empty;
+          first = λ m u after late over. ⊎_elim (λ lt.
+              let r = reach m (length rs) s (omega arith) (run_of_whole IsOver s w) in
+              w.first m r.state r.after late (back m u r.state lt r.after after over)) (λ ge. ge)
+              (cases_lt m (length rs));
+        }
 
   -- ## One whole run
 

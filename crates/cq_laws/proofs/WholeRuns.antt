@@ -1,26 +1,9 @@
 -- Whole runs, slot by slot from states that agree. The empty states agree, so what holds of agreeing states holds
 -- from the first slot on.
-use Rattle.std.proofs.lemmas.Grind.{common_steps}
-use Rattle.std.proofs.Common.{rules, ◌≡◌, ℕ, zero, suc, ◌+◌, ◌↔◌, List, [], ◌∷◌, length, Option, Some, None, Result, Ok, Err, refl, sym, ap, ◌∙◌, inl, inr, arith, ⊎_elim, subst}
-use Rattle.std.specs.Prelude.{All, slice_get, replicate}
-use Rattle.std.specs.List.{AllByRecursion}
-use Rattle.std.proofs.lemmas.List.{length-replicate, get_or_past, get_or_default}
-use Rattle.std.proofs.lemmas.Bool.{cases_lt}
-use Rattle.cq_base.specs.declared.cell.Cell.{Cell}
-use Rattle.cq_base.specs.declared.cell.Queued.{Queued}
-use Rattle.cq_base.specs.declared.cell.TagFault.{TagFault}
-use Rattle.cq_rank.specs.Machine.{Machine}
-use Rattle.cq_ideal.specs.Ranking.{AreForPorts}
-use Rattle.cq_ideal.specs.IdealSlot.{IdealState, Sent}
-use Rattle.cq_ideal.specs.IdealRun.{IsEmptyIdeal, Ran, then_ran, ideal_run, empty_ideal}
-use Rattle.cq_prefs.specs.FirstCells.{list_of}
-use Rattle.cq_prefs.specs.Pairing.{IsStable}
-use Rattle.cq_laws.specs.Fabric.{Fabric, input, buffer, IsAmong, empty_fabric, IsEmptyFabric}
-use Rattle.cq_laws.specs.Places.{Place, Waiting, Crossed, cell_at}
-use Rattle.cq_laws.specs.Slack.{HasSlack}
-use Rattle.cq_laws.specs.FabricSlot.{SlotRecord}
-use Rattle.cq_laws.specs.FabricRun.{FabricRun, FabricStops}
-use Rattle.cq_laws.specs.Agreement.{Agrees, RunsAlike}
+use Rattle.cq_laws.proofs.Members.{no_members}
+use Rattle.cq_laws.proofs.Terms.{common_steps, rules, ◌≡◌, ℕ, zero, suc, ◌+◌, ◌↔◌, List, [], ◌∷◌, length, Option, Some, Result, Ok, Err, refl, ap, ◌∙◌, inl, inr, arith, ⊎_elim, All, slice_get, replicate, AllByRecursion, length-replicate, get_or_past, get_or_default, cases_lt, Cell, Queued, TagFault, Machine, AreForPorts, IsStable, Fabric, IsAmong, empty_fabric, IsEmptyFabric, HasSlack, SlotRecord, FabricRun, FabricStops, Sent, IsEmptyIdeal, Ran, then_ran, ideal_run, empty_ideal, list_of, RunsAlike}
+use Rattle.cq_ideal.specs.IdealSlot.{IdealState}
+use Rattle.cq_laws.specs.Agreement.{Agrees}
 use Rattle.cq_laws.proofs.OneSlot.{same_fault, same_slot, slack_arrived, ports_kept}
 
 goes_on : List Machine → ℕ → List (List (Option Cell)) → Result Sent TagFault → Result Ran TagFault
@@ -33,27 +16,12 @@ module _ (ms : List Machine) (class_count : ℕ) where
       AllByRecursion (AreForPorts (length f.inputs) class_count) traffic → FabricRun IsStable ms slot traffic f rs g →
       RunsAlike ms slot traffic ideal rs g
   unfolding goes_on ideal_run
-  same_run slot [] f g ideal [] agrees come run =
-      let here : slot ≡ slot + 0 = omega arith in
-      record {
-        after = ideal;
-        ran = refl;
-        agrees = subst (λ n. Agrees n g ideal) here (subst (λ h. Agrees slot h ideal) (sym run) agrees);
-      }
-  same_run slot [] f g ideal (r ∷ rs) agrees come run = absurd run
-  same_run slot (cells ∷ traffic) f g ideal [] agrees come run = absurd run
+  same_run slot [] f g ideal [] agrees come run = search (arith, rules)
   same_run slot (cells ∷ traffic) f g ideal (r ∷ rs) agrees come run =
       let one = same_slot ms slot class_count cells f run.0 ideal r agrees come.0 run.1 in
-      let ports = ports_kept ms slot class_count cells f run.0 ideal r agrees come.0 run.1 in
-      let rest =
-      same_run (slot + 1) traffic run.0 g one.next rs one.agrees
-      (subst (λ n. AllByRecursion (AreForPorts n class_count) traffic) (sym ports) come.1) run.2 in
-      let here : slot + 1 + length traffic ≡ slot + length (cells ∷ traffic) = omega arith in
-      record {
-        after = rest.after;
-        ran = ap (goes_on ms slot traffic) one.sent ∙ ap (then_ran r.gone) rest.ran;
-        agrees = subst (λ n. Agrees n g rest.after) here rest.agrees;
-      }
+      let rest = same_run (slot + 1) traffic run.0 g one.next rs one.agrees in
+      let sent = ap (goes_on ms slot traffic) one.sent in grind (arith, common_steps, ports_kept)
+  same_run slot traffic f g ideal rs agrees come run = absurd run
 
   pub same_stop : (slot : ℕ) (traffic : List (List (Option Cell))) (f : Fabric) (ideal : IdealState)
       (rs : List SlotRecord) (fault : TagFault) → Agrees slot f ideal →
@@ -65,10 +33,8 @@ module _ (ms : List Machine) (class_count : ℕ) where
       ap (goes_on ms slot traffic) ((same_fault ms slot cells f ideal fault agrees).1 run)
   same_stop slot (cells ∷ traffic) f ideal (r ∷ rs) fault agrees come run =
       let one = same_slot ms slot class_count cells f run.0 ideal r agrees come.0 run.1 in
-      let ports = ports_kept ms slot class_count cells f run.0 ideal r agrees come.0 run.1 in
-      ap (goes_on ms slot traffic) one.sent
-      ∙ ap (then_ran r.gone) (same_stop (slot + 1) traffic run.0 one.next rs fault one.agrees
-      (subst (λ n. AllByRecursion (AreForPorts n class_count) traffic) (sym ports) come.1) run.2)
+      let rest = same_stop (slot + 1) traffic run.0 one.next rs fault one.agrees in
+      let sent = ap (goes_on ms slot traffic) one.sent in grind (arith, common_steps, ports_kept)
 
   -- after the arrivals of each slot no input thread is greater than its cushion
   pub run_slack : (slot : ℕ) (traffic : List (List (Option Cell))) (f g : Fabric) (ideal : IdealState)
@@ -76,49 +42,35 @@ module _ (ms : List Machine) (class_count : ℕ) where
       AllByRecursion (AreForPorts (length f.inputs) class_count) traffic → FabricRun IsStable ms slot traffic f rs g →
       AllByRecursion (λ r. HasSlack 0 r.arrived) rs
   run_slack slot [] f g ideal [] agrees come run = tt
-  run_slack slot [] f g ideal (r ∷ rs) agrees come run = absurd run
-  run_slack slot (cells ∷ traffic) f g ideal [] agrees come run = absurd run
   run_slack slot (cells ∷ traffic) f g ideal (r ∷ rs) agrees come run =
       let one = same_slot ms slot class_count cells f run.0 ideal r agrees come.0 run.1 in
-      let ports = ports_kept ms slot class_count cells f run.0 ideal r agrees come.0 run.1 in (
-        slack_arrived ms slot class_count cells f run.0 ideal r agrees come.0 run.1,
-        run_slack (slot + 1) traffic run.0 g one.next rs one.agrees
-            (subst (λ n. AllByRecursion (AreForPorts n class_count) traffic) (sym ports) come.1) run.2,
-      )
+      grind (arith, slack_arrived, ports_kept, run_slack (slot + 1) traffic run.0 g one.next rs one.agrees)
+  run_slack slot traffic f g ideal rs agrees come run = absurd run
 
 -- ## States that agree are empty together
-
-no_members : (xs : List Queued) → ((c : Queued) → IsAmong c xs → ⊥) → xs ≡ []
-no_members [] h = refl
-no_members (x ∷ xs) h = absurd (h x (inl refl))
 
 none_among : (xs : List Queued) (c : Queued) → xs ≡ [] → IsAmong c xs → ⊥
 none_among [] c e h = h
 none_among (x ∷ xs) c e h = cc
 
--- each list of lists is empty, by its place
-all_empty : (lists : List (List Queued)) → All (λ cells. cells ≡ []) lists → (i : ℕ) → list_of lists i ≡ []
-all_empty lists empty i = grind (arith, common_steps, get_or_past, cases_lt)
+-- in lists that are all empty there is no cell, and lists without one are all empty
+none_in : (lists : List (List Queued)) → All (λ cells. cells ≡ []) lists → (i : ℕ) (c : Queued) →
+    IsAmong c (list_of lists i) → ⊥
+none_in lists empty i c h = grind (arith, get_or_past, cases_lt, none_among)
 
-each_empty : (lists : List (List Queued)) → ((i : ℕ) → list_of lists i ≡ []) → All (λ cells. cells ≡ []) lists
-each_empty lists empty i d inside = get_or_default lists i d [] inside ∙ empty i
+all_empty : (lists : List (List Queued)) → ((i : ℕ) (c : Queued) → IsAmong c (list_of lists i) → ⊥) →
+    All (λ cells. cells ≡ []) lists
+all_empty lists none i d inside = get_or_default lists i d [] inside ∙ no_members (list_of lists i) (none i)
 
 pub empty_together : (slot : ℕ) (f : Fabric) (ideal : IdealState) → Agrees slot f ideal →
     IsEmptyFabric f ↔ IsEmptyIdeal ideal
 empty_together slot f ideal agrees = (
-  λ empty. each_empty ideal.lists (λ j. no_members (list_of ideal.lists j) (λ c h.
-      ⊎_elim
-      (λ w. none_among (input f w.0) c (all_empty f.inputs empty.inputs w.0) w.1)
-      (λ b. none_among (buffer f j) c (all_empty f.buffers empty.buffers j) b)
-      ((agrees.same j c).0 h))),
+  λ empty. all_empty ideal.lists (λ j c h. ⊎_elim (λ w. none_in f.inputs empty.inputs w.0 c w.1)
+      (λ b. none_in f.buffers empty.buffers j c b) ((agrees.same j c).0 h)),
   λ empty. record {
-    inputs =
-        each_empty f.inputs (λ i. no_members (input f i) (λ c h. none_among (list_of ideal.lists c.cell.output) c
-        (all_empty ideal.lists empty c.cell.output)
-        ((agrees.same c.cell.output c).1 (inl (i, h, refl)))));
-    buffers =
-        each_empty f.buffers (λ j. no_members (buffer f j) (λ c h. none_among (list_of ideal.lists j) c
-        (all_empty ideal.lists empty j) ((agrees.same j c).1 (inr h))));
+    inputs = all_empty f.inputs (λ i c h.
+        none_in ideal.lists empty c.cell.output c ((agrees.same c.cell.output c).1 (inl (i, h, refl))));
+    buffers = all_empty f.buffers (λ j c h. none_in ideal.lists empty j c ((agrees.same j c).1 (inr h)));
   },
 )
 
@@ -130,19 +82,12 @@ empty_list (suc n) zero = refl
 empty_list (suc n) (suc i) = empty_list n i
 
 module _ (ports : ℕ) (ranks : List (List ℕ)) where
-  no_cell : (i : ℕ) (c : Queued) → IsAmong c (list_of (replicate ports []) i) → ⊥
-  no_cell i c h = none_among _ c (empty_list ports i) h
-
   pub no_place : (i t : ℕ) (c : Queued) → slice_get (list_of (replicate ports []) i) t ≡ Some c → ⊥
-  no_place i t c h = let no : None ≡ Some c = ap (λ xs. slice_get xs t) (sym (empty_list ports i)) ∙ h in cc
-
-  nowhere : (p : Place) (c : Queued) → cell_at (empty_fabric ports ranks) p ≡ Some c → ⊥
-  nowhere (Waiting i t) c h = no_place i t c h
-  nowhere (Crossed j t) c h = no_place j t c h
+  no_place i t c h = cc (empty_list ports i)
 
   -- without cells they agree, whatever the slot
   pub empty_agree_at : (slot : ℕ) → Agrees slot (empty_fabric ports ranks) (empty_ideal ports ranks)
-  empty_agree_at slot = grind (arith, common_steps, no_cell, empty_list, nowhere, no_place)
+  empty_agree_at slot = search (arith, rules, empty_list, no_place, none_among)
 
   pub empty_agree : Agrees 0 (empty_fabric ports ranks) (empty_ideal ports ranks)
   empty_agree = empty_agree_at 0

@@ -1,26 +1,14 @@
--- That the worked records are the run with input-best matchings: in each phase in which a cell crosses, its input and
--- its output are each other's first, and all other inputs have cells for that output only. A test tells so.
-use Rattle.std.proofs.lemmas.Grind.{common_steps}
-use Rattle.std.proofs.Common.{◌≡◌, ℕ, zero, suc, ◌<◌, true, List, [], ◌∷◌, length, Option, Some, None, Ok, refl, sym, ◌∙◌, arith, set}
-use Rattle.std.specs.Prelude.{replicate}
-use Rattle.std.proofs.lemmas.List.{length-map, length-set}
-use Rattle.cq_base.specs.declared.cell.Cell.{Cell}
-use Rattle.cq_base.specs.declared.cell.Queued.{Queued}
-use Rattle.cq_base.specs.Cells.{put, first_for, without_first}
-use Rattle.cq_base.specs.Key.{is_before}
-use Rattle.cq_ideal.specs.IdealSlot.{all_told, fronts, rests}
-use Rattle.cq_ideal.specs.Ranking.{ranking}
-use Rattle.cq_ideal.specs.LimitedExample.{first_come_all}
-use Rattle.cq_prefs.specs.Orders.{place_in, ports}
-use Rattle.cq_prefs.specs.Pairing.{Partners, with_pair, IsInputBest}
-use Rattle.cq_prefs.specs.FirstCells.{orders_of, output_order}
-use Rattle.cq_laws.specs.Fabric.{Fabric, input, buffer, empty_fabric}
-use Rattle.cq_laws.specs.Phases.{came_to, list_arrived, Transfers}
-use Rattle.cq_laws.specs.FabricSlot.{SlotRecord, FabricSlot}
-use Rattle.cq_laws.specs.FabricRun.{FabricRun}
-use Rattle.cq_laws.specs.Example.{lone_cell, from_input0, from_input1, from_input2, for_output1, three, three_empty, three_slots, slot0, slot1, slot2, worked_records}
-use Rattle.cq_laws.proofs.OnePair.{are_first, first_by_test, only_pair, pair_best, pair_moves}
+-- That the worked records are the run with input-best matchings: each matching is the one in which the proposals of
+-- its offers end, which is computed, and so is what its transfer moves.
+use Rattle.cq_laws.proofs.Terms.{rules, ◌≡◌, ℕ, zero, suc, ◌<◌, List, [], ◌∷◌, length, Some, None, Ok, refl, arith, set, ◌≢◌, common_steps, replicate, length-replicate, get_or-set_same, get_or-set_other, Queued, first_come_all, Fabric, input, buffer, empty_fabric, came_to, list_arrived, Transfers, SlotRecord, FabricSlot, FabricRun, from_input2, for_output1, three_slots, three, three_empty, worked_records, worked_transfers, worked_figures, put, first_for, without_first, is_before, all_told, ideal_slot, filled, place_in, ports, with_pair, partner_of, orders_of, list_of, ideal_run, empty_ideal, transfers_of, transfers_in, transfers_of_run, gone_in, figures_of, input_figures, output_figures, slacks, proposals_in, none_at, AllByRecursion}
+use Rattle.cq_prefs.specs.Pairing.{Partners, IsInputBest}
+use Rattle.cq_laws.specs.Example.{lone_cell, from_input0, from_input1, slot0, slot1, slot2}
 use Rattle.cq_laws.proofs.QuietSlots.{nobody_best, nothing_moves}
+use Rattle.cq_prefs.specs.LeastFirst.{best, least_free}
+use Rattle.cq_prefs.specs.Proposals.{start, propose, keeper, matching_of, is_free}
+use Rattle.cq_prefs.proofs.LeastFirst.{input_best-best}
+use Rattle.cq_laws.proofs.Members.{all_among, from_first}
+use Rattle.cq_prefs.proofs.InputOrder.{are_offers}
 
 -- ## Phases
 
@@ -29,32 +17,46 @@ record Phase (m : Partners) (f g : Fabric) : Type 0 where
   moved : Transfers m f g
 
 -- the pair of these ports alone, of three
-abbrev pair : ℕ → ℕ → Partners
-pair i j = with_pair (replicate 3 None) i j
+abbrev pair_alone : ℕ → ℕ → Partners
+pair_alone i j = with_pair (replicate 3 None) i j
+
+-- the matching of input i and output j alone
+record IsOnlyPair (m : Partners) (i j : ℕ) : Type 0 where
+  pair : partner_of m i ≡ Some j
+  others : (k : ℕ) → k ≢ i → partner_of m k ≡ None
+
+only_pair : (i j : ℕ) → i < 3 → IsOnlyPair (pair_alone i j) i j
+only_pair i j h = grind (arith, common_steps, get_or-set_same, length-replicate, get_or-set_other, none_at)
+
+-- each cell of these lists is for one of so many outputs
+abbrev AreFor : ℕ → List (List Queued) → Type 0
+AreFor ports lists = AllByRecursion (AllByRecursion (λ (c : Queued). c.cell.output < ports)) lists
+
+first_in_range : (ports : ℕ) (lists : List (List Queued)) (i j : ℕ) (c : Queued) → AreFor ports lists →
+    first_for j (list_of lists i) ≡ Some c → j < ports
+first_in_range ports [] i j c are is = absurd (let P : ⊥ = cc in P)
+first_in_range ports (cells ∷ lists) zero j c are is =
+    let f = from_first j cells c is in
+    let lt = all_among (λ (d : Queued). d.cell.output < ports) cells c are.0 f.0 in
+    let out = f.1 in omega arith
+first_in_range ports (cells ∷ lists) (suc i) j c are is = first_in_range ports lists i j c are.1 is
 
 -- a cell crosses
-crosses : (f : Fabric) (i j : ℕ) (c : Queued) → are_first (orders_of f.inputs) i j ≡ true → length f.inputs ≡ 3 →
-    first_for j (input f i) ≡ Some c → i < 3 → j < length f.buffers →
-    Phase (pair i j) f (record {
+crosses : (f : Fabric) (i j : ℕ) (c : Queued) → AreFor (length f.inputs) f.inputs →
+    best (orders_of f.inputs) ≡ pair_alone i j → first_for j (input f i) ≡ Some c → i < 3 → i < length f.inputs →
+    j < length f.buffers →
+    Phase (pair_alone i j) f (record {
       inputs = set f.inputs i (without_first j (input f i));
       buffers = set f.buffers j (put c (buffer f j));
       ranks = f.ranks;
     })
-crosses f i j c first three_ports front inside inside' =
-    let o = orders_of f.inputs in
-    let none : Option ℕ = None in
-    let size : length (pair i j) ≡ ports o =
-    length-set (replicate 3 none) i (Some j) ∙ sym (length-map f.inputs output_order ∙ three_ports) in
+crosses f i j c own is front few inside inside' =
+    let offers = are_offers f.inputs (λ i j c. first_in_range (length f.inputs) f.inputs i j c own) in
+    let only = only_pair i j few in
     record {
-      best = pair_best (pair i j) i j (only_pair 3 i j inside) o (first_by_test o i j first) size;
-      moved = record {
-        moves = pair_moves (pair i j) i j (only_pair 3 i j inside) c f.inputs f.buffers front (omega arith) inside';
-        ranks = refl;
-      };
+      best = rw is at (input_best-best (orders_of f.inputs) offers);
+      moved = grind (arith, common_steps);
     }
-
-nobody : (f : Fabric) → f.inputs ≡ replicate 3 [] → Phase (replicate 3 None) f f
-nobody f none = grind (arith, common_steps, nobody_best, nothing_moves)
 
 -- what comes to an input goes into its list
 abbrev ComesTo : Fabric → SlotRecord → ℕ → Type 0
@@ -67,15 +69,6 @@ at_inputs old r a b c past zero = a
 at_inputs old r a b c past (suc zero) = b
 at_inputs old r a b c past (suc (suc zero)) = c
 at_inputs old r a b c past (suc (suc (suc i))) = past i
-
--- what is recorded of a slot, by its phases
-slot_of : {cells : List (Option Cell)} {new : Fabric} (old : Fabric) (r : SlotRecord) →
-    ranking first_come_all r.slot 0 cells old.ranks ≡ Ok (record { came = r.came; ranks = r.arrived.ranks }) →
-    length r.arrived.inputs ≡ length old.inputs → ((i : ℕ) → ComesTo old r i) → r.arrived.buffers ≡ old.buffers →
-    Phase r.first r.arrived r.filled → r.gone ≡ fronts r.filled.buffers → r.sent.buffers ≡ rests r.filled.buffers →
-    r.sent.inputs ≡ r.filled.inputs → r.sent.ranks ≡ all_told first_come_all r.gone r.filled.ranks →
-    Phase r.second r.sent new → FabricSlot IsInputBest first_come_all r.slot cells old r new
-slot_of old r ranked ports lists buffers fill gone rest inputs ranks finish = grind (arith, common_steps)
 
 -- ## The slots
 
@@ -90,21 +83,45 @@ after1 = three [] [] [] (from_input2 ∷ []) [] []
 
 worked0 : FabricSlot IsInputBest first_come_all 0
     (Some (lone_cell 0 0 0) ∷ Some (lone_cell 1 0 0) ∷ Some (lone_cell 2 0 0) ∷ []) none_left slot0 after0
-unfolding all_told is_before place_in
-worked0 = slot_of none_left slot0 refl refl (at_inputs none_left slot0 refl refl refl (λ i. refl)) refl
-    (crosses slot0.arrived 0 0 from_input0 refl refl refl (omega arith) (omega arith)) refl refl refl refl
-    (crosses slot0.sent 1 0 from_input1 refl refl refl (omega arith) (omega arith))
+unfolding all_told is_before place_in best least_free start propose
+    keeper matching_of is_free
+worked0 =
+    let one = crosses slot0.arrived 0 0 from_input0 (omega arith) refl refl (omega arith) (omega arith) (omega arith) in
+    let two = crosses slot0.sent 1 0 from_input1 (omega arith) refl refl (omega arith) (omega arith) (omega arith) in
+    search (arith, rules, at_inputs)
 
 worked1 : FabricSlot IsInputBest first_come_all 1 (None ∷ None ∷ Some (lone_cell 2 1 1) ∷ []) after0 slot1 after1
-unfolding all_told is_before place_in
-worked1 = slot_of after0 slot1 refl refl (at_inputs after0 slot1 refl refl refl (λ i. refl)) refl
-    (crosses slot1.arrived 2 1 for_output1 refl refl refl (omega arith) (omega arith)) refl refl refl refl
-    (crosses slot1.sent 2 0 from_input2 refl refl refl (omega arith) (omega arith))
+unfolding all_told is_before place_in best least_free start propose
+    keeper matching_of is_free
+worked1 =
+    let one = crosses slot1.arrived 2 1 for_output1 (omega arith) refl refl (omega arith) (omega arith) (omega arith) in
+    let two = crosses slot1.sent 2 0 from_input2 (omega arith) refl refl (omega arith) (omega arith) (omega arith) in
+    search (arith, rules, at_inputs)
 
 worked2 : FabricSlot IsInputBest first_come_all 2 (None ∷ None ∷ None ∷ []) after1 slot2 none_left
 unfolding all_told
-worked2 = grind (arith, common_steps, slot_of, at_inputs, nobody)
+worked2 = search (arith, rules, at_inputs, nobody_best, nothing_moves)
 
 pub runs : FabricRun IsInputBest first_come_all 0 three_slots (empty_fabric 3 three_empty) worked_records
     (empty_fabric 3 three_empty)
 runs = (after0, worked0, (after1, worked1, (none_left, worked2, refl)))
+
+-- ## What it sends and counts, computed
+
+pub departs : ideal_run first_come_all 0 three_slots (empty_ideal 3 three_empty)
+    ≡ Ok (record { gone = gone_in worked_records; after = empty_ideal 3 three_empty })
+unfolding ideal_run ideal_slot filled all_told is_before
+departs = refl
+
+pub goes_ahead : list_arrived (three [] [] (from_input2 ∷ []) [] [] []) (Some for_output1) (from_input2 ∷ [])
+    ≡ for_output1 ∷ from_input2 ∷ []
+unfolding is_before
+goes_ahead = refl
+
+pub transferred : transfers_of_run worked_records ≡ worked_transfers
+unfolding transfers_of_run transfers_in transfers_of
+transferred = refl
+
+pub measures : figures_of 3 worked_records ≡ worked_figures
+unfolding figures_of input_figures output_figures slacks proposals_in is_before place_in
+measures = refl

@@ -1,24 +1,16 @@
 -- The terms of this crate's clauses, each passed on from where it is defined.
-pub use Rattle.cq_base.specs.Arrivals.{no_arrivals}
+pub use Rattle.cq_base.specs.{Arrivals.no_arrivals, Cells.place_of_arrival, declared.cell.Cell.Cell, declared.cell.Queued.Queued, declared.cell.TagFault.TagFault, declared.figures.Figures.Figures}
 pub use Rattle.cq_base.specs.Arriving.{Arrival, traffic_of}
-pub use Rattle.cq_base.specs.Cells.{place_of_arrival}
-pub use Rattle.cq_base.specs.declared.cell.Cell.{Cell}
-pub use Rattle.cq_base.specs.declared.cell.Queued.{Queued}
-pub use Rattle.cq_base.specs.declared.cell.TagFault.{TagFault}
-pub use Rattle.cq_base.specs.declared.figures.Figures.{Figures}
 pub use Rattle.cq_rank.specs.Machine.{Machine}
 pub use Rattle.cq_ideal.specs.Admission.{Marked, NoLimits, admitted_in, marked, marks_down, unmarked, admission}
 pub use Rattle.cq_ideal.specs.Ending.{first_slots, whole_ideal_run}
-pub use Rattle.cq_ideal.specs.Flows.{IsForSwitch}
+pub use Rattle.cq_ideal.specs.{Flows.IsForSwitch, IdealSlot.IdealState, LimitedExample.first_come_all}
 pub use Rattle.cq_ideal.specs.IdealRun.{IsEmptyIdeal, empty_ideal, ideal_run}
-pub use Rattle.cq_ideal.specs.IdealSlot.{IdealState}
 pub use Rattle.cq_ideal.specs.LimitedEnding.{slots_of_limited_run, whole_limited_run}
-pub use Rattle.cq_ideal.specs.LimitedExample.{first_come_all}
 pub use Rattle.cq_ideal.specs.LimitedIdeal.{empty_limited, admitted_traffic, ideal_admission, ideal_held}
 pub use Rattle.cq_ideal.specs.Ranking.{AreForPorts, ranking}
 pub use Rattle.cq_ideal.specs.WholePackets.{AreOfPackets, AreWholePackets, cells_at}
-pub use Rattle.cq_prefs.specs.FirstCells.{orders_of}
-pub use Rattle.cq_prefs.specs.Moves.{transfers_of}
+pub use Rattle.cq_prefs.specs.{FirstCells.orders_of, Moves.transfers_of}
 pub use Rattle.cq_prefs.specs.Pairing.{IsStable, IsInputBest, Partners}
 pub use Rattle.cq_laws.specs.Agreement.{ActAlikeFromEmptyWithoutLimits, ActAlikeWithoutLimits, Agrees, EndsAlike}
 pub use Rattle.cq_laws.specs.Entering.{FirstsCanCross, FitsList}

@@ -1,16 +1,10 @@
 -- A view in another one's place, and the rule where the words stay and the views alone change.
-use Rattle.std.proofs.lemmas.Grind.{common_steps}
-use Rattle.std.proofs.Common.{ℕ, ◌≡◌, ◌≢◌, ◌⊎◌, inl, inr, ◌+◌, ◌<◌, List, length, set, None, sym, ◌∙◌, arith, subst}
-use Rattle.std.specs.List.{sum_by}
-use Rattle.std.proofs.lemmas.Bool.{cases_eq}
-use Rattle.std.proofs.lemmas.List.Sums.{sum_by-set}
-use Rattle.atomic_table.proofs.Lists.{set_here, set_else}
-use Rattle.cq_prefs.specs.Orders.{Orders}
-use Rattle.cq_prefs.specs.Proposals.{state_after}
-use Rattle.cq_ledger.specs.declared.view.View.{View}
-use Rattle.cq_ledger.specs.Rule.{AreClaims, AreHands, IsLedger}
-use Rattle.cq_ledger.specs.Views.{Sits, HasClaimed, IsClaimedByOne}
+use Rattle.cq_ledger.proofs.Terms.{common_steps, ℕ, ◌≡◌, ◌≢◌, ◌⊎◌, ⊎_elim, ◌+◌, ◌<◌, List, length, set, Some, None, IsFree, next_place, refl, sym, ap, ◌∙◌, arith, sum_by, cases_eq, sum_by-set, at_set, set_here, set_else, Orders, State, state_after, View, AreClaims, AreHands, IsLedger, Sits, HasClaimed, HasSeen, IsClaimed, IsClaimedByOne, IsInAHand, Waits, bit, claim_word}
 use Rattle.cq_ledger.proofs.Views.{at_known, same_at}
+
+-- what a hand with this input and place asks for
+abbrev pub MayHold : Orders → State → List ℕ → ℕ → ℕ → Type 0
+MayHold o s words q p = IsFree o s q × (next_place s q ≡ p) × IsClaimed words q
 
 module _ (views : List View) (id : ℕ) (v now : View) (at_id : Sits views id v) where
   pub id_in : id < length views
@@ -21,25 +15,87 @@ module _ (views : List View) (id : ℕ) (v now : View) (at_id : Sits views id v)
 
   -- who stood there is that view, and who stood elsewhere still does
   pub stays : (b : ℕ) (u : View) → Sits views b u → ((b ≡ id) × (v ≡ u)) ⊎ ((b ≢ id) × Sits (set views id now) b u)
-  stays b u at = go (cases_eq b id)
-    where
-      go : (b ≡ id) ⊎ (b ≢ id) → ((b ≡ id) × (v ≡ u)) ⊎ ((b ≢ id) × Sits (set views id now) b u)
-      go (inl e) = let P : ℕ → Type 0 = λ m. Sits views m u in inl (e, same_at views id v u at_id (subst P e at))
-      go (inr n) = inr (n, set_else views id b now n ∙ at)
+  stays b u at = grind (arith, cases_eq b id, same_at views id v u at_id, set_else views id b now)
 
   -- who has claimed an input still has
   pub by_one_still : (q : ℕ) → (HasClaimed v q → HasClaimed now q) → IsClaimedByOne views q →
       IsClaimedByOne (set views id now) q
-  by_one_still q has x = go (stays x.0 x.1 x.2)
-    where
-      go : ((x.0 ≡ id) × (v ≡ x.1)) ⊎ ((x.0 ≢ id) × Sits (set views id now) x.0 x.1) →
-          IsClaimedByOne (set views id now) q
-      go (inl y) = let P : View → Type 0 = λ u. HasClaimed u q in (id, now, sits_now, has (subst P (sym y.1) x.3))
-      go (inr y) = (x.0, x.1, y.1, x.3)
+  by_one_still q has x = ⊎_elim (λ y. (id, now, sits_now, has (rw y.1 x.3))) (λ y. (x.0, x.1, y.1, x.3))
+      (stays x.0 x.1 x.2)
+
+  -- an input that is in a hand still is, if it was not in this one or stays in it
+  pub in_hand_still : (q : ℕ) → ((p : ℕ) → v.hand ≡ Some (q, p) → now.hand ≡ Some (q, p)) → IsInAHand views q →
+      IsInAHand (set views id now) q
+  in_hand_still q same x = ⊎_elim (λ y. (id, now, x.2, sits_now, same x.2 (ap (λ (u : View). u.hand) y.1 ∙ x.4)))
+      (λ y. (x.0, x.1, x.2, y.1, x.4)) (stays x.0 x.1 x.3)
+
+  -- what the view in a place has of the one that stood there before
+  pub stood : (P : View → View → Type 0) → P v now → ((u : View) → P u u) → (b : ℕ) (u : View) →
+      Sits (set views id now) b u → (x : View) × Sits views b x × P x u
+  stood P mine same b u a = ⊎_elim (λ y. (v, rw y.0 at_id, rw (← y.1) mine)) (λ y. (u, y.1, same u))
+      (at_set views id b now u a)
+
+  -- the hands, by what is in this one, which no other has, and what in another
+  pub hands_with : (o : Orders) (s t : State) (words words' : List ℕ) → AreHands o s words views →
+      ((q p : ℕ) → now.hand ≡ Some (q, p) → MayHold o t words' q p × ((b r : ℕ) (x : View) → Sits views b x →
+      b ≢ id → x.hand ≡ Some (q, r) → ⊥)) →
+      ((b q p : ℕ) (x : View) → Sits views b x → b ≢ id → x.hand ≡ Some (q, p) → MayHold o t words' q p) →
+      ((q : ℕ) → IsFree o t q → Waits words' (set views id now) q) → AreHands o t words' (set views id now)
+  hands_with o s t words words' k mine others waits =
+      let my = λ (q p : ℕ) (u : View) (e : now ≡ u) (h : u.hand ≡ Some (q, p)).
+      mine q p (ap (λ (y : View). y.hand) e ∙ h) in
+      let each : (b q p : ℕ) (u : View) → Sits (set views id now) b u → u.hand ≡ Some (q, p) →
+      MayHold o t words' q p = λ b q p u a h. ⊎_elim (λ x. (my q p u x.1 h).0) (λ x. others b q p u x.1 x.0 h)
+      (at_set views id b now u a) in
+      record {
+        free = λ b q p u a h. (each b q p u a h).0;
+        place = λ b q p u a h. (each b q p u a h).1;
+        claimed = λ b q p u a h. (each b q p u a h).2;
+        apart = λ b c q p r x y ax ay hx hy. ⊎_elim (λ m. ⊎_elim (λ n. m.0 ∙ sym n.0)
+            (λ n. absurd ((my q p x m.1 hx).1 c r y n.1 n.0 hy)) (at_set views id c now y ay))
+            (λ m. ⊎_elim (λ n. absurd ((my q r y n.1 hy).1 b p x m.1 m.0 hx))
+            (λ n. k.apart b c q p r x y m.1 n.1 hx hy) (at_set views id c now y ay)) (at_set views id b now x ax);
+        undropped = waits;
+      }
+
+  -- the claims where the word of claims stays and the view's own claims stay
+  pub claims_stay : (o : Orders) (words words' : List ℕ) → claim_word words' ≡ claim_word words →
+      now.claims ≡ v.claims →
+      ((q : ℕ) → HasSeen now q → IsClaimed words q) → AreClaims o words views → AreClaims o words' (set views id now)
+  claims_stay o words words' word same seen k =
+      let still = λ (q : ℕ) (h : IsClaimed words q). ap (λ n. bit n q) word ∙ h in
+      let was = λ (q : ℕ) (h : IsClaimed words' q). sym (ap (λ n. bit n q) word) ∙ h in
+      let had = stood (λ x u. x.claims ≡ u.claims) (sym same) (λ u. refl) in
+      record {
+        claimed = λ b q u a h. let x = had b u a in still q (k.claimed b q x.0 x.1 (ap (λ n. bit n q) x.2 ∙ h));
+        by_one = λ q h. by_one_still q (λ has. ap (λ n. bit n q) same ∙ has) (k.by_one q (was q h));
+        apart = λ b c q x y ax ay hx hy.
+            let m = had b x ax in let n = had c y ay in
+            k.apart b c q m.0 n.0 m.1 n.1 (ap (λ z. bit z q) m.2 ∙ hx) (ap (λ z. bit z q) n.2 ∙ hy);
+        in_range = λ q h. k.in_range q (was q h);
+        seen = λ b q u a h. still q (⊎_elim (λ y. seen q (ap (λ (z : View). bit z.seen q) y.1 ∙ h))
+            (λ y. k.seen b q u y.1 h) (at_set views id b now u a));
+      }
 
   pub made_with : sum_by (λ (y : View). y.made) (set views id now) + v.made
       ≡ sum_by (λ (y : View). y.made) views + now.made
   made_with = grind (arith, common_steps, sum_by-set, id_in, at_known views id v v at_id)
+
+-- the hands, where each was in the same place before, and who waited still does
+pub hands_from : {o : Orders} {s : State} {words : List ℕ} {views now : List View} → AreHands o s words views →
+    ((b q p : ℕ) (u : View) → Sits now b u → u.hand ≡ Some (q, p) →
+    (x : View) × Sits views b x × (x.hand ≡ Some (q, p))) →
+    ((q : ℕ) → Waits words views q → Waits words now q) → AreHands o s words now
+hands_from k had waits =
+    record {
+      free = λ b q p u a h. let x = had b q p u a h in k.free b q p x.0 x.1 x.2;
+      place = λ b q p u a h. let x = had b q p u a h in k.place b q p x.0 x.1 x.2;
+      claimed = λ b q p u a h. let x = had b q p u a h in k.claimed b q p x.0 x.1 x.2;
+      apart = λ b c q p r x y ax ay hx hy.
+          let m = had b q p x ax hx in
+          let n = had c q r y ay hy in k.apart b c q p r m.0 n.0 m.1 n.1 m.2 n.2;
+      undropped = λ q g. waits q (k.undropped q g);
+    }
 
 -- no event: what the views have claimed, seen, made and in their hands is dealt out anew
 unfoldable pub dealt : (o : Orders) (words : List ℕ) (views now : List View) (k : IsLedger o words views) →

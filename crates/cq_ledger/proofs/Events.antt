@@ -1,18 +1,7 @@
 -- Each kind of step keeps the rule. A proposal is the event of the hand's input on the state that words and views show,
 -- and every other kind of step leaves that state as it is: the list of events behind the rule is the same, or longer by
 -- that input.
-use Rattle.std.proofs.Common.{ℕ, suc, ◌≡◌, ◌≢◌, ◌<◌, ◌≤◌, ◌++◌, List, [], ◌∷◌, get_or, set, Some, None, refl, sym, ◌∙◌, ap, subst}
-use Rattle.std.proofs.lemmas.List.{set-get_or}
-use Rattle.atomic_table.proofs.Lists.{set_again}
-use Rattle.cq_prefs.specs.Orders.{Orders, AreOffers, ports}
-use Rattle.cq_prefs.specs.Proposals.{State, next_place, position_held, next_output, start, propose, outcome_of, state_after, IsFree}
-use Rattle.cq_prefs.proofs.Places.{output_in_range}
-use Rattle.cq_prefs.proofs.Steps.{next_output-offered}
-use Rattle.cq_ledger.specs.declared.view.View.{View}
-use Rattle.cq_ledger.specs.Rule.{IsLedger}
-use Rattle.cq_ledger.specs.Shown.{core_state}
-use Rattle.cq_ledger.specs.Steps.{first_words, blank, output_at, words_proposed, proposed, answer_of, words_claimed, claim_taken, claim_refused, joined, spent}
-use Rattle.cq_ledger.specs.Views.{Sits, IsClaimed, IsUnclaimed}
+use Rattle.cq_ledger.proofs.Terms.{ℕ, suc, ◌≡◌, ◌≢◌, ◌<◌, ◌≤◌, ◌++◌, List, [], ◌∷◌, get_or, set, Some, None, refl, sym, ◌∙◌, ap, set-get_or, set_again, Orders, AreOffers, ports, State, next_place, position_held, next_output, start, propose, outcome_of, state_after, IsFree, output_in_range, next_output-offered, View, IsLedger, core_state, first_words, blank, output_at, words_proposed, proposed, answer_of, words_claimed, claim_taken, claim_refused, joined, spent, Sits, IsClaimed, IsUnclaimed}
 use Rattle.cq_ledger.proofs.Claiming.{claim-keeps}
 use Rattle.cq_ledger.proofs.CoreState.{core_state-is}
 use Rattle.cq_ledger.proofs.Proposing.{propose-keeps}
@@ -43,18 +32,14 @@ module _ (o : Orders) (words : List ℕ) (views : List View) (k : IsLedger o wor
     here = k.hands.place id i p v at hand
 
     pub proposal-free : IsFree o (core_state o words views) i
-    proposal-free = let P : State → Type 0 = λ t. IsFree o t i in subst P (sym is) (k.hands.free id i p v at hand)
+    proposal-free = rw is (k.hands.free id i p v at hand)
 
     pub proposal-shows : core_state o (words_proposed o words i p) (set views id
         (proposed v i p (get_or words (suc (output_at o i p)) 0))) ≡ propose o (core_state o words views) i
     unfolding propose-keeps
     proposal-shows =
-        let k' = propose-keeps o words views k id i v at (hand ∙ ap (λ n. Some (i, n)) (sym here)) same_offers in
-        let P : ℕ → Type 0 = λ n. core_state o (words_proposed o words i n)
-        (set views id (proposed v i n (get_or words (suc (output_at o i n)) 0))) ≡ propose o s i in
-        subst P here (core_state-is o (words_proposed o words i (next_place s i))
-        (set views id (proposed v i (next_place s i) (get_or words (suc (output_at o i (next_place s i))) 0))) k')
-        ∙ ap (λ t. propose o t i) (sym is)
+        let k' = propose-keeps o words views k id i v at (rw here hand) same_offers in
+        rw (is, ← here) (core_state-is o _ _ k')
 
     outcome-now : answer_of o i (next_place s i) (position_held s (next_output o s i)) ≡ outcome_of o s i
     unfolding answer_of outcome_of
@@ -65,9 +50,7 @@ module _ (o : Orders) (words : List ℕ) (views : List View) (k : IsLedger o wor
     proposal-outcome =
         let f = k.hands.free id i p v at hand in
         let r = output_in_range o k.offers i (next_output o s i) (next_output-offered o k.offers s i f.left) in
-        let P : ℕ → Type 0 = λ n. answer_of o i n (get_or words (suc (output_at o i n)) 0) ≡ outcome_of o s i in
-        subst P here (ap (answer_of o i (next_place s i)) (k.positions (next_output o s i) r) ∙ outcome-now)
-        ∙ ap (λ t. outcome_of o t i) (sym is)
+        rw (is, ← here, k.positions (next_output o s i) r) outcome-now
 
   module _ (i : ℕ) where
     pub taken-shows : i < ports o → IsUnclaimed words i → v.hand ≡ None → v.offers ≡ o →
@@ -81,15 +64,14 @@ module _ (o : Orders) (words : List ℕ) (views : List View) (k : IsLedger o wor
     words-same claimed = ap (λ m. set words 0 m) (or_set (get_or words 0 0) i claimed) ∙ set-get_or words 0 0
 
     pub refused-keeps : IsClaimed words i → IsLedger o (words_claimed words i) (set views id (claim_refused v i))
-    refused-keeps claimed =
-        let P : List ℕ → Type 0 = λ l. IsLedger o l (set views id (claim_refused v i)) in
-        subst P (sym (words-same claimed)) (refuse-keeps o words views k id i v at claimed)
+    refused-keeps claimed = rw (words-same claimed) (refuse-keeps o words views k id i v at claimed)
 
     pub refused-shows : IsClaimed words i →
         core_state o (words_claimed words i) (set views id (claim_refused v i)) ≡ core_state o words views
     unfolding refuse-keeps dealt
-    refused-shows claimed = ap (λ l. core_state o l (set views id (claim_refused v i))) (words-same claimed)
-        ∙ as_before words (set views id (claim_refused v i)) (refuse-keeps o words views k id i v at claimed) refl
+    refused-shows claimed =
+        rw (words-same claimed)
+        (as_before words (set views id (claim_refused v i)) (refuse-keeps o words views k id i v at claimed) refl)
 
   pub split-shows : core_state o words (set views id v ++ blank v.offers ∷ []) ≡ core_state o words views
   unfolding longer-keeps dealt

@@ -1,34 +1,15 @@
 -- What one proposal does to the hand that made it, and to the free inputs: who is free after it is in the new hand, or
 -- was free before.
-use Rattle.std.proofs.lemmas.Grind.{common_steps}
-use Rattle.std.proofs.Common.{rules, ℕ, ◌≡◌, ◌≢◌, ◌⊎◌, inl, inr, ◌+◌, ◌<◌, ◌≤◌, Bool, true, false, cond, length, get_or, Option, Some, None, refl, sym, ◌∙◌, ap, arith, subst, ltb}
-use Rattle.std.proofs.lemmas.Bool.{cases_lt, cases_eq, ltb-true, lt-ltb, le-ltb, eq-eqb, ne_eqb}
-use Rattle.cq_prefs.specs.Orders.{Orders, AreOffers, ports, outputs_of, inputs_of, place_of, position_of}
-use Rattle.cq_prefs.proofs.Steps.{IsStep, step}
-use Rattle.cq_prefs.specs.Proposals.{State, position_held, next_place, Holds, IsFree, next_output, propose, holder, IsSound}
-use Rattle.cq_prefs.specs.declared.outcome.Outcome.{Outcome}
-use Rattle.cq_prefs.specs.declared.outcome.Outcome.TheVariants.{Held, Displaced, Rejected}
-use Rattle.cq_ledger.specs.Steps.{hand_at, hand_after, output_at, answer_of}
-use Rattle.cq_prefs.proofs.Places.{get_or-place_in, same_at_place, output_in_range, position_of-at, inputs_at_most}
+use Rattle.cq_ledger.proofs.Terms.{common_steps, rules, ℕ, ◌≡◌, ◌≢◌, ◌⊎◌, inl, inr, ◌+◌, ◌<◌, ◌≤◌, length, get_or, Option, Some, None, refl, sym, ◌∙◌, ap, arith, subst, ⊎_elim, cases_lt, cases_eq, ltb-true, lt-ltb, le-ltb, eq-eqb, ne_eqb, Orders, AreOffers, ports, outputs_of, inputs_of, place_of, position_of, IsStep, step, State, position_held, next_place, Holds, IsFree, next_output, propose, holder, IsSound, Outcome, hand_at, hand_after, output_at, answer_of, get_or-place_in, same_at_place, output_in_range, position_of-at, inputs_at_most}
 
 pub holder-holds : (o : Orders) → AreOffers o → (s : State) → IsSound o s → (j : ℕ) → j < ports o →
     position_held s j ≢ ports o → Holds o s j (holder o s j)
-holder-holds o v s w j r n = go (w.held_in j r)
-  where
-    go : (position_held s j ≡ ports o) ⊎ (position_held s j < length (inputs_of o j)) → Holds o s j (holder o s j)
-    go (inl e) = absurd (n e)
-    go (inr l) = let a = position_of-at o v j (position_held s j) l in (sym a, omega arith)
+holder-holds o v s w j r n = grind (arith, common_steps, w.held_in j r, position_of-at o v j (position_held s j))
 
 pub hand_at-shows : (o : Orders) (k p i q : ℕ) → hand_at o k p ≡ Some (i, q) →
     (k ≡ i) × (p ≡ q) × (p < length (outputs_of o k))
 unfolding hand_at
-hand_at-shows o k p i q h = go (ltb p (length (outputs_of o k))) refl h
-  where
-    go : (b : Bool) → ltb p (length (outputs_of o k)) ≡ b →
-        cond {A = Option (ℕ × ℕ)} b (Some (k, p)) None ≡ Some (i, q) →
-        (k ≡ i) × (p ≡ q) × (p < length (outputs_of o k))
-    go true e f = let x : (k, p) ≡ (i, q) = cc in (ap (λ (t : ℕ × ℕ). t.0) x, ap (λ (t : ℕ × ℕ). t.1) x, ltb-true _ _ e)
-    go false e f = absurd (let P : ⊥ = cc in P)
+hand_at-shows o k p i q h = grind (arith, common_steps, ltb-true)
 
 pub hand_at-left : (o : Orders) (k p : ℕ) → p < length (outputs_of o k) → hand_at o k p ≡ Some (k, p)
 unfolding hand_at
@@ -70,35 +51,30 @@ module _ (o : Orders) (v : AreOffers o) (s : State) (w : IsSound o s) (i : ℕ) 
 
   -- nobody holds an input now, where none of the others did before and the output that was asked does not
   unheld_now : (k : ℕ) → ((q : ℕ) → q ≢ j → Holds o s q k → ⊥) → (Holds o t j k → ⊥) → (q : ℕ) → Holds o t q k → ⊥
-  unheld_now k others asked q h = go (cases_eq q j)
-    where
-      go : (q ≡ j) ⊎ (q ≢ j) → ⊥
-      go (inr m) = others q m (sym (st.held_other q m) ∙ h.0, h.1)
-      go (inl e) = asked (let P : ℕ → Type 0 = λ n. Holds o t n k in subst P e h)
+  unheld_now k others asked q h = grind (arith, common_steps, cases_eq q j, others q, st.held_other q)
 
   -- another input that was free still is, at its place
   pub still_free : (k : ℕ) → k ≢ i → IsFree o s k → IsFree o t k
   still_free k n g =
+      let a = st.others_stay k n in
+      let b = st.held_asked in
       record {
-        left = let a = st.others_stay k n in omega arith;
+        left = omega arith;
         unheld = unheld_now k (λ q _ b. g.unheld q b)
-            (λ here. taken here (cases_lt (position_of o j i) (position_held s j)));
+            (λ here. grind (arith, common_steps, same_at_place (inputs_of o j) k i, g.unheld j, here));
       }
-    where
-      taken : Holds o t j k → (position_of o j i < position_held s j) ⊎ (position_held s j ≤ position_of o j i) → ⊥
-      taken here (inl l) = n (same_at_place (inputs_of o j) k i (let a = st.held_asked in omega arith) here.1)
-      taken here (inr l) = g.unheld j (let a = st.held_asked in omega arith, here.1)
 
   -- the one that is displaced is free now, at the place after this output
   pub displaced_free : (k : ℕ) → Holds o s j k → position_of o j i < position_held s j →
       place_of o k j + 1 < length (outputs_of o k) → (IsFree o t k) × (next_place t k ≡ place_of o k j + 1) × (k ≢ i)
   displaced_free k h l left =
       let apart : k ≢ i = λ e. let x = ap (λ n. position_of o j n) e in absurd (omega arith) in
+      let a = st.held_asked in
       let place_now : next_place t k ≡ place_of o k j + 1 = st.others_stay k apart ∙ w.last k j h in (
         record {
           left = omega arith;
           unheld = unheld_now k (λ q m b. search (arith, rules, same_at_place))
-              (λ here. apart (same_at_place (inputs_of o j) k i (let a = st.held_asked in omega arith) here.1));
+              (λ here. grind (arith, same_at_place (inputs_of o j) k i));
         },
         place_now,
         apart,
@@ -107,14 +83,9 @@ module _ (o : Orders) (v : AreOffers o) (s : State) (w : IsSound o s) (i : ℕ) 
   -- the one that is refused is free still
   pub refused_free : position_held s j ≤ position_of o j i → next_place s i + 1 < length (outputs_of o i) →
       (IsFree o t i) × (next_place t i ≡ next_place s i + 1)
-  refused_free l left = (
-    record {
-      left = let a = st.moved_on in omega arith;
-      unheld = unheld_now i (λ q _ b. f.unheld q b)
-          (λ here. f.unheld j (let a = st.held_asked in omega arith, here.1));
-    },
-    st.moved_on,
-  )
+  refused_free l left =
+      let here = unheld_now i (λ q _ b. f.unheld q b) (λ here. grind (arith, f.unheld j, st.held_asked)) in
+      let a = st.moved_on in (record { left = omega arith; unheld = here }, a)
 
   -- what the new hand shows
   pub record IsHand (k q : ℕ) : Type 0 where
@@ -123,93 +94,53 @@ module _ (o : Orders) (v : AreOffers o) (s : State) (w : IsSound o s) (i : ℕ) 
     pub who : (k ≡ i) ⊎ Holds o s j k
 
   pub hand-shows : (k q : ℕ) → hand_found o i (next_place s i) (position_held s j) ≡ Some (k, q) → IsHand k q
-  hand-shows k q h = go (cases_lt (position_of o j i) (position_held s j))
-    where
-      held : position_of o j i < position_held s j → (position_held s j ≡ ports o) ⊎ (position_held s j ≢ ports o) →
-          IsHand k q
-      held l (inl e) = absurd (let a = hand-held o i (next_place s i) (position_held s j) e in let P : ⊥ = cc in P)
-      held l (inr n) =
-          let h' = sym (hand-displaced o i (next_place s i) (position_held s j) n l) ∙ h in
-          let a = hand_at-shows o (holder o s j) (place_of o (holder o s j) j + 1) k q h' in
-          let hold = holder-holds o v s w j (output_in_range o v i j st.offered) n in
-          let d = displaced_free (holder o s j) hold l a.2 in
-          let P : ℕ → Type 0 = λ n. IsFree o t n in
-          let Q : ℕ → Type 0 = λ n. Holds o s j n in
-          record {
-            free = subst P a.0 d.0;
-            place_is = sym (ap (λ n. next_place t n) a.0) ∙ d.1 ∙ a.1;
-            who = inr (subst Q a.0 hold);
-          }
-
-      go : (position_of o j i < position_held s j) ⊎ (position_held s j ≤ position_of o j i) → IsHand k q
-      go (inl l) = held l (cases_eq (position_held s j) (ports o))
-      go (inr l) = search (rules, hand-rejected, taken_if, hand_at-shows, refused_free)
+  hand-shows k q h =
+      ⊎_elim (λ l. ⊎_elim
+      (λ e. absurd (let a = hand-held o i (next_place s i) (position_held s j) e in let P : ⊥ = cc in P))
+      (λ n. let h' = sym (hand-displaced o i (next_place s i) (position_held s j) n l) ∙ h in
+      let a = hand_at-shows o (holder o s j) (place_of o (holder o s j) j + 1) k q h' in
+      let hold = holder-holds o v s w j (output_in_range o v i j st.offered) n in
+      let d = displaced_free (holder o s j) hold l a.2 in search (rules))
+      (cases_eq (position_held s j) (ports o)))
+      (λ l. search (rules, hand-rejected, taken_if, hand_at-shows, refused_free))
+      (cases_lt (position_of o j i) (position_held s j))
 
   -- who is free now is in the new hand, or was free before
   pub free-before : (k : ℕ) → IsFree o t k →
       (hand_found o i (next_place s i) (position_held s j) ≡ Some (k, next_place t k)) ⊎ ((k ≢ i) × IsFree o s k)
-  free-before k g = go (cases_eq k i) (cases_lt (position_of o j i) (position_held s j))
-    where
-      go : (k ≡ i) ⊎ (k ≢ i) → (position_of o j i < position_held s j) ⊎ (position_held s j ≤ position_of o j i) →
-          (hand_found o i (next_place s i) (position_held s j) ≡ Some (k, next_place t k)) ⊎ ((k ≢ i) × IsFree o s k)
-      go (inl e) (inl l) =
-          absurd (g.unheld j (rw e (
-            let a = st.held_asked in
-                let P : position_held t j ≡ position_of o j i = omega arith in
-                P,
-            v.shown i j st.offered,
-          )))
-      go (inl e) (inr l) =
-          let left : next_place s i + 1 < length (outputs_of o i) = let a = g.left in
-          let b = st.moved_on in
-          let P : ℕ → Type 0 = λ n. next_place t n < length (outputs_of o n) in
-          let c : next_place t i < length (outputs_of o i) = subst P e a in
-          omega arith in
-          inl (rw e (hand-rejected o i (next_place s i) (position_held s j) (taken_if l) l
-          ∙ hand_at-left o i (next_place s i + 1) left ∙ ap (λ n. Some (i, n)) (sym st.moved_on)))
-      go (inr n) (inr l) =
-          inr (
-            n,
-            record {
-              left = let a = st.others_stay k n in omega arith;
-              unheld = λ q h. g.unheld q (same q (cases_eq q j) ∙ h.0, h.1);
-            },
-          )
-        where
-          same : (q : ℕ) → (q ≡ j) ⊎ (q ≢ j) → position_held t q ≡ position_held s q
-          same q (inl e) = rw e (let a = st.held_asked in omega arith)
-          same q (inr m) = st.held_other q m
-      go (inr n) (inl l) =
-          decide (cases_eq (position_held s j) (position_of o j k))
-          (cases_lt (position_of o j k) (length (inputs_of o j)))
-        where
-          left : next_place s k < length (outputs_of o k)
-          left = let a = st.others_stay k n in omega arith
-
-          elsewhere : (Holds o s j k → ⊥) →
-              (hand_found o i (next_place s i) (position_held s j) ≡ Some (k, next_place t k))
-              ⊎ ((k ≢ i) × IsFree o s k)
-          elsewhere apart = inr (n, record { left = left; unheld = λ q h. at q h (cases_eq q j) })
-            where
-              at : (q : ℕ) → Holds o s q k → (q ≡ j) ⊎ (q ≢ j) → ⊥
-              at q h (inl e) = apart (let P : ℕ → Type 0 = λ m. Holds o s m k in subst P e h)
-              at q h (inr m) = g.unheld q (st.held_other q m ∙ h.0, h.1)
-
-          decide : (position_held s j ≡ position_of o j k) ⊎ (position_held s j ≢ position_of o j k) →
-              (position_of o j k < length (inputs_of o j)) ⊎ (length (inputs_of o j) ≤ position_of o j k) →
-              (hand_found o i (next_place s i) (position_held s j) ≡ Some (k, next_place t k))
-              ⊎ ((k ≢ i) × IsFree o s k)
-          decide (inr m) x = elsewhere (λ h. m h.0)
-          decide (inl e) (inr x) = elsewhere (λ h. let a = h.1 in absurd (omega arith))
-          decide (inl e) (inl x) =
-              let somebody : position_held s j ≢ ports o = λ z. let a = inputs_at_most o v j in absurd (omega arith) in
-              let who : holder o s j ≡ k =
-              ap (λ m. get_or (inputs_of o j) m 0) e ∙ get_or-place_in (inputs_of o j) k x in
-              let now : next_place t k ≡ place_of o k j + 1 = st.others_stay k n ∙ w.last k j (e, x) in
-              let H : ℕ → Type 0 = λ m. hand_at o m (place_of o m j + 1) ≡ Some (k, next_place t k) in
-              inl (hand-displaced o i (next_place s i) (position_held s j) somebody l
-              ∙ subst H (sym who) (hand_at-left o k (place_of o k j + 1) (let a = g.left in omega arith)
-              ∙ ap (λ m. Some (k, m)) (sym now)))
+  free-before k g =
+      let moved = st.moved_on in
+      let asked = st.held_asked in
+      ⊎_elim (λ e. ⊎_elim (λ l. absurd (g.unheld j (rw e (
+        let P : position_held t j ≡ position_of o j i = omega arith in P,
+        v.shown i j st.offered,
+      )))) (λ l.
+      let left : next_place t i < length (outputs_of o i) = rw e at g.left in
+      let room : next_place s i + 1 < length (outputs_of o i) = omega arith in
+      inl (rw e (hand-rejected o i (next_place s i) (position_held s j) (taken_if l) l
+      ∙ hand_at-left o i (next_place s i + 1) room ∙ ap (λ n. Some (i, n)) (sym moved))))
+      (cases_lt (position_of o j i) (position_held s j))) (λ n.
+      let stays = st.others_stay k n in
+      let unless : (Holds o s j k → ⊥) → (k ≢ i) × IsFree o s k = λ apart. (
+        n,
+        record {
+          left = let a = g.left in omega arith;
+          unheld = λ q h. ⊎_elim (λ e. apart (rw e at h)) (λ m. g.unheld q (st.held_other q m ∙ h.0, h.1))
+              (cases_eq q j);
+        },
+      ) in
+      ⊎_elim (λ l. ⊎_elim (λ e. ⊎_elim (λ x.
+      let somebody : position_held s j ≢ ports o = λ z. let a = inputs_at_most o v j in absurd (omega arith) in
+      let who : holder o s j ≡ k = ap (λ m. get_or (inputs_of o j) m 0) e ∙ get_or-place_in (inputs_of o j) k x in
+      let now : next_place t k ≡ place_of o k j + 1 = stays ∙ w.last k j (e, x) in
+      let room : place_of o k j + 1 < length (outputs_of o k) = let a = g.left in omega arith in
+      let H : ℕ → Type 0 = λ m. hand_at o m (place_of o m j + 1) ≡ Some (k, next_place t k) in
+      inl (hand-displaced o i (next_place s i) (position_held s j) somebody l ∙ subst H (sym who)
+      (hand_at-left o k (place_of o k j + 1) room ∙ ap (λ m. Some (k, m)) (sym now))))
+      (λ x. inr (unless (λ h. let a = h.1 in omega arith))) (cases_lt (position_of o j k) (length (inputs_of o j))))
+      (λ m. inr (unless (λ h. m h.0))) (cases_eq (position_held s j) (position_of o j k)))
+      (λ l. inr (unless (λ h. g.unheld j (let a = h.0 in omega arith, h.1))))
+      (cases_lt (position_of o j i) (position_held s j))) (cases_eq k i)
 
 -- a hand stands within its input's order
 pub hand_at-placed : (o : Orders) (i p : ℕ) (x : ℕ × ℕ) → hand_at o i p ≡ Some x → x.1 < length (outputs_of o x.0)
@@ -218,6 +149,4 @@ hand_at-placed o i p x h = grind (arith, common_steps, hand_at-shows o i p x.0 x
 pub hand_after-placed : (o : Orders) (i p : ℕ) (answer : Outcome) (x : ℕ × ℕ) → hand_after o i p answer ≡ Some x →
     x.1 < length (outputs_of o x.0)
 unfolding hand_after
-hand_after-placed o i p Held x h = absurd (let P : ⊥ = cc in P)
-hand_after-placed o i p (Displaced k) x h = hand_at-placed o k (place_of o k (output_at o i p) + 1) x h
-hand_after-placed o i p Rejected x h = hand_at-placed o i (p + 1) x h
+hand_after-placed o i p answer x h = grind (arith, hand_at-placed)

@@ -1,12 +1,6 @@
 -- The place that is found for an input in the hands is that of a hand that has it, and where none is found no hand
 -- does.
-use Rattle.std.proofs.lemmas.Grind.{common_steps}
-use Rattle.std.proofs.Common.{arith, ℕ, zero, suc, ◌≡◌, List, [], ◌∷◌, Option, Some, None, refl, sym, ◌∙◌, ap}
-use mathlib.Core.Option.{some-injective, some-ne-none}
-use Rattle.std.proofs.lemmas.Bool.{cond_both, eqb-true, eq-eqb, true≢false}
-use Rattle.cq_ledger.specs.declared.view.View.{View}
-use Rattle.cq_ledger.specs.Shown.{place_in_hand, first_place, place_in_hands}
-use Rattle.cq_ledger.specs.Views.{Sits, IsInAHand}
+use Rattle.cq_ledger.proofs.Terms.{common_steps, arith, ℕ, zero, suc, ◌≡◌, List, [], ◌∷◌, Option, Some, None, refl, sym, ◌∙◌, ap, some-injective, some-ne-none, cond_both, eqb-true, eq-eqb, true≢false, View, place_in_hand, first_place, place_in_hands, Sits, IsInAHand}
 
 -- ## One hand
 
@@ -34,16 +28,11 @@ not_first : (v : View) (views : List View) (i : ℕ) → place_in_hands (v ∷ v
     v.hand ≡ Some (i, p) → ⊥
 not_first v views i e p h = grind (arith, common_steps, in_hand-has)
 
-none_later : (h q : Option ℕ) → first_place h q ≡ None → q ≡ None
-none_later None q e = e
-none_later (Some p) q e = absurd (let P : ⊥ = cc in P)
-
 none_at : (views : List View) (i : ℕ) → place_in_hands views i ≡ None → (a : ℕ) (u : View) (p : ℕ) → Sits views a u →
     u.hand ≡ Some (i, p) → ⊥
 none_at [] i e a u p at h = some-ne-none u (sym at)
 none_at (v ∷ views) i e zero u p at h = not_first v views i e p (ap (λ y. y.hand) (some-injective v u at) ∙ h)
-none_at (v ∷ views) i e (suc a) u p at h =
-    none_at views i (none_later (place_in_hand v.hand i) (place_in_hands views i) e) a u p at h
+none_at (v ∷ views) i e (suc a) u p at h = none_at views i (grind (arith, common_steps)) a u p at h
 
 pub in_hands-none : (views : List View) (i : ℕ) → place_in_hands views i ≡ None → IsInAHand views i → ⊥
 in_hands-none views i e x = none_at views i e x.0 x.1 x.2 x.3 x.4

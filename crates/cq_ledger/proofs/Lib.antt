@@ -1,3 +1,4 @@
+mod Terms
 pub mod Views
 pub mod Dealt
 pub mod Hands

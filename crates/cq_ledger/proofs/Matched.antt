@@ -1,16 +1,5 @@
 -- The matching is read off the words, one output after another.
-use Rattle.std.proofs.Common.{rules, ℕ, ◌≡◌, ◌≢◌, ◌⊎◌, inl, inr, ◌+◌, ◌<◌, List, length, get_or, set, Option, Some, None, refl, sym, ◌∙◌, ap, arith, subst, add-one}
-use Rattle.std.proofs.lemmas.Grind.{common_steps}
-use Rattle.std.proofs.lemmas.Bool.{cases_eq}
-use Rattle.std.proofs.lemmas.List.{get_or-set_same, get_or-set_other, length-set}
-use Rattle.cq_prefs.specs.Orders.{Orders, AreOffers, ports, outputs_of, inputs_of, place_of}
-use Rattle.cq_prefs.specs.Pairing.{Partners, partner_of}
-use Rattle.cq_prefs.proofs.Holding.{matching_of-is}
-use Rattle.cq_prefs.specs.Proposals.{State, position_held, Holds, holder, matching_of, IsSound}
-use Rattle.cq_prefs.proofs.Places.{same_at_place, input_in_range, output_in_range, inputs_at_most}
-use mathlib.Core.Option.{some}
-use lib.ListN.{get_elem?}
-use Rattle.cq_ledger.specs.Reading.{Shows}
+use Rattle.cq_ledger.proofs.Terms.{rules, ℕ, ◌≡◌, ◌≢◌, ◌+◌, ◌<◌, List, length, get_or, set, Option, Some, None, refl, sym, ◌∙◌, ap, arith, add-one, common_steps, cases_eq, get_or-set_same, get_or-set_other, length-set, Orders, AreOffers, ports, outputs_of, inputs_of, Partners, partner_of, matching_of-is, State, position_held, Holds, holder, matching_of, IsSound, same_at_place, input_in_range, output_in_range, inputs_at_most, some, get_elem?, Shows}
 use Rattle.cq_ledger.proofs.Hands.{holder-holds}
 use Rattle.cq_ledger.proofs.Views.{at_known}
 
@@ -33,17 +22,9 @@ module _ (o : Orders) (v : AreOffers o) (s : State) (w : IsSound o s) (m : Partn
   reads_skip e =
       record {
         size = r.size;
-        there = λ k q h. let a = r.there k q h in (omega arith, a.1);
-        back = λ k q l h. go k q l h (cases_eq q n);
+        there = λ k q h. search (arith, rules, r.there k q h);
+        back = λ k q l h. grind (arith, common_steps, r.back k q, inputs_at_most o v n, cases_eq q n);
       }
-    where
-      go : (k q : ℕ) → q < n + 1 → Holds o s q k → (q ≡ n) ⊎ (q ≢ n) → partner_of m k ≡ Some q
-      go k q l h (inr d) = r.back k q (omega arith) h
-      go k q l h (inl d) =
-          let P : ℕ → Type 0 = λ x. Holds o s x k in
-          let b : Holds o s n k = subst P d h in
-          let most = inputs_at_most o v n in
-          absurd (omega arith)
 
   module _ (range : n < ports o) (somebody : position_held s n ≢ ports o) where
     abbrev k : ℕ
@@ -58,43 +39,21 @@ module _ (o : Orders) (v : AreOffers o) (s : State) (w : IsSound o s) (m : Partn
     k_free : (k < length m) × (partner_of m k ≡ None)
     k_free = (
       let a = k_in_range in omega arith,
-      none_unless _ (λ q e.
-          let a = r.there k q e in
-          let x = w.last k q a.1 in let y = w.last k n hold in
-          let z : place_of o k q ≡ place_of o k n = omega arith in
-          let same = same_at_place (outputs_of o k) q n z (v.shown_back k q a.1.1) in
-          absurd (omega arith)),
+      none_unless _ (λ q e. let a = r.there k q e in
+          search (arith, rules, w.last k q a.1, w.last k n hold, same_at_place (outputs_of o k) q n, v.shown_back k q)),
     )
 
     reads_more : IsRead o s (set m k (Some n)) (n + 1)
     reads_more =
+        let free = k_free in
+        let here = hold in
+        let same = get_or-set_same m k in
+        let other = get_or-set_other m k in
         record {
           size = length-set m k _ ∙ r.size;
-          there = λ x q e. forth x q e (cases_eq x k);
-          back = λ x q l h. fro x q l h (cases_eq q n);
+          there = λ x q e. grind (arith, common_steps, r.there x q, same, other x, free, here);
+          back = λ x q l h. grind (arith, common_steps, r.back x q, same, other x, same_at_place, free, here);
         }
-      where
-        forth : (x q : ℕ) → partner_of (set m k (Some n)) x ≡ Some q → (x ≡ k) ⊎ (x ≢ k) → (q < n + 1) × Holds o s q x
-        forth x q e (inl d) =
-            let a : partner_of (set m k (Some n)) k ≡ Some q = rw d at e in
-            let b : partner_of (set m k (Some n)) k ≡ Some n = get_or-set_same m k (Some n) None k_free.0 in
-            let same : n ≡ q = cc in
-            let P : ℕ → Type 0 = λ z. Holds o s z k in
-            rw d (omega arith, subst P same hold)
-        forth x q e (inr d) =
-            let a = r.there x q (sym (get_or-set_other m k x (Some n) None d) ∙ e) in
-            (omega arith, a.1)
-
-        fro : (x q : ℕ) → q < n + 1 → Holds o s q x → (q ≡ n) ⊎ (q ≢ n) → partner_of (set m k (Some n)) x ≡ Some q
-        fro x q l h (inl d) =
-            let P : ℕ → Type 0 = λ z. Holds o s z x in
-            let b : Holds o s n x = subst P d h in
-            let same : x ≡ k = same_at_place (inputs_of o n) x k (let z = hold.0 in omega arith) b.1 in
-            rw (same, d) (get_or-set_same m k (Some n) None k_free.0)
-        fro x q l h (inr d) =
-            let before = r.back x q (omega arith) h in
-            let apart : x ≢ k = λ e. (let a = ap (λ z. partner_of m z) e in let b = k_free.1 in let P : ⊥ = cc in P) in
-            get_or-set_other m k x (Some n) None apart ∙ before
 
 pub reads_all : (o : Orders) → AreOffers o → (s : State) → IsSound o s → (m : Partners) → IsRead o s m (ports o) →
     m ≡ matching_of o s
@@ -121,11 +80,7 @@ module _ (o : Orders) (items : List ℕ) (s : State) (n x : ℕ) (is : IsWord o 
     held e = somebody (word_is ∙ e ∙ sym all)
 
     pub holder_inside : x < length order
-    holder_inside = go (is.sound.held_in n is.range)
-      where
-        go : (position_held s n ≡ ports o) ⊎ (position_held s n < length (inputs_of o n)) → x < length order
-        go (inl e) = absurd (held e)
-        go (inr l) = let a = ap length same in let b = word_is in omega arith
+    holder_inside = grind (arith, common_steps, is.sound.held_in n is.range, held, word_is)
 
     holder_is : get_or order x 0 ≡ holder o s n
     holder_is = ap (λ l. get_or l x 0) same ∙ ap (λ y. get_or (inputs_of o n) y 0) word_is
@@ -136,6 +91,4 @@ module _ (o : Orders) (items : List ℕ) (s : State) (n x : ℕ) (is : IsWord o 
 
     pub word_joins : (v : AreOffers o) (m : Partners) → IsRead o s m n →
         IsRead o s (set m (get_or order x 0) (Some n)) (n + 1)
-    word_joins v m r =
-        let P : ℕ → Type 0 = λ y. IsRead o s (set m y (Some n)) (n + 1) in
-        subst P (sym holder_is) (reads_more o v s is.sound m n r is.range held)
+    word_joins v m r = rw holder_is (reads_more o v s is.sound m n r is.range held)

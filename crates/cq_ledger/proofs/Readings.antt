@@ -1,10 +1,5 @@
 -- What is read from offers.
-use Rattle.std.proofs.lemmas.Grind.{common_steps}
-use Rattle.std.proofs.Common.{ℕ, ◌≡◌, ◌<◌, List, length, get_or, arith}
-use Rattle.std.proofs.lemmas.Bool.{cases_lt}
-use Rattle.std.proofs.lemmas.List.{get_or_past}
-use Rattle.cq_prefs.specs.Orders.{Orders, AreOffers, ports, outputs_of, IsOffered}
-use Rattle.cq_prefs.proofs.Places.{place_of-at}
+use Rattle.cq_ledger.proofs.Terms.{common_steps, ℕ, ◌≡◌, ◌<◌, List, length, get_or, arith, cases_lt, get_or_past, Orders, AreOffers, ports, outputs_of, IsOffered, place_of-at}
 
 pub offered-at : (o : Orders) → AreOffers o → (i p : ℕ) (order : List ℕ) → order ≡ outputs_of o i →
     p < length (outputs_of o i) → IsOffered o i (get_or order p 0)

@@ -1,16 +1,9 @@
 -- A seat keeps the numbers of its view through each kind of step, and a call on a ledger finds there what it was
 -- promised of the seat.
-use Rattle.std.proofs.Common.{rules, ℕ, ◌≡◌, ◌+◌, ◌<◌, ◌^◌, Option, sym, ◌∙◌, ap, subst, bit_or, arith}
-use Rattle.std.proofs.lemmas.Grind.{common_steps}
+use Rattle.cq_ledger.proofs.Terms.{rules, ℕ, ◌≡◌, ◌+◌, ◌<◌, ◌^◌, Option, sym, ◌∙◌, ap, bit_or, arith, common_steps, Orders, ports, Outcome, View, Seated, IsProposal, hand_at, hand_after, answer_of, claim_taken, bit, HasClaimed}
 use Rattle.atomic_table.specs.Seated.{TableId}
-use Rattle.cq_prefs.specs.Orders.{Orders, ports}
-use Rattle.cq_prefs.specs.declared.outcome.Outcome.{Outcome}
-use Rattle.cq_ledger.specs.declared.view.View.{View}
-use Rattle.cq_ledger.specs.Plays.{Seated, IsProposal}
 use Rattle.cq_ledger.specs.SeatFields.{IsSeat}
 use Rattle.cq_ledger.specs.Seats.{LedgerState, SeatState, IsSeatOf, HasClaimedAll}
-use Rattle.cq_ledger.specs.Steps.{hand_at, hand_after, answer_of, claim_taken}
-use Rattle.cq_ledger.specs.Views.{bit, HasClaimed}
 use Rattle.cq_ledger.proofs.Hands.{hand_at-placed, hand_after-placed}
 
 -- what a call knows of the fields of a ledger and of a seat of it
@@ -31,31 +24,20 @@ module _ (me : Seated) (claims : ℕ) (hand : Option (ℕ × ℕ)) (made : ℕ) 
   where
     pub taken-seat : (i bit : ℕ) (hand' : Option (ℕ × ℕ)) → me' ≡ (claim_taken me.0 i, me.1) → bit ≡ 2 ^ i →
         hand' ≡ hand_at me.0.offers i 0 → IsSeat me' (bit_or claims bit) hand' made
-    taken-seat i bit hand' is bit_is hand_is =
-        let P : Seated → Type 0 = λ m. IsSeat m (bit_or claims bit) hand' made in
-        subst P (sym is) (
-        record {
-          claimed = ap (λ n. bit_or n (2 ^ i)) s.claimed ∙ ap (bit_or claims) (sym bit_is);
-          in_hand = sym hand_is;
-          counted = s.counted;
-          no_slot = s.no_slot;
-          placed = λ q p e. hand_at-placed me.0.offers i 0 (q, p) e;
-          few = s.few;
-        })
+    taken-seat i bit hand' is bit_is hand_is = rw (is, hand_is, bit_is) (search (arith, rules, hand_at-placed))
 
     pub proposed-seat : (i p found : ℕ) (answer : Outcome) (hand' : Option (ℕ × ℕ)) → IsProposal me i p found me' →
         answer ≡ answer_of me.0.offers i p found → hand' ≡ hand_after me.0.offers i p answer →
         IsSeat me' claims hand' (made + 1)
     proposed-seat i p found answer hand' is answer_is hand_is =
-        let hand_found : me'.0.hand ≡ hand_after me.0.offers i p answer =
-        ap (λ v. v.hand) is.view ∙ ap (hand_after me.0.offers i p) (sym answer_is) in
+        let hand_found = ap (λ v. v.hand) is.view ∙ ap (hand_after me.0.offers i p) (sym answer_is) in
+        let view = is.view in
         record {
-          claimed = ap (λ v. v.claims) is.view ∙ s.claimed;
-          in_hand = hand_found ∙ sym hand_is;
-          counted = ap (λ v. v.made) is.view ∙ ap (λ n. n + 1) s.counted;
-          no_slot = is.slots ∙ s.no_slot;
-          placed = λ q r e.
-              search (arith, rules, hand_after-placed me.0.offers i p answer (q, r) (sym hand_found ∙ e));
+          claimed = cc;
+          in_hand = cc;
+          counted = cc;
+          no_slot = cc;
+          placed = λ q r e. search (arith, rules, hand_after-placed me.0.offers i p answer (q, r) (sym hand_found ∙ e));
           few = is.few;
         }
 

@@ -1,23 +1,10 @@
 -- What the rule of a ledger comes to in the words of proposals: the state that words and views show is one that
 -- proposals reach, so all that is known of such a state holds of it.
-use Rattle.std.proofs.Common.{rules, ℕ, suc, ◌≡◌, ◌<◌, ◌≤◌, List, length, get_or, Some, sym, ◌∙◌, ap, arith, subst}
-use Rattle.std.specs.Prelude.{sum}
+use Rattle.cq_ledger.proofs.Terms.{rules, ℕ, suc, ◌≡◌, ◌<◌, ◌≤◌, List, length, get_or, Some, sym, ◌∙◌, ap, arith, sum, Orders, ports, outputs_of, place_of, position_of, partner_of, State, next_place, IsSound, state_after, sum-places, held_once, output_in_range, sound-after, View, IsLedger, core_state, Sits}
 use Rattle.cq_prefs.specs.LeastFirst.{best}
-use Rattle.cq_prefs.specs.Orders.{Orders, ports, outputs_of, place_of, position_of}
-use Rattle.cq_prefs.specs.Pairing.{partner_of}
-use Rattle.cq_prefs.specs.Proposals.{State, next_place, IsSound, state_after}
-use Rattle.cq_prefs.proofs.Counts.{sum-places}
-use Rattle.cq_prefs.proofs.Holding.{held_once}
 use Rattle.cq_prefs.proofs.LeastFirst.{input_best-best}
 use Rattle.cq_prefs.proofs.Passing.{none_passed-after}
-use Rattle.cq_prefs.proofs.Places.{output_in_range}
-use Rattle.cq_prefs.proofs.Steps.{sound-after}
-use Rattle.cq_ledger.specs.declared.view.View.{View}
 use Rattle.cq_ledger.specs.Moments.{IsInOnePlace, ShowsProposals}
-use Rattle.cq_ledger.specs.Plays.{IsWord}
-use Rattle.cq_ledger.specs.Rule.{IsLedger}
-use Rattle.cq_ledger.specs.Shown.{core_state}
-use Rattle.cq_ledger.specs.Views.{Sits}
 use Rattle.cq_ledger.proofs.CoreState.{core_state-is}
 
 module _ (o : Orders) (words : List ℕ) (views : List View) (k : IsLedger o words views) where
@@ -38,28 +25,22 @@ module _ (o : Orders) (words : List ℕ) (views : List View) (k : IsLedger o wor
   hand-is a i p v at h = search (rules)
 
   asked-is : (i j : ℕ) → j < ports o → place_of o i j < next_place s i → get_or words (suc j) 0 ≤ position_of o j i
-  asked-is i j r l = let a = w.asked_before i j l in let b = k.positions j r in omega arith
+  asked-is i j r l = omega (arith, w.asked_before i j l, k.positions j r)
 
   not_passed-is : (i j : ℕ) → partner_of (best o) i ≡ Some j → position_of o j i ≤ get_or words (suc j) 0
   not_passed-is i j e =
       let stable = (input_best-best o k.offers).stable in
       let r = output_in_range o k.offers i j (stable.matching.offered i j e) in
-      let a = none_passed-after o k.offers k.events k.are_events (best o) stable i j e in
-      let b = k.positions j r in omega arith
+      omega (arith, none_passed-after o k.offers k.events k.are_events (best o) stable i j e, k.positions j r)
 
   pub shows_proposals : ShowsProposals o words views
   shows_proposals =
-      let One : State → Type 0 = λ t. (i : ℕ) → IsInOnePlace o words views t i in
-      let Hand : State → Type 0 = λ t. (a i p : ℕ) (v : View) → Sits views a v → v.hand ≡ Some (i, p)
-      → (next_place t i ≡ p) × (p < length (outputs_of o i)) in
-      let Asked : State → Type 0 = λ t. (i j : ℕ) → j < ports o → place_of o i j < next_place t i
-      → get_or words (suc j) 0 ≤ position_of o j i in
       record {
         reached = record { events = k.events; are_events = k.are_events; state = is; count = k.made };
         made = k.made ∙ sym (sum-places o k.offers k.events k.are_events) ∙ ap (λ t. sum t.places) (sym is);
-        word = λ j r. subst (IsWord o j) (sym (k.positions j r)) (w.held_in j r);
-        one_place = subst One (sym is) in_one_place;
-        hand = subst Hand (sym is) hand-is;
-        asked = subst Asked (sym is) asked-is;
+        word = λ j r. rw (k.positions j r) (w.held_in j r);
+        one_place = rw is in_one_place;
+        hand = rw is hand-is;
+        asked = rw is asked-is;
         not_passed = not_passed-is;
       }

@@ -1,12 +1,5 @@
 -- Lists of views, and the bits of numbers.
-use Rattle.std.proofs.Common.{ℕ, zero, suc, ◌≡◌, ◌≢◌, ◌⊎◌, inl, inr, ◌<◌, ◌≤◌, ◌^◌, ◌%◌, List, [], ◌∷◌, length, get_or, sym, ◌∙◌, ap, arith, bit_or}
-use mathlib.Core.Option.{some, some-injective, some-ne-none}
-use lib.ListN.{get_elem?}
-use lib.Pow.{pow_mono}
-use Rattle.std.proofs.Math.Nat.{div-eq_of_lt}
-use Rattle.std.proofs.lemmas.Bool.{cases_eq}
-use Rattle.std.proofs.lemmas.Nat.Bits.{bit_at_or, bit_at-pow_same, bit_at-pow_other, bit_at-zero, bit_at-lt, same_from_bits}
-use Rattle.cq_ledger.specs.Views.{bit}
+use Rattle.cq_ledger.proofs.Terms.{ℕ, zero, suc, ◌≡◌, ◌≢◌, ◌⊎◌, ◌<◌, ◌≤◌, ◌^◌, ◌%◌, List, [], ◌∷◌, length, get_or, sym, ◌∙◌, ap, arith, bit_or, some, some-injective, some-ne-none, get_elem?, pow_mono, div-eq_of_lt, cases_eq, bit_at_or, bit_at-pow_same, bit_at-pow_other, bit_at-zero, bit_at-lt, same_from_bits, bit, common_steps}
 
 -- a view that stands at a place of the list
 pub at_known : {A : Type 0} → (xs : List A) (i : ℕ) (a d : A) → get_elem? xs i ≡ some a →
@@ -37,27 +30,15 @@ bit-zero q = bit_at-zero q
 -- a bit that is set already
 pub or_set : (n i : ℕ) → bit n i ≡ 1 → bit_or n (2 ^ i) ≡ n
 unfolding bit
-or_set n i h = same_from_bits _ _ (λ q. at q (cases_eq q i))
-  where
-    at : (q : ℕ) → (q ≡ i) ⊎ (q ≢ i) → bit (bit_or n (2 ^ i)) q ≡ bit n q
-    at q (inl e) = rw e (bit-or_same n i ∙ sym h)
-    at q (inr m) = bit-or_other n i q m
+or_set n i h = same_from_bits _ _ (λ q. grind (arith, cases_eq q i, bit-or_same n i, bit-or_other n i q))
 
 pub no_bits : (n : ℕ) → ((q : ℕ) → bit n q ≡ 1 → ⊥) → n ≡ 0
 unfolding bit
-no_bits n h = same_from_bits n 0 (λ q. (let a = bit_at-lt n q in go q (cases_eq (bit n q) 1)) ∙ sym (bit_at-zero q))
-  where
-    go : (q : ℕ) → (bit n q ≡ 1) ⊎ (bit n q ≢ 1) → bit n q ≡ 0
-    go q (inl e) = absurd (h q e)
-    go q (inr m) = let a = bit-lt n q in omega arith
+no_bits n h = same_from_bits n 0 (λ q. grind (arith, common_steps, bit_at-lt n q, bit_at-zero q, h q))
 
 pub bit-either : (a b q : ℕ) → bit (bit_or a b) q ≡ 1 → (bit a q ≡ 1) ⊎ (bit b q ≡ 1)
 unfolding bit
-bit-either a b q h = go (cases_eq (bit a q) 1)
-  where
-    go : (bit a q ≡ 1) ⊎ (bit a q ≢ 1) → (bit a q ≡ 1) ⊎ (bit b q ≡ 1)
-    go (inl e) = inl e
-    go (inr n) = inr (let x = bit_at_or a b q in let y = bit-lt a q in let z = bit-lt b q in omega arith)
+bit-either a b q h = grind (arith, common_steps, bit_at_or a b q, bit-lt a q, bit-lt b q)
 
 pub bit-left : (a b q : ℕ) → bit a q ≡ 1 → bit (bit_or a b) q ≡ 1
 unfolding bit
@@ -70,14 +51,7 @@ bit-right a b q h = let x = bit_at_or a b q in let y = bit-lt a q in let z = bit
 -- a power of two says which
 pub one_power : (i q : ℕ) → 2 ^ i ≡ 2 ^ q → i ≡ q
 unfolding bit
-one_power i q e = go (cases_eq q i)
-  where
-    go : (q ≡ i) ⊎ (q ≢ i) → i ≡ q
-    go (inl s) = sym s
-    go (inr n) =
-        let a = bit_at-pow_other i q n in
-        let b = bit_at-pow_same q in
-        let c = ap (λ m. bit m q) e in absurd (omega arith)
+one_power i q e = grind (arith, common_steps, bit_at-pow_other i q, bit_at-pow_same q, cases_eq q i)
 
 pub clear_if : (n i : ℕ) → bit n i ≢ 1 → bit n i ≡ 0
 clear_if n i h = let b = bit-lt n i in omega arith

@@ -1,11 +1,7 @@
 -- Why a text is read in one way. At a place one line at most stands at the front, and it leads to one place. So of
 -- two readings neither parts from the other: they have the same lines as long as both go on, and where one finds no
 -- line that may come, or the end, so does the other.
-use Rattle.std.proofs.Common.{arith, ◌≡◌, ◌≢◌, ℕ, ◌+◌, List, [], ◌∷◌, ◌++◌, refl, ap, sym, ◌∙◌, append_assoc, length, subst}
-use Rattle.std.proofs.lemmas.Grind.{common_steps}
-use Rattle.std.specs.List.{flat_map}
-use Rattle.std.proofs.lemmas.List.{append-nil}
-use Rattle.cq_lines.specs.Texts.{Leads, IsExact}
+use Rattle.cq_lines.proofs.Terms.{rules, arith, ◌≡◌, ◌≢◌, ℕ, ◌+◌, List, [], ◌∷◌, ◌++◌, refl, ap, sym, ◌∙◌, append_assoc, common_steps, flat_map, append-nil, Leads, IsExact}
 
 -- At a sound place one line at most stands at the front, it leads to one place, which is sound, and it has a letter
 -- at least.
@@ -25,10 +21,9 @@ module _ {P X : Type 0} (spelling : X → List ℕ) (Rule : P → X → P → Ty
   same_stop : (p : P) (xs ys : List X) (q r : P) (a b : List ℕ) → IsSound p → Leads Rule p xs q → Leads Rule p ys r →
       flat_map spelling xs ++ a ≡ flat_map spelling ys ++ b → NoLine q a → NoLine r b → (xs ≡ ys) × (q ≡ r) × (a ≡ b)
   same_stop p [] [] q r a b sound l m e none_a none_b = (refl, sym l ∙ m, e)
-  same_stop p [] (y ∷ ys) q r a b sound l m e none_a none_b = grind (arith, common_steps, append_assoc)
-  same_stop p (x ∷ xs) [] q r a b sound l m e none_a none_b = grind (arith, common_steps, append_assoc)
   same_stop p (x ∷ xs) (y ∷ ys) q r a b sound l m e none_a none_b =
       grind (arith, common_steps, append_assoc, same_stop l.0 xs ys q r a b (way.sound p l.0 x sound l.1) l.2)
+  same_stop p _ _ q r a b sound l m e none_a none_b = grind (arith, common_steps, append_assoc)
 
   nothing_left : (p : P) → NoLine p []
   nothing_left p x more q step e = way.some p q x more step (sym e)
@@ -38,12 +33,9 @@ module _ {P X : Type 0} (spelling : X → List ℕ) (Rule : P → X → P → Ty
     one_reading = λ xs ys text f g.
         (same_stop start xs ys f.last g.last [] [] sound f.allowed g.allowed (ap (λ t. t ++ []) (sym f.spelled
         ∙ g.spelled)) (nothing_left f.last) (nothing_left g.last)).0;
-    one_fault = λ text m n f g.
-        let same = same_stop start f.before g.before f.last g.last f.rest g.rest sound f.allowed g.allowed (sym
-        f.spelled ∙ g.spelled) f.no_line g.no_line in
-        f.number ∙ ap (λ xs. length xs + 1) same.0 ∙ sym g.number;
+    one_fault = search (arith, rules, same_stop);
     never_both = λ xs text n f g.
-        let same = same_stop start xs g.before f.last g.last [] g.rest sound f.allowed g.allowed (append-nil
-        (flat_map spelling xs) ∙ sym f.spelled ∙ g.spelled) (nothing_left f.last) g.no_line in
-        g.no_end (sym same.2) (subst MayEnd same.1 f.ended);
+        let same = same_stop start xs g.before f.last g.last [] g.rest sound f.allowed g.allowed in
+        let whole = append-nil (flat_map spelling xs) in
+        search (arith, rules, nothing_left f.last);
   }

@@ -1,3 +1,4 @@
+mod Terms
 pub mod Spelling
 pub mod Walk
 pub mod Going

@@ -2,16 +2,9 @@
 -- with the same digits are one. Digits with more digits behind them say a greater number, and 0 stands at the front
 -- of no other digit. So a text that goes on with digits behind those of one number begins with no lesser number, and
 -- with none at all behind a 0.
-use Rattle.std.proofs.Common.{rules, ◌≡◌, ℕ, zero, suc, ◌+◌, ◌-◌, ◌*◌, ◌/◌, ◌%◌, ◌^◌, ◌<◌, ◌≤◌, ◌⊎◌, List, [], ◌∷◌, ◌++◌, map, drop, get_or, Option, None, Some, refl, ap, sym, subst, ◌∙◌, arith, lit≤, ⊎_elim, append_assoc}
-use Rattle.std.specs.Int.{IsInRange}
-use Rattle.std.specs.Int.Digits.{digits_of, number_from_digits_after, AllBelowBase}
-use Rattle.std.specs.List.{AllByRecursion}
-use Rattle.std.proofs.lemmas.List.{append-nil}
-use Rattle.std.proofs.lemmas.Int.Digits.{number_digits_of, all_below_base_digits_of, first_digits_of}
-use Rattle.cq_base.specs.Decimal.{decimal}
+use Rattle.cq_lines.proofs.Terms.{rules, ◌≡◌, ℕ, zero, suc, ◌+◌, ◌-◌, ◌*◌, ◌/◌, ◌%◌, ◌^◌, ◌<◌, ◌≤◌, ◌⊎◌, List, [], ◌∷◌, ◌++◌, map, drop, get_or, Option, None, Some, refl, ap, sym, subst, ◌∙◌, arith, lit≤, append_assoc, IsInRange, digits_of, number_from_digits_after, AllBelowBase, AllByRecursion, append-nil, number_digits_of, all_below_base_digits_of, first_digits_of, decimal, EndsDigits, BeginsWith}
 use Rattle.cq_base.proofs.Decimals.{decimal_small, decimal_above, decimal_more}
 use Rattle.std.proofs.Math.ListN.{get_or-map}
-use Rattle.cq_lines.specs.Lines.{EndsDigits, BeginsWith}
 
 abbrev pub AreDigits : List ℕ → Type 0
 AreDigits ds = AllByRecursion (IsInRange 48 57) ds
@@ -21,7 +14,7 @@ digits_from_values [] a = tt
 digits_from_values (d ∷ ds) a = let small : d < 10 = a.0 in ((omega arith, omega arith), digits_from_values ds a.1)
 
 pub decimal_digits : (n : ℕ) → AreDigits (decimal n)
-decimal_digits zero = let e : decimal 0 ≡ 48 ∷ [] = decimal_small 0 (lit≤ tt) in
+decimal_digits zero = let e = decimal_small 0 (lit≤ tt) in
     subst AreDigits (sym e) ((lit≤ tt, lit≤ tt), tt)
 decimal_digits (suc k) = subst AreDigits (sym (decimal_above (suc k) (omega arith))) (digits_from_values _
     (all_below_base_digits_of 10 (suc k) (lit≤ tt)))
@@ -84,13 +77,12 @@ decimal_is_some n e =
 
 alone_behind_zero : (n d : ℕ) (ds : List ℕ) → decimal n ≡ 48 ∷ d ∷ ds → ⊥
 alone_behind_zero zero d ds e = let none : List ℕ = [] in
-    let clash : none ≡ d ∷ ds = ap (drop 1) (sym (decimal_small 0 (lit≤ tt)) ∙ e) in absurd (let P : ⊥ = cc in P)
+    let clash = ap (drop 1) (sym (decimal_small 0 (lit≤ tt)) ∙ e) in absurd (let P : ⊥ = cc in P)
 alone_behind_zero (suc k) d ds e = let first = first_digit (suc k) (omega arith) in
     let is = ap (λ cs. get_or cs 0 48) e in omega arith
 
 above_zero : (m n d : ℕ) (ds : List ℕ) → decimal n ≡ decimal m ++ (48 + d) ∷ ds → 0 < m
-above_zero zero n d ds e = absurd (alone_behind_zero n (48 + d) ds (e
-    ∙ ap (λ cs. cs ++ (48 + d) ∷ ds) (decimal_small 0 (lit≤ tt))))
+above_zero zero n d ds e = absurd (search (arith, rules, alone_behind_zero, decimal_small))
 above_zero (suc m) n d ds e = omega arith
 
 -- digits with one more digit behind them say ten times their number at least, and are not those of 0
@@ -102,36 +94,31 @@ more_digits m n d ds e =
 -- ## What a text begins with
 
 pub no_number : (text : List ℕ) → EndsDigits text → (n : ℕ) (rest : List ℕ) → BeginsWith text (Some n) rest → ⊥
-no_number text ends n rest begins = decimal_is_some n (nothing_goes_on (decimal n) text rest (decimal_digits n) ends
-    begins.spelled)
+no_number text ends n rest begins = decimal_is_some n (search (arith, rules, nothing_goes_on, decimal_digits))
 
 pub one_number : (text x y : List ℕ) (m n : ℕ) → BeginsWith text (Some m) x → BeginsWith text (Some n) y →
     (m ≡ n) × (x ≡ y)
-one_number text x y m n a b = same more.0 more.1 more.2
-  where
-    more : (ds : List ℕ) × (decimal n ≡ decimal m ++ ds) × (x ≡ ds ++ y)
-    more = digits_go_on (decimal m) (decimal n) x y (decimal_digits m) (decimal_digits n) b.ended (sym a.spelled
-        ∙ b.spelled)
+one_number text x y m n a b =
+    let more = digits_go_on (decimal m) (decimal n) x y (decimal_digits m) (decimal_digits n) b.ended (sym a.spelled
+    ∙ b.spelled) in
+    let digits = all_behind (decimal m) more.0 (subst AreDigits more.1 (decimal_digits n)) in
+    let none = nothing_goes_on more.0 x y digits a.ended more.2 in
+    search (arith, rules, decimal_injective, append-nil)
 
-    digit_behind : (ds : List ℕ) (d : ℕ) → decimal n ≡ decimal m ++ d ∷ ds → IsInRange 48 57 d
-    digit_behind ds d e = (all_behind (decimal m) (d ∷ ds) (subst AreDigits e (decimal_digits n))).0
+both_digits : (xs ys : List ℕ) → AreDigits xs → AreDigits ys → AreDigits (xs ++ ys)
+both_digits [] ys a b = b
+both_digits (x ∷ xs) ys a b = (a.0, both_digits xs ys a.1 b)
 
-    same : (ds : List ℕ) → decimal n ≡ decimal m ++ ds → x ≡ ds ++ y → (m ≡ n) × (x ≡ y)
-    same [] e f = (decimal_injective m n (sym (append-nil (decimal m)) ∙ sym e), f)
-    same (d ∷ ds) e f = absurd (subst EndsDigits f a.ended (digit_behind ds d e))
-
--- a text that goes on with a digit behind those of one number
-pub goes_on : (text after : List ℕ) (m d : ℕ) → d < 10 → text ≡ decimal m ++ (48 + d) ∷ after →
-    (n : ℕ) (rest : List ℕ) → BeginsWith text (Some n) rest → (0 < m) × (m * 10 + d ≤ n)
-goes_on text after m d small e n rest begins = from more.0 more.1 more.2
-  where
-    more : (ds : List ℕ) × (decimal n ≡ decimal m ++ ds) × ((48 + d) ∷ after ≡ ds ++ rest)
-    more = digits_go_on (decimal m) (decimal n) ((48 + d) ∷ after) rest (decimal_digits m) (decimal_digits n)
-        begins.ended (sym e ∙ begins.spelled)
-
-    from : (ds : List ℕ) → decimal n ≡ decimal m ++ ds → (48 + d) ∷ after ≡ ds ++ rest → (0 < m) × (m * 10 + d ≤ n)
-    from [] f g = absurd (subst EndsDigits (sym g) begins.ended (omega arith, omega arith))
-    from (c ∷ ds) f g = let same : c ≡ 48 + d = cc in more_digits m n d ds (f ∙ ap (λ h. decimal m ++ h ∷ ds) same)
+-- no number of 128 bits is spelled so: another digit stands behind a 0, or behind digits that say too much with it
+pub none_goes_on : (text rest after : List ℕ) (m d : ℕ) → d < 10 → text ≡ decimal m ++ rest →
+    rest ≡ (48 + d) ∷ after → (m ≡ 0) ⊎ (2 ^ 128 ≤ m * 10 + d) → (n : ℕ) (end : List ℕ) → n < 2 ^ 128 →
+    BeginsWith text (Some n) end → ⊥
+none_goes_on text rest after m d small e f why n end fits begins =
+    let one = (48 + d) ∷ [] in
+    let digits = both_digits (decimal m) one (decimal_digits m) ((omega arith, omega arith), tt) in
+    let read : (decimal m ++ one) ++ after ≡ decimal n ++ end = search (arith, rules, append_assoc) in
+    let more = digits_go_on (decimal m ++ one) (decimal n) after end digits (decimal_digits n) begins.ended read in
+    let said = more_digits m n d more.0 (more.1 ∙ append_assoc (decimal m) one more.0) in omega arith
 
 pub digit_alone : (text rest : List ℕ) (n d : ℕ) → d < 10 → n ≡ d → text ≡ (48 + d) ∷ rest → text ≡ decimal n ++ rest
 digit_alone text rest n d small is e =
@@ -143,26 +130,11 @@ pub one_digit_more : (text rest after : List ℕ) (m n d : ℕ) → d < 10 → 0
 one_digit_more text rest after m n d small above is e f =
     let whole : n / 10 ≡ m = omega arith in search (arith, rules, decimal_more, append_assoc)
 
--- no number of 128 bits is spelled so: another digit stands behind a 0, or behind digits that say too much with it
-pub none_goes_on : (text rest after : List ℕ) (m d : ℕ) → d < 10 → text ≡ decimal m ++ rest →
-    rest ≡ (48 + d) ∷ after → (m ≡ 0) ⊎ (2 ^ 128 ≤ m * 10 + d) → (n : ℕ) (end : List ℕ) → n < 2 ^ 128 →
-    BeginsWith text (Some n) end → ⊥
-none_goes_on text rest after m d small e f why n end fits begins =
-    let more = goes_on text after m d small (e ∙ ap (λ r. decimal m ++ r) f) n end begins in
-    ⊎_elim (λ none. absurd (omega arith)) (λ much. absurd (omega arith)) why
-
 -- ## Fields
-
-minus_is_no_number : (rest x : List ℕ) (n : ℕ) → 45 ∷ rest ≡ decimal n ++ x → ⊥
-minus_is_no_number rest x n e = head (decimal n) (decimal_is_some n) (decimal_digits n) e
-  where
-    head : (ds : List ℕ) → (ds ≡ [] → ⊥) → AreDigits ds → 45 ∷ rest ≡ ds ++ x → ⊥
-    head [] some digits e = some refl
-    head (d ∷ ds) some digits e = let is : 45 ≡ d = cc in let low = digits.0.0 in omega arith
 
 -- one text begins with one field
 pub one_field : (text x y : List ℕ) (f g : Option ℕ) → BeginsWith text f x → BeginsWith text g y → (f ≡ g) × (x ≡ y)
 one_field text x y None None a b = (refl, let e : 45 ∷ x ≡ 45 ∷ y = sym a.spelled ∙ b.spelled in ap (drop 1) e)
-one_field text x y None (Some n) a b = absurd (minus_is_no_number x y n (sym a.spelled ∙ b.spelled))
-one_field text x y (Some m) None a b = absurd (minus_is_no_number y x m (sym b.spelled ∙ a.spelled))
+one_field text x y None (Some n) a b = absurd (no_number text (rw a.spelled (λ digit. omega arith)) n y b)
+one_field text x y (Some m) None a b = absurd (no_number text (rw b.spelled (λ digit. omega arith)) m x a)
 one_field text x y (Some m) (Some n) a b = let same = one_number text x y m n a b in (ap Some same.0, same.1)

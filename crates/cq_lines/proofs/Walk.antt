@@ -1,11 +1,8 @@
 -- Reading a line field by field. What was read so far stands at the front of the text, and whoever reads a whole line
 -- there reads the same fields first, and the rest of his line from the rest of the text. So where no field can go on,
 -- no line stands there.
-use Rattle.std.proofs.Common.{rules, ◌≡◌, ◌≢◌, ℕ, suc, ◌+◌, ◌<◌, ◌≤◌, List, [], ◌∷◌, ◌++◌, length, take, drop, set, get_or, Option, None, Some, refl, ap, sym, ◌∙◌, arith, append_assoc, length-set}
-use Rattle.std.proofs.lemmas.List.{append-nil, append_cancel_left, take_more_set, take_more, take_all}
-use Rattle.cq_lines.specs.Lines.{field, ending, line, EndsDigits, MayFollow, BeginsWith, Fits, AllFit}
+use Rattle.cq_lines.proofs.Terms.{common_steps, rules, ◌≡◌, ◌≢◌, ℕ, suc, ◌+◌, ◌<◌, ◌≤◌, List, [], ◌∷◌, ◌++◌, length, take, drop, set, get_or, Option, None, Some, refl, ap, sym, ◌∙◌, arith, append_assoc, length-set, append-nil, append_cancel_left, take_more_set, take_more, take_all, field, ending, line, EndsDigits, MayFollow, BeginsWith, Fits, AllFit, InRange, Within, any_number}
 use Rattle.cq_lines.specs.declared.range.Range.{Range}
-use Rattle.cq_lines.specs.Ranges.{InRange, Within, any_number}
 use Rattle.cq_lines.proofs.Spelling.{one_field}
 
 -- fields, each behind one blank, with no end yet
@@ -29,34 +26,19 @@ may_follow (Some n) rest ends = ends
 
 pub begun_more : (fs : List (Option ℕ)) (f : Option ℕ) → begun (fs ++ f ∷ []) ≡ begun fs ++ 32 ∷ field f
 begun_more [] f = ap (λ t. 32 ∷ t) (append-nil (field f))
-begun_more (g ∷ fs) f = ap (λ t. 32 ∷ field g ++ t) (begun_more fs f)
-    ∙ ap (λ t. 32 ∷ t) (sym (append_assoc (field g) (begun fs) (32 ∷ field f)))
+begun_more (g ∷ fs) f = grind (arith, common_steps, append_assoc, begun_more fs f)
 
 pub ending_begun : (fs : List (Option ℕ)) (after : List ℕ) → begun fs ++ 10 ∷ after ≡ ending fs ++ after
 ending_begun [] after = refl
-ending_begun (f ∷ fs) after = ap (λ t. 32 ∷ t) (append_assoc (field f) (begun fs) (10 ∷ after)
-    ∙ ap (λ t. field f ++ t) (ending_begun fs after) ∙ sym (append_assoc (field f) (ending fs) after))
+ending_begun (f ∷ fs) after = grind (arith, common_steps, append_assoc, ending_begun fs after)
 
 -- the next field of whoever reads a whole line, where a blank stands next
 next_field : (gs : List (Option ℕ)) (rest after more : List ℕ) → rest ≡ 32 ∷ after → rest ≡ ending gs ++ more →
     (g : Option ℕ) × (hs : List (Option ℕ)) × (gs ≡ g ∷ hs) × BeginsWith after g (ending hs ++ more)
-next_field [] rest after more e h = absurd (let clash : 32 ∷ after ≡ 10 ∷ more = sym e ∙ h in
-    let P : 32 ≡ 10 = ap head clash in omega arith)
-  where
-    head : List ℕ → ℕ
-    head [] = 0
-    head (x ∷ xs) = x
+next_field [] rest after more e h = let is = ap (λ l. get_or l 0 0) (sym e ∙ h) in absurd (omega arith)
 next_field (g ∷ hs) rest after more e h =
-    let same : 32 ∷ after ≡ 32 ∷ (field g ++ ending hs) ++ more = sym e ∙ h in (
-      g,
-      hs,
-      refl,
-      record {
-        spelled = ap (drop 1) same
-            ∙ append_assoc (field g) (ending hs) more;
-        ended = may_follow g _ (ending_ends hs more);
-      },
-    )
+    let same = sym e ∙ h in
+    search (arith, rules, append_assoc, may_follow, ending_ends)
 
 pub one_read_more : (text : List ℕ) (to : List (Option ℕ)) (count : ℕ) (rest after next : List ℕ) (f : Option ℕ) →
     ReadSoFar text to count rest → count < length to → rest ≡ 32 ∷ after → BeginsWith after f next →
@@ -102,11 +84,8 @@ no_next text to count rest after had e none fs more fit h =
 pub no_end : (text : List ℕ) (to : List (Option ℕ)) (count : ℕ) (rest : List ℕ) → ReadSoFar text to count rest →
     ((after : List ℕ) → rest ≡ 32 ∷ after → ⊥) → ((after : List ℕ) → rest ≡ 10 ∷ after → ⊥) →
     (fs : List (Option ℕ)) (more : List ℕ) → text ≡ ending fs ++ more → ⊥
-no_end text to count rest had blank feed fs more h = go w.0 w.2
+no_end text to count rest had blank feed fs more h = go (had.alone fs more h).0 (had.alone fs more h).2
   where
-    w : (gs : List (Option ℕ)) × (fs ≡ take count to ++ gs) × (rest ≡ ending gs ++ more)
-    w = had.alone fs more h
-
     go : (gs : List (Option ℕ)) → rest ≡ ending gs ++ more → ⊥
     go [] e = feed more e
     go (g ∷ gs) e = blank ((field g ++ ending gs) ++ more) e
@@ -114,18 +93,13 @@ no_end text to count rest had blank feed fs more h = go w.0 w.2
 -- the line is at its end
 pub line_read : (text : List ℕ) (to : List (Option ℕ)) (count : ℕ) (rest after : List ℕ) →
     ReadSoFar text to count rest → rest ≡ 10 ∷ after → (count ≤ length to) × (text ≡ ending (take count to) ++ after)
-line_read text to count rest after had e =
-    (had.placed, had.spelled ∙ ap (λ r. begun (take count to) ++ r) e ∙ ending_begun (take count to) after)
+line_read text to count rest after had e = (search (arith, rules, ending_begun))
 
 -- ## One reading
 
 -- one text begins with one line end
 pub one_ending : (fs gs : List (Option ℕ)) (x y : List ℕ) → ending fs ++ x ≡ ending gs ++ y → (fs ≡ gs) × (x ≡ y)
 one_ending [] [] x y e = (refl, ap (drop 1) e)
-one_ending [] (g ∷ gs) x y e = let next = next_field [] (32 ∷ (field g ++ ending gs) ++ y) _ x refl (sym e) in
-    let none : List (Option ℕ) = [] in absurd (let clash : none ≡ next.0 ∷ next.1 = next.2 in let P : ⊥ = cc in P)
-one_ending (f ∷ fs) [] x y e = let next = next_field [] (32 ∷ (field f ++ ending fs) ++ x) _ y refl e in
-    let none : List (Option ℕ) = [] in absurd (let clash : none ≡ next.0 ∷ next.1 = next.2 in let P : ⊥ = cc in P)
 one_ending (f ∷ fs) (g ∷ gs) x y e =
     let inner : field f ++ (ending fs ++ x) ≡ field g ++ (ending gs ++ y) = search (arith, rules, append_assoc) in
     let text = field f ++ (ending fs ++ x) in
@@ -133,11 +107,11 @@ one_ending (f ∷ fs) (g ∷ gs) x y e =
     (record { spelled = refl; ended = search (arith, rules, may_follow, ending_ends) })
     (record { spelled = inner; ended = may_follow g _ (ending_ends gs y) }) in
     search (arith, rules, one_ending fs gs x y first.1)
+one_ending _ _ x y e = absurd (cc e)
 
 pub one_line : (word x y : List ℕ) (fs gs : List (Option ℕ)) → line word fs ++ x ≡ line word gs ++ y →
     (fs ≡ gs) × (x ≡ y)
-one_line word x y fs gs e = one_ending fs gs x y
-    (append_cancel_left word _ _ (sym (append_assoc word (ending fs) x) ∙ e ∙ append_assoc word (ending gs) y))
+one_line word x y fs gs e = one_ending fs gs x y (search (arith, rules, append_cancel_left, append_assoc))
 
 -- ## Writing
 
@@ -146,9 +120,9 @@ pub line_goes_on : (start text blank new : List ℕ) (fs : List (Option ℕ)) (i
     new ≡ start ++ begun (take (i + 1) fs)
 line_goes_on start text blank new fs i d inside e f g =
     let last = field (get_or fs i d) in
-    g ∙ ap (λ t. t ++ last) f ∙ append_assoc text (32 ∷ []) last ∙ ap (λ t. t ++ 32 ∷ last) e
-    ∙ append_assoc start (begun (take i fs)) (32 ∷ last)
-    ∙ ap (λ t. start ++ t) (sym (begun_more (take i fs) (get_or fs i d)) ∙ ap begun (sym (take_more fs i d inside)))
+    let more = begun_more (take i fs) (get_or fs i d) in
+    let parts = append_assoc start (begun (take i fs)) (32 ∷ last) in
+    cc (append_assoc text (32 ∷ []) last, parts, more, take_more fs i d inside)
 
 pub line_ends : (start word text new : List ℕ) (fs : List (Option ℕ)) (i : ℕ) → length fs ≤ i →
     text ≡ (start ++ word) ++ begun (take i fs) → new ≡ text ++ 10 ∷ [] → new ≡ start ++ line word fs
@@ -176,10 +150,6 @@ pub few_within : (ranges : List Range) (further : ℕ) (to fs : List (Option ℕ
     length ranges + further ≤ length to → Within ranges further fs → length fs ≤ length to
 few_within ranges further to fs room within = let few = within.few in omega arith
 
-starts : (c : ℕ) (text : List ℕ) → c ∷ text ≢ []
-starts c text e = let none : List ℕ = [] in let clash : c ∷ text ≡ none = e in absurd (let P : ⊥ = cc in P)
-
 pub line_is_some : (word : List ℕ) (fs : List (Option ℕ)) (more : List ℕ) → line word fs ++ more ≢ []
-line_is_some [] [] more e = starts 10 more e
-line_is_some [] (f ∷ fs) more e = starts 32 ((field f ++ ending fs) ++ more) e
-line_is_some (c ∷ word) fs more e = starts c (line word fs ++ more) e
+line_is_some [] [] more e = cc
+line_is_some _ _ more e = cc

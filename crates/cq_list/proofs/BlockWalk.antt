@@ -1,14 +1,6 @@
 -- A walk along the blocks, from the first on or from the last back. The places ahead of the block behind a block are
 -- those ahead of it and its own; so what is counted grows by a block's numbers, or shrinks by them.
-use Rattle.std.proofs.lemmas.Grind.{common_steps}
-use Rattle.std.proofs.Common.{◌≡◌, ℕ, zero, suc, ◌+◌, ◌-◌, ◌<◌, ◌≤◌, Bool, List, [], ◌∷◌, ◌++◌, length, get_or, take, drop, refl, sym, ap, ◌∙◌, arith, length-append, take-append-drop}
-use Rattle.std.specs.Prelude.{filter}
-use Rattle.std.specs.List.{concat}
-use Rattle.std.proofs.lemmas.List.{get_or_read, take_more, append-nil}
-use Rattle.std.proofs.lemmas.List.Elements.{filter-append}
-use Rattle.std.proofs.lemmas.List.Folds.{concat-append}
-use Rattle.cq_list.specs.Split.{place_of_nth, is_output, count_of}
-use Rattle.cq_list.specs.Places.{IsSpot, IsAhead}
+use Rattle.cq_list.proofs.Terms.{rules, ◌≡◌, ℕ, zero, suc, ◌+◌, ◌-◌, ◌<◌, ◌≤◌, Bool, List, [], ◌∷◌, ◌++◌, length, get_or, take, drop, refl, sym, ap, ◌∙◌, arith, length-append, take-append-drop, common_steps, filter, concat, get_or_read, take_more, append-nil, filter-append, concat-append, place_of_nth, is_output, count_of, IsSpot, IsAhead}
 use Rattle.cq_list.proofs.Counts.{count_le}
 use Rattle.cq_list.proofs.Nth.{nth_inside, nth_in_front, nth_behind}
 use Rattle.cq_list.proofs.Blocks.{rest_more, ahead_more, whole_is}
@@ -64,17 +56,8 @@ module _ (blocks : List (List ℕ)) (i : ℕ) {block : List ℕ} (inside : i < l
     pub nth_place : (within : ℕ) → within ≡ place_of_nth (is_output j) (k - own) block →
         places + within ≡ place_of_nth (is_output j) k (concat blocks)
     nth_place within is =
-        let p : ℕ → Bool = is_output j in
-        let whole : concat blocks ≡ concat (take i blocks) ++ concat (drop i blocks) =
-        ap concat (sym (take-append-drop i blocks)) ∙ concat-append (take i blocks) (drop i blocks) in
-        let inside = own_inside in
-        let left : k - count_of j (concat (take i blocks)) ≡ k - own = omega arith in
-        let found = ap (place_of_nth p k) whole
-        ∙ nth_behind p k (concat (take i blocks)) (concat (drop i blocks)) (omega arith) in
-        let rest = ap (λ n. place_of_nth p n (concat (drop i blocks))) left
-        ∙ ap (place_of_nth p (k - own)) rest_is
-        ∙ nth_in_front p (k - own) block (concat (drop (i + 1) blocks)) inside in
-        omega arith
+        let whole = ap concat (sym (take-append-drop i blocks)) ∙ concat-append (take i blocks) (drop i blocks) in
+        search (arith, rules, own_inside, nth_behind, rest_is, nth_in_front)
 
     pub nth_spot : (within : ℕ) → within ≡ place_of_nth (is_output j) (k - own) block →
         IsSpot blocks (places + within) i within

@@ -1,12 +1,6 @@
 -- Places in blocks: what is done to one block is done to the places where it stands, behind those of the blocks ahead.
-use Rattle.std.proofs.lemmas.Grind.{common_steps}
-use Rattle.std.proofs.Common.{rules, ◌≡◌, ℕ, zero, suc, ◌+◌, ◌-◌, ◌<◌, ◌≤◌, List, [], ◌∷◌, ◌++◌, length, get_or, set, take, drop, Some, refl, sym, ap, ◌∙◌, subst, arith, length-append, length-set, length-take, get_or-set_same, take-append-drop, append_assoc}
-use Rattle.std.specs.Prelude.{insert, remove, slice_get}
-use Rattle.std.specs.List.{concat}
-use Rattle.std.proofs.lemmas.List.{take_more, drop_more, take_all, take-set, take-set-le, take-take, take-append-le, get_or_read}
-use Rattle.std.proofs.lemmas.List.Folds.{concat-append}
-use Rattle.std.proofs.lemmas.List.Edits.{length-insert, length-remove, get_or-insert_below, get_or-insert_at, insert_end, insert-append_left, insert-append_right, remove-append_left, remove-append_right}
-use Rattle.cq_list.specs.Places.{IsSpot, joined, pulled}
+use Rattle.cq_list.specs.declared.places.Spot.{Spot}
+use Rattle.cq_list.proofs.Terms.{⊎_elim, cases_lt, common_steps, rules, ◌≡◌, ℕ, zero, suc, ◌+◌, ◌-◌, ◌<◌, ◌≤◌, List, [], ◌∷◌, ◌++◌, length, get_or, set, take, drop, Some, sym, ap, ◌∙◌, subst, arith, length-append, length-set, length-take, get_or-set_same, take-append-drop, append_assoc, insert, remove, slice_get, concat, take_more, drop_more, take_all, take-set, take-set-le, take-take, take-append-le, get_or_read, concat-append, length-insert, length-remove, get_or-insert_below, get_or-insert_at, insert_end, insert-append_left, insert-append_right, remove-append_left, remove-append_right, IsSpot, joined, pulled}
 
 -- ## Block by block
 
@@ -37,43 +31,29 @@ shown_in (b ∷ bs) zero o x inside at = ap (slice_get (b ++ concat bs)) (let e 
     in_front (y ∷ xs) ys zero e = e
     in_front (y ∷ xs) ys (suc k) e = in_front xs ys k e
 shown_in (b ∷ bs) (suc i) o x inside at =
-    let place : length (concat (take (suc i) (b ∷ bs))) + o ≡ length b + (length (concat (take i bs)) + o) = let len =
-    length-append b (concat (take i bs)) in omega arith in
-    ap (slice_get (b ++ concat bs)) place ∙ behind b (concat bs) (length (concat (take i bs)) + o)
-    ∙ shown_in bs i o x (omega arith) at
+    let len = length-append b (concat (take i bs)) in
+    let place : length (concat (take (suc i) (b ∷ bs))) + o ≡ length b + (length (concat (take i bs)) + o) =
+    omega arith in search (arith, rules, behind, shown_in bs i o x)
   where
     behind : (xs ys : List ℕ) (k : ℕ) → slice_get (xs ++ ys) (length xs + k) ≡ slice_get ys k
     behind [] ys k = ap (slice_get ys) (let e : 0 + k ≡ k = omega arith in e)
-    behind (y ∷ xs) ys k = ap (slice_get (y ∷ xs ++ ys))
-        (let e : length (y ∷ xs) + k ≡ suc (length xs + k) = omega arith in e) ∙ behind xs ys k
+    behind (y ∷ xs) ys k = search (arith, rules, behind xs ys k)
 
-pub insert_in : (blocks : List (List ℕ)) (i o y : ℕ) → i < length blocks → o ≤ length (get_or blocks i []) →
-    concat (set blocks i (insert (get_or blocks i []) o y)) ≡ insert (concat blocks)
-    (length (concat (take i blocks)) + o) y
-insert_in [] i o y inside le = absurd (omega arith)
-insert_in (b ∷ bs) zero o y inside le = sym
-    (ap (λ n. insert (b ++ concat bs) n y) (let e : 0 + o ≡ o = omega arith in e)
-    ∙ insert-append_left b (concat bs) o y le)
-insert_in (b ∷ bs) (suc i) o y inside le =
-    let at : ℕ = length (concat (take (suc i) (b ∷ bs))) + o in
-    let place : at - length b ≡ length (concat (take i bs)) + o = let len = length-append b (concat (take i bs)) in
-    omega arith in
-    ap (λ l. b ++ l) (insert_in bs i o y (omega arith) le)
-    ∙ sym (insert-append_right b (concat bs) (length b) at y refl
-    (let len = length-append b (concat (take i bs)) in omega arith) ∙ ap (λ n. b ++ insert (concat bs) n y) place)
+pub insert_in : (blocks : List (List ℕ)) (i o n y : ℕ) → i < length blocks → o ≤ length (get_or blocks i []) →
+    length (concat (take i blocks)) + o ≡ n →
+    concat (set blocks i (insert (get_or blocks i []) o y)) ≡ insert (concat blocks) n y
+insert_in [] i o n y inside le place = absurd (omega arith)
+insert_in (b ∷ bs) zero o n y inside le place = grind (arith, common_steps, insert-append_left)
+insert_in (b ∷ bs) (suc i) o n y inside le place =
+    grind (arith, common_steps, length-append, insert-append_right, insert_in bs i o (n - length b) y)
 
-pub remove_in : (blocks : List (List ℕ)) (i o : ℕ) → i < length blocks → o < length (get_or blocks i []) →
-    concat (set blocks i (remove (get_or blocks i []) o)) ≡ remove (concat blocks) (length (concat (take i blocks)) + o)
-remove_in [] i o inside lt = absurd (omega arith)
-remove_in (b ∷ bs) zero o inside lt = sym
-    (ap (remove (b ++ concat bs)) (let e : 0 + o ≡ o = omega arith in e) ∙ remove-append_left b (concat bs) o lt)
-remove_in (b ∷ bs) (suc i) o inside lt =
-    let at : ℕ = length (concat (take (suc i) (b ∷ bs))) + o in
-    let place : at - length b ≡ length (concat (take i bs)) + o = let len = length-append b (concat (take i bs)) in
-    omega arith in
-    ap (λ l. b ++ l) (remove_in bs i o (omega arith) lt)
-    ∙ sym (remove-append_right b (concat bs) (length b) at refl
-    (let len = length-append b (concat (take i bs)) in omega arith) ∙ ap (λ n. b ++ remove (concat bs) n) place)
+pub remove_in : (blocks : List (List ℕ)) (i o n : ℕ) → i < length blocks → o < length (get_or blocks i []) →
+    length (concat (take i blocks)) + o ≡ n →
+    concat (set blocks i (remove (get_or blocks i []) o)) ≡ remove (concat blocks) n
+remove_in [] i o n inside lt place = absurd (omega arith)
+remove_in (b ∷ bs) zero o n inside lt place = grind (arith, common_steps, remove-append_left)
+remove_in (b ∷ bs) (suc i) o n inside lt place =
+    grind (arith, common_steps, length-append, remove-append_right, remove_in bs i o (n - length b))
 
 -- ## Blocks split, and a place at the end
 
@@ -120,18 +100,8 @@ module _ (blocks : List (List ℕ)) (i : ℕ) (inside : i + 1 < length blocks) w
 
   pub spot_joined : (place o : ℕ) → IsSpot blocks place i o → IsSpot (joined blocks i) place i o
   spot_joined place o spot =
-      let less = length-remove blocks (i + 1) inside in
-      let same = length-set (remove blocks (i + 1)) i (block ++ next) in
-      let long : i ≤ length (take (i + 1) blocks) = let len = length-take (i + 1) blocks in omega arith in
-      let ahead : take i (joined blocks i) ≡ take i blocks =
-      take-set (remove blocks (i + 1)) i (block ++ next)
-      ∙ take-append-le i (take (i + 1) blocks) (drop (suc (i + 1)) blocks) long
-      ∙ take-take i (i + 1) blocks (omega arith) in
-      record {
-        inside = omega arith;
-        short = let len = ap length joined_at ∙ length-append block next in omega arith;
-        at = ap (λ l. length (concat l) + o) ahead ∙ spot.at;
-      }
+      search
+      (arith, rules, length-set, length-take, take-set, take-append-le, take-take, joined_at, length-append)
 
   pub pulled_at : get_or (pulled blocks i) i [] ≡ block ++ take 1 next
   pulled_at = grind (arith, common_steps, length-set, get_or-set_same)
@@ -149,9 +119,6 @@ module _ (blocks : List (List ℕ)) (place i o : ℕ) (front back : List ℕ) (s
   first_half : get_or (insert (set blocks i front) (i + 1) back) i [] ≡ front
   first_half = grind (arith, common_steps, length-set, get_or-insert_below, get_or-set_same)
 
-  second_half : get_or (insert (set blocks i front) (i + 1) back) (i + 1) [] ≡ back
-  second_half = grind (arith, common_steps, length-set, get_or-insert_at)
-
   ahead_same : take i (insert (set blocks i front) (i + 1) back) ≡ take i blocks
   ahead_same = grind (arith, common_steps, length-set, length-take, take-append-le, take-take, take-set)
 
@@ -159,7 +126,19 @@ module _ (blocks : List (List ℕ)) (place i o : ℕ) (front back : List ℕ) (s
   in_front_half early = grind (arith, common_steps, longer, first_half, ahead_same)
 
   pub in_back_half : (p : ℕ) → p + 32 ≡ o → IsSpot (insert (set blocks i front) (i + 1) back) place (i + 1) p
-  in_back_half p late = search (rules, longer, second_half, length-append, ahead_more, first_half, ahead_same)
+  in_back_half p late =
+      search (arith, rules, longer, length-append, ahead_more, first_half, ahead_same, length-set, get_or-insert_at)
+
+pub in_half : (blocks : List (List ℕ)) (place : ℕ) (was now : Spot) (front back : List ℕ) →
+    IsSpot blocks place was.block was.within → get_or blocks was.block [] ≡ front ++ back → length front ≡ 32 →
+    (was.within < 32 → now ≡ was) →
+    (32 ≤ was.within → (now.block ≡ was.block + 1) × (now.within + 32 ≡ was.within)) →
+    IsSpot (insert (set blocks was.block front) (was.block + 1) back) place now.block now.within
+in_half blocks place was now front back spot parts half early late = ⊎_elim
+    (λ e. rw (early e) (in_front_half blocks place was.block was.within front back spot parts half e))
+    (λ l. rw (late l).0 (in_back_half blocks place was.block was.within front back spot parts half
+    now.within (late l).1))
+    (cases_lt was.within 32)
 
 -- ## At a spot
 

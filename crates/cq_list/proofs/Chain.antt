@@ -5,24 +5,7 @@
 -- cells of other queues are for other outputs.
 --
 -- A node that is linked in behind another one goes into the chain behind it, for it leads on to where that one led.
-use Rattle.std.proofs.lemmas.Grind.{common_steps}
-use Rattle.std.proofs.Common.{rules, ◌≡◌, ◌≢◌, ℕ, zero, suc, List, ◌∷◌, length, Option, None, Some, refl, sym, ap, ◌∙◌, subst, arith}
-use Rattle.std.specs.Prelude.{insert, slice_get}
-use Rattle.std.specs.List.{AllByRecursion}
-use Rattle.std.proofs.lemmas.Option.{same_Some, slice_get-map}
-use Rattle.cq_base.specs.declared.cell.Queued.{Queued}
-use Rattle.cq_base.specs.Cells.{IsBefore, IsRising}
-use Rattle.cq_base.proofs.Keys.{key_laws}
-use Rattle.cq_base.proofs.Lists.{all_at}
-use Rattle.cq_list.proofs.Put.{all_weaker}
-use Rattle.cq_list.specs.declared.pool.Node.{Node}
-use Rattle.cq_list.specs.Pool.{Nodes, followed, chain, places, cells}
-use Rattle.std.specs.Option.{option_map}
-
--- no node, no chain
-not_whole : (place n : ℕ) (o : Option Node) (rest : ℕ → List (ℕ × Queued)) → o ≡ None →
-    length (followed place o rest) ≡ suc n → ⊥
-not_whole place n o rest none whole = grind (arith, common_steps)
+use Rattle.cq_list.proofs.Terms.{common_steps, rules, ◌≡◌, ◌≢◌, ℕ, zero, suc, List, ◌∷◌, length, Option, None, Some, refl, sym, ap, ◌∙◌, subst, arith, insert, slice_get, AllByRecursion, same_Some, slice_get-map, Queued, IsBefore, IsRising, key_laws, all_at, Node, Nodes, followed, chain, places, cells, all_weaker}
 
 -- a chain that is whole begins with a node
 pub begins : (nodes : Nodes) (n place : ℕ) → length (chain nodes (suc n) place) ≡ suc n →
@@ -30,7 +13,7 @@ pub begins : (nodes : Nodes) (n place : ℕ) → length (chain nodes (suc n) pla
 begins nodes n place whole = go (nodes place) refl
   where
     go : (o : Option Node) → nodes place ≡ o → (node : Node) × (nodes place ≡ Some node)
-    go None e = absurd (not_whole place n (nodes place) (chain nodes n) e whole)
+    go None e = absurd (let none = rw e at whole in omega arith)
     go (Some node) e = (node, e)
 
 pub chain-at : (nodes : Nodes) (n place : ℕ) (node : Node) → nodes place ≡ Some node →
@@ -63,15 +46,19 @@ chain_stays old new P stay (suc n) place whole all =
 -- a cell that another one comes before is not that one
 pub differs : (a b : Queued) → IsBefore a b → a ≢ b
 differs a b before same = absurd (let never = key_laws.never_itself a.key in
-    let twice : IsBefore a a = subst (IsBefore a) (sym same) before in let P : ⊥ = cc in P)
+    let P : ⊥ = cc in P)
 
-module _ (old new : Nodes) (a k : ℕ) (ahead : Node) (c : Queued) (here : old a ≡ Some ahead)
-    (changed : new a ≡ Some (record { queued = ahead.queued; next = k }))
-    (added : new k ≡ Some (record { queued = c; next = ahead.next }))
-    (others : (i : ℕ) (node : Node) → old i ≡ Some node → i ≢ a → new i ≡ Some node) where
+-- a node put in behind another one: that one leads to it, and it leads on to where that one led
+pub record IsBehind (old new : Nodes) (a k : ℕ) (ahead : Node) (c : Queued) : Type 0 where
+  pub here : old a ≡ Some ahead
+  pub changed : new a ≡ Some (record { queued = ahead.queued; next = k })
+  pub added : new k ≡ Some (record { queued = c; next = ahead.next })
+  pub others : (i : ℕ) (node : Node) → old i ≡ Some node → i ≢ a → new i ≡ Some node
+
+module _ {old new : Nodes} {a k : ℕ} {ahead : Node} {c : Queued} (b : IsBehind old new a k ahead c) where
   -- a node with another cell is another node
   other_cell : (i : ℕ) (node : Node) → old i ≡ Some node → node.queued ≢ ahead.queued → new i ≡ Some node
-  other_cell i node there ne = grind (arith, common_steps, same_Some)
+  other_cell i node there ne = grind (arith, common_steps, b.here, b.others, same_Some)
 
   pub chain_behind : (n first p : ℕ) → length (chain old n first) ≡ n → IsRising (cells (chain old n first)) →
       slice_get (chain old n first) p ≡ Some (a, ahead.queued) → chain new (suc n) first ≡ insert (chain old n first)
@@ -80,29 +67,20 @@ module _ (old new : Nodes) (a k : ℕ) (ahead : Node) (c : Queued) (here : old a
   chain_behind (suc n) first zero whole rising at =
       let node : Node = (begins old n first whole).0 in
       let seen = chain-at old n first node (begins old n first whole).1 in
-      let same : (first, node.queued) ≡ (a, ahead.queued) = same_Some _ _ (ap (λ l. slice_get l 0) (sym seen) ∙ at) in
-      let place : first ≡ a = ap (λ (e : ℕ × Queued). e.0) same in
-      let from_a = ap (chain old (suc n)) place ∙ chain-at old n a ahead here in
-      let rise = subst (λ (l : List (ℕ × Queued)). IsRising (cells l)) from_a rising in
-      let rest = rest_whole old n a ahead here (ap (λ i. length (chain old (suc n) i)) (sym place) ∙ whole) in
+      let same = same_Some _ _ (ap (λ l. slice_get l 0) (sym seen) ∙ at) in
+      let place = ap (λ (e : ℕ × Queued). e.0) same in
+      let rest = rest_whole old n a ahead b.here (ap (λ i. length (chain old (suc n) i)) (sym place) ∙ whole) in
       let stays = chain_stays old new (λ x. x ≢ ahead.queued) other_cell n ahead.next rest
-      (all_weaker _ _ (λ x before same. differs ahead.queued x before (sym same))
-      (cells (chain old n ahead.next)) rise.0) in
-      ap (chain new (suc (suc n))) place
-      ∙ chain-at new (suc n) a _ changed
-      ∙ ap (λ l. (a, ahead.queued) ∷ l) (chain-at new n k _ added ∙ ap (λ l. (k, c) ∷ l) stays)
-      ∙ ap (λ l. insert l 1 (k, c)) (sym from_a)
+      (search (arith, rules, all_weaker, differs)) in
+      search (arith, rules, chain-at)
   chain_behind (suc n) first (suc p) whole rising at =
       let node : Node = (begins old n first whole).0 in
-      let there : old first ≡ Some node = (begins old n first whole).1 in
+      let there = (begins old n first whole).1 in
       let seen = chain-at old n first node there in
       let rise = subst (λ (l : List (ℕ × Queued)). IsRising (cells l)) seen rising in
-      let later : slice_get (chain old n node.next) p ≡ Some (a, ahead.queued) =
-      ap (λ l. slice_get l (suc p)) (sym seen) ∙ at in
-      let before = all_at _ (cells (chain old n node.next)) p ahead.queued rise.0
-      (slice_get-map (λ (e : ℕ × Queued). e.1) (chain old n node.next) p
-      ∙ ap (option_map (λ (e : ℕ × Queued). e.1)) later) in
-      chain-at new (suc n) first node (other_cell first node there (differs node.queued ahead.queued before))
-      ∙ ap (λ l. (first, node.queued) ∷ l) (chain_behind n node.next p
-      (rest_whole old n first node there whole) rise.1 later)
-      ∙ ap (λ l. insert l (suc (suc p)) (k, c)) (sym seen)
+      let later = all_at _ (cells (chain old n node.next)) p ahead.queued rise.0 in
+      let seen_now = chain-at new (suc n) first node in
+      let stays = other_cell first node there in
+      let apart = differs node.queued ahead.queued in
+      let whole_rest = rest_whole old n first node there whole in
+      search (arith, rules, later, slice_get-map, seen_now, stays, apart, chain_behind n node.next p)

@@ -1,26 +1,13 @@
 -- The counts of a block, where a place is put in or taken out: the count of its output changes by one, and the others
 -- stay. A place that is taken out can be put back, so the one follows from the other.
-use Rattle.std.proofs.lemmas.Grind.{common_steps}
-use Rattle.std.proofs.Common.{rules, ◌≡◌, ◌≢◌, ℕ, zero, suc, ◌+◌, ◌-◌, ◌<◌, ◌≤◌, List, [], ◌∷◌, ◌++◌, length, replicate, get_or, set, take, drop, refl, sym, ap, ◌∙◌, subst, arith, length-set, length-append, get_or-set_same, get_or-set_other}
-use Rattle.std.specs.Prelude.{insert, remove, filter, slice_get, Some}
-use Rattle.std.proofs.lemmas.Option.{same_Some, slice_get_within, get_or_from_slice_get}
-use Rattle.std.specs.List.{AllByRecursion}
-use Rattle.std.proofs.lemmas.Bool.{eq-eqb, ne_eqb, cases_eq}
-use Rattle.std.proofs.lemmas.List.{take_more, get_or-replicate, length-replicate}
-use Rattle.std.proofs.lemmas.List.Edits.{length-insert, length-remove}
-use Rattle.std.proofs.lemmas.List.Sums.{length-filter, count_by-le-length}
-use Rattle.cq_list.specs.Split.{is_output, count_of}
+use Rattle.cq_list.proofs.Terms.{all_at, common_steps, rules, ◌≡◌, ◌≢◌, ℕ, zero, suc, ◌+◌, ◌-◌, ◌<◌, ◌≤◌, List, [], ◌∷◌, ◌++◌, length, replicate, get_or, set, take, refl, sym, ap, ◌∙◌, subst, arith, length-set, length-append, get_or-set_same, get_or-set_other, Some, insert, remove, slice_get, same_Some, slice_get_within, get_or_from_slice_get, slice_get-get_or, AllByRecursion, eq-eqb, ne_eqb, cases_eq, take_more, get_or-replicate, length-replicate, length-insert, length-remove, length-filter, count_by-le-length, is_output, count_of}
 use Rattle.cq_list.specs.Block.{AreCounts}
 use Rattle.cq_list.proofs.Nth.{fails}
 use Rattle.cq_list.proofs.Split.{filter-insert, filter-insert-other, filter-parts}
 
 count_of-own : (xs : List ℕ) (i y j : ℕ) → y ≡ j → count_of j (insert xs i y) ≡ count_of j xs + 1
 count_of-own xs i y j own =
-    let more = ap length (filter-insert (is_output j) xs i y (eq-eqb y j own))
-    ∙ length-append (filter (is_output j) (take i xs)) (y ∷ filter (is_output j) (drop i xs)) in
-    let parts = ap length (filter-parts (is_output j) xs i)
-    ∙ length-append (filter (is_output j) (take i xs)) (filter (is_output j) (drop i xs)) in
-    omega arith
+    grind (arith, common_steps, filter-insert, eq-eqb y j own, filter-parts (is_output j) xs i, length-append)
 
 count_of-other : (xs : List ℕ) (i y j : ℕ) → y ≢ j → count_of j (insert xs i y) ≡ count_of j xs
 count_of-other xs i y j ne = ap length (filter-insert-other (is_output j) xs i y (ne_eqb y j ne))
@@ -32,11 +19,6 @@ pub put_back : (xs : List ℕ) (i y : ℕ) → i < length xs → y ≡ get_or xs
 put_back [] i y inside read = absurd (omega arith)
 put_back (x ∷ xs) zero y inside read = ap (λ z. z ∷ xs) read
 put_back (x ∷ xs) (suc i) y inside read = ap (λ l. x ∷ l) (put_back xs i y (omega arith) read)
-
-all_insert : (P : ℕ → Type 0) (xs : List ℕ) (i y : ℕ) → P y → AllByRecursion P xs → AllByRecursion P (insert xs i y)
-all_insert P xs zero y own all = (own, all)
-all_insert P [] (suc i) y own all = (own, tt)
-all_insert P (x ∷ xs) (suc i) y own all = (all.0, all_insert P xs i y own all.1)
 
 all_remove : (P : ℕ → Type 0) (xs : List ℕ) (i : ℕ) → AllByRecursion P xs → AllByRecursion P (remove xs i)
 all_remove P [] zero all = tt
@@ -59,54 +41,31 @@ no_places places counts none zeros =
       each = ap length zeros ∙ length-replicate {A = ℕ} 64 0;
     }
 
+-- lists with a place set, and with one more
+ruleset set_steps = (get_or-set_same, get_or-set_other, length-insert, length-set)
+
 module _ (places counts : List ℕ) (had : AreCounts places counts) where
   pub count_fits : (j : ℕ) → j < 64 → get_or counts j 0 ≤ 64
   count_fits j inside = grind (arith, common_steps, count_le)
 
   pub counts_insert : (i j : ℕ) → i ≤ length places → length places < 64 → j < 64 →
       AreCounts (insert places i j) (set counts j (get_or counts j 0 + 1))
-  counts_insert i j inside room in_range = grind (
-    arith,
-    common_steps,
-    get_or-set_same,
-    count_of-own,
-    get_or-set_other,
-    count_of-other,
-    cases_eq,
-    all_insert,
-    length-insert,
-    length-set,
-  )
+  counts_insert i j inside room in_range =
+      grind (arith, common_steps, set_steps, count_of-own, count_of-other, cases_eq)
 
   module _ (i j : ℕ) (inside : i < length places) (read : j ≡ get_or places i j) where
     again : insert (remove places i) i j ≡ places
     again = put_back places i j inside read
 
     pub in_range_at : j < 64
-    in_range_at = subst (λ k. k < 64) (sym read) (go places i inside had.in_range)
-      where
-        go : (xs : List ℕ) (k : ℕ) → k < length xs → AllByRecursion (λ x. x < 64) xs → get_or xs k j < 64
-        go [] k l all = absurd (omega arith)
-        go (x ∷ xs) zero l all = all.0
-        go (x ∷ xs) (suc k) l all = go xs k (omega arith) all.1
+    in_range_at = all_at (λ k. k < 64) places i j had.in_range (slice_get-get_or places i j inside ∙ ap Some (sym read))
 
     pub count_some : 1 ≤ get_or counts j 0
     count_some = grind (arith, common_steps, in_range_at, again, count_of-own)
 
     pub counts_remove : AreCounts (remove places i) (set counts j (get_or counts j 0 - 1))
-    counts_remove = search (
-      rules,
-      in_range_at,
-      get_or-set_same,
-      again,
-      count_of-own,
-      get_or-set_other,
-      count_of-other,
-      cases_eq,
-      all_remove,
-      length-remove,
-      length-set,
-    )
+    counts_remove = search
+        (rules, set_steps, in_range_at, again, count_of-own, count_of-other, cases_eq, all_remove, length-remove)
 
 -- ## The last place goes over to the front of another block
 

@@ -1,12 +1,7 @@
 -- Blocks that are filled: each but the last has 16 places at least. This is told of each block by its own length, so
 -- it stays where a block gets no shorter, where one of 16 places or more comes in, and where any block goes. There
 -- are never many more blocks than a sixteenth of the places.
-use Rattle.std.proofs.lemmas.Grind.{common_steps}
-use Rattle.std.proofs.Common.{rules, ◌≡◌, ℕ, zero, suc, ◌+◌, ◌*◌, ◌<◌, ◌≤◌, List, [], ◌∷◌, ◌++◌, length, get_or, set, arith, length-append, length-set, length-take, length-drop}
-use Rattle.std.specs.Prelude.{insert, remove}
-use Rattle.std.specs.List.{concat}
-use Rattle.std.proofs.lemmas.List.Edits.{length-remove}
-use Rattle.cq_list.specs.Places.{AreFilled, HaveMemory, joined, pulled}
+use Rattle.cq_list.proofs.Terms.{common_steps, rules, ◌≡◌, ℕ, zero, suc, ◌+◌, ◌*◌, ◌<◌, ◌≤◌, List, [], ◌∷◌, ◌++◌, length, get_or, set, arith, length-append, length-set, length-take, length-drop, insert, remove, concat, length-remove, AreFilled, HaveMemory, joined, pulled}
 use Rattle.cq_list.proofs.Blocks.{joined_at, pulled_at}
 
 pub few_blocks : (blocks : List (List ℕ)) → AreFilled blocks → 16 * length blocks ≤ length (concat blocks) + 16
@@ -81,37 +76,26 @@ filled_split (b ∷ bs) zero front back filled inside long longer = search (rule
 filled_split (b ∷ bs) (suc i) front back filled inside long longer =
     search (rules, filled_behind, filled_rest, filled_split bs i front back (filled_rest b bs filled))
 
-some_left : (i : ℕ) (bs : List (List ℕ)) → 0 < length (remove bs i) → 0 < length bs
-some_left zero [] some = some
-some_left (suc i) [] some = some
-some_left i (b ∷ bs) some = omega arith
-
 pub filled_without : (blocks : List (List ℕ)) (i : ℕ) → AreFilled blocks → AreFilled (remove blocks i)
 filled_without [] zero filled = tt
 filled_without [] (suc i) filled = tt
 filled_without (b ∷ bs) zero filled = filled_rest b bs filled
 filled_without (b ∷ bs) (suc i) filled =
-    filled_behind b bs (remove bs i) filled (some_left i bs) (filled_without bs i (filled_rest b bs filled))
+    grind (arith, common_steps, filled_behind, filled_rest, filled_without bs i (filled_rest b bs filled))
 
 -- ## A short block filled up
 
-pub filled_joined : (blocks : List (List ℕ)) (i : ℕ) → AreFilled blocks → i + 1 < length blocks →
-    AreFilled (joined blocks i)
-filled_joined blocks i filled inside = grind (arith, common_steps, many_in, length-append, filled_set, filled_without)
+module _ (blocks : List (List ℕ)) (i : ℕ) (filled : AreFilled blocks) (inside : i + 1 < length blocks) where
+  pub filled_joined : AreFilled (joined blocks i)
+  filled_joined = grind (arith, common_steps, many_in, length-append, filled_set, filled_without)
 
-pub filled_pulled :
-    (blocks : List (List ℕ)) (i : ℕ) → AreFilled blocks → i + 1 < length blocks →
-    32 < length (get_or blocks (i + 1) []) → AreFilled (pulled blocks i)
-filled_pulled blocks i filled inside many = search (rules, many_in, length-append, length-drop, filled_set)
+  -- then it has more than the least, unless it is the last one now
+  pub longer_joined : i + 1 < length (joined blocks i) → 16 < length (get_or (joined blocks i) i [])
+  longer_joined later = grind (arith, common_steps, length-set, length-remove, many_in, joined_at, length-append)
 
--- then it has more than the least, unless it is the last one now
-pub longer_joined :
-    (blocks : List (List ℕ)) (i : ℕ) → AreFilled blocks → i + 1 < length blocks → i + 1 < length (joined blocks i) →
-    16 < length (get_or (joined blocks i) i [])
-longer_joined blocks i filled inside later =
-    grind (arith, common_steps, length-set, length-remove, many_in, joined_at, length-append)
+  module _ (many : 32 < length (get_or blocks (i + 1) [])) where
+    pub filled_pulled : AreFilled (pulled blocks i)
+    filled_pulled = search (rules, many_in, length-append, length-drop, filled_set)
 
-pub longer_pulled :
-    (blocks : List (List ℕ)) (i : ℕ) → AreFilled blocks → i + 1 < length blocks →
-    32 < length (get_or blocks (i + 1) []) → 16 < length (get_or (pulled blocks i) i [])
-longer_pulled blocks i filled inside many = search (rules, many_in, length-take, pulled_at, length-append)
+    pub longer_pulled : 16 < length (get_or (pulled blocks i) i [])
+    longer_pulled = search (rules, many_in, length-take, pulled_at, length-append)

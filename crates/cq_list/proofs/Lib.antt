@@ -1,3 +1,4 @@
+mod Terms
 pub mod BlockWalk
 pub mod Blocks
 pub mod Chain
@@ -9,8 +10,5 @@ pub mod Linked
 pub mod Nth
 pub mod Put
 pub mod Queues
-pub mod Relink
-pub mod Search
 pub mod Split
-pub mod Waiting
 pub mod Walk

@@ -1,28 +1,10 @@
 -- A queue of nodes that are linked, with one node more or less: it is linked again, and its cells are those of the
 -- queue with the cell put in, or without its head. The other queues keep their nodes, for these have cells for other
 -- outputs.
-use Rattle.std.proofs.lemmas.Grind.{common_steps}
-use Rattle.std.proofs.Common.{rules, ◌≡◌, ◌≢◌, ℕ, zero, suc, ◌+◌, ◌<◌, ◌≤◌, eqb, true, cond, List, [], ◌∷◌, length, None, Some, refl, sym, ap, ◌∙◌, subst, arith}
-use Rattle.std.specs.Prelude.{insert, slice_get}
-use Rattle.std.specs.Option.{option_map}
-use Rattle.std.specs.List.{AllByRecursion, position_or_len}
-use Rattle.std.proofs.lemmas.Bool.{cond_both, eqb-true, eqb-false}
-use Rattle.std.proofs.lemmas.List.Edits.{length-insert}
-use Rattle.std.proofs.lemmas.List.{length-map}
-use Rattle.std.proofs.lemmas.Option.{same_Some, slice_get-map}
-use Rattle.cq_base.specs.declared.cell.Queued.{Queued}
-use Rattle.cq_base.specs.declared.key.Key.{Key}
-use Rattle.cq_base.specs.Key.{is_before}
-use Rattle.slab.specs.Slab.{Slab, get, Updates}
-use Rattle.cq_base.specs.Cells.{IsRising, HasOtherKey, put}
-use Rattle.cq_base.proofs.Lists.{first_inside, all_at}
-use Rattle.cq_list.specs.declared.pool.Node.{Node}
-use Rattle.cq_list.specs.declared.pool.Queue.{Queue}
-use Rattle.cq_list.specs.Pool.{Nodes, chain, linked, places, cells, EndsAt, IsChained, IsLinked, OthersStay}
-use Rattle.cq_list.proofs.Chain.{chain_stays, chain-at, differs, node_at, chain_behind}
-use Rattle.cq_list.proofs.Relink.{changed, added, others}
-use Rattle.cq_list.proofs.Put.{all_weaker, all_put, rising_put, put_is, is_later, is_no_sooner, all_ahead, others_ahead}
-use Rattle.cq_list.proofs.Split.{map-insert}
+use Rattle.cq_list.proofs.Terms.{slice_get-get_or, get_or-insert_at, false, key_laws, IsBefore, first_here, first_later, common_steps, rules, ◌≡◌, ◌≢◌, ℕ, suc, ◌+◌, ◌<◌, ◌≤◌, eqb, true, cond, List, [], ◌∷◌, length, None, Some, sym, ap, ◌∙◌, subst, arith, insert, slice_get, AllByRecursion, position_or_len, cond_both, eqb-true, eqb-false, length-insert, length-map, same_Some, none-some, ◌-◌, slice_get-map, Queued, Key, is_before, Slab, get, Updates, IsRising, HasOtherKey, put, first_inside, all_at, Node, Queue, Nodes, chain, linked, places, cells, EndsAt, IsChained, IsLinked, OthersStay, all_weaker, all_put, rising_put, map-insert}
+use Rattle.std.proofs.lemmas.List.Edits.{get_or-insert_above}
+use Rattle.cq_list.proofs.Chain.{chain_stays, chain-at, differs, node_at, IsBehind, chain_behind}
+use Rattle.cq_list.proofs.Put.{put_is, is_later, is_no_sooner, ahead_of_last}
 
 -- the queue of another output stays
 pub linked_stays : (old new : Nodes) (j i : ℕ) (queue : Queue) → OthersStay j old new → i ≢ j → IsLinked old i queue →
@@ -36,48 +18,46 @@ is_linked_along old new i queue same had = grind (arith, common_steps)
 
 -- ## The last cell
 
-pub last_there : (nodes : Nodes) (queue : Queue) (m : ℕ) → IsChained nodes queue → queue.len ≡ m + 1 →
-    (node : Node) × (nodes queue.last ≡ Some node)
-last_there nodes queue m had some =
-    let found = node_at nodes queue.len queue.first m queue.last had.whole (had.last m some) in (found.0, found.1)
+module _ {nodes : Nodes} {queue : Queue} (had : IsChained nodes queue) (some : 0 < queue.len) where
+  pub last_there : (node : Node) × (nodes queue.last ≡ Some node)
+  last_there =
+      let at = had.last (queue.len - 1) (omega arith) in
+      let found = node_at nodes queue.len queue.first (queue.len - 1) queue.last had.whole at in (found.0, found.1)
 
--- the last node of a queue of so many and one
-pub record IsLast (nodes : Nodes) (queue : Queue) (m : ℕ) (node : Node) : Type 0 where
-  pub chained : IsChained nodes queue
-  pub some : queue.len ≡ m + 1
-  pub here : nodes queue.last ≡ Some node
+  module _ {node : Node} (here : nodes queue.last ≡ Some node) (key : Key) where
+    -- as many as there are ahead of the last, and it too where it is more urgent
+    ahead : ((x : Queued) → IsBefore x node.queued → is_before x.key key ≡ true) →
+        position_or_len (is_no_sooner key) (cells (linked nodes queue))
+        ≡ queue.len - 1 + position_or_len (is_no_sooner key) (node.queued ∷ [])
+    ahead sooner =
+        let at = had.last (queue.len - 1) (omega arith) in
+        let found = node_at nodes queue.len queue.first (queue.len - 1) queue.last had.whole at in
+        let long = length-map (linked nodes queue) (λ (e : ℕ × Queued). e.1) in
+        let whole = had.whole in
+        ahead_of_last key node.queued (cells (linked nodes queue)) (queue.len - 1) sooner had.rising (omega arith)
+        (search (arith, rules, same_Some, slice_get-map))
 
-module _ (nodes : Nodes) (queue : Queue) (m : ℕ) (node : Node) (is : IsLast nodes queue m node) where
-  last_shown : slice_get (cells (linked nodes queue)) m ≡ Some node.queued
-  last_shown =
-      let found = node_at nodes queue.len queue.first m queue.last is.chained.whole (is.chained.last m is.some) in
-      let same : found.0 ≡ node = same_Some found.0 node (sym found.1 ∙ is.here) in
-      slice_get-map (λ (e : ℕ × Queued). e.1) (linked nodes queue) m
-      ∙ ap (option_map (λ (e : ℕ × Queued). e.1)) found.2
-      ∙ ap (λ (n : Node). Some n.queued) same
+    pub last_ahead : is_before node.queued.key key ≡ true →
+        queue.len ≡ position_or_len (is_no_sooner key) (cells (linked nodes queue))
+    last_ahead before =
+        let all = ahead (λ x first. key_laws.on x.key node.queued.key key first before) in
+        search (arith, rules, first_later)
 
-  as_long : length (cells (linked nodes queue)) ≡ m + 1
-  as_long = length-map (linked nodes queue) (λ (e : ℕ × Queued). e.1) ∙ is.chained.whole ∙ is.some
-
-  -- where the last cell is more urgent, all cells are
-  pub last_ahead : (key : Key) → is_before node.queued.key key ≡ true →
-      queue.len ≡ position_or_len (is_no_sooner key) (cells (linked nodes queue))
-  last_ahead key before = grind (arith, common_steps, all_ahead, as_long, last_shown)
-
-  -- where the last cell has the key, all others are
-  pub last_is : (key : Key) → node.queued.key ≡ key →
-      m ≡ position_or_len (is_no_sooner key) (cells (linked nodes queue))
-  last_is key own = grind (arith, common_steps, others_ahead, as_long, last_shown)
+    pub last_is : node.queued.key ≡ key →
+        queue.len - 1 ≡ position_or_len (is_no_sooner key) (cells (linked nodes queue))
+    last_is own =
+        let all = ahead (λ x first. subst (λ (k : Key). is_before x.key k ≡ true) own first) in
+        let never = subst (λ (k : Key). is_before node.queued.key k ≡ false) own
+        (key_laws.never_itself node.queued.key) in
+        search (arith, rules, first_here)
 
 -- a node of the queue has a cell for its output
 pub own_at : (nodes : Nodes) (j : ℕ) (queue : Queue) (m place : ℕ) (node : Node) → IsLinked nodes j queue →
     slice_get (places (linked nodes queue)) m ≡ Some place → nodes place ≡ Some node → node.queued.cell.output ≡ j
 own_at nodes j queue m place node had at here =
     let found = node_at nodes queue.len queue.first m place had.chained.whole at in
-    let same : found.0 ≡ node = same_Some found.0 node (sym found.1 ∙ here) in
     all_at (λ c. c.cell.output ≡ j) (cells (linked nodes queue)) m node.queued had.own
-    (slice_get-map (λ (e : ℕ × Queued). e.1) (linked nodes queue) m ∙ ap (option_map (λ (e : ℕ × Queued). e.1)) found.2
-    ∙ ap (λ (n : Node). Some n.queued) same)
+    (search (arith, rules, slice_get-map))
 
 -- ## A node more
 
@@ -89,39 +69,57 @@ pub chain_first : (old new : Nodes) (j : ℕ) (queue : Queue) (k : ℕ) (c : Que
 chain_first old new j queue k c had added others =
     let long : queue.len + 1 ≡ suc queue.len = omega arith in
     ap (λ n. chain new n k) long ∙ chain-at new queue.len k _ added
-    ∙ ap (λ l. (k, c) ∷ l) (chain_stays old new (λ x. x.cell.output ≡ j) (λ i node there _. others i node there)
-    queue.len queue.first had.chained.whole had.own)
+    ∙ ap (λ l. (k, c) ∷ l) (search (arith, rules, chain_stays, others))
 
--- behind one
-pub chain_more : (old mid new : Slab Node) (j : ℕ) (queue : Queue) (m a k : ℕ) (ahead read : Node) (c : Queued) →
-    IsLinked (get old) j queue → slice_get (places (linked (get old) queue)) m ≡ Some a → get old k ≡ None →
-    get old a ≡ Some ahead → Updates old mid k
-    (Some (record { queued = c; next = ahead.next })) → get mid a ≡ Some read → Updates mid new a
-    (Some (record { queued = read.queued; next = k })) → chain (get new) (queue.len + 1) queue.first ≡ insert
-    (linked (get old) queue) (suc m) (k, c)
-chain_more old mid new j queue m a k ahead read c had at vacant here more again led =
-    let long : queue.len + 1 ≡ suc queue.len = omega arith in
-    let found = node_at (get old) queue.len queue.first m a had.chained.whole at in
-    let same : found.0 ≡ ahead = same_Some found.0 ahead (sym found.1 ∙ here) in
-    ap (λ n. chain (get new) n queue.first) long
-    ∙ chain_behind (get old) (get new) a k ahead c here
-    (changed old mid new a k ahead read c vacant here more again led)
-    (added old mid new a k ahead read c vacant here more again led)
-    (others old mid new a k ahead read c vacant here more again led)
-    queue.len queue.first m had.chained.whole had.chained.rising (found.2 ∙ ap (λ (n : Node). Some (a, n.queued)) same)
+-- behind one: a place that was vacant was no node's, so the nodes that were there stand at other places
+pub still_there : (old new : Slab Node) (k : ℕ) (node : Node) → get old k ≡ None → Updates old new k (Some node) →
+    (i : ℕ) (m : Node) → get old i ≡ Some m → get new i ≡ Some m
+still_there old new k node vacant more i m there = grind (arith, common_steps, more.others, none-some)
+
+pub is_behind : {old mid new : Slab Node} {a k : ℕ} {ahead read : Node} {c : Queued} → get old k ≡ None →
+    get old a ≡ Some ahead → Updates old mid k (Some (record { queued = c; next = ahead.next })) →
+    get mid a ≡ Some read → Updates mid new a (Some (record { queued = read.queued; next = k })) →
+    IsBehind (get old) (get new) a k ahead c
+is_behind {old} {mid} {k = k} {ahead = ahead} vacant here more again led = record {
+  here = here;
+  changed = search (rules, same_Some, still_there);
+  added = led.others k (λ same. none-some ahead (sym vacant ∙ ap (get old) same ∙ here)) ∙ more.changed;
+  others = λ i node there ne. led.others i ne ∙ still_there old mid k _ vacant more i node there;
+}
+
+module _ {old : Nodes} {j : ℕ} {queue : Queue} (had : IsLinked old j queue) (count : ℕ) {a : ℕ}
+    (ends : EndsAt (linked old queue) count a) (some : 0 < count) where
+  place_ahead : slice_get (places (linked old queue)) (count - 1) ≡ Some a
+  place_ahead = ends (count - 1) (omega arith)
+
+  pub ahead_there : (node : Node) × (old a ≡ Some node)
+  ahead_there =
+      let found = node_at old queue.len queue.first (count - 1) a had.chained.whole place_ahead in (found.0, found.1)
+
+  module _ {new : Nodes} {k : ℕ} {ahead : Node} {c : Queued} (b : IsBehind old new a k ahead c) where
+    pub chain_more : chain new (queue.len + 1) queue.first ≡ insert (linked old queue) count (k, c)
+    chain_more =
+        let found = node_at old queue.len queue.first (count - 1) a had.chained.whole place_ahead in
+        let same = same_Some found.0 ahead (sym found.1 ∙ b.here) in
+        let next : count ≡ suc (count - 1) = omega arith in rw next (search (arith, rules, chain_behind b))
+
+    pub others_stay : OthersStay j old new
+    others_stay i node there ne =
+        let own = own_at old j queue (count - 1) a ahead had place_ahead b.here in search (rules, b.others, same_Some)
 
 insert_end_shown : {X : Type 0} (xs : List X) (n : ℕ) (y : X) → length xs ≡ n → slice_get (insert xs n y) n ≡ Some y
-insert_end_shown [] zero y len = refl
-insert_end_shown [] (suc n) y len = absurd (omega arith)
-insert_end_shown (x ∷ xs) zero y len = absurd (omega arith)
-insert_end_shown (x ∷ xs) (suc n) y len = insert_end_shown xs n y (omega arith)
+insert_end_shown xs n y len =
+    grind (arith, common_steps, slice_get-get_or (insert xs n y) n y, get_or-insert_at, length-insert)
 
 insert_end_kept : {X : Type 0} (xs : List X) (i m : ℕ) (y : X) → i ≤ m → m < length xs →
     slice_get (insert xs i y) (suc m) ≡ slice_get xs m
-insert_end_kept xs zero m y le inside = refl
-insert_end_kept [] (suc i) m y le inside = absurd (omega arith)
-insert_end_kept (x ∷ xs) (suc i) zero y le inside = absurd (omega arith)
-insert_end_kept (x ∷ xs) (suc i) (suc m) y le inside = insert_end_kept xs i m y (omega arith) (omega arith)
+insert_end_kept xs i m y le inside =
+    let next : suc m ≡ m + 1 = omega arith in
+    let above = get_or-insert_above xs i y y m in
+    let here = slice_get-get_or (insert xs i y) (m + 1) y in
+    rw next (grind (arith, common_steps, here, slice_get-get_or xs m y, length-insert))
+
+ruleset equal_or_not = (cond_both, eqb-true, eqb-false)
 
 module _ (old new : Nodes) (j : ℕ) (queue more : Queue) (count k : ℕ) (c : Queued) (had : IsLinked old j queue)
     (own : c.cell.output ≡ j) (other : HasOtherKey c (cells (linked old queue)))
@@ -134,14 +132,9 @@ module _ (old new : Nodes) (j : ℕ) (queue more : Queue) (count k : ℕ) (c : Q
   pub cells_more : cells (linked new more) ≡ put c (cells (linked old queue))
   cells_more = grind (arith, common_steps, map-insert, put_is)
 
-  kept_end : (m : ℕ) → count < m → m ≡ queue.len →
-      slice_get (insert (places (linked old queue)) count k) m ≡ Some queue.last
-  kept_end zero lt is = absurd (omega arith)
-  kept_end (suc m) lt is = grind (arith, common_steps, length-map, insert_end_kept)
-
   ends_more : EndsAt (linked new more) more.len more.last
   ends_more m is =
-      search (rules, length-map, count_inside, map-insert, cond_both, eqb-true, insert_end_shown, kept_end, eqb-false)
+      search (arith, rules, equal_or_not, length-map, count_inside, map-insert, insert_end_shown, insert_end_kept)
 
   pub linked_more : IsLinked new j more
   linked_more = grind (arith, common_steps, length-insert, count_inside, cells_more, rising_put, ends_more, all_put)
@@ -151,29 +144,32 @@ module _ (old new : Nodes) (j : ℕ) (queue more : Queue) (count k : ℕ) (c : Q
 
 -- ## The head taken out
 
-pub head_own : (nodes : Nodes) (j n : ℕ) (queue : Queue) (node : Node) → IsLinked nodes j queue → queue.len ≡ n + 1 →
-    nodes queue.first ≡ Some node → node.queued.cell.output ≡ j
-head_own nodes j n queue node had some here = grind (arith, common_steps, own_at, chain-at)
+module _ {old new : Slab Node} {j : ℕ} {queue : Queue} {node : Node} (had : IsLinked (get old) j queue)
+    (some : 0 < queue.len) (here : get old queue.first ≡ Some node) (less : Updates old new queue.first None) where
+  seen : linked (get old) queue ≡ (queue.first, node.queued) ∷ chain (get old) (queue.len - 1) node.next
+  seen =
+      let long : queue.len ≡ suc (queue.len - 1) = omega arith in
+      ap (λ n. chain (get old) n queue.first) long ∙ chain-at (get old) (queue.len - 1) queue.first node here
 
-module _ (old new : Nodes) (j n : ℕ) (queue : Queue) (node : Node) (had : IsLinked old j queue)
-    (some : queue.len ≡ n + 1) (here : old queue.first ≡ Some node)
-    (others : (i : ℕ) (m : Node) → old i ≡ Some m → i ≢ queue.first → new i ≡ Some m) where
-  seen : linked old queue ≡ (queue.first, node.queued) ∷ chain old n node.next
-  seen = grind (arith, common_steps, chain-at)
+  others : (i : ℕ) (m : Node) → get old i ≡ Some m → i ≢ queue.first → get new i ≡ Some m
+  others i m there ne = less.others i ne ∙ there
 
-  rest_stays : chain new n node.next ≡ chain old n node.next
+  pub rest_stay : OthersStay j (get old) (get new)
+  rest_stay i m there ne =
+      let own = subst (λ (l : List (ℕ × Queued)). AllByRecursion (λ c. c.cell.output ≡ j) (cells l)) seen had.own in
+      grind (arith, common_steps, others, same_Some)
+
+  rest_stays : chain (get new) (queue.len - 1) node.next ≡ chain (get old) (queue.len - 1) node.next
   rest_stays =
       let rising = subst (λ (l : List (ℕ × Queued)). IsRising (cells l)) seen had.chained.rising in
-      let whole : length (chain old n node.next) ≡ n = search (arith, rules, seen) in
-      chain_stays old new (λ x. x ≢ node.queued)
-      (λ i m there ne. others i m there (λ same. search (arith, rules, same_Some))) n node.next whole
-      (all_weaker _ _ (λ x before same. differs node.queued x before (sym same)) (cells (chain old n node.next))
-      rising.0)
+      let whole : length (chain (get old) (queue.len - 1) node.next) ≡ queue.len - 1 = search (arith, rules, seen) in
+      chain_stays (get old) (get new) (λ x. x ≢ node.queued) (search (arith, rules, others, same_Some)) (queue.len - 1)
+      node.next whole (search (arith, rules, all_weaker, differs))
 
-  pub cells_less : cells (linked old queue) ≡ node.queued ∷ cells (chain new n node.next)
+  pub cells_less : cells (linked (get old) queue) ≡ node.queued ∷ cells (chain (get new) (queue.len - 1) node.next)
   cells_less = ap cells seen ∙ ap (λ l. node.queued ∷ cells l) (sym rest_stays)
 
-  pub linked_less : IsLinked new j (record { first = node.next; last = queue.last; len = n })
+  pub linked_less : IsLinked (get new) j (record { first = node.next; last = queue.last; len = queue.len - 1 })
   linked_less =
       let rising = subst IsRising cells_less had.chained.rising in
       let own = subst (AllByRecursion (λ c. c.cell.output ≡ j)) cells_less had.own in

@@ -1,14 +1,7 @@
 -- The place of the item number k of those that pass a test. It is read one item at a time: an item that fails is
 -- passed over, the first that passes is the answer for k = 0, and else leaves one less to look for. So it is the
 -- place at which a second test is first met among those that pass the first.
-use Rattle.std.proofs.Common.{rules, ◌≡◌, ◌≢◌, ℕ, ◌+◌, ◌-◌, ◌<◌, ◌≤◌, eqb, Bool, true, false, cond, List, [], ◌∷◌, ◌++◌, length, get_or, drop, map, refl, ap, arith, sym, ◌∙◌, ⊎_elim}
-use Rattle.std.proofs.lemmas.Grind.{common_steps}
-use Rattle.std.specs.Prelude.{◌&&◌, filter}
-use Rattle.std.specs.List.{position_or_len}
-use Rattle.std.proofs.lemmas.Bool.{eq-eqb, ne_eqb, cases_Bool, cases_eq}
-use Rattle.std.proofs.lemmas.List.{drop_more, drop_all}
-use Rattle.cq_base.proofs.Lists.{first_here, first_later}
-use Rattle.cq_list.specs.Split.{place_of_nth, is_output}
+use Rattle.cq_list.proofs.Terms.{rules, ◌≡◌, ◌≢◌, ℕ, ◌+◌, ◌-◌, ◌<◌, ◌≤◌, eqb, Bool, true, false, cond, List, [], ◌∷◌, ◌++◌, length, get_or, drop, map, refl, ap, arith, ⊎_elim, common_steps, ◌&&◌, filter, position_or_len, eq-eqb, ne_eqb, cases_Bool, cases_eq, drop_more, drop_all, first_here, first_later, place_of_nth, is_output}
 
 -- ## One item
 
@@ -28,6 +21,8 @@ nth_here p x xs e = ap (λ b. cond (b && true) 0 (1 + place_of_nth p (cond b 0 0
 pub nth_next : {X : Type 0} (p : X → Bool) (k : ℕ) (x : X) (xs : List X) → p x ≡ true →
     place_of_nth p (1 + k) (x ∷ xs) ≡ 1 + place_of_nth p k xs
 nth_next p k x xs e = grind (arith, common_steps, ne_eqb)
+
+ruleset nth_item = (passes, nth_here, nth_next, fails, nth_other)
 
 -- the first place is the place of number 0
 pub nth_is_first : {X : Type 0} (p : X → Bool) (xs : List X) → place_of_nth p 0 xs ≡ position_or_len p xs
@@ -65,66 +60,25 @@ nth_none_left j k xs i h = ap (place_of_nth (is_output j) k) (drop_all i xs h)
 pub first_of_both : {X : Type 0} (p q : X → Bool) (xs : List X) →
     position_or_len (λ x. p x && q x) xs ≡ place_of_nth p (position_or_len q (filter p xs)) xs
 first_of_both p q [] = refl
-first_of_both {X} p q (x ∷ xs) = grind (
-  arith,
-  common_steps,
-  passes,
-  first_here,
-  nth_here,
-  first_later,
-  nth_next,
-  cases_Bool,
-  fails,
-  nth_other,
-  first_of_both p q xs,
-)
+first_of_both {X} p q (x ∷ xs) =
+    grind (arith, common_steps, nth_item, first_here, first_later, cases_Bool, first_of_both p q xs)
 
 -- the item number k is there where more than k pass
 pub nth_inside : {X : Type 0} (p : X → Bool) (k : ℕ) (xs : List X) → k < length (filter p xs) →
     place_of_nth p k xs < length xs
 nth_inside p k [] some = absurd (omega arith)
-nth_inside p k (x ∷ xs) some =
-    ⊎_elim
-    (λ own.
-    let more = ap length (passes p x xs own) in
-    ⊎_elim
-    (λ first. let here = ap (λ n. place_of_nth p n (x ∷ xs)) first ∙ nth_here p x xs own in omega arith)
-    (λ ne.
-    let less : k ≡ 1 + (k - 1) = omega arith in
-    let step = ap (λ n. place_of_nth p n (x ∷ xs)) less ∙ nth_next p (k - 1) x xs own in
-    let rest = nth_inside p (k - 1) xs (omega arith) in
-    omega arith)
-    (cases_eq k 0))
-    (λ other.
-    let same = ap length (fails p x xs other) in
-    let step = nth_other p k x xs other in
-    let rest = nth_inside p k xs (omega arith) in
-    omega arith)
-    (cases_Bool (p x))
+nth_inside p k (x ∷ xs) some = ⊎_elim
+    (search (arith, rules, passes, nth_here, nth_next, cases_eq, nth_inside p (k - 1) xs))
+    (search (arith, rules, fails, nth_other, nth_inside p k xs)) (cases_Bool (p x))
 
 -- ## Two lists
 
 pub nth_in_front : {X : Type 0} (p : X → Bool) (k : ℕ) (xs ys : List X) → k < length (filter p xs) →
     place_of_nth p k (xs ++ ys) ≡ place_of_nth p k xs
 nth_in_front p k [] ys inside = absurd (omega arith)
-nth_in_front p k (x ∷ xs) ys inside =
-    ⊎_elim
-    (λ own.
-    let more = ap length (passes p x xs own) in
-    ⊎_elim
-    (λ first. ap (λ n. place_of_nth p n (x ∷ xs ++ ys)) first ∙ nth_here p x (xs ++ ys) own
-    ∙ sym (ap (λ n. place_of_nth p n (x ∷ xs)) first ∙ nth_here p x xs own))
-    (λ ne.
-    let less : k ≡ 1 + (k - 1) = omega arith in
-    ap (λ n. place_of_nth p n (x ∷ xs ++ ys)) less ∙ nth_next p (k - 1) x (xs ++ ys) own
-    ∙ ap (λ n. 1 + n) (nth_in_front p (k - 1) xs ys (omega arith))
-    ∙ sym (ap (λ n. place_of_nth p n (x ∷ xs)) less ∙ nth_next p (k - 1) x xs own))
-    (cases_eq k 0))
-    (λ other.
-    let same = ap length (fails p x xs other) in
-    nth_other p k x (xs ++ ys) other ∙ ap (λ n. 1 + n) (nth_in_front p k xs ys (omega arith))
-    ∙ sym (nth_other p k x xs other))
-    (cases_Bool (p x))
+nth_in_front p k (x ∷ xs) ys inside = ⊎_elim
+    (search (arith, rules, passes, nth_here, nth_next, cases_eq, nth_in_front p (k - 1) xs ys))
+    (search (arith, rules, fails, nth_other, nth_in_front p k xs ys)) (cases_Bool (p x))
 
 pub nth_behind : {X : Type 0} (p : X → Bool) (k : ℕ) (xs ys : List X) → length (filter p xs) ≤ k →
     place_of_nth p k (xs ++ ys) ≡ length xs + place_of_nth p (k - length (filter p xs)) ys

@@ -1,16 +1,5 @@
 -- A pool in which one queue changes: each queue is linked as before, and the cells of the others are the same.
-use Rattle.std.proofs.lemmas.Grind.{common_steps}
-use Rattle.std.proofs.Common.{rules, ◌≡◌, ◌≢◌, ℕ, zero, suc, ◌+◌, ◌<◌, ◌≤◌, List, [], ◌∷◌, replicate, length, get_or, set, refl, ap, ◌∙◌, arith, length-set, get_or-set_same, get_or-set_other, sym, ⊎_elim}
-use Rattle.std.specs.Prelude.{Bool}
-use Rattle.std.specs.List.{position_or_len}
-use Rattle.std.proofs.lemmas.Bool.{cases_lt, cases_eq}
-use Rattle.std.proofs.lemmas.List.{length-map, get_or-map, get_or_past, get_or_read, ext_get_or}
-use Rattle.std.proofs.lemmas.List.Sums.{sum_by-set}
-use Rattle.slab.specs.Slab.{Slab, get, slab_len}
-use Rattle.cq_list.specs.declared.pool.Node.{Node}
-use Rattle.cq_base.specs.declared.cell.Queued.{Queued}
-use Rattle.cq_list.specs.declared.pool.Queue.{Queue}
-use Rattle.cq_list.specs.Pool.{PoolView, Nodes, linked, cells, IsLinked, OthersStay, AreLinked, IsPool, no_queue, queue_at, cells_in_queues, queue_of}
+use Rattle.cq_list.proofs.Terms.{common_steps, rules, ◌≡◌, ◌≢◌, ℕ, zero, suc, ◌+◌, ◌<◌, ◌≤◌, List, [], ◌∷◌, replicate, length, get_or, set, refl, ap, ◌∙◌, arith, length-set, get_or-set_same, get_or-set_other, Bool, position_or_len, cases_lt, cases_eq, length-map, get_or-map, get_or_past, get_or_read, ext_get_or, sum_by-set, Slab, get, slab_len, Node, Queued, Queue, PoolView, Nodes, linked, cells, IsLinked, OthersStay, AreLinked, IsPool, no_queue, queue_at, cells_in_queues, queue_of}
 use Rattle.cq_list.proofs.Linked.{linked_stays, is_linked_along}
 
 -- what is seen of a queue, also beyond the last
@@ -39,40 +28,8 @@ module _ (old new : Nodes) (j : ℕ) (queues : List Queue) (queue : Queue) (had 
   pub cells_changed : cells_in_queues new (set queues j queue)
       ≡ set (cells_in_queues old queues) j (cells (linked new queue))
   cells_changed =
-      let f : Nodes → Queue → List Queued = λ nodes q. cells (linked nodes q) in
-      let long = length-map queues (f old) in
-      let longer = length-map (set queues j queue) (f new) in
-      let as_long = length-set queues j queue in
-      let as_many = length-set (cells_in_queues old queues) j (f new queue) in
-      ext_get_or [] _ _ (omega arith)
-      (λ i within.
-      let at : i < length queues = omega arith in
-      let here : i < length (set queues j queue) = omega arith in
-      get_or-map (f new) (set queues j queue) i no_queue [] here
-      ∙ ⊎_elim
-      (λ same.
-      ap (λ k. f new (queue_at (set queues j queue) k)) same
-      ∙ ap (f new) (get_or-set_same queues j queue no_queue inside)
-      ∙ sym (ap (λ k. get_or (set (cells_in_queues old queues) j (f new queue)) k []) same
-      ∙ get_or-set_same (cells_in_queues old queues) j (f new queue) [] (omega arith)))
-      (λ ne.
-      ap (f new) (get_or-set_other queues j i queue no_queue ne)
-      ∙ ap cells (other_stays i ne)
-      ∙ sym (get_or-set_other (cells_in_queues old queues) j i (f new queue) [] ne
-      ∙ get_or-map (f old) queues i no_queue [] at))
-      (cases_eq i j))
-
--- ## A pool
-
--- the queue of an output, as it was read
-pub queue_read : (nodes : Nodes) (queues : List Queue) (j : ℕ) (queue : Queue) → AreLinked nodes queues →
-    j < length queues → queue ≡ get_or queues j queue → IsLinked nodes j queue
-queue_read nodes queues j queue had inside read = search (rules, get_or_read)
-
-pub cells_read : (nodes : Nodes) (queues : List Queue) (seen : List (List Queued)) (j : ℕ) (queue : Queue) →
-    cells_in_queues nodes queues ≡ seen → j < length queues → queue ≡ get_or queues j queue → queue_of seen j ≡ cells
-    (linked nodes queue)
-cells_read nodes queues seen j queue is inside read = grind (arith, common_steps, queue_seen, get_or_read)
+      ext_get_or [] _ _ (search (rules, length-map, length-set)) (λ i within. search
+      (arith, rules, queue_seen, get_or-set_same, get_or-set_other, other_stays, cases_eq i j, length-map, length-set))
 
 -- ## A queue that was read
 
@@ -96,16 +53,14 @@ pub record IsRead (nodes : Nodes) (queues : List Queue) (seen : List (List Queue
 pub is_read : (nodes : Nodes) (queues : List Queue) (seen : List (List Queued)) (j : ℕ) (queue : Queue) →
     AreLinked nodes queues → cells_in_queues nodes queues ≡ seen → j < length queues → queue ≡ get_or queues j queue →
     IsRead nodes queues seen j queue
-is_read nodes queues seen j queue had view inside read = search (rules, queue_read, cells_read)
+is_read nodes queues seen j queue had view inside read = search (arith, rules, queue_seen, get_or_read)
 
 -- so of a queue of the pool
 pub read_of : {nodes : Slab Node} {queues : List Queue} {room spare : ℕ} {seen : PoolView} {j : ℕ} {queue : Queue} →
     IsPool nodes queues room → record { queues = cells_in_queues (get nodes) queues; spare = spare } ≡ seen →
     j < length seen.queues → queue ≡ get_or queues j queue → IsRead (get nodes) queues seen.queues j queue
 read_of {nodes} {queues} {seen = seen} {j} {queue} had is inside read =
-    let view = ap (λ (v : PoolView). v.queues) is in
-    is_read (get nodes) queues seen.queues j queue had.linked view
-    (inside_seen (get nodes) queues seen.queues j view inside) read
+    let view = ap (λ (v : PoolView). v.queues) is in search (arith, rules, is_read, inside_seen)
 
 -- what stands first in it stands first in what is seen
 pub first_seen : {nodes : Slab Node} {queues : List Queue} {room spare : ℕ} {seen : PoolView} {j : ℕ} {queue : Queue}
@@ -121,17 +76,14 @@ as_many {nodes} {queue = queue} r = grind (arith, common_steps, length-map)
 
 -- ## Another queue in its place
 
-module _ (old new : Slab Node) (j room : ℕ) (queues : List Queue) (seen : List (List Queued)) (read queue : Queue)
-    (had : IsPool old queues room) (r : IsRead (get old) queues seen j read)
-    (stay : OthersStay j (get old) (get new)) where
-  pub is_pool_changed : IsLinked (get new) j queue → slab_len new + read.len ≡ slab_len old + queue.len →
+module _ {old : Slab Node} (new : Slab Node) {j room : ℕ} {queues : List Queue} {seen : List (List Queued)}
+    {read queue : Queue} (had : IsPool old queues room) (r : IsRead (get old) queues seen j read)
+    (stay : OthersStay j (get old) (get new)) (changed : IsLinked (get new) j queue) where
+  pub is_pool_changed : slab_len new + read.len ≡ slab_len old + queue.len →
       slab_len new ≤ room → new.capacity ≡ old.capacity → IsPool new (set queues j queue) room
-  is_pool_changed changed len fits capacity = grind (
-    arith,
-    common_steps,
-    are_linked_changed (get old) (get new) j queues queue had.linked r.inside stay changed,
-    sum_by-set,
-  )
+  is_pool_changed len fits capacity =
+      let linked = are_linked_changed (get old) (get new) j queues queue had.linked r.inside stay changed in
+      grind (arith, common_steps, linked, sum_by-set)
 
   pub view_changed : (f : List Queued → List Queued) → cells (linked (get new) queue) ≡ f
       (cells (linked (get old) read)) → cells_in_queues (get new) (set queues j queue) ≡ set seen j

@@ -13,29 +13,16 @@
 --
 -- Last what is looked up: a cell at a place, and the place of the first cell for an output that passes a test, which is
 -- the place of the number k of its output where the number k of the queue is the first that passes.
-use Rattle.std.proofs.lemmas.Grind.{common_steps}
-use Rattle.std.proofs.Common.{rules, ◌≡◌, ℕ, zero, suc, ◌+◌, eqb, Bool, true, false, not, cond, List, [], ◌∷◌, ◌++◌, length, take, drop, map, Some, refl, sym, ap, ◌∙◌, arith, take-append-drop, subst}
-use Rattle.std.proofs.lemmas.List.{map-append, take-map, drop-map}
-use Rattle.std.specs.Prelude.{◌&&◌, slice_get, remove, insert, filter}
-use Rattle.std.specs.List.{AllByRecursion, position_or_len}
-use Rattle.std.proofs.lemmas.Bool.{cond_both, eqb-true, eq-eqb}
-use Rattle.std.proofs.lemmas.List.Elements.{filter-append}
-use Rattle.cq_base.specs.declared.cell.Queued.{Queued}
-use Rattle.cq_base.specs.Cells.{IsBefore, IsRising, KeepsOrder, HasOtherKey, MoreUrgentAhead, is_for, first_for, without_first, put, place_of_arrival, with_arrival}
-use Rattle.cq_base.proofs.Keys.{key_laws}
-use Rattle.cq_base.proofs.Lists.{keeps_order_arrival, first_here, first_later}
+use Rattle.cq_list.proofs.Terms.{common_steps, rules, ◌≡◌, ℕ, zero, suc, ◌+◌, eqb, Bool, true, false, cond, List, [], ◌∷◌, ◌++◌, length, take, drop, map, Some, refl, sym, ap, ◌∙◌, arith, take-append-drop, take-map, ◌&&◌, slice_get, remove, insert, filter, AllByRecursion, position_or_len, cond_both, eqb-true, eq-eqb, filter-append, Queued, IsBefore, IsRising, KeepsOrder, HasOtherKey, MoreUrgentAhead, is_for, first_for, without_first, put, place_of_arrival, with_arrival, key_laws, keeps_order_arrival, first_here, first_later, Queues, without_head, merged, IsSplit, place_of_nth, is_output, count_of, all_back, map-insert}
 use Rattle.cq_list.proofs.Nth.{passes, fails, first_of_both, place_of_nth-map}
-use Rattle.cq_list.specs.Split.{Queues, without_head, merged, IsSplit, place_of_nth, is_output, count_of}
 
 -- ## One filter
 
 pub filter-insert-other : {X : Type 0} (p : X → Bool) (xs : List X) (i : ℕ) (y : X) → p y ≡ false →
     filter p (insert xs i y) ≡ filter p xs
 filter-insert-other p xs i y e =
-    filter-append p (take i xs) (y ∷ drop i xs)
-    ∙ ap (λ l. filter p (take i xs) ++ l) (fails p y (drop i xs) e)
-    ∙ sym (filter-append p (take i xs) (drop i xs))
-    ∙ ap (filter p) (take-append-drop i xs)
+    filter-append p (take i xs) (y ∷ drop i xs) ∙ ap (λ l. filter p (take i xs) ++ l) (fails p y (drop i xs) e)
+    ∙ sym (filter-append p (take i xs) (drop i xs)) ∙ ap (filter p) (take-append-drop i xs)
 
 pub filter-insert : {X : Type 0} (p : X → Bool) (xs : List X) (i : ℕ) (y : X) → p y ≡ true →
     filter p (insert xs i y) ≡ filter p (take i xs) ++ y ∷ filter p (drop i xs)
@@ -56,21 +43,14 @@ merged_queues : (cells : List Queued) (queues : Queues) → ((j : ℕ) → queue
     merged (map (λ c. c.cell.output) cells) queues ≡ cells
 merged_queues [] queues same = refl
 merged_queues (x ∷ xs) queues same =
-    let head : take 1 (queues x.cell.output) ≡ x ∷ [] =
-    ap (take 1) (same x.cell.output ∙ passes (is_for x.cell.output) x xs (eq-eqb _ _ refl)) in
     let rest = merged_queues xs (without_head x.cell.output queues) (behind_first queues x xs same) in
-    ap (λ l. l ++ merged (map (λ (c : Queued). c.cell.output) xs) (without_head x.cell.output queues)) head
-    ∙ ap (λ l. x ∷ l) rest
+    search (arith, rules, passes, eq-eqb, cond_both, fails)
 
 pub merged_is : (places : List ℕ) (queues : Queues) (cells : List Queued) → IsSplit places queues cells →
     merged places queues ≡ cells
 merged_is places queues cells s = ap (λ l. merged l queues) s.outputs ∙ merged_queues cells queues s.queued
 
 -- ## A cell that arrives
-
-all_append : {X : Type 0} (P : X → Type 0) (xs ys : List X) → AllByRecursion P (xs ++ ys) → AllByRecursion P ys
-all_append P [] ys a = a
-all_append P (x ∷ xs) ys a = all_append P xs ys a.1
 
 all_filtered : (c : Queued) (j : ℕ) (xs : List Queued) → c.cell.output ≡ j →
     AllByRecursion (λ x. c.cell.output ≡ x.cell.output → IsBefore c x) xs → AllByRecursion (IsBefore c)
@@ -89,9 +69,8 @@ pub put_between : (before after : List Queued) (c : Queued) → IsRising (before
 put_between [] [] c rising = refl
 put_between [] (y ∷ after) c rising = ap (λ b. cond b (c ∷ y ∷ after) (y ∷ put c after)) rising.0.0
 put_between (x ∷ before) after c rising =
-    let ahead : IsBefore x c = (all_append (IsBefore x) before (c ∷ after) rising.0).0 in
-    ap (λ b. cond b (c ∷ x ∷ before ++ after) (x ∷ put c (before ++ after))) (key_laws.one_way x.key c.key ahead)
-    ∙ ap (λ l. x ∷ l) (put_between before after c rising.1)
+    let ahead = (all_back (IsBefore x) before (c ∷ after) rising.0).0 in
+    search (arith, rules, key_laws.one_way, put_between before after c)
 
 -- the cell's own queue, after its arrival
 own_arrived : (cushion : ℕ) (c : Queued) (xs : List Queued) (j : ℕ) → c.cell.output ≡ j → KeepsOrder xs →
@@ -101,18 +80,11 @@ own_arrived cushion c xs j own order other ahead =
     let at = place_of_arrival cushion c xs in
     let parts = filter-insert (is_for j) xs at c (eq-eqb c.cell.output j own) in
     let rising = queue_rising j (with_arrival cushion c xs) (keeps_order_arrival cushion c xs order other ahead) in
-    parts
-    ∙ sym (put_between (filter (is_for j) (take at xs)) (filter (is_for j) (drop at xs)) c
-    (subst IsRising parts rising))
-    ∙ ap (put c) (sym (filter-parts (is_for j) xs at))
+    search (arith, rules, put_between, filter-parts)
 
 -- the queues with one cell more
 abbrev pub with_queued : Queued → Queues → Queues
 with_queued c queues j = cond (is_for j c) (put c (queues j)) (queues j)
-
-pub map-insert : {X Y : Type 0} (f : X → Y) (xs : List X) (i : ℕ) (y : X) →
-    map f (insert xs i y) ≡ insert (map f xs) i (f y)
-map-insert f xs i y = grind (arith, common_steps, map-append, take-map, drop-map)
 
 pub split_arrived : (places : List ℕ) (queues : Queues) (xs : List Queued) (cushion : ℕ) (c : Queued) →
     IsSplit places queues xs → KeepsOrder xs → HasOtherKey c xs → MoreUrgentAhead cushion c xs → IsSplit
@@ -141,11 +113,11 @@ outputs_left : (j : ℕ) (xs : List Queued) →
     (position_or_len (is_output j) (map (λ c. c.cell.output) xs))
 outputs_left j [] = refl
 outputs_left j (x ∷ xs) =
-    let outputs : List Queued → List ℕ = map (λ c. c.cell.output) in
+    let outputs = map (λ c. c.cell.output) in
     let rest : ℕ = position_or_len (is_output j) (outputs xs) in
     cond_both (is_for j x) xs (x ∷ without_first j xs)
     (λ l. outputs l ≡ remove (outputs (x ∷ xs)) (position_or_len (is_output j) (outputs (x ∷ xs))))
-    (λ e. ap (remove (outputs (x ∷ xs))) (sym (first_here (is_output j) x.cell.output (outputs xs) e)))
+    (search (arith, rules, first_here))
     (λ e.
     let place : suc rest ≡ position_or_len (is_output j) (outputs (x ∷ xs)) = search (arith, rules, first_later) in
     ap (λ l. x.cell.output ∷ l) (outputs_left j xs) ∙ ap (remove (outputs (x ∷ xs))) place)
@@ -155,11 +127,6 @@ pub split_left : (places : List ℕ) (queues : Queues) (xs : List Queued) (j : �
 split_left places queues xs j s = search (rules, outputs_left, cond_both, s.queued, own_left, eqb-true, other_left)
 
 -- ## What is looked up
-
-pub position_or_len-map : {X Y : Type 0} (p : Y → Bool) (f : X → Y) (xs : List X) →
-    position_or_len p (map f xs) ≡ position_or_len (λ x. p (f x)) xs
-position_or_len-map p f [] = refl
-position_or_len-map p f (x ∷ xs) = ap (λ n. cond (not (p (f x))) (1 + n) 0) (position_or_len-map p f xs)
 
 pub length-filter-map : {X Y : Type 0} (p : Y → Bool) (f : X → Y) (xs : List X) →
     length (filter p (map f xs)) ≡ length (filter (λ x. p (f x)) xs)
@@ -172,7 +139,7 @@ pub both_is_nth :
     position_or_len (λ x. is_for j x && q x) xs ≡ place_of_nth (is_output j) (position_or_len q (queues j)) places
 both_is_nth places queues xs j q s =
     first_of_both (is_for j) q xs
-    ∙ sym (place_of_nth-map (is_output j) (λ (x : Queued). x.cell.output) (position_or_len q (filter (is_for j) xs)) xs)
+    ∙ sym (search (arith, rules, place_of_nth-map))
     ∙ ap (place_of_nth (is_output j) (position_or_len q (filter (is_for j) xs))) (sym s.outputs)
     ∙ ap (λ l. place_of_nth (is_output j) (position_or_len q l) places) (sym (s.queued j))
 
@@ -181,22 +148,10 @@ own_at : (xs : List Queued) (i : ℕ) (c : Queued) → slice_get xs i ≡ Some c
     slice_get (filter (is_for c.cell.output) xs) (length (filter (is_for c.cell.output) (take i xs))) ≡ Some c
 own_at [] i c h = cc
 own_at (x ∷ xs) zero c h =
-    let same : x ≡ c = cc in
-    ap (λ l. slice_get l 0) (passes (is_for c.cell.output) x xs (eq-eqb _ _ (ap (λ (y : Queued). y.cell.output) same)))
-    ∙ h
-own_at (x ∷ xs) (suc i) c h = step (is_for c.cell.output x) _ _ (own_at xs i c h)
-  where
-    step : (b : Bool) (all front : List Queued) → slice_get all (length front) ≡ Some c →
-        slice_get (cond b (x ∷ all) all) (length (cond b (x ∷ front) front)) ≡ Some c
-    step true all front e = e
-    step false all front e = e
+    let same : x ≡ c = cc in search (arith, rules, passes, eq-eqb)
+own_at (x ∷ xs) (suc i) c h = search (arith, rules, cond_both, passes, fails, own_at xs i c)
 
 pub cell_at : (places : List ℕ) (queues : Queues) (xs : List Queued) (i : ℕ) (c : Queued) → IsSplit places queues xs →
     slice_get xs i ≡ Some c → slice_get (queues c.cell.output) (count_of c.cell.output (take i places)) ≡ Some c
 cell_at places queues xs i c s h =
-    let j : ℕ = c.cell.output in
-    ap (λ l. slice_get l (count_of j (take i places))) (s.queued j)
-    ∙ ap (λ l. slice_get (filter (is_for j) xs) (count_of j (take i l))) s.outputs
-    ∙ ap (λ l. slice_get (filter (is_for j) xs) (count_of j l)) (take-map (λ (x : Queued). x.cell.output) i xs)
-    ∙ ap (slice_get (filter (is_for j) xs))
-    (length-filter-map (is_output j) (λ (x : Queued). x.cell.output) (take i xs)) ∙ own_at xs i c h
+    let j : ℕ = c.cell.output in search (arith, rules, s.queued j, take-map, length-filter-map, own_at xs i c h)

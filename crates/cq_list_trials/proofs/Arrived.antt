@@ -1,12 +1,6 @@
 -- Cells that arrived in slots before this one: they arrived before the next one too, also what is left of them where
 -- one left, and with the newest among them.
-use Rattle.std.proofs.Common.{rules, ◌≡◌, ℕ, ◌+◌, ◌<◌, cond, List, [], ◌∷◌, length, drop, Option, arith}
-use Rattle.std.specs.Prelude.{is_some}
-use Rattle.std.proofs.lemmas.Bool.{cond_both}
-use Rattle.cq_base.specs.declared.cell.Queued.{Queued}
-use Rattle.cq_base.specs.Cells.{ArrivedBefore, is_for, first_for, without_first, put}
-use Rattle.cq_base.proofs.Lists.{all_at, all_by, all_left}
-use Rattle.cq_urgency.proofs.Rising.{all_put}
+use Rattle.cq_list_trials.proofs.Terms.{◌≡◌, ℕ, ◌+◌, ◌<◌, cond, List, [], ◌∷◌, length, drop, Option, arith, is_some, cond_both, Queued, ArrivedBefore, first_for, without_first, put, all_at, all_by, all_left, common_steps, all_put}
 
 pub older_still : (slot : ℕ) (xs : List Queued) → ArrivedBefore slot xs → ArrivedBefore (slot + 1) xs
 older_still slot xs before = all_by _ xs (λ t c at.
@@ -26,9 +20,7 @@ count_taken taken = cond (is_some taken) 1 0
 pub length_left : (j : ℕ) (xs : List Queued) →
     length (without_first j xs) + count_taken (first_for j xs) ≡ length xs
 length_left j [] = omega arith
-length_left j (x ∷ xs) = cond_both (is_for j x) xs (x ∷ without_first j xs)
-    (λ l. length l + count_taken (first_for j (x ∷ xs)) ≡ length (x ∷ xs)) (λ e. search (arith, rules))
-    (λ e. search (arith, rules, length_left j xs))
+length_left j (x ∷ xs) = grind (arith, common_steps, cond_both, length_left j xs)
 
 -- ## A buffer
 

@@ -1,27 +1,13 @@
 -- Lists that change in slot after slot, each in the cells for the partner of its input: a cell came, or the first one
 -- went. The cells of a list are those of its input and came in different slots, so all keys differ. And each list is as
 -- before but for the partner, so the orders are so but for the pairs.
-use Rattle.std.proofs.Common.{rules, ◌≡◌, ℕ, ◌+◌, ◌<◌, ◌≤◌, true, false, List, [], length, get_or, set, Some, None, refl, sym, ap, ◌∙◌, subst, ⊎_elim, arith}
-use Rattle.std.specs.Prelude.{All, slice_get}
-use Rattle.std.specs.List.{AllByRecursion}
+use Rattle.cq_list_trials.proofs.Terms.{rules, ◌≡◌, ℕ, ◌+◌, ◌<◌, ◌≤◌, true, false, List, [], length, get_or, set, Some, refl, sym, ap, ◌∙◌, subst, ⊎_elim, arith, All, slice_get, cases_eq, cases_lt, eq-eqb, eqb-true, length-map, length-set, get_or_past, get_or_default, get_or-set_same, get_or-set_other, find_at, passes_at_first, same_Some, slice_get_within, slice_get-get_or, Queued, KeepsOrder, MoreUrgentAhead, ArrivedBefore, is_for, first_for, place_for, without_first, with_arrival, all_at, each_pair_at, first_le, all_left, all_insert, arrived_newest, Waiting, cells_of, list_of, FirstKeysDiffer, first_key, key_before, orders_of, Partners, partner_of, AreSameWithout}
 use Rattle.std.proofs.Math.ListN.{get_or-map}
-use Rattle.std.proofs.lemmas.Bool.{cases_eq, cases_lt, eq-eqb, eqb-true}
-use Rattle.std.proofs.lemmas.List.{length-map, length-set, get_or_past, get_or_default, get_or-set_same, get_or-set_other}
-use Rattle.std.proofs.lemmas.List.Folds.{find_at}
-use Rattle.std.proofs.lemmas.List.Sums.{passes_at_first}
-use Rattle.std.proofs.lemmas.Option.{same_Some, slice_get_within, slice_get-get_or}
-use Rattle.cq_base.specs.declared.cell.Queued.{Queued}
 use Rattle.cq_base.specs.declared.key.Key.{Key}
 use Rattle.cq_base.specs.Key.{is_before}
-use Rattle.cq_base.specs.Cells.{KeepsOrder, MoreUrgentAhead, ArrivedBefore, is_for, first_for, place_for, without_first, with_arrival}
 use Rattle.cq_base.proofs.Keys.{key_laws}
-use Rattle.cq_base.proofs.Lists.{all_at, each_pair_at, first_le, all_left, all_insert, arrived_newest}
-use Rattle.cq_list.specs.InputList.{Waiting, cells_of}
-use Rattle.cq_prefs.specs.FirstCells.{list_of, FirstKeysDiffer, first_key, key_before, orders_of}
 use Rattle.cq_list_trials.proofs.Arrived.{older_still}
 use Rattle.cq_list_trials.specs.Followed.{AreOwn, HasChanged, IsOwn}
-use Rattle.cq_prefs.specs.Pairing.{Partners, partner_of}
-use Rattle.cq_prefs.specs.Renewal.{AreSameWithout}
 use Rattle.cq_prefs.proofs.Changes.{IsSameBut, same_but_arrival, same_but_taken, same_without}
 
 -- ## One list
@@ -51,8 +37,8 @@ own_still slot i list own =
 pub own_left : (slot i j : ℕ) (old new : Waiting) → IsOwn slot i old → new.cells ≡ without_first j old.cells →
     old.spare ≤ new.spare → IsOwn (slot + 1) i new
 own_left slot i j old new own cells room = own_still slot i new (record {
-  input = subst (AllByRecursion (λ c. c.key.input ≡ i)) (sym cells) (all_left _ j old.cells own.input);
-  older = subst (ArrivedBefore slot) (sym cells) (all_left _ j old.cells own.older);
+  input = rw cells (all_left _ j old.cells own.input);
+  older = rw cells (all_left _ j old.cells own.older);
   room = omega arith;
 })
 
@@ -84,15 +70,9 @@ own_keys slot lists own j i k c d a b e = sym (names i c a) ∙ ap (λ (key : Ke
     names : (i : ℕ) (c : Queued) → first_for j (list_of (cells_of lists) i) ≡ Some c → c.key.input ≡ i
     names i c a =
         let xs = (get_or lists i no_list).cells in
-        let found : first_for j xs ≡ Some c = sym (ap (first_for j) (cells-at lists i)) ∙ a in
-        ⊎_elim
-        (λ l. all_at _ xs (place_for j xs) c (own i no_list l).input (sym (find_at (is_for j) xs) ∙ found))
-        (λ past.
-        let none : list_of (cells_of lists) i ≡ [] =
-        get_or_past (cells_of lists) i [] (omega (arith, length-map lists (λ (w : Waiting). w.cells))) in
-        let no : None ≡ Some c = sym (ap (first_for j) none) ∙ a in
-        absurd (let P : ⊥ = cc in P))
-        (cases_lt i (length lists))
+        let found : first_for j xs ≡ Some c = rw (cells-at lists i) at a in
+        ⊎_elim (λ l. all_at _ xs (place_for j xs) c (own i no_list l).input (sym (find_at (is_for j) xs) ∙ found))
+        (λ past. let none = get_or_past lists i no_list past in cc) (cases_lt i (length lists))
 
 -- the lists of the inputs before n have changed
 pub record Changing (m : Partners) (slot n : ℕ) (old now : List Waiting) : Type 0 where
@@ -110,7 +90,7 @@ module _ {m : Partners} {slot n : ℕ} {old now : List Waiting} (had : Changing 
         long = had.long;
         outputs = had.outputs;
         done =
-            λ i none l inside. ⊎_elim (λ is. subst (IsOwn (slot + 1) i) (sym (had.waits i none (omega arith) inside))
+            λ i none l inside. ⊎_elim (λ is. rw (had.waits i none (omega arith) inside)
             (own_still slot i (get_or old i none) (own i none inside)))
             (λ other. had.done i none (omega arith) inside) (cases_eq i n);
         waits = λ i none l inside. had.waits i none (omega arith) inside;

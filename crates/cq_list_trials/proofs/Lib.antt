@@ -1,3 +1,4 @@
+mod Terms
 mod Arrived
 mod Crossing
 mod Followed

@@ -1,16 +1,7 @@
 -- Inputs that leave. The last of the free ones is taken out where it stands, since no input is free twice. And inputs
 -- that are parted one after another, from the first on, leave no pair.
-use Rattle.std.proofs.lemmas.Grind.{common_steps}
-use Rattle.std.proofs.Common.{◌≡◌, ℕ, zero, suc, ◌+◌, ◌-◌, ◌<◌, eqb, List, [], ◌∷◌, ◌++◌, length, take, replicate, Option, Some, None, refl, ap, inl, inr, arith}
-use Rattle.std.specs.Prelude.{slice_get}
-use Rattle.std.specs.List.{IsDistinct}
-use Rattle.std.proofs.lemmas.List.{length-set, nil_from_length, take_all, take_more_set}
-use Rattle.std.proofs.lemmas.Option.{same_Some}
-use Rattle.cq_prefs.specs.Pairing.{Partners, without_pair}
-use Rattle.cq_prefs.proofs.Members.{Among, Apart}
+use Rattle.cq_pair.proofs.Terms.{common_steps, ◌≡◌, ℕ, zero, suc, ◌+◌, ◌-◌, ◌<◌, eqb, List, [], ◌∷◌, length, take, replicate, Some, None, inl, inr, arith, slice_get, IsDistinct, length-set, nil_from_length, take_all, take_more_set, same_Some, Partners, without_pair, Among, Apart, without_here, without_there, without_input}
 use Rattle.cq_prefs.proofs.OneOrder.{apart}
-use Rattle.cq_prefs.proofs.PutBack.{without_here, without_there}
-use Rattle.cq_pair.specs.FreeInputs.{without_input}
 
 -- ## The last of all
 
@@ -37,13 +28,9 @@ pub record ArePartedBefore (n ports : ℕ) (m : Partners) : Type 0 where
   pub size : length m ≡ ports
   pub parted : take n m ≡ replicate n None
 
-one_more : (n : ℕ) (x : Option ℕ) → replicate n x ++ x ∷ [] ≡ replicate (suc n) x
-one_more zero x = refl
-one_more (suc n) x = ap (λ l. x ∷ l) (one_more n x)
-
 pub parted-next : (n ports : ℕ) (m : Partners) → n < ports → ArePartedBefore n ports m →
     ArePartedBefore (n + 1) ports (without_pair m n)
-parted-next n ports m inside before = grind (arith, common_steps, length-set, take_more_set, one_more)
+parted-next n ports m inside before = grind (arith, common_steps, length-set, take_more_set)
 
 pub parted-all : (n ports : ℕ) (m : Partners) → n ≡ ports → ArePartedBefore n ports m → m ≡ replicate ports None
 parted-all n ports m all before = grind (arith, common_steps, take_all)

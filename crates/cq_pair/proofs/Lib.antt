@@ -1,3 +1,4 @@
+mod Terms
 pub mod Waiting
 pub mod Showing
 pub mod Leaving

@@ -1,14 +1,7 @@
 -- What the steps of a core do to what it shows. Its fields are what was shown; the free inputs that it shows are those
 -- that wait by the places and the pairs, and so they are after a step that takes an input out, or puts it back, as it
 -- waits.
-use Rattle.std.proofs.lemmas.Grind.{common_steps}
-use Rattle.std.proofs.Common.{ℕ, ◌≡◌, ◌≢◌, ◌+◌, ◌<◌, ◌≤◌, eqb, List, length, set, get_or, Some, None, sym, ap, subst, arith}
-use Rattle.std.specs.List.{IsDistinct}
-use Rattle.cq_prefs.specs.Orders.{Orders, ports, outputs_of}
-use Rattle.cq_prefs.specs.Pairing.{Partners, partner_of}
-use Rattle.cq_prefs.specs.Proposals.{next_place}
-use Rattle.cq_pair.specs.FreeInputs.{with_input, without_input}
-use Rattle.cq_pair.specs.Progress.{Progress, ShowsWaiting, MovesOn, Parts, Takes, waiting_inputs}
+use Rattle.cq_pair.proofs.Terms.{common_steps, ℕ, ◌≡◌, ◌≢◌, ◌+◌, ◌<◌, ◌≤◌, eqb, List, length, set, get_or, Some, None, sym, ap, subst, arith, IsDistinct, Orders, ports, outputs_of, Partners, partner_of, next_place, with_input, without_input, Progress, ShowsWaiting, MovesOn, Parts, Takes, waiting_inputs}
 use Rattle.cq_pair.proofs.Waiting.{waiting_differ, moved_still, moved_out, joined_out, parted_back, still_out, room_back}
 
 -- the fields, with other places, and one proposal more

@@ -1,24 +1,17 @@
 -- A tag fault of the crossbar run from its opening state on is that of the ideal switch, in whatever slot it comes:
 -- both act alike in every slot, and a fault of the ideal switch ends its whole run.
-use Rattle.std.proofs.Common.{◌≡◌, List, length, Err, ℕ, ap, subst}
-use Rattle.std.proofs.lemmas.List.{length-map}
+use Rattle.cq_parts.proofs.Terms.{◌≡◌, List, length, Err, ℕ, ap, subst, length-map, TagFault, schedule_of, empty_limited_fabric, LimitedFabricStops, Captured, switch_of, Tables}
 use Rattle.cq_base.specs.Arriving.{Arrival}
-use Rattle.cq_base.specs.declared.cell.TagFault.{TagFault}
 use Rattle.cq_cells.proofs.Rising.{traffic_is}
 use Rattle.cq_cells.specs.Schedule.{arrivals}
-use Rattle.cq_cells.specs.Scheduled.{schedule_of}
 use Rattle.cq_cells.specs.Traffic.{IsTraffic}
 use Rattle.cq_ideal.proofs.LimitedEnds.{limited_whole_fault}
 use Rattle.cq_ideal.specs.Ending.{first_slots}
 use Rattle.cq_ideal.specs.LimitedIdeal.{empty_limited}
 use Rattle.cq_laws.proofs.InputBest.{stable_limited_stop}
 use Rattle.cq_laws.proofs.LimitedWhole.{begin, same_limited_stop}
-use Rattle.cq_laws.specs.LimitedFabric.{empty_limited_fabric, LimitedFabricStops}
-use Rattle.cq_pcap.specs.Captured.{Captured}
 use Rattle.cq_resume.specs.Parts.{IsWholeFault}
-use Rattle.cq_resume.specs.Switch.{switch_of}
 use Rattle.cq_route.specs.Tables.{AreTables, classes_of, ports_of}
-use Rattle.cq_route.specs.declared.tables.Tables.{Tables}
 use Rattle.cq_scfq.specs.Disciplines.{machine_of, machines_of, openings_of}
 use Rattle.cq_simulate.specs.IdealRuns.{ideal_departures, ran_ideal}
 use Rattle.cq_traffic.proofs.ForPorts.{slots_fit}

@@ -1,21 +1,9 @@
 -- What `resume` reads of what `part` left: the configuration and the captures that `part` read, and the text that it
 -- wrote.
-use Rattle.std.proofs.Common.{rules, ◌≡◌, ◌≢◌, ℕ, List, [], ◌∷◌, length, ◌≤◌, ◌^◌, Some, arith}
-use Rattle.std.specs.Prelude.{IfSome, Ok}
-use Rattle.std.specs.FinMap.{get}
-use Rattle.std.specs.List.{AllByRecursion}
-use Rattle.cq_ideal.proofs.FlowPut.{all_from}
-use Rattle.cq_pcap.specs.Captured.{Captured}
-use Rattle.cq_route.specs.declared.tables.Tables.{Tables}
+use Rattle.cq_parts.proofs.Terms.{rules, ◌≡◌, ◌≢◌, ℕ, List, [], ◌∷◌, length, ◌≤◌, ◌^◌, Some, arith, IfSome, Ok, get, AllByRecursion, Captured, Tables, Contents, Resume, Resuming, Reader, captures_in, judged, state_in, tables_in, all_replaced, all_weaker}
 use Rattle.cq_space.proofs.Replaced.{get_same}
-use Rattle.cq_space.specs.Space.{Contents}
-use Rattle.cq_words.specs.declared.command.Command.TheVariants.{Resume}
 use Rattle.cq_run.proofs.Left.{captures_same, tables_same, untouched}
 use Rattle.cq_run.proofs.TextRead.{text_is}
-use Rattle.cq_run.specs.Aim.{Resuming}
-use Rattle.cq_run.specs.Reader.{Reader}
-use Rattle.cq_run.specs.Verdict.{captures_in, judged, state_in, tables_in}
-use Rattle.cq_run.specs.Writing.{all_replaced}
 use Rattle.cq_run.specs.declared.refusal.StateFault.TheVariants as stopped
 
 module _ (r : Reader) (config state : List ℕ) where
@@ -29,7 +17,7 @@ module _ (r : Reader) (config state : List ℕ) where
     same_under name other = untouched ((state, text) ∷ []) m left name written (other, tt)
 
     captures_left : captures_in r t left ≡ Ok captures
-    captures_left = search (arith, rules, captures_same, all_from, same_under)
+    captures_left = search (arith, rules, captures_same, all_weaker, same_under)
 
     text_left : state_in state left ≡ Ok text
     text_left = search (arith, rules, text_is, get_same)

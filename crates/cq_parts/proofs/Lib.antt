@@ -1,3 +1,4 @@
+mod Terms
 mod Faulty
 mod Left
 mod Whole

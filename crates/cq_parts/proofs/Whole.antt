@@ -1,39 +1,25 @@
 -- What `part` left is read as what was left and as nothing else, and is refused for nothing (`stopped_runs_are_read`).
 -- What goes on from there keeps what the run keeps (`read_runs_go_on`), and both write the same of it. A tag fault that
 -- is met from there is one of the whole run, and so that of the ideal switch, for which `run` is refused.
-use Rattle.std.proofs.lemmas.Grind.{common_steps}
-use Rattle.std.proofs.Common.{arith, ◌≡◌, ◌∙◌, ◌<◌, ◌^◌, ℕ, List, refl, ap, sym, subst, [], ◌∷◌}
-use Rattle.std.specs.Prelude.{Ok, Err, IsOkAnd, Some, Result}
-use Rattle.cq_base.specs.declared.cell.TagFault.{TagFault}
-use Rattle.cq_cells.specs.Scheduled.{Scheduled, schedule_of}
-use Rattle.cq_laws.specs.LimitedFabric.{LimitedRecord}
-use Rattle.cq_pcap.specs.Captured.{Captured}
+use Rattle.cq_parts.proofs.Terms.{common_steps, arith, ◌≡◌, ◌∙◌, ◌<◌, ◌^◌, ℕ, List, refl, ap, sym, subst, [], ◌∷◌, Ok, Err, IsOkAnd, Some, Result, TagFault, Scheduled, schedule_of, LimitedRecord, Captured, IsScheduleOf, Switch, switch_of, Tables, Contents, Run, Aim, Denies, Meets, Resuming, Reader, captures_in, ideally_sent, judged, tables_in, sent_or_tag, all_replaced}
 use Rattle.cq_resume.specs.Reading.{IsRead, IsRefusal}
 use Rattle.cq_resume.specs.Resumed.{Kept}
-use Rattle.cq_resume.specs.Switch.{IsScheduleOf, Switch, switch_of}
 use Rattle.cq_resume.specs.declared.refusal.StateRefusal.{StateRefusal}
 use Rattle.cq_resume.specs.declared.refusal.StateRefusal.TheVariants as of_state
 use Rattle.cq_resume.specs.declared.taken.Taken.{Taken}
-use Rattle.cq_route.specs.declared.tables.Tables.{Tables}
 use Rattle.cq_simulate.specs.FabricRuns.{departures_in_run}
-use Rattle.cq_space.specs.Space.{Contents}
 use Rattle.cq_stopped.proofs.Together.{read_runs_go_on, stopped_runs_are_read}
 use Rattle.cq_stopped.specs.Read.{GoesOnAsRun, IsReadAs, kept_in_run}
-use Rattle.cq_words.specs.declared.command.Command.TheVariants.{Run}
-use Rattle.cq_run.specs.Aim.{Aim, Denies, Meets, Resuming}
 use Rattle.cq_run.specs.Headline.{AreGiven, IsEmulation, KeepsUp}
 use Rattle.cq_run.specs.Parting.{IsPartText}
 use Rattle.cq_run.specs.Plan.{Plan}
 use Rattle.cq_run.specs.Plans.{crossed, resumed}
-use Rattle.cq_run.specs.Reader.{Reader}
-use Rattle.cq_run.specs.Verdict.{captures_in, ideally_sent, judged, tables_in, sent_or_tag}
 use Rattle.cq_run.specs.declared.refusal.Refusal.{Refusal}
 use Rattle.cq_run.specs.declared.refusal.Refusal.TheVariants as refused
 use Rattle.cq_run.specs.declared.refusal.StateFault.TheVariants as stopped
 use Rattle.cq_parts.proofs.Faulty.{whole_fault}
 use Rattle.cq_parts.proofs.Left.{aimed}
 use Rattle.cq_parts.specs.Parts.{IsAimOfRun, PartsAreTheRun}
-use Rattle.cq_run.specs.Writing.{all_replaced}
 
 -- what is written of a run is what is written of what it keeps
 same_plan : (t : Tables) (captures : List (List Captured)) (rs : List LimitedRecord) →

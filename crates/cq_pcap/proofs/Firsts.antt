@@ -1,14 +1,6 @@
 -- What the bytes from a place on come to: a packet where a whole record stands there, or else what is wrong with it.
 -- The three faults are tried in their order.
-use Rattle.std.proofs.lemmas.Grind.{common_steps}
-use Rattle.std.proofs.Common.{◌≡◌, ℕ, ◌+◌, ◌*◌, ◌<◌, ◌≤◌, Bool, true, false, cond, ltb, List, length, take, drop, refl, arith}
-use Rattle.std.specs.Prelude.{Result, Ok, Err}
-use Rattle.std.proofs.lemmas.Bool.Decides.{nat_tests}
-use Rattle.cq_pcap.specs.declared.form.Form.{Form}
-use Rattle.cq_pcap.specs.Form.{number_at, unit}
-use Rattle.cq_pcap.specs.Captured.{Captured}
-use Rattle.cq_pcap.specs.Faults.{Fault, NoHeader, Magic, Version, LinkType, CutHeader, LongRecord, CutBody}
-use Rattle.cq_pcap.specs.Reading.{first_packet}
+use Rattle.cq_pcap.proofs.Terms.{rules, ◌≡◌, ℕ, ◌+◌, ◌*◌, ◌<◌, ◌≤◌, List, length, take, drop, arith, common_steps, Result, Ok, Err, nat_tests, Form, number_at, unit, Captured, Fault, NoHeader, Magic, Version, LinkType, CutHeader, LongRecord, CutBody, first_packet}
 
 -- the captured length that the record at the front states
 abbrev pub stated : Form → List ℕ → ℕ
@@ -29,33 +21,6 @@ front_packet form xs =
       body = take (stated form xs) (drop 16 xs);
     }
 
--- the answer by the three tests
-abbrev answer : Form → ℕ → List ℕ → Bool → Bool → Bool → Result Captured Fault
-answer form place xs cut long short = cond cut (Err (CutHeader place)) (cond long
-    (Err (LongRecord place (stated form xs))) (cond short (Err (CutBody place)) (Ok (front_packet form xs))))
-
-answered_by : (form : Form) (place : ℕ) (xs : List ℕ) (cut long short : Bool) → ltb (length xs) 16 ≡ cut →
-    ltb 262144 (stated form xs) ≡ long → ltb (length xs) (16 + stated form xs) ≡ short →
-    first_packet form place xs ≡ answer form place xs cut long short
-unfolding first_packet
-answered_by form place xs cut long short c l s = grind (arith, common_steps)
-
-pub first_whole : (form : Form) (place : ℕ) (xs : List ℕ) → IsWhole form xs →
-    first_packet form place xs ≡ Ok (front_packet form xs)
-first_whole form place xs w = grind (arith, common_steps, answered_by, nat_tests)
-
-pub first_cut_header : (form : Form) (place : ℕ) (xs : List ℕ) → length xs < 16 →
-    first_packet form place xs ≡ Err (CutHeader place)
-first_cut_header form place xs h = answered_by form place xs true _ _ (grind (arith, nat_tests)) refl refl
-
-pub first_long : (form : Form) (place : ℕ) (xs : List ℕ) → 16 ≤ length xs → 262144 < stated form xs →
-    first_packet form place xs ≡ Err (LongRecord place (stated form xs))
-first_long form place xs h l = grind (arith, common_steps, answered_by, nat_tests)
-
-pub first_cut_body : (form : Form) (place : ℕ) (xs : List ℕ) → 16 ≤ length xs → stated form xs ≤ 262144 →
-    length xs < 16 + stated form xs → first_packet form place xs ≡ Err (CutBody place)
-first_cut_body form place xs h l s = grind (arith, common_steps, answered_by, nat_tests)
-
 -- what an answer says of the bytes
 abbrev pub Says : Form → ℕ → List ℕ → Result Captured Fault → Type 0
 Says form place xs (Ok p) = IsWhole form xs × (p ≡ front_packet form xs)
@@ -69,14 +34,17 @@ Says form place xs (Err (LongRecord offset len)) =
 Says form place xs (Err (CutBody offset)) =
     (offset ≡ place) × (16 ≤ length xs) × (stated form xs ≤ 262144) × (length xs < 16 + stated form xs)
 
-answer_says : (form : Form) (place : ℕ) (xs : List ℕ) (cut long short : Bool) → ltb (length xs) 16 ≡ cut →
-    ltb 262144 (stated form xs) ≡ long → ltb (length xs) (16 + stated form xs) ≡ short →
-    Says form place xs (answer form place xs cut long short)
-answer_says form place xs true long short c l s = (refl, grind (arith, nat_tests))
-answer_says form place xs false true short c l s = (refl, grind (arith, nat_tests), refl, grind (arith, nat_tests))
-answer_says form place xs false false true c l s = grind (arith, common_steps, nat_tests)
-answer_says form place xs false false false c l s = grind (arith, common_steps, nat_tests)
-
 -- what is answered is so
 pub first_says : (form : Form) (place : ℕ) (xs : List ℕ) → Says form place xs (first_packet form place xs)
-first_says form place xs = grind (arith, common_steps, answered_by, answer_says)
+unfolding first_packet
+first_says form place xs = search (arith, rules, nat_tests)
+
+-- and what is so is answered
+pub first_said : (form : Form) (place : ℕ) (xs : List ℕ) (answer : Result Captured Fault) → Says form place xs answer →
+    first_packet form place xs ≡ answer
+unfolding first_packet
+first_said form place xs (Ok p) h = grind (arith, common_steps, nat_tests)
+first_said form place xs (Err (CutHeader offset)) h = grind (arith, common_steps, nat_tests)
+first_said form place xs (Err (LongRecord offset len)) h = grind (arith, common_steps, nat_tests)
+first_said form place xs (Err (CutBody offset)) h = grind (arith, common_steps, nat_tests)
+first_said form place xs _ h = absurd h

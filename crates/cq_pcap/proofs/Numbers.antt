@@ -1,11 +1,7 @@
 -- Numbers of a file in either order: each reads back from its bytes, and the bytes are those of the number read from
 -- them.
-use Rattle.std.proofs.lemmas.Grind.{common_steps}
-use Rattle.std.proofs.Common.{rules, ◌≡◌, ℕ, zero, suc, ◌+◌, ◌<◌, ◌≤◌, ◌^◌, List, [], ◌∷◌, ◌++◌, length, drop, slice_index, refl, ap, sym, subst, arith, Bool, true, false}
-use Rattle.std.proofs.lemmas.List.{drop-append-le, drop-drop, get_or-drop, length-drop}
-use Rattle.std.proofs.lemmas.Nat.{be_bytes_4, le_bytes_4}
+use Rattle.cq_pcap.proofs.Terms.{common_steps, ◌≡◌, ℕ, zero, suc, ◌+◌, ◌<◌, ◌≤◌, ◌^◌, List, [], ◌∷◌, ◌++◌, length, drop, slice_index, refl, ap, sym, subst, arith, Bool, true, false, drop-append-le, drop-drop, get_or-drop, length-drop, be_bytes_4, le_bytes_4, bytes_in, number_at, number_in}
 use Rattle.byteorder.specs.Numbers.{big_from-append, big_from-lt, big_number-reads_back, little_from-append, little_from-lt, little_number-reads_back}
-use Rattle.cq_pcap.specs.Form.{bytes_in, number_at, number_in}
 
 -- each is a byte
 abbrev pub AreBytes : List ℕ → Type 0
@@ -59,17 +55,8 @@ four_spelt big a b c d ys fits = spelt_in big
     spelt_in true = ap (λ xs. xs ++ ys)
         (sym (be_bytes_4 (a ∷ b ∷ c ∷ d ∷ []) (number_in true 4 (a ∷ b ∷ c ∷ d ∷ ys)) refl four (omega arith)))
 
-first_four : (big : Bool) (ys : List ℕ) → AreBytes ys → 4 ≤ length ys →
-    ys ≡ bytes_in big 4 (number_in big 4 ys) ++ drop 4 ys
-first_four big [] fits h = absurd (omega arith)
-first_four big (a ∷ []) fits h = absurd (omega arith)
-first_four big (a ∷ b ∷ []) fits h = absurd (omega arith)
-first_four big (a ∷ b ∷ c ∷ []) fits h = absurd (omega arith)
-first_four big (a ∷ b ∷ c ∷ d ∷ ys) fits h = four_spelt big a b c d ys fits
-
 pub number_at-spelt : (big : Bool) (xs : List ℕ) (at next : ℕ) → AreBytes xs → next ≡ at + 4 → next ≤ length xs →
     drop at xs ≡ bytes_in big 4 (number_at big 4 xs at) ++ drop next xs
 unfolding number_at
 number_at-spelt big xs at next fits e h =
-    let long : 4 ≤ length (drop at xs) = omega (arith, length-drop at xs) in
-    search (arith, rules, first_four big (drop at xs), AreBytes-drop xs at fits, drop-drop 4 at xs)
+    grind (arith, common_steps, length-drop, AreBytes-drop, drop-drop, four_spelt)

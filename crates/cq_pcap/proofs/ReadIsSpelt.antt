@@ -1,22 +1,12 @@
--- What is read of bytes is spelt: the four bytes of each figure are those of the number read from them, so the bytes
--- at the front are the spelling of the record read there, and the bytes after it are spelt in turn. This goes on
--- until no byte is left, or to a record with a fault. Then the bytes before it are a capture, so the fault is the
--- file's.
-use Rattle.std.proofs.Common.{rules, ◌≡◌, ◌⊎◌, ℕ, zero, suc, ◌+◌, ◌<◌, ◌≤◌, List, [], ◌∷◌, ◌++◌, length, map, take, drop, inl, inr, refl, ap, sym, subst, ◌∙◌, add-zero, arith, append_assoc, length-append}
-use Rattle.std.proofs.lemmas.Grind.{common_steps}
-use Rattle.std.proofs.lemmas.List.{drop-drop, drop_at, length-drop, length-take-le, take-append-drop, take-append-le, take_at}
-use Rattle.std.specs.Prelude.{Result, Ok, Err}
-use Rattle.std.specs.List.{flat_map, AllByRecursion}
-use Rattle.cq_pcap.specs.declared.form.Form.{Form}
-use Rattle.cq_pcap.specs.Form.{number_at, bytes_in}
-use Rattle.cq_pcap.specs.Captured.{Captured}
-use Rattle.cq_pcap.specs.Faults.{Fault, NoHeader, Magic, Version, LinkType, CutHeader, LongRecord, CutBody, IsFaulty, IsSpeltUpTo}
-use Rattle.cq_pcap.specs.Reading.{◌>>=◌, first_packet, header_form, packets_from, packets_of}
-use Rattle.cq_pcap.specs.Record.{HasLinkType, HasMagic, HasVersion, IsHeader, Record, spelling, Fits, Spells, captured_of}
+-- What is read of bytes is spelt. The four bytes of each figure are those of the number read from them, so where a
+-- whole record stands behind a capture, the bytes up to its end are a capture too. This goes on from the header until
+-- no byte is left, or to a record with a fault, which is the file's then. And what is spelt or faulty is read as
+-- that.
+use Rattle.cq_pcap.proofs.Terms.{rules, ◌≡◌, ◌⊎◌, ℕ, zero, suc, ◌+◌, ◌<◌, ◌≤◌, List, [], ◌∷◌, ◌++◌, length, take, drop, inl, inr, refl, ap, ◌∙◌, arith, append_assoc, length-append, common_steps, drop-drop, length-drop, length-take-le, take-append-drop, take-append-le, take_at, Result, Ok, Err, AllByRecursion, Form, number_at, Captured, Fault, CutHeader, LongRecord, CutBody, IsFaulty, IsSpeltUpTo, packets_of, HasLinkType, HasMagic, HasVersion, IsHeader, Record, spelling, Fits, Spells, captured_of, subst, ⊎_elim, cases_lt, take_all, SpellsIn, append-nil, flat_map-append, map-append}
 use Rattle.cq_pcap.proofs.Numbers.{AreBytes, AreBytes-drop, number_at-append, number_at-drop, number_at-lt, number_at-spelt}
-use Rattle.cq_pcap.proofs.Headers.{header_err, header_ok}
-use Rattle.cq_pcap.proofs.Firsts.{IsWhole, Says, first_says, first_whole, front_packet, stated}
-use Rattle.cq_pcap.proofs.Records.{packets_from-cons, packets_from-fault, packets_from-nil}
+use Rattle.cq_pcap.proofs.Headers.{header_says, Says as HeaderSays}
+use Rattle.cq_pcap.proofs.Firsts.{IsWhole, Says, first_says, front_packet, stated}
+use Rattle.cq_pcap.proofs.SpeltIsRead.{fault_is_read, spelt_is_read}
 
 -- the record at the front
 abbrev pub front_record : Form → List ℕ → Record
@@ -39,109 +29,56 @@ module _ (form : Form) (xs : List ℕ) (fits : AreBytes xs) (w : IsWhole form xs
   record_spelt =
       let h = w.figures in
       let len = stated form xs in
-      let rest = drop (16 + len) xs in
-      let word : ℕ → List ℕ = λ at. bytes_in form.big 4 (number_at form.big 4 xs at) in
-      let a : xs ≡ word 0 ++ drop 4 xs = number_at-spelt form.big xs 0 4 fits refl (omega (arith, h)) in
-      let b : drop 4 xs ≡ word 4 ++ drop 8 xs = number_at-spelt form.big xs 4 8 fits refl (omega (arith, h)) in
-      let c : drop 8 xs ≡ word 8 ++ drop 12 xs = number_at-spelt form.big xs 8 12 fits refl (omega (arith, h)) in
-      let d : drop 12 xs ≡ word 12 ++ drop 16 xs = number_at-spelt form.big xs 12 16 fits refl h in
-      let body : drop 16 xs ≡ take len (drop 16 xs) ++ rest =
-      sym (take-append-drop len (drop 16 xs)) ∙ ap (λ ys. take len (drop 16 xs) ++ ys) (drop-drop len 16 xs) in
-      let on : (n : ℕ) (ys zs : List ℕ) → ys ≡ zs → word n ++ ys ≡ word n ++ zs =
-      λ n ys zs e. ap (λ us. word n ++ us) e in
-      let whole : word 0 ++ (word 4 ++ (word 8 ++ (word 12 ++ (take len (drop 16 xs) ++ rest))))
-      ≡ (word 0 ++ word 4 ++ word 8 ++ word 12 ++ take len (drop 16 xs)) ++ rest =
-      simp append_assoc in
-      a ∙ on 0 _ _ (b ∙ on 4 _ _ (c ∙ on 8 _ _ (d ∙ on 12 _ _ body))) ∙ whole
-      ∙ ap (λ n. (word 0 ++ word 4 ++ bytes_in form.big 4 n ++ word 12 ++ take len (drop 16 xs)) ++ rest)
-      (sym body_length)
+      let word = number_at-spelt form.big xs in
+      simp (append_assoc, body_length) (rw (
+        ← drop-drop len 16 xs,
+        take-append-drop len (drop 16 xs),
+        ← number_at-spelt form.big xs 12 16 fits refl h,
+        ← number_at-spelt form.big xs 8 12 fits refl (omega arith),
+        ← number_at-spelt form.big xs 4 8 fits refl (omega arith),
+        ← number_at-spelt form.big xs 0 4 fits refl (omega arith),
+      ) refl)
 
--- these records, whose packets are kept, spell the bytes
-record SpellRecords (form : Form) (xs : List ℕ) (packets : List Captured) : Type 0 where
-  records : List Record
-  fit : AllByRecursion Fits records
-  whole : xs ≡ flat_map (spelling form.big) records
-  kept : map (captured_of form) records ≡ packets
+pub AllByRecursion-push : {X : Type 0} (P : X → Type 0) (xs : List X) (y : X) → AllByRecursion P xs → P y
+    → AllByRecursion P (xs ++ y ∷ [])
+AllByRecursion-push P [] y h p = (p, tt)
+AllByRecursion-push P (x ∷ xs) y h p = (h.0, AllByRecursion-push P xs y h.1 p)
 
--- after these records there are bytes, which begin with a fault
-record StopsAfter (form : Form) (place : ℕ) (xs : List ℕ) (fault : Fault) : Type 0 where
-  records : List Record
-  rest : List ℕ
-  fit : AllByRecursion Fits records
-  whole : xs ≡ flat_map (spelling form.big) records ++ rest
-  some : 0 < length rest
-  first : first_packet form (place + length (flat_map (spelling form.big) records)) rest ≡ Err fault
+-- a record at the front of what follows a capture goes on with it
+module _ (form : Form) (bytes : List ℕ) (at : ℕ) (packets : List Captured) (fits : AreBytes bytes)
+    (within : at ≤ length bytes) (s : SpellsIn form (take at bytes) packets) (w : IsWhole form (drop at bytes)) where
+  abbrev xs : List ℕ
+  xs = drop at bytes
 
--- what an answer says of the bytes from a place on
-abbrev Walked : Form → ℕ → List ℕ → Result (List Captured) Fault → Type 0
-Walked form place xs (Ok packets) = SpellRecords form xs packets
-Walked form place xs (Err fault) = StopsAfter form place xs fault
+  abbrev next : Record
+  next = front_record form xs
 
-one_more : (form : Form) (place : ℕ) (xs : List ℕ) (left : Result (List Captured) Fault) → AreBytes xs →
-    IsWhole form xs → Walked form (place + (16 + stated form xs)) (drop (16 + stated form xs) xs) left →
-    Walked form place xs (left >>= (λ ps. Ok (front_packet form xs ∷ ps)))
-one_more form place xs (Ok ps) fits w s = record {
-  records = front_record form xs ∷ s.records;
-  fit = (record_fits form xs fits w, s.fit);
-  whole = record_spelt form xs fits w ∙ ap (λ ys. spelling form.big (front_record form xs) ++ ys) s.whole;
-  kept = ap (λ qs. front_packet form xs ∷ qs) s.kept;
-}
-one_more form place xs (Err fault) fits w s =
-    let r = front_record form xs in
-    let spelt = flat_map (spelling form.big) s.records in
-    let whole = record_spelt form xs fits w in
-    let len : 16 + stated form xs ≡ length (spelling form.big r) =
-    search (arith, rules, length-append, stated, length-drop) in
-    let ends : place + (16 + stated form xs) + length spelt ≡ place + length (spelling form.big r ++ spelt) =
-    omega (arith, len, length-append (spelling form.big r) spelt) in
-    record {
-      records = r ∷ s.records;
-      rest = s.rest;
-      fit = (record_fits form xs fits w, s.fit);
-      whole = search (arith, rules, append_assoc);
-      some = s.some;
-      first = ap (λ n. first_packet form n s.rest) (sym ends) ∙ s.first;
-    }
+  spelt_next : xs ≡ spelling form.big next ++ drop (16 + stated form xs) xs
+  spelt_next = record_spelt form xs (AreBytes-drop bytes at fits) w
 
--- the bytes from a place on, by what stands at the front
-walk_first : (form : Form) (place : ℕ) (xs : List ℕ) (first : Result Captured Fault) → AreBytes xs → 0 < length xs →
-    first_packet form place xs ≡ first → Says form place xs first →
-    (IsWhole form xs →
-    Walked form (place + (16 + stated form xs)) (drop (16 + stated form xs) xs)
-    (packets_from form (place + (16 + stated form xs)) (drop (16 + stated form xs) xs))) →
-    Walked form place xs (packets_from form place xs)
-walk_first form place xs (Ok p) fits some e says more =
-    let w = says.0 in
-    let len = body_length form xs fits w in
-    let P : Result (List Captured) Fault → Type 0 = Walked form place xs in
-    let next : packets_from form place xs
-    ≡ (packets_from form (place + (16 + stated form xs)) (drop (16 + stated form xs) xs) >>=
-    (λ ps. Ok (front_packet form xs ∷ ps))) =
-    packets_from-cons form place xs (front_packet form xs) some (first_whole form place xs w)
-    ∙ ap (λ n. packets_from form (place + (16 + n)) (drop (16 + n) xs) >>= (λ ps. Ok (front_packet form xs ∷ ps))) len
-    in
-    subst P (sym next) (one_more form place xs _ fits w (more w))
-walk_first form place xs (Err fault) fits some e says more =
-    let P : Result (List Captured) Fault → Type 0 = Walked form place xs in
-    subst P (sym (packets_from-fault form place xs fault some e))
-    (record {
-      records = [];
-      rest = xs;
-      fit = tt;
-      whole = refl;
-      some = some;
-      first = ap (λ n. first_packet form n xs) (add-zero place) ∙ e;
-    })
+  next_length : length (spelling form.big next) ≡ 16 + stated form xs
+  next_length = grind (arith, common_steps, spelt_next, length-append, stated, length-drop)
 
-walk : (form : Form) (n place : ℕ) (xs : List ℕ) → AreBytes xs → length xs ≤ n →
-    Walked form place xs (packets_from form place xs)
-walk form n place [] fits h =
-    let P : Result (List Captured) Fault → Type 0 = Walked form place [] in
-    subst P (sym (packets_from-nil form place)) (record { records = []; fit = tt; whole = refl; kept = refl })
-walk form zero place (b ∷ bs) fits h = absurd (omega arith)
-walk form (suc n) place (b ∷ bs) fits h = walk_first form place (b ∷ bs) (first_packet form place (b ∷ bs)) fits
-    (omega arith) refl (first_says form place (b ∷ bs)) (λ w.
-    search (arith, rules, stated form (b ∷ bs), AreBytes-drop (b ∷ bs), length-drop, walk form n))
+  front_is : take (at + (16 + stated form xs)) bytes ≡ take at bytes ++ spelling form.big next
+  front_is =
+      let rest = drop (16 + stated form xs) xs in
+      let front = take at bytes ++ spelling form.big next in
+      let whole : bytes ≡ front ++ rest =
+      rw append_assoc (cc (take-append-drop at bytes, spelt_next)) in
+      let len : length front ≡ at + (16 + stated form xs) =
+      let taken = length-take-le at bytes within in
+      omega (arith, length-append (take at bytes) (spelling form.big next), next_length) in
+      cc (take_at front rest (at + (16 + stated form xs)) len)
+
+  pub spelt_more : SpellsIn form (take (at + (16 + stated form xs)) bytes) (packets ++ front_packet form xs ∷ [])
+  spelt_more = record {
+    header = s.header;
+    records = s.records ++ next ∷ [];
+    begins = s.begins;
+    fit = AllByRecursion-push Fits s.records next s.fit (record_fits form xs (AreBytes-drop bytes at fits) w);
+    whole = search (arith, rules, front_is, append_assoc, append-nil, flat_map-append);
+    kept = map-append (captured_of form) s.records (next ∷ []) ∙ ap (λ ps. ps ++ front_packet form xs ∷ []) s.kept;
+  }
 
 -- the first 24 bytes are a header where all bytes say so
 module _ (form : Form) (bytes : List ℕ) (long : 24 ≤ length bytes) (m : HasMagic form bytes)
@@ -151,40 +88,14 @@ module _ (form : Form) (bytes : List ℕ) (long : 24 ≤ length bytes) (m : HasM
 
   in_header : (n at : ℕ) → at + n ≤ 24 → number_at form.big n (take 24 bytes) at ≡ number_at form.big n bytes at
   in_header n at h =
-      sym (number_at-append form.big n (take 24 bytes) (drop 24 bytes) at (omega (arith, header_length)))
-      ∙ ap (λ ys. number_at form.big n ys at) (take-append-drop 24 bytes)
+      let same = number_at-append form.big n (take 24 bytes) (drop 24 bytes) at (omega (arith, header_length)) in
+      cc (same, take-append-drop 24 bytes)
 
-  pub begins : IsHeader form (take 24 bytes)
+  begins : IsHeader form (take 24 bytes)
   begins = grind (arith, common_steps, header_length, take-append-le, take-append-drop, in_header)
 
-  -- where the bytes after the header are walked to a fault, the bytes before it are a capture
-  spelt_up_to : (fault : Fault) (s : StopsAfter form 24 (drop 24 bytes) fault) →
-      IsSpeltUpTo form bytes (24 + length (flat_map (spelling form.big) s.records))
-  spelt_up_to fault s =
-      let spelt = flat_map (spelling form.big) s.records in
-      let some = s.some in
-      let whole : bytes ≡ (take 24 bytes ++ spelt) ++ s.rest =
-      search (arith, rules, take-append-drop, append_assoc) in
-      let len : length (take 24 bytes ++ spelt) ≡ 24 + length spelt =
-      omega (arith, header_length, length-append (take 24 bytes) spelt) in
-      record {
-        packets = map (captured_of form) s.records;
-        spelt = search (arith, rules, begins, take_at);
-        left = omega (arith, len, ap length whole, length-append (take 24 bytes ++ spelt) s.rest);
-      }
-
-  -- and the fault stands there
-  rest_is : (fault : Fault) (s : StopsAfter form 24 (drop 24 bytes) fault) →
-      drop (24 + length (flat_map (spelling form.big) s.records)) bytes ≡ s.rest
-  rest_is fault s =
-      let spelt = flat_map (spelling form.big) s.records in
-      sym (drop-drop (length spelt) 24 bytes) ∙ ap (drop (length spelt)) s.whole
-      ∙ drop_at spelt s.rest (length spelt) refl
-
--- what an answer says of the file
-abbrev Comes : List ℕ → Result (List Captured) Fault → Type 0
-Comes bytes (Ok packets) = Spells bytes packets
-Comes bytes (Err fault) = IsFaulty bytes fault
+  pub spelt_none : SpellsIn form (take 24 bytes) []
+  spelt_none = grind (arith, common_steps, begins, append-nil (take 24 bytes))
 
 -- a fault at a place where the bytes before it are a capture
 pub faulty_at : (form : Form) (bytes : List ℕ) (offset : ℕ) (fault : Fault) → IsSpeltUpTo form bytes offset →
@@ -192,59 +103,56 @@ pub faulty_at : (form : Form) (bytes : List ℕ) (offset : ℕ) (fault : Fault) 
 faulty_at form bytes offset (CutHeader o) u h = grind (arith, common_steps, length-drop)
 faulty_at form bytes offset (LongRecord o len) u h = grind (arith, common_steps, length-drop, number_at-drop)
 faulty_at form bytes offset (CutBody o) u h = grind (arith, common_steps, number_at-drop, length-drop)
-faulty_at form bytes offset NoHeader u h = absurd h
-faulty_at form bytes offset Magic u h = absurd h
-faulty_at form bytes offset Version u h = absurd h
-faulty_at form bytes offset LinkType u h = absurd h
+faulty_at form bytes offset _ u h = absurd h
 
-comes_after : (form : Form) (bytes : List ℕ) (answer : Result (List Captured) Fault) → 24 ≤ length bytes →
-    HasMagic form bytes → HasVersion form bytes → HasLinkType form bytes → Walked form 24 (drop 24 bytes) answer →
-    Comes bytes answer
-comes_after form bytes (Ok packets) long m v l s = (
-  form,
-  record {
-    header = take 24 bytes;
-    records = s.records;
-    begins = begins form bytes long m v l;
-    fit = s.fit;
-    whole = sym (take-append-drop 24 bytes) ∙ ap (λ ys. take 24 bytes ++ ys) s.whole;
-    kept = s.kept;
-  },
-)
-comes_after form bytes (Err fault) long m v l s =
-    let offset = 24 + length (flat_map (spelling form.big) s.records) in
-    let there : first_packet form offset (drop offset bytes) ≡ Err fault =
-    ap (first_packet form offset) (rest_is form bytes long m v l fault s) ∙ s.first in
-    let P : Result Captured Fault → Type 0 = Says form offset (drop offset bytes) in
-    faulty_at form bytes offset fault (spelt_up_to form bytes long m v l fault s)
-    (subst P there (first_says form offset (drop offset bytes)))
+-- ## All bytes
 
-comes_by : (bytes : List ℕ) (header : Result Form Fault) → AreBytes bytes → header_form bytes ≡ header →
-    Comes bytes (header >>= (λ form. packets_from form 24 (drop 24 bytes)))
-comes_by bytes (Ok form) fits e =
-    let h = header_ok bytes form e in
-    comes_after form bytes _ h.0 h.1 h.2 h.3 (walk form (length (drop 24 bytes)) 24 (drop 24 bytes)
-    (AreBytes-drop bytes 24 fits) (omega arith))
-comes_by bytes (Err fault) fits e = header_err bytes fault e
+-- they are a capture, or have a fault
+abbrev Known : List ℕ → Type 0
+Known bytes = ((packets : List Captured) × Spells bytes packets) ⊎ ((fault : Fault) × IsFaulty bytes fault)
 
--- a file of bytes is what is read of it
-comes : (bytes : List ℕ) → AreBytes bytes → Comes bytes (packets_of bytes)
-unfolding packets_of
-comes bytes fits = comes_by bytes (header_form bytes) fits refl
+-- by what stands at a place, up to which they are a capture
+module _ (form : Form) (bytes : List ℕ) (at : ℕ) (packets : List Captured)
+    (s : SpellsIn form (take at bytes) packets) where
+  at_end : length bytes ≤ at → Known bytes
+  at_end past = inl (packets, (form, subst (λ ys. SpellsIn form ys packets) (take_all at bytes past) s))
 
-pub read_is_spelt : (bytes : List ℕ) (packets : List Captured) → AreBytes bytes → packets_of bytes ≡ Ok packets →
-    Spells bytes packets
-read_is_spelt bytes packets fits e = grind (arith, common_steps, comes)
+  by_first : at < length bytes → (first : Result Captured Fault) → Says form at (drop at bytes) first →
+      (IsWhole form (drop at bytes) → Known bytes) → Known bytes
+  by_first left (Ok p) says more = more says.0
+  by_first left (Err fault) says more = inr (
+    fault,
+    faulty_at form bytes at fault (record { packets = packets; spelt = s; left = left }) says,
+  )
 
-pub read_is_faulty : (bytes : List ℕ) (fault : Fault) → AreBytes bytes → packets_of bytes ≡ Err fault →
-    IsFaulty bytes fault
-read_is_faulty bytes fault fits e = grind (arith, common_steps, comes)
+walk : (form : Form) (bytes : List ℕ) (n at : ℕ) (packets : List Captured) → AreBytes bytes → at ≤ length bytes →
+    length bytes ≤ at + n → SpellsIn form (take at bytes) packets → Known bytes
+walk form bytes zero at packets fits within few s = at_end form bytes at packets s (omega arith)
+walk form bytes (suc n) at packets fits within few s = ⊎_elim
+    (λ left. by_first form bytes at packets s left _ (first_says form at (drop at bytes)) (λ w.
+    let body = w.body in
+    walk form bytes n _ _ fits (omega (arith, length-drop at bytes)) (omega arith)
+    (spelt_more form bytes at packets fits within s w)))
+    (at_end form bytes at packets s) (cases_lt at (length bytes))
 
-either_of : (bytes : List ℕ) (answer : Result (List Captured) Fault) → Comes bytes answer →
-    ((packets : List Captured) × Spells bytes packets) ⊎ ((fault : Fault) × IsFaulty bytes fault)
-either_of bytes (Ok packets) h = inl (packets, h)
-either_of bytes (Err fault) h = inr (fault, h)
+by_header : (bytes : List ℕ) (header : Result Form Fault) → AreBytes bytes → HeaderSays bytes header → Known bytes
+by_header bytes (Ok form) fits h = walk form bytes (length bytes) 24 [] fits h.0 (omega arith)
+    (spelt_none form bytes h.0 h.1 h.2 h.3)
+by_header bytes (Err fault) fits h = inr (fault, h)
 
 pub spelt_or_faulty : (bytes : List ℕ) → AreBytes bytes →
     ((packets : List Captured) × Spells bytes packets) ⊎ ((fault : Fault) × IsFaulty bytes fault)
-spelt_or_faulty bytes fits = either_of bytes (packets_of bytes) (comes bytes fits)
+spelt_or_faulty bytes fits = by_header bytes _ fits (header_says bytes)
+
+pub read_is_spelt : (bytes : List ℕ) (packets : List Captured) → AreBytes bytes → packets_of bytes ≡ Ok packets →
+    Spells bytes packets
+read_is_spelt bytes packets fits e = ⊎_elim
+    (λ s. let same : s.0 ≡ packets = cc (spelt_is_read bytes s.0 s.1) in subst (Spells bytes) same s.1)
+    (λ f. absurd (let P : ⊥ = cc (fault_is_read bytes f.0 f.1) in P)) (spelt_or_faulty bytes fits)
+
+pub read_is_faulty : (bytes : List ℕ) (fault : Fault) → AreBytes bytes → packets_of bytes ≡ Err fault →
+    IsFaulty bytes fault
+read_is_faulty bytes fault fits e = ⊎_elim
+    (λ s. absurd (let P : ⊥ = cc (spelt_is_read bytes s.0 s.1) in P))
+    (λ f. let same : f.0 ≡ fault = cc (fault_is_read bytes f.0 f.1) in subst (IsFaulty bytes) same f.1)
+    (spelt_or_faulty bytes fits)

@@ -1,9 +1,5 @@
 -- What is known of the fault that a refusal names.
-use Rattle.std.proofs.lemmas.Grind.{common_steps}
-use Rattle.std.proofs.Common.{arith, refl, subst}
-use Rattle.std.specs.Prelude.{◌≡◌, Option, None, Some, Result, Ok, Err, option_map, IfErr, IfOk, IfSome}
-use Rattle.cq_pcap.specs.declared.read.PcapRefusal.{PcapRefusal}
-use Rattle.cq_pcap.specs.Faults.{Fault, fault_of}
+use Rattle.cq_pcap.proofs.Terms.{rules, arith, refl, subst, ◌≡◌, Option, None, Some, Result, Ok, Err, option_map, IfErr, IfOk, IfSome, PcapRefusal, Fault, fault_of}
 
 -- where a refusal names the answer, it names a fault, which is the answer
 pub named_fault : {A : Type 0} (named : Option Fault) (answer : Result A Fault) → option_map Err named ≡ Some answer
@@ -26,12 +22,7 @@ ok_map (Err e) P Q f h = tt
 pub some_is : {A : Type 0} (found : Option A) (x : A) (P : A → Type 0) → found ≡ Some x → IfSome found P → P x
 some_is {A = A} found x P e h = let Q : Option A → Type 0 = λ f. IfSome f P in subst Q e h
 
-some_map : (named : Option Fault) (P Q : Fault → Type 0) → ((fault : Fault) → P fault → Q fault) → IfSome named P
-    → IfSome named Q
-some_map None P Q f h = tt
-some_map (Some fault) P Q f h = f fault h
-
 pub refused_map : {A : Type 0} (result : Result A PcapRefusal) (P Q : Fault → Type 0)
     → ((fault : Fault) → P fault → Q fault) → IfErr result (λ refusal. IfSome (fault_of refusal) P)
     → IfErr result (λ refusal. IfSome (fault_of refusal) Q)
-refused_map result P Q f h = grind (arith, common_steps, err_map, some_map)
+refused_map result P Q f h = search (arith, rules, err_map)

@@ -1,9 +1,5 @@
 -- One more packet adds its record at the end of the file.
-use Rattle.std.proofs.Common.{◌≡◌, ℕ, ◌+◌, ◌<◌, List, [], ◌∷◌, ◌++◌, length, take, get_or, append_assoc}
-use Rattle.std.proofs.lemmas.Grind.{flat_map-append}
-use Rattle.std.proofs.lemmas.List.{append-nil, take_more}
-use Rattle.cq_pcap.specs.Written.{record_of, written}
-use Rattle.cq_pcap.specs.declared.write.OutPacket.{OutPacket}
+use Rattle.cq_pcap.proofs.Terms.{◌≡◌, ℕ, ◌+◌, ◌<◌, List, [], ◌∷◌, ◌++◌, length, take, get_or, append_assoc, flat_map-append, append-nil, take_more, record_of, written, OutPacket}
 
 -- the file with one more packet
 pub written_with : (packets : List OutPacket) (p : OutPacket) →

@@ -1,32 +1,19 @@
 -- What is written is spelt: the header is one of the form, each record fits, and the seconds and nanoseconds of a
 -- stamp below 2^32 seconds make the stamp again.
-use Rattle.std.proofs.lemmas.Grind.{common_steps}
-use Rattle.std.proofs.Common.{◌≡◌, ◌+◌, ◌^◌, List, [], ◌∷◌, ◌++◌, map, refl, ap, arith, true, false}
-use Rattle.std.specs.List.{flat_map, AllByRecursion}
-use Rattle.cq_pcap.specs.declared.form.Form.{Form}
-use Rattle.cq_pcap.specs.declared.write.OutPacket.{OutPacket}
-use Rattle.cq_pcap.specs.Form.{number_at}
-use Rattle.cq_pcap.specs.Record.{Fits, IsHeader, Spells, captured_of, spelling}
-use Rattle.cq_pcap.specs.Written.{IsWritable, read_again, record_of, written, written_header, written_record}
+use Rattle.cq_pcap.proofs.Terms.{rules, ◌≡◌, ◌+◌, ◌^◌, List, [], ◌∷◌, ◌++◌, map, refl, ap, arith, true, false, common_steps, flat_map, AllByRecursion, Form, OutPacket, number_at, Fits, IsHeader, Spells, captured_of, spelling, IsWritable, read_again, record_of, written, written_header, written_record}
 
 -- the form that is written
 abbrev little_nanos : Form
 little_nanos = record { big = false; nano = true }
 
-record_fits : (p : OutPacket) → IsWritable p → Fits (written_record p)
-record_fits p w = record { seconds = omega arith; subseconds = omega arith; original = w.original; body = w.body }
-
-stamp_again : (p : OutPacket) → IsWritable p → captured_of little_nanos (written_record p) ≡ read_again p
-stamp_again p w = grind (arith, common_steps)
-
 records_fit : (ps : List OutPacket) → AllByRecursion IsWritable ps → AllByRecursion Fits (map written_record ps)
 records_fit [] w = tt
-records_fit (p ∷ ps) w = (record_fits p w.0, records_fit ps w.1)
+records_fit (p ∷ ps) w = search (arith, rules, records_fit ps w.1)
 
 records_kept : (ps : List OutPacket) → AllByRecursion IsWritable ps →
     map (captured_of little_nanos) (map written_record ps) ≡ map read_again ps
 records_kept [] w = refl
-records_kept (p ∷ ps) w = grind (arith, common_steps, stamp_again, records_kept ps w.1)
+records_kept (p ∷ ps) w = search (arith, rules, records_kept ps w.1)
 
 records_spelt : (ps : List OutPacket) → flat_map record_of ps ≡ flat_map (spelling false) (map written_record ps)
 records_spelt [] = refl

@@ -2,20 +2,9 @@
 -- below the cushion, since it is more urgent, ahead of the first one that is less urgent, and ahead of the end. So it
 -- stays the first, and the newcomer's output stands behind it in the list of all the cells' outputs, where a repeat
 -- is not seen.
-use Rattle.std.proofs.Common.{rules, ◌≡◌, ◌≢◌, ℕ, zero, suc, ◌<◌, cond, Bool, true, false, List, [], ◌∷◌, length, map, Option, Some, None, refl, sym, ap, ◌∙◌, subst, ⊎_elim, arith}
-use Rattle.std.specs.Prelude.{◌&&◌, insert}
-use Rattle.std.specs.Option.{option_map}
-use Rattle.std.proofs.lemmas.Bool.{cases_eq, eq-eqb, ne_eqb}
-use Rattle.std.proofs.lemmas.List.{length-map, ext_get_or}
-use Rattle.std.proofs.lemmas.List.Folds.{find_at}
-use Rattle.std.proofs.lemmas.List.FromFn.{length-map-range_with_len}
-use Rattle.std.proofs.lemmas.Option.{slice_get_within, same_Some}
-use Rattle.cq_base.specs.declared.cell.Queued.{Queued}
+use Rattle.cq_prefs.proofs.Terms.{rules, ◌≡◌, ◌≢◌, ℕ, zero, suc, ◌<◌, cond, Bool, true, List, [], ◌∷◌, length, map, Option, Some, None, refl, sym, ap, ◌∙◌, ⊎_elim, arith, ◌&&◌, insert, option_map, cases_eq, eq-eqb, ne_eqb, length-map, ext_get_or, find_at, length-map-range_with_len, slice_get_within, same_Some, Queued, IsBefore, MoreUrgentAhead, is_for, first_for, place_for, place_of_later, place_of_arrival, with_arrival, key_laws, first_here, first_later, list_of, output_order, input_order, orders_of, first_key, key_before, places_by_key}
 use Rattle.cq_base.specs.Key.{is_before}
-use Rattle.cq_base.specs.Cells.{IsBefore, MoreUrgentAhead, is_for, first_for, place_for, place_of_later, place_of_arrival, with_arrival}
-use Rattle.cq_base.proofs.Keys.{key_laws}
-use Rattle.cq_base.proofs.Lists.{first_here, first_later}
-use Rattle.cq_prefs.specs.FirstCells.{list_of, output_order, input_order, orders_of, first_key, key_before, places_by_key}
+use Rattle.cq_prefs.proofs.ByKey.{first_is_for}
 use Rattle.cq_prefs.proofs.Changes.{same_but_arrival}
 use Rattle.cq_prefs.proofs.InputOrder.{key_at-first, inputs_at, outputs_at}
 use Rattle.cq_prefs.proofs.OneOrder.{same_orders}
@@ -28,39 +17,27 @@ shown_here x xs k is = ap (λ b. cond b (Some x) (first_for k xs)) (eq-eqb x.cel
 shown_later : (x : Queued) (xs : List Queued) (k : ℕ) → x.cell.output ≢ k → first_for k (x ∷ xs) ≡ first_for k xs
 shown_later x xs k other = ap (λ b. cond b (Some x) (first_for k xs)) (ne_eqb x.cell.output k other)
 
--- the first cell for an output is for this output
-first_output : (k : ℕ) (xs : List Queued) (f : Queued) → first_for k xs ≡ Some f → f.cell.output ≡ k
-first_output k [] f h = absurd (let P : ⊥ = cc in P)
-first_output k (x ∷ xs) f h = search (rules, same_Some, shown_here, shown_later, cases_eq, first_output k xs f)
-
 -- it stands ahead of the first less urgent one for its output
 first_ahead : (c f : Queued) (xs : List Queued) → first_for c.cell.output xs ≡ Some f → IsBefore f c →
     place_for c.cell.output xs < place_of_later c xs
 first_ahead c f [] h before = absurd (let P : ⊥ = cc in P)
 first_ahead c f (x ∷ xs) h before =
     let later : Queued → Bool = λ y. is_for c.cell.output y && is_before c.key y.key in
-    ⊎_elim
-    (λ is.
-    let same : x ≡ f = same_Some x f (sym (shown_here x xs c.cell.output is) ∙ h) in
-    let no : later x ≡ false =
-    ap (λ b. b && is_before c.key x.key) (eq-eqb x.cell.output c.cell.output is)
-    ∙ key_laws.one_way x.key c.key (subst (λ (y : Queued). IsBefore y c) (sym same) before) in
+    let past = first_later later x xs in
+    ⊎_elim (λ is.
+    let same = same_Some x f (sym (shown_here x xs c.cell.output is) ∙ h) in
     let here = first_here (is_for c.cell.output) x xs (eq-eqb x.cell.output c.cell.output is) in
-    let past = first_later later x xs no in
-    omega arith)
-    (λ other.
-    let no : later x ≡ false = ap (λ b. b && is_before c.key x.key) (ne_eqb x.cell.output c.cell.output other) in
+    search (arith, rules, key_laws.one_way)) (λ other.
     let here = first_later (is_for c.cell.output) x xs (ne_eqb x.cell.output c.cell.output other) in
-    let past = first_later later x xs no in
     let rest = first_ahead c f xs (sym (shown_later x xs c.cell.output other) ∙ h) before in
-    omega arith)
+    search (arith, rules, ne_eqb))
     (cases_eq x.cell.output c.cell.output)
 
 -- so the newcomer goes in behind it
 goes_behind : (cushion : ℕ) (c f : Queued) (xs : List Queued) → first_for c.cell.output xs ≡ Some f → IsBefore f c →
     MoreUrgentAhead cushion c xs →
     (place_for c.cell.output xs < place_of_arrival cushion c xs) × (place_for c.cell.output xs < length xs)
-goes_behind cushion c f xs h before ahead = search (rules, find_at, slice_get_within, first_output, first_ahead)
+goes_behind cushion c f xs h before ahead = search (rules, find_at, slice_get_within, first_is_for, first_ahead)
 
 -- ## What stays
 
@@ -109,15 +86,11 @@ same_offers old new long each =
     let keys : (k : ℕ) → map (first_key k) new ≡ map (first_key k) old = λ k.
     let size = length-map old (first_key k) in
     let size' = length-map new (first_key k) in
-    ext_get_or None (map (first_key k) new) (map (first_key k) old) (omega arith)
-    (λ i _. key_at-first k new i
-    ∙ ap (option_map (λ (q : Queued). q.key)) ((each i).firsts k)
-    ∙ sym (key_at-first k old i)) in
-    same_orders (orders_of new) (orders_of old)
-    (ext_get_or [] (orders_of new).outputs (orders_of old).outputs (omega arith)
-    (λ i _. outputs_at new i ∙ (each i).order ∙ sym (outputs_at old i)))
-    (ext_get_or [] (orders_of new).inputs (orders_of old).inputs (omega arith)
-    (λ j l.
+    ext_get_or None (map (first_key k) new) (map (first_key k) old) (omega arith) (λ i _. key_at-first k new i
+    ∙ ap (option_map (λ (q : Queued). q.key)) ((each i).firsts k) ∙ sym (key_at-first k old i)) in
+    same_orders (orders_of new) (orders_of old) (ext_get_or [] (orders_of new).outputs (orders_of old).outputs
+    (omega arith) (λ i _. outputs_at new i ∙ (each i).order ∙ sym (outputs_at old i))) (ext_get_or []
+    (orders_of new).inputs (orders_of old).inputs (omega arith) (λ j l.
     let inside : j < length new = omega arith in
     let inside' : j < length old = omega arith in
     inputs_at new j inside ∙ ap places_by_key (keys j) ∙ sym (inputs_at old j inside')))

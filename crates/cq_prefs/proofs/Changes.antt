@@ -1,27 +1,13 @@
 -- What an arrival and a transfer change in the offers. A cell that goes into a list, or the first cell for an output
 -- that leaves it, changes neither the first cells for the other outputs nor the order in which these stand. So with the
 -- pair of the input and of this output taken out, the orders are as before.
-use Rattle.std.proofs.lemmas.Grind.{common_steps}
-use Rattle.std.proofs.Common.{rules, ◌≡◌, ◌≢◌, ℕ, zero, suc, eqb, not, cond, Bool, true, false, List, [], ◌∷◌, length, map, Option, Some, None, refl, sym, ap, arith, ◌∙◌, subst}
-use Rattle.std.specs.Prelude.{filter, insert}
-use Rattle.std.proofs.lemmas.Bool.{cond_both, cond-false, cases_eq, cases_lt, eq-eqb, ne_eqb, eqb-true, not-true}
-use Rattle.std.proofs.lemmas.List.{length-map}
-use Rattle.std.proofs.lemmas.List.FromFn.{length-map-range_with_len}
-use Rattle.cq_base.specs.declared.cell.Queued.{Queued}
-use Rattle.cq_base.specs.Cells.{is_for, first_for, without_first}
-use Rattle.cq_prefs.specs.FirstCells.{list_of, FirstKeysDiffer, without_repeats, output_order, input_order, orders_of, first_key, key_at}
-use Rattle.cq_prefs.specs.Pairing.{Partners, partner_of}
-use Rattle.cq_prefs.specs.Renewal.{without, is_partner, is_pair, AreSameWithout}
+use Rattle.cq_prefs.proofs.Terms.{common_steps, rules, ◌≡◌, ◌≢◌, ℕ, zero, suc, eqb, not, cond, Bool, true, false, List, [], ◌∷◌, length, map, Option, Some, None, refl, sym, ap, arith, ◌∙◌, filter, insert, cond_both, cond-false, cases_eq, cases_lt, eq-eqb, ne_eqb, eqb-true, not-true, length-map, Queued, is_for, first_for, without_first, list_of, FirstKeysDiffer, without_repeats, output_order, input_order, orders_of, first_key, key_at, Partners, partner_of, without, is_partner, is_pair, AreSameWithout}
 use Rattle.cq_prefs.proofs.InputOrder.{key_at-first, is_input_order, outputs_at, inputs_at, no_inputs_past}
-use Rattle.cq_prefs.proofs.Members.{Among, among, listed, among_filter, among_kept}
+use Rattle.cq_prefs.proofs.Members.{Among, among, listed, among_filter, among_kept, Rises}
 use Rattle.cq_prefs.proofs.OneOrder.{rises_unique, more_urgent, urgent_one_way, inputs_rise}
 use Rattle.cq_prefs.proofs.PutBack.{without_here, without_there, without_none}
-use Rattle.cq_prefs.proofs.Sorted.{Rises}
 
 -- ## The order of the outputs
-
-without_twice : (j : ℕ) (xs : List ℕ) → without j (without j xs) ≡ without j xs
-without_twice j xs = grind (arith, common_steps, without_none, not-true, among_filter, eq-eqb)
 
 without_swap : (j k : ℕ) (xs : List ℕ) → without j (without k xs) ≡ without k (without j xs)
 without_swap j k [] = refl
@@ -31,7 +17,9 @@ without_swap j k (x ∷ xs) = grind (arith, common_steps, without_here, without_
 left_out : (j : ℕ) (xs : List ℕ) → without j (without_repeats xs) ≡ without_repeats (without j xs)
 left_out j [] = refl
 left_out j (x ∷ xs) =
-    grind (arith, common_steps, without_here, without_twice, without_there, without_swap, cases_eq, left_out j xs)
+    let left_out-here = left_out j xs in
+    let swap = without_swap j x in
+    search (arith, rules, without_here, without_there, swap, cases_eq, without_none, not-true, among_filter, eq-eqb)
 
 abbrev outputs : List Queued → List ℕ
 outputs cells = map (λ c. c.cell.output) cells
@@ -76,28 +64,23 @@ same_list p old new e = grind (arith, common_steps)
 other_than : (k j : ℕ) → eqb k j ≡ false → k ≢ j
 other_than k j differ e = let is = eq-eqb k j e in let P : ⊥ = cc in P
 
+same_but : (p : Option ℕ) (old new : List Queued) (j : ℕ) → p ≡ Some j →
+    ((k : ℕ) → k ≢ j → first_for k new ≡ first_for k old) → without j (outputs old) ≡ without j (outputs new) →
+    IsSameBut p old new
+same_but p old new j partner firsts e = rw partner (record {
+  firsts = λ k apart. firsts k (other_than k j apart);
+  order = left_out j (outputs old) ∙ ap without_repeats e ∙ sym (left_out j (outputs new));
+})
+
 pub same_but_arrival : (p : Option ℕ) (old new : List Queued) (place : ℕ) (c : Queued) → p ≡ Some c.cell.output →
     new ≡ insert old place c → IsSameBut p old new
-same_but_arrival p old new place c partner e =
-    let j = c.cell.output in
-    subst (λ q. IsSameBut q old new) (sym partner)
-    (subst (IsSameBut (Some j) old) (sym e)
-    (record {
-      firsts = λ k apart. come_first old place c k (λ is. other_than k j apart (sym is));
-      order = left_out j (outputs old) ∙ ap without_repeats (come_outputs old place c)
-          ∙ sym (left_out j (outputs (insert old place c)));
-    }))
+same_but_arrival p old new place c partner e = rw e (same_but p old (insert old place c) c.cell.output partner
+    (λ k other. come_first old place c k (λ is. other (sym is))) (come_outputs old place c))
 
 pub same_but_taken : (p : Option ℕ) (old new : List Queued) (j : ℕ) → p ≡ Some j → new ≡ without_first j old →
     IsSameBut p old new
 same_but_taken p old new j partner e =
-    subst (λ q. IsSameBut q old new) (sym partner)
-    (subst (IsSameBut (Some j) old) (sym e)
-    (record {
-      firsts = λ k apart. gone_first j old k (other_than k j apart);
-      order = left_out j (outputs old) ∙ ap without_repeats (gone_outputs j old)
-          ∙ sym (left_out j (outputs (without_first j old)));
-    }))
+    rw e (same_but p old (without_first j old) j partner (gone_first j old) (gone_outputs j old))
 
 -- ## The order of the inputs
 
@@ -144,14 +127,5 @@ module _ (m : Partners) (old new : List (List Queued)) (k : ℕ)
 pub same_without : (m : Partners) (old new : List (List Queued)) → length new ≡ length old →
     ((i : ℕ) → IsSameBut (partner_of m i) (list_of old i) (list_of new i)) → FirstKeysDiffer old → FirstKeysDiffer new →
     AreSameWithout m (orders_of old) (orders_of new)
-same_without m old new size each old_differ new_differ = grind (
-  arith,
-  common_steps,
-  length-map,
-  length-map-range_with_len,
-  outputs_at,
-  inputs_at,
-  same_inputs,
-  no_inputs_past,
-  cases_lt,
-)
+same_without m old new size each old_differ new_differ =
+    grind (arith, common_steps, length-map, outputs_at, inputs_at, same_inputs, no_inputs_past, cases_lt)

@@ -1,25 +1,14 @@
 -- How many proposals there are. Each event moves one input on by one place, so the events are the sum of the places. No
 -- order is longer than there are ports. Where nobody is free each input stands behind its partner, or at the end of its
 -- order, and that is what it spent.
-use Rattle.std.proofs.Common.{ℕ, ◌≡◌, ◌+◌, ◌*◌, ◌≤◌, List, [], ◌∷◌, length, get_or, Option, Some, None, suc, refl, sym, ◌∙◌, ap, arith}
-use Rattle.std.specs.List.{range_with_len}
-use Rattle.std.specs.Prelude.{sum, map}
-use Rattle.std.proofs.lemmas.List.Sums.{sum_by-set, sum_by-cons, sum_by-le}
-use Rattle.std.proofs.lemmas.List.{get_or_default, ext_get_or}
-use Rattle.std.proofs.lemmas.List.FromFn.{length-map-range_with_len, get_or-map-range_with_len}
-use Rattle.cq_prefs.specs.Orders.{Orders, AreOffers, ports, outputs_of}
-use Rattle.cq_prefs.specs.Pairing.{partner_of, spent, proposals}
-use Rattle.cq_prefs.specs.Proposals.{State, next_place, start, IsQuiescent, IsSound, next_output, propose, matching_of, state_after, AreEvents}
+use Rattle.cq_prefs.proofs.Terms.{ℕ, ◌≡◌, ◌*◌, ◌≤◌, List, [], ◌∷◌, length, get_or, Option, Some, None, suc, refl, arith, rules, range_with_len, sum, map, sum_by-set, sum_by-le, get_or_default, ext_get_or, length-map-range_with_len, get_or-map-range_with_len, Orders, AreOffers, ports, outputs_of, partner_of, spent, proposals, State, next_place, start, IsQuiescent, IsSound, next_output, propose, matching_of, state_after, AreEvents, common_steps}
 use Rattle.cq_prefs.proofs.Places.{input_in_range, outputs_at_most}
 use Rattle.cq_prefs.proofs.Steps.{sound-after, next_place-start, step}
 use Rattle.cq_prefs.proofs.Quiet.{IsKept, kept}
 
 sum-zeros : (xs : List ℕ) → ((i : ℕ) → get_or xs i 0 ≡ 0) → sum xs ≡ 0
 sum-zeros [] h = refl
-sum-zeros (x ∷ xs) h =
-    let a = sum_by-cons (λ y. y) x xs in
-    let b = sum-zeros xs (λ i. h (suc i)) in
-    let c : x ≡ 0 = h 0 in omega arith
+sum-zeros (x ∷ xs) h = let rest = sum-zeros xs (λ i. h (suc i)) in let here = h 0 in grind (arith, common_steps)
 
 -- each event moves one input on by one place
 pub sum-places : (o : Orders) → AreOffers o → (events : List ℕ) → AreEvents o events →
@@ -31,7 +20,7 @@ sum-places o v (i ∷ events) es =
     let w = sound-after o v events es.0 in
     let r = input_in_range o i (next_output o s i) (step o v s w i es.1).offered in
     let a = sum-places o v events es.0 in
-    let b = sum_by-set (λ x. x) s.places i (next_place s i + 1) 0 (omega arith) in omega arith
+    grind (arith, common_steps, sum_by-set)
 
 pub events_at_most : (o : Orders) → AreOffers o → (events : List ℕ) → AreEvents o events →
     length events ≤ ports o * ports o
@@ -40,10 +29,8 @@ events_at_most o v events es =
     let s = state_after o events in
     let a = sum-places o v events es in
     let b : sum s.places ≤ length s.places * ports o = sum_by-le (λ x. x) (ports o) s.places (λ k d l.
-    let e : get_or s.places k d ≡ next_place s k = get_or_default s.places k d 0 l in
-    let f = w.within k in
-    let g = outputs_at_most o v k in omega arith) in
-    let c : length s.places * ports o ≡ ports o * ports o = ap (λ n. n * ports o) w.inputs in omega arith
+    let e = get_or_default s.places k d 0 l in let f = w.within k in let g = outputs_at_most o v k in omega arith) in
+    grind (arith, common_steps)
 
 spent-is : (o : Orders) (s : State) (i : ℕ) → IsKept o s i → (p : Option ℕ) → partner_of (matching_of o s) i ≡ p →
     next_place s i ≡ spent (outputs_of o i) p
@@ -54,12 +41,11 @@ places-quiet : (o : Orders) → AreOffers o → (s : State) → IsSound o s → 
     s.places ≡ map (λ i. spent (outputs_of o i) (partner_of (matching_of o s) i)) (range_with_len 0 (ports o))
 places-quiet o v s w q =
     let f : ℕ → ℕ = λ i. spent (outputs_of o i) (partner_of (matching_of o s) i) in
-    ext_get_or 0 s.places (map f (range_with_len 0 (ports o)))
-    (let a = length-map-range_with_len f 0 (ports o) in omega arith) (λ i l. spent-is o s i (kept o v s w q i) _
-    refl ∙ sym (get_or-map-range_with_len f 0 (ports o) i i 0 (omega arith) (omega arith)))
+    let long = length-map-range_with_len f 0 (ports o) in
+    ext_get_or 0 s.places (map f (range_with_len 0 (ports o))) (omega arith)
+    (search (arith, rules, spent-is, kept, get_or-map-range_with_len))
 
 pub events-quiet : (o : Orders) → AreOffers o → (events : List ℕ) → AreEvents o events →
     IsQuiescent o (state_after o events) → length events ≡ proposals o (matching_of o (state_after o events))
-events-quiet o v events es q =
-    let s = state_after o events in
-    let w = sound-after o v events es in sym (sum-places o v events es) ∙ ap sum (places-quiet o v s w q)
+events-quiet o v events es q = let s = state_after o events in let w = sound-after o v events es in
+    cc (sum-places o v events es, places-quiet o v s w q)

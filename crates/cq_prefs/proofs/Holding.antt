@@ -1,16 +1,7 @@
 -- Who holds whom in a state that events reach. The test computes what is said, and an input is held by one output at
 -- most, the one that it asked last. So the matching of the state has exactly the pairs of an output and the input that
 -- it holds.
-use Rattle.std.proofs.lemmas.Grind.{common_steps}
-use Rattle.std.proofs.Common.{ℕ, ◌≡◌, ◌⊎◌, inl, inr, ◌<◌, ◌≤◌, Bool, true, List, [], ◌∷◌, length, Option, Some, None, refl, sym, ◌∙◌, ap, arith}
-use Rattle.std.specs.Prelude.{find, is_none}
-use Rattle.std.specs.List.{range_with_len}
-use Rattle.std.proofs.lemmas.Bool.{cases_lt, cond_both, ltb-true, lt-ltb, eqb-true, eq-eqb, and_parts, and_from, true≢false}
-use Rattle.std.proofs.lemmas.List.{get_or_past, ext_get_or}
-use Rattle.std.proofs.lemmas.List.FromFn.{length-map-range_with_len, get_or-map-range_with_len}
-use Rattle.cq_prefs.specs.Orders.{Orders, AreOffers, ports, inputs_of}
-use Rattle.cq_prefs.specs.Pairing.{Partners, partner_of, IsMatching}
-use Rattle.cq_prefs.specs.Proposals.{State, Holds, IsFree, IsSound, holds, keeper, is_free, matching_of}
+use Rattle.cq_prefs.proofs.Terms.{rules, ℕ, ◌≡◌, ◌⊎◌, ◌<◌, Bool, true, List, [], ◌∷◌, length, Option, Some, None, refl, sym, ◌∙◌, ap, arith, ⊎_elim, common_steps, find, is_none, range_with_len, cases_lt, cond_both, ltb-true, lt-ltb, eqb-true, eq-eqb, and_parts, and_from, true≢false, get_or_past, ext_get_or, length-map-range_with_len, get_or-map-range_with_len, Orders, AreOffers, ports, inputs_of, Partners, partner_of, IsMatching, State, Holds, IsFree, IsSound, holds, keeper, is_free, matching_of}
 use Rattle.cq_prefs.proofs.Places.{same_at_place, input_in_range, output_in_range}
 use Rattle.cq_prefs.proofs.Members.{Among, in_range}
 
@@ -48,26 +39,20 @@ unfolding keeper
 keeper-from o v s w i j h =
     let r : j < ports o = output_in_range o v i j (v.shown_back i j h.1) in
     found_only (holds o s i) (range_with_len 0 (ports o)) j (in_range 0 (ports o) j (omega arith) (omega arith))
-    (holds-from o s i j h)
-    (λ k also. held_once o v s w i k j (holds-yes o s i k also) h)
+    (holds-from o s i j h) (λ k also. held_once o v s w i k j (holds-yes o s i k also) h)
 
 none_unless : (p : Option ℕ) → ((j : ℕ) → p ≡ Some j → ⊥) → p ≡ None
-none_unless None h = refl
-none_unless (Some j) h = absurd (h j refl)
+none_unless p h = grind (arith, common_steps, h)
 
 -- the partner of an input in the matching of the state
 pub partner-is : (o : Orders) → AreOffers o → (s : State) → (i : ℕ) → partner_of (matching_of o s) i ≡ keeper o s i
 unfolding matching_of
-partner-is o v s i = go (cases_lt i (ports o))
-  where
-    nobody : ports o ≤ i → (j : ℕ) → keeper o s i ≡ Some j → ⊥
-    nobody l j e = let r = input_in_range o i j (v.shown_back i j (keeper-holds o s i j e).1) in omega arith
-
-    go : (i < ports o) ⊎ (ports o ≤ i) → partner_of (matching_of o s) i ≡ keeper o s i
-    go (inl l) = get_or-map-range_with_len (keeper o s) 0 (ports o) i i None l (omega arith)
-    go (inr l) =
-        get_or_past (matching_of o s) i None (let e = length-map-range_with_len (keeper o s) 0 (ports o) in omega arith)
-        ∙ sym (none_unless (keeper o s i) (nobody l))
+partner-is o v s i =
+    let long = length-map-range_with_len (keeper o s) 0 (ports o) in
+    ⊎_elim (λ l. get_or-map-range_with_len (keeper o s) 0 (ports o) i i None l (omega arith))
+    (λ past. get_or_past (matching_of o s) i None (omega arith) ∙ sym (none_unless (keeper o s i) (λ j e.
+    let r = input_in_range o i j (v.shown_back i j (keeper-holds o s i j e).1) in omega arith)))
+    (cases_lt i (ports o))
 
 -- who is matched is held, and who is held is matched
 pub partner-holds : (o : Orders) → AreOffers o → (s : State) → (i j : ℕ) → partner_of (matching_of o s) i ≡ Some j →
@@ -107,18 +92,12 @@ pub partner-free : (o : Orders) → AreOffers o → (s : State) → (i : ℕ) �
     partner_of (matching_of o s) i ≡ None
 partner-free o v s i f = none_unless _ (λ j e. f.unheld j (partner-holds o v s i j e))
 
-none_here : (p : Option ℕ) (j : ℕ) → is_none p ≡ true → p ≡ Some j → ⊥
-none_here None j h e = let P : ⊥ = cc in P
-none_here (Some k) j h e = let P : ⊥ = cc in P
-
-none_test : (p : Option ℕ) → p ≡ None → is_none p ≡ true
-none_test p e = ap is_none e
-
 pub free_if : (o : Orders) → AreOffers o → (s : State) → IsSound o s → (i : ℕ) → is_free o s i ≡ true → IsFree o s i
 unfolding is_free
-free_if o v s w i h = grind (arith, common_steps, and_parts, ltb-true, none_here, keeper-from)
+free_if o v s w i h = search (arith, rules, and_parts, ltb-true, keeper-from)
 
 pub free_only_if : (o : Orders) → AreOffers o → (s : State) → (i : ℕ) → IsFree o s i → is_free o s i ≡ true
 unfolding is_free
-free_only_if o v s i f = and_from _ _ (lt-ltb _ _ f.left)
-    (none_test (keeper o s i) (none_unless (keeper o s i) (λ j e. f.unheld j (keeper-holds o s i j e))))
+free_only_if o v s i f =
+    let none = none_unless (keeper o s i) (λ j e. f.unheld j (keeper-holds o s i j e)) in
+    and_from _ _ (lt-ltb _ _ f.left) (ap is_none none)

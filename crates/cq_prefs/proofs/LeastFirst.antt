@@ -1,15 +1,8 @@
 -- Where the least free input proposes, each turn is an event or finds nobody free. There are no more events than the
 -- number of ports squared, so after as many turns nobody is free, and those who are held form the matching that is best
 -- for the inputs.
-use Rattle.std.proofs.lemmas.Grind.{common_steps}
-use Rattle.std.proofs.Common.{rules, ℕ, zero, suc, ◌≡◌, ◌⊎◌, inl, ◌*◌, Bool, true, ⊎_elim, List, [], ◌∷◌, length, Option, Some, None, refl, sym, ◌∙◌, ap, subst, arith, ◌<◌}
-use Rattle.std.specs.Prelude.{find}
-use Rattle.std.specs.List.{range_with_len}
-use Rattle.std.proofs.lemmas.Bool.{cond_both, true≢false}
+use Rattle.cq_prefs.proofs.Terms.{common_steps, rules, ℕ, zero, suc, ◌≡◌, ◌⊎◌, inl, ◌*◌, Bool, true, ⊎_elim, List, [], ◌∷◌, length, Option, Some, None, refl, ap, arith, ◌<◌, find, range_with_len, cond_both, true≢false, Orders, AreOffers, ports, IsInputBest, State, IsFree, IsQuiescent, is_free, next_output, propose, state_after, AreEvents}
 use Rattle.cq_prefs.specs.LeastFirst.{least_free, propose_if, state_at, best}
-use Rattle.cq_prefs.specs.Orders.{Orders, AreOffers, ports}
-use Rattle.cq_prefs.specs.Pairing.{IsInputBest}
-use Rattle.cq_prefs.specs.Proposals.{State, IsFree, IsQuiescent, is_free, next_output, propose, matching_of, state_after, AreEvents}
 use Rattle.cq_prefs.proofs.Counts.{events_at_most}
 use Rattle.cq_prefs.proofs.Holding.{found_passes, free_if, free_only_if}
 use Rattle.cq_prefs.proofs.Members.{Among, in_range}
@@ -45,35 +38,24 @@ one_turn : (o : Orders) → AreOffers o → (n : ℕ) (s : State) → IsTurns o 
     IsTurns o (suc n) (propose_if o s p)
 one_turn o v n s t None e = grind (arith, common_steps, quiet_if_none)
 one_turn o v n s t (Some i) e =
-    let free : IsFree o (state_after o t.events) i =
-    free_if_found o v t.events t.are_events i (ap (least_free o) (sym t.is) ∙ e) in
+    let free = free_if_found o v t.events t.are_events i (rw t.is at e) in
     record {
       events = i ∷ t.events;
       are_events = (t.are_events, free);
       is = ap (λ x. propose o x i) t.is;
-      ended = ⊎_elim (λ all. inl (ap suc all)) (λ (quiet : IsQuiescent o s).
-          absurd (quiet i (let P : State → Type 0 = λ x. IsFree o x i in subst P (sym t.is) free))) t.ended;
+      ended = ⊎_elim (λ all. inl (ap suc all)) (λ (quiet : IsQuiescent o s). absurd (quiet i (rw t.is free))) t.ended;
     }
 
 turns : (o : Orders) → AreOffers o → (n : ℕ) → IsTurns o n (state_at o n)
 turns o v zero = record { events = []; are_events = tt; is = refl; ended = inl refl }
-turns o v (suc n) = one_turn o v n (state_at o n) (turns o v n) (least_free o (state_at o n)) refl
+turns o v (suc n) = search (rules, one_turn, turns o v n)
 
 -- after so many turns nobody is free: there would be one event too many
-quiet_at_end : (o : Orders) → AreOffers o → (s : State) → IsTurns o (ports o * ports o) s → IsQuiescent o s
-quiet_at_end o v s t = ⊎_elim (λ all i f. too_many all i f) (λ quiet. quiet) t.ended
-  where
-    too_many : length t.events ≡ ports o * ports o → (i : ℕ) → IsFree o s i → ⊥
-    too_many all i f =
-        let P : State → Type 0 = λ x. IsFree o x i in
-        let most = events_at_most o v (i ∷ t.events) (t.are_events, subst P t.is f) in
-        absurd (omega arith)
-
 pub input_best-best : (o : Orders) → AreOffers o → IsInputBest o (best o)
 unfolding best
 input_best-best o v =
     let t = turns o v (ports o * ports o) in
-    let quiet = quiet_at_end o v (state_at o (ports o * ports o)) t in
-    let Q : State → Type 0 = λ s. IsQuiescent o s in
-    let P : State → Type 0 = λ s. IsInputBest o (matching_of o s) in
-    subst P (sym t.is) (input_best-quiet o v t.events t.are_events (subst Q t.is quiet))
+    let quiet : IsQuiescent o (state_after o t.events) = ⊎_elim (λ all i f.
+    let most = events_at_most o v (i ∷ t.events) (t.are_events, f) in absurd (omega arith))
+    (λ q. rw t.is at q) t.ended in
+    rw t.is (input_best-quiet o v t.events t.are_events quiet)

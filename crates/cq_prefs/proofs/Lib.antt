@@ -1,17 +1,13 @@
+mod Terms
 pub mod Padded
 pub mod Places
 pub mod Members
 pub mod OutputOrder
-pub mod Sorted
 pub mod InputOrder
 pub mod OneOrder
 pub mod ByKey
 pub mod PutBack
-pub mod OneRow
-pub mod Placed
-pub mod Fill
 pub mod Renewing
-pub mod RenewingOne
 pub mod BehindFirst
 pub mod Changes
 pub mod Pairs

@@ -1,16 +1,7 @@
 -- Places in an order, and what offers say of them. A place that is found shows its port, and where no port is twice
 -- the port at a place is found there. So an offered pair has its ports in range, and no order is longer than there
 -- are ports.
-use Rattle.std.proofs.lemmas.Grind.{common_steps}
-use Rattle.std.proofs.Common.{rules, ℕ, ◌⊎◌, inl, inr, ◌≡◌, ◌<◌, ◌≤◌, true, List, [], length, get_or, eqb, replicate, refl, sym, ◌∙◌, ap, arith, subst}
-use Rattle.std.specs.List.{IsDistinct, Any}
-use Rattle.std.proofs.lemmas.Bool.{cases_lt, eqb-true, eq-eqb, ne_eqb}
-use Rattle.std.proofs.lemmas.List.{get_or_past, get_or_default, get_or-replicate, length-replicate}
-use Rattle.std.proofs.lemmas.List.Sums.{position_or_len_is, passes_at_first, prefix_len-le-length}
-use Rattle.std.proofs.lemmas.Map.Keys.{apart_from_distinct}
-use Rattle.std.proofs.lemmas.List.Folds.{Any-from_list_any}
-use Rattle.std.proofs.lemmas.Map.Steps.{length-le_from_distinct_below}
-use Rattle.cq_prefs.specs.Orders.{Orders, AreOffers, ports, outputs_of, inputs_of, place_in, place_of, position_of, IsOffered, no_offers}
+use Rattle.cq_prefs.proofs.Terms.{common_steps, rules, ℕ, ◌≡◌, ◌<◌, ◌≤◌, List, [], length, get_or, eqb, replicate, refl, arith, IsDistinct, cases_lt, eqb-true, eq-eqb, ne_eqb, get_or_past, get_or_default, get_or-replicate, length-replicate, position_or_len_is, passes_at_first, prefix_len-le-length, apart_from_distinct, Any-from_list_any, length-le_from_distinct_below, Orders, AreOffers, ports, outputs_of, inputs_of, place_in, place_of, position_of, IsOffered, no_offers}
 
 pub get_or-place_in : (xs : List ℕ) (y : ℕ) → place_in xs y < length xs → get_or xs (place_in xs y) 0 ≡ y
 unfolding place_in
@@ -31,25 +22,10 @@ same_at_place xs a b e h = grind (arith, common_steps, get_or-place_in xs a h, g
 
 -- ports that are offered are in range
 pub input_in_range : (o : Orders) (i j : ℕ) → IsOffered o i j → i < ports o
-input_in_range o i j h = go (cases_lt i (ports o))
-  where
-    go : (i < ports o) ⊎ (ports o ≤ i) → i < ports o
-    go (inl l) = l
-    go (inr l) =
-        absurd (let e : outputs_of o i ≡ [] = get_or_past o.outputs i [] l in
-        let k : length (outputs_of o i) ≡ 0 = ap length e in
-        omega arith)
+input_in_range o i j h = grind (arith, common_steps, get_or_past, cases_lt)
 
 pub output_in_range : (o : Orders) → AreOffers o → (i j : ℕ) → IsOffered o i j → j < ports o
-output_in_range o v i j h = go (cases_lt j (ports o))
-  where
-    go : (j < ports o) ⊎ (ports o ≤ j) → j < ports o
-    go (inl l) = l
-    go (inr l) =
-        absurd (
-        let past : length o.inputs ≤ j = omega (arith, v.square) in
-        let k : length (inputs_of o j) ≡ 0 = ap length (get_or_past o.inputs j [] past) in
-        let s = v.shown i j h in omega arith)
+output_in_range o v i j h = grind (arith, common_steps, get_or_past, cases_lt, v.square, v.shown i j)
 
 -- the output at a place is offered, at that place
 pub place_of-at : (o : Orders) → AreOffers o → (i p : ℕ) → p < length (outputs_of o i) →
@@ -63,13 +39,9 @@ position_of-at o v j p h = place_in-get_or (inputs_of o j) p (v.inputs_differ j)
 -- an order of different ports below n has at most n
 pub places_at_most : (xs : List ℕ) (n : ℕ) → IsDistinct eqb xs → ((q : ℕ) → place_in xs q < length xs → q < n) →
     length xs ≤ n
-places_at_most xs n d below = length-le_from_distinct_below xs n d (λ q h. at_index q (Any-from_list_any (eqb q) xs h))
-  where
-    at_index : (q : ℕ) → Any (λ x. eqb q x ≡ true) xs → q < n
-    at_index q a =
-        let e : q ≡ get_or xs a.0 0 = eqb-true _ _ a.4 ∙ sym a.3 ∙ get_or_default xs a.0 a.1 0 a.2 in
-        let P : ℕ → Type 0 = λ m. place_in xs m < length xs in
-        below q (subst P (sym e) (let f = place_in-get_or xs a.0 d a.2 in omega arith))
+places_at_most xs n d below =
+    let at = place_in-get_or xs in
+    search (arith, rules, length-le_from_distinct_below, Any-from_list_any, eqb-true, get_or_default, at)
 
 pub outputs_at_most : (o : Orders) → AreOffers o → (i : ℕ) → length (outputs_of o i) ≤ ports o
 outputs_at_most o v i = search (rules, places_at_most, v.outputs_differ, output_in_range)
@@ -89,15 +61,9 @@ place_in_is xs y i short before here =
 abbrev nothing : ℕ → List (List ℕ)
 nothing n = replicate n []
 
-none_at : (n i : ℕ) → get_or (nothing n) i [] ≡ []
-none_at n i = grind (arith, common_steps, get_or-replicate, get_or_past, length-replicate, cases_lt)
-
-nobody_in : (n i k : ℕ) → place_in (get_or (nothing n) i []) k < length (get_or (nothing n) i []) → ⊥
-nobody_in n i k h = let e = ap length (none_at n i) in omega arith
-
 pub no_offers_are : (n : ℕ) → AreOffers (no_offers n)
 unfolding IsDistinct
-no_offers_are n = grind (arith, common_steps, none_at, nobody_in)
+no_offers_are n = search (arith, rules, get_or-replicate, get_or_past, length-replicate, cases_lt)
 
 -- offers of which both sides show nothing
 pub made_none : (n : ℕ) (outputs inputs : List (List ℕ)) → outputs ≡ nothing n → inputs ≡ nothing n → n ≤ 64 →

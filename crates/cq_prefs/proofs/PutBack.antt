@@ -1,18 +1,10 @@
 -- A number that leaves an order and goes in before the first that it comes before stands where it stood. Those ahead of
 -- it come before it, so it goes past them, and it comes before the one that followed it. So of an order it is enough to
 -- know what is left without the number, and whether the number is in it.
-use Rattle.std.proofs.Common.{rules, ◌≡◌, ◌≢◌, ℕ, suc, ◌<◌, ◌≤◌, eqb, not, cond, Bool, true, List, [], ◌∷◌, length, refl, sym, ap, ◌∙◌, inl, ⊎_elim, arith, false, subst}
-use Rattle.std.proofs.lemmas.Grind.{common_steps}
-use Rattle.std.specs.Prelude.{insert, remove}
-use Rattle.std.specs.List.{IsDistinct, position_or_len}
-use Rattle.std.proofs.lemmas.Bool.{cond-true, cond-false, cases_Bool, cases_eq, eq-eqb, ne_eqb}
-use Rattle.cq_prefs.specs.FirstCells.{put_by}
-use Rattle.cq_prefs.specs.Orders.{place_in, IsListed}
-use Rattle.cq_prefs.specs.Renewal.{without}
+use Rattle.cq_prefs.proofs.Terms.{rules, ◌≡◌, ◌≢◌, ℕ, suc, ◌<◌, ◌≤◌, eqb, not, cond, Bool, true, List, [], ◌∷◌, length, refl, sym, ap, ◌∙◌, inl, ⊎_elim, arith, common_steps, insert, remove, IsDistinct, position_or_len, cond-true, cond-false, cases_Bool, cases_eq, eq-eqb, ne_eqb, put_by, place_in, IsListed, without}
 use Rattle.cq_prefs.proofs.ByKey.{put_is, length-put}
-use Rattle.cq_prefs.proofs.Members.{Among, Apart, among, listed, place_head, place_next}
+use Rattle.cq_prefs.proofs.Members.{Among, Apart, among, listed, place_head, place_next, Rises}
 use Rattle.cq_prefs.proofs.OneOrder.{apart}
-use Rattle.cq_prefs.proofs.Sorted.{Rises}
 
 pub without_here : (x y : ℕ) (xs : List ℕ) → y ≡ x → without x (y ∷ xs) ≡ without x xs
 without_here x y xs e = ap (λ b. cond (not b) (y ∷ without x xs) (without x xs)) (eq-eqb y x e)
@@ -49,18 +41,10 @@ module _ (b : ℕ → ℕ → Bool) (one_way : (x y : ℕ) → b x y ≡ true �
   goes_back : (x : ℕ) (ys : List ℕ) → Apart ys → Rises b ys → Among x ys → put_by b x (without x ys) ≡ ys
   goes_back x [] a r m = absurd m
   goes_back x (y ∷ ys) a r m =
-      ⊎_elim
-      (λ is.
-      ap (put_by b x) (without_here x y ys is ∙ without_none x ys (λ n. a.0 (subst (λ k. Among k ys) (sym is) n)))
-      ∙ goes_first b x ys (λ k n. subst (λ z. b z k ≡ true) is (r.0 k n))
-      ∙ ap (λ z. z ∷ ys) (sym is))
-      (λ other.
-      let later : Among x ys = ⊎_elim (λ e. absurd (other e)) (λ n. n) m in
-      let past : b x y ≡ false = ⊎_elim (λ t. absurd (one_way y x (r.0 x later) t)) (λ f. f) (cases_Bool (b x y)) in
-      ap (put_by b x) (without_there x y ys other)
-      ∙ cond-false (b x y) (x ∷ y ∷ without x ys) (y ∷ put_by b x (without x ys)) past
-      ∙ ap (λ l. y ∷ l) (goes_back x ys a.1 r.1 later))
-      (cases_eq y x)
+      let here = without_here x y ys in
+      let there = without_there x y ys in
+      let rest = goes_back x ys a.1 r.1 in
+      search (arith, rules, without_none, goes_first, r.0, one_way, cases_eq, cases_Bool, cond-false)
 
   -- an order that is known but for x, which is in it
   pub put_back :

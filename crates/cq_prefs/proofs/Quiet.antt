@@ -1,11 +1,7 @@
 -- A state in which nobody is free. Each input is held by the output that it asked last, or has asked its whole order.
 -- Each output that it has asked holds it or a better one, and it likes the others less than the one that holds it: so
 -- the matching is stable. In another stable matching it has no better partner, or it would have passed that one.
-use Rattle.std.proofs.Common.{ℕ, ◌≡◌, ◌≢◌, ◌⊎◌, inl, inr, ◌+◌, ◌<◌, ◌≤◌, List, length, get_or, Option, Some, None, refl, sym, ◌∙◌, arith}
-use Rattle.std.proofs.lemmas.Bool.{cases_lt}
-use Rattle.cq_prefs.specs.Orders.{Orders, AreOffers, outputs_of, inputs_of, place_of, position_of, IsOffered}
-use Rattle.cq_prefs.specs.Pairing.{Partners, partner_of, depth, IsMatching, IsStable, IsInputBest, HasBetterOutput, HasBetterInput}
-use Rattle.cq_prefs.specs.Proposals.{State, position_held, next_place, IsQuiescent, IsSound, matching_of, state_after, AreEvents}
+use Rattle.cq_prefs.proofs.Terms.{ℕ, ◌≡◌, ◌≢◌, ◌⊎◌, inl, inr, ◌+◌, ◌<◌, ◌≤◌, List, length, get_or, Option, Some, None, refl, sym, arith, rules, ⊎_elim, cases_lt, Orders, AreOffers, outputs_of, inputs_of, place_of, position_of, IsOffered, Partners, partner_of, depth, IsMatching, IsStable, IsInputBest, HasBetterOutput, HasBetterInput, State, position_held, next_place, IsQuiescent, IsSound, matching_of, state_after, AreEvents, common_steps}
 use Rattle.cq_prefs.proofs.Places.{position_of-at, place_in-le-length}
 use Rattle.cq_prefs.proofs.Steps.{sound-after}
 use Rattle.cq_prefs.proofs.Holding.{matching-of, partner-holds, partner-from}
@@ -17,44 +13,23 @@ pub record IsKept (o : Orders) (s : State) (i : ℕ) : Type 0 where
   pub unmatched : partner_of (matching_of o s) i ≡ None → next_place s i ≡ length (outputs_of o i)
 
 pub kept : (o : Orders) → AreOffers o → (s : State) → IsSound o s → IsQuiescent o s → (i : ℕ) → IsKept o s i
-kept o v s w q i =
-    record {
-      matched = λ j e. w.last i j (partner-holds o v s i j e);
-      unmatched = λ none. at_end none (cases_lt (next_place s i) (length (outputs_of o i)));
-    }
-  where
-    at_end : partner_of (matching_of o s) i ≡ None →
-        (next_place s i < length (outputs_of o i)) ⊎ (length (outputs_of o i) ≤ next_place s i) →
-        next_place s i ≡ length (outputs_of o i)
-    at_end none (inr l) = let a = w.within i in omega arith
-    at_end none (inl l) = absurd (q i (record { left = l; unheld = λ j h. let p = partner-from o v s w i j h in cc }))
+kept o v s w q i = search (arith, rules, w.last, w.within, partner-holds, partner-from, q, cases_lt)
 
 -- an output that is offered and is not the partner was not asked, and the partner is the better one; or it was asked,
 -- and holds a better input
 settled : (o : Orders) → AreOffers o → (s : State) → IsSound o s → IsQuiescent o s → (i j : ℕ) → IsOffered o i j →
     partner_of (matching_of o s) i ≢ Some j →
     HasBetterOutput o (matching_of o s) i j ⊎ HasBetterInput o (matching_of o s) i j
-settled o v s w q i j offered apart = go (cases_lt (place_of o i j) (next_place s i))
-  where
-    m : Partners
-    m = matching_of o s
-
-    -- not asked: the input is held by one that it likes better
-    not_asked : (p : Option ℕ) → partner_of m i ≡ p → next_place s i ≤ place_of o i j →
-        depth (outputs_of o i) p < place_of o i j
-    not_asked None e l = absurd (let a = (kept o v s w q i).unmatched e in omega arith)
-    not_asked (Some n) e l = let a = (kept o v s w q i).matched n e in omega arith
-
-    go : (place_of o i j < next_place s i) ⊎ (next_place s i ≤ place_of o i j) →
-        HasBetterOutput o m i j ⊎ HasBetterInput o m i j
-    go (inr l) = inl (not_asked (partner_of m i) refl l)
-    go (inl l) =
-        let below : position_held s j ≤ position_of o j i = w.asked_before i j l in
-        let shown = v.shown i j offered in
-        let differ : position_held s j ≢ position_of o j i = λ e. apart (partner-from o v s w i j (e, shown)) in
-        let holder = get_or (inputs_of o j) (position_held s j) 0 in
-        let at : position_of o j holder ≡ position_held s j = position_of-at o v j (position_held s j) (omega arith) in
-        inr (holder, partner-from o v s w holder j (sym at, omega arith), omega arith)
+settled o v s w q i j offered apart = ⊎_elim (λ (l : place_of o i j < next_place s i).
+    let below : position_held s j ≤ position_of o j i = w.asked_before i j l in
+    let shown = v.shown i j offered in
+    let differ : position_held s j ≢ position_of o j i = λ e. apart (partner-from o v s w i j (e, shown)) in
+    let holder = get_or (inputs_of o j) (position_held s j) 0 in
+    let at : position_of o j holder ≡ position_held s j = position_of-at o v j (position_held s j) (omega arith) in
+    inr (holder, partner-from o v s w holder j (sym at, omega arith), omega arith))
+    (λ (l : next_place s i ≤ place_of o i j).
+    let is = kept o v s w q i in inl (grind (arith, common_steps, is.matched)))
+    (cases_lt (place_of o i j) (next_place s i))
 
 pub stable-quiet : (o : Orders) → AreOffers o → (s : State) → IsSound o s → IsQuiescent o s →
     IsStable o (matching_of o s)
@@ -65,25 +40,13 @@ no_better : (o : Orders) → AreOffers o → (s : State) → IsSound o s → IsQ
     IsMatching o n → NonePassed o s n →
     (i : ℕ) (p r : Option ℕ) → partner_of (matching_of o s) i ≡ p → partner_of n i ≡ r →
     depth (outputs_of o i) p ≤ depth (outputs_of o i) r
-no_better o v s w q n matching none i None None e f = omega arith
-no_better o v s w q n matching none i (Some j) None e f = place_in-le-length (outputs_of o i) j
-no_better o v s w q n matching none i p (Some k) e f = go (cases_lt (place_of o i k) (next_place s i))
-  where
-    -- the output that it asked still holds it
-    held : place_of o i k < next_place s i → partner_of (matching_of o s) i ≡ Some k
-    held l =
-        let a : position_held s k ≤ position_of o k i = w.asked_before i k l in
-        let b : position_of o k i ≤ position_held s k = none i k f in
-        partner-from o v s w i k (omega arith, v.shown i k (matching.offered i k f))
-
-    go : (place_of o i k < next_place s i) ⊎ (next_place s i ≤ place_of o i k) →
-        depth (outputs_of o i) p ≤ place_of o i k
-    go (inl l) = let same : p ≡ Some k = sym e ∙ held l in rw same (omega arith)
-    go (inr l) = not_asked p e
-      where
-        not_asked : (p' : Option ℕ) → partner_of (matching_of o s) i ≡ p' → depth (outputs_of o i) p' ≤ place_of o i k
-        not_asked None g = let a = (kept o v s w q i).unmatched g in omega arith
-        not_asked (Some j) g = let a = (kept o v s w q i).matched j g in omega arith
+no_better o v s w q n matching none i p r e f =
+    let is = kept o v s w q i in
+    let asked = w.asked_before i in
+    let offered = matching.offered i in
+    let shown = v.shown i in
+    let passed = none i in
+    grind (arith, common_steps, place_in-le-length, partner-from, cases_lt, is.matched)
 
 pub input_best-quiet : (o : Orders) → AreOffers o → (events : List ℕ) → AreEvents o events →
     IsQuiescent o (state_after o events) → IsInputBest o (matching_of o (state_after o events))

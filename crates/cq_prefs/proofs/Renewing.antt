@@ -1,26 +1,76 @@
+-- Offers made from the lists of a switch are the orders of their cells. The orders of the inputs are those read from
+-- the lists. The order of each output is that of the keys that were read, and these are the keys of the first cells.
 -- Offers are renewed input by input. The orders of the inputs before the next one, and those of their partners, are as
 -- they are to be. The others are so but for one port each: an input's for its partner, and an output's for the one
 -- input whose partner it is. Who has no partner has had the order from the start.
-use Rattle.std.proofs.lemmas.Grind.{common_steps}
-use Rattle.std.proofs.Common.{rules, ◌≡◌, ◌≢◌, ℕ, ◌+◌, ◌<◌, ◌≤◌, eqb, Bool, true, false, List, [], ◌∷◌, length, get_or, set, Option, Some, None, refl, sym, ap, ◌∙◌, subst, ⊎_elim, arith, not}
-use Rattle.std.specs.Prelude.{filter}
-use Rattle.std.specs.List.{IsDistinct}
-use Rattle.std.proofs.lemmas.Bool.{cond-true, cases_Bool, cases_eq, cases_lt, eq-eqb, ne_eqb, eqb-true}
-use Rattle.std.proofs.lemmas.Option.{same_Some}
-use Rattle.std.proofs.lemmas.List.FromFn.{length-map-range_with_len}
-use Rattle.std.proofs.lemmas.List.{length-map, length-set, get_or_past, get_or_default, get_or-set_same, get_or-set_other, ext_get_or}
-use Rattle.cq_base.specs.declared.cell.Queued.{Queued}
-use Rattle.cq_list.specs.InputList.{Waiting, cells_of}
-use Rattle.cq_prefs.specs.FirstCells.{list_of, output_order, input_order, orders_of}
-use Rattle.cq_prefs.specs.Orders.{Orders, AreOffers, ports, outputs_of, inputs_of}
-use Rattle.cq_prefs.specs.Pairing.{Partners, partner_of, ArePairs}
-use Rattle.cq_prefs.specs.Renewal.{without, is_partner, is_pair, AreSameWithout}
-use Rattle.cq_prefs.proofs.Fill.{cells_at}
-use Rattle.cq_prefs.proofs.InputOrder.{OutputsInRange, outputs_at, inputs_at, are_offers}
+-- Offers are renewed where one input changed for one output. It is the renewal of a matching of this one pair: the
+-- inputs before it have no partner, and those behind it have none. So its order and that of the output are all that
+-- is renewed.
+-- One order that is known but for one port, which left it. Where there is no cell, what is left is the whole order.
+-- Where there is one, the port goes back in at the place that its first cell tells.
+use Rattle.cq_prefs.proofs.Terms.{common_steps, rules, ◌≡◌, ◌≢◌, ℕ, ◌+◌, ◌<◌, ◌≤◌, eqb, Bool, true, false, List, [], ◌∷◌, length, get_or, set, Option, Some, None, refl, sym, ap, ◌∙◌, subst, ⊎_elim, arith, not, replicate, ◌⊎◌, map, ltb, filter, All, insert, IsDistinct, range_with_len, position_or_len, cond-true, cases_Bool, cases_eq, cases_lt, eq-eqb, ne_eqb, eqb-true, length-map-range_with_len, get_or-map-range_with_len, length-map, length-set, get_or_past, get_or_default, get_or-set_same, get_or-set_other, ext_get_or, length-replicate, Queued, Waiting, cells_of, AreWaiting, list_of, output_order, input_order, orders_of, HasCellFor, FirstKeysDiffer, first_key, key_at, key_before, Orders, AreOffers, ports, outputs_of, inputs_of, Partners, partner_of, ArePairs, with_pair, without, is_partner, is_pair, AreSameWithout, first_for, place_for, Key}
+use Rattle.std.proofs.lemmas.List.{get_or-map}
+use Rattle.std.proofs.lemmas.Simd.{map-map}
+use Rattle.cq_prefs.proofs.InputOrder.{OutputsInRange, outputs_at, inputs_at, are_offers, key_at-first, cell_of_key, is_input_order}
 use Rattle.cq_prefs.proofs.Members.{Among, among, listed, among_filter, among_kept}
-use Rattle.cq_prefs.proofs.OneOrder.{same_orders}
-use Rattle.cq_prefs.proofs.OutputOrder.{is_output_order}
+use Rattle.cq_prefs.proofs.OneOrder.{same_orders, apart, stands_ahead, ahead_one_way, outputs_rise, more_urgent, urgent_one_way, inputs_rise}
+use Rattle.cq_prefs.proofs.OutputOrder.{is_output_order, has_output}
 use Rattle.cq_prefs.proofs.Places.{output_in_range, outputs_at_most, inputs_at_most}
+use Rattle.cq_prefs.proofs.Pairs.{nobody, no_pairs, joined_pairs}
+use Rattle.cq_prefs.proofs.ByKey.{outputs_below}
+use Rattle.cq_prefs.proofs.PutBack.{put_back, room_back, without_none}
+
+-- ## The lists
+
+pub cells_at : (lists : List Waiting) (i : ℕ) (d : Waiting) → i < length lists →
+    list_of (cells_of lists) i ≡ (get_or lists i d).cells
+cells_at lists i d l = get_or-map (λ (w : Waiting). w.cells) lists i d [] l
+
+pub in_range_of : (lists : List Waiting) (n : ℕ) → All (λ w. AreWaiting w.outputs w.cells) lists →
+    All (λ w. w.outputs ≡ n) lists → length lists ≡ n → OutputsInRange (cells_of lists)
+in_range_of lists n waiting same size i j c found =
+    let long = length-map lists (λ (w : Waiting). w.cells) in
+    let d : Waiting = record { cells = []; outputs = 0; spare = 0 } in
+    let w = get_or lists i d in
+    ⊎_elim (λ l.
+    let member = has_output w.cells j c (sym (ap (first_for j) (cells_at lists i d l)) ∙ found) in
+    let below = outputs_below w.outputs w.cells j (waiting i d l).in_range member in
+    let outputs = same i d l in omega arith) (λ past.
+    let none : list_of (cells_of lists) i ≡ [] = get_or_past (cells_of lists) i [] (omega arith) in
+    let no : None ≡ Some c = sym (ap (first_for j) none) ∙ found in
+    let P : ⊥ = cc in absurd P) (cases_lt i (length lists))
+
+-- ## The orders
+
+-- the orders of the outputs before output n are made
+pub record Made (lists : List Waiting) (n : ℕ) (rows : List (List ℕ)) : Type 0 where
+  pub size : length rows ≡ length lists
+  pub row : (j : ℕ) → j < n → get_or rows j [] ≡ input_order (cells_of lists) j
+
+pub made_more : (lists : List Waiting) (n : ℕ) (rows : List (List ℕ)) (row : List ℕ) → Made lists n rows →
+    n < length lists → row ≡ input_order (cells_of lists) n → Made lists (n + 1) (set rows n row)
+made_more lists n rows row m l e = search (rules, length-set, get_or-set_same, get_or-set_other, m.row, cases_eq)
+
+pub orders_made : (lists : List Waiting) (outputs inputs : List (List ℕ)) →
+    outputs ≡ map (λ w. output_order w.cells) lists → Made lists (length lists) inputs →
+    let o : Orders = record { outputs = outputs; inputs = inputs } in o ≡ orders_of (cells_of lists)
+orders_made lists outputs inputs e m =
+    let n = length-map lists (λ (w : Waiting). w.cells) in
+    let order = map-map output_order (λ (w : Waiting). w.cells) lists in
+    let long = length-map-range_with_len (input_order (cells_of lists)) 0 (length (cells_of lists)) in
+    let rows = ext_get_or [] inputs (map (input_order (cells_of lists)) (range_with_len 0 (length (cells_of lists))))
+    (omega arith) (search (arith, rules, m.row, get_or-map-range_with_len)) in
+    cc
+
+pub offers_made : (lists : List Waiting) (outputs inputs : List (List ℕ)) →
+    outputs ≡ map (λ w. output_order w.cells) lists → Made lists (length lists) inputs →
+    (n : ℕ) → All (λ w. AreWaiting w.outputs w.cells) lists → All (λ w. w.outputs ≡ n) lists → length lists ≡ n →
+    n ≤ 64 →
+    let o : Orders = record { outputs = outputs; inputs = inputs } in AreOffers o × (ports o ≤ 64)
+offers_made lists outputs inputs e m n waiting same size few =
+    let o : Orders = record { outputs = outputs; inputs = inputs } in
+    let is : o ≡ orders_of (cells_of lists) = orders_made lists outputs inputs e m in
+    search (arith, rules, are_offers, in_range_of, length-map)
 
 -- ## Filters
 
@@ -28,19 +78,13 @@ filter_all : (p : ℕ → Bool) (xs : List ℕ) → ((k : ℕ) → p k ≡ true)
 filter_all p [] all = refl
 filter_all p (x ∷ xs) all = grind (arith, common_steps, cond-true, filter_all p xs all)
 
-filter_same : (p q : ℕ → Bool) (xs : List ℕ) → ((k : ℕ) → p k ≡ q k) → filter p xs ≡ filter q xs
-filter_same p q [] same = refl
-filter_same p q (x ∷ xs) same = grind (arith, common_steps, filter_same p q xs same)
-
 -- ## Partners
 
 no_partner : (p : Option ℕ) (j : ℕ) → p ≢ Some j → is_partner p j ≡ false
-no_partner None j ne = refl
-no_partner (Some k) j ne = ne_eqb j k (λ e. ne (ap Some (sym e)))
+no_partner p j ne = grind (arith, common_steps, ne_eqb)
 
 partner_if : (p : Option ℕ) (j : ℕ) → is_partner p j ≡ true → p ≡ Some j
-partner_if None j h = absurd (let P : ⊥ = cc in P)
-partner_if (Some k) j h = ap Some (sym (eqb-true j k h))
+partner_if p j h = grind (arith, common_steps, eqb-true)
 
 -- of the inputs, only the one whose partner it is makes a pair with an output
 one_partner : (m : Partners) → ArePairs m → (i j k : ℕ) → partner_of m i ≡ Some j → is_pair m k j ≡ eqb k i
@@ -61,8 +105,7 @@ pub record Renewing (m : Partners) (n : ℕ) (o t : Orders) : Type 0 where
       without i (inputs_of o j) ≡ without i (inputs_of t j)
 
 pub none_renewed : (m : Partners) (o t : Orders) → ArePairs m → AreOffers o → AreSameWithout m o t → Renewing m 0 o t
-none_renewed m o t pairs v same =
-    search (rules, filter_all, same.outputs, no_partner, same.inputs, one_partner, filter_same)
+none_renewed m o t pairs v same = search (arith, rules, filter_all, no_partner, one_partner)
 
 -- the next input has one: its order and that of its partner are renewed
 pub one_more :
@@ -71,52 +114,21 @@ pub one_more :
     column ≡ inputs_of t j →
     Renewing m (n + 1) (record { outputs = set o.outputs n row; inputs = set o.inputs j column }) t
 one_more m n j o t row column pairs v r e inside offered is_row is_column =
-    record {
-      ports = (length-set o.outputs n row ∙ r.ports.0, length-set o.inputs j column ∙ r.ports.1);
-      outputs_differ = λ i. ⊎_elim
-          (λ is. subst (IsDistinct eqb) (sym (row_here i is)) (v.outputs_differ i))
-          (λ other. subst (IsDistinct eqb) (sym (row_there i other)) (r.outputs_differ i))
-          (cases_eq i n);
-      inputs_differ = λ k. ⊎_elim
-          (λ is. subst (IsDistinct eqb) (sym (column_here k is)) (v.inputs_differ k))
-          (λ other. subst (IsDistinct eqb) (sym (column_there k other)) (r.inputs_differ k))
-          (cases_eq k j);
-      outputs_done = λ i f. ⊎_elim
-          (row_here i)
-          (λ other. row_there i other ∙ r.outputs_done i (λ l. f (let later : n + 1 ≤ i = omega arith in later)))
-          (cases_eq i n);
-      outputs_wait = λ i k l h.
-          let other : i ≢ n = λ is. (let P : ⊥ = omega arith in P) in
-          ap (without k) (row_there i other) ∙ r.outputs_wait i k (omega arith) h;
-      inputs_done = λ k free. ⊎_elim
-          (column_here k)
-          (λ other. column_there k other ∙ r.inputs_done k (λ i l h. ⊎_elim
-          (λ is. other (same_Some k j (sym h ∙ ap (partner_of m) is ∙ e)))
-          (λ not_n. free i (let later : n + 1 ≤ i = omega arith in later) h)
-          (cases_eq i n)))
-          (cases_eq k j);
-      inputs_wait = λ i k l h.
-          let other : k ≢ j = λ is. (let same = pairs.once i n j (h ∙ ap Some is) e in let P : ⊥ = omega arith in P) in
-          ap (without i) (column_there k other) ∙ r.inputs_wait i k (omega arith) h;
-    }
-  where
-    rows : List (List ℕ)
-    rows = set o.outputs n row
-
-    columns : List (List ℕ)
-    columns = set o.inputs j column
-
-    row_here : (i : ℕ) → i ≡ n → get_or rows i [] ≡ outputs_of t i
-    row_here i is = grind (arith, common_steps, get_or-set_same)
-
-    row_there : (i : ℕ) → i ≢ n → get_or rows i [] ≡ outputs_of o i
-    row_there i other = get_or-set_other o.outputs n i row [] other
-
-    column_here : (k : ℕ) → k ≡ j → get_or columns k [] ≡ inputs_of t k
-    column_here k is = grind (arith, common_steps, columns, get_or-set_same)
-
-    column_there : (k : ℕ) → k ≢ j → get_or columns k [] ≡ inputs_of o k
-    column_there k other = get_or-set_other o.inputs j k column [] other
+    let row_here : (i : ℕ) → i ≡ n → get_or (set o.outputs n row) i [] ≡ outputs_of t i =
+    grind (arith, common_steps, get_or-set_same) in
+    let row_there = λ (i : ℕ) (other : i ≢ n). get_or-set_other o.outputs n i row [] other in
+    let column_here : (k : ℕ) → k ≡ j → get_or (set o.inputs j column) k [] ≡ inputs_of t k =
+    grind (arith, common_steps, get_or-set_same) in
+    let column_there = λ (k : ℕ) (other : k ≢ j). get_or-set_other o.inputs j k column [] other in
+    let rows = r.outputs_differ in
+    let columns = r.inputs_differ in
+    let rows' = v.outputs_differ in
+    let columns' = v.inputs_differ in
+    let done = r.outputs_done in
+    let done' = r.inputs_done in
+    let wait = r.outputs_wait in
+    let wait' = r.inputs_wait in
+    search (arith, rules, length-set, row_here, row_there, column_here, column_there, pairs.once, cases_eq)
 
 -- all are renewed
 pub all_renewed : (m : Partners) (n : ℕ) (o t : Orders) → Renewing m n o t → length m ≤ n → o ≡ t
@@ -146,18 +158,15 @@ pub in_range_still :
 in_range_still m o lists pairs v size long same i j c found =
     let t = orders_of lists in
     let order = is_output_order (list_of lists i) in
-    let member : Among j (outputs_of t i) =
-    subst (Among j) (sym (outputs_at lists i))
+    let member : Among j (outputs_of t i) = subst (Among j) (sym (outputs_at lists i))
     (among (output_order (list_of lists i)) j ((order.offered j).1 (c, found))) in
-    ⊎_elim
-    (λ pair. let below = pairs.ports i j (partner_if (partner_of m i) j pair) in omega arith)
+    ⊎_elim (λ pair. let below = pairs.ports i j (partner_if (partner_of m i) j pair) in omega arith)
     (λ no_pair.
     let left : Among j (filter (λ k. not (is_pair m i k)) (outputs_of t i)) =
     among_kept (λ k. not (is_pair m i k)) (outputs_of t i) j member (ap not no_pair) in
     let before = among_filter (λ k. not (is_pair m i k)) (outputs_of o i) j
     (subst (Among j) (sym (same.outputs i)) left) in
-    let below = output_in_range o v i j (listed (outputs_of o i) j before.0) in
-    omega arith)
+    let below = output_in_range o v i j (listed (outputs_of o i) j before.0) in omega arith)
     (cases_Bool (is_pair m i j))
 
 -- so what they are to be are offers
@@ -170,68 +179,143 @@ still_offers m o now lists pairs v is long many same = search (rules, length-map
 -- ## One pair
 
 -- the next input, its partner, and what is known of the two orders
-module _ (m : Partners) (n j : ℕ) (outputs inputs : List (List ℕ)) (lists : List Waiting) where
-  pub record Next : Type 0 where
-    pub renewing : Renewing m n (record { outputs = outputs; inputs = inputs }) (orders_of (cells_of lists))
-    pub pairs : ArePairs m
-    pub partner : partner_of m n ≡ Some j
-    pub long : length m ≡ length lists
-    pub inside : n < length m
-    pub offers : AreOffers (orders_of (cells_of lists)) × (ports (orders_of (cells_of lists)) ≤ 64)
+pub record Next (m : Partners) (n j : ℕ) (outputs inputs : List (List ℕ)) (lists : List Waiting) : Type 0 where
+  pub renewing : Renewing m n (record { outputs = outputs; inputs = inputs }) (orders_of (cells_of lists))
+  pub pairs : ArePairs m
+  pub partner : partner_of m n ≡ Some j
+  pub long : length m ≡ length lists
+  pub inside : n < length m
+  pub offers : AreOffers (orders_of (cells_of lists)) × (ports (orders_of (cells_of lists)) ≤ 64)
 
-  pub has_row : Next → n < length outputs
-  has_row x = grind (arith, common_steps, length-map)
+module _ {m : Partners} {n j : ℕ} {outputs inputs : List (List ℕ)} {lists : List Waiting}
+    (x : Next m n j outputs inputs lists) where
+  has_row : n < length outputs
+  has_row = grind (arith, common_steps, length-map)
 
-  pub has_column : Next → j < length inputs
-  has_column x = grind (arith, common_steps, length-map, length-map-range_with_len, x.pairs.ports)
-
-  -- the order that the input is to have
-  row_is : Next → (list : Waiting) → list ≡ get_or lists n list →
-      outputs_of (orders_of (cells_of lists)) n ≡ output_order list.cells
-  row_is x list at = grind (arith, common_steps, outputs_at, cells_at)
-
-  row_known : Next → (row : List ℕ) (list : Waiting) → row ≡ get_or outputs n row → list ≡ get_or lists n list →
-      without j row ≡ without j (output_order list.cells)
-  row_known x row list e at = grind (arith, common_steps, get_or_default, has_row, x.renewing.outputs_wait, row_is)
-
-  row_few : Next → (list : Waiting) → list ≡ get_or lists n list → length (output_order list.cells) ≤ 64
-  row_few x list at =
-      grind (arith, common_steps, outputs_at_most (orders_of (cells_of lists)) x.offers.0 n, row_is x list at)
-
-  pub row_renewed : Next → (row : List ℕ) (list : Waiting) → list ≡ get_or lists n list →
-      row ≡ output_order list.cells → row ≡ outputs_of (orders_of (cells_of lists)) n
-  row_renewed x row list at e = e ∙ sym (row_is x list at)
-
-  row_differs : Next → (row : List ℕ) → row ≡ get_or outputs n row → IsDistinct eqb row
-  row_differs x row e = search (rules, get_or_default, has_row, x.renewing.outputs_differ)
-
-  -- what its renewal asks
-  pub row_asks : Next → (row : List ℕ) (list : Waiting) → row ≡ get_or outputs n row → list ≡ get_or lists n list →
-      IsDistinct eqb row × (without j row ≡ without j (output_order list.cells))
-      × (length (output_order list.cells) ≤ 64)
-  row_asks x row list e at = (row_differs x row e, row_known x row list e at, row_few x list at)
+  has_column : j < length inputs
+  has_column = grind (arith, common_steps, length-map, length-map-range_with_len, x.pairs.ports)
 
   -- the order that its partner is to have
-  column_is : Next → inputs_of (orders_of (cells_of lists)) j ≡ input_order (cells_of lists) j
-  column_is x = grind (arith, common_steps, length-map, x.pairs.ports, inputs_at)
+  column_is : inputs_of (orders_of (cells_of lists)) j ≡ input_order (cells_of lists) j
+  column_is = grind (arith, common_steps, length-map, x.pairs.ports, inputs_at)
 
-  column_differs : Next → (column : List ℕ) → column ≡ get_or inputs j column → IsDistinct eqb column
-  column_differs x column e = search (rules, get_or_default, has_column, x.renewing.inputs_differ)
+  column_few : length (input_order (cells_of lists) j) ≤ 64
+  column_few = grind (arith, common_steps, inputs_at_most (orders_of (cells_of lists)) x.offers.0 j, column_is)
 
-  column_known : Next → (column : List ℕ) → column ≡ get_or inputs j column →
-      without n column ≡ without n (input_order (cells_of lists) j)
-  column_known x column e = grind (arith, common_steps, get_or_default, has_column, x.renewing.inputs_wait, column_is)
-
-  column_few : Next → length (input_order (cells_of lists) j) ≤ 64
-  column_few x = grind (arith, common_steps, inputs_at_most (orders_of (cells_of lists)) x.offers.0 j, column_is x)
-
-  pub column_asks : Next → (column : List ℕ) → column ≡ get_or inputs j column →
+  pub column_asks : (column : List ℕ) → column ≡ get_or inputs j column →
       IsDistinct eqb column × (without n column ≡ without n (input_order (cells_of lists) j))
       × (length (input_order (cells_of lists) j) ≤ 64)
-  column_asks x column e = (column_differs x column e, column_known x column e, column_few x)
+  column_asks column e = search (arith, rules, column_few, get_or_default, has_column, column_is)
 
-  pub next_renewed : Next → (row column : List ℕ) → row ≡ outputs_of (orders_of (cells_of lists)) n →
+  -- the order that the input is to have, and what its renewal asks
+  module _ (row : List ℕ) (list : Waiting) (at : list ≡ get_or lists n list) where
+    row_is : outputs_of (orders_of (cells_of lists)) n ≡ output_order list.cells
+    row_is = grind (arith, common_steps, outputs_at, cells_at)
+
+    row_few : length (output_order list.cells) ≤ 64
+    row_few = grind (arith, common_steps, outputs_at_most (orders_of (cells_of lists)) x.offers.0 n, row_is)
+
+    pub row_asks : row ≡ get_or outputs n row → IsDistinct eqb row
+        × (without j row ≡ without j (output_order list.cells)) × (length (output_order list.cells) ≤ 64)
+    row_asks e = search (arith, rules, row_few, get_or_default, has_row, row_is)
+
+    pub next_renewed : (column : List ℕ) → row ≡ output_order list.cells → column ≡ input_order (cells_of lists) j →
+        Renewing m (n + 1) (record { outputs = set outputs n row; inputs = set inputs j column })
+        (orders_of (cells_of lists))
+    next_renewed column e f = let now = e ∙ sym row_is in search (rules, one_more, has_row, has_column, column_is)
+
+-- the one pair
+abbrev pub pair_of : List Waiting → ℕ → ℕ → Partners
+pair_of lists n j = with_pair (replicate (length lists) None) n j
+
+module _ (n j : ℕ) (lists : List Waiting) (inside : n < length lists) (within : j < length lists) where
+  pair_size : length (pair_of lists n j) ≡ length lists
+  pair_size = grind (arith, common_steps, length-set, length-replicate)
+
+  pair_here : partner_of (pair_of lists n j) n ≡ Some j
+  pair_here = grind (arith, common_steps, length-replicate, get_or-set_same)
+
+  pair_else : (i : ℕ) → i ≢ n → partner_of (pair_of lists n j) i ≡ None
+  pair_else i other = grind (arith, common_steps, get_or-set_other, nobody)
+
+  pair_apart : ArePairs (pair_of lists n j)
+  pair_apart = grind (arith, common_steps, length-replicate, joined_pairs, no_pairs, nobody)
+
+  -- what is known of the two orders
+  pub pair_next : (outputs inputs : List (List ℕ)) (o now : Orders) →
+      o ≡ record { outputs = outputs; inputs = inputs } → AreOffers o × (ports o ≤ 64) → o ≡ now →
+      length lists ≡ ports now → AreSameWithout (pair_of lists n j) now (orders_of (cells_of lists)) →
+      Next (pair_of lists n j) n j outputs inputs lists
+  pair_next outputs inputs o now shown v is many same =
+      let m = pair_of lists n j in
+      let size = pair_size in
+      let first = none_renewed m o (orders_of (cells_of lists)) pair_apart v.0 (rw (← is) at same) in
+      let all = none_between m 0 n o (orders_of (cells_of lists)) first (omega arith)
+      (λ i _ l. pair_else i (λ e. let P : ⊥ = omega arith in P)) in
+      let offers = still_offers m o now lists pair_apart v is (size ∙ many) many same in
+      search (arith, rules, pair_apart, pair_here)
+
+  -- the two orders are all
+  pub pair_renewed : (outputs inputs : List (List ℕ)) (row column : List ℕ) (list : Waiting) →
+      Next (pair_of lists n j) n j outputs inputs lists → list ≡ get_or lists n list → row ≡ output_order list.cells →
       column ≡ input_order (cells_of lists) j →
-      Renewing m (n + 1) (record { outputs = set outputs n row; inputs = set inputs j column })
-      (orders_of (cells_of lists))
-  next_renewed x row column e f = search (rules, one_more, has_row, has_column, column_is)
+      record { outputs = set outputs n row; inputs = set inputs j column } ≡ orders_of (cells_of lists)
+  pair_renewed outputs inputs row column list x at e f =
+      let m = pair_of lists n j in
+      let t = orders_of (cells_of lists) in
+      let size = pair_size in
+      let next = next_renewed x row list at column e f in
+      all_renewed m (length m) _ t (none_between m (n + 1) (length m) _ t next (omega arith)
+      (λ i l _. pair_else i (λ is. let P : ⊥ = omega arith in P))) (omega arith)
+
+-- ## The order of an input
+
+module _ (cells : List Queued) (j : ℕ) (left : List ℕ) (known : left ≡ without j (output_order cells)) where
+  output_there : HasCellFor cells j → Among j (output_order cells)
+  output_there has = among (output_order cells) j (((is_output_order cells).offered j).1 has)
+
+  pub output_gone : first_for j cells ≡ None → left ≡ output_order cells
+  output_gone none =
+      search (arith, rules, without_none j (output_order cells), is_output_order cells, listed (output_order cells) j)
+
+  pub output_room : HasCellFor cells j → length (output_order cells) ≤ 64 → length left < 64
+  output_room has =
+      let order = is_output_order cells in
+      search (arith, rules, room_back, ahead_one_way, apart, outputs_rise, output_there)
+
+  pub output_back : (place at : ℕ) → HasCellFor cells j → place ≡ place_for j cells →
+      at ≡ position_or_len (λ k. ltb place (place_for k cells)) left → insert left at j ≡ output_order cells
+  output_back place at has is found =
+      let order = is_output_order cells in
+      let back = put_back (stands_ahead cells) (ahead_one_way cells) j at left in
+      search (arith, rules, back, apart, outputs_rise, output_there)
+
+-- ## The order of an output
+
+module _ (lists : List (List Queued)) (differ : FirstKeysDiffer lists) (j i : ℕ) (left : List ℕ)
+    (known : left ≡ without i (input_order lists j)) where
+  input_there : (key : Key) → key_at (map (first_key j) lists) i ≡ Some key → Among i (input_order lists j)
+  input_there key has = among (input_order lists j) i (((is_input_order lists j differ).offered i).1
+      (cell_of_key (first_for j (list_of lists i)) key (sym (key_at-first j lists i) ∙ has)))
+
+  pub input_gone : key_at (map (first_key j) lists) i ≡ None → left ≡ input_order lists j
+  input_gone none =
+      let order = is_input_order lists j differ in
+      let gone = without_none i (input_order lists j) in
+      let key = key_at-first j lists i in
+      search (arith, rules, gone, listed, order.offered)
+
+  pub input_room : (key : Key) → key_at (map (first_key j) lists) i ≡ Some key → length (input_order lists j) ≤ 64 →
+      length left < 64
+  input_room key has =
+      let order = is_input_order lists j differ in
+      let back = room_back (more_urgent lists j) (urgent_one_way lists j) i left in
+      search (arith, rules, back, apart, inputs_rise, input_there)
+
+  pub input_back : (key : Key) (at : ℕ) → key_at (map (first_key j) lists) i ≡ Some key →
+      at ≡ position_or_len (λ k. key_before (Some key) (key_at (map (first_key j) lists) k)) left →
+      insert left at i ≡ input_order lists j
+  input_back key at has found =
+      let order = is_input_order lists j differ in
+      let back = put_back (more_urgent lists j) (urgent_one_way lists j) i at left in
+      search (arith, rules, back, apart, inputs_rise, input_there)

@@ -29,8 +29,7 @@ module _ (m : Machine) (laws : KeepsLaws m) where
       omega arith
   after_floor (Sent l r ∷ steps) state c long in_c inside =
       let step = laws.sent_floor state l r c long in_c in
-      let rest = after_floor steps (m.sent state l r) c (laws.sent_length state l r long) in_c inside in
-      omega arith
+      let rest = after_floor steps (m.sent state l r) c (laws.sent_length state l r long) in_c inside in omega arith
 
   pub never_fall : (c : ℕ) (steps : List Step) (state : List ℕ) → length state ≡ m.size → c < m.classes →
       AreOfClasses m.classes steps → m.ranked state c ≤ m.ranked (after m steps (m.given state c)) c

@@ -1,11 +1,6 @@
 -- What a cell changes of a joiner: what is open of its pair, and nothing else.
-use Rattle.std.proofs.lemmas.Grind.{common_steps}
-use Rattle.std.proofs.Common.{rules, ◌≡◌, ◌≢◌, ◌⊎◌, ℕ, zero, suc, ◌+◌, ◌*◌, ◌<◌, true, arith, List, [], ◌∷◌, set, get_or, Option, None, Some, refl, sym, ap}
-use Rattle.std.proofs.lemmas.Nat.{div-mul-add}
-use Rattle.std.proofs.lemmas.List.{get_or-set_other}
+use Rattle.cq_reasm.proofs.Terms.{common_steps, rules, ◌≡◌, ◌≢◌, ◌⊎◌, ℕ, zero, suc, ◌+◌, ◌*◌, ◌<◌, true, arith, List, [], ◌∷◌, set, get_or, Option, None, Some, refl, sym, ap, div-mul-add, get_or-set_other, Open, cells_taken, JoinerView, IsNext, IsOtherPair, open_at, with_open, open_after}
 use Rattle.cq_base.specs.declared.cell.Cell.{Cell}
-use Rattle.cq_reasm.specs.Open.{Open, cells_taken}
-use Rattle.cq_reasm.specs.Joining.{JoinerView, IsNext, IsOtherPair, open_at, with_open, open_after}
 
 -- as many cells were taken as stand before it in its packet
 pub taken_before : (o : Option Open) (cell : Cell) → IsNext o cell → cells_taken o ≡ cell.id.index

@@ -1,14 +1,8 @@
 -- The cells of whole packets are taken one after another. At each cell before the last one the packet stays open,
 -- with this cell's piece behind the others, so the next cell is the next of the packet. The last one gives the
 -- packet, and closes it, so the first cell of the packet behind it is the next.
-use Rattle.std.proofs.Common.{rules, ◌≡◌, ℕ, ◌+◌, true, false, List, [], ◌∷◌, ◌++◌, Option, None, Some, refl, sym, ap, ◌∙◌, arith, append_assoc}
-use Rattle.std.proofs.lemmas.Grind.{common_steps}
-use Rattle.std.specs.List.{flat_map}
-use Rattle.std.proofs.lemmas.List.{append-nil}
+use Rattle.cq_reasm.proofs.Terms.{rules, ◌≡◌, ℕ, ◌+◌, true, false, List, [], ◌∷◌, ◌++◌, Option, None, Some, refl, sym, ap, ◌∙◌, arith, append_assoc, common_steps, flat_map, append-nil, Open, bytes_taken, with_piece, IsNext, joined_at, open_after, Piece}
 use Rattle.cq_reasm.specs.declared.joiner.Joined.{Joined}
-use Rattle.cq_reasm.specs.Open.{Open, bytes_taken, with_piece}
-use Rattle.cq_reasm.specs.Joining.{IsNext, joined_at, open_after}
-use Rattle.cq_reasm.specs.Piece.{Piece}
 use Rattle.cq_reasm.specs.Whole.{IsCellOf, AreCellsFrom, cells_in, AreNext, given, open_after_all, WholeAreTaken, whole}
 
 -- so many cells of the packet with this number are taken
@@ -43,12 +37,6 @@ module _ (input class packet : ℕ) where
   closes : (was : Option Open) (x : Piece) → x.cell.last ≡ true → open_after was x.cell x.bytes ≡ None
   closes was x e = grind (arith, common_steps)
 
-  gives_all : (was : Option Open) (index : ℕ) (x : Piece) → IsCellOf input class packet index x → x.cell.last ≡ true →
-      joined_at was x.cell x.bytes
-      ≡ Some (let all : Joined = record { input = input; packet = packet; body = bytes_taken was ++ x.bytes } in
-      all)
-  gives_all was index x h e = grind (arith, common_steps)
-
   -- the cells of a packet from one on, and others behind them
   record Rest (was : Option Open) (xs later : List Piece) : Type 0 where
     next : AreNext None later → AreNext was (xs ++ later)
@@ -61,7 +49,7 @@ module _ (input class packet : ℕ) where
   rest_of : (was : Option Open) (index : ℕ) (xs later : List Piece) → IsOpenAt was packet index →
       AreCellsFrom input class packet index xs → Rest was xs later
   rest_of was index [] later o h = absurd h
-  rest_of was index (x ∷ []) later o h = grind (arith, common_steps, closes, is_next, x.bytes, gives_all, append-nil)
+  rest_of was index (x ∷ []) later o h = search (arith, rules, closes, is_next, append-nil)
   rest_of was index (x ∷ y ∷ xs) later o h =
       let on : Option Open = Some (with_piece was x.cell.id.packet x.bytes) in
       let kept : open_after was x.cell x.bytes ≡ on = stays_open was x h.1 in

@@ -1,16 +1,10 @@
 -- The open packets lie in a slab under keys, no key stands at two places, and each packet of the slab stands at one.
 -- So what happens under one key changes what is seen at its own place, and at no other.
-use Rattle.std.proofs.lemmas.Grind.{common_steps}
-use Rattle.std.proofs.Common.{rules, ◌≡◌, ◌≢◌, ℕ, zero, suc, ◌-◌, ◌<◌, List, [], ◌∷◌, ◌++◌, take, length, map, get_or, set, Option, None, Some, refl, sym, ap, subst, ◌∙◌, ⊎_elim, arith}
-use Rattle.std.specs.Prelude.{replicate, IsSome, option_map}
-use Rattle.std.proofs.lemmas.Option.{same_Some}
-use Rattle.std.proofs.lemmas.Bool.{cases_eq}
+use Rattle.cq_reasm.proofs.Terms.{common_steps, rules, ◌≡◌, ◌≢◌, ℕ, zero, suc, ◌-◌, ◌<◌, List, [], ◌∷◌, ◌++◌, take, length, map, get_or, set, Option, None, Some, refl, sym, ap, subst, ◌∙◌, ⊎_elim, ◌⊎◌, inr, arith, replicate, IsSome, option_map, same_Some, cases_eq, get_or-set_same, get_or-set_other, set-get_or, length-map, take_all, Open, grown, with_piece}
 use Rattle.std.proofs.Math.ListN.{get_or-map}
-use Rattle.std.proofs.lemmas.List.{get_or-set_same, get_or-set_other, set-get_or, length-map, take_all}
 use Rattle.slab.specs.Slab.{Slab, get, ContainsKey}
 use Rattle.cq_reasm.specs.declared.open_packets.OpenPacket.{OpenPacket}
-use Rattle.cq_reasm.specs.Open.{Open, grown, with_piece}
-use Rattle.cq_reasm.specs.Table.{open_of, packet_under, IsTable}
+use Rattle.cq_reasm.specs.Table.{packet_under, IsTable}
 
 -- ## Lists seen through a function
 
@@ -91,19 +85,17 @@ pub grown_now : (packets : Slab OpenPacket) (keys : List (Option ℕ)) (seen : L
     option_map (grown piece) (packet_under packets (Some key))
     ≡ Some (with_piece (get_or seen place None) number piece)
 grown_now packets keys seen place key number piece table e at =
-    let here : packet_under packets (Some key) ≡ get_or seen place None =
-    sym (ap (packet_under packets) at) ∙ sym (seen_at packets keys place) ∙ ap (λ xs. get_or xs place None) e in
-    of_one (get packets key) (table.present place key at) ∙ ap (λ o. Some (with_piece o number piece)) here
-  where
-    of_one : (o : Option OpenPacket) → IsSome o →
-        option_map (grown piece) (option_map open_of o) ≡ Some (with_piece (option_map open_of o) number piece)
-    of_one None h = let P : ⊥ = cc in absurd P
-    of_one (Some p) h = refl
+    let there = table.present place key at in grind (arith, common_steps, seen_at)
 
 -- ## What happens under one key
 
-module _ (old new : Slab OpenPacket) (keys : List (Option ℕ)) (place key : ℕ) (table : IsTable old keys)
-    (inside : place < length keys) (others : (other : ℕ) → other ≢ key → get new other ≡ get old other) where
+module _ (old new : Slab OpenPacket) (keys : List (Option ℕ)) (seen : List (Option Open)) (place key : ℕ)
+    (table : IsTable old keys) (view : map (packet_under old) keys ≡ seen) (within : place < length seen)
+    (others : (other : ℕ) → other ≢ key → get new other ≡ get old other) (read : Option ℕ)
+    (was_read : read ≡ get_or keys place read) where
+  inside : place < length keys
+  inside = inside_keys old keys seen place view within
+
   kept_present : (k : ℕ) → k ≢ key → ContainsKey old k → ContainsKey new k
   kept_present k ne h = let P : Option OpenPacket → Type 0 = λ o. IsSome o in subst P (sym (others k ne)) h
 
@@ -115,83 +107,76 @@ module _ (old new : Slab OpenPacket) (keys : List (Option ℕ)) (place key : ℕ
   shown_elsewhere q now k ne e = sym (get_or-set_other keys place q now None ne) ∙ e
 
   -- the packet under the key of this place grows, or goes
-  module _ (at : get_or keys place None ≡ Some key) where
+  module _ (is : read ≡ Some key) where
+    at : get_or keys place None ≡ Some key
+    at = key_at keys place read inside was_read ∙ is
+
     not_elsewhere : (q k : ℕ) → q ≢ place → get_or keys q None ≡ Some k → k ≢ key
     not_elsewhere q k ne e same = ne (table.apart q place k e (at ∙ ap Some (sym same)))
 
     seen_elsewhere : (q : ℕ) → q ≢ place → packet_under old (get_or keys q None) ≡ packet_under new (get_or keys q None)
     seen_elsewhere q ne = seen_alike old new (get_or keys q None) (λ k e. others k (not_elsewhere q k ne e))
 
-    pub grown_seen : (now : Option Open) → packet_under new (Some key) ≡ now →
-        map (packet_under new) keys ≡ set (map (packet_under old) keys) place now
-    grown_seen now e = ap (map (packet_under new)) (sym (set-get_or keys place None))
-        ∙ seen_at_one (packet_under old) (packet_under new) keys place (get_or keys place None) None now
-        (ap (packet_under new) at ∙ e) (λ q l ne. seen_elsewhere q ne)
-
-    closed_elsewhere : (p k : ℕ) → get_or (set keys place None) p None ≡ Some k → p ≢ place
-    closed_elsewhere p k e same = grind (arith, common_steps, get_or-set_same)
+    pub grown_seen : (number : ℕ) (piece : List ℕ) →
+        packet_under new (Some key) ≡ option_map (grown piece) (packet_under old (Some key)) →
+        map (packet_under new) keys ≡ set seen place (Some (with_piece (get_or seen place None) number piece))
+    grown_seen number piece e =
+        let now = grown_now old keys seen place key number piece table view at in
+        ap (map (packet_under new)) (sym (set-get_or keys place None))
+        ∙ seen_at_one (packet_under old) (packet_under new) keys place (get_or keys place None) None _
+        (ap (packet_under new) at ∙ e ∙ now) (λ q l ne. seen_elsewhere q ne)
+        ∙ ap (λ s. set s place (Some (with_piece (get_or seen place None) number piece))) view
 
     -- what is left in the slab stands where it stood
-    left_at : get new key ≡ None → (k : ℕ) → ContainsKey new k →
+    left_at : get_or keys place None ≡ Some key → get new key ≡ None → (k : ℕ) → ContainsKey new k →
         (p : ℕ) × (get_or (set keys place None) p None ≡ Some k)
-    left_at gone k h = search (rules, was_present, same_Some, get_or-set_other)
+    left_at here gone k h = search (rules, was_present, same_Some, get_or-set_other)
 
     pub closed_table : get new key ≡ None → IsTable new (set keys place None)
-    closed_table gone = search (rules, closed_elsewhere, shown_elsewhere, kept_present, not_elsewhere, left_at)
+    closed_table gone =
+        let left = left_at at gone in
+        search (arith, rules, inside, shown_elsewhere, kept_present, not_elsewhere, left, get_or-set_same)
 
-    pub closed_seen : map (packet_under new) (set keys place None) ≡ set (map (packet_under old) keys) place None
+    pub closed_seen : map (packet_under new) (set keys place None) ≡ set seen place None
     closed_seen = seen_at_one (packet_under old) (packet_under new) keys place None None None refl
-        (λ q l ne. seen_elsewhere q ne)
+        (λ q l ne. seen_elsewhere q ne) ∙ ap (λ s. set s place None) view
 
   -- a packet comes under a key that had none
-  module _ (vacant : get old key ≡ None) (now : Open) (stored : packet_under new (Some key) ≡ Some now) where
+  module _ (is : read ≡ None) (vacant : get old key ≡ None) (now : Open)
+      (stored : packet_under new (Some key) ≡ Some now) where
+    none : get_or keys place None ≡ None
+    none = key_at keys place read inside was_read ∙ is
+
     vacant_elsewhere : (q k : ℕ) → get_or keys q None ≡ Some k → k ≢ key
     vacant_elsewhere q k e same = grind (arith, common_steps)
 
     present_now : ContainsKey new key
-    present_now = has (get new key) stored
-      where
-        has : (o : Option OpenPacket) → option_map open_of o ≡ Some now → IsSome o
-        has None e = let P : ⊥ = cc in absurd P
-        has (Some p) e = refl
+    present_now = grind (arith, common_steps)
+
+    -- what stands at a place now
+    stands : (p k : ℕ) → get_or (set keys place (Some key)) p None ≡ Some k →
+        ((p ≡ place) × (k ≡ key)) ⊎ ((k ≢ key) × (get_or keys p None ≡ Some k))
+    stands p k e = ⊎_elim (λ same. search (arith, rules, get_or-set_same, inside, same_Some))
+        (λ ne. let was = shown_elsewhere p (Some key) (Some k) ne e in inr (vacant_elsewhere p k was, was))
+        (cases_eq p place)
 
     -- what was in the slab stands where it stood, and the new packet at this place
-    started_at : get_or keys place None ≡ None → (k : ℕ) → ContainsKey new k →
-        (p : ℕ) × (get_or (set keys place (Some key)) p None ≡ Some k)
-    started_at none k h = ⊎_elim
-        (λ same. (place, get_or-set_same keys place (Some key) None inside ∙ ap Some (sym same)))
-        (λ ne.
-        let was = table.placed k (was_present k ne h) in
-        let away : was.0 ≢ place =
-        λ same. let here = ap (λ p. get_or keys p None) same ∙ none in let gone = was.1 in let P : ⊥ = cc in P in
-        (was.0, get_or-set_other keys place was.0 (Some key) None away ∙ was.1))
-        (cases_eq k key)
-
-    pub started_table : get_or keys place None ≡ None → IsTable new (set keys place (Some key))
-    started_table none = record {
-      present =
-          λ p k e. ⊎_elim
-          (λ same. let P : ℕ → Type 0 = λ n. ContainsKey new n in subst P (is_key p k same e) present_now)
-          (λ ne. let was = shown_elsewhere p (Some key) (Some k) ne e in
-          kept_present k (vacant_elsewhere p k was) (table.present p k was)) (cases_eq p place);
-      apart = λ p q k e f. ⊎_elim
-          (λ ps. ⊎_elim (λ qs. ps ∙ sym qs) (λ qn. absurd (vacant_elsewhere q k
-          (shown_elsewhere q (Some key) (Some k) qn f) (sym (is_key p k ps e)))) (cases_eq q place))
-          (λ pn. ⊎_elim (λ qs. absurd (vacant_elsewhere p k (shown_elsewhere p (Some key) (Some k) pn e)
-          (sym (is_key q k qs f)))) (λ qn. table.apart p q k
-          (shown_elsewhere p (Some key) (Some k) pn e) (shown_elsewhere q (Some key) (Some k) qn f))
-          (cases_eq q place))
-          (cases_eq p place);
-      placed = started_at none;
+    pub started_table : IsTable new (set keys place (Some key))
+    started_table = record {
+      present = λ p k e. let stood = stands p k e in
+          grind (arith, common_steps, present_now, kept_present, table.present);
+      apart = λ p q k e f. ⊎_elim (λ a. ⊎_elim (λ b. a.0 ∙ sym b.0) (λ b. absurd (b.0 a.1)) (stands q k f))
+          (λ a. ⊎_elim (λ b. absurd (a.0 b.1)) (λ b. table.apart p q k a.1 b.1) (stands q k f)) (stands p k e);
+      placed = λ k h. ⊎_elim
+          (λ same. (place, get_or-set_same keys place (Some key) None inside ∙ ap Some (sym same)))
+          (λ ne.
+          let was = table.placed k (was_present k ne h) in
+          let away : was.0 ≢ place = λ same. cc (rw same at was.1, none) in
+          (was.0, get_or-set_other keys place was.0 (Some key) None away ∙ was.1))
+          (cases_eq k key);
     }
-      where
-        is_key : (p k : ℕ) → p ≡ place → get_or (set keys place (Some key)) p None ≡ Some k → key ≡ k
-        is_key p k same e =
-            let here : get_or (set keys place (Some key)) place None ≡ Some k =
-            ap (λ i. get_or (set keys place (Some key)) i None) (sym same) ∙ e in
-            same_Some key k (sym (get_or-set_same keys place (Some key) None inside) ∙ here)
 
-    pub started_seen : map (packet_under new) (set keys place (Some key))
-        ≡ set (map (packet_under old) keys) place (Some now)
+    pub started_seen : map (packet_under new) (set keys place (Some key)) ≡ set seen place (Some now)
     started_seen = seen_at_one (packet_under old) (packet_under new) keys place (Some key) None (Some now) stored
         (λ q l ne. seen_alike old new (get_or keys q None) (λ k e. others k (vacant_elsewhere q k e)))
+        ∙ ap (λ s. set s place (Some now)) view

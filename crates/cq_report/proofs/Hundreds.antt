@@ -1,12 +1,8 @@
 -- The digits of numbers. A number below a thousand has at most three digits, and from a hundred on the last two stand
 -- behind those of its hundreds. So a number is put by its hundreds first, with a blank behind them, and then its last
 -- two digits and a blank in place of that one.
-use Rattle.std.proofs.Common.{rules, ◌≡◌, ℕ, ◌+◌, ◌-◌, ◌<◌, ◌≤◌, ◌/◌, ◌%◌, ◌^◌, List, [], ◌∷◌, ◌++◌, length, take, set, sym, ◌∙◌, arith, append_assoc, length-append, lit≤, ap}
-use Rattle.std.proofs.lemmas.Grind.{common_steps, take-set_at}
-use Rattle.std.proofs.lemmas.Bool.{cases_lt}
-use Rattle.std.proofs.lemmas.List.{length-take-le, take-take, take_at}
+use Rattle.cq_report.proofs.Terms.{rules, ◌≡◌, ℕ, ◌+◌, ◌-◌, ◌<◌, ◌≤◌, ◌/◌, ◌%◌, ◌^◌, List, [], ◌∷◌, ◌++◌, length, take, set, sym, ◌∙◌, arith, append_assoc, length-append, lit≤, ap, common_steps, take-set_at, cases_lt, length-take-le, take-take, take_at, decimal_more, decimal_small, length-decimal-le, length-decimal_more}
 use Rattle.cq_base.specs.Decimal.{decimal}
-use Rattle.cq_base.proofs.Decimals.{decimal_more, decimal_small, length-decimal-le, length-decimal_more}
 
 pub few_digits : (n : ℕ) → n < 2 ^ 64 → length (decimal n) ≤ 20
 few_digits n below = let fits : n < 10 ^ 20 = omega arith in length-decimal-le 20 n (lit≤ tt) fits

@@ -1,3 +1,4 @@
+mod Terms
 pub mod Hundreds
 pub mod OneMore
 pub mod Words

@@ -1,10 +1,6 @@
 -- Texts of lines. In a text one line more stands behind the lines before it. And the lines of what items stand for
 -- are a text of those items.
-use Rattle.std.proofs.lemmas.Grind.{common_steps}
-use Rattle.std.proofs.Common.{rules, ◌≡◌, ℕ, ◌+◌, ◌<◌, List, [], ◌∷◌, ◌++◌, length, take, get_or, map, refl, ap, ◌∙◌, append_assoc, arith}
-use Rattle.std.specs.List.{flat_map}
-use Rattle.std.proofs.lemmas.List.{append-nil, flat_map_more, take_more, length-take-le}
-use Rattle.cq_report.specs.Report.{numbered_lines}
+use Rattle.cq_report.proofs.Terms.{common_steps, rules, ◌≡◌, ℕ, ◌+◌, ◌<◌, List, [], ◌∷◌, ◌++◌, length, take, get_or, map, refl, ap, ◌∙◌, append_assoc, arith, flat_map, append-nil, flat_map_more, take_more, length-take-le, numbered_lines}
 
 numbered_end : {X : Type 0} (line : ℕ → X → List ℕ) (n : ℕ) (xs : List X) (x : X) (m : ℕ) → m ≡ n + length xs →
     numbered_lines line n (xs ++ x ∷ []) ≡ numbered_lines line n xs ++ line m x

@@ -1,6 +1,5 @@
 -- Words that are put one behind another, each with a blank or the line feed behind it, make a line, and lines a text.
-use Rattle.std.proofs.lemmas.Grind.{common_steps}
-use Rattle.std.proofs.Common.{arith, ◌≡◌, ℕ, List, [], ◌∷◌, ◌++◌, append_assoc}
+use Rattle.cq_report.proofs.Terms.{common_steps, arith, ◌≡◌, ℕ, List, [], ◌∷◌, ◌++◌, append_assoc}
 
 -- what is put behind a word is put behind all
 pub word_then : (start old new word rest : List ℕ) (blank : ℕ) → old ≡ start ++ (word ++ blank ∷ []) →

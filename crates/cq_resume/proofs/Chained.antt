@@ -1,14 +1,8 @@
 -- A relation that goes on from one to the next. Where it holds of neighbours it holds of each and each later one, so a
 -- test of neighbours decides it. And what is known of each and each later one is known by places, by
 -- recursion, and of any two that stand in the list in this order.
-use Rattle.std.proofs.lemmas.Grind.{common_steps}
-use Rattle.std.proofs.Common.{◌≡◌, ℕ, zero, suc, ◌+◌, ◌-◌, ◌<◌, ◌≤◌, ◌↔◌, Bool, true, false, List, [], ◌∷◌, length, get_or, refl, arith}
-use Rattle.std.specs.List.{AllAdjacentBelow, AllByRecursion, AllPairs}
+use Rattle.cq_resume.proofs.Terms.{common_steps, ◌≡◌, ℕ, zero, suc, ◌+◌, ◌-◌, ◌<◌, ◌≤◌, ◌↔◌, Bool, true, false, List, [], ◌∷◌, length, get_or, arith, AllAdjacentBelow, AllByRecursion, AllPairs, cases_eq, get_or_default, All-from_recursion, recursion_from_All, AllPairs-cons}
 use Rattle.cq_resume.specs.Neighbours.{IsOfNeighbours}
-use Rattle.std.proofs.lemmas.Bool.{cases_eq}
-use Rattle.std.proofs.lemmas.List.{get_or_default}
-use Rattle.std.proofs.lemmas.List.Elements.{All-from_recursion}
-use Rattle.std.proofs.lemmas.List.Kept.{AllPairs-cons}
 
 -- it holds of each and each later one below a place
 abbrev pub PairsBelow : {X : Type 0} → (X → X → Type 0) → List X → ℕ → Type 0
@@ -43,8 +37,7 @@ module _ {X : Type 0} (R : X → X → Type 0) (xs : List X) where
     -- the answer of a test that decides the relation, asked of each and the next one
     pub neighbours_decide : {Test : X → X → Bool → Type 0} {r : Bool} → IsOfNeighbours Test xs r →
         ((a b : X) (r : Bool) → Test a b r → (r ≡ true) ↔ R a b) → (r ≡ true) ↔ AllPairs R xs
-    neighbours_decide {r = true} answer decides =
-        ((λ _. next_pairs (λ k d inside. (decides _ _ true (answer.each k d inside)).0 refl)), (λ _. refl))
+    neighbours_decide {r = true} answer decides = grind (arith, common_steps, next_pairs, decides, answer.each)
     neighbours_decide {r = false} answer decides = (
       (λ clash. absurd (let P : ⊥ = cc in P)),
       (λ pairs.
@@ -64,24 +57,13 @@ abbrev pub EachPair : {X : Type 0} → (X → X → Type 0) → List X → Type 
 EachPair R [] = Unit {0}
 EachPair R (x ∷ xs) = AllByRecursion (R x) xs × EachPair R xs
 
-all_by_places : {X : Type 0} (P : X → Type 0) (xs : List X) →
-    ((k : ℕ) (d : X) → k < length xs → P (get_or xs k d)) → AllByRecursion P xs
-all_by_places P [] all = tt
-all_by_places P (x ∷ xs) all =
-    (all zero x (omega arith), all_by_places P xs (λ k d inside. all (suc k) d (omega arith)))
-
 pub each_pair : {X : Type 0} (R : X → X → Type 0) (xs : List X) → AllPairs R xs → EachPair R xs
 each_pair R [] pairs = tt
 each_pair R (x ∷ xs) pairs = (
-  all_by_places (R x) xs (λ k d inside. pairs zero (suc k) d (omega arith) (omega arith)),
+  recursion_from_All (R x) xs (λ k d inside. pairs zero (suc k) d (omega arith) (omega arith)),
   each_pair R xs (λ i j d lt inside. pairs (suc i) (suc j) d (omega arith) (omega arith)),
 )
 
 pub all_pairs : {X : Type 0} (R : X → X → Type 0) (xs : List X) → EachPair R xs → AllPairs R xs
 all_pairs R [] pairs = λ i j d lt inside. absurd (omega arith)
 all_pairs R (x ∷ xs) pairs = grind (arith, common_steps, AllPairs-cons, All-from_recursion, all_pairs R xs pairs.1)
-
--- what each pair gives, of every pair that is asked about
-pub weaker_pairs : {X : Type 0} (R S : X → X → Type 0) → ((a b : X) → R a b → S a b) → (xs : List X) → AllPairs R xs →
-    AllPairs S xs
-weaker_pairs R S weaker xs pairs i j d lt inside = grind (arith, common_steps)

@@ -1,15 +1,17 @@
 -- A list that stands by a number is cut where the number begins and where it ends, and what is between are all items
 -- that have it. First a list whose items pass a test between two places and nowhere else; then the places that halving
--- finds.
-use Rattle.std.proofs.lemmas.Grind.{common_steps}
-use Rattle.std.proofs.Common.{◌≡◌, ℕ, zero, suc, ◌+◌, ◌-◌, ◌<◌, ◌≤◌, eqb, leb, ltb, Bool, true, false, cond, List, [], ◌∷◌, length, get_or, take, drop, refl, sym, ap, ◌∙◌, length-drop, Bor, arith, ◌++◌}
-use Rattle.std.specs.Prelude.{filter}
-use Rattle.std.specs.Fn.{Called, ComputesKey, Mut}
-use Rattle.std.specs.List.Sorted.{IsPartitionPoint}
-use Rattle.std.proofs.lemmas.Fn.{always_returns_same}
-use Rattle.std.proofs.lemmas.List.{append-nil, get_or-drop, get_or-take, length-take-le, take-append-drop}
-use Rattle.std.proofs.lemmas.List.Elements.{filter-append}
-use Rattle.std.proofs.lemmas.Bool.{eq-eqb, leb-false, leb-true, ltb-false, ltb-true, ne_eqb}
+-- finds. What halving finds in cells that stand in order: the cells of one output, of cells that stand by output,
+-- which stand by their keys. Lists that are made item by item: copies, and what the items before a place come to. What
+-- the items of a list come to with their places, item by item. Departures are made so too: they stand by slot, they
+-- are before the next one, and each is at one of the outputs, where it is counted. The figures of the outputs change
+-- departure by departure, each those of its own output. And the slots of a run: departures that stand by slot end with
+-- the last.
+use Rattle.cq_resume.proofs.Terms.{◌&&◌, rules, ◌≡◌, ℕ, zero, suc, ◌+◌, ◌-◌, ◌<◌, ◌≤◌, eqb, leb, ltb, Bool, true, false, List, [], ◌∷◌, length, get_or, take, drop, refl, sym, ap, ◌∙◌, length-drop, Bor, arith, ◌++◌, map, flat_map, common_steps, filter, Called, ComputesKey, Mut, IsPartitionPoint, IsNonDecreasingBy, always_returns_same, append-nil, get_or-drop, get_or-take, length-take-le, take-append-drop, map-append, take_all, take_more, filter-append, eq-eqb, leb-false, leb-true, ltb-false, ltb-true, ne_eqb, cases_eq, eqb-true, AllPairs, range_with_len, enumerate_from, IsRising, Queued, BuffersStand, IsBufferedBefore, flat_map-append, map-range_with_len_more, ◌^◌, set, replicate, length-append, AllByRecursion, Departure, OutputFigures, output_told, IsSentBefore, IsTimely, departed, with_departure, Gone, cases_Bool, get_or-map-range_with_len, set_one, slots_of, all_weaker, of_images, few_kept}
+use Rattle.std.proofs.lemmas.List.{take_rest}
+use Rattle.cq_resume.proofs.Chained.{EachPair, each_pair, all_pairs}
+use Rattle.cq_resume.proofs.Having.{all_from_has, all_of_has, kept_has}
+use Rattle.cq_resume.proofs.Each.{all_at}
+use Rattle.cq_laws.proofs.AddingUp.{map-constant}
 
 -- a test computes what each of its calls answers
 pub computes : {F X K : Type 0} {g : Mut F (Bor X × Unit {0}) K} {f : F} (key : X → K) →
@@ -17,38 +19,14 @@ pub computes : {F X K : Type 0} {g : Mut F (Bor X × Unit {0}) K} {f : F} (key :
 computes {g = g} {f = f} key calls = always_returns_same g (λ a r. r ≡ key a.0.now) f calls
 
 module _ {X : Type 0} (p : X → Bool) where
-  passed : (x : X) (xs : List X) → p x ≡ true → filter p (x ∷ xs) ≡ x ∷ filter p xs
-  passed x xs holds = ap (λ (b : Bool). cond b (x ∷ filter p xs) (filter p xs)) holds
-
-  failed : (x : X) (xs : List X) → p x ≡ false → filter p (x ∷ xs) ≡ filter p xs
-  failed x xs fails = ap (λ (b : Bool). cond b (x ∷ filter p xs) (filter p xs)) fails
-
   pub none_kept : (xs : List X) → ((k : ℕ) (d : X) → k < length xs → p (get_or xs k d) ≡ false) → filter p xs ≡ []
   none_kept [] none = refl
-  none_kept (x ∷ xs) none =
-      failed x xs (none zero x (omega arith)) ∙ none_kept xs (λ k d inside. none (suc k) d (omega arith))
+  none_kept (x ∷ xs) none = rw (none zero x (omega arith)) (none_kept xs (λ k d inside. none (suc k) d (omega arith)))
 
-  pub first_kept : (n : ℕ) (xs : List X) → n ≤ length xs →
-      ((k : ℕ) (d : X) → k < n → p (get_or xs k d) ≡ true) →
-      ((k : ℕ) (d : X) → n ≤ k → k < length xs → p (get_or xs k d) ≡ false) → take n xs ≡ filter p xs
-  first_kept zero xs few all none = sym (none_kept xs (λ k d inside. none k d (omega arith) inside))
-  first_kept (suc n) [] few all none = absurd (omega arith)
-  first_kept (suc n) (x ∷ xs) few all none = ap (λ (l : List X). x ∷ l) (first_kept n xs (omega arith)
-      (λ k d lt. all (suc k) d (omega arith)) (λ k d le inside. none (suc k) d (omega arith) (omega arith)))
-      ∙ sym (passed x xs (all zero x (omega arith)))
-
-  -- what passes from one place on, and so many items long, is what is kept
-  pub cut_is : (s n : ℕ) (xs : List X) → s + n ≤ length xs →
-      ((k : ℕ) (d : X) → k < s → p (get_or xs k d) ≡ false) →
-      ((k : ℕ) (d : X) → s ≤ k → k < s + n → p (get_or xs k d) ≡ true) →
-      ((k : ℕ) (d : X) → s + n ≤ k → k < length xs → p (get_or xs k d) ≡ false) →
-      take n (drop s xs) ≡ filter p xs
-  cut_is zero n xs few before inner behind = grind (arith, common_steps, first_kept)
-  cut_is (suc s) n [] few before inner behind = absurd (omega arith)
-  cut_is (suc s) n (x ∷ xs) few before inner behind =
-      cut_is s n xs (omega arith) (λ k d lt. before (suc k) d (omega arith))
-      (λ k d le lt. inner (suc k) d (omega arith) (omega arith)) (λ k d le inside.
-      behind (suc k) d (omega arith) (omega arith)) ∙ sym (failed x xs (before zero x (omega arith)))
+  all_kept : (xs : List X) → ((k : ℕ) (d : X) → k < length xs → p (get_or xs k d) ≡ true) → filter p xs ≡ xs
+  all_kept [] all = refl
+  all_kept (x ∷ xs) all = rw (all zero x (omega arith)) (ap (λ (l : List X). x ∷ l) (all_kept xs
+      (λ k d inside. all (suc k) d (omega arith))))
 
 -- a list that does not fall is cut behind the last item that is no greater, and what is left before the first that is
 -- no less
@@ -63,19 +41,192 @@ module _ {X : Type 0} (key : X → ℕ) (t start end : ℕ) (xs upto : List X) (
   size : length upto ≡ end
   size = ap (λ (l : List X). length l) cut ∙ length-take-le end xs high
 
-  not_above : (k : ℕ) (d : X) → k < length upto → key (get_or upto k d) ≤ t
-  not_above k d inside = grind (arith, common_steps, size, get_or-take, leb-true)
-
   behind_none : filter its (drop end xs) ≡ []
   behind_none = grind (arith, common_steps, none_kept, length-drop, get_or-drop, leb-false, ne_eqb)
 
-  whole : filter its upto ≡ filter its xs
-  whole =
-      ap (filter its) cut
-      ∙ sym (append-nil (filter its (take end xs)))
-      ∙ ap (λ (l : List X). filter its (take end xs) ++ l) (sym behind_none)
-      ∙ sym (filter-append its (take end xs) (drop end xs))
-      ∙ ap (filter its) (take-append-drop end xs)
+  before_none : filter its (take start upto) ≡ []
+  before_none = none_kept its (take start upto) (λ k d lt.
+      let long = length-take-le start upto low in
+      let own = from.0 k d (omega arith) in search (arith, rules, get_or-take start upto k d, ltb-true, ne_eqb))
+
+  inner_all : filter its (drop start upto) ≡ drop start upto
+  inner_all = all_kept its (drop start upto) (λ k d lt.
+      let long = length-drop start upto in
+      let many = size in
+      let low_one = to.0 (start + k) d (omega arith) in
+      let high_one = from.1 (start + k) d (omega arith) (omega arith) in
+      let there = get_or-take end xs (start + k) d (omega arith) in
+      grind (arith, common_steps, get_or-drop, leb-true, ltb-false, eq-eqb))
 
   pub cut_at : take (length upto - start) (drop start upto) ≡ filter (λ x. eqb (key x) t) xs
-  cut_at = grind (arith, common_steps, cut_is, ltb-true, ne_eqb, ltb-false, not_above, eq-eqb, whole)
+  cut_at =
+      let rest = take_rest upto start in
+      let outer = take-append-drop end xs in
+      let inner = take-append-drop start upto in
+      let behind = behind_none in
+      let before = before_none in
+      let all = inner_all in
+      let both = filter-append its (take end xs) (drop end xs) in
+      let two = filter-append its (take start upto) (drop start upto) in
+      grind (arith, common_steps, append-nil)
+
+-- items of which each later one has no lesser number do not fall
+pub not_falling : {X : Type 0} (R : X → X → Type 0) (key : X → ℕ) → ((a b : X) → R a b → key a ≤ key b) →
+    (xs : List X) → AllPairs R xs → IsNonDecreasingBy key xs
+not_falling R key no_less xs pairs i j d le inside =
+    let own = no_less (get_or xs i d) (get_or xs j d) in
+    let before = pairs i j d in
+    grind (arith, common_steps, cases_eq i j)
+
+pub output_no_less : (a b : Queued) → IsBufferedBefore a b → a.cell.output ≤ b.cell.output
+output_no_less a b before = grind (arith, common_steps)
+
+module _ (j : ℕ) where
+  -- of each pair the first is the more urgent where both are for this output
+  rising_kept : (xs : List Queued) → EachPair IsBufferedBefore xs → IsRising (filter (λ q. eqb q.cell.output j) xs)
+  rising_kept [] pairs = tt
+  rising_kept (x ∷ xs) pairs = grind (arith, common_steps, all_from_has, kept_has, eqb-true, all_of_has, rising_kept xs)
+
+  pub buffer_rises : (xs : List Queued) → BuffersStand xs → IsRising (filter (λ q. eqb q.cell.output j) xs)
+  buffer_rises xs stand = rising_kept xs (each_pair IsBufferedBefore xs stand)
+
+-- an item of a list that owns its memory is read and copied
+pub copy_more : {X : Type 0} (xs : List X) (i : ℕ) (read copy : X) (now new : List X) → i < length xs →
+    now ≡ take i xs → read ≡ get_or xs i read → copy ≡ read → new ≡ now ++ copy ∷ [] → new ≡ take (i + 1) xs
+copy_more {X} xs i read copy now new inside so_far is same more = grind (arith, common_steps, take_more)
+
+-- the cells of an input, and those for an output
+abbrev pub listed_at : List Queued → ℕ → List Queued
+listed_at listed i = filter (λ q. eqb q.key.input i) listed
+
+abbrev pub buffered_at : List Queued → ℕ → List Queued
+buffered_at buffered j = filter (λ q. eqb q.cell.output j) buffered
+
+-- what numbers from 0 on come to
+pub ranged_more : {Y : Type 0} (f : ℕ → Y) (i : ℕ) (y : Y) (now new : List Y) → now ≡ map f (range_with_len 0 i) →
+    y ≡ f i → new ≡ now ++ y ∷ [] → new ≡ map f (range_with_len 0 (i + 1))
+ranged_more {Y} f i y now new so_far is more = grind (arith, common_steps, map-range_with_len_more)
+
+pub ranged_last : {Y : Type 0} (f : ℕ → Y) (i n : ℕ) (made : List Y) → made ≡ map f (range_with_len 0 i) → i ≡ n →
+    made ≡ map f (range_with_len 0 n)
+ranged_last f i n made so_far all = so_far ∙ ap (λ (k : ℕ). map f (range_with_len 0 k)) all
+
+-- what the items of several lists come to, one list after the other
+module _ {X Y : Type 0} (f : X → Y) (lists : List (List X)) where
+  abbrev joined : List (List X) → List X
+  joined ls = flat_map (λ cells. cells) ls
+
+  pub lists_more : (i : ℕ) (read cells : List X) (now new : List Y) → i < length lists →
+      now ≡ map f (joined (take i lists)) → read ≡ get_or lists i read → cells ≡ read → new ≡ now ++ map f cells →
+      new ≡ map f (joined (take (i + 1) lists))
+  lists_more i read cells now new inside so_far is same more =
+      grind (arith, common_steps, take_more, flat_map-append, append-nil, map-append)
+
+  pub lists_all : (i : ℕ) (new : List Y) → length lists ≤ i → new ≡ map f (joined (take i lists)) →
+      new ≡ map f (joined lists)
+  lists_all i new past is = is ∙ ap (λ (l : List (List X)). map f (joined l)) (take_all i lists past)
+
+enumerate_put : {X : Type 0} (n : ℕ) (xs : List X) (x : X) →
+    enumerate_from n (xs ++ x ∷ []) ≡ enumerate_from n xs ++ (n + length xs, x) ∷ []
+enumerate_put {X} n [] x = grind (arith, common_steps)
+enumerate_put {X} n (y ∷ xs) x = grind (arith, common_steps, enumerate_put (n + 1) xs x)
+
+module _ {X Y : Type 0} (f : ℕ → X → Y) (xs : List X) where
+  pub placed_more : (i : ℕ) (d : X) (y : Y) (now new : List Y) → i < length xs →
+      now ≡ map (λ at. f at.0 at.1) (enumerate_from 0 (take i xs)) → y ≡ f i (get_or xs i d) → new ≡ now ++ y ∷ [] →
+      new ≡ map (λ at. f at.0 at.1) (enumerate_from 0 (take (i + 1) xs))
+  placed_more i d y now new inside so_far is more =
+      grind (arith, common_steps, length-take-le, take_more, enumerate_put, map-append)
+
+  pub placed_all : (i : ℕ) (new : List Y) → length xs ≤ i →
+      new ≡ map (λ at. f at.0 at.1) (enumerate_from 0 (take i xs)) → new ≡ map (λ at. f at.0 at.1) (enumerate_from 0 xs)
+  placed_all i new past so_far = grind (arith, common_steps, take_all)
+
+-- two tests one after the other are one
+module _ {X : Type 0} (p q : X → Bool) where
+  pub filter_both : (xs : List X) → filter p (filter q xs) ≡ filter (λ x. q x && p x) xs
+  filter_both [] = refl
+  filter_both (x ∷ xs) = grind (arith, common_steps, filter_both xs)
+
+-- ## All outputs
+
+ruleset read_on = (take_more, set_one, ne_eqb, cases_Bool, length-append, map-append)
+
+pub nothing_left : (ports : ℕ) → replicate ports (output_told [] 0) ≡ map (output_told []) (range_with_len 0 ports)
+nothing_left ports = sym (map-constant (output_told []) (output_told [] 0) (λ j. refl) 0 ports)
+
+module _ (sent : List Departure) (ports i : ℕ) (e : Departure) (now : List OutputFigures)
+    (so_far : now ≡ map (output_told (take i sent)) (range_with_len 0 ports)) (inside : i < length sent)
+    (own : (get_or sent i e).output < ports) where
+  abbrev here : Departure
+  here = get_or sent i e
+
+  -- what stands at the departure's output
+  pub figures_there : (z : OutputFigures) → get_or now here.output z ≡ output_told (take i sent) here.output
+  figures_there z = grind (arith, common_steps, get_or-map-range_with_len)
+
+  pub outputs_more : (x : OutputFigures) → x ≡ with_departure here.output (output_told (take i sent) here.output) here →
+      set now here.output x ≡ map (output_told (take (i + 1) sent)) (range_with_len 0 ports)
+  outputs_more x is = grind (arith, common_steps, append-nil, filter-append, read_on)
+
+pub outputs_last : (sent : List Departure) (ports i : ℕ) (now : List OutputFigures) →
+    now ≡ map (output_told (take i sent)) (range_with_len 0 ports) → length sent ≤ i →
+    now ≡ map (output_told sent) (range_with_len 0 ports)
+outputs_last sent ports i now so_far past = grind (arith, common_steps, take_all)
+
+-- ## Slots
+
+abbrev pub IsNoLater : Departure → Departure → Type 0
+IsNoLater d e = d.slot ≤ e.slot
+
+least_of : (d : Departure) (sent : List Departure) → AllByRecursion (IsNoLater d) sent → 0 < length sent →
+    d.slot + 1 ≤ slots_of sent
+least_of d [] all some = absurd (omega arith)
+least_of d (e ∷ sent) all some = let later = all.0 in omega arith
+
+pub slots_last : (sent : List Departure) (d : Departure) → EachPair IsNoLater sent → 0 < length sent →
+    (get_or sent (length sent - 1) d).slot + 1 ≡ slots_of sent
+slots_last [] d rising some = absurd (omega arith)
+slots_last (e ∷ sent) d rising some = grind (arith, common_steps, slots_last sent d)
+
+-- what gone cells give their departures have
+all_departed : (P : Gone → Type 0) (Q : Departure → Type 0) → ((g : Gone) → P g → Q (departed g)) → (gone : List Gone) →
+    AllByRecursion P gone → AllByRecursion Q (map departed gone)
+all_departed P Q give gone all = of_images departed Q gone (all_weaker P (λ g. Q (departed g)) give gone all)
+
+each_later : (gone : List Gone) → EachPair IsSentBefore gone → EachPair IsNoLater (map departed gone)
+each_later [] pairs = tt
+each_later (g ∷ gone) pairs = (
+  all_departed (IsSentBefore g) (IsNoLater (departed g))
+      (λ h before. grind (arith, common_steps)) gone pairs.0,
+  each_later gone pairs.1,
+)
+
+pub departed_rising : (gone : List Gone) → AllPairs IsSentBefore gone → AllPairs IsNoLater (map departed gone)
+departed_rising gone pairs = search (rules, all_pairs, IsNoLater, each_later, each_pair)
+
+pub departed_low : (next : ℕ) (gone : List Gone) → next < 2 ^ 63 → AllByRecursion (IsTimely next) gone →
+    AllByRecursion (λ d. d.slot < 2 ^ 63) (map departed gone)
+departed_low next gone early =
+    all_departed (IsTimely next) (λ (d : Departure). d.slot < 2 ^ 63) (λ g is. let less = is.1 in omega arith) gone
+
+pub departed_for : (ports : ℕ) (gone : List Gone) → AllByRecursion (λ g. g.queued.cell.output < ports) gone →
+    AllByRecursion (λ d. d.output < ports) (map departed gone)
+departed_for ports = search (rules, all_departed)
+
+-- ## One departure at its output
+
+module _ (sent : List Departure) (ports i : ℕ) (e : Departure) (now : List OutputFigures)
+    (so_far : now ≡ map (output_told (take i sent)) (range_with_len 0 ports)) (inside : i < length sent)
+    (all : AllByRecursion (λ d. d.output < ports) sent) (read : OutputFigures)
+    (is : read ≡ get_or now (get_or sent i e).output read) where
+  there : read ≡ output_told (take i sent) (get_or sent i e).output
+  there = grind (arith, common_steps, figures_there, all_at)
+
+  -- it has sent no more cells than there are departures before this one
+  pub fewer_sent : read.cells ≤ i
+  fewer_sent = grind (arith, common_steps, there, few_kept, length-take-le)
+
+  pub departure_counted : (x : OutputFigures) → x ≡ with_departure (get_or sent i e).output read (get_or sent i e) →
+      set now (get_or sent i e).output x ≡ map (output_told (take (i + 1) sent)) (range_with_len 0 ports)
+  departure_counted x counted = grind (arith, common_steps, outputs_more, all_at, there)

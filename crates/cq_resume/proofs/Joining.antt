@@ -2,78 +2,35 @@
 -- ones of the run, and the others go on from there to the same end. Where it is stopped later, nothing waits any more
 -- and nothing comes, and the slots behind the end add nothing. A tag fault of the run comes behind the slots that were
 -- done, for these had none.
-use Rattle.std.proofs.lemmas.Grind.{common_steps}
-use Rattle.std.proofs.Common.{rules, ◌≡◌, ℕ, zero, suc, ◌+◌, ◌-◌, ◌<◌, ◌≤◌, Bool, List, [], ◌∷◌, ◌++◌, length, take, drop, fold, replicate, Option, refl, sym, ap, ◌∙◌, subst, ⊎_elim, append_assoc, length-drop, arith}
-use Rattle.std.proofs.lemmas.Bool.{cases_lt}
-use Rattle.std.proofs.lemmas.List.{append-nil, length-map, map-append, take-append-drop, take_all}
-use Rattle.std.proofs.lemmas.List.Concat.{flat_map-append}
-use Rattle.std.proofs.lemmas.List.Elements.{All-replicate}
-use Rattle.cq_base.specs.Arrivals.{no_arrivals}
-use Rattle.cq_base.specs.Arriving.{end_of}
-use Rattle.cq_base.specs.declared.cell.Cell.{Cell}
-use Rattle.cq_base.specs.declared.cell.Queued.{Queued}
+use Rattle.cq_resume.proofs.Terms.{common_steps, rules, ◌≡◌, ℕ, zero, suc, ◌+◌, ◌-◌, ◌<◌, ◌≤◌, Bool, List, [], ◌∷◌, ◌++◌, length, take, drop, Option, refl, ⊎_elim, append_assoc, length-drop, arith, cases_lt, append-nil, length-map, map-append, take-append-drop, take_all, flat_map-append, All-replicate, end_of, Cell, arriving_from, refused_in, all_counted_both, none_counted, Fabric, IsEmptyFabric, empty_fabric, marked_in, Machine, Switch, Taken}
 use Rattle.cq_base.specs.declared.cell.TagFault.{TagFault}
 use Rattle.cq_ideal.specs.Admission.{Marked, marked}
-use Rattle.cq_ideal.specs.Ending.{arriving_from}
-use Rattle.cq_ideal.specs.IdealRun.{departures_of}
-use Rattle.cq_ideal.specs.Refused.{refused_in}
-use Rattle.cq_ideal.proofs.Counting.{all_counted_both, none_counted}
 use Rattle.cq_ideal.proofs.Parted.{arriving_length, arriving_parts, quiet_from}
-use Rattle.cq_laws.specs.Fabric.{Fabric, IsEmptyFabric, empty_fabric}
 use Rattle.cq_laws.specs.FabricSlot.{FabricSlot, SlotRecord}
-use Rattle.cq_laws.specs.Frozen.{marked_in}
 use Rattle.cq_laws.specs.LimitedFabric.{IsLimitedFault, LimitedFabricSlot, LimitedRecord, admissions_in, slots_in}
 use Rattle.cq_laws.specs.LimitedQuiet.{quiet_limited_slots}
-use Rattle.cq_laws.specs.Measures.{figures_after}
 use Rattle.cq_laws.specs.Quiet.{idled, idled_for, quiet_slots}
-use Rattle.cq_laws.specs.Records.{gone_in, transfers_of_run}
 use Rattle.cq_laws.specs.SlotBySlot.{GoOn, IsOneRun, RunBy, StopBy}
 use Rattle.cq_laws.proofs.Joined.{all_go_on}
 use Rattle.cq_laws.proofs.KeptParts.{departures_on, transfers_both}
 use Rattle.cq_laws.proofs.NothingRefused.{none_come, run_with}
 use Rattle.cq_laws.proofs.OneRun.{only_limited_run}
-use Rattle.cq_laws.proofs.Parted.{parts, reach, run_length}
+use Rattle.cq_laws.proofs.Parted.{parts, run_length}
+use Rattle.std.proofs.Math.Seq.{take-add}
+use Rattle.cq_base.specs.Arriving.{arriving}
 use Rattle.cq_laws.proofs.QuietSlots.{empty_is, quiet_departures, quiet_figures_of_run, quiet_run, quiet_transfers_of_run}
 use Rattle.cq_prefs.specs.Pairing.{IsInputBest}
-use Rattle.cq_rank.specs.Machine.{Machine}
 use Rattle.cq_resume.specs.Parts.{IsParted, IsWhole, IsWholeFault, PartsJoin, nothing_kept, opening}
 use Rattle.cq_resume.specs.Resumed.{IsResumed, IsResumedFault, Kept, RunsOn, kept_in, kept_on}
-use Rattle.cq_resume.specs.Switch.{Switch}
-use Rattle.cq_resume.specs.declared.taken.Taken.{Taken}
 
 -- ## What is kept
 
-fold_both : {A B : Type 0} (f : B → A → B) (b : B) (xs ys : List A) → fold f b (xs ++ ys) ≡ fold f (fold f b xs) ys
-fold_both f b [] ys = refl
-fold_both f b (x ∷ xs) ys = fold_both f (f b x) xs ys
+ruleset kept = (map-append, length-map, departures_on, append_assoc, transfers_both, flat_map-append, all_counted_both)
 
 -- records behind others are kept behind what these left
 kept_both : (k : Kept) (first next : ℕ) (rs ss : List LimitedRecord) → first + length rs ≡ next →
     kept_on k first (rs ++ ss) ≡ kept_on (kept_on k first rs) next ss
-kept_both k first next rs ss long = grind (
-  arith,
-  common_steps,
-  map-append,
-  length-map,
-  k.sent,
-  departures_on,
-  append_assoc,
-  k.note,
-  transfers_both,
-  fold_both,
-  flat_map-append,
-  all_counted_both,
-)
-
--- records that add nothing
-kept_same : (k : Kept) (next : ℕ) (rs : List LimitedRecord) → departures_of next (gone_in (slots_in rs)) ≡ [] →
-    transfers_of_run (slots_in rs) ≡ [] → fold figures_after k.figures (slots_in rs) ≡ k.figures →
-    refused_in (admissions_in rs) ≡ [] → kept_on k next rs ≡ k
-kept_same k next rs departures transfers figures none = search (rules, k.sent, append-nil, k.note, none_counted)
-
-kept_none : (k : Kept) (next : ℕ) → kept_on k next [] ≡ k
-unfolding departures_of transfers_of_run
-kept_none k next = kept_same k next [] refl refl refl refl
+kept_both k first next rs ss long = grind (arith, common_steps, kept)
 
 module _ (ms : List Machine) (n : ℕ) (marks : List Bool) where
   quiet_records : (count slot : ℕ) (ranks : List (List ℕ)) →
@@ -86,133 +43,89 @@ module _ (ms : List Machine) (n : ℕ) (marks : List Bool) where
   none_refused zero slot ranks = refl
   none_refused (suc count) slot ranks = none_refused count (slot + 1) (idled ms n ranks)
 
+  -- they add nothing
   kept_quiet : (k : Kept) (count slot : ℕ) (ranks : List (List ℕ)) →
       kept_on k slot (quiet_limited_slots ms count slot n ranks marks) ≡ k
   kept_quiet k count slot ranks =
       let same = quiet_records count slot ranks in
-      kept_same k slot (quiet_limited_slots ms count slot n ranks marks)
-      (ap (λ (l : List SlotRecord). departures_of slot (gone_in l)) same ∙ quiet_departures ms n count slot ranks)
-      (ap transfers_of_run same ∙ quiet_transfers_of_run ms n count slot ranks)
-      (ap (λ (l : List SlotRecord). fold figures_after k.figures l) same
-      ∙ quiet_figures_of_run ms n count slot ranks k.figures)
-      (none_refused count slot ranks)
-
--- ## Parts of runs that stop
-
-module _ {S R : Type 0} (Step : ℕ → List (Option Cell) → S → R → S → Type 0)
-    (Fault : ℕ → List (Option Cell) → S → TagFault → Type 0) where
-  record StopParts (slot : ℕ) (before after : List (List (Option Cell))) (f : S) (rs : List R) (fault : TagFault) :
-      Type 0 where
-    middle : S
-    first : RunBy Step slot before f (take (length before) rs) middle
-    second : StopBy Step Fault (slot + length before) after middle (drop (length before) rs) fault
-
-  -- one that stops behind some slots
-  stop_parts : (slot : ℕ) (before after : List (List (Option Cell))) (f : S) (rs : List R) (fault : TagFault) →
-      StopBy Step Fault slot (before ++ after) f rs fault → length before ≤ length rs →
-      StopParts slot before after f rs fault
-  stop_parts slot [] after f rs fault x le = grind (arith, common_steps)
-  stop_parts slot (cells ∷ before) after f [] fault x le = absurd (omega arith)
-  stop_parts slot (cells ∷ before) after f (r ∷ rs) fault x le =
-      grind (arith, common_steps, stop_parts (slot + 1) before after x.0 rs fault x.2)
-
-  -- one that stops among them
-  stop_early : (slot : ℕ) (before after : List (List (Option Cell))) (f : S) (rs : List R) (fault : TagFault) →
-      StopBy Step Fault slot (before ++ after) f rs fault → length rs < length before →
-      StopBy Step Fault slot before f rs fault
-  stop_early slot [] after f rs fault x lt = absurd (omega arith)
-  stop_early slot (cells ∷ before) after f [] fault x lt = x
-  stop_early slot (cells ∷ before) after f (r ∷ rs) fault x lt =
-      (x.0, x.1, stop_early (slot + 1) before after x.0 rs fault x.2 (omega arith))
-
-  -- it has fewer records than slots
-  stop_length : (slot : ℕ) (traffic : List (List (Option Cell))) (f : S) (rs : List R) (fault : TagFault) →
-      StopBy Step Fault slot traffic f rs fault → length rs < length traffic
-  stop_length slot [] f rs fault x = absurd x
-  stop_length slot (cells ∷ traffic) f [] fault x = omega arith
-  stop_length slot (cells ∷ traffic) f (r ∷ rs) fault x =
-      let rest = stop_length (slot + 1) traffic x.0 rs fault x.2 in omega arith
-
-  -- it stops there whatever comes behind
-  stop_later : (slot : ℕ) (before after : List (List (Option Cell))) (f : S) (rs : List R) (fault : TagFault) →
-      StopBy Step Fault slot before f rs fault → StopBy Step Fault slot (before ++ after) f rs fault
-  stop_later slot [] after f rs fault x = absurd x
-  stop_later slot (cells ∷ before) after f [] fault x = x
-  stop_later slot (cells ∷ before) after f (r ∷ rs) fault x =
-      (x.0, x.1, stop_later (slot + 1) before after x.0 rs fault x.2)
-
-module _ {X : Type 0} where
-  no_more : (k : ℕ) → take k (let none : List X = [] in none) ≡ []
-  no_more zero = refl
-  no_more (suc k) = refl
-
-  take_parts : (n m : ℕ) (xs : List X) → take (n + m) xs ≡ take n xs ++ take m (drop n xs)
-  take_parts zero m xs = let same : 0 + m ≡ m = omega arith in ap (λ (k : ℕ). take k xs) same
-  take_parts (suc n) m [] = grind (arith, common_steps, no_more m)
-  take_parts (suc n) m (x ∷ xs) =
-      let more : suc n + m ≡ suc (n + m) = omega arith in
-      ap (λ (k : ℕ). take k (x ∷ xs)) more ∙ ap (λ (l : List X). x ∷ l) (take_parts n m xs)
-
--- ## A square fabric stays one
-
-module _ (limits : List (Option ℕ)) (ms : List Machine) where
-  abbrev Step : ℕ → List (Option Cell) → Marked Fabric → LimitedRecord → Marked Fabric → Type 0
-  Step = LimitedFabricSlot IsInputBest limits ms
-
-  abbrev Fault : ℕ → List (Option Cell) → Marked Fabric → TagFault → Type 0
-  Fault = IsLimitedFault limits ms
-
-  abbrev IsSquare : Fabric → Type 0
-  IsSquare f = length f.buffers ≡ length f.inputs
-
-  slot_square : (cells : List (Option Cell)) (slot : ℕ) (f g : Fabric) (r : SlotRecord) →
-      FabricSlot IsInputBest ms slot cells f r g → IsSquare f → IsSquare g
-  slot_square cells slot f g r x square = grind (arith, common_steps, length-map)
-
-  run_square : (slot : ℕ) (traffic : List (List (Option Cell))) (f g : Marked Fabric) (rs : List LimitedRecord) →
-      RunBy Step slot traffic f rs g → IsSquare f.state → IsSquare g.state
-  run_square slot [] f g [] x square = subst (λ (m : Marked Fabric). IsSquare m.state) (sym x) square
-  run_square slot [] f g (r ∷ rs) x square = absurd x
-  run_square slot (cells ∷ traffic) f g [] x square = absurd x
-  run_square slot (cells ∷ traffic) f g (r ∷ rs) x square = run_square (slot + 1) traffic x.0 g rs x.2
-      (slot_square r.admission.cells slot f.state x.0.state r.of_slot x.1.runs square)
+      let departures = quiet_departures ms n count slot ranks in
+      let transfers = quiet_transfers_of_run ms n count slot ranks in
+      let figures = quiet_figures_of_run ms n count slot ranks k.figures in
+      search (arith, rules, same, departures, transfers, figures, append-nil, none_counted, none_refused)
 
 -- ## From a slot on
 
 module _ (w : Switch) where
-  abbrev StepOf : ℕ → List (Option Cell) → Marked Fabric → LimitedRecord → Marked Fabric → Type 0
-  StepOf = Step w.limits w.machines
+  abbrev Step : ℕ → List (Option Cell) → Marked Fabric → LimitedRecord → Marked Fabric → Type 0
+  Step = LimitedFabricSlot IsInputBest w.limits w.machines
 
-  abbrev FaultOf : ℕ → List (Option Cell) → Marked Fabric → TagFault → Type 0
-  FaultOf = Fault w.limits w.machines
+  abbrev Fault : ℕ → List (Option Cell) → Marked Fabric → TagFault → Type 0
+  Fault = IsLimitedFault w.limits w.machines
 
-  one : IsOneRun (Step w.limits w.machines) (Fault w.limits w.machines)
+  -- a square fabric stays one
+  slot_square : (cells : List (Option Cell)) (slot : ℕ) (f g : Fabric) (r : SlotRecord) →
+      FabricSlot IsInputBest w.machines slot cells f r g → length f.buffers ≡ length f.inputs →
+      length g.buffers ≡ length g.inputs
+  slot_square cells slot f g r x square = grind (arith, common_steps, length-map)
+
+  run_square : (slot : ℕ) (traffic : List (List (Option Cell))) (f g : Marked Fabric) (rs : List LimitedRecord) →
+      RunBy Step slot traffic f rs g → length f.state.buffers ≡ length f.state.inputs →
+      length g.state.buffers ≡ length g.state.inputs
+  run_square slot [] f g [] x square = search (arith, rules)
+  run_square slot [] f g (r ∷ rs) x square = absurd x
+  run_square slot (cells ∷ traffic) f g [] x square = absurd x
+  run_square slot (cells ∷ traffic) f g (r ∷ rs) x square =
+      grind (arith, common_steps, slot_square, run_square (slot + 1) traffic x.0 g rs)
+
+  one : IsOneRun Step Fault
   one = only_limited_run w.machines w.limits
 
-  on : GoOn (Step w.limits w.machines) (Fault w.limits w.machines)
-  on = all_go_on (Step w.limits w.machines) (Fault w.limits w.machines)
+  on : GoOn Step Fault
+  on = all_go_on Step Fault
 
   -- all records of a run to its end
   whole_run : (next : ℕ) (start end : Marked Fabric) (rs : List LimitedRecord) → RunsOn w next start rs end →
-      RunBy StepOf next (arriving_from w.came next (length rs)) start rs end
+      RunBy Step next (arriving_from w.came next (length rs)) start rs end
   whole_run next start end rs r = grind (arith, common_steps, take_all)
+
+  -- one that runs on passes where another ended
+  goes_past : (next n k all at : ℕ) (start middle end : Marked Fabric) (ps rs : List LimitedRecord) → all ≡ n + k →
+      at ≡ next + n → RunBy Step next (arriving_from w.came next n) start ps middle →
+      RunBy Step next (arriving_from w.came next all) start rs end →
+      (take n rs ≡ ps) × RunBy Step at (arriving_from w.came at k) middle (drop n rs) end
+  goes_past next n k all at start middle end ps rs many there x y =
+      let cut = arriving_parts w.came next at n k all there many in
+      let long = arriving_length w.came next n in
+      let p = parts Step next (arriving_from w.came next n) (arriving_from w.came at k) start end rs
+      (rw (← cut) at y) in
+      let same = one.run next (arriving_from w.came next n) start p.middle middle (take n rs) ps
+      (rw long at p.first) x in
+      (same.0, rw (long, ← there, same.1) at p.second)
+
+  -- one that stops does so behind what another has done
+  stops_past : (slot n count at : ℕ) (f middle : Marked Fabric) (ps rs : List LimitedRecord) (fault : TagFault) →
+      at ≡ slot + n → RunBy Step slot (arriving_from w.came slot n) f ps middle →
+      StopBy Step Fault slot (arriving_from w.came slot count) f rs fault →
+      (more : ℕ) × (ss : List LimitedRecord) × StopBy Step Fault at (arriving_from w.came at more) middle ss fault
+  unfolding arriving_from
+  stops_past slot zero count at f middle [] rs fault there x y =
+      let here : at ≡ slot = omega arith in (count, rs, rw (here, x) y)
+  stops_past slot zero count at f middle (p ∷ ps) rs fault there x y = absurd x
+  stops_past slot (suc n) zero at f middle ps rs fault there x y = absurd y
+  stops_past slot (suc n) (suc count) at f middle [] rs fault there x y = absurd x
+  stops_past slot (suc n) (suc count) at f middle (p ∷ ps) [] fault there x y =
+      absurd (one.never_both slot (arriving w.came slot ∷ []) f x.0 (p ∷ []) [] fault (x.0, x.1, refl) y)
+  stops_past slot (suc n) (suc count) at f middle (p ∷ ps) (r ∷ rs) fault there x y =
+      let same = one.slot slot (arriving w.came slot) f x.0 y.0 p r x.1 y.1 in
+      stops_past (slot + 1) n count at x.0 middle ps rs fault (omega arith) x.2 (rw (← same.1) at y.2)
 
   -- of two runs to their ends neither is shorter
   no_longer : (next : ℕ) (start g h : Marked Fabric) (rs ss : List LimitedRecord) → RunsOn w next start rs g →
       RunsOn w next start ss h → length rs ≤ length ss
   no_longer next start g h rs ss r s = ⊎_elim (λ (lt : length ss < length rs).
-      let n = length ss in
-      let cut = arriving_parts w.came next (next + n) n (length rs - n) (length rs) refl (omega arith) in
-      let long = arriving_length w.came next n in
-      let p = parts StepOf next (arriving_from w.came next n) (arriving_from w.came (next + n) (length rs - n))
-      start g rs (subst (λ (l : List (List (Option Cell))). RunBy StepOf next l start rs g) (sym cut)
-      (whole_run next start g rs r)) in
-      let first : RunBy StepOf next (arriving_from w.came next n) start (take n rs) p.middle =
-      subst (λ (k : ℕ). RunBy StepOf next (arriving_from w.came next n) start (take k rs) p.middle) long
-      p.first in
-      let same = one.run next (arriving_from w.came next n) start p.middle h (take n rs) ss first
-      (whole_run next start h ss s) in
-      search (arith, rules, r.first)) (λ ge. ge) (cases_lt (length ss) (length rs))
+      let same = goes_past next (length ss) (length rs - length ss) (length rs) _ start h g ss rs (omega arith)
+      refl (whole_run next start h ss s) (whole_run next start g rs r) in
+      search (arith, rules, r.first, whole_run next start h ss s)) (λ ge. ge) (cases_lt (length ss) (length rs))
 
   one_on : (next : ℕ) (start g h : Marked Fabric) (rs ss : List LimitedRecord) → RunsOn w next start rs g →
       RunsOn w next start ss h → rs ≡ ss
@@ -220,9 +133,7 @@ module _ (w : Switch) where
       let le = no_longer next start g h rs ss r s in
       let ge = no_longer next start h g ss rs s r in
       let same : length ss ≡ length rs = omega arith in
-      (one.run next (arriving_from w.came next (length rs)) start g h rs ss (whole_run next start g rs r)
-      (subst (λ (n : ℕ). RunBy StepOf next (arriving_from w.came next n) start ss h) same
-      (whole_run next start h ss s))).0
+      grind (arith, common_steps, one.run, whole_run next start g rs r, whole_run next start h ss s)
 
   -- nothing waits any more, and nothing comes
   over_at : (next : ℕ) (start : Marked Fabric) → end_of w.came ≤ next → IsEmptyFabric start.state →
@@ -247,12 +158,13 @@ module _ (w : Switch) where
 
     -- what goes on from there is one run with what was done
     join : (n : ℕ) (rs : List LimitedRecord) (end : Marked Fabric) →
-        RunBy StepOf slots (arriving_from w.came slots n) there rs end →
-        RunBy StepOf 0 (arriving_from w.came 0 (slots + n)) start (part.records ++ rs) end
-    join n rs end run = subst (λ (l : List (List (Option Cell))). RunBy StepOf 0 l start (part.records ++ rs) end)
-        (arriving_parts w.came 0 slots slots n (slots + n) (omega arith) refl) (on.run 0
-        (arriving_from w.came 0 slots) (arriving_from w.came slots n) start there end part.records rs part.runs
-        (subst (λ (k : ℕ). RunBy StepOf k (arriving_from w.came slots n) there rs end) (sym begins) run))
+        RunBy Step slots (arriving_from w.came slots n) there rs end →
+        RunBy Step 0 (arriving_from w.came 0 (slots + n)) start (part.records ++ rs) end
+    join n rs end run =
+        let cut = arriving_parts w.came 0 slots slots n (slots + n) (omega arith) refl in
+        let both = on.run 0 (arriving_from w.came 0 slots) (arriving_from w.came slots n) start there end part.records
+        rs part.runs in
+        search (arith, rules, begins)
 
     -- what is kept of both
     kept_joined : (rs : List LimitedRecord) →
@@ -264,35 +176,25 @@ module _ (w : Switch) where
       module _ (within : slots ≤ length rs) where
         rest : RunsOn w slots there (drop slots rs) end × (rs ≡ part.records ++ drop slots rs)
         rest =
-            let r = reach StepOf w.came start rs slots (length rs) end within (whole_run 0 start end rs runs) in
-            let same = one.run 0 (arriving_from w.came 0 slots) start r.state there (take slots rs) part.records
-            r.after part.runs in
-            let size = length-drop slots rs in
-            let more : length (drop slots rs) ≡ length rs - slots = omega arith in
-            let run : RunBy StepOf slots (arriving_from w.came slots (length (drop slots rs))) there (drop slots rs)
-            end = search (arith, rules) in
-            let whole : rs ≡ part.records ++ drop slots rs = search (arith, rules, take-append-drop) in
+            let past = goes_past 0 slots (length rs - slots) (length rs) slots start there end part.records rs
+            (omega arith) (omega arith) part.runs (whole_run 0 start end rs runs) in
+            let more : length (drop slots rs) ≡ length rs - slots = omega (arith, length-drop slots rs) in
             let late = runs.all_came in (
               record {
                 after = search (arith, rules, take_all);
                 all_came = omega arith;
                 empty = runs.empty;
-                first = λ
-                    m s after came_all none. search
-                    (arith, rules, take_parts slots m rs, join m (take m (drop slots rs)) s after);
+                first = λ m s after came_all none.
+                    search (arith, rules, take-add slots m rs, join m (take m (drop slots rs)) s after);
               },
-              whole,
+              search (arith, rules, take-append-drop),
             )
 
       -- stopped behind its end
       module _ (behind : length rs < slots) where
-        square : IsSquare w.limits w.machines end.state
-        square =
-            run_square w.limits w.machines 0 (arriving_from w.came 0 (length rs)) start end rs
-            (whole_run 0 start end rs runs) opened
-          where
-            opened : length start.state.buffers ≡ length start.state.inputs
-            opened = refl
+        square : length end.state.buffers ≡ length end.state.inputs
+        square = run_square 0 (arriving_from w.came 0 (length rs)) start end rs
+            (whole_run 0 start end rs runs) refl
 
         abbrev ports : ℕ
         ports = length end.state.inputs
@@ -310,120 +212,65 @@ module _ (w : Switch) where
         unfolding quiet
         over =
             let n = length rs in
-            let r = reach StepOf w.came start part.records n slots there (omega arith) part.runs in
-            let same = one.run 0 (arriving_from w.came 0 n) start r.state end (take n part.records) rs r.after
-            (whole_run 0 start end rs runs) in
+            let past = goes_past 0 n more slots n start end there rs part.records (omega arith) (omega arith)
+            (whole_run 0 start end rs runs) part.runs in
             let late = runs.all_came in
             let none = quiet_from w.came more n (omega arith) in
             let is_empty : end.state ≡ empty_fabric ports end.state.ranks = empty_is end.state runs.empty square in
-            let still : RunBy StepOf n (replicate more no_arrivals)
-            (marked end.marks (empty_fabric ports end.state.ranks))
-            quiet resting =
-            run_with IsInputBest w.limits w.machines end.marks n (replicate more no_arrivals)
-            (empty_fabric ports end.state.ranks)
-            (empty_fabric ports (idled_for w.machines more ports end.state.ranks))
-            (quiet_slots w.machines more n ports end.state.ranks)
-            (none_come IsInputBest w.limits w.machines end.marks more)
+            let come = none_come IsInputBest w.limits w.machines end.marks more in
+            let still = run_with IsInputBest w.limits w.machines end.marks n _ _ _ _ come
             (quiet_run w.machines more n ports end.state.ranks) in
-            let from_end : RunBy StepOf n (arriving_from w.came n more) end quiet resting =
-            subst (λ (l : List (List (Option Cell))). RunBy StepOf n l end quiet resting) (sym none)
-            (subst (λ (f : Fabric). RunBy StepOf n (replicate more no_arrivals) (marked end.marks f) quiet resting)
-            (sym is_empty) still) in
-            let from_part : RunBy StepOf n (arriving_from w.came n more) end (drop n part.records) there =
-            subst (λ (m : Marked Fabric). RunBy StepOf n (arriving_from w.came n more) m (drop n part.records) there)
-            same.1 r.rest in
-            let both = one.run n (arriving_from w.came n more) end there resting (drop n part.records) quiet from_part
-            from_end in (
-              sym (take-append-drop n part.records)
-                  ∙ ap (λ (l : List LimitedRecord). l ++ drop n part.records) same.0
-                  ∙ ap (λ (l : List LimitedRecord). rs ++ l) both.0,
-              both.1,
-            )
+            let from_end : RunBy Step n (arriving_from w.came n more) end quiet resting = search (arith, rules) in
+            let both = one.run n (arriving_from w.came n more) end there resting (drop n part.records) quiet
+            past.1 from_end in
+            let whole = take-append-drop n part.records in (cc, both.1)
 
         rests : RunsOn w slots there [] there
         rests =
             let late = runs.all_came in
-            let none : List Queued = [] in
             let empty : IsEmptyFabric resting.state = search (arith, rules, All-replicate) in
-            over_at slots there (omega arith)
-            (subst (λ (m : Marked Fabric). IsEmptyFabric m.state) (sym over.1) empty)
+            search (arith, rules, over, over_at slots there)
 
         kept_over : kept_on (nothing_kept w) 0 rs ≡ kept_on (kept_in at) slots []
         unfolding quiet
         kept_over =
-            sym (kept_quiet w.machines ports end.marks (kept_on (nothing_kept w) 0 rs) more (length rs) end.state.ranks)
-            ∙ sym (kept_both (nothing_kept w) 0 (length rs) rs quiet (omega arith))
-            ∙ ap (λ (l : List LimitedRecord). kept_on (nothing_kept w) 0 l) (sym over.0)
-            ∙ sym part.kept
-            ∙ sym (kept_none (kept_in at) slots)
+            let same = over in
+            let still = kept_quiet w.machines ports end.marks (kept_on (nothing_kept w) 0 rs) more (length rs)
+            end.state.ranks in
+            let both = kept_both (nothing_kept w) 0 (length rs) rs quiet (omega arith) in
+            cc (kept_quiet w.machines ports end.marks (kept_in at) 0 slots end.state.ranks)
 
     -- ## The laws
 
     pub part_resumes : (whole : Kept) → IsWhole w ranks whole → IsResumed w at whole
     part_resumes whole is =
-        let rests-here = rests is.records is.end is.runs in
-        let kept_over-here = kept_over is.records is.end is.runs in
+        let over-here = rests is.records is.end is.runs in
         let rest-here = rest is.records is.end is.runs in
-        let kept_joined-here = kept_joined (drop slots is.records) in
-        search (arith, rules)
+        search (arith, rules, kept_joined (drop slots is.records), kept_over is.records is.end is.runs)
 
     pub part_is_run : (kept whole : Kept) → IsResumed w at kept → IsWhole w ranks whole → kept ≡ whole
     part_is_run kept whole resumed is =
         let other = part_resumes whole is in
-        let same =
-        one_on at.frozen.next there resumed.end other.end resumed.records other.records resumed.runs other.runs in
-        resumed.kept_is ∙ ap (λ (l : List LimitedRecord). kept_on (kept_in at) at.frozen.next l) same
-        ∙ sym other.kept_is
+        cc (one_on at.frozen.next there resumed.end other.end resumed.records other.records resumed.runs other.runs)
 
     -- a fault that is met later is met from there
-    module _ (fault : TagFault) (count : ℕ) (rs : List LimitedRecord)
-        (stops : StopBy StepOf FaultOf 0 (arriving_from w.came 0 count) start rs fault) where
-      few : length rs < count
-      few = grind (arith, common_steps, arriving_length, stop_length)
-
-      never_early : length rs < slots → ⊥
-      never_early lt =
-          let n = length rs + 1 in
-          let enough = few in
-          let long = arriving_length w.came 0 n in
-          let whole = arriving_parts w.came 0 n n (count - n) count (omega arith) (omega arith) in
-          let first : StopBy StepOf FaultOf 0 (arriving_from w.came 0 n) start rs fault =
-          search (arith, rules, stop_early) in
-          let cut = arriving_parts w.came 0 n n (slots - n) slots (omega arith) (omega arith) in
-          let among : StopBy StepOf FaultOf 0 (arriving_from w.came 0 slots) start rs fault =
-          search (arith, rules, stop_later) in
-          one.never_both 0 (arriving_from w.came 0 slots) start there part.records rs fault part.runs among
-
-      met_later : slots ≤ length rs → IsResumedFault w at fault
-      met_later le =
-          let enough = few in
-          let long = arriving_length w.came 0 slots in
-          let cut = arriving_parts w.came 0 slots slots (count - slots) count (omega arith) (omega arith) in
-          let p = stop_parts StepOf FaultOf 0 (arriving_from w.came 0 slots)
-          (arriving_from w.came slots (count - slots)) start rs fault
-          (subst (λ (l : List (List (Option Cell))). StopBy StepOf FaultOf 0 l start rs fault) (sym cut) stops)
-          (omega arith) in
-          let same = one.run 0 (arriving_from w.came 0 slots) start p.middle there
-          (take (length (arriving_from w.came 0 slots)) rs) part.records p.first part.runs in
-          search (arith, rules, begins)
-
     pub part_fault : (fault : TagFault) → IsWholeFault w ranks fault → IsResumedFault w at fault
-    part_fault fault is = grind (arith, common_steps, never_early, met_later, cases_lt)
+    part_fault fault is =
+        let it = stops_past 0 slots is.count at.frozen.next start there part.records is.records fault
+        (omega (arith, part.next)) part.runs is.stops in
+        record { count = it.0; records = it.1; stops = it.2 }
 
     pub part_fault_back : (fault : TagFault) → IsResumedFault w at fault → IsWholeFault w ranks fault
     part_fault_back fault is =
-        let here : StopBy StepOf FaultOf slots (arriving_from w.came slots is.count) there is.records fault =
-        search (arith, rules) in
-        record {
+        let cut = arriving_parts w.came 0 slots slots is.count (slots + is.count) (omega arith) refl in
+        let both = on.stop 0 (arriving_from w.came 0 slots) (arriving_from w.came slots is.count) start there
+        part.records is.records fault part.runs in
+        let here : IsWholeFault w ranks fault = record {
           count = slots + is.count;
-          records = part.records ++ is.records;
-          stops = subst (λ (l : List (List (Option Cell))). StopBy StepOf FaultOf 0 l start (part.records ++ is.records)
-              fault) (arriving_parts w.came 0 slots slots is.count (slots + is.count) (omega arith) refl)
-              (on.stop 0 (arriving_from w.came 0 slots) (arriving_from w.came slots is.count) start there part.records
-              is.records fault part.runs
-              (subst (λ (k : ℕ). StopBy StepOf FaultOf k (arriving_from w.came slots is.count) there is.records fault)
-              (sym begins) here));
-        }
+          records = part.records ++
+              is.records;
+          stops = search (arith, rules, begins);
+        } in here
 
 pub parts_join : PartsJoin
 parts_join = search (rules, part_is_run, part_resumes, part_fault, part_fault_back)

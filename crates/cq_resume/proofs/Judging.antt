@@ -1,52 +1,383 @@
--- What is named, by the names of a state and by those that were found, is the same. So the fourth clause and what is
--- left out, said of the one, are said of the other.
-use Rattle.std.proofs.lemmas.Grind.{common_steps}
-use Rattle.std.proofs.Common.{arith, rules, ◌≡◌, ◌<◌, ◌↔◌, ◌⊎◌, eqb, Bool, true, false, List, [], ◌∷◌, length, map, Option, None, Some, refl, ◌∙◌, inl, inr, ⊎_elim}
-use Rattle.std.specs.Prelude.{All, IsPermutation, ◌&&◌}
-use Rattle.std.specs.List.{AllByRecursion, AllZip, list_any}
-use Rattle.std.proofs.lemmas.List.Elements.{filter_agree}
-use Rattle.std.proofs.lemmas.List.Sorted.{list_any-IsPermutation}
-use Rattle.cq_base.specs.Arriving.{Arrival}
-use Rattle.cq_base.specs.declared.cell.Queued.{Queued}
-use Rattle.cq_resume.specs.Counted.{IsTally, is_refused, refused_arrivals}
-use Rattle.cq_resume.specs.Finding.{AreGone, AreFound, IsWholePacket, PacketsStand, TalliesUp, has_name, is_left_out, left_out, names_of}
-use Rattle.cq_resume.specs.Sound.{AllNamed, AreWholePackets, NoneNamed}
-use Rattle.cq_resume.specs.Switch.{HasLimit, Switch}
-use Rattle.cq_resume.specs.Told.{is_named, named_in, packet_before}
-use Rattle.cq_resume.specs.declared.found.Gone.{Gone}
-use Rattle.cq_resume.specs.declared.found.Name.{Name}
-use Rattle.cq_resume.specs.declared.packets.Tally.{Tally}
+-- What judging asks of each of its steps, and what it gives, of a state in range and of this shape, of which the cells
+-- were found. A name and its found cell have one input, one output and one key. So lists, buffers and departures stand
+-- in order by the one exactly where they do by the other, and so for levels and floors; the list of an input are the
+-- found cells of that input, so as many stand ahead of a cell there as cells of its input among all, and its cushion
+-- is counted among all buffered cells; and what is named is the same. Of any two names of one flow the one that
+-- arrived first leaves first. What a sound state comes to is said of found cells too. Where a step of judging fails it
+-- names the first clause that fails, since those before it are known; and a state is sound of which all are known.
+use Rattle.cq_resume.proofs.Terms.{common_steps, arith, rules, ◌≡◌, ◌<◌, ◌↔◌, ◌⊎◌, eqb, Bool, true, false, List, [], ◌∷◌, length, map, refl, ◌∙◌, ℕ, sym, ap, All, IsPermutation, ◌&&◌, filter, AllByRecursion, AllZip, list_any, enumerate_from, range_with_len, filter_agree, list_any-IsPermutation, sum_by-IsPermutation, Arrival, Queued, IsTally, figures_told, frozen_told, input_told, output_told, sent_told, taken_of, AreFound, IsWholePacket, PacketsStand, TalliesUp, has_name, names_of, IsFound, AllNamed, AreWholePackets, NoneNamed, HasLimit, Switch, is_named, named_in, packet_before, buffer_told, fabric_told, Gone, Name, Tally, State, length-filter, slots_of, departed, figures_at_input, Found, Taken, Seen, ◌++◌, get_or, ◌≤◌, AllPairs, cases_order, map-append, All-permutation, IsPermutation-sym, IsBefore, FlowsStand, IsGone, IsNameBefore, IsTold, InOneFlow, Leaves, LeavesEarlier, sent_name, waiting_name, IsFoundBefore, IsListedBefore, IsNoLaterInput, IsGoneBefore, IsTimely, StandsBelow, StandBelow, AreOrdered, AreArrivals, KeepArrivalOrder, OfOneFlow, AreBelowFloors, IsBelowFloor, StandInOrder, is_ahead, queued_in, output_of, Named, Sent, All-from_recursion, recursion_from_All, Transfer, machines_of, None, Some, inl, inr, ⊎_elim, ◌-◌, zero, suc, take, ◌+◌, filter_map, slice_get, cases_Bool, cases_eq, cases_lt, eq-eqb, eqb-true, get_or_past, map-id, get_or-map-range_with_len, length-map-range_with_len, is_for, buffer, cushion_of, input, SlackStands, cushion_in, thread_in, HaveSlack, list_told, queued_of, length-map, Scheduled, IsTraffic, AreCellsFor, AreNamesFor, HaveRoom, IsCellFor, IsFirstOfTwo, IsForPorts, Clause, IsFirstOf, IsFirstUnsound, IsSound, HasShape, switch_of, CanTakeUp, AreTables, classes_of, ports_of, Tables, machine_of, IsInRange, IsNamed, below_more, below_none, all_weaker, all_both, all_front, all_back, images_held, of_images}
+use Rattle.cq_resume.proofs.Zipped.{zip_by, same_mapped, IsOf, names_zip, told_is, told_facts, zip_both, zip_has, zip_mate, alls_alike, pairs_alike, all_alike, gone_for, told_for, Differ}
 use Rattle.cq_resume.proofs.Each.{all_same}
-use Rattle.cq_resume.proofs.Telling.{IsOf, its_input, its_slot, names_zip}
-use Rattle.cq_state.specs.declared.state.State.{State}
+use Rattle.cq_resume.proofs.Cut.{buffered_at, filter_both, listed_at}
+use Rattle.cq_resume.proofs.Chained.{each_pair, EachPair, all_pairs}
+use Rattle.cq_resume.proofs.Having.{Has, all_has, has_all, has_at, has_cases, has_image, has_left, has_right, image_has, pair_of_has, all_of_has}
+use Rattle.cq_resume.specs.Sound.{IsBufferedBefore, IsSentBefore}
+use Rattle.cq_resume.proofs.Pooled.{pairs_cross, pairs_right, has_there}
+use Rattle.cq_base.specs.declared.setup.Setup.{Setup}
+use Rattle.cq_resume.specs.declared.refusal.StateRefusal.{StateRefusal}
+use Rattle.cq_resume.specs.declared.refusal.StateRefusal.TheVariants as refusal
 
 any_zip : {A B : Type 0} (R : A → B → Type 0) (p : A → Bool) (q : B → Bool) →
     ((x : A) (y : B) → R x y → p x ≡ q y) → (xs : List A) (ys : List B) → AllZip R xs ys → list_any p xs ≡ list_any q ys
-any_zip R p q same [] [] zips = refl
-any_zip R p q same [] (y ∷ ys) zips = absurd zips
-any_zip R p q same (x ∷ xs) [] zips = absurd zips
-any_zip R p q same (x ∷ xs) (y ∷ ys) zips = grind (arith, common_steps, any_zip R p q same xs ys zips.1)
+any_zip R p q same = zip_by R (λ xs ys. list_any p xs ≡ list_any q ys) refl
+    (λ x y xs ys own zips rest. let here = same x y own in grind (arith, common_steps))
+
+-- so many of two lists that belong together, and of two in another order, pass a test
+passed_zip : {A B : Type 0} (R : A → B → Type 0) (p : A → Bool) (q : B → Bool) →
+    ((x : A) (y : B) → R x y → p x ≡ q y) → (xs : List A) (ys : List B) → AllZip R xs ys →
+    length (filter p xs) ≡ length (filter q ys)
+passed_zip R p q same = zip_by R (λ xs ys. length (filter p xs) ≡ length (filter q ys)) refl
+    (λ x y xs ys own zips rest. let here = same x y own in grind (arith, common_steps))
+
+passed_moved : {X : Type 0} (p : X → Bool) (xs ys : List X) → IsPermutation xs ys →
+    length (filter p xs) ≡ length (filter p ys)
+passed_moved p xs ys same = grind (arith, common_steps, length-filter, sum_by-IsPermutation)
 
 any_alike : {X : Type 0} (p q : X → Bool) → ((x : X) → p x ≡ q x) → (xs : List X) → list_any p xs ≡ list_any q xs
-any_alike p q same [] = refl
-any_alike p q same (x ∷ xs) = grind (arith, common_steps, any_alike p q same xs)
+any_alike {X} p q same xs = ap (λ (test : X → Bool). list_any test xs) (λ k x. same x k)
 
 module _ {X Y : Type 0} (f g : X → Y) where
   pub mapped_alike : ((x : X) → f x ≡ g x) → (xs : List X) → map f xs ≡ map g xs
-  mapped_alike same [] = refl
-  mapped_alike same (x ∷ xs) = grind (arith, common_steps, mapped_alike same xs)
+  mapped_alike same xs = ap (λ (h : X → Y). map h xs) (λ k x. same x k)
 
-module _ (w : Switch) (s : State) (listing buffering : List Queued) (sending : List Gone)
-    (first : AreFound w.came s.head.next s.listed listing) (second : AreFound w.came s.head.next s.buffered buffering)
-    (third : AreGone w.came s.head.next s.sent sending) (names : List Name)
-    (same : IsPermutation (names_of listing buffering sending) names) where
-  one_named : (a : Arrival) → is_named (named_in s) a ≡ has_name names a
+-- ## Names by input and slot
+
+-- of any two of these names the one that arrived first leaves first
+abbrev FlowsHold : List Name → Type 0
+FlowsHold names = (m n : Name) → Has names m → Has names n → IsNameBefore m n → LeavesEarlier m n
+
+flows_hold : (names : List Name) → AllPairs IsNameBefore names → FlowsStand names → FlowsHold names
+flows_hold names rising flows m n first second before =
+    let Both : Name → Name → Type 0 = λ a b. IsNameBefore a b × LeavesEarlier a b in
+    let both = each_pair Both names (λ i j d lt inside. (rising i j d lt inside, flows i j d lt inside)) in
+    let ways = pair_of_has Both names m n both first second in grind (arith, common_steps)
+
+has_moved : (xs ys : List Name) (m : Name) → IsPermutation ys xs → Has xs m → Has ys m
+has_moved xs ys m back has =
+    all_has (Has ys) xs m (All-permutation (Has ys) ys xs back (has_all (Has ys) ys (λ x own. own))) has
+
+pairs_of_images : {X Y : Type 0} (f : X → Y) (R : Y → Y → Type 0) (xs : List X) → EachPair R (map f xs) →
+    EachPair (λ a b. R (f a) (f b)) xs
+pairs_of_images f R [] pairs = tt
+pairs_of_images f R (x ∷ xs) pairs = (images_held f (R (f x)) xs pairs.0, pairs_of_images f R xs pairs.1)
+
+-- ## Two names and their cells
+
+module _ (came : List Arrival) (next : ℕ) (c d : Named) (q r : Queued) (first : IsTold came next c q)
+    (second : IsTold came next d r) where
+  pub same_ahead : (is_ahead c d ≡ true) ↔ IsBefore q r
+  same_ahead = grind (arith, common_steps, told_facts)
+
+  no_later : (c.input ≤ d.input) ↔ IsNoLaterInput q r
+  no_later = grind (arith, common_steps, told_facts)
+
+  listed : (c.input ≡ d.input → output_of came c ≡ output_of came d → is_ahead c d ≡ true) ↔ IsListedBefore q r
+  listed = grind (arith, common_steps, told_facts)
+
+  buffered : IsBufferedBefore came c d ↔ IsFoundBefore q r
+  buffered = grind (arith, common_steps, told_facts)
+
+sent : (came : List Arrival) (next : ℕ) (d e : Sent) (g h : Gone) → IsGone came next d g → IsGone came next e h →
+    IsSentBefore came d e ↔ IsGoneBefore g h
+sent came next d e g h first second = grind (arith, common_steps, told_facts)
+
+timely : (came : List Arrival) (next : ℕ) (d : Sent) (g : Gone) → IsGone came next d g →
+    ((d.cell.slot ≤ d.slot) × (d.slot < next)) ↔ IsTimely next g
+timely came next d g is = grind (arith, common_steps, told_facts)
+
+turn : {came : List Arrival} {c d : Named} → OfOneFlow came c d → OfOneFlow came d c
+turn one = record { input = sym one.input; output = sym one.output; class = sym one.class }
+
+-- ## Cells of one input among all
+
+module _ (i : ℕ) where
+  abbrev of_input : Queued → Bool
+  of_input q = eqb q.key.input i
+
+  -- where a cell that has so many of its input ahead stands among all
+  at_thread : (xs : List Queued) (thread : ℕ) (c : Queued) → slice_get (filter of_input xs) thread ≡ Some c →
+      (place : ℕ) × (slice_get xs place ≡ Some c) × (c.key.input ≡ i)
+      × (length (filter of_input (take place xs)) ≡ thread)
+  at_thread [] thread c is = absurd (let P : ⊥ = cc in P)
+  at_thread (x ∷ xs) thread c is = elim (cases_Bool (of_input x)) [
+    | inl own ↦ elim (cases_eq thread 0) [
+      | inl none ↦ (
+        0,
+        (grind (arith, common_steps)),
+        (grind (arith, common_steps, eqb-true)),
+        (grind (arith, common_steps)),
+      )
+      | inr some ↦
+          let more : suc (thread - 1) ≡ thread = omega arith in
+          let rest = at_thread xs (thread - 1) c (let at = rw (← more) at is in grind (arith, common_steps)) in
+          (suc rest.0, rest.1, rest.2, (grind (arith, common_steps)))
+    ]
+    | inr other ↦
+        let rest = at_thread xs thread c (grind (arith, common_steps)) in
+        (suc rest.0, rest.1, rest.2, (grind (arith, common_steps)))
+  ]
+
+  at_place : (xs : List Queued) (place : ℕ) (c : Queued) → slice_get xs place ≡ Some c → c.key.input ≡ i →
+      slice_get (filter of_input xs) (length (filter of_input (take place xs))) ≡ Some c
+  at_place [] place c is own = absurd (let P : ⊥ = cc in P)
+  at_place (x ∷ xs) zero c is own = grind (arith, common_steps, eq-eqb)
+  at_place (x ∷ xs) (suc place) c is own = grind (arith, common_steps, at_place xs place c)
+
+-- ## The fabric that is told of
+
+module _ (came : List Arrival) (next : ℕ) where
+  found_of_input : (i : ℕ) (names : List Named) (found : List Queued) → AreFound came next names found →
+      filter_map (queued_of came) (filter (λ c. eqb c.input i) names) ≡ filter (λ q. eqb q.key.input i) found
+  found_of_input i = zip_by (IsTold came next)
+      (λ names found. filter_map (queued_of came) (filter (λ c. eqb c.input i) names)
+      ≡ filter (λ q. eqb q.key.input i) found) refl
+      (λ c q names found told zips rest. grind (arith, common_steps, told_facts, told_is))
+
+  all_found : (names : List Named) (found : List Queued) → AreFound came next names found →
+      filter_map (queued_of came) names ≡ found
+  all_found names found zips = search (arith, rules, same_mapped (IsTold came next) (queued_of came), map-id found)
+
+-- ## Of the cells that were found
+
+module _ (w : Switch) (s : State) (f : Found) (found : IsFound w.came s f) where
+  abbrev Told : Named → Queued → Type 0
+  Told = IsTold w.came s.head.next
+
+  abbrev Left : Sent → Gone → Type 0
+  Left = IsGone w.came s.head.next
+
+  -- the lines stand in order where the found cells do
+  pub order_alike : StandInOrder w s ↔ AreOrdered f s.head.next s.moved
+  order_alike =
+      let next = s.head.next in
+      let lists = pairs_alike Told _ _ (no_later w.came next) s.listed f.listed.items found.listed in
+      let keys = pairs_alike Told _ _ (listed w.came next) s.listed f.listed.items found.listed in
+      let buffers = pairs_alike Told _ _ (buffered w.came next) s.buffered f.buffered.items found.buffered in
+      let sends = pairs_alike Left _ _ (sent w.came next) s.sent f.sent.items found.sent in
+      let times = alls_alike Left _ _ (timely w.came next) s.sent f.sent.items found.sent in
+      let early = λ (t : Transfer). t.slot < next in (
+        (λ stand. search (arith, rules, recursion_from_All)),
+        (λ is. let moved = All-from_recursion early s.moved is.4 in
+            let inputs = lists.1 is.0.inputs in
+            let in_keys = keys.1 is.0.keys in
+            let in_order = sends.1 is.2.ordered in
+            let in_time = times.1 is.2.timely in search (arith, rules)),
+      )
+
+  -- ## Floors
+
+  module _ (setup : Setup) (own : w.machines ≡ machines_of setup) where
+    below : (c : Named) (q : Queued) → Told c q → IsBelowFloor w s c ↔ StandsBelow setup s.ranks q
+    below c q is = grind (arith, common_steps, told_facts)
+
+    pub floors_alike : AreBelowFloors w s ↔ StandBelow setup s.ranks f
+    floors_alike =
+        let lists = all_alike Told _ _ below s.listed f.listed.items found.listed in
+        let buffers = all_alike Told _ _ below s.buffered f.buffered.items found.buffered in
+        search (arith, rules, recursion_from_All, all_front, all_back, All-from_recursion, all_both)
+
+  -- ## Flows
+
+  abbrev waiting : List Queued
+  waiting = f.listed.items ++ f.buffered.items
+
+  abbrev told : List Name
+  told = names_of f.listed.items f.buffered.items f.sent.items
+
+  back : IsPermutation f.names.items told
+  back = IsPermutation-sym told f.names.items found.same
+
+  zips : AllZip Told (queued_in s) waiting
+  zips = zip_both Told s.listed f.listed.items s.buffered f.buffered.items found.listed found.buffered
+
+  -- by what name of the state a name was found: one that waits, or that of a departure
+  record Entry (m : Name) : Type 0 where
+    name : Named
+    told_by : Told name m.queued
+    stands : (Has (queued_in s) name × (m.sent ≡ None))
+        ⊎ ((d : Sent) × Has s.sent d × (d.cell ≡ name) × (m.sent ≡ Some d.slot))
+
+  told_cases : (m : Name) → Has told m →
+      ((q : Queued) × Has waiting q × (waiting_name q ≡ m)) ⊎ ((g : Gone) × Has f.sent.items g × (sent_name g ≡ m))
+  told_cases m has = grind (arith, common_steps, image_has, has_left, has_right, has_cases)
+
+  entry : (m : Name) → Has f.names.items m → Entry m
+  entry m has = ⊎_elim (λ it.
+      let by = zip_has Told (queued_in s) waiting zips it.0 it.1 in
+      record { name = by.0; told_by = rw (← it.2) by.2; stands = inl (by.1, rw (← it.2) refl) }) (λ it.
+      let by = zip_has Left s.sent f.sent.items found.sent it.0 it.1 in record {
+        name = by.0.cell;
+        told_by = rw (← it.2) by.2.1;
+        stands = inr (by.0, by.1, refl, rw (← it.2) (ap (λ (k : ℕ). Some k) by.2.0));
+      }) (told_cases m (has_moved f.names.items told m found.same has))
+
+  waits : (c : Named) → Has (queued_in s) c →
+      (m : Name) × Has f.names.items m × Told c m.queued × (m.sent ≡ None)
+  waits c has =
+      let by = zip_mate Told (queued_in s) waiting zips c has in
+      let among = rw (map-append waiting_name f.listed.items f.buffered.items) at
+      (has_image waiting_name waiting by.0 by.1) in
+      let here = has_left _ (map sent_name f.sent.items) (waiting_name by.0) among in
+      (waiting_name by.0, has_moved told f.names.items (waiting_name by.0) back here, by.2, refl)
+
+  left : (d : Sent) → Has s.sent d → (m : Name) × Has f.names.items m × Told d.cell m.queued × (m.sent ≡ Some d.slot)
+  left d has =
+      let by = zip_mate Left s.sent f.sent.items found.sent d has in
+      let here = has_right (map waiting_name f.listed.items ++ map waiting_name f.buffered.items)
+      (map sent_name f.sent.items) (sent_name by.0) (has_image sent_name f.sent.items by.0 by.1) in (
+        sent_name by.0,
+        has_moved told f.names.items (sent_name by.0) back here,
+        by.2.1,
+        ap (λ (k : ℕ). Some k)
+            by.2.0,
+      )
+
+  module _ (c d : Named) (m n : Name) (first : Told c m.queued) (second : Told d n.queued) where
+    of_one : OfOneFlow w.came c d ↔ InOneFlow m n
+    of_one = grind (arith, common_steps, told_facts)
+
+    earlier : c.input ≡ d.input → ((c.slot < d.slot) ↔ IsNameBefore m n)
+    earlier same = grind (arith, common_steps, told_facts)
+
+    leave : FlowsHold f.names.items → Has f.names.items m → Has f.names.items n → OfOneFlow w.came c d →
+        c.slot < d.slot → Leaves m.queued n.queued m.sent n.sent
+    leave hold at to one less = hold m n at to ((earlier one.input).0 less) (of_one.0 one)
+
+  abbrev Behind : Sent → Named → Type 0
+  Behind d c = OfOneFlow w.came d.cell c → d.cell.slot < c.slot
+
+  abbrev BehindAll : Sent → Type 0
+  BehindAll d = All (Behind d) (queued_in s)
+
+  abbrev InTurn : Named → Named → Type 0
+  InTurn a b = OfOneFlow w.came a b → a.slot < b.slot → is_ahead a b ≡ true
+
+  abbrev InTurnAll : Named → Type 0
+  InTurnAll a = All (InTurn a) (queued_in s)
+
+  module _ (arrivals : AreArrivals w.came s) (stand : StandInOrder w s) where
+    differ : EachPair Differ (named_in s)
+    differ = each_pair Differ (named_in s) arrivals.once
+
+    sent_differ : AllPairs (λ (d e : Sent). Differ d.cell e.cell) s.sent
+    sent_differ = all_pairs (λ (d e : Sent). Differ d.cell e.cell) s.sent
+        (pairs_of_images (λ (d : Sent). d.cell) Differ s.sent (pairs_right Differ (queued_in s) _ differ))
+
+    flows_keep : FlowsHold f.names.items → KeepArrivalOrder w s
+    flows_keep hold = record {
+      sent = λ i j e lt inside one.
+          let a = left (get_or s.sent i e) (has_at s.sent i e (omega arith)) in
+          let b = left (get_or s.sent j e) (has_at s.sent j e inside) in
+          let order = stand.sent i j e lt inside in
+          let other = sent_differ i j e lt inside in
+          let turned = leave _ _ b.0 a.0 b.2 a.2 hold b.1 a.1 (turn one) in
+          grind (arith, common_steps, cases_order);
+      after = has_all BehindAll s.sent (λ d gone. has_all (Behind d) (queued_in s) (λ c has one.
+          let a = waits c has in
+          let b = left d gone in
+          let other = pairs_cross Differ (queued_in s) _ c d.cell differ has
+          (has_image (λ (x : Sent). x.cell) s.sent d gone) in
+          let turned = leave _ _ a.0 b.0 a.2 b.2 hold a.1 b.1 (turn one) in
+          grind (arith, common_steps, cases_order)));
+      queued = has_all InTurnAll (queued_in s) (λ c first. has_all (InTurn c) (queued_in s) (λ d second one less.
+          let a = waits c first in
+          let b = waits d second in
+          (same_ahead w.came s.head.next c d a.0.queued b.0.queued a.2 b.2).1
+          (rw (a.3, b.3) at (leave c d a.0 b.0 a.2 b.2 hold a.1 b.1 one less))));
+    }
+
+    keep_flows : KeepArrivalOrder w s → FlowsHold f.names.items
+    keep_flows keep m n first second before one =
+        let a = entry m first in
+        let b = entry n second in
+        let flow = (of_one a.name b.name m n a.told_by b.told_by).1 one in
+        let less = (earlier a.name b.name m n a.told_by b.told_by flow.input).1 before in
+        let before_it = (same_ahead w.came s.head.next a.name b.name m.queued n.queued a.told_by b.told_by).0 in
+        let Both : Sent → Sent → Type 0 = λ d e. IsSentBefore w.came d e
+        × (OfOneFlow w.came d.cell e.cell → d.cell.slot < e.cell.slot) in
+        let both = each_pair Both s.sent (λ i j d lt inside. (stand.sent i j d lt inside, keep.sent i j d lt inside)) in
+        elim a.stands [
+          | inl p ↦ elim b.stands [
+            | inl q ↦ rw (p.1, q.1) (before_it (all_has (InTurn a.name) (queued_in s) b.name
+                (all_has InTurnAll (queued_in s) a.name keep.queued p.0) q.0 flow less))
+            | inr q ↦
+                let turned = all_has (Behind q.0) (queued_in s) a.name (all_has BehindAll s.sent q.0 keep.after
+                q.1) p.0 (rw q.2 (turn flow)) in
+                let other : b.name.slot < a.name.slot = rw (← q.2) turned in absurd (omega (arith, less))
+          ]
+          | inr p ↦ elim b.stands [
+            | inl q ↦ rw (p.3, q.1) tt
+            | inr q ↦
+                let ways = pair_of_has Both s.sent p.0 q.0 both p.1 q.1 in
+                let same = p.2 in
+                let same_too = q.2 in rw (p.3, q.3) (grind (arith, common_steps))
+          ]
+        ]
+
+    -- the fifth clause, by the names that were found
+    pub flows_alike : KeepArrivalOrder w s ↔ FlowsStand f.names.items
+    flows_alike = (
+      (λ keep i j d lt inside. keep_flows keep (get_or f.names.items i d) (get_or f.names.items j d)
+          (has_at f.names.items i d (omega arith)) (has_at f.names.items j d inside)
+          (found.ordered i j d lt inside)),
+      (λ flows. flows_keep (flows_hold f.names.items found.ordered flows)),
+    )
+
+  -- ## Slack
+
+  pub list_is : (i : ℕ) → list_told w.came s i ≡ filter (of_input i) f.listed.items
+  list_is i = found_of_input w.came s.head.next i s.listed f.listed.items found.listed
+
+  pub buffer_is : (j : ℕ) → buffer_told w.came s j ≡ filter (is_for j) f.buffered.items
+  buffer_is j = grind (arith, common_steps, all_found)
+
+  pub input_is : (i : ℕ) → i < s.head.ports → input (fabric_told w.came s) i ≡ filter (of_input i) f.listed.items
+  unfolding fabric_told
+  input_is i inside = grind (arith, common_steps, get_or-map-range_with_len, list_is)
+
+  no_input : (i : ℕ) → s.head.ports ≤ i → input (fabric_told w.came s) i ≡ []
+  unfolding fabric_told
+  no_input i past = grind (arith, common_steps, length-map-range_with_len, get_or_past)
+
+  pub buffer_there : (j : ℕ) → j < s.head.ports → buffer (fabric_told w.came s) j ≡ filter (is_for j) f.buffered.items
+  unfolding fabric_told
+  buffer_there j inside = grind (arith, common_steps, get_or-map-range_with_len, buffer_is)
+
+  cushion_is : (c : Queued) → c.cell.output < s.head.ports →
+      cushion_of (fabric_told w.came s) c ≡ length (cushion_in f.buffered.items c)
+  cushion_is c inside = grind (arith, common_steps, buffer_there, filter_both)
+
+  module _ (inputs : AllByRecursion (λ q. q.key.input < s.head.ports) f.listed.items)
+      (outputs : AllByRecursion (λ q. q.cell.output < s.head.ports) f.listed.items) where
+    slack_found : HaveSlack w s → SlackStands f.listed.items f.buffered.items
+    slack_found have place t is =
+        let has = has_there f.listed.items place t is in
+        let low = all_of_has (λ (q : Queued). q.key.input < s.head.ports) f.listed.items t inputs has in
+        let to = all_of_has (λ (q : Queued). q.cell.output < s.head.ports) f.listed.items t outputs has in
+        let there = at_place t.key.input f.listed.items place t is refl in
+        let enough = have t.key.input (length (thread_in f.listed.items place t.key.input)) t in
+        grind (arith, common_steps, input_is, cushion_is)
+
+    slack_clause : SlackStands f.listed.items f.buffered.items → HaveSlack w s
+    slack_clause stands i thread c is = ⊎_elim (λ inside.
+        let it = at_thread i f.listed.items thread c (grind (arith, common_steps, input_is)) in
+        let has = has_there f.listed.items it.0 c it.1 in
+        let to = all_of_has (λ (q : Queued). q.cell.output < s.head.ports) f.listed.items c outputs has in
+        search (arith, rules, stands it.0 c it.1, cushion_is)) (λ past. search (arith, rules, no_input))
+        (cases_lt i s.head.ports)
+
+    pub slack_alike : HaveSlack w s ↔ SlackStands f.listed.items f.buffered.items
+    slack_alike = (slack_found, slack_clause)
+
+  -- ## Names
+
+  named_zips : AllZip (IsOf w.came s.head.next) (named_in s) (names_of f.listed.items f.buffered.items f.sent.items)
+  named_zips = names_zip w.came s f.listed.items f.buffered.items f.sent.items found.listed found.buffered found.sent
+
+  one_named : (a : Arrival) → is_named (named_in s) a ≡ has_name f.names.items a
   one_named a = any_zip (IsOf w.came s.head.next) (λ c. eqb c.slot a.slot && eqb c.input a.cell.id.input)
-      (λ n. eqb n.queued.key.slot a.slot && eqb n.queued.key.input a.cell.id.input)
-      (λ c n is. search (arith, rules, its_slot, its_input)) (named_in s) (names_of listing buffering sending)
-      (names_zip w.came s listing buffering sending first second third)
-      ∙ list_any-IsPermutation (λ (n : Name). eqb n.queued.key.slot a.slot && eqb n.queued.key.input a.cell.id.input)
-      (names_of listing buffering sending) names same
+      (λ n. eqb n.queued.key.slot a.slot && eqb n.queued.key.input a.cell.id.input) (λ c n is. search (arith, rules))
+      (named_in s) _ named_zips ∙ list_any-IsPermutation _ _ f.names.items found.same
 
   -- ## Whole packets
 
@@ -56,35 +387,210 @@ module _ (w : Switch) (s : State) (listing buffering : List Queued) (sending : L
       ⊎ (NoneNamed s (packet_before w.came s.head.next a) × HasLimit w.limits a.cell.output)
 
   abbrev ByNames : Arrival → Type 0
-  ByNames a = a.cell.id.index ≡ 0 → a.slot < s.head.next → IsWholePacket w.limits s.head.next w.came names a
+  ByNames a = a.cell.id.index ≡ 0 → a.slot < s.head.next → IsWholePacket w.limits s.head.next w.came f.names.items a
 
   alike : (t : Bool) (xs : List Arrival) →
-      All (λ b. is_named (named_in s) b ≡ t) xs ↔ AllByRecursion (λ b. has_name names b ≡ t) xs
+      All (λ b. is_named (named_in s) b ≡ t) xs ↔ AllByRecursion (λ b. has_name f.names.items b ≡ t) xs
   alike t xs = search (rules, all_same, one_named)
 
-  pub packets_alike : AreWholePackets w s ↔ PacketsStand w.limits s.head.next w.came names
-  packets_alike = all_same ByState ByNames whole w.came
-    where
-      whole : (a : Arrival) → ByState a ↔ ByNames a
-      whole a =
-          let packet = packet_before w.came s.head.next a in
-          let all = alike true packet in
-          let none = alike false packet in (
-            (λ by begins early.
-                ⊎_elim (λ named. inl (all.0 named)) (λ out. inr (none.0 out.0, out.1)) (by begins early)),
-            (λ by begins early.
-                ⊎_elim (λ named. inl (all.1 named)) (λ out. inr (none.1 out.0, out.1)) (by begins early)),
-          )
+  pub packets_alike : AreWholePackets w s ↔ PacketsStand w.limits s.head.next w.came f.names.items
+  packets_alike = all_same ByState ByNames (λ a.
+      let all = alike true (packet_before w.came s.head.next a) in
+      let none = alike false (packet_before w.came s.head.next a) in (
+        (λ by begins early. let ways = by begins early in search (arith, rules)),
+        (λ by begins early. let ways = by begins early in search (arith, rules)),
+      )) w.came
 
   -- ## What is left out
 
-  same_mark : (o : Option Arrival) → is_left_out names s.head.next w.came o ≡ is_refused w.came s o
-  same_mark None = refl
-  same_mark (Some a) = grind (arith, common_steps, any_alike, one_named)
-
-  left_alike : left_out s.head.next w.came names ≡ refused_arrivals w.came s
-  left_alike = grind (arith, common_steps, filter_agree, one_named)
-
-  pub tally_is : (x : Tally) → length w.limits ≡ s.head.ports → TalliesUp w.limits s.head.next w.came names x →
+  pub tally_is : (x : Tally) → length w.limits ≡ s.head.ports → TalliesUp w.limits s.head.next w.came f.names.items x →
       IsTally w s x
-  tally_is x many up = grind (arith, common_steps, mapped_alike, same_mark, left_alike)
+  tally_is x many up = search (arith, rules, mapped_alike, any_alike, one_named, filter_agree)
+
+  -- ## Figures
+
+  pub sent_is : sent_told w.came s ≡ map departed f.sent.items
+  sent_is = search (arith, rules, same_mapped, told_is)
+
+  figures_are : (i : ℕ) (x : Seen) → figures_at_input f.names.items i x ≡ input_told s i x
+  figures_are i x =
+      let passed = passed_zip (IsOf w.came s.head.next) (λ c. eqb c.input i) (λ n. eqb n.queued.key.input i)
+      (λ c n is. search (arith, rules)) (named_in s) _ named_zips in
+      let moved = passed_moved (λ (n : Name). eqb n.queued.key.input i) _ f.names.items found.same in
+      grind (arith, common_steps)
+
+  lists_are : map (listed_at f.listed.items) (range_with_len 0 s.head.ports) ≡ (fabric_told w.came s).inputs
+  unfolding fabric_told
+  lists_are = grind (arith, common_steps, mapped_alike, listed_at, list_is)
+
+  buffers_are : map (buffered_at f.buffered.items) (range_with_len 0 s.head.ports) ≡ (fabric_told w.came s).buffers
+  unfolding fabric_told
+  buffers_are = sym (mapped_alike (buffer_told w.came s) (buffered_at f.buffered.items) buffer_is _)
+
+  -- what is taken up is what the state comes to, part by part
+  pub taken_is : (x : Tally) (t : Taken) → IsTally w s x → t.frozen.next ≡ s.head.next →
+      t.frozen.figures.slots ≡ slots_of (map departed f.sent.items) →
+      t.frozen.figures.proposals ≡ s.head.proposals → t.frozen.figures.most ≡ s.head.most →
+      t.frozen.figures.inputs ≡ map (λ at. figures_at_input f.names.items at.0 at.1) (enumerate_from 0 s.inputs) →
+      t.frozen.figures.outputs ≡ map (output_told (map departed f.sent.items)) (range_with_len 0 s.head.ports) →
+      t.frozen.refused ≡ x.refused → t.frozen.marks ≡ x.marks → t.frozen.ranks ≡ s.ranks →
+      t.frozen.lists ≡ map (listed_at f.listed.items) (range_with_len 0 s.head.ports) →
+      t.frozen.buffers ≡ map (buffered_at f.buffered.items) (range_with_len 0 s.head.ports) →
+      t.sent ≡ map departed f.sent.items → t.note ≡ s.moved → t ≡ taken_of w s
+  unfolding frozen_told figures_told
+  taken_is x t tally next slots proposals most inputs outputs refused marks ranks lists buffers sent note =
+      let all_slots = slots ∙ ap slots_of (sym sent_is) in
+      let all_inputs = mapped_alike (λ (at : ℕ × Seen). figures_at_input f.names.items at.0 at.1)
+      (λ (at : ℕ × Seen). input_told s at.0 at.1) (λ at. figures_are at.0 at.1) (enumerate_from 0 s.inputs) in
+      search (arith, rules, sent_is, lists_are, buffers_are)
+
+-- ## The inputs that are named
+
+pub inputs_low : (s : State) → IsInRange s → IsForPorts s.head.ports s
+inputs_low s range =
+    let sent = of_images (λ (d : Sent). d.cell) (λ (c : Named). c.input < s.head.ports) s.sent in
+    grind (arith, common_steps, all_weaker, all_both, sent, s.listed)
+
+-- what is tested and fails does not hold
+pub denied : {P : Type 0} {b : Bool} → (b ≡ true) ↔ P → b ≡ false → P → ⊥
+denied test fails holds = grind (arith, common_steps)
+
+-- ## One clause after another
+
+module _ (w : Switch) (s : State) where
+  -- the clauses before this one are known
+  abbrev pub Before : ℕ → Type 0
+  Before n = (k : ℕ) → k < n → Clause w s k
+
+  module _ (n : ℕ) (before : Before n) where
+    pub first_fails : (Clause w s n → ⊥) → IsFirstUnsound w s n
+    first_fails fails = record { before = before; fails = fails }
+
+    pub one_more : Clause w s n → Before (n + 1)
+    one_more holds = below_more (Clause w s) n before holds
+
+  module _ (n : ℕ) (before : Before n) (P Q : Type 0) (first : Clause w s n ↔ P) (second : Clause w s (n + 1) ↔ Q) where
+    pub two_more : P × Q → Before (n + 1 + 1)
+    two_more both = one_more (n + 1) (one_more n before (first.1 both.0)) (second.1 both.1)
+
+    pub two_refused : (r : StateRefusal) → IsFirstOfTwo n P Q r → IsFirstOf w s r
+    two_refused r why = grind (arith, common_steps, first_fails, one_more)
+
+-- ## The found cells
+
+-- what is known once the cells of a state were found
+pub record Known (t : Tables) (c : Scheduled) (s : State) (f : Found) : Type 0 where
+  pub tables : AreTables t
+  pub traffic : IsTraffic (ports_of t.setup) (classes_of t.setup) c.came
+  pub range : IsInRange s
+  pub shape : HasShape (switch_of t c) s
+  pub found : IsFound c.came s f
+  pub arrivals : AreArrivals c.came s
+
+module _ (t : Tables) (c : Scheduled) (s : State) (f : Found) (k : Known t c s f) where
+  -- as many ports as disciplines, and as many classes as rows
+  pub ports_are : s.head.ports ≡ ports_of t.setup
+  ports_are = k.shape.head.ports ∙ length-map t.setup.kinds (λ kind. machine_of kind t.setup.classes)
+
+  pub few_ports : ports_of t.setup ≤ 64
+  few_ports = let most = k.tables.setup.ports in omega arith
+
+  pub cells_for : AreCellsFor t.setup f
+  cells_for =
+      let told = told_for (ports_of t.setup) (classes_of t.setup) c.came k.traffic s.head.next in
+      (told s.listed f.listed.items k.found.listed, told s.buffered f.buffered.items k.found.buffered)
+
+  sent_for : AllByRecursion (λ g. IsCellFor t.setup g.queued) f.sent.items
+  sent_for =
+      gone_for (ports_of t.setup) (classes_of t.setup) c.came k.traffic s.head.next s.sent f.sent.items k.found.sent
+
+  -- a switch has 64 ports at most
+  pub outputs_low : AllByRecursion (λ q. q.cell.output < 64) f.listed.items
+  outputs_low = search (arith, rules, all_weaker (IsCellFor t.setup), few_ports, cells_for)
+
+  -- ## In order
+
+  pub order_is : StandInOrder (switch_of t c) s ↔ AreOrdered f s.head.next s.moved
+  order_is = order_alike (switch_of t c) s f k.found
+
+  -- what goes on needs of it
+  pub can_take_up : AreOrdered f s.head.next s.moved → CanTakeUp s f
+  can_take_up is = grind (arith, common_steps, ports_are, all_weaker, sent_for)
+
+  -- ## Slack
+
+  pub inputs_of_list : AllByRecursion (λ q. q.key.input < s.head.ports) f.listed.items
+  inputs_of_list =
+      let low = all_weaker (IsNamed s.head.ports) (λ (n : Named). n.input < s.head.ports) (λ n is. is.input) s.listed
+      k.range.listed in
+      search (arith, rules, all_alike (IsTold c.came s.head.next) (λ (n : Named). n.input < s.head.ports), told_facts)
+
+  outputs_inside : AllByRecursion (λ q. q.cell.output < s.head.ports) f.listed.items
+  outputs_inside = search (arith, rules, all_weaker (IsCellFor t.setup), ports_are, cells_for)
+
+  pub slack_is : HaveSlack (switch_of t c) s ↔ HaveRoom f
+  slack_is = search (rules, slack_alike, inputs_of_list, outputs_inside)
+
+  -- ## Packets
+
+  pub packets_is : AreWholePackets (switch_of t c) s ↔ PacketsStand t.limits s.head.next c.came f.names.items
+  packets_is = search (rules, packets_alike)
+
+  pub tally_from : (x : Tally) → TalliesUp t.limits s.head.next c.came f.names.items x → IsTally (switch_of t c) s x
+  tally_from x up = search (rules, tally_is, ports_are)
+
+  -- ## Flows
+
+  abbrev IsNameFor : Name → Type 0
+  IsNameFor n = IsCellFor t.setup n.queued
+
+  -- the output and the class of each name are in range
+  pub names_for : AreNamesFor t.setup f
+  names_for =
+      let most = k.tables.setup.classes in
+      let waiting = of_images waiting_name IsNameFor f.listed.items cells_for.0 in
+      let crossed = of_images waiting_name IsNameFor f.buffered.items cells_for.1 in
+      let gone = of_images sent_name IsNameFor f.sent.items sent_for in
+      let all : AllByRecursion IsNameFor (names_of f.listed.items f.buffered.items f.sent.items) =
+      search (arith, rules, all_both) in
+      let names = All-permutation IsNameFor _ f.names.items k.found.same (All-from_recursion IsNameFor _ all) in
+      search (arith, rules, all_weaker IsNameFor, recursion_from_All IsNameFor f.names.items)
+
+  pub flows_is : AreOrdered f s.head.next s.moved → KeepArrivalOrder (switch_of t c) s ↔ FlowsStand f.names.items
+  flows_is is = flows_alike (switch_of t c) s f k.found k.arrivals (order_is.1 is)
+
+  -- ## Floors
+
+  pub floors_is : AreBelowFloors (switch_of t c) s ↔ StandBelow t.setup s.ranks f
+  floors_is = floors_alike (switch_of t c) s f k.found t.setup refl
+
+  -- ## Clause by clause
+
+  arrivals_known : Before (switch_of t c) s 2
+  arrivals_known = grind (arith, common_steps, one_more, below_none)
+
+  pub stand_refused : (r : StateRefusal) → IsFirstOfTwo 2 (AreOrdered f s.head.next s.moved) (HaveRoom f) r →
+      IsFirstOf (switch_of t c) s r
+  stand_refused = two_refused (switch_of t c) s 2 arrivals_known _ _ order_is slack_is
+
+  module _ (stand : AreOrdered f s.head.next s.moved × HaveRoom f) where
+    order_known : Before (switch_of t c) s 4
+    order_known = two_more (switch_of t c) s 2 arrivals_known _ _ order_is slack_is stand
+
+    pub packets_refused : (PacketsStand t.limits s.head.next c.came f.names.items → ⊥) →
+        IsFirstUnsound (switch_of t c) s 4
+    packets_refused fails = grind (arith, common_steps, first_fails, order_known, packets_is)
+
+    module _ (packets : PacketsStand t.limits s.head.next c.came f.names.items) where
+      packets_known : Before (switch_of t c) s 5
+      packets_known = one_more (switch_of t c) s 4 order_known (packets_is.1 packets)
+
+      pub leave_refused : (r : StateRefusal) →
+          IsFirstOfTwo 5 (FlowsStand f.names.items) (StandBelow t.setup s.ranks f) r → IsFirstOf (switch_of t c) s r
+      leave_refused = search (rules, two_refused, packets_known, flows_is, floors_is)
+
+      pub is_sound : FlowsStand f.names.items × StandBelow t.setup s.ranks f → IsSound (switch_of t c) s
+      is_sound leave =
+          let all = two_more (switch_of t c) s 5 packets_known _ _ (flows_is stand.0)
+          floors_is leave in
+          search (arith, rules, all 2, all 3, all 4, all 5, all 6)

@@ -1,46 +1,76 @@
 -- Items that stand by input, and at each input in lanes. Each is compared with the last one of its lane at its input.
 -- Where the relation goes on from one to the next, that decides it for each and each later one of one lane: of the
--- earlier items of the lane none stands behind the last one, and those ahead of it stand before it.
-use Rattle.std.proofs.lemmas.Grind.{common_steps}
-use Rattle.std.proofs.Common.{rules, ◌≡◌, ℕ, ◌+◌, ◌-◌, ◌<◌, ◌≤◌, ◌⊎◌, ◌↔◌, Bool, true, false, List, length, map, get_or, set, replicate, Option, None, Some, refl, sym, ap, ◌∙◌, subst, inl, inr, ⊎_elim, arith}
-use Rattle.std.specs.Prelude.{IfSome}
-use Rattle.std.specs.List.{AllPairs}
-use Rattle.std.proofs.lemmas.Bool.{cases_eq, cases_lt}
-use Rattle.std.proofs.lemmas.List.{get_or-replicate, get_or-set_other, get_or-set_same, get_or_default, get_or_past, length-replicate, length-set}
-use Rattle.cq_resume.specs.Finding.{begins_at}
-use Rattle.cq_resume.proofs.Begun.{begins_not, begins_says}
-use Rattle.cq_resume.proofs.Chained.{PairsBelow}
+-- earlier items of the lane none stands behind the last one, and those ahead of it stand before it. Where an input
+-- begins: at a place behind the first one whose item is of a later input than the one before it. The orders in which
+-- the lines of a state stand go on from one to the next: those of lists, of buffers, of departures, of transfers and
+-- of names, and the one in which the cells of a flow leave. One name more of those that stand by input and then by
+-- slot. It is compared with the last one of its flow, for which a place is kept. And how many cells stand ahead of
+-- each in its input's list, counted on from one cell to the next. Where an input begins, none stands ahead, since the
+-- cells before it are of earlier inputs.
+use Rattle.cq_resume.proofs.Terms.{common_steps, rules, ◌≡◌, ◌≢◌, ℕ, ◌+◌, ◌-◌, ◌<◌, ◌≤◌, ◌⊎◌, ◌↔◌, Bool, true, false, List, length, map, get_or, set, replicate, Option, None, Some, refl, sym, ◌∙◌, inl, inr, arith, ltb, ◌*◌, IfSome, ◌&&◌, AllPairs, AllByRecursion, cases_eq, cases_lt, and_from, and_parts, lt-ltb, ltb-true, get_or-replicate, get_or-set_other, get_or-set_same, get_or_default, get_or_past, length-replicate, length-set, get_or-map, get_or_read, begins_at, FlowsStand, InOneFlow, IsNameBefore, IsNoLaterInput, Leaves, IsBefore, Queued, Name, eqb, take, length-append, length-take, slice_get, ne_eqb, get_or-take, input, SlackStands, cushion_in, thread_in, filter_more, get_or_from_slice_get, slice_get-get_or, slice_get_within, few_kept}
+use Rattle.cq_resume.proofs.Chained.{PairsBelow, all_pairs, each_pair}
+use Rattle.cq_base.proofs.Keys.{key_laws}
+use Rattle.cq_resume.proofs.Each.{all_each}
+use Rattle.cq_resume.proofs.Cut.{none_kept}
+
+module _ {X : Type 0} (input : X → ℕ) (xs : List X) (n : ℕ) (d : X) (inside : n < length xs) where
+  begins_test : begins_at (map input xs) n ≡ (ltb 0 n && ltb (input (get_or xs (n - 1) d)) (input (get_or xs n d)))
+  begins_test =
+      let before = get_or-map input xs (n - 1) d 0 (omega arith) in
+      let here = get_or-map input xs n d 0 inside in
+      grind (arith, common_steps)
+
+  begins_says : begins_at (map input xs) n ≡ true → (0 < n) × (input (get_or xs (n - 1) d) < input (get_or xs n d))
+  begins_says is = grind (arith, common_steps, and_parts, begins_test, ltb-true)
+
+  -- where none begins the one before it is of its input
+  same_there : AllPairs (λ a b. input a ≤ input b) xs → begins_at (map input xs) n ≡ false →
+      input (get_or xs (n - 1) d) ≡ input (get_or xs n d)
+  same_there rising is =
+      let first : n ≡ 0 → n - 1 ≡ n = λ e. omega arith in
+      let le = rising (n - 1) n d in
+      grind (arith, common_steps, begins_test, and_from, lt-ltb, cases_eq n 0, cases_lt (input (get_or xs (n - 1) d)))
+
+  -- what was kept for the input of the one before it, or is begun with where another input begins, is for its input
+  pub known_here : {Y : Type 0} (P : ℕ → Y → Type 0) (none last now : Y) (begun : Bool) →
+      ((e : X) → P (input (get_or xs (n - 1) e)) last) →
+      ((at : ℕ) → ((k : ℕ) (e : X) → k < n → input (get_or xs k e) ≢ at) → P at none) →
+      AllPairs (λ a b. input a ≤ input b) xs → begun ≡ begins_at (map input xs) n →
+      ((begun ≡ true) × (now ≡ none)) ⊎ ((begun ≡ false) × (now ≡ last)) → P (input (get_or xs n d)) now
+  known_here P none last now begun known fresh rising is (inl begins) =
+      let says = begins_says (sym is ∙ begins.0) in
+      rw begins.1 (fresh (input (get_or xs n d)) (λ k e lt own.
+      let le = rising k (n - 1) e in
+      let there = get_or_default xs (n - 1) e d in grind (arith, common_steps, cases_eq k (n - 1))))
+  known_here P none last now begun known fresh rising is (inr goes) =
+      rw (goes.1, ← same_there rising (sym is ∙ goes.0)) (known d)
 
 module _ {X : Type 0} (input lane : X → ℕ) (R : X → X → Type 0) where
   -- it holds of two items of one lane
   abbrev pub InLane : X → X → Type 0
   InLane a b = input a ≡ input b → lane a ≡ lane b → R a b
 
-  -- of the items below a place this is the last one of a lane at an input
-  pub record IsLast (xs : List X) (n at l : ℕ) (y : X) : Type 0 where
+  -- one of the items below a place, of a lane at an input
+  pub record IsThere (xs : List X) (n at l : ℕ) (y : X) : Type 0 where
     pub place : ℕ
     pub below : place < n
     pub stands : (d : X) → get_or xs place d ≡ y
     pub own : input y ≡ at
     pub in_lane : lane y ≡ l
-    pub latest : (k : ℕ) (d : X) → place < k → k < n → input (get_or xs k d) ≡ at → lane (get_or xs k d) ≡ l → ⊥
 
-  -- and these are the last ones of all lanes
+  -- these are the last ones of all lanes: each item is the last one of its lane, or stands before it
   pub record AreLast (xs : List X) (n at : ℕ) (last : List (Option X)) : Type 0 where
-    pub some : (l : ℕ) (y : X) → get_or last l None ≡ Some y → IsLast xs n at l y
-    pub none : (l : ℕ) → l < length last → get_or last l None ≡ None →
-        (k : ℕ) (d : X) → k < n → input (get_or xs k d) ≡ at → lane (get_or xs k d) ≡ l → ⊥
+    pub some : (l : ℕ) (y : X) → get_or last l None ≡ Some y → IsThere xs n at l y
+    pub each : (k : ℕ) (d : X) → k < n → input (get_or xs k d) ≡ at →
+        (y : X) × (get_or last (lane (get_or xs k d)) None ≡ Some y) × ((get_or xs k d ≡ y) ⊎ R (get_or xs k d) y)
 
   abbrev pub none_seen : ℕ → List (Option X)
   none_seen lanes = replicate lanes (let none : Option X = None in none)
 
-  nothing_there : (lanes l : ℕ) → get_or (none_seen lanes) l None ≡ None
-  nothing_there lanes l = grind (arith, common_steps, length-replicate, get_or-replicate, get_or_past, cases_lt)
-
   -- at an input of which no item came
-  are_none : (xs : List X) (n at lanes : ℕ) →
-      ((k : ℕ) (d : X) → k < n → input (get_or xs k d) ≡ at → ⊥) → AreLast xs n at (none_seen lanes)
-  are_none xs n at lanes none = grind (arith, common_steps, nothing_there)
+  are_none : (xs : List X) (n lanes at : ℕ) → ((k : ℕ) (d : X) → k < n → input (get_or xs k d) ≢ at) →
+      AreLast xs n at (none_seen lanes)
+  are_none xs n lanes at none = search (arith, rules, length-replicate, get_or-replicate, get_or_past, cases_lt)
 
   -- what is known before a place: the items of one lane stand in order, and the last ones at the input of the one
   -- before it
@@ -52,175 +82,184 @@ module _ {X : Type 0} (input lane : X → ℕ) (R : X → X → Type 0) where
   pub lanes_first : (xs : List X) (lanes : ℕ) → Lanes xs lanes 0 (none_seen lanes)
   lanes_first xs lanes = grind (arith, common_steps, are_none, length-replicate)
 
-  module _ (xs : List X) (lanes n : ℕ) (last : List (Option X)) (known : Lanes xs lanes n last) (e : X)
-      (inside : n < length xs) where
+  -- what is known at a place: whether an input begins there, and the last ones then
+  pub record Place (xs : List X) (lanes n : ℕ) (e : X) (last now : List (Option X)) (begun : Bool) : Type 0 where
+    pub known : Lanes xs lanes n last
+    pub inside : n < length xs
+    pub rising : AllPairs (λ a b. input a ≤ input b) xs
+    pub is : begun ≡ begins_at (map input xs) n
+    pub ways : ((begun ≡ true) × (now ≡ none_seen lanes)) ⊎ ((begun ≡ false) × (now ≡ last))
+    pub fits : lane (get_or xs n e) < lanes
+
+  module _ {xs : List X} {lanes n : ℕ} {e : X} {last now : List (Option X)} {begun : Bool}
+      (place : Place xs lanes n e last now begun) where
     abbrev here : X
     here = get_or xs n e
 
-    -- the input goes on: the last ones are those
-    pub same_input : AllPairs (λ a b. input a ≤ input b) xs → ((0 < n → input (get_or xs (n - 1) e) < input here → ⊥)) →
-        AreLast xs n (input here) last
-    same_input rising stays =
-        subst (λ (at : ℕ). AreLast xs n at last) same (known.ends e)
-      where
-        same : input (get_or xs (n - 1) e) ≡ input here
-        same =
-            elim (cases_eq n 0) [
-              | inl first ↦
-                  let place : n - 1 ≡ n = omega arith in
-                  ap (λ (k : ℕ). input (get_or xs k e)) place
-              | inr later ↦
-                  let le = rising (n - 1) n e (omega arith) inside in
-                  let back : input (get_or xs (n - 1) e) < input here → ⊥ = stays (omega arith) in
-                  ⊎_elim (λ lt. absurd (back lt)) (λ ge. omega arith)
-                  (cases_lt (input (get_or xs (n - 1) e)) (input here))
-            ]
+    are : AreLast xs n (input here) now
+    are = known_here input xs n e place.inside (AreLast xs n) (none_seen lanes) last now begun
+        place.known.ends (are_none xs n lanes) place.rising place.is place.ways
 
-    -- another input begins: none of it came yet
-    pub next_input : AllPairs (λ a b. input a ≤ input b) xs → 0 < n → input (get_or xs (n - 1) e) < input here →
-        AreLast xs n (input here) (none_seen lanes)
-    next_input rising later goes = are_none xs n (input here) lanes (λ k d lt own.
-        search (arith, rules, cases_eq k (n - 1), get_or_default xs (n - 1) d))
+    long_now : length now ≡ lanes
+    long_now = grind (arith, common_steps, length-replicate, place.known.long, place.ways)
 
-    module _ (now : List (Option X)) (are : AreLast xs n (input here) now) (fits : lane here < length now) where
-      abbrev MayFollow : Type 0
-      MayFollow = IfSome (get_or now (lane here) None) (λ y. R y here)
+    within : lane here < length now
+    within = let fits = place.fits in omega (arith, long_now)
 
-      -- one that may come behind the last one of its lane stands behind all of the lane
-      pub behind_all : ((a b c : X) → R a b → R b c → R a c) → MayFollow →
-          (k : ℕ) (d : X) → k < n → InLane (get_or xs k d) here
-      behind_all goes_on may k d lt same_input same_lane =
-          by (get_or now (lane here) None) refl
-        where
-          by : (o : Option X) → get_or now (lane here) None ≡ o → R (get_or xs k d) here
-          by None is = absurd (are.none (lane here) fits is k d lt same_input same_lane)
-          by (Some y) is =
-              let its = are.some (lane here) y is in
-              let p = its.place in
-              let below = its.below in
-              let first : R y here = subst (λ (o : Option X). IfSome o (λ z. R z here)) is may in
-              elim (cases_eq k p) [
-                | inl same ↦
-                    subst (λ (z : X). R z here) (sym (ap (λ (j : ℕ). get_or xs j d) same ∙ its.stands d)) first
-                | inr other ↦
-                    ⊎_elim
-                    (λ earlier.
-                    let there = its.stands d in
-                    let own : input (get_or xs k d) ≡ input (get_or xs p d) =
-                    same_input ∙ sym its.own ∙ ap input (sym there) in
-                    let beside : lane (get_or xs k d) ≡ lane (get_or xs p d) =
-                    same_lane ∙ sym its.in_lane ∙ ap lane (sym there) in
-                    let before : R (get_or xs k d) (get_or xs p d) = known.pairs k p d earlier below own beside in
-                    goes_on (get_or xs k d) y here
-                    (subst (λ (z : X). R (get_or xs k d) z) there before) first)
-                    (λ no_earlier.
-                    absurd (its.latest k d (omega arith) lt same_input same_lane))
-                    (cases_lt k p)
-              ]
+    abbrev then : List (Option X)
+    then = set now (lane here) (Some here)
 
-      -- and one that stands behind all of its lane may come behind the last
-      pub may_follow : ((k : ℕ) (d : X) → k < n → InLane (get_or xs k d) here) → MayFollow
-      may_follow behind = by (get_or now (lane here) None) refl
-        where
-          by : (o : Option X) → get_or now (lane here) None ≡ o → IfSome (get_or now (lane here) None) (λ y. R y here)
-          by None is = subst (λ (o : Option X). IfSome o (λ y. R y here)) (sym is) tt
-          by (Some y) is =
-              let its = are.some (lane here) y is in
-              let there = its.stands e in
-              let first : R (get_or xs its.place e) here =
-              behind its.place e its.below (ap input there ∙ its.own) (ap lane there ∙ its.in_lane) in
-              subst (λ (o : Option X). IfSome o (λ z. R z here)) (sym is)
-              (subst (λ (z : X). R z here) there first)
+    read_here : get_or then (lane here) None ≡ Some here
+    read_here = let inside = within in grind (arith, common_steps, get_or-set_same)
 
-      abbrev then : List (Option X)
-      then = set now (lane here) (Some here)
+    read_other : (l : ℕ) → (l ≡ lane here → ⊥) → get_or then l None ≡ get_or now l None
+    read_other l other = get_or-set_other now (lane here) l (Some here) None other
 
-      read_here : (l : ℕ) → l ≡ lane here → get_or then l None ≡ Some here
-      read_here l same = grind (arith, common_steps, get_or-set_same)
+    -- whether its item may come behind the last one of its lane
+    module _ (read : Option X) (own : lane here < length now → read ≡ get_or now (lane here) read) (may : Bool)
+        (test : (may ≡ true) ↔ IfSome read (λ y. R y here)) where
+      test_there : (may ≡ true) ↔ IfSome (get_or now (lane here) None) (λ y. R y here)
+      test_there = rw (get_or_read now (lane here) read within (own within) None) at test
 
-      read_other : (l : ℕ) → (l ≡ lane here → ⊥) → get_or then l None ≡ get_or now l None
-      read_other l other = get_or-set_other now (lane here) l (Some here) None other
+      -- one that may come behind the last one of its lane stands behind all of the lane, and is the last one then
+      module _ (goes_on : (a b c : X) → R a b → R b c → R a c) (comes : may ≡ true) where
+        behind : (k : ℕ) (d : X) → k < n → InLane (get_or xs k d) here
+        behind k d lt same own =
+            let it = are.each k d lt same in
+            let shown : get_or now (lane here) None ≡ Some it.0 = rw own at it.1 in
+            let follows : R it.0 here = rw shown at (test_there.0 comes) in
+            grind (arith, common_steps, goes_on (get_or xs k d) it.0 here)
 
-      -- an item of another lane stands at another place
-      not_mine : (l : ℕ) → (l ≡ lane here → ⊥) → (k : ℕ) (d : X) → k ≡ n → lane (get_or xs k d) ≡ l → ⊥
-      not_mine l other k d same in_lane = grind (arith, common_steps, get_or_default)
-
-      -- then it is the last one of its lane
-      last_then : AreLast xs (n + 1) (input here) then
-      last_then =
-          record {
-            some = λ l y is. elim (cases_eq l (lane here)) [
-              | inl same ↦
-                  let clash : Some here ≡ Some y = sym (read_here l same) ∙ is in
-                  let own : here ≡ y = cc in
-                  record {
-                    place = n;
-                    below = omega arith;
-                    stands = λ d. get_or_default xs n d e inside ∙ own;
-                    own = ap input (sym own);
-                    in_lane = ap lane (sym own) ∙ sym same;
-                    latest = λ k d lt le at in_lane. omega arith;
-                  }
+        last_then : AreLast xs (n + 1) (input here) then
+        last_then = record {
+          some = λ l y shown. elim (cases_eq l (lane here)) [
+            | inl same ↦
+                let own : here ≡ y = cc read_here in
+                let inside = place.inside in
+                record {
+                  place = n;
+                  below = omega arith;
+                  stands = search (arith, rules, get_or_default);
+                  own = cc;
+                  in_lane = cc;
+                }
+            | inr other ↦ let it = are.some l y (sym (read_other l other) ∙ shown) in search (arith, rules)
+          ];
+          each = λ k d lt own. elim (cases_eq k n) [
+            | inl same ↦
+                let inside = place.inside in
+                let its : get_or xs k d ≡ here = grind (arith, common_steps, get_or_default) in
+                (here, (rw its read_here), inl its)
+            | inr before ↦ elim (cases_eq (lane (get_or xs k d)) (lane here)) [
+              | inl same ↦ (here, (rw same read_here), inr (behind k d (omega arith) own same))
               | inr other ↦
-                  let old = are.some l y (sym (read_other l other) ∙ is) in
-                  search (arith, rules, cases_eq, not_mine l other)
-            ];
-            none = λ l within is k d lt at in_lane. search (arith, rules, not_mine l);
-          }
+                  let it = are.each k d (omega arith) own in
+                  (it.0, (read_other (lane (get_or xs k d)) other ∙ it.1), it.2)
+            ]
+          ];
+        }
 
-      -- one item more
-      pub lanes_more : ((a b c : X) → R a b → R b c → R a c) → MayFollow → length now ≡ lanes →
-          Lanes xs lanes (n + 1) then
-      lanes_more goes_on may long = search (rules, cases_eq, behind_all, get_or_default, last_then, length-set)
+        -- one item more
+        pub lanes_next : Lanes xs lanes (n + 1) then
+        lanes_next = search (rules, cases_eq, behind, get_or_default, last_then, length-set, long_now, place)
 
-      -- where it may not come, the items of one lane do not stand in order
-      pub lanes_fail : (r : Bool) → ((r ≡ true) ↔ MayFollow) → r ≡ false → (false ≡ true) ↔ AllPairs InLane xs
-      lanes_fail r is fails = search (rules, may_follow, get_or_default)
-
-  module _ (xs : List X) (lanes n : ℕ) (last : List (Option X)) (known : Lanes xs lanes n last) (e : X)
-      (inside : n < length xs) (rising : AllPairs (λ a b. input a ≤ input b) xs) (begun : Bool)
-      (is : begun ≡ begins_at (map input xs) n) (now : List (Option X))
-      (ways : ((begun ≡ true) × (now ≡ none_seen lanes)) ⊎ ((begun ≡ false) × (now ≡ last))) where
-    abbrev its : X
-    its = get_or xs n e
-
-    -- at a place where an input begins, or where it does not
-    are_now : AreLast xs n (input its) now
-    are_now = by ways
-      where
-        by : ((begun ≡ true) × (now ≡ none_seen lanes)) ⊎ ((begun ≡ false) × (now ≡ last)) →
-            AreLast xs n (input its) now
-        by (inl begins) =
-            let says = begins_says input xs n e inside (sym is ∙ begins.0) in
-            subst (λ (l : List (Option X)). AreLast xs n (input its) l) (sym begins.1)
-            (next_input xs lanes n last known e inside rising says.0 says.1)
-        by (inr goes_on) =
-            subst (λ (l : List (Option X)). AreLast xs n (input its) l) (sym goes_on.1)
-            (same_input xs lanes n last known e inside rising
-            (begins_not input xs n e inside (sym is ∙ goes_on.0)))
-
-    pub long_now : length now ≡ lanes
-    long_now = by ways
-      where
-        by : ((begun ≡ true) × (now ≡ none_seen lanes)) ⊎ ((begun ≡ false) × (now ≡ last)) → length now ≡ lanes
-        by (inl begins) =
-            ap (λ (l : List (Option X)). length l) begins.1 ∙ length-replicate lanes
-            (let nothing : Option X = None in nothing)
-        by (inr goes_on) = ap (λ (l : List (Option X)). length l) goes_on.1 ∙ known.long
-
-    module _ (fits : lane its < lanes) (r : Bool) (test : (r ≡ true) ↔ IfSome (get_or now (lane its) None)
-        (λ y. R y its)) where
-      within : lane its < length now
-      within = let long = long_now in omega arith
-
-      -- one item more, or one that may not come
-      pub lanes_next : ((a b c : X) → R a b → R b c → R a c) → r ≡ true →
-          Lanes xs lanes (n + 1) (set now (lane its) (Some its))
-      lanes_next goes_on may = search (rules, lanes_more, are_now, within, long_now)
-
-      pub lanes_stop : r ≡ false → (false ≡ true) ↔ AllPairs InLane xs
-      lanes_stop not_so = lanes_fail xs lanes n last known e inside now are_now within r test not_so
+      -- one that stands behind all of its lane may come
+      pub lanes_stop : may ≡ false → (false ≡ true) ↔ AllPairs InLane xs
+      lanes_stop not_so = (
+        (λ clash. absurd (let P : ⊥ = cc in P)),
+        (λ pairs. let may = test_there.1 (follows pairs (get_or now (lane here) None) refl) in cc),
+      )
+        where
+          follows : AllPairs InLane xs → (o : Option X) → get_or now (lane here) None ≡ o → IfSome o (λ y. R y here)
+          follows pairs None shown = tt
+          follows pairs (Some y) shown =
+              let it = are.some (lane here) y shown in
+              grind (arith, common_steps, it.stands e, pairs it.place n e it.below place.inside)
 
   pub lanes_hold : (xs : List X) (lanes n : ℕ) (last : List (Option X)) → Lanes xs lanes n last → length xs ≤ n →
       (true ≡ true) ↔ AllPairs InLane xs
   lanes_hold xs lanes n last known past = grind (arith, common_steps, known.pairs)
+
+pub urgent_on : (a b c : Queued) → IsBefore a b → IsBefore b c → IsBefore a c
+urgent_on a b c = key_laws.on a.key b.key c.key
+
+pub name_on : (a b c : Name) → IsNameBefore a b → IsNameBefore b c → IsNameBefore a c
+name_on a b c first second = grind (arith, common_steps)
+
+-- names that stand by input and then by slot stand by input
+pub name_inputs : (a b : Name) → IsNameBefore a b → a.queued.key.input ≤ b.queued.key.input
+name_inputs a b before = grind (arith, common_steps)
+
+-- ## Flows
+
+abbrev pub LeavesFirst : Name → Name → Type 0
+LeavesFirst a b = Leaves a.queued b.queued a.sent b.sent
+
+pub leaves_on : (a b c : Name) → LeavesFirst a b → LeavesFirst b c → LeavesFirst a c
+leaves_on a b c = search (arith, rules, urgent_on)
+
+-- the number of a flow, by output and class
+abbrev pub flow_of : Name → ℕ
+flow_of n = n.queued.cell.output * 16 + n.queued.cell.class
+
+abbrev pub input_of : Name → ℕ
+input_of n = n.queued.key.input
+
+one_flow : (a b : Name) → a.queued.cell.class < 16 → b.queued.cell.class < 16 → flow_of a ≡ flow_of b →
+    (a.queued.cell.output ≡ b.queued.cell.output) × (a.queued.cell.class ≡ b.queued.cell.class)
+one_flow a b low high same = (omega arith, omega arith)
+
+flow_number : (a b : Name) → InOneFlow a b → flow_of a ≡ flow_of b
+flow_number a b one = let output = one.output in let class = one.class in omega arith
+
+pub flows_as_lanes : (ports : ℕ) (xs : List Name) →
+    AllByRecursion (λ n. (n.queued.cell.output < ports) × (n.queued.cell.class < 16)) xs →
+    AllPairs (InLane input_of flow_of LeavesFirst) xs ↔ FlowsStand xs
+flows_as_lanes ports xs each =
+    grind (arith, common_steps, all_pairs, each_pair, InLane, all_each, one_flow, flow_number)
+
+pub through : {A B C : Type 0} → A ↔ B → B ↔ C → A ↔ C
+through ab bc = ((λ a. bc.0 (ab.0 a)), (λ c. ab.1 (bc.1 c)))
+
+-- ## Threads
+
+-- the cells before a place have slack, and so many of them are of the input of the one before it
+pub record Threads (listed buffered : List Queued) (n thread : ℕ) : Type 0 where
+  pub counted : (d : Queued) → thread ≡ length (thread_in listed n (get_or listed (n - 1) d).key.input)
+  pub few : thread ≤ n
+  pub stand : (place : ℕ) (t : Queued) → place < n → slice_get listed place ≡ Some t →
+      length (thread_in listed place t.key.input) < length (cushion_in buffered t)
+
+pub threads_first : (listed buffered : List Queued) → Threads listed buffered 0 0
+threads_first listed buffered = grind (arith, common_steps)
+
+pub threads_hold : (listed buffered : List Queued) (n thread : ℕ) → Threads listed buffered n thread →
+    length listed ≤ n → (true ≡ true) ↔ SlackStands listed buffered
+threads_hold listed buffered n thread known past = grind (arith, common_steps, slice_get_within, known.stand)
+
+-- what is known at a place: whether an input begins there
+pub record At (listed buffered : List Queued) (n thread now : ℕ) (e : Queued) (begun : Bool) : Type 0 where
+  pub known : Threads listed buffered n thread
+  pub inside : n < length listed
+  pub rising : AllPairs IsNoLaterInput listed
+  pub is : begun ≡ begins_at (map (λ (q : Queued). q.key.input) listed) n
+  pub ways : ((begun ≡ true) × (now ≡ 0)) ⊎ ((begun ≡ false) × (now ≡ thread))
+
+module _ {listed buffered : List Queued} {n thread now : ℕ} {e : Queued} {begun : Bool}
+    (at : At listed buffered n thread now e begun)
+    (cushion : ℕ) (enough : cushion ≡ length (cushion_in buffered (get_or listed n e))) where
+  now_counted : now ≡ length (thread_in listed n (get_or listed n e).key.input)
+  now_counted = known_here (λ (q : Queued). q.key.input) listed n e at.inside
+      (λ i (ahead : ℕ). ahead ≡ length (thread_in listed n i)) 0 thread now begun at.known.counted
+      (λ i none. rw (none_kept (λ (o : Queued). eqb o.key.input i) (take n listed)
+      (λ k d lt. search (arith, rules, none k d, ne_eqb, get_or-take n listed k d))) refl) at.rising at.is at.ways
+
+  -- one cell more, or one that has too little
+  pub threads_next : now < cushion → Threads listed buffered (n + 1) (now + 1)
+  threads_next less =
+      let counted = now_counted in
+      let few : now ≤ n = search (arith, rules, few_kept, length-take) in
+      grind (arith, common_steps, get_or_default, filter_more, length-append, get_or_from_slice_get, at)
+
+  pub threads_stop : cushion ≤ now → (false ≡ true) ↔ SlackStands listed buffered
+  threads_stop short = grind (arith, common_steps, now_counted, slice_get-get_or, at)

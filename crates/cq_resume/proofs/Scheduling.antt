@@ -1,25 +1,13 @@
 -- The schedule of captures: its cells are those of its inputs, input after input, and at each input packet comes after
 -- packet, each from its first cell to its last. A packet has a cell at least, its cells come one a slot, and the next
 -- one begins when it has ended, or later.
-use Rattle.std.proofs.lemmas.Grind.{common_steps}
-use Rattle.std.proofs.Common.{◌≡◌, ℕ, zero, suc, ◌+◌, ◌-◌, ◌<◌, List, ◌++◌, length, map, flat_map, refl, inl, inr, arith, sym, subst}
-use Rattle.std.specs.Prelude.{filter}
-use Rattle.std.specs.List.{range_with_len}
-use Rattle.cq_base.specs.Arriving.{Arrival}
+use Rattle.cq_resume.proofs.Terms.{rules, ◌≡◌, ℕ, zero, suc, ◌+◌, ◌-◌, ◌<◌, List, ◌++◌, length, map, flat_map, refl, inl, inr, arith, common_steps, filter, range_with_len, Arrival, Scheduled, IsTraffic, is_from, flat_same, ArePackets, ComeBehind, ComesNext, IsLine, IsScheduleOf, AreTables, classes_of, ports_of, Tables, all_weaker}
 use Rattle.cq_cells.specs.Schedule.{arrivals, arrivals_at, arrivals_of, cell_of, cells, packet_at, packets_of, start}
-use Rattle.cq_cells.specs.Scheduled.{Scheduled}
-use Rattle.cq_cells.specs.Traffic.{IsTraffic, is_from}
 use Rattle.cq_cells.proofs.Looked.{piece}
 use Rattle.cq_cells.proofs.Packets.{ends_before}
 use Rattle.cq_cells.proofs.Pieces.{cells_above}
-use Rattle.cq_cells.proofs.Ranges.{flat_same}
 use Rattle.cq_cells.proofs.Rising.{at_input, traffic_is}
 use Rattle.cq_pcap.specs.Captured.{Captured}
-use Rattle.cq_resume.specs.Finding.{ArePackets, ComeBehind, ComesNext, IsLine}
-use Rattle.cq_resume.specs.Switch.{IsScheduleOf}
-use Rattle.cq_resume.proofs.Each.{all_weaker}
-use Rattle.cq_route.specs.Tables.{AreTables, classes_of, ports_of}
-use Rattle.cq_route.specs.declared.tables.Tables.{Tables}
 
 module _ (t : Tables) (captures : List (List Captured)) (input : ℕ) where
   -- cell i of packet k as it arrives
@@ -67,10 +55,10 @@ module _ (t : Tables) (captures : List (List Captured)) (input : ℕ) where
   come_behind k (suc m) a packet slot =
       let some = some_cells k in
       let many : cells t captures input k ≡ suc (cells t captures input k - 1) = omega arith in
-      subst (λ (n : ℕ). ComeBehind a (map (cell_in k) (range_with_len 0 n) ++ packets_from (k + 1) m)) (sym many) (
+      rw many (
         begins k a packet slot,
         one_packet k (cells t captures input k - 1) (packets_from (k + 1) m) many
-            (λ b later_packet later_slot. come_behind (k + 1) m b later_packet later_slot),
+            (come_behind (k + 1) m),
       )
 
   line_of : (m : ℕ) → IsLine (packets_from 0 m)
@@ -78,11 +66,7 @@ module _ (t : Tables) (captures : List (List Captured)) (input : ℕ) where
   line_of (suc m) =
       let some = some_cells 0 in
       let many : cells t captures input 0 ≡ suc (cells t captures input 0 - 1) = omega arith in
-      subst (λ (n : ℕ). IsLine (map (cell_in 0) (range_with_len 0 n) ++ packets_from (0 + 1) m)) (sym many) (
-        index_is 0,
-        one_packet 0 (cells t captures input 0 - 1) (packets_from (0 + 1) m) many
-            (λ b later_packet later_slot. come_behind (0 + 1) m b later_packet later_slot),
-      )
+      rw many (index_is 0, one_packet 0 (cells t captures input 0 - 1) (packets_from (0 + 1) m) many (come_behind 1 m))
 
   pub input_is_line : IsLine (arrivals_at t captures input)
   unfolding arrivals_at
@@ -95,9 +79,6 @@ module _ (t : Tables) (captures : List (List Captured)) (tables : AreTables t)
   unfolding arrivals
   by_input = grind (arith, common_steps, flat_same, at_input)
 
-  pub packets_of_schedule : ArePackets (length captures) (arrivals t captures)
-  packets_of_schedule = grind (arith, common_steps, traffic_is, by_input, at_input, input_is_line, all_weaker)
-
 -- what is known of the schedule of tables
 pub record IsKnown (t : Tables) (s : Scheduled) : Type 0 where
   pub ports : s.ports ≡ ports_of t.setup
@@ -105,4 +86,4 @@ pub record IsKnown (t : Tables) (s : Scheduled) : Type 0 where
   pub packets : ArePackets s.ports s.came
 
 pub schedule_known : (t : Tables) (s : Scheduled) → AreTables t → IsScheduleOf t s → IsKnown t s
-schedule_known t s tables is = grind (arith, common_steps, traffic_is, packets_of_schedule)
+schedule_known t s tables is = search (arith, rules, traffic_is, by_input, at_input, input_is_line, all_weaker)

@@ -1,29 +1,17 @@
 -- The walks over all inputs ended with a mark: so all packets stand, and the marks and the counts are those of what is
 -- left out. Or one stopped: so a packet does not stand.
-use Rattle.std.proofs.lemmas.Grind.{common_steps}
-use Rattle.std.proofs.Common.{rules, ◌≡◌, ℕ, ◌<◌, Bool, false, List, length, map, get_or, Option, None, Some, sym, ap, ◌∙◌, arith}
-use Rattle.std.specs.List.{range_with_len}
-use Rattle.std.proofs.lemmas.List.{get_or-map, get_or_default, length-map, same_lists}
-use Rattle.std.proofs.lemmas.List.FromFn.{get_or-map-range_with_len, length-map-range_with_len}
-use Rattle.cq_base.specs.Arriving.{Arrival}
-use Rattle.cq_ideal.specs.declared.refused.Refused.{Refused}
-use Rattle.cq_resume.specs.Counted.{latest}
-use Rattle.cq_resume.specs.Finding.{ArePackets, PacketsStand, TalliesUp, coming, firsts_before, has_limit, has_name, is_left_out}
-use Rattle.cq_resume.specs.declared.found.Name.{Name}
-use Rattle.cq_resume.specs.declared.packets.Tally.{Tally}
+use Rattle.cq_resume.proofs.Terms.{common_steps, rules, ◌≡◌, ℕ, ◌<◌, Bool, false, List, length, map, get_or, Option, None, Some, sym, arith, range_with_len, get_or-map, get_or_default, length-map, same_lists, get_or-map-range_with_len, length-map-range_with_len, Arrival, Refused, latest, ArePackets, PacketsStand, TalliesUp, coming, firsts_before, has_limit, has_name, is_left_out, Name, Tally}
 use Rattle.cq_resume.proofs.Adding.{Tallied, mark_at, tallied_counts}
-use Rattle.cq_resume.proofs.Marked.{line_ends, line_stands}
-use Rattle.cq_resume.proofs.Tallied.{LineStands, lines_stand, mark_is, packets_stand, whole}
+use Rattle.cq_resume.proofs.Tallied.{line_ends, line_stands, LineStands, as_first, mark_is, packets_stand, whole}
 
 module _ (limits : List (Option ℕ)) (next : ℕ) (came : List Arrival) (names : List Name) (ports : ℕ)
     (are : ArePackets ports came) where
   -- one that stopped
   pub packet_fails : (input : ℕ) → input < ports → None ≡ mark_at limits next came names input →
       PacketsStand limits next came names → ⊥
-  packet_fails input inside stops stand =
-      line_ends (has_name names) (has_limit limits) (coming input 0 next came)
+  packet_fails input inside stops stand = line_ends (has_name names) (has_limit limits) (coming input 0 next came)
       (whole limits ports next came names are input inside)
-      (lines_stand limits ports next came names are stand input inside) (sym stops)
+      (as_first limits ports next came names are stand input) (sym stops)
 
   module _ (marks : List Bool) (refused : List Refused) (known : Tallied limits next came names ports marks
       refused) where
@@ -33,9 +21,9 @@ module _ (limits : List (Option ℕ)) (next : ℕ) (came : List Arrival) (names 
     mark_there : (i : ℕ) → i < ports → mark_at limits next came names i ≡ Some (get_or marks i false)
     mark_there i inside =
         let size = many in
-        sym (get_or-map-range_with_len (mark_at limits next came names) 0 ports i i None inside (omega arith))
-        ∙ sym (ap (λ (l : List (Option Bool)). get_or l i None) known.marked)
-        ∙ get_or-map (λ (m : Bool). Some m) marks i false None (omega arith)
+        let there = get_or-map-range_with_len (mark_at limits next came names) 0 ports i i None inside (omega arith) in
+        let own = get_or-map (λ (m : Bool). Some m) marks i false None (omega arith) in
+        search (arith, rules)
 
     stands : (i : ℕ) → i < ports → LineStands limits ports next came names are i
     stands i inside = search (rules, line_stands, whole, mark_there)
@@ -50,12 +38,11 @@ module _ (limits : List (Option ℕ)) (next : ℕ) (came : List Arrival) (names 
     all_marks =
         let size = many in
         let long = length-map-range_with_len told 0 ports in
-        same_lists marks (map told (range_with_len 0 ports)) (omega arith)
-        (λ k d inside.
+        same_lists marks (map told (range_with_len 0 ports)) (omega arith) (λ k d inside.
         let low : k < ports = omega arith in
-        get_or_default marks k d false inside
-        ∙ mark_is limits ports next came names are k low (stands k low) (get_or marks k false) (mark_there k low)
-        ∙ sym (get_or-map-range_with_len told 0 ports k k d low (omega arith)))
+        let is = mark_is limits ports next came names are k low (stands k low) (get_or marks k false)
+        (mark_there k low) in
+        search (arith, rules, get_or_default marks k d false, get_or-map-range_with_len told 0 ports k k d))
 
     pub tallies_up : (x : Tally) → length limits ≡ ports → x.marks ≡ marks → x.refused ≡ refused →
         TalliesUp limits next came names x

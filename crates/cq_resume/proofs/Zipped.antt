@@ -1,33 +1,49 @@
--- Two lists whose items belong together, place by place. What holds of the items of the one holds of those of the other
--- where it holds of any two that belong together.
-use Rattle.std.proofs.Common.{rules, arith, ◌≡◌, ℕ, ◌+◌, ◌<◌, ◌≤◌, ◌↔◌, List, [], ◌∷◌, ◌++◌, length, get_or, map, take, refl, subst}
-use Rattle.std.proofs.lemmas.Grind.{common_steps}
-use Rattle.std.specs.Prelude.{All, filter_map, Option, Some}
-use Rattle.std.specs.List.{AllByRecursion, AllPairs, AllZip}
-use Rattle.std.proofs.lemmas.List.{take_all, take_more}
-use Rattle.std.proofs.lemmas.List.Elements.{All-from_recursion, recursion_from_All}
-use Rattle.cq_resume.proofs.Chained.{EachPair, all_pairs, each_pair}
-
--- where premise and conclusion are said alike, so is what follows from the one
-pub implied : {A A' B B' : Type 0} → A ↔ A' → B ↔ B' → (A → B) ↔ (A' → B')
-implied first second = ((λ f a. second.0 (f (first.1 a))), (λ f a. second.1 (f (first.0 a))))
-
-nothing_of : {X : Type 0} (xs : List X) → AllByRecursion (λ _. Unit {0}) xs
-nothing_of [] = tt
-nothing_of (x ∷ xs) = (tt, nothing_of xs)
+-- Two lists whose items belong together, place by place. What holds of the items of the one holds of those of the
+-- other where it holds of any two that belong together. What it says that a name was looked up: its cell arrives in
+-- its slot at its input, before the next slot, and has the name's key. So names and found cells belong together, place
+-- by place. Each found cell is one that arrives: so it goes to one of the outputs, is of one of the classes, and came
+-- to one of the inputs. Names that stand by input and then by slot: sorted by both they stand so, but for names that
+-- are the same; and where no two are the same they do. The name of an arrival, if there is one, stands where halving
+-- finds the first that is not ahead of it. So no cell is named twice exactly where the names that were found stand
+-- strictly in order: order changes nothing of which names are the same.
+use Rattle.cq_resume.proofs.Terms.{rules, arith, ◌≡◌, ℕ, ◌+◌, ◌<◌, ◌≤◌, ◌↔◌, List, [], ◌∷◌, ◌++◌, length, get_or, map, take, refl, inl, inr, ⊎_elim, subst, None, Some, Bool, common_steps, All, filter_map, Option, IsSome, AllByRecursion, AllPairs, AllZip, take_all, take_more, All-from_recursion, recursion_from_All, cases_Bool, lt-ltb, ltb-true, Arrival, Queued, AreGone, AreFound, IsTold, names_of, told_of, IsGone, arriving_cell, key_of, named_in, queued_of, Gone, Name, Named, State, IsOfSwitch, IsTraffic, Sent, ◌≢◌, ◌⊎◌, eqb, ltb, true, false, sym, ◌∙◌, Bor, ◌&&◌, ◌||◌, IsPermutation, Called, ComputesKey, Mut, AllAdjacentBelow, IsDistinct, list_any, IsPartitionPoint, IsPartitionedBy, IsSortedByKey, Ordering, is_lt, nat_cmp, ordering_then, and_from, and_left, and_parts, and_right, cases_eq, cases_lt, cases_order, eq-eqb, eqb-true, le-ltb, ne_eqb, or_cases, or_left, or_right, false_from_ne_true, always_returns_same, get_or_default, list_any_at, list_any_none, IsDistinct-IsPermutation, IsDistinct-from_apart, apart_from_distinct, ge_from_not_lt, IsNameBefore, IsNameNotAfter, SomeMissed, IsPermutation-sym, AreArrivals, all_weaker, all_front, all_back, images_held}
+use Rattle.cq_resume.proofs.Coming.{found_at}
+use Rattle.cq_resume.proofs.Having.{Has, all_from_has, all_of_has}
+use Rattle.cq_resume.proofs.Chained.{EachPair, all_pairs, each_pair, next_pairs}
+use Rattle.cq_resume.proofs.Lanes.{name_on}
 
 module _ {A B : Type 0} (R : A → B → Type 0) where
-  zip_push : (xs : List A) (ys : List B) (x : A) (y : B) → AllZip R xs ys → R x y →
-      AllZip R (xs ++ x ∷ []) (ys ++ y ∷ [])
-  zip_push [] [] x y zips own = (own, tt)
-  zip_push [] (b ∷ ys) x y zips own = absurd zips
-  zip_push (a ∷ xs) [] x y zips own = absurd zips
-  zip_push (a ∷ xs) (b ∷ ys) x y zips own = (zips.0, zip_push xs ys x y zips.1 own)
+  -- what holds of no items and goes on with one more of each
+  pub zip_by : (P : List A → List B → Type 0) → P [] [] →
+      ((x : A) (y : B) (xs : List A) (ys : List B) → R x y → AllZip R xs ys → P xs ys → P (x ∷ xs) (y ∷ ys)) →
+      (xs : List A) (ys : List B) → AllZip R xs ys → P xs ys
+  zip_by P none more [] [] zips = none
+  zip_by P none more [] (y ∷ ys) zips = absurd zips
+  zip_by P none more (x ∷ xs) [] zips = absurd zips
+  zip_by P none more (x ∷ xs) (y ∷ ys) zips = more x y xs ys zips.0 zips.1 (zip_by P none more xs ys zips.1)
+
+  -- each of the one list has its own in the other
+  pub zip_has : (xs : List A) (ys : List B) → AllZip R xs ys → (y : B) → Has ys y → (x : A) × Has xs x × R x y
+  zip_has = zip_by (λ xs ys. (y : B) → Has ys y → (x : A) × Has xs x × R x y) (λ y has. absurd has)
+      (λ x z xs ys own zips rest y has. ⊎_elim (λ same. (x, inl refl, rw same at own))
+      (λ later. let it = rest y later in (it.0, inr it.1, it.2)) has)
+
+  pub zip_mate : (xs : List A) (ys : List B) → AllZip R xs ys → (x : A) → Has xs x → (y : B) × Has ys y × R x y
+  zip_mate = zip_by (λ xs ys. (x : A) → Has xs x → (y : B) × Has ys y × R x y) (λ x has. absurd has)
+      (λ z y xs ys own zips rest x has. ⊎_elim (λ same. (y, inl refl, rw same at own))
+      (λ later. let it = rest x later in (it.0, inr it.1, it.2)) has)
+
+  pub zip_both : (xs : List A) (ys : List B) (xs' : List A) (ys' : List B) → AllZip R xs ys → AllZip R xs' ys' →
+      AllZip R (xs ++ xs') (ys ++ ys')
+  zip_both xs ys xs' ys' first second = zip_by (λ xs ys. AllZip R (xs ++ xs') (ys ++ ys')) second
+      (λ x y xs ys own zips rest. (own, rest)) xs ys first
 
   -- one more of each
   pub zip_more : (xs : List A) (i : ℕ) (d : A) (ys new : List B) (y : B) → i < length xs → AllZip R (take i xs) ys →
       R (get_or xs i d) y → new ≡ ys ++ y ∷ [] → AllZip R (take (i + 1) xs) new
-  zip_more xs i d ys new y inside zips own is = grind (arith, common_steps, take_more, zip_push)
+  zip_more xs i d ys new y inside zips own is =
+      let both = zip_both (take i xs) ys (get_or xs i d ∷ []) (y ∷ []) zips (own, tt) in
+      grind (arith, common_steps, take_more)
 
   pub zip_all : (xs : List A) (i : ℕ) (ys : List B) → length xs ≤ i → AllZip R (take i xs) ys → AllZip R xs ys
   zip_all xs i ys past zips = subst (λ (l : List A). AllZip R l ys) (take_all i xs past) zips
@@ -35,10 +51,8 @@ module _ {A B : Type 0} (R : A → B → Type 0) where
   -- what is said of each item of the one list is said of its own in the other
   pub all_alike : (P : A → Type 0) (Q : B → Type 0) → ((x : A) (y : B) → R x y → P x ↔ Q y) → (xs : List A)
       (ys : List B) → AllZip R xs ys → AllByRecursion P xs ↔ AllByRecursion Q ys
-  all_alike P Q same [] [] zips = ((λ _. tt), (λ _. tt))
-  all_alike P Q same [] (y ∷ ys) zips = absurd zips
-  all_alike P Q same (x ∷ xs) [] zips = absurd zips
-  all_alike P Q same (x ∷ xs) (y ∷ ys) zips = grind (arith, common_steps, all_alike P Q same xs ys zips.1)
+  all_alike P Q same = zip_by (λ xs ys. AllByRecursion P xs ↔ AllByRecursion Q ys) ((λ _. tt), (λ _. tt))
+      (λ x y xs ys own zips rest. let here = same x y own in grind (arith, common_steps))
 
   pub alls_alike : (P : A → Type 0) (Q : B → Type 0) → ((x : A) (y : B) → R x y → P x ↔ Q y) → (xs : List A)
       (ys : List B) → AllZip R xs ys → All P xs ↔ AllByRecursion Q ys
@@ -46,22 +60,23 @@ module _ {A B : Type 0} (R : A → B → Type 0) where
       search (arith, rules, all_alike P Q same xs ys zips, recursion_from_All P xs, All-from_recursion P xs)
 
   -- what holds of each item by its own
-  pub all_left : (P : A → Type 0) → ((x : A) (y : B) → R x y → P x) → (xs : List A) (ys : List B) → AllZip R xs ys →
+  pub each_left : (P : A → Type 0) → ((x : A) (y : B) → R x y → P x) → (xs : List A) (ys : List B) → AllZip R xs ys →
       AllByRecursion P xs
-  all_left P give xs ys zips = grind (arith, common_steps, all_alike P, nothing_of ys)
+  each_left P give xs ys zips =
+      all_from_has P xs (λ x has. let it = zip_mate xs ys zips x has in give x it.0 it.2)
 
-  pub all_right : (Q : B → Type 0) → ((x : A) (y : B) → R x y → Q y) → (xs : List A) (ys : List B) → AllZip R xs ys →
+  pub each_right : (Q : B → Type 0) → ((x : A) (y : B) → R x y → Q y) → (xs : List A) (ys : List B) → AllZip R xs ys →
       AllByRecursion Q ys
-  all_right Q give xs ys zips = grind (arith, common_steps, all_alike, nothing_of xs)
+  each_right Q give xs ys zips =
+      all_from_has Q ys (λ y has. let it = zip_has xs ys zips y has in give it.0 y it.2)
 
   -- and of two of one side
   module _ (P : A → A → Type 0) (Q : B → B → Type 0)
       (same : (x x' : A) (y y' : B) → R x y → R x' y' → P x x' ↔ Q y y') where
     each_alike : (xs : List A) (ys : List B) → AllZip R xs ys → EachPair P xs ↔ EachPair Q ys
-    each_alike [] [] zips = ((λ _. tt), (λ _. tt))
-    each_alike [] (y ∷ ys) zips = absurd zips
-    each_alike (x ∷ xs) [] zips = absurd zips
-    each_alike (x ∷ xs) (y ∷ ys) zips = grind (arith, common_steps, all_alike, each_alike xs ys zips.1)
+    each_alike = zip_by (λ xs ys. EachPair P xs ↔ EachPair Q ys) ((λ _. tt), (λ _. tt))
+        (λ x y xs ys own zips rest. let here = all_alike (P x) (Q y) (λ a b. same x a y b own) xs ys zips in
+        grind (arith, common_steps))
 
     pub pairs_alike : (xs : List A) (ys : List B) → AllZip R xs ys → AllPairs P xs ↔ AllPairs Q ys
     pairs_alike xs ys zips =
@@ -71,7 +86,232 @@ module _ {A B : Type 0} (R : A → B → Type 0) where
   module _ {C : Type 0} (f : A → Option C) (g : B → C) where
     pub same_mapped : ((x : A) (y : B) → R x y → f x ≡ Some (g y)) → (xs : List A) (ys : List B) → AllZip R xs ys →
         filter_map f xs ≡ map g ys
-    same_mapped give [] [] zips = refl
-    same_mapped give [] (y ∷ ys) zips = absurd zips
-    same_mapped give (x ∷ xs) [] zips = absurd zips
-    same_mapped give (x ∷ xs) (y ∷ ys) zips = grind (arith, common_steps, same_mapped give xs ys zips.1)
+    same_mapped give = zip_by (λ xs ys. filter_map f xs ≡ map g ys) refl
+        (λ x y xs ys own zips rest. let here = give x y own in grind (arith, common_steps))
+
+-- ## One name
+
+pub record Facts (came : List Arrival) (next : ℕ) (c : Named) (q : Queued) : Type 0 where
+  pub early : c.slot < next
+  pub arrives : arriving_cell came c ≡ Some q.cell
+  pub key : q.key ≡ key_of c
+
+module _ (came : List Arrival) (next : ℕ) (c : Named) where
+  pub told_facts : (q : Queued) → IsTold came next c q → Facts came next c q
+  told_facts q is = search (arith, rules, ltb-true, cases_Bool)
+
+  -- it is what is looked up
+  pub told_is : (q : Queued) → IsTold came next c q → queued_of came c ≡ Some q
+  told_is q is = grind (arith, common_steps, cases_Bool)
+
+  pub can_be_told : c.slot < next → IsSome (arriving_cell came c) → told_of came next c ≡ None → ⊥
+  can_be_told early some none = search (arith, rules, lt-ltb)
+
+-- ## All names
+
+-- a name and the found one stand for the same arrival
+pub record IsOf (came : List Arrival) (next : ℕ) (c : Named) (n : Name) : Type 0 where
+  pub facts : Facts came next c n.queued
+
+zip_images : {A B C D : Type 0} (R : A → B → Type 0) (S : C → D → Type 0) (f : A → C) (g : B → D) →
+    ((x : A) (y : B) → R x y → S (f x) (g y)) → (xs : List A) (ys : List B) → AllZip R xs ys →
+    AllZip S (map f xs) (map g ys)
+zip_images R S f g give = zip_by R (λ xs ys. AllZip S (map f xs) (map g ys)) tt
+    (λ x y xs ys own zips rest. (give x y own, rest))
+
+zip_right : {A B D : Type 0} (R : A → B → Type 0) (S : A → D → Type 0) (g : B → D) →
+    ((x : A) (y : B) → R x y → S x (g y)) → (xs : List A) (ys : List B) → AllZip R xs ys → AllZip S xs (map g ys)
+zip_right R S g give = zip_by R (λ xs ys. AllZip S xs (map g ys)) tt (λ x y xs ys own zips rest. (give x y own, rest))
+
+-- the names of a state and those that were found, in the order of the lines
+pub names_zip : (came : List Arrival) (s : State) (listed buffered : List Queued) (sent : List Gone) →
+    AreFound came s.head.next s.listed listed → AreFound came s.head.next s.buffered buffered →
+    AreGone came s.head.next s.sent sent →
+    AllZip (IsOf came s.head.next) (named_in s) (names_of listed buffered sent)
+names_zip came s listed buffered sent first second third =
+    grind (arith, common_steps, zip_right, told_facts, zip_both, s.listed, zip_images)
+
+module _ (ports classes : ℕ) (came : List Arrival) (traffic : IsTraffic ports classes came) (next : ℕ) where
+  -- the output and the class of a found cell are in range
+  abbrev pub IsFor : Queued → Type 0
+  IsFor q = (q.cell.output < ports) × (q.cell.class < classes)
+
+  one_for : (c : Named) (q : Queued) → IsTold came next c q → IsFor q
+  one_for c q is =
+      let it = found_at came c.slot c.input q.cell (told_facts came next c q is).arrives in
+      search (arith, rules, all_of_has (IsOfSwitch ports classes) came it.arrival traffic.in_range it.has)
+
+  pub told_for : (names : List Named) (told : List Queued) → AreFound came next names told → AllByRecursion IsFor told
+  told_for = each_right (IsTold came next) IsFor one_for
+
+  pub gone_for : (sent : List Sent) (gone : List Gone) → AreGone came next sent gone →
+      AllByRecursion (λ g. IsFor g.queued) gone
+  gone_for = each_right (IsGone came next) (λ (g : Gone). IsFor g.queued) (λ d g is. one_for d.cell g.queued is.1)
+
+-- ## Sorted names
+
+abbrev pub arrival_key : Name → ℕ × ℕ
+arrival_key n = (n.queued.key.input, n.queued.key.slot)
+
+abbrev pub pair_cmp : ℕ × ℕ → ℕ × ℕ → Ordering
+pair_cmp a b = ordering_then (nat_cmp a.0 b.0) (nat_cmp a.1 b.1)
+
+-- of two pairs of which the second is not less, the first is less or the same in its first part, and then no greater
+-- in the other
+not_less : (i s j t : ℕ) → is_lt (ordering_then (nat_cmp j i) (nat_cmp t s)) ≡ false → (i < j) ⊎ ((i ≡ j) × (s ≤ t))
+not_less i s j t fails = grind (arith, common_steps, le-ltb, eq-eqb, ge_from_not_lt, lt-ltb, cases_order)
+
+pub names_sorted : {F : Type 0} {g : Mut F (Bor Name × Unit {0}) (ℕ × ℕ)} {f : F} (xs : List Name) →
+    ((key : Name → ℕ × ℕ) → ComputesKey g key f → IsSortedByKey key pair_cmp xs) →
+    ((a : Bor Name × Unit {0}) (r : ℕ × ℕ) (f' : F) → Called g f a r f' → (r ≡ arrival_key a.0.now) × (f' ≡ f)) →
+    AllAdjacentBelow IsNameNotAfter xs (length xs)
+names_sorted {g = g} {f = f} xs sorted calls k d inside =
+    let up =
+    sorted arrival_key (always_returns_same g (λ a r. r ≡ arrival_key a.0.now) f calls) k d (omega arith) inside in
+    search (arith, rules, not_less)
+
+-- ## Names that differ
+
+-- whether two names are the same
+abbrev pub same_name : Name → Name → Bool
+same_name a b = eqb a.queued.key.slot b.queued.key.slot && eqb a.queued.key.input b.queued.key.input
+
+eqb_flips : (m n : ℕ) → eqb m n ≡ eqb n m
+eqb_flips m n = grind (arith, common_steps, eq-eqb, ne_eqb, cases_eq)
+
+strictly : (a b : Name) → IsNameNotAfter a b → same_name a b ≡ false → IsNameBefore a b
+strictly a b near other = grind (arith, common_steps, eq-eqb, and_from, cases_eq)
+
+-- names that stand in order and differ stand strictly in order
+pub rising_names : (xs : List Name) → AllAdjacentBelow IsNameNotAfter xs (length xs) → IsDistinct same_name xs →
+    AllPairs IsNameBefore xs
+rising_names xs order differ =
+    next_pairs IsNameBefore xs name_on (λ k d inside. search (arith, rules, strictly, apart_from_distinct))
+
+pub still_differ : (xs ys : List Name) → IsPermutation xs ys → IsDistinct same_name xs → IsDistinct same_name ys
+still_differ = search (arith, rules, IsDistinct-IsPermutation, eqb_flips)
+
+-- names that stand strictly in order differ
+pub rising_differ : (xs : List Name) → AllPairs IsNameBefore xs → IsDistinct same_name xs
+rising_differ xs rising =
+    IsDistinct-from_apart same_name xs (λ i j d lt inside.
+    let before = rising i j d lt inside in grind (arith, common_steps, and_right, and_left, ne_eqb))
+
+-- ## Looked up
+
+-- whether a name is ahead of an arrival, and whether it is its own
+abbrev pub is_ahead : ℕ → ℕ → Name → Bool
+is_ahead input slot n = ltb n.queued.key.input input || (eqb n.queued.key.input input && ltb n.queued.key.slot slot)
+
+abbrev pub is_its : ℕ → ℕ → Name → Bool
+is_its input slot n = eqb n.queued.key.slot slot && eqb n.queued.key.input input
+
+-- what it says in numbers
+ahead_says : (input slot : ℕ) (n : Name) → is_ahead input slot n ≡ true →
+    (n.queued.key.input < input) ⊎ ((n.queued.key.input ≡ input) × (n.queued.key.slot < slot))
+ahead_says input slot n holds = grind (arith, common_steps, ltb-true, and_parts, eqb-true, or_cases)
+
+says_ahead : (input slot : ℕ) (n : Name) →
+    (n.queued.key.input < input) ⊎ ((n.queued.key.input ≡ input) × (n.queued.key.slot < slot)) →
+    is_ahead input slot n ≡ true
+says_ahead input slot n says = grind (arith, common_steps, or_left, or_right, and_from, eq-eqb, lt-ltb)
+
+not_its : (input slot : ℕ) (n : Name) → ((n.queued.key.slot ≡ slot) → (n.queued.key.input ≡ input) → ⊥) →
+    is_its input slot n ≡ false
+not_its input slot n other = grind (arith, common_steps, and_right, ne_eqb, and_left, cases_eq)
+
+pub ahead_parts : (input slot : ℕ) (names : List Name) → AllPairs IsNameBefore names →
+    IsPartitionedBy (is_ahead input slot) names
+ahead_parts input slot names order i j d le inside holds =
+    let before = order i j d in
+    let says = ahead_says input slot (get_or names j d) holds in
+    let ahead = says_ahead input slot (get_or names i d) in
+    grind (arith, common_steps, cases_eq i j)
+
+any_only : {X : Type 0} (p : X → Bool) (xs : List X) (n : ℕ) (e : X) → n < length xs →
+    ((k : ℕ) (d : X) → k < length xs → k ≢ n → p (get_or xs k d) ≡ false) → list_any p xs ≡ p (get_or xs n e)
+any_only p xs n e inside none = ⊎_elim (λ is. list_any_at p xs n e inside is ∙ sym is)
+    (λ fails. list_any_none p xs (λ k d lt. search (arith, rules, cases_eq k n, none k d, get_or_default xs n d e)) ∙
+    sym fails)
+    (cases_Bool (p (get_or xs n e)))
+
+module _ (input slot : ℕ) (names : List Name) (order : AllPairs IsNameBefore names) (at : ℕ) (few : at ≤ length names)
+    (point : IsPartitionPoint (λ n. is_ahead input slot n ≡ true) (λ n. is_ahead input slot n ≡ false) names at) where
+  ahead_not_its : (k : ℕ) (d : Name) → k < at → is_its input slot (get_or names k d) ≡ false
+  ahead_not_its k d lt = grind (arith, common_steps, ahead_says, not_its)
+
+  -- past the last name there is none
+  pub named_past : length names ≤ at → false ≡ list_any (is_its input slot) names
+  named_past past = search (arith, rules, list_any_none, ahead_not_its)
+
+  pub named_here : (e : Name) → at < length names →
+      is_its input slot (get_or names at e) ≡ list_any (is_its input slot) names
+  named_here e inside = sym (any_only (is_its input slot) names at e inside (λ k d within other.
+      let before = order at k d in
+      let fails = point.1 at d in
+      let says = says_ahead input slot (get_or names at d) in
+      grind (arith, common_steps, cases_lt k at, ahead_not_its k d, not_its input slot (get_or names k d))))
+
+-- two names are of different arrivals
+abbrev pub Differ : Named → Named → Type 0
+Differ a b = (a.slot ≡ b.slot) → a.input ≢ b.input
+
+abbrev IsApart : Name → Name → Type 0
+IsApart a b = same_name a b ≡ false
+
+apart_is : (came : List Arrival) (next : ℕ) (c d : Named) (m n : Name) → IsOf came next c m → IsOf came next d n →
+    Differ c d ↔ IsApart m n
+apart_is came next c d m n first second = (
+  (λ differ. grind (arith, common_steps, false_from_ne_true, same_name, and_parts, eqb-true)),
+  (λ fails slot input. grind (arith, common_steps, same_name, and_from, eq-eqb)),
+)
+
+-- ## All names
+
+abbrev CanBe : List Arrival → ℕ → Named → Type 0
+CanBe came next c = (c.slot < next) × IsSome (arriving_cell came c)
+
+module _ (came : List Arrival) (s : State) where
+  abbrev IsMiss : Named → Type 0
+  IsMiss c = told_of came s.head.next c ≡ None → ⊥
+
+  -- where each arrives none is missed
+  none_missed : AreArrivals came s → AllByRecursion IsMiss (named_in s)
+  none_missed are = grind (arith, common_steps, all_weaker, can_be_told, recursion_from_All)
+
+  pub buffered_missed : SomeMissed came s.head.next s.buffered → AreArrivals came s → ⊥
+  buffered_missed missed are = grind (arith, common_steps, all_back, all_front, none_missed)
+
+  pub sent_missed : (AllByRecursion (λ (d : Sent). IsMiss d.cell) s.sent → ⊥) → AreArrivals came s → ⊥
+  sent_missed missed are = grind (arith, common_steps, images_held, all_back, none_missed)
+
+  -- the cells that were looked up, and all their names
+  pub record AreLookedUp (listed buffered : List Queued) (sent : List Gone) (names : List Name) : Type 0 where
+    pub listed_are : AreFound came s.head.next s.listed listed
+    pub buffered_are : AreFound came s.head.next s.buffered buffered
+    pub sent_are : AreGone came s.head.next s.sent sent
+    pub same : IsPermutation (names_of listed buffered sent) names
+
+  module _ {listed buffered : List Queued} {sent : List Gone} {names : List Name}
+      (are : AreLookedUp listed buffered sent names) where
+    zips : AllZip (IsOf came s.head.next) (named_in s) (names_of listed buffered sent)
+    zips = names_zip came s listed buffered sent are.listed_are are.buffered_are are.sent_are
+
+    abbrev told : List Name
+    told = names_of listed buffered sent
+
+    apart_alike : AllPairs Differ (named_in s) ↔ AllPairs IsApart told
+    apart_alike = pairs_alike (IsOf came s.head.next) Differ IsApart (apart_is came s.head.next) (named_in s) told zips
+
+    -- names that stand strictly in order are of different arrivals, and each arrives
+    pub are_arrivals : AllPairs IsNameBefore names → AreArrivals came s
+    are_arrivals rising =
+        let still = still_differ names told (IsPermutation-sym told names are.same) (rising_differ names rising) in
+        let apart = apart_from_distinct same_name told in
+        search (arith, rules, All-from_recursion (CanBe came s.head.next) (named_in s), each_left, zips, apart_alike)
+
+    -- and the other way
+    pub arrivals_rise : AllAdjacentBelow IsNameNotAfter names (length names) → AreArrivals came s →
+        AllPairs IsNameBefore names
+    arrivals_rise order arrive = rising_names names order
+        (still_differ told names are.same (IsDistinct-from_apart same_name told (apart_alike.0 arrive.once)))

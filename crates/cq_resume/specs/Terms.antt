@@ -2,18 +2,14 @@
 pub use Rattle.cq_base.specs.Cells.{IsBefore, IsRising}
 pub use Rattle.cq_route.specs.Tables.{AreTables, classes_of, ports_of}
 pub use Rattle.cq_cells.specs.Traffic.{IsTraffic}
-pub use Rattle.cq_rank.specs.Machine.{machine_at}
-pub use Rattle.cq_rank.specs.Switch.{AreSized}
+pub use Rattle.cq_rank.specs.{Machine.machine_at, Switch.AreSized}
 pub use Rattle.cq_scfq.specs.Disciplines.{machine_of, machines_of}
-pub use Rattle.cq_ideal.specs.Ending.{slots_of}
-pub use Rattle.cq_ideal.specs.Limiter.{CanCount}
-pub use Rattle.cq_ideal.specs.Refused.{with_refused}
+pub use Rattle.cq_ideal.specs.{Ending.slots_of, Limiter.CanCount, Refused.with_refused}
 pub use Rattle.cq_state.specs.Refusals.{IsTooLong}
 pub use Rattle.cq_state.specs.State.{IsInRange, state_text}
 pub use Rattle.cq_resume.specs.Counted.{IsTally, output_told, taken_of}
 pub use Rattle.cq_resume.specs.Finding.{StandsBelow, FlowsStand, IsNameBefore, Leaves, begins_at, AreGone, AreFound, IsFound, IsNameNotAfter, SomeMissed, sent_name, told_of, waiting_name, BuffersStand, IsBufferedBefore, IsListedBefore, IsNoLaterInput, IsSentBefore, IsTimely, ListsStand, SentStand, ArePackets, PacketsStand, TalliesUp, coming, has_limit, has_name, mark_on, may_come, unnamed, SlackStands, cushion_in}
-pub use Rattle.cq_resume.specs.Neighbours.{IsOfNeighbours}
-pub use Rattle.cq_resume.specs.Parts.{PartsJoin}
+pub use Rattle.cq_resume.specs.{Neighbours.IsOfNeighbours, Parts.PartsJoin}
 pub use Rattle.cq_resume.specs.Reading.{IsRead, IsRefusal, named_as, seen_as, sent_as, state_of, told_by}
 pub use Rattle.cq_resume.specs.Sound.{AreArrivals, IsForPorts, IsOnlyFor, IsMovedBefore, IsFirstOf, IsSound}
 pub use Rattle.cq_resume.specs.Steps.{AreCellsFor, AreNamesFor, AreOrdered, HaveRoom, IsFirstOfTwo, StandBelow}

@@ -1,14 +1,9 @@
 -- Where tables are in range, each route ends at one of the ports and in one of the classes: what is found stands in
 -- the tables, and so do the defaults.
-use Rattle.std.proofs.Common.{ℕ, suc, ◌<◌, Bool, List, [], ◌∷◌, Option, Some, All, arith}
-use Rattle.std.proofs.lemmas.Bool.{cond_both}
-use Rattle.std.specs.List.{find}
-use Rattle.std.specs.Option.{option_map_or}
+use Rattle.cq_route.proofs.Terms.{ℕ, suc, ◌<◌, Bool, List, [], ◌∷◌, Option, Some, All, arith, cond_both, find, option_map_or, Tables, is_to, is_met, output_for, class_for, fields_of, route}
 use Rattle.cq_frame.specs.declared.frame.FrameParts.{FrameParts}
-use Rattle.cq_route.specs.declared.tables.Tables.{Tables}
 use Rattle.cq_route.specs.Tables.{AreTables, classes_of, ports_of}
 use Rattle.cq_frame.specs.Frame.{destination}
-use Rattle.cq_route.specs.Route.{is_to, is_met, output_for, class_for, fields_of, route}
 
 -- what holds of the value of each item, and of the default, holds of that of the first item that passes a test, or of
 -- the default

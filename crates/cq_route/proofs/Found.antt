@@ -1,6 +1,5 @@
 -- What is read off an item that was looked for.
-use Rattle.std.proofs.Common.{◌≡◌, ℕ, Option, None, Some, option_map, ap, sym, ◌∙◌}
-use Rattle.std.specs.Option.{option_map_or}
+use Rattle.cq_route.proofs.Terms.{◌≡◌, ℕ, Option, None, Some, option_map, ap, sym, ◌∙◌, option_map_or}
 
 -- the search answered a reference to an item: its value
 pub taken : {X Y : Type 0} (v : Y → X) (f : X → ℕ) (o : Option X) (r : Option Y) (y : Y) (d : ℕ) →

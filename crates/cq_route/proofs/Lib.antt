@@ -1,3 +1,4 @@
+mod Terms
 pub mod Bounds
 pub mod Found
 pub mod Listed

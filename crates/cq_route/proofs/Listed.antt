@@ -1,23 +1,7 @@
 -- Rows that are listed by the numbers of their addresses.
-use Rattle.std.proofs.lemmas.Grind.{common_steps}
-use Rattle.std.proofs.Common.{ℕ, zero, suc, ◌≡◌, ◌<◌, ◌==◌, ◌+◌, Bool, w64, List, [], ◌∷◌, ◌++◌, length, take, drop, get_or, Option, None, Some, option_map, All, refl, ap, sym, ◌∙◌, arith, nat_cmp, BTreeMap, rules, if◌then◌else◌, subst}
-use Rattle.std.specs.BTreeMap.{get, IsEmpty}
-use Rattle.std.specs.Int.{to_be_bytes}
-use Rattle.std.specs.List.{find}
-use Rattle.std.specs.Option.{option_map_or, option_or, unwrap_or}
-use Rattle.std.specs.Str.{bytes_eq}
-use Rattle.std.proofs.lemmas.Bool.{cond_both}
-use Rattle.std.proofs.lemmas.Bool.Decides.{Decides-eqb, same_from_decides}
-use Rattle.std.proofs.lemmas.List.{take_more}
-use Rattle.std.proofs.lemmas.List.Elements.{All-push}
-use Rattle.std.proofs.lemmas.List.Folds.{find-append}
-use Rattle.std.proofs.lemmas.Nat.{be_bytes_8}
-use Rattle.std.proofs.lemmas.Slice.Eq.{bytes_eq-Decides}
+use Rattle.cq_route.proofs.Terms.{common_steps, ℕ, zero, suc, ◌≡◌, ◌<◌, ◌==◌, ◌+◌, Bool, w64, List, [], ◌∷◌, ◌++◌, length, take, drop, get_or, Option, None, Some, option_map, All, refl, ap, sym, ◌∙◌, arith, nat_cmp, BTreeMap, rules, if◌then◌else◌, subst, IsEmpty, to_be_bytes, find, option_map_or, option_or, unwrap_or, bytes_eq, cond_both, Decides-eqb, same_from_decides, take_more, All-push, find-append, be_bytes_8, bytes_eq-Decides, AddressRow, Tables, IsAddress, IsDirectoryOf, number_of, some_if, is_to, output_for}
+use Rattle.std.specs.BTreeMap.{get}
 use Rattle.cq_route.specs.declared.directory.Directory.{Directory}
-use Rattle.cq_route.specs.declared.tables.AddressRow.{AddressRow}
-use Rattle.cq_route.specs.declared.tables.Tables.{Tables}
-use Rattle.cq_route.specs.Directory.{IsAddress, IsDirectoryOf, number_of, some_if}
-use Rattle.cq_route.specs.Route.{is_to, output_for}
 
 -- the output of the first row whose address has this number
 abbrev pub listed : List AddressRow → ℕ → Option ℕ
@@ -118,8 +102,7 @@ listed_more rows i old new n d inside l a is learnt =
     let more : take (i + 1) rows ≡ take i rows ++ row ∷ [] = take_more rows i d inside in
     subst (λ (rs : List AddressRow). AreListed rs new) (sym more) (record {
       macs = All-push (λ (r : AddressRow). IsAddress r.mac) (take i rows) row l.macs a;
-      known =
-          λ q. learnt q ∙ ap (λ (o : Option ℕ). option_or o (some_if (n == q) row.output)) (l.known q)
+      known = λ q. learnt q ∙ ap (λ (o : Option ℕ). option_or o (some_if (n == q) row.output)) (l.known q)
           ∙ ap (λ (m : ℕ). option_or (listed (take i rows) q) (some_if (m == q) row.output)) is
           ∙ sym (listed_push (take i rows) row q);
     })

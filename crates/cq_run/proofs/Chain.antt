@@ -1,21 +1,59 @@
 -- One judgement after another. Where the first ends without an answer, so do both; where it has one, both end as the
 -- second does. A name that the second is to read is to be read by both, since the first comes to the same without it,
--- or misses it.
-use Rattle.std.proofs.Common.{rules, arith, ◌≡◌, ◌∙◌, ◌⊎◌, ℕ, IsTrue, List, ap, refl, sym, inl}
-use Rattle.std.proofs.lemmas.Grind.{common_steps}
-use Rattle.std.specs.Prelude.{Option, None, Some, IfSome, Result, Ok, Err}
+-- or misses it. First, the count of faults where an answer tells of none.
+use Rattle.cq_run.proofs.Terms.{rules, arith, ◌≡◌, ◌∙◌, ◌⊎◌, ℕ, IsTrue, List, ap, refl, inl, inr, Option, None, Some, IfSome, Result, Ok, Err, common_steps, Contents, Space, Closed, Mode, Refusal, Missing, Halt, Refused, Unread, NoMemory, meaning_of, ◌>>=◌, Halts, IsHaltOf, Judges, InTurn, Pace, Ahead, Uncounted, AnyName, Rose, Call, Fails, Lasts}
 use Rattle.std.specs.FinMap.{remove}
-use Rattle.cq_space.specs.Space.{Contents, Space, Closed}
-use Rattle.cq_run.specs.declared.refusal.Refusal.{Refusal}
-use Rattle.cq_run.specs.declared.refusal.Refusal.TheVariants.{Missing}
-use Rattle.cq_run.specs.declared.stop.Halt.{Halt}
-use Rattle.cq_run.specs.declared.stop.Halt.TheVariants.{Refused, Unread, NoMemory}
-use Rattle.cq_run.specs.Refusals.{meaning_of}
-use Rattle.cq_run.specs.Verdict.{◌>>=◌}
-use Rattle.cq_run.specs.Judging.{IsToRead, Halts, IsHaltOf, Judges}
-use Rattle.cq_run.specs.Pace.{InTurn, Pace}
-use Rattle.cq_run.proofs.Counted.{counts_same, halts_at, name_after, outrun_after}
 use Rattle.cq_run.proofs.Stays.{Stays}
+
+-- a call that failed after something else was done failed also since that began, where it counted no fault
+pub fails_after : {S : Type 0} (space : S → Space) (may_fail : Call → S → S → Type 0) (keeps : S → S → Type 0)
+    (kind : Mode → Call → Type 0) (old mid new : S) → Lasts keeps → (space mid).faults ≡ (space old).faults →
+    keeps old mid
+    → Fails space may_fail keeps kind mid new → Fails space may_fail keeps kind old new
+fails_after space may_fail keeps kind old mid new lasts same kept h =
+    grind (arith, common_steps, lasts.both old mid h.before kept h.kept)
+
+-- a fault that was counted since some moment was counted since the start
+pub rose_from : (old mid new : ℕ) → mid ≡ old → Rose mid new → Rose old new
+rose_from old mid new l r = omega arith
+
+-- it is as before
+pub counts_same : (pace : Pace) (U : Type 0) (old new : ℕ) → new ≡ old → Uncounted pace U old new
+counts_same InTurn U old new e = e
+counts_same Ahead U old new e = inl e
+
+-- it was as before up to some moment, and what holds where it rose since then implies more
+pub counts_after : (pace : Pace) (U V : Type 0) (old mid new : ℕ) → (U → V) → mid ≡ old → Uncounted pace U mid new
+    → Uncounted pace V old new
+counts_after InTurn U V old mid new f e h = h ∙ e
+counts_after Ahead U V old mid new f e (inl h) = inl (h ∙ e)
+counts_after Ahead U V old mid new f e (inr h) = inr (rose_from old mid new e h.0, f h.1)
+
+-- more may be said of a name that was unread
+pub name_after : (pace : Pace) (R S : List ℕ → Type 0) (old mid new : ℕ) → ((name : List ℕ) → R name → S name)
+    → mid ≡ old → Uncounted pace (AnyName R) mid new → Uncounted pace (AnyName S) old new
+name_after pace R S old mid new i e h = search (arith, rules, counts_after pace (AnyName R) (AnyName S) old mid new)
+
+-- the same beside something that stays
+pub outrun_after : (pace : Pace) (T : Type 0) (R S : List ℕ → Type 0) (old mid new : ℕ)
+    → ((name : List ℕ) → R name → S name) → mid ≡ old → Uncounted pace (T × AnyName R) mid new
+    → Uncounted pace (T × AnyName S) old new
+outrun_after pace T R S old mid new i e h =
+    grind (arith, common_steps, counts_after pace (T × AnyName R) (T × AnyName S) old mid new)
+
+-- what ends reading in turn ends it at either pace
+pub halts_at : {A : Type 0} (p : Pace) (j : Contents → Result A Refusal) (R : List ℕ → Type 0) (old new : Space)
+    (halt : Halt) → Halts InTurn j R old new halt → Halts p j R old new halt
+halts_at InTurn j R old new halt h = h
+halts_at Ahead j R old new (Refused refusal) h = (h.0, inl h.1)
+halts_at Ahead j R old new NoMemory h = inl h
+halts_at Ahead j R old new (Unread name) h = h
+
+-- and where nothing did
+pub counts_of : {A : Type 0} (j : Contents → Result A Refusal) (R : List ℕ → Type 0) (old new : Space)
+    (result : Result A Halt) → Judges Ahead j R old new result → Uncounted Ahead (AnyName R) old.faults new.faults
+counts_of j R old new (Ok x) h = inl h.uncounted
+counts_of j R old new (Err halt) h = search (arith, rules, counts_after)
 
 -- ## The rest of a judgement
 
@@ -41,36 +79,39 @@ goes_on {A} {B} whole j f (Some m) x s e h = record {
   without = search (arith, rules, h.without);
 }
 
-module _ {B : Type 0} (whole rest : Contents → Result B Refusal) where
-  -- what ends the rest ends the whole
-  pub judges_back : {p : Pace} (R S : List ℕ → Type 0) (old mid new : Space) (halt : Halt) →
-      ((name : List ℕ) → R name → S name) → IfSome old.told (ComesTo whole rest) → mid.told ≡ old.told →
-      mid.faults ≡ old.faults → Judges p rest R mid new (Err halt) → Judges p whole S old new (Err halt)
-  judges_back {p} R S old mid new halt i c t l h = search (arith, rules, name_after)
+-- what ends the rest ends the whole
+pub judges_back : {B : Type 0} {whole rest : Contents → Result B Refusal} {p : Pace} {R S : List ℕ → Type 0}
+    {old mid new : Space} {halt : Halt} → ((name : List ℕ) → R name → S name) →
+    IfSome old.told (ComesTo whole rest) → mid.told ≡ old.told → mid.faults ≡ old.faults →
+    Judges p rest R mid new (Err halt) → Judges p whole S old new (Err halt)
+judges_back {whole = whole} {rest = rest} {p = p} {R = R} {S = S} {old = old} {mid = mid} {new = new} i c t l h =
+    search (arith, rules, name_after)
 
 -- ## One after the other
 
-module _ {A B : Type 0} (j : Contents → Result A Refusal) (f : A → Contents → Result B Refusal) where
-  -- both, one after the other
-  abbrev both : Contents → Result B Refusal
-  both m = j m >>= (λ x. f x m)
+-- both, one after the other
+abbrev both : {A B : Type 0} → (Contents → Result A Refusal) → (A → Contents → Result B Refusal) → Contents →
+    Result B Refusal
+both j f m = j m >>= (λ x. f x m)
 
-  -- the first ends both
-  pub judges_then : {p : Pace} (R S : List ℕ → Type 0) (old new : Space) (halt : Halt) →
-      ((name : List ℕ) → R name → S name) → Judges p j R old new (Err halt) → Judges p both S old new (Err halt)
-  judges_then {p} R S old new halt i h = search (arith, rules, name_after)
+-- the first ends both
+pub judges_then : {A B : Type 0} {j : Contents → Result A Refusal} (f : A → Contents → Result B Refusal) {p : Pace}
+    {R S : List ℕ → Type 0} {old new : Space} {halt : Halt} → ((name : List ℕ) → R name → S name) →
+    Judges p j R old new (Err halt) → Judges p (both j f) S old new (Err halt)
+judges_then {j = j} f {p} {R} {S} {old} {new} {halt} i h = search (arith, rules, name_after)
 
+module _ {A B : Type 0} {j : Contents → Result A Refusal} (f : A → Contents → Result B Refusal) {q p : Pace}
+    {Q : List ℕ → Type 0} {old mid : Space} {x : A} (g : Judges q j Q old mid (Ok x)) {S : List ℕ → Type 0}
+    {new : Space} where
   -- the second ends both
-  pub judges_after : {q p : Pace} (Q R S : List ℕ → Type 0) (old mid new : Space) (x : A) (halt : Halt) → Stays j →
-      ((name : List ℕ) → R name → S name) → Judges q j Q old mid (Ok x) → Judges p (f x) R mid new (Err halt) →
-      Judges p both S old new (Err halt)
-  judges_after {q} {p} Q R S old mid new x halt s i g h = judges_back both (f x) R S old mid new halt i
-      (goes_on both j f old.told x s g.ok (comes_to_itself both old.told)) g.told g.uncounted h
+  pub judges_after : {R : List ℕ → Type 0} {halt : Halt} → Stays j → ((name : List ℕ) → R name → S name) →
+      Judges p (f x) R mid new (Err halt) → Judges p (both j f) S old new (Err halt)
+  judges_after s i h = judges_back i (goes_on (both j f) j f old.told x s g.ok (comes_to_itself (both j f) old.told))
+      g.told g.uncounted h
 
   -- both have an answer
-  pub judges_both : {q p : Pace} (Q R S : List ℕ → Type 0) (old mid new : Space) (x : A) (y : B) →
-      Judges q j Q old mid (Ok x) → Judges p (f x) R mid new (Ok y) → Judges p both S old new (Ok y)
-  judges_both Q R S old mid new x y g h = search (arith, rules)
+  pub judges_both : {y : B} → Judges p (f x) S mid new (Ok y) → Judges p (both j f) S old new (Ok y)
+  judges_both {y} h = search (arith, rules)
 
 -- more may be said of names that are unread
 pub halts_more : {A : Type 0} (p : Pace) (j : Contents → Result A Refusal) (R S : List ℕ → Type 0) (old new : Space)
@@ -81,44 +122,36 @@ halts_more p j R S old new (Refused refusal) i h =
 halts_more p j R S old new (Unread name) i h = (h.0, i name h.1, h.2)
 halts_more p j R S old new NoMemory i h = name_after p R S old.faults old.faults new.faults i refl h
 
-pub judges_more : {A : Type 0} (p : Pace) (j : Contents → Result A Refusal) (R S : List ℕ → Type 0) (old new : Space)
-    (result : Result A Halt) → ((name : List ℕ) → R name → S name)
-    → Judges p j R old new result → Judges p j S old new result
-judges_more p j R S old new (Ok x) i h =
-    record { ok = h.ok; halt = tt; closed = h.closed; told = h.told; uncounted = h.uncounted }
-judges_more p j R S old new (Err halt) i h = grind (arith, common_steps, halts_more p j R S old new halt i h.halt)
+module _ {A : Type 0} {j : Contents → Result A Refusal} {p : Pace} {old new : Space} where
+  pub judges_more : {R S : List ℕ → Type 0} {result : Result A Halt} → ((name : List ℕ) → R name → S name) →
+      Judges p j R old new result → Judges p j S old new result
+  judges_more {result = Ok x} i h =
+      record { ok = h.ok; halt = tt; closed = h.closed; told = h.told; uncounted = h.uncounted }
+  judges_more {R = R} {S = S} {result = Err halt} i h =
+      grind (arith, common_steps, halts_more p j R S old new halt i h.halt)
 
--- what ends judging in turn ends it at either pace
-pub judges_at : {A : Type 0} (p : Pace) (j : Contents → Result A Refusal) (R : List ℕ → Type 0) (old new : Space)
-    (halt : Halt) → Judges InTurn j R old new (Err halt) → Judges p j R old new (Err halt)
-judges_at p j R old new halt h = grind (arith, common_steps, halts_at p j R old new halt h.halt)
+  -- what ends judging in turn ends it at either pace
+  pub judges_at : {R : List ℕ → Type 0} {halt : Halt} → Judges InTurn j R old new (Err halt) →
+      Judges p j R old new (Err halt)
+  judges_at {R} {halt} h = grind (arith, common_steps, halts_at p j R old new halt h.halt)
 
--- an answer says nothing of names that are unread
-pub judges_any : {A : Type 0} {p q : Pace} (j : Contents → Result A Refusal) (R S : List ℕ → Type 0) (old new : Space)
-    (x : A) → Judges p j R old new (Ok x) → Judges q j S old new (Ok x)
-judges_any j R S old new x h =
-    record { ok = h.ok; halt = tt; closed = h.closed; told = h.told; uncounted = h.uncounted }
+  -- an answer says nothing of names that are unread
+  pub judges_any : {q : Pace} {R S : List ℕ → Type 0} {x : A} → Judges p j R old new (Ok x) →
+      Judges q j S old new (Ok x)
+  judges_any h = record { ok = h.ok; halt = tt; closed = h.closed; told = h.told; uncounted = h.uncounted }
 
--- a computation that ends without an answer, where nothing was read
-pub judges_computed_err : {A : Type 0} (p : Pace) (r : Result A Refusal) (R : List ℕ → Type 0) (at : Space)
-    (halt : Halt) → at.mode ≡ Closed → IsHaltOf r halt → Judges p (λ (m : Contents). r) R at at (Err halt)
-judges_computed_err p r R at halt c h = search (arith, rules, counts_same)
+module _ {A : Type 0} {p : Pace} {r : Result A Refusal} {R : List ℕ → Type 0} {at : Space} where
+  -- a computation that ends without an answer, where nothing was read
+  pub judges_computed_err : {halt : Halt} → at.mode ≡ Closed → IsHaltOf r halt →
+      Judges p (λ (m : Contents). r) R at at (Err halt)
+  judges_computed_err {halt} c h = search (arith, rules, counts_same)
 
--- one that has an answer
-pub judges_computed : {A : Type 0} {p : Pace} (r : Result A Refusal) (R : List ℕ → Type 0) (at : Space) (x : A) →
-    at.mode ≡ Closed → r ≡ Ok x → Judges p (λ (m : Contents). r) R at at (Ok x)
-judges_computed r R at x c e = search (arith, rules)
+  -- one that has an answer
+  pub judges_computed : {x : A} → at.mode ≡ Closed → r ≡ Ok x → Judges p (λ (m : Contents). r) R at at (Ok x)
+  judges_computed c e = search (arith, rules)
 
 -- judgements that come to the same of all contents
-module _ {A : Type 0} (j k : Contents → Result A Refusal) (same : (m : Contents) → j m ≡ k m) where
-  read_as : (told : Option Contents) (name : List ℕ) → IsToRead j told name → IsToRead k told name
-  read_as None name h = tt
-  read_as (Some m) name h = sym (same (remove m name)) ∙ h
-
-  pub judges_as_ok : {p : Pace} (R : List ℕ → Type 0) (old new : Space) (x : A) → Judges p j R old new (Ok x) →
-      Judges p k R old new (Ok x)
-  judges_as_ok R old new x h = search (arith, rules)
-
-  pub judges_as_err : {p : Pace} (R : List ℕ → Type 0) (old new : Space) (halt : Halt) →
-      Judges p j R old new (Err halt) → Judges p k R old new (Err halt)
-  judges_as_err {p} R old new halt h = search (arith, rules, read_as)
+pub judges_as : {A : Type 0} {j k : Contents → Result A Refusal} → ((m : Contents) → j m ≡ k m) → {p : Pace}
+    {R : List ℕ → Type 0} {old new : Space} {result : Result A Halt} → Judges p j R old new result →
+    Judges p k R old new result
+judges_as {j = j} {k = k} same h = let e : j ≡ k = λ i m. same m i in rw e at h

@@ -1,24 +1,6 @@
 -- No judgement of contents refuses the words: they are judged before any file is asked for.
-use Rattle.std.proofs.lemmas.Grind.{common_steps}
-use Rattle.std.proofs.Common.{arith, rules, ◌≡◌, ℕ, ◌+◌, List, [], ◌∷◌, ap}
-use Rattle.std.specs.Prelude.{Option, None, Some, Result, Ok, Err}
-use Rattle.cq_space.specs.Space.{Contents}
-use Rattle.cq_base.specs.declared.cell.Departure.{Departure}
-use Rattle.cq_base.specs.declared.cell.TagFault.{TagFault}
-use Rattle.cq_pcap.specs.Captured.{Captured}
-use Rattle.cq_route.specs.declared.tables.PortRow.{PortRow}
-use Rattle.cq_route.specs.declared.tables.Tables.{Tables}
-use Rattle.cq_route.specs.Plain.{plain_tables}
-use Rattle.cq_words.specs.declared.command.Command.{Command}
-use Rattle.cq_words.specs.declared.command.Command.TheVariants.{Pass, Check, Ideal, Run, Soak, Audit, Part, Resume}
-use Rattle.cq_run.specs.declared.refusal.Refusal.{Refusal}
-use Rattle.cq_run.specs.declared.refusal.Refusal.TheVariants.{Words}
+use Rattle.cq_run.proofs.Terms.{common_steps, arith, rules, ◌≡◌, ℕ, ◌+◌, List, [], ◌∷◌, ap, Option, Result, Ok, Err, Contents, Departure, TagFault, Captured, PortRow, Tables, plain_tables, Command, Pass, Check, Ideal, Run, Soak, Audit, Part, Resume, Refusal, Words, soak_tables, Aim, Exactly, Crossing, Parting, checked, Reader, ◌>>=◌, found_or_missing, tables_in, capture_in, captures_from, captures_in, sent_or_tag, ideally_sent, judged, short_in}
 use Rattle.cq_run.specs.declared.refusal.StateFault.TheVariants as stopped
-use Rattle.cq_gen.specs.Tables.{soak_tables}
-use Rattle.cq_run.specs.Aim.{Aim, Exactly, Crossing, Parting}
-use Rattle.cq_run.specs.Plans.{checked}
-use Rattle.cq_run.specs.Reader.{Reader}
-use Rattle.cq_run.specs.Verdict.{◌>>=◌, found_or_missing, tables_in, capture_in, captures_from, captures_in, sent_or_tag, ideally_sent, judged, short_in}
 
 -- the words are not refused
 abbrev pub IsOfContents : {A : Type 0} → Result A Refusal → Type 0
@@ -30,12 +12,10 @@ never_then (Ok x) f n g h = g x h
 never_then (Err e) f n g h = let is : e ≡ Words = cc h in n (ap Err is)
 
 never_found : (name : List ℕ) (o : Option (List ℕ)) → IsOfContents (found_or_missing name o)
-never_found name None h = cc
-never_found name (Some bytes) h = cc
+never_found name o h = grind (arith, common_steps)
 
 never_tag : (r : Result (List Departure) TagFault) → IsOfContents (sent_or_tag r)
-never_tag (Ok sent) h = cc
-never_tag (Err fault) h = cc
+never_tag r h = grind (arith, common_steps)
 
 never_tables : (name : List ℕ) (m : Contents) → IsOfContents (tables_in name m)
 never_tables name m = search (arith, rules, never_then, never_found)

@@ -1,25 +1,21 @@
 -- A switch of one port sends each cell in the slot in which it comes. Cells come one after another, at most one in a
 -- slot. So no cell waits when a slot begins; the cell that comes is alone in the one list, and leaves.
-use Rattle.std.proofs.lemmas.Grind.{common_steps}
-use Rattle.std.proofs.Common.{◌≡◌, ℕ, zero, suc, ◌+◌, ◌<◌, ◌≤◌, Bool, true, false, cond, List, [], ◌∷◌, map, replicate, Option, Some, None, Result, Ok, Err, refl, sym, ap, ◌∙◌, subst, ⊎_elim, arith}
-use Rattle.std.specs.Prelude.{◌==◌, ◌^◌, nat_lt, find, slice_set, slice_index_or}
-use Rattle.std.specs.Option.{option_map}
-use Rattle.std.specs.List.{AllByRecursion, range_with_len}
-use Rattle.std.proofs.lemmas.Bool.{cases_eq, cond-true, eq-eqb, ne_eqb, and_from, and_left, and_right, cond-false}
-use Rattle.cq_base.specs.Arriving.{Arrival, arriving, arriving_at, is_at}
+-- The departures are the arrivals, and every packet leaves with its last cell, which alone is marked as last.
+use Rattle.cq_run.proofs.Terms.{common_steps, ◌≡◌, ℕ, zero, suc, ◌+◌, ◌<◌, ◌≤◌, Bool, true, false, cond, List, [], ◌∷◌, map, replicate, Option, Some, None, Result, Ok, Err, refl, sym, ap, ◌∙◌, subst, ⊎_elim, arith, rules, ◌-◌, ◌*◌, length, flat_map, ◌==◌, ◌^◌, nat_lt, find, slice_index_or, append-nil, option_map, AllByRecursion, range_with_len, AllPairs, filter, cases_eq, cond-true, eq-eqb, and_from, Arrival, arriving, arriving_at, is_at, end_of, enough, traffic_of, Departure, TagFault, filter-append, arrivals, arrivals_at, arrivals_of, cell_of, cells, cells_of, first_stamp, packet_at, start, IsInRange, IsLater, IsTraffic, traffic_is, departures_limited, whole_limited_run, LimitedRan, empty_limited, unlimited, all_weaker, run_as_before, same_sent, Captured, AreTables, classes_of, ports_of, Tables, machines_of, openings_of, ideal_departures, ran_ideal, ends_packet_at, leaving, packets_out, all_leave, as_it_leaves}
 use Rattle.cq_base.specs.declared.cell.Cell.{Cell}
-use Rattle.cq_base.specs.declared.cell.Departure.{Departure}
 use Rattle.cq_base.specs.declared.cell.Queued.{Queued}
-use Rattle.cq_base.specs.declared.cell.TagFault.{TagFault}
 use Rattle.cq_rank.specs.Machine.{Machine, machine_at}
 use Rattle.cq_ideal.specs.Ending.{arriving_from}
-use Rattle.cq_ideal.specs.IdealRun.{Ran, departures_of, ideal_run, then_ran}
+use Rattle.cq_ideal.specs.IdealRun.{Ran, departures_of, ideal_run, departures_ran, empty_ideal}
 use Rattle.cq_ideal.specs.IdealSlot.{IdealState, Sent, all_told, departures_in, filled, fronts, ideal_sends, ideal_slot, put_all, rests}
 use Rattle.cq_ideal.specs.Ranking.{Ranking, after_input, keyed, ranking}
 use Rattle.cq_ideal.proofs.FlowFound.{arriving_is}
-use Rattle.cq_ideal.proofs.FlowPut.{all_from}
-use Rattle.cq_ideal.proofs.Parted.{next_slot}
+use Rattle.cq_ideal.proofs.Parted.{first_slot}
 use Rattle.cq_ideal.proofs.Resting.{ranked_none}
+use Rattle.cq_ideal.specs.Admission.{NoLimits}
+use Rattle.cq_ideal.proofs.Ends.{all_slots}
+use Rattle.cq_ideal.proofs.FlowCount.{before_end}
+use Rattle.cq_pcap.specs.declared.write.OutPacket.{OutPacket}
 
 -- cells of the one input for the one output, of which each comes later than the one before it, from this slot on
 pub record IsNextFrom (slot : ℕ) (a : Arrival) : Type 0 where
@@ -33,41 +29,28 @@ InTurnFrom slot (a ∷ came) = IsNextFrom slot a × InTurnFrom (a.slot + 1) came
 
 -- ## What comes in a slot
 
-all_none : (f : ℕ → Option Cell) (a n : ℕ) → ((k : ℕ) → a ≤ k → f k ≡ None) →
-    map f (range_with_len a n) ≡ replicate n None
-all_none f a zero e = refl
-all_none f a (suc n) e = ap (λ (o : Option Cell). o ∷ map f (range_with_len (a + 1) n)) (e a (omega arith))
-    ∙ ap (λ (l : List (Option Cell)). None ∷ l) (all_none f (a + 1) n (λ k l. e k (omega arith)))
-
 all_same : {X : Type 0} (f g : ℕ → X) (a n : ℕ) → ((k : ℕ) → a ≤ k → f k ≡ g k) →
     map f (range_with_len a n) ≡ map g (range_with_len a n)
 all_same f g a zero e = refl
-all_same {X} f g a (suc n) e = ap (λ (x : X). x ∷ map f (range_with_len (a + 1) n)) (e a (omega arith))
-    ∙ ap (λ (l : List X). g a ∷ l) (all_same f g (a + 1) n (λ k l. e k (omega arith)))
+all_same f g a (suc n) e =
+    let here = e a (omega arith) in let behind = all_same f g (a + 1) n (λ k l. e k (omega arith)) in cc
 
--- an arrival that is not of this slot and at this input hides nothing
-skipped : (a : Arrival) (came : List Arrival) (t k : ℕ) → is_at t k a ≡ false →
-    arriving_at (a ∷ came) t k ≡ arriving_at came t k
-skipped a came t k e = cc (cond-false (is_at t k a) (Some a) (find (is_at t k) came) e)
-
-other_slot : (a : Arrival) (came : List Arrival) (t k : ℕ) → (a.slot ≡ t → ⊥) →
-    arriving_at (a ∷ came) t k ≡ arriving_at came t k
-other_slot a came t k ne = skipped a came t k (and_left (a.slot == t) (a.cell.id.input == k) (ne_eqb a.slot t ne))
-
-other_input : (a : Arrival) (came : List Arrival) (t k : ℕ) → (a.cell.id.input ≡ k → ⊥) →
-    arriving_at (a ∷ came) t k ≡ arriving_at came t k
-other_input a came t k ne = simp (skipped, and_right, a.slot, a.cell.id.input, ne_eqb)
+all_none : (f : ℕ → Option Cell) (a n : ℕ) → ((k : ℕ) → a ≤ k → f k ≡ None) →
+    map f (range_with_len a n) ≡ replicate n None
+all_none f a zero e = refl
+all_none f a (suc n) e =
+    let here = e a (omega arith) in let behind = all_none f (a + 1) n (λ k l. e k (omega arith)) in cc
 
 -- none comes before its slot, or at another input
 none_before : (slot : ℕ) (came : List Arrival) (t k : ℕ) → InTurnFrom slot came → t < slot → arriving_at came t k ≡ None
 none_before slot [] t k turn less = refl
 none_before slot (a ∷ came) t k turn less =
-    grind (arith, common_steps, other_slot a came t k, none_before (a.slot + 1) came t k turn.1)
+    grind (arith, common_steps, none_before (a.slot + 1) came t k turn.1)
 
 none_elsewhere : (slot : ℕ) (came : List Arrival) (t k : ℕ) → InTurnFrom slot came → 0 < k → arriving_at came t k ≡ None
 none_elsewhere slot [] t k turn some = refl
 none_elsewhere slot (a ∷ came) t k turn some =
-    grind (arith, common_steps, other_input a came t k, none_elsewhere (a.slot + 1) came t k turn.1 some)
+    grind (arith, common_steps, none_elsewhere (a.slot + 1) came t k turn.1 some)
 
 module _ (inputs : ℕ) (many : suc inputs ≡ 64) where
   none_comes : (slot : ℕ) (came : List Arrival) (t : ℕ) → InTurnFrom slot came → t < slot →
@@ -75,17 +58,16 @@ module _ (inputs : ℕ) (many : suc inputs ≡ 64) where
   none_comes slot came t turn less = arriving_is came t (suc inputs) many
       ∙ all_none (arriving_at came t) 0 (suc inputs) (λ k _. none_before slot came t k turn less)
 
-  one_comes : (slot : ℕ) (a : Arrival) (came : List Arrival) → InTurnFrom slot (a ∷ came) →
-      arriving (a ∷ came) a.slot ≡ Some a.cell ∷ replicate inputs None
-  one_comes slot a came turn =
-      let here : is_at a.slot 0 a ≡ true = and_from (a.slot == a.slot) (a.cell.id.input == 0)
-      (eq-eqb a.slot a.slot refl) (eq-eqb a.cell.id.input 0 turn.0.input) in
-      let first : arriving_at (a ∷ came) a.slot 0 ≡ Some a.cell = ap (option_map (λ (x : Arrival). x.cell))
-      (cond-true (is_at a.slot 0 a) (Some a) (find (is_at a.slot 0) came) here) in
-      arriving_is (a ∷ came) a.slot (suc inputs) many
-      ∙ ap (λ (o : Option Cell). o ∷ map (arriving_at (a ∷ came) a.slot) (range_with_len 1 inputs)) first
-      ∙ ap (λ (l : List (Option Cell)). Some a.cell ∷ l) (all_none (arriving_at (a ∷ came) a.slot) 1 inputs
-      (λ k l. none_elsewhere slot (a ∷ came) a.slot k turn (omega arith)))
+  one_comes : (s : ℕ) (a : Arrival) (came : List Arrival) → a.slot ≡ s → InTurnFrom s (a ∷ came) →
+      arriving (a ∷ came) s ≡ Some a.cell ∷ replicate inputs None
+  one_comes s a came e turn =
+      let here : is_at s 0 a ≡ true = and_from (a.slot == s) (a.cell.id.input == 0) (eq-eqb a.slot s e)
+      (eq-eqb a.cell.id.input 0 turn.0.input) in
+      let first : arriving_at (a ∷ came) s 0 ≡ Some a.cell = ap (option_map (λ (x : Arrival). x.cell))
+      (cond-true (is_at s 0 a) (Some a) (find (is_at s 0) came) here) in
+      let others = all_none (arriving_at (a ∷ came) s) 1 inputs
+      (λ k l. none_elsewhere s (a ∷ came) s k turn (omega arith)) in
+      cc (arriving_is (a ∷ came) s (suc inputs) many)
 
   same_later : (a : Arrival) (came : List Arrival) (t : ℕ) → a.slot < t → arriving (a ∷ came) t ≡ arriving came t
   same_later a came t less =
@@ -127,11 +109,7 @@ module _ (ms : List Machine) (slot : ℕ) (ranks : List (List ℕ)) where
         after = record { lists = rests full; ranks = all_told ms (fronts full) rs };
       } in
       let same : made ≡ sent = cc h in
-      let kept : sent.after.lists ≡ rests lists = ap (λ (x : Sent). x.after.lists) (sym same) ∙ ap rests is in (
-        ap (λ (x : Sent). x.gone) (sym same) ∙ ap fronts is,
-        ap (λ (l : List (List Queued)). let s : IdealState = record { lists = l; ranks = sent.after.ranks } in s)
-            kept,
-      )
+      rw (← same, is) (refl, refl)
 
   none_sent : (n : ℕ) (sent : Sent) → ideal_slot ms slot (replicate n None) (alone ranks) ≡ Ok sent
       → (sent.gone ≡ None ∷ []) × (sent.after ≡ alone sent.after.ranks)
@@ -139,39 +117,25 @@ module _ (ms : List Machine) (slot : ℕ) (ranks : List (List ℕ)) where
   none_sent n sent h = sends_of (replicate n None) ranks ([] ∷ []) sent (filled_none n)
       (sym (ap (ideal_sends ms (alone ranks)) (ranked_none ms slot 0 n ranks)) ∙ h)
 
+  sends_one : (n : ℕ) (q : Queued) (given : List (List ℕ)) (fault : TagFault) (fits : Bool) (sent : Sent) →
+      q.cell.output ≡ 0 → ideal_sends ms (alone ranks)
+      (cond fits (after_input (Some q) (ranking ms slot 1 (replicate n None) given)) (Err fault)) ≡ Ok sent
+      → (sent.gone ≡ Some q ∷ []) × (sent.after ≡ alone sent.after.ranks)
+  sends_one n q given fault true sent out h =
+      sends_of (Some q ∷ replicate n None) given ((q ∷ []) ∷ []) sent (filled_one n q out)
+      (sym (ap (λ (r : Result Ranking TagFault). ideal_sends ms (alone ranks) (after_input (Some q) r))
+      (ranked_none ms slot 1 n given)) ∙ h)
+  sends_one n q given fault false sent out h = absurd (let P : ⊥ = cc h in P)
+
   one_sent : (n : ℕ) (cell : Cell) (sent : Sent) → cell.output ≡ 0 →
       ideal_slot ms slot (Some cell ∷ replicate n None) (alone ranks) ≡ Ok sent
       → (q : Queued) × (q.cell ≡ cell) × (sent.gone ≡ Some q ∷ []) × (sent.after ≡ alone sent.after.ranks)
   unfolding ideal_slot
-  one_sent n cell sent out h = by (nat_lt rank (2 ^ 128)) h
-    where
-      m : Machine
-      m = machine_at ms cell.output
-
-      state : List ℕ
-      state = slice_index_or ranks cell.output []
-
-      rank : ℕ
-      rank = m.ranked state cell.class
-
-      given : List (List ℕ)
-      given = slice_set ranks cell.output (m.given state cell.class)
-
-      q : Queued
-      q = keyed cell (m.level cell.class) rank slot 0
-
-      fault : TagFault
-      fault = record { slot = slot; input = 0; output = cell.output }
-
-      by : (b : Bool) → ideal_sends ms (alone ranks)
-          (cond b (after_input (Some q) (ranking ms slot 1 (replicate n None) given)) (Err fault)) ≡ Ok sent
-          → (q : Queued) × (q.cell ≡ cell) × (sent.gone ≡ Some q ∷ []) × (sent.after ≡ alone sent.after.ranks)
-      by true h =
-          let both = sends_of (Some q ∷ replicate n None) given ((q ∷ []) ∷ []) sent (filled_one n q out)
-          (sym (ap (λ (r : Result Ranking TagFault). ideal_sends ms (alone ranks) (after_input (Some q) r))
-          (ranked_none ms slot 1 n given)) ∙ h) in
-          (q, refl, both.0, both.1)
-      by false h = absurd (let P : ⊥ = cc h in P)
+  one_sent n cell sent out h =
+      let m = machine_at ms cell.output in
+      let rank = m.ranked (slice_index_or ranks cell.output []) cell.class in
+      let both = sends_one n (keyed cell (m.level cell.class) rank slot 0) _ _ (nat_lt rank (2 ^ 128)) sent out h in
+      (keyed cell (m.level cell.class) rank slot 0, refl, both.0, both.1)
 
 -- ## Slot after slot
 
@@ -179,115 +143,215 @@ module _ (ms : List Machine) (slot : ℕ) (ranks : List (List ℕ)) where
 abbrev pub as_arrival : Departure → Arrival
 as_arrival d = record { slot = d.slot; cell = d.queued.cell }
 
-ran_then : (gone : List (Option Queued)) (y : Result Ran TagFault) (ran : Ran) → then_ran gone y ≡ Ok ran →
-    (rest : Ran) × (y ≡ Ok rest) × (ran.gone ≡ gone ∷ rest.gone)
-ran_then gone (Ok rest) ran h =
-    let made : Ran = record { gone = gone ∷ rest.gone; after = rest.after } in
-    let same : made ≡ ran = cc h in (rest, refl, ap (λ (x : Ran). x.gone) (sym same))
-ran_then gone (Err fault) ran h = absurd (let P : ⊥ = cc h in P)
-
-sent_then : (ms : List Machine) (slot : ℕ) (traffic : List (List (Option Cell))) (x : Result Sent TagFault)
-    (ran : Ran) → next_slot ms slot traffic x ≡ Ok ran
-    → (sent : Sent) × (x ≡ Ok sent) × (rest : Ran) × (ideal_run ms slot traffic sent.after ≡ Ok rest)
-    × (ran.gone ≡ sent.gone ∷ rest.gone)
-sent_then ms slot traffic (Ok sent) ran h =
-    let t = ran_then sent.gone (ideal_run ms slot traffic sent.after) ran h in (sent, refl, t.0, t.1, t.2)
-sent_then ms slot traffic (Err fault) ran h = absurd (let P : ⊥ = cc h in P)
-
 -- the departures are these arrivals, each from the one output
 pub record AreInSlot (came : List Arrival) (sent : List Departure) : Type 0 where
   pub cells : map as_arrival sent ≡ came
   pub output : AllByRecursion (λ d. d.output ≡ 0) sent
-
-in_slot_nil : (s : ℕ) (gone : List (List (Option Queued))) → gone ≡ [] → AreInSlot [] (departures_of s gone)
-unfolding departures_of
-in_slot_nil s gone e =
-    let P : List (List (Option Queued)) → Type 0 = λ g. AreInSlot [] (departures_of s g) in
-    subst P (sym e) (record { cells = refl; output = tt })
-
-in_slot_none : (s : ℕ) (came : List Arrival) (gone : List (List (Option Queued))) →
-    AreInSlot came (departures_of (s + 1) gone) → AreInSlot came (departures_of s ((None ∷ []) ∷ gone))
-unfolding departures_of departures_in
-in_slot_none s came gone h = h
 
 in_slot_one : (s : ℕ) (a : Arrival) (q : Queued) (came : List Arrival) (gone : List (List (Option Queued))) →
     a.slot ≡ s → q.cell ≡ a.cell
     → AreInSlot came (departures_of (s + 1) gone) → AreInSlot (a ∷ came) (departures_of s ((Some q ∷ []) ∷ gone))
 unfolding departures_of departures_in
 in_slot_one s a q came gone e f h = record {
-  cells =
-      ap (λ (l : List Arrival). let b : Arrival = record { slot = s; cell = q.cell } in b ∷ l) h.cells
-      ∙ ap (λ (n : ℕ). let b : Arrival = record { slot = n; cell = q.cell } in b ∷ came) (sym e)
-      ∙ ap (λ (c : Cell). let b : Arrival = record { slot = a.slot; cell = c } in b ∷ came) f;
+  cells = rw (h.cells, ← e, f) refl;
   output = (refl, h.output);
 }
-
-as_gone : (s : ℕ) (came : List Arrival) (gone other : List (List (Option Queued))) → gone ≡ other →
-    AreInSlot came (departures_of s other) → AreInSlot came (departures_of s gone)
-as_gone s came gone other e h =
-    let P : List (List (Option Queued)) → Type 0 = λ g. AreInSlot came (departures_of s g) in subst P (sym e) h
 
 module _ (ms : List Machine) (inputs : ℕ) (many : suc inputs ≡ 64) where
   run_empty : (s : ℕ) (ranks : List (List ℕ)) (ran : Ran) → ideal_run ms s [] (alone ranks) ≡ Ok ran → ran.gone ≡ []
   unfolding ideal_run
   run_empty s ranks ran h = cc
 
-  run_slot : (s : ℕ) (cells : List (Option Cell)) (traffic : List (List (Option Cell))) (ranks : List (List ℕ))
-      (ran : Ran) → ideal_run ms s (cells ∷ traffic) (alone ranks) ≡ Ok ran
-      → (sent : Sent) × (ideal_slot ms s cells (alone ranks) ≡ Ok sent) × (rest : Ran)
-      × (ideal_run ms (s + 1) traffic sent.after ≡ Ok rest) × (ran.gone ≡ sent.gone ∷ rest.gone)
-  unfolding ideal_run
-  run_slot s cells traffic ranks ran h = sent_then ms (s + 1) traffic (ideal_slot ms s cells (alone ranks)) ran h
+  -- from this slot on these leave in their slots
+  abbrev LeaveFrom : ℕ → List Arrival → ℕ → Type 0
+  LeaveFrom s came n = (ranks : List (List ℕ)) (ran : Ran) →
+      ideal_run ms s (arriving_from came s n) (alone ranks) ≡ Ok ran → AreInSlot came (departures_of s ran.gone)
 
-  pub each_in_its_slot : (n s : ℕ) (came : List Arrival) (ranks : List (List ℕ)) (ran : Ran) → InTurnFrom s came →
-      AllByRecursion (λ a. a.slot < s + n) came
-      → ideal_run ms s (arriving_from came s n) (alone ranks) ≡ Ok ran → AreInSlot came (departures_of s ran.gone)
+  -- none comes in this slot
+  idle_slot : (n s : ℕ) (came : List Arrival) → InTurnFrom (s + 1) came → LeaveFrom (s + 1) came n →
+      LeaveFrom s came (suc n)
+  unfolding arriving_from departures_of departures_in
+  idle_slot n s came turn behind ranks ran h =
+      let cells = none_comes inputs many (s + 1) came s turn (omega arith) in
+      let p = first_slot ms s (replicate (suc inputs) None) (arriving_from came (s + 1) n) (alone ranks) ran
+      (rw cells at h) in
+      let is = none_sent ms s ranks (suc inputs) p.sent p.ran_slot in
+      rw (p.both, is.0) (behind p.sent.after.ranks p.second (rw is.1 at p.ran_second))
+
+  -- the first comes in this slot
+  busy_slot : (n s : ℕ) (a : Arrival) (came : List Arrival) → a.slot ≡ s → InTurnFrom s (a ∷ came) →
+      LeaveFrom (s + 1) came n → LeaveFrom s (a ∷ came) (suc n)
   unfolding arriving_from
-  each_in_its_slot zero s [] ranks ran turn before h = in_slot_nil s ran.gone (run_empty s ranks ran h)
-  each_in_its_slot zero s (a ∷ came) ranks ran turn before h =
+  busy_slot n s a came e turn behind ranks ran h =
+      let cells = one_comes inputs many s a came e turn in
+      let later = later_slots inputs many a came (s + 1) n (omega arith) in
+      let p = first_slot ms s (Some a.cell ∷ replicate inputs None) (arriving_from came (s + 1) n) (alone ranks) ran
+      (rw (cells, later) at h) in
+      let is = one_sent ms s ranks inputs a.cell p.sent turn.0.output p.ran_slot in
+      let rest = behind p.sent.after.ranks p.second (rw is.3 at p.ran_second) in
+      rw (p.both, is.2) (in_slot_one s a is.0 came p.second.gone e is.1 rest)
+
+  pub each_in_its_slot : (n s end : ℕ) (came : List Arrival) → InTurnFrom s came →
+      AllByRecursion (λ a. a.slot < end) came → end ≤ s + n → LeaveFrom s came n
+  unfolding arriving_from departures_of
+  each_in_its_slot zero s end [] turn before all ranks ran h =
+      rw (run_empty s ranks ran h) (record { cells = refl; output = tt })
+  each_in_its_slot zero s end (a ∷ came) turn before all ranks ran h =
       absurd (let f = turn.0.from in let l = before.0 in omega arith)
-  each_in_its_slot (suc n) s [] ranks ran turn before h =
-      let cells : arriving [] s ≡ replicate (suc inputs) None = none_comes inputs many (s + 1) [] s tt (omega arith) in
-      let step = run_slot s (replicate (suc inputs) None) (arriving_from [] (s + 1) n) ranks ran
-      (sym (ap (λ (c : List (Option Cell)). ideal_run ms s (c ∷ arriving_from [] (s + 1) n) (alone ranks)) cells) ∙ h)
-      in
-      let sent = none_sent ms s ranks (suc inputs) step.0 step.1 in
-      let rest =
-      each_in_its_slot n (s + 1) [] step.0.after.ranks step.2 tt tt
-      (sym (ap (ideal_run ms (s + 1) (arriving_from [] (s + 1) n)) sent.1) ∙ step.3) in
-      as_gone s [] ran.gone ((None ∷ []) ∷ step.2.gone)
-      (step.4 ∙ ap (λ (g : List (Option Queued)). g ∷ step.2.gone) sent.0) (in_slot_none s [] step.2.gone rest)
-  each_in_its_slot (suc n) s (a ∷ came) ranks ran turn before h = ⊎_elim (λ (e : a.slot ≡ s).
-      let cells : arriving (a ∷ came) s ≡ Some a.cell ∷ replicate inputs None =
-      ap (arriving (a ∷ came)) (sym e) ∙ one_comes inputs many s a came turn in
-      let step = run_slot s (Some a.cell ∷ replicate inputs None) (arriving_from came (s + 1) n) ranks ran
-      (sym (ap (λ (c : List (Option Cell)).
-      ideal_run ms s (c ∷ arriving_from (a ∷ came) (s + 1) n) (alone ranks)) cells
-      ∙ ap (λ (l : List (List (Option Cell))).
-      ideal_run ms s ((Some a.cell ∷ replicate inputs None) ∷ l) (alone ranks))
-      (later_slots inputs many a came (s + 1) n (omega arith))) ∙ h) in
-      let sent = one_sent ms s ranks inputs a.cell step.0 turn.0.output step.1 in
-      let turned : InTurnFrom (s + 1) came =
-      let P : ℕ → Type 0 = λ k. InTurnFrom (k + 1) came in subst P e turn.1 in
-      let rest = each_in_its_slot n (s + 1) came step.0.after.ranks step.2 turned
-      (all_from (λ b. b.slot < s + suc n) (λ b. b.slot < s + 1 + n) (λ b l. omega arith) came before.1)
-      (sym (ap (ideal_run ms (s + 1) (arriving_from came (s + 1) n)) sent.3) ∙ step.3) in
-      as_gone s (a ∷ came) ran.gone ((Some sent.0 ∷ []) ∷ step.2.gone)
-      (step.4 ∙ ap (λ (g : List (Option Queued)). g ∷ step.2.gone) sent.2)
-      (in_slot_one s a sent.0 came step.2.gone e sent.1 rest)) (λ (ne : a.slot ≡ s → ⊥).
+  each_in_its_slot (suc n) s end [] turn before all ranks ran h =
+      idle_slot n s [] tt (each_in_its_slot n (s + 1) end [] tt tt (omega arith)) ranks ran h
+  each_in_its_slot (suc n) s end (a ∷ came) turn before all ranks ran h = ⊎_elim (λ (e : a.slot ≡ s).
+      let later = each_in_its_slot n (s + 1) end came (rw e at turn.1) before.1 (omega arith) in
+      busy_slot n s a came e turn later ranks ran h)
+      (λ (ne : a.slot ≡ s → ⊥).
       let from = turn.0.from in
-      let later : s + 1 ≤ a.slot = omega arith in
-      let turned : InTurnFrom (s + 1) (a ∷ came) =
-      (record { from = later; input = turn.0.input; output = turn.0.output }, turn.1) in
-      let cells : arriving (a ∷ came) s ≡ replicate (suc inputs) None =
-      none_comes inputs many (s + 1) (a ∷ came) s turned (omega arith) in
-      let step = run_slot s (replicate (suc inputs) None) (arriving_from (a ∷ came) (s + 1) n) ranks ran
-      (sym (ap (λ (c : List (Option Cell)).
-      ideal_run ms s (c ∷ arriving_from (a ∷ came) (s + 1) n) (alone ranks)) cells) ∙ h) in
-      let sent = none_sent ms s ranks (suc inputs) step.0 step.1 in
-      let rest = each_in_its_slot n (s + 1) (a ∷ came) step.0.after.ranks step.2 turned
-      (all_from (λ b. b.slot < s + suc n) (λ b. b.slot < s + 1 + n) (λ b l. omega arith) (a ∷ came) before)
-      (sym (ap (ideal_run ms (s + 1) (arriving_from (a ∷ came) (s + 1) n)) sent.1) ∙ step.3) in
-      as_gone s (a ∷ came) ran.gone ((None ∷ []) ∷ step.2.gone)
-      (step.4 ∙ ap (λ (g : List (Option Queued)). g ∷ step.2.gone) sent.0)
-      (in_slot_none s (a ∷ came) step.2.gone rest)) (cases_eq a.slot s)
+      let next : IsNextFrom (s + 1) a =
+      record { from = omega arith; input = turn.0.input; output = turn.0.output } in
+      idle_slot n s (a ∷ came) (next, turn.1)
+      (each_in_its_slot n (s + 1) end (a ∷ came) (next, turn.1) before (omega arith)) ranks ran h) (cases_eq a.slot s)
+
+-- ## Departures are arrivals
+
+-- the first of these arrivals is of this slot or a later one
+abbrev BeginsFrom : ℕ → List Arrival → Type 0
+BeginsFrom slot [] = Unit {0}
+BeginsFrom slot (a ∷ came) = slot ≤ a.slot
+
+begins_later : (a : Arrival) (came : List Arrival) → a.cell.id.input ≡ 0 →
+    AllByRecursion (λ b. b.cell.id.input ≡ 0) came → AllPairs IsLater (a ∷ came) → BeginsFrom (a.slot + 1) came
+begins_later a [] here all later = tt
+begins_later a (b ∷ came) here all later =
+    let after : a.slot < b.slot = later 0 1 a (omega arith) (omega arith) (here ∙ sym all.0) in omega arith
+
+in_turn : (classes slot : ℕ) (came : List Arrival) → AllByRecursion (IsInRange 1 classes) came →
+    AllPairs IsLater came → BeginsFrom slot came → InTurnFrom slot came
+in_turn classes slot [] ranges later first = tt
+in_turn classes slot (a ∷ came) ranges later first =
+    let input : a.cell.id.input ≡ 0 = let l = ranges.0.input in omega arith in
+    let output : a.cell.output ≡ 0 = let l = ranges.0.output in omega arith in
+    let inputs =
+    all_weaker (IsInRange 1 classes) (λ b. b.cell.id.input ≡ 0) (λ b r. let l = r.input in omega arith) came
+    ranges.1 in (
+      record { from = first; input = input; output = output },
+      in_turn classes (a.slot + 1) came ranges.1
+          (λ i j d less inside. later (suc i) (suc j) d (omega arith) (omega arith))
+          (begins_later a came input inputs later),
+    )
+
+ran_ok : (P : List Departure → Type 0) (x : Result Ran TagFault) (sent : List Departure) →
+    departures_ran x ≡ Ok sent → ((ran : Ran) → x ≡ Ok ran → P (departures_of 0 ran.gone)) → P sent
+ran_ok P (Ok ran) sent h f = let same : departures_of 0 ran.gone ≡ sent = cc h in subst P same (f ran refl)
+ran_ok P (Err fault) sent h f = absurd (let Q : ⊥ = cc h in Q)
+
+-- no output has a limit
+pub none_limited : NoLimits (None ∷ [])
+none_limited zero = refl
+none_limited (suc j) = refl
+
+same_departures : (x : Result LimitedRan TagFault) → departures_ran (unlimited x) ≡ departures_limited x
+same_departures x = grind (arith, common_steps)
+
+starts_alone : (ports : ℕ) (ranks : List (List ℕ)) → ports ≡ 1 → empty_ideal ports ranks ≡ alone ranks
+starts_alone ports ranks one = ap (λ (n : ℕ). empty_ideal n ranks) one
+
+pub sent_in_slot : (t : Tables) (came : List Arrival) (sent : List Departure) → ports_of t.setup ≡ 1 →
+    NoLimits t.limits → IsTraffic (ports_of t.setup) (classes_of t.setup) came → ideal_departures t came ≡ Ok sent →
+    AreInSlot came sent
+unfolding ideal_departures ran_ideal enough
+sent_in_slot t came sent one none traffic h =
+    let ms = machines_of t.setup in
+    let ports = ports_of t.setup in
+    let ranks = openings_of t.setup in
+    let whole = whole_limited_run t.limits ms came (empty_limited ports ranks) in
+    let P : ℕ → Type 0 = λ n. AllByRecursion (IsInRange n (classes_of t.setup)) came in
+    let turn : InTurnFrom 0 came =
+    in_turn (classes_of t.setup) 0 came (subst P one traffic.in_range) traffic.one_by_one (begins came) in
+    ran_ok (λ l. AreInSlot came l) (ideal_run ms 0 (traffic_of came) (empty_ideal ports ranks)) sent
+    (same_sent ms ports ranks came ∙ sym (ap departures_ran (run_as_before t.limits ms ports ranks came none))
+    ∙ same_departures whole ∙ h)
+    (λ ran is. each_in_its_slot ms 63 refl (enough came) 0 (end_of came) came turn (before_end came) (omega arith)
+    ranks ran (ap (λ (l : List _). ideal_run ms 0 l (alone ranks)) (all_slots came)
+    ∙ sym (ap (ideal_run ms 0 (traffic_of came)) (starts_alone ports ranks one)) ∙ is))
+  where
+    begins : (came : List Arrival) → BeginsFrom 0 came
+    begins [] = tt
+    begins (a ∷ came) = omega arith
+
+-- ## Every packet leaves, once and in its place: with its last cell, which alone is marked, in its slot
+
+abbrev is_last : Arrival → Bool
+is_last a = a.cell.last
+
+module _ (t : Tables) (captures : List (List Captured)) where
+  -- the packet of an arriving cell, with the stamp of its slot
+  abbrev with_slot : Arrival → OutPacket
+  with_slot a =
+      let p = packet_at captures a.cell.id.input a.cell.id.packet in
+      record { stamp = first_stamp captures + a.slot * t.slot_ns; original = p.original; body = p.body }
+
+  outs : (sent : List Departure) → AllByRecursion (λ d. d.output ≡ 0) sent →
+      map (leaving t captures) (filter (ends_packet_at 0) sent) ≡ map with_slot (filter is_last (map as_arrival sent))
+  outs [] all = refl
+  outs (d ∷ sent) all = search (arith, rules, eq-eqb, as_arrival, outs sent all.1)
+
+-- of a packet's arrivals the last one alone is marked
+last_alone : (f : ℕ → Arrival) (total last : ℕ) → ((i : ℕ) → (f i).cell.last ≡ (i + 1 == total)) → last + 1 ≡ total →
+    (n a : ℕ) → 0 < n → a + n ≡ total → filter is_last (map f (range_with_len a n)) ≡ f last ∷ []
+last_alone f total last marks e zero a some all = absurd (omega arith)
+last_alone f total last marks e (suc zero) a some all =
+    let same : a ≡ last = omega arith in
+    grind (arith, common_steps, cond-true (is_last (f a)) (f a ∷ []) [], eq-eqb (a + 1) total)
+last_alone f total last marks e (suc (suc n)) a some all =
+    let behind = last_alone f total last marks e (suc n) (a + 1) (omega arith) (omega arith) in
+    grind (arith, common_steps, behind)
+
+module _ (t : Tables) (captures : List (List Captured)) where
+  abbrev arrival_of : ℕ → ℕ → Arrival
+  arrival_of k i = record { slot = start t captures 0 k + i; cell = cell_of t captures 0 k i }
+
+  -- the arrival of the last cell of packet k
+  abbrev last_of : ℕ → Arrival
+  last_of k = arrival_of k (cells t captures 0 k - 1)
+
+  some_cells : (k : ℕ) → 1 ≤ cells t captures 0 k
+  unfolding cells cells_of
+  some_cells k = omega arith
+
+  marked : (k i : ℕ) → (arrival_of k i).cell.last ≡ (i + 1 == cells t captures 0 k)
+  unfolding cell_of
+  marked k i = refl
+
+  lasts_of : (k : ℕ) → filter is_last (arrivals_of t captures 0 k) ≡ last_of k ∷ []
+  lasts_of k =
+      let some = some_cells k in
+      last_alone (arrival_of k) (cells t captures 0 k) (cells t captures 0 k - 1) (marked k) (omega arith)
+      (cells t captures 0 k) 0 some (omega arith)
+
+  lasts : (n a : ℕ) → filter is_last (flat_map (arrivals_of t captures 0) (range_with_len a n)) ≡ map last_of
+      (range_with_len a n)
+  lasts zero a = refl
+  lasts (suc n) a = simp (filter-append, flat_map, lasts_of, lasts n (a + 1))
+
+module _ (t : Tables) (packets : List Captured) where
+  abbrev one : List (List Captured)
+  one = packets ∷ []
+
+  arrivals_are : arrivals t one ≡ flat_map (arrivals_of t one 0) (range_with_len 0 (length packets))
+  unfolding arrivals arrivals_at
+  arrivals_are = append-nil (flat_map (arrivals_of t one 0) (range_with_len 0 (length packets)))
+
+  as_passed : (n a : ℕ) → map (with_slot t one) (map (last_of t one) (range_with_len a n)) ≡ map
+      (as_it_leaves t packets) (range_with_len a n)
+  unfolding cell_of
+  as_passed zero a = refl
+  as_passed (suc n) a = ap (λ (l : List OutPacket). as_it_leaves t packets a ∷ l) (as_passed n (a + 1))
+
+  pub all_leave_is : (sent : List Departure) → AreTables t → ports_of t.setup ≡ 1 → NoLimits t.limits →
+      ideal_departures t (arrivals t one) ≡ Ok sent → packets_out t one sent 0 ≡ all_leave t packets
+  unfolding packets_out
+  all_leave_is sent are single none h =
+      let in_slot : AreInSlot (arrivals t one) sent =
+      sent_in_slot t (arrivals t one) sent single none (traffic_is t one are (sym single)) h in
+      outs t one sent in_slot.output
+      ∙ ap (λ (l : List Arrival). map (with_slot t one) (filter is_last l)) (in_slot.cells ∙ arrivals_are)
+      ∙ ap (map (with_slot t one)) (lasts t one (length packets) 0) ∙ as_passed (length packets) 0

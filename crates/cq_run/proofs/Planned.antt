@@ -1,46 +1,20 @@
--- From one judgement after another to a plan that meets what is aimed at.
-use Rattle.std.proofs.Common.{rules, arith, ◌≡◌, ◌∙◌, ℕ, List, [], ◌∷◌, refl, sym, subst}
-use Rattle.std.specs.Prelude.{IfSome, Result, Ok, Err, IfOk, IfErr, IsOk}
-use Rattle.std.specs.List.{AllByRecursion}
-use Rattle.cq_base.specs.declared.cell.Departure.{Departure}
-use Rattle.cq_gen.specs.Packets.{soak_captures}
-use Rattle.cq_gen.specs.Tables.{soak_tables}
-use Rattle.cq_pcap.specs.Captured.{Captured}
-use Rattle.cq_route.specs.declared.tables.Tables.{Tables}
-use Rattle.cq_space.specs.Call.{Call}
-use Rattle.cq_space.specs.Causes.{Rose}
-use Rattle.cq_space.specs.Space.{Contents, Space, Closed}
-use Rattle.cq_words.specs.declared.command.Command.{Command}
-use Rattle.cq_words.specs.declared.command.Command.TheVariants.{Pass, Check, Ideal, Run, Soak, Audit, Part, Resume}
-use Rattle.cq_run.specs.declared.reading.Given.{Given}
-use Rattle.cq_run.specs.declared.refusal.Refusal.{Refusal}
-use Rattle.cq_run.specs.declared.stop.Halt.{Halt}
-use Rattle.cq_run.specs.Aim.{Aim, Reporting, Meets}
-use Rattle.cq_run.specs.Ending.{IsPlanned}
-use Rattle.cq_run.specs.Given.{EndsGiven, IsGiven, judged_of_given}
-use Rattle.cq_run.specs.Headline.{Emulates}
-use Rattle.cq_run.specs.Judged.{IsJudged}
-use Rattle.cq_run.specs.Judging.{IsHaltOf}
-use Rattle.cq_run.specs.Pace.{Pace, InTurn, Uncounted}
-use Rattle.cq_run.specs.Plan.{Plan}
-use Rattle.cq_run.specs.Planning.{Plans, known_to}
-use Rattle.cq_run.specs.Reader.{Reader}
-use Rattle.cq_run.specs.Verdict.{◌>>=◌, ideally_sent, judged, MayRead, MayWrite}
-use Rattle.cq_run.proofs.Counted.{counts_after}
-use Rattle.cq_run.proofs.Chain.{judges_computed, judges_computed_err}
-use Rattle.cq_run.proofs.Reached.{Settles, given_ends, given_so, ok_settles, refused_settles, settled}
-use Rattle.cq_run.proofs.Told.{told_any, told_map}
+-- From one judgement after another to a plan that meets what is aimed at: for each command what is judged of what it
+-- reads, and a plan that it comes to.
+use Rattle.cq_run.proofs.Terms.{rules, arith, ◌≡◌, ◌∙◌, ℕ, List, [], ◌∷◌, refl, sym, ap, inl, inr, ◌++◌, IsTrue, Result, Ok, Err, IfOk, IfErr, IsOk, common_steps, AllByRecursion, Departure, soak_captures, soak_tables, Captured, Tables, Call, Rose, Contents, Space, Closed, Command, Ideal, Run, Soak, Pass, Audit, Part, Resume, Given, Refusal, Halt, Aim, Reporting, Meets, Crossing, Exactly, Auditing, Parting, Resuming, EndsGiven, IsGiven, IsPassage, AreRead, IsAudited, AreGiven, IsJudged, IsHaltOf, Judges, Pace, InTurn, Uncounted, Plan, known_to, Reader, ◌>>=◌, ideally_sent, capture_in, text_in, state_in, switched, capture_out, passed, audited, captures_out, resumed, state_written, IsCrossing, IsIdeal, IsPassing, arrivals, plain_tables, AreTables, ports_of, ideal_departures, Lasts, capture_of_all, trace_of, log_of, Audited, Missing, State, Words, IsAuditHalted, IsAuditPassed, report_with, NoMemory, Refused, Unread, Crossed, IsPartHalt, IsResumeHalt, IsResuming, kept_by, IsPartRefusal, IsPartText, IsResumeRefusal, IsResumedText, meaning_of}
+use Rattle.cq_run.proofs.Chain.{counts_after, judges_computed, judges_computed_err}
+use Rattle.cq_run.proofs.Told.{told_any, told_map, told_two}
+use Rattle.cq_run.proofs.Crossed.{emulates, plan_is, sent_ok}
+use Rattle.cq_run.proofs.Reached.{computed_halts, computed_plans, given_ends, given_so, read_told, Reached, begun, read_on, Settles, refused_settles, settled}
+use Rattle.cq_pcap.specs.Written.{written}
+use Rattle.cq_run.proofs.OnePort.{all_leave_is, none_limited}
+use Rattle.cq_run.proofs.Stays.{capture_stays, text_stays, short_stays}
+use Rattle.cq_run.specs.declared.denial.Denial.TheVariants.{LongLog, LongTrace}
+use Rattle.cq_run.proofs.TextRead.{text_stands}
+use Rattle.cq_run.specs.declared.refusal.StateFault.TheVariants as stopped
 
 -- what a command knows of a file space has its count of faults
 known_faults : (command : Command) (s : Space) → (known_to command s).faults ≡ s.faults
-known_faults (Pass from to) s = refl
-known_faults (Check config) s = refl
-known_faults (Ideal config) s = refl
-known_faults (Run config) s = refl
-known_faults (Soak seed ports slots) s = refl
-known_faults (Audit config) s = refl
-known_faults (Part config slots state) s = refl
-known_faults (Resume config state) s = refl
+known_faults command s = grind (arith, common_steps)
 
 pub same_faults : (command : Command) (old new : Space) →
     (known_to command new).faults ≡ (known_to command old).faults → new.faults ≡ old.faults
@@ -54,70 +28,20 @@ rose_known command old new r = omega (arith, known_faults command old, known_fau
 pub counts_known : (p : Pace) (U V : Type 0) (command : Command) (old new : Space) → (U → V) →
     Uncounted p U (known_to command old).faults (known_to command new).faults → Uncounted p V old.faults new.faults
 counts_known p U V command old new f h =
-    let P : ℕ → Type 0 = λ n. Uncounted p U n new.faults in
-    let Q : ℕ → Type 0 = λ n. Uncounted p U (known_to command old).faults n in
     counts_after p U V old.faults old.faults new.faults f refl
-    (subst P (known_faults command old) (subst Q (known_faults command new) h))
-
--- a plan that was judged is one of the command
-pub planned : (p : Pace) (r : Reader) (command : Command) (R : List ℕ → Type 0) (old new : Space) (plan : Plan) →
-    Plans p (judged r command) R (known_to command old) (known_to command new) (Ok plan)
-    → AllByRecursion (λ write. MayWrite command write.0) plan.writes →
-    IfSome old.told (λ m. Emulates r command m plan) → IsPlanned r command old plan
-planned p r command R old new plan (aim, meets, judges) names emulates = search (arith, rules, told_map)
-
--- judging that comes to a plan counts no fault
-pub plans_uncounted : (p : Pace) (r : Reader) (command : Command) (R : List ℕ → Type 0) (old new : Space)
-    (plan : Plan) → Plans p (judged r command) R (known_to command old) (known_to command new) (Ok plan) →
-    new.faults ≡ old.faults
-plans_uncounted p r command R old new plan (aim, meets, judges) = same_faults command old new judges.uncounted
+    (rw (known_faults command old, known_faults command new) at h)
 
 -- ## Judging a configuration, its captures, and then what the ideal switch sends of them
 
-abbrev sent_of : (Tables → List (List Captured) → List Departure → Aim) → Reader → Tables → List (List Captured) →
+abbrev pub sent_of : (Tables → List (List Captured) → List Departure → Aim) → Reader → Tables → List (List Captured) →
     Contents → Result Aim Refusal
 sent_of aim_of r t captures m = ideally_sent t captures >>= (λ sent. Ok (aim_of t captures sent))
-
-module _ {S : Type 0} {space : S → Space} {may_fail : Call → S → S → Type 0} {keeps : S → S → Type 0}
-    {command : Command} {old : S} {config : List ℕ} (knows : (s : Space) → known_to command s ≡ s)
-    (aim_of : Tables → List (List Captured) → List Departure → Aim)
-    (same : (r : Reader) → judged r command ≡ judged_of_given r config (λ t captures (m : Contents).
-    ideally_sent t captures >>= (λ sent. Ok (aim_of t captures sent))))
-    (any : (name : List ℕ) → MayRead command name) where
-  -- reading them ends it
-  pub sent_ends : {p : Pace} {new : S} {halt : Halt} → EndsGiven space may_fail keeps p config old new halt →
-      IsJudged space may_fail keeps p command old new (Err halt)
-  sent_ends ended = given_ends space may_fail keeps command knows old config (sent_of aim_of) same any _ _ ended
-
-  module _ {now : S} {given : Given} (is : IsGiven space keeps config old now given) where
-    sent_settled : {p : Pace} (result : Result Plan Halt) →
-        Settles (ideally_sent given.tables given.captures >>= (λ sent. Ok (aim_of given.tables given.captures sent)))
-        result → IfOk result (λ plan. AllByRecursion (λ write. MayWrite command write.0) plan.writes) →
-        ((r : Reader) → IfOk result (λ plan. IfSome (space old).told (λ m. Emulates r command m plan))) →
-        IsJudged space may_fail keeps p command old now result
-    sent_settled = settled space may_fail keeps command knows old now _
-        (given_so space may_fail keeps command knows old config (sent_of aim_of) same any now given is)
-
-    -- the run ends it
-    pub sent_halts : {p : Pace} (halt : Halt) → IsHaltOf (ideally_sent given.tables given.captures) halt →
-        IsJudged space may_fail keeps p command old now (Err halt)
-    sent_halts halt h = sent_settled (Err halt) (refused_settles _ _ halt h) tt (λ r. tt)
-
-    -- what it sends is aimed at
-    pub sent_plans : {p : Pace} (sent : List Departure) (plan : Plan) →
-        ideally_sent given.tables given.captures ≡ Ok sent → Meets (aim_of given.tables given.captures sent) plan →
-        AllByRecursion (λ write. MayWrite command write.0) plan.writes →
-        ((r : Reader) → IfSome (space old).told (λ m. Emulates r command m plan)) →
-        IsJudged space may_fail keeps p command old now (Ok plan)
-    sent_plans sent plan e meets names emulates =
-        sent_settled (Ok plan) (ok_settles _ (aim_of given.tables given.captures) sent plan e meets) names emulates
 
 -- what is judged of a command that is this one
 pub judged_as : {S : Type 0} (space : S → Space) (may_fail : Call → S → S → Type 0) (keeps : S → S → Type 0) (p : Pace)
     (command x : Command) (old new : S) (result : Result Plan Halt) → command ≡ x →
     IsJudged space may_fail keeps p x old new result → IsJudged space may_fail keeps p command old new result
-judged_as space may_fail keeps p command x old new result e h =
-    let P : Command → Type 0 = λ y. IsJudged space may_fail keeps p y old new result in subst P (sym e) h
+judged_as space may_fail keeps p command x old new result e h = rw e h
 
 -- ## Judging made traffic
 
@@ -130,19 +54,17 @@ module _ {S : Type 0} (space : S → Space) (may_fail : Call → S → S → Typ
   sent = ideally_sent (soak_tables ports) (soak_captures seed ports slots)
 
   reported_ok : (r : Result (List Departure) Refusal) → IsOk r → (r >>= (λ _. Ok aim)) ≡ Ok aim
-  reported_ok (Ok sent) h = refl
-  reported_ok (Err e) h = absurd (let P : ⊥ = cc in P)
+  reported_ok r h = grind (arith, common_steps)
 
   -- nothing is read: the run is computed
   pub soak_judged : (result : Result Plan Halt) → IfOk result (Meets aim) → IfOk result (λ plan. plan.writes ≡ []) →
       IfOk result (λ _. IsOk sent) → IfErr result (IsHaltOf sent) →
       IsJudged space may_fail keeps InTurn (Soak seed ports slots) s s result
   soak_judged (Ok plan) meets none is halts =
-      let P : List (List ℕ × List ℕ) → Type 0 = λ ws. AllByRecursion (λ write. ⊥) ws in
       record {
-        judges = λ r. (aim, meets, judges_computed (sent >>= (λ _. Ok aim)) _ _ aim closed (reported_ok sent is));
+        judges = λ r. (aim, meets, judges_computed closed (reported_ok sent is));
         kept = kept;
-        names = subst P (sym none) tt;
+        names = rw none tt;
         emulates = λ r. told_any (space s).told _ (λ m. tt);
         closed = closed;
         told = refl;
@@ -153,3 +75,235 @@ module _ {S : Type 0} (space : S → Space) (may_fail : Call → S → S → Typ
 pub all_any : (ws : List (List ℕ × List ℕ)) → AllByRecursion (λ _. Unit {0}) ws
 all_any [] = tt
 all_any (w ∷ ws) = (tt, all_any ws)
+
+-- what the ideal switch is to do
+abbrev pub switching : Tables → List (List Captured) → List Departure → Aim
+switching tables captures sent = Exactly (switched tables captures sent)
+
+module _ {S : Type 0} {space : S → Space} {may_fail : Call → S → S → Type 0} {keeps : S → S → Type 0} {p : Pace}
+    {old : S} {config : List ℕ} where
+  -- reading ends it
+  pub run_ends : {new : S} {halt : Halt} → EndsGiven space may_fail keeps p config old new halt →
+      IsJudged space may_fail keeps p (Run config) old new (Err halt)
+  run_ends ended = given_ends (λ s. refl) (sent_of Crossing) (λ r. refl) (λ name. tt) ended
+
+  -- and what is made of what was read
+  pub run_judged : {now : S} {given : Given} → IsGiven space keeps config old now given →
+      (result : Result Plan Halt) → IfOk result (IsCrossing given.tables given.captures) →
+      IfErr result (IsHaltOf (ideally_sent given.tables given.captures)) →
+      IsJudged space may_fail keeps p (Run config) old now result
+  run_judged {given = given} is (Ok plan) crossing refused =
+      computed_plans _ _ (given_so (λ s. refl) (sent_of Crossing) (λ r. refl) is) crossing.is_sent
+      (crossing.records, crossing.keeps_up.runs, crossing.written) (all_any plan.writes) (λ r. told_map
+      (space old).told _ _ (emulates given.tables given.captures plan crossing r config) (read_told is r))
+  run_judged is (Err halt) crossing refused =
+      computed_halts _ _ (given_so (λ s. refl) (sent_of Crossing) (λ r. refl) is) halt refused
+
+  -- the same of the ideal switch
+  pub ideal_judged : {now : S} {given : Given} → IsGiven space keeps config old now given →
+      (result : Result Plan Halt) → IfOk result (IsIdeal given.tables given.captures) →
+      IfErr result (IsHaltOf (ideally_sent given.tables given.captures)) →
+      IsJudged space may_fail keeps p (Ideal config) old now result
+  ideal_judged is (Ok plan) ideal refused =
+      computed_plans _ _ (given_so (λ s. refl) (sent_of switching) (λ r. refl) is) ideal.is_sent ideal.written
+      (all_any plan.writes) (λ r. told_any (space old).told _ (λ m. tt))
+  ideal_judged is (Err halt) ideal refused =
+      computed_halts _ _ (given_so (λ s. refl) (sent_of switching) (λ r. refl) is) halt refused
+
+-- ## Passing: what leaves a switch of one port, from the one capture that is read
+
+module _ (from to : List ℕ) (packets : List Captured) where
+  -- what is judged once the capture is read
+  abbrev passing_of : Result Aim Refusal
+  passing_of =
+      ideally_sent (plain_tables from to) (packets ∷ []) >>= (λ sent. Ok (Exactly (passed from to packets sent)))
+
+  -- what leaves the plain switch of the one capture is all of it
+  leaves_all : (sent : List Departure) → AreTables (plain_tables from to) →
+      ideally_sent (plain_tables from to) (packets ∷ []) ≡ Ok sent →
+      capture_out (plain_tables from to) (packets ∷ []) sent 0 ≡ capture_of_all (plain_tables from to) packets
+  unfolding plain_tables
+  leaves_all sent are h =
+      let t = plain_tables from to in
+      let single : ports_of t.setup ≡ 1 = refl in
+      ap written (all_leave_is t packets sent are single none_limited
+      (sent_ok sent (ideal_departures t (arrivals t (packets ∷ []))) h))
+
+  module _ (plan : Plan) (is : IsPassing (plain_tables from to) packets to plan) where
+    plan_passed : plan ≡ passed from to packets is.sent
+    plan_passed = plan_is plan _ [] is.writes is.text
+
+    passage_at : (r : Reader) → AreTables (plain_tables from to) → (m : Contents) →
+        capture_in r from 0 (plain_tables from to).limit_bytes m ≡ Ok packets → IsPassage r from to m plan
+    passage_at r are m captured = grind (arith, common_steps, plan_passed, leaves_all is.sent are is.is_sent)
+
+module _ {S : Type 0} {space : S → Space} {keeps : S → S → Type 0}
+    (lasts : Lasts keeps) {from to : List ℕ} {old : S} (closed : (space old).mode ≡ Closed) where
+  -- nothing is read yet
+  pub at_capture : Reached space keeps (Pass from to) old old
+      (λ r m. capture_in r from 0 (plain_tables from to).limit_bytes m >>= (λ packets. passing_of from to packets))
+  at_capture = begun (λ s. refl) lasts closed
+
+  module _ {new : S} (kept : keeps old new) {R : List ℕ → Type 0} {packets : List Captured}
+      (are : AreTables (plain_tables from to)) (h : (r : Reader) →
+      Judges InTurn (capture_in r from 0 (plain_tables from to).limit_bytes) R (space old) (space new) (Ok packets))
+    where
+      at_packets : Reached space keeps (Pass from to) old new (λ r m. passing_of from to packets)
+      at_packets = read_on (λ r packets m. passing_of from to packets) lasts at_capture kept
+          (λ r. capture_stays r from 0 (plain_tables from to).limit_bytes) h
+
+      pub passing_judged : {may_fail : Call → S → S → Type 0} (result : Result Plan Halt) →
+          IfOk result (IsPassing (plain_tables from to) packets to) →
+          IfErr result (IsHaltOf (ideally_sent (plain_tables from to) (packets ∷ []))) →
+          IsJudged space may_fail keeps InTurn (Pass from to) old new result
+      passing_judged (Ok plan) is refused =
+          computed_plans _ _ at_packets is.is_sent (plan_passed from to packets plan is)
+          (rw is.writes (refl, tt))
+          (λ r. told_map (space old).told _ _ (passage_at from to packets plan is r are) (h r).ok)
+      passing_judged (Err halt) is refused = computed_halts _ _ at_packets halt refused
+
+-- ## An audit: the configuration, its captures, the trace, the log, and then the ideal run
+
+-- what is judged once all is read, and from each name on
+abbrev pub last : Tables → List (List Captured) → List ℕ → List ℕ → Result Aim Refusal
+last t captures trace log = ideally_sent t captures >>= (λ sent. Ok (Auditing t captures sent trace log))
+
+abbrev pub from_log : Tables → List (List Captured) → List ℕ → Contents → Result Aim Refusal
+from_log t captures trace m = text_in LongLog t.log m >>= (λ log. last t captures trace log)
+
+abbrev pub from_trace : Reader → Tables → List (List Captured) → Contents → Result Aim Refusal
+from_trace r t captures m = text_in LongTrace t.trace m >>= (λ trace. from_log t captures trace m)
+
+pub halt_settles : {t : Tables} {captures : List (List Captured)} {trace log : List ℕ} (halt : Halt) →
+    IsAuditHalted t captures trace log halt → Settles (last t captures trace log) (Err halt)
+halt_settles {t} {captures} halt (inl ends) = search (arith, rules, refused_settles (ideally_sent t captures))
+halt_settles halt (inr n) = search (arith, rules, Settles)
+
+module _ (given : Given) (trace log : List ℕ) where
+  -- what a yes says
+  emulates_at : (r : Reader) (config : List ℕ) (plan : Plan) → IsAuditPassed given.tables given.captures trace log →
+      plan ≡ audited → (m : Contents) → AreRead r config m given.tables given.captures →
+      (text_in LongTrace given.tables.trace m ≡ Ok trace) × (text_in LongLog given.tables.log m ≡ Ok log) →
+      IsAudited r config m plan
+  emulates_at r config plan passed is m read texts = record {
+    tables = given.tables;
+    captures = given.captures;
+    read = read;
+    trace = trace;
+    traced = text_stands (Audited LongTrace) given.tables.trace m trace texts.0;
+    log = log;
+    logged = text_stands (Audited LongLog) given.tables.log m log texts.1;
+    audit = passed.meets.log_is;
+    same = search (arith, rules, sent_ok);
+    sent = passed.meets.trace_is ∙ ap trace_of passed.departed;
+    written = is;
+  }
+
+module _ {S : Type 0} {space : S → Space} {keeps : S → S → Type 0} {old s1 : S} {config : List ℕ} {given : Given}
+    (is : IsGiven space keeps config old s1 given) where
+  -- the trace is left
+  pub at_trace : Reached space keeps (Audit config) old s1 (λ r. from_trace r given.tables given.captures)
+  at_trace = given_so (λ s. refl) from_trace (λ r. refl) is
+
+  module _ (lasts : Lasts keeps) {s2 : S} (kept : keeps s1 s2) {Q : List ℕ → Type 0} {trace : List ℕ}
+      (traced : Judges InTurn (text_in LongTrace given.tables.trace) Q (space s1) (space s2) (Ok trace)) where
+    -- the log is left
+    pub at_log : Reached space keeps (Audit config) old s2 (λ r. from_log given.tables given.captures trace)
+    at_log = read_on (λ r. from_log given.tables given.captures) lasts at_trace kept
+        (λ r. text_stays LongTrace given.tables.trace) (λ r. traced)
+
+    module _ {s3 : S} (kept_on : keeps s2 s3) {T : List ℕ → Type 0} {log : List ℕ}
+        (logged : Judges InTurn (text_in LongLog given.tables.log) T (space s2) (space s3) (Ok log)) where
+      -- the ideal run is left
+      pub at_last : Reached space keeps (Audit config) old s3 (λ r m. last given.tables given.captures trace log)
+      at_last = read_on (λ r log m. last given.tables given.captures trace log) lasts at_log kept_on
+          (λ r. text_stays LongLog given.tables.log) (λ r. logged)
+
+      -- neither the log nor the trace is denied
+      pub audit_plans : {may_fail : Call → S → S → Type 0} {plan : Plan} →
+          IsAuditPassed given.tables given.captures trace log → plan ≡ audited →
+          IsJudged space may_fail keeps InTurn (Audit config) old s3 (Ok plan)
+      audit_plans {plan = plan} passed written =
+          let told = (space old).told in
+          computed_plans _ _ at_last passed.ideally (passed.meets, written) (rw written tt)
+          (λ r. told_two told _ _ _ (emulates_at given trace log r config plan passed written) (read_told is r)
+          (told_two told _ _ _ (λ m a b. (a, b)) (rw is.told at traced.ok)
+          (rw (traced.told, is.told) at logged.ok)))
+
+-- ## Stopping a run and taking one up: the configuration, its captures, and then the text of a state
+
+-- what denies such an aim is neither of words nor of a missing name, so it can come where contents are not told
+untold : (P : Refusal → Type 0) → ¬ P Words → ((name : List ℕ) → ¬ P (Missing name)) → (refusal : Refusal) →
+    P refusal → IsTrue (meaning_of refusal).untold
+untold P of_words missed Words h = absurd (of_words h)
+untold P of_words missed (Missing name) h = absurd (missed name h)
+untold P of_words missed refusal h = refl
+
+module _ (t : Tables) (captures : List (List Captured)) where
+  pub part_settles : (slots : ℕ) (name : List ℕ) (halt : Halt) → IsPartHalt t captures slots halt →
+      Settles (Ok (Parting t captures slots name)) (Err halt)
+  part_settles slots name (Refused refusal) h =
+      grind (arith, common_steps, untold (IsPartRefusal t captures slots))
+  part_settles slots name NoMemory h = tt
+  part_settles slots name (Unread unread) h = h
+
+  resume_settles : (text : List ℕ) (halt : Halt) → IsResumeHalt t captures text halt →
+      Settles (Ok (Resuming t captures text)) (Err halt)
+  resume_settles text (Refused refusal) h =
+      grind (arith, common_steps, untold (IsResumeRefusal t captures text))
+  resume_settles text NoMemory h = tt
+  resume_settles text (Unread unread) h = h
+
+abbrev pub part_rest : ℕ → List ℕ → Reader → Tables → List (List Captured) → Contents → Result Aim Refusal
+part_rest slots name r t captures m = Ok (Parting t captures slots name)
+
+abbrev pub resume_rest : List ℕ → Reader → Tables → List (List Captured) → Contents → Result Aim Refusal
+resume_rest name r t captures m = state_in name m >>= (λ text. Ok (Resuming t captures text))
+
+module _ {S : Type 0} {space : S → Space} {keeps : S → S → Type 0} {old now : S} {config : List ℕ} {given : Given}
+    (is : IsGiven space keeps config old now given) (name : List ℕ) where
+  pub at_part : (slots : ℕ) → Reached space keeps (Part config slots name) old now
+      (λ r m. Ok (Parting given.tables given.captures slots name))
+  at_part slots = given_so (λ s. refl) (part_rest slots name) (λ r. refl) is
+
+  pub part_plans : {may_fail : Call → S → S → Type 0} {slots : ℕ} {text : List ℕ} {plan : Plan} →
+      AreGiven given.tables given.captures → IsPartText given.tables given.captures slots text →
+      plan ≡ state_written name text → IsJudged space may_fail keeps InTurn (Part config slots name) old now (Ok plan)
+  part_plans {slots = slots} {text = text} {plan = plan} are text_is written =
+      settled (at_part slots) (Ok plan)
+      (Parting given.tables given.captures slots name, refl, (text, text_is, written))
+      (rw written (refl, tt)) (λ r.
+      told_map (space old).told _ _ (λ m are_read. search (arith, rules)) (read_told is r))
+
+  pub at_text : Reached space keeps (Resume config name) old now
+      (λ r. resume_rest name r given.tables given.captures)
+  at_text = given_so (λ s. refl) (resume_rest name) (λ r. refl) is
+
+  module _ (lasts : Lasts keeps) {new : S} (kept : keeps now new) {Q : List ℕ → Type 0} {text : List ℕ}
+      (read : Judges InTurn (state_in name) Q (space now) (space new) (Ok text)) where
+    at_state : Reached space keeps (Resume config name) old new
+        (λ r m. Ok (Resuming given.tables given.captures text))
+    at_state = read_on (λ r text m. Ok (Resuming given.tables given.captures text)) lasts at_text kept
+        (λ r. short_stays (State stopped.Long) name) (λ r. read)
+
+    -- and what is made of both
+    pub resume_judged : {may_fail : Call → S → S → Type 0} (result : Result Plan Halt) →
+        IfOk result (IsResuming given.tables given.captures text) →
+        IfErr result (IsResumeHalt given.tables given.captures text) →
+        IsJudged space may_fail keeps InTurn (Resume config name) old new result
+    resume_judged (Ok plan) met refused =
+        settled at_state (Ok plan)
+        (Resuming given.tables given.captures text, refl, (met.kept, met.goes_on, met.written))
+        (all_any plan.writes) (λ r. told_two (space old).told _ _ _
+        (λ m are_read d. search (arith, rules, text_stands)) (read_told is r) (rw is.told at read.ok))
+    resume_judged (Err halt) met refused =
+        settled at_state (Err halt) (resume_settles given.tables given.captures text halt refused) tt (λ r. tt)
+
+-- what was kept of a run that goes on is built
+pub resuming_is : (t : Tables) (captures : List (List Captured)) (text : List ℕ) (c : Crossed) (plan : Plan) →
+    AreGiven t captures → IsResumedText t captures text (kept_by c) →
+    plan.writes ≡ captures_out t captures c.run.sent.items 0 t.ports ++ (t.trace, trace_of c.run.sent.items)
+    ∷ (t.log, log_of c.run.note.items) ∷ [] →
+    plan.text ≡ report_with c.run.figures c.run.refused.items → IsResuming t captures text plan
+unfolding resumed
+resuming_is t captures text c plan are goes writes report = search (arith, rules, plan_is plan _ _ writes report)

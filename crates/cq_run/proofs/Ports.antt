@@ -1,20 +1,15 @@
 -- The captures of the ports, one after another. Reading those of some ports, then that of the next, and then those of
--- the rest, is reading them all, and what ends one of these ends the whole.
-use Rattle.std.proofs.Common.{rules, ◌≡◌, ◌<◌, ◌≤◌, ◌∙◌, ℕ, ◌+◌, List, [], ◌∷◌, ◌++◌, length, take, drop, get_or, refl, ap, sym, subst, arith, length-take-le}
-use Rattle.std.proofs.lemmas.Grind.{common_steps}
-use Rattle.std.specs.Prelude.{Result, Ok, Err}
-use Rattle.std.proofs.lemmas.List.{take_all, take_more}
-use Rattle.cq_space.specs.Space.{Contents, Space, Closed}
-use Rattle.cq_pcap.specs.Captured.{Captured}
-use Rattle.cq_route.specs.declared.tables.PortRow.{PortRow}
-use Rattle.cq_run.specs.declared.refusal.Refusal.{Refusal}
-use Rattle.cq_run.specs.declared.stop.Halt.{Halt}
-use Rattle.cq_run.specs.Judging.{Judges}
-use Rattle.cq_run.specs.Pace.{InTurn}
-use Rattle.cq_run.specs.Reader.{Reader}
-use Rattle.cq_run.specs.Verdict.{◌>>=◌, packets_at, captures_from}
-use Rattle.cq_run.proofs.Stays.{captures_from_stay}
-use Rattle.cq_run.proofs.Chain.{judges_then, judges_after, judges_any, judges_both, judges_computed, judges_as_ok, judges_as_err}
+-- the rest, is reading them all, and what ends one of these ends the whole. Where files are read ahead, reading leaves
+-- contents as they are, so the first capture is judged as if nothing had come between. Where it ends the whole, the
+-- later inputs say nothing but what the count of faults may show.
+use Rattle.cq_run.proofs.Terms.{rules, ◌≡◌, ◌<◌, ◌≤◌, ◌∙◌, ℕ, ◌+◌, List, [], ◌∷◌, ◌++◌, length, take, drop, get_or, refl, ap, sym, arith, length-take-le, ◌^◌, inl, Result, Ok, Err, Option, None, Some, IfSome, MatchOption, common_steps, take_all, take_more, Contents, Space, Closed, Captured, PortRow, Refusal, Halt, Judges, Halts, InTurn, Ahead, AnyName, Uncounted, Reader, ◌>>=◌, packets_at, captures_from, Spells, Call, Fails, Lasts, Reads, NoMemory}
+use Rattle.cq_run.proofs.Stays.{captures_from_stay, packets_stay}
+use Rattle.cq_run.proofs.Chain.{judges_then, judges_after, judges_any, judges_both, judges_computed, judges_as, counts_of, halts_at, name_after, fails_after}
+use Rattle.cq_run.specs.declared.decoding.Decoding.{Decoding}
+use Rattle.cq_run.specs.Decoding.{HasBegun, IsBegun, IsBegunFor, source}
+use Rattle.cq_run.specs.Input.{IsHaltFor}
+use Rattle.cq_run.proofs.TextRead.{capture_halts, capture_is}
+use Rattle.cq_run.proofs.Told.{told_any}
 
 abbrev Packets : Type 0
 Packets = List Captured
@@ -45,19 +40,13 @@ module _ (r : Reader) (limit : ℕ) (rows : List PortRow) (k : ℕ) (row : PortR
   all_is m = grind (arith, common_steps, split_at r limit 0 k (take k rows) row (drop (k + 1) rows) m)
 
   -- what ends reading at this port ends reading them all
-  pub ends_all : (Q R S : List ℕ → Type 0) (old mid new : Space) (made : List Packets) (halt : Halt) →
+  pub ends_all : {Q R S : List ℕ → Type 0} {old mid new : Space} {made : List Packets} {halt : Halt} →
       ((name : List ℕ) → R name → S name) →
       Judges InTurn (captures_from r limit 0 (take k rows)) Q old mid (Ok made) →
       Judges InTurn (packets_at r k limit row.read) R mid new (Err halt) →
       Judges InTurn (captures_from r limit 0 rows) S old new (Err halt)
-  ends_all Q R S old mid new made halt i g h =
-      judges_as_err (λ (m : Contents). captures_from r limit 0 (take k rows) m >>= (λ made. then_rest made m))
-      (captures_from r limit 0 rows) all_is S old new halt
-      (judges_after (captures_from r limit 0 (take k rows)) then_rest Q R S old mid new made halt
-      (captures_from_stay r limit 0 (take k rows)) i g
-      (judges_then (packets_at r k limit row.read)
-      (λ (q : Packets) (m : Contents). captures_from r limit (k + 1) (drop (k + 1) rows) m >>= (λ rest.
-      let s : Result (List Packets) Refusal = Ok (made ++ q ∷ rest) in s)) R R mid new halt (λ name r. r) h))
+  ends_all i g h = judges_as all_is
+      (judges_after then_rest g (captures_from_stay r limit 0 (take k rows)) i (judges_then _ (λ name r. r) h))
 
   abbrev then_this : List Packets → Contents → Result (List Packets) Refusal
   then_this made m = packets_at r k limit row.read m >>= (λ q. Ok (made ++ q ∷ []))
@@ -71,36 +60,156 @@ module _ (r : Reader) (limit : ℕ) (rows : List PortRow) (k : ℕ) (row : PortR
   more_is m = grind (arith, common_steps, take_more_is, split_at r limit 0 k (take k rows) row [] m, length_before)
 
   -- one port more
-  pub reads_more : (Q R : List ℕ → Type 0) (old mid new : Space) (made : List Packets) (q : Packets)
-      (more : List Packets) → more ≡ made ++ q ∷ [] →
+  pub reads_more : {Q R : List ℕ → Type 0} {old mid new : Space} {made : List Packets} {q : Packets}
+      {more : List Packets} → more ≡ made ++ q ∷ [] →
       Judges InTurn (captures_from r limit 0 (take k rows)) R old mid (Ok made) →
       Judges InTurn (packets_at r k limit row.read) Q mid new (Ok q) →
       Judges InTurn (captures_from r limit 0 (take (k + 1) rows)) R old new (Ok more)
-  reads_more Q R old mid new made q more e g h =
-      let P : List Packets → Type 0 =
-      λ x. Judges InTurn (captures_from r limit 0 (take (k + 1) rows)) R old new (Ok x) in
-      subst P (sym e)
-      (judges_as_ok (λ (m : Contents). captures_from r limit 0 (take k rows) m >>= (λ made. then_this made m))
-      (captures_from r limit 0 (take (k + 1) rows)) more_is R old new (made ++ q ∷ [])
-      (judges_both (captures_from r limit 0 (take k rows)) then_this R R R old mid new made (made ++ q ∷ []) g
-      (judges_both (packets_at r k limit row.read) (λ (p : Packets) (m : Contents).
-      let s : Result (List Packets) Refusal = Ok (made ++ p ∷ []) in s) Q R R mid new new q (made ++ q ∷ []) h
-      (judges_computed (Ok (made ++ q ∷ [])) R new (made ++ q ∷ []) h.closed refl))))
+  reads_more e g h =
+      rw e (judges_as more_is (judges_both then_this g (judges_both _ h (judges_computed h.closed refl))))
 
--- all ports were read
-pub reads_all : (r : Reader) (limit : ℕ) (rows : List PortRow) (k : ℕ) (Q R : List ℕ → Type 0) (old new : Space)
-    (made : List Packets) → length rows ≤ k →
-    Judges InTurn (captures_from r limit 0 (take k rows)) Q old new (Ok made) →
-    Judges InTurn (captures_from r limit 0 rows) R old new (Ok made)
-reads_all r limit rows k Q R old new made over h = judges_any (captures_from r limit 0 rows) Q R old new made
-    (let P : List PortRow → Type 0 = λ rs. Judges InTurn (captures_from r limit 0 rs) Q old new (Ok made) in
-    subst P (take_all k rows over) h)
+module _ (r : Reader) (limit : ℕ) (rows : List PortRow) {R : List ℕ → Type 0} where
+  -- all ports were read
+  pub reads_all : {k : ℕ} {Q : List ℕ → Type 0} {old new : Space} {made : List Packets} → length rows ≤ k →
+      Judges InTurn (captures_from r limit 0 (take k rows)) Q old new (Ok made) →
+      Judges InTurn (captures_from r limit 0 rows) R old new (Ok made)
+  reads_all {k} over h = judges_any (rw (take_all k rows over) at h)
 
--- no port was read yet
-pub reads_none : (r : Reader) (limit : ℕ) (rows : List PortRow) (R : List ℕ → Type 0) (at : Space)
-    (made : List Packets) → at.mode ≡ Closed → made ≡ [] →
-    Judges InTurn (captures_from r limit 0 (take 0 rows)) R at at (Ok made)
+  -- no port was read yet
+  pub reads_none : {at : Space} {made : List Packets} → at.mode ≡ Closed → made ≡ [] →
+      Judges InTurn (captures_from r limit 0 (take 0 rows)) R at at (Ok made)
+  unfolding captures_from
+  reads_none c e = rw e (judges_computed {r = Ok []} c refl)
+
+-- ## Reading ahead: the first input was read before the later ones, and is looked at once these have been read
+
+-- in a call that reads this name, the object failed since then
+abbrev pub Unread : {S : Type 0} → (S → Space) → (Call → S → S → Type 0) → (S → S → Type 0) → S → S → List ℕ → Type 0
+Unread space may_fail keeps old new asked = Fails space may_fail keeps (Reads asked) old new
+
+module _ (r : Reader) (input limit : ℕ) where
+  -- its packets are what arrives there
+  arrived : (told : Option Contents) (packets : List Captured) (read : Option (List ℕ)) (begun : Option Decoding)
+      → IsBegunFor read limit told begun → MatchOption begun (packets ≡ []) (λ d. Spells (source d) packets)
+      → IfSome told (λ m. packets_at r input limit read m ≡ Ok packets)
+  arrived told packets None None b h =
+      told_any told _ (λ m. ap (λ (ps : List Captured). let x : Result (List Captured) Refusal = Ok ps in x) (sym h))
+  arrived told packets (Some name) (Some d) b h =
+      capture_is r name input limit (source d) b.1.short told packets b.1.whole h
+  arrived told packets read begun b h = absurd b
+
+  -- what is wrong with its bytes ends judging
+  halted : (R : List ℕ → Type 0) (old new : Space) (halt : Halt) (read : Option (List ℕ)) (begun : Option Decoding)
+      → IsBegunFor read limit old.told begun → MatchOption begun ⊥ (λ d. IsHaltFor input (source d) halt)
+      → Uncounted Ahead (AnyName R) old.faults new.faults → Halts Ahead (packets_at r input limit read) R old new halt
+  halted R old new halt None None b h k = absurd h
+  halted R old new halt (Some name) (Some d) b h k =
+      rw h.told
+      (capture_halts r name input limit (source d) b.1.short Ahead R old new h.found b.1.whole h.faulty k)
+  halted R old new halt read begun b h k = absurd b
+
+-- ## The first input, and those after it
+
+module _ (r : Reader) (limit input : ℕ) (row : PortRow) (rows : List PortRow) where
+  abbrev then_later : List Captured → Contents → Result (List (List Captured)) Refusal
+  then_later packets m = captures_from r limit (input + 1) rows m >>= (λ others. Ok (packets ∷ others))
+
+  -- the first ends it
+  first_ends : {R : List ℕ → Type 0} {old new : Space} {halt : Halt} →
+      Judges Ahead (packets_at r input limit row.read) R old new (Err halt) →
+      Judges Ahead (captures_from r limit input (row ∷ rows)) R old new (Err halt)
+  unfolding captures_from
+  first_ends h = judges_then then_later (λ name u. u) h
+
+  -- the first file could not be read, and no later one was
+  pub file_ends : {R : List ℕ → Type 0} {old new : Space} {halt : Halt} →
+      Halts InTurn (packets_at r input limit row.read) R old new halt → new.mode ≡ Closed → new.told ≡ old.told →
+      Judges Ahead (captures_from r limit input (row ∷ rows)) R old new (Err halt)
+  file_ends {R} {old} {new} {halt} h c t = first_ends (record {
+    ok = tt;
+    halt = halts_at Ahead (packets_at r input limit row.read) R old new halt h;
+    closed = c;
+    told = t;
+    uncounted = tt;
+  })
+
+module _ {row : PortRow} {limit : ℕ} {old mid : Space} {begun : Option Decoding}
+    (b : HasBegun row limit old mid begun) where
+  pub begun_is : IfSome begun IsBegun
+  begun_is = search (arith, rules)
+
+  pub begun_small : limit ≤ 2 ^ 28 → IfSome begun (λ d. length (source d) ≤ 2 ^ 28)
+  begun_small small = search (arith, rules)
+
+-- what failed since the first file was read failed since this call began, for no fault was counted before
+module _ {S : Type 0} (space : S → Space) {keeps : S → S → Type 0} {row : PortRow} {limit : ℕ} {old mid : S}
+    {begun : Option Decoding} (b : HasBegun row limit (space old) (space mid) begun)
+    (closed : (space mid).mode ≡ Closed) (told : (space mid).told ≡ (space old).told) (kept : keeps old mid)
+    (lasts : Lasts keeps) (r : Reader) (input : ℕ) (rows : List PortRow) (may_fail : Call → S → S → Type 0) (new : S)
+  where
+    abbrev Since : List ℕ → Type 0
+    Since = Unread space may_fail keeps mid new
+
+    abbrev Ever : List ℕ → Type 0
+    Ever = Unread space may_fail keeps old new
+
+    -- what judging the later ones came to, and all
+    abbrev Later : Result (List (List Captured)) Halt → Type 0
+    Later result = Judges Ahead (captures_from r limit (input + 1) rows) Since (space mid) (space new) result
+
+    abbrev Whole : Result (List (List Captured)) Halt → Type 0
+    Whole result = Judges Ahead (captures_from r limit input (row ∷ rows)) Ever (space old) (space new) result
+
+    ever : (name : List ℕ) → Since name → Ever name
+    ever name = fails_after space may_fail keeps (Reads name) old mid new lasts b.uncounted kept
+
+    -- the first capture ends it, whatever the later ones came to
+    pub capture_ends : {halt : Halt} {later : Result (List (List Captured)) Halt} →
+        MatchOption begun ⊥ (λ d. IsHaltFor input (source d) halt) → Later later → Whole (Err halt)
+    capture_ends {halt} {later} h g = first_ends r limit input row rows (record {
+      ok = tt;
+      halt = halted r input limit Ever (space old) (space new) halt row.read begun b.decoding h
+          (name_after Ahead Since Ever (space old).faults (space mid).faults (space new).faults ever b.uncounted
+          (counts_of (captures_from r limit (input + 1) rows) Since (space mid) (space new) later g));
+      closed = g.closed;
+      told = g.told ∙ told;
+      uncounted = tt;
+    })
+
+    module _ (packets : List Captured) (h : MatchOption begun (packets ≡ []) (λ d. Spells (source d) packets)) where
+      first : Judges Ahead (packets_at r input limit row.read) Ever (space old) (space mid) (Ok packets)
+      first = record {
+        ok = arrived r input limit (space old).told packets row.read begun b.decoding h;
+        halt = tt;
+        closed = closed;
+        told = told;
+        uncounted = b.uncounted;
+      }
+
+      -- the first capture is sound, and a later one ends it
+      pub later_ends : {halt : Halt} → Later (Err halt) → Whole (Err halt)
+      unfolding captures_from
+      later_ends g = judges_after (then_later r limit input row rows) first (packets_stay r input limit row.read) ever
+          (judges_then _ (λ name u. u) g)
+
+      -- all are sound
+      pub all_arrive : {others : List (List Captured)} → Later (Ok others) → Whole (Ok (packets ∷ others))
+      unfolding captures_from
+      all_arrive g = judges_both (then_later r limit input row rows) first
+          (judges_both _ g (judges_computed g.closed refl))
+
+      -- all are sound, and memory ran out after that
+      pub memory_ends : {others : List (List Captured)} → Later (Ok others) → Whole (Err NoMemory)
+      memory_ends g = record {
+        ok = tt;
+        halt = inl (g.uncounted ∙ b.uncounted);
+        closed = g.closed;
+        told = g.told ∙ told;
+        uncounted = tt;
+      }
+
+-- no input is left
+pub none_arrive : (r : Reader) (limit input : ℕ) (R : List ℕ → Type 0) (at : Space) → at.mode ≡ Closed
+    → Judges Ahead (captures_from r limit input []) R at at (Ok [])
 unfolding captures_from
-reads_none r limit rows R at made c e =
-    let P : List Packets → Type 0 = λ x. Judges InTurn (captures_from r limit 0 []) R at at (Ok x) in
-    subst P (sym e) (judges_computed (Ok []) R at [] c refl)
+none_arrive r limit input R at c = judges_computed {r = Ok []} c refl

@@ -1,16 +1,7 @@
 -- Texts that are put one after another. A text that was cut short after others were put whole is a front of all: what
 -- was taken before it has a known length, so the front's length is that and the piece's. A front of a text is a front
 -- of each longer text.
-use Rattle.std.proofs.Common.{rules, ◌≡◌, ◌<◌, ◌≤◌, ℕ, ◌+◌, List, [], ◌∷◌, ◌++◌, length, take, drop, get_or, Bor, refl, ap, sym, subst, ◌∙◌, arith, append_assoc}
-use Rattle.std.proofs.lemmas.Grind.{common_steps, flat_map-append}
-use Rattle.std.specs.Prelude.{Result, Ok, Err, IsErr}
-use Rattle.std.specs.Io.KnownBytes.{append_known}
-use Rattle.std.specs.List.{flat_map}
-use Rattle.std.proofs.lemmas.List.{append-nil, take_at, take-append-drop, drop_more}
-use Rattle.std.proofs.Math.Seq.{take-append-add}
-use Rattle.cq_space.specs.Causes.{Rose}
-use Rattle.cq_run.specs.World.{Taken}
-use Rattle.cq_run.specs.Line.{Puts, line}
+use Rattle.cq_run.proofs.Terms.{rules, ◌≡◌, ◌<◌, ◌≤◌, ℕ, ◌+◌, List, [], ◌∷◌, ◌++◌, length, take, drop, get_or, Bor, refl, ap, sym, ◌∙◌, arith, append_assoc, Result, Ok, Err, IsErr, common_steps, flat_map-append, append_known, flat_map, append-nil, take_at, take-append-drop, drop_more, take-append-add, Rose, Taken, Puts, line}
 
 -- the digits that were written at the front
 pub front_is : (text old new : List ℕ) (count : ℕ) → count ≡ length text → new ≡ text ++ drop count old →
@@ -20,27 +11,24 @@ front_is text old new count c e = ap (take count) e ∙ take_at text (drop count
 -- a line in pieces: its head, its text and the line feed
 pub line_in_pieces : (head text text' : List ℕ) → text ≡ text' → head ++ (text ++ 10 ∷ []) ≡ line (head ++ text')
 unfolding line
-line_in_pieces head text text' e = ap (λ ys. head ++ (ys ++ 10 ∷ [])) e ∙ sym (append_assoc head text' (10 ∷ []))
+line_in_pieces head text text' e = simp (e, append_assoc)
 
 -- a line of two numbers in pieces: each has a text before it
 pub line_of_two : (a b b' c d d' : List ℕ) → b ≡ b' → d ≡ d' →
     a ++ (b ++ (c ++ (d ++ 10 ∷ []))) ≡ line (a ++ b' ++ c ++ d')
 unfolding line
-line_of_two a b b' c d d' e f = ap (λ ys. a ++ (ys ++ (c ++ (d ++ 10 ∷ [])))) e
-    ∙ ap (λ ys. a ++ (b' ++ (c ++ (ys ++ 10 ∷ [])))) f ∙ simp append_assoc
+line_of_two a b b' c d d' e f = simp (e, f, append_assoc)
 
 -- and of three
 pub line_of_three : (a b b' c d d' e f f' : List ℕ) → b ≡ b' → d ≡ d' → f ≡ f' →
     a ++ (b ++ (c ++ (d ++ (e ++ (f ++ 10 ∷ []))))) ≡ line (a ++ b' ++ c ++ d' ++ e ++ f')
 unfolding line
-line_of_three a b b' c d d' e f f' p q r = ap (λ ys. a ++ (ys ++ (c ++ (d ++ (e ++ (f ++ 10 ∷ [])))))) p
-    ∙ ap (λ ys. a ++ (b' ++ (c ++ (ys ++ (e ++ (f ++ 10 ∷ [])))))) q
-    ∙ ap (λ ys. a ++ (b' ++ (c ++ (d' ++ (e ++ (ys ++ 10 ∷ [])))))) r ∙ simp append_assoc
+line_of_three a b b' c d d' e f f' p q r = simp (p, q, r, append_assoc)
 
 -- a line after the pieces of its head
 pub line_after : (a b b' c text : List ℕ) → b ≡ b' → a ++ (b ++ c) ++ line text ≡ line (a ++ b' ++ c ++ text)
 unfolding line
-line_after a b b' c text e = ap (λ ys. a ++ (ys ++ c) ++ (text ++ 10 ∷ [])) e ∙ simp append_assoc
+line_after a b b' c text e = simp (e, append_assoc)
 
 -- a text of two numbers in pieces: each has a text before it
 pub two_in_pieces : (a b b' c d d' : List ℕ) → b ≡ b' → d ≡ d' → a ++ (b ++ (c ++ (d ++ []))) ≡ a ++ b' ++ c ++ d'
@@ -48,7 +36,7 @@ two_in_pieces a b b' c d d' e f = grind (arith, common_steps, append-nil d', app
 
 pub puts_as : {E : Type 0} (a b : List ℕ) (old new : Taken) (r : Result (Unit {0}) E) → a ≡ b → Puts a old new r →
     Puts b old new r
-puts_as a b old new r e h = let P : List ℕ → Type 0 = λ t. Puts t old new r in subst P e h
+puts_as a b old new r e h = rw e at h
 
 -- a front of a text is a front of a longer one
 front_of_longer : (a b : List ℕ) (n : ℕ) → take n a ≡ take (length (take n a)) (a ++ b)
@@ -106,7 +94,5 @@ pub pieces_cut : {E : Type 0} (ps : List (Bor (List ℕ))) (i : ℕ) (d : Bor (L
     old.bytes ≡ append_known start.bytes (flat_map (λ p. p.now) (take i ps)) → old.faults ≡ start.faults →
     (n : ℕ) × (new.bytes ≡ append_known old.bytes (take n (get_or ps i d).now)) → old.faults ≤ new.faults →
     Rose old.faults new.faults → Puts (flat_map (λ p. p.now) ps) start new r
-pieces_cut ps i d start old new r err h put uncounted front later rose = puts_as _ (flat_map (λ p. p.now) ps) start
-    new r (sym (pieces_at ps i d h)) (puts_then (flat_map (λ p. p.now) (take i ps))
-    ((get_or ps i d).now ++ flat_map (λ p. p.now) (drop (i + 1) ps)) start old new r put uncounted
-    (puts_cut (get_or ps i d).now (flat_map (λ p. p.now) (drop (i + 1) ps)) old new r err front later rose))
+pieces_cut ps i d start old new r err h put uncounted front later rose = rw (pieces_at ps i d h)
+    (puts_then _ _ start old new r put uncounted (puts_cut _ _ old new r err front later rose))

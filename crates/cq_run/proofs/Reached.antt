@@ -1,36 +1,11 @@
 -- What is known at a moment of judging a command. All that was judged so far was accepted: no fault was counted, the
 -- file space is closed, its contents are as before, and of these the command comes to what is left to judge. So where a
 -- name that is read next is unread or refused, or what was read is judged, that is what the command comes to.
-use Rattle.std.proofs.Common.{rules, arith, ◌≡◌, ◌∙◌, ◌⊎◌, ℕ, IsTrue, List, ap, sym, subst, inl, inr}
-use Rattle.std.proofs.lemmas.Grind.{common_steps}
-use Rattle.std.specs.Prelude.{Option, None, Some, IfOk, IfSome, IsOkAnd, Result, Ok, Err}
-use Rattle.std.specs.List.{AllByRecursion}
-use Rattle.cq_pcap.specs.Captured.{Captured}
-use Rattle.cq_route.specs.declared.tables.Tables.{Tables}
-use Rattle.cq_space.specs.Call.{Call}
-use Rattle.cq_space.specs.Failing.{Fails, Lasts, Reads}
-use Rattle.cq_space.specs.Space.{Closed, Contents, Space}
-use Rattle.cq_words.specs.declared.command.Command.{Command}
-use Rattle.cq_run.specs.declared.reading.Given.{Given}
-use Rattle.cq_run.specs.declared.refusal.Refusal.{Refusal}
-use Rattle.cq_run.specs.declared.stop.Halt.{Halt}
-use Rattle.cq_run.specs.declared.stop.Halt.TheVariants.{NoMemory, Refused, Unread}
-use Rattle.cq_run.specs.Aim.{Aim, Denies, Meets}
-use Rattle.cq_run.specs.Given.{EndsGiven, IsGiven, judged_of_given}
-use Rattle.cq_run.specs.Headline.{Emulates}
-use Rattle.cq_run.specs.Judged.{IsJudged}
-use Rattle.cq_run.specs.Judging.{IsHaltOf, Judges}
-use Rattle.cq_run.specs.Pace.{Pace}
-use Rattle.cq_run.specs.Plan.{Plan}
-use Rattle.cq_run.specs.Planning.{Decides, IsDenial, known_to}
-use Rattle.cq_run.specs.Reader.{Reader}
-use Rattle.cq_run.specs.Refusals.{meaning_of}
-use Rattle.cq_run.specs.Verdict.{◌>>=◌, MayRead, MayWrite, captures_in, judged, tables_in}
-use Rattle.cq_run.proofs.Chain.{ComesTo, comes_to_itself, goes_on, judges_back, judges_computed_err, judges_more, judges_then}
-use Rattle.cq_run.proofs.Counted.{counts_same}
-use Rattle.cq_run.proofs.Failed.{fails_after}
-use Rattle.cq_run.proofs.OneReading.{from_front}
+use Rattle.cq_run.proofs.Terms.{rules, arith, ◌≡◌, ◌∙◌, ◌⊎◌, ℕ, IsTrue, List, ap, subst, inl, inr, length, Option, None, Some, IfOk, IfSome, Result, Ok, Err, common_steps, AllByRecursion, Captured, Tables, Call, Fails, Lasts, Reads, Closed, Contents, Space, Command, Given, Refusal, Halt, NoMemory, Refused, Unread, Aim, Denies, Meets, EndsGiven, IsGiven, judged_of_given, Emulates, AreRead, IsJudged, IsHaltOf, Judges, Pace, InTurn, Plan, Decides, IsDenial, known_to, Reader, meaning_of, ◌>>=◌, MayRead, MayWrite, captures_in, judged, tables_in, AreTables, ports_of}
+use Rattle.cq_run.proofs.Chain.{ComesTo, comes_to_itself, goes_on, judges_back, judges_computed_err, judges_more, judges_then, counts_same, judges_after, judges_at, fails_after}
+use Rattle.cq_run.proofs.TextRead.{from_front}
 use Rattle.cq_run.proofs.Stays.{Stays, captures_from_stay, tables_stay}
+use Rattle.cq_run.proofs.Told.{told_map, told_two}
 
 -- ## What is computed of all that was read
 
@@ -49,39 +24,99 @@ refused_settles {A} r f (Refused refusal) h = (h.1, inl (ap (λ (s : Result A Re
 refused_settles r f (Unread name) h = h
 refused_settles r f NoMemory h = tt
 
--- what is computed of an answer
-pub ok_settles : {A : Type 0} (r : Result A Refusal) (f : A → Aim) (x : A) (plan : Plan) → r ≡ Ok x →
-    Meets (f x) plan → Settles (r >>= (λ z. Ok (f z))) (Ok plan)
-ok_settles {A} r f x plan e meets =
-    (f x, ap (λ (s : Result A Refusal). s >>= (λ (z : A). let a : Result Aim Refusal = Ok (f z) in a)) e, meets)
-
 -- what is aimed at is denied of contents that are told, and may be of others
 denied_at : (j : Contents → Result Aim Refusal) (told : Option Contents) (aim : Aim) (refusal : Refusal) →
     IsTrue (meaning_of refusal).untold → Denies aim refusal → IfSome told (λ m. j m ≡ Ok aim) → IsDenial j told refusal
 denied_at j None aim refusal untold denied is = untold
 denied_at j (Some m) aim refusal untold denied is =
-    let P : Result Aim Refusal → Type 0 = λ v. IsOkAnd v (λ a. Denies a refusal) in subst P (sym is) denied
+    rw is denied
 
-module _ {S : Type 0} (space : S → Space) (may_fail : Call → S → S → Type 0) (keeps : S → S → Type 0)
-    (command : Command) (knows : (s : Space) → known_to command s ≡ s) (old : S) where
-  -- a name that the command may read, in a call that failed
-  abbrev Failed : S → List ℕ → Type 0
-  Failed new name = MayRead command name × Fails space may_fail keeps (Reads name) old new
+-- what is known at such a moment, of a command that knows all of the files
+pub record Reached {S : Type 0} (space : S → Space) (keeps : S → S → Type 0) (command : Command) (old now : S)
+    (rest : Reader → Contents → Result Aim Refusal) : Type 0 where
+  pub knows : (s : Space) → known_to command s ≡ s
+  pub comes : (r : Reader) → IfSome (space old).told (ComesTo (judged r command) (rest r))
+  pub kept : keeps old now
+  pub closed : (space now).mode ≡ Closed
+  pub told : (space now).told ≡ (space old).told
+  pub uncounted : (space now).faults ≡ (space old).faults
 
-  -- a command that reads files knows all of them
-  known : (p : Pace) (r : Reader) (new : S) (result : Result Plan Halt) →
-      Decides p (judged r command) (Failed new) (space old) (space new) result →
-      Decides p (judged r command) (Failed new) (known_to command (space old)) (known_to command (space new)) result
-  known p r new result h =
-      let P : Space → Type 0 = λ s. Decides p (judged r command) (Failed new) s (space new) result in
-      search (arith, rules)
+-- a name that the command may read, in a call that failed
+abbrev Failed : {S : Type 0} → (S → Space) → (Call → S → S → Type 0) → (S → S → Type 0) → Command → S → S → List ℕ
+    → Type 0
+Failed space may_fail keeps command old new name =
+    MayRead command name × Fails space may_fail keeps (Reads name) old new
 
+-- a command that reads files knows all of them
+known : (command : Command) → ((s : Space) → known_to command s ≡ s) → (p : Pace) (r : Reader) (R : List ℕ → Type 0)
+    (old new : Space) (result : Result Plan Halt) → Decides p (judged r command) R old new result →
+    Decides p (judged r command) R (known_to command old) (known_to command new) result
+known command knows p r R old new result h =
+    let P : Space → Type 0 = λ s. Decides p (judged r command) R s new result in search (arith, rules)
+
+module _ {S : Type 0} {space : S → Space} {keeps : S → S → Type 0} {command : Command} {old : S} where
+  -- at first all is left
+  pub begun : ((s : Space) → known_to command s ≡ s) → Lasts keeps → (space old).mode ≡ Closed →
+      Reached space keeps command old old (λ r. judged r command)
+  begun knows lasts closed = grind (arith, common_steps, comes_to_itself, lasts.none old)
+
+  -- once a configuration is read, what is judged of what it gives is left
+  pub given_so : {config : List ℕ} → ((s : Space) → known_to command s ≡ s) →
+      (rest : Reader → Tables → List (List Captured) → Contents → Result Aim Refusal) →
+      ((r : Reader) → judged r command ≡ judged_of_given r config (rest r)) → {now : S} {given : Given} →
+      IsGiven space keeps config old now given →
+      Reached space keeps command old now (λ r. rest r given.tables given.captures)
+  given_so {config} knows rest same {now} {given} is = record {
+    knows = knows;
+    comes = λ r.
+        let told = (space old).told in
+        let P : (Contents → Result Aim Refusal) → Type 0 = λ j. IfSome told (ComesTo (judged r command) j) in
+        goes_on (judged r command) (captures_in r given.tables) (rest r given.tables) told given.captures
+        (captures_from_stay r given.tables.limit_bytes 0 given.tables.ports) (is.captures r)
+        (goes_on (judged r command) (tables_in config)
+        (λ (t : Tables) (m : Contents). captures_in r t m >>= (λ captures. rest r t captures m)) told
+        given.tables (tables_stay config) is.tables
+        (subst P (same r) (comes_to_itself (judged r command) told)));
+    kept = is.kept;
+    closed = is.closed;
+    told = is.told;
+    uncounted = is.uncounted;
+  }
+
+  -- what was read next is accepted
+  pub read_on : {A : Type 0} {mid new : S} {j : Reader → Contents → Result A Refusal}
+      (f : Reader → A → Contents → Result Aim Refusal) → Lasts keeps →
+      Reached space keeps command old mid (λ r m. j r m >>= (λ x. f r x m)) → keeps mid new →
+      {q : Pace} {Q : List ℕ → Type 0} {x : A} → ((r : Reader) → Stays (j r)) →
+      ((r : Reader) → Judges q (j r) Q (space mid) (space new) (Ok x)) →
+      Reached space keeps command old new (λ r. f r x)
+  read_on {mid = mid} {new = new} {j = j} f lasts reached kept {q} {Q} {x} stays h =
+      record {
+        knows = reached.knows;
+        comes = λ r. goes_on (judged r command) (j r) (f r) (space old).told x (stays r)
+            (rw reached.told at (h r).ok) (reached.comes r);
+        kept = lasts.both old mid new reached.kept kept;
+        closed = (h from_front).closed;
+        told = (h from_front).told ∙ reached.told;
+        uncounted = (h from_front).uncounted ∙ reached.uncounted;
+      }
+
+  module _ {now : S} {v : Result Aim Refusal} (reached : Reached space keeps command old now (λ r m. v)) where
+    aims : (p : Pace) (r : Reader) (R : List ℕ → Type 0) (aim : Aim) → v ≡ Ok aim →
+        Judges p (judged r command) R (space old) (space now) (Ok aim)
+    aims p r R aim e =
+        let ok = told_map (space old).told (ComesTo (judged r command) (λ m. v)) (λ m. judged r command m ≡ Ok aim)
+        (λ m c. c.same ∙ e) (reached.comes r) in
+        grind (arith, common_steps)
+
+module _ {S : Type 0} {space : S → Space} {may_fail : Call → S → S → Type 0} {keeps : S → S → Type 0}
+    {command : Command} {p : Pace} {old new : S} where
   -- judging ends without a plan
-  pub halted : {p : Pace} (new : S) (halt : Halt) → ((r : Reader) →
-      Judges p (judged r command) (Failed new) (space old) (space new) (Err halt)) → keeps old new →
-      IsJudged space may_fail keeps p command old new (Err halt)
-  halted {p} new halt h kept = record {
-    judges = λ r. known p r new (Err halt) (inl (h r));
+  halted : {halt : Halt} → ((s : Space) → known_to command s ≡ s) → ((r : Reader) →
+      Judges p (judged r command) (Failed space may_fail keeps command old new) (space old) (space new) (Err halt)) →
+      keeps old new → IsJudged space may_fail keeps p command old new (Err halt)
+  halted {halt} knows h kept = record {
+    judges = λ r. known command knows p r _ (space old) (space new) (Err halt) (inl (h r));
     kept = kept;
     names = tt;
     emulates = λ r. tt;
@@ -89,127 +124,125 @@ module _ {S : Type 0} (space : S → Space) (may_fail : Call → S → S → Typ
     told = (h from_front).told;
   }
 
-  pub record Reached (now : S) (rest : Reader → Contents → Result Aim Refusal) : Type 0 where
-    pub comes : (r : Reader) → IfSome (space old).told (ComesTo (judged r command) (rest r))
-    pub kept : keeps old now
-    pub closed : (space now).mode ≡ Closed
-    pub told : (space now).told ≡ (space old).told
-    pub uncounted : (space now).faults ≡ (space old).faults
+  -- reading a configuration ends judging of what it gives, where any name may be read
+  pub given_ends : {config : List ℕ} {halt : Halt} → ((s : Space) → known_to command s ≡ s) →
+      (rest : Reader → Tables → List (List Captured) → Contents → Result Aim Refusal) →
+      ((r : Reader) → judged r command ≡ judged_of_given r config (rest r)) →
+      ((name : List ℕ) → MayRead command name) → EndsGiven space may_fail keeps p config old new halt →
+      IsJudged space may_fail keeps p command old new (Err halt)
+  given_ends {config} {halt} knows rest same any ended =
+      halted knows (λ r. judges_more (λ name u. (any name, u)) (rw (← same r) at (ended.ends r (rest r)))) ended.kept
 
-  -- at first all is left
-  pub begun : Lasts keeps → (space old).mode ≡ Closed → Reached old (λ r. judged r command)
-  begun lasts closed = grind (arith, common_steps, comes_to_itself, lasts.none old)
-
-  -- a command that judges what a configuration gives, and may read any name
-  module _ (config : List ℕ) (rest : Reader → Tables → List (List Captured) → Contents → Result Aim Refusal)
-      (same : (r : Reader) → judged r command ≡ judged_of_given r config (rest r))
-      (any : (name : List ℕ) → MayRead command name) where
-    -- reading it ends judging
-    pub given_ends : {p : Pace} (new : S) (halt : Halt) → EndsGiven space may_fail keeps p config old new halt →
-        IsJudged space may_fail keeps p command old new (Err halt)
-    given_ends {p} new halt ended =
-        let R : List ℕ → Type 0 = λ name. Fails space may_fail keeps (Reads name) old new in
-        let P : (Contents → Result Aim Refusal) → Type 0 = λ j. Judges p j R (space old) (space new) (Err halt) in
-        halted new halt (λ r. judges_more p (judged r command) R (Failed new) (space old) (space new) (Err halt)
-        (λ name u. (any name, u)) (subst P (sym (same r)) (ended.ends r (rest r)))) ended.kept
-
-    -- once it is read, what is judged of it is left
-    pub given_so : (now : S) (given : Given) → IsGiven space keeps config old now given →
-        Reached now (λ r. rest r given.tables given.captures)
-    given_so now given is = record {
-      comes = λ r.
-          let told = (space old).told in
-          let P : (Contents → Result Aim Refusal) → Type 0 = λ j. IfSome told (ComesTo (judged r command) j) in
-          goes_on (judged r command) (captures_in r given.tables)
-          (λ (captures : List (List Captured)) (m : Contents). rest r given.tables captures m) told
-          given.captures (captures_from_stay r given.tables.limit_bytes 0 given.tables.ports) (is.captures r)
-          (goes_on (judged r command) (tables_in config)
-          (λ (t : Tables) (m : Contents). captures_in r t m >>= (λ captures. rest r t captures m)) told
-          given.tables (tables_stay config) is.tables
-          (subst P (same r) (comes_to_itself (judged r command) told)));
-      kept = is.kept;
-      closed = is.closed;
-      told = is.told;
-      uncounted = is.uncounted;
-    }
-
-  module _ {A : Type 0} (lasts : Lasts keeps) (mid new : S) (j : Reader → Contents → Result A Refusal)
-      (f : Reader → A → Contents → Result Aim Refusal)
-      (reached : Reached mid (λ r m. j r m >>= (λ x. f r x m))) (kept : keeps mid new) where
-    -- what was read next is accepted
-    pub read_on : {q : Pace} (Q : List ℕ → Type 0) (x : A) → ((r : Reader) → Stays (j r)) →
-        ((r : Reader) → Judges q (j r) Q (space mid) (space new) (Ok x)) → Reached new (λ r. f r x)
-    read_on {q} Q x stays h =
-        let P : Reader → Option Contents → Type 0 = λ r o. IfSome o (λ m. j r m ≡ Ok x) in
-        record {
-          comes = λ r. goes_on (judged r command) (j r) (f r) (space old).told x (stays r)
-              (subst (P r) reached.told (h r).ok) (reached.comes r);
-          kept = lasts.both old mid new reached.kept kept;
-          closed = (h from_front).closed;
-          told = (h from_front).told ∙ reached.told;
-          uncounted = (h from_front).uncounted ∙ reached.uncounted;
-        }
-
-    -- or it ends judging
-    pub read_ends : {p : Pace} (R : List ℕ → Type 0) (halt : Halt) →
-        ((r : Reader) → Judges p (j r) R (space mid) (space new) (Err halt)) →
-        ((name : List ℕ) → R name → MayRead command name × Fails space may_fail keeps (Reads name) mid new) →
-        IsJudged space may_fail keeps p command old new (Err halt)
-    read_ends {p} R halt h i =
-        let since : (name : List ℕ) → R name → Failed new name = search (arith, rules, fails_after) in
-        halted new halt (λ r. judges_back (judged r command) (λ (m : Contents). j r m >>= (λ x. f r x m)) (Failed new)
-        (Failed new) (space old) (space mid) (space new) halt (λ name u. u) (reached.comes r) reached.told
-        reached.uncounted (judges_then (j r) (f r) R (Failed new) (space mid) (space new) halt since (h r)))
-        (lasts.both old mid new reached.kept kept)
+  -- what is read next ends judging
+  pub read_ends : {A : Type 0} {mid : S} {j : Reader → Contents → Result A Refusal}
+      (f : Reader → A → Contents → Result Aim Refusal) → Lasts keeps →
+      Reached space keeps command old mid (λ r m. j r m >>= (λ x. f r x m)) → keeps mid new →
+      {R : List ℕ → Type 0} {halt : Halt} →
+      ((r : Reader) → Judges p (j r) R (space mid) (space new) (Err halt)) →
+      ((name : List ℕ) → R name → MayRead command name × Fails space may_fail keeps (Reads name) mid new) →
+      IsJudged space may_fail keeps p command old new (Err halt)
+  read_ends {mid = mid} f lasts reached kept {R} {halt} h i =
+      let since : (name : List ℕ) → R name → Failed space may_fail keeps command old new name =
+      search (arith, rules, fails_after) in
+      halted reached.knows (λ r. judges_back (λ name u. u) (reached.comes r) reached.told reached.uncounted
+      (judges_then (f r) since (h r))) (lasts.both old mid new reached.kept kept)
 
   -- memory runs out
-  pub no_memory : {p : Pace} (now : S) (rest : Reader → Contents → Result Aim Refusal) → Reached now rest →
-      IsJudged space may_fail keeps p command old now (Err NoMemory)
-  no_memory {p} now rest reached = halted now NoMemory (λ r. search (arith, rules, counts_same)) reached.kept
+  pub no_memory : {rest : Reader → Contents → Result Aim Refusal} → Reached space keeps command old new rest →
+      IsJudged space may_fail keeps p command old new (Err NoMemory)
+  no_memory reached = halted reached.knows (λ r. search (arith, rules, counts_same)) reached.kept
 
-  -- ## What was read is judged
+  -- what was read is judged
+  pub settled : {v : Result Aim Refusal} → Reached space keeps command old new (λ r m. v) →
+      (result : Result Plan Halt) → Settles v result →
+      IfOk result (λ plan. AllByRecursion (λ write. MayWrite command write.0) plan.writes) →
+      ((r : Reader) → IfOk result (λ plan. IfSome (space old).told (λ m. Emulates r command m plan))) →
+      IsJudged space may_fail keeps p command old new result
+  settled reached (Ok plan) (aim, e, meets) names emulates = record {
+    judges = λ r. known command reached.knows p r _ (space old) (space new) (Ok plan)
+        (aim, meets, aims reached p r _ aim e);
+    kept = reached.kept;
+    names = names;
+    emulates = emulates;
+    closed = reached.closed;
+    told = reached.told;
+  }
+  settled reached (Err (Refused refusal)) (untold, inl e) names emulates =
+      halted reached.knows (λ r. judges_back (λ name u. u) (reached.comes r) reached.told reached.uncounted
+      (judges_computed_err reached.closed (e, untold))) reached.kept
+  settled {v} reached (Err (Refused refusal)) (untold, inr (aim, e, denied)) names emulates = record {
+    judges = λ r.
+        let judges = aims reached p r (Failed space may_fail keeps command old new) aim e in
+        search (arith, rules, known command reached.knows, denied_at);
+    kept = reached.kept;
+    names = tt;
+    emulates = λ r. tt;
+    closed = reached.closed;
+    told = reached.told;
+  }
+  settled reached (Err (Unread name)) h names emulates = absurd h
+  settled reached (Err NoMemory) h names emulates = no_memory reached
 
-  module _ (now : S) (v : Result Aim Refusal) (reached : Reached now (λ r m. v)) where
-    aims_at : (r : Reader) (told : Option Contents) (aim : Aim) → v ≡ Ok aim →
-        IfSome told (ComesTo (judged r command) (λ m. v)) → IfSome told (λ m. judged r command m ≡ Ok aim)
-    aims_at r None aim e c = tt
-    aims_at r (Some m) aim e c = c.same ∙ e
+  -- judging ends in what is computed of one result
+  module _ {A : Type 0} (w : Result A Refusal) (f : A → Aim)
+      (reached : Reached space keeps command old new (λ r m. w >>= (λ x. Ok (f x)))) where
+    -- which is refused, or
+    pub computed_halts : (halt : Halt) → IsHaltOf w halt → IsJudged space may_fail keeps p command old new (Err halt)
+    computed_halts halt h = settled reached (Err halt) (refused_settles w _ halt h) tt (λ r. tt)
 
-    aims : {p : Pace} (r : Reader) (R : List ℕ → Type 0) (aim : Aim) → v ≡ Ok aim →
-        Judges p (judged r command) R (space old) (space now) (Ok aim)
-    aims {p} r R aim e = grind (arith, common_steps, aims_at r (space old).told aim e (reached.comes r))
+    -- has a plan that meets what it aims at
+    pub computed_plans : {x : A} {plan : Plan} → w ≡ Ok x → Meets (f x) plan →
+        AllByRecursion (λ write. MayWrite command write.0) plan.writes →
+        ((r : Reader) → IfSome (space old).told (λ m. Emulates r command m plan)) →
+        IsJudged space may_fail keeps p command old new (Ok plan)
+    computed_plans {x} {plan} e meets names emulates = settled reached (Ok plan)
+        (f x, ap (λ (s : Result A Refusal). s >>= (λ (z : A). let a : Result Aim Refusal = Ok (f z) in a)) e, meets)
+        names emulates
 
-    refuses : {p : Pace} (halt : Halt) → IsHaltOf v halt → IsJudged space may_fail keeps p command old now (Err halt)
-    refuses {p} halt h = halted now halt (λ r. judges_back (judged r command) (λ (m : Contents). v) (Failed now)
-        (Failed now) (space old) (space now) (space now) halt (λ name u. u) (reached.comes r) reached.told
-        reached.uncounted (judges_computed_err p v (Failed now) (space now) halt reached.closed h)) reached.kept
+-- ## Reading a configuration and its captures, in turn or ahead
 
-    denies : {p : Pace} (refusal : Refusal) (aim : Aim) → IsTrue (meaning_of refusal).untold → v ≡ Ok aim →
-        Denies aim refusal → IsJudged space may_fail keeps p command old now (Err (Refused refusal))
-    denies {p} refusal aim untold e denied = record {
-      judges = λ r.
-          let judges : Judges p (judged r command) (Failed now) (space old) (space now) (Ok aim) = aims r _ aim e in
-          search (arith, rules, known, denied_at);
-      kept = reached.kept;
-      names = tt;
-      emulates = λ r. tt;
-      closed = reached.closed;
-      told = reached.told;
+module _ {S : Type 0} {space : S → Space} {may_fail : Call → S → S → Type 0} {keeps : S → S → Type 0}
+    {config : List ℕ} {old new : S} {p : Pace} where
+  -- the configuration ends it, which is read before anything can be read ahead
+  pub tables_end : {halt : Halt} → keeps old new → Judges InTurn (tables_in config)
+      (λ name. (name ≡ config) × Fails space may_fail keeps (Reads name) old new) (space old) (space new) (Err halt) →
+      EndsGiven space may_fail keeps p config old new halt
+  tables_end {halt} kept h = record { ends = search (arith, rules, judges_at, judges_then); kept = kept }
+
+  -- the captures end it
+  pub captures_end : {mid : S} {t : Tables} {Q : List ℕ → Type 0} {halt : Halt} → Lasts keeps →
+      Judges InTurn (tables_in config) Q (space old) (space mid) (Ok t) → keeps old mid → ((r : Reader) →
+      Judges p (captures_in r t) (λ name. Fails space may_fail keeps (Reads name) mid new) (space mid) (space new)
+      (Err halt)) → keeps mid new → EndsGiven space may_fail keeps p config old new halt
+  captures_end {mid} {t} {Q} {halt} lasts read kept h kept_on = record {
+    ends = λ r rest. judges_after _ read (tables_stay config)
+        (λ name. fails_after space may_fail keeps (Reads name) old mid new lasts read.uncounted kept)
+        (judges_then _ (λ name u. u) (h r));
+    kept = lasts.both old mid new kept kept_on;
+  }
+
+-- both are there
+pub given_read : {S : Type 0} {space : S → Space} {keeps : S → S → Type 0} {config : List ℕ} {old mid new : S}
+    {p : Pace} {t : Tables} {captures : List (List Captured)} {Q R : List ℕ → Type 0} → Lasts keeps → AreTables t →
+    Judges InTurn (tables_in config) Q (space old) (space mid) (Ok t) → keeps old mid →
+    ((r : Reader) → Judges p (captures_in r t) R (space mid) (space new) (Ok captures)) →
+    length captures ≡ ports_of t.setup → keeps mid new →
+    IsGiven space keeps config old new (record { tables = t; captures = captures })
+given_read {old = old} {mid = mid} {new = new} {t = t} {captures = captures} lasts in_range read kept h each kept_on =
+    record {
+      tables = read.ok;
+      captures = λ r. rw read.told at (h r).ok;
+      in_range = in_range;
+      each = each;
+      kept = lasts.both old mid new kept kept_on;
+      closed = (h from_front).closed;
+      told = (h from_front).told ∙ read.told;
+      uncounted = (h from_front).uncounted ∙ read.uncounted;
     }
 
-    pub settled : {p : Pace} (result : Result Plan Halt) → Settles v result →
-        IfOk result (λ plan. AllByRecursion (λ write. MayWrite command write.0) plan.writes) →
-        ((r : Reader) → IfOk result (λ plan. IfSome (space old).told (λ m. Emulates r command m plan))) →
-        IsJudged space may_fail keeps p command old now result
-    settled {p} (Ok plan) (aim, e, meets) names emulates = record {
-      judges = λ r. known p r now (Ok plan) (aim, meets, aims r _ aim e);
-      kept = reached.kept;
-      names = names;
-      emulates = emulates;
-      closed = reached.closed;
-      told = reached.told;
-    }
-    settled (Err (Refused refusal)) (untold, inl e) names emulates = refuses (Refused refusal) (e, untold)
-    settled (Err (Refused refusal)) (untold, inr (aim, e, denied)) names emulates = denies refusal aim untold e denied
-    settled (Err (Unread name)) h names emulates = absurd h
-    settled (Err NoMemory) h names emulates = no_memory now (λ r m. v) reached
+-- of contents that are told it is what they give
+pub read_told : {S : Type 0} {space : S → Space} {keeps : S → S → Type 0} {config : List ℕ} {old new : S}
+    {given : Given} → IsGiven space keeps config old new given → (r : Reader) →
+    IfSome (space old).told (λ m. AreRead r config m given.tables given.captures)
+read_told {space = space} {old = old} is r =
+    told_two (space old).told _ _ _ (λ m a b. record { configured = a; captured = b }) is.tables (is.captures r)

@@ -1,11 +1,8 @@
 -- What stopping a run and taking one up come to, from what is known of the schedule of the captures: the text of the
 -- state in which the run stands, what the run keeps that goes on, and why there is none.
-use Rattle.std.proofs.Common.{◌≡◌, ◌<◌, ◌≤◌, ◌^◌, ◌∙◌, ℕ, List, length, ap, subst}
-use Rattle.cq_base.specs.declared.cell.Departure.{Departure}
-use Rattle.cq_base.specs.declared.cell.Transfer.{Transfer}
+use Rattle.cq_run.proofs.Terms.{◌≡◌, ◌≤◌, ◌^◌, ℕ, List, length, Departure, Transfer, Captured, classes_of, Tables, openings_of, unpacked_run, PackedFabricRun, RunRefusal, AreGiven, IsPartHalt, IsResumeHalt, IsResumedBy, halt_for_state, halt_for_text, IsPartText, halt_of}
 use Rattle.cq_cells.specs.Scheduled.{Scheduled, schedule_of}
 use Rattle.cq_laws.specs.declared.frozen.Frozen.{Frozen}
-use Rattle.cq_pcap.specs.Captured.{Captured}
 use Rattle.cq_resume.specs.Parts.{IsParted}
 use Rattle.cq_resume.specs.Reading.{IsRead, IsRefusal, state_of}
 use Rattle.cq_resume.specs.Resumed.{IsResumed}
@@ -13,25 +10,15 @@ use Rattle.cq_resume.specs.Switch.{Switch, switch_of}
 use Rattle.cq_resume.specs.declared.refusal.StateRefusal.{StateRefusal}
 use Rattle.cq_resume.specs.declared.refusal.StateRefusal.TheVariants as of_state
 use Rattle.cq_resume.specs.declared.taken.Taken.{Taken}
-use Rattle.cq_route.specs.Tables.{classes_of}
-use Rattle.cq_route.specs.declared.tables.Tables.{Tables}
-use Rattle.cq_scfq.specs.Disciplines.{openings_of}
 use Rattle.cq_simulate.proofs.ResumedCounts.{resumed_counts}
 use Rattle.cq_simulate.proofs.ResumedWhole.{resumed_whole}
 use Rattle.cq_simulate.specs.PartedRuns.{CanBeTakenUp, IsPartFault, IsResumeFault, kept_of}
-use Rattle.cq_simulate.specs.FabricRuns.{unpacked_run}
-use Rattle.cq_simulate.specs.declared.fabric_run.PackedFabricRun.{PackedFabricRun}
-use Rattle.cq_simulate.specs.declared.refusal.RunRefusal.{RunRefusal}
 use Rattle.cq_simulate.specs.declared.refusal.RunRefusal.TheVariants as of_run
 use Rattle.cq_state.specs.Refusals.{IsTooLong}
 use Rattle.cq_state.specs.State.{state_text}
 use Rattle.cq_state.specs.declared.state.State.{State}
 use Rattle.cq_state.specs.declared.write.StateLong.{StateLong}
 use Rattle.cq_state.specs.declared.write.StateLong.TheVariants as of_text
-use Rattle.cq_run.specs.Headline.{AreGiven}
-use Rattle.cq_run.specs.PartEnds.{IsPartHalt, IsResumeHalt, IsResumedBy, halt_for_state, halt_for_text}
-use Rattle.cq_run.specs.Parting.{IsPartText, text_at}
-use Rattle.cq_run.specs.Switching.{halt_of}
 
 -- ## The state that is written
 
@@ -62,19 +49,14 @@ module _ (t : Tables) (captures : List (List Captured)) where
     module _ (at : Taken) (parted : IsParted (switch_of t schedule) (openings_of t.setup) slots at) (told : State)
         (tells : told ≡ state_of at.frozen at.sent at.note schedule.first_stamp (classes_of t.setup)
         (length schedule.came)) where
-      told_at : state_text told ≡ text_at t captures at
-      told_at = ap (λ (x : State). state_text x) tells
-
       -- the text of its state
       pub part_text : (text : List ℕ) → text ≡ state_text told → length text ≤ 2 ^ 28 → IsPartText t captures slots text
-      part_text text e short = record { at = at; parted = parted; told = e ∙ told_at; short = short }
+      part_text text e short = record { at = at; parted = parted; told = rw tells at e; short = short }
 
       -- which is too long, or memory ran out
       pub part_long : (refusal : StateLong) → IsTooLong (state_text told) refusal →
           IsPartHalt t captures slots (halt_for_text refusal)
-      part_long of_text.Long h =
-          let P : List ℕ → Type 0 = λ text. 2 ^ 28 < length text in
-          record { at = at; parted = parted; long = subst P told_at h }
+      part_long of_text.Long h = record { at = at; parted = parted; long = rw tells at h }
       part_long of_text.NoMemory h = tt
 
   -- ## Going on
@@ -83,10 +65,8 @@ module _ (t : Tables) (captures : List (List Captured)) where
     -- the text is none of a sound state, or memory ran out
     pub resume_refused : (refusal : StateRefusal) → IsRefusal (switch_of t schedule) text refusal →
         IsResumeHalt t captures text (halt_for_state refusal)
-    resume_refused (of_state.Text line) h = h
-    resume_refused of_state.Shape h = h
-    resume_refused (of_state.Unsound clause) h = h
     resume_refused of_state.NoMemory h = tt
+    resume_refused refusal h = h
 
     module _ (from : Taken) (read : IsRead (switch_of t schedule) text from) where
       -- a slot from there on meets a tag fault, or memory ran out

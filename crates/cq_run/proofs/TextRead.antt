@@ -1,21 +1,15 @@
 -- What is told of a text, as the trace or the log of an audit or the state of a stopped run, from what was read under
 -- its name: its bytes, where they are not too many. The name that was asked for is the one that is to be read, or a
 -- copy of it.
-use Rattle.std.proofs.Common.{rules, ◌≡◌, ◌<◌, ◌≤◌, ◌⊎◌, ℕ, IsTrue, List, length, subst, inl, inr, arith}
-use Rattle.std.specs.Prelude.{Option, None, Some, IfSome, Result, Ok, Err, IsErrOf, Vec}
-use Rattle.std.specs.FinMap.{get, remove}
-use Rattle.std.specs.declared.alloc.Global.{Global}
-use Rattle.std.proofs.lemmas.Bool.{le-ltb, lt-ltb}
-use Rattle.cq_space.specs.Space.{Contents, bytes_of}
+use Rattle.cq_run.proofs.Terms.{rules, ◌≡◌, ◌<◌, ◌≤◌, ◌⊎◌, ℕ, IsTrue, List, length, inl, inr, arith, codes, refl, false, Option, None, Some, IfSome, Result, Ok, Err, IsErrOf, Vec, nat_le, le-ltb, lt-ltb, get, Global, Contents, bytes_of, Refusal, Missing, Configuration, IsRefused, IsToRead, meaning_of, short_in, tables_in, first, read_or_refused, common_steps, ◌∙◌, ap, sym, slice_index, option_map, Captured, Fault, IsFaulty, Spells, Space, Halts, AnyName, Pace, Uncounted, Reader, capture_fault, halt_for, capture_in, read_or_faulty}
+use Rattle.std.specs.FinMap.{remove}
 use Rattle.cq_space.specs.Whole.{Lacks}
 use Rattle.cq_space.specs.declared.whole.ReadRefusal.{ReadRefusal}
 use Rattle.cq_space.specs.declared.whole.ReadRefusal.TheVariants as whole
-use Rattle.cq_run.specs.declared.refusal.Refusal.{Refusal}
-use Rattle.cq_run.specs.declared.refusal.Refusal.TheVariants.{Missing}
-use Rattle.cq_run.specs.Judging.{IsRefused, IsToRead}
-use Rattle.cq_run.specs.Refusals.{meaning_of}
-use Rattle.cq_run.specs.Verdict.{short_in}
-use Rattle.cq_run.proofs.Removed.{get-remove_same}
+use Rattle.cq_run.proofs.Stays.{get-remove_same}
+use Rattle.cq_pcap.proofs.ReadIsSpelt.{spelt_or_faulty}
+use Rattle.cq_pcap.proofs.SpeltIsRead.{fault_is_read, spelt_is_read}
+use Rattle.cq_pcap.specs.Reading.{packets_of}
 
 module _ (long : Refusal) (name : List ℕ) where
   pub text_is : (told : Option Contents) (bytes : List ℕ) → length bytes ≤ 268435456 →
@@ -38,7 +32,7 @@ module _ (long : Refusal) (name : List ℕ) where
   pub text_missed : (told : Option Contents) (asked : List ℕ) → asked ≡ name → Lacks told asked →
       IsRefused (short_in long name) told (Missing asked)
   text_missed None asked a h = absurd h
-  text_missed (Some m) asked a h = let P : List ℕ → Type 0 = λ n. get m n ≡ None in missing_as m asked a (subst P a h)
+  text_missed (Some m) asked a h = missing_as m asked a (rw a at h)
 
   pub text_is_to_read : (told : Option Contents) (asked : List ℕ) → asked ≡ name →
       IsToRead (short_in long name) told asked
@@ -57,5 +51,62 @@ text_stands long name m bytes h = search (arith, rules, same_text)
 -- a name that is missing was read with no fault
 pub missing_is_no_fault : (r : ReadRefusal) (P : Type 0) → r ≡ whole.Missing →
     IsErrOf {T = Vec ℕ Global} (Err r) whole.Fault ⊎ P → P
-missing_is_no_fault r P e (inl f) = absurd (let i : r ≡ whole.Fault = cc f in let no : ⊥ = cc (e, i) in no)
-missing_is_no_fault r P e (inr p) = p
+missing_is_no_fault r P e h = grind (arith, common_steps)
+
+pub too_long : (text : List ℕ) → nat_le (length text) 1048576 ≡ false →
+    read_or_refused text ≡ Err (record { code = 10; path = codes "-" })
+unfolding read_or_refused first
+too_long text e = rw e cc
+
+pub configuration_long : (told : Option Contents) (name asked path : List ℕ) → asked ≡ name → path ≡ codes "-" →
+    IfSome told (λ m. 1048576 < length (bytes_of m asked)) → IsRefused (tables_in name) told (Configuration 10 path)
+configuration_long None name asked path a e h = refl
+configuration_long (Some m) name asked path a e h = search (arith, rules, too_long)
+
+-- a file that is too long was read with no fault
+pub long_is_no_fault : (r : ReadRefusal) (n : ℕ) (P : Type 0) → r ≡ whole.Long n →
+    IsErrOf {T = Vec ℕ Global} (Err r) whole.Fault ⊎ P → P
+long_is_no_fault r n P e h = grind (arith, common_steps)
+
+pub configuration_is_to_read : (told : Option Contents) (name : List ℕ) → IsToRead (tables_in name) told name
+configuration_is_to_read None name = tt
+configuration_is_to_read (Some m) name = cc (get-remove_same m name)
+
+-- ## Captures are read in one way
+
+-- the reader that begins at the front of a file
+pub from_front : Reader
+from_front = record { read = packets_of; spelt = spelt_is_read; faulty = fault_is_read }
+
+pub one_answer : (r s : Reader) (bytes : List ℕ) → ((i : ℕ) → slice_index bytes i < 256) → r.read bytes ≡ s.read bytes
+one_answer r s bytes are = go (spelt_or_faulty bytes are)
+  where
+    go : ((packets : List Captured) × Spells bytes packets) ⊎ ((fault : Fault) × IsFaulty bytes fault) →
+        r.read bytes ≡ s.read bytes
+    go (inl (packets, h)) = r.spelt bytes packets h ∙ sym (s.spelt bytes packets h)
+    go (inr (fault, h)) = r.faulty bytes fault h ∙ sym (s.faulty bytes fault h)
+
+module _ (r : Reader) (name : List ℕ) (input limit : ℕ) (bytes : List ℕ) (short : length bytes ≤ limit) where
+  -- a file of at most this length is looked at
+  read_at : (m : Contents) → get m name ≡ Some bytes →
+      capture_in r name input limit m ≡ read_or_faulty input (r.read bytes)
+  read_at m at = cc (le-ltb limit (length bytes) short)
+
+  pub capture_is : (told : Option Contents) (packets : List Captured) → IfSome told (λ m. get m name ≡ Some bytes) →
+      Spells bytes packets
+      → IfSome told (λ m. capture_in r name input limit m ≡ Ok packets)
+  capture_is None packets at spelt = tt
+  capture_is (Some m) packets at spelt = read_at m at ∙ ap (read_or_faulty input) (r.spelt bytes packets spelt)
+
+  -- a refusal of the reading stops it for its fault, or for want of memory
+  pub capture_halts : (p : Pace) (R : List ℕ → Type 0) (old new : Space) (found : Option Fault) →
+      IfSome old.told (λ m. get m name ≡ Some bytes) → IfSome found (IsFaulty bytes)
+      → Uncounted p (AnyName R) old.faults new.faults →
+      Halts p (capture_in r name input limit) R old new (halt_for input (option_map capture_fault found))
+  capture_halts p R old new None at faulty kept = kept
+  capture_halts p R old new (Some fault) at faulty kept = grind (arith, common_steps)
+
+-- a file that was read was read with no fault
+pub read_is_no_fault : (v : Vec ℕ Global) (P : Type 0) → IsErrOf {T = Vec ℕ Global} (Ok v) whole.Fault ⊎ P → P
+read_is_no_fault v P (inl f) = absurd (let no : ⊥ = cc f in no)
+read_is_no_fault v P (inr p) = p

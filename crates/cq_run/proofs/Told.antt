@@ -1,8 +1,5 @@
 -- What holds of told contents, and of what a sink tells.
-use Rattle.std.proofs.Common.{ℕ, List, inl, inr}
-use Rattle.std.specs.Prelude.{Option, None, Some, IfSome, Result, Ok, Err}
-use Rattle.cq_run.specs.Line.{Puts, TakesText}
-use Rattle.cq_run.specs.World.{Taken}
+use Rattle.cq_run.proofs.Terms.{ℕ, List, inl, inr, ◌≡◌, ap, Option, None, Some, IfSome, Result, Ok, Err, IsErrAnd, Puts, TakesText, Taken}
 
 -- a fact that follows from another
 pub told_map : {A : Type 0} (told : Option A) (P Q : A → Type 0) → ((m : A) → P m → Q m) → IfSome told P → IfSome told Q
@@ -25,3 +22,8 @@ pub took : {E : Type 0} (text : List ℕ) (old new : Taken) (result : Result (Un
     TakesText text old new
 took text old new (Ok x) h = inl h.bytes
 took text old new (Err e) h = inr (h.cause.failed, h.bytes)
+
+-- what the exit of a `?` returns, where the conversion of the error is told by an equation
+pub exit_is : {T E : Type 0} {e : E} (r : Result T E) → IsErrAnd r (λ y. y ≡ e) → r ≡ Err e
+exit_is (Ok x) h = absurd h
+exit_is (Err y) h = ap Err h

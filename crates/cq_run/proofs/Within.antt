@@ -1,73 +1,62 @@
 -- The numbers of a command that words are are in their ranges.
-use Rattle.std.proofs.Common.{rules, ◌≡◌, ◌<◌, ◌≤◌, ◌^◌, ℕ, Bool, true, false, cond, List, [], ◌∷◌, refl, subst, arith}
-use Rattle.std.specs.Prelude.{◌&&◌, nat_le, Option, None, Some, codes, option_map}
+use Rattle.cq_run.proofs.Terms.{◌≡◌, ℕ, Bool, true, false, cond, List, [], ◌∷◌, arith, Option, None, Some, option_map, leb-true, common_steps, command_for, most_slots, with_three, with_two, Command, IsWithinRange, ◌∙◌, ap, sym, if◌then◌else◌, is_some, option_map_or, Ahead, InTurn, Pace, pace_of}
 use Rattle.std.specs.Int.{IsInRange}
-use Rattle.std.specs.Str.{bytes_eq}
-use Rattle.std.proofs.lemmas.Bool.{leb-true}
-use Rattle.cq_words.specs.Numbers.{is_numeral, number_from, value_of}
-use Rattle.cq_words.specs.Words.{command_for, most_slots, soak_of, with_three, with_two}
-use Rattle.cq_words.specs.declared.command.Command.{Command}
-use Rattle.cq_words.specs.declared.command.Command.TheVariants.{Pass, Soak, Part, Resume}
-use Rattle.cq_run.specs.Planning.{IsWithinRange}
-
--- a command that there may be
-abbrev IsWithin : Option Command → Type 0
-IsWithin o = (command : Command) → o ≡ Some command → IsWithinRange command
-
-none_within : IsWithin None
-none_within command e = absurd (let P : ⊥ = cc in P)
-
-some_within : (c : Command) → IsWithinRange c → IsWithin (Some c)
-some_within c h command e = let is : c ≡ command = cc in subst IsWithinRange is h
-
-either_within : (b : Bool) (x y : Option Command) → IsWithin x → IsWithin y → IsWithin (cond b x y)
-either_within true x y g h = g
-either_within false x y g h = h
+use Rattle.cq_words.specs.Numbers.{number_from}
+use Rattle.cq_words.specs.Words.{form_of, with_config}
+use Rattle.cq_words.specs.Streamed.{as_run, run_of, streamed}
 
 -- a number that a text writes is in its range
 in_range : (least most : ℕ) (text : List ℕ) (n : ℕ) → number_from least most text ≡ Some n → IsInRange least most n
-in_range least most text n = go (is_numeral text) (nat_le least (value_of text)) (nat_le (value_of text) most) refl refl
-  where
-    go : (a b c : Bool) → nat_le least (value_of text) ≡ b → nat_le (value_of text) most ≡ c →
-        cond (a && (b && c)) (Some (value_of text)) None ≡ Some n → IsInRange least most n
-    go true true true low high e =
-        let is : value_of text ≡ n = cc in
-        let P : ℕ → Type 0 = λ k. IsInRange least most k in
-        subst P is (leb-true least (value_of text) low, leb-true (value_of text) most high)
-    go true true false low high e = absurd (let P : ⊥ = cc in P)
-    go true false c low high e = absurd (let P : ⊥ = cc in P)
-    go false b c low high e = absurd (let P : ⊥ = cc in P)
+in_range least most text n e = grind (arith, common_steps, leb-true)
 
-soak_within : (seed ports slots : Option ℕ) → ((n : ℕ) → ports ≡ Some n → IsInRange 1 64 n) →
-    ((n : ℕ) → slots ≡ Some n → IsInRange 1 20000 n) → IsWithin (soak_of seed ports slots)
-soak_within (Some seed) (Some ports) (Some slots) g h = some_within (Soak seed ports slots) (g ports refl, h slots refl)
-soak_within (Some seed) (Some ports) None g h = none_within
-soak_within (Some seed) None slots g h = none_within
-soak_within None ports slots g h = none_within
+one_within : (word config : List ℕ) (command : Command) → with_config word config ≡ Some command →
+    IsWithinRange command
+one_within word config command e = grind (arith, common_steps)
 
-two_within : (word first second : List ℕ) → IsWithin (with_two word first second)
-two_within word first second =
-    either_within (bytes_eq word (codes "pass")) _ _ (some_within (Pass first second) tt)
-    (either_within (bytes_eq word (codes "resume")) _ _ (some_within (Resume first second) tt) none_within)
+two_within : (word first second : List ℕ) (command : Command) → with_two word first second ≡ Some command →
+    IsWithinRange command
+two_within word first second command e = grind (arith, common_steps)
 
-parted_within : (config state : List ℕ) (slots : Option ℕ) → ((n : ℕ) → slots ≡ Some n → n < 2 ^ 63)
-    → IsWithin (option_map (λ n. Part config n state) slots)
-parted_within config state None h = none_within
-parted_within config state (Some n) h = some_within (Part config n state) (h n refl)
+three_within : (word first second third : List ℕ) (command : Command) →
+    with_three word first second third ≡ Some command → IsWithinRange command
+three_within word first second third command e =
+    let slots = in_range 0 most_slots second in
+    let ports = in_range 1 64 second in
+    let long = in_range 1 20000 third in grind (arith, common_steps, slots, ports, long)
 
-slots_within : (text : List ℕ) (n : ℕ) → number_from 0 most_slots text ≡ Some n → n < 2 ^ 63
-slots_within text n e = let most : n ≤ 9223372036854775807 = (in_range 0 most_slots text n e).1 in omega arith
+form_within : (word : List ℕ) (values : List (List ℕ)) (command : Command) → form_of word values ≡ Some command →
+    IsWithinRange command
+form_within word [] command e = absurd (let P : ⊥ = cc in P)
+form_within word (a ∷ []) command e = one_within word a command e
+form_within word (a ∷ b ∷ []) command e = two_within word a b command e
+form_within word (a ∷ b ∷ c ∷ []) command e = three_within word a b c command e
+form_within word (a ∷ b ∷ c ∷ d ∷ more) command e = absurd (let P : ⊥ = cc in P)
 
-three_within : (word first second third : List ℕ) → IsWithin (with_three word first second third)
-three_within word first second third =
-    either_within (bytes_eq word (codes "soak")) _ _
-    (soak_within (number_from 0 18446744073709551615 first) (number_from 1 64 second) (number_from 1 20000 third)
-    (in_range 1 64 second) (in_range 1 20000 third))
-    (either_within (bytes_eq word (codes "part")) _ _
-    (parted_within first third (number_from 0 most_slots second) (slots_within second)) none_within)
+tested : (b : Bool) (o : Option Command) (command : Command) → cond b o None ≡ Some command → o ≡ Some command
+tested true o command e = e
+tested false o command e = absurd (let P : ⊥ = cc in P)
 
 pub words_within : (words : List (List ℕ)) (command : Command) → command_for words ≡ Some command →
     IsWithinRange command
-words_within [] = none_within
-words_within (word ∷ values) =
-    search (arith, rules, either_within, none_within, two_within, three_within, some_within)
+words_within [] command e = absurd (let P : ⊥ = cc in P)
+words_within (word ∷ values) command e = form_within word values command (tested _ _ command e)
+
+-- ## The words `stream CONFIG` are judged as `run CONFIG`, ahead
+
+abbrev run_or : List (List ℕ) → Option (List ℕ) → List (List ℕ)
+run_or words config = option_map_or run_of config words
+
+abbrev pace_with : Option (List ℕ) → Pace
+pace_with config = if is_some config then Ahead else InTurn
+
+-- what was found in the words, told of what it points to
+module _ {A : Type 0} (found : Option A) (now : A → List ℕ) (words : List (List ℕ))
+    (is : option_map now found ≡ streamed words) where
+  pub others : found ≡ None → (as_run words ≡ words) × (pace_of words ≡ InTurn)
+  others e =
+      let none : streamed words ≡ None = sym is ∙ ap (option_map now) e in (ap (run_or words) none, ap pace_with none)
+
+  pub streams : (config : A) → found ≡ Some config → (as_run words ≡ run_of (now config)) × (pace_of words ≡ Ahead)
+  streams config e =
+      let some : streamed words ≡ Some (now config) = sym is ∙ ap (option_map now) e in
+      (ap (run_or words) some, ap pace_with some)

@@ -2,35 +2,180 @@
 -- are the others, and each output stands where a walk over its own departures would stand (`SoFar`), with the packets
 -- of that walk in its bytes (`Walked`). One departure more goes on with the walk at its output, and passes by those
 -- at all others.
-use Rattle.std.proofs.Common.{rules, ◌≡◌, ◌≢◌, ℕ, ◌+◌, ◌<◌, ◌≤◌, All, List, [], ◌∷◌, ◌++◌, length, map, drop, get_or, set, Option, Some, None, refl, sym, ap, ◌∙◌, subst, arith}
-use Rattle.std.proofs.lemmas.Grind.{common_steps}
-use Rattle.std.specs.Prelude.{IfSome}
-use Rattle.std.proofs.lemmas.Bool.{cases_eq}
-use Rattle.std.proofs.lemmas.List.{append-nil, drop_more, get_or-set_other, get_or-set_same, length-drop, length-set}
-use Rattle.cq_base.specs.Packed.{unpacked}
-use Rattle.cq_base.specs.declared.cell.Departure.{Departure}
+use Rattle.cq_simulate.proofs.Terms.{rules, ◌≡◌, ◌≢◌, ℕ, ◌+◌, ◌<◌, ◌≤◌, All, List, [], ◌∷◌, ◌++◌, length, map, drop, get_or, set, Option, Some, None, refl, sym, ap, ◌∙◌, subst, arith, suc, Bool, true, false, take, zero, cond, common_steps, IfSome, ◌==◌, cases_eq, cond-true, cond-false, eq-eqb, ne_eqb, and_from, and_left, and_right, append-nil, drop_more, get_or-set_other, get_or-set_same, length-drop, length-set, map-append, take_more, take-append-drop, get_or_default, unpacked, Departure, Captured, rows_from, ports_of, Tables, ArePacked, HaveLeftOf, ends_packet_at, leaving, packets_out, CanBeJoined, IsEmptied, Took, left_with, records_of, Fits, opened, piece_at, filter, filter-append, All-push, leaves_in_flow, left_in_flow, JoinerView, IsOtherPair, open_after, open_at, packet_at, packets_of, length-rows_from}
 use Rattle.cq_base.specs.declared.packed.PackedDeparture.{PackedDeparture}
-use Rattle.cq_pcap.specs.Captured.{Captured}
+use Rattle.cq_cells.specs.Schedule.{packet_in}
 use Rattle.cq_pcap.proofs.Writing.{written_with}
-use Rattle.cq_pcap.specs.Written.{record_of, written}
+use Rattle.cq_pcap.specs.Written.{written}
 use Rattle.cq_pcap.specs.declared.write.OutPacket.{OutPacket}
-use Rattle.cq_route.specs.Tables.{ports_of}
-use Rattle.cq_route.specs.declared.tables.Tables.{Tables}
-use Rattle.cq_simulate.specs.Packets.{ArePacked, HaveLeftOf}
-use Rattle.cq_simulate.specs.Pieces.{CanBeJoined, IsCaptured, IsEmptied, Took, left_with, records_of}
 use Rattle.cq_simulate.specs.declared.packing.Packing.{Packing}
 use Rattle.cq_simulate.proofs.Departed.{departed_captured, departed_class, departed_output}
-use Rattle.cq_simulate.proofs.Packed.{all_pushed, none_large}
-use Rattle.cq_simulate.proofs.Taking.{SoFar, at_first, at_other, cell_fits, kept, packed}
+use Rattle.cq_simulate.proofs.Joining.{flow_fits, opened-append}
+use Rattle.cq_pcap.specs.declared.capture.PacketRow.{PacketRow}
+
+-- The walk over the departures. Of each input and class that is open which the cells taken so far leave open, and the
+-- packets made so far are those that left.
+
+-- Packets that are made one after another: the row of a packet that leaves, and the packets so far with one more.
+
+-- ## One packet
+
+original_at : (place : ℕ) (ps : List Captured) (k : ℕ) (d : PacketRow) (e : Captured) → k < length ps →
+    (get_or (rows_from place ps) k d).original ≡ (get_or ps k e).original
+original_at place [] k d e inside = absurd (omega arith)
+original_at place (p ∷ ps) zero d e inside = refl
+original_at place (p ∷ ps) (suc k) d e inside = original_at (place + 16 + length p.body) ps k d e (omega arith)
+
+module _ (captures : List (List Captured)) (input k : ℕ) (capture : List Captured)
+    (in_captures : input < length captures) (is : capture ≡ get_or captures input capture)
+    (in_packets : k < length (packets_of captures input)) where
+  capture_is : capture ≡ packets_of captures input
+  capture_is = is ∙ get_or_default captures input capture [] in_captures
+
+  in_capture : k < length capture
+  in_capture = let e = ap (λ (l : List Captured). length l) capture_is in omega arith
+
+  pub in_rows : (rows : List PacketRow) → rows ≡ rows_from 24 capture → k < length rows
+  in_rows rows e = grind (arith, common_steps, length-rows_from, in_capture)
+
+  pub original_is : (rows : List PacketRow) (d : PacketRow) → rows ≡ rows_from 24 capture →
+      (get_or rows k d).original ≡ (packet_at captures input k).original
+  original_is rows d e = rw e (original_at 24 capture k d _ in_capture
+      ∙ ap (λ (ps : List Captured). (packet_in ps k).original) capture_is)
+
+-- ## One after another
+
+-- what leaves, if anything does
+abbrev listed : Option OutPacket → List OutPacket
+listed None = []
+listed (Some p) = p ∷ []
+
+all_pushed : (packets : List OutPacket) (o : Option OutPacket) → All (λ p. length p.body ≤ 262144) packets →
+    IfSome o (λ p. length p.body ≤ 262144) → All (λ p. length p.body ≤ 262144) (packets ++ listed o)
+all_pushed packets None all small = rw (append-nil packets) all
+all_pushed packets (Some p) all small = All-push (λ (x : OutPacket). length x.body ≤ 262144) packets p all small
+
+none_large : (packets : List OutPacket) → packets ≡ [] → All (λ p. length p.body ≤ 262144) packets
+none_large packets none k d inside = grind (arith, common_steps)
+
+-- the cells of a flow among some departures and then others
+flow-append : (i c j : ℕ) (xs ys : List Departure) → left_in_flow i c j (xs ++ ys) ≡ left_in_flow i c j xs ++
+    left_in_flow i c j ys
+flow-append i c j xs ys = grind (arith, common_steps, filter-append, map-append)
+
+of_flow : (i c j : ℕ) (d : Departure) (ds : List Departure) → leaves_in_flow i c j d ≡ true →
+    left_in_flow i c j (d ∷ ds) ≡ d.queued.cell ∷ left_in_flow i c j ds
+of_flow i c j d ds e = ap (map (λ (x : Departure). x.queued.cell))
+    (cond-true (leaves_in_flow i c j d) (d ∷ filter (leaves_in_flow i c j) ds) (filter (leaves_in_flow i c j) ds) e)
+
+-- what is known when so many departures were gone through
+pub record SoFar (t : Tables) (captures : List (List Captured)) (sent : List Departure) (output k : ℕ)
+    (joiner : JoinerView) (packets : List OutPacket) : Type 0 where
+  pub inputs : joiner.inputs ≡ length captures
+  pub classes : joiner.classes ≡ length t.setup.classes
+  pub open_packets : (i c : ℕ) → c < length t.setup.classes →
+      open_at joiner i c ≡ opened captures None (left_in_flow i c output (take k sent))
+  pub made : packets ≡ packets_out t captures (take k sent) output
+  pub small : All (λ p. length p.body ≤ 262144) packets
+
+module _ (t : Tables) (captures : List (List Captured)) (sent : List Departure) (output k : ℕ) (e : Departure)
+    (inside : k < length sent) where
+  abbrev d : Departure
+  d = get_or sent k e
+
+  next_out : packets_out t captures (take (k + 1) sent) output
+      ≡ packets_out t captures (take k sent) output
+      ++ map (leaving t captures) (cond (ends_packet_at output d) (d ∷ []) [])
+  unfolding packets_out
+  next_out = grind (arith, common_steps, take_more, filter-append, map-append)
+
+  next_flow : (i c : ℕ) → left_in_flow i c output (take (k + 1) sent) ≡ left_in_flow i c output (take k sent) ++
+      left_in_flow i c output (d ∷ [])
+  next_flow i c = grind (arith, common_steps, take_more, flow-append)
+
+  -- a departure of another pair, or at another output
+  pub same_flow : (i c : ℕ) → leaves_in_flow i c output d ≡ false →
+      left_in_flow i c output (take (k + 1) sent) ≡ left_in_flow i c output (take k sent)
+  same_flow i c other = search (arith, rules, next_flow, append-nil, cond-false)
+
+  pub at_other : {joiner : JoinerView} {packets : List OutPacket} → SoFar t captures sent output k joiner packets →
+      d.output ≢ output → SoFar t captures sent output (k + 1) joiner packets
+  at_other {packets = packets} so_far ne =
+      let away : (d.output == output) ≡ false = ne_eqb d.output output ne in
+      let made : packets ≡ packets_out t captures (take (k + 1) sent) output =
+      grind (arith, common_steps, next_out, append-nil, cond-false) in
+      search (arith, rules, same_flow)
+
+  module _ (here : d.output ≡ output) where
+    own_cell : leaves_in_flow d.queued.cell.id.input d.queued.cell.class output d ≡ true
+    own_cell = grind (arith, common_steps, and_from, eq-eqb)
+
+    pub cell_fits : {joiner : JoinerView} {packets : List OutPacket} {stamp : ℕ} →
+        SoFar t captures sent output k joiner packets → HaveLeftOf t captures sent stamp →
+        d.queued.cell.class < length t.setup.classes →
+        Fits captures (open_at joiner d.queued.cell.id.input d.queued.cell.class) d.queued.cell
+    cell_fits so_far of_run few =
+        let i = d.queued.cell.id.input in
+        let c = d.queued.cell.class in
+        let parts : take k sent ++ (d ∷ drop (k + 1) sent) ≡ sent = ap (λ (l : List Departure). take k sent ++ l)
+        (sym (drop_more sent k e inside)) ∙ take-append-drop k sent in
+        let l = of_run.whole i in
+        let left = l.left c output in
+        let split = flow-append i c output (take k sent) (d ∷ drop (k + 1) sent) in
+        let first = of_flow i c output d (drop (k + 1) sent) own_cell in
+        rw (so_far.open_packets i c few) (flow_fits t captures i (omega arith)
+        (departed_captured of_run k e inside).input c output l.is_taken
+        (left_in_flow i c output (take k sent)) d.queued.cell (left_in_flow i c output (drop (k + 1) sent)) (cc))
+
+    module _ {joiner : JoinerView} (joiner_new : JoinerView) {packets : List OutPacket}
+        (so_far : SoFar t captures sent output k joiner packets) (inputs : joiner_new.inputs ≡ joiner.inputs)
+        (classes : joiner_new.classes ≡ joiner.classes) (pair : open_at joiner_new d.queued.cell.id.input
+        d.queued.cell.class ≡ open_after (open_at joiner d.queued.cell.id.input d.queued.cell.class) d.queued.cell
+        (piece_at captures d.queued.cell)) (others : (i c : ℕ) → c < joiner.classes → IsOtherPair i c d.queued.cell →
+        open_at joiner_new i c ≡ open_at joiner i c) where
+      open_next : (i c : ℕ) → c < length t.setup.classes → open_at joiner_new i c ≡ opened captures None
+          (left_in_flow i c output (take (k + 1) sent))
+      open_next i c few =
+          search (arith, rules, and_right, ne_eqb, cases_eq, and_left, opened-append, own_cell, next_flow, same_flow)
+
+      -- what leaves at this output
+      leaves : map (leaving t captures) (cond (ends_packet_at output d) (d ∷ []) []) ≡ listed (left_with t captures d)
+      leaves = grind (arith, common_steps, eq-eqb)
+
+      pub went_on : (o : Option OutPacket) {more : List OutPacket} → o ≡ left_with t captures d →
+          more ≡ packets ++ listed o → IfSome o (λ p. length p.body ≤ 262144) →
+          SoFar t captures sent output (k + 1) joiner_new more
+      went_on o is pushed small = record {
+        inputs = inputs ∙ so_far.inputs;
+        classes = classes ∙ so_far.classes;
+        open_packets = open_next;
+        made = pushed ∙ ap (λ (l : List OutPacket). l ++ listed o) so_far.made
+            ∙ ap (λ (l : List OutPacket). packets_out t captures (take k sent) output ++ l) (ap listed is ∙ sym leaves)
+            ∙ sym next_out;
+        small = rw pushed (all_pushed packets o so_far.small small);
+      }
+
+pub at_first : (t : Tables) (captures : List (List Captured)) (sent : List Departure) (output : ℕ) (joiner : JoinerView)
+    (packets : List OutPacket) → joiner.inputs ≡ length captures → joiner.classes ≡ length t.setup.classes →
+    ((i c : ℕ) → open_at joiner i c ≡ None) → packets ≡ [] → SoFar t captures sent output 0 joiner packets
+unfolding packets_out
+at_first t captures sent output joiner packets inputs classes none nothing = search (rules, none_large)
+
+none_of : (p : Departure → Bool) (xs : List Departure) → ((k : ℕ) (e : Departure) → k < length xs → p (get_or xs k e)
+    ≡ false) → filter p xs ≡ []
+none_of p [] h = refl
+none_of p (x ∷ xs) h = cond-false (p x) (x ∷ filter p xs) (filter p xs) (h 0 x (omega arith))
+    ∙ none_of p xs (λ k e l. h (suc k) e (omega arith))
+
+-- at what is no port nothing departs
+pub nowhere : {t : Tables} {captures : List (List Captured)} {sent : List Departure} {stamp : ℕ} (output : ℕ) →
+    HaveLeftOf t captures sent stamp → ports_of t.setup ≤ output → packets_out t captures sent output ≡ []
+unfolding packets_out
+nowhere {t} {captures} {sent} output of_run none = search (rules, none_of, departed_output, and_left, ne_eqb)
 
 -- with a cell that is not the last nothing leaves
 pub none_left : (bytes : List ℕ) (left is : Option OutPacket) → left ≡ is → left ≡ None → bytes ≡ bytes ++ records_of is
 none_left bytes left is same none = grind (arith, common_steps, append-nil)
-
--- the first one that is left, as it is
-pub first_unpacked : (left rest : List PackedDeparture) (p : PackedDeparture) (d : Departure) → left ≡ p ∷ rest →
-    d ≡ unpacked p → map unpacked left ≡ d ∷ map unpacked rest
-first_unpacked left rest p d first is = grind (arith, common_steps)
 
 -- ## All outputs
 
@@ -57,24 +202,24 @@ none_yet t captures sent left places all outputs emptied = record {
   others = all;
   outputs = outputs;
   each = λ j p inside.
-      let here : Packing = get_or places j p in
-      let e : IsEmptied (length captures) (length t.setup.classes) here = emptied j p inside in
+      let e = emptied j p inside in
       record {
         packets = [];
-        so_far = at_first t captures sent j here.joiner [] e.lines e.kinds e.nothing refl (none_large [] refl);
+        so_far = at_first t captures sent j _ [] e.lines e.kinds e.nothing refl;
         bytes = e.bytes;
       };
 }
 
-module _ {t : Tables} {captures : List (List Captured)} {sent left rest : List Departure} {places : List Packing}
-    {d : Departure} (so_far : AllSoFar t captures sent left places) (first : left ≡ d ∷ rest) where
-  is_first : drop so_far.done sent ≡ d ∷ rest
-  is_first = sym so_far.others ∙ first
+module _ {t : Tables} {captures : List (List Captured)} {sent : List Departure} {left rest : List PackedDeparture}
+    {p : PackedDeparture} {places : List Packing} {d : Departure} (so_far : AllSoFar t captures sent (map unpacked left)
+    places) (first : left ≡ p ∷ rest) (opens : d ≡ unpacked p) where
+  is_first : drop so_far.done sent ≡ d ∷ map unpacked rest
+  is_first = grind (arith, common_steps)
 
   inside : so_far.done < length sent
   inside = grind (arith, common_steps, is_first, length-drop)
 
-  parts : get_or sent so_far.done d ∷ drop (so_far.done + 1) sent ≡ d ∷ rest
+  parts : get_or sent so_far.done d ∷ drop (so_far.done + 1) sent ≡ d ∷ map unpacked rest
   parts = sym (drop_more sent so_far.done d inside) ∙ is_first
 
   here : get_or sent so_far.done d ≡ d
@@ -82,9 +227,6 @@ module _ {t : Tables} {captures : List (List Captured)} {sent left rest : List D
 
   its_output : (get_or sent so_far.done d).output ≡ d.output
   its_output = ap (λ (x : Departure). x.output) here
-
-  others_left : rest ≡ drop (so_far.done + 1) sent
-  others_left = sym (ap (λ (ds : List Departure). drop 1 ds) parts)
 
   module _ {stamp : ℕ} (of_run : HaveLeftOf t captures sent stamp) where
     pub at_port : d.output < length places
@@ -97,14 +239,11 @@ module _ {t : Tables} {captures : List (List Captured)} {sent left rest : List D
       -- its cell is the next
       pub can_take : CanBeJoined captures place.joiner d
       can_take =
-          let x : Departure = get_or sent so_far.done d in
-          let came : IsCaptured captures x.queued.cell = departed_captured of_run so_far.done d inside in
-          let class : x.queued.cell.class < length t.setup.classes = departed_class of_run so_far.done d inside in
-          let below : ℕ → Type 0 = λ n. x.queued.cell.id.input < n in
-          let below_classes : ℕ → Type 0 = λ n. x.queued.cell.class < n in
+          let came = departed_captured of_run so_far.done d inside in
+          let class = departed_class of_run so_far.done d inside in
           subst (λ (y : Departure). CanBeJoined captures place.joiner y) here (record {
-            input = subst below (sym own.so_far.inputs) came.input;
-            class = subst below_classes (sym own.so_far.classes) class;
+            input = rw own.so_far.inputs came.input;
+            class = rw own.so_far.classes class;
             captured = came;
             fits = cell_fits t captures sent d.output so_far.done d inside its_output own.so_far of_run class;
           })
@@ -113,56 +252,34 @@ module _ {t : Tables} {captures : List (List Captured)} {sent left rest : List D
         took_here : Took t captures (get_or sent so_far.done d) place new
         took_here = subst (λ (y : Departure). Took t captures y place new) (sym here) took
 
-        gone_on_with : (o : Option OutPacket) → o ≡ left_with t captures (get_or sent so_far.done d) →
-            new.bytes.items ≡ place.bytes.items ++ records_of o → IfSome o (λ p. length p.body ≤ 262144) →
-            Walked t captures sent d.output (so_far.done + 1) new
-        gone_on_with None is_none put small = record {
-          packets = own.packets;
-          so_far =
-              kept t captures sent d.output so_far.done d inside its_output new.joiner own.so_far took_here.inputs
-              took_here.classes took_here.pair took_here.others (sym is_none);
-          bytes = put ∙ append-nil place.bytes.items ∙ own.bytes;
-        }
-        gone_on_with (Some p) is_one put small = record {
-          packets = own.packets ++ p ∷ [];
-          so_far =
-              packed t captures sent d.output so_far.done d inside its_output new.joiner own.so_far took_here.inputs
-              took_here.classes took_here.pair took_here.others p (own.packets ++ p ∷ []) is_one refl
-              (all_pushed own.packets (own.packets ++ p ∷ []) p refl own.so_far.small small);
-          bytes = put ∙ ap (λ (bs : List ℕ). bs ++ record_of p) own.bytes ∙ written_with own.packets p;
-        }
+        written_on : (o : Option OutPacket) → written own.packets ++ records_of o ≡ written (own.packets ++ listed o)
+        written_on None = rw (append-nil own.packets, append-nil (written own.packets))
+        written_on (Some p) = written_with own.packets p
 
         gone_on : Walked t captures sent d.output (so_far.done + 1) new
-        gone_on = gone_on_with (left_with t captures (get_or sent so_far.done d)) refl took_here.bytes took_here.small
-
-        at_its_output : (j : ℕ) (p : Packing) → j ≡ d.output →
-            Walked t captures sent j (so_far.done + 1) (get_or (set places d.output new) j p)
-        at_its_output j p same = grind (arith, common_steps, get_or-set_same, at_port, gone_on)
+        gone_on =
+            let o = left_with t captures (get_or sent so_far.done d) in
+            record {
+              packets = own.packets ++ listed o;
+              so_far =
+                  went_on t captures sent d.output so_far.done d inside its_output new.joiner own.so_far
+                  took_here.inputs
+                  took_here.classes took_here.pair took_here.others o refl refl took_here.small;
+              bytes = took_here.bytes ∙ ap (λ (bs : List ℕ). bs ++ records_of o) own.bytes ∙ written_on o;
+            }
 
         at_another : (j : ℕ) (p : Packing) → j < length places → j ≢ d.output →
             Walked t captures sent j (so_far.done + 1) (get_or (set places d.output new) j p)
         at_another j p in_places ne =
-            let q : Packing = get_or places j p in
-            let was : Walked t captures sent j so_far.done q = so_far.each j p in_places in
-            subst (λ (r : Packing). Walked t captures sent j (so_far.done + 1) r)
-            (sym (get_or-set_other places d.output j new p ne))
-            (record {
+            let was : Walked t captures sent j so_far.done (get_or places j p) = so_far.each j p in_places in
+            rw (get_or-set_other places d.output j new p ne) (record {
               packets = was.packets;
-              so_far =
-                  at_other t captures sent j so_far.done d inside was.so_far
-                  (λ (e : (get_or sent so_far.done d).output ≡ j). ne (sym e ∙ its_output));
+              so_far = at_other t captures sent j so_far.done d inside was.so_far (λ e. ne (sym e ∙ its_output));
               bytes = was.bytes;
             })
 
-        pub one_more : AllSoFar t captures sent rest (set places d.output new)
-        one_more = record {
-          done = so_far.done + 1;
-          others = others_left;
-          outputs = length-set places d.output new ∙ so_far.outputs;
-          each = λ j p in_set.
-              let same_length : length (set places d.output new) ≡ length places = length-set places d.output new in
-              search (arith, rules, at_its_output j p, at_another j p, cases_eq j d.output);
-        }
+        pub one_more : AllSoFar t captures sent (map unpacked rest) (set places d.output new)
+        one_more = search (arith, rules, length-set, at_another, cases_eq, get_or-set_same, at_port, gone_on, parts)
 
 -- where no departure is left all packets are put together
 pub all_packed : (t : Tables) (captures : List (List Captured)) (sent left : List Departure) (places : List Packing) →

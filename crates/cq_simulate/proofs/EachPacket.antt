@@ -1,37 +1,256 @@
 -- Every packet leaves its output whole or is counted as refused there, once. The fabric sends and refuses what the
 -- ideal switch does, and there each packet of an input leaves or is refused: what comes are whole packets, and the
 -- cells of one are for one output.
-use Rattle.std.proofs.lemmas.Grind.{common_steps}
-use Rattle.std.proofs.Common.{rules, ◌≡◌, ℕ, ◌<◌, List, length, Ok, ap, arith}
-use Rattle.std.specs.List.{AllByRecursion}
-use Rattle.std.proofs.lemmas.List.Elements.{All-from_recursion, recursion_from_All}
-use Rattle.cq_base.specs.Arriving.{Arrival}
-use Rattle.cq_base.specs.declared.cell.Departure.{Departure}
-use Rattle.cq_cells.proofs.Rising.{traffic_is}
-use Rattle.cq_cells.specs.Schedule.{arrivals}
-use Rattle.cq_ideal.proofs.AtInput.{come_in_order}
+use Rattle.cq_simulate.proofs.Terms.{common_steps, rules, append-nil, flat_map, ◌≡◌, ℕ, ◌<◌, List, length, Ok, ap, arith, zero, suc, ◌+◌, Bool, [], ◌∷◌, map, Option, cond, not, filter, refl, sym, ◌∙◌, ◌-◌, AllByRecursion, range_with_len, All-from_recursion, subst, all_from_has, all_of_has, Arrival, arriving, Departure, traffic_is, at_input, arrivals, packets_of, arrivals_at, arrivals_of, cell_of, cells, packet_at, come_in_order, departures_of, departures_limited, whole_limited_run, slots_of_limited_run, LimitedRan, refused_in, packets_refused, AreOfPackets, came_at, AreJudged, LimitedRecord, Captured, AreTables, ports_of, Tables, machines_of, openings_of, IsFabricRun, departures_in_run, refused_in_run, ideal_departures, ran_ideal, Cell, all_found, all_present, all_weaker, present, judged, Admission, Marked, admission, refused, is_first, arriving_from, IdealState, Machine, ◌&&◌, ◌==◌, sum_by, length-map, length-filter, sum-map, is_from, came_in_flow, comes_in_flow, leaves_in_flow, ends_packet_at, leaving, packets_out, eq-eqb, eqb-true, cells_above, route}
 use Rattle.cq_ideal.proofs.EachLeaves.{each_leaves_or_is_refused, refuses_none_elsewhere}
-use Rattle.cq_ideal.specs.EachOnce.{KeepTheirOutput}
-use Rattle.cq_ideal.specs.IdealRun.{departures_of}
-use Rattle.cq_ideal.specs.LimitedEnding.{departures_limited}
-use Rattle.cq_ideal.specs.LimitedIdeal.{LimitedRan}
-use Rattle.cq_ideal.specs.Refused.{refused_in}
-use Rattle.cq_ideal.specs.WholePackets.{AreOfPackets, came_at}
-use Rattle.cq_laws.specs.LimitedFabric.{LimitedRecord}
-use Rattle.cq_pcap.specs.Captured.{Captured}
-use Rattle.cq_route.specs.Tables.{AreTables, ports_of}
-use Rattle.cq_route.specs.declared.tables.Tables.{Tables}
-use Rattle.cq_scfq.specs.Disciplines.{machines_of, openings_of}
-use Rattle.cq_simulate.proofs.Departed.{departed, left_in_packets}
+use Rattle.cq_ideal.specs.EachOnce.{KeepTheirOutput, LeaveOrAreRefused}
+use Rattle.cq_simulate.proofs.Departed.{all_cells, came_as, left_in_packets}
 use Rattle.cq_simulate.proofs.FabricLaws.{slot_by_slot}
-use Rattle.cq_simulate.proofs.LeftOrRefused.{all_once, each_once}
-use Rattle.cq_simulate.proofs.OfPackets.{packets_come}
-use Rattle.cq_simulate.proofs.OnePacket.{IsOfPacket, all_of_packets}
-use Rattle.cq_simulate.proofs.RefusedCame.{refused_came}
+use Rattle.cq_simulate.proofs.OfPackets.{by_packet, line_cells, packet_cells, packets_come}
 use Rattle.cq_simulate.proofs.Runnable.{runnable}
-use Rattle.cq_simulate.specs.EachPacket.{EachPacketOnce}
-use Rattle.cq_simulate.specs.FabricRuns.{IsFabricRun, departures_in_run, refused_in_run}
-use Rattle.cq_simulate.specs.IdealRuns.{ideal_departures, ran_ideal}
+use Rattle.cq_simulate.specs.EachPacket.{EachPacketOnce, number_for, number_from, output_of, times_left, times_refused}
+use Rattle.cq_simulate.proofs.Tallies.{all_in_row, bit, sum_by_both, sum_by_same, tally, tally-map, tally_both, tally_by_parts, tally_of_kind, tally_same, tally_turned, one_is, one_where}
+
+-- Each packet leaves its output or is refused there, once, and so are all of them together. Where a packet is one of
+-- those that are taken in at its input its last cell leaves in its flow, and where it is not its first cell is one of
+-- those that were refused. And each cell that left or was refused is of a packet that came.
+
+-- What comes of one packet. Its cells are on its route, so all of them are for one output and of one class; they come
+-- at its input, and one of them is its first and one its last. So of what comes for the output to which it goes one
+-- cell begins the packet and one ends it, and none does for another.
+
+-- the class of packet k of an input
+abbrev pub class_of : Tables → List (List Captured) → ℕ → ℕ → ℕ
+class_of t captures input k = (route t input (packet_at captures input k).body).1
+
+-- the cell is of a packet of its input's capture, and on that packet's route
+pub record IsOfPacket (t : Tables) (captures : List (List Captured)) (cell : Cell) : Type 0 where
+  pub input : cell.id.input < length captures
+  pub packet : cell.id.packet < length (packets_of captures cell.id.input)
+  pub output : cell.output ≡ output_of t captures cell.id.input cell.id.packet
+  pub class : cell.class ≡ class_of t captures cell.id.input cell.id.packet
+
+module _ (t : Tables) (captures : List (List Captured)) where
+  -- ## All cells that come
+
+  pub all_of_packets : AllByRecursion (λ a. IsOfPacket t captures a.cell) (arrivals t captures)
+  unfolding cell_of
+  all_of_packets = all_cells t captures (λ a. IsOfPacket t captures a.cell) (λ input k n in_captures in_packets _.
+      record { input = in_captures; packet = in_packets; output = refl; class = refl })
+
+  module _ (input k : ℕ) (inside : k < length (packets_of captures input)) where
+    -- ## Those of one packet
+
+    of_packet : (p : Cell → Bool) →
+        tally (λ a. p a.cell && a.cell.id.packet == k) (arrivals_at t captures input)
+        ≡ tally (λ i. p (cell_of t captures input k i)) (range_with_len 0 (cells t captures input k))
+    unfolding arrivals_at cell_of
+    of_packet p =
+        let many = length (packets_of captures input) in
+        let ks = range_with_len 0 many in
+        let line = flat_map (arrivals_of t captures input) ks in
+        let own : Cell → Bool = λ cell. cell.id.packet == k in
+        let alone =
+        by_packet t captures input own (λ n. n == k) (λ n m. refl) ks
+        ∙ ap (flat_map (packet_cells t captures input)) (one_is k 0 many (omega arith) (omega arith))
+        ∙ append-nil (packet_cells t captures input k) in
+        sym (tally-map (λ cell. p cell && own cell) (λ (a : Arrival). a.cell) line)
+        ∙ tally_turned p own (map (λ (a : Arrival). a.cell) line)
+        ∙ ap (λ (cells : List Cell). tally p (filter own cells)) (line_cells t captures input ks)
+        ∙ ap (tally p) alone
+        ∙ tally-map p (cell_of t captures input k) (range_with_len 0 (cells t captures input k))
+
+    -- ## Its last cell, and its first
+
+    pub one_last : (j : ℕ) →
+        tally (λ a. (a.cell.output == j && a.cell.last) && a.cell.id.packet == k) (arrivals_at t captures input)
+        ≡ bit (output_of t captures input k == j)
+    unfolding cell_of cells
+    one_last j =
+        let n : ℕ = cells t captures input k in
+        let some : 0 < n = cells_above (length (packet_at captures input k).body) t.cell_bytes in
+        of_packet (λ cell. cell.output == j && cell.last)
+        ∙ one_where (output_of t captures input k == j) (λ i. i + 1 == n) n (n - 1) (λ _. omega arith)
+        (eq-eqb (n - 1 + 1) n (omega arith)) (λ i e. let same = eqb-true (i + 1) n e in omega arith)
+
+    pub one_first : (j : ℕ) →
+        tally (λ a. (a.cell.output == j && is_first a.cell) && a.cell.id.packet == k) (arrivals_at t captures input)
+        ≡ bit (output_of t captures input k == j)
+    unfolding cell_of cells
+    one_first j = of_packet (λ cell. cell.output == j && is_first cell)
+        ∙ one_where (output_of t captures input k == j) (λ i. i == 0) (cells t captures input k) 0 (λ _.
+        cells_above (length (packet_at captures input k).body) t.cell_bytes)
+        (eq-eqb 0 0 refl) (λ i e. eqb-true i 0 e)
+
+-- ## Tests of a cell, in another order
+
+input_first : (here input packet : Bool) → (here && (input && packet)) ≡ (input && (here && packet))
+input_first here input packet = grind (arith, common_steps)
+
+-- ## One packet, then all
+
+module _ (t : Tables) (captures : List (List Captured)) (sent : List Departure) (refused : List Cell)
+    (parted : (input : ℕ) → input < length captures → LeaveOrAreRefused (arrivals t captures) sent refused input)
+    (left : AllByRecursion (λ d. IsOfPacket t captures d.queued.cell) sent)
+    (lost : AllByRecursion (IsOfPacket t captures) refused) where
+  module _ (input k j : ℕ) (in_captures : input < length captures)
+      (in_packets : k < length (packets_of captures input)) where
+    abbrev arrived : List Arrival
+    arrived = arrivals t captures
+
+    abbrev class : ℕ
+    class = class_of t captures input k
+
+    -- whether the packet is taken in
+    abbrev taken : Bool
+    taken = (parted input in_captures).is_taken k
+
+    -- whether it goes to this output
+    abbrev goes : Bool
+    goes = output_of t captures input k == j
+
+    abbrev ends : Cell → Bool
+    ends cell = cell.last && cell.id.packet == k
+
+    -- the test of a cell that begins it there
+    abbrev begins : Cell → Bool
+    begins cell = (cell.output == j && is_first cell) && cell.id.packet == k
+
+    -- in the flow of its class it is the only packet of its number
+    flow_test : (here : Bool) (cell : Cell) → IsOfPacket t captures cell →
+        ((here && (cell.id.input == input && cell.class == class)) && ends cell)
+        ≡ ((here && cell.last) && (cell.id.input == input && cell.id.packet == k))
+    flow_test here cell of = grind (arith, common_steps)
+
+    -- its last cell came in its flow, if it goes here
+    came_last : tally ends (came_in_flow input class j arrived) ≡ bit goes
+    came_last =
+        let in_line : Arrival → Bool = λ a. (a.cell.output == j && a.cell.last) && a.cell.id.packet == k in
+        tally-map ends (λ (a : Arrival). a.cell) (filter (comes_in_flow input class j) arrived)
+        ∙ tally_both (λ (a : Arrival). ends a.cell) (comes_in_flow input class j) arrived
+        ∙ tally_same (λ a. comes_in_flow input class j a && ends a.cell) (λ a. is_from input a && in_line a) arrived
+        (all_weaker (λ a. IsOfPacket t captures a.cell) _ (λ a of. search (arith, rules, flow_test, input_first))
+        arrived
+        (all_of_packets t captures))
+        ∙ sym (tally_both in_line (is_from input) arrived) ∙ ap (tally in_line) (at_input t captures input in_captures)
+        ∙ one_last t captures input k in_packets j
+
+    -- and so did its first
+    came_first : tally begins (came_at input arrived) ≡ bit goes
+    came_first = tally-map begins (λ (a : Arrival). a.cell) (filter (is_from input) arrived)
+        ∙ ap (tally (λ (a : Arrival). begins a.cell)) (at_input t captures input in_captures)
+        ∙ one_first t captures input k in_packets j
+
+    leaves : times_left input k j sent ≡ cond taken (bit goes) 0
+    leaves =
+        let p = parted input in_captures in
+        let of_it : Departure → Bool =
+        λ d. ends_packet_at j d && (d.queued.cell.id.input == input && d.queued.cell.id.packet == k) in
+        sym (tally-map ends (λ (d : Departure). d.queued.cell) (filter (leaves_in_flow input class j) sent)
+        ∙ tally_both (λ (d : Departure). ends d.queued.cell) (leaves_in_flow input class j) sent
+        ∙ tally_same (λ d. leaves_in_flow input class j d && ends d.queued.cell) of_it sent
+        (all_weaker (λ d. IsOfPacket t captures d.queued.cell) _ (λ d of. flow_test (d.output == j) d.queued.cell of)
+        sent
+        left)) ∙ ap (tally ends) (p.left class j)
+        ∙ tally_of_kind (λ (cell : Cell). cell.id.packet) k p.is_taken (λ cell. cell.last)
+        (came_in_flow input class j arrived) ∙ ap (λ (n : ℕ). cond taken n 0) came_last
+
+    is_refused : times_refused input k j refused ≡ cond (not taken) (bit goes) 0
+    is_refused =
+        let p = parted input in_captures in
+        let of_it : Cell → Bool =
+        λ cell. (cell.output == j && is_first cell) && (cell.id.input == input && cell.id.packet == k) in
+        tally_same of_it (λ cell. cell.id.input == input && begins cell) refused (all_weaker (IsOfPacket t captures) _
+        (λ cell _. input_first (cell.output == j && is_first cell) (cell.id.input == input) (cell.id.packet == k))
+        refused lost) ∙ sym (tally_both begins (λ cell. cell.id.input == input) refused)
+        ∙ ap (tally begins) p.others
+        ∙ tally_of_kind (λ (cell : Cell). cell.id.packet) k (λ n. not (p.is_taken n))
+        (λ cell. cell.output == j && is_first cell) (came_at input arrived)
+        ∙ ap (λ (n : ℕ). cond (not taken) n 0) came_first
+
+    pub each_once : times_left input k j sent + times_refused input k j refused ≡ bit goes
+    each_once = search (arith, rules, leaves, is_refused, bit)
+
+  module _ (j : ℕ) where
+    -- how many packets each input has
+    abbrev many : ℕ → ℕ
+    many input = length (packets_of captures input)
+
+    abbrev inputs : List ℕ
+    inputs = range_with_len 0 (length captures)
+
+    abbrev packets : ℕ → List ℕ
+    packets input = range_with_len 0 (many input)
+
+    abbrev lefts : ℕ → ℕ
+    lefts input = sum_by (λ k. times_left input k j sent) (packets input)
+
+    abbrev refusals : ℕ → ℕ
+    refusals input = sum_by (λ k. times_refused input k j refused) (packets input)
+
+    written : length (packets_out t captures sent j) ≡ sum_by lefts inputs
+    unfolding packets_out
+    written = length-map (filter (ends_packet_at j) sent) (leaving t captures)
+        ∙ tally_by_parts (ends_packet_at j) (λ d. d.queued.cell.id.input) (λ d. d.queued.cell.id.packet)
+        (length captures) many sent
+        (all_weaker (λ d. IsOfPacket t captures d.queued.cell) _ (λ d of. (of.input, of.packet)) sent left)
+
+    counted : packets_refused j refused ≡ sum_by refusals inputs
+    unfolding packets_refused
+    counted = tally_by_parts (λ cell. cell.output == j && is_first cell) (λ cell. cell.id.input)
+        (λ cell. cell.id.packet) (length captures) many refused (all_weaker (IsOfPacket t captures) _
+        (λ cell of. (of.input, of.packet)) refused lost)
+
+    from_input : (input : ℕ) → input < length captures → lefts input + refusals input ≡ number_from t captures j input
+    from_input input inside =
+        let times : ℕ → ℕ = λ k. times_left input k j sent + times_refused input k j refused in
+        let goes : ℕ → ℕ = λ k. bit (output_of t captures input k == j) in
+        sym (sum_by_both (λ k. times_left input k j sent) (λ k. times_refused input k j refused) (packets input))
+        ∙ sum_by_same times goes (packets input)
+        (all_in_row _ 0 (many input) (λ k less. each_once input k j inside (omega arith)))
+        ∙ sym (length-filter (λ k. output_of t captures input k == j) (packets input))
+
+    pub all_once : length (packets_out t captures sent j) + packets_refused j refused ≡ number_for t captures j
+    all_once = ap (λ (n : ℕ). n + packets_refused j refused) written ∙ ap (λ (n : ℕ). sum_by lefts inputs + n) counted
+        ∙ sym (sum_by_both lefts refusals inputs)
+        ∙ sum_by_same (λ input. lefts input + refusals input) (number_from t captures j) inputs
+        (all_in_row _ 0 (length captures)
+        (λ input less. from_input input (omega arith))) ∙ sym (sum-map (number_from t captures j) inputs)
+
+-- What is refused has come: slot by slot the refused cells are some of those that arrive, and these are some of the
+-- arrivals. So what holds of each cell that comes holds of each that is refused.
+
+module _ (P : Cell → Type 0) where
+  all_refused : (marks : List Bool) (cells : List (Option Cell)) → AllByRecursion P (present cells) →
+      AllByRecursion P (refused marks cells)
+  all_refused [] cells all = tt
+  all_refused (mark ∷ marks) [] all = tt
+  all_refused (mark ∷ marks) (cell ∷ cells) all = grind (arith, common_steps, all_refused marks cells)
+
+  all_judged : (limits : List (Option ℕ)) (marks : List Bool) (traffic : List (List (Option Cell)))
+      (admissions : List Admission) → AreJudged limits marks traffic admissions →
+      AllByRecursion (λ cells. AllByRecursion P (present cells)) traffic → AllByRecursion P (refused_in admissions)
+  unfolding admission
+  all_judged limits marks [] admissions judged all = grind (arith, common_steps)
+  all_judged limits marks (cells ∷ traffic) [] judged all = absurd judged
+  all_judged limits marks (cells ∷ traffic) (a ∷ admissions) judged all =
+      grind (arith, common_steps, all_refused, all_judged limits a.marks traffic admissions judged.1 all.1)
+
+  all_arriving : (came : List Arrival) (slot n : ℕ) → AllByRecursion (λ a. P a.cell) came →
+      AllByRecursion (λ cells. AllByRecursion P (present cells)) (map (arriving came) (range_with_len slot n))
+  unfolding arriving
+  all_arriving came slot zero all = tt
+  all_arriving came slot (suc n) all =
+      search (rules, all_present, all_found, all_weaker, all_arriving came (slot + 1) n all)
+
+  pub refused_came : (limits : List (Option ℕ)) (ms : List Machine) (came : List Arrival) (old : Marked IdealState)
+      (ran : LimitedRan) → whole_limited_run limits ms came old ≡ Ok ran → AllByRecursion (λ a. P a.cell) came →
+      AllByRecursion P (refused_in ran.admissions)
+  unfolding whole_limited_run arriving_from
+  refused_came limits ms came old ran is all =
+      let n = slots_of_limited_run limits ms came old in
+      all_judged limits old.marks (map (arriving came) (range_with_len 0 n)) ran.admissions
+      (judged limits ms 0 (map (arriving came) (range_with_len 0 n)) old ran is) (all_arriving came 0 n all)
 
 module _ (t : Tables) (captures : List (List Captured)) (tables : AreTables t)
     (many : length captures ≡ ports_of t.setup) where
@@ -47,14 +266,14 @@ module _ (t : Tables) (captures : List (List Captured)) (tables : AreTables t)
     abbrev sent : List Departure
     sent = departures_of 0 ran.gone
 
-    as_departed : ideal_departures t came ≡ Ok sent
-    unfolding ideal_departures
-    as_departed = ap departures_limited is
-
     left : AllByRecursion (λ d. IsOfPacket t captures d.queued.cell) sent
-    left = recursion_from_All (λ d. IsOfPacket t captures d.queued.cell) sent (λ k d inside.
-        departed t captures sent (left_in_packets t captures sent tables many as_departed) k d inside
-        (IsOfPacket t captures) (all_of_packets t captures))
+    unfolding ideal_departures
+    left =
+        let whole = left_in_packets t captures sent tables many (ap departures_limited is) in
+        all_from_has (λ (d : Departure). IsOfPacket t captures d.queued.cell) sent (λ d has.
+        let it = came_as came sent whole d has in
+        subst (IsOfPacket t captures) it.own (all_of_has (λ (a : Arrival). IsOfPacket t captures a.cell) came it.arrival
+        (all_of_packets t captures) it.has))
 
     lost : AllByRecursion (IsOfPacket t captures) (refused_in ran.admissions)
     unfolding ran_ideal
@@ -84,5 +303,4 @@ pub each_packet_once : (t : Tables) (captures : List (List Captured)) (rs : List
 each_packet_once t captures rs tables many is =
     let slot_by_slot-here = slot_by_slot t (arrivals t captures) rs in
     let traffic_is-here = traffic_is t captures tables many in
-    let packets_of_ran-here = packets_of_ran t captures tables many in
-    grind (arith, common_steps)
+    let packets_of_ran-here = packets_of_ran t captures tables many in grind (arith, common_steps)

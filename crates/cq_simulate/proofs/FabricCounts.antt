@@ -1,50 +1,19 @@
 -- One slot of the fabric by its numbers. The cells that wait at the inputs grow by those that arrive and fall by one
 -- for each transfer. A phase has no more proposals than the number of ports squared, and none where no cell waits at
 -- an input.
-use Rattle.std.proofs.lemmas.Grind.{common_steps}
-use Rattle.std.proofs.Common.{rules, ◌≡◌, ℕ, zero, suc, ◌+◌, ◌*◌, ◌≤◌, Bool, true, false, cond, List, [], ◌∷◌, length, length-append, Option, Some, None, refl, ap, ◌∙◌, subst, arith, mul-le-mul}
-use Rattle.std.specs.Prelude.{sum}
-use Rattle.std.specs.List.{range_with_len, filter_map, cons_option}
-use Rattle.std.specs.Option.{option_map}
-use Rattle.std.proofs.lemmas.Bool.{cond_both, eqb-true}
-use Rattle.std.proofs.lemmas.List.{length-map, nil_from_length}
-use Rattle.std.proofs.lemmas.List.Edits.{length-insert}
-use Rattle.std.proofs.lemmas.List.FromFn.{length-map-range_with_len, get_or-map-range_with_len}
-use Rattle.std.proofs.lemmas.List.Sums.{sum_by-le}
-use Rattle.cq_base.specs.Arrivals.{arrival_at}
-use Rattle.cq_base.specs.Cells.{is_for}
-use Rattle.cq_base.specs.declared.cell.Cell.{Cell}
-use Rattle.cq_base.specs.declared.cell.Queued.{Queued}
-use Rattle.cq_base.specs.declared.cell.Transfer.{Transfer}
-use Rattle.cq_ideal.proofs.FlowRank.{present}
-use Rattle.cq_ideal.specs.Ranking.{AreForPorts}
-use Rattle.cq_ideal.specs.IdealSlot.{IdealState}
+use Rattle.cq_simulate.proofs.Terms.{common_steps, rules, ◌≡◌, ℕ, zero, suc, ◌+◌, ◌*◌, ◌≤◌, List, [], ◌∷◌, length, length-append, Option, Some, None, refl, ap, ◌∙◌, subst, arith, mul-le-mul, sum, range_with_len, filter_map, cons_option, cond_both, eqb-true, length-map, nil_from_length, length-insert, length-map-range_with_len, get_or-map-range_with_len, sum_by-le, arrival_at, is_for, Cell, Queued, Transfer, present, outputs_at, arrived, Fabric, IsFabric, input, SlotRecord, FabricSlot, proposals_in, transfers_in, list_of, orders_of, output_order, Partners, partner_of, spent, proposals, IsMatching, IsInputBest, Machine, one_if, total, total_none}
 use Rattle.cq_laws.proofs.Came.{came_from}
-use Rattle.cq_laws.proofs.InputBest.{stable_slot}
 use Rattle.cq_laws.proofs.Members.{among_at, first_at}
-use Rattle.cq_laws.proofs.OneRun.{outputs_at}
-use Rattle.cq_laws.proofs.OneSlot.{arrived, after_sent}
-use Rattle.cq_laws.proofs.Sound.{Sound}
-use Rattle.cq_laws.specs.Agreement.{Agrees}
-use Rattle.cq_laws.specs.Fabric.{Fabric, IsFabric, input}
-use Rattle.cq_laws.specs.FabricSlot.{SlotRecord, FabricSlot}
-use Rattle.cq_laws.specs.Measures.{proposals_in}
 use Rattle.cq_laws.specs.Phases.{Transfers, came_to, list_arrived}
-use Rattle.cq_laws.specs.Records.{transfers_in}
 use Rattle.cq_prefs.proofs.InputOrder.{OutputsInRange, are_offers}
 use Rattle.cq_prefs.proofs.Places.{outputs_at_most}
-use Rattle.cq_prefs.specs.FirstCells.{list_of, orders_of, output_order}
 use Rattle.cq_prefs.specs.Moves.{list_taken, noted, transfers_of}
 use Rattle.cq_prefs.specs.Orders.{Orders, ports, outputs_of}
-use Rattle.cq_prefs.specs.Pairing.{Partners, partner_of, spent, proposals, IsMatching, IsInputBest}
-use Rattle.cq_rank.specs.Machine.{Machine}
-use Rattle.cq_traffic.proofs.FromInputs.{one_if}
-use Rattle.cq_ideal.proofs.Waiting.{total, total_none}
 
 -- ## Numbers that are added over a range
 
 -- each is at most two others together
-total_most : (f g h : ℕ → ℕ) (a n : ℕ) → ((t : ℕ) → f t ≤ g t + h t) → total f a n ≤ total g a n + total h a n
+pub total_most : (f g h : ℕ → ℕ) (a n : ℕ) → ((t : ℕ) → f t ≤ g t + h t) → total f a n ≤ total g a n + total h a n
 unfolding total
 total_most f g h a zero le = omega arith
 total_most f g h a (suc n) le = let here = le a in let rest = total_most f g h (a + 1) n le in omega arith
@@ -59,25 +28,18 @@ total_next f a b (suc n) e = grind (arith, common_steps, total, total_next f (a 
 
 pub one_present : (cells : List (Option Cell)) (i : ℕ) → one_if (arrival_at cells i) ≤ length (present cells)
 one_present [] i = omega arith
-one_present (None ∷ cells) zero = omega arith
-one_present (Some cell ∷ cells) zero = omega arith
-one_present (None ∷ cells) (suc i) = one_present cells i
-one_present (Some cell ∷ cells) (suc i) = let rest = one_present cells i in omega arith
+one_present (o ∷ cells) zero = grind (arith, common_steps)
+one_present (o ∷ cells) (suc i) = grind (arith, common_steps, one_present cells i)
 
 all_arrivals : (cells : List (Option Cell)) (n : ℕ) → total (λ i. one_if (arrival_at cells i)) 0 n ≤ length
     (present cells)
 unfolding total
 all_arrivals cells zero = omega arith
 all_arrivals [] (suc n) = let none = total_none (λ i. one_if (arrival_at [] i)) 0 (suc n) (λ i. refl) in omega arith
-all_arrivals (None ∷ cells) (suc n) =
-    let next : total (λ i. one_if (arrival_at (None ∷ cells) i)) (0 + 1) n
-    ≡ total (λ i. one_if (arrival_at cells i)) 0 n =
-    total_next (λ i. one_if (arrival_at (None ∷ cells) i)) 0 (0 + 1) n refl in omega (arith, all_arrivals cells n)
-all_arrivals (Some cell ∷ cells) (suc n) =
-    let next : total (λ i. one_if (arrival_at (Some cell ∷ cells) i)) (0 + 1) n
-    ≡ total (λ i. one_if (arrival_at cells i)) 0 n =
-    total_next (λ i. one_if (arrival_at (Some cell ∷ cells) i)) 0 (0 + 1) n refl in
-    omega (arith, all_arrivals cells n)
+all_arrivals (o ∷ cells) (suc n) =
+    let next : total (λ i. one_if (arrival_at (o ∷ cells) i)) (0 + 1) n ≡ total (λ i. one_if (arrival_at cells i)) 0 n =
+    total_next (λ i. one_if (arrival_at (o ∷ cells) i)) 0 (0 + 1) n refl in
+    let rest = all_arrivals cells n in grind (arith, common_steps)
 
 -- how many cells wait at the first n inputs
 unfoldable pub at_inputs : Fabric → ℕ → ℕ
@@ -96,26 +58,19 @@ one_crosses None = 0
 one_crosses (Some t) = 1
 
 length-cons_option : (o : Option Transfer) (ts : List Transfer) → length (cons_option o ts) ≡ one_crosses o + length ts
-length-cons_option None ts = omega arith
-length-cons_option (Some t) ts = omega arith
+length-cons_option o ts = grind (arith, common_steps)
 
 length_taken : (p : Option ℕ) (xs : List Queued) → length (list_taken p xs) ≤ length xs
 length_taken None xs = omega arith
 length_taken (Some j) [] = omega arith
 length_taken (Some j) (x ∷ xs) = grind (arith, common_steps, cond_both, length_taken (Some j) xs)
 
-one_left : (h : Queued → Transfer) (b : Bool) (x : Queued) (o : Option Queued) (rest xs : List Queued) →
-    one_crosses (option_map h o) + length rest ≤ length xs → one_crosses (option_map h (cond b (Some x) o)) + length
-    (cond b xs (x ∷ rest)) ≤ suc (length xs)
-one_left h true x o rest xs le = omega arith
-one_left h false x o rest xs le = omega arith
-
 module _ (slot phase : ℕ) where
   one_taken : (i : ℕ) (p : Option ℕ) (xs : List Queued) → one_crosses (noted slot phase i xs p) + length
       (list_taken p xs) ≤ length xs
   one_taken i None xs = omega arith
   one_taken i (Some j) [] = omega arith
-  one_taken i (Some j) (x ∷ xs) = grind (arith, common_steps, one_left, one_taken i (Some j) xs)
+  one_taken i (Some j) (x ∷ xs) = search (arith, rules, one_taken i (Some j) xs)
 
   module _ (m : Partners) (f g : Fabric) (step : Transfers m f g) where
     some_cross : (a n : ℕ) → length (filter_map (λ i. noted slot phase i (input f i) (partner_of m i))
@@ -126,8 +81,7 @@ module _ (slot phase : ℕ) where
 
     all_cross : (n : ℕ) → length m ≡ n → length (transfers_of m f.inputs slot phase) + at_inputs g n ≤ at_inputs f n
     unfolding transfers_of at_inputs
-    all_cross n same = subst (λ (n : ℕ). length (transfers_of m f.inputs slot phase) + at_inputs g n ≤ at_inputs f n)
-        same (some_cross 0 (length m))
+    all_cross n same = rw (← same) (some_cross 0 (length m))
 
 pub shorter : (m : Partners) (f g : Fabric) → Transfers m f g → (i : ℕ) → length (input g i) ≤ length (input f i)
 shorter m f g step i = grind (arith, common_steps, step.moves.taken, length_taken)
@@ -168,10 +122,8 @@ module _ (ms : List Machine) (slot : ℕ) (cells : List (Option Cell)) (f g : Fa
   arrived_one i =
       let e : length (input r.arrived i) ≡ length (list_arrived f (came_to r.came i) (input f i)) =
       ap length (step.arrive.lists i) in
-      let l =
-      longer_one f (came_to r.came i) (arrival_at cells i) (input f i) (λ c is.
-      (came_from ms slot 0 cells f.ranks (record { came = r.came; ranks = r.arrived.ranks }) step.arrive.ranked i c
-      is).cell_is) in
+      let l = longer_one f (came_to r.came i) (arrival_at cells i) (input f i) (λ c is. (came_from ms slot 0 cells
+      f.ranks (record { came = r.came; ranks = r.arrived.ranks }) step.arrive.ranked i c is).cell_is) in
       omega arith
 
   arrived_all : (n : ℕ) → at_inputs r.arrived n ≤ at_inputs f n + length (present cells)
@@ -181,50 +133,30 @@ module _ (ms : List Machine) (slot : ℕ) (cells : List (Option Cell)) (f g : Fa
       total_most (λ i. length (input r.arrived i)) (λ i. length (input f i)) (λ i. one_if (arrival_at cells i)) 0 n
       arrived_one in search (arith, rules, all_arrivals)
 
-  sent_same : (i : ℕ) → length (input r.sent i) ≡ length (input r.filled i)
-  sent_same i = ap (λ (ls : List (List Queued)). length (list_of ls i)) step.depart.inputs
-
   sent_all : (n : ℕ) → at_inputs r.sent n ≡ at_inputs r.filled n
   unfolding at_inputs
   sent_all n = ap (λ (ls : List (List Queued)). total (λ i. length (list_of ls i)) 0 n) step.depart.inputs
 
-  first_size : length r.first ≡ length f.inputs
-  first_size = step.first_chosen.stable.matching.size ∙ length-map r.arrived.inputs output_order ∙ step.arrive.ports
-
   sent_ports : length r.sent.inputs ≡ length f.inputs
   sent_ports = ap length step.depart.inputs ∙ step.fill.moves.ports.0 ∙ step.arrive.ports
-
-  second_size : length r.second ≡ length f.inputs
-  second_size = step.second_chosen.stable.matching.size ∙ length-map r.sent.inputs output_order ∙ sent_ports
 
   -- each transfer takes a cell from an input
   pub cross_few : (n : ℕ) → length f.inputs ≡ n → length (transfers_in r) + at_inputs g n ≤ at_inputs f n + length
       (present cells)
   unfolding transfers_in
-  cross_few n same = search (rules, arrived_all, all_cross, first_size, sent_all, second_size, length-append)
+  cross_few n same = search (arith, rules, arrived_all, all_cross, sent_all, length-append, length-map, sent_ports)
 
   -- where no cell waits and none arrives none is proposed
   pub none_proposed : ((i : ℕ) → length (input f i) ≡ 0) → length (present cells) ≡ 0 → sum (proposals_in r) ≡ 0
   unfolding proposals_in
   none_proposed none quiet =
       let before : (i : ℕ) → length (input r.arrived i) ≡ 0 =
-      λ i. let a = arrived_one i in let b = none i in let c = one_present cells i in omega arith in
+      λ i. omega (arith, arrived_one i, none i, one_present cells i) in
       let after : (i : ℕ) → length (input r.sent i) ≡ 0 =
-      λ i. let a = before i in let b = shorter r.first r.arrived r.filled step.fill i in let c = sent_same i in
-      omega arith in
+      λ i. rw step.depart.inputs (omega (arith, before i, shorter r.first r.arrived r.filled step.fill i)) in
       let first = proposals_none r.arrived r.first step.first_chosen.stable.matching before in
       let second = proposals_none r.sent r.second step.second_chosen.stable.matching after in
       omega arith
-
-  -- and else not more than the number of ports squared in each of the two phases
-  pub proposed_few : (classes : ℕ) (ideal : IdealState) → Agrees slot f ideal →
-      AreForPorts (length f.inputs) classes cells → sum (proposals_in r) ≤ 2 * (length f.inputs * length f.inputs)
-  unfolding proposals_in
-  proposed_few classes ideal agrees come =
-      let stable = stable_slot ms slot cells f g r step in
-      let one : Sound (slot + 1) r.arrived = arrived ms slot classes cells f g ideal r agrees come stable in
-      let two : Sound (slot + 1) r.sent = after_sent ms slot classes cells f g ideal r agrees come stable in
-      search (arith, rules, proposals_few, sent_ports)
 
 pub square_few : (n : ℕ) → n ≤ 64 → n * n ≤ 4096
 square_few n few = let square : n * n ≤ 64 * 64 = mul-le-mul few few in omega arith

@@ -2,51 +2,15 @@
 -- ports and classes in every slot, and so are those that it admits; and the run begins where nothing waits and no
 -- mark is up, where the fabric and the ideal switch agree. By its own records it is a run without limits of what they
 -- admit, and so its matchings and its slack are what they are without limits.
-use Rattle.std.proofs.lemmas.Grind.{common_steps}
-use Rattle.std.proofs.Common.{rules, ◌≡◌, ℕ, ◌+◌, ◌<◌, ◌≤◌, List, [], ◌∷◌, take, Option, Ok, ap, ◌∙◌, refl, sym, subst, ⊎_elim, arith}
-use Rattle.std.specs.Prelude.{All, IsOkAnd, Result, length}
-use Rattle.std.specs.List.{AllByRecursion}
-use Rattle.std.proofs.lemmas.Bool.{cases_lt}
-use Rattle.cq_base.specs.Arriving.{Arrival}
-use Rattle.cq_cells.specs.Traffic.{IsTraffic}
-use Rattle.cq_base.specs.declared.cell.Cell.{Cell}
-use Rattle.cq_base.specs.declared.cell.TagFault.{TagFault}
-use Rattle.cq_rank.specs.Machine.{Machine}
-use Rattle.cq_ideal.specs.Admission.{Marked, NoLimits, admitted_in}
-use Rattle.cq_ideal.specs.Ending.{first_slots, slots_of}
-use Rattle.cq_ideal.specs.IdealRun.{empty_ideal}
-use Rattle.cq_ideal.specs.IdealSlot.{IdealState}
-use Rattle.cq_ideal.specs.LimitedIdeal.{LimitedRan}
-use Rattle.cq_ideal.specs.Ranking.{AreForPorts}
+use Rattle.cq_simulate.proofs.Terms.{common_steps, rules, ◌≡◌, ℕ, ◌+◌, ◌≤◌, List, [], ◌∷◌, take, Option, Ok, ap, ◌∙◌, refl, sym, arith, All, length, AllByRecursion, Arrival, IsTraffic, Cell, Machine, Marked, NoLimits, admitted_in, first_slots, slots_of, IdealState, AreForPorts, stable_limited_run, stable_run, stable_slot, one_limited_whole, admission_for_ports, after_sent, arrived, ports_kept, same_slot, recorded, orders_are, empty_agree, run_slack, traffic_for_empty, Agrees, Fabric, IsEmptyFabric, empty_fabric, FabricRun, SlotRecord, LimitedFabricRun, LimitedFabricSlot, LimitedRecord, LimitedWholeRun, admissions_in, empty_limited_fabric, slots_in, figures_of, IsInputBest, IsStable, classes_of, ports_of, IsSetup, Tables, machines_of, openings_of, AlwaysHasSlack, AreInputBest, IsBestFor, IsFabricRun, IsKeptOf, SendsSlotBySlot, departures_in_run, ideal_departures, ran_ideal, slots_ran, slots_fit, ◌<◌, ⊎_elim, cases_lt}
 use Rattle.cq_laws.proofs.EndsTogether.{slots_of_figures}
-use Rattle.cq_laws.proofs.InputBest.{stable_limited_run, stable_run, stable_slot}
-use Rattle.cq_laws.proofs.LimitedEnds.{one_limited_whole}
-use Rattle.cq_laws.proofs.LimitedSlots.{admission_for_ports}
-use Rattle.cq_laws.proofs.OneSlot.{after_sent, arrived, ports_kept, same_slot}
 use Rattle.cq_laws.proofs.Parted.{reach, run_of_whole}
-use Rattle.cq_laws.proofs.Recorded.{recorded}
-use Rattle.cq_laws.proofs.Sound.{orders_are}
-use Rattle.cq_laws.proofs.WholeRuns.{empty_agree, run_slack, traffic_for_empty}
-use Rattle.cq_laws.specs.Agreement.{Agrees}
-use Rattle.cq_laws.specs.Fabric.{Fabric, IsEmptyFabric, empty_fabric}
-use Rattle.cq_laws.specs.FabricRun.{FabricRun}
-use Rattle.cq_laws.specs.FabricSlot.{SlotRecord}
-use Rattle.cq_laws.specs.LimitedFabric.{LimitedFabricRun, LimitedFabricSlot, LimitedRecord, LimitedWholeRun, admissions_in, empty_limited_fabric, slots_in}
-use Rattle.cq_laws.specs.Measures.{figures_of}
-use Rattle.cq_laws.specs.Records.{gone_in}
 use Rattle.cq_laws.specs.Slack.{HasSlack}
-use Rattle.cq_prefs.specs.Pairing.{IsInputBest, IsStable}
-use Rattle.cq_route.specs.Tables.{classes_of, ports_of, IsSetup}
-use Rattle.cq_route.specs.declared.tables.Tables.{Tables}
-use Rattle.cq_scfq.specs.Disciplines.{machines_of, openings_of}
 use Rattle.cq_simulate.proofs.Departed.{last_departs_without_limits, slots_are}
 use Rattle.cq_simulate.proofs.OnceASlot.{once_a_slot}
 use Rattle.cq_simulate.proofs.StableRuns.{stable_sends, stable_slots, whole_ran}
 use Rattle.cq_simulate.specs.Emulation.{EmulatesIdeal}
-use Rattle.cq_simulate.specs.FabricRuns.{AlwaysHasSlack, AreInputBest, IsBestFor, IsFabricRun, IsKeptOf, SendsSlotBySlot, departures_in_run}
-use Rattle.cq_simulate.specs.IdealRuns.{ideal_departures, ran_ideal, slots_ran}
 use Rattle.cq_simulate.specs.declared.fabric_run.FabricRun as kept
-use Rattle.cq_traffic.proofs.ForPorts.{slots_fit}
 
 -- ## A whole run with input-best matchings is one with stable ones
 
@@ -57,8 +21,7 @@ module _ (limits : List (Option ℕ)) (ms : List Machine) where
       LimitedFabricRun IsInputBest limits ms slot traffic f rs g →
       LimitedFabricRun IsStable limits ms slot traffic f' rs g' →
       LimitedFabricRun IsInputBest limits ms slot traffic f' rs g'
-  same_choices slot [] f f' g g' [] x y = y
-  same_choices slot [] f f' g g' (r ∷ rs) x y = absurd x
+  same_choices slot [] f f' g g' rs x y = grind (arith, common_steps)
   same_choices slot (cells ∷ traffic) f f' g g' [] x y = absurd x
   same_choices slot (cells ∷ traffic) f f' g g' (r ∷ rs) x y =
       grind (arith, common_steps, same_choices (slot + 1) traffic x.0 y.0 g g' rs x.2 y.2)
@@ -83,8 +46,7 @@ module _ (limits : List (Option ℕ)) (ms : List Machine) where
       (rs : List LimitedRecord) → AllByRecursion (AreForPorts ports classes) traffic →
       LimitedFabricRun IsInputBest limits ms slot traffic f rs g →
       AllByRecursion (AreForPorts ports classes) (admitted_in (admissions_in rs))
-  admitted_fit ports classes slot [] f g [] come run = tt
-  admitted_fit ports classes slot [] f g (r ∷ rs) come run = absurd run
+  admitted_fit ports classes slot [] f g rs come run = grind (arith, common_steps)
   admitted_fit ports classes slot (cells ∷ traffic) f g [] come run = absurd run
   admitted_fit ports classes slot (cells ∷ traffic) f g (r ∷ rs) come run =
       search (rules, admission_for_ports, admitted_fit ports classes (slot + 1) traffic run.0 g rs come.1 run.2)
@@ -129,10 +91,6 @@ module _ (t : Tables) (came : List Arrival) where
   abbrev plain : Fabric
   plain = empty_fabric (ports_of t.setup) (openings_of t.setup)
 
-  traffic_fits : (n : ℕ) → IsTraffic (ports_of t.setup) (classes_of t.setup) came →
-      AllByRecursion (AreForPorts (ports_of t.setup) (classes_of t.setup)) (first_slots came n)
-  traffic_fits n traffic = slots_fit (ports_of t.setup) (classes_of t.setup) came 0 n traffic
-
   runs : (rs : List LimitedRecord) (is : IsFabricRun t came rs) →
       LimitedFabricRun IsInputBest t.limits ms 0 (first_slots came (length rs)) start rs is.end
   runs rs is = grind (arith, common_steps, run_of_whole)
@@ -144,13 +102,12 @@ module _ (t : Tables) (came : List Arrival) where
 
   pub slots_sent : (rs : List LimitedRecord) → IsFabricRun t came rs →
       (figures_of (ports_of t.setup) (slots_in rs)).slots ≡ slots_of (departures_in_run rs)
-  slots_sent rs is = slots_of_figures IsInputBest ms (ports_of t.setup) (admitted_in (admissions_in rs)) plain
-      is.end.state (slots_in rs) (plainly rs is)
+  slots_sent rs is = slots_of_figures IsInputBest ms _ _ plain is.end.state (slots_in rs) (plainly rs is)
 
   module _ (rs : List LimitedRecord) (traffic : IsTraffic (ports_of t.setup) (classes_of t.setup) came)
       (is : IsFabricRun t came rs) where
     fits : AllByRecursion (AreForPorts (length plain.inputs) (classes_of t.setup)) (admitted_in (admissions_in rs))
-    fits = grind (arith, common_steps, traffic_for_empty, admitted_fit, traffic_fits, runs)
+    fits = grind (arith, common_steps, traffic_for_empty, admitted_fit, runs, slots_fit)
 
     -- with stable matchings it is one too
     stable : LimitedWholeRun IsStable t.limits ms came start rs is.end
@@ -160,25 +117,20 @@ module _ (t : Tables) (came : List Arrival) where
     as_many_slots = stable_slots t came rs is.end traffic stable
 
     pub best_in_each : AreInputBest rs
-    best_in_each = of_slots IsBestIn rs (each_best ms (classes_of t.setup) 0 (admitted_in (admissions_in rs)) plain
-        is.end.state (empty_ideal (ports_of t.setup) (openings_of t.setup)) (slots_in rs)
+    best_in_each = of_slots IsBestIn rs (each_best ms _ 0 _ plain is.end.state _ (slots_in rs)
         (empty_agree (ports_of t.setup) (openings_of t.setup)) fits (plainly rs is))
 
     pub slot_by_slot : SendsSlotBySlot t came rs
     unfolding ran_ideal
-    slot_by_slot =
-        let P : Result LimitedRan TagFault → Type 0 =
-        λ r. IsOkAnd r (λ ideal. (gone_in (slots_in rs) ≡ ideal.gone) × (admissions_in rs ≡ ideal.admissions)) in
-        subst P (sym (whole_ran t came rs is.end traffic stable)) (refl, refl)
+    slot_by_slot = rw (whole_ran t came rs is.end traffic stable) (refl, refl)
 
     pub sends_as_ideal : ideal_departures t came ≡ Ok (departures_in_run rs)
     sends_as_ideal = stable_sends t came rs is.end traffic stable
 
     pub always_slack : AlwaysHasSlack rs
-    always_slack = of_slots (λ r. HasSlack 0 r.arrived) rs (run_slack ms (classes_of t.setup) 0
-        (admitted_in (admissions_in rs)) plain is.end.state (empty_ideal (ports_of t.setup) (openings_of t.setup))
-        (slots_in rs) (empty_agree (ports_of t.setup) (openings_of t.setup)) fits
-        (stable_run ms 0 (admitted_in (admissions_in rs)) plain is.end.state (slots_in rs) (plainly rs is)))
+    always_slack = of_slots (λ r. HasSlack 0 r.arrived) rs (run_slack ms _ 0 _ plain is.end.state _ (slots_in rs)
+        (empty_agree (ports_of t.setup) (openings_of t.setup)) fits
+        (stable_run ms 0 _ plain is.end.state (slots_in rs) (plainly rs is)))
 
     pub emulates : EmulatesIdeal t came rs is
     emulates =
@@ -201,5 +153,4 @@ module _ (t : Tables) (came : List Arrival) where
   pub once_each_slot : (rs : List LimitedRecord) → IsFabricRun t came rs →
       All (λ x. x.cells ≤ (figures_of (ports_of t.setup) (slots_in rs)).slots)
       (figures_of (ports_of t.setup) (slots_in rs)).outputs
-  once_each_slot rs is = once_a_slot ms (admitted_in (admissions_in rs)) plain is.end.state (slots_in rs)
-      (ports_of t.setup) (plainly rs is)
+  once_each_slot rs is = once_a_slot ms _ plain is.end.state (slots_in rs) _ (plainly rs is)

@@ -1,46 +1,41 @@
 -- How the run of a fabric that is made for tables begins, and what its end says of the tables. What the calls say that
 -- made it is one record. From it the engine can begin.
-use Rattle.std.proofs.lemmas.Grind.{common_steps}
-use Rattle.std.proofs.Common.{rules, ◌≡◌, ℕ, ◌+◌, ◌*◌, ◌≤◌, ◌^◌, Bool, false, List, [], length, map, Option, sym, ap, ◌∙◌, arith, refl}
-use Rattle.std.proofs.lemmas.List.{length-map}
-use Rattle.std.proofs.lemmas.List.FromFn.{length-map-range_with_len}
-use Rattle.cq_base.specs.Arriving.{Arrival, traffic_of}
-use Rattle.cq_base.specs.Room.{RoomView}
-use Rattle.cq_base.specs.declared.cell.Departure.{Departure}
-use Rattle.cq_base.specs.declared.cell.Transfer.{Transfer}
-use Rattle.cq_cells.specs.Scheduled.{Scheduled}
-use Rattle.cq_engine.specs.Engine.{CanBeMade, EngineView, fresh_engine, marked_fabric}
-use Rattle.cq_ideal.specs.Admission.{marks_down}
-use Rattle.cq_ideal.specs.IdealRun.{empty_ideal}
-use Rattle.cq_ideal.specs.LimitedEnding.{departures_limited}
-use Rattle.cq_ideal.specs.LimitedIdeal.{empty_limited, limited_run}
-use Rattle.cq_laws.specs.LimitedFabric.{empty_limited_fabric}
-use Rattle.cq_route.specs.Tables.{AreTables, ports_of}
-use Rattle.cq_route.specs.declared.tables.Tables.{Tables}
-use Rattle.cq_scfq.specs.Discipline.{fixed_of, machine_from, state_of}
-use Rattle.cq_scfq.specs.Disciplines.{machines_of, openings_of}
+use Rattle.cq_simulate.proofs.Terms.{refl, common_steps, rules, ◌≡◌, ℕ, ◌+◌, ◌*◌, ◌≤◌, ◌^◌, List, [], length, map, Option, sym, ap, ◌∙◌, arith, take_all, length-map, length-map-range_with_len, Arrival, traffic_of, first_slots, RoomView, Departure, Transfer, Scheduled, CanBeMade, EngineView, fresh_engine, frozen_of, marked_fabric, departures_limited, limited_run, counts_more, refused_in, admissions_in, slots_in, AreTables, ports_of, IsSetup, classes_of, Tables, fixed_of, machine_from, state_of, machines_of, openings_of, IsKeptOf, unpacked_run, kept_of, ArePortsFor, IsFreshFor, HasKept, IsReadyOn, IsRefusalOn, IsRefusalOf, ideal_departures, ran_ideal, limited_same_sent, limited_whole_fault, slots_fit, IsScheduleFor, PackedFabricRun, Ports, RunRefusal, range_with_len, IsShort, IsTraffic, is_from, is_to, number_of, IdealSwitch, marked_state, Machine, class_count, IsReady, IsResumed, Kept, RunsOn, Switch, switch_of, Taken}
+use Rattle.cq_laws.proofs.ActingAlike.{best_act_alike_from_empty}
+use Rattle.cq_laws.proofs.AddingUp.{figures_fold}
 use Rattle.cq_scfq.specs.declared.discipline.Discipline.{Discipline}
-use Rattle.cq_simulate.proofs.Onward.{first_fault, has_run, ready_on}
-use Rattle.cq_simulate.proofs.Opening.{machine_count, room_at, run_of_tables}
-use Rattle.cq_simulate.specs.FabricReady.{HasRun, IsReadyFabric}
-use Rattle.cq_simulate.specs.FabricRuns.{IsKeptOf, unpacked_run}
-use Rattle.cq_simulate.specs.FreshFabric.{ArePortsFor, IsFreshFor, by_port}
-use Rattle.cq_simulate.specs.GoingOn.{HasKept, IsReadyOn, IsRefusalOn}
-use Rattle.cq_simulate.specs.IdealRuns.{IsRefusalOf, ideal_departures}
-use Rattle.cq_simulate.specs.ScheduleFor.{IsScheduleFor}
-use Rattle.cq_simulate.specs.declared.fabric_run.FabricRun.{FabricRun}
-use Rattle.cq_simulate.specs.declared.fabric_run.PackedFabricRun.{PackedFabricRun}
-use Rattle.cq_simulate.specs.declared.ports.Ports.{Ports}
-use Rattle.cq_simulate.specs.declared.refusal.RunRefusal.{RunRefusal}
+use Rattle.cq_simulate.proofs.TakenUp.{goes_from, holds_none, machine_count, room_at}
+use Rattle.cq_simulate.specs.FreshFabric.{by_port}
 use Rattle.cq_simulate.specs.declared.refusal.RunRefusal.TheVariants as refusal
-use Rattle.cq_ideal.specs.Ideal.{IdealSwitch}
+use Rattle.cq_ideal.specs.Fresh.{fresh_ideal}
+
+-- How a run of tables begins: the machines are those of the setup's disciplines, each in its opening state, all
+-- marks are down, and there is room for all cells that arrive.
+
+-- ## A new switch
+
+module _ (M : List ℕ → Machine) (t : Tables) (ports : ℕ) (fixed states : List (List ℕ)) (limits : List (Option ℕ))
+    (rooms : List ℕ) (first : IdealSwitch) (is : first ≡ fresh_ideal ports fixed states limits rooms)
+    (machines : map M fixed ≡ machines_of t.setup) (many : length fixed ≡ ports) (same : limits ≡ t.limits) where
+  -- its run is the tables' run
+  pub run_of_tables : (came : List Arrival) → states ≡ openings_of t.setup →
+      departures_limited (limited_run first.limits (map M first.fixed) 0 (traffic_of came) (marked_state first))
+      ≡ ideal_departures t came
+  unfolding ideal_departures ran_ideal
+  run_of_tables came openings =
+      let ports_are : ports ≡ ports_of t.setup = sym many ∙ machine_count M fixed t.setup machines in
+      rw (is, same, machines, ports_are, openings)
+      (limited_same_sent t.limits (machines_of t.setup) (ports_of t.setup) (openings_of t.setup) came)
+
+  pub ready_ideal : (came : List Arrival) (sent : RoomView Departure) → IsSetup t.setup →
+      class_count (machines_of t.setup) ≡ length t.setup.classes →
+      rooms ≡ map (λ j. number_of (is_to j) came) (range_with_len 0 ports) →
+      IsTraffic (ports_of t.setup) (classes_of t.setup) came → IsShort came → sent.items ≡ [] →
+      sent.spare ≡ length came + ports → IsReady (map M first.fixed) came first sent
+  ready_ideal came sent setup classes rooms_are traffic short nothing spare =
+      grind (arith, common_steps, machine_count, length-map-range_with_len, room_at)
 
 -- ## What an engine is made of
-
--- there is a room for each port
-rooms_long : (is : ℕ → Arrival → Bool) (t : Tables) (came : List Arrival) {rooms : List ℕ} → rooms ≡ by_port is t came →
-    length rooms ≡ ports_of t.setup
-rooms_long is t came are = grind (arith, common_steps, length-map-range_with_len)
 
 -- as many ranks as ports
 pub ranks_many : (t : Tables) (ranks : List Discipline) → map machine_from (map fixed_of ranks) ≡ machines_of t.setup →
@@ -51,7 +46,7 @@ ranks_many t ranks machines = grind (arith, common_steps, length-map, machine_co
 pub can_be_made : (t : Tables) (came : List Arrival) (p : Ports) {from to : List ℕ} {limits : List (Option ℕ)} →
     AreTables t → ArePortsFor t came p → from ≡ p.from_inputs.items → to ≡ p.to_outputs.items → limits ≡ t.limits →
     CanBeMade (map machine_from (map fixed_of p.ranks.items)) (length p.ranks.items) from to limits t.workers
-can_be_made t came p tables are from to same = grind (arith, common_steps, rooms_long)
+can_be_made t came p tables are from to same = search (arith, rules, length-map-range_with_len)
 
 -- and one that was is fresh
 pub fresh_for : (t : Tables) (came : List Arrival) (p : Ports) (engine : EngineView) {from to : List ℕ}
@@ -68,35 +63,39 @@ module _ {t : Tables} {came : List Arrival} {first : EngineView} (fresh : IsFres
   pub port_count : length first.fixed ≡ length t.setup.kinds
   port_count = machine_count machine_from first.fixed t.setup fresh.machines
 
-  pub limits_are : first.limits ≡ t.limits
-  limits_are = ap (λ (e : EngineView). e.limits) fresh.fresh
+-- ## What it runs
 
-  -- with no cell and all marks down
-  pub begun : marked_fabric first ≡ empty_limited_fabric (ports_of t.setup) (openings_of t.setup)
-  begun = ap marked_fabric fresh.fresh
+-- where the engine stands, as a run that can be taken up
+abbrev pub standing : EngineView → RoomView Departure → RoomView Transfer → Taken
+standing e sent note = record { frozen = frozen_of e; sent = sent.items; note = note.items }
 
-  pub kept_of : (last : EngineView) (run : FabricRun) → HasRun (map machine_from first.fixed) came first last run.sent
-      run.note → run.figures ≡ last.figures → run.refused.items ≡ last.refused → IsKeptOf t came run
-  kept_of last run has is_figures is_refused = grind (arith, common_steps, begun, limits_are, port_count)
-
-  -- the ideal switch that runs beside the engine is made for the same tables
-  pub ideal_of_tables : departures_limited (limited_run first.limits
-      (map machine_from first.fixed) 0 (traffic_of came) (empty_limited (length first.fixed) first.fabric.ranks)) ≡
-      ideal_departures t came
-  ideal_of_tables =
-      let beside : IdealSwitch = record {
-        fixed = first.fixed;
-        limits = first.limits;
-        state = empty_ideal (length first.fixed) first.fabric.ranks;
-        marks = marks_down (length first.fixed);
-        refused = [];
-        rooms = [];
-        next = 0;
-        stopped = false;
-      } in
-      run_of_tables machine_from t came (length first.fixed) first.fabric.ranks beside
-      (record { machines = fresh.machines; limits = limits_are; state = refl; marks = refl; many = port_count })
-      (ap (λ (e : EngineView). e.fabric.ranks) fresh.fresh)
+module _ (M : List ℕ → Machine) (t : Tables) (s : Scheduled) (first : EngineView) (sent : RoomView Departure)
+    (note : RoomView Transfer) (machines : map M first.fixed ≡ machines_of t.setup) (limits : first.limits ≡ t.limits)
+  where
+    -- what an engine with the tables' machines and limits has run, their switch has run
+    pub resumes : (run : PackedFabricRun) → HasKept (map M first.fixed) s.came first sent note run →
+        IsResumed (switch_of t s) (standing first sent note) (kept_of (unpacked_run run))
+    resumes run kept =
+        let has = kept.ran in
+        let rs = has.records in
+        let engine : Switch = record (switch_of t s) { machines = map M first.fixed; limits = first.limits } in
+        let runs : RunsOn engine first.next (marked_fabric first) rs (marked_fabric kept.last) = record {
+          after = rw (take_all (length rs) rs (omega arith)) has.went.runs;
+          all_came = has.all_came;
+          empty = has.empty;
+          first = has.first;
+        } in
+        record {
+          records = rs;
+          end = marked_fabric kept.last;
+          runs = rw (limits, machines) at runs;
+          kept_is = λ k. record {
+            sent = has.went.departed k;
+            note = has.went.crossed k;
+            figures = (kept.figures ∙ has.went.counted) k;
+            refused = (kept.refused ∙ has.went.refused) k;
+          };
+        }
 
 -- ## What is known once its run can begin
 
@@ -121,22 +120,56 @@ made_for fit many all few fresh nothing_sent sent_room nothing_noted note_room =
 
 module _ {t : Tables} {s : Scheduled} {first : EngineView} {sent : RoomView Departure} {note : RoomView Transfer}
     (made : IsMade t s first sent note) where
-  -- it can run from slot 0 on
-  pub ready : IsReadyFabric (map machine_from first.fixed) s.came first sent note
-  ready = grind (arith, common_steps, port_count, room_at, limits_are)
+  -- as it was made
+  abbrev pub begins : EngineView
+  begins = fresh_engine (ports_of t.setup) first.fixed (openings_of t.setup) (by_port is_from t s.came)
+      (by_port is_to t s.came) t.limits
 
-  -- as an engine can that goes on
+  -- it can run from slot 0 on
   pub can_begin : IsReadyOn (map machine_from first.fixed) s.came first sent note
-  can_begin = ready_on (map machine_from first.fixed) s.came first sent note ready
+  can_begin =
+      let none = holds_none s.came (ports_of t.setup) first.fixed (openings_of t.setup) (by_port is_from t s.came)
+      (by_port is_to t s.came) t.limits (port_count made.fresh) in
+      rw made.fresh.fresh (goes_from begins sent note made.fit none made.fresh.machines made.fresh.classes refl refl
+      refl
+      made.few made.sent_room made.note_room)
 
   -- what it has run is the run of the tables
   pub run_is_kept : (run : PackedFabricRun) → HasKept (map machine_from first.fixed) s.came first sent note run →
       IsKeptOf t s.came (unpacked_run run)
-  run_is_kept run kept = search (rules, kept_of, has_run, ready)
+  run_is_kept run kept =
+      let from_fresh = rw made.fresh.fresh at kept in
+      let it = resumes machine_from t s begins sent note made.fresh.machines refl run from_fresh in
+      let nothing_sent = made.nothing_sent in
+      let nothing_noted = made.nothing_noted in
+      record {
+        records = it.records;
+        is_run = record {
+          end = it.end;
+          runs = record {
+            after = it.runs.after;
+            all_came = omega arith;
+            empty = it.runs.empty;
+            first = λ m f ran late none. it.runs.first m f ran (omega arith) none;
+          };
+        };
+        sent = ap (λ (k : Kept). k.sent) it.kept_is ∙ grind (arith, common_steps);
+        note = ap (λ (k : Kept). k.note) it.kept_is ∙ grind (arith, common_steps);
+        figures = ap (λ (k : Kept). k.figures) it.kept_is ∙ sym (figures_fold (ports_of t.setup) (slots_in it.records));
+        refused = ap (λ (k : Kept). k.refused) it.kept_is
+            ∙ sym (counts_more t.limits [] (refused_in (admissions_in it.records)));
+      }
 
   -- and where it has none, the ideal switch has none
   pub no_run : (why : RunRefusal) → IsRefusalOn (map machine_from first.fixed) s.came first why →
       IsRefusalOf (ideal_departures t s.came) why
-  no_run (refusal.Tag fault) stops = sym (ideal_of_tables made.fresh)
-      ∙ first_fault (map machine_from first.fixed) s.came first sent note ready fault stops
-  no_run refusal.NoMemory stops = tt
+  unfolding ideal_departures ran_ideal
+  no_run (refusal.Tag fault) stop =
+      let ports = ports_of t.setup in
+      let openings = openings_of t.setup in
+      let alike = best_act_alike_from_empty t.limits (machines_of t.setup) in
+      let stops = rw (made.fresh.fresh, made.fresh.machines) at stop.stops.stops in
+      ap departures_limited (limited_whole_fault t.limits (machines_of t.setup) ports openings s.came stop.count fault
+      (alike.stop ports (classes_of t.setup) openings (first_slots s.came stop.count) stop.stops.records fault
+      (slots_fit ports (classes_of t.setup) s.came 0 stop.count made.fit.traffic) stops))
+  no_run refusal.NoMemory stop = tt

@@ -1,87 +1,455 @@
 -- What each step of the loop over the slots of the fabric asks for, where so many slots are left as are not yet over.
-use Rattle.std.proofs.lemmas.Grind.{common_steps}
-use Rattle.std.proofs.Common.{rules, ◌≡◌, ◌↔◌, ℕ, suc, ◌+◌, ◌-◌, ◌<◌, ◌≤◌, ◌^◌, Bool, true, false, List, [], ◌++◌, length, map, replicate, Option, Some, Result, Ok, Err, refl, sym, ap, ◌∙◌, subst, arith}
-use Rattle.std.specs.Prelude.{IsTrue}
-use Rattle.std.proofs.lemmas.Bool.{cases_lt}
-use Rattle.cq_base.specs.Arrivals.{arrival_at, no_arrivals}
-use Rattle.cq_base.specs.Arriving.{Arrival, arriving, end_of}
-use Rattle.cq_base.specs.Room.{RoomView}
-use Rattle.cq_base.specs.declared.cell.Cell.{Cell}
-use Rattle.cq_base.specs.declared.cell.Departure.{Departure}
-use Rattle.cq_base.specs.declared.cell.TagFault.{TagFault}
-use Rattle.cq_base.specs.declared.cell.Transfer.{Transfer}
-use Rattle.cq_cells.specs.Traffic.{IsShort}
-use Rattle.cq_engine.specs.Engine.{EngineView, HaveBufferRoom, HaveListRoom, IsMadeAs, IsReadyFor, SlotDone, answer_to, its_admission, marked_fabric, ports_of}
+use Rattle.cq_simulate.proofs.Terms.{common_steps, rules, ◌≡◌, ◌↔◌, ℕ, suc, ◌+◌, ◌-◌, ◌<◌, ◌≤◌, ◌^◌, Bool, true, false, List, [], ◌++◌, length, map, replicate, Option, Some, Result, Err, refl, sym, ap, ◌∙◌, subst, arith, zero, ◌*◌, ◌∷◌, ⊎_elim, length-append, append_assoc, IsTrue, sum, slice_index, find, cases_lt, and_left, leb-false, ne_eqb, arrival_at, no_arrivals, Arrival, arriving, end_of, arriving_at, is_at, RoomView, Cell, Departure, TagFault, Transfer, EngineView, HaveBufferRoom, HaveListRoom, IsMadeAs, IsReadyFor, SlotDone, answer_to, its_admission, marked_fabric, HaveLeft, CanCount, AreForPorts, Ranking, ranking, IsEmptyFabric, Fabric, input, LimitedFabricRun, admissions_in, LimitedRecord, IsLimitedFault, LimitedFabricSlot, slots_in, IsInputBest, Machine, class_count, counts_fit, none_counted, all_counted_both, refused_in, HasPartedTo, HasRunOn, IsReadyOn, IsReadyPart, NoneCome, StopsWithin, RanTo, WentOn, to_come, arrivals_for, arrives_found, from_here, one_if, come_from, some_one, no_more_from, for_here, come_for, no_more_to, IsQuiet, append-nil, length-map, get_or_past, map-append, take_all, take-append-le, departures_in, IdealState, quiet_figures, quiet_transfers, transfers_in, gone_in, transfers_of_run, flat_map, range_with_len, map-range_with_len_more, Queued, Figures, nothing_left, present, come_count, none_after, come_count-first, arriving_length, arriving_here, arriving_parts, one_slot_more, counted, waiting, total, total_same, Marked, arriving_from, departures_of, LimitedSent, stable_limited_slot, limited_ports_kept, same_limited_slot, only_limited_run, empty_together, Agrees, SlotRecord, fabric_held, held_for, LimitedAgrees, figures_after, proposals_in, fold-append, sum_by-cons, agrees_of, ideal_of, list_of, is_from, is_to, number_of, arriving_is, cell_listed, found}
+use Rattle.cq_engine.specs.Engine.{HasGoneOn, ports_of}
 use Rattle.cq_engine.specs.Resting.{HasRested}
-use Rattle.cq_ideal.specs.Ideal.{HaveLeft}
-use Rattle.cq_ideal.specs.Limiter.{CanCount}
-use Rattle.cq_ideal.specs.Ranking.{AreForPorts, Ranking, ranking}
-use Rattle.cq_laws.specs.Fabric.{IsEmptyFabric}
-use Rattle.cq_laws.specs.LimitedFabric.{LimitedFabricRun, fabric_admission, admissions_in}
-use Rattle.cq_laws.specs.LimitedQuiet.{quiet_limited_slots}
-use Rattle.cq_prefs.specs.Pairing.{IsInputBest}
-use Rattle.cq_rank.specs.Machine.{Machine}
-use Rattle.cq_rank.specs.Switch.{class_count}
-use Rattle.cq_simulate.proofs.FabricRunning.{Crossing, Passed, crossing_fault, crossing_first, crossing_left, crossing_next, crossing_over, over_by, over_by_is}
-use Rattle.cq_simulate.proofs.Handed.{IsFree, few_left, free_again, left_with_all}
-use Rattle.cq_simulate.proofs.Steps.{ends_early}
-use Rattle.cq_simulate.proofs.FabricStretches.{crossing_rest}
-use Rattle.cq_ideal.proofs.Counting.{counts_fit}
-use Rattle.cq_ideal.specs.Refused.{refused_in}
-use Rattle.cq_simulate.specs.GoingOn.{HasPartedTo, HasRunOn, IsReadyOn, IsReadyPart, NoneCome, StopsWithin}
-use Rattle.cq_traffic.proofs.ForPorts.{arrivals_for}
-use Rattle.cq_traffic.proofs.FromInputs.{arrives_found, from_here, one_if}
-use Rattle.cq_traffic.proofs.ToOutputs.{for_here}
-use Rattle.cq_traffic.specs.Stretch.{IsQuiet}
+use Rattle.cq_laws.specs.LimitedQuiet.{quiet_limited_slots, quiet_limited_slot}
+use Rattle.cq_simulate.proofs.Steps.{IsFree, few_left, fewer_come, nobody_departs, enough_are, of_admitted, come_here, fewer_left, none_come}
+use Rattle.cq_laws.specs.Quiet.{idled, quiet_slot}
+use Rattle.cq_engine.proofs.Kept.{limited_lists_kept, limited_outputs_kept}
+use Rattle.cq_laws.proofs.Joined.{all_go_on}
+use Rattle.cq_laws.proofs.KeptParts.{departures_one, transfers_both, transfers_one, departures_on}
+use Rattle.cq_simulate.proofs.FabricCounts.{at_inputs, cross_few, none_proposed, square_few, total_next}
+use Rattle.cq_laws.proofs.Held.{hold_as_many}
+
+-- What is still to come. The first arrival of a slot from this one on is the same among all arrivals as among those
+-- that are still to come. So in any slots from this one on no more cells come than are to come, and no more for an
+-- output or at an input than are to come for it or at it.
+
+-- ## The same arrivals
+
+find_kept : (s t k : ℕ) → s ≤ t → (came : List Arrival) → find (is_at t k) (to_come s came) ≡ find (is_at t k) came
+find_kept s t k le [] = refl
+find_kept s t k le (a ∷ came) =
+    grind (arith, common_steps, leb-false, ne_eqb, and_left, find_kept s t k le came)
+
+at_kept : (s t k : ℕ) → s ≤ t → (came : List Arrival) → arriving_at (to_come s came) t k ≡ arriving_at came t k
+at_kept s t k le came = grind (arith, common_steps, find_kept)
+
+arriving_kept : (s t : ℕ) → s ≤ t → (came : List Arrival) (inputs : ℕ) → inputs ≡ 64 →
+    arriving (to_come s came) t ≡ arriving came t
+arriving_kept s t le came inputs are =
+    arriving_is (to_come s came) t inputs are
+    ∙ ap (λ (f : ℕ → Option Cell). map f (range_with_len 0 inputs)) (λ e k. at_kept s t k le came e)
+    ∙ sym (arriving_is came t inputs are)
+
+slots_kept : (s t : ℕ) → s ≤ t → (came : List Arrival) (n : ℕ) →
+    arriving_from (to_come s came) t n ≡ arriving_from came t n
+unfolding arriving_from
+slots_kept s t le came zero = refl
+slots_kept s t le came (suc n) = cc (arriving_kept s t le came 64 refl, slots_kept s (t + 1) (omega arith) came n)
+
+found_kept : (s t k : ℕ) → s ≤ t → (came : List Arrival) → found (to_come s came) t k ≡ found came t k
+unfolding found
+found_kept s t k le came = ap (λ (o : Option Cell). cell_listed o) (at_kept s t k le came)
+
+-- ## How many
+
+-- what comes in some slots is no more than what is to come, which comes from slot 0 on
+module _ (s n : ℕ) (came : List Arrival) where
+  abbrev later : List Arrival
+  later = to_come s came
+
+  pub come_few : come_count (arriving_from came s n) ≤ length later
+  unfolding arriving_from
+  come_few =
+      let less =
+      fewer_come (λ t m. come_count (arriving_from later t m)) (λ t m. omega (arith, come_here later t m)) 0 s n s
+      (omega arith) in
+      let all = come_count-first later (s + n) in rw (← slots_kept s s (omega arith) came n) (omega arith)
+
+  pub for_few : (j : ℕ) → come_for j (arriving_from came s n) ≤ number_of (is_to j) later
+  for_few j =
+      let less =
+      fewer_come (λ t m. come_for j (arriving_from later t m)) (λ t m. omega (arith, for_here j later t m)) 0 s n
+      s
+      (omega arith) in
+      let all = no_more_to j later (s + n) in rw (← slots_kept s s (omega arith) came n) (omega arith)
+
+  pub from_few : (i : ℕ) → come_from i came s n ≤ number_of (is_from i) later
+  unfolding come_from
+  from_few i =
+      let less = fewer_come (come_from i later) (λ t m. omega (arith, from_here i later t m)) 0 s n s (omega arith) in
+      let kept : total (λ t. length (found later t i)) s n ≡ total (λ t. length (found came t i)) s n =
+      search (arith, rules, total_same, found, found_kept) in
+      let all = no_more_from i later (s + n) in omega arith
+
+-- The run of the fabric from any slot on, slot by slot. At each slot the fabric agrees with an ideal switch, so what
+-- is known of one slot of that holds here too: its departures fit, it refuses the same cells, and a cell that waits
+-- leaves. The cells that the fabric holds, and those that are still to come, are no more than there is room for: in
+-- each list, in each buffer, and in the lists of departures and of transfers, as each admitted cell leaves once and
+-- crosses once. While a cell waits one leaves in each slot, so that the slots do not end before the cells, and there
+-- are no more slots with proposals than cells; and a slot has no more than twice the number of ports squared.
+
+proposals_more : (x : Figures) (r : SlotRecord) → (figures_after x r).proposals ≡ x.proposals + sum (proposals_in r)
+unfolding figures_after
+proposals_more x r = refl
+
+-- ## The loop
+
+-- a slot by which a run from this slot on is over
+abbrev pub over_by : List Arrival → ℕ → ℕ
+over_by came next = next + (end_of came - next) + length came
+
+-- what is known before a slot, where so many slots are left. Of a run to its end (`whole`) that are enough slots, and
+-- it was not over before.
+pub record Crossing (whole : Bool) (ms : List Machine) (came : List Arrival) (first : EngineView)
+    (first_sent : RoomView Departure) (first_note : RoomView Transfer) (slot n : ℕ) (now : EngineView)
+    (sent : RoomView Departure) (note : RoomView Transfer) : Type 0 where
+  pub ideal : Marked IdealState
+  pub agrees : LimitedAgrees slot (marked_fabric now) ideal
+  pub running : now.stopped ≡ false
+  pub next : now.next ≡ slot
+  pub made : IsMadeAs first now
+  pub ports : length now.fabric.inputs ≡ ports_of first
+  pub records : List LimitedRecord
+  pub long : first.next + length records ≡ slot
+  pub went : WentOn ms came first now first_sent sent first_note note records
+  pub lists : (i : ℕ) → i < ports_of first →
+      length (input now.fabric i) + come_from i came slot n ≤ slice_index first.from_inputs i
+  pub buffers : (j : ℕ) → j < ports_of first →
+      held_for j now.fabric + come_for j (arriving_from came slot n) ≤ slice_index first.to_outputs j
+  pub spare : waiting ideal.state.lists + come_count (arriving_from came slot n) + ports_of first ≤ sent.spare
+  pub room : at_inputs now.fabric (ports_of first) + come_count
+      (arriving_from came slot n) + 2 * ports_of first ≤ note.spare
+  pub proposed : now.figures.proposals + 8192 * (waiting ideal.state.lists + come_count
+      (arriving_from came slot n)) ≤ first.figures.proposals + 8192 * length came
+  pub many : length (refused_in (admissions_in records)) + come_count (arriving_from came slot n) ≤ length
+      (to_come first.next came)
+  pub few : whole ≡ true → waiting ideal.state.lists + come_count (arriving_from came slot n) + (end_of came - slot) ≤ n
+  pub going : whole ≡ true → (m : ℕ) (f : Marked Fabric) → m < length records → RanTo ms came first m records f →
+      end_of came ≤ first.next + m → IsEmptyFabric f.state → ⊥
+
+-- a later slot changes none of it either
+pub made_on : {first now after : EngineView} → IsMadeAs first now → IsMadeAs now after → IsMadeAs first after
+made_on was is = grind (arith, common_steps)
+
+-- the slot was done, and what left in it, which stood in a list of its own, stands behind what was sent
+pub record Passed (ms : List Machine) (slot : ℕ) (cells : List (Option Cell)) (now after : EngineView)
+    (leaving left sent sent_new : RoomView Departure) (note note_new : RoomView Transfer) : Type 0 where
+  pub done : SlotDone ms slot cells now after leaving left note note_new
+  pub put : HaveLeft slot done.record_of.of_slot.gone sent sent_new
+  pub went_on : HasGoneOn slot now after
+  pub running : after.stopped ≡ false
+  pub made : IsMadeAs now after
+
+-- what left in a slot
+pub left_here : {ms : List Machine} {slot : ℕ} {cells : List (Option Cell)} {now after : EngineView}
+    {leaving left : RoomView Departure} {note note_new : RoomView Transfer}
+    (done : SlotDone ms slot cells now after leaving left note note_new) →
+    HaveLeft slot done.record_of.of_slot.gone leaving left
+left_here done = record { items = done.departed; spare = done.departed_room }
+
+-- ## Before the first slot
+
+pub waiting-sum : (lists : List (List Queued)) → waiting lists ≡ sum (map length lists)
+unfolding waiting
+waiting-sum [] = refl
+waiting-sum (cells ∷ lists) = grind (arith, common_steps, sum_by-cons, waiting-sum lists)
+
+-- as many cells wait in the ideal switch as the fabric holds
+pub all_wait : (slot : ℕ) (f : Fabric) (ideal : IdealState) → Agrees slot f ideal →
+    waiting ideal.lists ≡ sum (fabric_held f)
+all_wait slot f ideal agrees =
+    waiting-sum ideal.lists ∙ ap (λ (l : List ℕ). sum l) (sym (hold_as_many slot f ideal agrees))
+
+inputs_joined : (lists : List (List Queued)) →
+    total (λ i. length (list_of lists i)) 0 (length lists) ≡ length (flat_map (λ (cells : List Queued). cells) lists)
+unfolding total
+inputs_joined [] = refl
+inputs_joined (cells ∷ lists) =
+    let next : total (λ i. length (list_of (cells ∷ lists) i)) (0 + 1) (length lists) ≡ total
+    (λ i. length (list_of lists i)) 0 (length lists) =
+    total_next (λ i. length (list_of (cells ∷ lists) i)) 0 (0 + 1) (length lists) refl in
+    let rest = inputs_joined lists in search (arith, rules, length-append)
+
+pub all_at_inputs : (f : Fabric) (p : ℕ) → length f.inputs ≡ p →
+    at_inputs f p ≡ length (flat_map (λ (cells : List Queued). cells) f.inputs)
+unfolding at_inputs
+all_at_inputs f p same = ap (λ (n : ℕ). total (λ i. length (input f i)) 0 n) (sym same) ∙ inputs_joined f.inputs
+
+pub crossing_first : (whole : Bool) (ms : List Machine) (came : List Arrival) (first : EngineView)
+    (sent : RoomView Departure) (note : RoomView Transfer) (n : ℕ) → IsReadyOn ms came first sent note →
+    (whole ≡ true → first.next + n ≡ over_by came first.next) →
+    Crossing whole ms came first sent note first.next n first sent note
+unfolding arriving_from departures_of transfers_of_run
+crossing_first whole ms came first sent note n ready slots =
+    let p = ports_of first in
+    let come = come_few first.next n came in
+    let wait : waiting (ideal_of first.fabric).lists ≡ sum (fabric_held first.fabric) =
+    all_wait first.next first.fabric (ideal_of first.fabric) (agrees_of first.next first.fabric ready.sound) in
+    record {
+      ideal = record { state = ideal_of first.fabric; marks = first.marks };
+      agrees = record { states = agrees_of first.next first.fabric ready.sound; marks = refl };
+      running = ready.running;
+      next = refl;
+      made = record { fixed = refl; limits = refl; from_inputs = refl; to_outputs = refl };
+      ports = ready.inputs;
+      records = [];
+      long = omega arith;
+      went = record {
+        runs = refl;
+        departed = sym (append-nil sent.items);
+        crossed = sym (append-nil note.items);
+        counted = refl;
+        refused = sym (none_counted first.refused);
+        limits = refl;
+        running = ready.running;
+      };
+      lists = λ i inside. let had = ready.lists i inside in let from = from_few first.next n came i in omega arith;
+      buffers = λ j inside. let had = ready.buffers j inside in let to = for_few first.next n came j in omega arith;
+      spare = omega arith;
+      room = let at = all_at_inputs first.fabric p ready.inputs in omega arith;
+      proposed = omega arith;
+      many = omega arith;
+      few = λ is. let all = slots is in omega arith;
+      going = λ is m f before run late empty. omega arith;
+    }
+
+-- ## A slot
+
+none_at : (f : Fabric) → IsEmptyFabric f → (i : ℕ) → length (input f i) ≡ 0
+none_at f empty i = grind (arith, common_steps, empty.inputs, get_or_past, cases_lt)
+
+-- one record more
+refused_more : (rs : List LimitedRecord) (r : LimitedRecord) →
+    refused_in (admissions_in (rs ++ r ∷ [])) ≡ refused_in (admissions_in rs) ++ r.admission.refused
+refused_more rs r = grind (arith, common_steps, map-append, one_slot_more)
+
+-- the slots so far and one more
+next_slots : (came : List Arrival) (a n slot k : ℕ) → a + n ≡ slot → k ≡ n + 1 →
+    arriving_from came a n ++ arriving came slot ∷ [] ≡ arriving_from came a k
+unfolding arriving_from
+next_slots came a n slot k at more = grind (arith, common_steps, map-range_with_len_more)
+
+-- those that are left, this one first
+slots_left : (came : List Arrival) (a n slot j k : ℕ) → a + n ≡ slot → k ≡ n + suc j →
+    arriving_from came a n ++ arriving came slot ∷ arriving_from came (slot + 1) j ≡ arriving_from came a k
+slots_left came a n slot j k at long = ap (λ (l : List (List (Option Cell))). arriving_from came a n ++ l)
+    (sym (arriving_here came slot j)) ∙ arriving_parts came a slot n (suc j) k (sym at) long
+
+empty_beside : (slot : ℕ) (f : Marked Fabric) (ideal : Marked IdealState) → LimitedAgrees slot f ideal →
+    waiting ideal.state.lists ≡ 0 → IsEmptyFabric f.state
+empty_beside slot f ideal agrees none =
+    (empty_together slot f.state ideal.state agrees.states).1 (nothing_left ideal.state.lists none)
+
+module _ {whole : Bool} {ms : List Machine} {came : List Arrival} {first : EngineView} {first_sent : RoomView Departure}
+    {first_note : RoomView Transfer} {slot n : ℕ} {now : EngineView} {sent : RoomView Departure}
+    {note : RoomView Transfer} (c : Crossing whole ms came first first_sent first_note slot n now sent note) where
+  -- where a cell is still to come or waits, a slot is left
+  pub crossing_left : whole ≡ true → (end_of came ≤ slot → IsEmptyFabric now.fabric → ⊥) → 0 < n
+  crossing_left is more = ⊎_elim (λ some. some) (λ none.
+      absurd (more (omega arith) (empty_beside slot (marked_fabric now) c.ideal c.agrees (omega arith)))) (cases_lt 0 n)
+
+  -- the run is not over before a slot, or at it
+  not_before : whole ≡ true → (end_of came ≤ slot → IsEmptyFabric now.fabric → ⊥) → (m : ℕ) (f : Marked Fabric) →
+      m ≤ length c.records → RanTo ms came first m c.records f → end_of came ≤ first.next + m →
+      IsEmptyFabric f.state → ⊥
+  not_before is more m f le run late empty =
+      ⊎_elim
+      (λ (before : m < length c.records). c.going is m f before run late empty)
+      (λ (now_or_later : length c.records ≤ m).
+      search (arith, rules, take_all m c.records now_or_later, only_limited_run ms first.limits))
+      (cases_lt m (length c.records))
+
+  -- ## The end of the loop
+
+  pub crossing_over : whole ≡ true → end_of came ≤ slot → IsEmptyFabric now.fabric →
+      HasRunOn ms came first now first_sent sent first_note note
+  crossing_over is late empty = grind (arith, common_steps, cases_lt)
+
+  -- a tag fault at the next slot stops the run, whatever comes behind it
+  pub crossing_fault : (fault : TagFault) (j count : ℕ) → slot + suc j ≡ first.next + count →
+      IsLimitedFault first.limits ms slot (arriving came slot) (marked_fabric now) fault →
+      StopsWithin ms came first count fault
+  crossing_fault fault j count long is =
+      let before = arriving_from came first.next (length c.records) in
+      let later = arriving_from came (slot + 1) j in
+      let so_far = arriving_length came first.next (length c.records) in
+      let at : slot ≡ first.next + length before = omega arith in
+      record {
+        records = c.records ++ [];
+        stops =
+            rw (slots_left came first.next (length c.records) slot j count c.long (omega arith)) at
+            ((all_go_on (LimitedFabricSlot IsInputBest first.limits ms) (IsLimitedFault first.limits ms)).stop
+            first.next
+            before (arriving came slot ∷ later) (marked_fabric first) (marked_fabric now) c.records [] fault c.went.runs
+            (subst (λ (k : ℕ). IsLimitedFault first.limits ms k (arriving came slot) (marked_fabric now) fault) at is));
+      }
+
+-- ## One slot more
+
+module _ {whole : Bool} {ms : List Machine} {came : List Arrival} {first : EngineView} {first_sent : RoomView Departure}
+    {first_note : RoomView Transfer} {slot n : ℕ} {now : EngineView} {sent : RoomView Departure}
+    {note : RoomView Transfer} (c : Crossing whole ms came first first_sent first_note slot (suc n) now sent note) where
+  pub crossing_next : {after : EngineView} {leaving left sent_new : RoomView Departure} {note_new : RoomView Transfer}
+      {classes : ℕ} → (whole ≡ true → end_of came ≤ slot → IsEmptyFabric now.fabric → ⊥) → ports_of first ≤ 64 →
+      AreForPorts (ports_of first) classes (arriving came slot) →
+      Passed ms slot (arriving came slot) now after leaving left sent sent_new note note_new →
+      Crossing whole ms came first first_sent first_note (slot + 1) n after sent_new note_new
+  crossing_next {after} {leaving} {left} {sent_new} {note_new} {classes} more few for_ports passed =
+      let cells = arriving came slot in
+      let p = ports_of first in
+      let f = marked_fabric now in
+      let g = marked_fabric after in
+      let done = passed.done in
+      let r = done.record_of in
+      let gone = departures_in slot r.of_slot.gone in
+      let admitted = r.admission.cells in
+      let ideal = c.ideal in
+      let step : LimitedFabricSlot IsInputBest first.limits ms slot cells f r g = rw c.went.limits at done.is_slot in
+      let stable = stable_limited_slot ms first.limits slot cells f g r step in
+      let come : AreForPorts (length now.fabric.inputs) classes cells = rw c.ports for_ports in
+      let alike = same_limited_slot first.limits ms slot classes cells f g ideal r c.agrees come stable in
+      let of_slot : LimitedSent = record { admission = r.admission; gone = r.of_slot.gone; after = alike.next } in
+      let here = come_here came slot n in
+      let o = of_admitted first.limits ms slot cells ideal of_slot alike.sent in
+      let k = counted ms slot admitted ideal.state o.sent o.ran in
+      let waits : waiting alike.next.state.lists ≡ waiting o.sent.after.lists =
+      ap (λ (s : IdealState). waiting s.lists) o.after in
+      let one_more = map-append (λ (r : LimitedRecord). r.of_slot) c.records (r ∷ []) in
+      let both = length-append c.records (r ∷ []) in
+      record {
+        ideal = alike.next;
+        agrees = alike.agrees;
+        running = passed.running;
+        next = passed.went_on.next;
+        made = made_on c.made passed.made;
+        ports = limited_ports_kept first.limits ms slot classes cells f g ideal r c.agrees come stable ∙ c.ports;
+        records = c.records ++ r ∷ [];
+        long = omega arith;
+        went = record {
+          runs =
+              let so_far = arriving_length came first.next (length c.records) in
+              let at : slot ≡ first.next + length (arriving_from came first.next (length c.records)) = omega arith in
+              rw (next_slots came first.next (length c.records) slot (length (c.records ++ r ∷ [])) c.long
+              (omega arith)) at
+              ((all_go_on (LimitedFabricSlot IsInputBest first.limits ms) (IsLimitedFault first.limits ms)).slot
+              first.next (arriving_from came first.next (length c.records)) cells (marked_fabric first) f g
+              c.records r c.went.runs
+              (subst (λ (k : ℕ). LimitedFabricSlot IsInputBest first.limits ms k cells f r g) at step));
+          departed =
+              let seen = length-map c.records (λ (r : LimitedRecord). r.of_slot) in
+              search (
+                arith,
+                rules,
+                append_assoc first_sent.items (departures_of first.next (gone_in (slots_in c.records))) gone,
+                departures_one slot r.of_slot,
+                departures_on (slots_in c.records) (r.of_slot ∷ []) first.next slot,
+              );
+          crossed = search (arith, rules, append_assoc, transfers_one, transfers_both);
+          counted = search (arith, rules, fold-append);
+          refused = search (
+            arith,
+            rules,
+            all_counted_both (refused_in (admissions_in c.records)) r.admission.refused first.refused,
+            refused_more c.records r,
+          );
+          limits = passed.made.limits ∙ c.went.limits;
+          running = passed.running;
+        };
+        lists =
+            let limited_lists_kept-here = limited_lists_kept first.limits ms slot cells f g r step in
+            let arrives_found-here = arrives_found came slot in search (arith, rules, c.lists, from_here, some_one);
+        buffers = search (arith, rules, for_here, limited_outputs_kept first.limits ms slot cells f g r step);
+        spare = search (arith, rules, waiting, come_count, present);
+        room = search (arith, rules, at_inputs, come_count, cross_few);
+        proposed =
+            let proposals_more-here = proposals_more now.figures r.of_slot in
+            let same : ports_of now ≡ p = ap (λ (l : List (List ℕ)). length l) c.made.fixed in
+            let square_few-here = square_few (ports_of now) (omega arith) in
+            let none_proposed-here = none_proposed ms slot admitted f.state g.state r.of_slot step.runs in
+            let none_at-here = none_at f.state in
+            let empty_beside-here = empty_beside slot f in search (arith, rules);
+        many = search (arith, rules, come_count, refused_more, length-append);
+        few = search (arith, rules, waiting, come_count, c.few, fewer_left, present, none_after, none_come);
+        going = λ is m h before run le empty.
+            let same = take-append-le m c.records (r ∷ []) (omega arith) in
+            search (arith, rules, not_before c is (more is) m h);
+      }
+
+-- Stretches of slots that the fabric skips. What is known before the first of them is known after each, as after any
+-- slot: none sends a cell, moves or refuses one, or changes a figure.
+
+quiet_gone : (ms : List Machine) (slot ports : ℕ) (ranks : List (List ℕ)) →
+    departures_in slot (quiet_slot ms slot ports ranks).gone ≡ []
+unfolding quiet_slot
+quiet_gone ms slot ports ranks = nobody_departs ports slot
+
+module _ {whole : Bool} {ms : List Machine} {came : List Arrival} {first : EngineView}
+    {first_sent sent : RoomView Departure} {first_note note : RoomView Transfer} (ports classes : ℕ)
+    (few : ports_of first ≤ 64) (for_ports : (t : ℕ) → AreForPorts (ports_of first) classes (arriving came t)) where
+  pub crossing_rest : (k slot n m : ℕ) (ranks : List (List ℕ)) (marks : List Bool) (now after : EngineView) →
+      m ≡ k + n → Crossing whole ms came first first_sent first_note slot m now sent note →
+      ((t : ℕ) → slot ≤ t → t < slot + k → arriving came t ≡ no_arrivals) →
+      (whole ≡ true → 0 < k → slot + k < end_of came) →
+      LimitedFabricRun IsInputBest now.limits ms slot (replicate k no_arrivals) (marked_fabric now)
+      (quiet_limited_slots ms k slot ports ranks marks) (marked_fabric after) →
+      after.figures ≡ now.figures → after.next ≡ slot + k → after.stopped ≡ false → after.refused ≡ now.refused →
+      IsMadeAs now after → Crossing whole ms came first first_sent first_note (slot + k) n after sent note
+  crossing_rest zero slot n m ranks marks now after left c quiet more ran figures next running refused made =
+      let there : slot ≡ slot + 0 = omega arith in
+      let is_next : now.next ≡ after.next = c.next ∙ there ∙ sym next in
+      let fabric : marked_fabric now ≡ marked_fabric after = sym ran in
+      let same : now ≡ after = λ e. record {
+        fixed = sym made.fixed e;
+        limits = sym made.limits e;
+        fabric = (fabric e).state;
+        marks = (fabric e).marks;
+        refused = sym refused e;
+        from_inputs = sym made.from_inputs e;
+        to_outputs = sym made.to_outputs e;
+        figures = sym figures e;
+        next = is_next e;
+        stopped = (c.went.running ∙ sym running) e;
+      } in
+      let count : m ≡ n = omega arith in rw (there, count, same) at c
+  crossing_rest (suc k) slot n m ranks marks now after left c quiet more ran figures next running refused made =
+      let r : LimitedRecord = quiet_limited_slot ms slot ports ranks marks in
+      let leave : departures_in slot r.of_slot.gone ≡ [] = quiet_gone ms slot ports ranks in
+      let cross : transfers_in r.of_slot ≡ [] = quiet_transfers ms slot ports ranks in
+      let none_leave = ap (λ (l : List Departure). length l) leave in
+      let none_cross = ap (λ (l : List Transfer). length l) cross in
+      let quiet_here : arriving came slot ≡ no_arrivals = quiet slot (omega arith) (omega arith) in
+      let middle : EngineView =
+      record now { fabric = ran.0.state; marks = ran.0.marks; next = slot + 1; stopped = false } in
+      let done : SlotDone ms slot no_arrivals now middle sent sent note note = record {
+        record_of = r;
+        is_slot = ran.1;
+        departed = sym (append-nil sent.items) ∙ ap (λ (l : List Departure). sent.items ++ l) (sym leave);
+        departed_room = omega arith;
+        crossed = sym (append-nil note.items) ∙ ap (λ (l : List Transfer). note.items ++ l) (sym cross);
+        crossed_room = omega arith;
+        counted = sym (quiet_figures ms slot ports ranks now.figures);
+        refused = sym (none_counted now.refused);
+      } in
+      let passed : Passed ms slot no_arrivals now middle sent sent sent sent note note =
+      record {
+        done = done;
+        put = left_here done;
+        went_on = record { next = refl; few = omega arith };
+        running = refl;
+        made = record { fixed = refl; limits = refl; from_inputs = refl; to_outputs = refl };
+      } in
+      let count : m ≡ suc (k + n) = omega arith in
+      let after_one : Crossing whole ms came first first_sent first_note (slot + 1) (k + n) middle sent note =
+      crossing_next (rw count at c) (λ is le empty. let some = more is (omega arith) in omega arith) few
+      (for_ports slot) (rw (← quiet_here) at passed) in
+      let there : slot + 1 + k ≡ slot + suc k = omega arith in
+      rw there at (crossing_rest k (slot + 1) n (k + n) (idled ms ports ranks) marks middle after refl after_one
+      (λ t from to. quiet t (omega arith) (omega arith)) (λ is pos. let some = more is (omega arith) in omega arith)
+      ran.2 figures (next ∙ sym there) running refused (search rules))
 
 pub goes_on : (b : Bool) (end slot : ℕ) (Empty : Type 0) → b ≡ false → (IsTrue b ↔ ((end ≤ slot) × Empty)) →
     end ≤ slot → Empty → ⊥
 goes_on b end slot Empty going iff le none = let over : b ≡ true = iff.1 (le, none) in let P : ⊥ = cc in P
 
 rank_err : (x : Result Ranking TagFault) (fault : TagFault) → Err fault ≡ answer_to x → x ≡ Err fault
-rank_err (Ok r) fault e = absurd (let P : ⊥ = cc in P)
-rank_err (Err other) fault e = let same : other ≡ fault = cc in ap (λ (f : TagFault). Err f) same
-
--- from where the engine stands a run to its end has few slots
-over_few : (came : List Arrival) (next : ℕ) → next < 2 ^ 63 → IsShort came → length came ≤ 2 ^ 34 →
-    over_by came next ≤ 2 ^ 63 + 2 ^ 36
-over_few came next early short few = grind (arith, common_steps, ends_early, over_by_is)
+rank_err x fault e = grind (arith, common_steps)
 
 -- where no slot is skipped nothing comes either
 pub quiet_if : {came : List Arrival} {slot next : ℕ} → slot ≤ next → (slot < next → IsQuiet came slot next) →
     IsQuiet came slot next
 quiet_if late is = grind (arith, common_steps)
-
-starts_in : (came : List Arrival) (next : ℕ) → next ≤ over_by came next
-starts_in came next = let over = over_by_is came next in omega arith
-
--- what the engine says of a slot that it has had
-pub record HasHad (ms : List Machine) (slot : ℕ) (cells : List (Option Cell)) (old new : EngineView)
-    (sent sent_new : RoomView Departure) (note note_new : RoomView Transfer) : Type 0 where
-  pub done : SlotDone ms slot cells old new sent sent_new note note_new
-  pub running : new.stopped ≡ false
-  pub next : new.next ≡ slot + 1
-  pub made : IsMadeAs old new
-
--- what left in a slot stands in a list of its own, and is taken over from there
-module _ {ms : List Machine} {slot ports : ℕ} {cells : List (Option Cell)} {old new : EngineView}
-    {leaving left : RoomView Departure} {note note_new : RoomView Transfer} (free : IsFree ports leaving)
-    (had : HasHad ms slot cells old new leaving left note note_new)
-  where
-    left_here : HaveLeft slot had.done.record_of.of_slot.gone leaving left
-    left_here = record { items = had.done.departed; spare = had.done.departed_room }
-
-    few_leave : length left.items ≤ ports
-    few_leave = few_left free left_here
-
-    pub emptied : {after : RoomView Departure} → after.items ≡ [] → after.spare ≡ left.spare + length left.items →
-        IsFree ports after
-    emptied none room = free_again free left_here none room
-
-    pub taken_over : {sent sent_new : RoomView Departure} → sent_new.items ≡ sent.items ++ left.items →
-        sent_new.spare + length left.items ≡ sent.spare →
-        Passed ms slot cells old new leaving left sent sent_new note note_new
-    taken_over items spare = record { done = had.done; put = left_with_all free left_here items spare }
 
 -- all that an engine asks for a slot, where what leaves is put into this list
 pub record CanRun (M : List ℕ → Machine) (slot : ℕ) (cells : List (Option Cell)) (now : EngineView)
@@ -104,148 +472,30 @@ pub record Stands (whole : Bool) (end : ℕ) (M : List ℕ → Machine) (came : 
 never : {X : Type 0} → false ≡ true → X
 never is = absurd (let P : ⊥ = cc in P)
 
-module _ (whole : Bool) (end : ℕ) (M : List ℕ → Machine) (came : List Arrival) (first : EngineView)
-    (first_sent : RoomView Departure) (first_note : RoomView Transfer)
-    (ready : IsReadyOn (map M first.fixed) came first first_sent first_note) (few : end ≤ 2 ^ 63 + 2 ^ 36) where
-  abbrev Before : ℕ → EngineView → RoomView Departure → RoomView Transfer → Type 0
-  Before slot now sent note =
-      Crossing whole (map M first.fixed) came first first_sent first_note slot (end - slot) now sent note
+-- a stretch is skipped
+module _ {whole : Bool} {end : ℕ} (M : List ℕ → Machine) {came : List Arrival} {first : EngineView}
+    {first_sent sent : RoomView Departure} {first_note note : RoomView Transfer} {slot next : ℕ} {now new : EngineView}
+    (ready : IsReadyOn (map M first.fixed) came first first_sent first_note)
+    (b : Crossing whole (map M first.fixed) came first first_sent first_note slot (end - slot) now sent note)
+    (late : slot ≤ next) (within : next ≤ end)
+    (quiet : (t : ℕ) → slot ≤ t → t < next → arriving came t ≡ no_arrivals)
+    (to_come : whole ≡ true → slot < next → next < end_of came)
+    (rested : HasRested (map M now.fixed) slot next now new) where
+  ran : LimitedFabricRun IsInputBest now.limits (map M first.fixed) slot (replicate (next - slot) no_arrivals)
+      (marked_fabric now) (quiet_limited_slots (map M first.fixed) (next - slot) slot
+      (ports_of now) now.fabric.ranks now.marks) (marked_fabric new)
+  ran = grind (arith, common_steps)
 
-  at_first : first.next ≤ end → (whole ≡ true → end ≡ over_by came first.next) →
-      Before first.next first first_sent first_note
-  at_first le slots = grind (arith, common_steps, crossing_first)
-
-  -- of a run to its end
-  a_slot_left : (slot : ℕ) (now : EngineView) (sent : RoomView Departure) (note : RoomView Transfer) →
-      Before slot now sent note → whole ≡ true → (end_of came ≤ slot → IsEmptyFabric now.fabric → ⊥) → slot < end
-  a_slot_left slot now sent note b is more =
-      let some = crossing_left whole (map M first.fixed) came first first_sent first_note slot (end - slot) now sent
-      note b is more in
-      omega arith
-
-  module _ (slot : ℕ) (now : EngineView) (sent : RoomView Departure) (note : RoomView Transfer)
-      (b : Before slot now sent note) (more : whole ≡ true → end_of came ≤ slot → IsEmptyFabric now.fabric → ⊥)
-      (some : slot < end) where
-    left : ℕ
-    left = end - (slot + 1)
-
-    one_more : end - slot ≡ suc left
-    unfolding left
-    one_more = omega arith
-
-    b_next : Crossing whole (map M first.fixed) came first first_sent first_note slot (suc left) now sent note
-    b_next = grind (arith, common_steps, Crossing, one_more)
-
-    early : slot < 2 ^ 64 - 1
-    early = omega arith
-
-    same_ports : length now.fixed ≡ length first.fixed
-    same_ports = ap (λ (l : List (List ℕ)). length l) b.made.fixed
-
-    for_ports : AreForPorts (length first.fixed) (class_count (map M first.fixed)) (arriving came slot)
-    for_ports = arrivals_for (length first.fixed) (class_count (map M first.fixed)) came slot ready.traffic
-
-    arrivals_fit : (cells : List (Option Cell)) → cells ≡ arriving came slot →
-        AreForPorts (length now.fixed) (class_count (map M now.fixed)) cells
-    arrivals_fit cells are = grind (arith, common_steps, for_ports)
-
-    list_room : (cells : List (Option Cell)) → cells ≡ arriving came slot → HaveListRoom cells now
-    list_room cells are i cell at =
-        let there : arrival_at (arriving came slot) i ≡ Some cell = search (arith, rules) in
-        let inside : i < length first.fixed = for_ports.inputs i cell there in
-        let had = b_next.lists i inside in
-        let from = from_here i came slot left in
-        let comes = arrives_found came slot i in search (arith, rules, one_if)
-
-    buffer_room : (cells : List (Option Cell)) → cells ≡ arriving came slot → HaveBufferRoom cells now
-    buffer_room cells are j within =
-        let ports = same_ports in
-        let inside : j < length first.fixed = omega arith in
-        let had = b_next.buffers j inside in search (arith, rules, for_here)
-
-    sent_room : length now.fixed ≤ sent.spare
-    sent_room = let ports = same_ports in omega arith
-
-    can_refuse : CanCount (ports_of now) now.refused
-    can_refuse =
-        let most : ports_of first ≤ 64 = ready.ports in
-        let lost = refused_in (admissions_in b.records) in
-        let room : CanCount (ports_of first + length lost) first.refused = search (arith, rules) in
-        search (arith, rules, counts_fit lost (ports_of first) (length lost) first.refused room)
-
-    can_run : (cells : List (Option Cell)) → cells ≡ arriving came slot → (leaving : RoomView Departure) →
-        length now.fixed ≤ leaving.spare → CanRun M slot cells now leaving note
-    can_run cells are leaving room = search (rules, arrivals_fit, list_room, buffer_room, can_refuse)
-
-    at_next : (cells : List (Option Cell)) (after : EngineView) (leaving leaving_new sent_new : RoomView Departure)
-        (note_new : RoomView Transfer) → cells ≡ arriving came slot →
-        HasHad (map M now.fixed) slot cells now after leaving leaving_new note note_new →
-        Passed (map M now.fixed) slot cells now after leaving leaving_new sent sent_new note note_new →
-        Before (slot + 1) after sent_new note_new
-    unfolding left
-    at_next cells after leaving leaving_new sent_new note_new are had passed =
-        crossing_next whole (map M first.fixed) came first first_sent first_note slot left now sent note after
-        sent_new note_new (class_count (map M first.fixed)) b_next more ready.ports for_ports
-        (subst (λ (fixed : List (List ℕ)). Passed (map M fixed) slot (arriving came slot) now after leaving
-        leaving_new sent sent_new note note_new) b.made.fixed (subst (λ (cells : List (Option Cell)).
-        Passed (map M now.fixed) slot cells now after leaving leaving_new sent sent_new note note_new) are
-        passed)) had.running had.next had.made
-
-    at_fault : (cells : List (Option Cell)) (fault : TagFault) (j count : ℕ) → slot + suc j ≡ first.next + count →
-        cells ≡ arriving came slot →
-        Err fault ≡ answer_to (ranking (map M now.fixed) slot 0 (its_admission cells now).cells now.fabric.ranks) →
-        StopsWithin (map M first.fixed) came first count fault
-    at_fault cells fault j count long are answer =
-        crossing_fault whole (map M first.fixed) came first first_sent first_note slot (end - slot) now sent note fault
-        j
-        count b long
-        (ap (λ (limits : List (Option ℕ)). ranking (map M first.fixed) slot 0 (fabric_admission limits
-        (arriving came slot) (marked_fabric now)).cells now.fabric.ranks) (sym b.went.limits)
-        ∙ ap (λ (fixed : List (List ℕ)). ranking (map M fixed) slot 0 (its_admission
-        (arriving came slot) now).cells now.fabric.ranks) (sym b.made.fixed)
-        ∙ ap (λ (l : List (Option Cell)). ranking (map M now.fixed) slot 0
-        (its_admission l now).cells now.fabric.ranks) (sym are)
-        ∙ rank_err (ranking (map M now.fixed) slot 0 (its_admission cells now).cells now.fabric.ranks) fault answer)
-
-  -- a stretch is skipped
-  module _ (slot next : ℕ) (now new : EngineView) (sent : RoomView Departure) (note : RoomView Transfer)
-      (b : Before slot now sent note) (late : slot ≤ next) (within : next ≤ end)
-      (quiet : (t : ℕ) → slot ≤ t → t < next → arriving came t ≡ no_arrivals)
-      (to_come : whole ≡ true → slot < next → next < end_of came)
-      (rested : HasRested (map M now.fixed) slot next now new) where
-    ran : LimitedFabricRun IsInputBest now.limits (map M first.fixed) slot (replicate (next - slot) no_arrivals)
-        (marked_fabric now) (quiet_limited_slots (map M first.fixed) (next - slot) slot
-        (ports_of now) now.fabric.ranks now.marks) (marked_fabric new)
-    ran = grind (arith, common_steps)
-
-    at_rest : Before next new sent note
-    at_rest =
-        let left : end - slot ≡ next - slot + (end - next) = omega arith in
-        let there : slot + (next - slot) ≡ next = omega arith in
-        let classes = class_count (map M first.fixed) in
-        subst (λ (t : ℕ).
-        Crossing whole (map M first.fixed) came first first_sent first_note t (end - next) new sent note)
-        there (crossing_rest whole (map M first.fixed) came first first_sent sent first_note note (length now.fixed)
-        classes ready.ports (λ t. arrivals_for (length first.fixed) classes came t ready.traffic) (next - slot)
-        slot (end - next) (end - slot) now.fabric.ranks now.marks now new left b
-        (λ t from to. quiet t from (omega arith))
-        (λ is some. let before = to_come is (omega arith) in omega arith) ran rested.figures
-        (rested.next ∙ sym there) rested.running rested.refused (record {
-          fixed = rested.fixed;
-          limits = rested.limits;
-          from_inputs = rested.from_inputs;
-          to_outputs = rested.to_outputs;
-        }))
-
-  at_end : (slot : ℕ) (now : EngineView) (sent : RoomView Departure) (note : RoomView Transfer) →
-      Before slot now sent note → whole ≡ true → end_of came ≤ slot → IsEmptyFabric now.fabric →
-      HasRunOn (map M first.fixed) came first now first_sent sent first_note note
-  at_end slot now sent note b is le empty = grind (arith, common_steps, crossing_over)
-
-  at_last : (slot : ℕ) (now : EngineView) (sent : RoomView Departure) (note : RoomView Transfer) →
-      Before slot now sent note → slot ≡ end →
-      HasPartedTo (map M first.fixed) came end first now first_sent sent first_note note
-  at_last slot now sent note b is = grind (arith, common_steps)
+  at_rest : Crossing whole (map M first.fixed) came first first_sent first_note next (end - next) new sent note
+  at_rest =
+      let left : end - slot ≡ next - slot + (end - next) = omega arith in
+      let there : slot + (next - slot) ≡ next = omega arith in
+      let classes = class_count (map M first.fixed) in
+      rw there at (crossing_rest (length now.fixed) classes ready.ports
+      (λ t. arrivals_for (length first.fixed) classes came t ready.traffic) (next - slot) slot (end - next)
+      (end - slot) now.fabric.ranks now.marks now new left b (λ t from to. quiet t from (omega arith))
+      (λ is some. let before = to_come is (omega arith) in omega arith) ran rested.figures
+      (rested.next ∙ sym there) rested.running rested.refused (search rules))
 
 -- ## Where a run stands
 
@@ -253,41 +503,82 @@ module _ {whole : Bool} {end : ℕ} {M : List ℕ → Machine} {came : List Arri
     {first_sent : RoomView Departure} {first_note : RoomView Transfer} {slot : ℕ} {now : EngineView}
     {sent : RoomView Departure} {note : RoomView Transfer}
     (here : Stands whole end M came first first_sent first_note slot now sent note) where
+  abbrev rest : ℕ
+  rest = end - (slot + 1)
+
+  c_next : Crossing whole (map M first.fixed) came first first_sent first_note slot (suc rest) now sent note
+  c_next = let one_more : end - slot ≡ suc rest = omega arith in rw one_more at here.crossing
+
+  early : slot < 2 ^ 64 - 1
+  early = omega arith
+
+  same_ports : length now.fixed ≡ length first.fixed
+  same_ports = ap (λ (l : List (List ℕ)). length l) here.crossing.made.fixed
+
+  for_ports : AreForPorts (length first.fixed) (class_count (map M first.fixed)) (arriving came slot)
+  for_ports = arrivals_for (length first.fixed) (class_count (map M first.fixed)) came slot here.ready.traffic
+
+  list_room : (cells : List (Option Cell)) → cells ≡ arriving came slot → HaveListRoom cells now
+  list_room cells are i cell at =
+      let there : arrival_at (arriving came slot) i ≡ Some cell = search (arith, rules) in
+      let inside : i < length first.fixed = for_ports.inputs i cell there in
+      let had = c_next.lists i inside in
+      let from = from_here i came slot rest in
+      let comes = arrives_found came slot i in search (arith, rules, one_if)
+
+  buffer_room : (cells : List (Option Cell)) → cells ≡ arriving came slot → HaveBufferRoom cells now
+  buffer_room cells are j within =
+      let ports = same_ports in
+      let inside : j < length first.fixed = omega arith in
+      let had = c_next.buffers j inside in search (arith, rules, for_here)
+
+  can_refuse : CanCount (ports_of now) now.refused
+  can_refuse =
+      let most : ports_of first ≤ 64 = here.ready.ports in
+      let lost = refused_in (admissions_in here.crossing.records) in
+      let room : CanCount (ports_of first + length lost) first.refused = search (arith, rules) in
+      search (arith, rules, counts_fit lost (ports_of first) (length lost) first.refused room)
+
   -- each output can send a cell
   pub room_here : length now.fixed ≤ sent.spare
-  room_here = grind (arith, common_steps, sent_room)
+  room_here = search (arith, rules, same_ports)
 
   -- a list that is free has a place for each of them
   pub places_here : {leaving : RoomView Departure} → IsFree (length first.fixed) leaving →
       length now.fixed ≤ leaving.spare
-  places_here free = let same = ap (λ (l : List (List ℕ)). length l) here.crossing.made.fixed in omega arith
+  places_here free = let same = same_ports in omega arith
 
   -- and the departures of the run can take over what leaves there
   pub can_take_over : {cells : List (Option Cell)} {after : EngineView} {leaving left : RoomView Departure}
       {note_new : RoomView Transfer} → IsFree (length first.fixed) leaving →
-      HasHad (map M now.fixed) slot cells now after leaving left note note_new → length left.items ≤ sent.spare
-  can_take_over free had = grind (arith, common_steps, few_leave, room_here)
+      SlotDone (map M now.fixed) slot cells now after leaving left note note_new → length left.items ≤ sent.spare
+  can_take_over free done = search (arith, rules, room_here, few_left, left_here)
 
   -- the slot finds all that it asks for
   pub can_run_here : (cells : List (Option Cell)) → cells ≡ arriving came slot → (leaving : RoomView Departure) →
       length now.fixed ≤ leaving.spare → CanRun M slot cells now leaving note
-  can_run_here = search (rules, can_run)
+  can_run_here cells are leaving room = search (arith, rules, list_room, buffer_room, can_refuse, for_ports)
 
   -- once it is run, the run stands at the next one
   pub next_here : (cells : List (Option Cell)) (after : EngineView) {leaving left : RoomView Departure}
       (sent_new : RoomView Departure) (note_new : RoomView Transfer) → cells ≡ arriving came slot →
-      HasHad (map M now.fixed) slot cells now after leaving left note note_new →
       Passed (map M now.fixed) slot cells now after leaving left sent sent_new note note_new →
       Crossing whole (map M first.fixed) came first first_sent first_note (slot + 1) (end - (slot + 1)) after sent_new
       note_new
-  next_here cells after {leaving} {left} = search (rules, at_next)
+  next_here cells after {leaving} {left} sent_new note_new are passed =
+      crossing_next c_next here.more here.ready.ports for_ports
+      (subst (λ (fixed : List (List ℕ)). Passed (map M fixed) slot (arriving came slot) now after leaving left sent
+      sent_new note note_new) here.crossing.made.fixed (rw are at passed))
 
   -- and a tag fault of the slot is one at which the run stops
   pub fault_here : (cells : List (Option Cell)) (fault : TagFault) (j count : ℕ) → slot + suc j ≡ first.next + count →
       cells ≡ arriving came slot →
       Err fault ≡ answer_to (ranking (map M now.fixed) slot 0 (its_admission cells now).cells now.fabric.ranks) →
       StopsWithin (map M first.fixed) came first count fault
-  fault_here = search (rules, at_fault)
+  fault_here cells fault j count long are answer =
+      let e =
+      rank_err (ranking (map M now.fixed) slot 0 (its_admission cells now).cells now.fabric.ranks) fault answer in
+      crossing_fault here.crossing fault j count long (cc)
 
 -- ## A run to its end
 
@@ -298,10 +589,10 @@ module _ (M : List ℕ → Machine) {came : List Arrival} {first : EngineView} {
       (over_by came first.next - slot) now sent note
 
   few_all : over_by came first.next ≤ 2 ^ 63 + 2 ^ 36
-  few_all = over_few came first.next ready.early ready.short ready.few
+  few_all = search (arith, rules, early, enough_are)
 
   pub run_begins : Runs first.next first first_sent first_note
-  run_begins = grind (arith, common_steps, at_first, over_by, few_all, starts_in)
+  run_begins = grind (arith, common_steps, crossing_first)
 
   -- quiet slots are skipped
   module _ {slot : ℕ} {now : EngineView} {sent : RoomView Departure} {note : RoomView Transfer}
@@ -311,15 +602,13 @@ module _ (M : List ℕ → Machine) {came : List Arrival} {first : EngineView} {
         HasRested (map M now.fixed) slot next now new →
         Stands true (over_by came first.next) M came first first_sent first_note next new sent note
     run_stands {next} {new} more quiet rested =
-        let end = over_by came first.next in
         let still : true ≡ true → end_of came ≤ slot → IsEmptyFabric now.fabric → ⊥ = λ _. more in
-        let some : slot < over_by came first.next =
-        a_slot_left true end M came first first_sent first_note ready few_all slot now sent note runs refl more in
-        search (arith, rules, at_rest, few_all)
+        let left = crossing_left runs refl more in
+        let some : slot < over_by came first.next = omega arith in search (arith, rules, at_rest, few_all)
 
     pub run_ends : (end_of came ≤ slot) × IsEmptyFabric now.fabric →
         HasRunOn (map M first.fixed) came first now first_sent sent first_note note
-    run_ends over = grind (arith, common_steps, at_end, over_by, few_all)
+    run_ends over = crossing_over runs refl over.0 over.1
 
 -- ## A run up to a slot
 
@@ -334,7 +623,7 @@ module _ (M : List ℕ → Machine) {came : List Arrival} {last : ℕ} {first : 
   few_slots = omega arith
 
   pub part_begins : Parts first.next first first_sent first_note
-  part_begins = grind (arith, common_steps, at_first, few_slots, never)
+  part_begins = grind (arith, common_steps, crossing_first, never)
 
   module _ {slot : ℕ} {now : EngineView} {sent : RoomView Departure} {note : RoomView Transfer}
       (parts : Parts slot now sent note) where
@@ -342,10 +631,10 @@ module _ (M : List ℕ → Machine) {came : List Arrival} {last : ℕ} {first : 
     pub part_rests : {next : ℕ} {new : EngineView} → slot ≤ last → slot ≤ next →
         (slot < next → (next ≤ last) × NoneCome came slot next) →
         HasRested (map M now.fixed) slot next now new → Parts next new sent note × (next ≤ last)
-    part_rests {next} before late skipped rested = grind (arith, common_steps, cases_lt, at_rest, few_slots, never)
+    part_rests {next} before late skipped rested = grind (arith, common_steps, cases_lt, at_rest, never)
 
     pub part_stands : slot < last → Stands false last M came first first_sent first_note slot now sent note
     part_stands some = grind (arith, common_steps, few_slots, never)
 
     pub part_ends : slot ≡ last → HasPartedTo (map M first.fixed) came last first now first_sent sent first_note note
-    part_ends = grind (arith, common_steps, at_last, few_slots)
+    part_ends = search (arith, rules, few_slots)

@@ -1,41 +1,306 @@
 -- Of each flow the cells that a sound state names, those that were sent and then those that wait, are the arrivals
 -- that it names before its next slot, in their order. Both lists rise by the slots in which their cells arrived, and
 -- have the same cells: of a flow there arrives one cell in a slot at most.
-use Rattle.std.proofs.lemmas.Grind.{common_steps}
-use Rattle.std.proofs.Common.{rules, ◌≡◌, ◌≢◌, ℕ, ◌<◌, ◌≤◌, Bool, true, false, List, [], ◌∷◌, ◌++◌, length, map, filter, Option, Some, None, refl, sym, ap, ◌∙◌, subst, inl, inr, ⊎_elim, arith}
-use Rattle.std.specs.Prelude.{◌&&◌, ◌==◌, All, option_map}
-use Rattle.std.specs.List.{AllByRecursion, AllPairs, cons_option, filter_map, list_any}
-use Rattle.std.proofs.lemmas.Bool.{and_from, and_parts, cases_Bool, cases_lt, eq-eqb, eqb-true, lt-ltb, ltb-true, or_left, or_right, true≢false}
-use Rattle.std.proofs.lemmas.List.Elements.{recursion_from_All}
+-- What waits for an output in a sound state stands there as in a run: in the order of the keys, each cell with the
+-- level of its class and a rank below the floor, and each arrived in an earlier slot.
+use Rattle.cq_simulate.proofs.Terms.{common_steps, rules, map-append, ◌≡◌, ◌≢◌, ℕ, ◌<◌, Bool, true, false, List, [], ◌∷◌, ◌++◌, length, map, filter, Option, Some, refl, sym, ap, ◌∙◌, subst, inl, ⊎_elim, arith, ◌⊎◌, ◌+◌, ◌≤◌, not, cond, inr, fold, ◌&&◌, ◌==◌, All, option_map, slice_index_or, nat_lt, if◌then◌else◌, AllByRecursion, AllPairs, filter_map, list_any, and_from, and_parts, cases_Bool, cases_lt, eq-eqb, eqb-true, lt-ltb, ltb-true, or_left, or_right, true≢false, cases_eq, cond-false, cond-true, le-ltb, ne_eqb, Arrival, EachCell, IsBefore, Departure, Queued, IsLater, IsTraffic, comes_in_flow, leaves_in_flow, left_in_flow, is_kind, shown, HasWaited, Stands, line_at, is_from_on, rest_of, Agrees, Fabric, IsAmong, buffer, input, ideal_of, list_of, departure_of, sent_told, firsts_at, is_refused, latest, IsSound, OfOneFlow, IsBelowFloor, AllNamed, AreWholePackets, NoneNamed, HasShape, Switch, HasLimit, arriving_cell, class_of, fabric_told, is_ahead, is_named, key_of, named_in, output_of, queued_in, queued_of, list_told, class_in, packet_before, EachPair, each_pair, buffer_is, comes, found_at, has_of_among, in_buffer, in_list, in_order, is_cell_of, its_output, its_slot, list_is, of_traffic, ports_are, queued_differ, queued_named, some_cell, Has, all_from_has, all_of_has, has_cases, has_image, has_kept, has_left, has_right, image_has, kept_has, pair_of_has, IsInRange, Sent, State, NoLater, all_weaker, Machine, machine_at, recursion_from_All, AreOfPackets, all_both, of_images}
+use Rattle.std.proofs.lemmas.Simd.{map-map}
 use Rattle.cq_base.proofs.Keys.{key_laws}
-use Rattle.cq_base.specs.Arriving.{Arrival}
-use Rattle.cq_base.specs.Cells.{EachPair as EachCell, IsBefore}
-use Rattle.cq_base.specs.declared.cell.Cell.{Cell}
-use Rattle.cq_base.specs.declared.cell.Departure.{Departure}
-use Rattle.cq_base.specs.declared.cell.Queued.{Queued}
-use Rattle.cq_cells.specs.Traffic.{IsLater, IsTraffic}
-use Rattle.cq_ideal.specs.Flows.{comes_in_flow, leaves_in_flow, left_in_flow}
-use Rattle.cq_ideal.proofs.FlowStands.{is_kind, shown}
-use Rattle.cq_ideal.proofs.RestAtInput.{cells_of, line_at}
-use Rattle.cq_laws.specs.Agreement.{Agrees}
-use Rattle.cq_laws.specs.Fabric.{Fabric, IsAmong, buffer, input}
-use Rattle.cq_laws.specs.Frozen.{ideal_of}
+use Rattle.cq_ideal.proofs.RestAtInput.{cells_of}
 use Rattle.cq_laws.specs.Places.{HasFor}
-use Rattle.cq_prefs.specs.FirstCells.{list_of}
-use Rattle.cq_resume.specs.Counted.{departure_of, sent_told}
-use Rattle.cq_resume.specs.Sound.{IsSound, OfOneFlow}
-use Rattle.cq_resume.specs.Switch.{HasShape, Switch}
-use Rattle.cq_resume.specs.Told.{arriving_cell, class_of, fabric_told, is_ahead, is_named, key_of, named_in, output_of, queued_in, queued_of, list_told, class_in}
-use Rattle.cq_resume.proofs.Chained.{EachPair, each_pair}
-use Rattle.cq_resume.proofs.Each.{all_both}
-use Rattle.cq_resume.proofs.GoesOn.{buffer_is, comes, found_at, has_of_among, in_buffer, in_list, in_order, is_cell_of, its_output, its_slot, list_is, of_traffic, ports_are, queued_differ, queued_named, some_cell}
-use Rattle.cq_resume.proofs.Having.{Has, all_from_has, all_of_has, has_cases, has_image, has_kept, has_left, has_right, image_has, kept_has, pair_of_has}
 use Rattle.cq_resume.proofs.Pooled.{looked_up, pairs_kept, pairs_looked_up, pairs_with}
-use Rattle.cq_state.specs.State.{IsInRange}
 use Rattle.cq_state.specs.declared.state.Named.{Named}
-use Rattle.cq_state.specs.declared.state.Sent.{Sent}
-use Rattle.cq_state.specs.declared.state.State.{State}
-use Rattle.cq_simulate.proofs.NamedPackets.{IsEarlier, early_of, is_early}
+use Rattle.cq_base.specs.declared.key.Key.{Key}
+
+-- Which packets of an input a run that goes on from a sound state has taken. Of those that began before the next slot
+-- the state says it, with one answer for all cells that arrived; of the others the run does. Where a packet goes on
+-- over the slot both say the same: it is the last that began, and the mark of the input is up exactly where the state
+-- does not name it.
+
+-- The arrivals at one input, packet after packet, and a part of them. The number of a packet is no less than those of
+-- the packets ahead of it, and the first cell of each is there. And the last of some arrivals, by slot, is no earlier
+-- than any of them.
+
+abbrev pub packet : Arrival → ℕ
+packet a = a.cell.id.packet
+
+-- the number from which packets begin behind these cells
+unfoldable pub next_after : ℕ → List Arrival → ℕ
+next_after n [] = n
+next_after n (a ∷ line) = next_after (packet a + 1) line
+
+-- both parts are of packets, the second from there on
+pub of_parts : (n : ℕ) (xs ys : List Arrival) → AreOfPackets n (cells_of (xs ++ ys)) →
+    AreOfPackets n (cells_of xs) × AreOfPackets (next_after n xs) (cells_of ys)
+unfolding next_after
+of_parts n [] ys are = (tt, are)
+of_parts n (x ∷ xs) ys are = let rest = of_parts (packet x + 1) xs ys are.1 in ((are.0, rest.0), rest.1)
+
+-- no number is below that from which they begin
+pub at_least : (m n : ℕ) (xs : List Arrival) → m ≤ n → AreOfPackets n (cells_of xs) →
+    AllByRecursion (λ a. m ≤ packet a + 1) xs
+at_least m n [] le are = tt
+at_least m n (x ∷ xs) le are = grind (arith, common_steps, at_least m (packet x + 1) xs)
+
+-- and each is below that from which the next one begins
+pub below : (n : ℕ) (xs : List Arrival) → AreOfPackets n (cells_of xs) →
+    (n ≤ next_after n xs) × AllByRecursion (λ a. packet a + 1 ≤ next_after n xs) xs
+unfolding next_after
+below n [] are = (omega arith, tt)
+below n (x ∷ xs) are = let rest = below (packet x + 1) xs are.1 in (grind (arith, common_steps), rest)
+
+-- slots and packets rise together
+abbrev pub Rises : Arrival → Arrival → Type 0
+Rises x y = (x.slot < y.slot) × (packet x ≤ packet y)
+
+pub both_rise : (n : ℕ) (xs : List Arrival) → EachPair (λ x y. x.slot < y.slot) xs → AreOfPackets n (cells_of xs) →
+    EachPair Rises xs
+both_rise n [] rising are = tt
+both_rise n (x ∷ xs) rising are =
+    let on = at_least (packet x + 1) (packet x + 1) xs (omega arith) are.1 in
+    grind (arith, common_steps, all_from_has, all_of_has, both_rise (packet x + 1) xs rising.1 are.1)
+
+-- the first cell of a packet
+pub record Begins (xs : List Arrival) (a : Arrival) : Type 0 where
+  pub first : Arrival
+  pub has : Has xs first
+  pub begins : first.cell.id.index ≡ 0
+  pub own : packet first ≡ packet a
+
+begun_or_on : (n : ℕ) (xs : List Arrival) → AreOfPackets n (cells_of xs) → (a : Arrival) → Has xs a →
+    Begins xs a ⊎ (packet a + 1 ≡ n)
+begun_or_on n [] are a has = absurd has
+begun_or_on n (x ∷ xs) are a has =
+    let here : packet x ≡ packet a → Begins (x ∷ xs) a ⊎ (packet a + 1 ≡ n) = search (arith, rules, eqb-true) in
+    ⊎_elim (λ same. here (ap packet same)) (λ more.
+    ⊎_elim (λ it. inl (record { first = it.first; has = inr it.has; begins = it.begins; own = it.own }))
+    (λ (on : packet a + 1 ≡ packet x + 1). let own : packet x ≡ packet a = omega arith in here own)
+    (begun_or_on (packet x + 1) xs are.1 a more)) has
+
+pub begun : (xs : List Arrival) → AreOfPackets 0 (cells_of xs) → (a : Arrival) → Has xs a → Begins xs a
+begun xs are a has = ⊎_elim (λ it. it) (λ (none : packet a + 1 ≡ 0). absurd (omega arith)) (begun_or_on 0 xs are a has)
+
+-- ## The last by slot
+
+abbrev later_one : Arrival → Arrival → Arrival
+later_one a b = if nat_lt a.slot b.slot then b else a
+
+-- of two it is one, and neither is later
+record IsLaterOne (a b v : Arrival) : Type 0 where
+  pub one : (v ≡ a) ⊎ (v ≡ b)
+  pub first : a.slot ≤ v.slot
+  pub second : b.slot ≤ v.slot
+
+later_is : (a b : Arrival) → IsLaterOne a b (later_one a b)
+later_is a b = grind (arith, common_steps, lt-ltb, le-ltb, cases_lt)
+
+pub record IsLatest (xs : List Arrival) (g : Arrival) : Type 0 where
+  pub has : Has xs g
+  pub after : (y : Arrival) → Has xs y → y.slot ≤ g.slot
+
+same_slot : {x y : Arrival} → x ≡ y → x.slot ≡ y.slot
+same_slot same = ap (λ (a : Arrival). a.slot) same
+
+latest_on : (x : Arrival) (xs : List Arrival) → IsLatest (x ∷ xs) (fold later_one x xs)
+latest_on x [] = grind (arith, common_steps, same_slot)
+latest_on x (z ∷ zs) =
+    let v = later_one x z in
+    let later : IsLaterOne x z v = later_is x z in
+    let it : IsLatest (v ∷ zs) (fold later_one v zs) = latest_on v zs in
+    let most : v.slot ≤ (fold later_one v zs).slot = it.after v (inl refl) in search (arith, rules, same_slot)
+
+pub latest_is : (xs : List Arrival) (y : Arrival) → Has xs y → (g : Arrival) × (latest xs ≡ Some g) × IsLatest xs g
+latest_is [] y has = absurd has
+latest_is (x ∷ xs) y has = (fold later_one x xs, refl, latest_on x xs)
+
+-- ## Before a slot, and from it on
+
+abbrev pub is_early : ℕ → Arrival → Bool
+is_early next a = nat_lt a.slot next
+
+abbrev pub early_of : ℕ → List Arrival → List Arrival
+early_of next line = filter (is_early next) line
+
+abbrev pub IsEarlier : Arrival → Arrival → Type 0
+IsEarlier a b = a.slot < b.slot
+
+-- behind one that is not early none is
+late_only : (next : ℕ) (line : List Arrival) → AllByRecursion (λ a. next ≤ a.slot) line →
+    (early_of next line ≡ []) × (rest_of next line ≡ line)
+late_only next [] late = (refl, refl)
+late_only next (a ∷ line) late =
+    let rest = late_only next line late.1 in
+    (grind (arith, common_steps, cond-false, le-ltb), search (rules, cond-true, is_from_on, rest_of, le-ltb))
+
+pub parted_at : (next : ℕ) (line : List Arrival) → EachPair IsEarlier line →
+    line ≡ early_of next line ++ rest_of next line
+parted_at next [] rising = refl
+parted_at next (a ∷ line) rising = ⊎_elim (λ early.
+    let rest = parted_at next line rising.1 in grind (arith, common_steps, lt-ltb)) (λ late.
+    let all = all_weaker (λ (b : Arrival). a.slot < b.slot) (λ (b : Arrival). next ≤ b.slot) (λ b l. omega arith) line
+    rising.0 in
+    let only = late_only next line all in grind (arith, common_steps, le-ltb)) (cases_lt a.slot next)
+
+-- ## By number
+
+module _ (named : Arrival → Bool) (taken : ℕ → Bool) where
+  -- whether a packet is named, if one of these cells is of it, and otherwise whether it is taken
+  unfoldable pub named_or_taken : List Arrival → ℕ → Bool
+  named_or_taken [] p = taken p
+  named_or_taken (a ∷ line) p = cond (packet a == p) (named a) (named_or_taken line p)
+
+  pub as_named : (line : List Arrival) →
+      ((a b : Arrival) → Has line a → Has line b → packet a ≡ packet b → named a ≡ named b) → (b : Arrival) →
+      Has line b → named_or_taken line (packet b) ≡ named b
+  unfolding named_or_taken
+  as_named [] alike b has = absurd has
+  as_named (a ∷ line) alike b has =
+      grind (arith, common_steps, packet, cond-true, eq-eqb, cond-false, ne_eqb, cases_eq, as_named line)
+
+  pub as_taken : (line : List Arrival) (p : ℕ) →
+      ((a : Arrival) → Has line a → packet a ≡ p → named a ≡ taken p) → named_or_taken line p ≡ taken p
+  unfolding named_or_taken
+  as_taken [] p same = refl
+  as_taken (a ∷ line) p same = grind (arith, common_steps, as_taken line p)
+
+-- ## What a sound state says
+
+-- what holds of all holds of what the list has
+pub each_has : {X : Type 0} (P : X → Type 0) (xs : List X) (x : X) → All P xs → Has xs x → P x
+each_has P xs x all has = all_of_has P xs x (recursion_from_All P xs all) has
+
+any_has : {X : Type 0} (p : X → Bool) (xs : List X) (x : X) → Has xs x → p x ≡ true → list_any p xs ≡ true
+any_has p [] x has is = absurd has
+any_has p (z ∷ zs) x has is = grind (arith, common_steps, or_left, or_right, any_has p zs x)
+
+has_any : {X : Type 0} (p : X → Bool) (xs : List X) → list_any p xs ≡ true → (x : X) × Has xs x × (p x ≡ true)
+has_any p [] holds = absurd (let clash : false ≡ true = holds in let P : ⊥ = cc in P)
+has_any p (z ∷ zs) holds = grind (arith, common_steps, cases_Bool, has_any p zs)
+
+-- one passes where all are alike, and there is one
+any_alike : (named : Arrival → Bool) (t : Bool) (xs : List Arrival) (x : Arrival) → Has xs x →
+    ((y : Arrival) → Has xs y → named y ≡ t) → list_any named xs ≡ t
+any_alike named true xs x has alike = any_has named xs x has (alike x has)
+any_alike named false xs x has alike = ⊎_elim (λ holds.
+    let it = has_any named xs holds in absurd (true≢false (sym it.2 ∙ alike it.0 it.1))) (λ none. none)
+    (cases_Bool (list_any named xs))
+
+module _ (w : Switch) (s : State) (i : ℕ) (whole : AreWholePackets w s)
+    (rising : EachPair IsEarlier (line_at i w.came)) (packets : AreOfPackets 0 (cells_of (line_at i w.came))) where
+  abbrev pub line : List Arrival
+  line = line_at i w.came
+
+  abbrev pub before : List Arrival
+  before = early_of s.head.next line
+
+  abbrev pub behind : List Arrival
+  behind = rest_of s.head.next line
+
+  abbrev pub is_told : Arrival → Bool
+  is_told a = is_named (named_in s) a
+
+  -- the number from which packets begin from the slot on
+  abbrev pub begin_from : ℕ
+  begin_from = next_after 0 before
+
+  packets_parted : AreOfPackets 0 (cells_of before) × AreOfPackets begin_from (cells_of behind)
+  packets_parted = of_parts 0 before behind (rw (parted_at s.head.next line rising) at packets)
+
+  pub packets_behind : AreOfPackets begin_from (cells_of behind)
+  packets_behind = packets_parted.1
+
+  -- what an arrival of the first part is
+  record OfLine (a : Arrival) : Type 0 where
+    pub came : Has w.came a
+    pub input : a.cell.id.input ≡ i
+    pub early : a.slot < s.head.next
+
+  of_line : (a : Arrival) → Has before a → OfLine a
+  of_line a has = grind (arith, common_steps, kept_has, eqb-true, ltb-true)
+
+  to_line : (a : Arrival) → OfLine a → Has before a
+  to_line a of = grind (arith, common_steps, has_kept, eq-eqb, lt-ltb)
+
+  -- a cell of the same packet that came before the slot is among those of which the state is asked
+  in_packet : (f a : Arrival) → OfLine f → OfLine a → packet f ≡ packet a → Has (packet_before w.came s.head.next f) a
+  in_packet f a first of same = search (rules, has_kept, and_from, a.cell.id.input, packet, eq-eqb, lt-ltb)
+
+  -- and all of those are named, or none is
+  abbrev OneAnswer : Arrival → Type 0
+  OneAnswer f = (a : Arrival) → Has (packet_before w.came s.head.next f) a → is_told a ≡ is_told f
+
+  one_answer : (f : Arrival) → Has before f → f.cell.id.index ≡ 0 → OneAnswer f
+  one_answer f has begins =
+      let first = of_line f has in
+      let all = packet_before w.came s.head.next f in
+      let own : Has all f = in_packet f f first first refl in
+      let said = each_has (λ (a : Arrival). a.cell.id.index ≡ 0 → a.slot < s.head.next
+      → AllNamed s (packet_before w.came s.head.next a)
+      ⊎ (NoneNamed s (packet_before w.came s.head.next a) × HasLimit w.limits a.cell.output)) w.came f whole first.came
+      begins first.early in
+      ⊎_elim (λ yes_ a among.
+      let is = each_has (λ (b : Arrival). is_told b ≡ true) all in is a yes_ among ∙ sym (is f yes_ own))
+      (λ none a among.
+      let is = each_has (λ (b : Arrival). is_told b ≡ false) all in is a none.0 among ∙ sym (is f none.0 own)) said
+
+  pub alike : (a b : Arrival) → Has before a → Has before b → packet a ≡ packet b → is_told a ≡ is_told b
+  alike a b first second same =
+      let it = begun before packets_parted.0 a first in
+      let f = it.first in
+      let answers = one_answer f it.has it.begins in search (arith, rules, of_line, in_packet)
+
+  rise : EachPair Rises before
+  rise = both_rise 0 before (pairs_kept IsEarlier (is_early s.head.next) line rising) packets_parted.0
+
+  -- the packet that goes on is named exactly where the mark is down
+  pub mark_says : (a : Arrival) → Has before a → packet a + 1 ≡ begin_from →
+      not (is_refused w.came s (latest (firsts_at w.came s i))) ≡ is_told a
+  mark_says a has last =
+      let it = begun before packets_parted.0 a has in
+      let f = it.first in
+      let head = of_line f it.has in
+      let is_begin : Arrival → Bool = λ x. x.cell.id.input == i && x.cell.id.index == 0 && nat_lt x.slot s.head.next in
+      let there : Has (firsts_at w.came s i) f = search (arith, rules, has_kept, and_from, eq-eqb, lt-ltb) in
+      let found = latest_is (firsts_at w.came s i) f there in
+      let g = found.0 in
+      let kept = kept_has is_begin w.came g found.2.has in
+      let most = and_parts (g.cell.id.input == i && g.cell.id.index == 0) (nat_lt g.slot s.head.next) kept.1 in
+      let first = and_parts (g.cell.id.input == i) (g.cell.id.index == 0) most.0 in
+      let of_g : OfLine g =
+      let early = ltb-true g.slot s.head.next most.1 in
+      record { came = kept.0; input = eqb-true g.cell.id.input i first.0; early = early } in
+      let g_has : Has before g = to_line g of_g in
+      let later : f.slot ≤ g.slot = found.2.after f there in
+      let own : packet f ≡ packet a = it.own in
+      let high : packet g + 1 ≤ begin_from = all_of_has _ before g (below 0 before packets_parted.0).1 g_has in
+      let low : packet f ≤ packet g = search (arith, rules, packet, pair_of_has, rise) in
+      let any_alike-here = any_alike is_told (is_told g) (packet_before w.came s.head.next g) g in
+      let in_packet-here = in_packet g g of_g of_g refl in
+      let one_answer-here = one_answer g g_has in
+      let alike-here = alike g a g_has has in
+      search (arith, rules)
+
+  -- ## Together
+
+  module _ (taken : ℕ → Bool)
+      (goes_on : (p : ℕ) → p + 1 ≡ begin_from →
+      taken p ≡ not (is_refused w.came s (latest (firsts_at w.came s i)))) where
+    abbrev pub is_taken : ℕ → Bool
+    is_taken = named_or_taken is_told taken before
+
+    pub taken_before : AllByRecursion (λ a. is_taken (packet a) ≡ is_told a) before
+    taken_before = grind (arith, common_steps, all_from_has, packet, as_named, alike)
+
+    pub taken_behind : AllByRecursion (λ b. is_taken (packet b) ≡ taken (packet b)) behind
+    taken_behind =
+        all_from_has (λ (b : Arrival). is_taken (packet b) ≡ taken (packet b)) behind (λ b has.
+        let from : begin_from ≤ packet b + 1 =
+        all_of_has _ behind b (at_least begin_from begin_from behind (omega arith) packets_behind) has in
+        as_taken is_told taken before (packet b) (λ a first same.
+        let high : packet a + 1 ≤ begin_from = all_of_has _ before a (below 0 before packets_parted.0).1 first in
+        let last : packet a + 1 ≡ begin_from = omega arith in
+        let this : packet b + 1 ≡ begin_from = omega arith in
+        sym (mark_says a first last) ∙ sym (goes_on (packet b) this)))
 
 -- ## Arrivals that rise by slot
 
@@ -55,27 +320,26 @@ same_rising (x ∷ xs) (y ∷ ys) up rising to from =
 arrival_is : (a b : Arrival) → a.slot ≡ b.slot → a.cell ≡ b.cell → a ≡ b
 arrival_is a b e g = λ k. record { slot = e k; cell = g k }
 
+-- those that pass a test, of which more is known
+pairs_kept_with : {X : Type 0} (R S : X → X → Type 0) (p : X → Bool) →
+    ((x y : X) → p x ≡ true → p y ≡ true → R x y → S x y) → (xs : List X) → EachPair R xs → EachPair S (filter p xs)
+pairs_kept_with {X} R S p gives xs pairs = pairs_with R S (λ (x : X). p x ≡ true) gives (filter p xs)
+    (all_from_has _ (filter p xs) (λ x has. (kept_has p xs x has).1)) (pairs_kept R p xs pairs)
+
 -- the arrivals at an input rise
 pub line_rises : (came : List Arrival) → AllPairs IsLater came → (i : ℕ) → EachPair IsEarlier (line_at i came)
 line_rises came later i =
     let at : Arrival → Bool = λ a. a.cell.id.input == i in
-    pairs_with IsLater IsEarlier (λ (a : Arrival). a.cell.id.input ≡ i)
-    (λ a b first second rises. rises (first ∙ sym second)) (line_at i came)
-    (all_from_has (λ (a : Arrival). a.cell.id.input ≡ i) (line_at i came)
-    (λ a has. eqb-true a.cell.id.input i (kept_has at came a has).1))
-    (pairs_kept IsLater at came (each_pair IsLater came later))
+    pairs_kept_with IsLater IsEarlier at (λ a b first second rises.
+    rises (eqb-true a.cell.id.input i first ∙ sym (eqb-true b.cell.id.input i second))) came
+    (each_pair IsLater came later)
 
 -- ## Lists
-
-all_mapped : {X Y : Type 0} (f : X → Y) (P : Y → Type 0) (xs : List X) → AllByRecursion (λ x. P (f x)) xs →
-    AllByRecursion P (map f xs)
-all_mapped f P [] all = tt
-all_mapped f P (x ∷ xs) all = (all.0, all_mapped f P xs all.1)
 
 pairs_mapped : {X Y : Type 0} (f : X → Y) (R : Y → Y → Type 0) (xs : List X) → EachPair (λ a b. R (f a) (f b)) xs →
     EachPair R (map f xs)
 pairs_mapped f R [] pairs = tt
-pairs_mapped f R (x ∷ xs) pairs = (all_mapped f (R (f x)) xs pairs.0, pairs_mapped f R xs pairs.1)
+pairs_mapped f R (x ∷ xs) pairs = (of_images f (R (f x)) xs pairs.0, pairs_mapped f R xs pairs.1)
 
 pairs_joined : {X : Type 0} (R : X → X → Type 0) (xs ys : List X) → EachPair R xs → EachPair R ys →
     ((x y : X) → Has xs x → Has ys y → R x y) → EachPair R (xs ++ ys)
@@ -83,42 +347,24 @@ pairs_joined R [] ys first second across = second
 pairs_joined R (x ∷ xs) ys first second across =
     grind (arith, common_steps, all_both, all_from_has, pairs_joined R xs ys first.1 second)
 
-pairs_of_cells : (R : Queued → Queued → Type 0) (xs : List Queued) → EachCell R xs → EachPair R xs
+pub pairs_of_cells : (R : Queued → Queued → Type 0) (xs : List Queued) → EachCell R xs → EachPair R xs
 pairs_of_cells R [] pairs = tt
 pairs_of_cells R (x ∷ xs) pairs = (pairs.0, pairs_of_cells R xs pairs.1)
 
 pub among_of_has : (xs : List Queued) (q : Queued) → Has xs q → IsAmong q xs
 among_of_has [] q has = absurd has
-among_of_has (x ∷ xs) q (inl same) = inl same
-among_of_has (x ∷ xs) q (inr rest) = inr (among_of_has xs q rest)
+among_of_has (x ∷ xs) q has = grind (arith, common_steps, among_of_has xs q)
 
 has_looked_up : {A B : Type 0} (f : A → Option B) (xs : List A) (x : A) (y : B) → Has xs x → f x ≡ Some y →
     Has (filter_map f xs) y
 has_looked_up f [] x y has is = absurd has
-has_looked_up {A} {B} f (z ∷ zs) x y (inl same) is =
-    let there : Has (cons_option (Some y) (filter_map f zs)) y = inl refl in
-    subst (λ (o : Option B). Has (cons_option o (filter_map f zs)) y) (sym (ap f same ∙ is)) there
-has_looked_up {A} {B} f (z ∷ zs) x y (inr rest) is = by (f z) (has_looked_up f zs x y rest is)
-  where
-    by : (o : Option B) → Has (filter_map f zs) y → Has (cons_option o (filter_map f zs)) y
-    by None has = has
-    by (Some v) has = inr has
-
-any_has : {X : Type 0} (p : X → Bool) (xs : List X) (x : X) → Has xs x → p x ≡ true → list_any p xs ≡ true
-any_has p [] x has is = absurd has
-any_has p (z ∷ zs) x (inl same) is = or_left (p z) (list_any p zs) (ap p same ∙ is)
-any_has p (z ∷ zs) x (inr rest) is = or_right (p z) (list_any p zs) (any_has p zs x rest is)
-
-has_any : {X : Type 0} (p : X → Bool) (xs : List X) → list_any p xs ≡ true → (x : X) × Has xs x × (p x ≡ true)
-has_any p [] holds = absurd (let clash : false ≡ true = holds in let P : ⊥ = cc in P)
-has_any p (z ∷ zs) holds = grind (arith, common_steps, cases_Bool, has_any p zs)
+has_looked_up f (z ∷ zs) x y has is = grind (arith, common_steps, has_looked_up f zs x y)
 
 -- the cell that departs, and where
 departs : (d : Sent) (o : Option Queued) (x : Departure) →
     option_map (λ q. let y : Departure = record { slot = d.slot; output = q.cell.output; queued = q } in y) o ≡ Some x →
     (o ≡ Some x.queued) × (x.output ≡ x.queued.cell.output)
-departs d None x is = absurd (let P : ⊥ = cc is in P)
-departs d (Some q) x is = grind (arith, common_steps)
+departs d o x is = grind (arith, common_steps)
 
 -- ## One flow
 
@@ -126,51 +372,48 @@ departs d (Some q) x is = grind (arith, common_steps)
 abbrev pub as_arrival : Queued → Arrival
 as_arrival q = record { slot = q.key.slot; cell = q.cell }
 
-waiting_cells : (ys : List Queued) → map (λ (q : Queued). q.cell) ys ≡ cells_of (map as_arrival ys)
-waiting_cells [] = refl
-waiting_cells (q ∷ ys) = ap (λ (l : List Cell). q.cell ∷ l) (waiting_cells ys)
-
 both_cells : (xs : List Departure) (ys : List Queued) →
     map (λ (d : Departure). d.queued.cell) xs ++ map (λ (q : Queued). q.cell) ys
     ≡ cells_of (map as_arrival (map (λ (d : Departure). d.queued) xs ++ ys))
-both_cells [] ys = waiting_cells ys
-both_cells (d ∷ xs) ys = ap (λ (l : List Cell). d.queued.cell ∷ l) (both_cells xs ys)
+both_cells xs ys = simp (map-append, map-map)
 
--- a cell that waits for an output is named, and its name tells it
+none_later : (xs : List Queued) → EachCell IsBefore xs → EachCell NoLater xs
+none_later [] rising = tt
+none_later (x ∷ xs) rising = (
+  all_weaker (IsBefore x) (NoLater x) (λ y before. key_laws.one_way x.key y.key before) xs
+      rising.0,
+  none_later xs rising.1,
+)
+
 module _ (w : Switch) (s : State) (in_range : IsInRange s) (shape : HasShape w s) (sound : IsSound w s)
     (traffic : IsTraffic (length w.machines) w.classes w.came)
     (agrees : Agrees s.head.next (fabric_told w.came s) (ideal_of (fabric_told w.came s))) (j : ℕ) where
-  abbrev pub its_fabric : Fabric
-  its_fabric = fabric_told w.came s
+  abbrev t : Named → Option Queued
+  t n = queued_of w.came n
 
-  abbrev pub for_output : List Queued
-  for_output = list_of (ideal_of its_fabric).lists j
+  abbrev pub f : Fabric
+  f = fabric_told w.came s
 
+  abbrev pub there : List Queued
+  there = list_of (ideal_of f).lists j
+
+  -- a cell that waits for an output is named, and its name tells it
   pub record WaitsThere (q : Queued) : Type 0 where
     pub name : Named
     pub has : Has (queued_in s) name
     pub is : queued_of w.came name ≡ Some q
     pub output : q.cell.output ≡ j
 
-  pub waits_there : (q : Queued) → Has for_output q → WaitsThere q
+  pub waits_there : (q : Queued) → Has there q → WaitsThere q
   waits_there q has =
       ⊎_elim
-      (λ (at : (k : ℕ) × IsAmong q (input its_fabric k) × (q.cell.output ≡ j)).
-      let it = in_list w s in_range shape sound traffic at.0 q (has_of_among (input its_fabric at.0) q at.1) in
+      (λ (at : (k : ℕ) × IsAmong q (input f k) × (q.cell.output ≡ j)).
+      let it = in_list w s in_range shape sound traffic at.0 q (has_of_among (input f at.0) q at.1) in
       record { name = it.name; has = has_left s.listed s.buffered it.name it.has; is = it.is; output = at.2 })
-      (λ (at : IsAmong q (buffer its_fabric j)).
-      let it = in_buffer w s in_range shape sound traffic j q (has_of_among (buffer its_fabric j) q at) in
+      (λ (at : IsAmong q (buffer f j)).
+      let it = in_buffer w s in_range shape sound traffic j q (has_of_among (buffer f j) q at) in
       record { name = it.name; has = has_right s.listed s.buffered it.name it.has; is = it.is; output = it.here })
-      ((agrees.same j q).0 (among_of_has for_output q has))
-
-module _ (w : Switch) (s : State) (in_range : IsInRange s) (shape : HasShape w s) (sound : IsSound w s)
-    (traffic : IsTraffic (length w.machines) w.classes w.came) (i c j : ℕ)
-    (agrees : Agrees s.head.next (fabric_told w.came s) (ideal_of (fabric_told w.came s))) where
-  abbrev t : Named → Option Queued
-  t n = queued_of w.came n
-
-  abbrev pub f : Fabric
-  f = fabric_told w.came s
+      ((agrees.same j q).0 (among_of_has there q has))
 
   abbrev pub next : ℕ
   next = s.head.next
@@ -181,275 +424,276 @@ module _ (w : Switch) (s : State) (in_range : IsInRange s) (shape : HasShape w s
   abbrev pub named : Arrival → Bool
   named a = is_named names a
 
-  abbrev leaves : Departure → Bool
-  leaves d = leaves_in_flow i c j d
+  module _ (i c : ℕ) where
+    abbrev leaves : Departure → Bool
+    leaves d = leaves_in_flow i c j d
 
-  abbrev pub there : List Queued
-  there = list_of (ideal_of f).lists j
+    -- the cells of the flow that were sent, and those that wait
+    abbrev gone : List Queued
+    gone = map (λ (d : Departure). d.queued) (filter leaves (sent_told w.came s))
 
-  -- the cells of the flow that were sent, and those that wait
-  abbrev gone : List Queued
-  gone = map (λ (d : Departure). d.queued) (filter leaves (sent_told w.came s))
+    abbrev waiting : List Queued
+    waiting = filter (is_kind i c) there
 
-  abbrev waiting : List Queued
-  waiting = filter (is_kind i c) there
+    -- a named cell of the flow
+    record InFlow (n : Named) (q : Queued) : Type 0 where
+      pub is : t n ≡ Some q
+      pub output : q.cell.output ≡ j
+      pub kind : is_kind i c q ≡ true
 
-  -- a named cell of the flow
-  record InFlow (n : Named) (q : Queued) : Type 0 where
-    pub is : t n ≡ Some q
-    pub output : q.cell.output ≡ j
-    pub kind : is_kind i c q ≡ true
+    record WasSent (q : Queued) : Type 0 where
+      pub sent : Sent
+      pub has : Has s.sent sent
+      pub of : InFlow sent.cell q
 
-  record WasSent (q : Queued) : Type 0 where
-    pub sent : Sent
-    pub has : Has s.sent sent
-    pub of : InFlow sent.cell q
+    sent_in_flow : (d : Sent) (x : Departure) → departure_of w.came d ≡ Some x → leaves x ≡ true →
+        InFlow d.cell x.queued
+    sent_in_flow d x is passes = grind (arith, common_steps, departs, and_parts, x.output, is_kind, eqb-true)
 
-  record Waits (q : Queued) : Type 0 where
-    pub name : Named
-    pub has : Has (queued_in s) name
-    pub of : InFlow name q
+    was_sent : (q : Queued) → Has gone q → WasSent q
+    was_sent q has = grind (arith, common_steps, image_has, kept_has, looked_up, sent_in_flow)
 
-  sent_in_flow : (d : Sent) (x : Departure) → departure_of w.came d ≡ Some x → leaves x ≡ true →
-      InFlow d.cell x.queued
-  sent_in_flow d x is passes = grind (arith, common_steps, departs, and_parts, x.output, is_kind, eqb-true)
+    waits : (q : Queued) → Has waiting q → (n : Named) × Has (queued_in s) n × InFlow n q
+    waits q has =
+        let kept = kept_has (is_kind i c) there q has in
+        let it = waits_there q kept.0 in
+        (it.name, it.has, record { is = it.is; output = it.output; kind = kept.1 })
 
-  was_sent : (q : Queued) → Has gone q → WasSent q
-  was_sent q has = grind (arith, common_steps, image_has, kept_has, looked_up, sent_in_flow)
+    -- what its name is
+    record NameInFlow (n : Named) : Type 0 where
+      pub input : n.input ≡ i
+      pub output : output_of w.came n ≡ j
+      pub class : class_of w.came n ≡ c
 
-  waits : (q : Queued) → Has waiting q → Waits q
-  waits q has =
-      let kept = kept_has (is_kind i c) there q has in
-      search (arith, rules, waits_there w s in_range shape sound traffic agrees j q kept.0)
+    name_in_flow : (n : Named) (q : Queued) → InFlow n q → NameInFlow n
+    name_in_flow n q of =
+        let tests = and_parts (q.cell.id.input == i) (q.cell.class == c) of.kind in
+        record {
+          input =
+              sym (of_traffic w s in_range shape sound traffic n q of.is).input ∙ eqb-true q.cell.id.input i tests.0;
+          output = its_output w s in_range shape sound traffic n q of.is ∙ of.output;
+          class = ap class_in (is_cell_of w.came n q of.is).arrives ∙ eqb-true q.cell.class c tests.1;
+        }
 
-  -- what its name is
-  record NameInFlow (n : Named) : Type 0 where
-    pub input : n.input ≡ i
-    pub output : output_of w.came n ≡ j
-    pub class : class_of w.came n ≡ c
+    one_flow : (m n : Named) (q r : Queued) → InFlow m q → InFlow n r → OfOneFlow w.came m n
+    one_flow m n q r first second = let a = name_in_flow m q first in search (arith, rules, name_in_flow n r second)
 
-  name_in_flow : (n : Named) (q : Queued) → InFlow n q → NameInFlow n
-  name_in_flow n q of =
-      let tests = and_parts (q.cell.id.input == i) (q.cell.class == c) of.kind in
-      record {
-        input =
-            sym (of_traffic w s in_range shape sound traffic n q of.is).input ∙ eqb-true q.cell.id.input i tests.0;
-        output = its_output w s in_range shape sound traffic n q of.is ∙ of.output;
-        class = ap class_in (is_cell_of w.came n q of.is).arrives ∙ eqb-true q.cell.class c tests.1;
-      }
+    slot_is : (n : Named) (q : Queued) → InFlow n q → q.key.slot ≡ n.slot
+    slot_is n q of = its_slot w s in_range shape sound traffic n q of.is
 
-  one_flow : (m n : Named) (q r : Queued) → InFlow m q → InFlow n r → OfOneFlow w.came m n
-  one_flow m n q r first second = let a = name_in_flow m q first in search (arith, rules, name_in_flow n r second)
+    -- ## They rise
 
-  slot_is : (n : Named) (q : Queued) → InFlow n q → q.key.slot ≡ n.slot
-  slot_is n q of = its_slot w s in_range shape sound traffic n q of.is
+    abbrev Earlier : Queued → Queued → Type 0
+    Earlier q r = q.key.slot < r.key.slot
 
-  -- ## They rise
+    -- of two departures of the flow
+    abbrev EarlierThere : Departure → Departure → Type 0
+    EarlierThere x y = leaves x ≡ true → leaves y ≡ true → Earlier x.queued y.queued
 
-  abbrev Earlier : Queued → Queued → Type 0
-  Earlier q r = q.key.slot < r.key.slot
+    abbrev InTurn : Sent → Sent → Type 0
+    InTurn d e = OfOneFlow w.came d.cell e.cell → d.cell.slot < e.cell.slot
 
-  -- of two departures of the flow
-  abbrev EarlierThere : Departure → Departure → Type 0
-  EarlierThere x y = leaves x ≡ true → leaves y ≡ true → Earlier x.queued y.queued
+    gone_rise : EachPair Earlier gone
+    gone_rise = pairs_mapped (λ (d : Departure). d.queued) Earlier (filter leaves (sent_told w.came s))
+        (pairs_kept_with EarlierThere (λ (x y : Departure). Earlier x.queued y.queued) leaves
+        (λ x y first second turn. turn first second) (sent_told w.came s)
+        (pairs_looked_up (departure_of w.came) InTurn EarlierThere
+        (λ d e x y turn one two first second. search (arith, rules, sent_in_flow, one_flow, slot_is)) s.sent
+        (each_pair InTurn s.sent sound.flows.sent)))
 
-  abbrev InTurn : Sent → Sent → Type 0
-  InTurn d e = OfOneFlow w.came d.cell e.cell → d.cell.slot < e.cell.slot
+    -- of two that wait the first arrived first
+    abbrev Ahead : Named → Named → Type 0
+    Ahead a b = OfOneFlow w.came a b → a.slot < b.slot → is_ahead a b ≡ true
 
-  gone_rise : EachPair Earlier gone
-  gone_rise = pairs_mapped (λ (d : Departure). d.queued) Earlier (filter leaves (sent_told w.came s))
-      (pairs_with EarlierThere (λ (x y : Departure). Earlier x.queued y.queued) (λ (d : Departure). leaves d ≡ true)
-      (λ x y first second turn. turn first second) (filter leaves (sent_told w.came s)) (all_from_has
-      (λ (d : Departure). leaves d ≡ true) (filter leaves (sent_told w.came s)) (λ d has.
-      (kept_has leaves (sent_told w.came s) d has).1)) (pairs_kept EarlierThere leaves (sent_told w.came s)
-      (pairs_looked_up (departure_of w.came) InTurn EarlierThere
-      (λ d e x y turn one two first second. search (arith, rules, sent_in_flow, one_flow, slot_is)) s.sent
-      (each_pair InTurn s.sent sound.flows.sent))))
+    ahead : (a b : Named) → Has (queued_in s) a → Has (queued_in s) b → Ahead a b
+    ahead a b first second =
+        each_has (Ahead a) (queued_in s) b
+        (each_has (λ (m : Named). All (Ahead m) (queued_in s)) (queued_in s) a sound.flows.queued first) second
 
-  -- of two that wait the first arrived first
-  abbrev Ahead : Named → Named → Type 0
-  Ahead a b = OfOneFlow w.came a b → a.slot < b.slot → is_ahead a b ≡ true
+    one_name : (a b : Named) → Has (queued_in s) a → Has (queued_in s) b → a.slot ≡ b.slot → a.input ≡ b.input → a ≡ b
+    one_name a b first second slots inputs = grind (arith, common_steps, pair_of_has, queued_differ)
 
-  ahead : (a b : Named) → Has (queued_in s) a → Has (queued_in s) b → Ahead a b
-  ahead a b first second =
-      let each = all_of_has (λ (m : Named). All (Ahead m) (queued_in s)) (queued_in s) a
-      (recursion_from_All (λ (m : Named). All (Ahead m) (queued_in s)) (queued_in s) sound.flows.queued) first in
-      all_of_has (Ahead a) (queued_in s) b (recursion_from_All (Ahead a) (queued_in s) each) second
+    waits_earlier : (q r : Queued) → Has waiting q → Has waiting r → IsBefore q r → Earlier q r
+    waits_earlier q r first second before =
+        let a = waits q first in
+        let b = waits r second in
+        let low = slot_is a.0 q a.2 in
+        let high = slot_is b.0 r b.2 in
+        let back : r.key.slot < q.key.slot → IsBefore r q = λ less. search (arith, rules, in_order, ahead, one_flow) in
+        let same : q.key.slot ≡ r.key.slot → q ≡ r = λ slots.
+        let inputs = (name_in_flow a.0 q a.2).input ∙ sym (name_in_flow b.0 r b.2).input in
+        let names = one_name a.0 b.0 a.1 b.1 (omega arith) inputs in cc in
+        let one_way = key_laws.one_way q.key r.key before in
+        let never = key_laws.never_itself r.key in grind (arith, common_steps, back, same, cases_lt)
 
-  one_name : (a b : Named) → Has (queued_in s) a → Has (queued_in s) b → a.slot ≡ b.slot → a.input ≡ b.input → a ≡ b
-  one_name a b first second slots inputs = grind (arith, common_steps, pair_of_has, queued_differ)
+    waiting_rise : EachPair Earlier waiting
+    waiting_rise = pairs_with IsBefore Earlier (λ (q : Queued). Has waiting q) waits_earlier waiting
+        (all_from_has _ waiting (λ q has. has))
+        (pairs_kept IsBefore (is_kind i c) there (pairs_of_cells IsBefore there (agrees.rising j)))
 
-  waits_earlier : (q r : Queued) → Has waiting q → Has waiting r → IsBefore q r → Earlier q r
-  waits_earlier q r first second before =
-      let a = waits q first in
-      let b = waits r second in
-      let m = a.name in
-      let n = b.name in
-      let low : q.key.slot ≡ m.slot = slot_is m q a.of in
-      let high : r.key.slot ≡ n.slot = slot_is n r b.of in
-      ⊎_elim (λ less. less)
-      (λ (no_less : r.key.slot ≤ q.key.slot).
-      ⊎_elim
-      (λ (more : r.key.slot < q.key.slot).
-      let turned : n.slot < m.slot = omega arith in
-      let back : IsBefore r q = search (arith, rules, in_order, ahead, one_flow) in
-      absurd (true≢false (sym back ∙ key_laws.one_way q.key r.key before)))
-      (λ (no_more : q.key.slot ≤ r.key.slot).
-      let slots : m.slot ≡ n.slot = omega arith in
-      let inputs : m.input ≡ n.input = (name_in_flow m q a.of).input ∙ sym (name_in_flow n r b.of).input in
-      let same : m ≡ n = one_name m n a.has b.has slots inputs in
-      let found : ◌≡◌ {A = Option Queued} (Some q) (Some r) = sym a.of.is ∙ ap t same ∙ b.of.is in
-      let cells : q ≡ r = cc in
-      absurd (true≢false (sym (subst (λ (x : Queued). IsBefore x r) cells before) ∙ key_laws.never_itself r.key)))
-      (cases_lt r.key.slot q.key.slot))
-      (cases_lt q.key.slot r.key.slot)
+    -- what was sent arrived before what waits
+    abbrev After : Named → Named → Type 0
+    After m n = OfOneFlow w.came m n → m.slot < n.slot
 
-  waiting_rise : EachPair Earlier waiting
-  waiting_rise = pairs_with IsBefore Earlier (λ (q : Queued). Has waiting q)
-      (λ q r first second before. waits_earlier q r first second before) waiting
-      (all_from_has (λ (q : Queued). Has waiting q) waiting (λ q has. has))
-      (pairs_kept IsBefore (is_kind i c) there (pairs_of_cells IsBefore there (agrees.rising j)))
+    sent_earlier : (q r : Queued) → Has gone q → Has waiting r → Earlier q r
+    sent_earlier q r first second =
+        let a = was_sent q first in
+        let b = waits r second in
+        let all = each_has (λ (d : Sent). All (After d.cell) (queued_in s)) s.sent a.sent sound.flows.after a.has in
+        let after = each_has (After a.sent.cell) (queued_in s) b.0 all b.1 in
+        search (arith, rules, one_flow, slot_is)
 
-  -- what was sent arrived before what waits
-  abbrev After : Named → Named → Type 0
-  After m n = OfOneFlow w.came m n → m.slot < n.slot
+    told_rise : EachPair IsEarlier (map as_arrival (gone ++ waiting))
+    told_rise = search (rules, pairs_mapped, IsEarlier, pairs_joined, gone_rise, waiting_rise, sent_earlier)
 
-  abbrev AfterAll : Sent → Type 0
-  AfterAll d = All (After d.cell) (queued_in s)
+    -- ## They are the named arrivals
 
-  sent_earlier : (q r : Queued) → Has gone q → Has waiting r → Earlier q r
-  sent_earlier q r first second =
-      let a = was_sent q first in
-      let b = waits r second in
-      let all = all_of_has AfterAll s.sent a.sent (recursion_from_All AfterAll s.sent sound.flows.after) a.has in
-      let after = all_of_has (After a.sent.cell) (queued_in s) b.name
-      (recursion_from_All (After a.sent.cell) (queued_in s) all) b.has in search (arith, rules, one_flow, slot_is)
+    -- the arrivals of the flow before the slot, and those of them that are named
+    abbrev pub of_flow : List Arrival
+    of_flow = filter (comes_in_flow i c j) (early_of next (line_at i w.came))
 
-  told_rise : EachPair IsEarlier (map as_arrival (gone ++ waiting))
-  told_rise = search (rules, pairs_mapped, IsEarlier, pairs_joined, gone_rise, waiting_rise, sent_earlier)
+    abbrev pub told : List Arrival
+    told = filter named of_flow
 
-  -- ## They are the named arrivals
+    record IsOne (x : Arrival) : Type 0 where
+      pub came : Has w.came x
+      pub early : x.slot < next
+      pub flow : comes_in_flow i c j x ≡ true
+      pub own : named x ≡ true
 
-  -- the arrivals of the flow before the slot, and those of them that are named
-  abbrev pub of_flow : List Arrival
-  of_flow = filter (comes_in_flow i c j) (early_of next (line_at i w.came))
+    abbrev is_name_of : Arrival → Named → Bool
+    is_name_of x n = n.slot == x.slot && n.input == x.cell.id.input
 
-  abbrev pub told : List Arrival
-  told = filter named of_flow
+    one_of_names : (n : Named) (q : Queued) → Has names n → InFlow n q → IsOne (as_arrival q)
+    one_of_names n q has of =
+        let x = as_arrival q in
+        let at = is_cell_of w.came n q of.is in
+        let it = found_at w.came n.slot n.input q.cell at.arrives in
+        let slot : q.key.slot ≡ n.slot = slot_is n q of in
+        let input : q.cell.id.input ≡ n.input = (of_traffic w s in_range shape sound traffic n q of.is).input in
+        let same : it.arrival ≡ x = arrival_is it.arrival x (it.slot ∙ sym slot) it.own in
+        let before : n.slot < next = (comes w s in_range shape sound traffic n has).0 in
+        search (arith, rules, Has, and_from, q.cell.output, is_kind, eq-eqb, any_has, n.slot, n.input)
 
-  record IsOne (x : Arrival) : Type 0 where
-    pub came : Has w.came x
-    pub early : x.slot < next
-    pub flow : comes_in_flow i c j x ≡ true
-    pub own : named x ≡ true
+    to_told : (x : Arrival) → IsOne x → Has told x
+    to_told x one =
+        let tests = and_parts (x.cell.output == j) (x.cell.id.input == i && x.cell.class == c) one.flow in
+        let kind = and_parts (x.cell.id.input == i) (x.cell.class == c) tests.1 in
+        search (arith, rules, has_kept, lt-ltb)
 
-  abbrev is_name_of : Arrival → Named → Bool
-  is_name_of x n = n.slot == x.slot && n.input == x.cell.id.input
+    from_told : (x : Arrival) → Has told x → IsOne x
+    from_told x has = grind (arith, common_steps, kept_has, early_of, line_at, is_early, ltb-true)
 
-  one_of_names : (n : Named) (q : Queued) → Has names n → InFlow n q → IsOne (as_arrival q)
-  one_of_names n q has of =
-      let x = as_arrival q in
-      let at = is_cell_of w.came n q of.is in
-      let it = found_at w.came n.slot n.input q.cell at.arrives in
-      let slot : q.key.slot ≡ n.slot = slot_is n q of in
-      let input : q.cell.id.input ≡ n.input = (of_traffic w s in_range shape sound traffic n q of.is).input in
-      let same : it.arrival ≡ x = arrival_is it.arrival x (it.slot ∙ sym slot) it.own in
-      let before : n.slot < next = (comes w s in_range shape sound traffic n has).0 in
-      search (arith, rules, Has, and_from, q.cell.output, is_kind, eq-eqb, any_has, n.slot, n.input)
+    has_told : (x : Arrival) → Has (map as_arrival (gone ++ waiting)) x → Has told x
+    has_told x has =
+        let image = image_has as_arrival (gone ++ waiting) x has in
+        let q = image.0 in
+        let one : IsOne (as_arrival q) =
+        ⊎_elim (λ sent.
+        let it = was_sent q sent in
+        one_of_names it.sent.cell q (has_right (queued_in s) (map (λ (d : Sent). d.cell) s.sent)
+        it.sent.cell (has_image (λ (d : Sent). d.cell) s.sent it.sent it.has)) it.of)
+        (λ later.
+        search (arith, rules, waits q later, one_of_names, queued_named w s in_range shape sound traffic))
+        (has_cases gone waiting q image.1) in
+        subst (λ (a : Arrival). Has told a) image.2 (to_told (as_arrival q) one)
 
-  to_told : (x : Arrival) → IsOne x → Has told x
-  to_told x one =
-      let tests = and_parts (x.cell.output == j) (x.cell.id.input == i && x.cell.class == c) one.flow in
-      let kind = and_parts (x.cell.id.input == i) (x.cell.class == c) tests.1 in
-      has_kept named of_flow x
-      (has_kept (comes_in_flow i c j) (early_of next (line_at i w.came)) x
-      (has_kept (is_early next) (line_at i w.came) x
-      (has_kept (λ (a : Arrival). a.cell.id.input == i) w.came x one.came kind.0) (lt-ltb x.slot next one.early))
-      one.flow)
-      one.own
+    -- an arrival is the only one of its slot and input
+    one_arrival : (a x : Arrival) → Has w.came a → Has w.came x → a.slot ≡ x.slot → a.cell.id.input ≡ x.cell.id.input →
+        a ≡ x
+    one_arrival a x first second slots inputs = ⊎_elim (λ ways. search (arith, rules)) (λ same. same)
+        (pair_of_has IsLater w.came a x (each_pair IsLater w.came traffic.one_by_one) first second)
 
-  from_told : (x : Arrival) → Has told x → IsOne x
-  from_told x has = grind (arith, common_steps, kept_has, early_of, line_at, is_early, ltb-true)
+    -- where the cell of a name stands
+    among_gone : (n : Named) (q : Queued) → InFlow n q → Has (map (λ (d : Sent). d.cell) s.sent) n → Has gone q
+    among_gone n q of has =
+        let image = image_has (λ (d : Sent). d.cell) s.sent n has in
+        let d = image.0 in
+        let x : Departure = record { slot = d.slot; output = q.cell.output; queued = q } in
+        let looked : t d.cell ≡ Some q = ap t image.2 ∙ of.is in
+        let is : departure_of w.came d ≡ Some x = search (arith, rules) in
+        has_image (λ (y : Departure). y.queued) (filter leaves (sent_told w.came s)) x
+        (has_kept leaves (sent_told w.came s) x (has_looked_up (departure_of w.came) s.sent d x image.1 is)
+        (and_from (q.cell.output == j) (is_kind i c q) (eq-eqb q.cell.output j of.output) of.kind))
 
-  is_told : (x : Arrival) → Has (map as_arrival (gone ++ waiting)) x → Has told x
-  is_told x has =
-      let image = image_has as_arrival (gone ++ waiting) x has in
-      let q = image.0 in
-      let one : IsOne (as_arrival q) =
-      ⊎_elim (λ sent.
-      let it = was_sent q sent in
-      one_of_names it.sent.cell q (has_right (queued_in s) (map (λ (d : Sent). d.cell) s.sent)
-      it.sent.cell (has_image (λ (d : Sent). d.cell) s.sent it.sent it.has)) it.of)
-      (λ later.
-      search (arith, rules, waits q later, one_of_names, queued_named w s in_range shape sound traffic))
-      (has_cases gone waiting q image.1) in
-      subst (λ (a : Arrival). Has told a) image.2 (to_told (as_arrival q) one)
+    among_waiting : (n : Named) (q : Queued) → InFlow n q → HasFor f j q → Has waiting q
+    among_waiting n q of stands =
+        has_kept (is_kind i c) there q (has_of_among there q ((agrees.same j q).1 stands)) of.kind
 
-  -- an arrival is the only one of its slot and input
-  one_arrival : (a x : Arrival) → Has w.came a → Has w.came x → a.slot ≡ x.slot → a.cell.id.input ≡ x.cell.id.input →
-      a ≡ x
-  one_arrival a x first second slots inputs = ⊎_elim (λ ways. search (arith, rules)) (λ same. same)
-      (pair_of_has IsLater w.came a x (each_pair IsLater w.came traffic.one_by_one) first second)
+    among_listed : (n : Named) (q : Queued) → InFlow n q → Has s.listed n → Has waiting q
+    among_listed n q of has =
+        let ports : s.head.ports ≡ length w.machines = ports_are w s in_range shape sound traffic in
+        let low : n.input < length w.machines = (of_traffic w s in_range shape sound traffic n q of.is).within in
+        let at : Named → Bool = λ m. m.input == n.input in
+        let told_there : Has (list_told w.came s n.input) q =
+        has_looked_up t (filter at s.listed) n q (has_kept at s.listed n has (eq-eqb n.input n.input refl)) of.is in
+        let here : Has (input f n.input) q =
+        rw (list_is w s in_range shape sound traffic n.input (omega arith)) told_there in
+        among_waiting n q of (inl (n.input, among_of_has (input f n.input) q here, of.output))
 
-  -- where the cell of a name stands
-  among_gone : (n : Named) (q : Queued) → InFlow n q → Has (map (λ (d : Sent). d.cell) s.sent) n → Has gone q
-  among_gone n q of has =
-      let image = image_has (λ (d : Sent). d.cell) s.sent n has in
-      let d = image.0 in
-      let x : Departure = record { slot = d.slot; output = q.cell.output; queued = q } in
-      let looked : t d.cell ≡ Some q = ap t image.2 ∙ of.is in
-      let is : departure_of w.came d ≡ Some x = search (arith, rules) in
-      has_image (λ (y : Departure). y.queued) (filter leaves (sent_told w.came s)) x
-      (has_kept leaves (sent_told w.came s) x (has_looked_up (departure_of w.came) s.sent d x image.1 is)
-      (and_from (q.cell.output == j) (is_kind i c q) (eq-eqb q.cell.output j of.output) of.kind))
+    among_buffered : (n : Named) (q : Queued) → InFlow n q → Has s.buffered n → Has waiting q
+    among_buffered n q of has =
+        let ports : s.head.ports ≡ length w.machines = ports_are w s in_range shape sound traffic in
+        let low : q.cell.output < length w.machines = (of_traffic w s in_range shape sound traffic n q of.is).output in
+        search (arith, rules, has_kept, has_looked_up, buffer_is, among_waiting, among_of_has)
 
-  among_waiting : (n : Named) (q : Queued) → InFlow n q → HasFor f j q → Has waiting q
-  among_waiting n q of stands =
-      has_kept (is_kind i c) there q (has_of_among there q ((agrees.same j q).1 stands)) of.kind
+    is_there : (x : Arrival) → Has told x → Has (map as_arrival (gone ++ waiting)) x
+    is_there x has =
+        let one = from_told x has in
+        let name = has_any (is_name_of x) names one.own in
+        let n = name.0 in
+        let tests = and_parts (n.slot == x.slot) (n.input == x.cell.id.input) name.2 in
+        let slot : n.slot ≡ x.slot = eqb-true n.slot x.slot tests.0 in
+        let input : n.input ≡ x.cell.id.input = eqb-true n.input x.cell.id.input tests.1 in
+        let arrives = (comes w s in_range shape sound traffic n name.1).1 in
+        let some = some_cell (arriving_cell w.came n) arrives in
+        let it = found_at w.came n.slot n.input some.0 some.1 in
+        let same : it.arrival ≡ x = one_arrival it.arrival x it.has one.came (it.slot ∙ slot) (it.input ∙ input) in
+        let cell : some.0 ≡ x.cell = sym it.own ∙ ap (λ (a : Arrival). a.cell) same in
+        let q : Queued = record { cell = x.cell; key = key_of n } in
+        let looked : t n ≡ Some q = search (arith, rules) in
+        let flow = and_parts (x.cell.output == j) (x.cell.id.input == i && x.cell.class == c) one.flow in
+        let of : InFlow n q = record { is = looked; output = eqb-true x.cell.output j flow.0; kind = flow.1 } in
+        let among : Has (gone ++ waiting) q =
+        search (arith, rules, has_right, among_listed, among_buffered, has_cases, has_left, among_gone) in
+        subst (λ (a : Arrival). Has (map as_arrival (gone ++ waiting)) a) (arrival_is (as_arrival q) x slot refl)
+        (has_image as_arrival (gone ++ waiting) q among)
 
-  among_listed : (n : Named) (q : Queued) → InFlow n q → Has s.listed n → Has waiting q
-  among_listed n q of has =
-      let ports : s.head.ports ≡ length w.machines = ports_are w s in_range shape sound traffic in
-      let low : n.input < length w.machines = (of_traffic w s in_range shape sound traffic n q of.is).within in
-      let at : Named → Bool = λ m. m.input == n.input in
-      let told_there : Has (list_told w.came s n.input) q =
-      has_looked_up t (filter at s.listed) n q (has_kept at s.listed n has (eq-eqb n.input n.input refl)) of.is in
-      let inside : n.input < s.head.ports = omega arith in
-      let here : Has (input f n.input) q =
-      subst (λ (l : List Queued). Has l q) (sym (list_is w s in_range shape sound traffic n.input inside)) told_there in
-      among_waiting n q of (inl (n.input, among_of_has (input f n.input) q here, of.output))
+    told_rises : EachPair IsEarlier told
+    told_rises = grind (arith, common_steps, pairs_kept, IsEarlier, early_of, line_at, is_early, line_rises)
 
-  among_buffered : (n : Named) (q : Queued) → InFlow n q → Has s.buffered n → Has waiting q
-  among_buffered n q of has =
-      let ports : s.head.ports ≡ length w.machines = ports_are w s in_range shape sound traffic in
-      let low : q.cell.output < length w.machines = (of_traffic w s in_range shape sound traffic n q of.is).output in
-      search (arith, rules, has_kept, has_looked_up, buffer_is, among_waiting, among_of_has)
+    -- what was sent of the flow, and then what waits of it
+    pub told_flow : left_in_flow i c j (sent_told w.came s) ++ shown i c there ≡ cells_of told
+    told_flow = search (rules, both_cells, cells_of, same_rising, told_rise, told_rises, has_told, is_there)
 
-  is_there : (x : Arrival) → Has told x → Has (map as_arrival (gone ++ waiting)) x
-  is_there x has =
-      let one = from_told x has in
-      let name = has_any (is_name_of x) names one.own in
-      let n = name.0 in
-      let tests = and_parts (n.slot == x.slot) (n.input == x.cell.id.input) name.2 in
-      let slot : n.slot ≡ x.slot = eqb-true n.slot x.slot tests.0 in
-      let input : n.input ≡ x.cell.id.input = eqb-true n.input x.cell.id.input tests.1 in
-      let arrives = (comes w s in_range shape sound traffic n name.1).1 in
-      let some = some_cell (arriving_cell w.came n) arrives in
-      let it = found_at w.came n.slot n.input some.0 some.1 in
-      let same : it.arrival ≡ x = one_arrival it.arrival x it.has one.came (it.slot ∙ slot) (it.input ∙ input) in
-      let cell : some.0 ≡ x.cell = sym it.own ∙ ap (λ (a : Arrival). a.cell) same in
-      let q : Queued = record { cell = x.cell; key = key_of n } in
-      let looked : t n ≡ Some q = search (arith, rules) in
-      let flow = and_parts (x.cell.output == j) (x.cell.id.input == i && x.cell.class == c) one.flow in
-      let of : InFlow n q = record { is = looked; output = eqb-true x.cell.output j flow.0; kind = flow.1 } in
-      let among : Has (gone ++ waiting) q =
-      search (arith, rules, has_right, among_listed, among_buffered, has_cases, has_left, among_gone) in
-      subst (λ (a : Arrival). Has (map as_arrival (gone ++ waiting)) a) (arrival_is (as_arrival q) x slot refl)
-      (has_image as_arrival (gone ++ waiting) q among)
+  -- ## How they stand
 
-  told_rises : EachPair IsEarlier told
-  told_rises = grind (arith, common_steps, pairs_kept, IsEarlier, early_of, line_at, is_early, line_rises)
+  module _ (inside : j < length w.machines) (classes : (machine_at w.machines j).classes ≡ w.classes) where
+    abbrev pub m : Machine
+    m = machine_at w.machines j
 
-  -- what was sent of the flow, and then what waits of it
-  pub told_flow : left_in_flow i c j (sent_told w.came s) ++ shown i c there ≡ cells_of told
-  told_flow = search (rules, both_cells, cells_of, same_rising, told_rise, told_rises, is_told, is_there)
+    has_waited : (q : Queued) → Has there q → HasWaited m (slice_index_or s.ranks j []) s.head.next 0 q
+    has_waited q has =
+        let it = waits_there q has in
+        let n = it.name in
+        let own = is_cell_of w.came n q it.is in
+        let floor = each_has (IsBelowFloor w s) (queued_in s) n sound.floors it.has in
+        let output : output_of w.came n ≡ j = its_output w s in_range shape sound traffic n q it.is ∙ it.output in
+        let class : class_of w.came n ≡ q.cell.class = ap class_in own.arrives in
+        let below = rw (output, class) at floor.rank in
+        let slot : q.key.slot ≡ n.slot = its_slot w s in_range shape sound traffic n q it.is in
+        let early : n.slot < s.head.next =
+        (comes w s in_range shape sound traffic n (queued_named w s in_range shape sound traffic n it.has)).0 in
+        record {
+          level = ap (λ (k : Key). k.level) own.key ∙ floor.level
+              ∙ ap (λ (o : ℕ). (machine_at w.machines o).level (class_of w.came n)) output
+              ∙ ap (λ (k : ℕ). m.level k) class;
+          rank = rw (ap (λ (k : Key). k.rank) own.key) below;
+          class = rw classes (of_traffic w s in_range shape sound traffic n q it.is).class;
+          came = omega arith;
+          before = λ same. absurd (omega arith);
+        }
+
+    pub stands_there : Stands m (slice_index_or (ideal_of f).ranks j []) s.head.next 0 there
+    unfolding fabric_told
+    stands_there = search (rules, ports_are, Stands, none_later, all_from_has, HasWaited, has_waited)

@@ -1,33 +1,15 @@
 -- What arrives at an input are its packets, one after another, each from its first cell to its last. Cell 0 of a
 -- packet is its first cell and no other is, and the next packet has the next number. At what is no input nothing
 -- arrives.
-use Rattle.std.proofs.lemmas.Grind.{common_steps}
-use Rattle.std.proofs.Common.{rules, ◌≡◌, ℕ, zero, suc, ◌+◌, ◌<◌, ◌≤◌, List, [], ◌∷◌, ◌++◌, length, map, refl, ap, inr, arith, sym, ◌∙◌, subst}
-use Rattle.std.specs.List.{flat_map, range_with_len}
-use Rattle.std.proofs.lemmas.Bool.{cases_lt, ne_eqb}
-use Rattle.cq_base.specs.Arriving.{Arrival, arriving, enough, traffic_of}
-use Rattle.cq_base.specs.declared.cell.Cell.{Cell}
-use Rattle.cq_cells.proofs.Pieces.{cells_above}
-use Rattle.cq_cells.proofs.Rising.{at_input, traffic_is}
-use Rattle.cq_cells.specs.Schedule.{arrivals, arrivals_at, arrivals_of, cell_of, cells, packet_at, packets_of, start}
-use Rattle.cq_cells.specs.Traffic.{IsTraffic}
-use Rattle.cq_ideal.proofs.AtInput.{come_in_order}
-use Rattle.cq_ideal.specs.WholePackets.{AreOfPackets, cells_at}
-use Rattle.cq_pcap.specs.Captured.{Captured}
-use Rattle.cq_route.specs.Tables.{AreTables, ports_of}
-use Rattle.cq_route.specs.declared.tables.Tables.{Tables}
+use Rattle.cq_simulate.proofs.Terms.{common_steps, rules, cond, filter, filter-append, Bool, ◌≡◌, ℕ, zero, suc, ◌+◌, ◌<◌, ◌≤◌, List, [], ◌∷◌, ◌++◌, length, map, refl, inr, arith, flat_map, range_with_len, cases_lt, ne_eqb, Arrival, arriving, enough, traffic_of, Cell, cells_above, at_input, traffic_is, arrivals, arrivals_at, arrivals_of, cell_of, cells, packet_at, packets_of, IsTraffic, come_in_order, AreOfPackets, cells_at, Captured, AreTables, ports_of, Tables, arrivals_for, map-append}
+use Rattle.std.proofs.lemmas.Simd.{map-map}
 use Rattle.cq_simulate.proofs.Runnable.{later_rise}
-use Rattle.cq_traffic.proofs.ForPorts.{arrivals_for}
-use Rattle.std.proofs.lemmas.List.{map-append}
 
--- the cells of arrivals in consecutive slots
-cells_in : (s : ℕ) (f : ℕ → Cell) (a n : ℕ) →
-    map (λ (x : Arrival). x.cell) (map (λ i. record {
-      slot = s + i;
-      cell = f i;
-    }) (range_with_len a n)) ≡ map f (range_with_len a n)
-cells_in s f a zero = refl
-cells_in s f a (suc n) = ap (λ (l : List Cell). f a ∷ l) (cells_in s f (a + 1) n)
+-- where all pass a test or none does
+all_or_none : {X : Type 0} (p : X → Bool) (f : ℕ → X) (b : Bool) → ((m : ℕ) → p (f m) ≡ b) → (a n : ℕ) →
+    filter p (map f (range_with_len a n)) ≡ cond b (map f (range_with_len a n)) []
+all_or_none p f b same a zero = grind (arith, common_steps)
+all_or_none p f b same a (suc n) = grind (arith, common_steps, all_or_none p f b same (a + 1) n)
 
 module _ (t : Tables) (captures : List (List Captured)) (input : ℕ) where
   -- the other cells of a packet, and then what is of packets behind it
@@ -43,26 +25,34 @@ module _ (t : Tables) (captures : List (List Captured)) (input : ℕ) where
   one_packet k zero rest some of = absurd (omega arith)
   one_packet k (suc n) rest some of = (inr (omega arith, refl), others k 1 n rest (omega arith) of)
 
-  some_cells : (k : ℕ) → 0 < cells t captures input k
-  unfolding cells
-  some_cells k = cells_above (length (packet_at captures input k).body) t.cell_bytes
+  -- all cells of a packet
+  abbrev pub packet_cells : ℕ → List Cell
+  packet_cells k = map (cell_of t captures input k) (range_with_len 0 (cells t captures input k))
 
-  packets : (k n : ℕ) →
-      AreOfPackets k (map (λ (x : Arrival). x.cell) (flat_map (arrivals_of t captures input) (range_with_len k n)))
+  packets : (k n : ℕ) → AreOfPackets k (flat_map packet_cells (range_with_len k n))
+  unfolding cells
   packets k zero = tt
-  packets k (suc n) =
-      let here = arrivals_of t captures input k in
-      let rest = flat_map (arrivals_of t captures input) (range_with_len (k + 1) n) in
-      let m = cells t captures input k in
-      let is = map-append (λ (x : Arrival). x.cell) here rest
-      ∙ ap (λ (l : List Cell). l ++ map (λ (x : Arrival). x.cell) rest) (cells_in (start t captures input k) (cell_of
-      t captures input k) 0 m) in
-      subst (AreOfPackets k) (sym is)
-      (one_packet k m (map (λ (x : Arrival). x.cell) rest) (some_cells k) (packets (k + 1) n))
+  packets k (suc n) = one_packet k (cells t captures input k) (flat_map packet_cells (range_with_len (k + 1) n))
+      (cells_above (length (packet_at captures input k).body) t.cell_bytes) (packets (k + 1) n)
+
+  -- some packets, as they arrive
+  pub line_cells : (ks : List ℕ) →
+      map (λ (x : Arrival). x.cell) (flat_map (arrivals_of t captures input) ks) ≡ flat_map packet_cells ks
+  line_cells [] = refl
+  line_cells (k ∷ ks) = simp (map-append, map-map, line_cells ks)
+
+  -- where cells pass a test by their packet
+  pub by_packet : (p : Cell → Bool) (g : ℕ → Bool) → ((k m : ℕ) → p (cell_of t captures input k m) ≡ g k) →
+      (ks : List ℕ) → filter p (flat_map packet_cells ks) ≡ flat_map packet_cells (filter g ks)
+  by_packet p g same [] = refl
+  by_packet p g same (k ∷ ks) =
+      let here = all_or_none p (cell_of t captures input k) (g k) (same k) 0 (cells t captures input k) in
+      let rest = by_packet p g same ks in grind (arith, common_steps, filter-append)
 
   at_line : AreOfPackets 0 (map (λ (x : Arrival). x.cell) (arrivals_at t captures input))
   unfolding arrivals_at
-  at_line = packets 0 (length (packets_of captures input))
+  at_line =
+      let many = length (packets_of captures input) in rw (line_cells (range_with_len 0 many)) (packets 0 many)
 
 pub of_packets : (t : Tables) (captures : List (List Captured)) (input : ℕ) → AreTables t →
     length captures ≡ ports_of t.setup → input < length captures →

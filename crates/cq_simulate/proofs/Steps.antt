@@ -1,37 +1,362 @@
 -- What each step of the loop over the slots asks for, where so many slots are left as are not yet over.
-use Rattle.std.proofs.lemmas.Grind.{common_steps}
-use Rattle.std.proofs.Common.{rules, ◌≡◌, ◌↔◌, ℕ, suc, ◌+◌, ◌-◌, ◌<◌, ◌≤◌, ◌^◌, Bool, false, List, [], ◌++◌, length, map, replicate, Option, Result, Ok, Err, refl, sym, ap, ◌∙◌, subst, arith, ⊎_elim}
-use Rattle.std.specs.Prelude.{IsTrue, All, IfOk}
-use Rattle.std.proofs.lemmas.Bool.{cases_lt}
-use Rattle.std.proofs.lemmas.Result.{IfOk-weaker}
-use Rattle.cq_base.specs.declared.cell.Cell.{Cell}
-use Rattle.cq_base.specs.declared.cell.Departure.{Departure}
-use Rattle.cq_base.specs.declared.cell.Queued.{Queued}
-use Rattle.cq_base.specs.declared.cell.TagFault.{TagFault}
-use Rattle.cq_base.specs.Arrivals.{no_arrivals}
-use Rattle.cq_base.specs.Arriving.{Arrival, arriving, end_of, enough, traffic_of}
-use Rattle.cq_base.specs.Room.{RoomView}
-use Rattle.cq_rank.specs.Machine.{Machine}
-use Rattle.cq_rank.specs.Switch.{class_count}
-use Rattle.cq_ideal.specs.Admission.{Marked}
-use Rattle.cq_ideal.specs.Ideal.{IdealSwitch, HasRoomFor, HaveLeft, answer_to, its_slot, marked_state}
+use Rattle.cq_simulate.proofs.Terms.{common_steps, rules, ◌≡◌, ◌↔◌, ℕ, suc, ◌+◌, ◌-◌, ◌<◌, ◌≤◌, ◌^◌, Bool, false, List, [], ◌++◌, length, map, replicate, Option, Result, Ok, Err, refl, sym, ap, ◌∙◌, subst, arith, ⊎_elim, zero, None, ◌∷◌, append_assoc, IsTrue, All, IfOk, slice_index_or, cases_lt, IfOk-weaker, Cell, Departure, Queued, TagFault, no_arrivals, Arrival, arriving, end_of, enough, traffic_of, RoomView, Machine, Marked, Admission, nothing_refused, admission, admitted, marked, refused, IdealSwitch, HasRoomFor, HaveLeft, marked_state, count_for, IdealState, departures_in, ideal_slot, departures_limited, LimitedRan, LimitedSent, limited_run, limited_slot, nothing_came, ideal_admission, ideal_held, then_limited, with_admission, CanCount, IsReady, waiting, counted, arriving_from, slots_of, none_waits, nothing_left, all_slots, arrivals_for, for_here, come_for, come_for-traffic_of, IsQuiet, come_count, arriving_parts, arriving_here, departures_of, no_departures, quiet_slots, length-replicate, append-nil, length-append, get_or-replicate, IsShort, number_of, is_to, refused_counts, with_refused, counts_fit, zero_fits, present, come_count-traffic_of, none_after, run_fault, run_step, counts_more, each_once, waiting-empty}
+use Rattle.cq_ideal.specs.Ideal.{answer_to, its_slot}
 use Rattle.cq_ideal.specs.OneSlot.{CanHaveSlot, HasHadSlot, IsSameSwitch}
-use Rattle.cq_ideal.specs.IdealSlot.{IdealState}
-use Rattle.cq_ideal.specs.LimitedEnding.{departures_limited}
-use Rattle.cq_ideal.specs.LimitedIdeal.{LimitedRan, LimitedSent, limited_run, limited_slot, nothing_came}
+use Rattle.cq_ideal.specs.IdealSlot.{Sent}
 use Rattle.cq_ideal.specs.Rest.{HasRested}
-use Rattle.cq_ideal.specs.Limiter.{CanCount}
-use Rattle.cq_ideal.specs.Ranking.{AreForPorts}
-use Rattle.cq_simulate.specs.Ready.{IsReady}
-use Rattle.cq_ideal.proofs.Waiting.{waiting}
-use Rattle.cq_simulate.proofs.Handed.{IsFree, few_left, free_again, left_with_all}
-use Rattle.cq_simulate.proofs.Stretches.{running_rest}
-use Rattle.cq_simulate.proofs.Running.{Running, can_count, running_first, running_next, running_over, running_fault, slot_left, run_from, sent_from}
-use Rattle.cq_ideal.specs.Ending.{arriving_from, slots_of}
-use Rattle.cq_ideal.proofs.Ends.{none_waits, nothing_left}
-use Rattle.cq_traffic.proofs.ForPorts.{arrivals_for}
-use Rattle.cq_traffic.proofs.ToOutputs.{for_here}
-use Rattle.cq_traffic.specs.Stretch.{IsQuiet}
+use Rattle.cq_ideal.proofs.LimitedParts.{behind, limited_parts, limited_going_on, limited_stays_empty}
+use Rattle.cq_ideal.proofs.LastSlot.{slots_of-append, slots_of-departures}
+
+-- The run of the ideal switch, slot by slot. What was sent so far, and then what is sent in the slots that are left,
+-- is what the whole run sends. Of the cells that come in a slot each is admitted or refused. So the cells that wait
+-- and those that are still to come are no more than there is room for, in each list and in all, and those that were
+-- refused and those that are still to come are no more than all that come. And those that wait or come are no more
+-- than the slots that are left after the last arrival: in each of these a cell leaves, while one waits. So the slots
+-- do not end before the cells. Once no cell is to come and none waits, the slots that are left send nothing and meet
+-- no fault.
+
+-- ## What a run sends
+
+-- the departures of a run from this slot on, or its fault
+abbrev pub sent_from : ℕ → Result LimitedRan TagFault → Result (List Departure) TagFault
+sent_from slot (Ok ran) = Ok (departures_of slot ran.gone)
+sent_from slot (Err fault) = Err fault
+
+-- with these departures before them
+abbrev pub sent_after : List Departure → Result (List Departure) TagFault → Result (List Departure) TagFault
+sent_after sent (Ok rest) = Ok (sent ++ rest)
+sent_after sent (Err fault) = Err fault
+
+-- what the slots from this one on send
+unfoldable pub run_from : List (Option ℕ) → List Machine → List Arrival → ℕ → ℕ → Marked IdealState →
+    Result (List Departure) TagFault
+run_from limits ms came slot n state = sent_from slot (limited_run limits ms slot (arriving_from came slot n) state)
+
+then_sent : (slot : ℕ) (sent : LimitedSent) (x : Result LimitedRan TagFault) →
+    sent_from slot (then_limited sent x) ≡ sent_after (departures_in slot sent.gone) (sent_from (slot + 1) x)
+unfolding departures_of
+then_sent slot sent x = grind (arith, common_steps)
+
+module _ (limits : List (Option ℕ)) (ms : List Machine) (came : List Arrival) where
+  next_sent : (slot n : ℕ) (state : Marked IdealState) (sent : LimitedSent) →
+      limited_slot limits ms slot (arriving came slot) state ≡ Ok sent →
+      run_from limits ms came slot (suc n) state ≡ sent_after (departures_in slot sent.gone)
+      (run_from limits ms came (slot + 1) n sent.after)
+  unfolding run_from
+  next_sent slot n state sent is =
+      let later = arriving_from came (slot + 1) n in
+      ap (λ (l : List (List (Option Cell))). sent_from slot (limited_run limits ms slot l state))
+      (arriving_here came slot n)
+      ∙ ap (sent_from slot) (run_step limits ms slot (arriving came slot) later state sent is)
+      ∙ then_sent slot sent (limited_run limits ms (slot + 1) later sent.after)
+
+sent_after-twice : (a b : List Departure) (x : Result (List Departure) TagFault) →
+    sent_after a (sent_after b x) ≡ sent_after (a ++ b) x
+sent_after-twice a b x = grind (arith, common_steps, append_assoc)
+
+-- ## What a slot admits
+
+all_once : (marks : List Bool) (cells : List (Option Cell)) →
+    length (present (admitted marks cells)) + length (refused marks cells) ≡ length (present cells)
+all_once [] cells = omega arith
+all_once (mark ∷ marks) [] = refl
+all_once (mark ∷ marks) (cell ∷ cells) = let rest = all_once marks cells in grind (arith, common_steps)
+
+-- each cell is admitted or refused
+pub record Once (cells : List (Option Cell)) (a : Admission) : Type 0 where
+  pub all : length (present a.cells) + length a.refused ≡ length (present cells)
+  pub each : (j : ℕ) → count_for j a.cells ≤ count_for j cells
+
+once : (limits : List (Option ℕ)) (held : List ℕ) (marks : List Bool) (cells : List (Option Cell)) →
+    Once cells (admission limits held marks cells)
+unfolding admission
+once limits held marks cells = grind (arith, common_steps, all_once, each_once)
+
+-- a slot is one without limits of what is admitted
+pub record OfAdmitted (ms : List Machine) (slot : ℕ) (cells : List (Option Cell)) (old : Marked IdealState)
+    (of_slot : LimitedSent) : Type 0 where
+  pub sent : Sent
+  pub ran : ideal_slot ms slot of_slot.admission.cells old.state ≡ Ok sent
+  pub gone : of_slot.gone ≡ sent.gone
+  pub after : of_slot.after.state ≡ sent.after
+  pub once_each : Once cells of_slot.admission
+
+pub of_admitted : (limits : List (Option ℕ)) (ms : List Machine) (slot : ℕ) (cells : List (Option Cell))
+    (old : Marked IdealState) (of_slot : LimitedSent) → limited_slot limits ms slot cells old ≡ Ok of_slot →
+    OfAdmitted ms slot cells old of_slot
+unfolding limited_slot
+of_admitted limits ms slot cells old of_slot is =
+    let a = ideal_admission limits cells old in
+    by a (once limits (ideal_held old.state) old.marks cells) (ideal_slot ms slot a.cells old.state) refl is
+  where
+    by : (a : Admission) → Once cells a → (x : Result Sent TagFault) → ideal_slot ms slot a.cells old.state ≡ x →
+        with_admission a x ≡ Ok of_slot → OfAdmitted ms slot cells old of_slot
+    by a one (Ok sent) ran e =
+        let made : LimitedSent = record { admission = a; gone = sent.gone; after = marked a.marks sent.after } in
+        let same : made ≡ of_slot = cc in
+        subst (OfAdmitted ms slot cells old) same
+        (record { sent = sent; ran = ran; gone = refl; after = refl; once_each = one })
+    by a one (Err fault) ran e = absurd (let P : ⊥ = cc in P)
+
+-- ## The loop
+
+-- what is known before a slot, where so many slots are left and these cells were refused
+pub record Running (ms : List Machine) (came : List Arrival) (first : IdealSwitch) (first_sent : RoomView Departure)
+    (slot n : ℕ) (now : IdealSwitch) (sent : RoomView Departure) : Type 0 where
+  pub left : slot + n ≡ enough came
+  pub running : now.stopped ≡ false
+  pub next : now.next ≡ slot
+  pub same : IsSameSwitch first now
+  pub whole : run_from first.limits ms came 0 (enough came) (marked_state first)
+      ≡ sent_after sent.items (run_from first.limits ms came slot n (marked_state now))
+  pub lost : List Cell
+  pub refused : now.refused ≡ refused_counts first.limits lost
+  pub ports : length now.state.lists ≡ length first.fixed
+  pub each : (j : ℕ) → j < length first.fixed →
+      length (slice_index_or now.state.lists j []) + come_for j (arriving_from came slot n) ≤ number_of (is_to j) came
+  pub spare : waiting now.state.lists + come_count (arriving_from came slot n) + length first.fixed ≤ sent.spare
+  pub few : waiting now.state.lists + come_count (arriving_from came slot n) + (end_of came - slot) ≤ n
+  pub many : length lost + come_count (arriving_from came slot n) ≤ length came
+  pub early : slots_of sent.items ≤ slot
+
+-- it is the same switch after a later slot too
+pub same_on : {first now after : IdealSwitch} → IsSameSwitch first now → IsSameSwitch now after →
+    IsSameSwitch first after
+same_on was is = grind (arith, common_steps)
+
+pub enough_are : (came : List Arrival) → enough came ≡ end_of came + length came
+unfolding enough
+enough_are came = refl
+
+pub running_first : (ms : List Machine) (came : List Arrival) (first : IdealSwitch)
+    (first_sent : RoomView Departure) → IsReady ms came first first_sent →
+    Running ms came first first_sent 0 (enough came) first first_sent
+running_first ms came first first_sent ready =
+    let nil : List Queued = [] in
+    let lists : first.state.lists ≡ replicate (length first.fixed) nil =
+    ap (λ (s : IdealState). s.lists) ready.state in
+    let none : waiting first.state.lists ≡ 0 = ap waiting lists ∙ waiting-empty (length first.fixed) in
+    let come : come_count (arriving_from came 0 (enough came)) ≤ length came =
+    rw (all_slots came) (come_count-traffic_of came) in
+    let are = enough_are came in
+    record {
+      left = omega arith;
+      running = ready.running;
+      next = ready.next;
+      same = record { fixed = refl; limits = refl; rooms = refl };
+      whole = rw ready.nothing (grind (arith, common_steps));
+      lost = [];
+      refused = ready.refused;
+      ports = ap length lists ∙ length-replicate (length first.fixed) nil;
+      each = λ j inside.
+          let empty : length (slice_index_or first.state.lists j nil) ≡ 0 =
+          ap (λ (l : List (List Queued)). length (slice_index_or l j nil)) lists
+          ∙ ap length (get_or-replicate (length first.fixed) j nil nil inside) in
+          let to : come_for j (arriving_from came 0 (enough came)) ≤ number_of (is_to j) came =
+          rw (all_slots came) (come_for-traffic_of j came) in
+          omega arith;
+      spare = omega arith;
+      few = omega arith;
+      many = omega arith;
+      early = let e : slots_of first_sent.items ≡ 0 = ap slots_of ready.nothing in omega arith;
+    }
+
+pub come_here : (came : List Arrival) (slot n : ℕ) →
+    come_count (arriving_from came slot (suc n)) ≡ length (present (arriving came slot)) + come_count
+    (arriving_from came (slot + 1) n)
+unfolding arriving_from come_count
+come_here came slot n = refl
+
+pub none_come : (came : List Arrival) (n slot : ℕ) → end_of came ≤ slot → come_count (arriving_from came slot n) ≡ 0
+unfolding arriving_from come_count
+none_come came zero slot le = refl
+none_come came (suc n) slot le = grind (arith, common_steps, none_after, come_count, none_come came n (slot + 1))
+
+module _ {ms : List Machine} {came : List Arrival} {first : IdealSwitch} {first_sent sent : RoomView Departure}
+    {slot n : ℕ} {now : IdealSwitch} (r : Running ms came first first_sent slot n now sent) where
+  -- where a cell is still to come or waits, a slot is left
+  pub slot_left : (end_of came ≤ slot → waiting now.state.lists ≡ 0 → ⊥) → 0 < n
+  slot_left more = ⊎_elim (λ some. some) (λ none. absurd (more (omega arith) (omega arith))) (cases_lt 0 n)
+
+  -- no count of refused cells and packets is near its type's end
+  pub can_count : length first.fixed ≤ 64 → IsShort came → CanCount (length first.fixed) now.refused
+  can_count ports short =
+      let are = enough_are came in
+      let p = length first.fixed in
+      let lost = r.lost in
+      rw (r.refused ∙ counts_more first.limits [] lost) (counts_fit lost p (length lost)
+      (refused_counts first.limits []) (zero_fits (p + length lost) first.limits (omega arith)) (omega arith))
+
+  -- ## The end of the loop
+
+  pub running_over : end_of came ≤ slot → waiting now.state.lists ≡ 0 →
+      run_from first.limits ms came 0 (enough came) (marked_state first) ≡ Ok sent.items
+  unfolding run_from
+  running_over le none =
+      let rest = limited_stays_empty first.limits ms came n slot (marked_state now) le none in
+      grind (arith, common_steps, append-nil)
+
+-- what is left is no more than the slots that are left after one of them, in which a cell leaves where one waits
+pub fewer_left : (before after here rest end slot n : ℕ) → after ≤ before + here - 1 →
+    before + (here + rest) + (end - slot) ≤ suc n → (end ≤ slot → here ≡ 0) → (end ≤ slot + 1 → rest ≡ 0) →
+    after + rest + (end - (slot + 1)) ≤ n
+fewer_left before after here rest end slot n less few none over = grind (arith, common_steps, over, cases_lt)
+
+module _ {ms : List Machine} {came : List Arrival} {first : IdealSwitch} {first_sent sent : RoomView Departure}
+    {slot n : ℕ} {now : IdealSwitch} (r : Running ms came first first_sent slot (suc n) now sent) where
+  pub running_next : {after : IdealSwitch} {sent_new : RoomView Departure} {of_slot : LimitedSent} →
+      limited_slot first.limits ms slot (arriving came slot) (marked_state now) ≡ Ok of_slot →
+      marked_state after ≡ of_slot.after → after.refused ≡ with_refused of_slot.admission.refused now.refused →
+      HaveLeft slot of_slot.gone sent sent_new → after.stopped ≡ false → after.next ≡ slot + 1 →
+      IsSameSwitch now after → Running ms came first first_sent (slot + 1) n after sent_new
+  running_next {after} {sent_new} {of_slot} is state refused left running next same =
+      let o = of_admitted first.limits ms slot (arriving came slot) (marked_state now) of_slot is in
+      let c = counted ms slot of_slot.admission.cells now.state o.sent o.ran in
+      let becomes : after.state ≡ o.sent.after = ap (λ (m : Marked IdealState). m.state) state ∙ o.after in
+      let gone : length (departures_in slot of_slot.gone) ≡ length (departures_in slot o.sent.gone) =
+      ap (λ (l : List (Option Queued)). length (departures_in slot l)) o.gone in
+      let waits : waiting after.state.lists ≡ waiting o.sent.after.lists =
+      ap (λ (s : IdealState). waiting s.lists) becomes in
+      let come = come_here came slot n in
+      let later = run_from first.limits ms came (slot + 1) n of_slot.after in
+      record {
+        left = omega arith;
+        running = running;
+        next = next;
+        same = same_on r.same same;
+        whole =
+            let step = next_sent first.limits ms came slot n (marked_state now) of_slot is in
+            let both = sent_after-twice sent.items (departures_in slot of_slot.gone) later in cc;
+        lost = r.lost ++ of_slot.admission.refused;
+        refused = cc (counts_more first.limits r.lost of_slot.admission.refused);
+        ports = ap (λ (s : IdealState). length s.lists) becomes ∙ c.ports ∙ r.ports;
+        each = λ j inside.
+            let here = r.each j inside in
+            let count = for_here j came slot n in
+            let less = o.once_each.each j in
+            let more = c.each j (omega arith) in
+            rw becomes (omega arith);
+        spare = omega arith;
+        few = search (arith, rules, waiting, come_count, r.few, fewer_left, present, none_after, none_come);
+        many = let both = length-append r.lost of_slot.admission.refused in omega arith;
+        early = rw (left.items, slots_of-append) (let last = slots_of-departures slot of_slot.gone in omega arith);
+      }
+
+  pub running_fault : (fault : TagFault) →
+      limited_slot first.limits ms slot (arriving came slot) (marked_state now) ≡ Err fault →
+      run_from first.limits ms came 0 (enough came) (marked_state first) ≡ Err fault
+  unfolding run_from
+  running_fault fault is = grind (arith, common_steps, arriving_here, run_fault)
+
+-- What a slot sent stands in a list of its own, in which nothing stood before, until the departures of the run take it
+-- over. So what holds of that list holds of the departures of the run.
+
+-- nothing stands in the list, and it has a place for each port
+pub record IsFree (ports : ℕ) (leaving : RoomView Departure) : Type 0 where
+  pub none : leaving.items ≡ []
+  pub few : leaving.spare ≡ ports
+
+module _ {slot ports : ℕ} {gone : List (Option Queued)} {leaving left : RoomView Departure}
+    (free : IsFree ports leaving) (has : HaveLeft slot gone leaving left) where
+  -- where nothing stood before there stands what the slot sent
+  all_new : left.items ≡ departures_in slot gone
+  all_new = has.items ∙ ap (λ (ds : List Departure). ds ++ departures_in slot gone) free.none
+
+  many : length left.items ≡ length (departures_in slot gone)
+  many = ap (λ (ds : List Departure). length ds) all_new
+
+  pub few_left : length left.items ≤ ports
+  few_left = let same = many in omega arith
+
+  -- the list is free again once it is emptied
+  pub free_again : {emptied : RoomView Departure} → emptied.items ≡ [] →
+      emptied.spare ≡ left.spare + length left.items → IsFree ports emptied
+  free_again none room = record { none = none; few = let same = many in omega arith }
+
+  -- the departures of the run took over what stood in it
+  pub left_with_all : {sent sent_new : RoomView Departure} → sent_new.items ≡ sent.items ++ left.items →
+      sent_new.spare + length left.items ≡ sent.spare → HaveLeft slot gone sent sent_new
+  left_with_all {sent} {sent_new} items spare = grind (arith, common_steps, sent.items, all_new)
+
+-- Stretches of slots that are skipped, since no cell comes in them and none waits. What is known of the ideal switch
+-- before the first of them is known after the last: none sends a cell, nothing is refused, and the lists stay as they
+-- are.
+
+-- ## The ideal switch
+
+pub nobody_departs : (n slot : ℕ) → departures_in slot (replicate n None) ≡ []
+unfolding departures_in
+nobody_departs n slot = no_departures n slot 0
+
+-- fewer come in some slots than in those with the stretch before them
+pub fewer_come : (count : ℕ → ℕ → ℕ) → ((slot n : ℕ) → count (slot + 1) n ≤ count slot (suc n)) → (slot k n later : ℕ) →
+    later ≡ slot + k → count later n ≤ count slot (k + n)
+fewer_come count less slot zero n later e = grind (arith, common_steps)
+fewer_come count less slot (suc k) n later e = grind (arith, common_steps, fewer_come count less (slot + 1) k n later)
+
+-- the slots of the stretch send nothing
+nothing_departs : (k slot ports : ℕ) (gone : List (List (Option Queued))) →
+    departures_of slot (replicate k (replicate ports None) ++ gone) ≡ departures_of (slot + k) gone
+unfolding departures_of
+nothing_departs zero slot ports gone = grind (arith, common_steps)
+nothing_departs (suc k) slot ports gone = search (rules, nobody_departs, nothing_departs k (slot + 1) ports gone)
+
+sent_behind : (k slot ports : ℕ) (admissions : List Admission) (x : Result LimitedRan TagFault) →
+    sent_from slot (behind admissions (replicate k (replicate ports None)) x) ≡ sent_from (slot + k) x
+sent_behind k slot ports admissions x = grind (arith, common_steps, nothing_departs)
+
+same_run : (limits : List (Option ℕ)) (ms : List Machine) (came : List Arrival) (ports k slot n m : ℕ)
+    (s t : Marked IdealState) → m ≡ k + n → ((t : ℕ) → slot ≤ t → t < slot + k → arriving came t ≡ no_arrivals) →
+    limited_run limits ms slot (replicate k no_arrivals) s ≡ Ok (nothing_came k ports t) →
+    run_from limits ms came slot m s ≡ run_from limits ms came (slot + k) n t
+unfolding run_from
+same_run limits ms came ports k slot n m s t left quiet ran =
+    let rest = arriving_from came (slot + k) n in
+    let long = length-replicate k no_arrivals in
+    let parts : arriving_from came slot m ≡ replicate k no_arrivals ++ rest =
+    sym (arriving_parts came slot (slot + k) k n m refl left)
+    ∙ ap (λ (l : List (List (Option Cell))). l ++ rest) (quiet_slots came slot k quiet) in
+    ap (λ (l : List (List (Option Cell))). sent_from slot (limited_run limits ms slot l s)) parts
+    ∙ ap (sent_from slot) (limited_parts limits ms slot (slot + k) (replicate k no_arrivals) rest s (omega arith))
+    ∙ ap (λ (x : Result LimitedRan TagFault). sent_from slot (limited_going_on limits ms (slot + k) rest x)) ran
+    ∙ sent_behind k slot ports (replicate k (nothing_refused t.marks no_arrivals))
+    (limited_run limits ms (slot + k) rest t)
+
+module _ {ms : List Machine} {came : List Arrival} {first : IdealSwitch} {first_sent sent : RoomView Departure}
+    {slot m : ℕ} {now : IdealSwitch} (r : Running ms came first first_sent slot m now sent) where
+  pub running_rest : (ports k n : ℕ) (after : IdealSwitch) → m ≡ k + n →
+      ((t : ℕ) → slot ≤ t → t < slot + k → arriving came t ≡ no_arrivals) → (0 < k → slot + k ≤ end_of came) →
+      limited_run first.limits ms slot (replicate k no_arrivals) (marked_state now)
+      ≡ Ok (nothing_came k ports (marked_state after)) →
+      after.next ≡ slot + k → after.stopped ≡ false → after.state.lists ≡ now.state.lists →
+      after.refused ≡ now.refused → IsSameSwitch now after → Running ms came first first_sent (slot + k) n after sent
+  running_rest ports k n after left quiet late ran next running lists refused same =
+      let waits : waiting after.state.lists ≡ waiting now.state.lists = ap waiting lists in
+      let fewer : come_count (arriving_from came (slot + k) n) ≤ come_count (arriving_from came slot m) =
+      rw left (fewer_come (λ t l. come_count (arriving_from came t l)) (λ t l. omega (arith, come_here came t l)) slot
+      k n (slot + k) refl) in
+      record {
+        left = omega arith;
+        running = running;
+        next = next;
+        same = same_on r.same same;
+        whole = r.whole ∙ ap (sent_after sent.items)
+            (same_run first.limits ms came ports k slot n m (marked_state now) (marked_state after) left quiet ran);
+        lost = r.lost;
+        refused = refused ∙ r.refused;
+        ports = ap (λ (l : List (List Queued)). length l) lists ∙ r.ports;
+        each = λ j inside.
+            let was = r.each j inside in
+            let list = ap (λ (l : List (List Queued)). length (slice_index_or l j [])) lists in
+            let less : come_for j (arriving_from came (slot + k) n) ≤ come_for j (arriving_from came slot m) =
+            rw left (fewer_come (λ t l. come_for j (arriving_from came t l))
+            (λ t l. omega (arith, for_here j came t l)) slot k n (slot + k) refl) in
+            omega arith;
+        spare = omega arith;
+        few = ⊎_elim (λ some. let before = late some in omega arith) (λ none. omega arith) (cases_lt 0 k);
+        many = omega arith;
+        early = omega arith;
+      }
 
 -- ## The test
 
@@ -41,28 +366,18 @@ not_over b end slot lists going iff le none = grind (arith, common_steps, nothin
 
 -- ## The steps
 
-departures_are : (x : Result LimitedRan TagFault) → departures_limited x ≡ sent_from 0 x
-departures_are (Ok ran) = refl
-departures_are (Err fault) = refl
-
 pub whole_run : (limits : List (Option ℕ)) (ms : List Machine) (came : List Arrival) (state : Marked IdealState) →
     departures_limited (limited_run limits ms 0 (traffic_of came) state)
     ≡ run_from limits ms came 0 (enough came) state
 unfolding run_from arriving_from traffic_of
-whole_run limits ms came state = departures_are (limited_run limits ms 0 (traffic_of came) state)
-
--- the slots do not end before the arrivals
-pub ends_early : (came : List Arrival) → end_of came ≤ enough came
-unfolding enough
-ends_early came = omega arith
+whole_run limits ms came state = grind (arith, common_steps)
 
 slot_ok : (x : Result LimitedSent TagFault) → Ok tt ≡ answer_to x → (sent : LimitedSent) × (x ≡ Ok sent)
 slot_ok (Ok sent) e = (sent, refl)
 slot_ok (Err fault) e = absurd (let P : ⊥ = cc in P)
 
 slot_err : (x : Result LimitedSent TagFault) (fault : TagFault) → Err fault ≡ answer_to x → x ≡ Err fault
-slot_err (Ok sent) fault e = absurd (let P : ⊥ = cc in P)
-slot_err (Err other) fault e = let same : other ≡ fault = cc in ap (λ (f : TagFault). Err f) same
+slot_err x fault e = grind (arith, common_steps)
 
 -- what the switch says of a slot that it has had
 pub record HasHad (ms : List Machine) (slot : ℕ) (cells : List (Option Cell)) (old new : IdealSwitch)
@@ -78,9 +393,6 @@ module _ {ms : List Machine} {slot ports : ℕ} {cells : List (Option Cell)} {ol
   where
     left_here : (s : LimitedSent) × HaveLeft slot s.gone leaving left
     left_here = grind (arith, common_steps, slot_ok)
-
-    few_leave : length left.items ≤ ports
-    few_leave = few_left free left_here.1
 
     pub emptied : {after : RoomView Departure} → after.items ≡ [] → after.spare ≡ left.spare + length left.items →
         IsFree ports after
@@ -102,43 +414,30 @@ module _ (M : List ℕ → Machine) {came : List Arrival} {first : IdealSwitch} 
   module _ {slot : ℕ} {now : IdealSwitch} {sent : RoomView Departure} (r : Before slot now sent)
       (more : end_of came ≤ slot → waiting now.state.lists ≡ 0 → ⊥) where
     pub a_slot_left : slot < enough came
-    a_slot_left = grind (arith, common_steps, slot_left)
-
-    one_more : enough came - slot ≡ suc (enough came - (slot + 1))
-    one_more = let l = a_slot_left in omega arith
+    a_slot_left = let left = slot_left r more in omega arith
 
     r_next : Running (map M first.fixed) came first first_sent slot (suc (enough came - (slot + 1))) now sent
-    r_next = subst (λ (n : ℕ). Running (map M first.fixed) came first first_sent slot n now sent) one_more r
+    r_next = search (arith, rules, Running, a_slot_left)
 
     early : slot < 2 ^ 64 - 1
     early = let l = a_slot_left in let short : enough came ≤ 2 ^ 63 + 2 ^ 35 = ready.short in omega arith
-
-    arrivals_fit : (cells : List (Option Cell)) → cells ≡ arriving came slot →
-        AreForPorts (length now.fixed) (class_count (map M now.fixed)) cells
-    arrivals_fit cells are = grind (arith, common_steps, arrivals_for)
 
     room_left : (cells : List (Option Cell)) → cells ≡ arriving came slot → HasRoomFor cells now
     room_left cells are j inside = grind (arith, common_steps, for_here j came slot (enough came - (slot + 1)))
 
     room_to_count : CanCount (length now.fixed) now.refused
-    room_to_count =
-        subst (λ (fixed : List (List ℕ)). CanCount (length fixed) now.refused) (sym r.same.fixed)
-        (can_count (map M first.fixed) came first first_sent slot (enough came - slot) now sent r ready.ports
-        ready.short)
-
-    same_ports : length now.fixed ≡ length first.fixed
-    same_ports = ap (λ (l : List (List ℕ)). length l) r.same.fixed
+    room_to_count = rw r.same.fixed (can_count r ready.ports ready.short)
 
     -- the slot finds all that it asks for, with a free list for what is sent
     pub can_have : {cells : List (Option Cell)} {leaving : RoomView Departure} → cells ≡ arriving came slot →
         IsFree (length first.fixed) leaving → CanHaveSlot (map M now.fixed) slot cells now leaving
-    can_have {cells} are free = grind (arith, common_steps, early, arrivals_fit, room_left, room_to_count, same_ports)
+    can_have {cells} are free = search (arith, rules, early, room_left, room_to_count, arrivals_for)
 
     -- and the departures of the run can take over what leaves there
     pub can_take_over : {cells : List (Option Cell)} {after : IdealSwitch} {leaving left : RoomView Departure} →
         IsFree (length first.fixed) leaving → HasHad (map M now.fixed) slot cells now after leaving left →
         length left.items ≤ sent.spare
-    can_take_over free had = grind (arith, common_steps, few_leave)
+    can_take_over free had = search (arith, rules, few_left)
 
     as_now : (cells : List (Option Cell)) → cells ≡ arriving came slot →
         its_slot (map M now.fixed) slot cells now
@@ -155,8 +454,8 @@ module _ (M : List ℕ → Machine) {came : List Arrival} {first : IdealSwitch} 
         departures_limited (limited_run first.limits (map M first.fixed) 0 (traffic_of came) (marked_state first))
         ≡ Err fault
     at_fault cells fault are answer = whole_run first.limits (map M first.fixed) came (marked_state first)
-        ∙ running_fault (map M first.fixed) came first first_sent slot (enough came - (slot + 1)) now sent fault
-        r_next (sym (as_now cells are) ∙ slot_err (its_slot (map M now.fixed) slot cells now) fault answer)
+        ∙ running_fault r_next fault
+        (sym (as_now cells are) ∙ slot_err (its_slot (map M now.fixed) slot cells now) fault answer)
 
   -- a stretch is skipped
   module _ {slot next : ℕ} {now new : IdealSwitch} {sent : RoomView Departure} (r : Before slot now sent)
@@ -168,16 +467,13 @@ module _ (M : List ℕ → Machine) {came : List Arrival} {first : IdealSwitch} 
     pub at_rest : Before next new sent
     at_rest =
         let late : slot ≤ next = quiet.late in
-        let more = quiet.more in
-        let some = ends_early came in
+        let some = enough_are came in
         let left : enough came - slot ≡ next - slot + (enough came - next) =
-        ⊎_elim (λ lt. let before = more lt in omega arith) (λ ge. omega arith) (cases_lt slot next) in
+        ⊎_elim (λ lt. let before = quiet.more lt in omega arith) (λ ge. omega arith) (cases_lt slot next) in
         let there : slot + (next - slot) ≡ next = omega arith in
-        subst (λ (t : ℕ). Running (map M first.fixed) came first first_sent t (enough came - next) new sent) there
-        (running_rest (map M first.fixed) came first first_sent sent (length now.fixed) (next - slot) slot
-        (enough came - next) (enough came - slot) now new left r
-        (λ t from to. quiet.none t from (omega arith)) (λ some. let before = more (omega arith) in omega arith) ran
-        (rested.next ∙ sym there) rested.running rested.lists rested.refused
+        rw there at (running_rest r (length now.fixed) (next - slot) (enough came - next) new left
+        (λ t from to. quiet.none t from (omega arith)) (λ some. let before = quiet.more (omega arith) in omega arith)
+        ran (rested.next ∙ sym there) rested.running rested.lists rested.refused
         (record { fixed = rested.fixed; limits = rested.limits; rooms = rested.rooms }))
 
     pub more_at_rest : (end_of came ≤ slot → waiting now.state.lists ≡ 0 → ⊥) → end_of came ≤ next →

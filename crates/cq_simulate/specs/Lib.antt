@@ -1,6 +1,5 @@
 pub mod EachPacket
 pub mod Emulation
-pub mod FabricReady
 pub mod FabricRuns
 pub mod FreshFabric
 pub mod IdealRuns

@@ -1,23 +1,13 @@
 -- The slots of the engine's trials: four ports, and how many cells there are after so many slots.
-use Rattle.std.proofs.Common.{rules, ◌≡◌, ℕ, ◌+◌, ◌*◌, ◌^◌, ◌<◌, ◌≤◌, Bool, true, false, List, [], ◌∷◌, length, get_or, Option, sym, ap, ◌∙◌, subst, arith}
-use Rattle.std.specs.Prelude.{Err, Ok, OnOk, Result, if◌then◌else◌, is_some}
-use Rattle.std.proofs.lemmas.List.{get_or-replicate}
-use Rattle.cq_base.specs.declared.cell.Cell.{Cell}
+use Rattle.cq_slot_trials.proofs.Terms.{rules, ◌≡◌, ℕ, ◌+◌, ◌*◌, ◌^◌, ◌<◌, ◌≤◌, List, [], ◌∷◌, length, get_or, Option, sym, ap, ◌∙◌, subst, arith, Err, Ok, OnOk, Result, get_or-replicate, Cell, Machine, CanCount, AreForPorts, counts_fit, zero_fits, EngineView, HasGoneOn, HaveBufferRoom, HaveListRoom, SlotDone, fresh_engine, ports_of, HasGrown, common_steps}
 use Rattle.cq_base.specs.declared.cell.Departure.{Departure}
 use Rattle.cq_base.specs.declared.cell.Transfer.{Transfer}
 use Rattle.cq_base.specs.Room.{RoomView}
-use Rattle.cq_base.specs.Arrivals.{arrival_at}
-use Rattle.cq_rank.specs.Machine.{Machine}
-use Rattle.cq_ideal.specs.Limiter.{CanCount}
-use Rattle.cq_ideal.specs.Ranking.{AreForPorts}
-use Rattle.cq_ideal.proofs.Counting.{counts_fit, zero_fits}
 use Rattle.cq_laws.specs.LimitedFabric.{LimitedRecord}
 use Rattle.cq_laws.specs.Fabric.{input}
 use Rattle.cq_laws.specs.Holding.{fabric_held, held_for}
 use Rattle.cq_fabric.proofs.Limits.{nothing_for, nothing_in}
-use Rattle.cq_engine.specs.Engine.{EngineView, HasGoneOn, HaveBufferRoom, HaveListRoom, SlotDone, fresh_engine, ports_of}
 use Rattle.cq_engine.proofs.Kept.{lists_kept, outputs_kept}
-use Rattle.cq_slot_trials.specs.Trial.{HasGrown}
 use Rattle.cq_slot_trials.proofs.Arriving.{admitted_most, count_most, refusals_most}
 
 -- what follows from two facts at one variant
@@ -52,12 +42,7 @@ module _ (ms : List Machine) (slot : ℕ) (cells : List (Option Cell)) (old new 
       let had = few i in
       let kept =
       lists_kept ms slot record_is.admission.cells old.fabric new.fabric record_is.of_slot slot_done.is_slot.runs i in
-      let one = bit_most (is_some (arrival_at record_is.admission.cells i)) in
-      omega arith
-    where
-      bit_most : (b : Bool) → (if b then 1 else 0) ≤ 1
-      bit_most true = omega arith
-      bit_most false = omega arith
+      grind (arith, common_steps)
 
   held_after : (n : ℕ) → length cells ≡ 64 → ((j : ℕ) → held_for j old.fabric ≤ 64 * n) → (j : ℕ) →
       held_for j new.fabric ≤ 64 * (n + 1)

@@ -1,13 +1,7 @@
 -- What follows where a slot of the ideal switch had no fault, and it is known what became of its arrivals.
-use Rattle.std.proofs.Common.{◌≡◌, ℕ, Result, Ok, Err, List, Option, refl}
-use Rattle.std.specs.Prelude.{IfOk, OnOk}
-use Rattle.cq_base.specs.declared.cell.Cell.{Cell}
+use Rattle.cq_slot_trials.proofs.Terms.{◌≡◌, ℕ, Result, Ok, Err, List, Option, refl, IfOk, OnOk, Cell, Machine, Admission, Marked, marked, answer_to, LimitedSent, ideal_admission, limited_slot, with_admission}
 use Rattle.cq_base.specs.declared.cell.TagFault.{TagFault}
-use Rattle.cq_rank.specs.Machine.{Machine}
-use Rattle.cq_ideal.specs.Admission.{Admission, Marked, marked}
-use Rattle.cq_ideal.specs.Ideal.{answer_to}
 use Rattle.cq_ideal.specs.IdealSlot.{IdealState, Sent, ideal_slot}
-use Rattle.cq_ideal.specs.LimitedIdeal.{LimitedSent, ideal_admission, limited_slot, with_admission}
 
 module _ (limits : List (Option ℕ)) (ms : List Machine) (slot : ℕ) (cells : List (Option Cell)) (old : Marked
     IdealState) where
@@ -17,9 +11,8 @@ module _ (limits : List (Option ℕ)) (ms : List Machine) (slot : ℕ) (cells : 
       ((sent : LimitedSent) → sent.admission ≡ a → P sent → Q) → OnOk answer Q
   judged_so a (Ok sent) (Ok done) P Q e p follows =
       follows (record { admission = a; gone = sent.gone; after = marked a.marks sent.after }) refl p
-  judged_so a (Ok sent) (Err fault) P Q e p follows = tt
   judged_so a (Err fault) (Ok done) P Q e p follows = absurd (let clash : ⊥ = cc in clash)
-  judged_so a (Err fault) (Err other) P Q e p follows = tt
+  judged_so a x (Err fault) P Q e p follows = tt
 
   pub after_slot : (answer : Result (Unit {0}) TagFault) (P : LimitedSent → Type 0) (Q : Type 0) →
       answer ≡ answer_to (limited_slot limits ms slot cells old) → IfOk (limited_slot limits ms slot cells old) P →

@@ -1,3 +1,4 @@
+mod Terms
 mod Arriving
 mod IdealSlots
 mod EngineSlots

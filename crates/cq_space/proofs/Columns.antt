@@ -1,23 +1,80 @@
--- Entries as columns. All columns of a list of entries have one length. The search for a name finds its
--- first entry or shows that there is none; a new entry at the end says nothing new of any name, and leaves
--- what is open in place; a change of one column at a name's entry changes one map at that name.
-use Rattle.std.proofs.lemmas.Grind.{common_steps}
-use Rattle.std.proofs.Common.{rules, ◌≡◌, ℕ, suc, ◌+◌, ◌<◌, ◌≤◌, Bool, true, false, not, cond, nat_lt, List, [], ◌∷◌, ◌++◌, length, get_or, set, map, string_bytes, refl, ap, sym, subst, ◌∙◌, arith, length-append, unwrap_or, add-zero}
-use Rattle.std.proofs.lemmas.List.{length-map, map-append, map-set, get_or_append_left, get_or-map, set-get_or}
-use Rattle.std.proofs.Math.Seq.{get_or-append_seam, map-set_same}
-use Rattle.std.proofs.lemmas.Bool.{ltb-true, ltb-false, eq-eqb, ne_eqb}
-use Rattle.std.proofs.lemmas.List.Sums.{prefix_len-le-length}
-use Rattle.std.specs.declared.alloc.Global.{Global}
-use Rattle.std.proofs.lemmas.List.Folds.{position_or_len_push}
-use Rattle.std.specs.Prelude.{Option, None, Some, Vec}
-use Rattle.std.specs.List.{position, position_or_len}
-use Rattle.std.specs.Option.{option_map}
-use Rattle.cq_space.specs.declared.entries.Entry.{Entry}
-use Rattle.cq_space.specs.declared.entries.State.{State}
+-- The map that entries stand for: what it answers of a name, and what a change of one entry does to it.
+-- The map is made from the last entry to the first, so a name has the value of its first entry. Two maps
+-- that answer alike are equal, so lemmas on maps compare what they answer, by an induction on the
+-- entries: the first entry of a name is at the head, or the head has another name.
+use Rattle.cq_space.proofs.Terms.{common_steps, rules, ◌≡◌, ℕ, ◌+◌, ◌<◌, ◌≤◌, Bool, true, false, not, cond, List, [], ◌∷◌, ◌++◌, length, get_or, set, refl, ap, sym, ◌∙◌, arith, Option, None, Some, position_or_len, is_eq-slice_cmp, bytes_eq-Decides, nat_cmp, eq_by_cmp_equiv, slice_cmp, nat_list_cmp_total, FinMap, get, get-empty, get-insert, get-remove, same_map, slice_cmp-IsAntisymmetric, nat_cmp-IsAntisymmetric, same_name, put, by_name, IsEntryOf, nat_lt, string_bytes, length-append, unwrap_or, add-zero, length-map, map-append, map-set, get_or_append_left, get_or-map, set-get_or, get_or-append_seam, map-set_same, ltb-false, eq-eqb, ne_eqb, prefix_len-le-length, Global, position_or_len_push, position_or_len_is, Vec, position, option_map, Entry, State, Columns, columns_of, told_at, bytes_at, IsInPlace, with_bytes, SaysTheSame, position_or_len-map}
+use Rattle.std.specs.FinMap.{insert}
 use Rattle.cq_space.specs.declared.entries.State.TheVariants as state
-use Rattle.cq_space.specs.Space.{Writing}
-use Rattle.cq_space.specs.Entries.{same_name, Columns, columns_of, IsEntryOf, told_at, bytes_at, mode_of, IsInPlace, with_bytes, with_read_cut, with_write_cut, SaysTheSame}
-use Rattle.cq_space.proofs.ByName.{is_same, same_self, by_name-push}
+use Rattle.std.proofs.lemmas.List.Quantifiers.{position-Some}
+
+-- names that the test calls the same are equal
+pub is_same : (q name : List ℕ) → same_name q name ≡ true → q ≡ name
+is_same q name e = grind (arith, common_steps, is_eq-slice_cmp q name, bytes_eq-Decides q name)
+
+pub same_self : (name : List ℕ) → same_name name name ≡ true
+same_self name = (eq_by_cmp_equiv nat_list_cmp_total).refl name
+
+module _ {X : Type 0} where
+  -- maps that answer alike are equal
+  pub same_answers : (m n : FinMap (slice_cmp nat_cmp) X) → ((q : List ℕ) → get m q ≡ get n q) → m ≡ n
+  same_answers m n alike = same_map nat_list_cmp_total (slice_cmp-IsAntisymmetric nat_cmp-IsAntisymmetric) m n alike
+
+  get-put : (m : FinMap (slice_cmp nat_cmp) X) (name : List ℕ) (value : Option X) (q : List ℕ) →
+      get (put m name value) q ≡ cond (same_name q name) value (get m q)
+  get-put m name None q = get-remove nat_list_cmp_total m name q
+  get-put m name (Some x) q = get-insert nat_list_cmp_total m name x q
+
+  -- the first entry of a name has its value; a name without an entry has none
+  pub get-first : (names : List (List ℕ)) (values : List (Option X)) (name : List ℕ) → length values ≡ length names →
+      get (by_name names values) name ≡ get_or values (position_or_len (same_name name) names) None
+  get-first [] [] name even = get-empty (slice_cmp nat_cmp) name
+  get-first [] (v ∷ values) name even = absurd (omega arith)
+  get-first (n ∷ names) [] name even = absurd (omega arith)
+  get-first (n ∷ names) (value ∷ values) name even =
+      grind (arith, common_steps, get-put, get-first names values name)
+
+  changed : (b : Bool) (n name q : List ℕ) (w value : Option X) (names : List (List ℕ)) (values : List (Option X))
+      (place : ℕ)
+      → same_name name n ≡ b →
+      (b ≡ false → get (by_name names (set values place w)) q ≡ cond (same_name q name) w
+      (get (by_name names values) q))
+      →
+      get (by_name (n ∷ names) (set (value ∷ values) (cond (not b) (1 + place) 0) w)) q
+      ≡ cond (same_name q name) w (get (by_name (n ∷ names) (value ∷ values)) q)
+  changed true n name q w value names values place is later =
+      let e : name ≡ n = is_same name n is in grind (arith, common_steps, get-put)
+  changed false n name q w value names values place is later = search (arith, rules, is_same q name, get-put)
+
+  -- a change of the first entry of a name changes its value, and no other
+  get-set : (names : List (List ℕ)) (values : List (Option X)) (name : List ℕ) (w : Option X) (q : List ℕ) →
+      position_or_len (same_name name) names < length names → length values ≡ length names
+      →
+      get (by_name names (set values (position_or_len (same_name name) names) w)) q
+      ≡ cond (same_name q name) w (get (by_name names values) q)
+  get-set [] values name w q there even = absurd (omega arith)
+  get-set (n ∷ names) [] name w q there even = absurd (omega arith)
+  get-set (n ∷ names) (value ∷ values) name w q there even =
+      grind (arith, common_steps, changed, get-set names values name w q)
+
+  pub by_name-set : (names : List (List ℕ)) (values : List (Option X)) (i : ℕ) (name : List ℕ) (x : X) →
+      IsEntryOf names i name → length values ≡ length names →
+      by_name names (set values i (Some x)) ≡ insert (by_name names values) name x
+  by_name-set names values i name x is even =
+      let inserted = get-insert nat_list_cmp_total (by_name names values) name x in
+      same_answers _ _ (λ q. grind (arith, common_steps, get-set, inserted))
+
+  -- an entry without a value, put at the end, changes no value
+  pub by_name-push : (names : List (List ℕ)) (values : List (Option X)) (name : List ℕ) →
+      length values ≡ length names → by_name (names ++ name ∷ []) (values ++ None ∷ []) ≡ by_name names values
+  by_name-push [] [] name even =
+      let removed = get-remove {X = X} nat_list_cmp_total (by_name [] []) name in
+      same_answers _ _ (λ q. grind (arith, common_steps, removed, get-empty {X = X} (slice_cmp nat_cmp) q))
+  by_name-push [] (v ∷ values) name even = absurd (omega arith)
+  by_name-push (n ∷ names) [] name even = absurd (omega arith)
+  by_name-push (n ∷ names) (value ∷ values) name even = search (rules, arith, by_name-push names values name)
+
+-- ## Entries as columns, all of one length. A new entry at the end says nothing new of any name, and leaves what is
+-- open in place; a change of one column at the entry of a name changes one map at that name.
 
 pub record AreEven (c : Columns) : Type 0 where
   pub bytes : length c.bytes ≡ length c.names
@@ -29,52 +86,26 @@ are_even es = grind (arith, common_steps, length-map)
 
 -- the search for a name
 
-at_first : (b : Bool) (n name : List ℕ) (names : List (List ℕ)) (place : ℕ) → same_name name n ≡ b →
-    cond (not b) (1 + place) 0 < suc (length names) →
-    (b ≡ false → place < length names → get_or names place [] ≡ name) →
-    get_or (n ∷ names) (cond (not b) (1 + place) 0) [] ≡ name
-at_first true n name names place is h later = sym (is_same name n is)
-at_first false n name names place is h later = grind (arith, common_steps)
+abbrev pub has_name : List ℕ → Entry → Bool
+has_name name e = same_name name (string_bytes e.name)
 
--- the entry at the first place has the name
-first_named : (names : List (List ℕ)) (name : List ℕ) → position_or_len (same_name name) names < length names →
-    get_or names (position_or_len (same_name name) names) [] ≡ name
-first_named [] name h = absurd (omega arith)
-first_named (n ∷ names) name h = grind (arith, common_steps, at_first, first_named names name)
-
-entry_first : (names : List (List ℕ)) (i : ℕ) (name : List ℕ) → i < length names →
-    position_or_len (same_name name) names ≡ i → IsEntryOf names i name
-entry_first names i name there first = grind (arith, common_steps, first_named)
-
-position_or_len-map : {X Y : Type 0} (p : Y → Bool) (f : X → Y) (xs : List X) →
-    position_or_len p (map f xs) ≡ position_or_len (λ x. p (f x)) xs
-position_or_len-map p f [] = refl
-position_or_len-map p f (x ∷ xs) = ap (λ n. cond (not (p (f x))) (1 + n) 0) (position_or_len-map p f xs)
-
-some_place : (b : Bool) (place count i : ℕ) → nat_lt place count ≡ b → cond b (Some place) None ≡ Some i →
-    (place < count) × (place ≡ i)
-some_place true place count i is e = (ltb-true place count is, cc)
-some_place false place count i is e = absurd (let P : ⊥ = cc in P)
-
-no_place : (b : Bool) (place count : ℕ) (o : Option ℕ) → nat_lt place count ≡ b → cond b (Some place) None ≡ o →
-    o ≡ None → count ≤ place
-no_place true place count o is e none = absurd (let P : ⊥ = cc in P)
-no_place false place count o is e none = omega (arith, ltb-false)
+entry_found : (names : List (List ℕ)) (name : List ℕ) (i : ℕ) → position (same_name name) names ≡ Some i →
+    IsEntryOf names i name
+entry_found names name i e =
+    let at = position-Some (same_name name) names i [] e in
+    let first = position_or_len_is (same_name name) names i [] (omega arith) at.2 (λ _. at.1) in
+    record { there = at.0; first = first; named = sym (is_same name _ at.1) }
 
 pub finds : (es found : List Entry) (name : List ℕ) (i : ℕ) → found ≡ es →
-    Some i ≡ position (λ e. same_name name (string_bytes e.name)) found → IsEntryOf (columns_of es).names i name
+    Some i ≡ position (has_name name) found → IsEntryOf (columns_of es).names i name
 finds es found name i same answer =
-    let p = λ (f : Entry). same_name name (string_bytes f.name) in
-    let e : position p es ≡ Some i = ap (λ (xs : List Entry). position p xs) (sym same) ∙ sym answer in
-    let at = some_place (nat_lt (position_or_len p es) (length es)) (position_or_len p es) (length es) i refl e in
-    let there : i < length (columns_of es).names =
-    omega (arith, at.0, at.1, length-map es (λ (f : Entry). string_bytes f.name)) in
-    search (arith, rules, position_or_len-map, string_bytes, entry_first)
+    let there = ap (position (has_name name)) (sym same) ∙ sym answer in
+    entry_found _ name i (search (rules, length-map, string_bytes, position_or_len-map))
 
-pub finds_none : (es found : List Entry) (name : List ℕ) → found ≡ es →
-    None ≡ position (λ e. same_name name (string_bytes e.name)) found →
+pub finds_none : (es found : List Entry) (name : List ℕ) → found ≡ es → None ≡ position (has_name name) found →
     length (columns_of es).names ≤ position_or_len (same_name name) (columns_of es).names
-finds_none es found name same answer = search (rules, string_bytes, no_place, nat_lt, length-map, position_or_len-map)
+finds_none es found name same answer =
+    search (arith, rules, string_bytes, nat_lt, length-map, position_or_len-map, ltb-false)
 
 -- a new entry at the end
 
@@ -91,65 +122,33 @@ columns_of-push : (es : List Entry) (e : Entry) → e.bytes ≡ None → e.read_
     columns_of (es ++ e ∷ []) ≡ grown (columns_of es) (string_bytes e.name)
 columns_of-push es e bytes reads writes = grind (arith, common_steps, map-append, string_bytes)
 
-IsEntryOf-push : (names : List (List ℕ)) (n name : List ℕ) (i : ℕ) → IsEntryOf names i name →
-    IsEntryOf (names ++ n ∷ []) i name
-IsEntryOf-push names n name i is = search (rules, ne_eqb, length-append, position_or_len_push, get_or_append_left)
-
-new_entry : (names : List (List ℕ)) (name : List ℕ) → length names ≤ position_or_len (same_name name) names →
-    IsEntryOf (names ++ name ∷ []) (length names) name
-new_entry names name none =
-    let all : position_or_len (same_name name) names ≡ length names =
-    omega (arith, none, prefix_len-le-length (λ x. not (same_name name x)) names) in
-    record {
-      there = omega (arith, length-append names (name ∷ []));
-      first = position_or_len_push (same_name name) names name
-          ∙ ap (λ b. cond b (length names + cond (same_name name name) 0 1) (position_or_len (same_name name) names))
-          (eq-eqb _ _ all)
-          ∙ ap (λ b. length names + cond b 0 1) (same_self name)
-          ∙ add-zero (length names);
-      named = get_or-append_seam names name [] [];
-    }
-
-same_mode : (c : Columns) (name : List ℕ) → AreEven c → (s : State) → IsInPlace c s →
-    mode_of (grown c name) s ≡ mode_of c s
-same_mode c name even state.Shut sound = refl
-same_mode c name even (state.Reads at place) sound = grind (arith, common_steps, get_or_append_left, unwrap_or)
-same_mode c name even (state.Writes at) sound = ap Writing (get_or_append_left c.names (name ∷ []) [] at sound.0.there)
-
 still_entry : (names : List (List ℕ)) (n : List ℕ) (at : ℕ) → IsEntryOf names at (get_or names at []) →
     IsEntryOf (names ++ n ∷ []) at (get_or (names ++ n ∷ []) at [])
-still_entry names n at is = grind (arith, common_steps, get_or_append_left, IsEntryOf-push)
+still_entry names n at is = search (arith, rules, get_or_append_left, ne_eqb, length-append, position_or_len_push)
 
 still_in_place : (c : Columns) (name : List ℕ) → AreEven c → (s : State) → IsInPlace c s → IsInPlace (grown c name) s
 still_in_place c name even state.Shut sound = tt
 still_in_place c name even (state.Reads at place) sound = search (rules, unwrap_or, still_entry, get_or_append_left)
 still_in_place c name even (state.Writes at) sound = grind (arith, common_steps, still_entry, get_or_append_left)
 
-says_grown : (c : Columns) (name : List ℕ) → AreEven c → SaysTheSame c (grown c name)
-says_grown c name even = grind (arith, common_steps, by_name-push, same_mode, still_in_place)
+-- a list with one more behind it
+ruleset seams = (get_or_append_left, unwrap_or)
+
+ruleset lengths = (map-append, length-map, length-append, add-zero)
 
 pub says_pushed : (es new : List Entry) (e : Entry) → new ≡ es ++ e ∷ [] → e.bytes ≡ None → e.read_cut ≡ None →
     e.write_cut ≡ None → SaysTheSame (columns_of es) (columns_of new)
 says_pushed es new e is bytes reads writes =
-    let P : Columns → Type 0 = λ (c : Columns). SaysTheSame (columns_of es) c in
-    subst P (sym (ap columns_of is ∙ columns_of-push es e bytes reads writes))
-    (says_grown (columns_of es) (string_bytes e.name) (are_even es))
+    grind (arith, common_steps, columns_of-push, string_bytes, are_even, by_name-push, still_in_place, seams)
 
 pub pushed_first : (es new : List Entry) (e : Entry) (name : List ℕ) (at : ℕ) → new ≡ es ++ e ∷ [] →
     string_bytes e.name ≡ name → at ≡ length es →
     length (columns_of es).names ≤ position_or_len (same_name name) (columns_of es).names →
     IsEntryOf (columns_of new).names at name
-pushed_first es new e name at is named place none = grind (arith, common_steps, map-append, length-map, new_entry)
+pushed_first es new e name at is named place none =
+    search (arith, rules, lengths, prefix_len-le-length, position_or_len_push, eq-eqb, same_self, get_or-append_seam)
 
 -- a change of one entry
-
-pub reading_cut : (es : List Entry) (i : ℕ) (d : Entry) (after : ℕ) →
-    columns_of (set es i (record (get_or es i d) { read_cut = Some after })) ≡ with_read_cut (columns_of es) i after
-reading_cut es i d after = grind (arith, common_steps, map-set_same, string_bytes, map-set)
-
-pub writing_cut : (es : List Entry) (i : ℕ) (d : Entry) (after : ℕ) →
-    columns_of (set es i (record (get_or es i d) { write_cut = Some after })) ≡ with_write_cut (columns_of es) i after
-writing_cut es i d after = grind (arith, common_steps, map-set_same, string_bytes, map-set)
 
 pub given_bytes : (es : List Entry) (i : ℕ) (d : Entry) (v : Vec ℕ Global) →
     columns_of (set es i (record (get_or es i d) { bytes = Some v })) ≡ with_bytes (columns_of es) i v.items

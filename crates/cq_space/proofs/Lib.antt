@@ -1,6 +1,4 @@
-pub mod ByName
+mod Terms
 pub mod Columns
 pub mod InMemory
-pub mod Pieces
 pub mod Replaced
-pub mod Reading

@@ -1,45 +1,47 @@
--- A name that is written piece after piece.
-use Rattle.std.proofs.lemmas.Grind.{common_steps}
-use Rattle.std.proofs.Common.{arith, ◌≡◌, ℕ, ◌+◌, ◌-◌, Bool, true, false, cond, List, ◌++◌, length, take, drop, refl, ap, sym, ◌∙◌}
-use Rattle.std.proofs.Math.Seq.{take-add}
-use Rattle.std.specs.Prelude.{Option, None, Some}
-use Rattle.std.specs.Ordering.{nat_cmp, eq_by_cmp}
-use Rattle.std.specs.Cmp.{eq_by_cmp_equiv}
-use Rattle.std.specs.Cmp.Lexicographic.{slice_cmp, nat_list_cmp_total}
-use Rattle.std.specs.FinMap.{get, insert, get-insert, same_map, slice_cmp-IsAntisymmetric, nat_cmp-IsAntisymmetric}
-use Rattle.cq_space.specs.Space.{Contents, Mode, Writing, bytes_of, replaced, appended, written_name}
-use Rattle.cq_space.proofs.Pieces.{take_of_rest}
+-- A name that is written, or read, piece after piece: what was put so far, and what was taken and what is left.
+use Rattle.cq_space.proofs.Terms.{◌∙◌, rules, common_steps, arith, ◌≡◌, ℕ, ◌+◌, ◌-◌, ◌≤◌, List, length, take, drop, ap, append_assoc, ◌++◌, take-add, take_rest, length-drop, append_known, Option, Some, IfSome, nat_list_cmp_total, get, get-insert, Contents, Mode, Closed, Reading, Writing, IsReading, replaced, appended, written_name}
+use Rattle.std.specs.FinMap.{insert}
+use Rattle.cq_space.proofs.Columns.{same_self, same_answers}
+
+-- the first n of the rest, as the code takes them, is what follows
+take_of_rest : (bs : List ℕ) (done n : ℕ) → take n (take (length bs - done) (drop done bs)) ≡ take n (drop done bs)
+take_of_rest bs done n = ap (take n) (take_rest bs done)
+
+pub length-rest : (bs : List ℕ) (done n : ℕ) → done ≤ length bs →
+    n ≤ length (take (length bs - done) (drop done bs)) → done + n ≤ length bs
+length-rest bs done n h k = let e = ap length (take_rest bs done) in omega (arith, e, length-drop done bs)
+
+-- one more piece
+pub put_on : (known before now : Option (List ℕ)) (bs : List ℕ) (done n : ℕ) →
+    before ≡ append_known known (take done bs) →
+    now ≡ append_known before (take n (take (length bs - done) (drop done bs))) →
+    now ≡ append_known known (take (done + n) bs)
+put_on known before now bs done n front piece = search (arith, rules, take_of_rest, append_assoc, take-add)
 
 pub get_same : (m : Contents) (name bytes : List ℕ) → get (insert m name bytes) name ≡ Some bytes
-get_same m name bytes = get-insert nat_list_cmp_total m name bytes name
-    ∙ ap (λ b. cond b (Some bytes) (get m name)) ((eq_by_cmp_equiv nat_list_cmp_total).refl name)
+get_same m name bytes = get-insert nat_list_cmp_total m name bytes name ∙ rw (same_self name)
 
-overwrite : (b : Bool) (x y z : Option (List ℕ)) → cond b x (cond b y z) ≡ cond b x z
-overwrite true x y z = refl
-overwrite false x y z = refl
-
-pub insert-insert : (m : Contents) (name front bytes : List ℕ) →
+insert-insert : (m : Contents) (name front bytes : List ℕ) →
     insert (insert m name front) name bytes ≡ insert m name bytes
 insert-insert m name front bytes =
-    same_map nat_list_cmp_total (slice_cmp-IsAntisymmetric nat_cmp-IsAntisymmetric) _ _ (λ q.
-    get-insert nat_list_cmp_total (insert m name front) name bytes q
-    ∙ ap (cond (eq_by_cmp (slice_cmp nat_cmp) q name) (Some bytes)) (get-insert nat_list_cmp_total m name front q)
-    ∙ overwrite (eq_by_cmp (slice_cmp nat_cmp) q name) (Some bytes) (Some front) (get m q)
-    ∙ sym (get-insert nat_list_cmp_total m name bytes q))
+    let set = get-insert {X = List ℕ} nat_list_cmp_total in
+    same_answers _ _ (λ q. grind (arith, common_steps, set (insert m name front) name bytes q, set m name))
 
-pub insert-appended : (m : Contents) (name front piece : List ℕ) →
-    insert (insert m name front) name (bytes_of (insert m name front) name ++ piece) ≡ insert m name (front ++ piece)
-insert-appended m name front piece = grind (arith, common_steps, get_same, insert-insert)
-
-pub appended-replaced : (told : Option Contents) (name front piece : List ℕ) →
-    appended name piece (replaced name front told) ≡ replaced name (front ++ piece) told
-appended-replaced None name front piece = refl
-appended-replaced (Some m) name front piece = ap Some (insert-appended m name front piece)
-
--- one more piece of the bytes
+-- one more piece of the bytes of a name
 pub replaced_on : (start before now : Option Contents) (mode : Mode) (name bytes : List ℕ) (done n : ℕ) →
     mode ≡ Writing name → before ≡ replaced name (take done bytes) start →
     now ≡ appended (written_name mode) (take n (take (length bytes - done) (drop done bytes))) before →
     now ≡ replaced name (take (done + n) bytes) start
 replaced_on start before now mode name bytes done n begun front piece =
-    grind (arith, common_steps, appended-replaced, take_of_rest, take-add)
+    search (arith, rules, take_of_rest, take-add, get_same, insert-insert)
+
+-- these bytes were taken of the name, and what is left is the rest
+abbrev pub LeftAfter : Contents → List ℕ → List ℕ → Mode → Type 0
+LeftAfter m name taken Closed = ⊥
+LeftAfter m name taken (Reading at left) = get m name ≡ Some (taken ++ left)
+LeftAfter m name taken (Writing at) = ⊥
+
+-- reading goes on, and where contents are told these bytes were taken of the name
+pub record HasRead (told : Option Contents) (name taken : List ℕ) (mode : Mode) : Type 0 where
+  pub reading : IsReading mode
+  pub left : IfSome told (λ m. LeftAfter m name taken mode)

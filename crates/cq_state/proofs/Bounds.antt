@@ -1,21 +1,9 @@
 -- The numbers of a line are within what the state keeps of them, since they are within the ranges of its kind.
-use Rattle.std.proofs.lemmas.Grind.{common_steps}
-use Rattle.std.proofs.Common.{ℕ, ◌-◌, ◌^◌, ◌<◌, ◌≤◌, List, length, get_or, Option, None, Some, arith, lit≤}
-use Rattle.std.specs.Prelude.{unwrap_or}
-use Rattle.cq_lines.specs.declared.range.Range.{Range}
-use Rattle.cq_lines.specs.Ranges.{Within, InRange, any_number}
-use Rattle.cq_state.specs.declared.kind.Kind.{Kind}
-use Rattle.cq_state.specs.declared.kind.Kind.TheVariants.{Version, Next, Shape, Sum, Input, Rank, Listed, Buffered, Sent, Moved, End}
-use Rattle.cq_state.specs.StateText.{cell, ranges, further}
-use Rattle.cq_state.specs.Gather.{AreLow, AreNamedAt, number_at}
-
-most_of : (r : Range) (f : Option ℕ) → InRange r f → unwrap_or f 0 ≤ r.most
-most_of r None is = omega arith
-most_of r (Some n) is = is.1
+use Rattle.cq_state.proofs.Terms.{rules, ℕ, ◌-◌, ◌^◌, ◌<◌, ◌≤◌, List, length, get_or, Option, arith, lit≤, common_steps, Range, Within, any_number, Kind, Version, Next, Shape, Sum, Input, Rank, Listed, Buffered, Sent, Moved, End, cell, ranges, further, AreLow, AreNamedAt, number_at}
 
 number_low : (rs : List Range) (further : ℕ) (fs : List (Option ℕ)) (i : ℕ) → Within rs further fs → i < length rs →
     number_at fs i ≤ (get_or rs i any_number).most
-number_low rs further fs i within inside = grind (arith, common_steps, most_of, within.each)
+number_low rs further fs i within inside = search (arith, rules)
 
 number_below : (rs : List Range) (further : ℕ) (fs : List (Option ℕ)) (i n : ℕ) → Within rs further fs → i < length rs →
     (get_or rs i any_number).most < n → number_at fs i < n

@@ -1,14 +1,8 @@
 -- Which line comes next. The kinds that are due are tried in order. What may come where a later kind is due may come
 -- at the place, since every kind before it has all its lines. And a line that stands there and may come at the place
 -- is of no kind before it, for none such stands there. So where the search ends, no line that may come stands there.
-use Rattle.std.proofs.Common.{◌≡◌, ℕ, ◌+◌, ◌^◌, ◌<◌, ◌≤◌, List, ◌++◌, length}
-use Rattle.cq_lines.proofs.Going.{SoFar}
-use Rattle.cq_state.specs.declared.gather.Gathered.{Gathered}
-use Rattle.cq_state.specs.declared.kind.Kind.{Kind}
+use Rattle.cq_state.proofs.Terms.{◌≡◌, ℕ, ◌+◌, ◌^◌, ◌<◌, ◌≤◌, List, ◌++◌, length, SoFar, Gathered, Kind, state_of, gathered, nothing, place_of, Line, Place, ComesAt, Comes, HasAll, spelled, start}
 use Rattle.cq_state.specs.declared.next.Place as kept
-use Rattle.cq_state.specs.Gather.{state_of, gathered, nothing}
-use Rattle.cq_state.specs.Places.{place_of}
-use Rattle.cq_state.specs.StateText.{Line, Place, ComesAt, Comes, HasAll, spelled, start}
 
 -- what comes at a place may be told where these kinds are due
 pub record Here (old : List Kind) (old_seen ports : ℕ) (text : List ℕ) (due : List Kind) (seen : ℕ) : Type 0 where

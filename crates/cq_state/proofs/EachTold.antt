@@ -1,21 +1,11 @@
 -- Each text that is allowed is that of a state. From the front on: where a kind is due, the lines that lead to the
 -- end of the text begin with those of this kind, each of which tells what its fields say, and what is behind them
 -- leads to the end from where the next kind is due.
-use Rattle.std.proofs.lemmas.Grind.{common_steps}
-use Rattle.std.proofs.Common.{◌≡◌, ℕ, ◌+◌, ◌<◌, ◌≤◌, List, [], ◌∷◌, ◌++◌, length, Option, refl, ap, subst, ◌∙◌, arith, ⊎_elim, inl, inr}
-use Rattle.std.specs.Prelude.{IsTrue, ◌⊎◌}
-use Rattle.std.specs.List.{AllByRecursion}
-use Rattle.cq_lines.specs.Ranges.{Within}
+use Rattle.cq_state.proofs.Terms.{rules, ◌≡◌, ℕ, ◌+◌, ◌<◌, ◌≤◌, add-zero, List, [], ◌∷◌, ◌++◌, length, Option, refl, arith, ⊎_elim, inl, inr, common_steps, IsTrue, ◌⊎◌, AllByRecursion, Within, Kind, Line, is_free, needed, ranges, further, ports_behind, numbered}
 use Rattle.cq_state.proofs.Written.{at, Completes}
-use Rattle.cq_state.specs.declared.kind.Kind.{Kind}
-use Rattle.cq_state.specs.StateText.{Line, is_free, needed, ranges, further, ports_behind}
-use Rattle.cq_state.specs.State.{numbered}
 
 abbrev pub line_of : Kind → List (Option ℕ) → Line
 line_of k fs = record { kind = k; fields = fs }
-
-of_kind : (k : Kind) (x : Line) → x.kind ≡ k → x ≡ line_of k x.fields
-of_kind k x e = ap (λ j. line_of j x.fields) e
 
 -- at the end of the text nothing is lacking, and nothing of the kinds behind the first that is due
 ends : (k : Kind) (due : List Kind) (seen ports : ℕ) → Completes (at (k ∷ due) seen ports) [] →
@@ -34,7 +24,7 @@ goes_on : (k : Kind) (due : List Kind) (seen ports : ℕ) (x : Line) (xs : List 
     Completes (at (k ∷ due) seen ports) (x ∷ xs) →
     One k due seen ports x xs ⊎ ((needed ports k ≤ seen) × Completes (at due 0 ports) (x ∷ xs))
 unfolding Completes
-goes_on k due seen ports x xs c = grind (arith, common_steps, of_kind)
+goes_on k due seen ports x xs c = search (arith, rules)
 
 -- ## One line
 
@@ -73,57 +63,34 @@ module _ {X : Type 0} (k : Kind) (due : List Kind) (ports : ℕ) (told : (fs : L
     pub few : IsTrue (is_free k) ⊎ (seen + length values ≤ needed ports k)
     pub rest : Completes (at due 0 ports) behind
 
+  none_told : (xs : List Line) (seen : ℕ) → IsTrue (is_free k) ⊎ (seen ≤ needed ports k) →
+      (needed ports k ≤ seen) × Completes (at due 0 ports) xs → ManyTold seen xs
+  none_told xs seen few later = record {
+    values = [];
+    behind = xs;
+    is = refl;
+    in_range = tt;
+    enough = omega (arith, later.0);
+    few = rw add-zero few;
+    rest = later.1;
+  }
+
   pub many_told : (xs : List Line) (seen : ℕ) → IsTrue (is_free k) ⊎ (seen ≤ needed ports k) →
       Completes (at (k ∷ due) seen ports) xs → ManyTold seen xs
-  many_told [] seen few c = let end = ends k due seen ports c in
-      record {
-        values = [];
-        behind = [];
-        is = refl;
-        in_range = tt;
-        enough = none end.0;
-        few = none_few few;
-        rest =
-            end.1;
-      }
-    where
-      none : needed ports k ≤ seen → needed ports k ≤ seen + 0
-      none enough = omega arith
-
-      none_few : IsTrue (is_free k) ⊎ (seen ≤ needed ports k) → IsTrue (is_free k) ⊎ (seen + 0 ≤ needed ports k)
-      none_few few = ⊎_elim (λ free. inl free) (λ low. inr (omega arith)) few
+  many_told [] seen few c = none_told [] seen few (ends k due seen ports c)
   many_told (x ∷ xs) seen few c = ⊎_elim
-      (λ one. more one (many_told xs (seen + 1) (room one.room) (subst (λ n. Completes (at (k ∷ due) (seen + 1) n) xs)
-      (told x.fields) one.rest)))
-      (λ later. record {
-        values = [];
-        behind = x ∷ xs;
-        is = refl;
-        in_range = tt;
-        enough = none later.0;
-        few = none_few few;
-        rest = later.1;
-      }) (goes_on k due seen ports x xs c)
-    where
-      none : needed ports k ≤ seen → needed ports k ≤ seen + 0
-      none enough = omega arith
-
-      none_few : IsTrue (is_free k) ⊎ (seen ≤ needed ports k) → IsTrue (is_free k) ⊎ (seen + 0 ≤ needed ports k)
-      none_few few = ⊎_elim (λ free. inl free) (λ low. inr (omega arith)) few
-
-      room : IsTrue (is_free k) ⊎ (seen < needed ports k) → IsTrue (is_free k) ⊎ (seen + 1 ≤ needed ports k)
-      room few = ⊎_elim (λ free. inl free) (λ low. inr (omega arith)) few
-
-      more : One k due seen ports x xs → ManyTold (seen + 1) xs → ManyTold seen (x ∷ xs)
-      more one rest =
-          let reads_one = reads seen x.fields one.within in
-          let enough = rest.enough in
-          record {
-            values = value x.fields ∷ rest.values;
-            behind = rest.behind;
-            is = ap (λ y. y ∷ xs) (one.is ∙ reads_one.0) ∙ ap (λ ys. line seen (value x.fields) ∷ ys) rest.is;
-            in_range = (reads_one.1, rest.in_range);
-            enough = omega arith;
-            few = ⊎_elim (λ free. inl free) (λ low. inr (omega arith)) rest.few;
-            rest = rest.rest;
-          }
+      (λ one.
+      let reads_one = reads seen x.fields one.within in
+      let rest = many_told xs (seen + 1) (⊎_elim (λ free. inl free) (λ low. inr (omega arith)) one.room)
+      (rw (told x.fields) at one.rest) in
+      let enough = rest.enough in
+      record {
+        values = value x.fields ∷ rest.values;
+        behind = rest.behind;
+        is = cc (one.is, reads_one.0, rest.is);
+        in_range = (reads_one.1, rest.in_range);
+        enough = omega arith;
+        few = ⊎_elim (λ free. inl free) (λ low. inr (omega arith)) rest.few;
+        rest = rest.rest;
+      })
+      (none_told (x ∷ xs) seen few) (goes_on k due seen ports x xs c)

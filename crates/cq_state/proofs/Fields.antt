@@ -1,22 +1,8 @@
 -- What the fields of a line tell. Fields are in the ranges of a kind of line exactly where they are the numbers of
 -- what the line tells, and these are in their own ranges. Fields are taken one by one, for each range asks for its
 -- own.
-use Rattle.std.proofs.Common.{rules, ◌≡◌, ℕ, zero, suc, ◌-◌, ◌^◌, ◌<◌, ◌≤◌, true, false, List, [], ◌∷◌, length, map, get_or, Option, None, Some, refl, ap, sym, ◌∙◌, arith}
-use Rattle.std.proofs.lemmas.Grind.{common_steps}
-use Rattle.std.proofs.lemmas.List.{length-map}
-use Rattle.std.specs.Prelude.{⊤, IfSome, unwrap_or}
-use Rattle.std.specs.List.{AllByRecursion}
-use Rattle.cq_base.specs.declared.cell.Transfer.{Transfer}
-use Rattle.cq_lines.specs.declared.range.Range.{Range}
-use Rattle.cq_lines.specs.Ranges.{Within, InRange, any_number}
-use Rattle.cq_state.specs.declared.state.Head.{Head}
-use Rattle.cq_state.specs.declared.state.Seen.{Seen}
-use Rattle.cq_state.specs.declared.state.Named.{Named}
+use Rattle.cq_state.proofs.Terms.{rules, ◌≡◌, ℕ, zero, suc, ◌-◌, ◌^◌, ◌<◌, ◌≤◌, true, false, List, [], ◌∷◌, length, map, get_or, Option, None, Some, refl, ap, sym, ◌∙◌, arith, common_steps, length-map, ⊤, unwrap_or, AllByRecursion, Transfer, Range, Within, InRange, any_number, Head, Seen, Named, Shape, Moved, between, count, count_or_none, port, cell, ranges, IsCount, IsHead, IsSeen, AreRankNumbers, IsNamed, IsSent, IsMoved, cell_numbers, number_at, seen_of, rank_of, named_of, sent_of, moved_of}
 use Rattle.cq_state.specs.declared.state.Sent.{Sent}
-use Rattle.cq_state.specs.declared.kind.Kind.TheVariants.{Shape, Moved}
-use Rattle.cq_state.specs.StateText.{between, count, count_or_none, port, cell, ranges}
-use Rattle.cq_state.specs.State.{IsCount, IsHead, IsSeen, AreRankNumbers, IsNamed, IsSent, IsMoved, cell_numbers}
-use Rattle.cq_state.specs.Gather.{number_at, seen_of, rank_of, named_of, sent_of, moved_of}
 
 -- ## From numbers to fields
 
@@ -26,37 +12,18 @@ Fits [] (f ∷ fs) = ⊥
 Fits (r ∷ rs) [] = ⊥
 Fits (r ∷ rs) (f ∷ fs) = InRange r f × Fits rs fs
 
-one_more : (r : Range) (f : Option ℕ) (rs : List Range) (fs : List (Option ℕ)) → InRange r f → Within rs 0 fs →
-    Within (r ∷ rs) 0 (f ∷ fs)
-one_more r f rs fs is rest = record {
-  enough = let enough = rest.enough in omega arith;
-  few = let few = rest.few in omega arith;
-  each = at;
-}
-  where
-    at : (i : ℕ) → i < length (f ∷ fs) → InRange (get_or (r ∷ rs) i any_number) (get_or (f ∷ fs) i None)
-    at zero inside = is
-    at (suc i) inside = rest.each i (omega arith)
-
 pub fits_within : (rs : List Range) (fs : List (Option ℕ)) → Fits rs fs → Within rs 0 fs
 fits_within [] [] h = record { enough = omega arith; few = omega arith; each = λ i inside. absurd (omega arith) }
 fits_within [] (f ∷ fs) h = absurd h
 fits_within (r ∷ rs) [] h = absurd h
-fits_within (r ∷ rs) (f ∷ fs) h = one_more r f rs fs h.0 (fits_within rs fs h.1)
-
-in_range : (least most n : ℕ) → least ≤ n → n ≤ most → n < 2 ^ 128 → InRange (between least most) (Some n)
-in_range least most n low high fits = (low, high, fits)
+fits_within (r ∷ rs) (f ∷ fs) h = search (arith, rules, fits_within rs fs h.1)
 
 pub own_within : (i : ℕ) → i < 2 ^ 128 → InRange (between i i) (Some i)
-own_within i small = in_range i i i (omega arith) (omega arith) small
-
-slack_within : (slack : Option ℕ) → IfSome slack IsCount → InRange count_or_none slack
-slack_within None is = refl
-slack_within (Some n) is = let small : n < 2 ^ 63 = is in (omega arith, omega arith, omega arith)
+own_within i small = search (arith, rules)
 
 pub seen_within : (i : ℕ) (x : Seen) → i < 2 ^ 128 → IsSeen x →
     Within (between i i ∷ count ∷ count_or_none ∷ []) 0 (Some i ∷ Some x.longest ∷ x.slack ∷ [])
-seen_within i x small is = grind (arith, common_steps, fits_within, own_within, slack_within)
+seen_within i x small is = search (arith, rules, fits_within, own_within)
 
 numbers_within : (ns : List ℕ) → AllByRecursion (λ n. n < 2 ^ 128) ns → (i : ℕ) → i < length ns →
     InRange any_number (get_or (map Some ns) i None)
@@ -68,15 +35,14 @@ pub rank_within : (j : ℕ) (ns : List ℕ) → j < 2 ^ 128 → AreRankNumbers n
     Within (between j j ∷ []) 32 (Some j ∷ map Some ns)
 rank_within j ns small is = record {
   enough = omega arith;
-  few = let few = is.0 in let size : length (map Some ns) ≡ length ns = length-map ns Some in omega arith;
+  few = let few = is.0 in let size = length-map ns Some in omega arith;
   each = at;
 }
   where
     at : (i : ℕ) → i < length (Some j ∷ map Some ns) →
         InRange (get_or (between j j ∷ []) i any_number) (get_or (Some j ∷ map Some ns) i None)
     at zero inside = own_within j small
-    at (suc i) inside = let size : length (map Some ns) ≡ length ns = length-map ns Some in
-        numbers_within ns is.1 i (omega arith)
+    at (suc i) inside = search (arith, rules, length-map, numbers_within)
 
 low_in_range : (ports n : ℕ) → ports ≤ 64 → n < ports → InRange (port ports) (Some n)
 low_in_range ports n few low = (omega arith, omega arith, omega arith)
@@ -158,19 +124,6 @@ pub counts_told : (fs : List (Option ℕ)) → Within (count ∷ count ∷ []) 0
     (number_at fs 1) ∷ []) × IsCount (number_at fs 0) × IsCount (number_at fs 1)
 counts_told fs w = grind (arith, common_steps, spread, is_number, w.each)
 
-four : (fs : List (Option ℕ)) (a b c d : Option ℕ) (w x y z : ℕ) → fs ≡ a ∷ b ∷ c ∷ d ∷ [] → a ≡ Some w →
-    b ≡ Some x → c ≡ Some y → d ≡ Some z → fs ≡ map Some (w ∷ x ∷ y ∷ z ∷ [])
-four fs a b c d w x y z whole e f g h = cc
-
-five : (fs : List (Option ℕ)) (a b c d e : Option ℕ) (v w x y z : ℕ) → fs ≡ a ∷ b ∷ c ∷ d ∷ e ∷ [] → a ≡ Some v →
-    b ≡ Some w → c ≡ Some x → d ≡ Some y → e ≡ Some z → fs ≡ map Some (v ∷ w ∷ x ∷ y ∷ z ∷ [])
-five fs a b c d e v w x y z whole i j k l m = cc
-
-six : (fs : List (Option ℕ)) (a b c d e f : Option ℕ) (u v w x y z : ℕ) → fs ≡ a ∷ b ∷ c ∷ d ∷ e ∷ f ∷ [] →
-    a ≡ Some u → b ≡ Some v → c ≡ Some w → d ≡ Some x → e ≡ Some y → f ≡ Some z →
-    fs ≡ map Some (u ∷ v ∷ w ∷ x ∷ y ∷ z ∷ [])
-six fs a b c d e f u v w x y z whole i j k l m n = cc
-
 pub record IsShape (fs : List (Option ℕ)) : Type 0 where
   pub fields : fs ≡ map Some (number_at fs 0 ∷ number_at fs 1 ∷ number_at fs 2 ∷ number_at fs 3 ∷ [])
   pub ports : (1 ≤ number_at fs 0) × (number_at fs 0 ≤ 64)
@@ -179,50 +132,42 @@ pub record IsShape (fs : List (Option ℕ)) : Type 0 where
   pub total : IsCount (number_at fs 3)
 
 pub shape_told : (fs : List (Option ℕ)) → Within (ranges 0 0 Shape) 0 fs → IsShape fs
-shape_told fs w = grind (arith, common_steps, is_number, w.each, four, spread)
+shape_told fs w = grind (arith, common_steps, is_number, w.each, spread)
 
 pub named_told : (ports : ℕ) (fs : List (Option ℕ)) → 1 ≤ ports → Within (cell ports) 0 fs →
     (fs ≡ map Some (cell_numbers (named_of fs 0))) × IsNamed ports (named_of fs 0)
-named_told ports fs some w = grind (arith, common_steps, is_number, w.each, four, spread)
+named_told ports fs some w = grind (arith, common_steps, is_number, spread)
 
 pub sent_told : (ports : ℕ) (fs : List (Option ℕ)) → 1 ≤ ports → Within (count ∷ cell ports) 0 fs →
     (fs ≡ map Some ((sent_of fs).slot ∷ cell_numbers (sent_of fs).cell)) × IsSent ports (sent_of fs)
-sent_told ports fs some w = grind (arith, common_steps, is_number, w.each, five, spread)
+sent_told ports fs some w = grind (arith, common_steps, is_number, spread)
 
 pub moved_told : (ports : ℕ) (fs : List (Option ℕ)) → 1 ≤ ports → Within (ranges ports 0 Moved) 0 fs →
     (fs ≡ map Some (number_at fs 0 ∷ number_at fs 1 ∷ number_at fs 2 ∷ number_at fs 3 ∷ number_at fs 4 ∷ number_at fs
     5 ∷ [])) × IsMoved ports (moved_of fs)
 moved_told ports fs some w =
-    let enough : 6 ≤ length fs = w.enough in
     let slot = is_number fs 0 0 (2 ^ 63 - 1) (w.each 0 (omega arith)) in
     let phase = is_number fs 1 1 2 (w.each 1 (omega arith)) in
     let input = is_number fs 2 0 (ports - 1) (w.each 2 (omega arith)) in
     let output = is_number fs 3 0 (ports - 1) (w.each 3 (omega arith)) in
     let packet = is_number fs 4 0 (2 ^ 32 - 1) (w.each 4 (omega arith)) in
-    let index = is_number fs 5 0 (2 ^ 32 - 1) (w.each 5 (omega arith)) in search (arith, rules, six, spread)
-
-slack_told : (f : Option ℕ) → InRange count_or_none f → IfSome f IsCount
-slack_told None is = tt
-slack_told (Some n) is = let high : n ≤ 2 ^ 63 - 1 = is.1 in omega arith
+    let index = is_number fs 5 0 (2 ^ 32 - 1) (w.each 5 (omega arith)) in
+    (cc (spread (ranges ports 0 Moved) fs w), search (arith, rules))
 
 pub seen_told : (i : ℕ) (fs : List (Option ℕ)) → Within (between i i ∷ count ∷ count_or_none ∷ []) 0 fs →
     (fs ≡ Some i ∷ Some (number_at fs 1) ∷ get_or fs 2 None ∷ []) × IsSeen (seen_of fs)
-seen_told i fs w = grind (arith, common_steps, spread, is_number, w.each, slack_told)
+seen_told i fs w = grind (arith, common_steps, spread, is_number)
 
 rest_told : (gs : List (Option ℕ)) → ((i : ℕ) → i < length gs → InRange any_number (get_or gs i None)) →
     (gs ≡ map Some (map (λ f. unwrap_or f 0) gs)) × AllByRecursion (λ n. n < 2 ^ 128) (map (λ f. unwrap_or f 0) gs)
 rest_told [] each = (refl, tt)
 rest_told (g ∷ gs) each =
     let first = number_told 0 (2 ^ 128 - 1) g (each 0 (omega arith)) in
-    let rest = rest_told gs (λ i inside. each (suc i) (omega arith)) in
-    (ap (λ f. f ∷ gs) first.0 ∙ ap (λ fs. Some (unwrap_or g 0) ∷ fs) rest.0, (first.3, rest.1))
+    let rest = rest_told gs (λ i inside. each (suc i) (omega arith)) in (search (arith, rules))
 
 pub rank_told : (j : ℕ) (fs : List (Option ℕ)) → Within (between j j ∷ []) 32 fs →
     (fs ≡ Some j ∷ map Some (rank_of fs)) × AreRankNumbers (rank_of fs)
 rank_told j [] w = let enough : 1 ≤ 0 = w.enough in absurd (omega arith)
 rank_told j (f ∷ gs) w =
     let own = number_told j j f (w.each 0 (omega arith)) in
-    let low = own.1 in
-    let high = own.2 in
-    let same : unwrap_or f 0 ≡ j = omega arith in
     let rest = rest_told gs (λ i inside. w.each (suc i) (omega arith)) in search (arith, rules, length-map)

@@ -1,3 +1,4 @@
+mod Terms
 pub mod OneReading
 pub mod Due
 pub mod Fields

@@ -1,26 +1,12 @@
 -- States and texts stand one for one. What the lines of a text that is allowed tell is a state in range, and its
 -- lines are those of the text. And who gathers what the lines of a state tell has the state again, so states with
 -- the same lines are the same.
-use Rattle.std.proofs.lemmas.Grind.{common_steps}
-use Rattle.std.proofs.Common.{◌≡◌, ℕ, ◌+◌, ◌≤◌, false, true, List, [], ◌∷◌, ◌++◌, length, map, drop, Option, Some, refl, ap, sym, subst, ◌∙◌, arith, rules, append_assoc, ⊎_elim, inl, inr}
-use Rattle.std.specs.Prelude.{IsTrue, unwrap_or, ◌⊎◌}
-use Rattle.std.specs.List.{AllByRecursion}
-use Rattle.std.proofs.lemmas.List.{append-nil}
-use Rattle.cq_base.specs.declared.cell.Transfer.{Transfer}
+use Rattle.cq_state.proofs.Terms.{common_steps, ◌≡◌, ℕ, ◌+◌, false, true, List, [], ◌∷◌, ◌++◌, map, drop, Option, Some, refl, ap, sym, ◌∙◌, arith, rules, append_assoc, inl, inr, IsTrue, unwrap_or, AllByRecursion, append-nil, Transfer, Kind, Version, Next, Shape, Sum, Input, Rank, Listed, Buffered, Sent, Moved, End, Head, Seen, Named, State, Line, kinds, start, IsInRange, IsSeen, AreRankNumbers, IsNamed, IsSent, IsMoved, state_lines, state_text, numbered, input_line, rank_line, cell_line, sent_line, moved_line, added, gathered, nothing, number_at, seen_of, rank_of, named_of, sent_of, moved_of}
 use Rattle.cq_state.proofs.EachTold.{one_told, many_told, line_of}
 use Rattle.cq_state.proofs.Fields.{version_told, end_told, count_told, counts_told, shape_told, seen_told, rank_told, named_told, sent_told, moved_told}
 use Rattle.cq_state.proofs.OneReading.{state_is_exact}
 use Rattle.cq_state.proofs.Written.{at, Completes, state_has_text}
-use Rattle.cq_state.specs.declared.kind.Kind.{Kind}
-use Rattle.cq_state.specs.declared.kind.Kind.TheVariants.{Version, Next, Shape, Sum, Input, Rank, Listed, Buffered, Sent, Moved, End}
-use Rattle.cq_state.specs.declared.state.Head.{Head}
-use Rattle.cq_state.specs.declared.state.Seen.{Seen}
-use Rattle.cq_state.specs.declared.state.Named.{Named}
 use Rattle.cq_state.specs.declared.state.Sent as kept
-use Rattle.cq_state.specs.declared.state.State.{State}
-use Rattle.cq_state.specs.StateText.{Line, kinds, start, IsStateText}
-use Rattle.cq_state.specs.State.{IsHead, IsInRange, IsSeen, AreRankNumbers, IsNamed, IsSent, IsMoved, state_lines, state_text, numbered, input_line, rank_line, cell_line, sent_line, moved_line}
-use Rattle.cq_state.specs.Gather.{added, gathered, nothing, number_at, seen_of, rank_of, named_of, sent_of, moved_of}
 use Rattle.cq_state.specs.OneText.{HaveOneText}
 
 -- ## A state again
@@ -41,6 +27,15 @@ plain line n x = line x
 map_numbered : {X : Type 0} (line : X → Line) (n : ℕ) (xs : List X) → map line xs ≡ numbered (plain line) n xs
 map_numbered line n [] = refl
 map_numbered line n (x ∷ xs) = ap (λ ls. line x ∷ ls) (map_numbered line (n + 1) xs)
+
+-- and their values
+module _ {X : Type 0} (line : X → Line) (put : State → List X → State) (Is : X → Type 0) (none : (s : State) →
+    put s [] ≡ s) (more : (s : State) (x : X) (xs : List X) → put (put s (x ∷ [])) xs ≡ put s (x ∷ xs)) (one : (s :
+    State) (x : X) → Is x → added (line x).kind (line x).fields s ≡ put s (x ∷ [])) where
+  plain_adds : (xs : List X) (s : State) (rest : List Line) → AllByRecursion Is xs →
+      gathered s (map line xs ++ rest) ≡ gathered (put s xs) rest
+  plain_adds xs s rest all =
+      rw (map_numbered line 0 xs) (part_adds (plain line) put Is none more (λ t n. one t) xs 0 s rest all)
 
 all_any : {X : Type 0} (xs : List X) → AllByRecursion (λ x. Unit {0}) xs
 all_any [] = tt
@@ -86,38 +81,22 @@ ranks_add xs s rest =
 
 listed_add : (xs : List Named) (s : State) (rest : List Line) → gathered s (map (cell_line Listed) xs ++ rest)
     ≡ gathered (with_listed s xs) rest
-listed_add xs s rest = ap (λ ls. gathered s (ls ++ rest)) (map_numbered (cell_line Listed) 0 xs)
-    ∙ part_adds (plain (cell_line Listed)) with_listed (λ _. Unit {0}) (λ t. ap (λ l. record t { listed = l })
-    (append-nil
-    t.listed)) (λ t x ys. ap (λ l. record t { listed = l }) (append_assoc t.listed (x ∷ []) ys)) (λ t n x _. refl)
-    xs 0 s
-    rest (all_any xs)
+listed_add xs s rest =
+    search (arith, rules, plain_adds (cell_line Listed) with_listed, append-nil, append_assoc, all_any xs)
 
 buffered_add : (xs : List Named) (s : State) (rest : List Line) → gathered s (map (cell_line Buffered) xs ++ rest)
     ≡ gathered (with_buffered s xs) rest
-buffered_add xs s rest = ap (λ ls. gathered s (ls ++ rest)) (map_numbered (cell_line Buffered) 0 xs)
-    ∙ part_adds (plain (cell_line Buffered)) with_buffered (λ _. Unit {0}) (λ t. ap (λ l. record t { buffered = l })
-    (append-nil t.buffered)) (λ t x ys. ap (λ l. record t { buffered = l }) (append_assoc t.buffered (x ∷ []) ys))
-    (λ t n
-    x _. refl) xs 0 s rest (all_any xs)
+buffered_add xs s rest =
+    search (arith, rules, plain_adds (cell_line Buffered) with_buffered, append-nil, append_assoc, all_any xs)
 
 sent_add : (xs : List kept.Sent) (s : State) (rest : List Line) → gathered s (map sent_line xs ++ rest)
     ≡ gathered (with_sent s xs) rest
-sent_add xs s rest = ap (λ ls. gathered s (ls ++ rest)) (map_numbered sent_line 0 xs)
-    ∙ part_adds (plain sent_line) with_sent (λ _. Unit {0}) (λ t. ap (λ l. record t { sent = l }) (append-nil
-    t.sent)) (λ
-    t x ys. ap (λ l. record t { sent = l }) (append_assoc t.sent (x ∷ []) ys)) (λ t n x _. refl) xs 0 s rest
-    (all_any xs)
-
-moved_again : (t : Transfer) → t.id.input ≡ t.input → moved_of (moved_line t).fields ≡ t
-moved_again t own = ap (λ i. record t { id = record (t.id) { input = i } }) (sym own)
+sent_add xs s rest = search (arith, rules, plain_adds sent_line with_sent, append-nil, append_assoc, all_any xs)
 
 moved_add : (xs : List Transfer) (s : State) (rest : List Line) → AllByRecursion (λ t. t.id.input ≡ t.input) xs →
     gathered s (map moved_line xs ++ rest) ≡ gathered (with_moved s xs) rest
-moved_add xs s rest all = ap (λ ls. gathered s (ls ++ rest)) (map_numbered moved_line 0 xs)
-    ∙ part_adds (plain moved_line) with_moved (λ t. t.id.input ≡ t.input) (λ t. ap (λ l. record t { moved = l })
-    (append-nil t.moved)) (λ t x ys. ap (λ l. record t { moved = l }) (append_assoc t.moved (x ∷ []) ys)) (λ t n x own.
-    ap (λ y. record t { moved = t.moved ++ y ∷ [] }) (moved_again x own)) xs 0 s rest all
+moved_add xs s rest all =
+    search (arith, rules, plain_adds moved_line with_moved (λ t. t.id.input ≡ t.input), append-nil, append_assoc)
 
 all_own : (ports : ℕ) (xs : List Transfer) → AllByRecursion (IsMoved ports) xs →
     AllByRecursion (λ t. t.id.input ≡ t.input) xs
@@ -132,9 +111,6 @@ state_again s is = search (rules, inputs_add, ranks_add, listed_add, buffered_ad
 
 false_is_not_true : IsTrue false → ⊥
 false_is_not_true e = let clash : false ≡ true = e in let P : ⊥ = cc in P
-
-all_told : (ports n : ℕ) → ports ≤ 0 + n → IsTrue false ⊎ (0 + n ≤ ports) → n ≡ ports
-all_told ports n enough few = ⊎_elim (λ free. absurd (false_is_not_true free)) (λ low. omega arith) few
 
 cons_is : (xs zs ws : List Line) (x y : Line) → xs ≡ x ∷ zs → x ≡ y → zs ≡ ws → xs ≡ y ∷ ws
 cons_is xs zs ws x y e f g = e ∙ ap (λ z. z ∷ zs) f ∙ ap (λ vs. y ∷ vs) g
@@ -168,16 +144,18 @@ each_told xs c =
     let ranks = many_told Rank (drop 6 kinds) ports (λ _. refl) rank_line rank_of AreRankNumbers
     (λ j fs w. told_line Rank (rank_told j fs w)) inputs.behind 0 (inr (omega arith)) inputs.rest in
     let listed = many_told Listed (drop 7 kinds) ports (λ _. refl) (plain (cell_line Listed)) (λ fs. named_of fs 0)
-    (IsNamed ports) (λ _ fs w. told_line Listed (named_told ports fs some w)) ranks.behind 0 (inl refl) ranks.rest in
+    (IsNamed ports) (λ _ fs w. told_line Listed (named_told ports fs some w)) ranks.behind 0 (inl refl)
+    ranks.rest in
     let buffered = many_told Buffered (drop 8 kinds) ports (λ _. refl) (plain (cell_line Buffered))
-    (λ fs. named_of fs 0) (IsNamed ports) (λ _ fs w. told_line Buffered (named_told ports fs some w)) listed.behind 0
-    (inl refl) listed.rest in
+    (λ fs. named_of fs 0) (IsNamed ports) (λ _ fs w. told_line Buffered (named_told ports fs some w))
+    listed.behind 0 (inl refl) listed.rest in
     let sent = many_told Sent (drop 9 kinds) ports (λ _. refl) (plain sent_line) sent_of (IsSent ports)
     (λ _ fs w. told_line Sent (sent_told ports fs some w)) buffered.behind 0 (inl refl) buffered.rest in
     let moved = many_told Moved (drop 10 kinds) ports (λ _. refl) (plain moved_line) moved_of (IsMoved ports)
     (λ _ fs w. told_line Moved (moved_told ports fs some w)) sent.behind 0 (inl refl) sent.rest in
     let end = one_told End false_is_not_true (λ _. refl) [] ports moved.behind moved.rest in
-    let s : State = of_parts (record {
+    let s : State =
+    of_parts (record {
       next = number_at next.fields 0;
       ports = ports;
       classes = number_at shape.fields 1;
@@ -185,32 +163,18 @@ each_told xs c =
       total = number_at shape.fields 3;
       proposals = number_at sum.fields 0;
       most = number_at sum.fields 1;
-    }) inputs.values ranks.values listed.values buffered.values sent.values moved.values in
-    let head : IsHead s.head = record {
-      next = next_told.1;
-      ports = is_shape.ports;
-      classes = is_shape.classes;
-      t0 = is_shape.t0;
-      total = is_shape.total;
-      proposals = sum_told.1;
-      most = sum_told.2;
-    } in
-    let inputs_told = all_told ports (length inputs.values) inputs.enough inputs.few in
-    let outputs_told = all_told ports (length ranks.values) ranks.enough ranks.few in (
+    }) inputs.values ranks.values listed.values buffered.values sent.values moved.values in (
       s,
       search rules,
       cons_is xs _ _ _ _ version.is (ap (line_of Version) (version_told version.fields version.within))
-          (cons_is _ _ _ _ _ next.is (ap (line_of Next) next_told.0)
-          (cons_is _ _ _ _ _ shape.is (ap (line_of Shape) is_shape.fields)
-          (cons_is _ _ _ _ _ sum.is (ap (line_of Sum) sum_told.0)
-          (inputs.is ∙ ap (λ ls. numbered input_line 0 inputs.values ++ ls)
-          (ranks.is ∙ ap (λ ls. numbered rank_line 0 ranks.values ++ ls)
-          (plain_is (cell_line Listed) listed.values _ _ _ listed.is
-          (plain_is (cell_line Buffered) buffered.values _ _ _ buffered.is
-          (plain_is sent_line sent.values _ _ _ sent.is
-          (plain_is moved_line moved.values _ _ _ moved.is
-          (cons_is _ _ _ _ _ end.is (ap (line_of End) (end_told end.fields end.within)) (nothing_behind ports end.behind
-          end.rest))))))))))),
+          (cons_is _ _ _ _ _ next.is (ap (line_of Next) next_told.0) (cons_is _ _ _ _ _ shape.is
+          (ap (line_of Shape) is_shape.fields) (cons_is _ _ _ _ _ sum.is (ap (line_of Sum) sum_told.0)
+          (inputs.is
+          ∙ ap (λ ls. numbered input_line 0 inputs.values ++ ls) (ranks.is
+          ∙ ap (λ ls. numbered rank_line 0 ranks.values ++ ls) (plain_is (cell_line Listed)
+          listed.values _ _ _ listed.is (plain_is (cell_line Buffered) buffered.values _ _ _
+          buffered.is (plain_is sent_line sent.values _ _ _ sent.is (plain_is moved_line
+          moved.values _ _ _ moved.is (search (arith, rules, cons_is, line_of, end_told, nothing_behind))))))))))),
     )
 
 -- ## One for one
@@ -221,8 +185,7 @@ have_one_text = record {
   allowed = state_has_text;
   one_state = λ s t is_s is_t e.
       let same = state_is_exact.one_reading (state_lines s) (state_lines t) (state_text s) (state_has_text s is_s)
-      (subst
-      (λ text. IsStateText (state_lines t) text) (sym e) (state_has_text t is_t)) in
+      (search (arith, rules, state_has_text)) in
       sym (state_again s is_s) ∙ ap (gathered nothing) same ∙ state_again t is_t;
   each_told = λ xs text f. each_told xs (f.last, f.allowed, f.ended);
 }

@@ -1,24 +1,11 @@
 -- Reading a state's text line by line. What is gathered is what the lines that were read tell, and one line more adds
 -- what it tells. Where the text may end, its lines are those of a state, so what is gathered is that state.
-use Rattle.std.proofs.lemmas.Grind.{common_steps}
-use Rattle.std.proofs.Common.{◌≡◌, ◌≢◌, ℕ, ◌+◌, ◌^◌, ◌<◌, ◌≤◌, true, List, [], ◌∷◌, ◌++◌, length, refl, ap, sym, subst, ◌∙◌, arith, length-append}
-use Rattle.std.specs.Prelude.{◌==◌}
-use Rattle.std.specs.List.{flat_map}
-use Rattle.std.proofs.lemmas.Bool.{eqb-true}
-use Rattle.std.proofs.lemmas.List.{append-nil}
-use Rattle.cq_lines.proofs.Going.{one_line_more}
+use Rattle.cq_state.proofs.Terms.{rules, ◌≡◌, ◌≢◌, ℕ, ◌+◌, ◌^◌, ◌<◌, ◌≤◌, true, List, [], ◌∷◌, ◌++◌, length, refl, ap, sym, ◌∙◌, arith, length-append, common_steps, ◌==◌, eqb-true, append-nil, one_line_more, Gathered, Kind, State, AreLow, added, gathered, nothing, state_of, place_of, IsInRange, state_text, Line, Place, ComesAt, Comes, MayEnd, spelled, IsStateFault}
 use Rattle.cq_state.proofs.Bounds.{are_low}
 use Rattle.cq_state.proofs.Due.{ReadSoFar}
 use Rattle.cq_state.proofs.OneText.{each_told, state_again}
 use Rattle.cq_state.proofs.Written.{Completes}
-use Rattle.cq_state.specs.declared.gather.Gathered.{Gathered}
-use Rattle.cq_state.specs.declared.kind.Kind.{Kind}
 use Rattle.cq_state.specs.declared.next.Place as kept
-use Rattle.cq_state.specs.declared.state.State.{State}
-use Rattle.cq_state.specs.Gather.{AreLow, added, gathered, nothing, state_of}
-use Rattle.cq_state.specs.Places.{place_of}
-use Rattle.cq_state.specs.State.{IsInRange, state_text}
-use Rattle.cq_state.specs.StateText.{Line, Place, ComesAt, Comes, MayEnd, spelled, start, IsStateFault}
 
 -- the numbers of a line that comes are no greater than what is kept of them
 pub low_line : (due : List Kind) (seen ports : ℕ) (x : Line) (next : Place) → ports < 2 ^ 16 →
@@ -37,14 +24,10 @@ pub line_told : (text : List ℕ) (told after : Gathered) (line : ℕ) (place ne
     next.seen + length behind ≤ place.seen + length rest → next.ports < 2 ^ 16 →
     ReadSoFar text after (line + 1) next behind
 line_told text told after line place next rest behind x had comes e adds shorter seen few =
-    let number = had.number in
-    let low = had.low in
-    let had_seen = had.seen in
     let size = length-append had.lines (x ∷ []) in
     record {
       lines = had.lines ++ x ∷ [];
-      so_far = one_line_more spelled Comes start text had.lines (had.lines ++ x ∷ []) (place_of place) (place_of next)
-          rest behind x had.so_far comes e refl;
+      so_far = search (arith, rules, one_line_more, had.lines);
       gives = adds ∙ ap (added x.kind x.fields) had.gives ∙ sym (gathered_more nothing had.lines x);
       number = omega arith;
       low = omega arith;
@@ -62,11 +45,7 @@ pub state_told : (text : List ℕ) (told : Gathered) (line : ℕ) (place : kept.
 unfolding Completes
 state_told text told line place rest s had none may is =
     let each = each_told had.lines (place_of place, had.so_far.allowed, may) in
-    let same : s ≡ each.0 = is ∙ had.gives ∙ ap (gathered nothing) each.2 ∙ state_again each.0 each.1 in
-    let whole : text ≡ flat_map spelled had.lines =
-    had.so_far.spelled ∙ ap (λ r. flat_map spelled had.lines ++ r) (none_left rest none)
-    ∙ append-nil (flat_map spelled had.lines) in
-    (subst IsInRange (sym same) each.1, whole ∙ ap (flat_map spelled) each.2 ∙ ap state_text (sym same))
+    search (arith, rules, state_again, none_left, append-nil)
 
 pub fault_told : (text : List ℕ) (told : Gathered) (line : ℕ) (place : kept.Place) (rest : List ℕ) →
     ReadSoFar text told line place rest → ((x : Line) (next : Place) (more : List ℕ) →

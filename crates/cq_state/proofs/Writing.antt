@@ -1,15 +1,6 @@
 -- Writing a state's text part by part. A part is put line by line. Parts that are put one after another are one
 -- text, which is seen from the end back: what is put last stands behind what was put before it.
-use Rattle.std.proofs.lemmas.Grind.{common_steps}
-use Rattle.std.proofs.Common.{◌≡◌, ℕ, ◌+◌, ◌<◌, ◌≤◌, List, [], ◌∷◌, ◌++◌, length, map, take, get_or, Option, ap, sym, ◌∙◌, arith, append_assoc, length-take}
-use Rattle.std.specs.List.{flat_map}
-use Rattle.std.proofs.lemmas.List.{append-nil, map-append, take_more, take_all}
-use Rattle.std.proofs.lemmas.List.Concat.{flat_map-append}
-use Rattle.cq_state.specs.declared.kind.Kind.{Kind}
-use Rattle.cq_state.specs.declared.kind.Kind.TheVariants.{Listed, Buffered, End}
-use Rattle.cq_state.specs.declared.state.State.{State}
-use Rattle.cq_state.specs.State.{state_lines, state_text, head_lines, numbers, numbered, input_line, rank_line, cell_line, sent_line, moved_line}
-use Rattle.cq_state.specs.StateText.{Line, spelled}
+use Rattle.cq_state.proofs.Terms.{rules, ◌≡◌, ℕ, ◌+◌, ◌<◌, ◌≤◌, List, [], ◌∷◌, ◌++◌, length, map, take, get_or, Option, ap, sym, ◌∙◌, arith, append_assoc, length-take, common_steps, flat_map, append-nil, map-append, take_more, take_all, flat_map-append, Kind, Listed, Buffered, End, State, state_lines, state_text, head_lines, numbers, numbered, input_line, rank_line, cell_line, sent_line, moved_line, Line, spelled}
 
 abbrev of_parts : Kind → List (Option ℕ) → Line
 of_parts k fs = record { kind = k; fields = fs }
@@ -74,8 +65,4 @@ pub state_put : (s : State) (t0 t1 t2 t3 t4 t5 t6 t7 t8 : List ℕ) → t1 ≡ t
     t8 ≡ t7 ++ spelled (numbers End []) → t8 ≡ t0 ++ state_text s
 unfolding state_lines
 state_put s t0 t1 t2 t3 t4 t5 t6 t7 t8 head inputs ranks listed buffered sent moved end = put_behind t0 t1 t8
-    (head_lines s.head) _ head (put_behind t1 t2 t8 (numbered input_line 0 s.inputs) _ inputs (put_behind t2 t3 t8
-    (numbered rank_line 0 s.ranks) _ ranks (put_behind t3 t4 t8 (map (cell_line Listed) s.listed) _ listed
-    (put_behind t4 t5 t8 (map (cell_line Buffered) s.buffered) _ buffered (put_behind t5 t6 t8
-    (map sent_line s.sent) _ sent (put_behind t6 t7 t8 (map moved_line s.moved) (numbers End [] ∷ []) moved
-    (end ∙ ap (λ t. t7 ++ t) (sym (one_line (numbers End []))))))))))
+    (head_lines s.head) _ head (search (arith, rules, put_behind, one_line))

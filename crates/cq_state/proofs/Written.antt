@@ -2,18 +2,9 @@
 -- part of the text comes where its kind is due, behind so many lines of it, if what stands behind the part completes
 -- the text from there on. And where a kind has all its lines, what completes the text where the next kind is due does
 -- so here.
-use Rattle.std.proofs.lemmas.Grind.{common_steps}
-use Rattle.std.proofs.Common.{rules, ◌≡◌, ℕ, ◌+◌, ◌^◌, ◌<◌, ◌≤◌, List, [], ◌∷◌, ◌++◌, length, map, Some, refl, sym, subst, arith, lit≤, inr}
-use Rattle.std.specs.List.{AllByRecursion}
+use Rattle.cq_state.proofs.Terms.{common_steps, rules, ◌≡◌, ℕ, ◌+◌, ◌^◌, ◌<◌, ◌≤◌, List, [], ◌∷◌, ◌++◌, length, map, refl, sym, subst, arith, lit≤, inr, AllByRecursion, Within, Kind, Input, Rank, Listed, Buffered, Sent, Moved, End, State, Line, Place, Comes, HasRoom, MayEnd, needed, ranges, further, ports_behind, start, IsStateText, IsInRange, state_lines, state_text, numbers, numbered, input_line, rank_line, cell_line, sent_line, moved_line, all_weaker}
 use Rattle.cq_lines.specs.Texts.{Leads}
-use Rattle.cq_lines.specs.Ranges.{Within}
 use Rattle.cq_state.proofs.Fields.{fits_within, count_within, counts_within, shape_within, seen_within, rank_within, named_within, sent_within, moved_within}
-use Rattle.cq_state.specs.declared.kind.Kind.{Kind}
-use Rattle.cq_state.specs.declared.kind.Kind.TheVariants.{Version, Input, Rank, Listed, Buffered, Sent, Moved, End}
-use Rattle.cq_state.specs.declared.state.Named.{Named}
-use Rattle.cq_state.specs.declared.state.State.{State}
-use Rattle.cq_state.specs.StateText.{Line, Place, Comes, HasRoom, MayEnd, needed, ranges, further, ports_behind, start, cell, IsStateText}
-use Rattle.cq_state.specs.State.{IsInRange, IsNamed, state_lines, state_text, numbers, numbered, input_line, rank_line, cell_line, sent_line, moved_line}
 
 abbrev pub at : List Kind → ℕ → ℕ → Place
 at due seen ports = record { due = due; seen = seen; ports = ports }
@@ -58,17 +49,6 @@ numbered_part k due ports line own told [] rest n few all low after = grind (ari
 numbered_part k due ports line own told (x ∷ xs) rest n few all low after =
     grind (arith, common_steps, one_more, numbered_part k due ports line own told xs rest (n + 1))
 
-version_within : Within (ranges 0 0 Version) 0 (Some 1 ∷ [])
-version_within = fits_within _ _ ((lit≤ tt, lit≤ tt, lit≤ tt), tt)
-
-end_within : (ports seen : ℕ) → Within (ranges ports seen End) 0 []
-end_within ports seen = record { enough = lit≤ tt; few = lit≤ tt; each = λ i inside. absurd (omega arith) }
-
-all_within : {X : Type 0} (P Q : X → Type 0) → ((x : X) → P x → Q x) → (xs : List X) → AllByRecursion P xs →
-    AllByRecursion Q xs
-all_within P Q from [] all = tt
-all_within P Q from (x ∷ xs) all = (from x all.0, all_within P Q from xs all.1)
-
 -- the lines from a part on
 abbrev from_moved : State → List Line
 from_moved s = map moved_line s.moved ++ numbers End [] ∷ []
@@ -94,29 +74,15 @@ module _ (s : State) (is : IsInRange s) where
 
   end_due : Completes (at (End ∷ []) 0 s.head.ports) (numbers End [] ∷ [])
   unfolding Completes
-  end_due = one_more End [] 0 s.head.ports s.head.ports (numbers End []) [] refl (inr (lit≤ tt)) (end_within
-      s.head.ports 0) refl (at (End ∷ []) 1 s.head.ports, refl, (lit≤ tt, tt))
-
-  moved_due : (seen : ℕ) → Completes (at (Moved ∷ End ∷ []) seen s.head.ports) (from_moved s)
-  moved_due = grind (arith, common_steps, free_part, all_within, moved_within, few, skip, end_due)
+  end_due = one_more End [] 0 s.head.ports s.head.ports (numbers End []) [] refl (inr (lit≤ tt))
+      (fits_within [] [] tt) refl (at (End ∷ []) 1 s.head.ports, refl, (lit≤ tt, tt))
 
   sent_due : (seen : ℕ) → Completes (at (Sent ∷ Moved ∷ End ∷ []) seen s.head.ports) (from_sent s)
-  sent_due = grind (arith, common_steps, free_part, all_within, sent_within, few, skip, moved_due)
-
-  cells_due : (k : Kind) (due : List Kind) (own : (seen : ℕ) → HasRoom s.head.ports k seen) (cells : List Named)
-      (rest : List Line) → ((seen : ℕ) → ranges s.head.ports seen k ≡ cell s.head.ports) → further k ≡ 0 →
-      ((c : Named) →
-      s.head.ports ≡ ports_behind s.head.ports k (cell_line k c).fields) → AllByRecursion (IsNamed s.head.ports) cells →
-      ((seen : ℕ) → Completes (at (k ∷ due) seen s.head.ports) rest) → (seen : ℕ) →
-      Completes (at (k ∷ due) seen s.head.ports) (map (cell_line k) cells ++ rest)
-  cells_due k due own cells rest same none told all after = search (rules, free_part, all_within, named_within, few)
-
-  buffered_due : (seen : ℕ) → Completes (at (Buffered ∷ Sent ∷ Moved ∷ End ∷ []) seen s.head.ports) (from_buffered s)
-  buffered_due = grind (arith, common_steps, cells_due, skip, sent_due)
+  sent_due = search (arith, rules, free_part, all_weaker, sent_within, few, skip, moved_within, end_due)
 
   listed_due : (seen : ℕ) → Completes (at (Listed ∷ Buffered ∷ Sent ∷ Moved ∷ End ∷ []) seen s.head.ports) (from_listed
       s)
-  listed_due = grind (arith, common_steps, cells_due, skip, buffered_due)
+  listed_due = search (arith, rules, skip, sent_due, free_part, all_weaker, named_within, few)
 
   all_told : (n : ℕ) → n ≡ s.head.ports → (0 + n ≤ s.head.ports) × (s.head.ports ≤ 0 + n)
   all_told n e = (omega arith, omega arith)
@@ -124,17 +90,16 @@ module _ (s : State) (is : IsInRange s) where
   ranks_due : Completes (at (Rank ∷ Listed ∷ Buffered ∷ Sent ∷ Moved ∷ End ∷ []) 0 s.head.ports) (from_ranks s)
   ranks_due =
       let told = all_told (length s.ranks) is.outputs_told in
-      numbered_part Rank _ s.head.ports rank_line (λ _ _. refl) (λ _ _. refl) s.ranks _ 0 told.0 (λ j small. all_within
-      _ _ (λ ns. rank_within j ns small) s.ranks is.ranks) few (skip Rank _ (0 + length s.ranks) s.head.ports _ told.1
-      (listed_due 0))
+      numbered_part Rank _ s.head.ports rank_line (λ _ _. refl) (λ _ _. refl) s.ranks _ 0 told.0 (λ j small. all_weaker
+      _ _ (λ ns. rank_within j ns small) s.ranks is.ranks) few (search (arith, rules, skip, listed_due))
 
   inputs_due : Completes (at (Input ∷ Rank ∷ Listed ∷ Buffered ∷ Sent ∷ Moved ∷ End ∷ []) 0 s.head.ports)
       (from_inputs s)
-  inputs_due = grind (arith, common_steps, all_told, numbered_part, all_within, seen_within, few, skip, ranks_due)
+  inputs_due = grind (arith, common_steps, all_told, numbered_part, all_weaker, seen_within, few, skip, ranks_due)
 
   whole : Completes start (state_lines s)
   unfolding state_lines
-  whole = search (rules, one_more, version_within, skip, count_within, shape_within, counts_within, inputs_due)
+  whole = search (arith, rules, one_more, skip, count_within, shape_within, counts_within, inputs_due, fits_within)
 
 -- the text of a state in range is that of its lines
 pub state_has_text : (s : State) → IsInRange s → IsStateText (state_lines s) (state_text s)

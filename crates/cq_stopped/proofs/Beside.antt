@@ -1,118 +1,303 @@
--- A run of the fabric of which each slot is known: beside it the ideal switch runs, which agrees with it before the
--- slot, and what arrives in the slot is for the ports. And what becomes of the cells of a slot: those for an output
--- that were there, and those that came for it, are there still or have left.
-use Rattle.std.proofs.lemmas.Grind.{common_steps}
-use Rattle.std.proofs.Common.{arith, rules, ◌≡◌, ℕ, zero, suc, ◌+◌, ◌⊎◌, List, [], ◌∷◌, length, Option, None, Some, inl, inr, ⊎_elim, drop, sym, ◌∙◌, subst}
-use Rattle.std.specs.Prelude.{slice_get, slice_index_or}
-use Rattle.std.proofs.lemmas.List.{length-replicate}
-use Rattle.cq_base.specs.Arriving.{arriving}
-use Rattle.cq_base.specs.declared.cell.Cell.{Cell}
-use Rattle.cq_base.specs.declared.cell.Queued.{Queued}
-use Rattle.cq_cells.specs.Traffic.{IsTraffic}
-use Rattle.cq_ideal.specs.Admission.{Marked}
-use Rattle.cq_ideal.specs.Ending.{arriving_from}
-use Rattle.cq_ideal.specs.IdealSlot.{IdealState}
-use Rattle.cq_ideal.specs.LimitedIdeal.{empty_limited}
-use Rattle.cq_ideal.specs.Ranking.{AreForPorts}
-use Rattle.cq_laws.proofs.AfterArrivals.{CameFor, arrived_has}
+-- What is within bounds in a run of the fabric. A list and a buffer get one cell more in a slot at most: of the two
+-- that cross to an output one makes up for the cell that leaves, if any waits there. Those cells for an output that
+-- were there, and those that came for it, are there still or have left, so all are keyed as the switch keys them. A
+-- phase makes no more proposals than the number of ports squared, and none where no cell waits at an input; and in each
+-- slot in which a cell waits or comes one leaves, so there are no more such slots than cells that came.
+use Rattle.cq_stopped.proofs.Terms.{arith, rules, Arrival, ◌≡◌, ℕ, zero, suc, ◌+◌, ◌⊎◌, List, [], ◌∷◌, length, Option, None, Some, inl, inr, ⊎_elim, drop, ◌∙◌, ◌<◌, ◌≤◌, ◌^◌, refl, ap, length-drop, ◌*◌, ◌-◌, true, fold, max, cases_lt, eqb-true, common_steps, length-replicate, get_or-replicate, get_or_past, length-insert, sum_by-append, sum_by-cons, AllByRecursion, range_with_len, flat_map, slice_get, slice_index_or, filter_map, is_some, sum, arrival_at, arriving, first_for, is_for, Cell, Queued, fewer, present, Marked, admission, arriving_from, empty_ideal, IdealState, CameFor, arrived_has, limited_empty_agree, among_at, first_at, after_sent, arrived, keyed, old_sound, same_slot, Sound, orders_are, Agrees, SendsAlike, Fabric, IsAmong, buffer, empty_fabric, input, SlotRecord, fabric_held, LimitedRecord, slots_in, proposals_in, Transfers, HasFor, transfers_in, list_of, orders_of, noted, transfers_of, IsStable, Partners, partner_of, proposals, machine_at, all_both, found_at, all_of_has, opening, Switch, IsMoved, length_put, waiting-empty, waiting-sum}
+use Rattle.cq_ideal.proofs.FlowCount.{come_count-first}
+use Rattle.cq_ideal.proofs.FlowRun.{come_count}
+use Rattle.cq_ideal.proofs.Waiting.{counted, waiting}
 use Rattle.cq_laws.proofs.AfterDepartures.{sent_buffer}
 use Rattle.cq_laws.proofs.AfterTransfer.{moved_has}
-use Rattle.cq_laws.proofs.LimitedSlots.{admission_for_ports, same_limited_slot, limited_ports_kept}
-use Rattle.cq_laws.proofs.LimitedWhole.{limited_empty_agree}
-use Rattle.cq_laws.proofs.OneSlot.{after_sent, arrived, keyed, old_sound}
-use Rattle.cq_laws.proofs.Sound.{Sound}
-use Rattle.cq_laws.specs.Fabric.{Fabric, IsAmong, buffer}
-use Rattle.cq_laws.specs.LimitedAgreement.{LimitedAgrees}
-use Rattle.cq_laws.specs.LimitedFabric.{LimitedFabricSlot, LimitedRecord}
-use Rattle.cq_laws.specs.Places.{HasFor}
-use Rattle.cq_laws.specs.SlotBySlot.{RunBy}
-use Rattle.cq_prefs.specs.Pairing.{IsStable}
-use Rattle.cq_resume.specs.Parts.{opening}
-use Rattle.cq_resume.specs.Resumed.{Runs}
-use Rattle.cq_resume.specs.Switch.{Switch}
-use Rattle.cq_traffic.proofs.ForPorts.{arrivals_for}
-use Rattle.cq_laws.proofs.InputBest.{stable_limited_slot}
+use Rattle.cq_laws.proofs.Held.{hold_as_many}
+use Rattle.cq_laws.proofs.Rises.{partner_offers, sender}
+use Rattle.cq_simulate.proofs.FabricCounts.{shorter, proposals_few, proposals_none, square_few}
+use Rattle.cq_stopped.proofs.Ran.{IsKeyed}
+use Rattle.cq_stopped.proofs.Stepping.{KnownRun, KnownSlot, still_among}
+use Rattle.cq_stopped.proofs.Configured.{AreLow, HasSmallName, KeepsLow}
+use Rattle.cq_stopped.proofs.Lined.{AreNumbered}
+use Rattle.cq_stopped.proofs.Queueing.{ranked_low, told_low, came_where}
+
+-- ## Lists that get longer and shorter
 
 -- the first cell of a list, or what is left of it
 first_or_rest : (xs : List Queued) (q : Queued) → (slice_get xs 0 ≡ Some q) ⊎ IsAmong q (drop 1 xs) → IsAmong q xs
 first_or_rest [] q has = ⊎_elim (λ none. absurd (let P : ⊥ = cc in P)) (λ more. more) has
 first_or_rest (x ∷ xs) q has = ⊎_elim (λ first. let same : x ≡ q = cc in inl same) (λ more. inr more) has
 
+some_among : (xs : List Queued) → (length xs ≡ 0) ⊎ ((q : Queued) × IsAmong q xs)
+some_among [] = inl refl
+some_among (x ∷ xs) = inr (x, inl refl)
+
+module _ (m : Partners) (old new : Fabric) (moves : Transfers m old new) where
+  one_crosses : (slot : ℕ) → Sound slot old → IsStable (orders_of old.inputs) m → (j : ℕ) →
+      length (buffer new j) ≤ length (buffer old j) + 1
+  one_crosses slot sound stable j = ⊎_elim (λ r.
+      let f = partner_offers old new (orders_of old.inputs) m sound.order sound.fabric
+      (orders_are old sound.apart) stable moves r.0 j r.1 in
+      search (arith, rules, length_put f.0 (buffer old j))) (λ none. search (arith, rules)) (sender m j)
+
+-- ## What is noted of a transfer
+
+-- what is known of the first cell for an output in an input's list
+record Crosses (ports i j : ℕ) (c : Queued) : Type 0 where
+  input : i < ports
+  output : j < ports
+  small : (c.cell.id.packet < 2 ^ 32) × (c.cell.id.index < 2 ^ 32)
+  own : c.cell.id.input ≡ i
+
+module _ (ports slot phase : ℕ) (early : slot < 2 ^ 63) (known_phase : (1 ≤ phase) × (phase ≤ 2))
+    (lists : List (List Queued)) (m : Partners)
+    (each : (i j : ℕ) (c : Queued) → first_for j (list_of lists i) ≡ Some c → Crosses ports i j c) where
+  noted_from : (a n : ℕ) → AllByRecursion (IsMoved ports)
+      (filter_map (λ i. noted slot phase i (list_of lists i) (partner_of m i)) (range_with_len a n))
+  noted_from a zero = tt
+  noted_from a (suc n) = search (arith, rules, noted_from (a + 1) n)
+
+  all_noted : AllByRecursion (IsMoved ports) (transfers_of m lists slot phase)
+  unfolding transfers_of
+  all_noted = search (rules, noted_from)
+
+-- ## What waits
+
+-- how many cells wait in a fabric
+pub waits : Fabric → ℕ
+waits f = sum (fabric_held f)
+
+waits_is : (slot : ℕ) (f : Fabric) (ideal : IdealState) → Agrees slot f ideal → waiting ideal.lists ≡ waits f
+unfolding waits
+waits_is slot f ideal agrees = rw (hold_as_many slot f ideal agrees) (waiting-sum ideal.lists)
+
+-- where none waits none is in a list
+none_among : (lists : List (List Queued)) (j : ℕ) (q : Queued) → waiting lists ≡ 0 → IsAmong q (list_of lists j) → ⊥
+unfolding waiting
+none_among [] j q none has = has
+none_among (xs ∷ lists) zero q none has = grind (arith, common_steps)
+none_among (xs ∷ lists) (suc j) q none has = grind (arith, common_steps, waiting, none_among lists j q)
+
+arrival_present : (cells : List (Option Cell)) (i : ℕ) → is_some (arrival_at cells i) ≡ true →
+    1 ≤ length (present cells)
+arrival_present [] i some = absurd (let P : ⊥ = cc in P)
+arrival_present (None ∷ cells) i some = grind (arith, common_steps, arrival_present cells)
+arrival_present (Some cell ∷ cells) i some = omega arith
+
+-- ## Before a slot, and over it
+
+pub record IsWithin (slot : ℕ) (f : Fabric) : Type 0 where
+  pub lists : (i : ℕ) → length (input f i) ≤ slot
+  pub buffers : (j : ℕ) → length (buffer f j) ≤ slot
+  pub states : AllByRecursion AreLow f.ranks
+
+-- what is recorded of a slot before this one
+pub record IsRecordedWithin (ports last : ℕ) (r : SlotRecord) : Type 0 where
+  pub longest : (i : ℕ) → length (input r.arrived i) ≤ last
+  pub cushions : (j : ℕ) → length (buffer r.arrived j) ≤ last
+  pub moved : AllByRecursion (IsMoved ports) (transfers_in r)
+
+-- after so many slots from this one on, with these records, where the last slot is this one or later
+pub record RunsWithin (came : List Arrival) (ports slot n last : ℕ) (f : Marked Fabric) (rs : List LimitedRecord)
+    (g : Marked Fabric) : Type 0 where
+  pub states : AllByRecursion AreLow g.state.ranks
+  pub records : AllByRecursion (IsRecordedWithin ports last) (slots_in rs)
+  pub numbered : AreNumbered slot (slots_in rs)
+  pub proposed : sum (flat_map proposals_in (slots_in rs)) + 8192 * waits g.state
+      ≤ 8192 * (waits f.state + come_count (arriving_from came slot n))
+
 module _ (w : Switch) where
-  -- what is known of a slot
-  pub record KnownSlot (slot : ℕ) (cells : List (Option Cell)) (f : Marked Fabric) (r : LimitedRecord) (g : Marked
-      Fabric) :
-      Type 0 where
-    pub ideal : Marked IdealState
-    pub agrees : LimitedAgrees slot f ideal
-    pub ports_are : length f.state.inputs ≡ length w.machines
-    pub come : AreForPorts (length f.state.inputs) w.classes cells
-    pub step : LimitedFabricSlot IsStable w.limits w.machines slot cells f r g
-
-  -- and of the run of so many slots from this one on
-  abbrev pub KnownRun : ℕ → ℕ → Marked Fabric → List LimitedRecord → Marked Fabric → Type 0
-  KnownRun slot n f rs g = RunBy KnownSlot slot (arriving_from w.came slot n) f rs g
-
-  module _ (traffic : IsTraffic (length w.machines) w.classes w.came) where
-    known_from : (slot n : ℕ) (f g : Marked Fabric) (ideal : Marked IdealState) (rs : List LimitedRecord) →
-        LimitedAgrees slot f ideal → length f.state.inputs ≡ length w.machines →
-        Runs w slot (arriving_from w.came slot n) f rs g → KnownRun slot n f rs g
-    unfolding arriving_from
-    known_from slot zero f g ideal [] agrees many run = run
-    known_from slot zero f g ideal (r ∷ rs) agrees many run = absurd run
-    known_from slot (suc n) f g ideal [] agrees many run = absurd run
-    known_from slot (suc n) f g ideal (r ∷ rs) agrees many run =
-        let cells = arriving w.came slot in
-        let come : AreForPorts (length f.state.inputs) w.classes cells =
-        subst (λ (k : ℕ). AreForPorts k w.classes cells) (sym many)
-        (arrivals_for (length w.machines) w.classes w.came slot traffic) in
-        let stable = stable_limited_slot w.machines w.limits slot cells f run.0 r run.1 in
-        let one = same_limited_slot w.limits w.machines slot w.classes cells f run.0 ideal r agrees come stable in
-        let kept = limited_ports_kept w.limits w.machines slot w.classes cells f run.0 ideal r agrees come stable in (
-          run.0,
-          record { ideal = ideal; agrees = agrees; ports_are = many; come = come; step = stable },
-          known_from (slot + 1) n run.0 g one.next rs one.agrees (kept ∙ many) run.2,
-        )
-
-    -- so it is from the empty fabric on
-    pub known_run : (slots : ℕ) (ranks : List (List ℕ)) (rs : List LimitedRecord) (g : Marked Fabric) →
-        Runs w 0 (arriving_from w.came 0 slots) (opening w ranks) rs g → KnownRun 0 slots (opening w ranks) rs g
-    known_run slots ranks rs g run =
-        let none : List Queued = [] in
-        known_from 0 slots (opening w ranks) g (empty_limited (length w.machines) ranks) rs
-        (limited_empty_agree (length w.machines) ranks) (length-replicate (length w.machines) none) run
-
   -- ## One slot
 
-  module _ (slot : ℕ) (cells : List (Option Cell)) (f g : Marked Fabric) (r : LimitedRecord)
-      (k : KnownSlot slot cells f r g) where
-    pub admitted_come : AreForPorts (length f.state.inputs) w.classes r.admission.cells
-    admitted_come = grind (arith, common_steps, admission_for_ports)
+  module _ (slot : ℕ) (f g : Marked Fabric) (r : LimitedRecord)
+      (k : KnownSlot w slot (arriving w.came slot) f r g) where
+    arrived_is : Sound (slot + 1) r.of_slot.arrived
+    arrived_is = search (rules, arrived)
 
-    pub arrived_is : Sound (slot + 1) r.of_slot.arrived
-    arrived_is = search (rules, arrived, admitted_come)
+    sent_is : Sound (slot + 1) r.of_slot.sent
+    sent_is = search (rules, after_sent)
 
-    pub sent_is : Sound (slot + 1) r.of_slot.sent
-    sent_is = search (rules, after_sent, admitted_come)
-
-    pub left_is : (j : ℕ) → buffer r.of_slot.sent j ≡ drop 1 (buffer r.of_slot.filled j)
+    left_is : (j : ℕ) → buffer r.of_slot.sent j ≡ drop 1 (buffer r.of_slot.filled j)
     left_is j = grind (arith, common_steps, sent_buffer)
 
+    arrived_many : length r.of_slot.arrived.inputs ≡ length w.machines
+    arrived_many = k.step.arrive.ports ∙ k.ports
+
+    sent_many : length r.of_slot.sent.inputs ≡ length w.machines
+    sent_many = ap (λ (l : List (List Queued)). length l) k.step.depart.inputs ∙ k.step.fill.moves.ports.0
+        ∙ arrived_many
+
     -- what holds of each cell that was there or came holds of each at every moment of the slot
-    module _ (P : ℕ → Queued → Type 0) (all : (j : ℕ) (q : Queued) →
-        HasFor f.state j q ⊎ CameFor r.of_slot.came j q → P j q)
+    module _ (P : Queued → Type 0) (all : (j : ℕ) (q : Queued) → HasFor f.state j q ⊎ CameFor r.of_slot.came j q → P q)
       where
-        pub of_arrived : (j : ℕ) (q : Queued) → HasFor r.of_slot.arrived j q → P j q
-        of_arrived j q has = search (arith, rules, arrived_has, keyed, admitted_come, old_sound)
+        of_arrived : (j : ℕ) (q : Queued) → HasFor r.of_slot.arrived j q → P q
+        of_arrived j q has = search (arith, rules, arrived_has, keyed, old_sound, all j)
 
-        pub of_filled : (j : ℕ) (q : Queued) → HasFor r.of_slot.filled j q → P j q
-        of_filled j q has = search (rules, of_arrived, moved_has, arrived_is)
+        of_filled : (j : ℕ) (q : Queued) → HasFor r.of_slot.filled j q → P q
+        of_filled j q has = search (rules, of_arrived j, moved_has, arrived_is)
 
-        pub of_gone : (j : ℕ) (q : Queued) → slice_index_or r.of_slot.gone j None ≡ Some q → P j q
-        of_gone j q left = grind (arith, common_steps, of_filled, first_or_rest)
+        of_gone : (j : ℕ) (q : Queued) → slice_index_or r.of_slot.gone j None ≡ Some q → P q
+        of_gone j q left = grind (arith, common_steps, of_filled j, first_or_rest)
 
-        pub of_sent : (j : ℕ) (q : Queued) → HasFor r.of_slot.sent j q → P j q
-        of_sent j q has = grind (arith, common_steps, of_filled, first_or_rest, left_is)
+        of_sent : (j : ℕ) (q : Queued) → HasFor r.of_slot.sent j q → P q
+        of_sent j q has = grind (arith, common_steps, of_filled j, first_or_rest, left_is)
 
-        pub of_new : (j : ℕ) (q : Queued) → HasFor g.state j q → P j q
-        of_new j q has = search (rules, of_sent, moved_has, sent_is)
+    -- ## What stays within bounds
+
+    module _ (names : AllByRecursion HasSmallName w.came) (keeps : (j : ℕ) → KeepsLow (machine_at w.machines j))
+        (within : IsWithin slot f.state) where
+      ranked : AllByRecursion AreLow r.of_slot.arrived.ranks
+      ranked = ranked_low w.machines keeps slot 0 r.admission.cells f.state.ranks
+          (record { came = r.of_slot.came; ranks = r.of_slot.arrived.ranks }) within.states k.step.arrive.ranked
+
+      small_name : (q : Queued) → IsKeyed w q → (q.cell.id.packet < 2 ^ 32) × (q.cell.id.index < 2 ^ 32)
+      small_name q is =
+          let it = found_at w.came q.key.slot q.key.input q.cell is.arrives in
+          let small = all_of_has HasSmallName w.came it.arrival names it.has in rw it.own at small
+
+      arrived_list : (i : ℕ) → length (input r.of_slot.arrived i) ≤ slot + 1
+      arrived_list i = search (arith, rules, length-insert)
+
+      arrived_buffer : (j : ℕ) → length (buffer r.of_slot.arrived j) ≤ slot
+      arrived_buffer j = grind (arith, common_steps)
+
+      next_within : IsWithin (slot + 1) g.state
+      next_within = record {
+        lists = λ i.
+            let arrived = arrived_list i in
+            let filled = shorter r.of_slot.first r.of_slot.arrived r.of_slot.filled k.step.fill i in
+            search (arith, rules, shorter r.of_slot.second r.of_slot.sent g.state k.step.finish i);
+        buffers = λ j.
+            let arrived = arrived_buffer j in
+            let filled = one_crosses r.of_slot.first r.of_slot.arrived r.of_slot.filled k.step.fill (slot + 1)
+            arrived_is k.step.first_chosen j in
+            let sent = left_is j in
+            let less = length-drop 1 (buffer r.of_slot.filled j) in
+            let new = one_crosses r.of_slot.second r.of_slot.sent g.state k.step.finish (slot + 1) sent_is
+            k.step.second_chosen j in
+            grind (arith, common_steps);
+        states = rw (k.step.finish.ranks, k.step.depart.ranks, k.step.fill.ranks)
+            (told_low w.machines keeps r.of_slot.gone r.of_slot.arrived.ranks ranked
+            (λ j q left. (of_gone (IsKeyed w) k.keyed j q left).rank));
+      }
+
+      -- a first cell crosses right
+      crosses : (moment : Fabric) → length moment.inputs ≡ length w.machines → Sound (slot + 1) moment →
+          ((j : ℕ) (q : Queued) → HasFor moment j q → IsKeyed w q) →
+          ((i : ℕ) (q : Queued) → IsAmong q (input moment i) → q.key.input ≡ i) →
+          (i j : ℕ) (c : Queued) → first_for j (input moment i) ≡ Some c → Crosses (length w.machines) i j c
+      crosses moment many sound keyed placed i j c first =
+          let at = first_at (is_for j) (input moment i) c first in
+          let among = among_at (input moment i) at.place c at.at in
+          let out : c.cell.output ≡ j = eqb-true c.cell.output j at.passes in
+          let low = sound.fabric.outputs i c among in
+          let inside : i < length moment.inputs = search (arith, rules, get_or_past, cases_lt) in
+          let is = keyed j c (inl (i, among, out)) in
+          let at_own = placed i c among in
+          search (arith, rules, small_name)
+
+      recorded : (last : ℕ) → slot + 1 ≤ last → last < 2 ^ 63 → IsRecordedWithin (length w.machines) last r.of_slot
+      unfolding transfers_in
+      recorded last le low =
+          let numbered = k.step.numbered in
+          let early : r.of_slot.slot < 2 ^ 63 = omega arith in
+          let ports = length w.machines in
+          let first = all_noted ports r.of_slot.slot 1 early (omega arith, omega arith) r.of_slot.arrived.inputs
+          r.of_slot.first
+          (crosses r.of_slot.arrived arrived_many arrived_is (of_arrived (IsKeyed w) k.keyed) k.placed) in
+          let second = all_noted ports r.of_slot.slot 2 early (omega arith, omega arith) r.of_slot.sent.inputs
+          r.of_slot.second (crosses r.of_slot.sent sent_many sent_is (of_sent (IsKeyed w) k.keyed) (λ i q has.
+          k.placed i q (still_among r.of_slot.first r.of_slot.arrived r.of_slot.filled k.step.fill i q
+          (rw k.step.depart.inputs at has)))) in
+          search (arith, rules, arrived_list, arrived_buffer, all_both)
+
+    -- ## How many proposals a slot makes
+
+    abbrev came : ℕ
+    came = length (present r.admission.cells)
+
+    -- the ideal switch beside it
+    beside : SendsAlike w.machines slot r.admission.cells k.ideal r.of_slot.gone g.state
+    beside = search (rules, same_slot)
+
+    fewer_wait : waits g.state ≤ waits f.state + came - 1
+    fewer_wait =
+        let before = waits_is slot f.state k.ideal k.agrees in
+        let after = waits_is (slot + 1) g.state beside.next beside.agrees in
+        let less = (counted w.machines slot r.admission.cells k.ideal _ beside.sent).fewer in omega arith
+
+    -- a phase makes no more than the number of ports squared
+    phase_few : (moment : Fabric) (m : Partners) → length w.machines ≤ 64 → length moment.inputs ≡ length w.machines →
+        Sound (slot + 1) moment → IsStable (orders_of moment.inputs) m → proposals (orders_of moment.inputs) m ≤ 4096
+    phase_few moment m few many sound stable =
+        let most = proposals_few moment m stable.matching sound.fabric in
+        grind (arith, common_steps, square_few)
+
+    proposed_few : length w.machines ≤ 64 → sum (proposals_in r.of_slot) ≤ 8192
+    unfolding proposals_in
+    proposed_few few =
+        let first = phase_few r.of_slot.arrived r.of_slot.first few arrived_many arrived_is k.step.first_chosen in
+        let second = phase_few r.of_slot.sent r.of_slot.second few sent_many sent_is k.step.second_chosen in
+        omega arith
+
+    -- nothing is proposed where nothing waits and nothing comes
+    no_lists : waits f.state ≡ 0 → (i : ℕ) → length (input f.state i) ≡ 0
+    no_lists none i =
+        let before = waits_is slot f.state k.ideal k.agrees in
+        ⊎_elim (λ e. e) (λ some. absurd (none_among k.ideal.lists _ some.0 (before ∙ none)
+        ((k.agrees.same _ some.0).1 (inl (i, some.1, refl))))) (some_among (input f.state i))
+
+    no_arrival : waits f.state ≡ 0 → came ≡ 0 → (i : ℕ) → length (input r.of_slot.arrived i) ≡ 0
+    no_arrival none quiet i =
+        let some = came_where w.machines slot 0 r.admission.cells f.state.ranks
+        (record { came = r.of_slot.came; ranks = r.of_slot.arrived.ranks }) k.step.arrive.ranked i in
+        let lists = no_lists none i in
+        let is = k.step.arrive.lists i in
+        grind (arith, common_steps, arrival_present)
+
+    none_proposed : waits f.state ≡ 0 → came ≡ 0 → sum (proposals_in r.of_slot) ≡ 0
+    unfolding proposals_in
+    none_proposed none quiet =
+        let arrived = no_arrival none quiet in
+        let sent : (i : ℕ) → length (input r.of_slot.sent i) ≡ 0 =
+        λ i. grind (arith, common_steps, no_arrival, shorter) in
+        let first = proposals_none r.of_slot.arrived r.of_slot.first k.step.first_chosen.matching arrived in
+        let second = proposals_none r.of_slot.sent r.of_slot.second k.step.second_chosen.matching sent in
+        omega arith
+
+    slot_proposed : length w.machines ≤ 64 →
+        sum (proposals_in r.of_slot) + 8192 * waits g.state ≤ 8192 * (waits f.state + came)
+    slot_proposed few = grind (arith, common_steps, fewer_wait, proposed_few, none_proposed, cases_lt)
+
+  -- ## In a run
+
+  pub run_within : length w.machines ≤ 64 → AllByRecursion HasSmallName w.came →
+      ((j : ℕ) → KeepsLow (machine_at w.machines j)) → (slot n last : ℕ) (f g : Marked Fabric)
+      (rs : List LimitedRecord) → KnownRun w slot n f rs g → slot + n ≤ last → last < 2 ^ 63 →
+      IsWithin slot f.state → RunsWithin w.came (length w.machines) slot n last f rs g
+  unfolding arriving_from come_count
+  run_within few names keeps slot zero last f g [] run le low within = grind (arith, common_steps)
+  run_within few names keeps slot (suc n) last f g (r ∷ rs) run le low within =
+      let on = next_within slot f run.0 r run.1 names keeps within in
+      let rest = run_within few names keeps (slot + 1) n last run.0 g rs run.2 (omega arith) low on in
+      let here = slot_proposed slot f run.0 r run.1 few in
+      search (arith, rules, recorded slot f run.0 r run.1 names keeps within last, sum_by-append (λ (n : ℕ). n))
+  run_within few names keeps slot _ last f g _ run le low within = absurd run
+
+  pub all_proposed : (slots last : ℕ) (ranks : List (List ℕ)) (g : Marked Fabric) (rs : List LimitedRecord) →
+      RunsWithin w.came (length w.machines) 0 slots last (opening w ranks) rs g →
+      sum (flat_map proposals_in (slots_in rs)) ≤ 8192 * length w.came
+  unfolding arriving_from
+  all_proposed slots last ranks g rs run =
+      let most = run.proposed in
+      let agree = (limited_empty_agree (length w.machines) ranks).states in
+      let start = waits_is 0 (opening w ranks).state (empty_ideal (length w.machines) ranks) agree in
+      let none = waiting-empty (length w.machines) in
+      let come = come_count-first w.came slots in omega arith
+
+-- the greatest is no more than all together
+pub most_of_all : (a : ℕ) (xs : List ℕ) → fold max a xs ≤ a + sum xs
+most_of_all a [] = omega arith
+most_of_all a (x ∷ xs) = grind (arith, common_steps, sum_by-cons, most_of_all (max a x) xs)
+
+-- nothing is in the empty fabric
+pub empty_within : (ports : ℕ) (ranks : List (List ℕ)) → AllByRecursion AreLow ranks →
+    IsWithin 0 (empty_fabric ports ranks)
+empty_within ports ranks low = grind (arith, common_steps, get_or-replicate, get_or_past, length-replicate, cases_lt)

@@ -2,13 +2,7 @@
 -- keep the laws of machines and begin in a state of their size, and its arrivals, of which there are not many. They
 -- come packet after packet at each input. A capture is a file of 2^28 bytes at most, and each packet and each cell of
 -- it takes a byte there, so that no packet's number and no cell's place in its packet comes near 2^32.
-use Rattle.std.proofs.lemmas.Grind.{common_steps}
-use Rattle.std.proofs.Common.{rules, ◌≡◌, ℕ, zero, suc, ◌+◌, ◌*◌, ◌<◌, ◌≤◌, ◌^◌, min, List, [], ◌∷◌, length, map, flat_map, sym, ap, ◌∙◌, subst, arith, length-append}
-use Rattle.std.specs.Prelude.{fold, replicate, slice_index_or, sum_by}
-use Rattle.std.specs.List.{AllByRecursion, range_with_len}
-use Rattle.std.proofs.lemmas.List.{length-map}
-use Rattle.std.proofs.lemmas.List.Sums.{sum_by-cons}
-use Rattle.cq_base.specs.Arriving.{Arrival}
+use Rattle.cq_stopped.proofs.Terms.{common_steps, rules, ◌≡◌, ℕ, zero, suc, ◌+◌, ◌*◌, ◌<◌, ◌≤◌, ◌^◌, min, List, [], ◌∷◌, length, map, flat_map, ap, arith, length-append, fold, replicate, slice_index_or, sum_by, AllByRecursion, range_with_len, length-map, sum_by-cons, Arrival, Scheduled, IsRecorded, IsTraffic, KeepsLaws, Machine, machine_at, all_both, ArePackets, IsScheduleOf, Switch, switch_of, AreTables, IsSetup, Tables, machine_of, machines_of, opening_of, openings_of, AreRecorded}
 use Rattle.cq_base.specs.declared.setup.ClassRow.{ClassRow}
 use Rattle.cq_base.specs.declared.setup.Kind.{Kind}
 use Rattle.cq_base.specs.declared.setup.Kind.TheVariants.{FirstCome, Priority, Fair}
@@ -16,21 +10,11 @@ use Rattle.cq_base.specs.declared.setup.Setup.{Setup}
 use Rattle.cq_cells.proofs.Looked.{piece}
 use Rattle.cq_cells.proofs.Packets.{came_more, few_by, length_packet, came_by}
 use Rattle.cq_cells.proofs.Rising.{all_flat}
-use Rattle.cq_cells.specs.Schedule.{arrivals, arrivals_at, arrivals_of, cell_of, cells, first_stamp, packets_of, start}
-use Rattle.cq_cells.specs.Scheduled.{Scheduled}
-use Rattle.cq_cells.specs.Traffic.{IsRecorded, IsTraffic}
+use Rattle.cq_cells.specs.Schedule.{arrivals, arrivals_at, arrivals_of, cell_of, first_stamp, packets_of, start}
 use Rattle.cq_pcap.specs.Captured.{Captured}
-use Rattle.cq_rank.specs.Machine.{KeepsLaws, Machine, machine_at}
-use Rattle.cq_resume.proofs.Each.{all_both}
 use Rattle.cq_resume.proofs.Scheduling.{schedule_known}
-use Rattle.cq_resume.specs.Finding.{ArePackets}
-use Rattle.cq_resume.specs.Switch.{IsScheduleOf, Switch, switch_of}
-use Rattle.cq_route.specs.Tables.{AreTables, IsSetup}
-use Rattle.cq_route.specs.declared.tables.Tables.{Tables}
-use Rattle.cq_scfq.specs.Disciplines.{machine_of, machines_of, opening_of, openings_of}
 use Rattle.cq_simulate.proofs.Runnable.{keeps_laws, kind, machine_is, right_classes, right_size}
-use Rattle.cq_stopped.proofs.Joined.{all_of_images}
-use Rattle.cq_stopped.specs.Stopped.{AreRecorded}
+use Rattle.cq_stopped.proofs.Joined.{all_made, all_of_images}
 
 -- the numbers of a cell's packet and of its place there are small
 abbrev pub HasSmallName : Arrival → Type 0
@@ -69,11 +53,11 @@ pub record IsConfigured (w : Switch) (ranks : List (List ℕ)) : Type 0 where
 
 zeros_low : (n : ℕ) → AreLow (replicate n 0)
 zeros_low zero = tt
-zeros_low (suc n) = ((let P : 0 < 2 ^ 128 = omega arith in P), zeros_low n)
+zeros_low (suc n) = (omega arith, zeros_low n)
 
 machine_low : (kind : Kind) (rows : List ClassRow) → KeepsLow (machine_of kind rows)
-machine_low FirstCome rows = record { given = λ s c all low. all; sent = λ s l r all low. all; idle = λ s all. all }
-machine_low Priority rows = record { given = λ s c all low. all; sent = λ s l r all low. all; idle = λ s all. all }
+machine_low FirstCome rows = search (rules, zeros_low)
+machine_low Priority rows = search (rules, zeros_low)
 machine_low Fair rows = grind (arith, common_steps, zeros_low)
 
 openings_all : (kinds : List Kind) (rows : List ClassRow) →
@@ -109,13 +93,6 @@ module _ (t : Tables) (captures : List (List Captured)) where
   unfolding arrivals
   all_short tables few each = grind (arith, common_steps, lines_short)
 
-  -- the cells of a packet with a number below a bound, up to a number of its cells
-  all_pieces : (P : Arrival → Type 0) (input k a n : ℕ) →
-      ((i : ℕ) → i < a + n → P (piece (start t captures input k) (cell_of t captures input k) i)) →
-      AllByRecursion P (map (piece (start t captures input k) (cell_of t captures input k)) (range_with_len a n))
-  all_pieces P input k a zero each = tt
-  all_pieces P input k a (suc n) each = grind (arith, common_steps, all_pieces P input k (a + 1) n)
-
   few_packets : (ps : List Captured) → length ps ≤ sum_by (λ (p : Captured). 16 + length p.body) ps
   few_packets [] = omega arith
   few_packets (p ∷ ps) = grind (arith, common_steps, sum_by-cons, few_packets ps)
@@ -127,16 +104,12 @@ module _ (t : Tables) (captures : List (List Captured)) where
       let ps = packets_of captures input in
       let many = few_packets ps in
       all_flat HasSmallName (arrivals_of t captures input) 0 (length ps) (λ k from lt.
-      let all : length (came_by t captures input (k + 1)) ≤ 2 ^ 28 =
-      few_by t captures input (k + 1) some is (omega arith) in
-      let more : length (came_by t captures input (k + 1))
-      ≡ length (came_by t captures input k) + length (arrivals_of t captures input k) =
-      ap (λ (l : List Arrival). length l) (came_more t captures input k)
-      ∙ length-append (came_by t captures input k) (arrivals_of t captures input k) in
-      let size : length (arrivals_of t captures input k) ≡ cells t captures input k =
-      length_packet t captures input k in
-      all_pieces HasSmallName input k 0 (cells t captures input k) (λ i below.
-      ((let P : k < 2 ^ 32 = omega arith in P), (let P : i < 2 ^ 32 = omega arith in P))))
+      let all = few_by t captures input (k + 1) some is (omega arith) in
+      let more = ap (λ (l : List Arrival). length l) (came_more t captures input k) in
+      let both = length-append (came_by t captures input k) (arrivals_of t captures input k) in
+      let size = length_packet t captures input k in
+      all_made _ (piece (start t captures input k) (cell_of t captures input k)) 0 _
+      (λ i below. (omega arith, omega arith)))
 
   small_names : 1 ≤ t.cell_bytes → ((i : ℕ) → i < length captures → IsRecorded (packets_of captures i)) →
       AllByRecursion HasSmallName (arrivals t captures)
@@ -157,10 +130,10 @@ stamps_low : (captures : List (List Captured)) →
     ((i : ℕ) → i < length captures → IsRecorded (packets_of captures i)) →
     AllByRecursion IsStamp (flat_map (λ (ps : List Captured). map (λ (p : Captured). p.stamp) ps) captures)
 stamps_low [] each = tt
-stamps_low (ps ∷ captures) each = all_both IsStamp (map (λ (p : Captured). p.stamp) ps)
-    (flat_map (λ (ps : List Captured). map (λ (p : Captured). p.stamp) ps) captures)
-    (all_of_images (λ (p : Captured). p.stamp) IsStamp ps (each zero (omega arith)).stamps)
-    (stamps_low captures (λ i lt. each (suc i) (omega arith)))
+stamps_low (ps ∷ captures) each =
+    let first = (each zero (omega arith)).stamps in
+    let rest = stamps_low captures (λ i lt. each (suc i) (omega arith)) in
+    search (rules, all_both, all_of_images)
 
 first_low : (captures : List (List Captured)) → ((i : ℕ) → i < length captures → IsRecorded (packets_of captures i)) →
     first_stamp captures < 2 ^ 63
@@ -177,28 +150,14 @@ configured t s made tables recorded =
     length-map setup.kinds (λ (k : Kind). machine_of k setup.classes) in
     let classes = tables.setup.classes in
     let known = schedule_known t s tables made in
-    let stamp : s.first_stamp ≡ first_stamp made.captures = ap (λ (x : Scheduled). x.first_stamp) made.schedule in
     let came : s.came ≡ arrivals t made.captures = ap (λ (x : Scheduled). x.came) made.schedule in
-    let captures : length made.captures ≡ length setup.kinds = made.ports in
-    let low = first_low made.captures recorded in
-    let size : length s.came ≡ length (arrivals t made.captures) = ap (λ (l : List Arrival). length l) came in
-    let short = all_short t made.captures tables (omega arith) recorded in
-    record {
-      some = omega arith;
-      few = omega arith;
-      some_classes = classes.0;
-      few_classes = classes.1;
-      first_stamp = omega arith;
-      traffic = subst (λ (n : ℕ). IsTraffic n (length setup.classes) s.came) (sym many) known.traffic;
-      packets = subst (λ (n : ℕ). ArePackets n s.came) (known.ports ∙ sym many) known.packets;
-      names = search (arith, rules, small_names);
-      few_cells = omega arith;
-      laws = λ j inside. keeps_laws setup j (omega arith);
-      same = λ j inside. right_classes setup j (omega arith);
-      level = λ j c inside below. low_level setup j (omega arith) c below tables.setup;
-      low = λ j. machines_low setup.kinds setup.classes j;
-      small = λ j inside. small_size setup j (omega arith) classes.1;
-      openings_low = openings_all setup.kinds setup.classes;
-      openings = length-map setup.kinds (λ (k : Kind). opening_of k setup.classes) ∙ sym many;
-      sizes = λ j inside. right_size setup j (omega arith);
-    }
+    let few : length made.captures ≤ 64 = omega arith in
+    let stamp : s.first_stamp < 2 ^ 63 = rw made.schedule (first_low made.captures recorded) in
+    let traffic = rw (← many) at known.traffic in
+    let packets = rw (known.ports, ← many) at known.packets in
+    let names = small_names t made.captures (omega arith) recorded in
+    let short = all_short t made.captures tables few recorded in
+    let low = machines_low setup.kinds setup.classes in
+    let openings = length-map setup.kinds (λ (k : Kind). opening_of k setup.classes) in
+    let openings_low = openings_all setup.kinds setup.classes in
+    search (arith, rules, keeps_laws, right_classes, low_level, small_size, right_size)

@@ -1,15 +1,11 @@
 -- Lists that are joined, sifted and mapped: what they have, and what holds of each of their items and each that stands
 -- behind it.
-use Rattle.std.proofs.lemmas.Grind.{common_steps}
-use Rattle.std.proofs.Common.{rules, ◌≡◌, ℕ, zero, suc, ◌<◌, Bool, true, false, cond, List, [], ◌∷◌, ◌++◌, map, refl, sym, ap, ◌∙◌, subst, inl, inr, ⊎_elim, arith}
-use Rattle.std.specs.Prelude.{◌==◌, filter, slice_index_or}
-use Rattle.std.specs.List.{AllByRecursion, flat_map, list_any}
-use Rattle.std.proofs.lemmas.Bool.{eq-eqb, or_left, or_right}
-use Rattle.cq_resume.proofs.Chained.{EachPair}
-use Rattle.cq_resume.proofs.Each.{all_both}
-use Rattle.cq_resume.proofs.Having.{Has, all_from_has, all_of_has, has_left, has_right, has_cases}
+use Rattle.cq_stopped.proofs.Terms.{common_steps, rules, ◌≡◌, ℕ, zero, suc, ◌<◌, Bool, true, false, List, [], ◌∷◌, ◌++◌, map, refl, ap, ◌∙◌, inl, inr, ⊎_elim, arith, length, ◌+◌, Option, Some, All, ◌==◌, filter, slice_index_or, AllByRecursion, AllPairs, flat_map, list_any, filter_map, range_with_len, eq-eqb, or_left, or_right, cases_Bool, ne_eqb, append-nil, filter-append, All-from_recursion, EachPair, all_pairs, all_both, pairs_with, Has, all_from_has, all_of_has, has_left, has_right, has_cases, has_image, has_kept}
 
 module _ {X : Type 0} where
+  pub all_if_has : (P : X → Type 0) (xs : List X) → ((x : X) → Has xs x → P x) → All P xs
+  all_if_has P xs each = All-from_recursion P xs (all_from_has P xs each)
+
   -- ## Lists end on end
 
   abbrev pub list_at : List (List X) → ℕ → List X
@@ -25,14 +21,19 @@ module _ {X : Type 0} where
 
   pub is_at : (xss : List (List X)) (x : X) → Has (all_of xss) x → IsAt xss x
   is_at [] x has = absurd has
-  is_at (xs ∷ xss) x has = ⊎_elim (λ (here : Has xs x). record { place = zero; has = here })
-      (λ (later : Has (all_of xss) x). let it = is_at xss x later in record { place = suc it.place; has = it.has })
+  is_at (xs ∷ xss) x has = ⊎_elim (λ here. record { place = zero; has = here })
+      (λ later. let it = is_at xss x later in record { place = suc it.place; has = it.has })
       (has_cases xs (all_of xss) x has)
 
   pub has_at_place : (xss : List (List X)) (i : ℕ) (x : X) → Has (list_at xss i) x → Has (all_of xss) x
   has_at_place [] i x has = absurd has
   has_at_place (xs ∷ xss) zero x has = has_left xs (all_of xss) x has
   has_at_place (xs ∷ xss) (suc i) x has = has_right xs (all_of xss) x (has_at_place xss i x has)
+
+  -- what each pair of items tells
+  pub pairs_in : (R S : X → X → Type 0) (xs : List X) → ((x y : X) → Has xs x → Has xs y → R x y → S x y) →
+      EachPair R xs → EachPair S xs
+  pairs_in R S xs tells pairs = pairs_with R S (Has xs) tells xs (all_from_has (Has xs) xs (λ x has. has)) pairs
 
   module _ (R : X → X → Type 0) where
     pub pairs_join : (xs ys : List X) → EachPair R xs → EachPair R ys →
@@ -73,28 +74,91 @@ module _ {X : Type 0} where
 
   pub some_passes : (p : X → Bool) (xs : List X) → list_any p xs ≡ true → Passes p xs
   some_passes p [] is = absurd (let P : ⊥ = cc in P)
-  some_passes p (x ∷ xs) is = by (p x) refl is (λ rest. some_passes p xs rest)
-    where
-      by : (b : Bool) → p x ≡ b → list_any p (x ∷ xs) ≡ true → (list_any p xs ≡ true → Passes p xs) →
-          Passes p (x ∷ xs)
-      by true passes is rest = record { one = x; has = inl refl; passes = passes }
-      by false fails is rest =
-          let later : list_any p xs ≡ true = cc in
-          let it = rest later in
-          record { one = it.one; has = inr it.has; passes = it.passes }
+  some_passes p (x ∷ xs) is = ⊎_elim (λ passes. record { one = x; has = inl refl; passes = passes })
+      (λ fails.
+      let it = some_passes p xs (rw fails at is) in record { one = it.one; has = inr it.has; passes = it.passes })
+      (cases_Bool (p x))
 
 module _ {X Y : Type 0} (f : X → Y) where
-  pub pairs_of_images : (R : Y → Y → Type 0) (xs : List X) → EachPair (λ x y. R (f x) (f y)) xs → EachPair R (map f xs)
-  pairs_of_images R [] pairs = tt
-  pairs_of_images R (x ∷ xs) pairs = (images x xs pairs.0, pairs_of_images R xs pairs.1)
-    where
-      images : (x : X) (ys : List X) → AllByRecursion (λ y. R (f x) (f y)) ys → AllByRecursion (R (f x)) (map f ys)
-      images x [] all = tt
-      images x (y ∷ ys) all = (all.0, images x ys all.1)
-
   pub all_of_images : (P : Y → Type 0) (xs : List X) → AllByRecursion (λ x. P (f x)) xs → AllByRecursion P (map f xs)
   all_of_images P [] all = tt
   all_of_images P (x ∷ xs) all = (all.0, all_of_images P xs all.1)
+
+  pub pairs_of_images : (R : Y → Y → Type 0) (xs : List X) → EachPair (λ x y. R (f x) (f y)) xs → EachPair R (map f xs)
+  pairs_of_images R [] pairs = tt
+  pairs_of_images R (x ∷ xs) pairs = (all_of_images (R (f x)) xs pairs.0, pairs_of_images R xs pairs.1)
+
+  pub image_pairs : (R : Y → Y → Type 0) (xs : List X) → EachPair (λ x y. R (f x) (f y)) xs → AllPairs R (map f xs)
+  image_pairs R xs pairs = all_pairs R (map f xs) (pairs_of_images R xs pairs)
+
+  pub filter_images : (p : Y → Bool) (xs : List X) → filter p (map f xs) ≡ map f (filter (λ x. p (f x)) xs)
+  filter_images p [] = refl
+  filter_images p (x ∷ xs) = grind (arith, common_steps, cases_Bool, filter_images p xs)
+
+  -- what is told of each and read again is what it was
+  pub told_again : (g : Y → Option X) (xs : List X) → ((x : X) → Has xs x → g (f x) ≡ Some x) →
+      filter_map g (map f xs) ≡ xs
+  told_again g [] each = refl
+  told_again g (x ∷ xs) each = grind (arith, common_steps, told_again g xs)
+
+-- what holds of all images of numbers
+pub all_made : {X : Type 0} (P : X → Type 0) (f : ℕ → X) (a n : ℕ) → ((i : ℕ) → i < a + n → P (f i)) →
+    AllByRecursion P (map f (range_with_len a n))
+all_made P f a zero each = tt
+all_made P f a (suc n) each = (each a (omega arith), all_made P f (a + 1) n (λ i lt. each i (omega arith)))
+
+-- ## Sifting lists that stand end on end
+
+filter_all : {X : Type 0} (p : X → Bool) (xs : List X) → ((x : X) → Has xs x → p x ≡ true) → filter p xs ≡ xs
+filter_all p [] each = refl
+filter_all {X} p (x ∷ xs) each = grind (arith, common_steps, filter_all p xs)
+
+pub filter_none : {X : Type 0} (p : X → Bool) (xs : List X) → ((x : X) → Has xs x → p x ≡ false) → filter p xs ≡ []
+filter_none p [] each = refl
+filter_none p (x ∷ xs) each = grind (arith, common_steps, filter_none p xs)
+
+module _ {X : Type 0} (number : X → ℕ) where
+  abbrev is_numbered : ℕ → X → Bool
+  is_numbered i x = number x == i
+
+  -- the items of each list have its number, from a on
+  abbrev AreNumbered : ℕ → List (List X) → Type 0
+  AreNumbered a xss = (k : ℕ) (x : X) → Has (list_at xss k) x → number x ≡ a + k
+
+  later : (a : ℕ) (xs : List X) (xss : List (List X)) → AreNumbered a (xs ∷ xss) → AreNumbered (a + 1) xss
+  later a xs xss own k x has = let e = own (suc k) x has in omega arith
+
+  none_past : (a i : ℕ) (xss : List (List X)) → i < a → AreNumbered a xss → filter (is_numbered i) (all_of xss) ≡ []
+  none_past a i xss lt own = grind (arith, common_steps, filter_none, all_of, is_at, ne_eqb)
+
+  sifted : (a i : ℕ) (xss : List (List X)) → AreNumbered a xss → (k : ℕ) → a + k ≡ i →
+      filter (is_numbered i) (all_of xss) ≡ list_at xss k
+  sifted a i [] own k is = refl
+  sifted a i (xs ∷ xss) own zero is =
+      let here = filter_all (is_numbered i) xs (λ x has.
+      let e = own zero x has in eq-eqb (number x) i (omega arith)) in
+      let past = none_past (a + 1) i xss (omega arith) (later a xs xss own) in
+      simp (filter-append, here, past, append-nil)
+  sifted a i (xs ∷ xss) own (suc k) is =
+      let none = filter_none (is_numbered i) xs (λ x has.
+      let e = own zero x has in ne_eqb (number x) i (λ same. omega arith)) in
+      simp (filter-append, none) (sifted (a + 1) i xss (later a xs xss own) k (omega arith))
+
+  pub sift : (xss : List (List X)) → ((k : ℕ) (x : X) → Has (list_at xss k) x → number x ≡ k) → (i : ℕ) →
+      filter (is_numbered i) (all_of xss) ≡ list_at xss i
+  sift xss own i = sifted 0 i xss (λ k x has. let e = own k x has in omega arith) i (omega arith)
+
+-- lists by their places
+places_from : {X : Type 0} (f : ℕ → X) (d : X) (a : ℕ) (xs : List X) →
+    ((i k : ℕ) → i ≡ a + k → k < length xs → f i ≡ slice_index_or xs k d) → map f (range_with_len a (length xs)) ≡ xs
+places_from f d a [] each = refl
+places_from {X} f d a (x ∷ xs) each =
+    let first = each a zero (omega arith) (omega arith) in
+    let rest = places_from f d (a + 1) xs (λ i k e lt. each i (suc k) (omega arith) (omega arith)) in cc
+
+pub by_places : {X : Type 0} (f : ℕ → X) (d : X) (xs : List X) →
+    ((k : ℕ) → k < length xs → f k ≡ slice_index_or xs k d) → map f (range_with_len 0 (length xs)) ≡ xs
+by_places f d xs each = places_from f d 0 xs (λ i k e lt. let k_is : i ≡ k = omega arith in ap f k_is ∙ each k lt)
 
 -- ## Items by a number
 
@@ -103,21 +167,9 @@ module _ {X Y : Type 0} (number : X → ℕ) (f : X → Y) where
   abbrev pub of_number : ℕ → List X → List Y
   of_number j xs = map f (filter (λ x. number x == j) xs)
 
-  number_has : (xs : List X) (y : X) → Has xs y → Has (of_number (number y) xs) (f y)
-  number_has [] y has = absurd has
-  number_has (x ∷ xs) y (inl same) =
-      let rest = filter (λ (z : X). number z == number y) xs in
-      subst (λ (b : Bool). Has (map f (cond b (x ∷ rest) rest)) (f y))
-      (sym (eq-eqb (number x) (number y) (ap number same))) (inl (ap f same))
-  number_has (x ∷ xs) y (inr rest) = by (number x == number y) (number_has xs y rest)
-    where
-      by : (b : Bool) → Has (of_number (number y) xs) (f y) →
-          Has (map f (cond b (x ∷ filter (λ z. number z == number y) xs) (filter (λ z. number z == number y) xs))) (f y)
-      by true has = inr has
-      by false has = has
-
   pub has_number : (xs : List X) (y : X) (j : ℕ) → number y ≡ j → Has xs y → Has (of_number j xs) (f y)
-  has_number xs y j same has = subst (λ (n : ℕ). Has (of_number n xs) (f y)) same (number_has xs y has)
+  has_number xs y j same has = has_image f (filter (λ x. number x == j) xs) y
+      (has_kept (λ x. number x == j) xs y has (eq-eqb (number y) j same))
 
   module _ (R : Y → Y → Type 0) where
     first_pairs : (x : X) (xs : List X) → EachPair R (of_number (number x) (x ∷ xs)) →

@@ -1,36 +1,66 @@
--- The departures and the transfers of a run stand in order: slot by slot, those of a slot by output, and by phase and
--- input.
-use Rattle.std.proofs.lemmas.Grind.{common_steps}
-use Rattle.std.proofs.Common.{rules, ◌≡◌, ℕ, zero, suc, ◌+◌, ◌<◌, ◌≤◌, ◌⊎◌, List, [], ◌∷◌, length, map, Option, Some, None, refl, inr, arith, inl}
-use Rattle.std.specs.List.{AllByRecursion, range_with_len, flat_map}
-use Rattle.std.specs.Option.{option_map}
-use Rattle.cq_base.specs.Arriving.{arriving}
-use Rattle.cq_base.specs.Cells.{first_for}
-use Rattle.cq_base.specs.declared.cell.Departure.{Departure}
-use Rattle.cq_base.specs.declared.cell.Queued.{Queued}
-use Rattle.cq_base.specs.declared.cell.Transfer.{Transfer}
-use Rattle.cq_ideal.specs.Admission.{Marked}
-use Rattle.cq_ideal.specs.Ending.{arriving_from}
-use Rattle.cq_ideal.specs.IdealRun.{departures_of}
-use Rattle.cq_ideal.specs.IdealSlot.{departures_from, departures_in}
-use Rattle.cq_laws.specs.Fabric.{Fabric}
-use Rattle.cq_laws.specs.FabricSlot.{SlotRecord}
-use Rattle.cq_laws.specs.LimitedFabric.{LimitedRecord, slots_in}
-use Rattle.cq_laws.specs.Records.{transfers_in, transfers_of_run}
-use Rattle.cq_prefs.specs.FirstCells.{list_of}
-use Rattle.cq_prefs.specs.Moves.{noted, transfers_of}
-use Rattle.cq_prefs.specs.Pairing.{Partners, partner_of}
-use Rattle.cq_resume.proofs.Chained.{EachPair}
-use Rattle.cq_resume.proofs.Each.{all_both, all_weaker}
-use Rattle.cq_resume.proofs.Having.{all_from_has, all_of_has}
-use Rattle.cq_resume.proofs.Pooled.{looked_up, pairs_looked_up}
-use Rattle.cq_resume.specs.Resumed.{Runs}
-use Rattle.cq_resume.specs.Sound.{IsMovedBefore}
-use Rattle.cq_resume.specs.Switch.{Switch}
-use Rattle.cq_stopped.proofs.Departing.{each_departs}
-use Rattle.cq_stopped.proofs.Joined.{pairs_join}
+-- The departures and the transfers of a run: what a slot adds to the departures, at each output the cell that it sent,
+-- if it sent one; that they stand in order: slot by slot, those of a slot by output, and by phase and input; and the
+-- figures that are read off them.
+use Rattle.cq_stopped.proofs.Terms.{ap, ◌≡◌, ℕ, zero, suc, ◌+◌, ◌<◌, List, [], ◌∷◌, ◌++◌, Option, Some, None, refl, arith, rules, ◌≤◌, ◌⊎◌, length, map, inr, ◌-◌, eqb, Bool, true, false, fold, max, ◌∙◌, eq-eqb, ne_eqb, and_from, and_parts, cases_lt, eqb-true, common_steps, map-append, get_or_past, length-map, filter-append, sum_by-cons, AllByRecursion, range_with_len, cons_option, enumerate_from, ◌==◌, filter, slice_index_or, ◌&&◌, count_by, filter_map, is_some, option_map, Arrival, Departure, Queued, Transfer, listed, Marked, arriving_from, slots_of, departures_of, departures_from, departures_in, Fabric, SlotRecord, LimitedRecord, slots_in, figures_of, input_figures, output_figures, sends, sent_by, wait_at, came_to, transfers_in, transfers_of_run, gone_in, list_of, noted, transfers_of, Partners, partner_of, EachPair, all_both, all_weaker, Differ, all_from_has, all_of_has, Has, has_kept, kept_has, looked_up, pairs_looked_up, AreApart, Stands, no_more, pairs_kept, figures_told, input_told, output_told, sent_told, sent_at, seen_as, Runs, IsMovedBefore, Switch, is_named, named_in, Named, State, fold-max, sent_slots, has_number}
+use Rattle.cq_base.specs.declared.figures.Figures.{Figures}
+use Rattle.cq_base.specs.declared.figures.InputFigures.{InputFigures}
+use Rattle.cq_ideal.proofs.LastSlot.{slots_of-append}
+use Rattle.cq_state.specs.declared.state.Seen.{Seen}
+use Rattle.cq_stopped.proofs.Joined.{pairs_in, pairs_join, any_has, some_passes}
+use Rattle.cq_stopped.proofs.Ran.{left_at, came_in, came_of}
 
--- ## Departures
+-- ## What a slot adds to the departures
+
+abbrev departure : ℕ → ℕ → Queued → Departure
+departure slot j q = record { slot = slot; output = j; queued = q }
+
+-- what holds of each cell that was sent, at its output, holds of each departure
+pub each_departs : (slot : ℕ) (P : Departure → Type 0) (gone : List (Option Queued)) (a : ℕ) →
+    ((k j : ℕ) (q : Queued) → j ≡ a + k → slice_index_or gone k None ≡ Some q → P (departure slot j q)) →
+    AllByRecursion P (departures_from slot a gone)
+each_departs slot P [] a each = tt
+each_departs slot P (None ∷ gone) a each =
+    each_departs slot P gone (a + 1) (λ k j q is at. each (suc k) j q (omega arith) at)
+each_departs slot P (Some q ∷ gone) a each = (
+  each zero a q (omega arith) refl,
+  each_departs slot P gone (a + 1) (λ k j p is at. each (suc k) j p (omega arith) at),
+)
+
+module _ (j : ℕ) where
+  abbrev is_its : Departure → Bool
+  is_its d = d.output == j
+
+  none_its : (slot a : ℕ) (gone : List (Option Queued)) → j < a → filter is_its (departures_from slot a gone) ≡ []
+  none_its slot a [] past = refl
+  none_its slot a (None ∷ gone) past = none_its slot (a + 1) gone (omega arith)
+  none_its slot a (Some q ∷ gone) past = grind (arith, common_steps, ne_eqb, none_its slot (a + 1) gone)
+
+  abbrev told_of : ℕ → Option Queued → List Departure
+  told_of slot o = cons_option (option_map (departure slot j) o) []
+
+  -- of a slot's departures the output's
+  its_one : (slot a k : ℕ) (gone : List (Option Queued)) → a + k ≡ j →
+      filter is_its (departures_from slot a gone) ≡ told_of slot (slice_index_or gone k None)
+  its_one slot a k [] is = refl
+  its_one slot a zero (None ∷ gone) is = none_its slot (a + 1) gone (omega arith)
+  its_one slot a (suc k) (None ∷ gone) is = its_one slot (a + 1) k gone (omega arith)
+  its_one slot a zero (Some q ∷ gone) is = grind (arith, common_steps, eq-eqb, none_its)
+  its_one slot a (suc k) (Some q ∷ gone) is = grind (arith, common_steps, ne_eqb, its_one slot (a + 1) k gone)
+
+  -- what left an output with this slot
+  pub left_more : (slot : ℕ) (sent : List Departure) (gone : List (Option Queued)) →
+      left_at j (sent ++ departures_in slot gone) ≡ left_at j sent ++ listed (slice_index_or gone j None)
+  unfolding departures_in
+  left_more slot sent gone =
+      let here = its_one slot 0 j gone (omega arith) in
+      simp (filter-append, map-append, here) (ap (λ (l : List Queued). left_at j sent ++ l)
+      (listed_is (slice_index_or gone j None)))
+    where
+      listed_is : (o : Option Queued) → map (λ (d : Departure). d.queued) (told_of slot o) ≡ listed o
+      listed_is None = refl
+      listed_is (Some q) = refl
+
+-- ## Departures in order
 
 -- one departs before another: in an earlier slot, or in one slot at an earlier output
 abbrev pub DepartsBefore : Departure → Departure → Type 0
@@ -50,12 +80,11 @@ no_earlier slot (gone ∷ slots) = search (rules, all_both, all_weaker, of_slot,
 slot_in_order : (slot a : ℕ) (gone : List (Option Queued)) → EachPair DepartsBefore (departures_from slot a gone)
 slot_in_order slot a [] = tt
 slot_in_order slot a (None ∷ gone) = slot_in_order slot (a + 1) gone
-slot_in_order slot a (Some q ∷ gone) =
-    let one : Departure = record { slot = slot; output = a; queued = q } in (
-      each_departs slot (λ (e : Departure). DepartsBefore one e) gone (a + 1) (λ k j p is at.
-          inr (refl, (let lt : a < j = omega arith in lt))),
-      slot_in_order slot (a + 1) gone,
-    )
+slot_in_order slot a (Some q ∷ gone) = (
+  each_departs slot (DepartsBefore (record { slot = slot; output = a; queued = q })) gone (a + 1)
+      (λ k j p is at. inr (refl, omega arith)),
+  slot_in_order slot (a + 1) gone,
+)
 
 pub departures_in_order : (slot : ℕ) (slots : List (List (Option Queued))) →
     EachPair DepartsBefore (departures_of slot slots)
@@ -66,48 +95,29 @@ departures_in_order slot (gone ∷ slots) =
 
 -- ## Transfers
 
--- what a transfer tells of its slot, its phase and its input
-record IsOfInput (slot phase i : ℕ) (t : Transfer) : Type 0 where
-  pub slot_is : t.slot ≡ slot
-  pub phase_is : t.phase ≡ phase
-  pub input_is : t.input ≡ i
-
 noted_is : (slot phase i : ℕ) (cells : List Queued) (o : Option ℕ) (t : Transfer) →
-    noted slot phase i cells o ≡ Some t → IsOfInput slot phase i t
-noted_is slot phase i cells None t is = absurd (let P : ⊥ = cc in P)
-noted_is slot phase i cells (Some output) t is = by (first_for output cells) is
-  where
-    made : Queued → Transfer
-    made c = record { slot = slot; phase = phase; input = i; output = output; id = c.cell.id }
-
-    by : (o : Option Queued) → option_map made o ≡ Some t → IsOfInput slot phase i t
-    by None is = absurd (let P : ⊥ = cc in P)
-    by (Some c) is = grind (arith, common_steps)
+    noted slot phase i cells o ≡ Some t → (t.slot ≡ slot) × (t.phase ≡ phase) × (t.input ≡ i)
+noted_is slot phase i cells o t is = grind (arith, common_steps)
 
 range_from : (b a n : ℕ) → b ≤ a → AllByRecursion (λ (k : ℕ). b ≤ k) (range_with_len a n)
 range_from b a zero le = tt
 range_from b a (suc n) le = (le, range_from b (a + 1) n (omega arith))
 
-range_rises : (a n : ℕ) → EachPair (λ (i k : ℕ). i < k) (range_with_len a n)
+pub range_rises : (a n : ℕ) → EachPair (λ (i k : ℕ). i < k) (range_with_len a n)
 range_rises a zero = tt
 range_rises a (suc n) = grind (arith, common_steps, all_weaker, range_from, range_rises (a + 1) n)
 
 module _ (m : Partners) (lists : List (List Queued)) (slot phase : ℕ) where
-  abbrev of_input : ℕ → Option Transfer
-  of_input i = noted slot phase i (list_of lists i) (partner_of m i)
-
-  -- it is of the slot and the phase
-  pub record IsOfPhase (t : Transfer) : Type 0 where
-    pub slot_is : t.slot ≡ slot
-    pub phase_is : t.phase ≡ phase
-
-  pub phase_transfers : AllByRecursion IsOfPhase (transfers_of m lists slot phase)
+  -- each is of the slot and the phase
+  phase_transfers : AllByRecursion (λ (t : Transfer). (t.slot ≡ slot) × (t.phase ≡ phase))
+      (transfers_of m lists slot phase)
   unfolding transfers_of
   phase_transfers = search (rules, all_from_has, looked_up, noted_is)
 
   pub phase_in_order : EachPair IsMovedBefore (transfers_of m lists slot phase)
   unfolding transfers_of
-  phase_in_order = pairs_looked_up of_input (λ (i k : ℕ). i < k) IsMovedBefore
+  phase_in_order = pairs_looked_up (λ i. noted slot phase i (list_of lists i) (partner_of m i)) (λ (i k : ℕ). i < k)
+      IsMovedBefore
       (λ i k a b lt first second. search (arith, rules, noted_is)) (range_with_len 0 (length m))
       (range_rises 0 (length m))
 
@@ -122,38 +132,164 @@ slot_moved r = grind (arith, common_steps, pairs_join, phase_in_order, all_of_ha
 -- the transfers of some slots
 pub record AreMoved (from to : ℕ) (ts : List Transfer) : Type 0 where
   pub pairs : EachPair IsMovedBefore ts
-  pub late : AllByRecursion (λ (t : Transfer). from ≤ t.slot) ts
-  pub early : AllByRecursion (λ (t : Transfer). t.slot < to) ts
+  pub times : AllByRecursion (λ t. (from ≤ t.slot) × (t.slot < to)) ts
 
 module _ (w : Switch) where
-  moved_from : (m a : ℕ) (f g : Marked Fabric) (rs : List LimitedRecord) →
-      Runs w a (map (arriving w.came) (range_with_len a m)) f rs g → AreMoved a (a + m) (transfers_of_run (slots_in rs))
-  unfolding transfers_of_run
-  moved_from zero a f g [] run = record { pairs = tt; late = tt; early = tt }
-  moved_from zero a f g (r ∷ rs) run = absurd run
-  moved_from (suc m) a f g [] run = absurd run
-  moved_from (suc m) a f g (r ∷ rs) run =
-      let here = transfers_in r.of_slot in
-      let later = flat_map transfers_in (slots_in rs) in
-      let number : r.of_slot.slot ≡ a = run.1.runs.numbered in
+  pub moved_in_order : (m a end : ℕ) (f g : Marked Fabric) (rs : List LimitedRecord) →
+      Runs w a (arriving_from w.came a m) f rs g → end ≡ a + m → AreMoved a end (transfers_of_run (slots_in rs))
+  unfolding transfers_of_run arriving_from
+  moved_in_order zero a end f g [] run is = record { pairs = tt; times = tt }
+  moved_in_order (suc m) a end f g (r ∷ rs) run is =
+      let number = run.1.runs.numbered in
       let of = slot_transfers r.of_slot in
-      let rest = moved_from m (a + 1) run.0 g rs run.2 in
-      record {
-        pairs = pairs_join IsMovedBefore here later (slot_moved r.of_slot) rest.pairs (λ s t first second.
-            let now = all_of_has (λ (x : Transfer). x.slot ≡ r.of_slot.slot) here s of first in
-            let late = all_of_has (λ (x : Transfer). a + 1 ≤ x.slot) later t rest.late second in
-            inl (let lt : s.slot < t.slot = omega arith in lt));
-        late = all_both (λ (t : Transfer). a ≤ t.slot) here later (all_weaker
-            (λ (t : Transfer). t.slot ≡ r.of_slot.slot) (λ (t : Transfer). a ≤ t.slot) (λ t same. omega arith) here
-            of) (all_weaker (λ (t : Transfer). a + 1 ≤ t.slot) (λ (t : Transfer). a ≤ t.slot) (λ t le. omega arith)
-            later rest.late);
-        early = all_both (λ (t : Transfer). t.slot < a + suc m) here later (all_weaker
-            (λ (t : Transfer). t.slot ≡ r.of_slot.slot) (λ (t : Transfer). t.slot < a + suc m)
-            (λ t same. omega arith) here of) (all_weaker (λ (t : Transfer). t.slot < a + 1 + m)
-            (λ (t : Transfer). t.slot < a + suc m) (λ t lt. omega arith) later rest.early);
-      }
+      let moved = slot_moved r.of_slot in
+      let rest = moved_in_order m (a + 1) end run.0 g rs run.2 (omega arith) in
+      search (arith, rules, pairs_join, all_of_has, all_both, all_weaker)
+  moved_in_order _ a end f g _ run is = absurd run
 
-  pub moved_in_order : (n : ℕ) (f g : Marked Fabric) (rs : List LimitedRecord) →
-      Runs w 0 (arriving_from w.came 0 n) f rs g → AreMoved 0 n (transfers_of_run (slots_in rs))
-  unfolding arriving_from
-  moved_in_order n f g rs run = grind (arith, common_steps, moved_from)
+-- ## The figures. What an output sent and how long it kept a cell are read off its departures, one for each slot in
+-- which it sent. And as many names are of an input as cells came to it: names of one input have different slots, and
+-- they are just those in which a cell came.
+
+-- the records are of the slots from this one on
+abbrev pub AreNumbered : ℕ → List SlotRecord → Type 0
+AreNumbered slot [] = Unit {0}
+AreNumbered slot (r ∷ rs) = (r.slot ≡ slot) × AreNumbered (slot + 1) rs
+
+slots_are : (slot : ℕ) (rs : List SlotRecord) → AreNumbered slot rs →
+    slots_of (departures_of slot (gone_in rs)) ≡ fold max 0 (map (λ (r : SlotRecord). r.slot + 1) (filter sends rs))
+unfolding departures_of departures_in
+slots_are slot [] are = refl
+slots_are slot (r ∷ rs) are =
+    let rest = slots_are (slot + 1) rs are.1 in
+    let number : r.slot ≡ slot = are.0 in
+    grind (arith, common_steps, slots_of-append, sent_slots, fold-max)
+
+module _ (j : ℕ) where
+  -- the departure of a record
+  abbrev its_departure : SlotRecord → Option Departure
+  its_departure r = option_map (departure r.slot j) (sent_by r j)
+
+  its_all : (slot : ℕ) (rs : List SlotRecord) → AreNumbered slot rs →
+      filter (is_its j) (departures_of slot (gone_in rs)) ≡ filter_map its_departure rs
+  unfolding departures_of departures_in
+  its_all slot [] are = refl
+  its_all slot (r ∷ rs) are =
+      let rest = its_all (slot + 1) rs are.1 in
+      let here = its_one j slot 0 j r.gone (omega arith) in
+      let number : r.slot ≡ slot = are.0 in
+      grind (arith, common_steps, filter-append)
+
+  waits : (rs : List SlotRecord) →
+      map (λ (d : Departure). d.slot - d.queued.key.slot) (filter_map its_departure rs) ≡ filter_map (wait_at j) rs
+  waits [] = refl
+  waits (r ∷ rs) = grind (arith, common_steps, waits rs)
+
+  sent_count : (rs : List SlotRecord) → length (filter_map its_departure rs)
+      ≡ count_by (λ (r : SlotRecord). is_some (sent_by r j)) rs
+  sent_count [] = refl
+  sent_count (r ∷ rs) = grind (arith, common_steps, sum_by-cons, sent_count rs)
+
+  -- what is told of an output
+  pub output_same : (rs : List SlotRecord) (sent : List Departure) → AreNumbered 0 rs →
+      sent ≡ departures_of 0 (gone_in rs) → output_told sent j ≡ output_figures rs j
+  unfolding output_figures
+  output_same rs sent are is =
+      let its : sent_at sent j ≡ filter_map its_departure rs = rw is (its_all 0 rs are) in
+      simp (its, sent_count rs, waits rs)
+
+-- ## Names of an input
+
+-- a cell of this input that is nowhere else spoken of
+abbrev some_arrival : ℕ → ℕ → Arrival
+some_arrival t i =
+    record {
+      slot = t;
+      cell = record {
+        id = record { input = i; packet = 0; index = 0 };
+        output = 0;
+        class = 0;
+        last = false;
+        at = 0;
+        len = 0;
+      };
+    }
+
+came_count : (cs : List (List (Option Queued))) (i a : ℕ) (rs : List LimitedRecord) →
+    ((t k : ℕ) → t ≡ a + k → came_in cs t i ≡ came_in (came_of rs) k i) →
+    length (filter (λ (t : ℕ). is_some (came_in cs t i)) (range_with_len a (length rs)))
+    ≡ count_by (λ (r : SlotRecord). is_some (came_to r.came i)) (slots_in rs)
+came_count cs i a [] known = refl
+came_count cs i a (r ∷ rs) known =
+    let here = known a zero (omega arith) in
+    grind (arith, common_steps, sum_by-cons, came_count cs i (a + 1) rs (λ t k e. known t (suc k) (omega arith)))
+
+module _ (names : List Named) (rs : List LimitedRecord) (differ : EachPair Differ names)
+    (named_is : (a : Arrival) → is_named names a ≡ is_some (came_in (came_of rs) a.slot a.cell.id.input)) (i : ℕ) where
+  abbrev own : Named → Bool
+  own c = c.input == i
+
+  abbrev comes : ℕ → Bool
+  comes t = is_some (came_in (came_of rs) t i)
+
+  abbrev slots : List ℕ
+  slots = filter comes (range_with_len 0 (length rs))
+
+  -- none comes past the last record
+  comes_inside : (t : ℕ) → comes t ≡ true → t < length rs
+  comes_inside t is = grind (arith, common_steps, length-map, came_of, get_or_past, cases_lt)
+
+  -- names of the input have different slots, in which a cell comes
+  name_comes : (c : Named) → Has names c → c.input ≡ i → comes c.slot ≡ true
+  name_comes c has same =
+      let is = named_is (some_arrival c.slot i) in
+      let any = any_has (λ (d : Named). eqb d.slot c.slot && eqb d.input i) names c has in
+      grind (arith, common_steps, and_from, eq-eqb)
+
+  abbrev IsOfSlot : Named → ℕ → Type 0
+  IsOfSlot c t = c.slot ≡ t
+
+  abbrev IsSlotOf : ℕ → Named → Type 0
+  IsSlotOf t c = c.slot ≡ t
+
+  pub names_counted : length (filter own names)
+      ≡ count_by (λ (r : SlotRecord). is_some (came_to r.came i)) (slots_in rs)
+  names_counted =
+      let mine = filter own names in
+      let numbers = range_with_len 0 (length rs) in
+      let few = no_more IsOfSlot mine slots (pairs_in Differ (AreApart IsOfSlot) mine
+      (λ c d one two apart t first second.
+      let x = kept_has own names c one in let y = kept_has own names d two in grind (arith, common_steps, eqb-true))
+      (pairs_kept Differ own names differ)) (all_from_has (Stands IsOfSlot slots) mine (λ c has.
+      search (arith, rules, kept_has, name_comes, eqb-true, comes_inside, has_kept, has_number))) in
+      let most = no_more IsSlotOf slots mine (pairs_in (λ (t u : ℕ). t < u) (AreApart IsSlotOf) slots
+      (λ t u one two less c first second. omega arith)
+      (pairs_kept (λ (t u : ℕ). t < u) comes numbers (range_rises 0 (length rs))))
+      (all_from_has (Stands IsSlotOf mine) slots (λ t has.
+      let it = some_passes (λ (d : Named). eqb d.slot t && eqb d.input i) names
+      (named_is (some_arrival t i) ∙ (kept_has comes numbers t has).1) in
+      search (arith, rules, and_parts, has_kept, eqb-true))) in
+      let count = came_count (came_of rs) i 0 rs (λ t k e. let same : t ≡ k = omega arith in rw same refl) in
+      omega arith
+
+-- ## Together
+
+inputs_same : (st : State) (f : ℕ → InputFigures) (a n : ℕ) → ((i : ℕ) → input_told st i (seen_as (f i)) ≡ f i) →
+    map (λ (x : ℕ × Seen). input_told st x.0 x.1) (enumerate_from a (map seen_as (map f (range_with_len a n))))
+    ≡ map f (range_with_len a n)
+inputs_same st f a zero each = refl
+inputs_same st f a (suc n) each = grind (arith, common_steps, inputs_same st f (a + 1) n each)
+
+module _ (came : List Arrival) (st : State) (rs : List LimitedRecord) (numbered : AreNumbered 0 (slots_in rs))
+    (differ : EachPair Differ (named_in st))
+    (named_is : (a : Arrival) → is_named (named_in st) a ≡ is_some (came_in (came_of rs) a.slot a.cell.id.input))
+    (x : Figures) (ports : ℕ) (figures : x ≡ figures_of ports (slots_in rs))
+    (sent : sent_told came st ≡ departures_of 0 (gone_in (slots_in rs))) where
+  input_same : (i : ℕ) → input_told st i (seen_as (input_figures (slots_in rs) i)) ≡ input_figures (slots_in rs) i
+  unfolding input_figures
+  input_same i = grind (arith, common_steps, names_counted)
+
+  pub figures_are : st.head.ports ≡ ports → st.head.proposals ≡ x.proposals → st.head.most ≡ x.most →
+      st.inputs ≡ map seen_as x.inputs → x ≡ figures_told came st
+  unfolding figures_told figures_of
+  figures_are many proposals most inputs = search (arith, rules, slots_are, inputs_same, input_same, output_same)

@@ -1,24 +1,143 @@
--- How cells queue up at an output. A cell that comes has another name than each that came before it, and of its flow
--- each came in an earlier slot. In the order of keys none of these stands behind it: each has its level and no greater
--- rank. So of each two cells, what left the output and then what waits there, the one ahead goes before the other as
--- it did.
-use Rattle.std.proofs.Common.{rules, ◌≡◌, ℕ, zero, suc, ◌+◌, ◌<◌, ◌≤◌, true, false, List, [], ◌∷◌, ◌++◌, Option, Some, None, refl, ap, inl, inr, ⊎_elim, arith}
-use Rattle.std.proofs.lemmas.Grind.{common_steps}
-use Rattle.std.specs.List.{AllByRecursion}
-use Rattle.std.proofs.lemmas.Bool.{both_ways, cases_lt, cond_both, eq-eqb, eqb-true, le-ltb, lt-ltb, false_from_ne_true}
+-- What the cells of a slot are ranked: each has the level of its class, a rank that fits, and one that is no less than
+-- the floor that its class had before the slot, since no rank that is given lowers a floor. And how they queue up at an
+-- output. A cell that comes has another name than each that came before it, and of its flow each came in an earlier
+-- slot. In the order of keys none of these stands behind it: each has its level and no greater rank. So of each two
+-- cells, what left the output and then what waits there, the one ahead goes before the other as it did.
+use Rattle.cq_stopped.proofs.Terms.{rules, ◌≡◌, ℕ, zero, suc, ◌+◌, ◌<◌, ◌≤◌, ◌^◌, Bool, true, false, cond, List, [], ◌∷◌, length, Option, Some, None, Result, Ok, Err, refl, arith, ◌++◌, ap, ⊎_elim, cases_eq, ltb-true, both_ways, cases_lt, cond_both, eq-eqb, eqb-true, le-ltb, lt-ltb, false_from_ne_true, common_steps, get_or-set_other, get_or-set_same, length-set, same_Some, AllByRecursion, is_some, slice_index_or, slice_set, arrival_at, EachCell, is_for, put, Cell, Queued, came_from, only_ok, all_told, put_all, Ranking, after_input, ranking, all_among, all_if_among, all_put, among_put, IsAmong, came_to, KeepLaws, Machine, machine_at, EachPair, all_weaker, all_both, all_front, all_back}
 use Rattle.cq_base.proofs.Keys.{key_laws}
-use Rattle.cq_base.specs.Cells.{EachPair as EachCell, is_for, put}
 use Rattle.cq_base.specs.Key.{is_before}
-use Rattle.cq_base.specs.declared.cell.Queued.{Queued}
+use Rattle.cq_base.specs.declared.cell.TagFault.{TagFault}
 use Rattle.cq_base.specs.declared.key.Key.{Key}
-use Rattle.cq_ideal.proofs.FlowPut.{NoLater, all_from, in_order_put}
-use Rattle.cq_ideal.specs.IdealSlot.{put_all}
-use Rattle.cq_laws.proofs.Members.{all_put, among_put}
-use Rattle.cq_laws.specs.Fabric.{IsAmong}
-use Rattle.cq_laws.specs.Phases.{came_to}
-use Rattle.cq_resume.proofs.Chained.{EachPair}
-use Rattle.cq_resume.proofs.Each.{all_both, all_left, all_right}
+use Rattle.cq_ideal.proofs.FlowPut.{NoLater, in_order_put}
+use Rattle.cq_ideal.specs.Ranking.{keyed}
+use Rattle.cq_rank.proofs.Floors.{given_floor}
+use Rattle.cq_stopped.proofs.Configured.{AreLow, KeepsLow}
+use Rattle.cq_stopped.proofs.Joined.{all_made}
 use Rattle.cq_stopped.proofs.Ran.{Follows}
+
+-- what came of the inputs from one on, where no rank was too great
+pub record Behind (o : Option Queued) (x : Result Ranking TagFault) (r : Ranking) : Type 0 where
+  pub rest : Ranking
+  pub is : x ≡ Ok rest
+  pub came : r.came ≡ o ∷ rest.came
+  pub states : r.ranks ≡ rest.ranks
+
+behind : (o : Option Queued) (x : Result Ranking TagFault) (r : Ranking) → after_input o x ≡ Ok r → Behind o x r
+behind o (Ok rest) r h = grind (arith, common_steps, only_ok)
+behind o (Err fault) r h = absurd (let P : ⊥ = cc in P)
+
+fits : (b : Bool) (x : Result Ranking TagFault) (fault : TagFault) (r : Ranking) → cond b x (Err fault) ≡ Ok r →
+    (b ≡ true) × (x ≡ Ok r)
+fits true x fault r h = (refl, h)
+fits false x fault r h = absurd (let P : ⊥ = cc in P)
+
+module _ (ms : List Machine) (slot : ℕ) where
+  -- the rank states after a cell got its rank
+  abbrev given : List (List ℕ) → Cell → List ℕ
+  given ranks cell = (machine_at ms cell.output).given (slice_index_or ranks cell.output []) cell.class
+
+  abbrev after : List (List ℕ) → Cell → List (List ℕ)
+  after ranks cell = slice_set ranks cell.output (given ranks cell)
+
+  -- the cell is for an output that there is, and of one of its classes
+  pub record IsKnown (many : ℕ) (cell : Cell) : Type 0 where
+    pub inside : cell.output < many
+    pub class : cell.class < (machine_at ms cell.output).classes
+
+  -- what a cell that came got
+  pub record IsRanked (ranks : List (List ℕ)) (q : Queued) : Type 0 where
+    pub level : q.key.level ≡ (machine_at ms q.cell.output).level q.cell.class
+    pub rank : q.key.rank < 2 ^ 128
+    pub above : (machine_at ms q.cell.output).floor (slice_index_or ranks q.cell.output []) q.cell.class ≤ q.key.rank
+
+  module _ (ranks : List (List ℕ)) (keep : KeepLaws ms ranks) (cell : Cell) (known : IsKnown (length ranks) cell) where
+    sized : length (slice_index_or ranks cell.output []) ≡ (machine_at ms cell.output).size
+    sized = keep.sized cell.output known.inside
+
+    still_keep : KeepLaws ms (after ranks cell)
+    still_keep = grind (arith, common_steps, length-set, sized, get_or-set_same, get_or-set_other, cases_eq)
+
+    rises : (j d : ℕ) → j < length ranks → d < (machine_at ms j).classes →
+        (machine_at ms j).floor (slice_index_or ranks j []) d
+        ≤ (machine_at ms j).floor (slice_index_or (after ranks cell) j []) d
+    rises j d inside class = search (rules, get_or-set_same, given_floor, sized, get_or-set_other, cases_eq)
+
+  -- what a cell at an input gets
+  abbrev one_at : ℕ → List (List ℕ) → Cell → Queued
+  one_at i ranks cell =
+      let m = machine_at ms cell.output in
+      keyed cell (m.level cell.class) (m.ranked (slice_index_or ranks cell.output []) cell.class) slot i
+
+  -- its rank fits, and behind it come the other inputs
+  one_behind : (i : ℕ) (cell : Cell) (cells : List (Option Cell)) (ranks : List (List ℕ)) (r : Ranking) →
+      ranking ms slot i (Some cell ∷ cells) ranks ≡ Ok r →
+      ((one_at i ranks cell).key.rank < 2 ^ 128)
+      × Behind (Some (one_at i ranks cell)) (ranking ms slot (i + 1) cells (after ranks cell)) r
+  one_behind i cell cells ranks r h = grind (arith, common_steps, fits, ltb-true, behind)
+
+  pub ranked_from : (i : ℕ) (cells : List (Option Cell)) (ranks : List (List ℕ)) (r : Ranking) → KeepLaws ms ranks →
+      ((k : ℕ) (cell : Cell) → arrival_at cells k ≡ Some cell → IsKnown (length ranks) cell) →
+      ranking ms slot i cells ranks ≡ Ok r → (k : ℕ) (q : Queued) → came_to r.came k ≡ Some q → IsRanked ranks q
+  ranked_from i [] ranks r keep known h k q at = grind (arith, common_steps, only_ok)
+  ranked_from i (None ∷ cells) ranks r keep known h zero q at = grind (arith, common_steps, behind)
+  ranked_from i (None ∷ cells) ranks r keep known h (suc k) q at =
+      let b = behind None (ranking ms slot (i + 1) cells ranks) r h in
+      ranked_from (i + 1) cells ranks b.rest keep (λ l. known (suc l)) b.is k q (rw b.came at at)
+  ranked_from i (Some cell ∷ cells) ranks r keep known h zero q at =
+      let here = known zero cell refl in search (arith, rules, one_behind, same_Some, keep.laws, keep.sized)
+  ranked_from i (Some cell ∷ cells) ranks r keep known h (suc k) q at =
+      let here = known zero cell refl in
+      let b = (one_behind i cell cells ranks r h).1 in
+      let at' = rw b.came at at in
+      let same = length-set ranks cell.output (given ranks cell) in
+      let keeps = still_keep ranks keep cell here in
+      let it =
+      ranked_from (i + 1) cells (after ranks cell) b.rest keeps (λ l other is. rw same (known (suc l) other is)) b.is k
+      q at' in
+      let c = came_from ms slot (i + 1) cells (after ranks cell) b.rest b.is k q at' in
+      let own = known (suc k) q.cell c.cell_is in
+      search (arith, rules, rises)
+
+  -- a cell came just where one arrives
+  pub came_where : (i : ℕ) (cells : List (Option Cell)) (ranks : List (List ℕ)) (r : Ranking) →
+      ranking ms slot i cells ranks ≡ Ok r → (k : ℕ) → is_some (came_to r.came k) ≡ is_some (arrival_at cells k)
+  came_where i [] ranks r h k = grind (arith, common_steps, only_ok)
+  came_where i (None ∷ cells) ranks r h zero = grind (arith, common_steps, behind)
+  came_where i (None ∷ cells) ranks r h (suc k) =
+      grind (arith, common_steps, behind, came_where (i + 1) cells ranks)
+  came_where i (Some cell ∷ cells) ranks r h zero = grind (arith, common_steps, one_behind)
+  came_where i (Some cell ∷ cells) ranks r h (suc k) =
+      let b = (one_behind i cell cells ranks r h).1 in
+      rw b.came (came_where (i + 1) cells (after ranks cell) b.rest b.is k)
+
+-- ## The numbers of the rank states fit 128 bits, since the run would stop at the first rank that does not
+
+low_at : (states : List (List ℕ)) (j : ℕ) → AllByRecursion AreLow states → AreLow (slice_index_or states j [])
+low_at [] j all = tt
+low_at (s ∷ states) zero all = all.0
+low_at (s ∷ states) (suc j) all = low_at states j all.1
+
+low_set : (states : List (List ℕ)) (j : ℕ) (s : List ℕ) → AllByRecursion AreLow states → AreLow s →
+    AllByRecursion AreLow (slice_set states j s)
+low_set [] j s all low = tt
+low_set (t ∷ states) zero s all low = (low, all.1)
+low_set (t ∷ states) (suc j) s all low = (all.0, low_set states j s all.1 low)
+
+module _ (ms : List Machine) (keeps : (j : ℕ) → KeepsLow (machine_at ms j)) where
+  -- the rank states stay low
+  pub ranked_low : (slot i : ℕ) (cells : List (Option Cell)) (states : List (List ℕ)) (r : Ranking) →
+      AllByRecursion AreLow states → ranking ms slot i cells states ≡ Ok r → AllByRecursion AreLow r.ranks
+  ranked_low slot i [] states r all h = grind (arith, common_steps, only_ok)
+  ranked_low slot i (None ∷ cells) states r all h = search (rules, behind, ranked_low slot (i + 1) cells states)
+  ranked_low slot i (Some cell ∷ cells) states r all h =
+      search (rules, fits, ltb-true, behind, low_set, low_at, ranked_low slot (i + 1) cells)
+
+  pub told_low : (gone : List (Option Queued)) (states : List (List ℕ)) → AllByRecursion AreLow states →
+      ((j : ℕ) (q : Queued) → slice_index_or gone j None ≡ Some q → q.key.rank < 2 ^ 128) →
+      AllByRecursion AreLow (all_told ms gone states)
+  unfolding all_told
+  told_low gone states all sent =
+      all_made AreLow _ 0 (length states) (λ j lt. let here = sent j in search (arith, rules, low_at))
 
 -- ## A lesser key
 
@@ -45,22 +164,21 @@ module _ (R : Queued → Queued → Type 0) (q : Queued) where
   waiting_pairs (x ∷ xs) order pairs ahead after =
       cond_both (is_before q.key x.key) (q ∷ x ∷ xs) (x ∷ put q xs) (λ l. EachPair R l)
       (λ h. (
-        (after.0 (key_laws.one_way q.key x.key h), all_behind x xs h order.0 after.1),
+        (
+          after.0 (key_laws.one_way q.key x.key h),
+          all_if_among (R q) xs (λ y among.
+              all_among MayStandBehind xs y after.1 among
+              (none_before q.key x.key y.key h (all_among (NoLater x) xs y order.0 among))),
+        ),
         pairs,
       ))
       (λ _. (all_put (R x) q xs ahead.0 pairs.0, waiting_pairs xs order.1 pairs.1 ahead.1 after.1))
-    where
-      all_behind : (x : Queued) (ys : List Queued) → is_before q.key x.key ≡ true → AllByRecursion (NoLater x) ys →
-          AllByRecursion MayStandBehind ys → AllByRecursion (R q) ys
-      all_behind x [] h late after = tt
-      all_behind x (y ∷ ys) h late after =
-          (after.0 (none_before q.key x.key y.key h late.0), all_behind x ys h late.1 after.1)
 
   pub put_pairs : (left xs : List Queued) → EachCell NoLater xs → EachPair R (left ++ xs) →
       AllByRecursion (λ x. R x q) (left ++ xs) → AllByRecursion MayStandBehind xs → EachPair R (left ++ put q xs)
   put_pairs [] xs order pairs ahead after = waiting_pairs xs order pairs ahead after
   put_pairs (z ∷ zs) xs order pairs ahead after =
-      grind (arith, common_steps, all_left, all_put, all_right, put_pairs zs xs order pairs.1 ahead.1 after)
+      grind (arith, common_steps, all_front, all_put, all_back, put_pairs zs xs order pairs.1 ahead.1 after)
 
 -- ## The cells of a slot are put
 
@@ -71,19 +189,14 @@ module _ (j slot : ℕ) where
     pub before : x.key.slot ≡ slot → x.key.input < a
 
   earlier_on : (a : ℕ) (xs : List Queued) → AllByRecursion (IsEarlier a) xs → AllByRecursion (IsEarlier (a + 1)) xs
-  earlier_on a xs all = grind (arith, common_steps, all_from)
+  earlier_on a xs all = grind (arith, common_steps, all_weaker)
 
   -- each comes in the slot at its input, these from input a on
-  pub record Come (a : ℕ) (came : List (Option Queued)) : Type 0 where
-    pub slot_is : (k : ℕ) (q : Queued) → came_to came k ≡ Some q → q.key.slot ≡ slot
-    pub input_is : (k : ℕ) (q : Queued) → came_to came k ≡ Some q → q.key.input ≡ a + k
+  abbrev pub Come : ℕ → List (Option Queued) → Type 0
+  Come a came = (k : ℕ) (q : Queued) → came_to came k ≡ Some q → (q.key.slot ≡ slot) × (q.key.input ≡ a + k)
 
   come_on : (a : ℕ) (o : Option Queued) (came : List (Option Queued)) → Come a (o ∷ came) → Come (a + 1) came
-  come_on a o came come =
-      record {
-        slot_is = λ k q at. come.slot_is (suc k) q at;
-        input_is = λ k q at. let is = come.input_is (suc k) q at in omega arith;
-      }
+  come_on a o came come k q at = let is = come (suc k) q at in (is.0, omega arith)
 
   -- what waits of an earlier slot has the lesser key, if it is of one class
   abbrev pub OldAhead : List (Option Queued) → List Queued → Type 0
@@ -94,53 +207,33 @@ module _ (j slot : ℕ) where
     ahead : (x : Queued) → IsEarlier a x → Follows x q
     ahead x e = grind (arith, common_steps, e.before, cases_lt)
 
-    after : (x : Queued) → IsEarlier a x →
+    stands_behind : (x : Queued) → IsEarlier a x →
         (x.key.slot < slot → x.cell.class ≡ q.cell.class → is_before x.key q.key ≡ true) →
         is_before x.key q.key ≡ false → Follows q x
-    after x e old late = grind (arith, common_steps, e.before, both_ways, cases_lt)
+    stands_behind x e old late = grind (arith, common_steps, e.before, both_ways, cases_lt)
 
   pub pairs_put_all : (came : List (Option Queued)) (a : ℕ) (left xs : List Queued) → Come a came →
       AllByRecursion (IsEarlier a) (left ++ xs) → OldAhead came xs → EachCell NoLater xs →
       EachPair Follows (left ++ xs) → EachPair Follows (left ++ put_all j came xs)
   pairs_put_all [] a left xs come earlier old order pairs = pairs
   pairs_put_all (None ∷ came) a left xs come earlier old order pairs = pairs_put_all came (a + 1) left xs
-      (come_on a None came come) (earlier_on a (left ++ xs) earlier) (λ k q x at. old (suc k) q x at) order pairs
+      (come_on a None came come) (earlier_on a (left ++ xs) earlier) (λ k. old (suc k)) order pairs
   pairs_put_all (Some q ∷ came) a left xs come earlier old order pairs =
+      let slot_is = (come zero q refl).0 in
+      let input_is : q.key.input ≡ a = (let is = (come zero q refl).1 in omega arith) in
+      let waits = all_back (IsEarlier a) left xs earlier in
+      let own : IsEarlier (a + 1) q = search (arith, rules) in
       cond_both (is_for j q) (put q xs) xs (λ l. EachPair Follows (left ++ put_all j came l))
-      (λ here.
-      pairs_put_all came (a + 1) left (put q xs) (come_on a (Some q) came come)
-      (all_both (IsEarlier (a + 1)) left (put q xs) (earlier_on a left (all_left (IsEarlier a) left xs earlier))
-      (all_put (IsEarlier (a + 1)) q xs
-      (record {
-        came = let is = slot_is in let le : q.key.slot ≤ slot = omega arith in le;
-        before = λ _. let is = input_is in let lt : q.key.input < a + 1 = omega arith in lt;
-      }) (earlier_on a xs (all_right (IsEarlier a) left xs earlier))))
+      (λ here. pairs_put_all came (a + 1) left (put q xs) (come_on a (Some q) came come)
+      (all_both (IsEarlier (a + 1)) left (put q xs) (earlier_on a left (all_front (IsEarlier a) left xs earlier))
+      (all_put (IsEarlier (a + 1)) q xs own (earlier_on a xs waits)))
       (λ k p x at output among before class.
-      ⊎_elim
-      (λ (same : q ≡ x).
-      let is = slot_is in
-      let one : q.key.slot ≡ x.key.slot = ap (λ (y : Queued). y.key.slot) same in absurd (omega arith))
-      (λ (was : IsAmong x xs). old (suc k) p x at output was before class)
-      (among_put x q xs among))
+      ⊎_elim (λ same. absurd (omega (arith, ap (λ (y : Queued). y.key.slot) same)))
+      (λ was. old (suc k) p x at output was before class) (among_put x q xs among))
       (in_order_put q xs order)
       (put_pairs Follows q left xs order pairs
-      (all_from (IsEarlier a) (λ x. Follows x q) (ahead a q slot_is input_is) (left ++ xs) earlier)
-      (may_stand xs (all_right (IsEarlier a) left xs earlier)
-      (λ x among. old zero q x refl (eqb-true q.cell.output j here) among))))
-      (λ other.
-      pairs_put_all came (a + 1) left xs (come_on a (Some q) came come) (earlier_on a (left ++ xs) earlier)
-      (λ k p x at. old (suc k) p x at) order pairs)
-    where
-      slot_is : q.key.slot ≡ slot
-      slot_is = come.slot_is zero q refl
-
-      input_is : q.key.input ≡ a
-      input_is = let is = come.input_is zero q refl in omega arith
-
-      may_stand : (ys : List Queued) → AllByRecursion (IsEarlier a) ys →
-          ((x : Queued) → IsAmong x ys → x.key.slot < slot → x.cell.class ≡ q.cell.class →
-          is_before x.key q.key ≡ true) →
-          AllByRecursion (λ y. is_before y.key q.key ≡ false → Follows q y) ys
-      may_stand [] each old = tt
-      may_stand (y ∷ ys) each old =
-          (after a q slot_is input_is y each.0 (old y (inl refl)), may_stand ys each.1 (λ x among. old x (inr among)))
+      (all_weaker (IsEarlier a) (λ x. Follows x q) (ahead a q slot_is input_is) (left ++ xs) earlier)
+      (all_if_among _ xs (λ x among. stands_behind a q slot_is input_is x (all_among (IsEarlier a) xs x waits among)
+      (old zero q x refl (eqb-true q.cell.output j here) among)))))
+      (λ other. pairs_put_all came (a + 1) left xs (come_on a (Some q) came come) (earlier_on a (left ++ xs) earlier)
+      (λ k. old (suc k)) order pairs)

@@ -2,23 +2,8 @@
 -- it. At each output there left some cells, and others wait; all of these are keyed as the switch keys them, no two of
 -- them have the same name, and of each flow those ahead came first. They are just the cells that came in, by what was
 -- recorded slot by slot.
-use Rattle.std.proofs.Common.{◌≡◌, ◌≢◌, ℕ, ◌<◌, ◌≤◌, ◌^◌, List, [], ◌++◌, length, map, Option, Some}
-use Rattle.std.specs.Prelude.{◌==◌, filter, slice_index_or}
-use Rattle.std.specs.List.{AllByRecursion}
-use Rattle.cq_base.specs.Arriving.{arriving_at}
-use Rattle.cq_base.specs.declared.cell.Departure.{Departure}
-use Rattle.cq_base.specs.declared.cell.Queued.{Queued}
+use Rattle.cq_stopped.proofs.Terms.{◌≡◌, ◌≢◌, ℕ, ◌<◌, ◌≤◌, ◌^◌, List, [], ◌++◌, length, map, Option, Some, ◌==◌, filter, slice_index_or, AllByRecursion, arriving_at, Departure, Queued, IdealState, Agrees, Fabric, IsAmong, input, LimitedRecord, came_to, list_of, machine_at, EachPair, Has, Switch}
 use Rattle.cq_ideal.proofs.FlowStands.{Stands}
-use Rattle.cq_ideal.specs.IdealSlot.{IdealState}
-use Rattle.cq_laws.specs.Agreement.{Agrees}
-use Rattle.cq_laws.specs.Fabric.{Fabric, IsAmong, input}
-use Rattle.cq_laws.specs.LimitedFabric.{LimitedRecord}
-use Rattle.cq_laws.specs.Phases.{came_to}
-use Rattle.cq_prefs.specs.FirstCells.{list_of}
-use Rattle.cq_rank.specs.Machine.{machine_at}
-use Rattle.cq_resume.proofs.Chained.{EachPair}
-use Rattle.cq_resume.proofs.Having.{Has}
-use Rattle.cq_resume.specs.Switch.{Switch}
 
 -- a cell with its key, as the switch keys it
 pub record IsKeyed (w : Switch) (q : Queued) : Type 0 where

@@ -1,42 +1,40 @@
 -- Where the cells of a stopped run stand: each one that waits at an input or at an output waits for its output in the
 -- ideal switch, and each one that left is among those that left its output. So of two that wait under one name both
--- are one, and of all others the names differ.
-use Rattle.std.proofs.lemmas.Grind.{common_steps}
-use Rattle.std.proofs.Common.{rules, ◌≡◌, ℕ, ◌<◌, List, [], ◌∷◌, length, Option, refl, sym, ◌∙◌, subst, inl, inr, arith}
-use Rattle.std.proofs.lemmas.Bool.{cases_lt}
-use Rattle.std.proofs.lemmas.List.{get_or_past}
-use Rattle.cq_base.specs.Cells.{EachPair as EachCell, IsBefore}
-use Rattle.cq_base.specs.declared.cell.Departure.{Departure}
-use Rattle.cq_base.specs.declared.cell.Queued.{Queued}
-use Rattle.cq_ideal.specs.IdealSlot.{IdealState}
-use Rattle.cq_laws.specs.Fabric.{Fabric, IsAmong, buffer, input}
-use Rattle.cq_laws.specs.Places.{HasFor}
-use Rattle.cq_prefs.specs.FirstCells.{list_of}
-use Rattle.cq_resume.proofs.Chained.{EachPair}
-use Rattle.cq_resume.proofs.Each.{all_weaker}
-use Rattle.cq_resume.proofs.GoesOn.{has_of_among}
-use Rattle.cq_resume.proofs.Having.{Has, all_from_has, all_of_has, has_left, has_right, pair_of_has}
-use Rattle.cq_resume.proofs.Pooled.{pairs_cross, pairs_left, pairs_right, pairs_with}
-use Rattle.cq_resume.specs.Switch.{Switch}
-use Rattle.cq_stopped.proofs.Joined.{all_of, has_number, pairs_by_number, pairs_of_all}
-use Rattle.cq_stopped.proofs.Ran.{Follows, IsOwn, IsSentRight, Known, left_at, pool_at}
-use Rattle.cq_stopped.proofs.Stepping.{among_of_has}
+-- are one, and of all others the names differ. Each name in the state is of such a cell, and comes to it: each list to
+-- the list of its input, each buffer to that of its output, and each departure to itself. So the clauses hold that ask
+-- for a sound state, but for the fourth.
+use Rattle.cq_stopped.proofs.Terms.{among_of_has, rules, ◌≡◌, ℕ, ◌<◌, List, [], length, Option, refl, sym, ◌∙◌, subst, inl, inr, arith, Bool, true, ◌++◌, map, Some, None, ap, ⊎_elim, ◌+◌, ◌≤◌, ◌⊎◌, false_from_ne_true, and_from, and_parts, eq-eqb, eqb-true, common_steps, list_any, filter_map, ◌&&◌, ◌==◌, is_some, slice_index_or, filter, option_map, IsSome, Arrival, IsBefore, is_for, Departure, Queued, Transfer, HasWaited, IdealState, apart_from, not_before_itself, Fabric, buffer, input, fabric_in, HasFor, list_of, machine_at, EachPair, all_pairs, all_weaker, has_of_among, cell_with, Differ, Has, all_from_has, all_of_has, has_left, has_right, pair_of_has, has_cases, has_image, image_has, kept_has, pairs_cross, pairs_left, pairs_right, pairs_with, departure_of, sent_told, named_as, sent_as, state_of, HaveSlack, AreArrivals, IsBufferedBefore, IsMovedBefore, IsSentBefore, StandInOrder, KeepArrivalOrder, OfOneFlow, AreBelowFloors, IsBelowFloor, Switch, HasShape, class_in, class_of, is_named, named_in, output_in, output_of, queued_in, buffer_told, fabric_told, list_told, queued_of, arriving_cell, is_ahead, Taken, Named, Sent, told_state, State, pairs_of_cells}
+use Rattle.cq_stopped.proofs.Joined.{pairs_in, all_if_has, all_of, has_number, pairs_by_number, pairs_of_all, any_has, has_at_place, is_at, some_passes, pairs_join, pairs_of_images, pairs_both, filter_images, sift, told_again, by_places, image_pairs}
+use Rattle.cq_stopped.proofs.Lined.{AreMoved, DepartsBefore}
+use Rattle.cq_stopped.proofs.Ran.{Follows, IsOwn, IsSentRight, Known, left_at, pool_at, IsHeld, came_in}
+use Rattle.cq_stopped.proofs.Stepping.{own_at}
 
-pub each_pair_of : (R : Queued → Queued → Type 0) (xs : List Queued) → EachCell R xs → EachPair R xs
-each_pair_of R [] pairs = tt
-each_pair_of R (x ∷ xs) pairs = (pairs.0, each_pair_of R xs pairs.1)
+-- the name of a cell of which this is known
+pub record IsNameOf (P : Queued → Type 0) (c : Named) : Type 0 where
+  pub cell : Queued
+  pub is : named_as cell ≡ c
+  pub own : P cell
 
--- two cells have one name
-abbrev pub SameName : Queued → Queued → Type 0
-SameName a b = (a.key.slot ≡ b.key.slot) × (a.key.input ≡ b.key.input)
+module _ {w : Switch} (at : Taken) {ideal : IdealState} {cs : List (List (Option Queued))}
+    (known : Known w at.frozen.next (fabric_in at.frozen) ideal cs at.sent) where
+  abbrev pub f : Fabric
+  f = fabric_in at.frozen
 
-module _ (w : Switch) (n : ℕ) (f : Fabric) (ideal : IdealState) (cs : List (List (Option Queued)))
-    (sent : List Departure) (known : Known w n f ideal cs sent) where
+  abbrev pub st : State
+  st = told_state w at
+
+  -- the cells that wait at inputs, and at outputs
+  abbrev pub listed : List Queued
+  listed = all_of at.frozen.lists
+
+  abbrev pub buffered : List Queued
+  buffered = all_of at.frozen.buffers
+
   -- a cell that the run keeps: it left its output or waits for it
   pub record IsKept (q : Queued) : Type 0 where
     pub inside : q.cell.output < length w.machines
-    pub own : IsOwn w n q.cell.output q
-    pub pool : Has (pool_at q.cell.output sent ideal) q
+    pub own : IsOwn w at.frozen.next q.cell.output q
+    pub pool : Has (pool_at q.cell.output at.sent ideal) q
 
   -- one that waits
   pub record Waits (q : Queued) : Type 0 where
@@ -46,82 +44,363 @@ module _ (w : Switch) (n : ℕ) (f : Fabric) (ideal : IdealState) (cs : List (Li
   -- one that left
   pub record Left (d : Departure) : Type 0 where
     pub kept : IsKept d.queued
-    pub there : Has (left_at d.queued.cell.output sent) d.queued
+    pub there : Has (left_at d.queued.cell.output at.sent) d.queued
 
-  kept_at : (q : Queued) → q.cell.output < length w.machines → Has (pool_at q.cell.output sent ideal) q → IsKept q
+  kept_at : (q : Queued) → q.cell.output < length w.machines → Has (pool_at q.cell.output at.sent ideal) q → IsKept q
   kept_at q inside has = grind (arith, common_steps, all_of_has, IsOwn, pool_at)
 
   waits_for : (j : ℕ) (q : Queued) → q.cell.output ≡ j → HasFor f j q → Waits q
   waits_for j q same has =
-      let among : IsAmong q (list_of ideal.lists j) = (known.agrees.same j q).1 has in
-      let there : Has (list_of ideal.lists q.cell.output) q =
-      subst (λ (o : ℕ). Has (list_of ideal.lists o) q) (sym same) (has_of_among (list_of ideal.lists j) q among) in
-      let many : length ideal.lists ≡ length w.machines = known.agrees.ports ∙ known.ports in
-      let inside : q.cell.output < length w.machines =
-      search (arith, rules, Has, get_or_past, cases_lt) in search (arith, rules, kept_at, has_right, left_at)
+      let own = own_at w at.frozen.next f ideal cs at.sent known j q has in
+      let there = rw (← same) at (has_of_among _ q ((known.agrees.same j q).1 has)) in
+      search (arith, rules, kept_at, has_right, left_at)
+
+  placed : (i : ℕ) (q : Queued) → Has (input f i) q → q.key.input ≡ i
+  placed i q has = known.placed i q (among_of_has (input f i) q has)
+
+  crossed_to : (j : ℕ) (q : Queued) → Has (buffer f j) q → q.cell.output ≡ j
+  crossed_to j q has = known.agrees.fabric.own j q (among_of_has (buffer f j) q has)
 
   pub waits_at : (i : ℕ) (q : Queued) → Has (input f i) q → Waits q
   waits_at i q has = waits_for q.cell.output q refl (inl (i, among_of_has (input f i) q has, refl))
 
   pub waits_behind : (j : ℕ) (q : Queued) → Has (buffer f j) q → Waits q
-  waits_behind j q has =
-      let among = among_of_has (buffer f j) q has in waits_for j q (known.agrees.fabric.own j q among) (inr among)
+  waits_behind j q has = waits_for j q (crossed_to j q has) (inr (among_of_has (buffer f j) q has))
 
-  pub has_left_it : (d : Departure) → Has sent d → Left d
+  right_at : (d : Departure) → Has at.sent d → IsSentRight w at.frozen.next d
+  right_at d has = all_of_has (IsSentRight w at.frozen.next) at.sent d known.departed has
+
+  pub has_left_it : (d : Departure) → Has at.sent d → Left d
   has_left_it d has =
-      let right = all_of_has (IsSentRight w n) sent d known.departed has in
-      let there : Has (left_at d.queued.cell.output sent) d.queued =
-      has_number (λ (e : Departure). e.output) (λ (e : Departure). e.queued) sent d d.queued.cell.output right.own
-      has in search (arith, rules, kept_at d.queued, has_left, left_at d.queued.cell.output sent)
+      let right = right_at d has in
+      let there = has_number (λ (e : Departure). e.output) (λ (e : Departure). e.queued) at.sent d _ right.own has in
+      search (arith, rules, kept_at d.queued, has_left, left_at d.queued.cell.output at.sent)
 
   -- ## One name
 
   -- cells of one name are one cell of the schedule
-  pub same_cell : (a b : Queued) → IsKept a → IsKept b → SameName a b → a.cell ≡ b.cell
-  same_cell a b one two name = grind (arith, common_steps)
+  same_cell : (a b : Queued) → IsKept a → IsKept b → a.key.slot ≡ b.key.slot → a.key.input ≡ b.key.input →
+      a.cell ≡ b.cell
+  same_cell a b one two slot place = grind (arith, common_steps)
 
-  pairs_at : (j : ℕ) → j < length w.machines → EachPair Follows (pool_at j sent ideal)
+  pairs_at : (j : ℕ) → j < length w.machines → EachPair Follows (pool_at j at.sent ideal)
   pairs_at j inside = (known.lanes j inside).pairs
 
   -- two that wait under one name are one
-  pub same_waiting : (a b : Queued) → Waits a → Waits b → SameName a b → a ≡ b
-  same_waiting a b one two name = search (rules, same_cell, Has, pair_of_has, pairs_right, left_at, pairs_at)
+  same_waiting : (a b : Queued) → Waits a → Waits b → a.key.slot ≡ b.key.slot → a.key.input ≡ b.key.input → a ≡ b
+  same_waiting a b one two slot place = search (rules, Has, pair_of_has, pairs_right, left_at, pairs_at, same_cell)
 
   -- of what left an output, what waits for it follows
-  pub follows_left : (d : Departure) (q : Queued) → Has sent d → Waits q → d.queued.cell.output ≡ q.cell.output →
+  follows_left : (d : Departure) (q : Queued) → Has at.sent d → Waits q → d.queued.cell.output ≡ q.cell.output →
       Follows d.queued q
   follows_left d q has waits outputs =
       let gone = has_left_it d has in
       let j = q.cell.output in
-      pairs_cross Follows (left_at j sent) (list_of ideal.lists j) d.queued q (pairs_at j waits.kept.inside)
-      (subst (λ (o : ℕ). Has (left_at o sent) d.queued) outputs gone.there) waits.there
+      pairs_cross Follows (left_at j at.sent) (list_of ideal.lists j) d.queued q (pairs_at j waits.kept.inside)
+      (subst (λ (o : ℕ). Has (left_at o at.sent) d.queued) outputs gone.there) waits.there
 
   -- what waits has another name than what left
-  pub differ_left : (d : Departure) (q : Queued) → Has sent d → Waits q → SameName q d.queued → ⊥
-  differ_left d q has waits name = let gone = has_left_it d has in search (arith, rules, follows_left d q has waits)
-
-  left_pairs : (j : ℕ) → j < length w.machines → EachPair Follows (left_at j sent)
-  left_pairs j inside = pairs_left Follows (left_at j sent) (list_of ideal.lists j) (pairs_at j inside)
+  differ_left : (d : Departure) (q : Queued) → Has at.sent d → Waits q → Differ (named_as q) (named_as d.queued)
+  differ_left d q has waits slot place =
+      let gone = has_left_it d has in search (arith, rules, follows_left d q has waits)
 
   -- of two that left one output the second follows the first, and so does what that tells
-  pub each_sent : (R : Departure → Departure → Type 0) →
-      ((d e : Departure) → Has sent d → Has sent e → (d.output ≡ e.output → Follows d.queued e.queued) → R d e) →
-      EachPair R sent
-  each_sent R tells = pairs_with (λ (d e : Departure). d.output ≡ e.output → Follows d.queued e.queued) R
-      (λ (d : Departure). Has sent d) tells sent (all_from_has (λ (d : Departure). Has sent d) sent (λ d has. has))
+  each_sent : (R : Departure → Departure → Type 0) →
+      ((d e : Departure) → Has at.sent d → Has at.sent e → (d.output ≡ e.output → Follows d.queued e.queued) → R d e) →
+      EachPair R at.sent
+  each_sent R tells =
+      let inside = all_weaker (IsSentRight w at.frozen.next) (λ (d : Departure). d.output < length w.machines)
+      (λ d right. right.inside) at.sent known.departed in
+      pairs_in (λ (d e : Departure). d.output ≡ e.output → Follows d.queued e.queued) R at.sent tells
       (pairs_by_number (λ (d : Departure). d.output) (λ (d : Departure). d.queued) Follows
-      (λ j. j < length w.machines) sent (all_weaker (IsSentRight w n)
-      (λ (d : Departure). d.output < length w.machines) (λ d right. right.inside) sent known.departed) left_pairs)
+      (λ j. j < length w.machines) at.sent inside
+      (λ j lt. pairs_left Follows (left_at j at.sent) (list_of ideal.lists j) (pairs_at j lt)))
 
   -- and so of the lists: each cell stands in its list by what is known of it there
-  pub each_listed : (R : Queued → Queued → Type 0) (It : ℕ → Queued → Type 0) →
-      ((i : ℕ) (q : Queued) → Has (input f i) q → It i q) →
-      ((i : ℕ) (a b : Queued) → It i a → It i b → (a.cell.output ≡ b.cell.output → IsBefore a b) → R a b) →
-      ((i k : ℕ) (a b : Queued) → i < k → Has (input f i) a → Has (input f k) b → R a b) →
-      EachPair R (all_of f.inputs)
-  each_listed R It are leads apart = pairs_of_all R f.inputs (λ i.
-      pairs_with (λ (a b : Queued). a.cell.output ≡ b.cell.output → IsBefore a b) R (It i) (leads i) (input f i)
-      (all_from_has (It i) (input f i) (are i)) (each_pair_of _ (input f i) (known.agrees.order i))) apart
+  each_listed : (R : Queued → Queued → Type 0) →
+      ((i : ℕ) (a b : Queued) → Has (input f i) a → Has (input f i) b →
+      (a.cell.output ≡ b.cell.output → IsBefore a b) → R a b) →
+      ((i k : ℕ) (a b : Queued) → i < k → Has (input f i) a → Has (input f k) b → R a b) → EachPair R listed
+  each_listed R leads apart = pairs_of_all R f.inputs
+      (λ i. pairs_in (λ (a b : Queued). a.cell.output ≡ b.cell.output → IsBefore a b) R (input f i) (leads i)
+      (pairs_of_cells _ (input f i) (known.agrees.order i))) apart
 
-  pub waiting_pairs : (j : ℕ) → j < length w.machines → EachPair Follows (list_of ideal.lists j)
-  waiting_pairs j inside = pairs_right Follows (left_at j sent) (list_of ideal.lists j) (pairs_at j inside)
+  -- ## The shape
+
+  -- as many rank states as machines
+  pub states_many : length at.frozen.ranks ≡ length w.machines
+  states_many = ap (λ (l : List (List ℕ)). length l) known.agrees.ranks ∙ known.states
+
+  pub state_sized : (j : ℕ) → j < length at.frozen.ranks →
+      length (slice_index_or at.frozen.ranks j []) ≡ (machine_at w.machines j).size
+  state_sized j inside = grind (arith, common_steps, states_many)
+
+  pub has_shape : HasShape w st
+  unfolding state_of
+  has_shape = grind (arith, common_steps, state_sized)
+
+  -- ## The names: each is of a cell that left or waits, and each such cell has its name
+
+  of_image : (lists : List (List Queued)) (c : Named) → ((i : ℕ) (q : Queued) → Has (list_of lists i) q → Waits q) →
+      Has (map named_as (all_of lists)) c → IsNameOf Waits c
+  of_image lists c waits has = search (rules, image_has, all_of, is_at)
+
+  is_waiting : (c : Named) → Has (queued_in st) c → IsNameOf Waits c
+  unfolding state_of
+  is_waiting c has = search (rules, has_cases, of_image, waits_at, waits_behind)
+
+  -- the names of what left
+  abbrev gone : List Named
+  gone = map (λ (d : Sent). d.cell) (map sent_as at.sent)
+
+  of_sent : (c : Named) → Has gone c → (d : Departure) × Has at.sent d × (named_as d.queued ≡ c)
+  of_sent c has = grind (arith, common_steps, image_has)
+
+  pub is_of_one : (c : Named) → Has (named_in st) c → IsNameOf IsKept c
+  unfolding state_of
+  is_of_one c has = ⊎_elim (λ (queued : Has (queued_in st) c).
+      let it = is_waiting c queued in record { cell = it.cell; is = it.is; own = it.own.kept })
+      (λ (sent : Has gone c). let it = of_sent c sent in search (arith, rules, has_left_it it.0 it.1))
+      (has_cases (queued_in st) gone c has)
+
+  -- what a name tells
+  its_output : (q : Queued) → IsKept q → output_of w.came (named_as q) ≡ q.cell.output
+  its_output q kept = ap output_in kept.own.keyed.arrives
+
+  its_class : (q : Queued) → IsKept q → class_of w.came (named_as q) ≡ q.cell.class
+  its_class q kept = ap class_in kept.own.keyed.arrives
+
+  waits_named : (q : Queued) → Has (map named_as listed ++ map named_as buffered) (named_as q) →
+      Has (named_in st) (named_as q)
+  unfolding state_of
+  waits_named q has = search (rules, has_left)
+
+  name_left : (d : Departure) → Has at.sent d → Has (named_in st) (named_as d.queued)
+  unfolding state_of
+  name_left d has = has_right (map named_as listed ++ map named_as buffered) gone (named_as d.queued)
+      (has_image (λ (e : Sent). e.cell) (map sent_as at.sent) (sent_as d) (has_image sent_as at.sent d has))
+
+  name_held : (t i : ℕ) (q : Queued) → IsHeld ideal at.sent t i q → Has (named_in st) (named_as q)
+  name_held t i q it =
+      let j = q.cell.output in
+      ⊎_elim (λ (gone : Has (left_at j at.sent) q).
+      let image = image_has (λ (d : Departure). d.queued) _ q gone in
+      search (arith, rules, kept_has, Has, name_left)) (λ (there : Has (list_of ideal.lists j) q).
+      ⊎_elim (λ at_input. waits_named q (has_left (map named_as listed) _ (named_as q) (has_image named_as listed q
+      (has_at_place at.frozen.lists at_input.0 q (has_of_among (input f at_input.0) q at_input.1)))))
+      (λ crossed. waits_named q (has_right (map named_as listed) _ (named_as q) (has_image named_as buffered q
+      (has_at_place at.frozen.buffers j q (has_of_among (buffer f j) q crossed)))))
+      ((known.agrees.same j q).0 (among_of_has (list_of ideal.lists j) q there)))
+      (has_cases (left_at j at.sent) (list_of ideal.lists j) q it.held)
+
+  -- ## An arrival is named where its cell came in
+
+  abbrev is_its : ℕ → ℕ → Named → Bool
+  is_its t i c = c.slot == t && c.input == i
+
+  is_named_at : (t i : ℕ) → list_any (is_its t i) (named_in st) ≡ is_some (came_in cs t i)
+  is_named_at t i = by (came_in cs t i) refl
+    where
+      by : (o : Option Queued) → came_in cs t i ≡ o → list_any (is_its t i) (named_in st) ≡ is_some o
+      by (Some q) is =
+          let it = known.held t i q is in
+          any_has (is_its t i) (named_in st) (named_as q) (name_held t i q it) (search (rules, and_from, eq-eqb))
+      by None is = false_from_ne_true (list_any (is_its t i) (named_in st)) (λ some.
+          let it = some_passes (is_its t i) (named_in st) some in
+          let one = is_of_one it.one it.has in
+          let parts = and_parts (it.one.slot == t) (it.one.input == i) it.passes in
+          let origin = known.origin one.cell.cell.output one.cell one.own.inside one.own.pool in
+          grind (arith, common_steps, eqb-true))
+
+  pub named_is : (a : Arrival) → is_named (named_in st) a ≡ is_some (came_in cs a.slot a.cell.id.input)
+  named_is a = is_named_at a.slot a.cell.id.input
+
+  -- ## What is told is what there was, and has slack: the third clause
+
+  -- the cell of its name
+  cell_again : (q : Queued) → IsKept q → queued_of w.came (named_as q) ≡ Some q
+  cell_again q kept = ap (option_map (cell_with (named_as q))) kept.own.keyed.arrives
+
+  list_again : (i : ℕ) → list_told w.came st i ≡ input f i
+  unfolding state_of
+  list_again i = ap (filter_map (queued_of w.came)) (filter_images named_as (λ (c : Named). c.input == i) listed
+      ∙ ap (map named_as) (sift (λ (q : Queued). q.key.input) at.frozen.lists placed i))
+      ∙ told_again named_as (queued_of w.came) (input f i) (λ q has. cell_again q (waits_at i q has).kept)
+
+  buffer_again : (j : ℕ) → buffer_told w.came st j ≡ buffer f j
+  unfolding state_of
+  buffer_again j = ap (filter (is_for j)) (told_again named_as (queued_of w.came) buffered
+      (λ q has. let it = is_at at.frozen.buffers q has in cell_again q (waits_behind it.place q it.has).kept))
+      ∙ sift (λ (q : Queued). q.cell.output) at.frozen.buffers crossed_to j
+
+  pub fabric_same : fabric_told w.came st ≡ f
+  unfolding fabric_told state_of
+  fabric_same =
+      let lists = by_places (list_told w.came st) [] at.frozen.lists (λ k lt. list_again k) in
+      let buffers = by_places (buffer_told w.came st) [] at.frozen.buffers (λ k lt. buffer_again k) in
+      grind (arith, common_steps)
+
+  pub slack_kept : HaveSlack w st
+  slack_kept = rw fabric_same known.agrees.slack
+
+  departure_again : (d : Departure) → Has at.sent d → departure_of w.came (sent_as d) ≡ Some d
+  departure_again d has = let it = has_left_it d has in search (arith, rules, right_at, cell_again)
+
+  pub sent_same : at.sent ≡ sent_told w.came st
+  unfolding state_of
+  sent_same = sym (told_again sent_as (departure_of w.came) at.sent departure_again)
+
+  -- ## The first clause: each name is of an arrival before the next slot, and none is there twice. Two that wait under
+  -- one name are one cell, and that stands at one place; what left has other names than what waits; and what left one
+  -- output left it once.
+
+  -- two cells have different names
+  abbrev Other : Queued → Queued → Type 0
+  Other a b = Differ (named_as a) (named_as b)
+
+  itself : (a b : Queued) → a ≡ b → IsBefore a b → ⊥
+  itself a b same before = search (rules, not_before_itself)
+
+  crossed : (a b : Queued) → Has listed a → Has buffered b → Other a b
+  crossed a b first second slot place =
+      let x = is_at at.frozen.lists a first in
+      let y = is_at at.frozen.buffers b second in
+      let same = same_waiting a b (waits_at x.place a x.has) (waits_behind y.place b y.has) slot place in
+      let apart = (apart_from f known.agrees.differ).between x.place y.place a b in
+      search (arith, rules, among_of_has)
+
+  queued_pairs : EachPair Differ (queued_in st)
+  unfolding state_of
+  queued_pairs = pairs_join Differ (map named_as listed) (map named_as buffered)
+      (pairs_of_images named_as Differ listed (each_listed Other
+      (λ i a b first second leads slot place. search (arith, rules, same_waiting, waits_at, itself))
+      (λ i k a b lt first second slot place.
+      let own = placed i a first in let other = placed k b second in omega arith)))
+      (pairs_of_images named_as Differ buffered (pairs_of_all Other at.frozen.buffers
+      (λ j. search (arith, rules, pairs_with IsBefore Other Waits, same_waiting, itself, all_from_has, waits_behind j))
+      (λ j l a b lt first second slot place. search (arith, rules, same_waiting, waits_behind, crossed_to))))
+      (λ c d first second. search (arith, rules, image_has, all_of, Differ, crossed))
+
+  pub arrivals_are : AreArrivals w.came st
+  unfolding state_of
+  arrivals_are =
+      let Comes : Named → Type 0 = λ c. (c.slot < at.frozen.next) × IsSome (arriving_cell w.came c) in
+      let left = pairs_of_images (λ (d : Sent). d.cell) Differ _ (pairs_of_images sent_as _ at.sent (each_sent
+      (λ d e. Other d.queued e.queued)
+      (λ d e first second follows slot place. search (arith, rules, same_cell, right_at, has_left_it)))) in
+      record {
+        arrive = all_if_has Comes (named_in st) (λ c has.
+            let it = is_of_one c has in subst Comes it.is (it.own.own.before, rw it.own.own.keyed.arrives refl));
+        once = all_pairs Differ (named_in st) (pairs_join Differ (queued_in st) gone queued_pairs left
+            (λ c d first second.
+            let x = is_waiting c first in
+            let y = of_sent d second in
+            rw (← x.is, ← y.2) (differ_left y.0 x.cell y.1 x.own)));
+      }
+
+  -- ## The fifth clause: the cells of each flow left in the order of arrival, those that wait came after them, and of
+  -- two that wait the one that came first goes first. What left an output, and then what waits for it in the order of
+  -- keys, stands so.
+
+  abbrev Flow : Named → Named → Type 0
+  Flow a b = OfOneFlow w.came a b
+
+  -- two cells are of one input, output and class
+  record AreOfOne (a b : Queued) : Type 0 where
+    pub input : a.key.input ≡ b.key.input
+    pub output : a.cell.output ≡ b.cell.output
+    pub class : a.cell.class ≡ b.cell.class
+
+  of_one : (a b : Queued) → IsKept a → IsKept b → Flow (named_as a) (named_as b) → AreOfOne a b
+  of_one a b first second flow = grind (arith, common_steps, its_output, its_class)
+
+  waits_after : (d : Departure) (q : Queued) → Has at.sent d → Waits q → Flow (named_as d.queued) (named_as q) →
+      d.queued.key.slot < q.key.slot
+  waits_after d q has waits flow =
+      let both = of_one d.queued q (has_left_it d has).kept waits.kept flow in
+      (follows_left d q has waits both.output).later both.input both.class
+
+  goes_first : (a b : Queued) → Waits a → Waits b → Flow (named_as a) (named_as b) → a.key.slot < b.key.slot →
+      IsBefore a b
+  goes_first a b first second flow earlier =
+      let both = of_one a b first.kept second.kept flow in
+      let j = a.cell.output in
+      let there : Has (list_of ideal.lists a.cell.output) b = rw both.output second.there in
+      let pairs = pairs_both IsBefore Follows (list_of ideal.lists j)
+      (pairs_of_cells IsBefore (list_of ideal.lists j) (known.agrees.rising j))
+      (pairs_right Follows (left_at j at.sent) (list_of ideal.lists j) (pairs_at j first.kept.inside)) in
+      let either = pair_of_has (λ (x y : Queued). IsBefore x y × Follows x y) (list_of ideal.lists j) a b pairs
+      first.there there in
+      grind (arith, common_steps)
+
+  pub keep_order : KeepArrivalOrder w st
+  unfolding state_of
+  keep_order =
+      let queued = queued_in st in
+      let After : Sent → Named → Type 0 = λ d c. Flow d.cell c → d.cell.slot < c.slot in
+      let Ahead : Named → Named → Type 0 = λ a b. Flow a b → a.slot < b.slot → is_ahead a b ≡ true in
+      record {
+        sent = image_pairs sent_as (λ (d e : Sent). Flow d.cell e.cell → d.cell.slot < e.cell.slot) at.sent
+            (each_sent _ (λ d e first second follows flow.
+            let both = of_one d.queued e.queued (has_left_it d first).kept (has_left_it e second).kept flow in
+            let own = (right_at d first).own ∙ both.output ∙ sym (right_at e second).own in
+            (follows own).later both.input both.class));
+        after = all_if_has _ (map sent_as at.sent) (λ d has.
+            let image = image_has sent_as at.sent d has in
+            all_if_has (After d) queued (λ c there.
+            let it = is_waiting c there in search (arith, rules, waits_after)));
+        queued = all_if_has _ queued (λ a first.
+            let x = is_waiting a first in
+            all_if_has (Ahead a) queued (λ b second.
+            let y = is_waiting b second in search (arith, rules, goes_first)));
+      }
+
+  -- ## The sixth clause: what waits is not above the floor of its class
+
+  below : (q : Queued) → Waits q → IsBelowFloor w st (named_as q)
+  unfolding state_of
+  below q waits = grind (arith, common_steps, its_output, its_class, all_of_has, HasWaited)
+
+  pub below_floors : AreBelowFloors w st
+  below_floors = all_if_has (IsBelowFloor w st) (queued_in st)
+      (λ c has. let it = is_waiting c has in rw it.is at (below it.cell it.own))
+
+  -- ## The second clause: all lines stand in order. Those of the lists are told list by list, and those of the buffers
+  -- buffer by buffer; departures and transfers are told as the run made them.
+
+  out : (j : ℕ) (q : Queued) → Has (buffer f j) q → output_of w.came (named_as q) ≡ j
+  out j q has = its_output q (waits_behind j q has).kept ∙ crossed_to j q has
+
+  left_by : (d : Departure) → Has at.sent d → output_of w.came (named_as d.queued) ≡ d.output
+  left_by d has = its_output d.queued (has_left_it d has).kept ∙ sym (right_at d has).own
+
+  pub stand_in_order : EachPair DepartsBefore at.sent → AreMoved 0 at.frozen.next at.note → StandInOrder w st
+  unfolding state_of
+  stand_in_order departs moved =
+      let Timely : Sent → Type 0 = λ d. (d.cell.slot ≤ d.slot) × (d.slot < at.frozen.next) in
+      record {
+        lists = image_pairs named_as (λ (a b : Named). a.input ≤ b.input) listed (each_listed _
+            (λ i a b first second leads. let x = placed i a first in let y = placed i b second in omega arith)
+            (λ i k a b lt first second. let x = placed i a first in let y = placed k b second in omega arith));
+        keys = image_pairs named_as
+            (λ (a b : Named). a.input ≡ b.input → output_of w.came a ≡ output_of w.came b → is_ahead a b ≡ true)
+            listed (each_listed _
+            (λ i a b first second leads inputs outputs.
+            leads (sym (its_output a (waits_at i a first).kept) ∙ outputs ∙ its_output b (waits_at i b second).kept))
+            (λ i k a b lt first second inputs outputs.
+            let x = placed i a first in let y = placed k b second in absurd (omega arith)));
+        buffers = image_pairs named_as (IsBufferedBefore w.came) buffered (pairs_of_all _ at.frozen.buffers
+            (λ j. pairs_in IsBefore _ (buffer f j)
+            (λ a b first second before. inr (out j a first ∙ sym (out j b second), before))
+            (pairs_of_cells IsBefore (buffer f j) (known.agrees.fabric.rising j)))
+            (λ j l a b lt first second. let x = out j a first in let y = out l b second in inl (omega arith)));
+        sent = image_pairs sent_as (IsSentBefore w.came) at.sent (pairs_in DepartsBefore _ at.sent
+            (λ d e first second before.
+            let x = left_by d first in let y = left_by e second in grind (arith, common_steps)) departs);
+        sent_times = all_if_has Timely (map sent_as at.sent) (λ d has.
+            let image = image_has sent_as at.sent d has in
+            let right = right_at image.0 image.1 in subst Timely image.2 (right.from, right.before));
+        moved = all_pairs IsMovedBefore at.note moved.pairs;
+        moved_times = all_if_has (λ (t : Transfer). t.slot < at.frozen.next) at.note (λ t has.
+            (all_of_has (λ (u : Transfer). (0 ≤ u.slot) × (u.slot < at.frozen.next)) at.note t moved.times has).1);
+      }

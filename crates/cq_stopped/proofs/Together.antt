@@ -1,91 +1,264 @@
--- All of it together: what a stopped run of a configured switch leaves is told by a state that can be taken up, and the
--- text of that state is read as what was left, so what goes on from there is the run.
-use Rattle.std.proofs.lemmas.Grind.{common_steps}
-use Rattle.std.proofs.Common.{arith, rules, ℕ, ◌<◌, ◌^◌, List, sym, subst}
-use Rattle.cq_ideal.specs.Ending.{arriving_from}
-use Rattle.cq_ideal.specs.IdealRun.{departures_of}
-use Rattle.cq_laws.specs.Frozen.{fabric_in, marked_in}
-use Rattle.cq_laws.specs.LimitedFabric.{slots_in}
-use Rattle.cq_laws.specs.Records.{gone_in}
-use Rattle.cq_resume.proofs.Chained.{EachPair}
+-- All of it together: what a stopped run of a configured switch leaves is told by a state that can be taken up: its
+-- numbers are in range, it is sound, and it comes to what was left: the fabric and the departures, as each name tells
+-- of its cell; the figures, since as many names are of an input as cells came to it; and the marks and the counts,
+-- since the arrivals that are not named are those that were refused. The text of that state is read as what was left,
+-- so what goes on from there is the run.
+use Rattle.cq_stopped.proofs.Terms.{proposals_in, rules, ◌≡◌, ℕ, zero, suc, ◌+◌, ◌-◌, ◌<◌, ◌≤◌, ◌^◌, List, [], ◌∷◌, length, map, fold, min, max, refl, sym, ap, ◌∙◌, arith, common_steps, length-map, length-map-range_with_len, AllByRecursion, enumerate_from, flat_map, slice_index_or, Queued, Scheduled, arriving_from, departures_of, Fabric, cushion_of, input, SlotRecord, fabric_in, marked_in, LimitedRecord, slots_in, figures_of, input_figures, slacks, transfers_of_run, gone_in, list_of, each_pair, EachPair, all_both, Differ, Has, all_from_has, all_of_has, has_image, has_left, has_right, image_has, figures_told, frozen_told, marks_told, taken_of, opening, IsWhole, IsParted, seen_as, sent_as, state_of, IsRefusal, named_as, Kept, Runs, Clause, IsSound, Switch, switch_of, named_in, queued_in, Taken, ports_of, Tables, machine_of, machines_of, openings_of, AreRankNumbers, IsInRange, IsMoved, IsNamed, IsSeen, IsSent, state_lines, state_text, Named, Sent, State, told_state, CanBeTakenUp, StoppedRunsAreSound, few_kept}
+use Rattle.cq_ideal.proofs.Refusals.{counts_more}
+use Rattle.cq_laws.proofs.AddingUp.{figures_fold}
 use Rattle.cq_resume.proofs.Joining.{parts_join}
-use Rattle.cq_resume.specs.Parts.{IsParted, opening}
-use Rattle.cq_resume.specs.Resumed.{Runs}
-use Rattle.cq_resume.specs.Switch.{Switch, switch_of}
-use Rattle.cq_resume.specs.declared.taken.Taken.{Taken}
-use Rattle.cq_scfq.specs.Disciplines.{openings_of}
-use Rattle.cq_stopped.proofs.Arrivals.{arrivals_are}
-use Rattle.cq_stopped.proofs.Configured.{IsConfigured, configured}
-use Rattle.cq_stopped.proofs.Floors.{below_floors}
-use Rattle.cq_stopped.proofs.Flows.{keep_order}
-use Rattle.cq_stopped.proofs.InRange.{in_range}
-use Rattle.cq_stopped.proofs.Lined.{AreMoved, DepartsBefore, departures_in_order, moved_in_order}
-use Rattle.cq_stopped.proofs.Order.{stand_in_order}
-use Rattle.cq_stopped.proofs.Ran.{Known, came_of}
-use Rattle.cq_stopped.proofs.ReadAs.{read_as}
-use Rattle.cq_stopped.proofs.RunWhole.{whole_is}
-use Rattle.cq_stopped.proofs.Shape.{has_shape}
-use Rattle.cq_stopped.proofs.Slack.{slack_kept}
-use Rattle.cq_stopped.proofs.Told.{packets_whole, taken_same}
-use Rattle.cq_stopped.proofs.Whole.{Ended, stopped_is}
-use Rattle.cq_stopped.specs.Read.{GoesOnAsRun, ReadRunsGoOn, StoppedRunsAreRead, kept_in_run}
-use Rattle.cq_stopped.specs.Stopped.{CanBeTakenUp, StoppedRunsAreSound}
+use Rattle.cq_resume.specs.declared.refusal.StateRefusal.{StateRefusal}
+use Rattle.cq_simulate.specs.FabricRuns.{IsFabricRun, refused_in_run}
+use Rattle.cq_state.proofs.OneReading.{state_is_exact}
+use Rattle.cq_state.proofs.OneText.{have_one_text}
+use Rattle.cq_stopped.proofs.Beside.{all_proposed, most_of_all, IsRecordedWithin, RunsWithin, empty_within, run_within}
+use Rattle.cq_stopped.proofs.Configured.{AreLow, IsConfigured, configured}
+use Rattle.cq_stopped.proofs.Joined.{all_made, all_of_images}
+use Rattle.cq_stopped.proofs.Lined.{figures_are, AreMoved, DepartsBefore, departures_in_order, moved_in_order}
+use Rattle.cq_stopped.proofs.Ran.{IsSentRight, Known, came_of}
+use Rattle.cq_stopped.proofs.Standing.{is_of_one, state_sized, states_many, fabric_same, sent_same, arrivals_are, named_is, below_floors, keep_order, stand_in_order, has_shape, slack_kept}
+use Rattle.cq_stopped.proofs.Stepping.{Ended, stopped_is}
+use Rattle.cq_stopped.proofs.Walk.{counts_are, marks_are, packets_are}
+use Rattle.cq_stopped.specs.Read.{kept_in_run, IsReadAs, ReadRunsGoOn, StoppedRunsAreRead}
+use Rattle.cq_resume.specs.declared.refusal.StateRefusal.TheVariants as refusal
 
-module _ (w : Switch) (ranks : List (List ℕ)) (made : IsConfigured w ranks) (slots : ℕ) (early : slots < 2 ^ 63)
+-- ## Figures of inputs
+
+module _ (last : ℕ) where
+  abbrev IsFew : ℕ → Type 0
+  IsFew n = n ≤ last
+
+  most_few : (a : ℕ) (ns : List ℕ) → a ≤ last → AllByRecursion IsFew ns → fold max a ns ≤ last
+  most_few a [] le all = le
+  most_few a (n ∷ ns) le all = most_few (max a n) ns (omega arith) all.1
+
+  least_few : (a : ℕ) (ns : List ℕ) → a ≤ last → fold min a ns ≤ last
+  least_few a [] le = le
+  least_few a (n ∷ ns) le = least_few (min a n) ns (omega arith)
+
+  cushions_few : (f : Fabric) → ((j : ℕ) → length (list_of f.buffers j) ≤ last) → (a : ℕ) (cells : List Queued) →
+      AllByRecursion IsFew (map (λ (at : ℕ × Queued). cushion_of f at.1 - at.0) (enumerate_from a cells))
+  cushions_few f few a [] = tt
+  cushions_few f few a (c ∷ cells) = grind (arith, common_steps, few_kept, cushions_few f few (a + 1) cells)
+
+  module _ (ports : ℕ) where
+    longest_few : (i : ℕ) (rs : List SlotRecord) → AllByRecursion (IsRecordedWithin ports last) rs →
+        AllByRecursion IsFew (map (λ (r : SlotRecord). length (input r.arrived i)) rs)
+    longest_few i [] all = tt
+    longest_few i (r ∷ rs) all = (all.0.longest i, longest_few i rs all.1)
+
+    slacks_few : (i : ℕ) (rs : List SlotRecord) → AllByRecursion (IsRecordedWithin ports last) rs →
+        AllByRecursion IsFew (flat_map (λ (r : SlotRecord). slacks r.arrived i) rs)
+    unfolding slacks
+    slacks_few i [] all = tt
+    slacks_few i (r ∷ rs) all = grind (arith, common_steps, all_both, cushions_few, slacks_few i rs all.1)
+
+    one_seen : last < 2 ^ 63 → (i : ℕ) (rs : List SlotRecord) → AllByRecursion (IsRecordedWithin ports last) rs →
+        IsSeen (seen_as (input_figures rs i))
+    unfolding input_figures
+    one_seen low i rs all = search (arith, rules, most_few, longest_few, slacks_few, least_few)
+
+    all_moved : (rs : List SlotRecord) → AllByRecursion (IsRecordedWithin ports last) rs →
+        AllByRecursion (IsMoved ports) (transfers_of_run rs)
+    unfolding transfers_of_run
+    all_moved [] all = tt
+    all_moved (r ∷ rs) all = grind (arith, common_steps, all_both, all_moved rs all.1)
+
+rank_numbers : (states : List (List ℕ)) → AllByRecursion AreLow states →
+    ((j : ℕ) → j < length states → length (slice_index_or states j []) ≤ 32) → AllByRecursion AreRankNumbers states
+rank_numbers [] low small = tt
+rank_numbers (s ∷ states) low small =
+    ((small zero (omega arith), low.0), rank_numbers states low.1 (λ j inside. small (suc j) (omega arith)))
+
+-- ## The run
+
+module _ (w : Switch) (ranks : List (List ℕ)) (configured : IsConfigured w ranks) (slots : ℕ) (early : slots < 2 ^ 63)
     (at : Taken) (parted : IsParted w ranks slots at) where
-  runs : Runs w 0 (arriving_from w.came 0 at.frozen.next) (opening w ranks) parted.records (marked_in at.frozen)
+  abbrev ports : ℕ
+  ports = length w.machines
+
+  abbrev st : State
+  st = told_state w at
+
+  abbrev rs : List LimitedRecord
+  rs = parted.records
+
+  runs : Runs w 0 (arriving_from w.came 0 at.frozen.next) (opening w ranks) rs (marked_in at.frozen)
   runs = grind (arith, common_steps)
 
   low : at.frozen.next < 2 ^ 63
-  low = subst (λ (n : ℕ). n < 2 ^ 63) (sym parted.next) early
+  low = rw parted.next early
 
-  stopped : Ended w ranks made at.frozen.next (marked_in at.frozen) (came_of parted.records)
-      (departures_of 0 (gone_in (slots_in parted.records)))
-  stopped = stopped_is w ranks made at.frozen.next parted.records (marked_in at.frozen) runs
+  stopped : Ended w ranks configured 0 at.frozen.next at.frozen.next (opening w ranks) rs (marked_in at.frozen)
+      (came_of rs) (departures_of 0 (gone_in (slots_in rs)))
+  stopped = stopped_is w ranks configured at.frozen.next rs (marked_in at.frozen) runs
 
-  known : Known w at.frozen.next (fabric_in at.frozen) stopped.ideal (came_of parted.records) at.sent
-  known = search (rules, Known, came_of)
+  known : Known w at.frozen.next (fabric_in at.frozen) stopped.ideal (came_of rs) at.sent
+  known = let known = stopped.known in search (rules, Known, came_of)
 
   departs : EachPair DepartsBefore at.sent
   departs = grind (arith, common_steps, EachPair, DepartsBefore, departures_in_order)
 
   moved : AreMoved 0 at.frozen.next at.note
-  moved = grind (arith, common_steps, AreMoved, moved_in_order, runs)
+  moved =
+      let moved = moved_in_order w at.frozen.next 0 at.frozen.next (opening w ranks) (marked_in at.frozen) rs runs
+      (omega arith) in
+      grind (arith, common_steps, AreMoved)
+
+  within : RunsWithin w.came ports 0 at.frozen.next at.frozen.next (opening w ranks) rs (marked_in at.frozen)
+  within = run_within w configured.few configured.names configured.low 0 at.frozen.next at.frozen.next (opening w ranks)
+      (marked_in at.frozen) rs stopped.slots (omega arith) low (empty_within ports ranks configured.openings_low)
+
+  figures_are_of : at.frozen.figures ≡ figures_of ports (slots_in rs)
+  figures_are_of = ap (λ (k : Kept). k.figures) parted.kept ∙ sym (figures_fold ports (slots_in rs))
+
+  -- ## Its numbers are in range
+
+  figures_low : (at.frozen.figures.proposals < 2 ^ 63) × (at.frozen.figures.most < 2 ^ 63)
+  unfolding figures_of
+  figures_low =
+      let all = all_proposed w at.frozen.next at.frozen.next ranks (marked_in at.frozen) rs within in
+      let most = most_of_all 0 (flat_map proposals_in (slots_in rs)) in
+      let few = configured.few_cells in
+      rw figures_are_of (omega arith, omega arith)
+
+  seen_many : length (map seen_as at.frozen.figures.inputs) ≡ ports
+  unfolding figures_of
+  seen_many = grind (arith, common_steps, length-map, figures_are_of, length-map-range_with_len)
+
+  seen_right : AllByRecursion IsSeen (map seen_as at.frozen.figures.inputs)
+  unfolding figures_of
+  seen_right =
+      let seen = one_seen at.frozen.next ports low in
+      let all = all_made _ _ 0 ports (λ i lt. seen i (slots_in rs) within.records) in
+      rw figures_are_of (all_of_images seen_as IsSeen _ all)
+
+  moved_right : AllByRecursion (IsMoved ports) at.note
+  moved_right = grind (arith, common_steps, all_moved at.frozen.next ports (slots_in rs) within.records)
+
+  states_right : AllByRecursion AreRankNumbers at.frozen.ranks
+  states_right =
+      let many = states_many at known in
+      let sized = state_sized at known in
+      rank_numbers at.frozen.ranks within.states (λ j inside.
+      let small = configured.small j (omega arith) in let size = sized j inside in omega arith)
+
+  -- the name of a cell that the run keeps
+  named_right : (c : Named) → Has (named_in st) c → IsNamed ports c
+  named_right c has =
+      let it = is_of_one at known c has in
+      let q = it.cell in
+      let own = it.own.own in
+      let low = configured.level q.cell.output q.cell.class it.own.inside own.keyed.class in
+      let named : IsNamed ports (named_as q) = search (arith, rules) in
+      rw it.is at named
+
+  queued_right : (names : List Named) → ((c : Named) → Has names c → Has (queued_in st) c) →
+      AllByRecursion (IsNamed ports) names
+  queued_right names among = search (rules, all_from_has, named_right, has_left)
+
+  sent_right : AllByRecursion (IsSent ports) st.sent
+  unfolding state_of
+  sent_right = all_from_has (IsSent ports) (map sent_as at.sent) (λ x has.
+      let it = image_has sent_as at.sent x has in
+      let before = (all_of_has (IsSentRight w at.frozen.next) at.sent it.0 known.departed it.1).before in
+      let own = has_image (λ (d : Sent). d.cell) (map sent_as at.sent) x has in
+      let right = named_right x.cell (has_right (queued_in st) _ x.cell own) in
+      grind (arith, common_steps))
+
+  in_range : IsInRange st
+  unfolding state_of
+  in_range =
+      let many : length at.frozen.lists ≡ ports = known.ports in
+      let next = low in
+      let figures = figures_low in
+      let inputs_told = seen_many in
+      let outputs_told = states_many at known in
+      let listed = rw (← many) at (queued_right st.listed (has_left st.listed st.buffered)) in
+      let buffered = rw (← many) at (queued_right st.buffered (has_right st.listed st.buffered)) in
+      let sent = rw (← many) at sent_right in
+      let moved = rw (← many) at moved_right in
+      search (arith, rules, seen_right, states_right)
+
+  -- ## It comes to what was left
+
+  figures_same : at.frozen.figures ≡ figures_told w.came st
+  unfolding state_of
+  figures_same =
+      let once = each_pair Differ (named_in st) (arrivals_are at known).once in
+      let known = known in
+      let sent = sym (sent_same at known) in
+      search (arith, rules, figures_are, within, named_is, came_of, figures_are_of)
+
+  taken_same : at ≡ taken_of w st
+  unfolding frozen_told state_of
+  taken_same =
+      let fabric = fabric_same at known in
+      let sent = sent_same at known in
+      let marks : at.frozen.marks ≡ marks_told w.came st = marks_are w ranks st rs (marked_in at.frozen) configured.few
+      configured.packets runs (named_is at known) (sym known.ports) in
+      let counts = ap (λ (k : Kept). k.refused) parted.kept ∙ counts_are w ranks st rs (marked_in at.frozen)
+      configured.few configured.packets runs (named_is at known) in
+      grind (arith, common_steps, figures_same)
+
+  -- ## It can be taken up
 
   can_be_taken_up : CanBeTakenUp w at
+  unfolding state_of
   can_be_taken_up =
-      let rs = parted.records in
-      let cs = came_of parted.records in
-      record {
-        in_range = in_range w ranks at rs made runs parted.kept low stopped.ideal known;
-        shape = has_shape w at stopped.ideal cs known;
-        sound = record {
-          arrivals = arrivals_are w at stopped.ideal cs known;
-          order = stand_in_order w at stopped.ideal cs known departs moved;
-          slack = slack_kept w at stopped.ideal cs known;
-          packets = packets_whole w ranks at rs made runs parted.kept low stopped.ideal known;
-          flows = keep_order w at stopped.ideal cs known;
-          floors = below_floors w at stopped.ideal cs known;
-        };
-        told = taken_same w ranks at rs made runs parted.kept low stopped.ideal known;
-      }
+      let known = known in
+      let order = stand_in_order at known departs moved in
+      let packets = packets_are w ranks st rs (marked_in at.frozen) configured.few configured.packets runs
+      (named_is at known) in
+      search (rules, in_range, has_shape, arrivals_are, slack_kept, keep_order, below_floors, taken_same)
 
 pub stopped_runs_are_sound : StoppedRunsAreSound
 stopped_runs_are_sound t s slots at made tables recorded early parted = search (rules, can_be_taken_up, configured)
 
+-- ## It is read as itself. Two states in range with one text are one, so the text is that of no other state; and that
+-- one is of the switch's shape and sound.
+
+each_clause : (w : Switch) (s : State) → IsSound w s → (k : ℕ) → Clause w s k
+each_clause w s sound zero = tt
+each_clause w s sound (suc zero) = sound.arrivals
+each_clause w s sound (suc (suc zero)) = sound.order
+each_clause w s sound (suc (suc (suc zero))) = sound.slack
+each_clause w s sound (suc (suc (suc (suc zero)))) = sound.packets
+each_clause w s sound (suc (suc (suc (suc (suc zero))))) = sound.flows
+each_clause w s sound (suc (suc (suc (suc (suc (suc zero)))))) = sound.floors
+each_clause w s sound (suc (suc (suc (suc (suc (suc (suc k))))))) = tt
+
+module _ (w : Switch) (at : Taken) (can : CanBeTakenUp w at) where
+  -- a state in range with this text is this state
+  one_state : (s : State) → IsInRange s → state_text s ≡ state_text (told_state w at) → s ≡ told_state w at
+  one_state s in_range spelled = have_one_text.one_state s (told_state w at) in_range can.in_range spelled
+
+  never_refused : (r : StateRefusal) → IsRefusal w (state_text (told_state w at)) r → r ≡ refusal.NoMemory
+  never_refused (refusal.Text line) fault = absurd (state_is_exact.never_both (state_lines (told_state w at)) _ line
+      (have_one_text.allowed (told_state w at) can.in_range) fault)
+  never_refused refusal.Shape other = grind (arith, common_steps, other.other, one_state)
+  never_refused (refusal.Unsound clause) unsound = search (rules, unsound.unsound.fails, one_state, each_clause)
+  never_refused refusal.NoMemory memory = refl
+
+  read_as : IsReadAs w (state_text (told_state w at)) at
+  read_as = grind (arith, common_steps, one_state, never_refused)
+
 pub stopped_runs_are_read : StoppedRunsAreRead
 stopped_runs_are_read t s slots at made tables recorded early parted = search (rules, read_as, stopped_runs_are_sound)
 
--- what is read is what was left, parts join, and the run is the whole one
+-- ## What goes on from there is the run: what is read is what was left, parts join, and the run is the whole one. There
+-- are as many machines as ports, and figures and counts are folded from nothing.
+
+whole_is : (t : Tables) (s : Scheduled) (rs : List LimitedRecord) → IsFabricRun t s.came rs →
+    IsWhole (switch_of t s) (openings_of t.setup) (kept_in_run t rs)
+whole_is t s rs is =
+    let lost = refused_in_run rs in
+    let ports : length (machines_of t.setup) ≡ ports_of t.setup =
+    length-map t.setup.kinds (λ kind. machine_of kind t.setup.classes) in
+    search (arith, rules, figures_fold (ports_of t.setup) (slots_in rs), counts_more t.limits [] lost)
+
 pub read_runs_go_on : ReadRunsGoOn
 read_runs_go_on t s slots at x made tables recorded early parted read =
-    let w = switch_of t s in
-    let ranks = openings_of t.setup in
     let told = stopped_runs_are_read t s slots at made tables recorded early parted in
-    subst (λ (y : Taken). GoesOnAsRun t s y) (sym (told.alone x read)) (record {
-      run = λ rs kept is resumed.
-          parts_join.run w ranks slots at kept (kept_in_run t rs) early parted resumed (whole_is t s rs is);
-      resumes = λ rs is. parts_join.resumes w ranks slots at (kept_in_run t rs) early parted (whole_is t s rs is);
-      fault = λ fault is. parts_join.fault w ranks slots at fault early parted is;
-      whole_fault = λ fault is. parts_join.whole_fault w ranks slots at fault early parted is;
-    })
+    let same = told.alone x read in
+    rw same (search (rules, parts_join.run, parts_join.resumes, parts_join.fault, parts_join.whole_fault, whole_is))

@@ -1,2 +1,3 @@
+mod Terms
 pub mod Sending
 pub mod Closing

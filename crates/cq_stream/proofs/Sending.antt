@@ -1,17 +1,9 @@
 -- What a reader has sent while it stands at a place of the file: a row for each record before that place, after what
 -- had been sent before. Each row that is found goes on with it. At the end of the bytes, or at their fault, these are
 -- the rows of the file.
-use Rattle.std.proofs.Common.{rules, arith, ◌≡◌, ℕ, List, [], ◌∷◌, ◌++◌, length, map, append_assoc}
-use Rattle.std.proofs.lemmas.Grind.{common_steps}
-use Rattle.std.proofs.lemmas.List.{map-append}
-use Rattle.std.specs.Prelude.{None}
-use Rattle.cq_pcap.specs.declared.capture.PacketRow.{PacketRow}
+use Rattle.cq_stream.proofs.Terms.{rules, arith, ◌≡◌, ℕ, List, [], ◌∷◌, ◌++◌, length, map, append_assoc, common_steps, map-append, None, PacketRow, AreRowsTo, Item, Row, HasSent}
 use Rattle.cq_pcap.specs.declared.form.Form.{Form}
-use Rattle.cq_pcap.specs.Rows.{AreRowsTo}
 use Rattle.cq_pcap.proofs.Rows.{rows_all}
-use Rattle.cq_stream.specs.declared.item.Item.{Item}
-use Rattle.cq_stream.specs.declared.item.Item.TheVariants.{Row}
-use Rattle.cq_stream.specs.Stream.{HasSent}
 
 -- a row for each record before the place was sent
 pub record SendsTo (form : Form) (bytes : List ℕ) (at : ℕ) (before after : List Item) : Type 0 where

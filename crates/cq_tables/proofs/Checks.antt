@@ -1,16 +1,7 @@
 -- Checks in order: where one holds, the next ones decide, and where one does not, it is the first.
-use Rattle.std.proofs.lemmas.Grind.{common_steps}
-use Rattle.std.proofs.Common.{arith, ◌≡◌, ℕ, List, [], ◌∷◌, ◌++◌, Some, None, Result, Ok, Err, IfErr, IfOk, refl, ◌∙◌}
-use Rattle.cq_tables.specs.declared.refusal.TableRefusal.{TableRefusal}
+use Rattle.cq_tables.proofs.Terms.{rules, arith, ◌≡◌, ℕ, List, [], ◌∷◌, ◌++◌, Some, None, Result, Ok, Err, IfErr, IfOk, refl, ◌∙◌, common_steps, TableRefusal, Data, Members, Place, Element, element_check, Key, table_checks, members, table_type, Check, Refuses, first, otherwise}
 use Rattle.cq_tables.specs.declared.refusal.TableRefusal.TheVariants as refusal
-use Rattle.toml.specs.Data.{Data, Members}
 use Rattle.cq_tables.specs.declared.place.Array.{Array}
-use Rattle.cq_tables.specs.declared.place.Place.{Place}
-use Rattle.cq_tables.specs.declared.place.Place.TheVariants.{Element}
-use Rattle.cq_tables.specs.Document.{element_check}
-use Rattle.cq_tables.specs.Key.{Key, table_checks}
-use Rattle.cq_tables.specs.Value.{members, table_type}
-use Rattle.cq_tables.specs.Check.{Check, Refuses, first, otherwise}
 
 pub first_none : first [] ≡ None
 unfolding first
@@ -42,11 +33,6 @@ first-append (Some f ∷ cs) ds = refl
 
 -- ---- of an answer: a check that does not hold is the first, where those before it hold
 
-pub otherwise_here : {A : Type 0} (r : Result A TableRefusal) (c d : Check) → IfErr r (Refuses c) →
-    IfErr r (Refuses (otherwise c d))
-otherwise_here (Ok x) c d h = tt
-otherwise_here (Err e) c d h = refuses_first c d e h
-
 pub otherwise_later : {A : Type 0} (r : Result A TableRefusal) (c d : Check) → c ≡ None → IfErr r (Refuses d) →
     IfErr r (Refuses (otherwise c d))
 otherwise_later r c d e h = rw e h
@@ -69,7 +55,7 @@ later r c cs e h = rw (first_on c cs e) h
 -- of two lists of checks
 pub here_in : {A : Type 0} (r : Result A TableRefusal) (cs ds : List Check) → IfErr r (Refuses (first cs)) →
     IfErr r (Refuses (first (cs ++ ds)))
-here_in r cs ds h = rw (first-append cs ds) (otherwise_here r (first cs) (first ds) h)
+here_in r cs ds h = search (arith, rules, first-append, refuses_first)
 
 pub later_in : {A : Type 0} (r : Result A TableRefusal) (cs ds : List Check) → first cs ≡ None →
     IfErr r (Refuses (first ds)) → IfErr r (Refuses (first (cs ++ ds)))

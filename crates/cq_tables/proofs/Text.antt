@@ -1,20 +1,8 @@
 -- The document that a text is, and the verdict on it.
-use Rattle.std.proofs.lemmas.Grind.{common_steps}
-use Rattle.std.proofs.Common.{arith, ◌≡◌, ℕ, nat_le, ◌<◌, ◌≤◌, List, [], ◌∷◌, ◌++◌, Option, Some, None, Result, Ok, Err, IfErr, length, is_some, unwrap_or, subst, ap, ◌∙◌, sym, le-leb}
-use Rattle.std.specs.Prelude.{IsUtf8}
-use Rattle.std.proofs.lemmas.Bool.{cases_Bool, lt-leb}
-use Rattle.std.proofs.lemmas.Str.{is_utf8-from_IsUtf8, IsUtf8-from_is_utf8}
-use Rattle.toml.specs.Data.{Members, no_members}
+use Rattle.cq_tables.proofs.Terms.{rules, arith, ◌≡◌, ℕ, nat_le, ◌<◌, ◌≤◌, List, [], ◌∷◌, ◌++◌, Option, Some, None, Result, Ok, Err, IfErr, length, is_some, unwrap_or, subst, ap, ◌∙◌, sym, le-leb, common_steps, IsUtf8, cases_Bool, lt-leb, is_utf8-from_IsUtf8, IsUtf8-from_is_utf8, Members, no_members, Tables, TableRefusal, Refuses, at, first, refused, unless, NotToml, TooLong, Top, table_checks, checks_in, default_checks, document, file_check, top_keys, whole, read_or_refused, IsRefusedFor, tables_of, top_of, verdict}
 use Rattle.toml.specs.Parse.{parse_document}
-use Rattle.cq_route.specs.declared.tables.Tables.{Tables}
-use Rattle.cq_tables.specs.declared.refusal.TableRefusal.{TableRefusal}
 use Rattle.cq_tables.specs.declared.refusal.TableRefusal.TheVariants as refusal
-use Rattle.cq_tables.specs.Check.{Check, Refuses, at, first, refused, unless}
-use Rattle.cq_tables.specs.declared.refusal.Wrong.TheVariants.{NotToml, TooLong}
-use Rattle.cq_tables.specs.declared.place.Place.TheVariants.{Top}
-use Rattle.cq_tables.specs.Key.{table_checks}
 use Rattle.cq_tables.proofs.Checks.{all_in, first_all, first_here, first_none, first_on, here, here_in, later, later_in}
-use Rattle.cq_tables.specs.Document.{checks_in, default_checks, document, file_check, top_keys, whole, judged, read_or_refused, IsRefusedFor, tables_of, top_of, verdict}
 
 pub document_some : (text : List ℕ) (top : Members) → IsUtf8 text → parse_document text ≡ Some top →
     document text ≡ Some top
@@ -25,10 +13,6 @@ pub document_none : (text : List ℕ) → (IsUtf8 text → parse_document text �
 unfolding document
 document_none text h = grind (arith, common_steps, cases_Bool, IsUtf8-from_is_utf8)
 
-refused_so : (c : Check) (t : Tables) (r : TableRefusal) → Refuses c r → IsRefusedFor (judged c t) r
-refused_so c t refusal.NoMemory h = tt
-refused_so c t (refusal.At code path) h = rw h
-
 -- the verdict decides
 pub read_ok : (text : List ℕ) (t : Tables) → verdict text ≡ None → t ≡ tables_of (top_of text) →
     read_or_refused text ≡ Ok t
@@ -37,7 +21,7 @@ read_ok text t held value = rw (held, value)
 
 pub read_refused : (text : List ℕ) (r : TableRefusal) → Refuses (verdict text) r → IsRefusedFor (read_or_refused text) r
 unfolding read_or_refused
-read_refused text r h = refused_so (verdict text) (tables_of (top_of text)) r h
+read_refused text r h = search (arith, rules)
 
 -- ---- the steps of reading: each one's answer is the answer on the text
 
@@ -64,8 +48,7 @@ left_of : (text : List ℕ) (top : Members) → length text ≤ 1048576 → docu
     verdict text
     ≡ first ((table_checks Top (top_keys top) top ++ default_checks top) ++ (file_check (tables_of top) ∷ []))
 left_of text top small is = ap (λ (o : Option Members). first (checks_in text (unwrap_or o no_members))) is
-    ∙ (first_on _ _ (fits text small)
-    ∙ first_on _ _ (ap (λ (o : Option Members). at whole (unless (is_some o) NotToml)) is))
+    ∙ (search (arith, rules, first_on, fits, is_some))
 
 pub table_fault : {A : Type 0} (text : List ℕ) (top : Members) (r : Result A TableRefusal) → length text ≤ 1048576 →
     document text ≡ Some top
@@ -79,16 +62,14 @@ pub file_fault : {A : Type 0} (text : List ℕ) (top : Members) (t : Tables) (r 
     → first (table_checks Top (top_keys top) top ++ default_checks top) ≡ None → t ≡ tables_of top →
     IfErr r (Refuses (file_check t)) → IfErr r (IsRefusedFor (read_or_refused text))
 file_fault text top t r small is held value told =
-    let raw : IfErr r (Refuses (file_check (tables_of top))) =
-    subst (λ (u : Tables). IfErr r (Refuses (file_check u))) value told in
-    refused_in r text (rw (left_of text top small is) (later_in r
-    (table_checks Top (top_keys top) top ++ default_checks top) _ held (here r _ _ raw)))
+    let raw = subst (λ (u : Tables). IfErr r (Refuses (file_check u))) value told in
+    refused_in r text (rw (left_of text top small is) (search (arith, rules, later_in, here)))
 
 pub read_all : (text : List ℕ) (top : Members) (t : Tables) → length text ≤ 1048576 → document text ≡ Some top
     → first (table_checks Top (top_keys top) top ++ default_checks top) ≡ None → t ≡ tables_of top →
     file_check t ≡ None → read_or_refused text ≡ Ok t
 read_all text top t small is held value apart =
-    let last : file_check (tables_of top) ≡ None = ap file_check (sym value) ∙ apart in
+    let last = ap file_check (sym value) ∙ apart in
     read_ok text t (left_of text top small is
     ∙ all_in (table_checks Top (top_keys top) top ++ default_checks top) _ held (first_all _ _ last first_none))
     (value ∙ ap (λ (o : Option Members). tables_of (unwrap_or o no_members)) (sym is))

@@ -1,17 +1,6 @@
 -- What values are seen as.
-use Rattle.std.proofs.Common.{◌≡◌, ◌↔◌, ℕ, suc, ◌<◌, ◌^◌, Bool, true, false, ◌&&◌, IsTrue, EachIndex, slice_index, if◌then◌else◌, nat_lt, nat_le, ◌≤◌, IfSome, Option, List, [], ◌∷◌, length, get_or, map, Some, None, Result, Ok, Err, refl, ap, sym, inl, inr}
-use Rattle.std.specs.Result.{result_ok, OkIff}
-use Rattle.std.proofs.lemmas.Bool.{and_parts, cases_Bool, lt-ltb, leb-true, ltb-true}
-use Rattle.std.specs.Int.{IsInRange}
-use Rattle.std.specs.Str.{all_ascii_digits}
-use Rattle.std.specs.Str.Parse.{digits_value, ParsesUnsigned}
-use Rattle.std.proofs.lemmas.Str.Parse.{IsNumeralModel, numerals_by_value, tells_all_ascii_digits, tells_by_index, parse_digits}
-use Rattle.toml.specs.Data.{Data, as_array}
-use Rattle.toml.specs.View.{view, items_of, items_view}
-use Rattle.toml.specs.declared.value.Value.{Value}
-use Rattle.cq_tables.specs.declared.refusal.Wrong.TheVariants.{OutOfRange}
-use Rattle.cq_tables.specs.Check.{unless}
-use Rattle.cq_tables.specs.Value.{listed, array_of, elements, is_from, written}
+use Rattle.cq_tables.proofs.Terms.{rules, arith, ◌≡◌, ◌↔◌, ℕ, ◌<◌, ◌^◌, Bool, true, ◌&&◌, IsTrue, EachIndex, slice_index, if◌then◌else◌, nat_lt, nat_le, ◌≤◌, IfSome, Option, List, [], ◌∷◌, length, get_or, map, Some, None, Result, Ok, Err, refl, ap, common_steps, result_ok, OkIff, and_parts, cases_Bool, lt-ltb, leb-true, ltb-true, IsInRange, all_ascii_digits, digits_value, ParsesUnsigned, IsNumeralModel, numerals_by_value, tells_all_ascii_digits, tells_by_index, parse_digits, Data, as_array, view, items_of, items_view, Value, OutOfRange, unless, listed, array_of, elements, is_from, written, not, option_map, String, Bor, Less, string_bytes, nat_list_cmp_total, find, AllByRecursion, list_any, IsStrictlySortedBy, keys_of, bytes_eq, string_cmp, members_view, Entry, is_among, least_unknown, lesser}
+use Rattle.std.proofs.Common.{Global}
 
 pub listed_items : (ds : List Data) → listed (items_of ds) ≡ ds
 listed_items [] = refl
@@ -20,13 +9,9 @@ listed_items (d ∷ ds) = ap (λ t. d ∷ t) (listed_items ds)
 pub listed_view : (vs : List Value) → listed (items_view vs) ≡ map view vs
 listed_view vs = listed_items (map view vs)
 
-map_length : (vs : List Value) → length (map view vs) ≡ length vs
-map_length [] = refl
-map_length (v ∷ vs) = ap (λ n. suc n) (map_length vs)
-
 pub array_view_in : (least most : ℕ) (d : Data) (vs : List Value) → as_array d ≡ Some (items_view vs) →
     array_of least most d ≡ unless (is_from least most (length vs)) OutOfRange
-array_view_in least most d vs e = rw (e, listed_view vs, map_length vs)
+array_view_in least most d vs e = grind (arith, common_steps, listed_view)
 
 pub array_view_elements : (d : Data) (vs : List Value) → as_array d ≡ Some (items_view vs) → elements d ≡ map view vs
 array_view_elements d vs e = rw (e, listed_view vs)
@@ -39,9 +24,7 @@ pub whole : IsNumeralModel (λ ds. all_ascii_digits ds ≡ true) (digits_value 1
 whole = numerals_by_value _ tells_all_ascii_digits
 
 pub same_test : (a b : Bool) → (a ≡ true → b ≡ true) → (b ≡ true → a ≡ true) → a ≡ b
-same_test true b f g = sym (f refl)
-same_test false true f g = g refl
-same_test false false f g = refl
+same_test a b f g = grind (arith, common_steps)
 
 pub tells_all_digits : (b : Bool) (text : List ℕ) →
     (IsTrue b ↔ EachIndex text (λ i. IsInRange 48 57 (slice_index text i))) → b ≡ all_ascii_digits text
@@ -62,13 +45,38 @@ parsed_is_written {E} text r test parsed =
         OkIff r ((0 < length text) × (digits_value 10 text < 2 ^ 128)) (digits_value 10 text) → 0 < length text →
         result_ok r ≡ (if nat_lt (digits_value 10 text) (2 ^ 128) then Some (digits_value 10 text) else None)
     by_bound (Ok x) h some = rw (lt-ltb (digits_value 10 text) (2 ^ 128) h.0.1) (ap Some h.1)
-    by_bound (Err e) h some =
-        elim (cases_Bool (nat_lt (digits_value 10 text) (2 ^ 128))) [
-          | inl small ↦ absurd (h (some, ltb-true (digits_value 10 text) (2 ^ 128) small))
-          | inr large ↦ rw large
-        ]
+    by_bound (Err e) h some = search (arith, rules, cases_Bool, nat_lt, ltb-true)
 
 -- a number in a range is at least its least, where there is one
 pub least_of : (least most : ℕ) (n : Option ℕ) → IfSome n (IsInRange least most) → IfSome n (λ n. least ≤ n)
 least_of least most None t = tt
 least_of least most (Some n) range = range.0
+
+-- ## The keys of a table ascend, so the least one that is not known is the first
+
+-- texts behind references, as a test of each sees them
+among_behind : (names : List (Bor (List ℕ))) (name : List ℕ) →
+    list_any (λ known. bytes_eq name known.now) names ≡ is_among (map (λ known. known.now) names) name
+among_behind [] name = refl
+among_behind (n ∷ names) name = rw (among_behind names name)
+
+module _ (names : List (Bor (List ℕ))) where
+  abbrev pub is_unknown : String Global → Bool
+  is_unknown key = not (list_any (λ known. bytes_eq (string_bytes key) known.now) names)
+
+  -- a key before all of these is the lesser one
+  lesser_first : (k : String Global) (ks : List (String Global)) → AllByRecursion (λ y. string_cmp k y ≡ Less) ks →
+      lesser (string_bytes k) (option_map string_bytes (find is_unknown ks)) ≡ Some (string_bytes k)
+  lesser_first k [] h = refl
+  lesser_first k (y ∷ ks) h =
+      let after = nat_list_cmp_total.antisymm (string_bytes y) (string_bytes k) in
+      grind (arith, common_steps, lesser_first k ks h.1)
+
+  pub least_is_first : (es : List Entry) → IsStrictlySortedBy string_cmp (keys_of es) →
+      option_map string_bytes (find is_unknown (keys_of es))
+      ≡ least_unknown (map (λ known. known.now) names) (members_view es)
+  unfolding least_unknown IsStrictlySortedBy
+  least_is_first [] h = refl
+  least_is_first (e ∷ es) h =
+      let first = lesser_first e.0 (keys_of es) h.0 in
+      grind (arith, common_steps, among_behind names (string_bytes e.0), least_is_first es h.1)

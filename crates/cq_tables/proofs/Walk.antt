@@ -1,12 +1,7 @@
 -- A walk over the elements of an array: what is checked and read so far, and what is left to check.
-use Rattle.std.proofs.Common.{rules, ◌≡◌, ℕ, zero, suc, ◌+◌, ◌<◌, ◌≤◌, List, [], ◌∷◌, ◌++◌, length, get_or, take, drop, map, None, Result, IfErr, All, refl, ap, ◌∙◌, sym, arith, add-one}
-use Rattle.toml.specs.Data.{Data, Members}
-use Rattle.toml.specs.View.{view}
-use Rattle.toml.specs.declared.value.Value.{Value}
-use Rattle.cq_tables.specs.declared.refusal.TableRefusal.{TableRefusal}
-use Rattle.cq_tables.specs.Check.{Check, Refuses, first, each}
-use Rattle.cq_tables.specs.Value.{members}
+use Rattle.cq_tables.proofs.Terms.{common_steps, rules, ◌≡◌, ℕ, suc, ◌+◌, ◌<◌, ◌≤◌, List, [], ◌∷◌, ◌++◌, length, get_or, take, drop, map, None, Result, IfErr, All, refl, ap, ◌∙◌, sym, arith, add-one, drop_all, map-append, All-push, drop-cons, take-suc, Data, Members, view, Value, TableRefusal, Check, Refuses, first, each, members, ◌≢◌, zero, Bool, true, false, ◌||◌, Option, Some, nat_cmp, slice_cmp, AllPairs, list_any, list_any-append, list_any_at, length-map, get_or-map, is_eq, insert_key, bytes_eq, not-true, is_eq-slice_cmp, bytes_eq-Decides, all_pairs_push, DuplicateAddress, Addresses, address_keys, address_row, and_then, element_check, is_new, mac_in, required, address, address_value}
 use Rattle.cq_tables.proofs.Checks.{first_none, first_on, here}
+use Rattle.cq_route.specs.declared.tables.AddressRow.{AddressRow}
 
 -- the checks from an element on are its own and those from the next one on
 each_drop : (check : ℕ → Data → Check) (vs : List Value) (i n : ℕ) (d : Value) → i < length vs
@@ -14,17 +9,12 @@ each_drop : (check : ℕ → Data → Check) (vs : List Value) (i n : ℕ) (d : 
     each check n (map view (drop i vs))
     ≡ check n (view (get_or vs i d)) ∷ each check (suc n) (map view (drop (suc i) vs))
 unfolding each
-each_drop check [] i n d h = absurd (omega arith)
-each_drop check (v ∷ vs) zero n d h = refl
-each_drop check (v ∷ vs) (suc i) n d h = each_drop check vs i n d (omega arith)
+each_drop check vs i n d h = rw (drop-cons vs i d)
 
 each_past : (check : ℕ → Data → Check) (vs : List Value) (i n : ℕ) → length vs ≤ i →
     each check n (map view (drop i vs)) ≡ []
 unfolding each
-each_past check [] zero n h = refl
-each_past check [] (suc i) n h = refl
-each_past check (v ∷ vs) zero n h = absurd (omega arith)
-each_past check (v ∷ vs) (suc i) n h = each_past check vs i n (omega arith)
+each_past check vs i n h = grind (arith, common_steps, drop_all)
 
 -- where no element is left to check, all hold
 pub walk_holds : (check : ℕ → Data → Check) (vs : List Value) (i : ℕ) →
@@ -38,22 +28,7 @@ module _ {A : Type 0} where
 
   rows_more : (row : Members → A) (vs : List Value) (i : ℕ) (d : Value) → i < length vs →
       rows_of row (take (suc i) vs) ≡ rows_of row (take i vs) ++ row (members (view (get_or vs i d))) ∷ []
-  rows_more row [] i d h = absurd (omega arith)
-  rows_more row (v ∷ vs) zero d h = refl
-  rows_more row (v ∷ vs) (suc i) d h = ap (λ t. row (members (view v)) ∷ t) (rows_more row vs i d (omega arith))
-
-  rows_past : (row : Members → A) (vs : List Value) (i : ℕ) → length vs ≤ i → rows_of row (take i vs) ≡ rows_of row vs
-  rows_past row [] zero h = refl
-  rows_past row [] (suc i) h = refl
-  rows_past row (v ∷ vs) zero h = absurd (omega arith)
-  rows_past row (v ∷ vs) (suc i) h = ap (λ t. row (members (view v)) ∷ t) (rows_past row vs i (omega arith))
-
-  kept_more : (P : A → Type 0) (xs : List A) (x : A) → All P xs → P x → All P (xs ++ x ∷ [])
-  kept_more P [] x h p zero d small = p
-  kept_more P [] x h p (suc k) d small = absurd (omega arith)
-  kept_more P (y ∷ ys) x h p zero d small = h zero d (omega arith)
-  kept_more P (y ∷ ys) x h p (suc k) d small =
-      kept_more P ys x (λ j e less. h (suc j) e (omega arith)) p k d (omega arith)
+  rows_more row vs i d h = grind (arith, common_steps, take-suc, map-append)
 
   -- the first i elements hold what is checked of them, and are read as these rows, of which P holds
   pub record Walked (check : ℕ → Data → Check) (row : Members → A) (P : A → Type 0) (vs : List Value) (i : ℕ)
@@ -72,11 +47,11 @@ module _ {A : Type 0} where
         → check i (view v) ≡ None → x ≡ row (members (view v)) → P x → after ≡ rows ++ x ∷ [] →
         Walked check row P vs (i + 1) after
     walked_more v {x} small is held reads p pushed =
-        let holds : check i (view (get_or vs i v)) ≡ None = ap (λ (u : Value). check i (view u)) (sym is) ∙ held in
+        let holds = ap (λ (u : Value). check i (view u)) (sym is) ∙ held in
         rw (pushed, add-one) (record {
           checked = w.checked ∙ (ap first (each_drop check vs i i v small) ∙ first_on _ _ holds);
           read = search (arith, rules, rows_more);
-          kept = kept_more P rows x w.kept p;
+          kept = All-push P rows x w.kept p;
         })
 
     pub walked_stop : {B : Type 0} (r : Result B TableRefusal) (v : Value) → i < length vs → v ≡ get_or vs i v
@@ -84,4 +59,97 @@ module _ {A : Type 0} where
     walked_stop r v small is told = rw (w.checked, each_drop check vs i i v small) (here r _ _ (rw (sym is) told))
 
     pub walked_read : length vs ≤ i → rows ≡ rows_of row vs
-    walked_read past = w.read ∙ rows_past row vs i past
+    walked_read past = grind (arith, common_steps)
+
+-- ## Addresses that are known: a set of them has those of the rows so far, and they differ
+
+-- whether the address is one of these
+abbrev pub has : List (List ℕ) → List ℕ → Bool
+has macs mac = list_any (bytes_eq mac) macs
+
+-- as the set looks an address up
+pub set_has : (mac : List ℕ) (macs : List (List ℕ)) →
+    list_any (λ x. is_eq (slice_cmp nat_cmp mac x)) macs ≡ has macs mac
+set_has mac [] = refl
+set_has mac (x ∷ xs) = rw (is_eq-slice_cmp mac x, set_has mac xs)
+
+-- one more address in a set
+pub has-insert : (macs : List (List ℕ)) (mac q : List ℕ) →
+    has (insert_key (slice_cmp nat_cmp) macs mac) q ≡ (bytes_eq q mac || has macs q)
+has-insert [] mac q = refl
+has-insert (x ∷ xs) mac q =
+    grind (arith, common_steps, bytes_eq-Decides mac x, is_eq-slice_cmp mac x, has-insert xs mac q)
+
+-- an address is a new one by what is known alone
+mac_same : (a b : List (List ℕ)) → ((q : List ℕ) → has a q ≡ has b q) → (d : Option Data)
+    →
+    required (and_then address address_value (is_new a) DuplicateAddress) d
+    ≡ required (and_then address address_value (is_new b) DuplicateAddress) d
+mac_same a b same None = refl
+mac_same a b same (Some d) = rw (same (address_value d))
+
+abbrev pub macs_of : List Value → List (List ℕ)
+macs_of vs = map mac_in (map members (map view vs))
+
+abbrev pub address_check : ℕ → List Value → ℕ → Data → Check
+address_check ports vs = element_check Addresses (λ i. address_keys ports (take i (macs_of vs)))
+
+-- ---- the walk over the addresses
+
+abbrev pub mac : AddressRow → List ℕ
+mac row = row.mac
+
+-- what a set has is what the rows have
+abbrev pub AreKnown : List (List ℕ) → List AddressRow → Type 0
+AreKnown known rows = (q : List ℕ) → has known q ≡ has (map mac rows) q
+
+take_macs : (vs : List Value) (i : ℕ) → map mac (rows_of address_row (take i vs)) ≡ take i (macs_of vs)
+take_macs [] zero = refl
+take_macs [] (suc i) = refl
+take_macs (v ∷ vs) zero = refl
+take_macs (v ∷ vs) (suc i) = ap (λ t. mac_in (members (view v)) ∷ t) (take_macs vs i)
+
+has_last : (rows : List AddressRow) (row : AddressRow) (q : List ℕ) →
+    has (map mac (rows ++ row ∷ [])) q ≡ (bytes_eq q row.mac || has (map mac rows) q)
+has_last rows row q = grind (arith, common_steps, list_any-append, map-append)
+
+others : (rows : List AddressRow) (q : List ℕ) → has (map mac rows) q ≡ false → (k : ℕ) (d : AddressRow) →
+    k < length rows → (get_or rows k d).mac ≢ q
+others rows q h k d small same =
+    let at = list_any_at (bytes_eq q) (map mac rows) k d.mac in
+    grind (arith, common_steps, at, length-map, get_or-map, bytes_eq-Decides q)
+
+pub record Walked_apart (ports : ℕ) (vs : List Value) (i : ℕ) (known : List (List ℕ)) (rows : List AddressRow) : Type
+    0 where
+  pub walked : Walked (address_check ports vs) address_row (λ row. row.output < ports) vs i rows
+  pub knows : AreKnown known rows
+  pub differ : AllPairs (λ a b. a.mac ≢ b.mac) rows
+
+same_at : (ports i : ℕ) (vs : List Value) (d : Data) (known : List (List ℕ)) (rows : List AddressRow) →
+    Walked_apart ports vs i known rows
+    → element_check Addresses (λ _. address_keys ports known) i d ≡ address_check ports vs i d
+same_at ports i vs d known rows w = search (arith, rules, take_macs, mac_same)
+
+pub apart_none : (ports : ℕ) (vs : List Value) → Walked_apart ports vs 0 [] []
+apart_none ports vs = grind (arith, common_steps, walked_none)
+
+module _ {ports : ℕ} {vs : List Value} {i : ℕ} {known : List (List ℕ)} {rows : List AddressRow}
+    (w : Walked_apart ports vs i known rows) where
+  pub apart_more : {known_after : List (List ℕ)} {after : List AddressRow} (v : Value) {row : AddressRow} →
+      i < length vs → v ≡ get_or vs i v → element_check Addresses (λ _. address_keys ports known) i (view v) ≡ None →
+      row ≡ address_row (members (view v)) → row.output < ports → is_new known row.mac ≡ true
+      → ((q : List ℕ) → has known_after q ≡ (bytes_eq q row.mac || has known q)) → after ≡ rows ++ row ∷ [] →
+      Walked_apart ports vs (i + 1) known_after after
+  apart_more v {row} small is held reads below fresh added pushed = rw pushed (record {
+    walked = walked_more w.walked v small is (sym (same_at ports i vs (view v) known rows w) ∙ held) reads below
+        refl;
+    knows = λ q. added q ∙ (ap (λ (b : Bool). bytes_eq q row.mac || b) (w.knows q) ∙ sym (has_last rows row q));
+    differ = all_pairs_push (λ (a b : AddressRow). a.mac ≢ b.mac) rows row w.differ
+        (others rows row.mac (sym (w.knows row.mac) ∙ not-true (has known row.mac) fresh));
+  })
+
+  pub apart_stop : {B : Type 0} (r : Result B TableRefusal) (v : Value) → i < length vs → v ≡ get_or vs i v
+      → IfErr r (Refuses (element_check Addresses (λ _. address_keys ports known) i (view v))) →
+      IfErr r (Refuses (first (each (address_check ports vs) 0 (map view vs))))
+  apart_stop r v small is told =
+      grind (arith, common_steps, same_at ports i vs (view v) known rows w, walked_stop w.walked r v small is)

@@ -1,7 +1,5 @@
 -- What is counted at each port is put into a list that has room for all of them.
-use Rattle.std.proofs.Common.{◌≡◌, ℕ, ◌+◌, List, [], ◌∷◌, ◌++◌, map, sym, ap, ◌∙◌, arith}
-use Rattle.std.specs.List.{range_with_len}
-use Rattle.std.proofs.lemmas.List.FromFn.{map-range_with_len_more}
+use Rattle.cq_traffic.proofs.Terms.{◌≡◌, ℕ, ◌+◌, List, [], ◌∷◌, ◌++◌, map, sym, ap, ◌∙◌, arith, range_with_len, map-range_with_len_more}
 use Rattle.cq_traffic.specs.Counted.{Tells}
 
 -- the counts of the first n ports are there

@@ -1,17 +1,5 @@
 -- What is still to come at one input. Each arrival adds one cell at most to what comes at its input.
-use Rattle.std.proofs.lemmas.Grind.{common_steps}
-use Rattle.std.proofs.Common.{◌≡◌, ℕ, zero, suc, ◌+◌, ◌≤◌, Bool, true, false, cond, List, [], ◌∷◌, ◌++◌, length, Option, Some, None, refl, sym, ap, arith}
-use Rattle.std.specs.Prelude.{is_some}
-use Rattle.std.specs.List.{filter}
-use Rattle.std.proofs.lemmas.Bool.{cases_eq, eq-eqb}
-use Rattle.std.proofs.lemmas.List.FromFn.{map-range_with_len_more}
-use Rattle.cq_base.specs.Arrivals.{arrival_at}
-use Rattle.cq_base.specs.Arriving.{Arrival, arriving, arriving_at}
-use Rattle.cq_base.specs.declared.cell.Cell.{Cell}
-use Rattle.cq_cells.specs.Traffic.{number_of, is_from}
-use Rattle.cq_ideal.proofs.FlowFound.{cell_listed, found, found_here, found_none, other_slot, other_input}
-use Rattle.cq_ideal.proofs.Waiting.{total, total_none, total_more}
-use Rattle.cq_ideal.specs.Ending.{arriving_from, first_slots}
+use Rattle.cq_traffic.proofs.Terms.{common_steps, ◌≡◌, ℕ, zero, suc, ◌+◌, ◌≤◌, Bool, cond, List, [], ◌∷◌, ◌++◌, length, Option, Some, None, refl, sym, ap, arith, is_some, cases_eq, eq-eqb, map-range_with_len_more, arrival_at, Arrival, arriving, Cell, number_of, is_from, found, found_here, found_none, other_slot, other_input, total, total_none, total_more, arriving_from, first_slots}
 use Rattle.cq_traffic.proofs.ForPorts.{place_of}
 
 -- how many cells come at the input in so many slots from this one on
@@ -56,26 +44,12 @@ module _ (i : ℕ) where
       total_more (λ t. length (found (a ∷ came) t i)) (λ t. length (found came t i)) a.slot (bit (is_from i a)) 0 n
       (λ t ne. ap length (other_slot a came t i (λ e. ne (sym e)))) (one_more a came) in
       let rest = no_more_from came n in
-      let count : bit (is_from i a) + number_of (is_from i) came ≡ number_of (is_from i) (a ∷ came) =
-      one (is_from i a) in
-      omega arith
-    where
-      one : (b : Bool) → bit b + length (filter (is_from i) came) ≡ length
-          (cond b (a ∷ filter (is_from i) came) (filter (is_from i) came))
-      one true = omega arith
-      one false = omega arith
+      grind (arith, common_steps)
 
 -- what arrives at the input is found there
 pub arrives_found : (came : List Arrival) (t i : ℕ) → one_if (arrival_at (arriving came t) i) ≤ length (found came t i)
 unfolding found
-arrives_found came t i = go (arrival_at (arriving came t) i) refl
-  where
-    go : (o : Option Cell) → arrival_at (arriving came t) i ≡ o → one_if o ≤ length (cell_listed (arriving_at came t i))
-    go None e = omega arith
-    go (Some cell) e =
-        let one : length (cell_listed (arriving_at came t i)) ≡ 1 =
-        ap (λ (o : Option Cell). length (cell_listed o)) (place_of came t i 64 cell refl e) in
-        omega arith
+arrives_found came t i = grind (arith, common_steps, place_of)
 
 -- ## The slots so far
 

@@ -1,3 +1,4 @@
+mod Terms
 pub mod ForPorts
 pub mod Quiet
 mod Counting

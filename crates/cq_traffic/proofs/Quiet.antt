@@ -1,26 +1,15 @@
 -- Stretches of slots in which no cell arrives. No cell comes before the next arrival, so up to it there is nothing that
 -- comes at any input.
-use Rattle.std.proofs.Common.{◌≡◌, ℕ, zero, suc, ◌+◌, ◌<◌, ◌≤◌, ◌&&◌, eqb, Bool, false, List, [], ◌∷◌, map, replicate, Option, Some, None, refl, ap, ◌∙◌, sym, subst, inl, inr, ⊎_elim, arith}
-use Rattle.std.specs.Prelude.{min, unwrap_or}
-use Rattle.std.specs.List.{AllByRecursion, range_with_len}
-use Rattle.std.proofs.lemmas.Bool.{cases_lt, ne_eqb}
-use Rattle.cq_base.specs.Arrivals.{no_arrivals}
-use Rattle.cq_base.specs.Arriving.{Arrival, arriving, arriving_at, end_of}
-use Rattle.cq_base.specs.declared.cell.Cell.{Cell}
+use Rattle.cq_traffic.proofs.Terms.{rules, ◌≡◌, ℕ, zero, suc, ◌+◌, ◌<◌, ◌≤◌, List, [], ◌∷◌, map, replicate, Option, Some, None, refl, ◌∙◌, arith, min, unwrap_or, AllByRecursion, range_with_len, cases_lt, ne_eqb, no_arrivals, Arrival, arriving, arriving_at, end_of, arriving_is, arriving_from, common_steps}
 use Rattle.cq_cells.proofs.Rising.{all_each}
-use Rattle.cq_cells.specs.NextArrival.{ArrivesIn, IsFirstFrom, IsNextArrival}
-use Rattle.cq_ideal.proofs.FlowFound.{arriving_is}
-use Rattle.cq_ideal.specs.Ending.{arriving_from}
+use Rattle.cq_cells.specs.NextArrival.{ArrivesIn, IsNextArrival}
 use Rattle.cq_traffic.specs.Stretch.{IsQuiet, IsQuietUntil}
 
 -- ## Up to the next arrival
 
 not_at : (came : List Arrival) (t i : ℕ) → AllByRecursion (λ a. a.slot ≡ t → ⊥) came → arriving_at came t i ≡ None
 not_at [] t i all = refl
-not_at (a ∷ came) t i all =
-    let other : eqb a.slot t ≡ false = ne_eqb a.slot t all.0 in
-    let test : (eqb a.slot t && eqb a.cell.id.input i) ≡ false = ap (λ (b : Bool). b && eqb a.cell.id.input i) other in
-    rw test (not_at came t i all.1)
+not_at (a ∷ came) t i all = grind (arith, common_steps, ne_eqb, not_at came t i)
 
 none_at : (came : List Arrival) (t : ℕ) → AllByRecursion (λ a. a.slot ≡ t → ⊥) came → (a n : ℕ) →
     map (arriving_at came t) (range_with_len a n) ≡ replicate n None
@@ -33,28 +22,14 @@ none_arrive came t inputs are all = arriving_is came t inputs are ∙ none_at ca
 
 before_end : (came : List Arrival) (slot : ℕ) → ArrivesIn slot came → slot < end_of came
 before_end [] slot at = absurd at
-before_end (a ∷ came) slot (inl here) = omega arith
-before_end (a ∷ came) slot (inr later) = let rest = before_end came slot later in omega arith
+before_end (a ∷ came) slot at = grind (arith, common_steps, before_end came slot)
 
 no_stretch : (came : List Arrival) (slot : ℕ) → IsQuiet came slot slot
-no_stretch came slot =
-    record { late = omega arith; none = λ t from to. absurd (omega arith); more = λ later. absurd (omega arith) }
-
-quiet_to_first : (came : List Arrival) (slot next : ℕ) → IsFirstFrom came slot next → IsQuiet came slot next
-quiet_to_first came slot next is = record {
-  late = is.late;
-  none = λ t from to.
-      none_arrive came t 64 refl
-      (all_each (λ (a : Arrival). slot ≤ a.slot → next ≤ a.slot) (λ (a : Arrival). a.slot ≡ t → ⊥) came
-      (λ a had at. let later = had (omega arith) in omega arith) is.none_before);
-  more = λ later. before_end came next is.arrives;
-}
+no_stretch came slot = grind (arith, common_steps)
 
 -- none arrives up to the next arrival, or up to the slot itself
 pub quiet_of : {came : List Arrival} {slot next : ℕ} → IsQuietUntil came slot next → IsQuiet came slot next
-quiet_of {came} {slot} {next} is = ⊎_elim (λ more. quiet_to_first came slot next (is.first more))
-    (λ over. subst (λ (n : ℕ). IsQuiet came slot n) (sym (is.over over)) (no_stretch came slot))
-    (cases_lt slot (end_of came))
+quiet_of {came} {slot} {next} is = search (arith, rules, no_stretch, cases_lt, none_arrive, all_each, before_end)
 
 ends_before : (came : List Arrival) (slot : ℕ) → AllByRecursion (λ a. a.slot < slot) came → end_of came ≤ slot
 ends_before [] slot all = omega arith
@@ -87,17 +62,14 @@ pub record IsBeforeBoth (slot last n : ℕ) (next : Option ℕ) : Type 0 where
 pub before_both : (came : List Arrival) (slot last n : ℕ) (next : Option ℕ) → IsNextArrival came slot next →
     slot ≤ last →
     n ≡ min (unwrap_or next last) last → IsBeforeBoth slot last n next
-before_both came slot last n None all le is =
-    record { late = omega arith; within = omega arith; no_later = omega arith }
-before_both came slot last n (Some next) at le is =
-    record { late = omega arith; within = omega arith; no_later = omega arith }
+before_both came slot last n next at le is = grind (arith, common_steps)
 
 -- and where it is before the last, a cell arrives in it
 pub arrives_before : (came : List Arrival) (slot last n : ℕ) (next : Option ℕ) → IsNextArrival came slot next →
     n ≡ min (unwrap_or next last) last → n < last → ArrivesIn n came
 arrives_before came slot last n None all is before = absurd (omega arith)
 arrives_before came slot last n (Some next) at is before =
-    let same : next ≡ n = omega arith in subst (λ (t : ℕ). ArrivesIn t came) same at.arrives
+    let same : next ≡ n = omega arith in rw same at at.arrives
 
 -- ## What comes in a stretch
 
@@ -106,7 +78,7 @@ pub quiet_slots : (came : List Arrival) (slot k : ℕ) →
     arriving_from came slot k ≡ replicate k no_arrivals
 unfolding arriving_from
 quiet_slots came slot zero quiet = refl
-quiet_slots came slot (suc k) quiet = ap (λ (cells : List (Option Cell)). cells ∷ arriving_from came (slot + 1) k)
-    (quiet slot (omega arith) (omega arith))
-    ∙ ap (λ (l : List (List (Option Cell))). no_arrivals ∷ l)
-    (quiet_slots came (slot + 1) k (λ t from to. quiet t (omega arith) (omega arith)))
+quiet_slots came slot (suc k) quiet =
+    let here = quiet slot (omega arith) (omega arith) in
+    let rest = quiet_slots came (slot + 1) k (λ t from to. quiet t (omega arith) (omega arith)) in
+    search (rules, here, rest)

@@ -1,17 +1,8 @@
 -- What is still to come for one output. Each arrival adds one cell at most to what comes, at its slot and input, and
 -- only to what comes for its output. So no more cells come for an output than there are arrivals for it.
-use Rattle.std.proofs.lemmas.Grind.{common_steps}
-use Rattle.std.proofs.Common.{◌≡◌, ℕ, zero, suc, ◌+◌, ◌≤◌, Bool, true, false, cond, List, [], ◌∷◌, ◌++◌, length, map, Option, Some, None, refl, sym, ap, ◌∙◌, arith}
-use Rattle.std.specs.Prelude.{◌==◌}
-use Rattle.std.specs.List.{range_with_len, filter}
-use Rattle.cq_base.specs.declared.cell.Cell.{Cell}
-use Rattle.cq_base.specs.Arriving.{Arrival, arriving_at, arriving, enough, traffic_of}
-use Rattle.cq_cells.specs.Traffic.{number_of, is_to}
-use Rattle.cq_ideal.specs.Ending.{arriving_from, first_slots}
+use Rattle.cq_traffic.proofs.Terms.{common_steps, ◌≡◌, ℕ, zero, suc, ◌+◌, ◌≤◌, cond, List, [], ◌∷◌, ◌++◌, map, Option, Some, None, refl, sym, ap, ◌∙◌, arith, ◌==◌, range_with_len, Cell, Arrival, arriving_at, arriving, enough, traffic_of, number_of, is_to, arriving_from, first_slots, cell_listed, found, found_here, other_slot, other_input, found_none, arriving_is, total, total_none, total_same, total_more}
 use Rattle.cq_ideal.specs.Ideal.{count_for}
 use Rattle.cq_traffic.proofs.FromInputs.{first_more}
-use Rattle.cq_ideal.proofs.FlowFound.{cell_listed, found, found_here, other_slot, other_input, found_none, arriving_is}
-use Rattle.cq_ideal.proofs.Waiting.{total, total_none, total_same, total_more}
 
 -- how many cells come for the output in these slots
 unfoldable pub come_for : ℕ → List (List (Option Cell)) → ℕ
@@ -86,14 +77,7 @@ module _ (j : ℕ) where
         (λ k l. ap (count_to j) (other_slot a came t k (λ e. ne (sym e)))))
         (in_slot-cons a came) in
         let rest = no_more_than came n in
-        let count : cond (is_to j a) 1 0 + number_of (is_to j) came ≡ number_of (is_to j) (a ∷ came) =
-        one (is_to j a) in
-        omega arith
-      where
-        one : (b : Bool) → cond b 1 0 + length (filter (is_to j) came) ≡ length
-            (cond b (a ∷ filter (is_to j) came) (filter (is_to j) came))
-        one true = omega arith
-        one false = omega arith
+        grind (arith, common_steps)
 
     count_from : (came : List Arrival) (a n : ℕ) →
         come_for j (map (arriving came) (range_with_len a n)) ≡ total (in_slot came) a n

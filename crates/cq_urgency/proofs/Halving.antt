@@ -1,19 +1,11 @@
 -- How many cells have a lesser key, and that halving finds it. The cells stand in the order of keys. So where a cell
 -- has a lesser key, all cells before it have one too. The test is thus passed by the first cells and by no others, and
 -- halving finds the point where they end. As many cells pass as stand before the point.
-use Rattle.std.proofs.lemmas.Grind.{common_steps}
-use Rattle.std.proofs.Common.{rules, ◌≡◌, ℕ, zero, suc, ◌+◌, ◌≤◌, Bool, true, false, cond, List, [], ◌∷◌, ◌++◌, length, filter, refl, sym, ap, ◌∙◌, length-append, arith}
-use Rattle.std.specs.List.{AllByRecursion}
-use Rattle.std.specs.List.Sorted.{IsPartitionPoint, IsPartitionedBy}
-use Rattle.std.proofs.lemmas.Bool.{cases_eq, cond_both}
-use Rattle.std.proofs.lemmas.List.Elements.{filter-append}
-use Rattle.std.proofs.lemmas.Option.{slice_get-get_or}
-use Rattle.cq_base.specs.declared.key.Key.{Key}
-use Rattle.cq_base.specs.declared.cell.Queued.{Queued}
-use Rattle.cq_base.specs.Key.{is_before}
-use Rattle.cq_base.specs.Cells.{IsBefore, IsRising, cushion}
-use Rattle.cq_base.proofs.Keys.{key_laws}
-use Rattle.cq_base.proofs.Lists.{each_pair_at}
+use Rattle.cq_urgency.proofs.Terms.{common_steps, rules, ◌≡◌, ℕ, zero, suc, ◌+◌, ◌≤◌, Bool, true, false, cond, List, [], ◌∷◌, ◌++◌, length, filter, refl, sym, ap, ◌∙◌, length-append, arith, AllByRecursion, IsPartitionPoint, IsPartitionedBy, cases_eq, cond_both, filter-append, slice_get-get_or, Key, Queued, is_before, IsBefore, IsRising, cushion, key_laws, all_at, all_by, each_pair_at}
+
+pub all_weaker : {X : Type 0} (P Q : X → Type 0) → ((x : X) → P x → Q x) → (xs : List X) → AllByRecursion P xs →
+    AllByRecursion Q xs
+all_weaker P Q f xs a = all_by Q xs (λ t x h. f x (all_at P xs t x a h))
 
 -- a test that passes on to each cell before parts a rising list
 parts_rising : (p : Queued → Bool) → ((a b : Queued) → IsBefore a b → p b ≡ true → p a ≡ true) → (xs : List Queued) →
@@ -45,10 +37,6 @@ passes_more : {X : Type 0} (p : X → Bool) (x : X) (xs : List X) → p x ≡ tr
     length (filter p (x ∷ xs)) ≡ suc (length (filter p xs))
 passes_more p x xs e = ap (λ b. length (cond b (x ∷ filter p xs) (filter p xs))) e
 
-fails_more : {X : Type 0} (p : X → Bool) (x : X) (xs : List X) → p x ≡ false →
-    length (filter p (x ∷ xs)) ≡ length (filter p xs)
-fails_more p x xs e = ap (λ b. length (cond b (x ∷ filter p xs) (filter p xs))) e
-
 pub cushion-append : (key : Key) (xs ys : List Queued) → cushion key (xs ++ ys) ≡ cushion key xs + cushion key ys
 cushion-append key xs ys = grind (arith, common_steps, filter-append, length-append)
 
@@ -64,7 +52,7 @@ cushion_all key (x ∷ xs) a = passes_more (λ y. is_before y.key key) x xs a.0 
 pub cushion_none : (key : Key) (xs : List Queued) → AllByRecursion (λ x. is_before x.key key ≡ false) xs →
     cushion key xs ≡ 0
 cushion_none key [] a = refl
-cushion_none key (x ∷ xs) a = fails_more (λ y. is_before y.key key) x xs a.0 ∙ cushion_none key xs a.1
+cushion_none key (x ∷ xs) a = search (arith, rules, cushion_none key xs a.1)
 
 pub cushion_first : (key : Key) (x : Queued) (xs : List Queued) → is_before x.key key ≡ true →
     cushion key (x ∷ xs) ≡ suc (cushion key xs)

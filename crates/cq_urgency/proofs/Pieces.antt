@@ -1,9 +1,6 @@
 -- Pieces of an array. The piece of n items from h on is take n (drop h xs). A part of the array that is written anew
 -- leaves what stands ahead of it and behind it.
-use Rattle.std.proofs.lemmas.Grind.{common_steps}
-use Rattle.std.proofs.Common.{rules, ◌≡◌, ℕ, ◌+◌, ◌-◌, ◌<◌, ◌≤◌, List, [], ◌∷◌, ◌++◌, length, set, take, drop, refl, append_assoc, length-append, length-take, length-drop, arith}
-use Rattle.std.specs.Prelude.{insert}
-use Rattle.std.proofs.lemmas.List.{take-take, take_at, drop-drop, drop-append-le, drop_more, drop_all, drop-take}
+use Rattle.cq_urgency.proofs.Terms.{common_steps, rules, ◌≡◌, ℕ, ◌+◌, ◌-◌, ◌<◌, ◌≤◌, List, [], ◌∷◌, ◌++◌, length, set, take, drop, refl, append_assoc, length-append, length-take, length-drop, arith, insert, take-take, take_at, drop-drop, drop-append-le, drop_more, drop_all, drop-take}
 
 pub length_piece : {X : Type 0} (xs : List X) (h n : ℕ) → h + n ≤ length xs → length (take n (drop h xs)) ≡ n
 length_piece xs h n inside = let few = length-take n (drop h xs) in let left = length-drop h xs in omega arith
@@ -26,17 +23,14 @@ turned_on xs y some = search (arith, rules, drop_more xs (length xs - 1) y, drop
 
 -- ## A part of the array written anew
 
--- what follows a part that was written anew
-written : {X : Type 0} (xs ys : List X) (h p n : ℕ) → h + p ≤ length xs → p + length ys ≡ n → (rest : List X) →
-    take n (drop h (take (h + p) xs ++ (ys ++ rest))) ≡ take p (drop h xs) ++ ys
-written xs ys h p n inside long rest =
-    search (rules, length-take, drop-append-le, drop-take, append_assoc, length_piece, length-append, take_at)
+ruleset parts = (take-take, drop-take, drop-drop, drop-append-le)
 
 -- the cell and those behind it, one place on
 pub put_on : {X : Type 0} (xs ys rest : List X) (y : X) (h n p m : ℕ) → p + m ≡ n → h + n ≤ length xs →
     ys ≡ y ∷ take m (drop (h + p) xs) →
     take (n + 1) (drop h (take (h + p) xs ++ (ys ++ rest))) ≡ insert (take n (drop h xs)) p y
-put_on xs ys rest y h n p m sum inside is = search (rules, length_piece, take-take, drop-take, drop-drop, written)
+put_on xs ys rest y h n p m sum inside is =
+    search (arith, rules, length_piece, parts, length-take, append_assoc, length-append, take_at)
 
 -- the same where the piece begins with the array
 pub put_on_front : {X : Type 0} (xs ys rest : List X) (y : X) (n p m : ℕ) → p + m ≡ n → n ≤ length xs →

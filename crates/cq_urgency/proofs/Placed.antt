@@ -2,17 +2,7 @@
 -- changed in the pool changes at its one place in the order and nowhere else; a block that comes in under a number that
 -- was free or is new stands nowhere in the order, so that the blocks there stay; and so do the others where the first
 -- one becomes free.
-use Rattle.std.proofs.lemmas.Grind.{common_steps}
-use Rattle.std.proofs.Common.{rules, ◌≡◌, ◌≢◌, ℕ, zero, suc, ◌+◌, ◌-◌, ◌<◌, ◌≤◌, Bool, true, false, cond, Result, Ok, is_ok, List, [], ◌∷◌, ◌++◌, length, map, get_or, set, take, drop, refl, sym, ap, ◌∙◌, arith, Some, length-set, length-take, length-drop, get_or-set_same, get_or-set_other, get_or-drop}
-use Rattle.std.specs.Prelude.{◌==◌, nat_lt, insert, remove, slice_get}
-use Rattle.std.specs.List.{sum_by}
-use Rattle.std.proofs.lemmas.Bool.{cases_Bool, cases_eq, cases_lt, ltb-true, lt-ltb, eq-eqb, ne_eqb, cond-true, cond-false}
-use Rattle.std.proofs.lemmas.List.{take_rest, take_more, drop_more, set-set, length_push, length-map, map-append, map-set, take-map, drop-map, get_or-map, get_or_past, get_or_read}
-use Rattle.std.proofs.lemmas.List.Edits.{length-insert, insert_end}
-use Rattle.std.proofs.lemmas.List.Sums.{sum_by-cons, sum_by_push, sum_by-insert, sum_by-take-drop, get_or-le-sum_by}
-use Rattle.std.proofs.lemmas.Option.{slice_get_read, slice_get_within, get_or_from_slice_get}
-use Rattle.cq_base.specs.declared.cell.Queued.{Queued}
-use Rattle.cq_urgency.specs.Blocks.{HaveMemory, BlocksView, block_at, cells_in_all, halved, without_first, in_order, bit, times, has, ArePlaced, ComesIn}
+use Rattle.cq_urgency.proofs.Terms.{common_steps, rules, ◌≡◌, ◌≢◌, ℕ, zero, suc, ◌+◌, ◌-◌, ◌<◌, ◌≤◌, Bool, true, false, List, [], ◌∷◌, ◌++◌, length, map, get_or, set, take, drop, refl, sym, ap, ◌∙◌, arith, Some, length-set, length-take, length-drop, get_or-set_same, get_or-set_other, get_or-drop, ◌==◌, insert, remove, slice_get, sum_by, cases_Bool, cases_eq, cases_lt, ltb-true, lt-ltb, eq-eqb, ne_eqb, cond-true, cond-false, take_rest, take_more, take_all, drop_more, set-set, length_push, length-map, map-set, take-map, get_or-map, get_or_past, get_or_read, length-insert, insert_end, sum_by-cons, sum_by_push, sum_by-insert, sum_by-take-drop, get_or-le-sum_by, slice_get_within, get_or_from_slice_get, Queued, BlocksView, block_at, cells_in_all, halved, without_first, in_order, bit, times, has, parted, ArePlaced, ComesIn, map-insert}
 
 -- ## How often a number stands in a list
 
@@ -63,35 +53,78 @@ set_order pool block (x ∷ xs) zero number inside is there once =
 set_order pool block (x ∷ xs) (suc i) number inside is there once =
     grind (arith, common_steps, times-cons, times_read, set_others, differs, set_order pool block xs i number)
 
-map-insert : {X Y : Type 0} (f : X → Y) (xs : List X) (i : ℕ) (x : X) →
-    map f (insert xs i x) ≡ insert (map f xs) i (f x)
-map-insert f xs i x = grind (arith, common_steps, map-append, take-map, drop-map)
+-- ## Fields that stand for blocks
 
--- ## The block at a place in the order
+sum_counts : (blocks : List (List Queued)) →
+    sum_by (λ n. n) (map (λ (b : List Queued). length b) blocks) ≡ cells_in_all blocks
+sum_counts [] = refl
+sum_counts (b ∷ bs) = grind (arith, common_steps, sum_by-cons, sum_counts bs)
 
-module _ (pool : List (List Queued)) (order counts free : List ℕ) (p : ArePlaced pool order counts free)
-    (i number : ℕ) (inside : i < length order) (is : number ≡ get_or order i number) where
-  number_once : times number order ≤ 1
-  number_once = let once = p.once number in let le = bit_le (nat_lt number (length pool)) in omega arith
+pub sum_parts : (xs : List ℕ) (i : ℕ) → sum_by (λ n. n) (take i xs) + sum_by (λ n. n) (drop i xs) ≡ sum_by (λ n. n) xs
+sum_parts xs i = sum_by-take-drop (λ (n : ℕ). n) xs i
 
-  pub number_there : number < length pool
-  number_there = grind (arith, common_steps, times_read, has_inside)
+pub sum_rest : (xs : List ℕ) (i : ℕ) →
+    sum_by (λ n. n) (take (length xs - i) (drop i xs)) + sum_by (λ n. n) (take i xs) ≡ sum_by (λ n. n) xs
+sum_rest xs i = grind (arith, common_steps, sum_parts, take_rest)
 
-  pub not_free : times number free ≡ 0
-  not_free = grind (arith, common_steps, bit_le, times_read)
+-- the fields are in order, and stand for these blocks
+pub record Kept (pool : List (List Queued)) (order counts free : List ℕ) (blocks : List (List Queued)) : Type 0 where
+  pub placed : ArePlaced pool order counts free
+  pub seen : in_order pool order ≡ blocks
 
-  pub block_is : block_at (in_order pool order) i ≡ block_at pool number
-  block_is = get_or-map (λ (n : ℕ). block_at pool n) order i number [] inside ∙ ap (block_at pool) (sym is)
+pub kept : {pool : List (List Queued)} {order counts free : List ℕ} {most : ℕ} {v : BlocksView} →
+    ArePlaced pool order counts free → record { blocks = in_order pool order; most = most } ≡ v →
+    Kept pool order counts free v.blocks
+kept p view = record { placed = p; seen = ap (λ (w : BlocksView). w.blocks) view }
 
-  pub count_is : (count : ℕ) → count ≡ get_or counts i count → count ≡ length (block_at pool number)
-  count_is count read = grind (arith, common_steps, get_or-map, length-map, block_is)
+module _ {pool : List (List Queued)} {order counts free : List ℕ} {blocks : List (List Queued)}
+    (w : Kept pool order counts free blocks) where
+  pub as_many : length order ≡ length blocks
+  as_many = grind (arith, common_steps, length-map)
 
-  pub changed_order : (block : List Queued) → in_order (set pool number block) order ≡ set (in_order pool order) i block
-  changed_order block = set_order pool block order i number inside is number_there number_once
+  pub as_many_counts : counts ≡ map (λ (b : List Queued). length b) blocks
+  as_many_counts = w.placed.counted ∙ ap (map (λ (b : List Queued). length b)) w.seen
 
-  pub changed_placed : (block : List Queued) (count : ℕ) → count ≡ length block →
-      ArePlaced (set pool number block) order (set counts i count) free
-  changed_placed block count long = grind (arith, common_steps, length-set, map-set, changed_order)
+  -- the counts ahead of a place add up to the cells ahead
+  pub counts_ahead : (place : ℕ) → sum_by (λ n. n) (take place counts) ≡ cells_in_all (take place blocks)
+  counts_ahead place = grind (arith, common_steps, as_many_counts, take-map, sum_counts)
+
+  pub counts_all : sum_by (λ n. n) counts ≡ cells_in_all blocks
+  counts_all = grind (arith, common_steps, as_many_counts, sum_counts)
+
+  -- where a count is more than nothing, there is a block
+  pub count_there : (place within : ℕ) → within < get_or counts place 0 → place < length blocks
+  count_there place within some = grind (arith, common_steps, as_many_counts, length-map, get_or_past, cases_lt)
+
+-- the block at a place in the order
+module _ {pool : List (List Queued)} {order counts free : List ℕ} {blocks : List (List Queued)}
+    (w : Kept pool order counts free blocks) (i : ℕ) {number : ℕ} (inside : i < length blocks)
+    (is : number ≡ get_or order i number) where
+  pub in_order_there : i < length order
+  in_order_there = let many = as_many w in omega arith
+
+  pub in_pool : number < length pool
+  in_pool = grind (arith, common_steps, in_order_there, times_read, has_inside)
+
+  pub not_freed : times number free ≡ 0
+  not_freed = search (arith, rules, in_order_there, bit_le, times_read)
+
+  pub block_same : block_at pool number ≡ block_at blocks i
+  block_same = let read = get_or-map (λ (n : ℕ). block_at pool n) order i number [] in_order_there in cc (read, w.seen)
+
+  -- what is read in the pool is the block, and so many cells are counted
+  pub read_is : {read : List Queued} → read ≡ get_or pool number read → read ≡ block_at blocks i
+  read_is e = grind (arith, common_steps, get_or_read, in_pool, block_same)
+
+  pub count_is : {count : ℕ} → count ≡ get_or counts i count → count ≡ length (block_at blocks i)
+  count_is read = grind (arith, common_steps, get_or-map, length-map, as_many_counts)
+
+  pub changed : (block : List Queued) (count : ℕ) → count ≡ length block →
+      Kept (set pool number block) order (set counts i count) free (set blocks i block)
+  changed block count long =
+      let here : in_order (set pool number block) order ≡ set (in_order pool order) i block =
+      search (arith, rules, in_order_there, set_order, in_pool, bit_le) in
+      record { placed = grind (arith, common_steps, length-set, map-set); seen = here ∙ ap (λ l. set l i block) w.seen }
 
 -- ## A block that comes in
 
@@ -101,23 +134,51 @@ pub free_there : (pool : List (List Queued)) (free free' : List ℕ) (number : �
 free_there pool free free' number within whole =
     search (arith, rules, times_push number free' number, bit_same number number refl, has_inside pool number)
 
-pub comes_free : (pool : List (List Queued)) (free free' : List ℕ) (block : List Queued) (number : ℕ) →
-    number < length pool → free ≡ free' ++ number ∷ [] → ComesIn pool free (set pool number block) free' block number
-comes_free pool free free' block number inside whole =
+pub comes_free : (pool : List (List Queued)) (free free' : List ℕ) (block block' : List Queued) (number : ℕ) →
+    ((n : ℕ) → times n free ≤ has pool n) → free ≡ free' ++ number ∷ [] → block' ≡ block →
+    ComesIn pool free (set pool number block') free' block number
+comes_free pool free free' block block' number within whole e =
+    let inside = free_there pool free free' number within whole in
     grind (arith, common_steps, get_or-set_same, set_others, times_push, length-set, length_push)
 
-module _ (pool : List (List Queued)) (order counts free : List ℕ) (p : ArePlaced pool order counts free)
-    (pool' : List (List Queued)) (free' : List ℕ) (block : List Queued) (number : ℕ)
-    (q : ComesIn pool free pool' free' block number) where
+module _ {pool : List (List Queued)} {order counts free : List ℕ} {blocks : List (List Queued)}
+    (w : Kept pool order counts free blocks) {pool' : List (List Queued)} {free' : List ℕ} {block : List Queued}
+    {number : ℕ} (q : ComesIn pool free pool' free' block number) where
   fresh : times number order ≡ 0
   fresh = grind (arith, common_steps, bit_same, bit_le)
 
-  pub come_order : (i : ℕ) → in_order pool' (insert order i number) ≡ insert (in_order pool order) i block
-  come_order i = grind (arith, common_steps, map-insert, same_order, fresh)
+  pub come : (i count : ℕ) → i ≤ length order → count ≡ length block →
+      Kept pool' (insert order i number) (insert counts i count) free' (insert blocks i block)
+  come i count le long =
+      let here : in_order pool' (insert order i number) ≡ insert (in_order pool order) i block =
+      grind (arith, common_steps, map-insert, same_order, fresh) in
+      record {
+        placed = grind (arith, common_steps, sum_by-insert, length-insert, map-insert);
+        seen = here ∙ ap (λ l. insert l i block) w.seen;
+      }
 
-  pub come_placed : (i count : ℕ) → i ≤ length order → count ≡ length block →
-      ArePlaced pool' (insert order i number) (insert counts i count) free'
-  come_placed i count le long = grind (arith, common_steps, sum_by-insert, length-insert, map-insert, come_order)
+-- the first block
+pub started : (pool pool' : List (List Queued)) (order counts free free' : List ℕ) (block : List Queued) (number : ℕ) →
+    Kept pool order counts free [] → ComesIn pool free pool' free' block number → 1 ≡ length block →
+    Kept pool' (order ++ number ∷ []) (counts ++ 1 ∷ []) free' (block ∷ [])
+started pool pool' [] [] free free' block number w q one = come w q 0 1 (omega arith) one
+started pool pool' [] (x ∷ xs) free free' block number w q one = absurd (let P : ⊥ = cc (as_many_counts w) in P)
+started pool pool' (x ∷ xs) counts free free' block number w q one = absurd (let many = as_many w in omega arith)
+
+-- a full block split
+pub split : {pool : List (List Queued)} {order counts free : List ℕ} {blocks : List (List Queued)}
+    (w : Kept pool order counts free blocks) (i : ℕ) {number other : ℕ} {pool' : List (List Queued)} {free' : List ℕ} →
+    i < length blocks → number ≡ get_or order i number → length (block_at blocks i) ≡ 64 →
+    ComesIn (set pool number (take 32 (block_at pool number))) free pool' free' (drop 32 (block_at pool number)) other →
+    Kept pool' (insert order (i + 1) other) (insert (set counts i 32) (i + 1) 32) free' (halved blocks i)
+split {pool = pool} w i {number = number} inside is full q =
+    let same = block_same w i inside is in
+    let size = ap length same in
+    let front = length-take 32 (block_at pool number) in
+    let back = length-drop 32 (block_at pool number) in
+    let there = in_order_there w i inside is in
+    let fronted = changed w i inside is (take 32 (block_at pool number)) 32 (omega arith) in
+    rw same at (come fronted q (i + 1) 32 (omega arith) (omega arith))
 
 -- ## The upper half of a block goes over to one that came in
 
@@ -136,88 +197,76 @@ module _ (pool pool' : List (List Queued)) (free free' : List ℕ) (block : List
   pub came_there : other < length pool'
   came_there = grind (arith, common_steps, bit_same other other refl, has_inside pool' other)
 
-  pub came_inside : number < length pool'
-  came_inside = let come = q.once number in let first = had in has_inside pool' number (omega arith)
+  pub comes_parted : (now : List (List Queued)) → now ≡ parted pool' number other →
+      ComesIn (set pool number (take 32 (block_at pool number))) free now free' (drop 32 (block_at pool number)) other
+  comes_parted now e = rw (e, came_others) (search
+      (arith, rules, length-set, set_others, came_apart, get_or-set_same, came_there, cases_eq, had, has_inside))
 
-  pub comes_parted : (front back : List Queued) →
-      ComesIn (set pool number front) free (set (set pool' other back) number front) free' back other
-  comes_parted front back =
-      search (rules, length-set, set_others, came_apart, get_or-set_same, came_there, came_inside, cases_eq)
+-- where so many cells of the upper half of one block are in the other
+module _ (pool pool' : List (List Queued)) (from to place : ℕ) (inside : from < length pool) (there : to < length pool)
+    (apart : to ≢ from) (full : length (block_at pool from) ≡ 64)
+    (is : pool' ≡ set pool to (take place (drop 32 (block_at pool from)))) where
+  pub read_from : (read : List Queued) → read ≡ get_or pool' from read → read ≡ block_at pool from
+  read_from read e = search (rules, length-set, get_or_read, get_or-set_other)
 
--- what is read where one block was set
-pub read_other : (pool pool' : List (List Queued)) (from to : ℕ) (block read : List Queued) → to ≢ from →
-    from < length pool → pool' ≡ set pool to block → read ≡ get_or pool' from read → read ≡ block_at pool from
-read_other pool pool' from to block read apart inside is e = search (rules, length-set, get_or_read, get_or-set_other)
+  pub read_to : (read : List Queued) → read ≡ get_or pool' to read → read ≡ take place (drop 32 (block_at pool from))
+  read_to read e = grind (arith, common_steps, length-set, get_or_read, get_or-set_same)
 
-pub read_set : (pool pool' : List (List Queued)) (to : ℕ) (block read : List Queued) → to < length pool →
-    pool' ≡ set pool to block → read ≡ get_or pool' to read → read ≡ block
-read_set pool pool' to block read inside is e = grind (arith, common_steps, length-set, get_or_read, get_or-set_same)
+  pub moved_more : (read block next : List Queued) (x : Queued) → place < 32 → read ≡ get_or pool' to read →
+      block ≡ get_or pool' from block → slice_get block (place + 32) ≡ Some x → next ≡ insert read place x →
+      set pool' to next ≡ set pool to (take (place + 1) (drop 32 (block_at pool from)))
+  moved_more read block next x early e f at is_next =
+      let half = drop 32 (block_at pool from) in
+      let size = length-drop 32 (block_at pool from) in
+      let few : place ≡ length (take place half) = let len = length-take place half in omega arith in
+      let sum : place + 32 ≡ 32 + place = omega arith in
+      let here : x ≡ get_or half place x =
+      cc (
+        sum,
+        get_or_from_slice_get block (place + 32) x x at,
+        read_from block f,
+        get_or-drop 32 (block_at pool from) place x,
+      ) in
+      cc (
+        here,
+        read_to read e,
+        set-set pool to (take place half) next,
+        insert_end (take place half) x,
+        take_more half place x (omega arith),
+      )
 
--- a cell of the upper half
-pub upper_shown : (block : List Queued) (place : ℕ) (x : Queued) → length block ≡ 64 → place < 32 →
-    slice_get block (place + 32) ≡ Some x → slice_get (drop 32 block) place ≡ Some x
-upper_shown block place x full early at =
-    let size = length-drop 32 block in
-    let sum : 32 + place ≡ place + 32 = omega arith in
-    slice_get_read (drop 32 block) (length (drop 32 block)) place x refl (omega arith)
-    (sym (get_or-drop 32 block place x ∙ ap (λ k. get_or block k x) sum
-    ∙ get_or_from_slice_get block (place + 32) x x at))
+  pub moved_all : (block front : List Queued) → place ≡ 32 → block ≡ get_or pool' from block → front ≡ take 32 block →
+      set pool' from front ≡ parted pool from to
+  moved_all block front all e is_front =
+      let size = length-drop 32 (block_at pool from) in
+      cc (is, read_from block e, take_all place (drop 32 (block_at pool from)) (omega arith))
 
 pub upper_first : (block : List Queued) (x : Queued) → slice_get block 32 ≡ Some x →
     x ∷ [] ≡ take 1 (drop 32 block)
 upper_first block x at = sym (ap (take 1) (drop_more block 32 x (slice_get_within block 32 x at)
     ∙ ap (λ y. y ∷ drop 33 block) (get_or_from_slice_get block 32 x x at)))
 
--- the next cell of the upper half comes to the others
-pub moved_more : (pool pool' : List (List Queued)) (to place : ℕ) (half read : List Queued) (x : Queued) →
-    to < length pool → length half ≡ 32 → place < 32 → pool' ≡ set pool to (take place half) →
-    read ≡ get_or pool' to read → slice_get half place ≡ Some x →
-    set pool' to (insert read place x) ≡ set pool to (take (place + 1) half)
-moved_more pool pool' to place half read x there size early is e at =
-    let few : place ≡ length (take place half) = let len = length-take place half in omega arith in
-    ap (λ (l : List (List Queued)). set l to (insert read place x)) is
-    ∙ set-set pool to (take place half) (insert read place x)
-    ∙ ap (λ l. set pool to (insert l place x)) (read_set pool pool' to (take place half) read there is e)
-    ∙ ap (set pool to) (ap (λ n. insert (take place half) n x) few
-    ∙ insert_end (take place half) x
-    ∙ ap (λ y. take place half ++ y ∷ []) (sym (get_or_from_slice_get half place x x at))
-    ∙ sym (take_more half place x (omega arith)))
-
 -- ## The first block becomes free
 
-pub freed_order : (pool : List (List Queued)) (order counts free : List ℕ) (block : List Queued) (number : ℕ) →
-    ArePlaced pool order counts free → 0 < length order → number ≡ get_or order 0 number →
-    in_order (set pool number block) (remove order 0) ≡ drop 1 (in_order pool order)
-freed_order pool [] counts free block number p some is = absurd (omega arith)
-freed_order pool (x ∷ xs) counts free block number p some is =
-    let once = p.once number in let le = bit_le (nat_lt number (length pool)) in
-    let step = times-cons number x xs in let one = bit_same x number (sym is) in
-    same_order pool (set pool number block) number (set_others pool number block) xs (omega arith)
-
-pub freed_placed : (pool : List (List Queued)) (order counts free : List ℕ) (block : List Queued) (number : ℕ) →
-    ArePlaced pool order counts free → 0 < length order → number ≡ get_or order 0 number →
-    ArePlaced (set pool number block) (remove order 0) (remove counts 0) (free ++ number ∷ [])
-freed_placed pool [] counts free block number p some is = absurd (omega arith)
-freed_placed pool (x ∷ xs) counts free block number p some is =
+pub freed : (pool : List (List Queued)) (order counts free : List ℕ) (blocks : List (List Queued)) (block : List Queued)
+    (number : ℕ) → Kept pool order counts free blocks → 0 < length blocks → number ≡ get_or order 0 number →
+    Kept (set pool number block) (remove order 0) (remove counts 0) (free ++ number ∷ []) (drop 1 blocks)
+freed pool [] counts free blocks block number w some is = let many = as_many w in absurd (omega arith)
+freed pool (x ∷ xs) counts free blocks block number w some is =
+    let p = w.placed in
+    let once = p.once number in
+    let same : in_order (set pool number block) xs ≡ in_order pool xs =
+    search (arith, rules, bit_le, times-cons, bit_same, same_order, set_others) in
     record {
-      once = λ n.
-          let had = p.once n in let step = times-cons n x xs in let push = times_push n free number in
-          let first : bit (number == n) ≡ bit (x == n) = ap (λ k. bit (k == n)) is in
-          let same : has (set pool number block) n ≡ has pool n = ap (λ k. bit (nat_lt n k))
-          (length-set pool number block) in omega arith;
-      all = let push = length_push free number in
-          let same = length-set pool number block in omega arith;
-      counted =
-          ap (λ l. remove l 0) p.counted
-          ∙ ap (map (λ (b : List Queued). length b))
-          (sym (freed_order pool (x ∷ xs) counts free block number p some is));
+      placed = record {
+        once = search (arith, rules, p.once, times-cons, times_push, length-set);
+        all = search (arith, rules, length_push, length-set);
+        counted = cc (same, p.counted);
+      };
+      seen = same ∙ ap (drop 1) w.seen;
     }
 
--- ## A block split, and the first cell taken out
-
-pub halved_is : (blocks : List (List Queued)) (i : ℕ) (front back : List Queued) → front ≡ take 32 (block_at blocks i) →
-    back ≡ drop 32 (block_at blocks i) → insert (set blocks i front) (i + 1) back ≡ halved blocks i
-halved_is blocks i front back f b = grind (arith, common_steps)
+-- ## The first cell taken out
 
 pub without_block : (blocks : List (List Queued)) → length (block_at blocks 0) ≡ 1 →
     without_first blocks ≡ drop 1 blocks
@@ -228,93 +277,3 @@ pub without_cell : (blocks : List (List Queued)) → 0 < length blocks → 1 < l
     without_first blocks ≡ set blocks 0 (drop 1 (block_at blocks 0))
 without_cell [] some more = absurd (omega arith)
 without_cell (b ∷ bs) some more = grind (arith, common_steps, cond-false, ne_eqb)
-
--- ## What the fields of the blocks say of their view
-
--- what a call leaves where it did not fail
-pub left_by_ok : {T E X : Type 0} (r : Result T E) (t : T) (x y z : X) → x ≡ cond (is_ok r) y z → r ≡ Ok t → x ≡ y
-left_by_ok r t x y z e ok = e ∙ ap (λ v. cond (is_ok v) y z) ok
-
--- there is as much memory for as many blocks
-pub memory_same : (most in_pool in_order in_counts in_free pool now : ℕ) →
-    HaveMemory most pool in_pool in_order in_counts in_free → now ≡ pool →
-    HaveMemory most now in_pool in_order in_counts in_free
-memory_same most in_pool in_order in_counts in_free pool now m same = grind (arith, common_steps)
-
--- the fields are in order, and stand for these blocks
-pub record Kept (pool : List (List Queued)) (order counts free : List ℕ) (blocks : List (List Queued)) : Type 0 where
-  pub placed : ArePlaced pool order counts free
-  pub seen : in_order pool order ≡ blocks
-
-pub kept : (pool : List (List Queued)) (order counts free : List ℕ) (most : ℕ) (v : BlocksView) →
-    ArePlaced pool order counts free → record { blocks = in_order pool order; most = most } ≡ v →
-    Kept pool order counts free v.blocks
-kept pool order counts free most v p view = record { placed = p; seen = ap (λ (w : BlocksView). w.blocks) view }
-
-pub as_many : (pool : List (List Queued)) (order counts free : List ℕ) (blocks : List (List Queued)) →
-    Kept pool order counts free blocks → length order ≡ length blocks
-as_many pool order counts free blocks w = grind (arith, common_steps, length-map)
-
-pub as_many_counts : (pool : List (List Queued)) (order counts free : List ℕ) (blocks : List (List Queued)) →
-    Kept pool order counts free blocks → counts ≡ map (λ (b : List Queued). length b) blocks
-as_many_counts pool order counts free blocks w = w.placed.counted ∙ ap (map (λ (b : List Queued). length b)) w.seen
-
-sum_counts : (blocks : List (List Queued)) →
-    sum_by (λ n. n) (map (λ (b : List Queued). length b) blocks) ≡ cells_in_all blocks
-sum_counts [] = refl
-sum_counts (b ∷ bs) = grind (arith, common_steps, sum_by-cons, sum_counts bs)
-
-pub sum_parts : (xs : List ℕ) (i : ℕ) → sum_by (λ n. n) (take i xs) + sum_by (λ n. n) (drop i xs) ≡ sum_by (λ n. n) xs
-sum_parts xs i = sum_by-take-drop (λ (n : ℕ). n) xs i
-
-pub sum_rest : (xs : List ℕ) (i : ℕ) →
-    sum_by (λ n. n) (take (length xs - i) (drop i xs)) + sum_by (λ n. n) (take i xs) ≡ sum_by (λ n. n) xs
-sum_rest xs i = grind (arith, common_steps, sum_parts, take_rest)
-
--- the counts ahead of a place add up to the cells ahead
-pub counts_ahead : (pool : List (List Queued)) (order counts free : List ℕ) (blocks : List (List Queued)) →
-    Kept pool order counts free blocks → (place : ℕ) →
-    sum_by (λ n. n) (take place counts) ≡ cells_in_all (take place blocks)
-counts_ahead pool order counts free blocks w place = grind (arith, common_steps, as_many_counts, take-map, sum_counts)
-
-pub counts_all : (pool : List (List Queued)) (order counts free : List ℕ) (blocks : List (List Queued)) →
-    Kept pool order counts free blocks → sum_by (λ n. n) counts ≡ cells_in_all blocks
-counts_all pool order counts free blocks w = grind (arith, common_steps, as_many_counts, sum_counts)
-
--- where a count is more than nothing, there is a block
-pub count_there : (pool : List (List Queued)) (order counts free : List ℕ) (blocks : List (List Queued)) →
-    Kept pool order counts free blocks → (place within : ℕ) → within < get_or counts place 0 → place < length blocks
-count_there pool order counts free blocks w place within some =
-    grind (arith, common_steps, as_many_counts, length-map, get_or_past, cases_lt)
-
-module _ (pool : List (List Queued)) (order counts free : List ℕ) (blocks : List (List Queued))
-    (w : Kept pool order counts free blocks) (i number : ℕ) (inside : i < length blocks)
-    (is : number ≡ get_or order i number) where
-  pub in_order_there : i < length order
-  in_order_there = let many = as_many pool order counts free blocks w in omega arith
-
-  pub in_pool : number < length pool
-  in_pool = number_there pool order counts free w.placed i number in_order_there is
-
-  pub not_freed : times number free ≡ 0
-  not_freed = not_free pool order counts free w.placed i number in_order_there is
-
-  pub block_same : block_at pool number ≡ block_at blocks i
-  block_same = grind (arith, common_steps, block_is, in_order_there)
-
-  -- what is read in the pool is the block
-  pub read_is : (read : List Queued) → read ≡ get_or pool number read → read ≡ block_at blocks i
-  read_is read e = grind (arith, common_steps, get_or_read, in_pool, block_same)
-
-  pub read_count : (count : ℕ) (read : List Queued) → count ≡ get_or counts i count →
-      read ≡ get_or pool number read → count ≡ length read
-  read_count count read e f = count_is pool order counts free w.placed i number in_order_there is count e
-      ∙ ap (λ (b : List Queued). length b) (sym (get_or_read pool number read in_pool f []))
-
-  pub seen_changed : (block : List Queued) → in_order (set pool number block) order ≡ set blocks i block
-  seen_changed block = changed_order pool order counts free w.placed i number in_order_there is block
-      ∙ ap (λ (l : List (List Queued)). set l i block) w.seen
-
-  pub placed_changed : (block : List Queued) (count : ℕ) → count ≡ length block →
-      ArePlaced (set pool number block) order (set counts i count) free
-  placed_changed = changed_placed pool order counts free w.placed i number in_order_there is

@@ -4,56 +4,29 @@
 -- Where the last cell of all has a lesser key, so have all cells of its block, and the spot is its end.
 --
 -- A full block that is split keeps each place: in its front half, or in its back half behind 32 cells more.
-use Rattle.std.proofs.lemmas.Grind.{common_steps}
-use Rattle.std.proofs.Common.{◌≡◌, ℕ, zero, suc, ◌+◌, ◌<◌, ◌≤◌, true, false, List, [], ◌∷◌, ◌++◌, length, take, drop, Some, ap, ⊎_elim, length-append, length-set, length-take, length-drop, get_or-set_same, arith, sym, ◌∙◌, subst}
-use Rattle.std.specs.Prelude.{slice_get}
-use Rattle.std.specs.List.{AllByRecursion}
-use Rattle.std.proofs.lemmas.Bool.{cases_Bool}
-use Rattle.std.proofs.lemmas.List.{take-append-le, take-take, take-set}
-use Rattle.std.proofs.lemmas.List.Edits.{length-insert, get_or-insert_below, get_or-insert_at}
-use Rattle.std.proofs.lemmas.List.Sums.{sum_by_more}
-use Rattle.cq_base.specs.declared.key.Key.{Key}
-use Rattle.cq_base.specs.declared.cell.Queued.{Queued}
-use Rattle.cq_base.specs.Key.{is_before}
-use Rattle.cq_base.specs.Cells.{IsBefore, IsRising, cushion}
-use Rattle.cq_base.proofs.Keys.{key_laws}
-use Rattle.cq_base.proofs.Lists.{all_at}
-use Rattle.cq_urgency.specs.Blocks.{flattened, block_at, halved}
-use Rattle.cq_urgency.specs.OutputBuffer.{AreFilled, AreBegun, IsSpot, starts_before}
+use Rattle.cq_urgency.specs.declared.output_buffer.Spot.{Spot}
+use Rattle.cq_urgency.proofs.Terms.{⊎_elim, cases_lt, rules, ◌≡◌, ℕ, zero, suc, ◌+◌, ◌<◌, ◌≤◌, true, false, List, [], ◌∷◌, ◌++◌, length, take, drop, Some, ap, length-append, length-set, length-take, length-drop, get_or-set_same, arith, sym, subst, common_steps, slice_get, AllByRecursion, cases_Bool, take-append-le, take-take, take-set, length-insert, get_or-insert_below, get_or-insert_at, sum_by_more, Key, Queued, is_before, IsBefore, IsRising, cushion, key_laws, all_at, flattened, block_at, halved, AreFilled, AreBegun, IsSpot, starts_before}
 use Rattle.cq_urgency.proofs.Flattened.{length-flattened}
-use Rattle.cq_urgency.proofs.Halving.{cushion_all, cushion_none, cushion_le, cushion-append}
+use Rattle.cq_urgency.proofs.Halving.{all_weaker, cushion_all, cushion_none, cushion_le, cushion-append}
 
 -- ## What holds of joined lists
 
-all_left : (P : Queued → Type 0) (xs ys : List Queued) → AllByRecursion P (xs ++ ys) → AllByRecursion P xs
-all_left P [] ys a = tt
-all_left P (x ∷ xs) ys a = (a.0, all_left P xs ys a.1)
+all_parts : (P : Queued → Type 0) (xs ys : List Queued) → AllByRecursion P (xs ++ ys) →
+    AllByRecursion P xs × AllByRecursion P ys
+all_parts P [] ys a = (tt, a)
+all_parts P (x ∷ xs) ys a = let parts = all_parts P xs ys a.1 in ((a.0, parts.0), parts.1)
 
-all_right : (P : Queued → Type 0) (xs ys : List Queued) → AllByRecursion P (xs ++ ys) → AllByRecursion P ys
-all_right P [] ys a = a
-all_right P (x ∷ xs) ys a = all_right P xs ys a.1
-
-all_weaker : (P Q : Queued → Type 0) → ((x : Queued) → P x → Q x) → (xs : List Queued) → AllByRecursion P xs →
-    AllByRecursion Q xs
-all_weaker P Q f [] a = tt
-all_weaker P Q f (x ∷ xs) a = (f x a.0, all_weaker P Q f xs a.1)
-
-rising_left : (xs ys : List Queued) → IsRising (xs ++ ys) → IsRising xs
-rising_left [] ys r = tt
-rising_left (x ∷ xs) ys r = (all_left (IsBefore x) xs ys r.0, rising_left xs ys r.1)
-
-rising_right : (xs ys : List Queued) → IsRising (xs ++ ys) → IsRising ys
-rising_right [] ys r = r
-rising_right (x ∷ xs) ys r = rising_right xs ys r.1
-
-rising_apart : (xs ys : List Queued) → IsRising (xs ++ ys) → AllByRecursion (λ x. AllByRecursion (IsBefore x) ys) xs
-rising_apart [] ys r = tt
-rising_apart (x ∷ xs) ys r = (all_right (IsBefore x) xs ys r.0, rising_apart xs ys r.1)
+rising_parts : (xs ys : List Queued) → IsRising (xs ++ ys) →
+    IsRising xs × IsRising ys × AllByRecursion (λ x. AllByRecursion (IsBefore x) ys) xs
+rising_parts [] ys r = (tt, r, tt)
+rising_parts (x ∷ xs) ys r =
+    let here = all_parts (IsBefore x) xs ys r.0 in
+    let rest = rising_parts xs ys r.1 in ((here.0, rest.0), rest.1, (here.1, rest.2))
 
 pub rising_block : (blocks : List (List Queued)) (i : ℕ) → IsRising (flattened blocks) → IsRising (block_at blocks i)
 rising_block [] i r = tt
-rising_block (b ∷ bs) zero r = rising_left b (flattened bs) r
-rising_block (b ∷ bs) (suc i) r = rising_block bs i (rising_right b (flattened bs) r)
+rising_block (b ∷ bs) zero r = (rising_parts b (flattened bs) r).0
+rising_block (b ∷ bs) (suc i) r = rising_block bs i (rising_parts b (flattened bs) r).1
 
 -- ## Ahead of a block, and from a block on
 
@@ -62,28 +35,22 @@ lesser_ahead : (key : Key) (blocks : List (List Queued)) (i : ℕ) → starts_be
 lesser_ahead key [] i e x a = cc
 lesser_ahead key ([] ∷ bs) zero e x a = cc
 lesser_ahead key ((y ∷ ys) ∷ bs) zero e x a = key_laws.on x.key y.key key a.0 e
-lesser_ahead key (b ∷ bs) (suc i) e x a = lesser_ahead key bs i e x (all_right (IsBefore x) b (flattened bs) a)
+lesser_ahead key (b ∷ bs) (suc i) e x a = lesser_ahead key bs i e x (all_parts (IsBefore x) b (flattened bs) a).1
 
 -- no block is empty
 abbrev AreSome : List (List Queued) → Type 0
 AreSome blocks = AllByRecursion (λ block. 0 < length block) blocks
 
-longer_some : (blocks : List (List Queued)) → AllByRecursion (λ block. 32 ≤ length block) blocks → AreSome blocks
-longer_some [] a = tt
-longer_some (b ∷ bs) a = (omega arith, longer_some bs a.1)
-
 filled_some : (blocks : List (List Queued)) → AreFilled blocks → AreSome blocks
 filled_some [] f = tt
-filled_some (b ∷ bs) f = (f.0, longer_some bs f.1)
+filled_some (b ∷ bs) f = (f.0, all_weaker (λ c. 32 ≤ length c) (λ c. 0 < length c) (λ c long. omega arith) bs f.1)
 
 none_lesser : (key : Key) (x : Queued) (xs : List Queued) → is_before x.key key ≡ false →
     AllByRecursion (IsBefore x) xs → cushion key (x ∷ xs) ≡ 0
-none_lesser key x xs first after = cushion_none key (x ∷ xs) (
-  first,
-  all_weaker (IsBefore x) (λ y. is_before y.key key ≡ false) (λ y before.
-      ⊎_elim (λ t. absurd (let on = key_laws.on x.key y.key key before t in let P : ⊥ = cc in P)) (λ f. f)
-      (cases_Bool (is_before y.key key))) xs after,
-)
+none_lesser key x xs first after =
+    let weaker : (y : Queued) → IsBefore x y → is_before y.key key ≡ false =
+    λ y before. grind (arith, common_steps, cases_Bool (is_before y.key key), key_laws.on x.key y.key key before) in
+    cushion_none key (x ∷ xs) (first, all_weaker _ _ weaker xs after)
 
 none_behind : (key : Key) (blocks : List (List Queued)) → IsRising (flattened blocks) → AreSome blocks →
     (0 < length blocks → starts_before key (block_at blocks 0) ≡ false) → cushion key (flattened blocks) ≡ 0
@@ -98,42 +65,28 @@ cushion_in : (key : Key) (blocks : List (List Queued)) (i : ℕ) → IsRising (f
 cushion_in key [] i r some inside e behind = absurd (omega arith)
 cushion_in key (b ∷ bs) zero r some inside e behind =
     let both = cushion-append key b (flattened bs) in
-    let rest = none_behind key bs (rising_right b (flattened bs) r) some.1 (λ l. behind (omega arith)) in omega arith
+    let rest = none_behind key bs (rising_parts b (flattened bs) r).1 some.1 (λ l. behind (omega arith)) in omega arith
 cushion_in key (b ∷ bs) (suc i) r some inside e behind =
     let next : suc i + 1 ≡ suc (i + 1) = omega arith in
+    let parts = rising_parts b (flattened bs) r in
     let both = cushion-append key b (flattened bs) in
-    let all = cushion_all key b
-    (all_weaker (λ x. AllByRecursion (IsBefore x) (flattened bs)) (λ x. is_before x.key key ≡ true)
-    (lesser_ahead key bs i e) b (rising_apart b (flattened bs) r)) in
-    let rest = cushion_in key bs i (rising_right b (flattened bs) r) some.1 (omega arith) e
-    (λ l. ap (λ n. starts_before key (block_at (b ∷ bs) n)) (sym next) ∙ behind (omega arith)) in
-    let size = length-append b (flattened (take i bs)) in omega arith
-
--- no block is empty, wherever it stands
-some_of : (blocks : List (List Queued)) (i : ℕ) → AreSome blocks → i < length blocks → 0 < length (block_at blocks i)
-some_of [] i some inside = absurd (omega arith)
-some_of (b ∷ bs) zero some inside = some.0
-some_of (b ∷ bs) (suc i) some inside = some_of bs i some.1 (omega arith)
+    let long = length-append b (flattened (take i bs)) in
+    let rest = cushion_in key bs i in
+    search (arith, rules, cushion_all key b, all_weaker, lesser_ahead key bs i e, parts.1, parts.2, rest)
 
 pub some_at : (blocks : List (List Queued)) (i : ℕ) (block : List Queued) → AreFilled blocks → i < length blocks →
     block ≡ block_at blocks i → 0 < length block
-some_at blocks i block f inside is = grind (arith, common_steps, some_of, filled_some)
+some_at blocks i block f inside is = grind (arith, common_steps, filled_some)
 
 -- ## A last cell of lesser key
-
-all_of_none : (P : Queued → Type 0) (xs : List Queued) → length xs ≡ 0 → AllByRecursion P xs
-all_of_none P [] none = tt
-all_of_none P (x ∷ xs) none = absurd (omega arith)
 
 -- where the last cell of a rising list has a lesser key, all cells have one
 all_lesser : (key : Key) (xs : List Queued) (k : ℕ) (x : Queued) → IsRising xs → slice_get xs k ≡ Some x →
     k + 1 ≡ length xs → is_before x.key key ≡ true → AllByRecursion (λ y. is_before y.key key ≡ true) xs
 all_lesser key [] k x r at end e = tt
-all_lesser key (y ∷ ys) zero x r at end e = grind (arith, common_steps, all_of_none)
-all_lesser key (y ∷ ys) (suc k) x r at end e = (
-  key_laws.on y.key x.key key (all_at (IsBefore y) ys k x r.0 at) e,
-  all_lesser key ys k x r.1 at (omega arith) e,
-)
+all_lesser key (y ∷ ys) zero x r at end e = grind (arith, common_steps)
+all_lesser key (y ∷ ys) (suc k) x r at end e =
+    grind (arith, common_steps, all_at (IsBefore y) ys k x r.0 at, key_laws.on, all_lesser key ys k x r.1 at)
 
 starts_lesser : (key : Key) (xs : List Queued) → 0 < length xs →
     AllByRecursion (λ y. is_before y.key key ≡ true) xs → starts_before key xs ≡ true
@@ -159,19 +112,7 @@ module _ (key : Key) (blocks : List (List Queued)) (r : IsRising (flattened bloc
   spot_end last within place block x end is long whole at e =
       let lesser = all_lesser key block place x (subst IsRising (sym is) (rising_block blocks last r)) at
       (let all : place + 1 ≡ length block = omega arith in all) e in
-      let starts : starts_before key (block_at blocks last) ≡ true =
-      subst (λ (b : List Queued). starts_before key b ≡ true) is
-      (starts_lesser key block (let some : 0 < length block = omega arith in some) lesser) in
-      let own : cushion key (block_at blocks last) ≡ length block =
-      ap (cushion key) (sym is) ∙ cushion_all key block lesser in
-      record {
-        inside = omega arith;
-        short = let size = ap length is in omega arith;
-        at =
-            let all = cushion_in key blocks last r (filled_some blocks f) (omega arith) starts
-            (λ l. absurd (omega arith)) in
-            let size = length-flattened (take last blocks) in omega arith;
-      }
+      search (arith, rules, starts_lesser, cushion_all, cushion_in, filled_some, length-flattened)
 
 -- ## The spot where a block was split
 
@@ -189,14 +130,30 @@ module _ (blocks : List (List Queued)) (ahead i o : ℕ) (spot : IsSpot blocks a
   ahead_same : take i (halved blocks i) ≡ take i blocks
   ahead_same = grind (arith, common_steps, length-set, length-take, take-append-le, take-take, take-set)
 
-  pub front_length : length (block_at (halved blocks i) i) ≡ 32
+  front_length : length (block_at (halved blocks i) i) ≡ 32
   front_length = let half = ap length first_half in let len = length-take 32 (block_at blocks i) in omega arith
 
-  pub back_length : length (block_at (halved blocks i) (i + 1)) ≡ 32
+  back_length : length (block_at (halved blocks i) (i + 1)) ≡ 32
   back_length = let half = ap length second_half in let len = length-drop 32 (block_at blocks i) in omega arith
 
-  pub in_front_half : o ≤ 32 → IsSpot (halved blocks i) ahead i o
+  in_front_half : o ≤ 32 → IsSpot (halved blocks i) ahead i o
   in_front_half early = grind (arith, common_steps, longer, front_length, ahead_same)
 
-  pub in_back_half : (p : ℕ) → p + 32 ≡ o → IsSpot (halved blocks i) ahead (i + 1) p
+  in_back_half : (p : ℕ) → p + 32 ≡ o → IsSpot (halved blocks i) ahead (i + 1) p
   in_back_half p late = grind (arith, common_steps, longer, back_length, sum_by_more, front_length, ahead_same)
+
+pub spot_halved : (blocks : List (List Queued)) (ahead : ℕ) (was now : Spot) →
+    IsSpot blocks ahead was.block was.within → length (block_at blocks was.block) ≡ 64 →
+    (was.within ≤ 32 → now ≡ was) →
+    (32 < was.within → (now.block ≡ was.block + 1) × (now.within + 32 ≡ was.within)) →
+    IsSpot (halved blocks was.block) ahead now.block now.within
+    × (length (block_at (halved blocks was.block) now.block) < 64)
+spot_halved blocks ahead was now spot full front back = ⊎_elim
+    (λ late. rw (back late).0 (
+      in_back_half blocks ahead was.block was.within spot full now.within (back late).1,
+      let size = back_length blocks ahead was.block was.within spot full in omega arith,
+    ))
+    (λ early. rw (front early) (
+      in_front_half blocks ahead was.block was.within spot full early,
+      let size = front_length blocks ahead was.block was.within spot full in omega arith,
+    )) (cases_lt 32 was.within)

@@ -1,10 +1,7 @@
 -- The line before its forms are added: each setting changes its own field.
-use Rattle.std.proofs.lemmas.Grind.{common_steps}
-use Rattle.std.proofs.Common.{arith, ◌≡◌, true, codes}
-use Rattle.clap.specs.Simple.{app_of, new_app}
+use Rattle.cq_words.proofs.Terms.{common_steps, arith, ◌≡◌, true, codes, app_of, new_app, bare_line}
 use Rattle.clap.specs.declared.builder.command.Command.{Command}
 use Rattle.clap.specs.declared.builder.command.Command.TheViews.{out-Command}
-use Rattle.cq_words.specs.Line.{bare_line}
 
 pub bare_is : (a b c d : Command) → app_of a ≡ new_app (codes "cq_switch")
     → out-Command b ≡ record (out-Command a) { no_binary_name = true }

@@ -1,16 +1,5 @@
 -- More than four words are no command, and neither are four whose first begins no form of four.
-use Rattle.std.proofs.lemmas.Grind.{common_steps}
-use Rattle.std.proofs.Common.{◌≡◌, ℕ, ◌≤◌, Bool, true, false, List, [], ◌∷◌, length, map, if◌then◌else◌, Option, None, refl, arith}
-use Rattle.std.specs.Prelude.{codes, is_some}
-use Rattle.std.specs.List.{list_all}
-use Rattle.std.specs.Str.{bytes_eq}
-use Rattle.std.proofs.lemmas.Slice.Eq.{bytes_eq-Decides}
-use Rattle.cq_words.specs.Words.{command_for, is_value, numbered, parted}
-use Rattle.cq_words.specs.declared.command.Command.{Command}
-
-none_both_ways : (b : Bool) → ◌≡◌ {A = Option Command} None (if b then None else None)
-none_both_ways true = refl
-none_both_ways false = refl
+use Rattle.cq_words.proofs.Terms.{rules, ◌≡◌, ℕ, ◌≤◌, Bool, true, false, List, [], ◌∷◌, length, map, if◌then◌else◌, Option, None, refl, arith, common_steps, codes, is_some, list_all, bytes_eq, bytes_eq-Decides, command_for, is_value, numbered, parted, Command}
 
 pub too_many_words : {W : Type 0} (bytes : W → List ℕ) (words : List W) → 5 ≤ length words
     → ◌≡◌ {A = Option Command} None (command_for (map bytes words))
@@ -19,7 +8,7 @@ too_many_words bytes (word ∷ []) many = refl
 too_many_words bytes (word ∷ a ∷ []) many = absurd (omega arith)
 too_many_words bytes (word ∷ a ∷ b ∷ []) many = absurd (omega arith)
 too_many_words bytes (word ∷ a ∷ b ∷ c ∷ []) many = absurd (omega arith)
-too_many_words bytes (word ∷ a ∷ b ∷ c ∷ d ∷ rest) many = grind (arith, common_steps, none_both_ways)
+too_many_words bytes (word ∷ a ∷ b ∷ c ∷ d ∷ rest) many = search (arith, rules)
 
 -- a first word that is neither `soak` nor `part` begins no command of four words
 no_word : (a d e : Bool) (x y : Option Command) → d ≡ false → e ≡ false

@@ -1,3 +1,4 @@
+mod Terms
 pub mod Places
 pub mod Forms
 pub mod Plain

@@ -1,11 +1,7 @@
 -- Digits that are read one after another. What is read so far stands as many places up as there are digits
 -- left. So one more digit changes nothing of the whole: what is read moves up one place, and the digit fills
 -- the place that comes free. And a number of so many digits is below that power of ten.
-use Rattle.std.proofs.lemmas.Grind.{common_steps}
-use Rattle.std.proofs.Common.{◌≡◌, ℕ, ◌+◌, ◌-◌, ◌*◌, ◌^◌, ◌<◌, ◌≤◌, List, [], ◌∷◌, length, drop, get_or, ◌∙◌, arith, add-one}
-use Rattle.std.proofs.Math.Nat.{pow-suc}
-use Rattle.std.proofs.lemmas.List.{at_drop_more, at_drop_all}
-use Rattle.cq_words.specs.Numbers.{value_of}
+use Rattle.cq_words.proofs.Terms.{common_steps, ◌≡◌, ℕ, ◌+◌, ◌-◌, ◌*◌, ◌^◌, ◌<◌, ◌≤◌, List, [], ◌∷◌, length, drop, get_or, ◌∙◌, arith, add-one, pow-suc, at_drop_more, at_drop_all, value_of}
 
 places : (v d p r : ℕ) → v * (p * 10) + (d * p + r) ≡ (v * 10 + d) * p + r
 places v d p r = omega arith

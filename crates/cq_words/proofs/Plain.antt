@@ -1,14 +1,7 @@
 -- A value is no flag: it is not empty and begins with no dash. So where no subcommand can follow, a walk of
 -- `clap` hands it to the next positional, and nothing of it is refused.
-use Rattle.std.proofs.lemmas.Grind.{common_steps}
-use Rattle.std.proofs.Common.{arith, ◌≡◌, ◌&&◌, ℕ, Bool, true, false, not, refl, ap, List, [], ◌∷◌, None}
-use Rattle.std.specs.Prelude.{◌==◌}
-use Rattle.std.specs.Str.{bytes_eq}
+use Rattle.cq_words.proofs.Terms.{rules, arith, ◌≡◌, ◌&&◌, ℕ, Bool, true, false, not, refl, ap, List, [], ◌∷◌, None, common_steps, ◌==◌, bytes_eq, Held, Rule, Text, Walk, arg_by_index, idle, to_positional, value, walked, word_met, Shape, step_passes, turn_passes, is_value}
 use Rattle.clap.specs.Lexer.{long_of, short_of}
-use Rattle.clap.specs.Walk.{Held, Rule, Text, Walk, arg_by_index, idle, to_positional, value, walked, word_met}
-use Rattle.clap.specs.Simple.{Shape}
-use Rattle.clap.specs.Takes.{step_passes, turn_passes, word_passes}
-use Rattle.cq_words.specs.Words.{is_value}
 
 not_true : (b : Bool) → not b ≡ true → b ≡ false
 not_true true h = cc
@@ -42,11 +35,7 @@ pub value_walked : (rules : List Rule) (held : Held) (position : ℕ) (text : Te
 unfolding walked
 value_walked rules held position text is = grind (arith, common_steps, word_is_value)
 
-word_is_taken : (shape : Shape) (held : Held) (text : Text) → is_value text ≡ true →
-    word_passes shape [] false idle text held ≡ true
-word_is_taken shape held text is = grind (arith, common_steps, no_dashes, no_long, no_short)
-
 -- a value is refused only where its positional refuses it
 pub value_taken : (shape : Shape) (held : Held) (position : ℕ) (text : Text) → is_value text ≡ true
     → turn_passes shape [] (at held position) text ≡ step_passes shape position held value
-value_taken shape held position text is = grind (arith, common_steps, word_is_taken, word_is_value)
+value_taken shape held position text is = search (arith, rules, word_is_value, no_dashes, no_long, no_short)

@@ -1,19 +1,7 @@
 -- `clap` splits the words of a command into the values that they are, and refuses none of them. Each form is
 -- run through `clap`'s own rule of a parse. Its first word is one of the subcommands by its text, so the rest
 -- goes to that subcommand. There each value goes to the next positional, which has no value yet.
-use Rattle.std.proofs.lemmas.Grind.{common_steps}
-use Rattle.std.proofs.Common.{arith, rules, ◌≡◌, ◌&&◌, ◌⊎◌, inl, inr, ℕ, suc, fold, Bool, true, false, refl, sym, subst, List, [], ◌∷◌, Option, Some, None, codes, is_some, if◌then◌else◌, ◌∙◌, ap, ap₂}
-use Rattle.std.specs.Prelude.{option_and_then}
-use Rattle.std.specs.List.{AllByRecursion, list_all}
-use Rattle.std.specs.Str.{bytes_eq}
-use Rattle.std.proofs.lemmas.Slice.Eq.{bytes_eq-Decides}
-use Rattle.clap.specs.Walk.{Held, Rule, Text, Walk, arg_by_index, finished, first_of, nothing_held, rows_after, to_positional, value, walked}
-use Rattle.clap.specs.Simple.{Shape, filled, new_shape, subcommand_of, with_index}
-use Rattle.clap.specs.Takes.{default_passes, is_valid, level_passes, settle_passes, step_passes, takes, walk_passes}
-use Rattle.cq_words.specs.Words.{command_for, is_value, numbered, parted, with_config, with_three, with_two}
-use Rattle.cq_words.specs.Line.{captures_in, command_found, line, numbers_in, slots_in, state_in, value_rule}
-use Rattle.cq_words.specs.declared.command.Command.{Command}
-use Rattle.cq_words.specs.declared.command.Command.TheVariants.{Audit, Check, Ideal, Pass, Resume, Run}
+use Rattle.cq_words.proofs.Terms.{common_steps, arith, rules, ◌≡◌, ◌&&◌, ℕ, suc, fold, Bool, true, false, refl, sym, List, [], ◌∷◌, Option, None, codes, is_some, if◌then◌else◌, ◌∙◌, ap, ap₂, option_and_then, AllByRecursion, list_all, bytes_eq, bytes_eq-Decides, Held, Rule, Text, Walk, arg_by_index, finished, first_of, nothing_held, rows_after, to_positional, value, walked, Shape, filled, new_shape, subcommand_of, with_index, default_passes, is_valid, level_passes, settle_passes, step_passes, takes, walk_passes, command_for, is_value, with_config, captures_in, command_found, line, numbers_in, slots_in, state_in, value_rule, Command}
 use Rattle.cq_words.proofs.Plain.{at, value_taken, value_walked}
 
 -- the value of a place, as `clap` fills it in
@@ -70,6 +58,14 @@ AreTaken word rules w place (v ∷ vs) =
 abbrev AreValues : List Text → Type 0
 AreValues vs = AllByRecursion (λ v. is_value v ≡ true) vs
 
+all_are : (vs : List Text) → AreValues vs → list_all is_value vs ≡ true
+all_are [] are = refl
+all_are (v ∷ vs) are = ap₂ ◌&&◌ are.0 (all_are vs are.1)
+
+-- the words are split into what they are, and `clap` takes them
+abbrev pub IsSplit : List Text → Type 0
+IsSplit words = (command_found (subcommand_of line words) ≡ command_for words) × (takes line words ≡ true)
+
 module _ (word : Text) (rules : List Rule) where
   values_walked : (w : Walk) (place : ℕ) (vs : List Text) → AreValues vs → AreTaken word rules w place vs →
       fold (walked rules []) w vs ≡ walked_to rules w place vs
@@ -81,10 +77,9 @@ module _ (word : Text) (rules : List Rule) where
       walk_passes (leaf word rules) [] w vs ≡ true
   unfolding walk_passes
   walk_taken w place [] are taken = refl
-  walk_taken w place (v ∷ vs) are taken =
-      ap (λ (u : Walk). walk_passes (leaf word rules) [] u (v ∷ vs)) taken.0
-      ∙ ap₂ ◌&&◌ (value_taken (leaf word rules) w.held place v are.0 ∙ taken.1)
-      (ap (λ (u : Walk). walk_passes (leaf word rules) [] u vs) (value_walked rules w.held place v are.0)
+  walk_taken w place (v ∷ vs) are taken = ap (λ (u : Walk). walk_passes (leaf word rules) [] u (v ∷ vs)) taken.0
+      ∙ ap₂ ◌&&◌ (value_taken (leaf word rules) w.held place v are.0 ∙ taken.1) (ap
+      (λ (u : Walk). walk_passes (leaf word rules) [] u vs) (value_walked rules w.held place v are.0)
       ∙ walk_taken (after rules w.held place v) (suc place) vs are.1 taken.2)
 
   module _ (vs : List Text) (are : AreValues vs) (taken : AreTaken word rules (at nothing_held 1) 1 vs) where
@@ -98,186 +93,87 @@ module _ (word : Text) (rules : List Rule) where
     passes : end_passes (leaf word rules) end ≡ true → level_passes (leaf word rules) [] nothing_held vs false ≡ true
     passes ends = grind (arith, common_steps, walk_taken, values_walked)
 
--- the words are split into what they are, and `clap` takes them
-abbrev pub IsSplit : List Text → Type 0
-IsSplit words = (command_found (subcommand_of line words) ≡ command_for words) × (takes line words ≡ true)
-
--- ---- one value
-
-config_split : (word v : Text) → is_value v ≡ true → AreTaken word config_rules (at nothing_held 1) 1 (v ∷ [])
-    → end_passes (leaf word config_rules) (walked_to config_rules (at nothing_held 1) 1 (v ∷ [])) ≡ true
-    → command_found (subcommand_of line (word ∷ v ∷ []))
-    ≡ option_and_then (with_config word) (first_of (codes "CONFIG") (rows_after config_rules [] (v ∷ [])))
-    → takes line (word ∷ v ∷ []) ≡ (level_passes (leaf word config_rules) [] nothing_held (v ∷ []) false && true)
-    → IsSplit (word ∷ v ∷ [])
-config_split word v is taken ends splits asks = (
-  splits ∙ ap (option_and_then (with_config word)) (found word config_rules (v ∷ []) (is, tt) taken (codes "CONFIG"))
-      ∙ sym (ap (λ (b : Bool). if b && true then with_config word v else None) is),
-  asks ∙ ap (λ (b : Bool). b && true) (passes word config_rules (v ∷ []) (is, tt) taken ends),
-)
-
--- ---- two values
-
--- A form of two values, by the command of what is found under their names.
-two_split : (word : Text) (rules : List Rule) (first second : Text)
-    (command : Option Text → Option Text → Option Command) (v u : Text) → is_value v ≡ true → is_value u ≡ true
-    → AreTaken word rules (at nothing_held 1) 1 (v ∷ u ∷ [])
-    → end_passes (leaf word rules) (walked_to rules (at nothing_held 1) 1 (v ∷ u ∷ [])) ≡ true
-    → first_of first (finished rules (walked_to rules (at nothing_held 1) 1 (v ∷ u ∷ [])).held) ≡ Some v
-    → first_of second (finished rules (walked_to rules (at nothing_held 1) 1 (v ∷ u ∷ [])).held) ≡ Some u
-    → command (Some v) (Some u) ≡ with_two word v u
-    → command_found (subcommand_of line (word ∷ v ∷ u ∷ []))
-    ≡ command (first_of first (rows_after rules [] (v ∷ u ∷ []))) (first_of second (rows_after rules [] (v ∷ u ∷ [])))
-    → takes line (word ∷ v ∷ u ∷ []) ≡ (level_passes (leaf word rules) [] nothing_held (v ∷ u ∷ []) false && true)
-    → IsSplit (word ∷ v ∷ u ∷ [])
-two_split word rules first second command v u iv iu taken ends one two is splits asks =
-    let vs : List Text = v ∷ u ∷ [] in
-    let are : AreValues vs = (iv, (iu, tt)) in (
-      splits ∙ ap₂ command (found word rules vs are taken first ∙ one) (found word rules vs are taken second ∙ two) ∙ is
-          ∙ sym (ap₂ (λ (a b : Bool). if a && (b && true) then with_two word v u else None) iv iu),
-      asks ∙ ap (λ (b : Bool). b && true) (passes word rules vs are taken ends),
-    )
-
--- ---- three values
-
--- A form of three values, by the command of what is found under their names.
-three_split : (word : Text) (rules : List Rule) (first second third : Text)
-    (command : Option Text → Option Text → Option Text → Option Command) (v u t : Text)
-    → is_value v ≡ true → is_value u ≡ true → is_value t ≡ true
-    → AreTaken word rules (at nothing_held 1) 1 (v ∷ u ∷ t ∷ [])
-    → end_passes (leaf word rules) (walked_to rules (at nothing_held 1) 1 (v ∷ u ∷ t ∷ [])) ≡ true
-    → first_of first (finished rules (walked_to rules (at nothing_held 1) 1 (v ∷ u ∷ t ∷ [])).held) ≡ Some v
-    → first_of second (finished rules (walked_to rules (at nothing_held 1) 1 (v ∷ u ∷ t ∷ [])).held) ≡ Some u
-    → first_of third (finished rules (walked_to rules (at nothing_held 1) 1 (v ∷ u ∷ t ∷ [])).held) ≡ Some t
-    → command (Some v) (Some u) (Some t) ≡ with_three word v u t
-    → command_found (subcommand_of line (word ∷ v ∷ u ∷ t ∷ []))
-    ≡ command (first_of first (rows_after rules [] (v ∷ u ∷ t ∷ [])))
-    (first_of second (rows_after rules [] (v ∷ u ∷ t ∷ []))) (first_of third (rows_after rules [] (v ∷ u ∷ t ∷ [])))
-    → takes line (word ∷ v ∷ u ∷ t ∷ [])
-    ≡ (level_passes (leaf word rules) [] nothing_held (v ∷ u ∷ t ∷ []) false && true)
-    → IsSplit (word ∷ v ∷ u ∷ t ∷ [])
-three_split word rules first second third command v u t iv iu it taken ends one two three is splits asks =
-    let vs : List Text = v ∷ u ∷ t ∷ [] in
-    let are : AreValues vs = (iv, (iu, (it, tt))) in (
-      splits
-          ∙ ap₂ (λ (a b : Option Text). command a b (first_of third (rows_after rules [] vs)))
-          (found word rules vs are taken first ∙ one) (found word rules vs are taken second ∙ two)
-          ∙ ap (command (Some v) (Some u)) (found word rules vs are taken third ∙ three) ∙ is
-          ∙ sym (ap₂ (λ (a b : Bool). if a && (b && (is_value t && true)) then with_three word v u t else None) iv iu
-          ∙ ap (λ (b : Bool). if b && true then with_three word v u t else None) it),
-      asks ∙ ap (λ (b : Bool). b && true) (passes word rules vs are taken ends),
+    -- a form whose command is made of what is found under the names of its values
+    form_split : (command : (Text → Option Text) → Option Command) → end_passes (leaf word rules) end ≡ true
+        → command_found (subcommand_of line (word ∷ vs)) ≡ command (λ name. first_of name (rows_after rules [] vs))
+        → command_for (word ∷ vs)
+        ≡ (if list_all is_value vs then command (λ name. first_of name (finished rules end.held)) else None)
+        → takes line (word ∷ vs) ≡ (level_passes (leaf word rules) [] nothing_held vs false && true)
+        → IsSplit (word ∷ vs)
+    form_split command ends splits is asks = (
+      splits ∙ ap command (λ k name. found name k) ∙ sym (is
+          ∙ ap (λ (b : Bool). if b then command (λ name. first_of name (finished rules end.held)) else None)
+          (all_are vs are)),
+      asks ∙ ap (λ (b : Bool). b && true) (passes ends),
     )
 
 -- ---- all words that are a command
 
-is_text : (word text : Text) → bytes_eq word text ≡ true → word ≡ text
-is_text word text e = (bytes_eq-Decides word text).0 e
+-- what has the form of a command is values, and a command
+command_values : (vs : List Text) (x : Option Command) → is_some (if list_all is_value vs then x else None) ≡ true →
+    AreValues vs × (is_some x ≡ true)
+command_values [] x h = (tt, h)
+command_values (v ∷ vs) x h = go (is_value v) refl (command_values vs x) h
+  where
+    Made : Bool → List Text → Type 0
+    Made b vs = is_some (if b then x else None) ≡ true → AreValues vs × (is_some x ≡ true)
 
-config_tests : (x y z u : Command) (a b c d e : Bool)
-    →
-    is_some (if a
-    && true then
-    (if b then Some x else if c then Some y else if d then Some z else if e then Some u else None)
-    else None) ≡ true
-    → (a ≡ true) × ((b ≡ true) ⊎ ((c ≡ true) ⊎ ((d ≡ true) ⊎ (e ≡ true))))
-config_tests x y z u true true c d e h = (refl, inl refl)
-config_tests x y z u true false true d e h = (refl, inr (inl refl))
-config_tests x y z u true false false true e h = (refl, inr (inr (inl refl)))
-config_tests x y z u true false false false true h = (refl, inr (inr (inr refl)))
-config_tests x y z u true false false false false h = let bad : false ≡ true = h in cc
-config_tests x y z u false b c d e h = let bad : false ≡ true = h in cc
+    go : (b : Bool) → is_value v ≡ b → Made (list_all is_value vs) vs → Made (b && list_all is_value vs) (v ∷ vs)
+    go true e rest h = let r = rest h in ((e, r.0), r.1)
+    go false e rest h = let bad : false ≡ true = h in cc
 
--- what is said of a word is said of a word that reads the same
-said : (word known : Text) (rest : List Text) → bytes_eq word known ≡ true → IsSplit (known ∷ rest) →
-    IsSplit (word ∷ rest)
-said word known rest e split = subst (λ (w : Text). IsSplit (w ∷ rest)) (sym (is_text word known e)) split
+-- a word that reads the same as a known one is split as that is, and of another one the other words are asked
+chosen : (word known : Text) (vs : List Text) (x y : Option Command) →
+    is_some (if bytes_eq word known then x else y) ≡ true → IsSplit (known ∷ vs) →
+    (is_some y ≡ true → IsSplit (word ∷ vs)) → IsSplit (word ∷ vs)
+chosen word known vs x y h here other = go (bytes_eq word known) refl h
+  where
+    go : (b : Bool) → bytes_eq word known ≡ b → is_some (if b then x else y) ≡ true → IsSplit (word ∷ vs)
+    go true e h = search (rules, bytes_eq-Decides)
+    go false e h = other h
 
-config_case : (word v : Text) → is_value v ≡ true
-    →
-    (bytes_eq word (codes "check") ≡ true)
-    ⊎ ((bytes_eq word (codes "ideal") ≡ true)
-    ⊎ ((bytes_eq word (codes "run") ≡ true) ⊎ (bytes_eq word (codes "audit") ≡ true)))
-    → IsSplit (word ∷ v ∷ [])
-unfolding walked walk_passes
-config_case word v is (inl e) = search (rules, said, config_split)
-config_case word v is (inr (inl e)) = search (rules, said, config_split)
-config_case word v is (inr (inr (inl e))) = search (rules, said, config_split)
-config_case word v is (inr (inr (inr e))) = search (rules, said, config_split)
+none_left : (words : List Text) → false ≡ true → IsSplit words
+none_left words bad = cc
 
-config_words : (word v : Text) → is_some (command_for (word ∷ v ∷ [])) ≡ true → IsSplit (word ∷ v ∷ [])
-config_words word v h =
-    let tests =
-    config_tests (Check v) (Ideal v) (Run v) (Audit v) (is_value v) (bytes_eq word (codes "check"))
-    (bytes_eq word (codes "ideal")) (bytes_eq word (codes "run")) (bytes_eq word (codes "audit")) h in
-    config_case word v tests.0 tests.1
-
-two_tests : (x y : Command) (a b c d : Bool)
-    → is_some (if a && (b && true) then (if c then Some x else if d then Some y else None) else None) ≡ true
-    → (a ≡ true) × ((b ≡ true) × ((c ≡ true) ⊎ (d ≡ true)))
-two_tests x y true true true d h = (refl, (refl, inl refl))
-two_tests x y true true false true h = (refl, (refl, inr refl))
-two_tests x y true true false false h = let bad : false ≡ true = h in cc
-two_tests x y true false c d h = let bad : false ≡ true = h in cc
-two_tests x y false b c d h = let bad : false ≡ true = h in cc
-
-two_case : (word v u : Text) → is_value v ≡ true → is_value u ≡ true
-    → (bytes_eq word (codes "pass") ≡ true) ⊎ (bytes_eq word (codes "resume") ≡ true) → IsSplit (word ∷ v ∷ u ∷ [])
-unfolding walked walk_passes
-two_case word v u iv iu (inl e) =
-    said word (codes "pass") (v ∷ u ∷ []) e
-    (two_split (codes "pass") pass_rules (codes "IN") (codes "OUT") captures_in v u iv iu
-    (refl, refl, (refl, refl, tt)) refl refl refl refl refl refl)
-two_case word v u iv iu (inr e) =
-    said word (codes "resume") (v ∷ u ∷ []) e
-    (two_split (codes "resume") resume_rules (codes "CONFIG") (codes "STATE") state_in v u iv iu
-    (refl, refl, (refl, refl, tt)) refl refl refl refl refl refl)
-
-two_words : (word v u : Text) → is_some (command_for (word ∷ v ∷ u ∷ [])) ≡ true → IsSplit (word ∷ v ∷ u ∷ [])
-two_words word v u h =
-    let tests =
-    two_tests (Pass v u) (Resume v u) (is_value v) (is_value u) (bytes_eq word (codes "pass"))
-    (bytes_eq word (codes "resume")) h in
-    two_case word v u tests.0 tests.1.0 tests.1.1
-
-three_tests : (x y : Option Command) (a b c d e : Bool)
-    → is_some (if a && (b && (c && true)) then (if d then x else if e then y else None) else None) ≡ true
-    → (a ≡ true) × ((b ≡ true) × ((c ≡ true) × ((d ≡ true) ⊎ (e ≡ true))))
-three_tests x y true true true true e h = (refl, (refl, (refl, inl refl)))
-three_tests x y true true true false true h = (refl, (refl, (refl, inr refl)))
-three_tests x y true true true false false h = let bad : false ≡ true = h in cc
-three_tests x y true true false d e h = let bad : false ≡ true = h in cc
-three_tests x y true false c d e h = let bad : false ≡ true = h in cc
-three_tests x y false b c d e h = let bad : false ≡ true = h in cc
-
-three_case : (word v u t : Text) → is_value v ≡ true → is_value u ≡ true → is_value t ≡ true
-    → (bytes_eq word (codes "soak") ≡ true) ⊎ (bytes_eq word (codes "part") ≡ true) → IsSplit (word ∷ v ∷ u ∷ t ∷ [])
-unfolding walked walk_passes
-three_case word v u t iv iu it (inl e) =
-    said word (codes "soak") (v ∷ u ∷ t ∷ []) e
-    (three_split (codes "soak") soak_rules (codes "SEED") (codes "PORTS") (codes "SLOTS") numbers_in v u t
-    iv iu it (refl, refl, (refl, refl, (refl, refl, tt))) refl refl refl refl refl refl refl)
-three_case word v u t iv iu it (inr e) =
-    said word (codes "part") (v ∷ u ∷ t ∷ []) e
-    (three_split (codes "part") part_rules (codes "CONFIG") (codes "SLOTS") (codes "STATE") slots_in v u t
-    iv iu it (refl, refl, (refl, refl, (refl, refl, tt))) refl refl refl refl refl refl refl)
-
-three_words : (word v u t : Text) → is_some (command_for (word ∷ v ∷ u ∷ t ∷ [])) ≡ true →
-    IsSplit (word ∷ v ∷ u ∷ t ∷ [])
-three_words word v u t h =
-    let tests =
-    three_tests (numbered v u t) (parted v u t) (is_value v) (is_value u) (is_value t)
-    (bytes_eq word (codes "soak")) (bytes_eq word (codes "part")) h in
-    three_case word v u t tests.0 tests.1.0 tests.1.1.0 tests.1.1.1
-
-never_a_command : (b : Bool) → is_some (if◌then◌else◌ {A = Option Command} b None None) ≡ true → ⊥
-never_a_command true h = let bad : false ≡ true = h in cc
-never_a_command false h = let bad : false ≡ true = h in cc
+-- the command of one value
+abbrev config_of : Text → (Text → Option Text) → Option Command
+config_of word get = option_and_then (with_config word) (get (codes "CONFIG"))
 
 -- `clap` splits the words of each command, and takes them
 pub command_split : (words : List Text) → is_some (command_for words) ≡ true → IsSplit words
+unfolding walked walk_passes
 command_split [] h = let bad : false ≡ true = h in cc
 command_split (word ∷ []) h = let bad : false ≡ true = h in cc
-command_split (word ∷ v ∷ []) h = config_words word v h
-command_split (word ∷ v ∷ u ∷ []) h = two_words word v u h
-command_split (word ∷ v ∷ u ∷ t ∷ []) h = three_words word v u t h
-command_split (word ∷ a ∷ b ∷ c ∷ d ∷ rest) h = absurd (never_a_command (list_all is_value (a ∷ b ∷ c ∷ d ∷ rest)) h)
+command_split (word ∷ v ∷ []) h =
+    let vs : List Text = v ∷ [] in
+    let w = command_values vs _ h in
+    chosen word (codes "check") vs _ _ w.1
+    (form_split (codes "check") config_rules vs w.0 (refl, refl, tt) (config_of (codes "check")) refl refl refl refl)
+    (λ h. chosen word (codes "ideal") vs _ _ h
+    (form_split (codes "ideal") config_rules vs w.0 (refl, refl, tt) (config_of (codes "ideal")) refl refl refl refl)
+    (λ h. chosen word (codes "run") vs _ _ h
+    (form_split (codes "run") config_rules vs w.0 (refl, refl, tt) (config_of (codes "run")) refl refl refl refl)
+    (λ h. chosen word (codes "audit") vs _ _ h
+    (form_split (codes "audit") config_rules vs w.0 (refl, refl, tt) (config_of (codes "audit")) refl refl refl refl)
+    (none_left (word ∷ vs)))))
+command_split (word ∷ v ∷ u ∷ []) h =
+    let vs : List Text = v ∷ u ∷ [] in
+    let w = command_values vs _ h in
+    chosen word (codes "pass") vs _ _ w.1
+    (form_split (codes "pass") pass_rules vs w.0 (refl, refl, (refl, refl, tt))
+    (λ get. captures_in (get (codes "IN")) (get (codes "OUT"))) refl refl refl refl)
+    (λ h. chosen word (codes "resume") vs _ _ h
+    (form_split (codes "resume") resume_rules vs w.0 (refl, refl, (refl, refl, tt))
+    (λ get. state_in (get (codes "CONFIG")) (get (codes "STATE"))) refl refl refl refl)
+    (none_left (word ∷ vs)))
+command_split (word ∷ v ∷ u ∷ t ∷ []) h =
+    let vs : List Text = v ∷ u ∷ t ∷ [] in
+    let w = command_values vs _ h in
+    chosen word (codes "soak") vs _ _ w.1
+    (form_split (codes "soak") soak_rules vs w.0 (refl, refl, (refl, refl, (refl, refl, tt)))
+    (λ get. numbers_in (get (codes "SEED")) (get (codes "PORTS")) (get (codes "SLOTS"))) refl refl refl refl)
+    (λ h. chosen word (codes "part") vs _ _ h
+    (form_split (codes "part") part_rules vs w.0 (refl, refl, (refl, refl, (refl, refl, tt)))
+    (λ get. slots_in (get (codes "CONFIG")) (get (codes "SLOTS")) (get (codes "STATE"))) refl refl refl refl)
+    (none_left (word ∷ vs)))
+command_split (word ∷ a ∷ b ∷ c ∷ d ∷ rest) h = search (arith, rules)

@@ -1,18 +1,6 @@
 -- The transfers, noted input by input: the next one is put at the end, and no input and no output is in two of them.
-use Rattle.std.proofs.lemmas.Grind.{common_steps}
-use Rattle.std.proofs.Common.{◌≡◌, ℕ, suc, ◌+◌, ◌≤◌, List, [], ◌∷◌, ◌++◌, length, Option, Some, None, refl, arith}
-use Rattle.std.specs.List.{range_with_len, filter_map, cons_option}
-use Rattle.std.specs.Option.{option_to_list}
-use Rattle.std.proofs.lemmas.List.{append-nil}
-use Rattle.std.proofs.lemmas.List.FromFn.{length-range_with_len}
-use Rattle.std.proofs.lemmas.List.Elements.{filter_map-append}
-use Rattle.cq_base.specs.declared.cell.Queued.{Queued}
-use Rattle.cq_base.specs.declared.cell.Transfer.{Transfer}
-use Rattle.cq_base.specs.Cells.{first_for}
-use Rattle.cq_prefs.specs.FirstCells.{list_of}
+use Rattle.cq_xbar.proofs.Terms.{rules, ◌≡◌, ℕ, ◌+◌, ◌≤◌, List, [], ◌∷◌, ◌++◌, length, Option, Some, None, refl, arith, common_steps, range_with_len, filter_map, option_to_list, append-nil, length-range_with_len, filter_map-append, Queued, Transfer, first_for, list_of, noted, transfers_of, Partners, partner_of}
 use Rattle.cq_prefs.proofs.Members.{range_next}
-use Rattle.cq_prefs.specs.Moves.{noted, transfers_of}
-use Rattle.cq_prefs.specs.Pairing.{Partners, partner_of}
 
 -- the transfers of the inputs below n
 pub noted_until : Partners → List (List Queued) → ℕ → ℕ → ℕ → List Transfer
@@ -28,14 +16,10 @@ pub noted_none : (m : Partners) (lists : List (List Queued)) (slot phase : ℕ) 
 unfolding noted_until
 noted_none m lists slot phase = refl
 
-one_or_none : {X : Type 0} (o : Option X) → cons_option o [] ≡ option_to_list o
-one_or_none None = refl
-one_or_none (Some x) = refl
-
 -- what is kept of one number more
 pub kept_more : {X : Type 0} (f : ℕ → Option X) (n : ℕ) →
     filter_map f (range_with_len 0 (n + 1)) ≡ filter_map f (range_with_len 0 n) ++ option_to_list (f n)
-kept_more f n = grind (arith, common_steps, range_next, filter_map-append, one_or_none)
+kept_more f n = search (arith, rules, range_next, filter_map-append)
 
 noted_more : (m : Partners) (lists : List (List Queued)) (slot phase n : ℕ) →
     noted_until m lists slot phase (n + 1)
@@ -56,12 +40,7 @@ noted_one m lists slot phase n j c p found = grind (arith, common_steps, noted_m
 
 mapped_few : {X Y : Type 0} (f : X → Option Y) (xs : List X) → length (filter_map f xs) ≤ length xs
 mapped_few f [] = omega arith
-mapped_few f (x ∷ xs) = go (f x) (mapped_few f xs)
-  where
-    go : (o : Option _) → length (filter_map f xs) ≤ length xs →
-        length (cons_option o (filter_map f xs)) ≤ suc (length xs)
-    go None l = omega arith
-    go (Some y) l = omega arith
+mapped_few f (x ∷ xs) = grind (arith, common_steps, mapped_few f xs)
 
 -- one transfer an input at most
 pub noted_few : (m : Partners) (lists : List (List Queued)) (slot phase n : ℕ) →

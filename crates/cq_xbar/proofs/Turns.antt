@@ -1,21 +1,8 @@
 -- The transfer of a matching, input by input. Once the inputs below n had their turn, their lists are without their
 -- first cells for their partners, the buffers of these partners have the cells, and all else is as before. No output
 -- has two partners, so the buffer that the next cell comes to is as before.
-use Rattle.std.proofs.lemmas.Grind.{common_steps}
-use Rattle.std.proofs.Common.{rules, ◌≡◌, ◌≢◌, ℕ, zero, suc, ◌+◌, ◌-◌, ◌<◌, ◌≤◌, cond, List, [], ◌∷◌, length, map, get_or, set, Option, Some, None, refl, sym, ap, ◌∙◌, subst, arith}
-use Rattle.std.specs.Prelude.{is_some}
+use Rattle.cq_xbar.proofs.Terms.{common_steps, rules, ◌≡◌, ◌≢◌, ℕ, zero, suc, ◌+◌, ◌-◌, ◌<◌, ◌≤◌, cond, List, [], ◌∷◌, length, map, get_or, set, Option, Some, None, refl, sym, ap, ◌∙◌, subst, arith, is_some, cases_lt, same_Some, length-map, length-set, get_or_past, get_or-set_same, get_or-set_other, ext_get_or, Queued, HasOtherKey, put, first_for, without_first, Waiting, cells_of, Buffered, cells_in, list_of, HasCellFor, Moves, Partners, partner_of, ArePairs, HaveCells, KeysAreNew, HaveRoom, MovesRoom, list_spare, buffer_spare}
 use Rattle.std.proofs.Math.ListN.{get_or-map}
-use Rattle.std.proofs.lemmas.Bool.{cases_lt}
-use Rattle.std.proofs.lemmas.Option.{same_Some}
-use Rattle.std.proofs.lemmas.List.{length-map, length-set, get_or_past, get_or-set_same, get_or-set_other, ext_get_or}
-use Rattle.cq_base.specs.declared.cell.Queued.{Queued}
-use Rattle.cq_base.specs.Cells.{HasOtherKey, put, first_for, without_first}
-use Rattle.cq_list.specs.InputList.{Waiting, cells_of}
-use Rattle.cq_urgency.specs.OutputBuffer.{Buffered, cells_in}
-use Rattle.cq_prefs.specs.FirstCells.{list_of, HasCellFor}
-use Rattle.cq_prefs.specs.Moves.{Moves, list_taken}
-use Rattle.cq_prefs.specs.Pairing.{Partners, partner_of, ArePairs}
-use Rattle.cq_xbar.specs.Crossbar.{HaveCells, KeysAreNew, HaveRoom, MovesRoom, list_spare, buffer_spare}
 
 -- ## The lists and the buffers
 
@@ -50,7 +37,7 @@ cells_in-at : (buffers : List Buffered) (j : ℕ) → list_of (cells_in buffers)
 unfolding buffer_at no_buffer
 cells_in-at buffers j = get_or-map (λ (b : Buffered). b.cells) buffers j no_buffer
 
-list_spare-at : (lists : List Waiting) (i : ℕ) → list_spare lists i ≡ (list_at lists i).spare
+pub list_spare-at : (lists : List Waiting) (i : ℕ) → list_spare lists i ≡ (list_at lists i).spare
 unfolding list_at no_list
 list_spare-at lists i = get_or-map (λ (w : Waiting). w.spare) lists i no_list
 
@@ -62,6 +49,11 @@ get_or_in : {X : Type 0} (xs : List X) (i : ℕ) (d e : X) → i < length xs →
 get_or_in [] i d e l = absurd (omega arith)
 get_or_in (x ∷ xs) zero d e l = refl
 get_or_in (x ∷ xs) (suc i) d e l = get_or_in xs i d e (omega arith)
+
+-- an input with a partner has a cell for it
+cell_there : (m : Partners) (lists : List Waiting) (n j : ℕ) → HaveCells m (cells_of lists) →
+    partner_of m n ≡ Some j → HasCellFor (list_at lists n).cells j
+cell_there m lists n j have p = let found = have n j p in (found.0, ap (first_for j) (sym (cells-at lists n)) ∙ found.1)
 
 -- ## Input by input
 
@@ -79,66 +71,72 @@ pub crossed_none : (m : Partners) (lists : List Waiting) (buffers : List Buffere
     Crossed m lists buffers 0 lists buffers
 crossed_none m lists buffers = grind (arith, common_steps)
 
-module _ (m : Partners) (lists : List Waiting) (buffers : List Buffered) (n : ℕ) (lists' : List Waiting)
-    (buffers' : List Buffered) (x : Crossed m lists buffers n lists' buffers') where
-  -- the next input has no partner
-  pub crossed_past : partner_of m n ≡ None → Crossed m lists buffers (n + 1) lists' buffers'
-  crossed_past none = search (rules, cases_lt)
-
-  -- the next input's list is as before
-  pub next_list : (d : Waiting) → n < length lists → get_or lists' n d ≡ list_at lists n
-  unfolding list_at
-  next_list d l = get_or_in lists' n d no_list (omega arith) ∙ x.waits n (omega arith)
-
-  -- and so is the buffer of its partner
-  pub next_buffer : (j : ℕ) (d : Buffered) → length buffers ≡ length m → ArePairs m → partner_of m n ≡ Some j →
-      get_or buffers' j d ≡ buffer_at buffers j
-  unfolding buffer_at
-  next_buffer j d as_many pairs p = search (rules, get_or_in, pairs.ports, pairs.once)
-
-  -- the next input's first cell for its partner crosses
-  pub crossed_one : (j : ℕ) (c : Queued) (w : Waiting) (b : Buffered) → ArePairs m → partner_of m n ≡ Some j →
-      first_for j (list_at lists n).cells ≡ Some c → n < length lists → j < length buffers →
-      w ≡ list_left (Some j) (list_at lists n) → b ≡ with_cell c (buffer_at buffers j) →
-      Crossed m lists buffers (n + 1) (set lists' n w) (set buffers' j b)
-  unfolding list_at buffer_at
-  crossed_one j c w b pairs p first inside there is_left is_with =
-      search (rules, length-set, get_or-set_other, get_or-set_same, cases_lt, pairs.once, same_Some)
-
--- what a taken list is, by its parts
-pub left_by : (j : ℕ) (w w' : Waiting) (r : Option Queued) (c : Queued) → r ≡ Some c →
+-- what a taken list is, and a buffer with a cell more, by their parts
+left_by : (j : ℕ) (w w' : Waiting) (r : Option Queued) (c : Queued) → r ≡ Some c →
     w'.cells ≡ without_first j w.cells → w'.outputs ≡ w.outputs → w'.spare ≡ w.spare + cond (is_some r) 1 0 →
     w' ≡ list_left (Some j) w
 left_by j w w' r c some cells outputs spare = grind (arith, common_steps)
 
--- what a buffer with a cell more is, by its parts
-pub with_by : (c : Queued) (b b' : Buffered) → b'.cells ≡ put c b.cells → b'.spare + 1 ≡ b.spare → b' ≡ with_cell c b
+with_by : (c : Queued) (b b' : Buffered) → b'.cells ≡ put c b.cells → b'.spare + 1 ≡ b.spare → b' ≡ with_cell c b
 with_by c b b' cells spare = grind (arith, common_steps, b.spare)
 
--- ## What the transfer asks for
+module _ {m : Partners} {lists : List Waiting} {buffers : List Buffered} {n : ℕ} {lists' : List Waiting}
+    {buffers' : List Buffered} (x : Crossed m lists buffers n lists' buffers') where
+  -- the next input has no partner
+  pub crossed_past : partner_of m n ≡ None → Crossed m lists buffers (n + 1) lists' buffers'
+  crossed_past none = search (rules, cases_lt)
 
-pub cell_there : (m : Partners) (lists : List Waiting) (n j : ℕ) → HaveCells m (cells_of lists) →
-    partner_of m n ≡ Some j → HasCellFor (list_at lists n).cells j
-cell_there m lists n j have p = let found = have n j p in (found.0, ap (first_for j) (sym (cells-at lists n)) ∙ found.1)
+  -- the next input's list is as before, and has a cell for its partner
+  next_list : (d : Waiting) → n < length lists → get_or lists' n d ≡ list_at lists n
+  unfolding list_at
+  next_list d l = get_or_in lists' n d no_list (omega arith) ∙ x.waits n (omega arith)
 
-pub key_is_new : (m : Partners) (lists : List Waiting) (buffers : List Buffered) (n j : ℕ) (c : Queued) →
-    KeysAreNew m (cells_of lists) (cells_in buffers) → partner_of m n ≡ Some j →
-    first_for j (list_at lists n).cells ≡ Some c → HasOtherKey c (buffer_at buffers j).cells
-key_is_new m lists buffers n j c new p found = search (arith, rules, cells_in-at buffers j, cells-at lists n)
+  pub cell_next : (j : ℕ) (d : Waiting) → HaveCells m (cells_of lists) → partner_of m n ≡ Some j →
+      n < length lists → HasCellFor (get_or lists' n d).cells j
+  cell_next j d have p inside = rw (next_list d inside) (cell_there m lists n j have p)
 
-pub room_there : (m : Partners) (buffers : List Buffered) (n j : ℕ) → HaveRoom m buffers → partner_of m n ≡ Some j →
-    0 < (buffer_at buffers j).spare
-room_there m buffers n j room p = subst (λ s. 0 < s) (buffer_spare-at buffers j) (room n j p)
+  module _ (j : ℕ) (e : Buffered) (pairs : ArePairs m) (p : partner_of m n ≡ Some j)
+      (as_many : length buffers ≡ length m) where
+    -- and so is the buffer of its partner
+    next_buffer : get_or buffers' j e ≡ buffer_at buffers j
+    unfolding buffer_at
+    next_buffer = search (rules, get_or_in, pairs.ports, pairs.once)
+
+    pub room_next : HaveRoom m buffers → 0 < (get_or buffers' j e).spare
+    room_next room = rw next_buffer (subst (λ s. 0 < s) (buffer_spare-at buffers j) (room n j p))
+
+    -- the next input's first cell for its partner crosses
+    crossed_one : (c : Queued) (w : Waiting) (b : Buffered) → first_for j (list_at lists n).cells ≡ Some c →
+        n < length lists → w ≡ list_left (Some j) (list_at lists n) → b ≡ with_cell c (buffer_at buffers j) →
+        Crossed m lists buffers (n + 1) (set lists' n w) (set buffers' j b)
+    unfolding list_at buffer_at
+    crossed_one c w b first inside is_left is_with =
+        let there : j < length buffers = let within = pairs.ports n j p in omega arith in
+        search (rules, length-set, get_or-set_other, get_or-set_same, cases_lt, pairs.once, same_Some)
+
+    -- as is seen of a list and a buffer that were read, and of what was taken and put
+    module _ (d : Waiting) (r : Option Queued) (c : Queued) (inside : n < length lists)
+        (first : r ≡ first_for j (get_or lists' n d).cells) (some : r ≡ Some c) where
+      pub first_crosses : first_for j (list_of (cells_of lists) n) ≡ Some c
+      first_crosses = cc (cells-at lists n, next_list d inside)
+
+      pub key_next : KeysAreNew m (cells_of lists) (cells_in buffers) → HasOtherKey c (get_or buffers' j e).cells
+      key_next new = rw (next_buffer, ← (cells_in-at buffers j)) (new n j c p first_crosses)
+
+      pub crossed_more : (w : Waiting) (b : Buffered) → w.cells ≡ without_first j (get_or lists' n d).cells →
+          w.outputs ≡ (get_or lists' n d).outputs → w.spare ≡ (get_or lists' n d).spare + cond (is_some r) 1 0 →
+          b.cells ≡ put c (get_or buffers' j e).cells → b.spare + 1 ≡ (get_or buffers' j e).spare →
+          Crossed m lists buffers (n + 1) (set lists' n w) (set buffers' j b)
+      crossed_more w b cells outputs spare filled less =
+          crossed_one c w b (sym (ap (first_for j) (cells-at lists n)) ∙ first_crosses) inside
+          (rw (← (next_list d inside)) (left_by j (get_or lists' n d) w r c some cells outputs spare))
+          (rw (← next_buffer) (with_by c (get_or buffers' j e) b filled less))
 
 -- ## After the last input
 
 -- who has a partner is an input
 partner_inside : (m : Partners) (i j : ℕ) → partner_of m i ≡ Some j → i < length m
 partner_inside m i j p = grind (arith, common_steps, get_or_past, cases_lt)
-
-cells_left : (p : Option ℕ) (w : Waiting) → (list_left p w).cells ≡ list_taken p w.cells
-cells_left None w = refl
-cells_left (Some j) w = refl
 
 spare_left : (p : Option ℕ) (w : Waiting) → (list_left p w).spare ≡ w.spare + cond (is_some p) 1 0
 spare_left None w = omega arith
@@ -148,8 +146,8 @@ outputs_left : (p : Option ℕ) (w : Waiting) → (list_left p w).outputs ≡ w.
 outputs_left None w = refl
 outputs_left (Some j) w = refl
 
-module _ (m : Partners) (lists : List Waiting) (buffers : List Buffered) (lists' : List Waiting)
-    (buffers' : List Buffered) (n : ℕ) (until : Crossed m lists buffers n lists' buffers') (end : n ≡ length m) where
+module _ {m : Partners} {lists : List Waiting} {buffers : List Buffered} {lists' : List Waiting}
+    {buffers' : List Buffered} {n : ℕ} (until : Crossed m lists buffers n lists' buffers') (end : n ≡ length m) where
   x : Crossed m lists buffers (length m) lists' buffers'
   x = subst (λ k. Crossed m lists buffers k lists' buffers') end until
 
@@ -157,7 +155,7 @@ module _ (m : Partners) (lists : List Waiting) (buffers : List Buffered) (lists'
   taken_at i = grind (arith, common_steps, get_or_past, cases_lt)
 
   pub crossed_moves : Moves m (cells_of lists) (cells_in buffers) (cells_of lists') (cells_in buffers')
-  crossed_moves = search (rules, length-map, cells-at, taken_at, cells_left, cells_in-at, partner_inside)
+  crossed_moves = search (arith, rules, length-map, cells-at, taken_at, cells_in-at, partner_inside)
 
   pub crossed_room : HaveCells m (cells_of lists) → HaveRoom m buffers → MovesRoom m lists buffers lists' buffers'
   crossed_room have room =

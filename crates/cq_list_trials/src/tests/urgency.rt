@@ -11,7 +11,7 @@ use std::alloc::Global;
 use std::test::Fail;
 
 // The newest cell comes in.
-#[tactic(auto, using(cq_base::proofs::Lists::other_key_newest, crate::proofs::Arrived::arrived_put, cq_urgency::proofs::Rising::length_put))]
+#[tactic(auto, using(cq_base::proofs::Lists::other_key_newest, crate::proofs::Arrived::arrived_put, cq_base::proofs::Putting::length_put))]
 fn come(buffer: &mut OutputBuffer, queued: Queued)
     requires spare { 0 < buffer.old.spare }
     requires newest { ArrivedBefore queued.key.slot buffer.old.cells }

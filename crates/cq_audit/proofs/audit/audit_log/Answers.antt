@@ -1,14 +1,7 @@
-use Rattle.std.proofs.Common.{rules, ◌≡◌, ℕ, List, length, map, sym, ap, ◌∙◌, subst, arith}
-use Rattle.std.specs.List.{range_with_len}
-use Rattle.std.proofs.lemmas.List.{length-map}
-use Rattle.std.proofs.lemmas.List.FromFn.{length-map-range_with_len}
-use Rattle.std.proofs.lemmas.Result.{err_from_is_err_and}
-use Rattle.cq_base.specs.declared.cell.Transfer.{Transfer}
-use Rattle.cq_cells.specs.Traffic.{is_from, is_to, number_of}
+use Rattle.cq_audit.proofs.Terms.{rules, ◌≡◌, List, length, ap, ◌∙◌, arith, length-map, length-map-range_with_len, err_from_is_err_and, Transfer, IsLog}
 use Rattle.cq_scfq.specs.Discipline.{machine_from}
-use Rattle.cq_audit.specs.Log.{AreInOrder, IsLog}
-use Rattle.cq_audit.proofs.Opened.{IsOpened, no_log, opened, ready, verdict}
-use Rattle.cq_audit.proofs.Rising.{log_in_order}
+use Rattle.cq_audit.proofs.Opened.{IsOpened, opened, ready, verdict}
+use Rattle.cq_audit.proofs.LogLines.{log_in_order}
 use Rattle.cq_audit.proofs.audit.audit_log.Goals as goal
 use Rattle.cq_audit.proofs.audit.audit_log.Goals.{After-as_slice-3, After-len-ports, In_ok-ranks}
 
@@ -38,9 +31,8 @@ pub returns-in_err-lines-clause-no : goal.returns-in_err-lines-clause-no
 returns-in_err-lines-clause-no c =
     let at = goal.at.returns-in_err-lines-clause-no c in
     let p = err_from_is_err_and c.from_residual-in_err-lines.result c.from_residual-in_err-lines.ensures.1 in
-    rw (p.1, p.2)
-    (no_log c.args.setup.now c.args.limits.now c.args.schedule.now.came c.args.log.now c.len-ports.result
-    c.in_err-lines.field-0.0 (counted at.After-len-ports ∙ ranked at.In_ok-ranks) c.in_err-lines.ensures.cause)
+    let many = counted at.After-len-ports ∙ ranked at.In_ok-ranks in
+    let cause = rw many at c.in_err-lines.ensures.cause in rw (p.1, p.2) (search (arith, rules))
 
 pub new-requires-2-clause-machines : goal.new-requires-2-clause-machines
 new-requires-2-clause-machines c = search (arith, rules, c.in_ok-ranks.ensures.one_switch)
@@ -57,32 +49,22 @@ new-requires-2-clause-to_outputs c = search (arith, rules, length-map-range_with
 pub replay_run-requires : goal.replay_run-requires
 replay_run-requires c =
     let at = goal.at.replay_run-requires c in
-    let items = c.in_ok-ranks.ranks.items in
+    let kinds = ranked at.In_ok-ranks in
     let made = c.in_ok-replay.ensures in
-    let len : c.len-ports.result ≡ length items = counted at.After-len-ports in
-    let from : ℕ → ℕ = λ i. number_of (is_from i) c.args.schedule.now.came in
-    let to : ℕ → ℕ = λ j. number_of (is_to j) c.args.schedule.now.came in
     let lines = c.as_slice-3.ensures.value in
-    let many : length c.as_slice-3.result.now ≡ length c.in_ok-lines.lines.items =
-    ap (λ (l : List Transfer). length l) lines in
-    let order = subst (λ (n : ℕ). AreInOrder n c.as_slice-3.result.now) len (subst
-    (λ (l : List Transfer). AreInOrder c.len-ports.result l) (sym lines)
-    (log_in_order c.len-ports.result c.in_ok-lines.lines.items c.args.log.now c.in_ok-lines.ensures.read)) in
-    ready machine_from c.args.setup.now c.args.limits.now c.args.schedule.now.came c.in_ok-replay.replay
-    (stands at.After-as_slice-3 (ranked at.In_ok-ranks)) c.as_slice-3.result.now c.in_ok-note.note (length items)
-    (ranked at.In_ok-ranks) made.in_step (c.in_ok-ranks.ensures.classes c.requires.some) c.requires.traffic
-    c.requires.short c.requires.ranked (made.from_inputs ∙ c.as_slice.ensures.value ∙ c.in_ok-from_inputs.ensures
-    ∙ ap (λ (n : ℕ). map from (range_with_len 0 n)) len) (made.to_outputs ∙ c.as_slice-2.ensures.value
-    ∙ c.in_ok-to_outputs.ensures ∙ ap (λ (n : ℕ). map to (range_with_len 0 n)) len) order
-    (c.in_ok-note.ensures.spare ∙ omega (arith, len, many, c.len.ensures, c.in_ok-lines.lines.ok))
+    let many = ap (λ (l : List Transfer). length l) lines in
+    let spare = c.in_ok-note.ensures.spare in
+    ready (stands at.After-as_slice-3 kinds) c.args.schedule.now.came c.as_slice-3.result.now c.in_ok-note.note
+    c.len-ports.result (counted at.After-len-ports ∙ kinds) made.in_step
+    (c.in_ok-ranks.ensures.classes c.requires.some) c.requires.traffic c.requires.short c.requires.ranked
+    (made.from_inputs ∙ c.as_slice.ensures.value ∙ c.in_ok-from_inputs.ensures)
+    (made.to_outputs ∙ c.as_slice-2.ensures.value ∙ c.in_ok-to_outputs.ensures)
+    (rw lines (log_in_order c.len-ports.result c.in_ok-lines.lines.items c.args.log.now c.in_ok-lines.ensures.read))
+    (omega (arith, many, c.len.ensures, c.in_ok-lines.lines.ok))
 
 pub returns : goal.returns
 returns c =
     let at = goal.at.returns c in
     let kinds = ranked at.In_ok-ranks in
-    let ran = at.After-as_slice-3 in
-    let told =
-    verdict machine_from c.args.setup.now c.args.limits.now c.args.schedule.now.came c.in_ok-replay.replay
-    (stands ran kinds) c.as_slice-3.result.now c.args.log.now c.replay_run.result
-    (logged ran (counted at.After-len-ports ∙ kinds)) c.replay_run.ensures in
-    record { yes = told.0; no = told.1 }
+    let many = counted at.After-len-ports in
+    let begins = stands at.After-as_slice-3 kinds in search (arith, rules, verdict, logged)

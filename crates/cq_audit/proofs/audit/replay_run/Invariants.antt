@@ -1,11 +1,9 @@
-use Rattle.std.proofs.Common.{◌-◌, map}
-use Rattle.cq_base.specs.Arriving.{enough}
-use Rattle.cq_audit.proofs.Replaying.{Replaying}
+use Rattle.cq_audit.proofs.Terms.{◌-◌, enough}
+use Rattle.cq_audit.proofs.Steps.{Replaying}
 use Rattle.cq_audit.proofs.audit.replay_run.Given as goal
 
 abbrev pub invariant-slots : goal.invariant-slots
-invariant-slots g l = Replaying (map g.R.Rank.machine l.initial.replay.fixed) l.schedule.came l.lines l.initial.replay
-    l.slot l.rest l.replay l.note
+invariant-slots g l = Replaying g.R.Rank.machine l.schedule.came l.lines l.initial.replay l.slot l.rest l.replay l.note
 
 abbrev pub decreases-slots : goal.decreases-slots
 decreases-slots g l = enough l.schedule.came - l.slot

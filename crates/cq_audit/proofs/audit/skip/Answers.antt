@@ -1,4 +1,4 @@
-use Rattle.std.proofs.Common.{arith, rules}
+use Rattle.cq_audit.proofs.Terms.{arith, rules}
 use Rattle.cq_audit.proofs.BySlot.{first_least}
 use Rattle.cq_audit.proofs.audit.skip.Goals as goal
 

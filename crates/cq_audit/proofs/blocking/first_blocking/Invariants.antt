@@ -1,5 +1,4 @@
-use Rattle.std.proofs.Common.{ℕ, ◌<◌}
-use Rattle.cq_audit.specs.Phase.{IsBlocking}
+use Rattle.cq_audit.proofs.Terms.{ℕ, ◌<◌, IsBlocking}
 use Rattle.cq_audit.proofs.blocking.first_blocking.Given as goal
 
 -- none of the inputs before this one blocks

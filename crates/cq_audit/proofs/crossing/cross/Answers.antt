@@ -1,6 +1,5 @@
-use Rattle.std.proofs.Common.{arith, rules, sym, ap, ◌∙◌}
-use Rattle.cq_prefs.specs.FirstCells.{orders_of}
-use Rattle.cq_audit.proofs.Crossings.{are_noted, have_crossed, is_matching, lists_long}
+use Rattle.cq_audit.proofs.Terms.{arith, rules, sym, ap, ◌∙◌, orders_of}
+use Rattle.cq_audit.proofs.Crossings.{are_noted, have_crossed, told_there, lists_long}
 use Rattle.cq_audit.proofs.crossing.cross.Goals as goal
 
 pub stable_told-requires-clause-offers : goal.stable_told-requires-clause-offers
@@ -10,7 +9,7 @@ pub stable_told-requires-clause-lines : goal.stable_told-requires-clause-lines
 stable_told-requires-clause-lines c = search (arith, rules, lists_long)
 
 pub cross-requires-clause-matching : goal.cross-requires-clause-matching
-cross-requires-clause-matching c = search (arith, rules, is_matching)
+cross-requires-clause-matching c = search (arith, rules, told_there)
 
 pub returns-clause-crossed : goal.returns-clause-crossed
 returns-clause-crossed c = search (arith, rules, have_crossed)

@@ -1,4 +1,4 @@
-use Rattle.cq_audit.proofs.Rising.{log_in_order}
+use Rattle.cq_audit.proofs.LogLines.{log_in_order}
 use Rattle.cq_audit.proofs.laws.logs_are_exact.Goals as goal
 
 pub returns-clause-in_order : goal.returns-clause-in_order

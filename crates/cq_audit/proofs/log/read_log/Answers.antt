@@ -1,7 +1,4 @@
-use Rattle.std.proofs.Common.{None, Some, rules, ◌≡◌, ◌∷◌, ◌++◌, []}
-use Rattle.cq_base.specs.Texts.{log_line}
-use Rattle.cq_lines.proofs.Going.{one_line_more}
-use Rattle.cq_audit.specs.Log.{Comes}
+use Rattle.cq_audit.proofs.Terms.{None, Some, rules, ◌≡◌, ◌∷◌, ◌++◌, [], log_line, one_line_more, Comes}
 use Rattle.cq_audit.proofs.log.read_log.Goals as goal
 
 pub lines-preserved : goal.lines-preserved

@@ -1,7 +1,4 @@
-use Rattle.std.proofs.Common.{None, length}
-use Rattle.cq_base.specs.Texts.{log_line}
-use Rattle.cq_lines.proofs.Going.{SoFar}
-use Rattle.cq_audit.specs.Log.{Comes}
+use Rattle.cq_audit.proofs.Terms.{None, length, log_line, SoFar, Comes}
 use Rattle.cq_audit.proofs.log.read_log.Given as goal
 
 abbrev pub invariant-lines : goal.invariant-lines

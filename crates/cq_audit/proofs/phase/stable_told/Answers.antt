@@ -1,6 +1,5 @@
-use Rattle.std.proofs.Common.{arith, rules}
-use Rattle.cq_audit.proofs.LinesMoved.{judged_stable, offers_long}
-use Rattle.cq_audit.proofs.Stable.{told_size}
+use Rattle.cq_audit.proofs.Terms.{arith, rules}
+use Rattle.cq_audit.proofs.LinesMoved.{judged_stable, offers_long, told_size}
 use Rattle.cq_audit.proofs.phase.stable_told.Goals as goal
 
 pub first_blocking-requires : goal.first_blocking-requires

@@ -1,5 +1,4 @@
-use Rattle.std.proofs.Common.{arith, rules}
-use Rattle.std.proofs.lemmas.List.{length-map}
+use Rattle.cq_audit.proofs.Terms.{arith, rules, length-map}
 use Rattle.cq_audit.proofs.Slots.{apart, come_to_ports, fit, held_fits, no_fault}
 use Rattle.cq_audit.proofs.replay.come.Goals as goal
 

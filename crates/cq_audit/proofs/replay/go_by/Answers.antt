@@ -1,5 +1,4 @@
-use Rattle.std.proofs.Common.{arith, rules, length}
-use Rattle.cq_audit.specs.Phase.{AreParted}
+use Rattle.cq_audit.proofs.Terms.{arith, rules, length, AreParted}
 use Rattle.cq_audit.proofs.replay.go_by.Goals as goal
 use Rattle.cq_audit.proofs.replay.go_by.Goals.{After-part}
 

@@ -1,7 +1,4 @@
-use Rattle.std.proofs.Common.{◌∙◌, rules, tests, eqb}
-use Rattle.std.proofs.lemmas.Iterator.{YieldsList-from_slice}
-use Rattle.std.proofs.lemmas.Iterator.Search.{find_from_yields_List}
-use Rattle.cq_base.specs.declared.cell.Transfer.{Transfer}
+use Rattle.cq_audit.proofs.Terms.{◌∙◌, rules, tests, eqb, YieldsList-from_slice, find_from_yields_List, Transfer}
 use Rattle.cq_audit.proofs.told.line_of.Goals as goal
 
 pub returns : goal.returns

@@ -1,11 +1,5 @@
-use Rattle.std.proofs.Common.{rules, ◌≡◌, ◌+◌, ◌<◌, length, List, Some, sym, ◌∙◌, subst, arith}
-use Rattle.std.proofs.lemmas.List.{length-map}
-use Rattle.cq_base.specs.declared.cell.Queued.{Queued}
-use Rattle.cq_list.specs.InputList.{Waiting, cells_of}
-use Rattle.cq_prefs.specs.Pairing.{with_pair}
-use Rattle.cq_audit.specs.Log.{IsOf}
-use Rattle.cq_audit.specs.Phase.{first_id}
-use Rattle.cq_audit.proofs.TellingLines.{ToldUntil, all_right, all_told, cells_at, line_holds, no_line, right_line}
+use Rattle.cq_audit.proofs.Terms.{rules, ◌≡◌, ◌+◌, ◌<◌, length, sym, ◌∙◌, arith, length-map, Waiting, cells_of, IsOf}
+use Rattle.cq_audit.proofs.TellingLines.{all_right, all_told, cells_at, line_holds, no_line, right_line}
 use Rattle.cq_audit.proofs.told.told.Goals as goal
 use Rattle.cq_audit.proofs.told.told.Goals.{After-inputs, In-Some, in-Some+then-is_right, in_default}
 
@@ -29,26 +23,18 @@ inputs-preserved c =
     let lines = c.args.lines.now in
     let n = c.inputs.input in
     let long = length-map lists (λ (w : Waiting). w.cells) in
-    let here : n < length lists = omega arith in
     let below : n < length (cells_of lists) = omega arith in
     elim c.match-line_of.branch [
       | in-Some+then-is_right w ↦
           let t = w.in-Some.line in
           let stands = sym c.line_of.ensures ∙ w.in-Some.is in
           let of = line_holds n (IsOf (length lists)) lines t c.requires.lines stands in
-          let list = cells_at lists n w.index-lists-input.result here (sym w.index-lists-input.is) in
-          let names = subst (λ (cells : List Queued). first_id t.output cells ≡ Some t.id) (sym list)
-          (w.is_right.ensures.right w.if-is_right.true) in
-          let free = w.is_right.ensures.free w.if-is_right.true in
-          let joined : with_pair c.inputs.pairs n t.output ≡ c.match-line_of.pairs =
-          let a = w.pairs-is in let b = w.join.ensures in cc in
-          subst (ToldUntil (cells_of lists) lines (n + 1)) joined (right_line (cells_of lists) lines n c.inputs.pairs
-          c.inputs.invariant t stands below (omega arith) names free)
-      | in_default w ↦
-          let stays : c.inputs.pairs ≡ c.match-line_of.pairs =
-          let a = w.pairs-is in cc in
-          subst (ToldUntil (cells_of lists) lines (n + 1)) stays (no_line (cells_of lists) lines n c.inputs.pairs
-          c.inputs.invariant below (sym c.line_of.ensures ∙ w.in_default.is))
+          let list = cells_at lists n w.index-lists-input.result (omega arith) (sym w.index-lists-input.is) in
+          rw (w.pairs-is, w.join.ensures) (right_line (cells_of lists) lines n c.inputs.pairs c.inputs.invariant t
+          stands below (omega arith) (rw list (w.is_right.ensures.right w.if-is_right.true))
+          (w.is_right.ensures.free w.if-is_right.true))
+      | in_default w ↦ rw w.pairs-is (no_line (cells_of lists) lines n c.inputs.pairs c.inputs.invariant below
+          (sym c.line_of.ensures ∙ w.in_default.is))
     ]
 
 pub returns-clause-pairs : goal.returns-clause-pairs

@@ -1,4 +1,4 @@
-use Rattle.cq_list.specs.InputList.{cells_of}
+use Rattle.cq_audit.proofs.Terms.{cells_of}
 use Rattle.cq_audit.proofs.TellingLines.{ToldUntil}
 use Rattle.cq_audit.proofs.told.told.Given as goal
 

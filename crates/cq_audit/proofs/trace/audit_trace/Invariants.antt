@@ -1,5 +1,5 @@
-use Rattle.std.proofs.Common.{length}
-use Rattle.cq_audit.proofs.Front.{SameSoFar}
+use Rattle.cq_audit.proofs.Terms.{length}
+use Rattle.cq_audit.proofs.OneDifference.{SameSoFar}
 use Rattle.cq_audit.proofs.trace.audit_trace.Given as goal
 
 abbrev pub invariant-bytes : goal.invariant-bytes

@@ -1,4 +1,4 @@
-use Rattle.std.proofs.Common.{◌≡◌, true, false}
+use Rattle.cq_audit.proofs.Terms.{◌≡◌, true, false}
 use Rattle.cq_audit.proofs.LogLines.{none_comes}
 use Rattle.cq_audit.proofs.transfer.next_transfer.Goals as goal
 

@@ -1,16 +1,22 @@
-use Rattle.cq_audit.proofs.LogLines.{line_of_parts, no_slot, no_fields, no_transfer}
+use Rattle.cq_audit.proofs.Terms.{arith, lit≤, sym, ◌∙◌, numbers_behind}
+use Rattle.cq_lines.proofs.Walk.{one_ending}
+use Rattle.cq_audit.proofs.LogLines.{begins_with_slot, line_of_parts, parts_of_line}
 use Rattle.cq_audit.proofs.transfer.take_transfer.Goals as goal
 
 pub returns-in_err-slot-clause-none : goal.returns-in_err-slot-clause-none
-returns-in_err-slot-clause-none c = rw c.from_residual.ensures (no_slot c.args.text.now c.in_err-slot.ensures.none)
+returns-in_err-slot-clause-none c = rw c.from_residual.ensures (λ t more is e.
+    c.in_err-slot.ensures.none t.slot _ (omega arith) (begins_with_slot c.args.text.now more t e))
 
 pub returns-in_err-count-clause-none : goal.returns-in_err-count-clause-none
-returns-in_err-count-clause-none c = rw c.from_residual-in_err-count.ensures (no_fields c.args.text.now
-    c.in_ok-slot.rest.now c.in_ok-slot.slot c.in_ok-slot.ensures.found c.in_err-count.ensures.none)
+returns-in_err-count-clause-none c = rw c.from_residual-in_err-count.ensures (λ t more is e.
+    c.in_err-count.ensures.none (numbers_behind t) more (omega arith) (lit≤ tt)
+    (parts_of_line _ _ more _ t c.in_ok-slot.ensures.found e).1)
 
 pub returns-in_err-transfer-clause-none : goal.returns-in_err-transfer-clause-none
-returns-in_err-transfer-clause-none c = rw c.from_residual-in_err-transfer.ensures
-    (no_transfer _ _ _ _ _ c.in_ok-slot.ensures.found c.in_ok-count.ensures.found.1 c.in_err-transfer.ensures.none)
+returns-in_err-transfer-clause-none c = rw c.from_residual-in_err-transfer.ensures (λ t more is e.
+    let parts = parts_of_line _ _ more _ t c.in_ok-slot.ensures.found e in
+    let whole = c.in_ok-count.ensures.found.1 in
+    c.in_err-transfer.ensures.none t is parts.0 (one_ending _ _ _ _ (sym whole ∙ parts.1)).0)
 
 pub returns-clause-found : goal.returns-clause-found
 returns-clause-found c =

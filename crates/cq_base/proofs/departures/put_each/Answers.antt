@@ -1,4 +1,4 @@
-use Rattle.std.proofs.Common.{rules, arith}
+use Rattle.cq_base.proofs.Terms.{rules, arith}
 use Rattle.cq_base.proofs.Packings.{one_packed}
 use Rattle.cq_base.proofs.departures.put_each.Goals as goal
 

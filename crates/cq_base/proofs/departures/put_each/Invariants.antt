@@ -1,5 +1,4 @@
-use Rattle.std.proofs.Common.{◌≡◌, ◌+◌, ◌++◌, map, take}
-use Rattle.cq_base.specs.Packed.{unpacked}
+use Rattle.cq_base.proofs.Terms.{◌≡◌, ◌+◌, ◌++◌, map, take, unpacked}
 use Rattle.cq_base.proofs.departures.put_each.Given as goal
 
 abbrev pub invariant-departures : goal.invariant-departures

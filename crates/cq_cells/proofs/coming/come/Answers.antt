@@ -1,14 +1,7 @@
-use Rattle.std.proofs.Common.{rules, ◌≡◌, ◌+◌, List, [], Option, option_map, slice_index_or, ap, sym, ◌∙◌, subst, arith}
-use Rattle.std.specs.Prelude.{ℕ}
-use Rattle.std.specs.List.{find}
-use Rattle.std.proofs.lemmas.List.{get_or_read}
-use Rattle.cq_base.specs.Arriving.{Arrival}
-use Rattle.cq_base.specs.declared.cell.Cell.{Cell}
-use Rattle.cq_cells.specs.Lines.{all_of}
-use Rattle.cq_cells.proofs.Arrived.{comes_to_own}
+use Rattle.cq_cells.proofs.Terms.{rules, ◌≡◌, ◌+◌, List, [], Option, option_map, slice_index_or, ap, sym, ◌∙◌, subst, arith, ℕ, find, get_or_read, Arrival, Cell, all_of}
 use Rattle.cq_cells.proofs.Filling.{Filling, own_if, filling_first, filling_next, all_filled, still_stand}
 use Rattle.cq_cells.proofs.Looked.{is_in}
-use Rattle.cq_cells.proofs.Owned.{arriving_at_line}
+use Rattle.cq_cells.proofs.Owned.{arriving_at_line, comes_to_own}
 use Rattle.cq_cells.proofs.coming.come.Goals as goal
 
 -- the cell that a line gives

@@ -1,4 +1,4 @@
-use Rattle.cq_cells.specs.Lines.{all_of}
+use Rattle.cq_cells.proofs.Terms.{all_of}
 use Rattle.cq_cells.proofs.Filling.{Filling}
 use Rattle.cq_cells.proofs.coming.come.Given as goal
 

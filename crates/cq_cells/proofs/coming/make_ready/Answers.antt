@@ -1,5 +1,4 @@
-use Rattle.std.proofs.Common.{arith, rules, sym, subst}
-use Rattle.cq_cells.specs.Coming.{StandBelow}
+use Rattle.cq_cells.proofs.Terms.{arith, rules, sym, subst, StandBelow}
 use Rattle.cq_cells.proofs.Filling.{none_stand}
 use Rattle.cq_cells.proofs.coming.make_ready.Goals as goal
 

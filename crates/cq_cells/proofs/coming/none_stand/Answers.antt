@@ -1,10 +1,4 @@
-use Rattle.std.proofs.Common.{rules, ◌≡◌, Option, None, refl, sym, ◌∙◌, ⊎_elim, arith}
-use Rattle.std.proofs.lemmas.Bool.{cases_lt, true≢false}
-use Rattle.std.proofs.lemmas.List.{ext_get_or, length-replicate}
-use Rattle.std.proofs.lemmas.Option.{unwrap_or-slice_get}
-use Rattle.cq_base.specs.declared.cell.Cell.{Cell}
-use Rattle.cq_base.specs.Arrivals.{arrival_at, no_arrivals}
-use Rattle.cq_base.proofs.Places.{arrival_at-no_arrivals}
+use Rattle.cq_cells.proofs.Terms.{rules, ◌≡◌, Option, None, refl, sym, ◌∙◌, ⊎_elim, arith, cases_lt, true≢false, ext_get_or, length-replicate, unwrap_or-slice_get, Cell, arrival_at, no_arrivals, arrival_at-no_arrivals}
 use Rattle.cq_cells.proofs.coming.none_stand.Goals as goal
 
 pub inputs-init : goal.inputs-init

@@ -1,5 +1,4 @@
-use Rattle.std.proofs.Common.{◌≡◌, ◌<◌, ℕ, None}
-use Rattle.cq_base.specs.Arrivals.{arrival_at}
+use Rattle.cq_cells.proofs.Terms.{◌≡◌, ◌<◌, ℕ, None, arrival_at}
 use Rattle.cq_cells.proofs.coming.none_stand.Given as goal
 
 -- no cell stands at the inputs before this one

@@ -1,4 +1,4 @@
-use Rattle.std.proofs.Common.{rules, arith}
+use Rattle.cq_cells.proofs.Terms.{rules, arith}
 use Rattle.cq_cells.proofs.Stamps.{stamps_more, map-rows_from}
 use Rattle.cq_cells.proofs.first_stamp.first_stamp.Goals as goal
 

@@ -1,6 +1,4 @@
-use Rattle.std.proofs.Common.{leb, rules, tests}
-use Rattle.std.proofs.lemmas.List.Sorted.{IsPartitionPoint-from_clause, IsPartitionedBy-leb}
-use Rattle.cq_cells.specs.declared.line.Row.{Row}
+use Rattle.cq_cells.proofs.Terms.{leb, rules, tests, IsPartitionPoint-from_clause, IsPartitionedBy-leb, Row}
 use Rattle.cq_cells.proofs.Looked.{begun_from_partition}
 use Rattle.cq_cells.proofs.line.begun.Goals as goal
 

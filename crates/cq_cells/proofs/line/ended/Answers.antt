@@ -1,5 +1,4 @@
-use Rattle.std.proofs.Common.{rules, tests}
-use Rattle.std.proofs.lemmas.List.Sorted.{IsPartitionPoint-from_clause}
+use Rattle.cq_cells.proofs.Terms.{rules, tests, IsPartitionPoint-from_clause}
 use Rattle.cq_cells.proofs.Upcoming.{ended_from_partition, has_ended, parted_by_end}
 use Rattle.cq_cells.proofs.line.ended.Goals as goal
 

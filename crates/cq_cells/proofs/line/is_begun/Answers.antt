@@ -1,4 +1,4 @@
-use Rattle.std.proofs.Common.{rules, ◌-◌, arith}
+use Rattle.cq_cells.proofs.Terms.{rules, ◌-◌, arith}
 use Rattle.cq_cells.proofs.Looked.{begun_beside}
 use Rattle.cq_cells.proofs.line.is_begun.Goals as goal
 

@@ -1,13 +1,7 @@
-use Rattle.std.proofs.Common.{◌≡◌, ℕ, ◌<◌, ◌-◌, List, length, map, ap, ◌∙◌, arith}
-use Rattle.std.specs.List.{range_with_len}
-use Rattle.std.proofs.lemmas.Slice.Zip.{AllZip-map}
+use Rattle.cq_cells.proofs.Terms.{◌≡◌, ℕ, ◌<◌, ◌-◌, List, length, map, ap, ◌∙◌, arith, range_with_len, AllZip-map, Captured, PacketRow, packet_in, route}
 use Rattle.rayon.specs.Numbers.{nat_range}
 use Rattle.rayon.proofs.ToStd.{nat_range-All}
-use Rattle.cq_pcap.specs.Captured.{Captured}
-use Rattle.cq_pcap.specs.declared.capture.PacketRow.{PacketRow}
-use Rattle.cq_cells.specs.Schedule.{packet_in}
-use Rattle.cq_route.specs.Route.{route}
-use Rattle.cq_cells.proofs.Routed.{map-packet_in}
+use Rattle.cq_cells.proofs.Laid.{map-packet_in}
 use Rattle.cq_cells.proofs.Stamps.{length-rows_from}
 use Rattle.cq_cells.proofs.routes.routes_of.Goals as goal
 

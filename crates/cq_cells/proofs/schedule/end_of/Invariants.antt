@@ -1,6 +1,4 @@
-use Rattle.std.proofs.Common.{◌≡◌, take}
-use Rattle.cq_base.specs.Arriving.{end_of}
-use Rattle.cq_cells.specs.Lines.{all_of}
+use Rattle.cq_cells.proofs.Terms.{◌≡◌, take, end_of, all_of}
 use Rattle.cq_cells.proofs.schedule.end_of.Given as goal
 
 abbrev pub invariant-lines : goal.invariant-lines

@@ -1,8 +1,4 @@
-use Rattle.std.proofs.Common.{◌≡◌, ℕ, ◌*◌, ◌^◌, ◌<◌, ◌≤◌, length, map, slice_index_or, vec_len, vec_capacity}
-use Rattle.std.specs.List.{range_with_len}
-use Rattle.cq_cells.specs.Lines.{AreAdded, all_of}
-use Rattle.cq_cells.specs.Schedule.{arrivals_at, packets_of}
-use Rattle.cq_cells.specs.Traffic.{IsRecorded}
+use Rattle.cq_cells.proofs.Terms.{◌≡◌, ℕ, ◌*◌, ◌^◌, ◌<◌, ◌≤◌, length, map, slice_index_or, vec_len, vec_capacity, range_with_len, AreAdded, all_of, arrivals_at, packets_of, IsRecorded}
 use Rattle.cq_cells.proofs.schedule.lines_of.Given as goal
 
 abbrev pub invariant-inputs : goal.invariant-inputs

@@ -1,5 +1,4 @@
-use Rattle.std.proofs.Common.{◌≡◌, ◌*◌, ◌^◌, ◌≤◌, length, take}
-use Rattle.cq_cells.specs.Lines.{all_of}
+use Rattle.cq_cells.proofs.Terms.{◌≡◌, ◌*◌, ◌^◌, ◌≤◌, length, take, all_of}
 use Rattle.cq_cells.proofs.schedule.total_of.Given as goal
 
 abbrev pub invariant-lines : goal.invariant-lines

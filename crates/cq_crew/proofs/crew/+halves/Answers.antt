@@ -1,8 +1,6 @@
-use Rattle.std.proofs.Common.{subst}
+use Rattle.cq_crew.proofs.Terms.{subst, SeatState, HasWorked}
 use Rattle.cq_crew.proofs.Working.{worked-joined}
 use Rattle.cq_crew.proofs.crew.+halves.Goals as goal
-use Rattle.cq_ledger.specs.Seats.{SeatState}
-use Rattle.cq_crew.specs.Work.{HasWorked}
 
 pub returns : goal.returns
 returns g t c =

@@ -1,4 +1,4 @@
-use Rattle.std.proofs.Common.{◌+◌, ◌*◌}
+use Rattle.cq_crew.proofs.Terms.{◌+◌, ◌*◌}
 use Rattle.cq_crew.proofs.crew.+halves.Given as goal
 
 abbrev pub decreases-work_all : goal.decreases-work_all

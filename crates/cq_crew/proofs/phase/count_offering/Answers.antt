@@ -1,4 +1,4 @@
-use Rattle.std.proofs.Common.{rules, arith, length-append}
+use Rattle.cq_crew.proofs.Terms.{rules, arith, length-append}
 use Rattle.cq_pair.proofs.Waiting.{offers_if, no_offers_if, offers-more, offers-same, few_offers}
 use Rattle.cq_crew.proofs.phase.count_offering.Goals as goal
 

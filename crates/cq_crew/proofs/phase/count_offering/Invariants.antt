@@ -1,4 +1,4 @@
-use Rattle.std.proofs.Common.{◌≡◌, length}
+use Rattle.cq_crew.proofs.Terms.{◌≡◌, length}
 use Rattle.cq_pair.specs.FreeInputs.{inputs_with_offers}
 use Rattle.cq_crew.proofs.phase.count_offering.Given as goal
 

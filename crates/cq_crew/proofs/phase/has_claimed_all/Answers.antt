@@ -1,4 +1,4 @@
-use Rattle.std.proofs.Common.{arith, rules}
+use Rattle.cq_crew.proofs.Terms.{arith, rules}
 use Rattle.cq_crew.proofs.Working.{claimed-next}
 use Rattle.cq_crew.proofs.phase.has_claimed_all.Goals as goal
 

@@ -1,5 +1,4 @@
-use Rattle.std.proofs.Common.{ℕ, ◌<◌}
-use Rattle.cq_ledger.specs.Views.{HasClaimed}
+use Rattle.cq_crew.proofs.Terms.{ℕ, ◌<◌, HasClaimed}
 use Rattle.cq_crew.proofs.phase.has_claimed_all.Given as goal
 
 -- the inputs before this one are claimed

@@ -1,4 +1,4 @@
-use Rattle.std.proofs.Common.{arith, rules}
+use Rattle.cq_crew.proofs.Terms.{arith, rules}
 use Rattle.cq_crew.proofs.Phases.{best-closed}
 use Rattle.cq_crew.proofs.phase.settle_shared.Goals as goal
 

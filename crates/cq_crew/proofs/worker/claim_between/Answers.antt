@@ -1,4 +1,4 @@
-use Rattle.std.proofs.Common.{rules, arith}
+use Rattle.cq_crew.proofs.Terms.{rules, arith}
 use Rattle.cq_crew.proofs.Working.{begun-still, grows-same, idle-after, tried-next}
 use Rattle.cq_crew.proofs.worker.claim_between.Goals as goal
 

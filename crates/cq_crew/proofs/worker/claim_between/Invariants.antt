@@ -1,5 +1,4 @@
-use Rattle.std.proofs.Common.{◌≡◌, Some}
-use Rattle.cq_crew.specs.Work.{HaveTried, IsIdleAfter}
+use Rattle.cq_crew.proofs.Terms.{◌≡◌, Some, HaveTried, IsIdleAfter}
 use Rattle.cq_crew.proofs.worker.claim_between.Given as goal
 
 -- the inputs before this one were tried, by a worker that has begun

@@ -1,4 +1,4 @@
-use Rattle.std.proofs.Common.{arith, rules}
+use Rattle.cq_crew.proofs.Terms.{arith, rules}
 use Rattle.cq_crew.proofs.Working.{idle-taken, idle-refused}
 use Rattle.cq_crew.proofs.worker.claim_one.Goals as goal
 

@@ -1,4 +1,4 @@
-use Rattle.std.proofs.Common.{arith, rules, ◌∙◌}
+use Rattle.cq_crew.proofs.Terms.{arith, rules, ◌∙◌}
 use Rattle.cq_crew.proofs.Working.{hand-some, hand-told, proposes-same, proposes-next, proposals-left}
 use Rattle.cq_crew.proofs.worker.propose_all.Goals as goal
 

@@ -1,7 +1,4 @@
-use Rattle.std.proofs.Common.{◌-◌, ◌*◌}
-use Rattle.cq_prefs.specs.Orders.{ports}
-use Rattle.cq_ledger.specs.Seats.{IsSeatOf}
-use Rattle.cq_crew.specs.Work.{ProposesFor}
+use Rattle.cq_crew.proofs.Terms.{◌-◌, ◌*◌, ports, IsSeatOf, ProposesFor}
 use Rattle.cq_crew.proofs.worker.propose_all.Given as goal
 
 abbrev pub invariant-proposals : goal.invariant-proposals

@@ -1,4 +1,4 @@
-use Rattle.std.proofs.Common.{arith, rules}
+use Rattle.cq_crew.proofs.Terms.{arith, rules}
 use Rattle.cq_crew.proofs.Working.{begun-first, idle-after, tried-first, worked}
 use Rattle.cq_crew.proofs.worker.work.Goals as goal
 

@@ -1,13 +1,9 @@
-use Rattle.std.proofs.Common.{arith, rules, length, ap, ◌∙◌}
-use Rattle.std.proofs.lemmas.List.{length-set}
+use Rattle.cq_engine.proofs.Terms.{arith, rules, length, ap, ◌∙◌, length-set}
 use Rattle.cq_engine.proofs.Counted.{count_fits, count_next}
 use Rattle.cq_engine.proofs.copied.count_each.Goals as goal
 
-pub count_one-requires-clause-output : goal.count_one-requires-clause-output
-count_one-requires-clause-output c = search (arith, rules, c.requires.outputs)
-
-pub count_one-requires-clause-fits : goal.count_one-requires-clause-fits
-count_one-requires-clause-fits c = search (arith, rules, count_fits, c.requires.outputs)
+pub count_one-requires : goal.count_one-requires
+count_one-requires c = search (arith, rules, count_fits, c.requires.outputs)
 
 pub places-preserved : goal.places-preserved
 places-preserved c =

@@ -1,4 +1,4 @@
-use Rattle.std.proofs.Common.{◌≡◌, length, take}
+use Rattle.cq_engine.proofs.Terms.{◌≡◌, length, take}
 use Rattle.cq_engine.proofs.Counted.{AreCounted}
 use Rattle.cq_engine.proofs.copied.count_each.Given as goal
 

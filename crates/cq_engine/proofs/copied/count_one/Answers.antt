@@ -1,4 +1,4 @@
-use Rattle.std.proofs.Common.{rules, arith}
+use Rattle.cq_engine.proofs.Terms.{rules, arith}
 use Rattle.cq_engine.proofs.copied.count_one.Goals as goal
 
 pub bounds-as_slice-output : goal.bounds-as_slice-output

@@ -1,4 +1,4 @@
-use Rattle.cq_laws.specs.Frozen.{fabric_in}
+use Rattle.cq_engine.proofs.Terms.{fabric_in}
 use Rattle.cq_engine.proofs.Counted.{HeldSoFar}
 use Rattle.cq_engine.proofs.copied.held_in.Given as goal
 

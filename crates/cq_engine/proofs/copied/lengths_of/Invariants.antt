@@ -1,4 +1,4 @@
-use Rattle.std.proofs.Common.{◌≡◌, length, map, take}
+use Rattle.cq_engine.proofs.Terms.{◌≡◌, length, map, take}
 use Rattle.cq_engine.proofs.copied.lengths_of.Given as goal
 
 -- the lengths of the buffers before this one are there

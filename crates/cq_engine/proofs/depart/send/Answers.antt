@@ -1,5 +1,4 @@
-use Rattle.std.proofs.Common.{refl, arith}
-use Rattle.cq_ideal.specs.IdealSlot.{departures_in}
+use Rattle.cq_engine.proofs.Terms.{refl, arith, departures_in}
 use Rattle.cq_engine.proofs.depart.send.Goals as goal
 
 pub outputs-init : goal.outputs-init

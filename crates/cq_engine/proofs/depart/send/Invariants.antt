@@ -1,5 +1,4 @@
-use Rattle.std.proofs.Common.{◌≡◌, ◌+◌, ◌++◌, ◌≤◌, drop, length}
-use Rattle.cq_ideal.specs.IdealSlot.{departures_from, departures_in}
+use Rattle.cq_engine.proofs.Terms.{◌≡◌, ◌+◌, ◌++◌, ◌≤◌, drop, length, departures_from, departures_in}
 use Rattle.cq_engine.proofs.depart.send.Given as goal
 
 -- what is sent so far, and then the departures of the outputs from this one on, are all departures of the slot

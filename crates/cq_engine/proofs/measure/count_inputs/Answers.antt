@@ -1,6 +1,4 @@
-use Rattle.std.proofs.Common.{rules, None, sym, ◌∙◌, arith}
-use Rattle.cq_base.specs.declared.figures.InputFigures.{InputFigures}
-use Rattle.cq_fabric.proofs.Changed.{all_changed, next_changed, still_few}
+use Rattle.cq_engine.proofs.Terms.{rules, None, sym, ◌∙◌, arith, InputFigures, all_changed, next_changed, still_few}
 use Rattle.cq_engine.proofs.measure.count_inputs.Goals as goal
 
 abbrev none : InputFigures

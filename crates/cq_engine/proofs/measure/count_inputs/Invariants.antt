@@ -1,6 +1,4 @@
-use Rattle.cq_laws.specs.Phases.{came_to}
-use Rattle.cq_fabric.proofs.Changed.{IsChangedTo}
-use Rattle.cq_engine.specs.Measuring.{input_counted}
+use Rattle.cq_engine.proofs.Terms.{came_to, IsChangedTo, input_counted}
 use Rattle.cq_engine.proofs.measure.count_inputs.Given as goal
 
 -- the inputs before this one are counted

@@ -1,5 +1,4 @@
-use Rattle.std.proofs.Common.{rules}
-use Rattle.std.specs.Prelude.{max}
+use Rattle.cq_engine.proofs.Terms.{rules, max}
 use Rattle.cq_engine.proofs.measure.greater.Goals as goal
 
 pub returns : goal.returns

@@ -1,8 +1,4 @@
-use Rattle.std.proofs.Common.{◌≡◌, [], take}
-use Rattle.std.specs.Prelude.{min}
-use Rattle.std.specs.List.{reduce}
-use Rattle.cq_laws.specs.Measures.{slacks}
-use Rattle.cq_fabric.specs.Queues.{fabric_of}
+use Rattle.cq_engine.proofs.Terms.{◌≡◌, [], take, min, reduce, slacks, fabric_of}
 use Rattle.cq_engine.proofs.measure.least_slack.Given as goal
 
 -- the cells before this place are looked at

@@ -1,5 +1,4 @@
-use Rattle.std.proofs.Common.{rules}
-use Rattle.std.specs.Prelude.{min}
+use Rattle.cq_engine.proofs.Terms.{rules, min}
 use Rattle.cq_engine.proofs.measure.lesser.Goals as goal
 
 pub returns : goal.returns

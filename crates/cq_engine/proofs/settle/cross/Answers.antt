@@ -1,5 +1,4 @@
-use Rattle.std.proofs.Common.{◌≡◌, ℕ, [], subst}
-use Rattle.cq_prefs.specs.Orders.{Orders, outputs_of}
+use Rattle.cq_engine.proofs.Terms.{◌≡◌, ℕ, [], subst, Orders, outputs_of}
 use Rattle.cq_engine.proofs.NoOffers.{nothing_crosses}
 use Rattle.cq_engine.proofs.settle.cross.Goals as goal
 

@@ -1,5 +1,4 @@
-use Rattle.std.proofs.Common.{rules, ◌≡◌, ℕ, List, [], ◌∷◌, eqb, true, length, refl, arith}
-use Rattle.std.proofs.lemmas.Bool.{cases_eq, eqb-true}
+use Rattle.cq_engine.proofs.Terms.{rules, ◌≡◌, ℕ, List, [], ◌∷◌, eqb, true, length, refl, arith, cases_eq, eqb-true}
 use Rattle.cq_engine.proofs.NoOffers.{none_at_all}
 use Rattle.cq_engine.proofs.settle.nothing_offered.Goals as goal
 

@@ -1,5 +1,4 @@
-use Rattle.std.proofs.Common.{◌≡◌, ◌<◌, ℕ, []}
-use Rattle.cq_prefs.specs.Orders.{outputs_of}
+use Rattle.cq_engine.proofs.Terms.{◌≡◌, ◌<◌, ℕ, [], outputs_of}
 use Rattle.cq_engine.proofs.settle.nothing_offered.Given as goal
 
 -- the inputs before this one offer nothing

@@ -1,8 +1,4 @@
-use Rattle.std.proofs.Common.{Option, None, get_or, sym, ap, ◌∙◌, arith}
-use Rattle.cq_base.specs.declared.cell.Queued.{Queued}
-use Rattle.cq_base.specs.declared.figures.InputFigures.{InputFigures}
-use Rattle.cq_engine.specs.Straight.{input_passed}
-use Rattle.cq_fabric.proofs.Changed.{all_changed, next_changed, next_kept, still_few}
+use Rattle.cq_engine.proofs.Terms.{None, ◌∙◌, arith, rules, InputFigures, all_changed, next_changed, next_kept, still_few}
 use Rattle.cq_engine.proofs.straight.count_passed.Goals as goal
 use Rattle.cq_engine.proofs.straight.count_passed.Goals.{in-Some, in_default}
 
@@ -16,13 +12,9 @@ input_passed-counted-requires c =
 pub inputs-preserved : goal.inputs-preserved
 inputs-preserved c =
     elim c.match-at.branch [
-      | in-Some w ↦
-          next_changed c.inputs.invariant none _ (omega arith) _ w.as_slice.ensures (w.input_passed-counted.ensures
-          ∙ ap (λ (q : Option Queued). input_passed q (get_or w.as_slice.result.now c.inputs.input none))
-          (sym w.in-Some.is ∙ c.at.ensures)) _ (w.inputs-is ∙ w.set.ensures)
-      | in_default w ↦ next_kept c.inputs.invariant none (omega arith) (ap
-          (λ (q : Option Queued). input_passed q (get_or c.inputs.inputs c.inputs.input none))
-          (sym w.in_default.is ∙ c.at.ensures)) _ w.inputs-is
+      | in-Some w ↦ next_changed c.inputs.invariant none _ (omega arith) _ w.as_slice.ensures
+          (search (arith, rules)) _ (w.inputs-is ∙ w.set.ensures)
+      | in_default w ↦ next_kept c.inputs.invariant none (omega arith) (search (arith, rules)) _ w.inputs-is
     ]
 
 pub returns : goal.returns

@@ -1,20 +1,64 @@
-use Rattle.std.proofs.Common.{rules, ◌∙◌, sym, ap, arith, length-set}
-use Rattle.std.specs.Prelude.{is_some}
-use Rattle.cq_laws.specs.Phases.{came_to}
-use Rattle.cq_engine.proofs.Apart.{apart_more, apart_past, free_of, not_apart, sent_more, sent_past, taken_of}
+-- The cells that came, put at the places of their outputs. Two of them are for one output where the place is taken by
+-- one that came before.
+use Rattle.cq_engine.proofs.Terms.{rules, ◌∙◌, sym, arith, length-set, came_to, common_steps, ◌≡◌, ℕ, ◌+◌, ◌<◌, List, length, Option, Some, None, refl, is_some, slice_set, true, false, cases_lt, get_or-set_other, get_or-set_same, same_Some, Queued, AreApart, AreSent}
 use Rattle.cq_engine.proofs.straight.fill.Goals as goal
+
+free_of : (o : Option Queued) → is_some o ≡ false → o ≡ None
+free_of None e = refl
+free_of (Some c) e = absurd (let P : ⊥ = cc in P)
+
+taken_of : (o : Option Queued) → is_some o ≡ true → (c : Queued) × (o ≡ Some c)
+taken_of None e = absurd (let P : ⊥ = cc in P)
+taken_of (Some c) e = (c, refl)
+
+module _ (inputs outputs : ℕ) (came gone : List (Option Queued)) (sent : AreSent inputs outputs came gone) where
+  -- a cell that came before is not for an output whose place is free
+  not_for : (i : ℕ) (c d : Queued) → i < inputs → came_to came i ≡ Some d → came_to gone c.cell.output ≡ None →
+      d.cell.output ≡ c.cell.output → ⊥
+  not_for i c d inside at free same = grind (arith, common_steps)
+
+  apart_more : (c : Queued) → AreApart inputs came → came_to came inputs ≡ Some c →
+      came_to gone c.cell.output ≡ None → AreApart (inputs + 1) came
+  apart_more c apart at free i k a b i_in k_in at_a at_b same = search (rules, same_Some, not_for, cases_lt)
+
+  -- where the place is taken two cells are for its output
+  not_apart : (ports : ℕ) (c d : Queued) → came_to came inputs ≡ Some c → came_to gone c.cell.output ≡ Some d →
+      c.cell.output < outputs → inputs < ports → AreApart ports came → ⊥
+  not_apart ports c d at taken inside below apart =
+      let from = sent.only c.cell.output d inside taken in search (arith, rules)
+
+  -- a cell that is put at a free place
+  sent_more : (c : Queued) → came_to came inputs ≡ Some c → came_to gone c.cell.output ≡ None →
+      c.cell.output < length gone → AreSent (inputs + 1) outputs came (slice_set gone c.cell.output (Some c))
+  sent_more c at free inside =
+      let none : Option Queued = None in
+      let other = get_or-set_other gone c.cell.output in
+      let here = get_or-set_same gone c.cell.output in
+      record {
+        each = search (arith, rules, get_or-set_other, not_for, same_Some, get_or-set_same, cases_lt);
+        only = λ j d j_in there.
+            grind (arith, common_steps, other j, here, sent.only j d j_in);
+      }
+
+  sent_past : came_to came inputs ≡ None → AreSent (inputs + 1) outputs came gone
+  sent_past none =
+      record {
+        each = search (arith, rules, cases_lt);
+        only = λ j d j_in there. grind (arith, common_steps, sent.only j d j_in there);
+      }
+
+apart_past : (inputs : ℕ) (came : List (Option Queued)) → AreApart inputs came → came_to came inputs ≡ None →
+    AreApart (inputs + 1) came
+apart_past inputs came apart none i k a b i_in k_in at_a at_b same = search (rules, cases_lt)
 
 pub returns-then-is_some-clause-apart : goal.returns-then-is_some-clause-apart
 returns-then-is_some-clause-apart c =
     let queued = c.in-Some.queued in
+    let there = taken_of (came_to c.inputs.gone queued.cell.output) (search (arith, rules)) in
     let at = sym c.at.ensures ∙ c.in-Some.is in
-    let there = taken_of (came_to c.inputs.gone queued.cell.output)
-    (ap is_some (sym c.at-in-Some.ensures) ∙ sym c.is_some.ensures ∙ c.if-is_some.true) in (
-      λ no. absurd (let P : ⊥ = cc no in P),
-      λ apart. absurd (not_apart c.inputs.input c.args.ports c.args.came.now c.inputs.gone c.inputs.invariant.sent
-          c.args.ports queued there.0 at there.1 (c.requires.outputs c.inputs.input queued at) c.inputs-test.true
-          apart),
-    )
+    let never = not_apart c.inputs.input c.args.ports c.args.came.now c.inputs.gone c.inputs.invariant.sent
+    c.args.ports queued there.0 at there.1 (c.requires.outputs c.inputs.input queued at) c.inputs-test.true in
+    (λ no. absurd (let P : ⊥ = cc no in P), λ apart. absurd (never apart))
 
 pub inputs-preserved : goal.inputs-preserved
 inputs-preserved c =

@@ -1,5 +1,4 @@
-use Rattle.std.proofs.Common.{◌≤◌, length}
-use Rattle.cq_engine.specs.Straight.{AreApart, AreSent}
+use Rattle.cq_engine.proofs.Terms.{◌≤◌, length, AreApart, AreSent}
 use Rattle.cq_engine.proofs.straight.fill.Given as goal
 
 -- the cells that came to the inputs before this one are at the places of their outputs, no two at one

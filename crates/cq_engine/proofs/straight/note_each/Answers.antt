@@ -1,5 +1,4 @@
-use Rattle.std.proofs.Common.{rules, arith, append_assoc, length-append}
-use Rattle.std.proofs.lemmas.List.{append-nil}
+use Rattle.cq_engine.proofs.Terms.{rules, arith, append_assoc, length-append, append-nil}
 use Rattle.cq_engine.proofs.StraightSlot.{crossings_few, crossings_none, crossings_one, crossings_past}
 use Rattle.cq_engine.proofs.straight.note_each.Goals as goal
 

@@ -1,5 +1,4 @@
-use Rattle.std.proofs.Common.{◌≡◌, ◌+◌, ◌++◌, length}
-use Rattle.cq_engine.specs.Straight.{crossings}
+use Rattle.cq_engine.proofs.Terms.{◌≡◌, ◌+◌, ◌++◌, length, crossings}
 use Rattle.cq_engine.proofs.straight.note_each.Given as goal
 
 -- the cells of the inputs before this one are noted

@@ -1,5 +1,4 @@
-use Rattle.std.proofs.Common.{rules, length-set, arith}
-use Rattle.std.proofs.lemmas.List.{replicate_more, take_more_set}
+use Rattle.cq_fabric.proofs.Terms.{rules, length-set, arith, replicate_more, take_more_set}
 use Rattle.cq_fabric.proofs.Changed.{still_behind}
 use Rattle.cq_fabric.proofs.gone.clear_each.Goals as goal
 

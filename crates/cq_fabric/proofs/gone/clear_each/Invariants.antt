@@ -1,5 +1,4 @@
-use Rattle.std.proofs.Common.{◌≡◌, Option, None, length, take, drop, replicate}
-use Rattle.cq_base.specs.declared.cell.Queued.{Queued}
+use Rattle.cq_fabric.proofs.Terms.{◌≡◌, Option, None, length, take, drop, replicate, Queued}
 use Rattle.cq_fabric.proofs.gone.clear_each.Given as goal
 
 -- the places before this one have no cell, and the others are as they were

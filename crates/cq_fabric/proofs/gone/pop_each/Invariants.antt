@@ -1,6 +1,4 @@
-use Rattle.std.proofs.Common.{◌≡◌, length, map, take, drop}
-use Rattle.cq_fabric.specs.Queues.{front_of, popped}
-use Rattle.cq_ideal.proofs.Changed.{changed_to}
+use Rattle.cq_fabric.proofs.Terms.{◌≡◌, length, map, take, drop, front_of, popped, changed_to}
 use Rattle.cq_fabric.proofs.gone.pop_each.Given as goal
 
 -- the first cells of the buffers before this one have left

@@ -1,4 +1,4 @@
-use Rattle.cq_urgency.specs.OutputBuffer.{cells_in}
+use Rattle.cq_fabric.proofs.Terms.{cells_in}
 use Rattle.cq_fabric.proofs.Offered.{In}
 use Rattle.cq_fabric.proofs.queues.insert_each.Given as goal
 

@@ -1,6 +1,4 @@
-use Rattle.std.proofs.Common.{◌≡◌, [], length, map, take, replicate}
-use Rattle.cq_list.specs.InputList.{cells_of}
-use Rattle.cq_fabric.specs.Queues.{list_room}
+use Rattle.cq_fabric.proofs.Terms.{◌≡◌, [], length, map, take, replicate, cells_of, list_room}
 use Rattle.cq_fabric.proofs.queues.new_lists.Given as goal
 
 -- the lists of the inputs before this one are empty, and have these rooms

@@ -1,5 +1,4 @@
-use Rattle.std.proofs.Common.{◌≡◌, ℕ, ◌+◌, ◌<◌, ◌≤◌, get_or, length}
-use Rattle.cq_laws.specs.Phases.{came_to}
+use Rattle.cq_fabric.proofs.Terms.{◌≡◌, ℕ, ◌+◌, ◌<◌, ◌≤◌, get_or, length, came_to}
 use Rattle.cq_fabric.proofs.Known.{bit}
 use Rattle.cq_fabric.proofs.sent.release.Given as goal
 

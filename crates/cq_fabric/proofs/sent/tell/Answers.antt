@@ -1,5 +1,4 @@
-use Rattle.std.proofs.Common.{rules, arith}
-use Rattle.cq_ideal.proofs.Changed.{at_end}
+use Rattle.cq_fabric.proofs.Terms.{rules, arith, at_end}
 use Rattle.cq_ideal.proofs.Sending.{length-told, told_next}
 use Rattle.cq_fabric.proofs.sent.tell.Goals as goal
 

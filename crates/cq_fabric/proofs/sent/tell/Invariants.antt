@@ -1,6 +1,4 @@
-use Rattle.std.proofs.Common.{◌≡◌, map}
-use Rattle.cq_ideal.specs.IdealSlot.{all_told}
-use Rattle.cq_ideal.proofs.Changed.{changed_to}
+use Rattle.cq_fabric.proofs.Terms.{◌≡◌, map, all_told, changed_to}
 use Rattle.cq_fabric.proofs.sent.tell.Given as goal
 
 -- the machines of the outputs before this one have been told

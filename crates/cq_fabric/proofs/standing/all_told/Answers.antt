@@ -1,6 +1,4 @@
-use Rattle.std.proofs.Common.{rules, refl, subst, arith}
-use Rattle.std.specs.Fn.{FnReturnsAt}
-use Rattle.std.proofs.lemmas.List.{length-map, take_all}
+use Rattle.cq_fabric.proofs.Terms.{rules, refl, subst, arith, FnReturnsAt, length-map, take_all}
 use Rattle.cq_fabric.proofs.Filling.{one_told}
 use Rattle.cq_fabric.proofs.standing.all_told.Goals as goal
 

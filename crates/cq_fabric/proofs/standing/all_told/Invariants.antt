@@ -1,6 +1,4 @@
-use Rattle.std.proofs.Common.{◌≡◌, List, Ok, map, take}
-use Rattle.std.specs.Fn.{FnReturnsAt}
-use Rattle.cq_base.specs.declared.cell.Queued.{Queued}
+use Rattle.cq_fabric.proofs.Terms.{◌≡◌, List, Ok, map, take, FnReturnsAt, Queued}
 use Rattle.cq_fabric.proofs.standing.all_told.Given as goal
 
 -- those of the items before this one are there

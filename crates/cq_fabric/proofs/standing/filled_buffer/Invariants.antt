@@ -1,5 +1,4 @@
-use Rattle.std.proofs.Common.{◌≡◌, take}
-use Rattle.cq_fabric.specs.Queues.{buffer_room}
+use Rattle.cq_fabric.proofs.Terms.{◌≡◌, take, buffer_room}
 use Rattle.cq_fabric.proofs.standing.filled_buffer.Given as goal
 
 -- the cells before this one are there

@@ -1,9 +1,7 @@
-use Rattle.std.proofs.Common.{rules, arith, List, get_or, subst}
+use Rattle.cq_fabric.proofs.Terms.{rules, arith, List, get_or, subst, Queued, IsFilled}
 use Rattle.cq_fabric.proofs.Filling.{given_at, one_filled}
 use Rattle.cq_fabric.proofs.standing.filled_each.Given as given
 use Rattle.cq_fabric.proofs.standing.filled_each.Goals as goal
-use Rattle.cq_base.specs.declared.cell.Queued.{Queued}
-use Rattle.cq_fabric.specs.Telling.{IsFilled}
 
 pub fill-requires : goal.fill-requires
 fill-requires g c = search (arith, rules, c.requires.can, given_at)

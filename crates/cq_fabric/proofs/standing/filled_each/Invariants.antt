@@ -1,5 +1,4 @@
-use Rattle.std.proofs.Common.{Ok}
-use Rattle.cq_fabric.specs.Telling.{AllAreFilled}
+use Rattle.cq_fabric.proofs.Terms.{Ok, AllAreFilled}
 use Rattle.cq_fabric.proofs.standing.filled_each.Given as goal
 
 -- the items of the places before this one are made

@@ -1,5 +1,4 @@
-use Rattle.std.proofs.Common.{◌≡◌, take}
-use Rattle.cq_fabric.specs.Queues.{list_room}
+use Rattle.cq_fabric.proofs.Terms.{◌≡◌, take, list_room}
 use Rattle.cq_fabric.proofs.standing.filled_list.Given as goal
 
 -- the cells before this one wait

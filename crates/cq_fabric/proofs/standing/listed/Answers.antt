@@ -1,5 +1,4 @@
-use Rattle.std.proofs.Common.{arith, rules}
-use Rattle.std.proofs.lemmas.Result.{IfOk-weaker}
+use Rattle.cq_fabric.proofs.Terms.{arith, rules, IfOk-weaker}
 use Rattle.cq_fabric.proofs.standing.listed.Goals as goal
 
 pub returns : goal.returns

@@ -1,6 +1,4 @@
-use Rattle.std.proofs.Common.{◌≡◌, ◌<◌, ℕ, List, Some, length, take}
-use Rattle.std.specs.Prelude.{slice_get}
-use Rattle.cq_base.specs.declared.cell.Queued.{Queued}
+use Rattle.cq_fabric.proofs.Terms.{◌≡◌, ◌<◌, ℕ, List, Some, length, take, slice_get, Queued}
 use Rattle.cq_fabric.proofs.standing.told.Given as goal
 
 -- the cells before this place are there

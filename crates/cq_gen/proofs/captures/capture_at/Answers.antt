@@ -1,4 +1,4 @@
-use Rattle.std.proofs.Common.{arith, rules}
+use Rattle.cq_gen.proofs.Terms.{arith, rules}
 use Rattle.cq_gen.proofs.Small.{file_read, file_small, only_memory, same_packets}
 use Rattle.cq_gen.proofs.captures.capture_at.Goals as goal
 

@@ -1,6 +1,4 @@
-use Rattle.std.proofs.Common.{rules}
-use Rattle.cq_gen.specs.Packets.{packets_to}
-use Rattle.cq_gen.proofs.Counted.{counted_more}
+use Rattle.cq_gen.proofs.Terms.{rules, packets_to, counted_more}
 use Rattle.cq_gen.proofs.captures.captures_of.Goals as goal
 
 pub inputs-preserved : goal.inputs-preserved

@@ -1,6 +1,4 @@
-use Rattle.std.proofs.Common.{◌≡◌, map}
-use Rattle.std.specs.List.{range_with_len}
-use Rattle.cq_gen.specs.Packets.{packets_to}
+use Rattle.cq_gen.proofs.Terms.{◌≡◌, map, range_with_len, packets_to}
 use Rattle.cq_gen.proofs.captures.captures_of.Given as goal
 
 abbrev pub invariant-inputs : goal.invariant-inputs

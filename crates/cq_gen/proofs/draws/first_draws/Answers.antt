@@ -1,5 +1,4 @@
-use Rattle.std.proofs.Common.{arith, rules}
-use Rattle.cq_gen.specs.Draws.{generator_of}
+use Rattle.cq_gen.proofs.Terms.{arith, rules, generator_of}
 use Rattle.cq_gen.proofs.Drawn.{draws_all, draws_more, draws_none}
 use Rattle.cq_gen.proofs.draws.first_draws.Goals as goal
 

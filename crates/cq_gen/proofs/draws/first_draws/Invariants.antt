@@ -1,4 +1,4 @@
-use Rattle.std.proofs.Common.{◌-◌, length}
+use Rattle.cq_gen.proofs.Terms.{◌-◌, length}
 use Rattle.cq_gen.proofs.Drawn.{Draws}
 use Rattle.cq_gen.proofs.draws.first_draws.Given as goal
 

@@ -1,6 +1,4 @@
-use Rattle.std.proofs.Common.{◌≡◌, map}
-use Rattle.cq_pcap.specs.Written.{written}
-use Rattle.cq_gen.specs.Packets.{packets_to, to_write}
+use Rattle.cq_gen.proofs.Terms.{◌≡◌, map, written, packets_to, to_write}
 use Rattle.cq_gen.proofs.packets.file_to.Given as goal
 
 abbrev pub invariant-slots : goal.invariant-slots

@@ -1,7 +1,5 @@
-use Rattle.std.proofs.Common.{rules, ap, sym, subst, ◌∙◌, arith}
-use Rattle.std.proofs.lemmas.Nat.{mul-le}
+use Rattle.cq_gen.proofs.Terms.{rules, ap, sym, subst, ◌∙◌, arith, mul-le, AreTables, ports_of}
 use Rattle.cq_route.specs.declared.tables.Tables.{Tables}
-use Rattle.cq_route.specs.Tables.{AreTables, ports_of}
 use Rattle.cq_gen.proofs.InRange.{tables_in_range, tables_ports}
 use Rattle.cq_gen.proofs.Made.{captures_count, captures_lengths, captures_made, captures_of_draws}
 use Rattle.cq_gen.proofs.soak.make.Goals as goal

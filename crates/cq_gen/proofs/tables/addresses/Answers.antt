@@ -1,5 +1,4 @@
-use Rattle.std.proofs.Common.{arith, rules}
-use Rattle.cq_gen.proofs.Counted.{counted_more}
+use Rattle.cq_gen.proofs.Terms.{arith, rules, counted_more}
 use Rattle.cq_gen.proofs.tables.addresses.Goals as goal
 
 pub outputs-preserved : goal.outputs-preserved

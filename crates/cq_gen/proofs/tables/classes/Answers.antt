@@ -1,5 +1,4 @@
-use Rattle.std.proofs.Common.{arith, rules}
-use Rattle.cq_gen.proofs.Counted.{counted_more}
+use Rattle.cq_gen.proofs.Terms.{arith, rules, counted_more}
 use Rattle.cq_gen.proofs.tables.classes.Goals as goal
 
 pub classes-preserved : goal.classes-preserved

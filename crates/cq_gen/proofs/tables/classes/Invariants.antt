@@ -1,6 +1,4 @@
-use Rattle.std.proofs.Common.{◌≡◌, map}
-use Rattle.std.specs.List.{range_with_len}
-use Rattle.cq_gen.specs.Tables.{soak_class}
+use Rattle.cq_gen.proofs.Terms.{◌≡◌, map, range_with_len, soak_class}
 use Rattle.cq_gen.proofs.tables.classes.Given as goal
 
 abbrev pub invariant-classes : goal.invariant-classes

@@ -1,5 +1,4 @@
-use Rattle.std.proofs.Common.{arith, rules}
-use Rattle.std.proofs.lemmas.Iterator.{items_from_collect, YieldsList-from_map, YieldsList-from_range}
+use Rattle.cq_gen.proofs.Terms.{arith, rules, items_from_collect, YieldsList-from_map, YieldsList-from_range}
 use Rattle.cq_gen.proofs.tables.kinds.Goals as goal
 
 pub returns : goal.returns

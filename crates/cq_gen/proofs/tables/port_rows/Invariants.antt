@@ -1,5 +1,4 @@
-use Rattle.std.proofs.Common.{◌≡◌, replicate}
-use Rattle.cq_gen.specs.Tables.{soak_port}
+use Rattle.cq_gen.proofs.Terms.{◌≡◌, replicate, soak_port}
 use Rattle.cq_gen.proofs.tables.port_rows.Given as goal
 
 abbrev pub invariant-ports : goal.invariant-ports

@@ -1,6 +1,4 @@
-use Rattle.std.proofs.Common.{refl, rules}
-use Rattle.std.proofs.lemmas.Iterator.{items_from_collect, YieldsList-from_map, YieldsList-from_range}
-use Rattle.cq_gen.specs.Tables.{soak_rule}
+use Rattle.cq_gen.proofs.Terms.{refl, rules, items_from_collect, YieldsList-from_map, YieldsList-from_range, soak_rule}
 use Rattle.cq_gen.proofs.tables.rules.Goals as goal
 
 pub returns : goal.returns

@@ -1,5 +1,4 @@
-use Rattle.std.proofs.Common.{arith, rules}
-use Rattle.cq_ideal.specs.Admission.{admission, marks_after}
+use Rattle.cq_ideal.proofs.Terms.{arith, rules, admission, marks_after}
 use Rattle.cq_ideal.proofs.Admitted.{admitted_at}
 use Rattle.cq_ideal.proofs.AtInput.{come_in_order}
 use Rattle.cq_ideal.proofs.LimitedRuns.{judged}

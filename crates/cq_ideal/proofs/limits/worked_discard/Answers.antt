@@ -1,9 +1,4 @@
-use Rattle.std.proofs.Common.{refl}
-use Rattle.cq_base.specs.Key.{is_before}
-use Rattle.cq_ideal.specs.Admission.{admission}
-use Rattle.cq_ideal.specs.IdealSlot.{ideal_slot, filled, all_told}
-use Rattle.cq_ideal.specs.LimitedIdeal.{limited_run, limited_slot}
-use Rattle.cq_ideal.specs.Refused.{cells_refused, packets_refused, refused_counts}
+use Rattle.cq_ideal.proofs.Terms.{refl, is_before, admission, ideal_slot, filled, all_told, limited_run, limited_slot, cells_refused, packets_refused, refused_counts}
 use Rattle.cq_ideal.proofs.limits.worked_discard.Goals as goal
 
 pub returns-clause-run : goal.returns-clause-run

@@ -1,5 +1,4 @@
-use Rattle.std.proofs.Common.{rules, arith}
-use Rattle.std.proofs.lemmas.List.{take_all, take_more}
+use Rattle.cq_ideal.proofs.Terms.{rules, arith, take_all, take_more}
 use Rattle.cq_ideal.proofs.ranks.numbers_of.Goals as goal
 
 pub places-preserved : goal.places-preserved

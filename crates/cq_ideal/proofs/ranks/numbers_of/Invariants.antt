@@ -1,4 +1,4 @@
-use Rattle.std.proofs.Common.{◌≡◌, length, take, vec_len, vec_capacity}
+use Rattle.cq_ideal.proofs.Terms.{◌≡◌, length, take, vec_len, vec_capacity}
 use Rattle.cq_ideal.proofs.ranks.numbers_of.Given as goal
 
 -- the numbers before this place are there, and there is room for all

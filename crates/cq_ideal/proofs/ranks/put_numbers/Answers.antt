@@ -1,4 +1,4 @@
-use Rattle.std.proofs.Common.{rules, refl, arith}
+use Rattle.cq_ideal.proofs.Terms.{rules, refl, arith}
 use Rattle.cq_ideal.proofs.Changed.{at_end, length-changed, put_next}
 use Rattle.cq_ideal.proofs.ranks.put_numbers.Goals as goal
 

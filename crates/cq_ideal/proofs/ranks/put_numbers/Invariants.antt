@@ -1,4 +1,4 @@
-use Rattle.std.proofs.Common.{◌≡◌}
+use Rattle.cq_ideal.proofs.Terms.{◌≡◌}
 use Rattle.cq_ideal.proofs.Changed.{changed_to}
 use Rattle.cq_ideal.proofs.ranks.put_numbers.Given as goal
 

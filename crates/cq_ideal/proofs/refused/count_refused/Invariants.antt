@@ -1,5 +1,4 @@
-use Rattle.std.proofs.Common.{◌≡◌, ◌∷◌, []}
-use Rattle.cq_ideal.specs.Refused.{with_refused}
+use Rattle.cq_ideal.proofs.Terms.{◌≡◌, ◌∷◌, [], with_refused}
 use Rattle.cq_ideal.proofs.Changed.{changed_to}
 use Rattle.cq_ideal.proofs.refused.count_refused.Given as goal
 

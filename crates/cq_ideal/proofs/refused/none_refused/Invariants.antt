@@ -1,5 +1,4 @@
-use Rattle.std.proofs.Common.{◌≡◌, ◌++◌, [], drop}
-use Rattle.cq_ideal.specs.Refused.{refused_counts}
+use Rattle.cq_ideal.proofs.Terms.{◌≡◌, ◌++◌, [], drop, refused_counts}
 use Rattle.cq_ideal.proofs.Refusals.{counts_from}
 use Rattle.cq_ideal.proofs.refused.none_refused.Given as goal
 

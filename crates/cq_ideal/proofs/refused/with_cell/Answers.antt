@@ -1,5 +1,4 @@
-use Rattle.std.proofs.Common.{rules, arith}
-use Rattle.std.proofs.lemmas.Bool.{eq-eqb, ne_eqb}
+use Rattle.cq_ideal.proofs.Terms.{rules, arith, eq-eqb, ne_eqb}
 use Rattle.cq_ideal.proofs.Counting.{one_if, other_output, this_output}
 use Rattle.cq_ideal.proofs.refused.with_cell.Goals as goal
 

@@ -17,9 +17,8 @@ pub returns-clause-without_limits : goal.returns-clause-without_limits
 returns-clause-without_limits c = stable_alike_without_limits
 
 pub returns-clause-slack : goal.returns-clause-slack
-returns-clause-slack c =
-    λ ms slot class_count traffic f g ideal rs agrees come run. run_slack ms class_count slot traffic f g ideal rs
-    agrees come run
+returns-clause-slack c = λ ms slot class_count traffic f g ideal rs agrees come run.
+    run_slack ms class_count slot traffic f g ideal rs agrees come run
 
 pub returns-clause-begin : goal.returns-clause-begin
 returns-clause-begin c = empty_agree

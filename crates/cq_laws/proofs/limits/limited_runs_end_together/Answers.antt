@@ -1,8 +1,5 @@
-use Rattle.std.proofs.Common.{length}
-use Rattle.cq_ideal.specs.Ending.{first_slots}
-use Rattle.cq_ideal.specs.LimitedIdeal.{empty_limited}
-use Rattle.cq_ideal.proofs.LimitedEnds.{limited_found_end, limited_whole_fault}
-use Rattle.cq_laws.specs.LimitedFabric.{empty_limited_fabric}
+use Rattle.cq_laws.proofs.Terms.{length, empty_limited_fabric, limited_found_end, limited_whole_fault}
+use Rattle.cq_laws.specs.Terms.{first_slots, empty_limited}
 use Rattle.cq_laws.proofs.LimitedEnds.{limited_ends, one_limited_whole}
 use Rattle.cq_laws.proofs.LimitedWhole.{begin, same_limited_stop}
 use Rattle.cq_laws.proofs.limits.limited_runs_end_together.Goals as goal

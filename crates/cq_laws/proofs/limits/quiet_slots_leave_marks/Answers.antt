@@ -1,5 +1,4 @@
-use Rattle.std.proofs.Common.{arith, rules}
-use Rattle.cq_ideal.proofs.Admitted.{no_arrivals_refuse_none}
+use Rattle.cq_laws.proofs.Terms.{arith, rules, no_arrivals_refuse_none}
 use Rattle.cq_prefs.specs.Pairing.{IsInputBest}
 use Rattle.cq_laws.proofs.NothingRefused.{none_come, run_with, slot_with}
 use Rattle.cq_laws.proofs.QuietSlots.{quiet, quiet_run}

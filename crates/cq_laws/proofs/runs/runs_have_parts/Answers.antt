@@ -1,5 +1,4 @@
-use Rattle.cq_prefs.specs.Pairing.{IsInputBest, IsStable}
-use Rattle.cq_laws.specs.FabricSlot.{FabricSlot}
+use Rattle.cq_laws.proofs.Terms.{IsInputBest, IsStable, FabricSlot}
 use Rattle.cq_laws.proofs.Parted.{parts}
 use Rattle.cq_laws.proofs.runs.runs_have_parts.Goals as goal
 

@@ -1,5 +1,4 @@
-use Rattle.std.proofs.Common.{arith, rules}
-use Rattle.std.proofs.lemmas.Bool.{true≢false}
+use Rattle.cq_ledger.proofs.Terms.{arith, rules, true≢false}
 use Rattle.cq_ledger.proofs.Readings.{offered-at}
 use Rattle.cq_ledger.proofs.answer.asked_by.Goals as goal
 

@@ -1,5 +1,4 @@
-use Rattle.std.proofs.Common.{rules, arith}
-use Rattle.cq_prefs.proofs.Places.{outputs_at_most}
+use Rattle.cq_ledger.proofs.Terms.{rules, arith, outputs_at_most}
 use Rattle.cq_ledger.proofs.answer.hand_next.Goals as goal
 
 pub overflow_add-place : goal.overflow_add-place

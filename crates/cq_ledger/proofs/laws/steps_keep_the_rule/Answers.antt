@@ -1,8 +1,4 @@
-use Rattle.std.proofs.Common.{◌++◌, [], ◌∷◌, subst}
-use Rattle.std.specs.Prelude.{slice_set}
-use Rattle.cq_prefs.specs.Orders.{Orders}
-use Rattle.cq_ledger.specs.Rule.{IsLedger}
-use Rattle.cq_ledger.specs.Steps.{blank}
+use Rattle.cq_ledger.proofs.Terms.{◌++◌, [], ◌∷◌, subst, slice_set, Orders, IsLedger, blank}
 use Rattle.cq_ledger.proofs.Allowed.{proposal-keeps}
 use Rattle.cq_ledger.proofs.Claiming.{claim-keeps}
 use Rattle.cq_ledger.proofs.Events.{refused-keeps}
@@ -17,9 +13,8 @@ returns c =
       claim_taken =
           λ o words views id i v m h r clear. claim-keeps o words views m.rule id i v m.sits r clear h m.offers;
       claim_refused = λ o words views id i v m claimed. refused-keeps o words views m.rule id v m.sits i claimed;
-      split = λ o words views id v m.
-          let P : Orders → Type 0 = λ x. IsLedger o words (slice_set views id v ++ blank x ∷ []) in
-          subst P m.offers (split-keeps o words views m.rule id v m.sits);
+      split = λ o words views id v m. subst (λ (x : Orders). IsLedger o words (slice_set views id v ++ blank x ∷ []))
+          m.offers (split-keeps o words views m.rule id v m.sits);
       join = λ o words views id other v w m at apart h g.
           join-keeps o words views m.rule id v m.sits other w apart at h g;
     }

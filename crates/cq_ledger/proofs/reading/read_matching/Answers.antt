@@ -1,9 +1,4 @@
-use Rattle.std.proofs.Common.{rules, ◌+◌, ◌∙◌, sym, subst, arith}
-use Rattle.std.specs.Slots.{slots_items}
-use Rattle.cq_prefs.specs.Pairing.{Partners}
-use Rattle.cq_prefs.specs.Proposals.{State, IsSound}
-use Rattle.cq_prefs.proofs.Places.{inputs_at_most}
-use Rattle.cq_ledger.specs.Reading.{Shows}
+use Rattle.cq_ledger.proofs.Terms.{rules, ◌∙◌, arith, slots_items, State, IsSound, inputs_at_most, Shows}
 use Rattle.cq_ledger.proofs.Matched.{IsRead, IsWord, holder_inside, holder_free, word_joins, word_skips, output_free, reads_all}
 use Rattle.cq_ledger.proofs.reading.read_matching.Goals as goal
 use Rattle.cq_ledger.proofs.reading.read_matching.Goals.{After-word-word, then-word-ports, else-word-ports}
@@ -43,11 +38,10 @@ loop-output-preserved c = λ s w shows.
     let is = word (goal.at.loop-output-preserved c).After-word-word s w shows in
     let r = c.loop-output.invariant s w shows in
     let v = c.ports-ports.ensures.offers in
-    let P : Partners → Type 0 = λ m. IsRead c.args.offers.now s m (c.loop-output.output + 1) in
     elim c.if-word-ports.branch [
-      | then-word-ports b ↦ subst P (sym (b.matching-is ∙ b.join.ensures))
+      | then-word-ports b ↦ rw (b.matching-is ∙ b.join.ensures)
           (word_joins _ _ _ _ _ is _ c.ports-ports.ensures.value b.if-word-ports.true _ b.inputs_of.ensures v _ r)
-      | else-word-ports b ↦ subst P (sym b.matching-is)
+      | else-word-ports b ↦ rw b.matching-is
           (word_skips _ _ _ _ _ is v _ r (b.if-word-ports.false ∙ c.ports-ports.ensures.value))
     ]
 

@@ -1,6 +1,4 @@
-use Rattle.std.specs.Slots.{slots_items}
-use Rattle.cq_prefs.specs.Proposals.{State, IsSound}
-use Rattle.cq_ledger.specs.Reading.{Shows}
+use Rattle.cq_ledger.proofs.Terms.{slots_items, State, IsSound, Shows}
 use Rattle.cq_ledger.proofs.Matched.{IsRead}
 use Rattle.cq_ledger.proofs.reading.read_matching.Given as goal
 

@@ -1,5 +1,4 @@
-use Rattle.std.proofs.Common.{arith, rules, add-one}
-use Rattle.std.proofs.lemmas.List.{take-replicate}
+use Rattle.cq_ledger.proofs.Terms.{arith, rules, add-one, take-replicate}
 use Rattle.cq_ledger.proofs.words.first_words.Goals as goal
 
 pub returns : goal.returns

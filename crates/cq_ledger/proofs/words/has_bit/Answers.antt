@@ -1,7 +1,4 @@
-use Rattle.std.proofs.Common.{rules, arith}
-use Rattle.std.proofs.lemmas.Bool.{eqb-true, eq-eqb, ltb-true}
-use Rattle.std.proofs.lemmas.Nat.Bits.{shr_and_one}
-use Rattle.cq_ledger.specs.Views.{bit}
+use Rattle.cq_ledger.proofs.Terms.{rules, arith, eqb-true, eq-eqb, ltb-true, shr_and_one, bit}
 use Rattle.cq_ledger.proofs.Views.{bit-past}
 use Rattle.cq_ledger.proofs.words.has_bit.Goals as goal
 

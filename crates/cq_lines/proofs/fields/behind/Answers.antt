@@ -1,5 +1,4 @@
-use Rattle.std.proofs.lemmas.Bool.Decides.{Decides-eqb}
-use Rattle.std.proofs.lemmas.Slice.Eq.{strip_prefix_is}
+use Rattle.cq_lines.proofs.Terms.{Decides-eqb, strip_prefix_is}
 use Rattle.cq_lines.proofs.fields.behind.Goals as goal
 
 pub returns : goal.returns

@@ -1,4 +1,4 @@
-use Rattle.std.proofs.Common.{arith}
+use Rattle.cq_lines.proofs.Terms.{arith}
 use Rattle.cq_lines.proofs.Walk.{one_read_more, no_next, no_end, line_read}
 use Rattle.cq_lines.proofs.fields.take_fields.Goals as goal
 

@@ -1,4 +1,4 @@
-use Rattle.std.proofs.Common.{length}
+use Rattle.cq_lines.proofs.Terms.{length}
 use Rattle.cq_lines.proofs.Walk.{ReadSoFar}
 use Rattle.cq_lines.proofs.fields.take_fields.Given as goal
 

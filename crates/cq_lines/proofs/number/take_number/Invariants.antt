@@ -1,5 +1,4 @@
-use Rattle.std.proofs.Common.{◌≡◌, ◌++◌, length}
-use Rattle.cq_base.specs.Decimal.{decimal}
+use Rattle.cq_lines.proofs.Terms.{◌≡◌, ◌++◌, length, decimal}
 use Rattle.cq_lines.proofs.number.take_number.Given as goal
 
 abbrev pub invariant-digits : goal.invariant-digits

@@ -1,5 +1,4 @@
-use Rattle.std.proofs.Common.{ℕ, ◌<◌, get_or, None}
-use Rattle.cq_lines.specs.Ranges.{InRange, any_number}
+use Rattle.cq_lines.proofs.Terms.{ℕ, ◌<◌, get_or, None, InRange, any_number}
 use Rattle.cq_lines.proofs.range.are_within.Given as goal
 
 abbrev pub invariant-fields : goal.invariant-fields

@@ -1,4 +1,4 @@
-use Rattle.std.proofs.Common.{arith, rules}
+use Rattle.cq_lines.proofs.Terms.{arith, rules}
 use Rattle.cq_lines.proofs.Walk.{one_ending, within_fits, few_within}
 use Rattle.cq_lines.proofs.range.take_fields_within.Goals as goal
 

@@ -1,4 +1,4 @@
-use Rattle.std.proofs.Common.{◌≡◌, ◌++◌, take}
+use Rattle.cq_lines.proofs.Terms.{◌≡◌, ◌++◌, take}
 use Rattle.cq_lines.proofs.Walk.{begun}
 use Rattle.cq_lines.proofs.write.put_line.Given as goal
 

@@ -1,5 +1,4 @@
-use Rattle.std.proofs.Common.{◌≡◌, ◌+◌, drop}
-use Rattle.cq_list.specs.Split.{is_output, place_of_nth}
+use Rattle.cq_list.proofs.Terms.{◌≡◌, ◌+◌, drop, is_output, place_of_nth}
 use Rattle.cq_list.proofs.block.nth.Given as goal
 
 -- the places that are left give the rest of the answer

@@ -1,6 +1,4 @@
-use Rattle.std.proofs.Common.{rules, arith}
-use Rattle.std.proofs.lemmas.List.{get_or_read}
-use Rattle.std.proofs.lemmas.List.Edits.{length-insert}
+use Rattle.cq_list.proofs.Terms.{rules, arith, get_or_read, length-insert}
 use Rattle.cq_list.proofs.Blocks.{append_in}
 use Rattle.cq_list.proofs.Filled.{filled_longer, full_last}
 use Rattle.cq_list.proofs.places.append_behind.Goals as goal

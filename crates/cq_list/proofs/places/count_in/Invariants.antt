@@ -1,6 +1,4 @@
-use Rattle.std.proofs.Common.{◌≡◌, ◌+◌, ◌≤◌, take, drop, length}
-use Rattle.std.specs.List.{concat}
-use Rattle.cq_list.specs.Split.{count_of}
+use Rattle.cq_list.proofs.Terms.{◌≡◌, ◌+◌, ◌≤◌, take, drop, length, concat, count_of}
 use Rattle.cq_list.proofs.places.count_in.Given as goal
 
 -- the blocks that are left give the rest of the answer

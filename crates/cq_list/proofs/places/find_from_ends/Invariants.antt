@@ -1,5 +1,4 @@
-use Rattle.std.proofs.Common.{◌-◌, ◌<◌, ◌≤◌, length}
-use Rattle.cq_list.specs.Places.{IsAhead}
+use Rattle.cq_list.proofs.Terms.{◌-◌, ◌<◌, ◌≤◌, length, IsAhead}
 use Rattle.cq_list.proofs.places.find_from_ends.Given as goal
 
 -- the place is in a block that neither end has passed

@@ -1,4 +1,4 @@
-use Rattle.std.proofs.Common.{rules, arith}
+use Rattle.cq_list.proofs.Terms.{rules, arith}
 use Rattle.cq_list.proofs.BlockWalk.{none_ahead, some_blocks, count_next}
 use Rattle.cq_list.proofs.places.find_nth.Goals as goal
 

@@ -1,6 +1,4 @@
-use Rattle.std.proofs.Common.{rules, arith}
-use Rattle.std.proofs.lemmas.List.{get_or_read}
-use Rattle.std.proofs.lemmas.List.Edits.{length-insert}
+use Rattle.cq_list.proofs.Terms.{rules, arith, get_or_read, length-insert}
 use Rattle.cq_list.proofs.Blocks.{inserted_at}
 use Rattle.cq_list.proofs.Filled.{filled_longer}
 use Rattle.cq_list.proofs.places.insert_inside.Goals as goal

@@ -1,4 +1,4 @@
-use Rattle.std.proofs.Common.{rules, arith}
+use Rattle.cq_list.proofs.Terms.{rules, arith}
 use Rattle.cq_list.proofs.Blocks.{push_in}
 use Rattle.cq_list.proofs.Filled.{room_for_block, filled_pushed}
 use Rattle.cq_list.proofs.places.push_block.Goals as goal

@@ -1,7 +1,4 @@
-use Rattle.std.proofs.Common.{rules, [], ap, length, arith, ◌∙◌}
-use Rattle.std.specs.Prelude.{remove}
-use Rattle.std.proofs.lemmas.List.{get_or_read}
-use Rattle.std.proofs.lemmas.List.Edits.{length-remove}
+use Rattle.cq_list.proofs.Terms.{rules, [], ap, length, arith, ◌∙◌, remove, get_or_read, length-remove}
 use Rattle.cq_list.proofs.Blocks.{removed_at}
 use Rattle.cq_list.proofs.Filled.{filled_set}
 use Rattle.cq_list.proofs.places.remove_at.Goals as goal

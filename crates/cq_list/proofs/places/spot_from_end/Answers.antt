@@ -1,8 +1,6 @@
-use Rattle.std.proofs.Common.{rules, ◌-◌, arith, ◌≡◌, ◌+◌, length, take, ap}
-use Rattle.std.proofs.lemmas.List.{take_all}
+use Rattle.cq_list.proofs.Terms.{rules, ◌-◌, arith, ◌≡◌, ◌+◌, length, take, ap, take_all, concat}
 use Rattle.cq_list.proofs.BlockWalk.{starts_back, spot_back}
 use Rattle.cq_list.proofs.places.spot_from_end.Goals as goal
-use Rattle.std.specs.List.{concat}
 
 pub each-init : goal.each-init
 each-init c = search (arith, rules, take_all)

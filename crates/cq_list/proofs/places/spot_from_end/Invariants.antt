@@ -1,5 +1,4 @@
-use Rattle.std.proofs.Common.{◌≡◌, ◌-◌, ◌<◌, length, take}
-use Rattle.std.specs.List.{concat}
+use Rattle.cq_list.proofs.Terms.{◌≡◌, ◌-◌, ◌<◌, length, take, concat}
 use Rattle.cq_list.proofs.places.spot_from_end.Given as goal
 
 -- the place is ahead of the blocks that were passed

@@ -1,5 +1,4 @@
-use Rattle.std.proofs.Common.{◌≡◌, ◌+◌, take, length}
-use Rattle.std.specs.List.{concat}
+use Rattle.cq_list.proofs.Terms.{◌≡◌, ◌+◌, take, length, concat}
 use Rattle.cq_list.proofs.places.spot_from_start.Given as goal
 
 abbrev pub invariant-each : goal.invariant-each

@@ -1,13 +1,7 @@
-use Rattle.std.proofs.Common.{rules, ◌≡◌, ◌+◌, ◌++◌, get_or, [], arith, sym, subst, List, ⊎_elim}
-use Rattle.std.specs.Prelude.{insert, slice_set, ℕ}
-use Rattle.std.proofs.lemmas.Bool.{cases_lt}
-use Rattle.std.proofs.lemmas.List.{get_or_read}
-use Rattle.cq_list.specs.Places.{IsSpot}
-use Rattle.cq_list.proofs.Waiting.{left_by_ok}
-use Rattle.cq_list.proofs.Blocks.{spot_along, split_in, in_front_half, in_back_half}
+use Rattle.cq_list.proofs.Terms.{rules, ◌≡◌, ◌+◌, ◌++◌, get_or, [], arith, insert, slice_set, get_or_read, IsSpot, left_by_ok}
+use Rattle.cq_list.proofs.Blocks.{spot_along, split_in, in_half}
 use Rattle.cq_list.proofs.Filled.{room_for_block, filled_split}
 use Rattle.cq_list.proofs.places.spot_with_room.Goals as goal
-use Rattle.cq_list.specs.declared.places.Spot.{Spot}
 
 pub unwrap-requires : goal.unwrap-requires
 unwrap-requires c =
@@ -31,25 +25,8 @@ returns-clause-places c = search (arith, rules, halved, split_in)
 
 pub returns-clause-spot : goal.returns-clause-spot
 returns-clause-spot c =
-    let h = halved c in
-    let blocks : List (List ℕ) = c.args.blocks.now.items in
-    let half = c.split_off-back.ensures.front in
-    let at : Spot = c.spot_of-spot.result in
-    subst (λ (l : List (List ℕ)). IsSpot l c.args.place c.in_halves.result.block c.in_halves.result.within)
-    (sym h.items)
-    (⊎_elim
-    (λ early.
-    subst (λ (s : Spot). IsSpot (insert (slice_set blocks at.block c.split_off-back.new.self)
-    (at.block + 1) c.split_off-back.result) c.args.place s.block s.within)
-    (sym (c.in_halves.ensures.front early))
-    (in_front_half blocks c.args.place at.block at.within _ _ h.spot h.parts half early))
-    (λ late.
-    let moved = c.in_halves.ensures.back late in
-    subst (λ (b : ℕ). IsSpot (insert (slice_set blocks at.block c.split_off-back.new.self)
-    (at.block + 1) c.split_off-back.result) c.args.place b c.in_halves.result.within)
-    (sym moved.0)
-    (in_back_half blocks c.args.place at.block at.within _ _ h.spot h.parts half c.in_halves.result.within moved.1))
-    (cases_lt c.spot_of-spot.result.within 32))
+    let h = halved c in rw h.items (in_half _ _ _ _ _ _ h.spot h.parts c.split_off-back.ensures.front
+    c.in_halves.ensures.front c.in_halves.ensures.back)
 
 pub returns-clause-capacity : goal.returns-clause-capacity
 returns-clause-capacity c =

@@ -1,4 +1,4 @@
-use Rattle.std.proofs.Common.{rules, arith}
+use Rattle.cq_list.proofs.Terms.{rules, arith}
 use Rattle.cq_list.proofs.BlockWalk.{ahead_with, block_fits, count_next, count_all_le}
 use Rattle.cq_list.proofs.places.with_block.Goals as goal
 

@@ -1,4 +1,4 @@
-use Rattle.std.proofs.Common.{rules, arith}
+use Rattle.cq_list.proofs.Terms.{rules, arith}
 use Rattle.cq_list.proofs.BlockWalk.{ahead_without, ahead_next, count_next}
 use Rattle.cq_list.proofs.places.without_block.Goals as goal
 

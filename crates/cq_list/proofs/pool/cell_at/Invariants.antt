@@ -1,4 +1,4 @@
-use Rattle.slab.specs.Slab.{get}
+use Rattle.cq_list.proofs.Terms.{get}
 use Rattle.cq_list.proofs.Walk.{HasReached}
 use Rattle.cq_list.proofs.pool.cell_at.Given as goal
 

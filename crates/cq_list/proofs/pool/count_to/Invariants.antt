@@ -1,5 +1,4 @@
-use Rattle.slab.specs.Slab.{get}
-use Rattle.cq_base.specs.Cells.{has_id}
+use Rattle.cq_list.proofs.Terms.{get, has_id}
 use Rattle.cq_list.proofs.Walk.{HasPassed}
 use Rattle.cq_list.proofs.pool.count_to.Given as goal
 

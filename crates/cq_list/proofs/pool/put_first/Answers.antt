@@ -1,6 +1,5 @@
-use Rattle.std.proofs.Common.{arith, rules}
-use Rattle.cq_list.proofs.Linked.{chain_first}
-use Rattle.cq_list.proofs.Relink.{still_there}
+use Rattle.cq_list.proofs.Terms.{arith, rules}
+use Rattle.cq_list.proofs.Linked.{chain_first, still_there}
 use Rattle.cq_list.proofs.pool.put_first.Goals as goal
 
 pub returns-clause-chained : goal.returns-clause-chained

@@ -1,7 +1,4 @@
-use Rattle.std.proofs.Common.{arith, rules, ◌∙◌, refl, sym, ap}
-use Rattle.std.specs.Prelude.{insert}
-use Rattle.slab.specs.Slab.{get}
-use Rattle.cq_list.specs.Pool.{linked}
+use Rattle.cq_list.proofs.Terms.{arith, rules, ◌∙◌, refl, sym, ap, insert, get, linked}
 use Rattle.cq_list.proofs.Linked.{linked_more, are_more}
 use Rattle.cq_list.proofs.pool.put_into.Goals as goal
 
@@ -12,9 +9,7 @@ returns-then-ahead-eq0-clause-linked c = linked_more (get c.args.nodes.now) _ _ 
     (sym c.if-ahead-eq0.true)) refl c.last_of-last.ensures
 
 pub returns : goal.returns
-returns c = search (
-  arith,
-  rules,
-  are_more (get c.args.nodes.now) _ _ c.args.queue _ c.args.ahead.count _ c.args.queued c.requires.linked refl
-      c.requires.other_key c.requires.count c.put_behind-place.ensures.chained refl c.last_of-last-2.ensures,
-)
+returns c =
+    let more = are_more (get c.args.nodes.now) _ _ c.args.queue _ c.args.ahead.count _ c.args.queued c.requires.linked
+    refl c.requires.other_key c.requires.count c.put_behind-place.ensures.chained refl c.last_of-last-2.ensures in
+    search (arith, rules)

@@ -1,5 +1,4 @@
-use Rattle.slab.specs.Slab.{get}
-use Rattle.cq_list.specs.Pool.{linked, EndsAt}
+use Rattle.cq_list.proofs.Terms.{get, linked, EndsAt}
 use Rattle.cq_list.proofs.Put.{is_no_sooner}
 use Rattle.cq_list.proofs.Walk.{HasPassed}
 use Rattle.cq_list.proofs.pool.walk.Given as goal

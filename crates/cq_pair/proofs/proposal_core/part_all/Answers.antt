@@ -1,5 +1,4 @@
-use Rattle.std.proofs.Common.{rules, ◌+◌, sym, subst, arith}
-use Rattle.cq_prefs.specs.Pairing.{Partners}
+use Rattle.cq_pair.proofs.Terms.{rules, ◌+◌, sym, subst, arith, Partners}
 use Rattle.cq_pair.proofs.Leaving.{ArePartedBefore, parted-next, parted-all}
 use Rattle.cq_pair.proofs.proposal_core.part_all.Goals as goal
 

@@ -1,4 +1,4 @@
-use Rattle.std.proofs.Common.{arith, rules}
+use Rattle.cq_pcap.proofs.Terms.{arith, rules}
 use Rattle.cq_pcap.proofs.ReadIsSpelt.{spelt_or_faulty}
 use Rattle.cq_pcap.proofs.SpeltIsRead.{fault_is_read, spelt_is_read}
 use Rattle.cq_pcap.proofs.laws.a_file_has_packets_or_a_fault.Goals as goal

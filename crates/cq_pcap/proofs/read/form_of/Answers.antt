@@ -1,4 +1,4 @@
-use Rattle.std.proofs.Common.{arith, rules}
+use Rattle.cq_pcap.proofs.Terms.{arith, rules}
 use Rattle.cq_pcap.proofs.Refused.{err_map, ok_map}
 use Rattle.cq_pcap.proofs.Rows.{header_fault, rows_none}
 use Rattle.cq_pcap.proofs.read.form_of.Goals as goal

@@ -1,5 +1,4 @@
-use Rattle.std.proofs.Common.{arith, rules}
-use Rattle.cq_pcap.specs.Faults.{IsFaulty}
+use Rattle.cq_pcap.proofs.Terms.{arith, rules, IsFaulty}
 use Rattle.cq_pcap.proofs.Refused.{refused_map}
 use Rattle.cq_pcap.proofs.SpeltIsRead.{fault_is_read, spelt_is_read}
 use Rattle.cq_pcap.proofs.read.read_capture.Goals as goal

@@ -1,4 +1,4 @@
-use Rattle.std.proofs.Common.{arith, rules}
+use Rattle.cq_pcap.proofs.Terms.{arith, rules}
 use Rattle.cq_pcap.proofs.Refused.{some_is}
 use Rattle.cq_pcap.proofs.read.rows_of.Goals as goal
 

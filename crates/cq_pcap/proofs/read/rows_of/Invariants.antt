@@ -1,5 +1,4 @@
-use Rattle.std.proofs.Common.{◌-◌, length}
-use Rattle.cq_pcap.specs.Rows.{AreRowsTo}
+use Rattle.cq_pcap.proofs.Terms.{◌-◌, length, AreRowsTo}
 use Rattle.cq_pcap.proofs.read.rows_of.Given as goal
 
 abbrev pub invariant-records : goal.invariant-records

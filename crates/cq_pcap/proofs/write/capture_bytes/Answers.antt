@@ -1,5 +1,4 @@
-use Rattle.std.proofs.Common.{◌++◌, List, ℕ, ap, ◌∙◌}
-use Rattle.cq_pcap.specs.Written.{record_of}
+use Rattle.cq_pcap.proofs.Terms.{◌++◌, List, ℕ, ap, ◌∙◌, record_of}
 use Rattle.cq_pcap.proofs.Writing.{written-more}
 use Rattle.cq_pcap.proofs.write.capture_bytes.Goals as goal
 

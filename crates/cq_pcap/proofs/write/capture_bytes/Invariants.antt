@@ -1,5 +1,4 @@
-use Rattle.std.proofs.Common.{◌≡◌, take}
-use Rattle.cq_pcap.specs.Written.{written}
+use Rattle.cq_pcap.proofs.Terms.{◌≡◌, take, written}
 use Rattle.cq_pcap.proofs.write.capture_bytes.Given as goal
 
 abbrev pub invariant-loop-packet : goal.invariant-loop-packet

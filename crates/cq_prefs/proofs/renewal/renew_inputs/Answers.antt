@@ -1,7 +1,5 @@
-use Rattle.std.proofs.Common.{arith, rules, ◌∙◌, sym, ap}
-use Rattle.std.specs.List.{position_or_len}
-use Rattle.cq_list.specs.InputList.{cells_of}
-use Rattle.cq_prefs.proofs.OneRow.{input_gone, input_room, input_back}
+use Rattle.cq_prefs.proofs.Terms.{arith, rules, ◌∙◌, sym, ap, position_or_len, cells_of}
+use Rattle.cq_prefs.proofs.Renewing.{input_gone, input_room, input_back}
 use Rattle.cq_prefs.proofs.renewal.renew_inputs.Goals as goal
 
 pub insert-requires-clause-room : goal.insert-requires-clause-room

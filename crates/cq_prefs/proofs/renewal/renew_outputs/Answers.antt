@@ -1,8 +1,6 @@
-use Rattle.std.proofs.Common.{arith, rules, ◌∙◌, sym, ap}
-use Rattle.std.specs.List.{position_or_len}
-use Rattle.cq_base.proofs.Lists.{taken_none}
-use Rattle.cq_prefs.proofs.OneRow.{output_gone, output_room, output_back}
-use Rattle.cq_prefs.proofs.Placed.{found_place}
+use Rattle.cq_prefs.proofs.Terms.{arith, rules, ◌∙◌, sym, ap, position_or_len, taken_none}
+use Rattle.cq_prefs.proofs.Renewing.{output_gone, output_room, output_back}
+use Rattle.cq_prefs.proofs.ByKey.{found_place}
 use Rattle.cq_prefs.proofs.renewal.renew_outputs.Goals as goal
 
 pub insert-requires-clause-room : goal.insert-requires-clause-room

@@ -1,5 +1,4 @@
-use Rattle.std.proofs.Common.{arith, rules}
-use Rattle.cq_base.proofs.Decimals.{decimal_small}
+use Rattle.cq_report.proofs.Terms.{arith, rules, decimal_small}
 use Rattle.cq_report.proofs.Hundreds.{three_digits, two_digits}
 use Rattle.cq_report.proofs.numerals.numeral_of.Goals as goal
 

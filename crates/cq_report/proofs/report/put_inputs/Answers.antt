@@ -1,4 +1,4 @@
-use Rattle.cq_report.specs.Report.{input_line}
+use Rattle.cq_report.proofs.Terms.{input_line}
 use Rattle.cq_report.proofs.OneMore.{numbered_more}
 use Rattle.cq_report.proofs.report.put_inputs.Goals as goal
 

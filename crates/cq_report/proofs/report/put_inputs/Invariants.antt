@@ -1,5 +1,4 @@
-use Rattle.std.proofs.Common.{◌≡◌, ◌++◌, take}
-use Rattle.cq_report.specs.Report.{numbered_lines, input_line}
+use Rattle.cq_report.proofs.Terms.{◌≡◌, ◌++◌, take, numbered_lines, input_line}
 use Rattle.cq_report.proofs.report.put_inputs.Given as goal
 
 abbrev pub invariant-inputs : goal.invariant-inputs

@@ -1,6 +1,4 @@
-use Rattle.std.proofs.Common.{◌≡◌, ◌++◌, take}
-use Rattle.std.specs.List.{flat_map}
-use Rattle.cq_report.specs.Report.{limit_line}
+use Rattle.cq_report.proofs.Terms.{◌≡◌, ◌++◌, take, flat_map, limit_line}
 use Rattle.cq_report.proofs.report.put_limits.Given as goal
 
 abbrev pub invariant-limits : goal.invariant-limits

@@ -1,4 +1,4 @@
-use Rattle.cq_report.specs.Report.{output_line}
+use Rattle.cq_report.proofs.Terms.{output_line}
 use Rattle.cq_report.proofs.OneMore.{numbered_more}
 use Rattle.cq_report.proofs.report.put_outputs.Goals as goal
 

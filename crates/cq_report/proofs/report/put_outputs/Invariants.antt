@@ -1,5 +1,4 @@
-use Rattle.std.proofs.Common.{◌≡◌, ◌++◌, take}
-use Rattle.cq_report.specs.Report.{numbered_lines, output_line}
+use Rattle.cq_report.proofs.Terms.{◌≡◌, ◌++◌, take, numbered_lines, output_line}
 use Rattle.cq_report.proofs.report.put_outputs.Given as goal
 
 abbrev pub invariant-outputs : goal.invariant-outputs

@@ -1,5 +1,4 @@
-use Rattle.std.proofs.Common.{arith, rules}
-use Rattle.cq_report.specs.Report.{report_of, report_with}
+use Rattle.cq_report.proofs.Terms.{arith, rules, report_of, report_with}
 use Rattle.cq_report.proofs.Words.{three_lines}
 use Rattle.cq_report.proofs.report.report_text.Goals as goal
 

@@ -1,4 +1,4 @@
-use Rattle.std.proofs.Common.{◌≤◌, take, arith}
+use Rattle.cq_report.proofs.Terms.{◌≤◌, take, arith}
 use Rattle.cq_report.proofs.Hundreds.{two_digits_behind, two_longer}
 use Rattle.cq_report.proofs.sheet.+put_long.Goals as goal
 

@@ -1,4 +1,4 @@
-use Rattle.std.proofs.Common.{rules, arith}
+use Rattle.cq_report.proofs.Terms.{rules, arith}
 use Rattle.cq_report.proofs.Hundreds.{line_feed_behind}
 use Rattle.cq_report.proofs.Words.{word_then}
 use Rattle.cq_report.proofs.sheet.put_cell.Goals as goal

@@ -1,5 +1,4 @@
-use Rattle.std.proofs.Common.{rules, ◌++◌, ap, flat_map, length, arith}
-use Rattle.cq_base.specs.Texts.{log_line, log_of}
+use Rattle.cq_report.proofs.Terms.{rules, ◌++◌, ap, flat_map, length, arith, log_line, log_of}
 use Rattle.cq_report.proofs.OneMore.{first_line, no_line_left}
 use Rattle.cq_report.proofs.texts.log_text_of_room.Goals as goal
 

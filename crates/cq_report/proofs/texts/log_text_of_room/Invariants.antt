@@ -1,6 +1,4 @@
-use Rattle.std.proofs.Common.{◌≡◌, ◌++◌, length}
-use Rattle.std.specs.List.{flat_map}
-use Rattle.cq_base.specs.Texts.{log_line}
+use Rattle.cq_report.proofs.Terms.{◌≡◌, ◌++◌, length, flat_map, log_line}
 use Rattle.cq_report.proofs.texts.log_text_of_room.Given as goal
 
 -- the lines so far, and then those of what is left, are all

@@ -1,12 +1,7 @@
-use Rattle.std.proofs.Common.{[], ◌++◌, ap, ◌∙◌, arith}
-use Rattle.std.proofs.lemmas.List.{take_all}
-use Rattle.cq_base.specs.Packed.{unpacked}
-use Rattle.cq_base.specs.Texts.{trace_line, trace_of}
+use Rattle.cq_report.proofs.Terms.{[], ◌++◌, ap, ◌∙◌, arith, take_all, unpacked, trace_line, trace_of, PackedDeparture, flat_map}
 use Rattle.cq_base.specs.declared.cell.Departure.{Departure}
-use Rattle.cq_base.specs.declared.packed.PackedDeparture.{PackedDeparture}
 use Rattle.cq_report.proofs.OneMore.{lines_of_these, one_line_more}
 use Rattle.cq_report.proofs.texts.trace_text_of_packed.Goals as goal
-use Rattle.std.specs.List.{flat_map}
 
 pub departures-preserved : goal.departures-preserved
 departures-preserved c = one_line_more (λ (p : PackedDeparture). trace_line (unpacked p)) c.args.sent.now
@@ -16,8 +11,7 @@ departures-preserved c = one_line_more (λ (p : PackedDeparture). trace_line (un
 
 pub returns : goal.returns
 unfolding trace_of
-returns c =
-    c.in_ok-hand_over.ensures.text ∙ c.departures.invariant
+returns c = c.in_ok-hand_over.ensures.text ∙ c.departures.invariant
     ∙ ap (flat_map (λ (p : PackedDeparture). trace_line (unpacked p)))
     (take_all c.departures.packed-index c.args.sent.now (omega (arith, c.departures-test.false)))
     ∙ lines_of_these trace_line unpacked c.args.sent.now

@@ -1,5 +1,4 @@
-use Rattle.std.proofs.Common.{refl, take, leb, ltb}
-use Rattle.std.proofs.lemmas.List.Sorted.{IsNonDecreasingBy-take, IsPartitionedBy-leb, IsPartitionedBy-ltb}
+use Rattle.cq_resume.proofs.Terms.{refl, take, leb, ltb, IsNonDecreasingBy-take, IsPartitionedBy-leb, IsPartitionedBy-ltb}
 use Rattle.cq_resume.proofs.Cut.{cut_at}
 use Rattle.cq_resume.proofs.between.between.Goals as goal
 

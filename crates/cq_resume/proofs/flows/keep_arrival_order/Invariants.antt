@@ -1,6 +1,5 @@
-use Rattle.std.proofs.Common.{◌*◌}
-use Rattle.cq_resume.proofs.Lanes.{Lanes}
-use Rattle.cq_resume.proofs.Orders.{LeavesFirst, flow_of, input_of}
+use Rattle.cq_resume.proofs.Terms.{◌*◌}
+use Rattle.cq_resume.proofs.Lanes.{Lanes, LeavesFirst, flow_of, input_of}
 use Rattle.cq_resume.proofs.flows.keep_arrival_order.Given as goal
 
 abbrev pub invariant-places : goal.invariant-places

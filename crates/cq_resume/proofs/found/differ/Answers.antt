@@ -1,7 +1,6 @@
-use Rattle.std.proofs.Common.{rules}
-use Rattle.cq_resume.specs.Finding.{IsNameBefore}
+use Rattle.cq_resume.proofs.Terms.{rules, IsNameBefore}
 use Rattle.cq_resume.proofs.Chained.{neighbours_decide}
-use Rattle.cq_resume.proofs.Orders.{name_on}
+use Rattle.cq_resume.proofs.Lanes.{name_on}
 use Rattle.cq_resume.proofs.found.differ.Goals as goal
 
 pub returns : goal.returns

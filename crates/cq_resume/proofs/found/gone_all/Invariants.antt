@@ -1,5 +1,4 @@
-use Rattle.std.proofs.Common.{take}
-use Rattle.cq_resume.specs.Finding.{AreGone}
+use Rattle.cq_resume.proofs.Terms.{take, AreGone}
 use Rattle.cq_resume.proofs.found.gone_all.Given as goal
 
 abbrev pub invariant-sent : goal.invariant-sent

@@ -1,25 +1,20 @@
-use Rattle.std.proofs.Common.{◌∙◌, rules}
-use Rattle.std.proofs.lemmas.List.Sorted.{IsPartitionPoint-from_clause}
-use Rattle.cq_resume.proofs.Names.{ahead_parts, is_ahead, named_here, named_past}
+use Rattle.cq_resume.proofs.Terms.{◌∙◌, rules, IsPartitionPoint-from_clause, IsPartitionPoint, true, false, ◌≡◌}
+use Rattle.cq_resume.proofs.Zipped.{ahead_parts, is_ahead, named_here, named_past}
 use Rattle.cq_resume.proofs.found.is_named.Goals as goal
+use Rattle.cq_resume.proofs.found.is_named.Goals.{After-partition_point-at}
+
+point : (c : After-partition_point-at) → IsPartitionPoint (λ n. is_ahead c.args.input c.args.slot n ≡ true)
+    (λ n. is_ahead c.args.input c.args.slot n ≡ false) c.args.names.now c.partition_point-at.result
+point c = IsPartitionPoint-from_clause (is_ahead c.args.input c.args.slot) c.args.names.now
+    c.partition_point-at.result c.partition_point-at.ensures.partitioned
+    (ahead_parts c.args.input c.args.slot c.args.names.now c.requires) (λ a r q k. search rules)
 
 pub returns-then-at-names : goal.returns-then-at-names
-returns-then-at-names c =
-    let names = c.args.names.now in
-    let input = c.args.input in
-    let slot = c.args.slot in
-    named_past input slot names c.requires c.partition_point-at.result c.partition_point-at.ensures.bound
-    (IsPartitionPoint-from_clause (is_ahead input slot) names c.partition_point-at.result
-    c.partition_point-at.ensures.partitioned (ahead_parts input slot names c.requires) (λ a r q k. search rules))
+returns-then-at-names c = named_past c.args.input c.args.slot c.args.names.now c.requires c.partition_point-at.result
+    c.partition_point-at.ensures.bound (point (goal.at.returns-then-at-names c).After-partition_point-at)
     c.if-at-names.true
 
 pub returns : goal.returns
-returns c =
-    let names = c.args.names.now in
-    let input = c.args.input in
-    let slot = c.args.slot in
-    c.is_of.ensures
-    ∙ named_here input slot names c.requires c.partition_point-at.result c.partition_point-at.ensures.bound
-    (IsPartitionPoint-from_clause (is_ahead input slot) names c.partition_point-at.result
-    c.partition_point-at.ensures.partitioned (ahead_parts input slot names c.requires) (λ a r q k. search rules))
-    _ c.if-at-names.false
+returns c = c.is_of.ensures ∙ named_here c.args.input c.args.slot c.args.names.now c.requires
+    c.partition_point-at.result c.partition_point-at.ensures.bound
+    (point (goal.at.returns c).After-partition_point-at) _ c.if-at-names.false

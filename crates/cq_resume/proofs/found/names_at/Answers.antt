@@ -1,9 +1,6 @@
-use Rattle.std.proofs.Common.{leb, ltb, rules, tests}
-use Rattle.cq_resume.specs.declared.found.Name.{Name}
-use Rattle.cq_resume.specs.Finding.{IsNameBefore}
-use Rattle.cq_resume.proofs.Cut.{computes}
-use Rattle.cq_resume.proofs.Halved.{not_falling}
-use Rattle.cq_resume.proofs.Orders.{name_inputs}
+use Rattle.cq_resume.proofs.Terms.{leb, ltb, rules, tests, Name, IsNameBefore}
+use Rattle.cq_resume.proofs.Cut.{computes, not_falling}
+use Rattle.cq_resume.proofs.Lanes.{name_inputs}
 use Rattle.cq_resume.proofs.found.names_at.Goals as goal
 
 pub returns : goal.returns

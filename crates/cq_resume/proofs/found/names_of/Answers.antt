@@ -1,5 +1,5 @@
-use Rattle.std.proofs.Common.{arith, rules}
-use Rattle.cq_resume.proofs.Names.{names_sorted}
+use Rattle.cq_resume.proofs.Terms.{arith, rules}
+use Rattle.cq_resume.proofs.Zipped.{names_sorted}
 use Rattle.cq_resume.proofs.found.names_of.Goals as goal
 
 pub returns-clause-ordered : goal.returns-clause-ordered

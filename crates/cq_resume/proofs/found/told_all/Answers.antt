@@ -1,4 +1,4 @@
-use Rattle.std.proofs.Common.{arith, rules}
+use Rattle.cq_resume.proofs.Terms.{arith, rules}
 use Rattle.cq_resume.proofs.Each.{all_at}
 use Rattle.cq_resume.proofs.Zipped.{zip_more}
 use Rattle.cq_resume.proofs.found.told_all.Goals as goal

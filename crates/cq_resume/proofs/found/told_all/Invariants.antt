@@ -1,5 +1,4 @@
-use Rattle.std.proofs.Common.{take}
-use Rattle.cq_resume.specs.Finding.{AreFound}
+use Rattle.cq_resume.proofs.Terms.{take, AreFound}
 use Rattle.cq_resume.proofs.found.told_all.Given as goal
 
 abbrev pub invariant-names : goal.invariant-names

@@ -1,5 +1,4 @@
-use Rattle.std.proofs.Common.{Bool, true, false, refl, subst}
-use Rattle.std.specs.Fn.{FnReturnsAtPair}
+use Rattle.cq_resume.proofs.Terms.{true, false, refl, FnReturnsAtPair}
 use Rattle.cq_resume.proofs.Chained.{next_found, next_more}
 use Rattle.cq_resume.proofs.neighbours.neighbours_hold.Goals as goal
 
@@ -7,19 +6,14 @@ pub returns-then-not-holds : goal.returns-then-not-holds
 returns-then-not-holds g c =
     let x = c.index-items-at in
     let y = c.index-items-at-in-places in
-    let answered = λ (b : Bool). FnReturnsAtPair g.F.Fn c.args.holds x.result y.result b in
     record {
       each = next_found (λ a b. FnReturnsAtPair g.F.Fn c.args.holds a b false) c.args.items.now c.places.at _ _
-          c.places.auto.at c.places-test.true x.is y.is (subst answered c.if-not-holds.true
+          c.places.auto.at c.places-test.true x.is y.is (rw (← c.if-not-holds.true)
           (record { first = _; second = _; shows = (refl, refl); says = record { met = c.holds.ensures } }));
     }
 
 pub places-preserved : goal.places-preserved
-places-preserved g c =
-    let x = c.index-items-at in
-    let y = c.index-items-at-in-places in
-    let answered = λ (b : Bool). FnReturnsAtPair g.F.Fn c.args.holds x.result y.result b in
-    next_more (λ a b. FnReturnsAtPair g.F.Fn c.args.holds a b true) c.args.items.now c.places.at _ _
-    c.places-test.true x.is y.is (subst answered c.if-not-holds.false
+places-preserved g c = next_more (λ a b. FnReturnsAtPair g.F.Fn c.args.holds a b true) c.args.items.now c.places.at _ _
+    c.places-test.true c.index-items-at.is c.index-items-at-in-places.is (rw (← c.if-not-holds.false)
     (record { first = _; second = _; shows = (refl, refl); says = record { met = c.holds.ensures } }))
     c.places.invariant

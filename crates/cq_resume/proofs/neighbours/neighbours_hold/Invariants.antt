@@ -1,6 +1,4 @@
-use Rattle.std.specs.Fn.{FnReturnsAtPair}
-use Rattle.std.specs.List.{AllAdjacentBelow}
-use Rattle.std.proofs.Common.{true}
+use Rattle.cq_resume.proofs.Terms.{FnReturnsAtPair, AllAdjacentBelow, true}
 use Rattle.cq_resume.proofs.neighbours.neighbours_hold.Given as goal
 
 abbrev pub invariant-places : goal.invariant-places

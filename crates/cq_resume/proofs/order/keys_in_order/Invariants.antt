@@ -1,5 +1,4 @@
-use Rattle.cq_base.specs.Cells.{IsBefore}
-use Rattle.cq_base.specs.declared.cell.Queued.{Queued}
+use Rattle.cq_resume.proofs.Terms.{IsBefore, Queued}
 use Rattle.cq_resume.proofs.Lanes.{Lanes}
 use Rattle.cq_resume.proofs.order.keys_in_order.Given as goal
 

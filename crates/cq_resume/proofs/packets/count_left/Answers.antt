@@ -1,5 +1,4 @@
-use Rattle.std.proofs.Common.{arith, rules}
-use Rattle.cq_ideal.proofs.Counting.{none_counted}
+use Rattle.cq_resume.proofs.Terms.{arith, rules, none_counted}
 use Rattle.cq_resume.proofs.packets.count_left.Goals as goal
 
 pub returns-then-not-left : goal.returns-then-not-left

@@ -1,4 +1,4 @@
-use Rattle.std.proofs.Common.{arith, rules, sym, ◌∙◌}
+use Rattle.cq_resume.proofs.Terms.{arith, rules, sym, ◌∙◌}
 use Rattle.cq_resume.proofs.Coming.{none_comes, none_comes_yet, one_comes, one_is_there}
 use Rattle.cq_resume.proofs.packets.next_cell.Goals as goal
 
@@ -13,8 +13,6 @@ pub returns-clause-some : goal.returns-clause-some
 returns-clause-some c = search (arith, rules, one_comes, c.requires.packets.lines)
 
 pub returns-in_err-cell-clause-none : goal.returns-in_err-cell-clause-none
-returns-in_err-cell-clause-none c =
-    absurd
-    (one_is_there c.args.input c.args.from c.args.next c.args.schedule.now.came c.in_ok-slot.slot c.in_ok-slot.ensures
-    c.if-slot-next.false (c.requires.packets.lines c.args.input c.requires.input)
-    (sym c.cell_at.ensures ∙ c.in_err-cell.was))
+returns-in_err-cell-clause-none c = absurd (one_is_there c.args.input c.args.from c.args.next c.args.schedule.now.came
+    c.in_ok-slot.slot c.in_ok-slot.ensures c.if-slot-next.false
+    (c.requires.packets.lines c.args.input c.requires.input) (sym c.cell_at.ensures ∙ c.in_err-cell.was))

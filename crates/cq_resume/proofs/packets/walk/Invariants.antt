@@ -1,5 +1,4 @@
-use Rattle.std.proofs.Common.{◌-◌}
-use Rattle.cq_resume.specs.Finding.{coming}
+use Rattle.cq_resume.proofs.Terms.{◌-◌, coming}
 use Rattle.cq_resume.proofs.Walking.{Walked}
 use Rattle.cq_resume.proofs.packets.walk.Given as goal
 

@@ -1,4 +1,4 @@
-use Rattle.std.proofs.Common.{rules, arith}
+use Rattle.cq_resume.proofs.Terms.{rules, arith}
 use Rattle.cq_resume.proofs.Scheduling.{schedule_known}
 use Rattle.cq_resume.proofs.read.read_state.Goals as goal
 

@@ -1,6 +1,4 @@
-use Rattle.std.proofs.Common.{◌≡◌, ℕ, ◌<◌, [], length, slice_index_or}
-use Rattle.cq_rank.specs.Machine.{machine_at}
-use Rattle.cq_scfq.specs.Disciplines.{machines_of}
+use Rattle.cq_resume.proofs.Terms.{◌≡◌, ℕ, ◌<◌, [], length, slice_index_or, machine_at, machines_of}
 use Rattle.cq_resume.proofs.shape.are_sized.Given as goal
 
 -- the states of the outputs before this one have as many numbers as their machines ask for

@@ -1,5 +1,5 @@
-use Rattle.std.proofs.Common.{arith, rules}
-use Rattle.cq_resume.proofs.Halved.{buffer_rises}
+use Rattle.cq_resume.proofs.Terms.{arith, rules}
+use Rattle.cq_resume.proofs.Cut.{buffer_rises}
 use Rattle.cq_resume.proofs.slack.buffer_at.Goals as goal
 
 pub returns-clause-rising : goal.returns-clause-rising

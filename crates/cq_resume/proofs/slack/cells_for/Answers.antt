@@ -1,8 +1,5 @@
-use Rattle.std.proofs.Common.{leb, ltb, rules, tests}
-use Rattle.cq_base.specs.declared.cell.Queued.{Queued}
-use Rattle.cq_resume.specs.Finding.{IsBufferedBefore}
-use Rattle.cq_resume.proofs.Cut.{computes}
-use Rattle.cq_resume.proofs.Halved.{not_falling, output_no_less}
+use Rattle.cq_resume.proofs.Terms.{leb, ltb, rules, tests, Queued, IsBufferedBefore}
+use Rattle.cq_resume.proofs.Cut.{computes, not_falling, output_no_less}
 use Rattle.cq_resume.proofs.slack.cells_for.Goals as goal
 
 pub returns : goal.returns

@@ -1,5 +1,5 @@
-use Rattle.std.proofs.Common.{arith, rules}
-use Rattle.cq_resume.proofs.Slacks.{filter_both}
+use Rattle.cq_resume.proofs.Terms.{arith, rules}
+use Rattle.cq_resume.proofs.Cut.{filter_both}
 use Rattle.cq_resume.proofs.slack.cushion_of.Goals as goal
 
 pub returns : goal.returns

@@ -1,4 +1,4 @@
-use Rattle.cq_resume.proofs.Threads.{Threads}
+use Rattle.cq_resume.proofs.Lanes.{Threads}
 use Rattle.cq_resume.proofs.slack.have_slack.Given as goal
 
 abbrev pub invariant-places : goal.invariant-places

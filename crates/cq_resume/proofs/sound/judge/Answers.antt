@@ -1,14 +1,7 @@
 -- What each step asks follows from the range and the shape of the state, and of cells that were found. What a step that
 -- fails says of the clauses, and that a state is sound that passes all, is in the lemmas.
-use Rattle.std.proofs.Common.{arith, rules, ℕ, List, subst}
-use Rattle.std.specs.Prelude.{Option}
-use Rattle.std.proofs.lemmas.List.{length-map}
-use Rattle.std.proofs.lemmas.Result.{err_from_is_err_and}
-use Rattle.cq_resume.specs.Finding.{PacketsStand, TalliesUp}
-use Rattle.cq_resume.specs.Steps.{AreOrdered, HaveRoom}
-use Rattle.cq_resume.specs.declared.found.Name.{Name}
-use Rattle.cq_resume.proofs.Judged.{Known, can_take_up, cells_for, few_ports, inputs_low, names_for, outputs_low, tally_from}
-use Rattle.cq_resume.proofs.Stepped.{is_sound, leave_refused, packets_refused, stand_refused}
+use Rattle.cq_resume.proofs.Terms.{arith, rules, length-map, err_from_is_err_and, PacketsStand, AreOrdered, HaveRoom}
+use Rattle.cq_resume.proofs.Judging.{Known, can_take_up, cells_for, few_ports, inputs_low, names_for, outputs_low, tally_from, is_sound, leave_refused, packets_refused, stand_refused}
 use Rattle.cq_resume.proofs.sound.judge.Goals as goal
 use Rattle.cq_resume.proofs.sound.judge.Goals.{In-Some, In_ok-found, In_ok-stand}
 
@@ -61,15 +54,8 @@ pub returns-clause-ready : goal.returns-clause-ready
 returns-clause-ready c = search (arith, rules, can_take_up, known, stands)
 
 pub returns-clause-tally : goal.returns-clause-tally
-returns-clause-tally c =
-    let at = goal.at.returns-clause-tally c in
-    let next = c.args.state.now.head.next in
-    let came = c.args.schedule.now.came in
-    let x = c.in-Some.tally in
-    tally_from _ _ _ _ (known at.In_ok-found) x
-    (subst (λ (l : List (Option ℕ)). TalliesUp l next came c.in_ok-found.found.names.items x) c.as_slice.ensures
-    (subst (λ (l : List Name). TalliesUp c.as_slice.result.now next came l x) c.deref.ensures.value
-    (rw c.in-Some.is at c.in_ok-tally.ensures.tally)))
+returns-clause-tally c = tally_from _ _ _ _ (known (goal.at.returns-clause-tally c).In_ok-found) c.in-Some.tally
+    (rw (c.in-Some.is, c.deref.ensures.value, c.as_slice.ensures) at c.in_ok-tally.ensures.tally)
 
 pub returns-clause-sound : goal.returns-clause-sound
 returns-clause-sound c = search (arith, rules, is_sound, known, stands, packets_stand)

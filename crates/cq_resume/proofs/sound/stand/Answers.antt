@@ -1,15 +1,11 @@
-use Rattle.std.proofs.Common.{arith, rules, ◌≡◌, ◌↔◌, true, List, subst, inr, refl}
-use Rattle.cq_base.specs.declared.cell.Transfer.{Transfer}
-use Rattle.cq_resume.specs.Steps.{AreOrdered, HaveRoom}
-use Rattle.cq_resume.proofs.Stepped.{denied}
+use Rattle.cq_resume.proofs.Terms.{arith, rules, ◌≡◌, ◌↔◌, true, inr, refl, AreOrdered, HaveRoom}
+use Rattle.cq_resume.proofs.Judging.{denied}
 use Rattle.cq_resume.proofs.sound.stand.Goals as goal
 use Rattle.cq_resume.proofs.sound.stand.Goals.{After-have_slack, After-in_order}
 
 order_is : (c : After-in_order) →
     (c.in_order.result ≡ true) ↔ AreOrdered c.args.found.now c.args.state.now.head.next c.args.state.now.moved
-order_is c =
-    subst (λ (l : List Transfer). (c.in_order.result ≡ true) ↔ AreOrdered c.args.found.now c.args.state.now.head.next l)
-    c.as_slice.ensures c.in_order.ensures
+order_is c = rw c.as_slice.ensures at c.in_order.ensures
 
 room_is : (c : After-have_slack) → (c.have_slack.result ≡ true) ↔ HaveRoom c.args.found.now
 room_is c = search (arith, rules)

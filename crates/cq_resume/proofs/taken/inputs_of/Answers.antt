@@ -1,10 +1,6 @@
-use Rattle.std.proofs.Common.{List, length, get_or, ap, arith}
-use Rattle.std.specs.Prelude.{None}
-use Rattle.cq_resume.specs.Taking.{figures_at_input}
-use Rattle.cq_resume.specs.declared.found.Name.{Name}
-use Rattle.cq_resume.proofs.Placed.{placed_all, placed_more}
+use Rattle.cq_resume.proofs.Terms.{List, length, get_or, ap, arith, None, figures_at_input, Name, Seen}
+use Rattle.cq_resume.proofs.Cut.{placed_all, placed_more}
 use Rattle.cq_resume.proofs.taken.inputs_of.Goals as goal
-use Rattle.cq_state.specs.declared.state.Seen.{Seen}
 
 pub inputs-preserved : goal.inputs-preserved
 inputs-preserved c =

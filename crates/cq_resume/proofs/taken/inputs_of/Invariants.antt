@@ -1,6 +1,4 @@
-use Rattle.std.proofs.Common.{◌≡◌, map, take}
-use Rattle.std.specs.List.{enumerate_from}
-use Rattle.cq_resume.specs.Taking.{figures_at_input}
+use Rattle.cq_resume.proofs.Terms.{◌≡◌, map, take, enumerate_from, figures_at_input}
 use Rattle.cq_resume.proofs.taken.inputs_of.Given as goal
 
 abbrev pub invariant-inputs : goal.invariant-inputs

@@ -1,6 +1,5 @@
-use Rattle.std.proofs.Common.{rules, ◌∙◌, arith}
-use Rattle.cq_resume.proofs.Departed.{nothing_left, outputs_last}
-use Rattle.cq_resume.proofs.Departing.{departure_counted, fewer_sent}
+use Rattle.cq_resume.proofs.Terms.{rules, ◌∙◌, arith}
+use Rattle.cq_resume.proofs.Cut.{nothing_left, outputs_last, departure_counted, fewer_sent}
 use Rattle.cq_resume.proofs.taken.outputs_of.Goals as goal
 
 pub sent-init : goal.sent-init

@@ -1,6 +1,4 @@
-use Rattle.std.proofs.Common.{◌≡◌, map, take}
-use Rattle.std.specs.List.{range_with_len}
-use Rattle.cq_resume.specs.Counted.{output_told}
+use Rattle.cq_resume.proofs.Terms.{◌≡◌, map, take, range_with_len, output_told}
 use Rattle.cq_resume.proofs.taken.outputs_of.Given as goal
 
 abbrev pub invariant-sent : goal.invariant-sent

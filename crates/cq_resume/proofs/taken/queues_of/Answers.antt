@@ -1,5 +1,5 @@
-use Rattle.std.proofs.Common.{rules, arith}
-use Rattle.cq_resume.proofs.Copied.{buffered_at, listed_at, ranged_last, ranged_more}
+use Rattle.cq_resume.proofs.Terms.{rules, arith}
+use Rattle.cq_resume.proofs.Cut.{buffered_at, listed_at, ranged_last, ranged_more}
 use Rattle.cq_resume.proofs.taken.queues_of.Goals as goal
 
 pub ports-preserved : goal.ports-preserved

@@ -1,6 +1,5 @@
-use Rattle.std.proofs.Common.{◌≡◌, map}
-use Rattle.std.specs.List.{range_with_len}
-use Rattle.cq_resume.proofs.Copied.{buffered_at, listed_at}
+use Rattle.cq_resume.proofs.Terms.{◌≡◌, map, range_with_len}
+use Rattle.cq_resume.proofs.Cut.{buffered_at, listed_at}
 use Rattle.cq_resume.proofs.taken.queues_of.Given as goal
 
 abbrev pub invariant-ports : goal.invariant-ports

@@ -1,7 +1,6 @@
-use Rattle.std.proofs.Common.{rules, ◌≡◌, ◌<◌, eqb, false, List, [], ◌∷◌, length, arith}
-use Rattle.cq_base.specs.declared.cell.Departure.{Departure}
+use Rattle.cq_resume.proofs.Terms.{rules, ◌≡◌, ◌<◌, eqb, false, List, [], ◌∷◌, length, arith, Departure}
 use Rattle.cq_resume.proofs.Chained.{each_pair}
-use Rattle.cq_resume.proofs.Departed.{IsNoLater, slots_last}
+use Rattle.cq_resume.proofs.Cut.{IsNoLater, slots_last}
 use Rattle.cq_resume.proofs.taken.slots_of.Goals as goal
 
 some_there : (sent : List Departure) → eqb (length sent) 0 ≡ false → 0 < length sent

@@ -1,5 +1,5 @@
-use Rattle.std.proofs.Common.{arith, rules}
-use Rattle.cq_resume.proofs.Copied.{lists_all, lists_more}
+use Rattle.cq_resume.proofs.Terms.{arith, rules}
+use Rattle.cq_resume.proofs.Cut.{lists_all, lists_more}
 use Rattle.cq_resume.proofs.write.all_named.Goals as goal
 
 pub queues-preserved : goal.queues-preserved

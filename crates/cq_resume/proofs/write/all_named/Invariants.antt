@@ -1,5 +1,4 @@
-use Rattle.std.proofs.Common.{◌≡◌, flat_map, map, take}
-use Rattle.cq_resume.specs.Reading.{named_as}
+use Rattle.cq_resume.proofs.Terms.{◌≡◌, flat_map, map, take, named_as}
 use Rattle.cq_resume.proofs.write.all_named.Given as goal
 
 abbrev pub invariant-queues : goal.invariant-queues

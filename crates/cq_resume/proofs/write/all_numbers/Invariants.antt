@@ -1,4 +1,4 @@
-use Rattle.std.proofs.Common.{◌≡◌, take}
+use Rattle.cq_resume.proofs.Terms.{◌≡◌, take}
 use Rattle.cq_resume.proofs.write.all_numbers.Given as goal
 
 abbrev pub invariant-outputs : goal.invariant-outputs

@@ -1,7 +1,4 @@
-use Rattle.std.proofs.Common.{rules}
-use Rattle.std.proofs.lemmas.Iterator.{YieldsList-from_map, YieldsList-from_slice}
-use Rattle.std.proofs.lemmas.Iterator.Adapters.{items_from_extend}
-use Rattle.cq_resume.specs.Reading.{named_as}
+use Rattle.cq_resume.proofs.Terms.{rules, YieldsList-from_map, YieldsList-from_slice, items_from_extend, named_as}
 use Rattle.cq_resume.proofs.write.put_named.Goals as goal
 
 pub returns : goal.returns

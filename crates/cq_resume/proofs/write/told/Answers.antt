@@ -1,4 +1,4 @@
-use Rattle.std.proofs.Common.{arith, rules, flat_map}
+use Rattle.cq_resume.proofs.Terms.{arith, rules, flat_map}
 use Rattle.cq_resume.proofs.write.told.Goals as goal
 use Rattle.cq_state.proofs.OneText.{of_parts}
 

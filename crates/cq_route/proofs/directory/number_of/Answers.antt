@@ -1,5 +1,4 @@
-use Rattle.std.proofs.Common.{arith}
-use Rattle.cq_route.specs.Directory.{number_of}
+use Rattle.cq_route.proofs.Terms.{arith, number_of}
 use Rattle.cq_route.proofs.directory.number_of.Goals as goal
 
 pub returns-clause-number : goal.returns-clause-number

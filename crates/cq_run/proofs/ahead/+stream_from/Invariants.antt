@@ -1,4 +1,4 @@
-use Rattle.std.proofs.Common.{length}
+use Rattle.cq_run.proofs.Terms.{length}
 use Rattle.cq_run.proofs.ahead.+stream_from.Given as goal
 
 abbrev pub decreases-stream_from : goal.decreases-stream_from

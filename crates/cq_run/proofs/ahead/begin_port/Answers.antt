@@ -1,10 +1,6 @@
-use Rattle.std.proofs.Common.{arith, rules, ◌∙◌, ℕ, List, subst}
-use Rattle.cq_space.specs.Failing.{Fails, Reads}
-use Rattle.cq_run.specs.Judging.{Halts}
-use Rattle.cq_run.specs.Pace.{InTurn}
-use Rattle.cq_run.specs.Verdict.{capture_in}
+use Rattle.cq_run.proofs.Terms.{arith, rules, ℕ, List, Fails, Reads, InTurn}
 use Rattle.cq_run.proofs.Chain.{halts_more}
-use Rattle.cq_run.proofs.Exits.{exit_is}
+use Rattle.cq_run.proofs.Told.{exit_is}
 use Rattle.cq_run.proofs.ahead.begin_port.Goals as goal
 
 -- the name that is read is that of the row, as in `read_port`
@@ -12,14 +8,12 @@ pub returns-in_err-bytes-in-Some-clause-halts : goal.returns-in_err-bytes-in-Som
 returns-in_err-bytes-in-Some-clause-halts g c =
     let space = g.F.Files.space in
     let halt = c.in_err-bytes-in-Some.field-0.0 in
-    let old = space c.args.files.now in
-    let new = space c.read_file.new.files in
     let S : List ℕ → Type 0 = λ asked.
     Fails space g.F.Files.may_fail g.F.Files.keeps (Reads asked) c.args.files.now c.read_file.new.files in
     rw (exit_is _ c.from_residual-in_err-bytes-in-Some.ensures.1) (λ r.
-    let P : List ℕ → Type 0 = λ n. Halts InTurn (capture_in r n c.args.input c.args.limit) S old new halt in
-    rw c.in-Some.is (subst P (c.in_ok-name-in-Some.ensures ∙ c.text.ensures)
-    (halts_more InTurn _ _ S old new halt (λ name u. u.1) (c.in_err-bytes-in-Some.ensures.halts r))))
+    rw c.in-Some.is (rw (c.in_ok-name-in-Some.ensures, c.text.ensures) at
+    (halts_more InTurn _ _ S (space c.args.files.now) (space c.read_file.new.files) halt (λ name u. u.1)
+    (c.in_err-bytes-in-Some.ensures.halts r))))
 
 pub returns-in_ok-begin-in-Some-clause-begun : goal.returns-in_ok-begin-in-Some-clause-begun
 returns-in_ok-begin-in-Some-clause-begun g c = search (arith, rules, g.F.Files.space)

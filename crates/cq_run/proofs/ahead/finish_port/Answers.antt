@@ -1,4 +1,4 @@
-use Rattle.std.proofs.Common.{arith, rules}
+use Rattle.cq_run.proofs.Terms.{arith, rules}
 use Rattle.cq_run.proofs.ahead.finish_port.Goals as goal
 
 pub returns-in-Err-clause-halts : goal.returns-in-Err-clause-halts

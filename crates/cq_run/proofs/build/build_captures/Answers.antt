@@ -1,8 +1,6 @@
-use Rattle.std.proofs.Common.{rules, arith, ◌≡◌, ◌<◌, ◌∙◌, List, length, ap, sym}
-use Rattle.cq_run.proofs.Captures.{made_all, one_built, packed_of_lent, some_left, whole_of_lent}
+use Rattle.cq_run.proofs.Terms.{rules, arith, ◌≡◌, ◌<◌, ◌∙◌, List, length, ap, sym, ports_of, PortRow}
+use Rattle.cq_run.proofs.Crossed.{made_all, one_built, packed_of_lent, some_left, whole_of_lent}
 use Rattle.cq_run.proofs.build.build_captures.Goals as goal
-use Rattle.cq_route.specs.Tables.{ports_of}
-use Rattle.cq_route.specs.declared.tables.PortRow.{PortRow}
 
 pub packets_of_all-requires : goal.packets_of_all-requires
 packets_of_all-requires c = search (arith, rules, whole_of_lent)

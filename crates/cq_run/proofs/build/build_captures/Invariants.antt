@@ -1,4 +1,4 @@
-use Rattle.cq_run.proofs.Captures.{Building}
+use Rattle.cq_run.proofs.Crossed.{Building}
 use Rattle.cq_run.proofs.build.build_captures.Given as goal
 
 -- what was made, with what is to be made of the ports that are left, is all

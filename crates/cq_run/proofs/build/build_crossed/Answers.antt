@@ -1,6 +1,5 @@
-use Rattle.std.proofs.Common.{◌∙◌, ap}
-use Rattle.cq_base.specs.Texts.{trace_of}
-use Rattle.cq_run.proofs.Captures.{crossed_writes}
+use Rattle.cq_run.proofs.Terms.{◌∙◌, ap, trace_of}
+use Rattle.cq_run.proofs.Crossed.{crossed_writes}
 use Rattle.cq_run.proofs.build.build_crossed.Goals as goal
 
 pub returns-clause-writes : goal.returns-clause-writes

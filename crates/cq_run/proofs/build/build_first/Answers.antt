@@ -1,5 +1,5 @@
-use Rattle.std.proofs.Common.{rules, ◌∙◌, sym, arith}
-use Rattle.cq_run.proofs.Captures.{file_is, packed_of_lent, some_left, switched_whole, whole_of_lent}
+use Rattle.cq_run.proofs.Terms.{rules, ◌∙◌, sym, arith}
+use Rattle.cq_run.proofs.Crossed.{file_is, packed_of_lent, some_left, switched_whole, whole_of_lent}
 use Rattle.cq_run.proofs.build.build_first.Goals as goal
 
 pub packets_of_all-requires : goal.packets_of_all-requires

@@ -1,6 +1,5 @@
-use Rattle.std.proofs.Common.{arith, rules, ◌∙◌, ap}
-use Rattle.cq_base.specs.Texts.{trace_of}
-use Rattle.cq_run.proofs.Captures.{switched_is, switched_whole}
+use Rattle.cq_run.proofs.Terms.{arith, rules, ◌∙◌, ap, trace_of}
+use Rattle.cq_run.proofs.Crossed.{switched_is, switched_whole}
 use Rattle.cq_run.proofs.build.build_switched.Goals as goal
 
 pub build_captures-requires-clause-run : goal.build_captures-requires-clause-run

@@ -1,4 +1,4 @@
-use Rattle.cq_stream.specs.Rings.{SameReader}
+use Rattle.cq_run.proofs.Terms.{SameReader}
 use Rattle.cq_run.proofs.decoding.take_rest.Given as goal
 
 abbrev pub invariant-turns : goal.invariant-turns

@@ -1,5 +1,5 @@
-use Rattle.std.proofs.Common.{arith, rules}
-use Rattle.cq_run.proofs.Exits.{exit_is}
+use Rattle.cq_run.proofs.Terms.{arith, rules}
+use Rattle.cq_run.proofs.Told.{exit_is}
 use Rattle.cq_run.proofs.judge.ideal.Goals as goal
 
 pub returns-in_err-switched-clause-refused : goal.returns-in_err-switched-clause-refused

@@ -1,13 +1,12 @@
-use Rattle.std.proofs.Common.{refl}
-use Rattle.cq_run.proofs.CrossingRun.{ideal_judged, run_ends, run_judged, switching}
-use Rattle.cq_run.proofs.Exits.{exit_is}
-use Rattle.cq_run.proofs.Parted.{resume_ends, resume_judged, text_ends}
-use Rattle.cq_run.proofs.Planned.{sent_ends, soak_judged}
+use Rattle.cq_run.proofs.Terms.{refl}
+use Rattle.cq_run.proofs.Planned.{ideal_judged, run_ends, run_judged, switching, sent_of, soak_judged, at_text, resume_judged, resume_rest}
+use Rattle.cq_run.proofs.Told.{exit_is}
+use Rattle.cq_run.proofs.Reached.{given_ends, read_ends}
 use Rattle.cq_run.proofs.judge.judge.Goals as goal
 
 pub returns-in_err-given-in-Ideal : goal.returns-in_err-given-in-Ideal
 returns-in_err-given-in-Ideal g c = rw (exit_is _ c.from_residual.ensures.1, c.in-Ideal.is)
-    (sent_ends (λ s. refl) switching (λ r. refl) (λ name. tt) c.in_err-given-in-Ideal.ensures.ends)
+    (given_ends (λ s. refl) (sent_of switching) (λ r. refl) (λ name. tt) c.in_err-given-in-Ideal.ensures.ends)
 
 pub returns-in_ok-given-in-Ideal : goal.returns-in_ok-given-in-Ideal
 returns-in_ok-given-in-Ideal g c = rw c.in-Ideal.is
@@ -30,14 +29,15 @@ returns-in-Soak g c =
 
 pub returns-in_err-given-in-Resume : goal.returns-in_err-given-in-Resume
 returns-in_err-given-in-Resume g c = rw (exit_is _ c.from_residual-in_err-given-in-Resume.ensures.1, c.in-Resume.is)
-    (resume_ends c.in_err-given-in-Resume.ensures.ends)
+    (given_ends (λ s. refl) (resume_rest _) (λ r. refl) (λ name. tt) c.in_err-given-in-Resume.ensures.ends)
 
 pub returns-in_err-text-in-Resume : goal.returns-in_err-text-in-Resume
 returns-in_err-text-in-Resume g c =
-    rw (exit_is _ c.from_residual-in_err-text-in-Resume.ensures.1, c.in-Resume.is) (text_ends g.met.F.Files.lasts
-    c.in_ok-given-in-Resume.ensures.given c.read_stopped.ensures.kept c.in_err-text-in-Resume.ensures.judges)
+    rw (exit_is _ c.from_residual-in_err-text-in-Resume.ensures.1, c.in-Resume.is)
+    (read_ends _ g.met.F.Files.lasts (at_text c.in_ok-given-in-Resume.ensures.given _) c.read_stopped.ensures.kept
+    (λ r. c.in_err-text-in-Resume.ensures.judges) (λ asked u. (tt, u.1)))
 
 pub returns-in_ok-text-in-Resume : goal.returns-in_ok-text-in-Resume
-returns-in_ok-text-in-Resume g c = rw c.in-Resume.is (resume_judged g.met.F.Files.lasts
-    c.in_ok-given-in-Resume.ensures.given c.read_stopped.ensures.kept c.in_ok-text-in-Resume.ensures.judges
+returns-in_ok-text-in-Resume g c = rw c.in-Resume.is (resume_judged c.in_ok-given-in-Resume.ensures.given _
+    g.met.F.Files.lasts c.read_stopped.ensures.kept c.in_ok-text-in-Resume.ensures.judges
     c.resume.result c.resume.ensures.resuming c.resume.ensures.refused)

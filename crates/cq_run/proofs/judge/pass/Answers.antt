@@ -1,7 +1,7 @@
-use Rattle.std.proofs.Common.{arith, rules, ◌≡◌, ◌∙◌, ap}
-use Rattle.cq_route.specs.Plain.{plain_tables}
-use Rattle.cq_run.proofs.Passed.{passing_ends, passing_judged, passing_no_memory}
-use Rattle.cq_run.proofs.Exits.{exit_is}
+use Rattle.cq_run.proofs.Terms.{arith, rules, ◌≡◌, ℕ, List, plain_tables, Tables}
+use Rattle.cq_run.proofs.Planned.{at_capture, passing_judged}
+use Rattle.cq_run.proofs.Reached.{no_memory, read_ends}
+use Rattle.cq_run.proofs.Told.{exit_is}
 use Rattle.cq_run.proofs.judge.pass.Goals as goal
 
 pub pass_on-requires-clause-port : goal.pass_on-requires-clause-port
@@ -9,26 +9,23 @@ unfolding plain_tables
 pass_on-requires-clause-port g c κs within = search (arith, rules)
 
 pub returns-in_err-tables : goal.returns-in_err-tables
-returns-in_err-tables g c = search (arith, rules, exit_is, passing_no_memory)
+returns-in_err-tables g c = rw (exit_is _ c.from_residual.ensures.1)
+    (no_memory (at_capture g.met.F.Files.lasts c.requires))
+
+-- what is known of the tables
+plain : (t : Tables) (from to x y : List ℕ) → t ≡ plain_tables x y → x ≡ from → y ≡ to → t ≡ plain_tables from to
+plain t from to x y e f h = cc
 
 pub returns-in_err-capture : goal.returns-in_err-capture
 returns-in_err-capture g c =
-    let F = g.F.Files in
-    let plain : c.in_ok-tables.tables ≡ plain_tables c.args.from c.args.to =
-    c.in_ok-tables.ensures.tables ∙ ap (λ name. plain_tables name c.text-2.result.now) c.text.ensures
-    ∙ ap (plain_tables c.args.from) c.text-2.ensures in
-    rw (exit_is _ c.from_residual-in_err-capture.ensures.1)
-    (passing_ends F.space F.may_fail F.keeps g.met.F.Files.lasts c.args.from c.args.to c.args.files.now c.requires
-    c.read_input.new.files c.read_input.ensures.kept _ c.in_ok-tables.tables plain c.in_err-capture.field-0.0
-    c.in_err-capture.ensures.judges (λ name u. u))
+    let is = plain _ _ _ _ _ c.in_ok-tables.ensures.tables c.text.ensures c.text-2.ensures in
+    rw (exit_is _ c.from_residual-in_err-capture.ensures.1) (read_ends _ g.met.F.Files.lasts
+    (at_capture g.met.F.Files.lasts c.requires) c.read_input.ensures.kept (rw is at c.in_err-capture.ensures.judges)
+    (λ name u. u))
 
 pub returns : goal.returns
 returns g c =
-    let F = g.F.Files in
-    let plain : c.in_ok-tables.tables ≡ plain_tables c.args.from c.args.to =
-    c.in_ok-tables.ensures.tables ∙ ap (λ name. plain_tables name c.text-2.result.now) c.text.ensures
-    ∙ ap (plain_tables c.args.from) c.text-2.ensures in
-    passing_judged F.space F.may_fail F.keeps g.met.F.Files.lasts c.args.from c.args.to c.args.files.now c.requires
-    c.read_input.new.files c.read_input.ensures.kept _ c.in_ok-tables.tables plain c.in_ok-capture.capture
-    c.in_ok-tables.ensures.in_range c.in_ok-capture.ensures.judges c.pass_on.result c.pass_on.ensures.passing
-    c.pass_on.ensures.refused
+    let is = plain _ _ _ _ _ c.in_ok-tables.ensures.tables c.text.ensures c.text-2.ensures in
+    passing_judged g.met.F.Files.lasts c.requires c.read_input.ensures.kept
+    (rw is at c.in_ok-tables.ensures.in_range) (rw is at c.in_ok-capture.ensures.judges) c.pass_on.result
+    (rw is at c.pass_on.ensures.passing) (rw is at c.pass_on.ensures.refused)

@@ -1,9 +1,5 @@
-use Rattle.std.proofs.Common.{arith, rules, ◌≡◌, ◌∙◌, ◌++◌, ◌∷◌, [], List, ap, subst}
-use Rattle.cq_pcap.specs.Captured.{Captured}
-use Rattle.cq_run.specs.Plans.{capture_out}
-use Rattle.cq_run.specs.Switching.{IsCrossed}
-use Rattle.cq_run.specs.declared.switching.Switched.{Switched}
-use Rattle.cq_run.proofs.Exits.{exit_is}
+use Rattle.cq_run.proofs.Terms.{arith, rules, ◌≡◌, ◌∙◌, ◌++◌, ◌∷◌, [], List, ap, Captured, capture_out, Switched}
+use Rattle.cq_run.proofs.Told.{exit_is}
 use Rattle.cq_run.proofs.judge.pass_on.Goals as goal
 
 -- the capture stands alone
@@ -20,8 +16,7 @@ returns-in_err-crossed-clause-refused g c = search (arith, rules, alone, exit_is
 pub returns-clause-passing : goal.returns-clause-passing
 returns-clause-passing g c =
     let one = alone _ _ _ _ c.of-captures.ensures c.in_ok-put_capture.ensures c.new-captures.ensures.items in
-    let P : List (List Captured) → Type 0 = λ cs. IsCrossed c.args.tables cs c.in_ok-crossed.crossed in
-    let is = subst P (c.as_slice.ensures ∙ one) c.in_ok-crossed.ensures.crossed in
+    let is = rw (c.as_slice.ensures, one) at c.in_ok-crossed.ensures.crossed in
     let sent = c.in_ok-crossed.crossed.run.sent.items in
     record {
       sent = sent;

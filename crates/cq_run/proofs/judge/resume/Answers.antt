@@ -1,6 +1,6 @@
-use Rattle.std.proofs.Common.{arith, rules}
-use Rattle.cq_run.proofs.Exits.{exit_is}
-use Rattle.cq_run.proofs.Parted.{resuming_is}
+use Rattle.cq_run.proofs.Terms.{arith, rules}
+use Rattle.cq_run.proofs.Told.{exit_is}
+use Rattle.cq_run.proofs.Planned.{resuming_is}
 use Rattle.cq_run.proofs.judge.resume.Goals as goal
 
 pub build_crossed-requires-clause-run : goal.build_crossed-requires-clause-run

@@ -1,8 +1,7 @@
-use Rattle.std.proofs.Common.{rules, ◌∙◌, ap, arith, length, List}
-use Rattle.cq_route.specs.declared.tables.PortRow.{PortRow}
-use Rattle.cq_run.proofs.CrossingRun.{run_ends, run_judged}
-use Rattle.cq_run.proofs.Exits.{exit_is}
-use Rattle.cq_run.proofs.ReadOn.{captures_end, given_read, tables_end}
+use Rattle.cq_run.proofs.Terms.{rules, ◌∙◌, ap, arith, length, List, PortRow}
+use Rattle.cq_run.proofs.Planned.{run_ends, run_judged}
+use Rattle.cq_run.proofs.Told.{exit_is}
+use Rattle.cq_run.proofs.Reached.{captures_end, given_read, tables_end}
 use Rattle.cq_run.proofs.judge.run_ahead.Goals as goal
 
 pub stream_from-requires-clause-few : goal.stream_from-requires-clause-few

@@ -1,4 +1,4 @@
-use Rattle.cq_run.proofs.OneReading.{from_front, one_answer}
+use Rattle.cq_run.proofs.TextRead.{from_front, one_answer}
 use Rattle.cq_run.proofs.laws.captures_are_read_in_one_way.Goals as goal
 
 pub returns-clause-a_reader : goal.returns-clause-a_reader

@@ -1,6 +1,6 @@
-use Rattle.std.proofs.Common.{rules, arith}
+use Rattle.cq_run.proofs.Terms.{rules, arith}
 use Rattle.cq_run.proofs.Stopped.{part_halt, part_long, part_text, same_state}
-use Rattle.cq_run.proofs.Exits.{exit_is}
+use Rattle.cq_run.proofs.Told.{exit_is}
 use Rattle.cq_run.proofs.parting.part_by_crossbar.Goals as goal
 
 -- there are few ports, and as many lists

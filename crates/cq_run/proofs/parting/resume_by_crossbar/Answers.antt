@@ -1,7 +1,7 @@
-use Rattle.std.proofs.Common.{arith, rules}
+use Rattle.cq_run.proofs.Terms.{arith, rules}
 use Rattle.cq_run.proofs.Crossed.{are_given}
 use Rattle.cq_run.proofs.Stopped.{resume_halt, resume_refused, resumed_by, taken_up}
-use Rattle.cq_run.proofs.Exits.{exit_is}
+use Rattle.cq_run.proofs.Told.{exit_is}
 use Rattle.cq_run.proofs.parting.resume_by_crossbar.Goals as goal
 
 pub read_state-requires-clause-schedule : goal.read_state-requires-clause-schedule

@@ -1,13 +1,10 @@
-use Rattle.std.proofs.Common.{◌≡◌, ◌∙◌, ℕ, List, subst, sym}
-use Rattle.cq_space.specs.Failing.{Writes, Fails}
-use Rattle.cq_run.proofs.Failed.{fails_after}
+use Rattle.cq_run.proofs.Terms.{◌≡◌, ◌∙◌, sym, Writes}
+use Rattle.cq_run.proofs.Chain.{fails_after}
 use Rattle.cq_run.proofs.perform.write_all.Goals as goal
 
 pub returns-in-Err-clause-why : goal.returns-in-Err-clause-why
 returns-in-Err-clause-why g c =
     let named : c.name.result.now ≡ c.into_name.result = c.name.ensures ∙ sym c.into_name.ensures in
-    let P : List ℕ → Type 0 = λ n. Fails g.F.Files.space g.F.Files.may_fail g.F.Files.keeps (Writes n)
-    c.args.files.now c.write_whole.new.files in
-    subst P named (fails_after g.F.Files.space g.F.Files.may_fail g.F.Files.keeps (Writes c.name.result.now)
+    rw named at (fails_after g.F.Files.space g.F.Files.may_fail g.F.Files.keeps (Writes c.name.result.now)
     c.args.files.now c.loop-writes.files c.write_whole.new.files g.met.F.Files.lasts
     c.loop-writes.invariant.uncounted c.loop-writes.invariant.kept c.in-Err.ensures.why)

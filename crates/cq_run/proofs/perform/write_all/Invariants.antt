@@ -1,6 +1,4 @@
-use Rattle.std.proofs.Common.{◌≡◌, ℕ, List, vec_len}
-use Rattle.cq_space.specs.Space.{Space, Closed}
-use Rattle.cq_run.specs.Writing.{all_replaced, IsCutAtFile}
+use Rattle.cq_run.proofs.Terms.{◌≡◌, ℕ, List, vec_len, Space, Closed, all_replaced, IsCutAtFile}
 use Rattle.cq_run.proofs.perform.write_all.Given as goal
 
 -- what is left to be written comes to what all comes to, and a cut there is a cut of all

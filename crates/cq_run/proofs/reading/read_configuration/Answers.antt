@@ -1,5 +1,5 @@
-use Rattle.std.proofs.Common.{arith, rules}
-use Rattle.cq_run.proofs.Configured.{configuration_is_to_read, configuration_long, long_is_no_fault}
+use Rattle.cq_run.proofs.Terms.{arith, rules}
+use Rattle.cq_run.proofs.TextRead.{configuration_is_to_read, configuration_long, long_is_no_fault}
 use Rattle.cq_run.proofs.reading.read_configuration.Goals as goal
 
 pub returns-in-Err-Fault-clause-judges : goal.returns-in-Err-Fault-clause-judges

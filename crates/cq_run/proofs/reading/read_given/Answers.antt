@@ -1,6 +1,6 @@
-use Rattle.std.proofs.Common.{arith, rules}
-use Rattle.cq_run.proofs.ReadOn.{captures_end, given_read, tables_end}
-use Rattle.cq_run.proofs.Exits.{exit_is}
+use Rattle.cq_run.proofs.Terms.{arith, rules}
+use Rattle.cq_run.proofs.Reached.{captures_end, given_read, tables_end}
+use Rattle.cq_run.proofs.Told.{exit_is}
 use Rattle.cq_run.proofs.reading.read_given.Goals as goal
 
 pub returns-in_err-tables-clause-ends : goal.returns-in_err-tables-clause-ends

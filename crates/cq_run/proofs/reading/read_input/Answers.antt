@@ -1,8 +1,6 @@
-use Rattle.std.proofs.Common.{arith, rules}
-use Rattle.cq_pcap.specs.Faults.{fault_of}
-use Rattle.cq_run.specs.Pace.{InTurn}
-use Rattle.cq_run.proofs.OneReading.{capture_halts, capture_is}
-use Rattle.cq_run.proofs.Exits.{exit_is}
+use Rattle.cq_run.proofs.Terms.{arith, rules, fault_of, InTurn}
+use Rattle.cq_run.proofs.TextRead.{capture_halts, capture_is}
+use Rattle.cq_run.proofs.Told.{exit_is}
 use Rattle.cq_run.proofs.reading.read_input.Goals as goal
 
 pub returns-in_err-bytes-clause-judges : goal.returns-in_err-bytes-clause-judges

@@ -1,11 +1,8 @@
-use Rattle.std.proofs.Common.{rules, ◌∙◌, ap, arith, sym, length, List}
-use Rattle.std.proofs.lemmas.List.{length-append}
-use Rattle.cq_pcap.specs.Captured.{Captured}
-use Rattle.cq_space.specs.Failing.{Reads}
-use Rattle.cq_run.proofs.Failed.{fails_after}
-use Rattle.cq_run.proofs.OneReading.{from_front}
+use Rattle.cq_run.proofs.Terms.{rules, ◌∙◌, ap, arith, sym, length, List, length-append, Captured, Reads}
+use Rattle.cq_run.proofs.Chain.{fails_after}
+use Rattle.cq_run.proofs.TextRead.{from_front}
 use Rattle.cq_run.proofs.Ports.{ends_all, reads_more, reads_all, reads_none}
-use Rattle.cq_run.proofs.Exits.{exit_is}
+use Rattle.cq_run.proofs.Told.{exit_is}
 use Rattle.cq_run.proofs.reading.read_inputs.Goals as goal
 
 pub ports-init : goal.ports-init
@@ -15,10 +12,8 @@ pub ports-preserved : goal.ports-preserved
 ports-preserved g c =
     record {
       judged = λ r. reads_more r c.args.tables.now.limit_bytes c.as_slice-rows.result.now c.ports.input
-          c.index-rows-input.result c.ports-test.true c.index-rows-input.is _ (λ _. Unit {0})
-          (g.F.Files.space c.args.files.now) (g.F.Files.space c.ports.files)
-          (g.F.Files.space c.read_port.new.files) c.ports.captures.items c.in_ok-capture.capture _
-          c.in_ok-put_capture.ensures (c.ports.invariant.judged r) (c.in_ok-capture.ensures.judges r);
+          c.index-rows-input.result c.ports-test.true c.index-rows-input.is c.in_ok-put_capture.ensures
+          (c.ports.invariant.judged r) (c.in_ok-capture.ensures.judges r);
       each = ap (λ (cs : List (List Captured)). length cs) c.in_ok-put_capture.ensures
           ∙ length-append c.ports.captures.items _ ∙ omega (arith, c.ports.invariant.each);
       kept = g.met.F.Files.lasts.both _ _ _ c.ports.invariant.kept c.read_port.ensures.kept;
@@ -27,18 +22,15 @@ ports-preserved g c =
 pub returns-in_err-capture-clause-judges : goal.returns-in_err-capture-clause-judges
 returns-in_err-capture-clause-judges g c = λ r. rw (exit_is _ c.from_residual.ensures.1, sym c.as_slice-rows.ensures)
     (ends_all r c.args.tables.now.limit_bytes c.as_slice-rows.result.now c.ports.input c.index-rows-input.result
-    c.ports-test.true c.index-rows-input.is (λ _. Unit {0}) _ _ (g.F.Files.space c.args.files.now)
-    (g.F.Files.space c.ports.files) (g.F.Files.space c.read_port.new.files) c.ports.captures.items
-    c.in_err-capture.field-0.0 (λ name. fails_after g.F.Files.space g.F.Files.may_fail g.F.Files.keeps
+    c.ports-test.true c.index-rows-input.is (λ name. fails_after g.F.Files.space g.F.Files.may_fail g.F.Files.keeps
     (Reads name) c.args.files.now c.ports.files c.read_port.new.files g.met.F.Files.lasts
     (c.ports.invariant.judged r).uncounted c.ports.invariant.kept) (c.ports.invariant.judged r)
     (c.in_err-capture.ensures.judges r))
 
 pub returns-clause-judges : goal.returns-clause-judges
-returns-clause-judges g c = λ r. rw (c.of.ensures, sym c.as_slice-rows.ensures) (reads_all r
-    c.args.tables.now.limit_bytes c.as_slice-rows.result.now c.ports.input (λ _. Unit {0}) _
-    (g.F.Files.space c.args.files.now) (g.F.Files.space c.ports.files) c.ports.captures.items
-    (omega (arith, c.ports-test.false)) (c.ports.invariant.judged r))
+returns-clause-judges g c = λ r. rw (c.of.ensures, sym c.as_slice-rows.ensures)
+    (reads_all r c.args.tables.now.limit_bytes c.as_slice-rows.result.now (omega (arith, c.ports-test.false))
+    (c.ports.invariant.judged r))
 
 pub returns-clause-each : goal.returns-clause-each
 returns-clause-each g c = search (arith, rules)

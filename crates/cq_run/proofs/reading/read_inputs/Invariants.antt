@@ -1,9 +1,4 @@
-use Rattle.std.proofs.Common.{◌≡◌, length, take}
-use Rattle.std.specs.Prelude.{Ok}
-use Rattle.cq_run.specs.Judging.{Judges}
-use Rattle.cq_run.specs.Pace.{InTurn}
-use Rattle.cq_run.specs.Reader.{Reader}
-use Rattle.cq_run.specs.Verdict.{captures_from}
+use Rattle.cq_run.proofs.Terms.{◌≡◌, length, take, Ok, Judges, InTurn, Reader, captures_from}
 use Rattle.cq_run.proofs.reading.read_inputs.Given as goal
 
 -- the captures of the ports so far were judged

@@ -1,7 +1,5 @@
-use Rattle.std.proofs.Common.{rules, arith}
-use Rattle.cq_run.proofs.Configured.{long_is_no_fault}
-use Rattle.cq_run.proofs.OneReading.{read_is_no_fault}
-use Rattle.cq_run.proofs.TextRead.{missing_is_no_fault, text_is, text_is_to_read, text_long, text_missed}
+use Rattle.cq_run.proofs.Terms.{rules, arith}
+use Rattle.cq_run.proofs.TextRead.{long_is_no_fault, missing_is_no_fault, text_is, text_is_to_read, text_long, text_missed, read_is_no_fault}
 use Rattle.cq_run.proofs.reading.read_short.Goals as goal
 
 pub returns-in-Ok-clause-judges : goal.returns-in-Ok-clause-judges

@@ -1,4 +1,4 @@
-use Rattle.std.proofs.Common.{arith, rules}
+use Rattle.cq_run.proofs.Terms.{arith, rules}
 use Rattle.cq_run.proofs.reading.read_text.Goals as goal
 
 -- the name that is asked for is a copy of the one that is to be read

@@ -1,4 +1,4 @@
-use Rattle.cq_run.specs.World.{taken_by}
+use Rattle.cq_run.proofs.Terms.{taken_by}
 use Rattle.cq_run.proofs.Put.{pieces_cut}
 use Rattle.cq_run.proofs.say.put_pieces.Goals as goal
 

@@ -1,4 +1,4 @@
-use Rattle.std.proofs.Common.{arith, rules}
+use Rattle.cq_run.proofs.Terms.{arith, rules}
 use Rattle.cq_run.proofs.Put.{front_is, puts_as, two_in_pieces}
 use Rattle.cq_run.proofs.say.put_two.Goals as goal
 

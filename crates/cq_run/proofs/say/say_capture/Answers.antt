@@ -1,7 +1,4 @@
-use Rattle.std.proofs.Common.{◌∙◌, ap, codes}
-use Rattle.cq_base.specs.Decimal.{decimal}
-use Rattle.cq_run.specs.Refusals.{fault_text}
-use Rattle.cq_run.specs.Line.{line}
+use Rattle.cq_run.proofs.Terms.{◌∙◌, ap, codes, decimal, fault_text, line}
 use Rattle.cq_run.proofs.Put.{puts_as, puts_cut, puts_then, line_after, front_is}
 use Rattle.cq_run.proofs.say.say_capture.Goals as goal
 

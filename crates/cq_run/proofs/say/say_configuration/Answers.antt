@@ -1,5 +1,4 @@
-use Rattle.std.proofs.Common.{◌∙◌, ap, codes}
-use Rattle.cq_base.specs.Decimal.{decimal}
+use Rattle.cq_run.proofs.Terms.{◌∙◌, ap, codes, decimal}
 use Rattle.cq_run.proofs.Put.{puts_as, line_of_two, front_is}
 use Rattle.cq_run.proofs.say.say_configuration.Goals as goal
 

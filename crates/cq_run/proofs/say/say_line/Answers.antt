@@ -1,4 +1,4 @@
-use Rattle.cq_run.specs.Line.{line}
+use Rattle.cq_run.proofs.Terms.{line}
 use Rattle.cq_run.proofs.say.say_line.Goals as goal
 
 pub returns : goal.returns

@@ -1,5 +1,4 @@
-use Rattle.std.proofs.Common.{◌∷◌, []}
-use Rattle.cq_run.specs.Line.{line}
+use Rattle.cq_run.proofs.Terms.{◌∷◌, [], line}
 use Rattle.cq_run.proofs.Put.{puts_cut, puts_then}
 use Rattle.cq_run.proofs.say.say_long_record.Goals as goal
 

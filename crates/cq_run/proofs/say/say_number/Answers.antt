@@ -1,4 +1,4 @@
-use Rattle.std.proofs.Common.{arith, rules}
+use Rattle.cq_run.proofs.Terms.{arith, rules}
 use Rattle.cq_run.proofs.Put.{puts_as, line_in_pieces, front_is}
 use Rattle.cq_run.proofs.say.say_number.Goals as goal
 

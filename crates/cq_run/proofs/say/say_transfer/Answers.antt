@@ -1,6 +1,4 @@
-use Rattle.std.proofs.Common.{◌++◌, codes}
-use Rattle.cq_base.specs.Decimal.{decimal}
-use Rattle.cq_run.specs.Refusals.{in_phase_text}
+use Rattle.cq_run.proofs.Terms.{◌++◌, codes, decimal, in_phase_text}
 use Rattle.cq_run.proofs.Put.{line_cut, line_then}
 use Rattle.cq_run.proofs.say.say_transfer.Goals as goal
 

@@ -1,9 +1,6 @@
-use Rattle.std.proofs.Common.{arith, rules, sym}
-use Rattle.cq_words.specs.declared.command.Command.TheVariants.{Run}
-use Rattle.cq_run.specs.Pace.{Ahead}
-use Rattle.cq_run.specs.World.{taken_by, world}
-use Rattle.cq_run.proofs.Obeyed.{cut_short, judging_ends, performed}
-use Rattle.cq_run.proofs.Exits.{exit_is}
+use Rattle.cq_run.proofs.Terms.{arith, rules, sym, Run, Ahead, taken_by, world}
+use Rattle.cq_run.proofs.Ends.{cut_short, judging_ends, performed}
+use Rattle.cq_run.proofs.Told.{exit_is}
 use Rattle.cq_run.proofs.stream.stream.Goals as goal
 
 -- want of memory for the name: nothing was read

@@ -1,15 +1,7 @@
-use Rattle.std.proofs.Common.{◌∙◌, map, string_bytes, subst, sym}
-use Rattle.std.specs.Prelude.{Option, Some}
-use Rattle.cq_words.specs.declared.command.Command.{Command}
-use Rattle.cq_words.specs.declared.command.Command.TheVariants.{Run}
-use Rattle.cq_run.specs.Pace.{Ahead}
-use Rattle.cq_run.specs.Planning.{known_by}
-use Rattle.cq_run.specs.StatusCauses.{StatusCauses}
-use Rattle.cq_run.specs.Verdict.{judged_or_words}
-use Rattle.cq_run.specs.World.{world}
-use Rattle.cq_run.proofs.Causes.{causes_at, emulated_at, only_words, words_end}
-use Rattle.cq_run.proofs.OneReading.{from_front}
-use Rattle.cq_run.proofs.Streaming.{others, streams}
+use Rattle.cq_run.proofs.Terms.{◌∙◌, map, string_bytes, subst, sym, Option, Some, Command, Run, Ahead, known_by, StatusCauses, judged_or_words, world}
+use Rattle.cq_run.proofs.Ends.{causes_at, emulated_at, only_words, words_end}
+use Rattle.cq_run.proofs.TextRead.{from_front}
+use Rattle.cq_run.proofs.Within.{others, streams}
 use Rattle.cq_run.proofs.stream.stream_top.Goals as goal
 
 -- all other words: each clause is that of `switch_top`, along the equations of the words and of the pace

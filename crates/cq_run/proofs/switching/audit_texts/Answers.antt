@@ -1,7 +1,6 @@
-use Rattle.std.proofs.Common.{rules, inl, arith}
-use Rattle.std.proofs.lemmas.List.Elements.{recursion_from_All}
-use Rattle.cq_run.proofs.Denied.{both_passed, log_denied, ranks_fit, run_refused, trace_denied}
-use Rattle.cq_run.proofs.Exits.{exit_is}
+use Rattle.cq_run.proofs.Terms.{rules, inl, arith, recursion_from_All}
+use Rattle.cq_run.proofs.Audits.{both_passed, log_denied, ranks_fit, run_refused, trace_denied}
+use Rattle.cq_run.proofs.Told.{exit_is}
 use Rattle.cq_run.proofs.switching.audit_texts.Goals as goal
 
 -- ## What judging the log asks for

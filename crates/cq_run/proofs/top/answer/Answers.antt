@@ -1,4 +1,4 @@
-use Rattle.std.proofs.Common.{arith, rules}
+use Rattle.cq_run.proofs.Terms.{arith, rules}
 use Rattle.cq_run.proofs.Told.{took}
 use Rattle.cq_run.proofs.top.answer.Goals as goal
 

@@ -1,6 +1,5 @@
-use Rattle.cq_run.specs.Pace.{InTurn}
-use Rattle.cq_run.specs.World.{taken_by, world}
-use Rattle.cq_run.proofs.Obeyed.{cut_short, judging_ends, performed}
+use Rattle.cq_run.proofs.Terms.{InTurn, taken_by, world}
+use Rattle.cq_run.proofs.Ends.{cut_short, judging_ends, performed}
 use Rattle.cq_run.proofs.top.obey.Goals as goal
 
 pub returns-in_err-work-clause-ends : goal.returns-in_err-work-clause-ends

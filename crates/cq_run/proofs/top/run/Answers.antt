@@ -1,4 +1,4 @@
-use Rattle.std.proofs.Common.{arith, rules, string_bytes, ◌∙◌, sym}
+use Rattle.cq_run.proofs.Terms.{arith, rules, string_bytes, ◌∙◌, sym}
 use Rattle.cq_run.proofs.Within.{words_within}
 use Rattle.cq_run.proofs.top.run.Goals as goal
 

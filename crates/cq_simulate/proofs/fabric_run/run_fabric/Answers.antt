@@ -1,5 +1,4 @@
-use Rattle.std.proofs.Common.{arith, rules, ap, sym, ◌∙◌}
-use Rattle.std.specs.Prelude.{Ok}
+use Rattle.cq_simulate.proofs.Terms.{arith, rules, ap, sym, ◌∙◌, Ok}
 use Rattle.cq_simulate.proofs.fabric_run.run_fabric.Goals as goal
 
 pub returns-clause-run : goal.returns-clause-run

@@ -1,8 +1,6 @@
-use Rattle.std.proofs.Common.{arith, rules, sym, ◌∙◌}
-use Rattle.std.proofs.lemmas.Result.{IfErr-weaker, IfOk-weaker}
+use Rattle.cq_simulate.proofs.Terms.{arith, rules, sym, ◌∙◌, IfErr-weaker, IfOk-weaker, unpacked_run}
 use Rattle.cq_simulate.proofs.FabricLaws.{kept_as_ideal}
 use Rattle.cq_simulate.proofs.FabricOpening.{IsMade, can_begin, made_for, no_run, port_count, run_is_kept}
-use Rattle.cq_simulate.specs.FabricRuns.{unpacked_run}
 use Rattle.cq_simulate.proofs.fabric_run.run_fabric_packed.Given as given
 use Rattle.cq_simulate.proofs.fabric_run.run_fabric_packed.Goals as goal
 use Rattle.cq_simulate.proofs.fabric_run.run_fabric_packed.Goals.{In_ok-engine}

@@ -1,5 +1,4 @@
-use Rattle.std.proofs.Common.{arith, rules, ◌∙◌}
-use Rattle.std.proofs.lemmas.Result.{err_from_is_err_and}
+use Rattle.cq_simulate.proofs.Terms.{arith, rules, ◌∙◌, err_from_is_err_and}
 use Rattle.cq_simulate.proofs.fabric_run.run_on.Goals as goal
 
 pub run_slots-requires-clause-few : goal.run_slots-requires-clause-few

@@ -1,13 +1,9 @@
-use Rattle.std.proofs.Common.{◌+◌, ◌-◌, true, zero, map, ◌∙◌, arith, rules, ◌<◌, sym}
-use Rattle.std.proofs.lemmas.Result.{err_from_is_err_and}
-use Rattle.cq_base.specs.Arriving.{end_of}
-use Rattle.cq_laws.specs.Fabric.{IsEmptyFabric}
-use Rattle.cq_traffic.proofs.Quiet.{quiet_of}
-use Rattle.cq_simulate.proofs.FabricRunning.{over_by}
-use Rattle.cq_simulate.proofs.FabricSteps.{CanRun, HasHad, Stands, can_run_here, can_take_over, emptied, fault_here, goes_on, next_here, places_here, quiet_if, run_begins, run_ends, run_stands, taken_over}
+use Rattle.cq_simulate.proofs.Terms.{◌+◌, ◌-◌, true, zero, ap, is_err, ◌∙◌, arith, rules, ◌<◌, sym, err_from_is_err_and, end_of, IsEmptyFabric, quiet_of}
+use Rattle.cq_simulate.proofs.FabricSteps.{over_by, CanRun, Stands, can_run_here, can_take_over, fault_here, goes_on, left_here, next_here, places_here, quiet_if, run_begins, run_ends, run_stands}
+use Rattle.cq_simulate.proofs.Steps.{free_again, left_with_all}
 use Rattle.cq_simulate.proofs.fabric_run.run_slots.Given as given
 use Rattle.cq_simulate.proofs.fabric_run.run_slots.Goals as goal
-use Rattle.cq_simulate.proofs.fabric_run.run_slots.Goals.{After-arrivals, In_ok-slot}
+use Rattle.cq_simulate.proofs.fabric_run.run_slots.Goals.{After-arrivals}
 
 -- ## What is known
 
@@ -29,12 +25,6 @@ can : (g : given.Over) (c : After-arrivals g) →
 can g c = can_run_here (stands g c) c.arrivals.result.now (c.arrivals.ensures ∙ c.skip-slot.ensures.came)
     c.slots.leaving (places_here (stands g c) c.slots.invariant.free)
 
--- what the engine says of the slot
-had : (g : given.Over) (c : In_ok-slot g) →
-    HasHad (map g.R.Rank.machine c.skip-slot.new.engine.fixed) c.skip-slot.result c.arrivals.result.now
-    c.skip-slot.new.engine c.slot.new.self c.slots.leaving c.slot.new.sent c.slots.note c.slot.new.note
-had g c = search (arith, rules)
-
 -- ## The loop
 
 pub slots-init : goal.slots-init
@@ -54,11 +44,9 @@ returns-in_err-slot-clause-fault g c =
     let here = stands g (goal.at.returns-in_err-slot-clause-fault g c).After-arrivals in
     let p = err_from_is_err_and c.from_residual.result c.from_residual.ensures.1 in
     let count = c.skip-slot.result + 1 - c.args.engine.now.next in
-    rw (p.1, p.2)
-    (record {
+    rw (p.1, p.2) (record {
       count = count;
-      stops =
-          fault_here here c.arrivals.result.now c.in_err-slot.field-0.0 zero count (omega arith)
+      stops = fault_here here c.arrivals.result.now c.in_err-slot.field-0.0 zero count (omega arith)
           (c.arrivals.ensures ∙ c.skip-slot.ensures.came) (sym c.in_err-slot.was ∙ c.slot.ensures.answer);
     })
 
@@ -72,17 +60,23 @@ slots-smaller g c =
     omega arith
 
 pub take_all-requires : goal.take_all-requires
-take_all-requires g c = search (arith, rules, can_take_over, stands, had)
+take_all-requires g c = search (arith, rules, can_take_over, stands)
 
 pub slots-preserved : goal.slots-preserved
 slots-preserved g c =
-    let at = goal.at.slots-preserved g c in
+    let done = c.in_ok-slot.ensures.slot in
     record {
-      runs = next_here (stands g at.After-arrivals) c.arrivals.result.now c.slot.new.self c.take_all.new.self
-          c.slot.new.note (c.arrivals.ensures ∙ c.skip-slot.ensures.came) (had g at.In_ok-slot)
-          (taken_over c.slots.invariant.free (had g at.In_ok-slot) c.take_all.ensures.items c.take_all.ensures.spare);
-      free =
-          emptied c.slots.invariant.free (had g at.In_ok-slot) c.take_all.ensures.none_left c.take_all.ensures.room;
+      runs = next_here (stands g (goal.at.slots-preserved g c).After-arrivals) c.arrivals.result.now c.slot.new.self
+          c.take_all.new.self c.slot.new.note (c.arrivals.ensures ∙ c.skip-slot.ensures.came) (record {
+            done = done;
+            put =
+                left_with_all c.slots.invariant.free (left_here done) c.take_all.ensures.items
+                c.take_all.ensures.spare;
+            went_on = c.in_ok-slot.ensures.went_on;
+            running = c.slot.ensures.stopped ∙ ap is_err c.in_ok-slot.was;
+            made = c.slot.ensures.made;
+          });
+      free = free_again c.slots.invariant.free (left_here done) c.take_all.ensures.none_left c.take_all.ensures.room;
     }
 
 pub returns-clause-run : goal.returns-clause-run

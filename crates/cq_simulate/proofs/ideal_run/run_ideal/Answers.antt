@@ -1,6 +1,4 @@
-use Rattle.std.proofs.Common.{rules, ap, sym, ◌∙◌, arith}
-use Rattle.std.specs.Prelude.{Ok}
-use Rattle.cq_ideal.specs.Ending.{slots_of}
+use Rattle.cq_simulate.proofs.Terms.{rules, ap, sym, ◌∙◌, arith, Ok, slots_of}
 use Rattle.cq_simulate.proofs.Departed.{last_departs_without_limits, slots_are}
 use Rattle.cq_simulate.proofs.ideal_run.run_ideal.Goals as goal
 

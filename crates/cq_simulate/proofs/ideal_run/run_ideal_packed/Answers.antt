@@ -1,21 +1,12 @@
-use Rattle.std.proofs.Common.{rules, ◌≡◌, ℕ, length, map, ap, ◌∙◌, arith}
-use Rattle.std.specs.List.{range_with_len}
-use Rattle.std.proofs.lemmas.List.{length-map}
-use Rattle.std.proofs.lemmas.List.FromFn.{length-map-range_with_len}
-use Rattle.std.proofs.lemmas.Result.{err_from_is_err_and}
-use Rattle.cq_base.specs.Arriving.{traffic_of}
-use Rattle.cq_ideal.specs.Ideal.{marked_state}
-use Rattle.cq_ideal.specs.LimitedEnding.{departures_limited}
-use Rattle.cq_ideal.specs.LimitedIdeal.{limited_run}
-use Rattle.cq_cells.specs.Traffic.{is_to, number_of}
-use Rattle.cq_scfq.specs.Discipline.{fixed_of, machine_from, state_of}
-use Rattle.cq_simulate.specs.IdealRuns.{ideal_departures}
-use Rattle.cq_simulate.proofs.Opening.{IsMadeFor, few_cells, machine_count, made, ready, run_of_tables}
+use Rattle.cq_simulate.proofs.Terms.{rules, ◌≡◌, ℕ, length, map, ap, ◌∙◌, arith, range_with_len, length-map, length-map-range_with_len, err_from_is_err_and, traffic_of, marked_state, departures_limited, limited_run, is_to, number_of, fixed_of, machine_from, state_of, ideal_departures}
+use Rattle.cq_simulate.proofs.Steps.{enough_are}
+use Rattle.cq_simulate.proofs.FabricOpening.{ready_ideal, run_of_tables}
+use Rattle.cq_simulate.proofs.TakenUp.{machine_count}
 use Rattle.cq_simulate.proofs.ideal_run.run_ideal_packed.Goals as goal
 use Rattle.cq_simulate.proofs.ideal_run.run_ideal_packed.Goals.{In_ok-ideal}
 
 pub overflow_add-total : goal.overflow_add-total
-overflow_add-total c = search (arith, rules, machine_count, length-map, few_cells)
+overflow_add-total c = search (arith, rules, machine_count, length-map, enough_are)
 
 pub new-requires-2-clause-rooms : goal.new-requires-2-clause-rooms
 new-requires-2-clause-rooms c = search (arith, rules, length-map-range_with_len)
@@ -23,18 +14,16 @@ new-requires-2-clause-rooms c = search (arith, rules, length-map-range_with_len)
 pub new-requires-2-clause-limits : goal.new-requires-2-clause-limits
 new-requires-2-clause-limits c = search (arith, rules, machine_count, length-map)
 
--- the switch is made for the tables
-made_for : (c : In_ok-ideal) →
-    IsMadeFor machine_from c.args.tables.now (length c.in_ok-ranks.ranks.items)
-    (map state_of c.in_ok-ranks.ranks.items) c.in_ok-ideal.ideal
-made_for c = search (arith, rules, made, length-map)
-
--- and its run is theirs
+-- the run of the switch is that of the tables
 run_of : (c : In_ok-ideal) → departures_limited (limited_run c.in_ok-ideal.ideal.limits
     (map machine_from c.in_ok-ideal.ideal.fixed) 0 (traffic_of c.args.schedule.now.came)
     (marked_state c.in_ok-ideal.ideal)) ≡ ideal_departures c.args.tables.now c.args.schedule.now.came
-run_of c = run_of_tables machine_from c.args.tables.now c.args.schedule.now.came (length c.in_ok-ranks.ranks.items)
-    (map state_of c.in_ok-ranks.ranks.items) c.in_ok-ideal.ideal (made_for c) c.in_ok-ranks.ensures.states
+run_of c =
+    let items = c.in_ok-ranks.ranks.items in
+    run_of_tables machine_from c.args.tables.now (length items) (map fixed_of items) (map state_of items)
+    c.as_slice-2.result.now c.as_slice.result.now c.in_ok-ideal.ideal c.in_ok-ideal.ensures
+    c.in_ok-ranks.ensures.machines (length-map items fixed_of) c.as_slice-2.ensures c.args.schedule.now.came
+    c.in_ok-ranks.ensures.states
 
 pub run_slots-requires-clause-ready : goal.run_slots-requires-clause-ready
 run_slots-requires-clause-ready c =
@@ -42,7 +31,7 @@ run_slots-requires-clause-ready c =
     let t = c.args.tables.now in
     let len : c.len-ports.result ≡ length items = omega (arith, c.len-ports.ensures, c.in_ok-ranks.ranks.ok) in
     let f : ℕ → ℕ = λ j. number_of (is_to j) c.args.schedule.now.came in
-    ready machine_from t (length items) (map fixed_of items) (map state_of items) c.as_slice-2.result.now
+    ready_ideal machine_from t (length items) (map fixed_of items) (map state_of items) c.as_slice-2.result.now
     c.as_slice.result.now c.in_ok-ideal.ideal c.in_ok-ideal.ensures c.in_ok-ranks.ensures.machines
     (length-map items fixed_of) c.as_slice-2.ensures c.args.schedule.now.came c.in_ok-sent.sent
     c.requires.tables.setup (c.in_ok-ranks.ensures.classes (omega arith))

@@ -1,7 +1,4 @@
-use Rattle.std.proofs.Common.{rules, ◌≡◌, ◌≤◌, map, sym, ◌∙◌, arith}
-use Rattle.std.proofs.lemmas.Result.{err_from_is_err_and}
-use Rattle.cq_base.specs.Arriving.{end_of}
-use Rattle.cq_ideal.proofs.Waiting.{waiting}
+use Rattle.cq_simulate.proofs.Terms.{rules, ◌≡◌, ◌≤◌, map, sym, ◌∙◌, arith, err_from_is_err_and, end_of, waiting}
 use Rattle.cq_simulate.proofs.Steps.{Before, HasHad, a_slot_left, at_end, at_fault, at_first, at_next, at_rest, can_have, can_take_over, early_at_end, emptied, handed, more_at_rest, not_over}
 use Rattle.cq_simulate.proofs.ideal_run.run_slots.Given as given
 use Rattle.cq_simulate.proofs.ideal_run.run_slots.Goals as goal
@@ -18,11 +15,9 @@ stands g c = search (arith, rules, at_rest)
 -- and is not over there
 going : (g : given.Over) (c : After-arrivals g) → end_of c.args.schedule.now.came ≤ c.skip-slot.result →
     waiting c.skip-slot.new.ideal.state.lists ≡ 0 → ⊥
-going g c =
-    more_at_rest g.R.Rank.machine c.requires.ready c.slots.invariant.runs
-    c.skip-slot.ensures.quiet c.skip-slot.ensures.rested
-    (not_over c.is_over.result (end_of c.args.schedule.now.came) c.slots.slot c.slots.ideal.state.lists
-    c.slots-test.true c.is_over.ensures)
+going g c = more_at_rest g.R.Rank.machine c.requires.ready c.slots.invariant.runs c.skip-slot.ensures.quiet
+    c.skip-slot.ensures.rested (not_over c.is_over.result (end_of c.args.schedule.now.came) c.slots.slot
+    c.slots.ideal.state.lists c.slots-test.true c.is_over.ensures)
 
 -- what the switch says of the slot
 had : (g : given.Over) (c : In_ok-slot g) →
@@ -52,9 +47,7 @@ returns-in_err-slot-clause-fault g c =
 pub slots-smaller : goal.slots-smaller
 slots-smaller g c =
     let at = (goal.at.slots-smaller g c).After-arrivals in
-    let left =
-    a_slot_left g.R.Rank.machine c.requires.ready (stands g at) (going g at) in
-    omega arith
+    let left = a_slot_left g.R.Rank.machine c.requires.ready (stands g at) (going g at) in omega arith
 
 pub take_all-requires : goal.take_all-requires
 take_all-requires g c = search (arith, rules, can_take_over, stands, going, had)

@@ -1,7 +1,5 @@
-use Rattle.std.proofs.Common.{◌-◌, length, map}
-use Rattle.cq_base.specs.Arriving.{enough}
-use Rattle.cq_simulate.proofs.Handed.{IsFree}
-use Rattle.cq_simulate.proofs.Running.{Running}
+use Rattle.cq_simulate.proofs.Terms.{◌-◌, length, map, enough}
+use Rattle.cq_simulate.proofs.Steps.{IsFree, Running}
 use Rattle.cq_simulate.proofs.ideal_run.run_slots.Given as goal
 
 abbrev pub invariant-slots : goal.invariant-slots

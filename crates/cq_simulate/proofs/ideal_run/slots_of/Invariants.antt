@@ -1,5 +1,4 @@
-use Rattle.std.proofs.Common.{◌≡◌, max, drop}
-use Rattle.cq_ideal.specs.Ending.{slots_of}
+use Rattle.cq_simulate.proofs.Terms.{◌≡◌, max, drop, slots_of}
 use Rattle.cq_simulate.proofs.ideal_run.slots_of.Given as goal
 
 abbrev pub invariant-departures : goal.invariant-departures

@@ -1,5 +1,5 @@
-use Rattle.std.proofs.Common.{arith, rules}
-use Rattle.cq_simulate.proofs.Packed.{in_rows, original_is}
+use Rattle.cq_simulate.proofs.Terms.{arith, rules}
+use Rattle.cq_simulate.proofs.AllPacked.{in_rows, original_is}
 use Rattle.cq_simulate.proofs.packets.original_of.Goals as goal
 
 pub bounds-rows-packet : goal.bounds-rows-packet

@@ -1,4 +1,4 @@
-use Rattle.cq_simulate.proofs.Taking.{SoFar}
+use Rattle.cq_simulate.proofs.AllPacked.{SoFar}
 use Rattle.cq_simulate.proofs.packets.packets_of.Given as goal
 
 abbrev pub invariant-departures : goal.invariant-departures

@@ -1,6 +1,4 @@
-use Rattle.std.proofs.Common.{rules, arith, All, sym, subst}
-use Rattle.std.proofs.lemmas.List.Elements.{All-push}
-use Rattle.cq_simulate.specs.Pieces.{IsEmptied}
+use Rattle.cq_simulate.proofs.Terms.{rules, arith, All, sym, subst, All-push, IsEmptied}
 use Rattle.cq_simulate.proofs.packing.emptied.Goals as goal
 
 pub places-preserved : goal.places-preserved

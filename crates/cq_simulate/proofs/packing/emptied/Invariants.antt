@@ -1,5 +1,4 @@
-use Rattle.std.proofs.Common.{◌-◌, ◌≤◌, All, vec_len}
-use Rattle.cq_simulate.specs.Pieces.{IsEmptied}
+use Rattle.cq_simulate.proofs.Terms.{◌-◌, ◌≤◌, All, vec_len, IsEmptied}
 use Rattle.cq_simulate.proofs.packing.emptied.Given as goal
 
 abbrev pub invariant-places : goal.invariant-places

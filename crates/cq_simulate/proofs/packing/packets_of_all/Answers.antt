@@ -1,6 +1,5 @@
-use Rattle.std.proofs.Common.{rules, length, map, ap, arith, ◌<◌}
-use Rattle.cq_base.specs.Packed.{unpacked}
-use Rattle.cq_simulate.proofs.AllPacked.{all_packed, at_port, can_take, first_unpacked, none_yet, one_more}
+use Rattle.cq_simulate.proofs.Terms.{rules, length, map, ap, arith, ◌<◌, unpacked}
+use Rattle.cq_simulate.proofs.AllPacked.{all_packed, at_port, can_take, none_yet, one_more}
 use Rattle.cq_simulate.proofs.packing.packets_of_all.Goals as goal
 
 pub departures-init : goal.departures-init
@@ -8,28 +7,22 @@ departures-init c = search (arith, rules, none_yet)
 
 pub index_mut-requires : goal.index_mut-requires
 index_mut-requires c =
-    let first = first_unpacked c.departures.left c.pop_first.new.self c.in-Some.packed c.departure-departure.result
-    c.in-Some.ensures c.departure-departure.ensures in
     let inside : c.departure-departure.result.output < length c.departures.places.items =
-    at_port c.departures.invariant first c.requires in
+    at_port c.departures.invariant c.in-Some.ensures c.departure-departure.ensures c.requires in
     omega (arith, c.departures.places.ok.0)
 
 pub take-requires-clause-can : goal.take-requires-clause-can
 take-requires-clause-can c =
-    let first = first_unpacked c.departures.left c.pop_first.new.self c.in-Some.packed c.departure-departure.result
-    c.in-Some.ensures c.departure-departure.ensures in
-    can_take c.departures.invariant first c.requires c.index_mut.result.now c.index_mut.ensures.value
+    can_take c.departures.invariant c.in-Some.ensures c.departure-departure.ensures c.requires c.index_mut.result.now
+    c.index_mut.ensures.value
 
 pub departures-smaller : goal.departures-smaller
 departures-smaller c = let shorter = ap length c.in-Some.ensures in omega arith
 
 pub departures-preserved : goal.departures-preserved
 departures-preserved c =
-    let first = first_unpacked c.departures.left c.pop_first.new.self c.in-Some.packed c.departure-departure.result
-    c.in-Some.ensures c.departure-departure.ensures in
-    one_more c.departures.invariant first c.requires
-    c.index_mut.result.now c.index_mut.ensures.value
-    c.take.new.self c.in_ok-take.ensures
+    one_more c.departures.invariant c.in-Some.ensures c.departure-departure.ensures c.requires c.index_mut.result.now
+    c.index_mut.ensures.value c.take.new.self c.in_ok-take.ensures
 
 pub returns : goal.returns
 returns c = all_packed c.args.tables.now c.args.captures.now c.args.sent.items (map unpacked c.departures.left)

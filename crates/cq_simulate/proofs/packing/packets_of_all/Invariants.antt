@@ -1,5 +1,4 @@
-use Rattle.std.proofs.Common.{length, map}
-use Rattle.cq_base.specs.Packed.{unpacked}
+use Rattle.cq_simulate.proofs.Terms.{length, map, unpacked}
 use Rattle.cq_simulate.proofs.AllPacked.{AllSoFar}
 use Rattle.cq_simulate.proofs.packing.packets_of_all.Given as goal
 

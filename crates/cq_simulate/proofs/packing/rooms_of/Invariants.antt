@@ -1,4 +1,4 @@
-use Rattle.std.proofs.Common.{◌≡◌, length}
+use Rattle.cq_simulate.proofs.Terms.{◌≡◌, length}
 use Rattle.cq_simulate.proofs.packing.rooms_of.Given as goal
 
 abbrev pub invariant-departures : goal.invariant-departures

@@ -1,5 +1,4 @@
-use Rattle.std.proofs.Common.{rules, ◌≡◌, ℕ, List, [], ◌∷◌, ◌++◌, ◌+◌, ◌<◌, length, get_or, take, arith}
-use Rattle.std.proofs.lemmas.List.{take_all, take_more}
+use Rattle.cq_simulate.proofs.Terms.{rules, ◌≡◌, ℕ, List, [], ◌∷◌, ◌++◌, ◌+◌, ◌<◌, length, get_or, take, arith, take_all, take_more}
 use Rattle.cq_simulate.proofs.parted_run.holding.Goals as goal
 
 one_more : {X : Type 0} (xs : List X) (i : ℕ) (x : X) (now more : List X) → now ≡ take i xs → more ≡ now ++ x ∷ [] →

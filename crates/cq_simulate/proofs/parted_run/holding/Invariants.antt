@@ -1,4 +1,4 @@
-use Rattle.std.proofs.Common.{◌≡◌, ◌+◌, length, take}
+use Rattle.cq_simulate.proofs.Terms.{◌≡◌, ◌+◌, length, take}
 use Rattle.cq_simulate.proofs.parted_run.holding.Given as goal
 
 -- the items before this place are there, and there is room for the others and for so many more

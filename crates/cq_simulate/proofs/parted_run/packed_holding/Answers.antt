@@ -1,4 +1,4 @@
-use Rattle.std.proofs.Common.{rules, arith}
+use Rattle.cq_simulate.proofs.Terms.{rules, arith}
 use Rattle.cq_simulate.proofs.parted_run.packed_holding.Goals as goal
 
 pub take_all-requires : goal.take_all-requires

@@ -1,6 +1,4 @@
-use Rattle.std.proofs.Common.{rules, ap, arith}
-use Rattle.std.proofs.lemmas.Result.{err_from_is_err_and}
-use Rattle.cq_engine.specs.Engine.{EngineView}
+use Rattle.cq_simulate.proofs.Terms.{rules, ap, arith, err_from_is_err_and, EngineView}
 use Rattle.cq_simulate.proofs.FabricOpening.{IsMade, can_begin, made_for, port_count}
 use Rattle.cq_simulate.proofs.Parting.{part_fault, parted_of}
 use Rattle.cq_simulate.proofs.parted_run.part_fabric.Given as given

@@ -1,9 +1,6 @@
-use Rattle.std.proofs.Common.{arith, rules, map, ap, ◌∙◌}
-use Rattle.std.proofs.lemmas.List.{length-map}
-use Rattle.std.proofs.lemmas.Result.{IfErr-weaker, IfOk-weaker}
-use Rattle.cq_scfq.specs.Discipline.{machine_from}
+use Rattle.cq_simulate.proofs.Terms.{arith, rules, map, ap, ◌∙◌, length-map, IfErr-weaker, IfOk-weaker, machine_from}
 use Rattle.cq_simulate.proofs.FabricOpening.{can_be_made}
-use Rattle.cq_simulate.proofs.Resuming.{resumed_fault, resumed_of}
+use Rattle.cq_simulate.proofs.Parting.{resumed_fault, resumed_of}
 use Rattle.cq_simulate.proofs.TakenUp.{can_thaw, runs_on}
 use Rattle.cq_simulate.proofs.parted_run.resume_fabric.Goals as goal
 

@@ -1,7 +1,5 @@
-use Rattle.std.proofs.Common.{◌+◌, ◌-◌, ◌≤◌, false, ap, ◌∙◌, arith, rules, sym}
-use Rattle.std.specs.Result.{is_err}
-use Rattle.std.proofs.lemmas.Result.{err_from_is_err_and}
-use Rattle.cq_simulate.proofs.FabricSteps.{CanRun, Stands, can_run_here, fault_here, next_here, part_begins, part_ends, part_rests, part_stands, room_here}
+use Rattle.cq_simulate.proofs.Terms.{◌+◌, ◌-◌, ◌≤◌, false, ap, ◌∙◌, arith, rules, sym, is_err, err_from_is_err_and}
+use Rattle.cq_simulate.proofs.FabricSteps.{CanRun, Stands, can_run_here, fault_here, left_here, next_here, part_begins, part_ends, part_rests, part_stands, room_here}
 use Rattle.cq_simulate.proofs.parted_run.run_before.Given as given
 use Rattle.cq_simulate.proofs.parted_run.run_before.Goals as goal
 use Rattle.cq_simulate.proofs.parted_run.run_before.Goals.{After-arrivals-arrivals}
@@ -40,10 +38,9 @@ returns-in_err-slot-clause-fault g c =
     let here = stands g (goal.at.returns-in_err-slot-clause-fault g c).After-arrivals-arrivals in
     let p = err_from_is_err_and c.from_residual.result c.from_residual.ensures.1 in
     let last = c.args.last in
-    rw (p.1, p.2)
-    (fault_here here c.arrivals-arrivals.result.now c.in_err-slot.field-0.0 (last - (c.skip-slot.result + 1))
-    (last - c.args.engine.now.next) (omega arith) (c.arrivals-arrivals.ensures ∙ c.skip-slot.ensures.came)
-    (sym c.in_err-slot.was ∙ c.slot.ensures.answer))
+    rw (p.1, p.2) (fault_here here c.arrivals-arrivals.result.now c.in_err-slot.field-0.0
+    (last - (c.skip-slot.result + 1)) (last - c.args.engine.now.next) (omega arith)
+    (c.arrivals-arrivals.ensures ∙ c.skip-slot.ensures.came) (sym c.in_err-slot.was ∙ c.slot.ensures.answer))
 
 pub slots-smaller : goal.slots-smaller
 slots-smaller g c = omega arith
@@ -55,15 +52,10 @@ slots-preserved g c =
           c.arrivals-arrivals.result.now c.slot.new.self c.slot.new.sent c.slot.new.note
           (c.arrivals-arrivals.ensures ∙ c.skip-slot.ensures.came) (record {
             done = c.in_ok-slot.ensures.slot;
+            put = left_here c.in_ok-slot.ensures.slot;
+            went_on = c.in_ok-slot.ensures.went_on;
             running = c.slot.ensures.stopped ∙ ap is_err c.in_ok-slot.was;
-            next = c.in_ok-slot.ensures.went_on.next;
             made = c.slot.ensures.made;
-          }) (record {
-            done = c.in_ok-slot.ensures.slot;
-            put = record {
-              items = c.in_ok-slot.ensures.slot.departed;
-              spare = c.in_ok-slot.ensures.slot.departed_room;
-            };
           });
       before = omega arith;
     }

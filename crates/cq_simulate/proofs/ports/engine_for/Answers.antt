@@ -1,5 +1,4 @@
-use Rattle.std.proofs.Common.{arith, rules}
-use Rattle.std.proofs.lemmas.Result.{IfOk-weaker}
+use Rattle.cq_simulate.proofs.Terms.{arith, rules, IfOk-weaker}
 use Rattle.cq_simulate.proofs.FabricOpening.{can_be_made, fresh_for}
 use Rattle.cq_simulate.proofs.ports.engine_for.Goals as goal
 

@@ -1,4 +1,4 @@
-use Rattle.std.proofs.Common.{rules, arith}
+use Rattle.cq_simulate.proofs.Terms.{rules, arith}
 use Rattle.cq_simulate.proofs.FabricOpening.{ranks_many}
 use Rattle.cq_simulate.proofs.ports.ports_for.Goals as goal
 

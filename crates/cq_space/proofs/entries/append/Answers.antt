@@ -1,5 +1,4 @@
-use Rattle.std.proofs.Common.{arith, rules}
-use Rattle.std.proofs.lemmas.Result.{err_from_is_err_and}
+use Rattle.cq_space.proofs.Terms.{arith, rules, err_from_is_err_and}
 use Rattle.cq_space.proofs.Columns.{lengthened, unlengthened}
 use Rattle.cq_space.proofs.entries.append.Goals as goal
 
@@ -8,8 +7,7 @@ pub returns-in_err-extend_from_slice-in-Some-clause-err :
 returns-in_err-extend_from_slice-in-Some-clause-err c =
     let is_err = err_from_is_err_and c.from_residual.result c.from_residual.ensures.1 in
     rw (is_err.1) (unlengthened c.args.entries.now c.args.at c.index-entries-at.result c.in-Some.bytes
-    c.extend_from_slice.new.self c.requires.there c.in-Some.is
-    c.in_err-extend_from_slice-in-Some.ensures.items)
+    c.extend_from_slice.new.self c.requires.there c.in-Some.is c.in_err-extend_from_slice-in-Some.ensures.items)
 
 pub returns-clause-ok : goal.returns-clause-ok
 returns-clause-ok c = search (arith, rules, lengthened)

@@ -1,5 +1,4 @@
-use Rattle.std.proofs.Common.{arith, rules, string_bytes}
-use Rattle.std.proofs.lemmas.Map.Text.{is_eq-slice_cmp}
+use Rattle.cq_space.proofs.Terms.{arith, rules, string_bytes, is_eq-slice_cmp}
 use Rattle.cq_space.proofs.entries.is_named.Goals as goal
 
 pub returns : goal.returns

@@ -1,16 +1,15 @@
-use Rattle.std.proofs.Common.{refl, arith}
+use Rattle.cq_space.proofs.Terms.{refl, arith}
 use Rattle.cq_space.proofs.Columns.{finds, finds_none, says_pushed, pushed_first}
 use Rattle.cq_space.proofs.entries.place_of.Goals as goal
 
 pub returns-in-Some-clause-ok : goal.returns-in-Some-clause-ok
-returns-in-Some-clause-ok c = finds c.args.entries.now.items c.deref.result.now c.args.name.now c.in-Some.at
-    c.deref.ensures.value c.in-Some.ensures
+returns-in-Some-clause-ok c = finds c.args.entries.now.items _ _ _ c.deref.ensures.value c.in-Some.ensures
 
 pub returns-clause-ok : goal.returns-clause-ok
 returns-clause-ok c =
+    let none = finds_none c.args.entries.now.items _ c.args.name.now c.deref.ensures.value c.in_default.ensures in
     pushed_first c.args.entries.now.items c.push.new.self.items _ c.args.name.now c.len-at.result
-    c.in_ok-push.ensures.items c.in_ok-from_str.ensures.ok (omega arith) (finds_none c.args.entries.now.items
-    c.deref.result.now c.args.name.now c.deref.ensures.value c.in_default.ensures)
+    c.in_ok-push.ensures.items c.in_ok-from_str.ensures.ok (omega arith) none
 
 pub returns-clause-same : goal.returns-clause-same
 returns-clause-same c =

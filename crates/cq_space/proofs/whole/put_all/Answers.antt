@@ -1,5 +1,5 @@
-use Rattle.std.proofs.Common.{arith, rules}
-use Rattle.cq_space.proofs.Pieces.{put_on, length-rest}
+use Rattle.cq_space.proofs.Terms.{arith, rules}
+use Rattle.cq_space.proofs.Replaced.{put_on, length-rest}
 use Rattle.cq_space.proofs.whole.put_all.Goals as goal
 
 pub loop-taken-preserved : goal.loop-taken-preserved

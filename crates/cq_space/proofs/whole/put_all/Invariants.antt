@@ -1,5 +1,4 @@
-use Rattle.std.proofs.Common.{length, ◌-◌, ◌≡◌, ◌≤◌, take}
-use Rattle.std.specs.Io.KnownBytes.{append_known}
+use Rattle.cq_space.proofs.Terms.{length, ◌-◌, ◌≡◌, ◌≤◌, take, append_known}
 use Rattle.cq_space.proofs.whole.put_all.Given as goal
 
 abbrev pub invariant-loop-taken : goal.invariant-loop-taken

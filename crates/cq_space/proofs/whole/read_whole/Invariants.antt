@@ -1,6 +1,5 @@
-use Rattle.std.proofs.Common.{◌+◌, ◌-◌, ◌≡◌, ◌≤◌, vec_len}
-use Rattle.cq_space.specs.Space.{read_name}
-use Rattle.cq_space.proofs.Reading.{HasRead}
+use Rattle.cq_space.proofs.Terms.{◌+◌, ◌-◌, ◌≡◌, ◌≤◌, vec_len, read_name}
+use Rattle.cq_space.proofs.Replaced.{HasRead}
 use Rattle.cq_space.proofs.whole.read_whole.Given as goal
 
 abbrev pub invariant-pieces : goal.invariant-pieces

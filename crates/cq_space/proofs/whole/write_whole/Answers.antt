@@ -1,6 +1,5 @@
-use Rattle.std.proofs.Common.{arith, rules}
-use Rattle.cq_space.proofs.Pieces.{length-rest}
-use Rattle.cq_space.proofs.Replaced.{replaced_on}
+use Rattle.cq_space.proofs.Terms.{arith, rules}
+use Rattle.cq_space.proofs.Replaced.{length-rest, replaced_on}
 use Rattle.cq_space.proofs.whole.write_whole.Goals as goal
 
 pub loop-written-preserved : goal.loop-written-preserved

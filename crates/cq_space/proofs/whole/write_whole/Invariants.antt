@@ -1,5 +1,4 @@
-use Rattle.std.proofs.Common.{length, ◌-◌, ◌≡◌, ◌≤◌, take}
-use Rattle.cq_space.specs.Space.{Writing, replaced}
+use Rattle.cq_space.proofs.Terms.{length, ◌-◌, ◌≡◌, ◌≤◌, take, Writing, replaced}
 use Rattle.cq_space.proofs.whole.write_whole.Given as goal
 
 abbrev pub invariant-loop-written : goal.invariant-loop-written

@@ -1,4 +1,4 @@
-use Rattle.std.proofs.Common.{length}
+use Rattle.cq_state.proofs.Terms.{length}
 use Rattle.cq_state.proofs.Due.{Here}
 use Rattle.cq_state.proofs.next.next_line.Given as goal
 

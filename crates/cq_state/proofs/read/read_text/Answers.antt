@@ -1,5 +1,4 @@
-use Rattle.std.proofs.Common.{arith, rules}
-use Rattle.cq_lines.proofs.Going.{ends_well}
+use Rattle.cq_state.proofs.Terms.{arith, rules, ends_well}
 use Rattle.cq_state.proofs.Reading.{low_line, line_told, state_told}
 use Rattle.cq_state.proofs.read.read_text.Goals as goal
 

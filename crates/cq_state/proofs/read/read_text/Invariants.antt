@@ -1,4 +1,4 @@
-use Rattle.std.proofs.Common.{length}
+use Rattle.cq_state.proofs.Terms.{length}
 use Rattle.cq_state.proofs.Due.{ReadSoFar}
 use Rattle.cq_state.proofs.read.read_text.Given as goal
 

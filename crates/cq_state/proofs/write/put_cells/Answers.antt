@@ -1,6 +1,5 @@
-use Rattle.std.proofs.Common.{arith, rules, refl}
+use Rattle.cq_state.proofs.Terms.{arith, rules, refl, cell_line}
 use Rattle.cq_state.proofs.Writing.{line_put, lines_put}
-use Rattle.cq_state.specs.State.{cell_line}
 use Rattle.cq_state.proofs.write.put_cells.Goals as goal
 
 pub cells-preserved : goal.cells-preserved

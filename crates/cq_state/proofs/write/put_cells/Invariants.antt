@@ -1,7 +1,4 @@
-use Rattle.std.proofs.Common.{◌≡◌, ◌++◌, map, take}
-use Rattle.std.specs.List.{flat_map}
-use Rattle.cq_state.specs.State.{cell_line}
-use Rattle.cq_state.specs.StateText.{spelled}
+use Rattle.cq_state.proofs.Terms.{◌≡◌, ◌++◌, map, take, flat_map, cell_line, spelled}
 use Rattle.cq_state.proofs.write.put_cells.Given as goal
 
 abbrev pub invariant-cells : goal.invariant-cells

@@ -1,6 +1,5 @@
-use Rattle.std.proofs.Common.{arith, rules, ◌++◌, ap, ◌∙◌}
+use Rattle.cq_state.proofs.Terms.{arith, rules, ◌++◌, ap, ◌∙◌, spelled}
 use Rattle.cq_state.proofs.Writing.{each_put, lines_put}
-use Rattle.cq_state.specs.StateText.{spelled}
 use Rattle.cq_state.proofs.write.put_each.Goals as goal
 
 pub items-preserved : goal.items-preserved

@@ -1,6 +1,4 @@
-use Rattle.std.proofs.Common.{◌≡◌, ◌++◌, map, take}
-use Rattle.std.specs.List.{flat_map}
-use Rattle.cq_state.specs.StateText.{spelled}
+use Rattle.cq_state.proofs.Terms.{◌≡◌, ◌++◌, map, take, flat_map, spelled}
 use Rattle.cq_state.proofs.write.put_each.Given as goal
 
 abbrev pub invariant-items : goal.invariant-items

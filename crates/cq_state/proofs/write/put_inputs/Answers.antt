@@ -1,7 +1,6 @@
-use Rattle.std.proofs.Common.{refl}
+use Rattle.cq_state.proofs.Terms.{refl, input_line}
 use Rattle.cq_state.proofs.Writing.{numbered_line_put, numbered_lines_put}
 use Rattle.cq_state.specs.declared.kind.Kind.TheVariants as kind
-use Rattle.cq_state.specs.State.{input_line}
 use Rattle.cq_state.proofs.write.put_inputs.Goals as goal
 
 pub inputs-preserved : goal.inputs-preserved

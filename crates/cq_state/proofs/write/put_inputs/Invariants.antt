@@ -1,7 +1,4 @@
-use Rattle.std.proofs.Common.{◌≡◌, ◌++◌, take}
-use Rattle.std.specs.List.{flat_map}
-use Rattle.cq_state.specs.State.{numbered, input_line}
-use Rattle.cq_state.specs.StateText.{spelled}
+use Rattle.cq_state.proofs.Terms.{◌≡◌, ◌++◌, take, flat_map, numbered, input_line, spelled}
 use Rattle.cq_state.proofs.write.put_inputs.Given as goal
 
 abbrev pub invariant-inputs : goal.invariant-inputs

@@ -1,7 +1,6 @@
-use Rattle.std.proofs.Common.{◌∷◌, map, Some, refl, ap, ◌∙◌}
+use Rattle.cq_state.proofs.Terms.{◌∷◌, map, Some, refl, ap, ◌∙◌, rank_line}
 use Rattle.cq_state.proofs.Writing.{numbered_line_put, numbered_lines_put}
 use Rattle.cq_state.specs.declared.kind.Kind.TheVariants as kind
-use Rattle.cq_state.specs.State.{rank_line}
 use Rattle.cq_state.proofs.write.put_ranks.Goals as goal
 
 pub outputs-preserved : goal.outputs-preserved

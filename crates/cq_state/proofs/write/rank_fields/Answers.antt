@@ -1,6 +1,4 @@
-use Rattle.std.proofs.Common.{Some, rules}
-use Rattle.std.proofs.lemmas.Iterator.{YieldsList-from_map, YieldsList-from_slice}
-use Rattle.std.proofs.lemmas.Iterator.Adapters.{items_from_extend}
+use Rattle.cq_state.proofs.Terms.{Some, rules, YieldsList-from_map, YieldsList-from_slice, items_from_extend}
 use Rattle.cq_state.proofs.write.rank_fields.Goals as goal
 
 pub returns : goal.returns

@@ -1,4 +1,4 @@
-use Rattle.std.proofs.Common.{arith, rules}
+use Rattle.cq_stream.proofs.Terms.{arith, rules}
 use Rattle.cq_stream.proofs.Closing.{unread}
 use Rattle.cq_stream.proofs.answer.answer.Goals as goal
 

@@ -1,5 +1,4 @@
-use Rattle.std.proofs.Common.{◌≡◌}
-use Rattle.rtrb.specs.Ring.{SameConsumer, received}
+use Rattle.cq_stream.proofs.Terms.{◌≡◌, SameConsumer, received}
 use Rattle.cq_stream.proofs.finding.next_order.Given as goal
 
 abbrev pub invariant-turns : goal.invariant-turns

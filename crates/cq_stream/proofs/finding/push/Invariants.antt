@@ -1,5 +1,4 @@
-use Rattle.std.proofs.Common.{◌≡◌}
-use Rattle.rtrb.specs.Ring.{SameProducer, sent}
+use Rattle.cq_stream.proofs.Terms.{◌≡◌, SameProducer, sent}
 use Rattle.cq_stream.proofs.finding.push.Given as goal
 
 abbrev pub invariant-turns : goal.invariant-turns

@@ -1,5 +1,4 @@
-use Rattle.std.proofs.Common.{arith, rules, ◌≡◌, length}
-use Rattle.rtrb.specs.Ring.{sent}
+use Rattle.cq_stream.proofs.Terms.{arith, rules, ◌≡◌, length, sent}
 use Rattle.cq_pcap.proofs.Refused.{some_is}
 use Rattle.cq_stream.proofs.Sending.{SendsTo, sends_all, sends_more}
 use Rattle.cq_stream.proofs.finding.send_records.Goals as goal

@@ -1,5 +1,4 @@
-use Rattle.std.proofs.Common.{◌-◌, length}
-use Rattle.rtrb.specs.Ring.{SameProducer, sent}
+use Rattle.cq_stream.proofs.Terms.{◌-◌, length, SameProducer, sent}
 use Rattle.cq_stream.proofs.Sending.{SendsTo}
 use Rattle.cq_stream.proofs.finding.send_records.Given as goal
 

@@ -1,5 +1,4 @@
-use Rattle.std.proofs.Common.{◌≡◌, map}
-use Rattle.cq_stream.specs.declared.item.Item.TheVariants.{Row}
+use Rattle.cq_stream.proofs.Terms.{◌≡◌, map, Row}
 use Rattle.cq_stream.specs.Rings.{SameReader, taken}
 use Rattle.cq_stream.proofs.tests.rows_taken.Given as goal
 

@@ -1,6 +1,5 @@
-use Rattle.std.proofs.Common.{rules, arith}
-use Rattle.cq_tables.proofs.Macs.{apart_more, apart_none, apart_stop}
-use Rattle.cq_tables.proofs.Walk.{walked_read}
+use Rattle.cq_tables.proofs.Terms.{rules, arith}
+use Rattle.cq_tables.proofs.Walk.{apart_more, apart_none, apart_stop, walked_read}
 use Rattle.cq_tables.proofs.addresses.address_rows.Goals as goal
 
 pub addresses-init : goal.addresses-init

@@ -1,4 +1,4 @@
-use Rattle.cq_tables.proofs.Macs.{Walked_apart}
+use Rattle.cq_tables.proofs.Walk.{Walked_apart}
 use Rattle.cq_tables.proofs.addresses.address_rows.Given as goal
 
 abbrev pub invariant-addresses : goal.invariant-addresses

@@ -1,5 +1,5 @@
-use Rattle.std.proofs.Common.{arith, rules, ap, not, ◌∙◌}
-use Rattle.cq_tables.proofs.Macs.{has, has-insert, set_has}
+use Rattle.cq_tables.proofs.Terms.{arith, rules, ap, not, ◌∙◌}
+use Rattle.cq_tables.proofs.Walk.{has, has-insert, set_has}
 use Rattle.cq_tables.proofs.addresses.is_added.Goals as goal
 
 pub returns-clause-new : goal.returns-clause-new

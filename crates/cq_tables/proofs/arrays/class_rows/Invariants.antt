@@ -1,6 +1,4 @@
-use Rattle.std.proofs.Common.{◌<◌, ◌≤◌}
-use Rattle.cq_tables.specs.declared.place.Array.TheVariants.{Classes}
-use Rattle.cq_tables.specs.Document.{class_keys, class_row, element_check}
+use Rattle.cq_tables.proofs.Terms.{◌<◌, ◌≤◌, Classes, class_keys, class_row, element_check}
 use Rattle.cq_tables.proofs.Walk.{Walked}
 use Rattle.cq_tables.proofs.arrays.class_rows.Given as goal
 

@@ -1,4 +1,4 @@
-use Rattle.std.proofs.Common.{rules, arith}
+use Rattle.cq_tables.proofs.Terms.{rules, arith}
 use Rattle.cq_tables.proofs.Walk.{walked_more, walked_stop}
 use Rattle.cq_tables.proofs.arrays.port_rows.Goals as goal
 

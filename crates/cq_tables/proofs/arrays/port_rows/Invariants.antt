@@ -1,7 +1,4 @@
-use Rattle.std.proofs.Common.{◌≤◌}
-use Rattle.std.specs.Prelude.{IfSome}
-use Rattle.cq_tables.specs.declared.place.Array.TheVariants.{Ports}
-use Rattle.cq_tables.specs.Document.{element_check, port_keys, port_kind, port_limit, port_row}
+use Rattle.cq_tables.proofs.Terms.{◌≤◌, IfSome, Ports, element_check, port_keys, port_kind, port_limit, port_row}
 use Rattle.cq_tables.proofs.Walk.{Walked}
 use Rattle.cq_tables.proofs.arrays.port_rows.Given as goal
 

@@ -1,6 +1,4 @@
-use Rattle.std.proofs.Common.{◌<◌, IfSome}
-use Rattle.cq_tables.specs.declared.place.Array.TheVariants.{Rules}
-use Rattle.cq_tables.specs.Document.{element_check, rule_keys, rule_row}
+use Rattle.cq_tables.proofs.Terms.{◌<◌, IfSome, Rules, element_check, rule_keys, rule_row}
 use Rattle.cq_tables.proofs.Walk.{Walked}
 use Rattle.cq_tables.proofs.arrays.rule_rows.Given as goal
 

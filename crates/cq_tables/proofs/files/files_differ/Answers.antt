@@ -1,4 +1,4 @@
-use Rattle.std.proofs.Common.{arith, rules}
+use Rattle.cq_tables.proofs.Terms.{arith, rules}
 use Rattle.cq_tables.proofs.Apart.{apart_all, apart_first, apart_next, apart_stops, log_clashes}
 use Rattle.cq_tables.proofs.files.files_differ.Goals as goal
 

@@ -1,4 +1,4 @@
-use Rattle.std.proofs.Common.{arith, rules}
+use Rattle.cq_tables.proofs.Terms.{arith, rules}
 use Rattle.cq_tables.proofs.Apart.{port_apart, port_read, port_write}
 use Rattle.cq_tables.proofs.files.port_files.Goals as goal
 

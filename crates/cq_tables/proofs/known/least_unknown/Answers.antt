@@ -1,5 +1,5 @@
-use Rattle.std.proofs.Common.{ap, ◌∙◌, Some, option_map, string_bytes}
-use Rattle.cq_tables.proofs.LeastKey.{least_is_first}
+use Rattle.cq_tables.proofs.Terms.{ap, ◌∙◌, Some, option_map, string_bytes}
+use Rattle.cq_tables.proofs.Values.{least_is_first}
 use Rattle.cq_tables.proofs.known.least_unknown.Goals as goal
 
 pub returns-in-None : goal.returns-in-None

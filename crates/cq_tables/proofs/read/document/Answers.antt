@@ -1,4 +1,4 @@
-use Rattle.std.proofs.Common.{arith, rules}
+use Rattle.cq_tables.proofs.Terms.{arith, rules}
 use Rattle.cq_tables.proofs.Text.{document_none, document_some}
 use Rattle.cq_tables.proofs.read.document.Goals as goal
 

@@ -1,7 +1,4 @@
-use Rattle.std.proofs.Common.{IfErr, rules, arith}
-use Rattle.toml.specs.View.{table_view}
-use Rattle.cq_tables.specs.Check.{Refuses}
-use Rattle.cq_tables.specs.Document.{file_check}
+use Rattle.cq_tables.proofs.Terms.{IfErr, rules, arith, table_view, Refuses, file_check}
 use Rattle.cq_tables.proofs.Text.{file_fault, long_told, no_document, read_all, table_fault}
 use Rattle.cq_tables.proofs.read.read_tables.Goals as goal
 

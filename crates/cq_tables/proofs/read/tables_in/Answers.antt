@@ -1,12 +1,5 @@
-use Rattle.std.proofs.Common.{arith, ◌≡◌, ℕ, List, ◌∷◌, ◌++◌, None, Result, IfErr, ap, sym, ◌∙◌, length, rules}
-use Rattle.toml.specs.Data.{Members}
-use Rattle.toml.specs.View.{table_view}
+use Rattle.cq_tables.proofs.Terms.{arith, ◌≡◌, ℕ, List, ◌∷◌, ◌++◌, None, Result, IfErr, ap, sym, ◌∙◌, length, rules, Members, table_view, Top, TableRefusal, Check, Refuses, first, classes_in, default_checks, default_checks_of, figure_keys, figures_of, ports_in, checks_of}
 use Rattle.cq_tables.specs.declared.figures.Figures.{Figures}
-use Rattle.cq_tables.specs.declared.place.Place.TheVariants.{Top}
-use Rattle.cq_tables.specs.declared.refusal.TableRefusal.{TableRefusal}
-use Rattle.cq_tables.specs.Check.{Check, Refuses, first}
-use Rattle.cq_tables.specs.Document.{classes_in, default_checks, default_checks_of, figure_keys, figures_of, ports_in}
-use Rattle.cq_tables.specs.Key.{checks_of}
 use Rattle.cq_tables.proofs.Checks.{all_in, first_all, here, here_in, later, later_in}
 use Rattle.cq_tables.proofs.read.tables_in.Goals as goal
 

@@ -1,8 +1,4 @@
-use Rattle.std.proofs.Common.{IfErr, map, rules}
-use Rattle.toml.specs.View.{view}
-use Rattle.cq_tables.specs.declared.place.Array.TheVariants.{Classes}
-use Rattle.cq_tables.specs.Check.{Refuses, each, first}
-use Rattle.cq_tables.specs.Document.{class_keys, element_check}
+use Rattle.cq_tables.proofs.Terms.{IfErr, map, rules, view, Classes, Refuses, each, first, class_keys, element_check}
 use Rattle.cq_tables.proofs.Checks.{otherwise_later}
 use Rattle.cq_tables.proofs.top.classes.Goals as goal
 

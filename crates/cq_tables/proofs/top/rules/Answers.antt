@@ -1,4 +1,4 @@
-use Rattle.std.proofs.Common.{arith, rules}
+use Rattle.cq_tables.proofs.Terms.{arith, rules}
 use Rattle.cq_tables.proofs.Checks.{otherwise_holds, otherwise_later}
 use Rattle.cq_tables.proofs.top.rules.Goals as goal
 

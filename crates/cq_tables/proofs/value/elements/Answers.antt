@@ -1,9 +1,6 @@
-use Rattle.std.proofs.Common.{sym, ◌≡◌, false, length, Some, true}
-use Rattle.toml.specs.View.{view, items_view}
+use Rattle.cq_tables.proofs.Terms.{sym, ◌≡◌, false, length, Some, true, view, items_view, as_array, is_from}
 use Rattle.cq_tables.proofs.Values.{array_view_in}
 use Rattle.cq_tables.proofs.value.elements.Goals as goal
-use Rattle.toml.specs.Data.{as_array}
-use Rattle.cq_tables.specs.Value.{is_from}
 
 pub returns-in-Some-clause-held : goal.returns-in-Some-clause-held
 returns-in-Some-clause-held c =

@@ -1,4 +1,4 @@
-use Rattle.std.proofs.Common.{arith, rules}
+use Rattle.cq_tables.proofs.Terms.{arith, rules}
 use Rattle.cq_tables.proofs.Values.{tells_all_digits}
 use Rattle.cq_tables.proofs.value.is_numeral.Goals as goal
 

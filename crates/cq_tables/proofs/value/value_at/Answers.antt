@@ -1,4 +1,4 @@
-use Rattle.toml.proofs.Views.{table_get}
+use Rattle.cq_tables.proofs.Terms.{table_get}
 use Rattle.cq_tables.proofs.value.value_at.Goals as goal
 
 pub returns : goal.returns

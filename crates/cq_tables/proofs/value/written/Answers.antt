@@ -1,4 +1,4 @@
-use Rattle.std.proofs.Common.{arith, rules}
+use Rattle.cq_tables.proofs.Terms.{arith, rules}
 use Rattle.cq_tables.proofs.Values.{parsed_is_written}
 use Rattle.cq_tables.proofs.value.written.Goals as goal
 

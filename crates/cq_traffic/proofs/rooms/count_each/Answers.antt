@@ -1,4 +1,4 @@
-use Rattle.std.proofs.Common.{arith, rules}
+use Rattle.cq_traffic.proofs.Terms.{arith, rules}
 use Rattle.cq_traffic.proofs.Counting.{counting_more}
 use Rattle.cq_traffic.proofs.rooms.count_each.Goals as goal
 

@@ -1,4 +1,4 @@
-use Rattle.std.proofs.Common.{vec_len, vec_capacity}
+use Rattle.cq_traffic.proofs.Terms.{vec_len, vec_capacity}
 use Rattle.cq_traffic.proofs.Counting.{Counting}
 use Rattle.cq_traffic.proofs.rooms.count_each.Given as goal
 

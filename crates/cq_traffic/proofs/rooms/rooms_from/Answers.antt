@@ -1,4 +1,4 @@
-use Rattle.std.proofs.Common.{arith, rules}
+use Rattle.cq_traffic.proofs.Terms.{arith, rules}
 use Rattle.cq_traffic.proofs.rooms.rooms_from.Goals as goal
 
 pub returns : goal.returns

@@ -1,4 +1,4 @@
-use Rattle.std.proofs.Common.{arith, rules}
+use Rattle.cq_traffic.proofs.Terms.{arith, rules}
 use Rattle.cq_traffic.proofs.Quiet.{until_next}
 use Rattle.cq_traffic.proofs.stretch.quiet_until.Goals as goal
 

@@ -1,7 +1,4 @@
-use Rattle.std.proofs.Common.{rules}
-use Rattle.std.proofs.lemmas.List.Sorted.{IsPartitionPoint-from_clause}
-use Rattle.cq_base.specs.declared.cell.Queued.{Queued}
-use Rattle.cq_base.specs.Key.{is_before}
+use Rattle.cq_urgency.proofs.Terms.{rules, IsPartitionPoint-from_clause, Queued, is_before}
 use Rattle.cq_urgency.proofs.Halving.{lesser_part, passed_at_point}
 use Rattle.cq_urgency.proofs.block.count_before.Goals as goal
 

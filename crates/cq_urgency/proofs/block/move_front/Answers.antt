@@ -1,8 +1,5 @@
-use Rattle.std.proofs.Common.{◌-◌, drop, arith, ◌≡◌, ◌+◌, ◌∙◌, take, ap}
-use Rattle.std.proofs.lemmas.List.{take_all, length-drop}
-use Rattle.std.proofs.lemmas.List.Edits.{take-paste}
+use Rattle.cq_urgency.proofs.Terms.{◌-◌, drop, arith, ◌≡◌, ◌+◌, ◌∙◌, take, ap, take_all, length-drop, take-paste, copy_within}
 use Rattle.cq_urgency.proofs.block.move_front.Goals as goal
-use Rattle.std.specs.List.{copy_within}
 
 pub returns-clause-front : goal.returns-clause-front
 returns-clause-front c =

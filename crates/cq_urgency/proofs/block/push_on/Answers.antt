@@ -1,4 +1,4 @@
-use Rattle.std.proofs.Common.{arith, rules}
+use Rattle.cq_urgency.proofs.Terms.{arith, rules}
 use Rattle.cq_urgency.proofs.Pieces.{put_alone, turned_on}
 use Rattle.cq_urgency.proofs.block.push_on.Goals as goal
 

@@ -1,5 +1,4 @@
-use Rattle.std.proofs.Common.{◌≡◌, take, drop, slice_set, vec_capacity}
-use Rattle.cq_urgency.specs.Blocks.{block_at}
+use Rattle.cq_urgency.proofs.Terms.{◌≡◌, take, drop, slice_set, vec_capacity, block_at}
 use Rattle.cq_urgency.proofs.blocks.move_upper.Given as goal
 
 -- the first cells of the upper half are there

@@ -1,5 +1,4 @@
-use Rattle.std.proofs.Common.{◌≡◌, ◌+◌, take}
-use Rattle.std.specs.List.{sum_by}
+use Rattle.cq_urgency.proofs.Terms.{◌≡◌, ◌+◌, take, sum_by}
 use Rattle.cq_urgency.proofs.blocks.place_of.Given as goal
 
 abbrev pub invariant-counts : goal.invariant-counts

@@ -1,6 +1,4 @@
-use Rattle.std.proofs.Common.{◌≡◌, ℕ, ◌+◌, ◌-◌, ◌<◌, ◌≤◌, true, false, length}
-use Rattle.cq_urgency.specs.Blocks.{block_at}
-use Rattle.cq_urgency.specs.OutputBuffer.{starts_before}
+use Rattle.cq_urgency.proofs.Terms.{◌≡◌, ℕ, ◌+◌, ◌-◌, ◌<◌, ◌≤◌, true, false, length, block_at, starts_before}
 use Rattle.cq_urgency.proofs.output_buffer.begun.Given as goal
 
 -- the last block below the range begins with a lesser key, and the block behind the range does not

@@ -1,4 +1,4 @@
-use Rattle.std.proofs.Common.{rules, arith}
+use Rattle.cq_urgency.proofs.Terms.{rules, arith}
 use Rattle.cq_urgency.proofs.Flattened.{length-flattened}
 use Rattle.cq_urgency.proofs.Halving.{cushion_le}
 use Rattle.cq_urgency.proofs.output_buffer.cushion_in.Goals as goal

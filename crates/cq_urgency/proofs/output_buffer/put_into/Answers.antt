@@ -1,4 +1,4 @@
-use Rattle.std.proofs.Common.{arith, rules}
+use Rattle.cq_urgency.proofs.Terms.{arith, rules}
 use Rattle.cq_urgency.proofs.Flattened.{insert_in}
 use Rattle.cq_urgency.proofs.Rising.{put_is}
 use Rattle.cq_urgency.proofs.output_buffer.put_into.Goals as goal

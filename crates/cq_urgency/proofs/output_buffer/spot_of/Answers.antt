@@ -1,5 +1,4 @@
-use Rattle.std.proofs.Common.{rules, ◌≡◌, ◌+◌, ◌-◌, ◌∙◌, ap, arith}
-use Rattle.cq_base.specs.Cells.{cushion}
+use Rattle.cq_urgency.proofs.Terms.{rules, ◌≡◌, ◌+◌, ◌-◌, ◌∙◌, ap, arith, cushion}
 use Rattle.cq_urgency.proofs.Spots.{rising_block, spot_first, spot_in}
 use Rattle.cq_urgency.proofs.output_buffer.spot_of.Goals as goal
 

@@ -1,4 +1,4 @@
-use Rattle.std.proofs.Common.{ap, is_some, string_bytes, arith}
+use Rattle.cq_words.proofs.Terms.{ap, is_some, string_bytes, arith}
 use Rattle.cq_words.proofs.Forms.{too_many_words}
 use Rattle.cq_words.proofs.judge.is_command.Goals as goal
 

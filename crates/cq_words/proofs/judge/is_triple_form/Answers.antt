@@ -1,4 +1,4 @@
-use Rattle.std.proofs.Common.{arith, rules}
+use Rattle.cq_words.proofs.Terms.{arith, rules}
 use Rattle.cq_words.proofs.Forms.{no_three}
 use Rattle.cq_words.proofs.judge.is_triple_form.Goals as goal
 

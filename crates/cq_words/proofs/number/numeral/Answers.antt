@@ -1,9 +1,4 @@
-use Rattle.std.proofs.Common.{rules, ◌≡◌, if◌then◌else◌, Some, None, true, ℕ, List, ◌-◌, ◌≤◌, length, arith, sym, ◌∙◌, ◌&&◌, Bool, ◌+◌, ◌<◌, drop, get_or, ap}
-use Rattle.std.specs.List.{list_all}
-use Rattle.std.specs.Char.{is_ascii_digit}
-use Rattle.std.proofs.lemmas.Bool.Decides.{nat_tests}
-use Rattle.std.proofs.lemmas.List.{at_drop_more, at_drop_all}
-use Rattle.cq_words.specs.Numbers.{is_numeral, value_of}
+use Rattle.cq_words.proofs.Terms.{rules, ◌≡◌, if◌then◌else◌, Some, None, true, ℕ, List, ◌-◌, ◌≤◌, length, arith, sym, ◌∙◌, ◌&&◌, Bool, ◌+◌, ◌<◌, drop, get_or, ap, list_all, is_ascii_digit, nat_tests, at_drop_more, at_drop_all, is_numeral, value_of}
 use Rattle.cq_words.proofs.Places.{one_digit_more, below_more_digits, all_places}
 use Rattle.cq_words.proofs.number.numeral.Goals as goal
 
@@ -16,13 +11,10 @@ loop-digit-preserved c =
     record {
       digits = sym (at_drop_more (list_all is_ascii_digit) c.args.text.now c.loop-digit.digit-index 0 at
           ∙ ap (λ (b : Bool). b && list_all is_ascii_digit (drop (c.loop-digit.digit-index + 1) c.args.text.now))
-          is_digit)
-          ∙ c.loop-digit.invariant.digits;
-      value =
-          rw digit (sym (one_digit_more c.loop-digit.value c.args.text.now c.loop-digit.digit-index at)
+          is_digit) ∙ c.loop-digit.invariant.digits;
+      value = rw digit (sym (one_digit_more c.loop-digit.value c.args.text.now c.loop-digit.digit-index at)
           ∙ c.loop-digit.invariant.value);
-      small =
-          below_more_digits c.loop-digit.digit-index c.loop-digit.value c.from.result c.loop-digit.invariant.small
+      small = below_more_digits c.loop-digit.digit-index c.loop-digit.value c.from.result c.loop-digit.invariant.small
           below;
     }
 
@@ -34,10 +26,9 @@ numeral_is text v least most digits is = rw (digits, is) (grind (arith, nat_test
 pub returns : goal.returns
 returns c =
     let end : length c.args.text.now ≤ c.loop-digit.digit-index = omega arith in
-    let digits : list_all is_ascii_digit c.args.text.now ≡ true =
-    sym c.loop-digit.invariant.digits
+    let digits : list_all is_ascii_digit c.args.text.now ≡ true = sym c.loop-digit.invariant.digits
     ∙ at_drop_all (list_all is_ascii_digit) c.args.text.now c.loop-digit.digit-index end in
     let least : 1 ≤ length c.args.text.now = search rules in
     let most : length c.args.text.now ≤ 20 = omega arith in
-    numeral_is c.args.text.now c.loop-digit.value least most digits
-    (sym (all_places c.loop-digit.value c.args.text.now c.loop-digit.digit-index end) ∙ c.loop-digit.invariant.value)
+    numeral_is c.args.text.now c.loop-digit.value least most digits (sym
+    (all_places c.loop-digit.value c.args.text.now c.loop-digit.digit-index end) ∙ c.loop-digit.invariant.value)

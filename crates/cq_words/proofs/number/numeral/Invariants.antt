@@ -1,7 +1,4 @@
-use Rattle.std.proofs.Common.{◌≡◌, ◌+◌, ◌*◌, ◌^◌, ◌<◌, length, drop}
-use Rattle.std.specs.List.{list_all}
-use Rattle.std.specs.Char.{is_ascii_digit}
-use Rattle.cq_words.specs.Numbers.{value_of}
+use Rattle.cq_words.proofs.Terms.{◌≡◌, ◌+◌, ◌*◌, ◌^◌, ◌<◌, length, drop, list_all, is_ascii_digit, value_of}
 use Rattle.cq_words.proofs.number.numeral.Given as goal
 
 abbrev pub invariant-loop-digit : goal.invariant-loop-digit

@@ -1,7 +1,5 @@
-use Rattle.std.proofs.Common.{◌≡◌, ◌∙◌, ap₂}
-use Rattle.std.proofs.lemmas.Result.{IfOk-weaker}
+use Rattle.cq_words.proofs.Terms.{◌≡◌, ◌∙◌, ap₂, IfOk-weaker, bare_line, with_form}
 use Rattle.clap.specs.Words.{app_of}
-use Rattle.cq_words.specs.Line.{bare_line, with_form}
 use Rattle.cq_words.proofs.Bare.{bare_is}
 use Rattle.cq_words.proofs.split.line.Goals as goal
 

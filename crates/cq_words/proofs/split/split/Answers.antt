@@ -1,7 +1,5 @@
-use Rattle.std.proofs.Common.{◌∙◌, ap, map, string_bytes}
-use Rattle.std.proofs.lemmas.Result.{IfErr-weaker, IfOk-weaker}
-use Rattle.clap.specs.Words.{App, is_simple, subcommand_of, takes}
-use Rattle.cq_words.specs.Line.{command_found}
+use Rattle.cq_words.proofs.Terms.{◌∙◌, ap, map, string_bytes, IfErr-weaker, IfOk-weaker, App, is_simple, command_found}
+use Rattle.clap.specs.Words.{subcommand_of, takes}
 use Rattle.cq_words.proofs.Splitting.{command_split}
 use Rattle.cq_words.proofs.split.split.Goals as goal
 

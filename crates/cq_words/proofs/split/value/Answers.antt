@@ -1,5 +1,4 @@
-use Rattle.std.proofs.Common.{◌∙◌}
-use Rattle.clap.specs.Words.{found_of}
+use Rattle.cq_words.proofs.Terms.{◌∙◌, found_of}
 use Rattle.clap.proofs.WalkLemmas.{first_value-rows}
 use Rattle.cq_words.proofs.split.value.Goals as goal
 

@@ -1,4 +1,4 @@
-use Rattle.std.proofs.lemmas.Result.{IfOk-weaker}
+use Rattle.cq_words.proofs.Terms.{IfOk-weaker}
 use Rattle.cq_words.proofs.split.with_subcommand.Goals as goal
 
 pub returns : goal.returns

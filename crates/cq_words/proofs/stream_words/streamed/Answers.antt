@@ -1,4 +1,4 @@
-use Rattle.std.proofs.Common.{string_bytes, arith}
+use Rattle.cq_words.proofs.Terms.{string_bytes, arith}
 use Rattle.cq_words.proofs.Streaming.{not_two}
 use Rattle.cq_words.proofs.stream_words.streamed.Goals as goal
 

@@ -1,5 +1,4 @@
-use Rattle.std.proofs.Common.{◌≡◌, ◌+◌, ◌++◌, length}
-use Rattle.cq_list.specs.InputList.{cells_of}
+use Rattle.cq_xbar.proofs.Terms.{◌≡◌, ◌+◌, ◌++◌, length, cells_of}
 use Rattle.cq_xbar.proofs.Turns.{Crossed}
 use Rattle.cq_xbar.proofs.Noting.{noted_until}
 use Rattle.cq_xbar.proofs.crossing.transfer.Given as goal

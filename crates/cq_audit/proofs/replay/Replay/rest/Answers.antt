@@ -1,9 +1,6 @@
-use Rattle.std.proofs.Common.{rules, ◌-◌, map, arith}
-use Rattle.std.proofs.lemmas.List.{length-map}
+use Rattle.cq_audit.proofs.Terms.{rules, ◌-◌, map, arith, length-map, IsInStep, shown}
 use Rattle.cq_ideal.proofs.Resting.{length-idle}
-use Rattle.cq_audit.specs.Replay.{IsInStep, shown}
-use Rattle.cq_audit.proofs.Slots.{in_step_here}
-use Rattle.cq_audit.proofs.Stands.{rested_run, rested_step}
+use Rattle.cq_audit.proofs.Slots.{in_step_here, rested_run, rested_step}
 use Rattle.cq_audit.proofs.replay.Replay.rest.Given as given
 use Rattle.cq_audit.proofs.replay.Replay.rest.Goals as goal
 use Rattle.cq_audit.proofs.replay.Replay.rest.Goals.{After-self}

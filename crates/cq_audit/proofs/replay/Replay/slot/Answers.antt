@@ -1,5 +1,4 @@
-use Rattle.std.proofs.Common.{arith, rules}
-use Rattle.std.proofs.lemmas.Result.{err_from_is_err_and}
+use Rattle.cq_audit.proofs.Terms.{arith, rules, err_from_is_err_and}
 use Rattle.cq_audit.proofs.Slots.{Begun, begun, can_send, first_fault, first_goes, replayed, second_fault, second_goes}
 use Rattle.cq_audit.proofs.replay.Replay.slot.Given as given
 use Rattle.cq_audit.proofs.replay.Replay.slot.Goals as goal
@@ -35,9 +34,8 @@ pub returns-in_err-rest-clause-fault : goal.returns-in_err-rest-clause-fault
 returns-in_err-rest-clause-fault g c =
     let begins = known g (goal.at.returns-in_err-rest-clause-fault g c).After-self in
     let p = err_from_is_err_and c.from_residual-in_err-rest.result c.from_residual-in_err-rest.ensures.1 in
-    rw (p.1, p.2)
-    (second_fault begins c.come.ensures c.in_ok-behind.ensures.gone_by c.send.ensures c.in_err-rest.field-0.0
-    c.in_err-rest.ensures.fault)
+    rw (p.1, p.2) (second_fault begins c.come.ensures c.in_ok-behind.ensures.gone_by c.send.ensures
+    c.in_err-rest.field-0.0 c.in_err-rest.ensures.fault)
 
 pub returns-clause-slot : goal.returns-clause-slot
 returns-clause-slot g c = replayed (known g (goal.at.returns-clause-slot g c).After-self) c.come.ensures

@@ -1,5 +1,4 @@
-use Rattle.std.proofs.Common.{arith, ap, ◌∙◌}
-use Rattle.std.specs.Option.{option_flatten}
+use Rattle.cq_base.proofs.Terms.{arith, ap, ◌∙◌, option_flatten}
 use Rattle.cq_base.proofs.Places.{own_read}
 use Rattle.cq_base.proofs.arrivals.Arrivals.at.Goals as goal
 

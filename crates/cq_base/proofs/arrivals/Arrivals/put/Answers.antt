@@ -1,4 +1,4 @@
-use Rattle.std.proofs.Common.{arith, rules}
+use Rattle.cq_base.proofs.Terms.{arith, rules}
 use Rattle.cq_base.proofs.Places.{put_are}
 use Rattle.cq_base.proofs.arrivals.Arrivals.put.Goals as goal
 

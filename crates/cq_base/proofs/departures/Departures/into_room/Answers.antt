@@ -1,5 +1,4 @@
-use Rattle.std.proofs.Common.{rules, length, ap, arith}
-use Rattle.std.proofs.lemmas.List.{length-map}
+use Rattle.cq_base.proofs.Terms.{rules, length, ap, arith, length-map}
 use Rattle.cq_base.proofs.Packings.{none_packed, one_unpacked}
 use Rattle.cq_base.proofs.departures.Departures.into_room.Goals as goal
 
@@ -18,10 +17,9 @@ departures-preserved c =
     let room = c.departures.invariant.spare in
     let less = c.push.ensures.spare in
     record {
-      items =
-          one_unpacked c.departures.room.items c.push.new.self.items _ c.departure.result c.in-Some.packed
-          c.departures.left
-          c.pop_first.new.self c.in-Some.ensures c.departure.ensures c.push.ensures.items c.departures.invariant.items;
+      items = one_unpacked c.departures.room.items c.push.new.self.items _ c.departure.result c.in-Some.packed
+          c.departures.left c.pop_first.new.self c.in-Some.ensures c.departure.ensures c.push.ensures.items
+          c.departures.invariant.items;
       spare = omega arith;
     }
 

@@ -1,5 +1,4 @@
-use Rattle.std.proofs.Common.{◌≡◌, ◌≤◌, ◌++◌, length, map}
-use Rattle.cq_base.specs.Packed.{unpacked}
+use Rattle.cq_base.proofs.Terms.{◌≡◌, ◌≤◌, ◌++◌, length, map, unpacked}
 use Rattle.cq_base.proofs.departures.Departures.into_room.Given as goal
 
 -- what was put together, and then what is left, are all

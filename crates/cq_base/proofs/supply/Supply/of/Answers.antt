@@ -1,5 +1,4 @@
-use Rattle.std.proofs.Common.{reverse, ap, ◌∙◌}
-use Rattle.std.proofs.lemmas.List.{reverse-reverse}
+use Rattle.cq_base.proofs.Terms.{reverse, ap, ◌∙◌, reverse-reverse}
 use Rattle.cq_base.proofs.supply.Supply.of.Goals as goal
 
 pub returns : goal.returns

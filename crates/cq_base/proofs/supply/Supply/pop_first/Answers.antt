@@ -1,4 +1,4 @@
-use Rattle.std.proofs.Common.{reverse, sym, ap, ◌∙◌}
+use Rattle.cq_base.proofs.Terms.{reverse, sym, ap, ◌∙◌}
 use Rattle.cq_base.proofs.Supplies.{first_taken}
 use Rattle.cq_base.proofs.supply.Supply.pop_first.Goals as goal
 

@@ -1,5 +1,4 @@
-use Rattle.std.proofs.Common.{sym, subst}
-use Rattle.cq_cells.specs.Coming.{StandBelow}
+use Rattle.cq_cells.proofs.Terms.{sym, subst, StandBelow}
 use Rattle.cq_cells.proofs.Filling.{none_stand}
 use Rattle.cq_cells.proofs.coming.Coming.none.Goals as goal
 

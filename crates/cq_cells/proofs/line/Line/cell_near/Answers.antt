@@ -1,4 +1,4 @@
-use Rattle.std.proofs.Common.{rules, arith}
+use Rattle.cq_cells.proofs.Terms.{rules, arith}
 use Rattle.cq_cells.proofs.Looked.{LastBegun, last_begun, starts_rise, line_none, line_over, line_found}
 use Rattle.cq_cells.proofs.line.Line.cell_near.Goals as goal
 use Rattle.cq_cells.proofs.line.Line.cell_near.Goals.{After-index}
@@ -20,24 +20,16 @@ overflow_sub-index c = (last (goal.at.overflow_sub-index c).After-index).before
 
 pub returns-then-index-from : goal.returns-then-index-from
 returns-then-index-from c =
-    search (
-      arith,
-      rules,
-      line_over c.self.inside.input c.self.inside.cell_bytes c.self.inside.rows.items c.args.slot
-          c.in_ok-packet.packet c.index.result.now c.self.invariant.0,
-      last
-          (goal.at.returns-then-index-from c).After-index,
-    )
+    let line = c.self.inside in
+    let over = line_over line.input line.cell_bytes line.rows.items c.args.slot c.in_ok-packet.packet
+    c.index.result.now c.self.invariant.0 in
+    search (arith, rules, over, last (goal.at.returns-then-index-from c).After-index)
 
 pub overflow_cast-id-2 : goal.overflow_cast-id-2
 overflow_cast-id-2 c = search (arith, rules, last, c.self.invariant.0.small)
 
 pub returns : goal.returns
 returns c =
-    search (
-      arith,
-      rules,
-      line_found c.self.inside.input c.self.inside.cell_bytes c.self.inside.rows.items c.args.slot
-          c.in_ok-packet.packet c.index.result.now c.self.invariant.0,
-      last (goal.at.returns c).After-index,
-    )
+    let line = c.self.inside in
+    let found = line_found line.input line.cell_bytes line.rows.items c.args.slot c.in_ok-packet.packet
+    c.index.result.now c.self.invariant.0 in search (arith, rules, found, last (goal.at.returns c).After-index)

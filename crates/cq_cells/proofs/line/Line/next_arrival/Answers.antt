@@ -1,5 +1,4 @@
-use Rattle.std.proofs.Common.{rules, arith}
-use Rattle.std.proofs.lemmas.List.{get_or_read}
+use Rattle.cq_cells.proofs.Terms.{rules, arith, get_or_read}
 use Rattle.cq_cells.proofs.Looked.{no_row}
 use Rattle.cq_cells.proofs.Upcoming.{line_done, line_next}
 use Rattle.cq_cells.proofs.line.Line.next_arrival.Goals as goal

@@ -1,4 +1,4 @@
-use Rattle.std.proofs.Common.{◌≡◌, length, vec_len, vec_capacity}
+use Rattle.cq_cells.proofs.Terms.{◌≡◌, length, vec_len, vec_capacity}
 use Rattle.cq_cells.proofs.Packets.{IsSoFar}
 use Rattle.cq_cells.proofs.line.Line.of.Given as goal
 

@@ -1,6 +1,4 @@
-use Rattle.std.proofs.Common.{List, option_map, ap, sym, ◌∙◌}
-use Rattle.std.specs.List.{find}
-use Rattle.cq_base.specs.Arriving.{Arrival}
+use Rattle.cq_cells.proofs.Terms.{List, option_map, ap, sym, ◌∙◌, find, Arrival}
 use Rattle.cq_cells.proofs.Looked.{is_in}
 use Rattle.cq_cells.proofs.Owned.{arriving_of_input}
 use Rattle.cq_cells.proofs.schedule.Schedule.cell_at.Goals as goal

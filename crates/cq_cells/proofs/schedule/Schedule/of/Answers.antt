@@ -1,10 +1,6 @@
-use Rattle.std.proofs.Common.{rules, slice_index_or, arith, ◌≡◌}
-use Rattle.std.proofs.lemmas.List.{with_items_is, get_or-replicate, length-replicate}
-use Rattle.std.proofs.lemmas.List.FromFn.{length-map-range_with_len}
+use Rattle.cq_cells.proofs.Terms.{rules, slice_index_or, arith, ◌≡◌, with_items_is, get_or-replicate, length-replicate, length-map-range_with_len, all_of, arrivals}
 use Rattle.cq_cells.proofs.Rising.{own_lines, all_lines, traffic_is, short_is}
 use Rattle.cq_cells.proofs.schedule.Schedule.of.Goals as goal
-use Rattle.cq_cells.specs.Lines.{all_of}
-use Rattle.cq_cells.specs.Schedule.{arrivals}
 
 pub total_of-total-requires : goal.total_of-total-requires
 total_of-total-requires g c = search (arith, rules, length-map-range_with_len)

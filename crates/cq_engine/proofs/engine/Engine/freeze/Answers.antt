@@ -1,5 +1,4 @@
-use Rattle.std.proofs.Common.{rules, arith}
-use Rattle.std.proofs.lemmas.List.{length-map}
+use Rattle.cq_engine.proofs.Terms.{rules, arith, length-map}
 use Rattle.cq_engine.proofs.Going.{same_frozen}
 use Rattle.cq_engine.proofs.Shown.{seen, up}
 use Rattle.cq_engine.proofs.engine.Engine.freeze.Goals as goal

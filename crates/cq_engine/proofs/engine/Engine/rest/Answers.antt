@@ -1,14 +1,31 @@
-use Rattle.std.proofs.Common.{rules, ◌-◌, map, arith}
-use Rattle.std.proofs.lemmas.List.{length-map}
+-- An engine that rested is in step with an ideal switch that is empty too.
+use Rattle.cq_engine.proofs.Terms.{rules, ◌-◌, map, arith, length-map, IsRunning, fabric_of, rested_limited_run, still_held, common_steps, ◌≡◌, ℕ, ◌≤◌, List, length, Figures, Machine, Fabric, IsEmptyFabric, no_place, rested_agrees, IsInStep, IsSeen, Look}
 use Rattle.cq_ideal.proofs.Resting.{length-idle}
-use Rattle.cq_engine.specs.Engine.{IsRunning}
-use Rattle.cq_fabric.specs.Queues.{fabric_of}
-use Rattle.cq_fabric.proofs.Rested.{rested_limited_run, still_held}
-use Rattle.cq_engine.proofs.Rested.{rested_in_step, rested_seen}
 use Rattle.cq_engine.proofs.Shown.{up}
+use Rattle.cq_laws.proofs.QuietSlots.{empty_is}
+use Rattle.cq_engine.specs.declared.measure.Look.TheVariants as look
 use Rattle.cq_engine.proofs.engine.Engine.rest.Given as given
 use Rattle.cq_engine.proofs.engine.Engine.rest.Goals as goal
 use Rattle.cq_engine.proofs.engine.Engine.rest.Goals.{After-self}
+
+rested_in_step : (ms : List Machine) (slot later : ℕ) (x : Figures) (f : Fabric) (rested : List (List ℕ)) →
+    slot ≤ later →
+    IsEmptyFabric f → IsInStep ms slot x f →
+    IsInStep ms later x (record { inputs = f.inputs; buffers = f.buffers; ranks = rested })
+rested_in_step ms slot later x f rested le empty had = grind (
+  arith,
+  common_steps,
+  rested_agrees slot later f had.ideal rested empty had.agrees,
+  had.counts.inputs,
+  had.counts.outputs,
+)
+
+-- where no cell waits, each that waits has more slack
+rested_seen : (looks : Look) (x : Figures) (f : Fabric) (rested : List (List ℕ)) → IsEmptyFabric f →
+    length f.buffers ≡ length f.inputs → length x.inputs ≡ length f.inputs →
+    IsSeen looks x (record { inputs = f.inputs; buffers = f.buffers; ranks = rested })
+rested_seen look.All x f rested empty square ports = tt
+rested_seen look.Arriving x f rested empty square ports = grind (arith, common_steps, empty_is, no_place)
 
 -- what holds where the slots begin
 runs : (g : given.Over) (c : After-self g) →
@@ -16,11 +33,8 @@ runs : (g : given.Over) (c : After-self g) →
     c.self.inside.figures (fabric_of c.self.inside.queues c.self.inside.ranks.states) c.self.inside.limiter
 runs g c = search (arith, rules, up)
 
-pub rest-requires-clause-few : goal.rest-requires-clause-few
-rest-requires-clause-few g c = search (arith, rules, runs, length-map)
-
-pub rest-requires-clause-states : goal.rest-requires-clause-states
-rest-requires-clause-states g c = search (arith, rules, runs, length-map)
+pub rest-requires : goal.rest-requires
+rest-requires g c = search (arith, rules, runs, length-map)
 
 pub invariant_of-self : goal.invariant_of-self
 invariant_of-self g c = search (arith, rules, runs, rested_in_step, rested_seen, length-idle, still_held)

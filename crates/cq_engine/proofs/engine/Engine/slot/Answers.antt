@@ -1,24 +1,6 @@
-use Rattle.std.proofs.Common.{rules, ◌≡◌, ◌+◌, ◌*◌, ◌<◌, ◌≤◌, ◌++◌, ℕ, List, length, get_or, map, refl, sym, ap, ◌∙◌, subst, arith, append_assoc, length-append}
-use Rattle.std.specs.Prelude.{IfSome, Option, max, slice_get}
-use Rattle.std.proofs.lemmas.List.{length-map}
-use Rattle.cq_base.specs.declared.cell.Queued.{Queued}
-use Rattle.cq_base.specs.declared.figures.Figures.{Figures}
-use Rattle.cq_rank.specs.Switch.{class_count}
-use Rattle.cq_ideal.specs.Admission.{admitted}
-use Rattle.cq_ideal.specs.IdealSlot.{all_told, fronts}
-use Rattle.cq_ideal.specs.Ranking.{ranking}
-use Rattle.cq_prefs.specs.Moves.{transfers_of}
-use Rattle.cq_laws.specs.Phases.{came_to}
-use Rattle.cq_fabric.specs.Held.{HoldsFabric}
-use Rattle.cq_fabric.specs.Queues.{fabric_of}
-use Rattle.cq_fabric.proofs.Known.{AreRanked, HaveArrived, HaveJudged, HaveSent}
-use Rattle.cq_fabric.proofs.Limits.{admits_are, still_holds}
-use Rattle.cq_fabric.proofs.Slot.{came_newest, came_outputs, can_cross_first, can_cross_second, come_apart, few_cross, fits_lists, held_before}
+use Rattle.cq_engine.proofs.Terms.{rules, ◌≡◌, ◌+◌, ◌*◌, ◌<◌, ◌≤◌, ◌++◌, ℕ, List, length, get_or, map, refl, sym, ap, ◌∙◌, subst, arith, append_assoc, length-append, IfSome, Option, length-map, Queued, Figures, class_count, admitted, all_told, fronts, ranking, transfers_of, came_to, HoldsFabric, fabric_of, AreRanked, HaveArrived, HaveJudged, HaveSent, admits_are, still_holds, came_newest, came_outputs, can_cross_first, can_cross_second, come_apart, few_cross, fits_lists, held_before, its_admission, GoStraight, crossings}
 use Rattle.cq_ideal.proofs.Sending.{length-told}
-use Rattle.cq_engine.specs.Crossing.{CanBeCrossed}
-use Rattle.cq_engine.specs.Engine.{its_admission, IsRunning}
 use Rattle.cq_engine.specs.Sending.{CanSend}
-use Rattle.cq_engine.specs.Straight.{GoStraight, crossings}
 use Rattle.cq_engine.proofs.Shown.{Begun, begun, buffers_room, can_take_in, lists_room, ports_are, ranked}
 use Rattle.cq_engine.proofs.Done.{made_as, slot_done, stopped_as}
 use Rattle.cq_engine.proofs.Slot.{HaveCrossed, Whole, moved_of, whole_slot}
@@ -26,7 +8,6 @@ use Rattle.cq_engine.proofs.StraightSlot.{at_most_square, crossings_few, held_st
 use Rattle.cq_engine.proofs.engine.Engine.slot.Given as given
 use Rattle.cq_engine.proofs.engine.Engine.slot.Goals as goal
 use Rattle.cq_engine.proofs.engine.Engine.slot.Goals.{After-arrive, After-cross-first, After-cross-second, After-depart, After-take_in, After-of_outputs, After-pass-crossed, After-self, In_default}
-use Rattle.cq_engine.specs.declared.measure.Look.TheVariants.{Arriving}
 
 -- ## What is known, call by call
 
@@ -51,12 +32,10 @@ asks g c holds = search (arith, rules, admits_are)
 
 -- once what is admitted has its keys
 taken : (g : given.Over) (c : In_default g) →
-    Begun (map g.R.Rank.machine c.self.inside.ranks.fixed) c.args.slot c.args.arrivals.now c.self.inside.queues
-    c.self.inside.ranks.states c.self.inside.limiter c.self.inside.look c.self.inside.figures →
     AreRanked (map g.R.Rank.machine c.self.inside.ranks.fixed) c.args.slot c.self.inside.queues
     c.self.inside.ranks.states (admitted c.take_in.new.limiter.marks c.args.arrivals.now)
     (class_count (map g.R.Rank.machine c.self.inside.ranks.fixed)) c.take_in.new.came c.take_in.new.ranks.states
-taken g c begins = search (arith, rules, ranked)
+taken g c = search (arith, rules, ranked, known)
 
 -- once it has arrived
 arrived : (g : given.Over) (c : After-arrive g) →
@@ -69,14 +48,12 @@ judged : (g : given.Over) (c : After-take_in g) →
 judged g c = search (arith, rules)
 
 -- these cells can be sent, if each output that sends one holds a cell
-can_send : (g : given.Over) (c : After-take_in g) →
-    Begun (map g.R.Rank.machine c.self.inside.ranks.fixed) c.args.slot c.args.arrivals.now c.self.inside.queues
-    c.self.inside.ranks.states c.self.inside.limiter c.self.inside.look c.self.inside.figures →
-    (gone : List (Option Queued)) → length gone ≡ length c.self.inside.queues.inputs → {x : Figures} →
+can_send : (g : given.Over) (c : After-take_in g) → (gone : List (Option Queued)) →
+    length gone ≡ length c.self.inside.queues.inputs → {x : Figures} →
     x.outputs ≡ c.self.inside.figures.outputs →
     ((j : ℕ) → IfSome (came_to gone j) (λ _. 0 < get_or c.take_in.new.limiter.held j 0)) →
     CanSend c.args.slot gone c.take_in.new.ranks c.take_in.new.limiter x c.args.sent.now
-can_send g c begins gone long {x} outputs holds = search (arith, rules, length-map, judged, ports_are)
+can_send g c gone long {x} outputs holds = search (arith, rules, length-map, judged, ports_are, begun)
 
 -- once the first matching has crossed
 crossed : (g : given.Over) (c : After-cross-first g) →
@@ -101,27 +78,17 @@ whole : (g : given.Over) (c : goal.After-count_proposals-2 g) →
     (admitted c.take_in.new.limiter.marks c.args.arrivals.now) c.self.inside.figures c.count_proposals-2.new.figures
     (fabric_of c.self.inside.queues c.self.inside.ranks.states)
     (fabric_of c.cross-second.new.queues c.depart.new.ranks.states)
-    (taken g (goal.at.returns-clause-slot g c).In_default (known g (goal.at.returns-clause-slot g c).After-self)).ideal
+    (taken g (goal.at.returns-clause-slot g c).In_default).ideal
     (fronts c.cross-first.new.queues.buffers)
     (transfers_of c.cross-first.ensures.matching c.arrive.new.self.inputs c.args.slot 1
     ++ transfers_of c.cross-second.ensures.matching c.depart.new.queues.inputs c.args.slot 2)
 whole g c =
     let at = goal.at.returns-clause-slot g c in
     let begins = known g at.After-self in
-    let first = c.cross-first.result in
-    let second = c.cross-second.result in
-    let left = c.depart.ensures.sent in
-    let counted = c.count_proposals-2.ensures in
-    whole_slot c.self.inside.figures begins.running.in_step (taken g at.In_default begins) (arrived g at.After-arrive)
+    whole_slot c.self.inside.figures begins.running.in_step (taken g at.In_default) (arrived g at.After-arrive)
     (buffers_room begins c.take_in.new.limiter.marks) (crossed g at.After-cross-first) (sent g at.After-depart)
     (crossed_again g at.After-cross-second) c.self.inside.look begins.running.seen c.count_proposals-2.new.figures
-    (record {
-      slots = counted.slots ∙ left.slots;
-      proposed = counted.proposals ∙ ap (λ n. n + (first + second)) left.proposals;
-      most = counted.most ∙ ap (λ n. max n (max first second)) left.most;
-      inputs = counted.inputs ∙ c.depart.ensures.input_figures ∙ c.count_inputs.ensures;
-      outputs = counted.outputs ∙ left.outputs;
-    })
+    (search (arith, rules))
 
 -- ## What is known of the straight way
 
@@ -151,30 +118,18 @@ all_straight : (g : given.Over) (c : goal.After-count_proposals g) →
     (admitted c.take_in.new.limiter.marks c.args.arrivals.now) c.self.inside.figures c.count_proposals.new.figures
     (fabric_of c.self.inside.queues c.self.inside.ranks.states)
     (fabric_of c.self.inside.queues c.pass-crossed.new.ranks.states)
-    (taken g (goal.at.returns-then-go_straight-clause-slot g c).In_default
-    (known g (goal.at.returns-then-go_straight-clause-slot g c).After-self)).ideal
+    (taken g (goal.at.returns-then-go_straight-clause-slot g c).In_default).ideal
     c.of_outputs.result.now (crossings c.args.slot (length c.self.inside.queues.inputs) c.take_in.new.came)
 all_straight g c =
     let at = goal.at.returns-then-go_straight-clause-slot g c in
-    let slot = c.args.slot in
-    let x = c.self.inside.figures in
     let begins = known g at.After-self in
     let marks = c.take_in.new.limiter.marks in
     let is = straight g at.After-of_outputs in
-    let did = c.pass-crossed.ensures in
-    let counted = c.count_proposals.ensures in
-    let many = did.many ∙ ap (λ (n : ℕ). length (crossings slot n c.take_in.new.came)) is.ports in
-    whole_straight (taken g at.In_default begins) (lists_room begins marks) is (buffers_room begins marks) x
-    begins.running.in_step c.self.inside.look begins.running.seen c.pass-crossed.new.ranks.states
-    (told_straight g at.After-pass-crossed) c.count_proposals.new.figures (record {
-      slots = counted.slots ∙ did.sent.slots;
-      proposed = counted.proposals ∙ ap (λ (n : ℕ). n + (c.pass-crossed.result + 0)) did.sent.proposals
-          ∙ ap (λ (n : ℕ). x.proposals + (n + 0)) many;
-      most = counted.most ∙ ap (λ (n : ℕ). max n (max c.pass-crossed.result 0)) did.sent.most
-          ∙ ap (λ (n : ℕ). max x.most (max n 0)) many;
-      inputs = counted.inputs ∙ did.input_figures;
-      outputs = counted.outputs ∙ did.sent.outputs;
-    })
+    let many =
+    c.pass-crossed.ensures.many ∙ ap (λ (n : ℕ). length (crossings c.args.slot n c.take_in.new.came)) is.ports in
+    whole_straight (taken g at.In_default) (lists_room begins marks) is (buffers_room begins marks)
+    c.self.inside.figures begins.running.in_step c.self.inside.look begins.running.seen c.pass-crossed.new.ranks.states
+    (told_straight g at.After-pass-crossed) c.count_proposals.new.figures (search (arith, rules))
 
 -- ## What the calls ask for
 
@@ -183,7 +138,7 @@ take_in-requires g c = search (arith, rules, can_take_in, known)
 
 pub go_straight-requires : goal.go_straight-requires
 go_straight-requires g c =
-    let at = goal.at.go_straight-requires g c in came_outputs (taken g at.In_default (known g at.After-self))
+    let at = goal.at.go_straight-requires g c in came_outputs (taken g at.In_default)
 
 pub pass-crossed-requires-clause-send : goal.pass-crossed-requires-clause-send
 pass-crossed-requires-clause-send g c =
@@ -191,8 +146,8 @@ pass-crossed-requires-clause-send g c =
     let begins = known g at.After-self in
     let marks = c.take_in.new.limiter.marks in
     let is = straight g at.After-of_outputs in
-    can_send g at.After-take_in begins c.of_outputs.result.now is.ports refl
-    (held_straight (taken g at.In_default begins) (lists_room begins marks) is (buffers_room begins marks)
+    can_send g at.After-take_in c.of_outputs.result.now is.ports refl
+    (held_straight (taken g at.In_default) (lists_room begins marks) is (buffers_room begins marks)
     begins.running.holds (judged g at.After-take_in))
 
 pub pass-crossed-requires-clause-few : goal.pass-crossed-requires-clause-few
@@ -201,51 +156,41 @@ pass-crossed-requires-clause-few g c = search (arith, rules, straight)
 pub count_proposals-requires : goal.count_proposals-requires
 count_proposals-requires g c = search (arith, rules, few_proposed, known, straight)
 
-pub arrive-requires-clause-fit : goal.arrive-requires-clause-fit
-arrive-requires-clause-fit g c =
-    let at = goal.at.arrive-requires-clause-fit g c in
-    let begins = known g at.After-self in
-    fits_lists (taken g at.In_default begins) (lists_room begins c.take_in.new.limiter.marks)
-
-pub arrive-requires-clause-come : goal.arrive-requires-clause-come
-arrive-requires-clause-come g c =
-    let at = goal.at.arrive-requires-clause-come g c in come_apart (taken g at.In_default (known g at.After-self))
+pub arrive-requires : goal.arrive-requires
+arrive-requires g c =
+    let at = goal.at.arrive-requires g c in
+    let come = taken g at.In_default in
+    let room = lists_room (known g at.After-self) c.take_in.new.limiter.marks in
+    record { fit = fits_lists come room; come = come_apart come }
 
 pub count_inputs-requires-clause-outputs : goal.count_inputs-requires-clause-outputs
 count_inputs-requires-clause-outputs g c =
     let at = goal.at.count_inputs-requires-clause-outputs g c in
-    let come = taken g at.In_default (known g at.After-self) in
+    let come = taken g at.In_default in
     λ i q is. subst (λ (n : ℕ). q.cell.output < n) (sym c.arrive.ensures.ports) (came_outputs come i q is)
 
 pub count_inputs-requires-clause-newest : goal.count_inputs-requires-clause-newest
 count_inputs-requires-clause-newest g c =
     let at = goal.at.count_inputs-requires-clause-newest g c in
-    came_newest (taken g at.In_default (known g at.After-self)) (arrived g at.After-arrive)
+    came_newest (taken g at.In_default) (arrived g at.After-arrive)
 
 pub cross-first-requires-clause-can : goal.cross-first-requires-clause-can
 cross-first-requires-clause-can g c =
     let at = goal.at.cross-first-requires-clause-can g c in
     let begins = known g at.After-self in
     let looks = ports_seen g at.After-self in
-    let can : CanBeCrossed c.self.inside.workers c.arrive.new.self c.args.note.now = record {
-      workers = c.self.invariant.0;
-      cells = can_cross_first (taken g at.In_default begins) (arrived g at.After-arrive)
-          (buffers_room begins c.take_in.new.limiter.marks);
-      room = omega arith;
-    } in
-    λ _ _. can
+    let cells = can_cross_first (taken g at.In_default) (arrived g at.After-arrive)
+    (buffers_room begins c.take_in.new.limiter.marks) in
+    search (arith, rules)
 
 pub depart-requires : goal.depart-requires
 depart-requires g c =
     let at = goal.at.depart-requires g c in
     let begins = known g at.After-self in
     let buffers = c.cross-first.new.queues.buffers in
-    let long = length-map buffers (λ (cells : List Queued). slice_get cells 0) in
-    let moved = c.cross-first.ensures.moves.ports.1 in
-    let came = ap length c.arrive.ensures.buffers in
-    let square = c.ports-ports.ensures.buffers in
-    can_send g at.After-take_in begins (fronts buffers) (long ∙ moved ∙ came ∙ square) refl (held_before
-    (taken g at.In_default begins) (arrived g at.After-arrive) (buffers_room begins c.take_in.new.limiter.marks)
+    let long : length (fronts buffers) ≡ length c.self.inside.queues.inputs = search (arith, rules, length-map) in
+    can_send g at.After-take_in (fronts buffers) long refl (held_before
+    (taken g at.In_default) (arrived g at.After-arrive) (buffers_room begins c.take_in.new.limiter.marks)
     (moved_of (crossed g at.After-cross-first)) begins.running.holds (judged g at.After-take_in))
 
 pub cross-second-requires-clause-can : goal.cross-second-requires-clause-can
@@ -253,17 +198,12 @@ cross-second-requires-clause-can g c =
     let at = goal.at.cross-second-requires-clause-can g c in
     let begins = known g at.After-self in
     let moved = moved_of (crossed g at.After-cross-first) in
-    let best = c.cross-first.ensures.best in
-    let few = few_cross c.cross-first.ensures.matching c.arrive.new.self.inputs c.args.slot 1 best.stable.matching in
+    let few = few_cross c.cross-first.ensures.matching c.arrive.new.self.inputs c.args.slot 1 moved.stable.matching in
     let gone = ap length c.depart.ensures.inputs in
     let looks = ports_seen g at.After-self in
-    let can : CanBeCrossed c.self.inside.workers c.depart.new.queues c.cross-first.new.note = record {
-      workers = c.self.invariant.0;
-      cells = can_cross_second (taken g at.In_default begins) (arrived g at.After-arrive)
-          (buffers_room begins c.take_in.new.limiter.marks) moved (sent g at.After-depart);
-      room = omega arith;
-    } in
-    λ _ _. can
+    let cells = can_cross_second (taken g at.In_default) (arrived g at.After-arrive)
+    (buffers_room begins c.take_in.new.limiter.marks) moved (sent g at.After-depart) in
+    search (arith, rules)
 
 -- ## What the slot comes to
 
@@ -271,30 +211,13 @@ pub invariant_of-self-2 : goal.invariant_of-self-2
 invariant_of-self-2 g c =
     let at = goal.at.returns-clause-slot g c in
     let begins = known g at.After-self in
-    let come = taken g at.In_default begins in
     let done = whole g c in
     let next = sent g at.After-depart in
     let gone = fronts c.cross-first.new.queues.buffers in
-    let old = fabric_of c.self.inside.queues c.self.inside.ranks.states in
-    let new = fabric_of c.cross-second.new.queues c.depart.new.ranks.states in (
-      c.self.invariant.0,
-      λ _. subst
-          (λ (fixed : List (List ℕ)).
-          IsRunning (map g.R.Rank.machine fixed) (c.args.slot + 1) Arriving c.count_proposals-2.new.figures new
-          c.depart.new.limiter)
-          (sym (c.depart.ensures.sent.fixed ∙ c.take_in.ensures.fixed))
-          (record {
-            in_step = done.in_step;
-            seen = done.seen;
-            ranks =
-                ap length next.told
-                ∙ length-told (map g.R.Rank.machine c.self.inside.ranks.fixed) gone c.take_in.new.ranks.states
-                ∙ c.take_in.ensures.many ∙ begins.running.ranks;
-            holds =
-                still_holds come gone new c.self.inside.limiter c.take_in.new.limiter c.depart.new.limiter done.alike
-                begins.running.holds (judged g at.After-take_in) c.depart.ensures.sent.released;
-          }),
-    )
+    let long = length-told (map g.R.Rank.machine c.self.inside.ranks.fixed) gone c.take_in.new.ranks.states in
+    let holds = still_holds (taken g at.In_default) gone _ c.self.inside.limiter c.take_in.new.limiter
+    c.depart.new.limiter done.alike begins.running.holds (judged g at.After-take_in) c.depart.ensures.sent.released in
+    search (arith, rules)
 
 pub returns-in-Err-clause-answer : goal.returns-in-Err-clause-answer
 returns-in-Err-clause-answer g c = search (arith, rules, asks, known)
@@ -303,28 +226,14 @@ pub invariant_of-self-then-go_straight : goal.invariant_of-self-then-go_straight
 invariant_of-self-then-go_straight g c =
     let at = goal.at.returns-then-go_straight-clause-slot g c in
     let begins = known g at.After-self in
-    let come = taken g at.In_default begins in
     let done = all_straight g c in
     let gone = c.of_outputs.result.now in
-    let new = fabric_of c.self.inside.queues c.pass-crossed.new.ranks.states in (
-      c.self.invariant.0,
-      λ _. subst
-          (λ (fixed : List (List ℕ)).
-          IsRunning (map g.R.Rank.machine fixed) (c.args.slot + 1) Arriving c.count_proposals.new.figures new
-          c.pass-crossed.new.limiter)
-          (sym (c.pass-crossed.ensures.sent.fixed ∙ c.take_in.ensures.fixed))
-          (record {
-            in_step = done.in_step;
-            seen = done.seen;
-            ranks =
-                ap length (told_straight g at.After-pass-crossed)
-                ∙ length-told (map g.R.Rank.machine c.self.inside.ranks.fixed) gone c.take_in.new.ranks.states
-                ∙ c.take_in.ensures.many ∙ begins.running.ranks;
-            holds =
-                still_holds come gone new c.self.inside.limiter c.take_in.new.limiter c.pass-crossed.new.limiter
-                done.alike begins.running.holds (judged g at.After-take_in) c.pass-crossed.ensures.sent.released;
-          }),
-    )
+    let told = told_straight g at.After-pass-crossed in
+    let long = length-told (map g.R.Rank.machine c.self.inside.ranks.fixed) gone c.take_in.new.ranks.states in
+    let holds = still_holds (taken g at.In_default) gone _ c.self.inside.limiter c.take_in.new.limiter
+    c.pass-crossed.new.limiter done.alike begins.running.holds (judged g at.After-take_in)
+    c.pass-crossed.ensures.sent.released in
+    search (arith, rules)
 
 pub returns-then-go_straight-clause-answer : goal.returns-then-go_straight-clause-answer
 returns-then-go_straight-clause-answer g c = search (arith, rules, asks, known)

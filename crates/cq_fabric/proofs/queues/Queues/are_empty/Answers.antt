@@ -1,31 +1,43 @@
-use Rattle.std.proofs.Common.{eqb, length, ap, ◌∙◌}
-use Rattle.std.specs.List.{list_all}
-use Rattle.cq_list.specs.InputList.{Waiting}
-use Rattle.cq_urgency.specs.OutputBuffer.{Buffered}
-use Rattle.cq_fabric.specs.Queues.{Queues as Held}
-use Rattle.cq_fabric.proofs.Empty.{none_in_any}
+-- Whether no cell waits in any of some lists.
+use Rattle.cq_fabric.proofs.Terms.{Waiting, Buffered, arith, rules, ◌≡◌, ◌↔◌, eqb, Bool, true, List, [], ◌∷◌, length, map, refl, ap, sym, ◌∙◌, IsTrue, All, list_all, eqb-true, eq-eqb, Queued, list_all-map, AllPass-from_list_all, list_all-from_AllPass, common_steps}
 use Rattle.cq_fabric.proofs.queues.Queues.are_empty.Goals as goal
+
+none_in : List Queued → Bool
+none_in cells = eqb (length cells) 0
+
+nil_of : (cells : List Queued) → none_in cells ≡ true → cells ≡ []
+unfolding none_in
+nil_of [] e = refl
+nil_of (c ∷ cells) e = grind (arith, common_steps, eqb-true)
+
+of_nil : (cells : List Queued) → cells ≡ [] → none_in cells ≡ true
+unfolding none_in
+of_nil cells e = eq-eqb (length cells) 0 (ap length e)
+
+none_in_any : {X : Type 0} (cells_of : X → List Queued) (items : List X) (lists : List (List Queued)) (b : Bool) →
+    b ≡ list_all (λ x. eqb (length (cells_of x)) 0) items → map cells_of items ≡ lists →
+    IsTrue b ↔ All (λ cells. cells ≡ []) lists
+unfolding none_in
+none_in_any cells_of items lists b e l =
+    let is : b ≡ list_all none_in lists = e ∙ sym (list_all-map none_in cells_of items) ∙ ap (list_all none_in) l in
+    search (rules, AllPass-from_list_all, list_all-from_AllPass, nil_of, of_nil)
 
 pub returns-then-none_wait-clause-lists : goal.returns-then-none_wait-clause-lists
 returns-then-none_wait-clause-lists c t =
     (none_in_any (λ (w : Waiting). w.cells) c.self.inside.lists.items c.args.self.now.inputs c.none_wait.result
-    (c.none_wait.ensures ∙ ap (list_all (λ (w : Waiting). eqb (length w.cells) 0)) c.deref.ensures.value)
-    (ap (λ (q : Held). q.inputs) c.self.view_is)).0 c.if-none_wait.true
+    (search (arith, rules)) (search (arith, rules))).0 c.if-none_wait.true
 
 pub returns-then-none_wait-clause-buffers : goal.returns-then-none_wait-clause-buffers
 returns-then-none_wait-clause-buffers c =
     (none_in_any (λ (b : Buffered). b.cells) c.self.inside.buffers.items c.args.self.now.buffers c.none_crossed.result
-    (c.none_crossed.ensures ∙ ap (list_all (λ (b : Buffered). eqb (length b.cells) 0))
-    c.deref-then-none_wait.ensures.value) (ap (λ (q : Held). q.buffers) c.self.view_is)).0
+    (search (arith, rules)) (search (arith, rules))).0
 
 pub returns-then-none_wait-clause-empty : goal.returns-then-none_wait-clause-empty
 returns-then-none_wait-clause-empty c lists buffers =
     (none_in_any (λ (b : Buffered). b.cells) c.self.inside.buffers.items c.args.self.now.buffers c.none_crossed.result
-    (c.none_crossed.ensures ∙ ap (list_all (λ (b : Buffered). eqb (length b.cells) 0))
-    c.deref-then-none_wait.ensures.value) (ap (λ (q : Held). q.buffers) c.self.view_is)).1 buffers
+    (search (arith, rules)) (search (arith, rules))).1 buffers
 
 pub returns-else-none_wait-clause-empty : goal.returns-else-none_wait-clause-empty
 returns-else-none_wait-clause-empty c lists buffers =
     (none_in_any (λ (w : Waiting). w.cells) c.self.inside.lists.items c.args.self.now.inputs c.none_wait.result
-    (c.none_wait.ensures ∙ ap (list_all (λ (w : Waiting). eqb (length w.cells) 0)) c.deref.ensures.value)
-    (ap (λ (q : Held). q.inputs) c.self.view_is)).1 lists
+    (search (arith, rules)) (search (arith, rules))).1 lists

@@ -1,11 +1,5 @@
-use Rattle.std.proofs.Common.{arith, rules, [], length, sym, ap, ◌∙◌}
-use Rattle.std.proofs.lemmas.List.{length-map, length-replicate, length-take-le, take_all}
-use Rattle.cq_list.specs.InputList.{Waiting}
-use Rattle.cq_urgency.specs.OutputBuffer.{Buffered}
-use Rattle.cq_prefs.specs.Orders.{ports}
-use Rattle.cq_fabric.specs.Queues.{AreSquare, buffer_room, list_room}
-use Rattle.cq_fabric.specs.Telling.{AreFilled}
-use Rattle.cq_fabric.proofs.Queued.{get_or_same, new_square}
+use Rattle.cq_fabric.proofs.Terms.{arith, rules, [], length, sym, ap, ◌∙◌, get_or_default, length-map, length-replicate, length-take-le, take_all, Waiting, Buffered, ports, AreSquare, buffer_room, list_room, AreFilled}
+use Rattle.cq_fabric.proofs.Queued.{new_square}
 use Rattle.cq_fabric.proofs.Offered.{as_offered}
 use Rattle.cq_fabric.proofs.queues.Queues.holding.Goals as goal
 use Rattle.cq_fabric.proofs.queues.Queues.holding.Goals.{In_ok-offers}
@@ -43,36 +37,24 @@ square c =
     (sym (length-map crossed (λ (b : Buffered). b.cells)) ∙ ap length (buffers_filled c).cells
     ∙ length-take-le (length c.args.to_outputs.now) c.args.buffers.now (omega arith) ∙ c.requires.square)
 
-pub fill-requires-clause-lists : goal.fill-requires-clause-lists
-fill-requires-clause-lists c = omega (arith, square (goal.at.fill-requires-clause-lists c).In_ok-offers)
-
-pub fill-requires-clause-outputs : goal.fill-requires-clause-outputs
-fill-requires-clause-outputs c = search (arith, rules, square (goal.at.fill-requires-clause-outputs c).In_ok-offers)
+pub fill-requires : goal.fill-requires
+fill-requires c = search (arith, rules, square (goal.at.fill-requires c).In_ok-offers)
 
 pub invariant_of-result : goal.invariant_of-result
-invariant_of-result c =
-    search (
-      arith,
-      rules,
-      square (goal.at.invariant_of-result c).In_ok-offers,
-      square,
-      as_offered
-          c.in_ok-waiting.waiting.items c.fill.new.self,
-      buffers_filled (goal.at.invariant_of-result c).In_ok-offers,
-      take_all (length c.args.to_outputs.now) c.args.to_outputs.now,
-      get_or_same c.args.to_outputs.now,
-      c.type_inv.to_outputs,
-    )
+invariant_of-result c = search (
+  arith,
+  rules,
+  square (goal.at.invariant_of-result c).In_ok-offers,
+  square,
+  as_offered c.in_ok-waiting.waiting.items c.fill.new.self,
+  buffers_filled (goal.at.invariant_of-result c).In_ok-offers,
+  take_all (length c.args.to_outputs.now) c.args.to_outputs.now,
+  get_or_default c.args.to_outputs.now,
+  c.type_inv.to_outputs,
+)
 
 pub returns : goal.returns
 returns c =
     let lists = lists_filled (goal.at.returns c).In_ok-offers in
     let buffers = buffers_filled (goal.at.returns c).In_ok-offers in
-    let n = length c.args.to_outputs.now in
-    let k = length c.args.from_inputs.now in
-    record {
-      inputs = lists.cells ∙ take_all k c.args.lists.now (omega arith);
-      buffers = buffers.cells ∙ take_all n c.args.buffers.now (omega arith);
-      from_inputs = lists.rooms ∙ take_all k c.args.from_inputs.now (omega arith);
-      to_outputs = buffers.rooms ∙ take_all n c.args.to_outputs.now (omega arith);
-    }
+    search (arith, rules, take_all)

@@ -1,4 +1,4 @@
-use Rattle.std.proofs.Common.{arith, rules}
+use Rattle.cq_fabric.proofs.Terms.{arith, rules}
 use Rattle.cq_fabric.proofs.queues.Queues.lists.Goals as goal
 
 pub returns-clause-outputs : goal.returns-clause-outputs

@@ -1,5 +1,4 @@
-use Rattle.std.proofs.Common.{arith, rules}
-use Rattle.std.proofs.lemmas.List.{length-map, length-replicate}
+use Rattle.cq_fabric.proofs.Terms.{arith, rules, length-map, length-replicate}
 use Rattle.cq_fabric.proofs.Queued.{new_square}
 use Rattle.cq_fabric.proofs.Offered.{none_offered}
 use Rattle.cq_fabric.proofs.queues.Queues.new.Goals as goal

@@ -1,4 +1,4 @@
-use Rattle.std.proofs.Common.{arith, rules}
+use Rattle.cq_fabric.proofs.Terms.{arith, rules}
 use Rattle.cq_fabric.proofs.Rooms.{rooms_fit, within_rooms}
 use Rattle.cq_fabric.proofs.queues.Queues.ports.Goals as goal
 

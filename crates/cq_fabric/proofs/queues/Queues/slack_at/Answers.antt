@@ -1,7 +1,4 @@
-use Rattle.std.proofs.Common.{rules, ◌≡◌, ◌<◌, length, arith}
-use Rattle.std.proofs.lemmas.Option.{same_Some}
-use Rattle.cq_base.proofs.Lists.{all_at}
-use Rattle.cq_prefs.specs.FirstCells.{list_of}
+use Rattle.cq_fabric.proofs.Terms.{rules, ◌≡◌, ◌<◌, length, arith, same_Some, all_at, list_of}
 use Rattle.cq_fabric.proofs.Queued.{seen_at, seen_inside}
 use Rattle.cq_fabric.proofs.queues.Queues.slack_at.Goals as goal
 use Rattle.cq_fabric.proofs.queues.Queues.slack_at.Goals.{After-at-queued, After-index-list}

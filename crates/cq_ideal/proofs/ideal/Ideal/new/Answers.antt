@@ -1,9 +1,6 @@
-use Rattle.std.proofs.Common.{◌≡◌, [], length, map, replicate, sym, ap, ◌∙◌, subst}
-use Rattle.std.proofs.lemmas.List.{length-map, length-replicate}
-use Rattle.cq_rank.specs.Switch.{AreForOneSwitch}
-use Rattle.cq_ideal.specs.Parts.{AllArrivedBefore}
+use Rattle.cq_ideal.proofs.Terms.{◌≡◌, [], length, map, replicate, sym, ap, ◌∙◌, subst, length-map, length-replicate, AreForOneSwitch, AllArrivedBefore}
 use Rattle.cq_ideal.proofs.Holding.{holds_none}
-use Rattle.cq_ideal.proofs.OwnKeys.{arrived_none}
+use Rattle.cq_ideal.proofs.Came.{arrived_none}
 use Rattle.cq_ideal.proofs.ideal.Ideal.new.Goals as goal
 
 pub invariant_of-result : goal.invariant_of-result

@@ -1,12 +1,5 @@
-use Rattle.std.proofs.Common.{rules, ◌≡◌, ℕ, ◌+◌, ◌≤◌, List, [], length, get_or, map, sym, ap, refl, ◌∙◌, subst, arith}
-use Rattle.std.specs.Prelude.{Bool}
-use Rattle.cq_ideal.specs.Admission.{admitted, marked, refused}
-use Rattle.cq_ideal.specs.Ideal.{IdealSwitch, answer_to}
-use Rattle.cq_ideal.specs.IdealSlot.{IdealState}
-use Rattle.cq_ideal.specs.Parts.{AllArrivedBefore}
-use Rattle.cq_ideal.specs.Refused.{with_refused}
-use Rattle.cq_ideal.proofs.Spare.{spare_follows}
-use Rattle.cq_ideal.proofs.Slot.{Begun, admitted_ok, admitted_room, arrived_then, begun, can_take_in, come_to_ports, done, fit_then, have_keys, have_room, holds_then, limited_fault, limited_ok, nothing_done, same_state}
+use Rattle.cq_ideal.proofs.Terms.{rules, ◌+◌, sym, ap, arith, answer_to}
+use Rattle.cq_ideal.proofs.Slot.{Begun, begun, can_take_in, come_to_ports, have_keys, have_room, limited_fault, placed, same_state, seen}
 use Rattle.cq_ideal.proofs.ideal.Ideal.slot.Given as given
 use Rattle.cq_ideal.proofs.ideal.Ideal.slot.Goals as goal
 use Rattle.cq_ideal.proofs.ideal.Ideal.slot.Goals.{After-self}
@@ -25,44 +18,27 @@ arrive-requires g c =
     let begins = known g (goal.at.arrive-requires g c).After-self in
     let judged = c.take_in.ensures.judged in
     let taken = c.in_default.ensures.taken in
-    record {
-      few = omega arith;
-      as_many = omega arith;
-      ports = come_to_ports begins judged taken;
-      room = have_room begins judged taken;
-      keys = have_keys begins judged taken;
-    }
+    let room = have_room begins judged taken in
+    search (arith, rules, come_to_ports begins judged taken, room, have_keys begins judged taken)
 
 pub send-requires-clause-fit : goal.send-requires-clause-fit
-send-requires-clause-fit g c = fit_then (known g (goal.at.send-requires-clause-fit g c).After-self)
-    c.take_in.ensures.judged c.in_default.ensures.taken c.arrive.new.self c.arrive.ensures.lists
-    c.take_in.ensures.fixed c.take_in.ensures.many c.arrive.ensures.rooms
+send-requires-clause-fit g c = (placed (known g (goal.at.send-requires-clause-fit g c).After-self)
+    c.take_in.ensures.judged
+    c.in_default.ensures.taken c.arrive.new.self c.arrive.ensures.lists c.arrive.ensures.rooms c.take_in.ensures.fixed
+    c.take_in.ensures.many).fit
 
 pub send-requires-clause-holds : goal.send-requires-clause-holds
-send-requires-clause-holds g c =
-    holds_then (known g (goal.at.send-requires-clause-holds g c).After-self) c.take_in.ensures.judged
-    c.in_default.ensures.taken c.arrive.new.self c.arrive.ensures.lists c.take_in.ensures.fixed
+send-requires-clause-holds g c = (placed (known g (goal.at.send-requires-clause-holds g c).After-self)
+    c.take_in.ensures.judged
+    c.in_default.ensures.taken c.arrive.new.self c.arrive.ensures.lists c.arrive.ensures.rooms c.take_in.ensures.fixed
+    c.take_in.ensures.many).holds
 
 pub invariant_of-self-2 : goal.invariant_of-self-2
 invariant_of-self-2 g c =
-    let ports : length (map g.R.Rank.machine c.send.new.ranks.fixed)
-    ≡ length (map g.R.Rank.machine c.self.inside.ranks.fixed) =
-    ap (λ (f : List (List ℕ)). length (map g.R.Rank.machine f)) (c.send.ensures.told.fixed ∙ c.take_in.ensures.fixed) in
-    let judged = ap length c.take_in.ensures.judged.limits in
-    let limits = ap length c.send.ensures.judges.limits in
-    let marks = ap length c.send.ensures.judges.marks in
-    let each = c.take_in.ensures.judged.ports.marks in
-    let had = c.self.invariant.limits in
-    record {
-      fit = c.send.ensures.fit;
-      limits = omega arith;
-      marks = omega arith;
-      arrived =
-          subst (AllArrivedBefore (c.args.slot + 1)) (sym c.send.ensures.gone.lists)
-          (arrived_then (known g (goal.at.invariant_of-self-2 g c).After-self) c.take_in.ensures.judged
-          c.in_default.ensures.taken c.arrive.new.self c.arrive.ensures.lists c.take_in.ensures.fixed);
-      holds = λ _. c.send.ensures.holds;
-    }
+    let p = placed (known g (goal.at.invariant_of-self-2 g c).After-self) c.take_in.ensures.judged
+    c.in_default.ensures.taken c.arrive.new.self c.arrive.ensures.lists c.arrive.ensures.rooms c.take_in.ensures.fixed
+    c.take_in.ensures.many in
+    search (arith, rules, p, c.send.ensures.gone.lists)
 
 pub returns-in-Err-clause-answer : goal.returns-in-Err-clause-answer
 returns-in-Err-clause-answer g c =
@@ -70,8 +46,8 @@ returns-in-Err-clause-answer g c =
     c.take_in.ensures.judged c.in-Err.ensures.fault))
 
 pub returns-in-Err-clause-slot : goal.returns-in-Err-clause-slot
-returns-in-Err-clause-slot g c = nothing_done _ c.in-Err.fault _ (limited_fault
-    (known g (goal.at.returns-in-Err-clause-slot g c).After-self) c.take_in.ensures.judged c.in-Err.ensures.fault)
+returns-in-Err-clause-slot g c = rw (limited_fault (known g (goal.at.returns-in-Err-clause-slot g c).After-self)
+    c.take_in.ensures.judged c.in-Err.ensures.fault) tt
 
 pub returns-in-Err-clause-unchanged : goal.returns-in-Err-clause-unchanged
 returns-in-Err-clause-unchanged g c = search (arith, rules, known)
@@ -81,47 +57,24 @@ returns-in-Err-clause-same g c = search (arith, rules, known)
 
 pub returns-clause-answer : goal.returns-clause-answer
 returns-clause-answer g c =
-    sym (ap answer_to (limited_ok (known g (goal.at.returns-clause-answer g c).After-self) c.take_in.ensures.judged
-    c.in_default.ensures.taken c.arrive.new.self c.arrive.ensures.lists c.take_in.ensures.fixed))
+    sym (ap answer_to (placed (known g (goal.at.returns-clause-answer g c).After-self) c.take_in.ensures.judged
+    c.in_default.ensures.taken c.arrive.new.self c.arrive.ensures.lists c.arrive.ensures.rooms c.take_in.ensures.fixed
+    c.take_in.ensures.many).limited_ok)
 
 pub returns-clause-slot : goal.returns-clause-slot
 returns-clause-slot g c =
-    let begins = known g (goal.at.returns-clause-slot g c).After-self in
-    let cells = c.args.arrivals.now in
-    let marks = c.take_in.new.limiter.marks in
-    let left : IdealState = record { lists = c.send.new.queues.lists; ranks = c.send.new.ranks.states } in
-    let state = same_state left _ c.send.ensures.gone.lists c.send.ensures.told.states in
-    let inv = c.self.invariant.fit in
-    let lists = ap (λ (s : IdealState). s.lists) begins.state in
-    let within = subst (λ l. (j : ℕ) → length (get_or l j []) ≤ get_or c.self.inside.queues.rooms j 0) lists
-    c.len.ensures.within in
-    let held =
-    subst (λ r. (j : ℕ) → length (get_or c.args.self.now.state.lists j []) ≤ get_or r j 0) begins.rooms within in
-    let new : IdealSwitch = record {
-      fixed = c.send.new.ranks.fixed;
-      limits = c.send.new.limiter.limits;
-      state = left;
-      marks = c.send.new.limiter.marks;
-      refused = c.send.new.limiter.refused;
-      rooms = c.send.new.queues.rooms;
-      next = c.args.slot + 1;
-      stopped = c.self.inside.stopped;
-    } in
-    done _ _ _ (limited_ok begins c.take_in.ensures.judged c.in_default.ensures.taken c.arrive.new.self
-    c.arrive.ensures.lists c.take_in.ensures.fixed) (record {
-      state = ap (λ (m : List Bool). marked m left) c.send.ensures.judges.marks
-          ∙ ap (λ (s : IdealState). marked marks s) state;
-      sent = c.send.ensures.left;
-      spare =
-          spare_follows _ c.args.slot (admitted marks cells) c.args.self.now new _ (admitted_room begins marks)
-          (ap length (sym lists) ∙ inv.lists ∙ sym inv.rooms ∙ ap length begins.rooms) held
-          (c.send.ensures.gone.rooms ∙ c.arrive.ensures.rooms ∙ begins.rooms) (admitted_ok begins
-          c.take_in.ensures.judged c.in_default.ensures.taken c.arrive.new.self c.arrive.ensures.lists
-          c.take_in.ensures.fixed) state;
-      refused = c.send.ensures.judges.refused ∙ c.in_default.ensures.taken.refused
-          ∙ ap (with_refused (refused marks cells)) begins.refused;
-      next = refl;
-    })
+    let p = placed (known g (goal.at.returns-clause-slot g c).After-self) c.take_in.ensures.judged
+    c.in_default.ensures.taken c.arrive.new.self c.arrive.ensures.lists c.arrive.ensures.rooms c.take_in.ensures.fixed
+    c.take_in.ensures.many in
+    let new = seen c.send.new.ranks c.send.new.queues c.send.new.limiter (c.args.slot + 1) c.self.inside.stopped in
+    rw p.limited_ok (search (
+      arith,
+      rules,
+      p.spare new,
+      same_state,
+      known g
+          (goal.at.returns-clause-slot g c).After-self,
+    ))
 
 pub returns-clause-same : goal.returns-clause-same
 returns-clause-same g c = search (arith, rules, known)

@@ -1,4 +1,4 @@
-use Rattle.cq_ideal.proofs.Judging.{Judging}
+use Rattle.cq_ideal.proofs.Counting.{Judging}
 use Rattle.cq_ideal.proofs.limiter.Limiter.judge.Given as goal
 
 abbrev pub invariant-inputs : goal.invariant-inputs

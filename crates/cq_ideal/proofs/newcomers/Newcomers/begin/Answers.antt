@@ -1,5 +1,5 @@
-use Rattle.std.proofs.Common.{arith}
-use Rattle.cq_ideal.proofs.UsedPlaces.{none_used}
+use Rattle.cq_ideal.proofs.Terms.{arith}
+use Rattle.cq_ideal.proofs.Changed.{none_used}
 use Rattle.cq_ideal.proofs.newcomers.Newcomers.begin.Goals as goal
 
 pub returns-then-self-inputs-clause-beyond : goal.returns-then-self-inputs-clause-beyond

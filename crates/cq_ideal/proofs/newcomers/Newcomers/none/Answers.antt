@@ -1,4 +1,4 @@
-use Rattle.cq_ideal.proofs.UsedPlaces.{none_used}
+use Rattle.cq_ideal.proofs.Changed.{none_used}
 use Rattle.cq_ideal.proofs.newcomers.Newcomers.none.Goals as goal
 
 pub invariant_of-result : goal.invariant_of-result

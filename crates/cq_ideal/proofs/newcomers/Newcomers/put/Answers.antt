@@ -1,5 +1,5 @@
-use Rattle.std.proofs.Common.{rules, arith}
-use Rattle.cq_ideal.proofs.UsedPlaces.{one_used}
+use Rattle.cq_ideal.proofs.Terms.{rules, arith}
+use Rattle.cq_ideal.proofs.Changed.{one_used}
 use Rattle.cq_ideal.proofs.newcomers.Newcomers.put.Goals as goal
 
 pub invariant_of-self : goal.invariant_of-self

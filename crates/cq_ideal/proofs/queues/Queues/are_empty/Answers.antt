@@ -1,7 +1,5 @@
-use Rattle.std.proofs.Common.{ap, ◌∙◌, eqb, length}
-use Rattle.std.specs.List.{list_all}
-use Rattle.cq_ideal.specs.Parts.{QueueView, QueuesView}
-use Rattle.cq_ideal.proofs.Listed.{none_wait}
+use Rattle.cq_ideal.proofs.Terms.{ap, ◌∙◌, eqb, length, list_all, QueueView, QueuesView}
+use Rattle.cq_ideal.proofs.Changed.{none_wait}
 use Rattle.cq_ideal.proofs.queues.Queues.are_empty.Goals as goal
 
 pub returns : goal.returns

@@ -1,8 +1,6 @@
-use Rattle.std.proofs.Common.{rules, refl, arith, Option, ap, ◌∙◌}
-use Rattle.cq_ideal.proofs.TakenIn.{if_some, putting_last, putting_next, putting_room}
+use Rattle.cq_ideal.proofs.Terms.{rules, refl, arith, Option, ap, ◌∙◌, Queued, with_came}
+use Rattle.cq_ideal.proofs.Came.{if_some, putting_last, putting_next, putting_room}
 use Rattle.cq_ideal.proofs.queues.Queues.arrive.Goals as goal
-use Rattle.cq_base.specs.declared.cell.Queued.{Queued}
-use Rattle.cq_ideal.specs.Parts.{with_came}
 
 pub inputs-init : goal.inputs-init
 inputs-init c = record { rooms = refl; long = refl; room = c.requires.room; keys = c.requires.keys; filled = refl }
@@ -14,8 +12,7 @@ pub inputs-preserved : goal.inputs-preserved
 inputs-preserved c =
     let ports = c.len-ports.ensures.len in
     let inside = c.inputs-test.true in
-    putting_next c.args.came.now c.args.self.now c.inputs.input c.inputs.self c.put_if.new.self c.requires.few
-    c.requires.ports (omega arith) c.inputs.invariant
+    putting_next c.requires.ports c.inputs.invariant c.requires.few (omega arith) c.put_if.new.self
     (c.put_if.ensures.lists ∙ ap (λ (o : Option Queued). with_came o c.inputs.self.lists) c.at.ensures)
     c.put_if.ensures.rooms
 

@@ -1,4 +1,4 @@
-use Rattle.cq_ideal.proofs.TakenIn.{Putting}
+use Rattle.cq_ideal.proofs.Came.{Putting}
 use Rattle.cq_ideal.proofs.queues.Queues.arrive.Given as goal
 
 abbrev pub invariant-inputs : goal.invariant-inputs

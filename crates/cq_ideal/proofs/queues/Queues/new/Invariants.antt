@@ -1,4 +1,4 @@
-use Rattle.cq_ideal.proofs.Listed.{Made}
+use Rattle.cq_ideal.proofs.Changed.{Made}
 use Rattle.cq_ideal.proofs.queues.Queues.new.Given as goal
 
 abbrev pub invariant-loop-room : goal.invariant-loop-room

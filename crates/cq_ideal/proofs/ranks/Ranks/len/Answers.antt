@@ -1,5 +1,5 @@
-use Rattle.std.proofs.Common.{arith, rules}
-use Rattle.cq_ideal.proofs.Ranked.{as_many}
+use Rattle.cq_ideal.proofs.Terms.{arith, rules}
+use Rattle.cq_ideal.proofs.Changed.{as_many}
 use Rattle.cq_ideal.proofs.ranks.Ranks.len.Goals as goal
 
 pub returns-clause-as_many : goal.returns-clause-as_many

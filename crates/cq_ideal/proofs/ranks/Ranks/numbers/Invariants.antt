@@ -1,4 +1,4 @@
-use Rattle.std.proofs.Common.{◌≡◌, length, take, vec_len, vec_capacity}
+use Rattle.cq_ideal.proofs.Terms.{◌≡◌, length, take, vec_len, vec_capacity}
 use Rattle.cq_ideal.proofs.ranks.Ranks.numbers.Given as goal
 
 -- the states of the outputs before this one are there, and there is room for all

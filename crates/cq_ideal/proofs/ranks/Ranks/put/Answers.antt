@@ -1,5 +1,4 @@
-use Rattle.std.proofs.Common.{rules, length, refl, ap, arith}
-use Rattle.std.proofs.lemmas.List.{get_or_read}
+use Rattle.cq_ideal.proofs.Terms.{rules, length, refl, ap, arith, get_or_read}
 use Rattle.cq_ideal.proofs.Changed.{at_end, put_next}
 use Rattle.cq_ideal.proofs.ranks.Ranks.put.Goals as goal
 

@@ -1,5 +1,5 @@
-use Rattle.cq_ideal.specs.Admission.{admitted}
-use Rattle.cq_ideal.proofs.InTurn.{InTurn}
+use Rattle.cq_ideal.proofs.Terms.{admitted}
+use Rattle.cq_ideal.proofs.Came.{InTurn}
 use Rattle.cq_ideal.proofs.ranks.Ranks.take.Given as goal
 
 abbrev pub invariant-inputs : goal.invariant-inputs

@@ -1,6 +1,5 @@
-use Rattle.std.proofs.Common.{arith, rules, ◌∙◌}
-use Rattle.cq_rank.specs.Machine.{told}
-use Rattle.cq_ideal.proofs.Ranked.{seen, fixed_after, states_after}
+use Rattle.cq_ideal.proofs.Terms.{arith, rules, ◌∙◌, told}
+use Rattle.cq_ideal.proofs.Changed.{seen, fixed_after, states_after}
 use Rattle.cq_ideal.proofs.ranks.Ranks.told.Goals as goal
 
 pub returns-clause-fixed : goal.returns-clause-fixed

@@ -1,12 +1,9 @@
-use Rattle.std.proofs.Common.{rules, ◌≡◌, ◌∙◌, ap, arith, sym}
-use Rattle.cq_prefs.specs.Orders.{ports}
-use Rattle.cq_ledger.specs.Steps.{claim_taken, hand_at}
+use Rattle.cq_ledger.proofs.Terms.{rules, ◌≡◌, ◌∙◌, ap, arith, sym, ports, claim_taken, hand_at, Seated}
 use Rattle.cq_ledger.proofs.Allowed.{claim-allowed-at}
 use Rattle.cq_ledger.proofs.SeatFields.{matched, taken-seat}
 use Rattle.cq_ledger.proofs.Views.{clear_if}
 use Rattle.cq_ledger.proofs.ledger.Ledger.claim.Goals as goal
 use Rattle.cq_ledger.proofs.ledger.Ledger.claim.Goals.{Else-has_bit}
-use Rattle.cq_ledger.specs.Plays.{Seated}
 
 pub fetch_or-found-requires : goal.fetch_or-found-requires
 fetch_or-found-requires c =

@@ -1,6 +1,4 @@
-use Rattle.std.proofs.Common.{arith, rules, ◌≡◌, ◌∙◌, ap}
-use Rattle.std.specs.Slots.{slots_items}
-use Rattle.cq_prefs.specs.Pairing.{IsInputBest, proposals}
+use Rattle.cq_ledger.proofs.Terms.{arith, rules, ◌≡◌, ◌∙◌, ap, slots_items, IsInputBest, proposals}
 use Rattle.cq_ledger.proofs.Closing.{closing-shown, closing-phase}
 use Rattle.cq_ledger.proofs.SeatFields.{matched, all_claimed}
 use Rattle.cq_ledger.proofs.ledger.Ledger.close.Goals as goal

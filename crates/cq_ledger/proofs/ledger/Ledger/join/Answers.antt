@@ -1,5 +1,4 @@
-use Rattle.std.proofs.Common.{rules, ◌∙◌, ap, arith}
-use Rattle.cq_ledger.specs.Plays.{Seated}
+use Rattle.cq_ledger.proofs.Terms.{rules, ◌∙◌, ap, arith, Seated}
 use Rattle.cq_ledger.proofs.Allowed.{join-allowed, look-allowed}
 use Rattle.cq_ledger.proofs.SeatFields.{matched}
 use Rattle.cq_ledger.proofs.ledger.Ledger.join.Goals as goal

@@ -1,16 +1,12 @@
-use Rattle.std.proofs.Common.{◌+◌, ◌∙◌, arith, add-one, ap, sym, ◌<◌, length, subst}
-use Rattle.cq_prefs.proofs.Places.{output_in_range}
+use Rattle.cq_ledger.proofs.Terms.{◌+◌, ◌∙◌, arith, add-one, ap, sym, output_in_range, answer_of, hand_after}
 use Rattle.cq_ledger.proofs.Allowed.{proposal-allowed-at}
 use Rattle.cq_ledger.proofs.SeatFields.{matched, proposed-seat}
 use Rattle.cq_ledger.proofs.ledger.Ledger.propose.Goals as goal
-use Rattle.cq_ledger.specs.Steps.{answer_of, hand_after}
-use Rattle.cq_prefs.specs.Orders.{Orders, outputs_of}
 
 pub asked_by-asked-requires : goal.asked_by-asked-requires
 asked_by-asked-requires c =
     let m = matched c.args.self.now c.args.seat.now _ _ _ _ c.self.view_is c.seat.view_is c.requires.seat in
-    let P : Orders → Type 0 = λ o. c.in-Some.hand.1 < length (outputs_of o c.in-Some.hand.0) in
-    subst P m.offers_are (c.seat.invariant.placed c.in-Some.hand.0 c.in-Some.hand.1
+    rw m.offers_are at (c.seat.invariant.placed c.in-Some.hand.0 c.in-Some.hand.1
     (c.seat.invariant.in_hand ∙ c.in-Some.is))
 
 pub fetch_min-found-requires : goal.fetch_min-found-requires

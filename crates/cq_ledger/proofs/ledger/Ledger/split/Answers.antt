@@ -1,4 +1,4 @@
-use Rattle.std.proofs.Common.{rules, arith}
+use Rattle.cq_ledger.proofs.Terms.{rules, arith}
 use Rattle.cq_ledger.proofs.Allowed.{split-allowed}
 use Rattle.cq_ledger.proofs.SeatFields.{matched}
 use Rattle.cq_ledger.proofs.ledger.Ledger.split.Goals as goal

@@ -1,4 +1,4 @@
-use Rattle.std.proofs.Common.{arith, rules}
+use Rattle.cq_ledger.proofs.Terms.{arith, rules}
 use Rattle.cq_ledger.proofs.Seats.{start-keeps}
 use Rattle.cq_ledger.proofs.ledger.Ledger.start.Goals as goal
 

@@ -1,7 +1,6 @@
-use Rattle.std.proofs.Common.{◌∙◌, arith, ap}
+use Rattle.cq_ledger.proofs.Terms.{◌∙◌, arith, ap, ports}
 use Rattle.cq_ledger.proofs.Readings.{has_place}
 use Rattle.cq_ledger.proofs.seat.LedgerSeat.hand.Goals as goal
-use Rattle.cq_prefs.specs.Orders.{ports}
 
 pub returns-in-Some-clause-port : goal.returns-in-Some-clause-port
 returns-in-Some-clause-port c =

@@ -1,6 +1,4 @@
-use Rattle.std.proofs.Common.{rules, sym, length-append, length-take, append_assoc, arith}
-use Rattle.std.proofs.lemmas.List.{append-nil, take_all}
-use Rattle.std.proofs.lemmas.List.Edits.{insert_end}
+use Rattle.cq_list.proofs.Terms.{rules, sym, length-append, length-take, append_assoc, arith, append-nil, take_all, insert_end}
 use Rattle.cq_list.proofs.Counts.{take_shown}
 use Rattle.cq_list.proofs.block.Block.append.Goals as goal
 

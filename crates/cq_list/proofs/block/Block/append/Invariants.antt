@@ -1,4 +1,4 @@
-use Rattle.std.proofs.Common.{◌≡◌, ◌++◌, take}
+use Rattle.cq_list.proofs.Terms.{◌≡◌, ◌++◌, take}
 use Rattle.cq_list.proofs.block.Block.append.Given as goal
 
 -- the places so far went over

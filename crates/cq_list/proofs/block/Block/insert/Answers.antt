@@ -1,4 +1,4 @@
-use Rattle.std.proofs.Common.{rules, arith}
+use Rattle.cq_list.proofs.Terms.{rules, arith}
 use Rattle.cq_list.proofs.Counts.{counts_insert}
 use Rattle.cq_list.proofs.block.Block.insert.Goals as goal
 

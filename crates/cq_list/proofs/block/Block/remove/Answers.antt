@@ -1,4 +1,4 @@
-use Rattle.std.proofs.Common.{◌<◌, ap, length, arith}
+use Rattle.cq_list.proofs.Terms.{◌<◌, ap, length, arith}
 use Rattle.cq_list.proofs.Counts.{counts_remove}
 use Rattle.cq_list.proofs.block.Block.remove.Goals as goal
 

@@ -1,4 +1,4 @@
-use Rattle.std.proofs.Common.{◌≡◌, ◌++◌, length}
+use Rattle.cq_list.proofs.Terms.{◌≡◌, ◌++◌, length}
 use Rattle.cq_list.proofs.block.Block.split_off.Given as goal
 
 -- the places that are left and those that were moved are the places that there were

@@ -1,7 +1,4 @@
-use Rattle.std.proofs.Common.{arith, rules, ◌<◌, sym, length, subst}
-use Rattle.std.specs.Prelude.{ℕ}
-use Rattle.std.proofs.lemmas.Option.{slice_get_within}
-use Rattle.cq_list.specs.Pool.{queue_of}
+use Rattle.cq_list.proofs.Terms.{arith, rules, ◌<◌, sym, length, subst, ℕ, slice_get_within, queue_of}
 use Rattle.cq_list.proofs.Kept.{shown}
 use Rattle.cq_list.proofs.input_list.InputList.at.Goals as goal
 

@@ -1,4 +1,4 @@
-use Rattle.std.proofs.Common.{arith, rules}
+use Rattle.cq_list.proofs.Terms.{arith, rules}
 use Rattle.cq_list.proofs.Kept.{first_is}
 use Rattle.cq_list.proofs.input_list.InputList.front_for.Goals as goal
 

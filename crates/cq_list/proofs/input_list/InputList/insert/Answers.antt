@@ -1,8 +1,5 @@
-use Rattle.std.proofs.Common.{rules, ◌∙◌, ◌≡◌, ◌<◌, ap, min, arith}
-use Rattle.std.specs.Prelude.{insert}
-use Rattle.cq_base.specs.Cells.{with_arrival}
-use Rattle.cq_list.specs.InputList.{Waiting, StandFor}
-use Rattle.cq_list.proofs.Kept.{had, kept, cells_are, queue_has_other_key, place_is, arrived, counted}
+use Rattle.cq_list.proofs.Terms.{rules, ◌∙◌, ap, min, arith, insert, with_arrival, StandFor}
+use Rattle.cq_list.proofs.Kept.{kept, cells_are, queue_has_other_key, arrived, counted}
 use Rattle.cq_list.proofs.input_list.InputList.insert.Goals as goal
 
 pub put-ahead-requires-clause-other_key : goal.put-ahead-requires-clause-other_key
@@ -18,20 +15,12 @@ now c =
     let least =
     c.min-place.ensures
     ∙ ap (min c.args.cushion) (c.min.ensures ∙ ap (min c.place_behind-later.result) c.len.ensures) in
-    let place = place_is c.self.invariant c.self.view_is c.args.cushion c.args.queued _ _ _ c.put-ahead.ensures.place
-    c.place_behind-later.ensures least in
-    let range : c.args.queued.cell.output < c.self.inside.outputs =
-    let outputs = ap (λ (w : Waiting). w.outputs) c.self.view_is in
-    let range = c.requires.in_range in omega arith in
-    let spare : c.insert.new.self.spare ≡ c.put-ahead.new.self.spare =
-    let same = (had c.self.invariant c.self.view_is).spare in omega arith in
-    arrived c.self.invariant c.self.view_is c.args.cushion c.args.queued _ _ range c.requires.other_key
-    c.requires.ahead
-    (c.insert.ensures.outputs ∙ ap (λ p. insert c.self.inside.places.outputs p c.args.queued.cell.output) place)
-    c.put-ahead.ensures.queues spare
+    arrived c.self.invariant c.self.view_is c.args.cushion c.args.queued c.requires.in_range c.requires.other_key
+    c.requires.ahead c.put-ahead.ensures.place c.place_behind-later.ensures least c.insert.ensures.outputs
+    c.put-ahead.ensures.queues c.insert.ensures.spare c.put-ahead.ensures.spare
 
 pub invariant_of-self : goal.invariant_of-self
-invariant_of-self c = kept _ _ _ _ (now c)
+invariant_of-self c = kept (now c)
 
 pub returns-clause-cells : goal.returns-clause-cells
-returns-clause-cells c = cells_are _ _ _ _ (now c)
+returns-clause-cells c = cells_are (now c)

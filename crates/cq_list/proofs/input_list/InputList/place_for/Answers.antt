@@ -1,4 +1,4 @@
-use Rattle.std.proofs.Common.{rules, sym, ◌∙◌, arith}
+use Rattle.cq_list.proofs.Terms.{rules, sym, ◌∙◌, arith}
 use Rattle.cq_list.proofs.Kept.{position-none, position-some, counted, queue_inside, some_places}
 use Rattle.cq_list.proofs.Nth.{nth_is_first}
 use Rattle.cq_list.proofs.input_list.InputList.place_for.Goals as goal
@@ -14,8 +14,7 @@ place_of-requires-clause-all c = cc (counted c.self.invariant c.self.view_is c.a
 
 pub place_of-requires-clause-there : goal.place_of-requires-clause-there
 place_of-requires-clause-there c =
-    let some = some_places c.self.invariant c.self.view_is c.args.output _ (sym c.first.ensures ∙ c.in-Some.is)
-    in
+    let some = some_places c.self.invariant c.self.view_is c.args.output _ (sym c.first.ensures ∙ c.in-Some.is) in
     let all = c.len_of-all.ensures ∙ counted c.self.invariant c.self.view_is c.args.output in omega arith
 
 pub returns-in-Some : goal.returns-in-Some

@@ -1,4 +1,4 @@
-use Rattle.std.proofs.Common.{◌∙◌}
+use Rattle.cq_list.proofs.Terms.{◌∙◌}
 use Rattle.cq_list.proofs.Kept.{counted, place_found}
 use Rattle.cq_list.proofs.input_list.InputList.place_of_id.Goals as goal
 

@@ -1,8 +1,5 @@
-use Rattle.std.proofs.Common.{rules, ◌∙◌, ◌≡◌, sym, arith, refl}
-use Rattle.cq_base.specs.Cells.{without_first}
-use Rattle.cq_base.proofs.Lists.{taken_none}
-use Rattle.cq_list.specs.InputList.{StandFor}
-use Rattle.cq_list.proofs.Kept.{had, kept, cells_are, position-none, counted, queue_inside, some_places, first_is, left}
+use Rattle.cq_list.proofs.Terms.{rules, ◌∙◌, sym, arith, refl, without_first, taken_none, StandFor}
+use Rattle.cq_list.proofs.Kept.{kept, cells_are, position-none, counted, queue_inside, some_places, first_is, left}
 use Rattle.cq_list.proofs.input_list.InputList.take.Goals as goal
 
 pub returns-in-None : goal.returns-in-None
@@ -16,25 +13,21 @@ len_of-requires c = queue_inside _ c.args.output _ (sym c.first.ensures ∙ c.in
 
 pub remove_first-requires : goal.remove_first-requires
 remove_first-requires c =
-    let some = some_places c.self.invariant c.self.view_is c.args.output _
-    (sym c.first.ensures ∙ c.in-Some.is) in
+    let some = some_places c.self.invariant c.self.view_is c.args.output _ (sym c.first.ensures ∙ c.in-Some.is) in
     let all = c.len_of.ensures ∙ counted c.self.invariant c.self.view_is c.args.output in
     record { all = all; some = omega arith }
 
 -- what the new places and the new pool stand for
 now : (c : goal.After-take) → StandFor c.self.inside.outputs c.remove_first.new.self c.take.new.self
     (without_first c.args.output c.args.self.now.cells)
-now c =
-    let spare : c.remove_first.new.self.spare ≡ c.take.new.self.spare =
-    let same = (had c.self.invariant c.self.view_is).spare in omega arith in
-    left c.self.invariant c.self.view_is c.args.output _ _ _ c.take.ensures.first c.remove_first.ensures.outputs
-    c.take.ensures.queues spare
+now c = left c.self.invariant c.self.view_is c.args.output _ c.take.ensures.first c.remove_first.ensures.outputs
+    c.take.ensures.queues c.remove_first.ensures.spare c.take.ensures.spare
 
 pub invariant_of-self : goal.invariant_of-self
-invariant_of-self c = kept _ _ _ _ (now c)
+invariant_of-self c = kept (now c)
 
 pub returns-in-Some-clause-first : goal.returns-in-Some-clause-first
 returns-in-Some-clause-first c = search (arith, rules, first_is)
 
 pub returns-in-Some-clause-cells : goal.returns-in-Some-clause-cells
-returns-in-Some-clause-cells c = cells_are _ _ _ _ (now c)
+returns-in-Some-clause-cells c = cells_are (now c)

@@ -1,4 +1,4 @@
-use Rattle.std.proofs.Common.{rules, arith}
+use Rattle.cq_list.proofs.Terms.{rules, arith}
 use Rattle.cq_list.proofs.Kept.{had, as_many}
 use Rattle.cq_list.proofs.Least.{least_starts, least_next, found_at, found_nowhere}
 use Rattle.cq_list.proofs.input_list.InputList.thread_of.Goals as goal

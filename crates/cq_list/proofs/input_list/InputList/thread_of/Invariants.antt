@@ -1,5 +1,4 @@
-use Rattle.std.proofs.Common.{◌≡◌}
-use Rattle.std.specs.List.{position_or_len}
+use Rattle.cq_list.proofs.Terms.{◌≡◌, position_or_len}
 use Rattle.cq_list.proofs.Least.{is_below}
 use Rattle.cq_list.proofs.input_list.InputList.thread_of.Given as goal
 

@@ -1,5 +1,4 @@
-use Rattle.std.proofs.Common.{rules, arith}
-use Rattle.std.proofs.lemmas.List.Edits.{length-remove}
+use Rattle.cq_list.proofs.Terms.{rules, arith, length-remove}
 use Rattle.cq_list.proofs.Nth.{nth_inside}
 use Rattle.cq_list.proofs.places.Places.remove_first.Goals as goal
 

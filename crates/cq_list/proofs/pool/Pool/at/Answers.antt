@@ -1,4 +1,4 @@
-use Rattle.std.proofs.Common.{arith}
+use Rattle.cq_list.proofs.Terms.{arith}
 use Rattle.cq_list.proofs.Queues.{read_of, as_many, inside_some}
 use Rattle.cq_list.proofs.pool.Pool.at.Goals as goal
 

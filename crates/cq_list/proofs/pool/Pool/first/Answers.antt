@@ -1,5 +1,4 @@
-use Rattle.std.proofs.Common.{rules, ◌<◌, ap, is_some, arith}
-use Rattle.slab.specs.Slab.{get}
+use Rattle.cq_list.proofs.Terms.{rules, ◌<◌, ap, is_some, arith, get}
 use Rattle.cq_list.proofs.Queues.{IsRead, is_read}
 use Rattle.cq_list.proofs.Walk.{head_there, head_shown}
 use Rattle.cq_list.proofs.pool.Pool.first.Goals as goal
@@ -15,7 +14,7 @@ read_queue : (c : Else-queue-eq0) → Read c
 read_queue c = search (arith, rules, is_read)
 
 pub index-requires : goal.index-requires
-index-requires c = let q = read_queue c in ap is_some (head_there _ _ q.read.is_linked.chained q.some).1
+index-requires c = let q = read_queue c in ap is_some (head_there q.read.is_linked.chained q.some).1
 
 pub returns : goal.returns
 returns c = search (arith, rules, read_queue, head_shown)

@@ -1,4 +1,4 @@
-use Rattle.std.proofs.Common.{sym}
+use Rattle.cq_list.proofs.Terms.{sym}
 use Rattle.cq_list.proofs.Queues.{read_of, as_many}
 use Rattle.cq_list.proofs.pool.Pool.len_of.Goals as goal
 

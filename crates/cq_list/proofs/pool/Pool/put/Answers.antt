@@ -1,10 +1,7 @@
-use Rattle.std.proofs.Common.{ap, ◌∙◌, subst, arith, sym}
-use Rattle.cq_base.specs.Cells.{HasOtherKey, put}
-use Rattle.cq_list.specs.Pool.{PoolView}
+use Rattle.cq_list.proofs.Terms.{ap, ◌∙◌, subst, arith, sym, HasOtherKey, put, PoolView, position_or_len}
 use Rattle.cq_list.proofs.Put.{is_no_sooner, no_sooner_is_later}
 use Rattle.cq_list.proofs.Queues.{read_of, is_pool_changed, view_changed}
 use Rattle.cq_list.proofs.pool.Pool.put.Goals as goal
-use Rattle.std.specs.List.{position_or_len}
 
 pub put_into-requires-clause-linked : goal.put_into-requires-clause-linked
 put_into-requires-clause-linked c =
@@ -19,18 +16,18 @@ put_into-requires-clause-count c =
 pub returns-clause-place : goal.returns-clause-place
 returns-clause-place c =
     let read = read_of c.self.invariant c.self.view_is c.requires.in_range c.index-queue.ensures in
-    c.ahead_of-ahead.ensures.count
-    ∙ ap (position_or_len (is_no_sooner c.args.queued.key)) (sym read.are_cells)
+    c.ahead_of-ahead.ensures.count ∙ ap (position_or_len (is_no_sooner c.args.queued.key)) (sym read.are_cells)
     ∙ no_sooner_is_later c.args.queued _ c.requires.other_key
 
 pub invariant_of-self : goal.invariant_of-self
 invariant_of-self c =
     let read = read_of c.self.invariant c.self.view_is c.requires.in_range c.index-queue.ensures in
     let spare = ap (λ (v : PoolView). v.spare) c.self.view_is in
-    is_pool_changed c.self.inside.nodes _ _ _ c.self.inside.queues.items _ c.index-queue.result.now _ c.self.invariant
-    read c.put_into.ensures.others c.put_into.ensures.linked (omega arith) (omega arith) c.put_into.ensures.capacity
+    is_pool_changed c.put_into.new.nodes c.self.invariant read c.put_into.ensures.others c.put_into.ensures.linked
+    (omega arith) (omega arith) c.put_into.ensures.capacity
 
 pub returns-clause-queues : goal.returns-clause-queues
-returns-clause-queues c = view_changed c.self.inside.nodes c.put_into.new.nodes _ c.self.inside.room _ _ _ _
-    c.self.invariant (read_of c.self.invariant c.self.view_is c.requires.in_range c.index-queue.ensures)
-    c.put_into.ensures.others (put c.args.queued) c.put_into.ensures.cells
+returns-clause-queues c =
+    let read = read_of c.self.invariant c.self.view_is c.requires.in_range c.index-queue.ensures in
+    view_changed c.put_into.new.nodes c.self.invariant read c.put_into.ensures.others c.put_into.ensures.linked
+    (put c.args.queued) c.put_into.ensures.cells

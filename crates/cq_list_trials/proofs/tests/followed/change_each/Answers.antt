@@ -1,7 +1,4 @@
-use Rattle.std.proofs.Common.{◌∙◌, ◌+◌, sym, subst, arith}
-use Rattle.cq_list.specs.InputList.{cells_of}
-use Rattle.cq_prefs.specs.FirstCells.{orders_of}
-use Rattle.cq_prefs.specs.Renewal.{AreSameWithout}
+use Rattle.cq_list_trials.proofs.Terms.{◌∙◌, ◌+◌, sym, subst, arith, cells_of, orders_of, AreSameWithout}
 use Rattle.cq_list_trials.proofs.Followed.{one_changed, past_changed, all_own, all_same, own_keys}
 use Rattle.cq_list_trials.proofs.tests.followed.change_each.Goals as goal
 use Rattle.cq_list_trials.proofs.tests.followed.change_each.Goals.{in-Some, in_default}

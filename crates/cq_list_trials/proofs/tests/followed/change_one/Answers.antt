@@ -1,4 +1,4 @@
-use Rattle.std.proofs.Common.{arith}
+use Rattle.cq_list_trials.proofs.Terms.{arith}
 use Rattle.cq_list_trials.proofs.Followed.{own_left, own_come}
 use Rattle.cq_list_trials.proofs.tests.followed.change_one.Goals as goal
 

@@ -1,4 +1,4 @@
-use Rattle.std.proofs.Common.{sym, ◌∙◌}
+use Rattle.cq_list_trials.proofs.Terms.{sym, ◌∙◌}
 use Rattle.cq_list_trials.proofs.Followed.{ahead_of_first}
 use Rattle.cq_list_trials.proofs.tests.followed.drawn_cushion.Goals as goal
 

@@ -1,4 +1,4 @@
-use Rattle.std.proofs.Common.{◌≡◌, length}
+use Rattle.cq_list_trials.proofs.Terms.{◌≡◌, length}
 use Rattle.cq_list_trials.proofs.tests.followed.drawn_matching.Given as goal
 
 -- the matching is of so many ports

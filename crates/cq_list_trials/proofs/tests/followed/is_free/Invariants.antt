@@ -1,5 +1,4 @@
-use Rattle.std.proofs.Common.{◌≢◌, ◌<◌, ℕ, Some}
-use Rattle.cq_prefs.specs.Pairing.{partner_of}
+use Rattle.cq_list_trials.proofs.Terms.{◌≢◌, ◌<◌, ℕ, Some, partner_of}
 use Rattle.cq_list_trials.proofs.tests.followed.is_free.Given as goal
 
 -- the inputs before this one have another partner or none

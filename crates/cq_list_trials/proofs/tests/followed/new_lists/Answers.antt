@@ -1,6 +1,4 @@
-use Rattle.std.proofs.Common.{◌≡◌, sym, subst, arith}
-use Rattle.std.specs.List.{AllByRecursion}
-use Rattle.cq_base.specs.Cells.{ArrivedBefore}
+use Rattle.cq_list_trials.proofs.Terms.{◌≡◌, sym, subst, arith, AllByRecursion, ArrivedBefore}
 use Rattle.cq_list_trials.proofs.tests.followed.new_lists.Goals as goal
 
 pub returns-clause-own : goal.returns-clause-own

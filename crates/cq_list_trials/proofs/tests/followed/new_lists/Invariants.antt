@@ -1,5 +1,4 @@
-use Rattle.std.proofs.Common.{◌≡◌, [], length}
-use Rattle.std.specs.Prelude.{All}
+use Rattle.cq_list_trials.proofs.Terms.{◌≡◌, [], length, All}
 use Rattle.cq_list_trials.proofs.tests.followed.new_lists.Given as goal
 
 -- the lists so far have no cells

@@ -1,5 +1,4 @@
-use Rattle.std.proofs.Common.{◌≡◌}
-use Rattle.cq_prefs.specs.Orders.{ports}
+use Rattle.cq_list_trials.proofs.Terms.{◌≡◌, ports}
 use Rattle.cq_list_trials.proofs.tests.followed.renewed_offers_are_those_that_are_filled_anew.Given as goal
 
 -- the offers that are filled anew are of as many ports

@@ -1,6 +1,4 @@
-use Rattle.std.proofs.Common.{◌≡◌}
-use Rattle.cq_prefs.specs.Orders.{ports}
-use Rattle.cq_ledger.specs.Seats.{IsSeatOf}
+use Rattle.cq_list_trials.proofs.Terms.{◌≡◌, ports, IsSeatOf}
 use Rattle.cq_list_trials.proofs.tests.ledger.each_outcome_can_empty_the_hand.Given as goal
 
 -- it stays a seat of the ledger

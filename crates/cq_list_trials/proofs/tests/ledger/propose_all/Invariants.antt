@@ -1,4 +1,4 @@
-use Rattle.cq_ledger.specs.Seats.{IsSeatOf}
+use Rattle.cq_list_trials.proofs.Terms.{IsSeatOf}
 use Rattle.cq_list_trials.proofs.tests.ledger.propose_all.Given as goal
 
 abbrev pub invariant-proposals : goal.invariant-proposals

@@ -1,4 +1,4 @@
-use Rattle.cq_ledger.specs.Seats.{IsSeatOf}
+use Rattle.cq_list_trials.proofs.Terms.{IsSeatOf}
 use Rattle.cq_list_trials.proofs.tests.ledger.work.Given as goal
 
 abbrev pub invariant-turns : goal.invariant-turns

@@ -1,4 +1,4 @@
-use Rattle.std.proofs.Common.{arith}
+use Rattle.cq_list_trials.proofs.Terms.{arith}
 use Rattle.cq_list_trials.proofs.tests.list.cut_in.Goals as goal
 
 pub insert-requires-clause-ahead : goal.insert-requires-clause-ahead

@@ -1,5 +1,4 @@
-use Rattle.std.proofs.Common.{◌+◌, ap, sym, subst, length, arith}
-use Rattle.cq_base.specs.Cells.{ArrivedBefore}
+use Rattle.cq_list_trials.proofs.Terms.{◌+◌, ap, sym, subst, length, arith, ArrivedBefore}
 use Rattle.cq_list_trials.proofs.Arrived.{count_taken, arrived_left, length_left}
 use Rattle.cq_list_trials.proofs.tests.list.depart.Goals as goal
 

@@ -1,5 +1,4 @@
-use Rattle.std.proofs.Common.{◌≡◌, ◌+◌, ◌<◌, ◌^◌, length}
-use Rattle.cq_base.specs.Cells.{ArrivedBefore}
+use Rattle.cq_list_trials.proofs.Terms.{◌≡◌, ◌+◌, ◌<◌, ◌^◌, length, ArrivedBefore}
 use Rattle.cq_list_trials.proofs.tests.list.drawn_calls_answer_as_a_plain_list_does.Given as goal
 
 -- each cell of the list arrived in a slot before, and there is room for 600 cells in all

@@ -1,7 +1,4 @@
-use Rattle.std.proofs.Common.{◌≡◌, ℕ, ◌<◌, Some}
-use Rattle.std.specs.Prelude.{slice_get}
-use Rattle.cq_base.specs.declared.cell.Queued.{Queued}
-use Rattle.cq_base.specs.Cells.{IsBefore}
+use Rattle.cq_list_trials.proofs.Terms.{◌≡◌, ℕ, ◌<◌, Some, slice_get, Queued, IsBefore}
 use Rattle.cq_list_trials.proofs.tests.list.least_cushion.Given as goal
 
 -- the more urgent cells so far stand ahead

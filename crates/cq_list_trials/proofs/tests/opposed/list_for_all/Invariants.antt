@@ -1,5 +1,4 @@
-use Rattle.std.proofs.Common.{◌≡◌, ◌+◌, length}
-use Rattle.cq_base.specs.Cells.{ArrivedBefore}
+use Rattle.cq_list_trials.proofs.Terms.{◌≡◌, ◌+◌, length, ArrivedBefore}
 use Rattle.cq_list_trials.proofs.tests.opposed.list_for_all.Given as goal
 
 -- the cells for the outputs before this one are in

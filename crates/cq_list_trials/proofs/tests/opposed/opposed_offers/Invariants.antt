@@ -1,5 +1,4 @@
-use Rattle.std.proofs.Common.{◌≡◌, length}
-use Rattle.std.specs.Prelude.{All}
+use Rattle.cq_list_trials.proofs.Terms.{◌≡◌, length, All}
 use Rattle.cq_list_trials.proofs.tests.opposed.opposed_offers.Given as goal
 
 -- there is a list for each input before this one

@@ -1,4 +1,4 @@
-use Rattle.std.proofs.Common.{ℕ, List, get_or, length, sym, subst, arith, ap}
+use Rattle.cq_list_trials.proofs.Terms.{ℕ, List, get_or, length, sym, subst, arith, ap}
 use Rattle.cq_prefs.specs.Proposals.{IsFree}
 use Rattle.cq_pair.proofs.Reached.{free-shown}
 use Rattle.cq_list_trials.proofs.tests.pair.proposed.Goals as goal

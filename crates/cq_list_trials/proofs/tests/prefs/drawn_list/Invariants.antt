@@ -1,5 +1,4 @@
-use Rattle.std.proofs.Common.{◌≡◌, ◌+◌}
-use Rattle.cq_base.specs.Cells.{ArrivedBefore}
+use Rattle.cq_list_trials.proofs.Terms.{◌≡◌, ◌+◌, ArrivedBefore}
 use Rattle.cq_list_trials.proofs.tests.prefs.drawn_list.Given as goal
 
 -- the cells of the slots before this one are in, and there is room for the rest

@@ -1,5 +1,4 @@
-use Rattle.std.proofs.Common.{◌≡◌}
-use Rattle.cq_prefs.specs.Orders.{ports}
+use Rattle.cq_list_trials.proofs.Terms.{◌≡◌, ports}
 use Rattle.cq_list_trials.proofs.tests.prefs.drawn_lists_are_read_as_a_slow_reading_says.Given as goal
 
 -- the offers are of so many ports

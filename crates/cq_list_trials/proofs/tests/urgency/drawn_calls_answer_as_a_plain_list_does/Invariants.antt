@@ -1,5 +1,4 @@
-use Rattle.std.proofs.Common.{◌≡◌, ◌+◌, ◌<◌, ◌^◌, length}
-use Rattle.cq_base.specs.Cells.{ArrivedBefore}
+use Rattle.cq_list_trials.proofs.Terms.{◌≡◌, ◌+◌, ◌<◌, ◌^◌, length, ArrivedBefore}
 use Rattle.cq_list_trials.proofs.tests.urgency.drawn_calls_answer_as_a_plain_list_does.Given as goal
 
 -- all cells arrived in earlier slots, and the room is as at the start

@@ -1,5 +1,4 @@
-use Rattle.std.proofs.Common.{◌+◌, sym, subst}
-use Rattle.cq_base.specs.Cells.{ArrivedBefore}
+use Rattle.cq_list_trials.proofs.Terms.{◌+◌, sym, subst, ArrivedBefore}
 use Rattle.cq_list_trials.proofs.Arrived.{arrived_popped}
 use Rattle.cq_list_trials.proofs.tests.urgency.leave.Goals as goal
 

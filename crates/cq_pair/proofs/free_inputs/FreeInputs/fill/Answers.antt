@@ -1,4 +1,4 @@
-use Rattle.std.proofs.Common.{rules, arith}
+use Rattle.cq_pair.proofs.Terms.{rules, arith}
 use Rattle.cq_pair.proofs.Waiting.{offers_if, no_offers_if, offers-more, offers-same, few_offers}
 use Rattle.cq_pair.proofs.free_inputs.FreeInputs.fill.Goals as goal
 

@@ -1,5 +1,4 @@
-use Rattle.std.proofs.Common.{◌≡◌}
-use Rattle.cq_pair.specs.FreeInputs.{inputs_with_offers}
+use Rattle.cq_pair.proofs.Terms.{◌≡◌, inputs_with_offers}
 use Rattle.cq_pair.proofs.free_inputs.FreeInputs.fill.Given as goal
 
 -- the inputs before this one that have an offer are in

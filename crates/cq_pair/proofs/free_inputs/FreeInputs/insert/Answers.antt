@@ -1,5 +1,4 @@
-use Rattle.std.proofs.Common.{arith, rules}
-use Rattle.cq_prefs.proofs.ByKey.{put_is}
+use Rattle.cq_pair.proofs.Terms.{arith, rules, put_is}
 use Rattle.cq_pair.proofs.free_inputs.FreeInputs.insert.Goals as goal
 
 pub returns : goal.returns

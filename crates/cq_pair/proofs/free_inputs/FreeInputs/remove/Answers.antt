@@ -1,5 +1,4 @@
-use Rattle.std.proofs.Common.{rules, ◌-◌, arith}
-use Rattle.cq_prefs.proofs.PutBack.{left_by, not_there}
+use Rattle.cq_pair.proofs.Terms.{rules, ◌-◌, arith, left_by, not_there}
 use Rattle.cq_pair.proofs.Leaving.{last_left}
 use Rattle.cq_pair.proofs.free_inputs.FreeInputs.remove.Goals as goal
 

@@ -1,5 +1,4 @@
-use Rattle.std.proofs.Common.{◌∙◌, ap, take}
-use Rattle.std.proofs.lemmas.List.{take-replicate}
+use Rattle.cq_pair.proofs.Terms.{◌∙◌, ap, take, take-replicate}
 use Rattle.cq_pair.proofs.per_port.PerPort.all.Goals as goal
 
 pub returns : goal.returns

@@ -1,4 +1,4 @@
-use Rattle.std.proofs.Common.{rules, arith}
+use Rattle.cq_pair.proofs.Terms.{rules, arith}
 use Rattle.cq_pair.proofs.Reached.{asked_known, asked_offered, positions_known}
 use Rattle.cq_pair.proofs.proposal_core.Core.asked_by.Goals as goal
 

@@ -1,4 +1,4 @@
-use Rattle.std.proofs.Common.{arith, rules}
+use Rattle.cq_pair.proofs.Terms.{arith, rules}
 use Rattle.cq_pair.proofs.Reached.{reached-begin, start-shown}
 use Rattle.cq_pair.proofs.Waiting.{waiting-first}
 use Rattle.cq_pair.proofs.proposal_core.Core.begin_again.Goals as goal

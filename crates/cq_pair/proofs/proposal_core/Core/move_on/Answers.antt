@@ -1,4 +1,4 @@
-use Rattle.std.proofs.Common.{rules, arith}
+use Rattle.cq_pair.proofs.Terms.{rules, arith}
 use Rattle.cq_pair.proofs.Showing.{free_differ, moves_out, moves_still}
 use Rattle.cq_pair.proofs.proposal_core.Core.move_on.Goals as goal
 

@@ -1,4 +1,4 @@
-use Rattle.std.proofs.Common.{rules, arith}
+use Rattle.cq_pair.proofs.Terms.{rules, arith}
 use Rattle.cq_pair.proofs.Reached.{free_known, places_known}
 use Rattle.cq_pair.proofs.proposal_core.Core.next_output.Goals as goal
 

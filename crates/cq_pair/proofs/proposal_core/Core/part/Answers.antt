@@ -1,4 +1,4 @@
-use Rattle.std.proofs.Common.{rules, arith}
+use Rattle.cq_pair.proofs.Terms.{rules, arith}
 use Rattle.cq_pair.proofs.Showing.{parts_room, parts_back, parts_out}
 use Rattle.cq_pair.proofs.proposal_core.Core.part.Goals as goal
 

@@ -1,6 +1,4 @@
-use Rattle.std.proofs.Common.{rules, ◌≡◌, sym, ◌∙◌, [], arith}
-use Rattle.std.proofs.lemmas.List.{nil_from_length}
-use Rattle.std.proofs.lemmas.Bool.{eqb-true}
+use Rattle.cq_pair.proofs.Terms.{rules, ◌≡◌, sym, ◌∙◌, [], arith, nil_from_length, eqb-true}
 use Rattle.cq_pair.proofs.Reached.{free-shown, best-reached, made-most}
 use Rattle.cq_pair.proofs.proposal_core.Core.settle.Goals as goal
 

@@ -1,6 +1,4 @@
-use Rattle.std.proofs.Common.{◌*◌, ◌-◌}
-use Rattle.cq_prefs.specs.Orders.{ports}
-use Rattle.cq_pair.specs.Progress.{IsReached}
+use Rattle.cq_pair.proofs.Terms.{◌*◌, ◌-◌, ports, IsReached}
 use Rattle.cq_pair.proofs.proposal_core.Core.settle.Given as goal
 
 abbrev pub invariant-loop-order : goal.invariant-loop-order

@@ -1,4 +1,4 @@
-use Rattle.std.proofs.Common.{rules, arith}
+use Rattle.cq_pair.proofs.Terms.{rules, arith}
 use Rattle.cq_pair.proofs.Showing.{free_differ, takes_out, takes_still}
 use Rattle.cq_pair.proofs.proposal_core.Core.take.Goals as goal
 

@@ -1,4 +1,4 @@
-use Rattle.std.proofs.Common.{arith, rules}
+use Rattle.cq_pcap.proofs.Terms.{arith, rules}
 use Rattle.cq_pcap.proofs.SpeltIsRead.{spelt_is_read}
 use Rattle.cq_pcap.proofs.capture.Capture.of_rows.Goals as goal
 

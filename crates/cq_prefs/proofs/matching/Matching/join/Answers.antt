@@ -1,5 +1,4 @@
-use Rattle.std.proofs.Common.{rules, arith}
-use Rattle.std.proofs.Math.Seq.{take-set-lt}
+use Rattle.cq_prefs.proofs.Terms.{rules, arith, take-set-lt}
 use Rattle.cq_prefs.proofs.Padded.{IsPadded-set}
 use Rattle.cq_prefs.proofs.Pairs.{joined_pairs}
 use Rattle.cq_prefs.proofs.matching.Matching.join.Goals as goal

@@ -1,5 +1,4 @@
-use Rattle.std.proofs.Common.{arith, rules, ℕ, Option, None}
-use Rattle.std.proofs.lemmas.List.{take-replicate}
+use Rattle.cq_prefs.proofs.Terms.{arith, rules, ℕ, Option, None, take-replicate}
 use Rattle.cq_prefs.proofs.Padded.{IsPadded-none}
 use Rattle.cq_prefs.proofs.Pairs.{no_pairs}
 use Rattle.cq_prefs.proofs.matching.Matching.none.Goals as goal

@@ -1,7 +1,5 @@
-use Rattle.std.proofs.Common.{rules, ◌≡◌, length, sym, subst, arith}
-use Rattle.cq_list.specs.InputList.{cells_of}
-use Rattle.cq_prefs.specs.FirstCells.{AreOrdersOf}
-use Rattle.cq_prefs.proofs.Fill.{Made, made_more, orders_made, offers_made}
+use Rattle.cq_prefs.proofs.Terms.{rules, ◌≡◌, length, sym, subst, arith, cells_of, AreOrdersOf}
+use Rattle.cq_prefs.proofs.Renewing.{Made, made_more, orders_made, offers_made}
 use Rattle.cq_prefs.proofs.InputOrder.{are_orders}
 use Rattle.cq_prefs.proofs.offers.Offers.fill.Goals as goal
 

@@ -1,8 +1,5 @@
-use Rattle.std.proofs.Common.{◌≡◌, ◌≤◌, length, map}
-use Rattle.std.specs.Prelude.{All}
-use Rattle.cq_list.specs.InputList.{AreWaiting}
-use Rattle.cq_prefs.specs.FirstCells.{output_order}
-use Rattle.cq_prefs.proofs.Fill.{Made}
+use Rattle.cq_prefs.proofs.Terms.{◌≡◌, ◌≤◌, length, map, All, AreWaiting, output_order}
+use Rattle.cq_prefs.proofs.Renewing.{Made}
 use Rattle.cq_prefs.proofs.offers.Offers.fill.Given as goal
 
 -- all lists are read, and the orders of the outputs before this one are made

@@ -1,13 +1,9 @@
-use Rattle.std.proofs.Common.{rules, ◌≡◌, ◌+◌, ℕ, Some, sym, ◌∙◌, subst, arith}
-use Rattle.cq_list.specs.InputList.{cells_of}
-use Rattle.cq_prefs.specs.FirstCells.{orders_of}
-use Rattle.cq_prefs.specs.Orders.{Orders}
+use Rattle.cq_prefs.proofs.Terms.{rules, ◌≡◌, ◌+◌, ℕ, Some, sym, ◌∙◌, subst, arith, cells_of, orders_of, Orders, AreSameWithout}
 use Rattle.cq_prefs.specs.declared.offers.Offers.TheInside.{Inside}
 use Rattle.cq_prefs.proofs.InputOrder.{are_orders}
-use Rattle.cq_prefs.proofs.Renewing.{Renewing, Next, none_renewed, none_more, all_renewed, still_offers, row_asks, row_renewed, column_asks, next_renewed}
+use Rattle.cq_prefs.proofs.Renewing.{Renewing, Next, none_renewed, none_more, all_renewed, still_offers, row_asks, column_asks, next_renewed}
 use Rattle.cq_prefs.proofs.offers.Offers.renew.Goals as goal
 use Rattle.cq_prefs.proofs.offers.Offers.renew.Goals.{After-partner_of, After-inputs, in-Some, in_default}
-use Rattle.cq_prefs.specs.Renewal.{AreSameWithout}
 
 abbrev shown : Inside → Orders
 shown s = record { outputs = s.by_input.items; inputs = s.by_output.items }
@@ -26,15 +22,13 @@ next c j is = search (arith, rules, still_offers)
 
 pub renew_outputs-requires : goal.renew_outputs-requires
 renew_outputs-requires c =
-    let asks = row_asks _ _ _ _ _ _
-    (next (goal.at.renew_outputs-requires c).After-partner_of c.in-Some.output c.in-Some.is)
-    c.index_mut.result.now c.index-lists-at.result c.index_mut.ensures.value c.index-lists-at.is in
+    let asks = row_asks (next (goal.at.renew_outputs-requires c).After-partner_of c.in-Some.output c.in-Some.is)
+    c.index_mut.result.now c.index-lists-at.result c.index-lists-at.is c.index_mut.ensures.value in
     record { differ = asks.0; others = asks.1; few = asks.2 }
 
 pub renew_inputs-requires : goal.renew_inputs-requires
 renew_inputs-requires c =
-    let asks = column_asks _ _ _ _ _ _
-    (next (goal.at.renew_inputs-requires c).After-partner_of c.in-Some.output c.in-Some.is)
+    let asks = column_asks (next (goal.at.renew_inputs-requires c).After-partner_of c.in-Some.output c.in-Some.is)
     c.index_mut-in-Some.result.now c.index_mut-in-Some.ensures.value in
     record { differ = asks.0; others = asks.1; few = asks.2; keys = c.requires.keys }
 
@@ -46,10 +40,9 @@ inputs-preserved c =
     elim c.match-partner_of.branch [
       | in-Some w ↦
           let x = next (goal.at.inputs-preserved c).After-partner_of w.in-Some.output w.in-Some.is in
-          subst (λ (s : Inside). Renewing m (n + 1) (shown s) t) (sym w.self-inside-is) (next_renewed m n
-          w.in-Some.output _ _ c.args.lists.now x w.renew_outputs.new.order w.renew_inputs.new.order
-          (row_renewed m n w.in-Some.output _ _ c.args.lists.now x w.renew_outputs.new.order
-          w.index-lists-at.result w.index-lists-at.is w.renew_outputs.ensures) w.renew_inputs.ensures)
+          subst (λ (s : Inside). Renewing m (n + 1) (shown s) t) (sym w.self-inside-is)
+          (next_renewed x w.renew_outputs.new.order w.index-lists-at.result w.index-lists-at.is
+          w.renew_inputs.new.order w.renew_outputs.ensures w.renew_inputs.ensures)
       | in_default w ↦ subst (λ (s : Inside). Renewing m (n + 1) (shown s) t) (sym w.self-inside-is)
           (none_more m n _ t c.inputs.invariant (sym c.partner_of.ensures.partner ∙ w.in_default.is))
     ]

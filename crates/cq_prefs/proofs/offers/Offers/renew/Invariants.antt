@@ -1,6 +1,4 @@
-use Rattle.cq_list.specs.InputList.{cells_of}
-use Rattle.cq_prefs.specs.FirstCells.{orders_of}
-use Rattle.cq_prefs.specs.Orders.{Orders}
+use Rattle.cq_prefs.proofs.Terms.{cells_of, orders_of, Orders}
 use Rattle.cq_prefs.proofs.Renewing.{Renewing}
 use Rattle.cq_prefs.proofs.offers.Offers.renew.Given as goal
 

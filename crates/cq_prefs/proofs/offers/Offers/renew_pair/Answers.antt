@@ -1,9 +1,6 @@
-use Rattle.std.proofs.Common.{arith, rules, ◌≡◌, set}
-use Rattle.cq_list.specs.InputList.{cells_of}
-use Rattle.cq_prefs.specs.FirstCells.{orders_of}
+use Rattle.cq_prefs.proofs.Terms.{arith, rules, ◌≡◌, set, cells_of, orders_of}
 use Rattle.cq_prefs.proofs.InputOrder.{are_orders}
-use Rattle.cq_prefs.proofs.Renewing.{Next, row_asks, column_asks}
-use Rattle.cq_prefs.proofs.RenewingOne.{pair_of, pair_next, pair_renewed}
+use Rattle.cq_prefs.proofs.Renewing.{Next, row_asks, column_asks, pair_of, pair_next, pair_renewed}
 use Rattle.cq_prefs.proofs.offers.Offers.renew_pair.Goals as goal
 use Rattle.cq_prefs.proofs.offers.Offers.renew_pair.Goals.{After-index-lists-at, After-self-2-1}
 
@@ -15,13 +12,13 @@ next c = search (arith, rules, pair_next)
 
 pub renew_outputs-requires : goal.renew_outputs-requires
 renew_outputs-requires c =
-    let asks = row_asks _ _ _ _ _ _ (next (goal.at.renew_outputs-requires c).After-index-lists-at)
-    c.index_mut.result.now c.index-lists-at.result c.index_mut.ensures.value c.index-lists-at.is in
+    let asks = row_asks (next (goal.at.renew_outputs-requires c).After-index-lists-at)
+    c.index_mut.result.now c.index-lists-at.result c.index-lists-at.is c.index_mut.ensures.value in
     record { differ = asks.0; others = asks.1; few = asks.2 }
 
 pub renew_inputs-requires : goal.renew_inputs-requires
 renew_inputs-requires c =
-    let asks = column_asks _ _ _ _ _ _ (next (goal.at.renew_inputs-requires c).After-index-lists-at)
+    let asks = column_asks (next (goal.at.renew_inputs-requires c).After-index-lists-at)
     c.index_mut-2.result.now c.index_mut-2.ensures.value in
     record { differ = asks.0; others = asks.1; few = asks.2; keys = c.requires.keys }
 

@@ -1,6 +1,4 @@
-use Rattle.std.proofs.Common.{arith, ◌≡◌, ◌+◌, ◌*◌, set, get_or, None, Some, ap, ◌∙◌, rules}
-use Rattle.cq_reasm.specs.Open.{with_piece}
-use Rattle.cq_reasm.specs.Joining.{open_at, with_open}
+use Rattle.cq_reasm.proofs.Terms.{arith, ◌≡◌, ◌+◌, ◌*◌, set, get_or, None, Some, ap, ◌∙◌, rules, with_piece, open_at, with_open}
 use Rattle.cq_reasm.proofs.Joins.{taken_before, open_is, left_is, closed_again, closed_by_last, others_kept}
 use Rattle.cq_reasm.proofs.joiner.Joiner.take_reserving.Goals as goal
 

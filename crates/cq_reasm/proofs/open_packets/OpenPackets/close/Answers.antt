@@ -1,4 +1,4 @@
-use Rattle.std.proofs.Common.{set, None, ap, ◌∙◌}
+use Rattle.cq_reasm.proofs.Terms.{◌∙◌}
 use Rattle.cq_reasm.proofs.Tables.{inside_keys, key_at, none_at, closed_already, closed_table, closed_seen}
 use Rattle.cq_reasm.proofs.open_packets.OpenPackets.close.Goals as goal
 
@@ -11,17 +11,9 @@ returns-in_err-key-clause-closed c =
     (key_at keys c.args.place c.index.result.now inside c.index.ensures ∙ c.in_err-key.was {u = tt}))
 
 pub invariant_of-self : goal.invariant_of-self
-invariant_of-self c =
-    let keys = c.self.inside.keys.items in
-    let inside = inside_keys c.self.inside.packets keys c.args.self.now c.args.place c.self.view_is c.requires in
-    closed_table c.self.inside.packets c.finish.new.packets keys c.args.place c.in_ok-key.key c.self.invariant inside
-    c.finish.ensures.others
-    (key_at keys c.args.place c.index.result.now inside c.index.ensures ∙ c.in_ok-key.was) c.finish.ensures.gone
+invariant_of-self c = closed_table c.self.inside.packets c.finish.new.packets _ _ _ _ c.self.invariant c.self.view_is
+    c.requires c.finish.ensures.others _ c.index.ensures c.in_ok-key.was c.finish.ensures.gone
 
 pub returns-clause-closed : goal.returns-clause-closed
-returns-clause-closed c =
-    let keys = c.self.inside.keys.items in
-    let inside = inside_keys c.self.inside.packets keys c.args.self.now c.args.place c.self.view_is c.requires in
-    closed_seen c.self.inside.packets c.finish.new.packets keys c.args.place c.in_ok-key.key c.self.invariant inside
-    c.finish.ensures.others (key_at keys c.args.place c.index.result.now inside c.index.ensures ∙ c.in_ok-key.was)
-    ∙ ap (λ seen. set seen c.args.place None) c.self.view_is
+returns-clause-closed c = closed_seen c.self.inside.packets c.finish.new.packets _ _ _ _ c.self.invariant c.self.view_is
+    c.requires c.finish.ensures.others _ c.index.ensures c.in_ok-key.was

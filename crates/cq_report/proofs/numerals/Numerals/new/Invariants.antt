@@ -1,4 +1,4 @@
-use Rattle.std.proofs.Common.{◌≡◌, ℕ, ◌<◌, length, slice_index_or}
+use Rattle.cq_report.proofs.Terms.{◌≡◌, ℕ, ◌<◌, length, slice_index_or}
 use Rattle.cq_report.specs.Numerals.{IsNumeral}
 use Rattle.cq_report.specs.declared.numerals.Numeral.{Numeral}
 use Rattle.cq_report.proofs.numerals.Numerals.new.Given as goal

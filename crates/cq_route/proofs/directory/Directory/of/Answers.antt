@@ -1,5 +1,4 @@
-use Rattle.std.proofs.Common.{arith, rules}
-use Rattle.std.proofs.lemmas.List.{take_all}
+use Rattle.cq_route.proofs.Terms.{arith, rules, take_all}
 use Rattle.cq_route.proofs.Listed.{AreListed, directory_is, listed_more, none_listed}
 use Rattle.cq_route.proofs.directory.Directory.of.Goals as goal
 

@@ -1,4 +1,4 @@
-use Rattle.std.proofs.Common.{take}
+use Rattle.cq_route.proofs.Terms.{take}
 use Rattle.cq_route.proofs.Listed.{AreListed}
 use Rattle.cq_route.proofs.directory.Directory.of.Given as goal
 

@@ -1,5 +1,4 @@
-use Rattle.std.proofs.Common.{arith, rules, ap, sym, ◌∙◌}
-use Rattle.cq_route.specs.Route.{output_for}
+use Rattle.cq_route.proofs.Terms.{arith, rules, ap, sym, ◌∙◌, output_for}
 use Rattle.cq_route.proofs.Listed.{goes_to, goes_nowhere}
 use Rattle.cq_route.proofs.directory.Directory.output_for.Goals as goal
 

@@ -1,8 +1,5 @@
-use Rattle.std.proofs.Common.{Bor, rules, tests}
-use Rattle.std.proofs.lemmas.Iterator.{YieldsList-from_slice}
-use Rattle.std.proofs.lemmas.Iterator.Search.{find_from_yields_List}
+use Rattle.cq_route.proofs.Terms.{Bor, rules, tests, YieldsList-from_slice, find_from_yields_List, is_met}
 use Rattle.cq_route.specs.declared.tables.RuleRow.{RuleRow}
-use Rattle.cq_route.specs.Route.{is_met}
 use Rattle.cq_route.proofs.Found.{taken, missed}
 use Rattle.cq_route.proofs.tables.Tables.class_for.Goals as goal
 

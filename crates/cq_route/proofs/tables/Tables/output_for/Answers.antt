@@ -1,8 +1,4 @@
-use Rattle.std.proofs.Common.{Bor, rules, tests}
-use Rattle.std.proofs.lemmas.Iterator.{YieldsList-from_slice}
-use Rattle.std.proofs.lemmas.Iterator.Search.{find_from_yields_List}
-use Rattle.cq_route.specs.declared.tables.AddressRow.{AddressRow}
-use Rattle.cq_route.specs.Route.{is_to}
+use Rattle.cq_route.proofs.Terms.{Bor, rules, tests, YieldsList-from_slice, find_from_yields_List, AddressRow, is_to}
 use Rattle.cq_route.proofs.Found.{taken, missed}
 use Rattle.cq_route.proofs.tables.Tables.output_for.Goals as goal
 

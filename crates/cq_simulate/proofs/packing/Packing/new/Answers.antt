@@ -1,4 +1,4 @@
-use Rattle.std.proofs.Common.{arith, rules}
+use Rattle.cq_simulate.proofs.Terms.{arith, rules}
 use Rattle.cq_simulate.proofs.packing.Packing.new.Goals as goal
 
 pub returns : goal.returns

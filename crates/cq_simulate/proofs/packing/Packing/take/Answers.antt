@@ -1,4 +1,4 @@
-use Rattle.std.proofs.Common.{arith, rules}
+use Rattle.cq_simulate.proofs.Terms.{arith, rules}
 use Rattle.cq_simulate.proofs.AllPacked.{none_left}
 use Rattle.cq_simulate.proofs.packing.Packing.take.Goals as goal
 

@@ -1,4 +1,4 @@
-use Rattle.std.proofs.Common.{◌≡◌, length}
+use Rattle.cq_slot_trials.proofs.Terms.{◌≡◌, length}
 use Rattle.cq_slot_trials.proofs.tests.engine.drawn_slots.Given as goal
 
 -- the slots so far

@@ -1,4 +1,4 @@
-use Rattle.std.proofs.Common.{◌+◌, rules, arith}
+use Rattle.cq_slot_trials.proofs.Terms.{◌+◌, rules, arith}
 use Rattle.cq_slot_trials.proofs.tests.engine.run.Goals as goal
 
 pub slots-init : goal.slots-init

@@ -1,6 +1,4 @@
-use Rattle.std.proofs.Common.{◌≡◌, ℕ, ◌+◌, ◌*◌, ◌^◌, ◌<◌, map}
-use Rattle.cq_ideal.specs.Limiter.{CanCount}
-use Rattle.cq_slot_trials.specs.Trial.{HasGrown, IsOnTrial}
+use Rattle.cq_slot_trials.proofs.Terms.{◌≡◌, ℕ, ◌+◌, ◌*◌, ◌^◌, ◌<◌, map, CanCount, HasGrown, IsOnTrial}
 use Rattle.cq_slot_trials.proofs.tests.engine.run.Given as goal
 
 abbrev pub invariant-slots : goal.invariant-slots

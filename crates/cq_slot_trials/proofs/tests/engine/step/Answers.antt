@@ -1,7 +1,4 @@
-use Rattle.std.proofs.Common.{ℕ, ◌+◌, ◌*◌, ◌^◌, ◌<◌, arith, map, subst, sym}
-use Rattle.std.proofs.lemmas.Result.{on_ok_weaker}
-use Rattle.cq_ideal.specs.Limiter.{CanCount}
-use Rattle.cq_engine.specs.Engine.{HasGoneOn}
+use Rattle.cq_slot_trials.proofs.Terms.{ℕ, ◌+◌, ◌*◌, ◌^◌, ◌<◌, arith, map, subst, sym, on_ok_weaker, CanCount, HasGoneOn}
 use Rattle.cq_slot_trials.proofs.EngineSlots.{buffer_room, counts_after, grown_after, list_room, on_both}
 use Rattle.cq_slot_trials.proofs.tests.engine.step.Goals as goal
 

@@ -1,7 +1,4 @@
-use Rattle.std.proofs.Common.{◌+◌, ap, rules, subst, sym, arith}
-use Rattle.cq_ideal.specs.Ideal.{IdealSwitch}
-use Rattle.cq_ideal.specs.Limiter.{CanCount}
-use Rattle.cq_ideal.proofs.Counting.{zero_fits}
+use Rattle.cq_slot_trials.proofs.Terms.{◌+◌, ap, rules, subst, sym, arith, IdealSwitch, CanCount, zero_fits}
 use Rattle.cq_slot_trials.proofs.tests.ideal.departures.Goals as goal
 
 pub slots-init : goal.slots-init

@@ -1,7 +1,4 @@
-use Rattle.std.proofs.Common.{◌≡◌, ℕ, ◌+◌, ◌*◌, ◌<◌, ◌≤◌, false, length, map}
-use Rattle.cq_rank.specs.Switch.{class_count}
-use Rattle.cq_ideal.specs.Ideal.{spare_at}
-use Rattle.cq_ideal.specs.Limiter.{CanCount}
+use Rattle.cq_slot_trials.proofs.Terms.{◌≡◌, ℕ, ◌+◌, ◌*◌, ◌<◌, ◌≤◌, false, length, map, class_count, spare_at, CanCount}
 use Rattle.cq_slot_trials.proofs.tests.ideal.departures.Given as goal
 
 abbrev pub invariant-slots : goal.invariant-slots

@@ -1,10 +1,4 @@
-use Rattle.std.proofs.Common.{◌≡◌, ◌<◌, ◌≤◌, ℕ, length, map, sym, subst, arith}
-use Rattle.cq_rank.specs.Switch.{class_count}
-use Rattle.cq_ideal.specs.Ideal.{marked_state}
-use Rattle.cq_ideal.specs.Limiter.{CanCount}
-use Rattle.cq_ideal.specs.LimitedIdeal.{ideal_held}
-use Rattle.cq_ideal.specs.Ranking.{AreForPorts}
-use Rattle.cq_ideal.proofs.Counting.{counts_fit}
+use Rattle.cq_slot_trials.proofs.Terms.{◌≡◌, ◌<◌, ◌≤◌, ℕ, length, map, sym, subst, arith, class_count, marked_state, CanCount, ideal_held, AreForPorts, counts_fit}
 use Rattle.cq_slot_trials.proofs.Arriving.{admitted_most, count_most, refusals_most}
 use Rattle.cq_slot_trials.proofs.IdealSlots.{after_slot}
 use Rattle.cq_slot_trials.proofs.tests.ideal.step.Goals as goal

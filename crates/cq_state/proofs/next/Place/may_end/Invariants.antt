@@ -1,4 +1,4 @@
-use Rattle.std.proofs.Common.{length}
+use Rattle.cq_state.proofs.Terms.{length}
 use Rattle.cq_state.proofs.Due.{EndsHere}
 use Rattle.cq_state.proofs.next.Place.may_end.Given as goal
 

@@ -1,4 +1,4 @@
-use Rattle.std.proofs.Common.{arith, rules}
+use Rattle.cq_stream.proofs.Terms.{arith, rules}
 use Rattle.cq_stream.proofs.Closing.{closes}
 use Rattle.cq_stream.proofs.intake.Intake.close.Goals as goal
 

@@ -1,5 +1,4 @@
-use Rattle.std.proofs.Common.{rules, arith}
-use Rattle.std.proofs.lemmas.List.{length-map}
+use Rattle.cq_urgency.proofs.Terms.{rules, arith, length-map}
 use Rattle.cq_urgency.proofs.Placed.{kept, as_many_counts, counts_ahead, counts_all}
 use Rattle.cq_urgency.proofs.blocks.Blocks.ahead.Goals as goal
 

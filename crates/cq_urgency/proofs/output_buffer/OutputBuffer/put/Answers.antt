@@ -1,5 +1,4 @@
-use Rattle.std.proofs.Common.{rules, arith}
-use Rattle.cq_urgency.proofs.Rising.{rising_put, length_put}
+use Rattle.cq_urgency.proofs.Terms.{rules, arith, rising_put, length_put}
 use Rattle.cq_urgency.proofs.output_buffer.OutputBuffer.put.Goals as goal
 
 pub invariant_of-self : goal.invariant_of-self

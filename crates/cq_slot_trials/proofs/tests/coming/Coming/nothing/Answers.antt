@@ -1,5 +1,4 @@
-use Rattle.std.proofs.Common.{sym, subst}
-use Rattle.cq_ideal.specs.Ranking.{AreForPorts}
+use Rattle.cq_slot_trials.proofs.Terms.{sym, subst, AreForPorts}
 use Rattle.cq_slot_trials.proofs.Arriving.{for_ports_none}
 use Rattle.cq_slot_trials.proofs.tests.coming.Coming.nothing.Goals as goal
 

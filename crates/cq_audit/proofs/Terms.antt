@@ -1,0 +1,51 @@
+-- The words of this crate's proofs that stand elsewhere, each passed on from its place.
+pub use Rattle.cq_base.proofs.Library.{AllByRecursion, Bool, Err, IfErr, IfSome, IsOk, IsTrue, List, None, Ok, OnOk, Option, Result, Some, YieldsList-from_slice, [], and_from, and_left, and_parts, and_right, ap, append-nil, append_assoc, append_cancel_left, arith, cases_Bool, cases_eq, cases_lt, cases_order, common_steps, cond-false, cond_both, cons_option, drop, eq-eqb, eqb, eqb-true, err_from_is_err_and, ext_get_or, false, false_from_ne_true, filter, filter-append, filter_map, find_from_yields_List, get_or, get_or-map-range_with_len, get_or-set_other, get_or-set_same, get_or_past, inl, inr, le-ltb, length, length-append, length-map, length-map-range_with_len, length-replicate, length-set, lit≤, lt-ltb, ltb-true, map, min, ne_eqb, not, option_map, position_or_len, range_with_len, refl, replicate, rules, slice_get, subst, suc, sym, take, take-append-drop, take-append-le, take-take, take_all, take_rest, tests, true, zero, ℕ, ⊎_elim, ⊤, ◌*◌, ◌++◌, ◌+◌, ◌-◌, ◌<◌, ◌^◌, ◌↔◌, ◌∙◌, ◌∷◌, ◌≡◌, ◌≢◌, ◌≤◌, ◌⊎◌}
+pub use Rattle.cq_base.proofs.Lists.{all_at, all_insert, all_left, first_here, first_later}
+pub use Rattle.cq_base.specs.Arrivals.{arrival_at, no_arrivals}
+pub use Rattle.cq_base.specs.Arriving.{Arrival, arriving, end_of, enough}
+pub use Rattle.cq_base.specs.Cells.{first_for, is_for}
+pub use Rattle.cq_base.specs.{Room.RoomView, Texts.log_line, declared.cell.Queued.Queued, declared.cell.TagFault.TagFault}
+unfoldable pub use Rattle.cq_base.specs.Texts.{log_of}
+pub use Rattle.cq_cells.specs.Traffic.{IsInRange, IsShort, IsTraffic, is_from, is_to, number_of}
+pub use Rattle.cq_rank.specs.Switch.{AreForOneSwitch, class_count}
+pub use Rattle.cq_scfq.specs.Disciplines.{machines_of, openings_of}
+pub use Rattle.cq_ideal.proofs.Admitted.{admitted_arrives, admitted_for_ports}
+pub use Rattle.cq_ideal.proofs.Parted.{arriving_length, arriving_parts}
+pub use Rattle.cq_ideal.specs.Admission.{Marked, admitted, marked, marks_after, marks_down}
+unfoldable pub use Rattle.cq_ideal.specs.Admission.{admission}
+pub use Rattle.cq_ideal.specs.{Ending.first_slots, Ideal.count_for, LimitedEnding.whole_limited_run, LimitedIdeal.empty_limited}
+unfoldable pub use Rattle.cq_ideal.specs.Ending.{arriving_from}
+pub use Rattle.cq_ideal.specs.Ranking.{AreForPorts, ranking}
+pub use Rattle.cq_lines.proofs.Going.{SoFar, one_line_more}
+pub use Rattle.cq_lines.specs.Texts.{Leads}
+pub use Rattle.cq_audit.specs.Audit.{IsAuditExact, IsNo, IsNoOf, IsReadNo, IsYes, opening_fabric, phase_refusal, refusal_of, unread}
+pub use Rattle.cq_audit.specs.Phase.{AllBehind, AreOfPhase, AreParted, AreRight, IsBlocking, IsFirstWrong, IsPhaseExact, IsPhaseFault, IsStableTold, IsWrongLine, NoneBefore, RiseByInput, first_id, in_phase, is_at, line_of_input, output_told}
+unfoldable pub use Rattle.cq_audit.specs.Phase.{told}
+pub use Rattle.cq_audit.specs.Replay.{CanCome, CanReplay, HasRested, IsInStep, IsMadeAs, IsSlotFault, ReplayView, SlotReplayed, ports_in, shown}
+pub use Rattle.cq_audit.specs.StableRun.{Begins, BeginsFirst, BeginsSecond, IsFaultAt, IsHalfPast, IsLeftAt, IsOfStableRun, Reaches, StableRun, before_slot}
+pub use Rattle.cq_audit.specs.{declared.phase.PhaseFault.PhaseFault, declared.refusal.AuditRefusal.AuditRefusal, declared.replay.SlotFault.SlotFault}
+pub use Rattle.cq_audit.specs.declared.refusal.AuditRefusal.TheVariants.{Left, Line, NoMemory}
+pub use Rattle.cq_list.specs.InputList.{Waiting, cells_of}
+pub use Rattle.cq_prefs.proofs.{OutputOrder.is_output_order, Pairs.nobody}
+pub use Rattle.cq_prefs.specs.FirstCells.{HasCellFor, list_of, orders_of, output_order}
+pub use Rattle.cq_prefs.specs.Moves.{Moves, noted}
+unfoldable pub use Rattle.cq_prefs.specs.Moves.{transfers_of}
+pub use Rattle.cq_prefs.specs.Orders.{IsListed, IsOffered, Orders, place_of, ports, position_of}
+pub use Rattle.cq_prefs.specs.Pairing.{HasBetterInput, HasBetterOutput, IsFreeOutput, IsMatching, IsStable, Partners, partner_of, partner_place, with_pair}
+pub use Rattle.cq_laws.proofs.OneRun.{one_arrival, one_departure, one_transfer, outputs_at, same_record}
+pub use Rattle.cq_laws.proofs.Parted.{reach, run_length, run_of_whole}
+pub use Rattle.cq_laws.proofs.Told.{transfers_tell}
+pub use Rattle.cq_laws.proofs.WholeRuns.{empty_agree, empty_list, empty_together}
+pub use Rattle.cq_laws.specs.Fabric.{Fabric, IsEmptyFabric, empty_fabric, input}
+pub use Rattle.cq_laws.specs.FabricSlot.{FabricSlot, SlotRecord}
+pub use Rattle.cq_laws.specs.LimitedFabric.{IsLimitedFault, LimitedFabricRun, LimitedFabricSlot, LimitedRecord, empty_limited_fabric, fabric_admission, slots_in}
+pub use Rattle.cq_laws.specs.{LimitedQuiet.quiet_limited_slots, SlotBySlot.AfterBy}
+pub use Rattle.cq_laws.specs.Phases.{Arrives, Departs, Transfers}
+unfoldable pub use Rattle.cq_laws.specs.Records.{transfers_in, transfers_of_run}
+pub use Rattle.cq_fabric.proofs.Limits.{admits_are, admitted_room, holds_first, nothing_for, numbers_fit, still_holds}
+pub use Rattle.cq_fabric.specs.Queues.{ComeApart, FitLists, Queues, fabric_of}
+pub use Rattle.cq_traffic.proofs.ForPorts.{arrivals_for, one_found, slots_fit}
+pub use Rattle.cq_traffic.proofs.FromInputs.{arrives_found, come_from, first_more, from_here, from_last, no_more_from, one_if, some_one}
+pub use Rattle.cq_traffic.proofs.Quiet.{quiet_of, quiet_slots}
+pub use Rattle.cq_audit.specs.Terms.{AreInOrder, Cell, Comes, FirstIsLeast, IsBefore, IsLog, IsLogExact, IsLogFault, IsOf, IsReady, IsStill, IsStillUntil, IsTransfer, Machine, RunEnds, Setup, Transfer, numbers_behind}
+pub use Rattle.cq_base.proofs.Each.{all_both, all_front, all_weaker}

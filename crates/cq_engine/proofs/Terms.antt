@@ -1,0 +1,37 @@
+-- The words of this crate's proofs that stand elsewhere, each passed on from its place.
+pub use Rattle.cq_base.proofs.Library.{All, Bool, IfSome, List, None, Ok, Option, Some, [], ap, append-nil, append_assoc, arith, cases_eq, cases_lt, common_steps, cond_both, cons_option, drop, enumerate_from, eq-eqb, eqb, eqb-true, ext_get_or, false, filter, filter_map, get_or, get_or-enumerate_from, get_or-map, get_or-map-range_with_len, get_or-set_other, get_or-set_same, get_or_past, get_or_read, if◌then◌else◌, is_some, length, length-append, length-enumerate_from, length-map, length-map-range_with_len, length-replicate, length-set, list_any, map, map_more, max, min, ne_eqb, option_and_then, option_map, option_to_list, position_or_len, range_with_len, reduce, refl, replicate, row_fits, rules, same_Some, set, slice_get, slice_get-get_or, slice_get_within, slice_set, subst, suc, sum-map, sum_by, sum_by-cons, sym, take, take_all, take_more, true, zero, ℕ, ⊎_elim, ◌*◌, ◌++◌, ◌+◌, ◌-◌, ◌<◌, ◌^◌, ◌∙◌, ◌∷◌, ◌≡◌, ◌≢◌, ◌≤◌}
+pub use Rattle.cq_base.specs.Cells.{EachPair, KeysDiffer, cushion, first_for, is_for}
+pub use Rattle.cq_base.specs.{Room.RoomView, declared.cell.Transfer.Transfer, declared.figures.Figures.Figures, declared.figures.InputFigures.InputFigures}
+pub use Rattle.cq_rank.specs.Switch.{AreForOneSwitch, class_count}
+pub use Rattle.cq_ideal.specs.Admission.{Marked, admitted, marks_after, refused}
+pub use Rattle.cq_ideal.specs.Ideal.{HaveLeft, count_for}
+pub use Rattle.cq_ideal.specs.IdealSlot.{IdealState, all_told, departures_from, fronts, rests}
+unfoldable pub use Rattle.cq_ideal.specs.IdealSlot.{departures_in}
+pub use Rattle.cq_ideal.specs.Limiter.{CanCount, LimiterView}
+pub use Rattle.cq_prefs.specs.FirstCells.{list_of, orders_of, output_order}
+pub use Rattle.cq_prefs.specs.Moves.{Moves, list_taken, noted}
+unfoldable pub use Rattle.cq_prefs.specs.Moves.{transfers_of}
+pub use Rattle.cq_prefs.specs.Orders.{IsListed, Orders, outputs_of, ports}
+pub use Rattle.cq_prefs.specs.Pairing.{IsFreeOutput, IsInputBest, IsStable, Partners, depth, partner_of, partner_place, proposals, spent}
+pub use Rattle.cq_laws.proofs.InputBest.{stable_limited_slot, stable_slot}
+pub use Rattle.cq_laws.proofs.Members.{all_from, among_at}
+pub use Rattle.cq_laws.proofs.WholeRuns.{empty_agree, no_place}
+pub use Rattle.cq_laws.specs.Fabric.{Fabric, IsAmong, IsEmptyFabric, buffer, cushion_of, empty_fabric, input}
+pub use Rattle.cq_laws.specs.Holding.{fabric_held, held_for, waiting_for}
+pub use Rattle.cq_laws.specs.Measures.{either_by, no_figures}
+unfoldable pub use Rattle.cq_laws.specs.Measures.{figures_after, input_after, output_after, proposals_in, slack_on_arrival, slacks}
+pub use Rattle.cq_laws.specs.Phases.{came_to, list_arrived}
+pub use Rattle.cq_fabric.proofs.Changed.{IsChangedTo, all_changed, length-by_place, next_changed, next_kept, still_few}
+pub use Rattle.cq_fabric.proofs.Known.{AreRanked, BuffersHaveRoom, HaveArrived, HaveJudged, HaveMoved, HaveSent, ListsHaveRoom}
+pub use Rattle.cq_fabric.proofs.Limits.{admits_are, admitted_room, held_at, held_long, holds_first, numbers_fit, still_holds}
+pub use Rattle.cq_fabric.proofs.Rested.{rested_agrees, rested_limited_run, still_held}
+pub use Rattle.cq_fabric.proofs.Slot.{alike, arrive, came_newest, came_outputs, can_cross_first, can_cross_second, come, come_apart, depart, few_cross, fill, fits_lists, held_before, keyed, recorded}
+pub use Rattle.cq_fabric.specs.Held.{HoldsFabric}
+pub use Rattle.cq_fabric.specs.Queues.{Queues, fabric_of}
+pub use Rattle.cq_engine.specs.Engine.{CanGoOn, CountsFit, EngineView, HasStopped, HaveBufferRoom, HaveListRoom, IsInStep, IsMadeAs, IsRunning, IsSeen, SlotDone, its_admission, ports_of}
+pub use Rattle.cq_engine.specs.Measuring.{arriving_slack, slack_seen}
+unfoldable pub use Rattle.cq_engine.specs.Measuring.{input_counted, output_counted}
+pub use Rattle.cq_engine.specs.Straight.{AreApart, AreSent, GoStraight, crossing, input_passed}
+unfoldable pub use Rattle.cq_engine.specs.Straight.{crossings}
+pub use Rattle.cq_engine.specs.declared.measure.Look.{Look}
+pub use Rattle.cq_engine.specs.Terms.{AreForPorts, Cell, FabricSlot, Machine, OutputFigures, Queued, SlotRecord, fabric_in, ranking}

@@ -1,0 +1,44 @@
+-- The words of this crate's proofs that stand elsewhere, each passed on from its place.
+pub use Rattle.cq_base.proofs.Library.{All, All-from_recursion, All-push, AllByRecursion, AllPass-from_list_all, Bool, FnReturnsAt, IfOk-weaker, IfSome, IsTrue, List, None, Ok, Option, Some, [], and_left, and_right, ap, append-nil, arith, cases_Bool, cases_eq, cases_lt, common_steps, cond, cond_both, drop, drop-drop, drop-set-lt, drop_all, enumerate_from, eq-eqb, eqb, eqb-true, ext_get_or, false, filter, get_or, get_or-enumerate_from, get_or-map, get_or-map-range_with_len, get_or-replicate, get_or-set_other, get_or-set_same, get_or_default, get_or_past, get_or_read, if◌then◌else◌, inl, inr, insert, is_some, length, length-drop, length-enumerate_from, length-insert, length-map, length-map-range_with_len, length-replicate, length-set, length-take-le, list_all, list_all-from_AllPass, list_all-map, map, ne_eqb, not, position_or_len, refl, replicate, replicate_more, rules, same_Some, set, set-get_or, slice_get, slice_get-get_or, subst, suc, sym, take, take_all, take_more, take_more_set, true, zero, ℕ, ⊎_elim, ◌&&◌, ◌++◌, ◌+◌, ◌-◌, ◌<◌, ◌^◌, ◌↔◌, ◌∙◌, ◌∷◌, ◌≡◌, ◌≢◌, ◌≤◌, ◌⊎◌}
+unfoldable pub use Rattle.cq_base.proofs.Library.{IsDistinct}
+pub use Rattle.cq_base.proofs.Keys.{key_laws}
+pub use Rattle.cq_base.proofs.Lists.{ahead_of_end, all_at, first_here, first_later}
+pub use Rattle.cq_base.specs.Arrivals.{arrival_at, no_arrivals}
+pub use Rattle.cq_base.specs.Cells.{ArrivedBefore, EachPair, HasOtherKey, IsBefore, IsRising, KeepsOrder, MoreUrgentAhead, cushion, first_for, is_for, place_of_arrival, place_of_later, put, with_arrival, without_first}
+pub use Rattle.cq_base.specs.{Key.is_before, declared.cell.Cell.Cell, declared.cell.Queued.Queued, declared.key.Key.Key}
+pub use Rattle.cq_rank.specs.Machine.{Machine}
+pub use Rattle.cq_ideal.proofs.Changed.{at_end, at_place, changed_to, map_next, map_same, next_place, take_next}
+pub use Rattle.cq_ideal.proofs.Refusals.{each_once}
+pub use Rattle.cq_ideal.specs.Admission.{Admission, Marked, admitted, marked, marks_after}
+unfoldable pub use Rattle.cq_ideal.specs.Admission.{admission}
+pub use Rattle.cq_ideal.specs.Ideal.{count_for}
+pub use Rattle.cq_ideal.specs.IdealSlot.{IdealState, all_told, filled, fronts, rests}
+unfoldable pub use Rattle.cq_ideal.specs.IdealSlot.{ideal_slot}
+pub use Rattle.cq_ideal.specs.Limiter.{HoldsLists, LimiterView, held_without}
+pub use Rattle.cq_ideal.specs.Ranking.{AreForPorts, Ranking, ranking}
+pub use Rattle.cq_list.specs.InputList.{Waiting, cells_of}
+pub use Rattle.cq_urgency.specs.OutputBuffer.{Buffered, cells_in}
+pub use Rattle.cq_prefs.proofs.InputOrder.{are_orders}
+pub use Rattle.cq_prefs.specs.FirstCells.{AreOrdersOf, FirstKeysDiffer, HasCellFor, first_key, key_before, list_of, orders_of, output_order}
+pub use Rattle.cq_prefs.specs.Moves.{Moves, list_taken, transfers_of}
+pub use Rattle.cq_prefs.specs.Orders.{Orders, no_offers, ports}
+pub use Rattle.cq_prefs.specs.Pairing.{IsInputBest, IsMatching, IsStable, Partners, partner_of, with_pair}
+pub use Rattle.cq_xbar.proofs.OneEach.{partner_or_free}
+pub use Rattle.cq_xbar.specs.Crossbar.{HaveCells, HaveRoom, MovesRoom, buffer_spare, list_spare}
+pub use Rattle.cq_laws.proofs.Came.{came_cell, came_from, keyed_from}
+pub use Rattle.cq_laws.proofs.Falls.{rest_of}
+pub use Rattle.cq_laws.proofs.Members.{all_from, among_at, among_insert, first_at, left_among}
+pub use Rattle.cq_laws.proofs.Sound.{Sound, not_before_itself}
+pub use Rattle.cq_laws.specs.Agreement.{Agrees, SendsAlike}
+pub use Rattle.cq_laws.specs.Fabric.{Fabric, IsAmong, IsEmptyFabric, buffer, cushion_of, empty_fabric, input}
+pub use Rattle.cq_laws.specs.FabricSlot.{FabricSlot, SlotRecord}
+pub use Rattle.cq_laws.specs.Holding.{held_for, waiting_for}
+unfoldable pub use Rattle.cq_laws.specs.Holding.{fabric_held}
+pub use Rattle.cq_laws.specs.LimitedFabric.{LimitedFabricRun, LimitedFabricSlot, LimitedRecord, fabric_admission}
+pub use Rattle.cq_laws.specs.Phases.{Arrives, Departs, Transfers, came_to, list_arrived}
+pub use Rattle.cq_fabric.specs.Held.{HoldsFabric}
+pub use Rattle.cq_fabric.specs.Queues.{AreSquare, CanCross, ComeApart, Comes, FitEach, FitLists, KeysApart, Queues, Queues as Held, buffer_room, fabric_of, front_of, list_at, list_room, list_with, no_list, popped}
+pub use Rattle.cq_fabric.specs.Telling.{AllAreFilled, AreFilled, IsFilled}
+pub use Rattle.cq_fabric.specs.Terms.{IsNewest}
+pub use Rattle.cq_base.proofs.Putting.{length_put}
+pub use Rattle.cq_laws.proofs.WholeRuns.{empty_list}

@@ -1,0 +1,13 @@
+-- The words of this crate's proofs that stand elsewhere, each passed on from its place.
+pub use Rattle.cq_base.proofs.Library.{All, AllByRecursion, AllPairs, Bool, Err, IfSome, IsInRange, List, None, Ok, Option, Some, YieldsList-from_map, YieldsList-from_range, [], ap, append-nil, append_assoc, arith, cases_eq, common_steps, eq-eqb, false, find, flat_map, get_or, get_or-map-range_with_len, get_or-replicate, items_from_collect, length, length-append, length-map, length-map-range_with_len, length-replicate, length_push, map, map-append, map-range_with_len_more, mod-lt, mul-le, ne_eqb, option_map_or, range_with_len, refl, replicate, replicate-append-replicate, rules, subst, suc, sym, true, zero, ℕ, ◌%◌, ◌&&◌, ◌*◌, ◌++◌, ◌+◌, ◌-◌, ◌/◌, ◌<◌, ◌^◌, ◌∙◌, ◌∷◌, ◌≡◌, ◌≢◌, ◌≤◌}
+pub use Rattle.cq_pcap.specs.Captured.{Captured}
+pub use Rattle.cq_pcap.specs.Written.{IsWritable, read_again, record_of, written}
+pub use Rattle.cq_route.specs.Tables.{AreTables, ports_of}
+pub use Rattle.cq_route.specs.declared.tables.AddressRow.{AddressRow}
+pub use Rattle.cq_gen.specs.Draws.{draw_for}
+unfoldable pub use Rattle.cq_gen.specs.Draws.{first_draws, generator_of}
+pub use Rattle.cq_gen.specs.Packets.{output_address, to_write}
+unfoldable pub use Rattle.cq_gen.specs.Packets.{frame_of, packet_of, packets_to, soak_captures}
+pub use Rattle.cq_gen.specs.Tables.{soak_address, soak_class, soak_kind, soak_port, soak_rule, soak_setup}
+unfoldable pub use Rattle.cq_gen.specs.Tables.{soak_tables}
+pub use Rattle.cq_base.proofs.Each.{counted_more}

@@ -1,0 +1,251 @@
+-- What `run` leaves is audited with a yes. Each file that the configuration has read is none of those that were
+-- written, so over what is left the same tables and captures are judged; the trace and the log stand there as they were
+-- written. The run with input-best matchings is a stable one, and its log is read as what it is spelt from. A yes that
+-- holds is never denied.
+use Rattle.cq_run.proofs.Terms.{rules, ◌≡◌, ◌≢◌, ◌≤◌, ◌^◌, ◌+◌, ◌∙◌, ◌++◌, ℕ, List, [], ◌∷◌, length, Option, None, Some, refl, ap, arith, sym, ◌<◌, map, IfSome, IsOkAnd, Result, Ok, IsOk, length-append, get, AllByRecursion, range_with_len, Arrival, log_of, trace_of, Departure, Transfer, short_is, traffic_is, all_flat, arrivals, arrivals_at, arrivals_of, cell_of, packets_of, start, cells, IsTraffic, IsRecorded, all_weaker, limited_not_more, LimitedRecord, slots_in, Captured, all_both, all_back, classes_of, ports_of, Tables, machines_of, openings_of, as_many_slots, sends_as_ideal, stable_whole, departures_in_run, slots_ran, IsRefusalOf, ideal_departures, ran_ideal, Contents, files_in, read_or_refused, Audit, Denial, Refusal, Aim, Auditing, Denies, Meets, KeepsUp, audited, captures_out, crossed, Reader, ◌>>=◌, captures_in, found_or_missing, ideally_sent, judged, read_or_refused_for, sent_or_tag, tables_in, text_in, all_replaced, PortRow, common_steps, whole_limited_run, empty_limited, RunRefusal, IsAuditHalted, IsAuditPassed, halt_of, length-map-range_with_len}
+use Rattle.cq_audit.proofs.AuditExact.{audit_is_exact}
+use Rattle.cq_audit.proofs.Noted.{stable_log, FitsLine}
+use Rattle.cq_audit.proofs.OneDifference.{trace_is_exact}
+use Rattle.cq_audit.specs.Audit.{IsYes, opening_fabric, IsNo}
+use Rattle.cq_audit.specs.declared.refusal.AuditRefusal.{AuditRefusal}
+use Rattle.cq_audit.specs.declared.refusal.AuditRefusal.TheVariants as of_log
+use Rattle.cq_laws.specs.Records.{transfers_of_run}
+use Rattle.cq_tables.specs.Check.{Refused}
+use Rattle.cq_run.specs.declared.denial.Denial.TheVariants as why
+use Rattle.cq_run.specs.declared.refusal.Refusal.TheVariants as refused
+use Rattle.cq_run.specs.Auditing.{IsDenied, IsLogDenied, halt_for_log}
+use Rattle.cq_run.specs.RunsAudited.{RunsAreAudited}
+use Rattle.cq_run.proofs.Left.{captures_same, last_two, outputs_named, tables_same, untouched}
+use Rattle.cq_run.proofs.NamesApart.{ArePairs, IsUnwritten, names_apart, reads_unwritten, trace_or_log}
+use Rattle.cq_run.proofs.TextRead.{text_is}
+use Rattle.cq_laws.proofs.WholeRuns.{empty_list}
+use Rattle.cq_audit.specs.Trace.{DiffersFirst}
+use Rattle.cq_simulate.proofs.StableRuns.{stable_sends}
+use Rattle.cq_run.specs.declared.stop.Halt.TheVariants as stop
+use Rattle.cq_gen.proofs.Counted.{all_by_counted}
+use Rattle.cq_cells.proofs.Packets.{came_more, few_by, rows_are, length_packet, row_of}
+
+-- ## The numbers of cells fit a line: a capture has few packets, and a packet few cells
+
+module _ (t : Tables) (captures : List (List Captured)) (some : 1 ≤ t.cell_bytes) where
+  -- a cell of a packet as it arrives
+  abbrev arrival_of : ℕ → ℕ → ℕ → Arrival
+  arrival_of input k i = record { slot = start t captures input k + i; cell = cell_of t captures input k i }
+
+  pieces_fit : (input k : ℕ) → k < 2 ^ 32 → (n : ℕ) → n ≤ 2 ^ 32 →
+      AllByRecursion FitsLine (map (arrival_of input k) (range_with_len 0 n))
+  unfolding cell_of
+  pieces_fit input k small n few = all_by_counted FitsLine (arrival_of input k) 0 n (λ i l. (small, omega arith))
+
+  packet_fits : (input k : ℕ) → IsRecorded (packets_of captures input) → k < length (packets_of captures input) →
+      AllByRecursion FitsLine (arrivals_of t captures input k)
+  packet_fits input k recorded inside =
+      let rows = rows_are t captures input some recorded in
+      let many = length-map-range_with_len (row_of t captures input) 0 (length (packets_of captures input)) in
+      let all = few_by t captures input (k + 1) some recorded (omega arith) in
+      let more = ap (λ (l : List Arrival). length l) (came_more t captures input k) in
+      let own = length_packet t captures input k in
+      pieces_fit input k (omega (arith, rows.few, many)) (cells t captures input k)
+      (omega (arith, all, more, own, length-append {A = Arrival}))
+
+  input_fits : (input : ℕ) → IsRecorded (packets_of captures input) →
+      AllByRecursion FitsLine (arrivals_at t captures input)
+  unfolding arrivals_at
+  input_fits input recorded = all_flat FitsLine (arrivals_of t captures input) 0 (length (packets_of captures input))
+      (λ k from inside. packet_fits input k recorded (omega arith))
+
+  pub all_fit : ((i : ℕ) → i < length captures → IsRecorded (packets_of captures i)) →
+      AllByRecursion FitsLine (arrivals t captures)
+  unfolding arrivals
+  all_fit recorded = all_flat FitsLine (arrivals_at t captures) 0 (length captures) (λ input from inside.
+      input_fits input (recorded input (omega arith)))
+
+-- ## The configuration was accepted
+
+read_ok : (x : Result Tables Refused) (t : Tables) → read_or_refused_for x ≡ Ok t → x ≡ Ok t
+read_ok x t h = grind (arith, common_steps)
+
+apart_at : (config : List ℕ) (o : Option (List ℕ)) (t : Tables) →
+    (found_or_missing config o >>= (λ (bytes : List ℕ). read_or_refused_for (read_or_refused bytes))) ≡ Ok t →
+    ArePairs (files_in t)
+apart_at config None t h = absurd (let P : ⊥ = cc h in P)
+apart_at config (Some bytes) t h = names_apart bytes t (read_ok (read_or_refused bytes) t h)
+
+-- so no two names of its tables clash
+apart_in : (config : List ℕ) (m : Contents) (t : Tables) → tables_in config m ≡ Ok t → ArePairs (files_in t)
+apart_in config m t h = apart_at config (get m config) t h
+
+-- ## What was written
+
+module _ (t : Tables) (captures : List (List Captured)) (rs : List LimitedRecord) where
+  abbrev sent : List Departure
+  sent = departures_in_run rs
+
+  abbrev note : List Transfer
+  note = transfers_of_run (slots_in rs)
+
+  abbrev outputs : List (List ℕ × List ℕ)
+  outputs = captures_out t captures sent 0 t.ports
+
+  abbrev files : List (List ℕ × List ℕ)
+  files = outputs ++ (t.trace, trace_of sent) ∷ (t.log, log_of note) ∷ []
+
+  -- what an audit of it aims at
+  abbrev aim : Aim
+  aim = Auditing t captures sent (trace_of sent) (log_of note)
+
+  -- ## A yes
+
+  module _ (keeps : KeepsUp t captures rs) where
+    traffic : IsTraffic (ports_of t.setup) (classes_of t.setup) (arrivals t captures)
+    traffic = traffic_is t captures keeps.given.tables keeps.given.each
+
+    -- a line can name each slot of the run
+    few_slots : length rs ≤ 2 ^ 64
+    few_slots =
+        let came : List Arrival = arrivals t captures in
+        let same : slots_ran t came ≡ length rs = as_many_slots t came rs traffic keeps.runs in
+        omega (arith, limited_not_more, short_is)
+
+    -- its log is that of a stable run
+    log_is : IsYes t.setup t.limits (arrivals t captures) (log_of note)
+    log_is =
+        let came : List Arrival = arrivals t captures in
+        let start = opening_fabric t.setup in
+        let stable = stable_whole t.limits (machines_of t.setup) came start keeps.runs.end rs keeps.runs.runs in
+        record {
+          note = note;
+          read = stable_log (ports_of t.setup) (classes_of t.setup) came traffic
+              (all_fit t captures keeps.given.tables.cell_bytes.0 keeps.given.recorded) t.limits (machines_of t.setup)
+              start keeps.runs.end rs keeps.given.tables.setup.ports.1 few_slots
+              (λ i. empty_list (ports_of t.setup) i) stable;
+          run = record { records = rs; end = keeps.runs.end; runs = stable; moved = refl };
+        }
+
+    meets : Meets aim audited
+    meets = (record { log_is = log_is; trace_is = refl }, refl)
+
+    -- a log of which this holds is refused for nothing
+    never_refused : (e : AuditRefusal) → e ≢ of_log.NoMemory → IsLogDenied t captures (log_of note) e → ⊥
+    never_refused e some denied =
+        let exact = audit_is_exact t.setup t.limits (arrivals t captures) in
+        exact.never_both (log_of note) e some log_is denied
+
+    never_denied : (denial : Denial) → IsDenied t captures sent (trace_of sent) (log_of note) denial → ⊥
+    never_denied why.LongTrace denied = denied
+    never_denied why.LongLog denied = denied
+    never_denied (why.Line n) denied = never_refused (of_log.Line n) (λ e. cc) denied
+    never_denied (why.Transfer slot phase i) denied = never_refused (of_log.Transfer slot phase i) (λ e. cc) denied
+    never_denied (why.Blocking slot phase i j) denied =
+        never_refused (of_log.Blocking slot phase i j) (λ e. cc) denied
+    never_denied (why.Left n) denied = never_refused (of_log.Left n) (λ e. cc) denied
+    never_denied (why.Trace n) denied =
+        let exact = trace_is_exact in exact.differ (trace_of sent) (trace_of sent) n denied.1 refl
+
+    -- ## What is judged of what was left
+
+    module _ (r : Reader) (config : List ℕ) (m left : Contents) (configured : tables_in config m ≡ Ok t)
+        (captured : captures_in r t m ≡ Ok captures) (written : all_replaced files (Some m) ≡ Some left)
+        (stays : AllByRecursion (λ w. w.0 ≢ config) files)
+        (short : AllByRecursion (λ w. length w.1 ≤ 268435456) files) where
+      -- a name that is none of theirs has what it had
+      same_under : (name : List ℕ) → IsUnwritten t name → get left name ≡ get m name
+      same_under name none =
+          let named = outputs_named (λ (n : List ℕ). n ≢ name) t captures sent 0 t.ports none.outputs in
+          untouched files m left name written (all_both (λ w. w.0 ≢ name) outputs _ named (none.trace, (none.log, tt)))
+
+      same_read : (o : Option (List ℕ)) → IfSome o (IsUnwritten t) → IfSome o (λ name. get left name ≡ get m name)
+      same_read None none = tt
+      same_read (Some name) none = same_under name none
+
+      captures_left : captures_in r t left ≡ Ok captures
+      captures_left = captures_same m left r t.limit_bytes 0 t.ports (all_weaker
+          (λ (row : PortRow). IfSome row.read (IsUnwritten t))
+          (λ (row : PortRow). IfSome row.read (λ name. get left name ≡ get m name))
+          (λ row none. same_read row.read none) t.ports (reads_unwritten t (apart_in config m t configured)))
+          ∙ captured
+
+      -- the last two stand there
+      stand_last : (get left t.trace ≡ Some (trace_of sent)) × (get left t.log ≡ Some (log_of note))
+      stand_last = last_two outputs m left t.trace (trace_of sent) t.log (log_of note)
+          (trace_or_log t (apart_in config m t configured)) written
+
+      trace_left : text_in why.LongTrace t.trace left ≡ Ok (trace_of sent)
+      trace_left = text_is (refused.Audit why.LongTrace) t.trace (Some left) (trace_of sent)
+          (all_back (λ w. length w.1 ≤ 268435456) outputs _ short).0 stand_last.0
+
+      log_left : text_in why.LongLog t.log left ≡ Ok (log_of note)
+      log_left = text_is (refused.Audit why.LongLog) t.log (Some left) (log_of note)
+          (all_back (λ w. length w.1 ≤ 268435456) outputs _ short).1.0 stand_last.1
+
+      ideally : ideally_sent t captures ≡ Ok sent
+      ideally = ap sent_or_tag (sends_as_ideal t (arrivals t captures) rs traffic keeps.runs)
+
+      -- the aim is met, and not denied
+      abbrev IsSound : Result Aim Refusal → Type 0
+      IsSound v = IsOkAnd v (λ a. Meets a audited × ((refusal : Refusal) → Denies a refusal → ⊥))
+
+      audited_so : IsSound (judged r (Audit config) left)
+      audited_so = search
+          (arith, rules, meets, never_denied, captures_left, trace_left, log_left, ideally, tables_same, untouched)
+
+-- ## What `run` leaves
+
+pub runs_audited : (r : Reader) → RunsAreAudited r
+unfolding crossed
+runs_audited r config m left plan is =
+    let e = is.emulates in
+    audited_so e.tables e.captures e.records e.keeps_up r config m left e.read.configured e.read.captured
+    (rw e.written at is.written) (rw e.written at is.configuration_stays) (rw e.written at is.short)
+
+-- ## What an audit comes to once the ideal run is there
+
+-- where it has departures, each rank fits
+pub ranks_fit : (t : Tables) (came : List Arrival) (sent : List Departure) → ideal_departures t came ≡ Ok sent →
+    IsOk (whole_limited_run t.limits (machines_of t.setup) came
+    (empty_limited (ports_of t.setup) (openings_of t.setup)))
+unfolding ideal_departures ran_ideal
+ranks_fit t came sent e = search (arith, rules)
+
+module _ (t : Tables) (captures : List (List Captured)) (came : List Arrival) (trace log : List ℕ)
+    (is : came ≡ arrivals t captures) where
+  -- the ideal run has no result
+  pub run_refused : (refusal : RunRefusal) → IsRefusalOf (ideal_departures t came) refusal →
+      IsAuditHalted t captures trace log (halt_of refusal)
+  run_refused refusal h = search (arith, rules)
+
+  module _ (sent : List Departure) (departs : ideal_departures t came ≡ Ok sent) where
+    sends : ideally_sent t captures ≡ Ok sent
+    sends = ap sent_or_tag (ap (ideal_departures t) (sym is) ∙ departs)
+
+    -- a log that is refused
+    pub log_denied : (refusal : AuditRefusal) → IsNo t.setup t.limits came log refusal →
+        IsAuditHalted t captures trace log (halt_for_log refusal)
+    log_denied refusal h = search (arith, rules, sends)
+
+    module _ (yes : IsYes t.setup t.limits came log) where
+      log_stands : IsYes t.setup t.limits (arrivals t captures) log
+      log_stands = rw is at yes
+
+      -- a trace that differs
+      pub trace_denied : (text : List ℕ) (n : ℕ) → text ≡ trace_of sent → DiffersFirst trace text n →
+          IsAuditHalted t captures trace log (stop.Refused (refused.Audit (why.Trace n)))
+      trace_denied text n same differs =
+          let P : List ℕ → Type 0 = λ x. DiffersFirst trace x n in search (arith, rules, sends, log_stands)
+
+      -- the run of the log sends what the ideal switch sends
+      departed : IsTraffic (ports_of t.setup) (classes_of t.setup) came →
+          sent ≡ departures_in_run log_stands.run.records
+      departed traffic =
+          grind (arith, common_steps, stable_sends t (arrivals t captures) log_stands.run.records log_stands.run.end)
+
+      -- and a trace that is the same
+      pub both_passed : (text : List ℕ) → IsTraffic (ports_of t.setup) (classes_of t.setup) came →
+          text ≡ trace_of sent →
+          trace ≡ text → IsAuditPassed t captures trace log
+      both_passed text traffic same equal = record {
+        sent = sent;
+        ideally = sends;
+        meets = record { log_is = log_stands; trace_is = equal ∙ same };
+        departed = departed traffic;
+      }

@@ -1,0 +1,60 @@
+-- The words of this crate's proofs that stand elsewhere, each passed on from its place.
+pub use Rattle.cq_base.proofs.Library.{AllByRecursion, AllPairs, Bool, Bor, Err, Global, IfErr, IfOk, IfSome, IsErr, IsErrAnd, IsErrOf, IsOk, IsOkAnd, IsTrue, List, MatchOption, None, Ok, Option, Result, Some, Vec, [], add-one, and_from, and_left, and_right, ap, append-nil, append_assoc, append_known, arith, bytes_eq, bytes_eq-Decides, cases_eq, codes, common_steps, cond, cond-true, drop, drop_all, drop_more, eq-eqb, eq_by_cmp_equiv, exact_bytes, false, filter, filter-append, find, flat_map, flat_map-append, get, get-insert, get-remove, get_or, if◌then◌else◌, inl, inr, is_some, le-ltb, leb-true, length, length-append, length-drop, length-map-range_with_len, length-take-le, list_any, lt-ltb, map, nat_le, nat_list_cmp_total, nat_lt, nil_from_length, not, not_from_false, option_map, option_map_or, or_parts, range_with_len, recursion_from_All, refl, replicate, rules, slice_index, slice_index_or, string_bytes, subst, suc, sym, take, take-append-add, take-append-drop, take_all, take_at, take_more, tells_apart, true, unwrap_or, vec_len, zero, ℕ, ⊎_elim, ◌&&◌, ◌*◌, ◌++◌, ◌+◌, ◌-◌, ◌<◌, ◌==◌, ◌^◌, ◌∙◌, ◌∷◌, ◌≡◌, ◌≢◌, ◌≤◌, ◌⊎◌}
+pub use Rattle.cq_base.specs.Arriving.{Arrival, arriving, arriving_at, end_of, is_at, traffic_of}
+unfoldable pub use Rattle.cq_base.specs.Arriving.{enough}
+pub use Rattle.cq_base.specs.{declared.cell.Departure.Departure, declared.cell.TagFault.TagFault, declared.cell.Transfer.Transfer}
+pub use Rattle.cq_space.specs.{Call.Call, Causes.Rose}
+pub use Rattle.cq_space.specs.Failing.{Fails, Lasts, Reads, Writes}
+pub use Rattle.cq_space.specs.Space.{Closed, Contents, Mode, Space, bytes_of, replaced}
+pub use Rattle.cq_pcap.specs.Captured.{Captured}
+pub use Rattle.cq_pcap.specs.Faults.{Fault, IsFaulty, fault_of}
+unfoldable pub use Rattle.cq_route.specs.Plain.{plain_tables}
+pub use Rattle.cq_route.specs.Tables.{AreTables, classes_of, ports_of}
+pub use Rattle.cq_route.specs.{declared.tables.PortRow.PortRow, declared.tables.Tables.Tables}
+pub use Rattle.cq_tables.specs.Check.{at, unless}
+unfoldable pub use Rattle.cq_tables.specs.Check.{first}
+pub use Rattle.cq_tables.specs.Document.{Named, apart_from, checks_in, clash, file_check, files_in, files_of, names_of, read_at, read_of, tables_of, top_of, written_at}
+unfoldable pub use Rattle.cq_tables.specs.Document.{read_or_refused}
+pub use Rattle.cq_cells.proofs.Rising.{all_flat, short_is, traffic_is}
+pub use Rattle.cq_cells.specs.Schedule.{arrivals_of, first_stamp, packet_at, packets_of, start}
+unfoldable pub use Rattle.cq_cells.specs.Schedule.{arrivals, arrivals_at, cell_of, cells, cells_of}
+pub use Rattle.cq_cells.specs.Traffic.{IsInRange, IsLater, IsRecorded, IsTraffic}
+pub use Rattle.cq_scfq.specs.Disciplines.{machines_of, openings_of}
+pub use Rattle.cq_ideal.proofs.LimitedEnds.{limited_not_more, run_as_before, same_sent}
+pub use Rattle.cq_ideal.specs.LimitedEnding.{departures_limited, whole_limited_run}
+pub use Rattle.cq_ideal.specs.LimitedIdeal.{LimitedRan, empty_limited, unlimited}
+pub use Rattle.cq_laws.specs.LimitedFabric.{LimitedRecord, slots_in}
+pub use Rattle.cq_simulate.proofs.FabricLaws.{always_slack, as_many_slots, best_in_each, once_each_slot, sends_as_ideal, slot_by_slot, stable_whole}
+pub use Rattle.cq_simulate.specs.FabricRuns.{IsFabricRun, IsKeptOf, departures_in_run, unpacked_run}
+pub use Rattle.cq_simulate.specs.IdealRuns.{IsRefusalOf, slots_ran}
+unfoldable pub use Rattle.cq_simulate.specs.IdealRuns.{ideal_departures, ran_ideal}
+pub use Rattle.cq_simulate.specs.Packets.{ArePacked, LeaveWhole, ends_packet_at, leaving}
+unfoldable pub use Rattle.cq_simulate.specs.Packets.{packets_out}
+pub use Rattle.cq_simulate.specs.{declared.fabric_run.PackedFabricRun.PackedFabricRun, declared.refusal.RunRefusal.RunRefusal}
+pub use Rattle.cq_words.specs.Words.{command_for, most_slots, soak_of, with_three, with_two}
+pub use Rattle.cq_words.specs.declared.command.Command.{Command}
+pub use Rattle.cq_words.specs.declared.command.Command.TheVariants.{Audit, Check, Ideal, Part, Pass, Resume, Run, Soak}
+pub use Rattle.cq_run.specs.Aim.{Aim, Auditing, Crossing, Denies, Exactly, Meets, Parting, Reporting, Resuming}
+pub use Rattle.cq_run.specs.Given.{EndsGiven, IsGiven, judged_of_given}
+pub use Rattle.cq_run.specs.Headline.{AreGiven, AreRead, Emulates, IsAudited, IsEmulation, IsPassage, KeepsUp}
+pub use Rattle.cq_run.specs.Judging.{Halts, IsHaltOf, IsRefused, IsToRead, Judges}
+pub use Rattle.cq_run.specs.Line.{Puts, TakesText}
+unfoldable pub use Rattle.cq_run.specs.Line.{line}
+pub use Rattle.cq_run.specs.Pace.{Ahead, AnyName, InTurn, Pace, Uncounted, pace_of}
+pub use Rattle.cq_run.specs.PartEnds.{IsPartHalt, IsResumeHalt, IsResumedBy, IsResuming, halt_for_state, halt_for_text, kept_by}
+pub use Rattle.cq_run.specs.Parting.{IsPartRefusal, IsPartText, IsResumeRefusal, IsResumedText}
+pub use Rattle.cq_run.specs.Passing.{all_leave, as_it_leaves, capture_of_all}
+pub use Rattle.cq_run.specs.Planning.{CommandHalts, Decides, IsDenial, IsWithinRange, known_by, known_to}
+pub use Rattle.cq_run.specs.Plans.{audited, capture_out, checked, passed, state_written}
+unfoldable pub use Rattle.cq_run.specs.Plans.{captures_out, crossed, reported, resumed, switched}
+pub use Rattle.cq_run.specs.Refusals.{capture_fault, fault_text, in_phase_text, meaning_of}
+pub use Rattle.cq_run.specs.Switching.{IsCrossed, IsCrossing, IsIdeal, IsPassing, IsSent, IsSwitched, halt_for, halt_of, sent_by}
+pub use Rattle.cq_run.specs.Verdict.{MayRead, MayWrite, capture_in, capture_of, captures_in, found_or_missing, ideally_sent, judged, judged_or_words, named, packets_at, read_or_faulty, read_or_refused_for, sent_or_tag, short_in, short_or, state_in, tables_in, text_in, ◌>>=◌}
+unfoldable pub use Rattle.cq_run.specs.Verdict.{captures_from}
+pub use Rattle.cq_run.specs.World.{IsUntouched, Taken, World, taken_by, world}
+pub use Rattle.cq_run.specs.{declared.denial.Denial.Denial, declared.reading.Given.Given, declared.refusal.Refusal.Refusal, declared.stop.Halt.Halt, declared.switching.Crossed.Crossed, declared.switching.Switched.Switched}
+pub use Rattle.cq_run.specs.declared.refusal.Refusal.TheVariants.{Audit as Audited, Capture, Configuration, Missing, State, Words}
+pub use Rattle.cq_run.specs.declared.stop.Halt.TheVariants.{NoMemory, Refused, Unread}
+pub use Rattle.cq_run.specs.Terms.{IsAuditHalted, IsAuditPassed, IsCut, IsCutAtFile, IsDone, IsJudged, Plan, Reader, SameReader, Spells, StatusCauses, all_replaced, decimal, log_of, report_with, soak_captures, soak_tables, taken, trace_of}
+pub use Rattle.cq_base.proofs.Each.{all_back, all_both, all_front, all_weaker}
+pub use Rattle.cq_tables.proofs.Versions.{first_parts}

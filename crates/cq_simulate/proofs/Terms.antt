@@ -1,0 +1,110 @@
+-- The words of this crate's proofs that stand elsewhere, each passed on from its place.
+pub use Rattle.cq_base.proofs.Library.{All, All-from_recursion, All-map, All-push, AllByRecursion, AllPairs, Bool, Err, IfErr-weaker, IfOk, IfOk-weaker, IfSome, IsOkAnd, IsTrue, List, None, Ok, Option, Result, Some, [], and_from, and_left, and_parts, and_right, ap, append-nil, append_assoc, arith, cases_Bool, cases_eq, cases_lt, common_steps, cond, cond-false, cond-true, cond_both, cons_option, div-mul-add, div_ceil_times, drop, drop_more, enumerate_from, eq-eqb, eqb-true, err_from_is_err_and, false, filter, filter-append, filter_map, find, flat_map, flat_map-append, flat_map-map, fold, fold-append, get_or, get_or-map, get_or-map-range_with_len, get_or-replicate, get_or-set_other, get_or-set_same, get_or_default, get_or_from_slice_get, get_or_past, if◌then◌else◌, inl, inr, is_err, is_some, le-leb, le-ltb, leb-false, leb-zero, length, length-append, length-drop, length-filter, length-filter_both, length-insert, length-map, length-map-range_with_len, length-replicate, length-set, list_any, lt-leb, lt-ltb, ltb-true, map, map-append, map-range_with_len_more, max, min, mul-le-mul, nat_lt, ne_eqb, nil_from_length, not, option_map, or_left, or_right, range_with_len, recursion_from_All, refl, replicate, rules, set, slice_get, slice_get_within, slice_index, slice_index_or, subst, suc, sum, sum-map, sum_by, sum_by-cons, sum_by-le, sym, take, take-append-drop, take-append-le, take_all, take_more, true, true≢false, vec_len, zero, ℕ, ⊎_elim, ◌&&◌, ◌*◌, ◌++◌, ◌+◌, ◌-◌, ◌<◌, ◌==◌, ◌^◌, ◌↔◌, ◌∙◌, ◌∷◌, ◌≡◌, ◌≢◌, ◌≤◌, ◌⊎◌}
+pub use Rattle.cq_base.specs.Arrivals.{arrival_at, no_arrivals}
+pub use Rattle.cq_base.specs.Arriving.{Arrival, arriving_at, end_of, is_at}
+unfoldable pub use Rattle.cq_base.specs.Arriving.{arriving, enough, traffic_of}
+pub use Rattle.cq_base.specs.Cells.{EachPair as EachCell, IsBefore, is_for}
+pub use Rattle.cq_base.specs.{Packed.unpacked, Room.RoomView, declared.cell.Departure.Departure, declared.cell.Queued.Queued, declared.cell.TagFault.TagFault, declared.cell.Transfer.Transfer, declared.figures.Figures.Figures, declared.setup.Setup.Setup}
+pub use Rattle.cq_pcap.specs.Captured.{Captured, rows_from}
+pub use Rattle.cq_route.specs.Route.{route}
+pub use Rattle.cq_cells.proofs.Pieces.{cells_above, piece_begins}
+pub use Rattle.cq_cells.proofs.Rising.{all_flat, at_input, traffic_is}
+pub use Rattle.cq_cells.specs.Schedule.{arrivals_of, packet_at, packets_of, start}
+unfoldable pub use Rattle.cq_cells.specs.Schedule.{arrivals, arrivals_at, cell_of, cells, cells_of}
+pub use Rattle.cq_cells.specs.Scheduled.{Scheduled, schedule_of}
+pub use Rattle.cq_cells.specs.Traffic.{IsInRange as IsOfSwitch, IsLater, IsShort, IsTraffic, is_from, is_to, number_of}
+pub use Rattle.cq_rank.specs.Machine.{KeepsLaws, Machine, first_come, machine_at}
+pub use Rattle.cq_rank.specs.Switch.{class_count}
+pub use Rattle.cq_scfq.specs.Discipline.{fixed_of, machine_from, state_of}
+pub use Rattle.cq_scfq.specs.Disciplines.{machine_of, machines_of, openings_of}
+pub use Rattle.cq_ideal.proofs.AtInput.{come_in_order}
+pub use Rattle.cq_ideal.proofs.Counting.{all_counted_both, counts_fit, none_counted, zero_fits}
+pub use Rattle.cq_ideal.proofs.Ends.{all_slots, none_waits, nothing_left}
+pub use Rattle.cq_ideal.proofs.FlowCount.{come_count-first, come_count-traffic_of, none_after}
+pub use Rattle.cq_ideal.proofs.FlowFound.{all_found, all_present, arriving_is, cell_listed}
+unfoldable pub use Rattle.cq_ideal.proofs.FlowFound.{found}
+pub use Rattle.cq_ideal.proofs.FlowLimits.{comes_at_input, flows_leave_in_packets}
+pub use Rattle.cq_ideal.proofs.FlowPut.{NoLater}
+pub use Rattle.cq_ideal.proofs.FlowRank.{AreOfClasses, present}
+pub use Rattle.cq_ideal.proofs.FlowRun.{flow_came, no_port}
+unfoldable pub use Rattle.cq_ideal.proofs.FlowRun.{come_count}
+pub use Rattle.cq_ideal.proofs.FlowStands.{HasWaited, Stands, is_kind, is_of_flow, shown}
+unfoldable pub use Rattle.cq_ideal.proofs.FlowStands.{of_flow}
+pub use Rattle.cq_ideal.proofs.LimitedEnds.{limited_found_end, limited_same_sent, limited_whole_fault, run_as_before, slots_as_before}
+pub use Rattle.cq_ideal.proofs.LimitedRuns.{is_run_of, judged, run_fault, run_step}
+pub use Rattle.cq_ideal.proofs.Parted.{arriving_here, arriving_length, arriving_parts}
+pub use Rattle.cq_ideal.proofs.Refusals.{counts_more, each_once, one_slot_more}
+pub use Rattle.cq_ideal.proofs.RestAtInput.{comes_from, is_from_on, line_at, rest_of}
+pub use Rattle.cq_ideal.proofs.Waiting.{counted, total_more, total_none, total_same}
+unfoldable pub use Rattle.cq_ideal.proofs.Waiting.{total, waiting}
+pub use Rattle.cq_ideal.specs.Admission.{Admission, Marked, NoLimits, admitted, admitted_in, is_first, marked, marks_down, nothing_refused, refused}
+unfoldable pub use Rattle.cq_ideal.specs.Admission.{admission}
+pub use Rattle.cq_ideal.specs.Ending.{first_slots, slots_of}
+unfoldable pub use Rattle.cq_ideal.specs.Ending.{arriving_from}
+pub use Rattle.cq_ideal.specs.Flows.{IsRunnable, RiseByInput, came_in_flow, comes_in_flow, leaves_in_flow, left_in_flow}
+pub use Rattle.cq_ideal.specs.Ideal.{HasRoomFor, HaveLeft, IdealSwitch, count_for, marked_state}
+pub use Rattle.cq_ideal.specs.{IdealRun.empty_ideal, Limiter.CanCount}
+unfoldable pub use Rattle.cq_ideal.specs.IdealRun.{departures_of}
+pub use Rattle.cq_ideal.specs.IdealSlot.{IdealState, ideal_slot}
+unfoldable pub use Rattle.cq_ideal.specs.IdealSlot.{departures_in}
+pub use Rattle.cq_ideal.specs.LimitedEnding.{departures_limited, slots_of_limited_run}
+unfoldable pub use Rattle.cq_ideal.specs.LimitedEnding.{whole_limited_run}
+pub use Rattle.cq_ideal.specs.LimitedIdeal.{LimitedRan, LimitedSent, empty_limited, ideal_admission, ideal_held, limited_run, nothing_came, then_limited, unlimited, with_admission}
+unfoldable pub use Rattle.cq_ideal.specs.LimitedIdeal.{limited_slot}
+pub use Rattle.cq_ideal.specs.Ranking.{AreForPorts, Ranking, ranking}
+pub use Rattle.cq_ideal.specs.Refused.{refused_counts, refused_in, with_refused}
+unfoldable pub use Rattle.cq_ideal.specs.Refused.{packets_refused}
+pub use Rattle.cq_ideal.specs.WholePackets.{AreJudged, AreOfPackets, came_at, cells_at}
+pub use Rattle.cq_reasm.specs.Joining.{IsOtherPair, JoinerView, open_after, open_at}
+pub use Rattle.cq_state.specs.{State.IsInRange, declared.state.Sent.Sent, declared.state.State.State}
+pub use Rattle.cq_prefs.specs.FirstCells.{list_of, orders_of, output_order}
+pub use Rattle.cq_prefs.specs.Pairing.{IsInputBest, IsMatching, IsStable, Partners, partner_of, proposals, spent}
+pub use Rattle.cq_laws.proofs.{IdealOf.agrees_of, Recorded.recorded}
+pub use Rattle.cq_laws.proofs.InputBest.{stable_limited_run, stable_limited_slot, stable_limited_stop, stable_run, stable_slot}
+pub use Rattle.cq_laws.proofs.LimitedEnds.{limited_ends, one_limited_whole}
+pub use Rattle.cq_laws.proofs.LimitedSlots.{admission_for_ports, limited_ports_kept, same_limited_slot}
+pub use Rattle.cq_laws.proofs.OneRun.{only_limited_run, outputs_at}
+pub use Rattle.cq_laws.proofs.OneSlot.{after_sent, arrived, ports_kept, same_slot}
+pub use Rattle.cq_laws.proofs.QuietSlots.{no_departures, quiet_figures, quiet_transfers}
+pub use Rattle.cq_laws.proofs.Sound.{Sound, orders_are}
+pub use Rattle.cq_laws.proofs.WholeRuns.{empty_agree, empty_list, empty_together, run_slack, traffic_for_empty}
+pub use Rattle.cq_laws.specs.{Agreement.Agrees, Frozen.ideal_of, Records.gone_in}
+pub use Rattle.cq_laws.specs.Fabric.{Fabric, IsAmong, IsEmptyFabric, IsFabric, buffer, empty_fabric, input}
+pub use Rattle.cq_laws.specs.FabricSlot.{FabricSlot, SlotRecord}
+pub use Rattle.cq_laws.specs.Holding.{held_for, waiting_for}
+unfoldable pub use Rattle.cq_laws.specs.Holding.{fabric_held}
+pub use Rattle.cq_laws.specs.LimitedAgreement.{LimitedAgrees, LimitedEndsAlike, LimitedRunsAlike}
+pub use Rattle.cq_laws.specs.LimitedFabric.{IsLimitedFault, LimitedFabricRun, LimitedFabricSlot, LimitedFabricStops, LimitedRecord, LimitedWholeRun, admissions_in, empty_limited_fabric, slots_in}
+pub use Rattle.cq_laws.specs.Measures.{sends, sent_by}
+unfoldable pub use Rattle.cq_laws.specs.Measures.{figures_after, figures_of, output_after, output_figures, proposals_in}
+unfoldable pub use Rattle.cq_laws.specs.Records.{transfers_in, transfers_of_run}
+pub use Rattle.cq_resume.proofs.Chained.{EachPair, each_pair}
+pub use Rattle.cq_resume.proofs.GoesOn.{GoesOn, buffer_is, came_before, comes, found_at, goes_on, has_of_among, in_buffer, in_list, in_order, is_cell_of, its_output, its_slot, list_is, of_traffic, ports_are, queued_differ, queued_named, some_cell}
+pub use Rattle.cq_resume.proofs.Having.{Has, all_from_has, all_of_has, has_cases, has_image, has_kept, has_left, has_right, image_has, kept_has, pair_of_has}
+pub use Rattle.cq_resume.specs.Counted.{departure_of, firsts_at, is_refused, latest, marks_told, output_told, sent_told, taken_of}
+unfoldable pub use Rattle.cq_resume.specs.Counted.{figures_told, frozen_told}
+pub use Rattle.cq_resume.specs.Resumed.{IsResumed, Kept, RunsOn}
+pub use Rattle.cq_resume.specs.Sound.{AllNamed, AreWholePackets, IsBelowFloor, IsSentBefore, IsSound, NoneNamed, OfOneFlow}
+pub use Rattle.cq_resume.specs.Switch.{HasLimit, HasShape, Switch, switch_of}
+pub use Rattle.cq_resume.specs.Told.{arriving_cell, class_in, class_of, is_ahead, is_named, key_of, list_told, named_in, output_of, packet_before, queued_in, queued_of}
+unfoldable pub use Rattle.cq_resume.specs.Told.{fabric_told}
+pub use Rattle.cq_resume.specs.declared.taken.Taken.{Taken}
+pub use Rattle.cq_engine.specs.Engine.{CanBeMade, CanGoOn, EngineView, HaveBufferRoom, HaveListRoom, IsMadeAs, IsReadyFor, SlotDone, answer_to, fresh_engine, frozen_of, its_admission, marked_fabric}
+pub use Rattle.cq_traffic.proofs.ForPorts.{arrivals_for, slots_fit}
+pub use Rattle.cq_traffic.proofs.FromInputs.{arrives_found, from_here, no_more_from, one_if, some_one}
+unfoldable pub use Rattle.cq_traffic.proofs.FromInputs.{come_from}
+pub use Rattle.cq_traffic.proofs.Quiet.{arrives_before, before_both, none_up_to, quiet_of, quiet_slots}
+pub use Rattle.cq_traffic.proofs.ToOutputs.{come_for-traffic_of, for_here, no_more_to}
+unfoldable pub use Rattle.cq_traffic.proofs.ToOutputs.{come_for}
+pub use Rattle.cq_simulate.specs.FabricRuns.{AlwaysHasSlack, AreInputBest, IsBestFor, IsFabricRun, IsKeptOf, SendsSlotBySlot, departures_in_run, refused_in_run, unpacked_run}
+pub use Rattle.cq_simulate.specs.GoingOn.{HasKept, HasPartedTo, HasRunOn, IsReadyOn, IsReadyPart, IsRefusalOn, NoneCome, RanTo, StopsOn, StopsWithin, WentOn, to_come}
+pub use Rattle.cq_simulate.specs.IdealRuns.{IsRefusalOf, slots_ran}
+unfoldable pub use Rattle.cq_simulate.specs.IdealRuns.{ideal_departures, ran_ideal}
+pub use Rattle.cq_simulate.specs.Packets.{ArePacked, HaveLeftOf, LeaveWhole, LeftInPackets, ends_packet_at, leaving}
+unfoldable pub use Rattle.cq_simulate.specs.Packets.{packets_out}
+pub use Rattle.cq_simulate.specs.Pieces.{CanBeJoined, Fits, IsCaptured, IsEmptied, Took, left_with, opened, piece_at, records_of}
+pub use Rattle.cq_simulate.specs.{declared.fabric_run.PackedFabricRun.PackedFabricRun, declared.ports.Ports.Ports, declared.refusal.RunRefusal.RunRefusal}
+pub use Rattle.cq_simulate.specs.Terms.{ArePortsFor, AreTables, CanBeTakenUp, Cell, FabricRun, IsFreshFor, IsPartFault, IsQuiet, IsReady, IsResumeFault, IsScheduleFor, IsSetup, Tables, classes_of, kept_of, ports_of}
+pub use Rattle.cq_base.proofs.Each.{all_both, all_filter, all_weaker, of_images}
+pub use Rattle.cq_cells.proofs.Stamps.{length-rows_from}
+pub use Rattle.cq_ideal.proofs.EnoughSlots.{waiting-empty}

@@ -1,0 +1,14 @@
+-- The words of this crate's proofs that stand elsewhere, each passed on from its place.
+pub use Rattle.cq_base.proofs.Library.{AllByRecursion, Bool, List, None, Option, Some, [], ap, arith, cases_eq, cases_lt, common_steps, cond, eq-eqb, eqb, false, filter, get_or, get_or-map-range_with_len, get_or_past, inl, inr, is_some, length, length-map-range_with_len, map, map-range_with_len_more, min, ne_eqb, range_with_len, refl, replicate, rules, subst, suc, sym, true, unwrap_or, unwrap_or-slice_get, vec_capacity, vec_len, zero, ℕ, ⊎_elim, ◌&&◌, ◌++◌, ◌+◌, ◌<◌, ◌==◌, ◌∙◌, ◌∷◌, ◌≡◌, ◌≤◌}
+pub use Rattle.cq_base.specs.Arrivals.{arrival_at, no_arrivals}
+pub use Rattle.cq_base.specs.Arriving.{Arrival, arriving, arriving_at, end_of, enough}
+unfoldable pub use Rattle.cq_base.specs.Arriving.{traffic_of}
+pub use Rattle.cq_base.specs.declared.cell.Cell.{Cell}
+pub use Rattle.cq_cells.specs.Traffic.{IsInRange, IsTraffic, is_from, is_to, number_of}
+pub use Rattle.cq_ideal.proofs.FlowFound.{all_found, arriving_is, cell_listed, found_here, found_none, other_input, other_slot}
+unfoldable pub use Rattle.cq_ideal.proofs.FlowFound.{found}
+pub use Rattle.cq_ideal.proofs.Waiting.{total_more, total_none, total_same}
+unfoldable pub use Rattle.cq_ideal.proofs.Waiting.{total}
+pub use Rattle.cq_ideal.specs.Ending.{first_slots}
+unfoldable pub use Rattle.cq_ideal.specs.Ending.{arriving_from}
+pub use Rattle.cq_base.proofs.Each.{all_weaker}
