@@ -77,21 +77,25 @@ module _ (t : Tables) (captures : List (List Captured)) (sent : List Departure) 
   unfolding captures_out
   made_all rows k made all over so_far = cc (append-nil made, drop_all k rows over)
 
-  -- a plan with these and the trace
-  pub switched_is : (plan : Plan) (made more : List (List ℕ × List ℕ)) (bytes : List ℕ) →
-      made ≡ captures_out t captures sent 0 t.ports → more ≡ made ++ (t.trace, bytes) ∷ [] → bytes ≡ trace_of sent
-      → plan.writes ≡ more → plan.text ≡ [] → plan ≡ switched t captures sent
-  unfolding switched
-  switched_is plan made more bytes all pushed traced writes none = search (arith, rules)
+  -- these and the trace, and then the log
+  pub traced_writes : (made traced : List (List ℕ × List ℕ)) (trace : List ℕ) →
+      made ≡ captures_out t captures sent 0 t.ports → traced ≡ made ++ (t.trace, trace) ∷ [] → trace ≡ trace_of sent →
+      traced ≡ captures_out t captures sent 0 t.ports ++ (t.trace, trace_of sent) ∷ []
+  traced_writes made traced trace all put is = cc
 
-  -- these, the trace and the log
-  pub crossed_writes : (made traced logged : List (List ℕ × List ℕ)) (trace log : List ℕ) (note : List Transfer) →
-      made ≡ captures_out t captures sent 0 t.ports → traced ≡ made ++ (t.trace, trace) ∷ [] →
-      logged ≡ traced ++ (t.log, log) ∷ []
-      → trace ≡ trace_of sent → log ≡ log_of note →
+  pub crossed_writes : (traced logged : List (List ℕ × List ℕ)) (log : List ℕ) (note : List Transfer) →
+      traced ≡ captures_out t captures sent 0 t.ports ++ (t.trace, trace_of sent) ∷ [] →
+      logged ≡ traced ++ (t.log, log) ∷ [] → log ≡ log_of note →
       logged ≡ captures_out t captures sent 0 t.ports ++ (t.trace, trace_of sent) ∷ (t.log, log_of note) ∷ []
-  crossed_writes made traced logged trace log note all first second is_trace is_log =
-      cc (append_assoc made ((t.trace, trace) ∷ []) ((t.log, log) ∷ []))
+  crossed_writes traced logged log note all put is =
+      cc (append_assoc (captures_out t captures sent 0 t.ports) ((t.trace, trace_of sent) ∷ []) ((t.log, log) ∷ []))
+
+  -- a plan with these and the trace
+  pub switched_is : (plan : Plan) (traced : List (List ℕ × List ℕ)) →
+      traced ≡ captures_out t captures sent 0 t.ports ++ (t.trace, trace_of sent) ∷ [] →
+      plan.writes ≡ traced → plan.text ≡ [] → plan ≡ switched t captures sent
+  unfolding switched
+  switched_is plan traced all writes none = search (arith, rules)
 
 -- ## What is kept of a run of the crossbar switch, and the plan that is made of it
 

@@ -1,6 +1,5 @@
 -- No judgement of contents refuses the words: they are judged before any file is asked for.
 use Rattle.cq_run.proofs.Terms.{common_steps, arith, rules, ◌≡◌, ℕ, ◌+◌, List, [], ◌∷◌, ap, Option, Result, Ok, Err, Contents, Departure, TagFault, Captured, PortRow, Tables, plain_tables, Command, Pass, Check, Ideal, Run, Soak, Audit, Part, Resume, Refusal, Words, soak_tables, Aim, Exactly, Crossing, Parting, checked, Reader, ◌>>=◌, found_or_missing, tables_in, capture_in, captures_from, captures_in, sent_or_tag, ideally_sent, judged, short_in}
-use Rattle.cq_run.specs.declared.refusal.StateFault.TheVariants as stopped
 
 -- the words are not refused
 abbrev pub IsOfContents : {A : Type 0} → Result A Refusal → Type 0

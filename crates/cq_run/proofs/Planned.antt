@@ -230,6 +230,14 @@ module _ {S : Type 0} {space : S → Space} {keeps : S → S → Type 0} {old s1
           (told_two told _ _ _ (λ m a b. (a, b)) (rw is.told at traced.ok)
           (rw (traced.told, is.told) at logged.ok)))
 
+      pub audit_judged : {may_fail : Call → S → S → Type 0} (result : Result Plan Halt) →
+          IfOk result (λ _. IsAuditPassed given.tables given.captures trace log) →
+          IfOk result (λ plan. plan ≡ audited) → IfErr result (IsAuditHalted given.tables given.captures trace log) →
+          IsJudged space may_fail keeps InTurn (Audit config) old s3 result
+      audit_judged (Ok plan) passed written halted = audit_plans passed written
+      audit_judged (Err halt) passed written halted =
+          settled at_last (Err halt) (halt_settles halt halted) tt (λ r. tt)
+
 -- ## Stopping a run and taking one up: the configuration, its captures, and then the text of a state
 
 -- what denies such an aim is neither of words nor of a missing name, so it can come where contents are not told
@@ -274,6 +282,15 @@ module _ {S : Type 0} {space : S → Space} {keeps : S → S → Type 0} {old no
       (Parting given.tables given.captures slots name, refl, (text, text_is, written))
       (rw written (refl, tt)) (λ r.
       told_map (space old).told _ _ (λ m are_read. search (arith, rules)) (read_told is r))
+
+  pub part_judged : {may_fail : Call → S → S → Type 0} {slots : ℕ} (result : Result Plan Halt) →
+      IfOk result (λ _. AreGiven given.tables given.captures) → IfOk result (λ plan. (text : List ℕ)
+      × IsPartText given.tables given.captures slots text × (plan ≡ state_written name text)) →
+      IfErr result (IsPartHalt given.tables given.captures slots) →
+      IsJudged space may_fail keeps InTurn (Part config slots name) old now result
+  part_judged (Ok plan) are text halted = part_plans are text.1 text.2
+  part_judged {slots = slots} (Err halt) are text halted =
+      settled (at_part slots) (Err halt) (part_settles given.tables given.captures slots name halt halted) tt (λ r. tt)
 
   pub at_text : Reached space keeps (Resume config name) old now
       (λ r. resume_rest name r given.tables given.captures)

@@ -1,7 +1,7 @@
 -- Judging where a name is not there. A judgement that accepts the contents comes to the same without some name,
 -- unless it is to read that name: then it misses it. This holds of the bytes of one name, and of one judgement after
 -- another.
-use Rattle.cq_run.proofs.Terms.{rules, arith, ◌≡◌, ◌⊎◌, ◌∙◌, ℕ, cond, List, [], ◌∷◌, ap, refl, inl, Option, None, Some, Result, Ok, Err, ◌+◌, common_steps, nat_list_cmp_total, get, get-remove, exact_bytes, tells_apart, Contents, Captured, PortRow, read_or_refused, Refusal, Missing, Denial, Reader, ◌>>=◌, named, tables_in, read_or_refused_for, capture_in, capture_of, packets_at, captures_from, short_in, short_or, text_in, eq_by_cmp_equiv, IsToRead}
+use Rattle.cq_run.proofs.Terms.{rules, arith, ◌≡◌, ◌⊎◌, ◌∙◌, ℕ, cond, List, [], ◌∷◌, ap, inl, Option, None, Some, Result, Ok, Err, ◌+◌, common_steps, nat_list_cmp_total, get, get-remove, exact_bytes, tells_apart, Contents, Captured, PortRow, read_or_refused, Refusal, Missing, Denial, Reader, ◌>>=◌, named, tables_in, read_or_refused_for, capture_in, capture_of, packets_at, captures_from, short_in, short_or, text_in, eq_by_cmp_equiv, IsToRead}
 use Rattle.std.specs.FinMap.{remove}
 use Rattle.cq_run.specs.declared.refusal.Refusal.TheVariants.{Audit}
 

@@ -68,29 +68,38 @@ fn put_counted(text: &mut Vec<u8>, name: &[u8], count: usize) -> Result<(), NoMe
 
 /// What leaves the one output of a switch of one port, under this name. The departures are used up while its file
 /// grows, and then the captures are given up.
-pub fn build_passed(alloc: Global, given: Given, run: Switched, to: Name) -> Result<Work, NoMemory>
-    requires tables { AreTables given.tables }
-    requires captures { length given.captures ≡ ports_of given.tables.setup }
-    requires run { IsSwitched given.tables given.captures run }
-    ensures writes { IfOk result (λ plan. plan.writes
-        ≡ (to, capture_out given.tables given.captures run.sent.items 0) ∷ []) }
+pub fn build_passed(
+    alloc: Global,
+    tables: &Tables,
+    captures: Sequence<Capture>,
+    run: Switched,
+    to: Name,
+) -> Result<Work, NoMemory>
+    requires tables { AreTables tables.now }
+    requires captures { length captures ≡ ports_of tables.now.setup }
+    requires run { IsSwitched tables.now captures run }
+    ensures writes { IfOk result (λ plan. plan.writes ≡ (to, capture_out tables.now captures run.sent.items 0) ∷ []) }
     ensures text { IfOk result (λ plan. plan.text ≡ []) }
 {
-    let bytes = build_first(alloc, given, run)?;
+    let bytes = build_first(alloc, tables, captures, run)?;
     let writes = Vec::from_array(alloc, [Write::of(to, bytes)])?;
     Ok(Work::of(writes, Vec::new(alloc)))
 }
 
 // The capture of what leaves the first output.
-fn build_first(alloc: Global, given: Given, run: Switched) -> Result<Vec<u8>, NoMemory>
-    requires tables { AreTables given.tables }
-    requires captures { length given.captures ≡ ports_of given.tables.setup }
-    requires run { IsSwitched given.tables given.captures run }
-    ensures { IfOk result (λ bytes. bytes.items ≡ capture_out given.tables given.captures run.sent.items 0) }
+fn build_first(
+    alloc: Global,
+    tables: &Tables,
+    captures: Sequence<Capture>,
+    run: Switched,
+) -> Result<Vec<u8>, NoMemory>
+    requires tables { AreTables tables.now }
+    requires captures { length captures ≡ ports_of tables.now.setup }
+    requires run { IsSwitched tables.now captures run }
+    ensures { IfOk result (λ bytes. bytes.items ≡ capture_out tables.now captures run.sent.items 0) }
 {
-    let Given { tables, captures } = given;
     let Switched { sent, first_stamp } = run;
-    let left = packets_of_all(alloc, sent, captures.as_slice(), &tables, first_stamp)?;
+    let left = packets_of_all(alloc, sent, captures.as_slice(), tables, first_stamp)?;
     drop(captures);
     let mut places = Supply::of(left);
     let Some(place) = places.pop_first() else {
@@ -107,14 +116,11 @@ pub fn build_switched(alloc: Global, given: Given, run: Switched) -> Result<Work
     ensures { IfOk result (λ plan. plan ≡ switched given.tables given.captures run.sent.items) }
 {
     let Given { tables, captures } = given;
-    let trace = trace_text_of_packed(alloc, run.sent.as_slice())?;
-    let mut writes = build_captures(alloc, &tables, captures, run)?;
-    put_write(alloc, &mut writes, &tables.trace, trace)?;
+    let writes = build_traced(alloc, &tables, captures, run)?;
     Ok(Work::of(writes, Vec::new(alloc)))
 }
 
-/// What leaves each output of the crossbar switch, the trace and the log of its run, and its report. The log comes
-/// first, since it uses up the transfers.
+/// What leaves each output of the crossbar switch, the trace and the log of its run, and its report.
 pub fn build_crossed(alloc: Global, given: Given, crossed: Crossed) -> Result<Work, NoMemory>
     requires tables { AreTables given.tables }
     requires captures { length given.captures ≡ ports_of given.tables.setup }
@@ -127,15 +133,33 @@ pub fn build_crossed(alloc: Global, given: Given, crossed: Crossed) -> Result<Wo
     ensures text { IfOk result (λ plan. plan.text ≡ report_with crossed.run.figures crossed.run.refused.items) }
 {
     let Given { tables, captures } = given;
+    build_logged(alloc, &tables, captures, crossed)
+}
+
+// The same, of tables that are lent. The log comes first, since it uses up the transfers.
+fn build_logged(
+    alloc: Global,
+    tables: &Tables,
+    captures: Sequence<Capture>,
+    crossed: Crossed,
+) -> Result<Work, NoMemory>
+    requires tables { AreTables tables.now }
+    requires captures { length captures ≡ ports_of tables.now.setup }
+    requires run { IsSent tables.now captures (sent_by crossed) }
+    requires reportable { All (λ x. x.cells ≤ crossed.run.figures.slots) crossed.run.figures.outputs }
+    ensures writes { IfOk result (λ plan. plan.writes
+        ≡ captures_out tables.now captures crossed.run.sent.items 0 tables.now.ports
+        ++ (tables.now.trace, trace_of crossed.run.sent.items) ∷ (tables.now.log, log_of crossed.run.note.items)
+        ∷ []) }
+    ensures text { IfOk result (λ plan. plan.text ≡ report_with crossed.run.figures crossed.run.refused.items) }
+{
     let Crossed { run, first_stamp } = crossed;
     let log = log_text_of_room(alloc, run.note)?;
-    let trace = trace_text_of_packed(alloc, run.sent.as_slice())?;
     let switched = Switched {
         sent: run.sent,
         first_stamp,
     };
-    let mut writes = build_captures(alloc, &tables, captures, switched)?;
-    put_write(alloc, &mut writes, &tables.trace, trace)?;
+    let mut writes = build_traced(alloc, tables, captures, switched)?;
     put_write(alloc, &mut writes, &tables.log, log)?;
     Ok(Work::of(writes, report_text(alloc, &run.figures, &run.refused)?))
 }
@@ -155,6 +179,27 @@ pub fn build_report(alloc: Global, figures: &Figures, refused: &[Refused]) -> Re
     ensures text { IfOk result (λ plan. plan.text ≡ report_with figures.now refused.now) }
 {
     Ok(Work::of(Vec::new(alloc), report_text(alloc, figures, refused)?))
+}
+
+// The captures of what leaves each output, each under its name, and the trace behind them. The trace is told first,
+// since the captures use up the departures.
+fn build_traced(
+    alloc: Global,
+    tables: &Tables,
+    captures: Sequence<Capture>,
+    run: Switched,
+) -> Result<Vec<Write>, NoMemory>
+    requires tables { AreTables tables.now }
+    requires captures { length captures ≡ ports_of tables.now.setup }
+    requires run { IsSent tables.now captures run }
+    ensures { IfOk result (λ writes. writes.items
+        ≡ captures_out tables.now captures run.sent.items 0 tables.now.ports
+        ++ (tables.now.trace, trace_of run.sent.items) ∷ []) }
+{
+    let trace = trace_text_of_packed(alloc, run.sent.as_slice())?;
+    let mut writes = build_captures(alloc, tables, captures, run)?;
+    put_write(alloc, &mut writes, &tables.trace, trace)?;
+    Ok(writes)
 }
 
 // The captures of what leaves each output, each under its name, with places for the trace and the log. The captures

@@ -1,7 +1,7 @@
 //! Judging what the words name. Nothing is written here.
-ghost use Rattle.std.specs.Prelude.{◌≡◌, ◌<◌, ◌^◌, ◌∷◌, [], IfErr, IfOk, IsOk, length};
+ghost use Rattle.std.specs.Prelude.{◌≡◌, ℕ, ◌<◌, ◌^◌, List, ◌∷◌, [], IfErr, IfOk, IsOk, length};
 ghost use Rattle.std.specs.Int.{IsInRange};
-ghost use Rattle.cq_run.specs.Terms.{Closed, AreTables, ports_of, soak_captures, soak_tables, Meets, Reporting, IsJudged, IsHaltOf, Ahead, InTurn, IsResumeHalt, IsResuming, IsWithinRange, IsCrossing, IsIdeal, IsPassing, ideally_sent};
+ghost use Rattle.cq_run.specs.Terms.{Closed, AreGiven, AreTables, ports_of, audited, state_written, IsAuditHalted, IsAuditPassed, IsPartHalt, IsPartText, soak_captures, soak_tables, Meets, Reporting, IsJudged, IsHaltOf, Ahead, InTurn, IsResumeHalt, IsResuming, IsWithinRange, IsCrossing, IsIdeal, IsPassing, ideally_sent};
 
 use crate::ahead::stream_from;
 use crate::build::{
@@ -80,29 +80,28 @@ fn pass<R: Threads + Sync, F: Files, G: Gate>(
 {
     let tables = Tables::plain(alloc, from.text(), to.text())?;
     let capture = read_input(alloc, files, from, 0, tables.limit_bytes)?;
-    pass_on(rt, alloc, tables, capture, to, gate)
+    pass_on(rt, alloc, &tables, capture, to, gate)
 }
 
 // What the crossbar switch of one port makes of this capture, with all its bytes.
 fn pass_on<R: Threads + Sync, G: Gate>(
     rt: &R,
     alloc: Global,
-    tables: Tables,
+    tables: &Tables,
     capture: Capture,
     to: Name,
     gate: &G,
 ) -> Result<Work, Halt>
-    requires tables { AreTables tables }
-    requires port { ports_of tables.setup ≡ 1 }
-    ensures passing { IfOk result (IsPassing tables capture to) }
-    ensures refused { IfErr result (IsHaltOf (ideally_sent tables (capture ∷ []))) }
+    requires tables { AreTables tables.now }
+    requires port { ports_of tables.now.setup ≡ 1 }
+    ensures passing { IfOk result (IsPassing tables.now capture to) }
+    ensures refused { IfErr result (IsHaltOf (ideally_sent tables.now (capture ∷ []))) }
 {
     let mut captures = Vec::new(alloc);
     put_capture(&mut captures, capture)?;
     let captures = Sequence::of(captures);
-    let crossed = switch_by_crossbar(rt, alloc, &tables, captures.as_slice(), gate)?;
-    let switched = crossed.into_switched();
-    Ok(build_passed(alloc, Given { tables, captures }, switched, to)?)
+    let crossed = switch_by_crossbar(rt, alloc, tables, captures.as_slice(), gate)?;
+    Ok(build_passed(alloc, tables, captures, crossed.into_switched(), to)?)
 }
 
 fn check<F: Files>(alloc: Global, files: &mut F, config: Name) -> Result<Work, Halt>
@@ -178,7 +177,25 @@ fn soak<R: Threads + Sync, G: Gate>(
     ensures refused { IfErr result (IsHaltOf (ideally_sent (soak_tables ports) (soak_captures seed ports slots))) }
 {
     let soak = make(alloc, seed, ports, slots)?;
-    let crossed = switch_by_crossbar(rt, alloc, &soak.tables, &soak.captures, gate)?;
+    report_on(rt, alloc, &soak.tables, &soak.captures, gate)
+}
+
+// The report of what the crossbar switch makes of these captures, one for each port.
+fn report_on<R: Threads + Sync, G: Gate>(
+    rt: &R,
+    alloc: Global,
+    tables: &Tables,
+    captures: &[Capture],
+    gate: &G,
+) -> Result<Work, Halt>
+    requires tables { AreTables tables.now }
+    requires captures { length captures.now ≡ ports_of tables.now.setup }
+    ensures meets { IfOk result (λ plan. Meets (Reporting tables.now captures.now) plan) }
+    ensures writes { IfOk result (λ plan. plan.writes ≡ []) }
+    ensures sent { IfOk result (λ _. IsOk (ideally_sent tables.now captures.now)) }
+    ensures refused { IfErr result (IsHaltOf (ideally_sent tables.now captures.now)) }
+{
+    let crossed = switch_by_crossbar(rt, alloc, tables, captures, gate)?;
     Ok(build_report(alloc, &crossed.run.figures, &crossed.run.refused)?)
 }
 
@@ -194,13 +211,30 @@ fn audit<R: Threads + Sync, F: Files>(
     let given = read_given(alloc, files, config)?;
     let trace = read_text(alloc, files, &given.tables.trace, Denial::LongTrace)?;
     let log = read_text(alloc, files, &given.tables.log, Denial::LongLog)?;
+    answer(rt, alloc, &given, trace.as_slice(), log.as_slice())
+}
+
+// The answer of an audit of these texts, a trace and a log.
+fn answer<R: Threads + Sync>(
+    rt: &R,
+    alloc: Global,
+    given: &Given,
+    trace: &[u8],
+    log: &[u8],
+) -> Result<Work, Halt>
+    requires tables { AreTables given.now.tables }
+    requires captures { length given.now.captures ≡ ports_of given.now.tables.setup }
+    ensures passed { IfOk result (λ _. IsAuditPassed given.now.tables given.now.captures trace.now log.now) }
+    ensures answered { IfOk result (λ plan. plan ≡ audited) }
+    ensures halted { IfErr result (IsAuditHalted given.now.tables given.now.captures trace.now log.now) }
+{
     audit_texts(
         rt,
         alloc,
         &given.tables,
         given.captures.as_slice(),
-        trace.as_slice(),
-        log.as_slice(),
+        trace,
+        log,
     )?;
     Ok(build_yes(alloc)?)
 }
@@ -219,6 +253,27 @@ fn part<R: Threads + Sync, F: Files, G: Gate>(
     ensures { IsJudged F.space F.may_fail F.keeps InTurn (Command.Part config slots state) files.old files.new result }
 {
     let given = read_given(alloc, files, config)?;
+    stop_at(rt, alloc, &given, slots, state, gate)
+}
+
+// The text of the state in which the crossbar switch stands after so many slots with these captures, one for each
+// port, under this name.
+fn stop_at<R: Threads + Sync, G: Gate>(
+    rt: &R,
+    alloc: Global,
+    given: &Given,
+    slots: u64,
+    state: Name,
+    gate: &G,
+) -> Result<Work, Halt>
+    requires tables { AreTables given.now.tables }
+    requires captures { length given.now.captures ≡ ports_of given.now.tables.setup }
+    requires slots { slots < 2 ^ 63 }
+    ensures are_given { IfOk result (λ _. AreGiven given.now.tables given.now.captures) }
+    ensures text { IfOk result (λ plan. (text : List ℕ)
+        × IsPartText given.now.tables given.now.captures slots text × (plan ≡ state_written state text)) }
+    ensures refused { IfErr result (IsPartHalt given.now.tables given.now.captures slots) }
+{
     let text = part_by_crossbar(
         rt,
         alloc,

@@ -11,7 +11,7 @@ unreachable-requires c = search (arith, rules, some_left, packed_of_lent)
 pub returns : goal.returns
 returns c =
     let some = c.requires.tables.setup.ports in
-    file_is c.args.given.tables c.args.given.captures c.args.run.sent.items c.in_ok-left.left.items
-    (packed_of_lent c.args.given.tables c.args.given.captures c.args.run.sent.items c.as_slice.result.now
+    file_is c.args.tables.now c.args.captures c.args.run.sent.items c.in_ok-left.left.items
+    (packed_of_lent c.args.tables.now c.args.captures c.args.run.sent.items c.as_slice.result.now
     c.in_ok-left.left.items c.as_slice.ensures c.in_ok-left.ensures) 0 (omega arith) c.in-Some.place
     c.pop_first.new.self (sym c.of-places.ensures ∙ c.in-Some.ensures)

@@ -1,12 +1,10 @@
-use Rattle.cq_run.proofs.Terms.{arith, rules, ◌∙◌, ap, trace_of}
+use Rattle.cq_run.proofs.Terms.{arith, rules, ◌∙◌}
 use Rattle.cq_run.proofs.Crossed.{switched_is, switched_whole}
 use Rattle.cq_run.proofs.build.build_switched.Goals as goal
 
-pub build_captures-requires-clause-run : goal.build_captures-requires-clause-run
-build_captures-requires-clause-run c = search (arith, rules, switched_whole)
+pub build_traced-requires-clause-run : goal.build_traced-requires-clause-run
+build_traced-requires-clause-run c = search (arith, rules, switched_whole)
 
 pub returns : goal.returns
 returns c = switched_is c.args.given.tables c.args.given.captures c.args.run.sent.items c.of.result
-    c.in_ok-writes.writes.items _ c.in_ok-trace.trace.items c.in_ok-writes.ensures c.in_ok-put_write.ensures
-    (c.in_ok-trace.ensures ∙ ap trace_of c.as_slice.ensures) c.of.ensures.writes
-    (c.of.ensures.text ∙ c.new.ensures.items)
+    c.in_ok-writes.writes.items c.in_ok-writes.ensures c.of.ensures.writes (c.of.ensures.text ∙ c.new.ensures.items)

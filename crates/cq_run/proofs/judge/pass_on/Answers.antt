@@ -25,8 +25,8 @@ returns-clause-passing g c =
       keeps_up = is.keeps_up;
       departed = is.departed;
       writes = c.in_ok-build_passed.ensures.writes
-          ∙ ap (λ (run : Switched). (c.args.to, capture_out c.args.tables c.of-captures.result run.sent.items 0) ∷ [])
-          c.into_switched-switched.ensures
-          ∙ ap (λ (cs : List (List Captured)). (c.args.to, capture_out c.args.tables cs sent 0) ∷ []) one;
+          ∙ ap (λ (run : Switched). (c.args.to, capture_out c.args.tables.now c.of-captures.result run.sent.items 0) ∷ [])
+          c.into_switched.ensures
+          ∙ ap (λ (cs : List (List Captured)). (c.args.to, capture_out c.args.tables.now cs sent 0) ∷ []) one;
       text = c.in_ok-build_passed.ensures.text;
     }
