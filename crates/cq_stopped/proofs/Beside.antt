@@ -3,7 +3,7 @@
 -- were there, and those that came for it, are there still or have left, so all are keyed as the switch keys them. A
 -- phase makes no more proposals than the number of ports squared, and none where no cell waits at an input; and in each
 -- slot in which a cell waits or comes one leaves, so there are no more such slots than cells that came.
-use Rattle.cq_stopped.proofs.Terms.{arith, rules, Arrival, ◌≡◌, ℕ, zero, suc, ◌+◌, ◌⊎◌, List, [], ◌∷◌, length, Option, None, Some, inl, inr, ⊎_elim, drop, ◌∙◌, ◌<◌, ◌≤◌, ◌^◌, refl, ap, length-drop, ◌*◌, ◌-◌, true, fold, max, cases_lt, eqb-true, common_steps, length-replicate, get_or-replicate, get_or_past, length-insert, sum_by-append, sum_by-cons, AllByRecursion, range_with_len, flat_map, slice_get, slice_index_or, filter_map, is_some, sum, arrival_at, arriving, first_for, is_for, Cell, Queued, fewer, present, Marked, admission, arriving_from, empty_ideal, IdealState, CameFor, arrived_has, limited_empty_agree, among_at, first_at, after_sent, arrived, keyed, old_sound, same_slot, Sound, orders_are, Agrees, SendsAlike, Fabric, IsAmong, buffer, empty_fabric, input, SlotRecord, fabric_held, LimitedRecord, slots_in, proposals_in, Transfers, HasFor, transfers_in, list_of, orders_of, noted, transfers_of, IsStable, Partners, partner_of, proposals, machine_at, all_both, found_at, all_of_has, opening, Switch, IsMoved, length_put, waiting-empty, waiting-sum}
+use Rattle.cq_stopped.proofs.Terms.{arith, rules, Arrival, ◌≡◌, ℕ, zero, suc, ◌+◌, ◌⊎◌, List, [], ◌∷◌, length, Option, None, Some, inl, inr, ⊎_elim, drop, ◌∙◌, ◌<◌, ◌≤◌, ◌^◌, refl, ap, length-drop, ◌*◌, ◌-◌, true, fold, max, cases_lt, eqb-true, common_steps, length-replicate, get_or-replicate, get_or_past, length-insert, sum_by-append, sum_by-cons, AllByRecursion, range_with_len, flat_map, slice_get, slice_index_or, filter_map, is_some, sum, arrival_at, arriving, first_for, is_for, Cell, Queued, present, Marked, arriving_from, IdealState, CameFor, arrived_has, limited_empty_agree, among_at, first_at, after_sent, arrived, keyed, old_sound, same_slot, Sound, orders_are, Agrees, SendsAlike, Fabric, IsAmong, buffer, empty_fabric, input, SlotRecord, fabric_held, LimitedRecord, slots_in, proposals_in, Transfers, HasFor, transfers_in, list_of, orders_of, noted, transfers_of, IsStable, Partners, partner_of, proposals, machine_at, all_both, found_at, all_of_has, opening, Switch, IsMoved, length_put, waiting-empty, waiting-sum}
 use Rattle.cq_ideal.proofs.FlowCount.{come_count-first}
 use Rattle.cq_ideal.proofs.FlowRun.{come_count}
 use Rattle.cq_ideal.proofs.Waiting.{counted, waiting}
@@ -160,19 +160,13 @@ module _ (w : Switch) where
 
       next_within : IsWithin (slot + 1) g.state
       next_within = record {
-        lists = λ i.
-            let arrived = arrived_list i in
-            let filled = shorter r.of_slot.first r.of_slot.arrived r.of_slot.filled k.step.fill i in
-            search (arith, rules, shorter r.of_slot.second r.of_slot.sent g.state k.step.finish i);
+        lists =
+            let first = shorter r.of_slot.first r.of_slot.arrived r.of_slot.filled k.step.fill in
+            let second = shorter r.of_slot.second r.of_slot.sent g.state k.step.finish in
+            search (arith, rules, arrived, arrived_list, first, second);
         buffers = λ j.
-            let arrived = arrived_buffer j in
             let filled = one_crosses r.of_slot.first r.of_slot.arrived r.of_slot.filled k.step.fill (slot + 1)
-            arrived_is k.step.first_chosen j in
-            let sent = left_is j in
-            let less = length-drop 1 (buffer r.of_slot.filled j) in
-            let new = one_crosses r.of_slot.second r.of_slot.sent g.state k.step.finish (slot + 1) sent_is
-            k.step.second_chosen j in
-            grind (arith, common_steps);
+            arrived_is k.step.first_chosen j in search (arith, rules, left_is, length-drop, one_crosses, sent_is);
         states = rw (k.step.finish.ranks, k.step.depart.ranks, k.step.fill.ranks)
             (told_low w.machines keeps r.of_slot.gone r.of_slot.arrived.ranks ranked
             (λ j q left. (of_gone (IsKeyed w) k.keyed j q left).rank));
@@ -186,9 +180,7 @@ module _ (w : Switch) where
       crosses moment many sound keyed placed i j c first =
           let at = first_at (is_for j) (input moment i) c first in
           let among = among_at (input moment i) at.place c at.at in
-          let out : c.cell.output ≡ j = eqb-true c.cell.output j at.passes in
-          let low = sound.fabric.outputs i c among in
-          let inside : i < length moment.inputs = search (arith, rules, get_or_past, cases_lt) in
+          let out = eqb-true c.cell.output j at.passes in
           let is = keyed j c (inl (i, among, out)) in
           let at_own = placed i c among in
           search (arith, rules, small_name)
@@ -196,7 +188,6 @@ module _ (w : Switch) where
       recorded : (last : ℕ) → slot + 1 ≤ last → last < 2 ^ 63 → IsRecordedWithin (length w.machines) last r.of_slot
       unfolding transfers_in
       recorded last le low =
-          let numbered = k.step.numbered in
           let early : r.of_slot.slot < 2 ^ 63 = omega arith in
           let ports = length w.machines in
           let first = all_noted ports r.of_slot.slot 1 early (omega arith, omega arith) r.of_slot.arrived.inputs
@@ -234,8 +225,7 @@ module _ (w : Switch) where
     unfolding proposals_in
     proposed_few few =
         let first = phase_few r.of_slot.arrived r.of_slot.first few arrived_many arrived_is k.step.first_chosen in
-        let second = phase_few r.of_slot.sent r.of_slot.second few sent_many sent_is k.step.second_chosen in
-        omega arith
+        search (arith, rules, phase_few, sent_many, sent_is)
 
     -- nothing is proposed where nothing waits and nothing comes
     no_lists : waits f.state ≡ 0 → (i : ℕ) → length (input f.state i) ≡ 0
@@ -248,19 +238,14 @@ module _ (w : Switch) where
     no_arrival none quiet i =
         let some = came_where w.machines slot 0 r.admission.cells f.state.ranks
         (record { came = r.of_slot.came; ranks = r.of_slot.arrived.ranks }) k.step.arrive.ranked i in
-        let lists = no_lists none i in
-        let is = k.step.arrive.lists i in
-        grind (arith, common_steps, arrival_present)
+        search (arith, rules, no_lists, arrival_present)
 
     none_proposed : waits f.state ≡ 0 → came ≡ 0 → sum (proposals_in r.of_slot) ≡ 0
     unfolding proposals_in
     none_proposed none quiet =
         let arrived = no_arrival none quiet in
         let sent : (i : ℕ) → length (input r.of_slot.sent i) ≡ 0 =
-        λ i. grind (arith, common_steps, no_arrival, shorter) in
-        let first = proposals_none r.of_slot.arrived r.of_slot.first k.step.first_chosen.matching arrived in
-        let second = proposals_none r.of_slot.sent r.of_slot.second k.step.second_chosen.matching sent in
-        omega arith
+        λ i. grind (arith, common_steps, no_arrival, shorter) in omega (arith, proposals_none, arrived)
 
     slot_proposed : length w.machines ≤ 64 →
         sum (proposals_in r.of_slot) + 8192 * waits g.state ≤ 8192 * (waits f.state + came)
@@ -286,11 +271,8 @@ module _ (w : Switch) where
       sum (flat_map proposals_in (slots_in rs)) ≤ 8192 * length w.came
   unfolding arriving_from
   all_proposed slots last ranks g rs run =
-      let most = run.proposed in
       let agree = (limited_empty_agree (length w.machines) ranks).states in
-      let start = waits_is 0 (opening w ranks).state (empty_ideal (length w.machines) ranks) agree in
-      let none = waiting-empty (length w.machines) in
-      let come = come_count-first w.came slots in omega arith
+      omega (arith, waits_is, waiting-empty, come_count-first)
 
 -- the greatest is no more than all together
 pub most_of_all : (a : ℕ) (xs : List ℕ) → fold max a xs ≤ a + sum xs

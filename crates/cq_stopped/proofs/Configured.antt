@@ -56,8 +56,8 @@ zeros_low zero = tt
 zeros_low (suc n) = (omega arith, zeros_low n)
 
 machine_low : (kind : Kind) (rows : List ClassRow) → KeepsLow (machine_of kind rows)
-machine_low FirstCome rows = search (rules, zeros_low)
-machine_low Priority rows = search (rules, zeros_low)
+machine_low FirstCome rows = search rules
+machine_low Priority rows = search rules
 machine_low Fair rows = grind (arith, common_steps, zeros_low)
 
 openings_all : (kinds : List Kind) (rows : List ClassRow) →
@@ -146,15 +146,10 @@ pub configured : (t : Tables) (s : Scheduled) (made : IsScheduleOf t s) → AreT
     IsConfigured (switch_of t s) (openings_of t.setup)
 configured t s made tables recorded =
     let setup = t.setup in
-    let many : length (machines_of setup) ≡ length setup.kinds =
-    length-map setup.kinds (λ (k : Kind). machine_of k setup.classes) in
-    let classes = tables.setup.classes in
+    let many = length-map setup.kinds (λ (k : Kind). machine_of k setup.classes) in
     let known = schedule_known t s tables made in
-    let came : s.came ≡ arrivals t made.captures = ap (λ (x : Scheduled). x.came) made.schedule in
     let few : length made.captures ≤ 64 = omega arith in
     let stamp : s.first_stamp < 2 ^ 63 = rw made.schedule (first_low made.captures recorded) in
-    let traffic = rw (← many) at known.traffic in
-    let packets = rw (known.ports, ← many) at known.packets in
     let names = small_names t made.captures (omega arith) recorded in
     let short = all_short t made.captures tables few recorded in
     let low = machines_low setup.kinds setup.classes in

@@ -75,8 +75,7 @@ module _ {X : Type 0} where
   pub some_passes : (p : X → Bool) (xs : List X) → list_any p xs ≡ true → Passes p xs
   some_passes p [] is = absurd (let P : ⊥ = cc in P)
   some_passes p (x ∷ xs) is = ⊎_elim (λ passes. record { one = x; has = inl refl; passes = passes })
-      (λ fails.
-      let it = some_passes p xs (rw fails at is) in record { one = it.one; has = inr it.has; passes = it.passes })
+      (search (arith, rules, some_passes p xs))
       (cases_Bool (p x))
 
 module _ {X Y : Type 0} (f : X → Y) where
@@ -137,8 +136,7 @@ module _ {X : Type 0} (number : X → ℕ) where
   sifted a i (xs ∷ xss) own zero is =
       let here = filter_all (is_numbered i) xs (λ x has.
       let e = own zero x has in eq-eqb (number x) i (omega arith)) in
-      let past = none_past (a + 1) i xss (omega arith) (later a xs xss own) in
-      simp (filter-append, here, past, append-nil)
+      search (arith, rules, none_past (a + 1) i xss, later a xs xss own, filter-append, append-nil)
   sifted a i (xs ∷ xss) own (suc k) is =
       let none = filter_none (is_numbered i) xs (λ x has.
       let e = own zero x has in ne_eqb (number x) i (λ same. omega arith)) in

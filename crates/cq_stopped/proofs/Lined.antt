@@ -1,7 +1,7 @@
 -- The departures and the transfers of a run: what a slot adds to the departures, at each output the cell that it sent,
 -- if it sent one; that they stand in order: slot by slot, those of a slot by output, and by phase and input; and the
 -- figures that are read off them.
-use Rattle.cq_stopped.proofs.Terms.{ap, ◌≡◌, ℕ, zero, suc, ◌+◌, ◌<◌, List, [], ◌∷◌, ◌++◌, Option, Some, None, refl, arith, rules, ◌≤◌, ◌⊎◌, length, map, inr, ◌-◌, eqb, Bool, true, false, fold, max, ◌∙◌, eq-eqb, ne_eqb, and_from, and_parts, cases_lt, eqb-true, common_steps, map-append, get_or_past, length-map, filter-append, sum_by-cons, AllByRecursion, range_with_len, cons_option, enumerate_from, ◌==◌, filter, slice_index_or, ◌&&◌, count_by, filter_map, is_some, option_map, Arrival, Departure, Queued, Transfer, listed, Marked, arriving_from, slots_of, departures_of, departures_from, departures_in, Fabric, SlotRecord, LimitedRecord, slots_in, figures_of, input_figures, output_figures, sends, sent_by, wait_at, came_to, transfers_in, transfers_of_run, gone_in, list_of, noted, transfers_of, Partners, partner_of, EachPair, all_both, all_weaker, Differ, all_from_has, all_of_has, Has, has_kept, kept_has, looked_up, pairs_looked_up, AreApart, Stands, no_more, pairs_kept, figures_told, input_told, output_told, sent_told, sent_at, seen_as, Runs, IsMovedBefore, Switch, is_named, named_in, Named, State, fold-max, sent_slots, has_number}
+use Rattle.cq_stopped.proofs.Terms.{◌≡◌, ℕ, zero, suc, ◌+◌, ◌<◌, List, [], ◌∷◌, ◌++◌, Option, Some, None, refl, arith, rules, ◌≤◌, ◌⊎◌, length, map, ◌-◌, eqb, Bool, true, false, fold, max, ◌∙◌, eq-eqb, ne_eqb, and_from, and_parts, cases_lt, eqb-true, common_steps, map-append, get_or_past, length-map, filter-append, sum_by-cons, AllByRecursion, range_with_len, cons_option, enumerate_from, ◌==◌, filter, slice_index_or, ◌&&◌, count_by, filter_map, is_some, option_map, Arrival, Departure, Queued, Transfer, listed, Marked, arriving_from, slots_of, departures_of, departures_from, departures_in, Fabric, SlotRecord, LimitedRecord, slots_in, figures_of, input_figures, output_figures, sends, sent_by, wait_at, came_to, transfers_in, transfers_of_run, gone_in, list_of, noted, transfers_of, Partners, partner_of, EachPair, all_both, all_weaker, Differ, all_from_has, all_of_has, Has, has_kept, kept_has, looked_up, pairs_looked_up, AreApart, Stands, no_more, pairs_kept, figures_told, input_told, output_told, sent_told, sent_at, seen_as, Runs, IsMovedBefore, Switch, is_named, named_in, Named, State, fold-max, sent_slots, has_number}
 use Rattle.cq_base.specs.declared.figures.Figures.{Figures}
 use Rattle.cq_base.specs.declared.figures.InputFigures.{InputFigures}
 use Rattle.cq_ideal.proofs.LastSlot.{slots_of-append}
@@ -53,8 +53,7 @@ module _ (j : ℕ) where
   unfolding departures_in
   left_more slot sent gone =
       let here = its_one slot 0 j gone (omega arith) in
-      simp (filter-append, map-append, here) (ap (λ (l : List Queued). left_at j sent ++ l)
-      (listed_is (slice_index_or gone j None)))
+      search (arith, rules, filter-append, map-append, left_at, listed_is)
     where
       listed_is : (o : Option Queued) → map (λ (d : Departure). d.queued) (told_of slot o) ≡ listed o
       listed_is None = refl
@@ -80,11 +79,9 @@ no_earlier slot (gone ∷ slots) = search (rules, all_both, all_weaker, of_slot,
 slot_in_order : (slot a : ℕ) (gone : List (Option Queued)) → EachPair DepartsBefore (departures_from slot a gone)
 slot_in_order slot a [] = tt
 slot_in_order slot a (None ∷ gone) = slot_in_order slot (a + 1) gone
-slot_in_order slot a (Some q ∷ gone) = (
-  each_departs slot (DepartsBefore (record { slot = slot; output = a; queued = q })) gone (a + 1)
-      (λ k j p is at. inr (refl, omega arith)),
-  slot_in_order slot (a + 1) gone,
-)
+slot_in_order slot a (Some q ∷ gone) =
+    let all = each_departs slot (DepartsBefore (record { slot = slot; output = a; queued = q })) gone (a + 1) in
+    search (arith, rules, all, slot_in_order slot (a + 1) gone)
 
 pub departures_in_order : (slot : ℕ) (slots : List (List (Option Queued))) →
     EachPair DepartsBefore (departures_of slot slots)
@@ -140,11 +137,8 @@ module _ (w : Switch) where
   unfolding transfers_of_run arriving_from
   moved_in_order zero a end f g [] run is = record { pairs = tt; times = tt }
   moved_in_order (suc m) a end f g (r ∷ rs) run is =
-      let number = run.1.runs.numbered in
-      let of = slot_transfers r.of_slot in
-      let moved = slot_moved r.of_slot in
-      let rest = moved_in_order m (a + 1) end run.0 g rs run.2 (omega arith) in
-      search (arith, rules, pairs_join, all_of_has, all_both, all_weaker)
+      let rest = moved_in_order m (a + 1) end run.0 g rs run.2 in
+      search (arith, rules, slot_transfers, slot_moved, pairs_join, all_of_has, all_both, all_weaker, rest)
   moved_in_order _ a end f g _ run is = absurd run
 
 -- ## The figures. What an output sent and how long it kept a cell are read off its departures, one for each slot in
@@ -161,9 +155,7 @@ slots_are : (slot : ℕ) (rs : List SlotRecord) → AreNumbered slot rs →
 unfolding departures_of departures_in
 slots_are slot [] are = refl
 slots_are slot (r ∷ rs) are =
-    let rest = slots_are (slot + 1) rs are.1 in
-    let number : r.slot ≡ slot = are.0 in
-    grind (arith, common_steps, slots_of-append, sent_slots, fold-max)
+    let rest = slots_are (slot + 1) rs are.1 in search (arith, rules, slots_of-append, sent_slots, fold-max)
 
 module _ (j : ℕ) where
   -- the departure of a record
@@ -175,10 +167,7 @@ module _ (j : ℕ) where
   unfolding departures_of departures_in
   its_all slot [] are = refl
   its_all slot (r ∷ rs) are =
-      let rest = its_all (slot + 1) rs are.1 in
-      let here = its_one j slot 0 j r.gone (omega arith) in
-      let number : r.slot ≡ slot = are.0 in
-      grind (arith, common_steps, filter-append)
+      let rest = its_all (slot + 1) rs are.1 in search (arith, rules, its_one j slot 0 j r.gone, filter-append)
 
   waits : (rs : List SlotRecord) →
       map (λ (d : Departure). d.slot - d.queued.key.slot) (filter_map its_departure rs) ≡ filter_map (wait_at j) rs
@@ -242,9 +231,7 @@ module _ (names : List Named) (rs : List LimitedRecord) (differ : EachPair Diffe
   -- names of the input have different slots, in which a cell comes
   name_comes : (c : Named) → Has names c → c.input ≡ i → comes c.slot ≡ true
   name_comes c has same =
-      let is = named_is (some_arrival c.slot i) in
-      let any = any_has (λ (d : Named). eqb d.slot c.slot && eqb d.input i) names c has in
-      grind (arith, common_steps, and_from, eq-eqb)
+      let is = named_is (some_arrival c.slot i) in search (arith, rules, any_has, and_from, eq-eqb)
 
   abbrev IsOfSlot : Named → ℕ → Type 0
   IsOfSlot c t = c.slot ≡ t
@@ -257,14 +244,11 @@ module _ (names : List Named) (rs : List LimitedRecord) (differ : EachPair Diffe
   names_counted =
       let mine = filter own names in
       let numbers = range_with_len 0 (length rs) in
-      let few = no_more IsOfSlot mine slots (pairs_in Differ (AreApart IsOfSlot) mine
-      (λ c d one two apart t first second.
-      let x = kept_has own names c one in let y = kept_has own names d two in grind (arith, common_steps, eqb-true))
-      (pairs_kept Differ own names differ)) (all_from_has (Stands IsOfSlot slots) mine (λ c has.
+      let few = no_more IsOfSlot mine slots
+      (search (arith, rules, pairs_in, Differ, AreApart, kept_has, eqb-true, pairs_kept))
+      (all_from_has (Stands IsOfSlot slots) mine (λ c has.
       search (arith, rules, kept_has, name_comes, eqb-true, comes_inside, has_kept, has_number))) in
-      let most = no_more IsSlotOf slots mine (pairs_in (λ (t u : ℕ). t < u) (AreApart IsSlotOf) slots
-      (λ t u one two less c first second. omega arith)
-      (pairs_kept (λ (t u : ℕ). t < u) comes numbers (range_rises 0 (length rs))))
+      let most = no_more IsSlotOf slots mine (search (arith, rules, pairs_in, AreApart, pairs_kept, range_rises))
       (all_from_has (Stands IsSlotOf mine) slots (λ t has.
       let it = some_passes (λ (d : Named). eqb d.slot t && eqb d.input i) names
       (named_is (some_arrival t i) ∙ (kept_has comes numbers t has).1) in

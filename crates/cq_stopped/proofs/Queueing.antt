@@ -166,9 +166,7 @@ module _ (R : Queued → Queued → Type 0) (q : Queued) where
       (λ h. (
         (
           after.0 (key_laws.one_way q.key x.key h),
-          all_if_among (R q) xs (λ y among.
-              all_among MayStandBehind xs y after.1 among
-              (none_before q.key x.key y.key h (all_among (NoLater x) xs y order.0 among))),
+          all_if_among (R q) xs (search (arith, rules, all_among, none_before, NoLater)),
         ),
         pairs,
       ))
@@ -225,14 +223,12 @@ module _ (j slot : ℕ) where
       let own : IsEarlier (a + 1) q = search (arith, rules) in
       cond_both (is_for j q) (put q xs) xs (λ l. EachPair Follows (left ++ put_all j came l))
       (λ here. pairs_put_all came (a + 1) left (put q xs) (come_on a (Some q) came come)
-      (all_both (IsEarlier (a + 1)) left (put q xs) (earlier_on a left (all_front (IsEarlier a) left xs earlier))
-      (all_put (IsEarlier (a + 1)) q xs own (earlier_on a xs waits)))
+      (search (arith, rules, all_both, earlier_on, all_front, all_put))
       (λ k p x at output among before class.
       ⊎_elim (λ same. absurd (omega (arith, ap (λ (y : Queued). y.key.slot) same)))
       (λ was. old (suc k) p x at output was before class) (among_put x q xs among))
       (in_order_put q xs order)
-      (put_pairs Follows q left xs order pairs
-      (all_weaker (IsEarlier a) (λ x. Follows x q) (ahead a q slot_is input_is) (left ++ xs) earlier)
+      (put_pairs Follows q left xs order pairs (search (arith, rules, all_weaker, ahead))
       (all_if_among _ xs (λ x among. stands_behind a q slot_is input_is x (all_among (IsEarlier a) xs x waits among)
       (old zero q x refl (eqb-true q.cell.output j here) among)))))
       (λ other. pairs_put_all came (a + 1) left xs (come_on a (Some q) came come) (earlier_on a (left ++ xs) earlier)

@@ -3,7 +3,7 @@
 -- are one, and of all others the names differ. Each name in the state is of such a cell, and comes to it: each list to
 -- the list of its input, each buffer to that of its output, and each departure to itself. So the clauses hold that ask
 -- for a sound state, but for the fourth.
-use Rattle.cq_stopped.proofs.Terms.{among_of_has, rules, ◌≡◌, ℕ, ◌<◌, List, [], length, Option, refl, sym, ◌∙◌, subst, inl, inr, arith, Bool, true, ◌++◌, map, Some, None, ap, ⊎_elim, ◌+◌, ◌≤◌, ◌⊎◌, false_from_ne_true, and_from, and_parts, eq-eqb, eqb-true, common_steps, list_any, filter_map, ◌&&◌, ◌==◌, is_some, slice_index_or, filter, option_map, IsSome, Arrival, IsBefore, is_for, Departure, Queued, Transfer, HasWaited, IdealState, apart_from, not_before_itself, Fabric, buffer, input, fabric_in, HasFor, list_of, machine_at, EachPair, all_pairs, all_weaker, has_of_among, cell_with, Differ, Has, all_from_has, all_of_has, has_left, has_right, pair_of_has, has_cases, has_image, image_has, kept_has, pairs_cross, pairs_left, pairs_right, pairs_with, departure_of, sent_told, named_as, sent_as, state_of, HaveSlack, AreArrivals, IsBufferedBefore, IsMovedBefore, IsSentBefore, StandInOrder, KeepArrivalOrder, OfOneFlow, AreBelowFloors, IsBelowFloor, Switch, HasShape, class_in, class_of, is_named, named_in, output_in, output_of, queued_in, buffer_told, fabric_told, list_told, queued_of, arriving_cell, is_ahead, Taken, Named, Sent, told_state, State, pairs_of_cells}
+use Rattle.cq_stopped.proofs.Terms.{among_of_has, rules, ◌≡◌, ℕ, ◌<◌, List, [], length, Option, refl, sym, ◌∙◌, inl, inr, arith, Bool, true, ◌++◌, map, Some, None, ap, ⊎_elim, ◌≤◌, false_from_ne_true, and_from, and_parts, eq-eqb, eqb-true, common_steps, list_any, filter_map, ◌&&◌, ◌==◌, is_some, slice_index_or, filter, option_map, IsSome, Arrival, IsBefore, is_for, Departure, Queued, Transfer, HasWaited, IdealState, apart_from, not_before_itself, Fabric, buffer, input, fabric_in, HasFor, list_of, machine_at, EachPair, all_pairs, all_weaker, has_of_among, cell_with, Differ, Has, all_from_has, all_of_has, has_left, has_right, pair_of_has, has_cases, has_image, image_has, kept_has, pairs_cross, pairs_left, pairs_right, pairs_with, departure_of, sent_told, named_as, sent_as, state_of, HaveSlack, AreArrivals, IsBufferedBefore, IsMovedBefore, StandInOrder, KeepArrivalOrder, OfOneFlow, AreBelowFloors, IsBelowFloor, Switch, HasShape, class_in, class_of, is_named, named_in, output_in, output_of, queued_in, buffer_told, fabric_told, list_told, queued_of, arriving_cell, is_ahead, Taken, Named, Sent, told_state, State, pairs_of_cells}
 use Rattle.cq_stopped.proofs.Joined.{pairs_in, all_if_has, all_of, has_number, pairs_by_number, pairs_of_all, any_has, has_at_place, is_at, some_passes, pairs_join, pairs_of_images, pairs_both, filter_images, sift, told_again, by_places, image_pairs}
 use Rattle.cq_stopped.proofs.Lined.{AreMoved, DepartsBefore}
 use Rattle.cq_stopped.proofs.Ran.{Follows, IsOwn, IsSentRight, Known, left_at, pool_at, IsHeld, came_in}
@@ -52,8 +52,7 @@ module _ {w : Switch} (at : Taken) {ideal : IdealState} {cs : List (List (Option
   waits_for : (j : ℕ) (q : Queued) → q.cell.output ≡ j → HasFor f j q → Waits q
   waits_for j q same has =
       let own = own_at w at.frozen.next f ideal cs at.sent known j q has in
-      let there = rw (← same) at (has_of_among _ q ((known.agrees.same j q).1 has)) in
-      search (arith, rules, kept_at, has_right, left_at)
+      search (arith, rules, has_of_among _ q ((known.agrees.same j q).1 has), kept_at, has_right, left_at)
 
   placed : (i : ℕ) (q : Queued) → Has (input f i) q → q.key.input ≡ i
   placed i q has = known.placed i q (among_of_has (input f i) q has)
@@ -96,8 +95,7 @@ module _ {w : Switch} (at : Taken) {ideal : IdealState} {cs : List (List (Option
   follows_left d q has waits outputs =
       let gone = has_left_it d has in
       let j = q.cell.output in
-      pairs_cross Follows (left_at j at.sent) (list_of ideal.lists j) d.queued q (pairs_at j waits.kept.inside)
-      (subst (λ (o : ℕ). Has (left_at o at.sent) d.queued) outputs gone.there) waits.there
+      search (arith, rules, pairs_cross Follows, Follows, left_at j at.sent, left_at, pairs_at j waits.kept.inside, Has)
 
   -- what waits has another name than what left
   differ_left : (d : Departure) (q : Queued) → Has at.sent d → Waits q → Differ (named_as q) (named_as d.queued)
@@ -122,8 +120,7 @@ module _ {w : Switch} (at : Taken) {ideal : IdealState} {cs : List (List (Option
       (a.cell.output ≡ b.cell.output → IsBefore a b) → R a b) →
       ((i k : ℕ) (a b : Queued) → i < k → Has (input f i) a → Has (input f k) b → R a b) → EachPair R listed
   each_listed R leads apart = pairs_of_all R f.inputs
-      (λ i. pairs_in (λ (a b : Queued). a.cell.output ≡ b.cell.output → IsBefore a b) R (input f i) (leads i)
-      (pairs_of_cells _ (input f i) (known.agrees.order i))) apart
+      (λ i. search (arith, rules, pairs_in, pairs_of_cells _ (input f i) (known.agrees.order i))) apart
 
   -- ## The shape
 
@@ -158,8 +155,7 @@ module _ {w : Switch} (at : Taken) {ideal : IdealState} {cs : List (List (Option
 
   pub is_of_one : (c : Named) → Has (named_in st) c → IsNameOf IsKept c
   unfolding state_of
-  is_of_one c has = ⊎_elim (λ (queued : Has (queued_in st) c).
-      let it = is_waiting c queued in record { cell = it.cell; is = it.is; own = it.own.kept })
+  is_of_one c has = ⊎_elim (search (arith, rules, is_waiting))
       (λ (sent : Has gone c). let it = of_sent c sent in search (arith, rules, has_left_it it.0 it.1))
       (has_cases (queued_in st) gone c has)
 
@@ -183,9 +179,7 @@ module _ {w : Switch} (at : Taken) {ideal : IdealState} {cs : List (List (Option
   name_held : (t i : ℕ) (q : Queued) → IsHeld ideal at.sent t i q → Has (named_in st) (named_as q)
   name_held t i q it =
       let j = q.cell.output in
-      ⊎_elim (λ (gone : Has (left_at j at.sent) q).
-      let image = image_has (λ (d : Departure). d.queued) _ q gone in
-      search (arith, rules, kept_has, Has, name_left)) (λ (there : Has (list_of ideal.lists j) q).
+      ⊎_elim (search (arith, rules, image_has, kept_has, name_left)) (λ (there : Has (list_of ideal.lists j) q).
       ⊎_elim (λ at_input. waits_named q (has_left (map named_as listed) _ (named_as q) (has_image named_as listed q
       (has_at_place at.frozen.lists at_input.0 q (has_of_among (input f at_input.0) q at_input.1)))))
       (λ crossed. waits_named q (has_right (map named_as listed) _ (named_as q) (has_image named_as buffered q
@@ -207,10 +201,7 @@ module _ {w : Switch} (at : Taken) {ideal : IdealState} {cs : List (List (Option
           any_has (is_its t i) (named_in st) (named_as q) (name_held t i q it) (search (rules, and_from, eq-eqb))
       by None is = false_from_ne_true (list_any (is_its t i) (named_in st)) (λ some.
           let it = some_passes (is_its t i) (named_in st) some in
-          let one = is_of_one it.one it.has in
-          let parts = and_parts (it.one.slot == t) (it.one.input == i) it.passes in
-          let origin = known.origin one.cell.cell.output one.cell one.own.inside one.own.pool in
-          grind (arith, common_steps, eqb-true))
+          let one = is_of_one it.one it.has in search (arith, rules, and_parts, eqb-true))
 
   pub named_is : (a : Arrival) → is_named (named_in st) a ≡ is_some (came_in cs a.slot a.cell.id.input)
   named_is a = is_named_at a.slot a.cell.id.input
@@ -229,16 +220,14 @@ module _ {w : Switch} (at : Taken) {ideal : IdealState} {cs : List (List (Option
 
   buffer_again : (j : ℕ) → buffer_told w.came st j ≡ buffer f j
   unfolding state_of
-  buffer_again j = ap (filter (is_for j)) (told_again named_as (queued_of w.came) buffered
-      (λ q has. let it = is_at at.frozen.buffers q has in cell_again q (waits_behind it.place q it.has).kept))
+  buffer_again j = ap (filter (is_for j)) (search (arith, rules, told_again, is_at, cell_again, waits_behind))
       ∙ sift (λ (q : Queued). q.cell.output) at.frozen.buffers crossed_to j
 
   pub fabric_same : fabric_told w.came st ≡ f
   unfolding fabric_told state_of
   fabric_same =
       let lists = by_places (list_told w.came st) [] at.frozen.lists (λ k lt. list_again k) in
-      let buffers = by_places (buffer_told w.came st) [] at.frozen.buffers (λ k lt. buffer_again k) in
-      grind (arith, common_steps)
+      search (arith, rules, by_places (buffer_told w.came st) [] at.frozen.buffers, buffer_again)
 
   pub slack_kept : HaveSlack w st
   slack_kept = rw fabric_same known.agrees.slack
@@ -272,13 +261,12 @@ module _ {w : Switch} (at : Taken) {ideal : IdealState} {cs : List (List (Option
   queued_pairs : EachPair Differ (queued_in st)
   unfolding state_of
   queued_pairs = pairs_join Differ (map named_as listed) (map named_as buffered)
-      (pairs_of_images named_as Differ listed (each_listed Other
-      (λ i a b first second leads slot place. search (arith, rules, same_waiting, waits_at, itself))
-      (λ i k a b lt first second slot place.
-      let own = placed i a first in let other = placed k b second in omega arith)))
-      (pairs_of_images named_as Differ buffered (pairs_of_all Other at.frozen.buffers
-      (λ j. search (arith, rules, pairs_with IsBefore Other Waits, same_waiting, itself, all_from_has, waits_behind j))
-      (λ j l a b lt first second slot place. search (arith, rules, same_waiting, waits_behind, crossed_to))))
+      (pairs_of_images named_as Differ listed
+      (search (arith, rules, each_listed Other, same_waiting, waits_at, itself, placed)))
+      (pairs_of_images named_as Differ buffered
+      (let all = pairs_of_all Other at.frozen.buffers in
+      let pairs = pairs_with IsBefore Other Waits in
+      search (arith, rules, all, pairs, same_waiting, itself, all_from_has, waits_behind, crossed_to)))
       (λ c d first second. search (arith, rules, image_has, all_of, Differ, crossed))
 
   pub arrivals_are : AreArrivals w.came st
@@ -286,16 +274,11 @@ module _ {w : Switch} (at : Taken) {ideal : IdealState} {cs : List (List (Option
   arrivals_are =
       let Comes : Named → Type 0 = λ c. (c.slot < at.frozen.next) × IsSome (arriving_cell w.came c) in
       let left = pairs_of_images (λ (d : Sent). d.cell) Differ _ (pairs_of_images sent_as _ at.sent (each_sent
-      (λ d e. Other d.queued e.queued)
-      (λ d e first second follows slot place. search (arith, rules, same_cell, right_at, has_left_it)))) in
+      (λ d e. Other d.queued e.queued) (search (arith, rules, same_cell, right_at, has_left_it)))) in
       record {
-        arrive = all_if_has Comes (named_in st) (λ c has.
-            let it = is_of_one c has in subst Comes it.is (it.own.own.before, rw it.own.own.keyed.arrives refl));
+        arrive = search (arith, rules, all_if_has Comes (named_in st), is_of_one);
         once = all_pairs Differ (named_in st) (pairs_join Differ (queued_in st) gone queued_pairs left
-            (λ c d first second.
-            let x = is_waiting c first in
-            let y = of_sent d second in
-            rw (← x.is, ← y.2) (differ_left y.0 x.cell y.1 x.own)));
+            (search (arith, rules, is_waiting, of_sent, differ_left)));
       }
 
   -- ## The fifth clause: the cells of each flow left in the order of arrival, those that wait came after them, and of
@@ -326,12 +309,9 @@ module _ {w : Switch} (at : Taken) {ideal : IdealState} {cs : List (List (Option
       let both = of_one a b first.kept second.kept flow in
       let j = a.cell.output in
       let there : Has (list_of ideal.lists a.cell.output) b = rw both.output second.there in
-      let pairs = pairs_both IsBefore Follows (list_of ideal.lists j)
-      (pairs_of_cells IsBefore (list_of ideal.lists j) (known.agrees.rising j))
+      let pairs = pairs_both IsBefore Follows (list_of ideal.lists j) (search (arith, rules, pairs_of_cells))
       (pairs_right Follows (left_at j at.sent) (list_of ideal.lists j) (pairs_at j first.kept.inside)) in
-      let either = pair_of_has (λ (x y : Queued). IsBefore x y × Follows x y) (list_of ideal.lists j) a b pairs
-      first.there there in
-      grind (arith, common_steps)
+      search (arith, rules, pair_of_has, Follows)
 
   pub keep_order : KeepArrivalOrder w st
   unfolding state_of
@@ -341,18 +321,13 @@ module _ {w : Switch} (at : Taken) {ideal : IdealState} {cs : List (List (Option
       let Ahead : Named → Named → Type 0 = λ a b. Flow a b → a.slot < b.slot → is_ahead a b ≡ true in
       record {
         sent = image_pairs sent_as (λ (d e : Sent). Flow d.cell e.cell → d.cell.slot < e.cell.slot) at.sent
-            (each_sent _ (λ d e first second follows flow.
-            let both = of_one d.queued e.queued (has_left_it d first).kept (has_left_it e second).kept flow in
-            let own = (right_at d first).own ∙ both.output ∙ sym (right_at e second).own in
-            (follows own).later both.input both.class));
+            (each_sent _ (search (arith, rules, of_one, has_left_it, right_at)));
         after = all_if_has _ (map sent_as at.sent) (λ d has.
             let image = image_has sent_as at.sent d has in
-            all_if_has (After d) queued (λ c there.
-            let it = is_waiting c there in search (arith, rules, waits_after)));
+            all_if_has (After d) queued (search (arith, rules, is_waiting, waits_after)));
         queued = all_if_has _ queued (λ a first.
             let x = is_waiting a first in
-            all_if_has (Ahead a) queued (λ b second.
-            let y = is_waiting b second in search (arith, rules, goes_first)));
+            all_if_has (Ahead a) queued (search (arith, rules, is_waiting, goes_first)));
       }
 
   -- ## The sixth clause: what waits is not above the floor of its class
@@ -362,8 +337,7 @@ module _ {w : Switch} (at : Taken) {ideal : IdealState} {cs : List (List (Option
   below q waits = grind (arith, common_steps, its_output, its_class, all_of_has, HasWaited)
 
   pub below_floors : AreBelowFloors w st
-  below_floors = all_if_has (IsBelowFloor w st) (queued_in st)
-      (λ c has. let it = is_waiting c has in rw it.is at (below it.cell it.own))
+  below_floors = all_if_has (IsBelowFloor w st) (queued_in st) (search (arith, rules, is_waiting, below))
 
   -- ## The second clause: all lines stand in order. Those of the lists are told list by list, and those of the buffers
   -- buffer by buffer; departures and transfers are told as the run made them.
@@ -380,27 +354,18 @@ module _ {w : Switch} (at : Taken) {ideal : IdealState} {cs : List (List (Option
       let Timely : Sent → Type 0 = λ d. (d.cell.slot ≤ d.slot) × (d.slot < at.frozen.next) in
       record {
         lists = image_pairs named_as (λ (a b : Named). a.input ≤ b.input) listed (each_listed _
-            (λ i a b first second leads. let x = placed i a first in let y = placed i b second in omega arith)
+            (search (arith, rules, placed))
             (λ i k a b lt first second. let x = placed i a first in let y = placed k b second in omega arith));
         keys = image_pairs named_as
             (λ (a b : Named). a.input ≡ b.input → output_of w.came a ≡ output_of w.came b → is_ahead a b ≡ true)
-            listed (each_listed _
-            (λ i a b first second leads inputs outputs.
-            leads (sym (its_output a (waits_at i a first).kept) ∙ outputs ∙ its_output b (waits_at i b second).kept))
-            (λ i k a b lt first second inputs outputs.
-            let x = placed i a first in let y = placed k b second in absurd (omega arith)));
+            listed (each_listed _ (search (arith, rules, its_output, waits_at))
+            (search (arith, rules, placed)));
         buffers = image_pairs named_as (IsBufferedBefore w.came) buffered (pairs_of_all _ at.frozen.buffers
-            (λ j. pairs_in IsBefore _ (buffer f j)
-            (λ a b first second before. inr (out j a first ∙ sym (out j b second), before))
-            (pairs_of_cells IsBefore (buffer f j) (known.agrees.fabric.rising j)))
-            (λ j l a b lt first second. let x = out j a first in let y = out l b second in inl (omega arith)));
-        sent = image_pairs sent_as (IsSentBefore w.came) at.sent (pairs_in DepartsBefore _ at.sent
-            (λ d e first second before.
-            let x = left_by d first in let y = left_by e second in grind (arith, common_steps)) departs);
-        sent_times = all_if_has Timely (map sent_as at.sent) (λ d has.
-            let image = image_has sent_as at.sent d has in
-            let right = right_at image.0 image.1 in subst Timely image.2 (right.from, right.before));
+            (λ j. pairs_in IsBefore _ (buffer f j) (search (arith, rules, out))
+            (pairs_of_cells IsBefore (buffer f j) (known.agrees.fabric.rising j))) (search (arith, rules, out)));
+        sent = search (arith, rules, image_pairs, pairs_in, left_by);
+        sent_times = all_if_has Timely (map sent_as at.sent) (search (arith, rules, image_has, right_at));
         moved = all_pairs IsMovedBefore at.note moved.pairs;
-        moved_times = all_if_has (λ (t : Transfer). t.slot < at.frozen.next) at.note (λ t has.
-            (all_of_has (λ (u : Transfer). (0 ≤ u.slot) × (u.slot < at.frozen.next)) at.note t moved.times has).1);
+        moved_times = all_if_has (λ (t : Transfer). t.slot < at.frozen.next) at.note
+            (search (arith, rules, all_of_has));
       }

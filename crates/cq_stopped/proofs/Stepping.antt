@@ -47,7 +47,6 @@ pub own_at : (w : Switch) (n : ℕ) (f : Fabric) (ideal : IdealState) (cs : List
     (j < length w.machines) × IsOwn w n j q
 own_at w n f ideal cs sent known j q has =
     let there = has_of_among (list_of ideal.lists j) q ((known.agrees.same j q).1 has) in
-    let many = known.agrees.ports in
     let inside : j < length w.machines = search (arith, rules, Has, get_or_past, cases_lt) in
     let all = (known.lanes j inside).own in
     (inside, all_of_has (IsOwn w n j) (pool_at j sent ideal) q all (has_right (left_at j sent) _ q there))
@@ -124,7 +123,6 @@ module _ (w : Switch) (ranks : List (List ℕ)) (configured : IsConfigured w ran
         let arrive : arriving_at w.came q.key.slot q.key.input ≡ Some q.cell =
         rw (c.slot_is, input) (arrives k q.cell c.cell_is) in
         let found = found_at w.came q.key.slot q.key.input q.cell arrive in
-        let place = c.cell_is in
         search (arith, rules, come.inputs, come.outputs, come.classes)
 
     -- ## What the ideal switch does
@@ -161,7 +159,7 @@ module _ (w : Switch) (ranks : List (List ℕ)) (configured : IsConfigured w ran
 
     gone_is : (j : ℕ) → j < length w.machines → slice_index_or r.of_slot.gone j None ≡ slice_get (full j) 0
     gone_is j inside =
-        let none : Option Queued = None in
+        let none = None in
         let long = lists_many in
         let first = get_or-map (λ (zs : List Queued). slice_get zs 0) lists j [] none (omega arith) in
         grind (arith, common_steps, made_is, full_is)
@@ -214,19 +212,14 @@ module _ (w : Switch) (ranks : List (List ℕ)) (configured : IsConfigured w ran
       old_ahead : OldAhead j n came (waiting j)
       old_ahead k q x at output among before class =
           let waited = all_of_has (HasWaited (machine_at w.machines j) _ n 0) (waiting j) x lane.stands.waited
-          (has_of_among (waiting j) x among) in
-          let ranked = its_rank k q at in
-          let slot = (its_came k q at).slot_is in
-          grind (arith, common_steps, is_less)
+          (has_of_among (waiting j) x among) in search (arith, rules, its_rank, its_came, is_less)
 
       classes : AreOfClasses (machine_at w.machines j) j (present r.admission.cells)
-      classes = all_present _ r.admission.cells
-          (λ k cell at same. let it = its_known k cell at in rw same at it.class)
+      classes = all_present _ r.admission.cells (search (arith, rules, its_known))
 
       its_served : Served w.machines j n (configured.laws j inside) 0 0 (present r.admission.cells) ideal
           (record { gone = r.of_slot.gone; after = next })
       its_served =
-          let lists_are = many in
           served w.machines j n (configured.laws j inside) 0 0 r.admission.cells ideal _ alike.sent (omega arith)
           (omega arith) lane.stands classes
 
@@ -240,15 +233,14 @@ module _ (w : Switch) (ranks : List (List ℕ)) (configured : IsConfigured w ran
     -- ## Where cells stand
 
     arrived_placed : (i : ℕ) (c : Queued) → IsAmong c (input r.of_slot.arrived i) → c.key.input ≡ i
-    arrived_placed i c among = ⊎_elim (its_keys.input_is i c) (known.placed i c)
-        (came_or_was f.state (came_to came i) (input f.state i) c (rw step.runs.arrive.lists at among))
+    arrived_placed i c among = ⊎_elim (its_keys.input_is i c) (known.placed i c) (search (arith, rules, came_or_was))
 
     -- ## Departures
 
     departed_next : AllByRecursion (IsSentRight w (n + 1)) sent_next
     unfolding departures_in
     departed_next = all_both (IsSentRight w (n + 1)) sent (departures_from n 0 r.of_slot.gone)
-        (all_weaker (IsSentRight w n) (IsSentRight w (n + 1)) (λ d right. search (arith, rules)) sent known.departed)
+        (search (arith, rules, all_weaker, IsSentRight))
         (each_departs n (IsSentRight w (n + 1)) r.of_slot.gone 0 (λ k j q is at.
         let there = has_right (left k) (full k) q in
         grind (arith, common_steps, none_gone k, gone_is k, has_there, there, own_all k, all_of_has, cases_lt)))
@@ -273,36 +265,27 @@ module _ (w : Switch) (ranks : List (List ℕ)) (configured : IsConfigured w ran
     known_next : Known w (n + 1) g.state next came_next sent_next
     known_next = record {
       agrees = alike.agrees;
-      ports = ports_kept w.machines n w.classes r.admission.cells f.state g.state ideal r.of_slot known.agrees come
-          stable ∙ known.ports;
+      ports = search (arith, rules, ports_kept, come, stable);
       states = (its_served 0 (omega arith)).states ∙ known.states;
       lanes = next_lane;
       placed = λ i c among.
-          let in_sent = still_among r.of_slot.second r.of_slot.sent g.state step.runs.finish i c among in
-          arrived_placed i c (still_among r.of_slot.first r.of_slot.arrived r.of_slot.filled step.runs.fill i c
-          (rw step.runs.depart.inputs at in_sent));
+          let second = still_among r.of_slot.second r.of_slot.sent g.state step.runs.finish i c among in
+          let first = still_among r.of_slot.first r.of_slot.arrived r.of_slot.filled step.runs.fill i c in
+          search (arith, rules, first, second, arrived_placed i c);
       departed = departed_next;
       long = length-append cs (came ∷ []) ∙ ap (λ (m : ℕ). m + 1) known.long;
-      origin = λ j q inside has. ⊎_elim (λ was.
-          let own = all_of_has (IsOwn w n j) (pool_at j sent ideal) q (known.lanes j inside).own was in
-          came_before cs came n known.long q.key.input q.key.slot own.before ∙ known.origin j q inside was)
-          (λ new.
-          let c = its_came new.0 q new.1 in
-          let input : q.key.input ≡ new.0 = omega arith in
-          cc (came_now cs came n known.long new.0, new.1))
-          (was_or_new j q (rw (pool_is j inside) at has));
+      origin = λ j q inside has.
+          let before = came_before cs came n known.long q.key.input q.key.slot in
+          let now = came_now cs came n known.long in
+          let new = was_or_new j q in let pool = pool_is j inside in
+          search (arith, rules, all_of_has, IsOwn w n j, pool_at j sent ideal, before, its_came, now, new, pool);
       held = λ t i q is. ⊎_elim
-          (λ (lt : t < n).
-          let was = known.held t i q (sym (came_before cs came n known.long i t lt) ∙ is) in
-          let lists_are = many in
-          held_at t i q was.slot was.input (omega arith) (pool_keeps q.cell.output q was.held))
+          (search (arith, rules, came_before cs came, many, held_at, pool_keeps q.cell.output q))
           (λ (ge : n ≤ t). ⊎_elim (λ (same : n ≡ t).
           let at = sym (came_now cs came n known.long i) ∙ (rw same is) in
           let c = its_came i q at in
           let inside = its_keys.outputs i q at in
-          held_at t i q (omega arith) (omega arith) (omega arith)
-          (search (rules, has_right, has_of_among, put_all_new)))
-          (λ ne. absurd (let none = none_later cs came n known.long i t (omega arith) in let P : ⊥ = cc in P))
+          search (arith, rules, held_at, has_right, has_of_among, put_all_new)) (search (arith, rules, none_later))
           (cases_eq n t))
           (cases_lt t n);
     }
@@ -316,8 +299,7 @@ module _ (w : Switch) (ranks : List (List ℕ)) (configured : IsConfigured w ran
           ports = known.ports;
           come = come;
           step = stable;
-          keyed = λ j q has. ⊎_elim (λ was. (own_at w n f.state ideal cs sent known j q was).1.keyed)
-              (λ new. is_keyed new.0 q new.1) has;
+          keyed = λ j q has. search (arith, rules, own_at w n f.state ideal cs sent known j q, is_keyed);
           placed = arrived_placed;
           fewer = grind (arith, common_steps, present, fewer);
         }
@@ -341,12 +323,7 @@ module _ (w : Switch) (ranks : List (List ℕ)) (configured : IsConfigured w ran
       record { ideal = ideal; known = simp (append-nil, run, e) known; slots = run }
   run_known (suc m) a end f g (r ∷ rs) ideal cs sent known is run =
       let next = known_next a f run.0 r ideal cs sent known run.1 in
-      let rest = run_known m (a + 1) end run.0 g rs _ _ _ next (omega arith) run.2 in
-      record {
-        ideal = rest.ideal;
-        known = simp append_assoc at rest.known;
-        slots = (run.0, slot_known a f run.0 r ideal cs sent known run.1, rest.slots);
-      }
+      search (arith, rules, append_assoc, slot_known, run_known m (a + 1) end run.0 g rs _ _ _ next)
   run_known _ a end f g _ ideal cs sent known is run = absurd run
 
   -- nothing is known of the empty fabric but that

@@ -3,7 +3,7 @@
 -- of its cell; the figures, since as many names are of an input as cells came to it; and the marks and the counts,
 -- since the arrivals that are not named are those that were refused. The text of that state is read as what was left,
 -- so what goes on from there is the run.
-use Rattle.cq_stopped.proofs.Terms.{proposals_in, rules, ◌≡◌, ℕ, zero, suc, ◌+◌, ◌-◌, ◌<◌, ◌≤◌, ◌^◌, List, [], ◌∷◌, length, map, fold, min, max, refl, sym, ap, ◌∙◌, arith, common_steps, length-map, length-map-range_with_len, AllByRecursion, enumerate_from, flat_map, slice_index_or, Queued, Scheduled, arriving_from, departures_of, Fabric, cushion_of, input, SlotRecord, fabric_in, marked_in, LimitedRecord, slots_in, figures_of, input_figures, slacks, transfers_of_run, gone_in, list_of, each_pair, EachPair, all_both, Differ, Has, all_from_has, all_of_has, has_image, has_left, has_right, image_has, figures_told, frozen_told, marks_told, taken_of, opening, IsWhole, IsParted, seen_as, sent_as, state_of, IsRefusal, named_as, Kept, Runs, Clause, IsSound, Switch, switch_of, named_in, queued_in, Taken, ports_of, Tables, machine_of, machines_of, openings_of, AreRankNumbers, IsInRange, IsMoved, IsNamed, IsSeen, IsSent, state_lines, state_text, Named, Sent, State, told_state, CanBeTakenUp, StoppedRunsAreSound, few_kept}
+use Rattle.cq_stopped.proofs.Terms.{rules, ◌≡◌, ℕ, zero, suc, ◌+◌, ◌-◌, ◌<◌, ◌≤◌, ◌^◌, List, [], ◌∷◌, length, map, fold, min, max, refl, sym, ap, ◌∙◌, arith, common_steps, length-map, length-map-range_with_len, AllByRecursion, enumerate_from, flat_map, slice_index_or, Queued, Scheduled, arriving_from, departures_of, Fabric, cushion_of, input, SlotRecord, fabric_in, marked_in, LimitedRecord, slots_in, figures_of, input_figures, slacks, transfers_of_run, gone_in, list_of, each_pair, EachPair, all_both, Differ, Has, all_from_has, all_of_has, has_image, has_left, has_right, image_has, figures_told, frozen_told, taken_of, opening, IsWhole, IsParted, seen_as, sent_as, state_of, IsRefusal, Kept, Runs, Clause, IsSound, Switch, switch_of, named_in, queued_in, Taken, ports_of, Tables, machine_of, openings_of, AreRankNumbers, IsInRange, IsMoved, IsNamed, IsSeen, IsSent, state_lines, state_text, Named, Sent, State, told_state, CanBeTakenUp, StoppedRunsAreSound, few_kept}
 use Rattle.cq_ideal.proofs.Refusals.{counts_more}
 use Rattle.cq_laws.proofs.AddingUp.{figures_fold}
 use Rattle.cq_resume.proofs.Joining.{parts_join}
@@ -118,9 +118,7 @@ module _ (w : Switch) (ranks : List (List ℕ)) (configured : IsConfigured w ran
   unfolding figures_of
   figures_low =
       let all = all_proposed w at.frozen.next at.frozen.next ranks (marked_in at.frozen) rs within in
-      let most = most_of_all 0 (flat_map proposals_in (slots_in rs)) in
-      let few = configured.few_cells in
-      rw figures_are_of (omega arith, omega arith)
+      search (arith, rules, most_of_all, figures_are_of)
 
   seen_many : length (map seen_as at.frozen.figures.inputs) ≡ ports
   unfolding figures_of
@@ -139,19 +137,12 @@ module _ (w : Switch) (ranks : List (List ℕ)) (configured : IsConfigured w ran
   states_right : AllByRecursion AreRankNumbers at.frozen.ranks
   states_right =
       let many = states_many at known in
-      let sized = state_sized at known in
-      rank_numbers at.frozen.ranks within.states (λ j inside.
-      let small = configured.small j (omega arith) in let size = sized j inside in omega arith)
+      search (arith, rules, state_sized at known, known, rank_numbers at.frozen.ranks within.states)
 
   -- the name of a cell that the run keeps
   named_right : (c : Named) → Has (named_in st) c → IsNamed ports c
   named_right c has =
-      let it = is_of_one at known c has in
-      let q = it.cell in
-      let own = it.own.own in
-      let low = configured.level q.cell.output q.cell.class it.own.inside own.keyed.class in
-      let named : IsNamed ports (named_as q) = search (arith, rules) in
-      rw it.is at named
+      let it = is_of_one at known c has in search (arith, rules)
 
   queued_right : (names : List Named) → ((c : Named) → Has names c → Has (queued_in st) c) →
       AllByRecursion (IsNamed ports) names
@@ -163,8 +154,7 @@ module _ (w : Switch) (ranks : List (List ℕ)) (configured : IsConfigured w ran
       let it = image_has sent_as at.sent x has in
       let before = (all_of_has (IsSentRight w at.frozen.next) at.sent it.0 known.departed it.1).before in
       let own = has_image (λ (d : Sent). d.cell) (map sent_as at.sent) x has in
-      let right = named_right x.cell (has_right (queued_in st) _ x.cell own) in
-      grind (arith, common_steps))
+      search (arith, rules, named_right x.cell, has_right (queued_in st) _ x.cell own))
 
   in_range : IsInRange st
   unfolding state_of
@@ -187,19 +177,15 @@ module _ (w : Switch) (ranks : List (List ℕ)) (configured : IsConfigured w ran
   figures_same =
       let once = each_pair Differ (named_in st) (arrivals_are at known).once in
       let known = known in
-      let sent = sym (sent_same at known) in
-      search (arith, rules, figures_are, within, named_is, came_of, figures_are_of)
+      search (arith, rules, sent_same, known, figures_are, within, named_is, came_of, figures_are_of)
 
   taken_same : at ≡ taken_of w st
   unfolding frozen_told state_of
   taken_same =
       let fabric = fabric_same at known in
-      let sent = sent_same at known in
-      let marks : at.frozen.marks ≡ marks_told w.came st = marks_are w ranks st rs (marked_in at.frozen) configured.few
-      configured.packets runs (named_is at known) (sym known.ports) in
-      let counts = ap (λ (k : Kept). k.refused) parted.kept ∙ counts_are w ranks st rs (marked_in at.frozen)
-      configured.few configured.packets runs (named_is at known) in
-      grind (arith, common_steps, figures_same)
+      let marks = marks_are w ranks st rs (marked_in at.frozen) configured.few configured.packets runs in
+      let counts = counts_are w ranks st rs (marked_in at.frozen) configured.few configured.packets runs in
+      search (arith, rules, sent_same at known, known, marks, runs, named_is at known, counts, figures_same)
 
   -- ## It can be taken up
 
@@ -253,8 +239,7 @@ whole_is : (t : Tables) (s : Scheduled) (rs : List LimitedRecord) → IsFabricRu
     IsWhole (switch_of t s) (openings_of t.setup) (kept_in_run t rs)
 whole_is t s rs is =
     let lost = refused_in_run rs in
-    let ports : length (machines_of t.setup) ≡ ports_of t.setup =
-    length-map t.setup.kinds (λ kind. machine_of kind t.setup.classes) in
+    let ports = length-map t.setup.kinds (λ kind. machine_of kind t.setup.classes) in
     search (arith, rules, figures_fold (ports_of t.setup) (slots_in rs), counts_more t.limits [] lost)
 
 pub read_runs_go_on : ReadRunsGoOn

@@ -4,7 +4,7 @@
 -- walk over the arrivals that compares each with the mark before it ends, with the mark of the run: each packet is
 -- named whole or not at all, and the mark is that of the packet that began last. And what was refused slot by slot is,
 -- counted by any test, what is not named input by input.
-use Rattle.cq_stopped.proofs.Terms.{rules, ◌≡◌, ℕ, zero, suc, ◌+◌, ◌<◌, ◌≤◌, eqb, leb, ltb, Bool, true, false, List, [], ◌∷◌, length, Option, None, Some, refl, sym, ap, ◌∙◌, ⊎_elim, arith, ◌⊎◌, length-append, map, and_parts, and_right, cases_Bool, cases_lt, eq-eqb, eqb-true, le-ltb, lt-leb, cases_eq, ne_eqb, common_steps, get_or-map, get_or-replicate, length-map, length-replicate, map-append, All-from_recursion, filter-append, filter_agree, get_or-map-range_with_len, unwrap_or-slice_get, AllByRecursion, cons_option, range_with_len, ◌&&◌, filter, is_some, not, All, flat_map, arrival_at, Arrival, arriving, arriving_at, Cell, Queued, is_from, admitted_at, marks_kept, Marked, admission, held_after, mark_after, mark_at, marks_after, unless, refused, arriving_from, cells_refused, packets_refused, refused_counts, refused_in, with_refused, fabric_judged, Fabric, fabric_held, LimitedRecord, admissions_in, IsInputBest, all_both, all_weaker, all_from_has, found_at, firsts_at, is_refused, latest, marks_told, refused_arrivals, ComeBehind, IsLine, coming, has_limit, mark_on, ArePackets, IsWholePacket, firsts_before, has_name, is_left_out, left_out, unnamed, opening, Runs, AllNamed, AreWholePackets, NoneNamed, Switch, HasLimit, is_named, key_of, named_in, packet_before, Named, State}
+use Rattle.cq_stopped.proofs.Terms.{rules, ◌≡◌, ℕ, zero, suc, ◌+◌, ◌<◌, ◌≤◌, eqb, Bool, true, false, List, [], ◌∷◌, length, Option, None, Some, refl, ap, ◌∙◌, arith, ◌⊎◌, length-append, map, and_parts, and_right, cases_Bool, cases_lt, eq-eqb, eqb-true, le-ltb, lt-leb, cases_eq, ne_eqb, common_steps, get_or-map, get_or-replicate, length-map, length-replicate, map-append, All-from_recursion, filter-append, filter_agree, get_or-map-range_with_len, unwrap_or-slice_get, AllByRecursion, cons_option, range_with_len, filter, is_some, not, All, flat_map, arrival_at, Arrival, arriving, arriving_at, Cell, Queued, is_from, admitted_at, marks_kept, Marked, admission, held_after, mark_after, mark_at, marks_after, unless, refused, arriving_from, cells_refused, packets_refused, refused_counts, refused_in, with_refused, fabric_judged, Fabric, fabric_held, LimitedRecord, admissions_in, all_both, all_weaker, all_from_has, found_at, is_refused, marks_told, refused_arrivals, ComeBehind, IsLine, coming, has_limit, mark_on, ArePackets, IsWholePacket, has_name, is_left_out, left_out, unnamed, opening, Runs, AllNamed, AreWholePackets, NoneNamed, Switch, HasLimit, is_named, key_of, named_in, packet_before, Named, State}
 use Rattle.cq_cells.proofs.Ranges.{flat_same}
 use Rattle.cq_cells.specs.NextArrival.{ArrivesIn}
 use Rattle.cq_ideal.proofs.Packets.{refused_here}
@@ -56,9 +56,8 @@ module _ (i slot end : ℕ) where
   one_comes_now came cell lt whole found = search (rules, one_comes, some_at, all_from_has)
 
   comes_none_past : (came : List Arrival) → end ≤ slot → coming i slot end came ≡ []
-  comes_none_past came past = filter_none (is_between slot end) (filter (is_from i) came) (λ a has.
-      ⊎_elim (λ lt. ap (λ (t : Bool). t && ltb a.slot end) (lt-leb slot a.slot lt))
-      (λ ge. and_right (leb slot a.slot) (ltb a.slot end) (le-ltb a.slot end (omega arith))) (cases_lt a.slot slot))
+  comes_none_past came past = filter_none (is_between slot end) (filter (is_from i) came)
+      (search (arith, rules, lt-leb, and_right, le-ltb, cases_lt))
 
 -- ## One step of the walk
 
@@ -106,7 +105,7 @@ module _ (w : Switch) (i : ℕ) (few : i < 64) (whole : IsLine (filter (is_from 
   arrival_is : (slot : ℕ) → arrival_at (arriving w.came slot) i ≡ arriving_at w.came slot i
   unfolding arriving
   arrival_is slot =
-      let none : Option Cell = None in
+      let none = None in
       unwrap_or-slice_get (arriving w.came slot) i none
       ∙ get_or-map-range_with_len (arriving_at w.came slot) 0 64 i i none few (omega arith)
 
@@ -138,27 +137,14 @@ module _ (w : Switch) (i : ℕ) (few : i < 64) (whole : IsLine (filter (is_from 
         (cons_option (where_up (mark_at r.admission.marks i) (arrival_at (arriving w.came slot) i)) lost)
     slot_more None none lt lost last follow here rest =
         let same = none_comes_now i slot end w.came none in
-        let moved = mark_is.1 in
-        let kept : mark_at g.marks i ≡ mark_at f.marks i = rw (marks, moved, none) refl in
-        let it = rest (rw (kept, ← same) follow) in
-        record { ends = rw (← kept, same) it.ends; lost_are = grind (arith, common_steps, arrival_is) }
+        let moved = mark_is.1 in search (arith, rules, arrival_is)
     slot_more (Some cell) some lt lost last follow here rest =
         let up = mark_at r.admission.marks i in
         let a : Arrival = record { slot = slot; cell = cell } in
         let others = coming i (slot + 1) end w.came in
-        let same : coming i slot end w.came ≡ a ∷ others = one_comes_now i slot end w.came cell lt whole some in
+        let same = one_comes_now i slot end w.came cell lt whole some in
         let at = found_at w.came slot i cell some in
-        let its = named_is a in
-        let moved = mark_is.1 in
-        let taken = taken_is in
-        let named_here : named a ≡ not up = grind (arith, common_steps) in
-        let turns = rw some at moved in
-        let now : mark_at g.marks i ≡ up = rw marks refl in
-        let follows = rw same at follow in
-        let it = rest (rw now (step_follows w.limits named a others (mark_at f.marks i) up mark_is.0 follows turns
-        named_here)) in
-        let on = step_ends w.limits named a others (mark_at f.marks i) up mark_is.0 follows turns named_here last in
-        record { ends = rw same (on (rw now at it.ends)); lost_are = grind (arith, common_steps, arrival_is) }
+        let moved = mark_is.1 in search (arith, rules, taken_is, step_follows, step_ends, arrival_is)
 
   pub walked : (slot n : ℕ) (f g : Marked Fabric) (rs : List LimitedRecord) →
       Runs w slot (arriving_from w.came slot n) f rs g → slot + n ≡ end → i < length f.marks →
@@ -243,8 +229,7 @@ module _ (w : Switch) where
       let rest = marks_many (slot + 1) n run.0 g rs run.2 at.1 in
       let kept : length run.0.marks ≡ length f.marks = grind (arith, common_steps, marks_kept) in
       let low = refused_low 0 r.admission.marks (arriving w.came slot) (length f.marks) at.0 in
-      let later = rw kept at rest.1 in
-      (rest.0 ∙ kept, grind (arith, common_steps, all_both, marks_kept))
+      search (arith, rules, low, all_both, marks_kept)
   marks_many slot _ f g _ run at = absurd run
 
 -- ## Names that stand for those of a state
@@ -303,10 +288,8 @@ module _ (w : Switch) (ranks : List (List ℕ)) (st : State) (rs : List LimitedR
   marks_walked =
       let ends = walk_mark w.limits next w.came names in
       let some = map (λ (m : Bool). Some m) g.marks in
-      let many : length some ≡ ports = length-map g.marks (λ (m : Bool). Some m) ∙ many_marks in
-      rw many at (sym (by_places ends (Some false) some
-      (λ k inside. let marks = many_marks in ends_marked k (omega arith)
-      ∙ sym (get_or-map (λ (m : Bool). Some m) g.marks k false (Some false) (omega arith)))))
+      let many = length-map g.marks (λ (m : Bool). Some m) ∙ many_marks in
+      search (arith, rules, by_places ends (Some false) some, many_marks, ends_marked, get_or-map)
 
   -- what was refused, by input
   lost_here : (i : ℕ) → i < ports → of_input i (refused_in (admissions_in rs)) ≡ cells_in (unnamed names (coming i 0
@@ -315,7 +298,7 @@ module _ (w : Switch) (ranks : List (List ℕ)) (st : State) (rs : List LimitedR
   unfolding arriving_from
   lost_here i inside =
       refused_of_input i w.limits (opening w ranks).marks (arriving_from w.came 0 next) (admissions_in rs)
-      (fabric_judged IsInputBest w.limits w.machines 0 (arriving_from w.came 0 next) (opening w ranks) g rs runs)
+      (search (arith, rules, fabric_judged))
       (stand_in w.came 0 next) ∙ (walk i inside).lost_are
 
   lost_counted : (p : Cell → Bool) → length (filter p (refused_in (admissions_in rs)))
@@ -325,12 +308,7 @@ module _ (w : Switch) (ranks : List (List ℕ)) (st : State) (rs : List LimitedR
       let lost = refused_in (admissions_in rs) in
       let many = length-replicate ports false in
       let low = rw many at (marks_many w 0 next (opening w ranks) g rs runs (stand_in w.came 0 next)).1 in
-      let f : ℕ → List Arrival = λ i. unnamed names (coming i 0 next w.came) in
-      let same =
-      flat_same (λ i. of_input i lost) (λ i. cells_in (f i)) 0 ports (λ i from lt. lost_here i (omega arith)) in
-      let flat = cells_flat f (range_with_len 0 ports) in
-      let count = by_inputs p lost ports low in
-      grind (arith, common_steps)
+      search (arith, rules, flat_same, of_input, cells_in, lost_here, cells_flat, by_inputs p lost ports low)
 
   abbrev counts : List Refused
   counts = with_refused (refused_in (admissions_in rs)) (refused_counts w.limits [])
@@ -355,8 +333,7 @@ module _ (w : Switch) (ranks : List (List ℕ)) (st : State) (rs : List LimitedR
   pub packets_are : AreWholePackets w st
   packets_are =
       let stand = all_stand w.limits next w.came names ports are g.marks counts known in
-      All-from_recursion ByState w.came (all_weaker ByNames ByState (λ a by begins early.
-      search (arith, rules, alike true, alike false)) w.came stand)
+      All-from_recursion ByState w.came (search (arith, rules, all_weaker ByNames ByState, alike true, alike false))
 
   -- ## The marks, and the counts
 
@@ -365,10 +342,8 @@ module _ (w : Switch) (ranks : List (List ℕ)) (st : State) (rs : List LimitedR
   same_mark (Some a) = search (arith, rules, has_as_name)
 
   pub marks_are : ports ≡ st.head.ports → g.marks ≡ marks_told w.came st
-  marks_are many = rw (← many) (all_marks w.limits next w.came names ports are g.marks counts known
-      ∙ mapped_alike (λ i. is_left_out names next w.came (latest (firsts_before i next w.came)))
-      (λ i. is_refused w.came st (latest (firsts_at w.came st i)))
-      (λ i. same_mark (latest (firsts_at w.came st i))) (range_with_len 0 ports))
+  marks_are many = rw (← many) (let all = all_marks w.limits next w.came names ports are g.marks counts known in
+      search (arith, rules, all, known, mapped_alike, same_mark))
 
   pub counts_are : counts ≡ refused_counts w.limits (map (λ a. a.cell) (refused_arrivals w.came st))
   counts_are =
