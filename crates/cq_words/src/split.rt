@@ -53,16 +53,56 @@ fn line<'a>(alloc: Global) -> Result<Command<'a>, AllocError>
         .no_binary_name(true)
         .disable_help_flag(true)
         .disable_help_subcommand(true);
-    let line = with_subcommand(line, two_values(alloc, "pass", "IN", "OUT")?)?;
-    let line = with_subcommand(line, one_value(alloc, "check", "CONFIG")?)?;
-    let line = with_subcommand(line, one_value(alloc, "ideal", "CONFIG")?)?;
-    let line = with_subcommand(line, one_value(alloc, "run", "CONFIG")?)?;
-    let soak = three_values(alloc, "soak", "SEED", "PORTS", "SLOTS")?;
-    let line = with_subcommand(line, soak)?;
-    let line = with_subcommand(line, one_value(alloc, "audit", "CONFIG")?)?;
-    let part = three_values(alloc, "part", "CONFIG", "SLOTS", "STATE")?;
-    let line = with_subcommand(line, part)?;
-    with_subcommand(line, two_values(alloc, "resume", "CONFIG", "STATE")?)
+    let line = with_two(alloc, line, "pass", "IN", "OUT")?;
+    let line = with_one(alloc, line, "check", "CONFIG")?;
+    let line = with_one(alloc, line, "ideal", "CONFIG")?;
+    let line = with_one(alloc, line, "run", "CONFIG")?;
+    let line = with_three(alloc, line, "soak", "SEED", "PORTS", "SLOTS")?;
+    let line = with_one(alloc, line, "audit", "CONFIG")?;
+    let line = with_three(alloc, line, "part", "CONFIG", "SLOTS", "STATE")?;
+    with_two(alloc, line, "resume", "CONFIG", "STATE")
+}
+
+// The line with one more form, of a word and one value.
+fn with_one<'a>(
+    alloc: Global,
+    line: Command<'a>,
+    word: &'a str,
+    value: &'a str,
+) -> Result<Command<'a>, AllocError>
+    ensures { IfOk result (λ r. app_of r
+        ≡ with_form (app_of line.entry) (one_form word.entry.now value.entry.now)) }
+{
+    with_subcommand(line, one_value(alloc, word, value)?)
+}
+
+// The line with one more form, of a word and two values.
+fn with_two<'a>(
+    alloc: Global,
+    line: Command<'a>,
+    word: &'a str,
+    first: &'a str,
+    second: &'a str,
+) -> Result<Command<'a>, AllocError>
+    ensures { IfOk result (λ r. app_of r
+        ≡ with_form (app_of line.entry) (two_form word.entry.now first.entry.now second.entry.now)) }
+{
+    with_subcommand(line, two_values(alloc, word, first, second)?)
+}
+
+// The line with one more form, of a word and three values.
+fn with_three<'a>(
+    alloc: Global,
+    line: Command<'a>,
+    word: &'a str,
+    first: &'a str,
+    second: &'a str,
+    third: &'a str,
+) -> Result<Command<'a>, AllocError>
+    ensures { IfOk result (λ r. app_of r ≡ with_form (app_of line.entry)
+        (three_form word.entry.now first.entry.now second.entry.now third.entry.now)) }
+{
+    with_subcommand(line, three_values(alloc, word, first, second, third)?)
 }
 
 // A form of a word and one value.
