@@ -24,9 +24,7 @@ module _ {X : Type 0} (f : ℕ → X → X) (xs : List X) where
   by_place_next now i y d so_far inside is =
       ap (λ l. set l i y) so_far
       ∙ next_place (map (λ at. f at.0 at.1) (enumerate_from 0 xs)) xs i y d length-by_place inside
-      (is ∙ ap (f i) (ap (λ l. get_or l i d) so_far
-      ∙ at_place (map (λ at. f at.0 at.1) (enumerate_from 0 xs)) xs i d length-by_place inside)
-      ∙ sym (at-by_place i d inside))
+      (search (arith, rules, at_place, length-by_place, at-by_place))
 
 -- the items before a place are changed, and the others are as they were
 pub record IsChangedTo {X : Type 0} (f : ℕ → X → X) (xs : List X) (n : ℕ) (now : List X) : Type 0 where

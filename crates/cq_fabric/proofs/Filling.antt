@@ -109,5 +109,5 @@ pub one_told : {X : Type 0} (f : X → List Queued) (items : List X) (i : ℕ) (
     (cells : List Queued) → all ≡ take i (map f items) → more ≡ all ++ cells ∷ [] → i < length items →
     x ≡ get_or items i x → cells ≡ f x → more ≡ take (i + 1) (map f items)
 one_told f items i x all more cells so_far is inside read told =
-    let none : List Queued = [] in
+    let none = [] in
     search (arith, rules, take_next (map f items) i all more cells none, length-map, get_or-map f items i x none)

@@ -89,7 +89,7 @@ length_left k (x ∷ xs) = grind (arith, common_steps, cond_both, length_left k 
 offered : (m : Partners) (f : Fabric) → IsMatching (orders_of f.inputs) m → (i j : ℕ) → partner_of m i ≡ Some j →
     HasCellFor (input f i) j
 offered m f matching i j p =
-    let none : List Queued = [] in
+    let none = [] in
     ((is_output_order (input f i)).offered j).0
     (rw (get_or-map output_order f.inputs i none) at (matching.offered i j p))
 

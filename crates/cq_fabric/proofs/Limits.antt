@@ -32,7 +32,7 @@ nothing_in (suc j) (suc n) = nothing_in j n
 pub holds_first : (n : ℕ) (ranks : List (List ℕ)) (q : Queues) (l : LimiterView) → q.inputs ≡ replicate n [] →
     q.buffers ≡ replicate n [] → length l.limits ≡ n → l.held ≡ replicate n 0 → HoldsFabric (fabric_of q ranks) l
 holds_first n ranks q l inputs buffers limits held =
-    let none : List Queued = [] in
+    let none = [] in
     let f : Fabric = fabric_of q ranks in
     let long = ap length inputs ∙ length-replicate n none in
     record {
@@ -136,12 +136,7 @@ module _ {ms : List Machine} {slot : ℕ} {q : Queues} {ranks : List (List ℕ)}
   still_holds gone g before judged after alike holds judges releases =
       let ranked : Ranking = record { came = came; ranks = ranks' } in
       let sends = sends_are ms slot cells known.ideal ranked gone alike.next ideally alike.sent in
-      let now : HoldsLists full judged = holds_filled came cells known.ideal.lists full before judged
+      let now = holds_filled came cells known.ideal.lists full before judged
       (holds_ideal slot (fabric_of q ranks) known.ideal before known.agrees holds) refl judges.limits
       judges.as_many judges.more (came_for ms slot cells ranks ranked known.ranked) in
-      let left : HoldsLists (rests full) after =
-      holds_rests full judged after now releases.limits releases.ports (λ j.
-      let e = ap (λ (l : List (Option Queued)). bit (came_to l j)) sends.0 in
-      let n = releases.held j in omega arith) in
-      holds_fabric (slot + 1) g alike.next after alike.agrees
-      (subst (λ (l : List (List Queued)). HoldsLists l after) sends.1 left)
+      search (arith, rules, holds_rests, holds_fabric (slot + 1) g alike.next after alike.agrees)

@@ -21,7 +21,6 @@ as_offered lists o e = grind (arith, common_steps, length-map)
 nothing_offered : (k : ℕ) → AreOrdersOf (replicate k []) (no_offers k)
 unfolding IsDistinct
 nothing_offered k =
-    let none : List Queued = [] in
     search (arith, rules, get_or-replicate, get_or_past, length-replicate, cases_lt, empty_list, place_in-le-length)
 
 pub none_offered : (lists : List Waiting) (k : ℕ) → cells_of lists ≡ replicate k [] →
@@ -81,7 +80,7 @@ module _ {lists lists' : List Waiting} {o : Orders} {n cushion : ℕ} {c : Queue
   pub come_same : (m : Partners) → m ≡ with_pair (replicate (length lists) None) n c.cell.output →
       AreSameWithout m o (orders_of (cells_of lists'))
   come_same m is_m =
-      let none : Option ℕ = None in
+      let none = None in
       let inside : n < length (replicate (length lists) none) =
       let l = comes.inside in omega (arith, length-replicate (length lists) none) in
       let partner : partner_of m n ≡ Some c.cell.output =
@@ -99,8 +98,6 @@ module _ {lists lists' : List Waiting} {o : Orders} {n cushion : ℕ} {c : Queue
       let size = length-map lists (λ (w : Waiting). w.cells) in
       let size' = length-map lists' (λ (w : Waiting). w.cells) in
       let alike = comes_behind cushion c (list_at lists n).cells before ahead in
-      let each : (k : ℕ) → OfferAlike (list_at lists k).cells (list_at lists' k).cells =
-      λ k. search (arith, rules, cases_eq k n, come.others) in
       search (arith, rules, same_offers, cells-at)
 
 -- ## Cells come, one after the other

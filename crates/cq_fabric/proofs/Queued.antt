@@ -86,9 +86,7 @@ module _ {lists : List Waiting} {buffers : List Buffered} {came : List (Option Q
 
   pub arrived_rooms : map list_room lists' ≡ map list_room lists
   arrived_rooms = same_rooms list_room lists' lists known.long (λ i l.
-      let fits = fit_each lists buffers came n known.square known.fit i in
-      let with = room_with (cells_in buffers) (came_to came i) (list_at lists i) in
-      search (arith, rules, room-at, known.each, with, fits))
+      let fits = fit_each lists buffers came n known.square known.fit i in search (arith, rules, room_with, room-at))
 
   pub arrived_square : AreSquare lists' buffers n
   arrived_square = search (arith, rules, get_or_default)

@@ -128,8 +128,7 @@ module _ {ms : List Machine} {slot : ℕ} {q0 : Queues} {ranks0 : List (List ℕ
     one_waits : (i j : ℕ) (c : Queued) → IsAmong c (list_of q1.inputs i) → c.cell.output ≡ j →
         1 ≤ waiting_for j q0.inputs + count_for j cells
     one_waits i j c h e =
-        ⊎_elim (λ new. search (arith, rules, arrives_one, arrival))
-        (λ was. search (arith, rules, waits_one j q0.inputs i c was e))
+        ⊎_elim (λ new. search (arith, rules, arrives_one, arrival)) (search (arith, rules, waits_one j q0.inputs i c))
         (came_or_was (fabric_of q0 []) (came_to came i) (list_of q0.inputs i) c (rw (arrived.lists i) at h))
 
     module _ (room : BuffersHaveRoom (length ms) q0 cells) where

@@ -251,9 +251,7 @@ module _ {came : List (Option Queued)} {first : QueuesView} {input : ℕ} {queue
         new.rooms ≡ queues.rooms → Putting came first (input + 1) new
     putting_next new lists rooms =
         let o = get_or came input None in
-        let port : (q : Queued) → o ≡ Some q →
-        q.cell.output < length queues.lists = grind (arith, ports.outputs input) in
-        search (arith, rules, next, port, length-with_came, own_keys_rest, filled_next, one_put, length_put)
+        search (arith, rules, next, length-with_came, own_keys_rest, filled_next, one_put, length_put)
 
 -- parts that have as many outputs as others fit as these do
 pub fit_same : (M : List ℕ → Machine) (ranks ranks_new : RanksView) (queues queues_new : QueuesView) →

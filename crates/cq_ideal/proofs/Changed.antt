@@ -76,7 +76,7 @@ at_end new old j same end = cc (drop_all j old end, append-nil (take j new), tak
 
 pub none_used : (used : ℕ) (places : List (Option Queued)) → places ≡ replicate 64 None → AreUsed used places
 none_used used places nobody =
-    let none : Option Queued = None in
+    let none = None in
     subst (AreUsed used) (sym nobody) (record { long = length-replicate 64 none; beyond = λ k _. same_at none 64 k })
 
 pub one_used : (used now input : ℕ) (places : List (Option Queued)) (q : Option Queued) → AreUsed used places →
@@ -134,9 +134,7 @@ one_made rooms n items more q made is inside empty room one =
 pub empty_within : (items : List QueueView) (n : ℕ) → map cells_in items ≡ replicate n [] →
     All (λ q. q.room < 2 ^ 64) items → All IsWithin items
 empty_within items n e few k d inside =
-    let none : List Queued = [] in
-    let count = length-replicate n none in
-    let same = get_or-replicate n k none none in
+    let none = [] in
     grind (arith, common_steps, length-map items cells_in, get_or-map cells_in items k d none inside)
 
 -- each list is within its room, which is a number of 64 bits

@@ -43,8 +43,7 @@ pub counts_left : (n : ℕ) (cell : Cell) (counts : List Refused) → CanCount (
     CanCount n (with_refused (cell ∷ []) counts)
 counts_left n cell counts can k d inside =
     let long = length-map counts (with_cells (cell ∷ [])) in
-    rw (get_or-map (with_cells (cell ∷ [])) counts k d d (omega arith))
-    (one_left n cell (get_or counts k d) (can k d (omega arith)))
+    search (arith, rules, get_or-map (with_cells (cell ∷ [])) counts k d d, one_left n cell)
 
 pub fewer_left : (n m : ℕ) (counts : List Refused) → CanCount m counts → n ≤ m → CanCount n counts
 fewer_left n m counts can le k d inside = grind (arith, common_steps)

@@ -22,16 +22,7 @@ pub each_leaves_or_is_refused : EachLeavesOrIsRefused
 unfolding whole_limited_run
 each_leaves_or_is_refused limits ms ports openings came ran runs is i inside packets =
     let same = limited_over_all limits ms ports openings came ran is in
-    let come = come_in_order i inside came runs.rise in
-    let parts = in_packets limits ms ports openings came same.all runs
-    (sym (run_all limits ms ports openings came) ∙ same.is) i (subst (AreOfPackets 0) (sym come) packets) in
-    let leave = parts.0 in
-    record {
-      is_taken = leave.is_taken;
-      left = λ c j. rw same.sent at (leave.left c j);
-      others = ap (of_input i) (sym same.refused) ∙ parts.1
-          ∙ ap (filter (λ (cell : Cell). not (leave.is_taken cell.id.packet))) come;
-    }
+    search (arith, rules, come_in_order, in_packets, run_all, of_input)
 
 -- ## The cells of one packet
 
@@ -118,13 +109,11 @@ module _ (limits : List (Option ℕ)) (j : ℕ) (none : slice_index_or limits j 
       let by = its_marks limits marks cells a judged.0 in
       let slot = λ (i : ℕ) (inside : i < inputs) (up : mark_at a.marks i ≡ true). one_slot (arrival_at cells i)
       (mark_at marks i) (mark_at a.marks i) (cells_at i traffic) (mark_is limits i held marks cells a judged.0.1)
-      (λ cell at first.
-      first_elsewhere held marks cells i cell at first (ap (λ (l : List Bool). mark_at l i) (sym by.0) ∙ up))
+      (search (arith, rules, first_elsewhere))
       (clear i inside)
       (keep i inside) up in
       let here = refused_all Elsewhere a.marks cells (λ i cell inside up at. (slot i (omega arith) up).0 cell at) in
-      let rest = all_elsewhere inputs a.marks traffic admissions judged.1 long.1
-      (λ i inside. keep_later (arrival_at cells i) (cells_at i traffic) (keep i inside))
+      let rest = all_elsewhere inputs a.marks traffic admissions judged.1 long.1 (search (arith, rules, keep_later))
       (λ i inside up. (slot i inside up).1) in
       grind (arith, common_steps)
 
@@ -151,6 +140,5 @@ refuses_none_elsewhere limits ms ports openings came ran j runs keep packets is 
     let all = all_elsewhere limits j none 64 (marks_down ports) (traffic_of came) same.all.admissions each_judged
     (all_long came 64 refl) (λ i inside. subst KeepOutput (sym (come_in_order i inside came runs.rise))
     (keep_output i 0 (line_at i came) (filter_passes _ came) (AllPairs-filter same_output _ came keep)
-    (packets i inside))) (λ i inside up.
-    absurd (let P : true ≡ false = sym up ∙ same_at false ports i in let Q : ⊥ = cc in Q)) in
+    (packets i inside))) (search (arith, rules, same_at)) in
     ap (cells_refused j) (sym same.refused) ∙ none_counted limits j none (refused_in same.all.admissions) all

@@ -8,7 +8,7 @@ pub none_waits : (lists : List (List Queued)) → All (λ cells. cells ≡ []) l
 unfolding waiting
 none_waits [] all = refl
 none_waits (xs ∷ lists) all =
-    let here : length xs ≡ 0 = ap length (all zero xs (omega arith)) in
+    let here = ap length (all zero xs (omega arith)) in
     let rest = none_waits lists (λ k d inside. all (suc k) d (omega arith)) in omega arith
 
 pub nothing_left : (lists : List (List Queued)) → waiting lists ≡ 0 → All (λ cells. cells ≡ []) lists

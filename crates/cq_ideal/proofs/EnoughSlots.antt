@@ -3,6 +3,7 @@
 -- is sent. So after the last slot with an arrival no more cells wait than came in all, and each later slot takes one
 -- of them. Slots that are enough are enough with limits: no more cells are admitted in a slot than come, and there are
 -- as many slots.
+use Rattle.std.proofs.Common.{rules}
 use Rattle.cq_ideal.proofs.Terms.{◌≡◌, ℕ, zero, suc, ◌≤◌, Bool, List, [], ◌∷◌, length, drop, Option, refl, ap, arith, ◌+◌, replicate, Result, Ok, common_steps, All, IfOk, Cell, Arrival, end_of, traffic_of, arriving, enough, Machine, Admission, admitted, admitted_in, empty_limited, limited_run, AreJudged, TagFault, no_arrivals, IdealState, Ran, ideal_run, empty_ideal}
 use Rattle.cq_ideal.proofs.Admitted.{its_marks}
 use Rattle.cq_ideal.proofs.Ends.{nothing_left}
@@ -54,7 +55,7 @@ no_more limits marks (cells ∷ traffic) (a ∷ admissions) judged =
     let here = fewer a.marks cells in
     let are = ap (λ (l : List (Option Cell)). length (present l)) (its_marks limits marks cells a judged.0).1 in
     let rest = no_more limits a.marks traffic admissions judged.1 in
-    let later : come_count (admitted_in admissions) ≤ come_count traffic = rest.count zero in
+    let later = rest.count zero in
     record { count = elim [ zero ↦ omega arith | suc e ↦ rest.count e ]; slots = ap suc rest.slots }
 
 -- ## As many slots as are enough
@@ -75,11 +76,8 @@ emptied ms ports ranks came traffic ran is less =
     let few = come_count-traffic_of came in
     let slots = length-traffic_of came in
     let none = waiting-empty ports in
-    let fewer : come_count traffic ≤ come_count (traffic_of came) = less.count zero in
-    let quiet = quiet_at_end came in
-    let later = less.count (end_of came) in
-    nothing_left ran.after.lists
-    (empties ms traffic 0 (end_of came) (empty_ideal ports ranks) ran is (omega arith) (omega arith))
+    let fewer = less.count zero in
+    let quiet = quiet_at_end came in search (arith, rules, less.count, nothing_left, empties)
 
 pub empty_at_end : (ms : List Machine) (ports : ℕ) (ranks : List (List ℕ)) (came : List Arrival) →
     IfOk (ideal_run ms 0 (traffic_of came) (empty_ideal ports ranks))
@@ -99,5 +97,4 @@ limited_empty_at_end limits ms ports ranks came =
     let start = empty_limited ports ranks in
     if_ok (λ ran. All (λ cells. cells ≡ []) ran.after.state.lists) _ (λ ran is.
     emptied ms ports ranks came (admitted_in ran.admissions) (record { gone = ran.gone; after = ran.after.state })
-    (is_run_of limits ms 0 (traffic_of came) start ran is)
-    (no_more limits start.marks (traffic_of came) ran.admissions (judged limits ms 0 (traffic_of came) start ran is)))
+    (is_run_of limits ms 0 (traffic_of came) start ran is) (search (arith, rules, no_more, judged)))

@@ -39,9 +39,8 @@ module _ (inputs : ℕ) (are : inputs ≡ 64) where
   unfolding in_slot
   no_more_than [] n = grind (arith, common_steps, total_none, found_none [])
   no_more_than (a ∷ came) n =
-      let more = total_more (in_slot (a ∷ came)) (in_slot came) a.slot 1 0 n (λ t ne.
-      total_same (λ k. length (found (a ∷ came) t k)) (λ k. length (found came t k)) 0 inputs
-      (λ k l. ap length (other_slot a came t k (λ e. ne (sym e))))) (in_slot-cons a came) in
+      let more = total_more (in_slot (a ∷ came)) (in_slot came) a.slot 1 0 n
+      (search (arith, rules, total_same, found, other_slot)) (in_slot-cons a came) in
       let rest = no_more_than came n in omega arith
 
   count_from : (came : List Arrival) (a n : ℕ) →

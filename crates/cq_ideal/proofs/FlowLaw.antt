@@ -2,6 +2,7 @@
 -- the port sent of it and then what its list shows at the end. There are slots enough, so at the end the list is
 -- empty. And what came in the slots is the flow's arrivals in their order. At what is no port nothing leaves, and
 -- nothing comes for it.
+use Rattle.std.proofs.Common.{rules}
 use Rattle.cq_ideal.proofs.Terms.{common_steps, ◌≡◌, ℕ, zero, suc, ◌+◌, ◌<◌, ◌≤◌, List, [], ◌∷◌, length, map, replicate, Option, Ok, refl, sym, ◌∙◌, ⊎_elim, arith, slice_index_or, All, AllByRecursion, range_with_len, cases_lt, ne_eqb, and_left, cond-false, append-nil, length-replicate, get_or-replicate, get_or_past, Cell, Queued, Arrival, arriving, enough, traffic_of, Machine, machine_at, Ran, ideal_run, empty_ideal, departures_of, left_in_flow, came_in_flow, IsForSwitch, IsRunnable, FlowsLeaveAsTheyCame, all_weaker}
 use Rattle.cq_ideal.proofs.FlowRank.{present, AreOfClasses}
 use Rattle.cq_ideal.proofs.FlowRun.{flow_came, passed, no_port}
@@ -21,9 +22,7 @@ pub class_in_slot : (ms : List Machine) (ports j : ℕ) (came : List Arrival) (i
     AreOfClasses (machine_at ms j) j (present (arriving came t))
 class_in_slot ms ports j came inputs e all t =
     let P = λ (cell : Cell). cell.output ≡ j → cell.class < (machine_at ms j).classes in
-    rw (arriving_is came t inputs e) (all_present came t P 0 inputs (λ k.
-    all_found P came t k (all_weaker (IsForSwitch ms ports) (λ a. a.slot ≡ t → a.cell.id.input ≡ k → P a.cell)
-    (λ a is _ _ same. rw same at is.class) came all)))
+    rw (arriving_is came t inputs e) (all_present came t P 0 inputs (search (arith, rules, all_found, all_weaker)))
 
 pub classes : (ms : List Machine) (ports j : ℕ) (came : List Arrival) → AllByRecursion (IsForSwitch ms ports) came →
     AllByRecursion (λ cells. AreOfClasses (machine_at ms j) j (present cells)) (traffic_of came)
@@ -69,13 +68,9 @@ left_as_came ms ports openings came runs i c j traffic ran is are over all comes
 -- the arrivals of a run are at inputs, and rise
 pub all_came : (ms : List Machine) (ports : ℕ) (openings : List (List ℕ)) (came : List Arrival) →
     IsRunnable ms ports openings came → (i c j : ℕ) → flow_came i c j (traffic_of came) ≡ came_in_flow i c j came
-all_came ms ports openings came runs i c j = came_in_order i c j came
-    (all_weaker (IsForSwitch ms ports) (λ a. a.cell.id.input < 64) (λ a for. for.input) came runs.for_switch) runs.rise
+all_came ms ports openings came runs i c j = came_in_order i c j came (search (arith, rules, all_weaker)) runs.rise
 
 pub flows_leave : FlowsLeaveAsTheyCame
 flows_leave ms ports openings came ran runs is i c j =
     let empty = empty_at_end ms ports openings came in
-    let over : All (λ cells. cells ≡ []) ran.after.lists = grind (arith, common_steps) in
-    left_as_came ms ports openings came runs i c j (traffic_of came) ran is (classes ms ports j came runs.for_switch)
-    over (came_in_flow i c j came) (all_came ms ports openings came runs i c j)
-    (none_came ms ports i c j came runs.for_switch)
+    search (arith, rules, left_as_came, classes ms ports j came runs.for_switch, all_came, none_came)

@@ -54,19 +54,10 @@ module _ (ms : List Machine) (j slot : ℕ) (laws : KeepsLaws (machine_at ms j))
       let m = machine_at ms j in
       let q = with_key ranks input cell in
       let state : List ℕ = slice_index_or ranks j [] in
-      ⊎_elim (λ e.
-      let level_is : q.key.level ≡ m.level cell.class = cc in
-      let rank_is : q.key.rank ≡ m.ranked state cell.class = cc in
-      let given : slice_index_or (given_at ms ranks cell.output cell.class) j [] ≡ m.given state cell.class =
-      cc (get_or-set_same ranks j (m.given state cell.class) [] inside) in
-      rw (cond-true (is_for j q) (put q xs) xs (eq-eqb cell.output j e)) (record {
-        stands = rw given (stands_put m laws state slot input xs stands q (are e) level_is rank_is refl refl);
-        shows = shown-put m laws state slot input xs stands q (are e) level_is rank_is refl refl i c j e;
-      })) (λ ne. rw (cond-false (is_for j q) (put q xs) xs (ne_eqb cell.output j ne)) (record {
-        stands = rw (get_or-set_other ranks cell.output j _ [] (λ e. ne (sym e)))
-            (stands_on m laws state slot input xs stands);
-        shows = grind (arith, common_steps, and_left, cond-false, append-nil, cell.output, ne_eqb);
-      })) (cases_eq cell.output j)
+      ⊎_elim
+      (search (arith, rules, stands_put m laws state slot input xs stands q, shown-put))
+      (search (arith, rules, cond-false, ne_eqb, get_or-set_other, stands_on, and_left, append-nil))
+      (cases_eq cell.output j)
 
   -- from input to input
   pub filled_from : (cells : List (Option Cell)) (input : ℕ) (ranks : List (List ℕ)) (xs : List Queued) (r : Ranking)
@@ -77,19 +68,11 @@ module _ (ms : List Machine) (j slot : ℕ) (laws : KeepsLaws (machine_at ms j))
   filled_from [] input ranks xs r h inside stands are = search (rules, only_ok, stands_next, append-nil, shown)
   filled_from (None ∷ cells) input ranks xs r h inside stands are =
       let w = after_input_ok None _ r h in
-      rw (← w.2) (filled_from cells (input + 1) ranks xs w.0 w.1 inside
-      (stands_on (machine_at ms j) laws (slice_index_or ranks j []) slot input xs stands) are)
+      rw (← w.2) (filled_from cells (input + 1) ranks xs w.0 w.1 inside (search (arith, rules, stands_on)) are)
   filled_from (Some cell ∷ cells) input ranks xs r h inside stands are =
       let one = one_filled cell input ranks xs inside stands are.0 in
       let next = given_at ms ranks cell.output cell.class in
       let long : length next ≡ length ranks = length-set ranks cell.output _ in
       let w = after_input_ok _ _ r (fits_ok _ (after_input (Some (with_key ranks input cell)) _) _ r h) in
       let f = filled_from cells (input + 1) next _ w.0 w.1 (omega arith) one.stands are.1 in
-      let assoc = append_assoc (shown i c xs) (of_flow i c j (cell ∷ [])) (of_flow i c j (present cells)) in
-      let both = of_flow-cons i c j cell (present cells) in
-      rw (← w.2) (record {
-        stands = f.stands;
-        ports = omega (arith, f.ports);
-        shows = cc
-            (f.shows, one.shows, assoc, both);
-      })
+      search (arith, rules, append_assoc, shown, of_flow, of_flow-cons)

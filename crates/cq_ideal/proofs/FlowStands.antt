@@ -84,7 +84,5 @@ module _ (m : Machine) (laws : KeepsLaws m) (state : List ℕ) (slot input : ℕ
         let mine = and_parts (n.cell.id.input == i) (n.cell.class == c) k in
         let behind = all_weaker (HasWaited m state slot input) (λ x. is_kind i c x ≡ true → NoLater x n)
         (λ x w e. grind (arith, class_no_later x, eqb-true, and_parts, mine)) xs stands.waited in
-        let put = filter-put (is_kind i c) n xs k stands.order behind in
-        grind (arith, common_steps, map-append, and_from, eq-eqb, cond-true))
-        (λ k. let put = filter-put_other (is_kind i c) n xs k in
-        grind (arith, common_steps, append-nil, and_right, cond-false)) (cases_Bool (is_kind i c n))
+        search (arith, rules, filter-put, map-append, and_from, eq-eqb, cond-true))
+        (search (arith, rules, filter-put_other, append-nil, and_right, cond-false)) (cases_Bool (is_kind i c n))

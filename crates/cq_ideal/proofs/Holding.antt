@@ -1,5 +1,6 @@
 -- How many cells the outputs hold. The number of each is the length of its list, and stays that as cells are put into
 -- the lists and taken out of them.
+use Rattle.std.proofs.Common.{rules}
 use Rattle.cq_ideal.proofs.Terms.{common_steps, ◌≡◌, ℕ, ◌+◌, ◌-◌, ◌<◌, List, [], length, map, get_or, set, drop, replicate, Option, refl, ap, ◌∙◌, arith, IfSome, slice_get, ext_get_or, get_or-map, length-replicate, map-set, set-get_or, length-map, Cell, Queued, count_for, filled, HoldsLists, LimiterView, held_without, count_to, list_at}
 use Rattle.cq_ideal.proofs.Changed.{map-replicate}
 use Rattle.cq_ideal.proofs.Waiting.{filled_long, length-filled}
@@ -41,9 +42,4 @@ pub holds_filled : (came : List (Option Queued)) (cells : List (Option Cell)) (l
     ((j : ℕ) → count_to j came ≡ count_for j cells) → HoldsLists lists' now
 holds_filled came cells lists lists' first now holds full limits long more same =
     let filled_ports = length-filled came lists in
-    let mapped = length-map lists' length in
-    record {
-      ports = grind (arith, common_steps);
-      held = ext_get_or 0 now.held (map length lists') (grind (arith, common_steps, holds.ports)) (λ j inside.
-          grind (arith, common_steps, get_or-map, filled_long came lists j, more j, same j, holds.ports));
-    }
+    search (arith, rules, length-map, ext_get_or 0 now.held (map length lists'), get_or-map, filled_long came lists)

@@ -46,10 +46,8 @@ pub comes : (ms : List Machine) (ports : ℕ) (came : List Arrival) (slot : ℕ)
     AllByRecursion (IsForSwitch ms ports) came → end_of came ≡ slot + 1 → Comes ports came slot
 comes ms ports [] slot all e = absurd (omega arith)
 comes ms ports (a ∷ came) slot all e =
-    ⊎_elim (λ (is : a.slot ≡ slot). search (arith, rules, found_here)) (λ (other : a.slot ≡ slot → ⊥).
-    let le : max (a.slot + 1) (end_of came) ≡ slot + 1 = e in
-    let rest : end_of came ≡ slot + 1 = search (arith, rules, cases_lt) in
-    let c = comes ms ports came slot all.1 rest in search (arith, rules, other_slot)) (cases_eq a.slot slot)
+    ⊎_elim (λ (is : a.slot ≡ slot). search (arith, rules, found_here))
+    (search (arith, rules, cases_lt, other_slot, comes ms ports came slot all.1)) (cases_eq a.slot slot)
 
 counted_at : (cells : List (Option Cell)) (i : ℕ) (cell : Cell) → arrival_at cells i ≡ Some cell →
     1 ≤ count_for cell.output cells
@@ -63,4 +61,4 @@ pub counted_in : (ports : ℕ) (came : List Arrival) (slot : ℕ) (c : Comes por
     1 ≤ count_for c.cell.output (arriving came slot)
 unfolding found
 counted_in ports came slot c = counted_at (arriving came slot) c.input c.cell
-    (is_shown c.input c.inside came slot ∙ listed_one (arriving_at came slot c.input) c.cell c.found_is)
+    (search (arith, rules, is_shown, listed_one))

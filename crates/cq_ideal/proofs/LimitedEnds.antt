@@ -165,9 +165,7 @@ module _ (limits : List (Option ℕ)) (ms : List Machine) (ports : ℕ) (ranks :
   faulty : (n : ℕ) (fault : TagFault) → run_to n ≡ Err fault → (x : Result LimitedRan TagFault) → run_to last ≡ x →
       last ≤ n → run_to last ≡ Err fault
   faulty n fault is (Ok ran) e le =
-      let at = limited_over_at_end ran e in
-      let m = more last (n - last) n ran (omega arith) e at.0 at.1 in
-      cc m.is
+      let at = limited_over_at_end ran e in search (arith, rules, more last (n - last) n ran)
   faulty n fault is (Err other) e le = let kept = fault_kept last n other le e in cc
 
   pub limited_whole_fault : (n : ℕ) (fault : TagFault) →
@@ -275,8 +273,7 @@ module _ (ms : List Machine) (ports : ℕ) (ranks : List (List ℕ)) (came : Lis
       IdealEnds ms came (empty_ideal ports ranks) (slots_of_run ms came (empty_ideal ports ranks)) ran.after
   ends ran is =
       subst (λ (n : ℕ). IdealEnds ms came (empty_ideal ports ranks) n ran.after)
-      (slots_as_before [] ms ports ranks came no_limit)
-      (plain_ends _ (marked (marks_down ports) ran.after) (limited_ends [] ms ports ranks came _ (whole_as ran is)))
+      (slots_as_before [] ms ports ranks came no_limit) (search (arith, rules, plain_ends, limited_ends, whole_as))
 
   pub found_end : (n : ℕ) (end : IdealState) → IdealEnds ms came (empty_ideal ports ranks) n end →
       slots_of_run ms came (empty_ideal ports ranks) ≡ n

@@ -21,9 +21,7 @@ unfolding departures_of
 one_departs ms slot j cells traffic s ran is inside some =
     let p = first_slot ms slot cells traffic s ran is in
     let here = of_slot slot p.sent.gone ((counted ms slot cells s p.sent p.ran_slot).departs j inside some) in
-    let both = slots_of-append (departures_in slot p.sent.gone) (departures_of (slot + 1) p.second.gone) in
-    let are = ap (λ (r : Ran). slots_of (departures_of slot r.gone)) p.both in
-    omega arith
+    search (arith, rules, slots_of-append)
 
 one_of_waiting : (ms : List Machine) (slot : ℕ) (traffic : List (List (Option Cell))) (s : IdealState) (ran : Ran) →
     0 < length traffic → 0 < waiting s.lists → ideal_run ms slot traffic s ≡ Ok ran →
@@ -48,8 +46,7 @@ module _ (limits : List (Option ℕ)) (ms : List Machine) (ports : ℕ) (ranks :
       run_to limits ms ports ranks came slot ≡ Ok first → 0 < waiting first.after.state.lists
   one_waits slot first lt le is =
       let over = λ (none : waiting first.after.state.lists ≡ 0). limited_test came slot
-      (run_to limits ms ports ranks came slot) first.after
-      (at_ok limits ms ports ranks came (run_to limits ms ports ranks came slot) first is) le
+      (run_to limits ms ports ranks came slot) first.after (search (arith, rules, at_ok, run_to)) le
       (nothing_left first.after.state.lists none) in
       let not_yet = not_before limits ms ports ranks came slot lt in grind (arith, common_steps, over)
 
@@ -62,14 +59,11 @@ module _ (limits : List (Option ℕ)) (ms : List Machine) (ports : ℕ) (ranks :
       (judged limits ms slot last_one begun cut.second cut.ran_second)).slots ∙ arriving_length came slot
       (slots - slot) in
       let here = one_of_waiting ms slot (admitted_in cut.second.admissions) begun.state (state_ran cut.second)
-      (omega arith) (one_waits slot cut.first (omega arith) le cut.ran_first)
-      (is_run_of limits ms slot last_one begun cut.second cut.ran_second) in
+      (omega arith) (one_waits slot cut.first (omega arith) le cut.ran_first) (search (arith, rules, is_run_of)) in
       let long = gone_long limits ms 0 (first_slots came slot) (empty_limited ports ranks) cut.first cut.ran_first
       ∙ arriving_length came 0 slot in
       let both = slots_of-append (departures_of 0 cut.first.gone) (departures_of slot cut.second.gone) in
-      let are = ap (λ (gone : List (List (Option Queued))). slots_of (departures_of 0 gone)) cut.gone
-      ∙ ap slots_of (departures_append 0 slot cut.first.gone cut.second.gone (omega arith)) in
-      omega arith
+      search (arith, rules, departures_append)
 
   pub limited_slots : slots ≡ max (end_of came) (slots_of (departures_of 0 ran.gone))
   limited_slots =
@@ -94,7 +88,6 @@ module _ (ms : List Machine) (ports : ℕ) (came : List Arrival) (all : AllByRec
       let p = first_slot ms slot (arriving came slot) (arriving_from came (slot + 1) n) s ran run in
       let count = counted ms slot (arriving came slot) s p.sent p.ran_slot in
       let both = slots_of-append (departures_in slot p.sent.gone) (departures_of (slot + 1) p.second.gone) in
-      let are = ap (λ (r : Ran). slots_of (departures_of slot r.gone)) p.both in
       ⊎_elim (λ (later : 0 < k). search (arith, rules, departs_at_end n (k - 1) (slot + 1) p.sent.after p.second))
       (λ (now : k ≤ 0).
       let c = comes ms ports came slot all (omega arith) in

@@ -54,8 +54,7 @@ unfolding ideal_run
 sends_long ms slot [] s ran e = grind (arith, common_steps, only_ok)
 sends_long ms slot (cells ∷ traffic) s ran e =
     let p = first_slot ms slot cells traffic s ran e in
-    let rest = sends_long ms (slot + 1) traffic p.sent.after p.second p.ran_second in
-    ap (λ (r : Ran). length r.gone) p.both ∙ ap suc rest
+    search (arith, rules, sends_long ms (slot + 1) traffic p.sent.after p.second p.ran_second)
 
 -- ## What is sent
 

@@ -1,6 +1,7 @@
 -- The cells that arrive at an input from a slot on, slot by slot, are its arrivals of these slots in their order. In a
 -- slot the input's place shows what is found there; and the arrivals at one input rise in their slots, so where the
 -- first is taken off the list every later slot shows the same.
+use Rattle.std.proofs.Common.{rules}
 use Rattle.cq_ideal.proofs.Terms.{◌≡◌, ℕ, zero, suc, ◌+◌, ◌<◌, ◌≤◌, not, List, [], ◌∷◌, ◌++◌, Bool, None, Option, map, refl, sym, ◌∙◌, arith, common_steps, ◌==◌, nat_lt, AllByRecursion, filter, cond_both, cases_eq, cases_lt, eq-eqb, le-ltb, lt-ltb, get_or-map-range_with_len, unwrap_or-slice_get, Cell, Arrival, arriving, arriving_at, end_of, arrival_at, all_by, arriving_from, RiseByInput, cells_at, all_weaker}
 use Rattle.cq_ideal.proofs.FlowCount.{before_end}
 use Rattle.cq_ideal.proofs.FlowFound.{cell_listed, found, found_here, found_none, listed, other_input, other_slot}
@@ -52,7 +53,7 @@ IsShown came i = (t : ℕ) → arrival_at (arriving came t) i ≡ arriving_at ca
 pub is_shown : (i : ℕ) → i < 64 → (came : List Arrival) → IsShown came i
 unfolding arriving
 is_shown i inside came t =
-    let none : Option Cell = None in
+    let none = None in
     unwrap_or-slice_get (arriving came t) i none
     ∙ get_or-map-range_with_len (arriving_at came t) 0 64 i i none inside (omega arith)
 
@@ -65,8 +66,7 @@ comes_shown i came shown from zero rise all =
     grind (arith, common_steps, all_past i from came, before (before_end came))
 comes_shown i came shown from (suc n) rise all =
     let first = found_first i from came rise in
-    let rest = comes_shown i came shown (from + 1) n rise (omega arith) in
-    grind (arith, common_steps, shown, listed, cell_listed)
+    search (arith, rules, listed, cell_listed, comes_shown i came shown (from + 1) n rise)
 
 pub comes_from : (i : ℕ) → i < 64 → (came : List Arrival) (from slots : ℕ) → RiseByInput came →
     end_of came ≤ from + slots →

@@ -26,7 +26,7 @@ ranked_none ms slot i (suc n) ranks = ap (after_input None) (ranked_none ms slot
 -- a state in which no cell waits
 pub all_empty : (s : IdealState) (n : ℕ) → IsEmptyIdeal s → length s.lists ≡ n → s ≡ empty_ideal n s.ranks
 all_empty s n empty long =
-    let none : List Queued = [] in
+    let none = [] in
     search (arith, rules, ext_get_or none s.lists (replicate n none), length-replicate n none, same_at none n)
 
 -- ## The slots
@@ -38,7 +38,7 @@ module _ (ms : List Machine) (n : ℕ) where
   unfolding ideal_slot
   quiet_slot slot ranks =
       let none = nobody_left (replicate 64 None) (replicate n [])
-      (λ k q at. let no : None ≡ Some q = sym (none_at 64 k) ∙ at in cc) in
+      (λ k q at. let no = sym (none_at 64 k) ∙ at in cc) in
       cc (ranked_none ms slot 0 64 ranks, none, nobody_sends n, nothing_left n)
 
   pub idle_run : (count slot : ℕ) (ranks : List (List ℕ)) → (rested : List (List ℕ))
@@ -47,11 +47,7 @@ module _ (ms : List Machine) (n : ℕ) where
   unfolding ideal_run
   idle_run zero slot ranks = (ranks, refl)
   idle_run (suc count) slot ranks =
-      let rest = idle_run count (slot + 1) (all_idle ms n ranks) in (
-        rest.0,
-        ap (next_slot ms (slot + 1) (replicate count no_arrivals)) (quiet_slot slot ranks)
-            ∙ ap (then_ran (replicate n None)) rest.1,
-      )
+      let rest = idle_run count (slot + 1) (all_idle ms n ranks) in search (arith, rules, next_slot, quiet_slot)
 
   quiet_run : (count slot : ℕ) (ranks : List (List ℕ)) → all_idle ms n ranks ≡ ranks →
       ideal_run ms slot (replicate count no_arrivals) (empty_ideal n ranks)
@@ -91,11 +87,7 @@ module _ {M : List ℕ → Machine} {first_fixed first_states : List (List ℕ)}
       Resting M first_fixed first_states (output + 1) next_fixed next_states
   resting_next next_fixed next_states inside kept now sized =
       let ms = map M first_fixed in
-      let within : output < length first_states = omega arith in
-      let many = length-told ms (replicate (length first_fixed) None) first_states in
-      let here = at_place (all_idle ms (length first_fixed) first_states) first_states output [] many within in
-      let as_told = idle_at ms (length first_fixed) first_states output within in
-      search (arith, rules, next_place, cases_eq, so_far.sized)
+      search (arith, rules, length-told, at_place, idle_at ms (length first_fixed) first_states output, next_place)
 
   pub resting_last : length first_fixed ≤ output →
       states ≡ all_idle (map M first_fixed) (length first_fixed) first_states
@@ -111,10 +103,8 @@ module _ {M : List ℕ → Machine} {first_fixed first_states : List (List ℕ)}
       let is = resting_last end in
       let many = length-told ms (replicate ports None) first_states in
       let longer = length-told ms (replicate ports None) idle in
-      let twice : all_idle ms ports idle ≡ idle = ext_get_or [] (all_idle ms ports idle) idle longer (λ j within.
-      let machine = get_or-map M first_fixed j [] (first_come []) (omega arith) in
-      let keeps : KeepsLaws (machine_at ms j) = rw machine (laws (get_or first_fixed j [])) in
-      grind (arith, idle_at ms ports, keeps.idle_once, so_far.sized)) in
+      let twice = ext_get_or [] (all_idle ms ports idle) idle longer (λ j within.
+      search (arith, rules, get_or-map M first_fixed j [] (first_come []), idle_at ms ports)) in
       cc
 
 pub length-idle : (ms : List Machine) (n : ℕ) (ranks : List (List ℕ)) → length (all_idle ms n ranks) ≡ length ranks

@@ -86,7 +86,7 @@ module _ {M : List ℕ → Machine} {slot : ℕ} {first_ranks : RanksView} {firs
       put =
       let ms = map M first_ranks.fixed in
       let old = first_queues.lists in
-      let none : Option Queued = None in
+      let none = None in
       let dropped = length-map old (λ (xs : List Queued). drop 1 xs) in
       let here : list_at queues.lists output ≡ list_at old output =
       cc (so_far.lists, at_place (rests old) old output [] dropped inside) in
@@ -97,25 +97,8 @@ module _ {M : List ℕ → Machine} {slot : ℕ} {first_ranks : RanksView} {firs
       let fronts_long = length-map old (λ (xs : List Queued). slice_get xs 0) in
       let later = departures_from slot (output + 1) (drop (output + 1) (fronts old)) in
       let both : one_sent slot output gone ++ later ≡ departures_from slot output (drop output (fronts old)) =
-      let next = drop_more (fronts old) output none (omega arith) in grind (arith, common_steps) in
-      let long = ap length put.items in
-      let longer = length-append sent.items (one_sent slot output gone) in
-      let few = length-one slot output gone in
-      record {
-        fixed = fixed ∙ so_far.fixed;
-        rooms = rooms ∙ so_far.rooms;
-        long = grind (arith, common_steps, length-set);
-        states = told_next ms (fronts old) first_ranks.states ranks.states ranks_new.states output gone (omega arith)
-            so_far.states front (cc (so_far.fixed));
-        lists = put_next (rests old) old queues.lists queues_new.lists output _ [] so_far.lists lists rest dropped
-            inside;
-        items = ap (λ l. l ++ later) put.items ∙ append_assoc sent.items (one_sent slot output gone) later
-            ∙ ap (λ l. sent.items ++ l) both ∙ so_far.items;
-        spare = omega (arith, put.spare);
-        room = omega (arith, put.spare);
-        holds = holds;
-        judges = search (arith, rules);
-      }
+      grind (arith, common_steps) in
+      search (arith, rules, length-append, length-one, length-set, told_next, put_next, append_assoc)
 
   -- what the slot leaves
   pub record AreSent : Type 0 where

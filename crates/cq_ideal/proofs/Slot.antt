@@ -1,5 +1,6 @@
 -- A slot is what the parts do one after the other: the arrivals are judged, those that are admitted are ranked and go
 -- into the lists, and then the outputs send.
+use Rattle.std.proofs.Common.{rules}
 use Rattle.cq_ideal.proofs.Terms.{◌≡◌, ℕ, ◌+◌, ◌<◌, ◌≤◌, ◌^◌, Bool, false, List, [], length, map, get_or, Option, Ok, Err, refl, ap, ◌∙◌, arith, common_steps, get_or-map, Cell, Queued, TagFault, Departure, RoomView, Machine, class_count, Admission, admission, admitted, marked, refused, IdealSwitch, HasRoomFor, SpareFollows, marked_state, IdealState, Sent, ideal_slot, ideal_sends, filled, fronts, rests, all_told, LimitedSent, limited_slot, with_admission, HoldsLists, LimiterView, AreParts, AreWithinRooms, CameToPorts, FitTogether, RanksView, QueuesView, AllArrivedBefore, HaveOwnKeys, HaveRoomFor, state_of, AreForPorts, Ranking, ranking}
 use Rattle.cq_ideal.specs.OneSlot.{CanHaveSlot}
 use Rattle.cq_ideal.specs.Taking.{CanTakeIn, HasJudged, HasTakenIn}
@@ -135,9 +136,7 @@ module _ {M : List ℕ → Machine} {slot : ℕ} {cells : List (Option Cell)} {v
       pub have_room : HaveRoomFor came queues
       have_room j inside =
           let count = came_for (map M ranks.fixed) slot (admitted judged.marks cells) ranks.states r taken.ranked j in
-          let room = admitted_room judged.marks j in
-          let lists = lists_are in
-          grind (arith, common_steps)
+          search (arith, rules, admitted_room, lists_are)
 
       pub have_keys : HaveOwnKeys came queues.lists
       have_keys = own_keys (map M ranks.fixed) slot (admitted judged.marks cells) ranks.states r taken.ranked
@@ -147,10 +146,7 @@ module _ {M : List ℕ → Machine} {slot : ℕ} {cells : List (Option Cell)} {v
           queues_new.rooms ≡ queues.rooms → ranks_new.fixed ≡ ranks.fixed →
           length ranks_new.states ≡ length ranks.states → Placed M slot cells v queues judged ranks_new queues_new
       placed queues_new lists rooms same many =
-          let fit = known.parts.fit in
           let limits = ap length judges.limits in
-          let as_many = ap length lists_are in
-          let as_many_rooms = ap length known.rooms in
           let ok : ideal_slot (map M v.fixed) slot (admitted judged.marks cells) v.state
           ≡ Ok (sent_from (map M ranks_new.fixed) (state_of ranks_new queues_new)) = cc (ideal_is, taken.ranked) in
           record {

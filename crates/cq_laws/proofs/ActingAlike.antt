@@ -17,10 +17,8 @@ module _ (limits : List (Option ℕ)) (ms : List Machine) where
       record {
         slot = search (rules, same_limited_slot);
         fault = search (rules, same_limited_fault);
-        run = λ slot class_count traffic f g ideal rs agrees come run. same_limited_run limits ms class_count slot
-            traffic f g ideal rs (record { agrees = agrees; come = come }) run;
-        stop = λ slot class_count traffic f ideal rs fault agrees come run. same_limited_stop limits ms class_count
-            slot traffic f ideal rs fault (record { agrees = agrees; come = come }) run;
+        run = search (arith, rules, same_limited_run);
+        stop = search (arith, rules, same_limited_stop);
       }
 
   pub best_act_alike : ActAlike IsInputBest limits ms

@@ -33,13 +33,7 @@ stayed : (p : Option ℕ) (xs : List Queued) (t : ℕ) (c : Queued) → slice_ge
     Stayed p xs t c
 stayed None xs t c h = record { place = t; at = h; no_sooner = omega arith; behind = λ k e. cc }
 stayed (Some l) xs t c h =
-    let st = left_at l xs t c h in
-    record {
-      place = st.place;
-      at = st.at;
-      no_sooner = omega (arith, st.side);
-      behind = λ k e le. grind (arith, st.side, same_Some l k e);
-    }
+    let st = left_at l xs t c h in search (arith, rules, same_Some)
 
 -- a partner that is preferred has its first cell ahead
 better_ahead : (order : List ℕ) (cells : List Queued) (p : Option ℕ) (j : ℕ) → IsOutputOrder cells order →
@@ -100,18 +94,12 @@ module _ (old new : Fabric) (m : Partners) (fabric : IsFabric old) (order : List
       let p = partner_of m i in
       let st = stayed p xs t c (ap (λ l. slice_get l t) (sym (moves.moves.taken i)) ∙ at) in
       let among = among_at xs st.place c st.at in
-      let le : place_for j xs ≤ st.place = first_le (is_for j) xs st.place c st.at (eq-eqb j j refl) in
+      let le = first_le (is_for j) xs st.place c st.at (eq-eqb j j refl) in
       let offered = ((are.outputs i).offered j).1 (first_of (is_for j) xs c among (eq-eqb j j refl)) in
       let kept = cushion_kept j c.key in
       let more = cushion_gained i st.place c st.at in
       let better = better_ahead (outputs_of (orders_of old.inputs) i) xs p j (are.outputs i) offered in
-      let partner = is_partner p j in
-      let settled = stable.settled i j offered in
-      record {
-        before = st.place;
-        stood = st.at;
-        risen = grind (arith, partner, settled, st.behind, st.no_sooner, better, more);
-      }
+      search (arith, rules, is_partner)
 
   pub slack_risen : (n : ℕ) → HasSlack n old → HasSlack (1 + n) new
   slack_risen n slack i t c at = grind (arith, common_steps, matching_rises i t c at)
@@ -132,8 +120,8 @@ module _ (old new : Fabric) (m : Partners) (fabric : IsFabric old) (order : List
   pub has_after : (j : ℕ) (c : Queued) → HasFor old j c → HasFor new j c
   has_after j c (inr b) = inr (buffer_keeps j c b)
   has_after j c (inl w) = ⊎_elim (λ l. inl (w.0, rw moves.moves.taken l, w.2)) (λ r.
-      let out = (from_first r.0 (input old w.0) c r.2).1 in
-      search (arith, rules, put_new c (buffer old r.0))) (left_or_taken (partner_of m w.0) (input old w.0) c w.1)
+      search (arith, rules, from_first r.0 (input old w.0) c r.2, put_new c (buffer old r.0)))
+      (left_or_taken (partner_of m w.0) (input old w.0) c w.1)
 
   pub has_before : (j : ℕ) (c : Queued) → HasFor new j c → HasFor old j c
   has_before j c h = ⊎_elim (λ w. inl (w.0, was_waiting w.0 c w.1, w.2)) (λ b. ⊎_elim (λ k. inr k)
@@ -202,9 +190,4 @@ module _ (slot : ℕ) (old new : Fabric) (m : Partners) (sound : Sound slot old)
   pub moved : Moved slot old new
   moved =
       let after = has_after old new m sound.fabric sound.order sound.apart stable moves in
-      record {
-        sound = moved_sound;
-        rises = matching_rises old new m sound.fabric sound.order sound.apart stable moves;
-        slack = slack_risen old new m sound.fabric sound.order sound.apart stable moves;
-        has = λ j c. (moved_has j c, after j c);
-      }
+      search (arith, rules, moved_sound, matching_rises, slack_risen, moved_has)

@@ -33,8 +33,7 @@ pub stable_whole : (ms : List Machine) (came : List Arrival) (start g : Fabric) 
 stable_whole ms came start g rs w = ends_with (FabricSlot IsInputBest ms) came start rs IsEmptyFabric
     (AfterBy (FabricSlot IsStable ms) came start rs) IsEmptyFabric g g w (stable_run ms 0 _ start g _ w.after) w.empty
     (λ m u v lt best stable empty.
-    let chosen = same_choices ms 0 (first_slots came m) start start v u (take m rs) best stable in
-    let end = (only_run ms).run 0 (first_slots came m) start v u (take m rs) (take m rs) best chosen in rw end.1 empty)
+    search (arith, rules, same_choices, only_run ms))
 
 -- ## The same end
 
@@ -74,13 +73,7 @@ module _ (ms : List Machine) (ports class_count : ℕ) (ranks : List (List ℕ))
         ((empty_together (length rs) g b.after b.agrees).0 w.empty) (λ m u v lt after at done.
         let fit = fewer_fit (AreForPorts ports class_count) came m (length rs) (omega arith) fit in
         over_too m (take m rs) v u (beside m (take m rs) v fit after) at done) in
-        let slots = found_end ms ports ranks came (length rs) b.after ends in
-        record {
-          after = b.after;
-          slots = slots;
-          ran = ap (λ n. ideal_run ms 0 (first_slots came n) (empty_ideal ports ranks)) slots ∙ b.ran;
-          agrees = b.agrees;
-        }
+        search (arith, rules, found_end, ends)
 
   pub stop_alike : (n : ℕ) (rs : List SlotRecord) (fault : TagFault) → Fit n →
       FabricStops IsStable ms 0 (first_slots came n) (empty_fabric ports ranks) rs fault →

@@ -33,7 +33,7 @@ module _ (ms : List Machine) (slot class_count : ℕ) (cells : List (Option Cell
       let r : Ranking = record { came = came; ranks = ranks } in
       let keyed = keyed_from ms slot (length f.inputs) class_count cells f.ranks r ranked come in
       let sound = sound_from slot f ideal agrees in
-      let arrival : arrival_at cells i ≡ Some c.cell = (came_from ms slot 0 cells f.ranks r ranked i c is).cell_is in
+      let arrival = (came_from ms slot 0 cells f.ranks r ranked i c is).cell_is in
       record {
         inside = come.inputs i c.cell arrival;
         output = keyed.outputs i c is;

@@ -43,7 +43,7 @@ rising_put_all j (None ∷ came) xs r new once = rising_put_all j came xs r (λ 
 rising_put_all j (Some q ∷ came) xs r new once = rising_put_all j came (cond (is_for j q) (put q xs) xs)
     (cond_both (is_for j q) (put q xs) xs IsRising (λ _. rising_put q xs r (λ d h. new zero q d refl h)) (λ _. r))
     (cond_both (is_for j q) (put q xs) xs (NewTo came) (λ _ k s d a h e. ⊎_elim (λ same.
-    let no : suc k ≡ zero = once (suc k) zero s q a refl (e ∙ ap (λ (x : Queued). x.key) (sym same)) in
+    let no = once (suc k) zero s q a refl (e ∙ ap (λ (x : Queued). x.key) (sym same)) in
     absurd (omega arith)) (λ m. new (suc k) s d a m e) (among_put d q xs h)) (λ _ k. new (suc k)))
     (λ k l s t a b e. let n = once (suc k) (suc l) s t a b e in omega arith)
 

@@ -146,21 +146,18 @@ pub agrees_of : (slot : ℕ) (f : Fabric) → IsSoundFabric slot f → Agrees sl
 unfolding ideal_of
 agrees_of slot f sound =
     let apart = apart_from f sound.differ in
-    record {
-      fabric = sound.fabric;
-      ports = ports_of f;
-      ranks = refl;
-      rising = λ j. rw (list_is f sound.fabric j)
-          (rising_in_order (cells_for j f) (cells_differ j f sound.fabric sound.order apart));
-      same = λ j c. (
-        λ h. from_cells j f c (among_in_order c (cells_for j f) (subst (IsAmong c) (list_is f sound.fabric j) h)),
-        λ h. subst (IsAmong c) (sym (list_is f sound.fabric j)) (in_order_among c (cells_for j f) (to_cells j f c h)),
-      );
-      order = sound.order;
-      differ = sound.differ;
-      earlier = sound.earlier;
-      slack = sound.slack;
-    }
+    search (
+      arith,
+      rules,
+      ports_of,
+      list_is,
+      rising_in_order,
+      cells_differ,
+      from_cells,
+      among_in_order,
+      in_order_among,
+      to_cells,
+    )
 
 pub sound_from : (slot : ℕ) (f : Fabric) (ideal : IdealState) → Agrees slot f ideal → IsSoundFabric slot f
 sound_from slot f ideal agrees = grind (arith, common_steps)

@@ -24,8 +24,7 @@ module _ (ms : List Machine) (class_count : ℕ) where
       let more_after-here = more_after ms slot class_count cells f run.0 ideal r agrees come.0 run.1 x has.ports in
       let reduce-cons-here = reduce-cons (slack_on_arrival i r) (filter_map (slack_on_arrival i) rs) in
       let one = same_slot ms slot class_count cells f run.0 ideal r agrees come.0 run.1 in
-      let least_run-here = least_run (slot + 1) traffic run.0 g one.next rs (figures_after x r) i one.agrees in
-      grind (arith, common_steps)
+      search (arith, rules, least_run (slot + 1) traffic run.0 g one.next rs (figures_after x r) i one.agrees)
   least_run slot traffic f g ideal rs x i agrees come run has inside = absurd run
 
 -- before the first slot no input has a least slack, and no cell waits

@@ -127,9 +127,7 @@ module _ (ms : List Machine) (slot class_count : ℕ) (cells : List (Option Cell
       let is = step.arrive.lists i ∙ ap (λ q. list_arrived f q (input f i)) came in
       let others = all_from (λ x. (x.key.slot == r.slot) ≡ false) (input f i)
       (λ x h. grind (arith, ne_eqb x.key.slot r.slot, old.early.waiting i x h)) in
-      ap (position_or_len (λ (x : Queued). x.key.slot == r.slot)) is
-      ∙ position-insert (λ (x : Queued). x.key.slot == r.slot) (input f i) _ c (omega arith)
-      (eq-eqb c.key.slot r.slot (omega arith)) others
+      search (arith, rules, position-insert, eq-eqb)
 
   pub arrival_at_place : (i : ℕ) (c : Queued) → came_to r.came i ≡ Some c →
       slice_get (input r.arrived i) (place_of_arrival (cushion_of f c) c (input f i)) ≡ Some c
@@ -158,10 +156,7 @@ module _ (ms : List Machine) (slot class_count : ℕ) (cells : List (Option Cell
     there_on i v (Some c) came e =
         let place = arrival_place i c came in
         let p = place_of_arrival (cushion_of f c) c (input f i) in
-        let among = slack_listed r.arrived 0 (input r.arrived i) p p c (omega arith) (arrival_at_place i c came) in
-        let is = same_Some _ v e in
-        let same : cushion_of r.arrived c - p ≡ v = omega arith in
-        rw same at among
+        search (arith, rules, slack_listed r.arrived 0 (input r.arrived i) p p c, arrival_at_place)
 
     pub by_arrivals : (i : ℕ) →
         either_by min (least_slack x i) (reduce min (slacks r.arrived i))
@@ -176,13 +171,12 @@ module _ (ms : List Machine) (slot class_count : ℕ) (cells : List (Option Cell
     unfolding slacks
     more_after =
         let ports = ports_kept ms slot class_count cells f g ideal r agrees come step in
-        let old_ports : length x.inputs ≡ length f.inputs = as_many in
         record {
           ports = length-after x r ∙ as_many ∙ sym ports;
           more = λ i t c at.
               let rise = slot_rises i t c at in
-              let within =
-              slack_arrived ms slot class_count cells f g ideal r agrees come step i rise.before c rise.stood in
+              let within = slack_arrived ms slot class_count cells f g ideal r agrees come step i rise.before c
+              rise.stood in
               let new = new_least (least_slack x i) (slacks r.arrived i) _ (slack_listed r.arrived 0
               (input r.arrived i) rise.before rise.before c (omega arith) rise.stood) in
               search (arith, rules, least_after, inside_input) fits 4000;

@@ -26,7 +26,6 @@ module _ (limits : List (Option ℕ)) (ms : List Machine) (class_count : ℕ) wh
       LimitedFabricSlot IsStable limits ms slot cells f r g → Went slot cells traffic ideal r g
   go slot cells traffic f g ideal r s step =
       let one = same_limited_slot limits ms slot class_count cells f g ideal r s.agrees s.come.0 step in
-      let ports = limited_ports_kept limits ms slot class_count cells f g ideal r s.agrees s.come.0 step in
       record {
         alike = one;
         slack = limited_slack_arrived limits ms slot class_count cells f g ideal r s.agrees s.come.0 step;
@@ -42,8 +41,7 @@ module _ (limits : List (Option ℕ)) (ms : List Machine) (class_count : ℕ) wh
   same_limited_run slot [] f g ideal [] s run = search (arith, rules)
   same_limited_run slot (cells ∷ traffic) f g ideal (r ∷ rs) s run =
       let went = go slot cells traffic f run.0 ideal r s run.1 in
-      let rest = same_limited_run (slot + 1) traffic run.0 g went.alike.next rs went.stands run.2 in
-      let step = run_step limits ms slot cells traffic ideal _ went.alike.sent in grind (arith, common_steps)
+      search (arith, rules, same_limited_run (slot + 1) traffic run.0 g went.alike.next rs went.stands run.2)
   same_limited_run slot traffic f g ideal rs s run = absurd run
 
   pub same_limited_stop : (slot : ℕ) (traffic : List (List (Option Cell))) (f : Marked Fabric)

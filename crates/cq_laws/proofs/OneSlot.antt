@@ -56,12 +56,7 @@ module _ (Waits : Queued → Type 0) where
   follows (a ∷ more) [] h = absurd (front_there a more [] h)
   follows (a ∷ more) (b ∷ bs) h =
       let there = front_there a more (b ∷ bs) h in
-      let same = same_first a b more bs h.up h.up' there (h.back b (inr (inl refl))) in
-      record {
-        front = ap Some same;
-        to = λ c k. grind (arith, common_steps, all_among, not_before_itself, h.to c (inr k));
-        back = λ c k. grind (arith, common_steps, all_among, never_both, not_before_itself, h.back c, h.behind c);
-      }
+      search (arith, rules, same_first, h.back, all_among, not_before_itself, h.to, never_both, h.behind)
 
 -- ## The same tag fault
 
@@ -198,8 +193,7 @@ pub arrivals_keep : (ms : List Machine) (slot class_count : ℕ) (cells : List (
 arrivals_keep ms slot class_count cells came old new whole come arrive =
     let keyed = keyed_from ms slot (length old.inputs) class_count cells old.ranks
     (record { came = came; ranks = new.ranks }) arrive.ranked come in
-    let ranks = ranks_kept ms slot 0 cells old.ranks (record { came = came; ranks = new.ranks }) arrive.ranked in
-    search (arith, rules, arrived_fabric)
+    search (arith, rules, ranks_kept, arrived_fabric)
 
 pub transfer_keeps : (m : Partners) (old new : Fabric) → IsWholeFabric old → ListsKeepOrder old → Apart old →
     IsStable (orders_of old.inputs) m → Transfers m old new → IsWholeFabric new

@@ -29,10 +29,7 @@ module _ {S R : Type 0} (Step : ℕ → List (Option Cell) → S → R → S →
 
     pub reach : (m n : ℕ) (end : S) → m ≤ n → RunBy Step 0 (first_slots came n) start rs end → Reach m n end
     reach m n end le run =
-        let halves = arriving_parts came 0 m m (n - m) n in
-        let long = arriving_length came 0 m in
-        let both = parts 0 (first_slots came m) (arriving_from came m (n - m)) start end rs in
-        grind (arith, common_steps)
+        let halves = arriving_parts came 0 m m (n - m) n in search (arith, rules, arriving_length, parts)
 
     pub run_of_whole : (IsEmpty : S → Type 0) (end : S) → WholeBy Step IsEmpty came start rs end →
         RunBy Step 0 (first_slots came (length rs)) start rs end
@@ -48,10 +45,8 @@ module _ {S R : Type 0} (Step : ℕ → List (Option Cell) → S → R → S →
           after = at;
           all_came = w.all_came;
           empty = empty;
-          first = λ m u after late over. ⊎_elim (λ lt.
-              let r = reach m (length rs) s (omega arith) (run_of_whole IsOver s w) in
-              w.first m r.state r.after late (back m u r.state lt r.after after over)) (λ ge. ge)
-              (cases_lt m (length rs));
+          first = λ m u after late over.
+              search (arith, rules, reach m (length rs) s, run_of_whole IsOver s w);
         }
 
   -- ## One whole run
@@ -62,9 +57,8 @@ module _ {S R : Type 0} (Step : ℕ → List (Option Cell) → S → R → S →
     no_longer : (rs ss : List R) (g h : S) → WholeBy Step IsEmpty came start rs g →
         WholeBy Step IsEmpty came start ss h → length rs ≤ length ss
     no_longer rs ss g h w v = ⊎_elim (λ (lt : length ss < length rs).
-        let r = reach came start rs (length ss) (length rs) g (omega arith)
-        (run_of_whole came start rs IsEmpty g w) in
-        search (arith, rules, run_of_whole, w.first)) (λ ge. ge) (cases_lt (length ss) (length rs))
+        search (arith, rules, reach came start rs (length ss) (length rs) g, run_of_whole came start rs IsEmpty g w))
+        (λ ge. ge) (cases_lt (length ss) (length rs))
 
     pub one_whole : (rs ss : List R) (g h : S) → WholeBy Step IsEmpty came start rs g →
         WholeBy Step IsEmpty came start ss h → (rs ≡ ss) × (g ≡ h)

@@ -1,5 +1,6 @@
 -- Partners of a matching, and the cells that they give: an output has an input whose partner it is, or none, and an
 -- input has a cell for its partner. The first cell for an output is no less urgent than any other for it.
+use Rattle.std.proofs.Common.{rules}
 use Rattle.cq_laws.proofs.Terms.{◌≡◌, ◌≢◌, ℕ, zero, suc, ◌⊎◌, List, [], ◌∷◌, Option, Some, None, inl, inr, ⊎_elim, arith, slice_get, cases_lt, cases_eq, eqb-true, eq-eqb, same_Some, Queued, Fabric, input, IsFabric, Transfers, IsBefore, KeepsOrder, is_for, first_for, each_pair_at, first_le, Orders, partner_of, HasCellFor, AreOrdersOf}
 use Rattle.cq_prefs.specs.Pairing.{Partners, IsStable}
 use Rattle.cq_laws.proofs.Members.{first_at}
@@ -19,10 +20,7 @@ pub first_least : (j : ℕ) (xs : List Queued) (s : ℕ) (c f : Queued) → Keep
     c.cell.output ≡ j → first_for j xs ≡ Some f → (f ≡ c) ⊎ IsBefore f c
 first_least j xs s c f order at out is =
     let first = first_at (is_for j) xs f is in
-    let le = first_le (is_for j) xs s c at (eq-eqb c.cell.output j out) in
-    let before = each_pair_at _ xs first.place s f c order first.at at in
-    let first_out = eqb-true f.cell.output j first.passes in
-    grind (arith, cases_lt first.place s, before, first_out, same_Some f c)
+    search (arith, rules, first_le, eq-eqb, each_pair_at, eqb-true, cases_lt, same_Some)
 
 module _ (old new : Fabric) (o : Orders) (m : Partners) (order : (i : ℕ) → KeepsOrder (input old i))
     (fabric : IsFabric old) (are : AreOrdersOf old.inputs o) (stable : IsStable o m) (moves : Transfers m old new)

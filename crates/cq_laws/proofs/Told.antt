@@ -47,10 +47,7 @@ pub transfers_tell : (lists : List (List Queued)) (m n : Partners) (slot phase :
     transfers_of m lists slot phase ≡ transfers_of n lists slot phase → m ≡ n
 unfolding transfers_of
 transfers_tell lists m n slot phase stable_m stable_n e =
-    let size : length m ≡ length n = stable_m.matching.size ∙ sym stable_n.matching.size in
+    let size = stable_m.matching.size ∙ sym stable_n.matching.size in
     let notes : Partners → ℕ → Option Transfer = λ p i. noted slot phase i (list_of lists i) (partner_of p i) in
     let own : (p : Partners) → OwnInput (notes p) = λ p i. own_noted slot phase i (list_of lists i) (partner_of p i) in
-    let same = e ∙ ap (λ size. filter_map (notes n) (range_with_len 0 size)) (sym size) in
-    ext_get_or None m n size (λ i inside. same_partner slot phase i (list_of lists i) (partner_of m i) (partner_of n i)
-    (offer_of lists m stable_m i) (offer_of lists n stable_n i)
-    (one_by_one (notes m) (notes n) (own m) (own n) 0 (length m) same i (omega arith) (omega arith)))
+    search (arith, rules, ext_get_or None m n, offer_of, one_by_one (notes m) (notes n) (own m) (own n) 0 (length m))

@@ -19,8 +19,7 @@ module _ (ms : List Machine) (class_count : ℕ) where
   same_run slot [] f g ideal [] agrees come run = search (arith, rules)
   same_run slot (cells ∷ traffic) f g ideal (r ∷ rs) agrees come run =
       let one = same_slot ms slot class_count cells f run.0 ideal r agrees come.0 run.1 in
-      let rest = same_run (slot + 1) traffic run.0 g one.next rs one.agrees in
-      let sent = ap (goes_on ms slot traffic) one.sent in grind (arith, common_steps, ports_kept)
+      search (arith, rules, ports_kept, same_run (slot + 1) traffic run.0 g one.next rs one.agrees)
   same_run slot traffic f g ideal rs agrees come run = absurd run
 
   pub same_stop : (slot : ℕ) (traffic : List (List (Option Cell))) (f : Fabric) (ideal : IdealState)
@@ -33,8 +32,7 @@ module _ (ms : List Machine) (class_count : ℕ) where
       ap (goes_on ms slot traffic) ((same_fault ms slot cells f ideal fault agrees).1 run)
   same_stop slot (cells ∷ traffic) f ideal (r ∷ rs) fault agrees come run =
       let one = same_slot ms slot class_count cells f run.0 ideal r agrees come.0 run.1 in
-      let rest = same_stop (slot + 1) traffic run.0 one.next rs fault one.agrees in
-      let sent = ap (goes_on ms slot traffic) one.sent in grind (arith, common_steps, ports_kept)
+      search (arith, rules, ports_kept, same_stop (slot + 1) traffic run.0 one.next rs fault one.agrees)
 
   -- after the arrivals of each slot no input thread is greater than its cushion
   pub run_slack : (slot : ℕ) (traffic : List (List (Option Cell))) (f g : Fabric) (ideal : IdealState)

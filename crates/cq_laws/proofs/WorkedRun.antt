@@ -36,9 +36,7 @@ first_in_range : (ports : ℕ) (lists : List (List Queued)) (i j : ℕ) (c : Que
     first_for j (list_of lists i) ≡ Some c → j < ports
 first_in_range ports [] i j c are is = absurd (let P : ⊥ = cc in P)
 first_in_range ports (cells ∷ lists) zero j c are is =
-    let f = from_first j cells c is in
-    let lt = all_among (λ (d : Queued). d.cell.output < ports) cells c are.0 f.0 in
-    let out = f.1 in omega arith
+    let f = from_first j cells c is in search (arith, rules, all_among)
 first_in_range ports (cells ∷ lists) (suc i) j c are is = first_in_range ports lists i j c are.1 is
 
 -- a cell crosses
@@ -52,11 +50,7 @@ crosses : (f : Fabric) (i j : ℕ) (c : Queued) → AreFor (length f.inputs) f.i
     })
 crosses f i j c own is front few inside inside' =
     let offers = are_offers f.inputs (λ i j c. first_in_range (length f.inputs) f.inputs i j c own) in
-    let only = only_pair i j few in
-    record {
-      best = rw is at (input_best-best (orders_of f.inputs) offers);
-      moved = grind (arith, common_steps);
-    }
+    search (arith, rules, only_pair i j few, input_best-best (orders_of f.inputs) offers)
 
 -- what comes to an input goes into its list
 abbrev ComesTo : Fabric → SlotRecord → ℕ → Type 0
@@ -87,16 +81,14 @@ unfolding all_told is_before place_in best least_free start propose
     keeper matching_of is_free
 worked0 =
     let one = crosses slot0.arrived 0 0 from_input0 (omega arith) refl refl (omega arith) (omega arith) (omega arith) in
-    let two = crosses slot0.sent 1 0 from_input1 (omega arith) refl refl (omega arith) (omega arith) (omega arith) in
-    search (arith, rules, at_inputs)
+    search (arith, rules, crosses slot0.sent 1 0 from_input1, at_inputs)
 
 worked1 : FabricSlot IsInputBest first_come_all 1 (None ∷ None ∷ Some (lone_cell 2 1 1) ∷ []) after0 slot1 after1
 unfolding all_told is_before place_in best least_free start propose
     keeper matching_of is_free
 worked1 =
     let one = crosses slot1.arrived 2 1 for_output1 (omega arith) refl refl (omega arith) (omega arith) (omega arith) in
-    let two = crosses slot1.sent 2 0 from_input2 (omega arith) refl refl (omega arith) (omega arith) (omega arith) in
-    search (arith, rules, at_inputs)
+    search (arith, rules, crosses slot1.sent 2 0 from_input2, at_inputs)
 
 worked2 : FabricSlot IsInputBest first_come_all 2 (None ∷ None ∷ None ∷ []) after1 slot2 none_left
 unfolding all_told

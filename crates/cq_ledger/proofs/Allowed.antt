@@ -27,28 +27,18 @@ proposal-allowed o slots id i p me h e s k size at bound =
     let found = get_or s.words (suc (output_at o i p)) 0 in
     let k' = proposal-keeps o s.words s.views k id i p me.0 at h e in
     let w = sound-after o k.offers k.events k.are_events in
-    let here : next_place (state_after o k.events) i ≡ p = k.hands.place id i p me.0 at h in
+    let here = k.hands.place id i p me.0 at h in
     let free = k.hands.free id i p me.0 at h in
     let offered : IsOffered o i (output_at o i p) =
     rw (← here) (next_output-offered o k.offers (state_after o k.events) i free.left) in
     let r = output_in_range o k.offers i (output_at o i p) offered in
     let shown = k.positions (output_at o i p) r in
-    let few : (proposed me.0 i p found).made ≤ ports o * ports o = made-most o _ _ k' id (proposed me.0 i p found)
+    let few = made-most o _ _ k' id (proposed me.0 i p found)
     (set_here s.views id _ (at_known s.views id me.0 me.0 at).0) in
     let word : IsWord o (output_at o i p) found = rw shown (w.held_in (output_at o i p) r) in
     let apart : found ≢ position_of o (output_at o i p) i =
     λ own. free.unheld (output_at o i p) (sym shown ∙ own, k.offers.shown i (output_at o i p) offered) in
-    let O : Orders → Type 0 = λ x. ((proposed me.0 i p found).made ≤ ports x * ports x) × IsOtherWord x i p found in
-    let both : O me.0.offers = subst O (sym e) (few, (word, apart)) in
-    let told : IsProposal me i p found (proposed me.0 i p found, me.1) =
-    record { view = refl; slots = refl; few = both.0; word = both.1 } in
-    let T : ℕ × ℕ → Type 0 = λ x. IsProposal me x.0 x.1 found (proposed me.0 i p found, me.1) in (
-      proposed me.0 i p found,
-      keeps,
-      tt,
-      k',
-      λ i' p' h'. let same : (i, p) ≡ (i', p') = cc (sym h ∙ h') in subst T same told,
-    )
+    search (arith, rules)
 
 -- the same at an output, a position and a word that were computed
 pub proposal-allowed-at : (key offers : Orders) → key ≡ offers → (slots id i p : ℕ) (me : Seated) →
@@ -76,15 +66,13 @@ module _ (o : Orders) (slots id i : ℕ) (me : Seated) (r : i < ports o) (empty 
 
   -- by the bit that is found
   pub claim-may : (v : View) × May v
-  claim-may = ⊎_elim (λ clear. (claim_taken me.0 i, may_take clear)) (λ n.
-      let is_set : bit found i ≡ 1 = let b = bit-lt found i in omega arith in
-      (claim_refused me.0 i, may_not is_set)) (cases_eq (bit found i) 0)
+  claim-may = ⊎_elim (λ clear. (claim_taken me.0 i, may_take clear))
+      (search (arith, rules, bit-lt, may_not)) (cases_eq (bit found i) 0)
 
 pub claim-allowed : (o : Orders) (slots id i : ℕ) (me : Seated) → i < ports o → me.0.hand ≡ None → me.0.offers ≡ o →
     Allows (Ruled o) slots id me 0 (λ n. bit_or n (2 ^ i)) (claim (step slots 0 (2 ^ i) 0 none) me)
 claim-allowed o slots id i me r empty e s k size at bound =
-    let may = claim-may o slots id i me r empty e s k at in
-    (may.0, keeps, tt, may.1.0, λ q f. rw (← one_power i q f) may.1.1)
+    let may = claim-may o slots id i me r empty e s k at in (search (arith, rules, one_power))
 
 pub split-allowed : (o : Orders) (id : ℕ) (v : View) → Splits (Ruled o) id v v (blank v.offers)
 split-allowed o id v s k at = split-keeps o s.words s.views k id v at
@@ -102,10 +90,5 @@ claim-allowed-at key offers same slots id i me r empty e m is =
 -- a look changes nothing
 pub look-allowed : (key offers : Orders) → key ≡ offers → (slots id : ℕ) (me : Seated) → me.0.offers ≡ offers →
     Allows (Ruled key) slots id me 0 (λ n. n) (look (step slots 0 0 0 none) me)
-look-allowed key offers same slots id me e s k size at bound = grind (
-  arith,
-  common_steps,
-  made-most key s.words s.views k id me.0 at,
-  set-get_or s.words 0 0,
-  set_again s.views id me.0 at,
-)
+look-allowed key offers same slots id me e s k size at bound = grind
+    (arith, common_steps, made-most key s.words s.views k id me.0 at, set_again s.views id me.0 at)

@@ -65,13 +65,9 @@ module _ (o : Orders) (words : List ℕ) (views : List View) (k : IsLedger o wor
       record {
         claimed = λ b q u a h. grind (arith, common_steps, claims_of b q u a h, now_set, still_set q, k.claims.claimed);
         by_one = by_one_now;
-        apart = λ b c q x y ax ay hx hy.
-            let m = claims_of b q x ax hx in
-            let n = claims_of c q y ay hy in
-            search (rules, m, n, not_i q, k.claims.claimed, k.claims.apart);
+        apart = search (arith, rules, claims_of, not_i);
         in_range = λ q h. grind (arith, common_steps, cases_eq q i, k.claims.in_range q, others q);
-        seen = λ b q u a h. let at = at_set views id b view_now u a in
-            grind (arith, common_steps, at, k.claims.seen, still_set q);
+        seen = search (arith, rules, at_set, still_set);
       }
 
   undropped_now : (q : ℕ) → IsFree o s q → Waits words_now views_now q
@@ -80,12 +76,9 @@ module _ (o : Orders) (words : List ℕ) (views : List View) (k : IsLedger o wor
       search (arith, rules, k.hands.undropped q g, cases_eq q i, others q, here, hand_is, hand_at-left, fresh_i, still)
 
   pub hands_now : AreHands o s words_now views_now
-  hands_now = hands_with views id v view_now at_id o s s words words_now k.hands (λ q p h.
-      let m = hand_at-shows o i 0 q p (sym hand_is ∙ h) in (
-        (rw (← m.0) (free_i m.2), rw (← m.0) fresh_i ∙ m.1, rw (← m.0) now_set),
-        λ b r x a n g. not_i q (k.hands.claimed b q r x a g) (sym m.0),
-      )) (λ b q p x a n h. let held = still_set q (k.hands.claimed b q p x a h) in
-      (k.hands.free b q p x a h, k.hands.place b q p x a h, held)) undropped_now
+  hands_now = hands_with views id v view_now at_id o s s words words_now k.hands
+      (search (arith, rules, hand_at-shows, hand_is, free_i, fresh_i, now_set, not_i))
+      (search (arith, rules, still_set)) undropped_now
 
   pub fresh_now : (q : ℕ) → bit (claim_word words_now) q ≡ 0 → next_place s q ≡ 0
   fresh_now q h = grind (arith, common_steps, cases_eq q i, fresh_i, k.unclaimed q, others q)

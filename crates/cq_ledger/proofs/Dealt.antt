@@ -1,4 +1,5 @@
 -- A view in another one's place, and the rule where the words stay and the views alone change.
+use Rattle.std.proofs.Common.{rules}
 use Rattle.cq_ledger.proofs.Terms.{common_steps, ℕ, ◌≡◌, ◌≢◌, ◌⊎◌, ⊎_elim, ◌+◌, ◌<◌, List, length, set, Some, None, IsFree, next_place, refl, sym, ap, ◌∙◌, arith, sum_by, cases_eq, sum_by-set, at_set, set_here, set_else, Orders, State, state_after, View, AreClaims, AreHands, IsLedger, Sits, HasClaimed, HasSeen, IsClaimed, IsClaimedByOne, IsInAHand, Waits, bit, claim_word}
 use Rattle.cq_ledger.proofs.Views.{at_known, same_at}
 
@@ -64,18 +65,7 @@ module _ (views : List View) (id : ℕ) (v now : View) (at_id : Sits views id v)
       ((q : ℕ) → HasSeen now q → IsClaimed words q) → AreClaims o words views → AreClaims o words' (set views id now)
   claims_stay o words words' word same seen k =
       let still = λ (q : ℕ) (h : IsClaimed words q). ap (λ n. bit n q) word ∙ h in
-      let was = λ (q : ℕ) (h : IsClaimed words' q). sym (ap (λ n. bit n q) word) ∙ h in
-      let had = stood (λ x u. x.claims ≡ u.claims) (sym same) (λ u. refl) in
-      record {
-        claimed = λ b q u a h. let x = had b u a in still q (k.claimed b q x.0 x.1 (ap (λ n. bit n q) x.2 ∙ h));
-        by_one = λ q h. by_one_still q (λ has. ap (λ n. bit n q) same ∙ has) (k.by_one q (was q h));
-        apart = λ b c q x y ax ay hx hy.
-            let m = had b x ax in let n = had c y ay in
-            k.apart b c q m.0 n.0 m.1 n.1 (ap (λ z. bit z q) m.2 ∙ hx) (ap (λ z. bit z q) n.2 ∙ hy);
-        in_range = λ q h. k.in_range q (was q h);
-        seen = λ b q u a h. still q (⊎_elim (λ y. seen q (ap (λ (z : View). bit z.seen q) y.1 ∙ h))
-            (λ y. k.seen b q u y.1 h) (at_set views id b now u a));
-      }
+      search (arith, rules, stood, k.claimed, by_one_still, k.by_one, k.apart, k.in_range, k.seen, at_set)
 
   pub made_with : sum_by (λ (y : View). y.made) (set views id now) + v.made
       ≡ sum_by (λ (y : View). y.made) views + now.made

@@ -57,12 +57,7 @@ module _ (o : Orders) (v : AreOffers o) (s : State) (w : IsSound o s) (i : ℕ) 
   pub still_free : (k : ℕ) → k ≢ i → IsFree o s k → IsFree o t k
   still_free k n g =
       let a = st.others_stay k n in
-      let b = st.held_asked in
-      record {
-        left = omega arith;
-        unheld = unheld_now k (λ q _ b. g.unheld q b)
-            (λ here. grind (arith, common_steps, same_at_place (inputs_of o j) k i, g.unheld j, here));
-      }
+      let b = st.held_asked in search (arith, rules, unheld_now, g.unheld, same_at_place)
 
   -- the one that is displaced is free now, at the place after this output
   pub displaced_free : (k : ℕ) → Holds o s j k → position_of o j i < position_held s j →
@@ -70,15 +65,8 @@ module _ (o : Orders) (v : AreOffers o) (s : State) (w : IsSound o s) (i : ℕ) 
   displaced_free k h l left =
       let apart : k ≢ i = λ e. let x = ap (λ n. position_of o j n) e in absurd (omega arith) in
       let a = st.held_asked in
-      let place_now : next_place t k ≡ place_of o k j + 1 = st.others_stay k apart ∙ w.last k j h in (
-        record {
-          left = omega arith;
-          unheld = unheld_now k (λ q m b. search (arith, rules, same_at_place))
-              (λ here. grind (arith, same_at_place (inputs_of o j) k i));
-        },
-        place_now,
-        apart,
-      )
+      let place_now = st.others_stay k apart ∙ w.last k j h in
+      search (arith, rules, unheld_now, same_at_place)
 
   -- the one that is refused is free still
   pub refused_free : position_held s j ≤ position_of o j i → next_place s i + 1 < length (outputs_of o i) →
@@ -114,11 +102,7 @@ module _ (o : Orders) (v : AreOffers o) (s : State) (w : IsSound o s) (i : ℕ) 
       ⊎_elim (λ e. ⊎_elim (λ l. absurd (g.unheld j (rw e (
         let P : position_held t j ≡ position_of o j i = omega arith in P,
         v.shown i j st.offered,
-      )))) (λ l.
-      let left : next_place t i < length (outputs_of o i) = rw e at g.left in
-      let room : next_place s i + 1 < length (outputs_of o i) = omega arith in
-      inl (rw e (hand-rejected o i (next_place s i) (position_held s j) (taken_if l) l
-      ∙ hand_at-left o i (next_place s i + 1) room ∙ ap (λ n. Some (i, n)) (sym moved))))
+      )))) (search (arith, rules, hand-rejected, taken_if, hand_at-left))
       (cases_lt (position_of o j i) (position_held s j))) (λ n.
       let stays = st.others_stay k n in
       let unless : (Holds o s j k → ⊥) → (k ≢ i) × IsFree o s k = λ apart. (
@@ -129,18 +113,9 @@ module _ (o : Orders) (v : AreOffers o) (s : State) (w : IsSound o s) (i : ℕ) 
               (cases_eq q j);
         },
       ) in
-      ⊎_elim (λ l. ⊎_elim (λ e. ⊎_elim (λ x.
-      let somebody : position_held s j ≢ ports o = λ z. let a = inputs_at_most o v j in absurd (omega arith) in
-      let who : holder o s j ≡ k = ap (λ m. get_or (inputs_of o j) m 0) e ∙ get_or-place_in (inputs_of o j) k x in
-      let now : next_place t k ≡ place_of o k j + 1 = stays ∙ w.last k j (e, x) in
-      let room : place_of o k j + 1 < length (outputs_of o k) = let a = g.left in omega arith in
-      let H : ℕ → Type 0 = λ m. hand_at o m (place_of o m j + 1) ≡ Some (k, next_place t k) in
-      inl (hand-displaced o i (next_place s i) (position_held s j) somebody l ∙ subst H (sym who)
-      (hand_at-left o k (place_of o k j + 1) room ∙ ap (λ m. Some (k, m)) (sym now))))
-      (λ x. inr (unless (λ h. let a = h.1 in omega arith))) (cases_lt (position_of o j k) (length (inputs_of o j))))
-      (λ m. inr (unless (λ h. m h.0))) (cases_eq (position_held s j) (position_of o j k)))
-      (λ l. inr (unless (λ h. g.unheld j (let a = h.0 in omega arith, h.1))))
-      (cases_lt (position_of o j i) (position_held s j))) (cases_eq k i)
+      search
+      (arith, rules, inputs_at_most, get_or-place_in, hand-displaced, hand_at-left, cases_lt, cases_eq, g.unheld))
+      (cases_eq k i)
 
 -- a hand stands within its input's order
 pub hand_at-placed : (o : Orders) (i p : ℕ) (x : ℕ × ℕ) → hand_at o i p ≡ Some x → x.1 < length (outputs_of o x.0)

@@ -39,8 +39,7 @@ module _ (o : Orders) (v : AreOffers o) (s : State) (w : IsSound o s) (m : Partn
     k_free : (k < length m) × (partner_of m k ≡ None)
     k_free = (
       let a = k_in_range in omega arith,
-      none_unless _ (λ q e. let a = r.there k q e in
-          search (arith, rules, w.last k q a.1, w.last k n hold, same_at_place (outputs_of o k) q n, v.shown_back k q)),
+      none_unless _ (λ q e. search (arith, rules, hold, same_at_place (outputs_of o k) q n)),
     )
 
     reads_more : IsRead o s (set m k (Some n)) (n + 1)

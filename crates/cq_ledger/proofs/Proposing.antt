@@ -91,8 +91,7 @@ module _ (o : Orders) (words : List ℕ) (views : List View) (k : IsLedger o wor
   pub undropped_now : (q : ℕ) → IsFree o t q → Waits words_now views_now q
   undropped_now q g =
       let before = free-before o k.offers s w i f q g in
-      let still = in_hand_still views id v view_now at_id q in
-      search (rules, before, here, hand_is, claims_stay, still, k.hands.undropped q, in_hand)
+      search (arith, rules, in_hand_still views id v view_now at_id q, here, hand_is, claims_stay)
 
   unfoldable pub propose-keeps : IsLedger o words_now views_now
   propose-keeps =

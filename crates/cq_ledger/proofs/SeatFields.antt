@@ -31,7 +31,6 @@ module _ (me : Seated) (claims : ℕ) (hand : Option (ℕ × ℕ)) (made : ℕ) 
         IsSeat me' claims hand' (made + 1)
     proposed-seat i p found answer hand' is answer_is hand_is =
         let hand_found = ap (λ v. v.hand) is.view ∙ ap (hand_after me.0.offers i p) (sym answer_is) in
-        let view = is.view in
         record {
           claimed = cc;
           in_hand = cc;

@@ -6,10 +6,7 @@ use Rattle.cq_ledger.proofs.Views.{same_at, bit-zero, no_bits, bit-either, bit-l
 
 -- where no bit of either is set, no bit is
 neither : (a b : ℕ) → bit_or a b ≡ 0 → (a ≡ 0) × (b ≡ 0)
-neither a b e = (
-  no_bits a (λ q. grind (arith, bit-left a b q, bit-zero q)),
-  no_bits b (λ q. grind (arith, bit-right a b q, bit-zero q)),
-)
+neither a b e = (search (arith, rules, no_bits a, no_bits b, bit-left a b, bit-zero, bit-right a b))
 
 pub only : (o : Orders) (x : View) (b : ℕ) (u : View) → Sits (x ∷ []) b u → x ≡ u
 only o x zero u e = mathlib.Core.Option.some-injective x u e
@@ -119,11 +116,8 @@ module _ (o : Orders) (words : List ℕ) (views : List View) (k : IsLedger o wor
 
   pub claimed_by : (b q : ℕ) (u : View) → Kind b u → bit u.claims q ≡ 1 → Claimed b q
   unfolding Kind Home
-  claimed_by b q u m h = ⊎_elim (λ e. grind (arith, common_steps, bit-zero q)) (⊎_elim (λ x. ⊎_elim
-      (λ c. record { at = id; by = v; stood = at_id; has = c; home = inr ((λ e. apart (sym e)), x.0) })
-      (λ c. record { at = gone; by = w; stood = at_gone; has = c; home = inl (refl, x.0) })
-      (bit-either v.claims w.claims q (ap (λ (y : View). bit y.claims q) x.1 ∙ h)))
-      (λ x. record { at = b; by = u; stood = x.2; has = h; home = inr (x.0, refl) })) m
+  claimed_by b q u m h = ⊎_elim (λ e. grind (arith, common_steps, bit-zero q)) (⊎_elim
+      (search (arith, rules, bit-either)) (search (arith, rules))) m
 
   pub seen_by : (b q : ℕ) (u : View) → Kind b u → bit u.seen q ≡ 1 → bit (claim_word words) q ≡ 1
   unfolding Kind
@@ -136,9 +130,7 @@ module _ (o : Orders) (words : List ℕ) (views : List View) (k : IsLedger o wor
   pub idle_now : (b : ℕ) (u : View) → Kind b u → u.claims ≡ 0 → (u.hand ≡ None) × (u.made ≡ 0)
   unfolding Kind
   idle_now b u m h =
-      let mine = k.idle id v at_id in
-      let other = k.idle gone w at_gone in
-      grind (arith, common_steps, neither v.claims w.claims, mine, other, k.idle b u)
+      let mine = k.idle id v at_id in search (arith, rules, neither)
 
   pub still_there : (a : ℕ) (u : View) → a ≢ id → a ≢ gone → Sits views a u → Sits whole a u
   still_there a u n m at = set_else half gone a spent m ∙ set_else views id a (joined v w) n ∙ at

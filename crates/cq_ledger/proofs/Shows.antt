@@ -29,9 +29,7 @@ module _ (o : Orders) (words : List ℕ) (views : List View) (k : IsLedger o wor
 
   not_passed-is : (i j : ℕ) → partner_of (best o) i ≡ Some j → position_of o j i ≤ get_or words (suc j) 0
   not_passed-is i j e =
-      let stable = (input_best-best o k.offers).stable in
-      let r = output_in_range o k.offers i j (stable.matching.offered i j e) in
-      omega (arith, none_passed-after o k.offers k.events k.are_events (best o) stable i j e, k.positions j r)
+      let stable = (input_best-best o k.offers).stable in search (arith, rules, output_in_range, none_passed-after)
 
   pub shows_proposals : ShowsProposals o words views
   shows_proposals =

@@ -75,8 +75,7 @@ module _ (limits : List (Option ℕ)) (next : ℕ) (came : List Arrival) (names 
       tallied_more m marks' refused' mark counts more =
           let both = all_counted_both (cells_in (left_before input))
           (cells_in (unnamed names (coming input 0 next came))) (refused_counts limits []) in
-          let last = map-range_with_len_more mark_at 0 input input (omega arith) in
-          search (arith, rules, map-append, left_more input)
+          search (arith, rules, map-range_with_len_more mark_at 0 input input, map-append, left_more input)
 
     pub tallied_counts : (marks : List Bool) (refused : List Refused) → Tallied ports marks refused →
         refused ≡ refused_counts limits (cells_in (left_out next came names))

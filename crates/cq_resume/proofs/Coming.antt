@@ -77,8 +77,7 @@ next_in from next slot x (a ∷ line) rising (inl same) at le lt all =
     grind (arith, common_steps, and_from, le-leb, lt-ltb, and_left, lt-leb)
 next_in from next slot x (a ∷ line) rising (inr has) at le lt all =
     let before = all_of_has (IsEarlier a) line x rising.0 has in
-    let rest = next_in from next slot x line rising.1 has at le lt all.1 in
-    grind (arith, common_steps, and_left, lt-leb, cases_lt a.slot from)
+    search (arith, rules, and_left, lt-leb, cases_lt, next_in from next slot x line rising.1 has at le lt all.1)
 
 -- ## At an input
 
@@ -99,10 +98,4 @@ module _ (input from next : ℕ) (came : List Arrival) where
         coming input from next came ≡ record { slot = slot; cell = cell } ∷ coming input (slot + 1) next came
     one_comes cell found =
         let it = found_at came slot input cell found in
-        let own : is_from input it.arrival ≡ true = rw it.input (eq-eqb input input refl) in
-        let has = has_kept (is_from input) came it.arrival it.has own in
-        let same : it.arrival ≡ record { slot = slot; cell = cell } =
-        λ k. record { slot = it.slot k; cell = it.own k } in
-        subst (λ (a : Arrival). coming input from next came ≡ a ∷ coming input (slot + 1) next came) same
-        (next_in from next slot it.arrival (filter (is_from input) came) (line_rising _ whole) has it.slot is.late lt
-        is.none_before)
+        search (arith, rules, has_kept, next_in from next slot it.arrival (filter (is_from input) came), line_rising)

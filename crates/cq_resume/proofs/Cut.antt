@@ -45,18 +45,11 @@ module _ {X : Type 0} (key : X → ℕ) (t start end : ℕ) (xs upto : List X) (
   behind_none = grind (arith, common_steps, none_kept, length-drop, get_or-drop, leb-false, ne_eqb)
 
   before_none : filter its (take start upto) ≡ []
-  before_none = none_kept its (take start upto) (λ k d lt.
-      let long = length-take-le start upto low in
-      let own = from.0 k d (omega arith) in search (arith, rules, get_or-take start upto k d, ltb-true, ne_eqb))
+  before_none = none_kept its (take start upto) (search (arith, rules, length-take-le, get_or-take, ltb-true, ne_eqb))
 
   inner_all : filter its (drop start upto) ≡ drop start upto
-  inner_all = all_kept its (drop start upto) (λ k d lt.
-      let long = length-drop start upto in
-      let many = size in
-      let low_one = to.0 (start + k) d (omega arith) in
-      let high_one = from.1 (start + k) d (omega arith) (omega arith) in
-      let there = get_or-take end xs (start + k) d (omega arith) in
-      grind (arith, common_steps, get_or-drop, leb-true, ltb-false, eq-eqb))
+  inner_all = all_kept its (drop start upto)
+      (search (arith, rules, length-drop, size, get_or-take, get_or-drop, leb-true, ltb-false, eq-eqb))
 
   pub cut_at : take (length upto - start) (drop start upto) ≡ filter (λ x. eqb (key x) t) xs
   cut_at =
@@ -196,11 +189,8 @@ all_departed P Q give gone all = of_images departed Q gone (all_weaker P (λ g. 
 
 each_later : (gone : List Gone) → EachPair IsSentBefore gone → EachPair IsNoLater (map departed gone)
 each_later [] pairs = tt
-each_later (g ∷ gone) pairs = (
-  all_departed (IsSentBefore g) (IsNoLater (departed g))
-      (λ h before. grind (arith, common_steps)) gone pairs.0,
-  each_later gone pairs.1,
-)
+each_later (g ∷ gone) pairs =
+    (search (arith, rules, all_departed (IsSentBefore g) (IsNoLater (departed g)), each_later gone pairs.1))
 
 pub departed_rising : (gone : List Gone) → AllPairs IsSentBefore gone → AllPairs IsNoLater (map departed gone)
 departed_rising gone pairs = search (rules, all_pairs, IsNoLater, each_later, each_pair)

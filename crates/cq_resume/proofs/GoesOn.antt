@@ -170,8 +170,7 @@ module _ (w : Switch) (s : State) (in_range : IsInRange s) (shape : HasShape w s
   pub of_traffic : (c : Named) (q : Queued) → t c ≡ Some q → OfTraffic c q
   of_traffic c q is =
       let it = found_at w.came c.slot c.input q.cell (is_cell_of w.came c q is).arrives in
-      let range = all_of_has (IsOfSwitch (length w.machines) w.classes) w.came it.arrival traffic.in_range it.has in
-      search (arith, rules)
+      search (arith, rules, all_of_has)
 
   pub its_output : (c : Named) (q : Queued) → t c ≡ Some q → output_of w.came c ≡ q.cell.output
   its_output c q is = ap output_in (is_cell_of w.came c q is).arrives
@@ -259,20 +258,13 @@ module _ (w : Switch) (s : State) (in_range : IsInRange s) (shape : HasShape w s
   buffer_stands : (j : ℕ) → EachPair IsBefore (buffer_told w.came s j)
   buffer_stands j = pairs_kept_with IsFoundBefore IsBefore (is_for j)
       (λ a b one two ahead. grind (arith, common_steps, eqb-true)) (filter_map t s.buffered)
-      (pairs_looked_up t (IsBufferedBefore w.came) IsFoundBefore
-      (λ c d q r before first second. grind (arith, common_steps, its_output, in_order)) s.buffered
-      (each_pair (IsBufferedBefore w.came) s.buffered sound.order.buffers))
+      (search (arith, rules, pairs_looked_up t (IsBufferedBefore w.came) IsFoundBefore, each_pair))
 
   apart : Apart f
   apart = record {
-    waiting = λ i k c d a b e.
-        let one = waits i c a in let two = waits k d b in
-        (search (arith, rules, its_input), one_cell one.name two.name c d one.is two.is e);
-    between = λ i j c d a b e.
-        let one = waits i c a in let two = crosses j d b in
-        search (arith, rules, one_arrival one.name two.name, pairs_cross Differ s.listed, queued_differ);
-    crossed = λ j l c d a b e. one_cell (crosses j c a).name (crosses l d b).name c d (crosses j c a).is
-        (crosses l d b).is e;
+    waiting = search (arith, rules, waits, its_input, one_cell);
+    between = search (arith, rules, waits, crosses, one_arrival, pairs_cross, Differ, queued_differ);
+    crossed = search (arith, rules, one_cell, crosses);
   }
 
   early : Early s.head.next f
@@ -330,7 +322,6 @@ module _ (w : Switch) (s : State) (in_range : IsInRange s) (shape : HasShape w s
     spread : (names : List Named) (n : ℕ) → total (listed_for names) 0 n ≤ length (filter for_it names)
     spread [] n = omega (arith, total_none (listed_for []) 0 n (λ i. refl))
     spread (c ∷ names) n =
-        let own = its_for c in
         let more : total (listed_for (c ∷ names)) 0 n ≤ total (listed_for names) 0 n + length (filter for_it (c ∷ [])) =
         total_more _ _ c.input _ 0 n (λ i ne. grind (arith, common_steps, ne_eqb))
         (grind (arith, common_steps, eq-eqb)) in
@@ -379,8 +370,7 @@ module _ (w : Switch) (s : State) (in_range : IsInRange s) (shape : HasShape w s
       (pairs_kept_with (IsSentBefore w.came) (λ (d e : Sent). d.slot ≢ e.slot) (sent_to j)
       (λ d e one two before same. search (arith, rules, eqb-true)) s.sent
       (each_pair (IsSentBefore w.came) s.sent sound.order.sent))
-      (all_from_has (λ (d : Sent). d.slot < s.head.next) (filter (sent_to j) s.sent)
-      (λ d has. (all_has IsTimely s.sent d sound.order.sent_times (kept_has (sent_to j) s.sent d has).0).1)) in
+      (search (arith, rules, all_from_has, all_has IsTimely s.sent, kept_has (sent_to j) s.sent)) in
       omega arith
 
   lost_few : length (map (λ (a : Arrival). a.cell) (refused_arrivals w.came s)) ≤ length w.came

@@ -114,7 +114,7 @@ module _ (w : Switch) where
   stops_past slot (suc n) zero at f middle ps rs fault there x y = absurd y
   stops_past slot (suc n) (suc count) at f middle [] rs fault there x y = absurd x
   stops_past slot (suc n) (suc count) at f middle (p ∷ ps) [] fault there x y =
-      absurd (one.never_both slot (arriving w.came slot ∷ []) f x.0 (p ∷ []) [] fault (x.0, x.1, refl) y)
+      absurd (search (arith, rules))
   stops_past slot (suc n) (suc count) at f middle (p ∷ ps) (r ∷ rs) fault there x y =
       let same = one.slot slot (arriving w.came slot) f x.0 y.0 p r x.1 y.1 in
       stops_past (slot + 1) n count at x.0 middle ps rs fault (omega arith) x.2 (rw (← same.1) at y.2)
@@ -132,7 +132,6 @@ module _ (w : Switch) where
   one_on next start g h rs ss r s =
       let le = no_longer next start g h rs ss r s in
       let ge = no_longer next start h g ss rs s r in
-      let same : length ss ≡ length rs = omega arith in
       grind (arith, common_steps, one.run, whole_run next start g rs r, whole_run next start h ss s)
 
   -- nothing waits any more, and nothing comes
@@ -214,9 +213,8 @@ module _ (w : Switch) where
             let n = length rs in
             let past = goes_past 0 n more slots n start end there rs part.records (omega arith) (omega arith)
             (whole_run 0 start end rs runs) part.runs in
-            let late = runs.all_came in
             let none = quiet_from w.came more n (omega arith) in
-            let is_empty : end.state ≡ empty_fabric ports end.state.ranks = empty_is end.state runs.empty square in
+            let is_empty = empty_is end.state runs.empty square in
             let come = none_come IsInputBest w.limits w.machines end.marks more in
             let still = run_with IsInputBest w.limits w.machines end.marks n _ _ _ _ come
             (quiet_run w.machines more n ports end.state.ranks) in
@@ -227,7 +225,6 @@ module _ (w : Switch) where
 
         rests : RunsOn w slots there [] there
         rests =
-            let late = runs.all_came in
             let empty : IsEmptyFabric resting.state = search (arith, rules, All-replicate) in
             search (arith, rules, over, over_at slots there)
 
@@ -235,10 +232,12 @@ module _ (w : Switch) where
         unfolding quiet
         kept_over =
             let same = over in
-            let still = kept_quiet w.machines ports end.marks (kept_on (nothing_kept w) 0 rs) more (length rs)
-            end.state.ranks in
-            let both = kept_both (nothing_kept w) 0 (length rs) rs quiet (omega arith) in
-            cc (kept_quiet w.machines ports end.marks (kept_in at) 0 slots end.state.ranks)
+            cc (
+              kept_quiet w.machines ports end.marks (kept_on (nothing_kept w) 0 rs) more (length rs)
+                  end.state.ranks,
+              kept_quiet w.machines ports end.marks (kept_in at) 0 slots end.state.ranks,
+              kept_both (nothing_kept w) 0 (length rs) rs quiet (omega arith),
+            )
 
     -- ## The laws
 
@@ -264,13 +263,7 @@ module _ (w : Switch) where
     part_fault_back fault is =
         let cut = arriving_parts w.came 0 slots slots is.count (slots + is.count) (omega arith) refl in
         let both = on.stop 0 (arriving_from w.came 0 slots) (arriving_from w.came slots is.count) start there
-        part.records is.records fault part.runs in
-        let here : IsWholeFault w ranks fault = record {
-          count = slots + is.count;
-          records = part.records ++
-              is.records;
-          stops = search (arith, rules, begins);
-        } in here
+        part.records is.records fault part.runs in search (arith, rules, begins)
 
 pub parts_join : PartsJoin
 parts_join = search (rules, part_is_run, part_resumes, part_fault, part_fault_back)

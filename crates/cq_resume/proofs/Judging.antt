@@ -19,15 +19,13 @@ use Rattle.cq_resume.specs.declared.refusal.StateRefusal.TheVariants as refusal
 
 any_zip : {A B : Type 0} (R : A → B → Type 0) (p : A → Bool) (q : B → Bool) →
     ((x : A) (y : B) → R x y → p x ≡ q y) → (xs : List A) (ys : List B) → AllZip R xs ys → list_any p xs ≡ list_any q ys
-any_zip R p q same = zip_by R (λ xs ys. list_any p xs ≡ list_any q ys) refl
-    (λ x y xs ys own zips rest. let here = same x y own in grind (arith, common_steps))
+any_zip R p q same = zip_by R (λ xs ys. list_any p xs ≡ list_any q ys) refl (search (arith, rules))
 
 -- so many of two lists that belong together, and of two in another order, pass a test
 passed_zip : {A B : Type 0} (R : A → B → Type 0) (p : A → Bool) (q : B → Bool) →
     ((x : A) (y : B) → R x y → p x ≡ q y) → (xs : List A) (ys : List B) → AllZip R xs ys →
     length (filter p xs) ≡ length (filter q ys)
-passed_zip R p q same = zip_by R (λ xs ys. length (filter p xs) ≡ length (filter q ys)) refl
-    (λ x y xs ys own zips rest. let here = same x y own in grind (arith, common_steps))
+passed_zip R p q same = zip_by R (λ xs ys. length (filter p xs) ≡ length (filter q ys)) refl (search (arith, rules))
 
 passed_moved : {X : Type 0} (p : X → Bool) (xs ys : List X) → IsPermutation xs ys →
     length (filter p xs) ≡ length (filter p ys)
@@ -101,12 +99,7 @@ module _ (i : ℕ) where
   at_thread [] thread c is = absurd (let P : ⊥ = cc in P)
   at_thread (x ∷ xs) thread c is = elim (cases_Bool (of_input x)) [
     | inl own ↦ elim (cases_eq thread 0) [
-      | inl none ↦ (
-        0,
-        (grind (arith, common_steps)),
-        (grind (arith, common_steps, eqb-true)),
-        (grind (arith, common_steps)),
-      )
+      | inl none ↦ search (arith, rules, eqb-true)
       | inr some ↦
           let more : suc (thread - 1) ≡ thread = omega arith in
           let rest = at_thread xs (thread - 1) c (let at = rw (← more) at is in grind (arith, common_steps)) in
@@ -130,8 +123,7 @@ module _ (came : List Arrival) (next : ℕ) where
       filter_map (queued_of came) (filter (λ c. eqb c.input i) names) ≡ filter (λ q. eqb q.key.input i) found
   found_of_input i = zip_by (IsTold came next)
       (λ names found. filter_map (queued_of came) (filter (λ c. eqb c.input i) names)
-      ≡ filter (λ q. eqb q.key.input i) found) refl
-      (λ c q names found told zips rest. grind (arith, common_steps, told_facts, told_is))
+      ≡ filter (λ q. eqb q.key.input i) found) refl (search (arith, rules, told_facts, told_is))
 
   all_found : (names : List Named) (found : List Queued) → AreFound came next names found →
       filter_map (queued_of came) names ≡ found
@@ -158,8 +150,6 @@ module _ (w : Switch) (s : State) (f : Found) (found : IsFound w.came s f) where
       let early = λ (t : Transfer). t.slot < next in (
         (λ stand. search (arith, rules, recursion_from_All)),
         (λ is. let moved = All-from_recursion early s.moved is.4 in
-            let inputs = lists.1 is.0.inputs in
-            let in_keys = keys.1 is.0.keys in
             let in_order = sends.1 is.2.ordered in
             let in_time = times.1 is.2.timely in search (arith, rules)),
       )
@@ -202,14 +192,8 @@ module _ (w : Switch) (s : State) (f : Found) (found : IsFound w.came s f) where
   told_cases m has = grind (arith, common_steps, image_has, has_left, has_right, has_cases)
 
   entry : (m : Name) → Has f.names.items m → Entry m
-  entry m has = ⊎_elim (λ it.
-      let by = zip_has Told (queued_in s) waiting zips it.0 it.1 in
-      record { name = by.0; told_by = rw (← it.2) by.2; stands = inl (by.1, rw (← it.2) refl) }) (λ it.
-      let by = zip_has Left s.sent f.sent.items found.sent it.0 it.1 in record {
-        name = by.0.cell;
-        told_by = rw (← it.2) by.2.1;
-        stands = inr (by.0, by.1, refl, rw (← it.2) (ap (λ (k : ℕ). Some k) by.2.0));
-      }) (told_cases m (has_moved f.names.items told m found.same has))
+  entry m has = ⊎_elim (search (arith, rules, zip_has, zips))
+      (search (arith, rules, zip_has)) (told_cases m (has_moved f.names.items told m found.same has))
 
   waits : (c : Named) → Has (queued_in s) c →
       (m : Name) × Has f.names.items m × Told c m.queued × (m.sent ≡ None)
@@ -269,16 +253,14 @@ module _ (w : Switch) (s : State) (f : Found) (found : IsFound w.came s f) where
           let a = left (get_or s.sent i e) (has_at s.sent i e (omega arith)) in
           let b = left (get_or s.sent j e) (has_at s.sent j e inside) in
           let order = stand.sent i j e lt inside in
-          let other = sent_differ i j e lt inside in
-          let turned = leave _ _ b.0 a.0 b.2 a.2 hold b.1 a.1 (turn one) in
-          grind (arith, common_steps, cases_order);
+          search
+          (arith, rules, sent_differ i j e lt inside, leave _ _ b.0 a.0 b.2 a.2 hold b.1 a.1, turn one, cases_order);
       after = has_all BehindAll s.sent (λ d gone. has_all (Behind d) (queued_in s) (λ c has one.
           let a = waits c has in
           let b = left d gone in
           let other = pairs_cross Differ (queued_in s) _ c d.cell differ has
           (has_image (λ (x : Sent). x.cell) s.sent d gone) in
-          let turned = leave _ _ a.0 b.0 a.2 b.2 hold a.1 b.1 (turn one) in
-          grind (arith, common_steps, cases_order)));
+          search (arith, rules, leave _ _ a.0 b.0 a.2 b.2 hold a.1 b.1, turn one, cases_order)));
       queued = has_all InTurnAll (queued_in s) (λ c first. has_all (InTurn c) (queued_in s) (λ d second one less.
           let a = waits c first in
           let b = waits d second in
@@ -301,17 +283,14 @@ module _ (w : Switch) (s : State) (f : Found) (found : IsFound w.came s f) where
             | inl q ↦ rw (p.1, q.1) (before_it (all_has (InTurn a.name) (queued_in s) b.name
                 (all_has InTurnAll (queued_in s) a.name keep.queued p.0) q.0 flow less))
             | inr q ↦
-                let turned = all_has (Behind q.0) (queued_in s) a.name (all_has BehindAll s.sent q.0 keep.after
-                q.1) p.0 (rw q.2 (turn flow)) in
-                let other : b.name.slot < a.name.slot = rw (← q.2) turned in absurd (omega (arith, less))
+                search (
+                  arith,
+                  rules,
+                  all_has (Behind q.0) (queued_in s) a.name,
+                  all_has BehindAll s.sent q.0 keep.after q.1,
+                )
           ]
-          | inr p ↦ elim b.stands [
-            | inl q ↦ rw (p.3, q.1) tt
-            | inr q ↦
-                let ways = pair_of_has Both s.sent p.0 q.0 both p.1 q.1 in
-                let same = p.2 in
-                let same_too = q.2 in rw (p.3, q.3) (grind (arith, common_steps))
-          ]
+          | inr p ↦ search (arith, rules, pair_of_has)
         ]
 
     -- the fifth clause, by the names that were found
@@ -320,7 +299,7 @@ module _ (w : Switch) (s : State) (f : Found) (found : IsFound w.came s f) where
       (λ keep i j d lt inside. keep_flows keep (get_or f.names.items i d) (get_or f.names.items j d)
           (has_at f.names.items i d (omega arith)) (has_at f.names.items j d inside)
           (found.ordered i j d lt inside)),
-      (λ flows. flows_keep (flows_hold f.names.items found.ordered flows)),
+      (search (arith, rules, flows_keep, flows_hold)),
     )
 
   -- ## Slack
@@ -439,7 +418,6 @@ module _ (w : Switch) (s : State) (f : Found) (found : IsFound w.came s f) where
       t.sent ≡ map departed f.sent.items → t.note ≡ s.moved → t ≡ taken_of w s
   unfolding frozen_told figures_told
   taken_is x t tally next slots proposals most inputs outputs refused marks ranks lists buffers sent note =
-      let all_slots = slots ∙ ap slots_of (sym sent_is) in
       let all_inputs = mapped_alike (λ (at : ℕ × Seen). figures_at_input f.names.items at.0 at.1)
       (λ (at : ℕ × Seen). input_told s at.0 at.1) (λ at. figures_are at.0 at.1) (enumerate_from 0 s.inputs) in
       search (arith, rules, sent_is, lists_are, buffers_are)
@@ -498,7 +476,7 @@ module _ (t : Tables) (c : Scheduled) (s : State) (f : Found) (k : Known t c s f
   pub cells_for : AreCellsFor t.setup f
   cells_for =
       let told = told_for (ports_of t.setup) (classes_of t.setup) c.came k.traffic s.head.next in
-      (told s.listed f.listed.items k.found.listed, told s.buffered f.buffered.items k.found.buffered)
+      (search (arith, rules))
 
   sent_for : AllByRecursion (λ g. IsCellFor t.setup g.queued) f.sent.items
   sent_for =
@@ -547,7 +525,6 @@ module _ (t : Tables) (c : Scheduled) (s : State) (f : Found) (k : Known t c s f
   -- the output and the class of each name are in range
   pub names_for : AreNamesFor t.setup f
   names_for =
-      let most = k.tables.setup.classes in
       let waiting = of_images waiting_name IsNameFor f.listed.items cells_for.0 in
       let crossed = of_images waiting_name IsNameFor f.buffered.items cells_for.1 in
       let gone = of_images sent_name IsNameFor f.sent.items sent_for in

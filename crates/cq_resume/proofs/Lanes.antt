@@ -16,8 +16,6 @@ use Rattle.cq_resume.proofs.Cut.{none_kept}
 module _ {X : Type 0} (input : X → ℕ) (xs : List X) (n : ℕ) (d : X) (inside : n < length xs) where
   begins_test : begins_at (map input xs) n ≡ (ltb 0 n && ltb (input (get_or xs (n - 1) d)) (input (get_or xs n d)))
   begins_test =
-      let before = get_or-map input xs (n - 1) d 0 (omega arith) in
-      let here = get_or-map input xs n d 0 inside in
       grind (arith, common_steps)
 
   begins_says : begins_at (map input xs) n ≡ true → (0 < n) × (input (get_or xs (n - 1) d) < input (get_or xs n d))
@@ -27,9 +25,7 @@ module _ {X : Type 0} (input : X → ℕ) (xs : List X) (n : ℕ) (d : X) (insid
   same_there : AllPairs (λ a b. input a ≤ input b) xs → begins_at (map input xs) n ≡ false →
       input (get_or xs (n - 1) d) ≡ input (get_or xs n d)
   same_there rising is =
-      let first : n ≡ 0 → n - 1 ≡ n = λ e. omega arith in
-      let le = rising (n - 1) n d in
-      grind (arith, common_steps, begins_test, and_from, lt-ltb, cases_eq n 0, cases_lt (input (get_or xs (n - 1) d)))
+      search (arith, rules, begins_test, and_from, lt-ltb, cases_eq, cases_lt)
 
   -- what was kept for the input of the one before it, or is begun with where another input begins, is for its input
   pub known_here : {Y : Type 0} (P : ℕ → Y → Type 0) (none last now : Y) (begun : Bool) →
@@ -135,7 +131,6 @@ module _ {X : Type 0} (input lane : X → ℕ) (R : X → X → Type 0) where
           some = λ l y shown. elim (cases_eq l (lane here)) [
             | inl same ↦
                 let own : here ≡ y = cc read_here in
-                let inside = place.inside in
                 record {
                   place = n;
                   below = omega arith;
@@ -147,14 +142,12 @@ module _ {X : Type 0} (input lane : X → ℕ) (R : X → X → Type 0) where
           ];
           each = λ k d lt own. elim (cases_eq k n) [
             | inl same ↦
-                let inside = place.inside in
                 let its : get_or xs k d ≡ here = grind (arith, common_steps, get_or_default) in
                 (here, (rw its read_here), inl its)
             | inr before ↦ elim (cases_eq (lane (get_or xs k d)) (lane here)) [
               | inl same ↦ (here, (rw same read_here), inr (behind k d (omega arith) own same))
               | inr other ↦
-                  let it = are.each k d (omega arith) own in
-                  (it.0, (read_other (lane (get_or xs k d)) other ∙ it.1), it.2)
+                  let it = are.each k d (omega arith) own in (search (arith, rules, read_other))
             ]
           ];
         }
@@ -251,14 +244,12 @@ module _ {listed buffered : List Queued} {n thread now : ℕ} {e : Queued} {begu
   now_counted : now ≡ length (thread_in listed n (get_or listed n e).key.input)
   now_counted = known_here (λ (q : Queued). q.key.input) listed n e at.inside
       (λ i (ahead : ℕ). ahead ≡ length (thread_in listed n i)) 0 thread now begun at.known.counted
-      (λ i none. rw (none_kept (λ (o : Queued). eqb o.key.input i) (take n listed)
-      (λ k d lt. search (arith, rules, none k d, ne_eqb, get_or-take n listed k d))) refl) at.rising at.is at.ways
+      (search (arith, rules, none_kept, ne_eqb, get_or-take)) at.rising at.is at.ways
 
   -- one cell more, or one that has too little
   pub threads_next : now < cushion → Threads listed buffered (n + 1) (now + 1)
   threads_next less =
       let counted = now_counted in
-      let few : now ≤ n = search (arith, rules, few_kept, length-take) in
       grind (arith, common_steps, get_or_default, filter_more, length-append, get_or_from_slice_get, at)
 
   pub threads_stop : cushion ≤ now → (false ≡ true) ↔ SlackStands listed buffered

@@ -94,9 +94,8 @@ module _ {A B : Type 0} (f : A → Option B) where
       EachPair S (filter_map f xs)
   pairs_looked_up R S gives [] pairs = tt
   pairs_looked_up R S gives (x ∷ xs) pairs =
-      let own = λ (a : B) (some : f x ≡ Some a). all_from_has (S a) (filter_map f xs) (λ b has.
-      let it = looked_up xs b has in
-      gives x it.origin a b (all_of_has (R x) xs it.origin pairs.0 it.has) some it.is) in
+      let own = λ (a : B) (some : f x ≡ Some a). all_from_has (S a) (filter_map f xs)
+      (search (arith, rules, looked_up xs, all_of_has (R x) xs)) in
       grind (arith, common_steps, own, pairs_looked_up R S gives xs pairs.1)
 
   -- no more pass a test when they are looked up than pass another one before

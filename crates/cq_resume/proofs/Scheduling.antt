@@ -65,8 +65,7 @@ module _ (t : Tables) (captures : List (List Captured)) (input : ℕ) where
   line_of zero = tt
   line_of (suc m) =
       let some = some_cells 0 in
-      let many : cells t captures input 0 ≡ suc (cells t captures input 0 - 1) = omega arith in
-      rw many (index_is 0, one_packet 0 (cells t captures input 0 - 1) (packets_from (0 + 1) m) many (come_behind 1 m))
+      search (arith, rules, index_is, one_packet 0 (cells t captures input 0 - 1) (packets_from (0 + 1) m), come_behind)
 
   pub input_is_line : IsLine (arrivals_at t captures input)
   unfolding arrivals_at

@@ -62,11 +62,8 @@ module _ (named : Arrival → Bool) (limited : ℕ → Bool) where
   line_stands [] m is ends = record { alike = tt; allowed = tt }
   line_stands (a ∷ line) m is ends =
       let step = one_step false m a line ends in
-      let own : IsAllowed a = grind (arith, common_steps) in
-      record {
-        alike = each_alike a line m is.1 step.1;
-        allowed = (own, all_from_has IsAllowed line (λ b has. (behind_alike a line m is.1 step.1 b has).2));
-      }
+      search
+      (arith, rules, each_alike a line m is.1 step.1, all_from_has IsAllowed line, behind_alike a line m is.1 step.1)
 
   -- ## The last first cell
 
@@ -77,7 +74,6 @@ module _ (named : Arrival → Bool) (limited : ℕ → Bool) where
       Has all (fold later_one f (filter is_first line)) × (m ≡ not (named (fold later_one f (filter is_first line))))
   last_first all f a [] m behind among there le same ends = (there, (let P : m ≡ not (named f) = cc in P))
   last_first all f a (b ∷ line) m behind among there le same ends =
-      let step = one_step (not (named a)) m b line ends in
       let on = λ (g : Arrival). last_first all g b line m behind.1 (λ c has. among c (inr has)) in
       grind (arith, common_steps, on f, on b)
 
@@ -96,16 +92,12 @@ module _ (named : Arrival → Bool) (limited : ℕ → Bool) where
   walk_ends all first_like f a (b ∷ line) behind among there first packet output same stops =
       let has = among b (inl refl) in
       let on = λ (g : Arrival). walk_ends all first_like g b line behind.1 (λ c has. among c (inr has)) in
-      let of_it = first_like f b there has first in
-      let its = first_like b b has has in
-      grind (arith, common_steps, on f, on b, eq-eqb)
+      search (arith, rules, eq-eqb)
 
   pub line_ends : (line : List Arrival) → IsLine line → AsFirst line → mark_on named limited false line ≡ None → ⊥
   line_ends [] is first_like stops = let P : ⊥ = cc in P
   line_ends (a ∷ line) is first_like stops =
-      let own = first_like a a (inl refl) (inl refl) is.0 refl in
-      let ends = walk_ends (a ∷ line) first_like a a line is.1 (λ c has. inr has) (inl refl) is.0 refl refl refl in
-      grind (arith, common_steps, eq-eqb)
+      search (arith, rules, walk_ends (a ∷ line) first_like a a line is.1, eq-eqb)
 
 -- ## The cells of an input before a slot
 
@@ -178,7 +170,6 @@ module _ (limits : List (Option ℕ)) (ports next : ℕ) (came : List Arrival) (
   as_first stand i f b first second begins packet =
       let one = in_line i f first in
       let two = in_line i b second in
-      let whole = all_of_has _ came f stand one.0 begins one.2 in
       search (arith, rules, all_of_has, to_packet f f, to_packet f b)
 
   -- ## Marks

@@ -22,8 +22,7 @@ module _ (limits : List (Option ℕ)) (next : ℕ) (came : List Arrival) (names 
     mark_there i inside =
         let size = many in
         let there = get_or-map-range_with_len (mark_at limits next came names) 0 ports i i None inside (omega arith) in
-        let own = get_or-map (λ (m : Bool). Some m) marks i false None (omega arith) in
-        search (arith, rules)
+        search (arith, rules, get_or-map)
 
     stands : (i : ℕ) → i < ports → LineStands limits ports next came names are i
     stands i inside = search (rules, line_stands, whole, mark_there)

@@ -62,8 +62,4 @@ module _ (input from next : ℕ) (came : List Arrival) {names : List Name} {limi
       after ≡ with_refused (cond left (cell ∷ []) []) now → Walked names limits all rest left first after
   walk_goes_on left after is not_told counted =
       let both = all_counted_both (cond left (cell ∷ []) []) (cells_in (unnamed names rest)) now in
-      let one = one_left left not_told in
-      let on = step in
-      let marks = known.marks in
-      let so_far = known.counted in
-      record { marks = cc; counted = cc; few = rw counted (fits left) }
+      search (arith, rules, one_left, step, fits)

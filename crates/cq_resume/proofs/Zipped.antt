@@ -25,13 +25,11 @@ module _ {A B : Type 0} (R : A → B → Type 0) where
   -- each of the one list has its own in the other
   pub zip_has : (xs : List A) (ys : List B) → AllZip R xs ys → (y : B) → Has ys y → (x : A) × Has xs x × R x y
   zip_has = zip_by (λ xs ys. (y : B) → Has ys y → (x : A) × Has xs x × R x y) (λ y has. absurd has)
-      (λ x z xs ys own zips rest y has. ⊎_elim (λ same. (x, inl refl, rw same at own))
-      (λ later. let it = rest y later in (it.0, inr it.1, it.2)) has)
+      (search (arith, rules))
 
   pub zip_mate : (xs : List A) (ys : List B) → AllZip R xs ys → (x : A) → Has xs x → (y : B) × Has ys y × R x y
   zip_mate = zip_by (λ xs ys. (x : A) → Has xs x → (y : B) × Has ys y × R x y) (λ x has. absurd has)
-      (λ z y xs ys own zips rest x has. ⊎_elim (λ same. (y, inl refl, rw same at own))
-      (λ later. let it = rest x later in (it.0, inr it.1, it.2)) has)
+      (search (arith, rules))
 
   pub zip_both : (xs : List A) (ys : List B) (xs' : List A) (ys' : List B) → AllZip R xs ys → AllZip R xs' ys' →
       AllZip R (xs ++ xs') (ys ++ ys')
@@ -75,8 +73,7 @@ module _ {A B : Type 0} (R : A → B → Type 0) where
       (same : (x x' : A) (y y' : B) → R x y → R x' y' → P x x' ↔ Q y y') where
     each_alike : (xs : List A) (ys : List B) → AllZip R xs ys → EachPair P xs ↔ EachPair Q ys
     each_alike = zip_by (λ xs ys. EachPair P xs ↔ EachPair Q ys) ((λ _. tt), (λ _. tt))
-        (λ x y xs ys own zips rest. let here = all_alike (P x) (Q y) (λ a b. same x a y b own) xs ys zips in
-        grind (arith, common_steps))
+        (search (arith, rules, all_alike))
 
     pub pairs_alike : (xs : List A) (ys : List B) → AllZip R xs ys → AllPairs P xs ↔ AllPairs Q ys
     pairs_alike xs ys zips =
@@ -86,8 +83,7 @@ module _ {A B : Type 0} (R : A → B → Type 0) where
   module _ {C : Type 0} (f : A → Option C) (g : B → C) where
     pub same_mapped : ((x : A) (y : B) → R x y → f x ≡ Some (g y)) → (xs : List A) (ys : List B) → AllZip R xs ys →
         filter_map f xs ≡ map g ys
-    same_mapped give = zip_by (λ xs ys. filter_map f xs ≡ map g ys) refl
-        (λ x y xs ys own zips rest. let here = give x y own in grind (arith, common_steps))
+    same_mapped give = zip_by (λ xs ys. filter_map f xs ≡ map g ys) refl (search (arith, rules))
 
 -- ## One name
 
@@ -194,8 +190,7 @@ still_differ = search (arith, rules, IsDistinct-IsPermutation, eqb_flips)
 -- names that stand strictly in order differ
 pub rising_differ : (xs : List Name) → AllPairs IsNameBefore xs → IsDistinct same_name xs
 rising_differ xs rising =
-    IsDistinct-from_apart same_name xs (λ i j d lt inside.
-    let before = rising i j d lt inside in grind (arith, common_steps, and_right, and_left, ne_eqb))
+    IsDistinct-from_apart same_name xs (search (arith, rules, and_right, and_left, ne_eqb))
 
 -- ## Looked up
 
@@ -223,16 +218,12 @@ not_its input slot n other = grind (arith, common_steps, and_right, ne_eqb, and_
 pub ahead_parts : (input slot : ℕ) (names : List Name) → AllPairs IsNameBefore names →
     IsPartitionedBy (is_ahead input slot) names
 ahead_parts input slot names order i j d le inside holds =
-    let before = order i j d in
-    let says = ahead_says input slot (get_or names j d) holds in
-    let ahead = says_ahead input slot (get_or names i d) in
-    grind (arith, common_steps, cases_eq i j)
+    let before = order i j d in search (arith, rules, ahead_says, says_ahead, cases_eq)
 
 any_only : {X : Type 0} (p : X → Bool) (xs : List X) (n : ℕ) (e : X) → n < length xs →
     ((k : ℕ) (d : X) → k < length xs → k ≢ n → p (get_or xs k d) ≡ false) → list_any p xs ≡ p (get_or xs n e)
 any_only p xs n e inside none = ⊎_elim (λ is. list_any_at p xs n e inside is ∙ sym is)
-    (λ fails. list_any_none p xs (λ k d lt. search (arith, rules, cases_eq k n, none k d, get_or_default xs n d e)) ∙
-    sym fails)
+    (search (arith, rules, list_any_none, cases_eq, get_or_default))
     (cases_Bool (p (get_or xs n e)))
 
 module _ (input slot : ℕ) (names : List Name) (order : AllPairs IsNameBefore names) (at : ℕ) (few : at ≤ length names)
@@ -247,10 +238,7 @@ module _ (input slot : ℕ) (names : List Name) (order : AllPairs IsNameBefore n
   pub named_here : (e : Name) → at < length names →
       is_its input slot (get_or names at e) ≡ list_any (is_its input slot) names
   named_here e inside = sym (any_only (is_its input slot) names at e inside (λ k d within other.
-      let before = order at k d in
-      let fails = point.1 at d in
-      let says = says_ahead input slot (get_or names at d) in
-      grind (arith, common_steps, cases_lt k at, ahead_not_its k d, not_its input slot (get_or names k d))))
+      let before = order at k d in search (arith, rules, says_ahead, cases_lt, ahead_not_its, not_its)))
 
 -- two names are of different arrivals
 abbrev pub Differ : Named → Named → Type 0
@@ -261,10 +249,8 @@ IsApart a b = same_name a b ≡ false
 
 apart_is : (came : List Arrival) (next : ℕ) (c d : Named) (m n : Name) → IsOf came next c m → IsOf came next d n →
     Differ c d ↔ IsApart m n
-apart_is came next c d m n first second = (
-  (λ differ. grind (arith, common_steps, false_from_ne_true, same_name, and_parts, eqb-true)),
-  (λ fails slot input. grind (arith, common_steps, same_name, and_from, eq-eqb)),
-)
+apart_is came next c d m n first second =
+    (search (arith, rules, false_from_ne_true, and_parts, eqb-true, and_from, eq-eqb))
 
 -- ## All names
 

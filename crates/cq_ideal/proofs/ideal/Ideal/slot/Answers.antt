@@ -72,8 +72,7 @@ returns-clause-slot g c =
       rules,
       p.spare new,
       same_state,
-      known g
-          (goal.at.returns-clause-slot g c).After-self,
+      known g (goal.at.returns-clause-slot g c).After-self,
     ))
 
 pub returns-clause-same : goal.returns-clause-same
