@@ -6,7 +6,7 @@
 use Rattle.std.proofs.Common.{◌≡◌, ℕ, ◌+◌, if◌then◌else◌, List, drop, refl, ap, ◌∙◌, arith}
 use Rattle.std.proofs.lemmas.Bool.Decides.{nat_tests}
 use Rattle.std.proofs.lemmas.List.{drop-drop, get_or-drop, length-drop}
-use Rattle.cq_frame.specs.Frame.{number_at, has_tag_at, type_offset, code_point_at}
+use Rattle.cq_frame.specs.Frame.{number_at, has_tag_at, type_offset, code_point_at, priority_at}
 
 number_at-drop : (n : ℕ) (bytes : List ℕ) (at : ℕ) → number_at (drop n bytes) at ≡ number_at bytes (n + at)
 number_at-drop n bytes at = grind (arith, nat_tests, get_or-drop {A = ℕ}, length-drop {A = ℕ})
@@ -19,6 +19,12 @@ code_point_at-drop n bytes = grind (arith, nat_tests, get_or-drop {A = ℕ}, len
 
 pub same_code_point : (bytes left : List ℕ) (n : ℕ) → left ≡ drop n bytes → code_point_at left 0 ≡ code_point_at bytes n
 same_code_point bytes left n e = ap (λ (xs : List ℕ). code_point_at xs 0) e ∙ code_point_at-drop n bytes
+
+pub same_number : (bytes left : List ℕ) (n : ℕ) → left ≡ drop n bytes → number_at left 0 ≡ number_at bytes n
+same_number bytes left n e = grind (arith, number_at-drop)
+
+pub same_priority : (bytes left : List ℕ) (n : ℕ) → left ≡ drop n bytes → priority_at left 0 ≡ priority_at bytes n
+same_priority bytes left n e = grind (arith, has_tag_at-drop, number_at-drop)
 
 -- the bytes of a tag
 abbrev tag_len : List ℕ → ℕ → ℕ
