@@ -18,8 +18,6 @@ mod sequence;
 mod setup;
 mod status;
 mod supply;
-#[cfg(test)]
-mod tests;
 
 pub use arrivals::Arrivals;
 pub use cell::{Cell, CellId, Class, Departure, Port, Queued, Slot, TagFault, Transfer};

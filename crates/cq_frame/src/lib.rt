@@ -4,7 +4,5 @@
 #![tactic(auto)]
 
 mod frame;
-#[cfg(test)]
-mod tests;
 
 pub use frame::{FrameParts, parts};

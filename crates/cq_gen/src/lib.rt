@@ -11,8 +11,6 @@ mod laws;
 mod packets;
 mod soak;
 mod tables;
-#[cfg(test)]
-mod tests;
 
 pub use laws::packets_go_by_their_words;
 pub use soak::{Soak, make};

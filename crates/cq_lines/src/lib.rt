@@ -9,8 +9,6 @@ mod laws;
 mod number;
 mod range;
 mod refusal;
-#[cfg(test)]
-mod tests;
 mod write;
 
 pub use fields::{behind, take_field, take_fields};

@@ -10,8 +10,6 @@ mod capture;
 mod form;
 mod laws;
 mod read;
-#[cfg(test)]
-mod tests;
 mod write;
 
 pub use capture::{Capture, PacketRow};

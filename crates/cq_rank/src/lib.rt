@@ -10,8 +10,6 @@ mod first_come;
 mod laws;
 mod priority;
 mod rank;
-#[cfg(test)]
-mod tests;
 
 pub use classes::{Classes, LEVELS};
 pub use first_come::FirstCome;

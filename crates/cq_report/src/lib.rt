@@ -8,8 +8,6 @@ mod lines;
 mod numerals;
 mod report;
 mod sheet;
-#[cfg(test)]
-mod tests;
 mod texts;
 
 pub use report::report_text;

@@ -7,8 +7,6 @@
 mod directory;
 mod route;
 mod tables;
-#[cfg(test)]
-mod tests;
 
 pub use directory::Directory;
 pub use tables::{AddressRow, PortRow, RuleRow, Tables};

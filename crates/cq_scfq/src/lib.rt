@@ -7,8 +7,6 @@
 
 mod discipline;
 mod fair;
-#[cfg(test)]
-mod tests;
 
 pub use discipline::Discipline;
 pub use fair::Fair;

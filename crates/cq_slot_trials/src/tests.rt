@@ -4,4 +4,6 @@ mod engine;
 mod fabric;
 mod ideal;
 mod outputs;
+mod rank;
+mod scfq;
 mod slow;

@@ -207,6 +207,3 @@ impl<W: Write> Sink for HostSink<W> {
         }
     }
 }
-
-#[cfg(test)]
-mod tests;

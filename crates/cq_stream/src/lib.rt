@@ -16,8 +16,6 @@ mod item;
 mod making;
 mod outcome;
 mod reader;
-#[cfg(test)]
-mod tests;
 mod watch;
 
 pub use intake::Intake;

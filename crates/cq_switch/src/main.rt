@@ -2,7 +2,7 @@
 //! streams to the top call, and ends with the code of its status.
 //!
 //! The module exists to be the one place that touches the system, and it decides nothing that the
-//! top call's contract speaks of. Codes 0 to 8 are those of the statuses. Code 10 is this file's own.
+//! top call's contract speaks of. Codes 0 to 9 are those of the statuses. Code 10 is this file's own.
 #![tactic(auto)]
 
 #[cfg(test)]

@@ -1,6 +1,6 @@
-//! Trials of the top call over files in memory.
+//! What trials of the top call over files in memory are made of.
 //!
-//! The crate exists for the tests of the whole program, its own and those of the program's crate. It makes
+//! The crate exists for the tests of the whole program, those of `cq_call_trials` and of the program's crate. It makes
 //! what a trial begins with, captures and configurations, among them the worked runs with what they come to,
 //! keeps them on a `Disk`, has the top call answer words over it, and compares. The program uses nothing of it.
 //!
@@ -12,8 +12,6 @@ mod capture;
 mod disk;
 mod keys;
 mod runs;
-#[cfg(test)]
-mod tests;
 mod trial;
 mod worked;
 
@@ -23,5 +21,5 @@ pub use capture::{
 pub use disk::Disk;
 pub use keys::{DEAREST, DEFAULTS, Keys, configuration};
 pub use runs::{RUNS, RUNS_BY_KEYS, THREE_INPUTS, TWO_FOR_ONE};
-pub use trial::{Ended, answer, refuses, streamed, watched, words_of};
+pub use trial::{Ended, WRITTEN, answer, refuses, streamed, watched, words_of};
 pub use worked::Run;

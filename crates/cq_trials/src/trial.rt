@@ -121,7 +121,7 @@ where
 }
 
 /// The names that a command of a trial may write.
-pub(crate) const WRITTEN: &[&str] = &["b", "out0.pcap", "out1.pcap", "trace.txt", "log.txt"];
+pub const WRITTEN: &[&str] = &["b", "out0.pcap", "out1.pcap", "trace.txt", "log.txt"];
 
 /// Whether the words over the given files end with the code and the line, and touch nothing: `out` took
 /// nothing, each given file is as it was, and none that could be written is there.

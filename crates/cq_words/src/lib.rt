@@ -14,8 +14,6 @@ mod judge;
 mod number;
 mod split;
 mod stream_words;
-#[cfg(test)]
-mod tests;
 mod words;
 
 pub use command::Command;

@@ -99,8 +99,8 @@ fn verdict(lists: &[InputList], offers: &Offers, lines: &[Transfer]) -> Option<P
     }
 }
 
-// Whether a phase of two inputs, in each of which a cell for output zero waits, is refused at its first wrong line, or at
-// its first pair that is not settled.
+// Whether a phase of two inputs, in each of which a cell for output zero waits, is refused at its first wrong line,
+// or at its first pair that is not settled.
 fn phases_are_told(alloc: Global) -> Result<bool, NoMemory> {
     let lists = [one_waits(alloc, 0)?, one_waits(alloc, 1)?];
     let mut offers = Offers::new(alloc, 2)?;

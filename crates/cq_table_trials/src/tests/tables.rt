@@ -192,7 +192,8 @@ fn a_text_without_ports_and_one_that_is_too_long_are_told(rt: HostRuntime) -> Re
     Ok(())
 }
 
-/// A good configuration of four ports, one that names no discipline and one of each, with two classes, two addresses and a rule.
+/// A good configuration of four ports, one that names no discipline and one of each, with two classes, two addresses
+/// and a rule.
 const GOOD: &str =
     "version = 1\nslot_ns = 3\nworkers = 64\ntrace = \"trace.txt\"\nlog = \"log.txt\"\n[[port]]\nread = \"in0.pcap\"\nwrite = \"out0.pcap\"\n[[port]]\nread = \"in1.pcap\"\nwrite = \"out1.pcap\"\ndiscipline = \"priority\"\nlimit = 7\n[[port]]\nwrite = \"out2.pcap\"\ndiscipline = \"fair\"\n[[port]]\nwrite = \"out3.pcap\"\ndiscipline = \"first-come\"\n[[address]]\nmac = \"02:00:00:00:00:00\"\noutput = 0\n[[address]]\nmac = \"02:00:aA:Bb:00:01\"\noutput = 1\n[[class]]\npriority = \"007\"\n[[class]]\ncost = \"340282366920938463463374607431768211455\"\n[[rule]]\ninput = 1\npcp = 7\nether_type = 65535\ndscp = 63\nclass = 1\n";
 

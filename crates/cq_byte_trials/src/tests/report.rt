@@ -1,0 +1,368 @@
+//! Texts of runs that were worked by hand.
+use cq_base::{
+    Cell, CellId, Departure, Figures, InputFigures, Key, NoMemory, OutputFigures, PackedDeparture,
+    Queued, Room, Sequence, Transfer,
+};
+use cq_ideal::Refused;
+use cq_report::{log_text, log_text_of_room, report_text, trace_text, trace_text_of_packed};
+use std::alloc::Global;
+use std::test::Fail;
+
+// A cell leaves: its slot and its output, and its input, its packet and its number there.
+type Leaving = (u64, u16, u16, u32, u32);
+
+fn departure(row: &Leaving) -> Departure {
+    let (slot, output, input, packet, index) = *row;
+    let id = CellId {
+        input,
+        packet,
+        index,
+    };
+    let cell = Cell {
+        id,
+        output,
+        class: 0,
+        last: true,
+        at: 0,
+        len: 60,
+    };
+    let key = Key {
+        level: 0,
+        rank: 7,
+        slot: 0,
+        input,
+    };
+    Departure {
+        slot,
+        output,
+        queued: Queued { cell, key },
+    }
+}
+
+// A cell crosses: its slot, its phase, its input and its output, and its packet and its number there.
+type Crossing = (u64, u8, u16, u16, u32, u32);
+
+fn transfer(row: &Crossing) -> Transfer {
+    let (slot, phase, input, output, packet, index) = *row;
+    let id = CellId {
+        input,
+        packet,
+        index,
+    };
+    Transfer {
+        slot,
+        phase,
+        input,
+        output,
+        id,
+    }
+}
+
+// Departures, and their trace.
+const TRACES: &[(&[Leaving], &[u8])] = &[
+    (&[], b""),
+    (
+        &[
+            (0, 0, 0, 0, 0),
+            (1, 0, 1, 0, 0),
+            (1, 1, 2, 1, 0),
+            (2, 0, 2, 0, 0),
+        ],
+        b"0 0 0 0 0\n1 0 1 0 0\n1 1 2 1 0\n2 0 2 0 0\n",
+    ),
+    (
+        &[
+            (3600000000000, 63, 62, 4294967295, 4095),
+            (u64::MAX, u16::MAX, u16::MAX, u32::MAX, u32::MAX),
+        ],
+        b"3600000000000 63 62 4294967295 4095\n18446744073709551615 65535 65535 4294967295 4294967295\n",
+    ),
+];
+
+fn have_trace(alloc: Global, rows: &[Leaving], text: &[u8]) -> Result<bool, NoMemory> {
+    let sent: Vec<Departure> = rows.iter().map(departure).collect(alloc)?;
+    let trace = trace_text(alloc, sent.as_slice())?;
+    Ok(trace.as_slice() == text)
+}
+
+fn have_packed_trace(alloc: Global, rows: &[Leaving], text: &[u8]) -> Result<bool, NoMemory> {
+    let packed = rows.iter().map(|row| PackedDeparture::of(&departure(row)));
+    let sent: Vec<PackedDeparture> = packed.collect(alloc)?;
+    let trace = trace_text_of_packed(alloc, sent.as_slice())?;
+    Ok(trace.as_slice() == text)
+}
+
+#[test]
+fn a_trace_has_a_line_for_each_departure(rt: HostRuntime) -> Result<(), Fail> {
+    for (rows, text) in TRACES {
+        let told = have_trace(rt.alloc(), rows, text)?;
+        assert!(rt; told && have_packed_trace(rt.alloc(), rows, text)?);
+    }
+    Ok(())
+}
+
+// Transfers, and their log.
+const LOGS: &[(&[Crossing], &[u8])] = &[
+    (&[], b""),
+    (
+        &[
+            (0, 1, 0, 0, 0, 0),
+            (0, 2, 1, 0, 0, 0),
+            (1, 1, 2, 1, 1, 0),
+            (1, 2, 2, 0, 0, 0),
+        ],
+        b"0 1 0 0 0 0\n0 2 1 0 0 0\n1 1 2 1 1 0\n1 2 2 0 0 0\n",
+    ),
+    (
+        &[(0, 1, 0, 0, 0, 0), (0, 2, 1, 0, 0, 0), (1, 1, 0, 0, 1, 0)],
+        b"0 1 0 0 0 0\n0 2 1 0 0 0\n1 1 0 0 1 0\n",
+    ),
+    (
+        &[
+            (0, 1, 0, 0, 0, 0),
+            (3600000000000, 2, 62, 63, 4294967295, 4095),
+        ],
+        b"0 1 0 0 0 0\n3600000000000 2 62 63 4294967295 4095\n",
+    ),
+];
+
+fn have_log(alloc: Global, rows: &[Crossing], text: &[u8]) -> Result<bool, NoMemory> {
+    let note: Vec<Transfer> = rows.iter().map(transfer).collect(alloc)?;
+    let log = log_text(alloc, note.as_slice())?;
+    Ok(log.as_slice() == text)
+}
+
+// The transfers, in a room that they fill.
+fn noted(alloc: Global, rows: &[Crossing]) -> Result<Room<Transfer>, NoMemory> {
+    let mut note = Room::new(alloc, rows.len() as u64)?;
+    for row in rows {
+        if 0 < note.spare() {
+            note.push(transfer(row));
+        }
+    }
+    Ok(note)
+}
+
+fn have_log_of_room(alloc: Global, rows: &[Crossing], text: &[u8]) -> Result<bool, NoMemory> {
+    let note = noted(alloc, rows)?;
+    let log = log_text_of_room(alloc, note)?;
+    Ok(log.as_slice() == text)
+}
+
+#[test]
+fn a_log_has_a_line_for_each_transfer(rt: HostRuntime) -> Result<(), Fail> {
+    for (rows, text) in LOGS {
+        assert!(rt; have_log(rt.alloc(), rows, text)?);
+    }
+    Ok(())
+}
+
+#[test]
+fn transfers_that_are_used_up_leave_the_same_log(rt: HostRuntime) -> Result<(), Fail> {
+    for (rows, text) in LOGS {
+        assert!(rt; have_log_of_room(rt.alloc(), rows, text)?);
+    }
+    Ok(())
+}
+
+// What is told of a run: its slots, its proposals and the most of one phase; of each input its cells, the greatest
+// length of its list and the least slack; and of each output its cells and the longest wait.
+struct Told {
+    run: (u64, u64, u64),
+    inputs: &'static [(u64, u64, Option<u64>)],
+    outputs: &'static [(u64, Option<u64>)],
+}
+
+fn figures_of(alloc: Global, told: &Told) -> Result<Figures, NoMemory> {
+    let (slots, proposals, most) = told.run;
+    let inputs = told.inputs.iter().map(|row| InputFigures {
+        cells: row.0,
+        longest: row.1,
+        slack: row.2,
+    });
+    let inputs: Vec<InputFigures> = inputs.collect(alloc)?;
+    let outputs = told.outputs.iter().map(|row| OutputFigures {
+        cells: row.0,
+        wait: row.1,
+    });
+    let outputs: Vec<OutputFigures> = outputs.collect(alloc)?;
+    Ok(Figures {
+        slots,
+        proposals,
+        most,
+        inputs: Sequence::of(inputs),
+        outputs: Sequence::of(outputs),
+    })
+}
+
+// Whether the report of these figures, and of what was refused, has these lines.
+fn is_reported(
+    alloc: Global,
+    figures: &Figures,
+    refused: &[Refused],
+    lines: &[&str],
+) -> Result<bool, NoMemory> {
+    let outputs = figures.outputs.as_slice();
+    if !outputs.iter().all(|x| x.cells <= figures.slots) {
+        return Ok(false);
+    }
+    let text = report_text(alloc, figures, refused)?;
+    let lines = lines.concat(alloc)?;
+    Ok(text.as_slice() == lines.as_bytes())
+}
+
+// Whether the report of what is told of a run, and of what was refused, has these lines.
+fn has_lines(
+    alloc: Global,
+    told: &Told,
+    refused: &[Refused],
+    lines: &[&str],
+) -> Result<bool, NoMemory> {
+    let figures = figures_of(alloc, told)?;
+    is_reported(alloc, &figures, refused, lines)
+}
+
+const NOTHING_CAME: [&str; 5] = [
+    "slots 0\n",
+    "proposals 0\n",
+    "most 0\n",
+    "input 0 cells 0 longest 0 slack -\n",
+    "output 0 cells 0 idle 0 wait -\n",
+];
+
+const CONTENTION: [&str; 7] = [
+    "slots 2\n",
+    "proposals 3\n",
+    "most 2\n",
+    "input 0 cells 1 longest 1 slack 0\n",
+    "input 1 cells 1 longest 1 slack 0\n",
+    "output 0 cells 2 idle 0 wait 1\n",
+    "output 1 cells 0 idle 2 wait -\n",
+];
+
+const FAIR: [&str; 7] = [
+    "slots 3\n",
+    "proposals 4\n",
+    "most 2\n",
+    "input 0 cells 2 longest 1 slack 0\n",
+    "input 1 cells 1 longest 1 slack 0\n",
+    "output 0 cells 3 idle 0 wait 1\n",
+    "output 1 cells 0 idle 3 wait -\n",
+];
+
+const GOES_AHEAD: [&str; 9] = [
+    "slots 3\n",
+    "proposals 7\n",
+    "most 3\n",
+    "input 0 cells 1 longest 1 slack 0\n",
+    "input 1 cells 1 longest 1 slack 0\n",
+    "input 2 cells 2 longest 2 slack 0\n",
+    "output 0 cells 3 idle 0 wait 2\n",
+    "output 1 cells 1 idle 2 wait 0\n",
+    "output 2 cells 0 idle 3 wait -\n",
+];
+
+const OFFICE: [&str; 11] = [
+    "slots 7\n",
+    "proposals 14\n",
+    "most 2\n",
+    "input 0 cells 4 longest 1 slack 0\n",
+    "input 1 cells 6 longest 1 slack 0\n",
+    "input 2 cells 0 longest 0 slack -\n",
+    "input 3 cells 0 longest 0 slack -\n",
+    "output 0 cells 1 idle 6 wait 0\n",
+    "output 1 cells 7 idle 0 wait 3\n",
+    "output 2 cells 2 idle 5 wait 1\n",
+    "output 3 cells 0 idle 7 wait -\n",
+];
+
+const BURST: [&str; 9] = [
+    "slots 3\n",
+    "proposals 3\n",
+    "most 1\n",
+    "input 0 cells 2 longest 1 slack 0\n",
+    "input 1 cells 1 longest 1 slack 0\n",
+    "output 0 cells 3 idle 0 wait 0\n",
+    "output 1 cells 0 idle 3 wait -\n",
+    "limit 0 refused 2 cells 3\n",
+    "limit 1 refused 0 cells 0\n",
+];
+
+const LIMITED: Told = Told {
+    run: (3, 3, 1),
+    inputs: &[(2, 1, Some(0)), (1, 1, Some(0))],
+    outputs: &[(3, Some(0)), (0, None)],
+};
+
+const REFUSED: [Refused; 2] = [
+    Refused {
+        output: 0,
+        limit: 1,
+        packets: 2,
+        cells: 3,
+    },
+    Refused {
+        output: 1,
+        limit: 100,
+        packets: 0,
+        cells: 0,
+    },
+];
+
+#[test]
+fn a_report_tells_what_was_refused_at_outputs_with_limits(rt: HostRuntime) -> Result<(), Fail> {
+    assert!(rt; has_lines(rt.alloc(), &LIMITED, &REFUSED, &BURST)?);
+    Ok(())
+}
+
+// Runs, with the lines of their reports.
+const RUNS: &[(Told, &[&str])] = &[
+    (
+        Told {
+            run: (0, 0, 0),
+            inputs: &[(0, 0, None)],
+            outputs: &[(0, None)],
+        },
+        &NOTHING_CAME,
+    ),
+    (
+        Told {
+            run: (2, 3, 2),
+            inputs: &[(1, 1, Some(0)), (1, 1, Some(0))],
+            outputs: &[(2, Some(1)), (0, None)],
+        },
+        &CONTENTION,
+    ),
+    (
+        Told {
+            run: (3, 4, 2),
+            inputs: &[(2, 1, Some(0)), (1, 1, Some(0))],
+            outputs: &[(3, Some(1)), (0, None)],
+        },
+        &FAIR,
+    ),
+    (
+        Told {
+            run: (3, 7, 3),
+            inputs: &[(1, 1, Some(0)), (1, 1, Some(0)), (2, 2, Some(0))],
+            outputs: &[(3, Some(2)), (1, Some(0)), (0, None)],
+        },
+        &GOES_AHEAD,
+    ),
+    (
+        Told {
+            run: (7, 14, 2),
+            inputs: &[(4, 1, Some(0)), (6, 1, Some(0)), (0, 0, None), (0, 0, None)],
+            outputs: &[(1, Some(0)), (7, Some(3)), (2, Some(1)), (0, None)],
+        },
+        &OFFICE,
+    ),
+];
+
+#[test]
+fn a_report_has_the_figures_behind_their_names(rt: HostRuntime) -> Result<(), Fail> {
+    for (told, lines) in RUNS {
+        assert!(rt; has_lines(rt.alloc(), told, &[], lines)?);
+    }
+    Ok(())
+}
