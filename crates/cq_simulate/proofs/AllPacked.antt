@@ -124,7 +124,7 @@ module _ (t : Tables) (captures : List (List Captured)) (sent : List Departure) 
         let split = flow-append i c output (take k sent) (d ∷ drop (k + 1) sent) in
         let first = of_flow i c output d (drop (k + 1) sent) own_cell in
         rw (so_far.open_packets i c few) (flow_fits t captures i (omega arith)
-        (departed_captured of_run k e inside).input c output l.is_taken
+        of_run.tables of_run.captures c output (l.packets c output)
         (left_in_flow i c output (take k sent)) d.queued.cell (left_in_flow i c output (drop (k + 1) sent)) (cc))
 
     module _ {joiner : JoinerView} (joiner_new : JoinerView) {packets : List OutPacket}

@@ -1,10 +1,11 @@
 -- Each cell that departs has arrived. Of each input and class the cells of the packets that are taken in leave an
 -- output as they came. So what holds of all cells that arrive holds of each that departs: it is of a packet of its
 -- input's capture.
-use Rattle.cq_simulate.proofs.Terms.{rules, ◌≡◌, ℕ, zero, suc, ◌+◌, ◌<◌, true, List, [], ◌∷◌, length, map, get_or, Result, Ok, Err, refl, sym, ap, ◌∙◌, arith, common_steps, max, AllByRecursion, filter, range_with_len, eq-eqb, and_from, Arrival, end_of, Departure, TagFault, packets_of, cells, start, cell_of, arrivals_of, arrivals_at, arrivals, IsTraffic, piece_begins, all_flat, traffic_is, NoLimits, slots_of, leaves_in_flow, departures_of, departures_limited, LimitedRan, unlimited, flows_leave_in_packets, limited_same_sent, run_as_before, slots_as_before, Captured, AreTables, IsSetup, classes_of, ports_of, Tables, machines_of, openings_of, HaveLeftOf, LeaveWhole, LeftInPackets, IsCaptured, ideal_departures, ran_ideal, slots_ran, subst, and_parts, eqb-true, Has, all_of_has, has_image, has_kept, image_has, kept_has}
+use Rattle.cq_simulate.proofs.Terms.{rules, ◌≡◌, ℕ, zero, suc, ◌+◌, ◌<◌, true, List, [], ◌∷◌, length, map, get_or, Result, Ok, Err, refl, sym, ap, ◌∙◌, arith, common_steps, max, AllByRecursion, filter, range_with_len, eq-eqb, and_from, Arrival, end_of, Departure, TagFault, packets_of, cells, start, cell_of, arrivals_of, arrivals_at, arrivals, IsTraffic, piece_begins, all_flat, traffic_is, NoLimits, slots_of, leaves_in_flow, departures_of, departures_limited, LimitedRan, unlimited, flows_leave_in_packets, limited_same_sent, run_as_before, slots_as_before, Captured, AreTables, IsSetup, classes_of, ports_of, Tables, machines_of, openings_of, HaveLeftOf, LeaveWhole, LeftInPackets, IsCaptured, ideal_departures, ran_ideal, slots_ran, subst, and_parts, eqb-true, Has, all_of_has, has_cases, has_image, has_kept, image_has, kept_has, flat_map, of_packet, Cell, came_in_flow}
 use Rattle.cq_cells.specs.Traffic.{IsInRange}
 use Rattle.cq_ideal.proofs.LimitedLast.{last_departs, limited_slots}
 use Rattle.cq_simulate.proofs.OfPackets.{packets_come}
+use Rattle.cq_simulate.proofs.SomePackets.{as_packets}
 use Rattle.cq_simulate.proofs.Runnable.{runnable}
 
 -- ## What departs has come
@@ -25,7 +26,7 @@ left_in_packets t captures sent are many h i =
     (limited_same_sent t.limits _ (ports_of t.setup) (openings_of t.setup) came ∙ h) (λ ran is.
     let l = flows_leave_in_packets t.limits _ _ _ came ran (runnable t.setup came are.setup (traffic_is t captures are
     many)) is i (packets_come t captures i are many) in
-    record { is_taken = l.is_taken; left = l.left })
+    as_packets t captures i are many _ l.is_taken l.left)
 
 has_at : {X : Type 0} (xs : List X) (k : ℕ) (e : X) → k < length xs → Has xs (get_or xs k e)
 has_at [] k e inside = absurd (omega arith)
@@ -38,6 +39,11 @@ pub record CameAs (came : List Arrival) (d : Departure) : Type 0 where
   pub own : arrival.cell ≡ d.queued.cell
   pub output : arrival.cell.output ≡ d.output
 
+-- what a flow gives up of some packets is of the flow
+of_flow : (cells : List Cell) (ks : List ℕ) (x : Cell) → Has (flat_map (of_packet cells) ks) x → Has cells x
+of_flow cells [] x has = absurd has
+of_flow cells (k ∷ ks) x has = grind (arith, common_steps, has_cases, kept_has, of_flow cells ks x)
+
 pub came_as : (came : List Arrival) (sent : List Departure) → LeaveWhole came sent → (d : Departure) → Has sent d →
     CameAs came d
 came_as came sent whole d has =
@@ -47,7 +53,8 @@ came_as came sent whole d has =
     let left = has_image (λ (x : Departure). x.queued.cell) (filter (leaves_in_flow i c d.output) sent) d
     (has_kept (leaves_in_flow i c d.output) sent d has own) in
     let l = whole i in
-    let here = rw (l.left c d.output) at left in grind (arith, common_steps, kept_has, image_has, and_parts, eqb-true)
+    let here = of_flow (came_in_flow i c d.output came) (l.packets c d.output) d.queued.cell (rw (l.left c d.output) at left) in
+    grind (arith, common_steps, kept_has, image_has, and_parts, eqb-true)
 
 -- ## The cells of captures
 

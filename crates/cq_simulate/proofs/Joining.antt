@@ -2,13 +2,13 @@
 -- those of one packet after another, each whole and in order; those that leave are all cells of some of these
 -- packets. So each cell is the next of the packet that is open, or the first of one where none is; and at the last
 -- cell of a packet all its pieces are together, which are its frame.
-use Rattle.cq_simulate.proofs.Terms.{common_steps, flat_map-map, div_ceil_times, length-map-range_with_len, rules, ◌≡◌, ℕ, zero, suc, ◌+◌, ◌-◌, ◌*◌, ◌<◌, Bool, true, List, [], ◌∷◌, ◌++◌, length, map, flat_map, take, drop, min, Option, Some, None, refl, sym, ap, ◌∙◌, subst, arith, ◌&&◌, ◌==◌, filter, range_with_len, eqb-true, eq-eqb, ne_eqb, div-mul-add, append-nil, flat_map-append, Arrival, Cell, packet_at, packets_of, at_input, is_from, cells, cells_of, cell_of, arrivals_at, arrivals, came_in_flow, Captured, open_after, Fits, opened, piece_at, route, Tables}
+use Rattle.cq_simulate.proofs.Terms.{common_steps, flat_map-map, div_ceil_times, length-map-range_with_len, rules, ◌≡◌, ℕ, zero, suc, ◌+◌, ◌-◌, ◌*◌, ◌<◌, Bool, true, List, [], ◌∷◌, ◌++◌, length, map, flat_map, take, drop, min, Option, Some, None, refl, sym, ap, ◌∙◌, subst, arith, ◌&&◌, ◌==◌, filter, range_with_len, eqb-true, eq-eqb, ne_eqb, div-mul-add, append-nil, flat_map-append, Arrival, Cell, packet_at, packets_of, at_input, is_from, cells, cells_of, cell_of, arrivals_at, arrivals, came_in_flow, Captured, open_after, Fits, opened, piece_at, AreTables, ports_of, Tables, of_packet}
 use Rattle.cq_reasm.specs.Cutting.{AreCutFrom, cells_of as count_of}
 use Rattle.cq_reasm.specs.Piece.{Piece}
 use Rattle.cq_reasm.specs.Open.{Open, bytes_taken, with_piece}
 use Rattle.cq_reasm.proofs.Pieces.{pieces_give_frame}
 use Rattle.cq_cells.proofs.Ranges.{range_more}
-use Rattle.cq_simulate.proofs.OfPackets.{by_packet, line_cells}
+use Rattle.cq_simulate.proofs.SomePackets.{flow_is, packets_in, parts_of}
 
 -- ## How many pieces
 
@@ -133,33 +133,15 @@ module _ (t : Tables) (captures : List (List Captured)) (input : ℕ) (some : 0 
       (closed_at_first k (cells t captures input k)) (walk k (flat_map packet_cells ks) cell rest
       (λ q same. each_fits ks q cell rest same) (cells t captures input k) 0 (omega arith) p is)
 
-  -- ## The packets that pass
+  -- ## A flow of some packets
 
-  -- of the cells that come to the input those of a flow
-  abbrev in_flow : ℕ → ℕ → Cell → Bool
-  in_flow c j cell = cell.output == j && cell.class == c
-
-  flow_in_line : (c j : ℕ) (came : List Arrival) → came_in_flow input c j came
-      ≡ filter (in_flow c j) (map (λ (a : Arrival). a.cell) (filter (is_from input) came))
-  flow_in_line c j [] = refl
-  flow_in_line c j (a ∷ came) = grind (arith, common_steps, flow_in_line c j came)
-
-  -- each cell of the packets that are taken in is the next when those before it were taken
-  pub flow_fits : input < length captures → (c j : ℕ) (is_taken : ℕ → Bool) (p : List Cell) (cell : Cell)
-      (rest : List Cell) →
-      filter (λ cell. is_taken cell.id.packet) (came_in_flow input c j (arrivals t captures)) ≡ p ++ cell ∷ rest →
+  -- each cell of the packets is the next when those before it were taken
+  pub flow_fits : AreTables t → length captures ≡ ports_of t.setup → (c j : ℕ) (ks : List ℕ) (p : List Cell)
+      (cell : Cell) (rest : List Cell) →
+      flat_map (of_packet (came_in_flow input c j (arrivals t captures))) ks ≡ p ++ cell ∷ rest →
       Fits captures (opened captures None p) cell
-  unfolding arrivals_at cell_of
-  flow_fits inside c j is_taken p cell rest is =
-      let taken : Cell → Bool = λ cell. is_taken cell.id.packet in
-      let ks = range_with_len 0 (length (packets_of captures input)) in
-      let goes : ℕ → Bool = λ k. (route t input (packet_at captures input k).body).0 == j
-      && (route t input (packet_at captures input k).body).1 == c in
-      let line =
-      flow_in_line c j (arrivals t captures)
-      ∙ ap (λ (l : List Arrival). filter (in_flow c j) (map (λ (a : Arrival). a.cell) l))
-      (at_input t captures input inside) ∙ ap (filter (in_flow c j)) (line_cells t captures input ks)
-      ∙ by_packet t captures input (in_flow c j) goes (λ k m. refl) ks in
-      each_fits (filter is_taken (filter goes ks)) p cell rest
-      (sym (by_packet t captures input taken is_taken (λ k m. refl) (filter goes ks)) ∙ ap (filter taken) (sym line)
-      ∙ is)
+  flow_fits are many c j ks p cell rest is =
+      let gs = packets_in t captures input c j in
+      each_fits (flat_map (λ k. filter (λ g. g == k) gs) ks) p cell rest
+      (sym (parts_of t captures input gs ks)
+      ∙ ap (λ cells. flat_map (of_packet cells) ks) (sym (flow_is t captures input are many c j)) ∙ is)

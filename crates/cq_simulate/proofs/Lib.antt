@@ -12,6 +12,7 @@ pub mod NamedFlow
 pub mod ResumedWhole
 pub mod Steps
 pub mod OfPackets
+pub mod SomePackets
 pub mod Runnable
 pub mod Tallies
 pub mod EachPacket

@@ -11,6 +11,7 @@ use Rattle.cq_laws.proofs.ActingAlike.{best_act_alike}
 use Rattle.cq_simulate.proofs.NamedFlow.{line_rises, told_flow, stands_there, IsEarlier, early_of, is_taken, packets_behind, parted_at, taken_before, taken_behind, next_after, packet}
 use Rattle.cq_simulate.proofs.OfPackets.{none_from, packets_come}
 use Rattle.cq_simulate.proofs.Runnable.{right_classes, runnable}
+use Rattle.cq_simulate.proofs.SomePackets.{as_packets}
 use Rattle.cq_simulate.proofs.TakenUp.{machines_many}
 
 -- ## Cells of arrivals
@@ -265,8 +266,11 @@ module _ (t : Tables) (captures : List (List Captured)) (are : AreTables t) (man
           no_port w.machines i c j (admitted_in (admissions_in rs)) next (ideal_of f) _ ideal_runs high in
           rw (left_is, none_first, none_left, nothing)
 
+    left_taken : (c j : ℕ) → left_in_flow i c j kept.sent ≡ filter takes_cell (came_in_flow i c j came)
+    left_taken c j = search (arith, rules, at_port, elsewhere, cases_lt)
+
     pub left_whole : LeftInPackets came i kept.sent
-    left_whole = record { is_taken = takes; left = search (arith, rules, at_port, elsewhere, cases_lt) }
+    left_whole = as_packets t captures i are many kept.sent takes left_taken
 
 pub resumed_whole : (t : Tables) (captures : List (List Captured)) (from : Taken) (kept : Kept) → AreTables t →
     length captures ≡ ports_of t.setup → CanBeTakenUp (switch_of t (schedule_of t captures)) from →

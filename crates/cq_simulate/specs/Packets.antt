@@ -1,6 +1,8 @@
 -- The packets that leave an output.
 use Rattle.std.specs.Prelude.{◌≡◌, ℕ, ◌+◌, ◌*◌, ◌<◌, ◌&&◌, ◌==◌, Bool, List, length, map, filter, slice_index_or}
+use Rattle.std.specs.List.{flat_map}
 use Rattle.cq_base.specs.Arriving.{Arrival}
+use Rattle.cq_base.specs.declared.cell.Cell.{Cell}
 use Rattle.cq_base.specs.declared.cell.Departure.{Departure}
 use Rattle.cq_cells.specs.Schedule.{arrivals, first_stamp, packet_at}
 use Rattle.cq_ideal.specs.Flows.{came_in_flow, left_in_flow}
@@ -11,11 +13,15 @@ use Rattle.cq_route.specs.Tables.{AreTables, ports_of}
 use Rattle.cq_route.specs.declared.tables.Tables.{Tables}
 use Rattle.cq_simulate.specs.declared.packing.Packing.{Packing}
 
--- of each class and for each output, the cells of some packets of input i left, all cells of each, in the order in
--- which they came
+-- of these cells those of packet k
+abbrev pub of_packet : List Cell → ℕ → List Cell
+of_packet cells k = filter (λ cell. cell.id.packet == k) cells
+
+-- of each class and for each output, the cells of some packets of input i left, one packet after another in some order:
+-- of each packet all cells that came, in the order in which they came
 pub record LeftInPackets (came : List Arrival) (i : ℕ) (sent : List Departure) : Type 0 where
-  pub is_taken : ℕ → Bool
-  pub left : (c j : ℕ) → left_in_flow i c j sent ≡ filter (λ cell. is_taken cell.id.packet) (came_in_flow i c j came)
+  pub packets : ℕ → ℕ → List ℕ
+  pub left : (c j : ℕ) → left_in_flow i c j sent ≡ flat_map (of_packet (came_in_flow i c j came)) (packets c j)
 
 -- the cells that departed are those of whole packets, one packet after another of each input, class and output
 abbrev pub LeaveWhole : List Arrival → List Departure → Type 0

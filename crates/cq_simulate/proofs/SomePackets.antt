@@ -1,0 +1,99 @@
+-- What arrives of a flow are the cells of its packets, one packet after another. So where some packets are taken of it,
+-- with all their cells, what is taken are the cells of a list of packets. The numbers of the packets rise: those that
+-- equal one of them are that one alone.
+use Rattle.cq_simulate.proofs.Terms.{common_steps, ◌≡◌, ℕ, zero, suc, ◌+◌, ◌<◌, ◌≤◌, Bool, true, List, [], ◌∷◌, length, map, flat_map, filter, range_with_len, refl, sym, ap, ◌∙◌, arith, AllByRecursion, cases_lt, ⊎_elim, ne_eqb, eq-eqb, flat_map-append, ◌&&◌, ◌==◌, Arrival, Cell, Departure, arrivals, arrivals_at, at_input, traffic_is, cell_of, came_in_flow, is_from, left_in_flow, packet_at, packets_of, route, Captured, AreTables, classes_of, ports_of, Tables, LeftInPackets, of_packet}
+use Rattle.std.proofs.lemmas.List.{get_or_past}
+use Rattle.cq_cells.specs.Traffic.{IsInRange}
+use Rattle.cq_simulate.proofs.OfPackets.{by_packet, line_cells, packet_cells}
+
+-- ## Numbers that rise
+
+beyond : (p : ℕ → Bool) (a n k : ℕ) → k < a → filter (λ g. g == k) (filter p (range_with_len a n)) ≡ []
+beyond p a zero k before = refl
+beyond p a (suc n) k before = grind (arith, common_steps, ne_eqb, beyond p (a + 1) n k)
+
+alone : (p : ℕ → Bool) (a n k : ℕ) → a ≤ k → k < a + n → p k ≡ true →
+    filter (λ g. g == k) (filter p (range_with_len a n)) ≡ k ∷ []
+alone p a zero k from to is = absurd (omega arith)
+alone p a (suc n) k from to is = grind (arith, common_steps, ne_eqb, eq-eqb, beyond p (a + 1) n a, alone p (a + 1) n k)
+
+each_alone : (p q : ℕ → Bool) (a n b m : ℕ) → a ≤ b → b + m ≤ a + n →
+    flat_map (λ k. filter (λ g. g == k) (filter p (range_with_len a n))) (filter q (filter p (range_with_len b m)))
+    ≡ filter q (filter p (range_with_len b m))
+each_alone p q a n b zero from to = refl
+each_alone p q a n b (suc m) from to = grind (arith, common_steps, alone p a n b, each_alone p q a n (b + 1) m)
+
+-- ## The packets of a flow
+
+module _ (t : Tables) (captures : List (List Captured)) (input : ℕ) where
+  -- the packets of the input that are for the output and of the class
+  abbrev pub goes_in : ℕ → ℕ → ℕ → Bool
+  goes_in c j k =
+      let went = route t input (packet_at captures input k).body in went.0 == j && went.1 == c
+
+  abbrev pub packets_in : ℕ → ℕ → List ℕ
+  packets_in c j = filter (goes_in c j) (range_with_len 0 (length (packets_of captures input)))
+
+  -- of the cells of some packets those of others
+  pub parts_of : (gs ks : List ℕ) → flat_map (of_packet (flat_map (packet_cells t captures input) gs)) ks
+      ≡ flat_map (packet_cells t captures input) (flat_map (λ k. filter (λ g. g == k) gs) ks)
+  unfolding cell_of
+  parts_of gs [] = refl
+  parts_of gs (k ∷ ks) =
+      let here = by_packet t captures input (λ (cell : Cell). cell.id.packet == k) (λ g. g == k) (λ g m. refl) gs in
+      grind (arith, common_steps, flat_map-append, parts_of gs ks)
+
+  none_from : (ports classes : ℕ) (came : List Arrival) → AllByRecursion (IsInRange ports classes) came →
+      ports ≤ input →
+      filter (is_from input) came ≡ []
+  none_from ports classes [] all past = refl
+  none_from ports classes (a ∷ came) all past =
+      let below = all.0.input in grind (arith, common_steps, ne_eqb, none_from ports classes came all.1 past)
+
+  -- of the cells that come to the input those of a flow
+  abbrev in_flow : ℕ → ℕ → Cell → Bool
+  in_flow c j cell = cell.output == j && cell.class == c
+
+  flow_in_line : (c j : ℕ) (came : List Arrival) → came_in_flow input c j came
+      ≡ filter (in_flow c j) (map (λ (a : Arrival). a.cell) (filter (is_from input) came))
+  flow_in_line c j [] = refl
+  flow_in_line c j (a ∷ came) = grind (arith, common_steps, flow_in_line c j came)
+
+  -- what comes to the input, and nothing to what is none
+  module _ (are : AreTables t) (many : length captures ≡ ports_of t.setup) where
+    comes : filter (is_from input) (arrivals t captures) ≡ arrivals_at t captures input
+    unfolding arrivals_at
+    comes = ⊎_elim (λ (inside : input < length captures). at_input t captures input inside)
+        (λ (past : length captures ≤ input).
+        let none = none_from (ports_of t.setup) (classes_of t.setup) (arrivals t captures)
+        (traffic_is t captures are many).in_range (omega arith) in
+        let empty = get_or_past captures input [] past in rw empty none) (cases_lt input (length captures))
+
+    pub flow_is : (c j : ℕ) → came_in_flow input c j (arrivals t captures)
+        ≡ flat_map (packet_cells t captures input) (packets_in c j)
+    unfolding arrivals_at cell_of
+    flow_is c j =
+        let ks = range_with_len 0 (length (packets_of captures input)) in
+        flow_in_line c j (arrivals t captures)
+        ∙ ap (λ (l : List Arrival). filter (in_flow c j) (map (λ (a : Arrival). a.cell) l)) comes
+        ∙ ap (filter (in_flow c j)) (line_cells t captures input ks)
+        ∙ by_packet t captures input (in_flow c j) (goes_in c j) (λ k m. refl) ks
+
+    -- so packets that are taken from those that come are a list of packets
+    pub as_packets : (sent : List Departure) (is_taken : ℕ → Bool) →
+        ((c j : ℕ) → left_in_flow input c j sent
+        ≡ filter (λ cell. is_taken cell.id.packet) (came_in_flow input c j (arrivals t captures))) →
+        LeftInPackets (arrivals t captures) input sent
+    unfolding cell_of
+    as_packets sent is_taken left = record {
+      packets = λ c j. filter is_taken (packets_in c j);
+      left = λ c j.
+          let n = length (packets_of captures input) in
+          let taken : Cell → Bool = λ cell. is_taken cell.id.packet in
+          left c j ∙ ap (filter taken) (flow_is c j)
+          ∙ by_packet t captures input taken is_taken (λ k m. refl) (packets_in c j)
+          ∙ ap (flat_map (packet_cells t captures input))
+          (sym (each_alone (goes_in c j) is_taken 0 n 0 n (omega arith) (omega arith)))
+          ∙ sym (parts_of (packets_in c j) (filter is_taken (packets_in c j)))
+          ∙ ap (λ cells. flat_map (of_packet cells) (filter is_taken (packets_in c j))) (sym (flow_is c j));
+    }
