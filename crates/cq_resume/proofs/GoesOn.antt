@@ -178,7 +178,7 @@ module _ (w : Switch) (s : State) (in_range : IsInRange s) (shape : HasShape w s
   pub its_slot : (c : Named) (q : Queued) → t c ≡ Some q → q.key.slot ≡ c.slot
   its_slot c q is = ap (λ (k : Key). k.slot) (is_cell_of w.came c q is).key
 
-  its_input : (c : Named) (q : Queued) → t c ≡ Some q → q.key.input ≡ c.input
+  pub its_input : (c : Named) (q : Queued) → t c ≡ Some q → q.key.input ≡ c.input
   its_input c q is = ap (λ (k : Key). k.input) (is_cell_of w.came c q is).key
 
   -- cells of one key are of one name's arrival

@@ -15,3 +15,4 @@ pub mod Scheduling
 pub mod Joining
 pub mod Pooled
 pub mod GoesOn
+pub mod ToldAgain

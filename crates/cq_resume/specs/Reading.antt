@@ -60,6 +60,10 @@ state_of x sent note first_stamp classes total =
       most = x.figures.most;
     }) x sent note
 
+-- the text of what was taken up, which stands still in this switch
+abbrev pub text_of_taken : Switch → Taken → List ℕ
+text_of_taken w x = state_text (state_of x.frozen x.sent x.note w.first_stamp w.classes (length w.came))
+
 -- ## Reading
 
 -- the text is that of a state in range, and it is a sound one of this switch; this is what it comes to

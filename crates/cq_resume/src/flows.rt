@@ -53,12 +53,13 @@ fn none_seen(alloc: Global, flows: usize) -> Result<Vec<Option<Name>>, NoMemory>
     Ok(last)
 }
 
-/// Whether the cells of each flow were sent in the order of arrival, and those that wait arrived after them and are to be
-/// sent in that order. The names stand by input and then by slot of arrival.
+/// Whether the cells of each flow were sent in the order of arrival, and those that wait arrived after them and are
+/// to be sent in that order. The names stand by input and then by slot of arrival.
 pub fn keep_arrival_order(alloc: Global, names: &[Name], ports: u16) -> Result<bool, NoMemory>
     requires ordered { AllPairs IsNameBefore names.now }
     requires ports { ports ≤ 64 }
-    requires names { AllByRecursion (λ name. (name.queued.cell.output < ports) × (name.queued.cell.class < 16)) names.now }
+    requires names { AllByRecursion (λ name. (name.queued.cell.output < ports)
+        × (name.queued.cell.class < 16)) names.now }
     ensures { IfOk result (λ holds. IsTrue holds ↔ FlowsStand names.now) }
 {
     let flows = ports as usize * MOST_CLASSES;

@@ -92,7 +92,8 @@ fn gone_all(
 ) -> Result<Option<Vec<Gone>>, NoMemory>
     requires { AllByRecursion (λ d. d.cell.input < schedule.now.ports) sent.now }
     ensures gone { IfOk result (λ all. IfSome all (λ gone. AreGone schedule.now.came next sent.now gone.items)) }
-    ensures none { IfOk result (λ all. IfNone all (AllByRecursion (λ d. told_of schedule.now.came next d.cell ≡ None → ⊥) sent.now → ⊥)) }
+    ensures none { IfOk result (λ all. IfNone all (AllByRecursion (λ d. told_of schedule.now.came next d.cell ≡ None
+        → ⊥) sent.now → ⊥)) }
 {
     let mut all = Vec::new(alloc);
     'sent: for departure in sent {
@@ -173,7 +174,8 @@ fn differ(names: &[Name]) -> bool
     neighbours_hold(names, is_before)
 }
 
-/// The cells that a state names. It is refused where one of them does not arrive before the next slot, or is named twice.
+/// The cells that a state names. It is refused where one of them does not arrive before the next slot, or is named
+/// twice.
 pub fn find(alloc: Global, state: &State, schedule: &Schedule) -> Result<Found, StateRefusal>
     requires { IsForPorts schedule.now.ports state.now }
     ensures found { IfOk result (IsFound schedule.now.came state.now) }

@@ -35,8 +35,8 @@ fn next_cell(schedule: &Schedule, input: Port, from: Slot, next: Slot) -> Option
     Some((slot, cell))
 }
 
-// Whether a cell may come where the packet before it is left out or not: the first of a packet always may, another only if it
-// is named as its packet is; and one that is not named only for an output that has a limit.
+// Whether a cell may come where the packet before it is left out or not: the first of a packet always may, another
+// only if it is named as its packet is; and one that is not named only for an output that has a limit.
 fn may_come(first: bool, named: bool, limited: bool, mark: bool) -> bool
     ensures { result ≡ may_come first named limited mark }
 {
@@ -54,8 +54,8 @@ fn count_left(refused: &mut [Refused], cell: Cell, left: bool)
     count_refused(refused, cell);
 }
 
-// Goes through what arrived at an input before the next slot, and counts what is not named. The answer is the mark of the
-// input, or None where a packet is named in part, or not at all though its output has no limit.
+// Goes through what arrived at an input before the next slot, and counts what is not named. The answer is the mark of
+// the input, or None where a packet is named in part, or not at all though its output has no limit.
 fn walk(
     schedule: &Schedule,
     input: Port,
@@ -70,7 +70,8 @@ fn walk(
     requires limits { length limits.now ≡ schedule.now.ports }
     requires ordered { AllPairs IsNameBefore names.now }
     requires room { CanCount (length (coming input 0 next schedule.now.came)) refused.old }
-    ensures mark { result ≡ mark_on (has_name names.now) (has_limit limits.now) false (coming input 0 next schedule.now.came) }
+    ensures mark { result ≡ mark_on (has_name names.now) (has_limit limits.now) false
+        (coming input 0 next schedule.now.came) }
     ensures refused { IfSome result (λ _. refused.new
         ≡ with_refused (map (λ a. a.cell) (unnamed names.now (coming input 0 next schedule.now.came))) refused.old) }
 {
@@ -89,8 +90,8 @@ fn walk(
     Some(mark)
 }
 
-/// What the arrivals before the next slot come to that are not named. None where a packet is named in part, or where one is
-/// not named whose output has no limit.
+/// What the arrivals before the next slot come to that are not named. None where a packet is named in part, or where
+/// one is not named whose output has no limit.
 pub fn tally_packets(
     alloc: Global,
     schedule: &Schedule,

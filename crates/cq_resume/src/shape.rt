@@ -35,8 +35,8 @@ fn are_sized(setup: &Setup, ranks: &[Sequence<u128>]) -> bool
     true
 }
 
-// Whether the first lines of the state tell of as many ports and classes as the tables, and of the stamp and of as many cells
-// as the schedule.
+// Whether the first lines of the state tell of as many ports and classes as the tables, and of the stamp and of as
+// many cells as the schedule.
 fn has_head(state: &State, tables: &Tables, schedule: &Schedule) -> bool
     ensures { IsTrue result ↔ IsHeadOf (switch_of tables.now schedule.now) state.now.head }
 {
@@ -46,8 +46,8 @@ fn has_head(state: &State, tables: &Tables, schedule: &Schedule) -> bool
         && state.head.total == schedule.total()
 }
 
-/// Whether the state, which has a rank state for each of its ports, tells of as many ports and classes as the tables, of the
-/// stamp and of as many cells as the schedule, and each rank state has as many numbers as its output's.
+/// Whether the state, which has a rank state for each of its ports, tells of as many ports and classes as the tables,
+/// of the stamp and of as many cells as the schedule, and each rank state has as many numbers as its output's.
 pub fn has_shape(state: &State, tables: &Tables, schedule: &Schedule) -> bool
     requires few { length tables.now.setup.classes ≤ 16 }
     requires told { length state.now.ranks ≡ state.now.head.ports }

@@ -65,8 +65,8 @@ fn leave(alloc: Global, setup: &Setup, state: &State, found: &Found) -> Result<(
     Ok(())
 }
 
-/// The cells that a state of this shape names, and what those come to that it does not name. It is refused for the first
-/// clause that does not hold.
+/// The cells that a state of this shape names, and what those come to that it does not name. It is refused for the
+/// first clause that does not hold.
 pub fn judge(
     alloc: Global,
     state: &State,

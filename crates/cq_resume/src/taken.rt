@@ -90,7 +90,8 @@ fn inputs_of(
 ) -> Result<Sequence<InputFigures>, NoMemory>
     requires few { length seen.now ≤ 64 }
     requires ordered { AllPairs IsNameBefore names.now }
-    ensures { IfOk result (λ inputs. inputs ≡ map (λ at. figures_at_input names.now at.0 at.1) (enumerate_from 0 seen.now)) }
+    ensures { IfOk result (λ inputs. inputs ≡ map (λ at. figures_at_input names.now at.0 at.1)
+        (enumerate_from 0 seen.now)) }
 {
     let mut inputs = Vec::new(alloc);
     'inputs: for input in 0..seen.len() {
@@ -175,7 +176,8 @@ fn slots_of(sent: &[Departure]) -> Slot
 /// What a state comes to that was found to be sound. The error is want of memory.
 pub fn take_up(alloc: Global, state: State, found: Found, tally: Tally) -> Result<Taken, NoMemory>
     requires { CanTakeUp state found }
-    ensures { (w : Switch) → IsFound w.came state found → IsTally w state tally → IfOk result (λ taken. taken ≡ taken_of w state) }
+    ensures { (w : Switch) → IsFound w.came state found → IsTally w state tally
+        → IfOk result (λ taken. taken ≡ taken_of w state) }
 {
     let State {
         head,

@@ -130,7 +130,8 @@ pub fn state_bytes(
     total: u64,
 ) -> Result<Vec<u8>, StateLong>
     requires ports { length frozen.now.lists < 2 ^ 16 }
-    ensures text { IfOk result (λ text. text.items ≡ state_text (state_of frozen.now sent.now note.now t0 classes total)) }
+    ensures text { IfOk result (λ text. text.items ≡ state_text
+        (state_of frozen.now sent.now note.now t0 classes total)) }
     ensures short { IfOk result (λ text. length text.items ≤ 2 ^ 28) }
     ensures long { IfErr result (IsTooLong (state_text (state_of frozen.now sent.now note.now t0 classes total))) }
 {

@@ -1,5 +1,6 @@
 use Rattle.cq_resume.proofs.Terms.{rules, arith}
 use Rattle.cq_resume.proofs.Scheduling.{schedule_known}
+use Rattle.cq_resume.proofs.ToldAgain.{text_again}
 use Rattle.cq_resume.proofs.read.read_state.Goals as goal
 
 pub has_shape-requires-clause-few : goal.has_shape-requires-clause-few
@@ -21,3 +22,6 @@ judge-requires-clause-packets c =
 
 pub judge-requires-clause-shape : goal.judge-requires-clause-shape
 judge-requires-clause-shape c = c.has_shape.ensures.0 c.if-not-has_shape.false
+
+pub returns-clause-written : goal.returns-clause-written
+returns-clause-written c = search (arith, rules, text_again c.args.tables.now c.args.schedule.now c.args.bytes.now)

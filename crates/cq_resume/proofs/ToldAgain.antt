@@ -1,0 +1,146 @@
+-- What was read is told again: what a sound state comes to tells that state, so its text is the text that was read.
+-- Items that stand in order of a number, taken number by number and laid end on end, are the same list. The cells of
+-- the lists stand in order of their inputs and those of the buffers in order of their outputs, and all of these are
+-- ports. Each name arrives, so its cell is told by it, and a departure by the slot and the name of its cell.
+use Rattle.cq_resume.proofs.Terms.{common_steps, rules, ◌≡◌, ℕ, zero, suc, ◌+◌, ◌<◌, ◌≤◌, List, [], ◌∷◌, length, map, flat_map, Option, Some, refl, ◌∙◌, arith, ◌==◌, filter, AllByRecursion, enumerate_from, filter_map, range_with_len, option_map, cases_eq, eq-eqb, flat_same, ne_eqb, length-map, length-map-range_with_len, Cell, Queued, Scheduled, IsTraffic, departure_of, figures_told, frozen_told, input_told, machine_of, sent_told, AreTables, IsScheduleOf, IsSound, HasShape, Switch, Tables, arriving_cell, buffer_told, fabric_told, list_told, named_as, named_in, queued_of, switch_of, IsInRange, IsNamed, Named, Seen, Sent, State, Taken}
+use Rattle.std.proofs.lemmas.List.Folds.{flat_map-map}
+use Rattle.cq_resume.proofs.Chained.{EachPair, each_pair}
+use Rattle.cq_resume.proofs.GoesOn.{comes, of_traffic, its_input, its_output, some_cell}
+use Rattle.cq_resume.proofs.Having.{Has, all_from_has, all_of_has, has_image, has_left, has_right}
+use Rattle.cq_resume.proofs.Pooled.{looked_up, pairs_looked_up}
+use Rattle.cq_resume.proofs.Scheduling.{schedule_known}
+use Rattle.cq_resume.specs.Sound.{IsBufferedBefore}
+use Rattle.cq_resume.specs.Reading.{IsRead, seen_as, sent_as, text_of_taken}
+unfoldable use Rattle.cq_resume.specs.Reading.{state_of}
+
+-- ## Items in order of a number
+
+module _ {X : Type 0} (number : X → ℕ) where
+  abbrev numbered : List X → ℕ → List X
+  numbered xs i = filter (λ x. number x == i) xs
+
+  -- those of so many numbers, from one on
+  abbrev by_number : List X → ℕ → ℕ → List X
+  by_number xs a n = flat_map (numbered xs) (range_with_len a n)
+
+  none_below : (xs : List X) (k i : ℕ) → i < k → AllByRecursion (λ x. k ≤ number x) xs → numbered xs i ≡ []
+  none_below [] k i lt all = refl
+  none_below (x ∷ xs) k i lt all = grind (arith, common_steps, ne_eqb, none_below xs k i lt all.1)
+
+  no_items : (a n : ℕ) → by_number [] a n ≡ []
+  no_items a zero = refl
+  no_items a (suc n) = no_items (a + 1) n
+
+  -- an item is none of the later numbers
+  past : (x : X) (xs : List X) (a n : ℕ) → number x < a → by_number (x ∷ xs) a n ≡ by_number xs a n
+  past x xs a zero lt = refl
+  past x xs a (suc n) lt = grind (arith, common_steps, ne_eqb, past x xs (a + 1) n)
+
+  -- the first item stays the first
+  first : (x : X) (xs : List X) (a n : ℕ) → a ≤ number x → number x < a + n →
+      AllByRecursion (λ y. number x ≤ number y) xs → by_number (x ∷ xs) a n ≡ x ∷ by_number xs a n
+  first x xs a zero low high all = absurd (omega arith)
+  first x xs a (suc n) low high all =
+      let none = none_below xs (number x) a in
+      let rest = past x xs (a + 1) n in
+      grind (arith, common_steps, cases_eq a (number x), ne_eqb, eq-eqb, none, rest, first x xs (a + 1) n)
+
+  ordered : (xs : List X) (n : ℕ) → EachPair (λ x y. number x ≤ number y) xs → AllByRecursion (λ x. number x < n) xs →
+      by_number xs 0 n ≡ xs
+  ordered [] n pairs all = no_items 0 n
+  ordered (x ∷ xs) n pairs all = grind (arith, common_steps, first x xs 0 n, ordered xs n)
+
+  -- so are the lists of all numbers, end on end
+  end_on_end : (told : ℕ → List X) (xs : List X) (n : ℕ) → ((i : ℕ) → told i ≡ numbered xs i) →
+      EachPair (λ x y. number x ≤ number y) xs → AllByRecursion (λ x. number x < n) xs →
+      flat_map (λ l. l) (map told (range_with_len 0 n)) ≡ xs
+  end_on_end told xs n is pairs all = flat_map-map (λ l. l) told (range_with_len 0 n)
+      ∙ flat_same told (numbered xs) 0 n (λ i low high. is i) ∙ ordered xs n pairs all
+
+-- ## What is looked up and told again
+
+told_again : {X Y : Type 0} (f : X → Option Y) (g : Y → X) (xs : List X) →
+    ((x : X) → Has xs x → option_map g (f x) ≡ Some x) → map g (filter_map f xs) ≡ xs
+told_again f g [] each = refl
+told_again f g (x ∷ xs) each = grind (arith, common_steps, told_again f g xs)
+
+seen_again : (s : State) (xs : List Seen) (a : ℕ) →
+    map seen_as (map (λ (at : ℕ × Seen). input_told s at.0 at.1) (enumerate_from a xs)) ≡ xs
+seen_again s [] a = refl
+seen_again s (x ∷ xs) a = grind (arith, common_steps, seen_again s xs (a + 1))
+
+-- ## The state
+
+module _ (w : Switch) (s : State) (in_range : IsInRange s) (shape : HasShape w s) (sound : IsSound w s)
+    (traffic : IsTraffic (length w.machines) w.classes w.came) where
+  abbrev cell_of : Named → Option Queued
+  cell_of c = queued_of w.came c
+
+  arrives : (c : Named) → Has (named_in s) c → (cell : Cell) × (arriving_cell w.came c ≡ Some cell)
+  arrives c has = some_cell (arriving_cell w.came c) (comes w s in_range shape sound traffic c has).1
+
+  sent_again : map sent_as (sent_told w.came s) ≡ s.sent
+  sent_again = told_again (departure_of w.came) sent_as s.sent (λ d has.
+      let some = arrives d.cell (has_right _ _ d.cell (has_image (λ (e : Sent). e.cell) s.sent d has)) in
+      grind (arith, common_steps))
+
+  -- the cells that wait
+  waiting_again : (xs : List Named) → ((c : Named) → Has xs c → Has (named_in s) c) →
+      map named_as (filter_map cell_of xs) ≡ xs
+  waiting_again xs named = told_again cell_of named_as xs
+      (λ c has. let some = arrives c (named c has) in grind (arith, common_steps))
+
+  -- those of an input are the cells of its names
+  sifted : (i : ℕ) (xs : List Named) → filter_map cell_of (filter (λ (c : Named). c.input == i) xs)
+      ≡ filter (λ (q : Queued). q.key.input == i) (filter_map cell_of xs)
+  sifted i [] = refl
+  sifted i (c ∷ xs) = grind (arith, common_steps, sifted i xs)
+
+  inputs_rise : EachPair (λ q r. q.key.input ≤ r.key.input) (filter_map cell_of s.listed)
+  inputs_rise = pairs_looked_up cell_of (λ c d. c.input ≤ d.input) (λ q r. q.key.input ≤ r.key.input)
+      (search (arith, rules, its_input)) s.listed (each_pair (λ c d. c.input ≤ d.input) s.listed sound.order.lists)
+
+  inputs_low : AllByRecursion (λ q. q.key.input < s.head.ports) (filter_map cell_of s.listed)
+  inputs_low = all_from_has (λ q. q.key.input < s.head.ports) (filter_map cell_of s.listed) (λ q has.
+      let it = looked_up cell_of s.listed q has in
+      let own = all_of_has (IsNamed s.head.ports) s.listed it.origin in_range.listed it.has in
+      search (arith, rules, its_input))
+
+  lists_again : map named_as (flat_map (λ l. l) (map (list_told w.came s) (range_with_len 0 s.head.ports))) ≡ s.listed
+  lists_again = rw (end_on_end (λ q. q.key.input) (list_told w.came s) (filter_map cell_of s.listed) s.head.ports
+      (λ i. sifted i s.listed) inputs_rise inputs_low)
+      (waiting_again s.listed (search (rules, has_left)))
+
+  outputs_rise : EachPair (λ q r. q.cell.output ≤ r.cell.output) (filter_map cell_of s.buffered)
+  outputs_rise = pairs_looked_up cell_of (IsBufferedBefore w.came) (λ q r. q.cell.output ≤ r.cell.output)
+      (search (arith, rules, its_output)) s.buffered
+      (each_pair (IsBufferedBefore w.came) s.buffered sound.order.buffers)
+
+  outputs_low : AllByRecursion (λ q. q.cell.output < s.head.ports) (filter_map cell_of s.buffered)
+  outputs_low = all_from_has (λ q. q.cell.output < s.head.ports) (filter_map cell_of s.buffered) (λ q has.
+      let it = looked_up cell_of s.buffered q has in
+      search (arith, rules, shape.head.ports, of_traffic w s in_range shape sound traffic it.origin q it.is))
+
+  buffers_again : map named_as (flat_map (λ l. l) (map (buffer_told w.came s) (range_with_len 0 s.head.ports)))
+      ≡ s.buffered
+  buffers_again = rw (end_on_end (λ q. q.cell.output) (buffer_told w.came s) (filter_map cell_of s.buffered)
+      s.head.ports (λ j. refl) outputs_rise outputs_low)
+      (waiting_again s.buffered (search (rules, has_left, has_right)))
+
+  pub state_again : state_of (frozen_told w s) (sent_told w.came s) s.moved w.first_stamp w.classes (length w.came) ≡ s
+  unfolding state_of frozen_told fabric_told figures_told
+  state_again =
+      let head = shape.head in
+      grind (arith, common_steps, lists_again, buffers_again, sent_again, seen_again, length-map-range_with_len)
+
+-- ## The text
+
+pub text_again : (t : Tables) (c : Scheduled) (text : List ℕ) (x : Taken) → AreTables t → IsScheduleOf t c →
+    IsRead (switch_of t c) text x → text_of_taken (switch_of t c) x ≡ text
+text_again t c text x tables is read =
+    let many = length-map t.setup.kinds (λ kind. machine_of kind t.setup.classes) in
+    let same = state_again (switch_of t c) read.state read.in_range read.shape read.sound
+    (rw many (schedule_known t c tables is).traffic) in
+    let told = read.told in
+    let spelled = read.spelled in
+    cc
