@@ -10,6 +10,7 @@ pub mod Lasting
 pub mod MemFiles
 pub mod MemSpace
 pub mod MemTaken
+pub mod Pieces
 pub mod Space
 pub mod Taken
 pub mod Whole

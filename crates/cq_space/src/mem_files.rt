@@ -71,7 +71,8 @@ impl MemFiles {
     /// else is as before; after `NoMemory` everything is.
     pub fn set(&mut self, name: &str, bytes: &[u8]) -> Result<(), NoMemory>
         requires { self.old.mode ≡ Closed }
-        ensures ok { OnOk result (self.new ≡ record self.old { contents = insert self.old.contents name.now bytes.now }) }
+        ensures ok { OnOk result (self.new ≡ record self.old
+            { contents = insert self.old.contents name.now bytes.now }) }
         ensures err { OnErr result (self.new ≡ self.old) }
     {
         let bytes = bytes.to_vec(self.alloc)?;
@@ -82,7 +83,8 @@ impl MemFiles {
 
     /// The bytes of the name, and `None` exactly where there is no such name.
     pub fn bytes(&self, name: &str) -> Option<&[u8]>
-        ensures { MatchOption result (get self.now.contents name.now ≡ None) (λ bytes. get self.now.contents name.now ≡ Some bytes.now) }
+        ensures { MatchOption result (get self.now.contents name.now ≡ None)
+            (λ bytes. get self.now.contents name.now ≡ Some bytes.now) }
     {
         match find(&self.entries, name) {
             Some(at) => match &self.entries[at].bytes {
@@ -109,7 +111,8 @@ impl MemFiles {
     /// fails. It counts as the cut of [`MemFiles::fail_read`] does. After `NoMemory` everything is as
     /// before.
     pub fn fail_write(&mut self, name: &str, after: u64) -> Result<(), NoMemory>
-        ensures ok { OnOk result (self.new ≡ record self.old { write_cuts = insert self.old.write_cuts name.now after }) }
+        ensures ok { OnOk result (self.new ≡ record self.old
+            { write_cuts = insert self.old.write_cuts name.now after }) }
         ensures err { OnErr result (self.new ≡ self.old) }
     {
         let at = place_of(self.alloc, &mut self.entries, name)?;
@@ -120,7 +123,8 @@ impl MemFiles {
     /// Sets the call of this number to fail. All calls of [`Files`] but `end_read` are numbered, from 0 on
     /// and from the first that was ever made. After `NoMemory` everything is as before.
     pub fn fail_call(&mut self, call: u64) -> Result<(), NoMemory>
-        ensures ok { OnOk result (self.new ≡ record self.old { calls = record self.old.calls { failing = self.old.calls.failing ++ call ∷ [] } }) }
+        ensures ok { OnOk result (self.new ≡ record self.old
+            { calls = record self.old.calls { failing = self.old.calls.failing ++ call ∷ [] } }) }
         ensures err { OnErr result (self.new ≡ self.old) }
     {
         self.calls.fail(call)
@@ -153,7 +157,11 @@ impl MemFiles {
     fn starve(&mut self) -> Failed
         ensures later { self.old.faults ≤ self.new.faults }
         ensures starved { self.old.starved ≤ self.new.starved }
-        ensures closed { self.new ≡ record self.old { mode = Closed; faults = min (self.old.faults + 1) (2 ^ 64 - 1); starved = min (self.old.starved + 1) (2 ^ 64 - 1) } }
+        ensures closed { self.new ≡ record self.old {
+          mode = Closed;
+          faults = min (self.old.faults + 1) (2 ^ 64 - 1);
+          starved = min (self.old.starved + 1) (2 ^ 64 - 1);
+        } }
     {
         raise(&mut self.starved);
         self.fault()

@@ -1,6 +1,7 @@
 // Whole reads and writes over any file space, and whole puts into any sink.
-ghost use Rattle.std.specs.Prelude.{◌≡◌, ◌≤◌, ◌^◌, OnErr, IsErrOf};
+ghost use Rattle.std.specs.Prelude.{◌≡◌, ◌≤◌, ◌+◌, ◌^◌, ℕ, OnErr, IfOk, IsErrOf};
 ghost use Rattle.cq_space.specs.Failing.{Fails, FailsTaking, Reads, Writes};
+ghost use Rattle.cq_space.specs.Pieces.{TakesAll, TakesSoMany};
 ghost use Rattle.cq_space.specs.Space.{Closed};
 ghost use Rattle.cq_space.specs.Whole.{ReadsWhole, WritesWhole, PutsAll};
 
@@ -36,6 +37,9 @@ pub struct WriteFault;
 /// call, by a call that reads this name, and with every other answer the count is as before; `Long` only
 /// where the name has more than `limit` bytes, of which `limit + 1` were taken. After every answer the
 /// mode is closed, and contents are as before.
+///
+/// Also where no contents are told, the bytes of `Ok` are those that the reads of this name gave, one
+/// after another, until one gave none; and `Long` comes only where they gave `limit + 1` in all.
 pub fn read_whole<F: Files>(
     alloc: Global,
     files: &mut F,
@@ -45,7 +49,14 @@ pub fn read_whole<F: Files>(
     requires closed { (F.space files.old).mode ≡ Closed }
     requires limit { limit ≤ 2 ^ 28 }
     ensures whole { ReadsWhole (F.space files.old) (F.space files.new) name.now limit result }
-    ensures why { IsErrOf result ReadRefusal.Fault → Fails F.space F.may_fail F.keeps (Reads name.now) files.old files.new }
+    ensures why { IsErrOf result ReadRefusal.Fault → Fails F.space F.may_fail F.keeps
+        (Reads name.now) files.old files.new }
+    ensures taken { (n : ℕ) → IsErrOf result (ReadRefusal.Long n) →
+        TakesSoMany F.space F.may_fail F.may_pass F.may_move F.counts F.leaves F.keeps
+        name.now (limit + 1) files.old files.new }
+    ensures all { IfOk result (λ v.
+        TakesAll F.space F.may_fail F.may_pass F.may_move F.counts F.leaves F.keeps
+        name.now v.items files.old files.new) }
     ensures kept { F.keeps files.old files.new }
 {
     match files.start_read(name) {
@@ -108,7 +119,8 @@ pub fn write_whole<F: Files>(files: &mut F, name: &str, bytes: &[u8]) -> Result<
 /// After `Ok` they were appended to what the sink has taken. After a fault, which comes only where the
 /// count of faults rose in this call, a prefix of them was.
 pub fn put_all<S: Sink>(sink: &mut S, bytes: &[u8]) -> Result<(), WriteFault>
-    ensures all { PutsAll (S.taken sink.old) (S.taken sink.new) (S.faults sink.old) (S.faults sink.new) bytes.now result }
+    ensures all { PutsAll (S.taken sink.old) (S.taken sink.new) (S.faults sink.old)
+        (S.faults sink.new) bytes.now result }
     ensures why { OnErr result (FailsTaking S.taken S.faults S.may_fail S.keeps sink.old sink.new) }
     ensures kept { S.keeps sink.old sink.new }
 {

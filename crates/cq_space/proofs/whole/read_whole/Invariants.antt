@@ -1,5 +1,6 @@
 use Rattle.cq_space.proofs.Terms.{◌+◌, ◌-◌, ◌≡◌, ◌≤◌, vec_len, read_name}
 use Rattle.cq_space.proofs.Replaced.{HasRead}
+use Rattle.cq_space.specs.Pieces.{HasTaken}
 use Rattle.cq_space.proofs.whole.read_whole.Given as goal
 
 abbrev pub invariant-pieces : goal.invariant-pieces
@@ -13,6 +14,8 @@ invariant-pieces g l =
       told : now.told ≡ start.told;
       uncounted : now.faults ≡ start.faults;
       kept : g.F.Files.keeps l.fn.files l.files;
+      taken : HasTaken g.F.Files.space g.F.Files.may_fail g.F.Files.may_pass g.F.Files.may_move g.F.Files.counts
+          g.F.Files.leaves g.F.Files.keeps l.name l.fn.files l.bytes.items l.files;
     }
 
 abbrev pub decreases-pieces : goal.decreases-pieces
