@@ -39,7 +39,7 @@ pub record AreOwn (ports classes : ℕ) (f : Fabric) : Type 0 where
   pub listed : (i : ℕ) (c : Queued) → IsAmong c (input f i) →
       (c.cell.id.input ≡ i) × (c.key.input ≡ i) × (c.cell.class < classes)
   pub buffered : (j : ℕ) (c : Queued) → IsAmong c (buffer f j) →
-      (c.cell.id.input < ports) × (c.key.input ≡ c.cell.id.input) × (c.cell.class < classes)
+      (c.cell.id.input < ports) × (c.cell.class < classes)
 
 -- there is one of each for each of so many ports
 pub record HasPorts (ports : ℕ) (x : Frozen) : Type 0 where
