@@ -33,7 +33,6 @@ const IPV6: u16 = 0x86dd;
 
 /// Finds the fields of a frame. It may be any bytes: a field has to stand in it whole, and where the
 /// frame ends before, the field is `None`.
-#[tactic(auto, using(crate::proofs::Dropped::same_code_point, crate::proofs::Dropped::same_number, crate::proofs::Dropped::same_priority), unfolding(crate::specs::Frame::destination, crate::specs::Frame::priority, crate::specs::Frame::ether_type, crate::specs::Frame::code_point))]
 pub fn parts(bytes: &[u8]) -> FrameParts
     ensures dest { result.dest ≡ destination bytes.now }
     ensures pcp { result.pcp ≡ priority bytes.now }
