@@ -11,5 +11,5 @@ mod meeting;
 
 pub use cells::{arrive, list_of, waiting};
 pub use draws::Draws;
-pub use forms::FORMS;
+pub use forms::{BIG_MICROSECONDS, BIG_NANOSECONDS, FORMS, MICROSECONDS, NANOSECONDS};
 pub use meeting::Meeting;

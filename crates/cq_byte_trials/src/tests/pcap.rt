@@ -5,33 +5,9 @@ use cq_base::{NoMemory, Sequence};
 use cq_pcap::{
     Capture, Form, OutPacket, PacketRow, PcapRefusal, capture_bytes, form_of, read_capture, row_at,
 };
+use cq_trial_kit::{BIG_MICROSECONDS, BIG_NANOSECONDS, FORMS, MICROSECONDS, NANOSECONDS};
 use std::alloc::Global;
 use std::test::Fail;
-
-// One packet at 7 seconds and 250 microseconds, of the bytes ab cd, little-endian with microseconds.
-const MICROSECONDS: [u8; 42] = [
-    0xd4, 0xc3, 0xb2, 0xa1, 2, 0, 4, 0, 0, 0, 0, 0, 0, 0, 0, 0, 0, 0, 4, 0, 1, 0, 0, 0, //
-    7, 0, 0, 0, 0xfa, 0, 0, 0, 2, 0, 0, 0, 2, 0, 0, 0, 0xab, 0xcd,
-];
-
-// The same packet, little-endian with nanoseconds.
-const NANOSECONDS: [u8; 42] = [
-    0x4d, 0x3c, 0xb2, 0xa1, 2, 0, 4, 0, 0, 0, 0, 0, 0, 0, 0, 0, 0, 0, 4, 0, 1, 0, 0, 0, //
-    7, 0, 0, 0, 0x90, 0xd0, 3, 0, 2, 0, 0, 0, 2, 0, 0, 0, 0xab, 0xcd,
-];
-
-// The same packet, big-endian.
-const BIG_MICROSECONDS: [u8; 42] = [
-    0xa1, 0xb2, 0xc3, 0xd4, 0, 2, 0, 4, 0, 0, 0, 0, 0, 0, 0, 0, 0, 4, 0, 0, 0, 0, 0, 1, //
-    0, 0, 0, 7, 0, 0, 0, 0xfa, 0, 0, 0, 2, 0, 0, 0, 2, 0xab, 0xcd,
-];
-
-const BIG_NANOSECONDS: [u8; 42] = [
-    0xa1, 0xb2, 0x3c, 0x4d, 0, 2, 0, 4, 0, 0, 0, 0, 0, 0, 0, 0, 0, 4, 0, 0, 0, 0, 0, 1, //
-    0, 0, 0, 7, 0, 3, 0xd0, 0x90, 0, 0, 0, 2, 0, 0, 0, 2, 0xab, 0xcd,
-];
-
-const FORMS: [[u8; 42]; 4] = [MICROSECONDS, NANOSECONDS, BIG_MICROSECONDS, BIG_NANOSECONDS];
 
 // The row of that packet.
 const PACKET: PacketRow = PacketRow {
