@@ -1,7 +1,7 @@
 //! The departures of a run.
 //!
-//! A slot sends into a [`Room`] of few places, and what it sent is then taken over by the departures of the run, which are
-//! packed.
+//! A slot sends into a [`Room`] of few places, and what it sent is then taken over by the departures of the run,
+//! which are packed.
 ghost use Rattle.std.specs.Prelude.{◌≡◌, ◌+◌, ◌≤◌, ◌++◌, [], IfOk, length, map};
 ghost use Rattle.cq_base.specs.Packed.{unpacked};
 
@@ -49,8 +49,8 @@ impl Departures {
         })
     }
 
-    /// Takes all departures over from a list, which is empty then. They stand behind the others, in their order. It takes
-    /// room for them and no memory.
+    /// Takes all departures over from a list, which is empty then. They stand behind the others, in their order. It
+    /// takes room for them and no memory.
     pub fn take_all(&mut self, sent: &mut Room<Departure>)
         requires { length sent.old.items ≤ self.old.spare }
         ensures items { self.new.items ≡ self.old.items ++ sent.old.items }

@@ -1,8 +1,8 @@
 //! A departure without waste.
 //!
-//! A run keeps all its departures until what leaves is built, and there may be many millions of them. Between the parts of a
-//! departure, of its cell and of its key stand bytes that say nothing, as each part begins at a multiple of its widest
-//! field. So what is kept has the fields of all parts side by side, the widest first.
+//! A run keeps all its departures until what leaves is built, and there may be many millions of them. Between the
+//! parts of a departure, of its cell and of its key stand bytes that say nothing, as each part begins at a multiple
+//! of its widest field. So what is kept has the fields of all parts side by side, the widest first.
 ghost use Rattle.std.specs.Prelude.{◌≡◌};
 ghost use Rattle.cq_base.specs.Packed.{unpacked};
 

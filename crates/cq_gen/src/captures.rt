@@ -45,7 +45,8 @@ pub fn captures_of(
     requires ports { IsInRange 1 64 ports }
     requires slots { slots ≤ 20000 }
     requires words { length words.now ≡ slots * ports }
-    ensures { IfOk result (λ captures. captures.items ≡ map (packets_to words.now ports slots) (range_with_len 0 ports)) }
+    ensures { IfOk result (λ captures. captures.items ≡ map (packets_to words.now ports slots)
+        (range_with_len 0 ports)) }
 {
     let mut captures = Vec::with_capacity(alloc, ports as usize)?;
     'inputs: for input in 0..ports {

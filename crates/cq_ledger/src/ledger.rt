@@ -37,7 +37,8 @@ impl Model for Ledger {
 
     ghost view = { λ a. record { table = a.table.shared.table_id; offers = a.offers } };
 
-    ghost invariant = { λ a. (a.table.shared.key ≡ a.offers) × (a.table.shared.table_id.slots ≡ 0) × (a.table.shared.table_id.words ≡ suc (ports a.offers)) };
+    ghost invariant = { λ a. (a.table.shared.key ≡ a.offers) × (a.table.shared.table_id.slots ≡ 0)
+        × (a.table.shared.table_id.words ≡ suc (ports a.offers)) };
 }
 
 impl Ledger {
@@ -96,7 +97,8 @@ impl Ledger {
         requires seat { IsSeatOf self.now seat.old }
         requires hand { IsSome seat.old.view.hand }
         ensures seat { IsSeatOf self.now seat.new }
-        ensures proposed { (i p : ℕ) → seat.old.view.hand ≡ Some (i, p) → IsProposed seat.old.view i p result seat.new.view }
+        ensures proposed { (i p : ℕ) → seat.old.view.hand ≡ Some (i, p)
+            → IsProposed seat.old.view i p result seat.new.view }
         ensures made { seat.new.view.made ≡ seat.old.view.made + 1 }
         ensures few { IsFew seat.new.view }
         ensures told { seat.new.view.told ≡ option_map (λ h. (h.0, result)) seat.old.view.hand }

@@ -15,7 +15,8 @@ pub(crate) fn read_matching(offers: &Offers, closed: &Closed<(), Global>) -> Mat
     requires full { IsFull closed.now.words }
     requires count { slots_len closed.now.words ≡ suc (ports offers.now) }
     requires shown { (s : State) × IsSound offers.now s × Shows offers.now (slots_items closed.now.words) s }
-    ensures { (s : State) → IsSound offers.now s → Shows offers.now (slots_items closed.now.words) s → result ≡ matching_of offers.now s }
+    ensures { (s : State) → IsSound offers.now s → Shows offers.now (slots_items closed.now.words) s → result
+        ≡ matching_of offers.now s }
 {
     let ports = offers.ports();
     let mut matching = Matching::none(ports);

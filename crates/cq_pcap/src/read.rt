@@ -96,7 +96,8 @@ fn header_of(bytes: &[u8]) -> Result<Form, PcapRefusal>
 fn row_of(form: Form, bytes: &[u8], place: usize) -> Result<PacketRow, PcapRefusal>
     requires { place + length bytes.now ≤ 2 ^ 28 }
     ensures row { IfOk result (λ row. IsRowOf form bytes.now place row) }
-    ensures fault { IfErr result (λ refusal. option_map Err (fault_of refusal) ≡ Some (first_packet form place bytes.now)) }
+    ensures fault { IfErr result (λ refusal. option_map Err (fault_of refusal)
+        ≡ Some (first_packet form place bytes.now)) }
 {
     let offset = place as u64;
     if bytes.len() < RECORD_HEADER {

@@ -88,8 +88,8 @@ impl Offers {
     /// The offers of lists in which only the cells of the inputs for their partners have changed: with these pairs
     /// taken out of all orders, the offers are those of the lists.
     ///
-    /// Each input that has a partner moves in the order of this partner, and the partner in that of the input. All other
-    /// orders are left as they are. It takes no memory.
+    /// Each input that has a partner moves in the order of this partner, and the partner in that of the input. All
+    /// other orders are left as they are. It takes no memory.
     pub fn renew(&mut self, lists: &[InputList], changed: &Matching)
         requires lists { length lists.now ≡ ports self.old }
         requires outputs { All (λ list. list.outputs ≡ ports self.old) lists.now }
@@ -108,14 +108,15 @@ impl Offers {
         }
     }
 
-    /// The same where only the cells of one input for one output have changed. Their two orders are all that is looked at,
-    /// however many ports there are.
+    /// The same where only the cells of one input for one output have changed. Their two orders are all that is
+    /// looked at, however many ports there are.
     pub fn renew_pair(&mut self, lists: &[InputList], input: Port, output: Port)
         requires lists { length lists.now ≡ ports self.old }
         requires keys { FirstKeysDiffer (cells_of lists.now) }
         requires input { input < length lists.now }
         requires output { output < length lists.now }
-        requires others { AreSameWithout (with_pair (replicate (length lists.now) None) input output) self.old (orders_of (cells_of lists.now)) }
+        requires others { AreSameWithout (with_pair (replicate (length lists.now) None) input output) self.old
+            (orders_of (cells_of lists.now)) }
         ensures orders { self.new ≡ orders_of (cells_of lists.now) }
         ensures first_cells { AreOrdersOf (cells_of lists.now) self.new }
     {

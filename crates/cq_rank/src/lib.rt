@@ -2,7 +2,8 @@
 //!
 //! The level of a cell's class is the first part of its key and its rank the second, and the lesser key is the more
 //! urgent. The level is the same at every output, so the discipline of an output is its ranks: `Rank` is the trait of
-//! what gives them, and contracts see each as a machine over a list of numbers, whose laws hold whatever the discipline.
+//! what gives them, and contracts see each as a machine over a list of numbers, whose laws hold whatever the
+//! discipline.
 #![tactic(auto)]
 
 mod classes;

@@ -25,8 +25,8 @@ pub trait Rank: Drop {
         ensures classes { result ≡ (machine (fixed self.now)).classes }
         ensures sized { length (state self.now) ≡ (machine (fixed self.now)).size };
 
-    /// The level of a cell of the class, which is below 16. It comes before the rank: at every output a cell of a lesser
-    /// level is the more urgent.
+    /// The level of a cell of the class, which is below 16. It comes before the rank: at every output a cell of a
+    /// lesser level is the more urgent.
     fn level(&self, class: Class) -> u8
         requires { class < (machine (fixed self.now)).classes }
         ensures level { result ≡ (machine (fixed self.now)).level class }

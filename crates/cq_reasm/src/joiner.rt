@@ -71,8 +71,8 @@ impl Joiner {
         self.take_reserving(cell, piece, piece.len())
     }
 
-    /// Does what [`take`](Joiner::take) does. A packet that is opened gets memory for so many bytes at once: where that is
-    /// its length it never moves while it grows, and has no more than it fills.
+    /// Does what [`take`](Joiner::take) does. A packet that is opened gets memory for so many bytes at once: where
+    /// that is its length it never moves while it grows, and has no more than it fills.
     pub fn take_reserving(
         &mut self,
         cell: &Cell,

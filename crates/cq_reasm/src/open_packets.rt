@@ -67,7 +67,8 @@ impl OpenPackets {
     ) -> Result<(), NoMemory>
         requires place { place < length self.old }
         requires next { cells_taken (slice_index_or self.old place None) ≡ index }
-        ensures added { OnOk result (self.new ≡ slice_set self.old place (Some (with_piece (slice_index_or self.old place None) number piece.now))) }
+        ensures added { OnOk result (self.new ≡ slice_set self.old place
+            (Some (with_piece (slice_index_or self.old place None) number piece.now))) }
         ensures as_before { OnErr result (self.new ≡ self.old) }
     {
         match self.keys[place] {
@@ -83,7 +84,8 @@ impl OpenPackets {
     // Closes the packet that is open at the place, and gives its bytes.
     pub fn close(&mut self, place: usize) -> Option<Vec<u8>>
         requires { place < length self.old }
-        ensures bytes { option_map (λ v. v.items) result ≡ option_map (λ o. o.body) (slice_index_or self.old place None) }
+        ensures bytes { option_map (λ v. v.items) result ≡ option_map (λ o. o.body)
+            (slice_index_or self.old place None) }
         ensures closed { self.new ≡ slice_set self.old place None }
     {
         let key = self.keys[place]?;
@@ -102,7 +104,8 @@ fn grow(
     requires next { cells_taken (packet_under packets.old (Some key)) ≡ index }
     ensures present { ContainsKey packets.old key → ContainsKey packets.new key }
     ensures others { (other : ℕ) → other ≢ key → get packets.new other ≡ get packets.old other }
-    ensures grown { OnOk result (packet_under packets.new (Some key) ≡ option_map (grown piece.now) (packet_under packets.old (Some key))) }
+    ensures grown { OnOk result (packet_under packets.new (Some key)
+        ≡ option_map (grown piece.now) (packet_under packets.old (Some key))) }
     ensures as_before { OnErr result (packet_under packets.new (Some key) ≡ packet_under packets.old (Some key)) }
 {
     if let Some(packet) = packets.get_mut(key) {
@@ -122,7 +125,8 @@ fn start(
 ) -> Result<usize, NoMemory>
     ensures vacant { IfOk result (λ key. get packets.old key ≡ None) }
     ensures others { IfOk result (λ key. (other : ℕ) → other ≢ key → get packets.new other ≡ get packets.old other) }
-    ensures started { IfOk result (λ key. packet_under packets.new (Some key) ≡ Some (with_piece None number piece.now)) }
+    ensures started { IfOk result (λ key. packet_under packets.new (Some key)
+        ≡ Some (with_piece None number piece.now)) }
     ensures as_before { OnErr result ((key : ℕ) → get packets.new key ≡ get packets.old key) }
 {
     let mut body = Vec::with_capacity(alloc, room.max(piece.len()))?;

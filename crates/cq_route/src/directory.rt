@@ -13,8 +13,8 @@ use cq_frame::parts;
 use std::alloc::Global;
 use std::collections::BTreeMap;
 
-/// The outputs of the addresses that the rows of tables speak of, in the order of the addresses. It is made once for many
-/// packets: each looks its address up in a few steps, and does not go through the rows.
+/// The outputs of the addresses that the rows of tables speak of, in the order of the addresses. It is made once for
+/// many packets: each looks its address up in a few steps, and does not go through the rows.
 #[derive(Drop)]
 pub struct Directory {
     // By the number of the address.
@@ -72,7 +72,8 @@ impl Directory {
 
 // The address of this number goes to the output, where it was not known before.
 fn learn(outputs: &mut BTreeMap<u64, Port>, number: u64, output: Port) -> Result<(), NoMemory>
-    ensures { OnOk result ((q : ℕ) → get nat_cmp outputs.new q ≡ option_or (get nat_cmp outputs.old q) (some_if (number == q) output)) }
+    ensures { OnOk result ((q : ℕ) → get nat_cmp outputs.new q
+        ≡ option_or (get nat_cmp outputs.old q) (some_if (number == q) output)) }
 {
     if !outputs.contains_key(&number) {
         outputs.insert(number, output)?;

@@ -72,9 +72,9 @@ pub struct Tables {
 }
 
 impl Tables {
-    /// The tables of a switch of one port that reads one file and writes the other, with every default:
-    /// cells of 64 bytes, slots of 512 nanoseconds, captures of at most 67,108,864 bytes, one worker, one
-    /// class, which is of level 0 and priority 0 and costs 1, and an output without a limit that sends in the order of arrival. No
+    /// The tables of a switch of one port that reads one file and writes the other, with every default: cells of 64
+    /// bytes, slots of 512 nanoseconds, captures of at most 67,108,864 bytes, one worker, one class, which is of
+    /// level 0 and priority 0 and costs 1, and an output without a limit that sends in the order of arrival. No
     /// address and no rule is known, and no trace and no log is named. The error is want of memory.
     #[tactic(auto, unfolding(crate::specs::Plain::plain_tables))]
     pub fn plain(alloc: Global, read: &str, write: &str) -> Result<Tables, NoMemory>

@@ -28,8 +28,10 @@ impl Discipline {
         requires { AreClasses setup.now.classes }
         ensures machines { IfOk result (λ all. map machine_from (map fixed_of all.items) ≡ machines_of setup.now) }
         ensures states { IfOk result (λ all. map state_of all.items ≡ openings_of setup.now) }
-        ensures classes { OnOk result (0 < length setup.now.kinds → class_count (machines_of setup.now) ≡ length setup.now.classes) }
-        ensures one_switch { OnOk result (0 < length setup.now.kinds → length setup.now.kinds ≤ 64 → AreForOneSwitch (machines_of setup.now)) }
+        ensures classes { OnOk result (0 < length setup.now.kinds → class_count (machines_of setup.now)
+            ≡ length setup.now.classes) }
+        ensures one_switch { OnOk result (0 < length setup.now.kinds → length setup.now.kinds ≤ 64
+            → AreForOneSwitch (machines_of setup.now)) }
     {
         let mut all = Vec::new(alloc);
         'kinds: for kind in setup.kinds.as_slice() {

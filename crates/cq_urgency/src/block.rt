@@ -60,9 +60,9 @@ fn move_front(cells: &mut [Queued; 64], head: usize)
     cells.copy_within(head..64, 0);
 }
 
-// A cell goes into the piece of so many cells from the head on, and the answer is where the piece begins now. The cells
-// behind it move. Where the array ends behind the piece, all of it moves to the front first, once for all cells that find
-// room behind it then.
+// A cell goes into the piece of so many cells from the head on, and the answer is where the piece begins now. The
+// cells behind it move. Where the array ends behind the piece, all of it moves to the front first, once for all cells
+// that find room behind it then.
 fn put_inside(
     cells: &mut [Queued; 64],
     head: usize,

@@ -87,7 +87,8 @@ fn spot_at_end(blocks: &Blocks, key: Key) -> Option<Spot>
     requires rising { IsRising (flattened blocks.now.blocks) }
     requires filled { AreFilled blocks.now.blocks }
     requires some { 0 < length blocks.now.blocks }
-    ensures { IfSome result (λ spot. IsSpot blocks.now.blocks (cushion key (flattened blocks.now.blocks)) spot.block spot.within) }
+    ensures { IfSome result (λ spot. IsSpot blocks.now.blocks
+        (cushion key (flattened blocks.now.blocks)) spot.block spot.within) }
 {
     let last = blocks.len() - 1;
     let end = blocks.block(last);

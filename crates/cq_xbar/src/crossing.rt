@@ -27,11 +27,13 @@ pub fn transfer(
     requires keys { KeysAreNew matching.now (cells_of lists.old) (cells_in buffers.old) }
     requires room { HaveRoom matching.now buffers.old }
     requires note { length matching.now ≤ note.old.spare }
-    ensures moves { Moves matching.now (cells_of lists.old) (cells_in buffers.old) (cells_of lists.new) (cells_in buffers.new) }
+    ensures moves { Moves matching.now (cells_of lists.old) (cells_in buffers.old) (cells_of lists.new)
+        (cells_in buffers.new) }
     ensures room { MovesRoom matching.now lists.old buffers.old lists.new buffers.new }
     ensures outputs { map (λ list. list.outputs) lists.new ≡ map (λ list. list.outputs) lists.old }
     ensures note { note.new.items ≡ note.old.items ++ transfers_of matching.now (cells_of lists.old) slot phase }
-    ensures note_room { note.new.spare + length (transfers_of matching.now (cells_of lists.old) slot phase) ≡ note.old.spare }
+    ensures note_room { note.new.spare + length (transfers_of matching.now (cells_of lists.old) slot phase)
+        ≡ note.old.spare }
 {
     for input in 0..matching.ports() {
         if let Some(output) = matching.partner_of(input) {
