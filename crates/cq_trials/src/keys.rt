@@ -31,8 +31,8 @@ pub const DEAREST: Keys = Keys {
     ..DEFAULTS
 };
 
-/// The configuration of a switch with so many workers, whose input i reads `in<i>.pcap` and whose output
-/// i, with the address that ends in i, writes `out<i>.pcap`.
+/// The configuration of a switch of at most ten ports with so many workers, whose input i reads `in<i>.pcap` and
+/// whose output i, with the address that ends in i, writes `out<i>.pcap`.
 pub fn configuration(
     alloc: Global,
     ports: usize,

@@ -241,19 +241,29 @@ fn a_rank_of_2_to_the_128_is_told(rt: HostRuntime) -> Result<(), Fail> {
     Ok(())
 }
 
-fn is_cut<R: Threads + Sync>(rt: &R, alloc: Global, command: &str) -> Result<bool, NoMemory> {
+/// How many bytes of its line standard error takes.
+const ROOMS: [usize; 2] = [100, 3];
+
+fn is_cut<R: Threads + Sync>(
+    rt: &R,
+    alloc: Global,
+    command: &str,
+    room: usize,
+) -> Result<bool, NoMemory> {
     let output = capture_of(alloc, &[(0, 0, 0, 60), (0, 512, 0, 60)])?;
     let mut disk = TWO_FOR_ONE.disk(alloc, 1)?;
     disk.set("log.txt", b"kept")?;
     disk.fail_write("out1.pcap", 10)?;
-    let ended = answer(rt, alloc, &[command, "c.toml"], &mut disk)?;
+    let rooms = (u64::MAX, room as u64);
+    let ended = watched(rt, alloc, &[command, "c.toml"], &mut disk, rooms, &OpenGate)?;
     let wanted: [(&str, &[u8]); 3] = [
         ("out0.pcap", &output),
         ("out1.pcap", &NANOSECONDS[..10]),
         ("log.txt", b"kept"),
     ];
     let is_left = disk.holds_all(&wanted) && disk.lacks(&["trace.txt"]);
-    Ok(ended.is_refused(6, "write fault: out1.pcap\n") && is_left)
+    let is_told = ended.code == 6 && ended.has_said("write fault: out1.pcap\n", room);
+    Ok(is_told && ended.out().is_empty() && is_left)
 }
 
 #[test]
@@ -261,22 +271,22 @@ fn a_capture_that_cannot_be_written_leaves_those_before_it_whole(
     rt: HostRuntime,
 ) -> Result<(), Fail> {
     for command in RUNNING {
-        assert!(rt; is_cut(&rt, rt.alloc(), command)?, "{command}");
+        for room in ROOMS {
+            assert!(rt; is_cut(&rt, rt.alloc(), command, room)?, "{command}");
+        }
     }
     Ok(())
 }
 
-fn is_whole_but_for_out<R: Threads + Sync>(rt: &R, alloc: Global) -> Result<bool, NoMemory> {
+fn is_whole_but_for_out<R: Threads + Sync>(
+    rt: &R,
+    alloc: Global,
+    room: usize,
+) -> Result<bool, NoMemory> {
     let mut disk = TWO_FOR_ONE.disk(alloc, 1)?;
-    let cut = watched(
-        rt,
-        alloc,
-        &["run", "c.toml"],
-        &mut disk,
-        (6, 100),
-        &OpenGate,
-    )?;
-    let is_told = cut.code == 6 && cut.has_said("write fault: -\n", 100);
+    let rooms = (6, room as u64);
+    let cut = watched(rt, alloc, &["run", "c.toml"], &mut disk, rooms, &OpenGate)?;
+    let is_told = cut.code == 6 && cut.has_said("write fault: -\n", room);
     let is_logged = disk.holds("log.txt", TWO_FOR_ONE.log.as_bytes());
     let is_cut = is_told && is_logged && cut.out() == b"slots ".as_slice();
     Ok(is_cut && TWO_FOR_ONE.is_sent(alloc, &disk)?)
@@ -284,6 +294,41 @@ fn is_whole_but_for_out<R: Threads + Sync>(rt: &R, alloc: Global) -> Result<bool
 
 #[test]
 fn standard_output_that_fails_comes_after_whole_files(rt: HostRuntime) -> Result<(), Fail> {
-    assert!(rt; is_whole_but_for_out(&rt, rt.alloc())?);
+    for room in ROOMS {
+        assert!(rt; is_whole_but_for_out(&rt, rt.alloc(), room)?);
+    }
+    Ok(())
+}
+
+/// What a run finds under the name of its configuration, if anything; the code and the line.
+const REFUSED: &[(Option<&str>, u8, &str)] = &[
+    (None, 5, "read fault: c.toml\n"),
+    (Some(SAME_FILE), 2, "configuration: C7 at port[0].write\n"),
+];
+
+fn is_refused_in_short<R: Threads + Sync>(
+    rt: &R,
+    alloc: Global,
+    found: Option<&str>,
+    code: u8,
+    line: &str,
+) -> Result<bool, NoMemory> {
+    let mut disk = Disk::new(alloc);
+    if let Some(text) = found {
+        disk.set("c.toml", text.as_bytes())?;
+    }
+    let rooms = (u64::MAX, 3);
+    let ended = watched(rt, alloc, &["run", "c.toml"], &mut disk, rooms, &OpenGate)?;
+    Ok(ended.code == code && ended.has_said(line, 3) && ended.out().is_empty())
+}
+
+#[test]
+fn a_line_that_is_cut_changes_no_status(rt: HostRuntime) -> Result<(), Fail> {
+    for (found, code, line) in REFUSED {
+        assert!(rt;
+            is_refused_in_short(&rt, rt.alloc(), *found, *code, line)?,
+            "{line}"
+        );
+    }
     Ok(())
 }

@@ -2,8 +2,10 @@
 //!
 //! The same switch is shipped in `examples/office`, and told there.
 use cq_base::NoMemory;
-use cq_trials::{Disk, MICROSECONDS, NANOSECONDS, answer, put_packet};
+use cq_stream::OpenWatch;
+use cq_trials::{Disk, Ended, MICROSECONDS, NANOSECONDS, answer, put_packet, streamed};
 use std::alloc::Global;
+use std::sync::Wait;
 use std::test::Fail;
 use std::thread::Threads;
 
@@ -163,16 +165,56 @@ fn is_sent(alloc: Global, disk: &Disk) -> Result<bool, NoMemory> {
     Ok(disk.holds("trace.txt", TRACE.as_bytes()) && disk.holds("log.txt", LOG.as_bytes()))
 }
 
-fn sends<R: Threads + Sync>(rt: &R, alloc: Global, workers: u8) -> Result<bool, NoMemory> {
+/// Whether a call ended well, told the report, and left all that is written.
+fn is_crossed(alloc: Global, ended: &Ended, disk: &Disk) -> Result<bool, NoMemory> {
+    Ok(ended.is_done(REPORT) && is_sent(alloc, disk)?)
+}
+
+/// Whether the switch with so many workers sends it all, and an audit says yes to what it leaves.
+fn is_audited<R: Threads + Sync>(rt: &R, alloc: Global, workers: u8) -> Result<bool, NoMemory> {
     let mut disk = disk_of(alloc, workers)?;
-    let done = answer(rt, alloc, &["run", "c.toml"], &mut disk)?;
-    Ok(done.is_done(REPORT) && is_sent(alloc, &disk)?)
+    let ended = answer(rt, alloc, &["run", "c.toml"], &mut disk)?;
+    let sends = is_crossed(alloc, &ended, &disk)?;
+    let audited = answer(rt, alloc, &["audit", "c.toml"], &mut disk)?;
+    Ok(sends && audited.is_done("audit yes\n"))
 }
 
 #[test]
 fn an_office_sends_by_urgency_whatever_the_workers(rt: HostRuntime) -> Result<(), Fail> {
     for workers in [1, 2, 64] {
-        assert!(rt; sends(&rt, rt.alloc(), workers)?, "{workers} workers");
+        assert!(rt; is_audited(&rt, rt.alloc(), workers)?, "{workers} workers");
     }
+    Ok(())
+}
+
+/// Whether a run that stops after so many slots and goes on from there sends it all.
+fn goes_on<R: Threads + Sync>(rt: &R, alloc: Global, slots: &str) -> Result<bool, NoMemory> {
+    let mut disk = disk_of(alloc, 1)?;
+    let stopped = answer(rt, alloc, &["part", "c.toml", slots, "s.txt"], &mut disk)?;
+    let ended = answer(rt, alloc, &["resume", "c.toml", "s.txt"], &mut disk)?;
+    Ok(stopped.is_done("") && is_crossed(alloc, &ended, &disk)?)
+}
+
+#[test]
+fn an_office_goes_on_after_a_stop(rt: HostRuntime) -> Result<(), Fail> {
+    for slots in ["0", "1", "2"] {
+        assert!(rt; goes_on(&rt, rt.alloc(), slots)?, "after {slots}");
+    }
+    Ok(())
+}
+
+/// Whether it is all sent too where the captures are read ahead.
+fn streams<R>(rt: R, alloc: Global) -> Result<bool, NoMemory>
+where
+    R: Threads + Wait + Sync + Copy + Send + 'static,
+{
+    let mut disk = disk_of(alloc, 1)?;
+    let ended = streamed(rt, alloc, &["stream", "c.toml"], &mut disk, &OpenWatch)?;
+    is_crossed(alloc, &ended, &disk)
+}
+
+#[test]
+fn an_office_is_the_same_where_captures_are_read_ahead(rt: HostRuntime) -> Result<(), Fail> {
+    assert!(rt; streams(rt, rt.alloc())?);
     Ok(())
 }
