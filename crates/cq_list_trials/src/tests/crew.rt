@@ -2,7 +2,7 @@
 ghost use Rattle.std.specs.Prelude.{◌<◌, ◌≤◌};
 
 use super::opposed::opposed_offers;
-use cq_base::Port;
+use cq_base::{NoMemory, Port};
 use cq_crew::{OpenGate, Settled, pair_phase};
 use cq_pair::{Core, LowestFirst};
 use cq_prefs::{Matching, Offers};
@@ -12,7 +12,7 @@ use std::test::Fail;
 use std::thread::Threads;
 
 // Two inputs, each with an offer to the output of its own number.
-fn offers_apart(alloc: Global) -> Result<Offers, Fail> {
+fn offers_apart(alloc: Global) -> Result<Offers, NoMemory> {
     let lists = [
         list_of(alloc, 0, 2, &[(0, 0)])?,
         list_of(alloc, 1, 2, &[(1, 0)])?,
@@ -23,7 +23,7 @@ fn offers_apart(alloc: Global) -> Result<Offers, Fail> {
 }
 
 // The partners of all inputs, in order of number.
-fn partners(alloc: Global, matching: &Matching) -> Result<Vec<Option<Port>>, Fail> {
+fn partners(alloc: Global, matching: &Matching) -> Result<Vec<Option<Port>>, NoMemory> {
     let mut partners = Vec::new(alloc);
     'inputs: for input in 0..matching.ports() {
         partners.push(matching.partner_of(input))?;
@@ -32,7 +32,7 @@ fn partners(alloc: Global, matching: &Matching) -> Result<Vec<Option<Port>>, Fai
 }
 
 // The outputs from the last to the first.
-fn last_to_first(alloc: Global, ports: u16) -> Result<Vec<Option<Port>>, Fail> {
+fn last_to_first(alloc: Global, ports: u16) -> Result<Vec<Option<Port>>, NoMemory> {
     let mut outputs = Vec::new(alloc);
     'outputs: for output in 0..ports {
         outputs.push(Some(ports - 1 - output))?;
@@ -47,34 +47,32 @@ fn is_shared(settled: &Settled) -> bool {
     }
 }
 
-// Whether workers shared the phase, the partners, and the number of proposals.
-fn settled_by<R: Threads + Sync>(
+// Whether a phase comes to this: whether workers shared it, the partners, and the number of proposals.
+fn settles<R: Threads + Sync>(
     rt: &R,
     alloc: Global,
     offers: &Offers,
     workers: u16,
-) -> Result<(bool, Vec<Option<Port>>, u64), Fail>
+    wanted: (bool, &[Option<Port>], u64),
+) -> Result<bool, NoMemory>
     requires some { 1 ≤ workers }
     requires few { workers ≤ 64 }
 {
     let settled = pair_phase(rt, alloc, offers, workers, &OpenGate);
     let phase = settled.phase();
-    Ok((
-        is_shared(&settled),
-        partners(alloc, &phase.matching)?,
-        phase.proposals,
-    ))
+    let partners = partners(alloc, &phase.matching)?;
+    Ok((is_shared(&settled), partners.as_slice(), phase.proposals) == wanted)
 }
 
 #[test]
 fn any_number_of_workers_comes_to_the_same(rt: HostRuntime) -> Result<(), Fail> {
     for (ports, proposals) in [(2u16, 3u64), (3, 6), (64, 2080)] {
         let offers = opposed_offers(rt.alloc(), ports)?;
+        let outputs = last_to_first(rt.alloc(), ports)?;
         for workers in [1u16, 2, 64] {
-            let settled = settled_by(&rt, rt.alloc(), &offers, workers)?;
-            let outputs = last_to_first(rt.alloc(), ports)?;
+            let wanted = (workers > 1, outputs.as_slice(), proposals);
             assert!(rt;
-                settled == (workers > 1, outputs, proposals),
+                settles(&rt, rt.alloc(), &offers, workers, wanted)?,
                 "{ports} ports, {workers} workers"
             );
         }
@@ -95,52 +93,49 @@ fn one_core_comes_to_the_same(rt: HostRuntime) -> Result<(), Fail> {
 #[test]
 fn without_offers_there_is_nothing_to_share(rt: HostRuntime) -> Result<(), Fail> {
     let offers = Offers::new(rt.alloc(), 3)?;
-    let (shared, partners, proposals) = settled_by(&rt, rt.alloc(), &offers, 64)?;
-    assert!(rt; partners.as_slice() == [None; 3].as_slice());
-    assert!(rt; !shared && proposals == 0);
+    let wanted = (false, [None; 3].as_slice(), 0);
+    assert!(rt; settles(&rt, rt.alloc(), &offers, 64, wanted)?);
     Ok(())
 }
 
-// What two workers or three come to who wait for one another's first claim: the partners, the number of proposals,
-// and how many of them were told to be held.
-fn met<R: Threads + Sync>(
+// Whether the workers met at the gate, and each of them told of proposals of its own, all of them in time: so many in
+// all.
+fn have_proposed(gate: &Meeting, workers: u16, proposals: u64) -> bool {
+    let [zero, one, two] = gate.proposals();
+    let each_has = zero > 0 && one > 0 && (two > 0) == (workers > 2);
+    let told = zero.wrapping_add(one).wrapping_add(two);
+    let faults = [gate.in_vain(), gate.miscounted(), gate.misclaimed()];
+    gate.have_met() && each_has && told == proposals && faults == [0; 3]
+}
+
+// Whether two workers or three, who wait for one another's first claim, come to these partners, after so many proposals
+// of which so many were told to be held.
+fn meet<R: Threads + Sync>(
     rt: &R,
     alloc: Global,
     offers: &Offers,
     workers: u16,
-) -> Result<(Vec<Option<Port>>, u64, u64), Fail>
+    pairs: &[Option<Port>],
+    proposals: u64,
+    held: u64,
+) -> Result<bool, NoMemory>
     requires some { 1 ≤ workers }
     requires few { workers ≤ 64 }
 {
     let gate = Meeting::of(workers);
     let settled = pair_phase(rt, alloc, offers, workers, &gate);
     let phase = settled.phase();
-    if !is_shared(&settled) || !gate.have_met() || gate.in_vain() > 0 {
-        return Err(Fail::new("the workers did not meet"));
-    }
-    let [zero, one, two] = gate.proposals();
-    let told = zero.wrapping_add(one).wrapping_add(two);
-    if gate.miscounted() > 0 || told != phase.proposals {
-        return Err(Fail::new("not each proposal was told, or more than were made"));
-    }
-    if gate.misclaimed() > 0 {
-        return Err(Fail::new("not each claim was told in time, or more than were made"));
-    }
-    Ok((
-        partners(alloc, &phase.matching)?,
-        phase.proposals,
-        gate.held(),
-    ))
+    let is_told = is_shared(&settled) && have_proposed(&gate, workers, proposals);
+    let is_counted = phase.proposals == proposals && gate.held() == held;
+    Ok(is_told && is_counted && partners(alloc, &phase.matching)?.as_slice() == pairs)
 }
 
 #[test]
 fn two_workers_meet(rt: HostRuntime) -> Result<(), Fail> {
-    let (partners, proposals, held) = met(&rt, rt.alloc(), &offers_apart(rt.alloc())?, 2)?;
-    assert!(rt; partners.as_slice() == [Some(0), Some(1)].as_slice());
-    assert!(rt; [proposals, held] == [2, 2]);
-    let (partners, proposals, held) = met(&rt, rt.alloc(), &opposed_offers(rt.alloc(), 2)?, 2)?;
-    assert!(rt; partners.as_slice() == [Some(1), Some(0)].as_slice());
-    assert!(rt; [proposals, held] == [3, 2]);
+    let apart = offers_apart(rt.alloc())?;
+    assert!(rt; meet(&rt, rt.alloc(), &apart, 2, &[Some(0), Some(1)], 2, 2)?);
+    let opposed = opposed_offers(rt.alloc(), 2)?;
+    assert!(rt; meet(&rt, rt.alloc(), &opposed, 2, &[Some(1), Some(0)], 3, 2)?);
     Ok(())
 }
 
@@ -148,10 +143,12 @@ fn two_workers_meet(rt: HostRuntime) -> Result<(), Fail> {
 #[test]
 fn two_workers_and_three_meet_over_three_inputs(rt: HostRuntime) -> Result<(), Fail> {
     let offers = opposed_offers(rt.alloc(), 3)?;
+    let pairs = [Some(2), Some(1), Some(0)];
     for workers in [2u16, 3] {
-        let (partners, proposals, held) = met(&rt, rt.alloc(), &offers, workers)?;
-        assert!(rt; partners.as_slice() == [Some(2), Some(1), Some(0)].as_slice());
-        assert!(rt; [proposals, held] == [6, 3]);
+        assert!(rt;
+            meet(&rt, rt.alloc(), &offers, workers, &pairs, 6, 3)?,
+            "{workers} workers"
+        );
     }
     Ok(())
 }

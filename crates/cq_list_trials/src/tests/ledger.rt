@@ -1,30 +1,14 @@
 //! Proposals on shared words: a worked example by two seats and by one, and once with a thread for each seat.
-ghost use Rattle.std.specs.Prelude.{◌≡◌, length, IsTrue, IfOk, None};
+ghost use Rattle.std.specs.Prelude.{◌≡◌, length, IsTrue};
 ghost use Rattle.cq_prefs.specs.Orders.{ports};
 ghost use Rattle.cq_ledger.specs.Seats.{HasClaimedAll, IsSeatOf};
 
-use super::opposed::opposed_offers;
+use super::opposed::{contested_offers, opposed_offers};
 use cq_base::Port;
 use cq_ledger::{Ledger, LedgerSeat, Outcome};
-use cq_prefs::{Matching, Offers};
-use cq_trial_kit::list_of;
-use std::alloc::Global;
+use cq_prefs::Matching;
 use std::test::Fail;
 use std::thread::{Threads, join};
-
-// Each input has an offer to output 0 alone, which prefers inputs 2, 1 and 0 in this order.
-fn contested_offers(alloc: Global) -> Result<Offers, Fail>
-    ensures { IfOk result (λ offers. ports offers ≡ 3) }
-{
-    let lists = [
-        list_of(alloc, 0, 3, &[(0, 2)])?,
-        list_of(alloc, 1, 3, &[(0, 1)])?,
-        list_of(alloc, 2, 3, &[(0, 0)])?,
-    ];
-    let mut offers = Offers::new(alloc, 3)?;
-    offers.fill(&lists);
-    Ok(offers)
-}
 
 // The answer of a claim, or None where the seat's hand is not empty or the input is no port.
 fn claimed(ledger: &Ledger, seat: &mut LedgerSeat, input: Port) -> Option<bool>
@@ -68,8 +52,11 @@ fn partners(matching: &Matching) -> [Option<Port>; 3]
     ]
 }
 
+// The partners of three inputs, and the number of proposals.
+type Settled = ([Option<Port>; 3], u64);
+
 // The partners and the number of proposals, or None where the seat's hand is not empty or a port is not claimed.
-fn closed(ledger: Ledger, seat: LedgerSeat) -> Option<([Option<Port>; 3], u64)>
+fn closed(ledger: Ledger, seat: LedgerSeat) -> Option<Settled>
     requires seat { IsSeatOf ledger seat }
     requires ports { ports ledger.offers ≡ 3 }
 {
@@ -81,11 +68,7 @@ fn closed(ledger: Ledger, seat: LedgerSeat) -> Option<([Option<Port>; 3], u64)>
 }
 
 // The partners and the number of proposals of a ledger with two seats, whose hands are empty.
-fn closed_with_both(
-    ledger: Ledger,
-    mut seat: LedgerSeat,
-    other: LedgerSeat,
-) -> Option<([Option<Port>; 3], u64)>
+fn closed_with_both(ledger: Ledger, mut seat: LedgerSeat, other: LedgerSeat) -> Option<Settled>
     requires seat { IsSeatOf ledger seat }
     requires other { IsSeatOf ledger other }
     requires ports { ports ledger.offers ≡ 3 }
@@ -97,17 +80,16 @@ fn closed_with_both(
     closed(ledger, seat)
 }
 
-// What a seat comes to: the answer of a claim with the hand after it, and what each of three proposals comes to with
-// the hand that it leaves.
-type Work = (
-    (Option<bool>, Option<Port>),
-    [(Option<Outcome>, Option<Port>); 3],
-);
+// What a proposal comes to, and the hand that it leaves.
+type Proposed = (Option<Outcome>, Option<Port>);
 
-const NO_PROPOSAL: (Option<Outcome>, Option<Port>) = (None, None);
+const NO_PROPOSAL: Proposed = (None, None);
+
+// What a seat comes to: the answer of a claim with the hand after it, and three proposals.
+type Work = ((Option<bool>, Option<Port>), [Proposed; 3]);
 
 // What a proposal comes to, and the hand that it leaves.
-fn proposed_on(ledger: &Ledger, seat: &mut LedgerSeat) -> (Option<Outcome>, Option<Port>)
+fn proposed_on(ledger: &Ledger, seat: &mut LedgerSeat) -> Proposed
     requires { IsSeatOf ledger.now seat.old }
     ensures { IsSeatOf ledger.now seat.new }
 {
@@ -130,66 +112,113 @@ fn worked(ledger: &Ledger, seat: &mut LedgerSeat, input: Port) -> Work
 }
 
 // The work of a seat that has claimed an input, where its proposals come to this.
-fn work_for(input: Port, proposals: [(Option<Outcome>, Option<Port>); 3]) -> Work {
+fn work_for(input: Port, proposals: [Proposed; 3]) -> Work {
     ((Some(true), Some(input)), proposals)
+}
+
+// What three inputs come to whose outputs prefer the last of them.
+const OPPOSED: Settled = ([Some(2), Some(1), Some(0)], 6);
+
+// The work of two seats in turn, for inputs 0, 1 and 2, and the answer of the first to a claim of input 1 then.
+fn worked_in_turn(
+    ledger: &Ledger,
+    a: &mut LedgerSeat,
+    b: &mut LedgerSeat,
+) -> ([Work; 3], Option<bool>)
+    requires a { IsSeatOf ledger.now a.old }
+    requires b { IsSeatOf ledger.now b.old }
+    requires ports { ports ledger.now.offers ≡ 3 }
+    ensures a { IsSeatOf ledger.now a.new }
+    ensures b { IsSeatOf ledger.now b.new }
+{
+    let works = [
+        worked(ledger, a, 0),
+        worked(ledger, b, 1),
+        worked(ledger, a, 2),
+    ];
+    (works, claimed(ledger, a, 1))
+}
+
+// Whether two seats that work in turn do this work, know what they claimed, and settle the opposed offers.
+fn settles_in_turn(ledger: Ledger, mut a: LedgerSeat, works: &[Work; 3]) -> bool
+    requires seat { IsSeatOf ledger a }
+    requires ports { ports ledger.offers ≡ 3 }
+{
+    let mut b = ledger.split(&mut a);
+    let (worked, again) = worked_in_turn(&ledger, &mut a, &mut b);
+    let claims = [a.claimed(0), a.claimed(1), a.claimed(2), b.claimed(1)];
+    let is_worked = worked == *works && again == Some(false);
+    let is_known = claims == [true, false, true, true] && [a.made(), b.made()] == [4, 2];
+    is_worked && is_known && closed_with_both(ledger, a, b) == Some(OPPOSED)
 }
 
 #[test]
 fn two_seats_share_one_ledger(rt: HostRuntime) -> Result<(), Fail> {
     use Outcome::{Displaced, Held};
     let held = (Some(Held), None);
-    let offers = opposed_offers(rt.alloc(), 3)?;
-    let (ledger, mut a) = Ledger::start(rt.alloc(), &offers)?;
-    let mut b = ledger.split(&mut a);
-    let first = [held, NO_PROPOSAL, NO_PROPOSAL];
-    assert!(rt; worked(&ledger, &mut a, 0) == work_for(0, first));
-    let second = [(Some(Displaced(0)), Some(0)), held, NO_PROPOSAL];
-    assert!(rt; worked(&ledger, &mut b, 1) == work_for(1, second));
-    let third = [
-        (Some(Displaced(1)), Some(1)),
-        (Some(Displaced(0)), Some(0)),
-        held,
+    let (back_to_0, back_to_1) = ((Some(Displaced(0)), Some(0)), (Some(Displaced(1)), Some(1)));
+    let works = [
+        work_for(0, [held, NO_PROPOSAL, NO_PROPOSAL]),
+        work_for(1, [back_to_0, held, NO_PROPOSAL]),
+        work_for(2, [back_to_1, back_to_0, held]),
     ];
-    assert!(rt; worked(&ledger, &mut a, 2) == work_for(2, third));
-    assert!(rt; claimed(&ledger, &mut a, 1) == Some(false));
-    let claims = [a.claimed(0), a.claimed(1), a.claimed(2), b.claimed(1)];
-    assert!(rt; claims == [true, false, true, true] && [a.made(), b.made()] == [4, 2]);
-    assert!(rt; closed_with_both(ledger, a, b) == Some(([Some(2), Some(1), Some(0)], 6)));
+    let (ledger, seat) = Ledger::start(rt.alloc(), &opposed_offers(rt.alloc(), 3)?)?;
+    assert!(rt; settles_in_turn(ledger, seat, &works));
     Ok(())
+}
+
+// Whether a seat that claims these inputs one after another makes these proposals.
+fn works_so(ledger: &Ledger, seat: &mut LedgerSeat, rows: &[(Port, [Proposed; 3])]) -> bool
+    requires seat { IsSeatOf ledger.now seat.old }
+    requires ports { ports ledger.now.offers ≡ 3 }
+    ensures { IsSeatOf ledger.now seat.new }
+{
+    let mut are_so = true;
+    'rows: for (input, proposals) in rows {
+        let work = worked(ledger, seat, *input);
+        are_so = are_so && work == work_for(*input, *proposals);
+    }
+    are_so
+}
+
+// Whether the one seat of a ledger works so, and settles the offers so.
+fn settles_alone(
+    ledger: Ledger,
+    mut seat: LedgerSeat,
+    rows: &[(Port, [Proposed; 3])],
+    settled: Settled,
+) -> bool
+    requires seat { IsSeatOf ledger seat }
+    requires ports { ports ledger.offers ≡ 3 }
+{
+    works_so(&ledger, &mut seat, rows) && closed(ledger, seat) == Some(settled)
 }
 
 #[test]
 fn one_seat_claims_every_input(rt: HostRuntime) -> Result<(), Fail> {
     use Outcome::{Held, Rejected};
     let held = (Some(Held), None);
-    let offers = opposed_offers(rt.alloc(), 3)?;
-    let (ledger, mut seat) = Ledger::start(rt.alloc(), &offers)?;
+    let (still_0, still_1) = ((Some(Rejected), Some(0)), (Some(Rejected), Some(1)));
     let rows = [
         (2, [held, NO_PROPOSAL, NO_PROPOSAL]),
-        (1, [(Some(Rejected), Some(1)), held, NO_PROPOSAL]),
-        (
-            0,
-            [(Some(Rejected), Some(0)), (Some(Rejected), Some(0)), held],
-        ),
+        (1, [still_1, held, NO_PROPOSAL]),
+        (0, [still_0, still_0, held]),
     ];
-    for (input, proposals) in rows {
-        assert!(rt; worked(&ledger, &mut seat, input) == work_for(input, proposals));
-    }
-    assert!(rt; seat.made() == 6);
-    assert!(rt; closed(ledger, seat) == Some(([Some(2), Some(1), Some(0)], 6)));
+    let (ledger, seat) = Ledger::start(rt.alloc(), &opposed_offers(rt.alloc(), 3)?)?;
+    assert!(rt; settles_alone(ledger, seat, &rows, OPPOSED));
     Ok(())
 }
 
 #[test]
 fn each_outcome_can_empty_the_hand(rt: HostRuntime) -> Result<(), Fail> {
     use Outcome::{Displaced, Held, Rejected};
-    let offers = contested_offers(rt.alloc())?;
-    let (ledger, mut seat) = Ledger::start(rt.alloc(), &offers)?;
-    for (input, outcome) in [(1, Held), (0, Rejected), (2, Displaced(1))] {
-        let proposals = [(Some(outcome), None), NO_PROPOSAL, NO_PROPOSAL];
-        assert!(rt; worked(&ledger, &mut seat, input) == work_for(input, proposals));
-    }
-    assert!(rt; closed(ledger, seat) == Some(([None, None, Some(0)], 3)));
+    let rows = [
+        (1, [(Some(Held), None), NO_PROPOSAL, NO_PROPOSAL]),
+        (0, [(Some(Rejected), None), NO_PROPOSAL, NO_PROPOSAL]),
+        (2, [(Some(Displaced(1)), None), NO_PROPOSAL, NO_PROPOSAL]),
+    ];
+    let (ledger, seat) = Ledger::start(rt.alloc(), &contested_offers(rt.alloc())?)?;
+    assert!(rt; settles_alone(ledger, seat, &rows, ([None, None, Some(0)], 3)));
     Ok(())
 }
 
@@ -218,16 +247,6 @@ fn propose_all(ledger: &Ledger, seat: &mut LedgerSeat)
     }
 }
 
-#[test]
-fn two_threads_share_one_ledger(rt: HostRuntime) -> Result<(), Fail> {
-    let offers = opposed_offers(rt.alloc(), 3)?;
-    let (ledger, mut a) = Ledger::start(rt.alloc(), &offers)?;
-    let b = ledger.split(&mut a);
-    let (a, b) = worked_by_two(&rt, &ledger, a, b);
-    assert!(rt; closed_with_both(ledger, a, b) == Some(([Some(2), Some(1), Some(0)], 6)));
-    Ok(())
-}
-
 // The work of two seats, each in a thread of its own.
 fn worked_by_two<R: Threads>(
     rt: &R,
@@ -253,4 +272,21 @@ fn worked_by_two<R: Threads>(
             ensures { IsSeatOf ledger.entry.now result }
         { work(ledger, b, 2) },
     )
+}
+
+// Whether two seats, each in a thread of its own, settle the opposed offers.
+fn settles_by_two<R: Threads>(rt: &R, ledger: Ledger, mut a: LedgerSeat) -> bool
+    requires seat { IsSeatOf ledger a }
+    requires ports { ports ledger.offers ≡ 3 }
+{
+    let b = ledger.split(&mut a);
+    let (a, b) = worked_by_two(rt, &ledger, a, b);
+    closed_with_both(ledger, a, b) == Some(OPPOSED)
+}
+
+#[test]
+fn two_threads_share_one_ledger(rt: HostRuntime) -> Result<(), Fail> {
+    let (ledger, seat) = Ledger::start(rt.alloc(), &opposed_offers(rt.alloc(), 3)?)?;
+    assert!(rt; settles_by_two(&rt, ledger, seat));
+    Ok(())
 }

@@ -26,8 +26,11 @@ fn slots_after(alloc: Global, output: u16, rank: u128) -> Result<[u64; 3], NoMem
 
 #[test]
 fn a_cell_goes_ahead_of_less_urgent_ones_for_its_output(rt: HostRuntime) -> Result<(), Fail> {
-    assert!(rt; slots_after(rt.alloc(), 0, 1)? == [2, 0, 1]);
-    assert!(rt; slots_after(rt.alloc(), 1, 5)? == [0, 1, 2]);
+    let slots = [
+        slots_after(rt.alloc(), 0, 1)?,
+        slots_after(rt.alloc(), 1, 5)?,
+    ];
+    assert!(rt; slots == [[2, 0, 1], [0, 1, 2]]);
     Ok(())
 }
 
@@ -38,18 +41,46 @@ fn three_cells(alloc: Global) -> Result<InputList, NoMemory>
     list_of(alloc, 0, 3, &[(0, 3), (1, 0), (0, 1)])
 }
 
+// Whether the first cell for each output is found, with its place.
+fn finds_by_output(list: &InputList) -> bool {
+    let fronts = [list.front_for(0), list.front_for(1), list.front_for(2)];
+    let places = [list.place_for(0), list.place_for(1), list.place_for(2)];
+    fronts == [Some(waiting(0, 0, 1, 2)), Some(waiting(0, 1, 0, 1)), None]
+        && places == [Some(0), Some(2), None]
+}
+
+// Whether a cell that is there is found by its id, and one that is not is not.
+fn finds_by_id(list: &InputList) -> bool {
+    let threads = [
+        list.thread_of(waiting(0, 0, 3, 0).cell.id),
+        list.thread_of(waiting(0, 1, 0, 1).cell.id),
+        list.thread_of(waiting(0, 0, 3, 3).cell.id),
+    ];
+    threads == [Some(1), Some(2), None]
+}
+
+// Whether a cell is found by its output and its key, and the end where there is none.
+fn finds_by_key(list: &InputList) -> bool
+    requires { list.now.outputs ≡ 3 }
+{
+    let places = [
+        list.place_of_key(0, waiting(0, 0, 1, 2).key),
+        list.place_of_key(0, waiting(0, 0, 3, 0).key),
+        list.place_of_key(1, waiting(0, 1, 0, 1).key),
+        list.place_of_key(2, waiting(0, 2, 0, 3).key),
+    ];
+    places == [0, 1, 2, 3]
+}
+
 #[test]
-fn a_cell_is_found_by_its_output_and_by_its_id(rt: HostRuntime) -> Result<(), Fail> {
+fn a_cell_is_found_by_its_output_its_id_and_its_key(rt: HostRuntime) -> Result<(), Fail> {
     let list = three_cells(rt.alloc())?;
-    assert!(rt; list.front_for(0) == Some(waiting(0, 0, 1, 2)));
-    assert!(rt; list.front_for(1) == Some(waiting(0, 1, 0, 1)));
-    assert!(rt; list.front_for(2) == None);
-    assert!(rt; list.place_for(0) == Some(0));
-    assert!(rt; list.place_for(1) == Some(2));
-    assert!(rt; list.place_for(2) == None);
-    assert!(rt; list.thread_of(waiting(0, 0, 3, 0).cell.id) == Some(1));
-    assert!(rt; list.thread_of(waiting(0, 1, 0, 1).cell.id) == Some(2));
-    assert!(rt; list.thread_of(waiting(0, 0, 3, 3).cell.id) == None);
+    let finds = [
+        finds_by_output(&list),
+        finds_by_id(&list),
+        finds_by_key(&list),
+    ];
+    assert!(rt; finds == [true; 3]);
     Ok(())
 }
 
@@ -153,15 +184,5 @@ fn drawn_calls_answer_as_a_plain_list_does(rt: HostRuntime) -> Result<(), Fail> 
     for place in 0..list.len() {
         assert!(rt; Some(list.at(place)) == plain.get(place as usize).copied());
     }
-    Ok(())
-}
-
-#[test]
-fn a_cell_is_found_by_its_key(rt: HostRuntime) -> Result<(), Fail> {
-    let list = three_cells(rt.alloc())?;
-    assert!(rt; list.place_of_key(0, waiting(0, 0, 1, 2).key) == 0);
-    assert!(rt; list.place_of_key(0, waiting(0, 0, 3, 0).key) == 1);
-    assert!(rt; list.place_of_key(1, waiting(0, 1, 0, 1).key) == 2);
-    assert!(rt; list.place_of_key(2, waiting(0, 2, 0, 3).key) == 3);
     Ok(())
 }

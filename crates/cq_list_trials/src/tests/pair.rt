@@ -59,39 +59,24 @@ fn partners(core: &Core, offers: &Offers) -> [Option<Port>; 3]
     partners
 }
 
+// Whether six proposals come to these outcomes, all that there are, and leave each side with its best partner.
+fn settle_in_six(offers: &Offers, inputs: [Port; 6], outcomes: [Outcome; 6]) -> bool {
+    let mut core = Core::begin(offers);
+    let proposed = six_proposed(&mut core, offers, inputs);
+    let is_settled = core.made() == 6 && core.free().is_empty();
+    proposed == outcomes.map(Some)
+        && is_settled
+        && partners(&core, offers) == [Some(2), Some(1), Some(0)]
+}
+
 #[test]
 fn outputs_keep_the_best_and_displace_the_others(rt: HostRuntime) -> Result<(), Fail> {
     use Outcome::{Displaced, Held, Rejected};
     let offers = opposed_offers(rt.alloc(), 3)?;
-    let mut core = Core::begin(&offers);
-    assert!(rt;
-        six_proposed(&mut core, &offers, [0, 1, 0, 2, 1, 0])
-            == [
-                Some(Held),
-                Some(Displaced(0)),
-                Some(Held),
-                Some(Displaced(1)),
-                Some(Displaced(0)),
-                Some(Held)
-            ]
-    );
-    assert!(rt; partners(&core, &offers) == [Some(2), Some(1), Some(0)]);
-    assert!(rt; core.made() == 6);
-    let mut core = Core::begin(&offers);
-    assert!(rt;
-        six_proposed(&mut core, &offers, [2, 1, 0, 1, 0, 0])
-            == [
-                Some(Held),
-                Some(Rejected),
-                Some(Rejected),
-                Some(Held),
-                Some(Rejected),
-                Some(Held)
-            ]
-    );
-    assert!(rt; partners(&core, &offers) == [Some(2), Some(1), Some(0)]);
-    assert!(rt; core.made() == 6);
-    assert!(rt; core.free().len() == 0);
+    let displacing = [Held, Displaced(0), Held, Displaced(1), Displaced(0), Held];
+    assert!(rt; settle_in_six(&offers, [0, 1, 0, 2, 1, 0], displacing));
+    let rejecting = [Held, Rejected, Rejected, Held, Rejected, Held];
+    assert!(rt; settle_in_six(&offers, [2, 1, 0, 1, 0, 0], rejecting));
     Ok(())
 }
 
@@ -124,7 +109,7 @@ fn drawn_list(alloc: Global, drawn: &mut Draws, input: Port) -> Result<InputList
 }
 
 // Offers of three ports, as drawn.
-fn drawn_offers(alloc: Global, drawn: &mut Draws) -> Result<Offers, Fail> {
+fn drawn_offers(alloc: Global, drawn: &mut Draws) -> Result<Offers, NoMemory> {
     let lists = [
         drawn_list(alloc, drawn, 0)?,
         drawn_list(alloc, drawn, 1)?,

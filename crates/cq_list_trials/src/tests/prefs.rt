@@ -34,10 +34,12 @@ fn prefer(offers: &Offers, port: Port, outputs: &[Port], inputs: &[Port]) -> boo
 #[test]
 fn each_side_prefers_by_first_cells(rt: HostRuntime) -> Result<(), Fail> {
     let offers = three_offers(rt.alloc())?;
-    assert!(rt; offers.ports() == 3);
-    assert!(rt; prefer(&offers, 0, &[0, 1], &[1, 0, 2]));
-    assert!(rt; prefer(&offers, 1, &[1, 0], &[0, 1]));
-    assert!(rt; prefer(&offers, 2, &[0, 2], &[2]));
+    let prefers = [
+        prefer(&offers, 0, &[0, 1], &[1, 0, 2]),
+        prefer(&offers, 1, &[1, 0], &[0, 1]),
+        prefer(&offers, 2, &[0, 2], &[2]),
+    ];
+    assert!(rt; prefers == [true; 3] && offers.ports() == 3);
     Ok(())
 }
 
@@ -47,7 +49,7 @@ fn drawn_list(
     drawn: &mut Draws,
     input: Port,
     outputs: u16,
-) -> Result<InputList, Fail>
+) -> Result<InputList, NoMemory>
     requires some { 0 < outputs }
     requires few { outputs ≤ 64 }
     ensures { IfOk result (λ list. list.outputs ≡ outputs) }
@@ -63,7 +65,7 @@ fn drawn_list(
 }
 
 // One drawn list for each input.
-fn drawn_lists(alloc: Global, drawn: &mut Draws, ports: u16) -> Result<Vec<InputList>, Fail>
+fn drawn_lists(alloc: Global, drawn: &mut Draws, ports: u16) -> Result<Vec<InputList>, NoMemory>
     requires some { 0 < ports }
     requires few { ports ≤ 64 }
     ensures len { IfOk result (λ lists. length lists.items ≡ ports) }

@@ -44,10 +44,12 @@ fn equal_ranks_wait_in_the_order_of_their_arrival(rt: HostRuntime) -> Result<(),
         buffer.at(3).key.slot,
     ];
     assert!(rt; slots == [1, 0, 2, 3]);
-    assert!(rt; buffer.cushion(waiting(0, 0, 5, 2).key) == 2);
-    assert!(rt; buffer.cushion(waiting(0, 0, 5, 3).key) == 3);
-    assert!(rt; buffer.pop().map(|sent| sent.key.slot) == Some(1));
-    assert!(rt; buffer.len() == 3);
+    let cushions = [
+        buffer.cushion(waiting(0, 0, 5, 2).key),
+        buffer.cushion(waiting(0, 0, 5, 3).key),
+    ];
+    assert!(rt; cushions == [2, 3]);
+    assert!(rt; buffer.pop().map(|sent| sent.key.slot) == Some(1) && buffer.len() == 3);
     Ok(())
 }
 

@@ -79,8 +79,7 @@ fn matched_inputs_send_their_first_cells_for_their_partners(rt: HostRuntime) -> 
     cross(&mut lists, &mut buffers, &mut note);
     assert!(rt; note.items() == [noted(0, 1, 1), noted(2, 0, 0)].as_slice());
     assert!(rt; [lists[0].len(), lists[1].len(), lists[2].len()] == [2, 3, 2]);
-    assert!(rt; buffers[0].pop() == Some(waiting(2, 0, 0, 0)));
-    assert!(rt; buffers[1].pop() == Some(waiting(0, 1, 0, 1)));
-    assert!(rt; buffers[2].pop() == None);
+    let crossed = [buffers[0].pop(), buffers[1].pop(), buffers[2].pop()];
+    assert!(rt; crossed == [Some(waiting(2, 0, 0, 0)), Some(waiting(0, 1, 0, 1)), None]);
     Ok(())
 }

@@ -5,10 +5,9 @@
 
 use super::coming::Coming;
 use super::engine::{Told, of_input, of_output};
-use cq_base::{Arrivals, Cell, InputFigures, OutputFigures};
+use cq_base::{Arrivals, Cell, InputFigures, NoMemory, OutputFigures};
 use cq_engine::Refused;
 use std::alloc::Global;
-use std::test::Fail;
 
 /// Per output the ranks of the two classes: outputs 0 and 2 send those of one level in the order of arrival.
 pub(super) const PRIORITIES: [[u128; 2]; 4] = [[0, 0], [3, 1], [7, 7], [0, 9]];
@@ -36,7 +35,7 @@ pub(super) struct Slow {
 }
 
 /// Four empty queues.
-fn empty(alloc: Global) -> Result<Vec<Vec<Waiting>>, Fail> {
+fn empty(alloc: Global) -> Result<Vec<Vec<Waiting>>, NoMemory> {
     let mut queues = Vec::new(alloc);
     for _ in 0..4 {
         queues.push(Vec::new(alloc))?;
@@ -45,7 +44,7 @@ fn empty(alloc: Global) -> Result<Vec<Vec<Waiting>>, Fail> {
 }
 
 /// Nothing was refused yet at the outputs with limits.
-fn none_refused(alloc: Global, limits: &[Option<u64>; 4]) -> Result<Vec<Refused>, Fail> {
+fn none_refused(alloc: Global, limits: &[Option<u64>; 4]) -> Result<Vec<Refused>, NoMemory> {
     let mut refused = Vec::new(alloc);
     for (output, limit) in limits.iter().enumerate() {
         if let Some(limit) = limit {
@@ -70,7 +69,7 @@ fn cushion(buffers: &[Vec<Waiting>], cell: Waiting) -> usize {
 
 /// The cell goes in at the least of its cushion, the place of the first less urgent cell for its output, and the
 /// end.
-fn insert(list: &mut Vec<Waiting>, cell: Waiting, cushion: usize) -> Result<(), Fail> {
+fn insert(list: &mut Vec<Waiting>, cell: Waiting, cushion: usize) -> Result<(), NoMemory> {
     let later = list
         .iter()
         .position(|other| other.4 == cell.4 && cell < *other);
@@ -94,7 +93,7 @@ fn asks(lists: &[Vec<Waiting>], refused: &[(usize, u16)]) -> [Option<Waiting>; 4
 }
 
 /// Each output that is asked by several inputs refuses all but the one with the most urgent cell.
-fn refuse(asks: &[Option<Waiting>; 4], refused: &mut Vec<(usize, u16)>) -> Result<(), Fail> {
+fn refuse(asks: &[Option<Waiting>; 4], refused: &mut Vec<(usize, u16)>) -> Result<(), NoMemory> {
     for (input, ask) in asks.iter().enumerate() {
         if let Some(cell) = ask
             && asks.iter().any(|other| other.is_some_and(|other| other.4 == cell.4
@@ -108,7 +107,10 @@ fn refuse(asks: &[Option<Waiting>; 4], refused: &mut Vec<(usize, u16)>) -> Resul
 
 /// Who asks when nobody is refused any more, and how many were refused (Gale and Shapley 1962). There are 16 pairs
 /// at most.
-fn matched(alloc: Global, lists: &[Vec<Waiting>]) -> Result<([Option<Waiting>; 4], usize), Fail> {
+fn matched(
+    alloc: Global,
+    lists: &[Vec<Waiting>],
+) -> Result<([Option<Waiting>; 4], usize), NoMemory> {
     let mut refused = Vec::new(alloc);
     for _ in 0..16 {
         refuse(&asks(lists, &refused), &mut refused)?;
@@ -128,7 +130,7 @@ impl Slow {
         alloc: Global,
         limits: [Option<u64>; 4],
         slots: &[Coming<4>],
-    ) -> Result<Slow, Fail> {
+    ) -> Result<Slow, NoMemory> {
         let mut slow = Slow {
             lists: empty(alloc)?,
             buffers: empty(alloc)?,
@@ -187,7 +189,7 @@ impl Slow {
         }
     }
 
-    fn arrive(&mut self, slot: u64, arrivals: &Arrivals) -> Result<(), Fail> {
+    fn arrive(&mut self, slot: u64, arrivals: &Arrivals) -> Result<(), NoMemory> {
         for input in 0..4u16 {
             if let Some(cell) = arrivals.at(input) {
                 if self.refuses(input, cell) {
@@ -200,7 +202,7 @@ impl Slow {
         Ok(())
     }
 
-    fn admit(&mut self, slot: u64, input: u16, cell: Cell) -> Result<(), Fail> {
+    fn admit(&mut self, slot: u64, input: u16, cell: Cell) -> Result<(), NoMemory> {
         if let Some(ranks) = PRIORITIES.get(cell.output as usize)
             && let Some(rank) = ranks.get(cell.class as usize)
             && let Some(levels) = LEVELS.get(cell.output as usize)
@@ -225,7 +227,7 @@ impl Slow {
         }
     }
 
-    fn transfer(&mut self, alloc: Global, slot: u64, phase: u64) -> Result<(), Fail> {
+    fn transfer(&mut self, alloc: Global, slot: u64, phase: u64) -> Result<(), NoMemory> {
         let (asks, refused) = matched(alloc, &self.lists)?;
         let mut proposals = refused as u64;
         for (input, ask) in asks.iter().enumerate() {
@@ -245,7 +247,7 @@ impl Slow {
         Ok(())
     }
 
-    fn send(&mut self, slot: u64) -> Result<(), Fail> {
+    fn send(&mut self, slot: u64) -> Result<(), NoMemory> {
         for (output, buffer) in self.buffers.iter_mut().enumerate() {
             buffer.sort()?;
             if !buffer.is_empty()

@@ -1,5 +1,5 @@
 use Rattle.cq_list_trials.proofs.Terms.{◌≡◌, length, All}
-use Rattle.cq_list_trials.proofs.tests.opposed.opposed_offers.Given as goal
+use Rattle.cq_list_trials.proofs.tests.opposed.offers_for.Given as goal
 
 -- there is a list for each input before this one
 abbrev pub invariant-lists : goal.invariant-lists
