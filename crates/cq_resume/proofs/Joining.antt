@@ -1,12 +1,19 @@
 -- A run that is stopped and goes on is the run. Where it is stopped no later than it ends, its records are the first
 -- ones of the run, and the others go on from there to the same end. Where it is stopped later, nothing waits any more
 -- and nothing comes, and the slots behind the end add nothing. A tag fault of the run comes behind the slots that were
--- done, for these had none.
-use Rattle.cq_resume.proofs.Terms.{common_steps, rules, ◌≡◌, ℕ, zero, suc, ◌+◌, ◌-◌, ◌<◌, ◌≤◌, Bool, List, [], ◌∷◌, ◌++◌, length, take, drop, Option, refl, ⊎_elim, append_assoc, length-drop, arith, cases_lt, append-nil, length-map, map-append, take-append-drop, take_all, flat_map-append, All-replicate, end_of, Cell, arriving_from, refused_in, all_counted_both, none_counted, Fabric, IsEmptyFabric, empty_fabric, marked_in, Machine, Switch, Taken}
+-- done, for these had none. A run that goes on to an end has a first slot at which it is over, maybe one of those that
+-- were done, and the whole run ends there.
+use Rattle.cq_resume.proofs.Terms.{common_steps, rules, ◌≡◌, ℕ, zero, suc, ◌+◌, ◌-◌, ◌<◌, ◌≤◌, Bool, List, [], ◌∷◌, ◌++◌, length, take, drop, Option, refl, ◌⊎◌, inl, inr, replicate, ⊎_elim, append_assoc, length-drop, arith, cases_lt, append-nil, length-map, map-append, take-append-drop, take_all, flat_map-append, All-replicate, end_of, Cell, arriving_from, refused_in, all_counted_both, none_counted, Fabric, IsEmptyFabric, empty_fabric, marked_in, Machine, Switch, Taken}
+use Rattle.cq_base.specs.Arrivals.{no_arrivals}
 use Rattle.cq_base.specs.declared.cell.TagFault.{TagFault}
 use Rattle.cq_ideal.specs.Admission.{Marked, marked}
+use Rattle.cq_ideal.proofs.Admitted.{no_arrivals_refuse_none}
+use Rattle.cq_ideal.proofs.Ends.{none_waits, nothing_left}
+use Rattle.cq_ideal.proofs.Resting.{ranked_none}
+use Rattle.cq_ideal.proofs.Waiting.{waiting}
 use Rattle.cq_ideal.proofs.Parted.{arriving_length, arriving_parts, quiet_from}
 use Rattle.cq_laws.specs.FabricSlot.{FabricSlot, SlotRecord}
+use Rattle.cq_laws.specs.Holding.{fabric_held}
 use Rattle.cq_laws.specs.LimitedFabric.{IsLimitedFault, LimitedFabricSlot, LimitedRecord, admissions_in, slots_in}
 use Rattle.cq_laws.specs.LimitedQuiet.{quiet_limited_slots}
 use Rattle.cq_laws.specs.Quiet.{idled, idled_for, quiet_slots}
@@ -21,7 +28,7 @@ use Rattle.cq_base.specs.Arriving.{arriving}
 use Rattle.cq_laws.proofs.QuietSlots.{empty_is, quiet_departures, quiet_figures_of_run, quiet_run, quiet_transfers_of_run}
 use Rattle.cq_prefs.specs.Pairing.{IsInputBest}
 use Rattle.cq_resume.specs.Parts.{IsParted, IsWhole, IsWholeFault, PartsJoin, nothing_kept, opening}
-use Rattle.cq_resume.specs.Resumed.{IsResumed, IsResumedFault, Kept, RunsOn, kept_in, kept_on}
+use Rattle.cq_resume.specs.Resumed.{AfterFrom, IsOneResumed, IsResumed, IsResumedFault, Kept, RunsOn, kept_in, kept_on}
 
 -- ## What is kept
 
@@ -134,11 +141,117 @@ module _ (w : Switch) where
       let ge = no_longer next start h g ss rs s r in
       grind (arith, common_steps, one.run, whole_run next start g rs r, whole_run next start h ss s)
 
+  -- ## There is one answer
+
+  -- a stop is one of more traffic too
+  still_stops : (slot : ℕ) (before after : List (List (Option Cell))) (f : Marked Fabric) (rs : List LimitedRecord)
+      (fault : TagFault) → StopBy Step Fault slot before f rs fault →
+      StopBy Step Fault slot (before ++ after) f rs fault
+  still_stops slot [] after f rs fault x = absurd x
+  still_stops slot (cells ∷ before) after f [] fault x = x
+  still_stops slot (cells ∷ before) after f (r ∷ rs) fault x =
+      (x.0, x.1, still_stops (slot + 1) before after x.0 rs fault x.2)
+
+  stops_later : (slot a b all : ℕ) (f : Marked Fabric) (rs : List LimitedRecord) (fault : TagFault) → all ≡ a + b →
+      StopBy Step Fault slot (arriving_from w.came slot a) f rs fault →
+      StopBy Step Fault slot (arriving_from w.came slot all) f rs fault
+  stops_later slot a b all f rs fault many x =
+      let cut = arriving_parts w.came slot (slot + a) a b all refl many in
+      rw cut at (still_stops slot (arriving_from w.came slot a) (arriving_from w.came (slot + a) b) f rs fault x)
+
+  one_fault : (from : Taken) (u v : TagFault) → IsResumedFault w from u → IsResumedFault w from v → u ≡ v
+  one_fault from u v x y =
+      let next = from.frozen.next in
+      let start = marked_in from.frozen in
+      let all = x.count + y.count in
+      (one.stop next (arriving_from w.came next all) start x.records y.records u v
+      (stops_later next x.count y.count all start x.records u refl x.stops)
+      (stops_later next y.count x.count all start y.records v (omega arith) y.stops)).1
+
+  -- where nothing comes no rank is a tag fault
+  quiet_stop : (count slot : ℕ) (f : Marked Fabric) (rs : List LimitedRecord) (fault : TagFault) →
+      StopBy Step Fault slot (replicate count no_arrivals) f rs fault → ⊥
+  quiet_stop zero slot f rs fault x = x
+  quiet_stop (suc count) slot f [] fault x =
+      let none = no_arrivals_refuse_none w.limits f.marks (fabric_held f.state) in
+      let ranked = ranked_none w.machines slot 0 64 f.state.ranks in cc (rw none at x)
+  quiet_stop (suc count) slot f (r ∷ rs) fault x = quiet_stop count (slot + 1) x.0 rs fault x.2
+
+  never_both : (from : Taken) (k : Kept) (fault : TagFault) → IsResumed w from k → IsResumedFault w from fault → ⊥
+  never_both from k fault x y =
+      let n = length x.records in
+      let end = from.frozen.next + n in
+      let past = stops_past from.frozen.next n y.count end (marked_in from.frozen) x.end x.records y.records fault refl
+      (whole_run from.frozen.next (marked_in from.frozen) x.end x.records x.runs) y.stops in
+      quiet_stop past.0 end x.end past.1 fault (rw (quiet_from w.came past.0 end x.runs.all_came) at past.2)
+
+  one_kept : (from : Taken) (k l : Kept) → IsResumed w from k → IsResumed w from l → k ≡ l
+  one_kept from k l x y =
+      cc (one_on from.frozen.next (marked_in from.frozen) x.end y.end x.records y.records x.runs y.runs)
+
+  -- ## Where a run is over
+
   -- nothing waits any more, and nothing comes
   over_at : (next : ℕ) (start : Marked Fabric) → end_of w.came ≤ next → IsEmptyFabric start.state →
       RunsOn w next start [] start
   unfolding arriving_from
   over_at next start late empty = grind (arith, common_steps)
+
+  over_or_not : (next : ℕ) (f : Fabric) →
+      ((end_of w.came ≤ next) × IsEmptyFabric f) ⊎ (end_of w.came ≤ next → IsEmptyFabric f → ⊥)
+  over_or_not next f =
+      ⊎_elim (λ (lt : 0 < (end_of w.came - next) + waiting f.inputs + waiting f.buffers). inr (λ late empty.
+      let none = none_waits f.inputs empty.inputs in
+      let gone = none_waits f.buffers empty.buffers in omega arith))
+      (λ (le : (end_of w.came - next) + waiting f.inputs + waiting f.buffers ≤ 0). inl (
+        omega arith,
+        record {
+          inputs = nothing_left f.inputs (omega arith);
+          buffers = nothing_left f.buffers (omega arith);
+        },
+      ))
+      (cases_lt 0 ((end_of w.came - next) + waiting f.inputs + waiting f.buffers))
+
+  -- a run to its end, with a slot ahead of it before which it was not over
+  module _ (next : ℕ) (start middle end : Marked Fabric) (r : LimitedRecord) (rs : List LimitedRecord)
+      (step : Step next (arriving w.came next) start r middle) (on : RunsOn w (next + 1) middle rs end)
+      (more : end_of w.came ≤ next → IsEmptyFabric start.state → ⊥) where
+    no_sooner : (m : ℕ) (s : Marked Fabric) → AfterFrom w next start (r ∷ rs) m s → end_of w.came ≤ next + m →
+        IsEmptyFabric s.state → suc (length rs) ≤ m
+    unfolding arriving_from
+    no_sooner zero s after late empty = absurd (more (omega arith) (rw after at empty))
+    no_sooner (suc m) s after late empty =
+        let same = one.slot next (arriving w.came next) start after.0 middle r r after.1 step in
+        let le : length rs ≤ m = on.first m s (rw same.1 at after.2) (omega arith) empty in omega arith
+
+    slot_ahead : RunsOn w next start (r ∷ rs) end
+    unfolding arriving_from
+    slot_ahead =
+        let late = on.all_came in
+        record { after = (middle, step, on.after); all_came = omega arith; empty = on.empty; first = no_sooner }
+
+  -- a run that is over somewhere has an end
+  record Ends (next : ℕ) (start : Marked Fabric) : Type 0 where
+    records : List LimitedRecord
+    end : Marked Fabric
+    runs : RunsOn w next start records end
+
+  ends : (n next : ℕ) (start over : Marked Fabric) (rs : List LimitedRecord) →
+      RunBy Step next (arriving_from w.came next n) start rs over → end_of w.came ≤ next + n →
+      IsEmptyFabric over.state → Ends next start
+  unfolding arriving_from
+  ends zero next start over [] run late empty =
+      record { records = []; end = start; runs = over_at next start (omega arith) (rw run at empty) }
+  ends zero next start over (r ∷ rs) run late empty = absurd run
+  ends (suc n) next start over [] run late empty = absurd run
+  ends (suc n) next start over (r ∷ rs) run late empty =
+      let rest = ends n (next + 1) run.0 over rs run.2 (omega arith) empty in
+      ⊎_elim (λ now. record { records = []; end = start; runs = over_at next start now.0 now.1 })
+      (λ more. record {
+        records = r ∷ rest.records;
+        end = rest.end;
+        runs = slot_ahead next start run.0 rest.end r rest.records run.1 rest.runs more;
+      }) (over_or_not next start.state)
 
   -- ## A run that was stopped
 
@@ -248,9 +361,20 @@ module _ (w : Switch) where
         search (arith, rules, kept_joined (drop slots is.records), kept_over is.records is.end is.runs)
 
     pub part_is_run : (kept whole : Kept) → IsResumed w at kept → IsWhole w ranks whole → kept ≡ whole
-    part_is_run kept whole resumed is =
-        let other = part_resumes whole is in
-        cc (one_on at.frozen.next there resumed.end other.end resumed.records other.records resumed.runs other.runs)
+    part_is_run kept whole resumed is = one_kept at kept whole resumed (part_resumes whole is)
+
+    pub part_is_whole : (kept : Kept) → IsResumed w at kept → IsWhole w ranks kept
+    part_is_whole kept resumed =
+        let n = length resumed.records in
+        let goes = whole_run at.frozen.next there resumed.end resumed.records resumed.runs in
+        let all = join n resumed.records resumed.end (rw part.next at goes) in
+        let late = resumed.runs.all_came in
+        let next : at.frozen.next ≡ slots = part.next in
+        let it = ends (slots + n) 0 start resumed.end (part.records ++ resumed.records) all (omega arith)
+        resumed.runs.empty in
+        let is : IsWhole w ranks (kept_on (nothing_kept w) 0 it.records) =
+        record { records = it.records; end = it.end; runs = it.runs; kept_is = refl } in
+        rw (part_is_run kept _ resumed is) is
 
     -- a fault that is met later is met from there
     pub part_fault : (fault : TagFault) → IsWholeFault w ranks fault → IsResumedFault w at fault
@@ -266,4 +390,7 @@ module _ (w : Switch) where
         part.records is.records fault part.runs in search (arith, rules, begins)
 
 pub parts_join : PartsJoin
-parts_join = search (rules, part_is_run, part_resumes, part_fault, part_fault_back)
+parts_join = search (rules, part_is_run, part_resumes, part_is_whole, part_fault, part_fault_back)
+
+pub one_resumed : IsOneResumed
+one_resumed = record { kept = one_kept; fault = one_fault; never_both = never_both }

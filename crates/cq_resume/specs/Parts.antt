@@ -47,12 +47,14 @@ pub record IsWholeFault (w : Switch) (ranks : List (List ℕ)) (fault : TagFault
   pub stops : Stops w 0 (arriving_from w.came 0 count) (opening w ranks) records fault
 
 -- From the state after any number of slots the resumed run keeps what the whole run keeps, or meets the tag fault
--- that it meets; and it meets no other.
+-- that it meets; and it meets no other. Where it comes to its end, so does the whole run.
 pub record PartsJoin : Type 0 where
   pub run : (w : Switch) (ranks : List (List ℕ)) (slots : ℕ) (at : Taken) (kept whole : Kept) →
       slots < 2 ^ 63 → IsParted w ranks slots at → IsResumed w at kept → IsWhole w ranks whole → kept ≡ whole
   pub resumes : (w : Switch) (ranks : List (List ℕ)) (slots : ℕ) (at : Taken) (whole : Kept) →
       slots < 2 ^ 63 → IsParted w ranks slots at → IsWhole w ranks whole → IsResumed w at whole
+  pub whole : (w : Switch) (ranks : List (List ℕ)) (slots : ℕ) (at : Taken) (kept : Kept) →
+      slots < 2 ^ 63 → IsParted w ranks slots at → IsResumed w at kept → IsWhole w ranks kept
   pub fault : (w : Switch) (ranks : List (List ℕ)) (slots : ℕ) (at : Taken) (fault : TagFault) →
       slots < 2 ^ 63 → IsParted w ranks slots at → IsWholeFault w ranks fault → IsResumedFault w at fault
   pub whole_fault : (w : Switch) (ranks : List (List ℕ)) (slots : ℕ) (at : Taken) (fault : TagFault) →

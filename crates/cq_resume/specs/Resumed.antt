@@ -76,3 +76,11 @@ pub record IsResumedFault (w : Switch) (from : Taken) (fault : TagFault) : Type 
   pub records : List LimitedRecord
   pub stops : Stops w from.frozen.next (arriving_from w.came from.frozen.next count) (marked_in from.frozen) records
       fault
+
+-- From a state that was taken up, whether a run left it or not, there is one answer: all that is kept to the end is the
+-- same, all tag faults are, and where one is met no run comes to its end.
+pub record IsOneResumed : Type 0 where
+  pub kept : (w : Switch) (from : Taken) (k l : Kept) → IsResumed w from k → IsResumed w from l → k ≡ l
+  pub fault : (w : Switch) (from : Taken) (u v : TagFault) → IsResumedFault w from u → IsResumedFault w from v → u ≡ v
+  pub never_both : (w : Switch) (from : Taken) (k : Kept) (u : TagFault) → IsResumed w from k →
+      IsResumedFault w from u → ⊥

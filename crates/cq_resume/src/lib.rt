@@ -23,7 +23,7 @@ mod write;
 
 pub use cq_laws::Frozen;
 pub use cq_state::StateLong;
-pub use laws::parts_join;
+pub use laws::{one_resumed_run, parts_join};
 pub use read::read_state;
 pub use refusal::StateRefusal;
 pub use taken::Taken;
