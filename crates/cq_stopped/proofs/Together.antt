@@ -6,7 +6,7 @@
 use Rattle.cq_stopped.proofs.Terms.{rules, ◌≡◌, ℕ, zero, suc, ◌+◌, ◌-◌, ◌<◌, ◌≤◌, ◌^◌, List, [], ◌∷◌, length, map, fold, min, max, refl, sym, ap, ◌∙◌, arith, common_steps, length-map, length-map-range_with_len, AllByRecursion, enumerate_from, flat_map, slice_index_or, Queued, Scheduled, arriving_from, departures_of, Fabric, cushion_of, input, SlotRecord, fabric_in, marked_in, LimitedRecord, slots_in, figures_of, input_figures, slacks, transfers_of_run, gone_in, list_of, each_pair, EachPair, all_both, Differ, Has, all_from_has, all_of_has, has_image, has_left, has_right, image_has, figures_told, frozen_told, taken_of, opening, IsWhole, IsParted, seen_as, sent_as, state_of, IsRefusal, Kept, Runs, Clause, IsSound, Switch, switch_of, named_in, queued_in, Taken, ports_of, Tables, machine_of, openings_of, AreRankNumbers, IsInRange, IsMoved, IsNamed, IsSeen, IsSent, state_lines, state_text, Named, Sent, State, told_state, CanBeTakenUp, StoppedRunsAreSound, few_kept}
 use Rattle.cq_ideal.proofs.Refusals.{counts_more}
 use Rattle.cq_laws.proofs.AddingUp.{figures_fold}
-use Rattle.cq_resume.proofs.Joining.{parts_join}
+use Rattle.cq_resume.proofs.Joining.{parts_join as join}
 use Rattle.cq_resume.specs.declared.refusal.StateRefusal.{StateRefusal}
 use Rattle.cq_simulate.specs.FabricRuns.{IsFabricRun, refused_in_run}
 use Rattle.cq_state.proofs.OneReading.{state_is_exact}
@@ -242,8 +242,27 @@ whole_is t s rs is =
     let ports = length-map t.setup.kinds (λ kind. machine_of kind t.setup.classes) in
     search (arith, rules, figures_fold (ports_of t.setup) (slots_in rs), counts_more t.limits [] lost)
 
+-- and the whole one is the run
+run_is : (t : Tables) (s : Scheduled) (kept : Kept) → IsWhole (switch_of t s) (openings_of t.setup) kept →
+    (rs : List LimitedRecord) × IsFabricRun t s.came rs × (kept ≡ kept_in_run t rs)
+run_is t s kept is =
+    let rs = is.records in
+    let lost = refused_in_run rs in
+    let ports = length-map t.setup.kinds (λ kind. machine_of kind t.setup.classes) in
+    let run : IsFabricRun t s.came rs = search (arith, rules) in
+    let same : kept ≡ kept_in_run t rs =
+    search (arith, rules, figures_fold (ports_of t.setup) (slots_in rs), counts_more t.limits [] lost) in
+    (rs, run, same)
+
 pub read_runs_go_on : ReadRunsGoOn
 read_runs_go_on t s slots at x made tables recorded early parted read =
     let told = stopped_runs_are_read t s slots at made tables recorded early parted in
     let same = told.alone x read in
-    rw same (search (rules, parts_join.run, parts_join.resumes, parts_join.fault, parts_join.whole_fault, whole_is))
+    rw same (record {
+      run = search (rules, join.run, whole_is);
+      resumes = search (rules, join.resumes, whole_is);
+      ends = λ kept on. run_is t s kept
+          (join.whole (switch_of t s) (openings_of t.setup) slots at kept early parted on);
+      fault = search (rules, join.fault);
+      whole_fault = search (rules, join.whole_fault);
+    })

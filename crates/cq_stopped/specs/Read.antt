@@ -43,11 +43,14 @@ kept_in_run t rs =
       refused = refused_counts t.limits (refused_in_run rs);
     }
 
--- Going on from there keeps what the run keeps, or meets the tag fault that it meets, and no other.
+-- Going on from there keeps what the run keeps, or meets the tag fault that it meets, and no other. Where it comes to
+-- its end, so does the run, and what is kept is what that run keeps.
 pub record GoesOnAsRun (t : Tables) (s : Scheduled) (x : Taken) : Type 0 where
   pub run : (rs : List LimitedRecord) (kept : Kept) → IsFabricRun t s.came rs → IsResumed (switch_of t s) x kept →
       kept ≡ kept_in_run t rs
   pub resumes : (rs : List LimitedRecord) → IsFabricRun t s.came rs → IsResumed (switch_of t s) x (kept_in_run t rs)
+  pub ends : (kept : Kept) → IsResumed (switch_of t s) x kept →
+      (rs : List LimitedRecord) × IsFabricRun t s.came rs × (kept ≡ kept_in_run t rs)
   pub fault : (fault : TagFault) → IsWholeFault (switch_of t s) (openings_of t.setup) fault →
       IsResumedFault (switch_of t s) x fault
   pub whole_fault : (fault : TagFault) → IsResumedFault (switch_of t s) x fault →

@@ -22,7 +22,8 @@ pub fn stopped_runs_are_read()
 {}
 
 /// So a run that is stopped after any number of slots below 2^63, written, read and continued is the run, over captures
-/// such as files hold: it keeps the same, or both meet the same tag fault. It does nothing: its contract is the claim.
+/// such as files hold: it keeps the same, or both meet the same tag fault; and each comes to its end where the other
+/// does. It does nothing: its contract is the claim.
 pub fn read_runs_go_on()
     ensures { ReadRunsGoOn }
 {}
