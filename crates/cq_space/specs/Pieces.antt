@@ -1,8 +1,9 @@
 -- A name that is read piece after piece: the calls of a file space one after another, and of each what the trait says,
 -- from the moment before it to the moment after it.
-use Rattle.std.specs.Prelude.{◌≡◌, ℕ, ◌<◌, true, List, [], ◌++◌, length, take, Ok}
+use Rattle.std.specs.Prelude.{◌≡◌, ℕ, ◌<◌, ◌≤◌, true, List, [], ◌++◌, length, take, Ok}
 use Rattle.cq_space.specs.Answering.{HasAnswered}
 use Rattle.cq_space.specs.Call.{Call, StartRead, Read}
+use Rattle.cq_space.specs.Causes.{Rose}
 use Rattle.cq_space.specs.Space.{Space, Finds, ReadsOn, Closes}
 use Rattle.cq_space.specs.declared.files.Failed.{Failed}
 
@@ -31,6 +32,14 @@ module _ {S : Type 0} (space : S → Space) (may_fail : Call → S → S → Typ
     pub left : leaves before after
     pub kept : keeps before after
 
+  -- a call failed
+  pub record Breaks (call : Call) (before after : S) : Type 0 where
+    pub closed : Closes (space before) (space after)
+    pub rose : Rose (space before).faults (space after).faults
+    pub why : may_fail call before after
+    pub counted : counts before after
+    pub kept : keeps before after
+
   -- the name was begun to be read, and the reads that followed, each of at least one byte, gave these bytes
   pub data HasTaken (name : List ℕ) (old : S) : List ℕ → S → Type 0 where
     Begun : (now : S) → Starts name old now → HasTaken name old [] now
@@ -52,3 +61,10 @@ module _ {S : Type 0} (space : S → Space) (may_fail : Call → S → S → Typ
     pub end : S
     pub none : Gives [] last end
     pub ended : Ends end new
+
+  -- the last call of a reading failed: the one that was to begin it, or, after so many bytes of the name at most were
+  -- taken, the next read
+  pub data BreaksOff (name : List ℕ) (most : ℕ) (old new : S) : Type 0 where
+    AtOnce : Breaks (StartRead name) old new → BreaksOff name most old new
+    Later : (bytes : List ℕ) (last : S) → HasTaken name old bytes last → length bytes ≤ most → Breaks Read last new →
+        BreaksOff name most old new

@@ -1,7 +1,7 @@
 // Whole reads and writes over any file space, and whole puts into any sink.
 ghost use Rattle.std.specs.Prelude.{◌≡◌, ◌≤◌, ◌+◌, ◌^◌, ℕ, OnErr, IfOk, IsErrOf};
 ghost use Rattle.cq_space.specs.Failing.{Fails, FailsTaking, Reads, Writes};
-ghost use Rattle.cq_space.specs.Pieces.{TakesAll, TakesSoMany};
+ghost use Rattle.cq_space.specs.Pieces.{BreaksOff, TakesAll, TakesSoMany};
 ghost use Rattle.cq_space.specs.Space.{Closed};
 ghost use Rattle.cq_space.specs.Whole.{ReadsWhole, WritesWhole, PutsAll};
 
@@ -33,10 +33,11 @@ pub struct WriteFault;
 /// 2^28.
 ///
 /// `Ok` has all the bytes of the name. `Missing` comes exactly where `start_read` answered false, so
-/// only where contents are told and lack the name; `Fault` only where the count of faults rose in this
-/// call, by a call that reads this name, and with every other answer the count is as before; `Long` only
-/// where the name has more than `limit` bytes, of which `limit + 1` were taken. After every answer the
-/// mode is closed, and contents are as before.
+/// only where contents are told and lack the name; `Fault` exactly where the last call failed, which
+/// was `start_read`, or a `read` before which no more than `limit` bytes were taken: the count of faults
+/// rose in that call, and with every other answer it is as before; `Long` exactly where `limit + 1`
+/// bytes were taken and there was memory for them, so only where the name has more than `limit`. After
+/// every answer the mode is closed, and contents are as before.
 ///
 /// Also where no contents are told, the bytes of `Ok` are those that the reads of this name gave, one
 /// after another, until one gave none; and `Long` comes only where they gave `limit + 1` in all.
@@ -51,6 +52,9 @@ pub fn read_whole<F: Files>(
     ensures whole { ReadsWhole (F.space files.old) (F.space files.new) name.now limit result }
     ensures why { IsErrOf result ReadRefusal.Fault → Fails F.space F.may_fail F.keeps
         (Reads name.now) files.old files.new }
+    ensures broken { IsErrOf result ReadRefusal.Fault →
+        BreaksOff F.space F.may_fail F.may_pass F.may_move F.counts F.leaves F.keeps
+        name.now limit files.old files.new }
     ensures taken { (n : ℕ) → IsErrOf result (ReadRefusal.Long n) →
         TakesSoMany F.space F.may_fail F.may_pass F.may_move F.counts F.leaves F.keeps
         name.now (limit + 1) files.old files.new }

@@ -1,7 +1,7 @@
 -- What was taken begins with nothing, and each read puts its piece behind it.
 use Rattle.cq_space.proofs.Terms.{arith, rules, common_steps, ℕ, List, ◌++◌, ◌≡◌, ◌<◌, length, take, length-take, Space}
 use Rattle.cq_space.specs.Call.{Call}
-use Rattle.cq_space.specs.Pieces.{Gives, HasTaken, Begun, More}
+use Rattle.cq_space.specs.Pieces.{Gives, HasTaken, Begun, More, Later}
 use Rattle.cq_space.proofs.whole.read_whole.Goals as goal
 
 more : {S : Type 0} {space : S → Space} {may_fail : Call → S → S → Type 0} {may_pass : S → Type 0}
@@ -31,3 +31,7 @@ pieces-preserved g c =
       kept = search (arith, rules, g.met.F.Files.lasts.both);
       taken = search (arith, rules, length-take, g.F.Files.space, on);
     }
+
+pub returns-in-Err-read-clause-broken : goal.returns-in-Err-read-clause-broken
+returns-in-Err-read-clause-broken g c = λ _. Later c.pieces.bytes.items c.pieces.files c.pieces.invariant.taken
+    (grind (arith, common_steps)) (search (arith, rules, g.F.Files.space))
