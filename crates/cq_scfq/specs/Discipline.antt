@@ -1,5 +1,9 @@
--- What clauses see of a discipline: its fixed numbers, with its kind in front, and the state of its machine.
+-- What clauses see of a discipline: its kind, the classes that it keeps, its fixed numbers, with its kind in front, and
+-- the state of its machine.
 use Rattle.std.specs.Prelude.{ℕ, zero, suc, List, [], ◌∷◌}
+use Rattle.cq_base.specs.declared.setup.ClassRow.{ClassRow}
+use Rattle.cq_base.specs.declared.setup.Kind.{Kind}
+use Rattle.cq_base.specs.declared.setup.Kind.TheVariants as kind
 use Rattle.cq_scfq.specs.declared.discipline.Discipline.{Discipline}
 use Rattle.cq_scfq.specs.declared.discipline.Discipline.TheVariants.{FirstCome, Priority, Fair}
 use Rattle.cq_rank.specs.Classes.{rows_of}
@@ -7,6 +11,18 @@ use Rattle.cq_rank.specs.Machine.{Machine, KeepsLaws, first_come, priority}
 use Rattle.cq_rank.specs.MachineLaws.{first_come_laws, priority_laws}
 use Rattle.cq_scfq.specs.Fair.{fair}
 use Rattle.cq_scfq.specs.FairLaws.{fair_laws}
+
+-- its kind
+abbrev pub kind_of : Discipline → Kind
+kind_of (FirstCome r) = kind.FirstCome
+kind_of (Priority r) = kind.Priority
+kind_of (Fair r) = kind.Fair
+
+-- the rows of the classes that it keeps
+abbrev pub kept_of : Discipline → List ClassRow
+kept_of (FirstCome r) = rows_of r.fixed
+kept_of (Priority r) = rows_of r.fixed
+kept_of (Fair r) = rows_of r.fixed
 
 -- 0 for first come, 1 for priority, 2 for fair, and then the numbers that it keeps
 abbrev pub fixed_of : Discipline → List ℕ

@@ -1,8 +1,9 @@
 //! The discipline of an output, as a configuration states it.
 ghost use Rattle.std.specs.Prelude.{◌≡◌, ◌<◌, ◌≤◌, IfOk, OnOk, length, map};
+ghost use Rattle.std.specs.List.{AllByRecursion};
 ghost use Rattle.cq_rank.specs.Classes.{AreClasses};
 ghost use Rattle.cq_rank.specs.Switch.{AreForOneSwitch, class_count};
-ghost use Rattle.cq_scfq.specs.Discipline.{fixed_of, machine_from, state_of};
+ghost use Rattle.cq_scfq.specs.Discipline.{fixed_of, kept_of, kind_of, machine_from, state_of};
 ghost use Rattle.cq_scfq.specs.Disciplines.{machine_of, machines_of, opening_of, openings_of};
 
 use crate::Fair;
@@ -26,6 +27,8 @@ impl Discipline {
     /// in its opening state. The error is want of memory.
     pub fn all(alloc: Global, setup: &Setup) -> Result<Vec<Discipline>, NoMemory>
         requires { AreClasses setup.now.classes }
+        ensures kinds { IfOk result (λ all. map kind_of all.items ≡ setup.now.kinds) }
+        ensures rows { IfOk result (λ all. AllByRecursion (λ one. kept_of one ≡ setup.now.classes) all.items) }
         ensures machines { IfOk result (λ all. map machine_from (map fixed_of all.items) ≡ machines_of setup.now) }
         ensures states { IfOk result (λ all. map state_of all.items ≡ openings_of setup.now) }
         ensures classes { OnOk result (0 < length setup.now.kinds → class_count (machines_of setup.now)
@@ -43,6 +46,8 @@ impl Discipline {
     // One of the kind, over the classes.
     fn of(alloc: Global, kind: Kind, classes: &[ClassRow]) -> Result<Discipline, NoMemory>
         requires { AreClasses classes.now }
+        ensures kind { IfOk result (λ one. kind_of one ≡ kind) }
+        ensures rows { IfOk result (λ one. kept_of one ≡ classes.now) }
         ensures machine { IfOk result (λ one. machine_from (fixed_of one) ≡ machine_of kind classes.now) }
         ensures state { IfOk result (λ one. state_of one ≡ opening_of kind classes.now) }
     {
