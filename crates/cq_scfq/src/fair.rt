@@ -10,9 +10,7 @@ use std::marker::Model;
 
 /// Ranks cells by self-clocked fair queueing (Golestani 1994). Each class has a tag, the rank that its
 /// last cell got, and each level has a virtual time, the rank of the cell of this level that the output sent last. A
-/// cell gets the greater of its class's tag and its level's virtual time, and the cost of its class on top. So of two
-/// classes of one level, the one of twice the cost gets half as many cells through, where both always have cells
-/// waiting.
+/// cell gets the greater of its class's tag and its level's virtual time, and the cost of its class on top.
 ///
 /// An idle slot sets the tags and the virtual times to 0.
 #[derive(Drop)]
