@@ -3,20 +3,20 @@
 -- were there, and those that came for it, are there still or have left, so all are keyed as the switch keys them. A
 -- phase makes no more proposals than the number of ports squared, and none where no cell waits at an input; and in each
 -- slot in which a cell waits or comes one leaves, so there are no more such slots than cells that came.
-use Rattle.cq_stopped.proofs.Terms.{arith, rules, Arrival, ◌≡◌, ℕ, zero, suc, ◌+◌, ◌⊎◌, List, [], ◌∷◌, length, Option, None, Some, inl, inr, ⊎_elim, drop, ◌∙◌, ◌<◌, ◌≤◌, ◌^◌, refl, ap, length-drop, ◌*◌, ◌-◌, true, fold, max, cases_lt, eqb-true, common_steps, length-replicate, get_or-replicate, get_or_past, length-insert, sum_by-append, sum_by-cons, AllByRecursion, range_with_len, flat_map, slice_get, slice_index_or, filter_map, is_some, sum, arrival_at, arriving, first_for, is_for, Cell, Queued, present, Marked, arriving_from, IdealState, CameFor, arrived_has, limited_empty_agree, among_at, first_at, after_sent, arrived, keyed, old_sound, same_slot, Sound, orders_are, Agrees, SendsAlike, Fabric, IsAmong, buffer, empty_fabric, input, SlotRecord, fabric_held, LimitedRecord, slots_in, proposals_in, Transfers, HasFor, transfers_in, list_of, orders_of, noted, transfers_of, IsStable, Partners, partner_of, proposals, machine_at, all_both, found_at, all_of_has, opening, Switch, IsMoved, length_put, waiting-empty, waiting-sum}
+use Rattle.cq_stopped.proofs.Terms.{arith, rules, Arrival, ◌≡◌, ℕ, zero, suc, ◌+◌, ◌⊎◌, List, [], ◌∷◌, length, None, Some, inl, inr, ⊎_elim, drop, ◌∙◌, ◌<◌, ◌≤◌, ◌^◌, ap, length-drop, ◌*◌, ◌-◌, fold, max, cases_lt, eqb-true, common_steps, length-replicate, get_or-replicate, get_or_past, length-insert, sum_by-append, sum_by-cons, AllByRecursion, range_with_len, flat_map, slice_get, slice_index_or, filter_map, sum, arriving, first_for, is_for, Queued, present, Marked, arriving_from, CameFor, arrived_has, limited_empty_agree, among_at, first_at, after_sent, arrived, keyed, old_sound, same_slot, Sound, orders_are, SendsAlike, Fabric, IsAmong, buffer, empty_fabric, input, SlotRecord, fabric_held, LimitedRecord, slots_in, proposals_in, Transfers, HasFor, transfers_in, list_of, orders_of, noted, transfers_of, IsStable, Partners, partner_of, proposals, machine_at, all_both, found_at, all_of_has, opening, Switch, IsMoved, length_put, waiting-empty, all_wait}
+use Rattle.cq_ideal.proofs.Ends.{nothing_left}
 use Rattle.cq_ideal.proofs.FlowCount.{come_count-first}
 use Rattle.cq_ideal.proofs.FlowRun.{come_count}
-use Rattle.cq_ideal.proofs.Waiting.{counted, waiting}
+use Rattle.cq_ideal.proofs.Waiting.{counted}
 use Rattle.cq_laws.proofs.AfterDepartures.{sent_buffer}
 use Rattle.cq_laws.proofs.AfterTransfer.{moved_has}
-use Rattle.cq_laws.proofs.Held.{hold_as_many}
 use Rattle.cq_laws.proofs.Rises.{partner_offers, sender}
-use Rattle.cq_simulate.proofs.FabricCounts.{shorter, proposals_few, proposals_none, square_few}
+use Rattle.cq_laws.proofs.WholeRuns.{empty_together}
+use Rattle.cq_simulate.proofs.FabricCounts.{none_proposed as simulate_none, proposals_few, shorter, square_few}
 use Rattle.cq_stopped.proofs.Ran.{IsKeyed}
 use Rattle.cq_stopped.proofs.Stepping.{KnownRun, KnownSlot, still_among}
 use Rattle.cq_stopped.proofs.Configured.{AreLow, HasSmallName, KeepsLow}
-use Rattle.cq_stopped.proofs.Lined.{AreNumbered}
-use Rattle.cq_stopped.proofs.Queueing.{ranked_low, told_low, came_where}
+use Rattle.cq_stopped.proofs.Queueing.{ranked_low, told_low}
 
 -- ## Lists that get longer and shorter
 
@@ -24,10 +24,6 @@ use Rattle.cq_stopped.proofs.Queueing.{ranked_low, told_low, came_where}
 first_or_rest : (xs : List Queued) (q : Queued) → (slice_get xs 0 ≡ Some q) ⊎ IsAmong q (drop 1 xs) → IsAmong q xs
 first_or_rest [] q has = ⊎_elim (λ none. absurd (let P : ⊥ = cc in P)) (λ more. more) has
 first_or_rest (x ∷ xs) q has = ⊎_elim (λ first. let same : x ≡ q = cc in inl same) (λ more. inr more) has
-
-some_among : (xs : List Queued) → (length xs ≡ 0) ⊎ ((q : Queued) × IsAmong q xs)
-some_among [] = inl refl
-some_among (x ∷ xs) = inr (x, inl refl)
 
 module _ (m : Partners) (old new : Fabric) (moves : Transfers m old new) where
   one_crosses : (slot : ℕ) → Sound slot old → IsStable (orders_of old.inputs) m → (j : ℕ) →
@@ -61,25 +57,8 @@ module _ (ports slot phase : ℕ) (early : slot < 2 ^ 63) (known_phase : (1 ≤ 
 -- ## What waits
 
 -- how many cells wait in a fabric
-pub waits : Fabric → ℕ
+abbrev pub waits : Fabric → ℕ
 waits f = sum (fabric_held f)
-
-waits_is : (slot : ℕ) (f : Fabric) (ideal : IdealState) → Agrees slot f ideal → waiting ideal.lists ≡ waits f
-unfolding waits
-waits_is slot f ideal agrees = rw (hold_as_many slot f ideal agrees) (waiting-sum ideal.lists)
-
--- where none waits none is in a list
-none_among : (lists : List (List Queued)) (j : ℕ) (q : Queued) → waiting lists ≡ 0 → IsAmong q (list_of lists j) → ⊥
-unfolding waiting
-none_among [] j q none has = has
-none_among (xs ∷ lists) zero q none has = grind (arith, common_steps)
-none_among (xs ∷ lists) (suc j) q none has = grind (arith, common_steps, waiting, none_among lists j q)
-
-arrival_present : (cells : List (Option Cell)) (i : ℕ) → is_some (arrival_at cells i) ≡ true →
-    1 ≤ length (present cells)
-arrival_present [] i some = absurd (let P : ⊥ = cc in P)
-arrival_present (None ∷ cells) i some = grind (arith, common_steps, arrival_present cells)
-arrival_present (Some cell ∷ cells) i some = omega arith
 
 -- ## Before a slot, and over it
 
@@ -99,7 +78,6 @@ pub record RunsWithin (came : List Arrival) (ports slot n last : ℕ) (f : Marke
     (g : Marked Fabric) : Type 0 where
   pub states : AllByRecursion AreLow g.state.ranks
   pub records : AllByRecursion (IsRecordedWithin ports last) (slots_in rs)
-  pub numbered : AreNumbered slot (slots_in rs)
   pub proposed : sum (flat_map proposals_in (slots_in rs)) + 8192 * waits g.state
       ≤ 8192 * (waits f.state + come_count (arriving_from came slot n))
 
@@ -210,8 +188,8 @@ module _ (w : Switch) where
 
     fewer_wait : waits g.state ≤ waits f.state + came - 1
     fewer_wait =
-        let before = waits_is slot f.state k.ideal k.agrees in
-        let after = waits_is (slot + 1) g.state beside.next beside.agrees in
+        let before = all_wait slot f.state k.ideal k.agrees in
+        let after = all_wait (slot + 1) g.state beside.next beside.agrees in
         let less = (counted w.machines slot r.admission.cells k.ideal _ beside.sent).fewer in omega arith
 
     -- a phase makes no more than the number of ports squared
@@ -230,22 +208,13 @@ module _ (w : Switch) where
     -- nothing is proposed where nothing waits and nothing comes
     no_lists : waits f.state ≡ 0 → (i : ℕ) → length (input f.state i) ≡ 0
     no_lists none i =
-        let before = waits_is slot f.state k.ideal k.agrees in
-        ⊎_elim (λ e. e) (λ some. absurd (none_among k.ideal.lists _ some.0 (before ∙ none)
-        ((k.agrees.same _ some.0).1 (inl (i, some.1, refl))))) (some_among (input f.state i))
-
-    no_arrival : waits f.state ≡ 0 → came ≡ 0 → (i : ℕ) → length (input r.of_slot.arrived i) ≡ 0
-    no_arrival none quiet i =
-        let some = came_where w.machines slot 0 r.admission.cells f.state.ranks
-        (record { came = r.of_slot.came; ranks = r.of_slot.arrived.ranks }) k.step.arrive.ranked i in
-        search (arith, rules, no_lists, arrival_present)
+        let before = all_wait slot f.state k.ideal k.agrees in
+        let empty = (empty_together slot f.state k.ideal k.agrees).1 (nothing_left k.ideal.lists (before ∙ none)) in
+        grind (arith, common_steps, empty.inputs, get_or_past, cases_lt)
 
     none_proposed : waits f.state ≡ 0 → came ≡ 0 → sum (proposals_in r.of_slot) ≡ 0
-    unfolding proposals_in
-    none_proposed none quiet =
-        let arrived = no_arrival none quiet in
-        let sent : (i : ℕ) → length (input r.of_slot.sent i) ≡ 0 =
-        λ i. grind (arith, common_steps, no_arrival, shorter) in omega (arith, proposals_none, arrived)
+    none_proposed none quiet = simulate_none w.machines slot r.admission.cells f.state g.state r.of_slot k.best
+        (no_lists none) quiet
 
     slot_proposed : length w.machines ≤ 64 →
         sum (proposals_in r.of_slot) + 8192 * waits g.state ≤ 8192 * (waits f.state + came)
@@ -272,7 +241,7 @@ module _ (w : Switch) where
   unfolding arriving_from
   all_proposed slots last ranks g rs run =
       let agree = (limited_empty_agree (length w.machines) ranks).states in
-      omega (arith, waits_is, waiting-empty, come_count-first)
+      omega (arith, all_wait, waiting-empty, come_count-first)
 
 -- the greatest is no more than all together
 pub most_of_all : (a : ℕ) (xs : List ℕ) → fold max a xs ≤ a + sum xs

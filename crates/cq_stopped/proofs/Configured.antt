@@ -2,7 +2,7 @@
 -- keep the laws of machines and begin in a state of their size, and its arrivals, of which there are not many. They
 -- come packet after packet at each input. A capture is a file of 2^28 bytes at most, and each packet and each cell of
 -- it takes a byte there, so that no packet's number and no cell's place in its packet comes near 2^32.
-use Rattle.cq_stopped.proofs.Terms.{common_steps, rules, ◌≡◌, ℕ, zero, suc, ◌+◌, ◌*◌, ◌<◌, ◌≤◌, ◌^◌, min, List, [], ◌∷◌, length, map, flat_map, ap, arith, length-append, fold, replicate, slice_index_or, sum_by, AllByRecursion, range_with_len, length-map, sum_by-cons, Arrival, Scheduled, IsRecorded, IsTraffic, KeepsLaws, Machine, machine_at, all_both, ArePackets, IsScheduleOf, Switch, switch_of, AreTables, IsSetup, Tables, machine_of, machines_of, opening_of, openings_of, AreRecorded}
+use Rattle.cq_stopped.proofs.Terms.{common_steps, rules, ◌≡◌, ℕ, zero, suc, ◌+◌, ◌*◌, ◌<◌, ◌≤◌, ◌^◌, min, List, [], ◌∷◌, length, map, flat_map, ap, arith, length-append, fold, replicate, slice_index_or, sum_by, AllByRecursion, range_with_len, length-map, sum_by-cons, Arrival, Scheduled, IsRecorded, IsTraffic, KeepsLaws, Machine, machine_at, all_both, ArePackets, IsScheduleOf, Switch, switch_of, AreTables, IsSetup, Tables, machine_of, machines_of, opening_of, openings_of, AreRecorded, of_images}
 use Rattle.cq_base.specs.declared.setup.ClassRow.{ClassRow}
 use Rattle.cq_base.specs.declared.setup.Kind.{Kind}
 use Rattle.cq_base.specs.declared.setup.Kind.TheVariants.{FirstCome, Priority, Fair}
@@ -14,7 +14,7 @@ use Rattle.cq_cells.specs.Schedule.{arrivals, arrivals_at, arrivals_of, cell_of,
 use Rattle.cq_pcap.specs.Captured.{Captured}
 use Rattle.cq_resume.proofs.Scheduling.{schedule_known}
 use Rattle.cq_simulate.proofs.Runnable.{keeps_laws, kind, machine_is, right_classes, right_size}
-use Rattle.cq_stopped.proofs.Joined.{all_made, all_of_images}
+use Rattle.cq_stopped.proofs.Joined.{all_made}
 
 -- the numbers of a cell's packet and of its place there are small
 abbrev pub HasSmallName : Arrival → Type 0
@@ -133,7 +133,7 @@ stamps_low [] each = tt
 stamps_low (ps ∷ captures) each =
     let first = (each zero (omega arith)).stamps in
     let rest = stamps_low captures (λ i lt. each (suc i) (omega arith)) in
-    search (rules, all_both, all_of_images)
+    search (rules, all_both, of_images)
 
 first_low : (captures : List (List Captured)) → ((i : ℕ) → i < length captures → IsRecorded (packets_of captures i)) →
     first_stamp captures < 2 ^ 63

@@ -1,11 +1,8 @@
 -- Lists that are joined, sifted and mapped: what they have, and what holds of each of their items and each that stands
 -- behind it.
-use Rattle.cq_stopped.proofs.Terms.{common_steps, rules, ◌≡◌, ℕ, zero, suc, ◌<◌, Bool, true, false, List, [], ◌∷◌, ◌++◌, map, refl, ap, ◌∙◌, inl, inr, ⊎_elim, arith, length, ◌+◌, Option, Some, All, ◌==◌, filter, slice_index_or, AllByRecursion, AllPairs, flat_map, list_any, filter_map, range_with_len, eq-eqb, or_left, or_right, cases_Bool, ne_eqb, append-nil, filter-append, All-from_recursion, EachPair, all_pairs, all_both, pairs_with, Has, all_from_has, all_of_has, has_left, has_right, has_cases, has_image, has_kept}
+use Rattle.cq_stopped.proofs.Terms.{common_steps, rules, ◌≡◌, ℕ, zero, suc, ◌<◌, Bool, true, false, List, [], ◌∷◌, ◌++◌, map, refl, ap, ◌∙◌, inl, inr, ⊎_elim, arith, length, ◌+◌, Option, Some, ◌==◌, filter, slice_index_or, AllByRecursion, AllPairs, flat_map, list_any, filter_map, range_with_len, eq-eqb, or_left, or_right, cases_Bool, ne_eqb, append-nil, filter-append, EachPair, all_pairs, all_both, pairs_with, Has, all_from_has, all_of_has, has_left, has_right, has_cases, has_image, has_kept, of_images, all_in_row, sym, fill_by_all}
 
 module _ {X : Type 0} where
-  pub all_if_has : (P : X → Type 0) (xs : List X) → ((x : X) → Has xs x → P x) → All P xs
-  all_if_has P xs each = All-from_recursion P xs (all_from_has P xs each)
-
   -- ## Lists end on end
 
   abbrev pub list_at : List (List X) → ℕ → List X
@@ -79,13 +76,9 @@ module _ {X : Type 0} where
       (cases_Bool (p x))
 
 module _ {X Y : Type 0} (f : X → Y) where
-  pub all_of_images : (P : Y → Type 0) (xs : List X) → AllByRecursion (λ x. P (f x)) xs → AllByRecursion P (map f xs)
-  all_of_images P [] all = tt
-  all_of_images P (x ∷ xs) all = (all.0, all_of_images P xs all.1)
-
   pub pairs_of_images : (R : Y → Y → Type 0) (xs : List X) → EachPair (λ x y. R (f x) (f y)) xs → EachPair R (map f xs)
   pairs_of_images R [] pairs = tt
-  pairs_of_images R (x ∷ xs) pairs = (all_of_images (R (f x)) xs pairs.0, pairs_of_images R xs pairs.1)
+  pairs_of_images R (x ∷ xs) pairs = (of_images f (R (f x)) xs pairs.0, pairs_of_images R xs pairs.1)
 
   pub image_pairs : (R : Y → Y → Type 0) (xs : List X) → EachPair (λ x y. R (f x) (f y)) xs → AllPairs R (map f xs)
   image_pairs R xs pairs = all_pairs R (map f xs) (pairs_of_images R xs pairs)
@@ -103,8 +96,7 @@ module _ {X Y : Type 0} (f : X → Y) where
 -- what holds of all images of numbers
 pub all_made : {X : Type 0} (P : X → Type 0) (f : ℕ → X) (a n : ℕ) → ((i : ℕ) → i < a + n → P (f i)) →
     AllByRecursion P (map f (range_with_len a n))
-all_made P f a zero each = tt
-all_made P f a (suc n) each = (each a (omega arith), all_made P f (a + 1) n (λ i lt. each i (omega arith)))
+all_made P f a n each = of_images f P (range_with_len a n) (all_in_row (λ i. P (f i)) a n each)
 
 -- ## Sifting lists that stand end on end
 
@@ -147,16 +139,9 @@ module _ {X : Type 0} (number : X → ℕ) where
   sift xss own i = sifted 0 i xss (λ k x has. let e = own k x has in omega arith) i (omega arith)
 
 -- lists by their places
-places_from : {X : Type 0} (f : ℕ → X) (d : X) (a : ℕ) (xs : List X) →
-    ((i k : ℕ) → i ≡ a + k → k < length xs → f i ≡ slice_index_or xs k d) → map f (range_with_len a (length xs)) ≡ xs
-places_from f d a [] each = refl
-places_from {X} f d a (x ∷ xs) each =
-    let first = each a zero (omega arith) (omega arith) in
-    let rest = places_from f d (a + 1) xs (λ i k e lt. each i (suc k) (omega arith) (omega arith)) in cc
-
 pub by_places : {X : Type 0} (f : ℕ → X) (d : X) (xs : List X) →
     ((k : ℕ) → k < length xs → f k ≡ slice_index_or xs k d) → map f (range_with_len 0 (length xs)) ≡ xs
-by_places f d xs each = places_from f d 0 xs (λ i k e lt. let k_is : i ≡ k = omega arith in ap f k_is ∙ each k lt)
+by_places f d xs each = sym (fill_by_all f xs (length xs) d refl (λ k lt. sym (each k lt)))
 
 -- ## Items by a number
 

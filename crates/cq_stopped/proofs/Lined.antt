@@ -1,7 +1,7 @@
 -- The departures and the transfers of a run: what a slot adds to the departures, at each output the cell that it sent,
 -- if it sent one; that they stand in order: slot by slot, those of a slot by output, and by phase and input; and the
 -- figures that are read off them.
-use Rattle.cq_stopped.proofs.Terms.{◌≡◌, ℕ, zero, suc, ◌+◌, ◌<◌, List, [], ◌∷◌, ◌++◌, Option, Some, None, refl, arith, rules, ◌≤◌, ◌⊎◌, length, map, ◌-◌, eqb, Bool, true, false, fold, max, ◌∙◌, eq-eqb, ne_eqb, and_from, and_parts, cases_lt, eqb-true, common_steps, map-append, get_or_past, length-map, filter-append, sum_by-cons, AllByRecursion, range_with_len, cons_option, enumerate_from, ◌==◌, filter, slice_index_or, ◌&&◌, count_by, filter_map, is_some, option_map, Arrival, Departure, Queued, Transfer, listed, Marked, arriving_from, slots_of, departures_of, departures_from, departures_in, Fabric, SlotRecord, LimitedRecord, slots_in, figures_of, input_figures, output_figures, sends, sent_by, wait_at, came_to, transfers_in, transfers_of_run, gone_in, list_of, noted, transfers_of, Partners, partner_of, EachPair, all_both, all_weaker, Differ, all_from_has, all_of_has, Has, has_kept, kept_has, looked_up, pairs_looked_up, AreApart, Stands, no_more, pairs_kept, figures_told, input_told, output_told, sent_told, sent_at, seen_as, Runs, IsMovedBefore, Switch, is_named, named_in, Named, State, fold-max, sent_slots, has_number}
+use Rattle.cq_stopped.proofs.Terms.{◌≡◌, ℕ, zero, suc, ◌+◌, ◌<◌, List, [], ◌∷◌, ◌++◌, Option, Some, None, refl, arith, rules, ◌≤◌, ◌⊎◌, length, map, ◌-◌, eqb, Bool, true, false, fold, max, ◌∙◌, eq-eqb, ne_eqb, and_from, and_parts, cases_lt, eqb-true, common_steps, map-append, get_or_past, length-map, filter-append, sum_by-cons, AllByRecursion, range_with_len, cons_option, enumerate_from, ◌==◌, filter, slice_index_or, ◌&&◌, count_by, filter_map, is_some, option_map, Arrival, Departure, Queued, Transfer, listed, Marked, arriving_from, slots_of, departures_of, departures_from, departures_in, Fabric, SlotRecord, LimitedRecord, slots_in, figures_of, input_figures, output_figures, sends, sent_by, wait_at, came_to, transfers_in, transfers_of_run, gone_in, list_of, noted, transfers_of, Partners, partner_of, EachPair, all_both, all_weaker, Differ, all_from_has, all_of_has, Has, has_kept, kept_has, looked_up, pairs_looked_up, AreApart, Stands, no_more, pairs_kept, figures_told, input_told, output_told, sent_told, sent_at, seen_as, Runs, IsMovedBefore, Switch, is_named, named_in, Named, State, fold-max, sent_slots, has_number, AreNumbered}
 use Rattle.cq_base.specs.declared.figures.Figures.{Figures}
 use Rattle.cq_base.specs.declared.figures.InputFigures.{InputFigures}
 use Rattle.cq_ideal.proofs.LastSlot.{slots_of-append}
@@ -144,11 +144,6 @@ module _ (w : Switch) where
 -- ## The figures. What an output sent and how long it kept a cell are read off its departures, one for each slot in
 -- which it sent. And as many names are of an input as cells came to it: names of one input have different slots, and
 -- they are just those in which a cell came.
-
--- the records are of the slots from this one on
-abbrev pub AreNumbered : ℕ → List SlotRecord → Type 0
-AreNumbered slot [] = Unit {0}
-AreNumbered slot (r ∷ rs) = (r.slot ≡ slot) × AreNumbered (slot + 1) rs
 
 slots_are : (slot : ℕ) (rs : List SlotRecord) → AreNumbered slot rs →
     slots_of (departures_of slot (gone_in rs)) ≡ fold max 0 (map (λ (r : SlotRecord). r.slot + 1) (filter sends rs))

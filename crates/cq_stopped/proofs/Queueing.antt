@@ -3,7 +3,7 @@
 -- output. A cell that comes has another name than each that came before it, and of its flow each came in an earlier
 -- slot. In the order of keys none of these stands behind it: each has its level and no greater rank. So of each two
 -- cells, what left the output and then what waits there, the one ahead goes before the other as it did.
-use Rattle.cq_stopped.proofs.Terms.{rules, ◌≡◌, ℕ, zero, suc, ◌+◌, ◌<◌, ◌≤◌, ◌^◌, Bool, true, false, cond, List, [], ◌∷◌, length, Option, Some, None, Result, Ok, Err, refl, arith, ◌++◌, ap, ⊎_elim, cases_eq, ltb-true, both_ways, cases_lt, cond_both, eq-eqb, eqb-true, le-ltb, lt-ltb, false_from_ne_true, common_steps, get_or-set_other, get_or-set_same, length-set, same_Some, AllByRecursion, is_some, slice_index_or, slice_set, arrival_at, EachCell, is_for, put, Cell, Queued, came_from, only_ok, all_told, put_all, Ranking, after_input, ranking, all_among, all_if_among, all_put, among_put, IsAmong, came_to, KeepLaws, Machine, machine_at, EachPair, all_weaker, all_both, all_front, all_back}
+use Rattle.cq_stopped.proofs.Terms.{rules, ◌≡◌, ℕ, zero, suc, ◌+◌, ◌<◌, ◌≤◌, ◌^◌, Bool, true, false, cond, List, [], ◌∷◌, length, Option, Some, None, Result, Ok, Err, refl, arith, ◌++◌, ap, ⊎_elim, cases_eq, ltb-true, both_ways, cases_lt, cond_both, eq-eqb, eqb-true, le-ltb, lt-ltb, false_from_ne_true, common_steps, get_or-set_other, get_or-set_same, length-set, same_Some, AllByRecursion, is_some, slice_index_or, slice_set, arrival_at, EachCell, is_for, put, Cell, Queued, came_from, only_ok, all_told, put_all, Ranking, ranking, all_among, all_if_among, all_put, among_put, IsAmong, came_to, KeepLaws, Machine, machine_at, EachPair, all_weaker, all_both, all_front, all_back, after_input_ok}
 use Rattle.cq_base.proofs.Keys.{key_laws}
 use Rattle.cq_base.specs.Key.{is_before}
 use Rattle.cq_base.specs.declared.cell.TagFault.{TagFault}
@@ -14,17 +14,6 @@ use Rattle.cq_rank.proofs.Floors.{given_floor}
 use Rattle.cq_stopped.proofs.Configured.{AreLow, KeepsLow}
 use Rattle.cq_stopped.proofs.Joined.{all_made}
 use Rattle.cq_stopped.proofs.Ran.{Follows}
-
--- what came of the inputs from one on, where no rank was too great
-pub record Behind (o : Option Queued) (x : Result Ranking TagFault) (r : Ranking) : Type 0 where
-  pub rest : Ranking
-  pub is : x ≡ Ok rest
-  pub came : r.came ≡ o ∷ rest.came
-  pub states : r.ranks ≡ rest.ranks
-
-behind : (o : Option Queued) (x : Result Ranking TagFault) (r : Ranking) → after_input o x ≡ Ok r → Behind o x r
-behind o (Ok rest) r h = grind (arith, common_steps, only_ok)
-behind o (Err fault) r h = absurd (let P : ⊥ = cc in P)
 
 fits : (b : Bool) (x : Result Ranking TagFault) (fault : TagFault) (r : Ranking) → cond b x (Err fault) ≡ Ok r →
     (b ≡ true) × (x ≡ Ok r)
@@ -72,29 +61,31 @@ module _ (ms : List Machine) (slot : ℕ) where
   one_behind : (i : ℕ) (cell : Cell) (cells : List (Option Cell)) (ranks : List (List ℕ)) (r : Ranking) →
       ranking ms slot i (Some cell ∷ cells) ranks ≡ Ok r →
       ((one_at i ranks cell).key.rank < 2 ^ 128)
-      × Behind (Some (one_at i ranks cell)) (ranking ms slot (i + 1) cells (after ranks cell)) r
-  one_behind i cell cells ranks r h = grind (arith, common_steps, fits, ltb-true, behind)
+      × (s : Ranking)
+      × (ranking ms slot (i + 1) cells (after ranks cell) ≡ Ok s)
+      × (record { came = Some (one_at i ranks cell) ∷ s.came; ranks = s.ranks } ≡ r)
+  one_behind i cell cells ranks r h = grind (arith, common_steps, fits, ltb-true, after_input_ok)
 
   pub ranked_from : (i : ℕ) (cells : List (Option Cell)) (ranks : List (List ℕ)) (r : Ranking) → KeepLaws ms ranks →
       ((k : ℕ) (cell : Cell) → arrival_at cells k ≡ Some cell → IsKnown (length ranks) cell) →
       ranking ms slot i cells ranks ≡ Ok r → (k : ℕ) (q : Queued) → came_to r.came k ≡ Some q → IsRanked ranks q
   ranked_from i [] ranks r keep known h k q at = grind (arith, common_steps, only_ok)
-  ranked_from i (None ∷ cells) ranks r keep known h zero q at = grind (arith, common_steps, behind)
+  ranked_from i (None ∷ cells) ranks r keep known h zero q at = grind (arith, common_steps, after_input_ok)
   ranked_from i (None ∷ cells) ranks r keep known h (suc k) q at =
-      let b = behind None (ranking ms slot (i + 1) cells ranks) r h in
-      ranked_from (i + 1) cells ranks b.rest keep (λ l. known (suc l)) b.is k q (rw b.came at at)
+      let b = after_input_ok None (ranking ms slot (i + 1) cells ranks) r h in
+      ranked_from (i + 1) cells ranks b.0 keep (λ l. known (suc l)) b.1 k q (rw (← b.2) at at)
   ranked_from i (Some cell ∷ cells) ranks r keep known h zero q at =
       let here = known zero cell refl in search (arith, rules, one_behind, same_Some, keep.laws, keep.sized)
   ranked_from i (Some cell ∷ cells) ranks r keep known h (suc k) q at =
       let here = known zero cell refl in
-      let b = (one_behind i cell cells ranks r h).1 in
-      let at' = rw b.came at at in
+      let b = one_behind i cell cells ranks r h in
+      let at' = rw (← b.3) at at in
       let same = length-set ranks cell.output (given ranks cell) in
       let keeps = still_keep ranks keep cell here in
       let it =
-      ranked_from (i + 1) cells (after ranks cell) b.rest keeps (λ l other is. rw same (known (suc l) other is)) b.is k
-      q at' in
-      let c = came_from ms slot (i + 1) cells (after ranks cell) b.rest b.is k q at' in
+      ranked_from (i + 1) cells (after ranks cell) b.1 keeps (λ l other is. rw same (known (suc l) other is)) b.2 k q
+      at' in
+      let c = came_from ms slot (i + 1) cells (after ranks cell) b.1 b.2 k q at' in
       let own = known (suc k) q.cell c.cell_is in
       search (arith, rules, rises)
 
@@ -102,13 +93,13 @@ module _ (ms : List Machine) (slot : ℕ) where
   pub came_where : (i : ℕ) (cells : List (Option Cell)) (ranks : List (List ℕ)) (r : Ranking) →
       ranking ms slot i cells ranks ≡ Ok r → (k : ℕ) → is_some (came_to r.came k) ≡ is_some (arrival_at cells k)
   came_where i [] ranks r h k = grind (arith, common_steps, only_ok)
-  came_where i (None ∷ cells) ranks r h zero = grind (arith, common_steps, behind)
+  came_where i (None ∷ cells) ranks r h zero = grind (arith, common_steps, after_input_ok)
   came_where i (None ∷ cells) ranks r h (suc k) =
-      grind (arith, common_steps, behind, came_where (i + 1) cells ranks)
+      grind (arith, common_steps, after_input_ok, came_where (i + 1) cells ranks)
   came_where i (Some cell ∷ cells) ranks r h zero = grind (arith, common_steps, one_behind)
   came_where i (Some cell ∷ cells) ranks r h (suc k) =
-      let b = (one_behind i cell cells ranks r h).1 in
-      rw b.came (came_where (i + 1) cells (after ranks cell) b.rest b.is k)
+      let b = one_behind i cell cells ranks r h in
+      rw (← b.3) (came_where (i + 1) cells (after ranks cell) b.1 b.2 k)
 
 -- ## The numbers of the rank states fit 128 bits, since the run would stop at the first rank that does not
 
@@ -128,9 +119,9 @@ module _ (ms : List Machine) (keeps : (j : ℕ) → KeepsLow (machine_at ms j)) 
   pub ranked_low : (slot i : ℕ) (cells : List (Option Cell)) (states : List (List ℕ)) (r : Ranking) →
       AllByRecursion AreLow states → ranking ms slot i cells states ≡ Ok r → AllByRecursion AreLow r.ranks
   ranked_low slot i [] states r all h = grind (arith, common_steps, only_ok)
-  ranked_low slot i (None ∷ cells) states r all h = search (rules, behind, ranked_low slot (i + 1) cells states)
+  ranked_low slot i (None ∷ cells) states r all h = search (rules, after_input_ok, ranked_low slot (i + 1) cells states)
   ranked_low slot i (Some cell ∷ cells) states r all h =
-      search (rules, fits, ltb-true, behind, low_set, low_at, ranked_low slot (i + 1) cells)
+      search (rules, fits, ltb-true, after_input_ok, low_set, low_at, ranked_low slot (i + 1) cells)
 
   pub told_low : (gone : List (Option Queued)) (states : List (List ℕ)) → AllByRecursion AreLow states →
       ((j : ℕ) (q : Queued) → slice_index_or gone j None ≡ Some q → q.key.rank < 2 ^ 128) →

@@ -3,8 +3,8 @@
 -- are one, and of all others the names differ. Each name in the state is of such a cell, and comes to it: each list to
 -- the list of its input, each buffer to that of its output, and each departure to itself. So the clauses hold that ask
 -- for a sound state, but for the fourth.
-use Rattle.cq_stopped.proofs.Terms.{among_of_has, rules, ◌≡◌, ℕ, ◌<◌, List, [], length, Option, refl, sym, ◌∙◌, inl, inr, arith, Bool, true, ◌++◌, map, Some, None, ap, ⊎_elim, ◌≤◌, false_from_ne_true, and_from, and_parts, eq-eqb, eqb-true, common_steps, list_any, filter_map, ◌&&◌, ◌==◌, is_some, slice_index_or, filter, option_map, IsSome, Arrival, IsBefore, is_for, Departure, Queued, Transfer, HasWaited, IdealState, apart_from, not_before_itself, Fabric, buffer, input, fabric_in, HasFor, list_of, machine_at, EachPair, all_pairs, all_weaker, has_of_among, cell_with, Differ, Has, all_from_has, all_of_has, has_left, has_right, pair_of_has, has_cases, has_image, image_has, kept_has, pairs_cross, pairs_left, pairs_right, pairs_with, departure_of, sent_told, named_as, sent_as, state_of, HaveSlack, AreArrivals, IsBufferedBefore, IsMovedBefore, StandInOrder, KeepArrivalOrder, OfOneFlow, AreBelowFloors, IsBelowFloor, Switch, HasShape, class_in, class_of, is_named, named_in, output_in, output_of, queued_in, buffer_told, fabric_told, list_told, queued_of, arriving_cell, is_ahead, Taken, Named, Sent, told_state, State, pairs_of_cells}
-use Rattle.cq_stopped.proofs.Joined.{pairs_in, all_if_has, all_of, has_number, pairs_by_number, pairs_of_all, any_has, has_at_place, is_at, some_passes, pairs_join, pairs_of_images, pairs_both, filter_images, sift, told_again, by_places, image_pairs}
+use Rattle.cq_stopped.proofs.Terms.{among_of_has, rules, ◌≡◌, ℕ, ◌<◌, List, [], length, Option, refl, sym, ◌∙◌, inl, inr, arith, Bool, true, ◌++◌, map, Some, None, ap, ⊎_elim, ◌≤◌, false_from_ne_true, and_from, and_parts, eq-eqb, eqb-true, common_steps, list_any, filter_map, ◌&&◌, ◌==◌, is_some, slice_index_or, filter, option_map, IsSome, Arrival, IsBefore, is_for, Departure, Queued, Transfer, HasWaited, IdealState, apart_from, not_before_itself, Fabric, buffer, input, fabric_in, HasFor, list_of, machine_at, EachPair, all_pairs, all_weaker, has_of_among, cell_with, Differ, Has, all_from_has, all_of_has, has_left, has_right, pair_of_has, has_cases, has_image, image_has, kept_has, pairs_cross, pairs_left, pairs_right, pairs_with, departure_of, sent_told, named_as, sent_as, state_of, HaveSlack, AreArrivals, IsBufferedBefore, IsMovedBefore, StandInOrder, KeepArrivalOrder, OfOneFlow, AreBelowFloors, IsBelowFloor, Switch, HasShape, class_in, class_of, is_named, named_in, output_in, output_of, queued_in, buffer_told, fabric_told, list_told, queued_of, arriving_cell, is_ahead, Taken, Named, Sent, told_state, State, pairs_of_cells, has_all}
+use Rattle.cq_stopped.proofs.Joined.{pairs_in, all_of, has_number, pairs_by_number, pairs_of_all, any_has, has_at_place, is_at, some_passes, pairs_join, pairs_of_images, pairs_both, filter_images, sift, told_again, by_places, image_pairs}
 use Rattle.cq_stopped.proofs.Lined.{AreMoved, DepartsBefore}
 use Rattle.cq_stopped.proofs.Ran.{Follows, IsOwn, IsSentRight, Known, left_at, pool_at, IsHeld, came_in}
 use Rattle.cq_stopped.proofs.Stepping.{own_at}
@@ -276,7 +276,7 @@ module _ {w : Switch} (at : Taken) {ideal : IdealState} {cs : List (List (Option
       let left = pairs_of_images (λ (d : Sent). d.cell) Differ _ (pairs_of_images sent_as _ at.sent (each_sent
       (λ d e. Other d.queued e.queued) (search (arith, rules, same_cell, right_at, has_left_it)))) in
       record {
-        arrive = search (arith, rules, all_if_has Comes (named_in st), is_of_one);
+        arrive = search (arith, rules, has_all Comes (named_in st), is_of_one);
         once = all_pairs Differ (named_in st) (pairs_join Differ (queued_in st) gone queued_pairs left
             (search (arith, rules, is_waiting, of_sent, differ_left)));
       }
@@ -322,12 +322,12 @@ module _ {w : Switch} (at : Taken) {ideal : IdealState} {cs : List (List (Option
       record {
         sent = image_pairs sent_as (λ (d e : Sent). Flow d.cell e.cell → d.cell.slot < e.cell.slot) at.sent
             (each_sent _ (search (arith, rules, of_one, has_left_it, right_at)));
-        after = all_if_has _ (map sent_as at.sent) (λ d has.
+        after = has_all _ (map sent_as at.sent) (λ d has.
             let image = image_has sent_as at.sent d has in
-            all_if_has (After d) queued (search (arith, rules, is_waiting, waits_after)));
-        queued = all_if_has _ queued (λ a first.
+            has_all (After d) queued (search (arith, rules, is_waiting, waits_after)));
+        queued = has_all _ queued (λ a first.
             let x = is_waiting a first in
-            all_if_has (Ahead a) queued (search (arith, rules, is_waiting, goes_first)));
+            has_all (Ahead a) queued (search (arith, rules, is_waiting, goes_first)));
       }
 
   -- ## The sixth clause: what waits is not above the floor of its class
@@ -337,7 +337,7 @@ module _ {w : Switch} (at : Taken) {ideal : IdealState} {cs : List (List (Option
   below q waits = grind (arith, common_steps, its_output, its_class, all_of_has, HasWaited)
 
   pub below_floors : AreBelowFloors w st
-  below_floors = all_if_has (IsBelowFloor w st) (queued_in st) (search (arith, rules, is_waiting, below))
+  below_floors = has_all (IsBelowFloor w st) (queued_in st) (search (arith, rules, is_waiting, below))
 
   -- ## The second clause: all lines stand in order. Those of the lists are told list by list, and those of the buffers
   -- buffer by buffer; departures and transfers are told as the run made them.
@@ -364,8 +364,8 @@ module _ {w : Switch} (at : Taken) {ideal : IdealState} {cs : List (List (Option
             (λ j. pairs_in IsBefore _ (buffer f j) (search (arith, rules, out))
             (pairs_of_cells IsBefore (buffer f j) (known.agrees.fabric.rising j))) (search (arith, rules, out)));
         sent = search (arith, rules, image_pairs, pairs_in, left_by);
-        sent_times = all_if_has Timely (map sent_as at.sent) (search (arith, rules, image_has, right_at));
+        sent_times = has_all Timely (map sent_as at.sent) (search (arith, rules, image_has, right_at));
         moved = all_pairs IsMovedBefore at.note moved.pairs;
-        moved_times = all_if_has (λ (t : Transfer). t.slot < at.frozen.next) at.note
+        moved_times = has_all (λ (t : Transfer). t.slot < at.frozen.next) at.note
             (search (arith, rules, all_of_has));
       }

@@ -58,6 +58,7 @@ pub record KnownSlot (w : Switch) (n : ℕ) (cells : List (Option Cell)) (f : Ma
   pub agrees : Agrees n f.state ideal
   pub ports : length f.state.inputs ≡ length w.machines
   pub come : AreForPorts (length f.state.inputs) w.classes r.admission.cells
+  pub best : FabricSlot IsInputBest w.machines n r.admission.cells f.state r.of_slot g.state
   pub step : FabricSlot IsStable w.machines n r.admission.cells f.state r.of_slot g.state
   pub keyed : (j : ℕ) (q : Queued) → HasFor f.state j q ⊎ CameFor r.of_slot.came j q → IsKeyed w q
   pub placed : (i : ℕ) (q : Queued) → IsAmong q (input r.of_slot.arrived i) → q.key.input ≡ i
@@ -298,6 +299,7 @@ module _ (w : Switch) (ranks : List (List ℕ)) (configured : IsConfigured w ran
           agrees = known.agrees;
           ports = known.ports;
           come = come;
+          best = step.runs;
           step = stable;
           keyed = λ j q has. search (arith, rules, own_at w n f.state ideal cs sent known j q, is_keyed);
           placed = arrived_placed;

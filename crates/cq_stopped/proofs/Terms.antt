@@ -1,5 +1,5 @@
 -- The words of this crate's proofs that stand elsewhere, each passed on from its place.
-pub use Rattle.cq_base.proofs.Library.{All, All-from_recursion, AllByRecursion, AllPairs, Bool, Err, IsSome, List, None, Ok, Option, Result, Some, [], and_from, and_parts, and_right, ap, append-nil, append_assoc, arith, both_ways, cases_Bool, cases_eq, cases_lt, common_steps, cond, cond_both, cons_option, count_by, drop, enumerate_from, eq-eqb, eqb, eqb-true, false, false_from_ne_true, filter, filter-append, filter_agree, filter_map, flat_map, fold, get_or-append-add, get_or-map, get_or-map-range_with_len, get_or-replicate, get_or-set_other, get_or-set_same, get_or_append_left, get_or_past, inl, inr, is_some, le-ltb, leb, length, length-append, length-drop, length-filter_both, length-insert, length-map, length-map-range_with_len, length-replicate, length-set, list_any, lt-leb, lt-ltb, ltb, ltb-true, map, map-append, max, min, mul-le-mul, ne_eqb, not, option_map, or_left, or_right, range_with_len, refl, replicate, rules, same_Some, slice_get, slice_index_or, slice_set, subst, suc, sum, sum_by, sum_by-append, sum_by-cons, sym, true, unwrap_or-slice_get, zero, ℕ, ⊎_elim, ◌&&◌, ◌*◌, ◌++◌, ◌+◌, ◌-◌, ◌<◌, ◌==◌, ◌^◌, ◌∙◌, ◌∷◌, ◌≡◌, ◌≢◌, ◌≤◌, ◌⊎◌}
+pub use Rattle.cq_base.proofs.Library.{All, All-from_recursion, AllByRecursion, AllPairs, Bool, Err, IsSome, List, None, Ok, Option, Result, Some, [], and_from, and_parts, and_right, ap, append-nil, append_assoc, arith, both_ways, cases_Bool, cases_eq, cases_lt, common_steps, cond, cond_both, cons_option, count_by, drop, enumerate_from, eq-eqb, eqb, eqb-true, false, false_from_ne_true, fill_by_all, filter, filter-append, filter_agree, filter_map, flat_map, fold, get_or-append-add, get_or-map, get_or-map-range_with_len, get_or-replicate, get_or-set_other, get_or-set_same, get_or_append_left, get_or_past, inl, inr, is_some, le-ltb, leb, length, length-append, length-drop, length-filter_both, length-insert, length-map, length-map-range_with_len, length-replicate, length-set, list_any, lt-leb, lt-ltb, ltb, ltb-true, map, map-append, max, min, mul-le-mul, ne_eqb, not, option_map, or_left, or_right, range_with_len, refl, replicate, rules, same_Some, slice_get, slice_index_or, slice_set, subst, suc, sum, sum_by, sum_by-append, sum_by-cons, sym, true, unwrap_or-slice_get, zero, ℕ, ⊎_elim, ◌&&◌, ◌*◌, ◌++◌, ◌+◌, ◌-◌, ◌<◌, ◌==◌, ◌^◌, ◌∙◌, ◌∷◌, ◌≡◌, ◌≢◌, ◌≤◌, ◌⊎◌}
 pub use Rattle.cq_base.specs.{Arrivals.arrival_at, declared.cell.Cell.Cell, declared.cell.Departure.Departure, declared.cell.Queued.Queued, declared.cell.Transfer.Transfer}
 pub use Rattle.cq_base.specs.Arriving.{Arrival, arriving_at}
 unfoldable pub use Rattle.cq_base.specs.Arriving.{arriving}
@@ -13,7 +13,7 @@ pub use Rattle.cq_scfq.specs.Disciplines.{machine_of, machines_of, opening_of, o
 pub use Rattle.cq_ideal.proofs.Admitted.{admitted_arrives, admitted_at, marks_kept}
 pub use Rattle.cq_ideal.proofs.Came.{Came, came_from}
 pub use Rattle.cq_ideal.proofs.{EnoughSlots.fewer, FlowStands.HasWaited}
-pub use Rattle.cq_ideal.proofs.FlowRank.{AreOfClasses, only_ok, present}
+pub use Rattle.cq_ideal.proofs.FlowRank.{AreOfClasses, after_input_ok, only_ok, present}
 pub use Rattle.cq_ideal.proofs.FlowSlot.{Served, listed, served}
 pub use Rattle.cq_ideal.specs.Admission.{Marked, held_after, mark_after, mark_at, marks_after, refused, unless}
 unfoldable pub use Rattle.cq_ideal.specs.Admission.{admission}
@@ -48,7 +48,7 @@ pub use Rattle.cq_laws.specs.Phases.{Transfers, came_to, list_arrived}
 unfoldable pub use Rattle.cq_laws.specs.Records.{transfers_in, transfers_of_run}
 pub use Rattle.cq_resume.proofs.Chained.{EachPair, all_pairs, each_pair}
 pub use Rattle.cq_resume.proofs.GoesOn.{Differ, cell_with, found_at, has_of_among}
-pub use Rattle.cq_resume.proofs.Having.{Has, all_from_has, all_of_has, has_cases, has_image, has_kept, has_left, has_right, image_has, kept_has, pair_of_has}
+pub use Rattle.cq_resume.proofs.Having.{Has, all_from_has, all_of_has, has_all, has_cases, has_image, has_kept, has_left, has_right, image_has, kept_has, pair_of_has}
 pub use Rattle.cq_resume.proofs.Pooled.{AreApart, Stands, has_number, has_there, looked_up, no_more, pairs_cross, pairs_kept, pairs_left, pairs_looked_up, pairs_right, pairs_with}
 pub use Rattle.cq_resume.specs.Counted.{departure_of, firsts_at, input_told, is_refused, latest, marks_told, output_told, refused_arrivals, sent_by as sent_at, sent_told, taken_of}
 unfoldable pub use Rattle.cq_resume.specs.Counted.{figures_told, frozen_told}
@@ -64,10 +64,10 @@ unfoldable pub use Rattle.cq_resume.specs.Told.{fabric_told}
 pub use Rattle.cq_resume.specs.declared.taken.Taken.{Taken}
 pub use Rattle.cq_simulate.proofs.NamedFlow.{among_of_has, pairs_of_cells}
 pub use Rattle.cq_stopped.specs.Stopped.{AreRecorded, CanBeTakenUp, StoppedRunsAreSound, told_state}
-pub use Rattle.cq_base.proofs.Each.{all_back, all_both, all_front, all_weaker, few_kept}
+pub use Rattle.cq_base.proofs.Each.{all_back, all_both, all_front, all_weaker, few_kept, of_images}
 pub use Rattle.cq_base.proofs.Putting.{all_put, length_put}
 pub use Rattle.cq_laws.proofs.AddingUp.{fold-max}
 pub use Rattle.cq_ideal.proofs.Waiting.{length-filled}
 pub use Rattle.cq_laws.proofs.EndsTogether.{sent_slots}
 pub use Rattle.cq_ideal.proofs.EnoughSlots.{waiting-empty}
-pub use Rattle.cq_simulate.proofs.FabricSteps.{waiting-sum}
+pub use Rattle.cq_simulate.proofs.{FabricSteps.all_wait, OnceASlot.AreNumbered, Tallies.all_in_row}
