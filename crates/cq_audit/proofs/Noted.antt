@@ -43,7 +43,7 @@ first_tellable ports i j cells c all is =
 -- ## What can be written
 
 -- the transfers fit lines and cross a switch of so many ports, each behind those before it
-abbrev AreWritten : ℕ → List Transfer → Type 0
+abbrev pub AreWritten : ℕ → List Transfer → Type 0
 AreWritten ports [] = Unit {0}
 AreWritten ports (t ∷ note) = IsTransfer t × IsOf ports t × AllByRecursion (IsBefore t) note × AreWritten ports note
 
@@ -180,8 +180,17 @@ module _ (ports classes : ℕ) (came : List Arrival) (traffic : IsTraffic ports 
   slots_tellable slot zero = tt
   slots_tellable slot (suc n) = (slot_tellable slot, slots_tellable (slot + 1) n)
 
-  -- a stable run over them, from lists without cells, of no more slots than a line can name: its transfers are those
-  -- of a log
+  -- a stable run over them from lists without cells, in no more slots than a line can name: its transfers can be
+  -- written
+  pub written_in_run : (limits : List (Option ℕ)) (ms : List Machine) (n : ℕ) (start end : Marked Fabric)
+      (rs : List LimitedRecord) → ports ≤ 64 → length rs ≤ 2 ^ 64 → ((i : ℕ) → input start.state i ≡ []) →
+      LimitedFabricRun IsStable limits ms 0 (arriving_from came 0 n) start rs end →
+      AreWritten ports (transfers_of_run (slots_in rs))
+  written_in_run limits ms n start end rs few long empty run =
+      run_written limits ms ports few 0 (arriving_from came 0 n) start end rs (omega arith) (slots_tellable 0 n)
+      (λ i. rw (empty i) tt) run
+
+  -- and where it is whole they are those of a log
   pub stable_log : (limits : List (Option ℕ)) (ms : List Machine) (start end : Marked Fabric)
       (rs : List LimitedRecord) → ports ≤ 64 → length rs ≤ 2 ^ 64 → ((i : ℕ) → input start.state i ≡ []) →
       StableRun limits ms came start rs end →
@@ -190,7 +199,6 @@ module _ (ports classes : ℕ) (came : List Arrival) (traffic : IsTraffic ports 
   stable_log limits ms start end rs few long empty whole =
       let run =
       run_of_whole (LimitedFabricSlot IsStable limits ms) came start rs (λ f. IsEmptyFabric f.state) end whole in
-      let written = run_written limits ms ports few 0 (arriving_from came 0 (length rs)) start end rs (omega arith)
-      (slots_tellable 0 (length rs)) (λ i. rw (empty i) tt) run in
+      let written = written_in_run limits ms (length rs) start end rs few long empty run in
       let led = leads_written ports None _ written tt in
       search (arith, rules)

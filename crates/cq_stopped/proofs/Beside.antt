@@ -3,7 +3,7 @@
 -- were there, and those that came for it, are there still or have left, so all are keyed as the switch keys them. A
 -- phase makes no more proposals than the number of ports squared, and none where no cell waits at an input; and in each
 -- slot in which a cell waits or comes one leaves, so there are no more such slots than cells that came.
-use Rattle.cq_stopped.proofs.Terms.{arith, rules, Arrival, ◌≡◌, ℕ, zero, suc, ◌+◌, ◌⊎◌, List, [], ◌∷◌, length, None, Some, inl, inr, ⊎_elim, drop, ◌∙◌, ◌<◌, ◌≤◌, ◌^◌, ap, length-drop, ◌*◌, ◌-◌, fold, max, cases_lt, eqb-true, common_steps, length-replicate, get_or-replicate, get_or_past, length-insert, sum_by-append, sum_by-cons, AllByRecursion, range_with_len, flat_map, slice_get, slice_index_or, filter_map, sum, arriving, first_for, is_for, Queued, present, Marked, arriving_from, CameFor, arrived_has, limited_empty_agree, among_at, first_at, after_sent, arrived, keyed, old_sound, same_slot, Sound, orders_are, SendsAlike, Fabric, IsAmong, buffer, empty_fabric, input, SlotRecord, fabric_held, LimitedRecord, slots_in, proposals_in, Transfers, HasFor, transfers_in, list_of, orders_of, noted, transfers_of, IsStable, Partners, partner_of, proposals, machine_at, all_both, found_at, all_of_has, opening, Switch, IsMoved, length_put, waiting-empty, all_wait}
+use Rattle.cq_stopped.proofs.Terms.{arith, rules, Arrival, ◌≡◌, ℕ, zero, suc, ◌+◌, ◌⊎◌, List, [], ◌∷◌, length, None, Some, inl, inr, ⊎_elim, drop, ◌∙◌, ◌≤◌, ap, length-drop, ◌*◌, ◌-◌, fold, max, cases_lt, common_steps, length-replicate, get_or-replicate, get_or_past, length-insert, sum_by-append, sum_by-cons, AllByRecursion, flat_map, slice_get, slice_index_or, sum, arriving, Queued, present, Marked, arriving_from, CameFor, arrived_has, limited_empty_agree, after_sent, arrived, keyed, old_sound, same_slot, Sound, orders_are, SendsAlike, Fabric, IsAmong, buffer, empty_fabric, input, SlotRecord, fabric_held, LimitedRecord, slots_in, proposals_in, Transfers, HasFor, orders_of, IsStable, Partners, proposals, machine_at, opening, Switch, length_put, waiting-empty, all_wait}
 use Rattle.cq_ideal.proofs.Ends.{nothing_left}
 use Rattle.cq_ideal.proofs.FlowCount.{come_count-first}
 use Rattle.cq_ideal.proofs.FlowRun.{come_count}
@@ -14,8 +14,8 @@ use Rattle.cq_laws.proofs.Rises.{partner_offers, sender}
 use Rattle.cq_laws.proofs.WholeRuns.{empty_together}
 use Rattle.cq_simulate.proofs.FabricCounts.{none_proposed as simulate_none, proposals_few, shorter, square_few}
 use Rattle.cq_stopped.proofs.Ran.{IsKeyed}
-use Rattle.cq_stopped.proofs.Stepping.{KnownRun, KnownSlot, still_among}
-use Rattle.cq_stopped.proofs.Configured.{AreLow, HasSmallName, KeepsLow}
+use Rattle.cq_stopped.proofs.Stepping.{KnownRun, KnownSlot}
+use Rattle.cq_stopped.proofs.Configured.{AreLow, KeepsLow}
 use Rattle.cq_stopped.proofs.Queueing.{ranked_low, told_low}
 
 -- ## Lists that get longer and shorter
@@ -33,27 +33,6 @@ module _ (m : Partners) (old new : Fabric) (moves : Transfers m old new) where
       (orders_are old sound.apart) stable moves r.0 j r.1 in
       search (arith, rules, length_put f.0 (buffer old j))) (λ none. search (arith, rules)) (sender m j)
 
--- ## What is noted of a transfer
-
--- what is known of the first cell for an output in an input's list
-record Crosses (ports i j : ℕ) (c : Queued) : Type 0 where
-  input : i < ports
-  output : j < ports
-  small : (c.cell.id.packet < 2 ^ 32) × (c.cell.id.index < 2 ^ 32)
-  own : c.cell.id.input ≡ i
-
-module _ (ports slot phase : ℕ) (early : slot < 2 ^ 63) (known_phase : (1 ≤ phase) × (phase ≤ 2))
-    (lists : List (List Queued)) (m : Partners)
-    (each : (i j : ℕ) (c : Queued) → first_for j (list_of lists i) ≡ Some c → Crosses ports i j c) where
-  noted_from : (a n : ℕ) → AllByRecursion (IsMoved ports)
-      (filter_map (λ i. noted slot phase i (list_of lists i) (partner_of m i)) (range_with_len a n))
-  noted_from a zero = tt
-  noted_from a (suc n) = search (arith, rules, noted_from (a + 1) n)
-
-  all_noted : AllByRecursion (IsMoved ports) (transfers_of m lists slot phase)
-  unfolding transfers_of
-  all_noted = search (rules, noted_from)
-
 -- ## What waits
 
 -- how many cells wait in a fabric
@@ -68,16 +47,15 @@ pub record IsWithin (slot : ℕ) (f : Fabric) : Type 0 where
   pub states : AllByRecursion AreLow f.ranks
 
 -- what is recorded of a slot before this one
-pub record IsRecordedWithin (ports last : ℕ) (r : SlotRecord) : Type 0 where
+pub record IsRecordedWithin (last : ℕ) (r : SlotRecord) : Type 0 where
   pub longest : (i : ℕ) → length (input r.arrived i) ≤ last
   pub cushions : (j : ℕ) → length (buffer r.arrived j) ≤ last
-  pub moved : AllByRecursion (IsMoved ports) (transfers_in r)
 
 -- after so many slots from this one on, with these records, where the last slot is this one or later
-pub record RunsWithin (came : List Arrival) (ports slot n last : ℕ) (f : Marked Fabric) (rs : List LimitedRecord)
+pub record RunsWithin (came : List Arrival) (slot n last : ℕ) (f : Marked Fabric) (rs : List LimitedRecord)
     (g : Marked Fabric) : Type 0 where
   pub states : AllByRecursion AreLow g.state.ranks
-  pub records : AllByRecursion (IsRecordedWithin ports last) (slots_in rs)
+  pub records : AllByRecursion (IsRecordedWithin last) (slots_in rs)
   pub proposed : sum (flat_map proposals_in (slots_in rs)) + 8192 * waits g.state
       ≤ 8192 * (waits f.state + come_count (arriving_from came slot n))
 
@@ -114,21 +92,12 @@ module _ (w : Switch) where
         of_gone : (j : ℕ) (q : Queued) → slice_index_or r.of_slot.gone j None ≡ Some q → P q
         of_gone j q left = grind (arith, common_steps, of_filled j, first_or_rest)
 
-        of_sent : (j : ℕ) (q : Queued) → HasFor r.of_slot.sent j q → P q
-        of_sent j q has = grind (arith, common_steps, of_filled j, first_or_rest, left_is)
-
     -- ## What stays within bounds
 
-    module _ (names : AllByRecursion HasSmallName w.came) (keeps : (j : ℕ) → KeepsLow (machine_at w.machines j))
-        (within : IsWithin slot f.state) where
+    module _ (keeps : (j : ℕ) → KeepsLow (machine_at w.machines j)) (within : IsWithin slot f.state) where
       ranked : AllByRecursion AreLow r.of_slot.arrived.ranks
       ranked = ranked_low w.machines keeps slot 0 r.admission.cells f.state.ranks
           (record { came = r.of_slot.came; ranks = r.of_slot.arrived.ranks }) within.states k.step.arrive.ranked
-
-      small_name : (q : Queued) → IsKeyed w q → (q.cell.id.packet < 2 ^ 32) × (q.cell.id.index < 2 ^ 32)
-      small_name q is =
-          let it = found_at w.came q.key.slot q.key.input q.cell is.arrives in
-          let small = all_of_has HasSmallName w.came it.arrival names it.has in rw it.own at small
 
       arrived_list : (i : ℕ) → length (input r.of_slot.arrived i) ≤ slot + 1
       arrived_list i = search (arith, rules, length-insert)
@@ -150,32 +119,8 @@ module _ (w : Switch) where
             (λ j q left. (of_gone (IsKeyed w) k.keyed j q left).rank));
       }
 
-      -- a first cell crosses right
-      crosses : (moment : Fabric) → length moment.inputs ≡ length w.machines → Sound (slot + 1) moment →
-          ((j : ℕ) (q : Queued) → HasFor moment j q → IsKeyed w q) →
-          ((i : ℕ) (q : Queued) → IsAmong q (input moment i) → q.key.input ≡ i) →
-          (i j : ℕ) (c : Queued) → first_for j (input moment i) ≡ Some c → Crosses (length w.machines) i j c
-      crosses moment many sound keyed placed i j c first =
-          let at = first_at (is_for j) (input moment i) c first in
-          let among = among_at (input moment i) at.place c at.at in
-          let out = eqb-true c.cell.output j at.passes in
-          let is = keyed j c (inl (i, among, out)) in
-          let at_own = placed i c among in
-          search (arith, rules, small_name)
-
-      recorded : (last : ℕ) → slot + 1 ≤ last → last < 2 ^ 63 → IsRecordedWithin (length w.machines) last r.of_slot
-      unfolding transfers_in
-      recorded last le low =
-          let early : r.of_slot.slot < 2 ^ 63 = omega arith in
-          let ports = length w.machines in
-          let first = all_noted ports r.of_slot.slot 1 early (omega arith, omega arith) r.of_slot.arrived.inputs
-          r.of_slot.first
-          (crosses r.of_slot.arrived arrived_many arrived_is (of_arrived (IsKeyed w) k.keyed) k.placed) in
-          let second = all_noted ports r.of_slot.slot 2 early (omega arith, omega arith) r.of_slot.sent.inputs
-          r.of_slot.second (crosses r.of_slot.sent sent_many sent_is (of_sent (IsKeyed w) k.keyed) (λ i q has.
-          k.placed i q (still_among r.of_slot.first r.of_slot.arrived r.of_slot.filled k.step.fill i q
-          (rw k.step.depart.inputs at has)))) in
-          search (arith, rules, arrived_list, arrived_buffer, all_both)
+      recorded : (last : ℕ) → slot + 1 ≤ last → IsRecordedWithin last r.of_slot
+      recorded last le = search (arith, rules, arrived_list, arrived_buffer)
 
     -- ## How many proposals a slot makes
 
@@ -222,21 +167,20 @@ module _ (w : Switch) where
 
   -- ## In a run
 
-  pub run_within : length w.machines ≤ 64 → AllByRecursion HasSmallName w.came →
-      ((j : ℕ) → KeepsLow (machine_at w.machines j)) → (slot n last : ℕ) (f g : Marked Fabric)
-      (rs : List LimitedRecord) → KnownRun w slot n f rs g → slot + n ≤ last → last < 2 ^ 63 →
-      IsWithin slot f.state → RunsWithin w.came (length w.machines) slot n last f rs g
+  pub run_within : length w.machines ≤ 64 → ((j : ℕ) → KeepsLow (machine_at w.machines j)) → (slot n last : ℕ)
+      (f g : Marked Fabric) (rs : List LimitedRecord) → KnownRun w slot n f rs g → slot + n ≤ last →
+      IsWithin slot f.state → RunsWithin w.came slot n last f rs g
   unfolding arriving_from come_count
-  run_within few names keeps slot zero last f g [] run le low within = grind (arith, common_steps)
-  run_within few names keeps slot (suc n) last f g (r ∷ rs) run le low within =
-      let on = next_within slot f run.0 r run.1 names keeps within in
-      let rest = run_within few names keeps (slot + 1) n last run.0 g rs run.2 (omega arith) low on in
+  run_within few keeps slot zero last f g [] run le within = grind (arith, common_steps)
+  run_within few keeps slot (suc n) last f g (r ∷ rs) run le within =
+      let on = next_within slot f run.0 r run.1 keeps within in
+      let rest = run_within few keeps (slot + 1) n last run.0 g rs run.2 (omega arith) on in
       let here = slot_proposed slot f run.0 r run.1 few in
-      search (arith, rules, recorded slot f run.0 r run.1 names keeps within last, sum_by-append (λ (n : ℕ). n))
-  run_within few names keeps slot _ last f g _ run le low within = absurd run
+      search (arith, rules, recorded slot f run.0 r run.1 keeps within last, sum_by-append (λ (n : ℕ). n))
+  run_within few keeps slot _ last f g _ run le within = absurd run
 
   pub all_proposed : (slots last : ℕ) (ranks : List (List ℕ)) (g : Marked Fabric) (rs : List LimitedRecord) →
-      RunsWithin w.came (length w.machines) 0 slots last (opening w ranks) rs g →
+      RunsWithin w.came 0 slots last (opening w ranks) rs g →
       sum (flat_map proposals_in (slots_in rs)) ≤ 8192 * length w.came
   unfolding arriving_from
   all_proposed slots last ranks g rs run =

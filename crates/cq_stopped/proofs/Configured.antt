@@ -2,23 +2,17 @@
 -- keep the laws of machines and begin in a state of their size, and its arrivals, of which there are not many. They
 -- come packet after packet at each input. A capture is a file of 2^28 bytes at most, and each packet and each cell of
 -- it takes a byte there, so that no packet's number and no cell's place in its packet comes near 2^32.
-use Rattle.cq_stopped.proofs.Terms.{common_steps, rules, ◌≡◌, ℕ, zero, suc, ◌+◌, ◌*◌, ◌<◌, ◌≤◌, ◌^◌, min, List, [], ◌∷◌, length, map, flat_map, ap, arith, length-append, fold, replicate, slice_index_or, sum_by, AllByRecursion, range_with_len, length-map, sum_by-cons, Arrival, Scheduled, IsRecorded, IsTraffic, KeepsLaws, Machine, machine_at, all_both, ArePackets, IsScheduleOf, Switch, switch_of, AreTables, IsSetup, Tables, machine_of, machines_of, opening_of, openings_of, AreRecorded, of_images}
+use Rattle.cq_stopped.proofs.Terms.{common_steps, rules, ◌≡◌, ℕ, zero, suc, ◌+◌, ◌*◌, ◌<◌, ◌≤◌, ◌^◌, min, List, [], ◌∷◌, length, map, flat_map, ap, arith, length-append, fold, replicate, slice_index_or, AllByRecursion, range_with_len, length-map, Arrival, Scheduled, IsRecorded, IsTraffic, KeepsLaws, Machine, machine_at, all_both, ArePackets, IsScheduleOf, Switch, switch_of, AreTables, IsSetup, Tables, machine_of, machines_of, opening_of, openings_of, AreRecorded, of_images, FitsLine, length-map-range_with_len}
 use Rattle.cq_base.specs.declared.setup.ClassRow.{ClassRow}
 use Rattle.cq_base.specs.declared.setup.Kind.{Kind}
 use Rattle.cq_base.specs.declared.setup.Kind.TheVariants.{FirstCome, Priority, Fair}
 use Rattle.cq_base.specs.declared.setup.Setup.{Setup}
-use Rattle.cq_cells.proofs.Looked.{piece}
-use Rattle.cq_cells.proofs.Packets.{came_more, few_by, length_packet, came_by}
-use Rattle.cq_cells.proofs.Rising.{all_flat}
-use Rattle.cq_cells.specs.Schedule.{arrivals, arrivals_at, arrivals_of, cell_of, first_stamp, packets_of, start}
+use Rattle.cq_cells.proofs.Packets.{came_more, few_by, length_packet, row_of, rows_are}
+use Rattle.cq_cells.specs.Schedule.{arrivals, arrivals_at, cell_of, first_stamp, packets_of}
 use Rattle.cq_pcap.specs.Captured.{Captured}
 use Rattle.cq_resume.proofs.Scheduling.{schedule_known}
+use Rattle.cq_simulate.proofs.Departed.{all_cells}
 use Rattle.cq_simulate.proofs.Runnable.{keeps_laws, kind, machine_is, right_classes, right_size}
-use Rattle.cq_stopped.proofs.Joined.{all_made}
-
--- the numbers of a cell's packet and of its place there are small
-abbrev pub HasSmallName : Arrival → Type 0
-HasSmallName a = (a.cell.id.packet < 2 ^ 32) × (a.cell.id.index < 2 ^ 32)
 
 -- all numbers of a rank state fit 128 bits
 abbrev pub AreLow : List ℕ → Type 0
@@ -38,7 +32,7 @@ pub record IsConfigured (w : Switch) (ranks : List (List ℕ)) : Type 0 where
   pub first_stamp : w.first_stamp < 2 ^ 63
   pub traffic : IsTraffic (length w.machines) w.classes w.came
   pub packets : ArePackets (length w.machines) w.came
-  pub names : AllByRecursion HasSmallName w.came
+  pub names : AllByRecursion FitsLine w.came
   pub few_cells : length w.came ≤ 2 ^ 34
   pub laws : (j : ℕ) → j < length w.machines → KeepsLaws (machine_at w.machines j)
   pub same : (j : ℕ) → j < length w.machines → (machine_at w.machines j).classes ≡ w.classes
@@ -93,29 +87,17 @@ module _ (t : Tables) (captures : List (List Captured)) where
   unfolding arrivals
   all_short tables few each = grind (arith, common_steps, lines_short)
 
-  few_packets : (ps : List Captured) → length ps ≤ sum_by (λ (p : Captured). 16 + length p.body) ps
-  few_packets [] = omega arith
-  few_packets (p ∷ ps) = grind (arith, common_steps, sum_by-cons, few_packets ps)
-
-  small_here : (input : ℕ) → 1 ≤ t.cell_bytes → IsRecorded (packets_of captures input) →
-      AllByRecursion HasSmallName (arrivals_at t captures input)
-  unfolding arrivals_at cell_of
-  small_here input some is =
-      let ps = packets_of captures input in
-      let many = few_packets ps in
-      all_flat HasSmallName (arrivals_of t captures input) 0 (length ps) (λ k from lt.
-      let all = few_by t captures input (k + 1) some is (omega arith) in
-      let more = ap (λ (l : List Arrival). length l) (came_more t captures input k) in
-      let both = length-append (came_by t captures input k) (arrivals_of t captures input k) in
-      let size = length_packet t captures input k in
-      all_made _ (piece (start t captures input k) (cell_of t captures input k)) 0 _
-      (λ i below. (omega arith, omega arith)))
-
   small_names : 1 ≤ t.cell_bytes → ((i : ℕ) → i < length captures → IsRecorded (packets_of captures i)) →
-      AllByRecursion HasSmallName (arrivals t captures)
-  unfolding arrivals
+      AllByRecursion FitsLine (arrivals t captures)
+  unfolding cell_of
   small_names some each =
-      grind (arith, common_steps, all_flat HasSmallName (arrivals_at t captures) 0 (length captures), small_here)
+      all_cells t captures FitsLine (λ i k n in_captures in_packets below.
+      let rows = rows_are t captures i some (each i in_captures) in
+      let many = length-map-range_with_len (row_of t captures i) 0 (length (packets_of captures i)) in
+      let all = few_by t captures i (k + 1) some (each i in_captures) (omega arith) in
+      let more = ap (λ (l : List Arrival). length l) (came_more t captures i k) in
+      let own = length_packet t captures i k in
+      (omega (arith, rows.few, many), omega (arith, all, more, own, length-append {A = Arrival})))
 
 -- ## The first stamp
 

@@ -1,7 +1,7 @@
 -- The departures and the transfers of a run: what a slot adds to the departures, at each output the cell that it sent,
--- if it sent one; that they stand in order: slot by slot, those of a slot by output, and by phase and input; and the
--- figures that are read off them.
-use Rattle.cq_stopped.proofs.Terms.{◌≡◌, ℕ, zero, suc, ◌+◌, ◌<◌, List, [], ◌∷◌, ◌++◌, Option, Some, None, refl, arith, rules, ◌≤◌, ◌⊎◌, length, map, ◌-◌, eqb, Bool, true, false, fold, max, ◌∙◌, eq-eqb, ne_eqb, and_from, and_parts, cases_lt, eqb-true, common_steps, map-append, get_or_past, length-map, filter-append, sum_by-cons, AllByRecursion, range_with_len, cons_option, enumerate_from, ◌==◌, filter, slice_index_or, ◌&&◌, count_by, filter_map, is_some, option_map, Arrival, Departure, Queued, Transfer, listed, Marked, arriving_from, slots_of, departures_of, departures_from, departures_in, Fabric, SlotRecord, LimitedRecord, slots_in, figures_of, input_figures, output_figures, sends, sent_by, wait_at, came_to, transfers_in, transfers_of_run, gone_in, list_of, noted, transfers_of, Partners, partner_of, EachPair, all_both, all_weaker, Differ, all_from_has, all_of_has, Has, has_kept, kept_has, looked_up, pairs_looked_up, AreApart, Stands, no_more, pairs_kept, figures_told, input_told, output_told, sent_told, sent_at, seen_as, Runs, IsMovedBefore, Switch, is_named, named_in, Named, State, fold-max, sent_slots, has_number, AreNumbered}
+-- if it sent one; that departures stand in order, slot by slot and those of a slot by output; that transfers which a
+-- log can hold do so, and are in range; and the figures that are read off them.
+use Rattle.cq_stopped.proofs.Terms.{◌≡◌, ℕ, zero, suc, ◌+◌, ◌<◌, List, [], ◌∷◌, ◌++◌, Option, Some, None, refl, arith, rules, ◌≤◌, ◌⊎◌, length, map, ◌-◌, eqb, Bool, true, false, fold, max, ◌∙◌, eq-eqb, ne_eqb, and_from, and_parts, cases_lt, eqb-true, common_steps, map-append, get_or_past, length-map, filter-append, sum_by-cons, AllByRecursion, range_with_len, cons_option, enumerate_from, ◌==◌, filter, slice_index_or, ◌&&◌, count_by, filter_map, is_some, option_map, Arrival, Departure, Queued, Transfer, listed, slots_of, departures_of, departures_from, departures_in, SlotRecord, LimitedRecord, slots_in, figures_of, input_figures, output_figures, sends, sent_by, wait_at, came_to, gone_in, EachPair, all_both, all_weaker, Differ, all_from_has, all_of_has, Has, has_kept, kept_has, AreApart, Stands, no_more, pairs_kept, figures_told, input_told, output_told, sent_told, sent_at, seen_as, IsMovedBefore, is_named, named_in, Named, State, fold-max, sent_slots, has_number, AreNumbered, IsMoved, AreWritten, ◌^◌}
 use Rattle.cq_base.specs.declared.figures.Figures.{Figures}
 use Rattle.cq_base.specs.declared.figures.InputFigures.{InputFigures}
 use Rattle.cq_ideal.proofs.LastSlot.{slots_of-append}
@@ -90,11 +90,7 @@ departures_in_order slot [] = tt
 departures_in_order slot (gone ∷ slots) =
     search (rules, pairs_join, slot_in_order, all_of_has, of_slot, no_earlier, departures_in_order (slot + 1) slots)
 
--- ## Transfers
-
-noted_is : (slot phase i : ℕ) (cells : List Queued) (o : Option ℕ) (t : Transfer) →
-    noted slot phase i cells o ≡ Some t → (t.slot ≡ slot) × (t.phase ≡ phase) × (t.input ≡ i)
-noted_is slot phase i cells o t is = grind (arith, common_steps)
+-- ## Numbers in a row
 
 range_from : (b a n : ℕ) → b ≤ a → AllByRecursion (λ (k : ℕ). b ≤ k) (range_with_len a n)
 range_from b a zero le = tt
@@ -104,42 +100,20 @@ pub range_rises : (a n : ℕ) → EachPair (λ (i k : ℕ). i < k) (range_with_l
 range_rises a zero = tt
 range_rises a (suc n) = grind (arith, common_steps, all_weaker, range_from, range_rises (a + 1) n)
 
-module _ (m : Partners) (lists : List (List Queued)) (slot phase : ℕ) where
-  -- each is of the slot and the phase
-  phase_transfers : AllByRecursion (λ (t : Transfer). (t.slot ≡ slot) × (t.phase ≡ phase))
-      (transfers_of m lists slot phase)
-  unfolding transfers_of
-  phase_transfers = search (rules, all_from_has, looked_up, noted_is)
+-- ## Transfers
 
-  pub phase_in_order : EachPair IsMovedBefore (transfers_of m lists slot phase)
-  unfolding transfers_of
-  phase_in_order = pairs_looked_up (λ i. noted slot phase i (list_of lists i) (partner_of m i)) (λ (i k : ℕ). i < k)
-      IsMovedBefore
-      (λ i k a b lt first second. search (arith, rules, noted_is)) (range_with_len 0 (length m))
-      (range_rises 0 (length m))
+-- those of the slots before one stand in order and are in range
+pub record AreMoved (ports end : ℕ) (note : List Transfer) : Type 0 where
+  pub pairs : EachPair IsMovedBefore note
+  pub all : AllByRecursion (IsMoved ports) note
+  pub times : AllByRecursion (λ t. t.slot < end) note
 
-slot_transfers : (r : SlotRecord) → AllByRecursion (λ (t : Transfer). t.slot ≡ r.slot) (transfers_in r)
-unfolding transfers_in
-slot_transfers r = grind (arith, common_steps, all_both, all_weaker, phase_transfers)
-
-slot_moved : (r : SlotRecord) → EachPair IsMovedBefore (transfers_in r)
-unfolding transfers_in
-slot_moved r = grind (arith, common_steps, pairs_join, phase_in_order, all_of_has, phase_transfers)
-
--- the transfers of some slots
-pub record AreMoved (from to : ℕ) (ts : List Transfer) : Type 0 where
-  pub pairs : EachPair IsMovedBefore ts
-  pub times : AllByRecursion (λ t. (from ≤ t.slot) × (t.slot < to)) ts
-
-module _ (w : Switch) where
-  pub moved_in_order : (m a end : ℕ) (f g : Marked Fabric) (rs : List LimitedRecord) →
-      Runs w a (arriving_from w.came a m) f rs g → end ≡ a + m → AreMoved a end (transfers_of_run (slots_in rs))
-  unfolding transfers_of_run arriving_from
-  moved_in_order zero a end f g [] run is = record { pairs = tt; times = tt }
-  moved_in_order (suc m) a end f g (r ∷ rs) run is =
-      let rest = moved_in_order m (a + 1) end run.0 g rs run.2 in
-      search (arith, rules, slot_transfers, slot_moved, pairs_join, all_of_has, all_both, all_weaker, rest)
-  moved_in_order _ a end f g _ run is = absurd run
+-- and do so where they can be written
+pub are_moved : (ports end : ℕ) (note : List Transfer) → end < 2 ^ 63 → AreWritten ports note →
+    AllByRecursion (λ t. t.slot < end) note → AreMoved ports end note
+are_moved ports end [] low written times = record { pairs = tt; all = tt; times = tt }
+are_moved ports end (t ∷ note) low written times =
+    let rest = are_moved ports end note low written.3 times.1 in search (arith, rules)
 
 -- ## The figures. What an output sent and how long it kept a cell are read off its departures, one for each slot in
 -- which it sent. And as many names are of an input as cells came to it: names of one input have different slots, and

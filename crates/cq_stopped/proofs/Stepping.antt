@@ -26,7 +26,7 @@ pub came_or_was : (f : Fabric) (came : Option Queued) (xs : List Queued) (q : Qu
 came_or_was f None xs q has = inr has
 came_or_was f (Some c) xs q has = grind (arith, common_steps, among_insert)
 
-pub still_among : (m : Partners) (old new : Fabric) → Transfers m old new → (i : ℕ) (q : Queued) →
+still_among : (m : Partners) (old new : Fabric) → Transfers m old new → (i : ℕ) (q : Queued) →
     IsAmong q (input new i) → IsAmong q (input old i)
 still_among m old new moves i q has = search (arith, rules, left_among)
 
@@ -61,7 +61,6 @@ pub record KnownSlot (w : Switch) (n : ℕ) (cells : List (Option Cell)) (f : Ma
   pub best : FabricSlot IsInputBest w.machines n r.admission.cells f.state r.of_slot g.state
   pub step : FabricSlot IsStable w.machines n r.admission.cells f.state r.of_slot g.state
   pub keyed : (j : ℕ) (q : Queued) → HasFor f.state j q ⊎ CameFor r.of_slot.came j q → IsKeyed w q
-  pub placed : (i : ℕ) (q : Queued) → IsAmong q (input r.of_slot.arrived i) → q.key.input ≡ i
   pub fewer : length (present r.admission.cells) ≤ length (present cells)
 
 -- and of the run of so many slots from this one on
@@ -302,7 +301,6 @@ module _ (w : Switch) (ranks : List (List ℕ)) (configured : IsConfigured w ran
           best = step.runs;
           step = stable;
           keyed = λ j q has. search (arith, rules, own_at w n f.state ideal cs sent known j q, is_keyed);
-          placed = arrived_placed;
           fewer = grind (arith, common_steps, present, fewer);
         }
 

@@ -64,6 +64,7 @@ unfoldable pub use Rattle.cq_resume.specs.Told.{fabric_told}
 pub use Rattle.cq_resume.specs.declared.taken.Taken.{Taken}
 pub use Rattle.cq_simulate.proofs.NamedFlow.{among_of_has, pairs_of_cells}
 pub use Rattle.cq_stopped.specs.Stopped.{AreRecorded, CanBeTakenUp, StoppedRunsAreSound, told_state}
+pub use Rattle.cq_audit.proofs.Noted.{AreWritten, FitsLine}
 pub use Rattle.cq_base.proofs.Each.{all_back, all_both, all_front, all_weaker, few_kept, of_images}
 pub use Rattle.cq_base.proofs.Putting.{all_put, length_put}
 pub use Rattle.cq_laws.proofs.AddingUp.{fold-max}

@@ -3,9 +3,14 @@
 -- of its cell; the figures, since as many names are of an input as cells came to it; and the marks and the counts,
 -- since the arrivals that are not named are those that were refused. The text of that state is read as what was left,
 -- so what goes on from there is the run.
-use Rattle.cq_stopped.proofs.Terms.{rules, ◌≡◌, ℕ, zero, suc, ◌+◌, ◌-◌, ◌<◌, ◌≤◌, ◌^◌, List, [], ◌∷◌, length, map, fold, min, max, refl, sym, ap, ◌∙◌, arith, common_steps, length-map, length-map-range_with_len, AllByRecursion, enumerate_from, flat_map, slice_index_or, Queued, Scheduled, arriving_from, departures_of, Fabric, cushion_of, input, SlotRecord, fabric_in, marked_in, LimitedRecord, slots_in, figures_of, input_figures, slacks, transfers_of_run, gone_in, list_of, each_pair, EachPair, all_both, Differ, Has, all_from_has, all_of_has, has_image, has_left, has_right, image_has, figures_told, frozen_told, taken_of, opening, IsWhole, IsParted, seen_as, sent_as, state_of, IsRefusal, Kept, Runs, Clause, IsSound, Switch, switch_of, named_in, queued_in, Taken, ports_of, Tables, machine_of, openings_of, AreRankNumbers, IsInRange, IsMoved, IsNamed, IsSeen, IsSent, state_lines, state_text, Named, Sent, State, told_state, CanBeTakenUp, StoppedRunsAreSound, few_kept, of_images}
+use Rattle.cq_stopped.proofs.Terms.{rules, ◌≡◌, ℕ, zero, suc, ◌+◌, ◌-◌, ◌<◌, ◌≤◌, ◌^◌, List, [], ◌∷◌, length, map, fold, min, max, refl, sym, ap, ◌∙◌, arith, common_steps, length-map, length-map-range_with_len, AllByRecursion, enumerate_from, flat_map, slice_index_or, Queued, Scheduled, arriving_from, departures_of, Fabric, cushion_of, input, SlotRecord, fabric_in, marked_in, LimitedRecord, slots_in, figures_of, input_figures, slacks, gone_in, list_of, each_pair, EachPair, all_both, Differ, Has, all_from_has, all_of_has, has_image, has_left, has_right, image_has, figures_told, frozen_told, taken_of, opening, IsWhole, IsParted, seen_as, sent_as, state_of, IsRefusal, Kept, Runs, Clause, IsSound, Switch, switch_of, named_in, queued_in, Taken, ports_of, Tables, machine_of, openings_of, AreRankNumbers, IsInRange, IsNamed, IsSeen, IsSent, state_lines, state_text, Named, Sent, State, told_state, CanBeTakenUp, StoppedRunsAreSound, few_kept, of_images, all_weaker, transfers_of_run, Transfer}
+use Rattle.cq_audit.proofs.Following.{run_within as of_its_slots}
+use Rattle.cq_audit.proofs.Noted.{written_in_run}
+use Rattle.cq_ideal.proofs.Parted.{arriving_length}
 use Rattle.cq_ideal.proofs.Refusals.{counts_more}
 use Rattle.cq_laws.proofs.AddingUp.{figures_fold}
+use Rattle.cq_laws.proofs.InputBest.{stable_limited_run}
+use Rattle.cq_laws.proofs.WholeRuns.{empty_list}
 use Rattle.cq_resume.proofs.Joining.{parts_join as join}
 use Rattle.cq_resume.specs.declared.refusal.StateRefusal.{StateRefusal}
 use Rattle.cq_simulate.proofs.OnceASlot.{limited_numbered}
@@ -15,7 +20,7 @@ use Rattle.cq_state.proofs.OneText.{have_one_text}
 use Rattle.cq_stopped.proofs.Beside.{all_proposed, most_of_all, IsRecordedWithin, RunsWithin, empty_within, run_within}
 use Rattle.cq_stopped.proofs.Configured.{AreLow, IsConfigured, configured}
 use Rattle.cq_stopped.proofs.Joined.{all_made}
-use Rattle.cq_stopped.proofs.Lined.{figures_are, AreMoved, DepartsBefore, departures_in_order, moved_in_order}
+use Rattle.cq_stopped.proofs.Lined.{figures_are, are_moved, AreMoved, DepartsBefore, departures_in_order}
 use Rattle.cq_stopped.proofs.Ran.{IsSentRight, Known, came_of}
 use Rattle.cq_stopped.proofs.Standing.{is_of_one, state_sized, states_many, fabric_same, sent_same, arrivals_are, named_is, below_floors, keep_order, stand_in_order, has_shape, slack_kept}
 use Rattle.cq_stopped.proofs.Stepping.{Ended, stopped_is}
@@ -42,28 +47,21 @@ module _ (last : ℕ) where
   cushions_few f few a [] = tt
   cushions_few f few a (c ∷ cells) = grind (arith, common_steps, few_kept, cushions_few f few (a + 1) cells)
 
-  module _ (ports : ℕ) where
-    longest_few : (i : ℕ) (rs : List SlotRecord) → AllByRecursion (IsRecordedWithin ports last) rs →
-        AllByRecursion IsFew (map (λ (r : SlotRecord). length (input r.arrived i)) rs)
-    longest_few i [] all = tt
-    longest_few i (r ∷ rs) all = (all.0.longest i, longest_few i rs all.1)
+  longest_few : (i : ℕ) (rs : List SlotRecord) → AllByRecursion (IsRecordedWithin last) rs →
+      AllByRecursion IsFew (map (λ (r : SlotRecord). length (input r.arrived i)) rs)
+  longest_few i [] all = tt
+  longest_few i (r ∷ rs) all = (all.0.longest i, longest_few i rs all.1)
 
-    slacks_few : (i : ℕ) (rs : List SlotRecord) → AllByRecursion (IsRecordedWithin ports last) rs →
-        AllByRecursion IsFew (flat_map (λ (r : SlotRecord). slacks r.arrived i) rs)
-    unfolding slacks
-    slacks_few i [] all = tt
-    slacks_few i (r ∷ rs) all = grind (arith, common_steps, all_both, cushions_few, slacks_few i rs all.1)
+  slacks_few : (i : ℕ) (rs : List SlotRecord) → AllByRecursion (IsRecordedWithin last) rs →
+      AllByRecursion IsFew (flat_map (λ (r : SlotRecord). slacks r.arrived i) rs)
+  unfolding slacks
+  slacks_few i [] all = tt
+  slacks_few i (r ∷ rs) all = grind (arith, common_steps, all_both, cushions_few, slacks_few i rs all.1)
 
-    one_seen : last < 2 ^ 63 → (i : ℕ) (rs : List SlotRecord) → AllByRecursion (IsRecordedWithin ports last) rs →
-        IsSeen (seen_as (input_figures rs i))
-    unfolding input_figures
-    one_seen low i rs all = search (arith, rules, most_few, longest_few, slacks_few, least_few)
-
-    all_moved : (rs : List SlotRecord) → AllByRecursion (IsRecordedWithin ports last) rs →
-        AllByRecursion (IsMoved ports) (transfers_of_run rs)
-    unfolding transfers_of_run
-    all_moved [] all = tt
-    all_moved (r ∷ rs) all = grind (arith, common_steps, all_both, all_moved rs all.1)
+  one_seen : last < 2 ^ 63 → (i : ℕ) (rs : List SlotRecord) → AllByRecursion (IsRecordedWithin last) rs →
+      IsSeen (seen_as (input_figures rs i))
+  unfolding input_figures
+  one_seen low i rs all = search (arith, rules, most_few, longest_few, slacks_few, least_few)
 
 rank_numbers : (states : List (List ℕ)) → AllByRecursion AreLow states →
     ((j : ℕ) → j < length states → length (slice_index_or states j []) ≤ 32) → AllByRecursion AreRankNumbers states
@@ -100,15 +98,25 @@ module _ (w : Switch) (ranks : List (List ℕ)) (configured : IsConfigured w ran
   departs : EachPair DepartsBefore at.sent
   departs = grind (arith, common_steps, EachPair, DepartsBefore, departures_in_order)
 
-  moved : AreMoved 0 at.frozen.next at.note
+  -- the run is a stable one, so its transfers can be written, and they are of its slots
+  moved : AreMoved ports at.frozen.next at.note
   moved =
-      let moved = moved_in_order w at.frozen.next 0 at.frozen.next (opening w ranks) (marked_in at.frozen) rs runs
-      (omega arith) in
+      let next = at.frozen.next in
+      let stable = stable_limited_run w.machines w.limits 0 (arriving_from w.came 0 next) (opening w ranks)
+      (marked_in at.frozen) rs runs in
+      let long : length rs ≤ 2 ^ 64 = omega (arith, known.long, length-map rs (λ (r : LimitedRecord). r.of_slot.came)) in
+      let written = written_in_run ports w.classes w.came configured.traffic configured.names w.limits w.machines next
+      (opening w ranks) (marked_in at.frozen) rs configured.few long (empty_list ports) stable in
+      let times = of_its_slots w.limits w.machines 0 _ _ _ rs stable in
+      let note = transfers_of_run (slots_in rs) in
+      let before : AllByRecursion (λ (t : Transfer). t.slot < next) note =
+      all_weaker _ _ (λ t is. omega (arith, is.1, arriving_length w.came 0 next)) note times in
+      let moved : AreMoved ports next note = are_moved ports next note low written before in
       grind (arith, common_steps, AreMoved)
 
-  within : RunsWithin w.came ports 0 at.frozen.next at.frozen.next (opening w ranks) rs (marked_in at.frozen)
-  within = run_within w configured.few configured.names configured.low 0 at.frozen.next at.frozen.next (opening w ranks)
-      (marked_in at.frozen) rs stopped.slots (omega arith) low (empty_within ports ranks configured.openings_low)
+  within : RunsWithin w.came 0 at.frozen.next at.frozen.next (opening w ranks) rs (marked_in at.frozen)
+  within = run_within w configured.few configured.low 0 at.frozen.next at.frozen.next (opening w ranks)
+      (marked_in at.frozen) rs stopped.slots (omega arith) (empty_within ports ranks configured.openings_low)
 
   figures_are_of : at.frozen.figures ≡ figures_of ports (slots_in rs)
   figures_are_of = ap (λ (k : Kept). k.figures) parted.kept ∙ sym (figures_fold ports (slots_in rs))
@@ -128,12 +136,9 @@ module _ (w : Switch) (ranks : List (List ℕ)) (configured : IsConfigured w ran
   seen_right : AllByRecursion IsSeen (map seen_as at.frozen.figures.inputs)
   unfolding figures_of
   seen_right =
-      let seen = one_seen at.frozen.next ports low in
+      let seen = one_seen at.frozen.next low in
       let all = all_made _ _ 0 ports (λ i lt. seen i (slots_in rs) within.records) in
       rw figures_are_of (of_images seen_as IsSeen _ all)
-
-  moved_right : AllByRecursion (IsMoved ports) at.note
-  moved_right = grind (arith, common_steps, all_moved at.frozen.next ports (slots_in rs) within.records)
 
   states_right : AllByRecursion AreRankNumbers at.frozen.ranks
   states_right =
@@ -168,7 +173,7 @@ module _ (w : Switch) (ranks : List (List ℕ)) (configured : IsConfigured w ran
       let listed = rw (← many) at (queued_right st.listed (has_left st.listed st.buffered)) in
       let buffered = rw (← many) at (queued_right st.buffered (has_right st.listed st.buffered)) in
       let sent = rw (← many) at sent_right in
-      let moved = rw (← many) at moved_right in
+      let moved = rw (← many) at moved.all in
       search (arith, rules, seen_right, states_right)
 
   -- ## It comes to what was left
