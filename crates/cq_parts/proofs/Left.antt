@@ -1,26 +1,52 @@
 -- What `resume` reads of what `part` left: the configuration and the captures that `part` read, and the text that it
--- wrote.
-use Rattle.cq_parts.proofs.Terms.{rules, ◌≡◌, ◌≢◌, ℕ, List, [], ◌∷◌, length, ◌≤◌, ◌^◌, Some, arith, IfSome, Ok, get, AllByRecursion, Captured, Tables, Contents, Resume, Resuming, Reader, captures_in, judged, state_in, tables_in, all_replaced, all_weaker}
+-- wrote. And where it alone wrote, under a name of its own, these are there.
+use Rattle.cq_parts.proofs.Terms.{rules, ◌≡◌, ◌≢◌, ℕ, List, [], ◌∷◌, length, ◌≤◌, ◌^◌, Some, arith, subst, Ok, get, Captured, Tables, Contents, Resume, Resuming, Reader, captures_in, judged, state_in, tables_in, all_replaced, all_weaker}
 use Rattle.cq_space.proofs.Replaced.{get_same}
 use Rattle.cq_run.proofs.Left.{captures_same, tables_same, untouched}
 use Rattle.cq_run.proofs.TextRead.{text_is}
-use Rattle.cq_run.specs.declared.refusal.StateFault.TheVariants as stopped
+use Rattle.cq_run.specs.Plan.{Plan}
+use Rattle.cq_parts.specs.Parts.{IsLeftByPart, IsWrittenByPart, PartLeavesTheRest}
 
 module _ (r : Reader) (config state : List ℕ) where
-  module _ (m left : Contents) (t : Tables) (captures : List (List Captured)) (text : List ℕ)
-      (configured : tables_in config m ≡ Ok t) (captured : captures_in r t m ≡ Ok captures)
-      (written : all_replaced ((state, text) ∷ []) (Some m) ≡ Some left) (stays : state ≢ config)
-      (unread : AllByRecursion (λ row. IfSome row.read (λ name. state ≢ name)) t.ports)
-      (short : length text ≤ 2 ^ 28) where
-    -- every other name has what it had
-    same_under : (name : List ℕ) → state ≢ name → get left name ≡ get m name
-    same_under name other = untouched ((state, text) ∷ []) m left name written (other, tt)
-
-    captures_left : captures_in r t left ≡ Ok captures
-    captures_left = search (arith, rules, captures_same, all_weaker, same_under)
-
+  module _ (left : Contents) (t : Tables) (captures : List (List Captured)) (text : List ℕ)
+      (configured : tables_in config left ≡ Ok t) (captured : captures_in r t left ≡ Ok captures)
+      (told : get left state ≡ Some text) (short : length text ≤ 2 ^ 28) where
     text_left : state_in state left ≡ Ok text
-    text_left = search (arith, rules, text_is, get_same)
+    text_left = search (arith, rules, text_is)
 
     pub aimed : judged r (Resume config state) left ≡ Ok (Resuming t captures text)
-    aimed = search (arith, rules, captures_left, text_left, tables_same, same_under)
+    aimed = search (arith, rules, text_left)
+
+  module _ (slots : ℕ) (m left : Contents) (is : IsWrittenByPart r config state slots m left) where
+    written : all_replaced ((state, is.stops.text) ∷ []) (Some m) ≡ Some left
+    written = subst (λ (plan : Plan). all_replaced plan.writes (Some m) ≡ Some left) is.stops.written is.written
+
+    -- every other name has what it had
+    same_under : (name : List ℕ) → state ≢ name → get left name ≡ get m name
+    same_under name other = untouched ((state, is.stops.text) ∷ []) m left name written (other, tt)
+
+    configured_left : tables_in config left ≡ Ok is.stops.tables
+    configured_left =
+        let read = is.stops.read.configured in
+        search (arith, rules, is.configuration_stays, tables_same, same_under)
+
+    captures_left : captures_in r is.stops.tables left ≡ Ok is.stops.captures
+    captures_left =
+        let read = is.stops.read.captured in
+        let stay = is.captures_stay in search (arith, rules, captures_same, all_weaker, same_under)
+
+    told_left : get left state ≡ Some is.stops.text
+    told_left = let is_written = written in search (arith, rules, get_same)
+
+    is_left : IsLeftByPart r config state slots m left
+    is_left =
+        record {
+          early = is.early;
+          plan = is.plan;
+          stops = is.stops;
+          same = record { configured = configured_left; captured = captures_left };
+          told = told_left;
+        }
+
+pub part_leaves_the_rest : (r : Reader) → PartLeavesTheRest r
+part_leaves_the_rest = is_left

@@ -1,5 +1,5 @@
 -- The words of this crate's proofs that stand elsewhere, each passed on from its place.
-pub use Rattle.cq_base.proofs.Library.{AllByRecursion, Err, IfSome, IsOkAnd, List, Ok, Result, Some, [], ap, arith, common_steps, get, length, length-map, refl, rules, subst, sym, ℕ, ◌<◌, ◌^◌, ◌∙◌, ◌∷◌, ◌≡◌, ◌≢◌, ◌≤◌}
+pub use Rattle.cq_base.proofs.Library.{Err, IsOkAnd, List, Ok, Result, Some, [], ap, arith, common_steps, get, length, length-map, refl, rules, subst, sym, ℕ, ◌<◌, ◌^◌, ◌∙◌, ◌∷◌, ◌≡◌, ◌≢◌, ◌≤◌}
 pub use Rattle.cq_base.specs.declared.cell.TagFault.{TagFault}
 pub use Rattle.cq_space.specs.Space.{Contents}
 pub use Rattle.cq_pcap.specs.Captured.{Captured}

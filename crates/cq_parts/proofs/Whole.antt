@@ -1,7 +1,8 @@
 -- What `part` left is read as what was left and as nothing else, and is refused for nothing (`stopped_runs_are_read`).
--- What goes on from there keeps what the run keeps (`read_runs_go_on`), and both write the same of it. A tag fault that
--- is met from there is one of the whole run, and so that of the ideal switch, for which `run` is refused.
-use Rattle.cq_parts.proofs.Terms.{common_steps, arith, ◌≡◌, ◌∙◌, ◌<◌, ◌^◌, ℕ, List, refl, ap, sym, subst, [], ◌∷◌, Ok, Err, IsOkAnd, Some, Result, TagFault, Scheduled, schedule_of, LimitedRecord, Captured, IsScheduleOf, Switch, switch_of, Tables, Contents, Run, Aim, Denies, Meets, Resuming, Reader, captures_in, ideally_sent, judged, tables_in, sent_or_tag, all_replaced}
+-- What goes on from there keeps what the run keeps, and comes to an end where the run does (`read_runs_go_on`); both
+-- write the same of it. A tag fault that is met from there is one of the whole run, and so that of the ideal switch,
+-- for which `run` is refused.
+use Rattle.cq_parts.proofs.Terms.{common_steps, arith, ◌≡◌, ◌∙◌, ◌<◌, ◌^◌, ℕ, List, refl, ap, sym, subst, Ok, Err, IsOkAnd, Result, TagFault, Scheduled, schedule_of, LimitedRecord, Captured, IsScheduleOf, Switch, switch_of, Tables, Contents, Run, Aim, Denies, Meets, Resuming, Reader, captures_in, ideally_sent, judged, tables_in, sent_or_tag}
 use Rattle.cq_resume.specs.Reading.{IsRead, IsRefusal}
 use Rattle.cq_resume.specs.Resumed.{Kept}
 use Rattle.cq_resume.specs.declared.refusal.StateRefusal.{StateRefusal}
@@ -10,6 +11,8 @@ use Rattle.cq_resume.specs.declared.taken.Taken.{Taken}
 use Rattle.cq_simulate.specs.FabricRuns.{departures_in_run}
 use Rattle.cq_stopped.proofs.Together.{read_runs_go_on, stopped_runs_are_read}
 use Rattle.cq_stopped.specs.Read.{GoesOnAsRun, IsReadAs, kept_in_run}
+use Rattle.cq_cells.proofs.Rising.{traffic_is}
+use Rattle.cq_run.proofs.Crossed.{keeps_up}
 use Rattle.cq_run.specs.Headline.{AreGiven, IsEmulation, KeepsUp}
 use Rattle.cq_run.specs.Parting.{IsPartText}
 use Rattle.cq_run.specs.Plan.{Plan}
@@ -92,6 +95,19 @@ module _ (r : Reader) (config : List ℕ) (m : Contents) (t : Tables) (captures 
           (goes is.from is.read).run it.records kept it.keeps_up.runs is.resumed in
           written ∙ ap (λ (k : Kept). resumed t captures k) same ∙ sym it.written
 
+      -- the run that goes on from there is one that keeps up
+      writes : (plan : Plan) → Meets aim plan → IsEmulation r config m plan
+      writes plan (kept, is, written) =
+          let it = (goes is.from is.read).ends kept is.resumed in
+          record {
+            tables = t;
+            captures = captures;
+            read = record { configured = configured; captured = captured };
+            records = it.0;
+            keeps_up = keeps_up t captures it.0 given (traffic_is t captures given.tables given.each) it.1;
+            written = written ∙ ap (λ (k : Kept). resumed t captures k) it.2 ∙ sym (same_plan t captures it.0);
+          }
+
       -- the text itself is refused for nothing
       never : (why : StateRefusal) → (why ≡ of_state.NoMemory → ⊥) → IsRefusal w text why → ⊥
       never why other is = other (read_as.never_refused why is)
@@ -110,15 +126,13 @@ module _ (r : Reader) (config : List ℕ) (m : Contents) (t : Tables) (captures 
       denied (refused.State (stopped.Unsound clause)) is = absurd (never (of_state.Unsound clause) (λ e. cc) is)
 
       pub aim_of_run : IsAimOfRun r config m aim
-      aim_of_run = record { met = met; only = only; refused = denied }
+      aim_of_run = record { met = met; only = only; writes = writes; refused = denied }
 
 pub parts_are_the_run : (r : Reader) → PartsAreTheRun r
 parts_are_the_run r config state slots m left is =
     let stops = is.stops in
-    let written : all_replaced ((state, stops.text) ∷ []) (Some m) ≡ Some left =
-    subst (λ (plan : Plan). all_replaced plan.writes (Some m) ≡ Some left) stops.written is.written in
     let read = stops.read in
-    let aims = aimed r config state m left stops.tables stops.captures stops.text read.configured read.captured
-    written is.configuration_stays is.captures_stay stops.stopped.short in
+    let aims = aimed r config state left stops.tables stops.captures stops.text is.same.configured is.same.captured
+    is.told stops.stopped.short in
     subst (λ (v : Result Aim Refusal). IsOkAnd v (IsAimOfRun r config m)) (sym aims) (aim_of_run r config m
     stops.tables stops.captures read.configured read.captured stops.given slots is.early stops.text stops.stopped)

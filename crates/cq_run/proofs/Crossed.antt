@@ -104,7 +104,8 @@ pub are_given : (t : Tables) (captures : List (List Captured)) → AreTables t �
     ((i : ℕ) → i < length captures → IsRecorded (packets_of captures i)) → AreGiven t captures
 are_given t captures tables each recorded = record { tables = tables; each = each; recorded = recorded }
 
-keeps_up : (t : Tables) (captures : List (List Captured)) (rs : List LimitedRecord) → AreGiven t captures →
+-- the run of the definition keeps up
+pub keeps_up : (t : Tables) (captures : List (List Captured)) (rs : List LimitedRecord) → AreGiven t captures →
     IsTraffic (ports_of t.setup) (classes_of t.setup) (arrivals t captures) →
     IsFabricRun t (arrivals t captures) rs → KeepsUp t captures rs
 keeps_up t captures rs given traffic is = record {
