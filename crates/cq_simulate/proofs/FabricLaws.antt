@@ -1,14 +1,14 @@
 -- What the laws of the fabric say of the run of a fabric that is made for tables: the cells that arrive are for its
--- ports and classes in every slot, and so are those that it admits; and the run begins where nothing waits and no
--- mark is up, where the fabric and the ideal switch agree. By its own records it is a run without limits of what they
--- admit, and so its matchings and its slack are what they are without limits.
-use Rattle.cq_simulate.proofs.Terms.{common_steps, rules, ◌≡◌, ℕ, ◌+◌, ◌≤◌, List, [], ◌∷◌, take, Option, Ok, ap, ◌∙◌, refl, sym, arith, All, length, AllByRecursion, Arrival, IsTraffic, Cell, Machine, Marked, NoLimits, admitted_in, first_slots, slots_of, IdealState, AreForPorts, stable_limited_run, stable_run, stable_slot, one_limited_whole, admission_for_ports, after_sent, arrived, ports_kept, same_slot, recorded, orders_are, empty_agree, run_slack, traffic_for_empty, Agrees, Fabric, IsEmptyFabric, empty_fabric, FabricRun, SlotRecord, LimitedFabricRun, LimitedFabricSlot, LimitedRecord, LimitedWholeRun, admissions_in, empty_limited_fabric, slots_in, figures_of, IsInputBest, IsStable, classes_of, ports_of, IsSetup, Tables, machines_of, openings_of, AlwaysHasSlack, AreInputBest, IsBestFor, IsFabricRun, IsKeptOf, SendsSlotBySlot, departures_in_run, ideal_departures, ran_ideal, slots_ran, slots_fit, ◌<◌, ⊎_elim, cases_lt}
+-- ports and classes in every slot, and the run begins where nothing waits and no mark is up, where the fabric and the
+-- ideal switch agree. Its matchings are the input-best ones, so it is a run with stable matchings too, and sends and
+-- refuses what the ideal switch does.
+use Rattle.cq_simulate.proofs.Terms.{common_steps, rules, ◌≡◌, ℕ, ◌+◌, ◌≤◌, List, [], ◌∷◌, take, Option, Ok, ap, ◌∙◌, refl, sym, arith, All, length, Arrival, IsTraffic, Cell, Machine, Marked, NoLimits, admitted_in, first_slots, slots_of, stable_limited_run, one_limited_whole, recorded, Fabric, IsEmptyFabric, empty_fabric, FabricRun, LimitedFabricRun, LimitedFabricSlot, LimitedRecord, LimitedWholeRun, admissions_in, empty_limited_fabric, slots_in, figures_of, IsInputBest, IsStable, classes_of, ports_of, IsSetup, Tables, machines_of, openings_of, AlwaysHasSlack, AreInputBest, IsFabricRun, IsKeptOf, SendsSlotBySlot, departures_in_run, ideal_departures, ideal_refusals, ran_ideal, slots_ran, ◌<◌, ⊎_elim, cases_lt}
 use Rattle.cq_laws.proofs.EndsTogether.{slots_of_figures}
 use Rattle.cq_laws.proofs.Parted.{reach, run_of_whole}
-use Rattle.cq_laws.specs.Slack.{HasSlack}
+use Rattle.cq_simulate.proofs.Chosen.{first_chosen}
 use Rattle.cq_simulate.proofs.Departed.{last_departs_without_limits, slots_are}
 use Rattle.cq_simulate.proofs.OnceASlot.{once_a_slot}
-use Rattle.cq_simulate.proofs.StableRuns.{stable_sends, stable_slots, whole_ran}
+use Rattle.cq_simulate.proofs.StableRuns.{stable_refuses, stable_sends, stable_slack, stable_slots, whole_ran}
 use Rattle.cq_simulate.specs.Emulation.{EmulatesIdeal}
 use Rattle.cq_simulate.specs.declared.fabric_run.FabricRun as kept
 
@@ -41,43 +41,6 @@ module _ (limits : List (Option ℕ)) (ms : List Machine) where
             (cases_lt m (length rs));
       }
 
-  -- what is admitted is for the ports and of the classes, as what arrives is
-  admitted_fit : (ports classes slot : ℕ) (traffic : List (List (Option Cell))) (f g : Marked Fabric)
-      (rs : List LimitedRecord) → AllByRecursion (AreForPorts ports classes) traffic →
-      LimitedFabricRun IsInputBest limits ms slot traffic f rs g →
-      AllByRecursion (AreForPorts ports classes) (admitted_in (admissions_in rs))
-  admitted_fit ports classes slot [] f g rs come run = grind (arith, common_steps)
-  admitted_fit ports classes slot (cells ∷ traffic) f g [] come run = absurd run
-  admitted_fit ports classes slot (cells ∷ traffic) f g (r ∷ rs) come run =
-      search (rules, admission_for_ports, admitted_fit ports classes (slot + 1) traffic run.0 g rs come.1 run.2)
-
--- ## The slots of the records
-
-of_slots : (P : SlotRecord → Type 0) (rs : List LimitedRecord) → AllByRecursion P (slots_in rs) →
-    AllByRecursion (λ r. P r.of_slot) rs
-of_slots P [] all = tt
-of_slots P (r ∷ rs) all = (all.0, of_slots P rs all.1)
-
--- both matchings of a slot are the input-best ones
-abbrev IsBestIn : SlotRecord → Type 0
-IsBestIn r = IsBestFor r.arrived r.first × IsBestFor r.sent r.second
-
--- in a slot between states that agree both matchings are those of orders by first cells
-each_best : (ms : List Machine) (class_count slot : ℕ) (traffic : List (List (Option Cell))) (f g : Fabric)
-    (ideal : IdealState) (rs : List SlotRecord) → Agrees slot f ideal →
-    AllByRecursion (AreForPorts (length f.inputs) class_count) traffic →
-    FabricRun IsInputBest ms slot traffic f rs g → AllByRecursion IsBestIn rs
-each_best ms class_count slot [] f g ideal [] agrees come h = tt
-each_best ms class_count slot [] f g ideal (r ∷ rs) agrees come h = absurd h
-each_best ms class_count slot (cells ∷ traffic) f g ideal [] agrees come h = absurd h
-each_best ms class_count slot (cells ∷ traffic) f g ideal (r ∷ rs) agrees come (next, is, rest) =
-    let stable = stable_slot ms slot cells f next r is in
-    let one = same_slot ms slot class_count cells f next ideal r agrees come.0 stable in
-    let ports = ports_kept ms slot class_count cells f next ideal r agrees come.0 stable in
-    let before = (arrived ms slot class_count cells f next ideal r agrees come.0 stable).apart in
-    let after = (after_sent ms slot class_count cells f next ideal r agrees come.0 stable).apart in
-    search (arith, rules, orders_are, each_best ms class_count (slot + 1) traffic next g one.next rs one.agrees)
-
 -- ## The run of tables
 
 module _ (t : Tables) (came : List Arrival) where
@@ -106,9 +69,6 @@ module _ (t : Tables) (came : List Arrival) where
 
   module _ (rs : List LimitedRecord) (traffic : IsTraffic (ports_of t.setup) (classes_of t.setup) came)
       (is : IsFabricRun t came rs) where
-    fits : AllByRecursion (AreForPorts (length plain.inputs) (classes_of t.setup)) (admitted_in (admissions_in rs))
-    fits = grind (arith, common_steps, traffic_for_empty, admitted_fit, runs, slots_fit)
-
     -- with stable matchings it is one too
     stable : LimitedWholeRun IsStable t.limits ms came start rs is.end
     stable = stable_whole t.limits ms came start is.end rs is.runs
@@ -117,8 +77,8 @@ module _ (t : Tables) (came : List Arrival) where
     as_many_slots = stable_slots t came rs is.end traffic stable
 
     pub best_in_each : AreInputBest rs
-    best_in_each = of_slots IsBestIn rs (each_best ms _ 0 _ plain is.end.state _ (slots_in rs)
-        (empty_agree (ports_of t.setup) (openings_of t.setup)) fits (plainly rs is))
+    best_in_each = first_chosen IsInputBest (λ o m h. h.stable) t.limits ms (classes_of t.setup) came
+        (ports_of t.setup) (openings_of t.setup) (length rs) rs is.end traffic (runs rs is)
 
     pub slot_by_slot : SendsSlotBySlot t came rs
     unfolding ran_ideal
@@ -128,9 +88,7 @@ module _ (t : Tables) (came : List Arrival) where
     sends_as_ideal = stable_sends t came rs is.end traffic stable
 
     pub always_slack : AlwaysHasSlack rs
-    always_slack = of_slots (λ r. HasSlack 0 r.arrived) rs (run_slack ms _ 0 _ plain is.end.state _ (slots_in rs)
-        (empty_agree (ports_of t.setup) (openings_of t.setup)) fits
-        (stable_run ms 0 _ plain is.end.state (slots_in rs) (plainly rs is)))
+    always_slack = stable_slack t came rs is.end traffic stable
 
     pub emulates : EmulatesIdeal t came rs is
     emulates =
@@ -145,6 +103,12 @@ module _ (t : Tables) (came : List Arrival) where
   pub kept_as_ideal : (run : kept.FabricRun) → IsTraffic (ports_of t.setup) (classes_of t.setup) came →
       IsKeptOf t came run → ideal_departures t came ≡ Ok run.sent.items
   kept_as_ideal run traffic kept = sends_as_ideal kept.records traffic kept.is_run ∙ ap Ok (sym kept.sent)
+
+  pub kept_refuses : (run : kept.FabricRun) → IsTraffic (ports_of t.setup) (classes_of t.setup) came →
+      IsKeptOf t came run → ideal_refusals t came ≡ Ok run.refused.items
+  kept_refuses run traffic kept =
+      let whole = stable kept.records traffic kept.is_run in
+      stable_refuses t came kept.records kept.is_run.end traffic whole ∙ ap Ok (sym kept.refused)
 
   pub only_one : (rs ss : List LimitedRecord) → IsFabricRun t came rs → IsFabricRun t came ss → rs ≡ ss
   only_one rs ss one other = grind (arith, common_steps, one_limited_whole)

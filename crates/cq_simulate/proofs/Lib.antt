@@ -1,6 +1,7 @@
 mod Terms
 pub mod Departed
 pub mod FabricCounts
+pub mod Chosen
 pub mod StableRuns
 pub mod FabricLaws
 pub mod FabricOpening

@@ -1,6 +1,9 @@
--- What a stable run of tables sends. With any stable matchings the fabric ends where the ideal switch ends, and has
--- sent what that sends.
-use Rattle.cq_simulate.proofs.Terms.{common_steps, arith, ◌≡◌, List, length, ap, Ok, Arrival, IsTraffic, limited_found_end, Marked, departures_limited, whole_limited_run, LimitedRan, empty_limited, limited_ends, Fabric, LimitedEndsAlike, LimitedRecord, LimitedWholeRun, admissions_in, empty_limited_fabric, slots_in, gone_in, IsStable, classes_of, ports_of, Tables, machines_of, openings_of, departures_in_run, ideal_departures, ran_ideal, slots_ran, slots_fit}
+-- What a stable run of tables does. With any stable matchings the fabric ends where the ideal switch ends, and has sent
+-- and refused what that sends and refuses. Its matchings are those of orders by first cells, and no slack is below 0
+-- after arrivals.
+use Rattle.cq_simulate.proofs.Terms.{common_steps, arith, ◌≡◌, List, length, ap, Ok, Arrival, IsTraffic, limited_found_end, Marked, departures_limited, whole_limited_run, LimitedRan, empty_limited, limited_ends, Fabric, IsEmptyFabric, first_slots, LimitedEndsAlike, LimitedFabricRun, LimitedRecord, LimitedWholeRun, admissions_in, empty_limited_fabric, slots_in, gone_in, IsStable, classes_of, ports_of, Tables, machines_of, openings_of, AlwaysHasSlack, AreStable, departures_in_run, refused_in_run, counts_limited, ideal_departures, ideal_refusals, ran_ideal, refused_counts, slots_ran, slots_fit}
+use Rattle.cq_laws.proofs.Parted.{run_of_whole}
+use Rattle.cq_simulate.proofs.Chosen.{first_chosen, first_slack}
 
 module _ (t : Tables) (came : List Arrival) (rs : List LimitedRecord) (end : Marked Fabric)
     (traffic : IsTraffic (ports_of t.setup) (classes_of t.setup) came)
@@ -26,3 +29,19 @@ module _ (t : Tables) (came : List Arrival) (rs : List LimitedRecord) (end : Mar
   pub stable_sends : ideal_departures t came ≡ Ok (departures_in_run rs)
   unfolding ideal_departures ran_ideal
   stable_sends = ap departures_limited whole_ran
+
+  pub stable_refuses : ideal_refusals t came ≡ Ok (refused_counts t.limits (refused_in_run rs))
+  unfolding ideal_refusals ran_ideal
+  stable_refuses = ap (counts_limited t.limits) whole_ran
+
+  runs : LimitedFabricRun IsStable t.limits (machines_of t.setup) 0 (first_slots came (length rs))
+      (empty_limited_fabric (ports_of t.setup) (openings_of t.setup)) rs end
+  runs = run_of_whole _ came _ rs (λ f. IsEmptyFabric f.state) end whole
+
+  pub all_stable : AreStable rs
+  all_stable = first_chosen IsStable (λ o m h. h) t.limits (machines_of t.setup) (classes_of t.setup) came
+      (ports_of t.setup) (openings_of t.setup) (length rs) rs end traffic runs
+
+  pub stable_slack : AlwaysHasSlack rs
+  stable_slack = first_slack IsStable (λ o m h. h) t.limits (machines_of t.setup) (classes_of t.setup) came
+      (ports_of t.setup) (openings_of t.setup) (length rs) rs end traffic runs

@@ -140,7 +140,7 @@ holds_none came ports fixed states from to limits many =
 
 -- ## One that was taken up
 
-goes_of : (t : Tables) (s : Scheduled) (taken : Taken) → CanBeTakenUp (switch_of t s) taken →
+pub goes_of : (t : Tables) (s : Scheduled) (taken : Taken) → CanBeTakenUp (switch_of t s) taken →
     IsTraffic (ports_of t.setup) (classes_of t.setup) s.came → GoesOn (switch_of t s) taken.frozen
 goes_of t s taken sound traffic = grind (arith, common_steps, GoesOn, goes_on, machines_many)
 

@@ -96,10 +96,10 @@ unfoldable pub use Rattle.cq_traffic.proofs.FromInputs.{come_from}
 pub use Rattle.cq_traffic.proofs.Quiet.{arrives_before, before_both, none_up_to, quiet_of, quiet_slots}
 pub use Rattle.cq_traffic.proofs.ToOutputs.{come_for-traffic_of, for_here, no_more_to}
 unfoldable pub use Rattle.cq_traffic.proofs.ToOutputs.{come_for}
-pub use Rattle.cq_simulate.specs.FabricRuns.{AlwaysHasSlack, AreInputBest, IsBestFor, IsFabricRun, IsKeptOf, SendsSlotBySlot, departures_in_run, refused_in_run, unpacked_run}
+pub use Rattle.cq_simulate.specs.FabricRuns.{AlwaysHasSlack, AreChosen, AreInputBest, AreStable, IsChosenFor, IsFabricRun, IsKeptOf, SendsSlotBySlot, departures_in_run, refused_in_run, unpacked_run}
 pub use Rattle.cq_simulate.specs.GoingOn.{HasKept, HasPartedTo, HasRunOn, IsReadyOn, IsReadyPart, IsRefusalOn, NoneCome, RanTo, StopsOn, StopsWithin, WentOn, to_come}
-pub use Rattle.cq_simulate.specs.IdealRuns.{IsRefusalOf, slots_ran}
-unfoldable pub use Rattle.cq_simulate.specs.IdealRuns.{ideal_departures, ran_ideal}
+pub use Rattle.cq_simulate.specs.IdealRuns.{IsRefusalOf, counts_limited, slots_ran}
+unfoldable pub use Rattle.cq_simulate.specs.IdealRuns.{ideal_departures, ideal_refusals, ran_ideal}
 pub use Rattle.cq_simulate.specs.Packets.{ArePacked, HaveLeftOf, LeaveWhole, LeftInPackets, ends_packet_at, leaving, of_packet}
 unfoldable pub use Rattle.cq_simulate.specs.Packets.{packets_out}
 pub use Rattle.cq_simulate.specs.Pieces.{CanBeJoined, Fits, IsCaptured, IsEmptied, Took, left_with, opened, piece_at, records_of}

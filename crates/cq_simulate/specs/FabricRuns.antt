@@ -13,7 +13,8 @@ use Rattle.cq_laws.specs.Measures.{figures_of}
 use Rattle.cq_laws.specs.Records.{gone_in, transfers_of_run}
 use Rattle.cq_laws.specs.Slack.{HasSlack}
 use Rattle.cq_prefs.specs.FirstCells.{AreOrdersOf, orders_of}
-use Rattle.cq_prefs.specs.Pairing.{IsInputBest, Partners}
+use Rattle.cq_prefs.specs.Orders.{Orders}
+use Rattle.cq_prefs.specs.Pairing.{IsInputBest, IsStable, Partners}
 use Rattle.cq_route.specs.Tables.{ports_of}
 use Rattle.cq_route.specs.declared.tables.Tables.{Tables}
 use Rattle.cq_scfq.specs.Disciplines.{machines_of, openings_of}
@@ -53,16 +54,25 @@ unpacked_run run = record { sent = run.sent; note = run.note; figures = run.figu
 abbrev pub AlwaysHasSlack : List LimitedRecord → Type 0
 AlwaysHasSlack rs = AllByRecursion (λ r. HasSlack 0 r.of_slot.arrived) rs
 
--- the matching is the input-best one of what the lists of the inputs offer: each input orders its outputs by where
+-- the matching is one that may be chosen of what the lists of the inputs offer: each input orders its outputs by where
 -- their first cells stand, and each output its inputs by the keys of their first cells
-pub record IsBestFor (f : Fabric) (m : Partners) : Type 0 where
+pub record IsChosenFor (MayChoose : Orders → Partners → Type 0) (f : Fabric) (m : Partners) : Type 0 where
   pub orders : AreOrdersOf f.inputs (orders_of f.inputs)
-  pub best : IsInputBest (orders_of f.inputs) m
+  pub chosen : MayChoose (orders_of f.inputs) m
 
--- both matchings of each slot, after its arrivals and after its departures, are the input-best ones
+-- both matchings of each slot, after its arrivals and after its departures, are such ones
+abbrev pub AreChosen : (Orders → Partners → Type 0) → List LimitedRecord → Type 0
+AreChosen MayChoose rs =
+    AllByRecursion (λ r. IsChosenFor MayChoose r.of_slot.arrived r.of_slot.first
+    × IsChosenFor MayChoose r.of_slot.sent r.of_slot.second) rs
+
+-- all of them are stable ones
+abbrev pub AreStable : List LimitedRecord → Type 0
+AreStable rs = AreChosen IsStable rs
+
+-- all of them are the input-best ones
 abbrev pub AreInputBest : List LimitedRecord → Type 0
-AreInputBest rs =
-    AllByRecursion (λ r. IsBestFor r.of_slot.arrived r.of_slot.first × IsBestFor r.of_slot.sent r.of_slot.second) rs
+AreInputBest rs = AreChosen IsInputBest rs
 
 -- in each slot the arrivals are admitted and refused as in the ideal switch, and each output sends the cell that it
 -- sends there, and none where it sends none there

@@ -1,0 +1,110 @@
+-- The matchings that a run chooses. Where the fabric agrees with an ideal switch before a slot, no two keys are equal at
+-- any moment of it: so both its matchings are chosen of orders by first cells. After the slot both agree again. So it is
+-- of a run from the empty fabric on, and of one that goes on from a sound state, whichever stable matchings may be
+-- chosen; and after the arrivals of each slot no slack is below 0.
+use Rattle.cq_simulate.proofs.Terms.{rules, ◌≡◌, ℕ, ◌+◌, List, [], ◌∷◌, length, refl, arith, take_all, Option, Arrival, IsTraffic, traffic_is, schedule_of, Cell, Machine, Marked, empty_limited, first_slots, arriving_from, IdealState, AreForPorts, admission_for_ports, agrees_of, after_sent, arrived, limited_ports_kept, orders_are, same_limited_slot, slots_fit, Fabric, ideal_of, LimitedFabricRun, LimitedFabricSlot, LimitedRecord, empty_limited_fabric, Partners, IsInputBest, IsStable, Captured, IsResumed, Kept, Switch, switch_of, Taken, AreTables, classes_of, ports_of, openings_of, Tables, AlwaysHasSlack, AreChosen, AreInputBest, CanBeTakenUp, GoesOn}
+use Rattle.cq_laws.proofs.InputBest.{each_run}
+use Rattle.cq_laws.proofs.LimitedWhole.{Stands, begin, limited_run_slack}
+use Rattle.cq_laws.specs.Frozen.{fabric_in, marked_in}
+use Rattle.cq_laws.specs.LimitedFabric.{IsLimitedFault}
+use Rattle.cq_prefs.specs.Orders.{Orders}
+use Rattle.cq_resume.specs.Parts.{IsParted}
+use Rattle.cq_simulate.proofs.TakenUp.{goes_of, machines_many}
+
+module _ (MayChoose : Orders → Partners → Type 0)
+    (is_stable : (o : Orders) (m : Partners) → MayChoose o m → IsStable o m)
+    (limits : List (Option ℕ)) (ms : List Machine) (class_count : ℕ) where
+  stable_step : (slot : ℕ) (cells : List (Option Cell)) (f g : Marked Fabric) (r : LimitedRecord) →
+      LimitedFabricSlot MayChoose limits ms slot cells f r g → LimitedFabricSlot IsStable limits ms slot cells f r g
+  stable_step slot cells f g r step = search (arith, rules, is_stable)
+
+  pub each_chosen : (slot : ℕ) (traffic : List (List (Option Cell))) (f g : Marked Fabric) (ideal : Marked IdealState)
+      (rs : List LimitedRecord) → Stands limits ms class_count slot traffic f ideal →
+      LimitedFabricRun MayChoose limits ms slot traffic f rs g → AreChosen MayChoose rs
+  each_chosen slot [] f g ideal [] s run = tt
+  each_chosen slot (cells ∷ traffic) f g ideal (r ∷ rs) s (next, is, rest) =
+      let step = stable_step slot cells f next r is in
+      let one = same_limited_slot limits ms slot class_count cells f next ideal r s.agrees s.come.0 step in
+      let ports = limited_ports_kept limits ms slot class_count cells f next ideal r s.agrees s.come.0 step in
+      let come : AreForPorts (length f.state.inputs) class_count r.admission.cells =
+      search (arith, rules, admission_for_ports) in
+      let before = (arrived ms slot class_count r.admission.cells f.state next.state ideal.state r.of_slot
+      s.agrees.states come step.runs).apart in
+      let after = (after_sent ms slot class_count r.admission.cells f.state next.state ideal.state r.of_slot
+      s.agrees.states come step.runs).apart in
+      search (arith, rules, orders_are, each_chosen (slot + 1) traffic next g one.next rs)
+  each_chosen slot traffic f g ideal rs s run = absurd run
+
+  pub each_slack : (slot : ℕ) (traffic : List (List (Option Cell))) (f g : Marked Fabric) (ideal : Marked IdealState)
+      (rs : List LimitedRecord) → Stands limits ms class_count slot traffic f ideal →
+      LimitedFabricRun MayChoose limits ms slot traffic f rs g → AlwaysHasSlack rs
+  each_slack slot traffic f g ideal rs s run = limited_run_slack limits ms class_count slot traffic f g ideal rs s
+      (each_run (LimitedFabricSlot MayChoose limits ms) (LimitedFabricSlot IsStable limits ms)
+      (IsLimitedFault limits ms) stable_step slot traffic f g rs run)
+
+  -- ## From the empty fabric on
+
+  module _ (came : List Arrival) (ports : ℕ) (ranks : List (List ℕ)) (slots : ℕ) (rs : List LimitedRecord)
+      (end : Marked Fabric) (traffic : IsTraffic ports class_count came) (run : LimitedFabricRun MayChoose limits ms 0
+      (first_slots came slots) (empty_limited_fabric ports ranks) rs end) where
+    stands : Stands limits ms class_count 0 (first_slots came slots) (empty_limited_fabric ports ranks)
+        (empty_limited ports ranks)
+    stands = begin limits ms class_count ports ranks _ (slots_fit ports class_count came 0 slots traffic)
+
+    pub first_chosen : AreChosen MayChoose rs
+    first_chosen = each_chosen 0 _ _ end (empty_limited ports ranks) rs stands run
+
+    pub first_slack : AlwaysHasSlack rs
+    first_slack = each_slack 0 _ _ end (empty_limited ports ranks) rs stands run
+
+-- ## A run in parts
+
+module _ (t : Tables) (captures : List (List Captured)) (are : AreTables t)
+    (many : length captures ≡ ports_of t.setup) where
+  abbrev w : Switch
+  w = switch_of t (schedule_of t captures)
+
+  traffic_there : IsTraffic (length w.machines) (classes_of t.setup) w.came
+  traffic_there = rw (machines_many t) (traffic_is t captures are many)
+
+  -- its first slots
+  module _ (slots : ℕ) (at : Taken) (parted : IsParted w (openings_of t.setup) slots at) where
+    pub parted_best : AreInputBest parted.records
+    parted_best = first_chosen IsInputBest (λ o m h. h.stable) w.limits w.machines (classes_of t.setup) w.came
+        (length w.machines) (openings_of t.setup) slots parted.records _ traffic_there parted.runs
+
+    pub parted_slack : AlwaysHasSlack parted.records
+    parted_slack = first_slack IsInputBest (λ o m h. h.stable) w.limits w.machines (classes_of t.setup) w.came
+        (length w.machines) (openings_of t.setup) slots parted.records _ traffic_there parted.runs
+
+  -- and those from a state that was taken up
+  module _ (from : Taken) (kept : Kept) (up : CanBeTakenUp w from) (resumed : IsResumed w from kept) where
+    abbrev rs : List LimitedRecord
+    rs = resumed.records
+
+    abbrev to_run : List (List (Option Cell))
+    to_run = arriving_from w.came from.frozen.next (length rs)
+
+    goes : GoesOn w from.frozen
+    goes = goes_of t (schedule_of t captures) from up (traffic_is t captures are many)
+
+    abbrev beside : Marked IdealState
+    beside = record { state = ideal_of (fabric_in from.frozen); marks = from.frozen.marks }
+
+    stands_on : Stands w.limits w.machines (classes_of t.setup) from.frozen.next to_run (marked_in from.frozen) beside
+    stands_on = record {
+      agrees = record { states = agrees_of from.frozen.next (fabric_in from.frozen) goes.sound; marks = refl };
+      come = search (arith, rules, slots_fit, traffic_there, goes.ports.lists);
+    }
+
+    run_there : LimitedFabricRun IsInputBest w.limits w.machines from.frozen.next to_run (marked_in from.frozen) rs
+        resumed.end
+    run_there = rw (take_all (length rs) rs (omega arith)) at resumed.runs.after
+
+    pub resumed_best : AreInputBest rs
+    resumed_best = each_chosen IsInputBest (λ o m h. h.stable) w.limits w.machines (classes_of t.setup) _ to_run _ _
+        beside rs stands_on run_there
+
+    pub resumed_slack : AlwaysHasSlack rs
+    resumed_slack = each_slack IsInputBest (λ o m h. h.stable) w.limits w.machines (classes_of t.setup) _ to_run _ _
+        beside rs stands_on run_there
