@@ -1,7 +1,7 @@
 //! The run of the fabric.
 ghost use Rattle.std.specs.Prelude.{◌≡◌, ◌↔◌, ◌<◌, ◌≤◌, ℕ, IsTrue, false, IfOk, IfErr, Ok, OnOk, [], length, map};
 ghost use Rattle.cq_engine.specs.Resting.{HasRested};
-ghost use Rattle.cq_simulate.specs.Terms.{arriving, end_of, IsEmptyFabric, IsKeptOf, unpacked_run, ideal_departures, IsRefusalOf, IsScheduleFor, HasKept, HasRunOn, IsIdle, IsReadyOn, IsRefusalOn, StopsOn};
+ghost use Rattle.cq_simulate.specs.Terms.{arriving, end_of, IsEmptyFabric, IsKeptOf, unpacked_run, ideal_departures, ideal_refusals, IsRefusalOf, IsScheduleFor, HasKept, HasRunOn, IsIdle, IsReadyOn, IsRefusalOn, StopsOn};
 
 use crate::RunRefusal;
 use crate::ports::{engine_for, port_count};
@@ -42,9 +42,9 @@ pub struct PackedFabricRun {
 }
 
 /// Runs the fabric of the tables' ranks and limits over a schedule of the same ports and classes, from slot 0 until no
-/// cell arrives any more and none waits. As many workers as the tables say propose at once, and `gate` is told of their
-/// steps. Neither changes anything of what is done. It takes time for the slots in which a cell waits or comes, and
-/// none for those between them.
+/// cell arrives any more and none waits. What departs, and how much is refused, is as in the ideal switch. At most as
+/// many workers as the tables say propose at once, and `gate` is told of their steps. Neither changes anything of what
+/// is done. It takes time for the slots in which a cell waits or comes, and none for those between them.
 ///
 /// - `Tag`: a rank does not fit 128 bits; the first such fault of the ideal switch.
 /// - `NoMemory`: there was not the memory for the lists, the buffers, the departures and the transfers.
@@ -58,6 +58,8 @@ pub fn run_fabric<R: Threads + Sync, G: Gate>(
     requires { IsScheduleFor tables.now schedule.now }
     ensures run { IfOk result (IsKeptOf tables.now schedule.now.came) }
     ensures as_ideal { IfOk result (λ run. ideal_departures tables.now schedule.now.came ≡ Ok run.sent.items) }
+    ensures refuses_as_ideal { IfOk result (λ run.
+        ideal_refusals tables.now schedule.now.came ≡ Ok run.refused.items) }
     ensures refused { IfErr result (IsRefusalOf (ideal_departures tables.now schedule.now.came)) }
 {
     let run = run_fabric_packed(rt, alloc, tables, schedule, gate)?;
@@ -87,6 +89,8 @@ pub fn run_fabric_packed<R: Threads + Sync, G: Gate>(
     requires { IsScheduleFor tables.now schedule.now }
     ensures run { IfOk result (λ run. IsKeptOf tables.now schedule.now.came (unpacked_run run)) }
     ensures as_ideal { IfOk result (λ run. ideal_departures tables.now schedule.now.came ≡ Ok run.sent.items) }
+    ensures refuses_as_ideal { IfOk result (λ run.
+        ideal_refusals tables.now schedule.now.came ≡ Ok run.refused.items) }
     ensures refused { IfErr result (IsRefusalOf (ideal_departures tables.now schedule.now.came)) }
 {
     let ports = port_count(tables);

@@ -1,5 +1,5 @@
 use Rattle.cq_simulate.proofs.Terms.{arith, rules, sym, ◌∙◌, IfErr-weaker, IfOk-weaker, unpacked_run}
-use Rattle.cq_simulate.proofs.FabricLaws.{kept_as_ideal}
+use Rattle.cq_simulate.proofs.FabricLaws.{kept_as_ideal, kept_refuses}
 use Rattle.cq_simulate.proofs.FabricOpening.{IsMade, can_begin, made_for, no_run, port_count, run_is_kept}
 use Rattle.cq_simulate.proofs.fabric_run.run_fabric_packed.Given as given
 use Rattle.cq_simulate.proofs.fabric_run.run_fabric_packed.Goals as goal
@@ -22,6 +22,11 @@ returns-clause-run g c = search (arith, rules, IfOk-weaker, run_is_kept, made)
 pub returns-clause-as_ideal : goal.returns-clause-as_ideal
 returns-clause-as_ideal g c = IfOk-weaker c.run_on.result _ _
     (λ run kept. kept_as_ideal c.args.tables.now c.args.schedule.now.came (unpacked_run run) c.requires.traffic kept)
+    (returns-clause-run g c)
+
+pub returns-clause-refuses_as_ideal : goal.returns-clause-refuses_as_ideal
+returns-clause-refuses_as_ideal g c = IfOk-weaker c.run_on.result _ _
+    (λ run kept. kept_refuses c.args.tables.now c.args.schedule.now.came (unpacked_run run) c.requires.traffic kept)
     (returns-clause-run g c)
 
 pub returns-clause-refused : goal.returns-clause-refused
