@@ -1,7 +1,7 @@
 -- Why a text is read in one way. At a place one line at most stands at the front, and it leads to one place. So of
 -- two readings neither parts from the other: they have the same lines as long as both go on, and where one finds no
 -- line that may come, or the end, so does the other.
-use Rattle.cq_lines.proofs.Terms.{rules, arith, ◌≡◌, ◌≢◌, ℕ, ◌+◌, List, [], ◌∷◌, ◌++◌, refl, ap, sym, ◌∙◌, append_assoc, common_steps, flat_map, append-nil, Leads, IsExact}
+use Rattle.cq_lines.proofs.Terms.{rules, arith, ◌≡◌, ◌≢◌, ℕ, List, [], ◌∷◌, ◌++◌, refl, ap, sym, ◌∙◌, append_assoc, common_steps, flat_map, append-nil, Leads, IsExact}
 
 -- At a sound place one line at most stands at the front, it leads to one place, which is sound, and it has a letter
 -- at least.

@@ -1,4 +1,4 @@
-//! Lines of numbers, as every text of a run is made of: read back exactly as they are written.
+//! Lines of numbers, of which a state is made and by which a log is read: read back exactly as they are written.
 //!
 //! A line is a word, then fields, each behind one blank, and one line feed. A field is a number in decimal
 //! digits without leading zeros, or `-`. So each line has one spelling, and what is read is what it spells.
