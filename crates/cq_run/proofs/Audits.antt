@@ -20,7 +20,7 @@ use Rattle.cq_run.proofs.NamesApart.{ArePairs, IsUnwritten, names_apart, reads_u
 use Rattle.cq_run.proofs.TextRead.{text_is}
 use Rattle.cq_laws.proofs.WholeRuns.{empty_list}
 use Rattle.cq_audit.specs.Trace.{DiffersFirst}
-use Rattle.cq_simulate.proofs.StableRuns.{stable_sends}
+use Rattle.cq_simulate.proofs.StableRuns.{all_stable, stable_sends, stable_slack}
 use Rattle.cq_run.specs.declared.stop.Halt.TheVariants as stop
 use Rattle.cq_gen.proofs.Counted.{all_by_counted}
 use Rattle.cq_cells.proofs.Packets.{came_more, few_by, rows_are, length_packet, row_of}
@@ -243,9 +243,13 @@ module _ (t : Tables) (captures : List (List Captured)) (came : List Arrival) (t
       pub both_passed : (text : List ℕ) → IsTraffic (ports_of t.setup) (classes_of t.setup) came →
           text ≡ trace_of sent →
           trace ≡ text → IsAuditPassed t captures trace log
-      both_passed text traffic same equal = record {
-        sent = sent;
-        ideally = sends;
-        meets = record { log_is = log_stands; trace_is = equal ∙ same };
-        departed = departed traffic;
-      }
+      both_passed text traffic same equal =
+          let run = log_stands.run in
+          record {
+            sent = sent;
+            ideally = sends;
+            meets = record { log_is = log_stands; trace_is = equal ∙ same };
+            departed = departed traffic;
+            stable = all_stable t (arrivals t captures) run.records run.end (rw is at traffic) run.runs;
+            slack = stable_slack t (arrivals t captures) run.records run.end (rw is at traffic) run.runs;
+          }

@@ -9,7 +9,9 @@ use Rattle.cq_pcap.specs.Written.{written}
 use Rattle.cq_run.proofs.OnePort.{all_leave_is, none_limited}
 use Rattle.cq_run.proofs.Stays.{capture_stays, text_stays, short_stays}
 use Rattle.cq_run.specs.declared.denial.Denial.TheVariants.{LongLog, LongTrace}
+use Rattle.cq_run.proofs.Stopped.{goes_best, goes_slack, stops_best, stops_slack}
 use Rattle.cq_run.proofs.TextRead.{text_stands}
+use Rattle.cq_run.specs.Headline.{IsStopped, IsTakenUp}
 use Rattle.cq_run.specs.declared.refusal.StateFault.TheVariants as stopped
 
 -- what a command knows of a file space has its count of faults
@@ -194,6 +196,8 @@ module _ (given : Given) (trace log : List ℕ) where
     log = log;
     logged = text_stands (Audited LongLog) given.tables.log m log texts.1;
     audit = passed.meets.log_is;
+    stable = passed.stable;
+    slack = passed.slack;
     same = search (arith, rules, sent_ok);
     sent = passed.meets.trace_is ∙ ap trace_of passed.departed;
     written = is;
@@ -262,6 +266,39 @@ module _ (t : Tables) (captures : List (List Captured)) where
   resume_settles text NoMemory h = tt
   resume_settles text (Unread unread) h = h
 
+-- what is said of a run that stops, and of one that goes on
+module _ (t : Tables) (captures : List (List Captured)) (text : List ℕ) {r : Reader} {config state : List ℕ}
+    {m : Contents} {plan : Plan} where
+  stops_as : {slots : ℕ} → AreGiven t captures → AreRead r config m t captures → IsPartText t captures slots text →
+      plan ≡ state_written state text → IsStopped r config slots state m plan
+  stops_as {slots} given read is written = record {
+    tables = t;
+    captures = captures;
+    read = read;
+    given = given;
+    text = text;
+    stopped = is;
+    input_best = stops_best t captures text given slots is;
+    slack = stops_slack t captures text given slots is;
+    written = written;
+  }
+
+  goes_as : AreRead r config m t captures → state_in state m ≡ Ok text → IsResuming t captures text plan →
+      IsTakenUp r config state m plan
+  goes_as read found is = record {
+    tables = t;
+    captures = captures;
+    read = read;
+    given = is.given;
+    text = text;
+    found = search (arith, rules, text_stands);
+    kept = is.kept;
+    goes_on = is.goes_on;
+    input_best = goes_best t captures text is.given is.kept is.goes_on;
+    slack = goes_slack t captures text is.given is.kept is.goes_on;
+    written = is.written;
+  }
+
 abbrev pub part_rest : ℕ → List ℕ → Reader → Tables → List (List Captured) → Contents → Result Aim Refusal
 part_rest slots name r t captures m = Ok (Parting t captures slots name)
 
@@ -281,7 +318,7 @@ module _ {S : Type 0} {space : S → Space} {keeps : S → S → Type 0} {old no
       settled (at_part slots) (Ok plan)
       (Parting given.tables given.captures slots name, refl, (text, text_is, written))
       (rw written (refl, tt)) (λ r.
-      told_map (space old).told _ _ (λ m are_read. search (arith, rules)) (read_told is r))
+      told_map (space old).told _ _ (λ m are_read. stops_as _ _ text are are_read text_is written) (read_told is r))
 
   pub part_judged : {may_fail : Call → S → S → Type 0} {slots : ℕ} (result : Result Plan Halt) →
       IfOk result (λ _. AreGiven given.tables given.captures) → IfOk result (λ plan. (text : List ℕ)
@@ -312,7 +349,7 @@ module _ {S : Type 0} {space : S → Space} {keeps : S → S → Type 0} {old no
         settled at_state (Ok plan)
         (Resuming given.tables given.captures text, refl, (met.kept, met.goes_on, met.written))
         (all_any plan.writes) (λ r. told_two (space old).told _ _ _
-        (λ m are_read d. search (arith, rules, text_stands)) (read_told is r) (rw is.told at read.ok))
+        (λ m are_read d. goes_as _ _ text are_read d met) (read_told is r) (rw is.told at read.ok))
     resume_judged (Err halt) met refused =
         settled at_state (Err halt) (resume_settles given.tables given.captures text halt refused) tt (λ r. tt)
 

@@ -1,17 +1,19 @@
 -- What stopping a run and taking one up come to, from what is known of the schedule of the captures: the text of the
 -- state in which the run stands, what the run keeps that goes on, and why there is none.
-use Rattle.cq_run.proofs.Terms.{◌≡◌, ◌≤◌, ◌^◌, ℕ, List, length, Departure, Transfer, Captured, classes_of, Tables, openings_of, unpacked_run, PackedFabricRun, RunRefusal, AreGiven, IsPartHalt, IsResumeHalt, IsResumedBy, halt_for_state, halt_for_text, IsPartText, halt_of}
+use Rattle.cq_run.proofs.Terms.{◌≡◌, ◌≤◌, ◌^◌, ℕ, List, length, Departure, Transfer, Captured, classes_of, Tables, openings_of, unpacked_run, PackedFabricRun, RunRefusal, AreGiven, IsPartHalt, IsResumeHalt, IsResumedBy, halt_for_state, halt_for_text, IsPartText, IsResumedText, halt_of}
 use Rattle.cq_cells.specs.Scheduled.{Scheduled, schedule_of}
 use Rattle.cq_laws.specs.declared.frozen.Frozen.{Frozen}
 use Rattle.cq_resume.specs.Parts.{IsParted}
 use Rattle.cq_resume.specs.Reading.{IsRead, IsRefusal, state_of}
-use Rattle.cq_resume.specs.Resumed.{IsResumed}
+use Rattle.cq_resume.specs.Resumed.{IsResumed, Kept}
 use Rattle.cq_resume.specs.Switch.{Switch, switch_of}
 use Rattle.cq_resume.specs.declared.refusal.StateRefusal.{StateRefusal}
 use Rattle.cq_resume.specs.declared.refusal.StateRefusal.TheVariants as of_state
 use Rattle.cq_resume.specs.declared.taken.Taken.{Taken}
+use Rattle.cq_simulate.proofs.Chosen.{parted_best, parted_slack, resumed_best, resumed_slack}
 use Rattle.cq_simulate.proofs.ResumedCounts.{resumed_counts}
 use Rattle.cq_simulate.proofs.ResumedWhole.{resumed_whole}
+use Rattle.cq_simulate.specs.FabricRuns.{AlwaysHasSlack, AreInputBest}
 use Rattle.cq_simulate.specs.PartedRuns.{CanBeTakenUp, IsPartFault, IsResumeFault, kept_of}
 use Rattle.cq_simulate.specs.declared.refusal.RunRefusal.TheVariants as of_run
 use Rattle.cq_state.specs.Refusals.{IsTooLong}
@@ -32,6 +34,23 @@ same_state x sent sent' note note' a a' b b' n n' e f g h i = cc
 pub taken_up : {w : Switch} {text : List ℕ} {from : Taken} → IsRead w text from → CanBeTakenUp w from
 taken_up read =
     record { state = read.state; in_range = read.in_range; shape = read.shape; sound = read.sound; told = read.told }
+
+-- the matchings of the run that stops and of the one that goes on are those of orders by first cells, and no slack is
+-- below 0 after arrivals
+module _ (t : Tables) (captures : List (List Captured)) (text : List ℕ) (given : AreGiven t captures) where
+  module _ (slots : ℕ) (stops : IsPartText t captures slots text) where
+    pub stops_best : AreInputBest stops.parted.records
+    stops_best = parted_best t captures given.tables given.each slots stops.at stops.parted
+
+    pub stops_slack : AlwaysHasSlack stops.parted.records
+    stops_slack = parted_slack t captures given.tables given.each slots stops.at stops.parted
+
+  module _ (kept : Kept) (goes : IsResumedText t captures text kept) where
+    pub goes_best : AreInputBest goes.resumed.records
+    goes_best = resumed_best t captures given.tables given.each goes.from kept (taken_up goes.read) goes.resumed
+
+    pub goes_slack : AlwaysHasSlack goes.resumed.records
+    goes_slack = resumed_slack t captures given.tables given.each goes.from kept (taken_up goes.read) goes.resumed
 
 module _ (t : Tables) (captures : List (List Captured)) where
   abbrev schedule : Scheduled

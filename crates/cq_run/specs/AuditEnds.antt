@@ -3,7 +3,7 @@ use Rattle.std.specs.Prelude.{◌≡◌, ◌⊎◌, ℕ, List, Ok}
 use Rattle.cq_base.specs.declared.cell.Departure.{Departure}
 use Rattle.cq_pcap.specs.Captured.{Captured}
 use Rattle.cq_route.specs.declared.tables.Tables.{Tables}
-use Rattle.cq_simulate.specs.FabricRuns.{departures_in_run}
+use Rattle.cq_simulate.specs.FabricRuns.{AlwaysHasSlack, AreStable, departures_in_run}
 use Rattle.cq_run.specs.Auditing.{IsAuditYes, IsDenied}
 use Rattle.cq_run.specs.Judging.{IsHaltOf}
 use Rattle.cq_run.specs.Verdict.{ideally_sent}
@@ -19,6 +19,9 @@ pub record IsAuditPassed (t : Tables) (captures : List (List Captured)) (trace l
   pub meets : IsAuditYes t captures sent trace log
   -- and what the run of the log sends is what the ideal switch sends
   pub departed : sent ≡ departures_in_run meets.log_is.run.records
+  -- both matchings of each slot of that run are stable ones of what the lists offer, and no slack is below 0
+  pub stable : AreStable meets.log_is.run.records
+  pub slack : AlwaysHasSlack meets.log_is.run.records
 
 -- it says no, and this is why
 pub record IsAuditNo (t : Tables) (captures : List (List Captured)) (trace log : List ℕ) (halt : Halt) : Type 0 where

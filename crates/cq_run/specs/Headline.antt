@@ -14,7 +14,7 @@ use Rattle.cq_route.specs.Tables.{AreTables, ports_of}
 use Rattle.cq_route.specs.declared.tables.Tables.{Tables}
 use Rattle.cq_simulate.specs.EachPacket.{EachPacketOnce}
 use Rattle.cq_simulate.specs.IdealRuns.{ideal_departures}
-use Rattle.cq_simulate.specs.FabricRuns.{AlwaysHasSlack, AreInputBest, IsFabricRun, SendsSlotBySlot, departures_in_run, refused_in_run}
+use Rattle.cq_simulate.specs.FabricRuns.{AlwaysHasSlack, AreInputBest, AreStable, IsFabricRun, SendsSlotBySlot, departures_in_run, refused_in_run}
 use Rattle.cq_space.specs.Space.{Contents}
 use Rattle.cq_words.specs.declared.command.Command.{Command}
 use Rattle.cq_words.specs.declared.command.Command.TheVariants.{Pass, Check, Ideal, Run, Soak, Audit, Part, Resume}
@@ -88,6 +88,10 @@ pub record IsAudited (r : Reader) (config : List ℕ) (m : Contents) (plan : Pla
   pub log : List ℕ
   pub logged : get m tables.log ≡ Some log
   pub audit : IsYes tables.setup tables.limits (arrivals tables captures) log
+  -- both matchings of each slot of that run are stable ones of what the lists offer
+  pub stable : AreStable audit.run.records
+  -- after the arrivals of each slot no cell's input thread exceeds its output cushion
+  pub slack : AlwaysHasSlack audit.run.records
   -- what that run sends is what the ideal switch sends, and what the trace says
   pub same : ideal_departures tables (arrivals tables captures) ≡ Ok (departures_in_run audit.run.records)
   pub sent : trace ≡ trace_of (departures_in_run audit.run.records)
@@ -103,6 +107,10 @@ pub record IsStopped (r : Reader) (config : List ℕ) (slots : ℕ) (state : Lis
     pub given : AreGiven tables captures
     pub text : List ℕ
     pub stopped : IsPartText tables captures slots text
+    -- both matchings of each slot before are the input-best ones of what the lists offer
+    pub input_best : AreInputBest stopped.parted.records
+    -- after the arrivals of each slot no cell's input thread exceeds its output cushion
+    pub slack : AlwaysHasSlack stopped.parted.records
     pub written : plan ≡ state_written state text
 
 -- What is written for a run that goes on from a state over these contents: what it keeps to its end, behind what the
@@ -116,6 +124,10 @@ pub record IsTakenUp (r : Reader) (config state : List ℕ) (m : Contents) (plan
   pub found : get m state ≡ Some text
   pub kept : Kept
   pub goes_on : IsResumedText tables captures text kept
+  -- both matchings of each slot from there on are the input-best ones of what the lists offer
+  pub input_best : AreInputBest goes_on.resumed.records
+  -- after the arrivals of each slot no cell's input thread exceeds its output cushion
+  pub slack : AlwaysHasSlack goes_on.resumed.records
   pub written : plan ≡ resumed tables captures kept
 
 -- the same of each command that crosses a switch and writes what left it, of an audit, and of runs in parts; of the
