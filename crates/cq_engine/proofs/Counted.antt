@@ -1,6 +1,6 @@
 -- How many cells each output holds, counted in one walk over the lists: at first those of the buffers, and of each
 -- list those for the output more.
-use Rattle.cq_engine.proofs.Terms.{common_steps, rules, ◌≡◌, ℕ, zero, suc, ◌+◌, ◌^◌, ◌<◌, ◌≤◌, List, [], ◌∷◌, ◌++◌, length, map, get_or, set, take, refl, sym, ◌∙◌, subst, arith, All, filter, cases_eq, cond_both, eq-eqb, ne_eqb, ext_get_or, get_or-map, get_or-set_other, get_or-set_same, length-map, take_all, take_more, slice_get-get_or, Queued, is_for, list_of, Fabric, IsAmong, buffer, input, fabric_held, held_for, waiting_for, among_at, held_at, held_long}
+use Rattle.cq_engine.proofs.Terms.{common_steps, rules, ◌≡◌, ℕ, ◌+◌, ◌<◌, ◌≤◌, List, [], ◌∷◌, ◌++◌, length, map, get_or, set, take, sym, ◌∙◌, subst, arith, All, filter, cases_eq, cond_both, eq-eqb, ne_eqb, ext_get_or, get_or-map, get_or-set_other, get_or-set_same, length-map, take_all, take_more, slice_get-get_or, Queued, is_for, list_of, Fabric, IsAmong, buffer, input, fabric_held, waiting_for, among_at, held_at, held_long}
 use Rattle.cq_laws.proofs.Cushions.{bit, bit_false, bit_true}
 
 -- how many of the cells are for output j
@@ -10,11 +10,6 @@ number_for j cells = length (filter (is_for j) cells)
 number_cons : (j : ℕ) (c : Queued) (cells : List Queued) →
     number_for j (c ∷ cells) ≡ bit (is_for j c) + number_for j cells
 number_cons j c cells = grind (arith, common_steps, cond_both, bit, bit_true, bit_false)
-
-number_take : (j n : ℕ) (cells : List Queued) → number_for j (take n cells) ≤ number_for j cells
-number_take j zero cells = omega arith
-number_take j (suc n) [] = omega arith
-number_take j (suc n) (c ∷ cells) = grind (arith, common_steps, number_cons, number_take j n cells)
 
 -- ## One list
 
@@ -28,12 +23,6 @@ module _ (old held : List ℕ) (cells : List Queued) (at : ℕ) (inside : at < l
       number_for j (take (at + 1) cells) ≡ number_for j (take at cells) + bit (is_for j (get_or cells at d))
   one_more j = grind (arith, common_steps, take_more, number_cons)
 
-  pub count_fits : ((j : ℕ) → j < length old → get_or old j 0 + number_for j cells < 2 ^ 64) →
-      get_or held (get_or cells at d).cell.output 0 + 1 < 2 ^ 64
-  count_fits fit =
-      let o = (get_or cells at d).cell.output in
-      search (arith, rules, one_more o, bit_true, eq-eqb o o refl, number_take o (at + 1) cells)
-
   pub count_next : (new : List ℕ) → length held ≡ length old →
       new ≡ set held (get_or cells at d).cell.output (get_or held (get_or cells at d).cell.output 0 + 1) →
       AreCounted old new (take (at + 1) cells)
@@ -46,11 +35,6 @@ waiting_push : (j : ℕ) (lists : List (List Queued)) (cells : List Queued) →
     waiting_for j (lists ++ cells ∷ []) ≡ waiting_for j lists + number_for j cells
 waiting_push j [] cells = omega arith
 waiting_push j (x ∷ lists) cells = let rest = waiting_push j lists cells in omega arith
-
-waiting_take : (j n : ℕ) (lists : List (List Queued)) → waiting_for j (take n lists) ≤ waiting_for j lists
-waiting_take j zero lists = omega arith
-waiting_take j (suc n) [] = omega arith
-waiting_take j (suc n) (x ∷ lists) = let rest = waiting_take j n lists in omega arith
 
 -- the buffers and the lists before an input are counted
 pub record HeldSoFar (f : Fabric) (i : ℕ) (held : List ℕ) : Type 0 where
@@ -73,11 +57,6 @@ module _ (f : Fabric) (i : ℕ) (held : List ℕ) (so_far : HeldSoFar f i held) 
       let among : IsAmong (get_or cells k d) (input f i) =
       subst (IsAmong (get_or cells k d)) here (among_at cells k (get_or cells k d) (slice_get-get_or cells k d within))
       in search (arith, rules)
-
-  pub cells_fit : ((j : ℕ) → j < length f.inputs → held_for j f < 2 ^ 64) →
-      (j : ℕ) → j < length held → get_or held j 0 + number_for j cells < 2 ^ 64
-  cells_fit fit j below =
-      let few = fit j (omega arith) in search (arith, rules, next_waiting j, waiting_take j (i + 1) f.inputs)
 
   pub held_next : (new : List ℕ) → length new ≡ length held →
       ((j : ℕ) → j < length held → get_or new j 0 ≡ get_or held j 0 + number_for j cells) → HeldSoFar f (i + 1) new

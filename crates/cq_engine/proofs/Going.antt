@@ -54,8 +54,7 @@ can_hold ms limits from to x can =
           };
       outputs = λ j inside.
           let ports : length x.buffers ≡ length ms = can.ports.buffers in
-          let room = can.buffer_rooms j (omega arith) in
-          record { room = omega arith; rising = can.sound.fabric.rising j };
+          record { room = can.buffer_rooms j (omega arith); rising = can.sound.fabric.rising j };
     }
 
 -- ## The engine

@@ -21,7 +21,7 @@ use Rattle.cq_ideal.specs.IdealSlot.{IdealState, departures_in}
 use Rattle.cq_prefs.specs.Pairing.{IsInputBest}
 use Rattle.cq_laws.specs.Fabric.{Fabric, buffer, empty_fabric, input}
 use Rattle.cq_laws.specs.Frozen.{AreCountsOf, AreOwn, HasPorts, IsSoundFabric, fabric_in}
-use Rattle.cq_laws.specs.Holding.{held_for, waiting_for}
+use Rattle.cq_laws.specs.Holding.{waiting_for}
 use Rattle.cq_laws.specs.LimitedFabric.{LimitedFabricSlot, LimitedRecord, fabric_admission}
 use Rattle.cq_laws.specs.Records.{transfers_in}
 use Rattle.cq_laws.specs.Agreement.{Agrees}
@@ -213,7 +213,7 @@ frozen_of e = record {
 -- An engine with these machines, limits and rooms can go on from this state: it has what each port has, its fabric is
 -- one that a fabric can go on from, its cells are of their inputs, each rank state is of its machine's size, what was
 -- refused is counted for each output with a limit, and no port has counted more cells than there were slots. Each
--- list has room for its cells, and each buffer for all cells that its output holds.
+-- list and each buffer has room for its cells.
 pub record CanGoOn (ms : List Machine) (limits : List (Option ℕ)) (from_inputs to_outputs : List ℕ) (x : Frozen) :
     Type 0 where
   pub ports : HasPorts (length ms) x
@@ -223,4 +223,4 @@ pub record CanGoOn (ms : List Machine) (limits : List (Option ℕ)) (from_inputs
   pub refused : AreCountsOf limits x.refused
   pub counts : CountsFit x.next x.figures
   pub list_rooms : (i : ℕ) → i < length ms → length (input (fabric_in x) i) ≤ slice_index from_inputs i
-  pub buffer_rooms : (j : ℕ) → j < length ms → held_for j (fabric_in x) ≤ slice_index to_outputs j
+  pub buffer_rooms : (j : ℕ) → j < length ms → length (buffer (fabric_in x) j) ≤ slice_index to_outputs j

@@ -1,7 +1,7 @@
 //! What an engine that stands still is copied into, and what one is made of that goes on.
-ghost use Rattle.std.specs.Prelude.{◌≡◌, ℕ, ◌+◌, ◌<◌, ◌^◌, All, IfOk, filter, length, map, slice_index, slice_set};
+ghost use Rattle.std.specs.Prelude.{◌≡◌, ℕ, ◌+◌, ◌<◌, All, IfOk, OnOk, filter, length, map, slice_index, slice_set};
 ghost use Rattle.cq_base.specs.declared.cell.Queued.{Queued as OfCell};
-ghost use Rattle.cq_engine.specs.Terms.{is_for, IsAmong, input, fabric_in, fabric_held, held_for};
+ghost use Rattle.cq_engine.specs.Terms.{is_for, IsAmong, input, fabric_in, fabric_held};
 
 use cq_base::{Figures, NoMemory, Port, Queued, Sequence};
 use cq_laws::Frozen;
@@ -43,29 +43,30 @@ fn lengths_of(alloc: Global, buffers: &[Sequence<Queued>]) -> Result<Sequence<u6
     Ok(Sequence::of(counts))
 }
 
-// One cell more is counted for an output.
-fn count_one(held: &mut Sequence<u64>, output: Port)
-    requires output { output < length held.old }
-    requires fits { slice_index held.old output + 1 < 2 ^ 64 }
-    ensures { held.new ≡ slice_set held.old output (slice_index held.old output + 1) }
+// One cell more is counted for an output. The error is want of memory: no memory holds more cells than 64 bits count.
+fn count_one(held: &mut Sequence<u64>, output: Port) -> Result<(), NoMemory>
+    requires { output < length held.old }
+    ensures { OnOk result (held.new ≡ slice_set held.old output (slice_index held.old output + 1)) }
 {
-    let more = held.as_slice()[output as usize] + 1;
+    let Some(more) = held.as_slice()[output as usize].checked_add(1) else {
+        return Err(NoMemory);
+    };
     held.set(output as usize, more);
+    Ok(())
 }
 
-// The cells of a list are counted, each for its output.
+// The cells of a list are counted, each for its output. The error is want of memory, as that of `count_one`.
 #[tactic(auto, using(std::proofs::lemmas::List::take_all))]
-fn count_each(held: &mut Sequence<u64>, cells: &[Queued])
+fn count_each(held: &mut Sequence<u64>, cells: &[Queued]) -> Result<(), NoMemory>
     requires outputs { All (λ c. c.cell.output < length held.old) cells.now }
-    requires fit { (j : ℕ) → j < length held.old →
-        slice_index held.old j + length (filter (is_for j) cells.now) < 2 ^ 64 }
-    ensures ports { length held.new ≡ length held.old }
-    ensures counts { (j : ℕ) → j < length held.old →
-        slice_index held.new j ≡ slice_index held.old j + length (filter (is_for j) cells.now) }
+    ensures ports { OnOk result (length held.new ≡ length held.old) }
+    ensures counts { OnOk result ((j : ℕ) → j < length held.old →
+        slice_index held.new j ≡ slice_index held.old j + length (filter (is_for j) cells.now)) }
 {
     'places: for at in 0..cells.len() {
-        count_one(held, cells[at].cell.output);
+        count_one(held, cells[at].cell.output)?;
     }
+    Ok(())
 }
 
 /// How many cells each output holds, in the lists and in its buffer. The error is want of memory.
@@ -73,14 +74,13 @@ pub fn held_in(alloc: Global, from: &Frozen) -> Result<Sequence<u64>, NoMemory>
     requires square { length from.now.buffers ≡ length from.now.lists }
     requires outputs { (i : ℕ) (c : OfCell) → IsAmong c (input (fabric_in from.now) i) →
         c.cell.output < length from.now.lists }
-    requires fit { (j : ℕ) → j < length from.now.lists → held_for j (fabric_in from.now) < 2 ^ 64 }
     ensures { IfOk result (λ held. held ≡ fabric_held (fabric_in from.now)) }
 {
     let buffers = from.buffers.as_slice();
     let lists = from.lists.as_slice();
     let mut held = lengths_of(alloc, buffers)?;
     'inputs: for input in 0..lists.len() {
-        count_each(&mut held, lists[input].as_slice());
+        count_each(&mut held, lists[input].as_slice())?;
     }
     Ok(held)
 }

@@ -4,8 +4,5 @@ use Rattle.cq_engine.proofs.copied.count_one.Goals as goal
 pub bounds-as_slice-output : goal.bounds-as_slice-output
 bounds-as_slice-output c = search (arith, rules)
 
-pub overflow_add-more : goal.overflow_add-more
-overflow_add-more c = search (arith, rules)
-
 pub returns : goal.returns
 returns c = search (arith, rules)

@@ -1,5 +1,5 @@
 use Rattle.cq_engine.proofs.Terms.{rules, ◌≡◌, ◌<◌, length, map, ap, ◌∙◌, arith, get_or_read, list_of, fabric_in}
-use Rattle.cq_engine.proofs.Counted.{cells_fit, cells_inside, held_first, held_last, held_next}
+use Rattle.cq_engine.proofs.Counted.{cells_inside, held_first, held_last, held_next}
 use Rattle.cq_engine.proofs.copied.held_in.Goals as goal
 use Rattle.cq_engine.proofs.copied.held_in.Goals.{After-as_slice}
 
@@ -15,13 +15,13 @@ inputs-init c = held_first (fabric_in c.args.from.now) c.in_ok-held.held c.requi
     (c.in_ok-held.ensures ∙ ap (map length) c.as_slice-buffers.ensures)
 
 pub count_each-requires : goal.count_each-requires
-count_each-requires c = search (arith, rules, cells_inside, cells_fit, inside, here)
+count_each-requires c = search (arith, rules, cells_inside, inside, here)
 
 pub inputs-preserved : goal.inputs-preserved
 inputs-preserved c =
     let at = (goal.at.inputs-preserved c).After-as_slice in
-    let now = here at in
-    let within = inside at in search (arith, rules, held_next)
+    let counted = c.in_ok-count_each.ensures in
+    held_next _ _ _ c.inputs.invariant (inside at) _ (here at) _ counted.ports counted.counts
 
 pub returns : goal.returns
 returns c = search (arith, rules, held_last)

@@ -1,5 +1,4 @@
 use Rattle.cq_engine.proofs.Terms.{◌≡◌, List, length, map, sym, ◌∙◌, arith, rules, length-map, held_long}
-use Rattle.cq_engine.specs.declared.measure.Look.TheVariants as look
 use Rattle.cq_engine.proofs.Going.{can_hold, goes_on, same_frozen}
 use Rattle.cq_engine.proofs.engine.Engine.thaw.Goals as goal
 
@@ -11,9 +10,7 @@ put-requires g c =
     let many = length-map (map g.R.Rank.fixed c.args.ranks.items) g.R.Rank.machine in search (arith, rules)
 
 pub held_in-requires : goal.held_in-requires
-held_in-requires g c =
-    let many = as_many g.R.Rank.fixed g.R.Rank.machine c.args.ranks.items in
-    search (arith, rules, c.requires.goes_on.buffer_rooms, c.type_inv.to_outputs)
+held_in-requires g c = search (arith, rules)
 
 pub holding-requires : goal.holding-requires
 holding-requires g c =
