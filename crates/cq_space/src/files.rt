@@ -13,10 +13,13 @@ pub struct Failed;
 ///
 /// What clauses see of a file space is its `space`, which has three parts.
 ///
+/// - The mode: closed, reading a name of which some bytes are left, or writing a name. Reading and
 ///   writing begin and end closed, so no two names are open at once. The name is told in any case, the
 ///   bytes that are left where contents are.
+/// - The told contents: the bytes of each name that there is. An implementation over the system's
 ///   files tells none, and a clause on contents then says nothing. Only the
 ///   name that is being written gets other bytes.
+/// - The count of faults, which rises in exactly the calls that fail. Every [`Failed`] comes only where
 ///   the count rose in that call: it is greater than before, or it stands at 2^64 - 1, since every
 ///   implementation keeps it in a `u64` that stays at its last value. A call that does not fail leaves
 ///   the count as it was.
