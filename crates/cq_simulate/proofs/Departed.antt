@@ -1,12 +1,14 @@
 -- Each cell that departs has arrived. Of each input and class the cells of the packets that are taken in leave an
 -- output as they came. So what holds of all cells that arrive holds of each that departs: it is of a packet of its
 -- input's capture.
-use Rattle.cq_simulate.proofs.Terms.{rules, ◌≡◌, ℕ, zero, suc, ◌+◌, ◌<◌, true, List, [], ◌∷◌, length, map, get_or, Result, Ok, Err, refl, sym, ap, ◌∙◌, arith, common_steps, max, AllByRecursion, filter, range_with_len, eq-eqb, and_from, Arrival, end_of, Departure, TagFault, packets_of, cells, start, cell_of, arrivals_of, arrivals_at, arrivals, IsTraffic, piece_begins, all_flat, traffic_is, NoLimits, slots_of, leaves_in_flow, departures_of, departures_limited, LimitedRan, unlimited, flows_leave_in_packets, limited_same_sent, run_as_before, slots_as_before, Captured, AreTables, IsSetup, classes_of, ports_of, Tables, machines_of, openings_of, HaveLeftOf, LeaveWhole, LeftInPackets, IsCaptured, ideal_departures, ran_ideal, slots_ran, subst, and_parts, eqb-true, Has, all_of_has, has_cases, has_image, has_kept, image_has, kept_has, flat_map, of_packet, Cell, came_in_flow}
+use Rattle.cq_simulate.proofs.Terms.{rules, ◌≡◌, ℕ, ◌+◌, ◌<◌, true, List, [], ◌∷◌, length, get_or, Result, Ok, Err, refl, sym, ap, ◌∙◌, arith, common_steps, max, AllByRecursion, filter, eq-eqb, and_from, Arrival, end_of, Departure, TagFault, packets_of, cells, start, cell_of, arrivals_of, arrivals_at, arrivals, IsTraffic, piece_begins, all_flat, traffic_is, NoLimits, slots_of, leaves_in_flow, departures_of, departures_limited, LimitedRan, unlimited, flows_leave_in_packets, limited_same_sent, run_as_before, slots_as_before, Captured, AreTables, IsSetup, classes_of, ports_of, Tables, machines_of, openings_of, HaveLeftOf, LeaveWhole, LeftInPackets, IsCaptured, ideal_departures, ran_ideal, slots_ran, subst, and_parts, eqb-true, Has, all_of_has, has_cases, has_image, has_kept, image_has, kept_has, flat_map, of_packet, Cell, came_in_flow, of_images}
 use Rattle.cq_cells.specs.Traffic.{IsInRange}
 use Rattle.cq_ideal.proofs.LimitedLast.{last_departs, limited_slots}
+use Rattle.cq_resume.proofs.Having.{has_at}
 use Rattle.cq_simulate.proofs.OfPackets.{packets_come}
 use Rattle.cq_simulate.proofs.SomePackets.{as_packets}
 use Rattle.cq_simulate.proofs.Runnable.{runnable}
+use Rattle.cq_simulate.proofs.Tallies.{all_in_row}
 
 -- ## What departs has come
 
@@ -27,10 +29,6 @@ left_in_packets t captures sent are many h i =
     let l = flows_leave_in_packets t.limits _ _ _ came ran (runnable t.setup came are.setup (traffic_is t captures are
     many)) is i (packets_come t captures i are many) in
     as_packets t captures i are many _ l.is_taken l.left)
-
-has_at : {X : Type 0} (xs : List X) (k : ℕ) (e : X) → k < length xs → Has xs (get_or xs k e)
-has_at [] k e inside = absurd (omega arith)
-has_at (x ∷ xs) k e inside = grind (arith, common_steps, has_at xs)
 
 -- a cell that departs came in its flow
 pub record CameAs (came : List Arrival) (d : Departure) : Type 0 where
@@ -65,15 +63,9 @@ pub all_cells : (t : Tables) (captures : List (List Captured)) (P : Arrival → 
     AllByRecursion P (arrivals t captures)
 unfolding arrivals arrivals_at
 all_cells t captures P each = all_flat P (arrivals_at t captures) 0 (length captures) (λ i _ in_captures. all_flat P
-    (arrivals_of t captures i) 0 (length (packets_of captures i)) (λ k _ in_packets. made (λ n. record {
-      slot = start t captures i k + n;
-      cell = cell_of t captures i k n;
-    }) 0 (cells t captures i k) (λ n in_cells. each i k n (omega arith) (omega arith) (omega arith))))
-  where
-    made : (f : ℕ → Arrival) (a n : ℕ) → ((k : ℕ) → k < a + n → P (f k)) →
-        AllByRecursion P (map f (range_with_len a n))
-    made f a zero h = tt
-    made f a (suc n) h = (h a (omega arith), made f (a + 1) n (λ k l. h k (omega arith)))
+    (arrivals_of t captures i) 0 (length (packets_of captures i)) (λ k _ in_packets. of_images
+    (λ n. record { slot = start t captures i k + n; cell = cell_of t captures i k n }) P _
+    (all_in_row _ 0 (cells t captures i k) (λ n in_cells. each i k n (omega arith) (omega arith) (omega arith)))))
 
 module _ {t : Tables} {captures : List (List Captured)} {sent : List Departure} {stamp : ℕ}
     (of_run : HaveLeftOf t captures sent stamp) (k : ℕ) (e : Departure) (inside : k < length sent) where

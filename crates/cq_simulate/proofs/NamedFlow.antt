@@ -3,12 +3,13 @@
 -- have the same cells: of a flow there arrives one cell in a slot at most.
 -- What waits for an output in a sound state stands there as in a run: in the order of the keys, each cell with the
 -- level of its class and a rank below the floor, and each arrived in an earlier slot.
-use Rattle.cq_simulate.proofs.Terms.{common_steps, rules, map-append, ◌≡◌, ℕ, ◌<◌, Bool, true, false, List, [], ◌∷◌, ◌++◌, length, map, filter, Option, Some, refl, sym, ap, ◌∙◌, subst, inl, ⊎_elim, arith, ◌⊎◌, ◌+◌, ◌≤◌, not, cond, inr, fold, ◌&&◌, ◌==◌, All, option_map, slice_index_or, nat_lt, if◌then◌else◌, AllByRecursion, AllPairs, filter_map, list_any, and_from, and_parts, cases_Bool, cases_lt, eq-eqb, eqb-true, lt-ltb, ltb-true, or_left, or_right, true≢false, cases_eq, cond-false, cond-true, le-ltb, ne_eqb, Arrival, EachCell, IsBefore, Departure, Queued, IsLater, IsTraffic, comes_in_flow, leaves_in_flow, left_in_flow, is_kind, shown, HasWaited, Stands, line_at, is_from_on, rest_of, Agrees, Fabric, IsAmong, buffer, input, ideal_of, list_of, departure_of, sent_told, firsts_at, is_refused, latest, IsSound, OfOneFlow, IsBelowFloor, AllNamed, AreWholePackets, NoneNamed, HasShape, Switch, HasLimit, arriving_cell, class_of, fabric_told, is_ahead, is_named, key_of, named_in, output_of, queued_in, queued_of, list_told, class_in, packet_before, EachPair, each_pair, buffer_is, comes, found_at, has_of_among, in_buffer, in_list, in_order, is_cell_of, its_output, its_slot, list_is, of_traffic, ports_are, queued_differ, queued_named, some_cell, Has, all_from_has, all_of_has, has_cases, has_image, has_kept, has_left, has_right, image_has, kept_has, pair_of_has, IsInRange, Sent, State, NoLater, all_weaker, Machine, machine_at, recursion_from_All, AreOfPackets, all_both, of_images}
+use Rattle.cq_simulate.proofs.Terms.{common_steps, rules, map-append, ◌≡◌, ◌≢◌, ℕ, ◌<◌, Bool, true, false, List, [], ◌∷◌, ◌++◌, length, map, filter, Option, Some, refl, sym, ap, ◌∙◌, subst, inl, ⊎_elim, arith, ◌⊎◌, ◌+◌, ◌≤◌, not, cond, inr, fold, ◌&&◌, ◌==◌, All, option_map, slice_index_or, nat_lt, if◌then◌else◌, AllByRecursion, AllPairs, filter_map, list_any, and_from, and_parts, cases_Bool, cases_lt, eq-eqb, eqb-true, lt-ltb, ltb-true, or_left, or_right, true≢false, cases_eq, cond-false, cond-true, le-ltb, ne_eqb, Arrival, EachCell, IsBefore, Departure, Queued, IsLater, IsTraffic, comes_in_flow, leaves_in_flow, left_in_flow, is_kind, shown, HasWaited, Stands, line_at, is_from_on, rest_of, Agrees, Fabric, IsAmong, buffer, input, ideal_of, list_of, departure_of, sent_told, firsts_at, is_refused, latest, IsSound, OfOneFlow, IsBelowFloor, AllNamed, AreWholePackets, NoneNamed, HasShape, Switch, HasLimit, arriving_cell, class_of, fabric_told, is_ahead, is_named, key_of, named_in, output_of, queued_in, queued_of, list_told, class_in, packet_before, EachPair, each_pair, buffer_is, comes, found_at, has_of_among, in_buffer, in_list, in_order, is_cell_of, its_output, its_slot, list_is, of_traffic, ports_are, queued_differ, queued_named, some_cell, Has, all_from_has, all_of_has, has_cases, has_image, has_kept, has_left, has_right, image_has, kept_has, pair_of_has, IsInRange, Sent, State, NoLater, all_weaker, Machine, machine_at, AreOfPackets, all_both, of_images}
 use Rattle.std.proofs.lemmas.Simd.{map-map}
 use Rattle.cq_base.proofs.Keys.{key_laws}
 use Rattle.cq_ideal.proofs.RestAtInput.{cells_of}
 use Rattle.cq_laws.specs.Places.{HasFor}
-use Rattle.cq_resume.proofs.Pooled.{looked_up, pairs_kept, pairs_looked_up, pairs_with}
+use Rattle.cq_resume.proofs.Having.{all_has}
+use Rattle.cq_resume.proofs.Pooled.{looked_up, pairs_kept, pairs_kept_with, pairs_looked_up, pairs_with}
 use Rattle.cq_state.specs.declared.state.Named.{Named}
 use Rattle.cq_base.specs.declared.key.Key.{Key}
 
@@ -165,15 +166,11 @@ module _ (named : Arrival → Bool) (taken : ℕ → Bool) where
 
 -- ## What a sound state says
 
--- what holds of all holds of what the list has
-pub each_has : {X : Type 0} (P : X → Type 0) (xs : List X) (x : X) → All P xs → Has xs x → P x
-each_has P xs x all has = all_of_has P xs x (recursion_from_All P xs all) has
-
-any_has : {X : Type 0} (p : X → Bool) (xs : List X) (x : X) → Has xs x → p x ≡ true → list_any p xs ≡ true
+pub any_has : {X : Type 0} (p : X → Bool) (xs : List X) (x : X) → Has xs x → p x ≡ true → list_any p xs ≡ true
 any_has p [] x has is = absurd has
 any_has p (z ∷ zs) x has is = grind (arith, common_steps, or_left, or_right, any_has p zs x)
 
-has_any : {X : Type 0} (p : X → Bool) (xs : List X) → list_any p xs ≡ true → (x : X) × Has xs x × (p x ≡ true)
+pub has_any : {X : Type 0} (p : X → Bool) (xs : List X) → list_any p xs ≡ true → (x : X) × Has xs x × (p x ≡ true)
 has_any p [] holds = absurd (let clash : false ≡ true = holds in let P : ⊥ = cc in P)
 has_any p (z ∷ zs) holds = grind (arith, common_steps, cases_Bool, has_any p zs)
 
@@ -234,14 +231,14 @@ module _ (w : Switch) (s : State) (i : ℕ) (whole : AreWholePackets w s)
       let first = of_line f has in
       let all = packet_before w.came s.head.next f in
       let own : Has all f = in_packet f f first first refl in
-      let said = each_has (λ (a : Arrival). a.cell.id.index ≡ 0 → a.slot < s.head.next
+      let said = all_has (λ (a : Arrival). a.cell.id.index ≡ 0 → a.slot < s.head.next
       → AllNamed s (packet_before w.came s.head.next a)
       ⊎ (NoneNamed s (packet_before w.came s.head.next a) × HasLimit w.limits a.cell.output)) w.came f whole first.came
       begins first.early in
       ⊎_elim (λ yes_ a among.
-      let is = each_has (λ (b : Arrival). is_told b ≡ true) all in is a yes_ among ∙ sym (is f yes_ own))
+      let is = all_has (λ (b : Arrival). is_told b ≡ true) all in is a yes_ among ∙ sym (is f yes_ own))
       (λ none a among.
-      let is = each_has (λ (b : Arrival). is_told b ≡ false) all in is a none.0 among ∙ sym (is f none.0 own)) said
+      let is = all_has (λ (b : Arrival). is_told b ≡ false) all in is a none.0 among ∙ sym (is f none.0 own)) said
 
   pub alike : (a b : Arrival) → Has before a → Has before b → packet a ≡ packet b → is_told a ≡ is_told b
   alike a b first second same =
@@ -320,12 +317,6 @@ same_rising (x ∷ xs) (y ∷ ys) up rising to from =
 arrival_is : (a b : Arrival) → a.slot ≡ b.slot → a.cell ≡ b.cell → a ≡ b
 arrival_is a b e g = λ k. record { slot = e k; cell = g k }
 
--- those that pass a test, of which more is known
-pairs_kept_with : {X : Type 0} (R S : X → X → Type 0) (p : X → Bool) →
-    ((x y : X) → p x ≡ true → p y ≡ true → R x y → S x y) → (xs : List X) → EachPair R xs → EachPair S (filter p xs)
-pairs_kept_with {X} R S p gives xs pairs = pairs_with R S (λ (x : X). p x ≡ true) gives (filter p xs)
-    (all_from_has _ (filter p xs) (λ x has. (kept_has p xs x has).1)) (pairs_kept R p xs pairs)
-
 -- the arrivals at an input rise
 pub line_rises : (came : List Arrival) → AllPairs IsLater came → (i : ℕ) → EachPair IsEarlier (line_at i came)
 line_rises came later i =
@@ -336,12 +327,12 @@ line_rises came later i =
 
 -- ## Lists
 
-pairs_mapped : {X Y : Type 0} (f : X → Y) (R : Y → Y → Type 0) (xs : List X) → EachPair (λ a b. R (f a) (f b)) xs →
+pub pairs_mapped : {X Y : Type 0} (f : X → Y) (R : Y → Y → Type 0) (xs : List X) → EachPair (λ a b. R (f a) (f b)) xs →
     EachPair R (map f xs)
 pairs_mapped f R [] pairs = tt
 pairs_mapped f R (x ∷ xs) pairs = (of_images f (R (f x)) xs pairs.0, pairs_mapped f R xs pairs.1)
 
-pairs_joined : {X : Type 0} (R : X → X → Type 0) (xs ys : List X) → EachPair R xs → EachPair R ys →
+pub pairs_joined : {X : Type 0} (R : X → X → Type 0) (xs ys : List X) → EachPair R xs → EachPair R ys →
     ((x y : X) → Has xs x → Has ys y → R x y) → EachPair R (xs ++ ys)
 pairs_joined R [] ys first second across = second
 pairs_joined R (x ∷ xs) ys first second across =
@@ -507,8 +498,8 @@ module _ (w : Switch) (s : State) (in_range : IsInRange s) (shape : HasShape w s
 
     ahead : (a b : Named) → Has (queued_in s) a → Has (queued_in s) b → Ahead a b
     ahead a b first second =
-        each_has (Ahead a) (queued_in s) b
-        (each_has (λ (m : Named). All (Ahead m) (queued_in s)) (queued_in s) a sound.flows.queued first) second
+        all_has (Ahead a) (queued_in s) b
+        (all_has (λ (m : Named). All (Ahead m) (queued_in s)) (queued_in s) a sound.flows.queued first) second
 
     one_name : (a b : Named) → Has (queued_in s) a → Has (queued_in s) b → a.slot ≡ b.slot → a.input ≡ b.input → a ≡ b
     one_name a b first second slots inputs = grind (arith, common_steps, pair_of_has, queued_differ)
@@ -539,8 +530,8 @@ module _ (w : Switch) (s : State) (in_range : IsInRange s) (shape : HasShape w s
     sent_earlier q r first second =
         let a = was_sent q first in
         let b = waits r second in
-        let all = each_has (λ (d : Sent). All (After d.cell) (queued_in s)) s.sent a.sent sound.flows.after a.has in
-        let after = each_has (After a.sent.cell) (queued_in s) b.0 all b.1 in
+        let all = all_has (λ (d : Sent). All (After d.cell) (queued_in s)) s.sent a.sent sound.flows.after a.has in
+        let after = all_has (After a.sent.cell) (queued_in s) b.0 all b.1 in
         search (arith, rules, one_flow, slot_is)
 
     told_rise : EachPair IsEarlier (map as_arrival (gone ++ waiting))
@@ -677,7 +668,7 @@ module _ (w : Switch) (s : State) (in_range : IsInRange s) (shape : HasShape w s
         let it = waits_there q has in
         let n = it.name in
         let own = is_cell_of w.came n q it.is in
-        let floor = each_has (IsBelowFloor w s) (queued_in s) n sound.floors it.has in
+        let floor = all_has (IsBelowFloor w s) (queued_in s) n sound.floors it.has in
         let output : output_of w.came n ≡ j = its_output w s in_range shape sound traffic n q it.is ∙ it.output in
         let class : class_of w.came n ≡ q.cell.class = ap class_in own.arrives in
         let below = rw (output, class) at floor.rank in

@@ -43,7 +43,8 @@ module _ (t : Tables) (captures : List (List Captured)) (input : ℕ) where
       let here = by_packet t captures input (λ (cell : Cell). cell.id.packet == k) (λ g. g == k) (λ g m. refl) gs in
       grind (arith, common_steps, flat_map-append, parts_of gs ks)
 
-  none_from : (ports classes : ℕ) (came : List Arrival) → AllByRecursion (IsInRange ports classes) came →
+  -- none comes to what is no input
+  pub none_from : (ports classes : ℕ) (came : List Arrival) → AllByRecursion (IsInRange ports classes) came →
       ports ≤ input →
       filter (is_from input) came ≡ []
   none_from ports classes [] all past = refl

@@ -391,12 +391,8 @@ pub record HasHad (ms : List Machine) (slot : ℕ) (cells : List (Option Cell)) 
 module _ {ms : List Machine} {slot ports : ℕ} {cells : List (Option Cell)} {old new : IdealSwitch}
     {leaving left : RoomView Departure} (free : IsFree ports leaving) (had : HasHad ms slot cells old new leaving left)
   where
-    left_here : (s : LimitedSent) × HaveLeft slot s.gone leaving left
+    pub left_here : (s : LimitedSent) × HaveLeft slot s.gone leaving left
     left_here = grind (arith, common_steps, slot_ok)
-
-    pub emptied : {after : RoomView Departure} → after.items ≡ [] → after.spare ≡ left.spare + length left.items →
-        IsFree ports after
-    emptied none room = free_again free left_here.1 none room
 
     pub handed : {sent sent_new : RoomView Departure} → sent_new.items ≡ sent.items ++ left.items →
         sent_new.spare + length left.items ≡ sent.spare → HasHad ms slot cells old new sent sent_new

@@ -1,5 +1,5 @@
 use Rattle.cq_simulate.proofs.Terms.{rules, ◌≡◌, ◌≤◌, map, sym, ◌∙◌, arith, err_from_is_err_and, end_of, waiting}
-use Rattle.cq_simulate.proofs.Steps.{Before, HasHad, a_slot_left, at_end, at_fault, at_first, at_next, at_rest, can_have, can_take_over, early_at_end, emptied, handed, more_at_rest, not_over}
+use Rattle.cq_simulate.proofs.Steps.{Before, HasHad, a_slot_left, at_end, at_fault, at_first, at_next, at_rest, can_have, can_take_over, early_at_end, free_again, handed, left_here, more_at_rest, not_over}
 use Rattle.cq_simulate.proofs.ideal_run.run_slots.Given as given
 use Rattle.cq_simulate.proofs.ideal_run.run_slots.Goals as goal
 use Rattle.cq_simulate.proofs.ideal_run.run_slots.Goals.{After-arrivals, In_ok-slot}
@@ -59,8 +59,8 @@ slots-preserved g c =
       runs = at_next g.R.Rank.machine c.requires.ready (stands g at.After-arrivals) (going g at.After-arrivals)
           c.arrivals.result.now c.slot.new.self c.take_all.new.self (c.arrivals.ensures ∙ c.skip-slot.ensures.came)
           (handed c.slots.invariant.free (had g at.In_ok-slot) c.take_all.ensures.items c.take_all.ensures.spare);
-      free =
-          emptied c.slots.invariant.free (had g at.In_ok-slot) c.take_all.ensures.none_left c.take_all.ensures.room;
+      free = free_again c.slots.invariant.free (left_here c.slots.invariant.free (had g at.In_ok-slot)).1
+          c.take_all.ensures.none_left c.take_all.ensures.room;
     }
 
 pub returns-clause-sent : goal.returns-clause-sent
