@@ -114,14 +114,11 @@ fn longer(wait: Option<u64>, now: u64) -> u64
     }
 }
 
-// What was seen of an output, with a departure more, if it is its own.
-fn with_departure(figures: OutputFigures, output: Port, departure: Departure) -> OutputFigures
+// What was seen of an output, with a departure of its own more.
+fn with_departure(figures: OutputFigures, departure: Departure) -> OutputFigures
     requires { figures.cells + 1 < 2 ^ 64 }
-    ensures { result ≡ with_departure output figures departure }
+    ensures { result ≡ with_departure departure.output figures departure }
 {
-    if departure.output != output {
-        return figures;
-    }
     let wait = departure.slot.saturating_sub(departure.queued.key.slot);
     OutputFigures {
         cells: figures.cells + 1,
@@ -155,8 +152,8 @@ fn outputs_of(
 {
     let mut outputs = nothing_sent(alloc, ports)?;
     'sent: for at in 0..sent.len() {
-        let output = sent[at].output;
-        outputs[output as usize] = with_departure(outputs[output as usize], output, sent[at]);
+        let output = sent[at].output as usize;
+        outputs[output] = with_departure(outputs[output], sent[at]);
     }
     Ok(Sequence::of(outputs))
 }
