@@ -16,8 +16,8 @@ use cq_route::Tables;
 use cq_state::State;
 use std::alloc::Global;
 
-// The second clause, then the third.
-fn stand(found: &Found, state: &State) -> Result<(), StateRefusal>
+// Refuses lines that are out of order, and then a cell of a list without slack: the second clause and the third.
+fn judge_places(found: &Found, state: &State) -> Result<(), StateRefusal>
     requires { AllByRecursion (λ q. q.cell.output < 64) found.now.listed.items }
     ensures stand { OnOk result (AreOrdered found.now state.now.head.next state.now.moved × HaveRoom found.now) }
     ensures refused { IfErr result
@@ -43,8 +43,14 @@ fn stand_below(setup: &Setup, state: &State, found: &Found) -> bool
     are_below_floors(setup, ranks, &found.listed) && are_below_floors(setup, ranks, &found.buffered)
 }
 
-// The fifth clause, then the sixth.
-fn leave(alloc: Global, setup: &Setup, state: &State, found: &Found) -> Result<(), StateRefusal>
+// Refuses flows that leave out of the order of arrival, and then a cell above the floor of its class: the fifth clause
+// and the sixth.
+fn judge_ranks(
+    alloc: Global,
+    setup: &Setup,
+    state: &State,
+    found: &Found,
+) -> Result<(), StateRefusal>
     requires ordered { AllPairs IsNameBefore found.now.names.items }
     requires ports { length setup.now.kinds ≤ 64 }
     requires names { AreNamesFor setup.now found.now }
@@ -87,7 +93,7 @@ pub fn judge(
 {
     let next = state.head.next;
     let found = find(alloc, state, schedule)?;
-    stand(&found, state)?;
+    judge_places(&found, state)?;
     let tally = tally_packets(
         alloc,
         schedule,
@@ -98,6 +104,6 @@ pub fn judge(
     let Some(tally) = tally else {
         return Err(StateRefusal::Unsound { clause: 4 });
     };
-    leave(alloc, &tables.setup, state, &found)?;
+    judge_ranks(alloc, &tables.setup, state, &found)?;
     Ok((found, tally))
 }

@@ -1,7 +1,7 @@
 use Rattle.cq_resume.proofs.Terms.{arith, rules, ◌≡◌, ◌↔◌, true, inr, refl, AreOrdered, HaveRoom}
 use Rattle.cq_resume.proofs.Judging.{denied}
-use Rattle.cq_resume.proofs.sound.stand.Goals as goal
-use Rattle.cq_resume.proofs.sound.stand.Goals.{After-have_slack, After-in_order}
+use Rattle.cq_resume.proofs.sound.judge_places.Goals as goal
+use Rattle.cq_resume.proofs.sound.judge_places.Goals.{After-have_slack, After-in_order}
 
 order_is : (c : After-in_order) →
     (c.in_order.result ≡ true) ↔ AreOrdered c.args.found.now c.args.state.now.head.next c.args.state.now.moved
