@@ -33,7 +33,7 @@ fn may_leave(last: Option<Name>, name: &Name) -> bool
     }
 }
 
-// Whether the name at a place is the first one of its input.
+// Whether the name at a place is of a later input than the one before it. The first of all has none before it.
 fn begins(names: &[Name], at: usize) -> bool
     requires { at < length names.now }
     ensures { result ≡ begins_at (map (λ n. n.queued.key.input) names.now) at }
@@ -53,6 +53,13 @@ fn none_seen(alloc: Global, flows: usize) -> Result<Vec<Option<Name>>, NoMemory>
     Ok(last)
 }
 
+// So again, in the same places.
+fn forget(last: &mut [Option<Name>])
+    ensures { last.new ≡ replicate (length last.old) None }
+{
+    last.fill(None);
+}
+
 /// Whether the cells of each flow were sent in the order of arrival, and those that wait arrived after them and are
 /// to be sent in that order. The names stand by input and then by slot of arrival.
 pub fn keep_arrival_order(alloc: Global, names: &[Name], ports: u16) -> Result<bool, NoMemory>
@@ -67,7 +74,7 @@ pub fn keep_arrival_order(alloc: Global, names: &[Name], ports: u16) -> Result<b
     'places: for at in 0..names.len() {
         let name = names[at];
         if begins(names, at) {
-            last = none_seen(alloc, flows)?;
+            forget(&mut last);
         }
         let cell = name.queued.cell;
         let flow = cell.output as usize * MOST_CLASSES + cell.class as usize;

@@ -29,7 +29,8 @@ fn inputs_in_order(listed: &[Queued]) -> bool
     neighbours_hold(listed, is_no_later)
 }
 
-/// Whether the cell at a place is the first one of its input, of cells that stand by input.
+/// Whether the cell at a place is of a later input than the one before it, of cells that stand by input. The first of
+/// all has none before it.
 pub fn begins(listed: &[Queued], at: usize) -> bool
     requires { at < length listed.now }
     ensures { result ≡ begins_at (map (λ q. q.key.input) listed.now) at }
@@ -45,6 +46,13 @@ fn none_seen() -> [Option<Queued>; 64]
     ensures { result ≡ replicate 64 None }
 {
     [None; 64]
+}
+
+// So again, in the same places.
+fn forget(last: &mut [Option<Queued>; 64])
+    ensures { last.new ≡ replicate 64 None }
+{
+    last.fill(None);
 }
 
 // Whether a cell may come behind the last one of its list for its output, if there is one.
@@ -67,7 +75,7 @@ fn keys_in_order(listed: &[Queued]) -> bool
     'places: for at in 0..listed.len() {
         let queued = listed[at];
         if begins(listed, at) {
-            last = none_seen();
+            forget(&mut last);
         }
         let output = queued.cell.output as usize;
         if !may_follow(last[output], &queued) {
@@ -87,11 +95,11 @@ fn lists_in_order(listed: &[Queued]) -> bool
 }
 
 // Whether a buffered cell stands before another: by output, then by key.
+#[tactic(auto, unfolding(cq_base::specs::Key::is_before))]
 fn is_buffered_before(queued: &Queued, other: &Queued) -> bool
     ensures { IsTrue result ↔ IsBufferedBefore queued.now other.now }
 {
-    queued.cell.output < other.cell.output
-        || (queued.cell.output == other.cell.output && is_before(queued, other))
+    (queued.cell.output, queued.key) < (other.cell.output, other.key)
 }
 
 // Whether the buffers stand by output, and the cells of each by their keys.
@@ -105,8 +113,7 @@ fn buffers_in_order(buffered: &[Queued]) -> bool
 fn is_sent_before(gone: &Gone, other: &Gone) -> bool
     ensures { IsTrue result ↔ IsSentBefore gone.now other.now }
 {
-    gone.slot < other.slot
-        || (gone.slot == other.slot && gone.queued.cell.output < other.queued.cell.output)
+    (gone.slot, gone.queued.cell.output) < (other.slot, other.queued.cell.output)
 }
 
 // Whether the departures stand by slot and then by output.
@@ -141,10 +148,7 @@ fn departures_in_order(sent: &[Gone], next: Slot) -> bool
 fn is_moved_before(transfer: &Transfer, other: &Transfer) -> bool
     ensures { IsTrue result ↔ IsMovedBefore transfer.now other.now }
 {
-    transfer.slot < other.slot
-        || (transfer.slot == other.slot
-            && (transfer.phase < other.phase
-                || (transfer.phase == other.phase && transfer.input < other.input)))
+    (transfer.slot, transfer.phase, transfer.input) < (other.slot, other.phase, other.input)
 }
 
 // Whether the transfers stand by slot, then by phase, then by input.

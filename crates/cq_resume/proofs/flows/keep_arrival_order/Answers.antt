@@ -1,13 +1,15 @@
-use Rattle.cq_resume.proofs.Terms.{rules, ◌*◌, ◌<◌, arith, get_or, Name}
+use Rattle.cq_resume.proofs.Terms.{rules, ◌≡◌, ◌*◌, ◌<◌, arith, length-replicate, get_or, inl, inr, Name}
+use Rattle.cq_base.proofs.Library.{take_at}
 use Rattle.cq_resume.proofs.Each.{all_at}
 use Rattle.cq_resume.proofs.Lanes.{Place, lanes_first, lanes_hold, lanes_next, lanes_stop, leaves_on, name_inputs, LeavesFirst, flow_of, flows_as_lanes, input_of, through}
-use Rattle.cq_resume.proofs.flows.keep_arrival_order.Goals.{After-may_leave}
+use Rattle.cq_resume.proofs.flows.keep_arrival_order.Goals.{After-may_leave, then-begins, else-begins}
 use Rattle.cq_resume.proofs.flows.keep_arrival_order.Goals as goal
 
 here : (c : After-may_leave) (e : Name) → Place input_of flow_of LeavesFirst c.args.names.now (c.args.ports * 16)
     c.places.at e c.places.last.items c.if-begins.last.items c.begins.result
 here c e =
     let inside = c.places-test.true in
+    let long = c.places.invariant.long in
     let own = all_at (λ (m : Name). (m.queued.cell.output < c.args.ports) × (m.queued.cell.class < 16))
     c.args.names.now c.places.at e (omega arith) c.requires.names in
     record {
@@ -16,7 +18,14 @@ here c e =
       rising = λ i j d lt within.
           name_inputs (get_or c.args.names.now i d) (get_or c.args.names.now j d) (c.requires.ordered i j d lt within);
       is = c.begins.ensures;
-      ways = search (arith, rules);
+      ways = elim c.if-begins.branch [
+        | then-begins w ↦
+            let many : c.places.last.len ≡ c.args.ports * 16 = omega (arith, long, c.places.last.ok) in
+            let none = w.forget.ensures in
+            let read = w.deref_mut.ensures.value in
+            inl (w.if-begins.true, search (rules, long, many, take_at, length-replicate, w.last-is, none, read))
+        | else-begins w ↦ inr (w.if-begins.false, search (arith, rules))
+      ];
       fits = omega (arith, own);
     }
 
