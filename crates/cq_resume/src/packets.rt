@@ -104,10 +104,12 @@ pub fn tally_packets(
     requires limits { length limits.now ≡ schedule.now.ports }
     requires packets { ArePackets schedule.now.ports schedule.now.came }
     requires ordered { AllPairs IsNameBefore names.now }
-    ensures stand { IfOk result (λ tally. IfSome tally (λ x. PacketsStand limits.now next schedule.now.came names.now)) }
+    ensures stand { IfOk result (λ tally.
+        IfSome tally (λ x. PacketsStand limits.now next schedule.now.came names.now)) }
     ensures tally { IfOk result (λ tally. IfSome tally (TalliesUp limits.now next schedule.now.came names.now)) }
     ensures none { IfOk result (λ tally. IfNone tally (PacketsStand limits.now next schedule.now.came names.now → ⊥)) }
 {
+    // Its contract tells that no more cells arrive than can be counted.
     let _total = schedule.total();
     let mut marks = Vec::new(alloc);
     let mut refused = none_refused(alloc, limits)?;
