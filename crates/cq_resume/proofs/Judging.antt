@@ -15,7 +15,6 @@ use Rattle.cq_resume.specs.Sound.{IsBufferedBefore, IsSentBefore}
 use Rattle.cq_resume.proofs.Pooled.{pairs_cross, pairs_right, has_there}
 use Rattle.cq_base.specs.declared.setup.Setup.{Setup}
 use Rattle.cq_resume.specs.declared.refusal.StateRefusal.{StateRefusal}
-use Rattle.cq_resume.specs.declared.refusal.StateRefusal.TheVariants as refusal
 
 any_zip : {A B : Type 0} (R : A → B → Type 0) (p : A → Bool) (q : B → Bool) →
     ((x : A) (y : B) → R x y → p x ≡ q y) → (xs : List A) (ys : List B) → AllZip R xs ys → list_any p xs ≡ list_any q ys

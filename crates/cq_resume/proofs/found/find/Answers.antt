@@ -1,4 +1,4 @@
-use Rattle.cq_resume.proofs.Terms.{arith, rules, ◌≡◌, ◌<◌, ◌++◌, false, List, Option, Some, map, refl, subst, IfSome, AllZip, Named, Sent, all_front, all_back, images_held}
+use Rattle.cq_resume.proofs.Terms.{arith, rules, ◌≡◌, ◌<◌, ◌++◌, List, Option, Some, map, refl, subst, IfSome, AllZip, Named, Sent, all_front, all_back, images_held}
 use Rattle.cq_resume.proofs.Zipped.{AreLookedUp, are_arrivals, arrivals_rise, buffered_missed, sent_missed}
 use Rattle.cq_resume.proofs.found.find.Goals as goal
 use Rattle.cq_resume.proofs.found.find.Goals.{In_ok-names}
