@@ -10,25 +10,25 @@ use cq_scfq::Discipline;
 use cq_traffic::{rooms_from, rooms_to};
 use std::alloc::Global;
 
-// What the ports of a fabric are made of.
+/// What the ports of a fabric are made of.
 #[derive(Drop)]
 pub struct Ports {
-    // The rank of each output.
+    /// The rank of each output.
     pub ranks: Vec<Discipline>,
-    // How many cells come to each input.
+    /// How many cells come to each input.
     pub from_inputs: Vec<u64>,
-    // How many come for each output.
+    /// How many come for each output.
     pub to_outputs: Vec<u64>,
 }
 
-// How many ports there are.
+/// How many ports there are.
 pub fn port_count(tables: &Tables) -> u64
     ensures { result ≡ ports_of tables.now.setup }
 {
     tables.setup.kinds.as_slice().len() as u64
 }
 
-// The ports of the tables' switch, for the cells of a schedule of as many ports. The error is want of memory.
+/// The ports of the tables' switch, for the cells of a schedule of as many ports. The error is want of memory.
 pub fn ports_for(alloc: Global, tables: &Tables, schedule: &Schedule) -> Result<Ports, NoMemory>
     requires tables { AreTables tables.now }
     requires ports { schedule.now.ports ≡ ports_of tables.now.setup }
@@ -45,8 +45,9 @@ pub fn ports_for(alloc: Global, tables: &Tables, schedule: &Schedule) -> Result<
     })
 }
 
-// A fabric of the tables' switch that has had no slot, with room for the cells of a schedule of as many ports. The
-// error is want of memory.
+/// A fabric of the tables' switch that has had no slot, with room for the cells of a schedule of as many ports. The
+/// error is want of memory.
+// It is inlined since an engine is large: so it is made where its caller keeps it.
 #[inline(always)]
 pub fn engine_for(
     alloc: Global,
