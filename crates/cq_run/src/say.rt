@@ -8,7 +8,8 @@ use cq_base::{MOST_DIGITS, Name, Port, Slot, TagFault, digits};
 use cq_space::{Sink, WriteFault, put_all};
 
 const USAGE: &[u8; 174] =
-    b"usage: cq_switch pass IN OUT | check CONFIG | ideal CONFIG | run CONFIG | soak SEED PORTS SLOTS | audit CONFIG | part CONFIG SLOTS STATE | resume CONFIG STATE | stream CONFIG";
+    b"usage: cq_switch pass IN OUT | check CONFIG | ideal CONFIG | run CONFIG \
+    | soak SEED PORTS SLOTS | audit CONFIG | part CONFIG SLOTS STATE | resume CONFIG STATE | stream CONFIG";
 
 const READ_FAULT: &[u8; 12] = b"read fault: ";
 
