@@ -1,6 +1,6 @@
 -- Lists that are joined, sifted and mapped: what they have, and what holds of each of their items and each that stands
 -- behind it.
-use Rattle.cq_stopped.proofs.Terms.{common_steps, rules, ◌≡◌, ℕ, zero, suc, ◌<◌, Bool, true, false, List, [], ◌∷◌, ◌++◌, map, refl, ap, ◌∙◌, inl, inr, ⊎_elim, arith, length, ◌+◌, Option, Some, ◌==◌, filter, slice_index_or, AllByRecursion, AllPairs, flat_map, list_any, filter_map, range_with_len, eq-eqb, or_left, or_right, cases_Bool, ne_eqb, append-nil, filter-append, EachPair, all_pairs, all_both, pairs_with, Has, all_from_has, all_of_has, has_left, has_right, has_cases, has_image, has_kept, of_images, all_in_row, sym, fill_by_all}
+use Rattle.cq_stopped.proofs.Terms.{common_steps, rules, ◌≡◌, ℕ, zero, suc, ◌<◌, Bool, true, false, List, [], ◌∷◌, map, refl, ⊎_elim, arith, length, ◌+◌, Option, Some, ◌==◌, filter, slice_index_or, AllByRecursion, AllPairs, flat_map, filter_map, range_with_len, eq-eqb, cases_Bool, ne_eqb, append-nil, filter-append, EachPair, all_pairs, pairs_with, Has, all_from_has, all_of_has, has_left, has_right, has_cases, has_image, has_kept, of_images, all_in_row, sym, fill_by_all, pairs_joined, pairs_mapped}
 
 module _ {X : Type 0} where
   -- ## Lists end on end
@@ -33,17 +33,11 @@ module _ {X : Type 0} where
   pairs_in R S xs tells pairs = pairs_with R S (Has xs) tells xs (all_from_has (Has xs) xs (λ x has. has)) pairs
 
   module _ (R : X → X → Type 0) where
-    pub pairs_join : (xs ys : List X) → EachPair R xs → EachPair R ys →
-        ((x y : X) → Has xs x → Has ys y → R x y) → EachPair R (xs ++ ys)
-    pairs_join [] ys first second cross = second
-    pairs_join (x ∷ xs) ys first second cross =
-        grind (arith, common_steps, all_both, all_from_has, pairs_join xs ys first.1 second)
-
     -- within each list, and from each list to each later one
     pub pairs_of_all : (xss : List (List X)) → ((i : ℕ) → EachPair R (list_at xss i)) →
         ((i k : ℕ) (x y : X) → i < k → Has (list_at xss i) x → Has (list_at xss k) y → R x y) → EachPair R (all_of xss)
     pairs_of_all [] within across = tt
-    pairs_of_all (xs ∷ xss) within across = pairs_join xs (all_of xss) (within zero) (pairs_of_all xss
+    pairs_of_all (xs ∷ xss) within across = pairs_joined R xs (all_of xss) (within zero) (pairs_of_all xss
         (λ i. within (suc i)) (λ i k x y lt one two. across (suc i) (suc k) x y (omega arith) one two))
         (λ x y one two. let it = is_at xss y two in across zero (suc it.place) x y (omega arith) one it.has)
 
@@ -57,31 +51,9 @@ module _ {X : Type 0} where
   pairs_both R S [] first second = tt
   pairs_both R S (x ∷ xs) first second = grind (arith, common_steps, all_of_both, pairs_both R S xs first.1 second.1)
 
-  -- ## Some item passes
-
-  pub any_has : (p : X → Bool) (xs : List X) (x : X) → Has xs x → p x ≡ true → list_any p xs ≡ true
-  any_has p [] x has passes = absurd has
-  any_has p (y ∷ ys) x (inl same) passes = or_left (p y) (list_any p ys) (ap p same ∙ passes)
-  any_has p (y ∷ ys) x (inr rest) passes = or_right (p y) (list_any p ys) (any_has p ys x rest passes)
-
-  pub record Passes (p : X → Bool) (xs : List X) : Type 0 where
-    pub one : X
-    pub has : Has xs one
-    pub passes : p one ≡ true
-
-  pub some_passes : (p : X → Bool) (xs : List X) → list_any p xs ≡ true → Passes p xs
-  some_passes p [] is = absurd (let P : ⊥ = cc in P)
-  some_passes p (x ∷ xs) is = ⊎_elim (λ passes. record { one = x; has = inl refl; passes = passes })
-      (search (arith, rules, some_passes p xs))
-      (cases_Bool (p x))
-
 module _ {X Y : Type 0} (f : X → Y) where
-  pub pairs_of_images : (R : Y → Y → Type 0) (xs : List X) → EachPair (λ x y. R (f x) (f y)) xs → EachPair R (map f xs)
-  pairs_of_images R [] pairs = tt
-  pairs_of_images R (x ∷ xs) pairs = (of_images f (R (f x)) xs pairs.0, pairs_of_images R xs pairs.1)
-
   pub image_pairs : (R : Y → Y → Type 0) (xs : List X) → EachPair (λ x y. R (f x) (f y)) xs → AllPairs R (map f xs)
-  image_pairs R xs pairs = all_pairs R (map f xs) (pairs_of_images R xs pairs)
+  image_pairs R xs pairs = all_pairs R (map f xs) (pairs_mapped f R xs pairs)
 
   pub filter_images : (p : Y → Bool) (xs : List X) → filter p (map f xs) ≡ map f (filter (λ x. p (f x)) xs)
   filter_images p [] = refl

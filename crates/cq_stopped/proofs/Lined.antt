@@ -1,12 +1,12 @@
 -- The departures and the transfers of a run: what a slot adds to the departures, at each output the cell that it sent,
 -- if it sent one; that departures stand in order, slot by slot and those of a slot by output; that transfers which a
 -- log can hold do so, and are in range; and the figures that are read off them.
-use Rattle.cq_stopped.proofs.Terms.{◌≡◌, ℕ, zero, suc, ◌+◌, ◌<◌, List, [], ◌∷◌, ◌++◌, Option, Some, None, refl, arith, rules, ◌≤◌, ◌⊎◌, length, map, ◌-◌, eqb, Bool, true, false, fold, max, ◌∙◌, eq-eqb, ne_eqb, and_from, and_parts, cases_lt, eqb-true, common_steps, map-append, get_or_past, length-map, filter-append, sum_by-cons, AllByRecursion, range_with_len, cons_option, enumerate_from, ◌==◌, filter, slice_index_or, ◌&&◌, count_by, filter_map, is_some, option_map, Arrival, Departure, Queued, Transfer, listed, slots_of, departures_of, departures_from, departures_in, SlotRecord, LimitedRecord, slots_in, figures_of, input_figures, output_figures, sends, sent_by, wait_at, came_to, gone_in, EachPair, all_both, all_weaker, Differ, all_from_has, all_of_has, Has, has_kept, kept_has, AreApart, Stands, no_more, pairs_kept, figures_told, input_told, output_told, sent_told, sent_at, seen_as, IsMovedBefore, is_named, named_in, Named, State, fold-max, sent_slots, has_number, AreNumbered, IsMoved, AreWritten, ◌^◌}
+use Rattle.cq_stopped.proofs.Terms.{◌≡◌, ℕ, zero, suc, ◌+◌, ◌<◌, List, [], ◌∷◌, ◌++◌, Option, Some, None, refl, arith, rules, ◌≤◌, ◌⊎◌, length, map, ◌-◌, eqb, Bool, true, false, fold, max, ◌∙◌, eq-eqb, ne_eqb, and_from, and_parts, cases_lt, eqb-true, common_steps, map-append, get_or_past, length-map, filter-append, sum_by-cons, AllByRecursion, range_with_len, cons_option, enumerate_from, ◌==◌, filter, slice_index_or, ◌&&◌, count_by, filter_map, is_some, option_map, Arrival, Departure, Queued, Transfer, listed, slots_of, departures_of, departures_from, departures_in, SlotRecord, LimitedRecord, slots_in, figures_of, input_figures, output_figures, sends, sent_by, wait_at, came_to, gone_in, EachPair, all_both, all_weaker, Differ, all_from_has, all_of_has, Has, has_kept, kept_has, AreApart, Stands, no_more, pairs_kept, figures_told, input_told, output_told, sent_told, sent_at, seen_as, IsMovedBefore, is_named, named_in, Named, State, fold-max, sent_slots, has_number, AreNumbered, IsMoved, AreWritten, ◌^◌, any_has, has_any, pairs_joined}
 use Rattle.cq_base.specs.declared.figures.Figures.{Figures}
 use Rattle.cq_base.specs.declared.figures.InputFigures.{InputFigures}
 use Rattle.cq_ideal.proofs.LastSlot.{slots_of-append}
 use Rattle.cq_state.specs.declared.state.Seen.{Seen}
-use Rattle.cq_stopped.proofs.Joined.{pairs_in, pairs_join, any_has, some_passes}
+use Rattle.cq_stopped.proofs.Joined.{pairs_in}
 use Rattle.cq_stopped.proofs.Ran.{left_at, came_in, came_of}
 
 -- ## What a slot adds to the departures
@@ -88,7 +88,7 @@ pub departures_in_order : (slot : ℕ) (slots : List (List (Option Queued))) →
 unfolding departures_of departures_in
 departures_in_order slot [] = tt
 departures_in_order slot (gone ∷ slots) =
-    search (rules, pairs_join, slot_in_order, all_of_has, of_slot, no_earlier, departures_in_order (slot + 1) slots)
+    search (rules, pairs_joined, slot_in_order, all_of_has, of_slot, no_earlier, departures_in_order (slot + 1) slots)
 
 -- ## Numbers in a row
 
@@ -219,7 +219,7 @@ module _ (names : List Named) (rs : List LimitedRecord) (differ : EachPair Diffe
       search (arith, rules, kept_has, name_comes, eqb-true, comes_inside, has_kept, has_number))) in
       let most = no_more IsSlotOf slots mine (search (arith, rules, pairs_in, AreApart, pairs_kept, range_rises))
       (all_from_has (Stands IsSlotOf mine) slots (λ t has.
-      let it = some_passes (λ (d : Named). eqb d.slot t && eqb d.input i) names
+      let it = has_any (λ (d : Named). eqb d.slot t && eqb d.input i) names
       (named_is (some_arrival t i) ∙ (kept_has comes numbers t has).1) in
       search (arith, rules, and_parts, has_kept, eqb-true))) in
       let count = came_count (came_of rs) i 0 rs (λ t k e. let same : t ≡ k = omega arith in rw same refl) in

@@ -3,8 +3,8 @@
 -- are one, and of all others the names differ. Each name in the state is of such a cell, and comes to it: each list to
 -- the list of its input, each buffer to that of its output, and each departure to itself. So the clauses hold that ask
 -- for a sound state, but for the fourth.
-use Rattle.cq_stopped.proofs.Terms.{among_of_has, rules, ◌≡◌, ℕ, ◌<◌, List, [], length, Option, refl, sym, ◌∙◌, inl, inr, arith, Bool, true, ◌++◌, map, Some, None, ap, ⊎_elim, ◌≤◌, false_from_ne_true, and_from, and_parts, eq-eqb, eqb-true, common_steps, list_any, filter_map, ◌&&◌, ◌==◌, is_some, slice_index_or, filter, option_map, IsSome, Arrival, IsBefore, is_for, Departure, Queued, Transfer, HasWaited, IdealState, apart_from, not_before_itself, Fabric, buffer, input, fabric_in, HasFor, list_of, machine_at, EachPair, all_pairs, all_weaker, has_of_among, cell_with, Differ, Has, all_from_has, all_of_has, has_left, has_right, pair_of_has, has_cases, has_image, image_has, kept_has, pairs_cross, pairs_left, pairs_right, pairs_with, departure_of, sent_told, named_as, sent_as, state_of, HaveSlack, AreArrivals, IsBufferedBefore, IsMovedBefore, StandInOrder, KeepArrivalOrder, OfOneFlow, AreBelowFloors, IsBelowFloor, Switch, HasShape, class_in, class_of, is_named, named_in, output_in, output_of, queued_in, buffer_told, fabric_told, list_told, queued_of, arriving_cell, is_ahead, Taken, Named, Sent, told_state, State, pairs_of_cells, has_all}
-use Rattle.cq_stopped.proofs.Joined.{pairs_in, all_of, has_number, pairs_by_number, pairs_of_all, any_has, has_at_place, is_at, some_passes, pairs_join, pairs_of_images, pairs_both, filter_images, sift, told_again, by_places, image_pairs}
+use Rattle.cq_stopped.proofs.Terms.{among_of_has, rules, ◌≡◌, ℕ, ◌<◌, List, [], length, Option, refl, sym, ◌∙◌, inl, inr, arith, Bool, true, ◌++◌, map, Some, None, ap, ⊎_elim, ◌≤◌, false_from_ne_true, and_from, and_parts, eq-eqb, eqb-true, common_steps, list_any, filter_map, ◌&&◌, ◌==◌, is_some, slice_index_or, filter, option_map, IsSome, Arrival, IsBefore, is_for, Departure, Queued, Transfer, HasWaited, IdealState, apart_from, not_before_itself, Fabric, buffer, input, fabric_in, HasFor, list_of, machine_at, EachPair, all_pairs, all_weaker, has_of_among, cell_with, Differ, Has, all_from_has, all_of_has, has_left, has_right, pair_of_has, has_cases, has_image, image_has, kept_has, pairs_cross, pairs_left, pairs_right, pairs_with, departure_of, sent_told, named_as, sent_as, state_of, HaveSlack, AreArrivals, IsBufferedBefore, IsMovedBefore, StandInOrder, KeepArrivalOrder, OfOneFlow, AreBelowFloors, IsBelowFloor, Switch, HasShape, class_in, class_of, is_named, named_in, output_in, output_of, queued_in, buffer_told, fabric_told, list_told, queued_of, arriving_cell, is_ahead, Taken, Named, Sent, told_state, State, pairs_of_cells, has_all, any_has, has_any, pairs_joined, pairs_mapped}
+use Rattle.cq_stopped.proofs.Joined.{pairs_in, all_of, has_number, pairs_by_number, pairs_of_all, has_at_place, is_at, pairs_both, filter_images, sift, told_again, by_places, image_pairs}
 use Rattle.cq_stopped.proofs.Lined.{AreMoved, DepartsBefore}
 use Rattle.cq_stopped.proofs.Ran.{Follows, IsOwn, IsSentRight, Known, left_at, pool_at, IsHeld, came_in}
 use Rattle.cq_stopped.proofs.Stepping.{own_at}
@@ -200,8 +200,8 @@ module _ {w : Switch} (at : Taken) {ideal : IdealState} {cs : List (List (Option
           let it = known.held t i q is in
           any_has (is_its t i) (named_in st) (named_as q) (name_held t i q it) (search (rules, and_from, eq-eqb))
       by None is = false_from_ne_true (list_any (is_its t i) (named_in st)) (λ some.
-          let it = some_passes (is_its t i) (named_in st) some in
-          let one = is_of_one it.one it.has in search (arith, rules, and_parts, eqb-true))
+          let it = has_any (is_its t i) (named_in st) some in
+          let one = is_of_one it.0 it.1 in search (arith, rules, and_parts, eqb-true))
 
   pub named_is : (a : Arrival) → is_named (named_in st) a ≡ is_some (came_in cs a.slot a.cell.id.input)
   named_is a = is_named_at a.slot a.cell.id.input
@@ -260,10 +260,10 @@ module _ {w : Switch} (at : Taken) {ideal : IdealState} {cs : List (List (Option
 
   queued_pairs : EachPair Differ (queued_in st)
   unfolding state_of
-  queued_pairs = pairs_join Differ (map named_as listed) (map named_as buffered)
-      (pairs_of_images named_as Differ listed
+  queued_pairs = pairs_joined Differ (map named_as listed) (map named_as buffered)
+      (pairs_mapped named_as Differ listed
       (search (arith, rules, each_listed Other, same_waiting, waits_at, itself, placed)))
-      (pairs_of_images named_as Differ buffered
+      (pairs_mapped named_as Differ buffered
       (let all = pairs_of_all Other at.frozen.buffers in
       let pairs = pairs_with IsBefore Other Waits in
       search (arith, rules, all, pairs, same_waiting, itself, all_from_has, waits_behind, crossed_to)))
@@ -273,11 +273,11 @@ module _ {w : Switch} (at : Taken) {ideal : IdealState} {cs : List (List (Option
   unfolding state_of
   arrivals_are =
       let Comes : Named → Type 0 = λ c. (c.slot < at.frozen.next) × IsSome (arriving_cell w.came c) in
-      let left = pairs_of_images (λ (d : Sent). d.cell) Differ _ (pairs_of_images sent_as _ at.sent (each_sent
+      let left = pairs_mapped (λ (d : Sent). d.cell) Differ _ (pairs_mapped sent_as _ at.sent (each_sent
       (λ d e. Other d.queued e.queued) (search (arith, rules, same_cell, right_at, has_left_it)))) in
       record {
         arrive = search (arith, rules, has_all Comes (named_in st), is_of_one);
-        once = all_pairs Differ (named_in st) (pairs_join Differ (queued_in st) gone queued_pairs left
+        once = all_pairs Differ (named_in st) (pairs_joined Differ (queued_in st) gone queued_pairs left
             (search (arith, rules, is_waiting, of_sent, differ_left)));
       }
 

@@ -1,14 +1,14 @@
 -- The words of this crate's proofs that stand elsewhere, each passed on from its place.
-pub use Rattle.cq_base.proofs.Library.{All, All-from_recursion, AllByRecursion, AllPairs, Bool, Err, IsSome, List, None, Ok, Option, Result, Some, [], and_from, and_parts, and_right, ap, append-nil, append_assoc, arith, both_ways, cases_Bool, cases_eq, cases_lt, common_steps, cond, cond_both, cons_option, count_by, drop, enumerate_from, eq-eqb, eqb, eqb-true, false, false_from_ne_true, fill_by_all, filter, filter-append, filter_agree, filter_map, flat_map, fold, get_or-append-add, get_or-map, get_or-map-range_with_len, get_or-replicate, get_or-set_other, get_or-set_same, get_or_append_left, get_or_past, inl, inr, is_some, le-ltb, leb, length, length-append, length-drop, length-filter_both, length-insert, length-map, length-map-range_with_len, length-replicate, length-set, list_any, lt-leb, lt-ltb, ltb, ltb-true, map, map-append, max, min, mul-le-mul, ne_eqb, not, option_map, or_left, or_right, range_with_len, refl, replicate, rules, same_Some, slice_get, slice_index_or, slice_set, subst, suc, sum, sum_by, sum_by-append, sum_by-cons, sym, true, unwrap_or-slice_get, zero, ℕ, ⊎_elim, ◌&&◌, ◌*◌, ◌++◌, ◌+◌, ◌-◌, ◌<◌, ◌==◌, ◌^◌, ◌∙◌, ◌∷◌, ◌≡◌, ◌≢◌, ◌≤◌, ◌⊎◌}
+pub use Rattle.cq_base.proofs.Library.{All, All-from_recursion, AllByRecursion, AllPairs, Bool, Err, IsSome, List, None, Ok, Option, Result, Some, [], and_from, and_parts, and_right, ap, append-nil, append_assoc, arith, both_ways, cases_Bool, cases_eq, cases_lt, common_steps, cond, cond_both, cons_option, count_by, drop, enumerate_from, eq-eqb, eqb, eqb-true, false, false_from_ne_true, fill_by_all, filter, filter-append, filter_agree, filter_map, flat_map, fold, get_or-append-add, get_or-map, get_or-map-range_with_len, get_or-replicate, get_or-set_other, get_or-set_same, get_or_append_left, get_or_past, inl, inr, is_some, le-ltb, length, length-append, length-drop, length-insert, length-map, length-map-range_with_len, length-replicate, length-set, list_any, lt-leb, lt-ltb, ltb-true, map, map-append, max, min, ne_eqb, not, option_map, range_with_len, refl, replicate, rules, same_Some, slice_get, slice_index_or, slice_set, suc, sum, sum_by-append, sum_by-cons, sym, true, unwrap_or-slice_get, zero, ℕ, ⊎_elim, ◌&&◌, ◌*◌, ◌++◌, ◌+◌, ◌-◌, ◌<◌, ◌==◌, ◌^◌, ◌∙◌, ◌∷◌, ◌≡◌, ◌≢◌, ◌≤◌, ◌⊎◌}
 pub use Rattle.cq_base.specs.{Arrivals.arrival_at, declared.cell.Cell.Cell, declared.cell.Departure.Departure, declared.cell.Queued.Queued, declared.cell.Transfer.Transfer}
 pub use Rattle.cq_base.specs.Arriving.{Arrival, arriving_at}
 unfoldable pub use Rattle.cq_base.specs.Arriving.{arriving}
-pub use Rattle.cq_base.specs.Cells.{EachPair as EachCell, IsBefore, first_for, is_for, put}
+pub use Rattle.cq_base.specs.Cells.{EachPair as EachCell, IsBefore, is_for, put}
 pub use Rattle.cq_route.specs.Tables.{AreTables, IsSetup, ports_of}
 pub use Rattle.cq_route.specs.declared.tables.Tables.{Tables}
 pub use Rattle.cq_cells.specs.Scheduled.{Scheduled}
 pub use Rattle.cq_cells.specs.Traffic.{IsRecorded, IsTraffic, is_from}
-pub use Rattle.cq_rank.specs.Machine.{KeepsLaws, Machine, machine_at, told}
+pub use Rattle.cq_rank.specs.Machine.{KeepsLaws, Machine, machine_at}
 pub use Rattle.cq_scfq.specs.Disciplines.{machine_of, machines_of, opening_of, openings_of}
 pub use Rattle.cq_ideal.proofs.Admitted.{admitted_arrives, admitted_at, marks_kept}
 pub use Rattle.cq_ideal.proofs.Came.{Came, came_from}
@@ -22,18 +22,16 @@ unfoldable pub use Rattle.cq_ideal.specs.Ending.{arriving_from}
 unfoldable pub use Rattle.cq_ideal.specs.IdealRun.{departures_of}
 pub use Rattle.cq_ideal.specs.IdealSlot.{IdealState, departures_from, filled, fronts, put_all, rests}
 unfoldable pub use Rattle.cq_ideal.specs.IdealSlot.{all_told, departures_in, ideal_slot}
-pub use Rattle.cq_ideal.specs.Ranking.{AreForPorts, Ranking, after_input, ranking}
+pub use Rattle.cq_ideal.specs.Ranking.{AreForPorts, Ranking, ranking}
 pub use Rattle.cq_ideal.specs.Refused.{refused_counts, refused_in, with_refused}
 unfoldable pub use Rattle.cq_ideal.specs.Refused.{cells_refused, packets_refused}
 pub use Rattle.cq_state.specs.State.{AreRankNumbers, IsInRange, IsMoved, IsNamed, IsSeen, IsSent, state_lines, state_text}
 pub use Rattle.cq_state.specs.{declared.state.Named.Named, declared.state.Sent.Sent, declared.state.State.State}
 pub use Rattle.cq_prefs.specs.FirstCells.{list_of, orders_of}
-pub use Rattle.cq_prefs.specs.Moves.{noted}
-unfoldable pub use Rattle.cq_prefs.specs.Moves.{transfers_of}
-pub use Rattle.cq_prefs.specs.Pairing.{IsInputBest, IsStable, Partners, partner_of, proposals}
+pub use Rattle.cq_prefs.specs.Pairing.{IsInputBest, IsStable, Partners, proposals}
 pub use Rattle.cq_laws.proofs.AfterArrivals.{CameFor, Keyed, arrived_has}
 pub use Rattle.cq_laws.proofs.LimitedWhole.{fabric_judged, limited_empty_agree}
-pub use Rattle.cq_laws.proofs.Members.{all_among, all_from as all_if_among, among_at, among_insert, among_put, first_at, left_among}
+pub use Rattle.cq_laws.proofs.Members.{all_among, all_from as all_if_among, among_insert, among_put, left_among}
 pub use Rattle.cq_laws.proofs.OneSlot.{after_sent, arrived, keyed, old_sound, ports_kept, same_slot}
 pub use Rattle.cq_laws.proofs.Sound.{Sound, apart_from, not_before_itself, orders_are}
 pub use Rattle.cq_laws.specs.Agreement.{Agrees, SendsAlike}
@@ -45,24 +43,24 @@ pub use Rattle.cq_laws.specs.LimitedFabric.{LimitedFabricSlot, LimitedRecord, ad
 pub use Rattle.cq_laws.specs.Measures.{sends, sent_by, wait_at}
 unfoldable pub use Rattle.cq_laws.specs.Measures.{figures_of, input_figures, output_figures, proposals_in, slacks}
 pub use Rattle.cq_laws.specs.Phases.{Transfers, came_to, list_arrived}
-unfoldable pub use Rattle.cq_laws.specs.Records.{transfers_in, transfers_of_run}
+unfoldable pub use Rattle.cq_laws.specs.Records.{transfers_of_run}
 pub use Rattle.cq_resume.proofs.Chained.{EachPair, all_pairs, each_pair}
 pub use Rattle.cq_resume.proofs.GoesOn.{Differ, cell_with, found_at, has_of_among}
 pub use Rattle.cq_resume.proofs.Having.{Has, all_from_has, all_of_has, has_all, has_cases, has_image, has_kept, has_left, has_right, image_has, kept_has, pair_of_has}
-pub use Rattle.cq_resume.proofs.Pooled.{AreApart, Stands, has_number, has_there, looked_up, no_more, pairs_cross, pairs_kept, pairs_left, pairs_looked_up, pairs_right, pairs_with}
-pub use Rattle.cq_resume.specs.Counted.{departure_of, firsts_at, input_told, is_refused, latest, marks_told, output_told, refused_arrivals, sent_by as sent_at, sent_told, taken_of}
+pub use Rattle.cq_resume.proofs.Pooled.{AreApart, Stands, has_number, has_there, no_more, pairs_cross, pairs_kept, pairs_left, pairs_right, pairs_with}
+pub use Rattle.cq_resume.specs.Counted.{departure_of, input_told, is_refused, marks_told, output_told, refused_arrivals, sent_by as sent_at, sent_told, taken_of}
 unfoldable pub use Rattle.cq_resume.specs.Counted.{figures_told, frozen_told}
-pub use Rattle.cq_resume.specs.Finding.{ArePackets, ComeBehind, IsLine, IsWholePacket, coming, firsts_before, has_limit, has_name, is_left_out, left_out, mark_on, unnamed}
+pub use Rattle.cq_resume.specs.Finding.{ArePackets, ComeBehind, IsLine, IsWholePacket, coming, has_limit, has_name, is_left_out, left_out, mark_on, unnamed}
 pub use Rattle.cq_resume.specs.Parts.{IsParted, IsWhole, opening}
 pub use Rattle.cq_resume.specs.Reading.{IsRefusal, named_as, seen_as, sent_as}
 unfoldable pub use Rattle.cq_resume.specs.Reading.{state_of}
 pub use Rattle.cq_resume.specs.Resumed.{Kept, Runs}
-pub use Rattle.cq_resume.specs.Sound.{AllNamed, AreArrivals, AreBelowFloors, AreWholePackets, Clause, HaveSlack, IsBelowFloor, IsBufferedBefore, IsMovedBefore, IsSentBefore, IsSound, KeepArrivalOrder, NoneNamed, OfOneFlow, StandInOrder}
+pub use Rattle.cq_resume.specs.Sound.{AllNamed, AreArrivals, AreBelowFloors, AreWholePackets, Clause, HaveSlack, IsBelowFloor, IsBufferedBefore, IsMovedBefore, IsSound, KeepArrivalOrder, NoneNamed, OfOneFlow, StandInOrder}
 pub use Rattle.cq_resume.specs.Switch.{HasLimit, HasShape, IsScheduleOf, Switch, switch_of}
 pub use Rattle.cq_resume.specs.Told.{arriving_cell, buffer_told, class_in, class_of, is_ahead, is_named, key_of, list_told, named_in, output_in, output_of, packet_before, queued_in, queued_of}
 unfoldable pub use Rattle.cq_resume.specs.Told.{fabric_told}
 pub use Rattle.cq_resume.specs.declared.taken.Taken.{Taken}
-pub use Rattle.cq_simulate.proofs.NamedFlow.{among_of_has, pairs_of_cells}
+pub use Rattle.cq_simulate.proofs.NamedFlow.{among_of_has, any_has, has_any, pairs_joined, pairs_mapped, pairs_of_cells}
 pub use Rattle.cq_stopped.specs.Stopped.{AreRecorded, CanBeTakenUp, StoppedRunsAreSound, told_state}
 pub use Rattle.cq_audit.proofs.Noted.{AreWritten, FitsLine}
 pub use Rattle.cq_base.proofs.Each.{all_back, all_both, all_front, all_weaker, few_kept, of_images}
