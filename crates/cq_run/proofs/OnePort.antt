@@ -1,7 +1,7 @@
 -- A switch of one port sends each cell in the slot in which it comes. Cells come one after another, at most one in a
 -- slot. So no cell waits when a slot begins; the cell that comes is alone in the one list, and leaves.
 -- The departures are the arrivals, and every packet leaves with its last cell, which alone is marked as last.
-use Rattle.cq_run.proofs.Terms.{common_steps, ◌≡◌, ℕ, zero, suc, ◌+◌, ◌<◌, ◌≤◌, Bool, true, false, cond, List, [], ◌∷◌, map, replicate, Option, Some, None, Result, Ok, Err, refl, sym, ap, ◌∙◌, subst, ⊎_elim, arith, rules, ◌-◌, ◌*◌, length, flat_map, ◌==◌, ◌^◌, nat_lt, find, slice_index_or, append-nil, option_map, AllByRecursion, range_with_len, AllPairs, filter, cases_eq, cond-true, eq-eqb, and_from, Arrival, arriving, arriving_at, is_at, end_of, enough, traffic_of, Departure, TagFault, filter-append, arrivals, arrivals_at, arrivals_of, cell_of, cells, cells_of, first_stamp, packet_at, start, IsInRange, IsLater, IsTraffic, traffic_is, departures_limited, whole_limited_run, LimitedRan, empty_limited, unlimited, all_weaker, run_as_before, same_sent, Captured, AreTables, classes_of, ports_of, Tables, machines_of, openings_of, ideal_departures, ran_ideal, ends_packet_at, leaving, packets_out, all_leave, as_it_leaves}
+use Rattle.cq_run.proofs.Terms.{common_steps, ◌≡◌, ℕ, zero, suc, ◌+◌, ◌<◌, ◌≤◌, Bool, true, false, cond, List, [], ◌∷◌, map, replicate, Option, Some, None, Result, Ok, Err, refl, sym, ap, ◌∙◌, subst, ⊎_elim, arith, rules, ◌-◌, ◌*◌, length, flat_map, ◌==◌, ◌^◌, nat_lt, find, slice_index_or, append-nil, option_map, AllByRecursion, range_with_len, AllPairs, filter, cases_eq, cond-true, eq-eqb, and_from, Arrival, arriving, arriving_at, is_at, end_of, enough, traffic_of, Departure, TagFault, filter-append, arrivals, arrivals_at, arrivals_of, cell_of, cells, cells_of, first_stamp, packet_at, start, IsInRange, IsLater, IsTraffic, traffic_is, departures_limited, whole_limited_run, LimitedRan, empty_limited, unlimited, all_weaker, run_as_before, same_sent, Captured, AreTables, classes_of, ports_of, Tables, machines_of, openings_of, ideal_departures, ran_ideal, ends_packet_at, leaving, packets_out, all_leave, as_it_leaves, ne_eqb}
 use Rattle.cq_base.specs.declared.cell.Cell.{Cell}
 use Rattle.cq_base.specs.declared.cell.Queued.{Queued}
 use Rattle.cq_rank.specs.Machine.{Machine, machine_at}
@@ -16,6 +16,7 @@ use Rattle.cq_ideal.specs.Admission.{NoLimits}
 use Rattle.cq_ideal.proofs.Ends.{all_slots}
 use Rattle.cq_ideal.proofs.FlowCount.{before_end}
 use Rattle.cq_pcap.specs.declared.write.OutPacket.{OutPacket}
+use Rattle.cq_simulate.proofs.Tallies.{one_is}
 
 -- cells of the one input for the one output, of which each comes later than the one before it, from this slot on
 pub record IsNextFrom (slot : ℕ) (a : Arrival) : Type 0 where
@@ -32,14 +33,12 @@ InTurnFrom slot (a ∷ came) = IsNextFrom slot a × InTurnFrom (a.slot + 1) came
 all_same : {X : Type 0} (f g : ℕ → X) (a n : ℕ) → ((k : ℕ) → a ≤ k → f k ≡ g k) →
     map f (range_with_len a n) ≡ map g (range_with_len a n)
 all_same f g a zero e = refl
-all_same f g a (suc n) e =
-    let here = e a (omega arith) in let behind = all_same f g (a + 1) n (λ k l. e k (omega arith)) in cc
+all_same f g a (suc n) e = grind (arith, common_steps, all_same f g (a + 1) n)
 
 all_none : (f : ℕ → Option Cell) (a n : ℕ) → ((k : ℕ) → a ≤ k → f k ≡ None) →
     map f (range_with_len a n) ≡ replicate n None
 all_none f a zero e = refl
-all_none f a (suc n) e =
-    let here = e a (omega arith) in let behind = all_none f (a + 1) n (λ k l. e k (omega arith)) in cc
+all_none f a (suc n) e = grind (arith, common_steps, all_none f (a + 1) n)
 
 -- none comes before its slot, or at another input
 none_before : (slot : ℕ) (came : List Arrival) (t k : ℕ) → InTurnFrom slot came → t < slot → arriving_at came t k ≡ None
@@ -295,15 +294,10 @@ module _ (t : Tables) (captures : List (List Captured)) where
   outs (d ∷ sent) all = search (arith, rules, eq-eqb, as_arrival, outs sent all.1)
 
 -- of a packet's arrivals the last one alone is marked
-last_alone : (f : ℕ → Arrival) (total last : ℕ) → ((i : ℕ) → (f i).cell.last ≡ (i + 1 == total)) → last + 1 ≡ total →
-    (n a : ℕ) → 0 < n → a + n ≡ total → filter is_last (map f (range_with_len a n)) ≡ f last ∷ []
-last_alone f total last marks e zero a some all = absurd (omega arith)
-last_alone f total last marks e (suc zero) a some all =
-    let same : a ≡ last = omega arith in
-    grind (arith, common_steps, cond-true (is_last (f a)) (f a ∷ []) [], eq-eqb (a + 1) total)
-last_alone f total last marks e (suc (suc n)) a some all =
-    let behind = last_alone f total last marks e (suc n) (a + 1) (omega arith) (omega arith) in
-    grind (arith, common_steps, behind)
+last_alone : (f : ℕ → Arrival) (last : ℕ) → ((i : ℕ) → (f i).cell.last ≡ (i == last)) → (ns : List ℕ) →
+    filter is_last (map f ns) ≡ map f (filter (λ i. i == last) ns)
+last_alone f last marks [] = refl
+last_alone f last marks (i ∷ ns) = grind (arith, common_steps, last_alone f last marks ns)
 
 module _ (t : Tables) (captures : List (List Captured)) where
   abbrev arrival_of : ℕ → ℕ → Arrival
@@ -317,15 +311,16 @@ module _ (t : Tables) (captures : List (List Captured)) where
   unfolding cells cells_of
   some_cells k = omega arith
 
-  marked : (k i : ℕ) → (arrival_of k i).cell.last ≡ (i + 1 == cells t captures 0 k)
+  marked : (k i : ℕ) → (arrival_of k i).cell.last ≡ (i == cells t captures 0 k - 1)
   unfolding cell_of
-  marked k i = refl
+  marked k i = let some = some_cells k in grind (arith, common_steps, eq-eqb, ne_eqb, cases_eq)
 
   lasts_of : (k : ℕ) → filter is_last (arrivals_of t captures 0 k) ≡ last_of k ∷ []
   lasts_of k =
+      let n = cells t captures 0 k in
       let some = some_cells k in
-      last_alone (arrival_of k) (cells t captures 0 k) (cells t captures 0 k - 1) (marked k) (omega arith)
-      (cells t captures 0 k) 0 some (omega arith)
+      last_alone (arrival_of k) (n - 1) (marked k) (range_with_len 0 n)
+      ∙ ap (map (arrival_of k)) (one_is (n - 1) 0 n (omega arith) (omega arith))
 
   lasts : (n a : ℕ) → filter is_last (flat_map (arrivals_of t captures 0) (range_with_len a n)) ≡ map last_of
       (range_with_len a n)

@@ -1,5 +1,5 @@
 -- The words of this crate's proofs that stand elsewhere, each passed on from its place.
-pub use Rattle.cq_base.proofs.Library.{AllByRecursion, AllPairs, Bool, Bor, Err, Global, IfErr, IfOk, IfSome, IsErr, IsErrAnd, IsErrOf, IsOk, IsOkAnd, IsTrue, List, MatchOption, None, Ok, Option, Result, Some, Vec, [], add-one, and_from, and_left, and_right, ap, append-nil, append_assoc, append_known, arith, bytes_eq, bytes_eq-Decides, cases_eq, codes, common_steps, cond, cond-true, drop, drop_all, drop_more, eq-eqb, eq_by_cmp_equiv, exact_bytes, false, filter, filter-append, find, flat_map, flat_map-append, get, get-insert, get-remove, get_or, if◌then◌else◌, inl, inr, is_some, le-ltb, leb-true, length, length-append, length-drop, length-map-range_with_len, length-take-le, list_any, lt-ltb, map, nat_le, nat_list_cmp_total, nat_lt, nil_from_length, not, not_from_false, option_map, option_map_or, or_parts, range_with_len, recursion_from_All, refl, replicate, rules, slice_index, slice_index_or, string_bytes, subst, suc, sym, take, take-append-add, take-append-drop, take_all, take_at, take_more, tells_apart, true, unwrap_or, vec_len, zero, ℕ, ⊎_elim, ◌&&◌, ◌*◌, ◌++◌, ◌+◌, ◌-◌, ◌<◌, ◌==◌, ◌^◌, ◌∙◌, ◌∷◌, ◌≡◌, ◌≢◌, ◌≤◌, ◌⊎◌}
+pub use Rattle.cq_base.proofs.Library.{AllByRecursion, AllPairs, Bool, Bor, Err, Global, IfErr, IfOk, IfSome, IsErr, IsErrAnd, IsErrOf, IsOk, IsOkAnd, IsTrue, List, MatchOption, None, Ok, Option, Result, Some, Vec, [], add-one, and_from, and_left, and_right, ap, append-nil, append_assoc, append_known, arith, bytes_eq, bytes_eq-Decides, cases_eq, codes, common_steps, cond, cond-true, drop, drop_all, drop_more, eq-eqb, eq_by_cmp_equiv, exact_bytes, false, filter, filter-append, find, flat_map, flat_map-append, get, get-insert, get-remove, get_or, if◌then◌else◌, inl, inr, is_some, le-ltb, leb-true, length, length-append, length-drop, length-map-range_with_len, length-take-le, list_any, lt-ltb, map, nat_le, nat_list_cmp_total, nat_lt, ne_eqb, nil_from_length, not, not_from_false, option_map, option_map_or, or_parts, range_with_len, recursion_from_All, refl, replicate, rules, slice_index, slice_index_or, string_bytes, subst, suc, sym, take, take-append-add, take-append-drop, take_all, take_at, take_more, tells_apart, true, unwrap_or, vec_len, zero, ℕ, ⊎_elim, ◌&&◌, ◌*◌, ◌++◌, ◌+◌, ◌-◌, ◌<◌, ◌==◌, ◌^◌, ◌∙◌, ◌∷◌, ◌≡◌, ◌≢◌, ◌≤◌, ◌⊎◌}
 pub use Rattle.cq_base.specs.Arriving.{Arrival, arriving, arriving_at, end_of, is_at, traffic_of}
 unfoldable pub use Rattle.cq_base.specs.Arriving.{enough}
 pub use Rattle.cq_base.specs.{declared.cell.Departure.Departure, declared.cell.TagFault.TagFault, declared.cell.Transfer.Transfer}
