@@ -1,6 +1,6 @@
 -- Slots that a replay skips. No cell arrives up to the next arrival, and no line is of a slot before the first one's.
 -- And a stretch of no slots leaves everything as it is.
-use Rattle.cq_audit.proofs.Terms.{rules, ◌≡◌, ℕ, ◌-◌, ◌≤◌, min, List, [], ◌∷◌, replicate, Option, None, Some, refl, arith, slice_get, AllByRecursion, cases_lt, no_arrivals, Arrival, Transfer, Machine, Marked, IsStable, Fabric, LimitedFabricRun, quiet_limited_slots, quiet_of, NoneBefore, HasRested, IsInStep, IsMadeAs, ReplayView, ports_in, FirstIsLeast, IsStill, IsStillUntil, all_weaker, common_steps}
+use Rattle.cq_audit.proofs.Terms.{rules, ◌≡◌, ℕ, ◌-◌, ◌≤◌, inl, inr, min, List, [], ◌∷◌, replicate, Option, None, Some, refl, arith, slice_get, AllByRecursion, cases_lt, no_arrivals, Arrival, Transfer, Machine, Marked, IsStable, Fabric, LimitedFabricRun, quiet_limited_slots, quiet_of, NoneBefore, HasRested, IsInStep, IsMadeAs, ReplayView, ports_in, FirstIsLeast, IsStill, IsStillUntil, all_weaker, common_steps}
 use Rattle.cq_traffic.specs.Stretch.{IsQuietUntil}
 
 -- ## Up to where nothing happens
@@ -24,6 +24,14 @@ module _ {came : List Arrival} {slot next : ℕ} (until : IsQuietUntil came slot
 pub not_skipped : (came : List Arrival) (slot : ℕ) (lines : List Transfer) → NoneBefore slot 1 lines →
     IsStill came lines slot slot
 not_skipped came slot lines before = grind (arith, common_steps, all_late)
+
+-- where there is a line of this slot, no slot is skipped
+pub until_here : (came : List Arrival) (slot : ℕ) (lines : List Transfer) (t : Transfer) → NoneBefore slot 1 lines →
+    Some t ≡ slice_get lines 0 → t.slot ≡ slot → IsStillUntil came lines slot slot
+until_here came slot [] t before first here = cc
+until_here came slot (u ∷ lines) t before first here =
+    let at : t ≡ u = cc first in
+    record { still = not_skipped came slot (u ∷ lines) before; ends = λ _. inr (inl (cc (at, here))) }
 
 -- ## A stretch of no slots
 

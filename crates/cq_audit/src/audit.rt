@@ -54,16 +54,17 @@ fn is_over<R: Rank>(replay: &Replay<R>, schedule: &Schedule, slot: Slot) -> bool
 }
 
 // The slot up to which no cell arrives and of which there is no line: the lesser of those of the next arrival and of
-// the next line, or this one where no cell arrives any more.
+// the next line, or this one where no cell arrives any more. The next arrival is looked for only where the next line is
+// not of this slot.
 fn still_until(schedule: &Schedule, lines: &[Transfer], slot: Slot) -> Slot
     requires least { FirstIsLeast lines.now }
     requires none_before { NoneBefore slot 1 lines.now }
     ensures { IsStillUntil schedule.now.came lines.now slot result }
 {
-    let next = quiet_until(schedule, slot);
     match lines.first() {
-        Some(line) => next.min(line.slot),
-        None => next,
+        Some(line) if line.slot == slot => slot,
+        Some(line) => quiet_until(schedule, slot).min(line.slot),
+        None => quiet_until(schedule, slot),
     }
 }
 
