@@ -12,7 +12,9 @@ use cq_prefs::Offers;
 /// What is wrong with the lines of a phase.
 #[derive(Clone, Copy, Debug, PartialEq, Eq)]
 pub enum PhaseFault {
+    /// The line of this input, the least such, does not name its first cell for an output that is still free.
     WrongLine(Port),
+    /// This input and this output, the first such pair, show that the matching is not stable.
     Blocking(Port, Port),
 }
 

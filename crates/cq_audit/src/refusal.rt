@@ -11,27 +11,36 @@ use cq_lines::LineRefusal;
 /// the phases.
 #[derive(Clone, Copy, Debug, PartialEq, Eq)]
 pub enum AuditRefusal {
-    /// This line, from 1, is the first that is none of a log, or is not after the line before it.
+    /// This line is the first that is none of a log, or is not after the line before it.
     Line {
+        /// Which line it is, from 1.
         line: u64,
     },
     /// In this phase the line of this input, the least such, does not name its first cell for an output that no line
     /// of a lesser input names.
     Transfer {
+        /// The slot of the phase.
         slot: Slot,
+        /// The phase, 1 or 2.
         phase: u8,
+        /// The input.
         input: Port,
     },
     /// The pairs of this phase are a matching that is not stable: this is the first pair, by input and then output,
     /// that is offered and not joined, and of which neither has a partner that it prefers.
     Blocking {
+        /// The slot of the phase.
         slot: Slot,
+        /// The phase, 1 or 2.
         phase: u8,
+        /// The input.
         input: Port,
+        /// The output.
         output: Port,
     },
-    /// This line, from 1, is the first of a slot that the run does not reach.
+    /// This line is the first of a slot that the run does not reach.
     Left {
+        /// Which line it is, from 1.
         line: u64,
     },
     /// Want of memory.
