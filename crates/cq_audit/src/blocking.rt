@@ -27,7 +27,8 @@ fn input_first(offers: &Offers, output: Port, input: Port, other: Port) -> bool
     requires { IsOffered offers.now other output }
     ensures { IsTrue result ↔ (position_of offers.now output input < position_of offers.now output other) }
 {
-    let _shown = offers.ports();
+    // Its contract tells that the orders of both sides fit together.
+    let _ports = offers.ports();
     match (
         offers.position_of(output, input),
         offers.position_of(output, other),

@@ -14,10 +14,12 @@ use cq_rank::Rank;
 use std::alloc::Global;
 use std::marker::Model;
 
-/// What is wrong with the lines of a slot: the phase, 1 or 2, and its first fault.
+/// What is wrong with the lines of a slot.
 #[derive(Clone, Copy, Debug, PartialEq, Eq)]
 pub struct SlotFault {
+    /// The phase, 1 or 2.
     pub phase: u8,
+    /// Its first fault.
     pub fault: PhaseFault,
 }
 
@@ -51,8 +53,9 @@ fn come<R: Rank>(
     ensures { HaveCome (map R.machine ranks.old.fixed) slot arrivals.now ranks.old ranks.new queues.old queues.new
         limiter.old limiter.new }
 {
+    // Its contract tells that there are 64 lists at most.
+    let _ports = queues.ports();
     let mut came = Newcomers::none();
-    queues.ports();
     limiter.judge(arrivals);
     if let Err(_) = ranks.take(slot, arrivals, limiter, &mut came) {
         // The ideal switch has no tag fault, and so this fabric has none.
@@ -158,7 +161,8 @@ impl<R: Rank> Replay<R> {
     }
 
     /// All slots from this one on up to the other, in which no cell arrives and none waits, and of which there is no
-    /// line. They take no longer than one slot: each machine is told once that its output was idle.
+    /// line. They take no longer than one slot: each machine is told once that its output was idle, however many slots
+    /// there are, so that both are given for the clauses alone.
     pub fn rest(&mut self, slot: Slot, to: Slot)
         requires in_step { IsInStep (map R.machine self.old.fixed) slot self.old }
         requires empty { IsEmptyFabric self.old.fabric.state }
