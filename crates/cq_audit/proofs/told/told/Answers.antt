@@ -1,4 +1,4 @@
-use Rattle.cq_audit.proofs.Terms.{rules, ◌≡◌, ◌+◌, ◌<◌, length, sym, ◌∙◌, arith, length-map, Waiting, cells_of, IsOf}
+use Rattle.cq_audit.proofs.Terms.{rules, ◌≡◌, ◌<◌, length, sym, ◌∙◌, arith, length-map, Waiting, cells_of, IsOf}
 use Rattle.cq_audit.proofs.TellingLines.{all_right, all_told, cells_at, line_holds, no_line, right_line}
 use Rattle.cq_audit.proofs.told.told.Goals as goal
 use Rattle.cq_audit.proofs.told.told.Goals.{After-inputs, In-Some, in-Some+then-is_right, in_default}
