@@ -1,4 +1,4 @@
-use Rattle.cq_run.proofs.Terms.{rules, arith}
+use Rattle.cq_run.proofs.Terms.{rules, arith, ap, Err}
 use Rattle.cq_run.proofs.TextRead.{long_is_no_fault, missing_is_no_fault, text_is, text_is_to_read, text_long, text_missed, read_is_no_fault}
 use Rattle.cq_run.proofs.reading.read_short.Goals as goal
 
@@ -9,8 +9,9 @@ pub returns-in-Err-Missing-clause-judges : goal.returns-in-Err-Missing-clause-ju
 returns-in-Err-Missing-clause-judges g c = search (arith, rules, g.F.Files.space, text_missed, missing_is_no_fault)
 
 pub returns-in-Err-Fault-clause-judges : goal.returns-in-Err-Fault-clause-judges
-returns-in-Err-Fault-clause-judges g c = search
-    (arith, rules, g.F.Files.space, c.in-Err-Fault.ensures.whole.fault, c.in-Err-Fault.ensures.why, text_is_to_read)
+returns-in-Err-Fault-clause-judges g c =
+    let why = rw c.text.ensures at (c.in-Err-Fault.ensures.why (ap Err c.in-Err-Fault.field-0-is)) in
+    search (arith, rules, g.F.Files.space, c.in-Err-Fault.ensures.whole.fault, why, text_is_to_read)
 
 pub returns-in-Err-Long-clause-judges : goal.returns-in-Err-Long-clause-judges
 returns-in-Err-Long-clause-judges g c = search (arith, rules, text_long, g.F.Files.space, long_is_no_fault)
