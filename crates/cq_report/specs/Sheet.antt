@@ -1,3 +1,4 @@
+-- Only proofs use this.
 -- The numbers of a line.
 use Rattle.std.specs.Prelude.{◌≡◌, ℕ, ◌+◌, ◌≤◌, List, [], ◌∷◌, ◌++◌, length, take}
 use Rattle.cq_base.specs.Decimal.{decimal}

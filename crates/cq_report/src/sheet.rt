@@ -78,8 +78,8 @@ impl Sheet {
         let numerals = &self.numerals;
         let bytes = &mut self.bytes;
         let id = departure.queued.cell.id;
-        let slot = put_number(bytes, self.end, numerals, departure.slot, true);
-        let output = put_number(bytes, slot, numerals, u64::from(departure.output), false);
+        let slot = put_slot(bytes, self.end, numerals, departure.slot);
+        let output = put_number(bytes, slot, numerals, u64::from(departure.output));
         self.end = put_cell(bytes, output, numerals, id.input, id.packet, id.index);
         Ok(())
     }
@@ -92,9 +92,9 @@ impl Sheet {
         let numerals = &self.numerals;
         let bytes = &mut self.bytes;
         let id = transfer.id;
-        let slot = put_number(bytes, self.end, numerals, transfer.slot, true);
-        let phase = put_number(bytes, slot, numerals, u64::from(transfer.phase), false);
-        let input = put_number(bytes, phase, numerals, u64::from(transfer.input), false);
+        let slot = put_slot(bytes, self.end, numerals, transfer.slot);
+        let phase = put_number(bytes, slot, numerals, u64::from(transfer.phase));
+        let input = put_number(bytes, phase, numerals, u64::from(transfer.input));
         self.end = put_cell(bytes, input, numerals, transfer.output, id.packet, id.index);
         Ok(())
     }
@@ -115,32 +115,36 @@ fn put_cell(
     ensures most { result ≤ 4096 }
     ensures long { length bytes.new ≡ 4096 }
 {
-    let port_end = put_number(bytes, at, numerals, u64::from(port), false);
-    let packet_end = put_number(bytes, port_end, numerals, u64::from(packet), false);
-    let end = put_number(bytes, packet_end, numerals, u64::from(index), false);
+    let port_end = put_number(bytes, at, numerals, u64::from(port));
+    let packet_end = put_number(bytes, port_end, numerals, u64::from(packet));
+    let end = put_number(bytes, packet_end, numerals, u64::from(index));
     bytes[end - 1] = b'\n';
     end
 }
 
-// Writes a number from a place on and a blank behind it, and answers the place behind that. What stands before stays.
-// A large number is written where it stands only where it is the first of a line, which is seldom below a thousand.
+// Writes the first number of a line, its slot, from a place on and a blank behind it, and answers the place behind that.
+// What stands before stays. It is seldom below a thousand, so a large one is written where it stands.
 #[inline(always)]
 #[tactic(auto, using(crate::proofs::Hundreds::few_digits, crate::proofs::Hundreds::some_digit))]
-fn put_number(
-    bytes: &mut [u8; SHEET],
-    at: usize,
-    numerals: &Numerals,
-    number: u64,
-    is_first: bool,
-) -> usize
+fn put_slot(bytes: &mut [u8; SHEET], at: usize, numerals: &Numerals, slot: u64) -> usize
+    requires { at + 25 ≤ 4096 }
+    ensures { IsPut slot at bytes.old bytes.new result }
+{
+    if slot < 1000 {
+        return put_short(bytes, at, numerals, slot);
+    }
+    put_large(bytes, at, numerals, slot)
+}
+
+// The same of a number further on in the line.
+#[inline(always)]
+#[tactic(auto, using(crate::proofs::Hundreds::few_digits, crate::proofs::Hundreds::some_digit))]
+fn put_number(bytes: &mut [u8; SHEET], at: usize, numerals: &Numerals, number: u64) -> usize
     requires { at + 25 ≤ 4096 }
     ensures { IsPut number at bytes.old bytes.new result }
 {
     if number < 1000 {
         return put_short(bytes, at, numerals, number);
-    }
-    if is_first {
-        return put_large(bytes, at, numerals, number);
     }
     put_large_apart(bytes, at, numerals, number)
 }
