@@ -8,7 +8,7 @@ ghost use Rattle.cq_base.specs.Packed.{unpacked};
 
 use crate::{Cell, CellId, Class, Departure, Key, Port, Queued, Slot};
 
-/// A departure in 64 bytes. Contracts see the departure that it stands for.
+/// A departure in 64 bytes. Contracts speak of the departure that it stands for by `unpacked`.
 #[derive(Clone, Copy)]
 pub struct PackedDeparture {
     rank: u128,
