@@ -2,12 +2,7 @@
 use Rattle.std.specs.Prelude.{◌≡◌, ℕ, ◌^◌, ◌<◌, List, [], ◌∷◌, ◌++◌, Option, None, Some, IfSome, ⊤}
 use Rattle.std.specs.Int.{IsInRange}
 use Rattle.std.specs.List.{AllByRecursion}
-use Rattle.cq_base.specs.Decimal.{decimal}
-
--- a number in decimal digits, or `-` where there is none
-abbrev pub field : Option ℕ → List ℕ
-field None = 45 ∷ []
-field (Some n) = decimal n
+use Rattle.cq_base.specs.Decimal.{field}
 
 -- fields, each behind one blank, and a line feed behind them
 abbrev pub ending : List (Option ℕ) → List ℕ

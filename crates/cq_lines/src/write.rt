@@ -1,6 +1,7 @@
 //! Lines put at the end of a text. The error of each is want of memory.
 ghost use Rattle.std.specs.Prelude.{◌≡◌, ◌++◌, OnErr, OnOk, length, take};
-ghost use Rattle.cq_lines.specs.Lines.{field, line};
+ghost use Rattle.cq_base.specs.Decimal.{field};
+ghost use Rattle.cq_lines.specs.Lines.{line};
 
 use cq_base::{MOST_DIGITS, NoMemory, digits};
 

@@ -1,20 +1,15 @@
 -- The report of a run: its figures, each behind its name.
-use Rattle.std.specs.Prelude.{ℕ, ◌+◌, ◌-◌, List, [], ◌∷◌, ◌++◌, Option, None, Some, codes}
+use Rattle.std.specs.Prelude.{ℕ, ◌+◌, ◌-◌, List, [], ◌∷◌, ◌++◌, Option, Some, codes}
 use Rattle.std.specs.List.{flat_map}
-use Rattle.cq_base.specs.Decimal.{decimal}
+use Rattle.cq_base.specs.Decimal.{field}
 use Rattle.cq_base.specs.declared.figures.InputFigures.{InputFigures}
 use Rattle.cq_base.specs.declared.figures.OutputFigures.{OutputFigures}
 use Rattle.cq_base.specs.declared.figures.Figures.{Figures}
 use Rattle.cq_ideal.specs.declared.refused.Refused.{Refused}
 
--- a figure: in decimal digits, or `-` where there is none
-abbrev pub figure : Option ℕ → List ℕ
-figure None = codes "-"
-figure (Some n) = decimal n
-
--- a name, and one blank behind it the figure
+-- a name, and one blank behind it the figure, or `-` where there is none
 unfoldable pub named : List ℕ → Option ℕ → List ℕ
-named name n = name ++ 32 ∷ figure n
+named name n = name ++ 32 ∷ field n
 
 -- words, parted by one blank, and a line feed behind them
 abbrev pub line_of_words : List (List ℕ) → List ℕ

@@ -1,7 +1,7 @@
 //! Figures behind their names, put at the end of what is built so far. The error of each is want of memory.
 ghost use Rattle.std.specs.Prelude.{◌≡◌, ◌∷◌, ◌++◌, [], OnOk};
-ghost use Rattle.cq_base.specs.Decimal.{decimal};
-ghost use Rattle.cq_report.specs.Report.{figure, named};
+ghost use Rattle.cq_base.specs.Decimal.{decimal, field};
+ghost use Rattle.cq_report.specs.Report.{named};
 
 use cq_base::{MOST_DIGITS, NoMemory, digits};
 
@@ -15,7 +15,7 @@ fn put_decimal(text: &mut Vec<u8>, number: u64) -> Result<(), NoMemory>
 }
 
 fn put_figure(text: &mut Vec<u8>, number: Option<u64>) -> Result<(), NoMemory>
-    ensures { OnOk result (text.new.items ≡ text.old.items ++ figure number) }
+    ensures { OnOk result (text.new.items ≡ text.old.items ++ field number) }
 {
     match number {
         Some(number) => put_decimal(text, number),
