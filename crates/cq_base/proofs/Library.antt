@@ -2,7 +2,7 @@
 pub use Rattle.std.proofs.Common.{BTreeMap, Bool, Bor, EachIndex, Err, IfErr, IsErrAnd, IsErrOf, List, MatchOption, None, Ok, Option, Result, Some, String, [], add-one, add-zero, ap, append_assoc, ap₂, arith, bit_or, codes, cond, drop, eqb, false, fold, get_or, inl, inr, is_ok, leb, length, length-append, length-set, length-take, lit≤, ltb, map, min, mod-lt, mul-le-mul, nat_le, not, refl, replicate, reverse, rules, set, slice_index, string_bytes, subst, suc, sym, take, tests, true, vec_capacity, vec_len, w64, zero, ℕ, ⊎_elim, ◌%◌, ◌*◌, ◌++◌, ◌+◌, ◌-◌, ◌/◌, ◌<◌, ◌^◌, ◌||◌, ◌↔◌, ◌∙◌, ◌∷◌, ◌≡◌, ◌≢◌, ◌≤◌, ◌⊎◌}
 pub use Rattle.std.proofs.Math.Bool.{and-true, and_assoc, or-false, or_self_left}
 pub use Rattle.std.proofs.Math.Dec.{leb-zero}
-pub use Rattle.std.proofs.Math.Nat.{div-eq_of_lt, div-le_self, lt-div-mul-add, mul-le-mul_right, pow-suc}
+pub use Rattle.std.proofs.Math.Nat.{div-eq_of_lt, div-le_self, mul-le-mul_right, pow-suc}
 pub use Rattle.std.proofs.Math.Seq.{drop-cons, get_or-append_seam, map-set_same, take-add, take-append-add, take-set-lt, take-suc}
 pub use Rattle.std.proofs.lemmas.Bool.{and_from, and_left, and_parts, and_right, both_ways, cases_Bool, cases_eq, cases_lt, cases_order, cond-false, cond-true, cond_both, eq-eqb, eqb-false, eqb-true, false_from_ne_true, le-leb, le-ltb, leb-false, leb-true, lt-leb, lt-ltb, ltb-false, ltb-true, ne_eqb, not-true, not_from_false, or_cases, or_left, or_parts, or_right, true≢false}
 pub use Rattle.std.proofs.lemmas.Bool.Decides.{Decides-and, Decides-eqb, Decides-like, nat_tests, same_from_decides}

@@ -3,6 +3,7 @@ pub mod Status
 pub mod Decimal
 pub mod Key
 pub mod Cells
+pub mod Pieces
 pub mod Arrivals
 pub mod Arriving
 pub mod Texts

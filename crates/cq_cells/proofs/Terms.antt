@@ -12,7 +12,8 @@ pub use Rattle.cq_cells.specs.Lines.{AreAdded, AreOwn, AreRows, IsBegun, IsEnded
 unfoldable pub use Rattle.cq_cells.specs.Lines.{line_arrivals}
 pub use Rattle.cq_cells.specs.NextArrival.{ArrivesIn, IsFirstFrom, IsNextArrival}
 pub use Rattle.cq_cells.specs.Schedule.{arrivals_of, earlier, first_stamp, packet_at, packet_in, packets_of, stamps_of}
-unfoldable pub use Rattle.cq_cells.specs.Schedule.{arrivals, arrivals_at, cell_of, cells, cells_of, stamp_slot, start}
+unfoldable pub use Rattle.cq_base.specs.Pieces.{cells_of}
+unfoldable pub use Rattle.cq_cells.specs.Schedule.{arrivals, arrivals_at, cell_of, cells, stamp_slot, start}
 pub use Rattle.cq_cells.specs.Traffic.{IsInRange, IsLater, IsRecorded, IsShort, IsTraffic, is_from, is_to, number_of}
 pub use Rattle.cq_cells.specs.declared.line.Row.{Row}
 pub use Rattle.cq_cells.specs.Terms.{AreTables, StandBelow, Tables, classes_of, ports_of, route}

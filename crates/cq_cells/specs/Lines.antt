@@ -4,7 +4,7 @@ use Rattle.std.specs.List.{range_with_len, AllByRecursion}
 use Rattle.cq_base.specs.Arriving.{Arrival, end_of}
 use Rattle.cq_base.specs.declared.cell.Cell.{Cell}
 use Rattle.cq_cells.specs.declared.line.Row.{Row}
-use Rattle.cq_cells.specs.Schedule.{cells_of}
+use Rattle.cq_base.specs.Pieces.{cells_of}
 use Rattle.cq_cells.specs.Traffic.{number_of, is_to}
 
 -- cell i of packet k, by its row

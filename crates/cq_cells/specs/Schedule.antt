@@ -1,16 +1,12 @@
 -- When the cells of captured packets arrive at the inputs of a switch, one capture for each input.
 use Rattle.std.specs.Prelude.{ℕ, zero, suc, ◌+◌, ◌-◌, ◌*◌, ◌/◌, ◌==◌, min, max, List, [], length, map, flat_map, slice_index_or, Option, None, Some, unwrap_or}
-use Rattle.std.specs.Int.{div_ceil}
 use Rattle.std.specs.List.{range_with_len, reduce}
 use Rattle.cq_base.specs.Arriving.{Arrival}
+use Rattle.cq_base.specs.Pieces.{cells_of}
 use Rattle.cq_base.specs.declared.cell.Cell.{Cell}
 use Rattle.cq_pcap.specs.Captured.{Captured}
 use Rattle.cq_route.specs.declared.tables.Tables.{Tables}
 use Rattle.cq_route.specs.Route.{route}
-
--- the cells of a packet of so many captured bytes, where a cell carries so many: enough to carry them, and at least one
-unfoldable pub cells_of : ℕ → ℕ → ℕ
-cells_of len cell_bytes = max 1 (div_ceil len cell_bytes)
 
 -- the least of these numbers, or 0 where there is none
 abbrev pub least : List ℕ → ℕ

@@ -1,7 +1,8 @@
 -- The pieces of consecutive cells are consecutive stretches of the frame, so the pieces of as many cells as the frame
 -- needs are all of it. A last piece that is cut off at the frame's end is the same as one of full length, since
 -- nothing follows.
-use Rattle.cq_reasm.proofs.Terms.{common_steps, ◌≡◌, ℕ, ◌+◌, ◌-◌, ◌*◌, List, [], ◌∷◌, length, take, drop, arith, suc, sym, ap, take_min, take_all, length-drop, drop-drop, lt-div-mul-add, mul-le-mul_right, take-add, Piece}
+use Rattle.cq_reasm.proofs.Terms.{common_steps, ◌≡◌, ℕ, ◌+◌, ◌-◌, ◌*◌, ◌/◌, ◌%◌, ◌≤◌, min, div_ceil_times, List, [], ◌∷◌, length, take, drop, arith, suc, sym, ap, take_min, take_all, length-drop, drop-drop, mul-le-mul_right, take-add, Piece}
+unfoldable use Rattle.cq_base.specs.Pieces.{cells_of}
 use Rattle.cq_reasm.specs.Cutting.{IsCutFrom, AreCutFrom, joined_pieces, PiecesGiveFrame}
 
 -- a piece is a stretch of full length, or what is left
@@ -27,5 +28,11 @@ stretch frame cell_bytes first (x ∷ pieces) h =
     (sym (take-add cell_bytes (length pieces * cell_bytes) (drop (first * cell_bytes) frame)))
 
 pub pieces_give_frame : PiecesGiveFrame
+unfolding cells_of
 pieces_give_frame frame cell_bytes pieces h cut count =
-    grind (arith, common_steps, stretch, take_all, lt-div-mul-add, mul-le-mul_right)
+    let needed : ℕ = length frame / cell_bytes + min 1 (length frame % cell_bytes) in
+    let many : needed ≤ length pieces = omega (arith, count) in
+    let room = div_ceil_times (length frame) cell_bytes h in
+    let more = mul-le-mul_right cell_bytes many in
+    let enough : length frame ≤ length pieces * cell_bytes = omega (arith, room.0, more) in
+    grind (arith, common_steps, stretch, take_all, enough)

@@ -1,11 +1,8 @@
 -- How a captured frame is cut into the pieces of its cells.
-use Rattle.std.specs.Prelude.{◌≡◌, ℕ, ◌+◌, ◌-◌, ◌*◌, ◌/◌, ◌<◌, List, [], ◌∷◌, length, max, min, take, drop}
+use Rattle.std.specs.Prelude.{◌≡◌, ℕ, ◌+◌, ◌-◌, ◌*◌, ◌<◌, List, [], ◌∷◌, length, min, take, drop}
 use Rattle.std.specs.List.{flat_map}
+use Rattle.cq_base.specs.Pieces.{cells_of}
 use Rattle.cq_reasm.specs.Piece.{Piece}
-
--- how many cells a frame of so many bytes has: as many as the bytes need, and one where there are none
-abbrev pub cells_of : ℕ → ℕ → ℕ
-cells_of bytes cell_bytes = max 1 ((bytes + (cell_bytes - 1)) / cell_bytes)
 
 -- the cell is this one of the frame: its piece begins where the pieces of the cells before it end, and is as long as
 -- they are, or as what is left of the frame

@@ -17,7 +17,8 @@ pub use Rattle.cq_tables.specs.Document.{Named, apart_from, checks_in, clash, fi
 unfoldable pub use Rattle.cq_tables.specs.Document.{read_or_refused}
 pub use Rattle.cq_cells.proofs.Rising.{all_flat, short_is, traffic_is}
 pub use Rattle.cq_cells.specs.Schedule.{arrivals_of, first_stamp, packet_at, packets_of, start}
-unfoldable pub use Rattle.cq_cells.specs.Schedule.{arrivals, arrivals_at, cell_of, cells, cells_of}
+unfoldable pub use Rattle.cq_base.specs.Pieces.{cells_of}
+unfoldable pub use Rattle.cq_cells.specs.Schedule.{arrivals, arrivals_at, cell_of, cells}
 pub use Rattle.cq_cells.specs.Traffic.{IsInRange, IsLater, IsRecorded, IsTraffic}
 pub use Rattle.cq_scfq.specs.Disciplines.{machines_of, openings_of}
 pub use Rattle.cq_ideal.proofs.LimitedEnds.{limited_not_more, run_as_before, same_sent}

@@ -2,19 +2,13 @@
 -- those of one packet after another, each whole and in order; those that leave are all cells of some of these
 -- packets. So each cell is the next of the packet that is open, or the first of one where none is; and at the last
 -- cell of a packet all its pieces are together, which are its frame.
-use Rattle.cq_simulate.proofs.Terms.{common_steps, flat_map-map, div_ceil_times, length-map-range_with_len, rules, ◌≡◌, ℕ, zero, suc, ◌+◌, ◌-◌, ◌*◌, ◌<◌, true, List, [], ◌∷◌, ◌++◌, length, map, flat_map, take, drop, min, Option, Some, None, refl, sym, ap, ◌∙◌, subst, arith, ◌==◌, filter, range_with_len, eqb-true, eq-eqb, ne_eqb, div-mul-add, append-nil, flat_map-append, Cell, packet_at, cells, cells_of, cell_of, arrivals, came_in_flow, Captured, open_after, Fits, opened, piece_at, AreTables, ports_of, Tables, of_packet}
-use Rattle.cq_reasm.specs.Cutting.{AreCutFrom, cells_of as count_of}
+use Rattle.cq_simulate.proofs.Terms.{common_steps, flat_map-map, length-map-range_with_len, rules, ◌≡◌, ℕ, zero, suc, ◌+◌, ◌-◌, ◌*◌, ◌<◌, true, List, [], ◌∷◌, ◌++◌, length, map, flat_map, take, drop, min, Option, Some, None, refl, sym, ap, ◌∙◌, subst, arith, ◌==◌, filter, range_with_len, eqb-true, eq-eqb, ne_eqb, append-nil, flat_map-append, Cell, packet_at, cells, cells_of, cell_of, arrivals, came_in_flow, Captured, open_after, Fits, opened, piece_at, AreTables, ports_of, Tables, of_packet}
+use Rattle.cq_reasm.specs.Cutting.{AreCutFrom}
 use Rattle.cq_reasm.specs.Piece.{Piece}
 use Rattle.cq_reasm.specs.Open.{Open, bytes_taken, with_piece}
 use Rattle.cq_reasm.proofs.Pieces.{pieces_give_frame}
 use Rattle.cq_cells.proofs.Ranges.{range_more}
 use Rattle.cq_simulate.proofs.SomePackets.{flow_is, packets_in, parts_of}
-
--- ## How many pieces
-
-ceil_is : (len cell_bytes : ℕ) → 0 < cell_bytes → cells_of len cell_bytes ≡ count_of len cell_bytes
-unfolding cells_of
-ceil_is len cell_bytes some = grind (arith, common_steps, div_ceil_times, div-mul-add)
 
 -- ## What a cell carries
 
@@ -58,7 +52,7 @@ module _ (t : Tables) (captures : List (List Captured)) (input : ℕ) (some : 0 
       let n = cells_of (length (frame k)) t.cell_bytes in
       sym (flat_map-map (λ (p : Piece). p.bytes) (carried k) (range_with_len 0 n))
       ∙ pieces_give_frame (frame k) t.cell_bytes (map (carried k) (range_with_len 0 n)) some (all_cut k 0 n)
-      (length-map-range_with_len (carried k) 0 n ∙ ceil_is (length (frame k)) t.cell_bytes some)
+      (length-map-range_with_len (carried k) 0 n)
 
   -- what is open after the first cells of a packet, where some are left
   abbrev open_at_cell : ℕ → ℕ → Option Open

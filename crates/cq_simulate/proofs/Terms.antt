@@ -1,5 +1,5 @@
 -- The words of this crate's proofs that stand elsewhere, each passed on from its place.
-pub use Rattle.cq_base.proofs.Library.{All, All-from_recursion, All-map, All-push, AllByRecursion, AllPairs, Bool, Err, IfErr-weaker, IfOk, IfOk-weaker, IfSome, IsOkAnd, IsTrue, List, None, Ok, Option, Result, Some, [], and_from, and_left, and_parts, and_right, ap, append-nil, append_assoc, arith, cases_Bool, cases_eq, cases_lt, common_steps, cond, cond-false, cond-true, cond_both, cons_option, div-mul-add, div_ceil_times, drop, drop_more, enumerate_from, eq-eqb, eqb-true, err_from_is_err_and, false, filter, filter-append, filter_map, find, flat_map, flat_map-append, flat_map-map, fold, fold-append, get_or, get_or-map, get_or-map-range_with_len, get_or-replicate, get_or-set_other, get_or-set_same, get_or_default, get_or_from_slice_get, get_or_past, if◌then◌else◌, inl, inr, is_err, is_some, le-leb, le-ltb, leb-false, leb-zero, length, length-append, length-drop, length-filter, length-filter_both, length-insert, length-map, length-map-range_with_len, length-replicate, length-set, list_any, lt-leb, lt-ltb, ltb-true, map, map-append, map-range_with_len_more, max, min, mul-le-mul, nat_lt, ne_eqb, nil_from_length, not, option_map, or_left, or_right, range_with_len, recursion_from_All, refl, replicate, rules, set, slice_get, slice_get_within, slice_index, slice_index_or, subst, suc, sum, sum-map, sum_by, sum_by-cons, sum_by-le, sym, take, take-append-drop, take-append-le, take_all, take_more, true, true≢false, vec_len, zero, ℕ, ⊎_elim, ◌&&◌, ◌*◌, ◌++◌, ◌+◌, ◌-◌, ◌<◌, ◌==◌, ◌^◌, ◌↔◌, ◌∙◌, ◌∷◌, ◌≡◌, ◌≢◌, ◌≤◌, ◌⊎◌}
+pub use Rattle.cq_base.proofs.Library.{All, All-from_recursion, All-map, All-push, AllByRecursion, AllPairs, Bool, Err, IfErr-weaker, IfOk, IfOk-weaker, IfSome, IsOkAnd, IsTrue, List, None, Ok, Option, Result, Some, [], and_from, and_left, and_parts, and_right, ap, append-nil, append_assoc, arith, cases_Bool, cases_eq, cases_lt, common_steps, cond, cond-false, cond-true, cond_both, cons_option, drop, drop_more, enumerate_from, eq-eqb, eqb-true, err_from_is_err_and, false, filter, filter-append, filter_map, find, flat_map, flat_map-append, flat_map-map, fold, fold-append, get_or, get_or-map, get_or-map-range_with_len, get_or-replicate, get_or-set_other, get_or-set_same, get_or_default, get_or_from_slice_get, get_or_past, if◌then◌else◌, inl, inr, is_err, is_some, le-leb, le-ltb, leb-false, leb-zero, length, length-append, length-drop, length-filter, length-filter_both, length-insert, length-map, length-map-range_with_len, length-replicate, length-set, list_any, lt-leb, lt-ltb, ltb-true, map, map-append, map-range_with_len_more, max, min, mul-le-mul, nat_lt, ne_eqb, nil_from_length, not, option_map, or_left, or_right, range_with_len, recursion_from_All, refl, replicate, rules, set, slice_get, slice_get_within, slice_index, slice_index_or, subst, suc, sum, sum-map, sum_by, sum_by-cons, sum_by-le, sym, take, take-append-drop, take-append-le, take_all, take_more, true, true≢false, vec_len, zero, ℕ, ⊎_elim, ◌&&◌, ◌*◌, ◌++◌, ◌+◌, ◌-◌, ◌<◌, ◌==◌, ◌^◌, ◌↔◌, ◌∙◌, ◌∷◌, ◌≡◌, ◌≢◌, ◌≤◌, ◌⊎◌}
 pub use Rattle.cq_base.specs.Arrivals.{arrival_at, no_arrivals}
 pub use Rattle.cq_base.specs.Arriving.{Arrival, arriving_at, end_of, is_at}
 unfoldable pub use Rattle.cq_base.specs.Arriving.{arriving, enough, traffic_of}
@@ -10,7 +10,8 @@ pub use Rattle.cq_route.specs.Route.{route}
 pub use Rattle.cq_cells.proofs.Pieces.{cells_above, piece_begins}
 pub use Rattle.cq_cells.proofs.Rising.{all_flat, at_input, traffic_is}
 pub use Rattle.cq_cells.specs.Schedule.{arrivals_of, packet_at, packets_of, start}
-unfoldable pub use Rattle.cq_cells.specs.Schedule.{arrivals, arrivals_at, cell_of, cells, cells_of}
+unfoldable pub use Rattle.cq_base.specs.Pieces.{cells_of}
+unfoldable pub use Rattle.cq_cells.specs.Schedule.{arrivals, arrivals_at, cell_of, cells}
 pub use Rattle.cq_cells.specs.Scheduled.{Scheduled, schedule_of}
 pub use Rattle.cq_cells.specs.Traffic.{IsInRange as IsOfSwitch, IsLater, IsShort, IsTraffic, is_from, is_to, number_of}
 pub use Rattle.cq_rank.specs.Machine.{KeepsLaws, Machine, first_come, machine_at}
