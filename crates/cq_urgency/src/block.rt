@@ -41,12 +41,8 @@ fn push_on(cells: &mut [Queued], queued: Queued)
     requires { 0 < length cells.old }
     ensures { cells.new ≡ queued ∷ take (length cells.old - 1) cells.old }
 {
-    let len = cells.len();
-    if len == 1 {
-        cells[0] = queued;
-        return;
-    }
-    cells.rotate_right(1);
+    let others = cells.len() - 1;
+    cells.copy_within(0..others, 1);
     cells[0] = queued;
 }
 
