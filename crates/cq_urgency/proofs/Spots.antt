@@ -4,7 +4,7 @@
 -- Where the last cell of all has a lesser key, so have all cells of its block, and the spot is its end.
 --
 -- A full block that is split keeps each place: in its front half, or in its back half behind 32 cells more.
-use Rattle.cq_urgency.specs.declared.output_buffer.Spot.{Spot}
+use Rattle.cq_urgency.specs.declared.blocks.Spot.{Spot}
 use Rattle.cq_urgency.proofs.Terms.{⊎_elim, cases_lt, rules, ◌≡◌, ℕ, zero, suc, ◌+◌, ◌<◌, ◌≤◌, true, false, List, [], ◌∷◌, ◌++◌, length, take, drop, Some, ap, length-append, length-set, length-take, length-drop, get_or-set_same, arith, sym, subst, common_steps, slice_get, AllByRecursion, cases_Bool, take-append-le, take-take, take-set, length-insert, get_or-insert_below, get_or-insert_at, sum_by_more, Key, Queued, is_before, IsBefore, IsRising, cushion, key_laws, all_at, flattened, block_at, halved, AreFilled, AreBegun, IsSpot, starts_before}
 use Rattle.cq_urgency.proofs.Flattened.{length-flattened}
 use Rattle.cq_urgency.proofs.Halving.{all_weaker, cushion_all, cushion_none, cushion_le, cushion-append}

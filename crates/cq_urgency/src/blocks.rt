@@ -130,16 +130,18 @@ fn sum_ahead(counts: &[usize], place: usize, whole: usize) -> usize
     whole - sum_of(&counts[place..])
 }
 
-// A place in the order of blocks, and a place in this block.
+/// A place in the order of blocks, and a place in this block.
 #[derive(Clone, Copy)]
-struct At {
-    block: usize,
-    within: usize,
+pub struct Spot {
+    /// The place of the block.
+    pub block: usize,
+    /// The place in it.
+    pub within: usize,
 }
 
 // Where the cell stands that has so many ahead.
 #[tactic(auto, using(std::proofs::lemmas::List::Sums::sum_by_more))]
-fn place_of(counts: &[usize], ahead: usize) -> At
+fn place_of(counts: &[usize], ahead: usize) -> Spot
     requires { ahead < sum_by (λ n. n) counts.now }
     ensures block { sum_by (λ n. n) (take result.block counts.now) + result.within ≡ ahead }
     ensures within { result.within < slice_index_or counts.now result.block 0 }
@@ -147,7 +149,7 @@ fn place_of(counts: &[usize], ahead: usize) -> At
     let mut within = ahead;
     'counts: for (block, count) in counts.iter().enumerate() {
         if within < *count {
-            return At { block, within };
+            return Spot { block, within };
         }
         within -= *count;
     }
@@ -198,8 +200,8 @@ impl Blocks {
         requires { ahead < length (flattened self.now.blocks) }
         ensures { slice_get (flattened self.now.blocks) ahead ≡ Some result }
     {
-        let at = place_of(&self.counts, ahead);
-        self.block(at.block).at(at.within)
+        let spot = place_of(&self.counts, ahead);
+        self.block(spot.block).at(spot.within)
     }
 
     /// The first block, of one cell.

@@ -5,7 +5,7 @@ ghost use Rattle.cq_base.specs.Cells.{HasOtherKey, IsRising, cushion, put};
 ghost use Rattle.cq_urgency.specs.Blocks.{flattened, block_at};
 ghost use Rattle.cq_urgency.specs.OutputBuffer.{AreFilled, AreBegun, IsSpot, starts_before};
 
-use crate::blocks::Blocks;
+use crate::blocks::{Blocks, Spot};
 use cq_base::{Key, NoMemory, Queued};
 use std::alloc::Global;
 use std::marker::Model;
@@ -73,13 +73,6 @@ fn begun(blocks: &Blocks, key: Key) -> usize
         }
     }
     low
-}
-
-// A block, and a place in it.
-#[derive(Clone, Copy)]
-struct Spot {
-    block: usize,
-    within: usize,
 }
 
 // Behind all cells, where the last one has a lesser key.

@@ -3,8 +3,8 @@ use Rattle.cq_urgency.proofs.Flattened.{length-flattened, shown_in}
 use Rattle.cq_urgency.proofs.Placed.{kept, counts_ahead, counts_all, count_there}
 use Rattle.cq_urgency.proofs.blocks.Blocks.at.Goals as goal
 
-pub place_of-at-requires : goal.place_of-at-requires
-place_of-at-requires c =
+pub place_of-spot-requires : goal.place_of-spot-requires
+place_of-spot-requires c =
     let all = counts_all (kept c.self.invariant.0 c.self.view_is) in
     search (arith, rules, length-flattened c.args.self.now.blocks)
 
