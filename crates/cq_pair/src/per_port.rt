@@ -40,7 +40,7 @@ impl PerPort {
         }
     }
 
-    /// The same number for each of so many ports, in place of what stood there.
+    /// Gives each of so many ports this number, in place of what stood there.
     pub fn fill(&mut self, ports: u16, number: u16)
         requires { ports ≤ 64 }
         ensures { self.new ≡ replicate ports number }

@@ -86,7 +86,8 @@ impl Core {
         core
     }
 
-    /// The same in place of whatever these ports, or others, have come to.
+    /// Begins anew for these offers, in place of whatever stands here: no output holds an input, and no proposal was
+    /// made.
     pub fn begin_again(&mut self, offers: &Offers)
         ensures reached { IsReached offers.now self.new }
         ensures state { self.new.state ≡ start offers.now }
@@ -157,7 +158,7 @@ impl Core {
         self.matching
     }
 
-    /// The same pairs, lent and not copied.
+    /// The pairs of each output and the input that it holds, lent and not copied.
     pub fn pairs(&self) -> &Matching
         ensures { result.now ≡ self.now.matching }
     {

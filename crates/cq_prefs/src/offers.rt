@@ -58,7 +58,7 @@ impl Offers {
         })
     }
 
-    /// The same offers once more. The error is want of memory.
+    /// These offers once more. The error is want of memory.
     pub fn copy(&self, alloc: Global) -> Result<Offers, NoMemory>
         ensures { IfOk result (λ offers. offers ≡ self.now) }
     {
@@ -108,8 +108,8 @@ impl Offers {
         }
     }
 
-    /// The same where only the cells of one input for one output have changed. Their two orders are all that is
-    /// looked at, however many ports there are.
+    /// The offers of lists in which only the cells of one input for one output have changed. Their two orders are all
+    /// that is looked at, however many ports there are.
     pub fn renew_pair(&mut self, lists: &[InputList], input: Port, output: Port)
         requires lists { length lists.now ≡ ports self.old }
         requires keys { FirstKeysDiffer (cells_of lists.now) }

@@ -47,7 +47,7 @@ impl Numerals {
         Numerals { rows }
     }
 
-    /// That of a number.
+    /// The numeral of a number below a thousand.
     pub fn of(&self, number: usize) -> Numeral
         requires { number < 1000 }
         ensures { IsNumeral number result }
