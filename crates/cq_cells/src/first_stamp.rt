@@ -1,4 +1,4 @@
-// The stamp from which slots are counted.
+//! The stamp from which slots are counted.
 ghost use Rattle.std.specs.Prelude.{◌≡◌, map, min};
 ghost use Rattle.std.specs.List.{reduce};
 ghost use Rattle.cq_cells.specs.Terms.{earlier, first_stamp};

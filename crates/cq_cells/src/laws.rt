@@ -1,4 +1,4 @@
-// Laws of what arrives.
+//! Laws of what arrives.
 ghost use Rattle.std.specs.Prelude.{◌≡◌, ℕ, ◌<◌, List, filter, length};
 ghost use Rattle.cq_cells.specs.Terms.{arrivals, arrivals_at, packets_of, IsRecorded, IsShort, IsTraffic, is_from, Captured, Tables, AreTables, classes_of, ports_of};
 

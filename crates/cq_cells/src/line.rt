@@ -1,5 +1,5 @@
-// The cells that arrive at one input. Each packet has a row, and a slot is looked up among the rows near where the one
-// before was, or by halving: the work grows with the logarithm of the number of packets at most.
+//! The cells that arrive at one input. Each packet has a row, and a slot is looked up among the rows near where the one
+//! before was, or by halving: the work grows with the logarithm of the number of packets at most.
 ghost use Rattle.std.specs.Prelude.{◌≡◌, ℕ, ◌+◌, ◌-◌, ◌/◌, ◌==◌, ◌^◌, ◌<◌, ◌≤◌, find, length, map, max, option_map, slice_index_or, IfOk, IsTrue};
 ghost use Rattle.std.specs.List.Sorted.{IsNonDecreasingBy};
 ghost use Rattle.cq_cells.specs.Schedule.{first_stamp as first_stamp_of};

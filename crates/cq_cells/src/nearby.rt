@@ -1,4 +1,4 @@
-// Where the cells of a slot are looked for first.
+//! Where the cells of a slot are looked for first.
 use cq_base::{Cell, CellId};
 
 /// How many packets of each input had begun when a cell of it was found last. It says where to look first and nothing

@@ -1,4 +1,4 @@
-// Where the packets of a capture go. Each is routed on its own, so threads share those of a long capture.
+//! Where the packets of a capture go. Each is routed on its own, so threads share those of a long capture.
 ghost use Rattle.std.specs.Prelude.{◌≡◌, ◌<◌, length, map, IfOk};
 ghost use Rattle.cq_cells.specs.Terms.{packet_in, IsDirectoryOf, route};
 

@@ -1,4 +1,4 @@
-// What arrives at all inputs.
+//! What arrives at all inputs.
 ghost use Rattle.std.specs.Prelude.{◌≡◌, ℕ, ◌^◌, ◌<◌, ◌≤◌, filter, length, map, replicate, IfOk};
 ghost use Rattle.std.specs.List.{range_with_len};
 ghost use Rattle.cq_cells.specs.Schedule.{first_stamp as first_stamp_of};

@@ -1,4 +1,4 @@
-// How packets are cut into cells.
+//! How packets are cut into cells.
 ghost use Rattle.std.specs.Prelude.{◌≡◌, ◌≤◌};
 ghost use Rattle.cq_cells.specs.Terms.{cells_of};
 

@@ -1,4 +1,4 @@
-// The fields of a frame.
+//! The fields of a frame.
 ghost use Rattle.std.specs.Prelude.{◌≡◌, drop, if◌then◌else◌};
 ghost use Rattle.cq_frame.specs.Frame.{code_point, code_point_at, destination, ether_type, has_tag_at, number_at, priority, priority_at, type_offset};
 

@@ -1,4 +1,4 @@
-// The words that are drawn.
+//! The words that are drawn.
 ghost use Rattle.std.specs.Prelude.{◌≡◌, length, IfOk};
 ghost use Rattle.cq_gen.specs.Draws.{first_draws};
 

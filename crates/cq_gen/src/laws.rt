@@ -1,4 +1,4 @@
-// What made packets come to in the switch that is made for them.
+//! What made packets come to in the switch that is made for them.
 ghost use Rattle.std.specs.Prelude.{◌≡◌, ◌*◌, ◌/◌, ◌%◌, ◌^◌, ◌<◌, ◌≤◌, ℕ, length};
 ghost use Rattle.std.specs.Int.{IsInRange};
 ghost use Rattle.cq_gen.specs.Packets.{packet_of};

@@ -1,4 +1,4 @@
-// The packets that come to an input.
+//! The packets that come to an input.
 ghost use Rattle.std.specs.Prelude.{◌≡◌, ◌++◌, ◌*◌, ◌<◌, ◌≤◌, length, map, IfOk, OnOk};
 ghost use Rattle.std.specs.Int.{IsInRange};
 ghost use Rattle.cq_gen.specs.Packets.{frame_of, output_address, packet_of, packets_to, to_write};

@@ -1,4 +1,4 @@
-// Made traffic, whole.
+//! Made traffic, whole.
 ghost use Rattle.std.specs.Prelude.{◌≡◌, length, All, IfOk};
 ghost use Rattle.std.specs.Int.{IsInRange};
 ghost use Rattle.cq_gen.specs.Packets.{soak_captures};

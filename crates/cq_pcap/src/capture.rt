@@ -1,5 +1,5 @@
-// A capture that was read: the bytes of its file, and where the packets stand in them. No body is
-// copied.
+//! A capture that was read: the bytes of its file, and where the packets stand in them. No body is
+//! copied.
 ghost use Rattle.std.specs.Prelude.{◌≡◌, ◌<◌, ◌≤◌, ◌^◌, [], Ok, All, length, slice_get, IfSome};
 ghost use Rattle.std.specs.List.{AllByRecursion};
 ghost use Rattle.cq_pcap.specs.Captured.{file_length, rows_from};

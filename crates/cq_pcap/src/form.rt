@@ -1,4 +1,4 @@
-// The forms of captures: in which order the bytes of a number stand, and what a subsecond is.
+//! The forms of captures: in which order the bytes of a number stand, and what a subsecond is.
 ghost use Rattle.std.specs.Prelude.{◌≡◌, ◌+◌, ◌≤◌, length};
 ghost use Rattle.cq_pcap.specs.Form.{form_at, number_at, unit};
 

@@ -1,4 +1,4 @@
-// Laws of the grammar of captures.
+//! Laws of the grammar of captures.
 ghost use Rattle.std.specs.Prelude.{◌≡◌, ◌⊎◌, ◌<◌, ℕ, List, Ok, Err, map, slice_index};
 ghost use Rattle.std.specs.List.{AllByRecursion};
 ghost use Rattle.cq_pcap.specs.Captured.{Captured};

@@ -1,4 +1,4 @@
-// Captures that are read, in one pass over the bytes.
+//! Captures that are read, in one pass over the bytes.
 ghost use Rattle.std.specs.Prelude.{◌≡◌, ◌+◌, ◌≤◌, ◌^◌, Ok, Err, Some, None, List, [], length, option_map, IfErr, IfNone, IfOk, IfSome};
 ghost use Rattle.cq_pcap.specs.Faults.{IsFaulty, fault_of};
 ghost use Rattle.cq_pcap.specs.Reading.{first_packet, header_form, packets_of};

@@ -1,4 +1,4 @@
-// Captures that are written.
+//! Captures that are written.
 ghost use Rattle.std.specs.Prelude.{◌≡◌, ◌≤◌, ◌++◌, [], length, All, IfOk, OnErr, OnOk};
 ghost use Rattle.cq_pcap.specs.Written.{record_of, written};
 

@@ -1,4 +1,4 @@
-// The addresses that are known, in order.
+//! The addresses that are known, in order.
 ghost use Rattle.std.specs.Prelude.{ℕ, ◌≡◌, ◌<◌, ◌==◌, length, IfOk, OnOk, Some, None};
 ghost use Rattle.std.specs.BTreeMap.{get};
 ghost use Rattle.std.specs.Option.{option_or};

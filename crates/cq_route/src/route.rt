@@ -1,4 +1,4 @@
-// Where a packet goes, and in which class.
+//! Where a packet goes, and in which class.
 ghost use Rattle.std.specs.Prelude.{◌≡◌, ◌<◌};
 ghost use Rattle.cq_route.specs.Route.{class_for, is_met, output_for, route};
 ghost use Rattle.cq_route.specs.Tables.{AreTables, classes_of, ports_of};

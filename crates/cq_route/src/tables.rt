@@ -1,4 +1,4 @@
-// The tables of a switch.
+//! The tables of a switch.
 ghost use Rattle.std.specs.Prelude.{◌≡◌, IfOk};
 ghost use Rattle.cq_route.specs.Plain.{plain_ports, plain_setup, plain_tables};
 ghost use Rattle.cq_route.specs.Tables.{AreTables};

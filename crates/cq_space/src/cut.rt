@@ -1,4 +1,4 @@
-// Where a fake in memory is set to fail.
+//! Where a fake in memory is set to fail.
 ghost use Rattle.std.specs.Prelude.{◌<◌, ◌≤◌, IfNone, IfSome};
 ghost use Rattle.cq_space.specs.Cut.{IsReached, StaysBefore};
 

@@ -1,7 +1,7 @@
-// What files in memory keep of each name, in a list of entries.
-//
-// A name has one entry, which stays where it is: the state names it by its place. A name that is only
-// cut has an entry without bytes.
+//! What files in memory keep of each name, in a list of entries.
+//!
+//! A name has one entry, which stays where it is: the state names it by its place. A name that is only
+//! cut has an entry without bytes.
 ghost use Rattle.std.specs.Prelude.{◌≡◌, ◌<◌, [], ◌++◌, length, string_bytes, IsSome, unwrap_or, IfOk, OnOk, OnErr};
 ghost use Rattle.std.specs.Option.{option_map};
 ghost use Rattle.std.specs.List.{position};

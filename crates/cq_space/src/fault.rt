@@ -1,4 +1,4 @@
-// Counting faults.
+//! Counting faults.
 ghost use Rattle.std.specs.Prelude.{◌≡◌, ◌+◌, ◌-◌, ◌≤◌, ◌^◌, min};
 
 /// Raises a count by one. At its last value it stays.

@@ -1,4 +1,4 @@
-// What is asked of a file space, and what its calls answer.
+//! What is asked of a file space, and what its calls answer.
 ghost use Rattle.std.specs.Prelude.{◌≡◌, ◌<◌, ℕ, length, IfOk, OnOk, OnErr};
 ghost use Rattle.cq_space.specs.Answering.{HasAnswered};
 ghost use Rattle.cq_space.specs.Call.{Call};

@@ -1,4 +1,4 @@
-// The system's files and writers.
+//! The system's files and writers.
 ghost use Rattle.std.specs.Prelude.{◌≡◌, None, IfOk, string_bytes};
 ghost use Rattle.cq_space.specs.Space.{Closed};
 ghost use Rattle.cq_space.specs.Host.{host_mode};

@@ -1,4 +1,4 @@
-// Files in memory, which a test can set to fail.
+//! Files in memory, which a test can set to fail.
 ghost use Rattle.std.specs.Prelude.{◌≡◌, ◌+◌, ◌-◌, ◌<◌, ◌≤◌, ◌^◌, ◌++◌, ◌∷◌, [], None, Some, min, OnOk, OnErr, MatchOption};
 ghost use Rattle.std.specs.FinMap.{insert, get};
 ghost use Rattle.cq_space.specs.Lasting.{cuts_last};

@@ -1,4 +1,4 @@
-// A sink in memory, which a test can set to fail.
+//! A sink in memory, which a test can set to fail.
 ghost use Rattle.std.specs.Prelude.{◌≡◌, [], None, Some};
 ghost use Rattle.cq_space.specs.Lasting.{cut_lasts};
 ghost use Rattle.cq_space.specs.MemTaken.{MayFail, MayMove, KeepsCut};

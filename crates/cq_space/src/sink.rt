@@ -1,4 +1,4 @@
-// What is asked of a sink.
+//! What is asked of a sink.
 ghost use Rattle.std.specs.Prelude.{◌≡◌, ◌<◌, ℕ, List, Option, length, IfOk, OnErr};
 ghost use Rattle.cq_space.specs.Causes.{HasCause};
 ghost use Rattle.cq_space.specs.Failing.{Lasts};

@@ -1,4 +1,4 @@
-// The calls of files in memory, which a test numbers and sets to fail.
+//! The calls of files in memory, which a test numbers and sets to fail.
 ghost use Rattle.std.specs.Prelude.{◌≡◌, ◌++◌, ◌∷◌, [], ◌<◌, ◌≤◌, None, Some, OnOk, OnErr};
 ghost use Rattle.cq_space.specs.Calls.{IsShort, next_fails, one_more};
 

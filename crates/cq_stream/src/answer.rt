@@ -1,4 +1,4 @@
-// The answer on the bytes of a reader.
+//! The answer on the bytes of a reader.
 ghost use Rattle.std.specs.Prelude.{◌≡◌, IfErr, Some};
 ghost use Rattle.cq_pcap.specs.Rows.{AreRowsUntil};
 ghost use Rattle.cq_stream.specs.Stream.{AnswersOn};

@@ -1,4 +1,4 @@
-// What a reader does with its order. Each of these waits for the other end of a ring.
+//! What a reader does with its order. Each of these waits for the other end of a ring.
 ghost use Rattle.std.specs.Prelude.{◌≡◌, ◌≤◌, ◌^◌, [], ◌∷◌, ◌++◌, length};
 ghost use Rattle.rtrb.specs.Ring.{received, sent, SameConsumer, SameProducer};
 ghost use Rattle.cq_pcap.specs.Rows.{AreRowsTo};

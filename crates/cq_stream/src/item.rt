@@ -1,4 +1,4 @@
-// What goes through the two rings.
+//! What goes through the two rings.
 use cq_pcap::PacketRow;
 
 /// What a reader sends: the row of each record, and then that there are no more.

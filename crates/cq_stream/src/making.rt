@@ -1,4 +1,4 @@
-// Readers and intakes are made in pairs.
+//! Readers and intakes are made in pairs.
 ghost use Rattle.std.specs.Prelude.{◌≡◌, ◌≤◌, ◌^◌, [], length, IfOk};
 ghost use Rattle.cq_stream.specs.Rings.{IsPairOf, bytes_to_read, room_of, taken, told};
 

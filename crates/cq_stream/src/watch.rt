@@ -1,4 +1,4 @@
-// Who is told that a reader begins.
+//! Who is told that a reader begins.
 use cq_base::Port;
 
 /// Is told when a reader begins to send. It changes no answer.

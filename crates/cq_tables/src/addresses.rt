@@ -1,4 +1,4 @@
-// The addresses of a configuration, each of which stands there once.
+//! The addresses of a configuration, each of which stands there once.
 ghost use Rattle.std.specs.Prelude.{◌≡◌, ◌≢◌, ◌<◌, ◌||◌, ℕ, List, None, IfOk, IfErr, All, map, take, true, codes};
 ghost use Rattle.std.specs.List.{AllPairs, list_any};
 ghost use Rattle.std.specs.Str.{bytes_eq};

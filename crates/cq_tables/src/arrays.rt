@@ -1,4 +1,4 @@
-// The arrays of a configuration, element by element.
+//! The arrays of a configuration, element by element.
 ghost use Rattle.std.specs.Prelude.{◌≡◌, ◌≤◌, ◌<◌, None, IfOk, IfErr, IfSome, All, map};
 ghost use Rattle.cq_tables.specs.Terms.{view, Refuses, each, first, class_keys, class_row, element_check, port_keys, port_kind, port_limit, port_row, rule_keys, rule_row, members};
 

@@ -1,4 +1,4 @@
-// The figures of a configuration: one integer each.
+//! The figures of a configuration: one integer each.
 ghost use Rattle.std.specs.Prelude.{◌≡◌, None, IfOk, IfErr};
 ghost use Rattle.cq_tables.specs.Terms.{table_view, Refuses, first, AreFigures, figure_keys, figures_of, checks_of};
 

@@ -1,4 +1,4 @@
-// That no file of a configuration is named twice, but to be read.
+//! That no file of a configuration is named twice, but to be read.
 ghost use Rattle.std.specs.Prelude.{◌≡◌, ◌||◌, false, option_map, unwrap_or, ◌≤◌, None, IfOk, IfErr, length, take};
 ghost use Rattle.std.specs.List.{list_any};
 ghost use Rattle.std.specs.Str.{bytes_eq};

@@ -1,4 +1,4 @@
-// The keys that a table may have.
+//! The keys that a table may have.
 ghost use Rattle.std.specs.Prelude.{◌≡◌, None, IfOk, IfErr, find, map, not, option_copied, string_bytes};
 ghost use Rattle.std.specs.BTreeMap.{IsOrdered, keys};
 ghost use Rattle.std.specs.List.{list_any};

@@ -1,4 +1,4 @@
-// The limits of what a configuration says, and what stands where it says nothing.
+//! The limits of what a configuration says, and what stands where it says nothing.
 
 /// The first version of a configuration.
 pub const FIRST_VERSION: u64 = 1;

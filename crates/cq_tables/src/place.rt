@@ -1,4 +1,4 @@
-// Where a key stands in a configuration, and how its path is written.
+//! Where a key stands in a configuration, and how its path is written.
 ghost use Rattle.std.specs.Prelude.{◌≡◌, IfOk};
 ghost use Rattle.cq_tables.specs.Terms.{array_key, element_path, path};
 

@@ -1,4 +1,4 @@
-// The tables that a configuration gives.
+//! The tables that a configuration gives.
 ghost use Rattle.std.specs.Prelude.{◌≡◌, ◌<◌, ◌++◌, None, Some, Ok, IfOk, IfErr, is_some};
 ghost use Rattle.cq_tables.specs.Terms.{AreTables, table_view, Refuses, at, first, unless, IsRefusedFor, default_checks, default_checks_of, document, is_there, read_or_refused, tables_of, top_keys, whole, table_checks};
 

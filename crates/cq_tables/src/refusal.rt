@@ -1,4 +1,4 @@
-// Why a configuration is refused.
+//! Why a configuration is refused.
 ghost use Rattle.std.specs.Prelude.{◌≡◌, ℕ, List, Some, IfOk};
 ghost use Rattle.cq_tables.specs.Terms.{Refuses, code_of, refused, element_path, path};
 

@@ -1,4 +1,4 @@
-// What the values of keys say, kind by kind, or what is wrong with them.
+//! What the values of keys say, kind by kind, or what is wrong with them.
 ghost use Rattle.std.specs.Prelude.{◌≡◌, ◌↔◌, EachIndex, IsTrue, slice_index, ◌≤◌, ◌<◌, ◌&&◌, IfSome, None, Some, IfOk};
 ghost use Rattle.std.specs.Prelude.{IfErr, length, map, option_map};
 ghost use Rattle.std.specs.Str.{all_ascii_digits};

@@ -1,4 +1,4 @@
-// The version of a configuration.
+//! The version of a configuration.
 ghost use Rattle.std.specs.Prelude.{◌≡◌};
 ghost use Rattle.cq_tables.specs.Terms.{version_of};
 

@@ -1,4 +1,4 @@
-// The commands, and the reading of the numbers of one.
+//! The commands, and the reading of the numbers of one.
 ghost use Rattle.std.specs.Prelude.{◌≡◌};
 ghost use Rattle.cq_words.specs.Numbers.{number_from};
 ghost use Rattle.cq_words.specs.Words.{most_slots, numbered};

@@ -1,4 +1,4 @@
-// The grammar of the words.
+//! The grammar of the words.
 ghost use Rattle.std.specs.Prelude.{◌≡◌, ◌∷◌, [], codes, is_some, map, string_bytes};
 ghost use Rattle.cq_words.specs.Words.{command_for, is_value as value_test};
 

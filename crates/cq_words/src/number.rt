@@ -1,4 +1,4 @@
-// Numbers in words.
+//! Numbers in words.
 ghost use Rattle.std.specs.Prelude.{◌≡◌, ◌≤◌, IfSome, None, Some, if◌then◌else◌};
 ghost use Rattle.cq_words.specs.Numbers.{is_numeral, number_from, value_of};
 

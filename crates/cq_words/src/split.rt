@@ -1,4 +1,4 @@
-// The words of a command, split into its values by `clap`.
+//! The words of a command, split into its values by `clap`.
 ghost use Rattle.std.specs.Prelude.{◌≡◌, IfErr, IfOk, false, true, is_some, map, option_map, string_bytes};
 ghost use Rattle.clap.specs.Words.{
   app_of,

@@ -1,4 +1,4 @@
-// Words that are a command.
+//! Words that are a command.
 ghost use Rattle.std.specs.Prelude.{◌≡◌, IfErr, IfOk, codes, is_some, map, string_bytes, option_and_then, true};
 ghost use Rattle.clap.specs.Words.{first_of, found_of, rows_of, subcommand_rows_of};
 ghost use Rattle.cq_words.specs.Words.{command_for, with_config as config_command};

@@ -1,4 +1,4 @@
-// Frames made by hand, byte by byte, with the fields that the standards give them.
+//! Frames made by hand, byte by byte, with the fields that the standards give them.
 use cq_frame::{FrameParts, parts};
 use std::test::Fail;
 

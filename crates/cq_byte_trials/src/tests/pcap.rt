@@ -1,4 +1,4 @@
-// Captures of the format's own values, byte by byte.
+//! Captures of the format's own values, byte by byte.
 ghost use Rattle.std.specs.Prelude.{◌≡◌, ◌≤◌, ◌^◌, All, IfOk, length};
 
 use cq_base::{NoMemory, Sequence};

@@ -1,4 +1,4 @@
-// Packets on their way through small tables.
+//! Packets on their way through small tables.
 ghost use Rattle.cq_route.specs.Directory.{IsDirectoryOf};
 
 use cq_base::{NoMemory, Sequence};
