@@ -104,7 +104,7 @@ impl Coming {
         none_stand(&self.arrivals, self.ports)
     }
 
-    // The cells that arrive in the slot at the inputs of these lines come in place of those that stand there.
+    /// The cells that arrive in the slot at the inputs of these lines come in place of those that stand there.
     pub(crate) fn fill(&mut self, lines: &[Line], slot: Slot)
         requires few { length lines.now ≤ 64 }
         requires own { AreOwn 0 lines.now }

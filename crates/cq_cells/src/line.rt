@@ -12,20 +12,20 @@ use cq_route::Tables;
 use std::alloc::Global;
 use std::marker::Model;
 
-// When a packet arrives, and how it is cut.
+/// When a packet arrives, and how it is cut.
 #[derive(Clone, Copy)]
 pub struct Row {
-    // The slot of its first cell.
+    /// The slot of its first cell.
     pub start: u64,
-    // The number of its cells.
+    /// The number of its cells.
     pub cells: u32,
     pub output: Port,
     pub class: Class,
-    // How many bytes of it were captured.
+    /// How many bytes of it were captured.
     pub len: u32,
 }
 
-// What arrives at an input. Contracts see it as its arrivals, in order.
+/// What arrives at an input. Contracts see it as its arrivals, in order.
 #[derive(Drop)]
 pub struct Line {
     input: Port,
@@ -50,7 +50,7 @@ impl Model for Line {
 }
 
 impl Line {
-    // How many cells arrive.
+    /// How many cells arrive.
     pub fn cells(&self) -> u64
         ensures cells { result ≡ length self.now }
         ensures few { result ≤ 2 ^ 28 }
@@ -58,21 +58,21 @@ impl Line {
         self.cells
     }
 
-    // The first slot from which on no cell arrives.
+    /// The first slot from which on no cell arrives.
     pub fn end(&self) -> Slot
         ensures { result ≡ end_of self.now }
     {
         self.end
     }
 
-    // The cell that arrives in the slot.
+    /// The cell that arrives in the slot.
     pub fn cell_at(&self, slot: Slot) -> Option<Cell>
         ensures { result ≡ option_map (λ a. a.cell) (find (λ a. a.slot == slot) self.now) }
     {
         self.cell_near(slot, 0)
     }
 
-    // The same. Where so many packets have begun, or one more, it is found at once.
+    /// The cell that arrives in the slot. Where so many packets have begun, or one more, it is found at once.
     pub fn cell_near(&self, slot: Slot, near: usize) -> Option<Cell>
         ensures { result ≡ option_map (λ a. a.cell) (find (λ a. a.slot == slot) self.now) }
     {
@@ -90,7 +90,7 @@ impl Line {
         Some(row.cell(self.cell_bytes, id))
     }
 
-    // The least slot from this one on in which a cell arrives, or None where there is none.
+    /// The least slot from this one on in which a cell arrives, or None where there is none.
     pub fn next_arrival(&self, from: Slot) -> Option<Slot>
         ensures { IsNextArrival self.now from result }
     {
@@ -101,8 +101,8 @@ impl Line {
         Some(self.rows[packet].start.max(from))
     }
 
-    // The arrivals at an input, whose packets go where they are routed. Each is counted for its output. The
-    // error is want of memory.
+    /// The arrivals at an input, whose packets go where they are routed. Each is counted for its output. The
+    /// error is want of memory.
     pub fn of(
         alloc: Global,
         input: Port,

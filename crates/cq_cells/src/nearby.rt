@@ -14,7 +14,7 @@ impl Nearby {
         Nearby { packets: [0; 64] }
     }
 
-    // How many packets of the input had begun.
+    /// How many packets of the input had begun.
     pub(crate) fn of_input(&self, input: usize) -> usize {
         match self.packets.get(input) {
             Some(packets) => *packets as usize,
@@ -22,7 +22,7 @@ impl Nearby {
         }
     }
 
-    // A cell was looked for, and this was found.
+    /// A cell was looked for, and this was found.
     pub(crate) fn looked(&mut self, cell: Option<Cell>) {
         if let Some(cell) = cell {
             self.found(cell.id);

@@ -12,8 +12,8 @@ use std::thread::Threads;
 // So many packets are worth a thread of their own: to start and to join one costs as much as to route thousands.
 const WORTH_A_THREAD: usize = 8192;
 
-// The output and the class of each packet of a capture at the input, in order, by the tables and their directory. The
-// error is want of memory.
+/// The output and the class of each packet of a capture at the input, in order, by the tables and their directory. The
+/// error is want of memory.
 pub fn routes_of<R: Threads + Sync>(
     rt: &R,
     alloc: Global,

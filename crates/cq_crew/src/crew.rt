@@ -7,8 +7,8 @@ use crate::worker::work;
 use cq_ledger::{Ledger, LedgerSeat};
 use std::thread::{Threads, join};
 
-// The work of so many workers, numbered from the first on. Their number is halved until one is left, and each
-// half has a seat of its own. Where no thread can be started the caller does both halves, one after the other.
+/// The work of so many workers, numbered from the first on. Their number is halved until one is left, and each
+/// half has a seat of its own. Where no thread can be started the caller does both halves, one after the other.
 #[cycle(halves)]
 pub(crate) fn work_all<R: Threads + Sync, G: Gate>(
     rt: &R,

@@ -9,8 +9,8 @@ use crate::gate::Gate;
 use cq_base::Port;
 use cq_ledger::{Ledger, LedgerSeat};
 
-// Tries to claim every input, its own number first and then upwards and around, and after each claim that
-// succeeds proposes until the hand is empty.
+/// Tries to claim every input, its own number first and then upwards and around, and after each claim that
+/// succeeds proposes until the hand is empty.
 pub(crate) fn work<G: Gate>(
     ledger: &Ledger,
     mut seat: LedgerSeat,

@@ -99,7 +99,7 @@ impl Gone {
         &self.places[..outputs as usize]
     }
 
-    // The first cell of each buffer leaves it, and comes to the place of its output.
+    /// The first cell of each buffer leaves it, and comes to the place of its output.
     pub(crate) fn take_from(&mut self, buffers: &mut [OutputBuffer])
         requires { length buffers.old ≤ 64 }
         ensures gone { take (length buffers.old) self.new ≡ map front_of buffers.old }

@@ -11,10 +11,10 @@ use std::alloc::Global;
 // How many bytes a frame has.
 const FRAME: usize = 60;
 
-// The nanoseconds of a slot.
+/// The nanoseconds of a slot.
 pub const SLOT: u64 = 512;
 
-// The address of an output.
+/// The address of an output.
 pub fn output_address(output: u8) -> [u8; 6]
     ensures { result ≡ output_address output }
 {

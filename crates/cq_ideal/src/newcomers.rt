@@ -60,7 +60,7 @@ impl Newcomers {
         self.places[input]
     }
 
-    // The places of so many inputs are to be filled. No cell stands behind them.
+    /// The places of so many inputs are to be filled. No cell stands behind them.
     pub(crate) fn begin(&mut self, inputs: u16)
         ensures long { length self.new ≡ 64 }
         ensures beyond { (k : ℕ) → inputs ≤ k → slice_index_or self.new k None ≡ None }
@@ -72,7 +72,7 @@ impl Newcomers {
         self.used = 0;
     }
 
-    // A cell comes to an input, or none does, in place of what was there.
+    /// A cell comes to an input, or none does, in place of what was there.
     pub(crate) fn put(&mut self, input: Port, queued: Option<Queued>)
         requires { input < 64 }
         ensures { self.new ≡ slice_set self.old input queued }

@@ -7,17 +7,17 @@ ghost use Rattle.cq_ledger.specs.Steps.{answer_of, hand_after, hand_at, output_a
 use cq_base::Port;
 use cq_prefs::{Offers, Outcome};
 
-// An input, and the place in its order where it proposes next.
+/// An input, and the place in its order where it proposes next.
 pub(crate) type Hand = Option<(Port, u16)>;
 
-// The output that is asked, and the position of the input that asks.
+/// The output that is asked, and the position of the input that asks.
 #[derive(Clone, Copy)]
 pub(crate) struct Asked {
     pub(crate) output: Port,
     pub(crate) position: u16,
 }
 
-// A hand with an input at a place, or an empty one where its order ends there.
+/// A hand with an input at a place, or an empty one where its order ends there.
 #[tactic(auto, unfolding(crate::specs::Steps::hand_at))]
 pub(crate) fn hand_from(offers: &Offers, input: Port, place: u16) -> Hand
     requires { input < ports offers.now }
@@ -49,7 +49,7 @@ pub(crate) fn asked_by(offers: &Offers, input: Port, place: u16) -> Asked
     Asked { output, position }
 }
 
-// What a proposal comes to where the output's word was this one.
+/// What a proposal comes to where the output's word was this one.
 #[tactic(auto, unfolding(crate::specs::Steps::answer_of))]
 pub(crate) fn answered(
     offers: &Offers,
@@ -73,7 +73,7 @@ pub(crate) fn answered(
     Outcome::Displaced(offers.inputs_of(asked.output)[found as usize])
 }
 
-// The hand after a proposal with this outcome.
+/// The hand after a proposal with this outcome.
 #[tactic(auto, unfolding(crate::specs::Steps::hand_after))]
 pub(crate) fn hand_next(
     offers: &Offers,

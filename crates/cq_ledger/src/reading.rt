@@ -10,7 +10,7 @@ use cq_base::Port;
 use cq_prefs::{Matching, Offers};
 use std::alloc::Global;
 
-// The pairs of each output and the input that it holds.
+/// The pairs of each output and the input that it holds.
 pub(crate) fn read_matching(offers: &Offers, closed: &Closed<(), Global>) -> Matching
     requires full { IsFull closed.now.words }
     requires count { slots_len closed.now.words ≡ suc (ports offers.now) }

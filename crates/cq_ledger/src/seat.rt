@@ -35,7 +35,7 @@ impl Model for LedgerSeat {
 }
 
 impl LedgerSeat {
-    // A seat that has claimed and made nothing.
+    /// A seat that has claimed and made nothing.
     pub(crate) fn blank(seat: Seat<(), View>) -> LedgerSeat
         requires { (o : Orders) × (seat.me ≡ (blank o, [])) }
         ensures table { result.table ≡ seat.table_id }

@@ -2,7 +2,7 @@
 ghost use Rattle.std.specs.Prelude.{◌≡◌, ◌<◌, ◌≤◌, ◌+◌, ◌^◌, ◌∷◌, ◌↔◌, take, replicate, IsTrue};
 ghost use Rattle.cq_ledger.specs.Views.{bit};
 
-// The words at the start, in the first places: nobody is claimed, and nobody has proposed.
+/// The words at the start, in the first places: nobody is claimed, and nobody has proposed.
 pub(crate) fn first_words(ports: u16) -> [u64; 65]
     requires { ports ≤ 64 }
     ensures { take (ports + 1) result ≡ 0 ∷ replicate ports ports }
@@ -18,7 +18,7 @@ fn filled(word: u64) -> [u64; 65]
     [word; 65]
 }
 
-// The number with the bit of an input alone.
+/// The number with the bit of an input alone.
 pub(crate) fn bit_of(input: u16) -> u64
     requires { input < 64 }
     ensures { result ≡ 2 ^ input }
@@ -26,7 +26,7 @@ pub(crate) fn bit_of(input: u16) -> u64
     1 << input
 }
 
-// Whether the number has the bit of an input.
+/// Whether the number has the bit of an input.
 pub(crate) fn has_bit(word: u64, input: u16) -> bool
     ensures { IsTrue result ↔ (bit word input ≡ 1) }
 {

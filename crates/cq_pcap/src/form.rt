@@ -29,7 +29,7 @@ impl Form {
         Some(Form { big, nano })
     }
 
-    // The number in the two bytes at a place.
+    /// The number in the two bytes at a place.
     #[tactic(auto, using(std::proofs::lemmas::List::take_rest), unfolding(crate::specs::Form::number_at))]
     pub(crate) fn short(self, bytes: &[u8], at: usize) -> u16
         requires { at + 2 ≤ length bytes.now }
@@ -42,7 +42,7 @@ impl Form {
         }
     }
 
-    // The number in the four bytes at a place.
+    /// The number in the four bytes at a place.
     #[tactic(auto, using(std::proofs::lemmas::List::take_rest), unfolding(crate::specs::Form::number_at))]
     pub(crate) fn word(self, bytes: &[u8], at: usize) -> u32
         requires { at + 4 ≤ length bytes.now }
@@ -55,7 +55,7 @@ impl Form {
         }
     }
 
-    // The nanoseconds of one subsecond.
+    /// The nanoseconds of one subsecond.
     pub(crate) fn subsecond(self) -> u64
         ensures { result ≡ unit self.nano }
     {

@@ -41,7 +41,7 @@ impl Model for OpenPackets {
 }
 
 impl OpenPackets {
-    // So many places, and no packet is open.
+    /// So many places, and no packet is open.
     pub fn new(alloc: Global, places: usize) -> Result<OpenPackets, NoMemory>
         ensures { IfOk result (λ t. t ≡ replicate places None) }
     {
@@ -55,8 +55,8 @@ impl OpenPackets {
         })
     }
 
-    // Puts the piece of the cell with this number behind those of the packet that is open at the place, or
-    // opens the packet with it, with memory for so many bytes.
+    /// Puts the piece of the cell with this number behind those of the packet that is open at the place, or
+    /// opens the packet with it, with memory for so many bytes.
     pub fn add(
         &mut self,
         place: usize,
@@ -81,7 +81,7 @@ impl OpenPackets {
         }
     }
 
-    // Closes the packet that is open at the place, and gives its bytes.
+    /// Closes the packet that is open at the place, and gives its bytes.
     pub fn close(&mut self, place: usize) -> Option<Vec<u8>>
         requires { place < length self.old }
         ensures bytes { option_map (λ v. v.items) result ≡ option_map (λ o. o.body)

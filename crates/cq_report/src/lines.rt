@@ -26,7 +26,7 @@ fn put_figure(text: &mut Vec<u8>, number: Option<u64>) -> Result<(), NoMemory>
     }
 }
 
-// A name with its figure, and behind it what parts it from the next, or ends the line.
+/// A name with its figure, and behind it what parts it from the next, or ends the line.
 #[tactic(auto, using(std::proofs::Common::append_assoc), unfolding(crate::specs::Report::named))]
 pub fn put_named(
     text: &mut Vec<u8>,

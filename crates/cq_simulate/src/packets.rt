@@ -44,7 +44,7 @@ pub fn packets_of(
     Ok(packets)
 }
 
-// Takes the cell that departs. If it is the last of its packet, that packet leaves.
+/// Takes the cell that departs. If it is the last of its packet, that packet leaves.
 pub(crate) fn take(
     joiner: &mut Joiner,
     departure: &Departure,
@@ -80,7 +80,7 @@ pub(crate) fn take(
     }
 }
 
-// The captured bytes of a cell's packet.
+/// The captured bytes of a cell's packet.
 pub(crate) fn frame_of<'a>(captures: &'a [Capture], cell: &Cell) -> &'a [u8]
     requires { IsCaptured captures.now cell.now }
     ensures { result.now ≡ (packet_at captures.now cell.now.id.input cell.now.id.packet).body }
@@ -118,7 +118,7 @@ fn leaving(slot: Slot, joined: Joined, captures: &[Capture], tables: &Tables, t0
     }
 }
 
-// The stamp of what leaves in a slot.
+/// The stamp of what leaves in a slot.
 pub(crate) fn stamp_of(slot: Slot, tables: &Tables, t0: u64) -> u128
     requires { tables.now.slot_ns ≤ 1000000000 }
     ensures { result ≡ t0 + slot * tables.now.slot_ns }
@@ -126,7 +126,7 @@ pub(crate) fn stamp_of(slot: Slot, tables: &Tables, t0: u64) -> u128
     u128::from(t0) + u128::from(slot) * u128::from(tables.slot_ns)
 }
 
-// The original length of a captured packet.
+/// The original length of a captured packet.
 pub(crate) fn original_of(captures: &[Capture], input: Port, packet: u32) -> u32
     requires input { input < length captures.now }
     requires packet { packet < length (packets_at captures.now input) }

@@ -8,7 +8,7 @@ use crate::state::{Head, Named, Seen, Sent, State};
 use cq_base::{CellId, NoMemory, Sequence, Transfer};
 use std::alloc::{AllocError, Global};
 
-// A state as far as its lines are read.
+/// A state as far as its lines are read.
 #[derive(Drop)]
 pub struct Gathered {
     pub head: Head,

@@ -54,7 +54,7 @@ const MOST: u128 = (1 << 63) - 1;
 // The greatest number of packets and of cells of a packet.
 const WIDE: u128 = (1 << 32) - 1;
 
-// The most fields of a line.
+/// The most fields of a line.
 pub const MOST_FIELDS: usize = 33;
 
 impl Kind {

@@ -5,7 +5,7 @@ ghost use Rattle.cq_stream.specs.Stream.{AnswersOn};
 
 use cq_pcap::{Capture, PacketRow, PcapRefusal};
 
-// That of `read_capture`, where these are the rows up to the end of the bytes or up to their fault.
+/// That of `read_capture`, where these are the rows up to the end of the bytes or up to their fault.
 pub(crate) fn answer(
     bytes: Vec<u8>,
     fault: Option<PcapRefusal>,

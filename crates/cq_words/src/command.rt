@@ -53,14 +53,14 @@ pub enum Command {
 // The greatest number of slots after which a run can stop: 2^63 - 1.
 const MOST_SLOTS: u64 = 9_223_372_036_854_775_807;
 
-// The number of slots after which a run is to stop.
+/// The number of slots after which a run is to stop.
 pub fn slots_of(slots: &str) -> Option<u64>
     ensures { result ≡ number_from 0 most_slots slots.now }
 {
     number(slots, 0, MOST_SLOTS)
 }
 
-// The command of the texts of three numbers, where each is in its range.
+/// The command of the texts of three numbers, where each is in its range.
 pub fn soak(seed: &str, ports: &str, slots: &str) -> Option<Command>
     ensures { result ≡ numbered seed.now ports.now slots.now }
 {

@@ -2,7 +2,7 @@
 ghost use Rattle.std.specs.Prelude.{◌≡◌, ◌≤◌, IfSome, None, Some, if◌then◌else◌};
 ghost use Rattle.cq_words.specs.Numbers.{is_numeral, number_from, value_of};
 
-// The number that the text writes, where it is 1 to 20 digits with a value from `least` to `most`.
+/// The number that the text writes, where it is 1 to 20 digits with a value from `least` to `most`.
 pub fn number(text: &str, least: u64, most: u64) -> Option<u64>
     ensures value { result ≡ number_from least most text.now }
     ensures within { IfSome result (λ n. n ≤ most) }

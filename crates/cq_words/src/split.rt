@@ -26,8 +26,8 @@ use clap::error::ErrorKind;
 use clap::{Arg, ArgMatches, Command, Error};
 use std::alloc::{AllocError, Global};
 
-// What `clap` finds in the words of a command: the subcommand of their form, with their values. It
-// takes all such words, so the error is want of memory.
+/// What `clap` finds in the words of a command: the subcommand of their form, with their values. It
+/// takes all such words, so the error is want of memory.
 pub fn split<'a>(alloc: Global, words: &'a [String]) -> Result<ArgMatches<'a>, Error>
     requires { is_some (command_for (map string_bytes words.now)) ≡ true }
     ensures found { IfOk result (λ matches. command_found (subcommand_rows_of matches)
@@ -38,7 +38,7 @@ pub fn split<'a>(alloc: Global, words: &'a [String]) -> Result<ArgMatches<'a>, E
     line.try_get_matches_from(words)
 }
 
-// The first text of a value.
+/// The first text of a value.
 pub fn value<'a>(values: &ArgMatches<'a>, name: &str) -> Option<&'a str>
     ensures { option_map (λ text. text.now) result ≡ first_of name.now (rows_of (found_of values.now)) }
 {
