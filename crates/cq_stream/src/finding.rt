@@ -7,13 +7,13 @@ ghost use Rattle.cq_stream.specs.Stream.{HasEnded, HasObeyed, HasSent};
 use crate::watch::Watch;
 use crate::{Item, Order};
 use cq_base::Port;
-use cq_pcap::{Form, PcapRefusal, form_of, row_at};
+use cq_pcap::{FILE_HEADER, Form, PcapRefusal, form_of, row_at};
 use rtrb::{Consumer, Producer, PushError};
 use std::sync::Wait;
 use std::thread::yield_now;
 
 // Where the first record begins.
-const FIRST: u64 = 24;
+const FIRST: u64 = FILE_HEADER as u64;
 
 pub(crate) fn next_order<R: Wait>(rt: &R, orders: &mut Consumer<Order>) -> Order
     ensures ring { SameConsumer orders.old orders.new }
