@@ -62,6 +62,15 @@ impl Departures {
         sent.clear();
     }
 
+    /// Puts these departures behind the others. It takes room for them and no memory.
+    pub fn put_all(&mut self, sent: &[Departure])
+        requires { length sent.now ≤ self.old.spare }
+        ensures items { self.new.items ≡ self.old.items ++ sent.now }
+        ensures spare { self.new.spare + length sent.now ≡ self.old.spare }
+    {
+        put_each(&mut self.packed, sent);
+    }
+
     /// The departures, packed, in order.
     pub fn as_slice(&self) -> &[PackedDeparture]
         ensures { map unpacked result.now ≡ self.now.items }

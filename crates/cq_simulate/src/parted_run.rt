@@ -128,9 +128,8 @@ fn packed_holding(alloc: Global, items: &[Departure], spare: u64) -> Result<Depa
     if spare > u64::MAX - held {
         return Err(NoMemory);
     }
-    let mut room = holding(alloc, items, 0)?;
     let mut departures = Departures::new(alloc, held + spare)?;
-    departures.take_all(&mut room);
+    departures.put_all(items);
     Ok(departures)
 }
 
