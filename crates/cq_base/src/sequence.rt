@@ -2,12 +2,14 @@
 //!
 //! Two vectors with the same items may differ in capacity, so values that hold them could not be
 //! called equal. A `Sequence` is its items and nothing else.
-ghost use Rattle.std.specs.Prelude.{◌≡◌, ◌<◌, length, slice_set};
+ghost use Rattle.std.specs.Prelude.{◌≡◌, ◌<◌, IfOk, length, slice_set};
 
+use crate::NoMemory;
+use std::alloc::Global;
 use std::marker::Model;
 
 /// Items in order, which contracts see as a list. It is made from a vector and gives it back, and
-/// takes no memory for either.
+/// takes no memory for either. A copy takes memory.
 #[derive(Drop)]
 pub struct Sequence<T: Drop> {
     items: Vec<T>,
@@ -27,6 +29,17 @@ impl<T: Drop> Sequence<T> {
         ensures { result ≡ items.items }
     {
         Sequence { items }
+    }
+
+    /// A copy of these items. The error is want of memory.
+    pub fn copy_of(alloc: Global, items: &[T]) -> Result<Self, NoMemory>
+    where
+        T: Copy,
+        ensures { IfOk result (λ copy. copy ≡ items.now) }
+    {
+        Ok(Sequence {
+            items: Vec::from_slice(alloc, items)?,
+        })
     }
 
     /// The items, in order.

@@ -5,7 +5,6 @@
 #![tactic(auto)]
 
 mod between;
-mod copies;
 mod floors;
 mod flows;
 mod found;

@@ -4,7 +4,6 @@ ghost use Rattle.std.specs.List.{AllByRecursion, enumerate_from, range_with_len}
 ghost use Rattle.cq_resume.specs.Terms.{slots_of, IsTally, output_told, taken_of, BuffersStand, IsFound, IsNameBefore, IsNoLaterInput, Switch, CanTakeUp, departed, figures_at_input, longer, with_departure};
 
 use crate::between::between;
-use crate::copies::copied;
 use crate::found::{Found, Gone, Name, names_at};
 use crate::packets::Tally;
 use crate::slack::buffer_at;
@@ -56,8 +55,8 @@ fn queues_of(
     let mut lists = Vec::new(alloc);
     let mut buffers = Vec::new(alloc);
     'ports: for port in 0..ports {
-        let list = copied(alloc, list_at(listed, port))?;
-        let buffer = copied(alloc, buffer_at(buffered, port))?;
+        let list = Sequence::copy_of(alloc, list_at(listed, port))?;
+        let buffer = Sequence::copy_of(alloc, buffer_at(buffered, port))?;
         lists.push(list)?;
         buffers.push(buffer)?;
     }

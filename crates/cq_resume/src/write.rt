@@ -4,7 +4,6 @@ ghost use Rattle.std.specs.List.{flat_map};
 ghost use Rattle.cq_resume.specs.Terms.{named_as, seen_as, sent_as, state_of, told_by, IsTooLong, state_text};
 
 use crate::Frozen;
-use crate::copies::copied;
 use cq_base::{Departure, InputFigures, NoMemory, Port, Queued, Sequence, Transfer};
 use cq_state::{Head, Named, Seen, Sent, State, StateLong, text_of};
 use std::alloc::{AllocError, Global};
@@ -60,7 +59,7 @@ fn all_numbers(
 {
     let mut copies = Vec::new(alloc);
     'outputs: for output in 0..ranks.len() {
-        let copy = copied(alloc, ranks[output].as_slice())?;
+        let copy = Sequence::copy_of(alloc, ranks[output].as_slice())?;
         copies.push(copy)?;
     }
     Ok(Sequence::of(copies))
@@ -110,7 +109,7 @@ fn told(
         listed: all_named(alloc, frozen.lists.as_slice())?,
         buffered: all_named(alloc, frozen.buffers.as_slice())?,
         sent: Sequence::of(all_sent(alloc, sent)?),
-        moved: copied(alloc, note)?,
+        moved: Sequence::copy_of(alloc, note)?,
     })
 }
 

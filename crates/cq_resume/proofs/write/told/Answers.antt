@@ -4,4 +4,4 @@ use Rattle.cq_state.proofs.OneText.{of_parts}
 
 -- part by part
 pub returns : goal.returns
-returns c = search (arith, rules, flat_map, of_parts, c.in_ok-copied.ensures)
+returns c = search (arith, rules, flat_map, of_parts, c.in_ok-copy_of.ensures)
