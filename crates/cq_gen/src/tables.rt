@@ -5,7 +5,7 @@ ghost use Rattle.cq_gen.specs.Tables.{soak_address, soak_class, soak_kind, soak_
 
 use crate::packets::{SLOT, output_address};
 use cq_base::{ClassRow, Kind, Name, NoMemory, Port, Sequence, Setup};
-use cq_route::{AddressRow, PortRow, RuleRow, Tables};
+use cq_route::{AddressRow, DEFAULT_CELL_BYTES, DEFAULT_LIMIT_BYTES, PortRow, RuleRow, Tables};
 use std::alloc::{AllocError, Global};
 
 // As many classes as a tag has priorities.
@@ -18,9 +18,9 @@ pub fn soak_tables(alloc: Global, ports: Port) -> Result<Tables, NoMemory>
     ensures { IfOk result (λ tables. tables ≡ soak_tables ports) }
 {
     Ok(Tables {
-        cell_bytes: 64,
+        cell_bytes: DEFAULT_CELL_BYTES as u32,
         slot_ns: SLOT,
-        limit_bytes: 67_108_864,
+        limit_bytes: DEFAULT_LIMIT_BYTES,
         workers: 2,
         default_output: 0,
         default_class: 0,

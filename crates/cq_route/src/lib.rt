@@ -4,9 +4,14 @@
 //! what it means that they are in range, and the route of a packet.
 #![tactic(auto)]
 
+mod defaults;
 mod directory;
 mod route;
 mod tables;
 
+pub use defaults::{
+    DEFAULT_CELL_BYTES, DEFAULT_COST, DEFAULT_LEVEL, DEFAULT_LIMIT_BYTES, DEFAULT_PRIORITY,
+    DEFAULT_SLOT_NS, DEFAULT_WORKERS,
+};
 pub use directory::Directory;
 pub use tables::{AddressRow, PortRow, RuleRow, Tables};

@@ -3,6 +3,10 @@ ghost use Rattle.std.specs.Prelude.{◌≡◌, IfOk};
 ghost use Rattle.cq_route.specs.Plain.{plain_ports, plain_setup, plain_tables};
 ghost use Rattle.cq_route.specs.Tables.{AreTables};
 
+use crate::{
+    DEFAULT_CELL_BYTES, DEFAULT_COST, DEFAULT_LEVEL, DEFAULT_LIMIT_BYTES, DEFAULT_PRIORITY,
+    DEFAULT_SLOT_NS, DEFAULT_WORKERS,
+};
 use cq_base::{Class, ClassRow, Kind, Name, NoMemory, Port, Sequence, Setup};
 use std::alloc::Global;
 
@@ -82,10 +86,10 @@ impl Tables {
         ensures in_range { IfOk result (λ tables. AreTables tables) }
     {
         Ok(Tables {
-            cell_bytes: 64,
-            slot_ns: 512,
-            limit_bytes: 67_108_864,
-            workers: 1,
+            cell_bytes: DEFAULT_CELL_BYTES as u32,
+            slot_ns: DEFAULT_SLOT_NS,
+            limit_bytes: DEFAULT_LIMIT_BYTES,
+            workers: DEFAULT_WORKERS as u16,
             default_output: 0,
             default_class: 0,
             trace: Name::of(alloc, "")?,
@@ -104,9 +108,9 @@ fn plain_setup(alloc: Global) -> Result<Setup, NoMemory>
     ensures { IfOk result (λ setup. setup ≡ plain_setup) }
 {
     let class = ClassRow {
-        level: 0,
-        priority: 0,
-        cost: 1,
+        level: DEFAULT_LEVEL as u8,
+        priority: DEFAULT_PRIORITY,
+        cost: DEFAULT_COST,
     };
     Ok(Setup {
         classes: Sequence::of(Vec::from_array(alloc, [class])?),

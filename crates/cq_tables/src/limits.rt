@@ -1,5 +1,10 @@
 //! The limits of what a configuration says, and what stands where it says nothing.
 
+pub use cq_route::{
+    DEFAULT_CELL_BYTES, DEFAULT_COST, DEFAULT_LEVEL, DEFAULT_LIMIT_BYTES, DEFAULT_PRIORITY,
+    DEFAULT_SLOT_NS, DEFAULT_WORKERS,
+};
+
 /// The first version of a configuration.
 pub const FIRST_VERSION: u64 = 1;
 
@@ -9,14 +14,8 @@ pub const LAST_VERSION: u64 = 2;
 /// The most bytes of a packet that one cell carries.
 pub const MOST_CELL_BYTES: u64 = 65_535;
 
-/// The bytes of a cell where none are stated.
-pub const DEFAULT_CELL_BYTES: u64 = 64;
-
 /// The most nanoseconds of a slot: one second.
 pub const MOST_SLOT_NS: u64 = 1_000_000_000;
-
-/// The nanoseconds of a slot where none are stated.
-pub const DEFAULT_SLOT_NS: u64 = 512;
 
 /// The least limit of a capture in bytes: the header of its file.
 pub const LEAST_LIMIT_BYTES: u64 = 24;
@@ -24,14 +23,8 @@ pub const LEAST_LIMIT_BYTES: u64 = 24;
 /// The greatest limit of a capture in bytes.
 pub const MOST_LIMIT_BYTES: u64 = 268_435_456;
 
-/// The limit of a capture in bytes where none is stated.
-pub const DEFAULT_LIMIT_BYTES: u64 = 67_108_864;
-
 /// The most workers.
 pub const MOST_WORKERS: u64 = 64;
-
-/// The workers where none are stated.
-pub const DEFAULT_WORKERS: u64 = 1;
 
 /// The most classes.
 pub const MOST_CLASSES: usize = 16;
@@ -57,17 +50,8 @@ pub const MOST_RULES: usize = 256;
 /// The greatest level of a class, since they count from 0.
 pub const GREATEST_LEVEL: u64 = 15;
 
-/// The level of a class where none is stated.
-pub const DEFAULT_LEVEL: u64 = 0;
-
-/// The priority of a class where none is stated.
-pub const DEFAULT_PRIORITY: u128 = 0;
-
 /// The least cost of a class.
 pub const LEAST_COST: u128 = 1;
-
-/// The cost of a class where none is stated.
-pub const DEFAULT_COST: u128 = 1;
 
 /// The greatest priority code point (IEEE 802.1Q), of three bits.
 pub const GREATEST_PCP: u64 = 7;
