@@ -25,7 +25,7 @@ pub struct OutputFigures {
 /// What was seen of a run.
 #[derive(Drop)]
 pub struct Figures {
-    /// One more than the last slot with a departure, or 0 where there was none.
+    /// How many slots there are up to the last one in which a cell departed, that one included; 0 where none did.
     pub slots: u64,
     /// The proposals of all phases.
     pub proposals: u64,

@@ -87,10 +87,10 @@ impl Ledger {
     }
 
     /// The input in the seat's hand proposes to the next output of its order: one atomic step on that output's
-    /// word. Held comes exactly where the word was the number of ports, and the hand is empty then. Displaced
-    /// comes exactly where it was the greater position of another input: the hand has that one, at the place
-    /// after this output. Rejected comes exactly where it was a lesser position: the input goes on to its next
-    /// place. A hand whose input has no output left is empty. The seat made one proposal more, and never more
+    /// word. Held: nobody had proposed to that output, so its word was the number of ports, and the hand is empty
+    /// then. Displaced: another input stood there at a greater position, and the hand takes it up, behind this output
+    /// in its order. Rejected: a lesser position stood there, and the hand keeps its input, which moves on by one
+    /// place. Each comes in that case alone. A hand whose input has no output left is empty. The seat made one proposal more, and never more
     /// than the number of ports squared. Its view keeps the input that proposed and the answer, also where the hand
     /// ends empty.
     pub fn propose(&self, seat: &mut LedgerSeat) -> Outcome

@@ -34,8 +34,8 @@ pub fn reading_is_by_the_grammar()
         → packets_of bytes ≡ Err fault → IsFaulty bytes fault }
 {}
 
-/// What is written of packets with stamps below 2^32 seconds is read again as the same stamps, original
-/// lengths and bodies.
+/// Where the stamps of packets are below 2^32 seconds, reading what is written of them gives their stamps,
+/// original lengths and bodies back.
 pub fn written_is_spelt()
     ensures { (packets : List OutPacket)
         → AllByRecursion IsWritable packets

@@ -157,7 +157,7 @@ fn outputs_of(
     Ok(Sequence::of(outputs))
 }
 
-// One more than the last slot with a departure, or 0 where there is none.
+// How many slots there are up to the last one in which a cell departed, that one included; 0 where none did.
 fn slots_of(sent: &[Departure]) -> Slot
     requires rising { AllPairs (λ d e. d.slot ≤ e.slot) sent.now }
     requires low { AllByRecursion (λ d. d.slot < 2 ^ 63) sent.now }
