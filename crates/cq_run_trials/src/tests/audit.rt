@@ -30,37 +30,48 @@ fn the_log_of_two_cells_for_one_output_is_read(rt: HostRuntime) {
     assert!(rt; is_read_as(rt.alloc(), LOG, &[crossing(1, 0, 0), crossing(2, 1, 0)]));
 }
 
-#[test]
-fn a_log_is_refused_at_its_first_wrong_line(rt: HostRuntime) {
-    let alloc = rt.alloc();
-    let cases: [(&[u8], Option<u64>); 9] = [
-        (b"", None),
-        (b"0 1 0 0 0\n0 2 1 0 0 0\n", Some(1)),
-        (b"0 1 0 0 0 0\n0 2 1 0 0 0", Some(2)),
-        (b"0 1 0 0 0 0\n0 1 0 0 0 0\n", Some(2)),
-        (b"0 2 0 0 0 0\n0 1 1 0 0 0\n", Some(2)),
-        (b"0 1 2 0 0 0\n", Some(1)),
-        (b"0 3 0 0 0 0\n", Some(1)),
-        (b"18446744073709551616 1 0 0 0 0\n", Some(1)),
-        (b"0 1 0 0 0 -\n", Some(1)),
-    ];
-    for (log, line) in cases {
-        let refusal = line.map(|line| LineRefusal::Line { line });
-        assert!(rt; read_log(alloc, log, 2).err() == refusal, "{log:?}");
+// Logs of a switch of two ports, and the first wrong line of each.
+const LOGS: &[(&[u8], Option<u64>)] = &[
+    (b"", None),
+    (b"0 1 0 0 0\n0 2 1 0 0 0\n", Some(1)),
+    (b"0 1 0 0 0 0\n0 2 1 0 0 0", Some(2)),
+    (b"0 1 0 0 0 0\n0 1 0 0 0 0\n", Some(2)),
+    (b"0 2 0 0 0 0\n0 1 1 0 0 0\n", Some(2)),
+    (b"0 1 2 0 0 0\n", Some(1)),
+    (b"0 3 0 0 0 0\n", Some(1)),
+    (b"18446744073709551616 1 0 0 0 0\n", Some(1)),
+    (b"0 1 0 0 0 -\n", Some(1)),
+];
+
+// Whether a log is refused at this line, or read where none is wrong.
+fn is_refused_at(alloc: Global, log: &[u8], line: Option<u64>) -> bool {
+    match read_log(alloc, log, 2) {
+        Ok(_) => line.is_none(),
+        Err(LineRefusal::Line { line: at }) => line == Some(at),
+        Err(LineRefusal::NoMemory) => false,
     }
 }
 
 #[test]
+fn a_log_is_refused_at_its_first_wrong_line(rt: HostRuntime) {
+    for (log, line) in LOGS {
+        assert!(rt; is_refused_at(rt.alloc(), log, *line), "{log:?}");
+    }
+}
+
+// Traces, and the first line of each that is other than in the worked one.
+const TRACES: &[(&[u8], Option<u64>)] = &[
+    (TRACE, None),
+    (b"0 0 0 0 0\n1 0 1 0 1\n", Some(2)),
+    (b"0 0 0 0 0\n", Some(2)),
+    (b"0 0 0 0 0\n1 0 1 0 0", Some(2)),
+    (b"0 0 0 0 0\n1 0 1 0 0\n2 0 0 1 0\n", Some(3)),
+];
+
+#[test]
 fn a_trace_differs_in_its_first_line_that_is_other(rt: HostRuntime) {
-    let cases: [(&[u8], Option<u64>); 5] = [
-        (TRACE, None),
-        (b"0 0 0 0 0\n1 0 1 0 1\n", Some(2)),
-        (b"0 0 0 0 0\n", Some(2)),
-        (b"0 0 0 0 0\n1 0 1 0 0", Some(2)),
-        (b"0 0 0 0 0\n1 0 1 0 0\n2 0 0 1 0\n", Some(3)),
-    ];
-    for (trace, line) in cases {
-        assert!(rt; audit_trace(trace, TRACE) == line, "{trace:?}");
+    for (trace, line) in TRACES {
+        assert!(rt; audit_trace(trace, TRACE) == *line, "{trace:?}");
     }
 }
 
@@ -101,20 +112,36 @@ fn verdict(lists: &[InputList], offers: &Offers, lines: &[Transfer]) -> Option<P
 
 // Whether a phase of two inputs, in each of which a cell for output zero waits, is refused at its first wrong line,
 // or at its first pair that is not settled.
+fn are_told(lists: &[InputList], offers: &Offers) -> bool
+    requires lists { length lists.now ≡ 2 }
+    requires offers { offers.now ≡ orders_of (cells_of lists.now) }
+{
+    let first = crossing(1, 0, 0);
+    let second = crossing(1, 1, 0);
+    let unsettled = Some(PhaseFault::Blocking(0, 0));
+    let verdicts = [
+        verdict(lists, offers, &[first]),
+        verdict(lists, offers, &[]),
+        verdict(lists, offers, &[second]),
+        verdict(lists, offers, &[crossing(1, 0, 1)]),
+        verdict(lists, offers, &[first, second]),
+    ];
+    verdicts
+        == [
+            None,
+            unsettled,
+            unsettled,
+            Some(PhaseFault::WrongLine(0)),
+            Some(PhaseFault::WrongLine(1)),
+        ]
+}
+
+// Whether it is, with the lists and the offers of that phase.
 fn phases_are_told(alloc: Global) -> Result<bool, NoMemory> {
     let lists = [one_waits(alloc, 0)?, one_waits(alloc, 1)?];
     let mut offers = Offers::new(alloc, 2)?;
     offers.fill(&lists);
-    let first = crossing(1, 0, 0);
-    let second = crossing(1, 1, 0);
-    let unsettled = Some(PhaseFault::Blocking(0, 0));
-    Ok(
-        verdict(&lists, &offers, &[first]) == None
-            && verdict(&lists, &offers, &[]) == unsettled
-            && verdict(&lists, &offers, &[second]) == unsettled
-            && verdict(&lists, &offers, &[crossing(1, 0, 1)]) == Some(PhaseFault::WrongLine(0))
-            && verdict(&lists, &offers, &[first, second]) == Some(PhaseFault::WrongLine(1)),
-    )
+    Ok(are_told(&lists, &offers))
 }
 
 #[test]
@@ -125,16 +152,14 @@ fn a_phase_is_refused_at_its_first_wrong_line_or_first_unsettled_pair(
     Ok(())
 }
 
-#[test]
-fn the_lines_of_a_phase_stand_at_the_front(rt: HostRuntime) {
-    let lines = [crossing(1, 0, 0), crossing(1, 1, 1)];
-    for (phase, first, behind) in [(1, 2, 0), (2, 0, 2)] {
-        assert!(rt; parts_into(&lines, phase, first, behind), "{phase}");
-    }
-}
-
 // Whether so many lines are of the phase, and so many stand behind them.
 fn parts_into(lines: &[Transfer], phase: u8, first: usize, behind: usize) -> bool {
     let (of_phase, others) = part(lines, 0, phase);
     of_phase.len() == first && others.len() == behind
+}
+
+#[test]
+fn the_lines_of_a_phase_stand_at_the_front(rt: HostRuntime) {
+    let lines = [crossing(1, 0, 0), crossing(1, 1, 1)];
+    assert!(rt; parts_into(&lines, 1, 2, 0) && parts_into(&lines, 2, 0, 2));
 }

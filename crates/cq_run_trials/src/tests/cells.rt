@@ -1,9 +1,11 @@
 //! Captures, and the slots in which their cells arrive.
 ghost use Rattle.std.specs.Prelude.{◌≡◌, IfOk, IfSome};
+ghost use Rattle.cq_route.specs.Tables.{AreTables, ports_of};
 
 use super::given::{Come, captures_of, one_port, three_ports};
-use cq_base::{Arrivals, NoMemory, Port, Slot};
+use cq_base::{Arrivals, Cell, NoMemory, Port, Slot};
 use cq_cells::{Coming, Schedule, cells_of};
+use cq_route::Tables;
 use std::alloc::Global;
 use std::test::Fail;
 use std::thread::Threads;
@@ -26,6 +28,49 @@ fn a_packet_has_as_many_cells_as_it_needs(rt: HostRuntime) {
     }
 }
 
+// The slots of what comes to so many ports, those of the tables, where all of it can be read.
+fn schedule_for<R: Threads + Sync>(
+    rt: &R,
+    alloc: Global,
+    tables: &Tables,
+    ports: u16,
+    inputs: &[&[Come]],
+) -> Result<Option<Schedule>, NoMemory>
+    requires tables { AreTables tables.now }
+    requires ports { ports_of tables.now.setup ≡ ports }
+    ensures { IfOk result (λ found. IfSome found (λ schedule. schedule.ports ≡ ports)) }
+{
+    let captures = captures_of(alloc, inputs)?;
+    if captures.len() != usize::from(ports) {
+        return Ok(None);
+    }
+    Ok(Some(Schedule::of(rt, alloc, &captures, tables)?))
+}
+
+// The slots of what comes to one port.
+fn at_one_port<R: Threads + Sync>(
+    rt: &R,
+    alloc: Global,
+    packets: &[Come],
+) -> Result<Option<Schedule>, NoMemory>
+    ensures { IfOk result (λ found. IfSome found (λ schedule. schedule.ports ≡ 1)) }
+{
+    let tables = one_port(alloc)?;
+    schedule_for(rt, alloc, &tables, 1, &[packets])
+}
+
+// The slots of what comes to three ports.
+fn at_three_ports<R: Threads + Sync>(
+    rt: &R,
+    alloc: Global,
+    inputs: &[&[Come]],
+) -> Result<Option<Schedule>, NoMemory>
+    ensures { IfOk result (λ found. IfSome found (λ schedule. schedule.ports ≡ 3)) }
+{
+    let tables = three_ports(alloc, None)?;
+    schedule_for(rt, alloc, &tables, 3, inputs)
+}
+
 // Of the cell that arrives in a slot its packet, its number, where its piece begins, how long it is, and whether it is
 // the last.
 type Piece = (u32, u32, u32, u32, bool);
@@ -38,63 +83,76 @@ fn arrives_at_one_port<R: Threads + Sync>(
     slot: Slot,
     piece: Option<Piece>,
 ) -> Result<bool, NoMemory> {
-    let tables = one_port(alloc)?;
-    let captures = captures_of(alloc, &[packets])?;
-    if captures.len() != 1 {
-        return Ok(false);
+    match at_one_port(rt, alloc, packets)? {
+        Some(schedule) => {
+            let cell = schedule.cell_at(slot, 0);
+            Ok(cell.map(|c| (c.id.packet, c.id.index, c.at, c.len, c.last)) == piece)
+        }
+        None => Ok(false),
     }
-    let schedule = Schedule::of(rt, alloc, &captures, &tables)?;
-    let cell = schedule.cell_at(slot, 0);
-    Ok(cell.map(|c| (c.id.packet, c.id.index, c.at, c.len, c.last)) == piece)
 }
+
+const TOGETHER: &[Come] = &[(0, 64, 0), (0, 65, 0), (0, 128, 0)];
+
+const TURNED: &[Come] = &[(2048, 60, 0), (0, 60, 0)];
+
+const CROWDED: &[Come] = &[(0, 200, 0), (512, 60, 0)];
+
+// Packets, a slot, and what arrives in it.
+const PIECES: &[(&[Come], Slot, Option<Piece>)] = &[
+    (TOGETHER, 0, Some((0, 0, 0, 64, true))),
+    (TOGETHER, 1, Some((1, 0, 0, 64, false))),
+    (TOGETHER, 2, Some((1, 1, 64, 1, true))),
+    (TOGETHER, 3, Some((2, 0, 0, 64, false))),
+    (TOGETHER, 4, Some((2, 1, 64, 64, true))),
+    (TOGETHER, 5, None),
+    (TURNED, 0, None),
+    (TURNED, 3, None),
+    (TURNED, 4, Some((0, 0, 0, 60, true))),
+    (TURNED, 5, Some((1, 0, 0, 60, true))),
+    (TURNED, 6, None),
+    (CROWDED, 3, Some((0, 3, 192, 8, true))),
+    (CROWDED, 4, Some((1, 0, 0, 60, true))),
+    (&[], 0, None),
+];
 
 #[test]
 fn cells_arrive_one_a_slot_from_the_slot_of_their_stamp_on(rt: HostRuntime) -> Result<(), Fail> {
-    let together = [(0, 64, 0), (0, 65, 0), (0, 128, 0)];
-    let turned = [(2048, 60, 0), (0, 60, 0)];
-    let crowded = [(0, 200, 0), (512, 60, 0)];
-    let cases = [
-        (&together[..], 0, Some((0, 0, 0, 64, true))),
-        (&together[..], 1, Some((1, 0, 0, 64, false))),
-        (&together[..], 2, Some((1, 1, 64, 1, true))),
-        (&together[..], 3, Some((2, 0, 0, 64, false))),
-        (&together[..], 4, Some((2, 1, 64, 64, true))),
-        (&together[..], 5, None),
-        (&turned[..], 0, None),
-        (&turned[..], 3, None),
-        (&turned[..], 4, Some((0, 0, 0, 60, true))),
-        (&turned[..], 5, Some((1, 0, 0, 60, true))),
-        (&turned[..], 6, None),
-        (&crowded[..], 3, Some((0, 3, 192, 8, true))),
-        (&crowded[..], 4, Some((1, 0, 0, 60, true))),
-        (&[], 0, None),
-    ];
-    for (packets, slot, piece) in cases {
+    for (packets, slot, piece) in PIECES {
         assert!(rt;
-            arrives_at_one_port(&rt, rt.alloc(), packets, slot, piece)?,
+            arrives_at_one_port(&rt, rt.alloc(), packets, *slot, *piece)?,
             "{packets:?} {slot}"
         );
     }
     Ok(())
 }
 
-// Of the cell that arrives at each of three inputs its packet and its output.
-type AtThree = [Option<(u32, Port)>; 3];
+// Of a cell that arrives its packet and its output.
+type Arrived = Option<(u32, Port)>;
 
-fn arrive(arrivals: &Arrivals, told: AtThree) -> bool {
-    (0..3_u16).all(|input| {
-        let cell = arrivals.at(input);
-        cell.map(|c| (c.id.packet, c.output)) == told[input as usize]
-    })
+fn arrived(cell: Option<Cell>) -> Arrived {
+    cell.map(|cell| (cell.id.packet, cell.output))
+}
+
+// Whether these arrive at the three inputs.
+fn arrive(arrivals: &Arrivals, told: [Arrived; 3]) -> bool {
+    [
+        arrived(arrivals.at(0)),
+        arrived(arrivals.at(1)),
+        arrived(arrivals.at(2)),
+    ] == told
 }
 
 // Whether these arrive in slot after slot, where a slot is looked up and where it is filled in place.
-fn arrive_in_turn(schedule: &Schedule, slots: &[(Slot, AtThree)]) -> bool {
+fn arrive_in_turn(schedule: &Schedule, slots: &[(Slot, [Arrived; 3])]) -> bool {
     let mut coming = Coming::none();
-    slots.iter().all(|(slot, told)| {
+    for (slot, told) in slots {
         schedule.arrive(*slot, &mut coming);
-        arrive(&schedule.arrivals_at(*slot), *told) && arrive(coming.arrivals(), *told)
-    })
+        if !arrive(&schedule.arrivals_at(*slot), *told) || !arrive(coming.arrivals(), *told) {
+            return false;
+        }
+    }
+    true
 }
 
 // Whether four cells, two of them of input two, arrive up to slot two, three for output zero and one for output one.
@@ -110,48 +168,30 @@ fn has_counts(schedule: &Schedule) -> bool
         ) == (3, 1, 0)
 }
 
-// The slots of what comes to three ports, where all of it can be read.
-fn at_three_ports<R: Threads + Sync>(
-    rt: &R,
-    alloc: Global,
-    inputs: &[&[Come]],
-) -> Result<Option<Schedule>, NoMemory>
-    ensures { IfOk result (λ found. IfSome found (λ schedule. schedule.ports ≡ 3)) }
-{
-    let tables = three_ports(alloc)?;
-    let captures = captures_of(alloc, inputs)?;
-    if captures.len() != 3 {
-        return Ok(None);
-    }
-    Ok(Some(Schedule::of(rt, alloc, &captures, &tables)?))
-}
+// What comes to three ports.
+const INPUTS: &[&[Come]] = &[
+    &[(1024, 60, 0)],
+    &[(1024, 60, 0)],
+    &[(1024, 60, 0), (1536, 60, 1)],
+];
 
-// Whether at three ports these arrive in slot after slot, and as many in all.
-fn arrive_at_three_ports<R: Threads + Sync>(
-    rt: &R,
-    alloc: Global,
-    slots: &[(Slot, AtThree)],
-) -> Result<bool, NoMemory> {
-    let inputs: [&[Come]; 3] = [
-        &[(1024, 60, 0)],
-        &[(1024, 60, 0)],
-        &[(1024, 60, 0), (1536, 60, 1)],
-    ];
-    match at_three_ports(rt, alloc, &inputs)? {
-        Some(schedule) => Ok(arrive_in_turn(&schedule, slots) && has_counts(&schedule)),
-        None => Ok(false),
-    }
-}
-
-#[test]
-fn each_input_has_its_own_packets(rt: HostRuntime) -> Result<(), Fail> {
+// Whether it arrives in slot after slot, and the first again, and as many cells in all.
+fn arrive_at_three_ports<R: Threads + Sync>(rt: &R, alloc: Global) -> Result<bool, NoMemory> {
     let slots = [
         (0, [Some((0, 0)), Some((0, 0)), Some((0, 0))]),
         (1, [None, None, Some((1, 1))]),
         (2, [None, None, None]),
         (0, [Some((0, 0)), Some((0, 0)), Some((0, 0))]),
     ];
-    assert!(rt; arrive_at_three_ports(&rt, rt.alloc(), &slots)?);
+    match at_three_ports(rt, alloc, INPUTS)? {
+        Some(schedule) => Ok(arrive_in_turn(&schedule, &slots) && has_counts(&schedule)),
+        None => Ok(false),
+    }
+}
+
+#[test]
+fn each_input_has_its_own_packets(rt: HostRuntime) -> Result<(), Fail> {
+    assert!(rt; arrive_at_three_ports(&rt, rt.alloc())?);
     Ok(())
 }
 
@@ -164,19 +204,6 @@ fn many_packets(alloc: Global) -> Result<Vec<Come>, NoMemory> {
     Ok(packets)
 }
 
-// Whether each of many packets goes to its own output: these in their slots, and so many in all.
-fn many_are_routed<R: Threads + Sync>(
-    rt: &R,
-    alloc: Global,
-    slots: &[(Slot, Port)],
-) -> Result<bool, NoMemory> {
-    let packets = many_packets(alloc)?;
-    match at_three_ports(rt, alloc, &[packets.as_slice(), &[], &[]])? {
-        Some(schedule) => Ok(has_many(&schedule) && are_for(&schedule, slots)),
-        None => Ok(false),
-    }
-}
-
 // Whether all of them are counted, also by their outputs.
 fn has_many(schedule: &Schedule) -> bool
     requires { schedule.now.ports ≡ 3 }
@@ -185,20 +212,34 @@ fn has_many(schedule: &Schedule) -> bool
     (schedule.total(), schedule.end()) == (16384, 16384) && outputs == (10923, 5461)
 }
 
-// Whether the cells that arrive at input zero in these slots are for these outputs.
-fn are_for(schedule: &Schedule, slots: &[(Slot, Port)]) -> bool
+// Packets, each of which arrives in the slot of its number, and their outputs.
+const ROUTES: &[(u32, Port)] = &[(0, 0), (1, 1), (8191, 1), (8192, 0), (16382, 0), (16383, 0)];
+
+// Whether each of these arrives so at input zero.
+fn has_routes(schedule: &Schedule) -> bool
     requires { schedule.now.ports ≡ 3 }
 {
-    slots.iter().all(|(slot, output)| {
-        let cell = schedule.cell_at(*slot, 0);
-        cell.map(|c| c.output) == Some(*output)
-    })
+    for (packet, output) in ROUTES {
+        if arrived(schedule.cell_at(u64::from(*packet), 0)) != Some((*packet, *output)) {
+            return false;
+        }
+    }
+    true
+}
+
+// Whether each of many packets goes to its own output.
+fn many_are_routed<R: Threads + Sync>(rt: &R, alloc: Global) -> Result<bool, NoMemory> {
+    let packets = many_packets(alloc)?;
+    let inputs = [packets.as_slice(), &[], &[]];
+    match at_three_ports(rt, alloc, &inputs)? {
+        Some(schedule) => Ok(has_many(&schedule) && has_routes(&schedule)),
+        None => Ok(false),
+    }
 }
 
 // A capture this long is split among threads.
 #[test]
 fn each_of_many_packets_has_its_own_route(rt: HostRuntime) -> Result<(), Fail> {
-    let slots = [(0, 0), (1, 1), (8191, 1), (8192, 0), (16382, 0), (16383, 0)];
-    assert!(rt; many_are_routed(&rt, rt.alloc(), &slots)?);
+    assert!(rt; many_are_routed(&rt, rt.alloc())?);
     Ok(())
 }

@@ -1,5 +1,5 @@
 //! What trials begin with: small captures, and switches of one and three ports.
-ghost use Rattle.std.specs.Prelude.{◌≡◌, IfOk, length};
+ghost use Rattle.std.specs.Prelude.{◌≡◌, ◌≤◌, IfOk, IfSome, length};
 ghost use Rattle.cq_route.specs.Tables.{AreTables, ports_of};
 
 use cq_base::{Kind, Name, NoMemory, Sequence};
@@ -77,16 +77,17 @@ fn three_files(alloc: Global) -> Result<Vec<PortRow>, NoMemory>
     ensures { IfOk result (λ files. length files.items ≡ 3) }
 {
     let mut files = Vec::new(alloc);
-    files.push(file(alloc)?)?;
-    files.push(file(alloc)?)?;
-    files.push(file(alloc)?)?;
+    'files: for _ in 0..3u16 {
+        files.push(file(alloc)?)?;
+    }
     Ok(files)
 }
 
-/// Three ports that send in the order of arrival, and two workers. Frames to address one go to output one, all others
-/// to output zero.
+/// Three ports that send in the order of arrival, the first of which has this limit, and two workers. Frames to address
+/// one go to output one, all others to output zero.
 #[tactic(auto, unfolding(cq_route::specs::Plain::plain_tables))]
-pub fn three_ports(alloc: Global) -> Result<Tables, NoMemory>
+pub fn three_ports(alloc: Global, limit: Option<u64>) -> Result<Tables, NoMemory>
+    requires { IfSome limit (λ n. 1 ≤ n) }
     ensures in_range { IfOk result (λ tables. AreTables tables) }
     ensures ports { IfOk result (λ tables. ports_of tables.setup ≡ 3) }
 {
@@ -94,11 +95,15 @@ pub fn three_ports(alloc: Global) -> Result<Tables, NoMemory>
         mac: [0x02, 0, 0, 0, 0, 1],
         output: 1,
     };
+    let kinds = Vec::from_array(alloc, [Kind::FirstCome; 3])?;
+    let files = three_files(alloc)?;
+    let limits = Vec::from_array(alloc, [limit, None, None])?;
+    let addresses = Vec::from_array(alloc, [one])?;
     let mut tables = Tables::plain(alloc, "in", "out")?;
-    tables.setup.kinds = Sequence::of(Vec::from_array(alloc, [Kind::FirstCome; 3])?);
-    tables.ports = Sequence::of(three_files(alloc)?);
-    tables.limits = Sequence::of(Vec::from_array(alloc, [None; 3])?);
-    tables.addresses = Sequence::of(Vec::from_array(alloc, [one])?);
+    tables.setup.kinds = Sequence::of(kinds);
+    tables.ports = Sequence::of(files);
+    tables.limits = Sequence::of(limits);
+    tables.addresses = Sequence::of(addresses);
     tables.workers = 2;
     Ok(tables)
 }

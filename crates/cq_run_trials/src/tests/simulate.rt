@@ -1,6 +1,8 @@
 //! Small captures through switches of one and three ports.
 ghost use Rattle.std.specs.Prelude.{◌≡◌, ◌<◌, IfOk, length};
 ghost use Rattle.cq_route.specs.Tables.{AreTables, ports_of};
+ghost use Rattle.cq_cells.specs.Scheduled.{schedule_of};
+ghost use Rattle.cq_simulate.specs.ScheduleFor.{IsScheduleFor};
 
 use super::given::{Come, captures_of, one_port, three_ports};
 use cq_base::{ClassRow, Departure, Kind, NoMemory, Port, Sequence, TagFault, Transfer};
@@ -9,8 +11,7 @@ use cq_crew::OpenGate;
 use cq_pcap::{Capture, OutPacket, PacketRow, read_capture};
 use cq_route::Tables;
 use cq_simulate::{
-    FabricRun, IdealRun, Refused, RunRefusal, packets_of, packets_of_all, run_fabric, run_ideal,
-    run_ideal_packed,
+    Refused, RunRefusal, packets_of, packets_of_all, run_fabric, run_ideal, run_ideal_packed,
 };
 use std::alloc::Global;
 use std::test::Fail;
@@ -43,19 +44,10 @@ impl Switch {
         match self {
             Switch::OnePort => one_port(alloc),
             Switch::DearPort => dear_port(alloc),
-            Switch::ThreePorts => three_ports(alloc),
-            Switch::ThreeLimitedPorts => three_limited_ports(alloc),
+            Switch::ThreePorts => three_ports(alloc, None),
+            Switch::ThreeLimitedPorts => three_ports(alloc, Some(1)),
         }
     }
-}
-
-#[tactic(auto, unfolding(cq_route::specs::Plain::plain_tables))]
-fn three_limited_ports(alloc: Global) -> Result<Tables, NoMemory>
-    ensures in_range { IfOk result (λ tables. AreTables tables) }
-{
-    let mut tables = three_ports(alloc)?;
-    tables.limits = Sequence::of(Vec::from_array(alloc, [Some(1), None, None])?);
-    Ok(tables)
 }
 
 #[tactic(auto, unfolding(cq_route::specs::Plain::plain_tables))]
@@ -67,9 +59,11 @@ fn dear_port(alloc: Global) -> Result<Tables, NoMemory>
         priority: 0,
         cost: u128::MAX,
     };
+    let kinds = Vec::from_array(alloc, [Kind::Fair])?;
+    let classes = Vec::from_array(alloc, [class])?;
     let mut tables = Tables::plain(alloc, "in", "out")?;
-    tables.setup.kinds = Sequence::of(Vec::from_array(alloc, [Kind::Fair])?);
-    tables.setup.classes = Sequence::of(Vec::from_array(alloc, [class])?);
+    tables.setup.kinds = Sequence::of(kinds);
+    tables.setup.classes = Sequence::of(classes);
     Ok(tables)
 }
 
@@ -98,11 +92,24 @@ fn is_shown<R: Threads + Sync>(
     shown: Shown,
 ) -> Result<bool, NoMemory> {
     let tables = switch.tables(alloc)?;
+    is_shown_by(rt, alloc, &tables, inputs, shown)
+}
+
+// Whether the switch of these tables does.
+fn is_shown_by<R: Threads + Sync>(
+    rt: &R,
+    alloc: Global,
+    tables: &Tables,
+    inputs: &[&[Come]],
+    shown: Shown,
+) -> Result<bool, NoMemory>
+    requires { AreTables tables.now }
+{
     let captures = captures_of(alloc, inputs)?;
     if captures.len() != tables.setup.kinds.as_slice().len() {
         return Ok(false);
     }
-    match is_seen(rt, alloc, &tables, &captures, shown) {
+    match is_seen(rt, alloc, tables, &captures, shown) {
         Ok(seen) => Ok(seen),
         Err(RunRefusal::NoMemory) => Err(NoMemory),
         Err(RunRefusal::Tag(_)) => Ok(false),
@@ -120,85 +127,166 @@ fn is_seen<R: Threads + Sync>(
     requires tables { AreTables tables.now }
     requires captures { length captures.now ≡ ports_of tables.now.setup }
 {
-    if let Shown::Packets(output, left) = shown {
-        return puts_together(rt, alloc, tables, captures, output, left);
-    }
     let schedule = Schedule::of(rt, alloc, captures, tables)?;
-    let ideal = run_ideal(alloc, tables, &schedule);
-    let fabric = run_fabric(rt, alloc, tables, &schedule, &OpenGate);
-    if let Shown::Fault(fault) = shown {
-        let told = Some(RunRefusal::Tag(fault));
-        return Ok(ideal.err() == told && fabric.err() == told);
-    }
-    Ok(is_seen_ideally(&ideal?, shown) && is_kept(&fabric?, shown))
+    is_seen_over(rt, alloc, tables, captures, &schedule, shown)
 }
 
-// Whether the run of the ideal switch shows it, where that is to show something.
-fn is_seen_ideally(run: &IdealRun, shown: Shown) -> bool {
-    match shown {
-        Shown::Trace(slots, sent) => run.slots == slots && are(run.sent.items(), sent, sent_of),
-        _ => true,
-    }
-}
-
-// Whether the run of the fabric shows it.
-fn is_kept(run: &FabricRun, shown: Shown) -> bool {
-    match shown {
-        Shown::Trace(slots, sent) => run.figures.slots == slots
-            && are(run.sent.items(), sent, sent_of),
-        Shown::Log(proposals, log) => {
-            run.figures.proposals == proposals && are(run.note.items(), log, crossed_of)
-        }
-        Shown::Refused(refused) => run.refused.as_slice() == refused,
-        _ => false,
-    }
-}
-
-// Whether these packets leave the output, where they are put together for it alone, and where those of all outputs are
-// in one pass.
-fn puts_together<R: Threads + Sync>(
+// Whether it is seen in them over these slots, which are theirs.
+fn is_seen_over<R: Threads + Sync>(
     rt: &R,
     alloc: Global,
     tables: &Tables,
     captures: &[Capture],
+    schedule: &Schedule,
+    shown: Shown,
+) -> Result<bool, RunRefusal>
+    requires captures { length captures.now ≡ ports_of tables.now.setup }
+    requires came { schedule.now ≡ schedule_of tables.now captures.now }
+    requires schedule { IsScheduleFor tables.now schedule.now }
+{
+    if let Shown::Packets(output, left) = shown {
+        let apart = leave_alone(alloc, tables, captures, schedule, output, left)?;
+        return Ok(apart && leave_in_one_pass(alloc, tables, captures, schedule, output, left)?);
+    }
+    Ok(
+        is_seen_ideally(alloc, tables, schedule, shown)?
+            && is_kept(rt, alloc, tables, schedule, shown)?,
+    )
+}
+
+// Whether the run of the ideal switch shows it, where that is to show something.
+fn is_seen_ideally(
+    alloc: Global,
+    tables: &Tables,
+    schedule: &Schedule,
+    shown: Shown,
+) -> Result<bool, RunRefusal>
+    requires { IsScheduleFor tables.now schedule.now }
+{
+    if let Shown::Fault(fault) = shown {
+        let run = run_ideal(alloc, tables, schedule);
+        return Ok(run.err() == Some(RunRefusal::Tag(fault)));
+    }
+    let run = run_ideal(alloc, tables, schedule)?;
+    Ok(match shown {
+        Shown::Trace(slots, sent) => run.slots == slots && are(run.sent.items(), sent),
+        _ => true,
+    })
+}
+
+// Whether the run of the fabric shows it.
+fn is_kept<R: Threads + Sync>(
+    rt: &R,
+    alloc: Global,
+    tables: &Tables,
+    schedule: &Schedule,
+    shown: Shown,
+) -> Result<bool, RunRefusal>
+    requires { IsScheduleFor tables.now schedule.now }
+{
+    if let Shown::Fault(fault) = shown {
+        let run = run_fabric(rt, alloc, tables, schedule, &OpenGate);
+        return Ok(run.err() == Some(RunRefusal::Tag(fault)));
+    }
+    let run = run_fabric(rt, alloc, tables, schedule, &OpenGate)?;
+    Ok(match shown {
+        Shown::Trace(slots, sent) => run.figures.slots == slots && are(run.sent.items(), sent),
+        Shown::Log(proposals, log) => {
+            run.figures.proposals == proposals && are(run.note.items(), log)
+        }
+        Shown::Refused(refused) => run.refused.as_slice() == refused,
+        _ => false,
+    })
+}
+
+// Whether these packets leave the output, where they are put together for it alone.
+fn leave_alone(
+    alloc: Global,
+    tables: &Tables,
+    captures: &[Capture],
+    schedule: &Schedule,
     output: Port,
     left: &[Left],
 ) -> Result<bool, RunRefusal>
-    requires tables { AreTables tables.now }
     requires captures { length captures.now ≡ ports_of tables.now.setup }
+    requires came { schedule.now ≡ schedule_of tables.now captures.now }
+    requires schedule { IsScheduleFor tables.now schedule.now }
 {
-    let schedule = Schedule::of(rt, alloc, captures, tables)?;
-    let run = run_ideal(alloc, tables, &schedule)?;
+    let run = run_ideal(alloc, tables, schedule)?;
     let t0 = schedule.t0();
     let packets = packets_of(alloc, output, run.sent.items(), captures, tables, t0)?;
-    let sent = run_ideal_packed(alloc, tables, &schedule)?;
+    Ok(are(&packets, left))
+}
+
+// Whether these packets leave the output, where those of all outputs are put together in one pass.
+fn leave_in_one_pass(
+    alloc: Global,
+    tables: &Tables,
+    captures: &[Capture],
+    schedule: &Schedule,
+    output: Port,
+    left: &[Left],
+) -> Result<bool, RunRefusal>
+    requires captures { length captures.now ≡ ports_of tables.now.setup }
+    requires came { schedule.now ≡ schedule_of tables.now captures.now }
+    requires schedule { IsScheduleFor tables.now schedule.now }
+{
+    let sent = run_ideal_packed(alloc, tables, schedule)?;
+    let t0 = schedule.t0();
     let places = packets_of_all(alloc, sent, captures, tables, t0)?;
     match places.get(output as usize) {
-        Some(place) => Ok(are(&packets, left, left_of) && hold(alloc, &place.bytes, left)?),
+        Some(place) => Ok(hold(alloc, &place.bytes, left)?),
         None => Ok(false),
     }
 }
 
+// What can be told in short.
+trait IsTold<T> {
+    fn is(&self, told: &T) -> bool;
+}
+
+impl IsTold<Sent> for Departure {
+    fn is(&self, told: &Sent) -> bool {
+        let id = self.queued.cell.id;
+        (self.slot, self.output, id.input, id.packet, id.index) == *told
+    }
+}
+
+impl IsTold<Crossed> for Transfer {
+    fn is(&self, told: &Crossed) -> bool {
+        (
+            self.slot,
+            self.phase,
+            self.input,
+            self.output,
+            self.id.packet,
+        ) == *told
+    }
+}
+
+impl IsTold<Left> for OutPacket {
+    fn is(&self, told: &Left) -> bool {
+        (self.stamp, self.original, self.body.as_slice().len()) == *told
+    }
+}
+
+impl IsTold<Left> for PacketRow {
+    fn is(&self, told: &Left) -> bool {
+        (u128::from(self.stamp), self.original, self.len as usize) == *told
+    }
+}
+
 // Whether these are told so, one after the other.
-fn are<T, U: PartialEq + Drop, F: Fn(&T) -> U>(found: &[T], told: &[U], tell: F) -> bool
-    requires { F.IsAlwaysCallable tell }
-{
-    found.len() == told.len() && found.iter().zip(told).all(|(one, so)| tell(one) == *so)
-}
-
-fn sent_of(departure: &Departure) -> Sent {
-    let id = departure.queued.cell.id;
-    (
-        departure.slot,
-        departure.output,
-        id.input,
-        id.packet,
-        id.index,
-    )
-}
-
-fn crossed_of(t: &Transfer) -> Crossed {
-    (t.slot, t.phase, t.input, t.output, t.id.packet)
+fn are<T: IsTold<U>, U>(found: &[T], told: &[U]) -> bool {
+    if found.len() != told.len() {
+        return false;
+    }
+    for (one, so) in found.iter().zip(told) {
+        if !one.is(so) {
+            return false;
+        }
+    }
+    true
 }
 
 // Whether the bytes are a capture of such packets.
@@ -207,120 +295,147 @@ fn hold(alloc: Global, bytes: &[u8], left: &[Left]) -> Result<bool, NoMemory> {
         return Ok(false);
     }
     match read_capture(alloc, bytes.to_vec(alloc)?) {
-        Ok(capture) => Ok(are(capture.rows(), left, row_left)),
+        Ok(capture) => Ok(are(capture.rows(), left)),
         Err(_) => Ok(false),
     }
 }
 
-fn row_left(row: &PacketRow) -> Left {
-    (u128::from(row.stamp), row.original, row.len as usize)
-}
+// A run: how it is called, the switch, the packets that come to its inputs, and what it is to show.
+type Run = (
+    &'static str,
+    Switch,
+    &'static [&'static [Come]],
+    Shown<'static>,
+);
 
-fn left_of(packet: &OutPacket) -> Left {
-    (packet.stamp, packet.original, packet.body.as_slice().len())
-}
+const TOGETHER: &[Come] = &[(0, 64, 0), (0, 65, 0), (0, 128, 0)];
 
-#[test]
-fn one_line_passes_as_it_came(rt: HostRuntime) -> Result<(), Fail> {
-    let together = [(0, 64, 0), (0, 65, 0), (0, 128, 0)];
-    let left = [(0, 68, 64), (1024, 69, 65), (2048, 132, 128)];
-    let cases = [
-        (&together[..], Shown::Packets(0, &left)),
-        (&[], Shown::Trace(0, &[])),
-    ];
-    for (packets, shown) in cases {
-        assert!(rt;
-            is_shown(&rt, rt.alloc(), Switch::OnePort, &[packets], shown)?,
-            "{packets:?}"
-        );
-    }
-    Ok(())
-}
+// Cells of three inputs come for output 0, and one slot later a cell of input 2 for output 1.
+const WAITING: &[&[Come]] = &[&[(0, 60, 0)], &[(0, 60, 0)], &[(0, 60, 0), (512, 60, 1)]];
 
-#[test]
-fn cells_wait_for_their_output_after_the_last_has_arrived(rt: HostRuntime) -> Result<(), Fail> {
-    let inputs: [&[Come]; 3] = [&[(0, 60, 0)], &[(0, 60, 0)], &[(0, 60, 0), (512, 60, 1)]];
-    let trace = [
-        (0, 0, 0, 0, 0),
-        (1, 0, 1, 0, 0),
-        (1, 1, 2, 1, 0),
-        (2, 0, 2, 0, 0),
-    ];
-    let log = [
-        (0, 1, 0, 0, 0),
-        (0, 2, 1, 0, 0),
-        (1, 1, 2, 1, 1),
-        (1, 2, 2, 0, 0),
-    ];
-    let first = [(0, 64, 60), (512, 64, 60), (1024, 64, 60)];
-    let all_shown = [
-        Shown::Trace(3, &trace),
-        Shown::Log(7, &log),
-        Shown::Packets(0, &first),
+// The two cells of input 1 come in slots 0 and 1, and output 0, which one cell fills, is empty in slot 1. The run goes
+// on to slot 5, in which the next packet finds room.
+const CROWDING: &[&[Come]] = &[&[(0, 60, 0)], &[(0, 128, 0), (2560, 60, 0)], &[]];
+
+const RUNS: &[Run] = &[
+    (
+        "packets pass one line as they came",
+        Switch::OnePort,
+        &[TOGETHER],
+        Shown::Packets(0, &[(0, 68, 64), (1024, 69, 65), (2048, 132, 128)]),
+    ),
+    (
+        "no packet comes",
+        Switch::OnePort,
+        &[&[]],
+        Shown::Trace(0, &[]),
+    ),
+    (
+        "cells wait for their output after the last has arrived",
+        Switch::ThreePorts,
+        WAITING,
+        Shown::Trace(
+            3,
+            &[
+                (0, 0, 0, 0, 0),
+                (1, 0, 1, 0, 0),
+                (1, 1, 2, 1, 0),
+                (2, 0, 2, 0, 0),
+            ],
+        ),
+    ),
+    (
+        "of those cells one crosses to an output in a phase",
+        Switch::ThreePorts,
+        WAITING,
+        Shown::Log(
+            7,
+            &[
+                (0, 1, 0, 0, 0),
+                (0, 2, 1, 0, 0),
+                (1, 1, 2, 1, 1),
+                (1, 2, 2, 0, 0),
+            ],
+        ),
+    ),
+    (
+        "of those packets three leave output 0",
+        Switch::ThreePorts,
+        WAITING,
+        Shown::Packets(0, &[(0, 64, 60), (512, 64, 60), (1024, 64, 60)]),
+    ),
+    (
+        "of those packets one leaves output 1",
+        Switch::ThreePorts,
+        WAITING,
         Shown::Packets(1, &[(512, 64, 60)]),
+    ),
+    (
+        "of those packets none leaves output 2",
+        Switch::ThreePorts,
+        WAITING,
         Shown::Packets(2, &[]),
-    ];
-    for shown in all_shown {
-        assert!(rt; is_shown(&rt, rt.alloc(), Switch::ThreePorts, &inputs, shown)?);
-    }
-    Ok(())
-}
+    ),
+    (
+        "packets leave by their last cells",
+        Switch::ThreePorts,
+        &[&[(1000, 200, 0)], &[(1000, 60, 0)], &[]],
+        Shown::Packets(0, &[(1512, 64, 60), (3048, 204, 200)]),
+    ),
+    (
+        "a rank that does not fit stops the run",
+        Switch::DearPort,
+        &[&[(0, 60, 0), (512, 60, 0)]],
+        Shown::Fault(TagFault {
+            slot: 1,
+            input: 0,
+            output: 0,
+        }),
+    ),
+    (
+        "a rank fits again after a slot in which nothing is sent",
+        Switch::DearPort,
+        &[&[(0, 60, 0), (1024, 60, 0)]],
+        Shown::Trace(3, &[(0, 0, 0, 0, 0), (2, 0, 0, 1, 0)]),
+    ),
+    (
+        "a packet that finds its output full does not leave",
+        Switch::ThreeLimitedPorts,
+        CROWDING,
+        Shown::Trace(6, &[(0, 0, 0, 0, 0), (5, 0, 1, 1, 0)]),
+    ),
+    (
+        "a packet that finds its output full is not written",
+        Switch::ThreeLimitedPorts,
+        CROWDING,
+        Shown::Packets(0, &[(0, 64, 60), (2560, 64, 60)]),
+    ),
+    (
+        "a packet that finds its output full is refused whole",
+        Switch::ThreeLimitedPorts,
+        CROWDING,
+        Shown::Refused(&[Refused {
+            output: 0,
+            limit: 1,
+            packets: 1,
+            cells: 2,
+        }]),
+    ),
+    (
+        "the slots end with the last departure where the rest is refused",
+        Switch::ThreeLimitedPorts,
+        &[&[(0, 60, 0)], &[(0, 200, 0)], &[]],
+        Shown::Trace(1, &[(0, 0, 0, 0, 0)]),
+    ),
+];
 
 #[test]
-fn packets_leave_by_their_last_cells(rt: HostRuntime) -> Result<(), Fail> {
-    let inputs: [&[Come]; 3] = [&[(1000, 200, 0)], &[(1000, 60, 0)], &[]];
-    let shown = Shown::Packets(0, &[(1512, 64, 60), (3048, 204, 200)]);
-    assert!(rt; is_shown(&rt, rt.alloc(), Switch::ThreePorts, &inputs, shown)?);
-    Ok(())
-}
-
-#[test]
-fn a_rank_that_does_not_fit_stops_the_run(rt: HostRuntime) -> Result<(), Fail> {
-    let fault = TagFault {
-        slot: 1,
-        input: 0,
-        output: 0,
-    };
-    let apart = [(0, 0, 0, 0, 0), (2, 0, 0, 1, 0)];
-    let cases = [(512, Shown::Fault(fault)), (1024, Shown::Trace(3, &apart))];
-    for (stamp, shown) in cases {
-        let packets = [(0, 60, 0), (stamp, 60, 0)];
+fn each_run_shows_what_it_is_to(rt: HostRuntime) -> Result<(), Fail> {
+    for (name, switch, inputs, shown) in RUNS {
         assert!(rt;
-            is_shown(&rt, rt.alloc(), Switch::DearPort, &[&packets], shown)?,
-            "{stamp}"
+            is_shown(&rt, rt.alloc(), *switch, inputs, *shown)?,
+            "{name}"
         );
     }
-    Ok(())
-}
-
-#[test]
-fn a_packet_that_finds_its_output_full_is_refused_whole(rt: HostRuntime) -> Result<(), Fail> {
-    // The two cells of input 1 come in slots 0 and 1, and output 0 is empty in slot 1. The run goes on to slot 5, in
-    // which the next packet finds room.
-    let inputs: [&[Come]; 3] = [&[(0, 60, 0)], &[(0, 128, 0), (2560, 60, 0)], &[]];
-    let refused = Refused {
-        output: 0,
-        limit: 1,
-        packets: 1,
-        cells: 2,
-    };
-    let all_shown = [
-        Shown::Trace(6, &[(0, 0, 0, 0, 0), (5, 0, 1, 1, 0)]),
-        Shown::Packets(0, &[(0, 64, 60), (2560, 64, 60)]),
-        Shown::Refused(&[refused]),
-    ];
-    for shown in all_shown {
-        assert!(rt; is_shown(&rt, rt.alloc(), Switch::ThreeLimitedPorts, &inputs, shown)?);
-    }
-    Ok(())
-}
-
-#[test]
-fn the_slots_end_with_the_last_departure_where_the_rest_is_refused(
-    rt: HostRuntime,
-) -> Result<(), Fail> {
-    let inputs: [&[Come]; 3] = [&[(0, 60, 0)], &[(0, 200, 0)], &[]];
-    let shown = Shown::Trace(1, &[(0, 0, 0, 0, 0)]);
-    assert!(rt; is_shown(&rt, rt.alloc(), Switch::ThreeLimitedPorts, &inputs, shown)?);
     Ok(())
 }

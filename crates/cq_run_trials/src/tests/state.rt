@@ -1,6 +1,6 @@
 //! Shows what no clause says: that memory is enough for whole states, and what a worked one says.
 use cq_lines::LineRefusal;
-use cq_state::{read_text, text_of};
+use cq_state::{State, read_text, text_of};
 use std::alloc::Global;
 
 // Two inputs with a cell each for output 0, stopped after slot 0.
@@ -31,12 +31,8 @@ fn wrong_texts_are_refused_at_their_first_wrong_line(rt: HostRuntime) {
     }
 }
 
-// Whether the state is read, and is written again as it was: it tells of one cell in a buffer, and of a transfer in the
-// second phase.
-fn is_written_again(alloc: Global) -> bool {
-    let Ok(state) = read_text(alloc, STATE) else {
-        return false;
-    };
+// Whether a state tells of one cell in a buffer, and of a transfer in the second phase.
+fn is_told(state: &State) -> bool {
     let buffered = state.buffered.as_slice();
     let moved = state.moved.as_slice().get(1);
     let told = (
@@ -45,8 +41,21 @@ fn is_written_again(alloc: Global) -> bool {
         buffered.get(0).map(|named| named.input),
         moved.map(|transfer| transfer.phase),
     );
-    match text_of(alloc, &state) {
-        Ok(text) => text.as_slice() == STATE && told == (1, 1, Some(1), Some(2)),
+    told == (1, 1, Some(1), Some(2))
+}
+
+// Whether a state is written as the text.
+fn is_written(alloc: Global, state: &State) -> bool {
+    match text_of(alloc, state) {
+        Ok(text) => text.as_slice() == STATE,
+        Err(_) => false,
+    }
+}
+
+// Whether the state is read, and is written again as it was.
+fn is_written_again(alloc: Global) -> bool {
+    match read_text(alloc, STATE) {
+        Ok(state) => is_told(&state) && is_written(alloc, &state),
         Err(_) => false,
     }
 }
