@@ -32,13 +32,19 @@ pub fn put_packet(capture: &mut Vec<u8>, numbers: [u32; 4], head: &[u8]) -> Resu
     Ok(())
 }
 
+/// Puts these packets.
+pub fn put_packets(capture: &mut Vec<u8>, packets: &[Packet]) -> Result<(), NoMemory> {
+    for (seconds, subseconds, captured, original) in packets {
+        let numbers = [*seconds, *subseconds, *captured, *original];
+        put_packet(capture, numbers, &FRAME)?;
+    }
+    Ok(())
+}
+
 /// A capture with this header, of these packets.
 pub fn capture_with(alloc: Global, header: &[u8], packets: &[Packet]) -> Result<Vec<u8>, NoMemory> {
     let mut capture = header.to_vec(alloc)?;
-    for (seconds, subseconds, captured, original) in packets {
-        let numbers = [*seconds, *subseconds, *captured, *original];
-        put_packet(&mut capture, numbers, &FRAME)?;
-    }
+    put_packets(&mut capture, packets)?;
     Ok(capture)
 }
 

@@ -1,7 +1,7 @@
 //! Files that a call of the program can begin with.
 ghost use Rattle.std.specs.Prelude.{◌<◌};
 
-use crate::{Frame, Keys, capture_of, configuration};
+use crate::{Frame, Keys, Left, capture_of, configuration};
 use cq_base::NoMemory;
 use cq_space::MemFiles;
 use std::alloc::Global;
@@ -33,13 +33,15 @@ impl Disk {
         }
     }
 
-    /// With these names and their bytes.
-    pub fn with(alloc: Global, given: &[(&str, &[u8])]) -> Result<Disk, NoMemory> {
-        let mut disk = Disk::new(alloc);
-        for (name, bytes) in given {
-            disk.set(name, bytes)?;
-        }
-        Ok(disk)
+    /// With `c.toml` alone, the configuration of a switch with so many ports and so many workers.
+    pub fn of_ports(
+        alloc: Global,
+        ports: usize,
+        workers: u8,
+        keys: Keys,
+    ) -> Result<Disk, NoMemory> {
+        let text = configuration(alloc, ports, workers, keys)?;
+        Disk::new(alloc).holding(&[("c.toml", text.as_bytes())])
     }
 
     /// With `c.toml`, the configuration of a switch with so many inputs and so many workers, and with the
@@ -50,35 +52,44 @@ impl Disk {
         workers: u8,
         keys: Keys,
     ) -> Result<Disk, NoMemory> {
-        let text = configuration(alloc, inputs.len(), workers, keys)?;
-        let mut disk = Disk::new(alloc);
-        disk.set("c.toml", text.as_bytes())?;
+        let mut disk = Disk::of_ports(alloc, inputs.len(), workers, keys)?;
         for (i, frames) in inputs.iter().enumerate() {
-            let name = format!(in alloc; "in{i}.pcap")?;
-            let capture = capture_of(alloc, frames)?;
-            disk.set(&name, &capture)?;
+            disk.set_input(alloc, i, frames)?;
         }
         Ok(disk)
     }
 
-    /// Gives the name these bytes, whether there was such a name or not.
-    pub fn set(&mut self, name: &str, bytes: &[u8]) -> Result<(), NoMemory> {
-        self.files.set(name, bytes)
+    /// Gives the input of this number a capture of these frames.
+    fn set_input(&mut self, alloc: Global, i: usize, frames: &[Frame]) -> Result<(), NoMemory> {
+        let capture = capture_of(alloc, frames)?;
+        let name = format!(in alloc; "in{i}.pcap")?;
+        self.files.set(&name, &capture)
     }
 
-    /// Sets reading the name to fail after so many bytes.
-    pub fn fail_read(&mut self, name: &str, after: u64) -> Result<(), NoMemory> {
-        self.files.fail_read(name, after)
+    /// With these bytes under these names too, whether there were such names or not.
+    pub fn holding(mut self, given: &[(&str, &[u8])]) -> Result<Disk, NoMemory> {
+        for (name, bytes) in given {
+            self.files.set(name, bytes)?;
+        }
+        Ok(self)
     }
 
-    /// Sets writing the name to fail after so many bytes.
-    pub fn fail_write(&mut self, name: &str, after: u64) -> Result<(), NoMemory> {
-        self.files.fail_write(name, after)
+    /// With reading the name set to fail after so many bytes.
+    pub fn failing_read(mut self, name: &str, after: u64) -> Result<Disk, NoMemory> {
+        self.files.fail_read(name, after)?;
+        Ok(self)
     }
 
-    /// Sets the outside call of this number to fail.
-    pub fn fail_call(&mut self, call: u64) -> Result<(), NoMemory> {
-        self.files.fail_call(call)
+    /// With writing the name set to fail after so many bytes.
+    pub fn failing_write(mut self, name: &str, after: u64) -> Result<Disk, NoMemory> {
+        self.files.fail_write(name, after)?;
+        Ok(self)
+    }
+
+    /// With the outside call of this number set to fail.
+    pub fn failing_call(mut self, call: u64) -> Result<Disk, NoMemory> {
+        self.files.fail_call(call)?;
+        Ok(self)
     }
 
     /// Moves at most so many bytes a call from now on.
@@ -88,23 +99,19 @@ impl Disk {
         self.files.short(most);
     }
 
-    /// The bytes of the name, where it is there.
-    pub fn bytes(&self, name: &str) -> Option<&[u8]> {
-        self.files.bytes(name)
-    }
-
     /// Whether the name is there with just these bytes.
-    pub fn holds(&self, name: &str, bytes: &[u8]) -> bool {
+    pub(crate) fn holds(&self, name: &str, bytes: &[u8]) -> bool {
         self.files.bytes(name) == Some(bytes)
     }
 
-    /// Whether all these names are there with just these bytes.
-    pub fn holds_all(&self, given: &[(&str, &[u8])]) -> bool {
-        given.iter().all(|(name, bytes)| self.holds(name, bytes))
+    /// Whether none of these names is there.
+    pub(crate) fn lacks(&self, names: &[&str]) -> bool {
+        names.iter().all(|name| self.files.bytes(name).is_none())
     }
 
-    /// Whether none of these names is there.
-    pub fn lacks(&self, names: &[&str]) -> bool {
-        names.iter().all(|name| self.files.bytes(name).is_none())
+    /// Whether all that is to be left is there, and nothing that is to be lacking.
+    pub(crate) fn is_left(&self, left: Left) -> bool {
+        let (given, lacking) = left;
+        given.iter().all(|(name, bytes)| self.holds(name, bytes)) && self.lacks(lacking)
     }
 }

@@ -45,16 +45,16 @@ pub fn configuration(
     )?;
     for i in 0..ports {
         let own = if i == 0 { keys.port } else { "" };
-        let port = format!(in alloc;
+        write!(
+            text,
             "[[port]]\nread = \"in{i}.pcap\"\nwrite = \"out{i}.pcap\"\n{own}"
         )?;
-        text.push_str(&port)?;
     }
     for i in 0..ports {
-        let address = format!(in alloc;
+        write!(
+            text,
             "[[address]]\nmac = \"02:00:00:00:00:0{i}\"\noutput = {i}\n"
         )?;
-        text.push_str(&address)?;
     }
     text.push_str(keys.last)?;
     Ok(text)

@@ -17,9 +17,13 @@ mod worked;
 
 pub use capture::{
     FRAME, Frame, MICROSECONDS, NANOSECONDS, Packet, capture_of, capture_with, put_packet,
+    put_packets,
 };
 pub use disk::Disk;
 pub use keys::{DEAREST, DEFAULTS, Keys, configuration};
 pub use runs::{RUNS, RUNS_BY_KEYS, THREE_INPUTS, TWO_FOR_ONE};
-pub use trial::{Ended, WRITTEN, answer, refuses, streamed, watched, words_of};
+pub use trial::{
+    Call, Left, Told, WRITTEN, all_leave, leaves, leaves_ahead, leaves_within, passes,
+    touches_nothing, words_of,
+};
 pub use worked::Run;

@@ -5,45 +5,45 @@ use cq_base::NoMemory;
 use cq_crew::{Gate, OpenGate};
 use cq_run::{stream_top, switch_top};
 use cq_space::MemSink;
-use cq_stream::Watch;
+use cq_stream::{OpenWatch, Watch};
 use std::alloc::Global;
 use std::sync::Wait;
 use std::thread::Threads;
 
+/// What a call tells: the code of its status, and what standard output and standard error take, or as much of it as
+/// there is room for.
+pub type Told<'a> = (u8, &'a str, &'a str);
+
+/// What a call leaves: names with just these bytes, and names that are not there.
+pub type Left<'a> = (&'a [(&'a str, &'a [u8])], &'a [&'a str]);
+
+/// The words of a call, and what it tells.
+pub type Call<'a> = (&'a [&'a str], Told<'a>);
+
+/// Room for all that the two streams are given.
+pub(crate) const ALL: (u64, u64) = (u64::MAX, u64::MAX);
+
 /// What a call comes to: the code of its status, and what the two streams took.
 #[derive(Drop)]
-pub struct Ended {
-    /// The code of the status.
-    pub code: u8,
+struct Ended {
+    code: u8,
     out: MemSink,
     err: MemSink,
 }
 
+/// Whether a stream with so much room took the text, or as much of it as there was room for.
+fn has_taken(stream: &MemSink, text: &str, room: u64) -> bool {
+    let taken = stream.bytes();
+    taken.len() == text.len().min(room as usize) && text.as_bytes().starts_with(taken)
+}
+
 impl Ended {
-    /// What standard output took.
-    pub fn out(&self) -> &[u8] {
-        self.out.bytes()
-    }
-
-    /// What standard error took.
-    pub fn err(&self) -> &[u8] {
-        self.err.bytes()
-    }
-
-    /// Whether standard error took the line, or as much of it as there was room for.
-    pub fn has_said(&self, line: &str, room: usize) -> bool {
-        let told = self.err();
-        told.len() == line.len().min(room) && line.as_bytes().starts_with(told)
-    }
-
-    /// Whether all was done, and `out` took the text.
-    pub fn is_done(&self, text: &str) -> bool {
-        self.code == 0 && self.out() == text.as_bytes() && self.err().is_empty()
-    }
-
-    /// Whether the call ended with the code and the line, and `out` took nothing.
-    pub fn is_refused(&self, code: u8, line: &str) -> bool {
-        self.code == code && self.err() == line.as_bytes() && self.out().is_empty()
+    /// Whether the call told this, where its streams had so much room.
+    fn has_told(&self, told: Told, rooms: (u64, u64)) -> bool {
+        let (code, out, err) = told;
+        self.code == code
+            && has_taken(&self.out, out, rooms.0)
+            && has_taken(&self.err, err, rooms.1)
     }
 }
 
@@ -58,7 +58,7 @@ pub fn words_of(alloc: Global, words: &[&str]) -> Result<Vec<String>, NoMemory> 
 
 /// The answer to the words over the disk, where the gate is told of the workers' steps, and the two
 /// streams take so many bytes.
-pub fn watched<R: Threads + Sync, G: Gate>(
+fn watched<R: Threads + Sync, G: Gate>(
     rt: &R,
     alloc: Global,
     words: &[&str],
@@ -79,18 +79,8 @@ pub fn watched<R: Threads + Sync, G: Gate>(
     })
 }
 
-/// The answer to the words over the disk.
-pub fn answer<R: Threads + Sync>(
-    rt: &R,
-    alloc: Global,
-    words: &[&str],
-    disk: &mut Disk,
-) -> Result<Ended, NoMemory> {
-    watched(rt, alloc, words, disk, (u64::MAX, u64::MAX), &OpenGate)
-}
-
 /// The answer of the call that may read ahead, where the watch is told of its readers.
-pub fn streamed<R, W: Watch + 'static>(
+fn streamed<R, W: Watch + 'static>(
     rt: R,
     alloc: Global,
     words: &[&str],
@@ -120,20 +110,109 @@ where
     })
 }
 
-/// The names that a command of a trial may write.
-pub const WRITTEN: &[&str] = &["b", "out0.pcap", "out1.pcap", "trace.txt", "log.txt"];
+/// Whether the call over the disk tells what it should, where the gate is told of the workers' steps.
+pub(crate) fn tells<R: Threads + Sync, G: Gate>(
+    rt: &R,
+    alloc: Global,
+    (words, told): Call,
+    disk: &mut Disk,
+    gate: &G,
+) -> Result<bool, NoMemory> {
+    Ok(watched(rt, alloc, words, disk, ALL, gate)?.has_told(told, ALL))
+}
 
-/// Whether the words over the given files end with the code and the line, and touch nothing: `out` took
-/// nothing, each given file is as it was, and none that could be written is there.
-pub fn refuses<R: Threads + Sync>(
+/// Whether the call that may read ahead tells what it should over the disk, where the watch is told of its readers.
+pub(crate) fn tells_ahead<R, W: Watch + 'static>(
+    rt: R,
+    alloc: Global,
+    (words, told): Call,
+    disk: &mut Disk,
+    watch: &W,
+) -> Result<bool, NoMemory>
+where
+    R: Threads + Wait + Sync + Copy + Send + 'static,
+{
+    Ok(streamed(rt, alloc, words, disk, watch)?.has_told(told, ALL))
+}
+
+/// Whether the call over the disk tells what it should and leaves this, where the two streams take so many bytes.
+pub fn leaves_within<R: Threads + Sync>(
+    rt: &R,
+    alloc: Global,
+    (words, told): Call,
+    mut disk: Disk,
+    rooms: (u64, u64),
+    left: Left,
+) -> Result<bool, NoMemory> {
+    let ended = watched(rt, alloc, words, &mut disk, rooms, &OpenGate)?;
+    Ok(ended.has_told(told, rooms) && disk.is_left(left))
+}
+
+/// Whether the call over the disk tells what it should and leaves this.
+pub fn leaves<R: Threads + Sync>(
+    rt: &R,
+    alloc: Global,
+    call: Call,
+    disk: Disk,
+    left: Left,
+) -> Result<bool, NoMemory> {
+    leaves_within(rt, alloc, call, disk, ALL, left)
+}
+
+/// Whether each of the calls over the disk, one after another, tells what it should, and the last leaves this.
+pub fn all_leave<R: Threads + Sync>(
+    rt: &R,
+    alloc: Global,
+    calls: &[Call],
+    mut disk: Disk,
+    left: Left,
+) -> Result<bool, NoMemory> {
+    for call in calls {
+        if !tells(rt, alloc, *call, &mut disk, &OpenGate)? {
+            return Ok(false);
+        }
+    }
+    Ok(disk.is_left(left))
+}
+
+/// Whether the call that may read ahead tells what it should over the disk, and leaves this.
+pub fn leaves_ahead<R>(
+    rt: R,
+    alloc: Global,
+    (words, told): Call,
+    mut disk: Disk,
+    left: Left,
+) -> Result<bool, NoMemory>
+where
+    R: Threads + Wait + Sync + Copy + Send + 'static,
+{
+    let ended = streamed(rt, alloc, words, &mut disk, &OpenWatch)?;
+    Ok(ended.has_told(told, ALL) && disk.is_left(left))
+}
+
+/// Whether the call of the words over the disk does all, whatever it tells, and leaves this.
+pub fn passes<R: Threads + Sync>(
     rt: &R,
     alloc: Global,
     words: &[&str],
-    given: &[(&str, &[u8])],
-    code: u8,
-    line: &str,
+    mut disk: Disk,
+    left: Left,
 ) -> Result<bool, NoMemory> {
-    let mut disk = Disk::with(alloc, given)?;
-    let ended = answer(rt, alloc, words, &mut disk)?;
-    Ok(ended.is_refused(code, line) && disk.holds_all(given) && disk.lacks(WRITTEN))
+    let ended = watched(rt, alloc, words, &mut disk, ALL, &OpenGate)?;
+    Ok(ended.code == 0 && disk.is_left(left))
+}
+
+/// The names that a command of a trial may write.
+pub const WRITTEN: &[&str] = &["b", "out0.pcap", "out1.pcap", "trace.txt", "log.txt"];
+
+/// Whether the call over the given files tells what it should and touches nothing: each given file is as it was, and
+/// none that could be written is there.
+pub fn touches_nothing<R: Threads + Sync>(
+    rt: &R,
+    alloc: Global,
+    call: Call,
+    given: &[(&str, &[u8])],
+) -> Result<bool, NoMemory> {
+    let disk = Disk::new(alloc).holding(given)?;
+    leaves(rt, alloc, call, disk, (given, WRITTEN))
 }

@@ -1,6 +1,8 @@
 //! Worked runs: what a switch is told, and all that it writes.
-use crate::{Disk, Ended, Frame, Keys, answer, capture_of, streamed};
+use crate::trial::{tells, tells_ahead};
+use crate::{Call, Disk, Frame, Keys, Left, capture_of, leaves};
 use cq_base::NoMemory;
+use cq_crew::{Gate, OpenGate};
 use cq_stream::Watch;
 use std::alloc::Global;
 use std::sync::Wait;
@@ -25,39 +27,98 @@ pub struct Run {
     pub report: &'static str,
 }
 
+/// Whether the capture of the output of this number is of these frames.
+fn holds_capture(alloc: Global, disk: &Disk, j: usize, frames: &[Frame]) -> Result<bool, NoMemory> {
+    let capture = capture_of(alloc, frames)?;
+    let name = format!(in alloc; "out{j}.pcap")?;
+    Ok(disk.holds(&name, &capture))
+}
+
 impl Run {
     /// What the run begins with, where it has so many workers.
     pub fn disk(&self, alloc: Global, workers: u8) -> Result<Disk, NoMemory> {
         Disk::of_switch(alloc, self.inputs, workers, self.keys)
     }
 
+    /// Whether the call, where these files are there beside what the run begins with, tells what it should and leaves
+    /// this.
+    pub fn leaves<R: Threads + Sync>(
+        &self,
+        rt: &R,
+        alloc: Global,
+        call: Call,
+        given: &[(&str, &[u8])],
+        left: Left,
+    ) -> Result<bool, NoMemory> {
+        let disk = self.disk(alloc, 1)?.holding(given)?;
+        leaves(rt, alloc, call, disk, left)
+    }
+
     /// Whether the captures and the trace are those of the run.
-    pub fn is_sent(&self, alloc: Global, disk: &Disk) -> Result<bool, NoMemory> {
+    fn is_sent(&self, alloc: Global, disk: &Disk) -> Result<bool, NoMemory> {
         for (j, frames) in self.outputs.iter().enumerate() {
-            let name = format!(in alloc; "out{j}.pcap")?;
-            let capture = capture_of(alloc, frames)?;
-            if !disk.holds(&name, &capture) {
+            if !holds_capture(alloc, disk, j, frames)? {
                 return Ok(false);
             }
         }
         Ok(disk.holds("trace.txt", self.trace.as_bytes()))
     }
 
-    /// Whether a call that ended so, and left this disk, did all of the run.
-    pub fn is_crossed(&self, alloc: Global, ended: &Ended, disk: &Disk) -> Result<bool, NoMemory> {
-        let is_told = ended.is_done(self.report) && disk.holds("log.txt", self.log.as_bytes());
-        Ok(is_told && self.is_sent(alloc, disk)?)
+    /// Whether the captures, the trace and the log are those of the run.
+    fn is_crossed(&self, alloc: Global, disk: &Disk) -> Result<bool, NoMemory> {
+        Ok(disk.holds("log.txt", self.log.as_bytes()) && self.is_sent(alloc, disk)?)
     }
 
-    /// Whether the crossbar switch does all of the run, from this disk on.
+    /// Whether the call of the words does all of the run, where the gate is told of the workers' steps.
+    fn is_done<R: Threads + Sync, G: Gate>(
+        &self,
+        rt: &R,
+        alloc: Global,
+        words: &[&str],
+        disk: &mut Disk,
+        gate: &G,
+    ) -> Result<bool, NoMemory> {
+        let call = (words, (0, self.report, ""));
+        Ok(tells(rt, alloc, call, disk, gate)? && self.is_crossed(alloc, disk)?)
+    }
+
+    /// Whether the crossbar switch does all of the run, from this disk on, and leaves these files as they are.
     pub fn crosses<R: Threads + Sync>(
         &self,
         rt: &R,
         alloc: Global,
-        disk: &mut Disk,
+        mut disk: Disk,
+        kept: &[(&str, &[u8])],
     ) -> Result<bool, NoMemory> {
-        let ended = answer(rt, alloc, &["run", "c.toml"], disk)?;
-        self.is_crossed(alloc, &ended, disk)
+        let is_done = self.is_done(rt, alloc, &["run", "c.toml"], &mut disk, &OpenGate)?;
+        Ok(is_done && disk.is_left((kept, &[])))
+    }
+
+    /// Whether the crossbar switch with so many workers does all of the run, where the gate is told of their steps.
+    pub fn crosses_watched<R: Threads + Sync, G: Gate>(
+        &self,
+        rt: &R,
+        alloc: Global,
+        workers: u8,
+        gate: &G,
+    ) -> Result<bool, NoMemory> {
+        let mut disk = self.disk(alloc, workers)?;
+        self.is_done(rt, alloc, &["run", "c.toml"], &mut disk, gate)
+    }
+
+    /// Whether the call that reads ahead does all of the run, from this disk on.
+    fn is_streamed<R, W: Watch + 'static>(
+        &self,
+        rt: R,
+        alloc: Global,
+        disk: &mut Disk,
+        watch: &W,
+    ) -> Result<bool, NoMemory>
+    where
+        R: Threads + Wait + Sync + Copy + Send + 'static,
+    {
+        let call: Call = (&["stream", "c.toml"], (0, self.report, ""));
+        Ok(tells_ahead(rt, alloc, call, disk, watch)? && self.is_crossed(alloc, disk)?)
     }
 
     /// Whether the call that reads ahead does all of the run too, where the watch is told of its readers.
@@ -71,8 +132,22 @@ impl Run {
         R: Threads + Wait + Sync + Copy + Send + 'static,
     {
         let mut disk = self.disk(alloc, 1)?;
-        let ended = streamed(rt, alloc, &["stream", "c.toml"], &mut disk, watch)?;
-        self.is_crossed(alloc, &ended, &disk)
+        self.is_streamed(rt, alloc, &mut disk, watch)
+    }
+
+    /// Whether the crossbar switch does all of the run from this disk on, and an audit says yes to what it leaves.
+    fn is_crossed_and_audited<R: Threads + Sync>(
+        &self,
+        rt: &R,
+        alloc: Global,
+        disk: &mut Disk,
+    ) -> Result<bool, NoMemory> {
+        let audit: Call = (&["audit", "c.toml"], (0, "audit yes\n", ""));
+        Ok(
+            self.is_done(rt, alloc, &["run", "c.toml"], disk, &OpenGate)?
+                && tells(rt, alloc, audit, disk, &OpenGate)?
+                && self.is_sent(alloc, disk)?,
+        )
     }
 
     /// Whether the crossbar switch with so many workers does all of the run, and an audit says yes to what it leaves.
@@ -83,9 +158,23 @@ impl Run {
         workers: u8,
     ) -> Result<bool, NoMemory> {
         let mut disk = self.disk(alloc, workers)?;
-        let crosses = self.crosses(rt, alloc, &mut disk)?;
-        let ended = answer(rt, alloc, &["audit", "c.toml"], &mut disk)?;
-        Ok(crosses && ended.is_done("audit yes\n") && self.is_sent(alloc, &disk)?)
+        self.is_crossed_and_audited(rt, alloc, &mut disk)
+    }
+
+    /// Whether a run from this disk on stops after so many slots and writes its state alone, and what goes on from
+    /// there does all of the run.
+    fn is_resumed<R: Threads + Sync>(
+        &self,
+        rt: &R,
+        alloc: Global,
+        slots: &str,
+        disk: &mut Disk,
+    ) -> Result<bool, NoMemory> {
+        let part: Call = (&["part", "c.toml", slots, "s.txt"], (0, "", ""));
+        let is_stopped = tells(rt, alloc, part, disk, &OpenGate)?
+            && disk.lacks(&["trace.txt", "log.txt", "out0.pcap"]);
+        let resume = ["resume", "c.toml", "s.txt"];
+        Ok(is_stopped && self.is_done(rt, alloc, &resume, disk, &OpenGate)?)
     }
 
     /// Whether a run that stops after so many slots writes its state alone, and what goes on from there does all of the
@@ -97,16 +186,24 @@ impl Run {
         slots: &str,
     ) -> Result<bool, NoMemory> {
         let mut disk = self.disk(alloc, 1)?;
-        let stopped = answer(rt, alloc, &["part", "c.toml", slots, "s.txt"], &mut disk)?;
-        let is_stopped = stopped.is_done("") && disk.lacks(&["trace.txt", "log.txt", "out0.pcap"]);
-        let ended = answer(rt, alloc, &["resume", "c.toml", "s.txt"], &mut disk)?;
-        Ok(is_stopped && self.is_crossed(alloc, &ended, &disk)?)
+        self.is_resumed(rt, alloc, slots, &mut disk)
+    }
+
+    /// Whether the ideal switch sends from this disk on what the run sends, and touches no log.
+    fn is_sent_ideally<R: Threads + Sync>(
+        &self,
+        rt: &R,
+        alloc: Global,
+        disk: &mut Disk,
+    ) -> Result<bool, NoMemory> {
+        let call: Call = (&["ideal", "c.toml"], (0, "", ""));
+        let is_told = tells(rt, alloc, call, disk, &OpenGate)?;
+        Ok(is_told && disk.lacks(&["log.txt"]) && self.is_sent(alloc, disk)?)
     }
 
     /// Whether the ideal switch sends what the run sends, and touches no log.
     pub fn is_ideal<R: Threads + Sync>(&self, rt: &R, alloc: Global) -> Result<bool, NoMemory> {
         let mut disk = self.disk(alloc, 1)?;
-        let ended = answer(rt, alloc, &["ideal", "c.toml"], &mut disk)?;
-        Ok(ended.is_done("") && disk.lacks(&["log.txt"]) && self.is_sent(alloc, &disk)?)
+        self.is_sent_ideally(rt, alloc, &mut disk)
     }
 }
