@@ -1,6 +1,6 @@
 //! Damaged captures: each is refused by number and place, and nothing is written.
 use cq_base::NoMemory;
-use cq_trials::{NANOSECONDS, Packet, capture_with, refuses};
+use cq_trials::{Call, NANOSECONDS, Packet, put_packets, touches_nothing};
 use std::alloc::Global;
 use std::test::Fail;
 use std::thread::Threads;
@@ -60,22 +60,34 @@ const DAMAGES: &[Damage] = &[
     (&[], PACKET, &ALL_BYTES, 116, "7 at 100, length 4294967295"),
 ];
 
-fn damaged(alloc: Global, damage: &Damage) -> Result<Vec<u8>, NoMemory> {
+/// Puts what follows the first bytes of the header, and cuts the capture.
+fn put_rest(input: &mut Vec<u8>, damage: &Damage) -> Result<(), NoMemory> {
     let (first, packets, more, len, _) = damage;
-    let mut header = first.to_vec(alloc)?;
     for byte in NANOSECONDS.iter().skip(first.len()) {
-        header.push(*byte)?;
+        input.push(*byte)?;
     }
-    let mut input = capture_with(alloc, &header, packets)?;
+    put_packets(input, packets)?;
     input.extend_from_slice(more)?;
     input.truncate(*len);
-    Ok(input)
+    Ok(())
+}
+
+/// Whether the capture is refused with the line.
+fn is_told<R: Threads + Sync>(
+    rt: &R,
+    alloc: Global,
+    damage: &Damage,
+    line: &str,
+) -> Result<bool, NoMemory> {
+    let mut input = damage.0.to_vec(alloc)?;
+    put_rest(&mut input, damage)?;
+    let call: Call = (&["pass", "a", "b"], (3, "", line));
+    touches_nothing(rt, alloc, call, &[("a", &input)])
 }
 
 fn is_refused<R: Threads + Sync>(rt: &R, alloc: Global, damage: &Damage) -> Result<bool, NoMemory> {
-    let input = damaged(alloc, damage)?;
     let line = format!(in alloc; "capture of input 0: {}\n", damage.4)?;
-    refuses(rt, alloc, &["pass", "a", "b"], &[("a", &input)], 3, &line)
+    is_told(rt, alloc, damage, &line)
 }
 
 #[test]

@@ -1,7 +1,6 @@
 //! Each outside call fails in turn, and each moves one byte at a time.
 use cq_base::NoMemory;
-use cq_crew::OpenGate;
-use cq_trials::{Disk, TWO_FOR_ONE, watched};
+use cq_trials::{Call, Disk, NANOSECONDS, TWO_FOR_ONE, capture_of, leaves_within};
 use std::alloc::Global;
 use std::test::Fail;
 use std::thread::Threads;
@@ -15,90 +14,114 @@ const PLACES: &[Place] = &[
     (0, "c.toml", 5, "read fault: c.toml\n"),
     (3, "in0.pcap", 5, "read fault: in0.pcap\n"),
     (6, "in1.pcap", 5, "read fault: in1.pcap\n"),
-    (9, "out0.pcap", 6, "write fault: out0.pcap\n"),
-    (12, "out1.pcap", 6, "write fault: out1.pcap\n"),
-    (15, "trace.txt", 6, "write fault: trace.txt\n"),
-    (18, "log.txt", 6, "write fault: log.txt\n"),
+    (OUT_0, "out0.pcap", 6, "write fault: out0.pcap\n"),
+    (OUT_1, "out1.pcap", 6, "write fault: out1.pcap\n"),
+    (TRACE, "trace.txt", 6, "write fault: trace.txt\n"),
+    (LOG, "log.txt", 6, "write fault: log.txt\n"),
 ];
 
-/// How many of the names are read.
-const READ: usize = 3;
+/// The number of the first call for each name that is written.
+const OUT_0: u64 = 9;
+
+const OUT_1: u64 = 12;
+
+const TRACE: u64 = 15;
+
+const LOG: u64 = 18;
 
 /// How many calls a run makes.
 const CALLS: u64 = 21;
 
-/// What a written name holds before.
+/// What the written names hold before.
+const BEFORE: &[(&str, &[u8])] = &[
+    ("out0.pcap", KEPT),
+    ("out1.pcap", KEPT),
+    ("trace.txt", KEPT),
+    ("log.txt", KEPT),
+];
+
 const KEPT: &[u8] = b"kept";
 
 fn disk_before(alloc: Global) -> Result<Disk, NoMemory> {
-    let mut disk = TWO_FOR_ONE.disk(alloc, 1)?;
-    for (_, name, _, _) in PLACES.iter().skip(READ) {
-        disk.set(name, KEPT)?;
+    TWO_FOR_ONE.disk(alloc, 1)?.holding(BEFORE)
+}
+
+/// What a name holds whose first call is this one, where the call of this step for another fails: all where the other
+/// comes later, what it held where it comes earlier. The one itself holds what it held where it was not begun, nothing
+/// where no byte went in, and all where only its end failed.
+fn held(first: u64, whole: &[u8], at: u64, step: u64) -> &[u8] {
+    if at < first || at == first && step == 0 {
+        KEPT
+    } else if at == first && step == 1 {
+        b""
+    } else {
+        whole
     }
-    Ok(disk)
 }
 
-/// Whether each name holds what it should where writing fails at one: all where it comes earlier, what it held where
-/// it comes later. The one itself holds what it held where it was not begun, nothing where no byte went in, and all
-/// where only its end failed.
-fn is_written(disk: &Disk, done: &Disk, at: u64, step: u64) -> bool {
-    PLACES.iter().skip(READ).all(|(first, name, _, _)| {
-        let wanted = if at < *first || at == *first && step == 0 {
-            Some(KEPT)
-        } else if at == *first && step == 1 {
-            Some(b"".as_slice())
-        } else {
-            done.bytes(name)
-        };
-        disk.bytes(name) == wanted
-    })
-}
-
-/// Whether a run in which this call for the name fails ends as it should, where `err` takes so many bytes.
+/// Whether a run in which this call for the name fails ends as it should, where `err` takes so many bytes and the first
+/// output is to send this.
 fn fails<R: Threads + Sync>(
     rt: &R,
     alloc: Global,
-    done: &Disk,
     place: &Place,
     step: u64,
-    room: usize,
+    room: u64,
+    output: &[u8],
 ) -> Result<bool, NoMemory> {
-    let (first, _, code, line) = place;
-    let mut disk = disk_before(alloc)?;
-    disk.fail_call(first.saturating_add(step))?;
-    let rooms = (u64::MAX, room as u64);
-    let ended = watched(rt, alloc, &["run", "c.toml"], &mut disk, rooms, &OpenGate)?;
-    let is_told = ended.code == *code && ended.has_said(line, room) && ended.out().is_empty();
-    Ok(is_told && is_written(&disk, done, *first, step))
-}
-
-/// Whether a run in which no call is left that could fail does all.
-fn passes<R: Threads + Sync>(rt: &R, alloc: Global) -> Result<bool, NoMemory> {
-    let mut disk = disk_before(alloc)?;
-    disk.fail_call(CALLS)?;
-    TWO_FOR_ONE.crosses(rt, alloc, &mut disk)
+    let (at, _, code, line) = *place;
+    let disk = disk_before(alloc)?.failing_call(at.saturating_add(step))?;
+    let call: Call = (&["run", "c.toml"], (code, "", line));
+    let (trace, log) = (TWO_FOR_ONE.trace.as_bytes(), TWO_FOR_ONE.log.as_bytes());
+    let wanted = [
+        ("out0.pcap", held(OUT_0, output, at, step)),
+        ("out1.pcap", held(OUT_1, &NANOSECONDS, at, step)),
+        ("trace.txt", held(TRACE, trace, at, step)),
+        ("log.txt", held(LOG, log, at, step)),
+    ];
+    leaves_within(rt, alloc, call, disk, (u64::MAX, room), (&wanted, &[]))
 }
 
 #[test]
 fn each_outside_call_fails_in_turn(rt: HostRuntime) -> Result<(), Fail> {
-    let mut done = disk_before(rt.alloc())?;
-    assert!(rt; TWO_FOR_ONE.crosses(&rt, rt.alloc(), &mut done)?);
+    let output = capture_of(rt.alloc(), &[(0, 0, 0, 60), (0, 512, 0, 60)])?;
     for place in PLACES {
         for step in 0..3 {
-            for room in [usize::MAX, 3] {
-                let is_so = fails(&rt, rt.alloc(), &done, place, step, room)?;
+            for room in [u64::MAX, 3] {
+                let is_so = fails(&rt, rt.alloc(), place, step, room, &output)?;
                 assert!(rt; is_so, "call {step} for {}", place.1);
             }
         }
     }
-    assert!(rt; passes(&rt, rt.alloc())?);
     Ok(())
 }
 
+/// The call that fails, which is none that is made, and whether each call moves one byte alone.
+const WHOLE: &[(u64, bool)] = &[(u64::MAX, false), (CALLS, false), (u64::MAX, true)];
+
+/// Whether a run does all, where this call fails, and where each moves one byte alone if that is asked for.
+fn does_all<R: Threads + Sync>(
+    rt: &R,
+    alloc: Global,
+    call: u64,
+    is_short: bool,
+) -> Result<bool, NoMemory> {
+    let mut disk = disk_before(alloc)?.failing_call(call)?;
+    if is_short {
+        disk.short(1);
+    }
+    TWO_FOR_ONE.crosses(rt, alloc, disk, &[])
+}
+
 #[test]
-fn one_byte_at_a_time_gives_the_same_bytes(rt: HostRuntime) -> Result<(), Fail> {
-    let mut disk = disk_before(rt.alloc())?;
-    disk.short(1);
-    assert!(rt; TWO_FOR_ONE.crosses(&rt, rt.alloc(), &mut disk)?);
+fn with_no_call_left_that_fails_all_is_done_also_a_byte_at_a_time(
+    rt: HostRuntime,
+) -> Result<(), Fail> {
+    for (call, is_short) in WHOLE {
+        assert!(rt;
+            does_all(&rt, rt.alloc(), *call, *is_short)?,
+            "call {call}, short {is_short}"
+        );
+    }
     Ok(())
 }

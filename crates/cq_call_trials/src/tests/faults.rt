@@ -1,8 +1,10 @@
 //! Reading or writing fails, or goes on for too long, while a capture is passed on; and what is to be read is not
 //! there.
 use cq_base::NoMemory;
-use cq_crew::OpenGate;
-use cq_trials::{Disk, MICROSECONDS, NANOSECONDS, TWO_FOR_ONE, answer, watched};
+use cq_trials::{
+    Call, Disk, Left, MICROSECONDS, NANOSECONDS, TWO_FOR_ONE, leaves, leaves_within,
+    touches_nothing,
+};
 use std::alloc::Global;
 use std::test::Fail;
 use std::thread::Threads;
@@ -11,11 +13,10 @@ use std::thread::Threads;
 const READ_CUTS: &[u64] = &[0, 10, 24];
 
 fn is_unread<R: Threads + Sync>(rt: &R, alloc: Global, after: u64) -> Result<bool, NoMemory> {
-    let mut disk = Disk::new(alloc);
-    disk.set("a", &MICROSECONDS)?;
-    disk.fail_read("a", after)?;
-    let ended = answer(rt, alloc, &["pass", "a", "b"], &mut disk)?;
-    Ok(ended.is_refused(5, "read fault: a\n") && disk.lacks(&["b"]))
+    let disk = Disk::new(alloc).holding(&[("a", &MICROSECONDS)])?;
+    let disk = disk.failing_read("a", after)?;
+    let call: Call = (&["pass", "a", "b"], (5, "", "read fault: a\n"));
+    leaves(rt, alloc, call, disk, (&[], &["b"]))
 }
 
 #[test]
@@ -35,21 +36,12 @@ fn is_unwritten<R: Threads + Sync>(
     after: u64,
     room: u64,
 ) -> Result<bool, NoMemory> {
-    let mut disk = Disk::new(alloc);
-    disk.set("a", &MICROSECONDS)?;
-    disk.set("b", b"lost")?;
-    disk.fail_write("b", after)?;
-    let ended = watched(
-        rt,
-        alloc,
-        &["pass", "a", "b"],
-        &mut disk,
-        (0, room),
-        &OpenGate,
-    )?;
-    let is_told = ended.code == 6 && ended.has_said("write fault: b\n", room as usize);
+    let disk = Disk::new(alloc).holding(&[("a", &MICROSECONDS), ("b", b"lost")])?;
+    let disk = disk.failing_write("b", after)?;
+    let call: Call = (&["pass", "a", "b"], (6, "", "write fault: b\n"));
     let kept = NANOSECONDS.len().min(after as usize);
-    Ok(is_told && disk.holds("b", &NANOSECONDS[..kept]))
+    let left: Left = (&[("b", &NANOSECONDS[..kept])], &[]);
+    leaves_within(rt, alloc, call, disk, (0, room), left)
 }
 
 #[test]
@@ -67,11 +59,9 @@ fn a_failing_write_is_told_and_leaves_the_first_bytes(rt: HostRuntime) -> Result
 fn is_too_long<R: Threads + Sync>(rt: &R, alloc: Global, len: usize) -> Result<bool, NoMemory> {
     let mut bytes = Vec::new(alloc);
     bytes.resize(len, 0)?;
-    let mut disk = Disk::new(alloc);
-    disk.set("a", &bytes)?;
-    let ended = answer(rt, alloc, &["pass", "a", "b"], &mut disk)?;
-    let line = "capture of input 0: 8, limit 67108864\n";
-    Ok(ended.is_refused(3, line) && disk.lacks(&["b"]))
+    let disk = Disk::new(alloc).holding(&[("a", &bytes)])?;
+    let told = (3, "", "capture of input 0: 8, limit 67108864\n");
+    leaves(rt, alloc, (&["pass", "a", "b"], told), disk, (&[], &["b"]))
 }
 
 #[test]
@@ -80,34 +70,30 @@ fn a_capture_above_the_limit_is_told(rt: HostRuntime) -> Result<(), Fail> {
     Ok(())
 }
 
-/// Commands, whether there is a log beside what a run reads, and the line of each where nothing else is there.
-const MISSING: &[(&[&str], bool, &str)] = &[
-    (&["audit", "c.toml"], true, "read fault: trace.txt\n"),
-    (&["resume", "c.toml", "s.txt"], false, "read fault: s.txt\n"),
-];
+/// The words of a call, what is there beside what a run reads, and the line.
+type Missing = (
+    &'static [&'static str],
+    &'static [(&'static str, &'static [u8])],
+    &'static str,
+);
 
-fn is_missed<R: Threads + Sync>(
-    rt: &R,
-    alloc: Global,
-    words: &[&str],
-    has_log: bool,
-    line: &str,
-) -> Result<bool, NoMemory> {
-    let mut disk = TWO_FOR_ONE.disk(alloc, 1)?;
-    if has_log {
-        disk.set("log.txt", TWO_FOR_ONE.log.as_bytes())?;
-    }
-    let ended = answer(rt, alloc, words, &mut disk)?;
-    Ok(ended.is_refused(5, line))
-}
+const MISSING: &[Missing] = &[
+    (
+        &["audit", "c.toml"],
+        &[("log.txt", b"0 1 0 0 0 0\n0 2 1 0 0 0\n")],
+        "read fault: trace.txt\n",
+    ),
+    (&["resume", "c.toml", "s.txt"], &[], "read fault: s.txt\n"),
+];
 
 #[test]
 fn an_audit_without_a_trace_and_a_run_without_a_state_are_read_faults(
     rt: HostRuntime,
 ) -> Result<(), Fail> {
-    for (words, has_log, line) in MISSING {
+    for (words, given, line) in MISSING {
+        let call = (*words, (5, "", *line));
         assert!(rt;
-            is_missed(&rt, rt.alloc(), words, *has_log, line)?,
+            TWO_FOR_ONE.leaves(&rt, rt.alloc(), call, given, (given, &[]))?,
             "{line}"
         );
     }

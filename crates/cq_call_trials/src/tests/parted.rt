@@ -1,6 +1,6 @@
 //! The state of a stopped run, and states that are refused.
 use cq_base::NoMemory;
-use cq_trials::{TWO_FOR_ONE, answer};
+use cq_trials::{Call, Left, TWO_FOR_ONE};
 use std::alloc::Global;
 use std::test::Fail;
 use std::thread::Threads;
@@ -10,16 +10,11 @@ const STATE: &str =
     "cq-state 1\nnext 1\nshape 2 1 0 2\nsum 3 2\ninput 0 1 0\ninput 1 1 0\nrank 0\nrank 1\n\
     buffer 0 0 0 1\nsent 0 0 0 0 0\nmoved 0 1 0 0 0 0\nmoved 0 2 1 0 0 0\nend\n";
 
-// Whether a run that stops after its first slot writes this state.
-fn is_stopped<R: Threads + Sync>(rt: &R, alloc: Global) -> Result<bool, NoMemory> {
-    let mut disk = TWO_FOR_ONE.disk(alloc, 1)?;
-    let ended = answer(rt, alloc, &["part", "c.toml", "1", "s.txt"], &mut disk)?;
-    Ok(ended.is_done("") && disk.holds("s.txt", STATE.as_bytes()))
-}
-
 #[test]
 fn a_stopped_run_writes_where_each_cell_is(rt: HostRuntime) -> Result<(), Fail> {
-    assert!(rt; is_stopped(&rt, rt.alloc())?);
+    let call: Call = (&["part", "c.toml", "1", "s.txt"], (0, "", ""));
+    let left: Left = (&[("s.txt", STATE.as_bytes())], &[]);
+    assert!(rt; TWO_FOR_ONE.leaves(&rt, rt.alloc(), call, &[], left)?);
     Ok(())
 }
 
@@ -64,12 +59,10 @@ fn is_refused<R: Threads + Sync>(rt: &R, alloc: Global, case: &Changed) -> Resul
         return Ok(false);
     };
     let state = format!(in alloc; "{front}{other}{back}")?;
-    let mut disk = TWO_FOR_ONE.disk(alloc, 1)?;
-    disk.set("s.txt", state.as_bytes())?;
-    let ended = answer(rt, alloc, &["resume", "c.toml", "s.txt"], &mut disk)?;
-    let stays = disk.holds("s.txt", state.as_bytes())
-        && disk.lacks(&["trace.txt", "log.txt", "out0.pcap"]);
-    Ok(stays && ended.is_refused(9, line))
+    let given: [(&str, &[u8]); 1] = [("s.txt", state.as_bytes())];
+    let call: Call = (&["resume", "c.toml", "s.txt"], (9, "", line));
+    let left: Left = (&given, &["trace.txt", "log.txt", "out0.pcap"]);
+    TWO_FOR_ONE.leaves(rt, alloc, call, &given, left)
 }
 
 #[test]

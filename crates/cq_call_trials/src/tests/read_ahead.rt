@@ -1,8 +1,8 @@
 //! What is read ahead and refused: the lowest input is told, whatever happens behind it.
+use super::words::USAGE;
 use cq_base::NoMemory;
-use cq_stream::OpenWatch;
 use cq_trials::{
-    DEFAULTS, Disk, FRAME, NANOSECONDS, WRITTEN, answer, configuration, put_packet, streamed,
+    Call, DEFAULTS, Disk, FRAME, NANOSECONDS, WRITTEN, leaves, leaves_ahead, put_packet,
 };
 use std::alloc::Global;
 use std::sync::Wait;
@@ -12,8 +12,12 @@ use std::thread::Threads;
 /// What stands under the name of an input.
 #[derive(Clone, Copy)]
 enum Input {
-    /// A capture of so many packets.
-    Packets(u32),
+    /// A capture without a packet.
+    Empty,
+    /// A capture of one packet.
+    One,
+    /// A capture of more packets than are read at once.
+    Long,
     /// A header and ten bytes.
     Cut,
     /// A file whose reading fails at its end.
@@ -26,18 +30,14 @@ enum Input {
 type Case = ([Input; 2], u8, &'static str);
 
 const CASES: &[Case] = &[
+    ([Input::Cut, Input::One], 3, "capture of input 0: 5 at 24\n"),
     (
-        [Input::Cut, Input::Packets(1)],
-        3,
-        "capture of input 0: 5 at 24\n",
-    ),
-    (
-        [Input::Packets(0), Input::Cut],
+        [Input::Empty, Input::Cut],
         3,
         "capture of input 1: 5 at 24\n",
     ),
     (
-        [Input::Packets(1025), Input::Cut],
+        [Input::Long, Input::Cut],
         3,
         "capture of input 1: 5 at 24\n",
     ),
@@ -54,92 +54,106 @@ const CASES: &[Case] = &[
     ),
     ([Input::Missing, Input::Cut], 5, "read fault: in0.pcap\n"),
     ([Input::Unread, Input::Cut], 5, "read fault: in0.pcap\n"),
-    (
-        [Input::Packets(1), Input::Unread],
-        5,
-        "read fault: in1.pcap\n",
-    ),
-    (
-        [Input::Packets(1025), Input::Missing],
-        5,
-        "read fault: in1.pcap\n",
-    ),
+    ([Input::One, Input::Unread], 5, "read fault: in1.pcap\n"),
+    ([Input::Long, Input::Missing], 5, "read fault: in1.pcap\n"),
 ];
 
-/// Puts what stands under the name of an input.
-fn put_input(alloc: Global, disk: &mut Disk, name: &str, input: Input) -> Result<(), NoMemory> {
-    let mut bytes = NANOSECONDS.to_vec(alloc)?;
-    match input {
-        Input::Packets(count) => {
-            for _ in 0..count {
-                put_packet(&mut bytes, [0, 0, 14, 14], &FRAME)?;
-            }
-        }
-        Input::Cut => bytes.resize(34, 0)?,
-        Input::Unread => disk.fail_read(name, 24)?,
-        Input::Missing => return Ok(()),
+/// A capture of one packet of 14 bytes.
+const ONE: &[u8] = &[
+    0x4d, 0x3c, 0xb2, 0xa1, 2, 0, 4, 0, 0, 0, 0, 0, 0, 0, 0, 0, 0, 0, 4, 0, 1, 0, 0, 0, //
+    0, 0, 0, 0, 0, 0, 0, 0, 14, 0, 0, 0, 14, 0, 0, 0, //
+    2, 0, 0, 0, 0, 0, 2, 0, 0, 0, 0, 0xaa, 0x88, 0xb5,
+];
+
+/// A header, and ten bytes of a record's.
+const CUT: &[u8] = &[
+    0x4d, 0x3c, 0xb2, 0xa1, 2, 0, 4, 0, 0, 0, 0, 0, 0, 0, 0, 0, 0, 0, 4, 0, 1, 0, 0, 0, //
+    0, 0, 0, 0, 0, 0, 0, 0, 0, 0,
+];
+
+/// A capture of 1025 packets of 14 bytes.
+fn long_capture(alloc: Global) -> Result<Vec<u8>, NoMemory> {
+    let mut capture = NANOSECONDS.to_vec(alloc)?;
+    for _ in 0..1025 {
+        put_packet(&mut capture, [0, 0, 14, 14], &FRAME)?;
     }
-    disk.set(name, &bytes)
+    Ok(capture)
+}
+
+/// The disk with what stands under the name of an input.
+fn with_input(disk: Disk, name: &str, input: Input, long: &[u8]) -> Result<Disk, NoMemory> {
+    match input {
+        Input::Empty => disk.holding(&[(name, &NANOSECONDS)]),
+        Input::One => disk.holding(&[(name, ONE)]),
+        Input::Long => disk.holding(&[(name, long)]),
+        Input::Cut => disk.holding(&[(name, CUT)]),
+        Input::Unread => disk
+            .holding(&[(name, &NANOSECONDS)])?
+            .failing_read(name, 24),
+        Input::Missing => Ok(disk),
+    }
 }
 
 /// A switch of two ports with these inputs.
-fn disk_with(alloc: Global, inputs: [Input; 2]) -> Result<Disk, NoMemory> {
-    let mut disk = Disk::new(alloc);
-    let text = configuration(alloc, 2, 1, DEFAULTS)?;
-    disk.set("c.toml", text.as_bytes())?;
-    put_input(alloc, &mut disk, "in0.pcap", inputs[0])?;
-    put_input(alloc, &mut disk, "in1.pcap", inputs[1])?;
-    Ok(disk)
+fn disk_with(alloc: Global, inputs: [Input; 2], long: &[u8]) -> Result<Disk, NoMemory> {
+    let disk = Disk::of_ports(alloc, 2, 1, DEFAULTS)?;
+    let disk = with_input(disk, "in0.pcap", inputs[0], long)?;
+    with_input(disk, "in1.pcap", inputs[1], long)
 }
 
 /// Whether both commands refuse the inputs with the code and the line, and write nothing.
-fn is_refused<R>(rt: R, alloc: Global, case: &Case) -> Result<bool, NoMemory>
+fn is_refused<R>(rt: R, alloc: Global, case: &Case, long: &[u8]) -> Result<bool, NoMemory>
 where
     R: Threads + Wait + Sync + Copy + Send + 'static,
 {
-    let (inputs, code, line) = case;
-    let mut disk = disk_with(alloc, *inputs)?;
-    let ended = streamed(rt, alloc, &["stream", "c.toml"], &mut disk, &OpenWatch)?;
-    let is_so = ended.is_refused(*code, line) && disk.lacks(WRITTEN);
-    let mut beside = disk_with(alloc, *inputs)?;
-    let run = answer(&rt, alloc, &["run", "c.toml"], &mut beside)?;
-    Ok(is_so && run.is_refused(*code, line))
+    let (inputs, code, line) = *case;
+    let stream: Call = (&["stream", "c.toml"], (code, "", line));
+    let run: Call = (&["run", "c.toml"], (code, "", line));
+    Ok(
+        leaves_ahead(
+            rt,
+            alloc,
+            stream,
+            disk_with(alloc, inputs, long)?,
+            (&[], WRITTEN),
+        )? && leaves(
+            &rt,
+            alloc,
+            run,
+            disk_with(alloc, inputs, long)?,
+            (&[], WRITTEN),
+        )?,
+    )
 }
 
 #[test]
 fn the_lowest_input_at_fault_is_told(rt: HostRuntime) -> Result<(), Fail> {
+    let long = long_capture(rt.alloc())?;
     for case in CASES {
-        assert!(rt; is_refused(rt, rt.alloc(), case)?, "{}", case.2);
+        assert!(rt; is_refused(rt, rt.alloc(), case, &long)?, "{}", case.2);
     }
     Ok(())
 }
 
-/// Words, and the code that the call that reads ahead ends with where no file is there.
-const OTHERS: &[(&[&str], u8)] = &[
-    (&["stream"], 1),
-    (&["stream", "a", "b"], 1),
-    (&["stream", "-"], 1),
-    (&["pass", "a", "b"], 5),
-    (&["soak", "1", "2", "0"], 1),
-    (&["stream", "c.toml"], 5),
+/// Words, and the code and the line of the call that reads ahead where no file is there.
+const OTHERS: &[(&[&str], u8, &str)] = &[
+    (&["stream"], 1, USAGE),
+    (&["stream", "a", "b"], 1, USAGE),
+    (&["stream", "-"], 1, USAGE),
+    (&["pass", "a", "b"], 5, "read fault: a\n"),
+    (&["soak", "1", "2", "0"], 1, USAGE),
+    (&["stream", "c.toml"], 5, "read fault: c.toml\n"),
 ];
-
-fn ends_with<R>(rt: R, alloc: Global, words: &[&str], code: u8) -> Result<bool, NoMemory>
-where
-    R: Threads + Wait + Sync + Copy + Send + 'static,
-{
-    let mut disk = Disk::new(alloc);
-    let ended = streamed(rt, alloc, words, &mut disk, &OpenWatch)?;
-    Ok(ended.code == code)
-}
 
 #[test]
 fn other_words_are_answered_too(rt: HostRuntime) -> Result<(), Fail> {
-    for (words, code) in OTHERS {
-        assert!(rt; ends_with(rt, rt.alloc(), words, *code)?, "{code}");
+    for (words, code, line) in OTHERS {
+        let call = (*words, (*code, "", *line));
+        let disk = Disk::new(rt.alloc());
+        assert!(rt;
+            leaves_ahead(rt, rt.alloc(), call, disk, (&[], WRITTEN))?,
+            "{words:?}"
+        );
     }
-    let mut disk = Disk::new(rt.alloc());
-    let stream = answer(&rt, rt.alloc(), &["stream", "c.toml"], &mut disk)?;
-    assert!(rt; stream.code == 1);
     Ok(())
 }

@@ -1,6 +1,7 @@
 //! Configurations with one fault, or near one: each has its line.
+use super::configured::SAME_FILE;
 use cq_base::NoMemory;
-use cq_trials::{Disk, answer, refuses};
+use cq_trials::{Call, Told, touches_nothing};
 use std::alloc::Global;
 use std::test::Fail;
 use std::thread::Threads;
@@ -84,85 +85,117 @@ const FAULTS: &[Fault] = &[
         [TOP, PORTS, ADDRESSES, "[[port]]\nread = \"in2.pcap\"\n"],
         "C2 at port[2].write",
     ),
+    ([SAME_FILE, "", "", ""], "C7 at port[0].write"),
+    (["version =", "", "", ""], "C1 at -"),
 ];
 
-fn text_of(alloc: Global, parts: [&str; 4]) -> Result<String, NoMemory> {
-    let mut text = String::new(alloc);
+/// The parts one after another, and then as many of the byte as make it so long.
+fn text_of(alloc: Global, parts: [&str; 4], byte: u8, len: usize) -> Result<Vec<u8>, NoMemory> {
+    let mut text = Vec::new(alloc);
     for part in parts {
-        text.push_str(part)?;
+        text.extend_from_slice(part.as_bytes())?;
     }
+    text.resize(len.max(text.len()), byte)?;
     Ok(text)
+}
+
+/// Whether `check` tells this of the configuration, and touches nothing.
+fn is_told<R: Threads + Sync>(
+    rt: &R,
+    alloc: Global,
+    text: &[u8],
+    told: Told,
+) -> Result<bool, NoMemory> {
+    let call: Call = (&["check", "c.toml"], told);
+    touches_nothing(rt, alloc, call, &[("c.toml", text)])
 }
 
 /// Whether `check` refuses the configuration, and says this of it.
 fn is_refused<R: Threads + Sync>(
     rt: &R,
     alloc: Global,
-    text: &[u8],
+    parts: [&str; 4],
     said: &str,
 ) -> Result<bool, NoMemory> {
     let line = format!(in alloc; "configuration: {said}\n")?;
-    refuses(
-        rt,
-        alloc,
-        &["check", "c.toml"],
-        &[("c.toml", text)],
-        2,
-        &line,
-    )
-}
-
-/// Whether `check` accepts the configuration, and touches nothing.
-fn is_accepted<R: Threads + Sync>(rt: &R, alloc: Global, text: &str) -> Result<bool, NoMemory> {
-    let given: [(&str, &[u8]); 1] = [("c.toml", text.as_bytes())];
-    let mut disk = Disk::with(alloc, &given)?;
-    let checked = answer(rt, alloc, &["check", "c.toml"], &mut disk)?;
-    Ok(checked.is_done(ACCEPTED) && disk.holds_all(&given))
+    let text = text_of(alloc, parts, 0, 0)?;
+    is_told(rt, alloc, &text, (2, "", &line))
 }
 
 #[test]
 fn a_configuration_with_one_fault_is_refused_for_it(rt: HostRuntime) -> Result<(), Fail> {
     for (parts, said) in FAULTS {
-        let text = text_of(rt.alloc(), *parts)?;
-        assert!(rt;
-            is_refused(&rt, rt.alloc(), text.as_bytes(), said)?,
-            "{said}"
-        );
+        assert!(rt; is_refused(&rt, rt.alloc(), *parts, said)?, "{said}");
     }
     Ok(())
 }
 
-fn with_ports(alloc: Global, ports: u8) -> Result<String, NoMemory> {
-    let mut text = String::from_str(alloc, TOP)?;
-    for i in 0..ports {
-        let port = format!(in alloc; "[[port]]\nwrite = \"out{i}.pcap\"\n")?;
-        text.push_str(&port)?;
+/// So many ports that write files of their own.
+fn ports(alloc: Global, count: u8) -> Result<String, NoMemory> {
+    let mut text = String::new(alloc);
+    for i in 0..count {
+        write!(text, "[[port]]\nwrite = \"out{i}.pcap\"\n")?;
     }
     Ok(text)
 }
 
 #[test]
-fn a_configuration_has_64_ports_at_most_and_is_utf_8(rt: HostRuntime) -> Result<(), Fail> {
-    let many = with_ports(rt.alloc(), 65)?;
-    assert!(rt; is_refused(&rt, rt.alloc(), many.as_bytes(), "C4 at port")?);
-    let two = text_of(rt.alloc(), [TOP, PORTS, ADDRESSES, ""])?;
-    let mut no_text = two.as_bytes().to_vec(rt.alloc())?;
-    no_text.push(0xff)?;
-    assert!(rt; is_refused(&rt, rt.alloc(), &no_text, "C1 at -")?);
+fn a_configuration_has_64_ports_at_most(rt: HostRuntime) -> Result<(), Fail> {
+    let many = ports(rt.alloc(), 65)?;
+    let parts = [TOP, many.as_str(), "", ""];
+    assert!(rt; is_refused(&rt, rt.alloc(), parts, "C4 at port")?);
     Ok(())
 }
 
 const ONE_FILE: &str = "[[port]]\nread = \"in0.pcap\"\nwrite = \"out0.pcap\"\n\
     [[port]]\nread = \"in0.pcap\"\nwrite = \"out1.pcap\"\n";
 
+/// What is shown, the parts of a configuration, the byte that it ends in, how long it is, and what is told of it.
+type Filled = (&'static str, [&'static str; 4], u8, usize, Told<'static>);
+
+const FILLED: &[Filled] = &[
+    (
+        "a configuration is UTF-8",
+        [TOP, PORTS, ADDRESSES, ""],
+        0xff,
+        1000,
+        (2, "", "configuration: C1 at -\n"),
+    ),
+    (
+        "a configuration above its limit is told",
+        [""; 4],
+        b' ',
+        1_048_577,
+        (2, "", "configuration: C10 at -\n"),
+    ),
+    (
+        "a long comment is accepted",
+        [TOP, PORTS, ADDRESSES, "#"],
+        b'#',
+        1_048_576,
+        (0, ACCEPTED, ""),
+    ),
+    (
+        "two readers of a file are accepted",
+        [TOP, ONE_FILE, ADDRESSES, ""],
+        b'#',
+        0,
+        (0, ACCEPTED, ""),
+    ),
+];
+
+fn is_so<R: Threads + Sync>(rt: &R, alloc: Global, case: &Filled) -> Result<bool, NoMemory> {
+    let (_, parts, byte, len, told) = *case;
+    let text = text_of(alloc, parts, byte, len)?;
+    is_told(rt, alloc, &text, told)
+}
+
 #[test]
-fn two_readers_of_a_file_and_a_long_comment_are_accepted(rt: HostRuntime) -> Result<(), Fail> {
-    let read_twice = text_of(rt.alloc(), [TOP, ONE_FILE, ADDRESSES, ""])?;
-    assert!(rt; is_accepted(&rt, rt.alloc(), &read_twice)?);
-    let mut longest = text_of(rt.alloc(), [TOP, PORTS, ADDRESSES, "#"])?;
-    for _ in longest.len()..1_048_576 {
-        longest.push('#')?;
+fn a_configuration_is_text_up_to_a_limit_and_two_ports_may_read_a_file(
+    rt: HostRuntime,
+) -> Result<(), Fail> {
+    for case in FILLED {
+        assert!(rt; is_so(&rt, rt.alloc(), case)?, "{}", case.0);
     }
-    assert!(rt; is_accepted(&rt, rt.alloc(), &longest)?);
     Ok(())
 }
