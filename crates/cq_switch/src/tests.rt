@@ -11,7 +11,7 @@ use cq_crew::OpenGate;
 use cq_run::{Command, command_of, switch_top};
 use cq_space::{HostFiles, MemSink};
 use cq_trial_kit::FORMS;
-use cq_trials::{Disk, MICROSECONDS, NANOSECONDS, Packet, answer, capture_with, words_of};
+use cq_trials::{Call, Disk, MICROSECONDS, NANOSECONDS, Packet, capture_with, leaves, words_of};
 use std::alloc::Global;
 use std::rt::Files;
 use std::test::Fail;
@@ -77,25 +77,35 @@ const PASSED: &[Passed] = &[
     ),
 ];
 
-/// Whether `a` passes to `b`, and stays.
-fn passes<R: Threads + Sync>(
+/// Whether `a` passes to this name, and stays where that is another.
+fn passes_to<R: Threads + Sync>(
     rt: &R,
     alloc: Global,
+    to: &str,
     input: &[u8],
     output: &[u8],
 ) -> Result<bool, NoMemory> {
-    let mut disk = Disk::new(alloc);
-    disk.set("a", input)?;
-    let done = answer(rt, alloc, &["pass", "a", "b"], &mut disk)?;
-    Ok(done.is_done("") && disk.holds("a", input) && disk.holds("b", output))
+    let disk = Disk::new(alloc).holding(&[("a", input)])?;
+    let words = ["pass", "a", to];
+    let call: Call = (&words, (0, "", ""));
+    let kept = if to == "a" { output } else { input };
+    leaves(rt, alloc, call, disk, (&[("a", kept), (to, output)], &[]))
+}
+
+/// Whether the packets of a case pass to another name, and where one name is for both.
+fn passes_so<R: Threads + Sync>(rt: &R, alloc: Global, case: &Passed) -> Result<bool, NoMemory> {
+    let (_, header, packets, written) = *case;
+    let input = capture_with(alloc, header, packets)?;
+    let output = capture_with(alloc, &NANOSECONDS, written)?;
+    Ok(passes_to(rt, alloc, "b", &input, &output)? && passes_to(rt, alloc, "a", &input, &output)?)
 }
 
 #[test]
-fn a_packet_leaves_in_the_slot_of_its_last_cell(rt: HostRuntime) -> Result<(), Fail> {
-    for (case, header, packets, written) in PASSED {
-        let input = capture_with(rt.alloc(), header, packets)?;
-        let output = capture_with(rt.alloc(), &NANOSECONDS, written)?;
-        assert!(rt; passes(&rt, rt.alloc(), &input, &output)?, "{case}");
+fn a_packet_leaves_in_the_slot_of_its_last_cell_also_to_the_name_that_is_read(
+    rt: HostRuntime,
+) -> Result<(), Fail> {
+    for case in PASSED {
+        assert!(rt; passes_so(&rt, rt.alloc(), case)?, "{}", case.0);
     }
     Ok(())
 }
@@ -105,23 +115,11 @@ fn every_form_of_a_capture_passes_alike(rt: HostRuntime) -> Result<(), Fail> {
     // The form that the program writes.
     let written = &FORMS[1];
     for input in &FORMS {
-        assert!(rt; passes(&rt, rt.alloc(), input, written)?, "{input:?}");
+        assert!(rt;
+            passes_to(&rt, rt.alloc(), "b", input, written)?,
+            "{input:?}"
+        );
     }
-    Ok(())
-}
-
-fn is_replaced<R: Threads + Sync>(rt: &R, alloc: Global) -> Result<bool, NoMemory> {
-    let mut disk = Disk::new(alloc);
-    let input = capture_with(alloc, &MICROSECONDS, &[EMPTY_FRAME])?;
-    disk.set("a", &input)?;
-    let done = answer(rt, alloc, &["pass", "a", "a"], &mut disk)?;
-    let output = capture_with(alloc, &NANOSECONDS, &[EMPTY_FRAME_WRITTEN])?;
-    Ok(done.is_done("") && disk.holds("a", &output))
-}
-
-#[test]
-fn one_name_for_both_is_replaced(rt: HostRuntime) -> Result<(), Fail> {
-    assert!(rt; is_replaced(&rt, rt.alloc())?);
     Ok(())
 }
 
@@ -143,12 +141,11 @@ fn pass_with_two_values_is_a_command(rt: HostRuntime) -> Result<(), Fail> {
 fn is_answered<R: Threads + Sync + Files>(
     rt: &R,
     alloc: Global,
-    from: &str,
-    to: &str,
+    names: [&str; 2],
     code: u8,
     line: &str,
 ) -> Result<bool, NoMemory> {
-    let words = words_of(alloc, &["pass", from, to])?;
+    let words = words_of(alloc, &["pass", names[0], names[1]])?;
     let mut files = HostFiles::new(alloc, rt);
     let mut out = MemSink::new(alloc);
     let mut err = MemSink::new(alloc);
@@ -156,27 +153,87 @@ fn is_answered<R: Threads + Sync + Files>(
     Ok(status.code() == code && err.bytes() == line.as_bytes())
 }
 
-#[test]
-fn files_of_the_system_are_read_and_written(rt: HostRuntime) -> Result<(), Fail> {
-    let alloc = rt.alloc();
-    let folder = env::temp_dir(&rt)?;
-    // Its own names, so that two runs side by side do not meet.
-    let own = process::id(rt.process());
-    let from = format!(in alloc; "{}/cq_switch-{own}-in.pcap", folder.as_str())?;
-    let to = format!(in alloc; "{}/cq_switch-{own}-out.pcap", folder.as_str())?;
-    // A name below a file, which nothing can open.
-    let nowhere = format!(in alloc; "{from}/out.pcap")?;
+/// Whether `pass` is refused with this fault of a name.
+fn is_refused<R: Threads + Sync + Files>(
+    rt: &R,
+    alloc: Global,
+    names: [&str; 2],
+    code: u8,
+    (fault, name): (&str, &str),
+) -> Result<bool, NoMemory> {
+    let line = format!(in alloc; "{fault}: {name}\n")?;
+    is_answered(rt, alloc, names, code, &line)
+}
+
+/// Whether a capture passes from one name to the other, and neither from nor to one that nothing can open.
+fn are_answered<R: Threads + Sync + Files>(
+    rt: &R,
+    alloc: Global,
+    from: &str,
+    to: &str,
+    nowhere: &str,
+) -> Result<bool, NoMemory> {
+    let unread = ("read fault", nowhere);
+    let unwritten = ("write fault", nowhere);
+    Ok(
+        is_answered(rt, alloc, [from, to], 0, "")?
+            && is_refused(rt, alloc, [nowhere, to], 5, unread)?
+            && is_refused(rt, alloc, [from, nowhere], 6, unwritten)?,
+    )
+}
+
+/// Whether the system's file has just these bytes.
+fn is_held<R: Files + Alloc>(rt: &R, name: &str, bytes: &[u8]) -> bool {
+    match fs::read(rt, name) {
+        Ok(found) => found.as_slice() == bytes,
+        Err(_fault) => false,
+    }
+}
+
+/// Whether the input, written under a name, passes to another as the output, and both names can be taken away again.
+fn passes_over<R: Threads + Sync + Files + Alloc>(
+    rt: &R,
+    alloc: Global,
+    [from, to, nowhere]: [&str; 3],
+    input: &[u8],
+    output: &[u8],
+) -> Result<bool, NoMemory> {
+    let is_there = fs::write(rt, from, input).is_ok();
+    let are_answered = are_answered(rt, alloc, from, to, nowhere)?;
+    let are_held = is_held(rt, to, output) && is_held(rt, from, input);
+    let are_gone = fs::remove_file(rt, from).is_ok() && fs::remove_file(rt, to).is_ok();
+    Ok(is_there && are_answered && are_held && are_gone)
+}
+
+/// Whether the capture of one frame passes so.
+fn frame_passes_over<R: Threads + Sync + Files + Alloc>(
+    rt: &R,
+    alloc: Global,
+    names: [&str; 3],
+) -> Result<bool, NoMemory> {
     let input = capture_with(alloc, &MICROSECONDS, &[EMPTY_FRAME])?;
     let output = capture_with(alloc, &NANOSECONDS, &[EMPTY_FRAME_WRITTEN])?;
-    fs::write(&rt, &from, &input)?;
-    let unread = format!(in alloc; "read fault: {nowhere}\n")?;
-    let unwritten = format!(in alloc; "write fault: {nowhere}\n")?;
-    assert!(rt; is_answered(&rt, alloc, &from, &to, 0, "")?);
-    assert!(rt; is_answered(&rt, alloc, &nowhere, &to, 5, &unread)?);
-    assert!(rt; is_answered(&rt, alloc, &from, &nowhere, 6, &unwritten)?);
-    assert!(rt; fs::read(&rt, &to)? == output);
-    assert!(rt; fs::read(&rt, &from)? == input);
-    fs::remove_file(&rt, &from)?;
-    fs::remove_file(&rt, &to)?;
+    passes_over(rt, alloc, names, &input, &output)
+}
+
+/// Whether it passes so in a folder, between names with this number, so that two runs side by side do not meet.
+fn passes_in<R: Threads + Sync + Files + Alloc>(
+    rt: &R,
+    alloc: Global,
+    folder: &str,
+    own: u32,
+) -> Result<bool, NoMemory> {
+    let from = format!(in alloc; "{folder}/cq_switch-{own}-in.pcap")?;
+    let to = format!(in alloc; "{folder}/cq_switch-{own}-out.pcap")?;
+    // A name below a file, which nothing can open.
+    let nowhere = format!(in alloc; "{from}/out.pcap")?;
+    frame_passes_over(rt, alloc, [&from, &to, &nowhere])
+}
+
+#[test]
+fn files_of_the_system_are_read_and_written(rt: HostRuntime) -> Result<(), Fail> {
+    let folder = env::temp_dir(&rt)?;
+    let own = process::id(rt.process());
+    assert!(rt; passes_in(&rt, rt.alloc(), folder.as_str(), own)?);
     Ok(())
 }

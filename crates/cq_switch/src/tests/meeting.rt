@@ -3,33 +3,25 @@
 use cq_base::{NoMemory, Port};
 use cq_crew::{Gate, LedgerSeat, Outcome};
 use cq_trial_kit::Meeting;
-use cq_trials::{Run, THREE_INPUTS, TWO_FOR_ONE, watched};
+use cq_trials::{THREE_INPUTS, TWO_FOR_ONE};
 use std::alloc::Global;
 use std::sync::atomic::AtomicU64;
 use std::sync::atomic::Ordering::SeqCst;
 use std::test::Fail;
 use std::thread::Threads;
 
-/// Whether the run with so many workers, of which the gate is told, does all.
-fn crosses<R: Threads + Sync, G: Gate>(
-    rt: &R,
-    alloc: Global,
-    run: &Run,
-    workers: u8,
-    gate: &G,
-) -> Result<bool, NoMemory> {
-    let mut disk = run.disk(alloc, workers)?;
-    let ended = watched(rt, alloc, &["run", "c.toml"], &mut disk, (1000, 100), gate)?;
-    run.is_crossed(alloc, &ended, &disk)
+/// Whether two workers do all of a run and meet, each with a proposal, none in vain.
+fn meet<R: Threads + Sync>(rt: &R, alloc: Global) -> Result<bool, NoMemory> {
+    let gate = Meeting::of(2);
+    let crosses = TWO_FOR_ONE.crosses_watched(rt, alloc, 2, &gate)?;
+    let faults = [gate.in_vain(), gate.miscounted()];
+    // The first phase alone has two workers and two proposals.
+    Ok(crosses && faults == [0, 0] && gate.proposals() == [1, 1, 0])
 }
 
 #[test]
 fn two_workers_meet(rt: HostRuntime) -> Result<(), Fail> {
-    let gate = Meeting::of(2);
-    assert!(rt; crosses(&rt, rt.alloc(), &TWO_FOR_ONE, 2, &gate)?);
-    assert!(rt; [gate.in_vain(), gate.miscounted()] == [0, 0]);
-    // The first phase alone has two workers and two proposals.
-    assert!(rt; gate.proposals() == [1, 1, 0]);
+    assert!(rt; meet(&rt, rt.alloc())?);
     Ok(())
 }
 
@@ -51,17 +43,22 @@ impl Gate for Counting {
     fn proposed(&self, _worker: u16, _input: Port, _outcome: Outcome, _seat: &LedgerSeat) {}
 }
 
+/// Whether so many workers do all of a run, of whom only the first two claim anything, and none where one is all.
+fn is_done_by<R: Threads + Sync>(rt: &R, alloc: Global, workers: u8) -> Result<bool, NoMemory> {
+    let gate = Counting {
+        claims: AtomicU64::new(0),
+        beyond_two: AtomicU64::new(0),
+    };
+    let crosses = THREE_INPUTS.crosses_watched(rt, alloc, workers, &gate)?;
+    let are_used = (gate.claims.load(SeqCst) > 0) == (workers > 1);
+    Ok(crosses && are_used && gate.beyond_two.load(SeqCst) == 0)
+}
+
 #[test]
 fn no_more_workers_are_used_than_asked_for(rt: HostRuntime) -> Result<(), Fail> {
     // Three inputs have a cell in the first slot.
     for workers in [1, 2] {
-        let gate = Counting {
-            claims: AtomicU64::new(0),
-            beyond_two: AtomicU64::new(0),
-        };
-        assert!(rt; crosses(&rt, rt.alloc(), &THREE_INPUTS, workers, &gate)?);
-        assert!(rt; (gate.claims.load(SeqCst) > 0) == (workers > 1));
-        assert!(rt; gate.beyond_two.load(SeqCst) == 0);
+        assert!(rt; is_done_by(&rt, rt.alloc(), workers)?, "{workers} workers");
     }
     Ok(())
 }

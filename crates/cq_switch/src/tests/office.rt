@@ -2,8 +2,7 @@
 //!
 //! The same switch is shipped in `examples/office`, and told there.
 use cq_base::NoMemory;
-use cq_stream::OpenWatch;
-use cq_trials::{Disk, Ended, MICROSECONDS, NANOSECONDS, answer, put_packet, streamed};
+use cq_trials::{Call, Disk, MICROSECONDS, NANOSECONDS, Told, all_leave, leaves_ahead, put_packet};
 use std::alloc::Global;
 use std::sync::Wait;
 use std::test::Fail;
@@ -126,16 +125,14 @@ const UPLINK: Packets = &[(0, UPLINK_0), (1, UPLINK_1), (3, UPLINK_2)];
 
 const PHONES: Packets = &[(0, PHONES_0), (2, PHONES_1), (3, PHONES_2)];
 
-/// The captures that are written, and their packets.
-const WRITTEN: &[(&str, Packets)] = &[
-    ("uplink-out.pcap", &[(2048, PHONES_1)]),
-    (
-        "phones-out.pcap",
-        &[(1024, UPLINK_1), (1536, UPLINK_0), (3072, PHONES_0)],
-    ),
-    ("servers-out.pcap", &[(2560, UPLINK_2), (3072, PHONES_2)]),
-    ("spare-out.pcap", &[]),
-];
+/// What leaves the uplink.
+const UPLINK_OUT: Packets = &[(2048, PHONES_1)];
+
+/// What leaves to the telephones.
+const PHONES_OUT: Packets = &[(1024, UPLINK_1), (1536, UPLINK_0), (3072, PHONES_0)];
+
+/// What leaves to the servers.
+const SERVERS_OUT: Packets = &[(2560, UPLINK_2), (3072, PHONES_2)];
 
 fn capture_of(alloc: Global, header: &[u8], packets: Packets) -> Result<Vec<u8>, NoMemory> {
     let mut capture = header.to_vec(alloc)?;
@@ -148,57 +145,74 @@ fn capture_of(alloc: Global, header: &[u8], packets: Packets) -> Result<Vec<u8>,
 
 fn disk_of(alloc: Global, workers: u8) -> Result<Disk, NoMemory> {
     let text = format!(in alloc; "workers = {workers}\n{CONFIGURATION}")?;
-    let mut disk = Disk::new(alloc);
-    disk.set("c.toml", text.as_bytes())?;
-    disk.set("uplink.pcap", &capture_of(alloc, &MICROSECONDS, UPLINK)?)?;
-    disk.set("phones.pcap", &capture_of(alloc, &MICROSECONDS, PHONES)?)?;
-    Ok(disk)
+    let uplink = capture_of(alloc, &MICROSECONDS, UPLINK)?;
+    let phones = capture_of(alloc, &MICROSECONDS, PHONES)?;
+    Disk::new(alloc).holding(&[
+        ("c.toml", text.as_bytes()),
+        ("uplink.pcap", &uplink),
+        ("phones.pcap", &phones),
+    ])
 }
 
-/// Whether the disk has the captures that are written, and the texts.
-fn is_sent(alloc: Global, disk: &Disk) -> Result<bool, NoMemory> {
-    for (name, packets) in WRITTEN {
-        if !disk.holds(name, &capture_of(alloc, &NANOSECONDS, packets)?) {
-            return Ok(false);
-        }
-    }
-    Ok(disk.holds("trace.txt", TRACE.as_bytes()) && disk.holds("log.txt", LOG.as_bytes()))
+/// The captures that leave, but for that of the spare port.
+fn sent(alloc: Global) -> Result<[Vec<u8>; 3], NoMemory> {
+    let uplink = capture_of(alloc, &NANOSECONDS, UPLINK_OUT)?;
+    let phones = capture_of(alloc, &NANOSECONDS, PHONES_OUT)?;
+    let servers = capture_of(alloc, &NANOSECONDS, SERVERS_OUT)?;
+    Ok([uplink, phones, servers])
 }
 
-/// Whether a call ended well, told the report, and left all that is written.
-fn is_crossed(alloc: Global, ended: &Ended, disk: &Disk) -> Result<bool, NoMemory> {
-    Ok(ended.is_done(REPORT) && is_sent(alloc, disk)?)
+/// All that is written, where these captures leave.
+fn written(sent: &[Vec<u8>; 3]) -> [(&str, &[u8]); 6] {
+    let [uplink, phones, servers] = sent;
+    [
+        ("uplink-out.pcap", uplink),
+        ("phones-out.pcap", phones),
+        ("servers-out.pcap", servers),
+        ("spare-out.pcap", &NANOSECONDS),
+        ("trace.txt", TRACE.as_bytes()),
+        ("log.txt", LOG.as_bytes()),
+    ]
 }
 
-/// Whether the switch with so many workers sends it all, and an audit says yes to what it leaves.
-fn is_audited<R: Threads + Sync>(rt: &R, alloc: Global, workers: u8) -> Result<bool, NoMemory> {
-    let mut disk = disk_of(alloc, workers)?;
-    let ended = answer(rt, alloc, &["run", "c.toml"], &mut disk)?;
-    let sends = is_crossed(alloc, &ended, &disk)?;
-    let audited = answer(rt, alloc, &["audit", "c.toml"], &mut disk)?;
-    Ok(sends && audited.is_done("audit yes\n"))
+/// What a call tells that does all.
+const DONE: Told = (0, REPORT, "");
+
+/// Whether the switch with so many workers sends it all in two calls.
+fn both_send<R: Threads + Sync>(
+    rt: &R,
+    alloc: Global,
+    workers: u8,
+    calls: [Call; 2],
+) -> Result<bool, NoMemory> {
+    let sent = sent(alloc)?;
+    let disk = disk_of(alloc, workers)?;
+    all_leave(rt, alloc, &calls, disk, (&written(&sent), &[]))
 }
 
 #[test]
 fn an_office_sends_by_urgency_whatever_the_workers(rt: HostRuntime) -> Result<(), Fail> {
+    let run: Call = (&["run", "c.toml"], DONE);
+    let audit: Call = (&["audit", "c.toml"], (0, "audit yes\n", ""));
     for workers in [1, 2, 64] {
-        assert!(rt; is_audited(&rt, rt.alloc(), workers)?, "{workers} workers");
+        assert!(rt;
+            both_send(&rt, rt.alloc(), workers, [run, audit])?,
+            "{workers} workers"
+        );
     }
     Ok(())
 }
 
-/// Whether a run that stops after so many slots and goes on from there sends it all.
-fn goes_on<R: Threads + Sync>(rt: &R, alloc: Global, slots: &str) -> Result<bool, NoMemory> {
-    let mut disk = disk_of(alloc, 1)?;
-    let stopped = answer(rt, alloc, &["part", "c.toml", slots, "s.txt"], &mut disk)?;
-    let ended = answer(rt, alloc, &["resume", "c.toml", "s.txt"], &mut disk)?;
-    Ok(stopped.is_done("") && is_crossed(alloc, &ended, &disk)?)
-}
-
 #[test]
 fn an_office_goes_on_after_a_stop(rt: HostRuntime) -> Result<(), Fail> {
+    let resume: Call = (&["resume", "c.toml", "s.txt"], DONE);
     for slots in ["0", "1", "2"] {
-        assert!(rt; goes_on(&rt, rt.alloc(), slots)?, "after {slots}");
+        let words = ["part", "c.toml", slots, "s.txt"];
+        let part = (words.as_slice(), (0, "", ""));
+        assert!(rt;
+            both_send(&rt, rt.alloc(), 1, [part, resume])?,
+            "after {slots}"
+        );
     }
     Ok(())
 }
@@ -208,9 +222,10 @@ fn streams<R>(rt: R, alloc: Global) -> Result<bool, NoMemory>
 where
     R: Threads + Wait + Sync + Copy + Send + 'static,
 {
-    let mut disk = disk_of(alloc, 1)?;
-    let ended = streamed(rt, alloc, &["stream", "c.toml"], &mut disk, &OpenWatch)?;
-    is_crossed(alloc, &ended, &disk)
+    let sent = sent(alloc)?;
+    let disk = disk_of(alloc, 1)?;
+    let call: Call = (&["stream", "c.toml"], DONE);
+    leaves_ahead(rt, alloc, call, disk, (&written(&sent), &[]))
 }
 
 #[test]

@@ -7,7 +7,7 @@ ghost use Rattle.std.specs.Prelude.{◌<◌};
 
 use cq_base::NoMemory;
 use cq_trial_kit::Draws;
-use cq_trials::{DEFAULTS, Disk, Frame, RUNS, answer};
+use cq_trials::{DEFAULTS, Disk, Frame, Left, RUNS, passes};
 use std::alloc::Global;
 use std::test::Fail;
 use std::thread::Threads;
@@ -52,19 +52,6 @@ fn origin_of(inputs: &[&[Frame]]) -> u64 {
     least.unwrap_or(0)
 }
 
-/// The slots in which the frames of an input start: each in its stamp slot, at 512 ns a slot, or in the
-/// first slot after the cells of the frame before it, whichever is later.
-fn starts_of(alloc: Global, frames: &[Frame], origin: u64) -> Result<Vec<u64>, NoMemory> {
-    let mut starts = Vec::new(alloc);
-    let mut free = 0u64;
-    for frame in frames {
-        let start = (stamp_of(*frame).saturating_sub(origin) / 512).max(free);
-        starts.push(start)?;
-        free = start.saturating_add(cells_of(*frame));
-    }
-    Ok(starts)
-}
-
 fn put_cells(
     arrivals: &mut Vec<Arrival>,
     input: usize,
@@ -79,15 +66,29 @@ fn put_cells(
     Ok(())
 }
 
+/// Puts the cells of an input. Each frame starts in its stamp slot, at 512 ns a slot, or in the first slot after the
+/// cells of the frame before it, whichever is later.
+fn put_frames(
+    arrivals: &mut Vec<Arrival>,
+    input: usize,
+    frames: &[Frame],
+    origin: u64,
+) -> Result<(), NoMemory> {
+    let mut free = 0u64;
+    for (packet, frame) in frames.iter().enumerate() {
+        let start = (stamp_of(*frame).saturating_sub(origin) / 512).max(free);
+        put_cells(arrivals, input, packet, *frame, start)?;
+        free = start.saturating_add(cells_of(*frame));
+    }
+    Ok(())
+}
+
 /// All cells of all inputs.
 fn arrivals_of(alloc: Global, inputs: &[&[Frame]]) -> Result<Vec<Arrival>, NoMemory> {
     let origin = origin_of(inputs);
     let mut arrivals = Vec::new(alloc);
     for (input, frames) in inputs.iter().enumerate() {
-        let starts = starts_of(alloc, frames, origin)?;
-        for (packet, (frame, start)) in frames.iter().zip(&starts).enumerate() {
-            put_cells(&mut arrivals, input, packet, *frame, *start)?;
-        }
+        put_frames(&mut arrivals, input, frames, origin)?;
     }
     Ok(arrivals)
 }
@@ -106,37 +107,46 @@ fn arrive(lists: &mut Vec<Vec<Cell>>, arrivals: &[Arrival], slot: u64) -> Result
 }
 
 /// Sends the first cell of each list, and writes its line.
-fn send(
-    lists: &mut Vec<Vec<Cell>>,
-    slot: u64,
-    trace: &mut String,
-    alloc: Global,
-) -> Result<(), NoMemory> {
+fn send(lists: &mut Vec<Vec<Cell>>, slot: u64, trace: &mut String) -> Result<(), NoMemory> {
     for (output, list) in lists.iter_mut().enumerate() {
         if !list.is_empty() {
             let (_, input, packet, number) = list.remove(0);
-            let line = format!(in alloc; "{slot} {output} {input} {packet} {number}\n")?;
-            trace.push_str(&line)?;
+            write!(trace, "{slot} {output} {input} {packet} {number}\n")?;
         }
     }
     Ok(())
 }
 
-/// The departures of a switch whose inputs have these frames.
-fn trace_of(alloc: Global, inputs: &[&[Frame]]) -> Result<String, NoMemory> {
-    let arrivals = arrivals_of(alloc, inputs)?;
+/// A list for each output, in which nothing waits.
+fn no_cells(alloc: Global, outputs: usize) -> Result<Vec<Vec<Cell>>, NoMemory> {
     let mut lists = Vec::new(alloc);
-    for _ in inputs {
+    for _ in 0..outputs {
         lists.push(Vec::new(alloc))?;
     }
+    Ok(lists)
+}
+
+/// The departures, where these cells arrive.
+fn departures_of(
+    alloc: Global,
+    lists: &mut Vec<Vec<Cell>>,
+    arrivals: &[Arrival],
+) -> Result<String, NoMemory> {
     // After the last arrival each slot sends a cell, until none is left.
     let last = arrivals.iter().map(|(cell, _)| cell.0).max().unwrap_or(0);
     let mut trace = String::new(alloc);
     for slot in 0..last.saturating_add(arrivals.len() as u64) {
-        arrive(&mut lists, &arrivals, slot)?;
-        send(&mut lists, slot, &mut trace, alloc)?;
+        arrive(lists, arrivals, slot)?;
+        send(lists, slot, &mut trace)?;
     }
     Ok(trace)
+}
+
+/// The departures of a switch whose inputs have these frames.
+fn trace_of(alloc: Global, inputs: &[&[Frame]]) -> Result<String, NoMemory> {
+    let arrivals = arrivals_of(alloc, inputs)?;
+    let mut lists = no_cells(alloc, inputs.len())?;
+    departures_of(alloc, &mut lists, &arrivals)
 }
 
 /// A frame of up to 300 bytes, stamped within 4 microseconds of three seconds.
@@ -174,48 +184,70 @@ fn drawn_inputs(alloc: Global, seed: u64) -> Result<Vec<Vec<Frame>>, NoMemory> {
     Ok(inputs)
 }
 
+/// Whether a switch of the program writes this trace.
+fn writes<R: Threads + Sync>(
+    rt: &R,
+    alloc: Global,
+    command: &str,
+    inputs: &[&[Frame]],
+    trace: &str,
+) -> Result<bool, NoMemory> {
+    let disk = Disk::of_switch(alloc, inputs, 1, DEFAULTS)?;
+    let left: Left = (&[("trace.txt", trace.as_bytes())], &[]);
+    passes(rt, alloc, &[command, "c.toml"], disk, left)
+}
+
 /// Whether the program writes the plain switch's trace, by either switch.
 fn agrees<R: Threads + Sync>(rt: &R, alloc: Global, inputs: &[&[Frame]]) -> Result<bool, NoMemory> {
     let trace = trace_of(alloc, inputs)?;
-    for command in ["ideal", "run"] {
-        let mut disk = Disk::of_switch(alloc, inputs, 1, DEFAULTS)?;
-        let done = answer(rt, alloc, &[command, "c.toml"], &mut disk)?;
-        if done.code != 0 || !disk.holds("trace.txt", trace.as_bytes()) {
-            return Ok(false);
-        }
-    }
-    Ok(true)
+    Ok(writes(rt, alloc, "ideal", inputs, &trace)? && writes(rt, alloc, "run", inputs, &trace)?)
 }
 
-/// What the frames show, the frames of the one input, and the slots in which they start.
-type Line = (&'static str, &'static [Frame], &'static [u64]);
+/// What the frames show, the frames of the one input, and their cells, in the slots in which they come.
+type Line = (&'static str, &'static [Frame], &'static [Arrival]);
 
 const LINES: &[Line] = &[
     (
         "one, two and two cells at once",
         &[(0, 0, 0, 64), (0, 0, 0, 65), (0, 0, 0, 128)],
-        &[0, 1, 3],
+        &[
+            ((0, 0, 0, 0), 0),
+            ((1, 0, 1, 0), 0),
+            ((2, 0, 1, 1), 0),
+            ((3, 0, 2, 0), 0),
+            ((4, 0, 2, 1), 0),
+        ],
     ),
     (
         "an earlier stamp after a later one",
         &[(0, 2048, 0, 60), (0, 0, 0, 60)],
-        &[4, 5],
+        &[((4, 0, 0, 0), 0), ((5, 0, 1, 0), 0)],
     ),
-    ("a busy line", &[(0, 0, 0, 200), (0, 512, 0, 60)], &[0, 4]),
+    (
+        "a busy line",
+        &[(0, 0, 0, 200), (0, 512, 0, 60)],
+        &[
+            ((0, 0, 0, 0), 0),
+            ((1, 0, 0, 1), 0),
+            ((2, 0, 0, 2), 0),
+            ((3, 0, 0, 3), 0),
+            ((4, 0, 1, 0), 0),
+        ],
+    ),
 ];
 
-/// Whether the frames of the one input start in these slots, also in the program.
-fn starts_so<R: Threads + Sync>(rt: &R, alloc: Global, line: &Line) -> Result<bool, NoMemory> {
-    let (_, frames, starts) = *line;
+/// Whether the cells of the one input come in these slots, also in the program.
+fn comes_so<R: Threads + Sync>(rt: &R, alloc: Global, line: &Line) -> Result<bool, NoMemory> {
+    let (_, frames, cells) = *line;
     let inputs = [frames];
-    let plain = starts_of(alloc, frames, origin_of(&inputs))?;
-    Ok(plain.as_slice() == starts && agrees(rt, alloc, &inputs)?)
+    let are_so = arrivals_of(alloc, &inputs)?.as_slice() == cells;
+    Ok(are_so && agrees(rt, alloc, &inputs)?)
 }
 
 #[test]
 fn one_line_is_as_in_the_plain_switch(rt: HostRuntime) -> Result<(), Fail> {
     for line in LINES {
-        assert!(rt; starts_so(&rt, rt.alloc(), line)?, "{}", line.0);
+        assert!(rt; comes_so(&rt, rt.alloc(), line)?, "{}", line.0);
     }
     Ok(())
 }
@@ -228,13 +260,22 @@ fn worked_runs_are_as_in_the_plain_switch(rt: HostRuntime) -> Result<(), Fail> {
     Ok(())
 }
 
-fn agrees_on_drawn<R: Threads + Sync>(rt: &R, alloc: Global, seed: u64) -> Result<bool, NoMemory> {
-    let drawn = drawn_inputs(alloc, seed)?;
+/// Whether the program agrees on these frames.
+fn agrees_on<R: Threads + Sync>(
+    rt: &R,
+    alloc: Global,
+    drawn: &[Vec<Frame>],
+) -> Result<bool, NoMemory> {
     let mut inputs = Vec::new(alloc);
-    for frames in &drawn {
+    for frames in drawn {
         inputs.push(frames.as_slice())?;
     }
     agrees(rt, alloc, &inputs)
+}
+
+fn agrees_on_drawn<R: Threads + Sync>(rt: &R, alloc: Global, seed: u64) -> Result<bool, NoMemory> {
+    let drawn = drawn_inputs(alloc, seed)?;
+    agrees_on(rt, alloc, &drawn)
 }
 
 #[test]

@@ -1,14 +1,14 @@
 //! Captures are decoded by readers ahead of the engine, and two of them are at work at once.
 
-use cq_base::Port;
+use cq_base::{NoMemory, Port};
 use cq_stream::{OpenWatch, Watch};
 use cq_trials::{RUNS, RUNS_BY_KEYS, TWO_FOR_ONE};
 use std::alloc::Global;
-use std::sync::Arc;
 use std::sync::atomic::AtomicU64;
 use std::sync::atomic::Ordering::SeqCst;
+use std::sync::{Arc, Wait};
 use std::test::Fail;
-use std::thread::yield_now;
+use std::thread::{Threads, yield_now};
 
 /// How many turns a reader is held for at most.
 const TURNS: u32 = 10_000_000;
@@ -84,15 +84,22 @@ impl Watch for Meeting {
     }
 }
 
-#[test]
-fn readers_meet(rt: HostRuntime) -> Result<(), Fail> {
-    let told = Arc::new(rt.alloc(), Told::nothing())?;
+/// Whether the readers of inputs 0 and 1 tell once each, no other does, none waits in vain, and all is done.
+fn meet<R>(rt: R, alloc: Global) -> Result<bool, NoMemory>
+where
+    R: Threads + Wait + Sync + Copy + Send + 'static,
+{
+    let told = Arc::new(alloc, Told::nothing())?;
     let watch = Meeting {
         told: Arc::try_clone(&told).ok(),
     };
-    assert!(rt; TWO_FOR_ONE.streams(rt, rt.alloc(), &watch)?);
-    // The readers of inputs 0 and 1 told once each, no other did, and none waited in vain.
-    assert_eq!(rt; told.all(), [1, 1, 0, 0]);
+    let streams = TWO_FOR_ONE.streams(rt, alloc, &watch)?;
+    Ok(streams && told.all() == [1, 1, 0, 0])
+}
+
+#[test]
+fn readers_meet(rt: HostRuntime) -> Result<(), Fail> {
+    assert!(rt; meet(rt, rt.alloc())?);
     Ok(())
 }
 
