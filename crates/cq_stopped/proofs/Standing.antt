@@ -348,7 +348,8 @@ module _ {w : Switch} (at : Taken) {ideal : IdealState} {cs : List (List (Option
   left_by : (d : Departure) → Has at.sent d → output_of w.came (named_as d.queued) ≡ d.output
   left_by d has = its_output d.queued (has_left_it d has).kept ∙ sym (right_at d has).own
 
-  pub stand_in_order : EachPair DepartsBefore at.sent → AreMoved (length w.machines) at.frozen.next at.note → StandInOrder w st
+  pub stand_in_order : EachPair DepartsBefore at.sent → AreMoved (length w.machines) at.frozen.next at.note →
+      StandInOrder w st
   unfolding state_of
   stand_in_order departs moved =
       let Timely : Sent → Type 0 = λ d. (d.cell.slot ≤ d.slot) × (d.slot < at.frozen.next) in

@@ -104,7 +104,8 @@ module _ (w : Switch) (ranks : List (List ℕ)) (configured : IsConfigured w ran
       let next = at.frozen.next in
       let stable = stable_limited_run w.machines w.limits 0 (arriving_from w.came 0 next) (opening w ranks)
       (marked_in at.frozen) rs runs in
-      let long : length rs ≤ 2 ^ 64 = omega (arith, known.long, length-map rs (λ (r : LimitedRecord). r.of_slot.came)) in
+      let many = length-map rs (λ (r : LimitedRecord). r.of_slot.came) in
+      let long : length rs ≤ 2 ^ 64 = omega (arith, known.long, many) in
       let written = written_in_run ports w.classes w.came configured.traffic configured.names w.limits w.machines next
       (opening w ranks) (marked_in at.frozen) rs configured.few long (empty_list ports) stable in
       let times = of_its_slots w.limits w.machines 0 _ _ _ rs stable in
