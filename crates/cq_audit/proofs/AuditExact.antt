@@ -1,5 +1,5 @@
 -- A log has one verdict: it cannot be read, or what was read is that of a stable run or has one fault first.
-use Rattle.cq_audit.proofs.Terms.{common_steps, ◌≡◌, ◌≢◌, ℕ, ◌-◌, ◌⊎◌, List, length, Option, sym, ap, ◌∙◌, inl, inr, arith, Arrival, Setup, machines_of, IsAuditExact, IsNo, IsReadNo, IsYes, opening_fabric, IsLogExact, IsLogFault, AuditRefusal, Line, NoMemory}
+use Rattle.cq_audit.proofs.Terms.{common_steps, ◌≡◌, ◌≢◌, ℕ, ◌⊎◌, List, length, Option, sym, ap, ◌∙◌, inl, inr, arith, Arrival, Setup, machines_of, IsAuditExact, IsNo, IsReadNo, IsYes, opening_fabric, IsLogExact, IsLogFault, AuditRefusal, Line, NoMemory}
 use Rattle.cq_audit.proofs.LogLines.{log_is_exact}
 use Rattle.cq_audit.proofs.WholeFollowing.{no_no, one_no_of}
 

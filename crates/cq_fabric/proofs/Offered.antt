@@ -8,7 +8,7 @@ use Rattle.std.proofs.Math.ListN.{get_or-map}
 use Rattle.cq_prefs.specs.Renewal.{AreSameWithout}
 use Rattle.cq_prefs.proofs.OneOrder.{one_orders}
 use Rattle.cq_prefs.proofs.Places.{place_in-le-length}
-use Rattle.cq_prefs.proofs.BehindFirst.{OfferAlike, comes_behind, same_offers}
+use Rattle.cq_prefs.proofs.BehindFirst.{comes_behind, same_offers}
 use Rattle.cq_prefs.proofs.Changes.{IsSameBut, same_list, same_but_arrival, same_but_taken, same_without}
 use Rattle.cq_fabric.proofs.Queued.{cells-at, firsts_apart}
 

@@ -1,5 +1,4 @@
 -- How many cells buffers can hold: no fewer than they do, and so many that a number of 64 bits counts them.
-use Rattle.std.proofs.Common.{rules}
 use Rattle.cq_fabric.proofs.Terms.{common_steps, ◌≡◌, ℕ, zero, suc, ◌+◌, ◌^◌, ◌<◌, ◌≤◌, List, [], ◌∷◌, ◌++◌, length, map, get_or, take, replicate, arith, ap, All, cases_lt, get_or_past, take_more, All-push, map_next, map_same, Buffered, cells_in, list_of, buffer_room, Queued}
 
 pub within_rooms : (buffers : List Buffered) (j : ℕ) →

@@ -1,7 +1,6 @@
 -- What arrives in the slots of a run, slot by slot, is what was to arrive, in its order: the cells that come to an
 -- input, and those of a flow. At the place of the flow's input stand all its cells of a slot, so they are among the
 -- cells that come to the input.
-use Rattle.std.proofs.Common.{rules}
 use Rattle.cq_ideal.proofs.Terms.{common_steps, ◌≡◌, ℕ, zero, suc, ◌+◌, ◌<◌, ◌≤◌, List, [], ◌∷◌, None, Option, refl, sym, ap, ◌∙◌, ⊎_elim, arith, AllByRecursion, and_right, cases_lt, cond-false, ne_eqb, get_or_past, unwrap_or-slice_get, Cell, Arrival, arriving, arriving_at, enough, traffic_of, arrival_at, RiseByInput, came_in_flow, came_at, cells_at}
 use Rattle.cq_ideal.proofs.Ends.{all_slots}
 use Rattle.cq_ideal.proofs.FlowFound.{cell_listed, length-arriving}

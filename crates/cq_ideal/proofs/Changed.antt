@@ -1,7 +1,7 @@
 -- Lists that are made item by item, what is seen of one item, and lists that are new up to a place, and old from it on.
 -- So the list and the machine of one output among those of all: what stands at its place is read through the lists of
 -- all, and a call that changes it changes these at its place alone.
-use Rattle.cq_ideal.proofs.Terms.{common_steps, ◌≡◌, ℕ, zero, suc, refl, ◌+◌, ◌<◌, ◌≤◌, List, [], ◌∷◌, ◌++◌, length, map, get_or, replicate, set, take, drop, sym, ap, ◌∙◌, arith, length-append, append-nil, drop_all, drop_more, get_or_at, get_or-map, length-drop, length-map, length-take, length-take-le, map-set, map_push, replicate_more, set_at, take_all, take_more, map-set_same, Option, None, subst, length-set, get_or-set_other, length-replicate, Queued, ◌^◌, eqb, Bool, All, IsTrue, ◌↔◌, list_all, get_or-replicate, All-push, list_all-map, list_all-from_AllPass, IsWithin, QueueView, QueuesView, list_at, Machine, machine_at, first_come, RanksView}
+use Rattle.cq_ideal.proofs.Terms.{common_steps, ◌≡◌, ℕ, zero, suc, refl, ◌+◌, ◌<◌, ◌≤◌, List, [], ◌∷◌, ◌++◌, length, map, get_or, replicate, set, take, drop, sym, ap, ◌∙◌, arith, length-append, append-nil, drop_all, drop_more, get_or_at, get_or-map, length-drop, length-map, length-take, length-take-le, map-set, map_push, replicate_more, set_at, take_all, take_more, map-set_same, Option, None, subst, length-set, get_or-set_other, length-replicate, Queued, ◌^◌, eqb, Bool, All, IsTrue, ◌↔◌, list_all, All-push, list_all-map, list_all-from_AllPass, IsWithin, QueueView, QueuesView, list_at, Machine, machine_at, first_come, RanksView}
 use Rattle.cq_ideal.specs.Newcomers.{AreUsed}
 
 -- ## One item more

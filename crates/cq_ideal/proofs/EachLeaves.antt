@@ -2,7 +2,7 @@
 -- are enough the cells that come to an input are its arrivals, and of these the packets that are taken leave flow by
 -- flow, while all cells of the others are refused. The whole run sends and refuses the same. And a cell is refused
 -- because its packet's first one found its output full, which an output without a limit never is.
-use Rattle.cq_ideal.proofs.Terms.{rules, ◌≡◌, ℕ, zero, suc, ◌+◌, ◌<◌, Bool, true, false, not, List, [], ◌∷◌, length, filter, Option, Some, None, refl, sym, ap, ◌∙◌, subst, arith, common_steps, All, ◌==◌, slice_index_or, AllByRecursion, cons_option, cases_Bool, cond-false, cond-true, eqb-true, ne_eqb, Cell, Arrival, traffic_of, arrival_at, Admission, admission, held_after, is_first, mark_after, mark_at, marks_after, marks_down, refused, whole_limited_run, empty_limited, cells_refused, refused_in, AreJudged, AreOfPackets, cells_at, recursion_from_All, filter_passes, AllPairs-filter, get_or}
+use Rattle.cq_ideal.proofs.Terms.{rules, ◌≡◌, ℕ, zero, suc, ◌+◌, ◌<◌, Bool, true, false, List, [], ◌∷◌, length, Option, Some, None, refl, sym, ap, ◌∙◌, subst, arith, common_steps, All, ◌==◌, slice_index_or, AllByRecursion, cons_option, cases_Bool, cond-false, cond-true, eqb-true, ne_eqb, Cell, Arrival, traffic_of, arrival_at, Admission, admission, held_after, is_first, mark_after, mark_at, marks_after, marks_down, refused, whole_limited_run, empty_limited, cells_refused, refused_in, AreJudged, AreOfPackets, cells_at, recursion_from_All, filter_passes, AllPairs-filter, get_or}
 use Rattle.cq_ideal.specs.EachOnce.{EachLeavesOrIsRefused, KeepTheirOutput, RefusesNoneElsewhere}
 use Rattle.cq_ideal.proofs.Admitted.{its_marks}
 use Rattle.cq_ideal.proofs.AtInput.{come_in_order}

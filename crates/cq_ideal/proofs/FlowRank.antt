@@ -1,7 +1,7 @@
 -- The arrivals of a slot at one output, ranked and put into its list from input to input. A cell for the output is
 -- put behind all that wait of its flow, and a cell for another output changes neither the list nor the machine's
 -- state here. So of each flow the list shows what it showed before, and then what arrives of it.
-use Rattle.cq_ideal.proofs.Terms.{common_steps, rules, ◌≡◌, ℕ, ◌+◌, ◌<◌, Bool, cond, List, [], ◌∷◌, ◌++◌, length, Option, Some, None, Result, Ok, Err, refl, ⊎_elim, arith, sym, slice_index_or, AllByRecursion, cases_eq, ne_eqb, and_left, cond-false, eq-eqb, cond-true, append-nil, get_or-set_other, length-set, append_assoc, get_or-set_same, Cell, Queued, TagFault, put, is_for, Machine, KeepsLaws, machine_at, Ranking, ranking, after_input, keyed, put_all, given_at, level_at, rank_at}
+use Rattle.cq_ideal.proofs.Terms.{common_steps, rules, ◌≡◌, ℕ, ◌+◌, ◌<◌, Bool, cond, List, [], ◌∷◌, ◌++◌, length, Option, Some, None, Result, Ok, Err, ⊎_elim, arith, slice_index_or, AllByRecursion, cases_eq, ne_eqb, and_left, cond-false, append-nil, get_or-set_other, length-set, append_assoc, Cell, Queued, TagFault, put, is_for, Machine, KeepsLaws, machine_at, Ranking, ranking, after_input, keyed, put_all, given_at, level_at, rank_at}
 use Rattle.cq_ideal.proofs.FlowStands.{Stands, shown, of_flow, of_flow-cons, stands_on, stands_next, stands_put, shown-put}
 
 -- the cells that arrive in a slot

@@ -1,7 +1,7 @@
 -- Slots in which nothing waits and nothing comes. Such a slot sends nothing, and only tells each machine that its
 -- output was idle. A machine that keeps the laws is not changed by a second idle slot, so that many such slots do
 -- what one does.
-use Rattle.cq_ideal.proofs.Terms.{rules, ◌≡◌, ℕ, zero, suc, ◌+◌, ◌-◌, ◌<◌, ◌≤◌, List, [], length, map, get_or, set, drop, slice_get, replicate, Option, Some, None, Ok, refl, sym, ap, ◌∙◌, arith, common_steps, cases_eq, ext_get_or, get_or-map, length-replicate, no_arrivals, Queued, KeepsLaws, Machine, first_come, machine_at, told, IdealSwitch, IsEmptyIdeal, empty_ideal, ideal_run, nothing_sent, then_ran, IdealState, fronts, ideal_slot, rests, FitTogether, QueuesView, RanksView, all_idle, state_of, after_input, ranking}
+use Rattle.cq_ideal.proofs.Terms.{rules, ◌≡◌, ℕ, zero, suc, ◌+◌, ◌-◌, ◌<◌, ◌≤◌, List, [], length, map, get_or, set, drop, slice_get, replicate, Option, None, Ok, refl, sym, ap, ◌∙◌, arith, common_steps, ext_get_or, get_or-map, length-replicate, no_arrivals, Queued, KeepsLaws, Machine, first_come, machine_at, told, IdealSwitch, IsEmptyIdeal, empty_ideal, ideal_run, nothing_sent, IdealState, fronts, ideal_slot, rests, FitTogether, QueuesView, RanksView, all_idle, state_of, after_input, ranking}
 use Rattle.cq_ideal.proofs.Parted.{next_slot}
 use Rattle.cq_ideal.proofs.Changed.{map-replicate, same_at, at_end, at_place, changed_to, next_place}
 use Rattle.cq_ideal.proofs.Sending.{length-told, told_at}

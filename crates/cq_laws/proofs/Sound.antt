@@ -2,7 +2,6 @@
 -- in order in each input's list, no key is twice, and every cell is from before a slot. That no key is twice is said
 -- of two cells at inputs, of one at an input and one that has crossed, and of two that have crossed; by their places
 -- it is the same.
-use Rattle.std.proofs.Common.{rules}
 use Rattle.cq_laws.proofs.Terms.{common_steps, ◌≡◌, ◌≢◌, ◌∷◌, ℕ, ◌<◌, List, Some, refl, sym, ◌∙◌, arith, ⊎_elim, slice_get, cases_lt, true≢false, Queued, Fabric, input, buffer, IsAmong, IsFabric, ListsKeepOrder, IsBefore, IsRising, EachPair, key_laws, each_pair_at, AreOrdersOf, FirstKeysDiffer, orders_of, are_orders, HasFor, Waiting, Crossed, NoKeyTwice, AllBefore}
 use Rattle.cq_laws.proofs.Members.{all_among, among_at, at_among, from_first}
 

@@ -1,6 +1,6 @@
 -- The rule allows each kind of step, and what each tells its seat is so.
-use Rattle.cq_ledger.proofs.Terms.{rules, ℕ, suc, ◌≡◌, ◌≢◌, ◌⊎◌, ◌*◌, ◌<◌, ◌≤◌, ◌^◌, min, List, get_or, set, Some, None, refl, sym, ◌∙◌, arith, subst, bit_or, ⊎_elim, common_steps, none, cases_eq, set-get_or, get_or-le-sum_by, set_here, set_else, set_again, Orders, ports, position_of, IsOffered, next_place, state_after, events_at_most, output_in_range, sound-after, next_output-offered, View, Seated, Ruled, IsWord, IsOtherWord, IsProposal, proposal, IsClaim, claim, look, IsLedger, output_at, words_proposed, proposed, words_claimed, claim_taken, claim_refused, blank, joined, spent, Sits, bit, claim_word}
-use Rattle.atomic_table.specs.Table.{step, keeps, Allows, Splits, Joins}
+use Rattle.cq_ledger.proofs.Terms.{rules, ℕ, suc, ◌≡◌, ◌≢◌, ◌⊎◌, ◌*◌, ◌<◌, ◌≤◌, ◌^◌, min, List, get_or, set, Some, None, sym, ◌∙◌, arith, bit_or, ⊎_elim, common_steps, none, cases_eq, set-get_or, get_or-le-sum_by, set_here, set_else, set_again, Orders, ports, position_of, IsOffered, state_after, events_at_most, output_in_range, sound-after, next_output-offered, View, Seated, Ruled, IsWord, proposal, IsClaim, claim, look, IsLedger, output_at, words_proposed, proposed, words_claimed, claim_taken, claim_refused, blank, joined, spent, Sits, bit, claim_word}
+use Rattle.atomic_table.specs.Table.{step, Allows, Splits, Joins}
 use Rattle.cq_ledger.proofs.Claiming.{claim-keeps}
 use Rattle.cq_ledger.proofs.Proposing.{propose-keeps}
 use Rattle.cq_ledger.proofs.Refusing.{refuse-keeps}

@@ -1,6 +1,6 @@
 -- A claim that finds the input unclaimed keeps the rule, and is no event. The input has not proposed and nobody holds
 -- it, so it is free where its order is not empty, and the hand takes it at its first place.
-use Rattle.cq_ledger.proofs.Terms.{ℕ, suc, ◌≡◌, ◌≢◌, ◌⊎◌, ◌<◌, ◌^◌, List, length, set, None, sym, ◌∙◌, ap, arith, bit_or, rules, cases_eq, get_or-set_same, get_or-set_other, length-set, at_set, Orders, ports, outputs_of, sound-after, State, next_place, IsFree, state_after, IsSound, AreClaims, AreHands, IsLedger, hand_at, claim_taken, Waits, Sits, IsClaimedByOne, bit, claim_word, View, common_steps}
+use Rattle.cq_ledger.proofs.Terms.{ℕ, suc, ◌≡◌, ◌≢◌, ◌⊎◌, ◌<◌, ◌^◌, List, length, set, None, ◌∙◌, ap, arith, bit_or, rules, cases_eq, get_or-set_same, get_or-set_other, length-set, at_set, Orders, ports, outputs_of, sound-after, State, next_place, IsFree, state_after, IsSound, AreClaims, AreHands, IsLedger, hand_at, claim_taken, Waits, Sits, IsClaimedByOne, bit, claim_word, View, common_steps}
 use Rattle.cq_ledger.proofs.Hands.{hand_at-left, hand_at-shows}
 use Rattle.cq_ledger.proofs.Dealt.{sits_now, by_one_still, in_hand_still, made_with, hands_with}
 use Rattle.cq_ledger.proofs.Views.{bit-or_same, bit-or_other, bit-zero}

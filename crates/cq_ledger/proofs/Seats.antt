@@ -1,6 +1,6 @@
 -- Making the first seat, a split and a join keep the rule, and are no event: the words stay, and what the seats have
 -- claimed, seen, made and in their hands is only dealt out anew.
-use Rattle.cq_ledger.proofs.Terms.{ℕ, zero, suc, ◌≡◌, ◌≢◌, ◌⊎◌, inl, inr, ◌+◌, ◌≤◌, List, [], ◌∷◌, ◌++◌, set, replicate, Some, None, refl, sym, ◌∙◌, ap, arith, bit_or, ⊎_elim, rules, sum_by, cases_eq, length-replicate, get_or-replicate, sum_by_push, at_set, set_else, set_again, at_longer, at_snoc, Orders, AreOffers, ports, held-start, next_place-start, AreClaims, AreHands, IsLedger, State, state_after, blank, joined, spent, Waits, Sits, bit, claim_word, View, common_steps}
+use Rattle.cq_ledger.proofs.Terms.{ℕ, zero, suc, ◌≡◌, ◌≢◌, ◌⊎◌, ◌+◌, ◌≤◌, List, [], ◌∷◌, ◌++◌, set, replicate, Some, None, refl, sym, ◌∙◌, ap, arith, bit_or, ⊎_elim, rules, sum_by, cases_eq, length-replicate, get_or-replicate, sum_by_push, at_set, set_else, set_again, at_longer, at_snoc, Orders, AreOffers, ports, held-start, next_place-start, AreClaims, AreHands, IsLedger, State, state_after, blank, joined, spent, Waits, Sits, bit, claim_word, View, common_steps}
 use Rattle.cq_ledger.proofs.Dealt.{sits_now, made_with, hands_from, dealt}
 use Rattle.cq_ledger.proofs.Views.{same_at, bit-zero, no_bits, bit-either, bit-left, bit-right}
 

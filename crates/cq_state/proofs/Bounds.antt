@@ -1,5 +1,5 @@
 -- The numbers of a line are within what the state keeps of them, since they are within the ranges of its kind.
-use Rattle.cq_state.proofs.Terms.{rules, ℕ, ◌-◌, ◌^◌, ◌<◌, ◌≤◌, List, length, get_or, Option, arith, lit≤, common_steps, Range, Within, any_number, Kind, Version, Next, Shape, Sum, Input, Rank, Listed, Buffered, Sent, Moved, End, cell, ranges, further, AreLow, AreNamedAt, number_at}
+use Rattle.cq_state.proofs.Terms.{rules, ℕ, ◌^◌, ◌<◌, ◌≤◌, List, length, get_or, Option, arith, lit≤, common_steps, Range, Within, any_number, Kind, Version, Next, Shape, Sum, Input, Rank, Listed, Buffered, Sent, Moved, End, cell, ranges, further, AreLow, AreNamedAt, number_at}
 
 number_low : (rs : List Range) (further : ℕ) (fs : List (Option ℕ)) (i : ℕ) → Within rs further fs → i < length rs →
     number_at fs i ≤ (get_or rs i any_number).most
