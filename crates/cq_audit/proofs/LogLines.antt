@@ -2,11 +2,8 @@
 -- of a transfer begins with its slot, and the fields behind that are the other numbers. They leave no choice of the
 -- transfer.
 -- The lines of a log that was read are in order: each is behind the one before it, and so behind all before it.
-use Rattle.cq_audit.proofs.Terms.{ap, rules, ◌≡◌, ℕ, List, [], ◌++◌, length, Option, None, Some, refl, append_assoc, length-append, arith, ◌∷◌, common_steps, Transfer, log_line, IfSome, ⊤, IsTransfer, IsOf, IsBefore, Comes, IsLogExact, numbers_behind, AreInOrder, IsLog, AllByRecursion, Leads, all_weaker}
-use Rattle.cq_lines.specs.Lines.{ending, BeginsWith}
+use Rattle.cq_audit.proofs.Terms.{ap, rules, ◌≡◌, ℕ, List, [], ◌++◌, length, Option, None, Some, refl, append_assoc, length-append, arith, ◌∷◌, common_steps, Transfer, log_line, IfSome, ⊤, IsTransfer, IsOf, IsBefore, Comes, IsLogExact, numbers_behind, AreInOrder, IsLog, AllByRecursion, Leads, all_weaker, ending, BeginsWith, one_number, ending_ends, one_ending}
 use Rattle.cq_lines.proofs.Exact.{exact}
-use Rattle.cq_lines.proofs.Spelling.{one_number}
-use Rattle.cq_lines.proofs.Walk.{ending_ends, one_ending}
 
 pub begins_with_slot : (text more : List ℕ) (t : Transfer) → text ≡ log_line t ++ more →
     BeginsWith text (Some t.slot) (ending (numbers_behind t) ++ more)

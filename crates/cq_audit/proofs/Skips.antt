@@ -1,7 +1,6 @@
 -- Slots that a replay skips. No cell arrives up to the next arrival, and no line is of a slot before the first one's.
 -- And a stretch of no slots leaves everything as it is.
-use Rattle.cq_audit.proofs.Terms.{rules, ◌≡◌, ℕ, ◌≤◌, inl, inr, min, List, [], ◌∷◌, replicate, Option, None, Some, refl, arith, slice_get, AllByRecursion, cases_lt, no_arrivals, Arrival, Transfer, Machine, Marked, IsStable, Fabric, LimitedFabricRun, quiet_limited_slots, quiet_of, NoneBefore, HasRested, IsInStep, IsMadeAs, ReplayView, ports_in, FirstIsLeast, IsStill, IsStillUntil, all_weaker, common_steps}
-use Rattle.cq_traffic.specs.Stretch.{IsQuietUntil}
+use Rattle.cq_audit.proofs.Terms.{rules, ◌≡◌, ℕ, ◌≤◌, inl, inr, min, List, [], ◌∷◌, replicate, Option, None, Some, refl, arith, slice_get, AllByRecursion, cases_lt, no_arrivals, Arrival, Transfer, Machine, Marked, IsStable, Fabric, LimitedFabricRun, quiet_limited_slots, quiet_of, NoneBefore, HasRested, IsInStep, IsMadeAs, ReplayView, ports_in, FirstIsLeast, IsStill, IsStillUntil, all_weaker, common_steps, IsQuietUntil}
 
 -- ## Up to where nothing happens
 

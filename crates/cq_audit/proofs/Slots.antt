@@ -4,21 +4,10 @@
 -- each step leaves: what comes is judged and ranked and arrives, the lines of the first phase are gone by, the outputs
 -- send, and the lines of the second are gone by.
 -- A replay before its first slot, and after slots in which nothing happens.
-use Rattle.cq_audit.proofs.Terms.{common_steps, rules, ◌≡◌, ℕ, ◌+◌, ◌<◌, ◌≤◌, ◌^◌, Bool, List, ◌++◌, length, map, get_or, Option, Ok, Err, sym, ap, ◌∙◌, subst, arith, append_assoc, length-append, [], replicate, length-map, length-replicate, Cell, Queued, TagFault, Transfer, RoomView, Machine, class_count, AreForOneSwitch, admitted, marked, marks_after, marks_down, count_for, ranking, admitted_arrives, admitted_for_ports, list_of, SlotRecord, fabric_admission, LimitedFabricRun, empty_limited_fabric, Arrives, transfers_in, ComeApart, FitLists, Queues, fabric_of, admits_are, admitted_room, numbers_fit, still_holds, holds_first, AllBehind, IsPhaseFault, NoneBefore, in_phase, CanCome, CanReplay, IsInStep, IsSlotFault, ReplayView, SlotReplayed, shown, IsHalfPast, SlotFault, all_weaker, no_arrivals, IsStable, IsEmptyFabric, empty_fabric, quiet_limited_slots, empty_agree}
-use Rattle.cq_ideal.specs.IdealSlot.{fronts}
-use Rattle.cq_ideal.specs.Limiter.{ComeToPorts, LimiterView}
-use Rattle.cq_ideal.specs.Parts.{RanksView, all_idle}
-use Rattle.cq_ideal.proofs.Sending.{length-told}
-use Rattle.cq_ideal.proofs.Slot.{by_marks}
-use Rattle.cq_laws.specs.Agreement.{SendsAlike, Agrees}
-use Rattle.cq_fabric.specs.Held.{HoldsFabric}
-use Rattle.cq_fabric.proofs.Known.{AreRanked, BuffersHaveRoom, HaveArrived, HaveJudged, HaveMoved, HaveSent}
+use Rattle.cq_audit.proofs.Terms.{common_steps, rules, ◌≡◌, ℕ, ◌+◌, ◌<◌, ◌≤◌, ◌^◌, Bool, List, ◌++◌, length, map, get_or, Option, Ok, Err, sym, ap, ◌∙◌, subst, arith, append_assoc, length-append, [], replicate, length-map, length-replicate, Cell, Queued, TagFault, Transfer, RoomView, Machine, class_count, AreForOneSwitch, admitted, marked, marks_after, marks_down, count_for, ranking, admitted_arrives, admitted_for_ports, list_of, SlotRecord, fabric_admission, LimitedFabricRun, empty_limited_fabric, Arrives, transfers_in, ComeApart, FitLists, Queues, fabric_of, admits_are, admitted_room, numbers_fit, still_holds, holds_first, AllBehind, IsPhaseFault, NoneBefore, in_phase, CanCome, CanReplay, IsInStep, IsSlotFault, ReplayView, SlotReplayed, shown, IsHalfPast, SlotFault, all_weaker, no_arrivals, IsStable, IsEmptyFabric, empty_fabric, quiet_limited_slots, empty_agree, fronts, ComeToPorts, LimiterView, RanksView, all_idle, length-told, by_marks, SendsAlike, Agrees, HoldsFabric, AreRanked, BuffersHaveRoom, HaveArrived, HaveJudged, HaveMoved, HaveSent, stable_limited_run, rested_agrees, rested_limited_run, still_held, empty_ideal}
 use Rattle.cq_fabric.proofs.Slot.{alike as sends_alike, arrive as slot_arrives, can_cross_first, can_cross_second, come_apart, depart as slot_departs, few_cross, fill as slot_fills, fits_lists, held_before, is_slot, recorded}
 use Rattle.cq_audit.specs.SlotSteps.{CanGoBy, CanSend, HasGoneBy, HaveAllSent, HaveCome}
 use Rattle.cq_audit.proofs.BySlot.{second_behind}
-use Rattle.cq_laws.proofs.InputBest.{stable_limited_run}
-use Rattle.cq_fabric.proofs.Rested.{rested_agrees, rested_limited_run, still_held}
-use Rattle.cq_ideal.specs.IdealRun.{empty_ideal}
 
 -- ## The lines of two phases
 

@@ -8,24 +8,12 @@
 -- than arrive at its input, and an output holds no more cells more than arrive for it. So no list and no output holds
 -- more than arrives in all. Beside the fabric an ideal switch runs, with which it agrees. So where the whole run of
 -- that one meets no tag fault, the fabric meets none, and it goes on for no more slots than that one.
-use Rattle.cq_audit.proofs.Terms.{common_steps, rules, ◌≡◌, ◌↔◌, ℕ, ◌+◌, ◌-◌, ◌<◌, ◌≤◌, Bool, false, List, [], length, map, Option, Result, Err, arith, length-append, ◌*◌, zero, suc, ◌∷◌, ◌++◌, replicate, refl, append_assoc, IfErr, IsOk, IsTrue, OnOk, cases_lt, append-nil, take_all, take-append-le, Arrival, arriving, end_of, enough, RoomView, Cell, Transfer, Machine, class_count, Marked, first_slots, arriving_from, ranking, IsStable, Fabric, IsEmptyFabric, LimitedFabricRun, empty_limited_fabric, fabric_admission, IsLimitedFault, LimitedFabricSlot, LimitedRecord, arrivals_for, refusal_of, AreInOrder, in_phase, NoneBefore, CanReplay, HasRested, IsInStep, IsSlotFault, ReplayView, SlotReplayed, ports_in, IsMadeAs, IsReady, IsStill, RunEnds, Reaches, StableRun, before_slot, AuditRefusal, Left, SlotFault, no_arrivals, arriving_length, arriving_parts, quiet_limited_slots, transfers_in, transfers_of_run, AfterBy, run_length, first_more, quiet_slots, Ok, ap, Some, TagFault, arrival_at, IsTraffic, is_from, is_to, number_of, count_for, whole_limited_run, empty_limited, empty_fabric, input, reach, empty_list, empty_together, nothing_for, slots_fit, arrives_found, come_from, from_here, from_last, no_more_from, one_if, some_one}
+use Rattle.cq_audit.proofs.Terms.{common_steps, rules, ◌≡◌, ◌↔◌, ℕ, ◌+◌, ◌-◌, ◌<◌, ◌≤◌, Bool, false, List, [], length, map, Option, Result, Err, arith, length-append, ◌*◌, zero, suc, ◌∷◌, ◌++◌, replicate, refl, append_assoc, IfErr, IsOk, IsTrue, OnOk, cases_lt, append-nil, take_all, take-append-le, Arrival, arriving, end_of, enough, RoomView, Cell, Transfer, Machine, class_count, Marked, first_slots, arriving_from, ranking, IsStable, Fabric, IsEmptyFabric, LimitedFabricRun, empty_limited_fabric, fabric_admission, IsLimitedFault, LimitedFabricSlot, LimitedRecord, arrivals_for, refusal_of, AreInOrder, in_phase, NoneBefore, CanReplay, HasRested, IsInStep, IsSlotFault, ReplayView, SlotReplayed, ports_in, IsMadeAs, IsReady, IsStill, RunEnds, Reaches, StableRun, before_slot, AuditRefusal, Left, SlotFault, no_arrivals, arriving_length, arriving_parts, quiet_limited_slots, transfers_in, transfers_of_run, AfterBy, run_length, first_more, quiet_slots, Ok, ap, Some, TagFault, arrival_at, IsTraffic, is_from, is_to, number_of, count_for, whole_limited_run, empty_limited, empty_fabric, input, reach, empty_list, empty_together, nothing_for, slots_fit, arrives_found, come_from, from_here, from_last, no_more_from, one_if, some_one, idled, all_go_on, transfers_one, quiet_transfers, limited_parts, run_fault, held_for, LimitedAgrees, LimitedRunsAlike, same_limited_fault, begin, same_limited_run, limited_lists_kept, limited_outputs_kept, come_for, for_here, for_last, no_more_to}
 use Rattle.cq_audit.proofs.BySlot.{before_is, phase_later, none_first, none_from, none_next}
 use Rattle.cq_audit.proofs.Skips.{all_late, made_alike, made_on, same_fabric}
 use Rattle.cq_audit.proofs.WholeFollowing.{all_before, moved, moved_parts}
-use Rattle.cq_laws.specs.Quiet.{idled}
-use Rattle.cq_laws.proofs.Joined.{all_go_on}
-use Rattle.cq_laws.proofs.KeptParts.{transfers_one}
-use Rattle.cq_laws.proofs.QuietSlots.{quiet_transfers}
 use Rattle.cq_audit.proofs.Following.{one_stable_run}
 use Rattle.cq_ideal.proofs.LimitedEnds.{last, limited_ends, limited_not_more, limited_whole_fault}
-use Rattle.cq_ideal.proofs.LimitedParts.{limited_parts}
-use Rattle.cq_ideal.proofs.LimitedRuns.{run_fault}
-use Rattle.cq_laws.specs.Holding.{held_for}
-use Rattle.cq_laws.specs.LimitedAgreement.{LimitedAgrees, LimitedRunsAlike}
-use Rattle.cq_laws.proofs.LimitedSlots.{same_limited_fault}
-use Rattle.cq_laws.proofs.LimitedWhole.{begin, same_limited_run}
-use Rattle.cq_fabric.proofs.Kept.{limited_lists_kept, limited_outputs_kept}
-use Rattle.cq_traffic.proofs.ToOutputs.{come_for, for_here, for_last, no_more_to}
 
 ok_from : {A E : Type 0} (x : Result A E) → IsOk x → (a : A) × (x ≡ Ok a)
 ok_from x is = grind (arith, common_steps)

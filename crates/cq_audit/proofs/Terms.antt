@@ -49,3 +49,15 @@ pub use Rattle.cq_traffic.proofs.FromInputs.{arrives_found, come_from, first_mor
 pub use Rattle.cq_traffic.proofs.Quiet.{quiet_of, quiet_slots}
 pub use Rattle.cq_audit.specs.Terms.{AreInOrder, Cell, Comes, FirstIsLeast, IsBefore, IsLog, IsLogExact, IsLogFault, IsOf, IsReady, IsStill, IsStillUntil, IsTransfer, Machine, RunEnds, Setup, Transfer, numbers_behind}
 pub use Rattle.cq_base.proofs.Each.{all_both, all_front, all_weaker}
+pub use Rattle.cq_base.specs.declared.cell.CellId.{CellId}
+pub use Rattle.cq_scfq.specs.Discipline.{machine_from}
+pub use Rattle.cq_ideal.proofs.{FlowFound.all_found, LimitedParts.limited_parts, LimitedRuns.run_fault, Resting.length-idle, Sending.length-told, Slot.by_marks}
+pub use Rattle.cq_ideal.specs.{IdealRun.empty_ideal, IdealSlot.fronts, Limiter.ComeToPorts, Limiter.LimiterView, Parts.RanksView, Parts.all_idle}
+pub use Rattle.cq_lines.specs.{Lines.ending, Lines.BeginsWith}
+pub use Rattle.cq_lines.proofs.{Spelling.one_number, Walk.ending_ends, Walk.one_ending}
+pub use Rattle.cq_laws.proofs.{Came.came_from, InputBest.stable_limited_run, Joined.all_go_on, KeptParts.transfers_one, LimitedSlots.same_limited_fault, LimitedWhole.begin, LimitedWhole.same_limited_run, Members.first_at, QuietSlots.quiet_transfers, Rises.sender}
+pub use Rattle.cq_laws.specs.{Agreement.SendsAlike, Agreement.Agrees, Holding.held_for, LimitedAgreement.LimitedAgrees, LimitedAgreement.LimitedRunsAlike, Quiet.idled}
+pub use Rattle.cq_fabric.specs.Held.{HoldsFabric}
+pub use Rattle.cq_fabric.proofs.{Kept.limited_lists_kept, Kept.limited_outputs_kept, Known.AreRanked, Known.BuffersHaveRoom, Known.HaveArrived, Known.HaveJudged, Known.HaveMoved, Known.HaveSent, Rested.rested_agrees, Rested.rested_limited_run, Rested.still_held}
+pub use Rattle.cq_traffic.specs.Stretch.{IsQuietUntil}
+pub use Rattle.cq_traffic.proofs.{ToOutputs.come_for, ToOutputs.for_here, ToOutputs.for_last, ToOutputs.no_more_to}

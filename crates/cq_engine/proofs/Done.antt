@@ -1,9 +1,5 @@
 -- A slot that is done, as clauses see it: what is seen of the parts of the engine before it and after it.
-use Rattle.cq_engine.proofs.Terms.{rules, ◌≡◌, ◌+◌, ◌++◌, ℕ, Bool, List, Option, length, map, ap, ◌∙◌, arith, RoomView, Cell, Queued, Transfer, Figures, Machine, admitted, marks_after, refused, HaveLeft, IdealState, departures_in, LimiterView, HoldsFabric, Queues, fabric_of, admits_are, EngineView, HasStopped, IsMadeAs, SlotDone}
-use Rattle.cq_base.specs.declared.cell.Departure.{Departure}
-use Rattle.cq_ideal.specs.Refused.{with_refused}
-use Rattle.cq_ideal.proofs.Slot.{by_marks}
-use Rattle.cq_fabric.specs.Released.{HasReleased}
+use Rattle.cq_engine.proofs.Terms.{rules, ◌≡◌, ◌+◌, ◌++◌, ℕ, Bool, List, Option, length, map, ap, ◌∙◌, arith, RoomView, Cell, Queued, Transfer, Figures, Machine, admitted, marks_after, refused, HaveLeft, IdealState, departures_in, LimiterView, HoldsFabric, Queues, fabric_of, admits_are, EngineView, HasStopped, IsMadeAs, SlotDone, Departure, with_refused, by_marks, HasReleased}
 use Rattle.cq_engine.proofs.Shown.{seen}
 use Rattle.cq_engine.proofs.Slot.{Whole}
 

@@ -2,12 +2,7 @@
 -- in lists and buffers of their rooms: no two cells of a list have one key, since no two places have. By the law on
 -- sound fabrics it is in step with the ideal switch of its cells. Of the slacks nothing is claimed, since the first
 -- slot looks at all of them.
-use Rattle.cq_engine.proofs.Terms.{rules, ◌≡◌, ◌≢◌, ℕ, zero, suc, ◌<◌, List, [], ◌∷◌, length, Option, Some, refl, arith, common_steps, slice_get, Queued, Figures, InputFigures, OutputFigures, EachPair, KeysDiffer, LimiterView, Machine, AreForOneSwitch, Fabric, input, fabric_in, fabric_held, all_from, Queues, fabric_of, CanGoOn, IsRunning}
-use Rattle.cq_base.proofs.Lists.{all_by}
-use Rattle.cq_laws.specs.Places.{NoKeyTwice, Waiting}
-use Rattle.cq_laws.specs.declared.frozen.Frozen.{Frozen}
-use Rattle.cq_laws.proofs.IdealOf.{agrees_of}
-use Rattle.cq_fabric.specs.Holding.{CanHold}
+use Rattle.cq_engine.proofs.Terms.{rules, ◌≡◌, ◌≢◌, ℕ, zero, suc, ◌<◌, List, [], ◌∷◌, length, Option, Some, refl, arith, common_steps, slice_get, Queued, Figures, InputFigures, OutputFigures, EachPair, KeysDiffer, LimiterView, Machine, AreForOneSwitch, Fabric, input, fabric_in, fabric_held, all_from, Queues, fabric_of, CanGoOn, IsRunning, all_by, NoKeyTwice, Waiting, Frozen, agrees_of, CanHold}
 use Rattle.cq_engine.specs.declared.measure.Look.TheVariants as look
 
 -- ## The same, part by part

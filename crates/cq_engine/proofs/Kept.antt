@@ -1,8 +1,6 @@
 -- How many cells for an output there are, through a slot with input-best matchings: as through any slot with stable
 -- ones.
-use Rattle.cq_engine.proofs.Terms.{common_steps, arith, ℕ, ◌+◌, ◌≤◌, List, length, Option, if◌then◌else◌, is_some, Cell, Machine, Marked, count_for, IsInputBest, Fabric, input, SlotRecord, FabricSlot, held_for, stable_limited_slot, stable_slot}
-use Rattle.cq_base.specs.Arrivals.{arrival_at}
-use Rattle.cq_laws.specs.LimitedFabric.{LimitedFabricSlot, LimitedRecord}
+use Rattle.cq_engine.proofs.Terms.{common_steps, arith, ℕ, ◌+◌, ◌≤◌, List, length, Option, if◌then◌else◌, is_some, Cell, Machine, Marked, count_for, IsInputBest, Fabric, input, SlotRecord, FabricSlot, held_for, stable_limited_slot, stable_slot, arrival_at, LimitedFabricSlot, LimitedRecord}
 use Rattle.cq_fabric.proofs.Kept.{limited_lists_kept as stable_limited_lists_kept, limited_outputs_kept as stable_limited_outputs_kept, lists_kept as stable_lists_kept, outputs_kept as stable_outputs_kept}
 
 module _ (ms : List Machine) (slot : ℕ) (cells : List (Option Cell)) (f g : Fabric) (r : SlotRecord)

@@ -1,8 +1,6 @@
 -- What the parts of an engine show of what a slot asks. It is asked of the engine as clauses see it. Moved to the
 -- parts it is one record, which the lemmas take.
-use Rattle.cq_engine.proofs.Terms.{common_steps, rules, ◌≡◌, ◌<◌, ◌≤◌, ◌^◌, ℕ, Bool, false, List, Option, length, map, get_or, ◌∙◌, arith, Ok, length-map, Cell, Figures, Queued, Machine, class_count, admitted, CanCount, LimiterView, AreForPorts, ranking, list_of, Queues, fabric_of, admitted_room, numbers_fit, AreRanked, BuffersHaveRoom, ListsHaveRoom, EngineView, HaveBufferRoom, HaveListRoom, IsRunning, ports_of, Look}
-use Rattle.cq_ideal.specs.Taking.{CanTakeIn}
-use Rattle.cq_ideal.proofs.Admitted.{admitted_arrives, admitted_for_ports}
+use Rattle.cq_engine.proofs.Terms.{common_steps, rules, ◌≡◌, ◌<◌, ◌≤◌, ◌^◌, ℕ, Bool, false, List, Option, length, map, get_or, ◌∙◌, arith, Ok, length-map, Cell, Figures, Queued, Machine, class_count, admitted, CanCount, LimiterView, AreForPorts, ranking, list_of, Queues, fabric_of, admitted_room, numbers_fit, AreRanked, BuffersHaveRoom, ListsHaveRoom, EngineView, HaveBufferRoom, HaveListRoom, IsRunning, ports_of, Look, CanTakeIn, admitted_arrives, admitted_for_ports}
 
 -- what is seen of these parts
 abbrev pub seen : List (List ℕ) → List (List ℕ) → Queues → LimiterView → Figures → ℕ → Bool → EngineView

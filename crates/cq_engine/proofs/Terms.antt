@@ -2,17 +2,23 @@
 pub use Rattle.cq_base.proofs.Library.{All, Bool, IfSome, List, None, Ok, Option, Some, [], ap, append-nil, append_assoc, arith, cases_eq, cases_lt, common_steps, cond_both, cons_option, drop, enumerate_from, eq-eqb, eqb, eqb-true, ext_get_or, false, filter, filter_map, get_or, get_or-enumerate_from, get_or-map, get_or-map-range_with_len, get_or-set_other, get_or-set_same, get_or_past, get_or_read, if◌then◌else◌, is_some, length, length-append, length-enumerate_from, length-map, length-map-range_with_len, length-replicate, length-set, list_any, map, map_more, max, min, ne_eqb, option_and_then, option_map, option_to_list, position_or_len, range_with_len, reduce, refl, replicate, row_fits, rules, same_Some, set, slice_get, slice_get-get_or, slice_get_within, slice_set, subst, suc, sum-map, sum_by, sum_by-cons, sym, take, take_all, take_more, true, zero, ℕ, ⊎_elim, ◌*◌, ◌++◌, ◌+◌, ◌-◌, ◌<◌, ◌^◌, ◌∙◌, ◌∷◌, ◌≡◌, ◌≢◌, ◌≤◌}
 pub use Rattle.cq_base.specs.Cells.{EachPair, KeysDiffer, cushion, first_for, is_for}
 pub use Rattle.cq_base.specs.{Room.RoomView, declared.cell.Transfer.Transfer, declared.figures.Figures.Figures, declared.figures.InputFigures.InputFigures}
+pub use Rattle.cq_base.specs.{Arrivals.arrival_at, declared.cell.Departure.Departure}
+pub use Rattle.cq_base.proofs.Lists.{all_by}
 pub use Rattle.cq_rank.specs.Switch.{AreForOneSwitch, class_count}
 pub use Rattle.cq_ideal.specs.Admission.{Marked, admitted, marks_after, refused}
 pub use Rattle.cq_ideal.specs.Ideal.{HaveLeft, count_for}
 pub use Rattle.cq_ideal.specs.IdealSlot.{IdealState, all_told, departures_from, fronts, rests}
 unfoldable pub use Rattle.cq_ideal.specs.IdealSlot.{departures_in}
 pub use Rattle.cq_ideal.specs.Limiter.{CanCount, LimiterView}
+pub use Rattle.cq_ideal.specs.{IdealRun.empty_ideal, Refused.with_refused, Taking.CanTakeIn}
+pub use Rattle.cq_ideal.proofs.{Admitted.admitted_arrives, Admitted.admitted_for_ports, Resting.length-idle, Sending.length-told, Slot.by_marks}
 pub use Rattle.cq_prefs.specs.FirstCells.{list_of, orders_of, output_order}
 pub use Rattle.cq_prefs.specs.Moves.{Moves, list_taken, noted}
 unfoldable pub use Rattle.cq_prefs.specs.Moves.{transfers_of}
 pub use Rattle.cq_prefs.specs.Orders.{IsListed, Orders, outputs_of, ports}
 pub use Rattle.cq_prefs.specs.Pairing.{IsFreeOutput, IsInputBest, IsStable, Partners, depth, partner_of, partner_place, proposals, spent}
+pub use Rattle.cq_prefs.proofs.{Members.among, Members.place_head}
+pub use Rattle.cq_xbar.proofs.Noting.{kept_more}
 pub use Rattle.cq_laws.proofs.InputBest.{stable_limited_slot, stable_slot}
 pub use Rattle.cq_laws.proofs.Members.{all_from, among_at}
 pub use Rattle.cq_laws.proofs.WholeRuns.{empty_agree, no_place}
@@ -21,6 +27,8 @@ pub use Rattle.cq_laws.specs.Holding.{fabric_held, held_for, waiting_for}
 pub use Rattle.cq_laws.specs.Measures.{either_by, no_figures}
 unfoldable pub use Rattle.cq_laws.specs.Measures.{figures_after, input_after, output_after, proposals_in, slack_on_arrival, slacks}
 pub use Rattle.cq_laws.specs.Phases.{came_to, list_arrived}
+pub use Rattle.cq_laws.specs.{Agreement.SendsAlike, LimitedFabric.LimitedFabricSlot, LimitedFabric.LimitedRecord, Places.NoKeyTwice, Places.Waiting, declared.frozen.Frozen.Frozen}
+pub use Rattle.cq_laws.proofs.{IdealOf.agrees_of, LeastRun.more_at_first, LeastSlack.by_arrivals, LeastSlack.more_after, QuietSlots.empty_is}
 pub use Rattle.cq_fabric.proofs.Changed.{IsChangedTo, all_changed, length-by_place, next_changed, next_kept, still_few}
 pub use Rattle.cq_fabric.proofs.Known.{AreRanked, BuffersHaveRoom, HaveArrived, HaveJudged, HaveMoved, HaveSent, ListsHaveRoom}
 pub use Rattle.cq_fabric.proofs.Limits.{admits_are, admitted_room, held_at, held_long, holds_first, numbers_fit, still_holds}
@@ -28,6 +36,7 @@ pub use Rattle.cq_fabric.proofs.Rested.{rested_agrees, rested_limited_run, still
 pub use Rattle.cq_fabric.proofs.Slot.{alike, arrive, came_newest, came_outputs, can_cross_first, can_cross_second, come, come_apart, depart, few_cross, fill, fits_lists, held_before, keyed, recorded}
 pub use Rattle.cq_fabric.specs.Held.{HoldsFabric}
 pub use Rattle.cq_fabric.specs.Queues.{Queues, fabric_of}
+pub use Rattle.cq_fabric.specs.{Holding.CanHold, Released.HasReleased}
 pub use Rattle.cq_engine.specs.Engine.{CanGoOn, CountsFit, EngineView, HasStopped, HaveBufferRoom, HaveListRoom, IsInStep, IsMadeAs, IsRunning, IsSeen, SlotDone, its_admission, ports_of}
 pub use Rattle.cq_engine.specs.Measuring.{arriving_slack, slack_seen}
 unfoldable pub use Rattle.cq_engine.specs.Measuring.{input_counted, output_counted}

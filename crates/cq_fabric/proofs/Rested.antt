@@ -1,15 +1,8 @@
 -- Slots in which nothing waits and nothing comes. The first of them tells each machine that its output was idle, and
 -- the others change nothing. After them the fabric is as empty as before, so it is in step with an ideal switch that
 -- is empty too.
-use Rattle.cq_fabric.proofs.Terms.{common_steps, ◌≡◌, ℕ, zero, suc, ◌<◌, Bool, List, Option, length, replicate, refl, arith, rules, no_arrivals, Machine, marked, IdealState, IsInputBest, Agrees, Fabric, IsEmptyFabric, empty_fabric, LimitedFabricRun, LimiterView, fabric_held, HoldsFabric, Queues, fabric_of}
-use Rattle.cq_ideal.specs.IdealRun.{empty_ideal}
-use Rattle.cq_ideal.specs.Parts.{all_idle}
-use Rattle.cq_laws.specs.FabricRun.{FabricRun}
+use Rattle.cq_fabric.proofs.Terms.{common_steps, ◌≡◌, ℕ, zero, suc, ◌<◌, Bool, List, Option, length, replicate, refl, arith, rules, no_arrivals, Machine, marked, IdealState, IsInputBest, Agrees, Fabric, IsEmptyFabric, empty_fabric, LimitedFabricRun, LimiterView, fabric_held, HoldsFabric, Queues, fabric_of, empty_ideal, all_idle, FabricRun, quiet_limited_slots, none_come, run_with, empty_is, quiet_run, empty_agree_at}
 use Rattle.cq_laws.specs.Quiet.{idled, idled_for, quiet_slots}
-use Rattle.cq_laws.specs.LimitedQuiet.{quiet_limited_slots}
-use Rattle.cq_laws.proofs.NothingRefused.{none_come, run_with}
-use Rattle.cq_laws.proofs.QuietSlots.{empty_is, quiet_run}
-use Rattle.cq_laws.proofs.WholeRuns.{empty_agree_at}
 
 -- ## The machines
 

@@ -3,13 +3,8 @@
 -- ones of this slot, and each cell that waits has slack 1, so that the more urgent cells for an output stand below
 -- the cushion of one that comes. Of the rooms it is enough that the buffer of each output for which a cell waits or
 -- comes has room for one: where the first matching fills that room, the output sends a cell and has it again.
-use Rattle.cq_fabric.proofs.Terms.{common_steps, rules, ◌≡◌, ℕ, zero, suc, ◌+◌, ◌-◌, ◌<◌, ◌≤◌, true, List, [], ◌∷◌, length, get_or, drop, Option, Some, None, refl, sym, ap, ◌∙◌, subst, inl, inr, ⊎_elim, arith, ◌⊎◌, IfSome, filter, cases_lt, cond_both, eqb-true, eq-eqb, get_or-map, get_or_past, length-drop, length-map, same_Some, Cell, Queued, Key, arrival_at, ArrivedBefore, is_for, Machine, count_for, LimiterView, AreForPorts, Ranking, fronts, list_of, orders_of, list_taken, transfers_of, Partners, partner_of, IsMatching, IsStable, HaveCells, partner_or_free, length_put, SendsAlike, Fabric, IsAmong, waiting_for, came_to, list_arrived, Arrives, Transfers, Departs, SlotRecord, FabricSlot, all_from, among_at, first_at, among_insert, left_among, Sound, came_from, keyed_from, rest_of, HoldsFabric, IsNewest, Queues, ComeApart, FitLists, CanCross, fabric_of}
-use Rattle.cq_xbar.proofs.Noting.{noted_all, noted_few}
-use Rattle.cq_laws.proofs.AfterArrivals.{Keyed, arrived_sound}
-use Rattle.cq_laws.proofs.AfterTransfer.{moved_sound}
-use Rattle.cq_laws.proofs.AfterDepartures.{sent_sound}
+use Rattle.cq_fabric.proofs.Terms.{common_steps, rules, ◌≡◌, ℕ, zero, suc, ◌+◌, ◌-◌, ◌<◌, ◌≤◌, true, List, [], ◌∷◌, length, get_or, drop, Option, Some, None, refl, sym, ap, ◌∙◌, subst, inl, inr, ⊎_elim, arith, ◌⊎◌, IfSome, filter, cases_lt, cond_both, eqb-true, eq-eqb, get_or-map, get_or_past, length-drop, length-map, same_Some, Cell, Queued, Key, arrival_at, ArrivedBefore, is_for, Machine, count_for, LimiterView, AreForPorts, Ranking, fronts, list_of, orders_of, list_taken, transfers_of, Partners, partner_of, IsMatching, IsStable, HaveCells, partner_or_free, length_put, SendsAlike, Fabric, IsAmong, waiting_for, came_to, list_arrived, Arrives, Transfers, Departs, SlotRecord, FabricSlot, all_from, among_at, first_at, among_insert, left_among, Sound, came_from, keyed_from, rest_of, HoldsFabric, IsNewest, Queues, ComeApart, FitLists, CanCross, fabric_of, noted_all, noted_few, Keyed, arrived_sound, moved_sound, sent_sound, same_slot, sound_from}
 use Rattle.cq_laws.proofs.Entered.{can_cross as firsts_cross, fits_list}
-use Rattle.cq_laws.proofs.OneSlot.{same_slot, sound_from}
 use Rattle.cq_fabric.proofs.Known.{AreRanked, BuffersHaveRoom, HaveArrived, HaveJudged, HaveMoved, HaveSent, ListsHaveRoom}
 use Rattle.cq_fabric.proofs.Limits.{held_at}
 use Rattle.cq_fabric.proofs.Newest.{newest_arrived}

@@ -41,4 +41,11 @@ pub use Rattle.cq_fabric.specs.Queues.{AreSquare, CanCross, ComeApart, Comes, Fi
 pub use Rattle.cq_fabric.specs.Telling.{AllAreFilled, AreFilled, IsFilled}
 pub use Rattle.cq_fabric.specs.Terms.{IsNewest}
 pub use Rattle.cq_base.proofs.Putting.{length_put}
-pub use Rattle.cq_laws.proofs.WholeRuns.{empty_list}
+pub use Rattle.cq_ideal.proofs.{Admitted.admitted_at, Holding.holds_filled, Sending.length-told, Sending.told_next, Slot.by_marks, Slot.sent_from, Spare.came_for}
+pub use Rattle.cq_ideal.specs.{IdealRun.empty_ideal, Parts.all_idle}
+pub use Rattle.cq_prefs.proofs.{Changes.IsSameBut, Changes.same_list, Changes.same_but_arrival, Changes.same_but_taken, Changes.same_without, OneOrder.one_orders, OutputOrder.is_output_order, Places.place_in-le-length}
+pub use Rattle.cq_prefs.specs.Renewal.{AreSameWithout}
+pub use Rattle.cq_xbar.proofs.{Noting.noted_all, Noting.noted_few}
+pub use Rattle.cq_laws.proofs.WholeRuns.{empty_agree_at, empty_list}
+pub use Rattle.cq_laws.proofs.{AfterArrivals.Keyed, AfterArrivals.arrived_sound, AfterDepartures.sent_sound, AfterTransfer.moved_sound, Held.hold_as_many, NothingRefused.none_come, NothingRefused.run_with, OneSlot.same_slot, OneSlot.sound_from, QuietSlots.empty_is, QuietSlots.quiet_run}
+pub use Rattle.cq_laws.specs.{FabricRun.FabricRun, LimitedQuiet.quiet_limited_slots}

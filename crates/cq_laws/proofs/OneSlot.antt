@@ -2,7 +2,7 @@
 -- after the arrivals, 1 after the first transfer, 0 after the departures, and 1 again after the second transfer.
 -- After the first transfer each cell that still waits at an input has slack 1, so it comes after a cell that its
 -- output has: the ideal list covers the buffer, both send the same cell, and the states agree again.
-use Rattle.cq_laws.proofs.Terms.{rules, ◌≡◌, ℕ, ◌+◌, ◌↔◌, List, length, Option, Err, sym, ap, ◌∙◌, inl, inr, ⊎_elim, arith, drop, zero, suc, ◌⊎◌, [], ◌∷◌, refl, common_steps, Cell, Queued, TagFault, Machine, AreForPorts, IsStable, Fabric, input, buffer, IsAmong, HasSlack, SlotRecord, FabricSlot, Partners, Agrees, IsWholeFabric, ListsKeepOrder, EachIsWhole, Arrives, Transfers, Departs, Key, IsBefore, IsRising, put_all, filled, fronts, rests, all_told, ideal_slot, list_of, HasFor, SendsAlike, slice_get, length-map-range_with_len, length-filled}
+use Rattle.cq_laws.proofs.Terms.{rules, ◌≡◌, ℕ, ◌+◌, ◌↔◌, List, length, Option, Err, sym, ap, ◌∙◌, inl, inr, ⊎_elim, arith, drop, zero, suc, ◌⊎◌, [], ◌∷◌, refl, common_steps, Cell, Queued, TagFault, Machine, AreForPorts, IsStable, Fabric, input, buffer, IsAmong, HasSlack, SlotRecord, FabricSlot, Partners, Agrees, IsWholeFabric, ListsKeepOrder, EachIsWhole, Arrives, Transfers, Departs, Key, IsBefore, IsRising, put_all, filled, fronts, rests, all_told, ideal_slot, list_of, HasFor, SendsAlike, slice_get, length-map-range_with_len, length-filled, ranks_kept}
 use Rattle.cq_laws.specs.Terms.{ranking, orders_of}
 use Rattle.cq_ideal.specs.IdealSlot.{IdealState}
 use Rattle.cq_laws.proofs.Members.{at_among, all_among}
@@ -14,7 +14,6 @@ use Rattle.cq_laws.proofs.AfterTransfer.{Moved, moved, moved_fabric}
 use Rattle.cq_laws.proofs.AfterDepartures.{sent_sound, sent_slack, sent_buffer, length_rests, rising_rest, sent_fabric}
 use Rattle.cq_laws.proofs.Came.{keyed_from}
 use Rattle.cq_laws.proofs.IdealLists.{among_put_all, put_all_keeps, put_all_new, rising_put_all, list_after}
-use Rattle.cq_ideal.proofs.Came.{ranks_kept}
 
 -- ## Why the outputs send the same cells
 

@@ -22,7 +22,7 @@ unfoldable pub use Rattle.cq_ideal.specs.IdealSlot.{all_told, departures_in, fil
 pub use Rattle.cq_ideal.specs.LimitedIdeal.{LimitedRan, empty_limited, ideal_admission}
 unfoldable pub use Rattle.cq_ideal.specs.LimitedIdeal.{admitted_traffic, limited_run, limited_slot}
 pub use Rattle.cq_ideal.specs.Ranking.{Ranking, ranking}
-pub use Rattle.cq_prefs.proofs.InputOrder.{are_orders, no_inputs_past}
+pub use Rattle.cq_prefs.proofs.InputOrder.{are_offers, are_orders, no_inputs_past}
 pub use Rattle.cq_prefs.specs.FirstCells.{AreOrdersOf, FirstKeysDiffer, HasCellFor, IsOutputOrder, list_of, orders_of, output_order}
 pub use Rattle.cq_prefs.specs.Moves.{Moves, list_taken, noted}
 unfoldable pub use Rattle.cq_prefs.specs.Moves.{transfers_of}
@@ -45,4 +45,8 @@ pub use Rattle.cq_laws.specs.SlotBySlot.{AfterBy, GoOn, HasParts, RunBy, StopBy,
 pub use Rattle.cq_laws.specs.Terms.{ActAlikeFromEmptyWithoutLimits, ActAlikeWithoutLimits, Agrees, AreForPorts, Arrival, Arrives, BeginsWhole, Cell, Departs, EachArrivesOr, EachIsWhole, EachRises, EndsAlike, Fabric, FabricRun, FabricSlot, FabricStops, Figures, FirstsCanCross, FitsList, HasMoreSlack, HasSlack, IdealState, IsAmong, IsEmptyFabric, IsFabric, IsFault, IsForSwitch, IsInputBest, IsLimitedFault, IsOneRun, IsRunOfRecorded, IsStable, IsWholeFabric, LimitedEndsAlike, LimitedFabricRun, LimitedFabricSlot, LimitedFabricStops, LimitedRecord, LimitedWholeRun, ListsKeepOrder, Machine, Marked, Partners, Queued, SlotRecord, TagFault, Transfers, WholeRun, admissions_in, buffer, came_to, cushion_of, empty_fabric, empty_limited_fabric, fabric_admission, first_come_all, for_output1, from_input2, ideal_held, idled_for, input, least_slack, list_arrived, no_arrivals, passed, place_of_arrival, quiet_slots, slots_in, three, three_empty, three_slots, worked_figures, worked_records, worked_transfers}
 pub use Rattle.cq_base.proofs.Putting.{all_put, length_put}
 pub use Rattle.cq_base.proofs.Each.{all_front}
+pub use Rattle.cq_base.specs.{declared.cell.Transfer.Transfer, declared.figures.OutputFigures.OutputFigures}
 pub use Rattle.cq_ideal.proofs.Waiting.{length-filled}
+pub use Rattle.cq_ideal.proofs.{Came.ranks_kept, Ends.all_slots, LastSlot.slots_of-append, LimitedLast.last_departs, Packets.whole_packets}
+pub use Rattle.cq_ideal.specs.{LimitedEnding.LimitedIdealAfter, WholePackets.AreJudged}
+pub use Rattle.cq_prefs.proofs.{Best.one_input_best, LeastFirst.input_best-best, Members.Among, OutputOrder.is_output_order}

@@ -1,22 +1,7 @@
 -- A tag fault of the crossbar run from its opening state on is that of the ideal switch, in whatever slot it comes:
 -- both act alike in every slot, and a fault of the ideal switch ends its whole run.
-use Rattle.cq_parts.proofs.Terms.{◌≡◌, List, length, Err, ℕ, ap, subst, length-map, TagFault, schedule_of, empty_limited_fabric, LimitedFabricStops, Captured, switch_of, Tables}
-use Rattle.cq_base.specs.Arriving.{Arrival}
-use Rattle.cq_cells.proofs.Rising.{traffic_is}
-use Rattle.cq_cells.specs.Schedule.{arrivals}
-use Rattle.cq_cells.specs.Traffic.{IsTraffic}
-use Rattle.cq_ideal.proofs.LimitedEnds.{limited_whole_fault}
-use Rattle.cq_ideal.specs.Ending.{first_slots}
-use Rattle.cq_ideal.specs.LimitedIdeal.{empty_limited}
-use Rattle.cq_laws.proofs.InputBest.{stable_limited_stop}
-use Rattle.cq_laws.proofs.LimitedWhole.{begin, same_limited_stop}
-use Rattle.cq_resume.specs.Parts.{IsWholeFault}
-use Rattle.cq_route.specs.Tables.{AreTables, classes_of, ports_of}
-use Rattle.cq_scfq.specs.Disciplines.{machine_of, machines_of, openings_of}
+use Rattle.cq_parts.proofs.Terms.{◌≡◌, List, length, Err, ℕ, ap, subst, length-map, TagFault, schedule_of, empty_limited_fabric, LimitedFabricStops, Captured, switch_of, Tables, Arrival, traffic_is, arrivals, IsTraffic, limited_whole_fault, first_slots, empty_limited, stable_limited_stop, begin, same_limited_stop, IsWholeFault, AreTables, classes_of, ports_of, machine_of, machines_of, openings_of, slots_fit, departures_limited, IsInputBest}
 use Rattle.cq_simulate.specs.IdealRuns.{ideal_departures, ran_ideal}
-use Rattle.cq_traffic.proofs.ForPorts.{slots_fit}
-use Rattle.cq_ideal.specs.LimitedEnding.{departures_limited}
-use Rattle.cq_prefs.specs.Pairing.{IsInputBest}
 
 pub whole_fault : (t : Tables) (captures : List (List Captured)) (fault : TagFault) → AreTables t →
     length captures ≡ ports_of t.setup →

@@ -1,10 +1,6 @@
 -- What `resume` reads of what `part` left: the configuration and the captures that `part` read, and the text that it
 -- wrote. And where it alone wrote, under a name of its own, these are there.
-use Rattle.cq_parts.proofs.Terms.{rules, ◌≡◌, ◌≢◌, ℕ, List, [], ◌∷◌, length, ◌≤◌, ◌^◌, Some, arith, subst, Ok, get, Captured, Tables, Contents, Resume, Resuming, Reader, captures_in, judged, state_in, tables_in, all_replaced, all_weaker}
-use Rattle.cq_space.proofs.Replaced.{get_same}
-use Rattle.cq_run.proofs.Left.{captures_same, tables_same, untouched}
-use Rattle.cq_run.proofs.TextRead.{text_is}
-use Rattle.cq_run.specs.Plan.{Plan}
+use Rattle.cq_parts.proofs.Terms.{rules, ◌≡◌, ◌≢◌, ℕ, List, [], ◌∷◌, length, ◌≤◌, ◌^◌, Some, arith, subst, Ok, get, Captured, Tables, Contents, Resume, Resuming, Reader, captures_in, judged, state_in, tables_in, all_replaced, all_weaker, get_same, captures_same, tables_same, untouched, text_is, Plan}
 use Rattle.cq_parts.specs.Parts.{IsLeftByPart, IsWrittenByPart, PartLeavesTheRest}
 
 module _ (r : Reader) (config state : List ℕ) where

@@ -2,22 +2,10 @@
 -- What goes on from there keeps what the run keeps, and comes to an end where the run does (`read_runs_go_on`); both
 -- write the same of it. A tag fault that is met from there is one of the whole run, and so that of the ideal switch,
 -- for which `run` is refused.
-use Rattle.cq_parts.proofs.Terms.{common_steps, arith, ◌≡◌, ◌∙◌, ◌<◌, ◌^◌, ℕ, List, refl, ap, sym, subst, Ok, Err, IsOkAnd, Result, TagFault, Scheduled, schedule_of, LimitedRecord, Captured, IsScheduleOf, Switch, switch_of, Tables, Contents, Run, Aim, Denies, Meets, Resuming, Reader, captures_in, ideally_sent, judged, tables_in, sent_or_tag}
-use Rattle.cq_resume.specs.Reading.{IsRead, IsRefusal}
-use Rattle.cq_resume.specs.Resumed.{Kept}
-use Rattle.cq_resume.specs.declared.refusal.StateRefusal.{StateRefusal}
+use Rattle.cq_parts.proofs.Terms.{common_steps, arith, ◌≡◌, ◌∙◌, ◌<◌, ◌^◌, ℕ, List, refl, ap, sym, subst, Ok, Err, IsOkAnd, Result, TagFault, Scheduled, schedule_of, LimitedRecord, Captured, IsScheduleOf, Switch, switch_of, Tables, Contents, Run, Aim, Denies, Meets, Resuming, Reader, captures_in, ideally_sent, judged, tables_in, sent_or_tag, IsRead, IsRefusal, Kept, StateRefusal, Taken, departures_in_run, read_runs_go_on, stopped_runs_are_read, GoesOnAsRun, IsReadAs, kept_in_run, traffic_is, AreGiven, IsEmulation, KeepsUp, IsPartText, Plan, Refusal}
 use Rattle.cq_resume.specs.declared.refusal.StateRefusal.TheVariants as of_state
-use Rattle.cq_resume.specs.declared.taken.Taken.{Taken}
-use Rattle.cq_simulate.specs.FabricRuns.{departures_in_run}
-use Rattle.cq_stopped.proofs.Together.{read_runs_go_on, stopped_runs_are_read}
-use Rattle.cq_stopped.specs.Read.{GoesOnAsRun, IsReadAs, kept_in_run}
-use Rattle.cq_cells.proofs.Rising.{traffic_is}
 use Rattle.cq_run.proofs.Crossed.{keeps_up}
-use Rattle.cq_run.specs.Headline.{AreGiven, IsEmulation, KeepsUp}
-use Rattle.cq_run.specs.Parting.{IsPartText}
-use Rattle.cq_run.specs.Plan.{Plan}
 use Rattle.cq_run.specs.Plans.{crossed, resumed}
-use Rattle.cq_run.specs.declared.refusal.Refusal.{Refusal}
 use Rattle.cq_run.specs.declared.refusal.Refusal.TheVariants as refused
 use Rattle.cq_run.specs.declared.refusal.StateFault.TheVariants as stopped
 use Rattle.cq_parts.proofs.Faulty.{whole_fault}

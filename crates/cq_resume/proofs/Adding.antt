@@ -1,7 +1,6 @@
 -- What is left out at all inputs, input after input, comes to what is left out of all that arrives. No more cells are
 -- left out than arrive, and so the counts have room for them.
-use Rattle.cq_resume.proofs.Terms.{rules, ◌≡◌, ℕ, zero, suc, ◌+◌, ◌-◌, ◌<◌, ◌≤◌, ◌^◌, ltb, leb, Bool, false, List, [], ◌∷◌, ◌++◌, length, map, Option, Some, refl, sym, ap, length-append, arith, common_steps, ◌&&◌, filter, flat_map, nat_lt, not, range_with_len, le-leb, append-nil, length-map, map-append, flat_map-append, filter-append, map-range_with_len_more, Arrival, is_from, range_more, Refused, CanCount, refused_counts, with_refused, all_counted_both, counts_fit, none_counted, zero_fits, ArePackets, coming, has_limit, has_name, left_out, mark_on, unnamed, Name, few_kept}
-use Rattle.cq_ideal.proofs.Refusals.{counts_more}
+use Rattle.cq_resume.proofs.Terms.{rules, ◌≡◌, ℕ, zero, suc, ◌+◌, ◌-◌, ◌<◌, ◌≤◌, ◌^◌, ltb, leb, Bool, false, List, [], ◌∷◌, ◌++◌, length, map, Option, Some, refl, sym, ap, length-append, arith, common_steps, ◌&&◌, filter, flat_map, nat_lt, not, range_with_len, le-leb, append-nil, length-map, map-append, flat_map-append, filter-append, map-range_with_len_more, Arrival, is_from, range_more, Refused, CanCount, refused_counts, with_refused, all_counted_both, counts_fit, none_counted, zero_fits, ArePackets, coming, has_limit, has_name, left_out, mark_on, unnamed, Name, few_kept, counts_more}
 use Rattle.cq_resume.proofs.Coming.{is_between}
 use Rattle.cq_resume.proofs.Walking.{cells_in}
 

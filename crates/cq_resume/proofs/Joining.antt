@@ -3,30 +3,11 @@
 -- and nothing comes, and the slots behind the end add nothing. A tag fault of the run comes behind the slots that were
 -- done, for these had none. A run that goes on to an end has a first slot at which it is over, maybe one of those that
 -- were done, and the whole run ends there.
-use Rattle.cq_resume.proofs.Terms.{common_steps, rules, ◌≡◌, ℕ, zero, suc, ◌+◌, ◌-◌, ◌<◌, ◌≤◌, Bool, List, [], ◌∷◌, ◌++◌, length, take, drop, Option, refl, ◌⊎◌, inl, inr, replicate, ⊎_elim, append_assoc, length-drop, arith, cases_lt, append-nil, length-map, map-append, take-append-drop, take_all, flat_map-append, All-replicate, end_of, Cell, arriving_from, refused_in, all_counted_both, none_counted, Fabric, IsEmptyFabric, empty_fabric, marked_in, Machine, Switch, Taken}
-use Rattle.cq_base.specs.Arrivals.{no_arrivals}
-use Rattle.cq_base.specs.declared.cell.TagFault.{TagFault}
+use Rattle.cq_resume.proofs.Terms.{common_steps, rules, ◌≡◌, ℕ, zero, suc, ◌+◌, ◌-◌, ◌<◌, ◌≤◌, Bool, List, [], ◌∷◌, ◌++◌, length, take, drop, Option, refl, ◌⊎◌, inl, inr, replicate, ⊎_elim, append_assoc, length-drop, arith, cases_lt, append-nil, length-map, map-append, take-append-drop, take_all, flat_map-append, All-replicate, end_of, Cell, arriving_from, refused_in, all_counted_both, none_counted, Fabric, IsEmptyFabric, empty_fabric, marked_in, Machine, Switch, Taken, no_arrivals, TagFault, no_arrivals_refuse_none, ranked_none, arriving_length, arriving_parts, quiet_from, FabricSlot, SlotRecord, fabric_held, IsLimitedFault, LimitedFabricSlot, LimitedRecord, admissions_in, slots_in, quiet_limited_slots, idled, idled_for, quiet_slots, GoOn, IsOneRun, RunBy, StopBy, all_go_on, departures_on, transfers_both, none_come, run_with, only_limited_run, parts, run_length, arriving, empty_is, quiet_departures, quiet_figures_of_run, quiet_run, quiet_transfers_of_run, IsInputBest}
 use Rattle.cq_ideal.specs.Admission.{Marked, marked}
-use Rattle.cq_ideal.proofs.Admitted.{no_arrivals_refuse_none}
 use Rattle.cq_ideal.proofs.Ends.{none_waits, nothing_left}
-use Rattle.cq_ideal.proofs.Resting.{ranked_none}
 use Rattle.cq_ideal.proofs.Waiting.{waiting}
-use Rattle.cq_ideal.proofs.Parted.{arriving_length, arriving_parts, quiet_from}
-use Rattle.cq_laws.specs.FabricSlot.{FabricSlot, SlotRecord}
-use Rattle.cq_laws.specs.Holding.{fabric_held}
-use Rattle.cq_laws.specs.LimitedFabric.{IsLimitedFault, LimitedFabricSlot, LimitedRecord, admissions_in, slots_in}
-use Rattle.cq_laws.specs.LimitedQuiet.{quiet_limited_slots}
-use Rattle.cq_laws.specs.Quiet.{idled, idled_for, quiet_slots}
-use Rattle.cq_laws.specs.SlotBySlot.{GoOn, IsOneRun, RunBy, StopBy}
-use Rattle.cq_laws.proofs.Joined.{all_go_on}
-use Rattle.cq_laws.proofs.KeptParts.{departures_on, transfers_both}
-use Rattle.cq_laws.proofs.NothingRefused.{none_come, run_with}
-use Rattle.cq_laws.proofs.OneRun.{only_limited_run}
-use Rattle.cq_laws.proofs.Parted.{parts, run_length}
 use Rattle.std.proofs.Math.Seq.{take-add}
-use Rattle.cq_base.specs.Arriving.{arriving}
-use Rattle.cq_laws.proofs.QuietSlots.{empty_is, quiet_departures, quiet_figures_of_run, quiet_run, quiet_transfers_of_run}
-use Rattle.cq_prefs.specs.Pairing.{IsInputBest}
 use Rattle.cq_resume.specs.Parts.{IsParted, IsWhole, IsWholeFault, PartsJoin, nothing_kept, opening}
 use Rattle.cq_resume.specs.Resumed.{AfterFrom, IsOneResumed, IsResumed, IsResumedFault, Kept, RunsOn, kept_in, kept_on}
 

@@ -1,13 +1,9 @@
 -- The schedule of captures: its cells are those of its inputs, input after input, and at each input packet comes after
 -- packet, each from its first cell to its last. A packet has a cell at least, its cells come one a slot, and the next
 -- one begins when it has ended, or later.
-use Rattle.cq_resume.proofs.Terms.{rules, ◌≡◌, ℕ, zero, suc, ◌+◌, ◌-◌, ◌<◌, List, ◌++◌, length, map, flat_map, refl, inl, inr, arith, common_steps, filter, range_with_len, Arrival, Scheduled, IsTraffic, is_from, flat_same, ArePackets, ComeBehind, ComesNext, IsLine, IsScheduleOf, AreTables, classes_of, ports_of, Tables, all_weaker}
+use Rattle.cq_resume.proofs.Terms.{rules, ◌≡◌, ℕ, zero, suc, ◌+◌, ◌-◌, ◌<◌, List, ◌++◌, length, map, flat_map, refl, inl, inr, arith, common_steps, filter, range_with_len, Arrival, Scheduled, IsTraffic, is_from, flat_same, ArePackets, ComeBehind, ComesNext, IsLine, IsScheduleOf, AreTables, classes_of, ports_of, Tables, all_weaker, piece, ends_before, cells_above, Captured}
 use Rattle.cq_cells.specs.Schedule.{arrivals, arrivals_at, arrivals_of, cell_of, cells, packet_at, packets_of, start}
-use Rattle.cq_cells.proofs.Looked.{piece}
-use Rattle.cq_cells.proofs.Packets.{ends_before}
-use Rattle.cq_cells.proofs.Pieces.{cells_above}
 use Rattle.cq_cells.proofs.Rising.{at_input, traffic_is}
-use Rattle.cq_pcap.specs.Captured.{Captured}
 
 module _ (t : Tables) (captures : List (List Captured)) (input : ℕ) where
   -- cell i of packet k as it arrives

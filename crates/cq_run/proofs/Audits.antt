@@ -2,14 +2,8 @@
 -- written, so over what is left the same tables and captures are judged; the trace and the log stand there as they were
 -- written. The run with input-best matchings is a stable one, and its log is read as what it is spelt from. A yes that
 -- holds is never denied.
-use Rattle.cq_run.proofs.Terms.{rules, ◌≡◌, ◌≢◌, ◌≤◌, ◌^◌, ◌+◌, ◌∙◌, ◌++◌, ℕ, List, [], ◌∷◌, length, Option, None, Some, refl, ap, arith, sym, ◌<◌, map, IfSome, IsOkAnd, Result, Ok, IsOk, length-append, get, AllByRecursion, range_with_len, Arrival, log_of, trace_of, Departure, Transfer, short_is, traffic_is, all_flat, arrivals, arrivals_at, arrivals_of, cell_of, packets_of, start, cells, IsTraffic, IsRecorded, all_weaker, limited_not_more, LimitedRecord, slots_in, Captured, all_both, all_back, classes_of, ports_of, Tables, machines_of, openings_of, as_many_slots, sends_as_ideal, stable_whole, departures_in_run, slots_ran, IsRefusalOf, ideal_departures, ran_ideal, Contents, files_in, read_or_refused, Audit, Denial, Refusal, Aim, Auditing, Denies, Meets, KeepsUp, audited, captures_out, crossed, Reader, ◌>>=◌, captures_in, found_or_missing, ideally_sent, judged, read_or_refused_for, sent_or_tag, tables_in, text_in, all_replaced, PortRow, common_steps, whole_limited_run, empty_limited, RunRefusal, IsAuditHalted, IsAuditPassed, halt_of, length-map-range_with_len}
-use Rattle.cq_audit.proofs.AuditExact.{audit_is_exact}
-use Rattle.cq_audit.proofs.Noted.{stable_log, FitsLine}
-use Rattle.cq_audit.proofs.OneDifference.{trace_is_exact}
-use Rattle.cq_audit.specs.Audit.{IsYes, opening_fabric, IsNo}
-use Rattle.cq_audit.specs.declared.refusal.AuditRefusal.{AuditRefusal}
+use Rattle.cq_run.proofs.Terms.{rules, ◌≡◌, ◌≢◌, ◌≤◌, ◌^◌, ◌+◌, ◌∙◌, ◌++◌, ℕ, List, [], ◌∷◌, length, Option, None, Some, refl, ap, arith, sym, ◌<◌, map, IfSome, IsOkAnd, Result, Ok, IsOk, length-append, get, AllByRecursion, range_with_len, Arrival, log_of, trace_of, Departure, Transfer, short_is, traffic_is, all_flat, arrivals, arrivals_at, arrivals_of, cell_of, packets_of, start, cells, IsTraffic, IsRecorded, all_weaker, limited_not_more, LimitedRecord, slots_in, Captured, all_both, all_back, classes_of, ports_of, Tables, machines_of, openings_of, as_many_slots, sends_as_ideal, stable_whole, departures_in_run, slots_ran, IsRefusalOf, ideal_departures, ran_ideal, Contents, files_in, read_or_refused, Audit, Denial, Refusal, Aim, Auditing, Denies, Meets, KeepsUp, audited, captures_out, crossed, Reader, ◌>>=◌, captures_in, found_or_missing, ideally_sent, judged, read_or_refused_for, sent_or_tag, tables_in, text_in, all_replaced, PortRow, common_steps, whole_limited_run, empty_limited, RunRefusal, IsAuditHalted, IsAuditPassed, halt_of, length-map-range_with_len, audit_is_exact, stable_log, FitsLine, trace_is_exact, IsYes, opening_fabric, IsNo, AuditRefusal, transfers_of_run, empty_list, DiffersFirst, all_stable, stable_sends, stable_slack, all_by_counted, came_more, few_by, rows_are, length_packet, row_of}
 use Rattle.cq_audit.specs.declared.refusal.AuditRefusal.TheVariants as of_log
-use Rattle.cq_laws.specs.Records.{transfers_of_run}
 use Rattle.cq_tables.specs.Check.{Refused}
 use Rattle.cq_run.specs.declared.denial.Denial.TheVariants as why
 use Rattle.cq_run.specs.declared.refusal.Refusal.TheVariants as refused
@@ -18,12 +12,7 @@ use Rattle.cq_run.specs.RunsAudited.{RunsAreAudited}
 use Rattle.cq_run.proofs.Left.{captures_same, last_two, outputs_named, tables_same, untouched}
 use Rattle.cq_run.proofs.NamesApart.{ArePairs, IsUnwritten, names_apart, reads_unwritten, trace_or_log}
 use Rattle.cq_run.proofs.TextRead.{text_is}
-use Rattle.cq_laws.proofs.WholeRuns.{empty_list}
-use Rattle.cq_audit.specs.Trace.{DiffersFirst}
-use Rattle.cq_simulate.proofs.StableRuns.{all_stable, stable_sends, stable_slack}
 use Rattle.cq_run.specs.declared.stop.Halt.TheVariants as stop
-use Rattle.cq_gen.proofs.Counted.{all_by_counted}
-use Rattle.cq_cells.proofs.Packets.{came_more, few_by, rows_are, length_packet, row_of}
 
 -- ## The numbers of cells fit a line: a capture has few packets, and a packet few cells
 

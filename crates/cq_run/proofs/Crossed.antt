@@ -1,9 +1,6 @@
 -- The captures of the outputs, one after another: those that were made and those that are still to be made are all.
 -- Each is that which was built at its output.
-use Rattle.cq_run.proofs.Terms.{common_steps, rules, ◌≡◌, ◌<◌, ◌≤◌, ◌∙◌, ℕ, ◌+◌, List, [], ◌∷◌, ◌++◌, length, drop, get_or, refl, ap, sym, add-one, append_assoc, arith, Result, Ok, append-nil, drop_all, drop_more, length-drop, trace_of, log_of, Departure, TagFault, Transfer, arrivals, Captured, AreTables, ports_of, PortRow, Tables, Plan, capture_out, captures_out, switched, IsSent, IsSwitched, sent_or_tag, Switched, ArePacked, LeaveWhole, Arrival, first_stamp, packets_of, IsRecorded, IsTraffic, LimitedRecord, report_with, classes_of, always_slack, best_in_each, slot_by_slot, IsFabricRun, IsKeptOf, unpacked_run, ideal_departures, PackedFabricRun, Contents, AreGiven, AreRead, IsEmulation, KeepsUp, crossed, reported, Reader, IsCrossed, IsCrossing, Crossed}
-use Rattle.cq_simulate.proofs.Departed.{left_in_packets}
-use Rattle.cq_simulate.specs.declared.packing.Packing.{Packing}
-use Rattle.cq_simulate.proofs.EachPacket.{each_packet_once}
+use Rattle.cq_run.proofs.Terms.{common_steps, rules, ◌≡◌, ◌<◌, ◌≤◌, ◌∙◌, ℕ, ◌+◌, List, [], ◌∷◌, ◌++◌, length, drop, get_or, refl, ap, sym, add-one, append_assoc, arith, Result, Ok, append-nil, drop_all, drop_more, length-drop, trace_of, log_of, Departure, TagFault, Transfer, arrivals, Captured, AreTables, ports_of, PortRow, Tables, Plan, capture_out, captures_out, switched, IsSent, IsSwitched, sent_or_tag, Switched, ArePacked, LeaveWhole, Arrival, first_stamp, packets_of, IsRecorded, IsTraffic, LimitedRecord, report_with, classes_of, always_slack, best_in_each, slot_by_slot, IsFabricRun, IsKeptOf, unpacked_run, ideal_departures, PackedFabricRun, Contents, AreGiven, AreRead, IsEmulation, KeepsUp, crossed, reported, Reader, IsCrossed, IsCrossing, Crossed, left_in_packets, Packing, each_packet_once}
 
 -- a plan of these names and this text
 pub plan_is : (plan : Plan) (writes : List (List ℕ × List ℕ)) (text : List ℕ) → plan.writes ≡ writes →

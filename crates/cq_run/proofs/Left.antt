@@ -1,8 +1,7 @@
 -- What stands under a name after files were written. A name that is none of theirs has what it had, and the last of a
 -- name stays.
-use Rattle.cq_run.proofs.Terms.{common_steps, arith, rules, ◌≡◌, ◌≢◌, ◌∙◌, ◌+◌, ◌++◌, ℕ, suc, List, [], ◌∷◌, Option, Some, refl, ap, IfSome, get, get-insert, AllByRecursion, nat_list_cmp_total, exact_bytes, tells_apart, Departure, Captured, PortRow, Tables, Contents, captures_out, Reader, captures_from, tables_in, all_replaced}
+use Rattle.cq_run.proofs.Terms.{common_steps, arith, rules, ◌≡◌, ◌≢◌, ◌∙◌, ◌+◌, ◌++◌, ℕ, suc, List, [], ◌∷◌, Option, Some, refl, ap, IfSome, get, get-insert, AllByRecursion, nat_list_cmp_total, exact_bytes, tells_apart, Departure, Captured, PortRow, Tables, Contents, captures_out, Reader, captures_from, tables_in, all_replaced, get_same}
 use Rattle.std.specs.FinMap.{insert}
-use Rattle.cq_space.proofs.Replaced.{get_same}
 
 -- ## One name
 

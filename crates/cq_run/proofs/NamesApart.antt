@@ -1,13 +1,8 @@
 -- The files that an accepted configuration names. No two names clash, so a file that is read is none that is written,
 -- and the trace is not the log.
-use Rattle.cq_run.proofs.Terms.{rules, arith, ◌≡◌, ◌≢◌, ◌++◌, ◌&&◌, ℕ, suc, Bool, true, false, not, List, [], ◌∷◌, Option, None, Some, Ok, codes, is_some, refl, sym, inl, inr, IfSome, common_steps, AllByRecursion, list_any, and_from, not_from_false, bytes_eq-Decides, all_weaker, PortRow, Tables, at, first, unless, Named, apart_from, checks_in, clash, file_check, files_in, files_of, names_of, read_at, read_of, read_or_refused, tables_of, top_of, written_at, first_parts}
-use Rattle.cq_tables.specs.declared.place.Array.TheVariants.{Ports}
-use Rattle.cq_tables.specs.declared.place.Place.TheVariants.{Element, Top}
-use Rattle.cq_tables.specs.declared.refusal.Wrong.TheVariants.{DuplicateFile}
+use Rattle.cq_run.proofs.Terms.{rules, arith, ◌≡◌, ◌≢◌, ◌++◌, ◌&&◌, ℕ, suc, Bool, true, false, not, List, [], ◌∷◌, Option, None, Some, Ok, codes, is_some, refl, sym, inl, inr, IfSome, common_steps, AllByRecursion, list_any, and_from, not_from_false, bytes_eq-Decides, all_weaker, PortRow, Tables, at, first, unless, Named, apart_from, checks_in, clash, file_check, files_in, files_of, names_of, read_at, read_of, read_or_refused, tables_of, top_of, written_at, first_parts, Ports, Element, Top, DuplicateFile, EachPair, Has, has_left, has_right, pair_of_has}
 use Rattle.cq_tables.specs.Check.{Check}
 use Rattle.std.proofs.lemmas.List.Folds.{list_any-append}
-use Rattle.cq_resume.proofs.Chained.{EachPair}
-use Rattle.cq_resume.proofs.Having.{Has, has_left, has_right, pair_of_has}
 
 -- ## Checks that hold
 

@@ -1,22 +1,10 @@
 -- A switch of one port sends each cell in the slot in which it comes. Cells come one after another, at most one in a
 -- slot. So no cell waits when a slot begins; the cell that comes is alone in the one list, and leaves.
 -- The departures are the arrivals, and every packet leaves with its last cell, which alone is marked as last.
-use Rattle.cq_run.proofs.Terms.{common_steps, ◌≡◌, ℕ, zero, suc, ◌+◌, ◌<◌, ◌≤◌, Bool, true, false, cond, List, [], ◌∷◌, map, replicate, Option, Some, None, Result, Ok, Err, refl, sym, ap, ◌∙◌, subst, ⊎_elim, arith, rules, ◌-◌, ◌*◌, length, flat_map, ◌==◌, ◌^◌, nat_lt, find, slice_index_or, append-nil, option_map, AllByRecursion, range_with_len, AllPairs, filter, cases_eq, cond-true, eq-eqb, and_from, Arrival, arriving, arriving_at, is_at, end_of, enough, traffic_of, Departure, TagFault, filter-append, arrivals, arrivals_at, arrivals_of, cell_of, cells, cells_of, first_stamp, packet_at, start, IsInRange, IsLater, IsTraffic, traffic_is, departures_limited, whole_limited_run, LimitedRan, empty_limited, unlimited, all_weaker, run_as_before, same_sent, Captured, AreTables, classes_of, ports_of, Tables, machines_of, openings_of, ideal_departures, ran_ideal, ends_packet_at, leaving, packets_out, all_leave, as_it_leaves, ne_eqb}
-use Rattle.cq_base.specs.declared.cell.Cell.{Cell}
-use Rattle.cq_base.specs.declared.cell.Queued.{Queued}
-use Rattle.cq_rank.specs.Machine.{Machine, machine_at}
+use Rattle.cq_run.proofs.Terms.{common_steps, ◌≡◌, ℕ, zero, suc, ◌+◌, ◌<◌, ◌≤◌, Bool, true, false, cond, List, [], ◌∷◌, map, replicate, Option, Some, None, Result, Ok, Err, refl, sym, ap, ◌∙◌, subst, ⊎_elim, arith, rules, ◌-◌, ◌*◌, length, flat_map, ◌==◌, ◌^◌, nat_lt, find, slice_index_or, append-nil, option_map, AllByRecursion, range_with_len, AllPairs, filter, cases_eq, cond-true, eq-eqb, and_from, Arrival, arriving, arriving_at, is_at, end_of, enough, traffic_of, Departure, TagFault, filter-append, arrivals, arrivals_at, arrivals_of, cell_of, cells, cells_of, first_stamp, packet_at, start, IsInRange, IsLater, IsTraffic, traffic_is, departures_limited, whole_limited_run, LimitedRan, empty_limited, unlimited, all_weaker, run_as_before, same_sent, Captured, AreTables, classes_of, ports_of, Tables, machines_of, openings_of, ideal_departures, ran_ideal, ends_packet_at, leaving, packets_out, all_leave, as_it_leaves, ne_eqb, Cell, Queued, Machine, machine_at, Ranking, after_input, keyed, ranking, arriving_is, first_slot, ranked_none, NoLimits, all_slots, before_end, OutPacket, one_is}
 use Rattle.cq_ideal.specs.Ending.{arriving_from}
 use Rattle.cq_ideal.specs.IdealRun.{Ran, departures_of, ideal_run, departures_ran, empty_ideal}
 use Rattle.cq_ideal.specs.IdealSlot.{IdealState, Sent, all_told, departures_in, filled, fronts, ideal_sends, ideal_slot, put_all, rests}
-use Rattle.cq_ideal.specs.Ranking.{Ranking, after_input, keyed, ranking}
-use Rattle.cq_ideal.proofs.FlowFound.{arriving_is}
-use Rattle.cq_ideal.proofs.Parted.{first_slot}
-use Rattle.cq_ideal.proofs.Resting.{ranked_none}
-use Rattle.cq_ideal.specs.Admission.{NoLimits}
-use Rattle.cq_ideal.proofs.Ends.{all_slots}
-use Rattle.cq_ideal.proofs.FlowCount.{before_end}
-use Rattle.cq_pcap.specs.declared.write.OutPacket.{OutPacket}
-use Rattle.cq_simulate.proofs.Tallies.{one_is}
 
 -- cells of the one input for the one output, of which each comes later than the one before it, from this slot on
 pub record IsNextFrom (slot : ℕ) (a : Arrival) : Type 0 where

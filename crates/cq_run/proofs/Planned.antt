@@ -1,11 +1,10 @@
 -- From one judgement after another to a plan that meets what is aimed at: for each command what is judged of what it
 -- reads, and a plan that it comes to.
-use Rattle.cq_run.proofs.Terms.{rules, arith, ◌≡◌, ◌∙◌, ℕ, List, [], ◌∷◌, refl, sym, ap, inl, inr, ◌++◌, IsTrue, Result, Ok, Err, IfOk, IfErr, IsOk, common_steps, AllByRecursion, Departure, soak_captures, soak_tables, Captured, Tables, Call, Rose, Contents, Space, Closed, Command, Ideal, Run, Soak, Pass, Audit, Part, Resume, Given, Refusal, Halt, Aim, Reporting, Meets, Crossing, Exactly, Auditing, Parting, Resuming, EndsGiven, IsGiven, IsPassage, AreRead, IsAudited, AreGiven, IsJudged, IsHaltOf, Judges, Pace, InTurn, Uncounted, Plan, known_to, Reader, ◌>>=◌, ideally_sent, capture_in, text_in, state_in, switched, capture_out, passed, audited, captures_out, resumed, state_written, IsCrossing, IsIdeal, IsPassing, arrivals, plain_tables, AreTables, ports_of, ideal_departures, Lasts, capture_of_all, trace_of, log_of, Audited, Missing, State, Words, IsAuditHalted, IsAuditPassed, report_with, NoMemory, Refused, Unread, Crossed, IsPartHalt, IsResumeHalt, IsResuming, kept_by, IsPartRefusal, IsPartText, IsResumeRefusal, IsResumedText, meaning_of}
+use Rattle.cq_run.proofs.Terms.{rules, arith, ◌≡◌, ◌∙◌, ℕ, List, [], ◌∷◌, refl, sym, ap, inl, inr, ◌++◌, IsTrue, Result, Ok, Err, IfOk, IfErr, IsOk, common_steps, AllByRecursion, Departure, soak_captures, soak_tables, Captured, Tables, Call, Rose, Contents, Space, Closed, Command, Ideal, Run, Soak, Pass, Audit, Part, Resume, Given, Refusal, Halt, Aim, Reporting, Meets, Crossing, Exactly, Auditing, Parting, Resuming, EndsGiven, IsGiven, IsPassage, AreRead, IsAudited, AreGiven, IsJudged, IsHaltOf, Judges, Pace, InTurn, Uncounted, Plan, known_to, Reader, ◌>>=◌, ideally_sent, capture_in, text_in, state_in, switched, capture_out, passed, audited, captures_out, resumed, state_written, IsCrossing, IsIdeal, IsPassing, arrivals, plain_tables, AreTables, ports_of, ideal_departures, Lasts, capture_of_all, trace_of, log_of, Audited, Missing, State, Words, IsAuditHalted, IsAuditPassed, report_with, NoMemory, Refused, Unread, Crossed, IsPartHalt, IsResumeHalt, IsResuming, kept_by, IsPartRefusal, IsPartText, IsResumeRefusal, IsResumedText, meaning_of, written}
 use Rattle.cq_run.proofs.Chain.{counts_after, judges_computed, judges_computed_err}
 use Rattle.cq_run.proofs.Told.{told_any, told_map, told_two}
 use Rattle.cq_run.proofs.Crossed.{emulates, plan_is, sent_ok}
 use Rattle.cq_run.proofs.Reached.{computed_halts, computed_plans, given_ends, given_so, read_told, Reached, begun, read_on, Settles, refused_settles, settled}
-use Rattle.cq_pcap.specs.Written.{written}
 use Rattle.cq_run.proofs.OnePort.{all_leave_is, none_limited}
 use Rattle.cq_run.proofs.Stays.{capture_stays, text_stays, short_stays}
 use Rattle.cq_run.specs.declared.denial.Denial.TheVariants.{LongLog, LongTrace}

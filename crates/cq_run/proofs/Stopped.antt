@@ -1,25 +1,10 @@
 -- What stopping a run and taking one up come to, from what is known of the schedule of the captures: the text of the
 -- state in which the run stands, what the run keeps that goes on, and why there is none.
-use Rattle.cq_run.proofs.Terms.{◌≡◌, ◌≤◌, ◌^◌, ℕ, List, length, Departure, Transfer, Captured, classes_of, Tables, openings_of, unpacked_run, PackedFabricRun, RunRefusal, AreGiven, IsPartHalt, IsResumeHalt, IsResumedBy, halt_for_state, halt_for_text, IsPartText, IsResumedText, halt_of}
-use Rattle.cq_cells.specs.Scheduled.{Scheduled, schedule_of}
-use Rattle.cq_laws.specs.declared.frozen.Frozen.{Frozen}
-use Rattle.cq_resume.specs.Parts.{IsParted}
-use Rattle.cq_resume.specs.Reading.{IsRead, IsRefusal, state_of}
-use Rattle.cq_resume.specs.Resumed.{IsResumed, Kept}
-use Rattle.cq_resume.specs.Switch.{Switch, switch_of}
-use Rattle.cq_resume.specs.declared.refusal.StateRefusal.{StateRefusal}
+use Rattle.cq_run.proofs.Terms.{◌≡◌, ◌≤◌, ◌^◌, ℕ, List, length, Departure, Transfer, Captured, classes_of, Tables, openings_of, unpacked_run, PackedFabricRun, RunRefusal, AreGiven, IsPartHalt, IsResumeHalt, IsResumedBy, halt_for_state, halt_for_text, IsPartText, IsResumedText, halt_of, Scheduled, schedule_of, Frozen, IsParted, IsRead, IsRefusal, state_of, IsResumed, Kept, Switch, switch_of, StateRefusal, parted_best, parted_slack, resumed_best, resumed_slack, resumed_counts, resumed_whole, AlwaysHasSlack, AreInputBest, CanBeTakenUp, IsPartFault, IsResumeFault, kept_of, IsTooLong, state_text, StateLong}
 use Rattle.cq_resume.specs.declared.refusal.StateRefusal.TheVariants as of_state
 use Rattle.cq_resume.specs.declared.taken.Taken.{Taken}
-use Rattle.cq_simulate.proofs.Chosen.{parted_best, parted_slack, resumed_best, resumed_slack}
-use Rattle.cq_simulate.proofs.ResumedCounts.{resumed_counts}
-use Rattle.cq_simulate.proofs.ResumedWhole.{resumed_whole}
-use Rattle.cq_simulate.specs.FabricRuns.{AlwaysHasSlack, AreInputBest}
-use Rattle.cq_simulate.specs.PartedRuns.{CanBeTakenUp, IsPartFault, IsResumeFault, kept_of}
 use Rattle.cq_simulate.specs.declared.refusal.RunRefusal.TheVariants as of_run
-use Rattle.cq_state.specs.Refusals.{IsTooLong}
-use Rattle.cq_state.specs.State.{state_text}
 use Rattle.cq_state.specs.declared.state.State.{State}
-use Rattle.cq_state.specs.declared.write.StateLong.{StateLong}
 use Rattle.cq_state.specs.declared.write.StateLong.TheVariants as of_text
 
 -- ## The state that is written

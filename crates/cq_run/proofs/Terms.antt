@@ -26,13 +26,13 @@ pub use Rattle.cq_ideal.specs.LimitedEnding.{departures_limited, whole_limited_r
 pub use Rattle.cq_ideal.specs.LimitedIdeal.{LimitedRan, empty_limited, unlimited}
 pub use Rattle.cq_laws.specs.LimitedFabric.{LimitedRecord, slots_in}
 pub use Rattle.cq_simulate.proofs.FabricLaws.{always_slack, as_many_slots, best_in_each, once_each_slot, sends_as_ideal, slot_by_slot, stable_whole}
-pub use Rattle.cq_simulate.specs.FabricRuns.{IsFabricRun, IsKeptOf, departures_in_run, unpacked_run}
+pub use Rattle.cq_simulate.specs.FabricRuns.{AlwaysHasSlack, AreInputBest, IsFabricRun, IsKeptOf, departures_in_run, unpacked_run}
 pub use Rattle.cq_simulate.specs.IdealRuns.{IsRefusalOf, slots_ran}
 unfoldable pub use Rattle.cq_simulate.specs.IdealRuns.{ideal_departures, ran_ideal}
 pub use Rattle.cq_simulate.specs.Packets.{ArePacked, LeaveWhole, ends_packet_at, leaving}
 unfoldable pub use Rattle.cq_simulate.specs.Packets.{packets_out}
 pub use Rattle.cq_simulate.specs.{declared.fabric_run.PackedFabricRun.PackedFabricRun, declared.refusal.RunRefusal.RunRefusal}
-pub use Rattle.cq_words.specs.Words.{command_for, most_slots, soak_of, with_three, with_two}
+pub use Rattle.cq_words.specs.Words.{command_for, form_of, most_slots, soak_of, with_config, with_three, with_two}
 pub use Rattle.cq_words.specs.declared.command.Command.{Command}
 pub use Rattle.cq_words.specs.declared.command.Command.TheVariants.{Audit, Check, Ideal, Part, Pass, Resume, Run, Soak}
 pub use Rattle.cq_run.specs.Aim.{Aim, Auditing, Crossing, Denies, Exactly, Meets, Parting, Reporting, Resuming}
@@ -58,4 +58,27 @@ pub use Rattle.cq_run.specs.declared.refusal.Refusal.TheVariants.{Audit as Audit
 pub use Rattle.cq_run.specs.declared.stop.Halt.TheVariants.{NoMemory, Refused, Unread}
 pub use Rattle.cq_run.specs.Terms.{IsAuditHalted, IsAuditPassed, IsCut, IsCutAtFile, IsDone, IsJudged, Plan, Reader, SameReader, Spells, StatusCauses, all_replaced, decimal, log_of, report_with, soak_captures, soak_tables, taken, trace_of}
 pub use Rattle.cq_base.proofs.Each.{all_back, all_both, all_front, all_weaker}
+pub use Rattle.cq_base.specs.{declared.cell.Cell.Cell, declared.cell.Queued.Queued, declared.status.Status.Status}
+pub use Rattle.cq_space.proofs.Replaced.{get_same}
+pub use Rattle.cq_space.specs.{Whole.Lacks, declared.whole.ReadRefusal.ReadRefusal}
+pub use Rattle.cq_pcap.specs.{Written.written, declared.write.OutPacket.OutPacket}
+pub use Rattle.cq_pcap.proofs.{ReadIsSpelt.spelt_or_faulty, SpeltIsRead.fault_is_read, SpeltIsRead.spelt_is_read}
+pub use Rattle.cq_stream.specs.declared.item.Item.TheVariants.{Row}
 pub use Rattle.cq_tables.proofs.Versions.{first_parts}
+pub use Rattle.cq_tables.specs.{declared.place.Array.TheVariants.Ports, declared.place.Place.TheVariants.Element, declared.place.Place.TheVariants.Top, declared.refusal.Wrong.TheVariants.DuplicateFile}
+pub use Rattle.cq_cells.proofs.{Packets.came_more, Packets.few_by, Packets.rows_are, Packets.length_packet, Packets.row_of}
+pub use Rattle.cq_cells.specs.{Scheduled.Scheduled, Scheduled.schedule_of}
+pub use Rattle.cq_rank.specs.{Machine.Machine, Machine.machine_at}
+pub use Rattle.cq_ideal.specs.{Admission.NoLimits, Ranking.Ranking, Ranking.after_input, Ranking.keyed, Ranking.ranking}
+pub use Rattle.cq_ideal.proofs.{Ends.all_slots, FlowCount.before_end, FlowFound.arriving_is, Parted.first_slot, Resting.ranked_none}
+pub use Rattle.cq_audit.proofs.{AuditExact.audit_is_exact, Noted.stable_log, Noted.FitsLine, OneDifference.trace_is_exact}
+pub use Rattle.cq_audit.specs.{Audit.IsYes, Audit.opening_fabric, Audit.IsNo, Trace.DiffersFirst, declared.refusal.AuditRefusal.AuditRefusal}
+pub use Rattle.cq_state.specs.{Refusals.IsTooLong, State.state_text, declared.write.StateLong.StateLong}
+pub use Rattle.cq_laws.specs.{Records.transfers_of_run, declared.frozen.Frozen.Frozen}
+pub use Rattle.cq_laws.proofs.WholeRuns.{empty_list}
+pub use Rattle.cq_resume.proofs.{Chained.EachPair, Having.Has, Having.has_left, Having.has_right, Having.pair_of_has}
+pub use Rattle.cq_resume.specs.{Parts.IsParted, Reading.IsRead, Reading.IsRefusal, Reading.state_of, Resumed.IsResumed, Resumed.Kept, Switch.Switch, Switch.switch_of, declared.refusal.StateRefusal.StateRefusal}
+pub use Rattle.cq_simulate.proofs.{Chosen.parted_best, Chosen.parted_slack, Chosen.resumed_best, Chosen.resumed_slack, Departed.left_in_packets, EachPacket.each_packet_once, ResumedCounts.resumed_counts, ResumedWhole.resumed_whole, StableRuns.all_stable, StableRuns.stable_sends, StableRuns.stable_slack, Tallies.one_is}
+pub use Rattle.cq_simulate.specs.{PartedRuns.CanBeTakenUp, PartedRuns.IsPartFault, PartedRuns.IsResumeFault, PartedRuns.kept_of, declared.packing.Packing.Packing}
+pub use Rattle.cq_gen.proofs.Counted.{all_by_counted}
+pub use Rattle.cq_words.specs.{Numbers.number_from, Streamed.as_run, Streamed.run_of, Streamed.streamed}

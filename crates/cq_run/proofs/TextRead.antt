@@ -1,14 +1,10 @@
 -- What is told of a text, as the trace or the log of an audit or the state of a stopped run, from what was read under
 -- its name: its bytes, where they are not too many. The name that was asked for is the one that is to be read, or a
 -- copy of it.
-use Rattle.cq_run.proofs.Terms.{rules, ◌≡◌, ◌<◌, ◌≤◌, ◌⊎◌, ℕ, IsTrue, List, length, inl, inr, arith, codes, refl, false, Option, None, Some, IfSome, Result, Ok, Err, IsErrOf, Vec, nat_le, le-ltb, lt-ltb, get, Global, Contents, bytes_of, Refusal, Missing, Configuration, IsRefused, IsToRead, meaning_of, short_in, tables_in, first, read_or_refused, common_steps, ◌∙◌, ap, sym, slice_index, option_map, Captured, Fault, IsFaulty, Spells, Space, Halts, AnyName, Pace, Uncounted, Reader, capture_fault, halt_for, capture_in, read_or_faulty}
+use Rattle.cq_run.proofs.Terms.{rules, ◌≡◌, ◌<◌, ◌≤◌, ◌⊎◌, ℕ, IsTrue, List, length, inl, inr, arith, codes, refl, false, Option, None, Some, IfSome, Result, Ok, Err, IsErrOf, Vec, nat_le, le-ltb, lt-ltb, get, Global, Contents, bytes_of, Refusal, Missing, Configuration, IsRefused, IsToRead, meaning_of, short_in, tables_in, first, read_or_refused, common_steps, ◌∙◌, ap, sym, slice_index, option_map, Captured, Fault, IsFaulty, Spells, Space, Halts, AnyName, Pace, Uncounted, Reader, capture_fault, halt_for, capture_in, read_or_faulty, Lacks, ReadRefusal, spelt_or_faulty, fault_is_read, spelt_is_read}
 use Rattle.std.specs.FinMap.{remove}
-use Rattle.cq_space.specs.Whole.{Lacks}
-use Rattle.cq_space.specs.declared.whole.ReadRefusal.{ReadRefusal}
 use Rattle.cq_space.specs.declared.whole.ReadRefusal.TheVariants as whole
 use Rattle.cq_run.proofs.Stays.{get-remove_same}
-use Rattle.cq_pcap.proofs.ReadIsSpelt.{spelt_or_faulty}
-use Rattle.cq_pcap.proofs.SpeltIsRead.{fault_is_read, spelt_is_read}
 use Rattle.cq_pcap.specs.Reading.{packets_of}
 
 module _ (long : Refusal) (name : List ℕ) where

@@ -1,9 +1,6 @@
 -- The numbers of a command that words are are in their ranges.
-use Rattle.cq_run.proofs.Terms.{◌≡◌, ℕ, Bool, true, false, cond, List, [], ◌∷◌, arith, Option, None, Some, option_map, leb-true, common_steps, command_for, most_slots, with_three, with_two, Command, IsWithinRange, ◌∙◌, ap, sym, if◌then◌else◌, is_some, option_map_or, Ahead, InTurn, Pace, pace_of}
+use Rattle.cq_run.proofs.Terms.{◌≡◌, ℕ, Bool, true, false, cond, List, [], ◌∷◌, arith, Option, None, Some, option_map, leb-true, common_steps, command_for, most_slots, with_three, with_two, Command, IsWithinRange, ◌∙◌, ap, sym, if◌then◌else◌, is_some, option_map_or, Ahead, InTurn, Pace, pace_of, number_from, form_of, with_config, as_run, run_of, streamed}
 use Rattle.std.specs.Int.{IsInRange}
-use Rattle.cq_words.specs.Numbers.{number_from}
-use Rattle.cq_words.specs.Words.{form_of, with_config}
-use Rattle.cq_words.specs.Streamed.{as_run, run_of, streamed}
 
 -- a number that a text writes is in its range
 in_range : (least most : ℕ) (text : List ℕ) (n : ℕ) → number_from least most text ≡ Some n → IsInRange least most n

@@ -2,16 +2,11 @@
 -- are the others, and each output stands where a walk over its own departures would stand (`SoFar`), with the packets
 -- of that walk in its bytes (`Walked`). One departure more goes on with the walk at its output, and passes by those
 -- at all others.
-use Rattle.cq_simulate.proofs.Terms.{rules, ◌≡◌, ◌≢◌, ℕ, ◌+◌, ◌<◌, ◌≤◌, All, List, [], ◌∷◌, ◌++◌, length, map, drop, get_or, set, Option, Some, None, refl, sym, ap, ◌∙◌, subst, arith, suc, Bool, true, false, take, zero, cond, common_steps, IfSome, ◌==◌, cases_eq, cond-true, cond-false, eq-eqb, ne_eqb, and_from, and_left, and_right, append-nil, drop_more, get_or-set_other, get_or-set_same, length-drop, length-set, map-append, take_more, take-append-drop, get_or_default, unpacked, Departure, Captured, rows_from, ports_of, Tables, ArePacked, HaveLeftOf, ends_packet_at, leaving, packets_out, CanBeJoined, IsEmptied, Took, left_with, records_of, Fits, opened, piece_at, filter, filter-append, All-push, leaves_in_flow, left_in_flow, JoinerView, IsOtherPair, open_after, open_at, packet_at, packets_of, length-rows_from}
-use Rattle.cq_base.specs.declared.packed.PackedDeparture.{PackedDeparture}
-use Rattle.cq_cells.specs.Schedule.{packet_in}
-use Rattle.cq_pcap.proofs.Writing.{written_with}
+use Rattle.cq_simulate.proofs.Terms.{rules, ◌≡◌, ◌≢◌, ℕ, ◌+◌, ◌<◌, ◌≤◌, All, List, [], ◌∷◌, ◌++◌, length, map, drop, get_or, set, Option, Some, None, refl, sym, ap, ◌∙◌, subst, arith, suc, Bool, true, false, take, zero, cond, common_steps, IfSome, ◌==◌, cases_eq, cond-true, cond-false, eq-eqb, ne_eqb, and_from, and_left, and_right, append-nil, drop_more, get_or-set_other, get_or-set_same, length-drop, length-set, map-append, take_more, take-append-drop, get_or_default, unpacked, Departure, Captured, rows_from, ports_of, Tables, ArePacked, HaveLeftOf, ends_packet_at, leaving, packets_out, CanBeJoined, IsEmptied, Took, left_with, records_of, Fits, opened, piece_at, filter, filter-append, All-push, leaves_in_flow, left_in_flow, JoinerView, IsOtherPair, open_after, open_at, packet_at, packets_of, length-rows_from, PackedDeparture, packet_in, written_with, OutPacket, PacketRow}
 use Rattle.cq_pcap.specs.Written.{written}
-use Rattle.cq_pcap.specs.declared.write.OutPacket.{OutPacket}
 use Rattle.cq_simulate.specs.declared.packing.Packing.{Packing}
 use Rattle.cq_simulate.proofs.Departed.{departed_captured, departed_class, departed_output}
 use Rattle.cq_simulate.proofs.Joining.{flow_fits, opened-append}
-use Rattle.cq_pcap.specs.declared.capture.PacketRow.{PacketRow}
 
 -- The walk over the departures. Of each input and class that is open which the cells taken so far leave open, and the
 -- packets made so far are those that left.

@@ -2,12 +2,7 @@
 -- those of one packet after another, each whole and in order; those that leave are all cells of some of these
 -- packets. So each cell is the next of the packet that is open, or the first of one where none is; and at the last
 -- cell of a packet all its pieces are together, which are its frame.
-use Rattle.cq_simulate.proofs.Terms.{common_steps, flat_map-map, length-map-range_with_len, rules, ◌≡◌, ℕ, zero, suc, ◌+◌, ◌-◌, ◌*◌, ◌<◌, true, List, [], ◌∷◌, ◌++◌, length, map, flat_map, take, drop, min, Option, Some, None, refl, sym, ap, ◌∙◌, subst, arith, ◌==◌, filter, range_with_len, eqb-true, eq-eqb, ne_eqb, append-nil, flat_map-append, Cell, packet_at, cells, cells_of, cell_of, arrivals, came_in_flow, Captured, open_after, Fits, opened, piece_at, AreTables, ports_of, Tables, of_packet}
-use Rattle.cq_reasm.specs.Cutting.{AreCutFrom}
-use Rattle.cq_reasm.specs.Piece.{Piece}
-use Rattle.cq_reasm.specs.Open.{Open, bytes_taken, with_piece}
-use Rattle.cq_reasm.proofs.Pieces.{pieces_give_frame}
-use Rattle.cq_cells.proofs.Ranges.{range_more}
+use Rattle.cq_simulate.proofs.Terms.{common_steps, flat_map-map, length-map-range_with_len, rules, ◌≡◌, ℕ, zero, suc, ◌+◌, ◌-◌, ◌*◌, ◌<◌, true, List, [], ◌∷◌, ◌++◌, length, map, flat_map, take, drop, min, Option, Some, None, refl, sym, ap, ◌∙◌, subst, arith, ◌==◌, filter, range_with_len, eqb-true, eq-eqb, ne_eqb, append-nil, flat_map-append, Cell, packet_at, cells, cells_of, cell_of, arrivals, came_in_flow, Captured, open_after, Fits, opened, piece_at, AreTables, ports_of, Tables, of_packet, AreCutFrom, Piece, Open, bytes_taken, with_piece, pieces_give_frame, range_more}
 use Rattle.cq_simulate.proofs.SomePackets.{flow_is, packets_in, parts_of}
 
 -- ## What a cell carries

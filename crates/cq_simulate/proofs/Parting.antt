@@ -1,11 +1,7 @@
 -- What a run of a fabric that is made for tables says of the tables. A run that goes on from where a run was taken up:
 -- what it kept, or the tag fault at which it stops. And a run up to a slot: the state in which it stands still, with
 -- what was kept, or the tag fault at which it stops.
-use Rattle.cq_simulate.proofs.Terms.{common_steps, ◌≡◌, ℕ, ◌-◌, length, map, arith, List, subst, length-map, machine_of, RoomView, Departure, TagFault, Transfer, arriving_from, Scheduled, EngineView, frozen_of, switch_of, Tables, machine_from, machines_of, openings_of, HasPartedTo, StopsWithin, HasKept, IsRefusalOn, IsPartFault, IsResumeFault, kept_of, Machine, IsResumed, Taken, unpacked_run, PackedFabricRun, RunRefusal}
-use Rattle.cq_laws.specs.declared.frozen.Frozen.{Frozen}
-use Rattle.cq_resume.specs.Parts.{IsParted}
-use Rattle.cq_resume.specs.Resumed.{Stops}
-use Rattle.cq_laws.specs.Frozen.{marked_in}
+use Rattle.cq_simulate.proofs.Terms.{common_steps, ◌≡◌, ℕ, ◌-◌, length, map, arith, List, subst, length-map, machine_of, RoomView, Departure, TagFault, Transfer, arriving_from, Scheduled, EngineView, frozen_of, switch_of, Tables, machine_from, machines_of, openings_of, HasPartedTo, StopsWithin, HasKept, IsRefusalOn, IsPartFault, IsResumeFault, kept_of, Machine, IsResumed, Taken, unpacked_run, PackedFabricRun, RunRefusal, Frozen, IsParted, Stops, marked_in}
 use Rattle.cq_simulate.proofs.FabricOpening.{IsMade, begins, resumes}
 use Rattle.cq_simulate.specs.declared.refusal.RunRefusal.TheVariants as refusal
 

@@ -1,8 +1,6 @@
 -- A setup's switch can run over what arrives: the machine of each discipline keeps the laws of machines and begins
 -- in a state of its size, and the arrivals rise by input.
-use Rattle.cq_simulate.proofs.Terms.{rules, ◌≡◌, ℕ, ◌<◌, List, [], length, get_or, arith, common_steps, slice_get_within, slice_index_or, AllPairs, get_or-map, length-map, length-replicate, get_or_from_slice_get, Arrival, Setup, IsLater, IsTraffic, IsRunnable, RiseByInput, all_weaker, KeepsLaws, machine_at, first_come, IsSetup, classes_of, ports_of, machine_of, machines_of, openings_of}
-use Rattle.cq_base.specs.declared.setup.Kind.{Kind}
-use Rattle.cq_base.specs.declared.setup.Kind.TheVariants.{FirstCome}
+use Rattle.cq_simulate.proofs.Terms.{rules, ◌≡◌, ℕ, ◌<◌, List, [], length, get_or, arith, common_steps, slice_get_within, slice_index_or, AllPairs, get_or-map, length-map, length-replicate, get_or_from_slice_get, Arrival, Setup, IsLater, IsTraffic, IsRunnable, RiseByInput, all_weaker, KeepsLaws, machine_at, first_come, IsSetup, classes_of, ports_of, machine_of, machines_of, openings_of, Kind, FirstCome}
 
 -- ## The machines of a setup
 

@@ -1,8 +1,7 @@
 -- What a stable run of tables does. With any stable matchings the fabric ends where the ideal switch ends, and has sent
 -- and refused what that sends and refuses. Its matchings are those of orders by first cells, and no slack is below 0
 -- after arrivals.
-use Rattle.cq_simulate.proofs.Terms.{common_steps, arith, ◌≡◌, List, length, ap, Ok, Arrival, IsTraffic, limited_found_end, Marked, departures_limited, whole_limited_run, LimitedRan, empty_limited, limited_ends, Fabric, IsEmptyFabric, first_slots, LimitedEndsAlike, LimitedFabricRun, LimitedRecord, LimitedWholeRun, admissions_in, empty_limited_fabric, slots_in, gone_in, IsStable, classes_of, ports_of, Tables, machines_of, openings_of, AlwaysHasSlack, AreStable, departures_in_run, refused_in_run, counts_limited, ideal_departures, ideal_refusals, ran_ideal, refused_counts, slots_ran, slots_fit}
-use Rattle.cq_laws.proofs.Parted.{run_of_whole}
+use Rattle.cq_simulate.proofs.Terms.{common_steps, arith, ◌≡◌, List, length, ap, Ok, Arrival, IsTraffic, limited_found_end, Marked, departures_limited, whole_limited_run, LimitedRan, empty_limited, limited_ends, Fabric, IsEmptyFabric, first_slots, LimitedEndsAlike, LimitedFabricRun, LimitedRecord, LimitedWholeRun, admissions_in, empty_limited_fabric, slots_in, gone_in, IsStable, classes_of, ports_of, Tables, machines_of, openings_of, AlwaysHasSlack, AreStable, departures_in_run, refused_in_run, counts_limited, ideal_departures, ideal_refusals, ran_ideal, refused_counts, slots_ran, slots_fit, run_of_whole}
 use Rattle.cq_simulate.proofs.Chosen.{first_chosen, first_slack}
 
 module _ (t : Tables) (came : List Arrival) (rs : List LimitedRecord) (end : Marked Fabric)

@@ -9,7 +9,7 @@ pub use Rattle.cq_pcap.specs.Captured.{Captured, rows_from}
 pub use Rattle.cq_route.specs.Route.{route}
 pub use Rattle.cq_cells.proofs.Pieces.{cells_above, piece_begins}
 pub use Rattle.cq_cells.proofs.Rising.{all_flat, at_input, traffic_is}
-pub use Rattle.cq_cells.specs.Schedule.{arrivals_of, packet_at, packets_of, start}
+pub use Rattle.cq_cells.specs.Schedule.{arrivals_of, packet_at, packet_in, packets_of, start}
 unfoldable pub use Rattle.cq_base.specs.Pieces.{cells_of}
 unfoldable pub use Rattle.cq_cells.specs.Schedule.{arrivals, arrivals_at, cell_of, cells}
 pub use Rattle.cq_cells.specs.Scheduled.{Scheduled, schedule_of}
@@ -61,7 +61,7 @@ pub use Rattle.cq_state.specs.{State.IsInRange, declared.state.Sent.Sent, declar
 pub use Rattle.cq_prefs.specs.FirstCells.{list_of, orders_of, output_order}
 pub use Rattle.cq_prefs.specs.Pairing.{IsInputBest, IsMatching, IsStable, Partners, partner_of, proposals, spent}
 pub use Rattle.cq_laws.proofs.{IdealOf.agrees_of, Recorded.recorded}
-pub use Rattle.cq_laws.proofs.InputBest.{stable_limited_run, stable_limited_slot, stable_limited_stop, stable_run, stable_slot}
+pub use Rattle.cq_laws.proofs.InputBest.{each_run, stable_limited_run, stable_limited_slot, stable_limited_stop, stable_run, stable_slot}
 pub use Rattle.cq_laws.proofs.LimitedEnds.{limited_ends, one_limited_whole}
 pub use Rattle.cq_laws.proofs.LimitedSlots.{admission_for_ports, limited_ports_kept, same_limited_slot}
 pub use Rattle.cq_laws.proofs.OneRun.{only_limited_run, outputs_at}
@@ -76,15 +76,15 @@ pub use Rattle.cq_laws.specs.Holding.{held_for, waiting_for}
 unfoldable pub use Rattle.cq_laws.specs.Holding.{fabric_held}
 pub use Rattle.cq_laws.specs.LimitedAgreement.{LimitedAgrees, LimitedEndsAlike, LimitedRunsAlike}
 pub use Rattle.cq_laws.specs.LimitedFabric.{IsLimitedFault, LimitedFabricRun, LimitedFabricSlot, LimitedFabricStops, LimitedRecord, LimitedWholeRun, admissions_in, empty_limited_fabric, slots_in}
-pub use Rattle.cq_laws.specs.Measures.{sends, sent_by}
+pub use Rattle.cq_laws.specs.Measures.{no_figures, sends, sent_by}
 unfoldable pub use Rattle.cq_laws.specs.Measures.{figures_after, figures_of, output_after, output_figures, proposals_in}
 unfoldable pub use Rattle.cq_laws.specs.Records.{transfers_in, transfers_of_run}
 pub use Rattle.cq_resume.proofs.Chained.{EachPair, each_pair}
 pub use Rattle.cq_resume.proofs.GoesOn.{GoesOn, buffer_is, came_before, comes, found_at, goes_on, has_of_among, in_buffer, in_list, in_order, is_cell_of, its_output, its_slot, list_is, of_traffic, ports_are, queued_differ, queued_named, some_cell}
-pub use Rattle.cq_resume.proofs.Having.{Has, all_from_has, all_of_has, has_cases, has_image, has_kept, has_left, has_right, image_has, kept_has, pair_of_has}
+pub use Rattle.cq_resume.proofs.Having.{Has, all_from_has, all_has, all_of_has, has_at, has_cases, has_image, has_kept, has_left, has_right, image_has, kept_has, pair_of_has}
 pub use Rattle.cq_resume.specs.Counted.{departure_of, firsts_at, is_refused, latest, marks_told, output_told, sent_told, taken_of}
 unfoldable pub use Rattle.cq_resume.specs.Counted.{figures_told, frozen_told}
-pub use Rattle.cq_resume.specs.Resumed.{IsResumed, Kept, RunsOn}
+pub use Rattle.cq_resume.specs.Resumed.{IsResumed, Kept, RunsOn, Stops}
 pub use Rattle.cq_resume.specs.Sound.{AllNamed, AreWholePackets, IsBelowFloor, IsSentBefore, IsSound, NoneNamed, OfOneFlow}
 pub use Rattle.cq_resume.specs.Switch.{HasLimit, HasShape, Switch, switch_of}
 pub use Rattle.cq_resume.specs.Told.{arriving_cell, class_in, class_of, is_ahead, is_named, key_of, list_told, named_in, output_of, packet_before, queued_in, queued_of}
@@ -107,5 +107,23 @@ pub use Rattle.cq_simulate.specs.Pieces.{CanBeJoined, Fits, IsCaptured, IsEmptie
 pub use Rattle.cq_simulate.specs.{declared.fabric_run.PackedFabricRun.PackedFabricRun, declared.ports.Ports.Ports, declared.refusal.RunRefusal.RunRefusal}
 pub use Rattle.cq_simulate.specs.Terms.{ArePortsFor, AreTables, CanBeTakenUp, Cell, FabricRun, IsFreshFor, IsPartFault, IsQuiet, IsReady, IsResumeFault, IsScheduleFor, IsSetup, Tables, classes_of, kept_of, ports_of}
 pub use Rattle.cq_base.proofs.Each.{all_both, all_filter, all_weaker, of_images}
+pub use Rattle.cq_base.specs.{declared.figures.OutputFigures.OutputFigures, declared.key.Key.Key, declared.packed.PackedDeparture.PackedDeparture, declared.setup.Kind.Kind, declared.setup.Kind.TheVariants.FirstCome}
+pub use Rattle.cq_base.proofs.Keys.{key_laws}
+pub use Rattle.cq_pcap.proofs.Writing.{written_with}
+pub use Rattle.cq_pcap.specs.{declared.capture.PacketRow.PacketRow, declared.write.OutPacket.OutPacket}
 pub use Rattle.cq_cells.proofs.Stamps.{length-rows_from}
+pub use Rattle.cq_cells.proofs.Ranges.{range_more}
+pub use Rattle.cq_scfq.specs.declared.discipline.Discipline.{Discipline}
 pub use Rattle.cq_ideal.proofs.EnoughSlots.{waiting-empty}
+pub use Rattle.cq_ideal.proofs.{EachLeaves.each_leaves_or_is_refused, EachLeaves.refuses_none_elsewhere, FlowLaw.all_in_range, FlowLaw.class_in_slot, FlowLaw.none_came, FlowOn.flow_on, FlowOn.whole_on, LastSlot.slots_of-append, LastSlot.slots_of-departures, LimitedLast.last_departs, LimitedLast.limited_slots, Standing.StandAt, Standing.stand_in}
+pub use Rattle.cq_ideal.specs.{EachOnce.KeepTheirOutput, EachOnce.LeaveOrAreRefused, Fresh.fresh_ideal, OneSlot.CanHaveSlot, OneSlot.HasHadSlot, OneSlot.IsSameSwitch}
+pub use Rattle.cq_reasm.specs.{Cutting.AreCutFrom, Open.Open, Open.bytes_taken, Open.with_piece, Piece.Piece}
+pub use Rattle.cq_reasm.proofs.Pieces.{pieces_give_frame}
+pub use Rattle.cq_state.specs.declared.state.Named.{Named}
+pub use Rattle.cq_prefs.specs.Orders.{Orders}
+pub use Rattle.cq_prefs.proofs.{InputOrder.OutputsInRange, InputOrder.are_offers, Places.outputs_at_most}
+pub use Rattle.cq_laws.specs.{Frozen.fabric_in, Frozen.marked_in, Frozen.IsSoundFabric, LimitedQuiet.quiet_limited_slots, LimitedQuiet.quiet_limited_slot, Phases.Transfers, Phases.came_to, Phases.list_arrived, Places.HasFor, declared.frozen.Frozen.Frozen}
+pub use Rattle.cq_laws.proofs.{ActingAlike.best_act_alike_from_empty, ActingAlike.best_act_alike, AddingUp.figures_fold, Came.came_from, EndsTogether.slots_of_figures, Held.hold_as_many, Joined.all_go_on, KeptParts.departures_one, KeptParts.transfers_both, KeptParts.transfers_one, KeptParts.departures_on, Members.among_at, Members.first_at, Parted.reach, Parted.run_of_whole}
+pub use Rattle.cq_resume.specs.Parts.{IsParted}
+pub use Rattle.cq_resume.proofs.{Pooled.looked_up, Pooled.pairs_kept, Pooled.pairs_kept_with, Pooled.pairs_looked_up, Pooled.pairs_with}
+pub use Rattle.cq_engine.proofs.{Kept.limited_lists_kept, Kept.limited_outputs_kept}

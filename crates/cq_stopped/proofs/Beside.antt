@@ -3,15 +3,8 @@
 -- were there, and those that came for it, are there still or have left, so all are keyed as the switch keys them. A
 -- phase makes no more proposals than the number of ports squared, and none where no cell waits at an input; and in each
 -- slot in which a cell waits or comes one leaves, so there are no more such slots than cells that came.
-use Rattle.cq_stopped.proofs.Terms.{arith, rules, Arrival, ◌≡◌, ℕ, zero, suc, ◌+◌, ◌⊎◌, List, [], ◌∷◌, length, None, Some, inl, inr, ⊎_elim, drop, ◌∙◌, ◌≤◌, ap, length-drop, ◌*◌, ◌-◌, fold, max, cases_lt, common_steps, length-replicate, get_or-replicate, get_or_past, length-insert, sum_by-append, sum_by-cons, AllByRecursion, flat_map, slice_get, slice_index_or, sum, arriving, Queued, present, Marked, arriving_from, CameFor, arrived_has, limited_empty_agree, after_sent, arrived, keyed, old_sound, same_slot, Sound, orders_are, SendsAlike, Fabric, IsAmong, buffer, empty_fabric, input, SlotRecord, fabric_held, LimitedRecord, slots_in, proposals_in, Transfers, HasFor, orders_of, IsStable, Partners, proposals, machine_at, opening, Switch, length_put, waiting-empty, all_wait}
-use Rattle.cq_ideal.proofs.Ends.{nothing_left}
-use Rattle.cq_ideal.proofs.FlowCount.{come_count-first}
+use Rattle.cq_stopped.proofs.Terms.{arith, rules, Arrival, ◌≡◌, ℕ, zero, suc, ◌+◌, ◌⊎◌, List, [], ◌∷◌, length, None, Some, inl, inr, ⊎_elim, drop, ◌∙◌, ◌≤◌, ap, length-drop, ◌*◌, ◌-◌, fold, max, cases_lt, common_steps, length-replicate, get_or-replicate, get_or_past, length-insert, sum_by-append, sum_by-cons, AllByRecursion, flat_map, slice_get, slice_index_or, sum, arriving, Queued, present, Marked, arriving_from, CameFor, arrived_has, limited_empty_agree, after_sent, arrived, keyed, old_sound, same_slot, Sound, orders_are, SendsAlike, Fabric, IsAmong, buffer, empty_fabric, input, SlotRecord, fabric_held, LimitedRecord, slots_in, proposals_in, Transfers, HasFor, orders_of, IsStable, Partners, proposals, machine_at, opening, Switch, length_put, waiting-empty, all_wait, nothing_left, come_count-first, counted, sent_buffer, moved_has, partner_offers, sender, empty_together}
 use Rattle.cq_ideal.proofs.FlowRun.{come_count}
-use Rattle.cq_ideal.proofs.Waiting.{counted}
-use Rattle.cq_laws.proofs.AfterDepartures.{sent_buffer}
-use Rattle.cq_laws.proofs.AfterTransfer.{moved_has}
-use Rattle.cq_laws.proofs.Rises.{partner_offers, sender}
-use Rattle.cq_laws.proofs.WholeRuns.{empty_together}
 use Rattle.cq_simulate.proofs.FabricCounts.{none_proposed as simulate_none, proposals_few, shorter, square_few}
 use Rattle.cq_stopped.proofs.Ran.{IsKeyed}
 use Rattle.cq_stopped.proofs.Stepping.{KnownRun, KnownSlot}

@@ -2,17 +2,8 @@
 -- keep the laws of machines and begin in a state of their size, and its arrivals, of which there are not many. They
 -- come packet after packet at each input. A capture is a file of 2^28 bytes at most, and each packet and each cell of
 -- it takes a byte there, so that no packet's number and no cell's place in its packet comes near 2^32.
-use Rattle.cq_stopped.proofs.Terms.{common_steps, rules, ◌≡◌, ℕ, zero, suc, ◌+◌, ◌*◌, ◌<◌, ◌≤◌, ◌^◌, min, List, [], ◌∷◌, length, map, flat_map, ap, arith, length-append, fold, replicate, slice_index_or, AllByRecursion, range_with_len, length-map, Arrival, Scheduled, IsRecorded, IsTraffic, KeepsLaws, Machine, machine_at, all_both, ArePackets, IsScheduleOf, Switch, switch_of, AreTables, IsSetup, Tables, machine_of, machines_of, opening_of, openings_of, AreRecorded, of_images, FitsLine, length-map-range_with_len}
-use Rattle.cq_base.specs.declared.setup.ClassRow.{ClassRow}
-use Rattle.cq_base.specs.declared.setup.Kind.{Kind}
-use Rattle.cq_base.specs.declared.setup.Kind.TheVariants.{FirstCome, Priority, Fair}
-use Rattle.cq_base.specs.declared.setup.Setup.{Setup}
-use Rattle.cq_cells.proofs.Packets.{came_more, few_by, length_packet, row_of, rows_are}
+use Rattle.cq_stopped.proofs.Terms.{common_steps, rules, ◌≡◌, ℕ, zero, suc, ◌+◌, ◌*◌, ◌<◌, ◌≤◌, ◌^◌, min, List, [], ◌∷◌, length, map, flat_map, ap, arith, length-append, fold, replicate, slice_index_or, AllByRecursion, range_with_len, length-map, Arrival, Scheduled, IsRecorded, IsTraffic, KeepsLaws, Machine, machine_at, all_both, ArePackets, IsScheduleOf, Switch, switch_of, AreTables, IsSetup, Tables, machine_of, machines_of, opening_of, openings_of, AreRecorded, of_images, FitsLine, length-map-range_with_len, ClassRow, Kind, FirstCome, Priority, Fair, Setup, came_more, few_by, length_packet, row_of, rows_are, Captured, schedule_known, all_cells, keeps_laws, kind, machine_is, right_classes, right_size}
 use Rattle.cq_cells.specs.Schedule.{arrivals, arrivals_at, cell_of, first_stamp, packets_of}
-use Rattle.cq_pcap.specs.Captured.{Captured}
-use Rattle.cq_resume.proofs.Scheduling.{schedule_known}
-use Rattle.cq_simulate.proofs.Departed.{all_cells}
-use Rattle.cq_simulate.proofs.Runnable.{keeps_laws, kind, machine_is, right_classes, right_size}
 
 -- all numbers of a rank state fit 128 bits
 abbrev pub AreLow : List ℕ → Type 0

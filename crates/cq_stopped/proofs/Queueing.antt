@@ -3,14 +3,9 @@
 -- output. A cell that comes has another name than each that came before it, and of its flow each came in an earlier
 -- slot. In the order of keys none of these stands behind it: each has its level and no greater rank. So of each two
 -- cells, what left the output and then what waits there, the one ahead goes before the other as it did.
-use Rattle.cq_stopped.proofs.Terms.{rules, ◌≡◌, ℕ, zero, suc, ◌+◌, ◌<◌, ◌≤◌, ◌^◌, Bool, true, false, cond, List, [], ◌∷◌, length, Option, Some, None, Result, Ok, Err, refl, arith, ◌++◌, ap, ⊎_elim, cases_eq, ltb-true, both_ways, cases_lt, cond_both, eq-eqb, eqb-true, le-ltb, lt-ltb, false_from_ne_true, common_steps, get_or-set_other, get_or-set_same, length-set, same_Some, AllByRecursion, is_some, slice_index_or, slice_set, arrival_at, EachCell, is_for, put, Cell, Queued, came_from, only_ok, all_told, put_all, Ranking, ranking, all_among, all_if_among, all_put, among_put, IsAmong, came_to, KeepLaws, Machine, machine_at, EachPair, all_weaker, all_both, all_front, all_back, after_input_ok}
-use Rattle.cq_base.proofs.Keys.{key_laws}
+use Rattle.cq_stopped.proofs.Terms.{rules, ◌≡◌, ℕ, zero, suc, ◌+◌, ◌<◌, ◌≤◌, ◌^◌, Bool, true, false, cond, List, [], ◌∷◌, length, Option, Some, None, Result, Ok, Err, refl, arith, ◌++◌, ap, ⊎_elim, cases_eq, ltb-true, both_ways, cases_lt, cond_both, eq-eqb, eqb-true, le-ltb, lt-ltb, false_from_ne_true, common_steps, get_or-set_other, get_or-set_same, length-set, same_Some, AllByRecursion, is_some, slice_index_or, slice_set, arrival_at, EachCell, is_for, put, Cell, Queued, came_from, only_ok, all_told, put_all, Ranking, ranking, all_among, all_if_among, all_put, among_put, IsAmong, came_to, KeepLaws, Machine, machine_at, EachPair, all_weaker, all_both, all_front, all_back, after_input_ok, key_laws, TagFault, Key, NoLater, in_order_put, given_floor}
 use Rattle.cq_base.specs.Key.{is_before}
-use Rattle.cq_base.specs.declared.cell.TagFault.{TagFault}
-use Rattle.cq_base.specs.declared.key.Key.{Key}
-use Rattle.cq_ideal.proofs.FlowPut.{NoLater, in_order_put}
 use Rattle.cq_ideal.specs.Ranking.{keyed}
-use Rattle.cq_rank.proofs.Floors.{given_floor}
 use Rattle.cq_stopped.proofs.Configured.{AreLow, KeepsLow}
 use Rattle.cq_stopped.proofs.Joined.{all_made}
 use Rattle.cq_stopped.proofs.Ran.{Follows}

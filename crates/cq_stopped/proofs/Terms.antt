@@ -62,11 +62,28 @@ unfoldable pub use Rattle.cq_resume.specs.Told.{fabric_told}
 pub use Rattle.cq_resume.specs.declared.taken.Taken.{Taken}
 pub use Rattle.cq_simulate.proofs.NamedFlow.{among_of_has, any_has, has_any, pairs_joined, pairs_mapped, pairs_of_cells}
 pub use Rattle.cq_stopped.specs.Stopped.{AreRecorded, CanBeTakenUp, StoppedRunsAreSound, told_state}
-pub use Rattle.cq_audit.proofs.Noted.{AreWritten, FitsLine}
+pub use Rattle.cq_audit.proofs.Noted.{AreWritten, FitsLine, written_in_run}
 pub use Rattle.cq_base.proofs.Each.{all_back, all_both, all_front, all_weaker, few_kept, of_images}
 pub use Rattle.cq_base.proofs.Putting.{all_put, length_put}
-pub use Rattle.cq_laws.proofs.AddingUp.{fold-max}
-pub use Rattle.cq_ideal.proofs.Waiting.{length-filled}
+pub use Rattle.cq_base.specs.{declared.cell.TagFault.TagFault, declared.figures.Figures.Figures, declared.figures.InputFigures.InputFigures, declared.key.Key.Key, declared.setup.ClassRow.ClassRow, declared.setup.Kind.Kind, declared.setup.Kind.TheVariants.FirstCome, declared.setup.Kind.TheVariants.Priority, declared.setup.Kind.TheVariants.Fair, declared.setup.Setup.Setup}
+pub use Rattle.cq_base.proofs.Keys.{key_laws}
+pub use Rattle.cq_pcap.specs.Captured.{Captured}
+pub use Rattle.cq_cells.proofs.{Packets.came_more, Packets.few_by, Packets.length_packet, Packets.row_of, Packets.rows_are, Ranges.flat_same}
+pub use Rattle.cq_cells.specs.NextArrival.{ArrivesIn}
+pub use Rattle.cq_rank.proofs.Floors.{given_floor}
+pub use Rattle.cq_laws.proofs.AddingUp.{figures_fold, fold-max}
+pub use Rattle.cq_ideal.proofs.Waiting.{counted, length-filled}
 pub use Rattle.cq_laws.proofs.EndsTogether.{sent_slots}
 pub use Rattle.cq_ideal.proofs.EnoughSlots.{waiting-empty}
+pub use Rattle.cq_ideal.proofs.{Ends.nothing_left, FlowCount.come_count-first, FlowPut.NoLater, FlowPut.in_order_put, LastSlot.slots_of-append, Packets.refused_here, Parted.arriving_length, Refusals.counts_more}
+pub use Rattle.cq_ideal.specs.{Limiter.where_up, declared.refused.Refused.Refused}
+pub use Rattle.cq_state.specs.declared.state.Seen.{Seen}
+pub use Rattle.cq_state.proofs.{OneReading.state_is_exact, OneText.have_one_text}
+pub use Rattle.cq_laws.proofs.{AfterDepartures.sent_buffer, AfterTransfer.moved_has, Falls.rest_of, IdealLists.among_put_all, IdealLists.list_after, IdealLists.put_all_keeps, IdealLists.put_all_new, InputBest.stable_slot, InputBest.stable_limited_run, LimitedSlots.admission_for_ports, Rises.partner_offers, Rises.sender, WholeRuns.empty_together, WholeRuns.empty_list}
+pub use Rattle.cq_laws.specs.SlotBySlot.{RunBy}
+pub use Rattle.cq_resume.proofs.{Coming.is_between, Coming.one_comes, Judging.mapped_alike, Scheduling.schedule_known, Tallied.whole, Upheld.all_marks, Upheld.all_stand, Walking.cells_in}
+pub use Rattle.cq_resume.specs.{declared.found.Name.Name, declared.refusal.StateRefusal.StateRefusal}
+pub use Rattle.cq_traffic.proofs.{ForPorts.arrivals_for, ForPorts.place_of}
 pub use Rattle.cq_simulate.proofs.{FabricSteps.all_wait, OnceASlot.AreNumbered, Tallies.all_in_row}
+pub use Rattle.cq_simulate.proofs.{Departed.all_cells, OnceASlot.limited_numbered, Runnable.keeps_laws, Runnable.kind, Runnable.machine_is, Runnable.right_classes, Runnable.right_size}
+pub use Rattle.cq_simulate.specs.{FabricRuns.IsFabricRun, FabricRuns.refused_in_run}

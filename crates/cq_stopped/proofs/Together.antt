@@ -3,20 +3,9 @@
 -- of its cell; the figures, since as many names are of an input as cells came to it; and the marks and the counts,
 -- since the arrivals that are not named are those that were refused. The text of that state is read as what was left,
 -- so what goes on from there is the run.
-use Rattle.cq_stopped.proofs.Terms.{rules, ◌≡◌, ℕ, zero, suc, ◌+◌, ◌-◌, ◌<◌, ◌≤◌, ◌^◌, List, [], ◌∷◌, length, map, fold, min, max, refl, sym, ap, ◌∙◌, arith, common_steps, length-map, length-map-range_with_len, AllByRecursion, enumerate_from, flat_map, slice_index_or, Queued, Scheduled, arriving_from, departures_of, Fabric, cushion_of, input, SlotRecord, fabric_in, marked_in, LimitedRecord, slots_in, figures_of, input_figures, slacks, gone_in, list_of, each_pair, EachPair, all_both, Differ, Has, all_from_has, all_of_has, has_image, has_left, has_right, image_has, figures_told, frozen_told, taken_of, opening, IsWhole, IsParted, seen_as, sent_as, state_of, IsRefusal, Kept, Runs, Clause, IsSound, Switch, switch_of, named_in, queued_in, Taken, ports_of, Tables, machine_of, openings_of, AreRankNumbers, IsInRange, IsNamed, IsSeen, IsSent, state_lines, state_text, Named, Sent, State, told_state, CanBeTakenUp, StoppedRunsAreSound, few_kept, of_images, all_weaker, transfers_of_run, Transfer}
+use Rattle.cq_stopped.proofs.Terms.{rules, ◌≡◌, ℕ, zero, suc, ◌+◌, ◌-◌, ◌<◌, ◌≤◌, ◌^◌, List, [], ◌∷◌, length, map, fold, min, max, refl, sym, ap, ◌∙◌, arith, common_steps, length-map, length-map-range_with_len, AllByRecursion, enumerate_from, flat_map, slice_index_or, Queued, Scheduled, arriving_from, departures_of, Fabric, cushion_of, input, SlotRecord, fabric_in, marked_in, LimitedRecord, slots_in, figures_of, input_figures, slacks, gone_in, list_of, each_pair, EachPair, all_both, Differ, Has, all_from_has, all_of_has, has_image, has_left, has_right, image_has, figures_told, frozen_told, taken_of, opening, IsWhole, IsParted, seen_as, sent_as, state_of, IsRefusal, Kept, Runs, Clause, IsSound, Switch, switch_of, named_in, queued_in, Taken, ports_of, Tables, machine_of, openings_of, AreRankNumbers, IsInRange, IsNamed, IsSeen, IsSent, state_lines, state_text, Named, Sent, State, told_state, CanBeTakenUp, StoppedRunsAreSound, few_kept, of_images, all_weaker, transfers_of_run, Transfer, written_in_run, arriving_length, counts_more, figures_fold, stable_limited_run, empty_list, StateRefusal, limited_numbered, IsFabricRun, refused_in_run, state_is_exact, have_one_text}
 use Rattle.cq_audit.proofs.Following.{run_within as of_its_slots}
-use Rattle.cq_audit.proofs.Noted.{written_in_run}
-use Rattle.cq_ideal.proofs.Parted.{arriving_length}
-use Rattle.cq_ideal.proofs.Refusals.{counts_more}
-use Rattle.cq_laws.proofs.AddingUp.{figures_fold}
-use Rattle.cq_laws.proofs.InputBest.{stable_limited_run}
-use Rattle.cq_laws.proofs.WholeRuns.{empty_list}
 use Rattle.cq_resume.proofs.Joining.{parts_join as join}
-use Rattle.cq_resume.specs.declared.refusal.StateRefusal.{StateRefusal}
-use Rattle.cq_simulate.proofs.OnceASlot.{limited_numbered}
-use Rattle.cq_simulate.specs.FabricRuns.{IsFabricRun, refused_in_run}
-use Rattle.cq_state.proofs.OneReading.{state_is_exact}
-use Rattle.cq_state.proofs.OneText.{have_one_text}
 use Rattle.cq_stopped.proofs.Beside.{all_proposed, most_of_all, IsRecordedWithin, RunsWithin, empty_within, run_within}
 use Rattle.cq_stopped.proofs.Configured.{AreLow, IsConfigured, configured}
 use Rattle.cq_stopped.proofs.Joined.{all_made}

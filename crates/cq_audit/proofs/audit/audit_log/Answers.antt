@@ -1,5 +1,4 @@
-use Rattle.cq_audit.proofs.Terms.{rules, ◌≡◌, List, length, ap, ◌∙◌, arith, length-map, length-map-range_with_len, err_from_is_err_and, Transfer, IsLog}
-use Rattle.cq_scfq.specs.Discipline.{machine_from}
+use Rattle.cq_audit.proofs.Terms.{rules, ◌≡◌, List, length, ap, ◌∙◌, arith, length-map, length-map-range_with_len, err_from_is_err_and, Transfer, IsLog, machine_from}
 use Rattle.cq_audit.proofs.Opened.{IsOpened, opened, ready, verdict}
 use Rattle.cq_audit.proofs.LogLines.{log_in_order}
 use Rattle.cq_audit.proofs.audit.audit_log.Goals as goal

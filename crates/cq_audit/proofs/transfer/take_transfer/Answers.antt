@@ -1,5 +1,4 @@
-use Rattle.cq_audit.proofs.Terms.{arith, lit≤, sym, ◌∙◌, numbers_behind}
-use Rattle.cq_lines.proofs.Walk.{one_ending}
+use Rattle.cq_audit.proofs.Terms.{arith, lit≤, sym, ◌∙◌, numbers_behind, one_ending}
 use Rattle.cq_audit.proofs.LogLines.{begins_with_slot, line_of_parts, parts_of_line}
 use Rattle.cq_audit.proofs.transfer.take_transfer.Goals as goal
 

@@ -1,5 +1,4 @@
-use Rattle.cq_fabric.proofs.Terms.{rules, arith, at_end}
-use Rattle.cq_ideal.proofs.Sending.{length-told, told_next}
+use Rattle.cq_fabric.proofs.Terms.{rules, arith, at_end, length-told, told_next}
 use Rattle.cq_fabric.proofs.sent.tell.Goals as goal
 
 pub outputs-preserved : goal.outputs-preserved

@@ -1,8 +1,4 @@
-use Rattle.cq_resume.proofs.Terms.{◌≡◌, ℕ, List, [], slice_index_or, refl, sym, ap, ◌∙◌, get_or-map, Machine, first_come, machine_of}
-use Rattle.cq_base.specs.declared.setup.ClassRow.{ClassRow}
-use Rattle.cq_base.specs.declared.setup.Kind.{Kind}
-use Rattle.cq_base.specs.declared.setup.Kind.TheVariants.{Fair, FirstCome, Priority}
-use Rattle.cq_rank.specs.Classes.{row_at}
+use Rattle.cq_resume.proofs.Terms.{◌≡◌, ℕ, List, [], slice_index_or, refl, sym, ap, ◌∙◌, get_or-map, Machine, first_come, machine_of, ClassRow, Kind, Fair, FirstCome, Priority, row_at}
 use Rattle.cq_resume.proofs.floors.level_of.Goals as goal
 
 -- every discipline takes the level of a class from its row

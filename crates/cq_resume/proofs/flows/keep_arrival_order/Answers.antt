@@ -1,5 +1,4 @@
-use Rattle.cq_resume.proofs.Terms.{rules, ◌≡◌, ◌*◌, ◌<◌, arith, length-replicate, get_or, inl, inr, Name}
-use Rattle.cq_base.proofs.Library.{take_at}
+use Rattle.cq_resume.proofs.Terms.{rules, ◌≡◌, ◌*◌, ◌<◌, arith, length-replicate, get_or, inl, inr, Name, take_at}
 use Rattle.cq_resume.proofs.Each.{all_at}
 use Rattle.cq_resume.proofs.Lanes.{Place, lanes_first, lanes_hold, lanes_next, lanes_stop, leaves_on, name_inputs, LeavesFirst, flow_of, flows_as_lanes, input_of, through}
 use Rattle.cq_resume.proofs.flows.keep_arrival_order.Goals.{After-may_leave, then-begins, else-begins}

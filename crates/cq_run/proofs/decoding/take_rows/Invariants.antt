@@ -1,5 +1,4 @@
-use Rattle.cq_run.proofs.Terms.{◌≡◌, map, SameReader, taken}
-use Rattle.cq_stream.specs.declared.item.Item.TheVariants.{Row}
+use Rattle.cq_run.proofs.Terms.{◌≡◌, map, SameReader, taken, Row}
 use Rattle.cq_run.proofs.decoding.take_rows.Given as goal
 
 abbrev pub invariant-turns : goal.invariant-turns

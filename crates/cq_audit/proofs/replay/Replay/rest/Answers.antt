@@ -1,5 +1,4 @@
-use Rattle.cq_audit.proofs.Terms.{rules, map, arith, length-map, IsInStep, shown}
-use Rattle.cq_ideal.proofs.Resting.{length-idle}
+use Rattle.cq_audit.proofs.Terms.{rules, map, arith, length-map, IsInStep, shown, length-idle}
 use Rattle.cq_audit.proofs.Slots.{in_step_here, rested_run, rested_step}
 use Rattle.cq_audit.proofs.replay.Replay.rest.Given as given
 use Rattle.cq_audit.proofs.replay.Replay.rest.Goals as goal

@@ -1,7 +1,5 @@
 -- Before the first slot nothing waits and nothing was counted.
-use Rattle.cq_engine.proofs.Terms.{arith, rules, length, map, length-map, ◌≡◌, ℕ, zero, suc, List, [], Some, replicate, sym, common_steps, slice_get, same_Some, Figures, Machine, AreForOneSwitch, empty_fabric, no_figures, empty_agree, Queues, fabric_of, LimiterView, IsInStep, IsRunning, holds_first}
-use Rattle.cq_ideal.specs.IdealRun.{empty_ideal}
-use Rattle.cq_laws.proofs.LeastRun.{more_at_first}
+use Rattle.cq_engine.proofs.Terms.{arith, rules, length, map, length-map, ◌≡◌, ℕ, zero, suc, List, [], Some, replicate, sym, common_steps, slice_get, same_Some, Figures, Machine, AreForOneSwitch, empty_fabric, no_figures, empty_agree, Queues, fabric_of, LimiterView, IsInStep, IsRunning, holds_first, empty_ideal, more_at_first}
 use Rattle.cq_engine.specs.declared.measure.Look.TheVariants as look
 use Rattle.cq_engine.proofs.engine.Engine.new.Goals as goal
 

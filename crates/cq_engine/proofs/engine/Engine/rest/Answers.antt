@@ -1,8 +1,6 @@
 -- An engine that rested is in step with an ideal switch that is empty too.
-use Rattle.cq_engine.proofs.Terms.{rules, map, arith, length-map, IsRunning, fabric_of, rested_limited_run, still_held, common_steps, ◌≡◌, ℕ, ◌≤◌, List, length, Figures, Machine, Fabric, IsEmptyFabric, no_place, rested_agrees, IsInStep, IsSeen, Look}
-use Rattle.cq_ideal.proofs.Resting.{length-idle}
+use Rattle.cq_engine.proofs.Terms.{rules, map, arith, length-map, IsRunning, fabric_of, rested_limited_run, still_held, common_steps, ◌≡◌, ℕ, ◌≤◌, List, length, Figures, Machine, Fabric, IsEmptyFabric, no_place, rested_agrees, IsInStep, IsSeen, Look, length-idle, empty_is}
 use Rattle.cq_engine.proofs.Shown.{up}
-use Rattle.cq_laws.proofs.QuietSlots.{empty_is}
 use Rattle.cq_engine.specs.declared.measure.Look.TheVariants as look
 use Rattle.cq_engine.proofs.engine.Engine.rest.Given as given
 use Rattle.cq_engine.proofs.engine.Engine.rest.Goals as goal

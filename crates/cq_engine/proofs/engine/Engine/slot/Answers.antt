@@ -1,5 +1,4 @@
-use Rattle.cq_engine.proofs.Terms.{rules, ◌≡◌, ◌+◌, ◌*◌, ◌<◌, ◌≤◌, ◌++◌, ℕ, List, length, get_or, map, refl, sym, ap, ◌∙◌, subst, arith, append_assoc, length-append, IfSome, Option, length-map, Queued, Figures, class_count, admitted, all_told, fronts, ranking, transfers_of, came_to, HoldsFabric, fabric_of, AreRanked, HaveArrived, HaveJudged, HaveSent, admits_are, still_holds, came_newest, came_outputs, can_cross_first, can_cross_second, come_apart, few_cross, fits_lists, held_before, its_admission, GoStraight, crossings}
-use Rattle.cq_ideal.proofs.Sending.{length-told}
+use Rattle.cq_engine.proofs.Terms.{rules, ◌≡◌, ◌+◌, ◌*◌, ◌<◌, ◌≤◌, ◌++◌, ℕ, List, length, get_or, map, refl, sym, ap, ◌∙◌, subst, arith, append_assoc, length-append, IfSome, Option, length-map, Queued, Figures, class_count, admitted, all_told, fronts, ranking, transfers_of, came_to, HoldsFabric, fabric_of, AreRanked, HaveArrived, HaveJudged, HaveSent, admits_are, still_holds, came_newest, came_outputs, can_cross_first, can_cross_second, come_apart, few_cross, fits_lists, held_before, its_admission, GoStraight, crossings, length-told}
 use Rattle.cq_engine.specs.Sending.{CanSend}
 use Rattle.cq_engine.proofs.Shown.{Begun, begun, buffers_room, can_take_in, lists_room, ports_are, ranked}
 use Rattle.cq_engine.proofs.Done.{made_as, slot_done, stopped_as}
