@@ -105,6 +105,9 @@ pub fn audit_texts<R: Threads + Sync>(
 {
     let schedule = Schedule::of(rt, alloc, captures, tables)?;
     let ideal = run_ideal_packed(alloc, tables, &schedule)?;
+    let text = trace_text_of_packed(alloc, ideal.as_slice())?;
+    // From here on the departures are wanted as text alone, which has a quarter of their bytes.
+    drop(ideal);
     audit_log(
         alloc,
         &tables.setup,
@@ -112,7 +115,6 @@ pub fn audit_texts<R: Threads + Sync>(
         &schedule,
         log,
     )?;
-    let text = trace_text_of_packed(alloc, ideal.as_slice())?;
     match audit_trace(trace, &text) {
         None => Ok(()),
         Some(line) => Err(denied(Denial::Trace { line })),
