@@ -1,7 +1,7 @@
 -- What stopping a run and taking one up aims at, over the captures that were read: the text of the state in which a
 -- run stands after so many slots, and what the run keeps that goes on from the state whose text it is. And why there
 -- is none.
-use Rattle.std.specs.Prelude.{◌≡◌, ℕ, ◌<◌, ◌≤◌, ◌^◌, List, length}
+use Rattle.std.specs.Prelude.{◌≡◌, ℕ, ◌<◌, ◌≤◌, List, length}
 use Rattle.cq_base.specs.declared.cell.TagFault.{TagFault}
 use Rattle.cq_cells.specs.Scheduled.{schedule_of}
 use Rattle.cq_pcap.specs.Captured.{Captured}
@@ -15,6 +15,7 @@ use Rattle.cq_route.specs.declared.tables.Tables.{Tables}
 use Rattle.cq_scfq.specs.Disciplines.{openings_of}
 use Rattle.cq_simulate.specs.PartedRuns.{IsPartFault}
 use Rattle.cq_simulate.specs.declared.refusal.RunRefusal.TheVariants as of_run
+use Rattle.cq_state.specs.Refusals.{longest_text}
 use Rattle.cq_state.specs.State.{state_text}
 use Rattle.cq_state.specs.StateText.{IsStateFault}
 use Rattle.cq_run.specs.declared.refusal.Refusal.{Refusal}
@@ -42,13 +43,13 @@ pub record IsPartText (t : Tables) (captures : List (List Captured)) (slots : �
   pub at : Taken
   pub parted : IsPartedAt t captures slots at
   pub told : text ≡ text_at t captures at
-  pub short : length text ≤ 2 ^ 28
+  pub short : length text ≤ longest_text
 
 -- the text of this state is too long
 pub record IsPartLong (t : Tables) (captures : List (List Captured)) (slots : ℕ) : Type 0 where
   pub at : Taken
   pub parted : IsPartedAt t captures slots at
-  pub long : 2 ^ 28 < length (text_at t captures at)
+  pub long : longest_text < length (text_at t captures at)
 
 -- why there is no text: a tag fault of one of these slots, or the length of the text
 abbrev pub IsPartRefusal : Tables → List (List Captured) → ℕ → Refusal → Type 0

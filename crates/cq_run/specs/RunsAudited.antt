@@ -2,6 +2,7 @@
 use Rattle.std.specs.Prelude.{◌≡◌, ◌≢◌, ℕ, ◌≤◌, List, length, Some, IsOkAnd}
 use Rattle.std.specs.List.{AllByRecursion}
 use Rattle.cq_space.specs.Space.{Contents}
+use Rattle.cq_state.specs.Refusals.{longest_text}
 use Rattle.cq_words.specs.declared.command.Command.TheVariants.{Audit}
 use Rattle.cq_run.specs.declared.refusal.Refusal.{Refusal}
 use Rattle.cq_run.specs.Aim.{Denies, Meets}
@@ -18,7 +19,7 @@ pub record IsLeft (r : Reader) (config : List ℕ) (m left : Contents) (plan : P
   pub emulates : IsEmulation r config m plan
   pub written : all_replaced plan.writes (Some m) ≡ Some left
   pub configuration_stays : AllByRecursion (λ write. write.0 ≢ config) plan.writes
-  pub short : AllByRecursion (λ write. length write.1 ≤ 268435456) plan.writes
+  pub short : AllByRecursion (λ write. length write.1 ≤ longest_text) plan.writes
 
 -- over it an audit aims at a yes that holds, and denies nothing
 abbrev pub RunsAreAudited : Reader → Type 0

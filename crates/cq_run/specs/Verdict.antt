@@ -14,6 +14,7 @@ use Rattle.cq_route.specs.declared.tables.PortRow.{PortRow}
 use Rattle.cq_route.specs.declared.tables.Tables.{Tables}
 use Rattle.cq_route.specs.Plain.{plain_tables}
 use Rattle.cq_simulate.specs.IdealRuns.{ideal_departures}
+use Rattle.cq_state.specs.Refusals.{longest_text}
 use Rattle.cq_tables.specs.Check.{Refused}
 use Rattle.cq_tables.specs.Document.{read_or_refused}
 use Rattle.cq_words.specs.declared.command.Command.{Command}
@@ -89,7 +90,7 @@ captures_in r tables m = captures_from r tables.limit_bytes 0 tables.ports m
 
 -- the bytes of a text; a file that is too long is refused so before it is looked at
 abbrev pub short_or : Refusal → List ℕ → Result (List ℕ) Refusal
-short_or long bytes = if nat_lt 268435456 (length bytes) then Err long else Ok bytes
+short_or long bytes = if nat_lt longest_text (length bytes) then Err long else Ok bytes
 
 -- the text of this name
 abbrev pub short_in : Refusal → List ℕ → Contents → Result (List ℕ) Refusal

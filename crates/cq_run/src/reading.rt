@@ -15,7 +15,7 @@ use std::alloc::Global;
 const LONGEST_CONFIGURATION: u64 = 1_048_576;
 
 // The greatest length of a trace and of a log that are audited, and of the text of a state, in bytes.
-const LONGEST_TEXT: u64 = 268_435_456;
+const LONGEST_TEXT: u64 = cq_state::LONGEST_TEXT as u64;
 
 // The code of a configuration that is too long. It is a fault of the whole text, whose path is `-`.
 const TOO_LONG: u8 = 10;

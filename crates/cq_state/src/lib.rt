@@ -13,4 +13,4 @@ mod write;
 pub use laws::{state_texts_are_exact, states_have_one_text};
 pub use read::read_text;
 pub use state::{Head, Named, Seen, Sent, State};
-pub use write::{StateLong, text_of};
+pub use write::{LONGEST_TEXT, StateLong, text_of};

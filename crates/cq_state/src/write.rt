@@ -1,7 +1,7 @@
 //! Writes the text of a state, part by part.
 ghost use Rattle.std.specs.Prelude.{◌≡◌, ◌≤◌, ◌^◌, [], ◌∷◌, ◌++◌, length, map, Some, OnOk, IfOk, IfErr};
 ghost use Rattle.std.specs.List.{flat_map};
-ghost use Rattle.cq_state.specs.Refusals.{IsTooLong};
+ghost use Rattle.cq_state.specs.Refusals.{IsTooLong, longest_text};
 ghost use Rattle.cq_state.specs.State.{state_text, head_lines, numbered, input_line, rank_line, cell_numbers, cell_line, sent_line, moved_line};
 ghost use Rattle.cq_state.specs.StateText.{Line, spelled};
 
@@ -14,24 +14,24 @@ use std::alloc::{AllocError, Global};
 /// Why there is no text.
 #[derive(Clone, Copy, Debug, PartialEq, Eq)]
 pub enum StateLong {
-    /// It would have more than 2^28 bytes.
+    /// It would have more than [`LONGEST_TEXT`] bytes.
     Long,
     /// Want of memory.
     NoMemory,
 }
 
-// The most bytes of a state's text.
-const MOST_BYTES: usize = 1 << 28;
+/// The most bytes that the text of a state may have.
+pub const LONGEST_TEXT: usize = 1 << 28;
 
 /// The text of a state.
 pub fn text_of(alloc: Global, state: &State) -> Result<Vec<u8>, StateLong>
     ensures text { IfOk result (λ text. text.items ≡ state_text state.now) }
-    ensures short { IfOk result (λ text. length text.items ≤ 2 ^ 28) }
+    ensures short { IfOk result (λ text. length text.items ≤ longest_text) }
     ensures long { IfErr result (IsTooLong (state_text state.now)) }
 {
     let mut text = Vec::new(alloc);
     put_state(alloc, &mut text, state).or(Err(StateLong::NoMemory))?;
-    if text.len() > MOST_BYTES {
+    if text.len() > LONGEST_TEXT {
         Err(StateLong::Long)
     } else {
         Ok(text)
