@@ -21,7 +21,8 @@ use std::thread::Threads;
 ///
 /// Two workers or more share a ledger. Each tries to claim the input of its own number, those above it and then
 /// those below, and tells the gate of its claims and proposals. Fewer than two, or too little memory for a
-/// ledger, and one thread settles the phase alone, with nothing told.
+/// ledger, and one thread settles the phase alone, with nothing told. Should an input be left that no worker
+/// claimed, one thread settles the phase anew.
 pub fn pair_phase<R: Threads + Sync, G: Gate>(
     rt: &R,
     alloc: Global,

@@ -9,7 +9,7 @@ use cq_ledger::{Closed, Phase};
 pub enum Settled {
     /// Two workers or more proposed on one ledger, and this is what closing it gave.
     Shared(Closed),
-    /// One thread made all proposals.
+    /// One thread settled it, and these are its proposals.
     Alone(Phase),
 }
 

@@ -35,8 +35,10 @@ pub record IsReachedBy (o : Orders) (s : State) (made : ℕ) : Type 0 where
   pub state : s ≡ state_after o events
   pub count : made ≡ length events
 
--- an input is in one place: in a hand, held by one output, or neither
+-- an input is in one place: in one hand, held by one output, or neither
 pub record IsInOnePlace (o : Orders) (words : List ℕ) (views : List View) (s : State) (i : ℕ) : Type 0 where
+  pub one_hand : (a b p q : ℕ) (v w : View) → Sits views a v → Sits views b w →
+      v.hand ≡ Some (i, p) → w.hand ≡ Some (i, q) → a ≡ b
   pub held_once : (j k : ℕ) → Holds o s j i → Holds o s k i → j ≡ k
   pub not_both : (j : ℕ) → Holds o s j i → IsInAHand views i → ⊥
   pub not_unclaimed : IsUnclaimed words i → IsInAHand views i → ⊥

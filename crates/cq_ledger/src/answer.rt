@@ -7,7 +7,7 @@ ghost use Rattle.cq_ledger.specs.Steps.{answer_of, hand_after, hand_at, output_a
 use cq_base::Port;
 use cq_prefs::{Offers, Outcome};
 
-/// An input, and the place in its order where it proposes next.
+/// Whose turn it is at a seat: an input, with the place of its next proposal among its offers.
 pub(crate) type Hand = Option<(Port, u16)>;
 
 /// The output that is asked, and the position of the input that asks.

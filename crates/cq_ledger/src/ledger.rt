@@ -62,8 +62,9 @@ impl Ledger {
 
     /// Claims an input for a seat whose hand is empty: one atomic step on the word of claims. The answer is true
     /// exactly where the step found the input unclaimed. Then the seat has claimed it, and it is in the seat's
-    /// hand at its first place, or the hand is empty where its order is. After false the seat has only seen that
-    /// the input is claimed.
+    /// hand at its first place, or the hand is empty where its order is. After false the seat has seen that the
+    /// input is claimed, and its claims, its hand and its count are as before. The first input that a seat tries
+    /// to claim is kept in either case.
     pub fn claim(&self, seat: &mut LedgerSeat, input: Port) -> bool
         requires seat { IsSeatOf self.now seat.old }
         requires hand { seat.old.view.hand ≡ None }
@@ -90,9 +91,9 @@ impl Ledger {
     /// word. Held: nobody had proposed to that output, so its word was the number of ports, and the hand is empty
     /// then. Displaced: another input stood there at a greater position, and the hand takes it up, behind this output
     /// in its order. Rejected: a lesser position stood there, and the hand keeps its input, which moves on by one
-    /// place. Each comes in that case alone. A hand whose input has no output left is empty. The seat made one proposal more, and never more
-    /// than the number of ports squared. Its view keeps the input that proposed and the answer, also where the hand
-    /// ends empty.
+    /// place. Each comes in that case alone. A hand whose input has no output left is empty. The seat made one
+    /// proposal more, and never more than the number of ports squared. Its view keeps the input that proposed and
+    /// the answer, also where the hand ends empty.
     pub fn propose(&self, seat: &mut LedgerSeat) -> Outcome
         requires seat { IsSeatOf self.now seat.old }
         requires hand { IsSome seat.old.view.hand }

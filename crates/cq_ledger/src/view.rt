@@ -10,7 +10,7 @@ use std::marker::Model;
 pub struct View {
     /// A bit for each input that the seat has claimed.
     pub ghost claims: { ℕ },
-    /// No input, or one and the place in its order where it proposes next.
+    /// No input, or one with the place of its next proposal among its offers.
     pub ghost hand: { Option (ℕ × ℕ) },
     /// How many proposals the seat made.
     pub ghost made: { ℕ },

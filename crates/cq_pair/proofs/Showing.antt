@@ -1,7 +1,7 @@
 -- What the steps of a core do to what it shows. Its fields are what was shown; the free inputs that it shows are those
 -- that wait by the places and the pairs, and so they are after a step that takes an input out, or puts it back, as it
 -- waits.
-use Rattle.cq_pair.proofs.Terms.{common_steps, ℕ, ◌≡◌, ◌≢◌, ◌+◌, ◌<◌, ◌≤◌, eqb, List, length, set, get_or, Some, None, sym, ap, subst, arith, IsDistinct, Orders, ports, outputs_of, Partners, partner_of, next_place, with_input, without_input, Progress, ShowsWaiting, MovesOn, Parts, Takes, waiting_inputs}
+use Rattle.cq_pair.proofs.Terms.{common_steps, ℕ, ◌≡◌, ◌≢◌, ◌+◌, ◌<◌, ◌≤◌, eqb, List, length, set, get_or, Some, None, sym, ap, subst, arith, IsDistinct, Orders, ports, outputs_of, Partners, partner_of, next_place, with_input, without, Progress, ShowsWaiting, MovesOn, Parts, Takes, waiting_inputs}
 use Rattle.cq_pair.proofs.Waiting.{waiting_differ, moved_still, moved_out, joined_out, parted_back, still_out, room_back}
 
 -- the fields, with other places, and one proposal more
@@ -38,7 +38,7 @@ module _ (o : Orders) (fields now : Progress) (is : fields ≡ now) (shows : Sho
     moves free waiting = grind (arith, common_steps)
 
     -- one that has no output left then is out
-    pub moves_out : (free : List ℕ) → length (outputs_of o i) ≤ next + 1 → free ≡ without_input i fields.free →
+    pub moves_out : (free : List ℕ) → length (outputs_of o i) ≤ next + 1 → free ≡ without i fields.free →
         MovesOn o now (moved_on fields moved free) i
     moves_out free end out = grind (arith, common_steps, moves, waits, moved_out)
 
@@ -79,7 +79,7 @@ module _ (o : Orders) (fields now : Progress) (is : fields ≡ now) (shows : Sho
         Takes o now (paired fields positions pairs free) i j p
     takes free waiting = grind (arith, common_steps)
 
-    pub takes_out : (free : List ℕ) → i < length now.matching → free ≡ without_input i fields.free →
+    pub takes_out : (free : List ℕ) → i < length now.matching → free ≡ without i fields.free →
         Takes o now (paired fields positions pairs free) i j p
     takes_out free inside out = grind (arith, common_steps, takes, waits, joined_out)
 

@@ -12,6 +12,7 @@ pub use Rattle.cq_prefs.specs.Orders.{AreOffers, IsOffered, Orders, inputs_of, o
 pub use Rattle.cq_prefs.specs.Pairing.{IsFreeInput, IsInputBest, Partners, partner_of, proposals, without_pair}
 pub use Rattle.cq_prefs.specs.Proposals.{Holds, IsFree, IsQuiescent, IsSound, State, holder, matching_of, next_output, next_place, position_held}
 unfoldable pub use Rattle.cq_prefs.specs.Proposals.{free_inputs, is_free, outcome_of, propose, start}
-pub use Rattle.cq_pair.specs.FreeInputs.{has_offer, inputs_with_offers, with_input, without_input}
+pub use Rattle.cq_prefs.specs.Renewal.{without}
+pub use Rattle.cq_pair.specs.FreeInputs.{has_offer, inputs_with_offers, with_input}
 pub use Rattle.cq_pair.specs.Progress.{CanTake, IsAsk, IsReached, MovesOn, Parts, Progress, ShowsWaiting, Takes, is_waiting, waiting_inputs}
 pub use Rattle.cq_base.proofs.Each.{few_kept}

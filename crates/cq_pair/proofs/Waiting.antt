@@ -1,7 +1,7 @@
 -- The inputs that wait, as places and pairs change. An input that gets a partner, or has no output left, is taken out
 -- of the list, and one that is parted goes back in by its number if it has an output left. The others stay as they
 -- were.
-use Rattle.cq_pair.proofs.Terms.{common_steps, rules, ℕ, zero, suc, ◌≡◌, ◌≢◌, ◌+◌, ◌<◌, ◌≤◌, Bool, true, false, is_none, eqb, ⊎_elim, List, [], ◌∷◌, ◌++◌, length, set, get_or, replicate, Option, Some, None, refl, sym, ◌∙◌, ap, arith, filter, IsDistinct, range_with_len, and-true, cases_eq, cases_lt, cond_both, cond-true, cond-false, eq-eqb, ne_eqb, lt-ltb, le-ltb, eqb-true, and_left, and_right, true≢false, get_or-set_same, get_or-set_other, append-nil, filter_agree, filter-append, length-range_with_len, Orders, AreOffers, ports, outputs_of, Partners, partner_of, State, start, is_free, matching_of, free_inputs, length-put, few_kept, apart_filter, apart_range, distinct, range_next, next_place-start, nobody, partner-is, with_input, without_input, has_offer, inputs_with_offers, is_waiting, waiting_inputs}
+use Rattle.cq_pair.proofs.Terms.{common_steps, rules, ℕ, zero, suc, ◌≡◌, ◌≢◌, ◌+◌, ◌<◌, ◌≤◌, Bool, true, false, is_none, eqb, ⊎_elim, List, [], ◌∷◌, ◌++◌, length, set, get_or, replicate, Option, Some, None, refl, sym, ◌∙◌, ap, arith, filter, IsDistinct, range_with_len, and-true, cases_eq, cases_lt, cond_both, cond-true, cond-false, eq-eqb, ne_eqb, lt-ltb, le-ltb, eqb-true, and_left, and_right, true≢false, get_or-set_same, get_or-set_other, append-nil, filter_agree, filter-append, length-range_with_len, Orders, AreOffers, ports, outputs_of, Partners, partner_of, State, start, is_free, matching_of, free_inputs, length-put, few_kept, apart_filter, apart_range, distinct, range_next, next_place-start, nobody, partner-is, with_input, without, has_offer, inputs_with_offers, is_waiting, waiting_inputs}
 
 -- ## A test that changes at one number
 
@@ -13,7 +13,7 @@ filter-no p x xs e = cond-false (p x) (x ∷ filter p xs) (filter p xs) e
 
 -- it fails at i, and is as before elsewhere
 left_out : (p q : ℕ → Bool) (i : ℕ) → q i ≡ false → ((k : ℕ) → k ≢ i → q k ≡ p k) → (xs : List ℕ) →
-    filter q xs ≡ without_input i (filter p xs)
+    filter q xs ≡ without i (filter p xs)
 left_out p q i out same [] = refl
 left_out p q i out same (x ∷ xs) =
     search (rules, filter-no, cond_both, eq-eqb, ne_eqb, filter-yes, cases_eq, left_out p q i out same xs)
@@ -75,12 +75,12 @@ module _ (o : Orders) (places : List ℕ) (m : Partners) (i : ℕ) where
       (range_with_len 0 (ports o))
 
   pub moved_out : (x : ℕ) → i < length places → length (outputs_of o i) ≤ x →
-      without_input i (waiting_inputs o places m) ≡ waiting_inputs o (set places i x) m
+      without i (waiting_inputs o places m) ≡ waiting_inputs o (set places i x) m
   moved_out x inside end = grind (arith, common_steps, left_out, waits-done, get_or-set_same, waits-place)
 
   -- an input gets a partner
   pub joined_out : (j : ℕ) → i < length m →
-      without_input i (waiting_inputs o places m) ≡ waiting_inputs o places (set m i (Some j))
+      without i (waiting_inputs o places m) ≡ waiting_inputs o places (set m i (Some j))
   joined_out j inside = grind (arith, common_steps, left_out, waits-no, get_or-set_same, waits-partner)
 
   -- an input that has no output left waits with no partner, and with none that it gets

@@ -1,12 +1,8 @@
 -- Inputs in order of number.
-use Rattle.std.specs.Prelude.{ℕ, ◌==◌, Bool, not, nat_lt, List, length, filter}
+use Rattle.std.specs.Prelude.{ℕ, Bool, nat_lt, List, length, filter}
 use Rattle.std.specs.List.{range_with_len}
 use Rattle.cq_prefs.specs.Orders.{Orders, outputs_of}
 use Rattle.cq_prefs.specs.FirstCells.{put_by}
-
--- the inputs without input i
-abbrev pub without_input : ℕ → List ℕ → List ℕ
-without_input i inputs = filter (λ other. not (other == i)) inputs
 
 -- the inputs with input i, before the first that has a greater number
 abbrev pub with_input : ℕ → List ℕ → List ℕ

@@ -3,7 +3,8 @@ use Rattle.std.specs.Prelude.{ℕ, ◌≡◌, ◌<◌, ◌+◌, ◌&&◌, Bool, 
 use Rattle.std.specs.List.{range_with_len}
 use Rattle.cq_prefs.specs.Orders.{Orders, AreOffers, ports, outputs_of, position_of}
 use Rattle.cq_prefs.specs.Pairing.{IsFreeInput, IsFreeOutput, Partners, partner_of, with_pair, without_pair}
-use Rattle.cq_prefs.specs.Proposals.{State, position_held, next_place, next_output, IsFree, state_after, AreEvents, matching_of, free_inputs}
+use Rattle.cq_prefs.specs.Proposals.{position_held, next_place, next_output, matching_of, free_inputs}
+pub use Rattle.cq_prefs.specs.Proposals.{State, start, propose, IsFree, IsQuiescent, state_after, AreEvents}
 
 -- how far the proposals have come: their state, the pairs of those who are held, the free inputs in order of number,
 -- and how many proposals were made

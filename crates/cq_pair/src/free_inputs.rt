@@ -2,7 +2,8 @@
 ghost use Rattle.std.specs.Prelude.{◌≡◌, ◌==◌, ◌↔◌, ◌-◌, ◌<◌, ◌≤◌, IsTrue, [], Some, length, nat_eq, nat_lt, position, slice_get};
 ghost use Rattle.std.specs.List.{IsDistinct, position_or_len};
 ghost use Rattle.cq_prefs.specs.Orders.{place_in, ports};
-ghost use Rattle.cq_pair.specs.FreeInputs.{with_input, without_input, inputs_with_offers};
+ghost use Rattle.cq_prefs.specs.Renewal.{without};
+ghost use Rattle.cq_pair.specs.FreeInputs.{with_input, inputs_with_offers};
 
 use arrayvec::ArrayVec;
 use cq_base::Port;
@@ -97,7 +98,7 @@ impl FreeInputs {
     /// at first.
     pub fn remove(&mut self, input: Port)
         requires { IsDistinct nat_eq self.old }
-        ensures { self.new ≡ without_input input self.old }
+        ensures { self.new ≡ without input self.old }
     {
         if is_last(self.inputs.as_slice(), input) {
             self.inputs.pop();

@@ -108,8 +108,8 @@ impl Core {
         self.free.as_slice()
     }
 
-    /// A free input proposes to the next output of its order. The output takes it where it holds nobody, or holds
-    /// an input that it prefers less, which is displaced.
+    /// Lets a free input propose to the most wanted output that has not yet answered it. The output takes it where
+    /// it holds nobody, or an input that it prefers less, which is displaced.
     pub fn propose(&mut self, offers: &Offers, input: Port) -> Outcome
         requires reached { IsReached offers.now self.old }
         requires free { IsFree offers.now self.old.state input }

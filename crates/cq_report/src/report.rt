@@ -8,7 +8,7 @@ use cq_base::{Figures, InputFigures, NoMemory, OutputFigures};
 use cq_ideal::Refused;
 use std::alloc::Global;
 
-// The most bytes of the three lines of the run as a whole, and of a line of an input or an output: a
+// The most bytes of the three lines of the run as a whole, and of a line of an input, an output or a limit: a
 // number has at most 20 digits.
 const RUN_LINES: usize = 3 * 20 + 24;
 
