@@ -6,7 +6,7 @@ use Rattle.std.specs.FinMap.{FinMap, empty, get, code}
 use Rattle.std.specs.Coded.{Coded, coded_list, coded_ℕ}
 use Rattle.cq_space.specs.Call.{Call, StartRead, Read, StartWrite, Write, Finish}
 use Rattle.cq_space.specs.Calls.{Calls, IsShort, next_fails, one_more}
-use Rattle.cq_space.specs.Causes.{Rose}
+use Rattle.cq_space.specs.Causes.{IsRaised, Rose}
 use Rattle.cq_space.specs.Cut.{IsReached, StaysBefore}
 use Rattle.cq_space.specs.Space.{Mode, Closed, Reading, Writing, Contents, Space, bytes_of}
 
@@ -72,13 +72,18 @@ pub record IsSetToFail (old new : MemSpace) : Type 0 where
   pub starved : new.starved ≡ old.starved
 
 -- a call fails only where it was set to; beside that a read only at a cut, a start of writing only for want of
--- memory, and a write only for one of these
-abbrev pub MayFail : Call → MemSpace → MemSpace → Type 0
-MayFail (StartRead name) old new = IsSetToFail old new
-MayFail Read old new = IsSetToFail old new ⊎ FailsAtCut old new
-MayFail (StartWrite name) old new = IsSetToFail old new ⊎ Rose old.starved new.starved
-MayFail Write old new = IsSetToFail old new ⊎ (FailsAtCut old new ⊎ Rose old.starved new.starved)
-MayFail Finish old new = IsSetToFail old new
+-- memory, and a write only for one of these; a fault for want of memory is counted once as such
+abbrev pub HasReason : Call → MemSpace → MemSpace → Type 0
+HasReason (StartRead name) old new = IsSetToFail old new
+HasReason Read old new = IsSetToFail old new ⊎ FailsAtCut old new
+HasReason (StartWrite name) old new = IsSetToFail old new ⊎ IsRaised old.starved new.starved
+HasReason Write old new = IsSetToFail old new ⊎ (FailsAtCut old new ⊎ IsRaised old.starved new.starved)
+HasReason Finish old new = IsSetToFail old new
+
+-- a call fails for its reason, and one fault is counted
+pub record MayFail (call : Call) (old new : MemSpace) : Type 0 where
+  pub reason : HasReason call old new
+  pub counted : IsRaised old.faults new.faults
 
 -- no call succeeds that was set to fail
 abbrev pub MayPass : MemSpace → Type 0

@@ -1,6 +1,6 @@
 -- What clauses see of a sink in memory.
 use Rattle.std.specs.Prelude.{◌≡◌, ◌⊎◌, ℕ, ◌≤◌, List, length, Option}
-use Rattle.cq_space.specs.Causes.{Rose}
+use Rattle.cq_space.specs.Causes.{IsRaised, Rose}
 use Rattle.cq_space.specs.Cut.{IsReached, StaysBefore}
 
 -- the bytes taken, where writing is cut, the faults, and those of them that came from want of memory
@@ -15,9 +15,10 @@ pub record FailsAtCut (old new : MemTaken) : Type 0 where
   pub cut : IsReached old.cut (length old.bytes)
   pub starved : new.starved ≡ old.starved
 
--- a write fails only at the cut or for want of memory
-abbrev pub MayFail : MemTaken → MemTaken → Type 0
-MayFail old new = FailsAtCut old new ⊎ Rose old.starved new.starved
+-- a write fails only at the cut or for want of memory, which is counted once, and one fault is counted
+pub record MayFail (old new : MemTaken) : Type 0 where
+  pub reason : FailsAtCut old new ⊎ IsRaised old.starved new.starved
+  pub counted : IsRaised old.faults new.faults
 
 -- n more bytes do not go past the cut
 abbrev pub MayMove : MemTaken → ℕ → Type 0

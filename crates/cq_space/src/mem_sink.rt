@@ -12,8 +12,8 @@ use std::marker::Model;
 /// A sink in memory, for tests: it tells what it has taken, and fails where a test set it to fail.
 ///
 /// Clauses see the bytes taken, the cut, the count of faults and the count of those that came from want
-/// of memory. A write answers [`Failed`] only at the cut, or where [`MemSink::starved`] rose in it; it
-/// never goes past the cut and never succeeds there.
+/// of memory. A write answers [`Failed`] only at the cut, or where [`MemSink::starved`] was raised by
+/// one in it, and counts one fault then; it never goes past the cut and never succeeds there.
 #[derive(Drop)]
 pub struct MemSink {
     bytes: Vec<u8>,

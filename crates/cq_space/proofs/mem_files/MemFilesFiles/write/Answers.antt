@@ -26,11 +26,14 @@ pub returns-in-None-clause-answered : goal.returns-in-None-clause-answered
 returns-in-None-clause-answered c =
     record {
       cause = search rules;
-      why = inr (inl (record {
-        cut = of_write c.self.inside c.self.view_is c.self.invariant IsReached c.index-entry.result.now c.in-Writes.is
-            c.index-entry.ensures c.held.ensures c.in-None.ensures.reached;
-        starved = ap starved_of c.fault-in-None.ensures.closed ∙ ap starved_of c.self.view_is;
-      }));
+      why = record {
+        reason = inr (inl (record {
+          cut = of_write c.self.inside c.self.view_is c.self.invariant IsReached c.index-entry.result.now
+              c.in-Writes.is c.index-entry.ensures c.held.ensures c.in-None.ensures.reached;
+          starved = ap starved_of c.fault-in-None.ensures.closed ∙ ap starved_of c.self.view_is;
+        }));
+        counted = search rules;
+      };
       passed = tt;
       counted = search rules;
       kept = search rules;
