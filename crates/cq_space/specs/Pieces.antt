@@ -8,14 +8,14 @@ use Rattle.cq_space.specs.Space.{Space, Finds, ReadsOn, Closes}
 use Rattle.cq_space.specs.declared.files.Failed.{Failed}
 
 module _ {S : Type 0} (space : S → Space) (may_fail : Call → S → S → Type 0) (may_pass : S → Type 0)
-    (may_move : S → ℕ → Type 0) (counts leaves keeps : S → S → Type 0) where
+    (may_move : S → ℕ → Type 0) (gives : S → List ℕ → S → Type 0) (counts leaves keeps : S → S → Type 0) where
   -- the name was begun to be read
   pub record Starts (name : List ℕ) (before after : S) : Type 0 where
     pub found : Finds (space before) (space after) name true
     pub told : (space after).told ≡ (space before).told
     pub answered : HasAnswered {E = Failed} space (StartRead name) may_fail may_pass counts keeps before after (Ok true)
 
-  -- a read gave this piece
+  -- a read gave this piece, as the object itself tells it
   pub record Gives (piece : List ℕ) (before after : S) : Type 0 where
     pub buf : List ℕ
     pub count : ℕ
@@ -23,6 +23,7 @@ module _ {S : Type 0} (space : S → Space) (may_fail : Call → S → S → Typ
     pub next : ReadsOn (space before) (space after) buf count
     pub told : (space after).told ≡ (space before).told
     pub moved : may_move before count
+    pub given : gives before piece after
     pub answered : HasAnswered {E = Failed} space Read may_fail may_pass counts keeps before after (Ok count)
 
   -- reading was ended

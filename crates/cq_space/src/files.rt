@@ -1,5 +1,5 @@
 //! What is asked of a file space, and what its calls answer.
-ghost use Rattle.std.specs.Prelude.{◌≡◌, ◌<◌, ℕ, length, IfOk, OnOk, OnErr};
+ghost use Rattle.std.specs.Prelude.{◌≡◌, ◌<◌, ℕ, List, length, take, IfOk, OnOk, OnErr};
 ghost use Rattle.cq_space.specs.Answering.{HasAnswered};
 ghost use Rattle.cq_space.specs.Call.{Call};
 ghost use Rattle.cq_space.specs.Failing.{Lasts};
@@ -24,8 +24,8 @@ pub struct Failed;
 ///   implementation keeps it in a `u64` that stays at its last value. A call that does not fail leaves
 ///   the count as it was.
 ///
-/// An implementation may promise more, by the members `may_fail`, `may_pass`, `may_move`, `keeps`, `counts` and
-/// `leaves`. Files that fail only where a test sets them to fail are an example.
+/// An implementation may promise more, by the members `may_fail`, `may_pass`, `may_move`, `gives`, `keeps`,
+/// `counts` and `leaves`. Files that fail only where a test sets them to fail are an example.
 pub trait Files {
     /// The mode, the told contents and the count of faults.
     ghost space: { Self → Space };
@@ -38,6 +38,9 @@ pub trait Files {
 
     /// What has to be so before a read or a write that moves so many bytes.
     ghost may_move: { Self → ℕ → Type 0 } = { λ _ _. Unit {0} };
+
+    /// What has to be so of the bytes that a read puts, from before it to after it.
+    ghost gives: { Self → List ℕ → Self → Type 0 } = { λ _ _ _. Unit {0} };
 
     /// What is beside the meaning and stays as it was, from before a call to after it.
     ghost keeps: { Self → Self → Type 0 } = { λ _ _. Unit {0} };
@@ -74,6 +77,7 @@ pub trait Files {
         ensures err { OnErr result ((space self.new).mode ≡ Closed) }
         ensures told { (space self.new).told ≡ (space self.old).told }
         ensures moved { IfOk result (may_move self.old) }
+        ensures given { IfOk result (λ count. gives self.old (take count buf.new) self.new) }
         ensures answered { HasAnswered space Call.Read may_fail may_pass counts keeps
             self.old self.new result };
 

@@ -40,7 +40,9 @@ pub struct WriteFault;
 /// every answer the mode is closed, and contents are as before.
 ///
 /// Also where no contents are told, the bytes of `Ok` are those that the reads of this name gave, one
-/// after another, until one gave none; and `Long` comes only where they gave `limit + 1` in all.
+/// after another, until one gave none; and `Long` comes only where they gave `limit + 1` in all. What a
+/// read gave is told by the member `gives`. Files may leave it open, as those of the system do: of these
+/// alone it is so of any bytes.
 pub fn read_whole<F: Files>(
     alloc: Global,
     files: &mut F,
@@ -53,13 +55,13 @@ pub fn read_whole<F: Files>(
     ensures why { IsErrOf result ReadRefusal.Fault → Fails F.space F.may_fail F.keeps
         (Reads name.now) files.old files.new }
     ensures broken { IsErrOf result ReadRefusal.Fault →
-        BreaksOff F.space F.may_fail F.may_pass F.may_move F.counts F.leaves F.keeps
+        BreaksOff F.space F.may_fail F.may_pass F.may_move F.gives F.counts F.leaves F.keeps
         name.now limit files.old files.new }
     ensures taken { (n : ℕ) → IsErrOf result (ReadRefusal.Long n) →
-        TakesSoMany F.space F.may_fail F.may_pass F.may_move F.counts F.leaves F.keeps
+        TakesSoMany F.space F.may_fail F.may_pass F.may_move F.gives F.counts F.leaves F.keeps
         name.now (limit + 1) files.old files.new }
     ensures all { IfOk result (λ v.
-        TakesAll F.space F.may_fail F.may_pass F.may_move F.counts F.leaves F.keeps
+        TakesAll F.space F.may_fail F.may_pass F.may_move F.gives F.counts F.leaves F.keeps
         name.now v.items files.old files.new) }
     ensures kept { F.keeps files.old files.new }
 {

@@ -5,12 +5,12 @@ use Rattle.cq_space.specs.Pieces.{Gives, HasTaken, Begun, More, Later}
 use Rattle.cq_space.proofs.whole.read_whole.Goals as goal
 
 more : {S : Type 0} {space : S → Space} {may_fail : Call → S → S → Type 0} {may_pass : S → Type 0}
-    {may_move : S → ℕ → Type 0} {counts leaves keeps : S → S → Type 0} {name : List ℕ} {old : S}
-    (all bytes piece : List ℕ) (mid now : S) →
-    HasTaken space may_fail may_pass may_move counts leaves keeps name old bytes mid →
+    {may_move : S → ℕ → Type 0} {gives : S → List ℕ → S → Type 0} {counts leaves keeps : S → S → Type 0}
+    {name : List ℕ} {old : S} (all bytes piece : List ℕ) (mid now : S) →
+    HasTaken space may_fail may_pass may_move gives counts leaves keeps name old bytes mid →
     all ≡ bytes ++ piece → 0 < length piece →
-    Gives space may_fail may_pass may_move counts leaves keeps piece mid now →
-    HasTaken space may_fail may_pass may_move counts leaves keeps name old all now
+    Gives space may_fail may_pass may_move gives counts leaves keeps piece mid now →
+    HasTaken space may_fail may_pass may_move gives counts leaves keeps name old all now
 more all bytes piece mid now t e some s = rw e (More bytes piece mid now t some s)
 
 pub pieces-init : goal.pieces-init
