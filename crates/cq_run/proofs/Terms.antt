@@ -5,7 +5,7 @@ unfoldable pub use Rattle.cq_base.specs.Arriving.{enough}
 pub use Rattle.cq_base.specs.{declared.cell.Departure.Departure, declared.cell.TagFault.TagFault, declared.cell.Transfer.Transfer}
 pub use Rattle.cq_space.specs.{Call.Call, Causes.Rose}
 pub use Rattle.cq_space.specs.Failing.{Fails, Lasts, Reads, Writes}
-pub use Rattle.cq_space.specs.Space.{Closed, Contents, Mode, Space, bytes_of, replaced}
+pub use Rattle.cq_space.specs.Space.{Closed, Contents, Lacks, Mode, Space, bytes_of, replaced}
 pub use Rattle.cq_pcap.specs.Captured.{Captured}
 pub use Rattle.cq_pcap.specs.Faults.{Fault, IsFaulty, fault_of}
 unfoldable pub use Rattle.cq_route.specs.Plain.{plain_tables}
@@ -60,7 +60,7 @@ pub use Rattle.cq_run.specs.Terms.{IsAuditHalted, IsAuditPassed, IsCut, IsCutAtF
 pub use Rattle.cq_base.proofs.Each.{all_back, all_both, all_front, all_weaker}
 pub use Rattle.cq_base.specs.{declared.cell.Cell.Cell, declared.cell.Queued.Queued, declared.status.Status.Status}
 pub use Rattle.cq_space.proofs.Replaced.{get_same}
-pub use Rattle.cq_space.specs.{Whole.Lacks, declared.whole.ReadRefusal.ReadRefusal}
+pub use Rattle.cq_space.specs.declared.whole.ReadRefusal.{ReadRefusal}
 pub use Rattle.cq_pcap.specs.{Written.written, declared.write.OutPacket.OutPacket}
 pub use Rattle.cq_pcap.proofs.{ReadIsSpelt.spelt_or_faulty, SpeltIsRead.fault_is_read, SpeltIsRead.spelt_is_read}
 pub use Rattle.cq_stream.specs.declared.item.Item.TheVariants.{Row}

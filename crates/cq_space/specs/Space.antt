@@ -60,10 +60,14 @@ pub record BeginsReading (told : Option Contents) (name : List ℕ) (mode : Mode
   pub named : read_name mode ≡ name
   pub whole : IfSome told (λ m. IsSomeAnd (get m name) (λ bytes. mode ≡ Reading name bytes))
 
+-- contents are told, and there is no such name
+abbrev pub Lacks : Option Contents → List ℕ → Type 0
+Lacks told name = IsSomeAnd told (λ m. get m name ≡ None)
+
 -- what start_read answered
 abbrev pub Finds : Space → Space → List ℕ → Bool → Type 0
 Finds old new name true = BeginsReading old.told name new.mode
-Finds old new name false = (new.mode ≡ Closed) × (new.faults ≡ old.faults) × IsSomeAnd old.told (λ m. get m name ≡ None)
+Finds old new name false = (new.mode ≡ Closed) × (new.faults ≡ old.faults) × Lacks old.told name
 
 -- the piece is next of what is left, and there is none exactly at the end
 abbrev pub TakesNext : Mode → List ℕ → Mode → Type 0

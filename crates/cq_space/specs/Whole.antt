@@ -1,17 +1,13 @@
 -- What whole reads, writes and puts answer, and what stands afterwards.
-use Rattle.std.specs.Prelude.{◌≡◌, ◌⊎◌, ℕ, ◌<◌, ◌≤◌, List, length, take, Result, Option, None, Vec, vec_len, IfOk, OnOk, OnErr, IsErrOf, IfSome, IsSomeAnd, Some}
+use Rattle.std.specs.Prelude.{◌≡◌, ◌⊎◌, ℕ, ◌<◌, ◌≤◌, List, length, take, Result, Option, Vec, vec_len, IfOk, OnOk, OnErr, IsErrOf, IfSome, Some}
 use Rattle.std.specs.FinMap.{get}
 use Rattle.std.specs.Io.KnownBytes.{append_known}
 use Rattle.std.specs.declared.alloc.Global.{Global}
 use Rattle.cq_space.specs.Causes.{Rose, HasCause}
-use Rattle.cq_space.specs.Space.{Space, Contents, Closed, bytes_of, replaced, IsCutAt}
+use Rattle.cq_space.specs.Space.{Space, Closed, Lacks, bytes_of, replaced, IsCutAt}
 use Rattle.cq_space.specs.declared.whole.ReadRefusal.{ReadRefusal}
 use Rattle.cq_space.specs.declared.whole.ReadRefusal.TheVariants.{Missing, Fault, Long}
 use Rattle.cq_space.specs.declared.whole.WriteFault.{WriteFault}
-
--- contents are told, and there is no such name
-abbrev pub Lacks : Option Contents → List ℕ → Type 0
-Lacks told name = IsSomeAnd told (λ m. get m name ≡ None)
 
 -- a name was read whole, or refused for its cause
 pub record ReadsWhole (old new : Space) (name : List ℕ) (limit : ℕ) (result : Result (Vec ℕ Global) ReadRefusal) :
