@@ -1,3 +1,4 @@
+-- Only proofs use this.
 -- How entries stand for what files in memory hold of each name.
 use Rattle.std.specs.Prelude.{◌≡◌, ℕ, ◌<◌, ◌≤◌, Bool, List, [], ◌∷◌, length, map, drop, slice_index_or, slice_set, string_bytes, Option, None, Some, IsSome, unwrap_or}
 use Rattle.std.specs.Option.{option_map}

@@ -1,3 +1,4 @@
+-- Only proofs use this.
 -- The meaning of files in memory.
 use Rattle.cq_space.specs.MemSpace.{MemSpace}
 use Rattle.cq_space.specs.Entries.{columns_of, contents_of, read_cuts_of, write_cuts_of, mode_of, IsInPlace}

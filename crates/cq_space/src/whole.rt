@@ -1,4 +1,4 @@
-// Whole reads and writes over any file space, and whole puts into any sink.
+//! Whole reads and writes over any file space, and whole puts into any sink.
 ghost use Rattle.std.specs.Prelude.{◌≡◌, ◌≤◌, ◌+◌, ◌^◌, ℕ, OnErr, IfOk, IsErrOf};
 ghost use Rattle.cq_space.specs.Failing.{Fails, FailsTaking, Reads, Writes};
 ghost use Rattle.cq_space.specs.Pieces.{BreaksOff, TakesAll, TakesSoMany};
