@@ -14,24 +14,6 @@ use Rattle.cq_laws.proofs.Parted.{ends_with, Reach, fewer_fit, reach, run_length
 use Rattle.cq_laws.proofs.QuietSlots.{empty_is, quiet_departures, quiet_figures_of_run, quiet_run, quiet_transfers_of_run}
 use Rattle.cq_laws.proofs.WholeRuns.{empty_together, run_from_empty, stop_from_empty}
 
--- ## A whole run with input-best matchings is one with stable ones
-
--- which matchings were chosen is told by the records
-same_choices : (ms : List Machine) (slot : ℕ) (traffic : List (List (Option Cell))) (f f' g g' : Fabric)
-    (rs : List SlotRecord) → FabricRun IsInputBest ms slot traffic f rs g →
-    FabricRun IsStable ms slot traffic f' rs g' → FabricRun IsInputBest ms slot traffic f' rs g'
-same_choices ms slot [] f f' g g' [] x y = y
-same_choices ms slot (cells ∷ traffic) f f' g g' (r ∷ rs) x y =
-    grind (arith, common_steps, same_choices ms (slot + 1) traffic x.0 y.0 g g' rs x.2 y.2)
-same_choices ms slot traffic f f' g g' rs x y = absurd x
-
-pub stable_whole : (ms : List Machine) (came : List Arrival) (start g : Fabric) (rs : List SlotRecord) →
-    WholeRun IsInputBest ms came start rs g → WholeRun IsStable ms came start rs g
-stable_whole ms came start g rs w = ends_with (FabricSlot IsInputBest ms) came start rs IsEmptyFabric
-    (AfterBy (FabricSlot IsStable ms) came start rs) IsEmptyFabric g g w (stable_run ms 0 _ start g _ w.after) w.empty
-    (λ m u v lt best stable empty.
-    search (arith, rules, same_choices, only_run ms))
-
 -- ## The same end
 
 module _ (ms : List Machine) (ports class_count : ℕ) (ranks : List (List ℕ)) (came : List Arrival) where

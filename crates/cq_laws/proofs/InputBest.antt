@@ -1,5 +1,7 @@
--- A run with input-best matchings is a run with stable ones, for each input-best matching is stable.
-use Rattle.cq_laws.proofs.Terms.{common_steps, arith, ℕ, List, Option, rules, ◌+◌, ◌∷◌, Cell, TagFault, Machine, Marked, IsStable, IsInputBest, Fabric, SlotRecord, FabricSlot, FabricRun, FabricStops, IsFault, LimitedRecord, LimitedFabricSlot, LimitedFabricRun, LimitedFabricStops, IsLimitedFault, RunBy, StopBy}
+-- A run with input-best matchings is a run with stable ones, for each input-best matching is stable. A whole run is a
+-- whole one too: the records tell which matchings were chosen, so no run of theirs with stable ones is over sooner.
+use Rattle.cq_laws.proofs.Terms.{common_steps, arith, ℕ, List, Option, rules, ⊎_elim, ◌+◌, ◌<◌, ◌≤◌, [], ◌∷◌, length, take, cases_lt, Arrival, Cell, TagFault, Machine, Marked, IsStable, IsInputBest, Fabric, IsEmptyFabric, SlotRecord, FabricSlot, FabricRun, FabricStops, IsFault, LimitedRecord, LimitedFabricSlot, LimitedFabricRun, LimitedFabricStops, LimitedWholeRun, IsLimitedFault, AreAlso, RunBy, StopBy, WholeBy}
+use Rattle.cq_laws.proofs.Parted.{reach, run_of_whole}
 
 -- ## Where each slot of one kind is one of another, so are runs
 
@@ -17,19 +19,57 @@ module _ {S R : Type 0} (Step Step' : ℕ → List (Option Cell) → S → R →
       search (rules, each_stop (slot + 1) traffic run.0 rs fault run.2)
   each_stop slot traffic f rs fault run = run
 
+  -- ## And so are whole runs, where the record of a slot tells of which kind it is
+
+  module _ (told : (slot : ℕ) (cells : List (Option Cell)) (f f' g g' : S) (r : R) → Step slot cells f r g →
+      Step' slot cells f' r g' → Step slot cells f' r g') where
+    same_kind : (slot : ℕ) (traffic : List (List (Option Cell))) (f f' g g' : S) (rs : List R) →
+        RunBy Step slot traffic f rs g → RunBy Step' slot traffic f' rs g' → RunBy Step slot traffic f' rs g'
+    same_kind slot (cells ∷ traffic) f f' g g' (r ∷ rs) x y =
+        search (rules, told slot cells f f' x.0 y.0 r x.1 y.1, same_kind (slot + 1) traffic x.0 y.0 g g' rs x.2 y.2)
+    same_kind slot [] f f' g g' [] x y = y
+    same_kind slot traffic f f' g g' rs x y = absurd x
+
+    pub each_whole : (IsEmpty : S → Type 0) (came : List Arrival) (start end : S) (rs : List R) →
+        WholeBy Step IsEmpty came start rs end → WholeBy Step' IsEmpty came start rs end
+    each_whole IsEmpty came start end rs w =
+        record {
+          after = each_run 0 _ start end _ w.after;
+          all_came = w.all_came;
+          empty = w.empty;
+          first = λ m s after late empty. ⊎_elim (λ (lt : m < length rs).
+              let r = reach Step came start rs m (length rs) end (omega arith)
+              (run_of_whole Step came start rs IsEmpty end w) in
+              w.first m s (same_kind 0 _ start start r.state s (take m rs) r.after after) late empty)
+              (λ (ge : length rs ≤ m). ge) (cases_lt m (length rs));
+        }
+
+    pub are_also : (IsEmpty : S → Type 0) → AreAlso Step Step' Fault IsEmpty
+    are_also IsEmpty = record { slot = each; run = each_run; whole = each_whole IsEmpty; stop = each_stop }
+
 module _ (ms : List Machine) where
   pub stable_slot : (slot : ℕ) (cells : List (Option Cell)) (f g : Fabric) (r : SlotRecord) →
       FabricSlot IsInputBest ms slot cells f r g → FabricSlot IsStable ms slot cells f r g
   stable_slot slot cells f g r s = grind (arith, common_steps)
 
+  -- which matchings were chosen is told by the record
+  same_choices : (slot : ℕ) (cells : List (Option Cell)) (f f' g g' : Fabric) (r : SlotRecord) →
+      FabricSlot IsInputBest ms slot cells f r g → FabricSlot IsStable ms slot cells f' r g' →
+      FabricSlot IsInputBest ms slot cells f' r g'
+  same_choices slot cells f f' g g' r x y = grind (arith, common_steps)
+
+  pub stable_too : AreAlso (FabricSlot IsInputBest ms) (FabricSlot IsStable ms) (IsFault ms) IsEmptyFabric
+  stable_too = are_also (FabricSlot IsInputBest ms) (FabricSlot IsStable ms) (IsFault ms) stable_slot same_choices
+      IsEmptyFabric
+
   pub stable_run : (slot : ℕ) (traffic : List (List (Option Cell))) (f g : Fabric) (rs : List SlotRecord) →
       FabricRun IsInputBest ms slot traffic f rs g → FabricRun IsStable ms slot traffic f rs g
-  stable_run = each_run (FabricSlot IsInputBest ms) (FabricSlot IsStable ms) (IsFault ms) stable_slot
+  stable_run = stable_too.run
 
   pub stable_stop : (slot : ℕ) (traffic : List (List (Option Cell))) (f : Fabric) (rs : List SlotRecord)
       (fault : TagFault) → FabricStops IsInputBest ms slot traffic f rs fault →
       FabricStops IsStable ms slot traffic f rs fault
-  stable_stop = each_stop (FabricSlot IsInputBest ms) (FabricSlot IsStable ms) (IsFault ms) stable_slot
+  stable_stop = stable_too.stop
 
   -- ## The same with limits
 
@@ -39,14 +79,29 @@ module _ (ms : List Machine) where
         LimitedFabricSlot IsStable limits ms slot cells f r g
     stable_limited_slot slot cells f g r s = grind (arith, common_steps, stable_slot)
 
+    same_limited_choices : (slot : ℕ) (cells : List (Option Cell)) (f f' g g' : Marked Fabric) (r : LimitedRecord) →
+        LimitedFabricSlot IsInputBest limits ms slot cells f r g →
+        LimitedFabricSlot IsStable limits ms slot cells f' r g' →
+        LimitedFabricSlot IsInputBest limits ms slot cells f' r g'
+    same_limited_choices slot cells f f' g g' r x y = grind (arith, common_steps, same_choices)
+
+    pub stable_limited_too : AreAlso (LimitedFabricSlot IsInputBest limits ms) (LimitedFabricSlot IsStable limits ms)
+        (IsLimitedFault limits ms) (λ f. IsEmptyFabric f.state)
+    stable_limited_too = are_also (LimitedFabricSlot IsInputBest limits ms) (LimitedFabricSlot IsStable limits ms)
+        (IsLimitedFault limits ms) stable_limited_slot same_limited_choices (λ f. IsEmptyFabric f.state)
+
     pub stable_limited_run : (slot : ℕ) (traffic : List (List (Option Cell))) (f g : Marked Fabric)
         (rs : List LimitedRecord) → LimitedFabricRun IsInputBest limits ms slot traffic f rs g →
         LimitedFabricRun IsStable limits ms slot traffic f rs g
-    stable_limited_run = each_run (LimitedFabricSlot IsInputBest limits ms) (LimitedFabricSlot IsStable limits ms)
-        (IsLimitedFault limits ms) stable_limited_slot
+    stable_limited_run = stable_limited_too.run
 
     pub stable_limited_stop : (slot : ℕ) (traffic : List (List (Option Cell))) (f : Marked Fabric)
         (rs : List LimitedRecord) (fault : TagFault) →
         LimitedFabricStops IsInputBest limits ms slot traffic f rs fault →
         LimitedFabricStops IsStable limits ms slot traffic f rs fault
-    stable_limited_stop = grind (arith, common_steps, each_stop, stable_limited_slot)
+    stable_limited_stop = stable_limited_too.stop
+
+pub stable_limited_whole : (limits : List (Option ℕ)) (ms : List Machine) (came : List Arrival)
+    (start g : Marked Fabric) (rs : List LimitedRecord) → LimitedWholeRun IsInputBest limits ms came start rs g →
+    LimitedWholeRun IsStable limits ms came start rs g
+stable_limited_whole limits ms = (stable_limited_too ms limits).whole

@@ -53,6 +53,24 @@ pub record HasParts {S R : Type 0} (Step : ℕ → List (Option Cell) → S → 
   pub first : RunBy Step slot before f (take (length before) rs) middle
   pub second : RunBy Step (slot + length before) after middle (drop (length before) rs) h
 
+-- every run is two on end, wherever it is cut
+abbrev pub HaveParts : {S R : Type 0} → (ℕ → List (Option Cell) → S → R → S → Type 0) → Type 0
+HaveParts {S} {R} Step =
+    (slot : ℕ) (before after : List (List (Option Cell))) (f h : S) (rs : List R) →
+    RunBy Step slot (before ++ after) f rs h → HasParts Step slot before after f rs h
+
+-- what is a slot, a run, a whole run or a run that stops by one of two ways to step is one by the other too
+pub record AreAlso {S R : Type 0} (Step Other : ℕ → List (Option Cell) → S → R → S → Type 0)
+    (Fault : ℕ → List (Option Cell) → S → TagFault → Type 0) (IsEmpty : S → Type 0) : Type 0 where
+  pub slot : (slot : ℕ) (cells : List (Option Cell)) (f g : S) (r : R) → Step slot cells f r g →
+      Other slot cells f r g
+  pub run : (slot : ℕ) (traffic : List (List (Option Cell))) (f g : S) (rs : List R) →
+      RunBy Step slot traffic f rs g → RunBy Other slot traffic f rs g
+  pub whole : (came : List Arrival) (start end : S) (rs : List R) →
+      WholeBy Step IsEmpty came start rs end → WholeBy Other IsEmpty came start rs end
+  pub stop : (slot : ℕ) (traffic : List (List (Option Cell))) (f : S) (rs : List R) (fault : TagFault) →
+      StopBy Step Fault slot traffic f rs fault → StopBy Other Fault slot traffic f rs fault
+
 -- there is one run, if there is one: its records, and its end or its tag fault
 pub record IsOneRun {S R : Type 0} (Step : ℕ → List (Option Cell) → S → R → S → Type 0)
     (Fault : ℕ → List (Option Cell) → S → TagFault → Type 0) : Type 0 where

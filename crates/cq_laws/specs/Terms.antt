@@ -29,4 +29,4 @@ pub use Rattle.cq_laws.specs.Places.{NoKeyTwice, IsMostUrgentFor}
 pub use Rattle.cq_laws.specs.Quiet.{idled, idled_for, AddNothing, KeepLaws, quiet_slot, quiet_slots}
 pub use Rattle.cq_laws.specs.Records.{gone_in, transfers_of_run}
 pub use Rattle.cq_laws.specs.Slack.{HasSlack, EachRises, EachArrivesOr, Falls, EachArrivesOrFalls, EachFalls}
-pub use Rattle.cq_laws.specs.SlotBySlot.{GoOn, HasParts, IsOneRun}
+pub use Rattle.cq_laws.specs.SlotBySlot.{AreAlso, GoOn, HaveParts, IsOneRun}

@@ -1,6 +1,6 @@
 //! Runs: how they go on, and which of them there are. Each law is the contract of a function that does nothing.
-ghost use Rattle.std.specs.Prelude.{◌≡◌, ◌++◌, ℕ, List, Option};
-ghost use Rattle.cq_laws.specs.Terms.{Arrival, Cell, Queued, TagFault, Machine, orders_of, transfers_of, IsStable, IsInputBest, Partners, Fabric, SlotRecord, FabricSlot, FabricRun, FabricStops, IsFault, WholeRun, IsLimitedFault, LimitedFabricSlot, GoOn, HasParts, IsOneRun};
+ghost use Rattle.std.specs.Prelude.{◌≡◌, ℕ, List, Option};
+ghost use Rattle.cq_laws.specs.Terms.{Queued, Machine, orders_of, transfers_of, IsStable, IsInputBest, Partners, FabricSlot, IsEmptyFabric, IsFault, IsLimitedFault, LimitedFabricSlot, AreAlso, GoOn, HaveParts, IsOneRun};
 
 /// A state, its marks and what arrives leave one run with input-best matchings, if there is one: its records,
 /// and its end or its tag fault.
@@ -11,18 +11,15 @@ pub fn one_run()
     ensures without_limits { (ms : List Machine) → IsOneRun (FabricSlot IsInputBest ms) (IsFault ms) }
 {}
 
-/// What is said of stable matchings holds of input-best ones.
+/// What is said of stable matchings holds of input-best ones: of a slot, of a run, of a whole run, and of one that
+/// stops.
 pub fn input_best_is_stable()
-    ensures slot { (ms : List Machine) (slot : ℕ) (cells : List (Option Cell)) (f g : Fabric) (r : SlotRecord) →
-        FabricSlot IsInputBest ms slot cells f r g → FabricSlot IsStable ms slot cells f r g }
-    ensures run { (ms : List Machine) (slot : ℕ) (traffic : List (List (Option Cell))) (f g : Fabric)
-        (rs : List SlotRecord) →
-        FabricRun IsInputBest ms slot traffic f rs g → FabricRun IsStable ms slot traffic f rs g }
-    ensures whole { (ms : List Machine) (came : List Arrival) (f g : Fabric) (rs : List SlotRecord) →
-        WholeRun IsInputBest ms came f rs g → WholeRun IsStable ms came f rs g }
-    ensures stop { (ms : List Machine) (slot : ℕ) (traffic : List (List (Option Cell))) (f : Fabric)
-        (rs : List SlotRecord) (fault : TagFault) →
-        FabricStops IsInputBest ms slot traffic f rs fault → FabricStops IsStable ms slot traffic f rs fault }
+    ensures limited { (limits : List (Option ℕ)) (ms : List Machine) →
+        AreAlso (LimitedFabricSlot IsInputBest limits ms) (LimitedFabricSlot IsStable limits ms)
+        (IsLimitedFault limits ms) (λ f. IsEmptyFabric f.state) }
+    // the same of a fabric that knows no limits
+    ensures without_limits { (ms : List Machine) →
+        AreAlso (FabricSlot IsInputBest ms) (FabricSlot IsStable ms) (IsFault ms) IsEmptyFabric }
 {}
 
 /// Where a run ended another goes on, whether its matchings are input-best or any stable ones.
@@ -38,14 +35,13 @@ pub fn runs_go_on()
 
 /// The first slots of a run are a run, and the others go on from where that ended.
 pub fn runs_have_parts()
-    ensures input_best { (ms : List Machine) (slot : ℕ) (before after : List (List (Option Cell))) (f h : Fabric)
-        (rs : List SlotRecord) →
-        FabricRun IsInputBest ms slot (before ++ after) f rs h →
-        HasParts (FabricSlot IsInputBest ms) slot before after f rs h }
-    ensures stable { (ms : List Machine) (slot : ℕ) (before after : List (List (Option Cell))) (f h : Fabric)
-        (rs : List SlotRecord) →
-        FabricRun IsStable ms slot (before ++ after) f rs h →
-        HasParts (FabricSlot IsStable ms) slot before after f rs h }
+    ensures limited_input_best { (limits : List (Option ℕ)) (ms : List Machine) →
+        HaveParts (LimitedFabricSlot IsInputBest limits ms) }
+    ensures limited_stable { (limits : List (Option ℕ)) (ms : List Machine) →
+        HaveParts (LimitedFabricSlot IsStable limits ms) }
+    // the same of a fabric that knows no limits
+    ensures input_best { (ms : List Machine) → HaveParts (FabricSlot IsInputBest ms) }
+    ensures stable { (ms : List Machine) → HaveParts (FabricSlot IsStable ms) }
 {}
 
 /// The transfers of a phase tell its matching: where two stable matchings of the same lists move the same cells,

@@ -2,42 +2,14 @@
 -- ports and classes in every slot, and the run begins where nothing waits and no mark is up, where the fabric and the
 -- ideal switch agree. Its matchings are the input-best ones, so it is a run with stable matchings too, and sends and
 -- refuses what the ideal switch does.
-use Rattle.cq_simulate.proofs.Terms.{common_steps, rules, ◌≡◌, ℕ, ◌+◌, ◌≤◌, List, [], ◌∷◌, take, Option, Ok, ap, ◌∙◌, refl, sym, arith, All, length, Arrival, IsTraffic, Cell, Machine, Marked, NoLimits, admitted_in, first_slots, slots_of, stable_limited_run, one_limited_whole, recorded, Fabric, IsEmptyFabric, empty_fabric, FabricRun, LimitedFabricRun, LimitedFabricSlot, LimitedRecord, LimitedWholeRun, admissions_in, empty_limited_fabric, slots_in, figures_of, IsInputBest, IsStable, classes_of, ports_of, IsSetup, Tables, machines_of, openings_of, AlwaysHasSlack, AreInputBest, IsFabricRun, IsKeptOf, SendsSlotBySlot, departures_in_run, ideal_departures, ideal_refusals, ran_ideal, slots_ran, ◌<◌, ⊎_elim, cases_lt, slots_of_figures, reach, run_of_whole}
+pub use Rattle.cq_laws.proofs.InputBest.{stable_limited_whole as stable_whole}
+use Rattle.cq_simulate.proofs.Terms.{common_steps, rules, ◌≡◌, ◌≤◌, List, Ok, ap, ◌∙◌, refl, sym, arith, All, length, Arrival, IsTraffic, Machine, Marked, NoLimits, admitted_in, first_slots, slots_of, one_limited_whole, recorded, Fabric, empty_fabric, FabricRun, LimitedFabricRun, LimitedRecord, LimitedWholeRun, admissions_in, empty_limited_fabric, slots_in, figures_of, IsInputBest, IsStable, classes_of, ports_of, IsSetup, Tables, machines_of, openings_of, AlwaysHasSlack, AreInputBest, IsFabricRun, IsKeptOf, SendsSlotBySlot, departures_in_run, ideal_departures, ideal_refusals, ran_ideal, slots_ran, slots_of_figures, run_of_whole}
 use Rattle.cq_simulate.proofs.Chosen.{first_chosen}
 use Rattle.cq_simulate.proofs.Departed.{last_departs_without_limits, slots_are}
 use Rattle.cq_simulate.proofs.OnceASlot.{once_a_slot}
 use Rattle.cq_simulate.proofs.StableRuns.{stable_refuses, stable_sends, stable_slack, stable_slots, whole_ran}
 use Rattle.cq_simulate.specs.Emulation.{EmulatesIdeal}
 use Rattle.cq_simulate.specs.declared.fabric_run.FabricRun as kept
-
--- ## A whole run with input-best matchings is one with stable ones
-
-module _ (limits : List (Option ℕ)) (ms : List Machine) where
-  -- which matchings were chosen is told by the records
-  same_choices : (slot : ℕ) (traffic : List (List (Option Cell))) (f f' g g' : Marked Fabric)
-      (rs : List LimitedRecord) →
-      LimitedFabricRun IsInputBest limits ms slot traffic f rs g →
-      LimitedFabricRun IsStable limits ms slot traffic f' rs g' →
-      LimitedFabricRun IsInputBest limits ms slot traffic f' rs g'
-  same_choices slot [] f f' g g' rs x y = grind (arith, common_steps)
-  same_choices slot (cells ∷ traffic) f f' g g' [] x y = absurd x
-  same_choices slot (cells ∷ traffic) f f' g g' (r ∷ rs) x y =
-      grind (arith, common_steps, same_choices (slot + 1) traffic x.0 y.0 g g' rs x.2 y.2)
-
-  pub stable_whole : (came : List Arrival) (start g : Marked Fabric) (rs : List LimitedRecord) →
-      LimitedWholeRun IsInputBest limits ms came start rs g → LimitedWholeRun IsStable limits ms came start rs g
-  stable_whole came start g rs w =
-      record {
-        after = stable_limited_run ms limits 0 (first_slots came (length rs)) start g (take (length rs) rs) w.after;
-        all_came = w.all_came;
-        empty = w.empty;
-        first = λ m s after late empty. ⊎_elim (λ (lt : m < length rs).
-            let r = reach (LimitedFabricSlot IsInputBest limits ms) came start rs m (length rs) g
-            (omega arith) (run_of_whole (LimitedFabricSlot IsInputBest limits ms) came start rs
-            (λ f. IsEmptyFabric f.state) g w) in
-            search (arith, rules, w.first, same_choices)) (λ (ge : length rs ≤ m). ge)
-            (cases_lt m (length rs));
-      }
 
 -- ## The run of tables
 

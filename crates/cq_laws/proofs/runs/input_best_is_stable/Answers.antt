@@ -1,6 +1,5 @@
-use Rattle.cq_laws.proofs.EndsTogether.{stable_whole}
-use Rattle.cq_laws.proofs.InputBest.{stable_slot, stable_run, stable_stop}
+use Rattle.cq_laws.proofs.InputBest.{stable_too, stable_limited_too}
 use Rattle.cq_laws.proofs.runs.input_best_is_stable.Goals as goal
 
 pub returns : goal.returns
-returns c = record { slot = stable_slot; run = stable_run; whole = stable_whole; stop = stable_stop }
+returns c = record { limited = λ limits ms. stable_limited_too ms limits; without_limits = stable_too }
