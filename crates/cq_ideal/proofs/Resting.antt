@@ -1,7 +1,7 @@
 -- Slots in which nothing waits and nothing comes. Such a slot sends nothing, and only tells each machine that its
 -- output was idle. A machine that keeps the laws is not changed by a second idle slot, so that many such slots do
 -- what one does.
-use Rattle.cq_ideal.proofs.Terms.{rules, ◌≡◌, ℕ, zero, suc, ◌+◌, ◌-◌, ◌<◌, ◌≤◌, List, [], length, map, get_or, set, drop, slice_get, replicate, Option, None, Ok, refl, sym, ap, ◌∙◌, arith, common_steps, ext_get_or, get_or-map, length-replicate, no_arrivals, Queued, KeepsLaws, Machine, first_come, machine_at, told, IdealSwitch, IsEmptyIdeal, empty_ideal, ideal_run, nothing_sent, IdealState, fronts, ideal_slot, rests, FitTogether, QueuesView, RanksView, all_idle, state_of, after_input, ranking}
+use Rattle.cq_ideal.proofs.Terms.{rules, ◌≡◌, ℕ, zero, suc, ◌+◌, ◌-◌, ◌<◌, ◌≤◌, List, [], length, map, get_or, set, drop, slice_get, replicate, Option, None, Ok, refl, sym, ap, ◌∙◌, arith, common_steps, ext_get_or, get_or-map, length-replicate, no_arrivals, Queued, KeepsLaws, Machine, first_come, machine_at, told, IdealSwitch, IsEmptyIdeal, empty_ideal, ideal_run, nothing_sent, IdealState, fronts, ideal_slot, rests, FitTogether, QueuesView, RanksView, idled, state_of, after_input, ranking}
 use Rattle.cq_ideal.proofs.Parted.{next_slot}
 use Rattle.cq_ideal.proofs.Changed.{map-replicate, same_at, at_end, at_place, changed_to, next_place}
 use Rattle.cq_ideal.proofs.Sending.{length-told, told_at}
@@ -34,8 +34,8 @@ all_empty s n empty long =
 module _ (ms : List Machine) (n : ℕ) where
   quiet_slot : (slot : ℕ) (ranks : List (List ℕ)) →
       ideal_slot ms slot no_arrivals (empty_ideal n ranks)
-      ≡ Ok (record { gone = replicate n None; after = empty_ideal n (all_idle ms n ranks) })
-  unfolding ideal_slot
+      ≡ Ok (record { gone = replicate n None; after = empty_ideal n (idled ms n ranks) })
+  unfolding ideal_slot idled
   quiet_slot slot ranks =
       let none = nobody_left (replicate 64 None) (replicate n [])
       (λ k q at. let no = sym (none_at 64 k) ∙ at in cc) in
@@ -47,9 +47,9 @@ module _ (ms : List Machine) (n : ℕ) where
   unfolding ideal_run
   idle_run zero slot ranks = (ranks, refl)
   idle_run (suc count) slot ranks =
-      let rest = idle_run count (slot + 1) (all_idle ms n ranks) in search (arith, rules, next_slot, quiet_slot)
+      let rest = idle_run count (slot + 1) (idled ms n ranks) in search (arith, rules, next_slot, quiet_slot)
 
-  quiet_run : (count slot : ℕ) (ranks : List (List ℕ)) → all_idle ms n ranks ≡ ranks →
+  quiet_run : (count slot : ℕ) (ranks : List (List ℕ)) → idled ms n ranks ≡ ranks →
       ideal_run ms slot (replicate count no_arrivals) (empty_ideal n ranks)
       ≡ Ok (nothing_sent count n (empty_ideal n ranks))
   unfolding ideal_run
@@ -57,8 +57,8 @@ module _ (ms : List Machine) (n : ℕ) where
   quiet_run (suc count) slot ranks same = search (rules, next_slot, quiet_slot, quiet_run count (slot + 1) ranks same)
 
   -- so many slots are as one, where a second one changes nothing
-  pub rested_run : (count slot : ℕ) (ranks rested : List (List ℕ)) → 0 < count → rested ≡ all_idle ms n ranks →
-      all_idle ms n rested ≡ rested →
+  pub rested_run : (count slot : ℕ) (ranks rested : List (List ℕ)) → 0 < count → rested ≡ idled ms n ranks →
+      idled ms n rested ≡ rested →
       ideal_run ms slot (replicate count no_arrivals) (empty_ideal n ranks)
       ≡ Ok (nothing_sent count n (empty_ideal n rested))
   unfolding ideal_run
@@ -66,8 +66,13 @@ module _ (ms : List Machine) (n : ℕ) where
 
 -- ## The machines
 
-idle_at : (ms : List Machine) (n : ℕ) (ranks : List (List ℕ)) (j : ℕ) → j < length ranks →
-    get_or (all_idle ms n ranks) j [] ≡ (machine_at ms j).idle (get_or ranks j [])
+pub length-idle : (ms : List Machine) (n : ℕ) (ranks : List (List ℕ)) → length (idled ms n ranks) ≡ length ranks
+unfolding idled
+length-idle ms n ranks = length-told ms (replicate n None) ranks
+
+pub idle_at : (ms : List Machine) (n : ℕ) (ranks : List (List ℕ)) (j : ℕ) → j < length ranks →
+    get_or (idled ms n ranks) j [] ≡ (machine_at ms j).idle (get_or ranks j [])
+unfolding idled
 idle_at ms n ranks j inside = cc (told_at ms (replicate n None) ranks j inside, none_at n j)
 
 -- the machines of the outputs before this one have been told, and their states had their sizes
@@ -75,7 +80,7 @@ pub record Resting (M : List ℕ → Machine) (first_fixed first_states : List (
     (fixed states : List (List ℕ)) : Type 0 where
   pub same : fixed ≡ first_fixed
   pub told_so_far : states
-      ≡ changed_to (all_idle (map M first_fixed) (length first_fixed) first_states) first_states output
+      ≡ changed_to (idled (map M first_fixed) (length first_fixed) first_states) first_states output
   pub sized : (j : ℕ) → j < output → length (get_or first_states j []) ≡ (machine_at (map M first_fixed) j).size
 
 module _ {M : List ℕ → Machine} {first_fixed first_states : List (List ℕ)} {output : ℕ} {fixed states : List (List ℕ)}
@@ -87,28 +92,25 @@ module _ {M : List ℕ → Machine} {first_fixed first_states : List (List ℕ)}
       Resting M first_fixed first_states (output + 1) next_fixed next_states
   resting_next next_fixed next_states inside kept now sized =
       let ms = map M first_fixed in
-      search (arith, rules, length-told, at_place, idle_at ms (length first_fixed) first_states output, next_place)
+      search (arith, rules, length-idle, at_place, idle_at ms (length first_fixed) first_states output, next_place)
 
   pub resting_last : length first_fixed ≤ output →
-      states ≡ all_idle (map M first_fixed) (length first_fixed) first_states
-  resting_last end = grind (arith, common_steps, at_end, length-told)
+      states ≡ idled (map M first_fixed) (length first_fixed) first_states
+  resting_last end = grind (arith, common_steps, at_end, length-idle)
 
   -- a second idle slot changes nothing
   pub resting_again : length first_fixed ≤ output → ((numbers : List ℕ) → KeepsLaws (M numbers)) →
-      all_idle (map M first_fixed) (length first_fixed) states ≡ states
+      idled (map M first_fixed) (length first_fixed) states ≡ states
   resting_again end laws =
       let ms = map M first_fixed in
       let ports = length first_fixed in
-      let idle = all_idle ms ports first_states in
+      let idle = idled ms ports first_states in
       let is = resting_last end in
-      let many = length-told ms (replicate ports None) first_states in
-      let longer = length-told ms (replicate ports None) idle in
-      let twice = ext_get_or [] (all_idle ms ports idle) idle longer (λ j within.
+      let many = length-idle ms ports first_states in
+      let longer = length-idle ms ports idle in
+      let twice = ext_get_or [] (idled ms ports idle) idle longer (λ j within.
       search (arith, rules, get_or-map M first_fixed j [] (first_come []), idle_at ms ports)) in
       cc
-
-pub length-idle : (ms : List Machine) (n : ℕ) (ranks : List (List ℕ)) → length (all_idle ms n ranks) ≡ length ranks
-length-idle ms n ranks = length-told ms (replicate n None) ranks
 
 -- ## The switch
 
@@ -116,8 +118,8 @@ length-idle ms n ranks = length-told ms (replicate n None) ranks
 pub rested : (M : List ℕ → Machine) (ranks new : RanksView) (queues : QueuesView) (switch : IdealSwitch) (to : ℕ) →
     ranks.fixed ≡ switch.fixed → state_of ranks queues ≡ switch.state → FitTogether (map M ranks.fixed) ranks queues →
     IsEmptyIdeal switch.state → switch.next < to →
-    new.states ≡ all_idle (map M ranks.fixed) (length ranks.fixed) ranks.states →
-    all_idle (map M ranks.fixed) (length ranks.fixed) new.states ≡ new.states →
+    new.states ≡ idled (map M ranks.fixed) (length ranks.fixed) ranks.states →
+    idled (map M ranks.fixed) (length ranks.fixed) new.states ≡ new.states →
     ideal_run (map M switch.fixed) switch.next (replicate (to - switch.next) no_arrivals) switch.state
     ≡ Ok (nothing_sent (to - switch.next) (length switch.fixed) (state_of new queues))
 rested M ranks new queues switch to fixed state fit empty later states again =

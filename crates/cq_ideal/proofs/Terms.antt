@@ -17,13 +17,13 @@ pub use Rattle.cq_ideal.specs.Ideal.{HasRoomFor, HaveLeft, IdealSwitch, SpareFol
 pub use Rattle.cq_ideal.specs.IdealRun.{IsEmptyIdeal, Ran, departures_ran, empty_ideal, nothing_sent, then_ran}
 unfoldable pub use Rattle.cq_ideal.specs.IdealRun.{departures_of, ideal_run}
 pub use Rattle.cq_ideal.specs.IdealSlot.{IdealState, Sent, departures_from, fronts, ideal_sends, put_all, rests}
-unfoldable pub use Rattle.cq_ideal.specs.IdealSlot.{all_told, departures_in, filled, ideal_slot}
+unfoldable pub use Rattle.cq_ideal.specs.IdealSlot.{all_told, departures_in, filled, ideal_slot, idled}
 pub use Rattle.cq_ideal.specs.LimitedEnding.{LimitedIdealEnds, departures_limited}
 unfoldable pub use Rattle.cq_ideal.specs.LimitedEnding.{slots_of_limited_run, whole_limited_run}
 pub use Rattle.cq_ideal.specs.LimitedIdeal.{LimitedRan, LimitedSent, empty_limited, ideal_held, in_front, nothing_came, then_limited, unlimited, with_admission}
 unfoldable pub use Rattle.cq_ideal.specs.LimitedIdeal.{admitted_traffic, limited_run, limited_slot}
 pub use Rattle.cq_ideal.specs.Limiter.{CanCount, ComeToPorts, HasPorts, HoldsLists, JudgesAsBefore, LimiterView, held_without, where_up}
-pub use Rattle.cq_ideal.specs.Parts.{AllArrivedBefore, AreParts, AreTold, AreWithinRooms, CameToPorts, CanPut, FirstsHaveLeft, FitTogether, HaveOwnKeys, HaveRoomFor, IsWithin, QueueView, QueuesView, RanksView, after_inputs, all_idle, count_to, given_at, level_at, list_at, rank_at, state_of, with_came, with_cell}
+pub use Rattle.cq_ideal.specs.Parts.{AllArrivedBefore, AreParts, AreTold, AreWithinRooms, CameToPorts, CanPut, FirstsHaveLeft, FitTogether, HaveOwnKeys, HaveRoomFor, IsWithin, QueueView, QueuesView, RanksView, after_inputs, count_to, given_at, level_at, list_at, rank_at, state_of, with_came, with_cell}
 pub use Rattle.cq_ideal.specs.Ranking.{AreForPorts, Ranking, after_input, keyed, ranking}
 pub use Rattle.cq_ideal.specs.Refused.{AreAllZero, EachCountsOnce, refused_at, refused_in, with_cells, with_refused}
 unfoldable pub use Rattle.cq_ideal.specs.Refused.{cells_refused, packets_refused, refused_counts}

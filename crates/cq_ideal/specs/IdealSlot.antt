@@ -1,6 +1,6 @@
 -- One slot of the ideal output-queued switch (Chuang, Goel, McKeown and Prabhakar 1999): it has a list for each
 -- output and nothing else.
-use Rattle.std.specs.Prelude.{ℕ, ◌+◌, if◌then◌else◌, List, [], ◌∷◌, length, map, Option, Some, None, Result, Ok, Err, slice_get, slice_index_or, drop}
+use Rattle.std.specs.Prelude.{ℕ, ◌+◌, if◌then◌else◌, List, [], ◌∷◌, length, map, Option, Some, None, Result, Ok, Err, slice_get, slice_index_or, drop, replicate}
 use Rattle.std.specs.List.{range_with_len}
 use Rattle.cq_base.specs.declared.cell.Cell.{Cell}
 use Rattle.cq_base.specs.declared.cell.Departure.{Departure}
@@ -38,6 +38,10 @@ unfoldable pub all_told : List Machine → List (Option Queued) → List (List �
 all_told ms gone ranks =
     map (λ j. told (machine_at ms j) (slice_index_or ranks j []) (slice_index_or gone j None))
     (range_with_len 0 (length ranks))
+
+-- the rank states after a slot in which none of so many outputs sent a cell
+unfoldable pub idled : List Machine → ℕ → List (List ℕ) → List (List ℕ)
+idled ms ports ranks = all_told ms (replicate ports None) ranks
 
 -- what a slot comes to: the cell that each output sent, if it sent one, and the state after it
 pub record Sent : Type 0 where

@@ -1,11 +1,12 @@
 -- What clauses see of the parts of an ideal switch, and of the cells of a slot that go through them.
-use Rattle.std.specs.Prelude.{◌≡◌, ◌≢◌, ℕ, ◌+◌, ◌-◌, ◌<◌, ◌≤◌, ◌^◌, length, slice_index, Bool, false, if◌then◌else◌, List, [], ◌∷◌, Option, Some, None, Result, replicate, slice_set, slice_index_or}
+use Rattle.std.specs.Prelude.{◌≡◌, ◌≢◌, ℕ, ◌+◌, ◌-◌, ◌<◌, ◌≤◌, ◌^◌, length, slice_index, Bool, false, if◌then◌else◌, List, [], ◌∷◌, Option, Some, None, Result, slice_set, slice_index_or}
 use Rattle.cq_base.specs.declared.cell.Queued.{Queued}
 use Rattle.cq_base.specs.declared.cell.TagFault.{TagFault}
 use Rattle.cq_base.specs.Cells.{ArrivedBefore, HasOtherKey, is_for, put}
 use Rattle.cq_rank.specs.Machine.{Machine, machine_at}
 use Rattle.cq_rank.specs.Switch.{AreForOneSwitch}
 use Rattle.cq_ideal.specs.IdealSlot.{IdealState, all_told, rests}
+pub use Rattle.cq_ideal.specs.IdealSlot.{idled as all_idle}
 use Rattle.cq_ideal.specs.Limiter.{HoldsLists, LimiterView}
 use Rattle.cq_ideal.specs.Ranking.{Ranking, after_input}
 
@@ -53,10 +54,6 @@ rank_at ms ranks j class = (machine_at ms j).ranked (slice_index_or ranks j []) 
 -- the rank states after that
 abbrev pub given_at : List Machine → List (List ℕ) → ℕ → ℕ → List (List ℕ)
 given_at ms ranks j class = slice_set ranks j ((machine_at ms j).given (slice_index_or ranks j []) class)
-
--- the rank states after a slot in which none of so many outputs sent a cell
-abbrev pub all_idle : List Machine → ℕ → List (List ℕ) → List (List ℕ)
-all_idle ms ports ranks = all_told ms (replicate ports None) ranks
 
 -- each machine is told which cell its output sent, or that it was idle
 pub record AreTold (ms : List Machine) (gone : List (Option Queued)) (old new : RanksView) : Type 0 where

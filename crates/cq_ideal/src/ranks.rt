@@ -1,6 +1,6 @@
 //! The rank machines of all outputs.
 ghost use Rattle.std.specs.Prelude.{◌≡◌, ◌↔◌, ◌+◌, ◌<◌, ◌≤◌, ◌^◌, ◌∷◌, List, Option, Ok, Err, IfErr, IfOk, IsErr, None, OnErr, OnOk, Some, length, map, slice_index_or, slice_set, []};
-ghost use Rattle.cq_ideal.specs.Terms.{Cell, machine_at, told, AreForOneSwitch, AreSized, class_count, admitted, all_idle, given_at, level_at, rank_at, AreForPorts, after_input, keyed, ranking};
+ghost use Rattle.cq_ideal.specs.Terms.{Cell, machine_at, told, AreForOneSwitch, AreSized, class_count, admitted, idled, given_at, level_at, rank_at, AreForPorts, after_input, keyed, ranking};
 
 use crate::limiter::Limiter;
 use crate::newcomers::Newcomers;
@@ -257,8 +257,8 @@ impl<R: Rank> Ranks<R> {
         requires states { length self.old.states ≡ length self.old.fixed }
         ensures fixed { self.new.fixed ≡ self.old.fixed }
         ensures states { self.new.states
-            ≡ all_idle (map R.machine self.old.fixed) (length self.old.fixed) self.old.states }
-        ensures again { all_idle (map R.machine self.old.fixed) (length self.old.fixed) self.new.states
+            ≡ idled (map R.machine self.old.fixed) (length self.old.fixed) self.old.states }
+        ensures again { idled (map R.machine self.old.fixed) (length self.old.fixed) self.new.states
             ≡ self.new.states }
     {
         let ports = self.len();

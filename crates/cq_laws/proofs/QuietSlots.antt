@@ -1,13 +1,12 @@
 -- Where no cell waits and none comes, nothing is offered: the matching of nobody is the only one, nothing moves, and
 -- no figure changes. Only the rank machines are told that their outputs were idle.
-use Rattle.cq_laws.proofs.Terms.{common_steps, rules, ◌≡◌, ℕ, zero, suc, ◌+◌, ◌-◌, false, cond, List, [], ◌∷◌, length, map, Option, Some, None, refl, ap, ◌∙◌, arith, ◌<◌, All, max, min, is_some, filter_map, replicate, fold, sum, slice_index_or, enumerate_from, list_any, length-map, length-replicate, ext_get_or, sum_by-replicate, Queued, Figures, no_arrivals, Machine, Fabric, empty_fabric, IsEmptyFabric, Transfers, FabricSlot, FabricRun, InputFigures, departures_from, departures_in, all_told, departures_of, nobody_sends, none_at, nothing_left, ranked_none, all_empty, Orders, ports, outputs_of, partner_of, spent, proposals, orders_of, transfers_of, gone_in, transfers_in, transfers_of_run, slacks, proposals_in, either_by, input_after, output_after, figures_after, get_or-map-range_with_len, length-map-range_with_len, OutputFigures}
+use Rattle.cq_laws.proofs.Terms.{common_steps, rules, ◌≡◌, ℕ, zero, suc, ◌+◌, false, cond, List, [], ◌∷◌, length, map, Option, Some, None, refl, ap, ◌∙◌, arith, All, max, min, is_some, filter_map, replicate, fold, sum, enumerate_from, list_any, length-map, length-replicate, ext_get_or, sum_by-replicate, Queued, Figures, no_arrivals, Machine, Fabric, empty_fabric, IsEmptyFabric, Transfers, FabricSlot, FabricRun, InputFigures, departures_from, departures_in, departures_of, idle_at, length-idle, nobody_sends, none_at, nothing_left, ranked_none, all_empty, Orders, ports, outputs_of, partner_of, spent, proposals, orders_of, transfers_of, gone_in, transfers_in, transfers_of_run, slacks, proposals_in, either_by, input_after, output_after, figures_after, OutputFigures}
 use Rattle.cq_ideal.specs.IdealSlot.{IdealState}
 use Rattle.cq_prefs.specs.Pairing.{IsInputBest}
 use Rattle.cq_laws.specs.Quiet.{idled, quiet_slot, quiet_slots, idled_for, KeepLaws}
 use Rattle.cq_laws.proofs.AddingUp.{map-constant}
 use Rattle.cq_laws.proofs.OneRun.{outputs_at}
 use Rattle.cq_laws.proofs.WholeRuns.{empty_list}
-use Rattle.cq_rank.specs.Machine.{machine_at, told}
 
 -- ## Nothing is offered
 
@@ -146,30 +145,18 @@ module _ (ms : List Machine) (n : ℕ) where
 -- ## Machines that keep the laws are not changed by a second idle slot: many quiet slots are one
 
 module _ (ms : List Machine) (n : ℕ) where
-  abbrev told_idle : List (List ℕ) → ℕ → List ℕ
-  told_idle ranks j = told (machine_at ms j) (slice_index_or ranks j []) (slice_index_or (replicate n None) j None)
-
-  length-idled : (ranks : List (List ℕ)) → length (idled ms n ranks) ≡ length ranks
-  unfolding idled all_told
-  length-idled ranks = length-map-range_with_len (told_idle ranks) 0 (length ranks)
-
-  idled_at : (ranks : List (List ℕ)) (j : ℕ) → j < length ranks →
-      slice_index_or (idled ms n ranks) j [] ≡ (machine_at ms j).idle (slice_index_or ranks j [])
-  unfolding idled all_told
-  idled_at ranks j inside = grind (arith, common_steps, get_or-map-range_with_len, told_idle, none_at)
-
   still_keep : (ranks : List (List ℕ)) → KeepLaws ms ranks → KeepLaws ms (idled ms n ranks)
-  still_keep ranks keep = grind (arith, common_steps, length-idled, keep.laws, idled_at, keep.sized)
+  still_keep ranks keep = grind (arith, common_steps, length-idle, keep.laws, idle_at, keep.sized)
 
   idled_twice : (ranks : List (List ℕ)) → KeepLaws ms ranks → idled ms n (idled ms n ranks) ≡ idled ms n ranks
   idled_twice ranks keep =
-      let long = length-idled ranks in
-      let again = length-idled (idled ms n ranks) in
+      let long = length-idle ms n ranks in
+      let again = length-idle ms n (idled ms n ranks) in
       ext_get_or [] (idled ms n (idled ms n ranks)) (idled ms n ranks) again (λ j inside.
-      grind (arith, common_steps, idled_at, (keep.laws j (omega arith)).idle_once, keep.sized j))
+      grind (arith, common_steps, idle_at, (keep.laws j (omega arith)).idle_once, keep.sized j))
 
   pub idled_once : (count : ℕ) (ranks : List (List ℕ)) → KeepLaws ms ranks →
       idled_for ms (count + 1) n ranks ≡ idled ms n ranks
   idled_once zero ranks keep = refl
   idled_once (suc count) ranks keep = search
-      (arith, rules, idled_twice, length-idled, idled_at, idled_once count (idled ms n ranks) (still_keep ranks keep))
+      (arith, rules, idled_twice, length-idle, idle_at, idled_once count (idled ms n ranks) (still_keep ranks keep))

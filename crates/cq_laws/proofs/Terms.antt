@@ -10,7 +10,7 @@ pub use Rattle.cq_ideal.proofs.Admitted.{admitted_for_ports, marks_kept, no_arri
 pub use Rattle.cq_ideal.proofs.LimitedEnds.{at_ok, ends, fewer_slots, found_end, limited_found_end, limited_whole_fault, not_more, whole_fault}
 pub use Rattle.cq_ideal.proofs.LimitedRuns.{admitted_are, admitted_step, none_refused_in, run_fault, run_step}
 pub use Rattle.cq_ideal.proofs.Parted.{arriving_length, arriving_parts, departures_append, quiet_from}
-pub use Rattle.cq_ideal.proofs.Resting.{all_empty, nobody_sends, none_at, nothing_left, ranked_none}
+pub use Rattle.cq_ideal.proofs.Resting.{all_empty, idle_at, length-idle, nobody_sends, none_at, nothing_left, ranked_none}
 pub use Rattle.cq_ideal.specs.Admission.{RefusesNone, marked, nothing_refused}
 unfoldable pub use Rattle.cq_ideal.specs.Admission.{admission}
 pub use Rattle.cq_ideal.specs.Ending.{IdealAfter, IdealEnds, IsEnd, arriving_from, first_slots, slots_of, slots_of_run}

@@ -3,15 +3,11 @@ use Rattle.std.specs.Prelude.{◌≡◌, ℕ, ◌+◌, ◌<◌, zero, suc, List,
 use Rattle.cq_base.specs.declared.figures.Figures.{Figures}
 use Rattle.cq_rank.specs.Machine.{Machine, KeepsLaws, machine_at}
 use Rattle.cq_ideal.specs.IdealRun.{departures_of}
-use Rattle.cq_ideal.specs.IdealSlot.{all_told}
+unfoldable pub use Rattle.cq_ideal.specs.IdealSlot.{idled}
 use Rattle.cq_laws.specs.Fabric.{empty_fabric}
 use Rattle.cq_laws.specs.FabricSlot.{SlotRecord}
 use Rattle.cq_laws.specs.Measures.{figures_after}
 use Rattle.cq_laws.specs.Records.{gone_in, transfers_of_run}
-
--- the states of the rank machines after each output was told that it sent nothing
-unfoldable pub idled : List Machine → ℕ → List (List ℕ) → List (List ℕ)
-idled ms ports ranks = all_told ms (replicate ports None) ranks
 
 -- what is recorded of such a slot
 unfoldable pub quiet_slot : List Machine → ℕ → ℕ → List (List ℕ) → SlotRecord
