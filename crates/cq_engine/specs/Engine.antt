@@ -1,8 +1,7 @@
 -- What clauses see of an engine, what a slot asks of it, and what it does.
-use Rattle.std.specs.Prelude.{◌≡◌, ℕ, ◌+◌, ◌-◌, ◌*◌, ◌^◌, ◌<◌, ◌≤◌, ◌++◌, Bool, false, List, [], length, Option, Some, Result, Ok, Err, slice_get, slice_index, ⊤}
+use Rattle.std.specs.Prelude.{◌≡◌, ℕ, ◌+◌, ◌-◌, ◌*◌, ◌^◌, ◌<◌, ◌≤◌, ◌++◌, Bool, false, List, [], length, Option, Some, slice_get, slice_index, ⊤}
 use Rattle.cq_base.specs.declared.cell.Cell.{Cell}
 use Rattle.cq_base.specs.declared.cell.Departure.{Departure}
-use Rattle.cq_base.specs.declared.cell.TagFault.{TagFault}
 use Rattle.cq_base.specs.declared.cell.Transfer.{Transfer}
 use Rattle.cq_base.specs.declared.figures.InputFigures.{InputFigures}
 use Rattle.cq_base.specs.declared.figures.OutputFigures.{OutputFigures}
@@ -15,7 +14,6 @@ use Rattle.cq_ideal.specs.declared.refused.Refused.{Refused}
 use Rattle.cq_ideal.specs.Admission.{Admission, Marked, marked, marks_down}
 use Rattle.cq_ideal.specs.Ideal.{count_for}
 use Rattle.cq_ideal.specs.Limiter.{CanCount, LimiterView}
-use Rattle.cq_ideal.specs.Ranking.{Ranking}
 use Rattle.cq_ideal.specs.Refused.{refused_counts, with_refused}
 use Rattle.cq_ideal.specs.IdealSlot.{IdealState, departures_in}
 use Rattle.cq_prefs.specs.Pairing.{IsInputBest}
@@ -124,11 +122,6 @@ pub record IsReadyFor (cells : List (Option Cell)) (e : EngineView) (sent : Room
   pub note_room : 2 * ports_of e ≤ note.spare
   -- in each phase there are no more than the ports squared
   pub proposals : e.figures.proposals + 2 * (ports_of e * ports_of e) < 2 ^ 64
-
--- the answer to what the admitted cells are ranked
-abbrev pub answer_to : Result Ranking TagFault → Result (Unit {0}) TagFault
-answer_to (Ok r) = Ok tt
-answer_to (Err fault) = Err fault
 
 -- what a slot did: it was one slot of the fabric with limits, with the input-best matchings, and its departures, its
 -- transfers, its record and its refused cells were added to what was there

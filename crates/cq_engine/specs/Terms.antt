@@ -1,7 +1,7 @@
 -- The terms of this crate's clauses, each passed on from where it is defined.
 pub use Rattle.cq_base.specs.{Arrivals.arrival_at, Cells.is_for, declared.cell.Cell.Cell, declared.cell.Queued.Queued, declared.figures.OutputFigures.OutputFigures}
 pub use Rattle.cq_rank.specs.{Machine.Machine, Switch.class_count}
-pub use Rattle.cq_ideal.specs.{Admission.Marked, Ideal.count_for}
+pub use Rattle.cq_ideal.specs.{Admission.Marked, Ideal.answer_to, Ideal.count_for}
 pub use Rattle.cq_ideal.specs.IdealSlot.{departures_in, fronts, rests}
 pub use Rattle.cq_ideal.specs.Ranking.{AreForPorts, ranking}
 pub use Rattle.cq_prefs.specs.{FirstCells.list_of, Orders.outputs_of, Pairing.IsInputBest}
@@ -13,7 +13,7 @@ pub use Rattle.cq_laws.specs.LimitedFabric.{LimitedFabricSlot, LimitedRecord}
 pub use Rattle.cq_laws.specs.Measures.{no_figures, either_by, slacks}
 pub use Rattle.cq_fabric.specs.{Newest.IsNewest, Queues.fabric_of}
 pub use Rattle.cq_engine.specs.Crossing.{CanBeCrossed, HasCrossed}
-pub use Rattle.cq_engine.specs.Engine.{CanBeMade, CanGoOn, HasGoneOn, HasStopped, IsMadeAs, IsReadyFor, SlotDone, answer_to, fresh_engine, frozen_of, its_admission, ports_of}
+pub use Rattle.cq_engine.specs.Engine.{CanBeMade, CanGoOn, HasGoneOn, HasStopped, IsMadeAs, IsReadyFor, SlotDone, fresh_engine, frozen_of, its_admission, ports_of}
 pub use Rattle.cq_engine.specs.Measuring.{output_counted, arriving_slack, input_counted, slack_seen, wait_of}
 pub use Rattle.cq_engine.specs.Resting.{HasRested}
 pub use Rattle.cq_engine.specs.Sending.{CanSend, EachHasSent}

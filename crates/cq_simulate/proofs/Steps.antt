@@ -374,7 +374,7 @@ slot_ok : (x : Result LimitedSent TagFault) → Ok tt ≡ answer_to x → (sent 
 slot_ok (Ok sent) e = (sent, refl)
 slot_ok (Err fault) e = absurd (let P : ⊥ = cc in P)
 
-slot_err : (x : Result LimitedSent TagFault) (fault : TagFault) → Err fault ≡ answer_to x → x ≡ Err fault
+pub slot_err : {S : Type 0} (x : Result S TagFault) (fault : TagFault) → Err fault ≡ answer_to x → x ≡ Err fault
 slot_err x fault e = grind (arith, common_steps)
 
 -- what the switch says of a slot that it has had
