@@ -99,7 +99,8 @@ impl<R: Rank> Ideal<R> {
         ensures same { IsSameSwitch self.old self.new }
         ensures stopped { self.new.stopped ≡ is_err result }
     {
-        self.queues.len();
+        // Its contract tells that each list is within its room.
+        let _outputs = self.queues.len();
         if let Err(fault) = take_in(
             &mut self.ranks,
             &mut self.limiter,

@@ -101,7 +101,9 @@ pub fn run_fabric_packed<R: Threads + Sync, G: Gate>(
     run_on(rt, alloc, engine, ports, schedule, gate, sent, note)
 }
 
-// Runs a fabric of so many ports on over all cells that are still to come, and gives what it kept.
+/// Runs a fabric of so many ports on over all cells that are still to come, and gives what it kept. The error is the
+/// first tag fault, or want of memory.
+// It is inlined since an engine is large: so none is copied for the call.
 #[inline(always)]
 pub fn run_on<T: Threads + Sync, R: Rank, G: Gate>(
     rt: &T,
