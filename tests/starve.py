@@ -291,6 +291,14 @@ def cases():
     )
 
 
+def built_shim(folder):
+    """The name of the library that refuses, built in the folder."""
+    shim = os.path.join(folder, "shim.so")
+    subprocess.run(["cc", "-std=c11", "-O2", "-Wall", "-Wextra", "-shared", "-fPIC", "-x", "c", "-o", shim, "-"],
+                   input=SHIM.encode(), check=True)
+    return shim
+
+
 def picture(folder):
     found = {}
     for name in sorted(os.listdir(folder)):
@@ -299,22 +307,28 @@ def picture(folder):
     return found
 
 
+def call(words, folder, shim, round_, at):
+    """Runs the words in the folder, where what has this number is refused."""
+    with tempfile.TemporaryFile() as told:
+        told.truncate(mmap.PAGESIZE)
+        meant = {"LD_PRELOAD": shim, "STARVE_TOLD": f"/proc/{os.getpid()}/fd/{told.fileno()}",
+                 "STARVE_THREADS": int(round_.is_of_threads), "STARVE_FROM": at,
+                 "STARVE_TO": NEVER if round_.is_rest else at}
+        done = subprocess.run(words, cwd=folder, stdin=subprocess.DEVNULL, capture_output=True, timeout=WALL,
+                              env={**os.environ, **{name: str(word) for name, word in meant.items()}})
+        counts = struct.unpack("@LLLL", told.read(32))
+        return Ended(done.returncode, done.stdout, done.stderr, picture(folder), *counts)
+
+
 def run(program, shim, case, round_, at):
     """Runs the case in a folder of its own, where what has this number is refused."""
-    with tempfile.TemporaryDirectory(prefix="starve-") as top, tempfile.TemporaryFile() as told:
+    with tempfile.TemporaryDirectory(prefix="starve-") as top:
         folder = os.path.join(top, "case")
         os.mkdir(folder)
         for name, data in case.before.items():
             with open(os.path.join(folder, name), "wb") as file:
                 file.write(data)
-        told.truncate(mmap.PAGESIZE)
-        words = {"LD_PRELOAD": shim, "STARVE_TOLD": f"/proc/{os.getpid()}/fd/{told.fileno()}",
-                 "STARVE_THREADS": int(round_.is_of_threads), "STARVE_FROM": at,
-                 "STARVE_TO": NEVER if round_.is_rest else at}
-        done = subprocess.run([program, *case.words], cwd=folder, stdin=subprocess.DEVNULL, capture_output=True, timeout=WALL,
-                              env={**os.environ, **{name: str(word) for name, word in words.items()}})
-        counts = struct.unpack("@LLLL", told.read(32))
-        return Ended(done.returncode, done.stdout, done.stderr, picture(folder), *counts)
+        return call([program, *case.words], folder, shim, round_, at)
 
 
 def complaint(case, round_, ended):
@@ -391,9 +405,7 @@ def main():
     program = os.path.abspath(given.bin)
     passed = failed = 0
     with tempfile.TemporaryDirectory(prefix="starve-") as folder, concurrent.futures.ThreadPoolExecutor(given.jobs) as pool:
-        shim = os.path.join(folder, "shim.so")
-        subprocess.run(["cc", "-std=c11", "-O2", "-Wall", "-Wextra", "-shared", "-fPIC", "-x", "c", "-o", shim, "-"],
-                       input=SHIM.encode(), check=True)
+        shim = built_shim(folder)
         for case in every:
             if given.only in (None, case.name):
                 more = try_case(pool, program, shim, case)

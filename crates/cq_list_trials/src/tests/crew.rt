@@ -3,7 +3,7 @@ ghost use Rattle.std.specs.Prelude.{◌<◌, ◌≤◌};
 
 use super::opposed::opposed_offers;
 use cq_base::{NoMemory, Port};
-use cq_crew::{OpenGate, Settled, pair_phase};
+use cq_crew::{OpenGate, Phase, Settled, pair_phase};
 use cq_pair::{Core, LowestFirst};
 use cq_prefs::{Matching, Offers};
 use cq_trial_kit::{Meeting, list_of};
@@ -95,6 +95,29 @@ fn without_offers_there_is_nothing_to_share(rt: HostRuntime) -> Result<(), Fail>
     let offers = Offers::new(rt.alloc(), 3)?;
     let wanted = (false, [None; 3].as_slice(), 0);
     assert!(rt; settles(&rt, rt.alloc(), &offers, 64, wanted)?);
+    Ok(())
+}
+
+// Whether each of 64 inputs has the output that stands as far from the last as the input from the first.
+fn is_opposed(phase: &Phase) -> bool {
+    let ports = phase.matching.ports();
+    'inputs: for input in 0..ports {
+        if phase.matching.partner_of(input) != Some(ports - 1 - input) {
+            return false;
+        }
+    }
+    (ports, phase.proposals) == (64, 2080)
+}
+
+// For a run in which some growth of memory is refused, as by `rt try --test --fail-alloc N` or `tests/phases.py`: where
+// it is one of the lists or of the offers the test ends, and any other changes nothing of the phase.
+#[test]
+fn whatever_growth_is_refused_a_phase_comes_to_the_same(rt: HostRuntime) -> Result<(), Fail> {
+    let Ok(offers) = opposed_offers(rt.alloc(), 64) else {
+        return Ok(());
+    };
+    let settled = pair_phase(&rt, rt.alloc(), &offers, 2, &OpenGate);
+    assert!(rt; is_opposed(&settled.phase()));
     Ok(())
 }
 
