@@ -53,7 +53,7 @@ const DENIED: &[Denied] = &[
 fn an_audit_tells_what_is_wrong_first_and_leaves_both_files(rt: HostRuntime) -> Result<(), Fail> {
     for (given, line) in DENIED {
         let call: Call = (&["audit", "c.toml"], (8, "", line));
-        let left: Left = (given, &[]);
+        let left: Left = (given, &["out0.pcap", "out1.pcap"]);
         assert!(rt;
             TWO_FOR_ONE.leaves(&rt, rt.alloc(), call, given, left)?,
             "{line}"

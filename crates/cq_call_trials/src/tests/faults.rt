@@ -2,7 +2,7 @@
 //! there.
 use cq_base::NoMemory;
 use cq_trials::{
-    Call, Disk, Left, MICROSECONDS, NANOSECONDS, TWO_FOR_ONE, leaves, leaves_within,
+    Call, Disk, Left, MICROSECONDS, NANOSECONDS, TWO_FOR_ONE, WRITTEN, leaves, leaves_within,
     touches_nothing,
 };
 use std::alloc::Global;
@@ -70,30 +70,33 @@ fn a_capture_above_the_limit_is_told(rt: HostRuntime) -> Result<(), Fail> {
     Ok(())
 }
 
-/// The words of a call, what is there beside what a run reads, and the line.
-type Missing = (
-    &'static [&'static str],
-    &'static [(&'static str, &'static [u8])],
-    &'static str,
-);
+/// The words of a call, what is there beside what a run reads and what is not, before and afterwards, and the line.
+type Missing = (&'static [&'static str], Left<'static>, &'static str);
 
 const MISSING: &[Missing] = &[
     (
         &["audit", "c.toml"],
-        &[("log.txt", b"0 1 0 0 0 0\n0 2 1 0 0 0\n")],
+        (
+            &[("log.txt", b"0 1 0 0 0 0\n0 2 1 0 0 0\n")],
+            &["trace.txt", "out0.pcap", "out1.pcap"],
+        ),
         "read fault: trace.txt\n",
     ),
-    (&["resume", "c.toml", "s.txt"], &[], "read fault: s.txt\n"),
+    (
+        &["resume", "c.toml", "s.txt"],
+        (&[], WRITTEN),
+        "read fault: s.txt\n",
+    ),
 ];
 
 #[test]
 fn an_audit_without_a_trace_and_a_run_without_a_state_are_read_faults(
     rt: HostRuntime,
 ) -> Result<(), Fail> {
-    for (words, given, line) in MISSING {
+    for (words, left, line) in MISSING {
         let call = (*words, (5, "", *line));
         assert!(rt;
-            TWO_FOR_ONE.leaves(&rt, rt.alloc(), call, given, (given, &[]))?,
+            TWO_FOR_ONE.leaves(&rt, rt.alloc(), call, left.0, *left)?,
             "{line}"
         );
     }
