@@ -203,7 +203,14 @@ pub fn passes<R: Threads + Sync>(
 }
 
 /// The names that a command of a trial may write.
-pub const WRITTEN: &[&str] = &["b", "out0.pcap", "out1.pcap", "trace.txt", "log.txt"];
+pub const WRITTEN: &[&str] = &[
+    "b",
+    "out0.pcap",
+    "out1.pcap",
+    "out2.pcap",
+    "trace.txt",
+    "log.txt",
+];
 
 /// Whether the call over the given files tells what it should and touches nothing: each given file is as it was, and
 /// none that could be written is there.

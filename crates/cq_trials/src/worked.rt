@@ -1,5 +1,5 @@
 //! Worked runs: what a switch is told, and all that it writes.
-use crate::trial::{tells, tells_ahead};
+use crate::trial::{WRITTEN, tells, tells_ahead};
 use crate::{Call, Disk, Frame, Keys, Left, capture_of, leaves};
 use cq_base::NoMemory;
 use cq_crew::{Gate, OpenGate};
@@ -171,8 +171,7 @@ impl Run {
         disk: &mut Disk,
     ) -> Result<bool, NoMemory> {
         let part: Call = (&["part", "c.toml", slots, "s.txt"], (0, "", ""));
-        let is_stopped = tells(rt, alloc, part, disk, &OpenGate)?
-            && disk.lacks(&["trace.txt", "log.txt", "out0.pcap"]);
+        let is_stopped = tells(rt, alloc, part, disk, &OpenGate)? && disk.lacks(WRITTEN);
         let resume = ["resume", "c.toml", "s.txt"];
         Ok(is_stopped && self.is_done(rt, alloc, &resume, disk, &OpenGate)?)
     }

@@ -1,6 +1,6 @@
 //! The state of a stopped run, and states that are refused.
 use cq_base::NoMemory;
-use cq_trials::{Call, Left, TWO_FOR_ONE};
+use cq_trials::{Call, Left, TWO_FOR_ONE, WRITTEN};
 use std::alloc::Global;
 use std::test::Fail;
 use std::thread::Threads;
@@ -61,7 +61,7 @@ fn is_refused<R: Threads + Sync>(rt: &R, alloc: Global, case: &Changed) -> Resul
     let state = format!(in alloc; "{front}{other}{back}")?;
     let given: [(&str, &[u8]); 1] = [("s.txt", state.as_bytes())];
     let call: Call = (&["resume", "c.toml", "s.txt"], (9, "", line));
-    let left: Left = (&given, &["trace.txt", "log.txt", "out0.pcap"]);
+    let left: Left = (&given, WRITTEN);
     TWO_FOR_ONE.leaves(rt, alloc, call, &given, left)
 }
 
