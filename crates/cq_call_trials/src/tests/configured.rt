@@ -79,6 +79,11 @@ const CUT: &[u8] = &[
     0, 0, 0, 0, 0, 0, 0, 0, 0, 0,
 ];
 
+/// A header, and one byte more.
+const ONE_MORE: &[u8] = &[
+    0x4d, 0x3c, 0xb2, 0xa1, 2, 0, 4, 0, 0, 0, 0, 0, 0, 0, 0, 0, 0, 0, 4, 0, 1, 0, 0, 0, 0,
+];
+
 /// A capture without a packet.
 const WHOLE: &[u8] = &NANOSECONDS;
 
@@ -123,7 +128,7 @@ const AT_FAULT: &[AtFault] = &[
     ),
     (
         SMALL,
-        &[("in0.pcap", CUT)],
+        &[("in0.pcap", ONE_MORE)],
         (3, "capture of input 0: 8, limit 24\n"),
     ),
 ];
