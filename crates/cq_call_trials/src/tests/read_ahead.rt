@@ -2,7 +2,7 @@
 use super::words::USAGE;
 use cq_base::NoMemory;
 use cq_trials::{
-    Call, DEFAULTS, Disk, FRAME, NANOSECONDS, WRITTEN, leaves, leaves_ahead, put_packet,
+    Call, DEFAULTS, Disk, FRAME, Keys, NANOSECONDS, WRITTEN, leaves, leaves_ahead, put_packet,
 };
 use std::alloc::Global;
 use std::sync::Wait;
@@ -20,6 +20,8 @@ enum Input {
     Long,
     /// A header and ten bytes.
     Cut,
+    /// A file of one byte more than the limit.
+    Above,
     /// A file whose reading fails at its end.
     Unread,
     /// There is no such file.
@@ -56,7 +58,23 @@ const CASES: &[Case] = &[
     ([Input::Unread, Input::Cut], 5, "read fault: in0.pcap\n"),
     ([Input::One, Input::Unread], 5, "read fault: in1.pcap\n"),
     ([Input::Long, Input::Missing], 5, "read fault: in1.pcap\n"),
+    (
+        [Input::Long, Input::Above],
+        3,
+        "capture of input 1: 8, limit 40000\n",
+    ),
+    (
+        [Input::Above, Input::Missing],
+        3,
+        "capture of input 0: 8, limit 40000\n",
+    ),
 ];
+
+/// A limit that the longest capture here keeps.
+const LIMITED: Keys = Keys {
+    first: "limit_bytes = 40000\n",
+    ..DEFAULTS
+};
 
 /// A capture of one packet of 14 bytes.
 const ONE: &[u8] = &[
@@ -80,12 +98,16 @@ fn long_capture(alloc: Global) -> Result<Vec<u8>, NoMemory> {
     Ok(capture)
 }
 
+/// A capture of more packets than are read at once, and a file above the limit.
+type Large<'a> = (&'a [u8], &'a [u8]);
+
 /// The disk with what stands under the name of an input.
-fn with_input(disk: Disk, name: &str, input: Input, long: &[u8]) -> Result<Disk, NoMemory> {
+fn with_input(disk: Disk, name: &str, input: Input, large: Large) -> Result<Disk, NoMemory> {
     match input {
         Input::Empty => disk.holding(&[(name, &NANOSECONDS)]),
         Input::One => disk.holding(&[(name, ONE)]),
-        Input::Long => disk.holding(&[(name, long)]),
+        Input::Long => disk.holding(&[(name, large.0)]),
+        Input::Above => disk.holding(&[(name, large.1)]),
         Input::Cut => disk.holding(&[(name, CUT)]),
         Input::Unread => disk
             .holding(&[(name, &NANOSECONDS)])?
@@ -95,14 +117,14 @@ fn with_input(disk: Disk, name: &str, input: Input, long: &[u8]) -> Result<Disk,
 }
 
 /// A switch of two ports with these inputs.
-fn disk_with(alloc: Global, inputs: [Input; 2], long: &[u8]) -> Result<Disk, NoMemory> {
-    let disk = Disk::of_ports(alloc, 2, 1, DEFAULTS)?;
-    let disk = with_input(disk, "in0.pcap", inputs[0], long)?;
-    with_input(disk, "in1.pcap", inputs[1], long)
+fn disk_with(alloc: Global, inputs: [Input; 2], large: Large) -> Result<Disk, NoMemory> {
+    let disk = Disk::of_ports(alloc, 2, 1, LIMITED)?;
+    let disk = with_input(disk, "in0.pcap", inputs[0], large)?;
+    with_input(disk, "in1.pcap", inputs[1], large)
 }
 
 /// Whether both commands refuse the inputs with the code and the line, and write nothing.
-fn is_refused<R>(rt: R, alloc: Global, case: &Case, long: &[u8]) -> Result<bool, NoMemory>
+fn is_refused<R>(rt: R, alloc: Global, case: &Case, large: Large) -> Result<bool, NoMemory>
 where
     R: Threads + Wait + Sync + Copy + Send + 'static,
 {
@@ -114,13 +136,13 @@ where
             rt,
             alloc,
             stream,
-            disk_with(alloc, inputs, long)?,
+            disk_with(alloc, inputs, large)?,
             (&[], WRITTEN),
         )? && leaves(
             &rt,
             alloc,
             run,
-            disk_with(alloc, inputs, long)?,
+            disk_with(alloc, inputs, large)?,
             (&[], WRITTEN),
         )?,
     )
@@ -129,8 +151,10 @@ where
 #[test]
 fn the_lowest_input_at_fault_is_told(rt: HostRuntime) -> Result<(), Fail> {
     let long = long_capture(rt.alloc())?;
+    let above = vec![in rt.alloc(); 0; 40_001]?;
+    let large = (long.as_slice(), above.as_slice());
     for case in CASES {
-        assert!(rt; is_refused(rt, rt.alloc(), case, &long)?, "{}", case.2);
+        assert!(rt; is_refused(rt, rt.alloc(), case, large)?, "{}", case.2);
     }
     Ok(())
 }
