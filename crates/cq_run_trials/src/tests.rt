@@ -3,6 +3,5 @@ mod audit;
 mod cells;
 mod given;
 mod reasm;
-mod resume;
 mod simulate;
 mod state;
