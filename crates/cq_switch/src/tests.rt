@@ -10,8 +10,8 @@ use cq_base::NoMemory;
 use cq_crew::OpenGate;
 use cq_run::{Command, command_of, switch_top};
 use cq_space::{HostFiles, MemSink};
-use cq_trial_kit::FORMS;
-use cq_trials::{Call, Disk, MICROSECONDS, NANOSECONDS, Packet, capture_with, leaves, words_of};
+use cq_trial_kit::{FORMS, HEADER};
+use cq_trials::{Call, Disk, MICROSECONDS, Packet, capture_with, leaves, words_of};
 use std::alloc::Global;
 use std::rt::Files;
 use std::test::Fail;
@@ -37,7 +37,7 @@ type Passed = (
 
 const PASSED: &[Passed] = &[
     ("no packet", &MICROSECONDS, &[], &[]),
-    ("no packet, as it is written", &NANOSECONDS, &[], &[]),
+    ("no packet, as it is written", &HEADER, &[], &[]),
     ("a link type with more above it", &MORE_ABOVE, &[], &[]),
     (
         "no bytes",
@@ -47,31 +47,31 @@ const PASSED: &[Passed] = &[
     ),
     (
         "one, two and two cells at once",
-        &NANOSECONDS,
+        &HEADER,
         &[(0, 0, 64, 64), (0, 0, 65, 65), (0, 0, 128, 128)],
         &[(0, 0, 64, 64), (0, 1024, 65, 65), (0, 2048, 128, 128)],
     ),
     (
         "an earlier stamp after a later one",
-        &NANOSECONDS,
+        &HEADER,
         &[(0, 2048, 60, 60), (0, 0, 60, 60)],
         &[(0, 2048, 60, 60), (0, 2560, 60, 60)],
     ),
     (
         "a busy line",
-        &NANOSECONDS,
+        &HEADER,
         &[(0, 0, 200, 200), (0, 512, 60, 60)],
         &[(0, 1536, 200, 200), (0, 2048, 60, 60)],
     ),
     (
         "subseconds of two seconds",
-        &NANOSECONDS,
+        &HEADER,
         &[(0, 2_000_000_000, 60, 60)],
         &[(2, 0, 60, 60)],
     ),
     (
         "the longest frame",
-        &NANOSECONDS,
+        &HEADER,
         &[(0, 0, 262_144, 262_144)],
         &[(0, 2_096_640, 262_144, 262_144)],
     ),
@@ -96,7 +96,7 @@ fn passes_to<R: Threads + Sync>(
 fn passes_so<R: Threads + Sync>(rt: &R, alloc: Global, case: &Passed) -> Result<bool, NoMemory> {
     let (_, header, packets, written) = *case;
     let input = capture_with(alloc, header, packets)?;
-    let output = capture_with(alloc, &NANOSECONDS, written)?;
+    let output = capture_with(alloc, &HEADER, written)?;
     Ok(passes_to(rt, alloc, "b", &input, &output)? && passes_to(rt, alloc, "a", &input, &output)?)
 }
 
@@ -212,7 +212,7 @@ fn frame_passes_over<R: Threads + Sync + Files + Alloc>(
     names: [&str; 3],
 ) -> Result<bool, NoMemory> {
     let input = capture_with(alloc, &MICROSECONDS, &[EMPTY_FRAME])?;
-    let output = capture_with(alloc, &NANOSECONDS, &[EMPTY_FRAME_WRITTEN])?;
+    let output = capture_with(alloc, &HEADER, &[EMPTY_FRAME_WRITTEN])?;
     passes_over(rt, alloc, names, &input, &output)
 }
 

@@ -1,5 +1,10 @@
 //! One packet in each form of a capture, byte by byte as the standard has them: of the bytes ab cd, at 7 seconds and
-//! 250 microseconds.
+//! 250 microseconds. And the header of the form that is written.
+
+/// The header that is written: little-endian with nanoseconds.
+pub const HEADER: [u8; 24] = [
+    0x4d, 0x3c, 0xb2, 0xa1, 2, 0, 4, 0, 0, 0, 0, 0, 0, 0, 0, 0, 0, 0, 4, 0, 1, 0, 0, 0,
+];
 
 /// Little-endian with microseconds.
 pub const MICROSECONDS: [u8; 42] = [

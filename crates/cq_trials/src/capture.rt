@@ -1,15 +1,11 @@
 //! Captures, byte by byte as the standard has them, by none of the program's writers.
 use cq_base::NoMemory;
+use cq_trial_kit::HEADER;
 use std::alloc::Global;
 
 /// A capture's header: little-endian, microseconds.
 pub const MICROSECONDS: [u8; 24] = [
     0xd4, 0xc3, 0xb2, 0xa1, 2, 0, 4, 0, 0, 0, 0, 0, 0, 0, 0, 0, 0, 0, 4, 0, 1, 0, 0, 0,
-];
-
-/// The header that is written: little-endian, nanoseconds.
-pub const NANOSECONDS: [u8; 24] = [
-    0x4d, 0x3c, 0xb2, 0xa1, 2, 0, 4, 0, 0, 0, 0, 0, 0, 0, 0, 0, 0, 0, 4, 0, 1, 0, 0, 0,
 ];
 
 /// The first bytes of a frame: two addresses and a type. Zeros follow.
@@ -50,7 +46,7 @@ pub fn capture_with(alloc: Global, header: &[u8], packets: &[Packet]) -> Result<
 
 /// A capture in the form that is written, of these frames.
 pub fn capture_of(alloc: Global, frames: &[Frame]) -> Result<Vec<u8>, NoMemory> {
-    let mut capture = NANOSECONDS.to_vec(alloc)?;
+    let mut capture = HEADER.to_vec(alloc)?;
     for (seconds, nanoseconds, output, len) in frames {
         let mut head = FRAME;
         head[5] = *output;

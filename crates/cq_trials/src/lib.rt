@@ -16,12 +16,11 @@ mod trial;
 mod worked;
 
 pub use capture::{
-    FRAME, Frame, MICROSECONDS, NANOSECONDS, Packet, capture_of, capture_with, put_packet,
-    put_packets,
+    FRAME, Frame, MICROSECONDS, Packet, capture_of, capture_with, put_packet, put_packets,
 };
 pub use disk::Disk;
 pub use keys::{DEAREST, DEFAULTS, Keys, configuration};
-pub use runs::{RUNS, RUNS_BY_KEYS, THREE_INPUTS, TWO_FOR_ONE};
+pub use runs::{RUNS, RUNS_BY_KEYS, SENT, THREE_INPUTS, TWO_FOR_ONE};
 pub use trial::{
     Call, Left, Told, WRITTEN, all_leave, leaves, leaves_ahead, leaves_within, passes,
     touches_nothing, words_of,

@@ -1,14 +1,18 @@
 //! The runs that were worked by hand, to the last byte.
-use crate::{DEAREST, DEFAULTS, Keys, Run};
+use crate::{DEAREST, DEFAULTS, Frame, Keys, Run};
+use cq_trial_kit::{LOG, TRACE};
+
+/// What output 0 sends of two cells in two slots after one another.
+pub const SENT: &[Frame] = &[(0, 0, 0, 60), (0, 512, 0, 60)];
 
 /// Two inputs with a cell for one output.
 pub const TWO_FOR_ONE: Run = Run {
     shows: "two inputs with a cell for one output: the lesser goes first",
     keys: DEFAULTS,
     inputs: &[&[(0, 0, 0, 60)], &[(0, 0, 0, 60)]],
-    outputs: &[&[(0, 0, 0, 60), (0, 512, 0, 60)], &[]],
-    trace: "0 0 0 0 0\n1 0 1 0 0\n",
-    log: "0 1 0 0 0 0\n0 2 1 0 0 0\n",
+    outputs: &[SENT, &[]],
+    trace: TRACE,
+    log: LOG,
     report: "slots 2\nproposals 3\nmost 2\n\
         input 0 cells 1 longest 1 slack 0\n\
         input 1 cells 1 longest 1 slack 0\n\

@@ -5,7 +5,7 @@ use cq_base::{NoMemory, Sequence};
 use cq_pcap::{
     Capture, Form, OutPacket, PacketRow, PcapRefusal, capture_bytes, form_of, read_capture, row_at,
 };
-use cq_trial_kit::{BIG_MICROSECONDS, BIG_NANOSECONDS, FORMS, MICROSECONDS, NANOSECONDS};
+use cq_trial_kit::{BIG_MICROSECONDS, BIG_NANOSECONDS, FORMS, HEADER, MICROSECONDS, NANOSECONDS};
 use std::alloc::Global;
 use std::test::Fail;
 
@@ -225,7 +225,7 @@ fn out_packet(alloc: Global) -> Result<OutPacket, NoMemory>
 #[test]
 fn a_packet_is_written_with_nanoseconds(rt: HostRuntime) -> Result<(), Fail> {
     let packet = out_packet(rt.alloc())?;
-    assert!(rt; are_written_as(rt.alloc(), &[], &NANOSECONDS[..24])?);
+    assert!(rt; are_written_as(rt.alloc(), &[], &HEADER)?);
     assert!(rt; are_written_as(rt.alloc(), &[packet], &NANOSECONDS)?);
     Ok(())
 }

@@ -1,8 +1,9 @@
 //! Configurations: what `check` says of them, and how the runs that they describe are refused or cut off.
 use cq_base::NoMemory;
+use cq_trial_kit::HEADER;
 use cq_trials::{
-    Call, DEAREST, DEFAULTS, Disk, Frame, Keys, Left, NANOSECONDS, TWO_FOR_ONE, Told, WRITTEN,
-    capture_of, leaves, leaves_within, touches_nothing,
+    Call, DEAREST, DEFAULTS, Disk, Frame, Keys, Left, SENT, TWO_FOR_ONE, Told, WRITTEN, capture_of,
+    leaves, leaves_within, touches_nothing,
 };
 use std::alloc::Global;
 use std::test::Fail;
@@ -74,7 +75,7 @@ fn is_refused<R: Threads + Sync>(
 }
 
 /// A header, and ten bytes of a record's.
-const CUT: &[u8] = &[
+pub(super) const CUT: &[u8] = &[
     0x4d, 0x3c, 0xb2, 0xa1, 2, 0, 4, 0, 0, 0, 0, 0, 0, 0, 0, 0, 0, 0, 4, 0, 1, 0, 0, 0, //
     0, 0, 0, 0, 0, 0, 0, 0, 0, 0,
 ];
@@ -85,7 +86,7 @@ const ONE_MORE: &[u8] = &[
 ];
 
 /// A capture without a packet.
-const WHOLE: &[u8] = &NANOSECONDS;
+const WHOLE: &[u8] = &HEADER;
 
 /// As many bytes as a header has.
 const SMALL: Keys = Keys {
@@ -193,9 +194,6 @@ fn a_capture_that_fails_in_its_midst_and_a_rank_of_2_to_the_128_are_told(
 /// How many bytes of its line standard error takes.
 const ROOMS: [u64; 2] = [100, 3];
 
-/// The frames of output 0 of the run for one output.
-const SENT: &[Frame] = &[(0, 0, 0, 60), (0, 512, 0, 60)];
-
 /// Whether a command whose second capture cannot be written leaves the first one whole, which is this.
 fn is_cut<R: Threads + Sync>(
     rt: &R,
@@ -212,7 +210,7 @@ fn is_cut<R: Threads + Sync>(
     let call: Call = (&words, (6, "", "write fault: out1.pcap\n"));
     let wanted: [(&str, &[u8]); 3] = [
         ("out0.pcap", output),
-        ("out1.pcap", &NANOSECONDS[..10]),
+        ("out1.pcap", &HEADER[..10]),
         ("log.txt", b"kept"),
     ];
     let left: Left = (&wanted, &["trace.txt"]);
@@ -245,7 +243,7 @@ fn is_whole_but_for_out<R: Threads + Sync>(
     let told = (6, TWO_FOR_ONE.report, "write fault: -\n");
     let wanted: [(&str, &[u8]); 4] = [
         ("out0.pcap", output),
-        ("out1.pcap", &NANOSECONDS),
+        ("out1.pcap", &HEADER),
         ("trace.txt", TWO_FOR_ONE.trace.as_bytes()),
         ("log.txt", TWO_FOR_ONE.log.as_bytes()),
     ];

@@ -1,6 +1,7 @@
 //! Damaged captures: each is refused by number and place, and nothing is written.
 use cq_base::NoMemory;
-use cq_trials::{Call, NANOSECONDS, Packet, put_packets, touches_nothing};
+use cq_trial_kit::HEADER;
+use cq_trials::{Call, Packet, put_packets, touches_nothing};
 use std::alloc::Global;
 use std::test::Fail;
 use std::thread::Threads;
@@ -63,7 +64,7 @@ const DAMAGES: &[Damage] = &[
 /// Puts what follows the first bytes of the header, and cuts the capture.
 fn put_rest(input: &mut Vec<u8>, damage: &Damage) -> Result<(), NoMemory> {
     let (first, packets, more, len, _) = damage;
-    for byte in NANOSECONDS.iter().skip(first.len()) {
+    for byte in HEADER.iter().skip(first.len()) {
         input.push(*byte)?;
     }
     put_packets(input, packets)?;

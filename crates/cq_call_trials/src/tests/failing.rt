@@ -1,6 +1,7 @@
 //! Each outside call fails in turn, and each moves one byte at a time.
 use cq_base::NoMemory;
-use cq_trials::{Call, Disk, NANOSECONDS, TWO_FOR_ONE, capture_of, leaves_within};
+use cq_trial_kit::HEADER;
+use cq_trials::{Call, Disk, SENT, TWO_FOR_ONE, capture_of, leaves_within};
 use std::alloc::Global;
 use std::test::Fail;
 use std::thread::Threads;
@@ -75,7 +76,7 @@ fn fails<R: Threads + Sync>(
     let (trace, log) = (TWO_FOR_ONE.trace.as_bytes(), TWO_FOR_ONE.log.as_bytes());
     let wanted = [
         ("out0.pcap", held(OUT_0, output, at, step)),
-        ("out1.pcap", held(OUT_1, &NANOSECONDS, at, step)),
+        ("out1.pcap", held(OUT_1, &HEADER, at, step)),
         ("trace.txt", held(TRACE, trace, at, step)),
         ("log.txt", held(LOG, log, at, step)),
     ];
@@ -84,7 +85,7 @@ fn fails<R: Threads + Sync>(
 
 #[test]
 fn each_outside_call_fails_in_turn(rt: HostRuntime) -> Result<(), Fail> {
-    let output = capture_of(rt.alloc(), &[(0, 0, 0, 60), (0, 512, 0, 60)])?;
+    let output = capture_of(rt.alloc(), SENT)?;
     for place in PLACES {
         for step in 0..3 {
             for room in [u64::MAX, 3] {

@@ -1,9 +1,9 @@
 //! Reading or writing fails, or goes on for too long, while a capture is passed on; and what is to be read is not
 //! there.
 use cq_base::NoMemory;
+use cq_trial_kit::HEADER;
 use cq_trials::{
-    Call, Disk, Left, MICROSECONDS, NANOSECONDS, TWO_FOR_ONE, WRITTEN, leaves, leaves_within,
-    touches_nothing,
+    Call, Disk, Left, MICROSECONDS, TWO_FOR_ONE, WRITTEN, leaves, leaves_within, touches_nothing,
 };
 use std::alloc::Global;
 use std::test::Fail;
@@ -39,8 +39,8 @@ fn is_unwritten<R: Threads + Sync>(
     let disk = Disk::new(alloc).holding(&[("a", &MICROSECONDS), ("b", b"lost")])?;
     let disk = disk.failing_write("b", after)?;
     let call: Call = (&["pass", "a", "b"], (6, "", "write fault: b\n"));
-    let kept = NANOSECONDS.len().min(after as usize);
-    let left: Left = (&[("b", &NANOSECONDS[..kept])], &[]);
+    let kept = HEADER.len().min(after as usize);
+    let left: Left = (&[("b", &HEADER[..kept])], &[]);
     leaves_within(rt, alloc, call, disk, (0, room), left)
 }
 
@@ -77,7 +77,7 @@ const MISSING: &[Missing] = &[
     (
         &["audit", "c.toml"],
         (
-            &[("log.txt", b"0 1 0 0 0 0\n0 2 1 0 0 0\n")],
+            &[("log.txt", b"kept")],
             &["trace.txt", "out0.pcap", "out1.pcap"],
         ),
         "read fault: trace.txt\n",

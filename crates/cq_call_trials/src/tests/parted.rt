@@ -1,14 +1,10 @@
 //! The state of a stopped run, and states that are refused.
 use cq_base::NoMemory;
+use cq_trial_kit::STATE;
 use cq_trials::{Call, Left, TWO_FOR_ONE, WRITTEN};
 use std::alloc::Global;
 use std::test::Fail;
 use std::thread::Threads;
-
-/// The state in which the run of two cells for one output stands after its first slot.
-const STATE: &str =
-    "cq-state 1\nnext 1\nshape 2 1 0 2\nsum 3 2\ninput 0 1 0\ninput 1 1 0\nrank 0\nrank 1\n\
-    buffer 0 0 0 1\nsent 0 0 0 0 0\nmoved 0 1 0 0 0 0\nmoved 0 2 1 0 0 0\nend\n";
 
 #[test]
 fn a_stopped_run_writes_where_each_cell_is(rt: HostRuntime) -> Result<(), Fail> {

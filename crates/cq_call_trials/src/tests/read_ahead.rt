@@ -1,9 +1,9 @@
 //! What is read ahead and refused: the lowest input is told, whatever happens behind it.
+use super::configured::CUT;
 use super::words::USAGE;
 use cq_base::NoMemory;
-use cq_trials::{
-    Call, DEFAULTS, Disk, FRAME, Keys, NANOSECONDS, WRITTEN, leaves, leaves_ahead, put_packet,
-};
+use cq_trial_kit::HEADER;
+use cq_trials::{Call, DEFAULTS, Disk, FRAME, Keys, WRITTEN, leaves, leaves_ahead, put_packet};
 use std::alloc::Global;
 use std::sync::Wait;
 use std::test::Fail;
@@ -83,15 +83,9 @@ const ONE: &[u8] = &[
     2, 0, 0, 0, 0, 0, 2, 0, 0, 0, 0, 0xaa, 0x88, 0xb5,
 ];
 
-/// A header, and ten bytes of a record's.
-const CUT: &[u8] = &[
-    0x4d, 0x3c, 0xb2, 0xa1, 2, 0, 4, 0, 0, 0, 0, 0, 0, 0, 0, 0, 0, 0, 4, 0, 1, 0, 0, 0, //
-    0, 0, 0, 0, 0, 0, 0, 0, 0, 0,
-];
-
 /// A capture of 1025 packets of 14 bytes.
 fn long_capture(alloc: Global) -> Result<Vec<u8>, NoMemory> {
-    let mut capture = NANOSECONDS.to_vec(alloc)?;
+    let mut capture = HEADER.to_vec(alloc)?;
     for _ in 0..1025 {
         put_packet(&mut capture, [0, 0, 14, 14], &FRAME)?;
     }
@@ -104,14 +98,12 @@ type Large<'a> = (&'a [u8], &'a [u8]);
 /// The disk with what stands under the name of an input.
 fn with_input(disk: Disk, name: &str, input: Input, large: Large) -> Result<Disk, NoMemory> {
     match input {
-        Input::Empty => disk.holding(&[(name, &NANOSECONDS)]),
+        Input::Empty => disk.holding(&[(name, &HEADER)]),
         Input::One => disk.holding(&[(name, ONE)]),
         Input::Long => disk.holding(&[(name, large.0)]),
         Input::Above => disk.holding(&[(name, large.1)]),
         Input::Cut => disk.holding(&[(name, CUT)]),
-        Input::Unread => disk
-            .holding(&[(name, &NANOSECONDS)])?
-            .failing_read(name, 24),
+        Input::Unread => disk.holding(&[(name, &HEADER)])?.failing_read(name, 24),
         Input::Missing => Ok(disk),
     }
 }

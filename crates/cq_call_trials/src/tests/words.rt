@@ -1,6 +1,7 @@
 //! Words that are no command, and commands that are refused before they write.
 use cq_base::NoMemory;
-use cq_trials::{Disk, Left, MICROSECONDS, NANOSECONDS, leaves_within, touches_nothing};
+use cq_trial_kit::HEADER;
+use cq_trials::{Disk, Left, MICROSECONDS, leaves_within, touches_nothing};
 use std::alloc::Global;
 use std::test::Fail;
 use std::thread::Threads;
@@ -38,7 +39,7 @@ fn is_refused<R: Threads + Sync>(
 ) -> Result<bool, NoMemory> {
     let (words, code, line) = *refusal;
     let (left, room) = *place;
-    let captures: [(&str, &[u8]); 2] = [("a", &MICROSECONDS), ("c", &NANOSECONDS[..23])];
+    let captures: [(&str, &[u8]); 2] = [("a", &MICROSECONDS), ("c", &HEADER[..23])];
     let disk = Disk::new(alloc).holding(&captures)?.holding(left.0)?;
     leaves_within(rt, alloc, (words, (code, "", line)), disk, (0, room), left)
 }

@@ -6,6 +6,7 @@ ghost use Rattle.cq_stream.specs.Stream.{HasRun, IsLeftTo, items_of};
 use cq_base::{NoMemory, Port};
 use cq_pcap::{PacketRow, PcapRefusal};
 use cq_stream::{Done, Intake, Item, OpenWatch, Order, Reader, Watch, pair};
+use cq_trial_kit::HEADER;
 use std::alloc::Global;
 use std::sync::atomic::AtomicU64;
 use std::sync::atomic::Ordering::SeqCst;
@@ -16,11 +17,6 @@ use std::thread::{Threads, yield_now};
 
 // How many turns the caller waits for the items at most.
 const TURNS: u32 = 10_000_000;
-
-// A file header, little-endian with nanoseconds.
-const HEADER: [u8; 24] = [
-    0x4d, 0x3c, 0xb2, 0xa1, 2, 0, 4, 0, 0, 0, 0, 0, 0, 0, 0, 0, 0, 0, 4, 0, 1, 0, 0, 0,
-];
 
 // Five packets of 60 bytes, at 0, 1, 2, 3 and 4 nanoseconds.
 fn five_packets() -> [u8; 404] {

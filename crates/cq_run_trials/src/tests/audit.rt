@@ -9,13 +9,9 @@ use cq_base::{NoMemory, Port, Transfer};
 use cq_lines::LineRefusal;
 use cq_list::InputList;
 use cq_prefs::Offers;
-use cq_trial_kit::{list_of, waiting};
+use cq_trial_kit::{LOG, TRACE, list_of, waiting};
 use std::alloc::Global;
 use std::test::Fail;
-
-const LOG: &[u8] = b"0 1 0 0 0 0\n0 2 1 0 0 0\n";
-
-const TRACE: &[u8] = b"0 0 0 0 0\n1 0 1 0 0\n";
 
 // Whether a log is read as these transfers.
 fn is_read_as(alloc: Global, log: &[u8], told: &[Transfer]) -> bool {
@@ -27,7 +23,8 @@ fn is_read_as(alloc: Global, log: &[u8], told: &[Transfer]) -> bool {
 
 #[test]
 fn the_log_of_two_cells_for_one_output_is_read(rt: HostRuntime) {
-    assert!(rt; is_read_as(rt.alloc(), LOG, &[crossing(1, 0, 0), crossing(2, 1, 0)]));
+    let told = [crossing(1, 0, 0), crossing(2, 1, 0)];
+    assert!(rt; is_read_as(rt.alloc(), LOG.as_bytes(), &told));
 }
 
 // Logs of a switch of two ports, and the first wrong line of each.
@@ -60,18 +57,19 @@ fn a_log_is_refused_at_its_first_wrong_line(rt: HostRuntime) {
 }
 
 // Traces, and the first line of each that is other than in the worked one.
-const TRACES: &[(&[u8], Option<u64>)] = &[
+const TRACES: &[(&str, Option<u64>)] = &[
     (TRACE, None),
-    (b"0 0 0 0 0\n1 0 1 0 1\n", Some(2)),
-    (b"0 0 0 0 0\n", Some(2)),
-    (b"0 0 0 0 0\n1 0 1 0 0", Some(2)),
-    (b"0 0 0 0 0\n1 0 1 0 0\n2 0 0 1 0\n", Some(3)),
+    ("0 0 0 0 0\n1 0 1 0 1\n", Some(2)),
+    ("0 0 0 0 0\n", Some(2)),
+    ("0 0 0 0 0\n1 0 1 0 0", Some(2)),
+    ("0 0 0 0 0\n1 0 1 0 0\n2 0 0 1 0\n", Some(3)),
 ];
 
 #[test]
 fn a_trace_differs_in_its_first_line_that_is_other(rt: HostRuntime) {
     for (trace, line) in TRACES {
-        assert!(rt; audit_trace(trace, TRACE) == *line, "{trace:?}");
+        let is_so = audit_trace(trace.as_bytes(), TRACE.as_bytes()) == *line;
+        assert!(rt; is_so, "{trace:?}");
     }
 }
 

@@ -5,12 +5,8 @@ ghost use Rattle.cq_route.specs.Tables.{AreTables, ports_of};
 use cq_base::{Kind, Name, NoMemory, Sequence};
 use cq_pcap::{Capture, PcapRefusal, read_capture};
 use cq_route::{AddressRow, PortRow, Tables};
+use cq_trial_kit::HEADER;
 use std::alloc::Global;
-
-// Little-endian with nanoseconds.
-const HEADER: [u8; 24] = [
-    0x4d, 0x3c, 0xb2, 0xa1, 2, 0, 4, 0, 0, 0, 0, 0, 0, 0, 0, 0, 0, 0, 4, 0, 1, 0, 0, 0,
-];
 
 // More than a capture here has.
 const MANY: usize = 1_048_576;

@@ -1,20 +1,17 @@
 //! Shows what no clause says: that memory is enough for whole states, and what a worked one says.
 use cq_lines::LineRefusal;
 use cq_state::{State, read_text, text_of};
+use cq_trial_kit::STATE;
 use std::alloc::Global;
-
-// Two inputs with a cell each for output 0, stopped after slot 0.
-const STATE: &[u8] =
-    b"cq-state 1\nnext 1\nshape 2 1 0 2\nsum 3 2\ninput 0 1 0\ninput 1 1 0\nrank 0\nrank 1\n\
-    buffer 0 0 0 1\nsent 0 0 0 0 0\nmoved 0 1 0 0 0 0\nmoved 0 2 1 0 0 0\nend\n";
 
 #[test]
 fn wrong_texts_are_refused_at_their_first_wrong_line(rt: HostRuntime) {
     let alloc = rt.alloc();
+    let whole = STATE.as_bytes();
     let cases: [(&[u8], Option<u64>); 9] = [
-        (STATE, None),
-        (&STATE[..STATE.len() - 4], Some(13)),
-        (&STATE[..STATE.len() - 1], Some(13)),
+        (whole, None),
+        (&whole[..whole.len().saturating_sub(4)], Some(13)),
+        (&whole[..whole.len().saturating_sub(1)], Some(13)),
         (b"", Some(1)),
         (b"cq-state 2\n", Some(1)),
         (b"cq-state 1\nnext 01\n", Some(2)),
@@ -47,14 +44,14 @@ fn is_told(state: &State) -> bool {
 // Whether a state is written as the text.
 fn is_written(alloc: Global, state: &State) -> bool {
     match text_of(alloc, state) {
-        Ok(text) => text.as_slice() == STATE,
+        Ok(text) => text.as_slice() == STATE.as_bytes(),
         Err(_) => false,
     }
 }
 
 // Whether the state is read, and is written again as it was.
 fn is_written_again(alloc: Global) -> bool {
-    match read_text(alloc, STATE) {
+    match read_text(alloc, STATE.as_bytes()) {
         Ok(state) => is_told(&state) && is_written(alloc, &state),
         Err(_) => false,
     }

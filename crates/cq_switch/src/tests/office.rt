@@ -2,7 +2,8 @@
 //!
 //! The same switch is shipped in `examples/office`, and told there.
 use cq_base::NoMemory;
-use cq_trials::{Call, Disk, MICROSECONDS, NANOSECONDS, Told, all_leave, leaves_ahead, put_packet};
+use cq_trial_kit::HEADER;
+use cq_trials::{Call, Disk, MICROSECONDS, Told, all_leave, leaves_ahead, put_packet};
 use std::alloc::Global;
 use std::sync::Wait;
 use std::test::Fail;
@@ -156,9 +157,9 @@ fn disk_of(alloc: Global, workers: u8) -> Result<Disk, NoMemory> {
 
 /// The captures that leave, but for that of the spare port.
 fn sent(alloc: Global) -> Result<[Vec<u8>; 3], NoMemory> {
-    let uplink = capture_of(alloc, &NANOSECONDS, UPLINK_OUT)?;
-    let phones = capture_of(alloc, &NANOSECONDS, PHONES_OUT)?;
-    let servers = capture_of(alloc, &NANOSECONDS, SERVERS_OUT)?;
+    let uplink = capture_of(alloc, &HEADER, UPLINK_OUT)?;
+    let phones = capture_of(alloc, &HEADER, PHONES_OUT)?;
+    let servers = capture_of(alloc, &HEADER, SERVERS_OUT)?;
     Ok([uplink, phones, servers])
 }
 
@@ -169,7 +170,7 @@ fn written(sent: &[Vec<u8>; 3]) -> [(&str, &[u8]); 6] {
         ("uplink-out.pcap", uplink),
         ("phones-out.pcap", phones),
         ("servers-out.pcap", servers),
-        ("spare-out.pcap", &NANOSECONDS),
+        ("spare-out.pcap", &HEADER),
         ("trace.txt", TRACE.as_bytes()),
         ("log.txt", LOG.as_bytes()),
     ]
