@@ -1,6 +1,5 @@
 //! The trials, by the crate that they try, and what they share.
 mod crew;
-mod draws;
 mod followed;
 mod ledger;
 mod list;

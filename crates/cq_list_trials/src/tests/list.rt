@@ -5,10 +5,9 @@ ghost use Rattle.cq_base.specs.Key.{is_before};
 ghost use Rattle.cq_base.specs.Cells.{ArrivedBefore, MoreUrgentAhead, is_for};
 ghost use Rattle.cq_trial_kit.specs.Arriving.{IsNewest, HasArrived};
 
-use super::draws::next_draw;
 use cq_base::{NoMemory, Queued};
 use cq_list::InputList;
-use cq_trial_kit::{list_of, waiting};
+use cq_trial_kit::{Draws, list_of, waiting};
 use std::alloc::Global;
 use std::test::Fail;
 
@@ -148,16 +147,16 @@ fn cut_in(list: &mut InputList, queued: Queued, cushion: u64) -> u64
 }
 
 // Whether a cell arrives in this slot: for 200 slots nine in ten do, and then one in ten.
-fn one_arrives(slot: u32, draw: u64) -> bool {
-    draw / 65536 % 10 < if slot / 200 % 2 == 0 { 9 } else { 1 }
+fn one_arrives(slot: u32, draws: &mut Draws) -> bool {
+    draws.below(10) < if slot / 200 % 2 == 0 { 9 } else { 1 }
 }
 
 // For which of three outputs the cell is that comes or goes: while most go, all are for one output.
-fn output_in(slot: u32, draw: u64) -> u16
+fn output_in(slot: u32, draws: &mut Draws) -> u16
     ensures { result < 3 }
 {
     if slot / 200 % 2 == 0 {
-        (draw / 256 % 3) as u16
+        draws.below(3) as u16
     } else {
         (slot / 400 % 3) as u16
     }
@@ -167,13 +166,12 @@ fn output_in(slot: u32, draw: u64) -> u16
 fn drawn_calls_answer_as_a_plain_list_does(rt: HostRuntime) -> Result<(), Fail> {
     let mut list = InputList::new(rt.alloc(), 3, 600)?;
     let mut plain = Vec::new(rt.alloc());
-    let mut draw: u64 = 1;
+    let mut draws = Draws::from_seed(1);
     'calls: for slot in 0..2000_u32 {
-        draw = next_draw(draw);
-        let output = output_in(slot, draw);
-        if list.len() < 600 && one_arrives(slot, draw) {
-            let queued = waiting(0, output, (draw / 16 % 40) as u128, slot);
-            let cushion = cut_in(&mut list, queued, draw / 1024 % 500);
+        let output = output_in(slot, &mut draws);
+        if list.len() < 600 && one_arrives(slot, &mut draws) {
+            let queued = waiting(0, output, draws.below(40) as u128, slot);
+            let cushion = cut_in(&mut list, queued, draws.below(500));
             let place = place_in(&plain, &queued).min(cushion as usize);
             plain.insert(place, queued)?;
         } else {

@@ -3,9 +3,8 @@
 ghost use Rattle.std.specs.Prelude.{◌≡◌, ◌+◌, ◌<◌, ◌≤◌, IfOk, length};
 ghost use Rattle.cq_base.specs.Cells.{ArrivedBefore};
 
-use super::draws::next_draw;
 use cq_base::{Key, NoMemory, Queued};
-use cq_trial_kit::waiting;
+use cq_trial_kit::{Draws, waiting};
 use cq_urgency::OutputBuffer;
 use std::alloc::Global;
 use std::test::Fail;
@@ -87,20 +86,19 @@ fn leave_plain(cells: &mut Vec<Queued>) -> Option<Queued> {
 fn drawn_calls_answer_as_a_plain_list_does(rt: HostRuntime) -> Result<(), Fail> {
     let mut buffer = OutputBuffer::new(rt.alloc(), 300)?;
     let mut plain = Vec::new(rt.alloc());
-    let mut drawn: u64 = 1;
+    let mut draws = Draws::from_seed(1);
     'calls: for slot in 0..2000_u32 {
-        drawn = next_draw(drawn);
-        let queued = waiting(0, 0, (drawn / 16 % 40) as u128, slot);
+        let queued = waiting(0, 0, draws.below(40) as u128, slot);
         let place = place_in(&plain, queued.key);
         assert!(rt; buffer.cushion(queued.key) == place as u64);
         let len = buffer.len();
         assert!(rt; len == plain.len() as u64);
         if len > 0 {
-            let at = drawn / 128 % len;
+            let at = draws.below(len);
             assert!(rt; Some(buffer.at(at)) == plain.get(at as usize).copied());
         }
         let fills = slot % 800 < 400;
-        if len < 300 && (drawn / 65536 % 8 < 7) == fills {
+        if len < 300 && (draws.below(8) < 7) == fills {
             come(&mut buffer, queued);
             plain.insert(place, queued)?;
         } else {
