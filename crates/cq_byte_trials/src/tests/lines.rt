@@ -31,6 +31,6 @@ fn a_number_is_digits_without_a_sign_or_a_leading_zero_of_at_most_128_bits(rt: H
         (b"", None),
     ];
     for (text, number) in cases {
-        assert_eq!(rt; take_number(text).map(|read| read.0), number);
+        assert!(rt; take_number(text).map(|read| read.0) == number, "{text:?}");
     }
 }

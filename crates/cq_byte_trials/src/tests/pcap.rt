@@ -43,7 +43,10 @@ fn has_the_packet(capture: &Capture) -> bool {
 fn each_form_is_read(rt: HostRuntime) {
     for bytes in FORMS {
         let capture = capture_of(rt.alloc(), &bytes);
-        assert!(rt; capture.is_ok_and(|capture| has_the_packet(&capture)));
+        assert!(rt;
+            capture.is_ok_and(|capture| has_the_packet(&capture)),
+            "{bytes:?}"
+        );
     }
 }
 
@@ -111,7 +114,7 @@ fn a_header_is_refused_by_its_first_fault(rt: HostRuntime) {
         // Zone, sigfigs and snaplen are ignored.
         let fields = [magic, version, [9; 4], [9; 4], [9; 4], network];
         let header = fields.as_flattened();
-        assert!(rt; is_header_read(rt.alloc(), header, read));
+        assert!(rt; is_header_read(rt.alloc(), header, read), "{header:?}");
     }
 }
 
@@ -282,6 +285,7 @@ fn the_first_record_is_found_by_the_form(rt: HostRuntime) {
     ];
     for (big, nano, bytes) in forms {
         let found = first_found(&bytes);
-        assert!(rt; found == Ok((Form { big, nano }, Some(PACKET))));
+        let wanted = (Form { big, nano }, Some(PACKET));
+        assert!(rt; found == Ok(wanted), "big {big}, nano {nano}");
     }
 }

@@ -96,7 +96,10 @@ fn have_packed_trace(alloc: Global, rows: &[Leaving], text: &[u8]) -> Result<boo
 fn a_trace_has_a_line_for_each_departure(rt: HostRuntime) -> Result<(), Fail> {
     for (rows, text) in TRACES {
         let told = have_trace(rt.alloc(), rows, text)?;
-        assert!(rt; told && have_packed_trace(rt.alloc(), rows, text)?);
+        assert!(rt;
+            told && have_packed_trace(rt.alloc(), rows, text)?,
+            "{text:?}"
+        );
     }
     Ok(())
 }
@@ -152,7 +155,7 @@ fn have_log_of_room(alloc: Global, rows: &[Crossing], text: &[u8]) -> Result<boo
 #[test]
 fn a_log_has_a_line_for_each_transfer(rt: HostRuntime) -> Result<(), Fail> {
     for (rows, text) in LOGS {
-        assert!(rt; have_log(rt.alloc(), rows, text)?);
+        assert!(rt; have_log(rt.alloc(), rows, text)?, "{text:?}");
     }
     Ok(())
 }
@@ -160,7 +163,7 @@ fn a_log_has_a_line_for_each_transfer(rt: HostRuntime) -> Result<(), Fail> {
 #[test]
 fn transfers_that_are_used_up_leave_the_same_log(rt: HostRuntime) -> Result<(), Fail> {
     for (rows, text) in LOGS {
-        assert!(rt; have_log_of_room(rt.alloc(), rows, text)?);
+        assert!(rt; have_log_of_room(rt.alloc(), rows, text)?, "{text:?}");
     }
     Ok(())
 }
@@ -362,7 +365,7 @@ const RUNS: &[(Told, &[&str])] = &[
 #[test]
 fn a_report_has_the_figures_behind_their_names(rt: HostRuntime) -> Result<(), Fail> {
     for (told, lines) in RUNS {
-        assert!(rt; has_lines(rt.alloc(), told, &[], lines)?);
+        assert!(rt; has_lines(rt.alloc(), told, &[], lines)?, "{lines:?}");
     }
     Ok(())
 }

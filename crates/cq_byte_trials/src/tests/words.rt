@@ -83,7 +83,7 @@ const REQUESTS: &[(&str, Request<'static>)] = &[
 #[test]
 fn words_of_a_form_are_its_command(rt: HostRuntime) -> Result<(), Fail> {
     for (line, wanted) in REQUESTS {
-        assert!(rt; line_asks_for(rt.alloc(), line, Some(*wanted))?);
+        assert!(rt; line_asks_for(rt.alloc(), line, Some(*wanted))?, "{line}");
     }
     Ok(())
 }
@@ -133,7 +133,7 @@ const OTHERS: &[&str] = &[
 #[test]
 fn other_words_are_no_command(rt: HostRuntime) -> Result<(), Fail> {
     for line in OTHERS {
-        assert!(rt; line_asks_for(rt.alloc(), line, None)?);
+        assert!(rt; line_asks_for(rt.alloc(), line, None)?, "{line}");
     }
     Ok(())
 }
@@ -182,7 +182,7 @@ fn line_has_to_stream(alloc: Global, line: &str, config: &str) -> Result<bool, N
 #[test]
 fn stream_has_one_configuration(rt: HostRuntime) -> Result<(), Fail> {
     for (line, config) in STREAMED {
-        assert!(rt; line_has_to_stream(rt.alloc(), line, config)?);
+        assert!(rt; line_has_to_stream(rt.alloc(), line, config)?, "{line}");
     }
     Ok(())
 }

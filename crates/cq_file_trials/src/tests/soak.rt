@@ -41,7 +41,7 @@ fn begins_with(alloc: Global, seed: u64, words: [u32; 2]) -> Result<bool, NoMemo
 #[test]
 fn the_words_are_those_of_the_generator(rt: HostRuntime) -> Result<(), Fail> {
     for (seed, words) in WORDS {
-        assert!(rt; begins_with(rt.alloc(), seed, words)?);
+        assert!(rt; begins_with(rt.alloc(), seed, words)?, "seed {seed}");
     }
     Ok(())
 }

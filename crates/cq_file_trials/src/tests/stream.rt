@@ -176,7 +176,10 @@ fn times_begun<R: Wait>(rt: &R, alloc: Global, order: Order) -> Result<u64, NoMe
 #[test]
 fn the_watch_is_told_once_where_the_reader_sends(rt: HostRuntime) -> Result<(), Fail> {
     for (order, times) in [(Order::Send, 1), (Order::Alone, 0)] {
-        assert!(rt; times_begun(&rt, rt.alloc(), order)? == times);
+        assert!(rt;
+            times_begun(&rt, rt.alloc(), order)? == times,
+            "{times} times"
+        );
     }
     Ok(())
 }

@@ -51,7 +51,10 @@ fn a_name_is_read_up_to_its_cut_and_the_limit(rt: HostRuntime) -> Result<(), Fai
         (2, Some(3), Err(ReadRefusal::Long { limit: 2 })),
     ];
     for (limit, cut, wanted) in cases {
-        assert!(rt; is_read(rt.alloc(), limit, cut, wanted)?);
+        assert!(rt;
+            is_read(rt.alloc(), limit, cut, wanted)?,
+            "limit {limit}, cut {cut:?}"
+        );
     }
     Ok(())
 }
@@ -142,7 +145,7 @@ fn is_written(
 #[test]
 fn a_name_is_written_up_to_its_cut(rt: HostRuntime) -> Result<(), Fail> {
     for (cut, wanted, left) in CUT_NAMES {
-        assert!(rt; is_written(rt.alloc(), cut, wanted, left)?);
+        assert!(rt; is_written(rt.alloc(), cut, wanted, left)?, "cut {cut:?}");
     }
     Ok(())
 }
@@ -162,6 +165,6 @@ fn is_taken(alloc: Global, cut: Option<u64>, wanted: Result<(), WriteFault>, tak
 #[test]
 fn a_sink_takes_bytes_up_to_its_cut(rt: HostRuntime) {
     for (cut, wanted, taken) in CUT_SINKS {
-        assert!(rt; is_taken(rt.alloc(), cut, wanted, taken));
+        assert!(rt; is_taken(rt.alloc(), cut, wanted, taken), "cut {cut:?}");
     }
 }

@@ -175,12 +175,14 @@ fn drawn_calls_answer_as_a_plain_list_does(rt: HostRuntime) -> Result<(), Fail> 
             let place = place_in(&plain, &queued).min(cushion as usize);
             plain.insert(place, queued)?;
         } else {
-            assert!(rt; depart(&mut list, output, slot) == take_plain(&mut plain, output));
+            let first = take_plain(&mut plain, output);
+            assert!(rt; depart(&mut list, output, slot) == first, "slot {slot}");
         }
     }
     assert!(rt; list.len() == plain.len() as u64);
     for place in 0..list.len() {
-        assert!(rt; Some(list.at(place)) == plain.get(place as usize).copied());
+        let queued = plain.get(place as usize).copied();
+        assert!(rt; Some(list.at(place)) == queued, "place {place}");
     }
     Ok(())
 }

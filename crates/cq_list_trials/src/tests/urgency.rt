@@ -90,23 +90,26 @@ fn drawn_calls_answer_as_a_plain_list_does(rt: HostRuntime) -> Result<(), Fail> 
     'calls: for slot in 0..2000_u32 {
         let queued = waiting(0, 0, draws.below(40) as u128, slot);
         let place = place_in(&plain, queued.key);
-        assert!(rt; buffer.cushion(queued.key) == place as u64);
+        assert!(rt; buffer.cushion(queued.key) == place as u64, "slot {slot}");
         let len = buffer.len();
-        assert!(rt; len == plain.len() as u64);
+        assert!(rt; len == plain.len() as u64, "slot {slot}");
         if len > 0 {
             let at = draws.below(len);
-            assert!(rt; Some(buffer.at(at)) == plain.get(at as usize).copied());
+            let cell = plain.get(at as usize).copied();
+            assert!(rt; Some(buffer.at(at)) == cell, "slot {slot}, place {at}");
         }
         let fills = slot % 800 < 400;
         if len < 300 && (draws.below(8) < 7) == fills {
             come(&mut buffer, queued);
             plain.insert(place, queued)?;
         } else {
-            assert!(rt; leave(&mut buffer, slot) == leave_plain(&mut plain));
+            let first = leave_plain(&mut plain);
+            assert!(rt; leave(&mut buffer, slot) == first, "slot {slot}");
         }
     }
     for place in 0..buffer.len() {
-        assert!(rt; Some(buffer.at(place)) == plain.get(place as usize).copied());
+        let cell = plain.get(place as usize).copied();
+        assert!(rt; Some(buffer.at(place)) == cell, "place {place}");
     }
     Ok(())
 }

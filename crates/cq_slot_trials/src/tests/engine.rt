@@ -167,7 +167,8 @@ fn a_new_cell_goes_ahead_of_an_older_one_for_a_busy_output(rt: HostRuntime) -> R
     for workers in 1..3 {
         let (engine, told) = worked(&rt, rt.alloc(), NO_LIMITS, worked_slots(), workers)?;
         assert!(rt; told.is(&sent, &crossed), "{workers} workers");
-        assert!(rt; engine.empty() && !engine.stopped() && engine.next() == 3);
+        let is_done = engine.empty() && !engine.stopped() && engine.next() == 3;
+        assert!(rt; is_done, "{workers} workers");
     }
     Ok(())
 }

@@ -22,8 +22,9 @@ fn made_traffic_is_reported_alike_each_time_and_no_file_is_touched(
     let call: Call = (&["soak", "01", "3", "50"], (0, REPORT, ""));
     // No name: the made ports, the trace and the log have it.
     let left: Left = (&[], &[""]);
-    for _ in 0..2 {
-        assert!(rt; leaves(&rt, rt.alloc(), call, Disk::new(rt.alloc()), left)?);
+    for time in 1..3 {
+        let disk = Disk::new(rt.alloc());
+        assert!(rt; leaves(&rt, rt.alloc(), call, disk, left)?, "time {time}");
     }
     Ok(())
 }

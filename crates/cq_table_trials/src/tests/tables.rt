@@ -187,7 +187,7 @@ fn a_text_without_ports_and_one_that_is_too_long_are_told(rt: HostRuntime) -> Re
         ),
     ];
     for (bytes, told) in cases {
-        assert!(rt; is_told(rt.alloc(), bytes, told));
+        assert!(rt; is_told(rt.alloc(), bytes, told), "{bytes:?}");
     }
     Ok(())
 }

@@ -3,5 +3,5 @@ use Rattle.cq_list_trials.proofs.tests.list.drawn_calls_answer_as_a_plain_list_d
 
 -- each cell of the list arrived in a slot before, and there is room for 600 cells in all
 abbrev pub invariant-calls : goal.invariant-calls
-invariant-calls g l = ArrivedBefore l.slot l.list.cells × (l.list.spare + length l.list.cells ≡ 600)
+invariant-calls g l = ArrivedBefore l.slot-counter l.list.cells × (l.list.spare + length l.list.cells ≡ 600)
     × (l.list.outputs ≡ 3)

@@ -5,5 +5,5 @@ use Rattle.cq_list_trials.proofs.tests.urgency.drawn_calls_answer_as_a_plain_lis
 abbrev pub invariant-calls : goal.invariant-calls
 invariant-calls g l = record {
   room : l.buffer.spare + length l.buffer.cells ≡ 300;
-  arrived : ArrivedBefore l.slot l.buffer.cells;
+  arrived : ArrivedBefore l.slot-counter l.buffer.cells;
 }
