@@ -2,8 +2,7 @@
 -- A replay over all cells that arrive: what it begins with, and what its end says of the lines.
 use Rattle.std.specs.Prelude.{◌≡◌, ℕ, ◌+◌, ◌*◌, ◌<◌, ◌≤◌, ◌⊎◌, List, [], ◌∷◌, length, Result, Ok, Err, IsOk, slice_index}
 use Rattle.std.specs.List.{AllByRecursion}
-use Rattle.cq_base.specs.Arrivals.{no_arrivals}
-use Rattle.cq_base.specs.Arriving.{Arrival, arriving, end_of}
+use Rattle.cq_base.specs.Arriving.{Arrival, end_of}
 use Rattle.cq_base.specs.Room.{RoomView}
 use Rattle.cq_base.specs.declared.cell.Transfer.{Transfer}
 use Rattle.cq_cells.specs.NextArrival.{ArrivesIn}
@@ -13,6 +12,7 @@ use Rattle.cq_rank.specs.Switch.{class_count}
 use Rattle.cq_ideal.specs.LimitedEnding.{whole_limited_run}
 use Rattle.cq_ideal.specs.LimitedIdeal.{empty_limited}
 use Rattle.cq_laws.specs.LimitedFabric.{empty_limited_fabric}
+use Rattle.cq_traffic.specs.Stretch.{NoneCome}
 use Rattle.cq_audit.specs.Audit.{IsNoOf}
 use Rattle.cq_audit.specs.Log.{AreInOrder}
 use Rattle.cq_audit.specs.Replay.{IsInStep, ReplayView, ports_in}
@@ -28,7 +28,7 @@ FirstIsLeast (t ∷ lines) = AllByRecursion (λ u. t.slot ≤ u.slot) lines
 -- there are cells still to come
 pub record IsStill (came : List Arrival) (lines : List Transfer) (slot next : ℕ) : Type 0 where
   pub late : slot ≤ next
-  pub none : (t : ℕ) → slot ≤ t → t < next → arriving came t ≡ no_arrivals
+  pub none : NoneCome came slot next
   pub no_line : AllByRecursion (λ t. next ≤ t.slot) lines
   pub more : slot < next → next < end_of came
 

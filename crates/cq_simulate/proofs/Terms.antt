@@ -98,14 +98,14 @@ pub use Rattle.cq_traffic.proofs.Quiet.{arrives_before, before_both, none_up_to,
 pub use Rattle.cq_traffic.proofs.ToOutputs.{come_for-traffic_of, for_here, no_more_to}
 unfoldable pub use Rattle.cq_traffic.proofs.ToOutputs.{come_for}
 pub use Rattle.cq_simulate.specs.FabricRuns.{AlwaysHasSlack, AreChosen, AreInputBest, AreStable, IsChosenFor, IsFabricRun, IsKeptOf, SendsSlotBySlot, departures_in_run, refused_in_run, unpacked_run}
-pub use Rattle.cq_simulate.specs.GoingOn.{HasKept, HasPartedTo, HasRunOn, IsReadyOn, IsReadyPart, IsRefusalOn, NoneCome, RanTo, StopsOn, StopsWithin, WentOn, to_come}
+pub use Rattle.cq_simulate.specs.GoingOn.{HasKept, HasPartedTo, HasRunOn, IsReadyOn, IsReadyPart, IsRefusalOn, RanTo, StopsOn, StopsWithin, WentOn, to_come}
 pub use Rattle.cq_simulate.specs.IdealRuns.{IsRefusalOf, counts_limited, slots_ran}
 unfoldable pub use Rattle.cq_simulate.specs.IdealRuns.{ideal_departures, ideal_refusals, ran_ideal}
 pub use Rattle.cq_simulate.specs.Packets.{ArePacked, HaveLeftOf, LeaveWhole, LeftInPackets, ends_packet_at, leaving, of_packet}
 unfoldable pub use Rattle.cq_simulate.specs.Packets.{packets_out}
 pub use Rattle.cq_simulate.specs.Pieces.{CanBeJoined, Fits, IsCaptured, IsEmptied, Took, left_with, opened, piece_at, records_of}
 pub use Rattle.cq_simulate.specs.{declared.fabric_run.PackedFabricRun.PackedFabricRun, declared.ports.Ports.Ports, declared.refusal.RunRefusal.RunRefusal}
-pub use Rattle.cq_simulate.specs.Terms.{ArePortsFor, AreTables, CanBeTakenUp, Cell, FabricRun, IsFreshFor, IsPartFault, IsQuiet, IsReady, IsResumeFault, IsScheduleFor, IsSetup, Tables, classes_of, kept_of, ports_of}
+pub use Rattle.cq_simulate.specs.Terms.{ArePortsFor, AreTables, CanBeTakenUp, Cell, FabricRun, IsFreshFor, IsPartFault, IsQuiet, IsReady, IsResumeFault, IsScheduleFor, IsSetup, NoneCome, Tables, classes_of, kept_of, ports_of}
 pub use Rattle.cq_base.proofs.Each.{all_both, all_filter, all_weaker, of_images}
 pub use Rattle.cq_base.specs.{declared.figures.OutputFigures.OutputFigures, declared.key.Key.Key, declared.packed.PackedDeparture.PackedDeparture, declared.setup.Kind.Kind, declared.setup.Kind.TheVariants.FirstCome}
 pub use Rattle.cq_base.proofs.Keys.{key_laws}

@@ -133,7 +133,3 @@ pub record HasPartedTo (ms : List Machine) (came : List Arrival) (last : ℕ) (o
 pub record IsIdle (came : List Arrival) (slot : ℕ) (fabric : Fabric) : Type 0 where
   pub none_comes : arriving came slot ≡ no_arrivals
   pub none_waits : IsEmptyFabric fabric
-
--- no cell arrives from this slot on up to the other
-abbrev pub NoneCome : List Arrival → ℕ → ℕ → Type 0
-NoneCome came slot next = (t : ℕ) → slot ≤ t → t < next → arriving came t ≡ no_arrivals

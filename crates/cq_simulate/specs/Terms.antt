@@ -16,11 +16,11 @@ pub use Rattle.cq_laws.specs.Fabric.{IsEmptyFabric, Fabric}
 pub use Rattle.cq_laws.specs.{FabricRun.FabricRun, FabricSlot.SlotRecord, Measures.figures_of}
 pub use Rattle.cq_laws.specs.LimitedFabric.{LimitedRecord, slots_in}
 pub use Rattle.cq_resume.specs.{Parts.IsParted, Resumed.IsResumed, Switch.switch_of}
-pub use Rattle.cq_traffic.specs.Stretch.{IsQuiet, IsQuietUntil}
+pub use Rattle.cq_traffic.specs.Stretch.{IsQuiet, IsQuietUntil, NoneCome}
 pub use Rattle.cq_simulate.specs.{EachPacket.EachPacketOnce, Emulation.EmulatesIdeal, Ready.IsReady, ScheduleFor.IsScheduleFor}
 pub use Rattle.cq_simulate.specs.FabricRuns.{IsKeptOf, unpacked_run, IsFabricRun, departures_in_run, refused_in_run}
 pub use Rattle.cq_simulate.specs.FreshFabric.{ArePortsFor, IsFreshFor}
-pub use Rattle.cq_simulate.specs.GoingOn.{HasKept, HasRunOn, IsReadyOn, IsRefusalOn, StopsOn, HasPartedTo, IsIdle, IsReadyPart, NoneCome, StopsWithin}
+pub use Rattle.cq_simulate.specs.GoingOn.{HasKept, HasRunOn, IsReadyOn, IsRefusalOn, StopsOn, HasPartedTo, IsIdle, IsReadyPart, StopsWithin}
 pub use Rattle.cq_simulate.specs.IdealRuns.{ideal_departures, ideal_refusals, IsRefusalOf, slots_ran}
 pub use Rattle.cq_simulate.specs.Packets.{HaveLeftOf, packets_out, ArePacked}
 pub use Rattle.cq_simulate.specs.PartedRuns.{CanBeTakenUp, IsPartFault, IsResumeFault, kept_of, taken_at}
