@@ -21,7 +21,6 @@ use Rattle.cq_audit.specs.declared.phase.PhaseFault.{PhaseFault}
 use Rattle.cq_audit.specs.declared.phase.PhaseFault.TheVariants.{WrongLine, Blocking as Unsettled}
 use Rattle.cq_audit.specs.declared.refusal.AuditRefusal.{AuditRefusal}
 use Rattle.cq_audit.specs.declared.refusal.AuditRefusal.TheVariants.{Line, Transfer as Wrong, Blocking, Left, NoMemory}
-use Rattle.cq_audit.specs.declared.replay.SlotFault.{SlotFault}
 
 -- ## What can be audited
 
@@ -50,9 +49,6 @@ unread Unread = NoMemory
 abbrev pub phase_refusal : ℕ → ℕ → PhaseFault → AuditRefusal
 phase_refusal slot phase (WrongLine i) = Wrong slot phase i
 phase_refusal slot phase (Unsettled i j) = Blocking slot phase i j
-
-abbrev pub refusal_of : ℕ → SlotFault → AuditRefusal
-refusal_of slot f = phase_refusal slot f.phase f.fault
 
 -- ## Of transfers that were read
 

@@ -1,3 +1,4 @@
+-- Only proofs use this.
 -- A fabric that goes by the lines of a log: what is known of it, and what the lines of a slot come to.
 use Rattle.std.specs.Prelude.{◌≡◌, ℕ, ◌+◌, ◌-◌, ◌*◌, ◌^◌, ◌<◌, ◌≤◌, ◌++◌, ◌⊎◌, List, length, Option, Some, IsOk, replicate, slice_index}
 use Rattle.cq_base.specs.declared.cell.Cell.{Cell}
@@ -22,10 +23,12 @@ use Rattle.cq_laws.specs.LimitedQuiet.{quiet_limited_slots}
 use Rattle.cq_laws.specs.Phases.{Arrives}
 use Rattle.cq_laws.specs.Records.{transfers_in}
 use Rattle.cq_fabric.specs.Queues.{Queues, fabric_of}
+use Rattle.cq_audit.specs.Audit.{phase_refusal}
 use Rattle.cq_audit.specs.Log.{AreInOrder}
 use Rattle.cq_audit.specs.Phase.{AllBehind, IsPhaseFault, NoneBefore, in_phase}
 use Rattle.cq_audit.specs.StableRun.{IsHalfPast}
 use Rattle.cq_audit.specs.declared.phase.PhaseFault.{PhaseFault}
+use Rattle.cq_audit.specs.declared.refusal.AuditRefusal.{AuditRefusal}
 use Rattle.cq_audit.specs.declared.replay.SlotFault.{SlotFault}
 
 -- the fabric, with what it takes to go on
@@ -149,6 +152,10 @@ abbrev pub IsSlotFault : List Machine → ℕ → List (Option Cell) → List Tr
 IsSlotFault ms slot cells lines old f =
     ((f.phase ≡ 1) × IsFirstFault old.limits ms slot cells lines old.fabric f.fault) ⊎
     ((f.phase ≡ 2) × IsSecondFault old.limits ms slot cells lines old.fabric f.fault)
+
+-- this fault, as a refusal of the log
+abbrev pub refusal_of : ℕ → SlotFault → AuditRefusal
+refusal_of slot f = phase_refusal slot f.phase f.fault
 
 -- ## Slots in which nothing happens
 

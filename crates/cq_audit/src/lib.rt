@@ -28,5 +28,4 @@ pub use pairs::Pairs;
 pub use parted::part;
 pub use phase::{PhaseFault, stable_told};
 pub use refusal::AuditRefusal;
-pub use replay::{Replay, SlotFault};
 pub use trace::audit_trace;

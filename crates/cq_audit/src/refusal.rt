@@ -49,7 +49,7 @@ pub enum AuditRefusal {
 
 impl AuditRefusal {
     /// What is wrong with the lines of a slot, as a refusal of the log.
-    pub fn of_slot(slot: Slot, fault: SlotFault) -> AuditRefusal
+    pub(crate) fn of_slot(slot: Slot, fault: SlotFault) -> AuditRefusal
         ensures { result ≡ refusal_of slot fault }
     {
         let phase = fault.phase;

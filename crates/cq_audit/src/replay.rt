@@ -16,7 +16,7 @@ use std::marker::Model;
 
 /// What is wrong with the lines of a slot.
 #[derive(Clone, Copy, Debug, PartialEq, Eq)]
-pub struct SlotFault {
+pub(crate) struct SlotFault {
     /// The phase, 1 or 2.
     pub phase: u8,
     /// Its first fault.
@@ -27,7 +27,7 @@ pub struct SlotFault {
 /// outputs, the fabric with its marks, how many cells each output holds, and how many each list and each buffer can
 /// hold.
 #[derive(Drop)]
-pub struct Replay<R: Rank> {
+pub(crate) struct Replay<R: Rank> {
     ranks: Ranks<R>,
     queues: Queues,
     limiter: Limiter,
@@ -134,7 +134,7 @@ impl<R: Rank> Replay<R> {
     /// transfers are noted. It takes no memory, and no list is read from end to end.
     ///
     /// The error is the first fault of the first phase whose lines are not the transfers of a stable matching. Then
-    /// the fabric stands where it was found.
+    /// the fabric stands in the middle of the slot, and none follows.
     pub fn slot<'a>(
         &mut self,
         slot: Slot,
