@@ -1,10 +1,10 @@
 -- The terms of this crate's clauses, each passed on from where it is defined.
-pub use Rattle.cq_base.specs.{Arrivals.no_arrivals, declared.cell.Cell.Cell}
+pub use Rattle.cq_base.specs.{Arrivals.no_arrivals, declared.cell.Cell.Cell, declared.cell.Departure.Departure}
 pub use Rattle.cq_base.specs.Arriving.{arriving, end_of, traffic_of, Arrival}
 pub use Rattle.cq_pcap.specs.Captured.{Captured}
 pub use Rattle.cq_route.specs.Tables.{AreTables, IsSetup, classes_of, ports_of}
 pub use Rattle.cq_route.specs.declared.tables.Tables.{Tables}
-pub use Rattle.cq_cells.specs.{NextArrival.ArrivesIn, Traffic.IsTraffic}
+pub use Rattle.cq_cells.specs.{NextArrival.ArrivesIn, Scheduled.schedule_of, Traffic.IsTraffic}
 pub use Rattle.cq_cells.specs.Schedule.{arrivals, first_stamp, packet_at}
 pub use Rattle.cq_rank.specs.Machine.{Machine}
 pub use Rattle.cq_scfq.specs.Disciplines.{openings_of}
@@ -15,7 +15,7 @@ pub use Rattle.cq_prefs.specs.Pairing.{IsInputBest}
 pub use Rattle.cq_laws.specs.Fabric.{IsEmptyFabric, Fabric}
 pub use Rattle.cq_laws.specs.{FabricRun.FabricRun, FabricSlot.SlotRecord, Measures.figures_of}
 pub use Rattle.cq_laws.specs.LimitedFabric.{LimitedRecord, slots_in}
-pub use Rattle.cq_resume.specs.{Parts.IsParted, Resumed.IsResumed, Switch.switch_of}
+pub use Rattle.cq_resume.specs.{Parts.IsParted, Resumed.IsResumed, Resumed.Kept, Switch.switch_of, declared.taken.Taken.Taken}
 pub use Rattle.cq_traffic.specs.Stretch.{IsQuiet, IsQuietUntil, NoneCome}
 pub use Rattle.cq_simulate.specs.{EachPacket.EachPacketOnce, Emulation.EmulatesIdeal, Ready.IsReady, ScheduleFor.IsScheduleFor}
 pub use Rattle.cq_simulate.specs.FabricRuns.{IsKeptOf, unpacked_run, IsFabricRun, departures_in_run, refused_in_run}

@@ -1,7 +1,7 @@
-//! What holds of what arrives, and of the run of a fabric, whatever it is made of. Each law is the contract of a
+//! What holds of what arrives, and of runs over it, whatever a fabric is made of. Each law is the contract of a
 //! function that does nothing.
-ghost use Rattle.std.specs.Prelude.{◌≡◌, ◌<◌, ℕ, List, length};
-ghost use Rattle.cq_simulate.specs.Terms.{Arrival, traffic_of, arrivals, IsTraffic, NoLimits, AreOfPackets, cells_at, LimitedRecord, slots_in, figures_of, Captured, AreTables, IsSetup, classes_of, ports_of, Tables, EachPacketOnce, EmulatesIdeal, IsFabricRun, departures_in_run, refused_in_run};
+ghost use Rattle.std.specs.Prelude.{◌≡◌, ◌<◌, ℕ, List, Ok, length};
+ghost use Rattle.cq_simulate.specs.Terms.{Arrival, traffic_of, arrivals, IsTraffic, NoLimits, AreOfPackets, cells_at, LimitedRecord, slots_in, figures_of, Captured, AreTables, IsSetup, classes_of, ports_of, Tables, EachPacketOnce, EmulatesIdeal, IsFabricRun, departures_in_run, refused_in_run, CanBeTakenUp, Departure, HaveLeftOf, IsResumed, Kept, Taken, first_stamp, ideal_departures, schedule_of, switch_of};
 
 /// The fabric of the tables' ranks and limits admits, refuses and sends what the ideal switch of the same ranks and
 /// limits does, each cell in the same slot at the same output. Its matchings are the input-best ones of what the lists
@@ -34,4 +34,19 @@ pub fn whole_packets_arrive()
     ensures { (t : Tables) (captures : List (List Captured)) (input : ℕ) →
         AreTables t → length captures ≡ ports_of t.setup → input < length captures →
         AreOfPackets 0 (cells_at input (traffic_of (arrivals t captures))) }
+{}
+
+/// What a run sends leaves in whole packets: of the ideal switch, of the fabric, and of a fabric that goes on from any
+/// state that can be taken up. So it can be put together, as `packets_of` and `packets_of_all` ask.
+pub fn runs_leave_whole_packets()
+    ensures ideal { (t : Tables) (captures : List (List Captured)) (sent : List Departure) →
+        AreTables t → length captures ≡ ports_of t.setup → ideal_departures t (arrivals t captures) ≡ Ok sent →
+        HaveLeftOf t captures sent (first_stamp captures) }
+    ensures fabric { (t : Tables) (captures : List (List Captured)) (rs : List LimitedRecord) →
+        AreTables t → length captures ≡ ports_of t.setup → IsFabricRun t (arrivals t captures) rs →
+        HaveLeftOf t captures (departures_in_run rs) (first_stamp captures) }
+    ensures resumed { (t : Tables) (captures : List (List Captured)) (from : Taken) (kept : Kept) →
+        AreTables t → length captures ≡ ports_of t.setup → CanBeTakenUp (switch_of t (schedule_of t captures)) from →
+        IsResumed (switch_of t (schedule_of t captures)) from kept →
+        HaveLeftOf t captures kept.sent (first_stamp captures) }
 {}

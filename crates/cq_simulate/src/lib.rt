@@ -16,7 +16,8 @@ pub use fabric_run::{FabricRun, PackedFabricRun, run_fabric, run_fabric_packed};
 pub use ideal_run::{IdealRun, run_ideal, run_ideal_packed};
 pub use idle::outputs_send_once_a_slot;
 pub use laws::{
-    each_packet_is_written_or_counted, fabric_sends_as_the_ideal_switch, whole_packets_arrive,
+    each_packet_is_written_or_counted, fabric_sends_as_the_ideal_switch, runs_leave_whole_packets,
+    whole_packets_arrive,
 };
 pub use packets::packets_of;
 pub use packing::{Packing, packets_of_all};

@@ -12,6 +12,7 @@ use cq_pcap::{Capture, OutPacket, PacketRow, read_capture};
 use cq_route::Tables;
 use cq_simulate::{
     Refused, RunRefusal, packets_of, packets_of_all, run_fabric, run_ideal, run_ideal_packed,
+    runs_leave_whole_packets,
 };
 use std::alloc::Global;
 use std::test::Fail;
@@ -214,6 +215,7 @@ fn leave_alone(
 {
     let run = run_ideal(alloc, tables, schedule)?;
     let t0 = schedule.t0();
+    runs_leave_whole_packets();
     let packets = packets_of(alloc, output, run.sent.items(), captures, tables, t0)?;
     Ok(are(&packets, left))
 }
@@ -233,6 +235,7 @@ fn leave_in_one_pass(
 {
     let sent = run_ideal_packed(alloc, tables, schedule)?;
     let t0 = schedule.t0();
+    runs_leave_whole_packets();
     let places = packets_of_all(alloc, sent, captures, tables, t0)?;
     match places.get(output as usize) {
         Some(place) => Ok(hold(alloc, &place.bytes, left)?),
