@@ -139,8 +139,9 @@ pub text_again : (t : Tables) (c : Scheduled) (text : List ℕ) (x : Taken) → 
     IsRead (switch_of t c) text x → text_of_taken (switch_of t c) x ≡ text
 text_again t c text x tables is read =
     let many = length-map t.setup.kinds (λ kind. machine_of kind t.setup.classes) in
-    let same = state_again (switch_of t c) read.state read.in_range read.shape read.sound
+    let up = read.comes in
+    let same = state_again (switch_of t c) read.state up.in_range up.shape up.sound
     (rw many (schedule_known t c tables is).traffic) in
-    let told = read.told in
+    let told = up.told in
     let spelled = read.spelled in
     cc

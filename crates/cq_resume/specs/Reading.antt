@@ -66,14 +66,18 @@ text_of_taken w x = state_text (state_of x.frozen x.sent x.note w.first_stamp w.
 
 -- ## Reading
 
--- the text is that of a state in range, and it is a sound one of this switch; this is what it comes to
-pub record IsRead (w : Switch) (text : List ℕ) (taken : Taken) : Type 0 where
-  pub state : State
+-- the state is in range, and a sound one of this switch; this is what it comes to
+pub record ComesTo (w : Switch) (state : State) (taken : Taken) : Type 0 where
   pub in_range : IsInRange state
-  pub spelled : state_text state ≡ text
   pub shape : HasShape w state
   pub sound : IsSound w state
   pub told : taken ≡ taken_of w state
+
+-- the text is that of such a state
+pub record IsRead (w : Switch) (text : List ℕ) (taken : Taken) : Type 0 where
+  pub state : State
+  pub spelled : state_text state ≡ text
+  pub comes : ComesTo w state taken
 
 -- it is that of a state in range, but not one of this switch
 pub record HasOtherShape (w : Switch) (text : List ℕ) : Type 0 where

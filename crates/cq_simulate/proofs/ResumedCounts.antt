@@ -61,7 +61,7 @@ module _ (came : List Arrival) where
 module _ (w : Switch) (from : Taken) (up : CanBeTakenUp w from) where
   before : CountsBefore from.frozen.next from.frozen.figures
   unfolding frozen_told
-  before = rw up.told (search (arith, rules, recursion_from_All, CountsBefore, counted))
+  before = rw up.comes.told (search (arith, rules, recursion_from_All, CountsBefore, counted))
 
   kept_counts : (kept : Kept) → IsResumed w from kept → All (λ y. y.cells ≤ kept.figures.slots) kept.figures.outputs
   kept_counts kept resumed = search (rules, limited_numbered, take_all, counts_on, before, All-from_recursion)

@@ -1,18 +1,16 @@
 -- Runs of a configured switch in parts.
-use Rattle.std.specs.Prelude.{◌≡◌, ℕ, List, ⊤}
+use Rattle.std.specs.Prelude.{ℕ, List, ⊤}
 use Rattle.cq_ideal.specs.Ending.{arriving_from}
 use Rattle.cq_laws.specs.LimitedFabric.{LimitedRecord}
-use Rattle.cq_resume.specs.Counted.{taken_of}
 use Rattle.cq_resume.specs.Parts.{opening}
+use Rattle.cq_resume.specs.Reading.{ComesTo}
 use Rattle.cq_resume.specs.Resumed.{IsResumedFault, Kept, Stops}
-use Rattle.cq_resume.specs.Sound.{IsSound}
-use Rattle.cq_resume.specs.Switch.{HasShape, Switch}
+use Rattle.cq_resume.specs.Switch.{Switch}
 use Rattle.cq_resume.specs.declared.taken.Taken.{Taken}
 use Rattle.cq_simulate.specs.declared.fabric_run.FabricRun.{FabricRun as Run}
 use Rattle.cq_simulate.specs.declared.parted_run.Parted.{Parted}
 use Rattle.cq_simulate.specs.declared.refusal.RunRefusal.{RunRefusal}
 use Rattle.cq_simulate.specs.declared.refusal.RunRefusal.TheVariants as refusal
-use Rattle.cq_state.specs.State.{IsInRange}
 use Rattle.cq_state.specs.declared.state.State.{State}
 
 -- a run that stands still, as one that can be taken up
@@ -38,7 +36,4 @@ IsResumeFault w taken refusal.NoMemory = ⊤
 -- it is what a sound state comes to
 pub record CanBeTakenUp (w : Switch) (taken : Taken) : Type 0 where
   pub state : State
-  pub in_range : IsInRange state
-  pub shape : HasShape w state
-  pub sound : IsSound w state
-  pub told : taken ≡ taken_of w state
+  pub comes : ComesTo w state taken

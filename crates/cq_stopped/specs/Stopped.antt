@@ -1,18 +1,15 @@
 -- What a stopped run leaves can be taken up.
-use Rattle.std.specs.Prelude.{◌≡◌, ℕ, ◌<◌, ◌^◌, length}
+use Rattle.std.specs.Prelude.{ℕ, ◌<◌, ◌^◌, length}
 use Rattle.cq_cells.specs.Schedule.{packets_of}
 use Rattle.cq_cells.specs.Scheduled.{Scheduled}
 use Rattle.cq_cells.specs.Traffic.{IsRecorded}
-use Rattle.cq_resume.specs.Counted.{taken_of}
 use Rattle.cq_resume.specs.Parts.{IsParted}
-use Rattle.cq_resume.specs.Reading.{state_of}
-use Rattle.cq_resume.specs.Sound.{IsSound}
-use Rattle.cq_resume.specs.Switch.{HasShape, IsScheduleOf, Switch, switch_of}
+use Rattle.cq_resume.specs.Reading.{ComesTo, state_of}
+use Rattle.cq_resume.specs.Switch.{IsScheduleOf, Switch, switch_of}
 use Rattle.cq_resume.specs.declared.taken.Taken.{Taken}
 use Rattle.cq_route.specs.Tables.{AreTables}
 use Rattle.cq_route.specs.declared.tables.Tables.{Tables}
 use Rattle.cq_scfq.specs.Disciplines.{openings_of}
-use Rattle.cq_state.specs.State.{IsInRange}
 use Rattle.cq_state.specs.declared.state.State.{State}
 
 -- the state that tells of what a run of this switch left
@@ -20,11 +17,8 @@ abbrev pub told_state : Switch → Taken → State
 told_state w at = state_of at.frozen at.sent at.note w.first_stamp w.classes (length w.came)
 
 -- its numbers are in range, it is a sound state of the switch, and it comes to what was left
-pub record CanBeTakenUp (w : Switch) (at : Taken) : Type 0 where
-  pub in_range : IsInRange (told_state w at)
-  pub shape : HasShape w (told_state w at)
-  pub sound : IsSound w (told_state w at)
-  pub told : at ≡ taken_of w (told_state w at)
+abbrev pub CanBeTakenUp : Switch → Taken → Type 0
+CanBeTakenUp w at = ComesTo w (told_state w at) at
 
 -- each capture of the schedule is one that was read of a file
 abbrev pub AreRecorded : (t : Tables) (s : Scheduled) → IsScheduleOf t s → Type 0
