@@ -8,7 +8,7 @@ use Rattle.cq_ideal.specs.Admission.{Marked, marked}
 use Rattle.cq_ideal.proofs.Ends.{none_waits, nothing_left}
 use Rattle.cq_ideal.proofs.Waiting.{waiting}
 use Rattle.std.proofs.Math.Seq.{take-add}
-use Rattle.cq_resume.specs.Parts.{IsParted, IsWhole, IsWholeFault, PartsJoin, nothing_kept, opening}
+use Rattle.cq_resume.specs.Parts.{IsOneParted, IsParted, IsPartedFault, IsWhole, IsWholeFault, PartsJoin, nothing_kept, opening}
 use Rattle.cq_resume.specs.Resumed.{AfterFrom, IsOneResumed, IsResumed, IsResumedFault, Kept, RunsOn, kept_in, kept_on}
 
 -- ## What is kept
@@ -169,6 +169,19 @@ module _ (w : Switch) where
   one_kept : (from : Taken) (k l : Kept) → IsResumed w from k → IsResumed w from l → k ≡ l
   one_kept from k l x y =
       cc (one_on from.frozen.next (marked_in from.frozen) x.end y.end x.records y.records x.runs y.runs)
+
+  -- one that is stopped stands in one state, or met one tag fault
+  one_parted : (ranks : List (List ℕ)) (slots : ℕ) (a b : Taken) → IsParted w ranks slots a →
+      IsParted w ranks slots b → a ≡ b
+  one_parted ranks slots a b x y =
+      let same = one.run 0 (arriving_from w.came 0 slots) (opening w ranks) (marked_in a.frozen) (marked_in b.frozen)
+      x.records y.records x.runs y.runs in
+      grind (arith, common_steps)
+
+  one_parted_fault : (ranks : List (List ℕ)) (slots : ℕ) (u v : TagFault) → IsPartedFault w ranks slots u →
+      IsPartedFault w ranks slots v → u ≡ v
+  one_parted_fault ranks slots u v x y =
+      (one.stop 0 (arriving_from w.came 0 slots) (opening w ranks) x.0 y.0 u v x.1 y.1).1
 
   -- ## Where a run is over
 
@@ -375,3 +388,11 @@ parts_join = search (rules, part_is_run, part_resumes, part_is_whole, part_fault
 
 pub one_resumed : IsOneResumed
 one_resumed = record { kept = one_kept; fault = one_fault; never_both = never_both }
+
+pub one_part : IsOneParted
+one_part = record {
+  at = one_parted;
+  fault = one_parted_fault;
+  never_both = λ w ranks slots at fault x y. (one w).never_both 0 (arriving_from w.came 0 slots) (opening w ranks)
+      (marked_in at.frozen) x.records y.0 fault x.runs y.1;
+}

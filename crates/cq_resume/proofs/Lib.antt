@@ -16,3 +16,4 @@ pub mod Joining
 pub mod Pooled
 pub mod GoesOn
 pub mod ToldAgain
+pub mod OneAnswer

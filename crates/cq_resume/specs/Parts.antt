@@ -33,6 +33,21 @@ pub record IsParted (w : Switch) (ranks : List (List ℕ)) (slots : ℕ) (at : T
   pub runs : Runs w 0 (arriving_from w.came 0 slots) (opening w ranks) records (marked_in at.frozen)
   pub kept : kept_in at ≡ kept_on (nothing_kept w) 0 records
 
+-- one of these slots meets this tag fault
+abbrev pub IsPartedFault : Switch → List (List ℕ) → ℕ → TagFault → Type 0
+IsPartedFault w ranks slots fault =
+    (records : List LimitedRecord) × Stops w 0 (arriving_from w.came 0 slots) (opening w ranks) records fault
+
+-- After so many slots there is one answer: the run stands in one state with one thing kept, or met one tag fault, and
+-- never both.
+pub record IsOneParted : Type 0 where
+  pub at : (w : Switch) (ranks : List (List ℕ)) (slots : ℕ) (a b : Taken) → IsParted w ranks slots a →
+      IsParted w ranks slots b → a ≡ b
+  pub fault : (w : Switch) (ranks : List (List ℕ)) (slots : ℕ) (u v : TagFault) → IsPartedFault w ranks slots u →
+      IsPartedFault w ranks slots v → u ≡ v
+  pub never_both : (w : Switch) (ranks : List (List ℕ)) (slots : ℕ) (at : Taken) (u : TagFault) →
+      IsParted w ranks slots at → IsPartedFault w ranks slots u → ⊥
+
 -- the whole run, by what it keeps
 pub record IsWhole (w : Switch) (ranks : List (List ℕ)) (kept : Kept) : Type 0 where
   pub records : List LimitedRecord

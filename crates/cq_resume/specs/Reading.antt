@@ -1,5 +1,5 @@
 -- Which state a text is of, and why it is none.
-use Rattle.std.specs.Prelude.{◌≡◌, ℕ, List, map, length, ⊤}
+use Rattle.std.specs.Prelude.{◌≡◌, ◌≢◌, ℕ, List, map, length, ⊤}
 use Rattle.std.specs.List.{flat_map}
 use Rattle.cq_base.specs.declared.cell.Departure.{Departure}
 use Rattle.cq_base.specs.declared.cell.Queued.{Queued}
@@ -100,3 +100,13 @@ IsRefusal w text (refusal.Text line) = IsStateFault text line
 IsRefusal w text refusal.Shape = HasOtherShape w text
 IsRefusal w text (refusal.Unsound clause) = FailsFirst w text clause
 IsRefusal w text refusal.NoMemory = ⊤
+
+-- ## What holds of every text
+
+-- a text is read as one thing, or is refused for one thing, and never both; want of memory is no such thing
+pub record IsReadExact (w : Switch) : Type 0 where
+  pub one_state : (text : List ℕ) (x y : Taken) → IsRead w text x → IsRead w text y → x ≡ y
+  pub one_refusal : (text : List ℕ) (r s : StateRefusal) → r ≢ refusal.NoMemory → s ≢ refusal.NoMemory →
+      IsRefusal w text r → IsRefusal w text s → r ≡ s
+  pub never_refused : (text : List ℕ) (x : Taken) (r : StateRefusal) → IsRead w text x → IsRefusal w text r →
+      r ≡ refusal.NoMemory

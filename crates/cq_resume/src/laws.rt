@@ -1,11 +1,23 @@
-//! Runs in parts are runs, and from each state one run goes on.
-ghost use Rattle.cq_resume.specs.Terms.{IsOneResumed, PartsJoin};
+//! Runs in parts are runs, and of each text, stop and state there is one answer.
+ghost use Rattle.cq_resume.specs.Terms.{IsOneParted, IsOneResumed, IsReadExact, PartsJoin, Switch};
+
+/// A text is read as what one sound state comes to, or is refused for one thing, and never both; want of memory is no
+/// such thing. It does nothing: its contract is the claim.
+pub fn states_are_read_in_one_way()
+    ensures { (w : Switch) → IsReadExact w }
+{}
 
 /// A run that is stopped after any number of slots below 2^63 which meet no tag fault, and goes on from its state, is
 /// the run: it keeps the same, or both meet the same tag fault; and each comes to its end where the other does. It does
 /// nothing: its contract is the claim.
 pub fn parts_join()
     ensures { PartsJoin }
+{}
+
+/// After any number of slots a run stands in one state, and has kept one thing, or met one tag fault before, and never
+/// both. It does nothing: its contract is the claim.
+pub fn one_parted_run()
+    ensures { IsOneParted }
 {}
 
 /// From any state that was taken up there is one run: it keeps one thing to its end, or meets one tag fault, and never

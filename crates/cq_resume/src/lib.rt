@@ -22,7 +22,7 @@ mod write;
 
 pub use cq_laws::Frozen;
 pub use cq_state::StateLong;
-pub use laws::{one_resumed_run, parts_join};
+pub use laws::{one_parted_run, one_resumed_run, parts_join, states_are_read_in_one_way};
 pub use read::read_state;
 pub use refusal::StateRefusal;
 pub use taken::Taken;

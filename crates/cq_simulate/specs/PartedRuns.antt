@@ -1,10 +1,8 @@
 -- Runs of a configured switch in parts.
 use Rattle.std.specs.Prelude.{ℕ, List, ⊤}
-use Rattle.cq_ideal.specs.Ending.{arriving_from}
-use Rattle.cq_laws.specs.LimitedFabric.{LimitedRecord}
-use Rattle.cq_resume.specs.Parts.{opening}
+use Rattle.cq_resume.specs.Parts.{IsPartedFault}
 use Rattle.cq_resume.specs.Reading.{ComesTo}
-use Rattle.cq_resume.specs.Resumed.{IsResumedFault, Kept, Stops}
+use Rattle.cq_resume.specs.Resumed.{IsResumedFault, Kept}
 use Rattle.cq_resume.specs.Switch.{Switch}
 use Rattle.cq_resume.specs.declared.taken.Taken.{Taken}
 use Rattle.cq_simulate.specs.declared.fabric_run.FabricRun.{FabricRun as Run}
@@ -24,8 +22,7 @@ kept_of run =
 
 -- the run meets this tag fault in one of the slots before the last; want of memory may come at any time
 abbrev pub IsPartFault : Switch → List (List ℕ) → ℕ → RunRefusal → Type 0
-IsPartFault w ranks slots (refusal.Tag fault) =
-    (records : List LimitedRecord) × Stops w 0 (arriving_from w.came 0 slots) (opening w ranks) records fault
+IsPartFault w ranks slots (refusal.Tag fault) = IsPartedFault w ranks slots fault
 IsPartFault w ranks slots refusal.NoMemory = ⊤
 
 -- the resumed run meets it

@@ -25,7 +25,7 @@ unfoldable pub use Rattle.cq_ideal.specs.IdealSlot.{all_told, departures_in, ide
 pub use Rattle.cq_ideal.specs.Ranking.{AreForPorts, Ranking, ranking}
 pub use Rattle.cq_ideal.specs.Refused.{refused_counts, refused_in, with_refused}
 unfoldable pub use Rattle.cq_ideal.specs.Refused.{cells_refused, packets_refused}
-pub use Rattle.cq_state.specs.State.{AreRankNumbers, IsInRange, IsMoved, IsNamed, IsSeen, IsSent, state_lines, state_text}
+pub use Rattle.cq_state.specs.State.{AreRankNumbers, IsInRange, IsMoved, IsNamed, IsSeen, IsSent, state_text}
 pub use Rattle.cq_state.specs.{declared.state.Named.Named, declared.state.Sent.Sent, declared.state.State.State}
 pub use Rattle.cq_prefs.specs.FirstCells.{list_of, orders_of}
 pub use Rattle.cq_prefs.specs.Pairing.{IsInputBest, IsStable, Partners, proposals}
@@ -52,10 +52,10 @@ pub use Rattle.cq_resume.specs.Counted.{departure_of, input_told, is_refused, ma
 unfoldable pub use Rattle.cq_resume.specs.Counted.{figures_told, frozen_told}
 pub use Rattle.cq_resume.specs.Finding.{ArePackets, ComeBehind, IsLine, IsWholePacket, coming, has_limit, has_name, is_left_out, left_out, mark_on, unnamed}
 pub use Rattle.cq_resume.specs.Parts.{IsParted, IsWhole, opening}
-pub use Rattle.cq_resume.specs.Reading.{IsRefusal, named_as, seen_as, sent_as}
+pub use Rattle.cq_resume.specs.Reading.{IsRead, named_as, seen_as, sent_as}
 unfoldable pub use Rattle.cq_resume.specs.Reading.{state_of}
 pub use Rattle.cq_resume.specs.Resumed.{Kept, Runs}
-pub use Rattle.cq_resume.specs.Sound.{AllNamed, AreArrivals, AreBelowFloors, AreWholePackets, Clause, HaveSlack, IsBelowFloor, IsBufferedBefore, IsMovedBefore, IsSound, KeepArrivalOrder, NoneNamed, OfOneFlow, StandInOrder}
+pub use Rattle.cq_resume.specs.Sound.{AllNamed, AreArrivals, AreBelowFloors, AreWholePackets, HaveSlack, IsBelowFloor, IsBufferedBefore, IsMovedBefore, KeepArrivalOrder, NoneNamed, OfOneFlow, StandInOrder}
 pub use Rattle.cq_resume.specs.Switch.{HasLimit, HasShape, IsScheduleOf, Switch, switch_of}
 pub use Rattle.cq_resume.specs.Told.{arriving_cell, buffer_told, class_in, class_of, is_ahead, is_named, key_of, list_told, named_in, output_in, output_of, packet_before, queued_in, queued_of}
 unfoldable pub use Rattle.cq_resume.specs.Told.{fabric_told}
@@ -78,11 +78,10 @@ pub use Rattle.cq_ideal.proofs.EnoughSlots.{waiting-empty}
 pub use Rattle.cq_ideal.proofs.{Ends.nothing_left, FlowCount.come_count-first, FlowPut.NoLater, FlowPut.in_order_put, LastSlot.slots_of-append, Packets.refused_here, Parted.arriving_length, Refusals.counts_more}
 pub use Rattle.cq_ideal.specs.{Limiter.where_up, declared.refused.Refused.Refused}
 pub use Rattle.cq_state.specs.declared.state.Seen.{Seen}
-pub use Rattle.cq_state.proofs.{OneReading.state_is_exact, OneText.have_one_text}
 pub use Rattle.cq_laws.proofs.{AfterDepartures.sent_buffer, AfterTransfer.moved_has, Falls.rest_of, IdealLists.among_put_all, IdealLists.list_after, IdealLists.put_all_keeps, IdealLists.put_all_new, InputBest.stable_slot, InputBest.stable_limited_run, LimitedSlots.admission_for_ports, Rises.partner_offers, Rises.sender, WholeRuns.empty_together, WholeRuns.empty_list}
 pub use Rattle.cq_laws.specs.SlotBySlot.{RunBy}
 pub use Rattle.cq_resume.proofs.{Coming.is_between, Coming.one_comes, Judging.mapped_alike, Scheduling.schedule_known, Tallied.whole, Upheld.all_marks, Upheld.all_stand, Walking.cells_in}
-pub use Rattle.cq_resume.specs.{declared.found.Name.Name, declared.refusal.StateRefusal.StateRefusal}
+pub use Rattle.cq_resume.specs.declared.found.Name.{Name}
 pub use Rattle.cq_traffic.proofs.{ForPorts.arrivals_for, ForPorts.place_of}
 pub use Rattle.cq_simulate.proofs.{FabricSteps.all_wait, OnceASlot.AreNumbered, Tallies.all_in_row}
 pub use Rattle.cq_simulate.proofs.{Departed.all_cells, OnceASlot.limited_numbered, Runnable.keeps_laws, Runnable.kind, Runnable.machine_is, Runnable.right_classes, Runnable.right_size}

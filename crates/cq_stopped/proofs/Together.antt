@@ -3,9 +3,10 @@
 -- of its cell; the figures, since as many names are of an input as cells came to it; and the marks and the counts,
 -- since the arrivals that are not named are those that were refused. The text of that state is read as what was left,
 -- so what goes on from there is the run.
-use Rattle.cq_stopped.proofs.Terms.{rules, ◌≡◌, ℕ, zero, suc, ◌+◌, ◌-◌, ◌<◌, ◌≤◌, ◌^◌, List, [], ◌∷◌, length, map, fold, min, max, refl, sym, ap, ◌∙◌, arith, common_steps, length-map, length-map-range_with_len, AllByRecursion, enumerate_from, flat_map, slice_index_or, Queued, Scheduled, arriving_from, departures_of, Fabric, cushion_of, input, SlotRecord, fabric_in, marked_in, LimitedRecord, slots_in, figures_of, input_figures, slacks, gone_in, list_of, each_pair, EachPair, all_both, Differ, Has, all_from_has, all_of_has, has_image, has_left, has_right, image_has, figures_told, frozen_told, taken_of, opening, IsWhole, IsParted, seen_as, sent_as, state_of, IsRefusal, Kept, Runs, Clause, IsSound, Switch, switch_of, named_in, queued_in, Taken, ports_of, Tables, machine_of, openings_of, AreRankNumbers, IsInRange, IsNamed, IsSeen, IsSent, state_lines, state_text, Named, Sent, State, told_state, CanBeTakenUp, StoppedRunsAreSound, few_kept, of_images, all_weaker, transfers_of_run, Transfer, written_in_run, arriving_length, counts_more, figures_fold, stable_limited_run, empty_list, StateRefusal, limited_numbered, IsFabricRun, refused_in_run, state_is_exact, have_one_text}
+use Rattle.cq_stopped.proofs.Terms.{rules, ◌≡◌, ℕ, zero, suc, ◌+◌, ◌-◌, ◌<◌, ◌≤◌, ◌^◌, List, [], ◌∷◌, length, map, fold, min, max, refl, sym, ap, ◌∙◌, arith, common_steps, length-map, length-map-range_with_len, AllByRecursion, enumerate_from, flat_map, slice_index_or, Queued, Scheduled, arriving_from, departures_of, Fabric, cushion_of, input, SlotRecord, fabric_in, marked_in, LimitedRecord, slots_in, figures_of, input_figures, slacks, gone_in, list_of, each_pair, EachPair, all_both, Differ, Has, all_from_has, all_of_has, has_image, has_left, has_right, image_has, figures_told, frozen_told, taken_of, opening, IsWhole, IsParted, seen_as, sent_as, state_of, IsRead, Kept, Runs, Switch, switch_of, named_in, queued_in, Taken, ports_of, Tables, machine_of, openings_of, AreRankNumbers, IsInRange, IsNamed, IsSeen, IsSent, state_text, Named, Sent, State, told_state, CanBeTakenUp, StoppedRunsAreSound, few_kept, of_images, all_weaker, transfers_of_run, Transfer, written_in_run, arriving_length, counts_more, figures_fold, stable_limited_run, empty_list, limited_numbered, IsFabricRun, refused_in_run}
 use Rattle.cq_audit.proofs.Following.{run_within as of_its_slots}
 use Rattle.cq_resume.proofs.Joining.{parts_join as join}
+use Rattle.cq_resume.proofs.OneAnswer.{read_exact}
 use Rattle.cq_stopped.proofs.Beside.{all_proposed, most_of_all, IsRecordedWithin, RunsWithin, empty_within, run_within}
 use Rattle.cq_stopped.proofs.Configured.{AreLow, IsConfigured, configured}
 use Rattle.cq_stopped.proofs.Joined.{all_made}
@@ -15,7 +16,6 @@ use Rattle.cq_stopped.proofs.Standing.{is_of_one, state_sized, states_many, fabr
 use Rattle.cq_stopped.proofs.Stepping.{Ended, stopped_is}
 use Rattle.cq_stopped.proofs.Walk.{counts_are, marks_are, packets_are}
 use Rattle.cq_stopped.specs.Read.{kept_in_run, IsReadAs, ReadRunsGoOn, StoppedRunsAreRead}
-use Rattle.cq_resume.specs.declared.refusal.StateRefusal.TheVariants as refusal
 
 -- ## Figures of inputs
 
@@ -198,33 +198,18 @@ module _ (w : Switch) (ranks : List (List ℕ)) (configured : IsConfigured w ran
 pub stopped_runs_are_sound : StoppedRunsAreSound
 stopped_runs_are_sound t s slots at made tables recorded early parted = search (rules, can_be_taken_up, configured)
 
--- ## It is read as itself. Two states in range with one text are one, so the text is that of no other state; and that
--- one is of the switch's shape and sound.
+-- ## It is read as itself: its text is that of a state that comes to it, and a text has one answer.
 
-each_clause : (w : Switch) (s : State) → IsSound w s → (k : ℕ) → Clause w s k
-each_clause w s sound zero = tt
-each_clause w s sound (suc zero) = sound.arrivals
-each_clause w s sound (suc (suc zero)) = sound.order
-each_clause w s sound (suc (suc (suc zero))) = sound.slack
-each_clause w s sound (suc (suc (suc (suc zero)))) = sound.packets
-each_clause w s sound (suc (suc (suc (suc (suc zero))))) = sound.flows
-each_clause w s sound (suc (suc (suc (suc (suc (suc zero)))))) = sound.floors
-each_clause w s sound (suc (suc (suc (suc (suc (suc (suc k))))))) = tt
-
-module _ (w : Switch) (at : Taken) (can : CanBeTakenUp w at) where
-  -- a state in range with this text is this state
-  one_state : (s : State) → IsInRange s → state_text s ≡ state_text (told_state w at) → s ≡ told_state w at
-  one_state s in_range spelled = have_one_text.one_state s (told_state w at) in_range can.in_range spelled
-
-  never_refused : (r : StateRefusal) → IsRefusal w (state_text (told_state w at)) r → r ≡ refusal.NoMemory
-  never_refused (refusal.Text line) fault = absurd (state_is_exact.never_both (state_lines (told_state w at)) _ line
-      (have_one_text.allowed (told_state w at) can.in_range) fault)
-  never_refused refusal.Shape other = grind (arith, common_steps, other.other, one_state)
-  never_refused (refusal.Unsound clause) unsound = search (rules, unsound.unsound.fails, one_state, each_clause)
-  never_refused refusal.NoMemory memory = refl
-
-  read_as : IsReadAs w (state_text (told_state w at)) at
-  read_as = grind (arith, common_steps, one_state, never_refused)
+read_as : (w : Switch) (at : Taken) → CanBeTakenUp w at → IsReadAs w (state_text (told_state w at)) at
+read_as w at can =
+    let exact = read_exact w in
+    let read : IsRead w (state_text (told_state w at)) at =
+    record { state = told_state w at; spelled = refl; comes = can } in
+    record {
+      read = read;
+      alone = λ x other. exact.one_state _ x at other read;
+      never_refused = λ r no. exact.never_refused _ at r read no;
+    }
 
 pub stopped_runs_are_read : StoppedRunsAreRead
 stopped_runs_are_read t s slots at made tables recorded early parted = search (rules, read_as, stopped_runs_are_sound)
