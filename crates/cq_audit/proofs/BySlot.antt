@@ -2,7 +2,7 @@
 -- first, and those of its phases are among the others.
 -- The lines of a log, phase by phase. They are in order, so where none is of an earlier phase those of this one
 -- stand at the front, in order of input, and the others are of later ones.
-use Rattle.cq_audit.proofs.Terms.{rules, ◌≡◌, ℕ, ◌+◌, ◌<◌, ◌≤◌, Bool, true, false, List, [], ◌∷◌, ◌++◌, refl, arith, suc, ◌-◌, ◌⊎◌, take, drop, ap, ⊎_elim, common_steps, AllByRecursion, filter, position_or_len, and_from, and_left, and_parts, and_right, cases_lt, cond-false, cond_both, eq-eqb, eqb-true, false_from_ne_true, le-ltb, lt-ltb, ltb-true, ne_eqb, cases_Bool, append-nil, append_cancel_left, filter-append, Transfer, AreInOrder, IsBefore, IsOf, AllBehind, NoneBefore, in_phase, is_at, AreParted, FirstIsLeast, before_slot, all_weaker, not, first_here, first_later, all_front}
+use Rattle.cq_audit.proofs.Terms.{rules, ◌≡◌, ℕ, ◌+◌, ◌<◌, ◌≤◌, Bool, true, false, List, [], ◌∷◌, ◌++◌, refl, arith, suc, ◌-◌, ◌⊎◌, take, drop, ap, ⊎_elim, common_steps, AllByRecursion, filter, position_or_len, and_from, and_left, and_parts, and_right, cases_lt, cond-false, cond_both, eq-eqb, eqb-true, false_from_ne_true, le-ltb, lt-ltb, ltb-true, ne_eqb, cases_Bool, append-nil, append_cancel_left, filter-append, Transfer, AreInOrder, IsTransferBefore, IsOf, AllBehind, NoneBefore, in_phase, is_at, AreParted, FirstIsLeast, before_slot, all_weaker, not, first_here, first_later, all_front}
 
 pub all_give : {X : Type 0} (P Q S : X → Type 0) → ((x : X) → P x → Q x → S x) → (xs : List X) →
     AllByRecursion P xs → AllByRecursion Q xs → AllByRecursion S xs
@@ -128,20 +128,20 @@ module _ (ports : ℕ) where
 module _ (ports slot phase : ℕ) where
   -- a line of this phase, and one behind it that is not earlier
   at_front : (t : Transfer) (rest lines behind : List Transfer) → is_at slot phase t ≡ true → IsOf ports t →
-      AllByRecursion (IsBefore t) rest → AreParted ports slot phase rest lines behind →
+      AllByRecursion (IsTransferBefore t) rest → AreParted ports slot phase rest lines behind →
       AreParted ports slot phase (t ∷ rest) (t ∷ lines) behind
   at_front t rest lines behind here of later had =
       let both = and_parts _ _ here in
       let own_slot = eqb-true t.slot slot both.0 in
       let own_phase = eqb-true t.phase phase both.1 in
-      let front = all_front (IsBefore t) lines behind (rw had.whole at later) in
+      let front = all_front (IsTransferBefore t) lines behind (rw had.whole at later) in
       let rise = all_give _ _ (λ u. t.input < u.input) (λ u before now. grind arith) lines front had.of_phase.now in
       let own : in_phase slot phase (t ∷ rest) ≡ t ∷ in_phase slot phase rest = grind (arith, common_steps) in
       search (arith, rules)
 
   -- a line behind this phase has only lines behind it behind it
   all_behind : (t : Transfer) (rest : List Transfer) → (slot < t.slot) ⊎ ((slot ≡ t.slot) × (phase < t.phase)) →
-      AllByRecursion (IsBefore t) rest → AllBehind slot phase rest
+      AllByRecursion (IsTransferBefore t) rest → AllBehind slot phase rest
   all_behind t rest behind = all_weaker _ _ (λ u after. grind arith) rest
 
   none_of_it : (rest : List Transfer) → AllBehind slot phase rest → in_phase slot phase rest ≡ []

@@ -2,7 +2,7 @@
 -- of a transfer begins with its slot, and the fields behind that are the other numbers. They leave no choice of the
 -- transfer.
 -- The lines of a log that was read are in order: each is behind the one before it, and so behind all before it.
-use Rattle.cq_audit.proofs.Terms.{ap, rules, ◌≡◌, ℕ, List, [], ◌++◌, length, Option, None, Some, refl, append_assoc, length-append, arith, ◌∷◌, common_steps, Transfer, log_line, IfSome, ⊤, IsTransfer, IsOf, IsBefore, Comes, IsLogExact, numbers_behind, AreInOrder, IsLog, AllByRecursion, Leads, all_weaker, ending, BeginsWith, one_number, ending_ends, one_ending}
+use Rattle.cq_audit.proofs.Terms.{ap, rules, ◌≡◌, ℕ, List, [], ◌++◌, length, Option, None, Some, refl, append_assoc, length-append, arith, ◌∷◌, common_steps, Transfer, log_line, IfSome, ⊤, IsTransfer, IsOf, IsTransferBefore, Comes, IsLogExact, numbers_behind, AreInOrder, IsLog, AllByRecursion, Leads, all_weaker, ending, BeginsWith, one_number, ending_ends, one_ending}
 use Rattle.cq_lines.proofs.Exact.{exact}
 
 pub begins_with_slot : (text more : List ℕ) (t : Transfer) → text ≡ log_line t ++ more →
@@ -31,7 +31,7 @@ one_log_line t u x y is_t is_u e =
 
 -- the transfer whose line stands there may not come, so none may
 pub none_comes : (text behind : List ℕ) (ports : ℕ) (last : Option Transfer) (t : Transfer) →
-    IsTransfer t × (text ≡ log_line t ++ behind) → (IsOf ports t × IfSome last (λ u. IsBefore u t) → ⊥) →
+    IsTransfer t × (text ≡ log_line t ++ behind) → (IsOf ports t × IfSome last (λ u. IsTransferBefore u t) → ⊥) →
     (u : Transfer) (next : Option Transfer) (more : List ℕ) → Comes ports last u next → text ≡ log_line u ++ more → ⊥
 none_comes text behind ports last t stands may_not u next more comes e = grind (arith, common_steps, one_log_line)
 
@@ -42,13 +42,13 @@ log_is_exact ports = exact log_line (Comes ports) (λ _. ⊤) (record {
   some = λ p q t more step e. let size = ap length e in grind (arith, common_steps, append_assoc, length-append);
 }) None (λ _. ⊤) tt
 
-all_before : (t u : Transfer) (note : List Transfer) → IsBefore t u → AllByRecursion (IsBefore u) note →
-    AllByRecursion (IsBefore t) note
+all_before : (t u : Transfer) (note : List Transfer) → IsTransferBefore t u → AllByRecursion (IsTransferBefore u) note →
+    AllByRecursion (IsTransferBefore t) note
 all_before t u note first = grind (arith, common_steps, all_weaker)
 
 -- what comes behind a line, if there is one, is behind it
 leads_in_order : (ports : ℕ) (last end : Option Transfer) (note : List Transfer) → Leads (Comes ports) last note end →
-    AreInOrder ports note × IfSome last (λ t. AllByRecursion (IsBefore t) note)
+    AreInOrder ports note × IfSome last (λ t. AllByRecursion (IsTransferBefore t) note)
 leads_in_order ports last end [] leads = grind (arith, common_steps)
 leads_in_order ports last end (t ∷ note) leads =
     grind (arith, common_steps, all_before, leads_in_order ports (Some t) end note (rw leads.1.3 at leads.2))

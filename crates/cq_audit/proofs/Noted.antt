@@ -2,7 +2,7 @@
 -- before it: by its input in a phase, by its phase in a slot, and by its slot. A cell that waits at an input came to
 -- it and keeps its numbers. So where all cells that come fit the numbers of a line, the transfers of a run are those
 -- of a log.
-use Rattle.cq_audit.proofs.Terms.{common_steps, rules, ◌≡◌, ℕ, zero, suc, ◌+◌, ◌<◌, ◌≤◌, ◌^◌, List, [], ◌∷◌, ◌++◌, length, Option, None, Some, refl, arith, IfSome, AllByRecursion, filter_map, range_with_len, eqb-true, Cell, Queued, Transfer, arrival_at, Arrival, arriving, first_for, is_for, log_of, all_at, all_insert, all_left, IsInRange, IsTraffic, Machine, Marked, admission, arriving_from, admitted_arrives, list_of, noted, transfers_of, IsStable, Partners, partner_of, Fabric, IsEmptyFabric, input, FabricSlot, SlotRecord, LimitedFabricRun, LimitedFabricSlot, LimitedRecord, fabric_admission, slots_in, Arrives, Transfers, transfers_in, transfers_of_run, run_of_whole, Leads, one_found, Comes, IsLog, StableRun, IsTransfer, IsOf, IsBefore, all_weaker, all_both, all_found, came_from, first_at}
+use Rattle.cq_audit.proofs.Terms.{common_steps, rules, ◌≡◌, ℕ, zero, suc, ◌+◌, ◌<◌, ◌≤◌, ◌^◌, List, [], ◌∷◌, ◌++◌, length, Option, None, Some, refl, arith, IfSome, AllByRecursion, filter_map, range_with_len, eqb-true, Cell, Queued, Transfer, arrival_at, Arrival, arriving, first_for, is_for, log_of, all_at, all_insert, all_left, IsInRange, IsTraffic, Machine, Marked, admission, arriving_from, admitted_arrives, list_of, noted, transfers_of, IsStable, Partners, partner_of, Fabric, IsEmptyFabric, input, FabricSlot, SlotRecord, LimitedFabricRun, LimitedFabricSlot, LimitedRecord, fabric_admission, slots_in, Arrives, Transfers, transfers_in, transfers_of_run, run_of_whole, Leads, one_found, Comes, IsLog, StableRun, IsTransfer, IsOf, IsTransferBefore, all_weaker, all_both, all_found, came_from, first_at}
 use Rattle.cq_audit.proofs.BySlot.{all_give}
 use Rattle.cq_audit.proofs.Following.{all_noted, run_later, slot_at, transfers_at}
 use Rattle.cq_traffic.proofs.ForPorts.{place_of}
@@ -42,23 +42,25 @@ first_tellable ports i j cells c all is =
 -- the transfers fit lines and cross a switch of so many ports, each behind those before it
 abbrev pub AreWritten : ℕ → List Transfer → Type 0
 AreWritten ports [] = Unit {0}
-AreWritten ports (t ∷ note) = IsTransfer t × IsOf ports t × AllByRecursion (IsBefore t) note × AreWritten ports note
+AreWritten ports (t ∷ note) =
+    IsTransfer t × IsOf ports t × AllByRecursion (IsTransferBefore t) note × AreWritten ports note
 
 module _ (ports : ℕ) where
   -- behind the line before them they lead on
   leads_written : (last : Option Transfer) (note : List Transfer) → AreWritten ports note →
-      IfSome last (λ u. AllByRecursion (IsBefore u) note) → (end : Option Transfer) × Leads (Comes ports) last note end
+      IfSome last (λ u. AllByRecursion (IsTransferBefore u) note) →
+      (end : Option Transfer) × Leads (Comes ports) last note end
   leads_written last [] are first = (last, refl)
   leads_written last (t ∷ note) are first =
       let rest = leads_written (Some t) note are.3 are.2 in
       let comes : Comes ports last t (Some t) = grind (arith, common_steps) in (rest.0, (Some t, comes, rest.1))
 
-  both_written : (P Q : Transfer → Type 0) → ((t u : Transfer) → P t → Q u → IsBefore t u) → (xs ys : List Transfer) →
-      AllByRecursion P xs → AllByRecursion Q ys → AreWritten ports xs → AreWritten ports ys →
-      AreWritten ports (xs ++ ys)
+  both_written : (P Q : Transfer → Type 0) → ((t u : Transfer) → P t → Q u → IsTransferBefore t u) →
+      (xs ys : List Transfer) → AllByRecursion P xs → AllByRecursion Q ys → AreWritten ports xs →
+      AreWritten ports ys → AreWritten ports (xs ++ ys)
   both_written P Q before [] ys first later a b = b
   both_written P Q before (x ∷ xs) ys first later a b =
-      let behind = all_both (IsBefore x) xs ys a.2 (all_weaker Q _ (λ u. before x u first.0) ys later) in
+      let behind = all_both (IsTransferBefore x) xs ys a.2 (all_weaker Q _ (λ u. before x u first.0) ys later) in
       (a.0, a.1, behind, both_written P Q before xs ys first.1 later a.3 b)
 
   -- what is noted of an input
@@ -78,7 +80,7 @@ module _ (ports : ℕ) where
     inputs_written h each a (suc n) =
         let rest = inputs_written h each (a + 1) n in
         let later : (t : Transfer) → h a ≡ Some t →
-        AllByRecursion (IsBefore t) (filter_map h (range_with_len (a + 1) n)) =
+        AllByRecursion (IsTransferBefore t) (filter_map h (range_with_len (a + 1) n)) =
         λ t is. all_noted h _ (a + 1) n (λ i u low e. let x = each a t is in let y = each i u e in grind arith) in
         grind (arith, common_steps, each a)
 

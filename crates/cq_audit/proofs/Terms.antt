@@ -47,7 +47,7 @@ pub use Rattle.cq_fabric.specs.Queues.{ComeApart, FitLists, Queues, fabric_of}
 pub use Rattle.cq_traffic.proofs.ForPorts.{arrivals_for, one_found, slots_fit}
 pub use Rattle.cq_traffic.proofs.FromInputs.{arrives_found, come_from, first_more, from_here, from_last, no_more_from, one_if, some_one}
 pub use Rattle.cq_traffic.proofs.Quiet.{quiet_of, quiet_slots}
-pub use Rattle.cq_audit.specs.Terms.{AreInOrder, Cell, Comes, FirstIsLeast, IsBefore, IsLog, IsLogExact, IsLogFault, IsOf, IsReady, IsStill, IsStillUntil, IsTransfer, Machine, RunEnds, Setup, Transfer, numbers_behind}
+pub use Rattle.cq_audit.specs.Terms.{AreInOrder, Cell, Comes, FirstIsLeast, IsLog, IsLogExact, IsLogFault, IsOf, IsReady, IsStill, IsStillUntil, IsTransfer, IsTransferBefore, Machine, RunEnds, Setup, Transfer, numbers_behind}
 pub use Rattle.cq_base.proofs.Each.{all_both, all_front, all_weaker}
 pub use Rattle.cq_base.specs.declared.cell.CellId.{CellId}
 pub use Rattle.cq_scfq.specs.Discipline.{machine_from}

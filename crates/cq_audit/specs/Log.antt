@@ -1,9 +1,10 @@
 -- The log of a run: its transfers, one line each, in order.
-use Rattle.std.specs.Prelude.{◌≡◌, ℕ, ◌<◌, ◌≤◌, ◌^◌, ◌⊎◌, List, [], ◌∷◌, Option, None, Some, IfSome, ⊤}
+use Rattle.std.specs.Prelude.{◌≡◌, ℕ, ◌<◌, ◌≤◌, ◌^◌, List, [], ◌∷◌, Option, None, Some, IfSome, ⊤}
 use Rattle.std.specs.List.{AllByRecursion}
 use Rattle.cq_base.specs.declared.cell.Transfer.{Transfer}
 use Rattle.cq_base.specs.Texts.{log_line}
 use Rattle.cq_lines.specs.Texts.{IsText, IsFirstFault, IsExact}
+use Rattle.cq_lines.specs.Transfers.{IsTransferBefore}
 
 -- what a transfer can hold; its cell is one of the input that it leaves
 pub record IsTransfer (t : Transfer) : Type 0 where
@@ -25,19 +26,14 @@ pub record IsOf (ports : ℕ) (t : Transfer) : Type 0 where
 abbrev pub numbers_behind : Transfer → List (Option ℕ)
 numbers_behind t = Some t.phase ∷ Some t.input ∷ Some t.output ∷ Some t.id.packet ∷ Some t.id.index ∷ []
 
--- one transfer is before another: by slot, then phase, then input
-abbrev pub IsBefore : Transfer → Transfer → Type 0
-IsBefore t u = (t.slot < u.slot) ⊎ ((t.slot ≡ u.slot) × ((t.phase < u.phase) ⊎ ((t.phase ≡ u.phase) × (t.input <
-    u.input))))
-
 -- the transfers cross a switch of so many ports, each behind those before it
 abbrev pub AreInOrder : ℕ → List Transfer → Type 0
 AreInOrder ports [] = Unit {0}
-AreInOrder ports (t ∷ note) = IsOf ports t × AllByRecursion (IsBefore t) note × AreInOrder ports note
+AreInOrder ports (t ∷ note) = IsOf ports t × AllByRecursion (IsTransferBefore t) note × AreInOrder ports note
 
 -- where a line comes is told by the transfer of the line before it, if there is one: a later transfer may come
 abbrev pub Comes : ℕ → Option Transfer → Transfer → Option Transfer → Type 0
-Comes ports last t next = IsTransfer t × IsOf ports t × IfSome last (λ u. IsBefore u t) × (next ≡ Some t)
+Comes ports last t next = IsTransfer t × IsOf ports t × IfSome last (λ u. IsTransferBefore u t) × (next ≡ Some t)
 
 -- the bytes are the log text of these transfers
 abbrev pub IsLog : ℕ → List Transfer → List ℕ → Type 0

@@ -3,10 +3,10 @@ pub use Rattle.cq_base.specs.Arriving.{end_of, Arrival}
 pub use Rattle.cq_base.specs.{Texts.log_line, declared.cell.Cell.Cell, declared.cell.Transfer.Transfer, declared.setup.Setup.Setup}
 pub use Rattle.cq_rank.specs.{Machine.Machine, Switch.AreForOneSwitch}
 pub use Rattle.cq_ideal.specs.Admission.{Marked}
-pub use Rattle.cq_lines.specs.Refusals.{IsCause}
+pub use Rattle.cq_lines.specs.{Refusals.IsCause, Transfers.IsTransferBefore}
 pub use Rattle.cq_audit.specs.Audit.{CanBeAudited, IsNo, IsYes, IsAuditExact}
 pub use Rattle.cq_audit.specs.Crossing.{AreNoted, HaveCrossed}
-pub use Rattle.cq_audit.specs.Log.{AreInOrder, IsLog, IsLogExact, IsLogFault, IsOf, IsTransfer, IsBefore, Comes, numbers_behind}
+pub use Rattle.cq_audit.specs.Log.{AreInOrder, IsLog, IsLogExact, IsLogFault, IsOf, IsTransfer, Comes, numbers_behind}
 pub use Rattle.cq_audit.specs.{Pairs.CanBeJoined, StableRun.StableRun, declared.refusal.AuditRefusal.TheVariants.Left}
 pub use Rattle.cq_audit.specs.Phase.{NoneBefore, IsBlocking, IsFirstBlocking, AreOfPhase, IsPhaseFault, IsPhaseExact, AreParted, is_at, IsStableTold, in_phase, AreRight, IsFirstWrong, first_id, line_of_input, told}
 pub use Rattle.cq_audit.specs.Replay.{HasRested, IsInStep, ports_in, CanCome, CanReplay, IsSlotFault, SlotReplayed, refusal_of, shown}

@@ -1,6 +1,6 @@
 //! A line of the log.
 ghost use Rattle.std.specs.Prelude.{◌≡◌, ◌≢◌, ◌↔◌, ℕ, List, ◌++◌, Option, IfSome, IfNone, IsTrue, Some};
-ghost use Rattle.cq_audit.specs.Terms.{log_line, IsTransfer, IsOf, IsBefore, Comes, numbers_behind};
+ghost use Rattle.cq_audit.specs.Terms.{log_line, IsTransfer, IsOf, IsTransferBefore, Comes, numbers_behind};
 
 use cq_base::{CellId, Transfer};
 use cq_lines::{take_fields, take_number};
@@ -63,7 +63,7 @@ fn transfer_of(slot: u128, fields: &[Option<u128>]) -> Option<Transfer>
 
 // Whether it crosses a switch of so many ports, and comes behind the last one, if there is one.
 fn may_come(ports: u16, last: Option<Transfer>, transfer: &Transfer) -> bool
-    ensures { IsTrue result ↔ (IsOf ports transfer.now × IfSome last (λ u. IsBefore u transfer.now)) }
+    ensures { IsTrue result ↔ (IsOf ports transfer.now × IfSome last (λ u. IsTransferBefore u transfer.now)) }
 {
     is_of(ports, transfer) && may_follow(last, transfer)
 }
@@ -75,7 +75,7 @@ fn is_of(ports: u16, transfer: &Transfer) -> bool
 }
 
 fn may_follow(last: Option<Transfer>, transfer: &Transfer) -> bool
-    ensures { IsTrue result ↔ IfSome last (λ u. IsBefore u transfer.now) }
+    ensures { IsTrue result ↔ IfSome last (λ u. IsTransferBefore u transfer.now) }
 {
     match last {
         Some(last) => {

@@ -20,13 +20,13 @@ pub use Rattle.cq_laws.specs.Frozen.{AreCountsOf, AreOwn, HasPorts, IsSoundFabri
 pub use Rattle.cq_resume.specs.Counted.{IsTally, departure_of, input_told, latest, output_told, refused_arrivals, sent_told, taken_of}
 unfoldable pub use Rattle.cq_resume.specs.Counted.{figures_told, frozen_told}
 pub use Rattle.cq_resume.specs.Finding.{AreFound, AreGone, ArePackets, BuffersStand, ComeBehind, ComesNext, FlowsStand, InOneFlow, IsBufferedBefore, IsBufferedBefore as IsFoundBefore, IsFound, IsGone, IsLine, IsListedBefore, IsNameBefore, IsNameNotAfter, IsNoLaterInput, IsSentBefore, IsSentBefore as IsGoneBefore, IsTimely, IsTold, IsWholePacket, Leaves, LeavesEarlier, ListsStand, PacketsStand, SentStand, SlackStands, SomeMissed, StandsBelow, TalliesUp, begins_at, coming, cushion_in, firsts_before, has_limit, has_name, is_left_out, left_out, mark_on, may_come, names_of, sent_name, thread_in, told_of, unnamed, waiting_name}
-pub use Rattle.cq_resume.specs.Sound.{AllNamed, AreArrivals, AreBelowFloors, AreWholePackets, Clause, HaveSlack, IsBelowFloor, IsFirstOf, IsFirstUnsound, IsForPorts, IsMovedBefore, IsSound, KeepArrivalOrder, NoneNamed, OfOneFlow, StandInOrder}
+pub use Rattle.cq_resume.specs.Sound.{AllNamed, AreArrivals, AreBelowFloors, AreWholePackets, Clause, HaveSlack, IsBelowFloor, IsFirstOf, IsFirstUnsound, IsForPorts, IsSound, KeepArrivalOrder, NoneNamed, OfOneFlow, StandInOrder}
 pub use Rattle.cq_resume.specs.Steps.{AreCellsFor, AreNamesFor, AreOrdered, HaveRoom, IsCellFor, IsFirstOfTwo, StandBelow}
 pub use Rattle.cq_resume.specs.Switch.{HasLimit, HasShape, IsScheduleOf, Switch, switch_of}
 pub use Rattle.cq_resume.specs.Told.{arriving_cell, buffer_told, is_ahead, is_named, key_of, list_told, named_in, output_in, output_of, packet_before, queued_in, queued_of}
 unfoldable pub use Rattle.cq_resume.specs.Told.{fabric_told}
 pub use Rattle.cq_resume.specs.{declared.found.Found.Found, declared.found.Gone.Gone, declared.found.Name.Name, declared.packets.Tally.Tally, declared.taken.Taken.Taken}
-pub use Rattle.cq_resume.specs.Terms.{AreTables, CanCount, CanTakeUp, classes_of, departed, figures_at_input, machine_of, machines_of, named_as, ports_of, with_departure}
+pub use Rattle.cq_resume.specs.Terms.{AreTables, CanCount, CanTakeUp, IsTransferBefore, classes_of, departed, figures_at_input, machine_of, machines_of, named_as, ports_of, with_departure}
 pub use Rattle.cq_base.proofs.Each.{all_back, all_both, all_front, all_weaker, few_kept, images_held, of_images}
 pub use Rattle.cq_base.specs.{Arrivals.no_arrivals, declared.cell.TagFault.TagFault, declared.figures.InputFigures.InputFigures, declared.key.Key.Key, declared.setup.ClassRow.ClassRow, declared.setup.Kind.Kind, declared.setup.Kind.TheVariants.Fair, declared.setup.Kind.TheVariants.FirstCome, declared.setup.Kind.TheVariants.Priority, declared.setup.Setup.Setup}
 pub use Rattle.cq_base.proofs.Keys.{key_laws}

@@ -2,8 +2,8 @@
 use Rattle.std.specs.Prelude.{◌≡◌, ◌≢◌, ◌⊎◌, ℕ, ◌<◌, ◌≤◌, zero, suc, true, false, All, AllPairs, IsSome, List, [], slice_index_or, ⊤}
 use Rattle.std.specs.List.{AllByRecursion}
 use Rattle.cq_base.specs.Arriving.{Arrival}
-use Rattle.cq_base.specs.declared.cell.Transfer.{Transfer}
 use Rattle.cq_laws.specs.Slack.{HasSlack}
+use Rattle.cq_lines.specs.Transfers.{IsTransferBefore}
 use Rattle.cq_rank.specs.Machine.{machine_at}
 use Rattle.cq_resume.specs.Switch.{HasLimit, Switch}
 use Rattle.cq_resume.specs.Told.{arriving_cell, class_of, fabric_told, is_ahead, is_named, named_in, output_of, packet_before, queued_in}
@@ -27,11 +27,6 @@ IsBufferedBefore came a b = (output_of came a < output_of came b) ⊎
 abbrev pub IsSentBefore : List Arrival → Sent → Sent → Type 0
 IsSentBefore came a b = (a.slot < b.slot) ⊎ ((a.slot ≡ b.slot) × (output_of came a.cell < output_of came b.cell))
 
--- a transfer is before another: by slot, then by phase, then by input
-abbrev pub IsMovedBefore : Transfer → Transfer → Type 0
-IsMovedBefore a b = (a.slot < b.slot) ⊎
-    ((a.slot ≡ b.slot) × ((a.phase < b.phase) ⊎ ((a.phase ≡ b.phase) × (a.input < b.input))))
-
 -- all lines stand in order, the cells of a list for one output by their keys, and each departure and each transfer
 -- has its time
 pub record StandInOrder (w : Switch) (s : State) : Type 0 where
@@ -41,7 +36,7 @@ pub record StandInOrder (w : Switch) (s : State) : Type 0 where
   pub buffers : AllPairs (IsBufferedBefore w.came) s.buffered
   pub sent : AllPairs (IsSentBefore w.came) s.sent
   pub sent_times : All (λ d. (d.cell.slot ≤ d.slot) × (d.slot < s.head.next)) s.sent
-  pub moved : AllPairs IsMovedBefore s.moved
+  pub moved : AllPairs IsTransferBefore s.moved
   pub moved_times : All (λ t. t.slot < s.head.next) s.moved
 
 -- each cell of a list has slack 1 at least

@@ -5,8 +5,8 @@ use Rattle.std.specs.List.{AllByRecursion}
 use Rattle.cq_base.specs.declared.cell.Queued.{Queued}
 use Rattle.cq_base.specs.declared.cell.Transfer.{Transfer}
 use Rattle.cq_base.specs.declared.setup.Setup.{Setup}
+use Rattle.cq_lines.specs.Transfers.{IsTransferBefore}
 use Rattle.cq_resume.specs.Finding.{BuffersStand, ListsStand, SentStand, SlackStands, StandsBelow}
-use Rattle.cq_resume.specs.Sound.{IsMovedBefore}
 use Rattle.cq_resume.specs.declared.found.Found.{Found}
 use Rattle.cq_resume.specs.declared.refusal.StateRefusal.{StateRefusal}
 use Rattle.cq_resume.specs.declared.refusal.StateRefusal.TheVariants as refusal
@@ -28,7 +28,7 @@ AreNamesFor setup f =
 abbrev pub AreOrdered : Found → ℕ → List Transfer → Type 0
 AreOrdered f next moved =
     ListsStand f.listed.items × BuffersStand f.buffered.items × SentStand next f.sent.items
-    × AllPairs IsMovedBefore moved × AllByRecursion (λ t. t.slot < next) moved
+    × AllPairs IsTransferBefore moved × AllByRecursion (λ t. t.slot < next) moved
 
 -- the third
 abbrev pub HaveRoom : Found → Type 0

@@ -5,6 +5,7 @@ pub use Rattle.cq_cells.specs.Traffic.{IsTraffic}
 pub use Rattle.cq_rank.specs.{Machine.machine_at, Switch.AreSized}
 pub use Rattle.cq_scfq.specs.Disciplines.{machine_of, machines_of}
 pub use Rattle.cq_ideal.specs.{Ending.slots_of, Limiter.CanCount, Refused.with_refused}
+pub use Rattle.cq_lines.specs.Transfers.{IsTransferBefore}
 pub use Rattle.cq_state.specs.Refusals.{IsTooLong}
 pub use Rattle.cq_state.specs.State.{IsInRange, state_text}
 pub use Rattle.cq_resume.specs.Counted.{IsTally, output_told, taken_of}
@@ -12,7 +13,7 @@ pub use Rattle.cq_resume.specs.Finding.{StandsBelow, FlowsStand, IsNameBefore, L
 pub use Rattle.cq_resume.specs.{Neighbours.IsOfNeighbours, Parts.IsOneParted, Parts.PartsJoin}
 pub use Rattle.cq_resume.specs.Reading.{IsRead, IsReadExact, IsRefusal, named_as, seen_as, sent_as, state_of, text_of_taken, told_by}
 pub use Rattle.cq_resume.specs.Resumed.{IsOneResumed}
-pub use Rattle.cq_resume.specs.Sound.{AreArrivals, IsForPorts, IsOnlyFor, IsMovedBefore, IsFirstOf, IsSound}
+pub use Rattle.cq_resume.specs.Sound.{AreArrivals, IsForPorts, IsOnlyFor, IsFirstOf, IsSound}
 pub use Rattle.cq_resume.specs.Steps.{AreCellsFor, AreNamesFor, AreOrdered, HaveRoom, IsFirstOfTwo, StandBelow}
 pub use Rattle.cq_resume.specs.Switch.{IsScheduleOf, switch_of, HasShape, IsHeadOf, Switch}
 pub use Rattle.cq_resume.specs.Taking.{CanTakeUp, departed, figures_at_input, longer, with_departure}

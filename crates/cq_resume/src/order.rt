@@ -1,7 +1,7 @@
 //! Whether the lines of a state stand in order.
 ghost use Rattle.std.specs.Prelude.{◌≡◌, ◌↔◌, ◌<◌, AllPairs, IfSome, IsTrue, None, length, map, replicate};
 ghost use Rattle.std.specs.List.{AllByRecursion};
-ghost use Rattle.cq_resume.specs.Terms.{IsBefore, BuffersStand, IsBufferedBefore, IsListedBefore, IsNoLaterInput, IsSentBefore, IsTimely, ListsStand, SentStand, begins_at, IsMovedBefore};
+ghost use Rattle.cq_resume.specs.Terms.{IsBefore, BuffersStand, IsBufferedBefore, IsListedBefore, IsNoLaterInput, IsSentBefore, IsTimely, ListsStand, SentStand, begins_at, IsTransferBefore};
 
 use crate::found::{Found, Gone};
 use crate::neighbours::neighbours_hold;
@@ -146,14 +146,14 @@ fn departures_in_order(sent: &[Gone], next: Slot) -> bool
 
 // Whether a transfer is before another: by slot, then by phase, then by input.
 fn is_moved_before(transfer: &Transfer, other: &Transfer) -> bool
-    ensures { IsTrue result ↔ IsMovedBefore transfer.now other.now }
+    ensures { IsTrue result ↔ IsTransferBefore transfer.now other.now }
 {
     (transfer.slot, transfer.phase, transfer.input) < (other.slot, other.phase, other.input)
 }
 
 // Whether the transfers stand by slot, then by phase, then by input.
 fn moved_in_order(moved: &[Transfer]) -> bool
-    ensures { IsTrue result ↔ AllPairs IsMovedBefore moved.now }
+    ensures { IsTrue result ↔ AllPairs IsTransferBefore moved.now }
 {
     neighbours_hold(moved, is_moved_before)
 }
@@ -174,7 +174,7 @@ fn are_before(moved: &[Transfer], next: Slot) -> bool
 
 // Whether the transfers stand by slot, then by phase, then by input, and each is before the next slot.
 fn transfers_in_order(moved: &[Transfer], next: Slot) -> bool
-    ensures { IsTrue result ↔ (AllPairs IsMovedBefore moved.now × AllByRecursion (λ t. t.slot < next) moved.now) }
+    ensures { IsTrue result ↔ (AllPairs IsTransferBefore moved.now × AllByRecursion (λ t. t.slot < next) moved.now) }
 {
     moved_in_order(moved) && are_before(moved, next)
 }
@@ -184,7 +184,7 @@ fn transfers_in_order(moved: &[Transfer], next: Slot) -> bool
 pub fn in_order(found: &Found, moved: &[Transfer], next: Slot) -> bool
     requires { AllByRecursion (λ q. q.cell.output < 64) found.now.listed.items }
     ensures { IsTrue result ↔ (ListsStand found.now.listed.items × BuffersStand found.now.buffered.items
-        × SentStand next found.now.sent.items × AllPairs IsMovedBefore moved.now
+        × SentStand next found.now.sent.items × AllPairs IsTransferBefore moved.now
         × AllByRecursion (λ t. t.slot < next) moved.now) }
 {
     lists_in_order(&found.listed)

@@ -1,7 +1,7 @@
 -- The departures and the transfers of a run: what a slot adds to the departures, at each output the cell that it sent,
 -- if it sent one; that departures stand in order, slot by slot and those of a slot by output; that transfers which a
 -- log can hold do so, and are in range; and the figures that are read off them.
-use Rattle.cq_stopped.proofs.Terms.{◌≡◌, ℕ, zero, suc, ◌+◌, ◌<◌, List, [], ◌∷◌, ◌++◌, Option, Some, None, refl, arith, rules, ◌≤◌, ◌⊎◌, length, map, ◌-◌, eqb, Bool, true, false, fold, max, ◌∙◌, eq-eqb, ne_eqb, and_from, and_parts, cases_lt, eqb-true, common_steps, map-append, get_or_past, length-map, filter-append, sum_by-cons, AllByRecursion, range_with_len, cons_option, enumerate_from, ◌==◌, filter, slice_index_or, ◌&&◌, count_by, filter_map, is_some, option_map, Arrival, Departure, Queued, Transfer, listed, slots_of, departures_of, departures_from, departures_in, SlotRecord, LimitedRecord, slots_in, figures_of, input_figures, output_figures, sends, sent_by, wait_at, came_to, gone_in, EachPair, all_both, all_weaker, Differ, all_from_has, all_of_has, Has, has_kept, kept_has, AreApart, Stands, no_more, pairs_kept, figures_told, input_told, output_told, sent_told, sent_at, seen_as, IsMovedBefore, is_named, named_in, Named, State, fold-max, sent_slots, has_number, AreNumbered, IsMoved, AreWritten, ◌^◌, any_has, has_any, pairs_joined, Figures, InputFigures, slots_of-append, Seen}
+use Rattle.cq_stopped.proofs.Terms.{◌≡◌, ℕ, zero, suc, ◌+◌, ◌<◌, List, [], ◌∷◌, ◌++◌, Option, Some, None, refl, arith, rules, ◌≤◌, ◌⊎◌, length, map, ◌-◌, eqb, Bool, true, false, fold, max, ◌∙◌, eq-eqb, ne_eqb, and_from, and_parts, cases_lt, eqb-true, common_steps, map-append, get_or_past, length-map, filter-append, sum_by-cons, AllByRecursion, range_with_len, cons_option, enumerate_from, ◌==◌, filter, slice_index_or, ◌&&◌, count_by, filter_map, is_some, option_map, Arrival, Departure, Queued, Transfer, listed, slots_of, departures_of, departures_from, departures_in, SlotRecord, LimitedRecord, slots_in, figures_of, input_figures, output_figures, sends, sent_by, wait_at, came_to, gone_in, EachPair, all_both, all_weaker, Differ, all_from_has, all_of_has, Has, has_kept, kept_has, AreApart, Stands, no_more, pairs_kept, figures_told, input_told, output_told, sent_told, sent_at, seen_as, IsTransferBefore, is_named, named_in, Named, State, fold-max, sent_slots, has_number, AreNumbered, IsMoved, AreWritten, ◌^◌, any_has, has_any, pairs_joined, Figures, InputFigures, slots_of-append, Seen}
 use Rattle.cq_stopped.proofs.Joined.{pairs_in}
 use Rattle.cq_stopped.proofs.Ran.{left_at, came_in, came_of}
 
@@ -100,7 +100,7 @@ range_rises a (suc n) = grind (arith, common_steps, all_weaker, range_from, rang
 
 -- those of the slots before one stand in order and are in range
 pub record AreMoved (ports end : ℕ) (note : List Transfer) : Type 0 where
-  pub pairs : EachPair IsMovedBefore note
+  pub pairs : EachPair IsTransferBefore note
   pub all : AllByRecursion (IsMoved ports) note
   pub times : AllByRecursion (λ t. t.slot < end) note
 

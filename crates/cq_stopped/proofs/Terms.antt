@@ -55,8 +55,9 @@ pub use Rattle.cq_resume.specs.Parts.{IsParted, IsWhole, opening}
 pub use Rattle.cq_resume.specs.Reading.{IsRead, named_as, seen_as, sent_as}
 unfoldable pub use Rattle.cq_resume.specs.Reading.{state_of}
 pub use Rattle.cq_resume.specs.Resumed.{Kept, Runs}
-pub use Rattle.cq_resume.specs.Sound.{AllNamed, AreArrivals, AreBelowFloors, AreWholePackets, HaveSlack, IsBelowFloor, IsBufferedBefore, IsMovedBefore, KeepArrivalOrder, NoneNamed, OfOneFlow, StandInOrder}
+pub use Rattle.cq_resume.specs.Sound.{AllNamed, AreArrivals, AreBelowFloors, AreWholePackets, HaveSlack, IsBelowFloor, IsBufferedBefore, KeepArrivalOrder, NoneNamed, OfOneFlow, StandInOrder}
 pub use Rattle.cq_resume.specs.Switch.{HasLimit, HasShape, IsScheduleOf, Switch, switch_of}
+pub use Rattle.cq_resume.specs.Terms.{IsTransferBefore}
 pub use Rattle.cq_resume.specs.Told.{arriving_cell, buffer_told, class_in, class_of, is_ahead, is_named, key_of, list_told, named_in, output_in, output_of, packet_before, queued_in, queued_of}
 unfoldable pub use Rattle.cq_resume.specs.Told.{fabric_told}
 pub use Rattle.cq_resume.specs.declared.taken.Taken.{Taken}
