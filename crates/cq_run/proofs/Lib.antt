@@ -16,3 +16,5 @@ pub mod TextRead
 pub mod NamesApart
 pub mod Left
 pub mod Audits
+pub mod OnePlan
+pub mod AnyWorkers

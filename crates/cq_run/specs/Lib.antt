@@ -26,4 +26,5 @@ pub mod Line
 pub mod Answers
 pub mod RunsAudited
 pub mod StatusCauses
+pub mod Workers
 pub mod Terms

@@ -29,5 +29,6 @@ pub use Rattle.cq_run.specs.Refusals.{capture_fault, meaning_of, denial_text, fa
 pub use Rattle.cq_run.specs.Running.{IsEmptied, reader_of}
 pub use Rattle.cq_run.specs.Switching.{IsSent, IsSwitched, sent_by, IsCrossing, IsIdeal, IsPassing, halt_for, IsCrossed}
 pub use Rattle.cq_run.specs.Verdict.{captures_from, packets_at, ideally_sent, capture_in, captures_in, short_in, state_in, tables_in, text_in, verdict}
+pub use Rattle.cq_run.specs.Workers.{WorkersChangeNothing}
 pub use Rattle.cq_run.specs.World.{world, taken_by}
 pub use Rattle.cq_run.specs.Writing.{IsDone, IsCut, IsCutAtFile, all_replaced}

@@ -1,6 +1,7 @@
-//! How captures are read, and what an audit says of a run. A law is the contract of a function that does nothing.
+//! How captures are read, what an audit says of a run, and that workers change nothing. A law is the contract of a
+//! function that does nothing.
 ghost use Rattle.std.specs.Prelude.{◌≡◌, ◌<◌, ℕ, List, slice_index};
-ghost use Rattle.cq_run.specs.Terms.{Reader, RunsAreAudited};
+ghost use Rattle.cq_run.specs.Terms.{Reader, RunsAreAudited, WorkersChangeNothing};
 
 /// There is a reader that goes by the grammar of captures and by its faults, and of a file of bytes any two such
 /// readers make the same. So what holds for any reader holds for one that is pinned on all files.
@@ -14,4 +15,11 @@ pub fn captures_are_read_in_one_way()
 /// configuration itself or a file that is too long for an audit. It does nothing: its contract is the claim.
 pub fn runs_are_audited()
     ensures { (r : Reader) → RunsAreAudited r }
+{}
+
+/// Over two configurations that differ in their number of workers alone every command comes to the same: one plan, byte
+/// for byte, meets what it aims at over both, and it is denied or refused over both for the same. It does nothing: its
+/// contract is the claim.
+pub fn workers_change_nothing()
+    ensures { (r : Reader) → WorkersChangeNothing r }
 {}

@@ -31,7 +31,7 @@ pub use cq_simulate::{
 };
 pub use cq_words::{Command, command_of};
 pub use denial::Denial;
-pub use laws::{captures_are_read_in_one_way, runs_are_audited};
+pub use laws::{captures_are_read_in_one_way, runs_are_audited, workers_change_nothing};
 pub use refusal::{CaptureFault, Refusal, StateFault};
 pub use stop::{Halt, Stop, Unwritten};
 pub use stream::stream_top;

@@ -1,0 +1,206 @@
+-- The number of workers changes nothing. Of its tables a schedule reads the sizes of cells and slots and the routes, a
+-- run the setup and the limits, and what is written the names of the files and the length of a slot. So the same
+-- arrives whatever that number is; and each verdict, each plan that meets it, and each reason that denies it, is made
+-- of what arrives and of these. Numbers can be exchanged, so it holds both ways.
+use Rattle.cq_run.proofs.Terms.{rules, arith, common_steps, ◌≡◌, ◌∙◌, ◌+◌, ℕ, zero, suc, List, [], ◌∷◌, length, map, refl, ap, sym, subst, range_with_len, Arrival, IsOkAnd, Result, Ok, Err, arrivals, arrivals_at, arrivals_of, cell_of, cells, packets_of, Captured, Tables, Departure, LimitedRecord, IsFabricRun, PortRow, Kept, captures_out, checked, crossed, resumed, switched, ideal_departures, ran_ideal, packets_out, Contents, IsPartText, IsResumedText, Aim, Denies, Meets, Crossing, Auditing, Parting, Resuming, Exactly, Refusal, Plan, Reader, ◌>>=◌, judged, captures_in, ideally_sent, sent_or_tag, tables_in, text_in, state_in, judged_of_given, IsNo, AuditRefusal, Command, Audit, Check, Ideal, Part, Pass, Resume, Run, Soak}
+use Rattle.std.specs.Prelude.{max}
+use Rattle.cq_cells.proofs.Ranges.{flat_same}
+use Rattle.cq_cells.specs.Schedule.{stamp_slot, start}
+use Rattle.cq_route.specs.Route.{route}
+use Rattle.cq_run.proofs.OnePlan.{one_plan}
+use Rattle.cq_run.proofs.Planned.{from_log, from_trace, part_rest, resume_rest, sent_of}
+use Rattle.cq_run.specs.Auditing.{IsAuditYes, IsLogDenied}
+use Rattle.cq_run.specs.Plans.{check_line}
+use Rattle.cq_run.specs.Workers.{WorkersChangeNothing, over, with_workers}
+use Rattle.cq_run.specs.declared.denial.Denial.TheVariants as why
+
+-- ## One verdict after another
+
+-- the other comes to what the one comes to
+record Follows (one other : Result Aim Refusal) : Type 0 where
+  met : (plan : Plan) → IsOkAnd one (λ aim. Meets aim plan) → IsOkAnd other (λ aim. Meets aim plan)
+  denied : (refusal : Refusal) → IsOkAnd one (λ aim. Denies aim refusal) → IsOkAnd other (λ aim. Denies aim refusal)
+  refused : (refusal : Refusal) → one ≡ Err refusal → other ≡ Err refusal
+
+alike : (x : Result Aim Refusal) → Follows x x
+alike x = record { met = λ plan h. h; denied = λ refusal h. h; refused = λ refusal h. h }
+
+same : (x y : Result Aim Refusal) → y ≡ x → Follows x y
+same x y e = rw e (alike x)
+
+aimed : (a b : Aim) → ((plan : Plan) → Meets a plan → Meets b plan) →
+    ((refusal : Refusal) → Denies a refusal → Denies b refusal) → Follows (Ok a) (Ok b)
+aimed a b met denied =
+    record { met = met; denied = denied; refused = λ refusal e. absurd (let P : ⊥ = cc e in P) }
+
+then_both : {A : Type 0} (x : Result A Refusal) (f g : A → Result Aim Refusal) → ((a : A) → Follows (f a) (g a)) →
+    Follows (x >>= f) (x >>= g)
+then_both (Ok a) f g h = h a
+then_both (Err e) f g h = alike (Err e)
+
+-- and of one there is one plan
+met_once : (x : Result Aim Refusal) (a b : Plan) → IsOkAnd x (λ aim. Meets aim a) → IsOkAnd x (λ aim. Meets aim b) →
+    a ≡ b
+met_once (Ok aim) a b h k = one_plan aim a b h k
+met_once (Err e) a b h k = absurd h
+
+module _ (n : ℕ) (t : Tables) where
+  -- the tables with another number of workers
+  abbrev u : Tables
+  u = with_workers n t
+
+  module _ (cs : List (List Captured)) where
+    -- ## The same arrives
+
+    start_same : (i k : ℕ) → start u cs i k ≡ start t cs i k
+    unfolding start stamp_slot cells
+    start_same i zero = refl
+    start_same i (suc k) = ap (λ (s : ℕ). max (stamp_slot t cs i (suc k)) (s + cells t cs i k)) (start_same i k)
+
+    packet_same : (i k : ℕ) → arrivals_of u cs i k ≡ arrivals_of t cs i k
+    unfolding cell_of cells route
+    packet_same i k = ap (λ (s : ℕ). map (λ (j : ℕ). record { slot = s + j; cell = cell_of t cs i k j })
+        (range_with_len 0 (cells t cs i k))) (start_same i k)
+
+    input_same : (i : ℕ) → arrivals_at u cs i ≡ arrivals_at t cs i
+    unfolding arrivals_at
+    input_same i = flat_same (arrivals_of u cs i) (arrivals_of t cs i) 0 (length (packets_of cs i))
+        (λ k from inside. packet_same i k)
+
+    arrivals_same : arrivals u cs ≡ arrivals t cs
+    unfolding arrivals
+    arrivals_same = flat_same (arrivals_at u cs) (arrivals_at t cs) 0 (length cs) (λ i from inside. input_same i)
+
+    -- ## The same is sent and written
+
+    ideally_same : ideally_sent u cs ≡ ideally_sent t cs
+    unfolding ideal_departures ran_ideal
+    ideally_same = ap (λ (came : List Arrival). sent_or_tag (ideal_departures t came)) arrivals_same
+
+    outputs_same : (sent : List Departure) (output : ℕ) (rows : List PortRow) →
+        captures_out u cs sent output rows ≡ captures_out t cs sent output rows
+    unfolding captures_out packets_out
+    outputs_same sent output [] = refl
+    outputs_same sent output (row ∷ rows) = grind (arith, common_steps, outputs_same sent (suc output) rows)
+
+    switched_same : (sent : List Departure) → switched u cs sent ≡ switched t cs sent
+    unfolding switched
+    switched_same sent = grind (arith, common_steps, outputs_same)
+
+    crossed_same : (sent : List Departure) (rs : List LimitedRecord) → crossed u cs sent rs ≡ crossed t cs sent rs
+    unfolding crossed
+    crossed_same sent rs = grind (arith, common_steps, outputs_same)
+
+    resumed_same : (kept : Kept) → resumed u cs kept ≡ resumed t cs kept
+    unfolding resumed
+    resumed_same kept = grind (arith, common_steps, outputs_same)
+
+    run_same : (rs : List LimitedRecord) → IsFabricRun t (arrivals t cs) rs → IsFabricRun u (arrivals u cs) rs
+    run_same rs is = rw arrivals_same (record { end = is.end; runs = is.runs })
+
+    -- ## Each aim
+
+    crossing : (sent : List Departure) → Follows (Ok (Crossing t cs sent)) (Ok (Crossing u cs sent))
+    crossing sent = search (arith, rules, run_same, crossed_same, sym)
+
+    yes : (sent : List Departure) (trace log : List ℕ) → IsAuditYes t cs sent trace log → IsAuditYes u cs sent trace log
+    yes sent trace log is = record { log_is = rw arrivals_same is.log_is; trace_is = is.trace_is }
+
+    denied_by : (log : List ℕ) (e : AuditRefusal) → IsLogDenied t cs log e → IsLogDenied u cs log e
+    denied_by log e d = subst (λ (came : List Arrival). IsNo t.setup t.limits came log e) (sym arrivals_same) d
+
+    no : (sent : List Departure) (trace log : List ℕ) (refusal : Refusal) →
+        Denies (Auditing t cs sent trace log) refusal → Denies (Auditing u cs sent trace log) refusal
+    no sent trace log refusal d = search (arith, rules, denied_by, arrivals_same)
+
+    auditing : (sent : List Departure) (trace log : List ℕ) →
+        Follows (Ok (Auditing t cs sent trace log)) (Ok (Auditing u cs sent trace log))
+    auditing sent trace log = aimed (Auditing t cs sent trace log) (Auditing u cs sent trace log)
+        (λ plan is. (yes sent trace log is.0, is.1)) (no sent trace log)
+
+    text : (slots : ℕ) (bytes : List ℕ) → IsPartText t cs slots bytes → IsPartText u cs slots bytes
+    text slots bytes is =
+        record { at = is.at; parted = rw arrivals_same is.parted; told = rw arrivals_same is.told; short = is.short }
+
+    no_text : (slots : ℕ) (name : List ℕ) (refusal : Refusal) → Denies (Parting t cs slots name) refusal →
+        Denies (Parting u cs slots name) refusal
+    no_text slots name refusal d = search (arith, rules, arrivals_same)
+
+    parting : (slots : ℕ) (name : List ℕ) → Follows (Ok (Parting t cs slots name)) (Ok (Parting u cs slots name))
+    parting slots name = aimed (Parting t cs slots name) (Parting u cs slots name)
+        (λ plan (bytes, is, written). (bytes, text slots bytes is, written)) (no_text slots name)
+
+    goes_on : (bytes : List ℕ) (kept : Kept) → IsResumedText t cs bytes kept → IsResumedText u cs bytes kept
+    goes_on bytes kept is =
+        record { from = is.from; read = rw arrivals_same is.read; resumed = rw arrivals_same is.resumed }
+
+    not_on : (bytes : List ℕ) (refusal : Refusal) → Denies (Resuming t cs bytes) refusal →
+        Denies (Resuming u cs bytes) refusal
+    not_on bytes refusal d = search (arith, rules, arrivals_same)
+
+    resuming : (bytes : List ℕ) → Follows (Ok (Resuming t cs bytes)) (Ok (Resuming u cs bytes))
+    resuming bytes = aimed (Resuming t cs bytes) (Resuming u cs bytes)
+        (λ plan (kept, is, written). (kept, goes_on bytes kept is, written ∙ sym (resumed_same kept)))
+        (not_on bytes)
+
+  -- ## Each command
+
+  module _ (r : Reader) (m : Contents) (one other : List ℕ) (first : tables_in one m ≡ Ok t)
+      (second : tables_in other m ≡ Ok u) where
+    both : (rest : Reader → Tables → List (List Captured) → Contents → Result Aim Refusal) →
+        ((cs : List (List Captured)) → Follows (rest r t cs m) (rest r u cs m)) →
+        Follows (judged_of_given r one (rest r) m) (judged_of_given r other (rest r) m)
+    both rest h =
+        rw (first, second) (then_both (captures_in r t m) (λ cs. rest r t cs m) (λ cs. rest r u cs m) h)
+
+    sends : (cs : List (List Captured)) (aim : Tables → List (List Captured) → List Departure → Aim) →
+        ((sent : List Departure) → Follows (Ok (aim t cs sent)) (Ok (aim u cs sent))) →
+        Follows (sent_of aim r t cs m) (sent_of aim r u cs m)
+    sends cs aim h = rw (ideally_same cs)
+        (then_both (ideally_sent t cs) (λ sent. Ok (aim t cs sent)) (λ sent. Ok (aim u cs sent)) h)
+
+    check : Follows (Ok (Exactly (checked t))) (Ok (Exactly (checked u)))
+    unfolding check_line
+    check = alike (Ok (Exactly (checked t)))
+
+    ideal : (cs : List (List Captured)) (sent : List Departure) →
+        Follows (Ok (Exactly (switched t cs sent))) (Ok (Exactly (switched u cs sent)))
+    ideal cs sent = same (Ok (Exactly (switched t cs sent))) (Ok (Exactly (switched u cs sent)))
+        (ap (λ (plan : Plan). let v : Result Aim Refusal = Ok (Exactly plan) in v) (switched_same cs sent))
+
+    audit : (cs : List (List Captured)) → Follows (from_trace r t cs m) (from_trace r u cs m)
+    audit cs = then_both (text_in why.LongTrace t.trace m) (λ trace. from_log t cs trace m)
+        (λ trace. from_log u cs trace m) (λ trace. then_both (text_in why.LongLog t.log m)
+        (λ log. sent_of (λ v c sent. Auditing v c sent trace log) r t cs m)
+        (λ log. sent_of (λ v c sent. Auditing v c sent trace log) r u cs m)
+        (λ log. sends cs (λ v c sent. Auditing v c sent trace log) (λ sent. auditing cs sent trace log)))
+
+    resume : (name : List ℕ) (cs : List (List Captured)) →
+        Follows (resume_rest name r t cs m) (resume_rest name r u cs m)
+    resume name cs = then_both (state_in name m) (λ bytes. Ok (Resuming t cs bytes)) (λ bytes. Ok (Resuming u cs bytes))
+        (resuming cs)
+
+    follows : (command : Command) → Follows (judged r (over one command) m) (judged r (over other command) m)
+    follows (Pass from to) = alike (judged r (Pass from to) m)
+    follows (Soak seed ports slots) = alike (judged r (Soak seed ports slots) m)
+    follows (Check old) = rw (first, second) check
+    follows (Ideal old) = both (sent_of (λ v c sent. Exactly (switched v c sent)))
+        (λ cs. sends cs (λ v c sent. Exactly (switched v c sent)) (ideal cs))
+    follows (Run old) = both (sent_of Crossing) (λ cs. sends cs Crossing (crossing cs))
+    follows (Audit old) = both from_trace audit
+    follows (Part old slots state) = both (part_rest slots state) (λ cs. parting cs slots state)
+    follows (Resume old state) = both (resume_rest state) (resume state)
+
+-- ## Both ways
+
+pub workers_change_nothing : (r : Reader) → WorkersChangeNothing r
+workers_change_nothing r command m one other d =
+    let second = judged r (over other command) m in
+    let there = follows d.workers d.tables r m one other d.first d.second command in
+    let back = follows d.tables.workers (with_workers d.workers d.tables) r m other one d.second d.first command in
+    record {
+      met = λ plan. (there.met plan, back.met plan);
+      one_plan = λ a b x y. met_once second a b (there.met a x) y;
+      denied = λ refusal. (there.denied refusal, back.denied refusal);
+      refused = λ refusal. (there.refused refusal, back.refused refusal);
+    }
