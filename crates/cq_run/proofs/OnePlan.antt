@@ -1,51 +1,11 @@
 -- An aim is met by one plan. There is one whole run, one run up to a slot, one state with a given text, and from each
 -- state one run goes on; a plan is written of what such a run keeps.
 use Rattle.cq_run.proofs.Terms.{◌≡◌, ◌∙◌, ℕ, List, ap, sym, arrivals, Captured, Tables, LimitedRecord, IsFabricRun, Kept, crossed, reported, resumed, state_written, openings_of, IsPartText, IsResumedText, Aim, Meets, Crossing, Reporting, Auditing, Parting, Resuming, Exactly, Plan}
-use Rattle.cq_ideal.specs.Admission.{Marked}
-use Rattle.cq_ideal.specs.Ending.{arriving_from}
-use Rattle.cq_laws.proofs.OneRun.{only_limited_run}
-use Rattle.cq_laws.specs.Fabric.{Fabric}
-use Rattle.cq_laws.specs.Frozen.{marked_in}
-use Rattle.cq_resume.proofs.Joining.{one_resumed}
-use Rattle.cq_resume.specs.Counted.{taken_of}
-use Rattle.cq_resume.specs.Parts.{nothing_kept, opening}
-use Rattle.cq_resume.specs.Resumed.{kept_in, kept_on}
+use Rattle.cq_resume.proofs.{Joining.one_part, Joining.one_resumed, OneAnswer.read_exact}
 use Rattle.cq_resume.specs.Switch.{Switch}
 use Rattle.cq_resume.specs.declared.taken.Taken.{Taken}
 use Rattle.cq_simulate.proofs.FabricLaws.{only_one}
-use Rattle.cq_state.proofs.OneText.{have_one_text}
-use Rattle.cq_state.specs.declared.state.State.{State}
 use Rattle.cq_run.specs.Parting.{switch_over, text_at}
-
--- what stands still is told by its state, by what it kept and by its slot
-stands_so : Marked Fabric → Kept → ℕ → Taken
-stands_so g k next =
-    record {
-      frozen = record {
-        next = next;
-        figures = k.figures;
-        refused = k.refused;
-        marks = g.marks;
-        ranks = g.state.ranks;
-        lists = g.state.inputs;
-        buffers = g.state.buffers;
-      };
-      sent = k.sent;
-      note = k.note;
-    }
-
-same_stand : (a b : Taken) → marked_in a.frozen ≡ marked_in b.frozen → kept_in a ≡ kept_in b →
-    a.frozen.next ≡ b.frozen.next → a ≡ b
-unfolding stands_so
-same_stand a b state kept next =
-    let by_state : a ≡ stands_so (marked_in b.frozen) (kept_in a) a.frozen.next =
-    ap (λ (g : Marked Fabric). stands_so g (kept_in a) a.frozen.next) state in
-    let by_kept : stands_so (marked_in b.frozen) (kept_in a) a.frozen.next
-    ≡ stands_so (marked_in b.frozen) (kept_in b) a.frozen.next =
-    ap (λ (k : Kept). stands_so (marked_in b.frozen) k a.frozen.next) kept in
-    let by_next : stands_so (marked_in b.frozen) (kept_in b) a.frozen.next ≡ b =
-    ap (λ (n : ℕ). stands_so (marked_in b.frozen) (kept_in b) n) next in
-    by_state ∙ by_kept ∙ by_next
 
 module _ (t : Tables) (cs : List (List Captured)) where
   abbrev w : Switch
@@ -56,19 +16,12 @@ module _ (t : Tables) (cs : List (List Captured)) where
 
   one_text : (slots : ℕ) (a b : List ℕ) → IsPartText t cs slots a → IsPartText t cs slots b → a ≡ b
   one_text slots a b x y =
-      let begin : Marked Fabric = opening w (openings_of t.setup) in
-      let same = (only_limited_run w.machines w.limits).run 0 (arriving_from w.came 0 slots) begin
-      (marked_in x.at.frozen) (marked_in y.at.frozen) x.parted.records y.parted.records x.parted.runs y.parted.runs in
-      let kept : kept_in x.at ≡ kept_in y.at = x.parted.kept
-      ∙ ap (λ (rs : List LimitedRecord). kept_on (nothing_kept w) 0 rs) same.0 ∙ sym y.parted.kept in
-      let at : x.at ≡ y.at = same_stand x.at y.at same.1 kept (x.parted.next ∙ sym y.parted.next) in
+      let at = one_part.at w (openings_of t.setup) slots x.at y.at x.parted y.parted in
       x.told ∙ ap (λ (s : Taken). text_at t cs s) at ∙ sym y.told
 
   one_kept : (text : List ℕ) (k l : Kept) → IsResumedText t cs text k → IsResumedText t cs text l → k ≡ l
   one_kept text k l x y =
-      let state : x.read.state ≡ y.read.state = have_one_text.one_state x.read.state y.read.state x.read.in_range
-      y.read.in_range (x.read.spelled ∙ sym y.read.spelled) in
-      let from : x.from ≡ y.from = x.read.told ∙ ap (λ (s : State). taken_of w s) state ∙ sym y.read.told in
+      let from : x.from ≡ y.from = (read_exact w).one_state text x.from y.from x.read y.read in
       one_resumed.kept w x.from k l x.resumed (rw (← from) at y.resumed)
 
 pub one_plan : (aim : Aim) (a b : Plan) → Meets aim a → Meets aim b → a ≡ b
