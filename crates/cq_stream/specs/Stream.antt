@@ -51,15 +51,15 @@ fault_found done = done.fault
 abbrev pub all_sent : Done → List Item
 all_sent done = sent done.items
 
--- it was left by the reader of this intake: it holds the other ends of both rings
-abbrev pub IsLeftTo : Intake → Done → Type 0
-IsLeftTo intake done = IsPair done.items intake.items × IsPair intake.orders done.orders
-
 -- it was left by a reader that received one order and obeyed it
 pub record HasRun (done : Done) : Type 0 where
   pub order : Order
   pub one : received done.orders ≡ order ∷ []
   pub obeyed : HasObeyed order (bytes_of done) (fault_found done) (all_sent done)
+
+-- it was left by the reader of this intake, which has run: it holds the other ends of both rings
+abbrev pub IsLeftTo : Intake → Done → Type 0
+IsLeftTo intake done = IsPair done.items intake.items × IsPair intake.orders done.orders × HasRun done
 
 -- it was left by a reader that was told one order through this intake, and obeyed it
 pub record DidAsTold (intake : Intake) (done : Done) : Type 0 where

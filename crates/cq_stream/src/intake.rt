@@ -22,7 +22,7 @@ impl Intake {
     ghost use Rattle.cq_pcap.specs.Rows.{AreRowsUntil};
     ghost use Rattle.cq_stream.specs.declared.item.Order.TheVariants as order;
     ghost use Rattle.cq_stream.specs.Rings.{SameReader, StandsAsBefore, taken, told, waiting};
-    ghost use Rattle.cq_stream.specs.Stream.{AnswersOn, DidAsTold, HasRun, IsLeftTo, SameLeft, all_sent, bytes_of, fault_found, items_of};
+    ghost use Rattle.cq_stream.specs.Stream.{AnswersOn, DidAsTold, IsLeftTo, SameLeft, all_sent, bytes_of, fault_found, items_of};
 
     /// Tells the reader to send. It has been told nothing before.
     pub fn send(&mut self)
@@ -62,13 +62,11 @@ impl Intake {
     /// `Ended`, taken or not. They show too that what was taken and what still waits is all that was sent.
     pub fn meet(&mut self, done: &mut Done)
         requires done { IsLeftTo self.old done.old }
-        requires ran { HasRun done.old }
         ensures obeyed { DidAsTold self.old done.old }
         ensures all { taken self.new ++ waiting self.new ≡ all_sent done.new }
         ensures intake { StandsAsBefore self.old self.new }
         ensures same { SameLeft done.old done.new }
         ensures left { IsLeftTo self.new done.new }
-        ensures ran { HasRun done.new }
     {
         self.items.slots_beside(&mut done.items);
         done.orders.slots_beside(&mut self.orders);
@@ -79,7 +77,6 @@ impl Intake {
     /// order, whole and once. A refusal is the fault that the reader found, and never want of memory.
     pub fn close(self, done: Done, rows: Vec<PacketRow>) -> Result<Capture, PcapRefusal>
         requires done { IsLeftTo self done }
-        requires ran { HasRun done }
         requires taken { taken self ≡ items_of rows.items }
         ensures answer { AnswersOn (bytes_of done) result }
         ensures obeyed { DidAsTold self done }

@@ -1,7 +1,7 @@
 //! Captures go through a reader, in a thread of its own and beside its caller.
 ghost use Rattle.std.specs.Prelude.{◌≡◌, [], IfSome};
 ghost use Rattle.cq_stream.specs.Rings.{IsPairOf, SameReader, taken, told};
-ghost use Rattle.cq_stream.specs.Stream.{HasRun, IsLeftTo, items_of};
+ghost use Rattle.cq_stream.specs.Stream.{IsLeftTo, items_of};
 
 use cq_base::{NoMemory, Port};
 use cq_pcap::{PacketRow, PcapRefusal};
@@ -71,7 +71,6 @@ fn read_beside<R: Threads + Wait + Copy + Send + 'static>(
     requires told { told intake.old ≡ [] }
     ensures taken { IfSome result (λ r. taken intake.new ≡ items_of r.0.items) }
     ensures left { IfSome result (λ r. IsLeftTo intake.new r.1) }
-    ensures ran { IfSome result (λ r. HasRun r.1) }
 {
     intake.send();
     let promise = reader.promise();
