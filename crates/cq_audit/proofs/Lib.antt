@@ -2,6 +2,7 @@ mod Terms
 pub mod LogLines
 pub mod OneDifference
 pub mod Mirrored
+pub mod Ahead
 pub mod TellingLines
 pub mod LinesMoved
 pub mod PhaseExact

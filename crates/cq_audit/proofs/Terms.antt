@@ -1,5 +1,5 @@
 -- The words of this crate's proofs that stand elsewhere, each passed on from its place.
-pub use Rattle.cq_base.proofs.Library.{AllByRecursion, Bool, Err, IfErr, IfSome, IsOk, IsTrue, List, None, Ok, OnOk, Option, Result, Some, YieldsList-from_slice, [], and_from, and_left, and_parts, and_right, ap, append-nil, append_assoc, append_cancel_left, arith, cases_Bool, cases_eq, cases_lt, cases_order, common_steps, cond-false, cond_both, cons_option, drop, eq-eqb, eqb, eqb-true, err_from_is_err_and, ext_get_or, false, false_from_ne_true, filter, filter-append, filter_map, find_from_yields_List, get_or, get_or-map-range_with_len, get_or-set_other, get_or-set_same, get_or_past, inl, inr, le-ltb, length, length-append, length-map, length-map-range_with_len, length-replicate, length-set, lit≤, lt-ltb, ltb-true, map, min, ne_eqb, not, option_map, position_or_len, range_with_len, refl, replicate, rules, slice_get, subst, suc, sym, take, take-append-drop, take-append-le, take-take, take_all, take_rest, tests, true, zero, ℕ, ⊎_elim, ⊤, ◌*◌, ◌++◌, ◌+◌, ◌-◌, ◌<◌, ◌^◌, ◌↔◌, ◌∙◌, ◌∷◌, ◌≡◌, ◌≢◌, ◌≤◌, ◌⊎◌}
+pub use Rattle.cq_base.proofs.Library.{AllByRecursion, Bool, Err, IfErr, IfSome, IsOk, IsTrue, List, None, Ok, OnOk, Option, Result, Some, YieldsList-from_slice, [], and_from, and_left, and_parts, and_right, ap, append-nil, append_assoc, append_cancel_left, arith, cases_Bool, cases_eq, cases_lt, cases_order, common_steps, cond-false, cond_both, cons_option, drop, eq-eqb, eqb, eqb-true, err_from_is_err_and, ext_get_or, false, false_from_ne_true, filter, filter-append, filter_map, find_from_yields_List, get_or, get_or-map-range_with_len, get_or-set_other, get_or-set_same, get_or-take, get_or_past, inl, inr, le-ltb, length, length-append, length-map, length-map-range_with_len, length-replicate, length-set, length-take-le, lit≤, lt-ltb, ltb-true, map, min, ne_eqb, not, option_map, position_or_len, range_with_len, refl, replicate, rules, slice_get, subst, suc, sym, take, take-append-drop, take-append-le, take-take, take_all, take_rest, tests, true, zero, ℕ, ⊎_elim, ⊤, ◌*◌, ◌++◌, ◌+◌, ◌-◌, ◌<◌, ◌^◌, ◌↔◌, ◌∙◌, ◌∷◌, ◌≡◌, ◌≢◌, ◌≤◌, ◌⊎◌}
 pub use Rattle.cq_base.proofs.Lists.{all_at, all_insert, all_left, first_here, first_later}
 pub use Rattle.cq_base.specs.Arrivals.{arrival_at, no_arrivals}
 pub use Rattle.cq_base.specs.Arriving.{Arrival, arriving, end_of, enough}
@@ -26,12 +26,12 @@ pub use Rattle.cq_audit.specs.StableRun.{Begins, BeginsFirst, BeginsSecond, IsFa
 pub use Rattle.cq_audit.specs.{declared.phase.PhaseFault.PhaseFault, declared.refusal.AuditRefusal.AuditRefusal, declared.replay.SlotFault.SlotFault}
 pub use Rattle.cq_audit.specs.declared.refusal.AuditRefusal.TheVariants.{Left, Line, NoMemory}
 pub use Rattle.cq_list.specs.InputList.{Waiting, cells_of}
-pub use Rattle.cq_prefs.proofs.{OutputOrder.is_output_order, Pairs.nobody}
+pub use Rattle.cq_prefs.proofs.{OutputOrder.is_output_order, Pairs.nobody, Places.output_in_range, Places.place_in-le-length, Places.place_of-at, Places.same_at_place}
 pub use Rattle.cq_prefs.specs.FirstCells.{HasCellFor, list_of, orders_of, output_order}
 pub use Rattle.cq_prefs.specs.Moves.{Moves, noted}
 unfoldable pub use Rattle.cq_prefs.specs.Moves.{transfers_of}
-pub use Rattle.cq_prefs.specs.Orders.{IsListed, IsOffered, Orders, place_of, ports, position_of}
-pub use Rattle.cq_prefs.specs.Pairing.{HasBetterInput, HasBetterOutput, IsFreeOutput, IsMatching, IsStable, Partners, partner_of, partner_place, with_pair}
+pub use Rattle.cq_prefs.specs.Orders.{AreOffers, IsListed, IsOffered, Orders, outputs_of, place_in, place_of, ports, position_of}
+pub use Rattle.cq_prefs.specs.Pairing.{HasBetterInput, HasBetterOutput, IsFreeOutput, IsMatching, IsStable, Partners, depth, partner_of, partner_place, with_pair}
 pub use Rattle.cq_laws.proofs.OneRun.{one_arrival, one_departure, one_transfer, outputs_at, same_record}
 pub use Rattle.cq_laws.proofs.Parted.{reach, run_length, run_of_whole}
 pub use Rattle.cq_laws.proofs.Told.{transfers_tell}

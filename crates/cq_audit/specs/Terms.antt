@@ -15,8 +15,8 @@ pub use Rattle.cq_audit.specs.SlotSteps.{CanGoBy, CanSend, HasGoneBy, HaveAllSen
 pub use Rattle.cq_audit.specs.Trace.{IsTraceExact, DiffersFirst}
 pub use Rattle.cq_list.specs.InputList.{cells_of}
 pub use Rattle.cq_prefs.specs.FirstCells.{orders_of}
-pub use Rattle.cq_prefs.specs.Orders.{IsOffered, place_of, ports, position_of}
-pub use Rattle.cq_prefs.specs.Pairing.{HasBetterInput, HasBetterOutput, partner_of, IsStable, IsFreeOutput, with_pair}
+pub use Rattle.cq_prefs.specs.Orders.{AreOffers, IsOffered, outputs_of, ports, position_of}
+pub use Rattle.cq_prefs.specs.Pairing.{HasBetterInput, partner_of, partner_place, IsStable, IsFreeOutput, with_pair}
 pub use Rattle.cq_laws.specs.Fabric.{IsEmptyFabric, Fabric}
 pub use Rattle.cq_laws.specs.LimitedFabric.{LimitedFabricRun, LimitedRecord, slots_in, empty_limited_fabric}
 pub use Rattle.cq_laws.specs.Records.{transfers_of_run}

@@ -1,6 +1,6 @@
-use Rattle.cq_audit.proofs.Terms.{ℕ, ◌<◌, IsBlocking}
+use Rattle.cq_audit.proofs.Ahead.{LeastUntil}
 use Rattle.cq_audit.proofs.blocking.least_blocking.Given as goal
 
--- none of the outputs before this one blocks
+-- the least of the outputs before this one that block
 abbrev pub invariant-outputs : goal.invariant-outputs
-invariant-outputs l = (k : ℕ) → k < l.output → IsBlocking l.offers l.pairs l.input k → ⊥
+invariant-outputs l = LeastUntil l.offers l.pairs l.input l.output-index l.least

@@ -1,0 +1,75 @@
+-- With which outputs an input blocks a matching: with those that it prefers to its partner and that have none which
+-- they prefer to the input. So it is enough to look at its order up to its partner, and to keep the least output.
+use Rattle.std.proofs.Common.{IfNone}
+use Rattle.cq_audit.proofs.Terms.{common_steps, rules, ℕ, ◌≡◌, ◌≢◌, ◌+◌, ◌<◌, ◌≤◌, ◌⊎◌, List, length, take, Option, None, Some, IfSome, get_or, get_or-take, length-take-le, arith, cases_eq, cases_lt, depth, AreOffers, IsListed, IsOffered, Orders, outputs_of, place_in, place_of, ports, HasBetterInput, IsBlocking, Partners, partner_of, partner_place, output_in_range, place_in-le-length, place_of-at, same_at_place}
+
+-- an output of an order that is not behind a partner, and is not this partner, stands ahead of it
+ahead_of : (order : List ℕ) (p : Option ℕ) (j : ℕ) → IsListed order j → p ≢ Some j →
+    (depth order p < place_in order j → ⊥) → place_in order j < depth order p
+ahead_of order p j listed other none = grind (arith, common_steps, cases_lt, same_at_place)
+
+module _ (o : Orders) (m : Partners) (i : ℕ) where
+  pub is_ahead : (j : ℕ) → IsBlocking o m i j → place_of o i j < partner_place o m i
+  is_ahead j blocks =
+      ahead_of (outputs_of o i) (partner_of m i) j blocks.offered blocks.outside blocks.no_better_output
+
+  pub order_ends : partner_place o m i ≤ length (outputs_of o i)
+  order_ends = grind (arith, common_steps, place_in-le-length)
+
+  pub blocks_ahead : (j : ℕ) → place_of o i j < partner_place o m i → (HasBetterInput o m i j → ⊥) →
+      IsBlocking o m i j
+  blocks_ahead j ahead none = search (arith, rules, order_ends)
+
+  -- ## The least of the outputs so far
+
+  abbrev IsUpTo : Option ℕ → ℕ → Type 0
+  IsUpTo None j = ⊥
+  IsUpTo (Some least) j = least ≤ j
+
+  -- among the first n of the order
+  pub record LeastUntil (n : ℕ) (found : Option ℕ) : Type 0 where
+    pub blocks : IfSome found (λ j. IsBlocking o m i j)
+    pub least : (j : ℕ) → place_of o i j < n → IsBlocking o m i j → IsUpTo found j
+
+  module _ (xs : List ℕ) (are : xs ≡ take (partner_place o m i) (outputs_of o i)) (n : ℕ) where
+    all_ahead : length xs ≡ partner_place o m i
+    all_ahead = grind (arith, common_steps, length-take-le, order_ends)
+
+    -- all that are ahead were looked at
+    pub at_end : (found : Option ℕ) → LeastUntil n found → length xs ≤ n →
+        IfSome found (λ j. (l : ℕ) → IsBlocking o m i l → j ≤ l)
+        × IfNone found ((l : ℕ) → IsBlocking o m i l → ⊥)
+    at_end None had all = (tt, λ l blocks. grind (arith, common_steps, all_ahead, is_ahead, had.least))
+    at_end (Some j) had all = (λ l blocks. grind (arith, common_steps, all_ahead, is_ahead, had.least), tt)
+
+    -- the output at place n
+    module _ (offers : AreOffers o) (inside : n < length xs) where
+      abbrev output : ℕ
+      output = get_or xs n 0
+
+      stands : (place_of o i output ≡ n) × (n < partner_place o m i) × (n < length (outputs_of o i))
+      stands =
+          let ends : partner_place o m i ≤ length (outputs_of o i) = order_ends in
+          let long : length xs ≡ partner_place o m i = all_ahead in
+          let at = place_of-at o offers i n (omega arith) in
+          let read = get_or-take (partner_place o m i) (outputs_of o i) n 0 (omega arith) in
+          (cc, omega arith, omega arith)
+
+      pub is_offered : IsOffered o i output
+      is_offered = grind (arith, common_steps, stands)
+
+      pub in_range : length m ≡ ports o → output < length m
+      in_range square = grind (arith, common_steps, output_in_range, stands)
+
+      others : (x : ℕ) → place_of o i x < n + 1 → IsBlocking o m i x → (place_of o i x < n) ⊎ (x ≡ output)
+      others x low blocks = grind (arith, common_steps, same_at_place, stands, cases_eq)
+
+      -- it does not block, or is not less than the least
+      pub kept : {found : Option ℕ} → LeastUntil n found → HasBetterInput o m i output ⊎ IsUpTo found output →
+          LeastUntil (n + 1) found
+      kept had why = search (arith, rules, others)
+
+      -- it blocks, and is less
+      pub taken : {found : Option ℕ} → LeastUntil n found → (HasBetterInput o m i output → ⊥) →
+          ((l : ℕ) → found ≡ Some l → output < l) → LeastUntil (n + 1) (Some output)
+      taken had none less = search (arith, rules, others, blocks_ahead, stands)
