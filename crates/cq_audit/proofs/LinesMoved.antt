@@ -7,7 +7,7 @@
 -- And the lines of all inputs, in order, are the lines.
 use Rattle.cq_audit.proofs.Terms.{common_steps, ◌≡◌, ◌≢◌, ℕ, zero, suc, ◌+◌, ◌<◌, ◌≤◌, ◌⊎◌, List, [], ◌∷◌, length, Option, None, Some, refl, ap, ◌∙◌, ⊎_elim, arith, rules, inl, inr, sym, AllByRecursion, filter_map, range_with_len, option_map, length-map, get_or_past, cases_eq, cond_both, eqb-true, eq-eqb, cases_lt, Queued, Transfer, first_for, Waiting, cells_of, list_of, orders_of, HasCellFor, output_order, noted, transfers_of, Orders, ports, IsOffered, place_of, position_of, Partners, partner_of, HasBetterInput, HasBetterOutput, IsMatching, IsStable, partner_place, AreOfPhase, AreRight, IsBlocking, IsStableTold, RiseByInput, line_of_input, told, first_id, output_told, all_weaker, get_or-map-range_with_len, length-map-range_with_len, is_output_order, outputs_at, CellId, sender}
 use Rattle.cq_audit.proofs.BySlot.{all_give}
-use Rattle.cq_audit.proofs.TellingLines.{line_holds, line_is_of}
+use Rattle.cq_audit.proofs.TellingLines.{line_holds, line_is_of, no_line}
 
 -- ## Settled
 
@@ -83,10 +83,6 @@ line_first i t lines is = grind (arith, common_steps, cond_both, eq-eqb)
 pub line_later : (i : ℕ) (t : Transfer) (lines : List Transfer) → t.input ≢ i → line_of_input i (t ∷ lines) ≡
     line_of_input i lines
 line_later i t lines other = grind (arith, common_steps, cond_both, eqb-true)
-
-no_line : (i : ℕ) (lines : List Transfer) → AllByRecursion (λ u. i < u.input) lines → line_of_input i lines ≡ None
-no_line i [] all = refl
-no_line i (t ∷ lines) all = grind (arith, common_steps, cond_both, eqb-true, no_line i lines all.1)
 
 -- all lines are of the n inputs from a on
 abbrev Between : ℕ → ℕ → List Transfer → Type 0

@@ -1,6 +1,8 @@
--- The lines of a phase, told input by input. Once the inputs below n had their turn, their partners are what their
--- lines tell and no other input has one, so an output that is taken then is taken by a lesser input's line.
-use Rattle.cq_audit.proofs.Terms.{common_steps, rules, ◌≡◌, ◌≢◌, ℕ, ◌+◌, ◌<◌, ◌≤◌, ◌⊎◌, List, [], ◌∷◌, length, map, get_or, None, Some, arith, replicate, AllByRecursion, range_with_len, cases_lt, cases_eq, cond_both, eqb-true, length-replicate, length-set, get_or-set_same, get_or-set_other, ext_get_or, get_or-map-range_with_len, length-map-range_with_len, Queued, Transfer, Waiting, cells_of, list_of, Partners, partner_of, with_pair, IsFreeOutput, nobody, IsOf, AreRight, IsFirstWrong, IsWrongLine, first_id, line_of_input, output_told, told}
+-- The lines of a phase, told one after another. Their inputs rise, so where a line has its turn, those before it are of
+-- lesser inputs and those behind it of greater ones: it is the line of its input, and an output that is taken then is
+-- taken by a lesser input's line.
+use Rattle.cq_audit.proofs.Terms.{common_steps, rules, ◌≡◌, ◌≢◌, ℕ, ◌+◌, ◌<◌, ◌≤◌, ◌⊎◌, List, [], ◌∷◌, ◌++◌, length, map, get_or, take, drop, None, Some, refl, ap, sym, ◌∙◌, arith, replicate, option_map, AllByRecursion, range_with_len, ⊎_elim, cases_eq, cond_both, eq-eqb, eqb-true, length-map, length-replicate, length-set, get_or-set_same, get_or-set_other, ext_get_or, get_or-map-range_with_len, length-map-range_with_len, take-append-drop, take_all, take_more, drop_more, find-append, all_back, all_weaker, Queued, Transfer, Waiting, cells_of, list_of, Partners, partner_of, with_pair, IsFreeOutput, nobody, IsOf, AreRight, IsFirstWrong, IsWrongLine, RiseByInput, first_id, line_of_input, output_told, told}
+use Rattle.cq_audit.specs.Pairs.{CanBeJoined}
 
 -- the list of an input that is one
 pub cells_at : (lists : List Waiting) (i : ℕ) (w : Waiting) → i < length lists → get_or lists i w ≡ w →
@@ -20,53 +22,148 @@ module _ (i : ℕ) where
   line_holds P [] t all e = absurd (let Q : ⊥ = cc in Q)
   line_holds P (u ∷ lines) t all e = grind (arith, common_steps, cond_both, line_holds P lines t all.1)
 
+  pub no_line : (lines : List Transfer) → AllByRecursion (λ u. i < u.input) lines → line_of_input i lines ≡ None
+  no_line [] all = refl
+  no_line (t ∷ lines) all = grind (arith, common_steps, cond_both, eqb-true, no_line lines all.1)
+
 -- ## The pairs so far
 
-pub record ToldUntil (lists : List (List Queued)) (lines : List Transfer) (n : ℕ) (m : Partners) : Type 0 where
+-- the lines that were looked at are right, and these are the pairs that they tell
+pub record ToldBy (lists : List (List Queued)) (lines : List Transfer) (m : Partners) : Type 0 where
   pub size : length m ≡ length lists
-  pub inside : n ≤ length lists
-  pub done : (i : ℕ) → i < n → partner_of m i ≡ output_told lines i
-  pub free : (i : ℕ) → n ≤ i → partner_of m i ≡ None
-  pub right : (i : ℕ) → i < n → IsWrongLine lists lines i → ⊥
+  pub told : (i : ℕ) → partner_of m i ≡ output_told lines i
+  pub right : AreRight lists lines
 
--- before the first input
-pub none_told : (lists : List (List Queued)) (lines : List Transfer) (ports : ℕ) → ports ≡ length lists →
-    ToldUntil lists lines 0 (replicate ports None)
-none_told lists lines ports e = grind (arith, common_steps, length-replicate, nobody)
+-- before the first line
+pub none_told : (lists : List (List Queued)) (ports : ℕ) → ports ≡ length lists →
+    ToldBy lists [] (replicate ports None)
+none_told lists ports e = grind (arith, common_steps, length-replicate, nobody)
 
-module _ (lists : List (List Queued)) (lines : List Transfer) (n : ℕ) (m : Partners)
-    (had : ToldUntil lists lines n m) where
-  -- the line of input n is not wrong, if it has one, and its partner is told now
-  module _ (next : Partners) (size : length next ≡ length m) (below : n < length lists)
-      (here : partner_of next n ≡ output_told lines n) (others : (i : ℕ) → i ≢ n → partner_of next i ≡ partner_of m i)
-      (right : IsWrongLine lists lines n → ⊥) where
-    pub one_more : ToldUntil lists lines (n + 1) next
-    one_more = search (arith, rules, cases_eq, cases_lt)
+-- all lines were looked at
+pub at_end : {lists : List (List Queued)} {lines : List Transfer} {n : ℕ} {m : Partners} →
+    ToldBy lists (take n lines) m → length lines ≤ n → ToldBy lists lines m
+at_end had all = grind (arith, common_steps, take_all)
 
-  -- it has none
-  pub no_line : n < length lists → line_of_input n lines ≡ None → ToldUntil lists lines (n + 1) m
-  no_line below none = grind (arith, common_steps, one_more)
+pub all_told : (lists : List (List Queued)) (lines : List Transfer) (m : Partners) (ports : ℕ) →
+    ports ≡ length lists → ToldBy lists lines m → m ≡ told ports lines
+unfolding told
+all_told lists lines m ports square had =
+    let long = length-map-range_with_len (output_told lines) 0 ports in
+    ext_get_or None m (map (output_told lines) (range_with_len 0 ports)) (omega arith)
+    (search (arith, rules, get_or-map-range_with_len, had.told))
 
-  module _ (t : Transfer) (stands : line_of_input n lines ≡ Some t) where
-    -- its line is right
-    pub right_line : n < length lists → t.output < length m → first_id t.output (list_of lists n) ≡ Some t.id →
-        IsFreeOutput m t.output → ToldUntil lists lines (n + 1) (with_pair m n t.output)
-    right_line below inside names free =
-        search (arith, rules, one_more, length-set, get_or-set_same, get_or-set_other, had.done)
+-- ## One line more
 
-    -- its line is wrong
-    pub wrong_line : (first_id t.output (list_of lists n) ≢ Some t.id) ⊎ ((k : ℕ) × (partner_of m k ≡ Some t.output)) →
-        IsFirstWrong lists lines n
-    wrong_line why = search (arith, rules, cases_lt, had.done, had.free)
+-- a line that is wrong is so where the lines of this input and of lesser ones are the same
+same_wrong : (lists : List (List Queued)) (xs ys : List Transfer) (i : ℕ) →
+    ((k : ℕ) → k ≤ i → line_of_input k xs ≡ line_of_input k ys) → IsWrongLine lists xs i → IsWrongLine lists ys i
+same_wrong lists xs ys i same wrong = search (arith, rules, same)
 
-  -- all inputs had their turn
-  module _ (ports : ℕ) (square : ports ≡ length lists) (end : n ≡ ports) where
-    pub all_told : m ≡ told ports lines
-    unfolding told
-    all_told =
-        let long = length-map-range_with_len (output_told lines) 0 ports in
-        ext_get_or None m (map (output_told lines) (range_with_len 0 ports)) (omega arith)
-        (search (arith, rules, get_or-map-range_with_len, had.done))
+module _ (t : Transfer) (rest : List Transfer) where
+  lesser_before : (front : List Transfer) → RiseByInput (front ++ t ∷ rest) →
+      AllByRecursion (λ u. u.input < t.input) front
+  lesser_before [] rise = tt
+  lesser_before (u ∷ front) rise =
+      ((all_back (λ v. u.input < v.input) front (t ∷ rest) rise.0).0, lesser_before front rise.1)
 
-    pub all_right : AllByRecursion (IsOf ports) lines → AreRight lists lines
-    all_right inside i wrong = search (rules, line_holds, line_is_of, cases_lt)
+  greater_behind : (front : List Transfer) → RiseByInput (front ++ t ∷ rest) →
+      AllByRecursion (λ u. t.input < u.input) rest
+  greater_behind [] rise = rise.0
+  greater_behind (u ∷ front) rise = greater_behind front rise.1
+
+module _ (front : List Transfer) (t : Transfer) (lesser : AllByRecursion (λ u. u.input < t.input) front) where
+  -- an input that has a line among those before is lesser
+  told_before : (k : ℕ) (u : Transfer) → line_of_input k front ≡ Some u → k < t.input
+  told_before k u is =
+      let less : u.input < t.input = line_holds k (λ v. v.input < t.input) front u lesser is in
+      let own : u.input ≡ k = line_is_of k front u is in omega arith
+
+  free_before : line_of_input t.input front ≡ None
+  free_before = grind (arith, common_steps, told_before)
+
+  own_line : (rest : List Transfer) → line_of_input t.input (front ++ t ∷ rest) ≡ Some t
+  own_line rest = grind (arith, common_steps, find-append, free_before, cond_both, eq-eqb)
+
+  lesser_line : (rest : List Transfer) → AllByRecursion (λ u. t.input < u.input) rest → (k : ℕ) → k < t.input →
+      line_of_input k (front ++ t ∷ rest) ≡ line_of_input k front
+  lesser_line rest greater k less =
+      let none = no_line k (t ∷ rest) (less, all_weaker _ _ (λ u above. omega arith) rest greater) in
+      grind (arith, common_steps, find-append)
+
+  other_line : (k : ℕ) → k ≢ t.input → line_of_input k (front ++ t ∷ []) ≡ line_of_input k front
+  other_line k other = grind (arith, common_steps, find-append, cond_both, eqb-true)
+
+module _ (lists : List (List Queued)) (lines front rest : List Transfer) (t : Transfer) (m : Partners)
+    (parts : lines ≡ front ++ t ∷ rest) (rise : RiseByInput lines) (had : ToldBy lists front m) where
+  rises : RiseByInput (front ++ t ∷ rest)
+  rises = rw parts at rise
+
+  less : AllByRecursion (λ u. u.input < t.input) front
+  less = lesser_before t rest front rises
+
+  -- it is wrong
+  pub wrong_line : (first_id t.output (list_of lists t.input) ≢ Some t.id)
+      ⊎ ((k : ℕ) × (partner_of m k ≡ Some t.output)) → IsFirstWrong lists lines t.input
+  wrong_line why =
+      let same = lesser_line front t less rest (greater_behind t rest front rises) in
+      let own = own_line front t less rest in
+      let before = told_before front t less in
+      rw parts (record {
+        wrong = search (arith, rules, same, own, before, had.told);
+        least = λ k below wrong. had.right k
+            (same_wrong lists (front ++ t ∷ rest) front k (λ j le. same j (omega arith)) wrong);
+      })
+
+  -- it is right
+  pub right_line : t.input < length m → first_id t.output (list_of lists t.input) ≡ Some t.id →
+      IsFreeOutput m t.output → ToldBy lists (front ++ t ∷ []) (with_pair m t.input t.output)
+  right_line inside names free =
+      let own = own_line front t less [] in
+      let other = other_line front t less in
+      let before = told_before front t less in
+      record {
+        size = search (arith, rules, length-set, had.size);
+        told = λ i. grind (arith, common_steps, get_or-set_same, get_or-set_other, had.told, own, other, cases_eq);
+        right = λ i wrong. ⊎_elim (λ (at : i ≡ t.input). grind (arith, common_steps, own, other, had.told, free))
+            (λ (away : i ≢ t.input).
+            let low : i < t.input = before i wrong.line (sym (other i away) ∙ wrong.stands) in
+            had.right i (same_wrong lists (front ++ t ∷ []) front i (λ j le. other j (λ e. omega arith)) wrong))
+            (cases_eq i t.input);
+      }
+
+-- the same of the line at place n
+module _ (ws : List Waiting) (lines : List Transfer) (n : ℕ) (d : Transfer) (m : Partners) (w : Waiting)
+    (inside : n < length lines) (of : AllByRecursion (IsOf (length ws)) lines) (rise : RiseByInput lines)
+    (had : ToldBy (cells_of ws) (take n lines) m) (is : w ≡ get_or ws (get_or lines n d).input w) where
+  abbrev line : Transfer
+  line = get_or lines n d
+
+  parts : lines ≡ take n lines ++ line ∷ drop (n + 1) lines
+  parts = grind (arith, common_steps, drop_more, take-append-drop)
+
+  own : IsOf (length ws) line
+  own = (all_back _ (take n lines) (line ∷ drop (n + 1) lines) (rw parts at of)).0
+
+  list : list_of (cells_of ws) line.input ≡ w.cells
+  list = cells_at ws line.input w own.input (sym is)
+
+  long : length m ≡ length ws
+  long = had.size ∙ length-map ws (λ (x : Waiting). x.cells)
+
+  pub wrong_at : (first_id line.output w.cells ≢ Some line.id) ⊎ ((k : ℕ) × (partner_of m k ≡ Some line.output)) →
+      IsFirstWrong (cells_of ws) lines line.input
+  wrong_at why = wrong_line (cells_of ws) lines (take n lines) (drop (n + 1) lines) line m parts rise had (rw list why)
+
+  pub can_join : IsFreeOutput m line.output → CanBeJoined m line.input line.output
+  can_join free =
+      let none : partner_of m line.input ≡ None =
+      had.told line.input ∙ ap (option_map (λ (t : Transfer). t.output))
+      (free_before (take n lines) line (less _ _ _ _ _ m parts rise had)) in
+      let size = long in search (arith, rules, own)
+
+  pub right_at : first_id line.output w.cells ≡ Some line.id → IsFreeOutput m line.output →
+      ToldBy (cells_of ws) (take (n + 1) lines) (with_pair m line.input line.output)
+  right_at names free =
+      let size = long in
+      rw (take_more lines n d inside) (right_line (cells_of ws) lines (take n lines) (drop (n + 1) lines) line m parts
+      rise had (grind (arith, common_steps, own)) (rw list names) free)

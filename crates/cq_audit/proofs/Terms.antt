@@ -1,5 +1,5 @@
 -- The words of this crate's proofs that stand elsewhere, each passed on from its place.
-pub use Rattle.cq_base.proofs.Library.{AllByRecursion, Bool, Err, IfErr, IfSome, IsOk, IsTrue, List, None, Ok, OnOk, Option, Result, Some, YieldsList-from_slice, [], and_from, and_left, and_parts, and_right, ap, append-nil, append_assoc, append_cancel_left, arith, cases_Bool, cases_eq, cases_lt, cases_order, common_steps, cond-false, cond_both, cons_option, drop, eq-eqb, eqb, eqb-true, err_from_is_err_and, ext_get_or, false, false_from_ne_true, filter, filter-append, filter_map, find_from_yields_List, get_or, get_or-map-range_with_len, get_or-set_other, get_or-set_same, get_or-take, get_or_past, inl, inr, le-ltb, length, length-append, length-map, length-map-range_with_len, length-replicate, length-set, length-take-le, lit≤, lt-ltb, ltb-true, map, min, ne_eqb, not, option_map, position_or_len, range_with_len, refl, replicate, rules, slice_get, subst, suc, sym, take, take-append-drop, take-append-le, take-take, take_all, take_rest, tests, true, zero, ℕ, ⊎_elim, ⊤, ◌*◌, ◌++◌, ◌+◌, ◌-◌, ◌<◌, ◌^◌, ◌↔◌, ◌∙◌, ◌∷◌, ◌≡◌, ◌≢◌, ◌≤◌, ◌⊎◌}
+pub use Rattle.cq_base.proofs.Library.{AllByRecursion, Bool, Err, IfErr, IfSome, IsOk, IsTrue, List, None, Ok, OnOk, Option, Result, Some, [], and_from, and_left, and_parts, and_right, ap, append-nil, append_assoc, append_cancel_left, arith, cases_Bool, cases_eq, cases_lt, cases_order, common_steps, cond-false, cond_both, cons_option, drop, drop_more, eq-eqb, eqb-true, err_from_is_err_and, ext_get_or, false, false_from_ne_true, filter, filter-append, filter_map, find-append, get_or, get_or-map-range_with_len, get_or-set_other, get_or-set_same, get_or-take, get_or_past, inl, inr, le-ltb, length, length-append, length-map, length-map-range_with_len, length-replicate, length-set, length-take-le, lit≤, lt-ltb, ltb-true, map, min, ne_eqb, not, option_map, position_or_len, range_with_len, refl, replicate, rules, slice_get, subst, suc, sym, take, take-append-drop, take-append-le, take-take, take_all, take_more, take_rest, true, zero, ℕ, ⊎_elim, ⊤, ◌*◌, ◌++◌, ◌+◌, ◌-◌, ◌<◌, ◌^◌, ◌↔◌, ◌∙◌, ◌∷◌, ◌≡◌, ◌≢◌, ◌≤◌, ◌⊎◌}
 pub use Rattle.cq_base.proofs.Lists.{all_at, all_insert, all_left, first_here, first_later}
 pub use Rattle.cq_base.specs.Arrivals.{arrival_at, no_arrivals}
 pub use Rattle.cq_base.specs.Arriving.{Arrival, arriving, end_of, enough}
@@ -48,7 +48,7 @@ pub use Rattle.cq_traffic.proofs.ForPorts.{arrivals_for, one_found, slots_fit}
 pub use Rattle.cq_traffic.proofs.FromInputs.{arrives_found, come_from, first_more, from_here, from_last, no_more_from, one_if, some_one}
 pub use Rattle.cq_traffic.proofs.Quiet.{quiet_of, quiet_slots}
 pub use Rattle.cq_audit.specs.Terms.{AreInOrder, Cell, Comes, FirstIsLeast, IsLog, IsLogExact, IsLogFault, IsOf, IsReady, IsStill, IsStillUntil, IsTransfer, IsTransferBefore, Machine, RunEnds, Setup, Transfer, numbers_behind}
-pub use Rattle.cq_base.proofs.Each.{all_both, all_front, all_weaker}
+pub use Rattle.cq_base.proofs.Each.{all_both, all_front, all_weaker, all_back}
 pub use Rattle.cq_base.specs.declared.cell.CellId.{CellId}
 pub use Rattle.cq_scfq.specs.Discipline.{machine_from}
 pub use Rattle.cq_ideal.proofs.{FlowFound.all_found, LimitedParts.limited_parts, LimitedRuns.run_fault, Resting.length-idle, Sending.length-told, Slot.by_marks}

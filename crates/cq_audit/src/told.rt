@@ -1,18 +1,11 @@
 //! The pairs that the lines of a phase tell.
 ghost use Rattle.std.specs.Prelude.{◌≡◌, ◌≢◌, ◌<◌, ◌≤◌, ◌↔◌, ◌⊎◌, ℕ, IfErr, IfOk, IsTrue, Some, false, length};
 ghost use Rattle.std.specs.List.{AllByRecursion};
-ghost use Rattle.cq_audit.specs.Terms.{cells_of, IsFreeOutput, partner_of, IsOf, AreRight, IsFirstWrong, first_id, line_of_input, told};
+ghost use Rattle.cq_audit.specs.Terms.{cells_of, IsFreeOutput, partner_of, IsOf, AreRight, IsFirstWrong, RiseByInput, first_id, told};
 
 use crate::pairs::Pairs;
 use cq_base::{Port, Transfer};
 use cq_list::InputList;
-
-// The line of an input, if it has one.
-fn line_of(lines: &[Transfer], input: Port) -> Option<Transfer>
-    ensures { result ≡ line_of_input input lines.now }
-{
-    lines.iter().find(|line| line.input == input).copied()
-}
 
 // Whether a line names the first cell that the list has for its output.
 fn names_first(list: &InputList, line: &Transfer) -> bool
@@ -35,25 +28,24 @@ fn is_right(list: &InputList, pairs: &Pairs, line: &Transfer) -> bool
     names_first(list, line) && pairs.input_of(line.output).is_none()
 }
 
-/// The pairs that the lines of a phase tell: each names its input's first cell for its output, and no output is in
-/// two of them. The error is the least input whose line is wrong. It takes no memory.
-#[tactic(auto, using(crate::proofs::TellingLines::none_told, crate::proofs::TellingLines::wrong_line, crate::proofs::TellingLines::cells_at))]
+/// The pairs that the lines of a phase tell, which come in order of input: each names its input's first cell for its
+/// output, and no output is in two of them. The error is the least input whose line is wrong. It takes no memory, and
+/// each line is looked at once.
+#[tactic(auto, using(crate::proofs::TellingLines::none_told, crate::proofs::TellingLines::cells_at))]
 pub fn told(lists: &[InputList], lines: &[Transfer]) -> Result<Pairs, Port>
     requires few { length lists.now ≤ 64 }
     requires lines { AllByRecursion (IsOf (length lists.now)) lines.now }
+    requires rise { RiseByInput lines.now }
     ensures pairs { IfOk result (λ pairs. pairs ≡ told (length lists.now) lines.now) }
     ensures right { IfOk result (λ pairs. AreRight (cells_of lists.now) lines.now) }
     ensures wrong { IfErr result (λ input. IsFirstWrong (cells_of lists.now) lines.now input) }
 {
     let mut pairs = Pairs::none(lists.len() as u16);
-    'inputs: for input in 0..lists.len() as u16 {
-        if let Some(line) = line_of(lines, input) {
-            if is_right(&lists[input as usize], &pairs, &line) {
-                pairs.join(input, line.output);
-            } else {
-                return Err(input);
-            }
+    'lines: for line in lines {
+        if !is_right(&lists[line.input as usize], &pairs, line) {
+            return Err(line.input);
         }
+        pairs.join(line.input, line.output);
     }
     Ok(pairs)
 }

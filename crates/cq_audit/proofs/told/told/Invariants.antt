@@ -1,7 +1,7 @@
-use Rattle.cq_audit.proofs.Terms.{cells_of}
-use Rattle.cq_audit.proofs.TellingLines.{ToldUntil}
+use Rattle.cq_audit.proofs.Terms.{take, cells_of}
+use Rattle.cq_audit.proofs.TellingLines.{ToldBy}
 use Rattle.cq_audit.proofs.told.told.Given as goal
 
--- the inputs before this one are joined as their lines tell, and none of these is wrong
-abbrev pub invariant-inputs : goal.invariant-inputs
-invariant-inputs l = ToldUntil (cells_of l.lists) l.lines l.input l.pairs
+-- the lines before this one are right, and these are the pairs that they tell
+abbrev pub invariant-lines : goal.invariant-lines
+invariant-lines l = ToldBy (cells_of l.lists) (take l.line-index l.lines) l.pairs
