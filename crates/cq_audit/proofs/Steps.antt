@@ -129,7 +129,7 @@ pub record Replaying (M : List ℕ → Machine) (came : List Arrival) (lines : L
   pub none_before : NoneBefore slot 1 rest
   pub in_step : IsInStep (map M now.fixed) slot now
   pub made : IsMadeAs first now
-  pub note_room : note.spare ≡ length rest + 2 * ports_in now
+  pub note_room : note.spare + length note.items ≡ 2 * ports_in now
 
 -- ## Before the first slot
 
@@ -172,6 +172,11 @@ module _ {M : List ℕ → Machine} {came : List Arrival} {lines : List Transfer
 
   pub rest_is_short : length rest ≤ length lines
   rest_is_short = grind (arith, common_steps, length-append, moved)
+
+  -- what was noted is taken out, and its room is there again
+  pub cleared : (note' : RoomView Transfer) → note'.items ≡ [] → note'.spare ≡ note.spare + length note.items →
+      Replaying M came lines first slot rest now note'
+  cleared note' none room = grind (arith, common_steps)
 
   -- ## Slots that are skipped
 
@@ -259,9 +264,9 @@ module _ {M : List ℕ → Machine} {came : List Arrival} {lines : List Transfer
           now.fabric.state.ranks)
       fit = grind (arith, common_steps, ranks_fit, run_from_start)
 
-      pub can_replay : (cells : List (Option Cell)) → cells ≡ arriving came slot →
+      pub can_replay : (cells : List (Option Cell)) → cells ≡ arriving came slot → note.items ≡ [] →
           CanReplay (map M now.fixed) slot cells rest now note
-      can_replay cells are =
+      can_replay cells are none =
           let run = run_from_start in
           let for_ports = arrivals_for (ports_in first) (class_count (map M first.fixed)) came slot ready.traffic in
           search (arith, rules, fit, a_slot_left, list_is_short, output_is_short)

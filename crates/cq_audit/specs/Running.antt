@@ -42,8 +42,8 @@ pub record IsStillUntil (came : List Arrival) (lines : List Transfer) (slot next
   pub still : IsStill came lines slot next
   pub ends : slot < end_of came → ArrivesIn next came ⊎ HasLineOf next lines
 
--- The fabric has had no slot and holds no cell, there is room for all cells that arrive and for all lines, the lines
--- are in order, and the ideal switch has no tag fault.
+-- The fabric has had no slot and holds no cell, there is room for all cells that arrive, and for what one slot notes,
+-- the lines are in order, and the ideal switch has no tag fault.
 pub record IsReady (ms : List Machine) (came : List Arrival) (lines : List Transfer) (v : ReplayView)
     (note : RoomView Transfer) : Type 0 where
   pub in_step : IsInStep ms 0 v
@@ -54,7 +54,7 @@ pub record IsReady (ms : List Machine) (came : List Arrival) (lines : List Trans
   pub to_outputs : (j : ℕ) → j < ports_in v → slice_index v.to_outputs j ≡ number_of (is_to j) came
   pub in_order : AreInOrder (ports_in v) lines
   pub ranked : IsOk (whole_limited_run v.limits ms came (empty_limited (ports_in v) v.fabric.state.ranks))
-  pub note_room : note.spare ≡ length lines + 2 * ports_in v
+  pub note_room : note.spare + length note.items ≡ 2 * ports_in v
 
 -- the lines are those of a stable run, or this is the first thing wrong with them
 abbrev pub RunEnds : List Machine → List Arrival → List Transfer → ReplayView → Result (Unit {0}) AuditRefusal → Type 0

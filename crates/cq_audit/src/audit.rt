@@ -35,7 +35,7 @@ pub fn audit_log(
     let lines = read_log(alloc, log, ports)?;
     let from_inputs = rooms_from(alloc, schedule, ports)?;
     let to_outputs = rooms_to(alloc, schedule, ports)?;
-    let mut note = Room::new(alloc, lines.len() as u64 + 2 * ports as u64)?;
+    let mut note = Room::new(alloc, 2 * ports as u64)?;
     let mut replay = Replay::new(
         alloc,
         ranks,
@@ -113,8 +113,8 @@ fn left_over(lines: &[Transfer], rest: &[Transfer]) -> Result<(), AuditRefusal>
     }
 }
 
-// Replays the lines over all cells that arrive. The error is the first fault of a phase, or else the first line that is
-// left at the end of the run.
+// Replays the lines over all cells that arrive. What a slot moves is noted in the room of the slot before it. The error
+// is the first fault of a phase, or else the first line that is left at the end of the run.
 fn replay_run<R: Rank>(
     replay: &mut Replay<R>,
     schedule: &Schedule,
@@ -131,6 +131,7 @@ fn replay_run<R: Rank>(
         slot = skip(replay, schedule, rest, slot);
         schedule.arrive(slot, &mut coming);
         let arrivals = coming.arrivals();
+        note.clear();
         rest = match replay.slot(slot, arrivals, rest, note) {
             Ok(rest) => rest,
             Err(fault) => return Err(AuditRefusal::of_slot(slot, fault)),

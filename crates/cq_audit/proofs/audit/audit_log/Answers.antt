@@ -1,4 +1,4 @@
-use Rattle.cq_audit.proofs.Terms.{rules, ◌≡◌, List, length, ap, ◌∙◌, arith, length-map, length-map-range_with_len, err_from_is_err_and, Transfer, IsLog, machine_from}
+use Rattle.cq_audit.proofs.Terms.{rules, ◌≡◌, length, ◌∙◌, arith, length-map, length-map-range_with_len, err_from_is_err_and, IsLog, machine_from}
 use Rattle.cq_audit.proofs.Opened.{IsOpened, opened, ready, verdict}
 use Rattle.cq_audit.proofs.LogLines.{log_in_order}
 use Rattle.cq_audit.proofs.audit.audit_log.Goals as goal
@@ -51,15 +51,13 @@ replay_run-requires c =
     let kinds = ranked at.In_ok-ranks in
     let made = c.in_ok-replay.ensures in
     let lines = c.as_slice-3.ensures.value in
-    let many = ap (λ (l : List Transfer). length l) lines in
-    let spare = c.in_ok-note.ensures.spare in
     ready (stands at.After-as_slice-3 kinds) c.args.schedule.now.came c.as_slice-3.result.now c.in_ok-note.note
     c.len-ports.result (counted at.After-len-ports ∙ kinds) made.in_step
     (c.in_ok-ranks.ensures.classes c.requires.some) c.requires.traffic c.requires.short c.requires.ranked
     (made.from_inputs ∙ c.as_slice.ensures.value ∙ c.in_ok-from_inputs.ensures)
     (made.to_outputs ∙ c.as_slice-2.ensures.value ∙ c.in_ok-to_outputs.ensures)
     (rw lines (log_in_order c.len-ports.result c.in_ok-lines.lines.items c.args.log.now c.in_ok-lines.ensures.read))
-    (omega (arith, many, c.len.ensures, c.in_ok-lines.lines.ok))
+    c.in_ok-note.ensures.items c.in_ok-note.ensures.spare
 
 pub returns : goal.returns
 returns c =
