@@ -7,20 +7,12 @@ use cq_base::{Figures, NoMemory, Port, Queued, Sequence};
 use cq_laws::Frozen;
 use std::alloc::Global;
 
-// The same items. The error is want of memory.
-fn copied<T: Copy>(alloc: Global, items: &Sequence<T>) -> Result<Sequence<T>, NoMemory>
-    ensures { IfOk result (λ copy. copy ≡ items.now) }
-{
-    let copy = Vec::from_slice(alloc, items.as_slice())?;
-    Ok(Sequence::of(copy))
-}
-
 /// The same figures. The error is want of memory.
 pub fn copied_figures(alloc: Global, figures: &Figures) -> Result<Figures, NoMemory>
     ensures { IfOk result (λ copy. copy ≡ figures.now) }
 {
-    let inputs = copied(alloc, &figures.inputs)?;
-    let outputs = copied(alloc, &figures.outputs)?;
+    let inputs = Sequence::copy_of(alloc, figures.inputs.as_slice())?;
+    let outputs = Sequence::copy_of(alloc, figures.outputs.as_slice())?;
     Ok(Figures {
         slots: figures.slots,
         proposals: figures.proposals,

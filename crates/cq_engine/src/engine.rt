@@ -212,8 +212,8 @@ impl<R: Rank> Engine<R> {
         requires { self.now.stopped ≡ false }
         ensures { IfOk result (λ frozen. frozen ≡ frozen_of self.now) }
     {
-        let refused = Vec::from_slice(alloc, self.limiter.refused())?;
-        let marks = Vec::from_slice(alloc, self.limiter.marks())?;
+        let refused = Sequence::copy_of(alloc, self.limiter.refused())?;
+        let marks = Sequence::copy_of(alloc, self.limiter.marks())?;
         let figures = copied_figures(alloc, &self.figures)?;
         let ranks = self.ranks.numbers(alloc)?;
         let lists = self.queues.listed(alloc)?;
@@ -221,8 +221,8 @@ impl<R: Rank> Engine<R> {
         Ok(Frozen {
             next: self.next,
             figures,
-            refused: Sequence::of(refused),
-            marks: Sequence::of(marks),
+            refused,
+            marks,
             ranks,
             lists,
             buffers,

@@ -3,7 +3,7 @@ ghost use Rattle.std.specs.Prelude.{◌≡◌, ℕ, ◌-◌, [], ◌<◌, ◌^�
 ghost use Rattle.std.specs.List.{enumerate_from, reduce};
 ghost use Rattle.cq_base.specs.declared.figures.InputFigures.{InputFigures as OfInput};
 ghost use Rattle.cq_base.specs.declared.figures.OutputFigures.{OutputFigures as OfOutput};
-ghost use Rattle.cq_engine.specs.Terms.{Queued, list_of, either_by, slacks, came_to, IsNewest, fabric_of, arriving_slack, input_counted, output_counted, slack_seen, wait_of};
+ghost use Rattle.cq_engine.specs.Terms.{Queued, list_of, either_by, slacks, came_to, IsNewest, fabric_of, arriving_slack, input_counted, output_counted, slack_seen};
 
 use cq_base::{InputFigures, OutputFigures, Queued, Sequence, Slot};
 use cq_fabric::Queues;
@@ -135,25 +135,15 @@ fn input_counted(
     }
 }
 
-// How long the cell that left had waited, if one left.
-fn wait_of(slot: Slot, gone: Option<Queued>) -> Option<u64>
-    ensures { result ≡ wait_of slot gone }
-{
-    match gone {
-        None => None,
-        Some(queued) => Some(slot.saturating_sub(queued.key.slot)),
-    }
-}
-
-// What was seen of an output, with a slot more.
+// What was seen of an output, with a cell that left it in this slot.
 #[tactic(auto, unfolding(crate::specs::Measuring::output_counted))]
-fn output_counted(figures: OutputFigures, slot: Slot, gone: Option<Queued>) -> OutputFigures
+fn output_counted(figures: OutputFigures, slot: Slot, gone: Queued) -> OutputFigures
     requires { figures.cells < 2 ^ 64 - 1 }
-    ensures { result ≡ output_counted slot gone figures }
+    ensures { result ≡ output_counted slot (Some gone) figures }
 {
     OutputFigures {
-        cells: figures.cells + count_of(gone),
-        wait: greater(figures.wait, wait_of(slot, gone)),
+        cells: figures.cells + 1,
+        wait: greater(figures.wait, Some(slot.saturating_sub(gone.key.slot))),
     }
 }
 
@@ -193,7 +183,7 @@ pub fn count_outputs(outputs: &mut Sequence<OutputFigures>, slot: Slot, gone: &[
 {
     'outputs: for output in 0..gone.len() {
         if let Some(queued) = gone[output] {
-            let counted = output_counted(outputs.as_slice()[output], slot, Some(queued));
+            let counted = output_counted(outputs.as_slice()[output], slot, queued);
             outputs.set(output, counted);
         }
     }

@@ -1,14 +1,9 @@
 -- Only proofs use this.
--- Cells that are told by a function, place by place or item by item, and items that a function fills with cells.
+-- Cells that are told by a function, item by item, and items that a function fills with cells.
 use denote.Ref.{Bor}
-use Rattle.std.specs.Prelude.{◌≡◌, ℕ, ◌<◌, List, length, map, replicate, slice_get, slice_index, Some, take}
+use Rattle.std.specs.Prelude.{◌≡◌, ℕ, ◌<◌, List, length, map, replicate, slice_index, take}
 use Rattle.cq_base.specs.declared.cell.Queued.{Queued}
 use Rattle.cq_prefs.specs.FirstCells.{list_of}
-
--- the cells are those of a list of which the function tells so many places
-abbrev pub AreTold : (ℕ → Queued → Type 0) → ℕ → List Queued → Type 0
-AreTold tells n cells = (all : List Queued) → length all ≡ n →
-    ((i : ℕ) (c : Queued) → i < n → tells i c → slice_get all i ≡ Some c) → cells ≡ all
 
 -- of each item the function told its cells
 abbrev pub AllAreTold : {X : Type 0} → (X → List Queued → Type 0) → List X → List (List Queued) → Type 0

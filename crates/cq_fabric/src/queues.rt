@@ -5,7 +5,7 @@ ghost use Rattle.cq_base.specs.declared.cell.Queued.{Queued as OfCell};
 ghost use Rattle.cq_fabric.specs.Terms.{cushion, fronts, rests, cells_of, cells_in, first_key, key_before, list_of, orders_of, Moves, transfers_of, IsMatching, MovesRoom, came_to, list_arrived, CanCrossInPairs, CanFollow, CanHold, IsNewest, CanCross, ComeApart, Comes, FitEach, FitLists, Fits, buffer_room, fabric_of, list_at, list_room, list_with};
 
 use crate::gone::Gone;
-use crate::standing::{all_told, buffered, filled_buffer, filled_each, filled_list, listed};
+use crate::standing::{all_told, buffered, filled_buffer, filled_each, filled_list};
 use cq_base::{Key, NoMemory, Port, Queued, Room, Sequence, Slot, Transfer};
 use cq_ideal::Newcomers;
 use cq_list::InputList;
@@ -226,7 +226,7 @@ impl Queues {
     pub fn listed(&self, alloc: Global) -> Result<Sequence<Sequence<Queued>>, NoMemory>
         ensures { IfOk result (λ lists. lists ≡ self.now.inputs) }
     {
-        all_told(alloc, &self.lists, |list| listed(alloc, list))
+        all_told(alloc, &self.lists, |list| list.cells(alloc))
     }
 
     /// The cells of each buffer, the most urgent first. The error is want of memory.
@@ -264,6 +264,7 @@ impl Queues {
             - position_or_len (λ x. x.key.slot == queued.now.key.slot) (list_of self.now.inputs input) }
     {
         let list = &self.lists[input];
+        // Its contract tells that each cell is for one of the outputs, and that those for one stand in order of key.
         let _waiting = list.outputs();
         let place = list.place_of_key(queued.cell.output, queued.key);
         self.buffers[queued.cell.output as usize]
@@ -279,6 +280,7 @@ impl Queues {
             result ≡ cushion c.key (list_of self.now.buffers c.cell.output) - place }
     {
         let list = &self.lists[input];
+        // Its contract tells that each cell is for one of the outputs.
         let _waiting = list.outputs();
         let queued = list.at(place);
         self.buffers[queued.cell.output as usize]

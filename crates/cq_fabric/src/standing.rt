@@ -1,7 +1,7 @@
 //! Lists and buffers in which cells wait from the start, and the cells that wait in them.
 ghost use Rattle.std.specs.Prelude.{◌≡◌, ◌<◌, ◌≤◌, ℕ, IfOk, Ok, length};
 ghost use Rattle.std.specs.Fn.{FnReturnsAt};
-ghost use Rattle.cq_fabric.specs.Terms.{CanStand, CanWait, buffer_room, list_room, AllAreFilled, AllAreTold, AreTold, CanFill};
+ghost use Rattle.cq_fabric.specs.Terms.{CanStand, CanWait, buffer_room, list_room, AllAreFilled, AllAreTold, CanFill};
 
 use cq_base::{NoMemory, Queued, Sequence};
 use cq_list::InputList;
@@ -64,35 +64,16 @@ pub fn filled_each<T: Drop, F: Fn(u64, &[Queued]) -> Result<T, NoMemory>>(
     Ok(made)
 }
 
-// The cells that stand at so many places, in order. The error is want of memory.
-#[tactic(auto, using(std::proofs::lemmas::List::take_all))]
-fn told<F: Fn(u64) -> Queued>(
-    alloc: Global,
-    count: u64,
-    at: F,
-) -> Result<Sequence<Queued>, NoMemory>
-    requires { (place : ℕ) → place < count → F.pre at place }
-    ensures { IfOk result (AreTold (F.post at) count) }
-{
-    let mut cells = Vec::with_capacity(alloc, count as usize)?;
-    'places: for place in 0..count {
-        cells.push(at(place))?;
-    }
-    Ok(Sequence::of(cells))
-}
-
-/// The cells of a list, in order. The error is want of memory.
-pub fn listed(alloc: Global, list: &InputList) -> Result<Sequence<Queued>, NoMemory>
-    ensures { IfOk result (λ cells. cells ≡ list.now.cells) }
-{
-    told(alloc, list.len(), |place| list.at(place))
-}
-
 /// The cells of a buffer, the most urgent first. The error is want of memory.
+#[tactic(auto, using(std::proofs::lemmas::List::take_all))]
 pub fn buffered(alloc: Global, buffer: &OutputBuffer) -> Result<Sequence<Queued>, NoMemory>
     ensures { IfOk result (λ cells. cells ≡ buffer.now.cells) }
 {
-    told(alloc, buffer.len(), |place| buffer.at(place))
+    let mut cells = Vec::with_capacity(alloc, buffer.len() as usize)?;
+    'places: for place in 0..buffer.len() {
+        cells.push(buffer.at(place))?;
+    }
+    Ok(Sequence::of(cells))
 }
 
 /// What is told of each of some items, in order. The error is want of memory.

@@ -22,7 +22,7 @@ module _ (blocks : List (List ℕ)) (i : ℕ) {block : List ℕ} (inside : i < l
   block_is : block ≡ get_or blocks i []
   block_is = get_or_read blocks i block inside is_read []
 
-  rest_is : concat (drop i blocks) ≡ block ++ concat (drop (i + 1) blocks)
+  pub rest_is : concat (drop i blocks) ≡ block ++ concat (drop (i + 1) blocks)
   rest_is = rest_more blocks i inside ∙ ap (λ b. b ++ concat (drop (i + 1) blocks)) (sym block_is)
 
   pub ahead_next : length (concat (take i blocks)) + length block ≡ length (concat (take (i + 1) blocks))

@@ -11,4 +11,5 @@ pub mod Nth
 pub mod Put
 pub mod Queues
 pub mod Split
+pub mod Told
 pub mod Walk

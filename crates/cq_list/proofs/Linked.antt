@@ -1,7 +1,7 @@
 -- A queue of nodes that are linked, with one node more or less: it is linked again, and its cells are those of the
 -- queue with the cell put in, or without its head. The other queues keep their nodes, for these have cells for other
 -- outputs.
-use Rattle.cq_list.proofs.Terms.{slice_get-get_or, get_or-insert_at, false, key_laws, IsBefore, first_here, first_later, common_steps, rules, ◌≡◌, ◌≢◌, ℕ, suc, ◌+◌, ◌<◌, ◌≤◌, eqb, true, cond, List, [], ◌∷◌, length, None, Some, sym, ap, ◌∙◌, subst, arith, insert, slice_get, AllByRecursion, position_or_len, cond_both, eqb-true, eqb-false, length-insert, length-map, same_Some, none-some, ◌-◌, slice_get-map, Queued, Key, is_before, Slab, get, Updates, IsRising, HasOtherKey, put, first_inside, all_at, Node, Queue, Nodes, chain, linked, places, cells, EndsAt, IsChained, IsLinked, OthersStay, all_weaker, all_put, rising_put, map-insert}
+use Rattle.cq_list.proofs.Terms.{slice_get-get_or, get_or-insert_at, false, key_laws, IsBefore, first_here, first_later, common_steps, rules, ◌≡◌, ◌≢◌, ℕ, suc, ◌+◌, ◌<◌, ◌≤◌, eqb, true, cond, List, [], ◌∷◌, length, None, Some, sym, ap, ◌∙◌, subst, arith, insert, slice_get, AllByRecursion, position_or_len, cond_both, eqb-true, eqb-false, length-insert, length-map, same_Some, none-some, ◌-◌, slice_get-map, Queued, Key, is_before, Slab, get, Updates, IsRising, HasOtherKey, put, first_inside, all_at, Node, Queue, Nodes, chain, linked, places, cells, EndsAt, IsChained, IsLinked, OthersStay, behind_first, all_weaker, all_put, rising_put, map-insert}
 use Rattle.std.proofs.lemmas.List.Edits.{get_or-insert_above}
 use Rattle.cq_list.proofs.Chain.{chain_stays, chain-at, differs, node_at, IsBehind, chain_behind}
 use Rattle.cq_list.proofs.Put.{put_is, is_later, is_no_sooner, ahead_of_last}
@@ -142,43 +142,53 @@ module _ (old new : Nodes) (j : ℕ) (queue more : Queue) (count k : ℕ) (c : Q
   pub are_more : IsLinked new j more × (cells (linked new more) ≡ put c (cells (linked old queue)))
   are_more = (linked_more, cells_more)
 
--- ## The head taken out
+-- ## The head
 
+module _ {nodes : Nodes} {j : ℕ} {queue : Queue} {node : Node} (had : IsLinked nodes j queue) (some : 0 < queue.len)
+    (here : nodes queue.first ≡ Some node) where
+  begins_with : linked nodes queue ≡ (queue.first, node.queued) ∷ linked nodes (behind_first queue node.next)
+  begins_with =
+      let long : queue.len ≡ suc (queue.len - 1) = omega arith in
+      ap (λ n. chain nodes n queue.first) long ∙ chain-at nodes (queue.len - 1) queue.first node here
+
+  pub cells_behind : cells (linked nodes queue) ≡ node.queued ∷ cells (linked nodes (behind_first queue node.next))
+  cells_behind = ap cells begins_with
+
+  pub linked_behind : IsLinked nodes j (behind_first queue node.next)
+  linked_behind =
+      let rising = subst IsRising cells_behind had.chained.rising in
+      let own = subst (AllByRecursion (λ c. c.cell.output ≡ j)) cells_behind had.own in
+      record {
+        chained = record {
+          whole = search (arith, rules, begins_with);
+          rising = rising.1;
+          last = λ m is. ap (λ l. slice_get (places l) (suc m)) (sym begins_with)
+              ∙ had.chained.last (suc m) (omega arith);
+        };
+        own = own.1;
+      }
+
+-- taken out
 module _ {old new : Slab Node} {j : ℕ} {queue : Queue} {node : Node} (had : IsLinked (get old) j queue)
     (some : 0 < queue.len) (here : get old queue.first ≡ Some node) (less : Updates old new queue.first None) where
-  seen : linked (get old) queue ≡ (queue.first, node.queued) ∷ chain (get old) (queue.len - 1) node.next
-  seen =
-      let long : queue.len ≡ suc (queue.len - 1) = omega arith in
-      ap (λ n. chain (get old) n queue.first) long ∙ chain-at (get old) (queue.len - 1) queue.first node here
-
   others : (i : ℕ) (m : Node) → get old i ≡ Some m → i ≢ queue.first → get new i ≡ Some m
   others i m there ne = less.others i ne ∙ there
 
   pub rest_stay : OthersStay j (get old) (get new)
   rest_stay i m there ne =
-      let own = subst (λ (l : List (ℕ × Queued)). AllByRecursion (λ c. c.cell.output ≡ j) (cells l)) seen had.own in
+      let own = subst (AllByRecursion (λ c. c.cell.output ≡ j)) (cells_behind had some here) had.own in
       grind (arith, common_steps, others, same_Some)
 
-  rest_stays : chain (get new) (queue.len - 1) node.next ≡ chain (get old) (queue.len - 1) node.next
+  rest_stays : linked (get new) (behind_first queue node.next) ≡ linked (get old) (behind_first queue node.next)
   rest_stays =
-      let rising = subst (λ (l : List (ℕ × Queued)). IsRising (cells l)) seen had.chained.rising in
-      let whole : length (chain (get old) (queue.len - 1) node.next) ≡ queue.len - 1 = search (arith, rules, seen) in
+      let rising = subst IsRising (cells_behind had some here) had.chained.rising in
+      let whole = (linked_behind had some here).chained.whole in
       chain_stays (get old) (get new) (λ x. x ≢ node.queued) (search (arith, rules, others, same_Some)) (queue.len - 1)
       node.next whole (search (arith, rules, all_weaker, differs))
 
-  pub cells_less : cells (linked (get old) queue) ≡ node.queued ∷ cells (chain (get new) (queue.len - 1) node.next)
-  cells_less = ap cells seen ∙ ap (λ l. node.queued ∷ cells l) (sym rest_stays)
+  pub cells_less : cells (linked (get old) queue) ≡ node.queued ∷ cells (linked (get new) (behind_first queue node.next))
+  cells_less = cells_behind had some here ∙ ap (λ l. node.queued ∷ cells l) (sym rest_stays)
 
-  pub linked_less : IsLinked (get new) j (record { first = node.next; last = queue.last; len = queue.len - 1 })
-  linked_less =
-      let rising = subst IsRising cells_less had.chained.rising in
-      let own = subst (AllByRecursion (λ c. c.cell.output ≡ j)) cells_less had.own in
-      record {
-        chained = record {
-          whole = search (arith, rules, seen, rest_stays);
-          rising = rising.1;
-          last = λ m is. ap (λ l. slice_get (places l) m) rest_stays
-              ∙ ap (λ l. slice_get (places l) (suc m)) (sym seen) ∙ had.chained.last (suc m) (omega arith);
-        };
-        own = own.1;
-      }
+  pub linked_less : IsLinked (get new) j (behind_first queue node.next)
+  linked_less = is_linked_along (get old) (get new) j (behind_first queue node.next) rest_stays
+      (linked_behind had some here)

@@ -1,6 +1,7 @@
 -- A pool in which one queue changes: each queue is linked as before, and the cells of the others are the same.
-use Rattle.cq_list.proofs.Terms.{common_steps, rules, ◌≡◌, ◌≢◌, ℕ, zero, suc, ◌+◌, ◌<◌, ◌≤◌, List, [], ◌∷◌, replicate, length, get_or, set, refl, ap, ◌∙◌, arith, length-set, get_or-set_same, get_or-set_other, Bool, position_or_len, cases_lt, cases_eq, length-map, get_or-map, get_or_past, get_or_read, ext_get_or, sum_by-set, Slab, get, slab_len, Node, Queued, Queue, PoolView, Nodes, linked, cells, IsLinked, OthersStay, AreLinked, IsPool, no_queue, queue_at, cells_in_queues, queue_of}
-use Rattle.cq_list.proofs.Linked.{linked_stays, is_linked_along}
+use Rattle.cq_list.proofs.Terms.{common_steps, rules, ◌≡◌, ◌≢◌, ℕ, zero, suc, ◌+◌, ◌<◌, ◌≤◌, List, [], ◌∷◌, replicate, length, get_or, set, drop, Some, refl, sym, ap, ◌∙◌, arith, length-set, get_or-set_same, get_or-set_other, Bool, position_or_len, cases_lt, cases_eq, length-map, get_or-map, get_or_past, get_or_read, ext_get_or, sum_by-set, slice_get, Slab, get, slab_len, Node, Queued, Queue, PoolView, Nodes, linked, cells, IsLinked, OthersStay, AreLinked, IsPool, behind_first, no_queue, queue_at, cells_in_queues, queue_of}
+use Rattle.cq_list.proofs.Linked.{linked_stays, is_linked_along, cells_behind, linked_behind}
+use Rattle.cq_list.proofs.Walk.{head_there, head_shown}
 
 -- what is seen of a queue, also beyond the last
 pub queue_seen : (nodes : Nodes) (queues : List Queue) (j : ℕ) →
@@ -89,3 +90,35 @@ module _ {old : Slab Node} (new : Slab Node) {j room : ℕ} {queues : List Queue
       (cells (linked (get old) read)) → cells_in_queues (get new) (set queues j queue) ≡ set seen j
       (f (queue_of seen j))
   view_changed f same = grind (arith, common_steps, cells_changed)
+
+-- ## Its head told
+
+module _ (nodes : Nodes) (queues : List Queue) {seen : List (List Queued)} (j : ℕ) {queue : Queue}
+    (had : AreLinked nodes queues) (is : cells_in_queues nodes queues ≡ seen) (some : 0 < length (queue_of seen j))
+    (read : queue ≡ get_or queues j queue) where
+  head_read : IsRead nodes queues seen j queue
+  head_read = is_read nodes queues seen j queue had is
+      (inside_seen nodes queues seen j is (inside_some seen j 0 some)) read
+
+  pub has_head : 0 < queue.len
+  has_head = let many = as_many head_read in omega arith
+
+  pub head_at : (node : Node) × (nodes queue.first ≡ Some node)
+  head_at = head_there head_read.is_linked.chained has_head
+
+  module _ {node : Node} {rest : Queue} (here : nodes queue.first ≡ Some node)
+      (less : rest ≡ behind_first queue node.next) where
+    pub head_is : slice_get (queue_of seen j) 0 ≡ Some node.queued
+    head_is = ap (λ l. slice_get l 0) head_read.are_cells ∙ head_shown head_read.is_linked.chained has_head here
+
+    pub are_linked_behind : AreLinked nodes (set queues j rest)
+    are_linked_behind = rw less (are_linked_changed nodes nodes j queues (behind_first queue node.next) had head_read.inside
+        (λ i m there ne. there) (linked_behind head_read.is_linked has_head here))
+
+    pub cells_told : cells_in_queues nodes (set queues j rest) ≡ set seen j (drop 1 (queue_of seen j))
+    cells_told =
+        ap (λ q. cells_in_queues nodes (set queues j q)) less
+        ∙ cells_changed nodes nodes j queues (behind_first queue node.next) had head_read.inside (λ i m there ne. there)
+        ∙ ap (λ l. set (cells_in_queues nodes queues) j (drop 1 l))
+        (sym (head_read.are_cells ∙ cells_behind head_read.is_linked has_head here))
+        ∙ ap (λ l. set l j (drop 1 (queue_of seen j))) is

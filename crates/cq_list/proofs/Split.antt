@@ -13,7 +13,7 @@
 --
 -- Last what is looked up: a cell at a place, and the place of the first cell for an output that passes a test, which is
 -- the place of the number k of its output where the number k of the queue is the first that passes.
-use Rattle.cq_list.proofs.Terms.{common_steps, rules, ◌≡◌, ℕ, zero, suc, ◌+◌, eqb, Bool, true, false, cond, List, [], ◌∷◌, ◌++◌, length, take, drop, map, Some, refl, sym, ap, ◌∙◌, arith, take-append-drop, take-map, ◌&&◌, slice_get, remove, insert, filter, AllByRecursion, position_or_len, cond_both, eqb-true, eq-eqb, filter-append, Queued, IsBefore, IsRising, KeepsOrder, HasOtherKey, MoreUrgentAhead, is_for, first_for, without_first, put, place_of_arrival, with_arrival, key_laws, keeps_order_arrival, first_here, first_later, Queues, without_head, merged, IsSplit, place_of_nth, is_output, count_of, all_back, map-insert}
+use Rattle.cq_list.proofs.Terms.{common_steps, rules, ◌≡◌, ℕ, zero, suc, eqb, Bool, true, false, cond, List, [], ◌∷◌, ◌++◌, length, take, drop, map, Some, refl, sym, ap, ◌∙◌, arith, take-append-drop, take-map, ◌&&◌, slice_get, remove, insert, filter, AllByRecursion, position_or_len, cond_both, eqb-true, eq-eqb, filter-append, Queued, IsBefore, IsRising, KeepsOrder, HasOtherKey, MoreUrgentAhead, is_for, first_for, without_first, put, place_of_arrival, with_arrival, key_laws, keeps_order_arrival, first_here, first_later, Queues, without_head, merged, IsSplit, place_of_nth, is_output, count_of, all_back, map-insert}
 use Rattle.cq_list.proofs.Nth.{passes, fails, first_of_both, place_of_nth-map}
 
 -- ## One filter

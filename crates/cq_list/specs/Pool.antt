@@ -1,5 +1,5 @@
 -- A pool of cells that are linked into a queue for each output, and what clauses see of it.
-use Rattle.std.specs.Prelude.{◌≡◌, ◌≢◌, ℕ, zero, suc, ◌+◌, ◌≤◌, List, [], ◌∷◌, length, map, Option, None, Some, slice_get, slice_index_or}
+use Rattle.std.specs.Prelude.{◌≡◌, ◌≢◌, ℕ, zero, suc, ◌+◌, ◌-◌, ◌≤◌, List, [], ◌∷◌, length, map, Option, None, Some, slice_get, slice_index_or}
 use Rattle.std.specs.List.{AllByRecursion, sum_by}
 use Rattle.slab.specs.Slab.{Slab, get, slab_len}
 use Rattle.cq_base.specs.declared.cell.Queued.{Queued}
@@ -61,6 +61,10 @@ pub record IsLinked (nodes : Nodes) (j : ℕ) (queue : Queue) : Type 0 where
 -- the queue with no cell
 abbrev pub no_queue : Queue
 no_queue = record { first = 0; last = 0; len = 0 }
+
+-- the queue without its first node, which leads on to this place
+abbrev pub behind_first : Queue → ℕ → Queue
+behind_first queue next = record { first = next; last = queue.last; len = queue.len - 1 }
 
 -- the queue of an output
 abbrev pub queue_at : List Queue → ℕ → Queue

@@ -69,6 +69,13 @@ impl Block {
         self.places.len()
     }
 
+    /// The outputs of the places, in order.
+    pub fn outputs(&self) -> &[Port]
+        ensures { result.now ≡ self.now }
+    {
+        self.places.as_slice()
+    }
+
     /// The output of a place.
     #[tactic(auto, using(crate::proofs::Counts::in_range_at))]
     pub fn at(&self, place: usize) -> Port

@@ -1,14 +1,15 @@
 //! The list of cells that wait at one input.
-ghost use Rattle.std.specs.Prelude.{◌≡◌, ◌+◌, ◌<◌, ◌≤◌, ◌&&◌, [], Some, IfOk, length, position, slice_get, is_some, not, if◌then◌else◌};
+ghost use Rattle.std.specs.Prelude.{◌≡◌, ◌+◌, ◌<◌, ◌≤◌, ◌&&◌, [], Some, IfOk, OnOk, length, position, slice_get, is_some, not, if◌then◌else◌};
 ghost use Rattle.std.specs.List.{position_or_len};
 ghost use Rattle.cq_base.specs.Key.{is_before};
 ghost use Rattle.cq_base.specs.Cells.{HasOtherKey, MoreUrgentAhead, is_for, has_id, first_for, without_first, with_arrival};
-ghost use Rattle.cq_list.specs.Split.{is_output, place_of_nth, count_of};
+ghost use Rattle.cq_list.specs.Split.{CanTell, HaveTold, is_output, place_of_nth, count_of};
+ghost use Rattle.cq_list.specs.Pool.{queue_of};
 ghost use Rattle.cq_list.specs.InputList.{AreWaiting};
 
 use crate::places::Places;
-use crate::pool::Pool;
-use cq_base::{CellId, Key, NoMemory, Port, Queued};
+use crate::pool::{Heads, Pool};
+use cq_base::{CellId, Key, NoMemory, Port, Queued, Sequence};
 use std::alloc::Global;
 use std::marker::Model;
 
@@ -44,6 +45,18 @@ fn place_behind(places: &Places, output: Port, ahead: usize, all: usize) -> usiz
         return places.len();
     }
     places.place_of(output, ahead, all)
+}
+
+// Tells the cells at these places, behind those that are told. The error is want of memory.
+fn tell<'a>(cells: &mut Vec<Queued>, heads: &mut Heads<'a>, places: &[Port]) -> Result<(), NoMemory>
+    requires { CanTell places.now (queue_of heads.old) }
+    ensures { OnOk result (HaveTold places.now (queue_of heads.old) (queue_of heads.new)
+        cells.old.items cells.new.items) }
+{
+    'places: for output in places {
+        cells.push(heads.next(*output))?;
+    }
+    Ok(())
 }
 
 impl InputList {
@@ -179,5 +192,17 @@ impl InputList {
         let output = self.places.at(place as usize);
         let ahead = self.places.count_ahead(output, place as usize);
         self.pool.at(output, ahead)
+    }
+
+    /// The cells, in order, each looked at once. The error is want of memory.
+    pub fn cells(&self, alloc: Global) -> Result<Sequence<Queued>, NoMemory>
+        ensures { IfOk result (λ cells. cells ≡ self.now.cells) }
+    {
+        let mut heads = self.pool.heads(alloc)?;
+        let mut cells = Vec::with_capacity(alloc, self.places.len())?;
+        'each: for block in self.places.blocks() {
+            tell(&mut cells, &mut heads, block.outputs())?;
+        }
+        Ok(Sequence::of(cells))
     }
 }

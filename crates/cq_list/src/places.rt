@@ -14,9 +14,10 @@ use std::marker::Model;
 /// The places stand in blocks of at most 64, and each block but the last has at least 16, so that memory for a block in
 /// 16 places is enough. A full block is split into two of 32, which 16 places or more have to leave before they are
 /// joined again. The last block stays where it runs empty, so that a list that is often empty makes no block anew. A
-/// place is found by the blocks' lengths and an output's by their counts, from the nearer end: a call reads two numbers
-/// of each block that it passes, and searches one block. So what stands near the start or the end is found at once, and
-/// what stands in the middle of 50,000 places behind some 400 blocks.
+/// place is found by the blocks' lengths and an output's by their counts, from the nearer end, but for `count_ahead`,
+/// which counts from the start: a call reads two numbers of each block that it passes, and searches one block. So what
+/// stands near the start or the end is found at once, and what stands in the middle of 50,000 places behind some 400
+/// full blocks.
 #[derive(Drop)]
 pub struct Places {
     blocks: Vec<Block>,
@@ -396,6 +397,13 @@ impl Places {
         ensures { result ≡ length self.now.outputs }
     {
         self.len
+    }
+
+    /// The blocks in which the places stand, in order.
+    pub fn blocks(&self) -> &[Block]
+        ensures { concat result.now ≡ self.now.outputs }
+    {
+        self.blocks.as_slice()
     }
 
     /// The output of a place.

@@ -3,7 +3,7 @@ ghost use Rattle.std.specs.Prelude.{◌≡◌, ◌-◌, ◌+◌, ◌<◌, ◌==�
 ghost use Rattle.std.specs.List.{position_or_len};
 ghost use Rattle.cq_base.specs.Key.{is_before};
 ghost use Rattle.cq_base.specs.Cells.{HasOtherKey, has_id, put};
-ghost use Rattle.cq_list.specs.Pool.{queue_of, chain, linked, cells, EndsAt, IsChained, IsLinked, OthersStay};
+ghost use Rattle.cq_list.specs.Pool.{queue_of, behind_first, chain, linked, cells, EndsAt, IsChained, IsLinked, OthersStay};
 ghost use Rattle.slab.specs.Slab.{get, slab_len, HasRoomFor};
 
 use cq_base::{CellId, Key, NoMemory, Port, Queued};
@@ -234,6 +234,18 @@ fn put_into(nodes: &mut Slab<Node>, queue: Queue, queued: Queued, ahead: Ahead) 
     }
 }
 
+// The queue without its first node, which leads on to this place.
+fn behind_first(queue: Queue, next: usize) -> Queue
+    requires { 0 < queue.len }
+    ensures { result ≡ behind_first queue next }
+{
+    Queue {
+        first: next,
+        last: queue.last,
+        len: queue.len - 1,
+    }
+}
+
 impl Pool {
     /// No cell waits for any of so many outputs, and there is room for so many cells. The error is want of memory.
     #[tactic(auto, using(crate::proofs::Queues::no_cells))]
@@ -324,11 +336,51 @@ impl Pool {
     {
         let queue = self.queues[output as usize];
         let node = self.nodes.remove(queue.first);
-        self.queues[output as usize] = Queue {
-            first: node.next,
-            last: queue.last,
-            len: queue.len - 1,
-        };
+        self.queues[output as usize] = behind_first(queue, node.next);
         node.queued
+    }
+
+    /// The heads of the queues, of which none is told yet. The error is want of memory.
+    pub fn heads<'a>(&'a self, alloc: Global) -> Result<Heads<'a>, NoMemory>
+        ensures { IfOk result (λ heads. heads ≡ self.now.queues) }
+    {
+        Ok(Heads {
+            nodes: &self.nodes,
+            queues: Vec::from_slice(alloc, self.queues.as_slice())?,
+        })
+    }
+}
+
+/// What is left to be told of the queues of a pool, each from its head on. Contracts see what is left of each queue.
+#[derive(Drop)]
+pub struct Heads<'a> {
+    nodes: &'a Slab<Node>,
+    queues: Vec<Queue>,
+}
+
+impl<'a> Model for Heads<'a> {
+    ghost use Rattle.std.specs.Prelude.{List};
+    ghost use Rattle.slab.specs.Slab.{get};
+    ghost use Rattle.cq_base.specs.declared.cell.Queued.{Queued};
+    ghost use Rattle.cq_list.specs.Pool.{AreLinked, cells_in_queues};
+
+    ghost Value = { List (List Queued) };
+
+    ghost view = { λ h. cells_in_queues (get h.nodes.now) h.queues.items };
+
+    ghost invariant = { λ h. AreLinked (get h.nodes.now) h.queues.items };
+}
+
+impl<'a> Heads<'a> {
+    /// The head of a queue, whose next cell is then its head.
+    pub fn next(&mut self, output: Port) -> Queued
+        requires { 0 < length (queue_of self.old output) }
+        ensures head { slice_get (queue_of self.old output) 0 ≡ Some result }
+        ensures queues { self.new ≡ slice_set self.old output (drop 1 (queue_of self.old output)) }
+    {
+        let queue = self.queues[output as usize];
+        let head = self.nodes[queue.first];
+        self.queues[output as usize] = behind_first(queue, head.next);
+        head.queued
     }
 }

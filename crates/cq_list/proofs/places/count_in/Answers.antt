@@ -1,4 +1,4 @@
-use Rattle.cq_list.proofs.Terms.{rules, ◌-◌, length-take, arith}
+use Rattle.cq_list.proofs.Terms.{rules, length-take, arith}
 use Rattle.cq_list.proofs.BlockWalk.{rest_next, count_past_block}
 use Rattle.cq_list.proofs.Counts.{count_le}
 use Rattle.cq_list.proofs.places.count_in.Goals as goal

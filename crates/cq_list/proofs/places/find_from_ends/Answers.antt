@@ -1,4 +1,4 @@
-use Rattle.cq_list.proofs.Terms.{rules, ◌-◌, arith}
+use Rattle.cq_list.proofs.Terms.{rules, arith}
 use Rattle.cq_list.proofs.BlockWalk.{none_ahead}
 use Rattle.cq_list.proofs.places.find_from_ends.Goals as goal
 

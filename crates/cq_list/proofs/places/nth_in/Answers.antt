@@ -1,4 +1,4 @@
-use Rattle.cq_list.proofs.Terms.{rules, ◌-◌, arith}
+use Rattle.cq_list.proofs.Terms.{rules, arith}
 use Rattle.cq_list.proofs.Nth.{nth_inside}
 use Rattle.cq_list.proofs.BlockWalk.{block_fits, own_inside, nth_place, nth_spot}
 use Rattle.cq_list.proofs.places.nth_in.Goals as goal

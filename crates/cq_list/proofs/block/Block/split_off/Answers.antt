@@ -1,4 +1,4 @@
-use Rattle.cq_list.proofs.Terms.{rules, ◌-◌, length-append, arith}
+use Rattle.cq_list.proofs.Terms.{rules, length-append, arith}
 use Rattle.cq_list.proofs.Counts.{moved_over}
 use Rattle.cq_list.proofs.block.Block.split_off.Goals as goal
 

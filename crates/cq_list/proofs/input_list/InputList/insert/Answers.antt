@@ -1,4 +1,4 @@
-use Rattle.cq_list.proofs.Terms.{rules, ◌∙◌, ap, min, arith, insert, with_arrival, StandFor}
+use Rattle.cq_list.proofs.Terms.{rules, ◌∙◌, ap, min, arith, with_arrival, StandFor}
 use Rattle.cq_list.proofs.Kept.{kept, cells_are, queue_has_other_key, arrived, counted}
 use Rattle.cq_list.proofs.input_list.InputList.insert.Goals as goal
 

@@ -18,9 +18,9 @@ invariant_of-self c =
     let many = as_many read in
     let some : 0 < c.index-queue.result.now.len = let some = c.requires in omega arith in
     let removed = c.remove-node.ensures in
-    is_pool_changed c.remove-node.new.self c.self.invariant read
+    rw c.behind_first.ensures (is_pool_changed c.remove-node.new.self c.self.invariant read
     (rest_stay read.is_linked some removed.value removed.updates)
-    (linked_less read.is_linked some removed.value removed.updates) (omega arith) (omega arith) removed.capacity
+    (linked_less read.is_linked some removed.value removed.updates) (omega arith) (omega arith) removed.capacity)
 
 pub returns-clause-first : goal.returns-clause-first
 returns-clause-first c =
@@ -34,7 +34,7 @@ returns-clause-queues c =
     let many = as_many read in
     let some : 0 < c.index-queue.result.now.len = let some = c.requires in omega arith in
     let removed = c.remove-node.ensures in
-    view_changed c.remove-node.new.self c.self.invariant read
+    rw c.behind_first.ensures (view_changed c.remove-node.new.self c.self.invariant read
     (rest_stay read.is_linked some removed.value removed.updates)
     (linked_less read.is_linked some removed.value removed.updates) (drop 1)
-    (sym (ap (drop 1) (cells_less read.is_linked some removed.value removed.updates)))
+    (sym (ap (drop 1) (cells_less read.is_linked some removed.value removed.updates))))

@@ -1,0 +1,93 @@
+-- What is told of a list, place after place: each place takes the head of the queue of its output. So the cells of some
+-- places are told, and then those of the places behind them from what is left of the queues, and no cell is looked for.
+use Rattle.cq_list.proofs.Terms.{common_steps, rules, ◌≡◌, ℕ, ◌+◌, ◌<◌, List, [], ◌∷◌, ◌++◌, length, get_or, take, drop, subst, take_more, drop_more, eq-eqb, Some, refl, sym, ap, ◌∙◌, arith, concat, filter-append, length-append, append_assoc, append-nil, drop-drop, length-drop, slice_get, slice_set, take-append-drop, concat-append, cond_both, Queued, Queues, merged, without_head, is_output, count_of, CanTell, HaveTold, queue_of}
+use Rattle.cq_list.proofs.Nth.{passes, fails}
+use Rattle.cq_list.proofs.BlockWalk.{rest_is}
+use Rattle.cq_list.proofs.Kept.{queue_inside, queue_of-set}
+
+merged_same : (places : List ℕ) (p q : Queues) → ((j : ℕ) → p j ≡ q j) → merged places p ≡ merged places q
+merged_same [] p q same = refl
+merged_same (j ∷ places) p q same =
+    let rest = merged_same places (without_head j p) (without_head j q) in search (arith, rules, rest, same, cond_both)
+
+-- what is left of the queues behind some places
+abbrev left_of : List ℕ → Queues → Queues
+left_of places queues j = drop (count_of j places) (queues j)
+
+left_behind : (i : ℕ) (places : List ℕ) (queues : Queues) (j : ℕ) →
+    left_of places (without_head i queues) j ≡ left_of (i ∷ places) queues j
+left_behind i places queues j = grind (arith, common_steps, cond_both, passes, fails, drop-drop)
+
+merged_on : (places more : List ℕ) (queues : Queues) →
+    merged (places ++ more) queues ≡ merged places queues ++ merged more (left_of places queues)
+merged_on [] more queues = refl
+merged_on (i ∷ places) more queues =
+    let same = merged_same more _ _ (left_behind i places queues) in
+    search (arith, rules, merged_on places more (without_head i queues), same, append_assoc)
+
+-- nothing is told yet
+pub told_none : {queues : Queues} {told all : List Queued} → all ≡ told → HaveTold [] queues queues told all
+told_none {told = told} none = record { cells = none ∙ sym (append-nil told); left = λ j. refl }
+
+module _ {places : List ℕ} {old left : Queues} {told cells : List Queued} (t : HaveTold places old left told cells) where
+  pub told_on : {more : List ℕ} {new : Queues} {all : List Queued} → HaveTold more left new cells all →
+      HaveTold (places ++ more) old new told all
+  told_on {more} {new} {all} n =
+      let same = merged_same more left (left_of places old) t.left in
+      record {
+        cells = search (arith, rules, n.cells, t.cells, merged_on, same, append_assoc);
+        left = λ j. search (arith, rules, n.left, t.left, drop-drop, filter-append, length-append);
+      }
+
+  pub can_left : (next rest : List ℕ) → CanTell (places ++ (next ++ rest)) old → CanTell next left
+  can_left next rest there j =
+      let enough = there j in
+      grind (arith, common_steps, enough, t.left, length-drop, filter-append, length-append)
+
+-- the head of a queue is told
+pub told_one : {j : ℕ} {x : Queued} (queues : List (List Queued)) {new : List (List Queued)}
+    {told cells : List Queued} →
+    slice_get (queue_of queues j) 0 ≡ Some x → new ≡ slice_set queues j (drop 1 (queue_of queues j)) →
+    cells ≡ told ++ x ∷ [] → HaveTold (j ∷ []) (queue_of queues) (queue_of new) told cells
+told_one {j} {x} queues head less more = record {
+  cells = search (arith, rules, more, head);
+  left = λ i. search (arith, rules, less, queue_of-set, queue_inside queues j x head, cond_both, passes, fails);
+}
+
+-- ## The place, or the block of places, that is told next
+
+pub head_left : (places : List ℕ) {i output : ℕ} (queues : List (List Queued)) {old : Queues} {told cells : List Queued} →
+    HaveTold (take i places) old (queue_of queues) told cells → i < length places → output ≡ get_or places i output →
+    CanTell places old → 0 < length (queue_of queues output)
+head_left places {i} {output} queues {old} t inside is_read can =
+    let parts : places ≡ take i places ++ output ∷ drop (i + 1) places =
+    sym (take-append-drop i places) ∙ ap (λ l. take i places ++ l) (drop_more places i output inside
+    ∙ ap (λ o. o ∷ drop (i + 1) places) (sym is_read)) in
+    let enough = can_left t (output ∷ []) (drop (i + 1) places) (subst (λ l. CanTell l old) parts can) output in
+    let one = ap length (passes (is_output output) output [] (eq-eqb output output refl)) in
+    omega arith
+
+pub told_next : (places : List ℕ) (i : ℕ) {output : ℕ} (queues : List (List Queued)) {new : List (List Queued)}
+    {old : Queues} {told cells all : List Queued} {x : Queued} →
+    HaveTold (take i places) old (queue_of queues) told cells → slice_get (queue_of queues output) 0 ≡ Some x →
+    new ≡ slice_set queues output (drop 1 (queue_of queues output)) → all ≡ cells ++ x ∷ [] → i < length places →
+    output ≡ get_or places i output → HaveTold (take (i + 1) places) old (queue_of new) told all
+told_next places i {output} queues t head less more inside is_read =
+    let next = take_more places i output inside ∙ ap (λ o. take i places ++ o ∷ []) (sym is_read) in
+    rw next (told_on t (told_one queues head less more))
+
+module _ (blocks : List (List ℕ)) (i : ℕ) {block outputs : List ℕ} {old left : Queues} {told cells : List Queued}
+    (t : HaveTold (concat (take i blocks)) old left told cells) (inside : i < length blocks)
+    (is_read : block ≡ get_or blocks i block) (same : outputs ≡ block) where
+  pub block_left : CanTell (concat blocks) old → CanTell outputs left
+  block_left can =
+      let parts = ap concat (sym (take-append-drop i blocks)) ∙ concat-append (take i blocks) (drop i blocks)
+      ∙ ap (λ l. concat (take i blocks) ++ l) (rest_is blocks i inside is_read) in
+      rw same (can_left t block (concat (drop (i + 1) blocks)) (subst (λ l. CanTell l old) parts can))
+
+  pub block_told : {new : Queues} {all : List Queued} → HaveTold outputs left new cells all →
+      HaveTold (concat (take (i + 1) blocks)) old new told all
+  block_told n =
+      let next : concat (take (i + 1) blocks) ≡ concat (take i blocks) ++ outputs =
+      search (rules, take_more blocks i block inside, is_read, same, concat-append, append-nil) in
+      rw next (told_on t n)
