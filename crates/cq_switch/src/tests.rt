@@ -6,12 +6,11 @@ mod plain;
 mod readers;
 mod soak;
 
-use cq_base::NoMemory;
 use cq_crew::OpenGate;
 use cq_run::{Command, command_of, switch_top};
 use cq_space::{HostFiles, MemSink};
 use cq_trial_kit::{FORMS, HEADER};
-use cq_trials::{Call, Disk, MICROSECONDS, Packet, capture_with, leaves, words_of};
+use cq_trials::{Answer, Call, Disk, MICROSECONDS, Packet, capture_with, leaves, words_of};
 use std::alloc::Global;
 use std::rt::Files;
 use std::test::Fail;
@@ -84,7 +83,7 @@ fn passes_to<R: Threads + Sync>(
     to: &str,
     input: &[u8],
     output: &[u8],
-) -> Result<bool, NoMemory> {
+) -> Answer {
     let disk = Disk::new(alloc).holding(&[("a", input)])?;
     let words = ["pass", "a", to];
     let call: Call = (&words, (0, "", ""));
@@ -93,7 +92,7 @@ fn passes_to<R: Threads + Sync>(
 }
 
 /// Whether the packets of a case pass to another name, and where one name is for both.
-fn passes_so<R: Threads + Sync>(rt: &R, alloc: Global, case: &Passed) -> Result<bool, NoMemory> {
+fn passes_so<R: Threads + Sync>(rt: &R, alloc: Global, case: &Passed) -> Answer {
     let (_, header, packets, written) = *case;
     let input = capture_with(alloc, header, packets)?;
     let output = capture_with(alloc, &HEADER, written)?;
@@ -123,7 +122,7 @@ fn every_form_of_a_capture_passes_alike(rt: HostRuntime) -> Result<(), Fail> {
     Ok(())
 }
 
-fn is_pass(alloc: Global, words: &[&str], wanted: (&str, &str)) -> Result<bool, NoMemory> {
+fn is_pass(alloc: Global, words: &[&str], wanted: (&str, &str)) -> Answer {
     let words = words_of(alloc, words)?;
     match command_of(alloc, &words)? {
         Some(Command::Pass { from, to }) => Ok((from.text(), to.text()) == wanted),
@@ -144,7 +143,7 @@ fn is_answered<R: Threads + Sync + Files>(
     names: [&str; 2],
     code: u8,
     line: &str,
-) -> Result<bool, NoMemory> {
+) -> Answer {
     let words = words_of(alloc, &["pass", names[0], names[1]])?;
     let mut files = HostFiles::new(alloc, rt);
     let mut out = MemSink::new(alloc);
@@ -160,7 +159,7 @@ fn is_refused<R: Threads + Sync + Files>(
     names: [&str; 2],
     code: u8,
     (fault, name): (&str, &str),
-) -> Result<bool, NoMemory> {
+) -> Answer {
     let line = format!(in alloc; "{fault}: {name}\n")?;
     is_answered(rt, alloc, names, code, &line)
 }
@@ -172,7 +171,7 @@ fn are_answered<R: Threads + Sync + Files>(
     from: &str,
     to: &str,
     nowhere: &str,
-) -> Result<bool, NoMemory> {
+) -> Answer {
     let unread = ("read fault", nowhere);
     let unwritten = ("write fault", nowhere);
     Ok(
@@ -197,7 +196,7 @@ fn passes_over<R: Threads + Sync + Files + Alloc>(
     [from, to, nowhere]: [&str; 3],
     input: &[u8],
     output: &[u8],
-) -> Result<bool, NoMemory> {
+) -> Answer {
     let is_there = fs::write(rt, from, input).is_ok();
     let are_answered = are_answered(rt, alloc, from, to, nowhere)?;
     let are_held = is_held(rt, to, output) && is_held(rt, from, input);
@@ -210,7 +209,7 @@ fn frame_passes_over<R: Threads + Sync + Files + Alloc>(
     rt: &R,
     alloc: Global,
     names: [&str; 3],
-) -> Result<bool, NoMemory> {
+) -> Answer {
     let input = capture_with(alloc, &MICROSECONDS, &[EMPTY_FRAME])?;
     let output = capture_with(alloc, &HEADER, &[EMPTY_FRAME_WRITTEN])?;
     passes_over(rt, alloc, names, &input, &output)
@@ -222,7 +221,7 @@ fn passes_in<R: Threads + Sync + Files + Alloc>(
     alloc: Global,
     folder: &str,
     own: u32,
-) -> Result<bool, NoMemory> {
+) -> Answer {
     let from = format!(in alloc; "{folder}/cq_switch-{own}-in.pcap")?;
     let to = format!(in alloc; "{folder}/cq_switch-{own}-out.pcap")?;
     // A name below a file, which nothing can open.

@@ -22,7 +22,7 @@ pub use disk::Disk;
 pub use keys::{DEAREST, DEFAULTS, Keys, configuration};
 pub use runs::{RUNS, RUNS_BY_KEYS, SENT, THREE_INPUTS, TWO_FOR_ONE};
 pub use trial::{
-    Call, Left, Told, WRITTEN, all_leave, leaves, leaves_ahead, leaves_within, passes,
+    Answer, Call, Left, Told, WRITTEN, all_leave, leaves, leaves_ahead, leaves_within, passes,
     touches_nothing, words_of,
 };
 pub use worked::Run;

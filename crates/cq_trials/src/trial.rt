@@ -20,6 +20,9 @@ pub type Left<'a> = (&'a [(&'a str, &'a [u8])], &'a [&'a str]);
 /// The words of a call, and what it tells.
 pub type Call<'a> = (&'a [&'a str], Told<'a>);
 
+/// Whether a trial came out as it should, or want of memory for what it is made of.
+pub type Answer = Result<bool, NoMemory>;
+
 /// Room for all that the two streams are given.
 pub(crate) const ALL: (u64, u64) = (u64::MAX, u64::MAX);
 
@@ -117,7 +120,7 @@ pub(crate) fn tells<R: Threads + Sync, G: Gate>(
     (words, told): Call,
     disk: &mut Disk,
     gate: &G,
-) -> Result<bool, NoMemory> {
+) -> Answer {
     Ok(watched(rt, alloc, words, disk, ALL, gate)?.has_told(told, ALL))
 }
 
@@ -128,7 +131,7 @@ pub(crate) fn tells_ahead<R, W: Watch + 'static>(
     (words, told): Call,
     disk: &mut Disk,
     watch: &W,
-) -> Result<bool, NoMemory>
+) -> Answer
 where
     R: Threads + Wait + Sync + Copy + Send + 'static,
 {
@@ -143,7 +146,7 @@ pub fn leaves_within<R: Threads + Sync>(
     mut disk: Disk,
     rooms: (u64, u64),
     left: Left,
-) -> Result<bool, NoMemory> {
+) -> Answer {
     let ended = watched(rt, alloc, words, &mut disk, rooms, &OpenGate)?;
     Ok(ended.has_told(told, rooms) && disk.is_left(left))
 }
@@ -155,7 +158,7 @@ pub fn leaves<R: Threads + Sync>(
     call: Call,
     disk: Disk,
     left: Left,
-) -> Result<bool, NoMemory> {
+) -> Answer {
     leaves_within(rt, alloc, call, disk, ALL, left)
 }
 
@@ -166,7 +169,7 @@ pub fn all_leave<R: Threads + Sync>(
     calls: &[Call],
     mut disk: Disk,
     left: Left,
-) -> Result<bool, NoMemory> {
+) -> Answer {
     for call in calls {
         if !tells(rt, alloc, *call, &mut disk, &OpenGate)? {
             return Ok(false);
@@ -182,7 +185,7 @@ pub fn leaves_ahead<R>(
     (words, told): Call,
     mut disk: Disk,
     left: Left,
-) -> Result<bool, NoMemory>
+) -> Answer
 where
     R: Threads + Wait + Sync + Copy + Send + 'static,
 {
@@ -197,7 +200,7 @@ pub fn passes<R: Threads + Sync>(
     words: &[&str],
     mut disk: Disk,
     left: Left,
-) -> Result<bool, NoMemory> {
+) -> Answer {
     let ended = watched(rt, alloc, words, &mut disk, ALL, &OpenGate)?;
     Ok(ended.code == 0 && disk.is_left(left))
 }
@@ -219,7 +222,7 @@ pub fn touches_nothing<R: Threads + Sync>(
     alloc: Global,
     call: Call,
     given: &[(&str, &[u8])],
-) -> Result<bool, NoMemory> {
+) -> Answer {
     let disk = Disk::new(alloc).holding(given)?;
     leaves(rt, alloc, call, disk, (given, WRITTEN))
 }

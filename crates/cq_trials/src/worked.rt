@@ -1,6 +1,6 @@
 //! Worked runs: what a switch is told, and all that it writes.
 use crate::trial::{WRITTEN, tells, tells_ahead};
-use crate::{Call, Disk, Frame, Keys, Left, capture_of, leaves};
+use crate::{Answer, Call, Disk, Frame, Keys, Left, capture_of, leaves};
 use cq_base::NoMemory;
 use cq_crew::{Gate, OpenGate};
 use cq_stream::Watch;
@@ -28,7 +28,7 @@ pub struct Run {
 }
 
 /// Whether the capture of the output of this number is of these frames.
-fn holds_capture(alloc: Global, disk: &Disk, j: usize, frames: &[Frame]) -> Result<bool, NoMemory> {
+fn holds_capture(alloc: Global, disk: &Disk, j: usize, frames: &[Frame]) -> Answer {
     let capture = capture_of(alloc, frames)?;
     let name = format!(in alloc; "out{j}.pcap")?;
     Ok(disk.holds(&name, &capture))
@@ -49,13 +49,13 @@ impl Run {
         call: Call,
         given: &[(&str, &[u8])],
         left: Left,
-    ) -> Result<bool, NoMemory> {
+    ) -> Answer {
         let disk = self.disk(alloc, 1)?.holding(given)?;
         leaves(rt, alloc, call, disk, left)
     }
 
     /// Whether the captures and the trace are those of the run.
-    fn is_sent(&self, alloc: Global, disk: &Disk) -> Result<bool, NoMemory> {
+    fn is_sent(&self, alloc: Global, disk: &Disk) -> Answer {
         for (j, frames) in self.outputs.iter().enumerate() {
             if !holds_capture(alloc, disk, j, frames)? {
                 return Ok(false);
@@ -65,7 +65,7 @@ impl Run {
     }
 
     /// Whether the captures, the trace and the log are those of the run.
-    fn is_crossed(&self, alloc: Global, disk: &Disk) -> Result<bool, NoMemory> {
+    fn is_crossed(&self, alloc: Global, disk: &Disk) -> Answer {
         Ok(disk.holds("log.txt", self.log.as_bytes()) && self.is_sent(alloc, disk)?)
     }
 
@@ -77,7 +77,7 @@ impl Run {
         words: &[&str],
         disk: &mut Disk,
         gate: &G,
-    ) -> Result<bool, NoMemory> {
+    ) -> Answer {
         let call = (words, (0, self.report, ""));
         Ok(tells(rt, alloc, call, disk, gate)? && self.is_crossed(alloc, disk)?)
     }
@@ -89,7 +89,7 @@ impl Run {
         alloc: Global,
         mut disk: Disk,
         kept: &[(&str, &[u8])],
-    ) -> Result<bool, NoMemory> {
+    ) -> Answer {
         let is_done = self.is_done(rt, alloc, &["run", "c.toml"], &mut disk, &OpenGate)?;
         Ok(is_done && disk.is_left((kept, &[])))
     }
@@ -101,7 +101,7 @@ impl Run {
         alloc: Global,
         workers: u8,
         gate: &G,
-    ) -> Result<bool, NoMemory> {
+    ) -> Answer {
         let mut disk = self.disk(alloc, workers)?;
         self.is_done(rt, alloc, &["run", "c.toml"], &mut disk, gate)
     }
@@ -113,7 +113,7 @@ impl Run {
         alloc: Global,
         disk: &mut Disk,
         watch: &W,
-    ) -> Result<bool, NoMemory>
+    ) -> Answer
     where
         R: Threads + Wait + Sync + Copy + Send + 'static,
     {
@@ -122,12 +122,7 @@ impl Run {
     }
 
     /// Whether the call that reads ahead does all of the run too, where the watch is told of its readers.
-    pub fn streams<R, W: Watch + 'static>(
-        &self,
-        rt: R,
-        alloc: Global,
-        watch: &W,
-    ) -> Result<bool, NoMemory>
+    pub fn streams<R, W: Watch + 'static>(&self, rt: R, alloc: Global, watch: &W) -> Answer
     where
         R: Threads + Wait + Sync + Copy + Send + 'static,
     {
@@ -141,7 +136,7 @@ impl Run {
         rt: &R,
         alloc: Global,
         disk: &mut Disk,
-    ) -> Result<bool, NoMemory> {
+    ) -> Answer {
         let audit: Call = (&["audit", "c.toml"], (0, "audit yes\n", ""));
         Ok(
             self.is_done(rt, alloc, &["run", "c.toml"], disk, &OpenGate)?
@@ -151,12 +146,7 @@ impl Run {
     }
 
     /// Whether the crossbar switch with so many workers does all of the run, and an audit says yes to what it leaves.
-    pub fn is_audited<R: Threads + Sync>(
-        &self,
-        rt: &R,
-        alloc: Global,
-        workers: u8,
-    ) -> Result<bool, NoMemory> {
+    pub fn is_audited<R: Threads + Sync>(&self, rt: &R, alloc: Global, workers: u8) -> Answer {
         let mut disk = self.disk(alloc, workers)?;
         self.is_crossed_and_audited(rt, alloc, &mut disk)
     }
@@ -169,7 +159,7 @@ impl Run {
         alloc: Global,
         slots: &str,
         disk: &mut Disk,
-    ) -> Result<bool, NoMemory> {
+    ) -> Answer {
         let part: Call = (&["part", "c.toml", slots, "s.txt"], (0, "", ""));
         let is_stopped = tells(rt, alloc, part, disk, &OpenGate)? && disk.lacks(WRITTEN);
         let resume = ["resume", "c.toml", "s.txt"];
@@ -178,30 +168,20 @@ impl Run {
 
     /// Whether a run that stops after so many slots writes its state alone, and what goes on from there does all of the
     /// run.
-    pub fn goes_on<R: Threads + Sync>(
-        &self,
-        rt: &R,
-        alloc: Global,
-        slots: &str,
-    ) -> Result<bool, NoMemory> {
+    pub fn goes_on<R: Threads + Sync>(&self, rt: &R, alloc: Global, slots: &str) -> Answer {
         let mut disk = self.disk(alloc, 1)?;
         self.is_resumed(rt, alloc, slots, &mut disk)
     }
 
     /// Whether the ideal switch sends from this disk on what the run sends, and touches no log.
-    fn is_sent_ideally<R: Threads + Sync>(
-        &self,
-        rt: &R,
-        alloc: Global,
-        disk: &mut Disk,
-    ) -> Result<bool, NoMemory> {
+    fn is_sent_ideally<R: Threads + Sync>(&self, rt: &R, alloc: Global, disk: &mut Disk) -> Answer {
         let call: Call = (&["ideal", "c.toml"], (0, "", ""));
         let is_told = tells(rt, alloc, call, disk, &OpenGate)?;
         Ok(is_told && disk.lacks(&["log.txt"]) && self.is_sent(alloc, disk)?)
     }
 
     /// Whether the ideal switch sends what the run sends, and touches no log.
-    pub fn is_ideal<R: Threads + Sync>(&self, rt: &R, alloc: Global) -> Result<bool, NoMemory> {
+    pub fn is_ideal<R: Threads + Sync>(&self, rt: &R, alloc: Global) -> Answer {
         let mut disk = self.disk(alloc, 1)?;
         self.is_sent_ideally(rt, alloc, &mut disk)
     }

@@ -1,9 +1,8 @@
 //! Configurations: what `check` says of them, and how the runs that they describe are refused or cut off.
-use cq_base::NoMemory;
 use cq_trial_kit::HEADER;
 use cq_trials::{
-    Call, DEAREST, DEFAULTS, Disk, Frame, Keys, Left, SENT, TWO_FOR_ONE, Told, WRITTEN, capture_of,
-    leaves, leaves_within, touches_nothing,
+    Answer, Call, DEAREST, DEFAULTS, Disk, Frame, Keys, Left, SENT, TWO_FOR_ONE, Told, WRITTEN,
+    capture_of, leaves, leaves_within, touches_nothing,
 };
 use std::alloc::Global;
 use std::test::Fail;
@@ -37,7 +36,7 @@ const MADE: &[Made] = &[
 ];
 
 /// Whether `check` tells this of the configuration, and writes nothing.
-fn is_checked<R: Threads + Sync>(rt: &R, alloc: Global, made: &Made) -> Result<bool, NoMemory> {
+fn is_checked<R: Threads + Sync>(rt: &R, alloc: Global, made: &Made) -> Answer {
     let (ports, workers, keys, told) = *made;
     let disk = Disk::of_ports(alloc, ports, workers, keys)?;
     let call: Call = (&["check", "c.toml"], told);
@@ -69,7 +68,7 @@ fn is_refused<R: Threads + Sync>(
     command: &str,
     disk: Disk,
     (code, line): (u8, &str),
-) -> Result<bool, NoMemory> {
+) -> Answer {
     let words = [command, "c.toml"];
     leaves(rt, alloc, (&words, (code, "", line)), disk, (&[], WRITTEN))
 }
@@ -134,12 +133,7 @@ const AT_FAULT: &[AtFault] = &[
     ),
 ];
 
-fn is_at_fault<R: Threads + Sync>(
-    rt: &R,
-    alloc: Global,
-    command: &str,
-    case: &AtFault,
-) -> Result<bool, NoMemory> {
+fn is_at_fault<R: Threads + Sync>(rt: &R, alloc: Global, command: &str, case: &AtFault) -> Answer {
     let (keys, captures, told) = *case;
     let disk = Disk::of_ports(alloc, 2, 1, keys)?.holding(captures)?;
     is_refused(rt, alloc, command, disk, told)
@@ -160,7 +154,7 @@ fn the_lowest_input_at_fault_or_over_the_limit_is_told(rt: HostRuntime) -> Resul
 }
 
 /// Whether a command is refused where reading a capture fails in its midst.
-fn is_unread<R: Threads + Sync>(rt: &R, alloc: Global, command: &str) -> Result<bool, NoMemory> {
+fn is_unread<R: Threads + Sync>(rt: &R, alloc: Global, command: &str) -> Answer {
     let disk = TWO_FOR_ONE.disk(alloc, 1)?.failing_read("in1.pcap", 30)?;
     is_refused(rt, alloc, command, disk, (5, "read fault: in1.pcap\n"))
 }
@@ -169,11 +163,7 @@ fn is_unread<R: Threads + Sync>(rt: &R, alloc: Global, command: &str) -> Result<
 const DEAR: &[&[Frame]] = &[&[(0, 0, 0, 60), (0, 512, 0, 60)]];
 
 /// Whether a command is refused where a rank would be 2 to the 128.
-fn is_above_ranks<R: Threads + Sync>(
-    rt: &R,
-    alloc: Global,
-    command: &str,
-) -> Result<bool, NoMemory> {
+fn is_above_ranks<R: Threads + Sync>(rt: &R, alloc: Global, command: &str) -> Answer {
     let disk = Disk::of_switch(alloc, DEAR, 1, DEAREST)?;
     let told = (4, "tag: slot 1, input 0, output 0\n");
     is_refused(rt, alloc, command, disk, told)
@@ -201,7 +191,7 @@ fn is_cut<R: Threads + Sync>(
     command: &str,
     room: u64,
     output: &[u8],
-) -> Result<bool, NoMemory> {
+) -> Answer {
     let disk = TWO_FOR_ONE
         .disk(alloc, 1)?
         .holding(&[("log.txt", b"kept")])?;
@@ -239,7 +229,7 @@ fn is_whole_but_for_out<R: Threads + Sync>(
     alloc: Global,
     room: u64,
     output: &[u8],
-) -> Result<bool, NoMemory> {
+) -> Answer {
     let told = (6, TWO_FOR_ONE.report, "write fault: -\n");
     let wanted: [(&str, &[u8]); 4] = [
         ("out0.pcap", output),
@@ -280,7 +270,7 @@ fn is_refused_in_short<R: Threads + Sync>(
     name: &str,
     code: u8,
     line: &str,
-) -> Result<bool, NoMemory> {
+) -> Answer {
     let disk = Disk::new(alloc).holding(&[(name, SAME_FILE.as_bytes())])?;
     let call: Call = (&["run", "c.toml"], (code, "", line));
     leaves_within(rt, alloc, call, disk, (u64::MAX, 3), (&[], WRITTEN))

@@ -1,7 +1,7 @@
 //! Damaged captures: each is refused by number and place, and nothing is written.
 use cq_base::NoMemory;
 use cq_trial_kit::HEADER;
-use cq_trials::{Call, Packet, put_packets, touches_nothing};
+use cq_trials::{Answer, Call, Packet, put_packets, touches_nothing};
 use std::alloc::Global;
 use std::test::Fail;
 use std::thread::Threads;
@@ -74,19 +74,14 @@ fn put_rest(input: &mut Vec<u8>, damage: &Damage) -> Result<(), NoMemory> {
 }
 
 /// Whether the capture is refused with the line.
-fn is_told<R: Threads + Sync>(
-    rt: &R,
-    alloc: Global,
-    damage: &Damage,
-    line: &str,
-) -> Result<bool, NoMemory> {
+fn is_told<R: Threads + Sync>(rt: &R, alloc: Global, damage: &Damage, line: &str) -> Answer {
     let mut input = damage.0.to_vec(alloc)?;
     put_rest(&mut input, damage)?;
     let call: Call = (&["pass", "a", "b"], (3, "", line));
     touches_nothing(rt, alloc, call, &[("a", &input)])
 }
 
-fn is_refused<R: Threads + Sync>(rt: &R, alloc: Global, damage: &Damage) -> Result<bool, NoMemory> {
+fn is_refused<R: Threads + Sync>(rt: &R, alloc: Global, damage: &Damage) -> Answer {
     let line = format!(in alloc; "capture of input 0: {}\n", damage.4)?;
     is_told(rt, alloc, damage, &line)
 }

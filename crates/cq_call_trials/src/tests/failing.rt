@@ -1,7 +1,7 @@
 //! Each outside call fails in turn, and each moves one byte at a time.
 use cq_base::NoMemory;
 use cq_trial_kit::HEADER;
-use cq_trials::{Call, Disk, SENT, TWO_FOR_ONE, capture_of, leaves_within};
+use cq_trials::{Answer, Call, Disk, SENT, TWO_FOR_ONE, capture_of, leaves_within};
 use std::alloc::Global;
 use std::test::Fail;
 use std::thread::Threads;
@@ -69,7 +69,7 @@ fn fails<R: Threads + Sync>(
     step: u64,
     room: u64,
     output: &[u8],
-) -> Result<bool, NoMemory> {
+) -> Answer {
     let (at, _, code, line) = *place;
     let disk = disk_before(alloc)?.failing_call(at.saturating_add(step))?;
     let call: Call = (&["run", "c.toml"], (code, "", line));
@@ -101,12 +101,7 @@ fn each_outside_call_fails_in_turn(rt: HostRuntime) -> Result<(), Fail> {
 const WHOLE: &[(u64, bool)] = &[(u64::MAX, false), (CALLS, false), (u64::MAX, true)];
 
 /// Whether a run does all, where this call fails, and where each moves one byte alone if that is asked for.
-fn does_all<R: Threads + Sync>(
-    rt: &R,
-    alloc: Global,
-    call: u64,
-    is_short: bool,
-) -> Result<bool, NoMemory> {
+fn does_all<R: Threads + Sync>(rt: &R, alloc: Global, call: u64, is_short: bool) -> Answer {
     let mut disk = disk_before(alloc)?.failing_call(call)?;
     if is_short {
         disk.short(1);

@@ -1,9 +1,9 @@
 //! Reading or writing fails, or goes on for too long, while a capture is passed on; and what is to be read is not
 //! there.
-use cq_base::NoMemory;
 use cq_trial_kit::HEADER;
 use cq_trials::{
-    Call, Disk, Left, MICROSECONDS, TWO_FOR_ONE, WRITTEN, leaves, leaves_within, touches_nothing,
+    Answer, Call, Disk, Left, MICROSECONDS, TWO_FOR_ONE, WRITTEN, leaves, leaves_within,
+    touches_nothing,
 };
 use std::alloc::Global;
 use std::test::Fail;
@@ -12,7 +12,7 @@ use std::thread::Threads;
 /// Where reading is cut. At 24 every byte has been read, and the look for more fails.
 const READ_CUTS: &[u64] = &[0, 10, 24];
 
-fn is_unread<R: Threads + Sync>(rt: &R, alloc: Global, after: u64) -> Result<bool, NoMemory> {
+fn is_unread<R: Threads + Sync>(rt: &R, alloc: Global, after: u64) -> Answer {
     let disk = Disk::new(alloc).holding(&[("a", &MICROSECONDS)])?;
     let disk = disk.failing_read("a", after)?;
     let call: Call = (&["pass", "a", "b"], (5, "", "read fault: a\n"));
@@ -30,12 +30,7 @@ fn a_failing_read_is_told_and_starts_no_file(rt: HostRuntime) -> Result<(), Fail
 /// Where writing is cut, and how much of the line standard error takes.
 const WRITE_CUTS: &[(u64, u64)] = &[(0, 100), (10, 100), (12, 5), (23, 0)];
 
-fn is_unwritten<R: Threads + Sync>(
-    rt: &R,
-    alloc: Global,
-    after: u64,
-    room: u64,
-) -> Result<bool, NoMemory> {
+fn is_unwritten<R: Threads + Sync>(rt: &R, alloc: Global, after: u64, room: u64) -> Answer {
     let disk = Disk::new(alloc).holding(&[("a", &MICROSECONDS), ("b", b"lost")])?;
     let disk = disk.failing_write("b", after)?;
     let call: Call = (&["pass", "a", "b"], (6, "", "write fault: b\n"));
@@ -56,7 +51,7 @@ fn a_failing_write_is_told_and_leaves_the_first_bytes(rt: HostRuntime) -> Result
 }
 
 /// So many zeros as a capture.
-fn is_too_long<R: Threads + Sync>(rt: &R, alloc: Global, len: usize) -> Result<bool, NoMemory> {
+fn is_too_long<R: Threads + Sync>(rt: &R, alloc: Global, len: usize) -> Answer {
     let mut bytes = Vec::new(alloc);
     bytes.resize(len, 0)?;
     let disk = Disk::new(alloc).holding(&[("a", &bytes)])?;

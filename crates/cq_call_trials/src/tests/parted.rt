@@ -1,7 +1,6 @@
 //! The state of a stopped run, and states that are refused.
-use cq_base::NoMemory;
 use cq_trial_kit::STATE;
-use cq_trials::{Call, Left, TWO_FOR_ONE, WRITTEN};
+use cq_trials::{Answer, Call, Left, TWO_FOR_ONE, WRITTEN};
 use std::alloc::Global;
 use std::test::Fail;
 use std::thread::Threads;
@@ -49,7 +48,7 @@ const CHANGED: &[Changed] = &[
 ];
 
 // Whether the changed state is refused with the line, and nothing is written.
-fn is_refused<R: Threads + Sync>(rt: &R, alloc: Global, case: &Changed) -> Result<bool, NoMemory> {
+fn is_refused<R: Threads + Sync>(rt: &R, alloc: Global, case: &Changed) -> Answer {
     let (part, other, line) = *case;
     let Some((front, back)) = STATE.split_once(part) else {
         return Ok(false);

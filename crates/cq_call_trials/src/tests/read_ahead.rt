@@ -3,7 +3,9 @@ use super::configured::CUT;
 use super::words::USAGE;
 use cq_base::NoMemory;
 use cq_trial_kit::HEADER;
-use cq_trials::{Call, DEFAULTS, Disk, FRAME, Keys, WRITTEN, leaves, leaves_ahead, put_packet};
+use cq_trials::{
+    Answer, Call, DEFAULTS, Disk, FRAME, Keys, WRITTEN, leaves, leaves_ahead, put_packet,
+};
 use std::alloc::Global;
 use std::sync::Wait;
 use std::test::Fail;
@@ -116,7 +118,7 @@ fn disk_with(alloc: Global, inputs: [Input; 2], large: Large) -> Result<Disk, No
 }
 
 /// Whether both commands refuse the inputs with the code and the line, and write nothing.
-fn is_refused<R>(rt: R, alloc: Global, case: &Case, large: Large) -> Result<bool, NoMemory>
+fn is_refused<R>(rt: R, alloc: Global, case: &Case, large: Large) -> Answer
 where
     R: Threads + Wait + Sync + Copy + Send + 'static,
 {

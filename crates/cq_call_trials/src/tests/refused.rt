@@ -1,7 +1,7 @@
 //! Configurations with one fault, or near one: each has its line.
 use super::configured::SAME_FILE;
 use cq_base::NoMemory;
-use cq_trials::{Call, Told, touches_nothing};
+use cq_trials::{Answer, Call, Told, touches_nothing};
 use std::alloc::Global;
 use std::test::Fail;
 use std::thread::Threads;
@@ -100,23 +100,13 @@ fn text_of(alloc: Global, parts: [&str; 4], byte: u8, len: usize) -> Result<Vec<
 }
 
 /// Whether `check` tells this of the configuration, and touches nothing.
-fn is_told<R: Threads + Sync>(
-    rt: &R,
-    alloc: Global,
-    text: &[u8],
-    told: Told,
-) -> Result<bool, NoMemory> {
+fn is_told<R: Threads + Sync>(rt: &R, alloc: Global, text: &[u8], told: Told) -> Answer {
     let call: Call = (&["check", "c.toml"], told);
     touches_nothing(rt, alloc, call, &[("c.toml", text)])
 }
 
 /// Whether `check` refuses the configuration, and says this of it.
-fn is_refused<R: Threads + Sync>(
-    rt: &R,
-    alloc: Global,
-    parts: [&str; 4],
-    said: &str,
-) -> Result<bool, NoMemory> {
+fn is_refused<R: Threads + Sync>(rt: &R, alloc: Global, parts: [&str; 4], said: &str) -> Answer {
     let line = format!(in alloc; "configuration: {said}\n")?;
     let text = text_of(alloc, parts, 0, 0)?;
     is_told(rt, alloc, &text, (2, "", &line))
@@ -184,7 +174,7 @@ const FILLED: &[Filled] = &[
     ),
 ];
 
-fn is_so<R: Threads + Sync>(rt: &R, alloc: Global, case: &Filled) -> Result<bool, NoMemory> {
+fn is_so<R: Threads + Sync>(rt: &R, alloc: Global, case: &Filled) -> Answer {
     let (_, parts, byte, len, told) = *case;
     let text = text_of(alloc, parts, byte, len)?;
     is_told(rt, alloc, &text, told)

@@ -1,7 +1,6 @@
 //! Words that are no command, and commands that are refused before they write.
-use cq_base::NoMemory;
 use cq_trial_kit::HEADER;
-use cq_trials::{Disk, Left, MICROSECONDS, leaves_within, touches_nothing};
+use cq_trials::{Answer, Disk, Left, MICROSECONDS, leaves_within, touches_nothing};
 use std::alloc::Global;
 use std::test::Fail;
 use std::thread::Threads;
@@ -36,7 +35,7 @@ fn is_refused<R: Threads + Sync>(
     alloc: Global,
     refusal: &Refusal,
     place: &Place,
-) -> Result<bool, NoMemory> {
+) -> Answer {
     let (words, code, line) = *refusal;
     let (left, room) = *place;
     let captures: [(&str, &[u8]); 2] = [("a", &MICROSECONDS), ("c", &HEADER[..23])];

@@ -1,12 +1,11 @@
 //! Worked runs of the ideal switch and of the crossbar switch, to the last byte.
-use cq_base::NoMemory;
-use cq_trials::{Keys, RUNS, RUNS_BY_KEYS, Run, TWO_FOR_ONE};
+use cq_trials::{Answer, Keys, RUNS, RUNS_BY_KEYS, Run, TWO_FOR_ONE};
 use std::alloc::Global;
 use std::test::Fail;
 use std::thread::Threads;
 
 /// Whether both switches write the run, the crossbar switch with 1, 2 and 64 workers, and audits say yes.
-fn is_written<R: Threads + Sync>(rt: &R, alloc: Global, run: &Run) -> Result<bool, NoMemory> {
+fn is_written<R: Threads + Sync>(rt: &R, alloc: Global, run: &Run) -> Answer {
     Ok(
         run.is_ideal(rt, alloc)?
             && run.is_audited(rt, alloc, 1)?
@@ -62,7 +61,7 @@ const BIG_ENDIAN: &[u8] = &[
 ];
 
 /// Whether the run does all from this capture of its first input on, and leaves that as it is.
-fn runs_from<R: Threads + Sync>(rt: &R, alloc: Global, input: &[u8]) -> Result<bool, NoMemory> {
+fn runs_from<R: Threads + Sync>(rt: &R, alloc: Global, input: &[u8]) -> Answer {
     let given: [(&str, &[u8]); 1] = [("in0.pcap", input)];
     let disk = TWO_FOR_ONE.disk(alloc, 1)?.holding(&given)?;
     TWO_FOR_ONE.crosses(rt, alloc, disk, &given)

@@ -1,9 +1,9 @@
 //! Two workers of one phase meet in a run of the whole program. It shows that both are at work at once.
 
-use cq_base::{NoMemory, Port};
+use cq_base::Port;
 use cq_crew::{Gate, LedgerSeat, Outcome};
 use cq_trial_kit::Meeting;
-use cq_trials::{THREE_INPUTS, TWO_FOR_ONE};
+use cq_trials::{Answer, THREE_INPUTS, TWO_FOR_ONE};
 use std::alloc::Global;
 use std::sync::atomic::AtomicU64;
 use std::sync::atomic::Ordering::SeqCst;
@@ -11,7 +11,7 @@ use std::test::Fail;
 use std::thread::Threads;
 
 /// Whether two workers do all of a run and meet, each with a proposal, none in vain.
-fn meet<R: Threads + Sync>(rt: &R, alloc: Global) -> Result<bool, NoMemory> {
+fn meet<R: Threads + Sync>(rt: &R, alloc: Global) -> Answer {
     let gate = Meeting::of(2);
     let crosses = TWO_FOR_ONE.crosses_watched(rt, alloc, 2, &gate)?;
     let faults = [gate.in_vain(), gate.miscounted()];
@@ -44,7 +44,7 @@ impl Gate for Counting {
 }
 
 /// Whether so many workers do all of a run, of whom only the first two claim anything, and none where one is all.
-fn is_done_by<R: Threads + Sync>(rt: &R, alloc: Global, workers: u8) -> Result<bool, NoMemory> {
+fn is_done_by<R: Threads + Sync>(rt: &R, alloc: Global, workers: u8) -> Answer {
     let gate = Counting {
         claims: AtomicU64::new(0),
         beyond_two: AtomicU64::new(0),

@@ -3,7 +3,7 @@
 //! The same switch is shipped in `examples/office`, and told there.
 use cq_base::NoMemory;
 use cq_trial_kit::HEADER;
-use cq_trials::{Call, Disk, MICROSECONDS, Told, all_leave, leaves_ahead, put_packet};
+use cq_trials::{Answer, Call, Disk, MICROSECONDS, Told, all_leave, leaves_ahead, put_packet};
 use std::alloc::Global;
 use std::sync::Wait;
 use std::test::Fail;
@@ -180,12 +180,7 @@ fn written(sent: &[Vec<u8>; 3]) -> [(&str, &[u8]); 6] {
 const DONE: Told = (0, REPORT, "");
 
 /// Whether the switch with so many workers sends it all in two calls.
-fn both_send<R: Threads + Sync>(
-    rt: &R,
-    alloc: Global,
-    workers: u8,
-    calls: [Call; 2],
-) -> Result<bool, NoMemory> {
+fn both_send<R: Threads + Sync>(rt: &R, alloc: Global, workers: u8, calls: [Call; 2]) -> Answer {
     let sent = sent(alloc)?;
     let disk = disk_of(alloc, workers)?;
     all_leave(rt, alloc, &calls, disk, (&written(&sent), &[]))
@@ -219,7 +214,7 @@ fn an_office_goes_on_after_a_stop(rt: HostRuntime) -> Result<(), Fail> {
 }
 
 /// Whether it is all sent too where the captures are read ahead.
-fn streams<R>(rt: R, alloc: Global) -> Result<bool, NoMemory>
+fn streams<R>(rt: R, alloc: Global) -> Answer
 where
     R: Threads + Wait + Sync + Copy + Send + 'static,
 {

@@ -7,7 +7,7 @@ ghost use Rattle.std.specs.Prelude.{◌<◌};
 
 use cq_base::NoMemory;
 use cq_trial_kit::Draws;
-use cq_trials::{DEFAULTS, Disk, Frame, Left, RUNS, passes};
+use cq_trials::{Answer, DEFAULTS, Disk, Frame, Left, RUNS, passes};
 use std::alloc::Global;
 use std::test::Fail;
 use std::thread::Threads;
@@ -191,14 +191,14 @@ fn writes<R: Threads + Sync>(
     command: &str,
     inputs: &[&[Frame]],
     trace: &str,
-) -> Result<bool, NoMemory> {
+) -> Answer {
     let disk = Disk::of_switch(alloc, inputs, 1, DEFAULTS)?;
     let left: Left = (&[("trace.txt", trace.as_bytes())], &[]);
     passes(rt, alloc, &[command, "c.toml"], disk, left)
 }
 
 /// Whether the program writes the plain switch's trace, by either switch.
-fn agrees<R: Threads + Sync>(rt: &R, alloc: Global, inputs: &[&[Frame]]) -> Result<bool, NoMemory> {
+fn agrees<R: Threads + Sync>(rt: &R, alloc: Global, inputs: &[&[Frame]]) -> Answer {
     let trace = trace_of(alloc, inputs)?;
     Ok(writes(rt, alloc, "ideal", inputs, &trace)? && writes(rt, alloc, "run", inputs, &trace)?)
 }
@@ -237,7 +237,7 @@ const LINES: &[Line] = &[
 ];
 
 /// Whether the cells of the one input come in these slots, also in the program.
-fn comes_so<R: Threads + Sync>(rt: &R, alloc: Global, line: &Line) -> Result<bool, NoMemory> {
+fn comes_so<R: Threads + Sync>(rt: &R, alloc: Global, line: &Line) -> Answer {
     let (_, frames, cells) = *line;
     let inputs = [frames];
     let are_so = arrivals_of(alloc, &inputs)?.as_slice() == cells;
@@ -261,11 +261,7 @@ fn worked_runs_are_as_in_the_plain_switch(rt: HostRuntime) -> Result<(), Fail> {
 }
 
 /// Whether the program agrees on these frames.
-fn agrees_on<R: Threads + Sync>(
-    rt: &R,
-    alloc: Global,
-    drawn: &[Vec<Frame>],
-) -> Result<bool, NoMemory> {
+fn agrees_on<R: Threads + Sync>(rt: &R, alloc: Global, drawn: &[Vec<Frame>]) -> Answer {
     let mut inputs = Vec::new(alloc);
     for frames in drawn {
         inputs.push(frames.as_slice())?;
@@ -273,7 +269,7 @@ fn agrees_on<R: Threads + Sync>(
     agrees(rt, alloc, &inputs)
 }
 
-fn agrees_on_drawn<R: Threads + Sync>(rt: &R, alloc: Global, seed: u64) -> Result<bool, NoMemory> {
+fn agrees_on_drawn<R: Threads + Sync>(rt: &R, alloc: Global, seed: u64) -> Answer {
     let drawn = drawn_inputs(alloc, seed)?;
     agrees_on(rt, alloc, &drawn)
 }

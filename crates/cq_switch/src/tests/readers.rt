@@ -1,8 +1,8 @@
 //! Captures are decoded by readers ahead of the engine, and two of them are at work at once.
 
-use cq_base::{NoMemory, Port};
+use cq_base::Port;
 use cq_stream::{OpenWatch, Watch};
-use cq_trials::{RUNS, RUNS_BY_KEYS, TWO_FOR_ONE};
+use cq_trials::{Answer, RUNS, RUNS_BY_KEYS, TWO_FOR_ONE};
 use std::alloc::Global;
 use std::sync::atomic::AtomicU64;
 use std::sync::atomic::Ordering::SeqCst;
@@ -85,7 +85,7 @@ impl Watch for Meeting {
 }
 
 /// Whether the readers of inputs 0 and 1 tell once each, no other does, none waits in vain, and all is done.
-fn meet<R>(rt: R, alloc: Global) -> Result<bool, NoMemory>
+fn meet<R>(rt: R, alloc: Global) -> Answer
 where
     R: Threads + Wait + Sync + Copy + Send + 'static,
 {
