@@ -1,7 +1,7 @@
 -- How the replay of a log begins that is made for a setup: the machines are those of the disciplines, each in its
 -- opening state, and there is room for all cells that arrive, and for what one slot notes. And what its end says of
 -- the log.
-use Rattle.cq_audit.proofs.Terms.{common_steps, rules, ◌≡◌, ℕ, ◌+◌, ◌*◌, List, [], length, map, Option, Result, arith, IfErr, IsOk, OnOk, range_with_len, get_or-map-range_with_len, Arrival, RoomView, Transfer, Setup, IsShort, IsTraffic, is_from, is_to, number_of, Machine, class_count, machines_of, openings_of, Marked, whole_limited_run, empty_limited, Fabric, empty_limited_fabric, IsNo, IsYes, opening_fabric, AreInOrder, IsLog, IsInStep, ReplayView, ports_in, IsReady, RunEnds, AuditRefusal}
+use Rattle.cq_audit.proofs.Terms.{common_steps, rules, ◌≡◌, ℕ, ◌*◌, List, [], length, map, Option, Result, arith, IfErr, IsOk, OnOk, range_with_len, get_or-map-range_with_len, Arrival, RoomView, Transfer, Setup, IsShort, IsTraffic, is_from, is_to, number_of, Machine, class_count, machines_of, openings_of, Marked, whole_limited_run, empty_limited, Fabric, empty_limited_fabric, IsNo, IsYes, opening_fabric, AreInOrder, IsLog, IsInStep, ReplayView, ports_in, IsReady, RunEnds, AuditRefusal}
 
 -- The replay of a switch of this setup with these limits, before its first slot.
 pub record IsOpened (M : List ℕ → Machine) (setup : Setup) (limits : List (Option ℕ)) (first : ReplayView) : Type 0

@@ -17,8 +17,7 @@ same_state x sent sent' note note' a a' b b' n n' e f g h i = cc
 
 -- what was read can be taken up
 pub taken_up : {w : Switch} {text : List ℕ} {from : Taken} → IsRead w text from → CanBeTakenUp w from
-taken_up read =
-    record { state = read.state; in_range = read.in_range; shape = read.shape; sound = read.sound; told = read.told }
+taken_up read = record { state = read.state; comes = read.comes }
 
 -- the matchings of the run that stops and of the one that goes on are those of orders by first cells, and no slack is
 -- below 0 after arrivals

@@ -1,3 +1,4 @@
+-- Only proofs use this.
 -- How an audit ends over captures, a trace and a log that were read.
 use Rattle.std.specs.Prelude.{◌≡◌, ◌⊎◌, ℕ, List, Ok}
 use Rattle.cq_base.specs.declared.cell.Departure.{Departure}

@@ -202,13 +202,13 @@ stopped_runs_are_sound t s slots at made tables recorded early parted = search (
 
 read_as : (w : Switch) (at : Taken) → CanBeTakenUp w at → IsReadAs w (state_text (told_state w at)) at
 read_as w at can =
+    let text = state_text (told_state w at) in
     let exact = read_exact w in
-    let read : IsRead w (state_text (told_state w at)) at =
-    record { state = told_state w at; spelled = refl; comes = can } in
+    let read : IsRead w text at = record { state = told_state w at; spelled = refl; comes = can } in
     record {
       read = read;
-      alone = λ x other. exact.one_state _ x at other read;
-      never_refused = λ r no. exact.never_refused _ at r read no;
+      alone = λ x other. exact.one_state text x at other read;
+      never_refused = λ r why. exact.never_refused text at r read why;
     }
 
 pub stopped_runs_are_read : StoppedRunsAreRead
