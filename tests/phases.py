@@ -63,7 +63,7 @@ def try_round(pool, tests, folder, shim, round_):
     for fault in faults:
         print(f"FAILS {round_.name}, {fault}", flush=True)
     print(f"{round_.name}: refused in {refused} runs, of which {shared} asked for a thread", flush=True)
-    return runs - len(faults), len(faults)
+    return runs - len(faults) + (not shared), len(faults)
 
 
 def main():
