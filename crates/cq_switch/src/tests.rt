@@ -77,12 +77,12 @@ const PASSED: &[Passed] = &[
 ];
 
 /// Whether `a` passes to this name, and stays where that is another.
-fn passes_to<R: Threads + Sync>(
+fn passes_to<'a, R: Threads + Sync>(
     rt: &R,
     alloc: Global,
-    to: &str,
-    input: &[u8],
-    output: &[u8],
+    to: &'a str,
+    input: &'a [u8],
+    output: &'a [u8],
 ) -> Answer {
     let disk = Disk::new(alloc).holding(&[("a", input)])?;
     let words = ["pass", "a", to];

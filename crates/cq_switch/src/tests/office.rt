@@ -199,16 +199,21 @@ fn an_office_sends_by_urgency_whatever_the_workers(rt: HostRuntime) -> Result<()
     Ok(())
 }
 
+const STOPPED: Told = (0, "", "");
+
+const RESUME: Call = (&["resume", "c.toml", "s.txt"], DONE);
+
+/// A run that stops before a slot, and the one that goes on from there.
+const STOPS: &[[Call; 2]] = &[
+    [(&["part", "c.toml", "0", "s.txt"], STOPPED), RESUME],
+    [(&["part", "c.toml", "1", "s.txt"], STOPPED), RESUME],
+    [(&["part", "c.toml", "2", "s.txt"], STOPPED), RESUME],
+];
+
 #[test]
 fn an_office_goes_on_after_a_stop(rt: HostRuntime) -> Result<(), Fail> {
-    let resume: Call = (&["resume", "c.toml", "s.txt"], DONE);
-    for slots in ["0", "1", "2"] {
-        let words = ["part", "c.toml", slots, "s.txt"];
-        let part = (words.as_slice(), (0, "", ""));
-        assert!(rt;
-            both_send(&rt, rt.alloc(), 1, [part, resume])?,
-            "after {slots}"
-        );
+    for calls in STOPS {
+        assert!(rt; both_send(&rt, rt.alloc(), 1, *calls)?, "{:?}", calls[0].0);
     }
     Ok(())
 }
