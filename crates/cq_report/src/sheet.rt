@@ -122,8 +122,8 @@ fn put_cell(
     end
 }
 
-// Writes the first number of a line, its slot, from a place on and a blank behind it, and answers the place behind that.
-// What stands before stays. It is seldom below a thousand, so a large one is written where it stands.
+// Writes the first number of a line, its slot, from a place on and a blank behind it, and answers the place behind
+// that. What stands before stays. It is seldom below a thousand, so a large one is written where it stands.
 #[inline(always)]
 #[tactic(auto, using(crate::proofs::Hundreds::few_digits, crate::proofs::Hundreds::some_digit))]
 fn put_slot(bytes: &mut [u8; SHEET], at: usize, numerals: &Numerals, slot: u64) -> usize
