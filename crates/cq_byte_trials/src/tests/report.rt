@@ -153,17 +153,15 @@ fn have_log_of_room(alloc: Global, rows: &[Crossing], text: &[u8]) -> Result<boo
 }
 
 #[test]
-fn a_log_has_a_line_for_each_transfer(rt: HostRuntime) -> Result<(), Fail> {
+fn a_log_has_a_line_for_each_transfer_also_where_they_are_used_up(
+    rt: HostRuntime,
+) -> Result<(), Fail> {
     for (rows, text) in LOGS {
-        assert!(rt; have_log(rt.alloc(), rows, text)?, "{text:?}");
-    }
-    Ok(())
-}
-
-#[test]
-fn transfers_that_are_used_up_leave_the_same_log(rt: HostRuntime) -> Result<(), Fail> {
-    for (rows, text) in LOGS {
-        assert!(rt; have_log_of_room(rt.alloc(), rows, text)?, "{text:?}");
+        let told = have_log(rt.alloc(), rows, text)?;
+        assert!(rt;
+            told && have_log_of_room(rt.alloc(), rows, text)?,
+            "{text:?}"
+        );
     }
     Ok(())
 }
