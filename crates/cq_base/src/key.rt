@@ -16,7 +16,8 @@ use std::cmp::Ordering;
 /// input. The lesser key is the more urgent.
 ///
 /// One cell at most arrives at an input in a slot, so the keys of different cells differ. The widest
-/// number stands first, so that a key takes 32 bytes and has no gap between its fields; it is not the first that is compared.
+/// number stands first, so that a key takes 32 bytes and has no gap between its fields; it is not the
+/// first that is compared.
 #[derive(Clone, Copy, Debug, PartialEq, Eq)]
 pub struct Key {
     /// The rank that the cell's output gave it.

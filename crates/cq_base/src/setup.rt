@@ -1,7 +1,8 @@
 //! What the outputs of a switch do, as a configuration states it.
 use crate::Sequence;
 
-/// The discipline of an output: in which order it sends the cells that wait for it.
+/// The discipline of an output: in which order it sends the cells of one level that wait for it. Those of a lesser
+/// level go first at every output.
 #[derive(Clone, Copy, Debug, PartialEq, Eq)]
 pub enum Kind {
     /// In the order of arrival.

@@ -1,3 +1,4 @@
+-- Only proofs use this.
 -- What a schedule keeps of the packets: one row for each, line by line.
 use Rattle.std.specs.Prelude.{ℕ, ◌≡◌, ◌+◌, ◌-◌, ◌*◌, ◌^◌, ◌<◌, ◌≤◌, ◌==◌, min, List, [], ◌∷◌, length, map, flat_map, slice_index_or}
 use Rattle.std.specs.List.{range_with_len, AllByRecursion}
