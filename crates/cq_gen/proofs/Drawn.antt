@@ -1,9 +1,7 @@
 -- One word after another. What was drawn, joined with what the generator still gives, is the whole list; at its end
 -- nothing is left to be drawn.
-use Rattle.cq_gen.proofs.Terms.{common_steps, ◌≡◌, ℕ, suc, ◌+◌, ◌-◌, ◌<◌, ◌≤◌, List, [], ◌∷◌, ◌++◌, length, append_assoc, arith, append-nil, length_push, first_draws, generator_of}
+use Rattle.cq_gen.proofs.Terms.{common_steps, ◌≡◌, ℕ, suc, ◌+◌, ◌-◌, ◌<◌, ◌≤◌, List, [], ◌∷◌, ◌++◌, length, append_assoc, arith, append-nil, length_push, first_draws, generator_of, Lcg, pcg32}
 use Rattle.rand_core.specs.Steps.{first_words}
-use Rattle.rand_pcg.specs.Lcg.{Lcg}
-use Rattle.rand_pcg.specs.Pcg.{pcg32}
 
 -- what is known while words are drawn
 pub record Draws (seed count : ℕ) (words : List ℕ) (generator : Lcg) : Type 0 where

@@ -1,6 +1,5 @@
 -- The tables are in range, and no address stands twice, since the last bytes of two addresses differ.
-use Rattle.cq_gen.proofs.Terms.{rules, ◌≡◌, ℕ, ◌<◌, ◌≤◌, List, Option, None, get_or, ap, sym, ◌∙◌, arith, length-replicate, get_or-replicate, length-map-range_with_len, IsInRange, AddressRow, AreTables, ports_of, ◌≢◌, soak_address, soak_kind, soak_port, soak_rule, soak_setup, soak_tables}
-use Rattle.cq_route.specs.declared.tables.RuleRow.{RuleRow}
+use Rattle.cq_gen.proofs.Terms.{rules, ◌≡◌, ℕ, ◌<◌, ◌≤◌, List, Option, None, get_or, ap, sym, ◌∙◌, arith, length-replicate, get_or-replicate, length-map-range_with_len, IsInRange, AddressRow, AreTables, ports_of, ◌≢◌, soak_address, soak_kind, soak_port, soak_rule, soak_setup, soak_tables, RuleRow}
 use Rattle.cq_gen.proofs.Counted.{all_counted, all_pairs_counted}
 
 pub soak_ports : (ports : ℕ) → ports_of (soak_setup ports) ≡ ports

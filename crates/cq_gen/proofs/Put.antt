@@ -1,7 +1,6 @@
 -- The packets of an input are put into its file one after another: after each slot it is the file of the packets so
 -- far.
-use Rattle.cq_gen.proofs.Terms.{rules, ◌≡◌, ℕ, ◌+◌, List, [], ◌∷◌, ◌++◌, map, ap, sym, ◌∙◌, map-append, Captured, record_of, written, draw_for, packet_of, packets_to, to_write, counted_more}
-use Rattle.cq_pcap.proofs.Writing.{written_with}
+use Rattle.cq_gen.proofs.Terms.{rules, ◌≡◌, ℕ, ◌+◌, List, [], ◌∷◌, ◌++◌, map, ap, sym, ◌∙◌, map-append, Captured, record_of, written, draw_for, packet_of, packets_to, to_write, counted_more, written_with}
 
 module _ (words : List ℕ) (ports input : ℕ) where
   made_in : ℕ → Captured

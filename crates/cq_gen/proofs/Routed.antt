@@ -1,8 +1,7 @@
 -- A made packet goes where its word says. Its destination is the address of one output and of no other, and its tag
 -- has the priority of one rule and of no other, so what is found is that one.
-use Rattle.cq_gen.proofs.Terms.{common_steps, rules, ◌≡◌, ℕ, zero, suc, ◌+◌, ◌*◌, ◌/◌, ◌%◌, ◌<◌, ◌≤◌, ◌^◌, Bool, true, false, ◌&&◌, length, map, find, Some, refl, sym, ap, arith, mod-lt, Option, cases_eq, eq-eqb, ne_eqb, IsInRange, range_with_len, frame_of, output_address, packet_of, soak_address, soak_rule, soak_tables, option_map_or, AddressRow}
+use Rattle.cq_gen.proofs.Terms.{common_steps, rules, ◌≡◌, ℕ, zero, suc, ◌+◌, ◌*◌, ◌/◌, ◌%◌, ◌<◌, ◌≤◌, ◌^◌, Bool, true, false, ◌&&◌, length, map, find, Some, refl, sym, ap, arith, mod-lt, Option, cases_eq, eq-eqb, ne_eqb, IsInRange, range_with_len, frame_of, output_address, packet_of, soak_address, soak_rule, soak_tables, option_map_or, AddressRow, FrameParts}
 use Rattle.cq_frame.specs.Frame.{destination, priority}
-use Rattle.cq_frame.specs.declared.frame.FrameParts.{FrameParts}
 use Rattle.cq_route.specs.Route.{class_for, is_met, is_to, output_for, route}
 
 -- what is found is the item of the only number that passes

@@ -1,13 +1,7 @@
 -- Made packets are small: each fits a record, and all records of an input fit a file. So the file that is written is
 -- read again as the same packets, and no fault of a file can come.
-use Rattle.cq_gen.proofs.Terms.{rules, ◌≡◌, ℕ, ◌*◌, ◌<◌, ◌≤◌, ◌^◌, List, [], ◌∷◌, length, map, Ok, Err, IfSome, refl, ap, sym, subst, ◌∙◌, arith, length-append, common_steps, length-map, length-map-range_with_len, AllByRecursion, flat_map, Captured, IsWritable, read_again, record_of, written, frame_of, packet_of, packets_to, to_write}
-use Rattle.cq_pcap.specs.Faults.{fault_of}
-use Rattle.cq_pcap.specs.Reading.{packets_of}
-use Rattle.cq_pcap.specs.declared.read.PcapRefusal.{PcapRefusal}
+use Rattle.cq_gen.proofs.Terms.{rules, ◌≡◌, ℕ, ◌*◌, ◌<◌, ◌≤◌, ◌^◌, List, [], ◌∷◌, length, map, Ok, Err, IfSome, refl, ap, sym, subst, ◌∙◌, arith, length-append, common_steps, length-map, length-map-range_with_len, AllByRecursion, flat_map, Captured, IsWritable, read_again, record_of, written, frame_of, packet_of, packets_to, to_write, fault_of, packets_of, PcapRefusal, OutPacket, spelt_is_read, written_is_spelt}
 use Rattle.cq_pcap.specs.declared.read.PcapRefusal.TheVariants as refusal
-use Rattle.cq_pcap.specs.declared.write.OutPacket.{OutPacket}
-use Rattle.cq_pcap.proofs.SpeltIsRead.{spelt_is_read}
-use Rattle.cq_pcap.proofs.WrittenIsSpelt.{written_is_spelt}
 use Rattle.cq_gen.proofs.Counted.{all_by_counted}
 
 -- a packet of 60 bytes, with a stamp below 2^32 seconds

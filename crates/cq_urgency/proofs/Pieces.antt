@@ -1,6 +1,6 @@
 -- Pieces of an array. The piece of n items from h on is take n (drop h xs). A part of the array that is written anew
 -- leaves what stands ahead of it and behind it.
-use Rattle.cq_urgency.proofs.Terms.{common_steps, rules, ◌≡◌, ℕ, ◌+◌, ◌-◌, ◌<◌, ◌≤◌, List, [], ◌∷◌, ◌++◌, length, set, take, drop, append_assoc, length-append, length-take, length-drop, arith, insert, take-take, take_at, drop-drop, drop-append-le, drop_all, drop-take, copy_within}
+use Rattle.cq_urgency.proofs.Terms.{common_steps, rules, ◌≡◌, ℕ, ◌+◌, ◌-◌, ◌≤◌, List, [], ◌∷◌, ◌++◌, length, set, take, drop, append_assoc, length-append, length-take, length-drop, arith, insert, take-take, take_at, drop-drop, drop-append-le, drop_all, drop-take, copy_within}
 use Rattle.cq_base.proofs.Library.{append-nil}
 
 pub length_piece : {X : Type 0} (xs : List X) (h n : ℕ) → h + n ≤ length xs → length (take n (drop h xs)) ≡ n

@@ -1,4 +1,4 @@
-use Rattle.std.proofs.Common.{arith, rules, ◌∙◌}
+use Rattle.std.proofs.Common.{arith, rules}
 use Rattle.cq_frame.specs.Frame.{destination, ether_type, priority, code_point}
 use Rattle.cq_frame.proofs.Dropped.{same_code_point, same_number, same_priority}
 use Rattle.cq_frame.proofs.frame.parts.Goals as goal

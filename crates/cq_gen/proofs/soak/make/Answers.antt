@@ -1,5 +1,4 @@
-use Rattle.cq_gen.proofs.Terms.{rules, ap, sym, subst, ◌∙◌, arith, mul-le, AreTables, ports_of}
-use Rattle.cq_route.specs.declared.tables.Tables.{Tables}
+use Rattle.cq_gen.proofs.Terms.{rules, ap, sym, subst, ◌∙◌, arith, mul-le, AreTables, ports_of, Tables}
 use Rattle.cq_gen.proofs.InRange.{tables_in_range, tables_ports}
 use Rattle.cq_gen.proofs.Made.{captures_count, captures_lengths, captures_made, captures_of_draws}
 use Rattle.cq_gen.proofs.soak.make.Goals as goal
