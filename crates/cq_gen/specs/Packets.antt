@@ -3,6 +3,7 @@ use Rattle.std.specs.Prelude.{ℕ, ◌*◌, ◌/◌, ◌%◌, ◌^◌, List, [],
 use Rattle.std.specs.List.{range_with_len}
 use Rattle.cq_pcap.specs.Captured.{Captured}
 use Rattle.cq_pcap.specs.declared.write.OutPacket.{OutPacket}
+use Rattle.cq_route.specs.Defaults.{default_slot_ns}
 use Rattle.cq_gen.specs.Draws.{draw_for, first_draws}
 
 -- the address of an output
@@ -20,10 +21,10 @@ frame_of output input priority =
     output_address output ++ input_address input ++ 0x81 ∷ 0 ∷ (priority * 32) ∷ 0 ∷ 0x88 ∷ 0xb5 ∷ replicate 42 0
 
 -- the packet that a word makes: to the output that is the word modulo the number of ports, with the word's top three
--- bits as its priority, captured whole when its slot of 512 nanoseconds begins
+-- bits as its priority, captured whole when its slot of the default length begins
 unfoldable pub packet_of : ℕ → ℕ → ℕ → ℕ → Captured
 packet_of ports slot input word =
-    record { stamp = slot * 512; original = 60; body = frame_of (word % ports) input (word / 2 ^ 29) }
+    record { stamp = slot * default_slot_ns; original = 60; body = frame_of (word % ports) input (word / 2 ^ 29) }
 
 -- a packet, as it is written to a capture
 abbrev pub to_write : Captured → OutPacket

@@ -9,6 +9,7 @@ use Rattle.cq_route.specs.declared.tables.AddressRow.{AddressRow}
 use Rattle.cq_route.specs.declared.tables.PortRow.{PortRow}
 use Rattle.cq_route.specs.declared.tables.RuleRow.{RuleRow}
 use Rattle.cq_route.specs.declared.tables.Tables.{Tables}
+use Rattle.cq_route.specs.Defaults.{default_cell_bytes, default_slot_ns, default_limit_bytes, default_output, default_class, default_class_row}
 use Rattle.cq_gen.specs.Packets.{output_address}
 
 -- the disciplines of the outputs go round
@@ -17,7 +18,7 @@ soak_kind output = if output % 3 == 0 then FirstCome else if output % 3 == 1 the
 
 -- the greater a class, the more urgent, and the more it costs
 abbrev pub soak_class : ℕ → ClassRow
-soak_class class = record { level = 0; priority = 7 - class; cost = 1 + class }
+soak_class class = record { level = default_class_row.level; priority = 7 - class; cost = 1 + class }
 
 -- eight classes, and a discipline for each port
 abbrev pub soak_setup : ℕ → Setup
@@ -40,12 +41,12 @@ soak_rule class = record { input = None; pcp = Some class; ether_type = None; ds
 -- named
 unfoldable pub soak_tables : ℕ → Tables
 soak_tables ports = record {
-  cell_bytes = 64;
-  slot_ns = 512;
-  limit_bytes = 67108864;
+  cell_bytes = default_cell_bytes;
+  slot_ns = default_slot_ns;
+  limit_bytes = default_limit_bytes;
   workers = 2;
-  default_output = 0;
-  default_class = 0;
+  default_output = default_output;
+  default_class = default_class;
   trace = [];
   log = [];
   setup = soak_setup ports;

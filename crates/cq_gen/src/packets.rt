@@ -6,13 +6,11 @@ ghost use Rattle.cq_pcap.specs.Written.{record_of, written};
 
 use cq_base::{NoMemory, Port};
 use cq_pcap::{FILE_HEADER, RECORD_HEADER, begin_capture, put_packet};
+use cq_route::DEFAULT_SLOT_NS;
 use std::alloc::Global;
 
 // How many bytes a frame has.
 const FRAME: usize = 60;
-
-/// The nanoseconds of a slot.
-pub const SLOT: u64 = 512;
 
 /// The address of an output.
 pub fn output_address(output: u8) -> [u8; 6]
@@ -54,7 +52,7 @@ fn put_made(
     let output = word % u32::from(ports);
     let priority = word >> 29;
     let frame = frame_of(output as u8, input as u8, priority as u8);
-    let stamp = u128::from(slot) * u128::from(SLOT);
+    let stamp = u128::from(slot) * u128::from(DEFAULT_SLOT_NS);
     put_packet(out, stamp, FRAME as u32, &frame)
 }
 

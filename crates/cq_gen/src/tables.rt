@@ -3,9 +3,12 @@ ghost use Rattle.std.specs.Prelude.{◌≡◌, ◌≤◌, None, map, replicate, 
 ghost use Rattle.std.specs.List.{range_with_len};
 ghost use Rattle.cq_gen.specs.Tables.{soak_address, soak_class, soak_kind, soak_port, soak_rule, soak_setup, soak_tables};
 
-use crate::packets::{SLOT, output_address};
+use crate::packets::output_address;
 use cq_base::{ClassRow, Kind, Name, NoMemory, Port, Sequence, Setup};
-use cq_route::{AddressRow, DEFAULT_CELL_BYTES, DEFAULT_LIMIT_BYTES, PortRow, RuleRow, Tables};
+use cq_route::{
+    AddressRow, DEFAULT_CELL_BYTES, DEFAULT_CLASS, DEFAULT_LEVEL, DEFAULT_LIMIT_BYTES,
+    DEFAULT_OUTPUT, DEFAULT_SLOT_NS, PortRow, RuleRow, Tables,
+};
 use std::alloc::{AllocError, Global};
 
 // As many classes as a tag has priorities.
@@ -19,11 +22,11 @@ pub fn soak_tables(alloc: Global, ports: Port) -> Result<Tables, NoMemory>
 {
     Ok(Tables {
         cell_bytes: DEFAULT_CELL_BYTES as u32,
-        slot_ns: SLOT,
+        slot_ns: DEFAULT_SLOT_NS,
         limit_bytes: DEFAULT_LIMIT_BYTES,
         workers: 2,
-        default_output: 0,
-        default_class: 0,
+        default_output: DEFAULT_OUTPUT as u16,
+        default_class: DEFAULT_CLASS as u16,
         trace: Name::of(alloc, "")?,
         log: Name::of(alloc, "")?,
         setup: soak_setup(alloc, ports)?,
@@ -50,7 +53,7 @@ fn classes(alloc: Global) -> Result<Vec<ClassRow>, NoMemory>
     let mut rows = Vec::with_capacity(alloc, CLASSES as usize)?;
     'classes: for class in 0..CLASSES {
         rows.push(ClassRow {
-            level: 0,
+            level: DEFAULT_LEVEL as u8,
             priority: u128::from(CLASSES - 1 - class),
             cost: u128::from(1 + class),
         })?;

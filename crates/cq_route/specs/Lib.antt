@@ -1,4 +1,5 @@
 pub mod Tables
+pub mod Defaults
 pub mod Plain
 pub mod Route
 pub mod Directory

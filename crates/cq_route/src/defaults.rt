@@ -12,6 +12,12 @@ pub const DEFAULT_LIMIT_BYTES: u64 = 67_108_864;
 /// The workers where none are stated.
 pub const DEFAULT_WORKERS: u64 = 1;
 
+/// The output to which frames for an unknown address go, where none is stated.
+pub const DEFAULT_OUTPUT: u64 = 0;
+
+/// The class to which packets that meet no rule go, where none is stated.
+pub const DEFAULT_CLASS: u64 = 0;
+
 /// The level of a class where none is stated.
 pub const DEFAULT_LEVEL: u64 = 0;
 

@@ -4,8 +4,8 @@ ghost use Rattle.cq_route.specs.Plain.{plain_ports, plain_setup, plain_tables};
 ghost use Rattle.cq_route.specs.Tables.{AreTables};
 
 use crate::{
-    DEFAULT_CELL_BYTES, DEFAULT_COST, DEFAULT_LEVEL, DEFAULT_LIMIT_BYTES, DEFAULT_PRIORITY,
-    DEFAULT_SLOT_NS, DEFAULT_WORKERS,
+    DEFAULT_CELL_BYTES, DEFAULT_CLASS, DEFAULT_COST, DEFAULT_LEVEL, DEFAULT_LIMIT_BYTES,
+    DEFAULT_OUTPUT, DEFAULT_PRIORITY, DEFAULT_SLOT_NS, DEFAULT_WORKERS,
 };
 use cq_base::{Class, ClassRow, Kind, Name, NoMemory, Port, Sequence, Setup};
 use std::alloc::Global;
@@ -90,8 +90,8 @@ impl Tables {
             slot_ns: DEFAULT_SLOT_NS,
             limit_bytes: DEFAULT_LIMIT_BYTES,
             workers: DEFAULT_WORKERS as u16,
-            default_output: 0,
-            default_class: 0,
+            default_output: DEFAULT_OUTPUT as u16,
+            default_class: DEFAULT_CLASS as u16,
             trace: Name::of(alloc, "")?,
             log: Name::of(alloc, "")?,
             setup: plain_setup(alloc)?,

@@ -12,6 +12,7 @@ use Rattle.cq_route.specs.declared.tables.PortRow.{PortRow}
 use Rattle.cq_route.specs.declared.tables.AddressRow.{AddressRow}
 use Rattle.cq_route.specs.declared.tables.RuleRow.{RuleRow}
 use Rattle.cq_route.specs.declared.tables.Tables.{Tables}
+use Rattle.cq_route.specs.Defaults.{default_cell_bytes, default_slot_ns, default_limit_bytes, default_workers, default_output, default_class, default_class_row}
 use Rattle.cq_tables.specs.declared.version.Version.{Version}
 use Rattle.cq_tables.specs.declared.version.Version.TheVariants.{One, Two}
 use Rattle.cq_tables.specs.declared.refusal.Wrong.{Wrong}
@@ -67,21 +68,17 @@ version_in top = version_of (found_or 1 integer_value (codes "version") top)
 
 -- ## What the rows of the arrays say
 
--- the class that there is where none is stated
-abbrev pub default_class_row : ClassRow
-default_class_row = record { level = 0; priority = 0; cost = 1 }
-
--- the level that the table of a class states: 0 where it is left out, and in version 1
+-- the level that the table of a class states: the default where it is left out, and in version 1
 abbrev pub level_in : Version → Members → ℕ
-level_in One table = 0
-level_in Two table = found_or 0 integer_value (codes "level") table
+level_in One table = default_class_row.level
+level_in Two table = found_or default_class_row.level integer_value (codes "level") table
 
--- the class that a table states: priority 0 and cost 1 where they are left out
+-- the class that a table states: the default of what is left out
 abbrev pub class_row : Version → Members → ClassRow
 class_row version table = record {
   level = level_in version table;
-  priority = found_or 0 wide_value (codes "priority") table;
-  cost = found_or 1 wide_value (codes "cost") table;
+  priority = found_or default_class_row.priority wide_value (codes "priority") table;
+  cost = found_or default_class_row.cost wide_value (codes "cost") table;
 }
 
 -- the files that the table of a port names: the one that it reads, if any, and the one that it writes
@@ -238,12 +235,12 @@ top_keys top = figure_keys Top ++ (file_keys Top ++ array_keys top)
 abbrev pub figures_of : Members → Figures
 figures_of top = record {
   version = version_in top;
-  cell_bytes = found_or 64 integer_value (codes "cell_bytes") top;
-  slot_ns = found_or 512 integer_value (codes "slot_ns") top;
-  limit_bytes = found_or 67108864 integer_value (codes "limit_bytes") top;
-  workers = found_or 1 integer_value (codes "workers") top;
-  default_output = found_or 0 integer_value (codes "default_output") top;
-  default_class = found_or 0 integer_value (codes "default_class") top;
+  cell_bytes = found_or default_cell_bytes integer_value (codes "cell_bytes") top;
+  slot_ns = found_or default_slot_ns integer_value (codes "slot_ns") top;
+  limit_bytes = found_or default_limit_bytes integer_value (codes "limit_bytes") top;
+  workers = found_or default_workers integer_value (codes "workers") top;
+  default_output = found_or default_output integer_value (codes "default_output") top;
+  default_class = found_or default_class integer_value (codes "default_class") top;
 }
 
 -- those that have a range of their own are in it

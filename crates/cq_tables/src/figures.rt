@@ -4,9 +4,9 @@ ghost use Rattle.cq_tables.specs.Terms.{table_view, Refuses, first, AreFigures, 
 
 use crate::entries::Entries;
 use crate::limits::{
-    DEFAULT_CELL_BYTES, DEFAULT_LIMIT_BYTES, DEFAULT_SLOT_NS, DEFAULT_WORKERS, FIRST_VERSION,
-    GREATEST_CLASS, GREATEST_PORT, LAST_VERSION, LEAST_LIMIT_BYTES, MOST_CELL_BYTES,
-    MOST_LIMIT_BYTES, MOST_SLOT_NS, MOST_WORKERS,
+    DEFAULT_CELL_BYTES, DEFAULT_CLASS, DEFAULT_LIMIT_BYTES, DEFAULT_OUTPUT, DEFAULT_SLOT_NS,
+    DEFAULT_WORKERS, FIRST_VERSION, GREATEST_CLASS, GREATEST_PORT, LAST_VERSION, LEAST_LIMIT_BYTES,
+    MOST_CELL_BYTES, MOST_LIMIT_BYTES, MOST_SLOT_NS, MOST_WORKERS,
 };
 use crate::refusal::TableRefusal;
 use crate::version::Version;
@@ -44,8 +44,18 @@ pub fn figures_in(entries: Entries) -> Result<Figures, TableRefusal>
         DEFAULT_LIMIT_BYTES,
     )?;
     let workers = entries.integer_or("workers", 1, MOST_WORKERS, DEFAULT_WORKERS)?;
-    let default_output = entries.integer_or("default_output", 0, GREATEST_PORT as u64, 0)?;
-    let default_class = entries.integer_or("default_class", 0, GREATEST_CLASS as u64, 0)?;
+    let default_output = entries.integer_or(
+        "default_output",
+        0,
+        GREATEST_PORT as u64,
+        DEFAULT_OUTPUT,
+    )?;
+    let default_class = entries.integer_or(
+        "default_class",
+        0,
+        GREATEST_CLASS as u64,
+        DEFAULT_CLASS,
+    )?;
     Ok(Figures {
         version: Version::of(version),
         cell_bytes: cell_bytes as u32,

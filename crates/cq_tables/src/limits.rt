@@ -1,8 +1,8 @@
 //! The limits of what a configuration says, and what stands where it says nothing.
 
 pub use cq_route::{
-    DEFAULT_CELL_BYTES, DEFAULT_COST, DEFAULT_LEVEL, DEFAULT_LIMIT_BYTES, DEFAULT_PRIORITY,
-    DEFAULT_SLOT_NS, DEFAULT_WORKERS,
+    DEFAULT_CELL_BYTES, DEFAULT_CLASS, DEFAULT_COST, DEFAULT_LEVEL, DEFAULT_LIMIT_BYTES,
+    DEFAULT_OUTPUT, DEFAULT_PRIORITY, DEFAULT_SLOT_NS, DEFAULT_WORKERS,
 };
 
 /// The first version of a configuration.

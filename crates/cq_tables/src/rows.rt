@@ -79,7 +79,7 @@ fn level_in(entries: Entries, version: Version) -> Result<u8, TableRefusal>
         (level_keys version entries.entry.place)))) }
 {
     match version {
-        Version::One => Ok(0),
+        Version::One => Ok(DEFAULT_LEVEL as u8),
         Version::Two => stated_level(entries),
     }
 }
