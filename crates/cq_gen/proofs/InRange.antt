@@ -1,5 +1,5 @@
 -- The tables are in range, and no address stands twice, since the last bytes of two addresses differ.
-use Rattle.cq_gen.proofs.Terms.{rules, ◌≡◌, ℕ, ◌<◌, ◌≤◌, List, Option, None, get_or, ap, sym, ◌∙◌, arith, length-replicate, get_or-replicate, length-map-range_with_len, IsInRange, AddressRow, AreTables, ports_of, ◌≢◌, soak_address, soak_kind, soak_port, soak_rule, soak_setup, soak_tables, RuleRow}
+use Rattle.cq_gen.proofs.Terms.{rules, ◌≡◌, ℕ, ◌<◌, ◌≤◌, List, Option, None, get_or, ap, sym, ◌∙◌, arith, length-replicate, get_or-replicate, length-map-range_with_len, IsInRange, AddressRow, AreTables, ports_of, ◌≢◌, soak_address, soak_kind, soak_port, soak_rule, soak_setup, soak_tables, RuleRow, plain_tables}
 use Rattle.cq_gen.proofs.Counted.{all_counted, all_pairs_counted}
 
 pub soak_ports : (ports : ℕ) → ports_of (soak_setup ports) ≡ ports
@@ -10,7 +10,7 @@ unfolding soak_tables
 tables_ports ports = soak_ports ports
 
 pub tables_in_range : (ports : ℕ) → IsInRange 1 64 ports → AreTables (soak_tables ports)
-unfolding soak_tables
+unfolding soak_tables plain_tables
 tables_in_range ports range =
     let count : ports_of (soak_setup ports) ≡ ports = soak_ports ports in
     let low : 1 ≤ ports = range.0 in

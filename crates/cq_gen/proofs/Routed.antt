@@ -1,6 +1,6 @@
 -- A made packet goes where its word says. Its destination is the address of one output and of no other, and its tag
 -- has the priority of one rule and of no other, so what is found is that one.
-use Rattle.cq_gen.proofs.Terms.{common_steps, rules, ◌≡◌, ℕ, zero, suc, ◌+◌, ◌*◌, ◌/◌, ◌%◌, ◌<◌, ◌≤◌, ◌^◌, Bool, true, false, ◌&&◌, length, map, find, Some, refl, sym, ap, arith, mod-lt, Option, cases_eq, eq-eqb, ne_eqb, IsInRange, range_with_len, frame_of, output_address, packet_of, soak_address, soak_rule, soak_tables, option_map_or, AddressRow, FrameParts}
+use Rattle.cq_gen.proofs.Terms.{common_steps, rules, ◌≡◌, ℕ, zero, suc, ◌+◌, ◌*◌, ◌/◌, ◌%◌, ◌<◌, ◌≤◌, ◌^◌, Bool, true, false, ◌&&◌, length, map, find, Some, refl, sym, ap, arith, mod-lt, Option, cases_eq, eq-eqb, ne_eqb, IsInRange, range_with_len, frame_of, output_address, packet_of, soak_address, soak_rule, soak_tables, option_map_or, AddressRow, FrameParts, plain_tables}
 use Rattle.cq_frame.specs.Frame.{destination, priority}
 use Rattle.cq_route.specs.Route.{class_for, is_met, is_to, output_for, route}
 
@@ -25,7 +25,7 @@ is_to_other : (output k : ℕ) → (k ≡ output → ⊥) → is_to (Some (outpu
 is_to_other output k apart = ap (λ (b : Bool). b && true) (ne_eqb output k (λ e. apart (sym e)))
 
 output_is : (ports output : ℕ) → output < ports → output_for (soak_tables ports) (Some (output_address output)) ≡ output
-unfolding soak_tables
+unfolding soak_tables plain_tables
 output_is ports output inside = ap (λ (r : Option AddressRow). option_map_or (λ row. row.output) r 0)
     (found_counted (is_to (Some (output_address output))) soak_address output 0 ports (omega arith) (omega arith)
     (is_to_output output) (is_to_other output))
@@ -40,7 +40,7 @@ met_by_other input rank fields e k apart = grind (arith, common_steps, ne_eqb)
 
 class_is : (ports input rank : ℕ) (fields : FrameParts) → rank < 8 → with_priority fields rank →
     class_for (soak_tables ports) input fields ≡ rank
-unfolding soak_tables
+unfolding soak_tables plain_tables
 class_is ports input rank fields few e = search (arith, rules, found_counted, met_by_other, eq-eqb)
 
 frame_routed : (ports input output rank : ℕ) → output < ports → rank < 8 →
@@ -55,10 +55,10 @@ packet_routed ports slot input word range fits = grind (arith, common_steps, fra
 
 pub packet_fills_one_cell : (ports slot input word : ℕ) →
     length (packet_of ports slot input word).body ≤ (soak_tables ports).cell_bytes
-unfolding packet_of frame_of soak_tables
+unfolding packet_of frame_of soak_tables plain_tables
 packet_fills_one_cell ports slot input word = omega arith
 
 pub packet_begins_its_slot : (ports slot input word : ℕ) →
     (packet_of ports slot input word).stamp ≡ slot * (soak_tables ports).slot_ns
-unfolding packet_of soak_tables
+unfolding packet_of soak_tables plain_tables
 packet_begins_its_slot ports slot input word = refl

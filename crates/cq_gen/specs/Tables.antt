@@ -9,7 +9,8 @@ use Rattle.cq_route.specs.declared.tables.AddressRow.{AddressRow}
 use Rattle.cq_route.specs.declared.tables.PortRow.{PortRow}
 use Rattle.cq_route.specs.declared.tables.RuleRow.{RuleRow}
 use Rattle.cq_route.specs.declared.tables.Tables.{Tables}
-use Rattle.cq_route.specs.Defaults.{default_cell_bytes, default_slot_ns, default_limit_bytes, default_output, default_class, default_class_row}
+use Rattle.cq_route.specs.Defaults.{default_class_row}
+use Rattle.cq_route.specs.Plain.{plain_tables}
 use Rattle.cq_gen.specs.Packets.{output_address}
 
 -- the disciplines of the outputs go round
@@ -37,18 +38,11 @@ soak_address output = record { mac = output_address output; output = output }
 abbrev pub soak_rule : ℕ → RuleRow
 soak_rule class = record { input = None; pcp = Some class; ether_type = None; dscp = None; class = class }
 
--- an address for each output, a rule for each priority, two workers, and every other figure by default; no file is
--- named
+-- the plain tables of a port without files, but that there are two workers, that the classes and ports are those
+-- above, without limits, and that there is an address for each output and a rule for each priority
 unfoldable pub soak_tables : ℕ → Tables
-soak_tables ports = record {
-  cell_bytes = default_cell_bytes;
-  slot_ns = default_slot_ns;
-  limit_bytes = default_limit_bytes;
+soak_tables ports = record (plain_tables [] []) {
   workers = 2;
-  default_output = default_output;
-  default_class = default_class;
-  trace = [];
-  log = [];
   setup = soak_setup ports;
   ports = replicate ports soak_port;
   limits = replicate ports None;

@@ -15,7 +15,7 @@ use std::alloc::{AllocError, Global};
 const CLASSES: u8 = 8;
 
 /// The tables of a switch with so many ports. The error is want of memory.
-#[tactic(auto, unfolding(crate::specs::Tables::soak_tables))]
+#[tactic(auto, unfolding(crate::specs::Tables::soak_tables, cq_route::specs::Plain::plain_tables))]
 pub fn soak_tables(alloc: Global, ports: Port) -> Result<Tables, NoMemory>
     requires { ports ≤ 64 }
     ensures { IfOk result (λ tables. tables ≡ soak_tables ports) }
