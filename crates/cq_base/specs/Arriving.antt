@@ -2,6 +2,7 @@
 use Rattle.std.specs.Prelude.{ℕ, ◌+◌, ◌&&◌, ◌==◌, Bool, max, List, [], ◌∷◌, length, map, find, Option, option_map}
 use Rattle.std.specs.List.{range_with_len}
 use Rattle.cq_base.specs.declared.cell.Cell.{Cell}
+use Rattle.cq_base.specs.Limits.{most_ports}
 
 -- a cell that arrives in a slot, at the input that its id names
 pub record Arrival : Type 0 where
@@ -16,9 +17,9 @@ is_at slot input a = a.slot == slot && a.cell.id.input == input
 abbrev pub arriving_at : List Arrival → ℕ → ℕ → Option Cell
 arriving_at came slot input = option_map (λ a. a.cell) (find (is_at slot input) came)
 
--- the cells that arrive in a slot: a place for each of 64 inputs
+-- the cells that arrive in a slot: a place for each input
 unfoldable pub arriving : List Arrival → ℕ → List (Option Cell)
-arriving came slot = map (arriving_at came slot) (range_with_len 0 64)
+arriving came slot = map (arriving_at came slot) (range_with_len 0 most_ports)
 
 -- the first slot from which on no cell arrives any more
 abbrev pub end_of : List Arrival → ℕ

@@ -1,5 +1,6 @@
 pub mod Room
 pub mod Status
+pub mod Limits
 pub mod Decimal
 pub mod Key
 pub mod Cells

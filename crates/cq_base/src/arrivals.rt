@@ -4,14 +4,15 @@
 //! from the schedule to a switch, with a place for each input that a switch may have.
 ghost use Rattle.std.specs.Prelude.{◌≡◌, ◌<◌, IfSome, slice_set};
 ghost use Rattle.cq_base.specs.Arrivals.{AreArrivals, arrival_at, no_arrivals, with_arrival};
+ghost use Rattle.cq_base.specs.Limits.{most_ports};
 
-use crate::{Cell, Port};
+use crate::{Cell, MOST_PORTS, Port};
 use std::marker::Model;
 
 /// The cells that arrive in one slot, at most one at each of 64 inputs.
 #[derive(Clone, Copy)]
 pub struct Arrivals {
-    cells: [Option<Cell>; 64],
+    cells: [Option<Cell>; MOST_PORTS],
 }
 
 impl Model for Arrivals {
@@ -33,13 +34,15 @@ impl Arrivals {
     pub fn none() -> Arrivals
         ensures { result ≡ no_arrivals }
     {
-        Arrivals { cells: [None; 64] }
+        Arrivals {
+            cells: [None; MOST_PORTS],
+        }
     }
 
     /// The cell comes to its input, in place of one that was set there before. The other inputs keep
     /// theirs.
     pub fn set(&mut self, input: Port, cell: Cell)
-        requires place { input < 64 }
+        requires place { input < most_ports }
         requires own { cell.id.input ≡ input }
         ensures { self.new ≡ with_arrival self.old input cell }
     {
@@ -49,7 +52,7 @@ impl Arrivals {
     /// A cell comes to its input or none does, in place of what was there before. The other inputs keep theirs. So the
     /// places are filled anew slot after slot, and no other arrivals are made.
     pub fn put(&mut self, input: Port, cell: Option<Cell>)
-        requires place { input < 64 }
+        requires place { input < most_ports }
         requires own { IfSome cell (λ cell. cell.id.input ≡ input) }
         ensures { self.new ≡ slice_set self.old input cell }
     {

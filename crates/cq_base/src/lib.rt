@@ -10,6 +10,7 @@ mod cell;
 mod departures;
 mod figures;
 mod key;
+mod limits;
 mod name;
 mod number;
 mod packed;
@@ -24,6 +25,9 @@ pub use cell::{Cell, CellId, Class, Departure, Port, Queued, Slot, TagFault, Tra
 pub use departures::Departures;
 pub use figures::{Figures, InputFigures, OutputFigures};
 pub use key::{Key, keys_are_ordered};
+pub use limits::{
+    LEVELS, LONGEST_CONFIGURATION, LONGEST_FILE, MOST_CLASSES, MOST_PORTS, MOST_WORKERS,
+};
 pub use name::Name;
 pub use number::{MOST_DIGITS, digits};
 pub use packed::PackedDeparture;

@@ -3,8 +3,9 @@
 use Rattle.std.specs.Prelude.{◌≡◌, ℕ, ◌≤◌, List, length, Option, None}
 use Rattle.cq_base.specs.declared.cell.Cell.{Cell}
 use Rattle.cq_base.specs.Arrivals.{arrival_at}
+use Rattle.cq_base.specs.Limits.{most_ports}
 
--- there are 64 places, and no cell stands at one from this input on
+-- there is a place for each port, and no cell stands at one from this input on
 pub record StandBelow (ports : ℕ) (cells : List (Option Cell)) : Type 0 where
-  pub places : length cells ≡ 64
+  pub places : length cells ≡ most_ports
   pub beyond : (input : ℕ) → ports ≤ input → arrival_at cells input ≡ None

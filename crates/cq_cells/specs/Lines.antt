@@ -3,6 +3,7 @@
 use Rattle.std.specs.Prelude.{ℕ, ◌≡◌, ◌+◌, ◌-◌, ◌*◌, ◌^◌, ◌<◌, ◌≤◌, ◌==◌, min, List, [], ◌∷◌, length, map, flat_map, slice_index_or}
 use Rattle.std.specs.List.{range_with_len, AllByRecursion}
 use Rattle.cq_base.specs.Arriving.{Arrival, end_of}
+use Rattle.cq_base.specs.Limits.{most_ports}
 use Rattle.cq_base.specs.declared.cell.Cell.{Cell}
 use Rattle.cq_cells.specs.declared.line.Row.{Row}
 use Rattle.cq_base.specs.Pieces.{cells_of}
@@ -64,7 +65,7 @@ AreOwn input (line ∷ lines) = AllByRecursion (λ a. a.cell.id.input ≡ input)
 
 -- lines with their counts, of all cells and of those for each output, and with their end
 pub record AreCounted (lines : List (List Arrival)) (total end : ℕ) (to_output : List ℕ) : Type 0 where
-  pub few : length lines ≤ 64
+  pub few : length lines ≤ most_ports
   pub own : AreOwn 0 lines
   pub all : total ≡ length (all_of lines)
   pub small : total ≤ 2 ^ 34

@@ -1,6 +1,7 @@
 -- The terms of this crate's clauses, each passed on from where it is defined.
 pub use Rattle.cq_base.specs.Arrivals.{no_arrivals}
 pub use Rattle.cq_base.specs.Arriving.{arriving, end_of, arriving_at}
+pub use Rattle.cq_base.specs.Limits.{longest_file, most_ports}
 pub use Rattle.cq_base.specs.Pieces.{cells_of}
 pub use Rattle.cq_pcap.specs.Captured.{Captured}
 pub use Rattle.cq_route.specs.{Directory.IsDirectoryOf, Route.route, declared.tables.Tables.Tables}

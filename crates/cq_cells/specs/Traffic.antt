@@ -2,6 +2,7 @@
 use Rattle.std.specs.Prelude.{ℕ, ◌≡◌, ◌+◌, ◌^◌, ◌<◌, ◌≤◌, ◌==◌, Bool, List, length, filter}
 use Rattle.std.specs.List.{AllByRecursion, AllPairs}
 use Rattle.cq_base.specs.Arriving.{Arrival, enough}
+use Rattle.cq_base.specs.Limits.{longest_file}
 use Rattle.cq_pcap.specs.Captured.{Captured, file_length}
 
 -- the cell arrives at one of so many ports, goes to one of them, and is of one of so many classes
@@ -24,10 +25,10 @@ pub record IsTraffic (ports classes : ℕ) (came : List Arrival) : Type 0 where
 abbrev pub IsShort : List Arrival → Type 0
 IsShort came = enough came ≤ 2 ^ 63 + 2 ^ 35
 
--- packets as a capture has them: their stamps are below 2^63, and they fill a file of at most 2^28 bytes
+-- packets as a capture has them: their stamps are below 2^63, and they fill a file that is not too long
 pub record IsRecorded (ps : List Captured) : Type 0 where
   pub stamps : AllByRecursion (λ p. p.stamp < 2 ^ 63) ps
-  pub small : file_length ps ≤ 2 ^ 28
+  pub small : file_length ps ≤ longest_file
 
 -- whether the cell arrives at this input
 abbrev pub is_from : ℕ → Arrival → Bool

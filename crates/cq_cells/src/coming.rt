@@ -1,10 +1,10 @@
 //! What arrives slot after slot.
 ghost use Rattle.std.specs.Prelude.{◌≡◌, ◌≤◌, ◌↔◌, IsTrue, length};
-ghost use Rattle.cq_cells.specs.Terms.{no_arrivals, arriving, StandBelow, AreOwn, all_of};
+ghost use Rattle.cq_cells.specs.Terms.{no_arrivals, most_ports, arriving, StandBelow, AreOwn, all_of};
 
 use crate::line::Line;
 use crate::nearby::Nearby;
-use cq_base::{Arrivals, Port, Slot};
+use cq_base::{Arrivals, MOST_PORTS, Port, Slot};
 use std::marker::Model;
 
 /// The cells that arrive in a slot, in places that are filled anew for the next one, so that no array is made or copied
@@ -51,7 +51,7 @@ fn make_ready(arrivals: &mut Arrivals, ports: usize, wanted: usize)
 
 // The cells that arrive in the slot come to the inputs of these lines, in place of those that stood there.
 fn come(lines: &[Line], slot: Slot, near: &mut Nearby, arrivals: &mut Arrivals)
-    requires few { length lines.now ≤ 64 }
+    requires few { length lines.now ≤ most_ports }
     requires own { AreOwn 0 lines.now }
     requires stand { StandBelow (length lines.now) arrivals.old }
     ensures cells { arrivals.new ≡ arriving (all_of lines.now) slot }
@@ -69,7 +69,7 @@ fn none_stand(arrivals: &Arrivals, ports: usize) -> bool
     requires { StandBelow ports arrivals.now }
     ensures { IsTrue result ↔ (arrivals.now ≡ no_arrivals) }
 {
-    'inputs: for input in 0..ports.min(64) as Port {
+    'inputs: for input in 0..ports.min(MOST_PORTS) as Port {
         if arrivals.at(input).is_some() {
             return false;
         }
@@ -106,7 +106,7 @@ impl Coming {
 
     /// The cells that arrive in the slot at the inputs of these lines come in place of those that stand there.
     pub(crate) fn fill(&mut self, lines: &[Line], slot: Slot)
-        requires few { length lines.now ≤ 64 }
+        requires few { length lines.now ≤ most_ports }
         requires own { AreOwn 0 lines.now }
         ensures { self.new ≡ arriving (all_of lines.now) slot }
     {

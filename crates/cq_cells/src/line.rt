@@ -3,7 +3,7 @@
 ghost use Rattle.std.specs.Prelude.{◌≡◌, ℕ, ◌+◌, ◌-◌, ◌/◌, ◌==◌, ◌^◌, ◌<◌, ◌≤◌, find, length, map, max, option_map, slice_index_or, IfOk, IsTrue};
 ghost use Rattle.std.specs.List.Sorted.{IsNonDecreasingBy};
 ghost use Rattle.cq_cells.specs.Schedule.{first_stamp as first_stamp_of};
-ghost use Rattle.cq_cells.specs.Terms.{end_of, AreAdded, AreRows, IsBegun, IsEnded, row_at, row_cell, IsNextArrival, arrivals_at, cells_of, packets_of, IsRecorded, route, AreTables, ports_of};
+ghost use Rattle.cq_cells.specs.Terms.{end_of, longest_file, AreAdded, AreRows, IsBegun, IsEnded, row_at, row_cell, IsNextArrival, arrivals_at, cells_of, packets_of, IsRecorded, route, AreTables, ports_of};
 
 use crate::segments::cells_of;
 use cq_base::{Cell, CellId, Class, NoMemory, Port, Slot};
@@ -36,8 +36,9 @@ pub struct Line {
 }
 
 impl Model for Line {
-    ghost use Rattle.std.specs.Prelude.{◌≡◌, ◌≤◌, ◌^◌, List, length};
+    ghost use Rattle.std.specs.Prelude.{◌≡◌, ◌≤◌, List, length};
     ghost use Rattle.cq_base.specs.Arriving.{Arrival, end_of};
+    ghost use Rattle.cq_base.specs.Limits.{longest_file};
     ghost use Rattle.cq_cells.specs.Lines.{AreRows, line_arrivals};
 
     ghost Value = { List Arrival };
@@ -46,14 +47,14 @@ impl Model for Line {
 
     ghost invariant = { λ l.
         AreRows l.cell_bytes l.rows.items × (l.cells ≡ length (line_arrivals l.input l.cell_bytes l.rows.items)) ×
-        (l.cells ≤ 2 ^ 28) × (l.end ≡ end_of (line_arrivals l.input l.cell_bytes l.rows.items)) };
+        (l.cells ≤ longest_file) × (l.end ≡ end_of (line_arrivals l.input l.cell_bytes l.rows.items)) };
 }
 
 impl Line {
     /// How many cells arrive.
     pub fn cells(&self) -> u64
         ensures cells { result ≡ length self.now }
-        ensures few { result ≤ 2 ^ 28 }
+        ensures few { result ≤ longest_file }
     {
         self.cells
     }
@@ -117,9 +118,9 @@ impl Line {
         requires first_stamp { first_stamp ≡ first_stamp_of captures.now }
         requires routes { routes.now ≡ map (λ p. route tables.now input p.body) (packets_of captures.now input) }
         requires outputs { length to_output.old ≡ ports_of tables.now.setup }
-        requires room { (j : ℕ) → j < length to_output.old → slice_index_or to_output.old j 0 + 2 ^ 28 < 2 ^ 64 }
+        requires room { (j : ℕ) → j < length to_output.old → slice_index_or to_output.old j 0 + longest_file < 2 ^ 64 }
         ensures line { IfOk result (λ line. line ≡ arrivals_at tables.now captures.now input) }
-        ensures few { IfOk result (λ line. length line ≤ 2 ^ 28) }
+        ensures few { IfOk result (λ line. length line ≤ longest_file) }
         ensures recorded { IfOk result (λ _. IsRecorded (packets_of captures.now input)) }
         ensures outputs { length to_output.new ≡ length to_output.old }
         ensures counts { IfOk result (λ _.

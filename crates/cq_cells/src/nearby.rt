@@ -1,17 +1,19 @@
 //! Where the cells of a slot are looked for first.
-use cq_base::{Cell, CellId};
+use cq_base::{Cell, CellId, MOST_PORTS};
 
 /// How many packets of each input had begun when a cell of it was found last. It says where to look first and nothing
 /// of what is found there, so any value will do.
 #[derive(Clone, Copy)]
 pub(crate) struct Nearby {
-    packets: [u32; 64],
+    packets: [u32; MOST_PORTS],
 }
 
 impl Nearby {
     /// No cell was found yet.
     pub(crate) fn nowhere() -> Nearby {
-        Nearby { packets: [0; 64] }
+        Nearby {
+            packets: [0; MOST_PORTS],
+        }
     }
 
     /// How many packets of the input had begun.

@@ -2,7 +2,7 @@
 ghost use Rattle.std.specs.Prelude.{◌≡◌, ℕ, ◌^◌, ◌<◌, ◌≤◌, filter, length, map, replicate, IfOk};
 ghost use Rattle.std.specs.List.{range_with_len};
 ghost use Rattle.cq_cells.specs.Schedule.{first_stamp as first_stamp_of};
-ghost use Rattle.cq_cells.specs.Terms.{arriving, arriving_at, end_of, AreAdded, all_of, IsNextArrival, arrivals_at, packets_of, schedule_of, IsRecorded, IsShort, IsTraffic, is_from, is_to, number_of, IsDirectoryOf, AreTables, classes_of, ports_of};
+ghost use Rattle.cq_cells.specs.Terms.{arriving, most_ports, arriving_at, end_of, AreAdded, all_of, IsNextArrival, arrivals_at, packets_of, schedule_of, IsRecorded, IsShort, IsTraffic, is_from, is_to, number_of, IsDirectoryOf, AreTables, classes_of, ports_of};
 
 use crate::coming::Coming;
 use crate::first_stamp::{earlier, first_stamp};
@@ -213,7 +213,7 @@ fn lines_of<R: Threads + Sync>(
 
 // How many cells arrive at all inputs.
 fn total_of(lines: &[Line]) -> u64
-    requires { length lines.now ≤ 64 }
+    requires { length lines.now ≤ most_ports }
     ensures cells { result ≡ length (all_of lines.now) }
     ensures few { result ≤ 2 ^ 34 }
 {

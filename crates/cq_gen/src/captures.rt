@@ -2,6 +2,7 @@
 ghost use Rattle.std.specs.Prelude.{◌≡◌, ◌*◌, ◌<◌, ◌≤◌, length, map, IfOk};
 ghost use Rattle.std.specs.Int.{IsInRange};
 ghost use Rattle.std.specs.List.{range_with_len};
+ghost use Rattle.cq_base.specs.Limits.{most_ports};
 ghost use Rattle.cq_gen.specs.Packets.{packets_to};
 
 use crate::packets::file_to;
@@ -18,7 +19,7 @@ fn capture_at(
     slots: u32,
     input: Port,
 ) -> Result<Capture, NoMemory>
-    requires ports { IsInRange 1 64 ports }
+    requires ports { IsInRange 1 most_ports ports }
     requires slots { slots ≤ 20000 }
     requires input { input < ports }
     requires words { length words.now ≡ slots * ports }
@@ -42,7 +43,7 @@ pub fn captures_of(
     ports: Port,
     slots: u32,
 ) -> Result<Vec<Capture>, NoMemory>
-    requires ports { IsInRange 1 64 ports }
+    requires ports { IsInRange 1 most_ports ports }
     requires slots { slots ≤ 20000 }
     requires words { length words.now ≡ slots * ports }
     ensures { IfOk result (λ captures. captures.items ≡ map (packets_to words.now ports slots)

@@ -1,6 +1,7 @@
 //! The packets that come to an input.
 ghost use Rattle.std.specs.Prelude.{◌≡◌, ◌++◌, ◌*◌, ◌<◌, ◌≤◌, length, map, IfOk, OnOk};
 ghost use Rattle.std.specs.Int.{IsInRange};
+ghost use Rattle.cq_base.specs.Limits.{most_ports};
 ghost use Rattle.cq_gen.specs.Packets.{frame_of, output_address, packet_of, packets_to, to_write};
 ghost use Rattle.cq_pcap.specs.Written.{record_of, written};
 
@@ -45,7 +46,7 @@ fn put_made(
     input: Port,
     word: u32,
 ) -> Result<(), NoMemory>
-    requires ports { IsInRange 1 64 ports }
+    requires ports { IsInRange 1 most_ports ports }
     requires input { input < ports }
     ensures { OnOk result (out.new.items ≡ out.old.items ++ record_of (to_write (packet_of ports slot input word))) }
 {
@@ -65,7 +66,7 @@ pub fn file_to(
     slots: u32,
     input: Port,
 ) -> Result<Vec<u8>, NoMemory>
-    requires ports { IsInRange 1 64 ports }
+    requires ports { IsInRange 1 most_ports ports }
     requires slots { slots ≤ 20000 }
     requires input { input < ports }
     requires words { length words.now ≡ slots * ports }

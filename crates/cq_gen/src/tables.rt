@@ -1,6 +1,7 @@
 //! The tables of the switch.
 ghost use Rattle.std.specs.Prelude.{◌≡◌, ◌≤◌, None, map, replicate, IfOk};
 ghost use Rattle.std.specs.List.{range_with_len};
+ghost use Rattle.cq_base.specs.Limits.{most_ports};
 ghost use Rattle.cq_gen.specs.Tables.{soak_address, soak_class, soak_kind, soak_port, soak_rule, soak_setup, soak_tables};
 
 use crate::packets::output_address;
@@ -17,7 +18,7 @@ const CLASSES: u8 = 8;
 /// The tables of a switch with so many ports. The error is want of memory.
 #[tactic(auto, unfolding(crate::specs::Tables::soak_tables, cq_route::specs::Plain::plain_tables))]
 pub fn soak_tables(alloc: Global, ports: Port) -> Result<Tables, NoMemory>
-    requires { ports ≤ 64 }
+    requires { ports ≤ most_ports }
     ensures { IfOk result (λ tables. tables ≡ soak_tables ports) }
 {
     Ok(Tables {
@@ -104,7 +105,7 @@ fn no_limits(alloc: Global, ports: Port) -> Result<Vec<Option<u64>>, NoMemory>
 
 // The address of each output.
 fn addresses(alloc: Global, ports: Port) -> Result<Vec<AddressRow>, NoMemory>
-    requires { ports ≤ 64 }
+    requires { ports ≤ most_ports }
     ensures { IfOk result (λ rows. rows.items ≡ map soak_address (range_with_len 0 ports)) }
 {
     let mut rows = Vec::with_capacity(alloc, ports as usize)?;

@@ -1,6 +1,7 @@
 -- What the rows of a capture say of its bytes.
 use Rattle.std.specs.Prelude.{◌≡◌, ℕ, ◌+◌, ◌<◌, ◌≤◌, ◌^◌, Ok, List, [], ◌∷◌, ◌++◌, All, length, take, drop, map, Option, None, Some}
 use Rattle.std.specs.List.{AllByRecursion}
+use Rattle.cq_base.specs.Limits.{longest_file}
 use Rattle.cq_pcap.specs.declared.capture.PacketRow.{PacketRow}
 use Rattle.cq_pcap.specs.declared.form.Form.{Form}
 use Rattle.cq_pcap.specs.declared.read.PcapRefusal.{PcapRefusal}
@@ -17,12 +18,12 @@ packet_at bytes row = record { stamp = row.stamp; original = row.original; body 
 abbrev pub packets_at : List ℕ → List PacketRow → List Captured
 packets_at bytes rows = map (packet_at bytes) rows
 
--- these rows stand in a file of at most 2^28 bytes, one record after another from its header on
+-- these rows stand in a file that is not too long, one record after another from its header on
 pub record AreRowsOf (bytes : List ℕ) (rows : List PacketRow) : Type 0 where
   pub places : rows ≡ rows_from 24 (packets_at bytes rows)
   pub inside : AllByRecursion (λ row. row.at + row.len ≤ length bytes) rows
   pub stamps : AllByRecursion (λ p. p.stamp < 2 ^ 63) (packets_at bytes rows)
-  pub small : file_length (packets_at bytes rows) ≤ 2 ^ 28
+  pub small : file_length (packets_at bytes rows) ≤ longest_file
   pub bodies : All (λ p. length p.body ≤ 262144) (packets_at bytes rows)
 
 -- the first bytes of a file, up to a place, are a capture of this form, and these are the rows of its packets

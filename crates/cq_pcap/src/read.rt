@@ -1,5 +1,6 @@
 //! Captures that are read, in one pass over the bytes.
-ghost use Rattle.std.specs.Prelude.{◌≡◌, ◌+◌, ◌≤◌, ◌^◌, Ok, Err, Some, None, List, [], length, option_map, IfErr, IfNone, IfOk, IfSome};
+ghost use Rattle.std.specs.Prelude.{◌≡◌, ◌+◌, ◌≤◌, Ok, Err, Some, None, List, [], length, option_map, IfErr, IfNone, IfOk, IfSome};
+ghost use Rattle.cq_base.specs.Limits.{longest_file};
 ghost use Rattle.cq_pcap.specs.Faults.{IsFaulty, fault_of};
 ghost use Rattle.cq_pcap.specs.Reading.{first_packet, header_form, packets_of};
 ghost use Rattle.cq_pcap.specs.Record.{Spells};
@@ -94,7 +95,7 @@ fn header_of(bytes: &[u8]) -> Result<Form, PcapRefusal>
 // The row of the record at the front of the bytes, which begin at a place of the file.
 #[tactic(auto, using(std::proofs::lemmas::Bool::Decides::nat_tests), unfolding(crate::specs::Reading::first_packet))]
 fn row_of(form: Form, bytes: &[u8], place: usize) -> Result<PacketRow, PcapRefusal>
-    requires { place + length bytes.now ≤ 2 ^ 28 }
+    requires { place + length bytes.now ≤ longest_file }
     ensures row { IfOk result (λ row. IsRowOf form bytes.now place row) }
     ensures fault { IfErr result (λ refusal. option_map Err (fault_of refusal)
         ≡ Some (first_packet form place bytes.now)) }
@@ -128,7 +129,7 @@ fn row_of(form: Form, bytes: &[u8], place: usize) -> Result<PacketRow, PcapRefus
 ///
 /// The refusals are those of a record, with the place as their offset, and never want of memory.
 pub fn row_at(bytes: &[u8], form: Form, at: u64) -> Result<Option<PacketRow>, PcapRefusal>
-    requires small { length bytes.now ≤ 2 ^ 28 }
+    requires small { length bytes.now ≤ longest_file }
     requires before { (rows : List PacketRow) × AreRowsTo form bytes.now at rows }
     ensures end { IfOk result (λ found. IfNone found (at ≡ length bytes.now)) }
     ensures begins { IfOk result (λ found. IfSome found (λ row. row.at ≡ at + 16)) }
@@ -145,7 +146,7 @@ pub fn row_at(bytes: &[u8], form: Form, at: u64) -> Result<Option<PacketRow>, Pc
 
 // The rows of the records, which fill the file from its header on.
 fn rows_of(alloc: Global, bytes: &[u8]) -> Result<Vec<PacketRow>, PcapRefusal>
-    requires { length bytes.now ≤ 2 ^ 28 }
+    requires { length bytes.now ≤ longest_file }
     ensures rows { IfOk result (λ rows. AreSpelt bytes.now rows.items) }
     ensures faulty { IfErr result (λ refusal. IfSome (fault_of refusal) (IsFaulty bytes.now)) }
 {
@@ -165,7 +166,7 @@ fn rows_of(alloc: Global, bytes: &[u8]) -> Result<Vec<PacketRow>, PcapRefusal>
 /// The header's zone, sigfigs, snaplen and the upper half of its network field may be anything.
 /// Subseconds of any number are added to the seconds as they stand. A refusal drops the bytes.
 pub fn read_capture(alloc: Global, bytes: Vec<u8>) -> Result<Capture, PcapRefusal>
-    requires { length bytes.items ≤ 2 ^ 28 }
+    requires { length bytes.items ≤ longest_file }
     ensures spelt { IfOk result (λ packets. Spells bytes.items packets) }
     ensures faulty { IfErr result (λ refusal. IfSome (fault_of refusal) (IsFaulty bytes.items)) }
     ensures read { IfOk result (λ packets. packets_of bytes.items ≡ Ok packets) }

@@ -2,17 +2,14 @@
 use Rattle.std.proofs.Common.{◌≡◌, refl, ap}
 use Rattle.std.specs.Prelude.{ℕ, ◌<◌, ◌≤◌, List, [], ◌∷◌, length, slice_index_or}
 use Rattle.std.specs.List.{AllByRecursion}
+use Rattle.cq_base.specs.Limits.{level_count, most_classes}
 use Rattle.cq_base.specs.declared.setup.ClassRow.{ClassRow}
 
--- how many levels there are
-abbrev pub level_count : ℕ
-level_count = 16
-
--- there are 1 to 16 classes, each is of one of the levels, and each costs something
+-- there are classes, and not too many, each is of one of the levels, and each costs something
 pub record AreClasses (rows : List ClassRow) : Type 0 where
   pub some : 0 < length rows
-  pub few : length rows ≤ 16
-  pub level : AllByRecursion (λ row. row.level < 16) rows
+  pub few : length rows ≤ most_classes
+  pub level : AllByRecursion (λ row. row.level < level_count) rows
   pub cost : AllByRecursion (λ row. 0 < row.cost) rows
 
 -- the row of a class

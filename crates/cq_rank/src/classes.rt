@@ -1,14 +1,12 @@
 //! The classes of a switch, as a discipline keeps them.
 ghost use Rattle.std.specs.Prelude.{◌≡◌, ◌<◌, ◌≤◌, IfOk, length};
 ghost use Rattle.std.specs.List.{AllByRecursion};
+ghost use Rattle.cq_base.specs.Limits.{level_count, most_classes};
 ghost use Rattle.cq_rank.specs.Classes.{row_at};
 
 use cq_base::{Class, ClassRow, NoMemory};
 use std::alloc::Global;
 use std::marker::Model;
-
-/// How many levels there are: they are numbered from 0, and a cell of a lesser one is the more urgent.
-pub const LEVELS: usize = 16;
 
 /// At most 16 classes, each of one of the levels. Contracts see their rows, in order.
 #[derive(Drop)]
@@ -19,20 +17,22 @@ pub struct Classes {
 impl Model for Classes {
     ghost use Rattle.std.specs.Prelude.{◌<◌, ◌≤◌, List, vec_len};
     ghost use Rattle.std.specs.List.{AllByRecursion};
+    ghost use Rattle.cq_base.specs.Limits.{level_count, most_classes};
     ghost use Rattle.cq_base.specs.declared.setup.ClassRow.{ClassRow};
 
     ghost Value = { List ClassRow };
 
     ghost view = { λ a. a.rows.items };
 
-    ghost invariant = { λ a. (vec_len a.rows ≤ 16) × AllByRecursion (λ row. row.level < 16) a.rows.items };
+    ghost invariant = { λ a.
+        (vec_len a.rows ≤ most_classes) × AllByRecursion (λ row. row.level < level_count) a.rows.items };
 }
 
 impl Classes {
     /// These classes. The error is want of memory.
     pub fn of(alloc: Global, rows: &[ClassRow]) -> Result<Classes, NoMemory>
-        requires few { length rows.now ≤ 16 }
-        requires levels { AllByRecursion (λ row. row.level < 16) rows.now }
+        requires few { length rows.now ≤ most_classes }
+        requires levels { AllByRecursion (λ row. row.level < level_count) rows.now }
         ensures { IfOk result (λ classes. classes ≡ rows.now) }
     {
         Ok(Classes {
@@ -43,7 +43,7 @@ impl Classes {
     /// How many there are.
     pub fn len(&self) -> u16
         ensures value { result ≡ length self.now }
-        ensures few { result ≤ 16 }
+        ensures few { result ≤ most_classes }
     {
         self.rows.len() as u16
     }
@@ -53,7 +53,7 @@ impl Classes {
     pub fn level(&self, class: Class) -> u8
         requires { class < length self.now }
         ensures level { result ≡ (row_at self.now class).level }
-        ensures few { result < 16 }
+        ensures few { result < level_count }
     {
         self.rows[class as usize].level
     }

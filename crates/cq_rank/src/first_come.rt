@@ -1,6 +1,7 @@
 //! First come, first served.
 ghost use Rattle.std.specs.Prelude.{◌≡◌, ◌<◌, ◌≤◌, [], IfOk, IsOk, OnOk, length};
 ghost use Rattle.std.specs.List.{AllByRecursion};
+ghost use Rattle.cq_base.specs.Limits.{level_count, most_classes};
 ghost use Rattle.cq_rank.specs.Classes.{rows_of};
 
 use crate::{Classes, Rank, TagOverflow};
@@ -30,8 +31,8 @@ impl FirstCome {
     #[tactic(auto, using(crate::specs::Classes::rows_again))]
     pub fn new(alloc: Global, classes: &[ClassRow]) -> Result<FirstCome, NoMemory>
         requires some { 0 < length classes.now }
-        requires few { length classes.now ≤ 16 }
-        requires levels { AllByRecursion (λ row. row.level < 16) classes.now }
+        requires few { length classes.now ≤ most_classes }
+        requires levels { AllByRecursion (λ row. row.level < level_count) classes.now }
         ensures classes { IfOk result (λ r. rows_of r.fixed ≡ classes.now) }
         ensures state { IfOk result (λ r. r.state ≡ []) }
     {

@@ -12,7 +12,8 @@ mod laws;
 mod priority;
 mod rank;
 
-pub use classes::{Classes, LEVELS};
+pub use classes::Classes;
+pub use cq_base::LEVELS;
 pub use first_come::FirstCome;
 pub use laws::ranks_of_a_class_never_fall;
 pub use priority::Priority;

@@ -1,5 +1,6 @@
 //! The trait of what ranks the cells of an output.
 ghost use Rattle.std.specs.Prelude.{◌≡◌, ◌↔◌, ◌<◌, ◌≤◌, ◌^◌, ℕ, List, IfOk, IsErr, OnErr, OnOk, length, slice_index, slice_set};
+ghost use Rattle.cq_base.specs.Limits.{level_count};
 ghost use Rattle.cq_rank.specs.Machine.{Machine, KeepsLaws};
 
 use cq_base::Class;
@@ -30,7 +31,7 @@ pub trait Rank: Drop {
     fn level(&self, class: Class) -> u8
         requires { class < (machine (fixed self.now)).classes }
         ensures level { result ≡ (machine (fixed self.now)).level class }
-        ensures few { result < 16 };
+        ensures few { result < level_count };
 
     /// The rank of a cell of the class that arrives, which the state then knows of. The error, which
     /// leaves the state as before, is a rank of 2^128 or more.

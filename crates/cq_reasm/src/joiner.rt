@@ -1,5 +1,6 @@
 //! Packets put together from the cells of an output.
 ghost use Rattle.std.specs.Prelude.{◌≡◌, ◌≤◌, ℕ, IfOk, None};
+ghost use Rattle.cq_base.specs.Limits.{most_classes, most_ports};
 ghost use Rattle.cq_reasm.specs.Joining.{HasTaken, IsTakable, nothing_open, open_at};
 
 use crate::open_packets::OpenPackets;
@@ -43,8 +44,8 @@ impl Joiner {
     /// No packet is open. There are 1 to 64 inputs and 1 to 16 classes. The joiner keeps the allocator
     /// for the packets. The error is want of memory.
     pub fn new(alloc: Global, inputs: u16, classes: u16) -> Result<Joiner, NoMemory>
-        requires inputs { 1 ≤ inputs × inputs ≤ 64 }
-        requires classes { 1 ≤ classes × classes ≤ 16 }
+        requires inputs { 1 ≤ inputs × inputs ≤ most_ports }
+        requires classes { 1 ≤ classes × classes ≤ most_classes }
         ensures joiner { IfOk result (λ j. j ≡ nothing_open inputs classes) }
         ensures nothing { IfOk result (λ j. (input class : ℕ) → open_at j input class ≡ None) }
     {

@@ -2,6 +2,7 @@
 use Rattle.std.specs.Prelude.{ℕ, ◌≡◌, ◌≢◌, ◌<◌, ◌≤◌, List, Option, length, All, IfSome}
 use Rattle.std.specs.Int.{IsInRange}
 use Rattle.std.specs.List.{AllPairs}
+use Rattle.cq_base.specs.Limits.{level_count, longest_file, most_classes, most_ports, most_workers}
 use Rattle.cq_base.specs.declared.setup.Setup.{Setup}
 use Rattle.cq_route.specs.declared.tables.Tables.{Tables}
 
@@ -13,11 +14,11 @@ classes_of setup = length setup.classes
 abbrev pub ports_of : Setup → ℕ
 ports_of setup = length setup.kinds
 
--- 1 to 16 classes and 1 to 64 ports, each class has a level below 16, and its cells cost something
+-- there are classes and ports, and not too many, each class is of one of the levels, and its cells cost something
 pub record IsSetup (setup : Setup) : Type 0 where
-  pub classes : IsInRange 1 16 (classes_of setup)
-  pub ports : IsInRange 1 64 (ports_of setup)
-  pub levels : All (λ row. row.level < 16) setup.classes
+  pub classes : IsInRange 1 most_classes (classes_of setup)
+  pub ports : IsInRange 1 most_ports (ports_of setup)
+  pub levels : All (λ row. row.level < level_count) setup.classes
   pub costs : All (λ row. 1 ≤ row.cost) setup.classes
 
 -- one limit for each of so many ports, which is at least 1 where there is one
@@ -31,8 +32,8 @@ pub record AreTables (t : Tables) : Type 0 where
   pub setup : IsSetup t.setup
   pub cell_bytes : IsInRange 1 65535 t.cell_bytes
   pub slot_ns : IsInRange 1 1000000000 t.slot_ns
-  pub limit_bytes : IsInRange 24 268435456 t.limit_bytes
-  pub workers : IsInRange 1 64 t.workers
+  pub limit_bytes : IsInRange 24 longest_file t.limit_bytes
+  pub workers : IsInRange 1 most_workers t.workers
   pub files : length t.ports ≡ ports_of t.setup
   pub limits : AreLimits (ports_of t.setup) t.limits
   pub default_output : t.default_output < ports_of t.setup

@@ -12,7 +12,7 @@ use cq_tables::{TableRefusal, read_tables};
 use std::alloc::Global;
 
 // The greatest length of a configuration, in bytes.
-const LONGEST_CONFIGURATION: u64 = 1_048_576;
+const LONGEST_CONFIGURATION: u64 = cq_base::LONGEST_CONFIGURATION as u64;
 
 // The greatest length of a trace and of a log that are audited, and of the text of a state, in bytes.
 const LONGEST_TEXT: u64 = cq_state::LONGEST_TEXT as u64;

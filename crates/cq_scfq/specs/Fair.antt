@@ -2,7 +2,8 @@
 -- numbers to 0.
 use Rattle.std.specs.Prelude.{ℕ, ◌+◌, max, List, length, slice_set, slice_index, replicate}
 use Rattle.cq_base.specs.declared.setup.ClassRow.{ClassRow}
-use Rattle.cq_rank.specs.Classes.{level_count, row_at}
+use Rattle.cq_base.specs.Limits.{level_count}
+use Rattle.cq_rank.specs.Classes.{row_at}
 use Rattle.cq_rank.specs.Machine.{Machine}
 
 -- The state is a tag for each class, and behind them a virtual time for each level. This is the one of a class's level.

@@ -2,7 +2,7 @@
 use Rattle.std.proofs.Common.{◌+◌, List, length, refl, sym, ◌∙◌, arith}
 use Rattle.std.proofs.lemmas.List.{length-set, length-replicate, get_or-set_same, get_or-set_other}
 use Rattle.cq_base.specs.declared.setup.ClassRow.{ClassRow}
-use Rattle.cq_rank.specs.Classes.{level_count}
+use Rattle.cq_base.specs.Limits.{level_count}
 use Rattle.cq_rank.specs.Machine.{KeepsLaws}
 use Rattle.cq_scfq.specs.Fair.{fair, fair_rank}
 

@@ -1,6 +1,7 @@
 //! The discipline of an output, as a configuration states it.
 ghost use Rattle.std.specs.Prelude.{◌≡◌, ◌<◌, ◌≤◌, IfOk, OnOk, length, map};
 ghost use Rattle.std.specs.List.{AllByRecursion};
+ghost use Rattle.cq_base.specs.Limits.{most_ports};
 ghost use Rattle.cq_rank.specs.Classes.{AreClasses};
 ghost use Rattle.cq_rank.specs.Switch.{AreForOneSwitch, class_count};
 ghost use Rattle.cq_scfq.specs.Discipline.{fixed_of, kept_of, kind_of, machine_from, state_of};
@@ -33,7 +34,7 @@ impl Discipline {
         ensures states { IfOk result (λ all. map state_of all.items ≡ openings_of setup.now) }
         ensures classes { OnOk result (0 < length setup.now.kinds → class_count (machines_of setup.now)
             ≡ length setup.now.classes) }
-        ensures one_switch { OnOk result (0 < length setup.now.kinds → length setup.now.kinds ≤ 64
+        ensures one_switch { OnOk result (0 < length setup.now.kinds → length setup.now.kinds ≤ most_ports
             → AreForOneSwitch (machines_of setup.now)) }
     {
         let mut all = Vec::new(alloc);

@@ -3,8 +3,8 @@ ghost use Rattle.std.specs.Prelude.{◌≡◌, ◌+◌, IfOk, length};
 ghost use Rattle.cq_rank.specs.Classes.{AreClasses, rows_of};
 ghost use Rattle.cq_scfq.specs.Fair.{all_zero};
 
-use cq_base::{Class, ClassRow, NoMemory};
-use cq_rank::{Classes, LEVELS, Rank, TagOverflow};
+use cq_base::{Class, ClassRow, LEVELS, NoMemory};
+use cq_rank::{Classes, Rank, TagOverflow};
 use std::alloc::Global;
 use std::marker::Model;
 
@@ -22,6 +22,7 @@ pub struct Fair {
 
 impl Model for Fair {
     ghost use Rattle.std.specs.Prelude.{◌≡◌, ◌+◌, length, vec_len};
+    ghost use Rattle.cq_base.specs.Limits.{level_count};
     ghost use Rattle.cq_rank.specs.Classes.{numbers_of};
     ghost use Rattle.cq_rank.specs.Machine.{Ranker};
 
@@ -29,7 +30,7 @@ impl Model for Fair {
 
     ghost view = { λ r. record { fixed = numbers_of r.classes; state = r.numbers.items } };
 
-    ghost invariant = { λ r. vec_len r.numbers ≡ length r.classes + 16 };
+    ghost invariant = { λ r. vec_len r.numbers ≡ length r.classes + level_count };
 }
 
 impl Fair {

@@ -1,5 +1,6 @@
 //! Whole reads and writes over any file space, and whole puts into any sink.
-ghost use Rattle.std.specs.Prelude.{◌≡◌, ◌≤◌, ◌+◌, ◌^◌, ℕ, OnErr, IfOk, IsErrOf};
+ghost use Rattle.std.specs.Prelude.{◌≡◌, ◌≤◌, ◌+◌, ℕ, OnErr, IfOk, IsErrOf};
+ghost use Rattle.cq_base.specs.Limits.{longest_file};
 ghost use Rattle.cq_space.specs.Failing.{Fails, FailsTaking, Reads, Writes};
 ghost use Rattle.cq_space.specs.Pieces.{BreaksOff, TakesAll, TakesSoMany};
 ghost use Rattle.cq_space.specs.Space.{Closed};
@@ -50,7 +51,7 @@ pub fn read_whole<F: Files>(
     limit: u64,
 ) -> Result<Vec<u8>, ReadRefusal>
     requires closed { (F.space files.old).mode ≡ Closed }
-    requires limit { limit ≤ 2 ^ 28 }
+    requires limit { limit ≤ longest_file }
     ensures whole { ReadsWhole (F.space files.old) (F.space files.new) name.now limit result }
     ensures why { IsErrOf result ReadRefusal.Fault → Fails F.space F.may_fail F.keeps
         (Reads name.now) files.old files.new }

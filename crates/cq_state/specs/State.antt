@@ -1,6 +1,7 @@
 -- The state of a stopped run: the ranges of its numbers, and the lines of its text.
-use Rattle.std.specs.Prelude.{◌≡◌, ℕ, ◌+◌, ◌^◌, ◌<◌, ◌≤◌, List, [], ◌∷◌, length, map, Some, IfSome}
+use Rattle.std.specs.Prelude.{◌≡◌, ℕ, ◌+◌, ◌-◌, ◌^◌, ◌<◌, ◌≤◌, List, [], ◌∷◌, length, map, Some, IfSome}
 use Rattle.std.specs.List.{AllByRecursion, flat_map}
+use Rattle.cq_base.specs.Limits.{level_count, most_classes, most_ports}
 use Rattle.cq_base.specs.declared.cell.Transfer.{Transfer}
 use Rattle.cq_state.specs.declared.kind.Kind.{Kind}
 use Rattle.cq_state.specs.declared.kind.Kind.TheVariants as kind
@@ -19,8 +20,8 @@ IsCount n = n < 2 ^ 63
 
 pub record IsHead (h : Head) : Type 0 where
   pub next : IsCount h.next
-  pub ports : (1 ≤ h.ports) × (h.ports ≤ 64)
-  pub classes : (1 ≤ h.classes) × (h.classes ≤ 16)
+  pub ports : (1 ≤ h.ports) × (h.ports ≤ most_ports)
+  pub classes : (1 ≤ h.classes) × (h.classes ≤ most_classes)
   pub t0 : IsCount h.t0
   pub total : IsCount h.total
   pub proposals : IsCount h.proposals
@@ -29,13 +30,13 @@ pub record IsHead (h : Head) : Type 0 where
 abbrev pub IsSeen : Seen → Type 0
 IsSeen x = IsCount x.longest × IfSome x.slack IsCount
 
--- the numbers of a rank state
+-- the numbers of a rank state: at most one for each class and one for each level
 abbrev pub AreRankNumbers : List ℕ → Type 0
-AreRankNumbers ns = (length ns ≤ 32) × AllByRecursion (λ n. n < 2 ^ 128) ns
+AreRankNumbers ns = (length ns ≤ most_classes + level_count) × AllByRecursion (λ n. n < 2 ^ 128) ns
 
 -- a cell of a switch of so many ports
 pub record IsNamed (ports : ℕ) (c : Named) : Type 0 where
-  pub level : c.level ≤ 15
+  pub level : c.level ≤ level_count - 1
   pub rank : c.rank < 2 ^ 128
   pub slot : IsCount c.slot
   pub input : c.input < ports

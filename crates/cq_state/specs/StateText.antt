@@ -1,5 +1,6 @@
 -- The text of a state: which kinds of line it has, in which order, how many of each, and what stands in them.
 use Rattle.std.specs.Prelude.{◌≡◌, ℕ, ◌+◌, ◌-◌, ◌^◌, ◌<◌, ◌≤◌, ◌⊎◌, Bool, true, false, List, [], ◌∷◌, Option, None, IsTrue, codes, get_or, unwrap_or, ⊤}
+use Rattle.cq_base.specs.Limits.{level_count, most_classes, most_ports}
 use Rattle.cq_lines.specs.declared.range.Range.{Range}
 use Rattle.cq_lines.specs.Lines.{line}
 use Rattle.cq_lines.specs.Ranges.{Within, any_number}
@@ -61,13 +62,13 @@ port ports = between 0 (ports - 1)
 
 -- a level, a rank, the slot of arrival, and the input: a cell with its key
 abbrev pub cell : ℕ → List Range
-cell ports = between 0 15 ∷ any_number ∷ count ∷ port ports ∷ []
+cell ports = between 0 (level_count - 1) ∷ any_number ∷ count ∷ port ports ∷ []
 
 -- the ranges of the fields of a line, behind so many lines of its kind
 abbrev pub ranges : ℕ → ℕ → Kind → List Range
 ranges ports index Version = between 1 1 ∷ []
 ranges ports index Next = count ∷ []
-ranges ports index Shape = between 1 64 ∷ between 1 16 ∷ count ∷ count ∷ []
+ranges ports index Shape = between 1 most_ports ∷ between 1 most_classes ∷ count ∷ count ∷ []
 ranges ports index Sum = count ∷ count ∷ []
 ranges ports index Input = between index index ∷ count ∷ count_or_none ∷ []
 ranges ports index Rank = between index index ∷ []
@@ -78,9 +79,9 @@ ranges ports index Moved = count ∷ between 1 2 ∷ port ports ∷ port ports �
     - 1) ∷ []
 ranges ports index End = []
 
--- how many further numbers there may be behind them
+-- how many further numbers there may be behind them: of a rank state one for each class and one for each level
 abbrev pub further : Kind → ℕ
-further Rank = 32
+further Rank = most_classes + level_count
 further k = 0
 
 -- ## The text

@@ -4,6 +4,7 @@ ghost use Rattle.cq_lines.specs.Lines.{line, ending};
 ghost use Rattle.cq_lines.specs.Ranges.{Within};
 ghost use Rattle.cq_state.specs.StateText.{HasRoom, word, needed, is_free, ranges, further, between, count, count_or_none};
 
+use cq_base::{LEVELS, MOST_CLASSES, MOST_PORTS};
 use cq_lines::{Range, behind, take_fields_within};
 
 /// A kind of line, in the order in which they stand.
@@ -54,8 +55,11 @@ const MOST: u128 = (1 << 63) - 1;
 // The greatest number of packets and of cells of a packet.
 const WIDE: u128 = (1 << 32) - 1;
 
-/// The most fields of a line.
-pub const MOST_FIELDS: usize = 33;
+// The most numbers of a rank state: one for each class, and one for each level.
+const MOST_NUMBERS: usize = MOST_CLASSES + LEVELS;
+
+/// The most fields of a line: an output, and the numbers of its rank state.
+pub const MOST_FIELDS: usize = 1 + MOST_NUMBERS;
 
 impl Kind {
     /// The word of its lines.
@@ -158,7 +162,7 @@ fn take_due_fields<'a>(
         most: MOST,
         or_none: true,
     };
-    let level = Range::between(0, 15);
+    let level = Range::between(0, LEVELS as u128 - 1);
     let rank = Range::between(0, u128::MAX);
     let port = Range::between(0, u128::from(due.ports.saturating_sub(1)));
     let wide = Range::between(0, WIDE);
@@ -166,13 +170,13 @@ fn take_due_fields<'a>(
         Kind::Version => take_fields_within(text, &[Range::between(1, 1)], 0, to),
         Kind::Next => take_fields_within(text, &[count], 0, to),
         Kind::Shape => {
-            let ports = Range::between(1, 64);
-            let classes = Range::between(1, 16);
+            let ports = Range::between(1, MOST_PORTS as u128);
+            let classes = Range::between(1, MOST_CLASSES as u128);
             take_fields_within(text, &[ports, classes, count, count], 0, to)
         }
         Kind::Sum => take_fields_within(text, &[count, count], 0, to),
         Kind::Input => take_fields_within(text, &[own, count, count_or_none], 0, to),
-        Kind::Rank => take_fields_within(text, &[own], 32, to),
+        Kind::Rank => take_fields_within(text, &[own], MOST_NUMBERS, to),
         Kind::Listed | Kind::Buffered => {
             take_fields_within(text, &[level, rank, count, port], 0, to)
         }

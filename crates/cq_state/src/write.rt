@@ -7,7 +7,7 @@ ghost use Rattle.cq_state.specs.StateText.{Line, spelled};
 
 use crate::kind::Kind;
 use crate::state::{Head, Named, Seen, Sent, State};
-use cq_base::{NoMemory, Sequence, Transfer};
+use cq_base::{LONGEST_FILE, NoMemory, Sequence, Transfer};
 use cq_lines::put_line;
 use std::alloc::{AllocError, Global};
 
@@ -21,7 +21,7 @@ pub enum StateLong {
 }
 
 /// The most bytes that the text of a state may have.
-pub const LONGEST_TEXT: usize = 1 << 28;
+pub const LONGEST_TEXT: usize = LONGEST_FILE;
 
 /// The text of a state.
 pub fn text_of(alloc: Global, state: &State) -> Result<Vec<u8>, StateLong>

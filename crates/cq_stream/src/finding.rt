@@ -1,5 +1,6 @@
 //! What a reader does with its order. Each of these waits for the other end of a ring.
-ghost use Rattle.std.specs.Prelude.{◌≡◌, ◌≤◌, ◌^◌, [], ◌∷◌, ◌++◌, length};
+ghost use Rattle.std.specs.Prelude.{◌≡◌, ◌≤◌, [], ◌∷◌, ◌++◌, length};
+ghost use Rattle.cq_base.specs.Limits.{longest_file};
 ghost use Rattle.rtrb.specs.Ring.{received, sent, SameConsumer, SameProducer};
 ghost use Rattle.cq_pcap.specs.Rows.{AreRowsTo};
 ghost use Rattle.cq_stream.specs.Stream.{HasEnded, HasObeyed, HasSent};
@@ -36,7 +37,7 @@ pub(crate) fn obey<R: Wait, W: Watch>(
     input: Port,
     watch: &W,
 ) -> Option<PcapRefusal>
-    requires small { length bytes.now ≤ 2 ^ 28 }
+    requires small { length bytes.now ≤ longest_file }
     requires unsent { sent items.old ≡ [] }
     ensures ring { SameProducer items.old items.new }
     ensures obeyed { HasObeyed order bytes.now result (sent items.new) }
@@ -51,7 +52,7 @@ pub(crate) fn obey<R: Wait, W: Watch>(
 }
 
 fn send_all<R: Wait>(rt: &R, items: &mut Producer<Item>, bytes: &[u8]) -> Option<PcapRefusal>
-    requires small { length bytes.now ≤ 2 ^ 28 }
+    requires small { length bytes.now ≤ longest_file }
     ensures ring { SameProducer items.old items.new }
     ensures ended { HasEnded bytes.now result (sent items.old) (sent items.new) }
 {
@@ -61,7 +62,7 @@ fn send_all<R: Wait>(rt: &R, items: &mut Producer<Item>, bytes: &[u8]) -> Option
 }
 
 fn send_rows<R: Wait>(rt: &R, items: &mut Producer<Item>, bytes: &[u8]) -> Option<PcapRefusal>
-    requires small { length bytes.now ≤ 2 ^ 28 }
+    requires small { length bytes.now ≤ longest_file }
     ensures ring { SameProducer items.old items.new }
     ensures rows { HasSent bytes.now result (sent items.old) (sent items.new) }
 {
@@ -77,7 +78,7 @@ fn send_records<R: Wait>(
     bytes: &[u8],
     form: Form,
 ) -> Option<PcapRefusal>
-    requires small { length bytes.now ≤ 2 ^ 28 }
+    requires small { length bytes.now ≤ longest_file }
     requires header { AreRowsTo form bytes.now 24 [] }
     ensures ring { SameProducer items.old items.new }
     ensures rows { HasSent bytes.now result (sent items.old) (sent items.new) }

@@ -1,5 +1,6 @@
 //! Readers and intakes are made in pairs.
-ghost use Rattle.std.specs.Prelude.{◌≡◌, ◌≤◌, ◌^◌, [], length, IfOk};
+ghost use Rattle.std.specs.Prelude.{◌≡◌, ◌≤◌, [], length, IfOk};
+ghost use Rattle.cq_base.specs.Limits.{longest_file};
 ghost use Rattle.cq_stream.specs.Rings.{IsPairOf, bytes_to_read, room_of, taken, told};
 
 use crate::{Intake, Reader};
@@ -11,7 +12,7 @@ use std::alloc::Global;
 /// them, at least one, in the ring between the two. What the intake is told goes to this reader. Nothing
 /// is told, sent or taken yet. Want of memory drops the bytes.
 pub fn pair(alloc: Global, bytes: Vec<u8>, room: u16) -> Result<(Reader, Intake), NoMemory>
-    requires small { length bytes.items ≤ 2 ^ 28 }
+    requires small { length bytes.items ≤ longest_file }
     requires room { 1 ≤ room }
     ensures pair { IfOk result (λ r. IsPairOf r.0 r.1) }
     ensures space { IfOk result (λ r. room_of r.1 ≡ room) }

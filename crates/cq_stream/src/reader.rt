@@ -1,5 +1,6 @@
 //! The reader of one capture.
-ghost use Rattle.std.specs.Prelude.{◌≡◌, ◌≤◌, ◌^◌, length};
+ghost use Rattle.std.specs.Prelude.{◌≡◌, ◌≤◌, length};
+ghost use Rattle.cq_base.specs.Limits.{longest_file};
 ghost use Rattle.rtrb.specs.Ring.{received, sent};
 
 use crate::finding::{next_order, obey};
@@ -15,7 +16,7 @@ pub struct Reader {
     pub(crate) bytes: Vec<u8>,
     pub(crate) items: Producer<Item>,
     pub(crate) orders: Consumer<Order>,
-    ghost small: { length bytes.items ≤ 2 ^ 28 },
+    ghost small: { length bytes.items ≤ longest_file },
     // It has sent nothing and was told nothing.
     ghost unsent: { length (sent items) ≡ 0 },
     ghost untold: { length (received orders) ≡ 0 },

@@ -1,5 +1,5 @@
 -- A configuration: its checks, in order, and the tables that it gives where they all hold.
-use Rattle.std.specs.Prelude.{◌≡◌, ℕ, suc, Bool, true, false, not, ◌&&◌, ◌==◌, if◌then◌else◌, nat_le, nat_lt, List, [], ◌∷◌, ◌++◌, codes, length, take, map, is_some, Option, None, Some, option_map, unwrap_or, Result, Ok, Err}
+use Rattle.std.specs.Prelude.{◌≡◌, ℕ, suc, ◌-◌, Bool, true, false, not, ◌&&◌, ◌==◌, if◌then◌else◌, nat_le, nat_lt, List, [], ◌∷◌, ◌++◌, codes, length, take, map, is_some, Option, None, Some, option_map, unwrap_or, Result, Ok, Err}
 use Rattle.std.specs.Int.{IsInRange}
 use Rattle.std.specs.List.{list_any}
 use Rattle.std.specs.Str.{bytes_eq, is_utf8}
@@ -8,6 +8,7 @@ use Rattle.toml.specs.Parse.{parse_document}
 use Rattle.cq_base.specs.declared.setup.ClassRow.{ClassRow}
 use Rattle.cq_base.specs.declared.setup.Kind.{Kind}
 use Rattle.cq_base.specs.declared.setup.Kind.TheVariants.{FirstCome}
+use Rattle.cq_base.specs.Limits.{level_count, longest_configuration, longest_file, most_classes, most_ports, most_workers}
 use Rattle.cq_route.specs.declared.tables.PortRow.{PortRow}
 use Rattle.cq_route.specs.declared.tables.AddressRow.{AddressRow}
 use Rattle.cq_route.specs.declared.tables.RuleRow.{RuleRow}
@@ -122,7 +123,7 @@ rule_row table = record {
 -- the keys of a class that version 2 has beside those of version 1
 abbrev pub level_keys : Version → Place → List Key
 level_keys One place = []
-level_keys Two place = key place (codes "level") (optional (integer_in 0 15)) ∷ []
+level_keys Two place = key place (codes "level") (optional (integer_in 0 (level_count - 1))) ∷ []
 
 -- the keys of a class: all may be left out, and the cost is at least 1
 abbrev pub class_keys : Version → Place → List Key
@@ -148,17 +149,17 @@ is_new earlier mac = not (list_any (bytes_eq mac) earlier)
 abbrev pub address_keys : ℕ → List (List ℕ) → Place → List Key
 address_keys ports earlier place =
     key place (codes "mac") (required (and_then address address_value (is_new earlier) DuplicateAddress))
-    ∷ key place (codes "output") (required (number_below 63 ports))
+    ∷ key place (codes "output") (required (number_below (most_ports - 1) ports))
     ∷ []
 
 -- the keys of a rule, among so many ports and classes: only the class has to be there
 unfoldable pub rule_keys : ℕ → ℕ → Place → List Key
 rule_keys ports classes place =
-    key place (codes "input") (optional (number_below 63 ports))
+    key place (codes "input") (optional (number_below (most_ports - 1) ports))
     ∷ key place (codes "pcp") (optional (integer_in 0 7))
     ∷ key place (codes "ether_type") (optional (integer_in 0 65535))
     ∷ key place (codes "dscp") (optional (integer_in 0 63))
-    ∷ key place (codes "class") (required (number_below 15 classes))
+    ∷ key place (codes "class") (required (number_below (most_classes - 1) classes))
     ∷ []
 
 -- ## The top table
@@ -190,10 +191,10 @@ figure_keys place =
     key place (codes "version") (required (integer_in 1 2))
     ∷ key place (codes "cell_bytes") (optional (integer_in 1 65535))
     ∷ key place (codes "slot_ns") (optional (integer_in 1 1000000000))
-    ∷ key place (codes "limit_bytes") (optional (integer_in 24 268435456))
-    ∷ key place (codes "workers") (optional (integer_in 1 64))
-    ∷ key place (codes "default_output") (optional (integer_in 0 63))
-    ∷ key place (codes "default_class") (optional (integer_in 0 15))
+    ∷ key place (codes "limit_bytes") (optional (integer_in 24 longest_file))
+    ∷ key place (codes "workers") (optional (integer_in 1 most_workers))
+    ∷ key place (codes "default_output") (optional (integer_in 0 (most_ports - 1)))
+    ∷ key place (codes "default_class") (optional (integer_in 0 (most_classes - 1)))
     ∷ []
 
 -- the files of the whole run
@@ -205,11 +206,11 @@ file_keys place =
 
 -- the array of classes: 1 to 16, where it is not left out
 abbrev pub class_array : Version → Key
-class_array version = array Classes (optional (array_of 1 16)) (λ i. class_keys version)
+class_array version = array Classes (optional (array_of 1 most_classes)) (λ i. class_keys version)
 
 -- the array of ports, which has to be there: 1 to 64
 abbrev pub port_array : Key
-port_array = array Ports (required (array_of 1 64)) (λ i. port_keys)
+port_array = array Ports (required (array_of 1 most_ports)) (λ i. port_keys)
 
 -- the array of addresses: at most 4096, each of them unlike those before it
 abbrev pub address_array : Members → Key
@@ -247,8 +248,8 @@ figures_of top = record {
 pub record AreFigures (figures : Figures) : Type 0 where
   pub cell_bytes : IsInRange 1 65535 figures.cell_bytes
   pub slot_ns : IsInRange 1 1000000000 figures.slot_ns
-  pub limit_bytes : IsInRange 24 268435456 figures.limit_bytes
-  pub workers : IsInRange 1 64 figures.workers
+  pub limit_bytes : IsInRange 24 longest_file figures.limit_bytes
+  pub workers : IsInRange 1 most_workers figures.workers
 
 -- the ports of the top table: of each the files, the discipline and the limit
 pub record ArePortsOf (top : Members) (ports : PortEntries) : Type 0 where
@@ -352,7 +353,7 @@ whole = codes "-"
 -- all checks of a text, in order
 abbrev pub checks_in : List ℕ → Members → List Check
 checks_in text top =
-    at whole (unless (nat_le (length text) 1048576) TooLong)
+    at whole (unless (nat_le (length text) longest_configuration) TooLong)
     ∷ at whole (unless (is_some (document text)) NotToml)
     ∷ table_checks Top (top_keys top) top
     ++ (default_checks top ++ (file_check (tables_of top) ∷ []))

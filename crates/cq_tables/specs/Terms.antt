@@ -1,6 +1,7 @@
 -- The terms of this crate's clauses, each passed on from where it is defined.
 pub use Rattle.toml.specs.Data.{get_member, Members}
 pub use Rattle.toml.specs.View.{view, table_view}
+pub use Rattle.cq_base.specs.Limits.{level_count, most_classes, most_ports}
 pub use Rattle.cq_route.specs.Tables.{AreTables}
 pub use Rattle.cq_tables.specs.Check.{Refuses, each, first, at, unless, code_of, refused}
 pub use Rattle.cq_tables.specs.Document.{address_keys, address_row, and_then, element_check, is_new, mac_in, class_keys, class_row, port_keys, port_kind, port_limit, port_row, rule_keys, rule_row, elements_at, number_below, AreFigures, figure_keys, figures_of, apart_from, file_check, names_of, class_array, class_rows, IsRefusedFor, default_checks, default_checks_of, document, is_there, read_or_refused, tables_of, top_keys, whole, level_in, level_keys, ArePortsOf, address_array, classes_in, port_array, ports_in, rows_in, rule_array, version_in, version_of}

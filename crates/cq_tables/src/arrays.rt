@@ -1,6 +1,6 @@
 //! The arrays of a configuration, element by element.
 ghost use Rattle.std.specs.Prelude.{◌≡◌, ◌≤◌, ◌<◌, None, IfOk, IfErr, IfSome, All, map};
-ghost use Rattle.cq_tables.specs.Terms.{view, Refuses, each, first, class_keys, class_row, element_check, port_keys, port_kind, port_limit, port_row, rule_keys, rule_row, members};
+ghost use Rattle.cq_tables.specs.Terms.{level_count, view, Refuses, each, first, class_keys, class_row, element_check, port_keys, port_kind, port_limit, port_row, rule_keys, rule_row, members};
 
 use crate::place::Array;
 use crate::refusal::TableRefusal;
@@ -22,7 +22,7 @@ fn class_in(
     ensures held { IfOk result (λ _. element_check Array.Classes (λ _. class_keys version) index (view value.now)
         ≡ None) }
     ensures value { IfOk result (λ row. row ≡ class_row version (members (view value.now))) }
-    ensures level { IfOk result (λ row. row.level < 16) }
+    ensures level { IfOk result (λ row. row.level < level_count) }
     ensures cost { IfOk result (λ row. 1 ≤ row.cost) }
     ensures refused { IfErr result (Refuses (element_check Array.Classes (λ _. class_keys version) index
         (view value.now))) }
@@ -41,7 +41,7 @@ pub fn class_rows(
     ensures held { IfOk result (λ _. first (each (element_check Array.Classes (λ _. class_keys version)) 0
         (map view values.now)) ≡ None) }
     ensures value { IfOk result (λ rows. rows.items ≡ map (class_row version) (map members (map view values.now))) }
-    ensures levels { IfOk result (λ rows. All (λ row. row.level < 16) rows.items) }
+    ensures levels { IfOk result (λ rows. All (λ row. row.level < level_count) rows.items) }
     ensures costs { IfOk result (λ rows. All (λ row. 1 ≤ row.cost) rows.items) }
     ensures refused { IfErr result (Refuses (first (each (element_check Array.Classes (λ _. class_keys version)) 0
         (map view values.now)))) }

@@ -43,7 +43,7 @@ pub fn figures_in(entries: Entries) -> Result<Figures, TableRefusal>
         MOST_LIMIT_BYTES,
         DEFAULT_LIMIT_BYTES,
     )?;
-    let workers = entries.integer_or("workers", 1, MOST_WORKERS, DEFAULT_WORKERS)?;
+    let workers = entries.integer_or("workers", 1, MOST_WORKERS as u64, DEFAULT_WORKERS)?;
     let default_output = entries.integer_or(
         "default_output",
         0,

@@ -1,5 +1,7 @@
 //! The limits of what a configuration says, and what stands where it says nothing.
 
+use cq_base::{LEVELS, LONGEST_FILE};
+pub use cq_base::{LONGEST_CONFIGURATION, MOST_CLASSES, MOST_PORTS, MOST_WORKERS};
 pub use cq_route::{
     DEFAULT_CELL_BYTES, DEFAULT_CLASS, DEFAULT_COST, DEFAULT_LEVEL, DEFAULT_LIMIT_BYTES,
     DEFAULT_OUTPUT, DEFAULT_PRIORITY, DEFAULT_SLOT_NS, DEFAULT_WORKERS,
@@ -21,22 +23,13 @@ pub const MOST_SLOT_NS: u64 = 1_000_000_000;
 pub const LEAST_LIMIT_BYTES: u64 = 24;
 
 /// The greatest limit of a capture in bytes.
-pub const MOST_LIMIT_BYTES: u64 = 268_435_456;
-
-/// The most workers.
-pub const MOST_WORKERS: u64 = 64;
-
-/// The most classes.
-pub const MOST_CLASSES: usize = 16;
+pub const MOST_LIMIT_BYTES: u64 = LONGEST_FILE as u64;
 
 /// The greatest number of a class, since they count from 0.
-pub const GREATEST_CLASS: u16 = 15;
-
-/// The most ports.
-pub const MOST_PORTS: usize = 64;
+pub const GREATEST_CLASS: u16 = MOST_CLASSES as u16 - 1;
 
 /// The greatest number of a port, since they count from 0.
-pub const GREATEST_PORT: u16 = 63;
+pub const GREATEST_PORT: u16 = MOST_PORTS as u16 - 1;
 
 /// The greatest limit of an output, in cells.
 pub const GREATEST_LIMIT: u64 = 1_000_000_000;
@@ -48,7 +41,7 @@ pub const MOST_ADDRESSES: usize = 4096;
 pub const MOST_RULES: usize = 256;
 
 /// The greatest level of a class, since they count from 0.
-pub const GREATEST_LEVEL: u64 = 15;
+pub const GREATEST_LEVEL: u64 = LEVELS as u64 - 1;
 
 /// The least cost of a class.
 pub const LEAST_COST: u128 = 1;

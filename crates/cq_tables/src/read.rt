@@ -5,6 +5,7 @@ ghost use Rattle.cq_tables.specs.Terms.{AreTables, table_view, Refuses, at, firs
 use crate::entries::Entries;
 use crate::figures::{Figures, figures_in};
 use crate::files::files_differ;
+use crate::limits::LONGEST_CONFIGURATION;
 use crate::place::Place;
 use crate::refusal::{TableRefusal, Wrong, refusal};
 use crate::top::{addresses, classes, ports, rules};
@@ -124,7 +125,7 @@ fn document(alloc: Global, bytes: &[u8]) -> Result<Table, TableRefusal>
 }
 
 // The most bytes that a configuration may have.
-const LONGEST: usize = 1_048_576;
+const LONGEST: usize = LONGEST_CONFIGURATION;
 
 /// Reads a configuration: the tables that its document gives where each of its checks holds, or the
 /// first check that does not hold, with its number from 1 to 10 and the path of its key.

@@ -1,6 +1,6 @@
 //! The rows of the arrays, each read from one element.
 ghost use Rattle.std.specs.Prelude.{◌≡◌, ◌≤◌, ◌<◌, None, IfOk, IfErr, IfSome, map};
-ghost use Rattle.cq_tables.specs.Terms.{view, table_view, Refuses, at, first, class_keys, class_row, level_in, level_keys, port_keys, port_kind, port_limit, port_row, rule_keys, rule_row, checks_of, no_other, table_checks, element_path, members, table_type};
+ghost use Rattle.cq_tables.specs.Terms.{level_count, view, table_view, Refuses, at, first, class_keys, class_row, level_in, level_keys, port_keys, port_kind, port_limit, port_row, rule_keys, rule_row, checks_of, no_other, table_checks, element_path, members, table_type};
 
 use crate::entries::Entries;
 use crate::limits::{
@@ -60,7 +60,7 @@ fn stated_level(entries: Entries) -> Result<u8, TableRefusal>
     ensures held { IfOk result (λ _. first (checks_of (table_view entries.entry.table.now)
         (level_keys Version.Two entries.entry.place)) ≡ None) }
     ensures value { IfOk result (λ level. level ≡ level_in Version.Two (table_view entries.entry.table.now)) }
-    ensures few { IfOk result (λ level. level < 16) }
+    ensures few { IfOk result (λ level. level < level_count) }
     ensures refused { IfErr result (Refuses (first (checks_of (table_view entries.entry.table.now)
         (level_keys Version.Two entries.entry.place)))) }
 {
@@ -74,7 +74,7 @@ fn level_in(entries: Entries, version: Version) -> Result<u8, TableRefusal>
     ensures held { IfOk result (λ _. first (checks_of (table_view entries.entry.table.now)
         (level_keys version entries.entry.place)) ≡ None) }
     ensures value { IfOk result (λ level. level ≡ level_in version (table_view entries.entry.table.now)) }
-    ensures few { IfOk result (λ level. level < 16) }
+    ensures few { IfOk result (λ level. level < level_count) }
     ensures refused { IfErr result (Refuses (first (checks_of (table_view entries.entry.table.now)
         (level_keys version entries.entry.place)))) }
 {
@@ -90,7 +90,7 @@ pub fn class_row(entries: Entries, version: Version) -> Result<ClassRow, TableRe
     ensures held { IfOk result (λ _. first (table_checks entries.entry.place (class_keys version entries.entry.place)
         (table_view entries.entry.table.now)) ≡ None) }
     ensures value { IfOk result (λ row. row ≡ class_row version (table_view entries.entry.table.now)) }
-    ensures level { IfOk result (λ row. row.level < 16) }
+    ensures level { IfOk result (λ row. row.level < level_count) }
     ensures cost { IfOk result (λ row. 1 ≤ row.cost) }
     ensures refused { IfErr result (Refuses (first (table_checks entries.entry.place
         (class_keys version entries.entry.place) (table_view entries.entry.table.now)))) }

@@ -2,7 +2,7 @@
 ghost use Rattle.std.specs.Prelude.{◌≡◌, ◌≢◌, ◌≤◌, ◌<◌, None, IfOk, IfErr, IfSome, All, length, map};
 ghost use Rattle.std.specs.Int.{IsInRange};
 ghost use Rattle.std.specs.List.{AllPairs};
-ghost use Rattle.cq_tables.specs.Terms.{get_member, table_view, view, Refuses, ArePortsOf, address_array, address_row, class_array, class_rows, classes_in, elements_at, port_array, ports_in, rows_in, rule_array, rule_row, version_in, check_of, key_check, optional, array_key, array_of};
+ghost use Rattle.cq_tables.specs.Terms.{level_count, most_classes, most_ports, get_member, table_view, view, Refuses, ArePortsOf, address_array, address_row, class_array, class_rows, classes_in, elements_at, port_array, ports_in, rows_in, rule_array, rule_row, version_in, check_of, key_check, optional, array_key, array_of};
 
 use crate::addresses::address_rows;
 use crate::arrays::{PortEntries, class_rows, port_rows, rule_rows};
@@ -51,9 +51,9 @@ pub fn classes(alloc: Global, top: &Table, version: Version) -> Result<Vec<Class
         ≡ None) }
     ensures value { IfOk result (λ rows. rows.items ≡ class_rows (version_in (table_view top.now))
         (table_view top.now)) }
-    ensures levels { IfOk result (λ rows. All (λ row. row.level < 16) rows.items) }
+    ensures levels { IfOk result (λ rows. All (λ row. row.level < level_count) rows.items) }
     ensures costs { IfOk result (λ rows. All (λ row. 1 ≤ row.cost) rows.items) }
-    ensures range { IfOk result (λ rows. IsInRange 1 16 (length rows.items)) }
+    ensures range { IfOk result (λ rows. IsInRange 1 most_classes (length rows.items)) }
     ensures refused { IfErr result (Refuses (check_of (table_view top.now)
         (class_array (version_in (table_view top.now))))) }
 {
@@ -75,7 +75,7 @@ pub fn ports(alloc: Global, top: &Table) -> Result<PortEntries, TableRefusal>
     ensures held { IfOk result (λ _. check_of (table_view top.now) port_array ≡ None) }
     ensures value { IfOk result (ArePortsOf (table_view top.now)) }
     ensures limit_range { IfOk result (λ ports. All (λ limit. IfSome limit (λ n. 1 ≤ n)) ports.limits.items) }
-    ensures range { IfOk result (λ _. IsInRange 1 64 (ports_in (table_view top.now))) }
+    ensures range { IfOk result (λ _. IsInRange 1 most_ports (ports_in (table_view top.now))) }
     ensures refused { IfErr result (Refuses (check_of (table_view top.now) port_array)) }
 {
     let place = Place::Top;

@@ -4,7 +4,7 @@ ghost use Rattle.cq_words.specs.Numbers.{number_from};
 ghost use Rattle.cq_words.specs.Words.{most_slots, numbered};
 
 use crate::number::number;
-use cq_base::Name;
+use cq_base::{MOST_PORTS, Name};
 
 /// What the program is asked to do.
 #[derive(Drop)]
@@ -65,7 +65,7 @@ pub fn soak(seed: &str, ports: &str, slots: &str) -> Option<Command>
     ensures { result ≡ numbered seed.now ports.now slots.now }
 {
     let seed = number(seed, 0, u64::MAX)?;
-    let ports = number(ports, 1, 64)? as u16;
+    let ports = number(ports, 1, MOST_PORTS as u64)? as u16;
     let slots = number(slots, 1, 20_000)? as u32;
     Some(Command::Soak { seed, ports, slots })
 }
