@@ -1,15 +1,19 @@
 -- The texts of a run: the trace of its departures and the log of its transfers.
-use Rattle.std.specs.Prelude.{ℕ, List, [], ◌∷◌, ◌++◌}
+use Rattle.std.specs.Prelude.{ℕ, List, [], ◌∷◌, ◌++◌, map}
 use Rattle.std.specs.List.{flat_map}
 use Rattle.cq_base.specs.Decimal.{decimal}
 use Rattle.cq_base.specs.declared.cell.Departure.{Departure}
 use Rattle.cq_base.specs.declared.cell.Transfer.{Transfer}
 
--- numbers in decimal digits, parted by one blank, and a line feed behind them
+-- a line: words, parted by one blank, and a line feed behind them
+abbrev pub line_of_words : List (List ℕ) → List ℕ
+line_of_words [] = 10 ∷ []
+line_of_words (word ∷ []) = word ++ 10 ∷ []
+line_of_words (word ∷ next ∷ words) = word ++ 32 ∷ line_of_words (next ∷ words)
+
+-- a line of numbers, in decimal digits
 abbrev pub line_of : List ℕ → List ℕ
-line_of [] = 10 ∷ []
-line_of (n ∷ []) = decimal n ++ 10 ∷ []
-line_of (n ∷ m ∷ ns) = decimal n ++ 32 ∷ line_of (m ∷ ns)
+line_of ns = line_of_words (map decimal ns)
 
 -- a departure: its slot, its output, and the cell that left, by its input, its packet and its number there
 abbrev pub trace_line : Departure → List ℕ

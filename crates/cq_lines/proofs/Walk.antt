@@ -1,7 +1,8 @@
 -- Reading a line field by field. What was read so far stands at the front of the text, and whoever reads a whole line
 -- there reads the same fields first, and the rest of his line from the rest of the text. So where no field can go on,
 -- no line stands there.
-use Rattle.cq_lines.proofs.Terms.{common_steps, rules, ◌≡◌, ◌≢◌, ℕ, suc, ◌+◌, ◌<◌, ◌≤◌, List, [], ◌∷◌, ◌++◌, length, take, drop, set, get_or, Option, None, Some, refl, ap, sym, ◌∙◌, arith, append_assoc, length-set, append-nil, append_cancel_left, take_more_set, take_more, take_all, field, ending, line, EndsDigits, MayFollow, BeginsWith, Fits, AllFit, InRange, Within, any_number}
+use Rattle.cq_lines.proofs.Terms.{common_steps, rules, ◌≡◌, ◌≢◌, ℕ, suc, ◌+◌, ◌<◌, ◌≤◌, List, [], ◌∷◌, ◌++◌, length, map, take, drop, set, get_or, Option, None, Some, refl, ap, sym, ◌∙◌, arith, append_assoc, length-set, append-nil, append_cancel_left, take_more_set, take_more, take_all, field, ending, line, EndsDigits, MayFollow, BeginsWith, Fits, AllFit, InRange, Within, any_number}
+use Rattle.cq_base.specs.Texts.{line_of_words}
 use Rattle.cq_lines.specs.declared.range.Range.{Range}
 use Rattle.cq_lines.proofs.Spelling.{one_field}
 
@@ -112,6 +113,12 @@ one_ending _ _ x y e = absurd (cc e)
 pub one_line : (word x y : List ℕ) (fs gs : List (Option ℕ)) → line word fs ++ x ≡ line word gs ++ y →
     (fs ≡ gs) × (x ≡ y)
 one_line word x y fs gs e = one_ending fs gs x y (search (arith, rules, append_cancel_left, append_assoc))
+
+-- ## Words
+
+pub line_spelled : (word : List ℕ) (fs : List (Option ℕ)) → line word fs ≡ line_of_words (word ∷ map field fs)
+line_spelled word [] = refl
+line_spelled word (f ∷ fs) = ap (λ (rest : List ℕ). word ++ 32 ∷ rest) (line_spelled (field f) fs)
 
 -- ## Writing
 

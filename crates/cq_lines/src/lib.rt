@@ -12,7 +12,7 @@ mod refusal;
 mod write;
 
 pub use fields::{behind, take_field, take_fields};
-pub use laws::lines_are_read_in_one_way;
+pub use laws::{lines_are_lines_of_words, lines_are_read_in_one_way};
 pub use number::take_number;
 pub use range::{Range, take_fields_within};
 pub use refusal::LineRefusal;

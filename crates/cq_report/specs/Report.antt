@@ -2,6 +2,7 @@
 use Rattle.std.specs.Prelude.{ℕ, ◌+◌, ◌-◌, List, [], ◌∷◌, ◌++◌, Option, Some, codes}
 use Rattle.std.specs.List.{flat_map}
 use Rattle.cq_base.specs.Decimal.{field}
+use Rattle.cq_base.specs.Texts.{line_of_words}
 use Rattle.cq_base.specs.declared.figures.InputFigures.{InputFigures}
 use Rattle.cq_base.specs.declared.figures.OutputFigures.{OutputFigures}
 use Rattle.cq_base.specs.declared.figures.Figures.{Figures}
@@ -10,12 +11,6 @@ use Rattle.cq_ideal.specs.declared.refused.Refused.{Refused}
 -- a name, and one blank behind it the figure, or `-` where there is none
 unfoldable pub named : List ℕ → Option ℕ → List ℕ
 named name n = name ++ 32 ∷ field n
-
--- words, parted by one blank, and a line feed behind them
-abbrev pub line_of_words : List (List ℕ) → List ℕ
-line_of_words [] = 10 ∷ []
-line_of_words (word ∷ []) = word ++ 10 ∷ []
-line_of_words (word ∷ next ∷ words) = word ++ 32 ∷ line_of_words (next ∷ words)
 
 -- an input, by its number
 unfoldable pub input_line : ℕ → InputFigures → List ℕ
