@@ -1,5 +1,5 @@
 //! Writes the text of a state, part by part.
-ghost use Rattle.std.specs.Prelude.{◌≡◌, ◌≤◌, ◌^◌, [], ◌∷◌, ◌++◌, length, map, Some, OnOk, IfOk, IfErr};
+ghost use Rattle.std.specs.Prelude.{◌≡◌, ◌≤◌, [], ◌∷◌, ◌++◌, length, map, Some, OnOk, IfOk, IfErr};
 ghost use Rattle.std.specs.List.{flat_map};
 ghost use Rattle.cq_state.specs.Refusals.{IsTooLong, longest_text};
 ghost use Rattle.cq_state.specs.State.{state_text, head_lines, numbered, input_line, rank_line, cell_numbers, cell_line, sent_line, moved_line};
@@ -20,6 +20,17 @@ pub enum StateLong {
     NoMemory,
 }
 
+impl From<NoMemory> for StateLong {
+    ghost use Rattle.std.specs.Prelude.{◌≡◌};
+    ghost use Rattle.cq_state.specs.declared.write.StateLong.TheVariants.{NoMemory as none};
+
+    ghost from_gives = { λ _ e. e ≡ none };
+
+    fn from(_: NoMemory) -> Self {
+        StateLong::NoMemory
+    }
+}
+
 /// The most bytes that the text of a state may have.
 pub const LONGEST_TEXT: usize = LONGEST_FILE;
 
@@ -30,17 +41,27 @@ pub fn text_of(alloc: Global, state: &State) -> Result<Vec<u8>, StateLong>
     ensures long { IfErr result (IsTooLong (state_text state.now)) }
 {
     let mut text = Vec::new(alloc);
-    put_state(alloc, &mut text, state).or(Err(StateLong::NoMemory))?;
+    put_state(alloc, &mut text, state)?;
+    Ok(text)
+}
+
+// Refuses what is put so far, where it is too long already.
+fn enough(text: &[u8]) -> Result<(), StateLong>
+    ensures short { OnOk result (length text.now ≤ longest_text) }
+    ensures long { IfErr result (IsTooLong text.now) }
+{
     if text.len() > LONGEST_TEXT {
         Err(StateLong::Long)
     } else {
-        Ok(text)
+        Ok(())
     }
 }
 
-#[tactic(auto, using(crate::proofs::Writing::state_put))]
-fn put_state(alloc: Global, text: &mut Vec<u8>, state: &State) -> Result<(), NoMemory>
-    ensures { OnOk result (text.new.items ≡ text.old.items ++ state_text state.now) }
+// Puts all parts. Of those that grow with the run it puts no line behind the first with which the text is too long.
+fn put_state(alloc: Global, text: &mut Vec<u8>, state: &State) -> Result<(), StateLong>
+    ensures text { OnOk result (text.new.items ≡ text.old.items ++ state_text state.now) }
+    ensures short { OnOk result (length text.new.items ≤ longest_text) }
+    ensures long { IfErr result (IsTooLong (text.old.items ++ state_text state.now)) }
 {
     put_head(text, state.head)?;
     put_inputs(text, state.inputs.as_slice())?;
@@ -49,7 +70,8 @@ fn put_state(alloc: Global, text: &mut Vec<u8>, state: &State) -> Result<(), NoM
     put_cells(text, Kind::Buffered, state.buffered.as_slice())?;
     put_each(text, state.sent.as_slice())?;
     put_each(text, state.moved.as_slice())?;
-    put_numbers(text, Kind::End, &[])
+    put_numbers(text, Kind::End, &[])?;
+    enough(text.as_slice())
 }
 
 fn put_numbers(text: &mut Vec<u8>, kind: Kind, fields: &[Option<u128>]) -> Result<(), NoMemory>
@@ -119,11 +141,14 @@ fn rank_fields(
     Ok(fields)
 }
 
-fn put_cells(text: &mut Vec<u8>, kind: Kind, cells: &[Named]) -> Result<(), NoMemory>
-    ensures { OnOk result (text.new.items ≡ text.old.items ++ flat_map spelled (map (cell_line kind) cells.now)) }
+fn put_cells(text: &mut Vec<u8>, kind: Kind, cells: &[Named]) -> Result<(), StateLong>
+    ensures lines { OnOk result (text.new.items
+        ≡ text.old.items ++ flat_map spelled (map (cell_line kind) cells.now)) }
+    ensures long { IfErr result (IsTooLong (text.old.items ++ flat_map spelled (map (cell_line kind) cells.now))) }
 {
     'cells: for cell in cells {
         put_numbers(text, kind, &cell_fields(*cell))?;
+        enough(text.as_slice())?;
     }
     Ok(())
 }
@@ -147,11 +172,13 @@ trait Told {
         ensures { OnOk result (text.new.items ≡ text.old.items ++ spelled (line self.now)) };
 }
 
-fn put_each<T: Told>(text: &mut Vec<u8>, items: &[T]) -> Result<(), NoMemory>
-    ensures { OnOk result (text.new.items ≡ text.old.items ++ flat_map spelled (map T.line items.now)) }
+fn put_each<T: Told>(text: &mut Vec<u8>, items: &[T]) -> Result<(), StateLong>
+    ensures lines { OnOk result (text.new.items ≡ text.old.items ++ flat_map spelled (map T.line items.now)) }
+    ensures long { IfErr result (IsTooLong (text.old.items ++ flat_map spelled (map T.line items.now))) }
 {
     'items: for item in items {
         item.put(text)?;
+        enough(text.as_slice())?;
     }
     Ok(())
 }
