@@ -14,8 +14,8 @@ use cq_rank::Rank;
 use std::alloc::Global;
 use std::marker::Model;
 
-/// An ideal output-queued switch (the yardstick of Chuang, Goel, McKeown and Prabhakar 1999): each output
-/// has one list, in the order of keys. In a slot the arriving cells are ranked and put into the lists of
+/// An ideal output-queued switch (the yardstick of Chuang, Goel, McKeown and Prabhakar 1999): the cells of an output
+/// wait in one list by their keys. In a slot the arriving cells are ranked and put into the lists of
 /// their outputs, and then each output sends the first cell of its list, or is idle. Where an output has a limit
 /// and holds as many cells or more as the first cell of a packet arrives, that packet is refused whole.
 ///
@@ -80,8 +80,8 @@ impl<R: Rank> Ideal<R> {
     }
 
     /// One slot: the cells arrive, and each output sends the first of its list or is idle. The departures
-    /// are put at the end of `sent`, in order of output. Each cell that is admitted lowers the spare of its list
-    /// by one, and each that leaves raises it by one. The cells that are refused are counted. It takes no memory.
+    /// are put at the end of `sent`, in order of output. A cell that is admitted takes one of the spare places of its
+    /// list, and one that leaves gives it back. The cells that are refused are counted. It takes no memory.
     ///
     /// The error is the first rank, in order of input, that does not fit 128 bits. Then `sent`, the lists, the counts
     /// and the next slot are as before, and the switch is stopped.

@@ -54,9 +54,8 @@ pub trait Files {
     /// Begins to read a name from its first byte. The mode has to be closed.
     ///
     /// `Ok(true)`: the mode is reading, and all the bytes of the name are left. Where contents are told
-    /// they have the name. `Ok(false)`: there is no such name; this comes only where contents are told
-    /// and lack it, the mode is closed and the count is as before. `Failed`: the mode is closed. Contents
-    /// are as before in every case.
+    /// they have the name. `Ok(false)`: there is no such name, which only told contents that lack it can answer; the
+    /// mode stays closed, and no fault is counted. `Failed`: the mode is closed. Contents are as before in every case.
     fn start_read(&mut self, name: &str) -> Result<bool, Failed>
         requires { (space self.old).mode ≡ Closed }
         ensures found { IfOk result (Finds (space self.old) (space self.new) name.now) }
@@ -68,7 +67,7 @@ pub trait Files {
     /// Reads on, into the front of `buf`. The mode has to be reading, and `buf` not empty.
     ///
     /// `Ok(count)`: so many bytes, at most the length of `buf`, stand at its front, and the mode is reading.
-    /// Where contents are told these are the next bytes of the name, and 0 comes exactly at its end.
+    /// Told contents have them next in that name, and answer 0 where none of its bytes are left and nowhere else.
     /// `Failed`: the mode is closed. Contents are as before in both cases.
     fn read(&mut self, buf: &mut [u8]) -> Result<usize, Failed>
         requires mode { IsReading (space self.old).mode }

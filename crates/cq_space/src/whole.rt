@@ -33,12 +33,11 @@ pub struct WriteFault;
 /// Reads a name whole, if it has at most `limit` bytes. The mode has to be closed, and `limit` at most
 /// 2^28.
 ///
-/// `Ok` has all the bytes of the name. `Missing` comes exactly where `start_read` answered false, so
-/// only where contents are told and lack the name; `Fault` exactly where the last call failed, which
-/// was `start_read`, or a `read` before which no more than `limit` bytes were taken: the count of faults
-/// rose in that call, and with every other answer it is as before; `Long` exactly where `limit + 1`
-/// bytes were taken and there was memory for them, so only where the name has more than `limit`. After
-/// every answer the mode is closed, and contents are as before.
+/// `Ok` has all the bytes of the name. `Missing` comes exactly where `start_read` answered false, which told contents
+/// that lack the name alone can do; `Fault` exactly where the last call failed, which was `start_read`, or a `read`
+/// before which no more than `limit` bytes were taken: the count of faults rose in that call, and with every other
+/// answer it is as before; `Long` exactly where `limit + 1` bytes were taken and there was memory for them, so only
+/// where the name has more than `limit`. After every answer the mode is closed, and contents are as before.
 ///
 /// Also where no contents are told, the bytes of `Ok` are those that the reads of this name gave, one
 /// after another, until one gave none; and `Long` comes only where they gave `limit + 1` in all. What a
@@ -96,9 +95,9 @@ pub fn read_whole<F: Files>(
 
 /// Writes a name whole. The mode has to be closed. It takes no memory.
 ///
-/// After `Ok` the name's bytes are `bytes`. After a fault, which comes only where the count of faults
-/// rose in this call, by a call that writes this name, its bytes are those from before, or the front part
-/// of `bytes`. Whatever the answer, nothing is open then and no other name has changed.
+/// After `Ok` the name's bytes are `bytes`. A fault is counted in this call, by one that writes this name, and its
+/// bytes then are those from before, or the front part of `bytes`. Whatever the answer, nothing is open then and no
+/// other name has changed.
 pub fn write_whole<F: Files>(files: &mut F, name: &str, bytes: &[u8]) -> Result<(), WriteFault>
     requires { (F.space files.old).mode ≡ Closed }
     ensures whole { WritesWhole (F.space files.old) (F.space files.new) name.now bytes.now result }
@@ -123,8 +122,8 @@ pub fn write_whole<F: Files>(files: &mut F, name: &str, bytes: &[u8]) -> Result<
 
 /// Puts all the bytes into the sink. It takes no memory.
 ///
-/// After `Ok` they were appended to what the sink has taken. After a fault, which comes only where the
-/// count of faults rose in this call, a prefix of them was.
+/// After `Ok` they were appended to what the sink has taken. A fault is counted in this call, and then a prefix of
+/// them was.
 pub fn put_all<S: Sink>(sink: &mut S, bytes: &[u8]) -> Result<(), WriteFault>
     ensures all { PutsAll (S.taken sink.old) (S.taken sink.new) (S.faults sink.old)
         (S.faults sink.new) bytes.now result }
