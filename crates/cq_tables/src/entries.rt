@@ -18,6 +18,34 @@ pub struct Entries<'a> {
     pub table: &'a Table,
 }
 
+// What is made of what the value at a key says, or the refusal for what is wrong with the value. Where the key is left
+// out, `$absent` is answered.
+macro_rules! at_key {
+    ($entries:expr, $key:expr, $absent:expr, $value:ident => $read:expr, $says:ident => $made:expr) => {
+        match value_at($entries.table, $key) {
+            None => $absent,
+            Some($value) => match $read {
+                Ok($says) => Ok($made),
+                Err(wrong) => Err($entries.refuse($key, wrong)),
+            },
+        }
+    };
+}
+
+// The same of a key that may be left out: then it is the default.
+macro_rules! optional {
+    ($entries:expr, $key:expr, $default:expr, $($rest:tt)*) => {
+        at_key!($entries, $key, Ok($default), $($rest)*)
+    };
+}
+
+// The same of a key that has to be there.
+macro_rules! required {
+    ($entries:expr, $key:expr, $($rest:tt)*) => {
+        at_key!($entries, $key, Err($entries.refuse($key, Wrong::Missing)), $($rest)*)
+    };
+}
+
 impl<'a> Entries<'a> {
     /// The refusal for what is wrong with a key of the table.
     pub fn refuse(self, key: &str, wrong: Wrong) -> TableRefusal
@@ -35,13 +63,7 @@ impl<'a> Entries<'a> {
         ensures refused { IfErr result (Refuses (key_check self.entry.place key.now (optional (integer_in least most))
             (table_view self.entry.table.now))) }
     {
-        match value_at(self.table, key) {
-            None => Ok(None),
-            Some(value) => match integer(value, least, most) {
-                Ok(n) => Ok(Some(n)),
-                Err(wrong) => Err(self.refuse(key, wrong)),
-            },
-        }
+        optional!(self, key, None, value => integer(value, least, most), n => Some(n))
     }
 
     /// The integer at a key, or else the default.
@@ -77,13 +99,7 @@ impl<'a> Entries<'a> {
         ensures refused { IfErr result (Refuses (key_check self.entry.place key.now (required (integer_in least most))
             (table_view self.entry.table.now))) }
     {
-        match value_at(self.table, key) {
-            None => Err(self.refuse(key, Wrong::Missing)),
-            Some(value) => match integer(value, least, most) {
-                Ok(n) => Ok(n),
-                Err(wrong) => Err(self.refuse(key, wrong)),
-            },
-        }
+        required!(self, key, value => integer(value, least, most), n => n)
     }
 
     /// The wide number at a key, or else the default.
@@ -96,13 +112,7 @@ impl<'a> Entries<'a> {
         ensures refused { IfErr result (Refuses (key_check self.entry.place key.now (optional (wide_from least))
             (table_view self.entry.table.now))) }
     {
-        match value_at(self.table, key) {
-            None => Ok(default),
-            Some(value) => match wide(value, least) {
-                Ok(n) => Ok(n),
-                Err(wrong) => Err(self.refuse(key, wrong)),
-            },
-        }
+        optional!(self, key, default, value => wide(value, least), n => n)
     }
 
     /// The file name at a key that may be left out.
@@ -113,13 +123,7 @@ impl<'a> Entries<'a> {
         ensures refused { IfErr result (Refuses (key_check self.entry.place key.now (optional file_name)
             (table_view self.entry.table.now))) }
     {
-        match value_at(self.table, key) {
-            None => Ok(None),
-            Some(value) => match file_name(value) {
-                Ok(text) => Ok(Some(Name::of(self.alloc, text)?)),
-                Err(wrong) => Err(self.refuse(key, wrong)),
-            },
-        }
+        optional!(self, key, None, value => file_name(value), text => Some(Name::of(self.alloc, text)?))
     }
 
     /// The file name at a key that has to be there.
@@ -131,13 +135,7 @@ impl<'a> Entries<'a> {
         ensures refused { IfErr result (Refuses (key_check self.entry.place key.now (required file_name)
             (table_view self.entry.table.now))) }
     {
-        match value_at(self.table, key) {
-            None => Err(self.refuse(key, Wrong::Missing)),
-            Some(value) => match file_name(value) {
-                Ok(text) => Ok(Name::of(self.alloc, text)?),
-                Err(wrong) => Err(self.refuse(key, wrong)),
-            },
-        }
+        required!(self, key, value => file_name(value), text => Name::of(self.alloc, text)?)
     }
 
     /// The discipline at a key that may be left out.
@@ -149,13 +147,7 @@ impl<'a> Entries<'a> {
         ensures refused { IfErr result (Refuses (key_check self.entry.place key.now (optional discipline)
             (table_view self.entry.table.now))) }
     {
-        match value_at(self.table, key) {
-            None => Ok(Kind::FirstCome),
-            Some(value) => match discipline(value) {
-                Ok(kind) => Ok(kind),
-                Err(wrong) => Err(self.refuse(key, wrong)),
-            },
-        }
+        optional!(self, key, Kind::FirstCome, value => discipline(value), kind => kind)
     }
 
     /// The port or class at a key that may be left out, by its number, which is below the count.
@@ -167,13 +159,7 @@ impl<'a> Entries<'a> {
         ensures refused { IfErr result (Refuses (key_check self.entry.place key.now
             (optional (number_below greatest count)) (table_view self.entry.table.now))) }
     {
-        match value_at(self.table, key) {
-            None => Ok(None),
-            Some(value) => match number_below(value, greatest, count) {
-                Ok(n) => Ok(Some(n)),
-                Err(wrong) => Err(self.refuse(key, wrong)),
-            },
-        }
+        optional!(self, key, None, value => number_below(value, greatest, count), n => Some(n))
     }
 
     /// The port or class at a key that has to be there, by its number, which is below the count.
@@ -191,13 +177,7 @@ impl<'a> Entries<'a> {
         ensures refused { IfErr result (Refuses (key_check self.entry.place key.now
             (required (number_below greatest count)) (table_view self.entry.table.now))) }
     {
-        match value_at(self.table, key) {
-            None => Err(self.refuse(key, Wrong::Missing)),
-            Some(value) => match number_below(value, greatest, count) {
-                Ok(n) => Ok(n),
-                Err(wrong) => Err(self.refuse(key, wrong)),
-            },
-        }
+        required!(self, key, value => number_below(value, greatest, count), n => n)
     }
 
     /// The elements of the array at a key that may be left out: none where it is.
@@ -210,13 +190,7 @@ impl<'a> Entries<'a> {
         ensures refused { IfErr result (Refuses (key_check self.entry.place key.now (optional (array_of least most))
             (table_view self.entry.table.now))) }
     {
-        match value_at(self.table, key) {
-            None => Ok(&[]),
-            Some(value) => match elements(value, least, most) {
-                Ok(items) => Ok(items),
-                Err(wrong) => Err(self.refuse(key, wrong)),
-            },
-        }
+        optional!(self, key, &[], value => elements(value, least, most), items => items)
     }
 
     /// The elements of the array at a key that has to be there.
@@ -234,12 +208,6 @@ impl<'a> Entries<'a> {
         ensures refused { IfErr result (Refuses (key_check self.entry.place key.now (required (array_of least most))
             (table_view self.entry.table.now))) }
     {
-        match value_at(self.table, key) {
-            None => Err(self.refuse(key, Wrong::Missing)),
-            Some(value) => match elements(value, least, most) {
-                Ok(items) => Ok(items),
-                Err(wrong) => Err(self.refuse(key, wrong)),
-            },
-        }
+        required!(self, key, value => elements(value, least, most), items => items)
     }
 }
