@@ -136,7 +136,8 @@ fn put_slot(bytes: &mut [u8; SHEET], at: usize, numerals: &Numerals, slot: u64) 
     put_large(bytes, at, numerals, slot)
 }
 
-// The same of a number further on in the line.
+// Writes a number further on in a line from a place on and a blank behind it, and answers the place behind that. What
+// stands before stays. Most are below a thousand, so a large one is written apart.
 #[inline(always)]
 #[tactic(auto, using(crate::proofs::Hundreds::few_digits, crate::proofs::Hundreds::some_digit))]
 fn put_number(bytes: &mut [u8; SHEET], at: usize, numerals: &Numerals, number: u64) -> usize

@@ -38,8 +38,8 @@ abbrev pub IsPartedFault : Switch → List (List ℕ) → ℕ → TagFault → T
 IsPartedFault w ranks slots fault =
     (records : List LimitedRecord) × Stops w 0 (arriving_from w.came 0 slots) (opening w ranks) records fault
 
--- After so many slots there is one answer: the run stands in one state with one thing kept, or met one tag fault, and
--- never both.
+-- After so many slots there is one answer at most: the run stands in one state with one thing kept, or met one tag
+-- fault, and never both.
 pub record IsOneParted : Type 0 where
   pub at : (w : Switch) (ranks : List (List ℕ)) (slots : ℕ) (a b : Taken) → IsParted w ranks slots a →
       IsParted w ranks slots b → a ≡ b

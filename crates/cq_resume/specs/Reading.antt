@@ -103,7 +103,8 @@ IsRefusal w text refusal.NoMemory = ⊤
 
 -- ## What holds of every text
 
--- a text is read as one thing, or is refused for one thing, and never both; want of memory is no such thing
+-- a text is read as one thing at most, and refused for one thing at most, and never both; want of memory is no such
+-- thing
 pub record IsReadExact (w : Switch) : Type 0 where
   pub one_state : (text : List ℕ) (x y : Taken) → IsRead w text x → IsRead w text y → x ≡ y
   pub one_refusal : (text : List ℕ) (r s : StateRefusal) → r ≢ refusal.NoMemory → s ≢ refusal.NoMemory →

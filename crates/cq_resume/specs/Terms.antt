@@ -6,7 +6,7 @@ pub use Rattle.cq_rank.specs.{Machine.machine_at, Switch.AreSized}
 pub use Rattle.cq_scfq.specs.Disciplines.{machine_of, machines_of}
 pub use Rattle.cq_ideal.specs.{Ending.slots_of, Limiter.CanCount, Refused.with_refused}
 pub use Rattle.cq_lines.specs.Transfers.{IsTransferBefore}
-pub use Rattle.cq_state.specs.Refusals.{IsTooLong}
+pub use Rattle.cq_state.specs.Refusals.{IsTooLong, longest_text}
 pub use Rattle.cq_state.specs.State.{IsInRange, state_text}
 pub use Rattle.cq_resume.specs.Counted.{IsTally, output_told, taken_of}
 pub use Rattle.cq_resume.specs.Finding.{StandsBelow, FlowsStand, IsNameBefore, Leaves, begins_at, AreGone, AreFound, IsFound, IsNameNotAfter, SomeMissed, sent_name, told_of, waiting_name, BuffersStand, IsBufferedBefore, IsListedBefore, IsNoLaterInput, IsSentBefore, IsTimely, ListsStand, SentStand, ArePackets, PacketsStand, TalliesUp, coming, has_limit, has_name, mark_on, may_come, unnamed, SlackStands, cushion_in}

@@ -1,8 +1,8 @@
-//! Runs in parts are runs, and of each text, stop and state there is one answer.
+//! Runs in parts are runs, and of each text, stop and state there is one answer at most.
 ghost use Rattle.cq_resume.specs.Terms.{IsOneParted, IsOneResumed, IsReadExact, PartsJoin, Switch};
 
-/// A text is read as what one sound state comes to, or is refused for one thing, and never both; want of memory is no
-/// such thing. It does nothing: its contract is the claim.
+/// A text is read as one thing at most, what one sound state comes to, and refused for one thing at most, and never
+/// both; want of memory is no such thing. It does nothing: its contract is the claim.
 pub fn states_are_read_in_one_way()
     ensures { (w : Switch) → IsReadExact w }
 {}
@@ -14,14 +14,14 @@ pub fn parts_join()
     ensures { PartsJoin }
 {}
 
-/// After any number of slots a run stands in one state, and has kept one thing, or met one tag fault before, and never
-/// both. It does nothing: its contract is the claim.
+/// After any number of slots a run stands in one state at most, and has kept one thing, or met one tag fault before at
+/// most, and never both. It does nothing: its contract is the claim.
 pub fn one_parted_run()
     ensures { IsOneParted }
 {}
 
-/// From any state that was taken up there is one run: it keeps one thing to its end, or meets one tag fault, and never
-/// both. It does nothing: its contract is the claim.
+/// From any state that was taken up there is one run at most: it keeps one thing to its end, or meets one tag fault, and
+/// never both. It does nothing: its contract is the claim.
 pub fn one_resumed_run()
     ensures { IsOneResumed }
 {}

@@ -1,7 +1,7 @@
 //! Writes a stopped run as the text of its state.
 ghost use Rattle.std.specs.Prelude.{◌≡◌, ◌<◌, ◌≤◌, ◌^◌, ◌++◌, IfErr, IfOk, OnOk, length, map};
 ghost use Rattle.std.specs.List.{flat_map};
-ghost use Rattle.cq_resume.specs.Terms.{named_as, seen_as, sent_as, state_of, told_by, IsTooLong, state_text};
+ghost use Rattle.cq_resume.specs.Terms.{named_as, seen_as, sent_as, state_of, told_by, IsTooLong, longest_text, state_text};
 
 use crate::Frozen;
 use cq_base::{Departure, InputFigures, NoMemory, Port, Queued, Sequence, Transfer};
@@ -131,7 +131,7 @@ pub fn state_bytes(
     requires ports { length frozen.now.lists < 2 ^ 16 }
     ensures text { IfOk result (λ text. text.items ≡ state_text
         (state_of frozen.now sent.now note.now t0 classes total)) }
-    ensures short { IfOk result (λ text. length text.items ≤ 2 ^ 28) }
+    ensures short { IfOk result (λ text. length text.items ≤ longest_text) }
     ensures long { IfErr result (IsTooLong (state_text (state_of frozen.now sent.now note.now t0 classes total))) }
 {
     let head = Head {
