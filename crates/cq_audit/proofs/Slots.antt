@@ -4,7 +4,7 @@
 -- each step leaves: what comes is judged and ranked and arrives, the lines of the first phase are gone by, the outputs
 -- send, and the lines of the second are gone by.
 -- A replay before its first slot, and after slots in which nothing happens.
-use Rattle.cq_audit.proofs.Terms.{common_steps, rules, ◌≡◌, ℕ, ◌+◌, ◌<◌, ◌≤◌, ◌^◌, Bool, List, ◌++◌, length, map, get_or, Option, Ok, Err, sym, ap, ◌∙◌, subst, arith, append_assoc, length-append, [], replicate, length-map, length-replicate, Cell, Queued, TagFault, Transfer, RoomView, Machine, class_count, AreForOneSwitch, admitted, marked, marks_after, marks_down, count_for, ranking, admitted_arrives, admitted_for_ports, list_of, SlotRecord, fabric_admission, LimitedFabricRun, empty_limited_fabric, Arrives, transfers_in, ComeApart, FitLists, Queues, fabric_of, admits_are, admitted_room, numbers_fit, still_holds, holds_first, AllBehind, IsPhaseFault, NoneBefore, in_phase, CanCome, CanReplay, IsInStep, IsSlotFault, ReplayView, SlotReplayed, shown, IsHalfPast, SlotFault, all_weaker, no_arrivals, IsStable, IsEmptyFabric, empty_fabric, quiet_limited_slots, empty_agree, fronts, ComeToPorts, LimiterView, RanksView, all_idle, length-told, by_marks, SendsAlike, Agrees, HoldsFabric, AreRanked, BuffersHaveRoom, HaveArrived, HaveJudged, HaveMoved, HaveSent, stable_limited_run, rested_agrees, rested_limited_run, still_held, empty_ideal}
+use Rattle.cq_audit.proofs.Terms.{common_steps, rules, ◌≡◌, ℕ, ◌+◌, ◌<◌, ◌≤◌, ◌^◌, Bool, List, ◌++◌, length, map, get_or, Option, Ok, Err, sym, ap, ◌∙◌, subst, arith, append_assoc, length-append, [], replicate, length-map, length-replicate, Cell, Queued, TagFault, Transfer, RoomView, Machine, class_count, AreForOneSwitch, admitted, marked, marks_after, marks_down, count_for, ranking, admitted_arrives, admitted_for_ports, list_of, SlotRecord, fabric_admission, LimitedFabricRun, empty_limited_fabric, Arrives, transfers_in, ComeApart, FitLists, Queues, fabric_of, admits_are, admitted_room, numbers_fit, still_holds, holds_first, AllBehind, IsPhaseFault, NoneBefore, in_phase, CanCome, CanReplay, IsInStep, IsSlotFault, ReplayView, SlotReplayed, shown, IsHalfPast, SlotFault, all_weaker, no_arrivals, IsStable, IsEmptyFabric, empty_fabric, quiet_limited_slots, empty_agree, fronts, ComeToPorts, LimiterView, RanksView, idled, length-told, by_marks, SendsAlike, Agrees, HoldsFabric, AreRanked, BuffersHaveRoom, HaveArrived, HaveJudged, HaveMoved, HaveSent, stable_limited_run, rested_agrees, rested_limited_run, still_held, empty_ideal}
 use Rattle.cq_fabric.proofs.Slot.{alike as sends_alike, arrive as slot_arrives, can_cross_first, can_cross_second, come_apart, depart as slot_departs, few_cross, fill as slot_fills, fits_lists, held_before, is_slot, recorded}
 use Rattle.cq_audit.specs.SlotSteps.{CanGoBy, CanSend, HasGoneBy, HaveAllSent, HaveCome}
 use Rattle.cq_audit.proofs.BySlot.{second_behind}
@@ -244,8 +244,8 @@ module _ (ms : List Machine) (slot to : ℕ) (ranks rested : RanksView) (q : Que
     rested_agrees slot to (fabric_of q ranks.states) step.ideal rested.states empty step.agrees,
   )
 
-  pub rested_run : (ports count : ℕ) → length ms ≡ ports → 0 < count → rested.states ≡ all_idle ms ports ranks.states →
-      all_idle ms ports rested.states ≡ rested.states →
+  pub rested_run : (ports count : ℕ) → length ms ≡ ports → 0 < count → rested.states ≡ idled ms ports ranks.states →
+      idled ms ports rested.states ≡ rested.states →
       LimitedFabricRun IsStable l.limits ms slot (replicate count no_arrivals)
       (marked l.marks (fabric_of q ranks.states)) (quiet_limited_slots ms count slot ports ranks.states l.marks)
       (marked l.marks (fabric_of q rested.states))

@@ -52,7 +52,7 @@ pub use Rattle.cq_base.proofs.Each.{all_both, all_front, all_weaker, all_back}
 pub use Rattle.cq_base.specs.declared.cell.CellId.{CellId}
 pub use Rattle.cq_scfq.specs.Discipline.{machine_from}
 pub use Rattle.cq_ideal.proofs.{FlowFound.all_found, LimitedParts.limited_parts, LimitedRuns.run_fault, Resting.length-idle, Sending.length-told, Slot.by_marks}
-pub use Rattle.cq_ideal.specs.{IdealRun.empty_ideal, IdealSlot.fronts, Limiter.ComeToPorts, Limiter.LimiterView, Parts.RanksView, Parts.all_idle}
+pub use Rattle.cq_ideal.specs.{IdealRun.empty_ideal, IdealSlot.fronts, Limiter.ComeToPorts, Limiter.LimiterView, Parts.RanksView}
 pub use Rattle.cq_lines.specs.{Lines.ending, Lines.BeginsWith}
 pub use Rattle.cq_lines.proofs.{Spelling.one_number, Walk.ending_ends, Walk.one_ending}
 pub use Rattle.cq_laws.proofs.{Came.came_from, InputBest.stable_limited_run, Joined.all_go_on, KeptParts.transfers_one, LimitedSlots.same_limited_fault, LimitedWhole.begin, LimitedWhole.same_limited_run, Members.first_at, QuietSlots.quiet_transfers, Rises.sender}

@@ -1,25 +1,21 @@
 -- Slots in which nothing waits and nothing comes. The first of them tells each machine that its output was idle, and
 -- the others change nothing. After them the fabric is as empty as before, so it is in step with an ideal switch that
 -- is empty too.
-use Rattle.cq_fabric.proofs.Terms.{common_steps, ◌≡◌, ℕ, zero, suc, ◌<◌, Bool, List, Option, length, replicate, refl, arith, rules, no_arrivals, Machine, marked, IdealState, IsInputBest, Agrees, Fabric, IsEmptyFabric, empty_fabric, LimitedFabricRun, LimiterView, fabric_held, HoldsFabric, Queues, fabric_of, empty_ideal, all_idle, FabricRun, quiet_limited_slots, none_come, run_with, empty_is, quiet_run, empty_agree_at}
+use Rattle.cq_fabric.proofs.Terms.{common_steps, ◌≡◌, ℕ, zero, suc, ◌<◌, Bool, List, Option, length, replicate, refl, arith, rules, no_arrivals, Machine, marked, IdealState, IsInputBest, Agrees, Fabric, IsEmptyFabric, empty_fabric, LimitedFabricRun, LimiterView, fabric_held, HoldsFabric, Queues, fabric_of, empty_ideal, FabricRun, quiet_limited_slots, none_come, run_with, empty_is, quiet_run, empty_agree_at}
 use Rattle.cq_laws.specs.Quiet.{idled, idled_for, quiet_slots}
 
 -- ## The machines
 
 module _ (ms : List Machine) (ports : ℕ) where
-  idle_is : (ranks : List (List ℕ)) → all_idle ms ports ranks ≡ idled ms ports ranks
-  unfolding idled
-  idle_is ranks = refl
-
-  stays_idle : (count : ℕ) (ranks : List (List ℕ)) → all_idle ms ports ranks ≡ ranks →
+  stays_idle : (count : ℕ) (ranks : List (List ℕ)) → idled ms ports ranks ≡ ranks →
       idled_for ms count ports ranks ≡ ranks
   stays_idle zero ranks same = refl
-  stays_idle (suc count) ranks same = grind (arith, common_steps, idle_is, stays_idle count ranks same)
+  stays_idle (suc count) ranks same = grind (arith, common_steps, stays_idle count ranks same)
 
-  idle_once : (count : ℕ) (ranks rested : List (List ℕ)) → 0 < count → rested ≡ all_idle ms ports ranks →
-      all_idle ms ports rested ≡ rested → idled_for ms count ports ranks ≡ rested
+  idle_once : (count : ℕ) (ranks rested : List (List ℕ)) → 0 < count → rested ≡ idled ms ports ranks →
+      idled ms ports rested ≡ rested → idled_for ms count ports ranks ≡ rested
   idle_once zero ranks rested some is again = absurd (omega arith)
-  idle_once (suc count) ranks rested some is again = grind (arith, common_steps, idle_is, stays_idle)
+  idle_once (suc count) ranks rested some is again = grind (arith, common_steps, stays_idle)
 
 -- ## The fabric
 
@@ -28,8 +24,8 @@ abbrev pub with_ranks : Fabric → List (List ℕ) → Fabric
 with_ranks f ranks = record { inputs = f.inputs; buffers = f.buffers; ranks = ranks }
 
 pub rested_run : (ms : List Machine) (ports count slot : ℕ) (f : Fabric) (rested : List (List ℕ)) → IsEmptyFabric f →
-    length f.buffers ≡ length f.inputs → length f.inputs ≡ ports → 0 < count → rested ≡ all_idle ms ports f.ranks →
-    all_idle ms ports rested ≡ rested →
+    length f.buffers ≡ length f.inputs → length f.inputs ≡ ports → 0 < count → rested ≡ idled ms ports f.ranks →
+    idled ms ports rested ≡ rested →
     FabricRun IsInputBest ms slot (replicate count no_arrivals) f (quiet_slots ms count slot ports f.ranks)
     (record { inputs = f.inputs; buffers = f.buffers; ranks = rested })
 rested_run ms ports count slot f rested empty square long some is again =
@@ -52,7 +48,7 @@ still_held q ranks rested l holds = record { ports = holds.ports; held = holds.h
 pub rested_limited_run : (limits : List (Option ℕ)) (marks : List Bool) (ms : List Machine) (ports count slot : ℕ)
     (f : Fabric) (rested : List (List ℕ)) → IsEmptyFabric f → length f.buffers ≡ length f.inputs →
     length f.inputs ≡ ports → 0 < count →
-    rested ≡ all_idle ms ports f.ranks → all_idle ms ports rested ≡ rested →
+    rested ≡ idled ms ports f.ranks → idled ms ports rested ≡ rested →
     LimitedFabricRun IsInputBest limits ms slot (replicate count no_arrivals) (marked marks f)
     (quiet_limited_slots ms count slot ports f.ranks marks) (marked marks (with_ranks f rested))
 rested_limited_run limits marks ms ports count slot f rested empty square long some is again = run_with IsInputBest

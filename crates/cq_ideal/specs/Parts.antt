@@ -6,7 +6,6 @@ use Rattle.cq_base.specs.Cells.{ArrivedBefore, HasOtherKey, is_for, put}
 use Rattle.cq_rank.specs.Machine.{Machine, machine_at}
 use Rattle.cq_rank.specs.Switch.{AreForOneSwitch}
 use Rattle.cq_ideal.specs.IdealSlot.{IdealState, all_told, rests}
-pub use Rattle.cq_ideal.specs.IdealSlot.{idled as all_idle}
 use Rattle.cq_ideal.specs.Limiter.{HoldsLists, LimiterView}
 use Rattle.cq_ideal.specs.Ranking.{Ranking, after_input}
 
