@@ -4,7 +4,7 @@
 -- of them. Slots that are enough are enough with limits: no more cells are admitted in a slot than come, and there are
 -- as many slots.
 use Rattle.std.proofs.Common.{rules}
-use Rattle.cq_ideal.proofs.Terms.{◌≡◌, ℕ, zero, suc, ◌≤◌, Bool, List, [], ◌∷◌, length, drop, Option, refl, ap, arith, ◌+◌, replicate, Result, Ok, common_steps, All, IfOk, Cell, Arrival, traffic_of, arriving, enough, Machine, Admission, admitted, admitted_in, empty_limited, limited_run, AreJudged, TagFault, no_arrivals, IdealState, Ran, ideal_run, empty_ideal}
+use Rattle.cq_ideal.proofs.Terms.{◌≡◌, ℕ, zero, suc, ◌≤◌, Bool, List, [], ◌∷◌, length, drop, Option, refl, ap, arith, ◌+◌, replicate, Result, Ok, common_steps, IfOk, Cell, Arrival, traffic_of, arriving, enough, Machine, Admission, admitted, admitted_in, empty_limited, limited_run, AreJudged, TagFault, no_arrivals, IdealState, IsEmptyIdeal, Ran, ideal_run, empty_ideal}
 use Rattle.cq_ideal.proofs.Admitted.{its_marks}
 use Rattle.cq_ideal.proofs.Ends.{nothing_left}
 use Rattle.cq_ideal.proofs.FlowCount.{come_count-traffic_of, length-traffic_of, quiet_at_end}
@@ -71,7 +71,7 @@ if_ok P fault f = grind (arith, common_steps)
 -- where no more comes than these arrivals
 emptied : (ms : List Machine) (ports : ℕ) (ranks : List (List ℕ)) (came : List Arrival)
     (traffic : List (List (Option Cell))) (ran : Ran) → ideal_run ms 0 traffic (empty_ideal ports ranks) ≡ Ok ran →
-    ComesNoMore (traffic_of came) traffic → All (λ cells. cells ≡ []) ran.after.lists
+    ComesNoMore (traffic_of came) traffic → IsEmptyIdeal ran.after
 emptied ms ports ranks came traffic ran is less =
     let few = come_count-traffic_of came in
     let slots = length-traffic_of came in
@@ -80,9 +80,8 @@ emptied ms ports ranks came traffic ran is less =
     let quiet = quiet_at_end came in search (arith, rules, less.count, nothing_left, empties)
 
 pub empty_at_end : (ms : List Machine) (ports : ℕ) (ranks : List (List ℕ)) (came : List Arrival) →
-    IfOk (ideal_run ms 0 (traffic_of came) (empty_ideal ports ranks))
-    (λ ran. All (λ cells. cells ≡ []) ran.after.lists)
-empty_at_end ms ports ranks came = if_ok (λ ran. All (λ cells. cells ≡ []) ran.after.lists) _ (λ ran is.
+    IfOk (ideal_run ms 0 (traffic_of came) (empty_ideal ports ranks)) (λ ran. IsEmptyIdeal ran.after)
+empty_at_end ms ports ranks came = if_ok (λ ran. IsEmptyIdeal ran.after) _ (λ ran is.
     emptied ms ports ranks came (traffic_of came) ran is (record { count = λ e. omega arith; slots = refl }))
 
 pub none_after_end : (came : List Arrival) (t : ℕ) → enough came ≤ t → arriving came t ≡ no_arrivals
@@ -92,9 +91,9 @@ none_after_end came t h = none_arrive came t 64 refl (omega arith)
 pub limited_empty_at_end : (limits : List (Option ℕ)) (ms : List Machine) (ports : ℕ) (ranks : List (List ℕ))
     (came : List Arrival) →
     IfOk (limited_run limits ms 0 (traffic_of came) (empty_limited ports ranks))
-    (λ ran. All (λ cells. cells ≡ []) ran.after.state.lists)
+    (λ ran. IsEmptyIdeal ran.after.state)
 limited_empty_at_end limits ms ports ranks came =
     let start = empty_limited ports ranks in
-    if_ok (λ ran. All (λ cells. cells ≡ []) ran.after.state.lists) _ (λ ran is.
+    if_ok (λ ran. IsEmptyIdeal ran.after.state) _ (λ ran is.
     emptied ms ports ranks came (admitted_in ran.admissions) (record { gone = ran.gone; after = ran.after.state })
     (is_run_of limits ms 0 (traffic_of came) start ran is) (search (arith, rules, no_more, judged)))

@@ -3,7 +3,7 @@
 -- empty. And what came in the slots is the flow's arrivals in their order. At what is no port nothing leaves, and
 -- nothing comes for it.
 use Rattle.std.proofs.Common.{rules}
-use Rattle.cq_ideal.proofs.Terms.{common_steps, ◌≡◌, ℕ, zero, suc, ◌+◌, ◌<◌, ◌≤◌, List, [], ◌∷◌, length, map, replicate, Option, Ok, refl, sym, ◌∙◌, ⊎_elim, arith, slice_index_or, All, AllByRecursion, range_with_len, cases_lt, ne_eqb, and_left, cond-false, append-nil, length-replicate, get_or-replicate, get_or_past, Cell, Queued, Arrival, arriving, enough, traffic_of, Machine, machine_at, Ran, ideal_run, empty_ideal, departures_of, left_in_flow, came_in_flow, IsForSwitch, IsRunnable, FlowsLeaveAsTheyCame, all_weaker}
+use Rattle.cq_ideal.proofs.Terms.{common_steps, ◌≡◌, ℕ, zero, suc, ◌+◌, ◌<◌, ◌≤◌, List, [], ◌∷◌, length, map, replicate, Option, Ok, refl, sym, ◌∙◌, ⊎_elim, arith, slice_index_or, All, AllByRecursion, range_with_len, cases_lt, ne_eqb, and_left, cond-false, append-nil, length-replicate, get_or-replicate, get_or_past, Cell, Queued, Arrival, arriving, enough, traffic_of, Machine, machine_at, IsEmptyIdeal, Ran, ideal_run, empty_ideal, departures_of, left_in_flow, came_in_flow, IsForSwitch, IsRunnable, FlowsLeaveAsTheyCame, all_weaker}
 use Rattle.cq_ideal.proofs.FlowRank.{present, AreOfClasses}
 use Rattle.cq_ideal.proofs.FlowRun.{flow_came, passed, no_port}
 use Rattle.cq_ideal.proofs.FlowFound.{all_found, all_present, arriving_is}
@@ -48,7 +48,7 @@ pub left_as_came : (ms : List Machine) (ports : ℕ) (openings : List (List ℕ)
     IsRunnable ms ports openings came → (i c j : ℕ) (traffic : List (List (Option Cell))) (ran : Ran) →
     ideal_run ms 0 traffic (empty_ideal ports openings) ≡ Ok ran →
     AllByRecursion (λ cells. AreOfClasses (machine_at ms j) j (present cells)) traffic →
-    All (λ cells. cells ≡ []) ran.after.lists → (all : List Cell) → flow_came i c j traffic ≡ all →
+    IsEmptyIdeal ran.after → (all : List Cell) → flow_came i c j traffic ≡ all →
     (ports ≤ j → all ≡ []) → left_in_flow i c j (departures_of 0 ran.gone) ≡ all
 left_as_came ms ports openings came runs i c j traffic ran is are over all comes none =
     let nil : List Queued = [] in

@@ -3,7 +3,7 @@
 -- what is admitted of what comes, in its order. The cells of a flow come at its input, and of those that come there
 -- whole packets are admitted; those of the packet that goes on are admitted where the mark of its input is down. So
 -- what leaves of a flow is what came of it, but for the packets that were refused, with all their cells.
-use Rattle.cq_ideal.proofs.Terms.{arith, rules, ◌≡◌, ◌∙◌, ℕ, ◌<◌, Bool, List, [], ◌∷◌, ◌++◌, length, filter, Option, Ok, refl, sym, ap, common_steps, All, slice_index_or, AllByRecursion, append-nil, Cell, KeepsLaws, Machine, machine_at, Admission, Marked, admission, admitted, admitted_in, mark_at, left_in_flow, departures_of, IdealState, LimitedRan, limited_run, AreJudged, AreOfPackets, cells_at, not, Arrival, traffic_of, IsRunnable, came_in_flow, empty_limited, refused_in}
+use Rattle.cq_ideal.proofs.Terms.{arith, rules, ◌≡◌, ◌∙◌, ℕ, ◌<◌, Bool, List, [], ◌∷◌, ◌++◌, length, filter, Option, Ok, refl, sym, ap, common_steps, slice_index_or, AllByRecursion, append-nil, Cell, KeepsLaws, Machine, machine_at, Admission, Marked, admission, admitted, admitted_in, mark_at, left_in_flow, departures_of, IdealState, IsEmptyIdeal, LimitedRan, limited_run, AreJudged, AreOfPackets, cells_at, not, Arrival, traffic_of, IsRunnable, came_in_flow, empty_limited, refused_in}
 use Rattle.cq_ideal.proofs.FlowLaw.{empty_at, all_came, classes, left_as_came, none_came}
 use Rattle.cq_ideal.proofs.AtInput.{comes_at_input}
 use Rattle.cq_ideal.proofs.FlowRank.{AreOfClasses, present}
@@ -42,7 +42,7 @@ filter_both p q (cell ∷ cells) = grind (arith, common_steps, filter_both p q c
 
 module _ (limits : List (Option ℕ)) (ms : List Machine) (slot : ℕ) (traffic : List (List (Option Cell)))
     (old : Marked IdealState) (ran : LimitedRan) (is : limited_run limits ms slot traffic old ≡ Ok ran)
-    (stand : AllByRecursion (StandAt 0) traffic) (over : All (λ cells. cells ≡ []) ran.after.state.lists) where
+    (stand : AllByRecursion (StandAt 0) traffic) (over : IsEmptyIdeal ran.after.state) where
   pub each_judged : AreJudged limits old.marks traffic ran.admissions
   each_judged = judged limits ms slot traffic old ran is
 
@@ -92,7 +92,7 @@ in_packets limits ms ports openings came ran runs is i packets =
     let start = empty_limited ports openings in
     let traffic = traffic_of came in
     let stand = all_stand came in
-    let over : All (λ cells. cells ≡ []) ran.after.state.lists =
+    let over : IsEmptyIdeal ran.after.state =
     grind (arith, common_steps, limited_empty_at_end limits ms ports openings came) in
     let whole = whole_on limits ms 0 traffic start ran is stand over i 0 packets in
     let takes = λ (cells : List Cell). filter (λ (cell : Cell). whole.is_taken cell.id.packet) cells in (

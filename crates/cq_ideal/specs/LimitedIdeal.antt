@@ -1,6 +1,6 @@
 -- The ideal switch where outputs have limits: what is admitted of a slot's arrivals goes through the slot without
 -- limits.
-use Rattle.std.specs.Prelude.{◌≡◌, ℕ, ◌+◌, List, [], ◌∷◌, length, map, replicate, All, IfOk, Option, None, Result, Ok, Err}
+use Rattle.std.specs.Prelude.{◌≡◌, ℕ, ◌+◌, List, [], ◌∷◌, length, map, replicate, IfOk, Option, None, Result, Ok, Err}
 use Rattle.cq_base.specs.declared.cell.Cell.{Cell}
 use Rattle.cq_base.specs.declared.cell.Queued.{Queued}
 use Rattle.cq_base.specs.declared.cell.TagFault.{TagFault}
@@ -9,7 +9,7 @@ use Rattle.cq_base.specs.Arriving.{Arrival, traffic_of}
 use Rattle.cq_rank.specs.Machine.{Machine}
 use Rattle.cq_ideal.specs.Admission.{Admission, Marked, NoLimits, admission, marked, nothing_refused, unmarked}
 use Rattle.cq_ideal.specs.IdealSlot.{IdealState, Sent, ideal_slot}
-use Rattle.cq_ideal.specs.IdealRun.{Ran, ideal_run, empty_ideal}
+use Rattle.cq_ideal.specs.IdealRun.{IsEmptyIdeal, Ran, ideal_run, empty_ideal}
 
 -- an ideal output holds the cells of its list
 abbrev pub ideal_held : IdealState → List ℕ
@@ -114,4 +114,4 @@ abbrev pub LimitedRunIsWhole : Type 0
 LimitedRunIsWhole =
     (limits : List (Option ℕ)) (ms : List Machine) (ports : ℕ) (ranks : List (List ℕ)) (came : List Arrival) →
     IfOk (limited_run limits ms 0 (traffic_of came) (empty_limited ports ranks))
-    (λ ran. All (λ cells. cells ≡ []) ran.after.state.lists)
+    (λ ran. IsEmptyIdeal ran.after.state)

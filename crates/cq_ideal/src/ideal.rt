@@ -1,5 +1,5 @@
 //! The ideal switch, slot by slot.
-ghost use Rattle.std.specs.Prelude.{◌≡◌, ◌↔◌, ◌<◌, IsTrue, false, is_err, All, IfOk, OnErr, [], length, map};
+ghost use Rattle.std.specs.Prelude.{◌≡◌, ◌↔◌, ◌<◌, IsTrue, false, is_err, IfOk, OnErr, length, map};
 ghost use Rattle.cq_ideal.specs.Terms.{AreForOneSwitch, fresh_ideal, answer_to, its_slot, IsEmptyIdeal, CanHaveSlot, HasHadSlot, IsSameSwitch, IsUnchanged, HasRested};
 
 use crate::Refused;
@@ -152,7 +152,7 @@ impl<R: Rank> Ideal<R> {
 
     /// Whether no cell waits.
     pub fn empty(&self) -> bool
-        ensures { IsTrue result ↔ All (λ cells. cells ≡ []) self.now.state.lists }
+        ensures { IsTrue result ↔ IsEmptyIdeal self.now.state }
     {
         self.queues.are_empty()
     }
