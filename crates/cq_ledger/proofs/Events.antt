@@ -1,9 +1,7 @@
 -- Each kind of step keeps the rule. A proposal is the event of the hand's input on the state that words and views show,
 -- and every other kind of step leaves that state as it is: the list of events behind the rule is the same, or longer by
 -- that input.
-use Rattle.std.proofs.Common.{arith}
-use Rattle.std.proofs.Common.{rules}
-use Rattle.cq_ledger.proofs.Terms.{ℕ, suc, ◌≡◌, ◌≢◌, ◌<◌, ◌≤◌, ◌++◌, List, [], ◌∷◌, get_or, set, Some, None, refl, sym, ◌∙◌, ap, set-get_or, set_again, Orders, AreOffers, ports, State, next_place, position_held, next_output, start, propose, outcome_of, state_after, IsFree, output_in_range, next_output-offered, View, IsLedger, core_state, first_words, blank, output_at, words_proposed, proposed, answer_of, words_claimed, claim_taken, claim_refused, joined, spent, Sits, IsClaimed, IsUnclaimed}
+use Rattle.cq_ledger.proofs.Terms.{ℕ, suc, ◌≡◌, ◌≢◌, ◌<◌, ◌≤◌, ◌++◌, List, [], ◌∷◌, get_or, set, Some, None, refl, sym, ◌∙◌, ap, set-get_or, set_again, Orders, AreOffers, ports, State, next_place, next_output, start, propose, outcome_of, state_after, IsFree, output_in_range, next_output-offered, View, IsLedger, core_state, first_words, blank, output_at, words_proposed, proposed, answer_of, words_claimed, claim_taken, claim_refused, joined, spent, Sits, IsClaimed, IsUnclaimed}
 use Rattle.cq_ledger.proofs.Claiming.{claim-keeps}
 use Rattle.cq_ledger.proofs.CoreState.{core_state-is}
 use Rattle.cq_ledger.proofs.Proposing.{propose-keeps}
@@ -43,15 +41,12 @@ module _ (o : Orders) (words : List ℕ) (views : List View) (k : IsLedger o wor
         let k' = propose-keeps o words views k id i v at (rw here hand) same_offers in
         rw (is, ← here) (core_state-is o _ _ k')
 
-    outcome-now : answer_of o i (next_place s i) (position_held s (next_output o s i)) ≡ outcome_of o s i
-    unfolding answer_of outcome_of
-    outcome-now = refl
-
     pub proposal-outcome : answer_of o i p (get_or words (suc (output_at o i p)) 0)
         ≡ outcome_of o (core_state o words views) i
     proposal-outcome =
         let f = k.hands.free id i p v at hand in
-        search (arith, rules, output_in_range, next_output-offered, is, here, outcome-now)
+        let r = output_in_range o k.offers i (next_output o s i) (next_output-offered o k.offers s i f.left) in
+        rw (is, ← here) (ap (answer_of o i (next_place s i)) (k.positions (next_output o s i) r))
 
   module _ (i : ℕ) where
     pub taken-shows : i < ports o → IsUnclaimed words i → v.hand ≡ None → v.offers ≡ o →

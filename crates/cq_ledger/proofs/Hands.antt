@@ -1,10 +1,6 @@
 -- What one proposal does to the hand that made it, and to the free inputs: who is free after it is in the new hand, or
 -- was free before.
-use Rattle.cq_ledger.proofs.Terms.{common_steps, rules, ℕ, ◌≡◌, ◌≢◌, ◌⊎◌, ◌+◌, ◌<◌, ◌≤◌, length, get_or, Option, Some, None, refl, sym, ◌∙◌, ap, arith, ⊎_elim, cases_lt, cases_eq, ltb-true, lt-ltb, le-ltb, eq-eqb, ne_eqb, Orders, AreOffers, ports, outputs_of, inputs_of, place_of, position_of, IsStep, step, State, position_held, next_place, Holds, IsFree, next_output, propose, holder, IsSound, Outcome, hand_at, hand_after, output_at, answer_of, get_or-place_in, same_at_place, output_in_range, position_of-at, inputs_at_most}
-
-pub holder-holds : (o : Orders) → AreOffers o → (s : State) → IsSound o s → (j : ℕ) → j < ports o →
-    position_held s j ≢ ports o → Holds o s j (holder o s j)
-holder-holds o v s w j r n = grind (arith, common_steps, w.held_in j r, position_of-at o v j (position_held s j))
+use Rattle.cq_ledger.proofs.Terms.{common_steps, rules, ℕ, ◌≡◌, ◌≢◌, ◌⊎◌, ◌+◌, ◌<◌, ◌≤◌, length, get_or, Option, Some, None, refl, sym, ◌∙◌, ap, arith, ⊎_elim, cases_lt, cases_eq, ltb-true, lt-ltb, le-ltb, eq-eqb, ne_eqb, Orders, AreOffers, ports, outputs_of, inputs_of, place_of, position_of, IsStep, step, State, position_held, next_place, Holds, IsFree, next_output, propose, holder, IsSound, Outcome, hand_at, hand_after, output_at, answer_of, get_or-place_in, same_at_place, output_in_range, holder-holds, inputs_at_most}
 
 pub hand_at-shows : (o : Orders) (k p i q : ℕ) → hand_at o k p ≡ Some (i, q) →
     (k ≡ i) × (p ≡ q) × (p < length (outputs_of o k))

@@ -1,6 +1,5 @@
 -- The matching is read off the words, one output after another.
-use Rattle.cq_ledger.proofs.Terms.{rules, ℕ, ◌≡◌, ◌≢◌, ◌+◌, ◌<◌, List, length, get_or, set, Option, Some, None, refl, sym, ◌∙◌, ap, arith, add-one, common_steps, cases_eq, get_or-set_same, get_or-set_other, length-set, Orders, AreOffers, ports, outputs_of, inputs_of, Partners, partner_of, matching_of-is, State, position_held, Holds, holder, matching_of, IsSound, same_at_place, input_in_range, output_in_range, inputs_at_most, some, get_elem?, Shows}
-use Rattle.cq_ledger.proofs.Hands.{holder-holds}
+use Rattle.cq_ledger.proofs.Terms.{rules, ℕ, ◌≡◌, ◌≢◌, ◌+◌, ◌<◌, List, length, get_or, set, Option, Some, None, refl, sym, ◌∙◌, ap, arith, add-one, common_steps, cases_eq, get_or-set_same, get_or-set_other, length-set, Orders, AreOffers, ports, outputs_of, inputs_of, Partners, partner_of, matching_of-is, State, position_held, Holds, holder, matching_of, IsSound, same_at_place, input_in_range, output_in_range, inputs_at_most, holder-holds, some, get_elem?, Shows}
 use Rattle.cq_ledger.proofs.Views.{at_known}
 
 -- the matching has the pairs of the outputs below n and of those whom they hold, and no others

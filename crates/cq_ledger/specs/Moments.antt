@@ -4,12 +4,12 @@ use Rattle.std.specs.List.{sum_by}
 use Rattle.cq_prefs.specs.LeastFirst.{best}
 use Rattle.cq_prefs.specs.Orders.{Orders, ports, outputs_of, place_of, position_of}
 use Rattle.cq_prefs.specs.Pairing.{partner_of}
-use Rattle.cq_prefs.specs.Proposals.{State, next_place, Holds, IsFree, outcome_of, propose, state_after, AreEvents}
+use Rattle.cq_prefs.specs.Proposals.{State, next_place, Holds, IsFree, answer_of, outcome_of, output_at, propose, state_after, AreEvents}
 use Rattle.cq_ledger.specs.declared.view.View.{View}
 use Rattle.cq_ledger.specs.Plays.{IsWord}
 use Rattle.cq_ledger.specs.Rule.{IsLedger}
 use Rattle.cq_ledger.specs.Shown.{core_state}
-use Rattle.cq_ledger.specs.Steps.{answer_of, output_at, proposed, words_proposed}
+use Rattle.cq_ledger.specs.Steps.{proposed, words_proposed}
 use Rattle.cq_ledger.specs.Views.{Sits, IsUnclaimed, IsInAHand}
 
 -- words and views that meet the rule, and the view of one of the seats

@@ -2,9 +2,10 @@
 use Rattle.std.specs.Prelude.{ℕ, ◌≡◌, ◌≢◌, ◌≤◌, ◌<◌, ◌*◌, ◌^◌, ◌⊎◌, length, Some}
 use Rattle.atomic_table.specs.Table.{State, Me, Step}
 use Rattle.cq_prefs.specs.Orders.{Orders, ports, inputs_of, position_of}
+use Rattle.cq_prefs.specs.Proposals.{output_at}
 use Rattle.cq_ledger.specs.declared.view.View.{View}
 use Rattle.cq_ledger.specs.Rule.{IsLedger}
-use Rattle.cq_ledger.specs.Steps.{output_at, proposed, claim_taken, claim_refused}
+use Rattle.cq_ledger.specs.Steps.{proposed, claim_taken, claim_refused}
 use Rattle.cq_ledger.specs.Views.{bit, HasClaimed, HasSeen}
 
 -- a seat's view, and the slots that it took: a ledger has none

@@ -2,10 +2,11 @@
 use Rattle.std.specs.Prelude.{ℕ, ◌≡◌, ◌<◌}
 use Rattle.atomic_table.specs.Seated.{TableId}
 use Rattle.cq_prefs.specs.Orders.{Orders, ports}
+use Rattle.cq_prefs.specs.Proposals.{answer_of}
 use Rattle.cq_prefs.specs.declared.outcome.Outcome.{Outcome}
 use Rattle.cq_ledger.specs.declared.view.View.{View}
 use Rattle.cq_ledger.specs.Plays.{IsOtherWord}
-use Rattle.cq_ledger.specs.Steps.{answer_of, proposing}
+use Rattle.cq_ledger.specs.Steps.{proposing}
 use Rattle.cq_ledger.specs.Views.{HasClaimed}
 
 -- a ledger: which one it is, and its offers

@@ -8,8 +8,9 @@
 --   look, after a join        load of word 0                    none
 --   claim                     fetch_or on word 0                the claiming seat's
 --   proposal                  fetch_min on an output's word     the proposing seat's
-use Rattle.std.specs.Prelude.{ℕ, suc, ◌+◌, ◌∷◌, ◌^◌, ◌==◌, List, [], length, Option, Some, None, slice_index, slice_set, nat_lt, if◌then◌else◌, min, replicate, bit_or}
-use Rattle.cq_prefs.specs.Orders.{Orders, ports, outputs_of, inputs_of, place_of, position_of}
+use Rattle.std.specs.Prelude.{ℕ, suc, ◌+◌, ◌∷◌, ◌^◌, List, [], length, Option, Some, None, slice_index, slice_set, nat_lt, if◌then◌else◌, min, replicate, bit_or}
+use Rattle.cq_prefs.specs.Orders.{Orders, ports, outputs_of, place_of, position_of}
+use Rattle.cq_prefs.specs.Proposals.{answer_of, output_at}
 use Rattle.cq_prefs.specs.declared.outcome.Outcome.{Outcome}
 use Rattle.cq_prefs.specs.declared.outcome.Outcome.TheVariants.{Held, Displaced, Rejected}
 use Rattle.cq_ledger.specs.declared.view.View.{View}
@@ -66,24 +67,11 @@ claim_refused v i = record {
 
 -- ## A proposal
 
--- the output at place p of the order of input i
-abbrev pub output_at : Orders → ℕ → ℕ → ℕ
-output_at o i p = slice_index (outputs_of o i) p
-
 -- the words after input i proposed at place p: the output's word is the lesser of itself and the input's position
 abbrev pub words_proposed : Orders → List ℕ → ℕ → ℕ → List ℕ
 words_proposed o words i p =
     slice_set words (suc (output_at o i p)) (min (slice_index words (suc (output_at o i p)))
     (position_of o (output_at o i p) i))
-
--- what the proposal comes to where the word was this one: the output held nobody, it held one that it prefers less,
--- or it keeps one that it prefers more
-unfoldable pub answer_of : Orders → ℕ → ℕ → ℕ → Outcome
-answer_of o i p found =
-    if found == ports o then Held
-    else if nat_lt (position_of o (output_at o i p) i) found then Displaced
-    (slice_index (inputs_of o (output_at o i p)) found)
-    else Rejected
 
 -- the hand after it: empty; or with the displaced input, at the place after this output; or with the same input, at its
 -- next place

@@ -1,8 +1,9 @@
 //! What an input asks, and what the word that it found comes to.
 ghost use Rattle.std.specs.Prelude.{◌≡◌, ◌<◌, ◌≤◌, ◌+◌, length};
 ghost use Rattle.cq_prefs.specs.Orders.{AreOffers, IsOffered, ports, outputs_of, place_of, position_of};
+ghost use Rattle.cq_prefs.specs.Proposals.{answer_of, output_at};
 ghost use Rattle.cq_ledger.specs.Plays.{IsOtherWord};
-ghost use Rattle.cq_ledger.specs.Steps.{answer_of, hand_after, hand_at, output_at};
+ghost use Rattle.cq_ledger.specs.Steps.{hand_after, hand_at};
 
 use cq_base::Port;
 use cq_prefs::{Offers, Outcome};
@@ -50,7 +51,7 @@ pub(crate) fn asked_by(offers: &Offers, input: Port, place: u16) -> Asked
 }
 
 /// What a proposal comes to where the output's word was this one.
-#[tactic(auto, unfolding(crate::specs::Steps::answer_of))]
+#[tactic(auto, unfolding(cq_prefs::specs::Proposals::answer_of))]
 pub(crate) fn answered(
     offers: &Offers,
     input: Port,

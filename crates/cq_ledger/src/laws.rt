@@ -5,12 +5,12 @@
 //! step is atomic, and the rule holds between any two. So the laws hold of every run of any number of threads.
 ghost use Rattle.std.specs.Prelude.{◌≡◌, ◌≢◌, ℕ, suc, ◌<◌, ◌≤◌, ◌++◌, List, [], ◌∷◌, Some, None, slice_index, slice_set};
 ghost use Rattle.cq_prefs.specs.Orders.{Orders, AreOffers, ports};
-ghost use Rattle.cq_prefs.specs.Proposals.{start};
+ghost use Rattle.cq_prefs.specs.Proposals.{output_at, start};
 ghost use Rattle.cq_ledger.specs.declared.view.View.{View};
 ghost use Rattle.cq_ledger.specs.Moments.{IsEvent, IsMoment, ShowsProposals};
 ghost use Rattle.cq_ledger.specs.Rule.{IsLedger};
 ghost use Rattle.cq_ledger.specs.Shown.{core_state};
-ghost use Rattle.cq_ledger.specs.Steps.{blank, claim_refused, claim_taken, first_words, joined, output_at, proposed, spent, words_claimed, words_proposed};
+ghost use Rattle.cq_ledger.specs.Steps.{blank, claim_refused, claim_taken, first_words, joined, proposed, spent, words_claimed, words_proposed};
 ghost use Rattle.cq_ledger.specs.Views.{IsClaimed, IsUnclaimed, Sits};
 
 /// What each kind of step does to the state of the proposal core that words and views show, wherever the rule

@@ -1,10 +1,10 @@
 -- The steps of one proposal put together: the input goes on to its next place, whom the output held is parted, and
 -- the output takes the input. What is then shown is the state after the event, with its pairs, its free inputs and
 -- its count.
-use Rattle.cq_pair.proofs.Terms.{common_steps, rules, ℕ, ◌≡◌, ◌≢◌, ◌+◌, ◌<◌, ◌≤◌, ◌∷◌, mul-le-mul, List, length, get_or, set, None, refl, sym, ◌∙◌, ap, arith, lt-ltb, eq-eqb, ne_eqb, get_or-set_other, length-set, Orders, ports, inputs_of, position_of, partner_of, IsFreeInput, State, position_held, Holds, IsSound, next_output, holder, propose, outcome_of, matching_of, input_in_range, inputs_at_most, events_at_most, matching-of, partner-free, partner-from, Progress, IsReached, IsAsk, MovesOn, Parts, CanTake, Takes}
+use Rattle.cq_pair.proofs.Terms.{common_steps, rules, ℕ, ◌≡◌, ◌≢◌, ◌+◌, ◌<◌, ◌≤◌, ◌∷◌, mul-le-mul, List, length, get_or, set, None, refl, sym, ◌∙◌, ap, arith, lt-ltb, eq-eqb, ne_eqb, get_or-set_other, length-set, Orders, ports, inputs_of, position_of, partner_of, IsFreeInput, State, position_held, Holds, IsSound, next_output, holder, propose, answer_of, outcome_of, matching_of, input_in_range, inputs_at_most, events_at_most, holder-holds, matching-of, partner-free, partner-from, Progress, IsReached, IsAsk, MovesOn, Parts, CanTake, Takes}
 use Rattle.cq_prefs.specs.declared.outcome.Outcome.{Outcome}
 use Rattle.cq_prefs.specs.declared.outcome.Outcome.TheVariants.{Held, Displaced, Rejected}
-use Rattle.cq_pair.proofs.Turns.{state-refused, state-taken, matching-refused, unheld-empty, matching-empty, holder-is, unheld-parted, matching-displaced}
+use Rattle.cq_pair.proofs.Turns.{state-refused, state-taken, matching-refused, unheld-empty, matching-empty, unheld-parted, matching-displaced}
 use Rattle.cq_pair.proofs.Reached.{sound-reached, free_known, asked_known, asked_offered, reached-step}
 
 -- what is shown after the proposal of input i
@@ -52,7 +52,7 @@ module _ {o : Orders} {c : Progress} {i j p h : ℕ} (a : IsAsk o c i j p h) whe
 
     -- the output keeps whom it holds
     pub rejected : h < p → Proposed o c d i Rejected
-    unfolding outcome_of
+    unfolding answer_of
     rejected less =
         search (rules, sound, inputs_at_most, asked_offered, state-refused, reached-step, matching-refused)
 
@@ -67,7 +67,7 @@ module _ {o : Orders} {c : Progress} {i j p h : ℕ} (a : IsAsk o c i j p h) whe
         search (arith, rules, known, sizes, free_input, unheld-empty o a.offers c.state)
 
     pub holding : p ≤ h → h ≡ ports o → {e : Progress} → Takes o d e i j p → Proposed o c e i Held
-    unfolding outcome_of
+    unfolding answer_of
     holding l nobody t =
         let event = taken l refl t in
         search (arith, rules, sound, eq-eqb, matching-empty, taken_less, reached-step)
@@ -80,7 +80,7 @@ module _ {o : Orders} {c : Progress} {i j p h : ℕ} (a : IsAsk o c i j p h) whe
       other_held e = n (a.held ∙ e ∙ sym count_is)
 
       holds_other : Holds o c.state (next_output o c.state i) k
-      holds_other = search (rules, holder-is, sound, next_known, other_held)
+      holds_other = search (rules, holder-holds, sound, next_known, other_held)
 
       pub can_part : (k < ports o) × (length d.state.places ≡ ports o) × (length d.matching ≡ ports o)
           × (partner_of d.matching k ≢ None)
@@ -98,7 +98,7 @@ module _ {o : Orders} {c : Progress} {i j p h : ℕ} (a : IsAsk o c i j p h) whe
             search (arith, rules, known, sizes, still_free, parted, length-set, unheld-parted, next_known, other_held)
 
         pub displaced : p ≤ h → {f : Progress} → Takes o e f i j p → Proposed o c f i (Displaced k)
-        unfolding outcome_of
+        unfolding answer_of
         displaced l t =
             let event = taken l s.state t in
             let less = taken_less in
@@ -106,5 +106,7 @@ module _ {o : Orders} {c : Progress} {i j p h : ℕ} (a : IsAsk o c i j p h) whe
 
   pub held_inside : h ≢ ports o → h < length (inputs_of o j)
   held_inside n =
-      let b = (holder-is o a.offers c.state sound (next_output o c.state i) next_known (λ e. n (a.held ∙ e))).0 in
+      let hold = holder-holds o a.offers c.state sound (next_output o c.state i) next_known (λ e. n (a.held ∙ e)) in
+      let at = hold.0 in
+      let within = hold.1 in
       let e = ap (λ x. length (inputs_of o x)) a.output in omega arith

@@ -1,7 +1,7 @@
 -- What one proposal does to the pairs of those who are held. One that is refused leaves them. Otherwise the asked
 -- output takes the input, and whom it held is parted. All others stay: no other output holds the input, since it was
 -- free, and the input that is parted was held nowhere else.
-use Rattle.cq_pair.proofs.Terms.{same_Some, held_once, common_steps, ℕ, ◌≡◌, ◌≢◌, ◌+◌, ◌<◌, ◌≤◌, length, set, Some, None, refl, sym, ◌∙◌, ap, arith, cases_eq, get_or-set_same, get_or-set_other, set-get_or, length-set, Orders, AreOffers, ports, inputs_of, position_of, Partners, partner_of, State, position_held, next_place, Holds, IsFree, IsSound, next_output, holder, propose, matching_of, same_at_place, input_in_range, output_in_range, position_of-at, inputs_at_most, IsStep, step, sound-step, matching-of, matching_of-is, partner-holds, partner-from}
+use Rattle.cq_pair.proofs.Terms.{same_Some, held_once, common_steps, ℕ, ◌≡◌, ◌≢◌, ◌+◌, ◌<◌, ◌≤◌, length, set, Some, None, refl, sym, ◌∙◌, ap, arith, cases_eq, get_or-set_same, get_or-set_other, set-get_or, length-set, Orders, AreOffers, ports, inputs_of, position_of, Partners, partner_of, State, position_held, next_place, Holds, IsFree, IsSound, next_output, holder, propose, matching_of, same_at_place, input_in_range, output_in_range, holder-holds, inputs_at_most, IsStep, step, sound-step, matching-of, matching_of-is, partner-holds, partner-from}
 
 -- a proposal that is refused changes no position that is held
 pub state-refused : (o : Orders) (s : State) (i : ℕ) →
@@ -25,16 +25,12 @@ module _ (o : Orders) (v : AreOffers o) (s : State) (w : IsSound o s) where
   pub unheld-empty : (j : ℕ) → position_held s j ≡ ports o → (k : ℕ) → partner_of (matching_of o s) k ≢ Some j
   unheld-empty j e k h = omega (arith, partner-holds o v s k j h, inputs_at_most o v j)
 
-  pub holder-is : (j : ℕ) → j < ports o → position_held s j ≢ ports o →
-      (position_held s j < length (inputs_of o j)) × Holds o s j (holder o s j)
-  holder-is j r n = grind (arith, common_steps, w.held_in j r, position_of-at o v j (position_held s j))
-
   -- the matching without the holder
   module _ (j : ℕ) (r : j < ports o) (n : position_held s j ≢ ports o) where
     parted : (k q : ℕ) → partner_of (set (matching_of o s) (holder o s j) None) k ≡ Some q → Holds o s q k × (q ≢ j)
     parted k q e =
-        let held = holder-is j r n in
-        let known = input_in_range o (holder o s j) j (v.shown_back (holder o s j) j held.1.1) in
+        let held = holder-holds o v s w j r n in
+        let known = input_in_range o (holder o s j) j (v.shown_back (holder o s j) j held.1) in
         let size = (matching-of o v s).size in
         let gone = get_or-set_same (matching_of o s) (holder o s j) None None (omega arith) in
         let stays = get_or-set_other (matching_of o s) (holder o s j) k None None in
@@ -99,8 +95,8 @@ module _ (o : Orders) (v : AreOffers o) (s : State) (w : IsSound o s) where
           let j : ℕ = next_output o s i in
           let r = output_in_range o v i j st.offered in
           let k' : ℕ = holder o s j in
-          let held = holder-is j r n in
+          let held = holder-holds o v s w j r n in
           matching-taken (set (matching_of o s) k' None) (length-set (matching_of o s) _ _ ∙ (matching-of o v s).size)
           (parted j r n) (λ k q a m.
-          let apart : k ≢ k' = λ e. m (held_once o v s w k' q j (rw e at a) held.1) in
+          let apart : k ≢ k' = λ e. m (held_once o v s w k' q j (rw e at a) held) in
           get_or-set_other (matching_of o s) k' k None None apart ∙ partner-from o v s w k q a)

@@ -1,8 +1,8 @@
 -- Who holds whom in a state that events reach. The test computes what is said, and an input is held by one output at
 -- most, the one that it asked last. So the matching of the state has exactly the pairs of an output and the input that
 -- it holds.
-use Rattle.cq_prefs.proofs.Terms.{rules, ℕ, ◌≡◌, ◌⊎◌, ◌<◌, Bool, true, List, [], ◌∷◌, length, Option, Some, None, refl, sym, ◌∙◌, ap, arith, ⊎_elim, common_steps, find, is_none, range_with_len, cases_lt, cond_both, ltb-true, lt-ltb, eqb-true, eq-eqb, and_parts, and_from, true≢false, get_or_past, ext_get_or, length-map-range_with_len, get_or-map-range_with_len, Orders, AreOffers, ports, inputs_of, Partners, partner_of, IsMatching, State, Holds, IsFree, IsSound, holds, keeper, is_free, matching_of}
-use Rattle.cq_prefs.proofs.Places.{same_at_place, input_in_range, output_in_range}
+use Rattle.cq_prefs.proofs.Terms.{rules, ℕ, ◌≡◌, ◌≢◌, ◌⊎◌, ◌<◌, Bool, true, List, [], ◌∷◌, length, Option, Some, None, refl, sym, ◌∙◌, ap, arith, ⊎_elim, common_steps, find, is_none, range_with_len, cases_lt, cond_both, ltb-true, lt-ltb, eqb-true, eq-eqb, and_parts, and_from, true≢false, get_or_past, ext_get_or, length-map-range_with_len, get_or-map-range_with_len, Orders, AreOffers, ports, inputs_of, Partners, partner_of, IsMatching, State, Holds, IsFree, IsSound, holder, holds, position_held, keeper, is_free, matching_of}
+use Rattle.cq_prefs.proofs.Places.{same_at_place, input_in_range, output_in_range, position_of-at}
 use Rattle.cq_prefs.proofs.Members.{Among, in_range}
 
 -- ## The one that passes a test
@@ -23,6 +23,11 @@ holds-yes o s i j h = let parts = and_parts _ _ h in (eqb-true _ _ parts.0, ltb-
 
 holds-from : (o : Orders) (s : State) (i j : ℕ) → Holds o s j i → holds o s i j ≡ true
 holds-from o s i j h = and_from _ _ (eq-eqb _ _ h.0) (lt-ltb _ _ h.1)
+
+-- an output that does not hold nobody holds its holder
+pub holder-holds : (o : Orders) → AreOffers o → (s : State) → IsSound o s → (j : ℕ) → j < ports o →
+    position_held s j ≢ ports o → Holds o s j (holder o s j)
+holder-holds o v s w j r n = grind (arith, common_steps, w.held_in j r, position_of-at o v j (position_held s j))
 
 -- one output at most holds an input
 pub held_once : (o : Orders) → AreOffers o → (s : State) → IsSound o s → (i j k : ℕ) → Holds o s j i → Holds o s k i →

@@ -11,7 +11,7 @@ pub use Rattle.cq_prefs.specs.Orders.{AreOffers, IsListed, IsOffered, Orders, in
 unfoldable pub use Rattle.cq_prefs.specs.Orders.{place_in}
 pub use Rattle.cq_prefs.specs.Padded.{IsPadded, length_shown}
 pub use Rattle.cq_prefs.specs.Pairing.{ArePairs, HasBetterInput, HasBetterOutput, IsFreeOutput, IsInputBest, IsMatching, IsStable, Partners, depth, partner_of, proposals, spent, with_pair, without_pair}
-pub use Rattle.cq_prefs.specs.Proposals.{AreEvents, Holds, IsFree, IsQuiescent, IsSound, State, holds, next_output, next_place, position_held, state_after}
+pub use Rattle.cq_prefs.specs.Proposals.{AreEvents, Holds, IsFree, IsQuiescent, IsSound, State, holder, holds, next_output, next_place, position_held, state_after}
 unfoldable pub use Rattle.cq_prefs.specs.Proposals.{is_free, keeper, matching_of, propose, start}
 pub use Rattle.cq_prefs.specs.Renewal.{AreSameWithout, is_pair, is_partner, without}
 pub use Rattle.cq_base.proofs.Each.{few_kept, one_there}

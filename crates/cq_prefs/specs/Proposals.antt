@@ -38,9 +38,13 @@ pub record IsFree (o : Orders) (s : State) (i : ℕ) : Type 0 where
 abbrev pub IsQuiescent : Orders → State → Type 0
 IsQuiescent o s = (i : ℕ) → IsFree o s i → ⊥
 
+-- the output at place p of the order of input i
+abbrev pub output_at : Orders → ℕ → ℕ → ℕ
+output_at o i p = slice_index (outputs_of o i) p
+
 -- the output to which input i proposes next
 abbrev pub next_output : Orders → State → ℕ → ℕ
-next_output o s i = slice_index (outputs_of o i) (next_place s i)
+next_output o s i = output_at o i (next_place s i)
 
 -- the one event, input i proposes: the output takes it where it holds nobody or a greater position, and the input goes
 -- on to its next place
@@ -57,14 +61,18 @@ propose o s i =
 abbrev pub holder : Orders → State → ℕ → ℕ
 holder o s j = slice_index (inputs_of o j) (position_held s j)
 
--- what the proposal of input i comes to: the output held nobody, it held one that it prefers less, or it keeps one that
--- it prefers more
-unfoldable pub outcome_of : Orders → State → ℕ → Outcome
-outcome_of o s i =
-    if position_held s (next_output o s i) == ports o then Held
-    else if nat_lt (position_of o (next_output o s i) i) (position_held s (next_output o s i)) then Displaced
-    (holder o s (next_output o s i))
+-- what a proposal of input i at place p comes to where the output held this position: it held nobody, it held one that
+-- it prefers less, or it keeps one that it prefers more
+unfoldable pub answer_of : Orders → ℕ → ℕ → ℕ → Outcome
+answer_of o i p held =
+    if held == ports o then Held
+    else if nat_lt (position_of o (output_at o i p) i) held then Displaced
+    (slice_index (inputs_of o (output_at o i p)) held)
     else Rejected
+
+-- what the proposal of input i comes to
+abbrev pub outcome_of : Orders → State → ℕ → Outcome
+outcome_of o s i = answer_of o i (next_place s i) (position_held s (next_output o s i))
 
 -- the state after these events, of which the latest stands first
 abbrev pub state_after : Orders → List ℕ → State
