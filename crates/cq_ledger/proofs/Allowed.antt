@@ -1,11 +1,11 @@
 -- The rule allows each kind of step, and what each tells its seat is so.
-use Rattle.cq_ledger.proofs.Terms.{rules, ℕ, suc, ◌≡◌, ◌≢◌, ◌⊎◌, ◌*◌, ◌<◌, ◌≤◌, ◌^◌, min, List, get_or, set, Some, None, sym, ◌∙◌, arith, bit_or, ⊎_elim, common_steps, none, cases_eq, set-get_or, get_or-le-sum_by, set_here, set_else, set_again, Orders, ports, position_of, IsOffered, state_after, events_at_most, output_in_range, sound-after, next_output-offered, View, Seated, Ruled, IsWord, proposal, IsClaim, claim, look, IsLedger, output_at, words_proposed, proposed, words_claimed, claim_taken, claim_refused, blank, joined, spent, Sits, bit, claim_word}
+use Rattle.cq_ledger.proofs.Terms.{rules, ℕ, suc, ◌≡◌, ◌≢◌, ◌⊎◌, ◌*◌, ◌<◌, ◌≤◌, ◌^◌, min, List, get_or, set, Some, None, refl, sym, ◌∙◌, arith, bit_or, ⊎_elim, common_steps, none, cases_eq, get_or-le-sum_by, set_here, set_else, set_again, Orders, ports, position_of, IsOffered, state_after, events_at_most, output_in_range, sound-after, next_output-offered, View, Seated, Ruled, IsWord, proposal, IsClaim, claim, look, IsLedger, output_at, words_proposed, proposed, words_claimed, claim_taken, claim_refused, blank, joined, spent, Sits, bit, claim_word}
 use Rattle.atomic_table.specs.Table.{step, Allows, Splits, Joins}
 use Rattle.cq_ledger.proofs.Claiming.{claim-keeps}
+use Rattle.cq_ledger.proofs.Events.{refused-keeps}
 use Rattle.cq_ledger.proofs.Proposing.{propose-keeps}
-use Rattle.cq_ledger.proofs.Refusing.{refuse-keeps}
 use Rattle.cq_ledger.proofs.Seats.{split-keeps, join-keeps}
-use Rattle.cq_ledger.proofs.Views.{at_known, bit-lt, or_set, one_power}
+use Rattle.cq_ledger.proofs.Views.{at_known, bit-lt, one_power}
 
 -- what one seat made is at most the square of the ports
 pub made-most : (o : Orders) (words : List ℕ) (views : List View) (k : IsLedger o words views) (id : ℕ) (v : View) →
@@ -59,10 +59,26 @@ module _ (o : Orders) (slots id i : ℕ) (me : Seated) (r : i < ports o) (empty 
   May v = IsLedger o (words_claimed s.words i) (set s.views id v) × IsClaim me i found (v, me.1)
 
   may_take : bit found i ≡ 0 → May (claim_taken me.0 i)
-  may_take clear = grind (arith, common_steps, claim-keeps)
+  may_take clear = (
+    claim-keeps o s.words s.views k id i me.0 at r clear empty same_offers,
+    record {
+      taken = λ e. refl;
+      refused = λ e. absurd (omega arith);
+      claimed = k.claims.claimed id i me.0 at;
+      seen = k.claims.seen id i me.0 at;
+    },
+  )
 
   may_not : bit found i ≡ 1 → May (claim_refused me.0 i)
-  may_not is_set = grind (arith, common_steps, or_set, set-get_or, refuse-keeps)
+  may_not is_set = (
+    refused-keeps o s.words s.views k id me.0 at i is_set same_offers,
+    record {
+      taken = λ e. absurd (omega arith);
+      refused = λ e. refl;
+      claimed = λ h. is_set;
+      seen = λ h. is_set;
+    },
+  )
 
   -- by the bit that is found
   pub claim-may : (v : View) × May v
@@ -77,9 +93,10 @@ claim-allowed o slots id i me r empty e s k size at bound =
 pub split-allowed : (o : Orders) (id : ℕ) (v : View) → Splits (Ruled o) id v v (blank v.offers)
 split-allowed o id v s k at = split-keeps o s.words s.views k id v at
 
-pub join-allowed : (o : Orders) (id : ℕ) (v : View) (gone : ℕ) (w : View) → v.hand ≡ None → w.hand ≡ None →
-    Joins (Ruled o) id v gone w (joined v w) spent
-join-allowed o id v gone w empty empty_gone s k at apart at_gone = grind (arith, common_steps, join-keeps, set_else)
+pub join-allowed : (key offers : Orders) → key ≡ offers → (id : ℕ) (v : View) (gone : ℕ) (w : View) →
+    v.hand ≡ None → w.hand ≡ None → v.offers ≡ offers → Joins (Ruled key) id v gone w (joined v w) spent
+join-allowed key offers same id v gone w empty empty_gone same_offers s k at apart at_gone =
+    grind (arith, common_steps, join-keeps, set_else)
 
 pub claim-allowed-at : (key offers : Orders) → key ≡ offers → (slots id i : ℕ) (me : Seated) → i < ports offers →
     me.0.hand ≡ None → me.0.offers ≡ offers → (m : ℕ) → m ≡ 2 ^ i →

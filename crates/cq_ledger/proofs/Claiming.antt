@@ -1,8 +1,8 @@
 -- A claim that finds the input unclaimed keeps the rule, and is no event. The input has not proposed and nobody holds
 -- it, so it is free where its order is not empty, and the hand takes it at its first place.
-use Rattle.cq_ledger.proofs.Terms.{ℕ, suc, ◌≡◌, ◌≢◌, ◌⊎◌, ◌<◌, ◌^◌, List, length, set, None, ◌∙◌, ap, arith, bit_or, rules, cases_eq, get_or-set_same, get_or-set_other, length-set, at_set, Orders, ports, outputs_of, sound-after, State, next_place, IsFree, state_after, IsSound, AreClaims, AreHands, IsLedger, hand_at, claim_taken, Waits, Sits, IsClaimedByOne, bit, claim_word, View, common_steps}
+use Rattle.cq_ledger.proofs.Terms.{ℕ, suc, ◌≡◌, ◌≢◌, ◌⊎◌, inl, ◌<◌, ◌^◌, List, length, set, None, ◌∙◌, ap, arith, bit_or, rules, cases_eq, get_or-set_same, get_or-set_other, length-set, at_set, Orders, ports, outputs_of, sound-after, State, next_place, IsFree, state_after, IsSound, AreClaims, AreHands, IsLedger, hand_at, claim_taken, Waits, Sits, IsClaimedByOne, bit, claim_word, View, common_steps}
 use Rattle.cq_ledger.proofs.Hands.{hand_at-left, hand_at-shows}
-use Rattle.cq_ledger.proofs.Dealt.{sits_now, by_one_still, in_hand_still, made_with, hands_with}
+use Rattle.cq_ledger.proofs.Dealt.{sits_now, by_one_still, in_hand_still, made_with, hands_with, offers_with}
 use Rattle.cq_ledger.proofs.Views.{bit-or_same, bit-or_other, bit-zero}
 
 module _ (o : Orders) (words : List ℕ) (views : List View) (k : IsLedger o words views) (id i : ℕ) (v : View)
@@ -96,6 +96,7 @@ module _ (o : Orders) (words : List ℕ) (views : List View) (k : IsLedger o wor
         events = k.events;
         are_events = k.are_events;
         size = length-set words 0 _ ∙ k.size;
+        same = offers_with o views id view_now k.same (inl same_offers);
         positions = λ j l. let n : suc j ≢ 0 = omega arith in get_or-set_other words 0 (suc j) _ 0 n ∙ k.positions j l;
         claims = claims_now;
         hands = hands_now;

@@ -1,6 +1,6 @@
 -- A view in another one's place, and the rule where the words stay and the views alone change.
 use Rattle.std.proofs.Common.{rules}
-use Rattle.cq_ledger.proofs.Terms.{common_steps, ℕ, ◌≡◌, ◌≢◌, ◌⊎◌, ⊎_elim, ◌+◌, ◌<◌, List, length, set, Some, None, IsFree, next_place, sym, ap, ◌∙◌, arith, sum_by, cases_eq, sum_by-set, at_set, set_here, set_else, Orders, State, state_after, View, AreClaims, AreHands, IsLedger, Sits, HasClaimed, HasSeen, IsClaimed, IsClaimedByOne, IsInAHand, Waits, bit, claim_word}
+use Rattle.cq_ledger.proofs.Terms.{common_steps, subst, ℕ, ◌≡◌, ◌≢◌, ◌⊎◌, ⊎_elim, ◌+◌, ◌<◌, List, length, set, Some, None, IsFree, next_place, sym, ap, ◌∙◌, arith, sum_by, cases_eq, sum_by-set, at_set, set_here, set_else, Orders, State, state_after, View, AreClaims, AreHands, IsLedger, IsViewOf, Sits, HasClaimed, HasSeen, IsClaimed, IsClaimedByOne, IsInAHand, Waits, bit, claim_word}
 use Rattle.cq_ledger.proofs.Views.{at_known, same_at}
 
 -- what a hand with this input and place asks for
@@ -87,16 +87,25 @@ hands_from k had waits =
       undropped = λ q g. waits q (k.undropped q g);
     }
 
+-- all views are of these offers still, where the one that is put in is
+pub offers_with : (o : Orders) (views : List View) (id : ℕ) (now : View) →
+    ((a : ℕ) (v : View) → Sits views a v → IsViewOf o v) → IsViewOf o now → (a : ℕ) (v : View) →
+    Sits (set views id now) a v → IsViewOf o v
+offers_with o views id now same mine a v at =
+    ⊎_elim (λ x. subst (IsViewOf o) x.1 mine) (λ x. same a v x.1) (at_set views id a now v at)
+
 -- no event: what the views have claimed, seen, made and in their hands is dealt out anew
 unfoldable pub dealt : (o : Orders) (words : List ℕ) (views now : List View) (k : IsLedger o words views) →
-    AreClaims o words now → AreHands o (state_after o k.events) words now →
+    ((a : ℕ) (v : View) → Sits now a v → IsViewOf o v) → AreClaims o words now →
+    AreHands o (state_after o k.events) words now →
     sum_by (λ (y : View). y.made) now ≡ sum_by (λ (y : View). y.made) views →
     ((a : ℕ) (v : View) → Sits now a v → v.claims ≡ 0 → (v.hand ≡ None) × (v.made ≡ 0)) → IsLedger o words now
-dealt o words views now k claims hands made idle =
+dealt o words views now k same claims hands made idle =
     record {
       offers = k.offers;
       few = k.few;
       size = k.size;
+      same = same;
       claims = claims;
       events = k.events;
       are_events = k.are_events;

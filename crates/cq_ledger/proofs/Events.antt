@@ -7,7 +7,7 @@ use Rattle.cq_ledger.proofs.CoreState.{core_state-is}
 use Rattle.cq_ledger.proofs.Proposing.{propose-keeps}
 use Rattle.cq_ledger.proofs.Refusing.{refuse-keeps}
 use Rattle.cq_ledger.proofs.Dealt.{dealt}
-use Rattle.cq_ledger.proofs.Seats.{start-keeps, longer-keeps, join-keeps}
+use Rattle.cq_ledger.proofs.Seats.{start-keeps, longer-keeps, half_of, join-keeps}
 use Rattle.cq_ledger.proofs.Views.{or_set}
 
 pub start-shows : (o : Orders) → AreOffers o → ports o ≤ 64 → core_state o (first_words o) (blank o ∷ []) ≡ start o
@@ -59,23 +59,27 @@ module _ (o : Orders) (words : List ℕ) (views : List View) (k : IsLedger o wor
     words-same : IsClaimed words i → words_claimed words i ≡ words
     words-same claimed = ap (λ m. set words 0 m) (or_set (get_or words 0 0) i claimed) ∙ set-get_or words 0 0
 
-    pub refused-keeps : IsClaimed words i → IsLedger o (words_claimed words i) (set views id (claim_refused v i))
-    refused-keeps claimed = rw (words-same claimed) (refuse-keeps o words views k id i v at claimed)
+    pub refused-keeps : IsClaimed words i → v.offers ≡ o →
+        IsLedger o (words_claimed words i) (set views id (claim_refused v i))
+    refused-keeps claimed same_offers =
+        rw (words-same claimed) (refuse-keeps o words views k id i v at claimed same_offers)
 
-    pub refused-shows : IsClaimed words i →
+    pub refused-shows : IsClaimed words i → v.offers ≡ o →
         core_state o (words_claimed words i) (set views id (claim_refused v i)) ≡ core_state o words views
     unfolding refuse-keeps dealt
-    refused-shows claimed =
-        rw (words-same claimed)
-        (as_before words (set views id (claim_refused v i)) (refuse-keeps o words views k id i v at claimed) refl)
+    refused-shows claimed same_offers =
+        rw (words-same claimed) (as_before words (set views id (claim_refused v i))
+        (refuse-keeps o words views k id i v at claimed same_offers) refl)
 
   pub split-shows : core_state o words (set views id v ++ blank v.offers ∷ []) ≡ core_state o words views
   unfolding longer-keeps dealt
   split-shows = ap (λ l. core_state o words (l ++ blank v.offers ∷ [])) (set_again views id v at)
-      ∙ as_before words (views ++ blank v.offers ∷ []) (longer-keeps o words views k v.offers) refl
+      ∙ as_before words (views ++ blank v.offers ∷ [])
+      (longer-keeps o words views k v.offers (half_of o v (k.same id v at))) refl
 
   pub join-shows : (other : ℕ) (u : View) → other ≢ id → Sits views other u → v.hand ≡ None → u.hand ≡ None →
-      core_state o words (set (set views id (joined v u)) other spent) ≡ core_state o words views
+      v.offers ≡ o → core_state o words (set (set views id (joined v u)) other spent) ≡ core_state o words views
   unfolding join-keeps dealt
-  join-shows other u apart at_other empty empty_other = as_before words (set (set views id (joined v u)) other spent)
-      (join-keeps o words views k id v at other u apart at_other empty empty_other) refl
+  join-shows other u apart at_other empty empty_other same_offers =
+      as_before words (set (set views id (joined v u)) other spent)
+      (join-keeps o words views k id v at other u apart at_other empty empty_other same_offers) refl

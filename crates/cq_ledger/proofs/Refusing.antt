@@ -1,10 +1,10 @@
 -- A claim that finds the input claimed keeps the rule: it changes only what its seat has seen.
 use Rattle.cq_ledger.proofs.Terms.{ℕ, ◌≡◌, inl, inr, ⊎_elim, List, set, refl, sym, ◌∙◌, arith, cases_eq, Orders, View, IsLedger, claim_refused, Sits, bit, claim_word}
-use Rattle.cq_ledger.proofs.Dealt.{stood, claims_stay, in_hand_still, made_with, hands_from, dealt}
+use Rattle.cq_ledger.proofs.Dealt.{stood, claims_stay, in_hand_still, made_with, hands_from, offers_with, dealt}
 use Rattle.cq_ledger.proofs.Views.{bit-or_other}
 
 module _ (o : Orders) (words : List ℕ) (views : List View) (k : IsLedger o words views) (id i : ℕ) (v : View)
-    (at_id : Sits views id v) (found : bit (claim_word words) i ≡ 1) where
+    (at_id : Sits views id v) (found : bit (claim_word words) i ≡ 1) (same_offers : v.offers ≡ o) where
   abbrev view_now : View
   view_now = claim_refused v i
 
@@ -19,7 +19,7 @@ module _ (o : Orders) (words : List ℕ) (views : List View) (k : IsLedger o wor
 
   unfoldable pub refuse-keeps : IsLedger o words views_now
   refuse-keeps =
-      dealt o words views views_now k
+      dealt o words views views_now k (offers_with o views id view_now k.same (inl same_offers))
       (claims_stay views id v view_now at_id o words words refl refl (λ q h. ⊎_elim (λ e. rw e found)
       (λ n. k.claims.seen id q v at_id (sym (bit-or_other v.seen i q n) ∙ h)) (cases_eq q i)) k.claims)
       (hands_from k.hands (λ b q p u a h. let x = had b u a in (x.0, x.1, x.2.1 ∙ h))

@@ -1,7 +1,7 @@
 -- Making the first seat, a split and a join keep the rule, and are no event: the words stay, and what the seats have
 -- claimed, seen, made and in their hands is only dealt out anew.
-use Rattle.cq_ledger.proofs.Terms.{ℕ, zero, suc, ◌≡◌, ◌≢◌, ◌⊎◌, ◌+◌, ◌≤◌, List, [], ◌∷◌, ◌++◌, set, replicate, Some, None, refl, sym, ◌∙◌, ap, arith, bit_or, ⊎_elim, rules, sum_by, cases_eq, length-replicate, get_or-replicate, sum_by_push, at_set, set_else, set_again, at_longer, at_snoc, Orders, AreOffers, ports, held-start, next_place-start, AreClaims, AreHands, IsLedger, State, state_after, blank, joined, spent, Waits, Sits, bit, claim_word, View, common_steps}
-use Rattle.cq_ledger.proofs.Dealt.{sits_now, made_with, hands_from, dealt}
+use Rattle.cq_ledger.proofs.Terms.{ℕ, zero, suc, ◌≡◌, ◌≢◌, ◌⊎◌, inl, inr, subst, ◌+◌, ◌≤◌, List, [], ◌∷◌, ◌++◌, set, replicate, Some, None, refl, sym, ◌∙◌, ap, arith, bit_or, ⊎_elim, rules, sum_by, cases_eq, length-replicate, get_or-replicate, sum_by_push, at_set, set_else, set_again, at_longer, at_snoc, Orders, AreOffers, ports, held-start, next_place-start, AreClaims, AreHands, IsLedger, IsViewOf, State, state_after, blank, joined, spent, Waits, Sits, bit, claim_word, View, common_steps}
+use Rattle.cq_ledger.proofs.Dealt.{sits_now, made_with, hands_from, offers_with, dealt}
 use Rattle.cq_ledger.proofs.Views.{same_at, bit-zero, no_bits, bit-either, bit-left, bit-right}
 
 -- where no bit of either is set, no bit is
@@ -28,6 +28,7 @@ start-keeps o v few =
       events = [];
       are_events = tt;
       size = ap suc (length-replicate (ports o) (ports o));
+      same = λ b u a. inl (sym (ap (λ (y : View). y.offers) (only o (blank o) b u a)));
       positions = λ j l. get_or-replicate (ports o) j (ports o) 0 l ∙ sym (held-start o j l);
       claims = start_claims o;
       hands = start_hands o (state_after o []);
@@ -37,7 +38,8 @@ start-keeps o v few =
           (sym (ap (λ (y : View). y.hand) e), sym (ap (λ (y : View). y.made) e));
     }
 
-module _ (o : Orders) (words : List ℕ) (views : List View) (k : IsLedger o words views) (other : Orders) where
+module _ (o : Orders) (words : List ℕ) (views : List View) (k : IsLedger o words views) (other : Orders)
+    (known : IsViewOf o (blank other)) where
   abbrev longer : List View
   longer = views ++ blank other ∷ []
 
@@ -60,6 +62,7 @@ module _ (o : Orders) (words : List ℕ) (views : List View) (k : IsLedger o wor
   unfoldable pub longer-keeps : IsLedger o words longer
   longer-keeps =
       dealt o words views longer k
+      (λ b u a. ⊎_elim (k.same b u) (λ e. subst (IsViewOf o) e known) (at_snoc views (blank other) u b a))
       (record {
         claimed = λ b q u a h. k.claims.claimed b q u (with_claim b q u a h) h;
         by_one =
@@ -74,14 +77,20 @@ module _ (o : Orders) (words : List ℕ) (views : List View) (k : IsLedger o wor
       (let a = sum_by_push (λ (y : View). y.made) views (blank other) in omega arith)
       still_idle
 
+-- a seat's half has the seat's offers
+pub half_of : (o : Orders) (v : View) → IsViewOf o v → IsViewOf o (blank v.offers)
+half_of o v (inl e) = inl e
+half_of o v (inr gone) = inr (ap (λ (y : View). blank y.offers) gone)
+
 -- a split: the old view stays
 pub split-keeps : (o : Orders) (words : List ℕ) (views : List View) (k : IsLedger o words views) (id : ℕ) (v : View) →
     Sits views id v → IsLedger o words (set views id v ++ blank v.offers ∷ [])
-split-keeps o words views k id v at = rw (set_again views id v at) (longer-keeps o words views k v.offers)
+split-keeps o words views k id v at =
+    rw (set_again views id v at) (longer-keeps o words views k v.offers (half_of o v (k.same id v at)))
 
 module _ (o : Orders) (words : List ℕ) (views : List View) (k : IsLedger o words views) (id : ℕ) (v : View)
     (at_id : Sits views id v) (gone : ℕ) (w : View) (apart : gone ≢ id) (at_gone : Sits views gone w)
-    (empty : v.hand ≡ None) (empty_gone : w.hand ≡ None) where
+    (empty : v.hand ≡ None) (empty_gone : w.hand ≡ None) (same_offers : v.offers ≡ o) where
   abbrev half : List View
   half = set views id (joined v w)
 
@@ -152,6 +161,7 @@ module _ (o : Orders) (words : List ℕ) (views : List View) (k : IsLedger o wor
   unfolding Kind
   join-keeps =
       dealt o words views whole k
+      (offers_with o half gone spent (offers_with o views id (joined v w) k.same (inl same_offers)) (inr refl))
       (record {
         claimed = λ b q u a h. let x = claimed_by b q u (kind b u a) h in k.claims.claimed x.at q x.by x.stood x.has;
         by_one = λ q h. by_one_now q (k.claims.by_one q h);

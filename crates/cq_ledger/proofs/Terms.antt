@@ -12,7 +12,7 @@ unfoldable pub use Rattle.cq_prefs.specs.Proposals.{answer_of, keeper}
 pub use Rattle.cq_prefs.specs.declared.outcome.Outcome.{Outcome}
 pub use Rattle.cq_ledger.specs.Plays.{IsClaim, IsOtherWord, IsProposal, IsWord, Ruled, Seated, claim, look, proposal}
 pub use Rattle.cq_ledger.specs.{Reading.Shows, declared.view.View.View}
-pub use Rattle.cq_ledger.specs.Rule.{AreClaims, AreHands, IsLedger}
+pub use Rattle.cq_ledger.specs.Rule.{AreClaims, AreHands, IsLedger, IsViewOf}
 pub use Rattle.cq_ledger.specs.Shown.{first_place, next_by, output_of, place_in_hand, place_in_hands}
 unfoldable pub use Rattle.cq_ledger.specs.Shown.{core_state, next_shown}
 pub use Rattle.cq_ledger.specs.Steps.{blank, claim_refused, claim_taken, first_words, joined, proposed, spent, words_claimed, words_proposed}

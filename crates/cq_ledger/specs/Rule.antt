@@ -1,10 +1,11 @@
 -- The rule of a ledger: what holds of its words and its views between any two steps, whichever seats made them and in
 -- whatever order.
-use Rattle.std.specs.Prelude.{ℕ, suc, ◌≡◌, ◌<◌, ◌≤◌, List, length, Some, None, slice_index}
+use Rattle.std.specs.Prelude.{ℕ, suc, ◌≡◌, ◌⊎◌, ◌<◌, ◌≤◌, List, length, Some, None, slice_index}
 use Rattle.std.specs.List.{sum_by}
 use Rattle.cq_prefs.specs.Orders.{Orders, AreOffers, ports}
 use Rattle.cq_prefs.specs.Proposals.{State, position_held, next_place, IsFree, state_after, AreEvents}
 use Rattle.cq_ledger.specs.declared.view.View.{View}
+use Rattle.cq_ledger.specs.Steps.{spent}
 use Rattle.cq_ledger.specs.Views.{Sits, IsClaimed, IsUnclaimed, HasClaimed, HasSeen, IsClaimedByOne, Waits}
 
 -- the claim word has the claims of the views
@@ -30,12 +31,18 @@ pub record AreHands (o : Orders) (s : State) (words : List ℕ) (views : List Vi
   -- no free input is dropped
   pub undropped : (i : ℕ) → IsFree o s i → Waits words views i
 
+-- a view of these offers, or what is left of a seat that was joined away
+abbrev pub IsViewOf : Orders → View → Type 0
+IsViewOf o v = (v.offers ≡ o) ⊎ (v ≡ spent)
+
 -- the rule: the words and the hands show a state that proposals of free inputs reach, and the seats made those
 -- proposals
 pub record IsLedger (o : Orders) (words : List ℕ) (views : List View) : Type 0 where
   pub offers : AreOffers o
   pub few : ports o ≤ 64
   pub size : length words ≡ suc (ports o)
+  -- all seats have the ledger's offers
+  pub same : (a : ℕ) (v : View) → Sits views a v → IsViewOf o v
   pub claims : AreClaims o words views
   pub events : List ℕ
   pub are_events : AreEvents o events

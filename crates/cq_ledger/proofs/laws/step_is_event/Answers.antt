@@ -13,10 +13,11 @@ returns c =
       };
       claim_taken =
           λ o words views id i v m h r clear. taken-shows o words views m.rule id v m.sits i r clear h m.offers;
-      claim_refused = λ o words views id i v m claimed. refused-shows o words views m.rule id v m.sits i claimed;
+      claim_refused =
+          λ o words views id i v m claimed. refused-shows o words views m.rule id v m.sits i claimed m.offers;
       split = λ o words views id v m. subst
           (λ (x : Orders). core_state o words (slice_set views id v ++ blank x ∷ []) ≡ core_state o words views)
           m.offers (split-shows o words views m.rule id v m.sits);
       join = λ o words views id other v w m at apart h g.
-          join-shows o words views m.rule id v m.sits other w apart at h g;
+          join-shows o words views m.rule id v m.sits other w apart at h g m.offers;
     }
