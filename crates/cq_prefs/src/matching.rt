@@ -2,7 +2,7 @@
 //!
 //! A matching is made and read in every phase, so it takes no memory: it is plain data with a place for
 //! each of the 64 ports that a switch may have.
-ghost use Rattle.std.specs.Prelude.{◌≡◌, ◌<◌, ◌≤◌, length, replicate, None};
+ghost use Rattle.std.specs.Prelude.{◌≡◌, ◌<◌, ◌≤◌, ◌↔◌, IsTrue, length, replicate, None};
 ghost use Rattle.cq_prefs.specs.Pairing.{ArePairs, partner_of, with_pair, without_pair, IsFreeInput, IsFreeOutput};
 
 use cq_base::Port;
@@ -79,5 +79,17 @@ impl Matching {
         ensures pairs { ArePairs self.now }
     {
         self.partners[input as usize]
+    }
+
+    /// Whether no input has this output as its partner.
+    pub fn has_free(&self, output: Port) -> bool
+        ensures { IsTrue result ↔ IsFreeOutput self.now output }
+    {
+        'inputs: for input in 0..self.ports() {
+            if self.partner_of(input) == Some(output) {
+                return false;
+            }
+        }
+        true
     }
 }

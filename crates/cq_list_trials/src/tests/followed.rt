@@ -1,11 +1,10 @@
 //! Offers that are renewed after each of many drawn changes, compared with offers that are filled anew.
-ghost use Rattle.std.specs.Prelude.{◌≡◌, ◌+◌, ◌<◌, ◌≤◌, All, IfOk, IsTrue, Some, length};
+ghost use Rattle.std.specs.Prelude.{◌≡◌, ◌+◌, ◌<◌, ◌≤◌, All, IfOk, Some, length};
 ghost use Rattle.cq_base.specs.Cells.{MoreUrgentAhead};
 ghost use Rattle.cq_list.specs.InputList.{cells_of};
 ghost use Rattle.cq_prefs.specs.FirstCells.{first_key, key_before, orders_of};
 ghost use Rattle.cq_list_trials.specs.Followed.{AreOwn, HasChanged, IsOwn};
 ghost use Rattle.cq_prefs.specs.Orders.{ports};
-ghost use Rattle.cq_prefs.specs.Pairing.{IsFreeOutput};
 
 use cq_base::{NoMemory, Port, Queued};
 use cq_list::InputList;
@@ -48,25 +47,13 @@ fn new_lists(alloc: Global, ports: u16) -> Result<Vec<InputList>, NoMemory>
     Ok(lists)
 }
 
-// Whether no input has this output as its partner.
-fn is_free(matching: &Matching, output: Port) -> bool
-    ensures { IsTrue result → IsFreeOutput matching.now output }
-{
-    for input in 0..matching.ports() {
-        if matching.partner_of(input) == Some(output) {
-            return false;
-        }
-    }
-    true
-}
-
 // Joins two ports, if both have no partner yet.
 fn join_free(matching: &mut Matching, input: Port, output: Port)
     requires input { input < length matching.old }
     requires output { output < length matching.old }
     ensures { length matching.new ≡ length matching.old }
 {
-    if matching.partner_of(input).is_none() && is_free(matching, output) {
+    if matching.partner_of(input).is_none() && matching.has_free(output) {
         matching.join(input, output);
     }
 }

@@ -1,4 +1,5 @@
+use Rattle.cq_crew.proofs.Terms.{arith, rules}
 use Rattle.cq_crew.proofs.phase.settle_alone.Goals as goal
 
 pub returns : goal.returns
-returns c = rw (c.pairs.ensures, c.made.ensures) c.settle_kept.ensures.best
+returns c = search (arith, rules)
