@@ -1,9 +1,8 @@
 -- A phase that was settled, and how many workers are used for it.
 use Rattle.std.specs.Prelude.{ℕ, ◌≡◌, ◌≤◌, ◌*◌, min, length}
-use Rattle.cq_prefs.specs.Orders.{Orders, ports}
+use Rattle.cq_prefs.specs.Orders.{Orders, inputs_with_offers, ports}
 use Rattle.cq_prefs.specs.Pairing.{IsInputBest, Partners, proposals}
 use Rattle.cq_prefs.specs.declared.outcome.Phase.{Phase}
-use Rattle.cq_pair.specs.FreeInputs.{inputs_with_offers}
 use Rattle.cq_crew.specs.declared.settled.Settled.{Settled}
 use Rattle.cq_crew.specs.declared.settled.Settled.TheVariants.{Shared, Alone}
 

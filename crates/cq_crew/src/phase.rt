@@ -1,7 +1,6 @@
 //! One phase, by as many workers as are asked for and of use.
-ghost use Rattle.std.specs.Prelude.{◌≡◌, ◌≤◌, ◌↔◌, [], IfSome, IsTrue, length};
+ghost use Rattle.std.specs.Prelude.{◌≡◌, ◌≤◌, ◌↔◌, [], IfSome, IsTrue};
 ghost use Rattle.cq_prefs.specs.Orders.{ports};
-ghost use Rattle.cq_pair.specs.FreeInputs.{inputs_with_offers};
 ghost use Rattle.cq_pair.specs.Progress.{IsReached};
 ghost use Rattle.cq_ledger.specs.Seats.{HasClaimedAll};
 ghost use Rattle.cq_crew.specs.Settling.{IsBestAfter, IsBestPhase, IsShared, phase_of, workers_used};
@@ -36,7 +35,7 @@ pub fn pair_phase<R: Threads + Sync, G: Gate>(
     ensures shared { IsShared result → 2 ≤ workers_used offers.now workers }
 {
     if workers >= 2 {
-        let used = workers.min(count_offering(offers));
+        let used = workers.min(offers.offering());
         if used >= 2 {
             if let Some(closed) = settle_shared(rt, alloc, offers, used, gate) {
                 return Settled::Shared(closed);
@@ -44,20 +43,6 @@ pub fn pair_phase<R: Threads + Sync, G: Gate>(
         }
     }
     Settled::Alone(settle_alone(offers))
-}
-
-// How many inputs have an offer.
-fn count_offering(offers: &Offers) -> u16
-    ensures count { result ≡ length (inputs_with_offers offers.now (ports offers.now)) }
-    ensures few { result ≤ ports offers.now }
-{
-    let mut count = 0;
-    'inputs: for input in 0..offers.ports() {
-        if !offers.outputs_of(input).is_empty() {
-            count += 1;
-        }
-    }
-    count
 }
 
 /// The matching of a phase by one thread, found in a core that is kept from phase to phase. It is the one that

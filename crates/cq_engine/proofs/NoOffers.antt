@@ -1,6 +1,6 @@
 -- Where nothing is offered the empty matching is the best for the inputs, and no proposal is made: no offered pair is
 -- left out, and no input has an order to go down. It moves no cell, and nothing is noted of it.
-use Rattle.cq_engine.proofs.Terms.{rules, ◌≡◌, ℕ, ◌<◌, ◌≤◌, List, [], ◌∷◌, replicate, Option, None, refl, sym, arith, common_steps, filter_map, sum_by, cases_lt, append-nil, length-replicate, get_or_past, sum-map, sum_by-cons, Queued, Transfer, RoomView, Queues, orders_of, Moves, transfers_of, Orders, ports, outputs_of, proposals, IsInputBest}
+use Rattle.cq_engine.proofs.Terms.{rules, ◌≡◌, ℕ, List, [], ◌∷◌, replicate, Option, None, refl, sym, arith, common_steps, filter_map, sum_by, append-nil, length-replicate, sum-map, sum_by-cons, Queued, Transfer, RoomView, Queues, orders_of, Moves, transfers_of, Orders, ports, outputs_of, proposals, IsInputBest}
 use Rattle.cq_prefs.proofs.Pairs.{nobody}
 use Rattle.cq_engine.specs.Crossing.{HasCrossed}
 
@@ -14,11 +14,6 @@ module _ (o : Orders) (none : (i : ℕ) → outputs_of o i ≡ []) where
 
   pub none_proposed : 0 ≡ proposals o (replicate (ports o) None)
   none_proposed = grind (arith, common_steps, sum-map, zeros, nobody)
-
--- the orders before the last are empty, and past the last there is none
-pub none_at_all : (o : Orders) (n : ℕ) → ports o ≤ n → ((i : ℕ) → i < n → outputs_of o i ≡ []) → (i : ℕ) →
-    outputs_of o i ≡ []
-none_at_all o n all none i = grind (arith, common_steps, get_or_past, cases_lt)
 
 -- ## Nothing moves
 

@@ -4,7 +4,7 @@ pub use Rattle.cq_rank.specs.{Machine.Machine, Switch.class_count}
 pub use Rattle.cq_ideal.specs.{Admission.Marked, Ideal.answer_to, Ideal.count_for}
 pub use Rattle.cq_ideal.specs.IdealSlot.{departures_in, fronts, rests}
 pub use Rattle.cq_ideal.specs.Ranking.{AreForPorts, ranking}
-pub use Rattle.cq_prefs.specs.{FirstCells.list_of, Orders.outputs_of, Pairing.IsInputBest}
+pub use Rattle.cq_prefs.specs.{FirstCells.list_of, Pairing.IsInputBest}
 pub use Rattle.cq_laws.specs.Fabric.{IsAmong, input, IsEmptyFabric, Fabric}
 pub use Rattle.cq_laws.specs.FabricSlot.{SlotRecord, FabricSlot}
 pub use Rattle.cq_laws.specs.{Frozen.fabric_in, Phases.came_to}

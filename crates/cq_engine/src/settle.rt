@@ -1,26 +1,12 @@
 //! Finding the matching of a phase, and transferring it.
-ghost use Rattle.std.specs.Prelude.{◌≡◌, ◌↔◌, ℕ, [], IsTrue};
-ghost use Rattle.cq_engine.specs.Terms.{CanBeCrossed, HasCrossed, outputs_of};
+ghost use Rattle.cq_engine.specs.Terms.{CanBeCrossed, HasCrossed};
 
 use cq_base::{Room, Slot, Transfer};
 use cq_crew::{Gate, pair_phase, settle_kept};
 use cq_fabric::Queues;
 use cq_pair::Core;
-use cq_prefs::Offers;
 use std::alloc::Global;
 use std::thread::Threads;
-
-// Whether no input offers anything.
-fn nothing_offered(offers: &Offers) -> bool
-    ensures { IsTrue result ↔ ((i : ℕ) → outputs_of offers.now i ≡ []) }
-{
-    for input in 0..offers.ports() {
-        if !offers.outputs_of(input).is_empty() {
-            return false;
-        }
-    }
-    true
-}
 
 /// The input-best matching of the offers is transferred, and noted. One worker finds it in `core`, which is kept
 /// between phases, and of more workers so many at most propose at once. Where nothing is offered none is looked for,
@@ -39,7 +25,7 @@ pub fn cross<T: Threads + Sync, G: Gate>(
     requires can { CanBeCrossed workers queues.old note.old }
     ensures { HasCrossed slot phase queues.old queues.new note.old note.new result }
 {
-    if nothing_offered(queues.offers()) {
+    if queues.offers().offering() == 0 {
         return 0;
     }
     if workers > 1 {

@@ -1,7 +1,7 @@
 -- The inputs that wait, as places and pairs change. An input that gets a partner, or has no output left, is taken out
 -- of the list, and one that is parted goes back in by its number if it has an output left. The others stay as they
 -- were.
-use Rattle.cq_pair.proofs.Terms.{common_steps, rules, ℕ, zero, suc, ◌≡◌, ◌≢◌, ◌+◌, ◌<◌, ◌≤◌, Bool, true, false, is_none, eqb, ⊎_elim, List, [], ◌∷◌, ◌++◌, length, set, get_or, replicate, Option, Some, None, refl, sym, ◌∙◌, ap, arith, filter, IsDistinct, range_with_len, and-true, cases_eq, cases_lt, cond_both, cond-true, cond-false, eq-eqb, ne_eqb, lt-ltb, le-ltb, eqb-true, and_left, and_right, true≢false, get_or-set_same, get_or-set_other, append-nil, filter_agree, filter-append, length-range_with_len, Orders, AreOffers, ports, outputs_of, Partners, partner_of, State, start, is_free, matching_of, free_inputs, length-put, few_kept, apart_filter, apart_range, distinct, range_next, next_place-start, nobody, partner-is, with_input, without, has_offer, inputs_with_offers, is_waiting, waiting_inputs}
+use Rattle.cq_pair.proofs.Terms.{common_steps, rules, ℕ, zero, suc, ◌≡◌, ◌≢◌, ◌+◌, ◌<◌, ◌≤◌, Bool, true, false, is_none, eqb, ⊎_elim, List, [], ◌∷◌, length, set, get_or, replicate, Option, Some, None, refl, sym, ap, arith, filter, IsDistinct, range_with_len, and-true, cases_eq, cond_both, cond-true, cond-false, eq-eqb, ne_eqb, lt-ltb, le-ltb, and_left, and_right, get_or-set_same, get_or-set_other, filter_agree, length-range_with_len, Orders, AreOffers, ports, outputs_of, Partners, partner_of, State, start, is_free, matching_of, free_inputs, length-put, few_kept, apart_filter, apart_range, distinct, next_place-start, nobody, partner-is, with_input, without, inputs_with_offers, is_waiting, waiting_inputs}
 
 -- ## A test that changes at one number
 
@@ -108,26 +108,3 @@ waiting-free o v s = grind (arith, common_steps, filter_agree, is_none, partner-
 pub waiting-first : (o : Orders) (m : Partners) → m ≡ replicate (ports o) None →
     inputs_with_offers o (ports o) ≡ waiting_inputs o (start o).places m
 waiting-first o m e = grind (arith, common_steps, filter_agree, nobody, next_place-start, is_none, and-true)
-
--- an order is empty or not
-pub offers_if : (o : Orders) (n : ℕ) (order : List ℕ) (empty : Bool) → order ≡ outputs_of o n →
-    empty ≡ eqb (length order) 0 → empty ≡ false → has_offer o n ≡ true
-offers_if o n order empty e is some = grind (arith, common_steps, lt-ltb, true≢false, eq-eqb, cases_lt)
-
-pub no_offers_if : (o : Orders) (n : ℕ) (order : List ℕ) (empty : Bool) → order ≡ outputs_of o n →
-    empty ≡ eqb (length order) 0 → empty ≡ true → has_offer o n ≡ false
-no_offers_if o n order empty e is none = grind (arith, common_steps, eqb-true, le-ltb)
-
-offers-next : (o : Orders) (n : ℕ) →
-    inputs_with_offers o (n + 1) ≡ inputs_with_offers o n ++ filter (has_offer o) (n ∷ [])
-offers-next o n = grind (arith, common_steps, range_next, filter-append)
-
-pub offers-more : (o : Orders) (n : ℕ) → has_offer o n ≡ true →
-    inputs_with_offers o (n + 1) ≡ inputs_with_offers o n ++ n ∷ []
-offers-more o n h = offers-next o n ∙ ap (λ l. inputs_with_offers o n ++ l) (filter-yes (has_offer o) n [] h)
-
-pub offers-same : (o : Orders) (n : ℕ) → has_offer o n ≡ false → inputs_with_offers o (n + 1) ≡ inputs_with_offers o n
-offers-same o n h = grind (arith, common_steps, offers-next, filter-no, append-nil)
-
-pub few_offers : (o : Orders) (n : ℕ) → length (inputs_with_offers o n) ≤ n
-few_offers o n = grind (arith, common_steps, few_kept, length-range_with_len)

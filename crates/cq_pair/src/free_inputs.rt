@@ -1,9 +1,9 @@
 //! The free inputs in order of number.
 ghost use Rattle.std.specs.Prelude.{◌≡◌, ◌==◌, ◌↔◌, ◌-◌, ◌<◌, ◌≤◌, IsTrue, [], Some, length, nat_eq, nat_lt, position, slice_get};
 ghost use Rattle.std.specs.List.{IsDistinct, position_or_len};
-ghost use Rattle.cq_prefs.specs.Orders.{place_in, ports};
+ghost use Rattle.cq_prefs.specs.Orders.{inputs_with_offers, place_in, ports};
 ghost use Rattle.cq_prefs.specs.Renewal.{without};
-ghost use Rattle.cq_pair.specs.FreeInputs.{with_input, inputs_with_offers};
+ghost use Rattle.cq_pair.specs.FreeInputs.{with_input};
 
 use arrayvec::ArrayVec;
 use cq_base::Port;

@@ -18,3 +18,4 @@ pub mod Passing
 pub mod Quiet
 pub mod Counts
 pub mod LeastFirst
+pub mod Offering

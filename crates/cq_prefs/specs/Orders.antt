@@ -1,6 +1,6 @@
 -- What the inputs and the outputs of a switch offer each other, and whom each of them prefers.
-use Rattle.std.specs.Prelude.{ℕ, ◌≡◌, ◌<◌, ◌==◌, List, [], length, nat_eq, replicate, slice_index_or}
-use Rattle.std.specs.List.{IsDistinct, position_or_len}
+use Rattle.std.specs.Prelude.{ℕ, ◌≡◌, ◌<◌, ◌==◌, Bool, List, [], filter, length, nat_eq, nat_lt, replicate, slice_index_or}
+use Rattle.std.specs.List.{IsDistinct, position_or_len, range_with_len}
 
 -- per input the outputs that it offers a cell to, and per output the inputs that offer it one: the most wanted first
 pub record Orders : Type 0 where
@@ -38,6 +38,14 @@ position_of o j i = place_in (inputs_of o j) i
 -- input i and output j are offered to each other: j stands in the order of i
 abbrev pub IsOffered : Orders → ℕ → ℕ → Type 0
 IsOffered o i j = IsListed (outputs_of o i) j
+
+-- whether input i has an offer
+abbrev pub has_offer : Orders → ℕ → Bool
+has_offer o i = nat_lt 0 (length (outputs_of o i))
+
+-- those of the first n inputs that have an offer
+abbrev pub inputs_with_offers : Orders → ℕ → List ℕ
+inputs_with_offers o n = filter (has_offer o) (range_with_len 0 n)
 
 -- nothing is offered, over so many ports
 abbrev pub no_offers : ℕ → Orders

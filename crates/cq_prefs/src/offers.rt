@@ -3,7 +3,7 @@ ghost use Rattle.std.specs.Prelude.{◌≡◌, ◌<◌, ◌≤◌, ◌↔◌, []
 ghost use Rattle.cq_list.specs.InputList.{cells_of};
 ghost use Rattle.cq_prefs.specs.FirstCells.{AreOrdersOf, FirstKeysDiffer, orders_of};
 ghost use Rattle.cq_prefs.specs.Renewal.{AreSameWithout};
-ghost use Rattle.cq_prefs.specs.Orders.{AreOffers, IsOffered, no_offers, ports, outputs_of, inputs_of, place_of, position_of};
+ghost use Rattle.cq_prefs.specs.Orders.{AreOffers, IsOffered, inputs_with_offers, no_offers, ports, outputs_of, inputs_of, place_of, position_of};
 ghost use Rattle.cq_prefs.specs.Pairing.{with_pair};
 
 use crate::Matching;
@@ -132,6 +132,20 @@ impl Offers {
         ensures few { ports self.now ≤ 64 }
     {
         self.by_input.len() as u16
+    }
+
+    /// How many inputs have an offer.
+    pub fn offering(&self) -> u16
+        ensures count { result ≡ length (inputs_with_offers self.now (ports self.now)) }
+        ensures few { result ≤ ports self.now }
+    {
+        let mut count = 0;
+        'inputs: for input in 0..self.ports() {
+            if !self.outputs_of(input).is_empty() {
+                count += 1;
+            }
+        }
+        count
     }
 
     /// The outputs for which an input has a cell, the most wanted first.

@@ -1,5 +1,4 @@
-use Rattle.cq_ledger.proofs.Terms.{◌∙◌, arith, ap, ports}
-use Rattle.cq_ledger.proofs.Readings.{has_place}
+use Rattle.cq_ledger.proofs.Terms.{◌∙◌, arith, ap, ports, has_place}
 use Rattle.cq_ledger.proofs.seat.LedgerSeat.hand.Goals as goal
 
 pub returns-in-Some-clause-port : goal.returns-in-Some-clause-port

@@ -1,5 +1,5 @@
 use Rattle.cq_pair.proofs.Terms.{rules, arith}
-use Rattle.cq_pair.proofs.Waiting.{offers_if, no_offers_if, offers-more, offers-same, few_offers}
+use Rattle.cq_prefs.proofs.Offering.{offers_if, no_offers_if, offers-more, offers-same, few_offers}
 use Rattle.cq_pair.proofs.free_inputs.FreeInputs.fill.Goals as goal
 
 pub push-requires : goal.push-requires

@@ -1,6 +1,6 @@
-use Rattle.cq_crew.proofs.Terms.{rules, arith, length-append}
-use Rattle.cq_pair.proofs.Waiting.{offers_if, no_offers_if, offers-more, offers-same, few_offers}
-use Rattle.cq_crew.proofs.phase.count_offering.Goals as goal
+use Rattle.cq_prefs.proofs.Terms.{rules, arith, length-append}
+use Rattle.cq_prefs.proofs.Offering.{offers_if, no_offers_if, offers-more, offers-same, few_offers}
+use Rattle.cq_prefs.proofs.offers.Offers.offering.Goals as goal
 
 pub overflow_add-count : goal.overflow_add-count
 overflow_add-count c = search (arith, rules, few_offers)
