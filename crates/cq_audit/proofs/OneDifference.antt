@@ -2,8 +2,8 @@
 -- of two such beginnings neither is longer, for there the texts would have a byte in common.
 -- Comparing two texts byte by byte. What was the same so far stands at the front of both, and one same byte more
 -- stands there too.
-use Rattle.cq_audit.proofs.Terms.{common_steps, arith, ◌≡◌, ◌≢◌, ℕ, ◌+◌, List, [], ◌∷◌, ◌++◌, drop, refl, ap, sym, ◌≤◌, length, append_assoc, rules, append_cancel_left}
-use Rattle.cq_audit.specs.Trace.{IsTraceExact, feeds}
+use Rattle.cq_audit.proofs.Terms.{common_steps, arith, ◌≡◌, ◌≢◌, ℕ, ◌+◌, List, [], ◌∷◌, ◌++◌, drop, refl, ap, sym, ◌≤◌, length, append_assoc, rules, append_cancel_left, ⊎_elim, cases_eq}
+use Rattle.cq_audit.specs.Trace.{DiffersFirst, IsTraceExact, feeds}
 
 -- the texts have no byte in common at their front
 abbrev Parted : List ℕ → List ℕ → Type 0
@@ -21,8 +21,30 @@ same_goes_on : (a b : List ℕ) → Parted a b → ((a ≡ []) × (b ≡ []) →
 same_goes_on [] b parted goes_on e = goes_on (refl, sym e)
 same_goes_on (c ∷ a) b parted goes_on e = parted c a a refl (sym e)
 
+-- texts that both begin with f, and behind it have no byte in common, while one of them goes on
+found_at : {a b : List ℕ} (f x y : List ℕ) → a ≡ f ++ x → b ≡ f ++ y → Parted x y → ((x ≡ []) × (y ≡ []) → ⊥) →
+    (n : ℕ) × DiffersFirst a b n
+found_at f x y e h parted on =
+    let found : DiffersFirst _ _ (feeds f + 1) =
+    record { front = f; left = x; right = y; left_is = e; right_is = h; parted = parted; goes_on = on; number = refl }
+    in (feeds f + 1, found)
+
+-- and so where a byte stands ahead of both
+behind_byte : (c d : ℕ) (a b : List ℕ) → c ≡ d → (n : ℕ) × DiffersFirst a b n →
+    (n : ℕ) × DiffersFirst (c ∷ a) (d ∷ b) n
+behind_byte c d a b same (n, found) = found_at (c ∷ found.front) found.left found.right
+    (ap (λ xs. c ∷ xs) found.left_is) (grind (arith, common_steps, found.right_is)) found.parted found.goes_on
+
+some_line : (a b : List ℕ) → a ≢ b → (n : ℕ) × DiffersFirst a b n
+some_line [] [] apart = absurd (apart refl)
+some_line [] (d ∷ b) apart = found_at [] [] (d ∷ b) refl refl (search rules) (search rules)
+some_line (c ∷ a) [] apart = found_at [] (c ∷ a) [] refl refl (search rules) (search rules)
+some_line (c ∷ a) (d ∷ b) apart = ⊎_elim
+    (λ same. behind_byte c d a b same (some_line a b (λ e. apart (grind (arith, common_steps)))))
+    (λ other. found_at [] (c ∷ a) (d ∷ b) refl refl (grind (arith, common_steps)) (search rules)) (cases_eq c d)
+
 pub trace_is_exact : IsTraceExact
-trace_is_exact = grind (arith, common_steps, same_goes_on, append_cancel_left, same_front)
+trace_is_exact = grind (arith, common_steps, same_goes_on, append_cancel_left, same_front, some_line)
 
 pub record SameSoFar (a b left right : List ℕ) (line : ℕ) : Type 0 where
   pub front : List ℕ

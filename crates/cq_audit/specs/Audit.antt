@@ -91,7 +91,7 @@ IsNo setup limits came log NoMemory = ⊤
 
 -- ## What holds of every log
 
--- a log is that of a stable run, or is refused for one thing, and never both
+-- a log is that of a stable run, or is refused for one thing at most, and never both
 pub record IsAuditExact (setup : Setup) (limits : List (Option ℕ)) (came : List Arrival) : Type 0 where
   pub one_no : (log : List ℕ) (r s : AuditRefusal) → r ≢ NoMemory → s ≢ NoMemory →
       IsNo setup limits came log r → IsNo setup limits came log s → r ≡ s

@@ -43,6 +43,6 @@ IsLog ports note log = IsText log_line (Comes ports) None (λ _. ⊤) note log
 abbrev pub IsLogFault : ℕ → List ℕ → ℕ → Type 0
 IsLogFault ports log n = IsFirstFault log_line (Comes ports) None (λ _. ⊤) log n
 
--- a log is read in one way, or refused at one line, and never both
+-- a log is read in one way at most, or refused at one line at most, and never both
 abbrev pub IsLogExact : ℕ → Type 0
 IsLogExact ports = IsExact log_line (Comes ports) None (λ _. ⊤)

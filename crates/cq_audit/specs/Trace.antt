@@ -20,5 +20,6 @@ pub record DiffersFirst (a b : List ℕ) (n : ℕ) : Type 0 where
 
 -- texts that are equal differ in no line, and others in one line first
 pub record IsTraceExact : Type 0 where
+  pub some_line : (a b : List ℕ) → a ≢ b → (n : ℕ) × DiffersFirst a b n
   pub differ : (a b : List ℕ) (n : ℕ) → DiffersFirst a b n → a ≢ b
   pub one_line : (a b : List ℕ) (m n : ℕ) → DiffersFirst a b m → DiffersFirst a b n → m ≡ n

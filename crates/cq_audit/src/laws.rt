@@ -2,8 +2,8 @@
 ghost use Rattle.std.specs.Prelude.{◌≡◌, ℕ, List, Option};
 ghost use Rattle.cq_audit.specs.Terms.{Arrival, Cell, Transfer, Setup, Marked, Machine, IsStable, Fabric, LimitedFabricRun, LimitedRecord, slots_in, transfers_of_run, IsAuditExact, AreInOrder, IsLog, IsLogExact, IsPhaseExact, StableRun, IsTraceExact};
 
-/// A log is read in one way, or refused at one line, and never both. Each of its lines is behind all before it.
-/// It does nothing: its contract is the claim.
+/// A log is read in one way at most, or refused at one line at most, and never both. Each of its lines is behind all
+/// before it. It does nothing: its contract is the claim.
 #[tactic(auto, using(crate::proofs::LogLines::log_is_exact))]
 pub fn logs_are_exact()
     ensures exact { (ports : ℕ) → IsLogExact ports }
@@ -18,8 +18,8 @@ pub fn traces_are_exact()
     ensures { IsTraceExact }
 {}
 
-/// The lines of a phase are the transfers of one stable matching, or have one fault, and never both. It does
-/// nothing: its contract is the claim.
+/// The lines of a phase are the transfers of one stable matching at most, or have one fault at most, and never both. It
+/// does nothing: its contract is the claim.
 #[tactic(auto, using(crate::proofs::PhaseExact::phase_is_exact))]
 pub fn phases_are_exact()
     ensures { IsPhaseExact }
@@ -41,8 +41,8 @@ pub fn transfers_tell_the_run()
         transfers_of_run (slots_in rs) ≡ transfers_of_run (slots_in ss) → (rs ≡ ss) × (g ≡ h) }
 {}
 
-/// A log is that of a stable run, or is refused for one thing, and never both; want of memory is no such thing. It does
-/// nothing: its contract is the claim.
+/// A log is that of a stable run, or is refused for one thing at most, and never both; want of memory is no such thing.
+/// It does nothing: its contract is the claim.
 pub fn audits_are_exact()
     ensures { (setup : Setup) (limits : List (Option ℕ)) (came : List Arrival) → IsAuditExact setup limits came }
 {}

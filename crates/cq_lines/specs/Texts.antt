@@ -29,7 +29,7 @@ pub record IsFirstFault {P X : Type 0} (spelling : X → List ℕ) (Rule : P →
   pub no_line : (x : X) (more : List ℕ) (q : P) → Rule last x q → rest ≢ spelling x ++ more
   pub no_end : rest ≡ [] → MayEnd last → ⊥
 
--- a text is read in one way, or refused at one line, and never both
+-- a text is read in one way at most, or refused at one line at most, and never both
 pub record IsExact {P X : Type 0} (spelling : X → List ℕ) (Rule : P → X → P → Type 0) (start : P)
     (MayEnd : P → Type 0) : Type 0 where
   pub one_reading : (xs ys : List X) (text : List ℕ) → IsText spelling Rule start MayEnd xs text →

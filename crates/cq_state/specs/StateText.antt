@@ -146,6 +146,6 @@ IsStateText xs text = IsText spelled Comes start MayEnd xs text
 abbrev pub IsStateFault : List ℕ → ℕ → Type 0
 IsStateFault text n = IsFirstFault spelled Comes start MayEnd text n
 
--- a state's text is read in one way, or refused at one line, and never both
+-- a state's text is read in one way at most, or refused at one line at most, and never both
 abbrev pub IsStateExact : Type 0
 IsStateExact = IsExact spelled Comes start MayEnd

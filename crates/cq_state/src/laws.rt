@@ -2,7 +2,7 @@
 ghost use Rattle.cq_state.specs.StateText.{IsStateExact};
 ghost use Rattle.cq_state.specs.OneText.{HaveOneText};
 
-/// The text of a state is read in one way, or refused at one line, and never both. It does nothing: its
+/// The text of a state is read in one way at most, or refused at one line at most, and never both. It does nothing: its
 /// contract is the claim.
 #[tactic(auto, using(crate::proofs::OneReading::state_is_exact))]
 pub fn state_texts_are_exact()
