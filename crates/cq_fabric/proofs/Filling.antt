@@ -1,7 +1,7 @@
 -- Cells that come into an empty list or an empty buffer in the order in which they are to stand. Each finds those
 -- ahead of it alone: in a list all more urgent cells for its output stand there, and no less urgent one, so that it
 -- goes in at the end; in a buffer all have lesser keys.
-use Rattle.cq_fabric.proofs.Terms.{rules, ◌≡◌, ◌≢◌, ℕ, zero, suc, ◌+◌, ◌<◌, ◌≤◌, false, List, [], ◌∷◌, ◌++◌, length, map, get_or, take, Some, refl, sym, ap, ◌∙◌, arith, common_steps, ◌&&◌, slice_get, AllByRecursion, and_left, and_right, cases_Bool, eqb-true, drop_all, get_or-map, get_or_read, length-map, length-take-le, take_all, take_more, All-from_recursion, same_Some, slice_get-get_or, Queued, is_before, EachPair, HasOtherKey, IsBefore, IsRising, MoreUrgentAhead, is_for, place_of_later, put, with_arrival, key_laws, ahead_of_end, first_later, Waiting, list_of, map_next, map_same, take_next, not_before_itself, AreFilled, IsFilled}
+use Rattle.cq_fabric.proofs.Terms.{rules, ◌≡◌, ◌≢◌, ℕ, zero, suc, ◌+◌, ◌<◌, ◌≤◌, false, List, [], ◌∷◌, ◌++◌, length, map, get_or, take, refl, ap, ◌∙◌, arith, common_steps, ◌&&◌, AllByRecursion, and_left, and_right, cases_Bool, eqb-true, drop_all, get_or-map, get_or_read, length-map, length-take-le, take_all, take_more, All-from_recursion, Queued, is_before, EachPair, HasOtherKey, IsBefore, IsRising, MoreUrgentAhead, is_for, place_of_later, put, with_arrival, key_laws, ahead_of_end, first_later, Waiting, list_of, map_next, map_same, take_next, not_before_itself, AreFilled, IsFilled}
 use Rattle.cq_fabric.specs.Holding.{CanWait}
 
 -- ## A cell behind those that stand before its place
@@ -97,12 +97,6 @@ one_filled {X} {cells_at} {room_of} {number} {m} {sizes} {cells} {n} {items} {mo
     grind (arith, common_steps, map_next, map_same)
 
 -- ## What waits
-
--- the cell at a place behind those before it
-pub one_read : (cells : List Queued) (i : ℕ) (xs more : List Queued) (c : Queued) → xs ≡ take i cells →
-    more ≡ xs ++ c ∷ [] → i < length cells → slice_get cells i ≡ Some c → more ≡ take (i + 1) cells
-one_read cells i xs more c so_far is inside at = take_next cells i xs more c c so_far is inside
-    (same_Some c (get_or cells i c) (sym at ∙ slice_get-get_or cells i c inside))
 
 -- the cells of one item behind those of the items before it
 pub one_told : {X : Type 0} (f : X → List Queued) (items : List X) (i : ℕ) (x : X) (all more : List (List Queued))

@@ -5,7 +5,7 @@ ghost use Rattle.cq_base.specs.declared.cell.Queued.{Queued as OfCell};
 ghost use Rattle.cq_fabric.specs.Terms.{cushion, fronts, rests, cells_of, cells_in, first_key, key_before, list_of, orders_of, Moves, transfers_of, IsMatching, MovesRoom, came_to, list_arrived, CanCrossInPairs, CanFollow, CanHold, IsNewest, CanCross, ComeApart, Comes, FitEach, FitLists, Fits, buffer_room, fabric_of, list_at, list_room, list_with};
 
 use crate::gone::Gone;
-use crate::standing::{all_told, buffered, filled_buffer, filled_each, filled_list};
+use crate::standing::{all_told, filled_buffer, filled_each, filled_list};
 use cq_base::{Key, NoMemory, Port, Queued, Room, Sequence, Slot, Transfer};
 use cq_ideal::Newcomers;
 use cq_list::InputList;
@@ -233,7 +233,7 @@ impl Queues {
     pub fn buffered(&self, alloc: Global) -> Result<Sequence<Sequence<Queued>>, NoMemory>
         ensures { IfOk result (λ buffers. buffers ≡ self.now.buffers) }
     {
-        all_told(alloc, &self.buffers, |buffer| buffered(alloc, buffer))
+        all_told(alloc, &self.buffers, |buffer| buffer.cells(alloc))
     }
 
     /// The number of inputs, and of outputs.

@@ -64,18 +64,6 @@ pub fn filled_each<T: Drop, F: Fn(u64, &[Queued]) -> Result<T, NoMemory>>(
     Ok(made)
 }
 
-/// The cells of a buffer, the most urgent first. The error is want of memory.
-#[tactic(auto, using(std::proofs::lemmas::List::take_all))]
-pub fn buffered(alloc: Global, buffer: &OutputBuffer) -> Result<Sequence<Queued>, NoMemory>
-    ensures { IfOk result (λ cells. cells ≡ buffer.now.cells) }
-{
-    let mut cells = Vec::with_capacity(alloc, buffer.len() as usize)?;
-    'places: for place in 0..buffer.len() {
-        cells.push(buffer.at(place))?;
-    }
-    Ok(Sequence::of(cells))
-}
-
 /// What is told of each of some items, in order. The error is want of memory.
 #[tactic(auto, using(std::proofs::lemmas::List::take_all))]
 pub fn all_told<T, F: Fn(&T) -> Result<Sequence<Queued>, NoMemory>>(

@@ -1,6 +1,7 @@
 -- Cells in blocks, one after another. What is done to one block is done to the cells where it stands, behind those of
 -- the blocks ahead.
-use Rattle.cq_urgency.proofs.Terms.{common_steps, rules, ◌≡◌, ℕ, zero, suc, ◌+◌, ◌<◌, ◌≤◌, ◌-◌, List, [], ◌∷◌, ◌++◌, length, set, take, Some, refl, ap, append_assoc, length-append, take-append-drop, arith, insert, slice_get, insert-append_left, insert-append_right, sum_by-cons, Queued, flattened, block_at, cells_in_all, halved}
+use Rattle.cq_base.proofs.Library.{append-nil}
+use Rattle.cq_urgency.proofs.Terms.{common_steps, rules, sym, ◌∙◌, ◌≡◌, ℕ, zero, suc, ◌+◌, ◌<◌, ◌≤◌, ◌-◌, List, [], ◌∷◌, ◌++◌, length, set, take, Some, refl, ap, append_assoc, length-append, take-append-drop, arith, insert, slice_get, insert-append_left, insert-append_right, sum_by-cons, Queued, flattened, block_at, cells_in_all, halved}
 
 pub length-flattened : (blocks : List (List Queued)) → cells_in_all blocks ≡ length (flattened blocks)
 length-flattened [] = refl
@@ -9,6 +10,15 @@ length-flattened (b ∷ bs) = grind (arith, common_steps, length-append, sum_by-
 pub some_blocks : (blocks : List (List Queued)) → 0 < length (flattened blocks) → 0 < length blocks
 some_blocks [] some = absurd (omega arith)
 some_blocks (b ∷ bs) some = omega arith
+
+-- the cells of one block more stand behind those of the blocks so far
+pub one_more : (blocks : List (List Queued)) (i : ℕ) → i < length blocks →
+    flattened (take (i + 1) blocks) ≡ flattened (take i blocks) ++ block_at blocks i
+one_more [] i inside = absurd (omega arith)
+one_more (b ∷ bs) zero inside = append-nil b
+one_more (b ∷ bs) (suc i) inside =
+    let next : suc i + 1 ≡ suc (i + 1) = omega arith in
+    rw next (ap (λ cells. b ++ cells) (one_more bs i (omega arith)) ∙ sym (append_assoc b _ _))
 
 -- ## One block
 

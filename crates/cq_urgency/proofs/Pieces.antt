@@ -1,7 +1,6 @@
 -- Pieces of an array. The piece of n items from h on is take n (drop h xs). A part of the array that is written anew
 -- leaves what stands ahead of it and behind it.
-use Rattle.cq_urgency.proofs.Terms.{common_steps, rules, ◌≡◌, ℕ, ◌+◌, ◌-◌, ◌≤◌, List, [], ◌∷◌, ◌++◌, length, set, take, drop, append_assoc, length-append, length-take, length-drop, arith, insert, take-take, take_at, drop-drop, drop-append-le, drop_all, drop-take, copy_within}
-use Rattle.cq_base.proofs.Library.{append-nil}
+use Rattle.cq_urgency.proofs.Terms.{common_steps, rules, ◌≡◌, ℕ, ◌+◌, ◌-◌, ◌<◌, ◌≤◌, List, ◌∷◌, ◌++◌, length, set, take, drop, append_assoc, length-append, length-take, length-drop, arith, insert, take-take, take_at, drop-drop, drop-append-le, drop_more, drop_all, drop-take}
 
 pub length_piece : {X : Type 0} (xs : List X) (h n : ℕ) → h + n ≤ length xs → length (take n (drop h xs)) ≡ n
 length_piece xs h n inside = let few = length-take n (drop h xs) in let left = length-drop h xs in omega arith
@@ -10,14 +9,11 @@ length_piece xs h n inside = let few = length-take n (drop h xs) in let left = l
 pub popped : {X : Type 0} (xs : List X) (h n m : ℕ) → n ≡ 1 + m → take m (drop (h + 1) xs) ≡ drop 1 (take n (drop h xs))
 popped xs h n m one = cc (drop-drop 1 h xs, drop-take 1 m (drop h xs))
 
--- ## Items that move on by one place, and the first one written
+-- ## Items turned by one place, and the first of them written
 
-pub moved_on : {X : Type 0} (xs : List X) (y : X) (n : ℕ) → n + 1 ≡ length xs →
-    set (copy_within xs 0 n 1) 0 y ≡ y ∷ take n xs
-moved_on [] y n long = absurd (omega arith)
-moved_on (x ∷ xs) y n long =
-    let none : drop (1 + n) (x ∷ xs) ≡ [] = drop_all (1 + n) (x ∷ xs) (omega arith) in
-    search (arith, rules, append-nil)
+pub turned_on : {X : Type 0} (xs : List X) (y : X) → 0 < length xs →
+    set (drop (length xs - 1) xs ++ take (length xs - 1) xs) 0 y ≡ y ∷ take (length xs - 1) xs
+turned_on xs y some = search (arith, rules, drop_more xs (length xs - 1) y, drop_all ((length xs - 1) + 1) xs)
 
 -- ## A part of the array written anew
 

@@ -41,8 +41,7 @@ fn push_on(cells: &mut [Queued], queued: Queued)
     requires { 0 < length cells.old }
     ensures { cells.new ≡ queued ∷ take (length cells.old - 1) cells.old }
 {
-    let others = cells.len() - 1;
-    cells.copy_within(0..others, 1);
+    cells.rotate_right(1);
     cells[0] = queued;
 }
 
@@ -118,12 +117,19 @@ impl Block {
         self.cells[self.head + place]
     }
 
+    /// The cells, in order.
+    pub fn cells(&self) -> &[Queued]
+        ensures { result.now ≡ self.now }
+    {
+        &self.cells[self.head..self.head + self.len]
+    }
+
     /// How many of the cells have a lesser key.
     pub fn cushion(&self, key: Key) -> usize
         requires { IsRising self.now }
         ensures { result ≡ cushion key self.now }
     {
-        count_before(&self.cells[self.head..self.head + self.len], key)
+        count_before(self.cells(), key)
     }
 
     /// Puts a cell in.

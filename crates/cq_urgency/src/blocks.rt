@@ -204,6 +204,17 @@ impl Blocks {
         self.block(spot.block).at(spot.within)
     }
 
+    /// The cells, of which there are so many, block after block. The error is want of memory.
+    pub fn cells(&self, alloc: Global, len: usize) -> Result<Vec<Queued>, NoMemory>
+        ensures { IfOk result (λ cells. cells.items ≡ flattened self.now.blocks) }
+    {
+        let mut cells = Vec::with_capacity(alloc, len)?;
+        'each: for place in 0..self.len() {
+            cells.extend_from_slice(self.block(place).cells())?;
+        }
+        Ok(cells)
+    }
+
     /// The first block, of one cell.
     pub fn start(&mut self, queued: Queued)
         requires none { self.old.blocks ≡ [] }

@@ -6,7 +6,7 @@ ghost use Rattle.cq_urgency.specs.Blocks.{flattened, block_at};
 ghost use Rattle.cq_urgency.specs.OutputBuffer.{AreFilled, AreBegun, IsSpot, starts_before};
 
 use crate::blocks::{Blocks, Spot};
-use cq_base::{Key, NoMemory, Queued};
+use cq_base::{Key, NoMemory, Queued, Sequence};
 use std::alloc::Global;
 use std::marker::Model;
 
@@ -250,5 +250,12 @@ impl OutputBuffer {
         ensures { slice_get self.now.cells place ≡ Some result }
     {
         self.blocks.at(place as usize)
+    }
+
+    /// The cells, the most urgent first, each looked at once. The error is want of memory.
+    pub fn cells(&self, alloc: Global) -> Result<Sequence<Queued>, NoMemory>
+        ensures { IfOk result (λ cells. cells ≡ self.now.cells) }
+    {
+        Ok(Sequence::of(self.blocks.cells(alloc, self.len as usize)?))
     }
 }
