@@ -5,7 +5,7 @@ use Rattle.cq_simulate.proofs.Terms.{nat_lt, length-filter_both, ◌≡◌, ℕ,
 use Rattle.std.specs.Prelude.{nat_le}
 use Rattle.cq_simulate.proofs.FabricCounts.{at_inputs, total_most}
 use Rattle.cq_simulate.proofs.FabricSteps.{all_at_inputs}
-use Rattle.cq_simulate.specs.FreshFabric.{by_port}
+use Rattle.cq_simulate.specs.ScheduleFor.{by_port}
 
 -- ## What came and what is to come
 
@@ -143,15 +143,23 @@ pub goes_of : (t : Tables) (s : Scheduled) (taken : Taken) → CanBeTakenUp (swi
     IsTraffic (ports_of t.setup) (classes_of t.setup) s.came → GoesOn (switch_of t s) taken.frozen
 goes_of t s taken sound traffic = grind (arith, common_steps, GoesOn, goes_on, machines_many)
 
+-- an engine of the machines of the tables, with room for what arrives, can go on from what was taken up
+pub can_go_on : {t : Tables} {s : Scheduled} {taken : Taken} {limits : List (Option ℕ)} {from to : List ℕ} →
+    CanBeTakenUp (switch_of t s) taken → IsScheduleFor t s →
+    class_count (machines_of t.setup) ≡ length t.setup.classes → limits ≡ t.limits →
+    from ≡ by_port is_from t s.came → to ≡ by_port is_to t s.came →
+    CanGoOn (machines_of t.setup) limits from to taken.frozen
+can_go_on {t} {s} {taken} sound fit classes same inputs outputs =
+    let goes = goes_of t s taken sound fit.traffic in
+    let many = machines_many t in grind (arith, common_steps, goes.lists, both_parts, room_at, goes.buffers)
+
 module _ {t : Tables} {s : Scheduled} {taken : Taken} {p : Ports} (are : ArePortsFor t s.came p)
     (sound : CanBeTakenUp (switch_of t s) taken) (fit : IsScheduleFor t s) where
-  -- an engine can be made of the ports that goes on from what was taken up
   pub can_thaw : {from to : List ℕ} {limits : List (Option ℕ)} → from ≡ p.from_inputs.items →
       to ≡ p.to_outputs.items → limits ≡ t.limits →
       CanGoOn (map machine_from (map fixed_of p.ranks.items)) limits from to taken.frozen
   can_thaw from to same =
-      let goes = goes_of t s taken sound fit.traffic in
-      let many = machines_many t in grind (arith, common_steps, goes.lists, both_parts, room_at, goes.buffers)
+      rw are.machines (can_go_on sound fit are.classes same (from ∙ are.from_inputs) (to ∙ are.to_outputs))
 
   -- and it runs on
   pub runs_on : (engine : EngineView) (sent : RoomView Departure) (note : RoomView Transfer) {count total : ℕ} →

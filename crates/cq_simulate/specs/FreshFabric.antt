@@ -1,19 +1,15 @@
 -- Only proofs use this. What a fabric of tables is made of, for the cells that arrive, and one that has had no slot.
-use Rattle.std.specs.Prelude.{◌≡◌, ℕ, Bool, List, length, map}
-use Rattle.std.specs.List.{range_with_len}
+use Rattle.std.specs.Prelude.{◌≡◌, List, length, map}
 use Rattle.cq_base.specs.Arriving.{Arrival}
-use Rattle.cq_cells.specs.Traffic.{is_from, is_to, number_of}
+use Rattle.cq_cells.specs.Traffic.{is_from, is_to}
 use Rattle.cq_engine.specs.Engine.{EngineView, fresh_engine}
 use Rattle.cq_rank.specs.Switch.{AreForOneSwitch, class_count}
 use Rattle.cq_route.specs.Tables.{ports_of}
 use Rattle.cq_route.specs.declared.tables.Tables.{Tables}
 use Rattle.cq_scfq.specs.Discipline.{fixed_of, machine_from, state_of}
 use Rattle.cq_scfq.specs.Disciplines.{machines_of, openings_of}
+use Rattle.cq_simulate.specs.ScheduleFor.{by_port}
 use Rattle.cq_simulate.specs.declared.ports.Ports.{Ports}
-
--- how many of the arrivals are of each port
-abbrev pub by_port : (ℕ → Arrival → Bool) → Tables → List Arrival → List ℕ
-by_port is t came = map (λ port. number_of (is port) came) (range_with_len 0 (ports_of t.setup))
 
 -- the ranks are those of the tables, in their opening states, and there is room for what comes
 pub record ArePortsFor (t : Tables) (came : List Arrival) (p : Ports) : Type 0 where

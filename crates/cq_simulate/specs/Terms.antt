@@ -4,10 +4,12 @@ pub use Rattle.cq_base.specs.Arriving.{arriving, end_of, traffic_of, Arrival}
 pub use Rattle.cq_pcap.specs.Captured.{Captured}
 pub use Rattle.cq_route.specs.Tables.{AreTables, IsSetup, classes_of, ports_of}
 pub use Rattle.cq_route.specs.declared.tables.Tables.{Tables}
-pub use Rattle.cq_cells.specs.{NextArrival.ArrivesIn, Scheduled.schedule_of, Traffic.IsTraffic}
+pub use Rattle.cq_cells.specs.{NextArrival.ArrivesIn, Scheduled.Scheduled, Scheduled.schedule_of}
+pub use Rattle.cq_cells.specs.Traffic.{is_from, is_to, IsTraffic}
 pub use Rattle.cq_cells.specs.Schedule.{arrivals, first_stamp, packet_at}
 pub use Rattle.cq_rank.specs.Machine.{Machine}
-pub use Rattle.cq_scfq.specs.Disciplines.{openings_of}
+pub use Rattle.cq_scfq.specs.Disciplines.{machines_of, openings_of}
+pub use Rattle.cq_engine.specs.Engine.{CanGoOn}
 pub use Rattle.cq_ideal.specs.{Admission.NoLimits, Ending.slots_of, Ideal.marked_state, LimitedEnding.departures_limited, LimitedIdeal.limited_run}
 pub use Rattle.cq_ideal.specs.WholePackets.{AreOfPackets, cells_at}
 pub use Rattle.cq_reasm.specs.Joining.{IsOtherPair, open_after, open_at}
@@ -17,7 +19,7 @@ pub use Rattle.cq_laws.specs.{FabricRun.FabricRun, FabricSlot.SlotRecord, Measur
 pub use Rattle.cq_laws.specs.LimitedFabric.{LimitedRecord, slots_in}
 pub use Rattle.cq_resume.specs.{Parts.IsParted, Resumed.IsResumed, Resumed.Kept, Switch.switch_of, declared.taken.Taken.Taken}
 pub use Rattle.cq_traffic.specs.Stretch.{IsQuiet, IsQuietUntil, NoneCome}
-pub use Rattle.cq_simulate.specs.{EachPacket.EachPacketOnce, Emulation.EmulatesIdeal, Ready.IsReady, ScheduleFor.IsScheduleFor}
+pub use Rattle.cq_simulate.specs.{EachPacket.EachPacketOnce, Emulation.EmulatesIdeal, Ready.IsReady, ScheduleFor.by_port, ScheduleFor.IsScheduleFor}
 pub use Rattle.cq_simulate.specs.FabricRuns.{IsKeptOf, unpacked_run, IsFabricRun, departures_in_run, refused_in_run}
 pub use Rattle.cq_simulate.specs.FreshFabric.{ArePortsFor, IsFreshFor}
 pub use Rattle.cq_simulate.specs.GoingOn.{HasKept, HasRunOn, IsReadyOn, IsRefusalOn, StopsOn, HasPartedTo, IsIdle, IsReadyPart, StopsWithin}

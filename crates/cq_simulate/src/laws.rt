@@ -1,7 +1,7 @@
 //! What holds of what arrives, and of runs over it, whatever a fabric is made of. Each law is the contract of a
 //! function that does nothing.
 ghost use Rattle.std.specs.Prelude.{◌≡◌, ◌<◌, ℕ, List, Ok, length};
-ghost use Rattle.cq_simulate.specs.Terms.{Arrival, traffic_of, arrivals, IsTraffic, NoLimits, AreOfPackets, cells_at, LimitedRecord, slots_in, figures_of, Captured, AreTables, IsSetup, classes_of, ports_of, Tables, EachPacketOnce, EmulatesIdeal, IsFabricRun, departures_in_run, refused_in_run, CanBeTakenUp, Departure, HaveLeftOf, IsResumed, Kept, Taken, first_stamp, ideal_departures, schedule_of, switch_of};
+ghost use Rattle.cq_simulate.specs.Terms.{Arrival, traffic_of, arrivals, IsTraffic, NoLimits, AreOfPackets, cells_at, LimitedRecord, slots_in, figures_of, Captured, AreTables, IsSetup, classes_of, ports_of, Tables, EachPacketOnce, EmulatesIdeal, IsFabricRun, departures_in_run, refused_in_run, CanBeTakenUp, Departure, HaveLeftOf, IsResumed, Kept, Taken, first_stamp, ideal_departures, schedule_of, switch_of, Scheduled, IsScheduleFor, CanGoOn, machines_of, by_port, is_from, is_to};
 
 /// The fabric of the tables' ranks and limits admits, refuses and sends what the ideal switch of the same ranks and
 /// limits does, each cell in the same slot at the same output. Its matchings are the input-best ones of what the lists
@@ -34,6 +34,14 @@ pub fn whole_packets_arrive()
     ensures { (t : Tables) (captures : List (List Captured)) (input : ℕ) →
         AreTables t → length captures ≡ ports_of t.setup → input < length captures →
         AreOfPackets 0 (cells_at input (traffic_of (arrivals t captures))) }
+{}
+
+/// From every state that can be taken up an engine of the tables' machines and limits can go on, with room at each port
+/// for the cells that arrive there in all. So one can be made of what was read, as `Engine::thaw` asks.
+pub fn taken_up_states_can_go_on()
+    ensures { (t : Tables) (s : Scheduled) (from : Taken) →
+        IsScheduleFor t s → CanBeTakenUp (switch_of t s) from →
+        CanGoOn (machines_of t.setup) t.limits (by_port is_from t s.came) (by_port is_to t s.came) from.frozen }
 {}
 
 /// What a run sends leaves in whole packets: of the ideal switch, of the fabric, and of a fabric that goes on from any

@@ -17,7 +17,7 @@ pub use ideal_run::{IdealRun, run_ideal, run_ideal_packed};
 pub use idle::outputs_send_once_a_slot;
 pub use laws::{
     each_packet_is_written_or_counted, fabric_sends_as_the_ideal_switch, runs_leave_whole_packets,
-    whole_packets_arrive,
+    taken_up_states_can_go_on, whole_packets_arrive,
 };
 pub use packets::packets_of;
 pub use packing::{Packing, packets_of_all};
