@@ -123,11 +123,8 @@ module _ (t : Tables) (captures : List (List Captured)) (rs : List LimitedRecord
     never_denied : (denial : Denial) → IsDenied t captures sent (trace_of sent) (log_of note) denial → ⊥
     never_denied why.LongTrace denied = denied
     never_denied why.LongLog denied = denied
-    never_denied (why.Line n) denied = never_refused (of_log.Line n) (λ e. cc) denied
-    never_denied (why.Transfer slot phase i) denied = never_refused (of_log.Transfer slot phase i) (λ e. cc) denied
-    never_denied (why.Blocking slot phase i j) denied =
-        never_refused (of_log.Blocking slot phase i j) (λ e. cc) denied
-    never_denied (why.Left n) denied = never_refused (of_log.Left n) (λ e. cc) denied
+    never_denied (why.Log of_log.NoMemory) denied = denied
+    never_denied (why.Log refusal) denied = never_refused refusal (λ e. cc) denied
     never_denied (why.Trace n) denied =
         let exact = trace_is_exact in exact.differ (trace_of sent) (trace_of sent) n denied.1 refl
 

@@ -1,7 +1,7 @@
 -- What an audit says of the trace and the log of any maker. Its yes: the log is that of a stable run of the switch
 -- that the configuration describes, with its limits, over the cells that arrive, and the trace is what the ideal
 -- switch of these limits sends. Its no is the first thing that is wrong.
-use Rattle.std.specs.Prelude.{◌≡◌, ℕ, List, Option, Some, None}
+use Rattle.std.specs.Prelude.{◌≡◌, ℕ, List}
 use Rattle.cq_audit.specs.Audit.{IsNo, IsYes}
 use Rattle.cq_audit.specs.Trace.{DiffersFirst}
 use Rattle.cq_audit.specs.declared.refusal.AuditRefusal.{AuditRefusal}
@@ -12,26 +12,16 @@ use Rattle.cq_cells.specs.Schedule.{arrivals}
 use Rattle.cq_pcap.specs.Captured.{Captured}
 use Rattle.cq_route.specs.declared.tables.Tables.{Tables}
 use Rattle.cq_run.specs.declared.denial.Denial.{Denial}
-use Rattle.cq_run.specs.declared.denial.Denial.TheVariants.{LongTrace, LongLog, Line, Transfer, Blocking, Left, Trace}
+use Rattle.cq_run.specs.declared.denial.Denial.TheVariants.{LongTrace, LongLog, Log, Trace}
 use Rattle.cq_run.specs.declared.refusal.Refusal.TheVariants.{Audit}
 use Rattle.cq_run.specs.declared.stop.Halt.{Halt}
 use Rattle.cq_run.specs.declared.stop.Halt.TheVariants.{Refused, NoMemory}
 
 -- ## What a refusal of the log comes to
 
-abbrev pub denial_for : AuditRefusal → Option Denial
-denial_for (of_log.Line n) = Some (Line n)
-denial_for (of_log.Transfer slot phase i) = Some (Transfer slot phase i)
-denial_for (of_log.Blocking slot phase i j) = Some (Blocking slot phase i j)
-denial_for (of_log.Left n) = Some (Left n)
-denial_for of_log.NoMemory = None
-
-abbrev pub halt_of_denial : Option Denial → Halt
-halt_of_denial None = NoMemory
-halt_of_denial (Some denial) = Refused (Audit denial)
-
 abbrev pub halt_for_log : AuditRefusal → Halt
-halt_for_log refusal = halt_of_denial (denial_for refusal)
+halt_for_log of_log.NoMemory = NoMemory
+halt_for_log refusal = Refused (Audit (Log refusal))
 
 -- ## A yes and a no
 
@@ -50,10 +40,7 @@ IsLogDenied t captures log refusal = IsNo t.setup t.limits (arrivals t captures)
 abbrev pub IsDenied : Tables → List (List Captured) → List Departure → List ℕ → List ℕ → Denial → Type 0
 IsDenied t captures sent trace log LongTrace = ⊥
 IsDenied t captures sent trace log LongLog = ⊥
-IsDenied t captures sent trace log (Line n) = IsLogDenied t captures log (of_log.Line n)
-IsDenied t captures sent trace log (Transfer slot phase i) = IsLogDenied t captures log (of_log.Transfer slot phase i)
-IsDenied t captures sent trace log (Blocking slot phase i j) =
-    IsLogDenied t captures log (of_log.Blocking slot phase i j)
-IsDenied t captures sent trace log (Left n) = IsLogDenied t captures log (of_log.Left n)
+IsDenied t captures sent trace log (Log of_log.NoMemory) = ⊥
+IsDenied t captures sent trace log (Log refusal) = IsLogDenied t captures log refusal
 IsDenied t captures sent trace log (Trace n) =
     IsYes t.setup t.limits (arrivals t captures) log × DiffersFirst trace (trace_of sent) n

@@ -1,6 +1,8 @@
 -- What each refusal comes to: the one table from which statuses, lines and causes follow. A new refusal is one case
 -- here.
-use Rattle.std.specs.Prelude.{ℕ, Bool, true, false, List, ◌++◌, codes}
+use Rattle.std.specs.Prelude.{ℕ, Bool, true, false, List, [], ◌++◌, codes}
+use Rattle.cq_audit.specs.declared.refusal.AuditRefusal.{AuditRefusal}
+use Rattle.cq_audit.specs.declared.refusal.AuditRefusal.TheVariants as of_log
 use Rattle.cq_base.specs.declared.status.Status.{Status}
 use Rattle.cq_base.specs.declared.status.Status.TheVariants as status
 use Rattle.cq_base.specs.Decimal.{decimal}
@@ -51,17 +53,22 @@ fault_text (Long limit) = codes "8, limit " ++ decimal limit
 abbrev pub in_phase_text : ℕ → ℕ → List ℕ
 in_phase_text slot phase = codes " at slot " ++ decimal slot ++ codes " phase " ++ decimal phase
 
+-- what an audit refuses a log for, with its figures; want of memory says nothing of a log
+abbrev pub log_text : AuditRefusal → List ℕ
+log_text (of_log.Line n) = codes "audit: A1 at line " ++ decimal n
+log_text (of_log.Transfer slot phase input) =
+    (codes "audit: A2" ++ in_phase_text slot phase) ++ (codes " input " ++ decimal input)
+log_text (of_log.Blocking slot phase input output) =
+    (codes "audit: A3" ++ in_phase_text slot phase)
+    ++ (codes " input " ++ decimal input ++ codes " output " ++ decimal output)
+log_text (of_log.Left n) = codes "audit: A4 at line " ++ decimal n
+log_text of_log.NoMemory = []
+
 -- what an audit says no to, with its figures
 abbrev pub denial_text : Denial → List ℕ
 denial_text audit.LongTrace = codes "audit: A6 trace"
 denial_text audit.LongLog = codes "audit: A6 log"
-denial_text (audit.Line n) = codes "audit: A1 at line " ++ decimal n
-denial_text (audit.Transfer slot phase input) =
-    (codes "audit: A2" ++ in_phase_text slot phase) ++ (codes " input " ++ decimal input)
-denial_text (audit.Blocking slot phase input output) =
-    (codes "audit: A3" ++ in_phase_text slot phase)
-    ++ (codes " input " ++ decimal input ++ codes " output " ++ decimal output)
-denial_text (audit.Left n) = codes "audit: A4 at line " ++ decimal n
+denial_text (audit.Log refusal) = log_text refusal
 denial_text (audit.Trace n) = codes "audit: A5 at line " ++ decimal n
 
 -- what is wrong with the state of a stopped run, with its figure

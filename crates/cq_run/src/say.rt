@@ -1,9 +1,10 @@
 //! The line that tells why a run stopped. Nothing here takes memory.
 ghost use Rattle.std.specs.Prelude.{◌++◌};
 ghost use Rattle.std.specs.List.{flat_map};
-ghost use Rattle.cq_run.specs.Terms.{decimal, denial_text, fault_text, meaning_of, state_fault_text, Says, line, halt_text, unwritten_text, stop_text};
+ghost use Rattle.cq_run.specs.Terms.{decimal, denial_text, fault_text, log_text, meaning_of, state_fault_text, Says, line, halt_text, unwritten_text, stop_text};
 
 use crate::{CaptureFault, Denial, Halt, Refusal, StateFault, Stop, Unwritten};
+use cq_audit::AuditRefusal;
 use cq_base::{MOST_DIGITS, Name, Port, Slot, TagFault, digits};
 use cq_space::{Sink, WriteFault, put_all};
 
@@ -138,21 +139,30 @@ fn say_denial<S: Sink>(sink: &mut S, denial: Denial) -> Result<(), WriteFault>
     match denial {
         Denial::LongTrace => say_line(sink, b"audit: A6 trace"),
         Denial::LongLog => say_line(sink, b"audit: A6 log"),
-        Denial::Line { line } => say_number(sink, b"audit: A1 at line ", line),
-        Denial::Transfer { slot, phase, input } => say_transfer(sink, slot, phase, input),
-        Denial::Blocking {
+        Denial::Log(refusal) => say_log(sink, refusal),
+        Denial::Trace { line } => say_number(sink, b"audit: A5 at line ", line),
+    }
+}
+
+fn say_log<S: Sink>(sink: &mut S, refusal: AuditRefusal) -> Result<(), WriteFault>
+    ensures { Says S.taken S.faults (line (log_text refusal)) sink.old sink.new result }
+{
+    match refusal {
+        AuditRefusal::Line { line } => say_number(sink, b"audit: A1 at line ", line),
+        AuditRefusal::Transfer { slot, phase, input } => say_transfer(sink, slot, phase, input),
+        AuditRefusal::Blocking {
             slot,
             phase,
             input,
             output,
         } => say_blocking(sink, slot, phase, input, output),
-        Denial::Left { line } => say_number(sink, b"audit: A4 at line ", line),
-        Denial::Trace { line } => say_number(sink, b"audit: A5 at line ", line),
+        AuditRefusal::Left { line } => say_number(sink, b"audit: A4 at line ", line),
+        AuditRefusal::NoMemory => say_line(sink, b""),
     }
 }
 
 fn say_transfer<S: Sink>(sink: &mut S, slot: Slot, phase: u8, input: Port) -> Result<(), WriteFault>
-    ensures { Says S.taken S.faults (line (denial_text (Denial.Transfer slot phase input)))
+    ensures { Says S.taken S.faults (line (log_text (AuditRefusal.Transfer slot phase input)))
         sink.old sink.new result }
 {
     let phase = u64::from(phase);
@@ -167,7 +177,7 @@ fn say_blocking<S: Sink>(
     input: Port,
     output: Port,
 ) -> Result<(), WriteFault>
-    ensures { Says S.taken S.faults (line (denial_text (Denial.Blocking slot phase input output)))
+    ensures { Says S.taken S.faults (line (log_text (AuditRefusal.Blocking slot phase input output)))
         sink.old sink.new result }
 {
     let (phase, input, output) = (u64::from(phase), u64::from(input), u64::from(output));

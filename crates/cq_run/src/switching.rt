@@ -137,9 +137,9 @@ impl From<AuditRefusal> for Halt {
     ghost from_gives = { λ refusal halt. halt ≡ halt_for_log refusal };
 
     fn from(refusal: AuditRefusal) -> Self {
-        match Denial::of(refusal) {
-            Some(denial) => denied(denial),
-            None => Halt::NoMemory,
+        match refusal {
+            AuditRefusal::NoMemory => Halt::NoMemory,
+            _ => denied(Denial::Log(refusal)),
         }
     }
 }
