@@ -14,12 +14,6 @@ use Rattle.cq_run.specs.Pace.{Pace}
 use Rattle.cq_run.specs.Plan.{Plan}
 use Rattle.cq_run.specs.Refusals.{meaning_of}
 
--- what a call that judges a command answers and leaves, where it denies nothing
-abbrev pub Plans : Pace → (Contents → Result Aim Refusal) → (List ℕ → Type 0) → Space → Space → Result Plan Halt
-    → Type 0
-Plans pace judge unread old new (Ok plan) = (aim : Aim) × Meets aim plan × Judges pace judge unread old new (Ok aim)
-Plans pace judge unread old new (Err halt) = Judges pace judge unread old new (Err halt)
-
 -- ## An aim that is denied
 
 -- the contents come to an aim that is denied so
@@ -43,12 +37,12 @@ pub record EndsDenied (judge : Contents → Result Aim Refusal) (old new : Space
 abbrev pub CommandHalts : Pace → (Contents → Result Aim Refusal) → (List ℕ → Type 0) → Space → Space → Halt → Type 0
 CommandHalts pace judge unread old new halt = Halts pace judge unread old new halt ⊎ DenialHalts judge old new halt
 
--- what a call that judges any command answers and leaves
+-- what a call that judges any command answers and leaves: a plan that meets what is aimed at, or why there is none
 abbrev pub Decides : Pace → (Contents → Result Aim Refusal) → (List ℕ → Type 0) → Space → Space → Result Plan Halt
     → Type 0
-Decides pace judge unread old new (Ok plan) = Plans pace judge unread old new (Ok plan)
+Decides pace judge unread old new (Ok plan) = (aim : Aim) × Meets aim plan × Judges pace judge unread old new (Ok aim)
 Decides pace judge unread old new (Err halt) =
-    Plans pace judge unread old new (Err halt) ⊎ EndsDenied judge old new halt
+    Judges pace judge unread old new (Err halt) ⊎ EndsDenied judge old new halt
 
 -- ## What a command knows
 
