@@ -12,22 +12,7 @@ use Rattle.cq_run.specs.declared.refusal.Refusal.{Refusal}
 
 -- these tables, with so many workers
 abbrev pub with_workers : ℕ → Tables → Tables
-with_workers n t =
-    record {
-      cell_bytes = t.cell_bytes;
-      slot_ns = t.slot_ns;
-      limit_bytes = t.limit_bytes;
-      workers = n;
-      default_output = t.default_output;
-      default_class = t.default_class;
-      trace = t.trace;
-      log = t.log;
-      setup = t.setup;
-      ports = t.ports;
-      limits = t.limits;
-      addresses = t.addresses;
-      rules = t.rules;
-    }
+with_workers n t = record t { workers = n }
 
 -- two configurations lie side by side, and differ in their workers alone
 pub record DifferInWorkers (m : Contents) (one other : List ℕ) : Type 0 where
