@@ -11,7 +11,7 @@ use crate::{Capture, PacketRow};
 use std::alloc::Global;
 use thiserror::Error;
 
-/// Why no capture is read. An offset is the place in the file, in bytes, of the record at fault.
+/// Why no capture is read.
 #[derive(Clone, Copy, Debug, PartialEq, Eq, Error)]
 pub enum PcapRefusal {
     /// The file has fewer than 24 bytes.
@@ -28,13 +28,24 @@ pub enum PcapRefusal {
     LinkType,
     /// The file ends inside a record's header.
     #[error("cut record header at {offset}")]
-    CutHeader { offset: u64 },
+    CutHeader {
+        /// Where the record begins in the file, in bytes.
+        offset: u64,
+    },
     /// The file ends inside a record's captured bytes.
     #[error("cut record at {offset}")]
-    CutBody { offset: u64 },
+    CutBody {
+        /// Where the record begins in the file, in bytes.
+        offset: u64,
+    },
     /// A record states a captured length of more than 262,144 bytes.
     #[error("record of {length} bytes at {offset}")]
-    LongRecord { offset: u64, length: u32 },
+    LongRecord {
+        /// Where the record begins in the file, in bytes.
+        offset: u64,
+        /// The captured length that it states, in bytes.
+        length: u32,
+    },
     /// The places of the packets find no memory.
     #[error("out of memory")]
     NoMemory,

@@ -24,8 +24,11 @@ pub enum CaptureFault {
     CutBody { offset: u64 },
     /// Number 7: a record states a captured length of more than 262,144 bytes.
     LongRecord { offset: u64, length: u32 },
-    /// Number 8: it has more than `limit` bytes.
-    Long { limit: u64 },
+    /// Number 8: its file is too long.
+    Long {
+        /// How many bytes it may have.
+        limit: u64,
+    },
 }
 
 impl CaptureFault {
@@ -53,12 +56,18 @@ impl CaptureFault {
 pub enum StateFault {
     /// S4: its text has more than 268,435,456 bytes, as it is read or would be written.
     Long,
-    /// S1: this line of its text, from 1, is the first that is not allowed there, or is missing.
-    Line { line: u64 },
+    /// S1: this line of its text is the first that is not allowed there, or is missing.
+    Line {
+        /// Which line it is, from 1.
+        line: u64,
+    },
     /// S2: it is of a switch of another shape, or over other captures.
     Shape,
-    /// S3: this clause, from 1, is the first that does not hold of it.
-    Unsound { clause: u8 },
+    /// S3: this clause is the first that does not hold of it.
+    Unsound {
+        /// Which clause it is, from 1.
+        clause: u8,
+    },
 }
 
 /// What words and files are refused for.
@@ -67,17 +76,39 @@ pub enum Refusal {
     /// The words are no command.
     Words,
     /// A name to be read is not there.
-    Missing { name: Name },
-    /// The configuration is refused, by its first fault: the code, and the path of the key.
-    Configuration { code: u8, path: Name },
+    Missing {
+        /// The name.
+        name: Name,
+    },
+    /// The configuration is refused, by its first fault.
+    Configuration {
+        /// The number of what is wrong.
+        code: u8,
+        /// The path of the key where it is wrong, or `-` for the whole text.
+        path: Name,
+    },
     /// The capture of an input is at fault.
-    Capture { input: u16, fault: CaptureFault },
+    Capture {
+        /// The input, from 0.
+        input: u16,
+        /// What is wrong with it.
+        fault: CaptureFault,
+    },
     /// A rank does not fit 128 bits.
-    Tag { fault: TagFault },
+    Tag {
+        /// Which cell has it.
+        fault: TagFault,
+    },
     /// An audit says no.
-    Audit { denial: Denial },
+    Audit {
+        /// What it says no to.
+        denial: Denial,
+    },
     /// The state of a stopped run is refused, or too long.
-    State { fault: StateFault },
+    State {
+        /// What is wrong with it.
+        fault: StateFault,
+    },
 }
 
 impl Refusal {

@@ -9,9 +9,15 @@ use cq_base::{Name, NoMemory, Status};
 #[derive(Drop)]
 pub enum Halt {
     /// The words, or what was read, are refused.
-    Refused { refusal: Refusal },
-    /// Reading this name met a fault.
-    Unread { name: Name },
+    Refused {
+        /// What they are refused for.
+        refusal: Refusal,
+    },
+    /// Reading a name met a fault.
+    Unread {
+        /// The name.
+        name: Name,
+    },
     /// Want of memory.
     NoMemory,
 }
@@ -19,8 +25,11 @@ pub enum Halt {
 /// What could not be written whole.
 #[derive(Drop)]
 pub enum Unwritten {
-    /// The file of this name.
-    File { name: Name },
+    /// A file.
+    File {
+        /// Its name.
+        name: Name,
+    },
     /// The text on standard output.
     Output,
 }
@@ -29,9 +38,15 @@ pub enum Unwritten {
 #[derive(Drop)]
 pub enum Stop {
     /// It stopped before it wrote its first byte.
-    Halted { halt: Halt },
+    Halted {
+        /// Why.
+        halt: Halt,
+    },
     /// Its writing was cut short.
-    Cut { at: Unwritten },
+    Cut {
+        /// What could not be written whole.
+        at: Unwritten,
+    },
 }
 
 impl From<NoMemory> for Halt {
