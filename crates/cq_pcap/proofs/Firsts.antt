@@ -1,6 +1,6 @@
 -- What the bytes from a place on come to: a packet where a whole record stands there, or else what is wrong with it.
 -- The three faults are tried in their order.
-use Rattle.cq_pcap.proofs.Terms.{rules, ◌≡◌, ℕ, ◌+◌, ◌*◌, ◌<◌, ◌≤◌, List, length, take, drop, arith, common_steps, Result, Ok, Err, nat_tests, Form, number_at, unit, Captured, Fault, NoHeader, Magic, Version, LinkType, CutHeader, LongRecord, CutBody, first_packet}
+use Rattle.cq_pcap.proofs.Terms.{rules, ◌≡◌, ℕ, ◌+◌, ◌*◌, ◌<◌, ◌≤◌, List, length, take, drop, arith, common_steps, Result, Ok, Err, nat_tests, Form, number_at, unit, Captured, PcapRefusal, CutHeader, LongRecord, CutBody, first_packet}
 
 -- the captured length that the record at the front states
 abbrev pub stated : Form → List ℕ → ℕ
@@ -22,17 +22,14 @@ front_packet form xs =
     }
 
 -- what an answer says of the bytes
-abbrev pub Says : Form → ℕ → List ℕ → Result Captured Fault → Type 0
+abbrev pub Says : Form → ℕ → List ℕ → Result Captured PcapRefusal → Type 0
 Says form place xs (Ok p) = IsWhole form xs × (p ≡ front_packet form xs)
-Says form place xs (Err NoHeader) = ⊥
-Says form place xs (Err Magic) = ⊥
-Says form place xs (Err Version) = ⊥
-Says form place xs (Err LinkType) = ⊥
 Says form place xs (Err (CutHeader offset)) = (offset ≡ place) × (length xs < 16)
 Says form place xs (Err (LongRecord offset len)) =
     (offset ≡ place) × (16 ≤ length xs) × (len ≡ stated form xs) × (262144 < len)
 Says form place xs (Err (CutBody offset)) =
     (offset ≡ place) × (16 ≤ length xs) × (stated form xs ≤ 262144) × (length xs < 16 + stated form xs)
+Says form place xs _ = ⊥
 
 -- what is answered is so
 pub first_says : (form : Form) (place : ℕ) (xs : List ℕ) → Says form place xs (first_packet form place xs)
@@ -40,8 +37,8 @@ unfolding first_packet
 first_says form place xs = search (arith, rules, nat_tests)
 
 -- and what is so is answered
-pub first_said : (form : Form) (place : ℕ) (xs : List ℕ) (answer : Result Captured Fault) → Says form place xs answer →
-    first_packet form place xs ≡ answer
+pub first_said : (form : Form) (place : ℕ) (xs : List ℕ) (answer : Result Captured PcapRefusal) →
+    Says form place xs answer → first_packet form place xs ≡ answer
 unfolding first_packet
 first_said form place xs (Ok p) h = grind (arith, common_steps, nat_tests)
 first_said form place xs (Err (CutHeader offset)) h = grind (arith, common_steps, nat_tests)

@@ -1,5 +1,5 @@
 -- The first bytes of a file tell its form, or the first fault of its header: the tests compare what the rule compares.
-use Rattle.cq_pcap.proofs.Terms.{rules, ◌≡◌, ℕ, ◌%◌, ◌^◌, ◌≤◌, Bool, true, false, List, ◌++◌, length, refl, subst, arith, length-append, common_steps, Option, None, Some, Result, Ok, Err, Decides, Decides-and, Decides-eqb, Decides-like, nat_tests, take-append-le, bytes_eq-Decides, Form, form_at, number_at, Fault, NoHeader, Magic, Version, LinkType, IsFaulty, has_link_type, has_version, header_form, offset_of, HasMagic, HasVersion, HasLinkType, IsHeader}
+use Rattle.cq_pcap.proofs.Terms.{rules, ◌≡◌, ℕ, ◌%◌, ◌^◌, ◌≤◌, Bool, true, false, List, ◌++◌, length, refl, subst, arith, length-append, common_steps, Option, None, Some, Result, Ok, Err, Decides, Decides-and, Decides-eqb, Decides-like, nat_tests, take-append-le, bytes_eq-Decides, Form, form_at, number_at, PcapRefusal, NoHeader, Magic, Version, LinkType, NoMemory, IsFaulty, has_link_type, has_version, header_form, offset_of, HasMagic, HasVersion, HasLinkType, IsHeader}
 use Rattle.cq_pcap.proofs.Numbers.{number_at-append}
 
 -- a form is found by its magic
@@ -24,7 +24,7 @@ is_false true d h = absurd (h (d.0 refl))
 is_false false d h = refl
 
 -- what an answer says of the header
-abbrev pub Says : List ℕ → Result Form Fault → Type 0
+abbrev pub Says : List ℕ → Result Form PcapRefusal → Type 0
 Says bytes (Ok form) = (24 ≤ length bytes) × HasMagic form bytes × HasVersion form bytes × HasLinkType form bytes
 Says bytes (Err fault) = IsFaulty bytes fault
 
@@ -34,12 +34,12 @@ unfolding header_form
 header_says bytes = search (arith, rules, nat_tests, form_found, found_magic, version-Decides, link-Decides)
 
 pub header_ok : (bytes : List ℕ) (form : Form) → header_form bytes ≡ Ok form → Says bytes (Ok form)
-header_ok bytes form e = let P : Result Form Fault → Type 0 = Says bytes in subst P e (header_says bytes)
+header_ok bytes form e = let P : Result Form PcapRefusal → Type 0 = Says bytes in subst P e (header_says bytes)
 
-pub header_err : (bytes : List ℕ) (fault : Fault) → header_form bytes ≡ Err fault → IsFaulty bytes fault
-header_err bytes fault e = let P : Result Form Fault → Type 0 = Says bytes in subst P e (header_says bytes)
+pub header_err : (bytes : List ℕ) (fault : PcapRefusal) → header_form bytes ≡ Err fault → IsFaulty bytes fault
+header_err bytes fault e = let P : Result Form PcapRefusal → Type 0 = Says bytes in subst P e (header_says bytes)
 
-pub header_place : (bytes : List ℕ) (fault : Fault) → header_form bytes ≡ Err fault → offset_of fault ≡ None
+pub header_place : (bytes : List ℕ) (fault : PcapRefusal) → header_form bytes ≡ Err fault → offset_of fault ≡ None
 unfolding header_form
 header_place bytes fault e = search (arith, rules)
 
@@ -62,7 +62,7 @@ no_form : (bytes : List ℕ) (found : Option Form) → form_at bytes ≡ found �
 no_form bytes None e h = refl
 no_form bytes (Some form) e h = absurd (h form (found_magic form bytes e))
 
-pub header_faulty : (bytes : List ℕ) (fault : Fault) → offset_of fault ≡ None → IsFaulty bytes fault →
+pub header_faulty : (bytes : List ℕ) (fault : PcapRefusal) → offset_of fault ≡ None → IsFaulty bytes fault →
     header_form bytes ≡ Err fault
 unfolding header_form
 header_faulty bytes NoHeader o h = grind (arith, common_steps, nat_tests)
@@ -71,4 +71,5 @@ header_faulty bytes Magic o h =
 header_faulty bytes Version o h = grind (arith, common_steps, nat_tests, form_found, is_false, version-Decides)
 header_faulty bytes LinkType o h =
     grind (arith, common_steps, nat_tests, form_found, is_false, version-Decides, link-Decides)
+header_faulty bytes NoMemory o h = absurd h
 header_faulty bytes _ o h = absurd (cc)

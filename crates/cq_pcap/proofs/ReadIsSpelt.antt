@@ -2,7 +2,7 @@
 -- whole record stands behind a capture, the bytes up to its end are a capture too. This goes on from the header until
 -- no byte is left, or to a record with a fault, which is the file's then. And what is spelt or faulty is read as
 -- that.
-use Rattle.cq_pcap.proofs.Terms.{rules, ◌≡◌, ◌⊎◌, ℕ, zero, suc, ◌+◌, ◌<◌, ◌≤◌, List, [], ◌∷◌, ◌++◌, length, take, drop, inl, inr, refl, ap, ◌∙◌, arith, append_assoc, length-append, common_steps, drop-drop, length-drop, length-take-le, take-append-drop, take-append-le, take_at, Result, Ok, Err, AllByRecursion, Form, number_at, Captured, Fault, CutHeader, LongRecord, CutBody, IsFaulty, IsSpeltUpTo, packets_of, HasLinkType, HasMagic, HasVersion, IsHeader, Record, spelling, Fits, Spells, captured_of, subst, ⊎_elim, cases_lt, take_all, SpellsIn, append-nil, flat_map-append, map-append}
+use Rattle.cq_pcap.proofs.Terms.{rules, ◌≡◌, ◌⊎◌, ℕ, zero, suc, ◌+◌, ◌<◌, ◌≤◌, List, [], ◌∷◌, ◌++◌, length, take, drop, inl, inr, refl, ap, ◌∙◌, arith, append_assoc, length-append, common_steps, drop-drop, length-drop, length-take-le, take-append-drop, take-append-le, take_at, Result, Ok, Err, AllByRecursion, Form, number_at, Captured, PcapRefusal, CutHeader, LongRecord, CutBody, IsFaulty, IsSpeltUpTo, packets_of, HasLinkType, HasMagic, HasVersion, IsHeader, Record, spelling, Fits, Spells, captured_of, subst, ⊎_elim, cases_lt, take_all, SpellsIn, append-nil, flat_map-append, map-append}
 use Rattle.cq_pcap.proofs.Numbers.{AreBytes, AreBytes-drop, number_at-append, number_at-drop, number_at-lt, number_at-spelt}
 use Rattle.cq_pcap.proofs.Headers.{header_says, Says as HeaderSays}
 use Rattle.cq_pcap.proofs.Firsts.{IsWhole, Says, first_says, front_packet, stated}
@@ -98,7 +98,7 @@ module _ (form : Form) (bytes : List ℕ) (long : 24 ≤ length bytes) (m : HasM
   spelt_none = grind (arith, common_steps, begins, append-nil (take 24 bytes))
 
 -- a fault at a place where the bytes before it are a capture
-pub faulty_at : (form : Form) (bytes : List ℕ) (offset : ℕ) (fault : Fault) → IsSpeltUpTo form bytes offset →
+pub faulty_at : (form : Form) (bytes : List ℕ) (offset : ℕ) (fault : PcapRefusal) → IsSpeltUpTo form bytes offset →
     Says form offset (drop offset bytes) (Err fault) → IsFaulty bytes fault
 faulty_at form bytes offset (CutHeader o) u h = grind (arith, common_steps, length-drop)
 faulty_at form bytes offset (LongRecord o len) u h = grind (arith, common_steps, length-drop, number_at-drop)
@@ -109,7 +109,7 @@ faulty_at form bytes offset _ u h = absurd h
 
 -- they are a capture, or have a fault
 abbrev Known : List ℕ → Type 0
-Known bytes = ((packets : List Captured) × Spells bytes packets) ⊎ ((fault : Fault) × IsFaulty bytes fault)
+Known bytes = ((packets : List Captured) × Spells bytes packets) ⊎ ((fault : PcapRefusal) × IsFaulty bytes fault)
 
 -- by what stands at a place, up to which they are a capture
 module _ (form : Form) (bytes : List ℕ) (at : ℕ) (packets : List Captured)
@@ -117,7 +117,7 @@ module _ (form : Form) (bytes : List ℕ) (at : ℕ) (packets : List Captured)
   at_end : length bytes ≤ at → Known bytes
   at_end past = inl (packets, (form, subst (λ ys. SpellsIn form ys packets) (take_all at bytes past) s))
 
-  by_first : at < length bytes → (first : Result Captured Fault) → Says form at (drop at bytes) first →
+  by_first : at < length bytes → (first : Result Captured PcapRefusal) → Says form at (drop at bytes) first →
       (IsWhole form (drop at bytes) → Known bytes) → Known bytes
   by_first left (Ok p) says more = more says.0
   by_first left (Err fault) says more = inr (
@@ -135,13 +135,13 @@ walk form bytes (suc n) at packets fits within few s = ⊎_elim
     (spelt_more form bytes at packets fits within s w)))
     (at_end form bytes at packets s) (cases_lt at (length bytes))
 
-by_header : (bytes : List ℕ) (header : Result Form Fault) → AreBytes bytes → HeaderSays bytes header → Known bytes
+by_header : (bytes : List ℕ) (header : Result Form PcapRefusal) → AreBytes bytes → HeaderSays bytes header → Known bytes
 by_header bytes (Ok form) fits h = walk form bytes (length bytes) 24 [] fits h.0 (omega arith)
     (spelt_none form bytes h.0 h.1 h.2 h.3)
 by_header bytes (Err fault) fits h = inr (fault, h)
 
 pub spelt_or_faulty : (bytes : List ℕ) → AreBytes bytes →
-    ((packets : List Captured) × Spells bytes packets) ⊎ ((fault : Fault) × IsFaulty bytes fault)
+    ((packets : List Captured) × Spells bytes packets) ⊎ ((fault : PcapRefusal) × IsFaulty bytes fault)
 spelt_or_faulty bytes fits = by_header bytes _ fits (header_says bytes)
 
 pub read_is_spelt : (bytes : List ℕ) (packets : List Captured) → AreBytes bytes → packets_of bytes ≡ Ok packets →
@@ -150,7 +150,7 @@ read_is_spelt bytes packets fits e = ⊎_elim
     (λ s. let same : s.0 ≡ packets = cc (spelt_is_read bytes s.0 s.1) in subst (Spells bytes) same s.1)
     (λ f. absurd (let P : ⊥ = cc (fault_is_read bytes f.0 f.1) in P)) (spelt_or_faulty bytes fits)
 
-pub read_is_faulty : (bytes : List ℕ) (fault : Fault) → AreBytes bytes → packets_of bytes ≡ Err fault →
+pub read_is_faulty : (bytes : List ℕ) (fault : PcapRefusal) → AreBytes bytes → packets_of bytes ≡ Err fault →
     IsFaulty bytes fault
 read_is_faulty bytes fault fits e = ⊎_elim
     (λ s. absurd (let P : ⊥ = cc (spelt_is_read bytes s.0 s.1) in P))

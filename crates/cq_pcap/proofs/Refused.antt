@@ -1,11 +1,10 @@
 -- What is known of the fault that a refusal names.
-use Rattle.cq_pcap.proofs.Terms.{rules, arith, refl, subst, ◌≡◌, Option, None, Some, Result, Ok, Err, option_map, IfErr, IfOk, IfSome, PcapRefusal, Fault, fault_of}
+use Rattle.cq_pcap.proofs.Terms.{rules, arith, subst, ◌≡◌, Option, Some, Result, Ok, Err, IfErr, IfOk, IfSome, PcapRefusal, NoMemory, fault_of}
 
--- where a refusal names the answer, it names a fault, which is the answer
-pub named_fault : {A : Type 0} (named : Option Fault) (answer : Result A Fault) → option_map Err named ≡ Some answer
-    → (fault : Fault) × (named ≡ Some fault) × (answer ≡ Err fault)
-named_fault None answer e = cc
-named_fault (Some fault) answer e = let same : answer ≡ Err fault = cc e in (fault, refl, same)
+-- what is known of a refusal is known of the fault that it names
+pub named_fault : (P : PcapRefusal → Type 0) (refusal : PcapRefusal) → P refusal → IfSome (fault_of refusal) P
+named_fault P NoMemory h = tt
+named_fault P _ h = h
 
 -- what is known of an error passes on to what follows from it
 pub err_map : {A E : Type 0} (result : Result A E) (P Q : E → Type 0) → ((e : E) → P e → Q e) → IfErr result P
@@ -22,7 +21,7 @@ ok_map (Err e) P Q f h = tt
 pub some_is : {A : Type 0} (found : Option A) (x : A) (P : A → Type 0) → found ≡ Some x → IfSome found P → P x
 some_is {A = A} found x P e h = let Q : Option A → Type 0 = λ f. IfSome f P in subst Q e h
 
-pub refused_map : {A : Type 0} (result : Result A PcapRefusal) (P Q : Fault → Type 0)
-    → ((fault : Fault) → P fault → Q fault) → IfErr result (λ refusal. IfSome (fault_of refusal) P)
+pub refused_map : {A : Type 0} (result : Result A PcapRefusal) (P Q : PcapRefusal → Type 0)
+    → ((fault : PcapRefusal) → P fault → Q fault) → IfErr result (λ refusal. IfSome (fault_of refusal) P)
     → IfErr result (λ refusal. IfSome (fault_of refusal) Q)
 refused_map result P Q f h = search (arith, rules, err_map)

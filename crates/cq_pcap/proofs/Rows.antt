@@ -2,12 +2,11 @@
 -- header on, they end at that place, and the bytes before it are a capture of their packets. A whole record at that
 -- place goes on so: the record read there is spelt by the bytes up to its end. A fault there is the file's, and where
 -- no byte is left the file is a capture.
-use Rattle.cq_pcap.proofs.Terms.{◌≡◌, ℕ, ◌+◌, ◌-◌, ◌<◌, ◌≤◌, ◌^◌, List, [], ◌∷◌, ◌++◌, length, take, drop, ap, sym, arith, add-zero, common_steps, map-append, length-drop, length-take-le, drop-drop, take_all, take_rest, All-push, sum_by-cons, sum_by_push, Ok, Err, Some, None, sum_by, option_map, Result, Form, PcapRefusal, Captured, rows_from, file_length, Fault, fault_of, first_packet, header_form, AreRowsOf, AreRowsTo, AreSpelt, IsFaultAt, IsRowOf, offset_of, packet_at, packets_at}
+use Rattle.cq_pcap.proofs.Terms.{◌≡◌, ℕ, ◌+◌, ◌-◌, ◌<◌, ◌≤◌, ◌^◌, List, [], ◌∷◌, ◌++◌, length, take, drop, ap, sym, subst, arith, add-zero, common_steps, map-append, length-drop, length-take-le, drop-drop, take_all, take_rest, All-push, sum_by-cons, sum_by_push, Ok, Err, Some, None, sum_by, Result, Form, PcapRefusal, Captured, rows_from, file_length, first_packet, header_form, AreRowsOf, AreRowsTo, AreSpelt, IsFaultAt, IsRowOf, offset_of, packet_at, packets_at}
 use Rattle.cq_pcap.specs.declared.capture.PacketRow.{PacketRow}
 use Rattle.cq_pcap.proofs.Firsts.{Says, first_says, stated}
 use Rattle.cq_pcap.proofs.Headers.{header_err, header_ok, header_place}
 use Rattle.cq_pcap.proofs.Numbers.{AreBytes, AreBytes-drop}
-use Rattle.cq_pcap.proofs.Refused.{named_fault}
 use Rattle.cq_pcap.proofs.ReadIsSpelt.{AllByRecursion-push, body_length, faulty_at, spelt_more, spelt_none}
 
 -- the bytes of these records
@@ -63,7 +62,7 @@ pub rows_more : (form : Form) (bytes : List ℕ) (rows : List PacketRow) (at : �
     → AreRowsTo form bytes at rows → AreRowsTo form bytes (row.at + row.len) (rows ++ row ∷ [])
 rows_more form bytes rows at row fits small is_row so_far =
     let r : IsRowOf form (drop at bytes) at row = rw take_rest at is_row in
-    let P : Result Captured Fault → Type 0 = Says form at (drop at bytes) in
+    let P : Result Captured PcapRefusal → Type 0 = Says form at (drop at bytes) in
     let says : P (Ok (packet_at bytes row)) =
     rw (packet_is form bytes at row r) at (first_says form at (drop at bytes)) in
     let w = says.0 in
@@ -81,37 +80,28 @@ rows_more form bytes rows at row fits small is_row so_far =
     }
 
 -- a fault at the place is the file's, whatever refusal names it
-place_of : (form : Form) (at : ℕ) (ys : List ℕ) (fault : Fault) → Says form at ys (Err fault)
+place_of : (form : Form) (at : ℕ) (ys : List ℕ) (fault : PcapRefusal) → Says form at ys (Err fault)
     → offset_of fault ≡ Some at
 place_of form at ys fault h = grind (arith, common_steps)
 
 pub rows_fault : (form : Form) (bytes : List ℕ) (rows : List PacketRow) (at : ℕ) (refusal : PcapRefusal)
-    → at < length bytes
-    → option_map Err (fault_of refusal) ≡ Some (first_packet form at (take (length bytes - at) (drop at bytes)))
+    → at < length bytes → first_packet form at (take (length bytes - at) (drop at bytes)) ≡ Err refusal
     → AreRowsTo form bytes at rows → IsFaultAt bytes (Some at) refusal
 rows_fault form bytes rows at refusal left e so_far =
-    let named = named_fault (fault_of refusal) (first_packet form at (take (length bytes - at) (drop at bytes))) e in
-    let P : Result Captured Fault → Type 0 = Says form at (drop at bytes) in
-    let says : P (Err named.0) = rw (← named.2, take_rest) (first_says form at (drop at bytes)) in
+    let P : Result Captured PcapRefusal → Type 0 = Says form at (drop at bytes) in
+    let named : first_packet form at (drop at bytes) ≡ Err refusal = rw take_rest at e in
+    let says : P (Err refusal) = subst P named (first_says form at (drop at bytes)) in
     record {
-      fault = named.0;
-      named = named.1;
-      faulty = faulty_at form bytes at named.0
+      faulty = faulty_at form bytes at refusal
           (record { packets = packets_at bytes rows; spelt = so_far.spelt; left = left }) says;
-      there = place_of form at (drop at bytes) named.0 says;
+      there = place_of form at (drop at bytes) refusal says;
     }
 
 -- and so is a fault of the header
-pub header_fault : (bytes : List ℕ) (refusal : PcapRefusal)
-    → option_map Err (fault_of refusal) ≡ Some (header_form bytes) → IsFaultAt bytes None refusal
+pub header_fault : (bytes : List ℕ) (refusal : PcapRefusal) → header_form bytes ≡ Err refusal
+    → IsFaultAt bytes None refusal
 header_fault bytes refusal e =
-    let named = named_fault (fault_of refusal) (header_form bytes) e in
-    record {
-      fault = named.0;
-      named = named.1;
-      faulty = header_err bytes named.0 named.2;
-      there = header_place bytes named.0 named.2;
-    }
+    record { faulty = header_err bytes refusal e; there = header_place bytes refusal e }
 
 -- no byte is left
 pub rows_all : (form : Form) (bytes : List ℕ) (rows : List PacketRow) (at : ℕ) → at ≡ length bytes

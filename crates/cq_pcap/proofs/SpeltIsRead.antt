@@ -1,6 +1,6 @@
 -- What is spelt is read: each number reads back from its four bytes, so the record at the front is the one that was
 -- put there, and the bytes after it are the rest.
-use Rattle.cq_pcap.proofs.Terms.{rules, ◌≡◌, ℕ, ◌+◌, List, [], ◌∷◌, ◌++◌, length, map, take, drop, refl, ap, sym, arith, append_assoc, length-append, Bool, ◌<◌, common_steps, append-nil, drop-drop, drop_at, length-drop, length-take-le, take-append-drop, take_at, Result, Ok, Err, flat_map, AllByRecursion, Form, number_at, Captured, Fault, CutHeader, LongRecord, CutBody, IsFaulty, IsSpeltUpTo, ◌>>=◌, first_packet, header_form, packets_from, packets_of, Record, spelling, Fits, Spells, SpellsIn, captured_of, zero, suc, ◌≤◌, packets_in}
+use Rattle.cq_pcap.proofs.Terms.{rules, ◌≡◌, ℕ, ◌+◌, List, [], ◌∷◌, ◌++◌, length, map, take, drop, refl, ap, sym, arith, append_assoc, length-append, Bool, ◌<◌, common_steps, append-nil, drop-drop, drop_at, length-drop, length-take-le, take-append-drop, take_at, Result, Ok, Err, flat_map, AllByRecursion, Form, number_at, Captured, PcapRefusal, CutHeader, LongRecord, CutBody, IsFaulty, IsSpeltUpTo, ◌>>=◌, first_packet, header_form, packets_from, packets_of, Record, spelling, Fits, Spells, SpellsIn, captured_of, zero, suc, ◌≤◌, packets_in}
 use Rattle.cq_pcap.proofs.Numbers.{number_at-drop, number_in-reads_back}
 use Rattle.cq_pcap.proofs.Headers.{header_read, header_faulty}
 use Rattle.cq_pcap.proofs.Firsts.{first_said}
@@ -35,15 +35,15 @@ module _ (form : Form) (r : Record) (rest : List ℕ) (fit : Fits r) where
   length_is = (stands form.big r rest fit).long
 
 -- these packets, and then those of what is left
-abbrev joined : List Captured → Result (List Captured) Fault → Result (List Captured) Fault
+abbrev joined : List Captured → Result (List Captured) PcapRefusal → Result (List Captured) PcapRefusal
 joined front left = left >>= (λ ps. Ok (front ++ ps))
 
-joined-cons : (p : Captured) (ps : List Captured) (left : Result (List Captured) Fault) →
+joined-cons : (p : Captured) (ps : List Captured) (left : Result (List Captured) PcapRefusal) →
     (joined ps left >>= (λ qs. Ok (p ∷ qs))) ≡ joined (p ∷ ps) left
 joined-cons p ps (Ok qs) = refl
 joined-cons p ps (Err e) = refl
 
-joined-nil : (left : Result (List Captured) Fault) → joined [] left ≡ left
+joined-nil : (left : Result (List Captured) PcapRefusal) → joined [] left ≡ left
 joined-nil (Ok ps) = refl
 joined-nil (Err e) = refl
 
@@ -56,7 +56,7 @@ packet_first form n place [] p some e = absurd (omega arith)
 packet_first form n place (b ∷ bs) p some e = rw e refl
 
 -- and so does a fault
-fault_first : (form : Form) (place : ℕ) (xs : List ℕ) (fault : Fault) → 0 < length xs →
+fault_first : (form : Form) (place : ℕ) (xs : List ℕ) (fault : PcapRefusal) → 0 < length xs →
     first_packet form place xs ≡ Err fault → (m : ℕ) → length xs ≤ m → packets_in form m place xs ≡ Err fault
 fault_first form place [] fault some e m few = absurd (omega arith)
 fault_first form place (b ∷ bs) fault some e zero few = absurd (omega arith)
@@ -64,7 +64,7 @@ fault_first form place (b ∷ bs) fault some e (suc m) few = rw e refl
 
 -- records that are spelt are read, and then what follows them, if so many records are enough
 records_read : (form : Form) (n place ends : ℕ) (rs : List Record) (rest : List ℕ)
-    (left : Result (List Captured) Fault) → ((m : ℕ) → length rest ≤ m → packets_in form m ends rest ≡ left) →
+    (left : Result (List Captured) PcapRefusal) → ((m : ℕ) → length rest ≤ m → packets_in form m ends rest ≡ left) →
     AllByRecursion Fits rs → ends ≡ place + length (flat_map (spelling form.big) rs) →
     length (flat_map (spelling form.big) rs ++ rest) ≤ n →
     packets_in form n place (flat_map (spelling form.big) rs ++ rest) ≡ joined (map (captured_of form) rs) left
@@ -87,7 +87,7 @@ records_read form (suc n) place ends (r ∷ rs) rest left then fits at few =
     grind (arith, common_steps, append_assoc, first, after_is, last, joined-cons)
 
 -- so is a capture
-capture_read : (form : Form) (front rest : List ℕ) (packets : List Captured) (left : Result (List Captured) Fault)
+capture_read : (form : Form) (front rest : List ℕ) (packets : List Captured) (left : Result (List Captured) PcapRefusal)
     (ends : ℕ) → ends ≡ length front → ((m : ℕ) → length rest ≤ m → packets_in form m ends rest ≡ left) →
     SpellsIn form front packets → packets_of (front ++ rest) ≡ joined packets left
 unfolding packets_of packets_from
@@ -110,7 +110,7 @@ spelt_is_read bytes packets s =
     simp append-nil at (capture_read s.0 bytes [] packets (Ok []) (length bytes) refl (λ m few. refl) s.1)
 
 -- a fault of the record after a capture is the file's
-record_fault_read : (form : Form) (bytes : List ℕ) (offset : ℕ) (fault : Fault) → IsSpeltUpTo form bytes offset →
+record_fault_read : (form : Form) (bytes : List ℕ) (offset : ℕ) (fault : PcapRefusal) → IsSpeltUpTo form bytes offset →
     first_packet form offset (drop offset bytes) ≡ Err fault → packets_of bytes ≡ Err fault
 record_fault_read form bytes offset fault u e =
     let left = u.left in
@@ -119,12 +119,14 @@ record_fault_read form bytes offset fault u e =
     (sym (length-take-le offset bytes (omega arith))) (fault_first form offset _ fault some e) u.spelt in
     cc (read, take-append-drop offset bytes)
 
-header_fault_read : (bytes : List ℕ) (fault : Fault) → header_form bytes ≡ Err fault → packets_of bytes ≡ Err fault
+header_fault_read : (bytes : List ℕ) (fault : PcapRefusal) → header_form bytes ≡ Err fault →
+    packets_of bytes ≡ Err fault
 unfolding packets_of
-header_fault_read bytes fault e = ap (λ (r : Result Form Fault). r >>= (λ form. packets_from form 24 (drop 24 bytes))) e
+header_fault_read bytes fault e =
+    ap (λ (r : Result Form PcapRefusal). r >>= (λ form. packets_from form 24 (drop 24 bytes))) e
 
 -- each fault is read
-pub fault_is_read : (bytes : List ℕ) (fault : Fault) → IsFaulty bytes fault → packets_of bytes ≡ Err fault
+pub fault_is_read : (bytes : List ℕ) (fault : PcapRefusal) → IsFaulty bytes fault → packets_of bytes ≡ Err fault
 fault_is_read bytes (CutHeader offset) h =
     let read = first_said h.0 offset (drop offset bytes) (Err (CutHeader offset)) in
     grind (arith, common_steps, record_fault_read h.0 bytes offset (CutHeader offset) h.1, read, length-drop)

@@ -1,6 +1,6 @@
 -- What is written is spelt: the header is one of the form, each record fits, and the seconds and nanoseconds of a
 -- stamp below 2^32 seconds make the stamp again.
-use Rattle.cq_pcap.proofs.Terms.{rules, ◌≡◌, ◌+◌, List, [], ◌∷◌, ◌++◌, map, refl, ap, arith, true, false, common_steps, flat_map, AllByRecursion, Form, OutPacket, number_at, Fits, IsHeader, Spells, captured_of, spelling, IsWritable, read_again, record_of, written, written_header, written_record}
+use Rattle.cq_pcap.proofs.Terms.{rules, ◌≡◌, List, [], ◌∷◌, ◌++◌, map, refl, ap, arith, true, false, common_steps, flat_map, AllByRecursion, Form, OutPacket, number_at, Fits, IsHeader, Spells, captured_of, spelling, IsWritable, read_again, record_of, written, written_header, written_record}
 
 -- the form that is written
 abbrev little_nanos : Form

@@ -2,20 +2,10 @@
 use Rattle.std.specs.Prelude.{◌≡◌, ℕ, ◌+◌, ◌<◌, ◌≤◌, List, length, take, Option, None, Some}
 use Rattle.cq_pcap.specs.declared.form.Form.{Form}
 use Rattle.cq_pcap.specs.declared.read.PcapRefusal.{PcapRefusal}
-use Rattle.cq_pcap.specs.declared.read.PcapRefusal.TheVariants as refusal
+use Rattle.cq_pcap.specs.declared.read.PcapRefusal.TheVariants.{NoHeader, Magic, Version, LinkType, CutHeader, CutBody, LongRecord, NoMemory}
 use Rattle.cq_pcap.specs.Form.{number_at}
 use Rattle.cq_pcap.specs.Captured.{Captured}
 use Rattle.cq_pcap.specs.Record.{HasMagic, HasVersion, HasLinkType, SpellsIn}
-
--- an offset is the place of the record at fault, and a length is the captured length that this record states
-pub data Fault : Type 0 where
-  NoHeader : Fault
-  Magic : Fault
-  Version : Fault
-  LinkType : Fault
-  CutHeader : (offset : ℕ) → Fault
-  LongRecord : (offset len : ℕ) → Fault
-  CutBody : (offset : ℕ) → Fault
 
 -- the bytes before a place are a capture of this form, and bytes are left from there on
 pub record IsSpeltUpTo (form : Form) (bytes : List ℕ) (offset : ℕ) : Type 0 where
@@ -27,8 +17,10 @@ pub record IsSpeltUpTo (form : Form) (bytes : List ℕ) (offset : ℕ) : Type 0 
 abbrev pub stated_length : Form → List ℕ → ℕ → ℕ
 stated_length form bytes offset = number_at form.big 4 bytes (offset + 8)
 
--- the fault is the first of the file: before it the header is as it should be, and each record is whole
-abbrev pub IsFaulty : List ℕ → Fault → Type 0
+-- the refusal names the first fault of the file: before it the header is as it should be, and each record is whole. An
+-- offset is the place of the record at fault, and a length is the captured length that this record states. Want of
+-- memory is no fault of a file
+abbrev pub IsFaulty : List ℕ → PcapRefusal → Type 0
 IsFaulty bytes NoHeader = length bytes < 24
 IsFaulty bytes Magic = (24 ≤ length bytes) × ((form : Form) → ¬ HasMagic form bytes)
 IsFaulty bytes Version = (24 ≤ length bytes) × (form : Form) × HasMagic form bytes × ¬ HasVersion form bytes
@@ -41,14 +33,9 @@ IsFaulty bytes (LongRecord offset len) =
 IsFaulty bytes (CutBody offset) =
     (form : Form) × IsSpeltUpTo form bytes offset × (offset + 16 ≤ length bytes)
     × (stated_length form bytes offset ≤ 262144) × (length bytes < offset + 16 + stated_length form bytes offset)
+IsFaulty bytes NoMemory = ⊥
 
 -- the fault that a refusal names; want of memory is none
-abbrev pub fault_of : PcapRefusal → Option Fault
-fault_of refusal.NoHeader = Some NoHeader
-fault_of refusal.Magic = Some Magic
-fault_of refusal.Version = Some Version
-fault_of refusal.LinkType = Some LinkType
-fault_of (refusal.CutHeader offset) = Some (CutHeader offset)
-fault_of (refusal.CutBody offset) = Some (CutBody offset)
-fault_of (refusal.LongRecord offset len) = Some (LongRecord offset len)
-fault_of refusal.NoMemory = None
+abbrev pub fault_of : PcapRefusal → Option PcapRefusal
+fault_of NoMemory = None
+fault_of fault = Some fault

@@ -5,11 +5,12 @@ use Rattle.std.specs.Option.{ok_or}
 use Rattle.cq_pcap.specs.declared.form.Form.{Form}
 use Rattle.cq_pcap.specs.Form.{form_at, number_at, unit}
 use Rattle.cq_pcap.specs.Captured.{Captured}
-use Rattle.cq_pcap.specs.Faults.{Fault, NoHeader, Magic, Version, LinkType, CutHeader, LongRecord, CutBody}
+use Rattle.cq_pcap.specs.declared.read.PcapRefusal.{PcapRefusal}
+use Rattle.cq_pcap.specs.declared.read.PcapRefusal.TheVariants.{NoHeader, Magic, Version, LinkType, CutHeader, LongRecord, CutBody}
 
 -- one step after another: the first fault is the answer
 infixl 10 ◌>>=◌
-abbrev pub ◌>>=◌ : {A B : Type 0} → Result A Fault → (A → Result B Fault) → Result B Fault
+abbrev pub ◌>>=◌ : {A B : Type 0} → Result A PcapRefusal → (A → Result B PcapRefusal) → Result B PcapRefusal
 (Ok x) >>= f = f x
 (Err e) >>= f = Err e
 
@@ -22,18 +23,18 @@ abbrev pub has_link_type : Form → List ℕ → Bool
 has_link_type form bytes = number_at form.big 4 bytes 20 % 2 ^ 16 == 1
 
 -- the form, unless the header has another version or link type
-abbrev pub checked_form : List ℕ → Form → Result Form Fault
+abbrev pub checked_form : List ℕ → Form → Result Form PcapRefusal
 checked_form bytes form =
     if not (has_version form bytes) then Err Version else if not (has_link_type form bytes) then Err LinkType else Ok
     form
 
 -- the form of the file header
-unfoldable pub header_form : List ℕ → Result Form Fault
+unfoldable pub header_form : List ℕ → Result Form PcapRefusal
 header_form bytes =
     if nat_lt (length bytes) 24 then Err NoHeader else ok_or (form_at bytes) Magic >>= checked_form bytes
 
 -- the packet of the record at the front, which begins at a place of the file
-unfoldable pub first_packet : Form → ℕ → List ℕ → Result Captured Fault
+unfoldable pub first_packet : Form → ℕ → List ℕ → Result Captured PcapRefusal
 first_packet form place bytes =
     let len = number_at form.big 4 bytes 8 in
     if nat_lt (length bytes) 16 then Err (CutHeader place)
@@ -46,7 +47,7 @@ first_packet form place bytes =
     })
 
 -- the packets of the records from a place of the file on, if n records are enough
-abbrev pub packets_in : Form → ℕ → ℕ → List ℕ → Result (List Captured) Fault
+abbrev pub packets_in : Form → ℕ → ℕ → List ℕ → Result (List Captured) PcapRefusal
 packets_in form n place [] = Ok []
 packets_in form zero place (b ∷ bs) = Err (CutHeader place)
 packets_in form (suc n) place (b ∷ bs) = do
@@ -55,11 +56,11 @@ packets_in form (suc n) place (b ∷ bs) = do
   Ok (p ∷ ps)
 
 -- each record has bytes, so as many records as bytes are enough
-unfoldable pub packets_from : Form → ℕ → List ℕ → Result (List Captured) Fault
+unfoldable pub packets_from : Form → ℕ → List ℕ → Result (List Captured) PcapRefusal
 packets_from form place bytes = packets_in form (length bytes) place bytes
 
 -- the packets of the file
-unfoldable pub packets_of : List ℕ → Result (List Captured) Fault
+unfoldable pub packets_of : List ℕ → Result (List Captured) PcapRefusal
 packets_of bytes = do
   form ← header_form bytes
   packets_from form 24 (drop 24 bytes)

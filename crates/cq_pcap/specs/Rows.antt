@@ -6,7 +6,8 @@ use Rattle.cq_pcap.specs.declared.capture.PacketRow.{PacketRow}
 use Rattle.cq_pcap.specs.declared.form.Form.{Form}
 use Rattle.cq_pcap.specs.declared.read.PcapRefusal.{PcapRefusal}
 use Rattle.cq_pcap.specs.Captured.{Captured, rows_from, file_length}
-use Rattle.cq_pcap.specs.Faults.{Fault, NoHeader, Magic, Version, LinkType, CutHeader, LongRecord, CutBody, IsFaulty, fault_of}
+use Rattle.cq_pcap.specs.declared.read.PcapRefusal.TheVariants.{CutHeader, LongRecord, CutBody}
+use Rattle.cq_pcap.specs.Faults.{IsFaulty}
 use Rattle.cq_pcap.specs.Record.{Spells, SpellsIn}
 use Rattle.cq_pcap.specs.Reading.{first_packet}
 
@@ -45,21 +46,16 @@ pub record AreSpelt (bytes : List ℕ) (rows : List PacketRow) : Type 0 where
   pub spelt : Spells bytes (packets_at bytes rows)
 
 -- where the record at fault begins; a fault of the header has no place
-abbrev pub offset_of : Fault → Option ℕ
-offset_of NoHeader = None
-offset_of Magic = None
-offset_of Version = None
-offset_of LinkType = None
+abbrev pub offset_of : PcapRefusal → Option ℕ
 offset_of (CutHeader offset) = Some offset
 offset_of (LongRecord offset len) = Some offset
 offset_of (CutBody offset) = Some offset
+offset_of _ = None
 
 -- the refusal names the fault of the file, which has this place
 pub record IsFaultAt (bytes : List ℕ) (place : Option ℕ) (refusal : PcapRefusal) : Type 0 where
-  pub fault : Fault
-  pub named : fault_of refusal ≡ Some fault
-  pub faulty : IsFaulty bytes fault
-  pub there : offset_of fault ≡ place
+  pub faulty : IsFaulty bytes refusal
+  pub there : offset_of refusal ≡ place
 
 -- the rows of the records before a place, which is that of a fault; there are none before the end of the header
 abbrev pub AreRowsBefore : List ℕ → Option ℕ → List PacketRow → Type 0

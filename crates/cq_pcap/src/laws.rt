@@ -2,21 +2,22 @@
 ghost use Rattle.std.specs.Prelude.{◌≡◌, ◌⊎◌, ◌<◌, ℕ, List, Ok, Err, map, slice_index};
 ghost use Rattle.std.specs.List.{AllByRecursion};
 ghost use Rattle.cq_pcap.specs.Captured.{Captured};
-ghost use Rattle.cq_pcap.specs.Faults.{Fault, IsFaulty};
+ghost use Rattle.cq_pcap.specs.Faults.{IsFaulty};
 ghost use Rattle.cq_pcap.specs.Reading.{packets_of};
 ghost use Rattle.cq_pcap.specs.Record.{Spells};
 ghost use Rattle.cq_pcap.specs.Written.{IsWritable, read_again, written};
+ghost use Rattle.cq_pcap.specs.declared.read.PcapRefusal.{PcapRefusal};
 ghost use Rattle.cq_pcap.specs.declared.write.OutPacket.{OutPacket};
 
 /// Each file of bytes is a capture of one list of packets, or has one first fault, and never both.
 pub fn a_file_has_packets_or_a_fault()
     ensures either { (bytes : List ℕ) → ((i : ℕ) → slice_index bytes i < 256)
-        → ((packets : List Captured) × Spells bytes packets) ⊎ ((fault : Fault) × IsFaulty bytes fault) }
-    ensures never_both { (bytes : List ℕ) (packets : List Captured) (fault : Fault)
+        → ((packets : List Captured) × Spells bytes packets) ⊎ ((fault : PcapRefusal) × IsFaulty bytes fault) }
+    ensures never_both { (bytes : List ℕ) (packets : List Captured) (fault : PcapRefusal)
         → Spells bytes packets → ¬ IsFaulty bytes fault }
     ensures one_list { (bytes : List ℕ) (packets others : List Captured)
         → Spells bytes packets → Spells bytes others → packets ≡ others }
-    ensures one_fault { (bytes : List ℕ) (fault other : Fault)
+    ensures one_fault { (bytes : List ℕ) (fault other : PcapRefusal)
         → IsFaulty bytes fault → IsFaulty bytes other → fault ≡ other }
 {}
 
@@ -24,12 +25,12 @@ pub fn a_file_has_packets_or_a_fault()
 pub fn reading_is_by_the_grammar()
     ensures spelt_is_read { (bytes : List ℕ) (packets : List Captured)
         → Spells bytes packets → packets_of bytes ≡ Ok packets }
-    ensures faulty_is_read { (bytes : List ℕ) (fault : Fault)
+    ensures faulty_is_read { (bytes : List ℕ) (fault : PcapRefusal)
         → IsFaulty bytes fault → packets_of bytes ≡ Err fault }
     ensures read_is_spelt { (bytes : List ℕ) (packets : List Captured)
         → ((i : ℕ) → slice_index bytes i < 256)
         → packets_of bytes ≡ Ok packets → Spells bytes packets }
-    ensures read_is_faulty { (bytes : List ℕ) (fault : Fault)
+    ensures read_is_faulty { (bytes : List ℕ) (fault : PcapRefusal)
         → ((i : ℕ) → slice_index bytes i < 256)
         → packets_of bytes ≡ Err fault → IsFaulty bytes fault }
 {}

@@ -1,5 +1,5 @@
 //! Captures that are read, in one pass over the bytes.
-ghost use Rattle.std.specs.Prelude.{◌≡◌, ◌+◌, ◌≤◌, Ok, Err, Some, None, List, [], length, option_map, IfErr, IfNone, IfOk, IfSome};
+ghost use Rattle.std.specs.Prelude.{◌≡◌, ◌+◌, ◌≤◌, Ok, Err, Some, None, List, [], length, IfErr, IfNone, IfOk, IfSome};
 ghost use Rattle.cq_base.specs.Limits.{longest_file};
 ghost use Rattle.cq_pcap.specs.Faults.{IsFaulty, fault_of};
 ghost use Rattle.cq_pcap.specs.Reading.{first_packet, header_form, packets_of};
@@ -85,7 +85,7 @@ pub fn form_of(bytes: &[u8]) -> Result<Form, PcapRefusal>
 #[tactic(auto, using(std::proofs::lemmas::Bool::Decides::nat_tests), unfolding(crate::specs::Reading::header_form))]
 fn header_of(bytes: &[u8]) -> Result<Form, PcapRefusal>
     ensures form { IfOk result (λ form. header_form bytes.now ≡ Ok form) }
-    ensures fault { IfErr result (λ refusal. option_map Err (fault_of refusal) ≡ Some (header_form bytes.now)) }
+    ensures fault { IfErr result (λ refusal. header_form bytes.now ≡ Err refusal) }
 {
     if bytes.len() < FILE_HEADER {
         return Err(PcapRefusal::NoHeader);
@@ -108,8 +108,7 @@ fn header_of(bytes: &[u8]) -> Result<Form, PcapRefusal>
 fn row_of(form: Form, bytes: &[u8], place: usize) -> Result<PacketRow, PcapRefusal>
     requires { place + length bytes.now ≤ longest_file }
     ensures row { IfOk result (λ row. IsRowOf form bytes.now place row) }
-    ensures fault { IfErr result (λ refusal. option_map Err (fault_of refusal)
-        ≡ Some (first_packet form place bytes.now)) }
+    ensures fault { IfErr result (λ refusal. first_packet form place bytes.now ≡ Err refusal) }
 {
     let offset = place as u64;
     if bytes.len() < RECORD_HEADER {

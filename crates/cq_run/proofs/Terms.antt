@@ -7,7 +7,7 @@ pub use Rattle.cq_space.specs.{Call.Call, Causes.Rose}
 pub use Rattle.cq_space.specs.Failing.{Fails, Lasts, Reads, Writes}
 pub use Rattle.cq_space.specs.Space.{Closed, Contents, Lacks, Mode, Space, bytes_of, replaced}
 pub use Rattle.cq_pcap.specs.Captured.{Captured}
-pub use Rattle.cq_pcap.specs.Faults.{Fault, IsFaulty, fault_of}
+pub use Rattle.cq_pcap.specs.{Faults.IsFaulty, Faults.fault_of, declared.read.PcapRefusal.PcapRefusal}
 unfoldable pub use Rattle.cq_route.specs.Plain.{plain_tables}
 pub use Rattle.cq_route.specs.Tables.{AreTables, classes_of, ports_of}
 pub use Rattle.cq_route.specs.{declared.tables.PortRow.PortRow, declared.tables.Tables.Tables}
@@ -49,7 +49,7 @@ pub use Rattle.cq_run.specs.Passing.{all_leave, as_it_leaves, capture_of_all}
 pub use Rattle.cq_run.specs.Planning.{CommandHalts, Decides, IsDenial, IsWithinRange, known_by, known_to}
 pub use Rattle.cq_run.specs.Plans.{audited, capture_out, checked, passed, state_written}
 unfoldable pub use Rattle.cq_run.specs.Plans.{captures_out, crossed, reported, resumed, switched}
-pub use Rattle.cq_run.specs.Refusals.{capture_fault, fault_text, in_phase_text, meaning_of}
+pub use Rattle.cq_run.specs.Refusals.{fault_text, in_phase_text, meaning_of}
 pub use Rattle.cq_run.specs.Switching.{IsCrossed, IsCrossing, IsIdeal, IsPassing, IsSent, IsSwitched, halt_for, halt_of, sent_by}
 pub use Rattle.cq_run.specs.Verdict.{MayRead, MayWrite, capture_in, capture_of, captures_in, found_or_missing, ideally_sent, judged, judged_or_words, named, packets_at, read_or_faulty, read_or_refused_for, sent_or_tag, short_in, short_or, state_in, tables_in, text_in, ◌>>=◌}
 unfoldable pub use Rattle.cq_run.specs.Verdict.{captures_from}

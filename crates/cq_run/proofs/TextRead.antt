@@ -1,7 +1,7 @@
 -- What is told of a text, as the trace or the log of an audit or the state of a stopped run, from what was read under
 -- its name: its bytes, where they are not too many. The name that was asked for is the one that is to be read, or a
 -- copy of it.
-use Rattle.cq_run.proofs.Terms.{rules, ◌≡◌, ◌<◌, ◌≤◌, ◌⊎◌, ℕ, IsTrue, List, length, inl, inr, arith, codes, refl, false, Option, None, Some, IfSome, Result, Ok, Err, IsErrOf, Vec, nat_le, le-ltb, lt-ltb, get, Global, Contents, bytes_of, Refusal, Missing, Configuration, IsRefused, IsToRead, meaning_of, short_in, tables_in, first, read_or_refused, common_steps, ◌∙◌, ap, sym, slice_index, option_map, Captured, Fault, IsFaulty, Spells, Space, Halts, AnyName, Pace, Uncounted, Reader, capture_fault, halt_for, capture_in, read_or_faulty, Lacks, ReadRefusal, spelt_or_faulty, fault_is_read, spelt_is_read}
+use Rattle.cq_run.proofs.Terms.{rules, ◌≡◌, ◌<◌, ◌≤◌, ◌⊎◌, ℕ, IsTrue, List, length, inl, inr, arith, codes, refl, false, Option, None, Some, IfSome, Result, Ok, Err, IsErrOf, Vec, nat_le, le-ltb, lt-ltb, get, Global, Contents, bytes_of, Refusal, Missing, Configuration, IsRefused, IsToRead, meaning_of, short_in, tables_in, first, read_or_refused, common_steps, ◌∙◌, ap, sym, slice_index, Captured, PcapRefusal, IsFaulty, Spells, Space, Halts, AnyName, Pace, Uncounted, Reader, halt_for, capture_in, read_or_faulty, Lacks, ReadRefusal, spelt_or_faulty, fault_is_read, spelt_is_read}
 use Rattle.std.specs.FinMap.{remove}
 use Rattle.cq_space.specs.declared.whole.ReadRefusal.TheVariants as whole
 use Rattle.cq_run.proofs.Stays.{get-remove_same}
@@ -77,7 +77,7 @@ from_front = record { read = packets_of; spelt = spelt_is_read; faulty = fault_i
 pub one_answer : (r s : Reader) (bytes : List ℕ) → ((i : ℕ) → slice_index bytes i < 256) → r.read bytes ≡ s.read bytes
 one_answer r s bytes are = go (spelt_or_faulty bytes are)
   where
-    go : ((packets : List Captured) × Spells bytes packets) ⊎ ((fault : Fault) × IsFaulty bytes fault) →
+    go : ((packets : List Captured) × Spells bytes packets) ⊎ ((fault : PcapRefusal) × IsFaulty bytes fault) →
         r.read bytes ≡ s.read bytes
     go (inl (packets, h)) = r.spelt bytes packets h ∙ sym (s.spelt bytes packets h)
     go (inr (fault, h)) = r.faulty bytes fault h ∙ sym (s.faulty bytes fault h)
@@ -95,10 +95,10 @@ module _ (r : Reader) (name : List ℕ) (input limit : ℕ) (bytes : List ℕ) (
   capture_is (Some m) packets at spelt = read_at m at ∙ ap (read_or_faulty input) (r.spelt bytes packets spelt)
 
   -- a refusal of the reading stops it for its fault, or for want of memory
-  pub capture_halts : (p : Pace) (R : List ℕ → Type 0) (old new : Space) (found : Option Fault) →
+  pub capture_halts : (p : Pace) (R : List ℕ → Type 0) (old new : Space) (found : Option PcapRefusal) →
       IfSome old.told (λ m. get m name ≡ Some bytes) → IfSome found (IsFaulty bytes)
       → Uncounted p (AnyName R) old.faults new.faults →
-      Halts p (capture_in r name input limit) R old new (halt_for input (option_map capture_fault found))
+      Halts p (capture_in r name input limit) R old new (halt_for input found)
   capture_halts p R old new None at faulty kept = kept
   capture_halts p R old new (Some fault) at faulty kept = grind (arith, common_steps)
 

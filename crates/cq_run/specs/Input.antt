@@ -2,11 +2,10 @@
 -- What is known of the file of an input.
 use Rattle.std.specs.Prelude.{◌≡◌, ◌≤◌, ℕ, List, length, Option, Some, IfSome}
 use Rattle.std.specs.FinMap.{get}
-use Rattle.std.specs.Option.{option_map}
-use Rattle.cq_pcap.specs.Faults.{Fault, IsFaulty}
+use Rattle.cq_pcap.specs.declared.read.PcapRefusal.{PcapRefusal}
+use Rattle.cq_pcap.specs.Faults.{IsFaulty}
 use Rattle.cq_space.specs.Space.{Contents}
 use Rattle.cq_run.specs.declared.stop.Halt.{Halt}
-use Rattle.cq_run.specs.Refusals.{capture_fault}
 use Rattle.cq_run.specs.Switching.{halt_for}
 
 -- these are the bytes of the name, and not too many
@@ -16,6 +15,6 @@ pub record IsFileOf (name : List ℕ) (limit : ℕ) (told : Option Contents) (by
 
 -- the program stops for what is wrong with these bytes, the capture of an input, or for want of memory
 pub record IsHaltFor (input : ℕ) (bytes : List ℕ) (halt : Halt) : Type 0 where
-  pub found : Option Fault
+  pub found : Option PcapRefusal
   pub faulty : IfSome found (IsFaulty bytes)
-  pub told : halt ≡ halt_for input (option_map capture_fault found)
+  pub told : halt ≡ halt_for input found

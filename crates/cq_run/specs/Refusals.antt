@@ -6,11 +6,12 @@ use Rattle.cq_audit.specs.declared.refusal.AuditRefusal.TheVariants as of_log
 use Rattle.cq_base.specs.declared.status.Status.{Status}
 use Rattle.cq_base.specs.declared.status.Status.TheVariants as status
 use Rattle.cq_base.specs.Decimal.{decimal}
-use Rattle.cq_pcap.specs.Faults as pcap
+use Rattle.cq_pcap.specs.declared.read.PcapRefusal.{PcapRefusal}
+use Rattle.cq_pcap.specs.declared.read.PcapRefusal.TheVariants.{NoHeader, Magic, Version, LinkType, CutHeader, CutBody, LongRecord, NoMemory}
 use Rattle.cq_run.specs.declared.denial.Denial.{Denial}
 use Rattle.cq_run.specs.declared.denial.Denial.TheVariants as audit
 use Rattle.cq_run.specs.declared.refusal.CaptureFault.{CaptureFault}
-use Rattle.cq_run.specs.declared.refusal.CaptureFault.TheVariants.{NoHeader, Magic, Version, LinkType, CutHeader, CutBody, LongRecord, Long}
+use Rattle.cq_run.specs.declared.refusal.CaptureFault.TheVariants.{Read, Long}
 use Rattle.cq_run.specs.declared.refusal.Refusal.{Refusal}
 use Rattle.cq_run.specs.declared.refusal.Refusal.TheVariants.{Words, Missing, Configuration, Capture, Tag, Audit, State}
 use Rattle.cq_run.specs.declared.refusal.StateFault.{StateFault}
@@ -28,25 +29,20 @@ pub record Meaning : Type 0 where
   -- inputs
   pub outruns : Bool
 
--- a fault of the bytes of a capture is told as it is
-abbrev pub capture_fault : pcap.Fault → CaptureFault
-capture_fault pcap.NoHeader = NoHeader
-capture_fault pcap.Magic = Magic
-capture_fault pcap.Version = Version
-capture_fault pcap.LinkType = LinkType
-capture_fault (pcap.CutHeader offset) = CutHeader offset
-capture_fault (pcap.LongRecord offset len) = LongRecord offset len
-capture_fault (pcap.CutBody offset) = CutBody offset
+-- the number of the fault that the bytes of a capture have, with its figures; want of memory is none, and has no number
+abbrev pub refusal_text : PcapRefusal → List ℕ
+refusal_text NoHeader = codes "1"
+refusal_text Magic = codes "2"
+refusal_text Version = codes "3"
+refusal_text LinkType = codes "4"
+refusal_text (CutHeader offset) = codes "5 at " ++ decimal offset
+refusal_text (CutBody offset) = codes "6 at " ++ decimal offset
+refusal_text (LongRecord offset len) = codes "7 at " ++ decimal offset ++ codes ", length " ++ decimal len
+refusal_text NoMemory = []
 
 -- the number of what is wrong with a capture, with its figures
 abbrev pub fault_text : CaptureFault → List ℕ
-fault_text NoHeader = codes "1"
-fault_text Magic = codes "2"
-fault_text Version = codes "3"
-fault_text LinkType = codes "4"
-fault_text (CutHeader offset) = codes "5 at " ++ decimal offset
-fault_text (CutBody offset) = codes "6 at " ++ decimal offset
-fault_text (LongRecord offset len) = codes "7 at " ++ decimal offset ++ codes ", length " ++ decimal len
+fault_text (Read refusal) = refusal_text refusal
 fault_text (Long limit) = codes "8, limit " ++ decimal limit
 
 -- in which phase of which slot

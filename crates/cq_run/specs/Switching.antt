@@ -6,6 +6,7 @@ use Rattle.cq_ideal.specs.Refused.{refused_counts}
 use Rattle.cq_laws.specs.LimitedFabric.{LimitedRecord, slots_in}
 use Rattle.cq_laws.specs.Measures.{figures_of}
 use Rattle.cq_laws.specs.Records.{transfers_of_run}
+use Rattle.cq_pcap.specs.declared.read.PcapRefusal.{PcapRefusal}
 use Rattle.cq_pcap.specs.Captured.{Captured}
 use Rattle.cq_route.specs.declared.tables.Tables.{Tables}
 use Rattle.cq_route.specs.Tables.{ports_of}
@@ -13,7 +14,7 @@ use Rattle.cq_simulate.specs.FabricRuns.{departures_in_run, refused_in_run}
 use Rattle.cq_simulate.specs.Packets.{LeaveWhole}
 use Rattle.cq_simulate.specs.declared.refusal.RunRefusal.{RunRefusal}
 use Rattle.cq_simulate.specs.declared.refusal.RunRefusal.TheVariants as run
-use Rattle.cq_run.specs.declared.refusal.CaptureFault.{CaptureFault}
+use Rattle.cq_run.specs.declared.refusal.CaptureFault.TheVariants.{Read}
 use Rattle.cq_run.specs.declared.refusal.Refusal.TheVariants.{Capture, Tag}
 use Rattle.cq_run.specs.declared.stop.Halt.{Halt}
 use Rattle.cq_run.specs.declared.stop.Halt.TheVariants.{Refused, NoMemory}
@@ -75,9 +76,9 @@ pub record IsPassing (t : Tables) (packets : List Captured) (to : List ℕ) (pla
   pub text : plan.text ≡ []
 
 -- why the program stops where a capture cannot be read: it has this fault, or memory ran out
-abbrev pub halt_for : ℕ → Option CaptureFault → Halt
+abbrev pub halt_for : ℕ → Option PcapRefusal → Halt
 halt_for input None = NoMemory
-halt_for input (Some fault) = Refused (Capture input fault)
+halt_for input (Some fault) = Refused (Capture input (Read fault))
 
 -- why the program stops where a run has no result
 abbrev pub halt_of : RunRefusal → Halt

@@ -9,7 +9,7 @@ use Rattle.cq_space.specs.Space.{Contents}
 use Rattle.cq_gen.specs.Packets.{soak_captures}
 use Rattle.cq_gen.specs.Tables.{soak_tables}
 use Rattle.cq_pcap.specs.Captured.{Captured}
-use Rattle.cq_pcap.specs.Faults.{Fault}
+use Rattle.cq_pcap.specs.declared.read.PcapRefusal.{PcapRefusal}
 use Rattle.cq_route.specs.declared.tables.PortRow.{PortRow}
 use Rattle.cq_route.specs.declared.tables.Tables.{Tables}
 use Rattle.cq_route.specs.Plain.{plain_tables}
@@ -23,12 +23,11 @@ use Rattle.cq_run.specs.declared.refusal.Refusal.{Refusal}
 use Rattle.cq_run.specs.declared.refusal.Refusal.TheVariants.{Words, Missing, Configuration, Capture, Tag, Audit as Denied, State}
 use Rattle.cq_run.specs.declared.denial.Denial.{Denial}
 use Rattle.cq_run.specs.declared.denial.Denial.TheVariants.{LongTrace, LongLog}
-use Rattle.cq_run.specs.declared.refusal.CaptureFault.TheVariants.{Long}
+use Rattle.cq_run.specs.declared.refusal.CaptureFault.TheVariants.{Read, Long}
 use Rattle.cq_run.specs.declared.refusal.StateFault.TheVariants as stopped
 use Rattle.cq_words.specs.Words.{command_for}
 use Rattle.cq_run.specs.Aim.{Aim, Exactly, Crossing, Reporting, Auditing, Parting, Resuming}
 use Rattle.cq_run.specs.Reader.{Reader}
-use Rattle.cq_run.specs.Refusals.{capture_fault}
 use Rattle.cq_run.specs.Plans.{checked, passed, switched}
 
 -- one judgement after another: the first refusal is the answer
@@ -58,9 +57,9 @@ tables_in name m = do
   read_or_refused_for (read_or_refused bytes)
 
 -- the packets that are read of an input's capture, or what is wrong with it
-abbrev pub read_or_faulty : ℕ → Result (List Captured) Fault → Result (List Captured) Refusal
+abbrev pub read_or_faulty : ℕ → Result (List Captured) PcapRefusal → Result (List Captured) Refusal
 read_or_faulty input (Ok packets) = Ok packets
-read_or_faulty input (Err fault) = Err (Capture input (capture_fault fault))
+read_or_faulty input (Err fault) = Err (Capture input (Read fault))
 
 -- the packets of an input's capture; a file that is too long is refused before it is looked at
 abbrev pub capture_of : Reader → ℕ → ℕ → List ℕ → Result (List Captured) Refusal

@@ -1,7 +1,6 @@
 //! Reading what a command names. Nothing is written here.
 ghost use Rattle.std.specs.Prelude.{◌≡◌, ◌≤◌, ◌^◌, ◌∷◌, ◌++◌, [], IfErr, IfOk, IsTrue, OnOk, length};
-ghost use Rattle.std.specs.Option.{option_map};
-ghost use Rattle.cq_run.specs.Terms.{AreTables, ports_of, Fails, Reads, fault_of, Closed, EndsGiven, IsGiven, IsFileOf, Halts, Judges, InTurn, Reader, capture_fault, meaning_of, halt_for, capture_in, captures_in, packets_at, short_in, state_in, tables_in, text_in};
+ghost use Rattle.cq_run.specs.Terms.{AreTables, ports_of, Fails, Reads, fault_of, Closed, EndsGiven, IsGiven, IsFileOf, Halts, Judges, InTurn, Reader, meaning_of, halt_for, capture_in, captures_in, packets_at, short_in, state_in, tables_in, text_in};
 
 use crate::{CaptureFault, Denial, Halt, Refusal, StateFault};
 use cq_base::{Name, NoMemory, Sequence};
@@ -181,13 +180,16 @@ pub fn read_input<F: Files>(
 
 /// Why the capture of an input cannot be read.
 pub fn unreadable(input: u16, refusal: PcapRefusal) -> Halt
-    ensures { result ≡ halt_for input (option_map capture_fault (fault_of refusal)) }
+    ensures { result ≡ halt_for input (fault_of refusal) }
 {
-    match CaptureFault::of(refusal) {
-        Some(fault) => Halt::Refused {
-            refusal: Refusal::Capture { input, fault },
+    match refusal {
+        PcapRefusal::NoMemory => Halt::NoMemory,
+        _ => Halt::Refused {
+            refusal: Refusal::Capture {
+                input,
+                fault: CaptureFault::Read(refusal),
+            },
         },
-        None => Halt::NoMemory,
     }
 }
 

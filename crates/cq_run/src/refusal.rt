@@ -1,54 +1,21 @@
 //! What words and files are refused for.
 ghost use Rattle.std.specs.Prelude.{◌≡◌};
-ghost use Rattle.std.specs.Option.{option_map};
-ghost use Rattle.cq_run.specs.Terms.{fault_of, capture_fault, meaning_of};
+ghost use Rattle.cq_run.specs.Terms.{meaning_of};
 
 use crate::Denial;
 use cq_base::{Name, Status, TagFault};
 use cq_pcap::PcapRefusal;
 
-/// What is wrong with a capture. An offset is the place in the file, in bytes, of the record at fault.
+/// What is wrong with a capture.
 #[derive(Clone, Copy, Debug, PartialEq, Eq)]
 pub enum CaptureFault {
-    /// Number 1: it has fewer than 24 bytes.
-    NoHeader,
-    /// Number 2: its first four bytes are no magic of the format.
-    Magic,
-    /// Number 3: its version is not 2.4.
-    Version,
-    /// Number 4: its link type is not Ethernet.
-    LinkType,
-    /// Number 5: it ends inside a record's header.
-    CutHeader { offset: u64 },
-    /// Number 6: it ends inside a record's captured bytes.
-    CutBody { offset: u64 },
-    /// Number 7: a record states a captured length of more than 262,144 bytes.
-    LongRecord { offset: u64, length: u32 },
+    /// Numbers 1 to 7, in the order of the refusals: its bytes have this fault first. Want of memory is none.
+    Read(PcapRefusal),
     /// Number 8: its file is too long.
     Long {
         /// How many bytes it may have.
         limit: u64,
     },
-}
-
-impl CaptureFault {
-    /// What is wrong with a capture that is refused so, or None for want of memory.
-    pub fn of(refusal: PcapRefusal) -> Option<CaptureFault>
-        ensures { result ≡ option_map capture_fault (fault_of refusal) }
-    {
-        match refusal {
-            PcapRefusal::NoHeader => Some(CaptureFault::NoHeader),
-            PcapRefusal::Magic => Some(CaptureFault::Magic),
-            PcapRefusal::Version => Some(CaptureFault::Version),
-            PcapRefusal::LinkType => Some(CaptureFault::LinkType),
-            PcapRefusal::CutHeader { offset } => Some(CaptureFault::CutHeader { offset }),
-            PcapRefusal::CutBody { offset } => Some(CaptureFault::CutBody { offset }),
-            PcapRefusal::LongRecord { offset, length } => {
-                Some(CaptureFault::LongRecord { offset, length })
-            }
-            PcapRefusal::NoMemory => None,
-        }
-    }
 }
 
 /// What is wrong with the state of a stopped run: the first of these that applies.

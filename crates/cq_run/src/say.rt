@@ -1,11 +1,12 @@
 //! The line that tells why a run stopped. Nothing here takes memory.
 ghost use Rattle.std.specs.Prelude.{◌++◌};
 ghost use Rattle.std.specs.List.{flat_map};
-ghost use Rattle.cq_run.specs.Terms.{decimal, denial_text, fault_text, log_text, meaning_of, state_fault_text, Says, line, halt_text, unwritten_text, stop_text};
+ghost use Rattle.cq_run.specs.Terms.{decimal, denial_text, fault_text, log_text, refusal_text, meaning_of, state_fault_text, Says, line, halt_text, unwritten_text, stop_text};
 
 use crate::{CaptureFault, Denial, Halt, Refusal, StateFault, Stop, Unwritten};
 use cq_audit::AuditRefusal;
 use cq_base::{MOST_DIGITS, Name, Port, Slot, TagFault, digits};
+use cq_pcap::PcapRefusal;
 use cq_space::{Sink, WriteFault, put_all};
 
 const USAGE: &[u8; 174] =
@@ -114,19 +115,28 @@ fn say_fault<S: Sink>(sink: &mut S, fault: CaptureFault) -> Result<(), WriteFaul
     ensures { Says S.taken S.faults (line (fault_text fault)) sink.old sink.new result }
 {
     match fault {
-        CaptureFault::NoHeader => say_line(sink, b"1"),
-        CaptureFault::Magic => say_line(sink, b"2"),
-        CaptureFault::Version => say_line(sink, b"3"),
-        CaptureFault::LinkType => say_line(sink, b"4"),
-        CaptureFault::CutHeader { offset } => say_number(sink, b"5 at ", offset),
-        CaptureFault::CutBody { offset } => say_number(sink, b"6 at ", offset),
-        CaptureFault::LongRecord { offset, length } => say_long_record(sink, offset, length),
+        CaptureFault::Read(refusal) => say_unreadable(sink, refusal),
         CaptureFault::Long { limit } => say_number(sink, b"8, limit ", limit),
     }
 }
 
+fn say_unreadable<S: Sink>(sink: &mut S, refusal: PcapRefusal) -> Result<(), WriteFault>
+    ensures { Says S.taken S.faults (line (refusal_text refusal)) sink.old sink.new result }
+{
+    match refusal {
+        PcapRefusal::NoHeader => say_line(sink, b"1"),
+        PcapRefusal::Magic => say_line(sink, b"2"),
+        PcapRefusal::Version => say_line(sink, b"3"),
+        PcapRefusal::LinkType => say_line(sink, b"4"),
+        PcapRefusal::CutHeader { offset } => say_number(sink, b"5 at ", offset),
+        PcapRefusal::CutBody { offset } => say_number(sink, b"6 at ", offset),
+        PcapRefusal::LongRecord { offset, length } => say_long_record(sink, offset, length),
+        PcapRefusal::NoMemory => say_line(sink, b""),
+    }
+}
+
 fn say_long_record<S: Sink>(sink: &mut S, offset: u64, length: u32) -> Result<(), WriteFault>
-    ensures { Says S.taken S.faults (line (fault_text (CaptureFault.LongRecord offset length)))
+    ensures { Says S.taken S.faults (line (refusal_text (PcapRefusal.LongRecord offset length)))
         sink.old sink.new result }
 {
     put_two(sink, b"7 at ", offset, b", length ", u64::from(length))?;

@@ -3,15 +3,21 @@
 -- taken are the rows sent. Where nothing was sent, nothing was taken either.
 use Rattle.cq_stream.proofs.Terms.{rules, arith, ◌≡◌, ℕ, List, [], ◌∷◌, ◌++◌, refl, common_steps, Err, IfSome, Some, PacketRow, AreRowsUntil, Item, HasRun, all_sent, bytes_of, fault_found, items_of}
 use Rattle.cq_pcap.specs.declared.read.PcapRefusal.{PcapRefusal}
-use Rattle.cq_pcap.specs.Faults.{fault_of}
+use Rattle.cq_pcap.specs.Faults.{IsFaulty, fault_of}
 use Rattle.cq_pcap.specs.Reading.{packets_of}
+use Rattle.cq_pcap.proofs.Refused.{named_fault}
 use Rattle.cq_pcap.proofs.SpeltIsRead.{fault_is_read}
 use Rattle.cq_stream.specs.declared.outcome.Done.{Done}
 
--- the fault of a file is read
+-- a fault that is found is one of the file, and is read
+pub faulty : (bytes : List ℕ) (refusal : PcapRefusal) (rows : List PacketRow)
+    → AreRowsUntil bytes (Some refusal) rows → IfSome (fault_of refusal) (IsFaulty bytes)
+faulty bytes refusal rows until = named_fault (IsFaulty bytes) refusal until.1.faulty
+
 pub unread : (bytes : List ℕ) (refusal : PcapRefusal) (rows : List PacketRow)
     → AreRowsUntil bytes (Some refusal) rows → IfSome (fault_of refusal) (λ fault. packets_of bytes ≡ Err fault)
-unread bytes refusal rows until = grind (arith, common_steps, fault_is_read)
+unread bytes refusal rows until =
+    named_fault (λ fault. packets_of bytes ≡ Err fault) refusal (fault_is_read bytes refusal until.1.faulty)
 
 -- the items of a file have one end
 one_end : (rows others : List PacketRow) (rest : List Item)

@@ -1,4 +1,4 @@
-use Rattle.cq_pcap.proofs.Terms.{◌-◌, arith, rules}
+use Rattle.cq_pcap.proofs.Terms.{arith, rules}
 use Rattle.cq_pcap.proofs.Numbers.{AreBytes}
 use Rattle.cq_pcap.proofs.Refused.{err_map}
 use Rattle.cq_pcap.proofs.Rows.{rows_fault, rows_more}
