@@ -24,13 +24,6 @@ impl Model for Gone {
     ghost invariant = { λ a. length a.places ≡ 64 };
 }
 
-// No cell in any of 64 places.
-fn nobody() -> [Option<Queued>; 64]
-    ensures { result ≡ replicate 64 None }
-{
-    [None; 64]
-}
-
 // The first cell of each buffer leaves it, and comes to the place of its output.
 fn pop_each(buffers: &mut [OutputBuffer], gone: &mut [Option<Queued>; 64])
     requires few { length buffers.old ≤ 64 }
@@ -45,25 +38,12 @@ fn pop_each(buffers: &mut [OutputBuffer], gone: &mut [Option<Queued>; 64])
     }
 }
 
-// No cell in so many of the places.
-fn clear_each(places: &mut [Option<Queued>; 64], outputs: u16)
-    requires few { outputs ≤ 64 }
-    requires places { length places.old ≡ 64 }
-    ensures places { length places.new ≡ 64 }
-    ensures none { take outputs places.new ≡ replicate outputs None }
-    ensures others { drop outputs places.new ≡ drop outputs places.old }
-{
-    'outputs: for output in 0..outputs as usize {
-        places[output] = None;
-    }
-}
-
 impl Gone {
     /// No output sent a cell.
     pub fn none() -> Gone
         ensures { result ≡ replicate 64 None }
     {
-        Gone { places: nobody() }
+        Gone { places: [None; 64] }
     }
 
     /// None of so many outputs sent a cell. The places behind them stay as they were.
@@ -72,7 +52,7 @@ impl Gone {
         ensures none { take outputs self.new ≡ replicate outputs None }
         ensures others { drop outputs self.new ≡ drop outputs self.old }
     {
-        clear_each(&mut self.places, outputs);
+        self.places[..outputs as usize].fill(None);
     }
 
     /// What an output sent, if it sent a cell.

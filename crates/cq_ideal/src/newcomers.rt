@@ -26,28 +26,13 @@ impl Model for Newcomers {
     ghost invariant = { λ a. AreUsed a.used a.places };
 }
 
-// No cell in any of 64 places.
-fn nobody() -> [Option<Queued>; 64]
-    ensures { result ≡ replicate 64 None }
-{
-    [None; 64]
-}
-
-// The same in these places. It is made apart from all callers, so that none of them has room for it on its stack.
-#[inline(never)]
-fn clear(places: &mut [Option<Queued>; 64])
-    ensures { places.new ≡ replicate 64 None }
-{
-    *places = nobody();
-}
-
 impl Newcomers {
     /// No cell came to any input.
     pub fn none() -> Newcomers
         ensures { result ≡ replicate 64 None }
     {
         Newcomers {
-            places: nobody(),
+            places: [None; 64],
             used: 0,
         }
     }
@@ -68,7 +53,7 @@ impl Newcomers {
         if self.used <= inputs {
             return;
         }
-        clear(&mut self.places);
+        self.places.fill(None);
         self.used = 0;
     }
 

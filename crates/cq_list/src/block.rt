@@ -43,13 +43,6 @@ fn nth(places: &[Port], output: Port, ahead: usize) -> usize
     places.len()
 }
 
-// No place is any output's.
-fn no_counts() -> [u8; 64]
-    ensures { result ≡ replicate 64 0 }
-{
-    [0; 64]
-}
-
 impl Block {
     /// No place.
     pub fn new() -> Block
@@ -57,7 +50,7 @@ impl Block {
     {
         Block {
             places: ArrayVec::new(),
-            counts: no_counts(),
+            counts: [0; 64],
         }
     }
 

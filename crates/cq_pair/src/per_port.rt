@@ -21,13 +21,6 @@ impl Model for PerPort {
     ghost invariant = { λ a. (a.ports ≤ 64) × (length a.numbers ≡ 64) };
 }
 
-// The same number in all places.
-fn filled(number: u16) -> [u16; 64]
-    ensures { result ≡ replicate 64 number }
-{
-    [number; 64]
-}
-
 impl PerPort {
     /// The same number for each of so many ports.
     pub fn all(ports: u16, number: u16) -> PerPort
@@ -36,7 +29,7 @@ impl PerPort {
     {
         PerPort {
             ports,
-            numbers: filled(number),
+            numbers: [number; 64],
         }
     }
 

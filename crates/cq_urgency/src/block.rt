@@ -29,13 +29,6 @@ impl Model for Block {
     ghost invariant = { λ b. IsPiece b.cells b.head b.len };
 }
 
-// An array of this one cell.
-fn filled(queued: Queued) -> [Queued; 64]
-    ensures { result ≡ replicate 64 queued }
-{
-    [queued; 64]
-}
-
 // A cell comes first and the others move one place on, over the last one.
 fn push_on(cells: &mut [Queued], queued: Queued)
     requires { 0 < length cells.old }
@@ -95,7 +88,7 @@ impl Block {
         ensures { result ≡ queued ∷ [] }
     {
         Block {
-            cells: filled(queued),
+            cells: [queued; 64],
             head: 0,
             len: 1,
         }

@@ -1,4 +1,4 @@
-use Rattle.cq_ideal.proofs.Terms.{arith}
+use Rattle.cq_ideal.proofs.Terms.{rules, arith}
 use Rattle.cq_ideal.proofs.Changed.{none_used}
 use Rattle.cq_ideal.proofs.newcomers.Newcomers.begin.Goals as goal
 
@@ -6,10 +6,7 @@ pub returns-then-self-inputs-clause-beyond : goal.returns-then-self-inputs-claus
 returns-then-self-inputs-clause-beyond c k from = cc (c.self.invariant.beyond k (omega arith))
 
 pub invariant_of-self : goal.invariant_of-self
-invariant_of-self c = none_used 0 c.clear.new.places c.clear.ensures
+invariant_of-self c = search (arith, rules, none_used 0)
 
-pub returns-clause-long : goal.returns-clause-long
-returns-clause-long c = (none_used 0 c.clear.new.places c.clear.ensures).long
-
-pub returns-clause-beyond : goal.returns-clause-beyond
-returns-clause-beyond c k from = (none_used 0 c.clear.new.places c.clear.ensures).beyond k (omega arith)
+pub returns : goal.returns
+returns c = search (arith, rules, none_used 0)
