@@ -2,7 +2,7 @@
 ghost use Rattle.std.specs.Prelude.{◌≡◌, ◌≢◌, ◌==◌, ◌+◌, ◌-◌, ◌^◌, ◌<◌, ◌≤◌, ◌++◌, ℕ, [], All, IfOk, IsTrue, Some, drop, length, map, replicate, slice_get, slice_index, take};
 ghost use Rattle.std.specs.List.{list_all, position_or_len};
 ghost use Rattle.cq_base.specs.declared.cell.Queued.{Queued as OfCell};
-ghost use Rattle.cq_fabric.specs.Terms.{cushion, fronts, rests, cells_of, cells_in, first_key, key_before, list_of, orders_of, Moves, transfers_of, IsMatching, MovesRoom, came_to, list_arrived, CanCrossInPairs, CanFollow, CanHold, IsNewest, CanCross, ComeApart, Comes, FitEach, FitLists, Fits, buffer_room, fabric_of, list_at, list_room, list_with};
+ghost use Rattle.cq_fabric.specs.Terms.{cushion, fronts, rests, cells_of, cells_in, first_key, key_before, list_of, orders_of, Moves, transfers_of, IsMatching, HasTransferred, came_to, list_arrived, CanCrossInPairs, CanFollow, CanHold, IsNewest, CanCross, ComeApart, Comes, FitEach, FitLists, Fits, buffer_room, fabric_of, list_at, list_room, list_with};
 
 use crate::gone::Gone;
 use crate::standing::{all_told, filled_buffer, filled_each, filled_list};
@@ -116,14 +116,9 @@ fn cross_matched(
     requires pairs { CanCrossInPairs matching.now lists.old buffers.old }
     requires follow { CanFollow lists.old offers.old }
     requires note { length matching.now ≤ note.old.spare }
-    ensures moves { Moves matching.now (cells_of lists.old) (cells_in buffers.old) (cells_of lists.new)
-        (cells_in buffers.new) }
-    ensures room { MovesRoom matching.now lists.old buffers.old lists.new buffers.new }
-    ensures outputs { map (λ list. list.outputs) lists.new ≡ map (λ list. list.outputs) lists.old }
+    ensures transferred { HasTransferred slot phase matching.now lists.old buffers.old lists.new buffers.new
+        note.old note.new }
     ensures offers { offers.new ≡ orders_of (cells_of lists.new) }
-    ensures note { note.new.items ≡ note.old.items ++ transfers_of matching.now (cells_of lists.old) slot phase }
-    ensures note_room { note.new.spare + length (transfers_of matching.now (cells_of lists.old) slot phase)
-        ≡ note.old.spare }
 {
     transfer(matching, lists, buffers, slot, phase, note);
     offers.renew(lists, matching);

@@ -1,12 +1,14 @@
 -- What the transfer of a matching asks for, and what it does to the room of lists and buffers.
-use Rattle.std.specs.Prelude.{◌≡◌, ℕ, ◌+◌, ◌<◌, ◌⊎◌, if◌then◌else◌, List, length, map, Some, is_some, nat_eq, slice_index_or}
+use Rattle.std.specs.Prelude.{◌≡◌, ℕ, ◌+◌, ◌<◌, ◌⊎◌, ◌++◌, if◌then◌else◌, List, length, map, Some, is_some, nat_eq, slice_index_or}
 use Rattle.std.specs.List.{IsDistinct}
 use Rattle.cq_base.specs.declared.cell.Queued.{Queued}
 use Rattle.cq_base.specs.declared.cell.Transfer.{Transfer}
 use Rattle.cq_base.specs.Cells.{HasOtherKey, first_for}
-use Rattle.cq_list.specs.InputList.{Waiting}
-use Rattle.cq_urgency.specs.OutputBuffer.{Buffered}
+use Rattle.cq_base.specs.Room.{RoomView}
+use Rattle.cq_list.specs.InputList.{Waiting, cells_of}
+use Rattle.cq_urgency.specs.OutputBuffer.{Buffered, cells_in}
 use Rattle.cq_prefs.specs.FirstCells.{list_of, HasCellFor}
+use Rattle.cq_prefs.specs.Moves.{Moves, transfers_of}
 use Rattle.cq_prefs.specs.Pairing.{Partners, partner_of, IsFreeOutput}
 
 -- each input that has a partner has a cell for it
@@ -38,6 +40,15 @@ pub record MovesRoom (m : Partners) (lists : List Waiting) (buffers : List Buffe
   pub gained : (i : ℕ) → list_spare lists' i ≡ list_spare lists i + (if is_some (partner_of m i) then 1 else 0)
   pub lost : (i j : ℕ) → partner_of m i ≡ Some j → buffer_spare buffers' j + 1 ≡ buffer_spare buffers j
   pub kept : (j : ℕ) → IsFreeOutput m j → buffer_spare buffers' j ≡ buffer_spare buffers j
+
+-- the first cells of the pairs went from these lists into these buffers, and were noted
+pub record HasTransferred (slot phase : ℕ) (m : Partners) (lists : List Waiting) (buffers : List Buffered)
+    (lists' : List Waiting) (buffers' : List Buffered) (before after : RoomView Transfer) : Type 0 where
+  pub moves : Moves m (cells_of lists) (cells_in buffers) (cells_of lists') (cells_in buffers')
+  pub room : MovesRoom m lists buffers lists' buffers'
+  pub outputs : map (λ list. list.outputs) lists' ≡ map (λ list. list.outputs) lists
+  pub note : after.items ≡ before.items ++ transfers_of m (cells_of lists) slot phase
+  pub note_room : after.spare + length (transfers_of m (cells_of lists) slot phase) ≡ before.spare
 
 -- the second number is the first, or one more
 abbrev pub IsSameOrNext : ℕ → ℕ → Type 0

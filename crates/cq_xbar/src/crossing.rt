@@ -1,9 +1,8 @@
 //! The transfer of a matching.
-ghost use Rattle.std.specs.Prelude.{◌≡◌, ◌+◌, ◌≤◌, ◌++◌, length, map};
+ghost use Rattle.std.specs.Prelude.{◌≡◌, ◌≤◌, length};
 ghost use Rattle.cq_list.specs.InputList.{cells_of};
 ghost use Rattle.cq_urgency.specs.OutputBuffer.{cells_in};
-ghost use Rattle.cq_prefs.specs.Moves.{Moves, transfers_of};
-ghost use Rattle.cq_xbar.specs.Crossbar.{HaveCells, HaveRoom, KeysAreNew, MovesRoom};
+ghost use Rattle.cq_xbar.specs.Crossbar.{HasTransferred, HaveCells, HaveRoom, KeysAreNew};
 
 use cq_base::{Room, Slot, Transfer};
 use cq_list::InputList;
@@ -27,13 +26,7 @@ pub fn transfer(
     requires keys { KeysAreNew matching.now (cells_of lists.old) (cells_in buffers.old) }
     requires room { HaveRoom matching.now buffers.old }
     requires note { length matching.now ≤ note.old.spare }
-    ensures moves { Moves matching.now (cells_of lists.old) (cells_in buffers.old) (cells_of lists.new)
-        (cells_in buffers.new) }
-    ensures room { MovesRoom matching.now lists.old buffers.old lists.new buffers.new }
-    ensures outputs { map (λ list. list.outputs) lists.new ≡ map (λ list. list.outputs) lists.old }
-    ensures note { note.new.items ≡ note.old.items ++ transfers_of matching.now (cells_of lists.old) slot phase }
-    ensures note_room { note.new.spare + length (transfers_of matching.now (cells_of lists.old) slot phase)
-        ≡ note.old.spare }
+    ensures { HasTransferred slot phase matching.now lists.old buffers.old lists.new buffers.new note.old note.new }
 {
     for input in 0..matching.ports() {
         if let Some(output) = matching.partner_of(input) {
