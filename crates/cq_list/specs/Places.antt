@@ -1,6 +1,7 @@
 -- The places of a list, in blocks, and what clauses see of them.
-use Rattle.std.specs.Prelude.{◌≡◌, ℕ, ◌+◌, ◌*◌, ◌<◌, ◌≤◌, List, [], ◌∷◌, ◌++◌, length, take, drop, remove, slice_set, slice_index_or}
+use Rattle.std.specs.Prelude.{◌≡◌, ℕ, ◌+◌, ◌*◌, ◌<◌, ◌≤◌, List, [], ◌∷◌, ◌++◌, length, take, drop, insert, remove, slice_set, slice_index_or, Vec, vec_capacity}
 use Rattle.std.specs.List.{concat}
+use Rattle.std.specs.declared.alloc.Global.{Global}
 use Rattle.cq_list.specs.Split.{count_of}
 
 -- the output of each place in order, and how many more places there is room for
@@ -24,6 +25,18 @@ pub record AreBlocks (blocks : List (List ℕ)) (len room capacity : ℕ) : Type
   pub counted : len ≡ length (concat blocks)
   pub fits : len ≤ room
   pub memory : HaveMemory room capacity
+
+-- an output can go into these blocks: they are filled, and there is memory for a block more
+pub record CanGrow (blocks : Vec (List ℕ) Global) (output : ℕ) : Type 0 where
+  pub filled : AreFilled blocks.items
+  pub memory : HaveMemory (length (concat blocks.items)) (vec_capacity blocks)
+  pub in_range : output < 64
+
+-- an output went in at this place, the blocks are filled still, and they have as much memory
+pub record HasGrown (place output : ℕ) (old new : Vec (List ℕ) Global) : Type 0 where
+  pub places : concat new.items ≡ insert (concat old.items) place output
+  pub filled : AreFilled new.items
+  pub capacity : vec_capacity new ≡ vec_capacity old
 
 -- the blocks, where block i has the places of the next one too
 abbrev pub joined : List (List ℕ) → ℕ → List (List ℕ)

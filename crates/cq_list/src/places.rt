@@ -2,7 +2,7 @@
 ghost use Rattle.std.specs.Prelude.{◌≡◌, ℕ, ◌+◌, ◌<◌, ◌≤◌, ◌^◌, [], Some, IfOk, length, take, insert, remove, slice_get, slice_index_or, vec_capacity};
 ghost use Rattle.std.specs.List.{position_or_len, concat};
 ghost use Rattle.cq_list.specs.Split.{is_output, place_of_nth, count_of};
-ghost use Rattle.cq_list.specs.Places.{IsSpot, IsAhead, AreFilled, HaveMemory, joined, pulled};
+ghost use Rattle.cq_list.specs.Places.{CanGrow, HasGrown, IsSpot, IsAhead, AreFilled, HaveMemory, joined, pulled};
 
 use crate::block::Block;
 use cq_base::{NoMemory, Port};
@@ -243,14 +243,9 @@ fn spot_with_room(blocks: &mut Vec<Block>, place: usize, len: usize) -> Spot
 
 // A place at the end, in a block of its own behind a full one.
 fn push_block(blocks: &mut Vec<Block>, output: Port)
-    requires filled { AreFilled blocks.old.items }
+    requires can { CanGrow blocks.old output }
     requires full { (i : ℕ) → i + 1 ≡ length blocks.old.items → 64 ≤ length (slice_index_or blocks.old.items i []) }
-    requires memory { HaveMemory (length (concat blocks.old.items)) (vec_capacity blocks.old) }
-    requires in_range { output < 64 }
-    ensures places { concat blocks.new.items ≡
-        insert (concat blocks.old.items) (length (concat blocks.old.items)) output }
-    ensures filled { AreFilled blocks.new.items }
-    ensures capacity { vec_capacity blocks.new ≡ vec_capacity blocks.old }
+    ensures { HasGrown (length (concat blocks.old.items)) output blocks.old blocks.new }
 {
     let mut block = Block::new();
     block.insert(0, output);
@@ -259,14 +254,9 @@ fn push_block(blocks: &mut Vec<Block>, output: Port)
 
 // A place at the end, in the last block or behind it.
 fn append_behind(blocks: &mut Vec<Block>, last: usize, output: Port)
-    requires filled { AreFilled blocks.old.items }
+    requires can { CanGrow blocks.old output }
     requires last { last + 1 ≡ length blocks.old.items }
-    requires memory { HaveMemory (length (concat blocks.old.items)) (vec_capacity blocks.old) }
-    requires in_range { output < 64 }
-    ensures places { concat blocks.new.items ≡
-        insert (concat blocks.old.items) (length (concat blocks.old.items)) output }
-    ensures filled { AreFilled blocks.new.items }
-    ensures capacity { vec_capacity blocks.new ≡ vec_capacity blocks.old }
+    ensures { HasGrown (length (concat blocks.old.items)) output blocks.old blocks.new }
 {
     let len = blocks[last].len();
     if len < 64 {
@@ -279,13 +269,8 @@ fn append_behind(blocks: &mut Vec<Block>, last: usize, output: Port)
 
 // A place at the end.
 fn append(blocks: &mut Vec<Block>, output: Port)
-    requires filled { AreFilled blocks.old.items }
-    requires memory { HaveMemory (length (concat blocks.old.items)) (vec_capacity blocks.old) }
-    requires in_range { output < 64 }
-    ensures places { concat blocks.new.items ≡
-        insert (concat blocks.old.items) (length (concat blocks.old.items)) output }
-    ensures filled { AreFilled blocks.new.items }
-    ensures capacity { vec_capacity blocks.new ≡ vec_capacity blocks.old }
+    requires { CanGrow blocks.old output }
+    ensures { HasGrown (length (concat blocks.old.items)) output blocks.old blocks.new }
 {
     let count = blocks.len();
     if count == 0 {
@@ -297,14 +282,10 @@ fn append(blocks: &mut Vec<Block>, output: Port)
 
 // A place ahead of another one.
 fn insert_inside(blocks: &mut Vec<Block>, place: usize, len: usize, output: Port)
-    requires filled { AreFilled blocks.old.items }
-    requires memory { HaveMemory (length (concat blocks.old.items)) (vec_capacity blocks.old) }
+    requires can { CanGrow blocks.old output }
     requires inside { place < len }
     requires len { len ≡ length (concat blocks.old.items) }
-    requires in_range { output < 64 }
-    ensures places { concat blocks.new.items ≡ insert (concat blocks.old.items) place output }
-    ensures filled { AreFilled blocks.new.items }
-    ensures capacity { vec_capacity blocks.new ≡ vec_capacity blocks.old }
+    ensures { HasGrown place output blocks.old blocks.new }
 {
     let spot = spot_with_room(blocks, place, len);
     let block = &mut blocks[spot.block];

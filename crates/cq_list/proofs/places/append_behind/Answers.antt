@@ -6,8 +6,5 @@ use Rattle.cq_list.proofs.places.append_behind.Goals as goal
 pub push_block-requires-clause-full : goal.push_block-requires-clause-full
 push_block-requires-clause-full c = search (arith, rules, get_or_read, full_last)
 
-pub returns-then-len-lt64-clause-places : goal.returns-then-len-lt64-clause-places
-returns-then-len-lt64-clause-places c = search (arith, rules, get_or_read, append_in)
-
-pub returns-then-len-lt64-clause-filled : goal.returns-then-len-lt64-clause-filled
-returns-then-len-lt64-clause-filled c = search (arith, rules, get_or_read, length-insert, filled_longer)
+pub returns-then-len-lt64 : goal.returns-then-len-lt64
+returns-then-len-lt64 c = search (arith, rules, get_or_read, length-insert, append_in, filled_longer)

@@ -6,8 +6,5 @@ use Rattle.cq_list.proofs.places.push_block.Goals as goal
 pub push_reserved-requires : goal.push_reserved-requires
 push_reserved-requires c = search (arith, rules, room_for_block)
 
-pub returns-clause-places : goal.returns-clause-places
-returns-clause-places c = search (arith, rules, push_in)
-
-pub returns-clause-filled : goal.returns-clause-filled
-returns-clause-filled c = search (arith, rules, filled_pushed, c.requires.full)
+pub returns : goal.returns
+returns c = search (arith, rules, push_in, filled_pushed, c.requires.full)
