@@ -7,7 +7,6 @@ pub mod Claiming
 pub mod Refusing
 pub mod Seats
 pub mod Allowed
-pub mod Readings
 pub mod SeatFields
 pub mod Closing
 pub mod Matched

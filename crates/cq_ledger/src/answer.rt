@@ -1,22 +1,15 @@
-//! What an input asks, and what the word that it found comes to.
-ghost use Rattle.std.specs.Prelude.{◌≡◌, ◌<◌, ◌≤◌, ◌+◌, length};
-ghost use Rattle.cq_prefs.specs.Orders.{AreOffers, IsOffered, ports, outputs_of, place_of, position_of};
+//! What the word that an input found comes to.
+ghost use Rattle.std.specs.Prelude.{◌≡◌, ◌<◌, ◌+◌, length};
+ghost use Rattle.cq_prefs.specs.Orders.{ports, outputs_of, place_of, position_of};
 ghost use Rattle.cq_prefs.specs.Proposals.{answer_of, output_at};
 ghost use Rattle.cq_ledger.specs.Plays.{IsOtherWord};
 ghost use Rattle.cq_ledger.specs.Steps.{hand_after, hand_at};
 
 use cq_base::Port;
-use cq_prefs::{Offers, Outcome};
+use cq_prefs::{Ask, Offers, Outcome};
 
 /// Whose turn it is at a seat: an input, with the place of its next proposal among its offers.
 pub(crate) type Hand = Option<(Port, u16)>;
-
-/// The output that is asked, and the position of the input that asks.
-#[derive(Clone, Copy)]
-pub(crate) struct Asked {
-    pub(crate) output: Port,
-    pub(crate) position: u16,
-}
 
 /// A hand with an input at a place, or an empty one where its order ends there.
 #[tactic(auto, unfolding(crate::specs::Steps::hand_at))]
@@ -31,34 +24,9 @@ pub(crate) fn hand_from(offers: &Offers, input: Port, place: u16) -> Hand
     }
 }
 
-pub(crate) fn asked_by(offers: &Offers, input: Port, place: u16) -> Asked
-    requires { place < length (outputs_of offers.now input) }
-    ensures input { input < ports offers.now }
-    ensures few { ports offers.now ≤ 64 }
-    ensures output { result.output ≡ output_at offers.now input place }
-    ensures position { result.position ≡ position_of offers.now result.output input }
-    ensures offered { IsOffered offers.now input result.output }
-    ensures offers { AreOffers offers.now }
-{
-    // Its contract tells that the orders of both sides fit together, and that there are 64 ports at most.
-    let _ports = offers.ports();
-    let output = offers.outputs_of(input)[place as usize];
-    let position = match offers.position_of(output, input) {
-        Some(position) => position,
-        None => unreachable!(),
-    };
-    Asked { output, position }
-}
-
 /// What a proposal comes to where the output's word was this one.
 #[tactic(auto, unfolding(cq_prefs::specs::Proposals::answer_of))]
-pub(crate) fn answered(
-    offers: &Offers,
-    input: Port,
-    place: u16,
-    asked: Asked,
-    found: u64,
-) -> Outcome
+pub(crate) fn answered(offers: &Offers, input: Port, place: u16, asked: Ask, found: u64) -> Outcome
     requires place { place < length (outputs_of offers.now input) }
     requires output { asked.output ≡ output_at offers.now input place }
     requires position { asked.position ≡ position_of offers.now asked.output input }

@@ -7,7 +7,7 @@ ghost use Rattle.cq_ledger.specs.Seats.{HasClaimedAll, IsProposed, IsSeatOf};
 ghost use Rattle.cq_ledger.specs.Steps.{blank, claim_refused, claim_taken, joined};
 ghost use Rattle.cq_ledger.specs.Views.{HasClaimed, HasSeen};
 
-use crate::answer::{answered, asked_by, hand_from, hand_next};
+use crate::answer::{answered, hand_from, hand_next};
 use crate::closed::Closed;
 use crate::plays::{Both, Claim, Halves, Look, Proposal, Rule};
 use crate::reading::read_matching;
@@ -108,7 +108,7 @@ impl Ledger {
             Some(hand) => hand,
             None => unreachable!(),
         };
-        let asked = asked_by(&self.offers, input, place);
+        let asked = self.offers.asked(input, place);
         let found = self.table.shared.fetch_min::<Proposal>(
             &mut seat.seat,
             asked.output as usize + 1,

@@ -1,8 +1,8 @@
 //! Proposals, one at a time.
 ghost use Rattle.std.specs.Prelude.{◌≡◌, ◌≢◌, ◌<◌, ◌≤◌, ◌+◌, [], length, replicate, None};
-ghost use Rattle.cq_prefs.specs.Orders.{ports, outputs_of, position_of};
+ghost use Rattle.cq_prefs.specs.Orders.{ports, outputs_of};
 ghost use Rattle.cq_prefs.specs.Pairing.{IsInputBest, partner_of, proposals};
-ghost use Rattle.cq_prefs.specs.Proposals.{IsFree, next_output, next_place, outcome_of, propose, start};
+ghost use Rattle.cq_prefs.specs.Proposals.{IsFree, next_place, outcome_of, propose, start};
 ghost use Rattle.cq_pair.specs.Progress.{CanTake, IsAsk, IsReached, MovesOn, Parts, ShowsWaiting, Takes, no_progress};
 
 use crate::free_inputs::FreeInputs;
@@ -172,17 +172,6 @@ impl Core {
         self.made
     }
 
-    // The output to which a free input proposes next.
-    fn next_output(&self, offers: &Offers, input: Port) -> Port
-        requires reached { IsReached offers.now self.now }
-        requires free { IsFree offers.now self.now.state input }
-        ensures { result ≡ next_output offers.now self.now.state input }
-    {
-        // Its contract tells that the orders of both sides fit together.
-        let _ports = offers.ports();
-        offers.outputs_of(input)[self.places.at(input) as usize]
-    }
-
     // What a free input asks, and how it stands there.
     fn asked_by(&self, offers: &Offers, input: Port) -> Asked
         requires reached { IsReached offers.now self.now }
@@ -190,18 +179,14 @@ impl Core {
         ensures ask { IsAsk offers.now self.now input result.output result.position result.held }
         ensures few { ports offers.now ≤ 64 }
     {
-        // Its contract tells that the orders of both sides fit together, and that there are 64 ports at most.
+        // Its contract tells that the orders of both sides fit together.
         let _ports = offers.ports();
-        let output = self.next_output(offers, input);
-        let position = match offers.position_of(output, input) {
-            Some(position) => position,
-            None => unreachable!(),
-        };
-        let held = self.positions.at(output);
+        let place = self.places.at(input);
+        let ask = offers.asked(input, place);
         Asked {
-            output,
-            position,
-            held,
+            output: ask.output,
+            position: ask.position,
+            held: self.positions.at(ask.output),
         }
     }
 

@@ -36,6 +36,10 @@ pub place_of-at : (o : Orders) → AreOffers o → (i p : ℕ) → p < length (o
     place_of o i (get_or (outputs_of o i) p 0) ≡ p
 place_of-at o v i p h = place_in-get_or (outputs_of o i) p (v.outputs_differ i) h
 
+pub offered-at : (o : Orders) → AreOffers o → (i p : ℕ) (order : List ℕ) → order ≡ outputs_of o i →
+    p < length (outputs_of o i) → IsOffered o i (get_or order p 0)
+offered-at o v i p order e h = rw e (let a = place_of-at o v i p h in omega arith)
+
 pub position_of-at : (o : Orders) → AreOffers o → (j p : ℕ) → p < length (inputs_of o j) →
     position_of o j (get_or (inputs_of o j) p 0) ≡ p
 position_of-at o v j p h = place_in-get_or (inputs_of o j) p (v.inputs_differ j) h

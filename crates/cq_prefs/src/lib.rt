@@ -20,6 +20,6 @@ mod renewal;
 pub use best_law::best_is_input_best;
 pub use laws::{one_is_input_best, one_order_is_by_first_cells, orders_are_by_first_cells};
 pub use matching::Matching;
-pub use offers::Offers;
+pub use offers::{Ask, Offers};
 pub use outcome::{Outcome, Phase};
 pub use proposal_laws::{no_input_passes, proposals_are_few, quiescent_is_input_best};

@@ -5,6 +5,7 @@ ghost use Rattle.cq_prefs.specs.FirstCells.{AreOrdersOf, FirstKeysDiffer, orders
 ghost use Rattle.cq_prefs.specs.Renewal.{AreSameWithout};
 ghost use Rattle.cq_prefs.specs.Orders.{AreOffers, IsOffered, inputs_with_offers, no_offers, ports, outputs_of, inputs_of, place_of, position_of};
 ghost use Rattle.cq_prefs.specs.Pairing.{with_pair};
+ghost use Rattle.cq_prefs.specs.Proposals.{output_at};
 
 use crate::Matching;
 use crate::by_key::inputs_by_key;
@@ -35,6 +36,13 @@ impl Model for Offers {
     ghost invariant = { λ a.
         let o : Orders = record { outputs = a.by_input.items; inputs = a.by_output.items } in
         AreOffers o × (ports o ≤ 64) };
+}
+
+/// What an input asks: an output, and the position of the input there.
+#[derive(Clone, Copy)]
+pub struct Ask {
+    pub output: Port,
+    pub position: u16,
 }
 
 // So many ports that prefer nobody.
@@ -178,5 +186,22 @@ impl Offers {
         ensures position { IfSome result (λ position. position ≡ position_of self.now output input) }
     {
         self.by_output.get(output as usize)?.place_of(input)
+    }
+
+    /// What an input asks by the proposal to the output at a place of its order.
+    pub fn asked(&self, input: Port, place: u16) -> Ask
+        requires { place < length (outputs_of self.now input) }
+        ensures input { input < ports self.now }
+        ensures few { ports self.now ≤ 64 }
+        ensures output { result.output ≡ output_at self.now input place }
+        ensures position { result.position ≡ position_of self.now result.output input }
+        ensures offered { IsOffered self.now input result.output }
+        ensures offers { AreOffers self.now }
+    {
+        // Its contract tells that the orders of both sides fit together, and that there are 64 ports at most.
+        let _ports = self.ports();
+        let output = self.outputs_of(input)[place as usize];
+        let position = self.position_of(output, input).unwrap();
+        Ask { output, position }
     }
 }

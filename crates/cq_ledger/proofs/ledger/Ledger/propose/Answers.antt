@@ -3,8 +3,8 @@ use Rattle.cq_ledger.proofs.Allowed.{proposal-allowed-at}
 use Rattle.cq_ledger.proofs.SeatFields.{matched, proposed-seat}
 use Rattle.cq_ledger.proofs.ledger.Ledger.propose.Goals as goal
 
-pub asked_by-asked-requires : goal.asked_by-asked-requires
-asked_by-asked-requires c =
+pub asked-asked-requires : goal.asked-asked-requires
+asked-asked-requires c =
     let m = matched c.args.self.now c.args.seat.now _ _ _ _ c.self.view_is c.seat.view_is c.requires.seat in
     rw m.offers_are at (c.seat.invariant.placed c.in-Some.hand.0 c.in-Some.hand.1
     (c.seat.invariant.in_hand ∙ c.in-Some.is))
@@ -13,14 +13,14 @@ pub fetch_min-found-requires : goal.fetch_min-found-requires
 fetch_min-found-requires c =
     let m = matched c.args.self.now c.args.seat.now _ _ _ _ c.self.view_is c.seat.view_is c.requires.seat in (
       m.table_is,
-      (let r = output_in_range c.self.inside.offers c.asked_by-asked.ensures.offers c.in-Some.hand.0
-          c.asked_by-asked.result.output c.asked_by-asked.ensures.offered in
+      (let r = output_in_range c.self.inside.offers c.asked-asked.ensures.offers c.in-Some.hand.0
+          c.asked-asked.result.output c.asked-asked.ensures.offered in
           omega arith),
       proposal-allowed-at c.self.inside.table.shared.key c.self.inside.offers c.self.invariant.0 _
           c.seat.inside.seat.id c.in-Some.hand.0 c.in-Some.hand.1 c.seat.inside.seat.me
           (c.seat.invariant.in_hand ∙ c.in-Some.is) m.offers_are
-          (c.asked_by-asked.result.output + 1) c.asked_by-asked.result.position c.asked_by-asked.result.output
-          c.asked_by-asked.ensures.output c.asked_by-asked.ensures.position (add-one _),
+          (c.asked-asked.result.output + 1) c.asked-asked.result.position c.asked-asked.result.output
+          c.asked-asked.ensures.output c.asked-asked.ensures.position (add-one _),
     )
 
 pub invariant_of-seat : goal.invariant_of-seat

@@ -1,12 +1,12 @@
 use Rattle.cq_pair.proofs.Terms.{rules, arith}
-use Rattle.cq_pair.proofs.Reached.{asked_known, asked_offered, positions_known}
+use Rattle.cq_pair.proofs.Reached.{asked_known, free_known, places_known, positions_known}
 use Rattle.cq_pair.proofs.proposal_core.Core.asked_by.Goals as goal
 
-pub unreachable-requires : goal.unreachable-requires
-unreachable-requires c = search (arith, rules, asked_offered)
+pub at-place-requires : goal.at-place-requires
+at-place-requires c = search (arith, rules, free_known, places_known)
 
-pub at-held-requires : goal.at-held-requires
-at-held-requires c = search (arith, rules, asked_known, positions_known)
+pub at-requires : goal.at-requires
+at-requires c = search (arith, rules, asked_known, positions_known)
 
 pub returns-clause-ask : goal.returns-clause-ask
 returns-clause-ask c = search (arith, rules)
