@@ -107,10 +107,7 @@ fn least_seen(
 fn count_of(queued: Option<Queued>) -> u64
     ensures { result ≡ (if is_some queued then 1 else 0) }
 {
-    match queued {
-        None => 0,
-        Some(_) => 1,
-    }
+    u64::from(queued.is_some())
 }
 
 // What was seen of an input, with a slot more.

@@ -47,10 +47,7 @@ impl Model for Limiter {
 fn full(limit: Option<u64>, held: u64) -> bool
     ensures { result ≡ is_full limit held }
 {
-    match limit {
-        None => false,
-        Some(limit) => limit <= held,
-    }
+    limit.is_some_and(|limit| limit <= held)
 }
 
 impl Limiter {
