@@ -7,7 +7,7 @@ ghost use Rattle.std.proofs.Common.{rules};
 ghost use Rattle.std.specs.Cmp.{partial_order_from_own_ties, partial_order_from_total};
 ghost use Rattle.std.specs.Cmp.Rules.{comparing};
 ghost use Rattle.std.specs.Ordering.{as_partial_cmp};
-ghost use Rattle.cq_base.specs.Key.{KeyLaws, key_cmp, keys_total};
+ghost use Rattle.cq_base.specs.Key.{KeyLaws, is_before, key_cmp, keys_total};
 
 use crate::{Port, Slot};
 use std::cmp::Ordering;
@@ -28,6 +28,16 @@ pub struct Key {
     pub input: Port,
     /// The level of its class.
     pub level: u8,
+}
+
+impl Key {
+    /// Whether this key is the more urgent.
+    #[tactic(auto, unfolding(crate::specs::Key::is_before))]
+    pub fn precedes(self, other: Key) -> bool
+        ensures { result ≡ is_before self other }
+    {
+        self < other
+    }
 }
 
 impl Ord for Key {

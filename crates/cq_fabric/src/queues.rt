@@ -43,13 +43,12 @@ impl Model for Queues {
 }
 
 // Whether the first cell of a list for an output is more urgent than one with this key.
-#[tactic(auto, unfolding(cq_base::specs::Key::is_before))]
 fn has_more_urgent(list: &InputList, output: Port, key: Key) -> bool
     ensures { result ≡ key_before (first_key output list.now.cells) (Some key) }
 {
     match list.front_for(output) {
         None => false,
-        Some(front) => front.key < key,
+        Some(front) => front.key.precedes(key),
     }
 }
 

@@ -57,19 +57,11 @@ impl Model for Pool {
     ghost invariant = { λ p. IsPool p.nodes p.queues.items p.room };
 }
 
-// Whether the one key is the more urgent.
-#[tactic(auto, unfolding(cq_base::specs::Key::is_before))]
-fn precedes(key: Key, other: Key) -> bool
-    ensures { result ≡ is_before key other }
-{
-    key < other
-}
-
 // Whether the one key is no more urgent.
 fn is_no_sooner(key: Key, other: Key) -> bool
     ensures { result ≡ not (is_before key other) }
 {
-    !precedes(key, other)
+    !key.precedes(other)
 }
 
 // Whether the two keys are one.
@@ -110,7 +102,7 @@ fn ahead_of(nodes: &Slab<Node>, queue: Queue, key: Key) -> Ahead
         position_or_len (λ x. not (is_before x.key key)) (cells (linked (get nodes.now) queue)) }
     ensures last { EndsAt (linked (get nodes.now) queue) result.count result.last }
 {
-    if queue.len > 0 && precedes(nodes[queue.last].queued.key, key) {
+    if queue.len > 0 && nodes[queue.last].queued.key.precedes(key) {
         return Ahead {
             count: queue.len,
             last: queue.last,

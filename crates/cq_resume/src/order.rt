@@ -8,11 +8,10 @@ use crate::neighbours::neighbours_hold;
 use cq_base::{Key, Queued, Slot, Transfer};
 
 /// Whether a cell is more urgent than another.
-#[tactic(auto, unfolding(cq_base::specs::Key::is_before))]
 pub fn is_before(queued: &Queued, other: &Queued) -> bool
     ensures { IsTrue result ↔ IsBefore queued.now other.now }
 {
-    queued.key < other.key
+    queued.key.precedes(other.key)
 }
 
 // Whether a cell is of no later input than another.

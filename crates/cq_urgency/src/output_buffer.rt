@@ -1,6 +1,5 @@
 //! The buffer of cells that wait at one output.
 ghost use Rattle.std.specs.Prelude.{◌≡◌, ◌+◌, ◌<◌, ◌≤◌, ◌/◌, ◌^◌, [], Some, IfOk, IfSome, length, drop, slice_get, is_some, if◌then◌else◌};
-ghost use Rattle.cq_base.specs.Key.{is_before};
 ghost use Rattle.cq_base.specs.Cells.{HasOtherKey, IsRising, cushion, put};
 ghost use Rattle.cq_urgency.specs.Blocks.{flattened, block_at};
 ghost use Rattle.cq_urgency.specs.OutputBuffer.{AreFilled, AreBegun, IsSpot, starts_before};
@@ -40,21 +39,13 @@ impl Model for OutputBuffer {
     ghost invariant = { λ b. IsBuffer b.blocks.blocks b.blocks.most b.len b.room };
 }
 
-// Whether the one key is the more urgent.
-#[tactic(auto, unfolding(cq_base::specs::Key::is_before))]
-fn precedes(key: Key, other: Key) -> bool
-    ensures { result ≡ is_before key other }
-{
-    key < other
-}
-
 // Whether a block begins with a lesser key.
 fn begins_before(blocks: &Blocks, block: usize, key: Key) -> bool
     requires inside { block < length blocks.now.blocks }
     requires filled { AreFilled blocks.now.blocks }
     ensures { result ≡ starts_before key (block_at blocks.now.blocks block) }
 {
-    precedes(blocks.block(block).at(0).key, key)
+    blocks.block(block).at(0).key.precedes(key)
 }
 
 // How many blocks begin with a lesser key, by halving.
@@ -87,7 +78,7 @@ fn spot_at_end(blocks: &Blocks, key: Key) -> Option<Spot>
     let end = blocks.block(last);
     let within = end.len();
     let place = within - 1;
-    if precedes(end.at(place).key, key) {
+    if end.at(place).key.precedes(key) {
         return Some(Spot {
             block: last,
             within,

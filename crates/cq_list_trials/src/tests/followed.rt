@@ -74,13 +74,12 @@ fn drawn_matching(drawn: &mut Draws, ports: u16) -> Matching
 }
 
 // Whether a more urgent cell for the same output waits: the first one for it is.
-#[tactic(auto, unfolding(cq_base::specs::Key::is_before))]
 fn is_overtaken(list: &InputList, queued: Queued) -> bool
     ensures { result ≡ key_before (first_key queued.cell.output list.now.cells) (Some queued.key) }
 {
     match list.front_for(queued.cell.output) {
         None => false,
-        Some(front) => front.key < queued.key,
+        Some(front) => front.key.precedes(queued.key),
     }
 }
 

@@ -127,11 +127,10 @@ fn least_cushion(list: &InputList, queued: &Queued) -> u64
 }
 
 // Whether a cell is for the same output, and more urgent.
-#[tactic(auto, unfolding(cq_base::specs::Key::is_before))]
 fn is_ahead(other: &Queued, queued: &Queued) -> bool
     ensures { result ≡ (is_for queued.now.cell.output other.now && is_before other.now.key queued.now.key) }
 {
-    other.cell.output == queued.cell.output && other.key < queued.key
+    other.cell.output == queued.cell.output && other.key.precedes(queued.key)
 }
 
 // The newest cell goes in with this cushion, or with the least that it may have. The answer is the one that it had.
