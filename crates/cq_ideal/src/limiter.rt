@@ -3,7 +3,7 @@
 //! A packet is refused whole, by what its output holds as its first cell arrives. How many cells that is stands in a
 //! number which is kept: it rises with each cell that is admitted, and falls as the switch tells that one has left.
 ghost use Rattle.std.specs.Prelude.{◌≡◌, ◌+◌, ◌<◌, ◌≤◌, ◌^◌, ◌∷◌, ℕ, Some, None, IfOk, IfSome, [], false, length, replicate, slice_index_or, slice_set};
-ghost use Rattle.cq_ideal.specs.Terms.{Cell, arrival_at, admitted, held_after, is_full, mark_after, mark_at, marks_after, marks_down, refused, count_for, CanCount, ComeToPorts, HasPorts, held_without, where_up, refused_counts, with_refused};
+ghost use Rattle.cq_ideal.specs.Terms.{Cell, arrival_at, admitted, held_after, is_full, mark_after, mark_at, marks_after, marks_down, refused, count_for, CanCount, ComeToPorts, HasPorts, JudgesAsBefore, held_without, where_up, refused_counts, with_refused};
 
 use crate::Refused;
 use crate::refused::{count_refused, none_refused};
@@ -236,9 +236,7 @@ impl Limiter {
         requires output { output < length self.old.held }
         requires holds { IfSome gone (λ _. 0 < slice_index_or self.old.held output 0) }
         ensures held { self.new.held ≡ held_without gone output self.old.held }
-        ensures marks { self.new.marks ≡ self.old.marks }
-        ensures refused { self.new.refused ≡ self.old.refused }
-        ensures limits { self.new.limits ≡ self.old.limits }
+        ensures judges { JudgesAsBefore self.old self.new }
     {
         if gone.is_some() {
             self.held[output as usize] -= 1;

@@ -27,14 +27,10 @@ outputs-preserved g c =
     ] in
     let holds = holds_without c.outputs.queues.lists c.outputs.limiter c.outputs.output (omega arith) inv.holds gone
     c.pop-gone.new.self.lists c.sent.new.self c.pop-gone.ensures.first c.pop-gone.ensures.lists
-    c.sent.ensures.held c.sent.ensures.limits in
+    c.sent.ensures.held c.sent.ensures.judges.limits in
     sending_next inv gone c.told.new.self c.pop-gone.new.self c.sent.new.self c.match-gone.sent (omega arith)
     (omega arith) c.pop-gone.ensures.first c.pop-gone.ensures.lists c.pop-gone.ensures.rooms c.told.ensures.fixed
-    c.told.ensures.states holds (record {
-      marks = c.sent.ensures.marks;
-      refused = c.sent.ensures.refused;
-      limits = c.sent.ensures.limits;
-    }) put
+    c.told.ensures.states holds c.sent.ensures.judges put
 
 pub returns : goal.returns
 returns g c =
