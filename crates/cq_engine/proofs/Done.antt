@@ -40,5 +40,5 @@ module _ (M : List ℕ → Machine) (fixed states : List (List ℕ)) (q : Queues
         crossed = rw done.crossed items;
         crossed_room = omega arith;
         counted = done.figures;
-        refused = released.refused ∙ counted;
+        refused = released.judges.refused ∙ counted;
       })

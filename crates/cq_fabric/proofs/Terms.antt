@@ -14,7 +14,7 @@ unfoldable pub use Rattle.cq_ideal.specs.Admission.{admission}
 pub use Rattle.cq_ideal.specs.Ideal.{count_for}
 pub use Rattle.cq_ideal.specs.IdealSlot.{IdealState, all_told, filled, fronts, rests}
 unfoldable pub use Rattle.cq_ideal.specs.IdealSlot.{ideal_slot}
-pub use Rattle.cq_ideal.specs.Limiter.{HoldsLists, LimiterView, held_without}
+pub use Rattle.cq_ideal.specs.Limiter.{HoldsLists, JudgesAsBefore, LimiterView, held_without}
 pub use Rattle.cq_ideal.specs.Ranking.{AreForPorts, Ranking, ranking}
 pub use Rattle.cq_list.specs.InputList.{Waiting, cells_of}
 pub use Rattle.cq_urgency.specs.OutputBuffer.{Buffered, cells_in}

@@ -1,7 +1,7 @@
 -- What a limiter counts once the outputs have sent.
 use Rattle.std.specs.Prelude.{◌≡◌, ℕ, ◌+◌, if◌then◌else◌, is_some, List, length, Option, slice_index_or}
 use Rattle.cq_base.specs.declared.cell.Queued.{Queued}
-use Rattle.cq_ideal.specs.Limiter.{LimiterView}
+use Rattle.cq_ideal.specs.Limiter.{JudgesAsBefore, LimiterView}
 use Rattle.cq_laws.specs.Phases.{came_to}
 
 -- each output holds the cell that it sent no longer, and nothing else is changed
@@ -9,6 +9,4 @@ pub record HasReleased (gone : List (Option Queued)) (old new : LimiterView) : T
   pub held : (j : ℕ) →
       slice_index_or new.held j 0 + (if is_some (came_to gone j) then 1 else 0) ≡ slice_index_or old.held j 0
   pub ports : length new.held ≡ length old.held
-  pub marks : new.marks ≡ old.marks
-  pub refused : new.refused ≡ old.refused
-  pub limits : new.limits ≡ old.limits
+  pub judges : JudgesAsBefore old new

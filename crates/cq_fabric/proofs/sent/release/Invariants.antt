@@ -1,4 +1,4 @@
-use Rattle.cq_fabric.proofs.Terms.{◌≡◌, ℕ, ◌+◌, ◌<◌, ◌≤◌, get_or, length, came_to}
+use Rattle.cq_fabric.proofs.Terms.{◌≡◌, ℕ, ◌+◌, ◌<◌, ◌≤◌, get_or, length, JudgesAsBefore, came_to}
 use Rattle.cq_fabric.proofs.Known.{bit}
 use Rattle.cq_fabric.proofs.sent.release.Given as goal
 
@@ -8,7 +8,5 @@ invariant-outputs l = record {
   done : (j : ℕ) → j < l.output → get_or l.limiter.held j 0 + bit (came_to l.gone j) ≡ get_or l.fn.limiter.held j 0;
   left : (j : ℕ) → l.output ≤ j → get_or l.limiter.held j 0 ≡ get_or l.fn.limiter.held j 0;
   ports : length l.limiter.held ≡ length l.fn.limiter.held;
-  marks : l.limiter.marks ≡ l.fn.limiter.marks;
-  refused : l.limiter.refused ≡ l.fn.limiter.refused;
-  limits : l.limiter.limits ≡ l.fn.limiter.limits;
+  judges : JudgesAsBefore l.fn.limiter l.limiter;
 }
