@@ -1,5 +1,5 @@
 -- What contracts see of a reader and of its intake.
-use Rattle.std.specs.Prelude.{◌≡◌, ℕ, List}
+use Rattle.std.specs.Prelude.{◌≡◌, ℕ, List, [], ◌∷◌}
 use Rattle.rtrb.specs.Ring.{IsPair, SameConsumer, SameProducer, consumer_capacity, known_items, received, sent}
 use Rattle.cq_stream.specs.declared.item.Item.{Item}
 use Rattle.cq_stream.specs.declared.item.Order.{Order}
@@ -38,4 +38,10 @@ told intake = sent intake.orders
 pub record StandsAsBefore (old new : Intake) : Type 0 where
   pub taken : taken new ≡ taken old
   pub told : told new ≡ told old
+  pub reader : SameReader old new
+
+-- the intake has told this order, its first, has taken what it had, and is of the same reader
+pub record HasTold (order : Order) (old new : Intake) : Type 0 where
+  pub taken : taken new ≡ taken old
+  pub told : told new ≡ order ∷ []
   pub reader : SameReader old new

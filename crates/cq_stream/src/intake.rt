@@ -21,15 +21,13 @@ impl Intake {
     ghost use Rattle.std.specs.Prelude.{◌≡◌, [], ◌∷◌, ◌++◌, IfErr, IfNone, IfSome, Some};
     ghost use Rattle.cq_pcap.specs.Rows.{AreRowsUntil};
     ghost use Rattle.cq_stream.specs.declared.item.Order.TheVariants as order;
-    ghost use Rattle.cq_stream.specs.Rings.{SameReader, StandsAsBefore, taken, told, waiting};
+    ghost use Rattle.cq_stream.specs.Rings.{HasTold, SameReader, StandsAsBefore, taken, told, waiting};
     ghost use Rattle.cq_stream.specs.Stream.{AnswersOn, DidAsTold, IsLeftTo, SameLeft, all_sent, bytes_of, fault_found, items_of};
 
     /// Tells the reader to send. It has been told nothing before.
     pub fn send(&mut self)
         requires { told self.old ≡ [] }
-        ensures told { told self.new ≡ order.Send ∷ [] }
-        ensures taken { taken self.new ≡ taken self.old }
-        ensures reader { SameReader self.old self.new }
+        ensures { HasTold order.Send self.old self.new }
     {
         self.orders.push_reserved(Order::Send);
     }
@@ -37,9 +35,7 @@ impl Intake {
     /// Tells the reader to send nothing. It has been told nothing before.
     pub fn alone(&mut self)
         requires { told self.old ≡ [] }
-        ensures told { told self.new ≡ order.Alone ∷ [] }
-        ensures taken { taken self.new ≡ taken self.old }
-        ensures reader { SameReader self.old self.new }
+        ensures { HasTold order.Alone self.old self.new }
     {
         self.orders.push_reserved(Order::Alone);
     }
