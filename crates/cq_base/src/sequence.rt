@@ -2,14 +2,14 @@
 //!
 //! Two vectors with the same items may differ in capacity, so values that hold them could not be
 //! called equal. A `Sequence` is its items and nothing else.
-ghost use Rattle.std.specs.Prelude.{◌≡◌, ◌<◌, IfOk, length, slice_set};
+ghost use Rattle.std.specs.Prelude.{◌≡◌, ◌<◌, [], ◌∷◌, ◌++◌, OnOk, IfOk, length, slice_set};
 
 use crate::NoMemory;
 use std::alloc::Global;
 use std::marker::Model;
 
 /// Items in order, which contracts see as a list. It is made from a vector and gives it back, and
-/// takes no memory for either. A copy takes memory.
+/// takes no memory for either. A copy takes memory, and so may one item more.
 #[derive(Drop)]
 pub struct Sequence<T: Drop> {
     items: Vec<T>,
@@ -56,6 +56,13 @@ impl<T: Drop> Sequence<T> {
         ensures { self.new ≡ slice_set self.old place item }
     {
         self.items[place] = item;
+    }
+
+    /// Puts the item behind all others. The error is want of memory.
+    pub fn push(&mut self, item: T) -> Result<(), NoMemory>
+        ensures { OnOk result (self.new ≡ self.old ++ item ∷ []) }
+    {
+        Ok(self.items.push(item)?)
     }
 
     /// A vector of the items, in order.

@@ -1,6 +1,6 @@
 -- Reading a state's text line by line. What is gathered is what the lines that were read tell, and one line more adds
 -- what it tells. Where the text may end, its lines are those of a state, so what is gathered is that state.
-use Rattle.cq_state.proofs.Terms.{rules, ◌≡◌, ◌≢◌, ℕ, ◌+◌, ◌^◌, ◌<◌, ◌≤◌, true, List, [], ◌∷◌, ◌++◌, length, refl, ap, sym, ◌∙◌, arith, length-append, common_steps, ◌==◌, eqb-true, append-nil, one_line_more, Gathered, Kind, State, AreLow, added, gathered, nothing, state_of, place_of, IsInRange, state_text, Line, Place, ComesAt, Comes, MayEnd, spelled, IsStateFault}
+use Rattle.cq_state.proofs.Terms.{rules, ◌≡◌, ◌≢◌, ℕ, ◌+◌, ◌^◌, ◌<◌, ◌≤◌, true, List, [], ◌∷◌, ◌++◌, length, refl, ap, sym, ◌∙◌, arith, length-append, common_steps, ◌==◌, eqb-true, append-nil, one_line_more, Kind, State, AreLow, added, gathered, nothing, place_of, IsInRange, state_text, Line, Place, ComesAt, Comes, MayEnd, spelled, IsStateFault}
 use Rattle.cq_state.proofs.Bounds.{are_low}
 use Rattle.cq_state.proofs.Due.{ReadSoFar}
 use Rattle.cq_state.proofs.OneText.{each_told, state_again}
@@ -18,9 +18,9 @@ gathered_more : (s : State) (xs : List Line) (x : Line) → gathered s (xs ++ x 
 gathered_more s [] x = refl
 gathered_more s (y ∷ xs) x = gathered_more (added y.kind y.fields s) xs x
 
-pub line_told : (text : List ℕ) (told after : Gathered) (line : ℕ) (place next : kept.Place) (rest behind : List ℕ) (x :
+pub line_told : (text : List ℕ) (told after : State) (line : ℕ) (place next : kept.Place) (rest behind : List ℕ) (x :
     Line) → ReadSoFar text told line place rest → Comes (place_of place) x (place_of next) →
-    rest ≡ spelled x ++ behind → state_of after ≡ added x.kind x.fields (state_of told) → length behind < length rest →
+    rest ≡ spelled x ++ behind → after ≡ added x.kind x.fields told → length behind < length rest →
     next.seen + length behind ≤ place.seen + length rest → next.ports < 2 ^ 16 →
     ReadSoFar text after (line + 1) next behind
 line_told text told after line place next rest behind x had comes e adds shorter seen few =
@@ -39,15 +39,15 @@ none_left : (rest : List ℕ) → true ≡ (length rest == 0) → rest ≡ []
 none_left [] e = refl
 none_left (c ∷ rest) e = grind (arith, common_steps, eqb-true)
 
-pub state_told : (text : List ℕ) (told : Gathered) (line : ℕ) (place : kept.Place) (rest : List ℕ) (s : State) →
-    ReadSoFar text told line place rest → true ≡ (length rest == 0) → MayEnd (place_of place) → s ≡ state_of told →
-    IsInRange s × (text ≡ state_text s)
+pub state_told : (text : List ℕ) (told : State) (line : ℕ) (place : kept.Place) (rest : List ℕ) →
+    ReadSoFar text told line place rest → true ≡ (length rest == 0) → MayEnd (place_of place) →
+    IsInRange told × (text ≡ state_text told)
 unfolding Completes
-state_told text told line place rest s had none may is =
+state_told text told line place rest had none may =
     let each = each_told had.lines (place_of place, had.so_far.allowed, may) in
     search (arith, rules, state_again, none_left, append-nil)
 
-pub fault_told : (text : List ℕ) (told : Gathered) (line : ℕ) (place : kept.Place) (rest : List ℕ) →
+pub fault_told : (text : List ℕ) (told : State) (line : ℕ) (place : kept.Place) (rest : List ℕ) →
     ReadSoFar text told line place rest → ((x : Line) (next : Place) (more : List ℕ) →
     Comes (place_of place) x next → rest ≢ spelled x ++ more) → (rest ≡ [] → MayEnd (place_of place) → ⊥) →
     IsStateFault text line

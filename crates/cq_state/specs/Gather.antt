@@ -2,7 +2,6 @@
 -- What the lines that were read so far tell of a state: each line adds what it tells.
 use Rattle.std.specs.Prelude.{ℕ, ◌+◌, ◌<◌, ◌^◌, List, [], ◌∷◌, ◌++◌, map, drop, get_or, unwrap_or, Option, None, ⊤}
 use Rattle.cq_base.specs.declared.cell.Transfer.{Transfer}
-use Rattle.cq_state.specs.declared.gather.Gathered.{Gathered}
 use Rattle.cq_state.specs.declared.kind.Kind.{Kind}
 use Rattle.cq_state.specs.declared.kind.Kind.TheVariants as kind
 use Rattle.cq_state.specs.declared.state.Head.{Head}
@@ -99,18 +98,6 @@ AreLow kind.Buffered fs = AreNamedAt fs 0
 AreLow kind.Sent fs = (number_at fs 0 < 2 ^ 63) × AreNamedAt fs 1
 AreLow kind.Moved fs = AreMoved fs
 AreLow k fs = ⊤
-
--- the state as it is kept while lines are read
-abbrev pub state_of : Gathered → State
-state_of g = record {
-  head = g.head;
-  inputs = g.inputs.items;
-  ranks = g.ranks.items;
-  listed = g.listed.items;
-  buffered = g.buffered.items;
-  sent = g.sent.items;
-  moved = g.moved.items;
-}
 
 -- nothing is told yet
 abbrev pub nothing : State

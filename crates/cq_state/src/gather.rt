@@ -1,6 +1,6 @@
 //! What the lines of a state tell, put together while they are read.
 ghost use Rattle.std.specs.Prelude.{◌≡◌, ◌<◌, ◌^◌, map, unwrap_or, OnOk, IfOk};
-ghost use Rattle.cq_state.specs.Gather.{number_at, seen_of, rank_of, named_of, moved_of, with_shape, added, state_of, nothing};
+ghost use Rattle.cq_state.specs.Gather.{number_at, seen_of, rank_of, named_of, moved_of, with_shape, added, nothing};
 ghost use Rattle.cq_state.specs.Gather.{AreLow, AreShape, AreSeen, AreNamedAt, AreMoved};
 
 use crate::kind::Kind;
@@ -8,24 +8,12 @@ use crate::state::{Head, Named, Seen, Sent, State};
 use cq_base::{CellId, NoMemory, Sequence, Transfer};
 use std::alloc::{AllocError, Global};
 
-/// A state as far as its lines are read.
-#[derive(Drop)]
-pub struct Gathered {
-    pub head: Head,
-    pub inputs: Vec<Seen>,
-    pub ranks: Vec<Sequence<u128>>,
-    pub listed: Vec<Named>,
-    pub buffered: Vec<Named>,
-    pub sent: Vec<Sent>,
-    pub moved: Vec<Transfer>,
-}
-
-impl Gathered {
-    /// Where no line is read. It takes no memory.
-    pub fn new(alloc: Global) -> Gathered
-        ensures { state_of result ≡ nothing }
+impl State {
+    /// What is told where no line is read. It takes no memory.
+    pub(crate) fn untold(alloc: Global) -> State
+        ensures { result ≡ nothing }
     {
-        Gathered {
+        State {
             head: Head {
                 next: 0,
                 ports: 0,
@@ -35,24 +23,24 @@ impl Gathered {
                 proposals: 0,
                 most: 0,
             },
-            inputs: Vec::new(alloc),
-            ranks: Vec::new(alloc),
-            listed: Vec::new(alloc),
-            buffered: Vec::new(alloc),
-            sent: Vec::new(alloc),
-            moved: Vec::new(alloc),
+            inputs: Sequence::of(Vec::new(alloc)),
+            ranks: Sequence::of(Vec::new(alloc)),
+            listed: Sequence::of(Vec::new(alloc)),
+            buffered: Sequence::of(Vec::new(alloc)),
+            sent: Sequence::of(Vec::new(alloc)),
+            moved: Sequence::of(Vec::new(alloc)),
         }
     }
 
     /// Adds what a line of this kind with these fields tells. The error is want of memory.
-    pub fn add(
+    pub(crate) fn add(
         &mut self,
         alloc: Global,
         kind: Kind,
         fields: &[Option<u128>],
     ) -> Result<(), NoMemory>
         requires { AreLow kind fields.now }
-        ensures { OnOk result (state_of self.new ≡ added kind fields.now (state_of self.old)) }
+        ensures { OnOk result (self.new ≡ added kind fields.now self.old) }
     {
         match kind {
             Kind::Version | Kind::End => {}
@@ -74,21 +62,6 @@ impl Gathered {
             Kind::Moved => self.moved.push(moved(fields))?,
         }
         Ok(())
-    }
-
-    /// The state that the lines told.
-    pub fn state(self) -> State
-        ensures { result ≡ state_of self }
-    {
-        State {
-            head: self.head,
-            inputs: Sequence::of(self.inputs),
-            ranks: Sequence::of(self.ranks),
-            listed: Sequence::of(self.listed),
-            buffered: Sequence::of(self.buffered),
-            sent: Sequence::of(self.sent),
-            moved: Sequence::of(self.moved),
-        }
     }
 }
 

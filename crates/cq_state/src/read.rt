@@ -4,7 +4,6 @@ ghost use Rattle.cq_lines.specs.Refusals.{IsCause};
 ghost use Rattle.cq_state.specs.State.{IsInRange, state_text};
 ghost use Rattle.cq_state.specs.StateText.{IsStateFault};
 
-use crate::gather::Gathered;
 use crate::kind::MOST_FIELDS;
 use crate::next::{Place, next_line};
 use crate::state::State;
@@ -18,7 +17,7 @@ pub fn read_text(alloc: Global, text: &[u8]) -> Result<State, LineRefusal>
     ensures read { IfOk result (λ state. IsInRange state × (text.now ≡ state_text state)) }
     ensures cause { IfErr result (IsCause (IsStateFault text.now)) }
 {
-    let mut told = Gathered::new(alloc);
+    let mut told = State::untold(alloc);
     let mut place = Place::first();
     let mut rest = text;
     let mut line: u64 = 1;
@@ -31,7 +30,7 @@ pub fn read_text(alloc: Global, text: &[u8]) -> Result<State, LineRefusal>
         line += 1;
     }
     if rest.is_empty() && place.may_end() {
-        Ok(told.state())
+        Ok(told)
     } else {
         Err(LineRefusal::Line { line })
     }

@@ -10,5 +10,5 @@ lines-preserved c = search (arith, rules, line_told, ends_well)
 
 pub returns-then-may_end-clause-read : goal.returns-then-may_end-clause-read
 returns-then-may_end-clause-read c =
-    state_told c.args.text.now c.lines.told c.lines.line c.lines.place c.lines.rest.now c.state.result c.lines.invariant
-    c.if-is_empty.ensures (c.may_end.ensures.0 c.if-may_end.true) c.state.ensures
+    state_told c.args.text.now c.lines.told c.lines.line c.lines.place c.lines.rest.now c.lines.invariant
+    c.if-is_empty.ensures (c.may_end.ensures.0 c.if-may_end.true)
