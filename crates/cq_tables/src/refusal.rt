@@ -11,10 +11,14 @@ use thiserror::Error;
 /// Why a configuration gives no tables.
 #[derive(Drop, Error)]
 pub enum TableRefusal {
-    /// The first check that does not hold: its number from 1 to 10, and the path of its key, as
-    /// `port[1].write`. The whole text has the path `-`.
+    /// The first check that does not hold.
     #[error("configuration: {code}")]
-    At { code: u8, path: Name },
+    At {
+        /// The number of the check, 1 to 10.
+        code: u8,
+        /// The path of its key, as `port[1].write`. The whole text has the path `-`.
+        path: Name,
+    },
     /// The tables, or the path of a refusal, found no memory.
     #[error("out of memory")]
     NoMemory,

@@ -6,46 +6,60 @@ ghost use Rattle.cq_words.specs.Words.{most_slots, numbered};
 use crate::number::number;
 use cq_base::{MOST_PORTS, Name};
 
-/// What the program is asked to do.
+/// What the program is asked to do. Files are named by their paths.
 #[derive(Drop)]
 pub enum Command {
-    /// Sends the capture `from` through a switch of one port, and writes what leaves it to `to`.
+    /// Sends a capture through a switch of one port, and writes what leaves it.
     Pass {
+        /// The capture that is read.
         from: Name,
+        /// The capture that is written.
         to: Name,
     },
     /// Reads a configuration, and says what is in it.
     Check {
+        /// The configuration.
         config: Name,
     },
     /// Runs the ideal switch over the captures of a configuration, and writes what leaves it.
     Ideal {
+        /// The configuration.
         config: Name,
     },
     /// Runs the fabric over the captures of a configuration, and writes what leaves it.
     Run {
+        /// The configuration.
         config: Name,
     },
-    /// Runs the fabric with made traffic from a seed: 1 to 64 ports, and 1 to 20,000 slots.
+    /// Runs the fabric with made traffic.
     Soak {
+        /// What the traffic is drawn from.
         seed: u64,
+        /// How many ports there are, 1 to 64.
         ports: u16,
+        /// In how many slots packets come, 1 to 20,000.
         slots: u32,
     },
     /// Checks the trace and the log that a configuration names, whoever wrote them.
     Audit {
+        /// The configuration.
         config: Name,
     },
-    /// Runs the fabric over the captures of a configuration for so many slots, fewer than 2^63, and writes the state in
-    /// which it stands then.
+    /// Runs the fabric over the captures of a configuration for some slots, and writes the state in which it stands
+    /// then.
     Part {
+        /// The configuration.
         config: Name,
+        /// After how many slots the run stops, fewer than 2^63.
         slots: u64,
+        /// The file of the state, which is written.
         state: Name,
     },
     /// Runs the fabric on from such a state, and writes what leaves it from the first slot on.
     Resume {
+        /// The configuration.
         config: Name,
+        /// The file of the state, which is read.
         state: Name,
     },
 }

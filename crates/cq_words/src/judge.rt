@@ -4,7 +4,7 @@ ghost use Rattle.cq_words.specs.Words.{command_for, is_value as value_test};
 
 use crate::command::{slots_of, soak};
 
-/// The words are a command.
+/// Whether the words are a command.
 pub fn is_command(words: &[String]) -> bool
     ensures { result ≡ is_some (command_for (map string_bytes words.now)) }
 {
@@ -57,7 +57,7 @@ fn is_part_form(config: &str, slots: &str, state: &str) -> bool
     is_value(config) && is_value(slots) && is_value(state) && slots_of(slots).is_some()
 }
 
-/// The word may stand for a value.
+/// Whether the word may stand for a value.
 pub fn is_value(word: &str) -> bool
     ensures { result ≡ value_test word.now }
 {
