@@ -24,9 +24,6 @@ told_first : (es : List Entry) (i : ℕ) (name : List ℕ) (e : Entry) → IsEnt
     e ≡ get_or es i e → get (contents_of (columns_of es)) name ≡ option_map (λ v. v.items) e.bytes
 told_first es i name e is at = value_first (λ (f : Entry). option_map (λ v. v.items) f.bytes) es i name e is at
 
-abbrev pub starved_of : MemSpace → ℕ
-starved_of m = m.starved
-
 -- the bytes of an entry, none where there is no such name
 abbrev held_in : Entry → List ℕ
 held_in e = unwrap_or (option_map (λ v. v.items) e.bytes) []

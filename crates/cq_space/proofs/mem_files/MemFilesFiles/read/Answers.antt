@@ -1,5 +1,5 @@
-use Rattle.cq_space.proofs.Terms.{◌≤◌, ◌∙◌, ap, refl, arith, inr, rules, MemSpace, one_more, IsReached, StaysBefore}
-use Rattle.cq_space.proofs.InMemory.{starved_of, of_read, short_before, stays_less, reads_on}
+use Rattle.cq_space.proofs.Terms.{◌≤◌, ◌∙◌, ap, refl, arith, rules, MemSpace, one_more, IsReached, StaysBefore}
+use Rattle.cq_space.proofs.InMemory.{of_read, short_before, stays_less, reads_on}
 use Rattle.cq_space.proofs.mem_files.MemFilesFiles.read.Goals as goal
 
 pub returns-in-Some-clause-next : goal.returns-in-Some-clause-next
@@ -25,17 +25,5 @@ returns-in-Some-clause-moved c =
 
 pub returns-in-None-clause-answered : goal.returns-in-None-clause-answered
 returns-in-None-clause-answered c =
-    record {
-      cause = search rules;
-      why = record {
-        reason = inr (record {
-          cut = of_read c.self.inside c.self.view_is c.self.invariant IsReached c.index-entry.result.now c.in-Reads.is
-              c.index-entry.ensures c.in-None.ensures.reached;
-          starved = ap starved_of c.fault-in-None.ensures.closed ∙ ap starved_of c.self.view_is;
-        });
-        counted = search rules;
-      };
-      passed = tt;
-      counted = search rules;
-      kept = search rules;
-    }
+    let cut = of_read c.self.inside c.self.view_is c.self.invariant IsReached c.index-entry.result.now c.in-Reads.is
+    c.index-entry.ensures c.in-None.ensures.reached in search (arith, rules, cut)

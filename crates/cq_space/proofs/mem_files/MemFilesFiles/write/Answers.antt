@@ -1,5 +1,5 @@
-use Rattle.cq_space.proofs.Terms.{◌∙◌, ap, arith, take, inl, inr, ◌++◌, rules, MemSpace, one_more, IsReached, StaysBefore, Columns, bytes_at, with_bytes, with_items}
-use Rattle.cq_space.proofs.InMemory.{starved_of, written_back, of_write, short_before, appends}
+use Rattle.cq_space.proofs.Terms.{◌∙◌, ap, arith, take, ◌++◌, rules, MemSpace, one_more, IsReached, StaysBefore, Columns, bytes_at, with_bytes, with_items}
+use Rattle.cq_space.proofs.InMemory.{written_back, of_write, short_before, appends}
 use Rattle.cq_space.proofs.mem_files.MemFilesFiles.write.Goals as goal
 
 pub returns-in-Ok-clause-ok : goal.returns-in-Ok-clause-ok
@@ -24,17 +24,5 @@ returns-in-Ok-clause-moved c = (
 
 pub returns-in-None-clause-answered : goal.returns-in-None-clause-answered
 returns-in-None-clause-answered c =
-    record {
-      cause = search rules;
-      why = record {
-        reason = inr (inl (record {
-          cut = of_write c.self.inside c.self.view_is c.self.invariant IsReached c.index-entry.result.now
-              c.in-Writes.is c.index-entry.ensures c.held.ensures c.in-None.ensures.reached;
-          starved = ap starved_of c.fault-in-None.ensures.closed ∙ ap starved_of c.self.view_is;
-        }));
-        counted = search rules;
-      };
-      passed = tt;
-      counted = search rules;
-      kept = search rules;
-    }
+    let cut = of_write c.self.inside c.self.view_is c.self.invariant IsReached c.index-entry.result.now c.in-Writes.is
+    c.index-entry.ensures c.held.ensures c.in-None.ensures.reached in search (arith, rules, cut)
