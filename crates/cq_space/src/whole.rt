@@ -19,8 +19,11 @@ pub enum ReadRefusal {
     Missing,
     /// The file space met a fault, and counted it.
     Fault,
-    /// The name has more bytes than the limit, which is given in bytes.
-    Long { limit: u64 },
+    /// The name has more bytes than the limit.
+    Long {
+        /// The limit, in bytes.
+        limit: u64,
+    },
     /// There was no memory for the bytes.
     NoMemory,
 }
