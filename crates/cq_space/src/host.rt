@@ -11,6 +11,7 @@ use std::io::{Read, Write};
 use std::os::unix::fs::MetadataExt;
 use std::{fs, io, rt};
 
+// What is open. The name is kept for clauses, which tell by it what is read or written: no code reads it.
 #[derive(Drop)]
 enum Open<T> {
     Shut,
