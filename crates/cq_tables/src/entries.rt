@@ -83,10 +83,7 @@ impl<'a> Entries<'a> {
         ensures refused { IfErr result (Refuses (key_check self.entry.place key.now (optional (integer_in least most))
             (table_view self.entry.table.now))) }
     {
-        match self.integer(key, least, most)? {
-            None => Ok(default),
-            Some(n) => Ok(n),
-        }
+        optional!(self, key, default, value => integer(value, least, most), n => n)
     }
 
     /// The integer at a key that has to be there.
