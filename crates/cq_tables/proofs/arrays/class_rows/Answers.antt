@@ -3,8 +3,7 @@ use Rattle.cq_tables.proofs.Walk.{walked_more, walked_stop}
 use Rattle.cq_tables.proofs.arrays.class_rows.Goals as goal
 
 pub returns-in_err-row-clause-refused : goal.returns-in_err-row-clause-refused
-returns-in_err-row-clause-refused c =
-    walked_stop c.classes.invariant _ _ (omega arith) c.index-values-index.is (search rules)
+returns-in_err-row-clause-refused c = search (arith, rules, walked_stop c.classes.invariant)
 
 pub classes-preserved : goal.classes-preserved
 classes-preserved c = walked_more c.classes.invariant _ (omega arith) c.index-values-index.is c.in_ok-row.ensures.held
