@@ -31,6 +31,8 @@ pub(crate) struct Replay<R: Rank> {
     ranks: Ranks<R>,
     queues: Queues,
     limiter: Limiter,
+    came: Newcomers,
+    gone: Gone,
 }
 
 impl<R: Rank> Model for Replay<R> {
@@ -48,6 +50,7 @@ fn come<R: Rank>(
     limiter: &mut Limiter,
     slot: Slot,
     arrivals: &Arrivals,
+    came: &mut Newcomers,
 )
     requires { CanCome (map R.machine ranks.old.fixed) slot arrivals.now (shown ranks.old queues.old limiter.old) }
     ensures { HaveCome (map R.machine ranks.old.fixed) slot arrivals.now ranks.old ranks.new queues.old queues.new
@@ -55,13 +58,12 @@ fn come<R: Rank>(
 {
     // Its contract tells that there are 64 lists at most.
     let _ports = queues.ports();
-    let mut came = Newcomers::none();
     limiter.judge(arrivals);
-    if let Err(_) = ranks.take(slot, arrivals, limiter, &mut came) {
+    if let Err(_) = ranks.take(slot, arrivals, limiter, came) {
         // The ideal switch has no tag fault, and so this fabric has none.
         unreachable!()
     }
-    queues.arrive(&came);
+    queues.arrive(came);
 }
 
 // Goes by the lines of a phase: the transfers that they tell are made and noted. The answer is the lines behind them.
@@ -86,14 +88,18 @@ fn go_by<'a>(
 }
 
 // Each output sends the first cell of its buffer, which it then holds no longer, or is idle. Its machine is told.
-fn send<R: Rank>(ranks: &mut Ranks<R>, queues: &mut Queues, limiter: &mut Limiter)
+fn send<R: Rank>(
+    ranks: &mut Ranks<R>,
+    queues: &mut Queues,
+    limiter: &mut Limiter,
+    places: &mut Gone,
+)
     requires { CanSend ranks.old queues.old limiter.old }
     ensures { HaveAllSent (map R.machine ranks.old.fixed) ranks.old ranks.new queues.old queues.new limiter.old
         limiter.new }
 {
     let ports = queues.ports();
-    let mut places = Gone::none();
-    queues.depart(&mut places);
+    queues.depart(places);
     let gone = places.of_outputs(ports);
     tell(ranks, gone);
     release(limiter, gone);
@@ -126,6 +132,8 @@ impl<R: Rank> Replay<R> {
             queues: Queues::new(alloc, from_inputs, to_outputs)?,
             limiter: Limiter::new(alloc, limits)?,
             ranks: Ranks::of(ranks),
+            came: Newcomers::none(),
+            gone: Gone::none(),
         })
     }
 
@@ -153,9 +161,15 @@ impl<R: Rank> Replay<R> {
             &mut self.limiter,
             slot,
             arrivals,
+            &mut self.came,
         );
         let behind = go_by(&mut self.queues, slot, 1, lines, note)?;
-        send(&mut self.ranks, &mut self.queues, &mut self.limiter);
+        send(
+            &mut self.ranks,
+            &mut self.queues,
+            &mut self.limiter,
+            &mut self.gone,
+        );
         let rest = go_by(&mut self.queues, slot, 2, behind, note)?;
         Ok(rest)
     }
