@@ -1,5 +1,0 @@
-use Rattle.cq_traffic.proofs.Terms.{arith, rules}
-use Rattle.cq_traffic.proofs.rooms.rooms_to.Goals as goal
-
-pub returns : goal.returns
-returns c = search (arith, rules, c.count_each.ensures)
