@@ -1,5 +1,5 @@
 //! The run of the fabric in parts: up to a slot, and on from there.
-ghost use Rattle.std.specs.Prelude.{◌≡◌, ◌-◌, ◌<◌, ◌≤◌, ◌^◌, IfErr, IfOk, OnOk, length, map};
+ghost use Rattle.std.specs.Prelude.{◌≡◌, ◌+◌, ◌-◌, ◌<◌, ◌≤◌, ◌^◌, IfErr, IfOk, OnOk, length, map};
 ghost use Rattle.cq_simulate.specs.Terms.{IsParted, IsResumed, switch_of, ports_of, openings_of, ArrivesIn, HasPartedTo, IsReadyPart, NoneCome, StopsWithin, CanBeTakenUp, IsPartFault, IsResumeFault, kept_of, taken_at, unpacked_run, IsScheduleFor};
 
 use crate::RunRefusal;
@@ -103,32 +103,31 @@ pub fn resume_fabric<R: Threads + Sync, G: Gate>(
     run_on(rt, alloc, engine, count, schedule, gate, sent, note)
 }
 
-// These items, with room for so many more. The error is want of memory: no memory holds more than 64 bits count.
+// Room for those that are held and so many more. The error is want of memory: none holds more than 64 bits count.
+fn room_with(held: usize, spare: u64) -> Result<u64, NoMemory>
+    ensures { IfOk result (λ room. room ≡ held + spare) }
+{
+    (held as u64).checked_add(spare).ok_or(NoMemory)
+}
+
+// These items, with room for so many more. The error is want of memory.
 fn holding<T: Copy>(alloc: Global, items: &[T], spare: u64) -> Result<Room<T>, NoMemory>
     ensures items { IfOk result (λ room. room.items ≡ items.now) }
     ensures spare { IfOk result (λ room. room.spare ≡ spare) }
 {
-    let held = items.len() as u64;
-    if spare > u64::MAX - held {
-        return Err(NoMemory);
-    }
-    let mut room = Room::new(alloc, held + spare)?;
-    'places: for at in 0..items.len() {
-        room.push(items[at]);
+    let mut room = Room::new(alloc, room_with(items.len(), spare)?)?;
+    'items: for item in items {
+        room.push(*item);
     }
     Ok(room)
 }
 
-// These departures, packed, with room for so many more. The error is want of memory, as that of `holding`.
+// These departures, packed, with room for so many more. The error is want of memory.
 fn packed_holding(alloc: Global, items: &[Departure], spare: u64) -> Result<Departures, NoMemory>
     ensures items { IfOk result (λ departures. departures.items ≡ items.now) }
     ensures spare { IfOk result (λ departures. departures.spare ≡ spare) }
 {
-    let held = items.len() as u64;
-    if spare > u64::MAX - held {
-        return Err(NoMemory);
-    }
-    let mut departures = Departures::new(alloc, held + spare)?;
+    let mut departures = Departures::new(alloc, room_with(items.len(), spare)?)?;
     departures.put_all(items);
     Ok(departures)
 }
