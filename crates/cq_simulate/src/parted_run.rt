@@ -91,15 +91,12 @@ pub fn resume_fabric<R: Threads + Sync, G: Gate>(
     let ports = ports_for(alloc, tables, schedule)?;
     let sent = packed_holding(alloc, taken.sent.as_slice(), total + count)?;
     let note = holding(alloc, taken.note.as_slice(), total + 2 * count)?;
-    let engine = Engine::thaw(
-        alloc,
-        ports.ranks,
-        ports.from_inputs.as_slice(),
-        ports.to_outputs.as_slice(),
-        tables.limits.as_slice(),
-        tables.workers,
-        &taken.frozen,
-    )?;
+    let ranks = ports.ranks;
+    let from = ports.from_inputs.as_slice();
+    let to = ports.to_outputs.as_slice();
+    let limits = tables.limits.as_slice();
+    let workers = tables.workers;
+    let engine = Engine::thaw(alloc, ranks, from, to, limits, workers, &taken.frozen)?;
     run_on(rt, alloc, engine, count, schedule, gate, sent, note)
 }
 

@@ -59,12 +59,9 @@ pub fn engine_for(
     ensures { IfOk result (IsFreshFor tables.now schedule.now.came) }
 {
     let ports = ports_for(alloc, tables, schedule)?;
-    Engine::new(
-        alloc,
-        ports.ranks,
-        ports.from_inputs.as_slice(),
-        ports.to_outputs.as_slice(),
-        tables.limits.as_slice(),
-        tables.workers,
-    )
+    let ranks = ports.ranks;
+    let from = ports.from_inputs.as_slice();
+    let to = ports.to_outputs.as_slice();
+    let limits = tables.limits.as_slice();
+    Engine::new(alloc, ranks, from, to, limits, tables.workers)
 }

@@ -11,17 +11,18 @@ thaw-requires-clause-made g c = search (arith, rules, can_be_made)
 
 pub thaw-requires-clause-goes_on : goal.thaw-requires-clause-goes_on
 thaw-requires-clause-goes_on g c = can_thaw c.in_ok-ports.ensures c.requires.sound c.requires.fit
-    c.as_slice-3.ensures.value c.as_slice-4.ensures.value c.as_slice-5.ensures
+    c.as_slice-from.ensures.value c.as_slice-to.ensures.value c.as_slice-limits.ensures
 
 -- ## The run that goes on
 
 pub run_on-requires-clause-ready : goal.run_on-requires-clause-ready
 run_on-requires-clause-ready g c =
     let is = c.in_ok-engine.ensures in
+    let from = is.from_inputs ∙ c.as_slice-from.ensures.value in
+    let to = is.to_outputs ∙ c.as_slice-to.ensures.value in
     λ _ _. runs_on c.in_ok-ports.ensures c.requires.sound c.requires.fit c.in_ok-engine.engine c.in_ok-sent.sent
     c.in_ok-note.note c.port_count-count.ensures c.total-total.ensures.cells c.total-total.ensures.few is.fixed
-    is.frozen (is.from_inputs ∙ c.as_slice-3.ensures.value) (is.to_outputs ∙ c.as_slice-4.ensures.value) is.stopped
-    c.in_ok-sent.ensures.spare c.in_ok-note.ensures.spare
+    is.frozen from to is.stopped c.in_ok-sent.ensures.spare c.in_ok-note.ensures.spare
 
 pub run_on-requires-clause-ports : goal.run_on-requires-clause-ports
 run_on-requires-clause-ports g c = search (arith, rules, length-map)
@@ -31,7 +32,7 @@ returns-clause-run g c =
     let is = c.in_ok-engine.ensures in
     IfOk-weaker c.run_on.result _ _ (λ run kept. resumed_of machine_from c.args.tables.now c.args.schedule.now
     c.in_ok-engine.engine c.args.taken.now (ap (map machine_from) is.fixed ∙ c.in_ok-ports.ensures.machines)
-    (is.limits ∙ c.as_slice-5.ensures) is.frozen c.in_ok-sent.sent c.in_ok-note.note run kept
+    (is.limits ∙ c.as_slice-limits.ensures) is.frozen c.in_ok-sent.sent c.in_ok-note.note run kept
     (c.in_ok-sent.ensures.items ∙ c.as_slice.ensures) (c.in_ok-note.ensures.items ∙ c.as_slice-2.ensures))
     c.run_on.ensures.run
 
