@@ -47,9 +47,6 @@ AreGone came next sent gone = AllZip (IsGone came next) sent gone
 abbrev pub IsMissed : List Arrival → ℕ → Named → Type 0
 IsMissed came next c = told_of came next c ≡ None
 
-abbrev pub SomeMissed : List Arrival → ℕ → List Named → Type 0
-SomeMissed came next names = AllByRecursion (λ c. IsMissed came next c → ⊥) names → ⊥
-
 -- a name stands before another: by input, and then by slot of arrival; or it is no later than that
 abbrev pub IsNameBefore : Name → Name → Type 0
 IsNameBefore a b = (a.queued.key.input < b.queued.key.input) ⊎

@@ -1,8 +1,8 @@
 //! The cells that a state names, looked up among those that arrive.
-ghost use Rattle.std.specs.Prelude.{◌≡◌, ◌↔◌, ◌<◌, ◌&&◌, ◌||◌, ◌==◌, nat_lt, AllPairs, IfErr, IfNone, IfOk, IfSome, IsPermutation, IsTrue, None, OnOk, filter, length, map};
-ghost use Rattle.std.specs.List.{AllAdjacentBelow, AllByRecursion, list_any};
+ghost use Rattle.std.specs.Prelude.{◌≡◌, ◌↔◌, ◌<◌, ◌&&◌, ◌||◌, ◌==◌, nat_lt, AllPairs, IfErr, IfNone, IfOk, IfSome, IsPermutation, IsTrue, None, OnOk, Some, filter, length, map};
+ghost use Rattle.std.specs.List.{AllAdjacentBelow, AllByRecursion, AllZip, list_any};
 ghost use Rattle.cq_resume.specs.Finding.{names_of as names_told};
-ghost use Rattle.cq_resume.specs.Terms.{AreGone, AreFound, IsFound, IsNameBefore, IsNameNotAfter, SomeMissed, sent_name, told_of, waiting_name, AreArrivals, IsForPorts, IsOnlyFor};
+ghost use Rattle.cq_resume.specs.Terms.{IsFound, IsGone, IsMissed, IsNameBefore, IsNameNotAfter, sent_name, told_of, waiting_name, AreArrivals, IsForPorts, IsOnlyFor};
 
 use crate::StateRefusal;
 use crate::between::between;
@@ -60,52 +60,38 @@ fn told_of(schedule: &Schedule, next: Slot, named: Named) -> Option<Queued>
     Some(Queued { cell, key })
 }
 
-// The cells of these names. None where one of them does not arrive before the next slot.
-#[tactic(auto, using(crate::proofs::Zipped::zip_all))]
-fn told_all(
-    alloc: Global,
-    schedule: &Schedule,
-    next: Slot,
-    named: &[Named],
-) -> Result<Option<Vec<Queued>>, NoMemory>
-    requires { AllByRecursion (λ c. c.input < schedule.now.ports) named.now }
-    ensures told { IfOk result (λ all. IfSome all (λ told. AreFound schedule.now.came next named.now told.items)) }
-    ensures none { IfOk result (λ all. IfNone all (SomeMissed schedule.now.came next named.now)) }
+// The cell that was sent, and when.
+fn gone_of(schedule: &Schedule, next: Slot, sent: Sent) -> Option<Gone>
+    requires { sent.cell.input < schedule.now.ports }
+    ensures gone { IfSome result (IsGone schedule.now.came next sent) }
+    ensures none { IfNone result (IsMissed schedule.now.came next sent.cell) }
 {
-    let mut all = Vec::new(alloc);
-    'names: for name in named {
-        match told_of(schedule, next, *name) {
-            Some(queued) => all.push(queued)?,
-            None => return Ok(None),
-        }
-    }
-    Ok(Some(all))
+    let queued = told_of(schedule, next, sent.cell)?;
+    Some(Gone {
+        slot: sent.slot,
+        queued,
+    })
 }
 
-// The cells that were sent. None where one of them does not arrive before the next slot.
+// What is found for each of these items. The state is refused where nothing is found for one of them.
 #[tactic(auto, using(crate::proofs::Zipped::zip_all))]
-fn gone_all(
+fn found_all<S: Copy, T: Copy, F: Fn(S) -> Option<T>>(
     alloc: Global,
-    schedule: &Schedule,
-    next: Slot,
-    sent: &[Sent],
-) -> Result<Option<Vec<Gone>>, NoMemory>
-    requires { AllByRecursion (λ d. d.cell.input < schedule.now.ports) sent.now }
-    ensures gone { IfOk result (λ all. IfSome all (λ gone. AreGone schedule.now.came next sent.now gone.items)) }
-    ensures none { IfOk result (λ all. IfNone all (AllByRecursion (λ d. told_of schedule.now.came next d.cell ≡ None
-        → ⊥) sent.now → ⊥)) }
+    items: &[S],
+    find: F,
+) -> Result<Vec<T>, StateRefusal>
+    requires { AllByRecursion (F.pre find) items.now }
+    ensures found { IfOk result (λ found. AllZip (λ s t. F.post find s (Some t)) items.now found.items) }
+    ensures refused { IfErr result (IsOnlyFor 1 (AllByRecursion (λ s. F.post find s None → ⊥) items.now → ⊥)) }
 {
     let mut all = Vec::new(alloc);
-    'sent: for departure in sent {
-        match told_of(schedule, next, departure.cell) {
-            Some(queued) => all.push(Gone {
-                slot: departure.slot,
-                queued,
-            })?,
-            None => return Ok(None),
-        }
+    'items: for item in items {
+        let Some(found) = find(*item) else {
+            return Err(StateRefusal::Unsound { clause: 1 });
+        };
+        all.push(found).or(Err(StateRefusal::NoMemory))?;
     }
-    Ok(Some(all))
+    Ok(all)
 }
 
 // The name of a cell that waits.
@@ -183,18 +169,15 @@ pub fn find(alloc: Global, state: &State, schedule: &Schedule) -> Result<Found, 
     ensures refused { IfErr result (IsOnlyFor 1 (AreArrivals schedule.now.came state.now → ⊥)) }
 {
     let next = state.head.next;
-    let listed = told_all(alloc, schedule, next, state.listed.as_slice())?;
-    let Some(listed) = listed else {
-        return Err(StateRefusal::Unsound { clause: 1 });
-    };
-    let buffered = told_all(alloc, schedule, next, state.buffered.as_slice())?;
-    let Some(buffered) = buffered else {
-        return Err(StateRefusal::Unsound { clause: 1 });
-    };
-    let sent = gone_all(alloc, schedule, next, state.sent.as_slice())?;
-    let Some(sent) = sent else {
-        return Err(StateRefusal::Unsound { clause: 1 });
-    };
+    let listed = found_all(alloc, state.listed.as_slice(), |name| {
+        told_of(schedule, next, name)
+    })?;
+    let buffered = found_all(alloc, state.buffered.as_slice(), |name| {
+        told_of(schedule, next, name)
+    })?;
+    let sent = found_all(alloc, state.sent.as_slice(), |sent| {
+        gone_of(schedule, next, sent)
+    })?;
     let names = names_of(alloc, &listed, &buffered, &sent)?;
     if !differ(&names) {
         return Err(StateRefusal::Unsound { clause: 1 });

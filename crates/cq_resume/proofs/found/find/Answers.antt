@@ -1,50 +1,48 @@
-use Rattle.cq_resume.proofs.Terms.{arith, rules, ◌≡◌, ◌<◌, ◌++◌, List, Option, Some, map, refl, subst, IfSome, AllZip, Named, Sent, all_front, all_back, images_held}
-use Rattle.cq_resume.proofs.Zipped.{AreLookedUp, are_arrivals, arrivals_rise, buffered_missed, sent_missed}
+use Rattle.cq_resume.proofs.Terms.{arith, rules, ◌≡◌, List, refl, AllZip, all_front, all_back, all_weaker, images_held, err_from_is_err_and}
+use Rattle.cq_resume.proofs.Zipped.{AreLookedUp, are_arrivals, arrivals_rise, missed, none_missed, zip_by}
 use Rattle.cq_resume.proofs.found.find.Goals as goal
 use Rattle.cq_resume.proofs.found.find.Goals.{In_ok-names}
 
--- what is said of an answer, where there is one and where there is none
-some_is : {X : Type 0} (o : Option X) (P : X → Type 0) (x : X) → o ≡ Some x → IfSome o P → P x
-some_is o P x is holds = subst (λ (a : Option _). IfSome a P) is holds
-
--- the same of the same lists
-zip_same : {A B : Type 0} (R : A → B → Type 0) (xs xs' : List A) (ys ys' : List B) → xs ≡ xs' → ys' ≡ ys →
-    AllZip R xs ys → AllZip R xs' ys'
-zip_same {A} {B} R xs xs' ys ys' own is all = search (arith, rules)
+-- what was found of each item of the same lists is its own
+zip_same : {A B : Type 0} (R S : A → B → Type 0) (xs xs' : List A) (ys ys' : List B) →
+    ((x : A) (y : B) → R x y → S x y) → xs ≡ xs' → ys' ≡ ys → AllZip R xs ys → AllZip S xs' ys'
+zip_same R S xs xs' ys ys' give own is all = rw (own, ← is) at (zip_by R (λ xs ys. AllZip S xs ys) tt
+    (λ x y xs ys here zips rest. (give x y here, rest)) xs ys all)
 
 -- what was looked up, where no name is missed
 looked_up : (c : In_ok-names) → AreLookedUp c.args.schedule.now.came c.args.state.now c.deref.result.now
     c.deref-2.result.now c.deref-3.result.now c.in_ok-names.names.items
-looked_up c = search (arith, rules, zip_same, some_is)
+looked_up c = search (arith, rules, zip_same)
 
-pub told_all-requires-2 : goal.told_all-requires-2
-told_all-requires-2 c =
-    let s = c.args.state.now in
-    rw c.as_slice-2.ensures (all_back (λ (n : Named). n.input < c.args.schedule.now.ports) s.listed s.buffered
-    (all_front (λ (n : Named). n.input < c.args.schedule.now.ports) (s.listed ++ s.buffered)
-    (map (λ (d : Sent). d.cell) s.sent) c.requires))
+pub found_all-requires : goal.found_all-requires
+found_all-requires c = search (arith, rules, all_front, all_weaker)
 
-pub gone_all-requires : goal.gone_all-requires
-gone_all-requires c =
-    let s = c.args.state.now in
-    rw c.as_slice-3.ensures
-    (images_held (λ (d : Sent). d.cell) (λ (n : Named). n.input < c.args.schedule.now.ports) s.sent
-    (all_back (λ (n : Named). n.input < c.args.schedule.now.ports) (s.listed ++ s.buffered)
-    (map (λ (d : Sent). d.cell) s.sent) c.requires))
+pub found_all-requires-2 : goal.found_all-requires-2
+found_all-requires-2 c = search (arith, rules, all_back, all_front, all_weaker)
 
-pub returns-in_default-buffered-clause-refused : goal.returns-in_default-buffered-clause-refused
-returns-in_default-buffered-clause-refused c = (
-  refl,
-  buffered_missed c.args.schedule.now.came c.args.state.now
-      (rw (c.in_default-buffered.is, c.as_slice-2.ensures) at c.in_ok-buffered.ensures.none),
-)
+pub found_all-requires-3 : goal.found_all-requires-3
+found_all-requires-3 c = search (arith, rules, images_held, all_back, all_weaker)
 
-pub returns-in_default-sent-clause-refused : goal.returns-in_default-sent-clause-refused
-returns-in_default-sent-clause-refused c = (
-  refl,
-  sent_missed c.args.schedule.now.came c.args.state.now
-      (rw (c.in_default-sent.is, c.as_slice-3.ensures) at c.in_ok-sent.ensures.none),
-)
+pub returns-in_err-listed-clause-refused : goal.returns-in_err-listed-clause-refused
+returns-in_err-listed-clause-refused c =
+    let p = err_from_is_err_and c.from_residual.result c.from_residual.ensures.1 in
+    rw (p.1, p.2) (missed _ _ _ _ _ (search (arith, rules)) (λ are. (none_missed _ _ are).listed) _
+    (rw c.as_slice.ensures at c.in_err-listed.ensures.refused))
+
+pub returns-in_err-buffered-clause-refused : goal.returns-in_err-buffered-clause-refused
+returns-in_err-buffered-clause-refused c =
+    let p = err_from_is_err_and c.from_residual-in_err-buffered.result c.from_residual-in_err-buffered.ensures.1 in
+    rw (p.1, p.2) (missed _ _ _ _ _ (search (arith, rules)) (λ are. (none_missed _ _ are).buffered) _
+    (rw c.as_slice-2.ensures at c.in_err-buffered.ensures.refused))
+
+pub returns-in_err-sent-clause-refused : goal.returns-in_err-sent-clause-refused
+returns-in_err-sent-clause-refused c =
+    let p = err_from_is_err_and c.from_residual-in_err-sent.result c.from_residual-in_err-sent.ensures.1 in
+    rw (p.1, p.2) (missed _ _ _ _ _ (search (arith, rules)) (λ are. (none_missed _ _ are).sent) _
+    (rw c.as_slice-3.ensures at c.in_err-sent.ensures.refused))
+
+pub returns-clause-found : goal.returns-clause-found
+returns-clause-found c = search (arith, rules, zip_same)
 
 pub returns-then-not-differ-clause-refused : goal.returns-then-not-differ-clause-refused
 returns-then-not-differ-clause-refused c = (
