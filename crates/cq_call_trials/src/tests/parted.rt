@@ -1,6 +1,6 @@
 //! The state of a stopped run, and states that are refused.
 use cq_trial_kit::STATE;
-use cq_trials::{Answer, Call, Left, TWO_FOR_ONE, WRITTEN};
+use cq_trials::{Answer, Call, DEFAULTS, Disk, Frame, Left, TWO_FOR_ONE, WRITTEN, leaves};
 use std::alloc::Global;
 use std::test::Fail;
 use std::thread::Threads;
@@ -39,6 +39,7 @@ const CHANGED: &[Changed] = &[
         "sent 1 0 0 0 0\n",
         "state: S3 clause 2\n",
     ),
+    ("buffer 0 0 0 1\n", "list 0 0 0 1\n", "state: S3 clause 3\n"),
     ("buffer 0 0 0 1\n", "", "state: S3 clause 4\n"),
     (
         "buffer 0 0 0 1\n",
@@ -47,23 +48,49 @@ const CHANGED: &[Changed] = &[
     ),
 ];
 
-// Whether the changed state is refused with the line, and nothing is written.
-fn is_refused<R: Threads + Sync>(rt: &R, alloc: Global, case: &Changed) -> Answer {
+// Whether the state over these inputs is refused with the line, and nothing is written.
+fn is_refused<R: Threads + Sync>(
+    rt: &R,
+    alloc: Global,
+    inputs: &[&[Frame]],
+    state: &str,
+    line: &str,
+) -> Answer {
+    let given: [(&str, &[u8]); 1] = [("s.txt", state.as_bytes())];
+    let call: Call = (&["resume", "c.toml", "s.txt"], (9, "", line));
+    let left: Left = (&given, WRITTEN);
+    let disk = Disk::of_switch(alloc, inputs, 1, DEFAULTS)?.holding(&given)?;
+    leaves(rt, alloc, call, disk, left)
+}
+
+// Whether the changed state is.
+fn is_changed_refused<R: Threads + Sync>(rt: &R, alloc: Global, case: &Changed) -> Answer {
     let (part, other, line) = *case;
     let Some((front, back)) = STATE.split_once(part) else {
         return Ok(false);
     };
     let state = format!(in alloc; "{front}{other}{back}")?;
-    let given: [(&str, &[u8]); 1] = [("s.txt", state.as_bytes())];
-    let call: Call = (&["resume", "c.toml", "s.txt"], (9, "", line));
-    let left: Left = (&given, WRITTEN);
-    TWO_FOR_ONE.leaves(rt, alloc, call, &given, left)
+    is_refused(rt, alloc, TWO_FOR_ONE.inputs, &state, line)
 }
 
 #[test]
 fn a_state_that_is_refused_says_why_and_starts_no_file(rt: HostRuntime) -> Result<(), Fail> {
     for case in CHANGED {
-        assert!(rt; is_refused(&rt, rt.alloc(), case)?, "{}", case.2);
+        assert!(rt; is_changed_refused(&rt, rt.alloc(), case)?, "{}", case.2);
     }
+    Ok(())
+}
+
+// One packet of two cells.
+const TWO_CELLS: &[&[Frame]] = &[&[(0, 0, 0, 128)]];
+
+const OVERTAKEN: &str =
+    "cq-state 1\nnext 2\nshape 1 1 0 2\nsum 0 0\ninput 0 1 0\nrank 0\nbuffer 0 0 0 0\n\
+    sent 1 0 0 1 0\nend\n";
+
+#[test]
+fn a_state_whose_cell_was_overtaken_in_its_flow_is_refused(rt: HostRuntime) -> Result<(), Fail> {
+    let line = "state: S3 clause 5\n";
+    assert!(rt; is_refused(&rt, rt.alloc(), TWO_CELLS, OVERTAKEN, line)?);
     Ok(())
 }
