@@ -1,6 +1,6 @@
--- What holds of each in a list, of whatever type: of its parts, of what passes a test, of images. And of a list what
--- is counted, found, or inserted in its images.
-use Rattle.cq_base.proofs.Terms.{common_steps, ◌≡◌, ℕ, zero, suc, ◌+◌, ◌<◌, ◌≤◌, Bool, not, cond, List, [], ◌∷◌, ◌++◌, length, map, filter, Some, refl, ap, ◌∙◌, arith, slice_get, insert, AllByRecursion, position_or_len, range_with_len, Result, Ok, is_ok, cond_both, map-append, map-range_with_len_more, take-map, drop-map}
+-- What holds of each in a list, of whatever type: of its parts, of what passes a test, of images, of what is told for
+-- each number of a row. And of a list what is kept by a test, counted, found, or inserted in its images.
+use Rattle.cq_base.proofs.Terms.{common_steps, ◌≡◌, ℕ, zero, suc, ◌+◌, ◌<◌, ◌≤◌, Bool, true, false, not, cond, List, [], ◌∷◌, ◌++◌, length, map, filter, flat_map, Some, refl, ap, ◌∙◌, arith, slice_get, insert, AllByRecursion, position_or_len, range_with_len, Result, Ok, is_ok, cond_both, map-append, map-range_with_len_more, take-map, drop-map}
 
 module _ {X : Type 0} (P : X → Type 0) where
   pub all_both : (xs ys : List X) → AllByRecursion P xs → AllByRecursion P ys → AllByRecursion P (xs ++ ys)
@@ -19,10 +19,26 @@ module _ {X : Type 0} (P : X → Type 0) where
   all_filter p [] all = tt
   all_filter p (x ∷ xs) all = grind (arith, common_steps, cond_both, all_filter p xs all.1)
 
+  -- what is told for each number of a row
+  pub all_made : (f : ℕ → X) (a n : ℕ) → ((k : ℕ) → a ≤ k → k < a + n → P (f k)) →
+      AllByRecursion P (map f (range_with_len a n))
+  all_made f a zero each = tt
+  all_made f a (suc n) each = grind (arith, common_steps, all_made f (a + 1) n)
+
+  pub all_flat : (f : ℕ → List X) (a n : ℕ) → ((k : ℕ) → a ≤ k → k < a + n → AllByRecursion P (f k)) →
+      AllByRecursion P (flat_map f (range_with_len a n))
+  all_flat f a zero each = tt
+  all_flat f a (suc n) each = grind (arith, common_steps, all_both, flat_map, all_flat f (a + 1) n)
+
 pub all_weaker : {X : Type 0} (P Q : X → Type 0) → ((x : X) → P x → Q x) → (xs : List X) → AllByRecursion P xs →
     AllByRecursion Q xs
 all_weaker P Q weaker [] all = tt
 all_weaker P Q weaker (x ∷ xs) all = (weaker x all.0, all_weaker P Q weaker xs all.1)
+
+pub all_give : {X : Type 0} (P Q S : X → Type 0) → ((x : X) → P x → Q x → S x) → (xs : List X) →
+    AllByRecursion P xs → AllByRecursion Q xs → AllByRecursion S xs
+all_give P Q S give [] p q = tt
+all_give P Q S give (x ∷ xs) p q = (give x p.0 q.0, all_give P Q S give xs p.1 q.1)
 
 -- what holds of all images, and of all items by their images
 pub images_held : {X Y : Type 0} (f : X → Y) (P : Y → Type 0) (xs : List X) → AllByRecursion P (map f xs) →
@@ -34,6 +50,16 @@ pub of_images : {X Y : Type 0} (f : X → Y) (P : Y → Type 0) (xs : List X) �
     AllByRecursion P (map f xs)
 of_images f P [] all = tt
 of_images f P (x ∷ xs) all = (all.0, of_images f P xs all.1)
+
+-- where all pass a test, or none does
+module _ {X : Type 0} (p : X → Bool) where
+  pub filter_all : (xs : List X) → AllByRecursion (λ x. p x ≡ true) xs → filter p xs ≡ xs
+  filter_all [] all = refl
+  filter_all (x ∷ xs) all = grind (arith, common_steps, cond_both, filter_all xs all.1)
+
+  pub filter_none : (xs : List X) → AllByRecursion (λ x. p x ≡ false) xs → filter p xs ≡ []
+  filter_none [] none = refl
+  filter_none (x ∷ xs) none = grind (arith, common_steps, cond_both, filter_none xs none.1)
 
 -- no more pass a test than there are
 pub few_kept : {X : Type 0} (p : X → Bool) (xs : List X) → length (filter p xs) ≤ length xs

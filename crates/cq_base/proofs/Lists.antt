@@ -4,10 +4,12 @@
 -- of arrival: a cell that goes in at the least of the three places stands after every more urgent cell for its
 -- output, for these stand below its cushion, and before every less urgent one, for the first of these is one of the
 -- three places.
-use Rattle.cq_base.proofs.Terms.{common_steps, rules, ◌≡◌, ◌≢◌, ℕ, zero, suc, ◌+◌, ◌<◌, ◌≤◌, Bool, true, false, not, cond, List, [], ◌∷◌, length, get_or, Option, None, Some, refl, sym, ap, ◌∙◌, subst, ⊎_elim, arith, ◌&&◌, slice_get, position, unwrap_or, insert, AllByRecursion, position_or_len, cond_both, eqb-true, eq-eqb, and_parts, and_from, cases_Bool, cases_lt, ltb-false, slice_get_within, slice_get_past, slice_get-get_or, same_Some, find_at, passes_at_first, Key, is_before}
+use Rattle.cq_base.proofs.Terms.{common_steps, rules, ◌≡◌, ◌≢◌, ℕ, zero, suc, ◌+◌, ◌<◌, ◌≤◌, Bool, true, false, not, cond, List, [], ◌∷◌, length, get_or, Option, None, Some, refl, sym, ap, ◌∙◌, subst, ⊎_elim, arith, ◌&&◌, slice_get, position, unwrap_or, insert, AllByRecursion, position_or_len, cond_both, eqb-true, eq-eqb, and_parts, and_from, cases_Bool, cases_lt, ltb-false, slice_get_within, slice_get_past, slice_get-get_or, same_Some, find_at, passes_at_first, is_before}
 use Rattle.cq_base.specs.declared.cell.Queued.{Queued}
-use Rattle.cq_base.specs.Cells.{IsBefore, EachPair, KeepsOrder, KeysDiffer, HasOtherKey, MoreUrgentAhead, ArrivedBefore, is_for, first_for, without_first, place_of_later, place_of_arrival, with_arrival}
+use Rattle.cq_base.specs.Items.{EachPair}
+use Rattle.cq_base.specs.Cells.{IsBefore, KeepsOrder, KeysDiffer, HasOtherKey, MoreUrgentAhead, ArrivedBefore, is_for, first_for, without_first, place_of_later, place_of_arrival, with_arrival}
 use Rattle.cq_base.proofs.Keys.{key_laws}
+use Rattle.cq_base.proofs.Putting.{after_other}
 
 -- ## What a place shows
 
@@ -28,7 +30,7 @@ same_shown : {X : Type 0} (xs : List X) (s t : ℕ) (a b : X) → s ≡ t → sl
 same_shown xs s t a b e at_s at_t = same_Some a b (sym at_s ∙ ap (slice_get xs) e ∙ at_t)
 
 -- of two places the relation holds in their order
-pub each_pair_at : (R : Queued → Queued → Type 0) (xs : List Queued) (s t : ℕ) (a b : Queued) → EachPair R xs →
+pub each_pair_at : {X : Type 0} (R : X → X → Type 0) (xs : List X) (s t : ℕ) (a b : X) → EachPair R xs →
     slice_get xs s ≡ Some a → slice_get xs t ≡ Some b → s < t → R a b
 each_pair_at R [] s t a b e h k l = cc
 each_pair_at R (x ∷ xs) zero zero a b e h k l = absurd (omega arith)
@@ -115,10 +117,6 @@ keys_differ_insert xs p n differ other = grind (arith, common_steps, each_pair_i
 
 -- ## An arriving cell keeps the order of the cells for its output
 
--- a key that differs and is not before the other is after it
-after_other : (a b : Key) → is_before a b ≡ false → a ≢ b → is_before b a ≡ true
-after_other a b h ne = ⊎_elim (λ e. e) (λ e. absurd (ne (key_laws.alike a b h e))) (cases_Bool (is_before b a))
-
 module _ (cushion : ℕ) (n : Queued) (xs : List Queued) (order : KeepsOrder xs) (other : HasOtherKey n xs)
     (ahead : MoreUrgentAhead cushion n xs) where
   is_later : Queued → Bool
@@ -131,7 +129,7 @@ module _ (cushion : ℕ) (n : Queued) (xs : List Queued) (order : KeepsOrder xs)
       n.cell.output ≡ x.cell.output → IsBefore n x
   unfolding is_later
   after_arrival s x at l e = ⊎_elim (λ t. t) (λ f.
-      let back = after_other n.key x.key f (λ same. differs s x at (sym same)) in
+      let back = after_other n.key x.key f (differs s x at) in
       let below = ahead s x at (sym e) back in
       let inside = slice_get_within xs s x at in
       let later_le : place_of_later n xs ≤ s = omega arith in

@@ -4,16 +4,12 @@ use Rattle.std.specs.List.{AllByRecursion, position_or_len}
 use Rattle.cq_base.specs.declared.cell.CellId.{CellId}
 use Rattle.cq_base.specs.declared.cell.Queued.{Queued}
 use Rattle.cq_base.specs.declared.key.Key.{Key}
+use Rattle.cq_base.specs.Items.{EachPair}
 use Rattle.cq_base.specs.Key.{is_before}
 
 -- the first cell is the more urgent
 abbrev pub IsBefore : Queued → Queued → Type 0
 IsBefore a b = is_before a.key b.key ≡ true
-
--- the relation holds of each cell and each that stands after it
-abbrev pub EachPair : (Queued → Queued → Type 0) → List Queued → Type 0
-EachPair R [] = Unit {0}
-EachPair R (x ∷ xs) = AllByRecursion (R x) xs × EachPair R xs
 
 -- the cells stand in the order of their keys, which all differ
 abbrev pub IsRising : List Queued → Type 0

@@ -3,6 +3,7 @@ pub mod Status
 pub mod Limits
 pub mod Decimal
 pub mod Key
+pub mod Items
 pub mod Cells
 pub mod Pieces
 pub mod Arrivals

@@ -4,7 +4,8 @@ pub use Rattle.std.proofs.lemmas.List.{Elements.filter_passes, Elements.recursio
 pub use Rattle.cq_base.proofs.Lists.{all_by, other_key_newest}
 pub use Rattle.cq_base.specs.Arriving.{Arrival, arriving_at, end_of, is_at}
 unfoldable pub use Rattle.cq_base.specs.Arriving.{arriving, enough, traffic_of}
-pub use Rattle.cq_base.specs.Cells.{EachPair, HasOtherKey, is_for, put}
+pub use Rattle.cq_base.specs.Cells.{HasOtherKey, is_for, put}
+pub use Rattle.cq_base.specs.Items.{EachPair}
 unfoldable pub use Rattle.cq_base.specs.Key.{is_before}
 pub use Rattle.cq_base.specs.{Room.RoomView, declared.cell.Departure.Departure, declared.cell.Queued.Queued}
 pub use Rattle.cq_rank.specs.Machine.{KeepsLaws, Machine, first_come, machine_at, told}

@@ -2,28 +2,28 @@
 -- slack rises at two matchings, falls by one at most at the departures between them, and by one at most at the next
 -- arrivals. So it never falls, and each cell that waits has more slack than the least so far. After arrivals it has
 -- no less, so that of all slacks then only those of the cells that have arrived can be the least.
-use Rattle.cq_laws.proofs.Terms.{common_steps, rules, ◌≡◌, ℕ, zero, suc, ◌+◌, ◌-◌, ◌<◌, ◌≤◌, ◌⊎◌, Bool, true, false, List, [], ◌∷◌, length, map, Option, Some, None, refl, sym, ap, ◌∙◌, inl, inr, ⊎_elim, arith, ◌==◌, min, fold, insert, slice_get, option_and_then, AllByRecursion, enumerate_from, position_or_len, reduce, option_map, cases_lt, eq-eqb, ne_eqb, length-map, get_or_past, length-enumerate_from, same_Some, slice_get-get_or, Cell, Queued, Figures, place_of_arrival, Machine, AreForPorts, IdealState, IsStable, Fabric, input, cushion_of, came_to, list_arrived, Arrives, EachArrivesOr, EachRises, SlotRecord, FabricSlot, Agrees, InputFigures, first_here, first_later, slacks, either_by, input_after, figures_after, slack_on_arrival, Among}
+use Rattle.cq_laws.proofs.Terms.{common_steps, rules, ◌≡◌, ℕ, zero, suc, ◌+◌, ◌-◌, ◌<◌, ◌≤◌, ◌⊎◌, Bool, true, false, List, [], ◌∷◌, length, map, Option, Some, None, refl, sym, ap, ◌∙◌, inl, inr, ⊎_elim, arith, ◌==◌, min, fold, insert, slice_get, option_and_then, AllByRecursion, enumerate_from, position_or_len, reduce, option_map, cases_lt, eq-eqb, ne_eqb, length-map, get_or_past, length-enumerate_from, same_Some, slice_get-get_or, Cell, Queued, Figures, place_of_arrival, Machine, AreForPorts, IdealState, IsStable, Fabric, input, cushion_of, came_to, list_arrived, Arrives, EachArrivesOr, EachRises, SlotRecord, FabricSlot, Agrees, InputFigures, first_here, first_later, slacks, either_by, input_after, figures_after, slack_on_arrival, Has}
+use Rattle.cq_laws.proofs.Members.{all_from}
 use Rattle.cq_laws.specs.Terms.{Falls}
 use Rattle.cq_laws.specs.Measures.{least_slack, HasMoreSlack}
-use Rattle.cq_laws.proofs.Members.{all_from}
 use Rattle.cq_laws.proofs.Falls.{arrivals_fall, departures_fall}
 use Rattle.cq_laws.proofs.Sound.{one_in_order}
 use Rattle.cq_laws.proofs.OneSlot.{keyed, old_sound, arrived, first, second, slack_arrived, ports_kept}
 
 -- ## Least numbers
 
-least_bounds : (x : ℕ) (xs : List ℕ) (v : ℕ) → Among v (x ∷ xs) → fold min x xs ≤ v
+least_bounds : (x : ℕ) (xs : List ℕ) (v : ℕ) → Has (x ∷ xs) v → fold min x xs ≤ v
 least_bounds x [] v h = grind (arith, common_steps)
 least_bounds x (y ∷ ys) v h = grind (arith, least_bounds (min x y) ys v, least_bounds (min x y) ys (min x y) (inl refl))
 
-least_among : (x : ℕ) (xs : List ℕ) → Among (fold min x xs) (x ∷ xs)
+least_among : (x : ℕ) (xs : List ℕ) → Has (x ∷ xs) (fold min x xs)
 least_among x [] = inl refl
 least_among x (y ∷ ys) = search (arith, rules, least_among (min x y) ys)
 
 -- numbers that are no less than a kept one, but for one of them that is told
 same_least : (kept told : Option ℕ) (all : List ℕ) →
-    ((v : ℕ) → Among v all → (told ≡ Some v) ⊎ ((low : ℕ) × (kept ≡ Some low) × (low ≤ v))) →
-    ((v : ℕ) → told ≡ Some v → Among v all) → either_by min kept (reduce min all) ≡ either_by min kept told
+    ((v : ℕ) → Has all v → (told ≡ Some v) ⊎ ((low : ℕ) × (kept ≡ Some low) × (low ≤ v))) →
+    ((v : ℕ) → told ≡ Some v → Has all v) → either_by min kept (reduce min all) ≡ either_by min kept told
 same_least kept None [] low there = refl
 same_least kept (Some v) [] low there = absurd (there v refl)
 same_least kept told (x ∷ xs) low there =
@@ -32,7 +32,7 @@ same_least kept told (x ∷ xs) low there =
     grind (arith, common_steps, same_Some, below)
 
 -- the kept number and those that are new have a least, which is no greater than any of them
-new_least : (kept : Option ℕ) (all : List ℕ) (v : ℕ) → Among v all →
+new_least : (kept : Option ℕ) (all : List ℕ) (v : ℕ) → Has all v →
     (least : ℕ) × (either_by min kept (reduce min all) ≡ Some least) × (least ≤ v)
 new_least kept [] v h = absurd h
 new_least None (x ∷ xs) v h = (fold min x xs, refl, least_bounds x xs v h)
@@ -44,11 +44,11 @@ abbrev listed_slacks : Fabric → ℕ → List Queued → List ℕ
 listed_slacks f n cells = map (λ at. cushion_of f at.1 - at.0) (enumerate_from n cells)
 
 slack_listed : (f : Fabric) (n : ℕ) (cells : List Queued) (t m : ℕ) (c : Queued) → n + t ≡ m →
-    slice_get cells t ≡ Some c → Among (cushion_of f c - m) (listed_slacks f n cells)
+    slice_get cells t ≡ Some c → Has (listed_slacks f n cells) (cushion_of f c - m)
 slack_listed f n (x ∷ xs) (suc t) m c e h = inr (slack_listed f (n + 1) xs t m c (omega arith) h)
 slack_listed f n cells t m c e h = grind (arith, common_steps, same_Some)
 
-listed_slack : (f : Fabric) (n : ℕ) (cells : List Queued) (v : ℕ) → Among v (listed_slacks f n cells) →
+listed_slack : (f : Fabric) (n : ℕ) (cells : List Queued) (v : ℕ) → Has (listed_slacks f n cells) v →
     (t : ℕ) × (c : Queued) × (slice_get cells t ≡ Some c) × (v ≡ cushion_of f c - (n + t))
 listed_slack f n [] v h = absurd h
 listed_slack f n (x ∷ xs) v (inl e) = (zero, x, refl, omega arith)
@@ -136,7 +136,7 @@ module _ (ms : List Machine) (slot class_count : ℕ) (cells : List (Option Cell
 
   module _ (x : Figures) (has : HasMoreSlack x f) where
     -- each slack after the arrivals is that of the cell that arrived, or is no less than the least so far
-    low : (i v : ℕ) → Among v (slacks r.arrived i) →
+    low : (i v : ℕ) → Has (slacks r.arrived i) v →
         (slack_on_arrival i r ≡ Some v) ⊎ ((least : ℕ) × (least_slack x i ≡ Some least) × (least ≤ v))
     unfolding slack_on_arrival slacks
     low i v h =
@@ -149,7 +149,7 @@ module _ (ms : List Machine) (slot class_count : ℕ) (cells : List (Option Cell
 
     there_on : (i v : ℕ) (o : Option Queued) → came_to r.came i ≡ o →
         option_map (λ c. cushion_of r.arrived c - position_or_len (λ q. q.key.slot == r.slot) (input r.arrived i)) o
-        ≡ Some v → Among v (slacks r.arrived i)
+        ≡ Some v → Has (slacks r.arrived i) v
     unfolding slacks
     there_on i v None came e = absurd (let P : ⊥ = cc in P)
     there_on i v (Some c) came e =

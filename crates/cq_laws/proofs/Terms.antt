@@ -4,7 +4,8 @@ unfoldable pub use Rattle.cq_base.proofs.Library.{IsDistinct}
 pub use Rattle.cq_base.proofs.Keys.{key_laws}
 pub use Rattle.cq_base.proofs.Lists.{each_pair_at, each_pair_left, first_here, first_later, first_le, keeps_order_arrival}
 pub use Rattle.cq_base.specs.{Arrivals.arrival_at, declared.figures.InputFigures.InputFigures, declared.key.Key.Key}
-pub use Rattle.cq_base.specs.Cells.{EachPair, IsBefore, IsRising, KeepsOrder, KeysDiffer, cushion, first_for, is_for, place_for, put, without_first}
+pub use Rattle.cq_base.specs.Cells.{IsBefore, IsRising, KeepsOrder, KeysDiffer, cushion, first_for, is_for, place_for, put, without_first}
+pub use Rattle.cq_base.specs.Items.{EachPair, Has}
 unfoldable pub use Rattle.cq_base.specs.Key.{is_before}
 pub use Rattle.cq_ideal.proofs.Admitted.{admitted_for_ports, marks_kept, no_arrivals_refuse_none}
 pub use Rattle.cq_ideal.proofs.LimitedEnds.{at_ok, ends, fewer_slots, found_end, limited_found_end, limited_whole_fault, not_more, whole_fault}
@@ -49,4 +50,4 @@ pub use Rattle.cq_base.specs.{declared.cell.Transfer.Transfer, declared.figures.
 pub use Rattle.cq_ideal.proofs.Waiting.{length-filled}
 pub use Rattle.cq_ideal.proofs.{Came.ranks_kept, Ends.all_slots, LastSlot.slots_of-append, LimitedLast.last_departs, Packets.whole_packets}
 pub use Rattle.cq_ideal.specs.{LimitedEnding.LimitedIdealAfter, WholePackets.AreJudged}
-pub use Rattle.cq_prefs.proofs.{Best.one_input_best, LeastFirst.input_best-best, Members.Among, OutputOrder.is_output_order}
+pub use Rattle.cq_prefs.proofs.{Best.one_input_best, LeastFirst.input_best-best, OutputOrder.is_output_order}

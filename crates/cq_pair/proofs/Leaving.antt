@@ -1,20 +1,15 @@
 -- Inputs that leave. The last of the free ones is taken out where it stands, since no input is free twice. And inputs
 -- that are parted one after another, from the first on, leave no pair.
-use Rattle.cq_pair.proofs.Terms.{common_steps, ◌≡◌, ℕ, zero, suc, ◌+◌, ◌-◌, ◌<◌, eqb, List, [], ◌∷◌, length, take, replicate, Some, None, inl, inr, arith, slice_get, IsDistinct, length-set, nil_from_length, take_all, take_more_set, same_Some, Partners, without_pair, Among, Apart, without_here, without_there, without}
+use Rattle.cq_pair.proofs.Terms.{common_steps, ◌≡◌, ℕ, zero, suc, ◌+◌, ◌-◌, ◌<◌, eqb, List, [], ◌∷◌, length, take, replicate, Some, None, arith, slice_get, IsDistinct, length-set, nil_from_length, take_all, take_more_set, same_Some, Partners, without_pair, Apart, without_here, without_there, without, Has, has_there}
 use Rattle.cq_prefs.proofs.OneOrder.{apart}
 
 -- ## The last of all
-
-among_at : (xs : List ℕ) (k x : ℕ) → slice_get xs k ≡ Some x → Among x xs
-among_at [] k x h = absurd (let P : ⊥ = cc in P)
-among_at (y ∷ ys) zero x h = inl (same_Some y x h)
-among_at (y ∷ ys) (suc k) x h = inr (among_at ys k x h)
 
 last_apart : (xs : List ℕ) (k x : ℕ) → k + 1 ≡ length xs → Apart xs → slice_get xs k ≡ Some x →
     take k xs ≡ without x xs
 last_apart [] k x e a h = absurd (let P : ⊥ = cc in P)
 last_apart (y ∷ ys) zero x e a h = grind (arith, common_steps, nil_from_length, without_here, same_Some)
-last_apart (y ∷ ys) (suc k) x e a h = grind (arith, common_steps, Among, among_at, without_there, last_apart ys k x)
+last_apart (y ∷ ys) (suc k) x e a h = grind (arith, common_steps, Has, has_there, without_there, last_apart ys k x)
 
 pub last_left : (xs : List ℕ) (x : ℕ) → IsDistinct eqb xs → slice_get xs (length xs - 1) ≡ Some x →
     take (length xs - 1) xs ≡ without x xs

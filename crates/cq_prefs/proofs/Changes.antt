@@ -1,9 +1,9 @@
 -- What an arrival and a transfer change in the offers. A cell that goes into a list, or the first cell for an output
 -- that leaves it, changes neither the first cells for the other outputs nor the order in which these stand. So with the
 -- pair of the input and of this output taken out, the orders are as before.
-use Rattle.cq_prefs.proofs.Terms.{common_steps, rules, ◌≡◌, ◌≢◌, ℕ, zero, suc, eqb, not, cond, Bool, true, false, List, [], ◌∷◌, length, map, Option, Some, None, refl, sym, ap, arith, ◌∙◌, filter, insert, cond_both, cond-false, cases_eq, cases_lt, eq-eqb, ne_eqb, eqb-true, not-true, length-map, Queued, is_for, first_for, without_first, list_of, FirstKeysDiffer, without_repeats, output_order, input_order, orders_of, first_key, key_at, Partners, partner_of, without, is_partner, is_pair, AreSameWithout}
+use Rattle.cq_prefs.proofs.Terms.{common_steps, rules, ◌≡◌, ◌≢◌, ℕ, zero, suc, eqb, not, cond, Bool, true, false, List, [], ◌∷◌, length, map, Option, Some, None, refl, sym, ap, arith, ◌∙◌, filter, insert, cond_both, cond-false, cases_eq, cases_lt, eq-eqb, ne_eqb, eqb-true, not-true, length-map, Queued, is_for, first_for, without_first, list_of, FirstKeysDiffer, without_repeats, output_order, input_order, orders_of, first_key, key_at, Partners, partner_of, without, is_partner, is_pair, AreSameWithout, kept_has, Has, has_kept}
 use Rattle.cq_prefs.proofs.InputOrder.{key_at-first, is_input_order, outputs_at, inputs_at, no_inputs_past}
-use Rattle.cq_prefs.proofs.Members.{Among, among, listed, among_filter, among_kept, Rises}
+use Rattle.cq_prefs.proofs.Members.{among, listed, Rises}
 use Rattle.cq_prefs.proofs.OneOrder.{rises_unique, more_urgent, urgent_one_way, inputs_rise}
 use Rattle.cq_prefs.proofs.PutBack.{without_here, without_there, without_none}
 
@@ -19,7 +19,7 @@ left_out j [] = refl
 left_out j (x ∷ xs) =
     let left_out-here = left_out j xs in
     let swap = without_swap j x in
-    search (arith, rules, without_here, without_there, swap, cases_eq, without_none, not-true, among_filter, eq-eqb)
+    search (arith, rules, without_here, without_there, swap, cases_eq, without_none, not-true, kept_has, eq-eqb)
 
 abbrev outputs : List Queued → List ℕ
 outputs cells = map (λ c. c.cell.output) cells
@@ -86,9 +86,9 @@ same_but_taken p old new j partner e =
 
 rises_filter : (b : ℕ → ℕ → Bool) (p : ℕ → Bool) (xs : List ℕ) → Rises b xs → Rises b (filter p xs)
 rises_filter b p [] r = tt
-rises_filter b p (x ∷ xs) r = grind (arith, common_steps, cond_both, Rises, among_filter, rises_filter b p xs r.1)
+rises_filter b p (x ∷ xs) r = grind (arith, common_steps, cond_both, Rises, kept_has, rises_filter b p xs r.1)
 
-rises_same : (b d : ℕ → ℕ → Bool) (xs : List ℕ) → ((x y : ℕ) → Among x xs → Among y xs → d x y ≡ b x y) → Rises b xs →
+rises_same : (b d : ℕ → ℕ → Bool) (xs : List ℕ) → ((x y : ℕ) → Has xs x → Has xs y → d x y ≡ b x y) → Rises b xs →
     Rises d xs
 rises_same b d [] same r = tt
 rises_same b d (x ∷ xs) same r = grind (arith, common_steps, rises_same b d xs)
@@ -117,10 +117,10 @@ module _ (m : Partners) (old new : List (List Queued)) (k : ℕ)
       (filter kept (input_order old k)) (filter kept (input_order new k))
       (rises_filter (more_urgent old k) kept (input_order old k) (inputs_rise old k (input_order old k) a))
       (rises_same (more_urgent new k) (more_urgent old k) (filter kept (input_order new k))
-      (λ x y s t. search (arith, rules, same_key, among_filter))
+      (λ x y s t. search (arith, rules, same_key, kept_has))
       (rises_filter (more_urgent new k) kept (input_order new k) (inputs_rise new k (input_order new k) b)))
-      (λ i s. search (arith, rules, among_filter, listed, among_kept, among, no_pair))
-      (λ i s. search (arith, rules, among_filter, listed, among_kept, among, no_pair))
+      (λ i s. search (arith, rules, kept_has, listed, has_kept, among, no_pair))
+      (λ i s. search (arith, rules, kept_has, listed, has_kept, among, no_pair))
 
 -- ## All lists
 

@@ -1,9 +1,8 @@
 -- Who holds whom in a state that events reach. The test computes what is said, and an input is held by one output at
 -- most, the one that it asked last. So the matching of the state has exactly the pairs of an output and the input that
 -- it holds.
-use Rattle.cq_prefs.proofs.Terms.{rules, ℕ, ◌≡◌, ◌≢◌, ◌⊎◌, ◌<◌, Bool, true, List, [], ◌∷◌, length, Option, Some, None, refl, sym, ◌∙◌, ap, arith, ⊎_elim, common_steps, find, is_none, range_with_len, cases_lt, cond_both, ltb-true, lt-ltb, eqb-true, eq-eqb, and_parts, and_from, true≢false, get_or_past, ext_get_or, length-map-range_with_len, get_or-map-range_with_len, Orders, AreOffers, ports, inputs_of, Partners, partner_of, IsMatching, State, Holds, IsFree, IsSound, holder, holds, position_held, keeper, is_free, matching_of}
+use Rattle.cq_prefs.proofs.Terms.{rules, ℕ, ◌≡◌, ◌≢◌, ◌⊎◌, ◌<◌, Bool, true, List, [], ◌∷◌, length, Option, Some, None, refl, sym, ◌∙◌, ap, arith, ⊎_elim, common_steps, find, is_none, range_with_len, cases_lt, cond_both, ltb-true, lt-ltb, eqb-true, eq-eqb, and_parts, and_from, true≢false, get_or_past, ext_get_or, length-map-range_with_len, get_or-map-range_with_len, Orders, AreOffers, ports, inputs_of, Partners, partner_of, IsMatching, State, Holds, IsFree, IsSound, holder, holds, position_held, keeper, is_free, matching_of, Has, has_number}
 use Rattle.cq_prefs.proofs.Places.{same_at_place, input_in_range, output_in_range, position_of-at}
-use Rattle.cq_prefs.proofs.Members.{Among, in_range}
 
 -- ## The one that passes a test
 
@@ -11,7 +10,7 @@ pub found_passes : (p : ℕ → Bool) (xs : List ℕ) (y : ℕ) → find p xs �
 found_passes p [] y e = absurd (let P : ⊥ = cc in P)
 found_passes p (x ∷ xs) y e = grind (arith, common_steps, cond_both, found_passes p xs y)
 
-found_only : (p : ℕ → Bool) (xs : List ℕ) (y : ℕ) → Among y xs → p y ≡ true → ((z : ℕ) → p z ≡ true → z ≡ y) →
+found_only : (p : ℕ → Bool) (xs : List ℕ) (y : ℕ) → Has xs y → p y ≡ true → ((z : ℕ) → p z ≡ true → z ≡ y) →
     find p xs ≡ Some y
 found_only p [] y m h only = absurd m
 found_only p (x ∷ xs) y m h only = grind (arith, common_steps, cond_both, true≢false, found_only p xs y)
@@ -43,7 +42,7 @@ pub keeper-from : (o : Orders) → AreOffers o → (s : State) → IsSound o s �
 unfolding keeper
 keeper-from o v s w i j h =
     let r : j < ports o = output_in_range o v i j (v.shown_back i j h.1) in
-    found_only (holds o s i) (range_with_len 0 (ports o)) j (in_range 0 (ports o) j (omega arith) (omega arith))
+    found_only (holds o s i) (range_with_len 0 (ports o)) j (has_number 0 (ports o) j (omega arith) (omega arith))
     (holds-from o s i j h) (λ k also. held_once o v s w i k j (holds-yes o s i k also) h)
 
 none_unless : (p : Option ℕ) → ((j : ℕ) → p ≡ Some j → ⊥) → p ≡ None

@@ -1,17 +1,16 @@
 -- Where the least free input proposes, each turn is an event or finds nobody free. There are no more events than the
 -- number of ports squared, so after as many turns nobody is free, and those who are held form the matching that is best
 -- for the inputs.
-use Rattle.cq_prefs.proofs.Terms.{common_steps, rules, ℕ, zero, suc, ◌≡◌, ◌⊎◌, inl, ◌*◌, Bool, true, ⊎_elim, List, [], ◌∷◌, length, Option, Some, None, refl, ap, arith, ◌<◌, find, range_with_len, cond_both, true≢false, Orders, AreOffers, ports, IsInputBest, State, IsFree, IsQuiescent, is_free, next_output, propose, state_after, AreEvents}
+use Rattle.cq_prefs.proofs.Terms.{common_steps, rules, ℕ, zero, suc, ◌≡◌, ◌⊎◌, inl, ◌*◌, Bool, true, ⊎_elim, List, [], ◌∷◌, length, Option, Some, None, refl, ap, arith, ◌<◌, find, range_with_len, cond_both, true≢false, Orders, AreOffers, ports, IsInputBest, State, IsFree, IsQuiescent, is_free, next_output, propose, state_after, AreEvents, Has, has_number}
 use Rattle.cq_prefs.specs.LeastFirst.{least_free, propose_if, state_at, best}
 use Rattle.cq_prefs.proofs.Counts.{events_at_most}
 use Rattle.cq_prefs.proofs.Holding.{found_passes, free_if, free_only_if}
-use Rattle.cq_prefs.proofs.Members.{Among, in_range}
 use Rattle.cq_prefs.proofs.Places.{input_in_range}
 use Rattle.cq_prefs.proofs.Quiet.{input_best-quiet}
 use Rattle.cq_prefs.proofs.Steps.{sound-after, next_output-offered}
 
 -- where nothing is found, nothing passes the test
-found_none : (p : ℕ → Bool) (xs : List ℕ) (y : ℕ) → find p xs ≡ None → Among y xs → p y ≡ true → ⊥
+found_none : (p : ℕ → Bool) (xs : List ℕ) (y : ℕ) → find p xs ≡ None → Has xs y → p y ≡ true → ⊥
 found_none p [] y e m h = absurd m
 found_none p (x ∷ xs) y e m h = grind (arith, common_steps, cond_both, true≢false, found_none p xs y)
 
@@ -19,7 +18,7 @@ quiet_if_none : (o : Orders) → AreOffers o → (s : State) → least_free o s 
 unfolding least_free
 quiet_if_none o v s e i f =
     let r : i < ports o = input_in_range o i (next_output o s i) (next_output-offered o v s i f.left) in
-    found_none (is_free o s) (range_with_len 0 (ports o)) i e (in_range 0 (ports o) i (omega arith) (omega arith))
+    found_none (is_free o s) (range_with_len 0 (ports o)) i e (has_number 0 (ports o) i (omega arith) (omega arith))
     (free_only_if o v s i f)
 
 free_if_found : (o : Orders) → AreOffers o → (events : List ℕ) → AreEvents o events → (i : ℕ) →

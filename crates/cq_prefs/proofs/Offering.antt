@@ -1,7 +1,7 @@
 -- The inputs that have an offer, counted from the first on: one more is listed where its order has an output. Where
 -- none is listed, each order is empty.
-use Rattle.cq_prefs.proofs.Terms.{common_steps, ℕ, ◌≡◌, ◌+◌, ◌<◌, ◌≤◌, Bool, true, false, List, [], ◌∷◌, ◌++◌, length, filter, range_with_len, ap, ◌∙◌, subst, arith, ⊎_elim, cases_lt, cond-true, cond-false, eqb, eqb-true, eq-eqb, lt-ltb, le-ltb, true≢false, append-nil, filter-append, length-range_with_len, nil_from_length, few_kept, Orders, ports, outputs_of, has_offer, inputs_with_offers}
-use Rattle.cq_prefs.proofs.Members.{Among, among_kept, in_range, range_next}
+use Rattle.cq_prefs.proofs.Terms.{common_steps, ℕ, ◌≡◌, ◌+◌, ◌<◌, ◌≤◌, Bool, true, false, List, [], ◌∷◌, ◌++◌, length, filter, range_with_len, ap, ◌∙◌, subst, arith, ⊎_elim, cases_lt, cond-true, cond-false, eqb, eqb-true, eq-eqb, lt-ltb, le-ltb, true≢false, append-nil, filter-append, length-range_with_len, nil_from_length, few_kept, has_kept, has_number, Has, Orders, ports, outputs_of, has_offer, inputs_with_offers}
+use Rattle.cq_prefs.proofs.Members.{range_next}
 use Rattle.cq_prefs.proofs.Places.{has_place}
 
 -- an order is empty or not
@@ -33,9 +33,9 @@ pub none_offers : (o : Orders) → length (inputs_with_offers o (ports o)) ≡ 0
 none_offers o none i =
     ⊎_elim (λ (some : 0 < length (outputs_of o i)).
     let inside : i < ports o = has_place o i 0 some in
-    let there = in_range 0 (ports o) i (omega arith) (omega arith) in
+    let there = has_number 0 (ports o) i (omega arith) (omega arith) in
     let offers = lt-ltb 0 (length (outputs_of o i)) some in
-    let kept = among_kept (has_offer o) (range_with_len 0 (ports o)) i there offers in
-    absurd (subst (λ (l : List ℕ). Among i l) (nil_from_length (inputs_with_offers o (ports o)) none) kept))
+    let kept = has_kept (has_offer o) (range_with_len 0 (ports o)) i there offers in
+    absurd (subst (λ (l : List ℕ). Has l i) (nil_from_length (inputs_with_offers o (ports o)) none) kept))
     (λ (l : length (outputs_of o i) ≤ 0). nil_from_length (outputs_of o i) (omega arith))
     (cases_lt 0 (length (outputs_of o i)))

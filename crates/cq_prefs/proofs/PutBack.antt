@@ -1,9 +1,9 @@
 -- A number that leaves an order and goes in before the first that it comes before stands where it stood. Those ahead of
 -- it come before it, so it goes past them, and it comes before the one that followed it. So of an order it is enough to
 -- know what is left without the number, and whether the number is in it.
-use Rattle.cq_prefs.proofs.Terms.{rules, ◌≡◌, ◌≢◌, ℕ, suc, ◌<◌, ◌≤◌, eqb, not, cond, Bool, true, List, [], ◌∷◌, length, refl, sym, ap, ◌∙◌, inl, ⊎_elim, arith, common_steps, insert, remove, IsDistinct, position_or_len, cond-true, cond-false, cases_Bool, cases_eq, eq-eqb, ne_eqb, put_by, place_in, IsListed, without}
+use Rattle.cq_prefs.proofs.Terms.{rules, ◌≡◌, ◌≢◌, ℕ, suc, ◌<◌, ◌≤◌, eqb, not, cond, Bool, true, List, [], ◌∷◌, length, refl, sym, ap, ◌∙◌, inl, ⊎_elim, arith, common_steps, insert, remove, IsDistinct, position_or_len, cond-true, cond-false, cases_Bool, cases_eq, eq-eqb, ne_eqb, put_by, place_in, IsListed, without, Has}
 use Rattle.cq_prefs.proofs.ByKey.{put_is, length-put}
-use Rattle.cq_prefs.proofs.Members.{Among, Apart, among, listed, place_head, place_next, Rises}
+use Rattle.cq_prefs.proofs.Members.{Apart, among, listed, place_head, place_next, Rises}
 use Rattle.cq_prefs.proofs.OneOrder.{apart}
 
 pub without_here : (x y : ℕ) (xs : List ℕ) → y ≡ x → without x (y ∷ xs) ≡ without x xs
@@ -13,16 +13,16 @@ pub without_there : (x y : ℕ) (xs : List ℕ) → y ≢ x → without x (y ∷
 without_there x y xs ne = ap (λ b. cond (not b) (y ∷ without x xs) (without x xs)) (ne_eqb y x ne)
 
 -- what is not there leaves nothing
-pub without_none : (x : ℕ) (xs : List ℕ) → (Among x xs → ⊥) → without x xs ≡ xs
+pub without_none : (x : ℕ) (xs : List ℕ) → (Has xs x → ⊥) → without x xs ≡ xs
 without_none x [] gone = refl
 without_none x (y ∷ xs) gone = grind (arith, common_steps, without_there, without_none x xs)
 
 -- its one place is removed
-without_place : (x : ℕ) (xs : List ℕ) → Apart xs → Among x xs → remove xs (place_in xs x) ≡ without x xs
+without_place : (x : ℕ) (xs : List ℕ) → Apart xs → Has xs x → remove xs (place_in xs x) ≡ without x xs
 without_place x [] a m = absurd m
 without_place x (y ∷ xs) a m =
-    ⊎_elim (λ is. search (arith, rules, place_head, without_here, without_none, Among)) (λ other.
-    let later : Among x xs = ⊎_elim (λ e. absurd (other e)) (λ r. r) m in
+    ⊎_elim (λ is. search (arith, rules, place_head, without_here, without_none, Has)) (λ other.
+    let later : Has xs x = ⊎_elim (λ e. absurd (other e)) (λ r. r) m in
     let place : place_in (y ∷ xs) x ≡ suc (place_in xs x) =
     let next = place_next xs y x other in omega arith in
     ap (remove (y ∷ xs)) place ∙ ap (λ l. y ∷ l) (without_place x xs a.1 later)
@@ -33,12 +33,12 @@ pub left_by : (x place : ℕ) (xs : List ℕ) → IsDistinct eqb xs → place �
     remove xs place ≡ without x xs
 left_by x place xs differ e inside = grind (arith, common_steps, without_place, apart, among)
 
-goes_first : (b : ℕ → ℕ → Bool) (x : ℕ) (ys : List ℕ) → ((k : ℕ) → Among k ys → b x k ≡ true) → put_by b x ys ≡ x ∷ ys
+goes_first : (b : ℕ → ℕ → Bool) (x : ℕ) (ys : List ℕ) → ((k : ℕ) → Has ys k → b x k ≡ true) → put_by b x ys ≡ x ∷ ys
 goes_first b x [] before = refl
 goes_first b x (y ∷ ys) before = cond-true (b x y) (x ∷ y ∷ ys) (y ∷ put_by b x ys) (before y (inl refl))
 
 module _ (b : ℕ → ℕ → Bool) (one_way : (x y : ℕ) → b x y ≡ true → b y x ≡ true → ⊥) where
-  goes_back : (x : ℕ) (ys : List ℕ) → Apart ys → Rises b ys → Among x ys → put_by b x (without x ys) ≡ ys
+  goes_back : (x : ℕ) (ys : List ℕ) → Apart ys → Rises b ys → Has ys x → put_by b x (without x ys) ≡ ys
   goes_back x [] a r m = absurd m
   goes_back x (y ∷ ys) a r m =
       let here = without_here x y ys in
@@ -48,11 +48,11 @@ module _ (b : ℕ → ℕ → Bool) (one_way : (x y : ℕ) → b x y ≡ true �
 
   -- an order that is known but for x, which is in it
   pub put_back :
-      (x at : ℕ) (left ys : List ℕ) → Apart ys → Rises b ys → Among x ys → left ≡ without x ys →
+      (x at : ℕ) (left ys : List ℕ) → Apart ys → Rises b ys → Has ys x → left ≡ without x ys →
       at ≡ position_or_len (b x) left → insert left at x ≡ ys
   put_back x at left ys a r m e place = grind (arith, common_steps, put_is, goes_back)
 
-  pub room_back : (x : ℕ) (left ys : List ℕ) → Apart ys → Rises b ys → Among x ys → left ≡ without x ys →
+  pub room_back : (x : ℕ) (left ys : List ℕ) → Apart ys → Rises b ys → Has ys x → left ≡ without x ys →
       length ys ≤ 64 → length left < 64
   room_back x left ys a r m e few = grind (arith, common_steps, goes_back, length-put)
 

@@ -8,11 +8,11 @@
 -- is renewed.
 -- One order that is known but for one port, which left it. Where there is no cell, what is left is the whole order.
 -- Where there is one, the port goes back in at the place that its first cell tells.
-use Rattle.cq_prefs.proofs.Terms.{common_steps, rules, ◌≡◌, ◌≢◌, ℕ, ◌+◌, ◌<◌, ◌≤◌, eqb, Bool, true, false, List, [], ◌∷◌, length, get_or, set, Option, Some, None, refl, sym, ap, ◌∙◌, subst, ⊎_elim, arith, not, replicate, ◌⊎◌, map, ltb, filter, All, insert, IsDistinct, range_with_len, position_or_len, cond-true, cases_Bool, cases_eq, cases_lt, eq-eqb, ne_eqb, eqb-true, length-map-range_with_len, get_or-map-range_with_len, length-map, length-set, get_or_past, get_or_default, get_or-set_same, get_or-set_other, ext_get_or, length-replicate, Queued, Waiting, cells_of, AreWaiting, list_of, output_order, input_order, orders_of, HasCellFor, FirstKeysDiffer, first_key, key_at, key_before, Orders, AreOffers, ports, outputs_of, inputs_of, Partners, partner_of, ArePairs, with_pair, without, is_partner, is_pair, AreSameWithout, first_for, place_for, Key}
+use Rattle.cq_prefs.proofs.Terms.{common_steps, rules, ◌≡◌, ◌≢◌, ℕ, ◌+◌, ◌<◌, ◌≤◌, eqb, Bool, true, false, List, [], ◌∷◌, length, get_or, set, Option, Some, None, refl, sym, ap, ◌∙◌, subst, ⊎_elim, arith, not, replicate, ◌⊎◌, map, ltb, filter, All, insert, IsDistinct, range_with_len, position_or_len, cond-true, cases_Bool, cases_eq, cases_lt, eq-eqb, ne_eqb, eqb-true, length-map-range_with_len, get_or-map-range_with_len, length-map, length-set, get_or_past, get_or_default, get_or-set_same, get_or-set_other, ext_get_or, length-replicate, Queued, Waiting, cells_of, AreWaiting, list_of, output_order, input_order, orders_of, HasCellFor, FirstKeysDiffer, first_key, key_at, key_before, Orders, AreOffers, ports, outputs_of, inputs_of, Partners, partner_of, ArePairs, with_pair, without, is_partner, is_pair, AreSameWithout, first_for, place_for, Key, kept_has, Has, has_kept}
 use Rattle.std.proofs.lemmas.List.{get_or-map}
 use Rattle.std.proofs.lemmas.Simd.{map-map}
 use Rattle.cq_prefs.proofs.InputOrder.{OutputsInRange, outputs_at, inputs_at, are_offers, key_at-first, cell_of_key, is_input_order}
-use Rattle.cq_prefs.proofs.Members.{Among, among, listed, among_filter, among_kept}
+use Rattle.cq_prefs.proofs.Members.{among, listed}
 use Rattle.cq_prefs.proofs.OneOrder.{same_orders, apart, stands_ahead, ahead_one_way, outputs_rise, more_urgent, urgent_one_way, inputs_rise}
 use Rattle.cq_prefs.proofs.OutputOrder.{is_output_order, has_output}
 use Rattle.cq_prefs.proofs.Places.{output_in_range, outputs_at_most, inputs_at_most}
@@ -158,14 +158,14 @@ pub in_range_still :
 in_range_still m o lists pairs v size long same i j c found =
     let t = orders_of lists in
     let order = is_output_order (list_of lists i) in
-    let member : Among j (outputs_of t i) = subst (Among j) (sym (outputs_at lists i))
+    let member : Has (outputs_of t i) j = subst (λ (l : List ℕ). Has l j) (sym (outputs_at lists i))
     (among (output_order (list_of lists i)) j ((order.offered j).1 (c, found))) in
     ⊎_elim (λ pair. let below = pairs.ports i j (partner_if (partner_of m i) j pair) in omega arith)
     (λ no_pair.
-    let left : Among j (filter (λ k. not (is_pair m i k)) (outputs_of t i)) =
-    among_kept (λ k. not (is_pair m i k)) (outputs_of t i) j member (ap not no_pair) in
-    let before = among_filter (λ k. not (is_pair m i k)) (outputs_of o i) j
-    (subst (Among j) (sym (same.outputs i)) left) in
+    let left : Has (filter (λ k. not (is_pair m i k)) (outputs_of t i)) j =
+    has_kept (λ k. not (is_pair m i k)) (outputs_of t i) j member (ap not no_pair) in
+    let before = kept_has (λ k. not (is_pair m i k)) (outputs_of o i) j
+    (subst (λ (l : List ℕ). Has l j) (sym (same.outputs i)) left) in
     let below = output_in_range o v i j (listed (outputs_of o i) j before.0) in omega arith)
     (cases_Bool (is_pair m i j))
 
@@ -271,7 +271,7 @@ module _ (n j : ℕ) (lists : List Waiting) (inside : n < length lists) (within 
 -- ## The order of an input
 
 module _ (cells : List Queued) (j : ℕ) (left : List ℕ) (known : left ≡ without j (output_order cells)) where
-  output_there : HasCellFor cells j → Among j (output_order cells)
+  output_there : HasCellFor cells j → Has (output_order cells) j
   output_there has = among (output_order cells) j (((is_output_order cells).offered j).1 has)
 
   pub output_gone : first_for j cells ≡ None → left ≡ output_order cells
@@ -294,7 +294,7 @@ module _ (cells : List Queued) (j : ℕ) (left : List ℕ) (known : left ≡ wit
 
 module _ (lists : List (List Queued)) (differ : FirstKeysDiffer lists) (j i : ℕ) (left : List ℕ)
     (known : left ≡ without i (input_order lists j)) where
-  input_there : (key : Key) → key_at (map (first_key j) lists) i ≡ Some key → Among i (input_order lists j)
+  input_there : (key : Key) → key_at (map (first_key j) lists) i ≡ Some key → Has (input_order lists j) i
   input_there key has = among (input_order lists j) i (((is_input_order lists j differ).offered i).1
       (cell_of_key (first_for j (list_of lists i)) key (sym (key_at-first j lists i) ∙ has)))
 

@@ -1,7 +1,6 @@
 -- A relation that goes on from one to the next. Where it holds of neighbours it holds of each and each later one, so a
--- test of neighbours decides it. And what is known of each and each later one is known by places, by
--- recursion, and of any two that stand in the list in this order.
-use Rattle.cq_resume.proofs.Terms.{common_steps, ◌≡◌, ℕ, zero, suc, ◌+◌, ◌-◌, ◌<◌, ◌≤◌, ◌↔◌, Bool, true, false, List, [], ◌∷◌, length, get_or, arith, AllAdjacentBelow, AllByRecursion, AllPairs, cases_eq, get_or_default, All-from_recursion, recursion_from_All, AllPairs-cons}
+-- test of neighbours decides it.
+use Rattle.cq_resume.proofs.Terms.{common_steps, ◌≡◌, ℕ, zero, suc, ◌+◌, ◌-◌, ◌<◌, ◌≤◌, ◌↔◌, Bool, true, false, List, [], ◌∷◌, length, get_or, arith, AllAdjacentBelow, AllPairs, cases_eq, get_or_default}
 use Rattle.cq_resume.specs.Neighbours.{IsOfNeighbours}
 
 -- it holds of each and each later one below a place
@@ -50,20 +49,3 @@ module _ {X : Type 0} (R : X → X → Type 0) (xs : List X) where
         some_item : (ys : List X) → 0 < length ys → X
         some_item [] inside = absurd (omega arith)
         some_item (y ∷ ys) inside = y
-
--- ## By recursion
-
-abbrev pub EachPair : {X : Type 0} → (X → X → Type 0) → List X → Type 0
-EachPair R [] = Unit {0}
-EachPair R (x ∷ xs) = AllByRecursion (R x) xs × EachPair R xs
-
-pub each_pair : {X : Type 0} (R : X → X → Type 0) (xs : List X) → AllPairs R xs → EachPair R xs
-each_pair R [] pairs = tt
-each_pair R (x ∷ xs) pairs = (
-  recursion_from_All (R x) xs (λ k d inside. pairs zero (suc k) d (omega arith) (omega arith)),
-  each_pair R xs (λ i j d lt inside. pairs (suc i) (suc j) d (omega arith) (omega arith)),
-)
-
-pub all_pairs : {X : Type 0} (R : X → X → Type 0) (xs : List X) → EachPair R xs → AllPairs R xs
-all_pairs R [] pairs = λ i j d lt inside. absurd (omega arith)
-all_pairs R (x ∷ xs) pairs = grind (arith, common_steps, AllPairs-cons, All-from_recursion, all_pairs R xs pairs.1)

@@ -1,8 +1,6 @@
 -- The cells that arrive at one input, from a slot on. They rise by slot, so the next slot with an arrival is that of
 -- the first of them, and behind it are those from the slot after that on.
-use Rattle.cq_resume.proofs.Terms.{common_steps, rules, ◌≡◌, ℕ, ◌+◌, ◌<◌, ◌≤◌, leb, ltb, Bool, List, [], ◌∷◌, None, Some, refl, inl, inr, arith, ◌&&◌, filter, AllByRecursion, and_parts, eqb-true, and_from, and_left, eq-eqb, le-leb, lt-leb, lt-ltb, cases_lt, Arrival, arriving_at, Cell, is_from, ComeBehind, IsLine, coming, ArrivesIn, IsNextArrival}
-use Rattle.cq_resume.proofs.Having.{Has, all_of_has, has_kept}
-use Rattle.cq_resume.proofs.Chained.{EachPair}
+use Rattle.cq_resume.proofs.Terms.{common_steps, rules, ◌≡◌, ℕ, ◌+◌, ◌<◌, ◌≤◌, leb, ltb, Bool, List, [], ◌∷◌, None, Some, refl, inl, inr, arith, ◌&&◌, filter, AllByRecursion, and_parts, eqb-true, and_from, and_left, eq-eqb, le-leb, lt-leb, lt-ltb, cases_lt, Arrival, arriving_at, Cell, is_from, ComeBehind, IsLine, coming, ArrivesIn, IsNextArrival, all_of_has, has_kept, Has, EachPair}
 
 -- ## What arrives in a slot at an input
 

@@ -1,13 +1,10 @@
 -- What a run goes on from. The cells that a sound state names are different arrivals before its next slot. So the
 -- fabric that it tells of stands in order, no key is in it twice, and in each list, for each output and in each count
 -- there are no more cells than came, and none has more than there were slots.
-use Rattle.cq_resume.proofs.Terms.{common_steps, rules, ◌≡◌, ◌≢◌, ℕ, zero, suc, ◌+◌, ◌<◌, ◌≤◌, ◌^◌, Bool, true, List, [], ◌∷◌, length, get_or, map, Option, None, Some, refl, ap, arith, length-append, ◌==◌, IsSome, filter, nat_lt, slice_get, AllByRecursion, enumerate_from, filter_map, range_with_len, option_map, cases_lt, eq-eqb, eqb-true, lt-ltb, ne_eqb, get_or_past, length-map, filter-append, get_or-map-range_with_len, length-enumerate_from, length-map-range_with_len, Arrival, EachCell, IsBefore, is_for, Cell, Departure, Queued, OutputFigures, IsTraffic, is_from, is_to, number_of, cells_refused, packets_refused, refused_at, refused_counts, Refused, Fabric, IsAmong, buffer, input, AreCountsOf, AreOwn, HasPorts, IsSoundFabric, fabric_in, departure_of, figures_told, frozen_told, refused_arrivals, sent_told, IsSound, HasShape, Switch, arriving_cell, buffer_told, fabric_told, is_ahead, key_of, list_told, named_in, output_in, output_of, queued_in, queued_of, IsInRange, Named, Sent, State, few_kept, InputFigures, Key, held_for, waiting_for, Apart, Early, all_before, differ_from, IsFabric, ListsKeepOrder, Frozen, AreSized}
+use Rattle.cq_resume.proofs.Terms.{common_steps, rules, ◌≡◌, ◌≢◌, ℕ, zero, suc, ◌+◌, ◌<◌, ◌≤◌, ◌^◌, Bool, true, List, [], ◌∷◌, length, get_or, map, Option, None, Some, refl, ap, arith, length-append, ◌==◌, IsSome, filter, nat_lt, slice_get, AllByRecursion, enumerate_from, filter_map, range_with_len, option_map, cases_lt, eq-eqb, eqb-true, lt-ltb, ne_eqb, get_or_past, length-map, filter-append, get_or-map-range_with_len, length-enumerate_from, length-map-range_with_len, Arrival, IsBefore, is_for, Cell, Departure, Queued, OutputFigures, IsTraffic, is_from, is_to, number_of, cells_refused, packets_refused, refused_at, refused_counts, Refused, Fabric, buffer, input, AreCountsOf, AreOwn, HasPorts, IsSoundFabric, fabric_in, departure_of, figures_told, frozen_told, refused_arrivals, sent_told, IsSound, HasShape, Switch, arriving_cell, buffer_told, fabric_told, is_ahead, key_of, list_told, named_in, output_in, output_of, queued_in, queued_of, IsInRange, Named, Sent, State, few_kept, InputFigures, Key, held_for, waiting_for, Apart, Early, all_before, differ_from, IsFabric, ListsKeepOrder, Frozen, AreSized, all_of_has, all_from_has, all_has, has_left, has_right, has_kept, kept_has, Has, AreApart, Stands, no_more, each_pair, pairs_left, pairs_cross, pairs_kept_with, looked_up, pairs_looked_up, kept_few, looked_few, image_at, numbers_few, EachPair, IsAmong}
 use Rattle.cq_ideal.proofs.Waiting.{total, total_more, total_none}
 pub use Rattle.cq_resume.proofs.Coming.{FoundAt, found_at}
 pub use Rattle.cq_resume.proofs.Zipped.{Differ}
-use Rattle.cq_resume.proofs.Chained.{EachPair, each_pair}
-use Rattle.cq_resume.proofs.Having.{Has, all_from_has, all_has, all_of_has, has_kept, has_left, has_right, kept_has}
-use Rattle.cq_resume.proofs.Pooled.{AreApart, Stands, image_at, kept_few, looked_few, looked_up, no_more, numbers_few, pairs_cross, pairs_kept_with, pairs_left, pairs_looked_up}
 use Rattle.cq_resume.specs.Sound.{IsBufferedBefore, IsSentBefore}
 use Rattle.cq_resume.specs.Finding.{IsBufferedBefore as IsFoundBefore}
 
@@ -81,10 +78,6 @@ names_few test next came p names pairs arrive passes =
 pub has_of_among : (xs : List Queued) (c : Queued) → IsAmong c xs → Has xs c
 has_of_among [] c among = absurd among
 has_of_among (x ∷ xs) c among = grind (arith, common_steps, has_of_among xs c)
-
-each_cell : (R : Queued → Queued → Type 0) (xs : List Queued) → EachPair R xs → EachCell R xs
-each_cell R [] pairs = tt
-each_cell R (x ∷ xs) pairs = (pairs.0, each_cell R xs pairs.1)
 
 -- ## Counts of what was refused
 
@@ -277,11 +270,11 @@ module _ (w : Switch) (s : State) (in_range : IsInRange s) (shape : HasShape w s
     square = sides.1;
     outputs = λ i c among. let many = sides.0 in search (arith, rules, of_traffic, waits i c among);
     own = λ j c among. (crosses j c among).here;
-    rising = λ j. search (rules, each_cell, of_buffer (EachPair IsBefore) tt j, buffer_stands j);
+    rising = λ j. of_buffer (EachPair IsBefore) tt j (buffer_stands j);
   }
 
   keep_order : ListsKeepOrder f
-  keep_order i = search (rules, each_cell, of_list (EachPair Leads) tt i, list_stands i)
+  keep_order i = of_list (EachPair Leads) tt i (list_stands i)
 
   is_sound : IsSoundFabric s.head.next f
   is_sound = search (rules, is_fabric, keep_order, sound.slack, differ_from, apart, all_before, early)

@@ -1,7 +1,6 @@
 mod Terms
 pub mod Each
 pub mod Chained
-pub mod Having
 pub mod Zipped
 pub mod Cut
 pub mod Lanes
@@ -13,7 +12,6 @@ pub mod Upheld
 pub mod Judging
 pub mod Scheduling
 pub mod Joining
-pub mod Pooled
 pub mod GoesOn
 pub mod ToldAgain
 pub mod OneAnswer

@@ -4,10 +4,8 @@
 -- with a mark exactly where each packet that has begun is named whole, or not at all and its output has a limit.
 -- Cells of one packet come one behind the other, so each is compared with the one before it. The mark is up where the
 -- last cell is not named, which is of the packet that began last.
-use Rattle.cq_resume.proofs.Terms.{common_steps, rules, ◌≡◌, ℕ, ◌<◌, ◌≤◌, eqb, ltb, Bool, true, false, cond, List, [], ◌∷◌, fold, Option, Some, refl, sym, inl, inr, arith, None, ◌==◌, filter, not, list_any, AllByRecursion, and_from, and_parts, and_right, cases_Bool, cases_lt, eq-eqb, eqb-true, le-leb, le-ltb, lt-ltb, ltb-true, All-from_recursion, list_any_none, Arrival, latest, ArePackets, ComeBehind, IsLine, IsWholePacket, PacketsStand, coming, firsts_before, has_limit, has_name, is_left_out, mark_on, may_come, packet_before, Name}
+use Rattle.cq_resume.proofs.Terms.{common_steps, rules, ◌≡◌, ℕ, ◌<◌, ◌≤◌, eqb, ltb, Bool, true, false, cond, List, [], ◌∷◌, fold, Option, Some, refl, sym, inl, inr, arith, None, ◌==◌, filter, not, AllByRecursion, and_from, and_parts, and_right, cases_Bool, cases_lt, eq-eqb, eqb-true, le-leb, le-ltb, lt-ltb, ltb-true, Arrival, latest, ArePackets, ComeBehind, IsLine, IsWholePacket, PacketsStand, coming, firsts_before, has_limit, has_name, is_left_out, mark_on, may_come, packet_before, Name, all_of_has, all_from_has, pair_of_has, has_kept, kept_has, Has, EachPair, any_alike}
 use Rattle.cq_resume.proofs.Coming.{is_between}
-use Rattle.cq_resume.proofs.Having.{Has, all_from_has, all_of_has, has_kept, kept_has, pair_of_has}
-use Rattle.cq_resume.proofs.Chained.{EachPair}
 
 -- whether a cell is the first of its packet
 abbrev is_first : Arrival → Bool
@@ -174,13 +172,6 @@ module _ (limits : List (Option ℕ)) (ports next : ℕ) (came : List Arrival) (
 
   -- ## Marks
 
-  -- whether one of a list passes, where all that it has are alike and it has one
-  any_alike : (t : Bool) (xs : List Arrival) (x : Arrival) → Has xs x →
-      ((y : Arrival) → Has xs y → has_name names y ≡ t) → list_any (has_name names) xs ≡ t
-  any_alike true [] x has alike = absurd has
-  any_alike true (y ∷ ys) x has alike = grind (arith, common_steps, any_alike true ys x)
-  any_alike false xs x has alike = search (arith, rules, list_any_none, All-from_recursion, all_from_has)
-
   -- the mark that a walk leaves is up exactly where the packet that began last is not named
   pub mark_is : (i : ℕ) → i < ports → LineStands i → (m : Bool) →
       mark_on (has_name names) (has_limit limits) false (coming i 0 next came) ≡ Some m →
@@ -199,7 +190,7 @@ module _ (limits : List (Option ℕ)) (ports next : ℕ) (came : List Arrival) (
           let there : Has (coming i 0 next came) g = rw is its.0 in
           let g_in = in_line i g there in
           let alike = alike_there i stand g in
-          let any = any_alike (has_name names g) (packet_before came next g) g
+          let any = any_alike (has_name names) (has_name names g) (packet_before came next g) g
           (to_packet g g g_in.0 refl refl g_in.2) (λ y has.
           let own = in_packet g y has in
           let there = to_line y own.0 own.3 in search (arith, rules)) in

@@ -1,7 +1,8 @@
 -- The words of this crate's proofs that stand elsewhere, each passed on from its place.
-pub use Rattle.cq_base.proofs.Library.{All, All-from_recursion, All-permutation, All-replicate, AllAdjacentBelow, AllByRecursion, AllPairs, AllPairs-cons, AllZip, Bool, Bor, Called, ComputesKey, Contains, Contains-permutation, FnReturnsAtPair, IfSome, IsDistinct, IsDistinct-IsPermutation, IsDistinct-from_apart, IsNonDecreasingBy, IsNonDecreasingBy-take, IsPartitionPoint, IsPartitionPoint-from_clause, IsPartitionedBy, IsPartitionedBy-leb, IsPartitionedBy-ltb, IsPermutation, IsPermutation-sym, IsSome, IsSortedByKey, List, Mut, None, Option, Ordering, Some, YieldsList-from_map, YieldsList-from_slice, [], always_returns_same, and_from, and_left, and_parts, and_right, ap, apart_from_distinct, append-nil, append_assoc, arith, below_more, below_none, cases_Bool, cases_eq, cases_lt, cases_order, common_steps, cond, drop, enumerate_from, eq-eqb, eqb, eqb-true, err_from_is_err_and, false, false_from_ne_true, filter, filter-append, filter_agree, filter_map, filter_more, find, flat_map, flat_map-append, fold, ge_from_not_lt, get_or, get_or-drop, get_or-map, get_or-map-range_with_len, get_or-replicate, get_or-set_other, get_or-set_same, get_or-take, get_or_default, get_or_from_slice_get, get_or_past, get_or_read, inl, inr, is_lt, items_from_extend, le-leb, le-ltb, leb, leb-false, leb-true, length, length-append, length-drop, length-enumerate_from, length-filter, length-map, length-map-range_with_len, length-range_with_len, length-replicate, length-set, length-take, length-take-le, list_any, list_any-IsPermutation, list_any_at, list_any_none, lt-leb, lt-ltb, ltb, ltb-false, ltb-true, map, map-append, map-id, map-range_with_len_more, max, nat_cmp, nat_lt, ne_eqb, not, option_map, or_cases, or_left, or_right, ordering_then, range_with_len, recursion_from_All, refl, replicate, rules, same_lists, set, slice_get, slice_get-get_or, slice_get_within, slice_index_or, subst, suc, sum_by-IsPermutation, sym, take, take-append-drop, take_all, take_at, take_more, tests, true, with_items_is, zero, ℕ, ⊎_elim, ◌&&◌, ◌*◌, ◌++◌, ◌+◌, ◌-◌, ◌<◌, ◌==◌, ◌^◌, ◌||◌, ◌↔◌, ◌∙◌, ◌∷◌, ◌≡◌, ◌≢◌, ◌≤◌, ◌⊎◌}
+pub use Rattle.cq_base.proofs.Library.{All, All-from_recursion, All-permutation, All-replicate, AllAdjacentBelow, AllByRecursion, AllPairs, AllZip, Bool, Bor, Called, ComputesKey, Contains, Contains-permutation, FnReturnsAtPair, IfSome, IsDistinct, IsDistinct-IsPermutation, IsDistinct-from_apart, IsNonDecreasingBy, IsNonDecreasingBy-take, IsPartitionPoint, IsPartitionPoint-from_clause, IsPartitionedBy, IsPartitionedBy-leb, IsPartitionedBy-ltb, IsPermutation, IsPermutation-sym, IsSome, IsSortedByKey, List, Mut, None, Option, Ordering, Some, YieldsList-from_map, YieldsList-from_slice, [], always_returns_same, and_from, and_left, and_parts, and_right, ap, apart_from_distinct, append-nil, append_assoc, arith, below_more, below_none, cases_Bool, cases_eq, cases_lt, cases_order, common_steps, cond, drop, enumerate_from, eq-eqb, eqb, eqb-true, err_from_is_err_and, false, false_from_ne_true, filter, filter-append, filter_agree, filter_map, filter_more, find, flat_map, flat_map-append, fold, ge_from_not_lt, get_or, get_or-drop, get_or-map, get_or-map-range_with_len, get_or-replicate, get_or-set_other, get_or-set_same, get_or-take, get_or_default, get_or_from_slice_get, get_or_past, get_or_read, inl, inr, is_lt, items_from_extend, le-leb, le-ltb, leb, leb-false, leb-true, length, length-append, length-drop, length-enumerate_from, length-filter, length-map, length-map-range_with_len, length-replicate, length-set, length-take, length-take-le, list_any, list_any-IsPermutation, list_any_at, list_any_none, lt-leb, lt-ltb, ltb, ltb-false, ltb-true, map, map-append, map-id, map-range_with_len_more, max, nat_cmp, nat_lt, ne_eqb, not, option_map, or_cases, or_left, or_right, ordering_then, range_with_len, recursion_from_All, refl, replicate, rules, same_lists, set, slice_get, slice_get-get_or, slice_get_within, slice_index_or, subst, suc, sum_by-IsPermutation, sym, take, take-append-drop, take_all, take_at, take_more, tests, true, with_items_is, zero, ℕ, ⊎_elim, ◌&&◌, ◌*◌, ◌++◌, ◌+◌, ◌-◌, ◌<◌, ◌==◌, ◌^◌, ◌||◌, ◌↔◌, ◌∙◌, ◌∷◌, ◌≡◌, ◌≢◌, ◌≤◌, ◌⊎◌}
 pub use Rattle.cq_base.specs.Arriving.{Arrival, arriving, arriving_at, end_of, is_at}
-pub use Rattle.cq_base.specs.Cells.{EachPair as EachCell, IsBefore, IsRising, is_for}
+pub use Rattle.cq_base.specs.Cells.{IsBefore, IsRising, is_for}
+pub use Rattle.cq_base.specs.Items.{EachPair, Has}
 pub use Rattle.cq_base.specs.{declared.cell.Cell.Cell, declared.cell.Departure.Departure, declared.cell.Queued.Queued, declared.cell.Transfer.Transfer, declared.figures.OutputFigures.OutputFigures}
 pub use Rattle.cq_route.specs.declared.tables.Tables.{Tables}
 pub use Rattle.cq_cells.proofs.Ranges.{flat_same, range_more, set_one}
@@ -39,3 +40,5 @@ pub use Rattle.cq_state.proofs.OneText.{of_parts}
 pub use Rattle.cq_prefs.specs.Pairing.{IsInputBest}
 pub use Rattle.cq_laws.proofs.{AddingUp.map-constant, Joined.all_go_on, KeptParts.departures_on, KeptParts.transfers_both, NothingRefused.none_come, NothingRefused.run_with, OneRun.only_limited_run, Parted.parts, Parted.run_length, QuietSlots.empty_is, QuietSlots.quiet_departures, QuietSlots.quiet_figures_of_run, QuietSlots.quiet_run, QuietSlots.quiet_transfers_of_run, Sound.Apart, Sound.Early, Sound.all_before, Sound.differ_from}
 pub use Rattle.cq_laws.specs.{FabricSlot.FabricSlot, FabricSlot.SlotRecord, Holding.held_for, Holding.waiting_for, Holding.fabric_held, LimitedFabric.IsLimitedFault, LimitedFabric.LimitedFabricSlot, LimitedFabric.LimitedRecord, LimitedFabric.admissions_in, LimitedFabric.slots_in, LimitedQuiet.quiet_limited_slots, Quiet.idled, Quiet.idled_for, Quiet.quiet_slots, SlotBySlot.GoOn, SlotBySlot.IsOneRun, SlotBySlot.RunBy, SlotBySlot.StopBy, declared.frozen.Frozen.Frozen}
+pub use Rattle.cq_base.proofs.Having.{all_from_has, all_has, all_of_has, any_alike, has_all, has_at, has_cases, has_image, has_kept, has_left, has_right, has_there, image_has, kept_has, pair_of_has}
+pub use Rattle.cq_base.proofs.Pooled.{AreApart, Stands, all_pairs, each_pair, image_at, kept_few, looked_few, looked_up, no_more, numbers_few, pairs_cross, pairs_kept_with, pairs_left, pairs_looked_up, pairs_of_images, pairs_right}

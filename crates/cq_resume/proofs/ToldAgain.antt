@@ -2,12 +2,9 @@
 -- Items that stand in order of a number, taken number by number and laid end on end, are the same list. The cells of
 -- the lists stand in order of their inputs and those of the buffers in order of their outputs, and all of these are
 -- ports. Each name arrives, so its cell is told by it, and a departure by the slot and the name of its cell.
-use Rattle.cq_resume.proofs.Terms.{common_steps, rules, ◌≡◌, ℕ, zero, suc, ◌+◌, ◌<◌, ◌≤◌, List, [], ◌∷◌, length, map, flat_map, Option, Some, refl, ◌∙◌, arith, ◌==◌, filter, AllByRecursion, enumerate_from, filter_map, range_with_len, option_map, cases_eq, eq-eqb, flat_same, ne_eqb, length-map, length-map-range_with_len, Cell, Queued, Scheduled, IsTraffic, departure_of, figures_told, frozen_told, input_told, machine_of, sent_told, AreTables, IsScheduleOf, IsSound, HasShape, Switch, Tables, arriving_cell, buffer_told, fabric_told, list_told, named_as, named_in, queued_of, switch_of, IsInRange, IsNamed, Named, Seen, Sent, State, Taken}
+use Rattle.cq_resume.proofs.Terms.{common_steps, rules, ◌≡◌, ℕ, zero, suc, ◌+◌, ◌<◌, ◌≤◌, List, [], ◌∷◌, length, map, flat_map, Option, Some, refl, ◌∙◌, arith, ◌==◌, filter, AllByRecursion, enumerate_from, filter_map, range_with_len, option_map, cases_eq, eq-eqb, flat_same, ne_eqb, length-map, length-map-range_with_len, Cell, Queued, Scheduled, IsTraffic, departure_of, figures_told, frozen_told, input_told, machine_of, sent_told, AreTables, IsScheduleOf, IsSound, HasShape, Switch, Tables, arriving_cell, buffer_told, fabric_told, list_told, named_as, named_in, queued_of, switch_of, IsInRange, IsNamed, Named, Seen, Sent, State, Taken, all_of_has, all_from_has, has_left, has_right, has_image, Has, each_pair, looked_up, pairs_looked_up, EachPair}
 use Rattle.std.proofs.lemmas.List.Folds.{flat_map-map}
-use Rattle.cq_resume.proofs.Chained.{EachPair, each_pair}
 use Rattle.cq_resume.proofs.GoesOn.{comes, of_traffic, its_input, its_output, some_cell}
-use Rattle.cq_resume.proofs.Having.{Has, all_from_has, all_of_has, has_image, has_left, has_right}
-use Rattle.cq_resume.proofs.Pooled.{looked_up, pairs_looked_up}
 use Rattle.cq_resume.proofs.Scheduling.{schedule_known}
 use Rattle.cq_resume.specs.Sound.{IsBufferedBefore}
 use Rattle.cq_resume.specs.Reading.{IsRead, seen_as, sent_as, text_of_taken}

@@ -1,8 +1,7 @@
 -- The walk over the cells of one input, cell by cell: the mark so far with the cells that are left gives the mark in
 -- the end, and so do the counts. Each step takes the first of the cells that are left.
-use Rattle.cq_resume.proofs.Terms.{rules, ◌≡◌, ℕ, suc, eqb, Bool, true, false, cond, List, [], ◌∷◌, ◌++◌, length, map, Option, None, refl, ap, inl, arith, common_steps, ◌&&◌, ◌==◌, not, list_any, eqb-true, Arrival, Cell, Refused, CanCount, with_refused, all_counted_both, counts_left, fewer_left, none_counted, coming, has_limit, has_name, mark_on, may_come, unnamed, Name}
+use Rattle.cq_resume.proofs.Terms.{rules, ◌≡◌, ℕ, suc, eqb, Bool, true, false, cond, List, [], ◌∷◌, ◌++◌, length, map, Option, None, refl, ap, inl, arith, common_steps, ◌&&◌, ◌==◌, not, list_any, eqb-true, Arrival, Cell, Refused, CanCount, with_refused, all_counted_both, counts_left, fewer_left, none_counted, coming, has_limit, has_name, mark_on, may_come, unnamed, Name, kept_has, Has}
 use Rattle.cq_resume.proofs.Coming.{is_between}
-use Rattle.cq_resume.proofs.Having.{Has, kept_has}
 
 abbrev pub cells_in : List Arrival → List Cell
 cells_in line = map (λ a. a.cell) line

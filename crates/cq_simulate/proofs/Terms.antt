@@ -3,7 +3,8 @@ pub use Rattle.cq_base.proofs.Library.{All, All-from_recursion, All-map, All-pus
 pub use Rattle.cq_base.specs.Arrivals.{arrival_at, no_arrivals}
 pub use Rattle.cq_base.specs.Arriving.{Arrival, arriving_at, end_of, is_at}
 unfoldable pub use Rattle.cq_base.specs.Arriving.{arriving, enough, traffic_of}
-pub use Rattle.cq_base.specs.Cells.{EachPair as EachCell, IsBefore, is_for}
+pub use Rattle.cq_base.specs.Cells.{IsBefore, is_for}
+pub use Rattle.cq_base.specs.Items.{EachPair, EachPair as EachCell, Has}
 pub use Rattle.cq_base.specs.{Packed.unpacked, Room.RoomView, declared.cell.Departure.Departure, declared.cell.Queued.Queued, declared.cell.TagFault.TagFault, declared.cell.Transfer.Transfer, declared.figures.Figures.Figures, declared.setup.Setup.Setup}
 pub use Rattle.cq_pcap.specs.Captured.{Captured, rows_from}
 pub use Rattle.cq_route.specs.Route.{route}
@@ -79,9 +80,8 @@ pub use Rattle.cq_laws.specs.LimitedFabric.{IsLimitedFault, LimitedFabricRun, Li
 pub use Rattle.cq_laws.specs.Measures.{no_figures, sends, sent_by}
 unfoldable pub use Rattle.cq_laws.specs.Measures.{figures_after, figures_of, output_after, output_figures, proposals_in}
 unfoldable pub use Rattle.cq_laws.specs.Records.{transfers_in, transfers_of_run}
-pub use Rattle.cq_resume.proofs.Chained.{EachPair, each_pair}
 pub use Rattle.cq_resume.proofs.GoesOn.{GoesOn, buffer_is, came_before, comes, found_at, goes_on, has_of_among, in_buffer, in_list, in_order, is_cell_of, its_output, its_slot, list_is, of_traffic, ports_are, queued_differ, queued_named, some_cell}
-pub use Rattle.cq_resume.proofs.Having.{Has, all_from_has, all_has, all_of_has, has_at, has_cases, has_image, has_kept, has_left, has_right, image_has, kept_has, pair_of_has}
+pub use Rattle.cq_base.proofs.Having.{all_from_has, all_has, all_of_has, has_at, has_cases, has_image, has_kept, has_left, has_right, image_has, kept_has, pair_of_has}
 pub use Rattle.cq_resume.specs.Counted.{departure_of, firsts_at, is_refused, latest, marks_told, output_told, sent_told, taken_of}
 unfoldable pub use Rattle.cq_resume.specs.Counted.{figures_told, frozen_told}
 pub use Rattle.cq_resume.specs.Resumed.{IsResumed, Kept, RunsOn, Stops}
@@ -125,5 +125,5 @@ pub use Rattle.cq_prefs.proofs.{InputOrder.OutputsInRange, InputOrder.are_offers
 pub use Rattle.cq_laws.specs.{Frozen.fabric_in, Frozen.marked_in, Frozen.IsSoundFabric, LimitedQuiet.quiet_limited_slots, LimitedQuiet.quiet_limited_slot, Phases.Transfers, Phases.came_to, Phases.list_arrived, Places.HasFor, declared.frozen.Frozen.Frozen}
 pub use Rattle.cq_laws.proofs.{ActingAlike.best_act_alike_from_empty, ActingAlike.best_act_alike, AddingUp.figures_fold, Came.came_from, EndsTogether.slots_of_figures, Held.hold_as_many, Joined.all_go_on, KeptParts.departures_one, KeptParts.transfers_both, KeptParts.transfers_one, KeptParts.departures_on, Members.among_at, Members.first_at, Parted.reach, Parted.run_of_whole}
 pub use Rattle.cq_resume.specs.Parts.{IsParted}
-pub use Rattle.cq_resume.proofs.{Pooled.looked_up, Pooled.pairs_kept, Pooled.pairs_kept_with, Pooled.pairs_looked_up, Pooled.pairs_with}
+pub use Rattle.cq_base.proofs.Pooled.{each_pair, looked_up, pairs_kept, pairs_kept_with, pairs_looked_up, pairs_with}
 pub use Rattle.cq_engine.proofs.{Kept.limited_lists_kept, Kept.limited_outputs_kept}

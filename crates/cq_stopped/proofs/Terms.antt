@@ -3,7 +3,8 @@ pub use Rattle.cq_base.proofs.Library.{All, All-from_recursion, AllByRecursion, 
 pub use Rattle.cq_base.specs.{Arrivals.arrival_at, declared.cell.Cell.Cell, declared.cell.Departure.Departure, declared.cell.Queued.Queued, declared.cell.Transfer.Transfer}
 pub use Rattle.cq_base.specs.Arriving.{Arrival, arriving_at}
 unfoldable pub use Rattle.cq_base.specs.Arriving.{arriving}
-pub use Rattle.cq_base.specs.Cells.{EachPair as EachCell, IsBefore, is_for, put}
+pub use Rattle.cq_base.specs.Cells.{IsBefore, is_for, put}
+pub use Rattle.cq_base.specs.Items.{EachPair, EachPair as EachCell, Has}
 pub use Rattle.cq_route.specs.Tables.{AreTables, IsSetup, ports_of}
 pub use Rattle.cq_route.specs.declared.tables.Tables.{Tables}
 pub use Rattle.cq_cells.specs.Scheduled.{Scheduled}
@@ -44,10 +45,9 @@ pub use Rattle.cq_laws.specs.Measures.{sends, sent_by, wait_at}
 unfoldable pub use Rattle.cq_laws.specs.Measures.{figures_of, input_figures, output_figures, proposals_in, slacks}
 pub use Rattle.cq_laws.specs.Phases.{Transfers, came_to, list_arrived}
 unfoldable pub use Rattle.cq_laws.specs.Records.{transfers_of_run}
-pub use Rattle.cq_resume.proofs.Chained.{EachPair, all_pairs, each_pair}
 pub use Rattle.cq_resume.proofs.GoesOn.{Differ, cell_with, found_at, has_of_among}
-pub use Rattle.cq_resume.proofs.Having.{Has, all_from_has, all_of_has, has_all, has_cases, has_image, has_kept, has_left, has_right, image_has, kept_has, pair_of_has}
-pub use Rattle.cq_resume.proofs.Pooled.{AreApart, Stands, has_number, has_there, no_more, pairs_cross, pairs_kept, pairs_left, pairs_right, pairs_with}
+pub use Rattle.cq_base.proofs.Having.{all_from_has, all_of_has, has_all, has_cases, has_image, has_kept, has_left, has_right, has_there, image_has, kept_has, pair_of_has}
+pub use Rattle.cq_base.proofs.Pooled.{AreApart, Stands, all_pairs, each_pair, has_number, no_more, pairs_cross, pairs_kept, pairs_left, pairs_right, pairs_with}
 pub use Rattle.cq_resume.specs.Counted.{departure_of, input_told, is_refused, marks_told, output_told, refused_arrivals, sent_by as sent_at, sent_told, taken_of}
 unfoldable pub use Rattle.cq_resume.specs.Counted.{figures_told, frozen_told}
 pub use Rattle.cq_resume.specs.Finding.{ArePackets, ComeBehind, IsLine, IsWholePacket, coming, has_limit, has_name, is_left_out, left_out, mark_on, unnamed}

@@ -1,11 +1,7 @@
 -- How many cells have a lesser key, and that halving finds it. The cells stand in the order of keys. So where a cell
 -- has a lesser key, all cells before it have one too. The test is thus passed by the first cells and by no others, and
 -- halving finds the point where they end. As many cells pass as stand before the point.
-use Rattle.cq_urgency.proofs.Terms.{common_steps, rules, ◌≡◌, ℕ, zero, suc, ◌+◌, ◌≤◌, Bool, true, false, cond, List, [], ◌∷◌, ◌++◌, length, filter, refl, sym, ap, ◌∙◌, length-append, arith, AllByRecursion, IsPartitionPoint, IsPartitionedBy, cases_eq, cond_both, filter-append, slice_get-get_or, Key, Queued, is_before, IsBefore, IsRising, cushion, key_laws, all_at, all_by, each_pair_at}
-
-pub all_weaker : {X : Type 0} (P Q : X → Type 0) → ((x : X) → P x → Q x) → (xs : List X) → AllByRecursion P xs →
-    AllByRecursion Q xs
-all_weaker P Q f xs a = all_by Q xs (λ t x h. f x (all_at P xs t x a h))
+use Rattle.cq_urgency.proofs.Terms.{common_steps, rules, ◌≡◌, ℕ, zero, suc, ◌+◌, ◌≤◌, Bool, true, false, cond, List, [], ◌∷◌, ◌++◌, length, filter, refl, sym, ap, ◌∙◌, length-append, arith, AllByRecursion, IsPartitionPoint, IsPartitionedBy, cases_eq, cond_both, filter-append, slice_get-get_or, Key, Queued, is_before, IsBefore, IsRising, cushion, key_laws, each_pair_at}
 
 -- a test that passes on to each cell before parts a rising list
 parts_rising : (p : Queued → Bool) → ((a b : Queued) → IsBefore a b → p b ≡ true → p a ≡ true) → (xs : List Queued) →

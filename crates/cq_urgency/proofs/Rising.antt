@@ -1,6 +1,6 @@
 -- A cell goes in behind the cells of lesser key, and the list stays in the order of keys.
-use Rattle.cq_urgency.proofs.Terms.{rules, ◌≡◌, false, List, [], ◌∷◌, refl, ap, arith, insert, cond_both, Queued, is_before, IsBefore, IsRising, HasOtherKey, cushion, put, key_laws, after_other, before_all}
-use Rattle.cq_urgency.proofs.Halving.{all_weaker, cushion_none, cushion_first}
+use Rattle.cq_urgency.proofs.Terms.{rules, ◌≡◌, false, List, [], ◌∷◌, refl, ap, arith, insert, cond_both, Queued, is_before, IsBefore, IsRising, HasOtherKey, cushion, put, key_laws, after_other, before_all, all_weaker}
+use Rattle.cq_urgency.proofs.Halving.{cushion_none, cushion_first}
 
 -- a cell goes in behind those of lesser key
 pub put_is : (c : Queued) (xs : List Queued) → IsRising xs → HasOtherKey c xs →

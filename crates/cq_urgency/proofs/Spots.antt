@@ -5,23 +5,18 @@
 --
 -- A full block that is split keeps each place: in its front half, or in its back half behind 32 cells more.
 use Rattle.cq_urgency.specs.declared.blocks.Spot.{Spot}
-use Rattle.cq_urgency.proofs.Terms.{⊎_elim, cases_lt, rules, ◌≡◌, ℕ, zero, suc, ◌+◌, ◌<◌, ◌≤◌, true, false, List, [], ◌∷◌, ◌++◌, length, take, drop, Some, ap, length-append, length-set, length-take, length-drop, get_or-set_same, arith, sym, subst, common_steps, slice_get, AllByRecursion, cases_Bool, take-append-le, take-take, take-set, length-insert, get_or-insert_below, get_or-insert_at, sum_by_more, Key, Queued, is_before, IsBefore, IsRising, cushion, key_laws, all_at, flattened, block_at, halved, AreFilled, AreBegun, IsSpot, starts_before}
+use Rattle.cq_urgency.proofs.Terms.{⊎_elim, cases_lt, rules, ◌≡◌, ℕ, zero, suc, ◌+◌, ◌<◌, ◌≤◌, true, false, List, [], ◌∷◌, ◌++◌, length, take, drop, Some, ap, length-append, length-set, length-take, length-drop, get_or-set_same, arith, sym, subst, common_steps, slice_get, AllByRecursion, cases_Bool, take-append-le, take-take, take-set, length-insert, get_or-insert_below, get_or-insert_at, sum_by_more, Key, Queued, is_before, IsBefore, IsRising, cushion, key_laws, all_at, flattened, block_at, halved, AreFilled, AreBegun, IsSpot, starts_before, all_weaker, all_front, all_back}
 use Rattle.cq_urgency.proofs.Flattened.{length-flattened}
-use Rattle.cq_urgency.proofs.Halving.{all_weaker, cushion_all, cushion_none, cushion_le, cushion-append}
+use Rattle.cq_urgency.proofs.Halving.{cushion_all, cushion_none, cushion_le, cushion-append}
 
 -- ## What holds of joined lists
-
-all_parts : (P : Queued → Type 0) (xs ys : List Queued) → AllByRecursion P (xs ++ ys) →
-    AllByRecursion P xs × AllByRecursion P ys
-all_parts P [] ys a = (tt, a)
-all_parts P (x ∷ xs) ys a = let parts = all_parts P xs ys a.1 in ((a.0, parts.0), parts.1)
 
 rising_parts : (xs ys : List Queued) → IsRising (xs ++ ys) →
     IsRising xs × IsRising ys × AllByRecursion (λ x. AllByRecursion (IsBefore x) ys) xs
 rising_parts [] ys r = (tt, r, tt)
 rising_parts (x ∷ xs) ys r =
-    let here = all_parts (IsBefore x) xs ys r.0 in
-    let rest = rising_parts xs ys r.1 in ((here.0, rest.0), rest.1, (here.1, rest.2))
+    let rest = rising_parts xs ys r.1 in
+    ((all_front (IsBefore x) xs ys r.0, rest.0), rest.1, (all_back (IsBefore x) xs ys r.0, rest.2))
 
 pub rising_block : (blocks : List (List Queued)) (i : ℕ) → IsRising (flattened blocks) → IsRising (block_at blocks i)
 rising_block [] i r = tt
@@ -35,7 +30,7 @@ lesser_ahead : (key : Key) (blocks : List (List Queued)) (i : ℕ) → starts_be
 lesser_ahead key [] i e x a = cc
 lesser_ahead key ([] ∷ bs) zero e x a = cc
 lesser_ahead key ((y ∷ ys) ∷ bs) zero e x a = key_laws.on x.key y.key key a.0 e
-lesser_ahead key (b ∷ bs) (suc i) e x a = lesser_ahead key bs i e x (all_parts (IsBefore x) b (flattened bs) a).1
+lesser_ahead key (b ∷ bs) (suc i) e x a = lesser_ahead key bs i e x (all_back (IsBefore x) b (flattened bs) a)
 
 -- no block is empty
 abbrev AreSome : List (List Queued) → Type 0

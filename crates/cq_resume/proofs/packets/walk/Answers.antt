@@ -1,5 +1,4 @@
-use Rattle.cq_resume.proofs.Terms.{rules, ◌<◌, ◌∙◌, refl, sym, arith, none_counted, Arrival}
-use Rattle.cq_resume.proofs.Having.{all_of_has}
+use Rattle.cq_resume.proofs.Terms.{rules, ◌<◌, ◌∙◌, refl, sym, arith, none_counted, Arrival, all_of_has}
 use Rattle.cq_resume.proofs.Walking.{comes_from, walk_counts, walk_goes_on, walk_stops}
 use Rattle.cq_resume.proofs.packets.walk.Goals as goal
 

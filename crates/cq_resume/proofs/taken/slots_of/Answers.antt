@@ -1,5 +1,4 @@
-use Rattle.cq_resume.proofs.Terms.{rules, ◌≡◌, ◌<◌, eqb, false, List, [], ◌∷◌, length, arith, Departure}
-use Rattle.cq_resume.proofs.Chained.{each_pair}
+use Rattle.cq_resume.proofs.Terms.{rules, ◌≡◌, ◌<◌, eqb, false, List, [], ◌∷◌, length, arith, Departure, each_pair}
 use Rattle.cq_resume.proofs.Cut.{IsNoLater, slots_last}
 use Rattle.cq_resume.proofs.taken.slots_of.Goals as goal
 

@@ -1,9 +1,10 @@
--- No more items than a pool has, where each item stands for one of the pool and no two stand for the same. So items
--- with different numbers below a bound are no more than the bound. And what a walk over a list keeps: items and pairs
--- of items that are looked up.
-use Rattle.cq_resume.proofs.Terms.{common_steps, rules, ◌≡◌, ◌≢◌, ℕ, zero, suc, ◌+◌, ◌<◌, ◌≤◌, ◌⊎◌, Bool, true, List, [], ◌∷◌, ◌++◌, length, map, Option, Some, refl, sym, ap, ◌∙◌, inl, inr, arith, filter, slice_get, AllByRecursion, filter_map, range_with_len, cases_eq, length-range_with_len, all_weaker, all_front}
-use Rattle.cq_resume.proofs.Chained.{EachPair}
-use Rattle.cq_resume.proofs.Having.{Has, all_from_has, all_of_has, has_right, kept_has}
+-- What holds of each two items of a list, of whatever type: by places, of joined lists, of what passes a test, of images
+-- and of what is looked up. And no more items than a pool has, where each item stands for one of the pool and no two
+-- stand for the same. So items with different numbers below a bound are no more than the bound.
+use Rattle.cq_base.proofs.Terms.{common_steps, arith, rules, Bool, List, Option, Some, [], ap, inl, inr, length, map, refl, suc, sym, true, zero, ℕ, ◌++◌, ◌+◌, ◌<◌, ◌∙◌, ◌∷◌, ◌≡◌, ◌≢◌, ◌≤◌, ◌⊎◌, cases_eq, All-from_recursion, recursion_from_All, length-range_with_len, AllPairs-cons, AllByRecursion, AllPairs, filter_map, range_with_len, filter, slice_get}
+use Rattle.cq_base.proofs.Each.{all_both, all_front, all_weaker, images_held, of_images}
+use Rattle.cq_base.proofs.Having.{all_from_has, all_of_has, has_right, kept_has}
+use Rattle.cq_base.specs.Items.{EachPair, Has}
 
 -- ## A pool
 
@@ -45,6 +46,17 @@ module _ {A B : Type 0} (R : A → B → Type 0) where
 
 -- ## Pairs
 
+pub each_pair : {X : Type 0} (R : X → X → Type 0) (xs : List X) → AllPairs R xs → EachPair R xs
+each_pair R [] pairs = tt
+each_pair R (x ∷ xs) pairs = (
+  recursion_from_All (R x) xs (λ k d inside. pairs zero (suc k) d (omega arith) (omega arith)),
+  each_pair R xs (λ i j d lt inside. pairs (suc i) (suc j) d (omega arith) (omega arith)),
+)
+
+pub all_pairs : {X : Type 0} (R : X → X → Type 0) (xs : List X) → EachPair R xs → AllPairs R xs
+all_pairs R [] pairs = λ i j d lt inside. absurd (omega arith)
+all_pairs R (x ∷ xs) pairs = grind (arith, common_steps, AllPairs-cons, All-from_recursion, all_pairs R xs pairs.1)
+
 module _ {X : Type 0} (R : X → X → Type 0) where
   pub pairs_left : (xs ys : List X) → EachPair R (xs ++ ys) → EachPair R xs
   pairs_left [] ys pairs = tt
@@ -59,6 +71,13 @@ module _ {X : Type 0} (R : X → X → Type 0) where
   pairs_cross [] ys x y pairs first second = absurd first
   pairs_cross (z ∷ zs) ys x y pairs first second =
       search (arith, rules, all_of_has (R z) (zs ++ ys) y, has_right, pairs_cross zs ys x y pairs.1)
+
+  -- of two lists, and from the first to the second
+  pub pairs_joined : (xs ys : List X) → EachPair R xs → EachPair R ys → ((x y : X) → Has xs x → Has ys y → R x y) →
+      EachPair R (xs ++ ys)
+  pairs_joined [] ys first second across = second
+  pairs_joined (x ∷ xs) ys first second across =
+      grind (arith, common_steps, all_both, all_from_has, pairs_joined xs ys first.1 second)
 
   pub pairs_with : (S : X → X → Type 0) (P : X → Type 0) → ((x y : X) → P x → P y → R x y → S x y) → (xs : List X) →
       AllByRecursion P xs → EachPair R xs → EachPair S xs
@@ -76,6 +95,17 @@ module _ {X : Type 0} (R : X → X → Type 0) where
   pairs_kept_with S p gives xs pairs = pairs_with S (λ x. p x ≡ true) gives (filter p xs)
       (all_from_has (λ x. p x ≡ true) (filter p xs) (λ y has. (kept_has p xs y has).1)) (pairs_kept p xs pairs)
 
+-- of images, and the other way
+pub pairs_mapped : {X Y : Type 0} (f : X → Y) (R : Y → Y → Type 0) (xs : List X) → EachPair (λ a b. R (f a) (f b)) xs →
+    EachPair R (map f xs)
+pairs_mapped f R [] pairs = tt
+pairs_mapped f R (x ∷ xs) pairs = (of_images f (R (f x)) xs pairs.0, pairs_mapped f R xs pairs.1)
+
+pub pairs_of_images : {X Y : Type 0} (f : X → Y) (R : Y → Y → Type 0) (xs : List X) → EachPair R (map f xs) →
+    EachPair (λ a b. R (f a) (f b)) xs
+pairs_of_images f R [] pairs = tt
+pairs_of_images f R (x ∷ xs) pairs = (images_held f (R (f x)) xs pairs.0, pairs_of_images f R xs pairs.1)
+
 -- ## Items that are looked up
 
 module _ {A B : Type 0} (f : A → Option B) where
@@ -88,6 +118,10 @@ module _ {A B : Type 0} (f : A → Option B) where
   pub looked_up : (xs : List A) (y : B) → Has (filter_map f xs) y → LookedUp xs y
   looked_up [] y has = absurd has
   looked_up (x ∷ xs) y has = grind (arith, common_steps, looked_up xs y)
+
+  pub has_looked_up : (xs : List A) (x : A) (y : B) → Has xs x → f x ≡ Some y → Has (filter_map f xs) y
+  has_looked_up [] x y has is = absurd has
+  has_looked_up (z ∷ zs) x y has is = grind (arith, common_steps, has_looked_up zs x y)
 
   pub pairs_looked_up : (R : A → A → Type 0) (S : B → B → Type 0) →
       ((x y : A) (a b : B) → R x y → f x ≡ Some a → f y ≡ Some b → S a b) → (xs : List A) → EachPair R xs →
@@ -109,10 +143,6 @@ module _ {A B : Type 0} (f : A → Option B) where
   looked_few (x ∷ xs) = grind (arith, common_steps, looked_few xs)
 
 -- ## Places
-
-pub has_there : {X : Type 0} (xs : List X) (place : ℕ) (x : X) → slice_get xs place ≡ Some x → Has xs x
-has_there [] place x is = absurd (let P : ⊥ = cc in P)
-has_there (y ∷ ys) place x is = grind (arith, common_steps, has_there ys)
 
 -- an image at a place is the image of one
 pub image_at : {A B : Type 0} (f : A → B) (xs : List A) (i : ℕ) (y : B) → slice_get (map f xs) i ≡ Some y →

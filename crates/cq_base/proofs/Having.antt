@@ -1,15 +1,9 @@
--- What a list has: an item is the first, or one of the others. What holds of each item holds of those that it has, and
--- the other way; and so it is for two.
-use Rattle.cq_resume.proofs.Terms.{common_steps, ◌≡◌, ℕ, ◌<◌, ◌⊎◌, Bool, true, List, [], ◌∷◌, ◌++◌, length, map, get_or, refl, inl, inr, arith, filter, All, AllByRecursion, All-from_recursion, recursion_from_All}
-use Rattle.cq_resume.proofs.Chained.{EachPair}
+-- What a list has, of whatever type: an item is the first, or one of the others. What holds of each item holds of those
+-- that it has, and the other way; and so it is for two. And what places, joined lists, images and tests show of it.
+use Rattle.cq_base.proofs.Terms.{common_steps, arith, Bool, List, Some, [], ap, false, get_or, inl, inr, length, map, refl, suc, sym, true, zero, ℕ, ⊎_elim, ◌++◌, ◌<◌, ◌∙◌, ◌∷◌, ◌≡◌, ◌⊎◌, cases_Bool, or_left, or_right, true≢false, All-from_recursion, recursion_from_All, AllByRecursion, list_any, All, filter, slice_get}
+use Rattle.cq_base.specs.Items.{EachPair, Has}
 
-abbrev pub Has : {X : Type 0} → List X → X → Type 0
-Has [] x = ⊥
-Has (y ∷ ys) x = (y ≡ x) ⊎ Has ys x
-
-pub has_at : {X : Type 0} (xs : List X) (k : ℕ) (d : X) → k < length xs → Has xs (get_or xs k d)
-has_at [] k d inside = absurd (omega arith)
-has_at (x ∷ xs) k d inside = grind (arith, common_steps, has_at xs)
+-- ## Each item
 
 pub all_of_has : {X : Type 0} (P : X → Type 0) (xs : List X) (x : X) → AllByRecursion P xs → Has xs x → P x
 all_of_has P [] x all has = absurd has
@@ -25,6 +19,27 @@ all_has P xs x all has = all_of_has P xs x (recursion_from_All P xs all) has
 
 pub has_all : {X : Type 0} (P : X → Type 0) (xs : List X) → ((x : X) → Has xs x → P x) → All P xs
 has_all P xs each = All-from_recursion P xs (all_from_has P xs each)
+
+pub none_had : {X : Type 0} (xs : List X) → ((x : X) → Has xs x → ⊥) → xs ≡ []
+none_had [] none = refl
+none_had (x ∷ xs) none = absurd (none x (inl refl))
+
+-- ## Places
+
+pub has_at : {X : Type 0} (xs : List X) (k : ℕ) (d : X) → k < length xs → Has xs (get_or xs k d)
+has_at [] k d inside = absurd (omega arith)
+has_at (x ∷ xs) k d inside = grind (arith, common_steps, has_at xs)
+
+pub has_there : {X : Type 0} (xs : List X) (place : ℕ) (x : X) → slice_get xs place ≡ Some x → Has xs x
+has_there [] place x is = absurd (let P : ⊥ = cc in P)
+has_there (y ∷ ys) place x is = grind (arith, common_steps, has_there ys)
+
+-- where an item stands
+pub stands_at : {X : Type 0} (xs : List X) (x : X) → Has xs x → (place : ℕ) × (slice_get xs place ≡ Some x)
+stands_at [] x has = absurd has
+stands_at (y ∷ ys) x has = ⊎_elim (λ e. (zero, ap Some e)) (λ k. let r = stands_at ys x k in (suc r.0, r.1)) has
+
+-- ## Joined lists, and images
 
 pub has_left : {X : Type 0} (xs ys : List X) (x : X) → Has xs x → Has (xs ++ ys) x
 has_left [] ys x has = absurd has
@@ -63,3 +78,18 @@ module _ {X : Type 0} (p : X → Bool) where
   pub kept_has : (xs : List X) (x : X) → Has (filter p xs) x → Has xs x × (p x ≡ true)
   kept_has [] x has = absurd has
   kept_has (y ∷ ys) x has = grind (arith, common_steps, kept_has ys x)
+
+  pub any_has : (xs : List X) (x : X) → Has xs x → p x ≡ true → list_any p xs ≡ true
+  any_has [] x has is = absurd has
+  any_has (z ∷ zs) x has is = grind (arith, common_steps, or_left, or_right, any_has zs x)
+
+  pub has_any : (xs : List X) → list_any p xs ≡ true → (x : X) × Has xs x × (p x ≡ true)
+  has_any [] holds = absurd (let clash : false ≡ true = holds in let P : ⊥ = cc in P)
+  has_any (z ∷ zs) holds = grind (arith, common_steps, cases_Bool, has_any zs)
+
+  -- one passes where all are alike, and there is one
+  pub any_alike : (t : Bool) (xs : List X) (x : X) → Has xs x → ((y : X) → Has xs y → p y ≡ t) → list_any p xs ≡ t
+  any_alike true xs x has alike = any_has xs x has (alike x has)
+  any_alike false xs x has alike = ⊎_elim (λ holds.
+      let it = has_any xs holds in absurd (true≢false (sym it.2 ∙ alike it.0 it.1))) (λ none. none)
+      (cases_Bool (list_any p xs))
