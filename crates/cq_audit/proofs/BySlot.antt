@@ -2,31 +2,18 @@
 -- first, and those of its phases are among the others.
 -- The lines of a log, phase by phase. They are in order, so where none is of an earlier phase those of this one
 -- stand at the front, in order of input, and the others are of later ones.
-use Rattle.cq_audit.proofs.Terms.{rules, ◌≡◌, ℕ, ◌+◌, ◌<◌, ◌≤◌, Bool, true, false, List, [], ◌∷◌, ◌++◌, refl, arith, suc, ◌-◌, ◌⊎◌, take, drop, ap, ⊎_elim, common_steps, AllByRecursion, filter, position_or_len, and_from, and_left, and_parts, and_right, cases_lt, cond-false, cond_both, eq-eqb, eqb-true, false_from_ne_true, le-ltb, lt-ltb, ltb-true, ne_eqb, cases_Bool, append-nil, append_cancel_left, filter-append, Transfer, AreInOrder, IsTransferBefore, IsOf, AllBehind, NoneBefore, in_phase, is_at, AreParted, FirstIsLeast, before_slot, all_weaker, not, first_here, first_later, all_front}
-
-pub all_give : {X : Type 0} (P Q S : X → Type 0) → ((x : X) → P x → Q x → S x) → (xs : List X) →
-    AllByRecursion P xs → AllByRecursion Q xs → AllByRecursion S xs
-all_give P Q S give [] p q = tt
-all_give P Q S give (x ∷ xs) p q = (give x p.0 q.0, all_give P Q S give xs p.1 q.1)
+use Rattle.cq_audit.proofs.Terms.{rules, ◌≡◌, ℕ, ◌+◌, ◌<◌, ◌≤◌, Bool, true, false, List, [], ◌∷◌, ◌++◌, refl, arith, suc, ◌-◌, ◌⊎◌, take, drop, ap, ⊎_elim, common_steps, AllByRecursion, filter, position_or_len, and_from, and_left, and_parts, and_right, cases_lt, cond-false, cond_both, eq-eqb, eqb-true, false_from_ne_true, le-ltb, lt-ltb, ltb-true, ne_eqb, cases_Bool, append-nil, append_cancel_left, filter-append, Transfer, AreInOrder, IsTransferBefore, IsOf, AllBehind, NoneBefore, in_phase, is_at, AreParted, FirstIsLeast, before_slot, all_weaker, not, first_here, first_later, all_front, all_give, filter_all, filter_none}
 
 -- ## What is kept of lines by a test
 
 module _ (keep : Transfer → Bool) where
-  keeps_all : (xs : List Transfer) → AllByRecursion (λ t. keep t ≡ true) xs → filter keep xs ≡ xs
-  keeps_all [] all = refl
-  keeps_all (x ∷ xs) all = grind (arith, common_steps, cond_both, keeps_all xs all.1)
-
-  keeps_none : (xs : List Transfer) → AllByRecursion (λ t. keep t ≡ false) xs → filter keep xs ≡ []
-  keeps_none [] all = refl
-  keeps_none (x ∷ xs) all = grind (arith, common_steps, cond_both, keeps_none xs all.1)
-
   keeps_first : (xs ys : List Transfer) → AllByRecursion (λ t. keep t ≡ true) xs →
       AllByRecursion (λ t. keep t ≡ false) ys → filter keep (xs ++ ys) ≡ xs
-  keeps_first xs ys all none = grind (arith, common_steps, filter-append, keeps_all, keeps_none, append-nil)
+  keeps_first xs ys all none = grind (arith, common_steps, filter-append, filter_all, filter_none, append-nil)
 
   keeps_later : (xs ys : List Transfer) → AllByRecursion (λ t. keep t ≡ false) xs →
       filter keep (xs ++ ys) ≡ filter keep ys
-  keeps_later xs ys none = grind (arith, common_steps, filter-append, keeps_none)
+  keeps_later xs ys none = grind (arith, common_steps, filter-append, filter_none)
 
   -- no test that all these pass takes a line from them
   keeps_of_kept : (wider : Transfer → Bool) → ((t : Transfer) → keep t ≡ true → wider t ≡ true) →
@@ -39,7 +26,7 @@ module _ (keep : Transfer → Bool) where
 
 module _ (slot : ℕ) where
   pub before_all : (xs : List Transfer) → AllByRecursion (λ t. t.slot < slot) xs → before_slot slot xs ≡ xs
-  before_all xs all = grind (arith, common_steps, keeps_all, all_weaker, lt-ltb)
+  before_all xs all = grind (arith, common_steps, filter_all, all_weaker, lt-ltb)
 
   pub before_is : (xs ys : List Transfer) → AllByRecursion (λ t. t.slot < slot) xs →
       AllByRecursion (λ t. slot ≤ t.slot) ys → before_slot slot (xs ++ ys) ≡ xs
@@ -72,7 +59,7 @@ module _ (slot : ℕ) where
       arith,
       common_steps,
       filter-append,
-      keeps_none,
+      filter_none,
       all_weaker,
       and_left,
       ne_eqb,
@@ -98,7 +85,7 @@ module _ (slot : ℕ) where
       AllByRecursion (λ t. (t.slot ≡ slot) × (t.phase ≡ 2)) ys →
       (in_phase slot 1 (xs ++ ys) ≡ xs) × (in_phase slot 2 (xs ++ ys) ≡ ys)
   of_two xs ys first second =
-      search (arith, rules, keeps_first, none_other, second_behind, keeps_all, all_weaker, and_from, eq-eqb)
+      search (arith, rules, keeps_first, none_other, second_behind, filter_all, all_weaker, and_from, eq-eqb)
 
 -- ## Lines in order
 

@@ -5,8 +5,7 @@
 -- Where no line of a phase is wrong, the transfers of the pairs that they tell are the lines. What is noted of an
 -- input is its line: its partner is the output that the line names, and its first cell for that output is the one.
 -- And the lines of all inputs, in order, are the lines.
-use Rattle.cq_audit.proofs.Terms.{common_steps, ◌≡◌, ◌≢◌, ℕ, zero, suc, ◌+◌, ◌<◌, ◌≤◌, ◌⊎◌, List, [], ◌∷◌, length, Option, None, Some, refl, ap, ◌∙◌, ⊎_elim, arith, rules, inl, inr, sym, AllByRecursion, filter_map, range_with_len, option_map, length-map, get_or_past, cases_eq, cond_both, eqb-true, eq-eqb, cases_lt, Queued, Transfer, first_for, Waiting, cells_of, list_of, orders_of, HasCellFor, output_order, noted, transfers_of, Orders, ports, IsOffered, place_of, position_of, Partners, partner_of, HasBetterInput, HasBetterOutput, IsMatching, IsStable, partner_place, AreOfPhase, AreRight, IsBlocking, IsStableTold, RiseByInput, line_of_input, told, first_id, output_told, all_weaker, get_or-map-range_with_len, length-map-range_with_len, is_output_order, outputs_at, CellId, sender}
-use Rattle.cq_audit.proofs.BySlot.{all_give}
+use Rattle.cq_audit.proofs.Terms.{common_steps, ◌≡◌, ◌≢◌, ℕ, zero, suc, ◌+◌, ◌<◌, ◌≤◌, ◌⊎◌, List, [], ◌∷◌, length, Option, None, Some, refl, ap, ◌∙◌, ⊎_elim, arith, rules, inl, inr, sym, AllByRecursion, filter_map, range_with_len, option_map, length-map, get_or_past, cases_eq, cond_both, eqb-true, eq-eqb, cases_lt, Queued, Transfer, first_for, Waiting, cells_of, list_of, orders_of, HasCellFor, output_order, noted, transfers_of, Orders, ports, IsOffered, place_of, position_of, Partners, partner_of, HasBetterInput, HasBetterOutput, IsMatching, IsStable, partner_place, AreOfPhase, AreRight, IsBlocking, IsStableTold, RiseByInput, line_of_input, told, first_id, output_told, all_weaker, get_or-map-range_with_len, length-map-range_with_len, is_output_order, outputs_at, CellId, sender, all_give}
 use Rattle.cq_audit.proofs.TellingLines.{line_holds, line_is_of, no_line}
 
 -- ## Settled

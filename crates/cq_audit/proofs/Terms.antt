@@ -48,7 +48,7 @@ pub use Rattle.cq_traffic.proofs.ForPorts.{arrivals_for, one_found, slots_fit}
 pub use Rattle.cq_traffic.proofs.FromInputs.{arrives_found, come_from, first_more, from_here, from_last, no_more_from, one_if, some_one}
 pub use Rattle.cq_traffic.proofs.Quiet.{quiet_of, quiet_slots}
 pub use Rattle.cq_audit.specs.Terms.{AreInOrder, Cell, Comes, FirstIsLeast, IsLog, IsLogExact, IsLogFault, IsOf, IsReady, IsStill, IsStillUntil, IsTransfer, IsTransferBefore, Machine, RunEnds, Setup, Transfer, numbers_behind}
-pub use Rattle.cq_base.proofs.Each.{all_both, all_front, all_weaker, all_back}
+pub use Rattle.cq_base.proofs.Each.{all_both, all_front, all_weaker, all_back, all_give, filter_all, filter_none}
 pub use Rattle.cq_base.specs.declared.cell.CellId.{CellId}
 pub use Rattle.cq_scfq.specs.Discipline.{machine_from}
 pub use Rattle.cq_ideal.proofs.{FlowFound.all_found, LimitedParts.limited_parts, LimitedRuns.run_fault, Resting.length-idle, Sending.length-told, Slot.by_marks}
