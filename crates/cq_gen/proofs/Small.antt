@@ -1,8 +1,7 @@
 -- Made packets are small: each fits a record, and all records of an input fit a file. So the file that is written is
 -- read again as the same packets, and no fault of a file can come.
-use Rattle.cq_gen.proofs.Terms.{rules, ◌≡◌, ℕ, ◌*◌, ◌<◌, ◌≤◌, ◌^◌, List, [], ◌∷◌, length, map, Ok, Err, IfSome, refl, ap, sym, subst, ◌∙◌, arith, length-append, common_steps, length-map, length-map-range_with_len, AllByRecursion, flat_map, Captured, IsWritable, read_again, record_of, written, frame_of, packet_of, packets_to, to_write, fault_of, packets_of, PcapRefusal, OutPacket, spelt_is_read, written_is_spelt}
+use Rattle.cq_gen.proofs.Terms.{rules, ◌≡◌, ℕ, ◌*◌, ◌<◌, ◌≤◌, ◌^◌, List, [], ◌∷◌, length, map, Ok, Err, IfSome, refl, ap, sym, subst, ◌∙◌, arith, length-append, common_steps, length-map, length-map-range_with_len, AllByRecursion, flat_map, Captured, IsWritable, read_again, record_of, written, frame_of, packet_of, packets_to, to_write, fault_of, packets_of, PcapRefusal, OutPacket, spelt_is_read, written_is_spelt, all_made}
 use Rattle.cq_pcap.specs.declared.read.PcapRefusal.TheVariants as refusal
-use Rattle.cq_gen.proofs.Counted.{all_by_counted}
 
 -- a packet of 60 bytes, with a stamp below 2^32 seconds
 record IsSmall (p : Captured) : Type 0 where
@@ -17,7 +16,7 @@ packet_small ports slot input word early = record { stamp = omega arith; origina
 packets_small : (words : List ℕ) (ports slots input : ℕ) → slots ≤ 20000 →
     AllByRecursion IsSmall (packets_to words ports slots input)
 unfolding packets_to
-packets_small words ports slots input few = grind (arith, common_steps, all_by_counted IsSmall, packet_small ports)
+packets_small words ports slots input few = grind (arith, common_steps, all_made IsSmall, packet_small ports)
 
 pub length-packets_to : (words : List ℕ) (ports slots input : ℕ) → length (packets_to words ports slots input) ≡ slots
 unfolding packets_to

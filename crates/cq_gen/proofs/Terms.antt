@@ -12,7 +12,7 @@ unfoldable pub use Rattle.cq_gen.specs.Packets.{frame_of, packet_of, packets_to,
 pub use Rattle.cq_gen.specs.Tables.{soak_address, soak_class, soak_kind, soak_port, soak_rule, soak_setup}
 unfoldable pub use Rattle.cq_gen.specs.Tables.{soak_tables}
 unfoldable pub use Rattle.cq_route.specs.Plain.{plain_tables}
-pub use Rattle.cq_base.proofs.Each.{counted_more}
+pub use Rattle.cq_base.proofs.Each.{counted_more, all_made}
 pub use Rattle.cq_pcap.proofs.{SpeltIsRead.spelt_is_read, Writing.written_with, WrittenIsSpelt.written_is_spelt}
 pub use Rattle.cq_pcap.specs.{Faults.fault_of, Reading.packets_of, declared.read.PcapRefusal.PcapRefusal, declared.write.OutPacket.OutPacket}
 pub use Rattle.cq_frame.specs.declared.frame.FrameParts.{FrameParts}

@@ -2,7 +2,7 @@
 -- written, so over what is left the same tables and captures are judged; the trace and the log stand there as they were
 -- written. The run with input-best matchings is a stable one, and its log is read as what it is spelt from. A yes that
 -- holds is never denied.
-use Rattle.cq_run.proofs.Terms.{rules, ◌≡◌, ◌≢◌, ◌≤◌, ◌^◌, ◌+◌, ◌∙◌, ◌++◌, ℕ, List, [], ◌∷◌, length, Option, None, Some, refl, ap, arith, sym, ◌<◌, map, IfSome, IsOkAnd, Result, Ok, IsOk, length-append, get, AllByRecursion, range_with_len, Arrival, log_of, trace_of, Departure, Transfer, short_is, traffic_is, all_flat, arrivals, arrivals_at, arrivals_of, cell_of, packets_of, start, cells, IsTraffic, IsRecorded, all_weaker, limited_not_more, LimitedRecord, slots_in, Captured, all_both, all_back, classes_of, ports_of, Tables, machines_of, openings_of, as_many_slots, sends_as_ideal, stable_limited_whole, departures_in_run, slots_ran, IsRefusalOf, ideal_departures, ran_ideal, Contents, files_in, read_or_refused, Audit, Denial, Refusal, Aim, Auditing, Denies, Meets, KeepsUp, audited, captures_out, crossed, Reader, ◌>>=◌, captures_in, found_or_missing, ideally_sent, judged, read_or_refused_for, sent_or_tag, tables_in, text_in, all_replaced, PortRow, common_steps, whole_limited_run, empty_limited, RunRefusal, IsAuditHalted, IsAuditPassed, halt_of, length-map-range_with_len, audit_is_exact, stable_log, FitsLine, trace_is_exact, IsYes, opening_fabric, IsNo, AuditRefusal, transfers_of_run, empty_list, DiffersFirst, all_stable, stable_sends, stable_slack, all_by_counted, came_more, few_by, rows_are, length_packet, row_of}
+use Rattle.cq_run.proofs.Terms.{rules, ◌≡◌, ◌≢◌, ◌≤◌, ◌^◌, ◌+◌, ◌∙◌, ◌++◌, ℕ, List, [], ◌∷◌, length, Option, None, Some, refl, ap, arith, sym, ◌<◌, map, IfSome, IsOkAnd, Result, Ok, IsOk, length-append, get, AllByRecursion, range_with_len, Arrival, log_of, trace_of, Departure, Transfer, short_is, traffic_is, all_flat, arrivals, arrivals_at, arrivals_of, cell_of, packets_of, start, cells, IsTraffic, IsRecorded, all_weaker, limited_not_more, LimitedRecord, slots_in, Captured, all_both, all_back, classes_of, ports_of, Tables, machines_of, openings_of, as_many_slots, sends_as_ideal, stable_limited_whole, departures_in_run, slots_ran, IsRefusalOf, ideal_departures, ran_ideal, Contents, files_in, read_or_refused, Audit, Denial, Refusal, Aim, Auditing, Denies, Meets, KeepsUp, audited, captures_out, crossed, Reader, ◌>>=◌, captures_in, found_or_missing, ideally_sent, judged, read_or_refused_for, sent_or_tag, tables_in, text_in, all_replaced, PortRow, common_steps, whole_limited_run, empty_limited, RunRefusal, IsAuditHalted, IsAuditPassed, halt_of, length-map-range_with_len, audit_is_exact, stable_log, FitsLine, trace_is_exact, IsYes, opening_fabric, IsNo, AuditRefusal, transfers_of_run, empty_list, DiffersFirst, all_stable, stable_sends, stable_slack, came_more, few_by, rows_are, length_packet, row_of, all_made}
 use Rattle.cq_audit.specs.declared.refusal.AuditRefusal.TheVariants as of_log
 use Rattle.cq_tables.specs.Check.{Refused}
 use Rattle.cq_run.specs.declared.denial.Denial.TheVariants as why
@@ -24,7 +24,7 @@ module _ (t : Tables) (captures : List (List Captured)) (some : 1 ≤ t.cell_byt
   pieces_fit : (input k : ℕ) → k < 2 ^ 32 → (n : ℕ) → n ≤ 2 ^ 32 →
       AllByRecursion FitsLine (map (arrival_of input k) (range_with_len 0 n))
   unfolding cell_of
-  pieces_fit input k small n few = all_by_counted FitsLine (arrival_of input k) 0 n (λ i l. (small, omega arith))
+  pieces_fit input k small n few = all_made FitsLine (arrival_of input k) 0 n (λ i _ l. (small, omega arith))
 
   packet_fits : (input k : ℕ) → IsRecorded (packets_of captures input) → k < length (packets_of captures input) →
       AllByRecursion FitsLine (arrivals_of t captures input k)

@@ -58,7 +58,7 @@ pub use Rattle.cq_run.specs.{declared.denial.Denial.Denial, declared.reading.Giv
 pub use Rattle.cq_run.specs.declared.refusal.Refusal.TheVariants.{Audit as Audited, Capture, Configuration, Missing, State, Words}
 pub use Rattle.cq_run.specs.declared.stop.Halt.TheVariants.{NoMemory, Refused, Unread}
 pub use Rattle.cq_run.specs.Terms.{IsAuditHalted, IsAuditPassed, IsCut, IsCutAtFile, IsDone, IsJudged, Plan, Reader, SameReader, Spells, StatusCauses, all_replaced, decimal, log_of, report_with, soak_captures, soak_tables, taken, trace_of}
-pub use Rattle.cq_base.proofs.Each.{all_back, all_both, all_front, all_weaker}
+pub use Rattle.cq_base.proofs.Each.{all_back, all_both, all_front, all_weaker, all_made}
 pub use Rattle.cq_base.specs.{declared.cell.Cell.Cell, declared.cell.Queued.Queued, declared.status.Status.Status}
 pub use Rattle.cq_space.proofs.Replaced.{get_same}
 pub use Rattle.cq_space.specs.declared.whole.ReadRefusal.{ReadRefusal}
@@ -82,5 +82,4 @@ pub use Rattle.cq_base.proofs.Having.{has_left, has_right, pair_of_has}
 pub use Rattle.cq_resume.specs.{Parts.IsParted, Reading.IsRead, Reading.IsRefusal, Reading.state_of, Resumed.IsResumed, Resumed.Kept, Switch.Switch, Switch.switch_of, declared.refusal.StateRefusal.StateRefusal}
 pub use Rattle.cq_simulate.proofs.{Chosen.parted_best, Chosen.parted_slack, Chosen.resumed_best, Chosen.resumed_slack, Departed.left_in_packets, EachPacket.each_packet_once, ResumedCounts.resumed_counts, ResumedWhole.resumed_whole, StableRuns.all_stable, StableRuns.stable_sends, StableRuns.stable_slack, Tallies.one_is}
 pub use Rattle.cq_simulate.specs.{PartedRuns.CanBeTakenUp, PartedRuns.IsPartFault, PartedRuns.IsResumeFault, PartedRuns.kept_of, declared.packing.Packing.Packing}
-pub use Rattle.cq_gen.proofs.Counted.{all_by_counted}
 pub use Rattle.cq_words.specs.{Numbers.number_from, Streamed.as_run, Streamed.run_of, Streamed.streamed}
