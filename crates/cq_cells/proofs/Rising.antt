@@ -1,26 +1,10 @@
 -- The cells of an input arrive one after another: those of a packet in consecutive slots, and those of the next
 -- packet after them. Cells of two inputs have nothing to do with each other. So each arrival of the list is later
 -- than those before it at its input.
-use Rattle.cq_cells.proofs.Terms.{common_steps, rules, ◌≡◌, ℕ, zero, suc, ◌+◌, ◌*◌, ◌^◌, ◌<◌, ◌≤◌, List, [], ◌∷◌, ◌++◌, length, map, filter, flat_map, refl, arith, AllByRecursion, AllPairs, range_with_len, length-append, All-from_recursion, get_or-map-range_with_len, length-map-range_with_len, AllPairs-cons, Arrival, end_of, enough, Cell, Captured, Tables, AreTables, classes_of, ports_of, route_output, route_class, packets_of, cells, start, cell_of, arrivals_of, arrivals_at, arrivals, AreOwn, all_of, flat_map-map, IsInRange, IsLater, IsTraffic, IsShort, IsRecorded, is_from, all_both}
+use Rattle.cq_cells.proofs.Terms.{common_steps, rules, ◌≡◌, ℕ, zero, suc, ◌+◌, ◌*◌, ◌^◌, ◌<◌, ◌≤◌, List, [], ◌∷◌, ◌++◌, length, map, filter, flat_map, refl, arith, AllByRecursion, range_with_len, length-append, get_or-map-range_with_len, length-map-range_with_len, Arrival, end_of, enough, Cell, Captured, Tables, AreTables, classes_of, ports_of, route_output, route_class, packets_of, cells, start, cell_of, arrivals_of, arrivals_at, arrivals, AreOwn, all_of, flat_map-map, IsInRange, IsLater, IsTraffic, IsShort, IsRecorded, is_from, all_flat, all_made, all_weaker, all_of_has, pairs_joined, all_pairs, EachPair}
 use Rattle.cq_cells.proofs.Looked.{piece}
 use Rattle.cq_cells.proofs.Owned.{AllFrom, counted, end_of-append}
 use Rattle.cq_cells.proofs.Packets.{few_by, early_by, ends_before}
-
--- what holds for each number holds of all
-pub all_flat : (P : Arrival → Type 0) (f : ℕ → List Arrival) (a n : ℕ) →
-    ((k : ℕ) → a ≤ k → k < a + n → AllByRecursion P (f k)) → AllByRecursion P (flat_map f (range_with_len a n))
-all_flat P f a zero h = tt
-all_flat P f a (suc n) h = grind (arith, common_steps, all_both, flat_map, all_flat P f (a + 1) n)
-
-pub all_pieces : (P : Arrival → Type 0) (s : ℕ) (f : ℕ → Cell) (a n : ℕ) →
-    ((i : ℕ) → a ≤ i → i < a + n → P (piece s f i)) → AllByRecursion P (map (piece s f) (range_with_len a n))
-all_pieces P s f a zero h = tt
-all_pieces P s f a (suc n) h = grind (arith, common_steps, all_pieces P s f (a + 1) n)
-
-pub all_each : (P Q : Arrival → Type 0) (xs : List Arrival) → ((a : Arrival) → P a → Q a) → AllByRecursion P xs →
-    AllByRecursion Q xs
-all_each P Q [] h a = tt
-all_each P Q (x ∷ xs) h a = (h x a.0, all_each P Q xs h a.1)
 
 -- the slots rise, from this one or a later one on
 abbrev Rises : ℕ → List Arrival → Type 0
@@ -37,45 +21,36 @@ rises_pieces : (s : ℕ) (f : ℕ → Cell) (i n : ℕ) (rest : List Arrival) �
 rises_pieces s f i zero rest r = rises_from rest (s + i) (s + (i + 0)) (omega arith) r
 rises_pieces s f i (suc n) rest r = grind (arith, common_steps, rises_from, rises_pieces s f (i + 1) n rest)
 
--- each is later than those before it
-abbrev EachLater : List Arrival → Type 0
-EachLater [] = Unit {0}
-EachLater (a ∷ came) = AllByRecursion (IsLater a) came × EachLater came
-
 later_all : (a : Arrival) (came : List Arrival) (slot : ℕ) → a.slot < slot → Rises slot came →
     AllByRecursion (IsLater a) came
 later_all a [] slot h r = tt
 later_all a (b ∷ came) slot h r = grind (arith, common_steps, later_all a came (b.slot + 1))
 
-later_rising : (came : List Arrival) (slot : ℕ) → Rises slot came → EachLater came
+later_rising : (came : List Arrival) (slot : ℕ) → Rises slot came → EachPair IsLater came
 later_rising [] slot r = tt
 later_rising (a ∷ came) slot r = (later_all a came (a.slot + 1) (omega arith) r.1, later_rising came (a.slot + 1) r.1)
 
 -- the arrivals of other inputs follow
-later_append : (i : ℕ) (xs ys : List Arrival) → EachLater xs → EachLater ys → AllFrom i xs →
-    AllByRecursion (λ (b : Arrival). i < b.cell.id.input) ys → EachLater (xs ++ ys)
-later_append i [] ys l m own others = m
-later_append i (x ∷ xs) ys l m own others =
-    grind (arith, common_steps, all_both, all_each, later_append i xs ys l.1 m own.1 others)
-
-pairs_later : (came : List Arrival) → EachLater came → AllPairs IsLater came
-pairs_later [] l = λ i j d b h. absurd (omega arith)
-pairs_later (a ∷ came) l = AllPairs-cons IsLater a came (All-from_recursion (IsLater a) came l.0) (pairs_later came l.1)
+later_append : (i : ℕ) (xs ys : List Arrival) → EachPair IsLater xs → EachPair IsLater ys → AllFrom i xs →
+    AllByRecursion (λ (b : Arrival). i < b.cell.id.input) ys → EachPair IsLater (xs ++ ys)
+later_append i xs ys l m own others = pairs_joined IsLater xs ys l m (λ x y one two same.
+    let here : x.cell.id.input ≡ i = all_of_has _ xs x own one in
+    let there : i < y.cell.id.input = all_of_has _ ys y others two in absurd (omega arith))
 
 module _ (t : Tables) (captures : List (List Captured)) where
   -- the arrivals of an input come to it
   pub own_input : (input : ℕ) → AllFrom input (arrivals_at t captures input)
   unfolding arrivals_at cell_of
-  own_input input = search (rules, all_flat, all_pieces)
+  own_input input = search (rules, all_flat, all_made)
 
   -- in range
   input_in_range : (input : ℕ) → AreTables t → input < ports_of t.setup →
       AllByRecursion (IsInRange (ports_of t.setup) (classes_of t.setup)) (arrivals_at t captures input)
   unfolding arrivals_at cell_of
   input_in_range input a inside = all_flat (IsInRange (ports_of t.setup) (classes_of t.setup))
-      (arrivals_of t captures input) 0 (length (packets_of captures input)) (λ k b h. all_pieces
-      (IsInRange (ports_of t.setup) (classes_of t.setup)) (start t captures input k) (cell_of t captures input k)
-      0 (cells t captures input k) (λ i low high. search (arith, rules, route_output, route_class)))
+      (arrivals_of t captures input) 0 (length (packets_of captures input)) (λ k b h. all_made _
+      (piece (start t captures input k) (cell_of t captures input k)) 0 (cells t captures input k)
+      (λ i low high. search (arith, rules, route_output, route_class)))
 
   packets_rise : (input k n : ℕ) →
       Rises (start t captures input k) (flat_map (arrivals_of t captures input) (range_with_len k n))
@@ -89,14 +64,14 @@ module _ (t : Tables) (captures : List (List Captured)) where
   inputs_after : (i a n : ℕ) → i < a →
       AllByRecursion (λ (b : Arrival). i < b.cell.id.input) (flat_map (arrivals_at t captures) (range_with_len a n))
   inputs_after i a n h = all_flat (λ (b : Arrival). i < b.cell.id.input) (arrivals_at t captures) a n
-      (λ k f e. search (arith, rules, all_each, own_input))
+      (λ k f e. search (arith, rules, all_weaker, own_input))
 
-  line_later : (input : ℕ) → EachLater (arrivals_at t captures input)
+  line_later : (input : ℕ) → EachPair IsLater (arrivals_at t captures input)
   unfolding arrivals_at
   line_later input =
       later_rising _ (start t captures input 0) (packets_rise input 0 (length (packets_of captures input)))
 
-  lines_later : (a n : ℕ) → EachLater (flat_map (arrivals_at t captures) (range_with_len a n))
+  lines_later : (a n : ℕ) → EachPair IsLater (flat_map (arrivals_at t captures) (range_with_len a n))
   lines_later a zero = tt
   lines_later a (suc n) = later_append a (arrivals_at t captures a)
       (flat_map (arrivals_at t captures) (range_with_len (a + 1) n)) (line_later a)
@@ -109,7 +84,7 @@ module _ (t : Tables) (captures : List (List Captured)) where
     in_range =
         all_flat (IsInRange (ports_of t.setup) (classes_of t.setup)) (arrivals_at t captures) 0 (length captures)
         (λ k b h. input_in_range k a (omega arith));
-    one_by_one = pairs_later _ (lines_later 0 (length captures));
+    one_by_one = all_pairs IsLater _ (lines_later 0 (length captures));
   }
 
   -- a line is short

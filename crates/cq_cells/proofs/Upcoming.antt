@@ -1,10 +1,9 @@
 -- The next slot with an arrival. At one input the packets that have arrived whole before a slot stand first. Of the
 -- others the first one begins first, and its cells come one a slot. So the slot itself has a cell where that packet
 -- has begun, and else the slot in which it begins is the next one. Of several inputs the earliest counts.
-use Rattle.cq_cells.proofs.Terms.{common_steps, rules, ◌≡◌, ℕ, zero, suc, ◌+◌, ◌-◌, ◌<◌, ◌≤◌, max, leb, Bool, true, false, List, [], ◌∷◌, ◌++◌, length, map, flat_map, slice_index_or, Option, Some, None, inl, inr, arith, AllByRecursion, range_with_len, IsPartitionPoint, IsPartitionedBy, cases_eq, cases_lt, get_or_default, Arrival, Cell, Row, AreRows, IsEnded, line_arrivals, row_arrivals, row_at, row_cell, ArrivesIn, IsFirstFrom, IsNextArrival, earlier, all_both}
+use Rattle.cq_cells.proofs.Terms.{common_steps, rules, ◌≡◌, ℕ, zero, suc, ◌+◌, ◌-◌, ◌<◌, ◌≤◌, max, leb, Bool, true, false, List, [], ◌∷◌, ◌++◌, length, map, flat_map, slice_index_or, Option, Some, None, inl, inr, arith, AllByRecursion, range_with_len, IsPartitionPoint, IsPartitionedBy, cases_eq, cases_lt, get_or_default, Arrival, Cell, Row, AreRows, IsEnded, line_arrivals, row_arrivals, row_at, row_cell, ArrivesIn, IsFirstFrom, IsNextArrival, earlier, all_both, all_weaker, all_made, all_flat}
 use Rattle.cq_cells.proofs.Looked.{no_row, piece}
 use Rattle.cq_cells.proofs.Pieces.{cells_above}
-use Rattle.cq_cells.proofs.Rising.{all_each, all_flat, all_pieces}
 
 -- ## Which packets have arrived whole
 
@@ -57,8 +56,8 @@ module _ (input cell_bytes : ℕ) (rows : List Row) (from n : ℕ) (ended : IsEn
   unfolding line_arrivals
   line_done all =
       all_flat (λ (a : Arrival). a.slot < from) (λ (k : ℕ). row_arrivals input cell_bytes k (row_at rows k)) 0
-      (length rows) (λ k low high. all_pieces (λ (a : Arrival). a.slot < from) (row_at rows k).start
-      (row_cell input cell_bytes k (row_at rows k)) 0 (row_at rows k).cells (λ i b e. omega arith))
+      (length rows) (λ k low high. all_made (λ (a : Arrival). a.slot < from) (piece (row_at rows k).start
+      (row_cell input cell_bytes k (row_at rows k))) 0 (row_at rows k).cells (λ i b e. omega arith))
 
   pub line_next : (slot : ℕ) → AreRows cell_bytes rows → n < length rows → slot ≡ max (row_at rows n).start from →
       IsFirstFrom (line_arrivals input cell_bytes rows) from slot
@@ -76,8 +75,8 @@ module _ (input cell_bytes : ℕ) (rows : List Row) (from n : ℕ) (ended : IsEn
         arrives = arrives_flat slot cells 0 (length rows) n (omega arith) (omega arith)
             (search (arith, rules, piece_of_last));
         none_before = all_flat P cells 0 (length rows) (λ k low high.
-            all_pieces P (row_at rows k).start (row_cell input cell_bytes k (row_at rows k)) 0 (row_at rows k).cells
-            (λ i b e. later k i inside is last are (omega arith) (omega arith)));
+            all_made P (piece (row_at rows k).start (row_cell input cell_bytes k (row_at rows k))) 0
+            (row_at rows k).cells (λ i b e. later k i inside is last are (omega arith) (omega arith)));
       }
     where
       later : (k i : ℕ) → n < length rows → slot ≡ max (row_at rows n).start from →
@@ -91,7 +90,7 @@ pub next_of_both : (from : ℕ) (xs ys : List Arrival) (s t : Option ℕ) → Is
     IsNextArrival ys from t →
     IsNextArrival (xs ++ ys) from (earlier s t)
 next_of_both from xs ys None None first second = search (arith, rules, all_both)
-next_of_both from xs ys None (Some t) first second = search (arith, rules, arrives_second, all_both, all_each)
-next_of_both from xs ys (Some s) None first second = search (arith, rules, arrives_first, all_both, all_each)
+next_of_both from xs ys None (Some t) first second = search (arith, rules, arrives_second, all_both, all_weaker)
+next_of_both from xs ys (Some s) None first second = search (arith, rules, arrives_first, all_both, all_weaker)
 next_of_both from xs ys (Some s) (Some t) first second =
-    search (arith, rules, cases_lt, arrives_second, arrives_first, all_both, all_each)
+    search (arith, rules, cases_lt, arrives_second, arrives_first, all_both, all_weaker)

@@ -15,7 +15,7 @@ pub use Rattle.cq_tables.specs.Check.{at, unless}
 unfoldable pub use Rattle.cq_tables.specs.Check.{first}
 pub use Rattle.cq_tables.specs.Document.{Named, apart_from, checks_in, clash, file_check, files_in, files_of, names_of, read_at, read_of, tables_of, top_of, written_at}
 unfoldable pub use Rattle.cq_tables.specs.Document.{read_or_refused}
-pub use Rattle.cq_cells.proofs.Rising.{all_flat, short_is, traffic_is}
+pub use Rattle.cq_cells.proofs.Rising.{short_is, traffic_is}
 pub use Rattle.cq_cells.specs.Schedule.{arrivals_of, first_stamp, packet_at, packets_of, start}
 unfoldable pub use Rattle.cq_base.specs.Pieces.{cells_of}
 unfoldable pub use Rattle.cq_cells.specs.Schedule.{arrivals, arrivals_at, cell_of, cells}
@@ -58,7 +58,7 @@ pub use Rattle.cq_run.specs.{declared.denial.Denial.Denial, declared.reading.Giv
 pub use Rattle.cq_run.specs.declared.refusal.Refusal.TheVariants.{Audit as Audited, Capture, Configuration, Missing, State, Words}
 pub use Rattle.cq_run.specs.declared.stop.Halt.TheVariants.{NoMemory, Refused, Unread}
 pub use Rattle.cq_run.specs.Terms.{IsAuditHalted, IsAuditPassed, IsCut, IsCutAtFile, IsDone, IsJudged, Plan, Reader, SameReader, Spells, StatusCauses, all_replaced, decimal, log_of, report_with, soak_captures, soak_tables, taken, trace_of}
-pub use Rattle.cq_base.proofs.Each.{all_back, all_both, all_front, all_weaker, all_made}
+pub use Rattle.cq_base.proofs.Each.{all_back, all_both, all_front, all_weaker, all_flat, all_made}
 pub use Rattle.cq_base.specs.{declared.cell.Cell.Cell, declared.cell.Queued.Queued, declared.status.Status.Status}
 pub use Rattle.cq_space.proofs.Replaced.{get_same}
 pub use Rattle.cq_space.specs.declared.whole.ReadRefusal.{ReadRefusal}

@@ -1,12 +1,11 @@
 -- Each cell that departs has arrived. Of each input and class the cells of the packets that are taken in leave an
 -- output as they came. So what holds of all cells that arrive holds of each that departs: it is of a packet of its
 -- input's capture.
-use Rattle.cq_simulate.proofs.Terms.{rules, ◌≡◌, ℕ, ◌+◌, ◌<◌, true, List, [], ◌∷◌, length, get_or, Result, Ok, Err, refl, sym, ap, ◌∙◌, arith, common_steps, max, AllByRecursion, filter, eq-eqb, and_from, Arrival, end_of, Departure, TagFault, packets_of, cells, start, cell_of, arrivals_of, arrivals_at, arrivals, IsTraffic, piece_begins, all_flat, traffic_is, NoLimits, slots_of, leaves_in_flow, departures_of, departures_limited, LimitedRan, unlimited, flows_leave_in_packets, limited_same_sent, run_as_before, slots_as_before, Captured, AreTables, IsSetup, classes_of, ports_of, Tables, machines_of, openings_of, HaveLeftOf, LeaveWhole, LeftInPackets, IsCaptured, ideal_departures, ran_ideal, slots_ran, subst, and_parts, eqb-true, Has, all_of_has, has_cases, has_image, has_kept, image_has, kept_has, flat_map, of_packet, Cell, came_in_flow, of_images, last_departs, limited_slots, has_at}
+use Rattle.cq_simulate.proofs.Terms.{rules, ◌≡◌, ℕ, ◌+◌, ◌<◌, true, List, [], ◌∷◌, length, get_or, Result, Ok, Err, refl, sym, ap, ◌∙◌, arith, common_steps, max, AllByRecursion, filter, eq-eqb, and_from, Arrival, end_of, Departure, TagFault, packets_of, cells, start, cell_of, arrivals_of, arrivals_at, arrivals, IsTraffic, piece_begins, all_flat, traffic_is, NoLimits, slots_of, leaves_in_flow, departures_of, departures_limited, LimitedRan, unlimited, flows_leave_in_packets, limited_same_sent, run_as_before, slots_as_before, Captured, AreTables, IsSetup, classes_of, ports_of, Tables, machines_of, openings_of, HaveLeftOf, LeaveWhole, LeftInPackets, IsCaptured, ideal_departures, ran_ideal, slots_ran, subst, and_parts, eqb-true, Has, all_of_has, has_cases, has_image, has_kept, image_has, kept_has, flat_map, of_packet, Cell, came_in_flow, last_departs, limited_slots, has_at, all_made}
 use Rattle.cq_cells.specs.Traffic.{IsInRange}
 use Rattle.cq_simulate.proofs.OfPackets.{packets_come}
 use Rattle.cq_simulate.proofs.SomePackets.{as_packets}
 use Rattle.cq_simulate.proofs.Runnable.{runnable}
-use Rattle.cq_simulate.proofs.Tallies.{all_in_row}
 
 -- ## What departs has come
 
@@ -61,9 +60,9 @@ pub all_cells : (t : Tables) (captures : List (List Captured)) (P : Arrival → 
     AllByRecursion P (arrivals t captures)
 unfolding arrivals arrivals_at
 all_cells t captures P each = all_flat P (arrivals_at t captures) 0 (length captures) (λ i _ in_captures. all_flat P
-    (arrivals_of t captures i) 0 (length (packets_of captures i)) (λ k _ in_packets. of_images
-    (λ n. record { slot = start t captures i k + n; cell = cell_of t captures i k n }) P _
-    (all_in_row _ 0 (cells t captures i k) (λ n in_cells. each i k n (omega arith) (omega arith) (omega arith)))))
+    (arrivals_of t captures i) 0 (length (packets_of captures i)) (λ k _ in_packets. all_made P
+    (λ n. record { slot = start t captures i k + n; cell = cell_of t captures i k n }) 0 (cells t captures i k)
+    (λ n _ in_cells. each i k n (omega arith) (omega arith) (omega arith))))
 
 module _ {t : Tables} {captures : List (List Captured)} {sent : List Departure} {stamp : ℕ}
     (of_run : HaveLeftOf t captures sent stamp) (k : ℕ) (e : Departure) (inside : k < length sent) where

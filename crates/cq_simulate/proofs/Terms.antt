@@ -9,7 +9,7 @@ pub use Rattle.cq_base.specs.{Packed.unpacked, Room.RoomView, declared.cell.Depa
 pub use Rattle.cq_pcap.specs.Captured.{Captured, rows_from}
 pub use Rattle.cq_route.specs.Route.{route}
 pub use Rattle.cq_cells.proofs.Pieces.{cells_above, piece_begins}
-pub use Rattle.cq_cells.proofs.Rising.{all_flat, at_input, traffic_is}
+pub use Rattle.cq_cells.proofs.Rising.{at_input, traffic_is}
 pub use Rattle.cq_cells.specs.Schedule.{arrivals_of, packet_at, packet_in, packets_of, start}
 unfoldable pub use Rattle.cq_base.specs.Pieces.{cells_of}
 unfoldable pub use Rattle.cq_cells.specs.Schedule.{arrivals, arrivals_at, cell_of, cells}
@@ -106,7 +106,7 @@ unfoldable pub use Rattle.cq_simulate.specs.Packets.{packets_out}
 pub use Rattle.cq_simulate.specs.Pieces.{CanBeJoined, Fits, IsCaptured, IsEmptied, Took, left_with, opened, piece_at, records_of}
 pub use Rattle.cq_simulate.specs.{declared.fabric_run.PackedFabricRun.PackedFabricRun, declared.ports.Ports.Ports, declared.refusal.RunRefusal.RunRefusal}
 pub use Rattle.cq_simulate.specs.Terms.{ArePortsFor, AreTables, CanBeTakenUp, Cell, FabricRun, IsFreshFor, IsPartFault, IsQuiet, IsReady, IsResumeFault, IsScheduleFor, IsSetup, NoneCome, Tables, classes_of, kept_of, ports_of}
-pub use Rattle.cq_base.proofs.Each.{all_both, all_filter, all_weaker, of_images}
+pub use Rattle.cq_base.proofs.Each.{all_both, all_filter, all_weaker, of_images, all_flat, all_made}
 pub use Rattle.cq_base.specs.{declared.figures.OutputFigures.OutputFigures, declared.key.Key.Key, declared.packed.PackedDeparture.PackedDeparture, declared.setup.Kind.Kind, declared.setup.Kind.TheVariants.FirstCome}
 pub use Rattle.cq_base.proofs.Keys.{key_laws}
 pub use Rattle.cq_pcap.proofs.Writing.{written_with}

@@ -1,7 +1,6 @@
 -- Stretches of slots in which no cell arrives. No cell comes before the next arrival, so up to it there is nothing that
 -- comes at any input.
-use Rattle.cq_traffic.proofs.Terms.{rules, ◌≡◌, ℕ, zero, suc, ◌+◌, ◌<◌, ◌≤◌, List, [], ◌∷◌, map, replicate, Option, Some, None, refl, ◌∙◌, arith, min, unwrap_or, AllByRecursion, range_with_len, cases_lt, ne_eqb, no_arrivals, Arrival, arriving, arriving_at, end_of, arriving_is, arriving_from, common_steps}
-use Rattle.cq_cells.proofs.Rising.{all_each}
+use Rattle.cq_traffic.proofs.Terms.{rules, ◌≡◌, ℕ, zero, suc, ◌+◌, ◌<◌, ◌≤◌, List, [], ◌∷◌, map, replicate, Option, Some, None, refl, ◌∙◌, arith, min, unwrap_or, AllByRecursion, range_with_len, cases_lt, ne_eqb, no_arrivals, Arrival, arriving, arriving_at, end_of, arriving_is, arriving_from, common_steps, all_weaker}
 use Rattle.cq_cells.specs.NextArrival.{ArrivesIn, IsNextArrival}
 use Rattle.cq_traffic.specs.Stretch.{IsQuiet, IsQuietUntil}
 
@@ -29,7 +28,7 @@ no_stretch came slot = grind (arith, common_steps)
 
 -- none arrives up to the next arrival, or up to the slot itself
 pub quiet_of : {came : List Arrival} {slot next : ℕ} → IsQuietUntil came slot next → IsQuiet came slot next
-quiet_of {came} {slot} {next} is = search (arith, rules, no_stretch, cases_lt, none_arrive, all_each, before_end)
+quiet_of {came} {slot} {next} is = search (arith, rules, no_stretch, cases_lt, none_arrive, all_weaker, before_end)
 
 ends_before : (came : List Arrival) (slot : ℕ) → AllByRecursion (λ a. a.slot < slot) came → end_of came ≤ slot
 ends_before [] slot all = omega arith
@@ -48,10 +47,10 @@ until_next came slot (Some next) is = record {
 pub none_up_to : (came : List Arrival) (slot n : ℕ) (next : Option ℕ) → IsNextArrival came slot next →
     n ≤ unwrap_or next n → (t : ℕ) → slot ≤ t → t < n → arriving came t ≡ no_arrivals
 none_up_to came slot n None all le t from to = none_arrive came t 64 refl
-    (all_each (λ (a : Arrival). a.slot < slot) (λ (a : Arrival). a.slot ≡ t → ⊥) came (λ a had at. omega arith) all)
-none_up_to came slot n (Some next) is le t from to = none_arrive came t 64 refl (all_each
-    (λ (a : Arrival). slot ≤ a.slot → next ≤ a.slot) (λ (a : Arrival). a.slot ≡ t → ⊥) came
-    (λ a had at. let later = had (omega arith) in omega arith) is.none_before)
+    (all_weaker (λ (a : Arrival). a.slot < slot) (λ (a : Arrival). a.slot ≡ t → ⊥) (λ a had at. omega arith) came all)
+none_up_to came slot n (Some next) is le t from to = none_arrive came t 64 refl (all_weaker
+    (λ (a : Arrival). slot ≤ a.slot → next ≤ a.slot) (λ (a : Arrival). a.slot ≡ t → ⊥)
+    (λ a had at. let later = had (omega arith) in omega arith) came is.none_before)
 
 -- the next arrival, but no later than the last slot
 pub record IsBeforeBoth (slot last n : ℕ) (next : Option ℕ) : Type 0 where
