@@ -2,7 +2,7 @@
 -- in lists and buffers of their rooms: no two cells of a list have one key, since no two places have. By the law on
 -- sound fabrics it is in step with the ideal switch of its cells. Of the slacks nothing is claimed, since the first
 -- slot looks at all of them.
-use Rattle.cq_engine.proofs.Terms.{rules, ◌≡◌, ◌≢◌, ℕ, zero, suc, ◌<◌, List, [], ◌∷◌, length, Option, Some, refl, arith, common_steps, slice_get, Queued, Figures, InputFigures, OutputFigures, EachPair, KeysDiffer, LimiterView, Machine, AreForOneSwitch, Fabric, input, fabric_in, fabric_held, all_from, Queues, fabric_of, CanGoOn, IsRunning, all_by, NoKeyTwice, Waiting, Frozen, agrees_of, CanHold}
+use Rattle.cq_engine.proofs.Terms.{rules, ◌≡◌, ◌≢◌, ℕ, zero, suc, ◌<◌, List, [], ◌∷◌, length, Option, Some, refl, arith, common_steps, slice_get, Queued, Figures, InputFigures, OutputFigures, EachPair, KeysDiffer, LimiterView, Machine, AreForOneSwitch, Fabric, input, fabric_in, fabric_held, Queues, fabric_of, CanGoOn, IsRunning, all_by, NoKeyTwice, Waiting, Frozen, agrees_of, CanHold, all_from_has}
 use Rattle.cq_engine.specs.declared.measure.Look.TheVariants as look
 
 -- ## The same, part by part
@@ -43,7 +43,7 @@ can_hold ms limits from to x can =
           record {
             room = can.list_rooms i (omega arith);
             outputs =
-                all_from (λ (c : Queued). c.cell.output < length x.lists) (input f i) (can.sound.fabric.outputs i);
+                all_from_has (λ (c : Queued). c.cell.output < length x.lists) (input f i) (can.sound.fabric.outputs i);
             order = can.sound.order i;
             differ = keys_differ f i can.sound.differ;
           };

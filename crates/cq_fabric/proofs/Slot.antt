@@ -3,7 +3,7 @@
 -- ones of this slot, and each cell that waits has slack 1, so that the more urgent cells for an output stand below
 -- the cushion of one that comes. Of the rooms it is enough that the buffer of each output for which a cell waits or
 -- comes has room for one: where the first matching fills that room, the output sends a cell and has it again.
-use Rattle.cq_fabric.proofs.Terms.{common_steps, rules, ◌≡◌, ℕ, zero, suc, ◌+◌, ◌-◌, ◌<◌, ◌≤◌, true, List, [], ◌∷◌, length, get_or, drop, Option, Some, None, refl, sym, ap, ◌∙◌, subst, inl, inr, ⊎_elim, arith, ◌⊎◌, IfSome, filter, cases_lt, cond_both, eqb-true, eq-eqb, get_or-map, get_or_past, length-drop, length-map, same_Some, Cell, Queued, Key, arrival_at, ArrivedBefore, is_for, Machine, count_for, LimiterView, AreForPorts, Ranking, fronts, list_of, orders_of, list_taken, transfers_of, Partners, partner_of, IsMatching, IsStable, HaveCells, partner_or_free, length_put, SendsAlike, Fabric, IsAmong, waiting_for, came_to, list_arrived, Arrives, Transfers, Departs, SlotRecord, FabricSlot, all_from, among_at, first_at, among_insert, left_among, Sound, came_from, keyed_from, rest_of, HoldsFabric, IsNewest, Queues, ComeApart, FitLists, CanCross, fabric_of, noted_all, noted_few, Keyed, arrived_sound, moved_sound, sent_sound, same_slot, sound_from}
+use Rattle.cq_fabric.proofs.Terms.{common_steps, rules, ◌≡◌, ℕ, zero, suc, ◌+◌, ◌-◌, ◌<◌, ◌≤◌, true, List, [], ◌∷◌, length, get_or, drop, Option, Some, None, refl, sym, ap, ◌∙◌, subst, inl, inr, ⊎_elim, arith, ◌⊎◌, IfSome, filter, cases_lt, cond_both, eqb-true, eq-eqb, get_or-map, get_or_past, length-drop, length-map, same_Some, Cell, Queued, Key, arrival_at, ArrivedBefore, is_for, Machine, count_for, LimiterView, AreForPorts, Ranking, fronts, list_of, orders_of, list_taken, transfers_of, Partners, partner_of, IsMatching, IsStable, HaveCells, partner_or_free, length_put, SendsAlike, Fabric, IsAmong, waiting_for, came_to, list_arrived, Arrives, Transfers, Departs, SlotRecord, FabricSlot, first_at, among_insert, left_among, Sound, came_from, keyed_from, rest_of, HoldsFabric, IsNewest, Queues, ComeApart, FitLists, CanCross, fabric_of, noted_all, noted_few, Keyed, arrived_sound, moved_sound, sent_sound, same_slot, sound_from, has_there, all_from_has}
 use Rattle.cq_laws.proofs.Entered.{can_cross as firsts_cross, fits_list}
 use Rattle.cq_fabric.proofs.Known.{AreRanked, BuffersHaveRoom, HaveArrived, HaveJudged, HaveMoved, HaveSent, ListsHaveRoom}
 use Rattle.cq_fabric.proofs.Limits.{held_at}
@@ -40,7 +40,8 @@ can_cross slot q ranks sound room =
     let firsts = firsts_cross slot (fabric_of q ranks) sound in
     record {
       apart = λ i k c d a b e. (sound.apart.waiting i k c d a b e).0;
-      room = λ i j has. search (arith, rules, first_at (is_for j) (list_of q.inputs i) has.0 has.1, among_at, eqb-true);
+      room = λ i j has. let first = first_at (is_for j) (list_of q.inputs i) has.0 has.1 in
+          search (arith, rules, first, has_there, eqb-true);
       keys = firsts.keys;
     }
 
@@ -113,7 +114,7 @@ module _ {ms : List Machine} {slot : ℕ} {q0 : Queues} {ranks0 : List (List ℕ
     came_newest i c is =
         let at = keyed.slot_is i c is in
         let before : ArrivedBefore c.key.slot (list_of q0.inputs i) =
-        all_from _ _ (λ d h. search (arith, rules, sound0.early.waiting i d h)) in
+        all_from_has _ _ (λ d h. search (arith, rules, sound0.early.waiting i d h)) in
         search (arith, rules, newest_arrived)
 
     sound1 : Sound (slot + 1) (fabric_of q1 ranks1)
@@ -146,7 +147,7 @@ module _ {ms : List Machine} {slot : ℕ} {q0 : Queues} {ranks0 : List (List ℕ
         sent_was_held j some = ⊎_elim (λ r.
             let cell = crossing r.0 j r.1 in
             let p = first_at (is_for j) (list_of q1.inputs r.0) cell.0 cell.1 in
-            search (arith, rules, one_waits r.0 j cell.0, among_at, eqb-true))
+            search (arith, rules, one_waits r.0 j cell.0, has_there, eqb-true))
             (λ free. search (arith, rules)) (partner_or_free m1 j)
 
         module _ {before judged : LimiterView} (holds : HoldsFabric (fabric_of q0 ranks0) before)

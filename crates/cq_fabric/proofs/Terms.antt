@@ -28,7 +28,7 @@ pub use Rattle.cq_xbar.proofs.OneEach.{partner_or_free}
 pub use Rattle.cq_xbar.specs.Crossbar.{HaveCells, HaveRoom, MovesRoom, buffer_spare, list_spare}
 pub use Rattle.cq_laws.proofs.Came.{came_cell, came_from, keyed_from}
 pub use Rattle.cq_laws.proofs.Falls.{rest_of}
-pub use Rattle.cq_laws.proofs.Members.{all_from, among_at, among_insert, first_at, left_among}
+pub use Rattle.cq_laws.proofs.Members.{among_insert, first_at, left_among}
 pub use Rattle.cq_laws.proofs.Sound.{Sound, not_before_itself}
 pub use Rattle.cq_laws.specs.Agreement.{Agrees, SendsAlike}
 pub use Rattle.cq_laws.specs.Fabric.{Fabric, IsAmong, IsEmptyFabric, buffer, cushion_of, empty_fabric, input}
@@ -50,3 +50,4 @@ pub use Rattle.cq_xbar.proofs.{Noting.noted_all, Noting.noted_few}
 pub use Rattle.cq_laws.proofs.WholeRuns.{empty_agree_at, empty_list}
 pub use Rattle.cq_laws.proofs.{AfterArrivals.Keyed, AfterArrivals.arrived_sound, AfterDepartures.sent_sound, AfterTransfer.moved_sound, Held.hold_as_many, NothingRefused.none_come, NothingRefused.run_with, OneSlot.same_slot, OneSlot.sound_from, QuietSlots.empty_is, QuietSlots.quiet_run}
 pub use Rattle.cq_laws.specs.{FabricRun.FabricRun, LimitedQuiet.quiet_limited_slots}
+pub use Rattle.cq_base.proofs.Having.{all_from_has, has_there}

@@ -2,8 +2,8 @@
 -- they come, which all differ: so no key is twice. Each older cell for the same output in the list has slack 1 at
 -- least, so where it is more urgent than the new cell it stands below the new cell's cushion: so the insertion keeps
 -- the order. And the cells for each output are those that were there and those that came for it.
-use Rattle.cq_laws.proofs.Terms.{common_steps, rules, ◌≡◌, ◌≢◌, ℕ, ◌+◌, ◌<◌, ◌⊎◌, List, length, Option, Some, None, sym, ap, subst, ⊎_elim, arith, same_Some, Key, Cell, Queued, Machine, Fabric, input, buffer, IsAmong, IsFabric, cushion_of, came_to, list_arrived, Arrives, HasSlack, KeepsOrder, keeps_order_arrival, list_of, HasFor}
-use Rattle.cq_laws.proofs.Members.{all_from, among_insert, insert_new, insert_old}
+use Rattle.cq_laws.proofs.Terms.{common_steps, rules, ◌≡◌, ◌≢◌, ℕ, ◌+◌, ◌<◌, ◌⊎◌, List, length, Option, Some, None, sym, ap, subst, ⊎_elim, arith, same_Some, Key, Cell, Queued, Machine, Fabric, input, buffer, IsAmong, IsFabric, cushion_of, came_to, list_arrived, Arrives, HasSlack, KeepsOrder, keeps_order_arrival, list_of, HasFor, all_from_has}
+use Rattle.cq_laws.proofs.Members.{among_insert, insert_new, insert_old}
 use Rattle.cq_laws.proofs.Cushions.{cushion_rises}
 use Rattle.cq_laws.proofs.Falls.{arrivals_fall}
 use Rattle.cq_laws.proofs.Sound.{Apart, Early, Sound}
@@ -66,7 +66,7 @@ module _ (ms : List Machine) (slot : ℕ) (cells : List (Option Cell)) (came : L
     ordered : (i : ℕ) (q : Option Queued) → came_to came i ≡ q → KeepsOrder (list_arrived old q (input old i))
     ordered i None e = sound.order i
     ordered i (Some n) e = keeps_order_arrival (cushion_of old n) n (input old i) (sound.order i)
-        (all_from _ (input old i) (λ x k. grind (arith, new_old i n x e, sound.early.waiting i x k)))
+        (all_from_has _ (input old i) (λ x k. grind (arith, new_old i n x e, sound.early.waiting i x k)))
         (λ s x at out lt. search (arith, rules, cushion_rises x.key n.key (buffer old x.cell.output) lt))
 
     pub arrived_sound : Sound (slot + 1) new

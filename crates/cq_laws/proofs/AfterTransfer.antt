@@ -4,9 +4,9 @@
 -- most urgent cell for an output is never left: it would have slack 1, so a cushion, so a more urgent cell for the
 -- same output. And each cell is where it was or has crossed to its output, and the first cell for an output that a
 -- list gave is in it no more: so no key is twice, and the cells for each output stay the same.
-use Rattle.cq_laws.proofs.Terms.{rules, ◌≡◌, ◌≢◌, ℕ, suc, ◌+◌, ◌<◌, ◌≤◌, ◌⊎◌, ◌↔◌, List, Option, Some, None, refl, sym, ap, ◌∙◌, inl, inr, ⊎_elim, arith, common_steps, slice_get, eq-eqb, same_Some, Key, cushion_of, Queued, Fabric, input, buffer, IsAmong, IsFabric, ListsKeepOrder, Transfers, EachRises, HasSlack, put, KeepsOrder, cushion, is_for, first_for, place_for, without_first, key_laws, first_le, each_pair_left, IsListed, place_in, outputs_of, partner_of, depth, HasBetterInput, IsOutputOrder, AreOrdersOf, orders_of, list_taken, HasFor, IsMostUrgentFor}
+use Rattle.cq_laws.proofs.Terms.{rules, ◌≡◌, ◌≢◌, ℕ, suc, ◌+◌, ◌<◌, ◌≤◌, ◌⊎◌, ◌↔◌, List, Option, Some, None, refl, sym, ap, ◌∙◌, inl, inr, ⊎_elim, arith, common_steps, slice_get, eq-eqb, same_Some, Key, cushion_of, Queued, Fabric, input, buffer, IsAmong, IsFabric, ListsKeepOrder, Transfers, EachRises, HasSlack, put, KeepsOrder, cushion, is_for, first_for, place_for, without_first, key_laws, first_le, each_pair_left, IsListed, place_in, outputs_of, partner_of, depth, HasBetterInput, IsOutputOrder, AreOrdersOf, orders_of, list_taken, HasFor, IsMostUrgentFor, has_there, stands_at}
 use Rattle.cq_prefs.specs.Pairing.{Partners, IsStable}
-use Rattle.cq_laws.proofs.Members.{from_first, among_at, at_among, first_at, first_of, left_at, left_among, left_or_first, among_put, put_new, put_old, rising_put}
+use Rattle.cq_laws.proofs.Members.{from_first, first_at, first_of, left_at, left_among, left_or_first, among_put, put_new, put_old, rising_put}
 use Rattle.cq_laws.proofs.Cushions.{cushion_grows, cushion_grows_by_one, cushion_has}
 use Rattle.cq_laws.proofs.Sound.{same_cell, Apart, Early, Sound, one_in_order, orders_are}
 use Rattle.cq_laws.proofs.Rises.{first_least, is_partner, sender}
@@ -18,7 +18,7 @@ not_left : (j : ℕ) (xs : List Queued) (f : Queued) → KeepsOrder xs → first
     IsAmong f (without_first j xs) → ⊥
 not_left j xs f order is h =
     let first = first_at (is_for j) xs f is in
-    let r = at_among (without_first j xs) f h in
+    let r = stands_at (without_first j xs) f h in
     let st = left_at j xs r.0 f r.1 in
     grind (arith, one_in_order xs first.place st.place f order first.at st.at, st.side)
 
@@ -81,7 +81,7 @@ module _ (old new : Fabric) (m : Partners) (fabric : IsFabric old) (order : List
   cushion_gained i s c at better =
       let j = c.cell.output in
       let d = got j better.0 better.1 in
-      let among = among_at (input old i) s c at in
+      let among = has_there (input old i) s c at in
       let f = first_of (is_for j) (input old i) c among (eq-eqb j j refl) in
       let d_f = (are.inputs j (fabric.outputs i c among)).by_key better.0 i d.cell f.0 better.2 d.first f.1 in
       let least = first_least j (input old i) s c f.0 (order i) at refl f.1 in
@@ -93,7 +93,7 @@ module _ (old new : Fabric) (m : Partners) (fabric : IsFabric old) (order : List
       let xs = input old i in
       let p = partner_of m i in
       let st = stayed p xs t c (ap (λ l. slice_get l t) (sym (moves.moves.taken i)) ∙ at) in
-      let among = among_at xs st.place c st.at in
+      let among = has_there xs st.place c st.at in
       let le = first_le (is_for j) xs st.place c st.at (eq-eqb j j refl) in
       let offered = ((are.outputs i).offered j).1 (first_of (is_for j) xs c among (eq-eqb j j refl)) in
       let kept = cushion_kept j c.key in
@@ -131,7 +131,7 @@ module _ (old new : Fabric) (m : Partners) (fabric : IsFabric old) (order : List
 
   pub least_buffered : HasSlack 0 old → (j : ℕ) (c : Queued) → IsMostUrgentFor old j c → IsAmong c (buffer new j)
   least_buffered slack j c least = ⊎_elim (λ w.
-      let at = at_among (input new w.0) c w.1 in
+      let at = stands_at (input new w.0) c w.1 in
       let more = slack_risen 0 slack w.0 at.0 c at.1 in
       let d = cushion_has c.key (buffer new c.cell.output) (omega arith) in
       grind (arith, least.least d.0, has_before j d.0)) (λ b. b) (has_after j c least.there)

@@ -2,7 +2,7 @@
 -- slot, so a cell that comes has another key; and each has slack 1, so that the more urgent cells for an output stand
 -- below the cushion of one that comes. All keys differ in each state of a slot, so the cells that cross have keys
 -- that are new in their buffers.
-use Rattle.cq_laws.proofs.Terms.{rules, ◌≡◌, ℕ, ◌+◌, List, length, Option, Some, Ok, sym, arith, Cell, Queued, Machine, IdealState, IsStable, Partners, Agrees, FirstsCanCross, FitsList, Fabric, buffer, input, Arrives, Departs, Transfers, came_to, Ranking, ranking}
+use Rattle.cq_laws.proofs.Terms.{rules, ◌≡◌, ℕ, ◌+◌, List, length, Option, Some, Ok, sym, arith, Cell, Queued, Machine, IdealState, IsStable, Partners, Agrees, FirstsCanCross, FitsList, Fabric, buffer, input, Arrives, Departs, Transfers, came_to, Ranking, ranking, all_from_has}
 use Rattle.cq_laws.specs.Terms.{orders_of}
 use Rattle.cq_ideal.specs.Ranking.{AreForPorts}
 use Rattle.cq_laws.proofs.AfterArrivals.{arrived_sound}
@@ -10,7 +10,7 @@ use Rattle.cq_laws.proofs.AfterDepartures.{sent_sound}
 use Rattle.cq_laws.proofs.AfterTransfer.{moved_sound}
 use Rattle.cq_laws.proofs.Came.{came_from, keyed_from}
 use Rattle.cq_laws.proofs.Cushions.{cushion_rises}
-use Rattle.cq_laws.proofs.Members.{all_from, from_first}
+use Rattle.cq_laws.proofs.Members.{from_first}
 use Rattle.cq_laws.proofs.OneSlot.{sound_from}
 use Rattle.cq_laws.proofs.Sound.{Sound, firsts_differ}
 
@@ -20,7 +20,7 @@ can_cross slot f sound =
       differ = firsts_differ f sound.apart;
       keys = λ i j c found.
           let among = (from_first j (input f i) c found).0 in
-          all_from _ (buffer f j) (λ d h same. sound.apart.between i j c d among h (sym same));
+          all_from_has _ (buffer f j) (λ d h same. sound.apart.between i j c d among h (sym same));
     }
 
 module _ (ms : List Machine) (slot class_count : ℕ) (cells : List (Option Cell)) (came : List (Option Queued))
@@ -37,7 +37,7 @@ module _ (ms : List Machine) (slot class_count : ℕ) (cells : List (Option Cell
       record {
         inside = come.inputs i c.cell arrival;
         output = keyed.outputs i c is;
-        other_key = all_from _ (input f i) (λ d h. grind (arith, sound.early.waiting i d h, keyed.slot_is i c is));
+        other_key = all_from_has _ (input f i) (λ d h. grind (arith, sound.early.waiting i d h, keyed.slot_is i c is));
         ahead = λ s d at out lt. search (arith, rules, cushion_rises d.key c.key (buffer f d.cell.output) lt);
       }
 

@@ -5,45 +5,22 @@
 -- agreement. And of two lists that rise and have the same members, the first of the one is a member of the other and
 -- no later than its first, and the other way round. So their firsts are one, and without them the lists have the same
 -- members again: they are one list.
-use Rattle.cq_laws.proofs.Terms.{flat_map, common_steps, rules, ◌≡◌, ◌≢◌, ℕ, ◌≤◌, List, [], ◌∷◌, length, refl, sym, ◌∙◌, inl, inr, ⊎_elim, arith, zero, suc, ◌+◌, ◌⊎◌, Bool, true, ◌++◌, filter, cases_lt, cond_both, eqb-true, eq-eqb, ext_get_or, get_or_past, get_or-map-range_with_len, length-map-range_with_len, Queued, IdealState, Agrees, Fabric, IsAmong, IsFabric, buffer, ListsKeepOrder, IsBefore, IsRising, KeysDiffer, KeepsOrder, is_for, list_of, IsSoundFabric, ideal_of, in_order, cells_for, HasFor}
-use Rattle.cq_laws.proofs.Members.{all_among, all_from, among_put, put_new, put_old, rising_put, no_members}
+use Rattle.cq_laws.proofs.Terms.{flat_map, common_steps, rules, ◌≡◌, ◌≢◌, ℕ, ◌≤◌, List, [], ◌∷◌, length, refl, sym, ◌∙◌, inl, inr, ⊎_elim, arith, zero, suc, ◌+◌, ◌⊎◌, true, ◌++◌, filter, cases_lt, cond_both, eqb-true, eq-eqb, ext_get_or, get_or_past, get_or-map-range_with_len, length-map-range_with_len, Queued, IdealState, Agrees, Fabric, IsAmong, IsFabric, buffer, ListsKeepOrder, IsBefore, IsRising, KeysDiffer, KeepsOrder, is_for, list_of, IsSoundFabric, ideal_of, in_order, cells_for, HasFor, has_cases, has_left, has_right, has_kept, kept_has, all_of_has, none_had, all_from_has}
+use Rattle.cq_laws.proofs.Members.{among_put, put_new, put_old, rising_put}
 use Rattle.cq_laws.proofs.Sound.{apart_from, not_before_itself, same_first, Apart}
-
--- ## Members of lists that are joined or sifted
-
-among_append : (c : Queued) (xs ys : List Queued) → IsAmong c (xs ++ ys) → IsAmong c xs ⊎ IsAmong c ys
-among_append c [] ys h = inr h
-among_append c (x ∷ xs) ys h = grind (arith, common_steps, among_append c xs ys)
-
-among_left : (c : Queued) (xs ys : List Queued) → IsAmong c xs → IsAmong c (xs ++ ys)
-among_left c [] ys h = absurd h
-among_left c (x ∷ xs) ys h = ⊎_elim (λ e. inl e) (λ k. inr (among_left c xs ys k)) h
-
-among_right : (c : Queued) (xs ys : List Queued) → IsAmong c ys → IsAmong c (xs ++ ys)
-among_right c [] ys h = h
-among_right c (x ∷ xs) ys h = inr (among_right c xs ys h)
-
-among_filter : (p : Queued → Bool) (c : Queued) (xs : List Queued) → IsAmong c (filter p xs) →
-    IsAmong c xs × (p c ≡ true)
-among_filter p c [] h = absurd h
-among_filter p c (x ∷ xs) h = grind (arith, common_steps, cond_both, among_filter p c xs)
-
-filter_among : (p : Queued → Bool) (c : Queued) (xs : List Queued) → IsAmong c xs → p c ≡ true → IsAmong c (filter p xs)
-filter_among p c [] h e = absurd h
-filter_among p c (x ∷ xs) h e = grind (arith, common_steps, cond_both, filter_among p c xs)
 
 -- ## Lists whose keys differ
 
 differ_rising : (xs : List Queued) → IsRising xs → KeysDiffer xs
 differ_rising [] r = tt
-differ_rising (x ∷ xs) r = grind (arith, all_from, all_among, not_before_itself, differ_rising xs r.1)
+differ_rising (x ∷ xs) r = grind (arith, all_from_has, all_of_has, not_before_itself, differ_rising xs r.1)
 
 differ_append : (xs ys : List Queued) → KeysDiffer xs → KeysDiffer ys →
     ((c d : Queued) → IsAmong c xs → IsAmong d ys → c.key ≢ d.key) → KeysDiffer (xs ++ ys)
 differ_append [] ys x y apart = y
 differ_append (c ∷ xs) ys x y apart =
-    let differ = all_from (λ d. c.key ≢ d.key) (xs ++ ys) (λ d h. ⊎_elim (all_among (λ q. c.key ≢ q.key) xs d x.0)
-    (apart c d (inl refl)) (among_append d xs ys h)) in
+    let differ = all_from_has (λ d. c.key ≢ d.key) (xs ++ ys) (λ d h. ⊎_elim (all_of_has (λ q. c.key ≢ q.key) xs d x.0)
+    (apart c d (inl refl)) (has_cases xs ys d h)) in
     (differ, differ_append xs ys x.1 y (λ q d h. apart q d (inr h)))
 
 -- ## The cells that wait for an output
@@ -57,23 +34,23 @@ module _ (j : ℕ) where
       (i : ℕ) × IsAmong c (list_of lists i) × (c.cell.output ≡ j)
   waits_at [] c h = absurd h
   waits_at (cells ∷ lists) c h =
-      ⊎_elim (λ l. let r = among_filter (is_for j) c cells l in (zero, r.0, eqb-true c.cell.output j r.1))
+      ⊎_elim (λ l. let r = kept_has (is_for j) cells c l in (zero, r.0, eqb-true c.cell.output j r.1))
       (λ k. let r = waits_at lists c k in (suc r.0, r.1, r.2))
-      (among_append c (filter (is_for j) cells) (waits lists) h)
+      (has_cases (filter (is_for j) cells) (waits lists) c h)
 
   at_waits : (lists : List (List Queued)) (i : ℕ) (c : Queued) → IsAmong c (list_of lists i) → c.cell.output ≡ j →
       IsAmong c (waits lists)
   at_waits [] i c h e = absurd h
-  at_waits (cells ∷ lists) zero c h e = grind (arith, common_steps, among_left, filter_among, eq-eqb)
-  at_waits (cells ∷ lists) (suc i) c h e = grind (arith, common_steps, among_right, at_waits lists i c h e)
+  at_waits (cells ∷ lists) zero c h e = grind (arith, common_steps, has_left, has_kept, eq-eqb)
+  at_waits (cells ∷ lists) (suc i) c h e = grind (arith, common_steps, has_right, at_waits lists i c h e)
 
   filter_rises : (xs : List Queued) → KeepsOrder xs → IsRising (filter (is_for j) xs)
   filter_rises [] order = tt
   filter_rises (x ∷ xs) order =
       let rest = filter_rises xs order.1 in
-      let later = λ (e : is_for j x ≡ true). all_from (IsBefore x) (filter (is_for j) xs) (λ d h.
-      let a = among_filter (is_for j) d xs h in
-      all_among _ xs d order.0 a.0 (eqb-true x.cell.output j e ∙ sym (eqb-true d.cell.output j a.1))) in
+      let later = λ (e : is_for j x ≡ true). all_from_has (IsBefore x) (filter (is_for j) xs) (λ d h.
+      let a = kept_has (is_for j) xs d h in
+      all_of_has _ xs d order.0 a.0 (eqb-true x.cell.output j e ∙ sym (eqb-true d.cell.output j a.1))) in
       grind (arith, cond_both, later)
 
   waits_differ : (lists : List (List Queued)) → ((i : ℕ) → KeepsOrder (list_of lists i)) →
@@ -84,13 +61,13 @@ module _ (j : ℕ) where
       (differ_rising (filter (is_for j) cells) (filter_rises cells (order zero)))
       (waits_differ lists (λ i. order (suc i)) (λ i k c d a b e. omega (arith, apart (suc i) (suc k) c d a b e)))
       (λ c d l r e. let at = waits_at lists d r in
-      omega (arith, apart zero (suc at.0) c d (among_filter (is_for j) c cells l).0 at.1 e))
+      omega (arith, apart zero (suc at.0) c d (kept_has (is_for j) cells c l).0 at.1 e))
 
   pub to_cells : (f : Fabric) (c : Queued) → HasFor f j c → IsAmong c (cells_for j f)
-  to_cells f c h = search (rules, among_left, at_waits, among_right)
+  to_cells f c h = search (rules, has_left, at_waits, has_right)
 
   pub from_cells : (f : Fabric) (c : Queued) → IsAmong c (cells_for j f) → HasFor f j c
-  from_cells f c h = grind (arith, common_steps, waits_at f.inputs c, among_append c (waits f.inputs) (buffer f j) h)
+  from_cells f c h = grind (arith, common_steps, waits_at f.inputs c, has_cases (waits f.inputs) (buffer f j) c h)
 
   cells_differ : (f : Fabric) → IsFabric f → ListsKeepOrder f → Apart f → KeysDiffer (cells_for j f)
   cells_differ f fabric order apart = differ_append (waits f.inputs) (buffer f j)
@@ -111,7 +88,7 @@ in_order_among d (x ∷ xs) h = grind (arith, common_steps, put_new, put_old, in
 rising_in_order : (xs : List Queued) → KeysDiffer xs → IsRising (in_order xs)
 rising_in_order [] differ = tt
 rising_in_order (x ∷ xs) differ = rising_put x (in_order xs) (rising_in_order xs differ.1) (λ d h.
-    all_among (λ (y : Queued). x.key ≢ y.key) xs d differ.0 (among_in_order d xs h))
+    all_of_has (λ (y : Queued). x.key ≢ y.key) xs d differ.0 (among_in_order d xs h))
 
 -- ## Lists that rise and have the same members
 
@@ -121,7 +98,7 @@ same_rising [] [] r s to back = refl
 same_rising [] (y ∷ ys) r s to back = absurd (back y (inl refl))
 same_rising (x ∷ xs) [] r s to back = absurd (to x (inl refl))
 same_rising (x ∷ xs) (y ∷ ys) r s to back =
-    search (arith, rules, same_first, all_among, not_before_itself, same_rising xs ys r.1 s.1)
+    search (arith, rules, same_first, all_of_has, not_before_itself, same_rising xs ys r.1 s.1)
 
 -- ## The cells of a fabric for an output
 
@@ -139,7 +116,7 @@ ports_of f = length-map-range_with_len (λ j. in_order (cells_for j f)) 0 (lengt
 list_is : (f : Fabric) → IsFabric f → (j : ℕ) → list_of (ideal_of f).lists j ≡ in_order (cells_for j f)
 unfolding ideal_of
 list_is f fabric j = ⊎_elim (λ inside. grind (arith, common_steps, get_or-map-range_with_len)) (λ past.
-    let none = no_members (cells_for j f) (λ c h. none_past f fabric j c past (from_cells j f c h)) in
+    let none = none_had (cells_for j f) (λ c h. none_past f fabric j c past (from_cells j f c h)) in
     grind (arith, none, ports_of f, get_or_past (ideal_of f).lists j [])) (cases_lt j (length f.inputs))
 
 pub agrees_of : (slot : ℕ) (f : Fabric) → IsSoundFabric slot f → Agrees slot f (ideal_of f)

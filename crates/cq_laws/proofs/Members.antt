@@ -1,30 +1,7 @@
 -- The cells of a list, as members and by their places. First what a place shows of a member, then where the first
 -- cell for an output stands, then what becomes of the members where that cell is taken out, where a cell is put in
 -- the order of keys, and where one is inserted at a place.
-use Rattle.cq_laws.proofs.Terms.{rules, ◌≡◌, ◌≢◌, ℕ, zero, suc, ◌+◌, ◌<◌, ◌≤◌, ◌⊎◌, Bool, true, false, List, [], ◌∷◌, Some, refl, ap, subst, inl, inr, ⊎_elim, arith, common_steps, slice_get, find, insert, AllByRecursion, position_or_len, eqb-true, cond_both, cases_Bool, Key, Queued, IsAmong, is_before, IsBefore, IsRising, put, is_for, first_for, place_for, without_first, key_laws, first_here, first_later, all_put}
-
--- ## Places and members
-
-pub among_at : (xs : List Queued) (t : ℕ) (c : Queued) → slice_get xs t ≡ Some c → IsAmong c xs
-among_at [] t c h = cc
-among_at (x ∷ xs) zero c h = inl cc
-among_at (x ∷ xs) (suc t) c h = inr (among_at xs t c h)
-
-pub at_among : (xs : List Queued) (c : Queued) → IsAmong c xs → (t : ℕ) × (slice_get xs t ≡ Some c)
-at_among [] c h = absurd h
-at_among (x ∷ xs) c h = ⊎_elim (λ e. (zero, ap Some e)) (λ k. let r = at_among xs c k in (suc r.0, r.1)) h
-
-pub all_among : (P : Queued → Type 0) (xs : List Queued) (c : Queued) → AllByRecursion P xs → IsAmong c xs → P c
-all_among P [] c a h = absurd h
-all_among P (x ∷ xs) c a h = ⊎_elim (λ e. subst P e a.0) (λ k. all_among P xs c a.1 k) h
-
-pub all_from : (P : Queued → Type 0) (xs : List Queued) → ((c : Queued) → IsAmong c xs → P c) → AllByRecursion P xs
-all_from P [] f = tt
-all_from P (x ∷ xs) f = (f x (inl refl), all_from P xs (λ c k. f c (inr k)))
-
-pub no_members : (xs : List Queued) → ((c : Queued) → IsAmong c xs → ⊥) → xs ≡ []
-no_members [] h = refl
-no_members (x ∷ xs) h = absurd (h x (inl refl))
+use Rattle.cq_laws.proofs.Terms.{rules, ◌≡◌, ◌≢◌, ℕ, zero, suc, ◌+◌, ◌<◌, ◌≤◌, ◌⊎◌, Bool, true, false, List, [], ◌∷◌, Some, refl, ap, inl, inr, ⊎_elim, arith, common_steps, slice_get, find, insert, position_or_len, eqb-true, cond_both, cases_Bool, Key, Queued, IsAmong, is_before, IsBefore, IsRising, put, is_for, first_for, place_for, without_first, key_laws, first_here, first_later, all_put, all_of_has, all_from_has, stands_at, has_there}
 
 -- ## The first cell for an output
 
@@ -42,7 +19,7 @@ first_at p (x ∷ xs) c h = search (arith, rules, first_here, first_later, first
 pub from_first : (j : ℕ) (xs : List Queued) (f : Queued) → first_for j xs ≡ Some f →
     IsAmong f xs × (f.cell.output ≡ j)
 from_first j xs f is =
-    let first = first_at (is_for j) xs f is in (search (arith, rules, among_at, eqb-true))
+    let first = first_at (is_for j) xs f is in (search (arith, rules, has_there, eqb-true))
 
 -- where one passes, there is a first
 pub first_of : (p : Queued → Bool) (xs : List Queued) (c : Queued) → IsAmong c xs → p c ≡ true →
@@ -83,7 +60,7 @@ left_or_first j (x ∷ xs) c h = grind (arith, common_steps, cond_both, left_or_
 -- what is left was there
 pub left_among : (j : ℕ) (xs : List Queued) (c : Queued) → IsAmong c (without_first j xs) → IsAmong c xs
 left_among j xs c h =
-    let r = at_among (without_first j xs) c h in let s = left_at j xs r.0 c r.1 in among_at xs s.place c s.at
+    let r = stands_at (without_first j xs) c h in let s = left_at j xs r.0 c r.1 in has_there xs s.place c s.at
 
 -- ## A cell put in the order of keys
 
@@ -108,8 +85,8 @@ pub rising_put : (c : Queued) (xs : List Queued) → IsRising xs → ((d : Queue
 rising_put c [] r ne = (tt, tt)
 rising_put c (x ∷ xs) r ne =
     let rest = rising_put c xs r.1 (λ d k. ne d (inr k)) in
-    let later = λ (e : IsBefore c x). all_from (IsBefore c) xs (λ d m.
-    key_laws.on c.key x.key d.key e (all_among (IsBefore x) xs d r.0 m)) in
+    let later = λ (e : IsBefore c x). all_from_has (IsBefore c) xs (λ d m.
+    key_laws.on c.key x.key d.key e (all_of_has (IsBefore x) xs d r.0 m)) in
     grind (arith, common_steps, cond_both, all_put (IsBefore x) c xs, after_other, later, ne x)
 
 -- ## A cell inserted at a place

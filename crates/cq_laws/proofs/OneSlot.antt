@@ -2,10 +2,9 @@
 -- after the arrivals, 1 after the first transfer, 0 after the departures, and 1 again after the second transfer.
 -- After the first transfer each cell that still waits at an input has slack 1, so it comes after a cell that its
 -- output has: the ideal list covers the buffer, both send the same cell, and the states agree again.
-use Rattle.cq_laws.proofs.Terms.{rules, ◌≡◌, ℕ, ◌+◌, ◌↔◌, List, length, Option, Err, sym, ap, ◌∙◌, inl, inr, ⊎_elim, arith, drop, zero, suc, ◌⊎◌, [], ◌∷◌, refl, common_steps, Cell, Queued, TagFault, Machine, AreForPorts, IsStable, Fabric, input, buffer, IsAmong, HasSlack, SlotRecord, FabricSlot, Partners, Agrees, IsWholeFabric, ListsKeepOrder, EachIsWhole, Arrives, Transfers, Departs, Key, IsBefore, IsRising, put_all, filled, fronts, rests, all_told, ideal_slot, list_of, HasFor, SendsAlike, slice_get, length-map-range_with_len, length-filled, ranks_kept}
+use Rattle.cq_laws.proofs.Terms.{rules, ◌≡◌, ℕ, ◌+◌, ◌↔◌, List, length, Option, Err, sym, ap, ◌∙◌, inl, inr, ⊎_elim, arith, drop, zero, suc, ◌⊎◌, [], ◌∷◌, refl, common_steps, Cell, Queued, TagFault, Machine, AreForPorts, IsStable, Fabric, input, buffer, IsAmong, HasSlack, SlotRecord, FabricSlot, Partners, Agrees, IsWholeFabric, ListsKeepOrder, EachIsWhole, Arrives, Transfers, Departs, Key, IsBefore, IsRising, put_all, filled, fronts, rests, all_told, ideal_slot, list_of, HasFor, SendsAlike, slice_get, length-map-range_with_len, length-filled, ranks_kept, all_of_has, stands_at}
 use Rattle.cq_laws.specs.Terms.{ranking, orders_of}
 use Rattle.cq_ideal.specs.IdealSlot.{IdealState}
-use Rattle.cq_laws.proofs.Members.{at_among, all_among}
 use Rattle.cq_laws.proofs.Cushions.{cushion_has}
 use Rattle.cq_laws.proofs.Falls.{rest_of}
 use Rattle.cq_laws.proofs.Sound.{Sound, apart_from, early_from, differ_from, all_before, Apart, never_both, not_before_itself, same_first}
@@ -47,7 +46,7 @@ module _ (Waits : Queued → Type 0) where
   -- the front does not wait
   front_there : (a : Queued) (more buf : List Queued) → Covers (a ∷ more) buf → IsAmong a buf
   front_there a more buf h =
-      grind (arith, common_steps, never_both, not_before_itself, all_among, h.back, h.to a (inl refl), h.behind a)
+      grind (arith, common_steps, never_both, not_before_itself, all_of_has, h.back, h.to a (inl refl), h.behind a)
 
   pub follows : (full buf : List Queued) → Covers full buf → Follows full buf
   follows [] [] h = record { front = refl; to = h.to; back = h.back }
@@ -55,7 +54,7 @@ module _ (Waits : Queued → Type 0) where
   follows (a ∷ more) [] h = absurd (front_there a more [] h)
   follows (a ∷ more) (b ∷ bs) h =
       let there = front_there a more (b ∷ bs) h in
-      search (arith, rules, same_first, h.back, all_among, not_before_itself, h.to, never_both, h.behind)
+      search (arith, rules, same_first, h.back, all_of_has, not_before_itself, h.to, never_both, h.behind)
 
 -- ## The same tag fault
 
@@ -75,7 +74,7 @@ WaitsFor inputs j c = (i : ℕ) × IsAmong c (list_of inputs i) × (c.cell.outpu
 behind_one : (f : Fabric) → HasSlack 1 f → (j : ℕ) (c : Queued) → WaitsFor f.inputs j c →
     (d : Queued) × IsAmong d (buffer f j) × IsBefore d c
 behind_one f slack j c w =
-    grind (arith, common_steps, at_among (input f w.0) c w.1, cushion_has c.key (buffer f c.cell.output))
+    grind (arith, common_steps, stands_at (input f w.0) c w.1, cushion_has c.key (buffer f c.cell.output))
 
 pub sound_from : (slot : ℕ) (f : Fabric) (ideal : IdealState) → Agrees slot f ideal → Sound slot f
 sound_from slot f ideal agrees = grind (arith, common_steps, apart_from, early_from)

@@ -2,8 +2,8 @@
 -- in order in each input's list, no key is twice, and every cell is from before a slot. That no key is twice is said
 -- of two cells at inputs, of one at an input and one that has crossed, and of two that have crossed; by their places
 -- it is the same.
-use Rattle.cq_laws.proofs.Terms.{common_steps, ◌≡◌, ◌≢◌, ◌∷◌, ℕ, ◌<◌, List, Some, refl, sym, ◌∙◌, arith, ⊎_elim, slice_get, cases_lt, true≢false, Queued, Fabric, input, buffer, IsAmong, IsFabric, ListsKeepOrder, IsBefore, IsRising, EachPair, key_laws, each_pair_at, AreOrdersOf, FirstKeysDiffer, orders_of, are_orders, HasFor, Waiting, Crossed, NoKeyTwice, AllBefore}
-use Rattle.cq_laws.proofs.Members.{all_among, among_at, at_among, from_first}
+use Rattle.cq_laws.proofs.Terms.{common_steps, ◌≡◌, ◌≢◌, ◌∷◌, ℕ, ◌<◌, List, Some, refl, sym, ◌∙◌, arith, ⊎_elim, slice_get, cases_lt, true≢false, Queued, Fabric, input, buffer, IsAmong, IsFabric, ListsKeepOrder, IsBefore, IsRising, EachPair, key_laws, each_pair_at, AreOrdersOf, FirstKeysDiffer, orders_of, are_orders, HasFor, Waiting, Crossed, NoKeyTwice, AllBefore, all_of_has, has_there, stands_at}
+use Rattle.cq_laws.proofs.Members.{from_first}
 
 pub record Apart (f : Fabric) : Type 0 where
   pub waiting : (i k : ℕ) (c d : Queued) → IsAmong c (input f i) → IsAmong d (input f k) → c.key ≡ d.key →
@@ -27,23 +27,23 @@ pub apart_from : (f : Fabric) → NoKeyTwice f → Apart f
 apart_from f differ =
     record {
       waiting = λ i k c d a b e.
-          let p = at_among (input f i) c a in
-          let q = at_among (input f k) d b in
+          let p = stands_at (input f i) c a in
+          let q = stands_at (input f k) d b in
           let same = differ (Waiting i p.0) (Waiting k q.0) c d p.1 q.1 e in (cc, cc);
       between = λ i j c d a b e.
-          let p = at_among (input f i) c a in
-          let q = at_among (buffer f j) d b in cc (differ (Waiting i p.0) (Crossed j q.0) c d p.1 q.1 e);
+          let p = stands_at (input f i) c a in
+          let q = stands_at (buffer f j) d b in cc (differ (Waiting i p.0) (Crossed j q.0) c d p.1 q.1 e);
       crossed = λ j l c d a b e.
-          let p = at_among (buffer f j) c a in
-          let q = at_among (buffer f l) d b in
+          let p = stands_at (buffer f j) c a in
+          let q = stands_at (buffer f l) d b in
           let same = differ (Crossed j p.0) (Crossed l q.0) c d p.1 q.1 e in cc;
     }
 
 pub early_from : (slot : ℕ) (f : Fabric) → AllBefore slot f → Early slot f
 early_from slot f before =
     record {
-      waiting = λ i c h. let r = at_among (input f i) c h in before (Waiting i r.0) c r.1;
-      crossed = λ j c h. let r = at_among (buffer f j) c h in before (Crossed j r.0) c r.1;
+      waiting = λ i c h. let r = stands_at (input f i) c h in before (Waiting i r.0) c r.1;
+      crossed = λ j c h. let r = stands_at (buffer f j) c h in before (Crossed j r.0) c r.1;
     }
 
 -- a key is of one cell, wherever it stands
@@ -63,7 +63,7 @@ never_both a b h k = true≢false (sym k ∙ key_laws.one_way a.key b.key h)
 -- lists that rise and have each other's first have the same first
 pub same_first : (x y : Queued) (xs ys : List Queued) → IsRising (x ∷ xs) → IsRising (y ∷ ys) → IsAmong x (y ∷ ys) →
     IsAmong y (x ∷ xs) → x ≡ y
-same_first x y xs ys r s h k = grind (arith, common_steps, all_among, never_both)
+same_first x y xs ys r s h k = grind (arith, common_steps, all_of_has, never_both)
 
 -- where no cell is related to itself, none stands at two places
 one_place : (R : Queued → Queued → Type 0) (xs : List Queued) (s t : ℕ) (c : Queued) → (R c c → ⊥) → EachPair R xs →
@@ -77,22 +77,22 @@ one_in_order xs s t c order a b = one_place _ xs s t c (λ n. not_before_itself 
 
 pub differ_from : (f : Fabric) → IsFabric f → ListsKeepOrder f → Apart f → NoKeyTwice f
 differ_from f fabric order apart (Waiting i s) (Waiting k t) c d a b e =
-    let r = apart.waiting i k c d (among_at (input f i) s c a) (among_at (input f k) t d b) e in
+    let r = apart.waiting i k c d (has_there (input f i) s c a) (has_there (input f k) t d b) e in
     grind (arith, r, one_in_order (input f i) s t c (order i) a)
 differ_from f fabric order apart (Waiting i s) (Crossed j t) c d a b e =
-    absurd (apart.between i j c d (among_at (input f i) s c a) (among_at (buffer f j) t d b) e)
+    absurd (apart.between i j c d (has_there (input f i) s c a) (has_there (buffer f j) t d b) e)
 differ_from f fabric order apart (Crossed j t) (Waiting i s) c d a b e =
-    absurd (apart.between i j d c (among_at (input f i) s d b) (among_at (buffer f j) t c a) (sym e))
+    absurd (apart.between i j d c (has_there (input f i) s d b) (has_there (buffer f j) t c a) (sym e))
 differ_from f fabric order apart (Crossed j s) (Crossed l t) c d a b e =
-    let in_j = among_at (buffer f j) s c a in
-    let in_l = among_at (buffer f l) t d b in
+    let in_j = has_there (buffer f j) s c a in
+    let in_l = has_there (buffer f l) t d b in
     let same = apart.crossed j l c d in_j in_l e in
     let place = one_place IsBefore (buffer f j) s t c (not_before_itself c) (fabric.rising j) a in
     grind (arith, same, place, fabric.own j c in_j, fabric.own l d in_l)
 
 pub all_before : (slot : ℕ) (f : Fabric) → Early slot f → AllBefore slot f
-all_before slot f early (Waiting i t) c at = early.waiting i c (among_at (input f i) t c at)
-all_before slot f early (Crossed j t) c at = early.crossed j c (among_at (buffer f j) t c at)
+all_before slot f early (Waiting i t) c at = early.waiting i c (has_there (input f i) t c at)
+all_before slot f early (Crossed j t) c at = early.crossed j c (has_there (buffer f j) t c at)
 
 -- ## The offers of such a state are those of its first cells
 

@@ -1,7 +1,6 @@
 -- Whole runs, slot by slot from states that agree. The empty states agree, so what holds of agreeing states holds
 -- from the first slot on.
-use Rattle.cq_laws.proofs.Members.{no_members}
-use Rattle.cq_laws.proofs.Terms.{common_steps, rules, ◌≡◌, ℕ, zero, suc, ◌+◌, ◌↔◌, List, [], ◌∷◌, length, Option, Some, Result, Ok, Err, refl, ap, ◌∙◌, inl, inr, arith, ⊎_elim, All, slice_get, replicate, AllByRecursion, length-replicate, get_or_past, get_or_default, cases_lt, Cell, Queued, TagFault, Machine, AreForPorts, IsStable, Fabric, IsAmong, empty_fabric, IsEmptyFabric, HasSlack, SlotRecord, FabricRun, FabricStops, Sent, IsEmptyIdeal, Ran, then_ran, ideal_run, empty_ideal, list_of, RunsAlike}
+use Rattle.cq_laws.proofs.Terms.{common_steps, rules, ◌≡◌, ℕ, zero, suc, ◌+◌, ◌↔◌, List, [], ◌∷◌, length, Option, Some, Result, Ok, Err, refl, ap, ◌∙◌, inl, inr, arith, ⊎_elim, All, slice_get, replicate, AllByRecursion, length-replicate, get_or_past, get_or_default, cases_lt, Cell, Queued, TagFault, Machine, AreForPorts, IsStable, Fabric, IsAmong, empty_fabric, IsEmptyFabric, HasSlack, SlotRecord, FabricRun, FabricStops, Sent, IsEmptyIdeal, Ran, then_ran, ideal_run, empty_ideal, list_of, RunsAlike, none_had}
 use Rattle.cq_ideal.specs.IdealSlot.{IdealState}
 use Rattle.cq_laws.specs.Agreement.{Agrees}
 use Rattle.cq_laws.proofs.OneSlot.{same_fault, same_slot, slack_arrived, ports_kept}
@@ -58,7 +57,7 @@ none_in lists empty i c h = grind (arith, get_or_past, cases_lt, none_among)
 
 all_empty : (lists : List (List Queued)) → ((i : ℕ) (c : Queued) → IsAmong c (list_of lists i) → ⊥) →
     All (λ cells. cells ≡ []) lists
-all_empty lists none i d inside = get_or_default lists i d [] inside ∙ no_members (list_of lists i) (none i)
+all_empty lists none i d inside = get_or_default lists i d [] inside ∙ none_had (list_of lists i) (none i)
 
 pub empty_together : (slot : ℕ) (f : Fabric) (ideal : IdealState) → Agrees slot f ideal →
     IsEmptyFabric f ↔ IsEmptyIdeal ideal

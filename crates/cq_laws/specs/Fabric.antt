@@ -1,8 +1,9 @@
 -- The state of the fabric (Chuang, Goel, McKeown and Prabhakar 1999): cells wait at the inputs, and cells that have
 -- crossed wait at the outputs.
-use Rattle.std.specs.Prelude.{◌≡◌, ℕ, ◌<◌, ◌⊎◌, List, [], ◌∷◌, length, All, replicate}
+use Rattle.std.specs.Prelude.{◌≡◌, ℕ, ◌<◌, List, [], length, All, replicate}
 use Rattle.cq_base.specs.declared.cell.Queued.{Queued}
 use Rattle.cq_base.specs.Cells.{IsRising, KeepsOrder, cushion}
+use Rattle.cq_base.specs.Items.{Has}
 use Rattle.cq_prefs.specs.FirstCells.{list_of}
 
 -- per input the list of its cells, per output the buffer of its cells in the order of their keys, and per output the
@@ -22,8 +23,7 @@ buffer f j = list_of f.buffers j
 
 -- the cell is one of the list
 abbrev pub IsAmong : Queued → List Queued → Type 0
-IsAmong c [] = ⊥
-IsAmong c (x ∷ xs) = (x ≡ c) ⊎ IsAmong c xs
+IsAmong c xs = Has xs c
 
 -- there are as many outputs as inputs, each cell is for one of them, and the cells of a buffer are for its output and
 -- stand in the order of their keys

@@ -1,7 +1,7 @@
 -- What a run goes on from. The cells that a sound state names are different arrivals before its next slot. So the
 -- fabric that it tells of stands in order, no key is in it twice, and in each list, for each output and in each count
 -- there are no more cells than came, and none has more than there were slots.
-use Rattle.cq_resume.proofs.Terms.{common_steps, rules, ◌≡◌, ◌≢◌, ℕ, zero, suc, ◌+◌, ◌<◌, ◌≤◌, ◌^◌, Bool, true, List, [], ◌∷◌, length, get_or, map, Option, None, Some, refl, ap, arith, length-append, ◌==◌, IsSome, filter, nat_lt, slice_get, AllByRecursion, enumerate_from, filter_map, range_with_len, option_map, cases_lt, eq-eqb, eqb-true, lt-ltb, ne_eqb, get_or_past, length-map, filter-append, get_or-map-range_with_len, length-enumerate_from, length-map-range_with_len, Arrival, IsBefore, is_for, Cell, Departure, Queued, OutputFigures, IsTraffic, is_from, is_to, number_of, cells_refused, packets_refused, refused_at, refused_counts, Refused, Fabric, buffer, input, AreCountsOf, AreOwn, HasPorts, IsSoundFabric, fabric_in, departure_of, figures_told, frozen_told, refused_arrivals, sent_told, IsSound, HasShape, Switch, arriving_cell, buffer_told, fabric_told, is_ahead, key_of, list_told, named_in, output_in, output_of, queued_in, queued_of, IsInRange, Named, Sent, State, few_kept, InputFigures, Key, held_for, waiting_for, Apart, Early, all_before, differ_from, IsFabric, ListsKeepOrder, Frozen, AreSized, all_of_has, all_from_has, all_has, has_left, has_right, has_kept, kept_has, Has, AreApart, Stands, no_more, each_pair, pairs_left, pairs_cross, pairs_kept_with, looked_up, pairs_looked_up, kept_few, looked_few, image_at, numbers_few, EachPair, IsAmong}
+use Rattle.cq_resume.proofs.Terms.{common_steps, rules, ◌≡◌, ◌≢◌, ℕ, zero, suc, ◌+◌, ◌<◌, ◌≤◌, ◌^◌, Bool, true, List, [], ◌∷◌, length, get_or, map, Option, None, Some, refl, ap, arith, length-append, ◌==◌, IsSome, filter, nat_lt, slice_get, AllByRecursion, enumerate_from, filter_map, range_with_len, option_map, cases_lt, eq-eqb, eqb-true, lt-ltb, ne_eqb, get_or_past, length-map, filter-append, get_or-map-range_with_len, length-enumerate_from, length-map-range_with_len, Arrival, IsBefore, is_for, Cell, Departure, Queued, OutputFigures, IsTraffic, is_from, is_to, number_of, cells_refused, packets_refused, refused_at, refused_counts, Refused, Fabric, buffer, input, AreCountsOf, AreOwn, HasPorts, IsSoundFabric, fabric_in, departure_of, figures_told, frozen_told, refused_arrivals, sent_told, IsSound, HasShape, Switch, arriving_cell, buffer_told, fabric_told, is_ahead, key_of, list_told, named_in, output_in, output_of, queued_in, queued_of, IsInRange, Named, Sent, State, few_kept, InputFigures, Key, held_for, waiting_for, Apart, Early, all_before, differ_from, IsFabric, ListsKeepOrder, Frozen, AreSized, all_of_has, all_from_has, all_has, has_left, has_right, has_kept, kept_has, Has, AreApart, Stands, no_more, each_pair, pairs_left, pairs_cross, pairs_kept_with, looked_up, pairs_looked_up, kept_few, looked_few, image_at, numbers_few, EachPair}
 use Rattle.cq_ideal.proofs.Waiting.{total, total_more, total_none}
 pub use Rattle.cq_resume.proofs.Coming.{FoundAt, found_at}
 pub use Rattle.cq_resume.proofs.Zipped.{Differ}
@@ -72,12 +72,6 @@ names_few test next came p names pairs arrive passes =
     let kept = kept_has p names c has in
     let some = some_cell (arriving_cell came c) (arrive c kept.0).1 in
     search (arith, rules, arrive c, found_at came c.slot c.input some.0, lt-ltb, has_kept)))
-
--- ## Lists as other modules say them
-
-pub has_of_among : (xs : List Queued) (c : Queued) → IsAmong c xs → Has xs c
-has_of_among [] c among = absurd among
-has_of_among (x ∷ xs) c among = grind (arith, common_steps, has_of_among xs c)
 
 -- ## Counts of what was refused
 
@@ -216,12 +210,6 @@ module _ (w : Switch) (s : State) (in_range : IsInRange s) (shape : HasShape w s
   in_buffer j q = of_buffer (λ (l : List Queued). Has l q → InBuffer j q) (λ none. absurd none) j
       (λ has. search (arith, rules, kept_has, looked_up, eqb-true))
 
-  waits : (i : ℕ) (q : Queued) → IsAmong q (input f i) → InList i q
-  waits i q among = in_list i q (has_of_among (input f i) q among)
-
-  crosses : (j : ℕ) (q : Queued) → IsAmong q (buffer f j) → InBuffer j q
-  crosses j q among = in_buffer j q (has_of_among (buffer f j) q among)
-
   -- ## It is sound
 
   -- of two names for one output the first is ahead; of two at one input
@@ -248,16 +236,16 @@ module _ (w : Switch) (s : State) (in_range : IsInRange s) (shape : HasShape w s
 
   apart : Apart f
   apart = record {
-    waiting = search (arith, rules, waits, its_input, one_cell);
-    between = search (arith, rules, waits, crosses, one_arrival, pairs_cross, Differ, queued_differ);
-    crossed = search (arith, rules, one_cell, crosses);
+    waiting = search (arith, rules, in_list, its_input, one_cell);
+    between = search (arith, rules, in_list, in_buffer, one_arrival, pairs_cross, Differ, queued_differ);
+    crossed = search (arith, rules, one_cell, in_buffer);
   }
 
   early : Early s.head.next f
   early = record {
-    waiting = λ i c a. let one = waits i c a in
+    waiting = λ i c a. let one = in_list i c a in
         search (arith, rules, its_slot, comes one.name (listed_named one.name one.has));
-    crossed = λ j c a. let one = crosses j c a in
+    crossed = λ j c a. let one = in_buffer j c a in
         search (arith, rules, its_slot, comes one.name (buffered_named one.name one.has));
   }
 
@@ -268,8 +256,8 @@ module _ (w : Switch) (s : State) (in_range : IsInRange s) (shape : HasShape w s
   is_fabric : IsFabric f
   is_fabric = record {
     square = sides.1;
-    outputs = λ i c among. let many = sides.0 in search (arith, rules, of_traffic, waits i c among);
-    own = λ j c among. (crosses j c among).here;
+    outputs = λ i c among. let many = sides.0 in search (arith, rules, of_traffic, in_list i c among);
+    own = λ j c among. (in_buffer j c among).here;
     rising = λ j. of_buffer (EachPair IsBefore) tt j (buffer_stands j);
   }
 
@@ -281,8 +269,8 @@ module _ (w : Switch) (s : State) (in_range : IsInRange s) (shape : HasShape w s
 
   are_own : AreOwn (length w.machines) w.classes f
   are_own = record {
-    listed = λ i c among. let one = waits i c among in search (arith, rules, of_traffic, its_input);
-    buffered = λ j c among. let one = crosses j c among in search (arith, rules, of_traffic, its_input);
+    listed = λ i c among. let one = in_list i c among in search (arith, rules, of_traffic, its_input);
+    buffered = λ j c among. let one = in_buffer j c among in search (arith, rules, of_traffic, its_input);
   }
 
   -- ## No more wait than came

@@ -16,7 +16,7 @@ pub use Rattle.cq_ideal.specs.Refused.{refused_at, refused_in, with_cells, with_
 unfoldable pub use Rattle.cq_ideal.specs.Refused.{cells_refused, packets_refused, refused_counts}
 pub use Rattle.cq_state.specs.State.{IsInRange, IsNamed}
 pub use Rattle.cq_state.specs.{declared.state.Named.Named, declared.state.Seen.Seen, declared.state.Sent.Sent, declared.state.State.State}
-pub use Rattle.cq_laws.specs.Fabric.{Fabric, IsAmong, IsEmptyFabric, IsFabric, ListsKeepOrder, buffer, cushion_of, empty_fabric, input}
+pub use Rattle.cq_laws.specs.Fabric.{Fabric, IsEmptyFabric, IsFabric, ListsKeepOrder, buffer, cushion_of, empty_fabric, input}
 pub use Rattle.cq_laws.specs.Frozen.{AreCountsOf, AreOwn, HasPorts, IsSoundFabric, fabric_in, marked_in}
 pub use Rattle.cq_resume.specs.Counted.{IsTally, departure_of, input_told, latest, output_told, refused_arrivals, sent_told, taken_of}
 unfoldable pub use Rattle.cq_resume.specs.Counted.{figures_told, frozen_told}

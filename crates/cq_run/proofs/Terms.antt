@@ -18,6 +18,7 @@ unfoldable pub use Rattle.cq_tables.specs.Document.{read_or_refused}
 pub use Rattle.cq_cells.proofs.Rising.{short_is, traffic_is}
 pub use Rattle.cq_cells.specs.Schedule.{arrivals_of, first_stamp, packet_at, packets_of, start}
 unfoldable pub use Rattle.cq_base.specs.Pieces.{cells_of}
+pub use Rattle.cq_base.specs.Items.{EachPair, Has}
 unfoldable pub use Rattle.cq_cells.specs.Schedule.{arrivals, arrivals_at, cell_of, cells}
 pub use Rattle.cq_cells.specs.Traffic.{IsInRange, IsLater, IsRecorded, IsTraffic}
 pub use Rattle.cq_scfq.specs.Disciplines.{machines_of, openings_of}
@@ -65,6 +66,7 @@ pub use Rattle.cq_space.specs.declared.whole.ReadRefusal.{ReadRefusal}
 pub use Rattle.cq_pcap.specs.{Written.written, declared.write.OutPacket.OutPacket}
 pub use Rattle.cq_pcap.proofs.{ReadIsSpelt.spelt_or_faulty, SpeltIsRead.fault_is_read, SpeltIsRead.spelt_is_read}
 pub use Rattle.cq_stream.specs.declared.item.Item.TheVariants.{Row}
+pub use Rattle.cq_base.proofs.Having.{has_left, has_right, pair_of_has}
 pub use Rattle.cq_tables.proofs.Versions.{first_parts}
 pub use Rattle.cq_tables.specs.{declared.place.Array.TheVariants.Ports, declared.place.Place.TheVariants.Element, declared.place.Place.TheVariants.Top, declared.refusal.Wrong.TheVariants.DuplicateFile}
 pub use Rattle.cq_cells.proofs.{Packets.came_more, Packets.few_by, Packets.rows_are, Packets.length_packet, Packets.row_of}
@@ -77,8 +79,6 @@ pub use Rattle.cq_audit.specs.{Audit.IsYes, Audit.opening_fabric, Audit.IsNo, Tr
 pub use Rattle.cq_state.specs.{Refusals.IsTooLong, State.state_text, declared.write.StateLong.StateLong}
 pub use Rattle.cq_laws.specs.{Records.transfers_of_run, declared.frozen.Frozen.Frozen}
 pub use Rattle.cq_laws.proofs.WholeRuns.{empty_list}
-pub use Rattle.cq_base.specs.Items.{EachPair, Has}
-pub use Rattle.cq_base.proofs.Having.{has_left, has_right, pair_of_has}
 pub use Rattle.cq_resume.specs.{Parts.IsParted, Reading.IsRead, Reading.IsRefusal, Reading.state_of, Resumed.IsResumed, Resumed.Kept, Switch.Switch, Switch.switch_of, declared.refusal.StateRefusal.StateRefusal}
 pub use Rattle.cq_simulate.proofs.{Chosen.parted_best, Chosen.parted_slack, Chosen.resumed_best, Chosen.resumed_slack, Departed.left_in_packets, EachPacket.each_packet_once, ResumedCounts.resumed_counts, ResumedWhole.resumed_whole, StableRuns.all_stable, StableRuns.stable_sends, StableRuns.stable_slack, Tallies.one_is}
 pub use Rattle.cq_simulate.specs.{PartedRuns.CanBeTakenUp, PartedRuns.IsPartFault, PartedRuns.IsResumeFault, PartedRuns.kept_of, declared.packing.Packing.Packing}

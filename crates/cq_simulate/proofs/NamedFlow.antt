@@ -3,7 +3,7 @@
 -- have the same cells: of a flow there arrives one cell in a slot at most.
 -- What waits for an output in a sound state stands there as in a run: in the order of the keys, each cell with the
 -- level of its class and a rank below the floor, and each arrived in an earlier slot.
-use Rattle.cq_simulate.proofs.Terms.{common_steps, rules, map-append, ◌≡◌, ◌≢◌, ℕ, ◌<◌, Bool, true, false, List, [], ◌∷◌, ◌++◌, length, map, filter, Option, Some, refl, sym, ap, ◌∙◌, subst, inl, ⊎_elim, arith, ◌⊎◌, ◌+◌, ◌≤◌, not, cond, inr, fold, ◌&&◌, ◌==◌, All, option_map, slice_index_or, nat_lt, if◌then◌else◌, AllByRecursion, AllPairs, filter_map, list_any, and_from, and_parts, cases_Bool, cases_lt, eq-eqb, eqb-true, lt-ltb, ltb-true, or_left, or_right, true≢false, cases_eq, cond-false, cond-true, le-ltb, ne_eqb, Arrival, EachCell, IsBefore, Departure, Queued, IsLater, IsTraffic, comes_in_flow, leaves_in_flow, left_in_flow, is_kind, shown, HasWaited, Stands, line_at, is_from_on, rest_of, Agrees, Fabric, IsAmong, buffer, input, ideal_of, list_of, departure_of, sent_told, firsts_at, is_refused, latest, IsSound, OfOneFlow, IsBelowFloor, AllNamed, AreWholePackets, NoneNamed, HasShape, Switch, HasLimit, arriving_cell, class_of, fabric_told, is_ahead, is_named, key_of, named_in, output_of, queued_in, queued_of, list_told, class_in, packet_before, EachPair, each_pair, buffer_is, comes, found_at, has_of_among, in_buffer, in_list, in_order, is_cell_of, its_output, its_slot, list_is, of_traffic, ports_are, queued_differ, queued_named, some_cell, Has, all_from_has, all_of_has, has_cases, has_image, has_kept, has_left, has_right, image_has, kept_has, pair_of_has, IsInRange, Sent, State, NoLater, all_weaker, Machine, machine_at, AreOfPackets, all_both, of_images, key_laws, HasFor, all_has, looked_up, pairs_kept, pairs_kept_with, pairs_looked_up, pairs_with, Named, Key}
+use Rattle.cq_simulate.proofs.Terms.{common_steps, rules, map-append, ◌≡◌, ℕ, ◌<◌, Bool, true, false, List, [], ◌∷◌, ◌++◌, length, map, filter, Option, Some, refl, sym, ap, ◌∙◌, subst, inl, ⊎_elim, arith, ◌⊎◌, ◌+◌, ◌≤◌, not, cond, inr, fold, ◌&&◌, ◌==◌, All, option_map, slice_index_or, nat_lt, if◌then◌else◌, AllByRecursion, AllPairs, and_from, and_parts, cases_lt, eq-eqb, eqb-true, lt-ltb, ltb-true, cases_eq, cond-false, cond-true, le-ltb, ne_eqb, Arrival, IsBefore, Departure, Queued, IsLater, IsTraffic, comes_in_flow, leaves_in_flow, left_in_flow, is_kind, shown, HasWaited, Stands, line_at, is_from_on, rest_of, Agrees, Fabric, IsAmong, buffer, input, ideal_of, list_of, departure_of, sent_told, firsts_at, is_refused, latest, IsSound, OfOneFlow, IsBelowFloor, AllNamed, AreWholePackets, NoneNamed, HasShape, Switch, HasLimit, arriving_cell, class_of, fabric_told, is_ahead, is_named, key_of, named_in, output_of, queued_in, queued_of, list_told, class_in, packet_before, EachPair, each_pair, buffer_is, comes, found_at, in_buffer, in_list, in_order, is_cell_of, its_output, its_slot, list_is, of_traffic, ports_are, queued_differ, queued_named, some_cell, Has, all_from_has, all_of_has, has_cases, has_image, has_kept, has_left, has_right, image_has, kept_has, pair_of_has, IsInRange, Sent, State, NoLater, all_weaker, Machine, machine_at, AreOfPackets, key_laws, HasFor, all_has, looked_up, pairs_kept, pairs_kept_with, pairs_looked_up, pairs_with, Named, Key, any_has, has_any, any_alike, pairs_mapped, pairs_joined, has_looked_up}
 use Rattle.std.proofs.lemmas.Simd.{map-map}
 use Rattle.cq_ideal.proofs.RestAtInput.{cells_of}
 
@@ -160,22 +160,6 @@ module _ (named : Arrival → Bool) (taken : ℕ → Bool) where
 
 -- ## What a sound state says
 
-pub any_has : {X : Type 0} (p : X → Bool) (xs : List X) (x : X) → Has xs x → p x ≡ true → list_any p xs ≡ true
-any_has p [] x has is = absurd has
-any_has p (z ∷ zs) x has is = grind (arith, common_steps, or_left, or_right, any_has p zs x)
-
-pub has_any : {X : Type 0} (p : X → Bool) (xs : List X) → list_any p xs ≡ true → (x : X) × Has xs x × (p x ≡ true)
-has_any p [] holds = absurd (let clash : false ≡ true = holds in let P : ⊥ = cc in P)
-has_any p (z ∷ zs) holds = grind (arith, common_steps, cases_Bool, has_any p zs)
-
--- one passes where all are alike, and there is one
-any_alike : (named : Arrival → Bool) (t : Bool) (xs : List Arrival) (x : Arrival) → Has xs x →
-    ((y : Arrival) → Has xs y → named y ≡ t) → list_any named xs ≡ t
-any_alike named true xs x has alike = any_has named xs x has (alike x has)
-any_alike named false xs x has alike = ⊎_elim (λ holds.
-    let it = has_any named xs holds in absurd (true≢false (sym it.2 ∙ alike it.0 it.1))) (λ none. none)
-    (cases_Bool (list_any named xs))
-
 module _ (w : Switch) (s : State) (i : ℕ) (whole : AreWholePackets w s)
     (rising : EachPair IsEarlier (line_at i w.came)) (packets : AreOfPackets 0 (cells_of (line_at i w.came))) where
   abbrev pub line : List Arrival
@@ -319,32 +303,6 @@ line_rises came later i =
     rises (eqb-true a.cell.id.input i first ∙ sym (eqb-true b.cell.id.input i second))) came
     (each_pair IsLater came later)
 
--- ## Lists
-
-pub pairs_mapped : {X Y : Type 0} (f : X → Y) (R : Y → Y → Type 0) (xs : List X) → EachPair (λ a b. R (f a) (f b)) xs →
-    EachPair R (map f xs)
-pairs_mapped f R [] pairs = tt
-pairs_mapped f R (x ∷ xs) pairs = (of_images f (R (f x)) xs pairs.0, pairs_mapped f R xs pairs.1)
-
-pub pairs_joined : {X : Type 0} (R : X → X → Type 0) (xs ys : List X) → EachPair R xs → EachPair R ys →
-    ((x y : X) → Has xs x → Has ys y → R x y) → EachPair R (xs ++ ys)
-pairs_joined R [] ys first second across = second
-pairs_joined R (x ∷ xs) ys first second across =
-    grind (arith, common_steps, all_both, all_from_has, pairs_joined R xs ys first.1 second)
-
-pub pairs_of_cells : (R : Queued → Queued → Type 0) (xs : List Queued) → EachCell R xs → EachPair R xs
-pairs_of_cells R [] pairs = tt
-pairs_of_cells R (x ∷ xs) pairs = (pairs.0, pairs_of_cells R xs pairs.1)
-
-pub among_of_has : (xs : List Queued) (q : Queued) → Has xs q → IsAmong q xs
-among_of_has [] q has = absurd has
-among_of_has (x ∷ xs) q has = grind (arith, common_steps, among_of_has xs q)
-
-has_looked_up : {A B : Type 0} (f : A → Option B) (xs : List A) (x : A) (y : B) → Has xs x → f x ≡ Some y →
-    Has (filter_map f xs) y
-has_looked_up f [] x y has is = absurd has
-has_looked_up f (z ∷ zs) x y has is = grind (arith, common_steps, has_looked_up f zs x y)
-
 -- the cell that departs, and where
 departs : (d : Sent) (o : Option Queued) (x : Departure) →
     option_map (λ q. let y : Departure = record { slot = d.slot; output = q.cell.output; queued = q } in y) o ≡ Some x →
@@ -362,7 +320,7 @@ both_cells : (xs : List Departure) (ys : List Queued) →
     ≡ cells_of (map as_arrival (map (λ (d : Departure). d.queued) xs ++ ys))
 both_cells xs ys = simp (map-append, map-map)
 
-none_later : (xs : List Queued) → EachCell IsBefore xs → EachCell NoLater xs
+none_later : (xs : List Queued) → EachPair IsBefore xs → EachPair NoLater xs
 none_later [] rising = tt
 none_later (x ∷ xs) rising = (
   all_weaker (IsBefore x) (NoLater x) (λ y before. key_laws.one_way x.key y.key before) xs
@@ -393,12 +351,12 @@ module _ (w : Switch) (s : State) (in_range : IsInRange s) (shape : HasShape w s
   waits_there q has =
       ⊎_elim
       (λ (at : (k : ℕ) × IsAmong q (input f k) × (q.cell.output ≡ j)).
-      let it = in_list w s in_range shape sound traffic at.0 q (has_of_among (input f at.0) q at.1) in
+      let it = in_list w s in_range shape sound traffic at.0 q at.1 in
       record { name = it.name; has = has_left s.listed s.buffered it.name it.has; is = it.is; output = at.2 })
       (λ (at : IsAmong q (buffer f j)).
-      let it = in_buffer w s in_range shape sound traffic j q (has_of_among (buffer f j) q at) in
+      let it = in_buffer w s in_range shape sound traffic j q at in
       record { name = it.name; has = has_right s.listed s.buffered it.name it.has; is = it.is; output = it.here })
-      ((agrees.same j q).0 (among_of_has there q has))
+      ((agrees.same j q).0 has)
 
   abbrev pub next : ℕ
   next = s.head.next
@@ -514,7 +472,7 @@ module _ (w : Switch) (s : State) (in_range : IsInRange s) (shape : HasShape w s
     waiting_rise : EachPair Earlier waiting
     waiting_rise = pairs_with IsBefore Earlier (λ (q : Queued). Has waiting q) waits_earlier waiting
         (all_from_has _ waiting (λ q has. has))
-        (pairs_kept IsBefore (is_kind i c) there (pairs_of_cells IsBefore there (agrees.rising j)))
+        (pairs_kept IsBefore (is_kind i c) there (agrees.rising j))
 
     -- what was sent arrived before what waits
     abbrev After : Named → Named → Type 0
@@ -603,7 +561,7 @@ module _ (w : Switch) (s : State) (in_range : IsInRange s) (shape : HasShape w s
 
     among_waiting : (n : Named) (q : Queued) → InFlow n q → HasFor f j q → Has waiting q
     among_waiting n q of stands =
-        has_kept (is_kind i c) there q (has_of_among there q ((agrees.same j q).1 stands)) of.kind
+        has_kept (is_kind i c) there q ((agrees.same j q).1 stands) of.kind
 
     among_listed : (n : Named) (q : Queued) → InFlow n q → Has s.listed n → Has waiting q
     among_listed n q of has =
@@ -614,13 +572,13 @@ module _ (w : Switch) (s : State) (in_range : IsInRange s) (shape : HasShape w s
         has_looked_up t (filter at s.listed) n q (has_kept at s.listed n has (eq-eqb n.input n.input refl)) of.is in
         let here : Has (input f n.input) q =
         rw (list_is w s in_range shape sound traffic n.input (omega arith)) told_there in
-        among_waiting n q of (inl (n.input, among_of_has (input f n.input) q here, of.output))
+        among_waiting n q of (inl (n.input, here, of.output))
 
     among_buffered : (n : Named) (q : Queued) → InFlow n q → Has s.buffered n → Has waiting q
     among_buffered n q of has =
         let ports : s.head.ports ≡ length w.machines = ports_are w s in_range shape sound traffic in
         let low : q.cell.output < length w.machines = (of_traffic w s in_range shape sound traffic n q of.is).output in
-        search (arith, rules, has_kept, has_looked_up, buffer_is, among_waiting, among_of_has)
+        search (arith, rules, has_kept, has_looked_up, buffer_is, among_waiting)
 
     is_there : (x : Arrival) → Has told x → Has (map as_arrival (gone ++ waiting)) x
     is_there x has =

@@ -1,10 +1,10 @@
 -- The words of this crate's proofs that stand elsewhere, each passed on from its place.
-pub use Rattle.cq_base.proofs.Library.{All, All-from_recursion, All-map, All-push, AllByRecursion, AllPairs, Bool, Err, IfErr-weaker, IfOk, IfOk-weaker, IfSome, IsOkAnd, IsTrue, List, None, Ok, Option, Result, Some, [], and_from, and_left, and_parts, and_right, ap, append-nil, append_assoc, arith, cases_Bool, cases_eq, cases_lt, common_steps, cond, cond-false, cond-true, cond_both, cons_option, drop, drop_more, enumerate_from, eq-eqb, eqb-true, err_from_is_err_and, false, filter, filter-append, filter_map, find, flat_map, flat_map-append, flat_map-map, fold, fold-append, get_or, get_or-map, get_or-map-range_with_len, get_or-replicate, get_or-set_other, get_or-set_same, get_or_default, get_or_from_slice_get, get_or_past, if◌then◌else◌, inl, inr, is_err, is_some, le-leb, le-ltb, leb-false, leb-zero, length, length-append, length-drop, length-filter, length-filter_both, length-insert, length-map, length-map-range_with_len, length-replicate, length-set, list_any, lt-leb, lt-ltb, ltb-true, map, map-append, map-range_with_len_more, max, min, mul-le-mul, nat_lt, ne_eqb, nil_from_length, not, option_map, or_left, or_right, range_with_len, recursion_from_All, refl, replicate, rules, set, slice_get, slice_get_within, slice_index, slice_index_or, subst, suc, sum, sum-map, sum_by, sum_by-cons, sum_by-le, sym, take, take-append-drop, take-append-le, take_all, take_more, true, true≢false, vec_len, zero, ℕ, ⊎_elim, ◌&&◌, ◌*◌, ◌++◌, ◌+◌, ◌-◌, ◌<◌, ◌==◌, ◌^◌, ◌↔◌, ◌∙◌, ◌∷◌, ◌≡◌, ◌≢◌, ◌≤◌, ◌⊎◌}
+pub use Rattle.cq_base.proofs.Library.{All, All-from_recursion, All-map, All-push, AllByRecursion, AllPairs, Bool, Err, IfErr-weaker, IfOk, IfOk-weaker, IfSome, IsOkAnd, IsTrue, List, None, Ok, Option, Result, Some, [], and_from, and_left, and_parts, and_right, ap, append-nil, append_assoc, arith, cases_Bool, cases_eq, cases_lt, common_steps, cond, cond-false, cond-true, cond_both, cons_option, drop, drop_more, enumerate_from, eq-eqb, eqb-true, err_from_is_err_and, false, filter, filter-append, filter_map, find, flat_map, flat_map-append, flat_map-map, fold, fold-append, get_or, get_or-map, get_or-map-range_with_len, get_or-replicate, get_or-set_other, get_or-set_same, get_or_default, get_or_from_slice_get, get_or_past, if◌then◌else◌, inl, inr, is_err, is_some, le-leb, le-ltb, leb-false, leb-zero, length, length-append, length-drop, length-filter, length-filter_both, length-insert, length-map, length-map-range_with_len, length-replicate, length-set, list_any, lt-leb, lt-ltb, ltb-true, map, map-append, map-range_with_len_more, max, min, mul-le-mul, nat_lt, ne_eqb, nil_from_length, not, option_map, range_with_len, recursion_from_All, refl, replicate, rules, set, slice_get, slice_get_within, slice_index, slice_index_or, subst, suc, sum, sum-map, sum_by, sum_by-cons, sum_by-le, sym, take, take-append-drop, take-append-le, take_all, take_more, true, vec_len, zero, ℕ, ⊎_elim, ◌&&◌, ◌*◌, ◌++◌, ◌+◌, ◌-◌, ◌<◌, ◌==◌, ◌^◌, ◌↔◌, ◌∙◌, ◌∷◌, ◌≡◌, ◌≢◌, ◌≤◌, ◌⊎◌}
 pub use Rattle.cq_base.specs.Arrivals.{arrival_at, no_arrivals}
 pub use Rattle.cq_base.specs.Arriving.{Arrival, arriving_at, end_of, is_at}
 unfoldable pub use Rattle.cq_base.specs.Arriving.{arriving, enough, traffic_of}
 pub use Rattle.cq_base.specs.Cells.{IsBefore, is_for}
-pub use Rattle.cq_base.specs.Items.{EachPair, EachPair as EachCell, Has}
+pub use Rattle.cq_base.specs.Items.{EachPair, Has}
 pub use Rattle.cq_base.specs.{Packed.unpacked, Room.RoomView, declared.cell.Departure.Departure, declared.cell.Queued.Queued, declared.cell.TagFault.TagFault, declared.cell.Transfer.Transfer, declared.figures.Figures.Figures, declared.setup.Setup.Setup}
 pub use Rattle.cq_pcap.specs.Captured.{Captured, rows_from}
 pub use Rattle.cq_route.specs.Route.{route}
@@ -45,7 +45,7 @@ pub use Rattle.cq_ideal.specs.Ending.{first_slots, slots_of}
 unfoldable pub use Rattle.cq_ideal.specs.Ending.{arriving_from}
 pub use Rattle.cq_ideal.specs.Flows.{IsRunnable, RiseByInput, came_in_flow, comes_in_flow, leaves_in_flow, left_in_flow}
 pub use Rattle.cq_ideal.specs.Ideal.{HasRoomFor, HaveLeft, IdealSwitch, answer_to, count_for, marked_state}
-pub use Rattle.cq_ideal.specs.{IdealRun.empty_ideal, Limiter.CanCount}
+pub use Rattle.cq_ideal.specs.{Limiter.CanCount}
 unfoldable pub use Rattle.cq_ideal.specs.IdealRun.{departures_of}
 pub use Rattle.cq_ideal.specs.IdealSlot.{IdealState, ideal_slot}
 unfoldable pub use Rattle.cq_ideal.specs.IdealSlot.{departures_in}
@@ -80,8 +80,7 @@ pub use Rattle.cq_laws.specs.LimitedFabric.{IsLimitedFault, LimitedFabricRun, Li
 pub use Rattle.cq_laws.specs.Measures.{no_figures, sends, sent_by}
 unfoldable pub use Rattle.cq_laws.specs.Measures.{figures_after, figures_of, output_after, output_figures, proposals_in}
 unfoldable pub use Rattle.cq_laws.specs.Records.{transfers_in, transfers_of_run}
-pub use Rattle.cq_resume.proofs.GoesOn.{GoesOn, buffer_is, came_before, comes, found_at, goes_on, has_of_among, in_buffer, in_list, in_order, is_cell_of, its_output, its_slot, list_is, of_traffic, ports_are, queued_differ, queued_named, some_cell}
-pub use Rattle.cq_base.proofs.Having.{all_from_has, all_has, all_of_has, has_at, has_cases, has_image, has_kept, has_left, has_right, image_has, kept_has, pair_of_has}
+pub use Rattle.cq_resume.proofs.GoesOn.{GoesOn, buffer_is, came_before, comes, found_at, goes_on, in_buffer, in_list, in_order, is_cell_of, its_output, its_slot, list_is, of_traffic, ports_are, queued_differ, queued_named, some_cell}
 pub use Rattle.cq_resume.specs.Counted.{departure_of, firsts_at, is_refused, latest, marks_told, output_told, sent_told, taken_of}
 unfoldable pub use Rattle.cq_resume.specs.Counted.{figures_told, frozen_told}
 pub use Rattle.cq_resume.specs.Resumed.{IsResumed, Kept, RunsOn, Stops}
@@ -106,11 +105,13 @@ unfoldable pub use Rattle.cq_simulate.specs.Packets.{packets_out}
 pub use Rattle.cq_simulate.specs.Pieces.{CanBeJoined, Fits, IsCaptured, IsEmptied, Took, left_with, opened, piece_at, records_of}
 pub use Rattle.cq_simulate.specs.{declared.fabric_run.PackedFabricRun.PackedFabricRun, declared.ports.Ports.Ports, declared.refusal.RunRefusal.RunRefusal}
 pub use Rattle.cq_simulate.specs.Terms.{ArePortsFor, AreTables, CanBeTakenUp, Cell, FabricRun, IsFreshFor, IsPartFault, IsQuiet, IsReady, IsResumeFault, IsScheduleFor, IsSetup, NoneCome, Tables, classes_of, kept_of, ports_of}
-pub use Rattle.cq_base.proofs.Each.{all_both, all_filter, all_weaker, of_images, all_flat, all_made}
+pub use Rattle.cq_base.proofs.Each.{all_filter, all_weaker, all_flat, all_made}
 pub use Rattle.cq_base.specs.{declared.figures.OutputFigures.OutputFigures, declared.key.Key.Key, declared.packed.PackedDeparture.PackedDeparture, declared.setup.Kind.Kind, declared.setup.Kind.TheVariants.FirstCome}
 pub use Rattle.cq_base.proofs.Keys.{key_laws}
 pub use Rattle.cq_pcap.proofs.Writing.{written_with}
 pub use Rattle.cq_pcap.specs.{declared.capture.PacketRow.PacketRow, declared.write.OutPacket.OutPacket}
+pub use Rattle.cq_base.proofs.Having.{all_from_has, all_has, all_of_has, any_alike, any_has, has_any, has_at, has_cases, has_image, has_kept, has_left, has_right, has_there, image_has, kept_has, pair_of_has}
+pub use Rattle.cq_base.proofs.Pooled.{each_pair, has_looked_up, looked_up, pairs_joined, pairs_kept, pairs_kept_with, pairs_looked_up, pairs_mapped, pairs_with}
 pub use Rattle.cq_cells.proofs.Stamps.{length-rows_from}
 pub use Rattle.cq_cells.proofs.Ranges.{range_more}
 pub use Rattle.cq_scfq.specs.declared.discipline.Discipline.{Discipline}
@@ -123,7 +124,6 @@ pub use Rattle.cq_state.specs.declared.state.Named.{Named}
 pub use Rattle.cq_prefs.specs.Orders.{Orders}
 pub use Rattle.cq_prefs.proofs.{InputOrder.OutputsInRange, InputOrder.are_offers, Places.outputs_at_most}
 pub use Rattle.cq_laws.specs.{Frozen.fabric_in, Frozen.marked_in, Frozen.IsSoundFabric, LimitedQuiet.quiet_limited_slots, LimitedQuiet.quiet_limited_slot, Phases.Transfers, Phases.came_to, Phases.list_arrived, Places.HasFor, declared.frozen.Frozen.Frozen}
-pub use Rattle.cq_laws.proofs.{ActingAlike.best_act_alike_from_empty, ActingAlike.best_act_alike, AddingUp.figures_fold, Came.came_from, EndsTogether.slots_of_figures, Held.hold_as_many, Joined.all_go_on, KeptParts.departures_one, KeptParts.transfers_both, KeptParts.transfers_one, KeptParts.departures_on, Members.among_at, Members.first_at, Parted.reach, Parted.run_of_whole}
+pub use Rattle.cq_laws.proofs.{ActingAlike.best_act_alike_from_empty, ActingAlike.best_act_alike, AddingUp.figures_fold, Came.came_from, EndsTogether.slots_of_figures, Held.hold_as_many, Joined.all_go_on, KeptParts.departures_one, KeptParts.transfers_both, KeptParts.transfers_one, KeptParts.departures_on, Members.first_at, Parted.reach, Parted.run_of_whole}
 pub use Rattle.cq_resume.specs.Parts.{IsParted}
-pub use Rattle.cq_base.proofs.Pooled.{each_pair, looked_up, pairs_kept, pairs_kept_with, pairs_looked_up, pairs_with}
 pub use Rattle.cq_engine.proofs.{Kept.limited_lists_kept, Kept.limited_outputs_kept}

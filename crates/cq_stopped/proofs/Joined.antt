@@ -1,6 +1,6 @@
 -- Lists that are joined, sifted and mapped: what they have, and what holds of each of their items and each that stands
 -- behind it.
-use Rattle.cq_stopped.proofs.Terms.{common_steps, rules, ◌≡◌, ℕ, zero, suc, ◌<◌, Bool, true, false, List, [], ◌∷◌, map, refl, ⊎_elim, arith, length, ◌+◌, Option, Some, ◌==◌, filter, slice_index_or, AllByRecursion, AllPairs, flat_map, filter_map, range_with_len, eq-eqb, cases_Bool, ne_eqb, append-nil, filter-append, EachPair, all_pairs, pairs_with, Has, all_from_has, all_of_has, has_left, has_right, has_cases, has_image, has_kept, of_images, all_in_row, sym, fill_by_all, pairs_joined, pairs_mapped}
+use Rattle.cq_stopped.proofs.Terms.{common_steps, rules, ◌≡◌, ℕ, zero, suc, ◌<◌, Bool, List, [], ◌∷◌, map, refl, ⊎_elim, arith, length, ◌+◌, Option, Some, ◌==◌, filter, slice_index_or, AllByRecursion, AllPairs, flat_map, filter_map, range_with_len, eq-eqb, cases_Bool, ne_eqb, append-nil, filter-append, EachPair, all_pairs, pairs_with, Has, all_from_has, all_of_has, has_left, has_right, has_cases, has_image, has_kept, sym, fill_by_all, pairs_joined, pairs_mapped, all_give, filter_all, filter_none}
 
 module _ {X : Type 0} where
   -- ## Lists end on end
@@ -41,15 +41,13 @@ module _ {X : Type 0} where
         (λ i. within (suc i)) (λ i k x y lt one two. across (suc i) (suc k) x y (omega arith) one two))
         (λ x y one two. let it = is_at xss y two in across zero (suc it.place) x y (omega arith) one it.has)
 
-  all_of_both : (P Q : X → Type 0) (xs : List X) → AllByRecursion P xs → AllByRecursion Q xs →
-      AllByRecursion (λ x. P x × Q x) xs
-  all_of_both P Q [] first second = tt
-  all_of_both P Q (x ∷ xs) first second = ((first.0, second.0), all_of_both P Q xs first.1 second.1)
-
   pub pairs_both : (R S : X → X → Type 0) (xs : List X) → EachPair R xs → EachPair S xs →
       EachPair (λ x y. R x y × S x y) xs
   pairs_both R S [] first second = tt
-  pairs_both R S (x ∷ xs) first second = grind (arith, common_steps, all_of_both, pairs_both R S xs first.1 second.1)
+  pairs_both R S (x ∷ xs) first second = (
+    all_give (R x) (S x) (λ y. R x y × S x y) (λ y one two. (one, two)) xs first.0 second.0,
+    pairs_both R S xs first.1 second.1,
+  )
 
 module _ {X Y : Type 0} (f : X → Y) where
   pub image_pairs : (R : Y → Y → Type 0) (xs : List X) → EachPair (λ x y. R (f x) (f y)) xs → AllPairs R (map f xs)
@@ -65,20 +63,7 @@ module _ {X Y : Type 0} (f : X → Y) where
   told_again g [] each = refl
   told_again g (x ∷ xs) each = grind (arith, common_steps, told_again g xs)
 
--- what holds of all images of numbers
-pub all_made : {X : Type 0} (P : X → Type 0) (f : ℕ → X) (a n : ℕ) → ((i : ℕ) → i < a + n → P (f i)) →
-    AllByRecursion P (map f (range_with_len a n))
-all_made P f a n each = of_images f P (range_with_len a n) (all_in_row (λ i. P (f i)) a n each)
-
 -- ## Sifting lists that stand end on end
-
-filter_all : {X : Type 0} (p : X → Bool) (xs : List X) → ((x : X) → Has xs x → p x ≡ true) → filter p xs ≡ xs
-filter_all p [] each = refl
-filter_all {X} p (x ∷ xs) each = grind (arith, common_steps, filter_all p xs)
-
-pub filter_none : {X : Type 0} (p : X → Bool) (xs : List X) → ((x : X) → Has xs x → p x ≡ false) → filter p xs ≡ []
-filter_none p [] each = refl
-filter_none p (x ∷ xs) each = grind (arith, common_steps, filter_none p xs)
 
 module _ {X : Type 0} (number : X → ℕ) where
   abbrev is_numbered : ℕ → X → Bool
@@ -92,18 +77,20 @@ module _ {X : Type 0} (number : X → ℕ) where
   later a xs xss own k x has = let e = own (suc k) x has in omega arith
 
   none_past : (a i : ℕ) (xss : List (List X)) → i < a → AreNumbered a xss → filter (is_numbered i) (all_of xss) ≡ []
-  none_past a i xss lt own = grind (arith, common_steps, filter_none, all_of, is_at, ne_eqb)
+  none_past a i xss lt own = filter_none (is_numbered i) (all_of xss) (all_from_has _ (all_of xss) (λ x has.
+      let it = is_at xss x has in
+      let e : number x ≡ a + it.place = own it.place x it.has in ne_eqb (number x) i (λ same. omega arith)))
 
   sifted : (a i : ℕ) (xss : List (List X)) → AreNumbered a xss → (k : ℕ) → a + k ≡ i →
       filter (is_numbered i) (all_of xss) ≡ list_at xss k
   sifted a i [] own k is = refl
   sifted a i (xs ∷ xss) own zero is =
-      let here = filter_all (is_numbered i) xs (λ x has.
-      let e = own zero x has in eq-eqb (number x) i (omega arith)) in
+      let here = filter_all (is_numbered i) xs (all_from_has _ xs (λ x has.
+      let e = own zero x has in eq-eqb (number x) i (omega arith))) in
       search (arith, rules, none_past (a + 1) i xss, later a xs xss own, filter-append, append-nil)
   sifted a i (xs ∷ xss) own (suc k) is =
-      let none = filter_none (is_numbered i) xs (λ x has.
-      let e = own zero x has in ne_eqb (number x) i (λ same. omega arith)) in
+      let none = filter_none (is_numbered i) xs (all_from_has _ xs (λ x has.
+      let e = own zero x has in ne_eqb (number x) i (λ same. omega arith))) in
       simp (filter-append, none) (sifted (a + 1) i xss (later a xs xss own) k (omega arith))
 
   pub sift : (xss : List (List X)) → ((k : ℕ) (x : X) → Has (list_at xss k) x → number x ≡ k) → (i : ℕ) →

@@ -3,11 +3,10 @@
 -- output. A cell that comes has another name than each that came before it, and of its flow each came in an earlier
 -- slot. In the order of keys none of these stands behind it: each has its level and no greater rank. So of each two
 -- cells, what left the output and then what waits there, the one ahead goes before the other as it did.
-use Rattle.cq_stopped.proofs.Terms.{rules, ◌≡◌, ℕ, zero, suc, ◌+◌, ◌<◌, ◌≤◌, ◌^◌, Bool, true, false, cond, List, [], ◌∷◌, length, Option, Some, None, Result, Ok, Err, refl, arith, ◌++◌, ap, ⊎_elim, cases_eq, ltb-true, both_ways, cases_lt, cond_both, eq-eqb, eqb-true, le-ltb, lt-ltb, false_from_ne_true, common_steps, get_or-set_other, get_or-set_same, length-set, same_Some, AllByRecursion, is_some, slice_index_or, slice_set, arrival_at, EachCell, is_for, put, Cell, Queued, came_from, only_ok, all_told, put_all, Ranking, ranking, all_among, all_if_among, all_put, among_put, IsAmong, came_to, KeepLaws, Machine, machine_at, EachPair, all_weaker, all_both, all_front, all_back, after_input_ok, key_laws, TagFault, Key, NoLater, in_order_put, given_floor}
+use Rattle.cq_stopped.proofs.Terms.{rules, ◌≡◌, ℕ, zero, suc, ◌+◌, ◌<◌, ◌≤◌, ◌^◌, Bool, true, false, cond, List, [], ◌∷◌, length, Option, Some, None, Result, Ok, Err, refl, arith, ◌++◌, ap, ⊎_elim, cases_eq, ltb-true, both_ways, cases_lt, cond_both, eq-eqb, eqb-true, le-ltb, lt-ltb, false_from_ne_true, common_steps, get_or-set_other, get_or-set_same, length-set, same_Some, AllByRecursion, is_some, slice_index_or, slice_set, arrival_at, is_for, put, Cell, Queued, came_from, only_ok, all_told, put_all, Ranking, ranking, all_put, among_put, IsAmong, came_to, KeepLaws, Machine, machine_at, EachPair, all_weaker, all_both, all_front, all_back, after_input_ok, key_laws, TagFault, Key, NoLater, in_order_put, given_floor, all_from_has, all_of_has, all_made}
 use Rattle.cq_base.specs.Key.{is_before}
 use Rattle.cq_ideal.specs.Ranking.{keyed}
 use Rattle.cq_stopped.proofs.Configured.{AreLow, KeepsLow}
-use Rattle.cq_stopped.proofs.Joined.{all_made}
 use Rattle.cq_stopped.proofs.Ran.{Follows}
 
 fits : (b : Bool) (x : Result Ranking TagFault) (fault : TagFault) (r : Ranking) → cond b x (Err fault) ≡ Ok r →
@@ -123,7 +122,7 @@ module _ (ms : List Machine) (keeps : (j : ℕ) → KeepsLow (machine_at ms j)) 
       AllByRecursion AreLow (all_told ms gone states)
   unfolding all_told
   told_low gone states all sent =
-      all_made AreLow _ 0 (length states) (λ j lt. let here = sent j in search (arith, rules, low_at))
+      all_made AreLow _ 0 (length states) (λ j _ lt. let here = sent j in search (arith, rules, low_at))
 
 -- ## A lesser key
 
@@ -144,7 +143,7 @@ module _ (R : Queued → Queued → Type 0) (q : Queued) where
   abbrev MayStandBehind : Queued → Type 0
   MayStandBehind y = is_before y.key q.key ≡ false → R q y
 
-  waiting_pairs : (xs : List Queued) → EachCell NoLater xs → EachPair R xs → AllByRecursion (λ x. R x q) xs →
+  waiting_pairs : (xs : List Queued) → EachPair NoLater xs → EachPair R xs → AllByRecursion (λ x. R x q) xs →
       AllByRecursion MayStandBehind xs → EachPair R (put q xs)
   waiting_pairs [] order pairs ahead after = (tt, tt)
   waiting_pairs (x ∷ xs) order pairs ahead after =
@@ -152,13 +151,13 @@ module _ (R : Queued → Queued → Type 0) (q : Queued) where
       (λ h. (
         (
           after.0 (key_laws.one_way q.key x.key h),
-          all_if_among (R q) xs (search (arith, rules, all_among, none_before, NoLater)),
+          all_from_has (R q) xs (search (arith, rules, all_of_has, none_before, NoLater)),
         ),
         pairs,
       ))
       (λ _. (all_put (R x) q xs ahead.0 pairs.0, waiting_pairs xs order.1 pairs.1 ahead.1 after.1))
 
-  pub put_pairs : (left xs : List Queued) → EachCell NoLater xs → EachPair R (left ++ xs) →
+  pub put_pairs : (left xs : List Queued) → EachPair NoLater xs → EachPair R (left ++ xs) →
       AllByRecursion (λ x. R x q) (left ++ xs) → AllByRecursion MayStandBehind xs → EachPair R (left ++ put q xs)
   put_pairs [] xs order pairs ahead after = waiting_pairs xs order pairs ahead after
   put_pairs (z ∷ zs) xs order pairs ahead after =
@@ -197,7 +196,7 @@ module _ (j slot : ℕ) where
     stands_behind x e old late = grind (arith, common_steps, e.before, both_ways, cases_lt)
 
   pub pairs_put_all : (came : List (Option Queued)) (a : ℕ) (left xs : List Queued) → Come a came →
-      AllByRecursion (IsEarlier a) (left ++ xs) → OldAhead came xs → EachCell NoLater xs →
+      AllByRecursion (IsEarlier a) (left ++ xs) → OldAhead came xs → EachPair NoLater xs →
       EachPair Follows (left ++ xs) → EachPair Follows (left ++ put_all j came xs)
   pairs_put_all [] a left xs come earlier old order pairs = pairs
   pairs_put_all (None ∷ came) a left xs come earlier old order pairs = pairs_put_all came (a + 1) left xs
@@ -215,7 +214,7 @@ module _ (j slot : ℕ) where
       (λ was. old (suc k) p x at output was before class) (among_put x q xs among))
       (in_order_put q xs order)
       (put_pairs Follows q left xs order pairs (search (arith, rules, all_weaker, ahead))
-      (all_if_among _ xs (λ x among. stands_behind a q slot_is input_is x (all_among (IsEarlier a) xs x waits among)
+      (all_from_has _ xs (λ x among. stands_behind a q slot_is input_is x (all_of_has (IsEarlier a) xs x waits among)
       (old zero q x refl (eqb-true q.cell.output j here) among)))))
       (λ other. pairs_put_all came (a + 1) left xs (come_on a (Some q) came come) (earlier_on a (left ++ xs) earlier)
       (λ k. old (suc k)) order pairs)

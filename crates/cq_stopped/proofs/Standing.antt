@@ -3,7 +3,7 @@
 -- are one, and of all others the names differ. Each name in the state is of such a cell, and comes to it: each list to
 -- the list of its input, each buffer to that of its output, and each departure to itself. So the clauses hold that ask
 -- for a sound state, but for the fourth.
-use Rattle.cq_stopped.proofs.Terms.{among_of_has, rules, ◌≡◌, ℕ, ◌<◌, List, [], length, Option, refl, sym, ◌∙◌, inl, inr, arith, Bool, true, ◌++◌, map, Some, None, ap, ⊎_elim, ◌≤◌, false_from_ne_true, and_from, and_parts, eq-eqb, eqb-true, common_steps, list_any, filter_map, ◌&&◌, ◌==◌, is_some, slice_index_or, filter, option_map, IsSome, Arrival, IsBefore, is_for, Departure, Queued, Transfer, HasWaited, IdealState, apart_from, not_before_itself, Fabric, buffer, input, fabric_in, HasFor, list_of, machine_at, EachPair, all_pairs, all_weaker, has_of_among, cell_with, Differ, Has, all_from_has, all_of_has, has_left, has_right, pair_of_has, has_cases, has_image, image_has, kept_has, pairs_cross, pairs_left, pairs_right, pairs_with, departure_of, sent_told, named_as, sent_as, state_of, HaveSlack, AreArrivals, IsBufferedBefore, IsTransferBefore, StandInOrder, KeepArrivalOrder, OfOneFlow, AreBelowFloors, IsBelowFloor, Switch, HasShape, class_in, class_of, is_named, named_in, output_in, output_of, queued_in, buffer_told, fabric_told, list_told, queued_of, arriving_cell, is_ahead, Taken, Named, Sent, told_state, State, pairs_of_cells, has_all, any_has, has_any, pairs_joined, pairs_mapped}
+use Rattle.cq_stopped.proofs.Terms.{rules, ◌≡◌, ℕ, ◌<◌, List, [], length, Option, refl, sym, ◌∙◌, inl, inr, arith, Bool, true, ◌++◌, map, Some, None, ap, ⊎_elim, ◌≤◌, false_from_ne_true, and_from, and_parts, eq-eqb, eqb-true, common_steps, list_any, filter_map, ◌&&◌, ◌==◌, is_some, slice_index_or, filter, option_map, IsSome, Arrival, IsBefore, is_for, Departure, Queued, Transfer, HasWaited, IdealState, apart_from, not_before_itself, Fabric, buffer, input, fabric_in, HasFor, list_of, machine_at, EachPair, all_pairs, all_weaker, cell_with, Differ, Has, all_from_has, all_of_has, has_left, has_right, pair_of_has, has_cases, has_image, image_has, kept_has, pairs_cross, pairs_left, pairs_right, pairs_with, departure_of, sent_told, named_as, sent_as, state_of, HaveSlack, AreArrivals, IsBufferedBefore, IsTransferBefore, StandInOrder, KeepArrivalOrder, OfOneFlow, AreBelowFloors, IsBelowFloor, Switch, HasShape, class_in, class_of, is_named, named_in, output_in, output_of, queued_in, buffer_told, fabric_told, list_told, queued_of, arriving_cell, is_ahead, Taken, Named, Sent, told_state, State, has_all, any_has, has_any, pairs_joined, pairs_mapped}
 use Rattle.cq_stopped.proofs.Joined.{pairs_in, all_of, has_number, pairs_by_number, pairs_of_all, has_at_place, is_at, pairs_both, filter_images, sift, told_again, by_places, image_pairs}
 use Rattle.cq_stopped.proofs.Lined.{AreMoved, DepartsBefore}
 use Rattle.cq_stopped.proofs.Ran.{Follows, IsOwn, IsSentRight, Known, left_at, pool_at, IsHeld, came_in}
@@ -52,19 +52,19 @@ module _ {w : Switch} (at : Taken) {ideal : IdealState} {cs : List (List (Option
   waits_for : (j : ℕ) (q : Queued) → q.cell.output ≡ j → HasFor f j q → Waits q
   waits_for j q same has =
       let own = own_at w at.frozen.next f ideal cs at.sent known j q has in
-      search (arith, rules, has_of_among _ q ((known.agrees.same j q).1 has), kept_at, has_right, left_at)
+      let there = (known.agrees.same j q).1 has in search (arith, rules, kept_at, has_right, left_at)
 
   placed : (i : ℕ) (q : Queued) → Has (input f i) q → q.key.input ≡ i
-  placed i q has = known.placed i q (among_of_has (input f i) q has)
+  placed i q has = known.placed i q has
 
   crossed_to : (j : ℕ) (q : Queued) → Has (buffer f j) q → q.cell.output ≡ j
-  crossed_to j q has = known.agrees.fabric.own j q (among_of_has (buffer f j) q has)
+  crossed_to j q has = known.agrees.fabric.own j q has
 
   pub waits_at : (i : ℕ) (q : Queued) → Has (input f i) q → Waits q
-  waits_at i q has = waits_for q.cell.output q refl (inl (i, among_of_has (input f i) q has, refl))
+  waits_at i q has = waits_for q.cell.output q refl (inl (i, has, refl))
 
   pub waits_behind : (j : ℕ) (q : Queued) → Has (buffer f j) q → Waits q
-  waits_behind j q has = waits_for j q (crossed_to j q has) (inr (among_of_has (buffer f j) q has))
+  waits_behind j q has = waits_for j q (crossed_to j q has) (inr has)
 
   right_at : (d : Departure) → Has at.sent d → IsSentRight w at.frozen.next d
   right_at d has = all_of_has (IsSentRight w at.frozen.next) at.sent d known.departed has
@@ -120,7 +120,7 @@ module _ {w : Switch} (at : Taken) {ideal : IdealState} {cs : List (List (Option
       (a.cell.output ≡ b.cell.output → IsBefore a b) → R a b) →
       ((i k : ℕ) (a b : Queued) → i < k → Has (input f i) a → Has (input f k) b → R a b) → EachPair R listed
   each_listed R leads apart = pairs_of_all R f.inputs
-      (λ i. search (arith, rules, pairs_in, pairs_of_cells _ (input f i) (known.agrees.order i))) apart
+      (λ i. pairs_in _ R (input f i) (leads i) (known.agrees.order i)) apart
 
   -- ## The shape
 
@@ -181,10 +181,10 @@ module _ {w : Switch} (at : Taken) {ideal : IdealState} {cs : List (List (Option
       let j = q.cell.output in
       ⊎_elim (search (arith, rules, image_has, kept_has, name_left)) (λ (there : Has (list_of ideal.lists j) q).
       ⊎_elim (λ at_input. waits_named q (has_left (map named_as listed) _ (named_as q) (has_image named_as listed q
-      (has_at_place at.frozen.lists at_input.0 q (has_of_among (input f at_input.0) q at_input.1)))))
+      (has_at_place at.frozen.lists at_input.0 q at_input.1))))
       (λ crossed. waits_named q (has_right (map named_as listed) _ (named_as q) (has_image named_as buffered q
-      (has_at_place at.frozen.buffers j q (has_of_among (buffer f j) q crossed)))))
-      ((known.agrees.same j q).0 (among_of_has (list_of ideal.lists j) q there)))
+      (has_at_place at.frozen.buffers j q crossed))))
+      ((known.agrees.same j q).0 there))
       (has_cases (left_at j at.sent) (list_of ideal.lists j) q it.held)
 
   -- ## An arrival is named where its cell came in
@@ -256,7 +256,7 @@ module _ {w : Switch} (at : Taken) {ideal : IdealState} {cs : List (List (Option
       let y = is_at at.frozen.buffers b second in
       let same = same_waiting a b (waits_at x.place a x.has) (waits_behind y.place b y.has) slot place in
       let apart = (apart_from f known.agrees.differ).between x.place y.place a b in
-      search (arith, rules, among_of_has)
+      search (arith, rules)
 
   queued_pairs : EachPair Differ (queued_in st)
   unfolding state_of
@@ -309,7 +309,7 @@ module _ {w : Switch} (at : Taken) {ideal : IdealState} {cs : List (List (Option
       let both = of_one a b first.kept second.kept flow in
       let j = a.cell.output in
       let there : Has (list_of ideal.lists a.cell.output) b = rw both.output second.there in
-      let pairs = pairs_both IsBefore Follows (list_of ideal.lists j) (search (arith, rules, pairs_of_cells))
+      let pairs = pairs_both IsBefore Follows (list_of ideal.lists j) (known.agrees.rising j)
       (pairs_right Follows (left_at j at.sent) (list_of ideal.lists j) (pairs_at j first.kept.inside)) in
       search (arith, rules, pair_of_has, Follows)
 
@@ -363,7 +363,7 @@ module _ {w : Switch} (at : Taken) {ideal : IdealState} {cs : List (List (Option
             (search (arith, rules, placed)));
         buffers = image_pairs named_as (IsBufferedBefore w.came) buffered (pairs_of_all _ at.frozen.buffers
             (λ j. pairs_in IsBefore _ (buffer f j) (search (arith, rules, out))
-            (pairs_of_cells IsBefore (buffer f j) (known.agrees.fabric.rising j))) (search (arith, rules, out)));
+            (known.agrees.fabric.rising j)) (search (arith, rules, out)));
         sent = search (arith, rules, image_pairs, pairs_in, left_by);
         sent_times = has_all Timely (map sent_as at.sent) (search (arith, rules, image_has, right_at));
         moved = all_pairs IsTransferBefore at.note moved.pairs;

@@ -1,7 +1,7 @@
 -- One slot of a run that may be stopped. The ideal switch goes on beside the fabric. At each output the cells that
 -- come queue up behind those that left and those that wait, and where one leaves it is the first that waits: what left
 -- and then what waits is the same list. So what is known before the slot is known after it.
-use Rattle.cq_stopped.proofs.Terms.{among_of_has, rules, ◌≡◌, ℕ, zero, suc, ◌+◌, ◌<◌, ◌≤◌, List, [], ◌∷◌, ◌++◌, drop, length, Option, Some, None, Ok, refl, sym, ap, ◌∙◌, ◌⊎◌, inr, ⊎_elim, arith, length-append, cases_eq, cases_lt, common_steps, append_assoc, get_or-append-add, get_or-map, get_or_append_left, get_or_past, length-map, append-nil, get_or-replicate, length-replicate, AllByRecursion, slice_get, slice_index_or, arrival_at, arriving, arriving_at, Cell, Departure, Queued, admitted_arrives, Came, came_from, AreOfClasses, present, Served, listed, served, HasWaited, Marked, admission, arriving_from, departures_of, empty_ideal, IdealState, all_told, departures_from, departures_in, filled, fronts, ideal_slot, put_all, rests, AreForPorts, ranking, CameFor, Keyed, limited_empty_agree, among_insert, left_among, keyed, ports_kept, same_slot, SendsAlike, Agrees, Fabric, IsAmong, input, empty_fabric, FabricSlot, LimitedFabricSlot, LimitedRecord, slots_in, came_to, list_arrived, Transfers, KeepLaws, gone_in, list_of, IsInputBest, IsStable, Partners, machine_at, all_both, all_weaker, found_at, has_of_among, has_there, Has, all_from_has, all_of_has, has_cases, has_left, has_right, opening, Runs, Switch, fewer, HasFor, length-filled, rest_of, among_put_all, list_after, put_all_keeps, put_all_new, stable_slot, admission_for_ports, arrivals_for, place_of, RunBy}
+use Rattle.cq_stopped.proofs.Terms.{rules, ◌≡◌, ℕ, zero, suc, ◌+◌, ◌<◌, ◌≤◌, List, [], ◌∷◌, ◌++◌, drop, length, Option, Some, None, Ok, refl, sym, ap, ◌∙◌, ◌⊎◌, inr, ⊎_elim, arith, length-append, cases_eq, cases_lt, common_steps, append_assoc, get_or-append-add, get_or-map, get_or_append_left, get_or_past, length-map, append-nil, get_or-replicate, length-replicate, AllByRecursion, slice_get, slice_index_or, arrival_at, arriving, arriving_at, Cell, Departure, Queued, admitted_arrives, Came, came_from, AreOfClasses, present, Served, listed, served, HasWaited, Marked, admission, arriving_from, departures_of, empty_ideal, IdealState, all_told, departures_from, departures_in, filled, fronts, ideal_slot, put_all, rests, AreForPorts, ranking, CameFor, Keyed, limited_empty_agree, among_insert, left_among, keyed, ports_kept, same_slot, SendsAlike, Agrees, Fabric, IsAmong, input, empty_fabric, FabricSlot, LimitedFabricSlot, LimitedRecord, slots_in, came_to, list_arrived, Transfers, KeepLaws, gone_in, list_of, IsInputBest, IsStable, Partners, machine_at, all_both, all_weaker, found_at, has_there, Has, all_from_has, all_of_has, has_cases, has_left, has_right, opening, Runs, Switch, fewer, HasFor, length-filled, rest_of, among_put_all, list_after, put_all_keeps, put_all_new, stable_slot, admission_for_ports, arrivals_for, place_of, RunBy}
 use Rattle.cq_ideal.specs.IdealSlot.{Sent}
 use Rattle.cq_stopped.proofs.Configured.{IsConfigured}
 use Rattle.cq_stopped.proofs.Lined.{each_departs, left_more}
@@ -40,7 +40,7 @@ pub own_at : (w : Switch) (n : ℕ) (f : Fabric) (ideal : IdealState) (cs : List
     (sent : List Departure) → Known w n f ideal cs sent → (j : ℕ) (q : Queued) → HasFor f j q →
     (j < length w.machines) × IsOwn w n j q
 own_at w n f ideal cs sent known j q has =
-    let there = has_of_among (list_of ideal.lists j) q ((known.agrees.same j q).1 has) in
+    let there = (known.agrees.same j q).1 has in
     let inside : j < length w.machines = search (arith, rules, Has, get_or_past, cases_lt) in
     let all = (known.lanes j inside).own in
     (inside, all_of_has (IsOwn w n j) (pool_at j sent ideal) q all (has_right (left_at j sent) _ q there))
@@ -174,11 +174,11 @@ module _ (w : Switch) (ranks : List (List ℕ)) (configured : IsConfigured w ran
     -- it did so before the slot, or came
     was_or_new : (j : ℕ) (q : Queued) → Has (left j ++ full j) q → Has (left j ++ waiting j) q ⊎ CameFor came j q
     was_or_new j q has =
-        grind (arith, common_steps, has_cases, has_left, has_right, has_of_among, among_put_all, among_of_has)
+        grind (arith, common_steps, has_cases, has_left, has_right, among_put_all)
 
     pool_keeps : (j : ℕ) (q : Queued) → Has (left j ++ waiting j) q → Has (left j ++ full j) q
     pool_keeps j q has =
-        grind (arith, common_steps, has_cases, has_left, has_right, has_of_among, put_all_keeps, among_of_has)
+        grind (arith, common_steps, has_cases, has_left, has_right, put_all_keeps)
 
     -- ## At each output
 
@@ -205,8 +205,8 @@ module _ (w : Switch) (ranks : List (List ℕ)) (configured : IsConfigured w ran
 
       old_ahead : OldAhead j n came (waiting j)
       old_ahead k q x at output among before class =
-          let waited = all_of_has (HasWaited (machine_at w.machines j) _ n 0) (waiting j) x lane.stands.waited
-          (has_of_among (waiting j) x among) in search (arith, rules, its_rank, its_came, is_less)
+          let waited = all_of_has (HasWaited (machine_at w.machines j) _ n 0) (waiting j) x lane.stands.waited among in
+          search (arith, rules, its_rank, its_came, is_less)
 
       classes : AreOfClasses (machine_at w.machines j) j (present r.admission.cells)
       classes = all_present _ r.admission.cells (search (arith, rules, its_known))
@@ -279,7 +279,7 @@ module _ (w : Switch) (ranks : List (List ℕ)) (configured : IsConfigured w ran
           let at = sym (came_now cs came n known.long i) ∙ (rw same is) in
           let c = its_came i q at in
           let inside = its_keys.outputs i q at in
-          search (arith, rules, held_at, has_right, has_of_among, put_all_new)) (search (arith, rules, none_later))
+          search (arith, rules, held_at, has_right, put_all_new)) (search (arith, rules, none_later))
           (cases_eq n t))
           (cases_lt t n);
     }

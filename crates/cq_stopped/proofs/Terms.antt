@@ -4,7 +4,7 @@ pub use Rattle.cq_base.specs.{Arrivals.arrival_at, declared.cell.Cell.Cell, decl
 pub use Rattle.cq_base.specs.Arriving.{Arrival, arriving_at}
 unfoldable pub use Rattle.cq_base.specs.Arriving.{arriving}
 pub use Rattle.cq_base.specs.Cells.{IsBefore, is_for, put}
-pub use Rattle.cq_base.specs.Items.{EachPair, EachPair as EachCell, Has}
+pub use Rattle.cq_base.specs.Items.{EachPair, Has}
 pub use Rattle.cq_route.specs.Tables.{AreTables, IsSetup, ports_of}
 pub use Rattle.cq_route.specs.declared.tables.Tables.{Tables}
 pub use Rattle.cq_cells.specs.Scheduled.{Scheduled}
@@ -32,7 +32,7 @@ pub use Rattle.cq_prefs.specs.FirstCells.{list_of, orders_of}
 pub use Rattle.cq_prefs.specs.Pairing.{IsInputBest, IsStable, Partners, proposals}
 pub use Rattle.cq_laws.proofs.AfterArrivals.{CameFor, Keyed, arrived_has}
 pub use Rattle.cq_laws.proofs.LimitedWhole.{fabric_judged, limited_empty_agree}
-pub use Rattle.cq_laws.proofs.Members.{all_among, all_from as all_if_among, among_insert, among_put, left_among}
+pub use Rattle.cq_laws.proofs.Members.{among_insert, among_put, left_among}
 pub use Rattle.cq_laws.proofs.OneSlot.{after_sent, arrived, keyed, old_sound, ports_kept, same_slot}
 pub use Rattle.cq_laws.proofs.Sound.{Sound, apart_from, not_before_itself, orders_are}
 pub use Rattle.cq_laws.specs.Agreement.{Agrees, SendsAlike}
@@ -45,9 +45,7 @@ pub use Rattle.cq_laws.specs.Measures.{sends, sent_by, wait_at}
 unfoldable pub use Rattle.cq_laws.specs.Measures.{figures_of, input_figures, output_figures, proposals_in, slacks}
 pub use Rattle.cq_laws.specs.Phases.{Transfers, came_to, list_arrived}
 unfoldable pub use Rattle.cq_laws.specs.Records.{transfers_of_run}
-pub use Rattle.cq_resume.proofs.GoesOn.{Differ, cell_with, found_at, has_of_among}
-pub use Rattle.cq_base.proofs.Having.{all_from_has, all_of_has, has_all, has_cases, has_image, has_kept, has_left, has_right, has_there, image_has, kept_has, pair_of_has}
-pub use Rattle.cq_base.proofs.Pooled.{AreApart, Stands, all_pairs, each_pair, has_number, no_more, pairs_cross, pairs_kept, pairs_left, pairs_right, pairs_with}
+pub use Rattle.cq_resume.proofs.GoesOn.{Differ, cell_with, found_at}
 pub use Rattle.cq_resume.specs.Counted.{departure_of, input_told, is_refused, marks_told, output_told, refused_arrivals, sent_by as sent_at, sent_told, taken_of}
 unfoldable pub use Rattle.cq_resume.specs.Counted.{figures_told, frozen_told}
 pub use Rattle.cq_resume.specs.Finding.{ArePackets, ComeBehind, IsLine, IsWholePacket, coming, has_limit, has_name, is_left_out, left_out, mark_on, unnamed}
@@ -61,10 +59,9 @@ pub use Rattle.cq_resume.specs.Terms.{IsTransferBefore}
 pub use Rattle.cq_resume.specs.Told.{arriving_cell, buffer_told, class_in, class_of, is_ahead, is_named, key_of, list_told, named_in, output_in, output_of, packet_before, queued_in, queued_of}
 unfoldable pub use Rattle.cq_resume.specs.Told.{fabric_told}
 pub use Rattle.cq_resume.specs.declared.taken.Taken.{Taken}
-pub use Rattle.cq_simulate.proofs.NamedFlow.{among_of_has, any_has, has_any, pairs_joined, pairs_mapped, pairs_of_cells}
 pub use Rattle.cq_stopped.specs.Stopped.{AreRecorded, CanBeTakenUp, StoppedRunsAreSound, told_state}
 pub use Rattle.cq_audit.proofs.Noted.{AreWritten, FitsLine, written_in_run}
-pub use Rattle.cq_base.proofs.Each.{all_back, all_both, all_front, all_weaker, few_kept, of_images}
+pub use Rattle.cq_base.proofs.Each.{all_back, all_both, all_front, all_weaker, few_kept, of_images, all_give, all_made, filter_all, filter_none}
 pub use Rattle.cq_base.proofs.Putting.{all_put, length_put}
 pub use Rattle.cq_base.specs.{declared.cell.TagFault.TagFault, declared.figures.Figures.Figures, declared.figures.InputFigures.InputFigures, declared.key.Key.Key, declared.setup.ClassRow.ClassRow, declared.setup.Kind.Kind, declared.setup.Kind.TheVariants.FirstCome, declared.setup.Kind.TheVariants.Priority, declared.setup.Kind.TheVariants.Fair, declared.setup.Setup.Setup}
 pub use Rattle.cq_base.proofs.Keys.{key_laws}
@@ -74,6 +71,8 @@ pub use Rattle.cq_cells.specs.NextArrival.{ArrivesIn}
 pub use Rattle.cq_rank.proofs.Floors.{given_floor}
 pub use Rattle.cq_laws.proofs.AddingUp.{figures_fold, fold-max}
 pub use Rattle.cq_ideal.proofs.Waiting.{counted, length-filled}
+pub use Rattle.cq_base.proofs.Having.{all_from_has, all_of_has, any_has, has_all, has_any, has_cases, has_image, has_kept, has_left, has_right, has_there, image_has, kept_has, pair_of_has}
+pub use Rattle.cq_base.proofs.Pooled.{AreApart, Stands, all_pairs, each_pair, has_number, no_more, pairs_cross, pairs_joined, pairs_kept, pairs_left, pairs_mapped, pairs_right, pairs_with}
 pub use Rattle.cq_laws.proofs.EndsTogether.{sent_slots}
 pub use Rattle.cq_ideal.proofs.EnoughSlots.{waiting-empty}
 pub use Rattle.cq_ideal.proofs.{Ends.nothing_left, FlowCount.come_count-first, FlowPut.NoLater, FlowPut.in_order_put, LastSlot.slots_of-append, Packets.refused_here, Parted.arriving_length, Refusals.counts_more}
@@ -84,6 +83,6 @@ pub use Rattle.cq_laws.specs.SlotBySlot.{RunBy}
 pub use Rattle.cq_resume.proofs.{Coming.is_between, Coming.one_comes, Judging.mapped_alike, Scheduling.schedule_known, Tallied.whole, Upheld.all_marks, Upheld.all_stand, Walking.cells_in}
 pub use Rattle.cq_resume.specs.declared.found.Name.{Name}
 pub use Rattle.cq_traffic.proofs.{ForPorts.arrivals_for, ForPorts.place_of}
-pub use Rattle.cq_simulate.proofs.{FabricSteps.all_wait, OnceASlot.AreNumbered, Tallies.all_in_row}
+pub use Rattle.cq_simulate.proofs.{FabricSteps.all_wait, OnceASlot.AreNumbered}
 pub use Rattle.cq_simulate.proofs.{Departed.all_cells, OnceASlot.limited_numbered, Runnable.keeps_laws, Runnable.kind, Runnable.machine_is, Runnable.right_classes, Runnable.right_size}
 pub use Rattle.cq_simulate.specs.{FabricRuns.IsFabricRun, FabricRuns.refused_in_run}

@@ -4,11 +4,11 @@
 -- walk over the arrivals that compares each with the mark before it ends, with the mark of the run: each packet is
 -- named whole or not at all, and the mark is that of the packet that began last. And what was refused slot by slot is,
 -- counted by any test, what is not named input by input.
-use Rattle.cq_stopped.proofs.Terms.{rules, ◌≡◌, ℕ, zero, suc, ◌+◌, ◌<◌, ◌≤◌, eqb, Bool, true, false, List, [], ◌∷◌, length, Option, None, Some, refl, ap, ◌∙◌, arith, ◌⊎◌, length-append, map, and_parts, and_right, cases_Bool, cases_lt, eq-eqb, eqb-true, le-ltb, lt-leb, cases_eq, ne_eqb, common_steps, get_or-map, get_or-replicate, length-map, length-replicate, map-append, All-from_recursion, filter-append, filter_agree, get_or-map-range_with_len, unwrap_or-slice_get, AllByRecursion, cons_option, range_with_len, filter, is_some, not, All, flat_map, arrival_at, Arrival, arriving, arriving_at, Cell, Queued, is_from, admitted_at, marks_kept, Marked, admission, held_after, mark_after, mark_at, marks_after, unless, refused, arriving_from, cells_refused, packets_refused, refused_counts, refused_in, with_refused, fabric_judged, Fabric, fabric_held, LimitedRecord, admissions_in, all_both, all_weaker, all_from_has, found_at, is_refused, marks_told, refused_arrivals, ComeBehind, IsLine, coming, has_limit, mark_on, ArePackets, IsWholePacket, has_name, is_left_out, left_out, unnamed, opening, Runs, AllNamed, AreWholePackets, NoneNamed, Switch, HasLimit, is_named, key_of, named_in, packet_before, Named, State, flat_same, ArrivesIn, refused_here, where_up, Refused, is_between, one_comes, mapped_alike, whole, all_marks, all_stand, cells_in, Name}
+use Rattle.cq_stopped.proofs.Terms.{rules, ◌≡◌, ℕ, zero, suc, ◌+◌, ◌<◌, ◌≤◌, eqb, Bool, true, false, List, [], ◌∷◌, length, Option, None, Some, refl, ap, ◌∙◌, arith, ◌⊎◌, length-append, map, and_parts, and_right, cases_Bool, cases_lt, eq-eqb, eqb-true, le-ltb, lt-leb, cases_eq, ne_eqb, common_steps, get_or-map, get_or-replicate, length-map, length-replicate, map-append, All-from_recursion, filter-append, filter_agree, get_or-map-range_with_len, unwrap_or-slice_get, AllByRecursion, cons_option, range_with_len, filter, is_some, not, All, flat_map, arrival_at, Arrival, arriving, arriving_at, Cell, Queued, is_from, admitted_at, marks_kept, Marked, admission, held_after, mark_after, mark_at, marks_after, unless, refused, arriving_from, cells_refused, packets_refused, refused_counts, refused_in, with_refused, fabric_judged, Fabric, fabric_held, LimitedRecord, admissions_in, all_both, all_weaker, all_from_has, found_at, is_refused, marks_told, refused_arrivals, ComeBehind, IsLine, coming, has_limit, mark_on, ArePackets, IsWholePacket, has_name, is_left_out, left_out, unnamed, opening, Runs, AllNamed, AreWholePackets, NoneNamed, Switch, HasLimit, is_named, key_of, named_in, packet_before, Named, State, flat_same, ArrivesIn, refused_here, where_up, Refused, is_between, one_comes, mapped_alike, whole, all_marks, all_stand, cells_in, Name, filter_none}
 use Rattle.cq_ideal.proofs.Standing.{StandAt, of_input, refused_are as refused_of_input, stand_in}
 use Rattle.cq_resume.proofs.Adding.{Tallied, left_before, mark_at as walk_mark, tallied_counts}
 use Rattle.cq_stopped.proofs.Ran.{came_in, came_of}
-use Rattle.cq_stopped.proofs.Joined.{by_places, filter_none}
+use Rattle.cq_stopped.proofs.Joined.{by_places}
 use Rattle.cq_stopped.proofs.Queueing.{came_where}
 
 -- ## The mark of an input over one slot
@@ -46,7 +46,7 @@ module _ (i slot end : ℕ) where
 
   comes_none_past : (came : List Arrival) → end ≤ slot → coming i slot end came ≡ []
   comes_none_past came past = filter_none (is_between slot end) (filter (is_from i) came)
-      (search (arith, rules, lt-leb, and_right, le-ltb, cases_lt))
+      (all_from_has _ _ (search (arith, rules, lt-leb, and_right, le-ltb, cases_lt)))
 
 -- ## One step of the walk
 
