@@ -1,5 +1,6 @@
--- What a list has, of whatever type: an item is the first, or one of the others. What holds of each item holds of those
--- that it has, and the other way; and so it is for two. And what places, joined lists, images and tests show of it.
+-- What a list has, of whatever type: an item is the first, or one of the others. What holds of each item holds of
+-- those that it has, and the other way; and so it is for two. And what places, joined lists, images and tests show of
+-- it.
 use Rattle.cq_base.proofs.Terms.{common_steps, arith, Bool, List, Some, [], ap, false, get_or, inl, inr, length, map, refl, suc, sym, true, zero, ℕ, ⊎_elim, ◌++◌, ◌<◌, ◌∙◌, ◌∷◌, ◌≡◌, ◌⊎◌, cases_Bool, or_left, or_right, true≢false, All-from_recursion, recursion_from_All, AllByRecursion, list_any, All, filter, slice_get}
 use Rattle.cq_base.specs.Items.{EachPair, Has}
 

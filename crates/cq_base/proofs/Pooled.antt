@@ -1,7 +1,9 @@
--- What holds of each two items of a list, of whatever type: by places, of joined lists, of what passes a test, of images
--- and of what is looked up. And no more items than a pool has, where each item stands for one of the pool and no two
--- stand for the same. So items with different numbers below a bound are no more than the bound.
-use Rattle.cq_base.proofs.Terms.{common_steps, arith, rules, Bool, List, Option, Some, [], ap, inl, inr, length, map, refl, suc, sym, true, zero, ℕ, ◌++◌, ◌+◌, ◌<◌, ◌∙◌, ◌∷◌, ◌≡◌, ◌≢◌, ◌≤◌, ◌⊎◌, cases_eq, All-from_recursion, recursion_from_All, length-range_with_len, AllPairs-cons, AllByRecursion, AllPairs, filter_map, range_with_len, filter, slice_get}
+-- What holds of each two items of a list, of whatever type: by places, of joined lists, of what passes a test, of
+-- images and of what is looked up. Of two lists in order that have the same items, the first of the one is an item of
+-- the other and no later than its first, and the other way round: so their firsts are one, and then the others. And no
+-- more items than a pool has, where each item stands for one of the pool and no two stand for the same. So items with
+-- different numbers below a bound are no more than the bound.
+use Rattle.cq_base.proofs.Terms.{common_steps, arith, rules, Bool, List, Option, Some, [], ap, inl, inr, length, map, refl, suc, sym, true, zero, ℕ, ◌++◌, ◌+◌, ◌<◌, ◌∙◌, ◌∷◌, ◌≡◌, ◌≢◌, ◌≤◌, ◌⊎◌, cases_eq, All-from_recursion, recursion_from_All, length-range_with_len, AllPairs-cons, AllByRecursion, AllPairs, filter_map, range_with_len, filter, slice_get, ⊎_elim}
 use Rattle.cq_base.proofs.Each.{all_both, all_front, all_weaker, images_held, of_images}
 use Rattle.cq_base.proofs.Having.{all_from_has, all_of_has, has_right, kept_has}
 use Rattle.cq_base.specs.Items.{EachPair, Has}
@@ -94,6 +96,18 @@ module _ {X : Type 0} (R : X → X → Type 0) where
       ((x y : X) → p x ≡ true → p y ≡ true → R x y → S x y) → (xs : List X) → EachPair R xs → EachPair S (filter p xs)
   pairs_kept_with S p gives xs pairs = pairs_with S (λ x. p x ≡ true) gives (filter p xs)
       (all_from_has (λ x. p x ≡ true) (filter p xs) (λ y has. (kept_has p xs y has).1)) (pairs_kept p xs pairs)
+
+-- where the relation never holds both ways, two lists of which it holds and that have the same items are one
+pub same_pairs : {X : Type 0} (R : X → X → Type 0) → ((x y : X) → R x y → R y x → ⊥) → (xs ys : List X) →
+    EachPair R xs → EachPair R ys → ((x : X) → Has xs x → Has ys x) → ((y : X) → Has ys y → Has xs y) → xs ≡ ys
+same_pairs R never [] [] up rising to from = refl
+same_pairs R never [] (y ∷ ys) up rising to from = absurd (from y (inl refl))
+same_pairs R never (x ∷ xs) [] up rising to from = absurd (to x (inl refl))
+same_pairs R never (x ∷ xs) (y ∷ ys) up rising to from =
+    let first : x ≡ y = ⊎_elim (λ same. sym same) (λ later. ⊎_elim (λ same. same) (λ after.
+    absurd (never y x (all_of_has (R y) ys x rising.0 later) (all_of_has (R x) xs y up.0 after)))
+    (from y (inl refl))) (to x (inl refl)) in
+    search (arith, rules, all_of_has, never, same_pairs R never xs ys up.1 rising.1)
 
 -- of images, and the other way
 pub pairs_mapped : {X Y : Type 0} (f : X → Y) (R : Y → Y → Type 0) (xs : List X) → EachPair (λ a b. R (f a) (f b)) xs →

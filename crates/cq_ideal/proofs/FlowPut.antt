@@ -3,7 +3,7 @@
 -- some kind is less urgent than a new one of that kind, none of them stands behind it: the first cell behind it is
 -- less urgent, and so is each that follows. So of that kind the new cell is the last, and of any other kind the list
 -- shows what it showed.
-use Rattle.cq_ideal.proofs.Terms.{common_steps, arith, ◌≡◌, Bool, true, false, List, [], ◌∷◌, ◌++◌, refl, ◌∙◌, AllByRecursion, filter, cond_both, cases_Bool, both_ways, false_from_ne_true, cond-true, cond-false, Queued, is_before, EachPair, put, all_put, all_weaker}
+use Rattle.cq_ideal.proofs.Terms.{common_steps, arith, ◌≡◌, Bool, true, false, List, [], ◌∷◌, ◌++◌, AllByRecursion, filter, cond_both, cases_Bool, both_ways, false_from_ne_true, cond-true, cond-false, Queued, is_before, EachPair, put, all_put, all_weaker, filter_none}
 use Rattle.cq_base.specs.declared.key.Key.{Key}
 use Rattle.cq_base.proofs.Keys.{key_laws}
 
@@ -22,10 +22,6 @@ in_order_put n (x ∷ xs) e =
     grind (arith, common_steps, all_put, all_weaker, key_laws.one_way, before_later, in_order_put n xs)
 
 -- ## What a list shows of one kind
-
-filter_none : {X : Type 0} (p : X → Bool) (xs : List X) → AllByRecursion (λ x. p x ≡ false) xs → filter p xs ≡ []
-filter_none p [] a = refl
-filter_none p (x ∷ xs) a = cond-false (p x) (x ∷ filter p xs) (filter p xs) a.0 ∙ filter_none p xs a.1
 
 module _ (p : Queued → Bool) (n : Queued) where
   -- a new cell of another kind

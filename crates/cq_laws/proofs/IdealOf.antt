@@ -2,12 +2,10 @@
 -- those of the first input, of the second and so on, and those of its buffer: all their keys differ. Put in the order
 -- of their keys, one after the other, each new one is before or behind every other, so the list rises, and it has the
 -- same members. So the lists made of the cells that the fabric has for each output rise and have these cells: that is
--- agreement. And of two lists that rise and have the same members, the first of the one is a member of the other and
--- no later than its first, and the other way round. So their firsts are one, and without them the lists have the same
--- members again: they are one list.
-use Rattle.cq_laws.proofs.Terms.{flat_map, common_steps, rules, ◌≡◌, ◌≢◌, ℕ, ◌≤◌, List, [], ◌∷◌, length, refl, sym, ◌∙◌, inl, inr, ⊎_elim, arith, zero, suc, ◌+◌, ◌⊎◌, true, ◌++◌, filter, cases_lt, cond_both, eqb-true, eq-eqb, ext_get_or, get_or_past, get_or-map-range_with_len, length-map-range_with_len, Queued, IdealState, Agrees, Fabric, IsAmong, IsFabric, buffer, ListsKeepOrder, IsBefore, IsRising, KeysDiffer, KeepsOrder, is_for, list_of, IsSoundFabric, ideal_of, in_order, cells_for, HasFor, has_cases, has_left, has_right, has_kept, kept_has, all_of_has, none_had, all_from_has}
+-- agreement. And two lists that rise and have the same members are one list.
+use Rattle.cq_laws.proofs.Terms.{flat_map, common_steps, rules, ◌≡◌, ◌≢◌, ℕ, ◌≤◌, List, [], ◌∷◌, length, refl, sym, ◌∙◌, inl, inr, ⊎_elim, arith, zero, suc, ◌+◌, ◌⊎◌, true, ◌++◌, filter, cases_lt, cond_both, eqb-true, eq-eqb, ext_get_or, get_or_past, get_or-map-range_with_len, length-map-range_with_len, Queued, IdealState, Agrees, Fabric, IsAmong, IsFabric, buffer, ListsKeepOrder, IsBefore, IsRising, KeysDiffer, KeepsOrder, is_for, list_of, IsSoundFabric, ideal_of, in_order, cells_for, HasFor, has_cases, has_left, has_right, has_kept, kept_has, all_of_has, none_had, all_from_has, same_pairs}
 use Rattle.cq_laws.proofs.Members.{among_put, put_new, put_old, rising_put}
-use Rattle.cq_laws.proofs.Sound.{apart_from, not_before_itself, same_first, Apart}
+use Rattle.cq_laws.proofs.Sound.{apart_from, not_before_itself, Apart, never_both}
 
 -- ## Lists whose keys differ
 
@@ -90,16 +88,6 @@ rising_in_order [] differ = tt
 rising_in_order (x ∷ xs) differ = rising_put x (in_order xs) (rising_in_order xs differ.1) (λ d h.
     all_of_has (λ (y : Queued). x.key ≢ y.key) xs d differ.0 (among_in_order d xs h))
 
--- ## Lists that rise and have the same members
-
-same_rising : (xs ys : List Queued) → IsRising xs → IsRising ys → ((c : Queued) → IsAmong c xs → IsAmong c ys) →
-    ((c : Queued) → IsAmong c ys → IsAmong c xs) → xs ≡ ys
-same_rising [] [] r s to back = refl
-same_rising [] (y ∷ ys) r s to back = absurd (back y (inl refl))
-same_rising (x ∷ xs) [] r s to back = absurd (to x (inl refl))
-same_rising (x ∷ xs) (y ∷ ys) r s to back =
-    search (arith, rules, same_first, all_of_has, not_before_itself, same_rising xs ys r.1 s.1)
-
 -- ## The cells of a fabric for an output
 
 -- there are none for what is no output
@@ -146,6 +134,6 @@ only_ideal slot f a x =
     let b = ideal_of f in
     let y = agrees_of slot f (sound_from slot f a x) in
     let lists = ext_get_or [] a.lists b.lists (x.ports ∙ sym y.ports) (λ j _.
-    same_rising (list_of a.lists j) (list_of b.lists j) (x.rising j) (y.rising j)
+    same_pairs IsBefore never_both (list_of a.lists j) (list_of b.lists j) (x.rising j) (y.rising j)
     (λ c h. (y.same j c).1 ((x.same j c).0 h)) (λ c h. (x.same j c).1 ((y.same j c).0 h))) in
     let ranks = sym x.ranks ∙ y.ranks in λ k. record { lists = lists k; ranks = ranks k }

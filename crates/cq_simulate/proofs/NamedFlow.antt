@@ -3,7 +3,7 @@
 -- have the same cells: of a flow there arrives one cell in a slot at most.
 -- What waits for an output in a sound state stands there as in a run: in the order of the keys, each cell with the
 -- level of its class and a rank below the floor, and each arrived in an earlier slot.
-use Rattle.cq_simulate.proofs.Terms.{common_steps, rules, map-append, ◌≡◌, ℕ, ◌<◌, Bool, true, false, List, [], ◌∷◌, ◌++◌, length, map, filter, Option, Some, refl, sym, ap, ◌∙◌, subst, inl, ⊎_elim, arith, ◌⊎◌, ◌+◌, ◌≤◌, not, cond, inr, fold, ◌&&◌, ◌==◌, All, option_map, slice_index_or, nat_lt, if◌then◌else◌, AllByRecursion, AllPairs, and_from, and_parts, cases_lt, eq-eqb, eqb-true, lt-ltb, ltb-true, cases_eq, cond-false, cond-true, le-ltb, ne_eqb, Arrival, IsBefore, Departure, Queued, IsLater, IsTraffic, comes_in_flow, leaves_in_flow, left_in_flow, is_kind, shown, HasWaited, Stands, line_at, is_from_on, rest_of, Agrees, Fabric, IsAmong, buffer, input, ideal_of, list_of, departure_of, sent_told, firsts_at, is_refused, latest, IsSound, OfOneFlow, IsBelowFloor, AllNamed, AreWholePackets, NoneNamed, HasShape, Switch, HasLimit, arriving_cell, class_of, fabric_told, is_ahead, is_named, key_of, named_in, output_of, queued_in, queued_of, list_told, class_in, packet_before, EachPair, each_pair, buffer_is, comes, found_at, in_buffer, in_list, in_order, is_cell_of, its_output, its_slot, list_is, of_traffic, ports_are, queued_differ, queued_named, some_cell, Has, all_from_has, all_of_has, has_cases, has_image, has_kept, has_left, has_right, image_has, kept_has, pair_of_has, IsInRange, Sent, State, NoLater, all_weaker, Machine, machine_at, AreOfPackets, key_laws, HasFor, all_has, looked_up, pairs_kept, pairs_kept_with, pairs_looked_up, pairs_with, Named, Key, any_has, has_any, any_alike, pairs_mapped, pairs_joined, has_looked_up}
+use Rattle.cq_simulate.proofs.Terms.{common_steps, rules, map-append, ◌≡◌, ℕ, ◌<◌, Bool, true, false, List, [], ◌∷◌, ◌++◌, length, map, filter, Option, Some, refl, sym, ap, ◌∙◌, subst, inl, ⊎_elim, arith, ◌⊎◌, ◌+◌, ◌≤◌, not, cond, inr, fold, ◌&&◌, ◌==◌, All, option_map, slice_index_or, nat_lt, if◌then◌else◌, AllByRecursion, AllPairs, and_from, and_parts, cases_lt, eq-eqb, eqb-true, lt-ltb, ltb-true, cases_eq, cond-false, cond-true, le-ltb, ne_eqb, Arrival, IsBefore, Departure, Queued, IsLater, IsTraffic, comes_in_flow, leaves_in_flow, left_in_flow, is_kind, shown, HasWaited, Stands, line_at, is_from_on, rest_of, Agrees, Fabric, IsAmong, buffer, input, ideal_of, list_of, departure_of, sent_told, firsts_at, is_refused, latest, IsSound, OfOneFlow, IsBelowFloor, AllNamed, AreWholePackets, NoneNamed, HasShape, Switch, HasLimit, arriving_cell, class_of, fabric_told, is_ahead, is_named, key_of, named_in, output_of, queued_in, queued_of, list_told, class_in, packet_before, EachPair, each_pair, buffer_is, comes, found_at, in_buffer, in_list, in_order, is_cell_of, its_output, its_slot, list_is, of_traffic, ports_are, queued_differ, queued_named, some_cell, Has, all_from_has, all_of_has, has_cases, has_image, has_kept, has_left, has_right, image_has, kept_has, pair_of_has, IsInRange, Sent, State, NoLater, all_weaker, Machine, machine_at, AreOfPackets, key_laws, HasFor, all_has, looked_up, pairs_kept, pairs_kept_with, pairs_looked_up, pairs_with, Named, Key, any_has, has_any, any_alike, pairs_mapped, pairs_joined, has_looked_up, same_pairs}
 use Rattle.std.proofs.lemmas.Simd.{map-map}
 use Rattle.cq_ideal.proofs.RestAtInput.{cells_of}
 
@@ -278,19 +278,6 @@ module _ (w : Switch) (s : State) (i : ℕ) (whole : AreWholePackets w s)
         sym (mark_says a first last) ∙ sym (goes_on (packet b) this)))
 
 -- ## Arrivals that rise by slot
-
--- where two lists rise and have the same arrivals they are one
-same_rising : (xs ys : List Arrival) → EachPair IsEarlier xs → EachPair IsEarlier ys →
-    ((x : Arrival) → Has xs x → Has ys x) → ((y : Arrival) → Has ys y → Has xs y) → xs ≡ ys
-same_rising [] [] up rising to from = refl
-same_rising [] (y ∷ ys) up rising to from = absurd (from y (inl refl))
-same_rising (x ∷ xs) [] up rising to from = absurd (to x (inl refl))
-same_rising (x ∷ xs) (y ∷ ys) up rising to from =
-    let first : x ≡ y = ⊎_elim (λ same. sym same) (λ later. ⊎_elim (λ same. same) (λ after.
-    let one : y.slot < x.slot = all_of_has (IsEarlier y) ys x rising.0 later in
-    let other : x.slot < y.slot = all_of_has (IsEarlier x) xs y up.0 after in absurd (omega arith))
-    (from y (inl refl))) (to x (inl refl)) in
-    search (arith, rules, all_of_has, IsEarlier, same_rising xs ys up.1 rising.1)
 
 arrival_is : (a b : Arrival) → a.slot ≡ b.slot → a.cell ≡ b.cell → a ≡ b
 arrival_is a b e g = λ k. record { slot = e k; cell = g k }
@@ -607,7 +594,10 @@ module _ (w : Switch) (s : State) (in_range : IsInRange s) (shape : HasShape w s
 
     -- what was sent of the flow, and then what waits of it
     pub told_flow : left_in_flow i c j (sent_told w.came s) ++ shown i c there ≡ cells_of told
-    told_flow = search (rules, both_cells, cells_of, same_rising, told_rise, told_rises, has_told, is_there)
+    told_flow =
+        let same = same_pairs IsEarlier (λ x y one two. omega arith) (map as_arrival (gone ++ waiting)) told told_rise
+        told_rises has_told is_there in
+        search (rules, both_cells, cells_of, same)
 
   -- ## How they stand
 

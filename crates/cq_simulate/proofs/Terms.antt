@@ -111,7 +111,7 @@ pub use Rattle.cq_base.proofs.Keys.{key_laws}
 pub use Rattle.cq_pcap.proofs.Writing.{written_with}
 pub use Rattle.cq_pcap.specs.{declared.capture.PacketRow.PacketRow, declared.write.OutPacket.OutPacket}
 pub use Rattle.cq_base.proofs.Having.{all_from_has, all_has, all_of_has, any_alike, any_has, has_any, has_at, has_cases, has_image, has_kept, has_left, has_right, has_there, image_has, kept_has, pair_of_has}
-pub use Rattle.cq_base.proofs.Pooled.{each_pair, has_looked_up, looked_up, pairs_joined, pairs_kept, pairs_kept_with, pairs_looked_up, pairs_mapped, pairs_with}
+pub use Rattle.cq_base.proofs.Pooled.{each_pair, has_looked_up, looked_up, pairs_joined, pairs_kept, pairs_kept_with, pairs_looked_up, pairs_mapped, pairs_with, same_pairs}
 pub use Rattle.cq_cells.proofs.Stamps.{length-rows_from}
 pub use Rattle.cq_cells.proofs.Ranges.{range_more}
 pub use Rattle.cq_scfq.specs.declared.discipline.Discipline.{Discipline}
