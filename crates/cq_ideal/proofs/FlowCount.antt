@@ -1,88 +1,116 @@
--- How many cells come, and until when. Each arrival adds one cell at most to what comes, at its slot and input, so no
--- more cells come than there are arrivals. From the end of the arrivals on none comes. So a run of as many slots as are
--- enough has one slot for each cell after the last of them came.
-use Rattle.cq_ideal.proofs.Terms.{rules, ◌≡◌, ℕ, zero, suc, ◌+◌, ◌<◌, ◌≤◌, List, [], ◌∷◌, length, map, drop, refl, sym, ap, arith, common_steps, AllByRecursion, range_with_len, length-map-range_with_len, Arrival, arriving_at, arriving, end_of, enough, traffic_of, all_weaker}
+-- How many cells come, and until when. Each arrival adds its cell at most to what comes, at its slot and input, so what
+-- comes weighs no more than the arrivals, whatever a cell weighs, and no more cells come than there are arrivals. From
+-- the end of the arrivals on none comes. So a run of as many slots as are enough has one slot for each cell after the
+-- last of them came.
+use Rattle.cq_ideal.proofs.Terms.{◌≡◌, ℕ, zero, suc, ◌+◌, ◌<◌, ◌≤◌, List, [], ◌∷◌, length, map, drop, refl, sym, ap, arith, common_steps, AllByRecursion, range_with_len, length-map-range_with_len, Arrival, arriving_at, arriving, end_of, enough, traffic_of, all_weaker, Cell, Option, Some, None, ◌∙◌, none_had, all_of_has}
 use Rattle.cq_ideal.proofs.FlowRank.{present}
 use Rattle.cq_ideal.proofs.FlowRun.{come_count}
 use Rattle.cq_ideal.proofs.Waiting.{total, total_more, total_none, total_same}
-use Rattle.cq_ideal.proofs.FlowFound.{found, other_slot, other_input, found_none, length-found, arriving_is}
+use Rattle.cq_ideal.proofs.FlowFound.{all_found, all_present, cell_listed, found, found_here, other_slot, other_input, found_none, arriving_is}
 
--- ## The cells of one slot
+-- ## What comes, weighed
 
-count_total : (came : List Arrival) (t a n : ℕ) →
-    length (present (map (arriving_at came t) (range_with_len a n))) ≡ total (λ k. length (found came t k)) a n
-unfolding total found
-count_total came t a zero = refl
-count_total came t a (suc n) = search (arith, rules, present, common_steps, found, count_total came t (a + 1) n)
+-- the cells of a slot weigh what they weigh one by one, and arrivals no less than their cells
+module _ (of : List Cell → ℕ) (here : List (Option Cell) → ℕ) (bound : List Arrival → ℕ) (none : of [] ≡ 0)
+    (empty : here [] ≡ 0)
+    (more : (o : Option Cell) (cells : List (Option Cell)) → here (o ∷ cells) ≡ of (cell_listed o) + here cells)
+    (adds : (a : Arrival) (came : List Arrival) → bound came + of (a.cell ∷ []) ≤ bound (a ∷ came)) where
+  in_places : (came : List Arrival) (t a n : ℕ) →
+      here (map (arriving_at came t) (range_with_len a n)) ≡ total (λ k. of (found came t k)) a n
+  unfolding total found
+  in_places came t a zero = empty
+  in_places came t a (suc n) = grind (arith, common_steps, more, in_places came t (a + 1) n)
+
+  module _ (inputs : ℕ) (are : inputs ≡ 64) where
+    -- what comes in a slot
+    in_slot : List Arrival → ℕ → ℕ
+    in_slot came t = total (λ k. of (found came t k)) 0 inputs
+
+    is_in_slot : (came : List Arrival) (t : ℕ) → here (arriving came t) ≡ in_slot came t
+    unfolding in_slot
+    is_in_slot came t = ap here (arriving_is came t inputs are) ∙ in_places came t 0 inputs
+
+    -- an arrival adds its cell at most to its slot
+    in_slot-cons : (a : Arrival) (came : List Arrival) →
+        in_slot (a ∷ came) a.slot ≤ in_slot came a.slot + of (a.cell ∷ [])
+    unfolding in_slot
+    in_slot-cons a came = total_more (λ k. of (found (a ∷ came) a.slot k)) (λ k. of (found came a.slot k))
+        a.cell.id.input (of (a.cell ∷ [])) 0 inputs (λ k ne. ap of (other_input a came a.slot k (λ e. ne (sym e))))
+        (let one : of (found (a ∷ came) a.slot a.cell.id.input) ≡ of (a.cell ∷ []) =
+        ap of (found_here a came a.slot a.cell.id.input refl refl) in omega arith)
+
+    slots_within : (came : List Arrival) (n : ℕ) → total (in_slot came) 0 n ≤ bound came
+    unfolding in_slot
+    slots_within [] n =
+        let nothing = total_none (in_slot []) 0 n (λ t. total_none (λ k. of (found [] t k)) 0 inputs
+        (λ k. ap of (found_none [] t k tt) ∙ none)) in
+        omega arith
+    slots_within (a ∷ came) n =
+        let now = total_more (in_slot (a ∷ came)) (in_slot came) a.slot (of (a.cell ∷ [])) 0 n
+        (λ t ne. total_same (λ k. of (found (a ∷ came) t k)) (λ k. of (found came t k)) 0 inputs
+        (λ k l. ap of (other_slot a came t k (λ e. ne (sym e))))) (in_slot-cons a came) in
+        let rest = slots_within came n in
+        let one = adds a came in omega arith
+
+  -- in any number of slots
+  pub weighed : (came : List Arrival) (n : ℕ) → total (λ t. here (arriving came t)) 0 n ≤ bound came
+  weighed came n =
+      let slot = is_in_slot 64 refl came in
+      let same = total_same (λ t. here (arriving came t)) (in_slot 64 refl came) 0 n (λ t _. slot t) in
+      omega (arith, slots_within 64 refl came n)
+
+-- ## The end of the arrivals
 
 pub before_end : (came : List Arrival) → AllByRecursion (λ a. a.slot < end_of came) came
 before_end [] = tt
 before_end (a ∷ came) = grind (arith, common_steps, all_weaker, before_end came)
 
-module _ (inputs : ℕ) (are : inputs ≡ 64) where
-  -- the cells that come in a slot
-  in_slot : List Arrival → ℕ → ℕ
-  in_slot came t = total (λ k. length (found came t k)) 0 inputs
-
-  count_in_slot : (came : List Arrival) (t : ℕ) → length (present (arriving came t)) ≡ in_slot came t
-  unfolding in_slot
-  count_in_slot came t = search (arith, rules, present, arriving_is came t inputs are, count_total came t 0 inputs)
-
-  -- an arrival adds one cell at most to its slot
-  in_slot-cons : (a : Arrival) (came : List Arrival) → in_slot (a ∷ came) a.slot ≤ in_slot came a.slot + 1
-  unfolding in_slot
-  in_slot-cons a came = total_more (λ k. length (found (a ∷ came) a.slot k)) (λ k. length (found came a.slot k))
-      a.cell.id.input 1 0 inputs (λ k ne. ap length (other_input a came a.slot k (λ e. ne (sym e))))
-      (let one = length-found (a ∷ came) a.slot a.cell.id.input in omega arith)
-
-  no_more_than : (came : List Arrival) (n : ℕ) → total (in_slot came) 0 n ≤ length came
-  unfolding in_slot
-  no_more_than [] n = grind (arith, common_steps, total_none, found_none [])
-  no_more_than (a ∷ came) n =
-      let more = total_more (in_slot (a ∷ came)) (in_slot came) a.slot 1 0 n
-      (search (arith, rules, total_same, found, other_slot)) (in_slot-cons a came) in
-      let rest = no_more_than came n in omega arith
-
-  count_from : (came : List Arrival) (a n : ℕ) →
-      come_count (map (arriving came) (range_with_len a n)) ≡ total (in_slot came) a n
-  unfolding come_count total
-  count_from came a zero = refl
-  count_from came a (suc n) = let here = count_in_slot came a in let rest = count_from came (a + 1) n in omega arith
-
-  -- ## The end of the arrivals
-
-  none_from : (came : List Arrival) (t : ℕ) → end_of came ≤ t → length (present (arriving came t)) ≡ 0
-  unfolding in_slot
-  none_from came t le =
-      let before = before_end came in
-      grind (arith, common_steps, count_in_slot came t, total_none, found came t, found_none came t, all_weaker)
-
-  quiet_from : (came : List Arrival) (e a n : ℕ) → end_of came ≤ a + e →
-      come_count (drop e (map (arriving came) (range_with_len a n))) ≡ 0
-  unfolding come_count
-  quiet_from came zero a zero le = refl
-  quiet_from came (suc e) a zero le = refl
-  quiet_from came zero a (suc n) le =
-      let rest = quiet_from came zero (a + 1) n (omega arith) in
-      let here = none_from came a (omega arith) in omega arith
-  quiet_from came (suc e) a (suc n) le = quiet_from came e (a + 1) n (omega arith)
+none_from : (came : List Arrival) (t inputs : ℕ) → inputs ≡ 64 → end_of came ≤ t → present (arriving came t) ≡ []
+none_from came t inputs are le = ap present (arriving_is came t inputs are)
+    ∙ none_had _ (λ x. all_of_has (λ _. ⊥) _ x (all_present came t (λ _. ⊥) 0 inputs (λ k. all_found _ came t k
+    (all_weaker (λ a. a.slot < end_of came) _ (λ a early at _. omega arith) came (before_end came)))))
 
 pub none_after : (came : List Arrival) (t : ℕ) → end_of came ≤ t → length (present (arriving came t)) ≡ 0
-none_after came t le = none_from 64 refl came t le
+none_after came t le = ap length (none_from came t 64 refl le)
+
+quiet_from : (came : List Arrival) (e a n : ℕ) → end_of came ≤ a + e →
+    come_count (drop e (map (arriving came) (range_with_len a n))) ≡ 0
+unfolding come_count
+quiet_from came zero a zero le = refl
+quiet_from came (suc e) a zero le = refl
+quiet_from came zero a (suc n) le =
+    let rest = quiet_from came zero (a + 1) n (omega arith) in
+    let here = none_after came a (omega arith) in omega arith
+quiet_from came (suc e) a (suc n) le = quiet_from came e (a + 1) n (omega arith)
 
 pub quiet_at_end : (came : List Arrival) → come_count (drop (end_of came) (traffic_of came)) ≡ 0
 unfolding traffic_of
-quiet_at_end came = quiet_from 64 refl came (end_of came) 0 (enough came) (omega arith)
+quiet_at_end came = quiet_from came (end_of came) 0 (enough came) (omega arith)
+
+-- ## Cells counted
+
+present_more : (o : Option Cell) (cells : List (Option Cell)) →
+    length (present (o ∷ cells)) ≡ length (cell_listed o) + length (present cells)
+present_more None cells = omega arith
+present_more (Some cell) cells = omega arith
+
+count_from : (came : List Arrival) (a n : ℕ) →
+    come_count (map (arriving came) (range_with_len a n)) ≡ total (λ t. length (present (arriving came t))) a n
+unfolding come_count total
+count_from came a zero = refl
+count_from came a (suc n) = let rest = count_from came (a + 1) n in omega arith
 
 -- in any number of slots
 pub come_count-first : (came : List Arrival) (n : ℕ) →
     come_count (map (arriving came) (range_with_len 0 n)) ≤ length came
-come_count-first came n = omega (arith, count_from 64 refl came 0 n, no_more_than 64 refl came n)
+come_count-first came n =
+    let most : total (λ t. length (present (arriving came t))) 0 n ≤ length came = weighed (λ cells. length cells)
+    (λ cells. length (present cells)) (λ all. length all) refl refl present_more (λ a all. omega arith) came n in
+    omega (arith, count_from came 0 n)
 
 pub come_count-traffic_of : (came : List Arrival) → come_count (traffic_of came) ≤ length came
 unfolding traffic_of
-come_count-traffic_of came =
-    omega (arith, count_from 64 refl came 0 (enough came), no_more_than 64 refl came (enough came))
+come_count-traffic_of came = come_count-first came (enough came)
 
 pub length-traffic_of : (came : List Arrival) → length (traffic_of came) ≡ end_of came + length came
 unfolding traffic_of enough

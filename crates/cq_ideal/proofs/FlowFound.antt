@@ -1,7 +1,7 @@
 -- What arrives in a slot at an input. It is the first arrival in the list that is of this slot and at this input, so
 -- an arrival of another slot or input hides nothing, and what holds of all that are of this slot and at this input
 -- holds of what is found. The cells that arrive in a slot are those that are found at its inputs.
-use Rattle.cq_ideal.proofs.Terms.{common_steps, ◌≡◌, ℕ, zero, suc, ◌+◌, ◌≤◌, false, List, [], ◌∷◌, ◌++◌, length, map, Option, Some, None, refl, arith, ◌==◌, find, AllByRecursion, cons_option, range_with_len, cond_both, cases_eq, eq-eqb, ne_eqb, and_from, and_left, and_right, cond-true, cond-false, length-map-range_with_len, Cell, Arrival, is_at, arriving_at, arriving}
+use Rattle.cq_ideal.proofs.Terms.{common_steps, ◌≡◌, ℕ, zero, suc, ◌+◌, false, List, [], ◌∷◌, ◌++◌, length, map, Option, Some, None, refl, arith, ◌==◌, find, AllByRecursion, cons_option, range_with_len, cases_eq, eq-eqb, ne_eqb, and_from, and_left, and_right, cond-true, cond-false, length-map-range_with_len, Cell, Arrival, is_at, arriving_at, arriving}
 use Rattle.cq_ideal.proofs.FlowRank.{present}
 
 -- the cell, as a list
@@ -47,10 +47,6 @@ pub found_none : (came : List Arrival) (t k : ℕ) → AllByRecursion (λ a. a.s
 unfolding found
 found_none [] t k a = refl
 found_none (x ∷ came) t k a = grind (arith, common_steps, other_input, other_slot, cases_eq, found_none came t k a.1)
-
-pub length-found : (came : List Arrival) (t k : ℕ) → length (found came t k) ≤ 1
-unfolding found
-length-found came t k = grind (arith, common_steps, cond_both)
 
 -- ## The places of a slot
 

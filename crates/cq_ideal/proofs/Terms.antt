@@ -33,3 +33,4 @@ pub use Rattle.cq_ideal.specs.declared.refused.Refused.{Refused}
 pub use Rattle.cq_ideal.specs.Terms.{AreForOneSwitch, Cell, TagFault, arrival_at, class_count, no_arrivals}
 pub use Rattle.cq_base.proofs.Each.{all_weaker, filter_none}
 pub use Rattle.cq_base.proofs.Putting.{all_put, length_put}
+pub use Rattle.cq_base.proofs.Having.{all_of_has, none_had}

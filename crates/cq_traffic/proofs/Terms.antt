@@ -7,7 +7,7 @@ pub use Rattle.cq_base.specs.declared.cell.Cell.{Cell}
 pub use Rattle.cq_cells.specs.Traffic.{IsInRange, IsTraffic, is_from, is_to, number_of}
 pub use Rattle.cq_ideal.proofs.FlowFound.{all_found, arriving_is, cell_listed, found_here, found_none, other_input, other_slot}
 unfoldable pub use Rattle.cq_ideal.proofs.FlowFound.{found}
-pub use Rattle.cq_ideal.proofs.Waiting.{total_more, total_none, total_same}
+pub use Rattle.cq_ideal.proofs.Waiting.{total_more, total_none}
 unfoldable pub use Rattle.cq_ideal.proofs.Waiting.{total}
 pub use Rattle.cq_ideal.specs.Ending.{first_slots}
 unfoldable pub use Rattle.cq_ideal.specs.Ending.{arriving_from}
