@@ -52,9 +52,9 @@ impl Ord for Key {
     fn cmp(&self, other: &Key) -> Ordering {
         self.level
             .cmp(&other.level)
-            .then(self.rank.cmp(&other.rank))
-            .then(self.slot.cmp(&other.slot))
-            .then(self.input.cmp(&other.input))
+            .then_with(|| self.rank.cmp(&other.rank))
+            .then_with(|| self.slot.cmp(&other.slot))
+            .then_with(|| self.input.cmp(&other.input))
     }
 }
 
