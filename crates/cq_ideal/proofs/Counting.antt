@@ -3,7 +3,7 @@
 -- are judged one after another: the marks so far, and then those of judging what is left, are those of judging all; and
 -- what the outputs hold so far, with what is still to be admitted, is what they hold at the end.
 
-use Rattle.cq_ideal.proofs.Terms.{rules, ◌≡◌, ℕ, zero, suc, ◌+◌, ◌-◌, ◌<◌, ◌≤◌, ◌^◌, eqb, Bool, true, false, cond, List, [], ◌∷◌, ◌++◌, length, drop, get_or, set, Option, Some, None, refl, sym, ap, ◌∙◌, arith, subst, common_steps, All-from_recursion, drop_all, drop_more, get_or-map, length-map, Cell, arrival_at, Refused, is_first, mark_at, refused, CanCount, HasPorts, LimiterView, where_up, cells_refused, packets_refused, refused_counts, with_cells, with_refused, take, get_or-set_same, get_or-set_other, cases_Bool, eqb-true, eq-eqb, drop-set-lt, get_or-drop, length-set, set-get_or, take_all, append-nil, unwrap_or-slice_get, admitted, mark_after, held_after, marks_after, count_for, ComeToPorts, all_weaker}
+use Rattle.cq_ideal.proofs.Terms.{rules, ◌≡◌, ◌≢◌, ℕ, zero, suc, ◌+◌, ◌-◌, ◌<◌, ◌≤◌, ◌^◌, eqb, Bool, true, false, cond, List, [], ◌∷◌, ◌++◌, length, drop, get_or, set, Option, Some, None, refl, sym, ap, ◌∙◌, arith, subst, common_steps, All-from_recursion, drop_all, drop_more, get_or-map, length-map, Cell, arrival_at, Refused, is_first, mark_at, refused, CanCount, HasPorts, LimiterView, where_up, cells_refused, packets_refused, refused_counts, with_cells, with_refused, take, get_or-set_same, get_or-set_other, cases_Bool, eqb-true, eq-eqb, ne_eqb, drop-set-lt, get_or-drop, length-set, set-get_or, take_all, append-nil, unwrap_or-slice_get, admitted, mark_after, held_after, marks_after, count_for, ComeToPorts, all_weaker}
 use Rattle.cq_ideal.proofs.Refusals.{all_zero, count_both}
 use Rattle.cq_ideal.proofs.Changed.{at_place, changed_to, next_place}
 use Rattle.cq_ideal.proofs.FlowFound.{cell_listed}
@@ -63,6 +63,18 @@ module _ (cell : Cell) (first : List Refused) (place : ℕ) (now : List Refused)
       let same = length-map first (with_cells (cell ∷ [])) in
       let here : after ≡ get_or all place d = search (arith, rules, common_steps, at_place, length-map, get_or-map) in
       ap (λ (l : List Refused). set l place after) so_far ∙ next_place all first place after d same inside here
+
+  -- a count of another output stays as it is
+  pub untouched_next : (d : Refused) → (get_or now place d).output ≢ cell.output →
+      now ≡ changed_to (with_refused (cell ∷ []) first) first (place + 1)
+  untouched_next d other =
+      let same : get_or now place d ≡ with_cells (cell ∷ []) (get_or now place d) = search (
+        arith,
+        rules,
+        other_output,
+        ne_eqb,
+      ) in
+      sym (set-get_or now place d) ∙ tallied_next d (get_or now place d) same
 
 -- ## Cells one after another
 

@@ -39,15 +39,13 @@ pub fn none_refused(alloc: Global, limits: &[Option<u64>]) -> Result<Vec<Refused
     Ok(refused)
 }
 
-// The count of an output, with a refused cell added if it is for that output.
+// The count of an output, with a refused cell for it added.
 fn with_cell(count: Refused, cell: Cell) -> Refused
+    requires output { count.output ≡ cell.output }
     requires packets { count.packets + 1 < 2 ^ 64 }
     requires cells { count.cells + 1 < 2 ^ 64 }
     ensures { result ≡ with_cells (cell ∷ []) count }
 {
-    if count.output != cell.output {
-        return count;
-    }
     let first = if cell.id.index == 0 { 1 } else { 0 };
     Refused {
         output: count.output,
@@ -64,6 +62,8 @@ pub fn count_refused(refused: &mut [Refused], cell: Cell)
     ensures { refused.new ≡ with_refused (cell ∷ []) refused.old }
 {
     'outputs: for place in 0..refused.len() {
-        refused[place] = with_cell(refused[place], cell);
+        if refused[place].output == cell.output {
+            refused[place] = with_cell(refused[place], cell);
+        }
     }
 }
