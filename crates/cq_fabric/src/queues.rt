@@ -2,6 +2,7 @@
 ghost use Rattle.std.specs.Prelude.{◌≡◌, ◌≢◌, ◌==◌, ◌+◌, ◌-◌, ◌^◌, ◌<◌, ◌≤◌, ◌++◌, ℕ, [], All, IfOk, IsTrue, Some, drop, length, map, replicate, slice_get, slice_index, take};
 ghost use Rattle.std.specs.List.{list_all, position_or_len};
 ghost use Rattle.cq_base.specs.declared.cell.Queued.{Queued as OfCell};
+ghost use Rattle.cq_base.specs.Cells.{MoreUrgentAhead, with_arrival};
 ghost use Rattle.cq_fabric.specs.Terms.{cushion, fronts, rests, cells_of, cells_in, first_key, key_before, list_of, orders_of, Moves, transfers_of, IsMatching, HasTransferred, came_to, list_arrived, CanCrossInPairs, CanFollow, CanHold, IsNewest, CanCross, ComeApart, Comes, FitEach, FitLists, Fits, buffer_room, fabric_of, list_at, list_room, list_with};
 
 use crate::gone::Gone;
@@ -52,6 +53,20 @@ fn has_more_urgent(list: &InputList, output: Port, key: Key) -> bool
     }
 }
 
+// The cushion with which a cell goes into a list: the one that it has in the buffer of its output. An empty list has
+// one place, so there any will do, and none is looked for.
+fn cushion_for(list: &InputList, buffer: &OutputBuffer, queued: Queued) -> u64
+    requires { MoreUrgentAhead (cushion queued.key buffer.now.cells) queued list.now.cells }
+    ensures ahead { MoreUrgentAhead result queued list.now.cells }
+    ensures place { with_arrival result queued list.now.cells
+        ≡ with_arrival (cushion queued.key buffer.now.cells) queued list.now.cells }
+{
+    if list.len() == 0 {
+        return 0;
+    }
+    buffer.cushion(queued.key)
+}
+
 // A cell that came goes into the list of its input, with the cushion that it has in the buffer of its output. The
 // offers follow: where a more urgent cell for the same output waits in the list already, they stay.
 fn insert_one(
@@ -69,7 +84,7 @@ fn insert_one(
     ensures offers { offers.new ≡ orders_of (cells_of lists.new) }
 {
     let output = queued.cell.output;
-    let cushion = buffers[output as usize].cushion(queued.key);
+    let cushion = cushion_for(&lists[input], &buffers[output as usize], queued);
     let behind = has_more_urgent(&lists[input], output, queued.key);
     lists[input].insert(queued, cushion);
     if behind {
