@@ -2,7 +2,7 @@
 -- before it: by its input in a phase, by its phase in a slot, and by its slot. A cell that waits at an input came to
 -- it and keeps its numbers. So where all cells that come fit the numbers of a line, the transfers of a run are those
 -- of a log.
-use Rattle.cq_audit.proofs.Terms.{common_steps, rules, ◌≡◌, ℕ, zero, suc, ◌+◌, ◌<◌, ◌≤◌, ◌^◌, List, [], ◌∷◌, ◌++◌, length, Option, None, Some, refl, arith, IfSome, AllByRecursion, filter_map, range_with_len, eqb-true, Cell, Queued, Transfer, arrival_at, Arrival, arriving, first_for, is_for, log_of, all_at, all_insert, all_left, IsInRange, IsTraffic, Machine, Marked, admission, arriving_from, admitted_arrives, list_of, noted, transfers_of, IsStable, Partners, partner_of, Fabric, IsEmptyFabric, input, FabricSlot, SlotRecord, LimitedFabricRun, LimitedFabricSlot, LimitedRecord, fabric_admission, slots_in, Arrives, Transfers, transfers_in, transfers_of_run, run_of_whole, Leads, one_found, Comes, IsLog, StableRun, IsTransfer, IsOf, IsTransferBefore, all_weaker, all_both, all_found, came_from, first_at, all_give}
+use Rattle.cq_audit.proofs.Terms.{common_steps, rules, ◌≡◌, ℕ, zero, suc, ◌+◌, ◌<◌, ◌≤◌, ◌^◌, List, [], ◌∷◌, ◌++◌, length, Option, None, Some, refl, arith, IfSome, AllByRecursion, filter_map, range_with_len, eqb-true, Cell, Queued, Transfer, arrival_at, Arrival, arriving, first_for, is_for, log_of, all_at, all_insert, all_left, IsInRange, IsTraffic, Machine, Marked, admission, arriving_from, admitted_arrives, list_of, noted, transfers_of, IsStable, Partners, partner_of, Fabric, IsEmptyFabric, input, FabricSlot, SlotRecord, LimitedFabricRun, LimitedFabricSlot, LimitedRecord, fabric_admission, slots_in, Arrives, Transfers, transfers_in, transfers_of_run, run_of_whole, Leads, one_found, Comes, IsLog, StableRun, IsTransfer, IsOf, IsTransferBefore, all_weaker, all_both, all_found, came_from, first_at, all_give, most_ports}
 use Rattle.cq_audit.proofs.Following.{all_noted, run_later, slot_at, transfers_at}
 use Rattle.cq_traffic.proofs.ForPorts.{place_of}
 
@@ -68,7 +68,7 @@ module _ (ports : ℕ) where
     pub transfer : IsTransfer t
     pub of : IsOf ports t
 
-  module _ (slot phase : ℕ) (few : ports ≤ 64) (small : slot < 2 ^ 64) (one : 1 ≤ phase) (two : phase ≤ 2) where
+  module _ (slot phase : ℕ) (few : ports ≤ most_ports) (small : slot < 2 ^ 64) (one : 1 ≤ phase) (two : phase ≤ 2) where
     noted_line : (i : ℕ) (cells : List Queued) (all : AllTellable ports i cells) (p : Option ℕ) (t : Transfer) →
         noted slot phase i cells p ≡ Some t → IsLineOf slot phase i t
     noted_line i cells all p t e = grind (arith, common_steps, first_tellable)
@@ -91,7 +91,8 @@ module _ (ports : ℕ) where
         inputs_written _ (λ i. noted_line i (list_of lists i) (all i) (partner_of m i)) 0 (length m)
 
   -- the lines of a slot, first those of its first phase
-  slot_written : (r : SlotRecord) → ports ≤ 64 → r.slot < 2 ^ 64 → AllListed ports r.arrived → AllListed ports r.sent →
+  slot_written : (r : SlotRecord) → ports ≤ most_ports → r.slot < 2 ^ 64 → AllListed ports r.arrived →
+      AllListed ports r.sent →
       AreWritten ports (transfers_in r)
   unfolding transfers_in
   slot_written r few small arrived sent =
@@ -139,7 +140,7 @@ module _ (ports : ℕ) where
 
 -- ## A run
 
-module _ (limits : List (Option ℕ)) (ms : List Machine) (ports : ℕ) (few : ports ≤ 64) where
+module _ (limits : List (Option ℕ)) (ms : List Machine) (ports : ℕ) (few : ports ≤ most_ports) where
   run_written : (slot : ℕ) (traffic : List (List (Option Cell))) (f g : Marked Fabric) (rs : List LimitedRecord) →
       slot + length rs ≤ 2 ^ 64 → AllByRecursion (ComesTellable ports) traffic → AllListed ports f.state →
       LimitedFabricRun IsStable limits ms slot traffic f rs g → AreWritten ports (transfers_of_run (slots_in rs))
@@ -171,7 +172,7 @@ module _ (ports classes : ℕ) (came : List Arrival) (traffic : IsTraffic ports 
 
   slot_tellable : (t : ℕ) → ComesTellable ports (arriving came t)
   slot_tellable t i cell at = one_found _ came t i cell (all_found _ came t i
-      (all_give _ _ _ (tellable t i) came traffic.in_range fits)) (place_of came t i 64 cell refl at)
+      (all_give _ _ _ (tellable t i) came traffic.in_range fits)) (place_of came t i most_ports cell refl at)
 
   slots_tellable : (slot n : ℕ) → AllByRecursion (ComesTellable ports) (arriving_from came slot n)
   unfolding arriving_from
@@ -181,7 +182,7 @@ module _ (ports classes : ℕ) (came : List Arrival) (traffic : IsTraffic ports 
   -- a stable run over them from lists without cells, in no more slots than a line can name: its transfers can be
   -- written
   pub written_in_run : (limits : List (Option ℕ)) (ms : List Machine) (n : ℕ) (start end : Marked Fabric)
-      (rs : List LimitedRecord) → ports ≤ 64 → length rs ≤ 2 ^ 64 → ((i : ℕ) → input start.state i ≡ []) →
+      (rs : List LimitedRecord) → ports ≤ most_ports → length rs ≤ 2 ^ 64 → ((i : ℕ) → input start.state i ≡ []) →
       LimitedFabricRun IsStable limits ms 0 (arriving_from came 0 n) start rs end →
       AreWritten ports (transfers_of_run (slots_in rs))
   written_in_run limits ms n start end rs few long empty run =
@@ -190,7 +191,7 @@ module _ (ports classes : ℕ) (came : List Arrival) (traffic : IsTraffic ports 
 
   -- and where it is whole they are those of a log
   pub stable_log : (limits : List (Option ℕ)) (ms : List Machine) (start end : Marked Fabric)
-      (rs : List LimitedRecord) → ports ≤ 64 → length rs ≤ 2 ^ 64 → ((i : ℕ) → input start.state i ≡ []) →
+      (rs : List LimitedRecord) → ports ≤ most_ports → length rs ≤ 2 ^ 64 → ((i : ℕ) → input start.state i ≡ []) →
       StableRun limits ms came start rs end →
       IsLog ports (transfers_of_run (slots_in rs)) (log_of (transfers_of_run (slots_in rs)))
   unfolding log_of

@@ -4,6 +4,7 @@ pub use Rattle.cq_base.proofs.Lists.{all_at, all_insert, all_left, first_here, f
 pub use Rattle.cq_base.specs.Arrivals.{arrival_at, no_arrivals}
 pub use Rattle.cq_base.specs.Arriving.{Arrival, arriving, end_of, enough}
 pub use Rattle.cq_base.specs.Cells.{first_for, is_for}
+pub use Rattle.cq_base.specs.Limits.{most_ports}
 pub use Rattle.cq_base.specs.{Room.RoomView, Texts.log_line, declared.cell.Queued.Queued, declared.cell.TagFault.TagFault}
 unfoldable pub use Rattle.cq_base.specs.Texts.{log_of}
 pub use Rattle.cq_cells.specs.Traffic.{IsInRange, IsShort, IsTraffic, is_from, is_to, number_of}

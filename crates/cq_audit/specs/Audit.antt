@@ -3,6 +3,7 @@ use Rattle.std.specs.Prelude.{◌≡◌, ◌≢◌, ℕ, ◌<◌, ◌≤◌, IsO
 use Rattle.cq_base.specs.Arriving.{Arrival}
 use Rattle.cq_base.specs.declared.cell.Transfer.{Transfer}
 use Rattle.cq_base.specs.declared.setup.Setup.{Setup}
+use Rattle.cq_base.specs.Limits.{most_ports}
 use Rattle.cq_cells.specs.Scheduled.{Scheduled}
 use Rattle.cq_cells.specs.Traffic.{IsShort, IsTraffic}
 use Rattle.cq_ideal.specs.Admission.{Marked}
@@ -29,7 +30,7 @@ use Rattle.cq_audit.specs.declared.refusal.AuditRefusal.TheVariants.{Line, Trans
 pub record CanBeAudited (setup : Setup) (limits : List (Option ℕ)) (schedule : Scheduled) : Type 0 where
   pub classes : AreClasses setup.classes
   pub some : 0 < length setup.kinds
-  pub few : length setup.kinds ≤ 64
+  pub few : length setup.kinds ≤ most_ports
   pub ports : schedule.ports ≡ length setup.kinds
   pub limits_are : length limits ≡ length setup.kinds
   pub traffic : IsTraffic (length setup.kinds) (length setup.classes) schedule.came

@@ -6,6 +6,7 @@ use Rattle.cq_base.specs.declared.cell.Cell.{Cell}
 use Rattle.cq_base.specs.declared.cell.Queued.{Queued}
 use Rattle.cq_base.specs.declared.cell.Transfer.{Transfer}
 use Rattle.cq_base.specs.Room.{RoomView}
+use Rattle.cq_base.specs.Limits.{most_ports}
 use Rattle.cq_rank.specs.Machine.{Machine}
 use Rattle.cq_ideal.specs.Admission.{admitted}
 use Rattle.cq_ideal.specs.IdealSlot.{all_told, fronts, rests}
@@ -53,7 +54,7 @@ pub record HasGoneBy (slot phase : ℕ) (lines rest : List Transfer) (q q' : Que
 
 -- each output can send: there is a machine for each, and one that sends holds a cell
 pub record CanSend (ranks : RanksView) (q : Queues) (l : LimiterView) : Type 0 where
-  pub few : length (fronts q.buffers) ≤ 64
+  pub few : length (fronts q.buffers) ≤ most_ports
   pub machines : length (fronts q.buffers) ≡ length ranks.fixed
   pub states : length ranks.states ≡ length ranks.fixed
   pub counts : length (fronts q.buffers) ≡ length l.held

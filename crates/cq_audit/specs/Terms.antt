@@ -1,5 +1,6 @@
 -- The terms of this crate's clauses, each passed on from where it is defined.
 pub use Rattle.cq_base.specs.Arriving.{end_of, Arrival}
+pub use Rattle.cq_base.specs.Limits.{most_ports}
 pub use Rattle.cq_base.specs.{Texts.log_line, declared.cell.Cell.Cell, declared.cell.Transfer.Transfer, declared.setup.Setup.Setup}
 pub use Rattle.cq_rank.specs.{Machine.Machine, Switch.AreForOneSwitch}
 pub use Rattle.cq_ideal.specs.Admission.{Marked}

@@ -1,6 +1,6 @@
 //! The pairs of a phase, told from both sides.
 ghost use Rattle.std.specs.Prelude.{◌≡◌, ◌<◌, ◌≤◌, ℕ, IfNone, IfSome, None, Some, length, replicate};
-ghost use Rattle.cq_audit.specs.Terms.{IsFreeOutput, partner_of, with_pair, CanBeJoined};
+ghost use Rattle.cq_audit.specs.Terms.{IsFreeOutput, partner_of, with_pair, CanBeJoined, most_ports};
 
 use cq_base::Port;
 use cq_prefs::Matching;
@@ -29,7 +29,7 @@ impl Pairs {
     /// No pair, over so many inputs and as many outputs.
     #[tactic(auto, using(crate::proofs::Mirrored::none_mirrored))]
     pub fn none(ports: u16) -> Pairs
-        requires { ports ≤ 64 }
+        requires { ports ≤ most_ports }
         ensures { result ≡ replicate ports None }
     {
         Pairs {

@@ -1,6 +1,6 @@
 //! The lines of a phase, held against what the lists offer.
 ghost use Rattle.std.specs.Prelude.{◌≡◌, ◌≤◌, IfErr, IfOk, length};
-ghost use Rattle.cq_audit.specs.Terms.{cells_of, orders_of, AreOfPhase, IsPhaseFault, IsStableTold};
+ghost use Rattle.cq_audit.specs.Terms.{cells_of, most_ports, orders_of, AreOfPhase, IsPhaseFault, IsStableTold};
 
 use crate::blocking::first_blocking;
 use crate::pairs::Pairs;
@@ -28,7 +28,7 @@ pub fn stable_told(
     phase: u8,
     lines: &[Transfer],
 ) -> Result<Pairs, PhaseFault>
-    requires few { length lists.now ≤ 64 }
+    requires few { length lists.now ≤ most_ports }
     requires offers { offers.now ≡ orders_of (cells_of lists.now) }
     requires lines { AreOfPhase (length lists.now) slot phase lines.now }
     ensures stable { IfOk result (IsStableTold (cells_of lists.now) slot phase lines.now) }

@@ -1,7 +1,7 @@
 //! The pairs that the lines of a phase tell.
 ghost use Rattle.std.specs.Prelude.{◌≡◌, ◌≢◌, ◌<◌, ◌≤◌, ◌↔◌, ◌⊎◌, ℕ, IfErr, IfOk, IsTrue, Some, false, length};
 ghost use Rattle.std.specs.List.{AllByRecursion};
-ghost use Rattle.cq_audit.specs.Terms.{cells_of, IsFreeOutput, partner_of, IsOf, AreRight, IsFirstWrong, RiseByInput, first_id, told};
+ghost use Rattle.cq_audit.specs.Terms.{cells_of, IsFreeOutput, partner_of, IsOf, AreRight, IsFirstWrong, RiseByInput, first_id, told, most_ports};
 
 use crate::pairs::Pairs;
 use cq_base::{Port, Transfer};
@@ -33,7 +33,7 @@ fn is_right(list: &InputList, pairs: &Pairs, line: &Transfer) -> bool
 /// each line is looked at once.
 #[tactic(auto, using(crate::proofs::TellingLines::none_told, crate::proofs::TellingLines::cells_at))]
 pub fn told(lists: &[InputList], lines: &[Transfer]) -> Result<Pairs, Port>
-    requires few { length lists.now ≤ 64 }
+    requires few { length lists.now ≤ most_ports }
     requires lines { AllByRecursion (IsOf (length lists.now)) lines.now }
     requires rise { RiseByInput lines.now }
     ensures pairs { IfOk result (λ pairs. pairs ≡ told (length lists.now) lines.now) }

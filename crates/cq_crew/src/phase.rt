@@ -1,5 +1,6 @@
 //! One phase, by as many workers as are asked for and of use.
 ghost use Rattle.std.specs.Prelude.{◌≡◌, ◌≤◌, ◌↔◌, [], IfSome, IsTrue};
+ghost use Rattle.cq_base.specs.Limits.{most_workers};
 ghost use Rattle.cq_prefs.specs.Orders.{ports};
 ghost use Rattle.cq_pair.specs.Progress.{IsReached};
 ghost use Rattle.cq_ledger.specs.Seats.{HasClaimedAll};
@@ -30,7 +31,7 @@ pub fn pair_phase<R: Threads + Sync, G: Gate>(
     gate: &G,
 ) -> Settled
     requires some { 1 ≤ workers }
-    requires few { workers ≤ 64 }
+    requires few { workers ≤ most_workers }
     ensures phase { IsBestPhase offers.now (phase_of result) }
     ensures shared { IsShared result → 2 ≤ workers_used offers.now workers }
 {

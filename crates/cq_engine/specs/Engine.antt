@@ -8,6 +8,7 @@ use Rattle.cq_base.specs.declared.figures.OutputFigures.{OutputFigures}
 use Rattle.cq_base.specs.declared.figures.Figures.{Figures}
 use Rattle.cq_base.specs.Arrivals.{arrival_at}
 use Rattle.cq_base.specs.Room.{RoomView}
+use Rattle.cq_base.specs.Limits.{most_workers}
 use Rattle.cq_rank.specs.Machine.{Machine}
 use Rattle.cq_rank.specs.Switch.{AreForOneSwitch, AreSized, class_count}
 use Rattle.cq_ideal.specs.declared.refused.Refused.{Refused}
@@ -55,7 +56,7 @@ pub record EngineView : Type 0 where
 -- so many workers can propose at once
 pub record AreWorkers (workers : ℕ) : Type 0 where
   pub some : 1 ≤ workers
-  pub few : workers ≤ 64
+  pub few : workers ≤ most_workers
 
 -- an engine of so many ports can be made of these machines, these rooms of its lists and of its buffers, and these
 -- limits of its outputs, with so many workers

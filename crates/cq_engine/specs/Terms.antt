@@ -1,5 +1,6 @@
 -- The terms of this crate's clauses, each passed on from where it is defined.
 pub use Rattle.cq_base.specs.{Arrivals.arrival_at, Cells.is_for, declared.cell.Cell.Cell, declared.cell.Queued.Queued, declared.figures.OutputFigures.OutputFigures}
+pub use Rattle.cq_base.specs.Limits.{most_ports}
 pub use Rattle.cq_rank.specs.{Machine.Machine, Switch.class_count}
 pub use Rattle.cq_ideal.specs.{Admission.Marked, Ideal.answer_to, Ideal.count_for}
 pub use Rattle.cq_ideal.specs.IdealSlot.{departures_in, fronts, rests}

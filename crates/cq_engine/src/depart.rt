@@ -1,7 +1,7 @@
 //! How the outputs send.
 ghost use Rattle.std.specs.Prelude.{◌≡◌, ◌+◌, ◌-◌, ◌<◌, ◌≤◌, ◌^◌, ◌++◌, ℕ, Some, is_some, if◌then◌else◌, length, map, max, slice_get};
 ghost use Rattle.std.specs.List.{enumerate_from, list_any};
-ghost use Rattle.cq_engine.specs.Terms.{OutputFigures, departures_in, fronts, rests, came_to, output_counted, CanSend, EachHasSent};
+ghost use Rattle.cq_engine.specs.Terms.{OutputFigures, departures_in, fronts, rests, came_to, output_counted, CanSend, EachHasSent, most_ports};
 
 use crate::measure::count_outputs;
 use cq_base::{Departure, Figures, Port, Queued, Room, Slot};
@@ -18,7 +18,7 @@ fn any_sent(gone: &[Option<Queued>]) -> bool
 
 // The cells that left are put at the end of what was sent.
 fn send(slot: Slot, gone: &[Option<Queued>], sent: &mut Room<Departure>)
-    requires few { length gone.now ≤ 64 }
+    requires few { length gone.now ≤ most_ports }
     requires room { length gone.now ≤ sent.old.spare }
     ensures items { sent.new.items ≡ sent.old.items ++ departures_in slot gone.now }
     ensures spare { sent.new.spare + length (departures_in slot gone.now) ≡ sent.old.spare }
@@ -63,7 +63,7 @@ pub fn leave<R: Rank>(
     slot: Slot,
     sent: &mut Room<Departure>,
 )
-    requires few { length gone.now ≤ 64 }
+    requires few { length gone.now ≤ most_ports }
     requires send { CanSend slot gone.now ranks.old limiter.old figures.old sent.old }
     ensures sent { EachHasSent (map R.machine ranks.old.fixed) slot gone.now ranks.old ranks.new limiter.old limiter.new
         figures.old figures.new sent.old sent.new }

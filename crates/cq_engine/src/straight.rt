@@ -6,7 +6,7 @@ ghost use Rattle.std.specs.Prelude.{◌≡◌, ◌↔◌, ◌+◌, ◌-◌, ◌<
 ghost use Rattle.std.specs.List.{enumerate_from};
 ghost use Rattle.cq_base.specs.declared.cell.Queued.{Queued as OfCell};
 ghost use Rattle.cq_base.specs.declared.figures.InputFigures.{InputFigures as OfInput};
-ghost use Rattle.cq_engine.specs.Terms.{came_to, CanSend, EachHasSent, AreApart, AreSent, CanGoStraight, GoStraight, crossings, input_passed};
+ghost use Rattle.cq_engine.specs.Terms.{came_to, CanSend, EachHasSent, AreApart, AreSent, CanGoStraight, GoStraight, crossings, input_passed, most_ports};
 
 use crate::depart::leave;
 use cq_base::{Departure, Figures, InputFigures, Queued, Room, Sequence, Slot, Transfer};
@@ -16,7 +16,7 @@ use cq_rank::Rank;
 
 // Each cell that came is put at the place of its output. The answer is whether no two are for one output.
 fn fill(gone: &mut Gone, came: &Newcomers, ports: u16) -> bool
-    requires few { ports ≤ 64 }
+    requires few { ports ≤ most_ports }
     requires outputs { (i : ℕ) (c : OfCell) → came_to came.now i ≡ Some c → c.cell.output < ports }
     ensures wide { ports ≤ length gone.new }
     ensures apart { IsTrue result ↔ AreApart ports came.now }
@@ -46,7 +46,7 @@ pub fn go_straight(queues: &Queues, came: &Newcomers, gone: &mut Gone) -> bool
 
 // Each cell that came is noted as one that crosses in the first phase.
 fn note_each(came: &Newcomers, inputs: usize, slot: Slot, note: &mut Room<Transfer>)
-    requires few { inputs ≤ 64 }
+    requires few { inputs ≤ most_ports }
     requires room { inputs ≤ note.old.spare }
     ensures items { note.new.items ≡ note.old.items ++ crossings slot inputs came.now }
     ensures spare { note.new.spare + length (crossings slot inputs came.now) ≡ note.old.spare }
@@ -78,7 +78,7 @@ fn input_passed(figures: InputFigures, queued: Queued) -> InputFigures
 
 // Adds the cells that came to what was seen of the inputs. Where none came nothing changes.
 fn count_passed(inputs: &mut Sequence<InputFigures>, came: &Newcomers, ports: usize)
-    requires few { ports ≤ 64 }
+    requires few { ports ≤ most_ports }
     requires ports { length inputs.old ≡ ports }
     requires counts { (i : ℕ) (x : OfInput) → slice_get inputs.old i ≡ Some x → x.cells < 2 ^ 64 - 1 }
     ensures { inputs.new ≡ map (λ at. input_passed (came_to came.now at.0) at.1) (enumerate_from 0 inputs.old) }
@@ -103,7 +103,7 @@ pub fn pass<R: Rank>(
     sent: &mut Room<Departure>,
     note: &mut Room<Transfer>,
 ) -> u64
-    requires few { length gone.now ≤ 64 }
+    requires few { length gone.now ≤ most_ports }
     requires send { CanSend slot gone.now ranks.old limiter.old figures.old sent.old }
     requires note { length gone.now ≤ note.old.spare }
     requires inputs { length figures.old.inputs ≡ length gone.now }

@@ -1,6 +1,6 @@
 -- Lists and buffers with their rooms. A cell that goes into a list takes the room that the list has for it, and a
 -- cell that leaves gives it back, so that no list and no buffer can hold more cells, or fewer, than before.
-use Rattle.cq_fabric.proofs.Terms.{zero, suc, common_steps, rules, ◌≡◌, ℕ, ◌+◌, ◌<◌, ◌≤◌, cond, List, [], ◌∷◌, ◌++◌, length, map, get_or, take, drop, Option, Some, None, refl, sym, ap, ◌∙◌, ⊎_elim, arith, replicate, is_some, slice_get, cases_lt, cond_both, length-map, get_or_default, get_or_past, ext_get_or, drop_all, take_all, append-nil, get_or-replicate, length-insert, Queued, is_for, first_for, without_first, fronts, rests, Waiting, cells_of, Buffered, cells_in, list_of, FirstKeysDiffer, orders_of, output_order, Moves, Orders, Partners, IsMatching, are_orders, HaveCells, HaveRoom, MovesRoom, list_spare, buffer_spare, partner_or_free, length_put, came_to, list_arrived, first_at, Queues, FitLists, KeysApart, CanCross, FitEach, AreSquare, list_room, buffer_room, fabric_of, no_list, list_at, list_with, front_of, popped, has_there}
+use Rattle.cq_fabric.proofs.Terms.{zero, suc, common_steps, rules, ◌≡◌, ℕ, ◌+◌, ◌<◌, ◌≤◌, cond, List, [], ◌∷◌, ◌++◌, length, map, get_or, take, drop, Option, Some, None, refl, sym, ap, ◌∙◌, ⊎_elim, arith, replicate, is_some, slice_get, cases_lt, cond_both, length-map, get_or_default, get_or_past, ext_get_or, drop_all, take_all, append-nil, get_or-replicate, length-insert, Queued, is_for, first_for, without_first, fronts, rests, Waiting, cells_of, Buffered, cells_in, list_of, FirstKeysDiffer, orders_of, output_order, Moves, Orders, Partners, IsMatching, are_orders, HaveCells, HaveRoom, MovesRoom, list_spare, buffer_spare, partner_or_free, length_put, came_to, list_arrived, first_at, Queues, FitLists, KeysApart, CanCross, FitEach, AreSquare, list_room, buffer_room, fabric_of, no_list, list_at, list_with, front_of, popped, has_there, most_ports}
 use Rattle.std.proofs.Math.ListN.{get_or-map}
 use Rattle.std.proofs.lemmas.List.{get_or-map as get_or-map_inside}
 
@@ -171,7 +171,7 @@ popped_square lists buffers n square = grind (arith, common_steps, length-map)
 
 -- ## New queues
 
-pub new_square : (lists : List Waiting) (buffers : List Buffered) (n k : ℕ) → k ≤ 64 → n ≡ k →
+pub new_square : (lists : List Waiting) (buffers : List Buffered) (n k : ℕ) → k ≤ most_ports → n ≡ k →
     map (λ w. w.outputs) lists ≡ replicate k k → length lists ≡ k → length buffers ≡ k → AreSquare lists buffers n
 new_square lists buffers n k few offered outputs long as_many =
     let out : Waiting → ℕ = λ w. w.outputs in

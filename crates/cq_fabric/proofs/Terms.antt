@@ -6,6 +6,7 @@ pub use Rattle.cq_base.proofs.Lists.{ahead_of_end, all_at, first_here, first_lat
 pub use Rattle.cq_base.specs.Arrivals.{arrival_at, no_arrivals}
 pub use Rattle.cq_base.specs.Cells.{ArrivedBefore, HasOtherKey, IsBefore, IsRising, KeepsOrder, MoreUrgentAhead, cushion, first_for, is_for, place_of_arrival, place_of_later, put, with_arrival, without_first}
 pub use Rattle.cq_base.specs.Items.{EachPair}
+pub use Rattle.cq_base.specs.Limits.{most_ports}
 pub use Rattle.cq_base.specs.{Key.is_before, declared.cell.Cell.Cell, declared.cell.Queued.Queued, declared.key.Key.Key}
 pub use Rattle.cq_rank.specs.Machine.{Machine}
 pub use Rattle.cq_ideal.proofs.Changed.{at_end, at_place, changed_to, map_next, map_same, next_place, take_next}

@@ -2,6 +2,7 @@
 use Rattle.std.specs.Prelude.{◌≡◌, ◌≢◌, ℕ, ◌+◌, ◌-◌, ◌<◌, ◌≤◌, ◌^◌, if◌then◌else◌, is_some, All, List, [], length, map, drop, slice_get, slice_index, slice_index_or, Option, Some, None}
 use Rattle.cq_base.specs.declared.cell.Queued.{Queued}
 use Rattle.cq_base.specs.Cells.{HasOtherKey, MoreUrgentAhead, cushion, first_for, with_arrival}
+use Rattle.cq_base.specs.Limits.{most_ports}
 use Rattle.cq_list.specs.InputList.{Waiting, cells_of}
 use Rattle.cq_urgency.specs.OutputBuffer.{Buffered}
 use Rattle.cq_prefs.specs.FirstCells.{list_of, HasCellFor, orders_of}
@@ -103,7 +104,7 @@ popped buffer =
 
 -- there are as many lists as buffers, 64 at most, each list is for as many outputs, and so are the offers
 pub record AreSquare (lists : List Waiting) (buffers : List Buffered) (offers : ℕ) : Type 0 where
-  pub few : length lists ≤ 64
+  pub few : length lists ≤ most_ports
   pub as_many : length buffers ≡ length lists
   pub offered : offers ≡ length lists
   pub outputs : All (λ list. list.outputs ≡ length lists) lists
@@ -117,7 +118,7 @@ pub record AreOffered (lists : List Waiting) (buffers : List Buffered) (offers :
 -- one cell comes to the list of input i of lists that are offered: no waiting cell has its key
 pub record Comes (lists : List Waiting) (offers : Orders) (i : ℕ) (c : Queued) : Type 0 where
   pub inside : i < length lists
-  pub few : length lists ≤ 64
+  pub few : length lists ≤ most_ports
   pub outputs : All (λ list. list.outputs ≡ length lists) lists
   pub offered : offers ≡ orders_of (cells_of lists)
   pub waiting : KeysApart (cells_of lists)

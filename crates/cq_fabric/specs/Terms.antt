@@ -1,5 +1,6 @@
 -- The terms of this crate's clauses, each passed on from where it is defined.
 pub use Rattle.cq_base.specs.Cells.{cushion}
+pub use Rattle.cq_base.specs.Limits.{most_ports}
 pub use Rattle.cq_ideal.specs.IdealSlot.{fronts, rests, all_told}
 pub use Rattle.cq_list.specs.InputList.{cells_of}
 pub use Rattle.cq_urgency.specs.OutputBuffer.{cells_in}

@@ -1,8 +1,8 @@
 //! What the outputs send in a slot.
 ghost use Rattle.std.specs.Prelude.{◌≡◌, ◌<◌, ◌≤◌, None, Some, drop, length, map, replicate, slice_index_or, slice_set, take};
-ghost use Rattle.cq_fabric.specs.Terms.{front_of, popped};
+ghost use Rattle.cq_fabric.specs.Terms.{front_of, most_ports, popped};
 
-use cq_base::{Port, Queued};
+use cq_base::{MOST_PORTS, Port, Queued};
 use cq_urgency::OutputBuffer;
 use std::marker::Model;
 
@@ -10,25 +10,26 @@ use std::marker::Model;
 /// array is made or copied in a slot. Contracts see the 64 places.
 #[derive(Drop)]
 pub struct Gone {
-    places: [Option<Queued>; 64],
+    places: [Option<Queued>; MOST_PORTS],
 }
 
 impl Model for Gone {
     ghost use Rattle.std.specs.Prelude.{◌≡◌, List, Option, length};
     ghost use Rattle.cq_base.specs.declared.cell.Queued.{Queued};
+    ghost use Rattle.cq_base.specs.Limits.{most_ports};
 
     ghost Value = { List (Option Queued) };
 
     ghost view = { λ a. a.places };
 
-    ghost invariant = { λ a. length a.places ≡ 64 };
+    ghost invariant = { λ a. length a.places ≡ most_ports };
 }
 
 // The first cell of each buffer leaves it, and comes to the place of its output.
-fn pop_each(buffers: &mut [OutputBuffer], gone: &mut [Option<Queued>; 64])
-    requires few { length buffers.old ≤ 64 }
-    requires places { length gone.old ≡ 64 }
-    ensures places { length gone.new ≡ 64 }
+fn pop_each(buffers: &mut [OutputBuffer], gone: &mut [Option<Queued>; MOST_PORTS])
+    requires few { length buffers.old ≤ most_ports }
+    requires places { length gone.old ≡ most_ports }
+    ensures places { length gone.new ≡ most_ports }
     ensures gone { take (length buffers.old) gone.new ≡ map front_of buffers.old }
     ensures others { drop (length buffers.old) gone.new ≡ drop (length buffers.old) gone.old }
     ensures buffers { buffers.new ≡ map popped buffers.old }
@@ -41,14 +42,16 @@ fn pop_each(buffers: &mut [OutputBuffer], gone: &mut [Option<Queued>; 64])
 impl Gone {
     /// No output sent a cell.
     pub fn none() -> Gone
-        ensures { result ≡ replicate 64 None }
+        ensures { result ≡ replicate most_ports None }
     {
-        Gone { places: [None; 64] }
+        Gone {
+            places: [None; MOST_PORTS],
+        }
     }
 
     /// None of so many outputs sent a cell. The places behind them stay as they were.
     pub fn clear(&mut self, outputs: u16)
-        requires { outputs ≤ 64 }
+        requires { outputs ≤ most_ports }
         ensures none { take outputs self.new ≡ replicate outputs None }
         ensures others { drop outputs self.new ≡ drop outputs self.old }
     {
@@ -57,7 +60,7 @@ impl Gone {
 
     /// What an output sent, if it sent a cell.
     pub fn at(&self, output: Port) -> Option<Queued>
-        requires { output < 64 }
+        requires { output < most_ports }
         ensures { result ≡ slice_index_or self.now output None }
     {
         self.places[output as usize]
@@ -65,7 +68,7 @@ impl Gone {
 
     /// An output sent this cell.
     pub fn put(&mut self, output: Port, queued: Queued)
-        requires { output < 64 }
+        requires { output < most_ports }
         ensures { self.new ≡ slice_set self.old output (Some queued) }
     {
         self.places[output as usize] = Some(queued);
@@ -73,7 +76,7 @@ impl Gone {
 
     /// What each of so many outputs sent.
     pub fn of_outputs(&self, outputs: u16) -> &[Option<Queued>]
-        requires { outputs ≤ 64 }
+        requires { outputs ≤ most_ports }
         ensures { result.now ≡ take outputs self.now }
     {
         &self.places[..outputs as usize]
@@ -81,7 +84,7 @@ impl Gone {
 
     /// The first cell of each buffer leaves it, and comes to the place of its output.
     pub(crate) fn take_from(&mut self, buffers: &mut [OutputBuffer])
-        requires { length buffers.old ≤ 64 }
+        requires { length buffers.old ≤ most_ports }
         ensures gone { take (length buffers.old) self.new ≡ map front_of buffers.old }
         ensures others { drop (length buffers.old) self.new ≡ drop (length buffers.old) self.old }
         ensures buffers { buffers.new ≡ map popped buffers.old }

@@ -3,7 +3,7 @@ ghost use Rattle.std.specs.Prelude.{◌≡◌, ◌≢◌, ◌==◌, ◌+◌, ◌
 ghost use Rattle.std.specs.List.{list_all, position_or_len};
 ghost use Rattle.cq_base.specs.declared.cell.Queued.{Queued as OfCell};
 ghost use Rattle.cq_base.specs.Cells.{MoreUrgentAhead, with_arrival};
-ghost use Rattle.cq_fabric.specs.Terms.{cushion, fronts, rests, cells_of, cells_in, first_key, key_before, list_of, orders_of, Moves, transfers_of, IsMatching, HasTransferred, came_to, list_arrived, CanCrossInPairs, CanFollow, CanHold, IsNewest, CanCross, ComeApart, Comes, FitEach, FitLists, Fits, buffer_room, fabric_of, list_at, list_room, list_with};
+ghost use Rattle.cq_fabric.specs.Terms.{cushion, fronts, rests, cells_of, cells_in, first_key, key_before, list_of, orders_of, Moves, transfers_of, IsMatching, HasTransferred, came_to, list_arrived, CanCrossInPairs, CanFollow, CanHold, IsNewest, CanCross, ComeApart, Comes, FitEach, FitLists, Fits, buffer_room, fabric_of, list_at, list_room, list_with, most_ports};
 
 use crate::gone::Gone;
 use crate::standing::{all_told, filled_buffer, filled_each, filled_list};
@@ -100,7 +100,7 @@ fn insert_each(
     offers: &mut Offers,
     came: &Newcomers,
 )
-    requires few { length lists.old ≤ 64 }
+    requires few { length lists.old ≤ most_ports }
     requires fit { FitEach (cells_in buffers.now) came.now lists.old }
     requires come { ComeApart came.now (cells_of lists.old) }
     requires outputs { All (λ list. list.outputs ≡ length lists.old) lists.old }
@@ -140,7 +140,7 @@ fn cross_matched(
 
 // A list for each of these rooms, over as many outputs.
 fn new_lists(alloc: Global, rooms: &[u64]) -> Result<Vec<InputList>, NoMemory>
-    requires { length rooms.now ≤ 64 }
+    requires { length rooms.now ≤ most_ports }
     ensures cells { IfOk result (λ lists. cells_of lists.items ≡ replicate (length rooms.now) []) }
     ensures rooms { IfOk result (λ lists. map list_room lists.items ≡ rooms.now) }
     ensures outputs { IfOk result (λ lists. map (λ list. list.outputs) lists.items
@@ -183,7 +183,7 @@ fn none_crossed(buffers: &[OutputBuffer]) -> bool
 impl Queues {
     /// No cell waits. The lists and the buffers can hold so many cells. The error is want of memory.
     pub fn new(alloc: Global, from_inputs: &[u64], to_outputs: &[u64]) -> Result<Queues, NoMemory>
-        requires few { length from_inputs.now ≤ 64 }
+        requires few { length from_inputs.now ≤ most_ports }
         requires square { length to_outputs.now ≡ length from_inputs.now }
         ensures inputs { IfOk result (λ q. q.inputs ≡ replicate (length from_inputs.now) []) }
         ensures buffers { IfOk result (λ q. q.buffers ≡ replicate (length from_inputs.now) []) }
@@ -205,7 +205,7 @@ impl Queues {
         lists: &[Sequence<Queued>],
         buffers: &[Sequence<Queued>],
     ) -> Result<Queues, NoMemory>
-        requires few { length from_inputs.now ≤ 64 }
+        requires few { length from_inputs.now ≤ most_ports }
         requires square { length to_outputs.now ≡ length from_inputs.now }
         requires lists { length lists.now ≡ length from_inputs.now }
         requires buffers { length buffers.now ≡ length from_inputs.now }
@@ -249,7 +249,7 @@ impl Queues {
     pub fn ports(&self) -> u16
         ensures value { result ≡ length self.now.inputs }
         ensures buffers { length self.now.buffers ≡ length self.now.inputs }
-        ensures few { length self.now.inputs ≤ 64 }
+        ensures few { length self.now.inputs ≤ most_ports }
         ensures within { (j : ℕ) → length (list_of self.now.buffers j) ≤ slice_index self.now.to_outputs j }
         ensures rooms { (j : ℕ) → slice_index self.now.to_outputs j < 2 ^ 64 }
     {
@@ -314,7 +314,7 @@ impl Queues {
     /// The list of each input.
     pub fn lists(&self) -> &[InputList]
         ensures cells { cells_of result.now ≡ self.now.inputs }
-        ensures few { length result.now ≤ 64 }
+        ensures few { length result.now ≤ most_ports }
         ensures outputs { All (λ list. list.outputs ≡ length result.now) result.now }
     {
         &self.lists

@@ -1,7 +1,7 @@
 //! Lists and buffers in which cells wait from the start, and the cells that wait in them.
 ghost use Rattle.std.specs.Prelude.{◌≡◌, ◌<◌, ◌≤◌, ℕ, IfOk, Ok, length};
 ghost use Rattle.std.specs.Fn.{FnReturnsAt};
-ghost use Rattle.cq_fabric.specs.Terms.{CanStand, CanWait, buffer_room, list_room, AllAreFilled, AllAreTold, CanFill};
+ghost use Rattle.cq_fabric.specs.Terms.{CanStand, CanWait, buffer_room, list_room, most_ports, AllAreFilled, AllAreTold, CanFill};
 
 use cq_base::{NoMemory, Queued, Sequence};
 use cq_list::InputList;
@@ -17,7 +17,7 @@ pub fn filled_list(
     room: u64,
     cells: &[Queued],
 ) -> Result<InputList, NoMemory>
-    requires few { outputs ≤ 64 }
+    requires few { outputs ≤ most_ports }
     requires wait { CanWait outputs room cells.now }
     ensures cells { IfOk result (λ list. list.cells ≡ cells.now) }
     ensures room { IfOk result (λ list. list_room list ≡ room) }

@@ -1,7 +1,7 @@
 -- Admission, input by input. The mark of an input after a slot says what became of its arrival, and without a first
 -- cell it is the mark of before. So what is admitted arrives; and where no mark is up and no output has a limit all
 -- is admitted, as where nothing arrives.
-use Rattle.cq_ideal.proofs.Terms.{rules, arith, ◌≡◌, ℕ, zero, suc, Bool, false, List, [], ◌∷◌, length, replicate, Option, Some, None, refl, ap, common_steps, Cell, arrival_at, no_arrivals, NoLimits, RefusesNone, mark_after, held_after, marks_after, admitted, refused, Admission, admission, mark_at, unless, marks_down, AreForPorts}
+use Rattle.cq_ideal.proofs.Terms.{rules, arith, ◌≡◌, ℕ, zero, suc, Bool, false, List, [], ◌∷◌, length, replicate, Option, Some, None, refl, ap, common_steps, Cell, arrival_at, no_arrivals, NoLimits, RefusesNone, mark_after, held_after, marks_after, admitted, refused, Admission, admission, mark_at, unless, marks_down, AreForPorts, most_ports}
 
 -- ## What is admitted
 
@@ -66,4 +66,4 @@ all_rest limits held (mark ∷ marks) (suc n) = grind (arith, common_steps, all_
 
 pub no_arrivals_refuse_none : (limits : List (Option ℕ)) (marks : List Bool) → RefusesNone limits marks no_arrivals
 unfolding admission
-no_arrivals_refuse_none limits marks held = grind (arith, common_steps, all_rest limits held marks 64)
+no_arrivals_refuse_none limits marks held = grind (arith, common_steps, all_rest limits held marks most_ports)

@@ -4,7 +4,7 @@
 -- the slot that follows. Where cells are ranked one after another, what came so far stands in front of the ranking of
 -- the others. The definition puts them all into the lists; the code puts one after another: putting the first cell,
 -- and then the others, is putting them all, and where a list has room for all of them it has for each in turn.
-use Rattle.cq_ideal.proofs.Terms.{rules, ⊎_elim, ◌≡◌, ℕ, zero, suc, ◌+◌, List, [], ◌∷◌, length, get_or, Option, Some, None, Result, Ok, sym, ap, ◌∙◌, arith, length-set, common_steps, same_Some, Cell, Queued, TagFault, arrival_at, Machine, CameToPorts, Ranking, ranking, after_input, AreForPorts, ◌≤◌, cond, replicate, refl, ◌<◌, AllByRecursion, cond_both, cases_lt, put, is_for, other_key_newest, filled, put_all, rests, AllArrivedBefore, HaveOwnKeys, list_at, all_put, get_or_past, ◌++◌, map, set, take, drop, Err, get_or-set_other, ext_get_or, get_or-drop, length-drop, length-replicate, take-append-drop, take_more_set, unwrap_or-slice_get, RanksView, after_inputs, ◌≢◌, get_or-set_same, IfSome, cases_Bool, eqb-true, eq-eqb, length-map, drop_more, HasOtherKey, CanPut, QueuesView, FitTogether, HaveRoomFor, with_came, with_cell, length_put, all_weaker}
+use Rattle.cq_ideal.proofs.Terms.{rules, ⊎_elim, ◌≡◌, ℕ, zero, suc, ◌+◌, List, [], ◌∷◌, length, get_or, Option, Some, None, Result, Ok, sym, ap, ◌∙◌, arith, length-set, common_steps, same_Some, Cell, Queued, TagFault, arrival_at, Machine, CameToPorts, Ranking, ranking, after_input, AreForPorts, ◌≤◌, cond, replicate, refl, ◌<◌, AllByRecursion, cond_both, cases_lt, put, is_for, other_key_newest, filled, put_all, rests, AllArrivedBefore, HaveOwnKeys, list_at, all_put, get_or_past, ◌++◌, map, set, take, drop, Err, get_or-set_other, ext_get_or, get_or-drop, length-drop, length-replicate, take-append-drop, take_more_set, unwrap_or-slice_get, RanksView, after_inputs, ◌≢◌, get_or-set_same, IfSome, cases_Bool, eqb-true, eq-eqb, length-map, drop_more, HasOtherKey, CanPut, QueuesView, FitTogether, HaveRoomFor, with_came, with_cell, length_put, all_weaker, most_ports}
 use Rattle.cq_ideal.proofs.FlowRank.{after_input_ok, fits_ok}
 use Rattle.cq_ideal.proofs.Waiting.{filled_at, length-filled, filled_none}
 use Rattle.cq_ideal.proofs.Changed.{same_at}
@@ -40,7 +40,7 @@ ranks_kept ms slot i (Some cell ∷ cells) ranks r h =
 -- so they come to the ports that they arrive at, for the ports that they are for
 pub came_to_ports : (ms : List Machine) (slot ports class_count : ℕ) (cells : List (Option Cell))
     (ranks : List (List ℕ)) (r : Ranking) → ranking ms slot 0 cells ranks ≡ Ok r →
-    AreForPorts ports class_count cells → length r.came ≡ 64 → CameToPorts ports r.came
+    AreForPorts ports class_count cells → length r.came ≡ most_ports → CameToPorts ports r.came
 came_to_ports ms slot ports class_count cells ranks r h are places =
     grind (arith, common_steps, are.inputs, came_from ms slot 0 cells ranks r h, are.outputs)
 
@@ -126,8 +126,8 @@ pub record InTurn (M : List ℕ → Machine) (slot : ℕ) (cells : List (Option 
     (ranks : RanksView) (came : List (Option Queued)) : Type 0 where
   pub fixed : ranks.fixed ≡ first.fixed
   pub many : length ranks.states ≡ length first.states
-  pub places : 0 < input → length cells ≡ 64
-  pub long : length came ≡ 64
+  pub places : 0 < input → length cells ≡ most_ports
+  pub long : length came ≡ most_ports
   pub later : (k : ℕ) → length first.fixed ≤ k → get_or came k None ≡ None
   pub ranked :
       after_inputs (take input came) (ranking (map M first.fixed) slot input (drop input cells) ranks.states)
@@ -136,8 +136,8 @@ pub record InTurn (M : List ℕ → Machine) (slot : ℕ) (cells : List (Option 
 module _ {M : List ℕ → Machine} {slot : ℕ} {cells : List (Option Cell)} {first : RanksView} {input : ℕ}
     {ranks : RanksView} {came : List (Option Queued)} (so_far : InTurn M slot cells first input ranks came) where
   -- one input more
-  pub in_turn_next : (ranks_new : RanksView) (cell : Option Cell) (q : Option Queued) → length cells ≡ 64 →
-      input < 64 → input < length first.fixed → drop input cells ≡ cell ∷ drop (input + 1) cells →
+  pub in_turn_next : (ranks_new : RanksView) (cell : Option Cell) (q : Option Queued) → length cells ≡ most_ports →
+      input < most_ports → input < length first.fixed → drop input cells ≡ cell ∷ drop (input + 1) cells →
       ranks_new.fixed ≡ ranks.fixed → length ranks_new.states ≡ length ranks.states →
       ((rest : List (Option Cell)) → ranking (map M ranks.fixed) slot input (cell ∷ rest) ranks.states
       ≡ after_input q (ranking (map M ranks.fixed) slot (input + 1) rest ranks_new.states)) →
@@ -219,7 +219,8 @@ if_some q P f = grind (arith, common_steps)
 -- ## The walk over the inputs
 
 -- the cells from an input on
-pub from_input : (cells : List (Option Cell)) (input : ℕ) (o : Option Cell) → length cells ≡ 64 → input < 64 →
+pub from_input : (cells : List (Option Cell)) (input : ℕ) (o : Option Cell) → length cells ≡ most_ports →
+    input < most_ports →
     o ≡ arrival_at cells input → drop input cells ≡ o ∷ drop (input + 1) cells
 from_input cells input o places inside is = grind (arith, common_steps, drop_more, unwrap_or-slice_get)
 
@@ -238,7 +239,7 @@ module _ {came : List (Option Queued)} {first : QueuesView} {input : ℕ} {queue
   pub putting_last : length first.lists ≤ input → queues.lists ≡ filled came first.lists
   putting_last past = search (rules, nobody_left, ports.inputs, get_or-drop)
 
-  module _ (few : length first.lists ≤ 64) (inside : input < length first.lists) where
+  module _ (few : length first.lists ≤ most_ports) (inside : input < length first.lists) where
     next : drop input came ≡ get_or came input None ∷ drop (input + 1) came
     next = grind (arith, common_steps, drop_more)
 

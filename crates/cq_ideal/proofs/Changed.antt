@@ -1,7 +1,7 @@
 -- Lists that are made item by item, what is seen of one item, and lists that are new up to a place, and old from it on.
 -- So the list and the machine of one output among those of all: what stands at its place is read through the lists of
 -- all, and a call that changes it changes these at its place alone.
-use Rattle.cq_ideal.proofs.Terms.{common_steps, ◌≡◌, ℕ, zero, suc, refl, ◌+◌, ◌<◌, ◌≤◌, List, [], ◌∷◌, ◌++◌, length, map, get_or, replicate, set, take, drop, sym, ap, ◌∙◌, arith, length-append, append-nil, drop_all, drop_more, get_or_at, get_or-map, length-drop, length-map, length-take, length-take-le, map-set, map_push, replicate_more, set_at, take_all, take_more, map-set_same, Option, None, subst, length-set, get_or-set_other, length-replicate, Queued, ◌^◌, eqb, Bool, All, IsTrue, ◌↔◌, list_all, All-push, list_all-map, list_all-from_AllPass, IsWithin, QueueView, QueuesView, list_at, Machine, machine_at, first_come, RanksView}
+use Rattle.cq_ideal.proofs.Terms.{common_steps, ◌≡◌, ℕ, zero, suc, refl, ◌+◌, ◌<◌, ◌≤◌, List, [], ◌∷◌, ◌++◌, length, map, get_or, replicate, set, take, drop, sym, ap, ◌∙◌, arith, length-append, append-nil, drop_all, drop_more, get_or_at, get_or-map, length-drop, length-map, length-take, length-take-le, map-set, map_push, replicate_more, set_at, take_all, take_more, map-set_same, Option, None, subst, length-set, get_or-set_other, length-replicate, Queued, ◌^◌, eqb, Bool, All, IsTrue, ◌↔◌, list_all, All-push, list_all-map, list_all-from_AllPass, IsWithin, QueueView, QueuesView, list_at, Machine, machine_at, first_come, RanksView, most_ports}
 use Rattle.cq_ideal.specs.Newcomers.{AreUsed}
 
 -- ## One item more
@@ -74,10 +74,13 @@ at_end new old j same end = cc (drop_all j old end, append-nil (take j new), tak
 
 -- ## Which places may have a cell: none where all were cleared, and one more at most where one was filled
 
-pub none_used : (used : ℕ) (places : List (Option Queued)) → places ≡ replicate 64 None → AreUsed used places
+pub none_used : (used : ℕ) (places : List (Option Queued)) → places ≡ replicate most_ports None → AreUsed used places
 none_used used places nobody =
     let none = None in
-    subst (AreUsed used) (sym nobody) (record { long = length-replicate 64 none; beyond = λ k _. same_at none 64 k })
+    subst (AreUsed used) (sym nobody) (record {
+      long = length-replicate most_ports none;
+      beyond = λ k _. same_at none most_ports k;
+    })
 
 pub one_used : (used now input : ℕ) (places : List (Option Queued)) (q : Option Queued) → AreUsed used places →
     used ≤ now → input < now → AreUsed now (set places input q)

@@ -3,7 +3,7 @@
 -- are judged one after another: the marks so far, and then those of judging what is left, are those of judging all; and
 -- what the outputs hold so far, with what is still to be admitted, is what they hold at the end.
 
-use Rattle.cq_ideal.proofs.Terms.{rules, ◌≡◌, ◌≢◌, ℕ, zero, suc, ◌+◌, ◌-◌, ◌<◌, ◌≤◌, ◌^◌, eqb, Bool, true, false, cond, List, [], ◌∷◌, ◌++◌, length, drop, get_or, set, Option, Some, None, refl, sym, ap, ◌∙◌, arith, subst, common_steps, All-from_recursion, drop_all, drop_more, get_or-map, length-map, Cell, arrival_at, Refused, is_first, mark_at, refused, CanCount, HasPorts, LimiterView, where_up, cells_refused, packets_refused, refused_counts, with_cells, with_refused, take, get_or-set_same, get_or-set_other, cases_Bool, eqb-true, eq-eqb, ne_eqb, drop-set-lt, get_or-drop, length-set, set-get_or, take_all, append-nil, unwrap_or-slice_get, admitted, mark_after, held_after, marks_after, count_for, ComeToPorts, all_weaker}
+use Rattle.cq_ideal.proofs.Terms.{rules, ◌≡◌, ◌≢◌, ℕ, zero, suc, ◌+◌, ◌-◌, ◌<◌, ◌≤◌, ◌^◌, eqb, Bool, true, false, cond, List, [], ◌∷◌, ◌++◌, length, drop, get_or, set, Option, Some, None, refl, sym, ap, ◌∙◌, arith, subst, common_steps, All-from_recursion, drop_all, drop_more, get_or-map, length-map, Cell, arrival_at, Refused, is_first, mark_at, refused, CanCount, HasPorts, LimiterView, where_up, cells_refused, packets_refused, refused_counts, with_cells, with_refused, take, get_or-set_same, get_or-set_other, cases_Bool, eqb-true, eq-eqb, ne_eqb, drop-set-lt, get_or-drop, length-set, set-get_or, take_all, append-nil, unwrap_or-slice_get, admitted, mark_after, held_after, marks_after, count_for, ComeToPorts, all_weaker, most_ports}
 use Rattle.cq_ideal.proofs.Refusals.{all_zero, count_both}
 use Rattle.cq_ideal.proofs.Changed.{at_place, changed_to, next_place}
 use Rattle.cq_ideal.proofs.FlowFound.{cell_listed}
@@ -123,7 +123,8 @@ module _ {cells : List (Option Cell)} {first : LimiterView} {input : ℕ} {now :
   pub counting_last : length first.limits ≤ input → now.refused ≡ with_refused (refused first.marks cells) first.refused
   counting_last past = grind (arith, common_steps, drop_all, none_counted)
 
-  module _ (few : length first.limits ≤ 64) (inside : input < length first.limits) (places : length cells ≡ 64) where
+  module _ (few : length first.limits ≤ most_ports) (inside : input < length first.limits)
+      (places : length cells ≡ most_ports) where
     split : (cell : Option Cell) → cell ≡ where_up (mark_at first.marks input) (arrival_at cells input) →
         refused (drop input first.marks) (drop input cells)
         ≡ cell_listed cell ++ refused (drop (input + 1) first.marks) (drop (input + 1) cells)

@@ -2,7 +2,7 @@
 -- are enough the cells that come to an input are its arrivals, and of these the packets that are taken leave flow by
 -- flow, while all cells of the others are refused. The whole run sends and refuses the same. And a cell is refused
 -- because its packet's first one found its output full, which an output without a limit never is.
-use Rattle.cq_ideal.proofs.Terms.{rules, ◌≡◌, ℕ, zero, suc, ◌+◌, ◌<◌, Bool, true, false, List, [], ◌∷◌, length, Option, Some, None, refl, sym, ap, ◌∙◌, subst, arith, common_steps, All, ◌==◌, slice_index_or, AllByRecursion, cons_option, cases_Bool, cond-false, cond-true, eqb-true, ne_eqb, Cell, Arrival, traffic_of, arrival_at, Admission, admission, held_after, is_first, mark_after, mark_at, marks_after, marks_down, refused, whole_limited_run, empty_limited, cells_refused, refused_in, AreJudged, AreOfPackets, cells_at, recursion_from_All, filter_passes, AllPairs-filter, get_or}
+use Rattle.cq_ideal.proofs.Terms.{rules, ◌≡◌, ℕ, zero, suc, ◌+◌, ◌<◌, Bool, true, false, List, [], ◌∷◌, length, Option, Some, None, refl, sym, ap, ◌∙◌, subst, arith, common_steps, All, ◌==◌, slice_index_or, AllByRecursion, cons_option, cases_Bool, cond-false, cond-true, eqb-true, ne_eqb, Cell, Arrival, traffic_of, arrival_at, Admission, admission, held_after, is_first, mark_after, mark_at, marks_after, marks_down, refused, whole_limited_run, empty_limited, cells_refused, refused_in, AreJudged, AreOfPackets, cells_at, recursion_from_All, filter_passes, AllPairs-filter, get_or, most_ports}
 use Rattle.cq_ideal.specs.EachOnce.{EachLeavesOrIsRefused, KeepTheirOutput, RefusesNoneElsewhere}
 use Rattle.cq_ideal.proofs.Admitted.{its_marks}
 use Rattle.cq_ideal.proofs.AtInput.{come_in_order}
@@ -123,7 +123,7 @@ module _ (limits : List (Option ℕ)) (j : ℕ) (none : slice_index_or limits j 
   none_counted (cell ∷ cells) all = search (rules, cond-false, cell.output, ne_eqb, none_counted cells all.1)
 
 -- each slot has 64 places
-all_long : (came : List Arrival) (inputs : ℕ) → inputs ≡ 64 →
+all_long : (came : List Arrival) (inputs : ℕ) → inputs ≡ most_ports →
     AllByRecursion (λ cells. length cells ≡ inputs) (traffic_of came)
 unfolding traffic_of
 all_long came inputs are = search (rules, all_in_range, length-arriving)
@@ -137,8 +137,9 @@ refuses_none_elsewhere limits ms ports openings came ran j runs keep packets is 
     let each_judged = judged limits ms 0 (traffic_of came) start same.all over_all in
     let same_output = λ (a b : Arrival). a.cell.id.input ≡ b.cell.id.input → a.cell.id.packet ≡ b.cell.id.packet →
     a.cell.output ≡ b.cell.output in
-    let all = all_elsewhere limits j none 64 (marks_down ports) (traffic_of came) same.all.admissions each_judged
-    (all_long came 64 refl) (λ i inside. subst KeepOutput (sym (come_in_order i inside came runs.rise))
+    let all = all_elsewhere limits j none most_ports (marks_down ports) (traffic_of came) same.all.admissions
+    each_judged
+    (all_long came most_ports refl) (λ i inside. subst KeepOutput (sym (come_in_order i inside came runs.rise))
     (keep_output i 0 (line_at i came) (filter_passes _ came) (AllPairs-filter same_output _ came keep)
     (packets i inside))) (search (arith, rules, same_at)) in
     ap (cells_refused j) (sym same.refused) ∙ none_counted limits j none (refused_in same.all.admissions) all

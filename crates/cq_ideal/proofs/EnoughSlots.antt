@@ -4,7 +4,7 @@
 -- of them. Slots that are enough are enough with limits: no more cells are admitted in a slot than come, and there are
 -- as many slots.
 use Rattle.std.proofs.Common.{rules}
-use Rattle.cq_ideal.proofs.Terms.{◌≡◌, ℕ, zero, suc, ◌≤◌, Bool, List, [], ◌∷◌, length, drop, Option, refl, ap, arith, ◌+◌, replicate, Result, Ok, common_steps, IfOk, Cell, Arrival, traffic_of, arriving, enough, Machine, Admission, admitted, admitted_in, empty_limited, limited_run, AreJudged, TagFault, no_arrivals, IdealState, IsEmptyIdeal, Ran, ideal_run, empty_ideal}
+use Rattle.cq_ideal.proofs.Terms.{◌≡◌, ℕ, zero, suc, ◌≤◌, Bool, List, [], ◌∷◌, length, drop, Option, refl, ap, arith, ◌+◌, replicate, Result, Ok, common_steps, IfOk, Cell, Arrival, traffic_of, arriving, enough, Machine, Admission, admitted, admitted_in, empty_limited, limited_run, AreJudged, TagFault, no_arrivals, IdealState, IsEmptyIdeal, Ran, ideal_run, empty_ideal, most_ports}
 use Rattle.cq_ideal.proofs.Admitted.{its_marks}
 use Rattle.cq_ideal.proofs.Ends.{nothing_left}
 use Rattle.cq_ideal.proofs.FlowCount.{come_count-traffic_of, length-traffic_of, quiet_at_end}
@@ -86,7 +86,7 @@ empty_at_end ms ports ranks came = if_ok (λ ran. IsEmptyIdeal ran.after) _ (λ 
 
 pub none_after_end : (came : List Arrival) (t : ℕ) → enough came ≤ t → arriving came t ≡ no_arrivals
 unfolding enough
-none_after_end came t h = none_arrive came t 64 refl (omega arith)
+none_after_end came t h = none_arrive came t most_ports refl (omega arith)
 
 pub limited_empty_at_end : (limits : List (Option ℕ)) (ms : List Machine) (ports : ℕ) (ranks : List (List ℕ))
     (came : List Arrival) →

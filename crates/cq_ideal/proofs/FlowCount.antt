@@ -2,7 +2,7 @@
 -- comes weighs no more than the arrivals, whatever a cell weighs, and no more cells come than there are arrivals. From
 -- the end of the arrivals on none comes. So a run of as many slots as are enough has one slot for each cell after the
 -- last of them came.
-use Rattle.cq_ideal.proofs.Terms.{◌≡◌, ℕ, zero, suc, ◌+◌, ◌<◌, ◌≤◌, List, [], ◌∷◌, length, map, drop, refl, sym, ap, arith, common_steps, AllByRecursion, range_with_len, length-map-range_with_len, Arrival, arriving_at, arriving, end_of, enough, traffic_of, all_weaker, Cell, Option, Some, None, ◌∙◌, none_had, all_of_has}
+use Rattle.cq_ideal.proofs.Terms.{◌≡◌, ℕ, zero, suc, ◌+◌, ◌<◌, ◌≤◌, List, [], ◌∷◌, length, map, drop, refl, sym, ap, arith, common_steps, AllByRecursion, range_with_len, length-map-range_with_len, Arrival, arriving_at, arriving, end_of, enough, traffic_of, all_weaker, Cell, Option, Some, None, ◌∙◌, none_had, all_of_has, most_ports}
 use Rattle.cq_ideal.proofs.FlowRank.{present}
 use Rattle.cq_ideal.proofs.FlowRun.{come_count}
 use Rattle.cq_ideal.proofs.Waiting.{total, total_more, total_none, total_same}
@@ -21,7 +21,7 @@ module _ (of : List Cell → ℕ) (here : List (Option Cell) → ℕ) (bound : L
   in_places came t a zero = empty
   in_places came t a (suc n) = grind (arith, common_steps, more, in_places came t (a + 1) n)
 
-  module _ (inputs : ℕ) (are : inputs ≡ 64) where
+  module _ (inputs : ℕ) (are : inputs ≡ most_ports) where
     -- what comes in a slot
     in_slot : List Arrival → ℕ → ℕ
     in_slot came t = total (λ k. of (found came t k)) 0 inputs
@@ -55,9 +55,9 @@ module _ (of : List Cell → ℕ) (here : List (Option Cell) → ℕ) (bound : L
   -- in any number of slots
   pub weighed : (came : List Arrival) (n : ℕ) → total (λ t. here (arriving came t)) 0 n ≤ bound came
   weighed came n =
-      let slot = is_in_slot 64 refl came in
-      let same = total_same (λ t. here (arriving came t)) (in_slot 64 refl came) 0 n (λ t _. slot t) in
-      omega (arith, slots_within 64 refl came n)
+      let slot = is_in_slot most_ports refl came in
+      let same = total_same (λ t. here (arriving came t)) (in_slot most_ports refl came) 0 n (λ t _. slot t) in
+      omega (arith, slots_within most_ports refl came n)
 
 -- ## The end of the arrivals
 
@@ -65,13 +65,14 @@ pub before_end : (came : List Arrival) → AllByRecursion (λ a. a.slot < end_of
 before_end [] = tt
 before_end (a ∷ came) = grind (arith, common_steps, all_weaker, before_end came)
 
-none_from : (came : List Arrival) (t inputs : ℕ) → inputs ≡ 64 → end_of came ≤ t → present (arriving came t) ≡ []
+none_from : (came : List Arrival) (t inputs : ℕ) → inputs ≡ most_ports → end_of came ≤ t →
+    present (arriving came t) ≡ []
 none_from came t inputs are le = ap present (arriving_is came t inputs are)
     ∙ none_had _ (λ x. all_of_has (λ _. ⊥) _ x (all_present came t (λ _. ⊥) 0 inputs (λ k. all_found _ came t k
     (all_weaker (λ a. a.slot < end_of came) _ (λ a early at _. omega arith) came (before_end came)))))
 
 pub none_after : (came : List Arrival) (t : ℕ) → end_of came ≤ t → length (present (arriving came t)) ≡ 0
-none_after came t le = ap length (none_from came t 64 refl le)
+none_after came t le = ap length (none_from came t most_ports refl le)
 
 quiet_from : (came : List Arrival) (e a n : ℕ) → end_of came ≤ a + e →
     come_count (drop e (map (arriving came) (range_with_len a n))) ≡ 0

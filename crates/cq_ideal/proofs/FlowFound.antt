@@ -1,7 +1,7 @@
 -- What arrives in a slot at an input. It is the first arrival in the list that is of this slot and at this input, so
 -- an arrival of another slot or input hides nothing, and what holds of all that are of this slot and at this input
 -- holds of what is found. The cells that arrive in a slot are those that are found at its inputs.
-use Rattle.cq_ideal.proofs.Terms.{common_steps, ◌≡◌, ℕ, zero, suc, ◌+◌, false, List, [], ◌∷◌, ◌++◌, length, map, Option, Some, None, refl, arith, ◌==◌, find, AllByRecursion, cons_option, range_with_len, cases_eq, eq-eqb, ne_eqb, and_from, and_left, and_right, cond-true, cond-false, length-map-range_with_len, Cell, Arrival, is_at, arriving_at, arriving}
+use Rattle.cq_ideal.proofs.Terms.{common_steps, ◌≡◌, ℕ, zero, suc, ◌+◌, false, List, [], ◌∷◌, ◌++◌, length, map, Option, Some, None, refl, arith, ◌==◌, find, AllByRecursion, cons_option, range_with_len, cases_eq, eq-eqb, ne_eqb, and_from, and_left, and_right, cond-true, cond-false, length-map-range_with_len, Cell, Arrival, is_at, arriving_at, arriving, most_ports}
 use Rattle.cq_ideal.proofs.FlowRank.{present}
 
 -- the cell, as a list
@@ -50,12 +50,12 @@ found_none (x ∷ came) t k a = grind (arith, common_steps, other_input, other_s
 
 -- ## The places of a slot
 
-pub arriving_is : (came : List Arrival) (t inputs : ℕ) → inputs ≡ 64 →
+pub arriving_is : (came : List Arrival) (t inputs : ℕ) → inputs ≡ most_ports →
     arriving came t ≡ map (arriving_at came t) (range_with_len 0 inputs)
 unfolding arriving
 arriving_is came t inputs e = grind (arith, common_steps)
 
-pub length-arriving : (came : List Arrival) (t inputs : ℕ) → inputs ≡ 64 → length (arriving came t) ≡ inputs
+pub length-arriving : (came : List Arrival) (t inputs : ℕ) → inputs ≡ most_ports → length (arriving came t) ≡ inputs
 length-arriving came t inputs e =
     cc (arriving_is came t inputs e, length-map-range_with_len (arriving_at came t) 0 inputs)
 

@@ -3,7 +3,7 @@
 -- empty. And what came in the slots is the flow's arrivals in their order. At what is no port nothing leaves, and
 -- nothing comes for it.
 use Rattle.std.proofs.Common.{rules}
-use Rattle.cq_ideal.proofs.Terms.{common_steps, ◌≡◌, ℕ, zero, suc, ◌+◌, ◌<◌, ◌≤◌, List, [], ◌∷◌, length, map, replicate, Option, Ok, refl, sym, ◌∙◌, ⊎_elim, arith, slice_index_or, All, AllByRecursion, range_with_len, cases_lt, ne_eqb, and_left, cond-false, append-nil, length-replicate, get_or-replicate, get_or_past, Cell, Queued, Arrival, arriving, enough, traffic_of, Machine, machine_at, IsEmptyIdeal, Ran, ideal_run, empty_ideal, departures_of, left_in_flow, came_in_flow, IsForSwitch, IsRunnable, FlowsLeaveAsTheyCame, all_weaker}
+use Rattle.cq_ideal.proofs.Terms.{common_steps, ◌≡◌, ℕ, zero, suc, ◌+◌, ◌<◌, ◌≤◌, List, [], ◌∷◌, length, map, replicate, Option, Ok, refl, sym, ◌∙◌, ⊎_elim, arith, slice_index_or, All, AllByRecursion, range_with_len, cases_lt, ne_eqb, and_left, cond-false, append-nil, length-replicate, get_or-replicate, get_or_past, Cell, Queued, Arrival, arriving, enough, traffic_of, Machine, machine_at, IsEmptyIdeal, Ran, ideal_run, empty_ideal, departures_of, left_in_flow, came_in_flow, IsForSwitch, IsRunnable, FlowsLeaveAsTheyCame, all_weaker, most_ports}
 use Rattle.cq_ideal.proofs.FlowRank.{present, AreOfClasses}
 use Rattle.cq_ideal.proofs.FlowRun.{flow_came, passed, no_port}
 use Rattle.cq_ideal.proofs.FlowFound.{all_found, all_present, arriving_is}
@@ -17,7 +17,7 @@ pub all_in_range : (P : List (Option Cell) → Type 0) (came : List Arrival) (a 
 all_in_range P came a zero f = tt
 all_in_range P came a (suc n) f = (f a, all_in_range P came (a + 1) n f)
 
-pub class_in_slot : (ms : List Machine) (ports j : ℕ) (came : List Arrival) (inputs : ℕ) → inputs ≡ 64 →
+pub class_in_slot : (ms : List Machine) (ports j : ℕ) (came : List Arrival) (inputs : ℕ) → inputs ≡ most_ports →
     AllByRecursion (IsForSwitch ms ports) came → (t : ℕ) →
     AreOfClasses (machine_at ms j) j (present (arriving came t))
 class_in_slot ms ports j came inputs e all t =
@@ -28,7 +28,7 @@ pub classes : (ms : List Machine) (ports j : ℕ) (came : List Arrival) → AllB
     AllByRecursion (λ cells. AreOfClasses (machine_at ms j) j (present cells)) (traffic_of came)
 unfolding traffic_of
 classes ms ports j came all = all_in_range (λ cells. AreOfClasses (machine_at ms j) j (present cells)) came 0
-    (enough came) (class_in_slot ms ports j came 64 refl all)
+    (enough came) (class_in_slot ms ports j came most_ports refl all)
 
 -- nothing comes for what is no port
 pub none_came : (ms : List Machine) (ports i c j : ℕ) (came : List Arrival) →

@@ -1,5 +1,5 @@
 -- The slots of departures: no departure of a run is behind its slots. And in the slot of the last arrival a cell comes.
-use Rattle.cq_ideal.proofs.Terms.{rules, ◌≡◌, ℕ, ◌+◌, ◌<◌, ◌≤◌, List, [], ◌∷◌, ◌++◌, length, Option, Some, None, ⊎_elim, arith, common_steps, max, AllByRecursion, cases_eq, cases_lt, eq-eqb, Arrival, arriving, end_of, Cell, Departure, Queued, Machine, slots_of, IsForSwitch, count_for, departures_of, departures_from, departures_in, arrival_at}
+use Rattle.cq_ideal.proofs.Terms.{rules, ◌≡◌, ℕ, ◌+◌, ◌<◌, ◌≤◌, List, [], ◌∷◌, ◌++◌, length, Option, Some, None, ⊎_elim, arith, common_steps, max, AllByRecursion, cases_eq, cases_lt, eq-eqb, Arrival, arriving, end_of, Cell, Departure, Queued, Machine, slots_of, IsForSwitch, count_for, departures_of, departures_from, departures_in, arrival_at, most_ports}
 use Rattle.cq_ideal.proofs.RestAtInput.{is_shown}
 use Rattle.cq_ideal.proofs.FlowFound.{cell_listed, found, found_here, other_slot}
 
@@ -38,7 +38,7 @@ slots_within slot (g ∷ gone) = search (rules, slots_of-departures, slots_of-ap
 pub record Comes (ports : ℕ) (came : List Arrival) (slot : ℕ) : Type 0 where
   pub input : ℕ
   pub cell : Cell
-  pub inside : input < 64
+  pub inside : input < most_ports
   pub output : cell.output < ports
   pub found_is : found came slot input ≡ cell ∷ []
 

@@ -1,6 +1,6 @@
 -- What arrives in some slots and in those behind them, and what is sent in these. The first slot of a run, and the
 -- run behind it.
-use Rattle.cq_ideal.proofs.Terms.{rules, ◌≡◌, ℕ, zero, suc, ◌+◌, ◌≤◌, List, [], ◌∷◌, ◌++◌, length, replicate, Option, None, Result, Ok, Err, refl, ap, arith, append_assoc, common_steps, length-map-range_with_len, Arrival, arriving, end_of, no_arrivals, Cell, Queued, TagFault, Machine, arriving_from, Ran, departures_of, ideal_run, then_ran, IdealState, Sent}
+use Rattle.cq_ideal.proofs.Terms.{rules, ◌≡◌, ℕ, zero, suc, ◌+◌, ◌≤◌, List, [], ◌∷◌, ◌++◌, length, replicate, Option, None, Result, Ok, Err, refl, ap, arith, append_assoc, common_steps, length-map-range_with_len, Arrival, arriving, end_of, no_arrivals, Cell, Queued, TagFault, Machine, arriving_from, Ran, departures_of, ideal_run, then_ran, IdealState, Sent, most_ports}
 use Rattle.cq_ideal.proofs.FlowCount.{none_after}
 use Rattle.cq_ideal.proofs.FlowFound.{length-arriving}
 use Rattle.cq_ideal.proofs.FlowRank.{only_ok, present}
@@ -31,7 +31,7 @@ nobody cells zero long none = grind (arith, common_steps)
 nobody [] (suc n) long none = absurd (omega arith)
 nobody (o ∷ cells) (suc n) long none = grind (arith, common_steps, nobody cells n)
 
-pub none_arrive : (came : List Arrival) (t inputs : ℕ) → inputs ≡ 64 → end_of came ≤ t →
+pub none_arrive : (came : List Arrival) (t inputs : ℕ) → inputs ≡ most_ports → end_of came ≤ t →
     arriving came t ≡ replicate inputs None
 none_arrive came t inputs are le = search (rules, nobody, length-arriving, none_after)
 

@@ -2,7 +2,7 @@
 -- slot the input's place shows what is found there; and the arrivals at one input rise in their slots, so where the
 -- first is taken off the list every later slot shows the same.
 use Rattle.std.proofs.Common.{rules}
-use Rattle.cq_ideal.proofs.Terms.{◌≡◌, ℕ, zero, suc, ◌+◌, ◌<◌, ◌≤◌, not, List, [], ◌∷◌, ◌++◌, Bool, None, map, refl, sym, ◌∙◌, arith, common_steps, ◌==◌, nat_lt, AllByRecursion, filter, cond_both, cases_eq, cases_lt, eq-eqb, le-ltb, lt-ltb, get_or-map-range_with_len, unwrap_or-slice_get, Cell, Arrival, arriving, arriving_at, end_of, arrival_at, all_by, arriving_from, RiseByInput, cells_at, all_weaker}
+use Rattle.cq_ideal.proofs.Terms.{◌≡◌, ℕ, zero, suc, ◌+◌, ◌<◌, ◌≤◌, not, List, [], ◌∷◌, ◌++◌, Bool, None, map, refl, sym, ◌∙◌, arith, common_steps, ◌==◌, nat_lt, AllByRecursion, filter, cond_both, cases_eq, cases_lt, eq-eqb, le-ltb, lt-ltb, get_or-map-range_with_len, unwrap_or-slice_get, Cell, Arrival, arriving, arriving_at, end_of, arrival_at, all_by, arriving_from, RiseByInput, cells_at, all_weaker, most_ports}
 use Rattle.cq_ideal.proofs.FlowCount.{before_end}
 use Rattle.cq_ideal.proofs.FlowFound.{cell_listed, found, found_here, found_none, listed, other_input, other_slot}
 
@@ -50,12 +50,12 @@ all_past i t (a ∷ came) before = grind (arith, common_steps, cond_both, lt-ltb
 abbrev pub IsShown : List Arrival → ℕ → Type 0
 IsShown came i = (t : ℕ) → arrival_at (arriving came t) i ≡ arriving_at came t i
 
-pub is_shown : (i : ℕ) → i < 64 → (came : List Arrival) → IsShown came i
+pub is_shown : (i : ℕ) → i < most_ports → (came : List Arrival) → IsShown came i
 unfolding arriving
 is_shown i inside came t =
     let none = None in
     unwrap_or-slice_get (arriving came t) i none
-    ∙ get_or-map-range_with_len (arriving_at came t) 0 64 i i none inside (omega arith)
+    ∙ get_or-map-range_with_len (arriving_at came t) 0 most_ports i i none inside (omega arith)
 
 pub comes_shown : (i : ℕ) (came : List Arrival) → IsShown came i → (from slots : ℕ) → RiseByInput came →
     end_of came ≤ from + slots →
@@ -68,7 +68,7 @@ comes_shown i came shown from (suc n) rise all =
     let first = found_first i from came rise in
     search (arith, rules, listed, cell_listed, comes_shown i came shown (from + 1) n rise)
 
-pub comes_from : (i : ℕ) → i < 64 → (came : List Arrival) (from slots : ℕ) → RiseByInput came →
+pub comes_from : (i : ℕ) → i < most_ports → (came : List Arrival) (from slots : ℕ) → RiseByInput came →
     end_of came ≤ from + slots →
     cells_at i (arriving_from came from slots) ≡ cells_of (rest_of from (line_at i came))
 comes_from i inside came = comes_shown i came (is_shown i inside came)

@@ -7,6 +7,7 @@ unfoldable pub use Rattle.cq_base.specs.Arriving.{arriving, enough, traffic_of}
 pub use Rattle.cq_base.specs.Cells.{HasOtherKey, is_for, put}
 pub use Rattle.cq_base.specs.Items.{EachPair}
 unfoldable pub use Rattle.cq_base.specs.Key.{is_before}
+pub use Rattle.cq_base.specs.Limits.{most_ports}
 pub use Rattle.cq_base.specs.{Room.RoomView, declared.cell.Departure.Departure, declared.cell.Queued.Queued}
 pub use Rattle.cq_rank.specs.Machine.{KeepsLaws, Machine, first_come, machine_at, told}
 pub use Rattle.cq_ideal.specs.Admission.{Admission, Marked, NoLimits, RefusesNone, admitted, admitted_in, held_after, is_first, mark_after, mark_at, marked, marks_after, marks_down, nothing_refused, refused, unless}

@@ -5,6 +5,7 @@ use Rattle.std.specs.List.{AllPairs}
 use Rattle.cq_base.specs.Arriving.{Arrival}
 use Rattle.cq_base.specs.declared.cell.Cell.{Cell}
 use Rattle.cq_base.specs.declared.cell.Departure.{Departure}
+use Rattle.cq_base.specs.Limits.{most_ports}
 use Rattle.cq_rank.specs.Machine.{Machine}
 use Rattle.cq_ideal.specs.Flows.{IsRunnable, came_in_flow, left_in_flow}
 use Rattle.cq_ideal.specs.IdealRun.{departures_of}
@@ -33,7 +34,7 @@ EachLeavesOrIsRefused =
     (limits : List (Option ℕ)) (ms : List Machine) (ports : ℕ) (openings : List (List ℕ)) (came : List Arrival)
     (ran : LimitedRan) → IsRunnable ms ports openings came →
     whole_limited_run limits ms came (empty_limited ports openings) ≡ Ok ran →
-    (i : ℕ) → i < 64 → AreOfPackets 0 (came_at i came) →
+    (i : ℕ) → i < most_ports → AreOfPackets 0 (came_at i came) →
     LeaveOrAreRefused came (departures_of 0 ran.gone) (refused_in ran.admissions) i
 
 -- And at an output without a limit nothing is refused.
@@ -41,6 +42,6 @@ abbrev pub RefusesNoneElsewhere : Type 0
 RefusesNoneElsewhere =
     (limits : List (Option ℕ)) (ms : List Machine) (ports : ℕ) (openings : List (List ℕ)) (came : List Arrival)
     (ran : LimitedRan) (j : ℕ) → IsRunnable ms ports openings came → KeepTheirOutput came →
-    ((i : ℕ) → i < 64 → AreOfPackets 0 (came_at i came)) →
+    ((i : ℕ) → i < most_ports → AreOfPackets 0 (came_at i came)) →
     whole_limited_run limits ms came (empty_limited ports openings) ≡ Ok ran →
     slice_index_or limits j None ≡ None → cells_refused j (refused_in ran.admissions) ≡ 0

@@ -4,6 +4,7 @@ use Rattle.std.specs.List.{filter, AllByRecursion}
 use Rattle.cq_base.specs.declared.cell.Cell.{Cell}
 use Rattle.cq_base.specs.declared.cell.Departure.{Departure}
 use Rattle.cq_base.specs.Arriving.{Arrival, traffic_of}
+use Rattle.cq_base.specs.Limits.{most_ports}
 use Rattle.cq_rank.specs.Machine.{Machine, KeepsLaws, machine_at}
 use Rattle.cq_ideal.specs.IdealRun.{Ran, ideal_run, empty_ideal, departures_of}
 
@@ -25,7 +26,7 @@ came_in_flow i c j came = map (λ a. a.cell) (filter (comes_in_flow i c j) came)
 
 -- the arrival comes to one of 64 inputs, is for one of the ports, and is of one of its output's classes
 pub record IsForSwitch (ms : List Machine) (ports : ℕ) (a : Arrival) : Type 0 where
-  pub input : a.cell.id.input < 64
+  pub input : a.cell.id.input < most_ports
   pub output : a.cell.output < ports
   pub class : a.cell.class < (machine_at ms a.cell.output).classes
 

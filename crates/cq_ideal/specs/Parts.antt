@@ -3,6 +3,7 @@ use Rattle.std.specs.Prelude.{◌≡◌, ◌≢◌, ℕ, ◌+◌, ◌-◌, ◌<�
 use Rattle.cq_base.specs.declared.cell.Queued.{Queued}
 use Rattle.cq_base.specs.declared.cell.TagFault.{TagFault}
 use Rattle.cq_base.specs.Cells.{ArrivedBefore, HasOtherKey, is_for, put}
+use Rattle.cq_base.specs.Limits.{most_ports}
 use Rattle.cq_rank.specs.Machine.{Machine, machine_at}
 use Rattle.cq_rank.specs.Switch.{AreForOneSwitch}
 use Rattle.cq_ideal.specs.IdealSlot.{IdealState, all_told, rests}
@@ -114,7 +115,7 @@ count_to j (Some q ∷ came) = (if is_for j q then 1 else 0) + count_to j came
 
 -- each cell came to one of the ports, and is for one of them
 pub record CameToPorts (ports : ℕ) (came : List (Option Queued)) : Type 0 where
-  pub places : length came ≡ 64
+  pub places : length came ≡ most_ports
   pub inputs : (k : ℕ) (q : Queued) → slice_index_or came k None ≡ Some q → k < ports
   pub outputs : (k : ℕ) (q : Queued) → slice_index_or came k None ≡ Some q → q.cell.output < ports
 

@@ -2,6 +2,7 @@
 use Rattle.std.specs.Prelude.{◌≡◌, ℕ, ◌+◌, ◌<◌, ◌^◌, List, length, Option, Ok, slice_index_or}
 use Rattle.cq_base.specs.declared.cell.Cell.{Cell}
 use Rattle.cq_base.specs.declared.cell.Queued.{Queued}
+use Rattle.cq_base.specs.Limits.{most_ports}
 use Rattle.cq_rank.specs.Machine.{Machine}
 use Rattle.cq_rank.specs.Switch.{AreForOneSwitch, class_count}
 use Rattle.cq_ideal.specs.Admission.{admitted, marks_after, refused}
@@ -33,5 +34,5 @@ pub record HasTakenIn (ms : List Machine) (slot : ℕ) (cells : List (Option Cel
     (limiter limiter_new : LimiterView) (came : List (Option Queued)) : Type 0 where
   pub ranked : ranking ms slot 0 (admitted limiter_new.marks cells) ranks.states
       ≡ Ok (record { came = came; ranks = ranks_new.states })
-  pub long : length came ≡ 64
+  pub long : length came ≡ most_ports
   pub refused : limiter_new.refused ≡ with_refused (refused limiter_new.marks cells) limiter.refused

@@ -2,6 +2,7 @@
 pub use Rattle.cq_base.specs.Arrivals.{no_arrivals, arrival_at}
 pub use Rattle.cq_base.specs.Arriving.{Arrival, enough, traffic_of, arriving, end_of}
 pub use Rattle.cq_base.specs.Cells.{HasOtherKey, put}
+pub use Rattle.cq_base.specs.Limits.{most_ports}
 pub use Rattle.cq_base.specs.{declared.cell.Cell.Cell, declared.cell.TagFault.TagFault}
 pub use Rattle.cq_rank.specs.Machine.{Machine, machine_at, told}
 pub use Rattle.cq_rank.specs.Switch.{AreForOneSwitch, AreSized, class_count}

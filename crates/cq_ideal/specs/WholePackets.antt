@@ -3,6 +3,7 @@ use Rattle.std.specs.Prelude.{◌≡◌, ℕ, ◌+◌, ◌<◌, ◌≤◌, ◌==
 use Rattle.cq_base.specs.declared.cell.Cell.{Cell}
 use Rattle.cq_base.specs.Arrivals.{arrival_at}
 use Rattle.cq_base.specs.Arriving.{Arrival, traffic_of}
+use Rattle.cq_base.specs.Limits.{most_ports}
 use Rattle.cq_rank.specs.Machine.{Machine}
 use Rattle.cq_ideal.specs.Admission.{Admission, Marked, admission, admitted_in, is_first}
 use Rattle.cq_ideal.specs.Flows.{RiseByInput}
@@ -28,7 +29,7 @@ came_at i came = map (λ a. a.cell) (filter (λ a. a.cell.id.input == i) came)
 -- where arrivals rise by input, those are the cells that arrive at the input slot by slot
 abbrev pub CellsComeInOrder : Type 0
 CellsComeInOrder =
-    (i : ℕ) (came : List Arrival) → i < 64 → RiseByInput came → cells_at i (traffic_of came) ≡ came_at i came
+    (i : ℕ) (came : List Arrival) → i < most_ports → RiseByInput came → cells_at i (traffic_of came) ≡ came_at i came
 
 -- The cells are those of packets of rising numbers, from this number on, each with its first cell first; ahead of
 -- them may stand the rest of the packet before.

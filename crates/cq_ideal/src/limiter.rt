@@ -3,7 +3,7 @@
 //! A packet is refused whole, by what its output holds as its first cell arrives. How many cells that is stands in a
 //! number which is kept: it rises with each cell that is admitted, and falls as the switch tells that one has left.
 ghost use Rattle.std.specs.Prelude.{◌≡◌, ◌+◌, ◌<◌, ◌≤◌, ◌^◌, ◌∷◌, ℕ, Some, None, IfOk, IfSome, [], false, length, replicate, slice_index_or, slice_set};
-ghost use Rattle.cq_ideal.specs.Terms.{Cell, arrival_at, admitted, held_after, is_full, mark_after, mark_at, marks_after, marks_down, refused, count_for, CanCount, ComeToPorts, HasPorts, JudgesAsBefore, held_without, where_up, refused_counts, with_refused};
+ghost use Rattle.cq_ideal.specs.Terms.{Cell, arrival_at, admitted, held_after, is_full, mark_after, mark_at, marks_after, marks_down, refused, count_for, CanCount, ComeToPorts, HasPorts, JudgesAsBefore, held_without, where_up, refused_counts, with_refused, most_ports};
 
 use crate::Refused;
 use crate::refused::{count_refused, none_refused};
@@ -53,7 +53,7 @@ fn full(limit: Option<u64>, held: u64) -> bool
 impl Limiter {
     /// No output holds a cell, no packet is refused, and nothing was. The error is want of memory.
     pub fn new(alloc: Global, limits: &[Option<u64>]) -> Result<Limiter, NoMemory>
-        requires { length limits.now ≤ 64 }
+        requires { length limits.now ≤ most_ports }
         ensures limits { IfOk result (λ limiter. limiter.limits ≡ limits.now) }
         ensures held { IfOk result (λ limiter. limiter.held ≡ replicate (length limits.now) 0) }
         ensures marks { IfOk result (λ limiter. limiter.marks ≡ marks_down (length limits.now)) }
@@ -144,7 +144,7 @@ impl Limiter {
 
     // How many inputs there are.
     fn len(&self) -> u16
-        requires { length self.now.limits ≤ 64 }
+        requires { length self.now.limits ≤ most_ports }
         ensures len { result ≡ length self.now.limits }
         ensures ports { HasPorts self.now }
     {
@@ -154,7 +154,7 @@ impl Limiter {
     /// The arrivals of a slot are judged in order of input: which marks are up after it, and how many cells each
     /// output holds with those that are admitted.
     pub fn judge(&mut self, arrivals: &Arrivals)
-        requires few { length self.old.limits ≤ 64 }
+        requires few { length self.old.limits ≤ most_ports }
         requires arrivals { ComeToPorts (length self.old.limits) arrivals.now }
         requires held { (j : ℕ) → j < length self.old.limits → slice_index_or self.old.held j 0 + count_for j
             arrivals.now < 2 ^ 64 }
@@ -179,7 +179,7 @@ impl Limiter {
         requires { input < length self.now.marks }
         ensures answer { result ≡ arrival_at (admitted self.now.marks arrivals.now) input }
         ensures arrives { (cell : Cell) → result ≡ Some cell → arrival_at arrivals.now input ≡ Some cell }
-        ensures places { length (admitted self.now.marks arrivals.now) ≡ 64 }
+        ensures places { length (admitted self.now.marks arrivals.now) ≡ most_ports }
     {
         let up = self.is_up(input);
         let cell = arrivals.at(input);
@@ -201,7 +201,7 @@ impl Limiter {
     fn refused_at(&self, arrivals: &Arrivals, input: Port) -> Option<Cell>
         requires { input < length self.now.marks }
         ensures answer { result ≡ where_up (mark_at self.now.marks input) (arrival_at arrivals.now input) }
-        ensures places { length arrivals.now ≡ 64 }
+        ensures places { length arrivals.now ≡ most_ports }
     {
         let up = self.is_up(input);
         let cell = arrivals.at(input);
@@ -211,7 +211,7 @@ impl Limiter {
     /// The cells of a slot that were refused as it was judged are counted. Where no output has a limit there is nothing
     /// to count, and no arrival is looked at.
     pub fn count(&mut self, arrivals: &Arrivals)
-        requires few { length self.old.limits ≤ 64 }
+        requires few { length self.old.limits ≤ most_ports }
         requires refused { CanCount (length self.old.limits) self.old.refused }
         ensures refused { self.new.refused ≡ with_refused (refused self.old.marks arrivals.now) self.old.refused }
         ensures marks { self.new.marks ≡ self.old.marks }

@@ -1,7 +1,8 @@
 //! What came to the inputs in a slot.
 ghost use Rattle.std.specs.Prelude.{◌≡◌, ◌<◌, ◌≤◌, ℕ, None, length, replicate, slice_index_or, slice_set};
+ghost use Rattle.cq_base.specs.Limits.{most_ports};
 
-use cq_base::{Port, Queued};
+use cq_base::{MOST_PORTS, Port, Queued};
 use std::marker::Model;
 
 /// The cell that came to each input in a slot, with its key, if one came: in places that are filled anew for the next
@@ -10,7 +11,7 @@ use std::marker::Model;
 /// It keeps below which input cells may stand.
 #[derive(Drop)]
 pub struct Newcomers {
-    places: [Option<Queued>; 64],
+    places: [Option<Queued>; MOST_PORTS],
     used: u16,
 }
 
@@ -29,17 +30,17 @@ impl Model for Newcomers {
 impl Newcomers {
     /// No cell came to any input.
     pub fn none() -> Newcomers
-        ensures { result ≡ replicate 64 None }
+        ensures { result ≡ replicate most_ports None }
     {
         Newcomers {
-            places: [None; 64],
+            places: [None; MOST_PORTS],
             used: 0,
         }
     }
 
     /// The cell that came to an input, if one did.
     pub fn at(&self, input: usize) -> Option<Queued>
-        requires { input < 64 }
+        requires { input < most_ports }
         ensures { result ≡ slice_index_or self.now input None }
     {
         self.places[input]
@@ -47,7 +48,7 @@ impl Newcomers {
 
     /// The places of so many inputs are to be filled. No cell stands behind them.
     pub(crate) fn begin(&mut self, inputs: u16)
-        ensures long { length self.new ≡ 64 }
+        ensures long { length self.new ≡ most_ports }
         ensures beyond { (k : ℕ) → inputs ≤ k → slice_index_or self.new k None ≡ None }
     {
         if self.used <= inputs {
@@ -59,7 +60,7 @@ impl Newcomers {
 
     /// A cell comes to an input, or none does, in place of what was there.
     pub(crate) fn put(&mut self, input: Port, queued: Option<Queued>)
-        requires { input < 64 }
+        requires { input < most_ports }
         ensures { self.new ≡ slice_set self.old input queued }
     {
         self.places[input as usize] = queued;

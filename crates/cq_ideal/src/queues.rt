@@ -1,7 +1,7 @@
 //! The lists of all outputs.
 ghost use Rattle.std.specs.Prelude.{◌≡◌, ◌<◌, ◌≤◌, ◌==◌, ◌^◌, ◌↔◌, ℕ, IsTrue, All, IfOk, IfSome, [], drop, length, replicate, slice_get, slice_index, slice_set};
 ghost use Rattle.std.specs.List.{list_all};
-ghost use Rattle.cq_ideal.specs.Terms.{filled, AreWithinRooms, CameToPorts, CanPut, HaveOwnKeys, HaveRoomFor, list_at, with_came, with_cell};
+ghost use Rattle.cq_ideal.specs.Terms.{filled, AreWithinRooms, CameToPorts, CanPut, HaveOwnKeys, HaveRoomFor, list_at, most_ports, with_came, with_cell};
 
 use crate::newcomers::Newcomers;
 use crate::queue::Queue;
@@ -51,7 +51,7 @@ impl Queues {
 
     /// How many outputs there are.
     pub fn len(&self) -> u16
-        requires { length self.now.lists ≤ 64 }
+        requires { length self.now.lists ≤ most_ports }
         ensures len { result ≡ length self.now.lists }
         ensures within { AreWithinRooms self.now }
         ensures few { (j : ℕ) → slice_index self.now.rooms j < 2 ^ 64 }
@@ -81,7 +81,7 @@ impl Queues {
 
     /// The cells that came go into the lists of their outputs, each at its place in the order of keys.
     pub fn arrive(&mut self, came: &Newcomers)
-        requires few { length self.old.lists ≤ 64 }
+        requires few { length self.old.lists ≤ most_ports }
         requires as_many { length self.old.rooms ≡ length self.old.lists }
         requires ports { CameToPorts (length self.old.lists) came.now }
         requires room { HaveRoomFor came.now self.old }

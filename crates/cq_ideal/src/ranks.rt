@@ -1,6 +1,6 @@
 //! The rank machines of all outputs.
 ghost use Rattle.std.specs.Prelude.{◌≡◌, ◌↔◌, ◌+◌, ◌<◌, ◌≤◌, ◌^◌, ◌∷◌, List, Option, Ok, Err, IfErr, IfOk, IsErr, None, OnErr, OnOk, Some, length, map, slice_index_or, slice_set, []};
-ghost use Rattle.cq_ideal.specs.Terms.{Cell, machine_at, told, AreForOneSwitch, AreSized, class_count, admitted, idled, given_at, level_at, rank_at, AreForPorts, after_input, keyed, ranking};
+ghost use Rattle.cq_ideal.specs.Terms.{Cell, machine_at, told, AreForOneSwitch, AreSized, class_count, admitted, idled, given_at, level_at, rank_at, AreForPorts, after_input, keyed, ranking, most_ports};
 
 use crate::limiter::Limiter;
 use crate::newcomers::Newcomers;
@@ -80,7 +80,7 @@ impl<R: Rank> Ranks<R> {
 
     // How many machines there are. Each has a state.
     fn len(&self) -> Port
-        requires { length self.now.fixed ≤ 64 }
+        requires { length self.now.fixed ≤ most_ports }
         ensures value { result ≡ length self.now.fixed }
         ensures as_many { length self.now.states ≡ length self.now.fixed }
     {
@@ -97,7 +97,7 @@ impl<R: Rank> Ranks<R> {
 
     /// The numbers of the state of each machine, in order of output. The error is want of memory.
     pub fn numbers(&self, alloc: Global) -> Result<Sequence<Sequence<u128>>, NoMemory>
-        requires { length self.now.fixed ≤ 64 }
+        requires { length self.now.fixed ≤ most_ports }
         ensures { IfOk result (λ states. states ≡ self.now.states) }
     {
         let ports = self.len();
@@ -121,7 +121,7 @@ impl<R: Rank> Ranks<R> {
 
     /// These become the numbers of the states of the machines, in order of output.
     pub fn put(&mut self, states: &[Sequence<u128>])
-        requires few { length self.old.fixed ≤ 64 }
+        requires few { length self.old.fixed ≤ most_ports }
         requires outputs { length states.now ≡ length self.old.fixed }
         requires sized { AreSized (map R.machine self.old.fixed) states.now }
         ensures fixed { self.new.fixed ≡ self.old.fixed }
@@ -203,7 +203,7 @@ impl<R: Rank> Ranks<R> {
     ) -> Result<(), TagFault>
         requires machines { AreForOneSwitch (map R.machine self.old.fixed) }
         requires some { 0 < length self.old.fixed }
-        requires few { length self.old.fixed ≤ 64 }
+        requires few { length self.old.fixed ≤ most_ports }
         requires arrivals { AreForPorts (length self.old.fixed) (class_count (map R.machine self.old.fixed))
             arrivals.now }
         requires marks { length limiter.now.marks ≡ length self.old.fixed }
@@ -211,7 +211,7 @@ impl<R: Rank> Ranks<R> {
         ensures came { OnOk result (ranking (map R.machine self.old.fixed) slot 0 (admitted limiter.now.marks
             arrivals.now) self.old.states ≡ Ok (record { came = came.new; ranks = self.new.states })) }
         ensures many { length self.new.states ≡ length self.old.states }
-        ensures long { length came.new ≡ 64 }
+        ensures long { length came.new ≡ most_ports }
         ensures fault { IfErr result (λ fault. ranking (map R.machine self.old.fixed) slot 0 (admitted
             limiter.now.marks arrivals.now) self.old.states ≡ Err fault) }
     {
@@ -253,7 +253,7 @@ impl<R: Rank> Ranks<R> {
 
     /// All outputs were idle. However many more idle slots follow, they change nothing.
     pub fn rest(&mut self)
-        requires few { length self.old.fixed ≤ 64 }
+        requires few { length self.old.fixed ≤ most_ports }
         requires states { length self.old.states ≡ length self.old.fixed }
         ensures fixed { self.new.fixed ≡ self.old.fixed }
         ensures states { self.new.states

@@ -1,6 +1,6 @@
 //! What is refused at an output.
 ghost use Rattle.std.specs.Prelude.{◌≡◌, ◌+◌, ◌<◌, ◌≤◌, ◌^◌, ◌∷◌, IfOk, [], length};
-ghost use Rattle.cq_ideal.specs.Terms.{CanCount, refused_counts, with_cells, with_refused};
+ghost use Rattle.cq_ideal.specs.Terms.{CanCount, refused_counts, with_cells, with_refused, most_ports};
 
 use cq_base::{Cell, NoMemory, Port};
 use std::alloc::Global;
@@ -21,7 +21,7 @@ pub struct Refused {
 
 /// The counts of the outputs that have a limit, in order, while nothing was refused yet. The error is want of memory.
 pub fn none_refused(alloc: Global, limits: &[Option<u64>]) -> Result<Vec<Refused>, NoMemory>
-    requires { length limits.now ≤ 64 }
+    requires { length limits.now ≤ most_ports }
     ensures { IfOk result (λ refused. refused.items ≡ refused_counts limits.now []) }
 {
     let mut refused = Vec::new(alloc);

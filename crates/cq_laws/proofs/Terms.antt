@@ -7,6 +7,7 @@ pub use Rattle.cq_base.specs.{Arrivals.arrival_at, declared.figures.InputFigures
 pub use Rattle.cq_base.specs.Cells.{IsBefore, IsRising, KeepsOrder, KeysDiffer, cushion, first_for, is_for, place_for, put, without_first}
 pub use Rattle.cq_base.specs.Items.{EachPair, Has}
 unfoldable pub use Rattle.cq_base.specs.Key.{is_before}
+pub use Rattle.cq_base.specs.Limits.{most_ports}
 pub use Rattle.cq_ideal.proofs.Admitted.{admitted_for_ports, marks_kept, no_arrivals_refuse_none}
 pub use Rattle.cq_ideal.proofs.LimitedEnds.{at_ok, ends, fewer_slots, found_end, limited_found_end, limited_whole_fault, not_more, whole_fault}
 pub use Rattle.cq_ideal.proofs.LimitedRuns.{admitted_are, admitted_step, none_refused_in, run_fault, run_step}

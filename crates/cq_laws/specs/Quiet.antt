@@ -1,6 +1,7 @@
 -- Slots in which nothing waits and nothing comes.
 use Rattle.std.specs.Prelude.{◌≡◌, ℕ, ◌+◌, ◌<◌, zero, suc, List, [], ◌∷◌, fold, length, None, slice_index_or, replicate}
 use Rattle.cq_base.specs.declared.figures.Figures.{Figures}
+use Rattle.cq_base.specs.Limits.{most_ports}
 use Rattle.cq_rank.specs.Machine.{Machine, KeepsLaws, machine_at}
 use Rattle.cq_ideal.specs.IdealRun.{departures_of}
 unfoldable pub use Rattle.cq_ideal.specs.IdealSlot.{idled}
@@ -14,7 +15,7 @@ unfoldable pub quiet_slot : List Machine → ℕ → ℕ → List (List ℕ) →
 quiet_slot ms slot ports ranks =
     record {
       slot = slot;
-      came = replicate 64 None;
+      came = replicate most_ports None;
       arrived = empty_fabric ports ranks;
       first = replicate ports None;
       filled = empty_fabric ports ranks;

@@ -1,7 +1,7 @@
 -- Each kind of step keeps the rule. A proposal is the event of the hand's input on the state that words and views show,
 -- and every other kind of step leaves that state as it is: the list of events behind the rule is the same, or longer by
 -- that input.
-use Rattle.cq_ledger.proofs.Terms.{ℕ, suc, ◌≡◌, ◌≢◌, ◌<◌, ◌≤◌, ◌++◌, List, [], ◌∷◌, get_or, set, Some, None, refl, sym, ◌∙◌, ap, set-get_or, set_again, Orders, AreOffers, ports, State, next_place, next_output, start, propose, outcome_of, state_after, IsFree, output_in_range, next_output-offered, View, IsLedger, core_state, first_words, blank, output_at, words_proposed, proposed, answer_of, words_claimed, claim_taken, claim_refused, joined, spent, Sits, IsClaimed, IsUnclaimed}
+use Rattle.cq_ledger.proofs.Terms.{ℕ, suc, ◌≡◌, ◌≢◌, ◌<◌, ◌≤◌, ◌++◌, List, [], ◌∷◌, get_or, set, Some, None, refl, sym, ◌∙◌, ap, set-get_or, set_again, Orders, AreOffers, ports, State, next_place, next_output, start, propose, outcome_of, state_after, IsFree, output_in_range, next_output-offered, View, IsLedger, core_state, first_words, blank, output_at, words_proposed, proposed, answer_of, words_claimed, claim_taken, claim_refused, joined, spent, Sits, IsClaimed, IsUnclaimed, most_ports}
 use Rattle.cq_ledger.proofs.Claiming.{claim-keeps}
 use Rattle.cq_ledger.proofs.CoreState.{core_state-is}
 use Rattle.cq_ledger.proofs.Proposing.{propose-keeps}
@@ -10,7 +10,8 @@ use Rattle.cq_ledger.proofs.Dealt.{dealt}
 use Rattle.cq_ledger.proofs.Seats.{start-keeps, longer-keeps, half_of, join-keeps}
 use Rattle.cq_ledger.proofs.Views.{or_set}
 
-pub start-shows : (o : Orders) → AreOffers o → ports o ≤ 64 → core_state o (first_words o) (blank o ∷ []) ≡ start o
+pub start-shows : (o : Orders) → AreOffers o → ports o ≤ most_ports →
+    core_state o (first_words o) (blank o ∷ []) ≡ start o
 unfolding start-keeps
 start-shows o v few = core_state-is o (first_words o) (blank o ∷ []) (start-keeps o v few)
 

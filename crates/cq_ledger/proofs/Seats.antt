@@ -1,6 +1,6 @@
 -- Making the first seat, a split and a join keep the rule, and are no event: the words stay, and what the seats have
 -- claimed, seen, made and in their hands is only dealt out anew.
-use Rattle.cq_ledger.proofs.Terms.{ℕ, zero, suc, ◌≡◌, ◌≢◌, ◌⊎◌, inl, inr, subst, ◌+◌, ◌≤◌, List, [], ◌∷◌, ◌++◌, set, replicate, Some, None, refl, sym, ◌∙◌, ap, arith, bit_or, ⊎_elim, rules, sum_by, cases_eq, length-replicate, get_or-replicate, sum_by_push, at_set, set_else, set_again, at_longer, at_snoc, Orders, AreOffers, ports, held-start, next_place-start, AreClaims, AreHands, IsLedger, IsViewOf, State, state_after, blank, joined, spent, Waits, Sits, bit, claim_word, View, common_steps}
+use Rattle.cq_ledger.proofs.Terms.{ℕ, zero, suc, ◌≡◌, ◌≢◌, ◌⊎◌, inl, inr, subst, ◌+◌, ◌≤◌, List, [], ◌∷◌, ◌++◌, set, replicate, Some, None, refl, sym, ◌∙◌, ap, arith, bit_or, ⊎_elim, rules, sum_by, cases_eq, length-replicate, get_or-replicate, sum_by_push, at_set, set_else, set_again, at_longer, at_snoc, Orders, AreOffers, ports, held-start, next_place-start, AreClaims, AreHands, IsLedger, IsViewOf, State, state_after, blank, joined, spent, Waits, Sits, bit, claim_word, View, common_steps, most_ports}
 use Rattle.cq_ledger.proofs.Dealt.{sits_now, made_with, hands_from, offers_with, dealt}
 use Rattle.cq_ledger.proofs.Views.{same_at, bit-zero, no_bits, bit-either, bit-left, bit-right}
 
@@ -19,7 +19,7 @@ start_claims o = grind (arith, common_steps, only o (blank o), bit-zero)
 pub start_hands : (o : Orders) (s : State) → AreHands o s (0 ∷ replicate (ports o) (ports o)) (blank o ∷ [])
 start_hands o s = grind (arith, common_steps, only o (blank o), bit-zero)
 
-unfoldable pub start-keeps : (o : Orders) → AreOffers o → ports o ≤ 64 →
+unfoldable pub start-keeps : (o : Orders) → AreOffers o → ports o ≤ most_ports →
     IsLedger o (0 ∷ replicate (ports o) (ports o)) (blank o ∷ [])
 start-keeps o v few =
     record {

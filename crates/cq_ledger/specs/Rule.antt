@@ -2,6 +2,7 @@
 -- whatever order.
 use Rattle.std.specs.Prelude.{ℕ, suc, ◌≡◌, ◌⊎◌, ◌<◌, ◌≤◌, List, length, Some, None, slice_index}
 use Rattle.std.specs.List.{sum_by}
+use Rattle.cq_base.specs.Limits.{most_ports}
 use Rattle.cq_prefs.specs.Orders.{Orders, AreOffers, ports}
 use Rattle.cq_prefs.specs.Proposals.{State, position_held, next_place, IsFree, state_after, AreEvents}
 use Rattle.cq_ledger.specs.declared.view.View.{View}
@@ -39,7 +40,7 @@ IsViewOf o v = (v.offers ≡ o) ⊎ (v ≡ spent)
 -- proposals
 pub record IsLedger (o : Orders) (words : List ℕ) (views : List View) : Type 0 where
   pub offers : AreOffers o
-  pub few : ports o ≤ 64
+  pub few : ports o ≤ most_ports
   pub size : length words ≡ suc (ports o)
   -- all seats have the ledger's offers
   pub same : (a : ℕ) (v : View) → Sits views a v → IsViewOf o v

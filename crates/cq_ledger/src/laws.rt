@@ -4,6 +4,7 @@
 //! A ledger makes no other steps, but for a look at the word of claims after a join, which changes nothing. Each
 //! step is atomic, and the rule holds between any two. So the laws hold of every run of any number of threads.
 ghost use Rattle.std.specs.Prelude.{◌≡◌, ◌≢◌, ℕ, suc, ◌<◌, ◌≤◌, ◌++◌, List, [], ◌∷◌, Some, None, slice_index, slice_set};
+ghost use Rattle.cq_base.specs.Limits.{most_ports};
 ghost use Rattle.cq_prefs.specs.Orders.{Orders, AreOffers, ports};
 ghost use Rattle.cq_prefs.specs.Proposals.{output_at, start};
 ghost use Rattle.cq_ledger.specs.declared.view.View.{View};
@@ -18,7 +19,8 @@ ghost use Rattle.cq_ledger.specs.Views.{IsClaimed, IsUnclaimed, Sits};
 /// proposal, and the answer is what that proposal comes to. Making the first seat shows the state at the start.
 /// A claim, whether it finds the input claimed or not, a split and a join leave the state as it is.
 pub fn step_is_event()
-    ensures start { (o : Orders) → AreOffers o → ports o ≤ 64 → core_state o (first_words o) (blank o ∷ []) ≡ start o }
+    ensures start { (o : Orders) → AreOffers o → ports o ≤ most_ports →
+        core_state o (first_words o) (blank o ∷ []) ≡ start o }
     ensures proposal { (o : Orders) (words : List ℕ) (views : List View) (id i p : ℕ) (v : View) →
         IsMoment o words views id v → v.hand ≡ Some (i, p) → IsEvent o words views id i p v }
     ensures claim_taken { (o : Orders) (words : List ℕ) (views : List View) (id i : ℕ) (v : View) →
@@ -37,7 +39,7 @@ pub fn step_is_event()
 
 /// Each kind of step keeps the rule.
 pub fn steps_keep_the_rule()
-    ensures start { (o : Orders) → AreOffers o → ports o ≤ 64 → IsLedger o (first_words o) (blank o ∷ []) }
+    ensures start { (o : Orders) → AreOffers o → ports o ≤ most_ports → IsLedger o (first_words o) (blank o ∷ []) }
     ensures proposal { (o : Orders) (words : List ℕ) (views : List View) (id i p : ℕ) (v : View) →
         IsMoment o words views id v → v.hand ≡ Some (i, p) →
         IsLedger o (words_proposed o words i p)

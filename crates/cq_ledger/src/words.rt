@@ -1,10 +1,11 @@
 //! The words at the start, and the bits of the word of claims.
 ghost use Rattle.std.specs.Prelude.{◌≡◌, ◌<◌, ◌≤◌, ◌+◌, ◌^◌, ◌∷◌, ◌↔◌, take, replicate, IsTrue};
+ghost use Rattle.cq_base.specs.Limits.{most_ports};
 ghost use Rattle.cq_ledger.specs.Views.{bit};
 
 /// The words at the start, in the first places: nobody is claimed, and nobody has proposed.
 pub(crate) fn first_words(ports: u16) -> [u64; 65]
-    requires { ports ≤ 64 }
+    requires { ports ≤ most_ports }
     ensures { take (ports + 1) result ≡ 0 ∷ replicate ports ports }
 {
     let mut words = filled(ports as u64);

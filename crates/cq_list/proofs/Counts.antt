@@ -1,6 +1,6 @@
 -- The counts of a block, where a place is put in or taken out: the count of its output changes by one, and the others
 -- stay. A place that is taken out can be put back, so the one follows from the other.
-use Rattle.cq_list.proofs.Terms.{all_at, common_steps, rules, ◌≡◌, ◌≢◌, ℕ, zero, suc, ◌+◌, ◌-◌, ◌<◌, ◌≤◌, List, [], ◌∷◌, ◌++◌, length, replicate, get_or, set, take, refl, sym, ap, ◌∙◌, subst, arith, length-set, length-append, get_or-set_same, get_or-set_other, Some, insert, remove, slice_get, same_Some, slice_get_within, get_or_from_slice_get, slice_get-get_or, AllByRecursion, eq-eqb, ne_eqb, cases_eq, take_more, get_or-replicate, length-replicate, length-insert, length-remove, length-filter, count_by-le-length, is_output, count_of}
+use Rattle.cq_list.proofs.Terms.{all_at, common_steps, rules, ◌≡◌, ◌≢◌, ℕ, zero, suc, ◌+◌, ◌-◌, ◌<◌, ◌≤◌, List, [], ◌∷◌, ◌++◌, length, replicate, get_or, set, take, refl, sym, ap, ◌∙◌, subst, arith, length-set, length-append, get_or-set_same, get_or-set_other, Some, insert, remove, slice_get, same_Some, slice_get_within, get_or_from_slice_get, slice_get-get_or, AllByRecursion, eq-eqb, ne_eqb, cases_eq, take_more, get_or-replicate, length-replicate, length-insert, length-remove, length-filter, count_by-le-length, is_output, count_of, most_ports, most_places}
 use Rattle.cq_list.specs.Block.{AreCounts}
 use Rattle.cq_list.proofs.Nth.{fails}
 use Rattle.cq_list.proofs.Split.{filter-insert, filter-insert-other, filter-parts}
@@ -27,28 +27,28 @@ all_remove P (x ∷ xs) zero all = all.1
 all_remove P (x ∷ xs) (suc i) all = (all.0, all_remove P xs i all.1)
 
 -- an output beyond the last
-pub count_beyond : (xs : List ℕ) (j : ℕ) → AllByRecursion (λ i. i < 64) xs → 64 ≤ j → 0 ≡ count_of j xs
+pub count_beyond : (xs : List ℕ) (j : ℕ) → AllByRecursion (λ i. i < most_ports) xs → most_ports ≤ j → 0 ≡ count_of j xs
 count_beyond [] j all beyond = refl
 count_beyond (x ∷ xs) j all beyond = grind (arith, common_steps, fails, ne_eqb, count_beyond xs j all.1 beyond)
 
-pub no_places : (places counts : List ℕ) → places ≡ [] → counts ≡ replicate 64 0 → AreCounts places counts
+pub no_places : (places counts : List ℕ) → places ≡ [] → counts ≡ replicate most_ports 0 → AreCounts places counts
 no_places places counts none zeros =
     record {
-      counted = λ j inside. ap (λ l. get_or l j 0) zeros ∙ get_or-replicate 64 j 0 0 inside
+      counted = λ j inside. ap (λ l. get_or l j 0) zeros ∙ get_or-replicate most_ports j 0 0 inside
           ∙ ap (count_of j) (sym none);
-      in_range = subst (AllByRecursion (λ j. j < 64)) (sym none) tt;
+      in_range = subst (AllByRecursion (λ j. j < most_ports)) (sym none) tt;
       short = let len = ap length none in omega arith;
-      each = ap length zeros ∙ length-replicate {A = ℕ} 64 0;
+      each = ap length zeros ∙ length-replicate {A = ℕ} most_ports 0;
     }
 
 -- lists with a place set, and with one more
 ruleset set_steps = (get_or-set_same, get_or-set_other, length-insert, length-set)
 
 module _ (places counts : List ℕ) (had : AreCounts places counts) where
-  pub count_fits : (j : ℕ) → j < 64 → get_or counts j 0 ≤ 64
+  pub count_fits : (j : ℕ) → j < most_ports → get_or counts j 0 ≤ most_places
   count_fits j inside = grind (arith, common_steps, count_le)
 
-  pub counts_insert : (i j : ℕ) → i ≤ length places → length places < 64 → j < 64 →
+  pub counts_insert : (i j : ℕ) → i ≤ length places → length places < most_places → j < most_ports →
       AreCounts (insert places i j) (set counts j (get_or counts j 0 + 1))
   counts_insert i j inside room in_range =
       grind (arith, common_steps, set_steps, count_of-own, count_of-other, cases_eq)
@@ -57,8 +57,9 @@ module _ (places counts : List ℕ) (had : AreCounts places counts) where
     again : insert (remove places i) i j ≡ places
     again = put_back places i j inside read
 
-    pub in_range_at : j < 64
-    in_range_at = all_at (λ k. k < 64) places i j had.in_range (slice_get-get_or places i j inside ∙ ap Some (sym read))
+    pub in_range_at : j < most_ports
+    in_range_at = all_at (λ k. k < most_ports) places i j had.in_range
+        (slice_get-get_or places i j inside ∙ ap Some (sym read))
 
     pub count_some : 1 ≤ get_or counts j 0
     count_some = grind (arith, common_steps, in_range_at, again, count_of-own)

@@ -1,10 +1,11 @@
 -- Blocks that are filled: each but the last has 16 places at least. This is told of each block by its own length, so
 -- it stays where a block gets no shorter, where one of 16 places or more comes in, and where any block goes. There
 -- are never many more blocks than a sixteenth of the places.
-use Rattle.cq_list.proofs.Terms.{common_steps, rules, ◌≡◌, ℕ, zero, suc, ◌+◌, ◌*◌, ◌<◌, ◌≤◌, List, [], ◌∷◌, ◌++◌, length, get_or, set, arith, length-append, length-set, length-take, length-drop, insert, remove, concat, length-remove, AreFilled, HaveMemory, joined, pulled}
+use Rattle.cq_list.proofs.Terms.{common_steps, rules, ◌≡◌, ℕ, zero, suc, ◌+◌, ◌*◌, ◌<◌, ◌≤◌, List, [], ◌∷◌, ◌++◌, length, get_or, set, arith, length-append, length-set, length-take, length-drop, insert, remove, concat, length-remove, AreFilled, HaveMemory, joined, pulled, most_places, least_places}
 use Rattle.cq_list.proofs.Blocks.{joined_at, pulled_at}
 
-pub few_blocks : (blocks : List (List ℕ)) → AreFilled blocks → 16 * length blocks ≤ length (concat blocks) + 16
+pub few_blocks : (blocks : List (List ℕ)) → AreFilled blocks →
+    least_places * length blocks ≤ length (concat blocks) + least_places
 few_blocks [] filled = omega arith
 few_blocks (b ∷ []) filled = omega arith
 few_blocks (b ∷ c ∷ bs) filled = grind (arith, common_steps, length-append, few_blocks (c ∷ bs) filled.1)
@@ -16,7 +17,8 @@ pub room_for_block :
 room_for_block blocks capacity filled memory = let few = few_blocks blocks filled in omega arith
 
 pub many_in :
-    (blocks : List (List ℕ)) (i : ℕ) → AreFilled blocks → i + 1 < length blocks → 16 ≤ length (get_or blocks i [])
+    (blocks : List (List ℕ)) (i : ℕ) → AreFilled blocks → i + 1 < length blocks →
+    least_places ≤ length (get_or blocks i [])
 many_in [] i filled inside = absurd (omega arith)
 many_in (b ∷ []) i filled inside = absurd (omega arith)
 many_in (b ∷ c ∷ bs) zero filled inside = filled.0
@@ -29,7 +31,7 @@ filled_rest b [] filled = tt
 filled_rest b (c ∷ bs) filled = filled.1
 
 filled_first :
-    (b : List ℕ) (bs : List (List ℕ)) → (0 < length bs → 16 ≤ length b) → AreFilled bs → AreFilled (b ∷ bs)
+    (b : List ℕ) (bs : List (List ℕ)) → (0 < length bs → least_places ≤ length b) → AreFilled bs → AreFilled (b ∷ bs)
 filled_first b [] many filled = tt
 filled_first b (c ∷ bs) many filled = (many (omega arith), filled)
 
@@ -43,7 +45,7 @@ filled_behind b bs cs filled as_many new = grind (arith, common_steps, filled_fi
 
 pub filled_set :
     (blocks : List (List ℕ)) (i : ℕ) (block : List ℕ) → AreFilled blocks →
-    (i + 1 < length blocks → 16 ≤ length block) → AreFilled (set blocks i block)
+    (i + 1 < length blocks → least_places ≤ length block) → AreFilled (set blocks i block)
 filled_set [] i block filled many = tt
 filled_set (b ∷ bs) zero block filled many = grind (arith, common_steps, filled_first, filled_rest)
 filled_set (b ∷ bs) (suc i) block filled many =
@@ -56,7 +58,7 @@ filled_longer blocks i block filled longer = grind (arith, common_steps, filled_
 
 pub filled_pushed :
     (blocks : List (List ℕ)) (block : List ℕ) → AreFilled blocks →
-    ((i : ℕ) → i + 1 ≡ length blocks → 16 ≤ length (get_or blocks i [])) → AreFilled (blocks ++ block ∷ [])
+    ((i : ℕ) → i + 1 ≡ length blocks → least_places ≤ length (get_or blocks i [])) → AreFilled (blocks ++ block ∷ [])
 filled_pushed [] block filled many = tt
 filled_pushed (b ∷ []) block filled many = (many 0 (omega arith), tt)
 filled_pushed (b ∷ c ∷ bs) block filled many =
@@ -65,12 +67,12 @@ filled_pushed (b ∷ c ∷ bs) block filled many =
 -- the last block is one
 pub full_last :
     (blocks : List (List ℕ)) (i last : ℕ) → i + 1 ≡ length blocks → last + 1 ≡ length blocks →
-    64 ≤ length (get_or blocks last []) → 64 ≤ length (get_or blocks i [])
+    most_places ≤ length (get_or blocks last []) → most_places ≤ length (get_or blocks i [])
 full_last blocks i last is too full = grind (arith, common_steps)
 
 pub filled_split :
     (blocks : List (List ℕ)) (i : ℕ) (front back : List ℕ) → AreFilled blocks → i < length blocks →
-    16 ≤ length front → 16 ≤ length back → AreFilled (insert (set blocks i front) (i + 1) back)
+    least_places ≤ length front → least_places ≤ length back → AreFilled (insert (set blocks i front) (i + 1) back)
 filled_split [] i front back filled inside long longer = absurd (omega arith)
 filled_split (b ∷ bs) zero front back filled inside long longer = search (rules, filled_first, filled_rest)
 filled_split (b ∷ bs) (suc i) front back filled inside long longer =
@@ -90,12 +92,12 @@ module _ (blocks : List (List ℕ)) (i : ℕ) (filled : AreFilled blocks) (insid
   filled_joined = grind (arith, common_steps, many_in, length-append, filled_set, filled_without)
 
   -- then it has more than the least, unless it is the last one now
-  pub longer_joined : i + 1 < length (joined blocks i) → 16 < length (get_or (joined blocks i) i [])
+  pub longer_joined : i + 1 < length (joined blocks i) → least_places < length (get_or (joined blocks i) i [])
   longer_joined later = grind (arith, common_steps, length-set, length-remove, many_in, joined_at, length-append)
 
   module _ (many : 32 < length (get_or blocks (i + 1) [])) where
     pub filled_pulled : AreFilled (pulled blocks i)
     filled_pulled = search (rules, many_in, length-append, length-drop, filled_set)
 
-    pub longer_pulled : 16 < length (get_or (pulled blocks i) i [])
+    pub longer_pulled : least_places < length (get_or (pulled blocks i) i [])
     longer_pulled = search (rules, many_in, length-take, pulled_at, length-append)

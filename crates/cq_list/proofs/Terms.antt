@@ -3,10 +3,12 @@ pub use Rattle.cq_base.proofs.Library.{AllByRecursion, Bool, List, None, Ok, Opt
 pub use Rattle.cq_base.proofs.Keys.{key_laws}
 pub use Rattle.cq_base.proofs.Lists.{all_at, all_by, all_insert, all_left, each_pair_left, first_here, first_inside, first_later, keeps_order_arrival, keys_differ_insert, taken_none}
 pub use Rattle.cq_base.specs.Cells.{HasOtherKey, IsBefore, IsRising, KeepsOrder, MoreUrgentAhead, first_for, has_id, is_for, place_of_arrival, put, with_arrival, without_first}
+pub use Rattle.cq_base.specs.Limits.{most_ports}
+pub use Rattle.cq_list.specs.Block.{most_places}
 pub use Rattle.cq_base.specs.{Key.is_before, declared.cell.Queued.Queued, declared.key.Key.Key}
 pub use Rattle.slab.specs.Slab.{Slab, Updates, get, slab_len}
 pub use Rattle.cq_list.specs.InputList.{AreWaiting, StandFor, Waiting, cells_in}
-pub use Rattle.cq_list.specs.Places.{AreFilled, HaveMemory, IsAhead, IsSpot, PlacesView, joined, pulled}
+pub use Rattle.cq_list.specs.Places.{AreFilled, HaveMemory, IsAhead, IsSpot, PlacesView, joined, least_places, pulled}
 pub use Rattle.cq_list.specs.Pool.{AreLinked, EndsAt, IsChained, IsLinked, IsPool, Nodes, OthersStay, PoolView, behind_first, cells, cells_in_queues, chain, followed, linked, no_queue, places, queue_at, queue_of}
 pub use Rattle.cq_list.specs.Split.{CanTell, HaveTold, IsSplit, Queues, count_of, is_output, merged, place_of_nth, without_head}
 pub use Rattle.cq_list.specs.{declared.pool.Node.Node, declared.pool.Queue.Queue}

@@ -3,6 +3,7 @@ use Rattle.std.specs.Prelude.{◌≡◌, ℕ, ◌<◌, ◌≤◌, List, length, 
 use Rattle.std.specs.List.{AllByRecursion}
 use Rattle.cq_base.specs.declared.cell.Queued.{Queued}
 use Rattle.cq_base.specs.Cells.{KeepsOrder, KeysDiffer}
+use Rattle.cq_base.specs.Limits.{most_ports}
 use Rattle.cq_list.specs.Split.{IsSplit, merged}
 use Rattle.cq_list.specs.Places.{PlacesView}
 use Rattle.cq_list.specs.Pool.{PoolView, queue_of}
@@ -15,7 +16,7 @@ pub record Waiting : Type 0 where
 
 -- what holds of the cells of each list
 pub record AreWaiting (outputs : ℕ) (cells : List Queued) : Type 0 where
-  pub few : outputs ≤ 64
+  pub few : outputs ≤ most_ports
   pub in_range : AllByRecursion (λ x. x.cell.output < outputs) cells
   pub in_order : KeepsOrder cells
   pub keys_differ : KeysDiffer cells

@@ -2,7 +2,12 @@
 use Rattle.std.specs.Prelude.{◌≡◌, ℕ, ◌+◌, ◌*◌, ◌<◌, ◌≤◌, List, [], ◌∷◌, ◌++◌, length, take, drop, insert, remove, slice_set, slice_index_or, Vec, vec_capacity}
 use Rattle.std.specs.List.{concat}
 use Rattle.std.specs.declared.alloc.Global.{Global}
+use Rattle.cq_base.specs.Limits.{most_ports}
 use Rattle.cq_list.specs.Split.{count_of}
+
+-- the least places of a block that is not the last
+abbrev pub least_places : ℕ
+least_places = 16
 
 -- the output of each place in order, and how many more places there is room for
 pub record PlacesView : Type 0 where
@@ -13,11 +18,11 @@ pub record PlacesView : Type 0 where
 abbrev pub AreFilled : List (List ℕ) → Type 0
 AreFilled [] = Unit {0}
 AreFilled (block ∷ []) = Unit {0}
-AreFilled (block ∷ next ∷ blocks) = (16 ≤ length block) × AreFilled (next ∷ blocks)
+AreFilled (block ∷ next ∷ blocks) = (least_places ≤ length block) × AreFilled (next ∷ blocks)
 
 -- there is memory for the blocks of so many places and for one block more, each block but the last with 16 places
 abbrev pub HaveMemory : ℕ → ℕ → Type 0
-HaveMemory places capacity = places + 16 < 16 * capacity
+HaveMemory places capacity = places + least_places < least_places * capacity
 
 -- the blocks are filled, their places are counted and no more than there is room for, and there is memory for this room
 pub record AreBlocks (blocks : List (List ℕ)) (len room capacity : ℕ) : Type 0 where
@@ -30,7 +35,7 @@ pub record AreBlocks (blocks : List (List ℕ)) (len room capacity : ℕ) : Type
 pub record CanGrow (blocks : Vec (List ℕ) Global) (output : ℕ) : Type 0 where
   pub filled : AreFilled blocks.items
   pub memory : HaveMemory (length (concat blocks.items)) (vec_capacity blocks)
-  pub in_range : output < 64
+  pub in_range : output < most_ports
 
 -- an output went in at this place, the blocks are filled still, and they have as much memory
 pub record HasGrown (place output : ℕ) (old new : Vec (List ℕ) Global) : Type 0 where

@@ -1,17 +1,22 @@
 //! A few places of a list, with their counts.
 ghost use Rattle.std.specs.Prelude.{◌≡◌, ◌+◌, ◌<◌, ◌≤◌, ◌++◌, [], Some, length, replicate, take, insert, remove, slice_get};
+ghost use Rattle.cq_base.specs.Limits.{most_ports};
 ghost use Rattle.cq_list.specs.Split.{is_output, place_of_nth, count_of};
+ghost use Rattle.cq_list.specs.Block.{most_places};
 
 use arrayvec::ArrayVec;
-use cq_base::Port;
+use cq_base::{MOST_PORTS, Port};
 use std::marker::Model;
+
+/// The most places of a block.
+pub const MOST_PLACES: usize = 64;
 
 /// At most 64 places of a list, each with its output, and how many of them are each output's. Contracts see the
 /// outputs.
 #[derive(Drop)]
 pub struct Block {
-    places: ArrayVec<Port, 64>,
-    counts: [u8; 64],
+    places: ArrayVec<Port, MOST_PLACES>,
+    counts: [u8; MOST_PORTS],
 }
 
 impl Model for Block {
@@ -50,14 +55,14 @@ impl Block {
     {
         Block {
             places: ArrayVec::new(),
-            counts: [0; 64],
+            counts: [0; MOST_PORTS],
         }
     }
 
     /// How many places there are.
     pub fn len(&self) -> usize
         ensures len { result ≡ length self.now }
-        ensures fits { result ≤ 64 }
+        ensures fits { result ≤ most_places }
     {
         self.places.len()
     }
@@ -74,7 +79,7 @@ impl Block {
     pub fn at(&self, place: usize) -> Port
         requires { place < length self.now }
         ensures output { slice_get self.now place ≡ Some result }
-        ensures in_range { result < 64 }
+        ensures in_range { result < most_ports }
     {
         self.places.as_slice()[place]
     }
@@ -112,8 +117,8 @@ impl Block {
     #[tactic(auto, using(crate::proofs::Counts::count_fits))]
     pub fn insert(&mut self, place: usize, output: Port)
         requires inside { place ≤ length self.old }
-        requires room { length self.old < 64 }
-        requires in_range { output < 64 }
+        requires room { length self.old < most_places }
+        requires in_range { output < most_ports }
         ensures { self.new ≡ insert self.old place output }
     {
         self.counts[output as usize] += 1;
@@ -125,7 +130,7 @@ impl Block {
     pub fn remove(&mut self, place: usize) -> Port
         requires { place < length self.old }
         ensures output { slice_get self.old place ≡ Some result }
-        ensures in_range { result < 64 }
+        ensures in_range { result < most_ports }
         ensures rest { self.new ≡ remove self.old place }
     {
         let output = self.places.remove(place);
@@ -135,7 +140,7 @@ impl Block {
 
     /// Puts the places of another block behind its own.
     pub fn append(&mut self, more: &Block)
-        requires { length self.old + length more.now ≤ 64 }
+        requires { length self.old + length more.now ≤ most_places }
         ensures { self.new ≡ self.old ++ more.now }
     {
         'moved: for place in 0..more.len() {
@@ -145,7 +150,7 @@ impl Block {
 
     /// Takes the last 32 places of a full block out, into a block of their own.
     pub fn split_off(&mut self) -> Block
-        requires { length self.old ≡ 64 }
+        requires { length self.old ≡ most_places }
         ensures whole { self.old ≡ self.new ++ result }
         ensures front { length self.new ≡ 32 }
         ensures back { length result ≡ 32 }

@@ -3,6 +3,7 @@ ghost use Rattle.std.specs.Prelude.{◌≡◌, ◌+◌, ◌<◌, ◌≤◌, ◌&
 ghost use Rattle.std.specs.List.{position_or_len};
 ghost use Rattle.cq_base.specs.Key.{is_before};
 ghost use Rattle.cq_base.specs.Cells.{HasOtherKey, MoreUrgentAhead, is_for, has_id, first_for, without_first, with_arrival};
+ghost use Rattle.cq_base.specs.Limits.{most_ports};
 ghost use Rattle.cq_list.specs.Split.{CanTell, HaveTold, is_output, place_of_nth, count_of};
 ghost use Rattle.cq_list.specs.Pool.{queue_of};
 ghost use Rattle.cq_list.specs.InputList.{AreWaiting};
@@ -62,7 +63,7 @@ fn tell<'a>(cells: &mut Vec<Queued>, heads: &mut Heads<'a>, places: &[Port]) -> 
 impl InputList {
     /// No cell waits, and there is room for so many cells. The error is want of memory.
     pub fn new(alloc: Global, outputs: u16, room: u64) -> Result<InputList, NoMemory>
-        requires { outputs ≤ 64 }
+        requires { outputs ≤ most_ports }
         ensures cells { IfOk result (λ list. list.cells ≡ []) }
         ensures outputs { IfOk result (λ list. list.outputs ≡ outputs) }
         ensures spare { IfOk result (λ list. list.spare ≡ room) }

@@ -1,13 +1,18 @@
 //! The outputs of the cells of a list, in order.
 ghost use Rattle.std.specs.Prelude.{◌≡◌, ℕ, ◌+◌, ◌<◌, ◌≤◌, ◌^◌, [], Some, IfOk, length, take, insert, remove, slice_get, slice_index_or, vec_capacity};
 ghost use Rattle.std.specs.List.{position_or_len, concat};
+ghost use Rattle.cq_base.specs.Limits.{most_ports};
 ghost use Rattle.cq_list.specs.Split.{is_output, place_of_nth, count_of};
-ghost use Rattle.cq_list.specs.Places.{CanGrow, HasGrown, IsSpot, IsAhead, AreFilled, HaveMemory, joined, pulled};
+ghost use Rattle.cq_list.specs.Places.{CanGrow, HasGrown, IsSpot, IsAhead, AreFilled, HaveMemory, joined, least_places, pulled};
+ghost use Rattle.cq_list.specs.Block.{most_places};
 
-use crate::block::Block;
+use crate::block::{Block, MOST_PLACES};
 use cq_base::{NoMemory, Port};
 use std::alloc::Global;
 use std::marker::Model;
+
+// The least places of a block that is not the last.
+const LEAST_PLACES: usize = 16;
 
 /// The output of each place of a list. Contracts see the outputs, and how many more places there is room for.
 ///
@@ -228,12 +233,12 @@ fn spot_with_room(blocks: &mut Vec<Block>, place: usize, len: usize) -> Spot
     ensures places { concat blocks.new.items ≡ concat blocks.old.items }
     ensures filled { AreFilled blocks.new.items }
     ensures spot { IsSpot blocks.new.items place result.block result.within }
-    ensures room { length (slice_index_or blocks.new.items result.block []) < 64 }
+    ensures room { length (slice_index_or blocks.new.items result.block []) < most_places }
     ensures capacity { vec_capacity blocks.new ≡ vec_capacity blocks.old }
 {
     let spot = spot_of(blocks, place, len);
     let block = &mut blocks[spot.block];
-    if block.len() < 64 {
+    if block.len() < MOST_PLACES {
         return spot;
     }
     let back = block.split_off();
@@ -244,7 +249,8 @@ fn spot_with_room(blocks: &mut Vec<Block>, place: usize, len: usize) -> Spot
 // A place at the end, in a block of its own behind a full one.
 fn push_block(blocks: &mut Vec<Block>, output: Port)
     requires can { CanGrow blocks.old output }
-    requires full { (i : ℕ) → i + 1 ≡ length blocks.old.items → 64 ≤ length (slice_index_or blocks.old.items i []) }
+    requires full { (i : ℕ) → i + 1 ≡ length blocks.old.items →
+        most_places ≤ length (slice_index_or blocks.old.items i []) }
     ensures { HasGrown (length (concat blocks.old.items)) output blocks.old blocks.new }
 {
     let mut block = Block::new();
@@ -259,7 +265,7 @@ fn append_behind(blocks: &mut Vec<Block>, last: usize, output: Port)
     ensures { HasGrown (length (concat blocks.old.items)) output blocks.old blocks.new }
 {
     let len = blocks[last].len();
-    if len < 64 {
+    if len < MOST_PLACES {
         let block = &mut blocks[last];
         block.insert(len, output);
         return;
@@ -296,7 +302,7 @@ fn insert_inside(blocks: &mut Vec<Block>, place: usize, len: usize, output: Port
 fn join_next(blocks: &mut Vec<Block>, at: usize)
     requires inside { at + 1 < length blocks.old.items }
     requires fits { length (slice_index_or blocks.old.items at [])
-        + length (slice_index_or blocks.old.items (at + 1) []) ≤ 64 }
+        + length (slice_index_or blocks.old.items (at + 1) []) ≤ most_places }
     ensures joined { blocks.new.items ≡ joined blocks.old.items at }
     ensures capacity { vec_capacity blocks.new ≡ vec_capacity blocks.old }
 {
@@ -307,7 +313,7 @@ fn join_next(blocks: &mut Vec<Block>, at: usize)
 // The first place of the next block goes over to the end of a block.
 fn pull_next(blocks: &mut Vec<Block>, at: usize)
     requires inside { at + 1 < length blocks.old.items }
-    requires room { length (slice_index_or blocks.old.items at []) < 64 }
+    requires room { length (slice_index_or blocks.old.items at []) < most_places }
     requires some { 0 < length (slice_index_or blocks.old.items (at + 1) []) }
     ensures pulled { blocks.new.items ≡ pulled blocks.old.items at }
     ensures capacity { vec_capacity blocks.new ≡ vec_capacity blocks.old }
@@ -325,7 +331,7 @@ fn fill_up(blocks: &mut Vec<Block>, at: usize)
     ensures filled { AreFilled blocks.new.items }
     ensures spot { (place within : ℕ) →
         IsSpot blocks.old.items place at within → IsSpot blocks.new.items place at within }
-    ensures longer { at + 1 < length blocks.new.items → 16 < length (slice_index_or blocks.new.items at []) }
+    ensures longer { at + 1 < length blocks.new.items → least_places < length (slice_index_or blocks.new.items at []) }
     ensures capacity { vec_capacity blocks.new ≡ vec_capacity blocks.old }
 {
     let next = at + 1;
@@ -335,7 +341,7 @@ fn fill_up(blocks: &mut Vec<Block>, at: usize)
     }
     let block = &blocks[at];
     let len = block.len();
-    if len > 16 {
+    if len > LEAST_PLACES {
         return;
     }
     let behind = &blocks[next];
@@ -367,7 +373,7 @@ impl Places {
         ensures spare { IfOk result (λ places. places.spare ≡ room) }
     {
         Ok(Places {
-            blocks: Vec::with_capacity(alloc, (room / 16 + 2) as usize)?,
+            blocks: Vec::with_capacity(alloc, (room / LEAST_PLACES as u64 + 2) as usize)?,
             len: 0,
             room,
         })
@@ -426,7 +432,7 @@ impl Places {
     pub fn insert(&mut self, place: usize, output: Port)
         requires inside { place ≤ length self.old.outputs }
         requires spare { 0 < self.old.spare }
-        requires in_range { output < 64 }
+        requires in_range { output < most_ports }
         ensures outputs { self.new.outputs ≡ insert self.old.outputs place output }
         ensures spare { self.new.spare + 1 ≡ self.old.spare }
     {

@@ -1,7 +1,7 @@
 -- The steps of one proposal put together: the input goes on to its next place, whom the output held is parted, and
 -- the output takes the input. What is then shown is the state after the event, with its pairs, its free inputs and
 -- its count.
-use Rattle.cq_pair.proofs.Terms.{common_steps, rules, ℕ, ◌≡◌, ◌≢◌, ◌+◌, ◌<◌, ◌≤◌, ◌∷◌, mul-le-mul, List, length, get_or, set, None, refl, sym, ◌∙◌, ap, arith, lt-ltb, eq-eqb, ne_eqb, get_or-set_other, length-set, Orders, ports, inputs_of, position_of, partner_of, IsFreeInput, State, position_held, Holds, IsSound, next_output, holder, propose, answer_of, outcome_of, matching_of, input_in_range, inputs_at_most, events_at_most, holder-holds, matching-of, partner-free, partner-from, Progress, IsReached, IsAsk, MovesOn, Parts, CanTake, Takes}
+use Rattle.cq_pair.proofs.Terms.{common_steps, rules, ℕ, ◌≡◌, ◌≢◌, ◌+◌, ◌<◌, ◌≤◌, ◌∷◌, mul-le-mul, List, length, get_or, set, None, refl, sym, ◌∙◌, ap, arith, lt-ltb, eq-eqb, ne_eqb, get_or-set_other, length-set, Orders, ports, inputs_of, position_of, partner_of, IsFreeInput, State, position_held, Holds, IsSound, next_output, holder, propose, answer_of, outcome_of, matching_of, input_in_range, inputs_at_most, events_at_most, holder-holds, matching-of, partner-free, partner-from, Progress, IsReached, IsAsk, MovesOn, Parts, CanTake, Takes, most_ports}
 use Rattle.cq_prefs.specs.declared.outcome.Outcome.{Outcome}
 use Rattle.cq_prefs.specs.declared.outcome.Outcome.TheVariants.{Held, Displaced, Rejected}
 use Rattle.cq_pair.proofs.Turns.{state-refused, state-taken, matching-refused, unheld-empty, matching-empty, unheld-parted, matching-displaced}
@@ -37,7 +37,7 @@ module _ {o : Orders} {c : Progress} {i j p h : ℕ} (a : IsAsk o c i j p h) whe
   taken_less l = grind (arith, common_steps, a.offers.shown, asked_offered, a.free.unheld)
 
   -- there is one proposal more to make
-  pub few_made : ports o ≤ 64 → c.made < 4096
+  pub few_made : ports o ≤ most_ports → c.made < 4096
   few_made few =
       grind (arith, common_steps, events_at_most o a.offers (i ∷ a.reached.events), mul-le-mul few few)
 

@@ -1,6 +1,7 @@
 -- The words of this crate's proofs that stand elsewhere, each passed on from its place.
 pub use Rattle.cq_base.proofs.Library.{Bool, IsDistinct, List, None, Option, Some, [], and-true, and_left, and_right, ap, arith, cases_eq, common_steps, cond-false, cond-true, cond_both, eq-eqb, eqb, eqb-true, false, filter, filter_agree, filter_passes, get_or, get_or-set_other, get_or-set_same, is_none, le-ltb, length, length-range_with_len, length-replicate, length-set, lt-ltb, mul-le-mul, ne_eqb, nil_from_length, range_with_len, refl, replicate, rules, same_Some, set, set-get_or, slice_get, subst, suc, sym, take, take-replicate, take_all, take_more_set, true, zero, ℕ, ⊎_elim, ◌*◌, ◌+◌, ◌-◌, ◌<◌, ◌∙◌, ◌∷◌, ◌≡◌, ◌≢◌, ◌≤◌, ◌⊎◌}
 pub use Rattle.cq_base.specs.Items.{Has}
+pub use Rattle.cq_base.specs.Limits.{most_ports}
 pub use Rattle.cq_prefs.proofs.ByKey.{length-put, put_is}
 pub use Rattle.cq_prefs.proofs.Counts.{events-quiet, events_at_most}
 pub use Rattle.cq_prefs.proofs.Holding.{free_if, free_only_if, held_once, holder-holds, matching-of, matching_of-is, partner-free, partner-from, partner-holds, partner-is}

@@ -1,19 +1,20 @@
 //! The free inputs in order of number.
 ghost use Rattle.std.specs.Prelude.{◌≡◌, ◌==◌, ◌↔◌, ◌-◌, ◌<◌, ◌≤◌, IsTrue, [], Some, length, nat_eq, nat_lt, position, slice_get};
 ghost use Rattle.std.specs.List.{IsDistinct, position_or_len};
+ghost use Rattle.cq_base.specs.Limits.{most_ports};
 ghost use Rattle.cq_prefs.specs.Orders.{inputs_with_offers, place_in, ports};
 ghost use Rattle.cq_prefs.specs.Renewal.{without};
 ghost use Rattle.cq_pair.specs.FreeInputs.{with_input};
 
 use arrayvec::ArrayVec;
-use cq_base::Port;
+use cq_base::{MOST_PORTS, Port};
 use cq_prefs::Offers;
 use std::marker::Model;
 
 /// At most 64 inputs. It takes no memory. Contracts see the list.
 #[derive(Drop)]
 pub struct FreeInputs {
-    inputs: ArrayVec<Port, 64>,
+    inputs: ArrayVec<Port, MOST_PORTS>,
 }
 
 impl Model for FreeInputs {
@@ -87,7 +88,7 @@ impl FreeInputs {
 
     /// Puts an input in, before those of greater numbers.
     pub fn insert(&mut self, input: Port)
-        requires { length self.old < 64 }
+        requires { length self.old < most_ports }
         ensures { self.new ≡ with_input input self.old }
     {
         let place = place_of(self.inputs.as_slice(), input);

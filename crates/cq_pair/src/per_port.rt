@@ -1,41 +1,43 @@
 //! A number for each port.
 ghost use Rattle.std.specs.Prelude.{◌≡◌, ◌<◌, ◌≤◌, length, replicate, slice_index, slice_set};
+ghost use Rattle.cq_base.specs.Limits.{most_ports};
 
-use cq_base::Port;
+use cq_base::{MOST_PORTS, Port};
 use std::marker::Model;
 
 /// A number for each of at most 64 ports. It takes no memory. Contracts see the list of the numbers.
 #[derive(Drop)]
 pub struct PerPort {
     ports: u16,
-    numbers: [u16; 64],
+    numbers: [u16; MOST_PORTS],
 }
 
 impl Model for PerPort {
     ghost use Rattle.std.specs.Prelude.{ℕ, ◌≡◌, ◌≤◌, List, length, take};
+    ghost use Rattle.cq_base.specs.Limits.{most_ports};
 
     ghost Value = { List ℕ };
 
     ghost view = { λ a. take a.ports a.numbers };
 
-    ghost invariant = { λ a. (a.ports ≤ 64) × (length a.numbers ≡ 64) };
+    ghost invariant = { λ a. (a.ports ≤ most_ports) × (length a.numbers ≡ most_ports) };
 }
 
 impl PerPort {
     /// The same number for each of so many ports.
     pub fn all(ports: u16, number: u16) -> PerPort
-        requires { ports ≤ 64 }
+        requires { ports ≤ most_ports }
         ensures { result ≡ replicate ports number }
     {
         PerPort {
             ports,
-            numbers: [number; 64],
+            numbers: [number; MOST_PORTS],
         }
     }
 
     /// Gives each of so many ports this number, in place of what stood there.
     pub fn fill(&mut self, ports: u16, number: u16)
-        requires { ports ≤ 64 }
+        requires { ports ≤ most_ports }
         ensures { self.new ≡ replicate ports number }
     {
         self.ports = ports;

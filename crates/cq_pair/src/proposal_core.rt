@@ -1,5 +1,6 @@
 //! Proposals, one at a time.
 ghost use Rattle.std.specs.Prelude.{◌≡◌, ◌≢◌, ◌<◌, ◌≤◌, ◌+◌, [], length, replicate, None};
+ghost use Rattle.cq_base.specs.Limits.{most_ports};
 ghost use Rattle.cq_prefs.specs.Orders.{ports, outputs_of};
 ghost use Rattle.cq_prefs.specs.Pairing.{IsInputBest, partner_of, proposals};
 ghost use Rattle.cq_prefs.specs.Proposals.{IsFree, next_place, outcome_of, propose, start};
@@ -49,7 +50,7 @@ struct Asked {
 
 // No pair is left, over so many ports. Pairs of as many ports are parted where they stand.
 fn part_all(matching: &mut Matching, ports: u16)
-    requires { ports ≤ 64 }
+    requires { ports ≤ most_ports }
     ensures { matching.new ≡ replicate ports None }
 {
     if matching.ports() != ports {
@@ -177,7 +178,7 @@ impl Core {
         requires reached { IsReached offers.now self.now }
         requires free { IsFree offers.now self.now.state input }
         ensures ask { IsAsk offers.now self.now input result.output result.position result.held }
-        ensures few { ports offers.now ≤ 64 }
+        ensures few { ports offers.now ≤ most_ports }
     {
         // Its contract tells that the orders of both sides fit together.
         let _ports = offers.ports();
@@ -195,7 +196,7 @@ impl Core {
         requires input { input < length self.old.state.places }
         requires known { input < ports offers.now }
         requires left { next_place self.old.state input < length (outputs_of offers.now input) }
-        requires few { length (outputs_of offers.now input) ≤ 64 }
+        requires few { length (outputs_of offers.now input) ≤ most_ports }
         requires count { self.old.made < 4096 }
         requires waiting { ShowsWaiting offers.now self.old }
         ensures { MovesOn offers.now self.old self.new input }
@@ -212,7 +213,7 @@ impl Core {
     fn part(&mut self, offers: &Offers, input: Port)
         requires input { input < length self.old.state.places }
         requires known { input < ports offers.now }
-        requires few { ports offers.now ≤ 64 }
+        requires few { ports offers.now ≤ most_ports }
         requires matching { length self.old.matching ≡ ports offers.now }
         requires partner { partner_of self.old.matching input ≢ None }
         requires waiting { ShowsWaiting offers.now self.old }

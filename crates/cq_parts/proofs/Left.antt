@@ -1,12 +1,12 @@
 -- What `resume` reads of what `part` left: the configuration and the captures that `part` read, and the text that it
 -- wrote. And where it alone wrote, under a name of its own, these are there.
-use Rattle.cq_parts.proofs.Terms.{rules, ◌≡◌, ◌≢◌, ℕ, List, [], ◌∷◌, length, ◌≤◌, ◌^◌, Some, arith, subst, Ok, get, Captured, Tables, Contents, Resume, Resuming, Reader, captures_in, judged, state_in, tables_in, all_replaced, all_weaker, get_same, captures_same, tables_same, untouched, text_is, Plan}
+use Rattle.cq_parts.proofs.Terms.{rules, ◌≡◌, ◌≢◌, ℕ, List, [], ◌∷◌, length, ◌≤◌, Some, arith, subst, Ok, get, Captured, Tables, Contents, Resume, Resuming, Reader, captures_in, judged, state_in, tables_in, all_replaced, all_weaker, get_same, captures_same, tables_same, untouched, text_is, Plan, longest_file}
 use Rattle.cq_parts.specs.Parts.{IsLeftByPart, IsWrittenByPart, PartLeavesTheRest}
 
 module _ (r : Reader) (config state : List ℕ) where
   module _ (left : Contents) (t : Tables) (captures : List (List Captured)) (text : List ℕ)
       (configured : tables_in config left ≡ Ok t) (captured : captures_in r t left ≡ Ok captures)
-      (told : get left state ≡ Some text) (short : length text ≤ 2 ^ 28) where
+      (told : get left state ≡ Some text) (short : length text ≤ longest_file) where
     text_left : state_in state left ≡ Ok text
     text_left = search (arith, rules, text_is)
 

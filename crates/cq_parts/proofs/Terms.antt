@@ -13,6 +13,7 @@ pub use Rattle.cq_run.specs.{Reader.Reader, Writing.all_replaced}
 pub use Rattle.cq_run.specs.Verdict.{captures_in, ideally_sent, judged, sent_or_tag, state_in, tables_in}
 pub use Rattle.cq_base.proofs.Each.{all_weaker}
 pub use Rattle.cq_base.specs.Arriving.{Arrival}
+pub use Rattle.cq_base.specs.Limits.{longest_file}
 pub use Rattle.cq_space.proofs.Replaced.{get_same}
 pub use Rattle.cq_route.specs.{Tables.AreTables, Tables.classes_of, Tables.ports_of}
 pub use Rattle.cq_cells.proofs.Rising.{traffic_is}

@@ -1,7 +1,7 @@
 -- A number that leaves an order and goes in before the first that it comes before stands where it stood. Those ahead of
 -- it come before it, so it goes past them, and it comes before the one that followed it. So of an order it is enough to
 -- know what is left without the number, and whether the number is in it.
-use Rattle.cq_prefs.proofs.Terms.{rules, ◌≡◌, ◌≢◌, ℕ, suc, ◌<◌, ◌≤◌, eqb, not, cond, Bool, true, List, [], ◌∷◌, length, refl, sym, ap, ◌∙◌, inl, ⊎_elim, arith, common_steps, insert, remove, IsDistinct, position_or_len, cond-true, cond-false, cases_Bool, cases_eq, eq-eqb, ne_eqb, put_by, place_in, IsListed, without, Has}
+use Rattle.cq_prefs.proofs.Terms.{rules, ◌≡◌, ◌≢◌, ℕ, suc, ◌<◌, ◌≤◌, eqb, not, cond, Bool, true, List, [], ◌∷◌, length, refl, sym, ap, ◌∙◌, inl, ⊎_elim, arith, common_steps, insert, remove, IsDistinct, position_or_len, cond-true, cond-false, cases_Bool, cases_eq, eq-eqb, ne_eqb, put_by, place_in, IsListed, without, Has, most_ports}
 use Rattle.cq_prefs.proofs.ByKey.{put_is, length-put}
 use Rattle.cq_prefs.proofs.Members.{Apart, among, listed, place_head, place_next, Rises}
 use Rattle.cq_prefs.proofs.OneOrder.{apart}
@@ -53,7 +53,7 @@ module _ (b : ℕ → ℕ → Bool) (one_way : (x y : ℕ) → b x y ≡ true �
   put_back x at left ys a r m e place = grind (arith, common_steps, put_is, goes_back)
 
   pub room_back : (x : ℕ) (left ys : List ℕ) → Apart ys → Rises b ys → Has ys x → left ≡ without x ys →
-      length ys ≤ 64 → length left < 64
+      length ys ≤ most_ports → length left < most_ports
   room_back x left ys a r m e few = grind (arith, common_steps, goes_back, length-put)
 
 -- a port that does not stand in an order

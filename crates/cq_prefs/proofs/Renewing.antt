@@ -8,7 +8,7 @@
 -- is renewed.
 -- One order that is known but for one port, which left it. Where there is no cell, what is left is the whole order.
 -- Where there is one, the port goes back in at the place that its first cell tells.
-use Rattle.cq_prefs.proofs.Terms.{common_steps, rules, ◌≡◌, ◌≢◌, ℕ, ◌+◌, ◌<◌, ◌≤◌, eqb, Bool, true, false, List, [], ◌∷◌, length, get_or, set, Option, Some, None, refl, sym, ap, ◌∙◌, subst, ⊎_elim, arith, not, replicate, ◌⊎◌, map, ltb, filter, All, insert, IsDistinct, range_with_len, position_or_len, cond-true, cases_Bool, cases_eq, cases_lt, eq-eqb, ne_eqb, eqb-true, length-map-range_with_len, get_or-map-range_with_len, length-map, length-set, get_or_past, get_or_default, get_or-set_same, get_or-set_other, ext_get_or, length-replicate, Queued, Waiting, cells_of, AreWaiting, list_of, output_order, input_order, orders_of, HasCellFor, FirstKeysDiffer, first_key, key_at, key_before, Orders, AreOffers, ports, outputs_of, inputs_of, Partners, partner_of, ArePairs, with_pair, without, is_partner, is_pair, AreSameWithout, first_for, place_for, Key, kept_has, Has, has_kept}
+use Rattle.cq_prefs.proofs.Terms.{common_steps, rules, ◌≡◌, ◌≢◌, ℕ, ◌+◌, ◌<◌, ◌≤◌, eqb, Bool, true, false, List, [], ◌∷◌, length, get_or, set, Option, Some, None, refl, sym, ap, ◌∙◌, subst, ⊎_elim, arith, not, replicate, ◌⊎◌, map, ltb, filter, All, insert, IsDistinct, range_with_len, position_or_len, cond-true, cases_Bool, cases_eq, cases_lt, eq-eqb, ne_eqb, eqb-true, length-map-range_with_len, get_or-map-range_with_len, length-map, length-set, get_or_past, get_or_default, get_or-set_same, get_or-set_other, ext_get_or, length-replicate, Queued, Waiting, cells_of, AreWaiting, list_of, output_order, input_order, orders_of, HasCellFor, FirstKeysDiffer, first_key, key_at, key_before, Orders, AreOffers, ports, outputs_of, inputs_of, Partners, partner_of, ArePairs, with_pair, without, is_partner, is_pair, AreSameWithout, first_for, place_for, Key, kept_has, Has, has_kept, most_ports}
 use Rattle.std.proofs.lemmas.List.{get_or-map}
 use Rattle.std.proofs.lemmas.Simd.{map-map}
 use Rattle.cq_prefs.proofs.InputOrder.{OutputsInRange, outputs_at, inputs_at, are_offers, key_at-first, cell_of_key, is_input_order}
@@ -65,8 +65,8 @@ orders_made lists outputs inputs e m =
 pub offers_made : (lists : List Waiting) (outputs inputs : List (List ℕ)) →
     outputs ≡ map (λ w. output_order w.cells) lists → Made lists (length lists) inputs →
     (n : ℕ) → All (λ w. AreWaiting w.outputs w.cells) lists → All (λ w. w.outputs ≡ n) lists → length lists ≡ n →
-    n ≤ 64 →
-    let o : Orders = record { outputs = outputs; inputs = inputs } in AreOffers o × (ports o ≤ 64)
+    n ≤ most_ports →
+    let o : Orders = record { outputs = outputs; inputs = inputs } in AreOffers o × (ports o ≤ most_ports)
 offers_made lists outputs inputs e m n waiting same size few =
     let o : Orders = record { outputs = outputs; inputs = inputs } in
     let is : o ≡ orders_of (cells_of lists) = orders_made lists outputs inputs e m in
@@ -171,9 +171,10 @@ in_range_still m o lists pairs v size long same i j c found =
 
 -- so what they are to be are offers
 pub still_offers :
-    (m : Partners) (o now : Orders) (lists : List Waiting) → ArePairs m → AreOffers o × (ports o ≤ 64) → o ≡ now →
+    (m : Partners) (o now : Orders) (lists : List Waiting) → ArePairs m → AreOffers o × (ports o ≤ most_ports) →
+    o ≡ now →
     length m ≡ ports now → length lists ≡ ports now → AreSameWithout m now (orders_of (cells_of lists)) →
-    AreOffers (orders_of (cells_of lists)) × (ports (orders_of (cells_of lists)) ≤ 64)
+    AreOffers (orders_of (cells_of lists)) × (ports (orders_of (cells_of lists)) ≤ most_ports)
 still_offers m o now lists pairs v is long many same = search (rules, length-map, are_offers, in_range_still)
 
 -- ## One pair
@@ -185,7 +186,7 @@ pub record Next (m : Partners) (n j : ℕ) (outputs inputs : List (List ℕ)) (l
   pub partner : partner_of m n ≡ Some j
   pub long : length m ≡ length lists
   pub inside : n < length m
-  pub offers : AreOffers (orders_of (cells_of lists)) × (ports (orders_of (cells_of lists)) ≤ 64)
+  pub offers : AreOffers (orders_of (cells_of lists)) × (ports (orders_of (cells_of lists)) ≤ most_ports)
 
 module _ {m : Partners} {n j : ℕ} {outputs inputs : List (List ℕ)} {lists : List Waiting}
     (x : Next m n j outputs inputs lists) where
@@ -199,12 +200,12 @@ module _ {m : Partners} {n j : ℕ} {outputs inputs : List (List ℕ)} {lists : 
   column_is : inputs_of (orders_of (cells_of lists)) j ≡ input_order (cells_of lists) j
   column_is = grind (arith, common_steps, length-map, x.pairs.ports, inputs_at)
 
-  column_few : length (input_order (cells_of lists) j) ≤ 64
+  column_few : length (input_order (cells_of lists) j) ≤ most_ports
   column_few = grind (arith, common_steps, inputs_at_most (orders_of (cells_of lists)) x.offers.0 j, column_is)
 
   pub column_asks : (column : List ℕ) → column ≡ get_or inputs j column →
       IsDistinct eqb column × (without n column ≡ without n (input_order (cells_of lists) j))
-      × (length (input_order (cells_of lists) j) ≤ 64)
+      × (length (input_order (cells_of lists) j) ≤ most_ports)
   column_asks column e = search (arith, rules, column_few, get_or_default, has_column, column_is)
 
   -- the order that the input is to have, and what its renewal asks
@@ -212,11 +213,11 @@ module _ {m : Partners} {n j : ℕ} {outputs inputs : List (List ℕ)} {lists : 
     row_is : outputs_of (orders_of (cells_of lists)) n ≡ output_order list.cells
     row_is = grind (arith, common_steps, outputs_at, cells_at)
 
-    row_few : length (output_order list.cells) ≤ 64
+    row_few : length (output_order list.cells) ≤ most_ports
     row_few = grind (arith, common_steps, outputs_at_most (orders_of (cells_of lists)) x.offers.0 n, row_is)
 
     pub row_asks : row ≡ get_or outputs n row → IsDistinct eqb row
-        × (without j row ≡ without j (output_order list.cells)) × (length (output_order list.cells) ≤ 64)
+        × (without j row ≡ without j (output_order list.cells)) × (length (output_order list.cells) ≤ most_ports)
     row_asks e = search (arith, rules, row_few, get_or_default, has_row, row_is)
 
     pub next_renewed : (column : List ℕ) → row ≡ output_order list.cells → column ≡ input_order (cells_of lists) j →
@@ -243,7 +244,7 @@ module _ (n j : ℕ) (lists : List Waiting) (inside : n < length lists) (within 
 
   -- what is known of the two orders
   pub pair_next : (outputs inputs : List (List ℕ)) (o now : Orders) →
-      o ≡ record { outputs = outputs; inputs = inputs } → AreOffers o × (ports o ≤ 64) → o ≡ now →
+      o ≡ record { outputs = outputs; inputs = inputs } → AreOffers o × (ports o ≤ most_ports) → o ≡ now →
       length lists ≡ ports now → AreSameWithout (pair_of lists n j) now (orders_of (cells_of lists)) →
       Next (pair_of lists n j) n j outputs inputs lists
   pair_next outputs inputs o now shown v is many same =
@@ -278,7 +279,7 @@ module _ (cells : List Queued) (j : ℕ) (left : List ℕ) (known : left ≡ wit
   output_gone none =
       search (arith, rules, without_none j (output_order cells), is_output_order cells, listed (output_order cells) j)
 
-  pub output_room : HasCellFor cells j → length (output_order cells) ≤ 64 → length left < 64
+  pub output_room : HasCellFor cells j → length (output_order cells) ≤ most_ports → length left < most_ports
   output_room has =
       let order = is_output_order cells in
       search (arith, rules, room_back, ahead_one_way, apart, outputs_rise, output_there)
@@ -305,8 +306,9 @@ module _ (lists : List (List Queued)) (differ : FirstKeysDiffer lists) (j i : �
       let key = key_at-first j lists i in
       search (arith, rules, gone, listed, order.offered)
 
-  pub input_room : (key : Key) → key_at (map (first_key j) lists) i ≡ Some key → length (input_order lists j) ≤ 64 →
-      length left < 64
+  pub input_room : (key : Key) → key_at (map (first_key j) lists) i ≡ Some key →
+      length (input_order lists j) ≤ most_ports →
+      length left < most_ports
   input_room key has =
       let order = is_input_order lists j differ in
       let back = room_back (more_urgent lists j) (urgent_one_way lists j) i left in

@@ -6,6 +6,7 @@ pub use Rattle.cq_base.proofs.Lists.{first_here, first_later, taken_none}
 pub use Rattle.cq_base.specs.Cells.{IsBefore, MoreUrgentAhead, first_for, is_for, place_for, place_of_arrival, place_of_later, with_arrival, without_first}
 pub use Rattle.cq_base.specs.{declared.cell.Queued.Queued, declared.key.Key.Key}
 pub use Rattle.cq_base.specs.Items.{Has}
+pub use Rattle.cq_base.specs.Limits.{most_ports}
 pub use Rattle.cq_list.specs.InputList.{AreWaiting, Waiting, cells_of}
 pub use Rattle.cq_prefs.specs.FirstCells.{AreOrdersOf, FirstKeysDiffer, HasCellFor, IsInputOrder, IsOutputOrder, first_key, input_order, key_at, key_before, list_of, orders_of, output_order, places_by_key, put_by, sorted_by, without_repeats}
 pub use Rattle.cq_prefs.specs.Orders.{AreOffers, IsListed, IsOffered, Orders, has_offer, inputs_of, inputs_with_offers, no_offers, outputs_of, place_of, ports, position_of}

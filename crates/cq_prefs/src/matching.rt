@@ -3,9 +3,10 @@
 //! A matching is made and read in every phase, so it takes no memory: it is plain data with a place for
 //! each of the 64 ports that a switch may have.
 ghost use Rattle.std.specs.Prelude.{◌≡◌, ◌<◌, ◌≤◌, ◌↔◌, IsTrue, length, replicate, None};
+ghost use Rattle.cq_base.specs.Limits.{most_ports};
 ghost use Rattle.cq_prefs.specs.Pairing.{ArePairs, partner_of, with_pair, without_pair, IsFreeInput, IsFreeOutput};
 
-use cq_base::Port;
+use cq_base::{MOST_PORTS, Port};
 use std::marker::Model;
 
 /// Pairs of an input and an output in which no port is twice on one side. Contracts see it as the partner of
@@ -13,7 +14,7 @@ use std::marker::Model;
 #[derive(Clone, Copy)]
 pub struct Matching {
     ports: u16,
-    partners: [Option<Port>; 64],
+    partners: [Option<Port>; MOST_PORTS],
 }
 
 impl Model for Matching {
@@ -35,19 +36,19 @@ impl Model for Matching {
 impl Matching {
     /// No pair, over so many inputs and as many outputs.
     pub fn none(ports: u16) -> Matching
-        requires { ports ≤ 64 }
+        requires { ports ≤ most_ports }
         ensures { result ≡ replicate ports None }
     {
         Matching {
             ports,
-            partners: [None; 64],
+            partners: [None; MOST_PORTS],
         }
     }
 
     /// The number of inputs, and of outputs.
     pub fn ports(&self) -> u16
         ensures value { result ≡ length self.now }
-        ensures few { length self.now ≤ 64 }
+        ensures few { length self.now ≤ most_ports }
         ensures pairs { ArePairs self.now }
     {
         self.ports

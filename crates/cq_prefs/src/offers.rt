@@ -1,5 +1,6 @@
 //! Who offers a cell to whom, and whom each port prefers.
 ghost use Rattle.std.specs.Prelude.{◌≡◌, ◌<◌, ◌≤◌, ◌↔◌, [], All, IsSome, IfSome, IfOk, None, length, replicate};
+ghost use Rattle.cq_base.specs.Limits.{most_ports};
 ghost use Rattle.cq_list.specs.InputList.{cells_of};
 ghost use Rattle.cq_prefs.specs.FirstCells.{AreOrdersOf, FirstKeysDiffer, orders_of};
 ghost use Rattle.cq_prefs.specs.Renewal.{AreSameWithout};
@@ -27,6 +28,7 @@ pub struct Offers {
 
 impl Model for Offers {
     ghost use Rattle.std.specs.Prelude.{◌≤◌, map};
+    ghost use Rattle.cq_base.specs.Limits.{most_ports};
     ghost use Rattle.cq_prefs.specs.Orders.{Orders, AreOffers, ports};
 
     ghost Value = { Orders };
@@ -35,7 +37,7 @@ impl Model for Offers {
 
     ghost invariant = { λ a.
         let o : Orders = record { outputs = a.by_input.items; inputs = a.by_output.items } in
-        AreOffers o × (ports o ≤ 64) };
+        AreOffers o × (ports o ≤ most_ports) };
 }
 
 /// What an input asks: an output, and the position of the input there.
@@ -57,7 +59,7 @@ fn no_orders(alloc: Global, ports: u16) -> Result<Vec<Preference>, NoMemory>
 impl Offers {
     /// Nothing is offered, over so many inputs and as many outputs. The error is want of memory.
     pub fn new(alloc: Global, ports: u16) -> Result<Offers, NoMemory>
-        requires { ports ≤ 64 }
+        requires { ports ≤ most_ports }
         ensures { IfOk result (λ offers. offers ≡ no_offers ports) }
     {
         Ok(Offers {
@@ -137,7 +139,7 @@ impl Offers {
     pub fn ports(&self) -> u16
         ensures value { result ≡ ports self.now }
         ensures offers { AreOffers self.now }
-        ensures few { ports self.now ≤ 64 }
+        ensures few { ports self.now ≤ most_ports }
     {
         self.by_input.len() as u16
     }
@@ -192,7 +194,7 @@ impl Offers {
     pub fn asked(&self, input: Port, place: u16) -> Ask
         requires { place < length (outputs_of self.now input) }
         ensures input { input < ports self.now }
-        ensures few { ports self.now ≤ 64 }
+        ensures few { ports self.now ≤ most_ports }
         ensures output { result.output ≡ output_at self.now input place }
         ensures position { result.position ≡ position_of self.now result.output input }
         ensures offered { IsOffered self.now input result.output }

@@ -5,6 +5,7 @@
 //! still is a cell. The first cells tell this place: no other port moves, and nothing is put in order anew.
 ghost use Rattle.std.specs.Prelude.{◌≡◌, ◌≤◌, length, nat_eq};
 ghost use Rattle.std.specs.List.{IsDistinct};
+ghost use Rattle.cq_base.specs.Limits.{most_ports};
 ghost use Rattle.cq_list.specs.InputList.{cells_of};
 ghost use Rattle.cq_prefs.specs.FirstCells.{FirstKeysDiffer, input_order, output_order};
 ghost use Rattle.cq_prefs.specs.Renewal.{without};
@@ -19,7 +20,7 @@ use cq_list::InputList;
 pub fn renew_outputs(order: &mut Preference, list: &InputList, output: Port)
     requires differ { IsDistinct nat_eq order.old }
     requires others { without output order.old ≡ without output (output_order list.now.cells) }
-    requires few { length (output_order list.now.cells) ≤ 64 }
+    requires few { length (output_order list.now.cells) ≤ most_ports }
     ensures { order.new ≡ output_order list.now.cells }
 {
     order.leave(output);
@@ -33,7 +34,7 @@ pub fn renew_outputs(order: &mut Preference, list: &InputList, output: Port)
 pub fn renew_inputs(order: &mut Preference, lists: &[InputList], output: Port, input: Port)
     requires differ { IsDistinct nat_eq order.old }
     requires others { without input order.old ≡ without input (input_order (cells_of lists.now) output) }
-    requires few { length (input_order (cells_of lists.now) output) ≤ 64 }
+    requires few { length (input_order (cells_of lists.now) output) ≤ most_ports }
     requires keys { FirstKeysDiffer (cells_of lists.now) }
     ensures { order.new ≡ input_order (cells_of lists.now) output }
 {

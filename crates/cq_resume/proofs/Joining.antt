@@ -3,7 +3,7 @@
 -- and nothing comes, and the slots behind the end add nothing. A tag fault of the run comes behind the slots that were
 -- done, for these had none. A run that goes on to an end has a first slot at which it is over, maybe one of those that
 -- were done, and the whole run ends there.
-use Rattle.cq_resume.proofs.Terms.{common_steps, rules, ◌≡◌, ℕ, zero, suc, ◌+◌, ◌-◌, ◌<◌, ◌≤◌, Bool, List, [], ◌∷◌, ◌++◌, length, take, drop, Option, refl, ◌⊎◌, inl, inr, replicate, ⊎_elim, append_assoc, length-drop, arith, cases_lt, append-nil, length-map, map-append, take-append-drop, take_all, flat_map-append, All-replicate, end_of, Cell, arriving_from, refused_in, all_counted_both, none_counted, Fabric, IsEmptyFabric, empty_fabric, marked_in, Machine, Switch, Taken, no_arrivals, TagFault, no_arrivals_refuse_none, ranked_none, arriving_length, arriving_parts, quiet_from, FabricSlot, SlotRecord, fabric_held, IsLimitedFault, LimitedFabricSlot, LimitedRecord, admissions_in, slots_in, quiet_limited_slots, idled, idled_for, quiet_slots, GoOn, IsOneRun, RunBy, StopBy, all_go_on, departures_on, transfers_both, none_come, run_with, only_limited_run, parts, run_length, arriving, empty_is, quiet_departures, quiet_figures_of_run, quiet_run, quiet_transfers_of_run, IsInputBest}
+use Rattle.cq_resume.proofs.Terms.{common_steps, rules, ◌≡◌, ℕ, zero, suc, ◌+◌, ◌-◌, ◌<◌, ◌≤◌, Bool, List, [], ◌∷◌, ◌++◌, length, take, drop, Option, refl, ◌⊎◌, inl, inr, replicate, ⊎_elim, append_assoc, length-drop, arith, cases_lt, append-nil, length-map, map-append, take-append-drop, take_all, flat_map-append, All-replicate, end_of, Cell, arriving_from, refused_in, all_counted_both, none_counted, Fabric, IsEmptyFabric, empty_fabric, marked_in, Machine, Switch, Taken, no_arrivals, TagFault, no_arrivals_refuse_none, ranked_none, arriving_length, arriving_parts, quiet_from, FabricSlot, SlotRecord, fabric_held, IsLimitedFault, LimitedFabricSlot, LimitedRecord, admissions_in, slots_in, quiet_limited_slots, idled, idled_for, quiet_slots, GoOn, IsOneRun, RunBy, StopBy, all_go_on, departures_on, transfers_both, none_come, run_with, only_limited_run, parts, run_length, arriving, empty_is, quiet_departures, quiet_figures_of_run, quiet_run, quiet_transfers_of_run, IsInputBest, most_ports}
 use Rattle.cq_ideal.specs.Admission.{Marked, marked}
 use Rattle.cq_ideal.proofs.Ends.{none_waits, nothing_left}
 use Rattle.cq_ideal.proofs.Waiting.{waiting}
@@ -155,7 +155,7 @@ module _ (w : Switch) where
   quiet_stop zero slot f rs fault x = x
   quiet_stop (suc count) slot f [] fault x =
       let none = no_arrivals_refuse_none w.limits f.marks (fabric_held f.state) in
-      let ranked = ranked_none w.machines slot 0 64 f.state.ranks in cc (rw none at x)
+      let ranked = ranked_none w.machines slot 0 most_ports f.state.ranks in cc (rw none at x)
   quiet_stop (suc count) slot f (r ∷ rs) fault x = quiet_stop count (slot + 1) x.0 rs fault x.2
 
   never_both : (from : Taken) (k : Kept) (fault : TagFault) → IsResumed w from k → IsResumedFault w from fault → ⊥

@@ -7,7 +7,7 @@
 -- slot. It is compared with the last one of its flow, for which a place is kept. And how many cells stand ahead of
 -- each in its input's list, counted on from one cell to the next. Where an input begins, none stands ahead, since the
 -- cells before it are of earlier inputs.
-use Rattle.cq_resume.proofs.Terms.{common_steps, rules, ◌≡◌, ◌≢◌, ℕ, ◌+◌, ◌-◌, ◌<◌, ◌≤◌, ◌⊎◌, ◌↔◌, Bool, true, false, List, length, map, get_or, set, replicate, Option, None, Some, refl, sym, ◌∙◌, inl, inr, arith, ltb, ◌*◌, IfSome, ◌&&◌, AllPairs, AllByRecursion, cases_eq, cases_lt, and_from, and_parts, lt-ltb, ltb-true, get_or-replicate, get_or-set_other, get_or-set_same, get_or_default, get_or_past, length-replicate, length-set, get_or_read, begins_at, FlowsStand, InOneFlow, IsNameBefore, IsNoLaterInput, Leaves, IsBefore, Queued, Name, length-append, slice_get, ne_eqb, get_or-take, SlackStands, cushion_in, thread_in, filter_more, get_or_from_slice_get, slice_get-get_or, slice_get_within, key_laws, each_pair, all_pairs}
+use Rattle.cq_resume.proofs.Terms.{common_steps, rules, ◌≡◌, ◌≢◌, ℕ, ◌+◌, ◌-◌, ◌<◌, ◌≤◌, ◌⊎◌, ◌↔◌, Bool, true, false, List, length, map, get_or, set, replicate, Option, None, Some, refl, sym, ◌∙◌, inl, inr, arith, ltb, ◌*◌, IfSome, ◌&&◌, AllPairs, AllByRecursion, cases_eq, cases_lt, and_from, and_parts, lt-ltb, ltb-true, get_or-replicate, get_or-set_other, get_or-set_same, get_or_default, get_or_past, length-replicate, length-set, get_or_read, begins_at, FlowsStand, InOneFlow, IsNameBefore, IsNoLaterInput, Leaves, IsBefore, Queued, Name, length-append, slice_get, ne_eqb, get_or-take, SlackStands, cushion_in, thread_in, filter_more, get_or_from_slice_get, slice_get-get_or, slice_get_within, key_laws, each_pair, all_pairs, most_classes}
 use Rattle.cq_resume.proofs.Chained.{PairsBelow}
 use Rattle.cq_resume.proofs.Each.{all_each}
 use Rattle.cq_resume.proofs.Cut.{none_kept}
@@ -192,12 +192,13 @@ leaves_on a b c = search (arith, rules, urgent_on)
 
 -- the number of a flow, by output and class
 abbrev pub flow_of : Name → ℕ
-flow_of n = n.queued.cell.output * 16 + n.queued.cell.class
+flow_of n = n.queued.cell.output * most_classes + n.queued.cell.class
 
 abbrev pub input_of : Name → ℕ
 input_of n = n.queued.key.input
 
-one_flow : (a b : Name) → a.queued.cell.class < 16 → b.queued.cell.class < 16 → flow_of a ≡ flow_of b →
+one_flow : (a b : Name) → a.queued.cell.class < most_classes → b.queued.cell.class < most_classes →
+    flow_of a ≡ flow_of b →
     (a.queued.cell.output ≡ b.queued.cell.output) × (a.queued.cell.class ≡ b.queued.cell.class)
 one_flow a b low high same = (omega arith, omega arith)
 
@@ -205,7 +206,7 @@ flow_number : (a b : Name) → InOneFlow a b → flow_of a ≡ flow_of b
 flow_number a b one = let output = one.output in let class = one.class in omega arith
 
 pub flows_as_lanes : (ports : ℕ) (xs : List Name) →
-    AllByRecursion (λ n. (n.queued.cell.output < ports) × (n.queued.cell.class < 16)) xs →
+    AllByRecursion (λ n. (n.queued.cell.output < ports) × (n.queued.cell.class < most_classes)) xs →
     AllPairs (InLane input_of flow_of LeavesFirst) xs ↔ FlowsStand xs
 flows_as_lanes ports xs each =
     grind (arith, common_steps, all_pairs, each_pair, InLane, all_each, one_flow, flow_number)

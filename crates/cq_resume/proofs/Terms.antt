@@ -3,6 +3,7 @@ pub use Rattle.cq_base.proofs.Library.{All, All-from_recursion, All-permutation,
 pub use Rattle.cq_base.specs.Arriving.{Arrival, arriving, arriving_at, end_of, is_at}
 pub use Rattle.cq_base.specs.Cells.{IsBefore, IsRising, is_for}
 pub use Rattle.cq_base.specs.Items.{EachPair, Has}
+pub use Rattle.cq_base.specs.Limits.{most_classes, most_ports}
 pub use Rattle.cq_base.specs.{declared.cell.Cell.Cell, declared.cell.Departure.Departure, declared.cell.Queued.Queued, declared.cell.Transfer.Transfer, declared.figures.OutputFigures.OutputFigures}
 pub use Rattle.cq_route.specs.declared.tables.Tables.{Tables}
 pub use Rattle.cq_cells.proofs.Ranges.{flat_same, range_more, set_one}

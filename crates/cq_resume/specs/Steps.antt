@@ -5,6 +5,7 @@ use Rattle.std.specs.List.{AllByRecursion}
 use Rattle.cq_base.specs.declared.cell.Queued.{Queued}
 use Rattle.cq_base.specs.declared.cell.Transfer.{Transfer}
 use Rattle.cq_base.specs.declared.setup.Setup.{Setup}
+use Rattle.cq_base.specs.Limits.{most_classes}
 use Rattle.cq_lines.specs.Transfers.{IsTransferBefore}
 use Rattle.cq_resume.specs.Finding.{BuffersStand, ListsStand, SentStand, SlackStands, StandsBelow}
 use Rattle.cq_resume.specs.declared.found.Found.{Found}
@@ -22,7 +23,8 @@ AreCellsFor setup f =
 -- and so are the names, of which the classes are no more than there may be
 abbrev pub AreNamesFor : Setup → Found → Type 0
 AreNamesFor setup f =
-    AllByRecursion (λ n. (n.queued.cell.output < length setup.kinds) × (n.queued.cell.class < 16)) f.names.items
+    AllByRecursion (λ n. (n.queued.cell.output < length setup.kinds) × (n.queued.cell.class < most_classes))
+    f.names.items
 
 -- the second clause, of found cells and of transfers
 abbrev pub AreOrdered : Found → ℕ → List Transfer → Type 0

@@ -5,6 +5,7 @@ use Rattle.std.specs.List.{AllByRecursion}
 use Rattle.cq_base.specs.declared.cell.Departure.{Departure}
 use Rattle.cq_base.specs.declared.figures.InputFigures.{InputFigures}
 use Rattle.cq_base.specs.declared.figures.OutputFigures.{OutputFigures}
+use Rattle.cq_base.specs.Limits.{most_ports}
 use Rattle.cq_resume.specs.Finding.{BuffersStand, IsNameBefore, IsNoLaterInput, SentStand}
 use Rattle.cq_resume.specs.declared.found.Found.{Found}
 use Rattle.cq_resume.specs.declared.found.Gone.{Gone}
@@ -34,7 +35,7 @@ with_departure j x d =
 
 -- the found cells stand in order, and their lists, buffers and departures can be told apart
 pub record CanTakeUp (s : State) (f : Found) : Type 0 where
-  pub few : s.head.ports ≤ 64
+  pub few : s.head.ports ≤ most_ports
   pub next : s.head.next < 2 ^ 63
   pub inputs : length s.inputs ≡ s.head.ports
   pub lists : AllPairs IsNoLaterInput f.listed.items

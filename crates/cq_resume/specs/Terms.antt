@@ -1,5 +1,6 @@
 -- The terms of this crate's clauses, each passed on from where it is defined.
 pub use Rattle.cq_base.specs.Cells.{IsBefore, IsRising}
+pub use Rattle.cq_base.specs.Limits.{most_classes, most_ports}
 pub use Rattle.cq_route.specs.Tables.{AreTables, classes_of, ports_of}
 pub use Rattle.cq_cells.specs.Traffic.{IsTraffic}
 pub use Rattle.cq_rank.specs.{Machine.machine_at, Switch.AreSized}

@@ -1,15 +1,12 @@
 //! The cells of one input, output and class: they leave in the order of arrival.
 ghost use Rattle.std.specs.Prelude.{◌≡◌, ◌↔◌, ◌<◌, ◌≤◌, AllPairs, IfOk, IfSome, IsTrue, None, length, map, replicate};
 ghost use Rattle.std.specs.List.{AllByRecursion};
-ghost use Rattle.cq_resume.specs.Terms.{FlowsStand, IsNameBefore, Leaves, begins_at};
+ghost use Rattle.cq_resume.specs.Terms.{FlowsStand, IsNameBefore, Leaves, begins_at, most_classes, most_ports};
 
 use crate::found::Name;
 use crate::order::is_before;
-use cq_base::{NoMemory, Slot};
+use cq_base::{MOST_CLASSES, NoMemory, Slot};
 use std::alloc::Global;
-
-// A flow is numbered by its output and its class, of which there are so many at most.
-const MOST_CLASSES: usize = 16;
 
 // Whether the first of two cells of a flow, which arrived before the other, leaves before it.
 fn leaves(first: &Name, other: &Name) -> bool
@@ -64,9 +61,9 @@ fn forget(last: &mut [Option<Name>])
 /// to be sent in that order. The names stand by input and then by slot of arrival.
 pub fn keep_arrival_order(alloc: Global, names: &[Name], ports: u16) -> Result<bool, NoMemory>
     requires ordered { AllPairs IsNameBefore names.now }
-    requires ports { ports ≤ 64 }
+    requires ports { ports ≤ most_ports }
     requires names { AllByRecursion (λ name. (name.queued.cell.output < ports)
-        × (name.queued.cell.class < 16)) names.now }
+        × (name.queued.cell.class < most_classes)) names.now }
     ensures { IfOk result (λ holds. IsTrue holds ↔ FlowsStand names.now) }
 {
     let flows = ports as usize * MOST_CLASSES;

@@ -1,11 +1,11 @@
 //! Whether the lines of a state stand in order.
 ghost use Rattle.std.specs.Prelude.{◌≡◌, ◌↔◌, ◌<◌, AllPairs, IfSome, IsTrue, None, length, map, replicate};
 ghost use Rattle.std.specs.List.{AllByRecursion};
-ghost use Rattle.cq_resume.specs.Terms.{IsBefore, BuffersStand, IsBufferedBefore, IsListedBefore, IsNoLaterInput, IsSentBefore, IsTimely, ListsStand, SentStand, begins_at, IsTransferBefore};
+ghost use Rattle.cq_resume.specs.Terms.{IsBefore, BuffersStand, IsBufferedBefore, IsListedBefore, IsNoLaterInput, IsSentBefore, IsTimely, ListsStand, SentStand, begins_at, most_ports, IsTransferBefore};
 
 use crate::found::{Found, Gone};
 use crate::neighbours::neighbours_hold;
-use cq_base::{Key, Queued, Slot, Transfer};
+use cq_base::{Key, MOST_PORTS, Queued, Slot, Transfer};
 
 /// Whether a cell is more urgent than another.
 pub fn is_before(queued: &Queued, other: &Queued) -> bool
@@ -41,15 +41,15 @@ pub fn begins(listed: &[Queued], at: usize) -> bool
 }
 
 // No cell was seen for any output.
-fn none_seen() -> [Option<Queued>; 64]
-    ensures { result ≡ replicate 64 None }
+fn none_seen() -> [Option<Queued>; MOST_PORTS]
+    ensures { result ≡ replicate most_ports None }
 {
-    [None; 64]
+    [None; MOST_PORTS]
 }
 
 // So again, in the same places.
-fn forget(last: &mut [Option<Queued>; 64])
-    ensures { last.new ≡ replicate 64 None }
+fn forget(last: &mut [Option<Queued>; MOST_PORTS])
+    ensures { last.new ≡ replicate most_ports None }
 {
     last.fill(None);
 }
@@ -66,7 +66,7 @@ fn may_follow(last: Option<Queued>, queued: &Queued) -> bool
 
 // Whether the cells of each list for one output stand by their keys. The lists stand by input.
 fn keys_in_order(listed: &[Queued]) -> bool
-    requires outputs { AllByRecursion (λ q. q.cell.output < 64) listed.now }
+    requires outputs { AllByRecursion (λ q. q.cell.output < most_ports) listed.now }
     requires inputs { AllPairs IsNoLaterInput listed.now }
     ensures { IsTrue result ↔ AllPairs IsListedBefore listed.now }
 {
@@ -87,7 +87,7 @@ fn keys_in_order(listed: &[Queued]) -> bool
 
 // Whether the lists stand by input, and the cells of each for one output by their keys.
 fn lists_in_order(listed: &[Queued]) -> bool
-    requires { AllByRecursion (λ q. q.cell.output < 64) listed.now }
+    requires { AllByRecursion (λ q. q.cell.output < most_ports) listed.now }
     ensures { IsTrue result ↔ ListsStand listed.now }
 {
     inputs_in_order(listed) && keys_in_order(listed)
@@ -181,7 +181,7 @@ fn transfers_in_order(moved: &[Transfer], next: Slot) -> bool
 /// Whether all lines stand in order, the cells of a list for one output by their keys, and each departure and each
 /// transfer has its time.
 pub fn in_order(found: &Found, moved: &[Transfer], next: Slot) -> bool
-    requires { AllByRecursion (λ q. q.cell.output < 64) found.now.listed.items }
+    requires { AllByRecursion (λ q. q.cell.output < most_ports) found.now.listed.items }
     ensures { IsTrue result ↔ (ListsStand found.now.listed.items × BuffersStand found.now.buffered.items
         × SentStand next found.now.sent.items × AllPairs IsTransferBefore moved.now
         × AllByRecursion (λ t. t.slot < next) moved.now) }

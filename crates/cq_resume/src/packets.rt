@@ -1,6 +1,6 @@
 //! The packets that have begun: each is named whole or not at all, and then it was refused.
 ghost use Rattle.std.specs.Prelude.{◌≡◌, ◌∷◌, ◌+◌, ◌==◌, ◌<◌, ◌≤◌, ◌^◌, [], if◌then◌else◌, AllPairs, IfNone, IfOk, IfSome, false, length, map};
-ghost use Rattle.cq_resume.specs.Terms.{CanCount, with_refused, ArePackets, IsNameBefore, PacketsStand, TalliesUp, coming, has_limit, has_name, mark_on, may_come, unnamed};
+ghost use Rattle.cq_resume.specs.Terms.{CanCount, with_refused, ArePackets, IsNameBefore, PacketsStand, TalliesUp, coming, has_limit, has_name, mark_on, may_come, unnamed, most_ports};
 
 use crate::found::{Name, is_named};
 use cq_base::{Cell, NoMemory, Port, Sequence, Slot};
@@ -100,7 +100,7 @@ pub fn tally_packets(
     limits: &[Option<u64>],
 ) -> Result<Option<Tally>, NoMemory>
     requires next { next < 2 ^ 63 }
-    requires few { length limits.now ≤ 64 }
+    requires few { length limits.now ≤ most_ports }
     requires limits { length limits.now ≡ schedule.now.ports }
     requires packets { ArePackets schedule.now.ports schedule.now.came }
     requires ordered { AllPairs IsNameBefore names.now }

@@ -1,6 +1,6 @@
 //! Whether a state is one of a switch of this shape.
 ghost use Rattle.std.specs.Prelude.{◌≡◌, ◌↔◌, ◌≤◌, IsTrue, length};
-ghost use Rattle.cq_resume.specs.Terms.{AreSized, HasShape, IsHeadOf, switch_of, machine_of, machines_of};
+ghost use Rattle.cq_resume.specs.Terms.{AreSized, HasShape, IsHeadOf, switch_of, machine_of, machines_of, most_classes};
 
 use cq_base::{ClassRow, Kind, Sequence, Setup};
 use cq_cells::Schedule;
@@ -10,7 +10,7 @@ use cq_state::State;
 
 // How many numbers the rank state of an output of this kind has.
 fn width_of(kind: Kind, classes: &[ClassRow]) -> usize
-    requires { length classes.now ≤ 16 }
+    requires { length classes.now ≤ most_classes }
     ensures { result ≡ (machine_of kind classes.now).size }
 {
     match kind {
@@ -21,7 +21,7 @@ fn width_of(kind: Kind, classes: &[ClassRow]) -> usize
 
 // Whether each rank state has as many numbers as its output's.
 fn are_sized(setup: &Setup, ranks: &[Sequence<u128>]) -> bool
-    requires few { length setup.now.classes ≤ 16 }
+    requires few { length setup.now.classes ≤ most_classes }
     requires as_many { length ranks.now ≡ length setup.now.kinds }
     ensures { IsTrue result ↔ AreSized (machines_of setup.now) ranks.now }
 {
@@ -49,7 +49,7 @@ fn has_head(state: &State, tables: &Tables, schedule: &Schedule) -> bool
 /// Whether the state, which has a rank state for each of its ports, tells of as many ports and classes as the tables,
 /// of the stamp and of as many cells as the schedule, and each rank state has as many numbers as its output's.
 pub fn has_shape(state: &State, tables: &Tables, schedule: &Schedule) -> bool
-    requires few { length tables.now.setup.classes ≤ 16 }
+    requires few { length tables.now.setup.classes ≤ most_classes }
     requires told { length state.now.ranks ≡ state.now.head.ports }
     ensures { IsTrue result ↔ HasShape (switch_of tables.now schedule.now) state.now }
 {

@@ -1,7 +1,7 @@
 //! Whether a state is sound.
 ghost use Rattle.std.specs.Prelude.{◌≡◌, ◌↔◌, ◌<◌, ◌≤◌, AllPairs, IfErr, IfOk, IsTrue, OnOk, length};
 ghost use Rattle.std.specs.List.{AllByRecursion};
-ghost use Rattle.cq_resume.specs.Terms.{IsTraffic, IsTally, AreSized, ArePackets, FlowsStand, IsFound, IsNameBefore, AreCellsFor, AreNamesFor, AreOrdered, HaveRoom, IsFirstOfTwo, StandBelow, IsFirstOf, IsSound, HasShape, switch_of, CanTakeUp, AreTables, classes_of, ports_of, machines_of, IsInRange};
+ghost use Rattle.cq_resume.specs.Terms.{IsTraffic, IsTally, AreSized, ArePackets, FlowsStand, IsFound, IsNameBefore, AreCellsFor, AreNamesFor, AreOrdered, HaveRoom, IsFirstOfTwo, StandBelow, IsFirstOf, IsSound, HasShape, switch_of, CanTakeUp, AreTables, classes_of, ports_of, machines_of, IsInRange, most_ports};
 
 use crate::StateRefusal;
 use crate::floors::are_below_floors;
@@ -18,7 +18,7 @@ use std::alloc::Global;
 
 // Refuses lines that are out of order, and then a cell of a list without slack: the second clause and the third.
 fn judge_places(found: &Found, state: &State) -> Result<(), StateRefusal>
-    requires { AllByRecursion (λ q. q.cell.output < 64) found.now.listed.items }
+    requires { AllByRecursion (λ q. q.cell.output < most_ports) found.now.listed.items }
     ensures stand { OnOk result (AreOrdered found.now state.now.head.next state.now.moved × HaveRoom found.now) }
     ensures refused { IfErr result
         (IsFirstOfTwo 2 (AreOrdered found.now state.now.head.next state.now.moved) (HaveRoom found.now)) }
@@ -52,7 +52,7 @@ fn judge_ranks(
     found: &Found,
 ) -> Result<(), StateRefusal>
     requires ordered { AllPairs IsNameBefore found.now.names.items }
-    requires ports { length setup.now.kinds ≤ 64 }
+    requires ports { length setup.now.kinds ≤ most_ports }
     requires names { AreNamesFor setup.now found.now }
     requires ranks { length state.now.ranks ≡ length setup.now.kinds }
     requires sized { AreSized (machines_of setup.now) state.now.ranks }

@@ -1,7 +1,7 @@
 //! What a sound state comes to.
 ghost use Rattle.std.specs.Prelude.{◌≡◌, ◌+◌, ◌==◌, ◌<◌, ◌≤◌, ◌^◌, AllPairs, IfOk, None, filter, length, map, replicate};
 ghost use Rattle.std.specs.List.{AllByRecursion, enumerate_from, range_with_len};
-ghost use Rattle.cq_resume.specs.Terms.{slots_of, IsTally, output_told, taken_of, BuffersStand, IsFound, IsNameBefore, IsNoLaterInput, Switch, CanTakeUp, departed, figures_at_input, longer, with_departure};
+ghost use Rattle.cq_resume.specs.Terms.{slots_of, IsTally, output_told, taken_of, BuffersStand, IsFound, IsNameBefore, IsNoLaterInput, Switch, CanTakeUp, departed, figures_at_input, longer, with_departure, most_ports};
 
 use crate::between::between;
 use crate::found::{Found, Gone, Name, names_at};
@@ -87,7 +87,7 @@ fn inputs_of(
     names: &[Name],
     seen: &[Seen],
 ) -> Result<Sequence<InputFigures>, NoMemory>
-    requires few { length seen.now ≤ 64 }
+    requires few { length seen.now ≤ most_ports }
     requires ordered { AllPairs IsNameBefore names.now }
     ensures { IfOk result (λ inputs. inputs ≡ map (λ at. figures_at_input names.now at.0 at.1)
         (enumerate_from 0 seen.now)) }

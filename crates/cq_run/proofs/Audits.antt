@@ -2,7 +2,7 @@
 -- written, so over what is left the same tables and captures are judged; the trace and the log stand there as they were
 -- written. The run with input-best matchings is a stable one, and its log is read as what it is spelt from. A yes that
 -- holds is never denied.
-use Rattle.cq_run.proofs.Terms.{rules, ◌≡◌, ◌≢◌, ◌≤◌, ◌^◌, ◌+◌, ◌∙◌, ◌++◌, ℕ, List, [], ◌∷◌, length, Option, None, Some, refl, ap, arith, sym, ◌<◌, map, IfSome, IsOkAnd, Result, Ok, IsOk, length-append, get, AllByRecursion, range_with_len, Arrival, log_of, trace_of, Departure, Transfer, short_is, traffic_is, all_flat, arrivals, arrivals_at, arrivals_of, cell_of, packets_of, start, cells, IsTraffic, IsRecorded, all_weaker, limited_not_more, LimitedRecord, slots_in, Captured, all_both, all_back, classes_of, ports_of, Tables, machines_of, openings_of, as_many_slots, sends_as_ideal, stable_limited_whole, departures_in_run, slots_ran, IsRefusalOf, ideal_departures, ran_ideal, Contents, files_in, read_or_refused, Audit, Denial, Refusal, Aim, Auditing, Denies, Meets, KeepsUp, audited, captures_out, crossed, Reader, ◌>>=◌, captures_in, found_or_missing, ideally_sent, judged, read_or_refused_for, sent_or_tag, tables_in, text_in, all_replaced, PortRow, common_steps, whole_limited_run, empty_limited, RunRefusal, IsAuditHalted, IsAuditPassed, halt_of, length-map-range_with_len, audit_is_exact, stable_log, FitsLine, trace_is_exact, IsYes, opening_fabric, IsNo, AuditRefusal, transfers_of_run, empty_list, DiffersFirst, all_stable, stable_sends, stable_slack, came_more, few_by, rows_are, length_packet, row_of, all_made}
+use Rattle.cq_run.proofs.Terms.{rules, ◌≡◌, ◌≢◌, ◌≤◌, ◌^◌, ◌+◌, ◌∙◌, ◌++◌, ℕ, List, [], ◌∷◌, length, Option, None, Some, refl, ap, arith, sym, ◌<◌, map, IfSome, IsOkAnd, Result, Ok, IsOk, length-append, get, AllByRecursion, range_with_len, Arrival, log_of, trace_of, Departure, Transfer, short_is, traffic_is, all_flat, arrivals, arrivals_at, arrivals_of, cell_of, packets_of, start, cells, IsTraffic, IsRecorded, all_weaker, limited_not_more, LimitedRecord, slots_in, Captured, all_both, all_back, classes_of, ports_of, Tables, machines_of, openings_of, as_many_slots, sends_as_ideal, stable_limited_whole, departures_in_run, slots_ran, IsRefusalOf, ideal_departures, ran_ideal, Contents, files_in, read_or_refused, Audit, Denial, Refusal, Aim, Auditing, Denies, Meets, KeepsUp, audited, captures_out, crossed, Reader, ◌>>=◌, captures_in, found_or_missing, ideally_sent, judged, read_or_refused_for, sent_or_tag, tables_in, text_in, all_replaced, PortRow, common_steps, whole_limited_run, empty_limited, RunRefusal, IsAuditHalted, IsAuditPassed, halt_of, length-map-range_with_len, audit_is_exact, stable_log, FitsLine, trace_is_exact, IsYes, opening_fabric, IsNo, AuditRefusal, transfers_of_run, empty_list, DiffersFirst, all_stable, stable_sends, stable_slack, came_more, few_by, rows_are, length_packet, row_of, all_made, longest_file}
 use Rattle.cq_audit.specs.declared.refusal.AuditRefusal.TheVariants as of_log
 use Rattle.cq_tables.specs.Check.{Refused}
 use Rattle.cq_run.specs.declared.denial.Denial.TheVariants as why
@@ -133,7 +133,7 @@ module _ (t : Tables) (captures : List (List Captured)) (rs : List LimitedRecord
     module _ (r : Reader) (config : List ℕ) (m left : Contents) (configured : tables_in config m ≡ Ok t)
         (captured : captures_in r t m ≡ Ok captures) (written : all_replaced files (Some m) ≡ Some left)
         (stays : AllByRecursion (λ w. w.0 ≢ config) files)
-        (short : AllByRecursion (λ w. length w.1 ≤ 268435456) files) where
+        (short : AllByRecursion (λ w. length w.1 ≤ longest_file) files) where
       -- a name that is none of theirs has what it had
       same_under : (name : List ℕ) → IsUnwritten t name → get left name ≡ get m name
       same_under name none =
@@ -158,11 +158,11 @@ module _ (t : Tables) (captures : List (List Captured)) (rs : List LimitedRecord
 
       trace_left : text_in why.LongTrace t.trace left ≡ Ok (trace_of sent)
       trace_left = text_is (refused.Audit why.LongTrace) t.trace (Some left) (trace_of sent)
-          (all_back (λ w. length w.1 ≤ 268435456) outputs _ short).0 stand_last.0
+          (all_back (λ w. length w.1 ≤ longest_file) outputs _ short).0 stand_last.0
 
       log_left : text_in why.LongLog t.log left ≡ Ok (log_of note)
       log_left = text_is (refused.Audit why.LongLog) t.log (Some left) (log_of note)
-          (all_back (λ w. length w.1 ≤ 268435456) outputs _ short).1.0 stand_last.1
+          (all_back (λ w. length w.1 ≤ longest_file) outputs _ short).1.0 stand_last.1
 
       ideally : ideally_sent t captures ≡ Ok sent
       ideally = ap sent_or_tag (sends_as_ideal t (arrivals t captures) rs traffic keeps.runs)

@@ -2,7 +2,7 @@
 -- the rest, is reading them all, and what ends one of these ends the whole. Where files are read ahead, reading leaves
 -- contents as they are, so the first capture is judged as if nothing had come between. Where it ends the whole, the
 -- later inputs say nothing but what the count of faults may show.
-use Rattle.cq_run.proofs.Terms.{rules, ◌≡◌, ◌<◌, ◌≤◌, ◌∙◌, ℕ, ◌+◌, List, [], ◌∷◌, ◌++◌, length, take, drop, get_or, refl, ap, sym, arith, length-take-le, ◌^◌, inl, Result, Ok, Err, Option, None, Some, IfSome, MatchOption, common_steps, take_all, take_more, Contents, Space, Closed, Captured, PortRow, Refusal, Halt, Judges, Halts, InTurn, Ahead, AnyName, Uncounted, Reader, ◌>>=◌, packets_at, captures_from, Spells, Call, Fails, Lasts, Reads, NoMemory}
+use Rattle.cq_run.proofs.Terms.{rules, ◌≡◌, ◌<◌, ◌≤◌, ◌∙◌, ℕ, ◌+◌, List, [], ◌∷◌, ◌++◌, length, take, drop, get_or, refl, ap, sym, arith, length-take-le, inl, Result, Ok, Err, Option, None, Some, IfSome, MatchOption, common_steps, take_all, take_more, Contents, Space, Closed, Captured, PortRow, Refusal, Halt, Judges, Halts, InTurn, Ahead, AnyName, Uncounted, Reader, ◌>>=◌, packets_at, captures_from, Spells, Call, Fails, Lasts, Reads, NoMemory, longest_file}
 use Rattle.cq_run.proofs.Stays.{captures_from_stay, packets_stay}
 use Rattle.cq_run.proofs.Chain.{judges_then, judges_after, judges_any, judges_both, judges_computed, judges_as, counts_of, halts_at, name_after, fails_after}
 use Rattle.cq_run.specs.declared.decoding.Decoding.{Decoding}
@@ -138,7 +138,7 @@ module _ {row : PortRow} {limit : ℕ} {old mid : Space} {begun : Option Decodin
   pub begun_is : IfSome begun IsBegun
   begun_is = search (arith, rules)
 
-  pub begun_small : limit ≤ 2 ^ 28 → IfSome begun (λ d. length (source d) ≤ 2 ^ 28)
+  pub begun_small : limit ≤ longest_file → IfSome begun (λ d. length (source d) ≤ longest_file)
   begun_small small = search (arith, rules)
 
 -- what failed since the first file was read failed since this call began, for no fault was counted before

@@ -1,6 +1,6 @@
 -- What stopping a run and taking one up come to, from what is known of the schedule of the captures: the text of the
 -- state in which the run stands, what the run keeps that goes on, and why there is none.
-use Rattle.cq_run.proofs.Terms.{◌≡◌, ◌≤◌, ◌^◌, ℕ, List, length, Departure, Transfer, Captured, classes_of, Tables, openings_of, unpacked_run, PackedFabricRun, RunRefusal, AreGiven, IsPartHalt, IsResumeHalt, IsResumedBy, halt_for_state, halt_for_text, IsPartText, IsResumedText, halt_of, Scheduled, schedule_of, Frozen, IsParted, IsRead, IsRefusal, state_of, IsResumed, Kept, Switch, switch_of, StateRefusal, parted_best, parted_slack, resumed_best, resumed_slack, resumed_counts, resumed_whole, AlwaysHasSlack, AreInputBest, CanBeTakenUp, IsPartFault, IsResumeFault, kept_of, IsTooLong, state_text, StateLong}
+use Rattle.cq_run.proofs.Terms.{◌≡◌, ◌≤◌, ℕ, List, length, Departure, Transfer, Captured, classes_of, Tables, openings_of, unpacked_run, PackedFabricRun, RunRefusal, AreGiven, IsPartHalt, IsResumeHalt, IsResumedBy, halt_for_state, halt_for_text, IsPartText, IsResumedText, halt_of, Scheduled, schedule_of, Frozen, IsParted, IsRead, IsRefusal, state_of, IsResumed, Kept, Switch, switch_of, StateRefusal, parted_best, parted_slack, resumed_best, resumed_slack, resumed_counts, resumed_whole, AlwaysHasSlack, AreInputBest, CanBeTakenUp, IsPartFault, IsResumeFault, kept_of, IsTooLong, state_text, StateLong, longest_file}
 use Rattle.cq_resume.specs.declared.refusal.StateRefusal.TheVariants as of_state
 use Rattle.cq_resume.specs.declared.taken.Taken.{Taken}
 use Rattle.cq_simulate.specs.declared.refusal.RunRefusal.TheVariants as of_run
@@ -53,7 +53,8 @@ module _ (t : Tables) (captures : List (List Captured)) where
         (tells : told ≡ state_of at.frozen at.sent at.note schedule.first_stamp (classes_of t.setup)
         (length schedule.came)) where
       -- the text of its state
-      pub part_text : (text : List ℕ) → text ≡ state_text told → length text ≤ 2 ^ 28 → IsPartText t captures slots text
+      pub part_text : (text : List ℕ) → text ≡ state_text told → length text ≤ longest_file →
+          IsPartText t captures slots text
       part_text text e short = record { at = at; parted = parted; told = rw tells at e; short = short }
 
       -- which is too long, or memory ran out

@@ -1,21 +1,21 @@
 -- What is told of a text, as the trace or the log of an audit or the state of a stopped run, from what was read under
 -- its name: its bytes, where they are not too many. The name that was asked for is the one that is to be read, or a
 -- copy of it.
-use Rattle.cq_run.proofs.Terms.{rules, ◌≡◌, ◌<◌, ◌≤◌, ◌⊎◌, ℕ, IsTrue, List, length, inl, inr, arith, codes, refl, false, Option, None, Some, IfSome, Result, Ok, Err, IsErrOf, Vec, nat_le, le-ltb, lt-ltb, get, Global, Contents, bytes_of, Refusal, Missing, Configuration, IsRefused, IsToRead, meaning_of, short_in, tables_in, first, read_or_refused, common_steps, ◌∙◌, ap, sym, slice_index, Captured, PcapRefusal, IsFaulty, Spells, Space, Halts, AnyName, Pace, Uncounted, Reader, halt_for, capture_in, read_or_faulty, Lacks, ReadRefusal, spelt_or_faulty, fault_is_read, spelt_is_read}
+use Rattle.cq_run.proofs.Terms.{rules, ◌≡◌, ◌<◌, ◌≤◌, ◌⊎◌, ℕ, IsTrue, List, length, inl, inr, arith, codes, refl, false, Option, None, Some, IfSome, Result, Ok, Err, IsErrOf, Vec, nat_le, le-ltb, lt-ltb, get, Global, Contents, bytes_of, Refusal, Missing, Configuration, IsRefused, IsToRead, meaning_of, short_in, tables_in, first, read_or_refused, common_steps, ◌∙◌, ap, sym, slice_index, Captured, PcapRefusal, IsFaulty, Spells, Space, Halts, AnyName, Pace, Uncounted, Reader, halt_for, capture_in, read_or_faulty, Lacks, ReadRefusal, spelt_or_faulty, fault_is_read, spelt_is_read, longest_file}
 use Rattle.std.specs.FinMap.{remove}
 use Rattle.cq_space.specs.declared.whole.ReadRefusal.TheVariants as whole
 use Rattle.cq_run.proofs.Stays.{get-remove_same}
 use Rattle.cq_pcap.specs.Reading.{packets_of}
 
 module _ (long : Refusal) (name : List ℕ) where
-  pub text_is : (told : Option Contents) (bytes : List ℕ) → length bytes ≤ 268435456 →
+  pub text_is : (told : Option Contents) (bytes : List ℕ) → length bytes ≤ longest_file →
       IfSome told (λ m. get m name ≡ Some bytes)
       → IfSome told (λ m. short_in long name m ≡ Ok bytes)
   text_is None bytes short at = tt
   text_is (Some m) bytes short at = search (arith, rules, le-ltb)
 
   pub text_long : (told : Option Contents) (asked : List ℕ) → IsTrue (meaning_of long).untold → asked ≡ name →
-      IfSome told (λ m. 268435456 < length (bytes_of m asked))
+      IfSome told (λ m. longest_file < length (bytes_of m asked))
       → IsRefused (short_in long name) told long
   text_long None asked untold a h = untold
   text_long (Some m) asked untold a h = search (arith, rules, lt-ltb)

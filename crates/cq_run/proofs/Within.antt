@@ -1,5 +1,5 @@
 -- The numbers of a command that words are are in their ranges.
-use Rattle.cq_run.proofs.Terms.{◌≡◌, ℕ, Bool, true, false, cond, List, [], ◌∷◌, arith, Option, None, Some, option_map, leb-true, common_steps, command_for, most_slots, with_three, with_two, Command, IsWithinRange, ◌∙◌, ap, sym, if◌then◌else◌, is_some, option_map_or, Ahead, InTurn, Pace, pace_of, number_from, form_of, with_config, as_run, run_of, streamed}
+use Rattle.cq_run.proofs.Terms.{◌≡◌, ℕ, Bool, true, false, cond, List, [], ◌∷◌, arith, Option, None, Some, option_map, leb-true, common_steps, command_for, most_slots, with_three, with_two, Command, IsWithinRange, ◌∙◌, ap, sym, if◌then◌else◌, is_some, option_map_or, Ahead, InTurn, Pace, pace_of, number_from, form_of, with_config, as_run, run_of, streamed, most_ports}
 use Rattle.std.specs.Int.{IsInRange}
 
 -- a number that a text writes is in its range
@@ -18,7 +18,7 @@ three_within : (word first second third : List ℕ) (command : Command) →
     with_three word first second third ≡ Some command → IsWithinRange command
 three_within word first second third command e =
     let slots = in_range 0 most_slots second in
-    let ports = in_range 1 64 second in
+    let ports = in_range 1 most_ports second in
     let long = in_range 1 20000 third in grind (arith, common_steps, slots, ports, long)
 
 form_within : (word : List ℕ) (values : List (List ℕ)) (command : Command) → form_of word values ≡ Some command →

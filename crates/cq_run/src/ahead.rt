@@ -5,7 +5,7 @@
 //! whatever they come to: neither what was begun nor its reader can be dropped, and only a join uses a reader up. So
 //! a way out that leaves one behind is no program.
 ghost use Rattle.std.specs.Prelude.{◌≡◌, ◌+◌, ◌≤◌, ◌<◌, ◌^◌, ◌∷◌, [], IfErr, IfOk, IfSome, MatchOption, length};
-ghost use Rattle.cq_run.specs.Terms.{Spells, AreTables, Fails, Reads, Closed, HasBegun, IsBegun, source, IsHaltFor, Halts, Judges, Ahead, InTurn, Reader, captures_from, packets_at};
+ghost use Rattle.cq_run.specs.Terms.{Spells, AreTables, Fails, Reads, Closed, HasBegun, IsBegun, source, IsHaltFor, Halts, Judges, Ahead, InTurn, Reader, captures_from, packets_at, longest_file};
 
 use crate::Halt;
 use crate::decoding::{Decoding, begin, finish};
@@ -63,7 +63,7 @@ fn begin_port<R: Threads + Wait + Copy + Send + 'static, F: Files, W: Watch + 's
     watch: &W,
 ) -> Result<Option<Decoding>, Halt>
     requires closed { (F.space files.old).mode ≡ Closed }
-    requires limit { limit ≤ 2 ^ 28 }
+    requires limit { limit ≤ longest_file }
     ensures begun { IfOk result (HasBegun row.now limit (F.space files.old) (F.space files.new)) }
     ensures halts { IfErr result (λ halt. (r : Reader) → Halts InTurn (packets_at r input limit row.now.read)
         (λ asked. Fails F.space F.may_fail F.keeps (Reads asked) files.old files.new)
@@ -90,7 +90,7 @@ fn finish_port<R: Threads + Wait>(
     input: Port,
 ) -> Result<Capture, Halt>
     requires begun { IfSome begun IsBegun }
-    requires small { IfSome begun (λ decoding. length (source decoding) ≤ 2 ^ 28) }
+    requires small { IfSome begun (λ decoding. length (source decoding) ≤ longest_file) }
     ensures spelt { IfOk result (λ packets. MatchOption begun (packets ≡ [])
         (λ decoding. Spells (source decoding) packets)) }
     ensures halts { IfErr result (λ halt. MatchOption begun ⊥ (λ decoding. IsHaltFor input (source decoding) halt)) }

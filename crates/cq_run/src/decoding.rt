@@ -1,6 +1,6 @@
 //! The decoding of one capture: by a reader in a thread of its own, or here where no thread can be had.
-ghost use Rattle.std.specs.Prelude.{◌≡◌, ◌≤◌, ◌^◌, [], IfErr, IfOk, IfSome, length};
-ghost use Rattle.cq_run.specs.Terms.{IsFaulty, fault_of, Spells, IsPairOf, SameReader, bytes_to_read, taken, items_of, IsBegun, source, IsEmptied, reader_of};
+ghost use Rattle.std.specs.Prelude.{◌≡◌, ◌≤◌, [], IfErr, IfOk, IfSome, length};
+ghost use Rattle.cq_run.specs.Terms.{IsFaulty, fault_of, Spells, IsPairOf, SameReader, bytes_to_read, taken, items_of, IsBegun, source, IsEmptied, reader_of, longest_file};
 
 use crate::running::Running;
 use cq_base::{NoMemory, Port};
@@ -31,7 +31,7 @@ pub fn begin<R: Threads + Wait + Copy + Send + 'static, W: Watch + 'static>(
     input: Port,
     watch: W,
 ) -> Result<Decoding, NoMemory>
-    requires { length bytes.items ≤ 2 ^ 28 }
+    requires { length bytes.items ≤ longest_file }
     ensures source { IfOk result (λ decoding. source decoding ≡ bytes.items) }
     ensures begun { IfOk result IsBegun }
 {
@@ -63,7 +63,7 @@ pub fn finish<R: Threads + Wait>(
     decoding: Decoding,
 ) -> Result<Capture, PcapRefusal>
     requires begun { IsBegun decoding }
-    requires small { length (source decoding) ≤ 2 ^ 28 }
+    requires small { length (source decoding) ≤ longest_file }
     ensures spelt { IfOk result (λ packets. Spells (source decoding) packets) }
     ensures faulty { IfErr result (λ refusal. IfSome (fault_of refusal) (IsFaulty (source decoding))) }
 {

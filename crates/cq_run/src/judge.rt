@@ -1,7 +1,7 @@
 //! Judging what the words name. Nothing is written here.
 ghost use Rattle.std.specs.Prelude.{◌≡◌, ℕ, ◌<◌, ◌^◌, List, ◌∷◌, [], IfErr, IfOk, IsOk, length};
 ghost use Rattle.std.specs.Int.{IsInRange};
-ghost use Rattle.cq_run.specs.Terms.{Closed, AreGiven, AreTables, ports_of, audited, state_written, IsAuditHalted, IsAuditPassed, IsPartHalt, IsPartText, soak_captures, soak_tables, Meets, Reporting, IsJudged, IsHaltOf, Ahead, InTurn, IsResumeHalt, IsResuming, IsWithinRange, IsCrossing, IsIdeal, IsPassing, ideally_sent};
+ghost use Rattle.cq_run.specs.Terms.{Closed, AreGiven, AreTables, ports_of, audited, state_written, IsAuditHalted, IsAuditPassed, IsPartHalt, IsPartText, soak_captures, soak_tables, Meets, Reporting, IsJudged, IsHaltOf, Ahead, InTurn, IsResumeHalt, IsResuming, IsWithinRange, IsCrossing, IsIdeal, IsPassing, ideally_sent, most_ports};
 
 use crate::ahead::stream_from;
 use crate::build::{
@@ -169,7 +169,7 @@ fn soak<R: Threads + Sync, G: Gate>(
     slots: u32,
     gate: &G,
 ) -> Result<Work, Halt>
-    requires ports { IsInRange 1 64 ports }
+    requires ports { IsInRange 1 most_ports ports }
     requires slots { IsInRange 1 20000 slots }
     ensures meets { IfOk result (λ plan. Meets (Reporting (soak_tables ports) (soak_captures seed ports slots)) plan) }
     ensures writes { IfOk result (λ plan. plan.writes ≡ []) }

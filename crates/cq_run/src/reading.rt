@@ -1,6 +1,6 @@
 //! Reading what a command names. Nothing is written here.
-ghost use Rattle.std.specs.Prelude.{◌≡◌, ◌≤◌, ◌^◌, ◌∷◌, ◌++◌, [], IfErr, IfOk, IsTrue, OnOk, length};
-ghost use Rattle.cq_run.specs.Terms.{AreTables, ports_of, Fails, Reads, fault_of, Closed, EndsGiven, IsGiven, IsFileOf, Halts, Judges, InTurn, Reader, meaning_of, halt_for, capture_in, captures_in, packets_at, short_in, state_in, tables_in, text_in};
+ghost use Rattle.std.specs.Prelude.{◌≡◌, ◌≤◌, ◌∷◌, ◌++◌, [], IfErr, IfOk, IsTrue, OnOk, length};
+ghost use Rattle.cq_run.specs.Terms.{AreTables, ports_of, Fails, Reads, fault_of, Closed, EndsGiven, IsGiven, IsFileOf, Halts, Judges, InTurn, Reader, meaning_of, halt_for, capture_in, captures_in, packets_at, short_in, state_in, tables_in, text_in, longest_file};
 
 use crate::{CaptureFault, Denial, Halt, Refusal, StateFault};
 use cq_base::{Name, NoMemory, Sequence};
@@ -129,7 +129,7 @@ pub fn read_file<F: Files>(
     limit: u64,
 ) -> Result<Vec<u8>, Halt>
     requires closed { (F.space files.old).mode ≡ Closed }
-    requires limit { limit ≤ 2 ^ 28 }
+    requires limit { limit ≤ longest_file }
     ensures file { IfOk result (λ bytes. IsFileOf name limit (F.space files.old).told bytes.items) }
     ensures halts { IfErr result (λ halt. (r : Reader) → Halts InTurn (capture_in r name input limit)
         (λ asked. (asked ≡ name) × Fails F.space F.may_fail F.keeps (Reads asked) files.old files.new)
@@ -165,7 +165,7 @@ pub fn read_input<F: Files>(
     limit: u64,
 ) -> Result<Capture, Halt>
     requires closed { (F.space files.old).mode ≡ Closed }
-    requires limit { limit ≤ 2 ^ 28 }
+    requires limit { limit ≤ longest_file }
     ensures judges { (r : Reader) → Judges InTurn (capture_in r name input limit)
         (λ asked. (asked ≡ name) × Fails F.space F.may_fail F.keeps (Reads asked) files.old files.new)
         (F.space files.old) (F.space files.new) result }
@@ -202,7 +202,7 @@ fn read_port<F: Files>(
     limit: u64,
 ) -> Result<Capture, Halt>
     requires closed { (F.space files.old).mode ≡ Closed }
-    requires limit { limit ≤ 2 ^ 28 }
+    requires limit { limit ≤ longest_file }
     ensures judges { (r : Reader) → Judges InTurn (packets_at r input limit row.now.read)
         (λ asked. Fails F.space F.may_fail F.keeps (Reads asked) files.old files.new)
         (F.space files.old) (F.space files.new) result }

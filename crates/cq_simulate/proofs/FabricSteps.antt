@@ -1,5 +1,5 @@
 -- What each step of the loop over the slots of the fabric asks for, where so many slots are left as are not yet over.
-use Rattle.cq_simulate.proofs.Terms.{common_steps, rules, ◌≡◌, ◌↔◌, ℕ, suc, ◌+◌, ◌-◌, ◌<◌, ◌≤◌, ◌^◌, Bool, true, false, List, [], ◌++◌, length, map, replicate, Option, Some, Err, refl, sym, ap, ◌∙◌, subst, arith, zero, ◌*◌, ◌∷◌, ⊎_elim, length-append, append_assoc, IsTrue, sum, slice_index, find, cases_lt, and_left, leb-false, ne_eqb, arrival_at, no_arrivals, Arrival, arriving, end_of, arriving_at, is_at, RoomView, Cell, Departure, TagFault, Transfer, EngineView, HaveBufferRoom, HaveListRoom, IsMadeAs, IsReadyFor, SlotDone, answer_to, its_admission, marked_fabric, HaveLeft, CanCount, AreForPorts, ranking, IsEmptyFabric, Fabric, input, LimitedFabricRun, admissions_in, LimitedRecord, IsLimitedFault, LimitedFabricSlot, slots_in, IsInputBest, Machine, class_count, counts_fit, none_counted, all_counted_both, refused_in, HasPartedTo, HasRunOn, IsReadyOn, IsReadyPart, NoneCome, StopsWithin, RanTo, WentOn, to_come, arrivals_for, arrives_found, from_here, one_if, come_from, some_one, no_more_from, for_here, come_for, no_more_to, IsQuiet, append-nil, length-map, get_or_past, map-append, take_all, take-append-le, departures_in, IdealState, quiet_figures, quiet_transfers, transfers_in, gone_in, transfers_of_run, flat_map, range_with_len, map-range_with_len_more, Queued, Figures, nothing_left, present, come_count, none_after, come_count-first, arriving_length, arriving_here, arriving_parts, one_slot_more, counted, waiting, total, total_same, Marked, arriving_from, departures_of, LimitedSent, stable_limited_slot, limited_ports_kept, same_limited_slot, only_limited_run, empty_together, Agrees, SlotRecord, fabric_held, held_for, LimitedAgrees, figures_after, proposals_in, fold-append, sum_by-cons, agrees_of, ideal_of, list_of, is_from, is_to, number_of, arriving_is, cell_listed, found, quiet_limited_slots, quiet_limited_slot, limited_lists_kept, limited_outputs_kept, all_go_on, departures_one, transfers_both, transfers_one, departures_on, hold_as_many}
+use Rattle.cq_simulate.proofs.Terms.{common_steps, rules, ◌≡◌, ◌↔◌, ℕ, suc, ◌+◌, ◌-◌, ◌<◌, ◌≤◌, ◌^◌, Bool, true, false, List, [], ◌++◌, length, map, replicate, Option, Some, Err, refl, sym, ap, ◌∙◌, subst, arith, zero, ◌*◌, ◌∷◌, ⊎_elim, length-append, append_assoc, IsTrue, sum, slice_index, find, cases_lt, and_left, leb-false, ne_eqb, arrival_at, no_arrivals, Arrival, arriving, end_of, arriving_at, is_at, RoomView, Cell, Departure, TagFault, Transfer, EngineView, HaveBufferRoom, HaveListRoom, IsMadeAs, IsReadyFor, SlotDone, answer_to, its_admission, marked_fabric, HaveLeft, CanCount, AreForPorts, ranking, IsEmptyFabric, Fabric, input, LimitedFabricRun, admissions_in, LimitedRecord, IsLimitedFault, LimitedFabricSlot, slots_in, IsInputBest, Machine, class_count, counts_fit, none_counted, all_counted_both, refused_in, HasPartedTo, HasRunOn, IsReadyOn, IsReadyPart, NoneCome, StopsWithin, RanTo, WentOn, to_come, arrivals_for, arrives_found, from_here, one_if, come_from, some_one, no_more_from, for_here, come_for, no_more_to, IsQuiet, append-nil, length-map, get_or_past, map-append, take_all, take-append-le, departures_in, IdealState, quiet_figures, quiet_transfers, transfers_in, gone_in, transfers_of_run, flat_map, range_with_len, map-range_with_len_more, Queued, Figures, nothing_left, present, come_count, none_after, come_count-first, arriving_length, arriving_here, arriving_parts, one_slot_more, counted, waiting, total, total_same, Marked, arriving_from, departures_of, LimitedSent, stable_limited_slot, limited_ports_kept, same_limited_slot, only_limited_run, empty_together, Agrees, SlotRecord, fabric_held, held_for, LimitedAgrees, figures_after, proposals_in, fold-append, sum_by-cons, agrees_of, ideal_of, list_of, is_from, is_to, number_of, arriving_is, cell_listed, found, quiet_limited_slots, quiet_limited_slot, limited_lists_kept, limited_outputs_kept, all_go_on, departures_one, transfers_both, transfers_one, departures_on, hold_as_many, most_ports}
 use Rattle.cq_engine.specs.Engine.{HasGoneOn, ports_of}
 use Rattle.cq_engine.specs.Resting.{HasRested}
 use Rattle.cq_simulate.proofs.Steps.{IsFree, few_left, fewer_come, nobody_departs, enough_are, of_admitted, come_here, fewer_left, none_come, slot_err}
@@ -20,7 +20,7 @@ find_kept s t k le (a ∷ came) =
 at_kept : (s t k : ℕ) → s ≤ t → (came : List Arrival) → arriving_at (to_come s came) t k ≡ arriving_at came t k
 at_kept s t k le came = grind (arith, common_steps, find_kept)
 
-arriving_kept : (s t : ℕ) → s ≤ t → (came : List Arrival) (inputs : ℕ) → inputs ≡ 64 →
+arriving_kept : (s t : ℕ) → s ≤ t → (came : List Arrival) (inputs : ℕ) → inputs ≡ most_ports →
     arriving (to_come s came) t ≡ arriving came t
 arriving_kept s t le came inputs are =
     arriving_is (to_come s came) t inputs are
@@ -31,7 +31,8 @@ slots_kept : (s t : ℕ) → s ≤ t → (came : List Arrival) (n : ℕ) →
     arriving_from (to_come s came) t n ≡ arriving_from came t n
 unfolding arriving_from
 slots_kept s t le came zero = refl
-slots_kept s t le came (suc n) = cc (arriving_kept s t le came 64 refl, slots_kept s (t + 1) (omega arith) came n)
+slots_kept s t le came (suc n) =
+    cc (arriving_kept s t le came most_ports refl, slots_kept s (t + 1) (omega arith) came n)
 
 found_kept : (s t k : ℕ) → s ≤ t → (came : List Arrival) → found (to_come s came) t k ≡ found came t k
 unfolding found
@@ -277,7 +278,7 @@ module _ {whole : Bool} {ms : List Machine} {came : List Arrival} {first : Engin
     {first_note : RoomView Transfer} {slot n : ℕ} {now : EngineView} {sent : RoomView Departure}
     {note : RoomView Transfer} (c : Crossing whole ms came first first_sent first_note slot (suc n) now sent note) where
   pub crossing_next : {after : EngineView} {leaving left sent_new : RoomView Departure} {note_new : RoomView Transfer}
-      {classes : ℕ} → (whole ≡ true → end_of came ≤ slot → IsEmptyFabric now.fabric → ⊥) → ports_of first ≤ 64 →
+      {classes : ℕ} → (whole ≡ true → end_of came ≤ slot → IsEmptyFabric now.fabric → ⊥) → ports_of first ≤ most_ports →
       AreForPorts (ports_of first) classes (arriving came slot) →
       Passed ms slot (arriving came slot) now after leaving left sent sent_new note note_new →
       Crossing whole ms came first first_sent first_note (slot + 1) n after sent_new note_new
@@ -372,7 +373,8 @@ quiet_gone ms slot ports ranks = nobody_departs ports slot
 
 module _ {whole : Bool} {ms : List Machine} {came : List Arrival} {first : EngineView}
     {first_sent sent : RoomView Departure} {first_note note : RoomView Transfer} (ports classes : ℕ)
-    (few : ports_of first ≤ 64) (for_ports : (t : ℕ) → AreForPorts (ports_of first) classes (arriving came t)) where
+    (few : ports_of first ≤ most_ports)
+    (for_ports : (t : ℕ) → AreForPorts (ports_of first) classes (arriving came t)) where
   pub crossing_rest : (k slot n m : ℕ) (ranks : List (List ℕ)) (marks : List Bool) (now after : EngineView) →
       m ≡ k + n → Crossing whole ms came first first_sent first_note slot m now sent note →
       ((t : ℕ) → slot ≤ t → t < slot + k → arriving came t ≡ no_arrivals) →
@@ -526,7 +528,7 @@ module _ {whole : Bool} {end : ℕ} {M : List ℕ → Machine} {came : List Arri
 
   can_refuse : CanCount (ports_of now) now.refused
   can_refuse =
-      let most : ports_of first ≤ 64 = here.ready.ports in
+      let most : ports_of first ≤ most_ports = here.ready.ports in
       let lost = refused_in (admissions_in here.crossing.records) in
       let room : CanCount (ports_of first + length lost) first.refused = search (arith, rules) in
       search (arith, rules, counts_fit lost (ports_of first) (length lost) first.refused room)

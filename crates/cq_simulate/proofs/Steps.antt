@@ -1,5 +1,5 @@
 -- What each step of the loop over the slots asks for, where so many slots are left as are not yet over.
-use Rattle.cq_simulate.proofs.Terms.{common_steps, rules, ◌≡◌, ◌↔◌, ℕ, suc, ◌+◌, ◌-◌, ◌<◌, ◌≤◌, ◌^◌, Bool, false, List, [], ◌++◌, length, map, replicate, Option, Result, Ok, Err, refl, sym, ap, ◌∙◌, subst, arith, ⊎_elim, zero, None, ◌∷◌, append_assoc, IsTrue, All, IfOk, slice_index_or, cases_lt, IfOk-weaker, Cell, Departure, Queued, TagFault, no_arrivals, Arrival, arriving, end_of, enough, traffic_of, RoomView, Machine, Marked, Admission, nothing_refused, admission, admitted, marked, refused, IdealSwitch, HasRoomFor, HaveLeft, marked_state, count_for, IdealState, departures_in, ideal_slot, departures_limited, LimitedRan, LimitedSent, limited_run, limited_slot, nothing_came, ideal_admission, ideal_held, then_limited, with_admission, CanCount, IsReady, waiting, counted, arriving_from, slots_of, none_waits, nothing_left, all_slots, arrivals_for, for_here, come_for, come_for-traffic_of, IsQuiet, come_count, arriving_parts, arriving_here, departures_of, no_departures, quiet_slots, length-replicate, append-nil, length-append, get_or-replicate, IsShort, number_of, is_to, refused_counts, with_refused, counts_fit, zero_fits, present, come_count-traffic_of, none_after, run_fault, run_step, counts_more, each_once, waiting-empty, CanHaveSlot, HasHadSlot, IsSameSwitch, slots_of-append, slots_of-departures}
+use Rattle.cq_simulate.proofs.Terms.{common_steps, rules, ◌≡◌, ◌↔◌, ℕ, suc, ◌+◌, ◌-◌, ◌<◌, ◌≤◌, ◌^◌, Bool, false, List, [], ◌++◌, length, map, replicate, Option, Result, Ok, Err, refl, sym, ap, ◌∙◌, subst, arith, ⊎_elim, zero, None, ◌∷◌, append_assoc, IsTrue, All, IfOk, slice_index_or, cases_lt, IfOk-weaker, Cell, Departure, Queued, TagFault, no_arrivals, Arrival, arriving, end_of, enough, traffic_of, RoomView, Machine, Marked, Admission, nothing_refused, admission, admitted, marked, refused, IdealSwitch, HasRoomFor, HaveLeft, marked_state, count_for, IdealState, departures_in, ideal_slot, departures_limited, LimitedRan, LimitedSent, limited_run, limited_slot, nothing_came, ideal_admission, ideal_held, then_limited, with_admission, CanCount, IsReady, waiting, counted, arriving_from, slots_of, none_waits, nothing_left, all_slots, arrivals_for, for_here, come_for, come_for-traffic_of, IsQuiet, come_count, arriving_parts, arriving_here, departures_of, no_departures, quiet_slots, length-replicate, append-nil, length-append, get_or-replicate, IsShort, number_of, is_to, refused_counts, with_refused, counts_fit, zero_fits, present, come_count-traffic_of, none_after, run_fault, run_step, counts_more, each_once, waiting-empty, CanHaveSlot, HasHadSlot, IsSameSwitch, slots_of-append, slots_of-departures, most_ports}
 use Rattle.cq_ideal.specs.Ideal.{answer_to, its_slot}
 use Rattle.cq_ideal.specs.IdealSlot.{Sent}
 use Rattle.cq_ideal.specs.Rest.{HasRested}
@@ -177,7 +177,7 @@ module _ {ms : List Machine} {came : List Arrival} {first : IdealSwitch} {first_
   slot_left more = ⊎_elim (λ some. some) (λ none. absurd (more (omega arith) (omega arith))) (cases_lt 0 n)
 
   -- no count of refused cells and packets is near its type's end
-  pub can_count : length first.fixed ≤ 64 → IsShort came → CanCount (length first.fixed) now.refused
+  pub can_count : length first.fixed ≤ most_ports → IsShort came → CanCount (length first.fixed) now.refused
   can_count ports short =
       let are = enough_are came in
       let p = length first.fixed in

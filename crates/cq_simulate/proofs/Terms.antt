@@ -5,6 +5,7 @@ pub use Rattle.cq_base.specs.Arriving.{Arrival, arriving_at, end_of, is_at}
 unfoldable pub use Rattle.cq_base.specs.Arriving.{arriving, enough, traffic_of}
 pub use Rattle.cq_base.specs.Cells.{IsBefore, is_for}
 pub use Rattle.cq_base.specs.Items.{EachPair, Has}
+pub use Rattle.cq_base.specs.Limits.{most_ports}
 pub use Rattle.cq_base.specs.{Packed.unpacked, Room.RoomView, declared.cell.Departure.Departure, declared.cell.Queued.Queued, declared.cell.TagFault.TagFault, declared.cell.Transfer.Transfer, declared.figures.Figures.Figures, declared.setup.Setup.Setup}
 pub use Rattle.cq_pcap.specs.Captured.{Captured, rows_from}
 pub use Rattle.cq_route.specs.Route.{route}

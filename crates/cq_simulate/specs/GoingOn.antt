@@ -8,6 +8,7 @@ use Rattle.cq_base.specs.Room.{RoomView}
 use Rattle.cq_base.specs.declared.cell.Departure.{Departure}
 use Rattle.cq_base.specs.declared.cell.TagFault.{TagFault}
 use Rattle.cq_base.specs.declared.cell.Transfer.{Transfer}
+use Rattle.cq_base.specs.Limits.{most_ports}
 use Rattle.cq_cells.specs.Traffic.{IsShort, IsTraffic, is_from, is_to, number_of}
 use Rattle.cq_engine.specs.Engine.{EngineView, marked_fabric, ports_of}
 use Rattle.cq_ideal.specs.Admission.{Marked}
@@ -39,7 +40,7 @@ to_come next came = filter (λ a. nat_le next a.slot) came
 pub record IsReadyOn (ms : List Machine) (came : List Arrival) (engine : EngineView) (sent : RoomView Departure)
     (note : RoomView Transfer) : Type 0 where
   pub running : engine.stopped ≡ false
-  pub ports : ports_of engine ≤ 64
+  pub ports : ports_of engine ≤ most_ports
   pub inputs : length engine.fabric.inputs ≡ ports_of engine
   pub sound : IsSoundFabric engine.next engine.fabric
   pub traffic : IsTraffic (ports_of engine) (class_count ms) came

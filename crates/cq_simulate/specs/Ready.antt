@@ -4,6 +4,7 @@ use Rattle.std.specs.Prelude.{◌≡◌, ℕ, ◌+◌, ◌<◌, ◌≤◌, List,
 use Rattle.cq_base.specs.Arriving.{Arrival}
 use Rattle.cq_base.specs.Room.{RoomView}
 use Rattle.cq_base.specs.declared.cell.Departure.{Departure}
+use Rattle.cq_base.specs.Limits.{most_ports}
 use Rattle.cq_cells.specs.Traffic.{IsShort, IsTraffic, is_to, number_of}
 use Rattle.cq_ideal.specs.Admission.{marks_down}
 use Rattle.cq_ideal.specs.Ideal.{IdealSwitch}
@@ -18,7 +19,7 @@ pub record IsReady (ms : List Machine) (came : List Arrival) (ideal : IdealSwitc
     0 where
   pub running : ideal.stopped ≡ false
   pub next : ideal.next ≡ 0
-  pub ports : length ideal.fixed ≤ 64
+  pub ports : length ideal.fixed ≤ most_ports
   pub traffic : IsTraffic (length ideal.fixed) (class_count ms) came
   pub short : IsShort came
   pub state : ideal.state ≡ empty_ideal (length ideal.fixed) ideal.state.ranks

@@ -1,6 +1,6 @@
 //! The captures of what leaves all outputs, built in one pass over the departures.
 ghost use Rattle.std.specs.Prelude.{◌≡◌, ◌≤◌, All, IfOk, OnOk, length};
-ghost use Rattle.cq_simulate.specs.Terms.{first_stamp, ArePacked, HaveLeftOf, CanBeJoined, IsEmptied, Took};
+ghost use Rattle.cq_simulate.specs.Terms.{first_stamp, most_classes, most_ports, ArePacked, HaveLeftOf, CanBeJoined, IsEmptied, Took};
 
 use crate::packets::{frame_of, original_of, stamp_of, take};
 use cq_base::{Cell, Departure, Departures, NoMemory, PackedDeparture};
@@ -70,8 +70,8 @@ fn emptied(
     classes: u16,
     rooms: &[usize],
 ) -> Result<Vec<Packing>, NoMemory>
-    requires ports { 1 ≤ ports × ports ≤ 64 }
-    requires classes { 1 ≤ classes × classes ≤ 16 }
+    requires ports { 1 ≤ ports × ports ≤ most_ports }
+    requires classes { 1 ≤ classes × classes ≤ most_classes }
     requires rooms { length rooms.now ≡ ports }
     ensures outputs { IfOk result (λ places. length places.items ≡ ports) }
     ensures each { IfOk result (λ places. All (IsEmptied ports classes) places.items) }
@@ -86,8 +86,8 @@ fn emptied(
 impl Packing {
     // No packet is open, and none has left.
     fn new(alloc: Global, inputs: u16, classes: u16, room: usize) -> Result<Packing, NoMemory>
-        requires inputs { 1 ≤ inputs × inputs ≤ 64 }
-        requires classes { 1 ≤ classes × classes ≤ 16 }
+        requires inputs { 1 ≤ inputs × inputs ≤ most_ports }
+        requires classes { 1 ≤ classes × classes ≤ most_classes }
         ensures { IfOk result (IsEmptied inputs classes) }
     {
         let joiner = Joiner::new(alloc, inputs, classes)?;

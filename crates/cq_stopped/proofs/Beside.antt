@@ -3,7 +3,7 @@
 -- were there, and those that came for it, are there still or have left, so all are keyed as the switch keys them. A
 -- phase makes no more proposals than the number of ports squared, and none where no cell waits at an input; and in each
 -- slot in which a cell waits or comes one leaves, so there are no more such slots than cells that came.
-use Rattle.cq_stopped.proofs.Terms.{arith, rules, Arrival, ◌≡◌, ℕ, zero, suc, ◌+◌, ◌⊎◌, List, [], ◌∷◌, length, None, Some, inl, inr, ⊎_elim, drop, ◌∙◌, ◌≤◌, ap, length-drop, ◌*◌, ◌-◌, fold, max, cases_lt, common_steps, length-replicate, get_or-replicate, get_or_past, length-insert, sum_by-append, sum_by-cons, AllByRecursion, flat_map, slice_get, slice_index_or, sum, arriving, Queued, present, Marked, arriving_from, CameFor, arrived_has, limited_empty_agree, after_sent, arrived, keyed, old_sound, same_slot, Sound, orders_are, SendsAlike, Fabric, IsAmong, buffer, empty_fabric, input, SlotRecord, fabric_held, LimitedRecord, slots_in, proposals_in, Transfers, HasFor, orders_of, IsStable, Partners, proposals, machine_at, opening, Switch, length_put, waiting-empty, all_wait, nothing_left, come_count-first, counted, sent_buffer, moved_has, partner_offers, sender, empty_together}
+use Rattle.cq_stopped.proofs.Terms.{arith, rules, Arrival, ◌≡◌, ℕ, zero, suc, ◌+◌, ◌⊎◌, List, [], ◌∷◌, length, None, Some, inl, inr, ⊎_elim, drop, ◌∙◌, ◌≤◌, ap, length-drop, ◌*◌, ◌-◌, fold, max, cases_lt, common_steps, length-replicate, get_or-replicate, get_or_past, length-insert, sum_by-append, sum_by-cons, AllByRecursion, flat_map, slice_get, slice_index_or, sum, arriving, Queued, present, Marked, arriving_from, CameFor, arrived_has, limited_empty_agree, after_sent, arrived, keyed, old_sound, same_slot, Sound, orders_are, SendsAlike, Fabric, IsAmong, buffer, empty_fabric, input, SlotRecord, fabric_held, LimitedRecord, slots_in, proposals_in, Transfers, HasFor, orders_of, IsStable, Partners, proposals, machine_at, opening, Switch, length_put, waiting-empty, all_wait, nothing_left, come_count-first, counted, sent_buffer, moved_has, partner_offers, sender, empty_together, most_ports}
 use Rattle.cq_ideal.proofs.FlowRun.{come_count}
 use Rattle.cq_simulate.proofs.FabricCounts.{none_proposed as simulate_none, proposals_few, shorter, square_few}
 use Rattle.cq_stopped.proofs.Ran.{IsKeyed}
@@ -131,13 +131,14 @@ module _ (w : Switch) where
         let less = (counted w.machines slot r.admission.cells k.ideal _ beside.sent).fewer in omega arith
 
     -- a phase makes no more than the number of ports squared
-    phase_few : (moment : Fabric) (m : Partners) → length w.machines ≤ 64 → length moment.inputs ≡ length w.machines →
+    phase_few : (moment : Fabric) (m : Partners) → length w.machines ≤ most_ports →
+        length moment.inputs ≡ length w.machines →
         Sound (slot + 1) moment → IsStable (orders_of moment.inputs) m → proposals (orders_of moment.inputs) m ≤ 4096
     phase_few moment m few many sound stable =
         let most = proposals_few moment m stable.matching sound.fabric in
         grind (arith, common_steps, square_few)
 
-    proposed_few : length w.machines ≤ 64 → sum (proposals_in r.of_slot) ≤ 8192
+    proposed_few : length w.machines ≤ most_ports → sum (proposals_in r.of_slot) ≤ 8192
     unfolding proposals_in
     proposed_few few =
         let first = phase_few r.of_slot.arrived r.of_slot.first few arrived_many arrived_is k.step.first_chosen in
@@ -154,13 +155,13 @@ module _ (w : Switch) where
     none_proposed none quiet = simulate_none w.machines slot r.admission.cells f.state g.state r.of_slot k.best
         (no_lists none) quiet
 
-    slot_proposed : length w.machines ≤ 64 →
+    slot_proposed : length w.machines ≤ most_ports →
         sum (proposals_in r.of_slot) + 8192 * waits g.state ≤ 8192 * (waits f.state + came)
     slot_proposed few = grind (arith, common_steps, fewer_wait, proposed_few, none_proposed, cases_lt)
 
   -- ## In a run
 
-  pub run_within : length w.machines ≤ 64 → ((j : ℕ) → KeepsLow (machine_at w.machines j)) → (slot n last : ℕ)
+  pub run_within : length w.machines ≤ most_ports → ((j : ℕ) → KeepsLow (machine_at w.machines j)) → (slot n last : ℕ)
       (f g : Marked Fabric) (rs : List LimitedRecord) → KnownRun w slot n f rs g → slot + n ≤ last →
       IsWithin slot f.state → RunsWithin w.came slot n last f rs g
   unfolding arriving_from come_count

@@ -2,7 +2,7 @@
 -- keep the laws of machines and begin in a state of their size, and its arrivals, of which there are not many. They
 -- come packet after packet at each input. A capture is a file of 2^28 bytes at most, and each packet and each cell of
 -- it takes a byte there, so that no packet's number and no cell's place in its packet comes near 2^32.
-use Rattle.cq_stopped.proofs.Terms.{common_steps, rules, ◌≡◌, ℕ, zero, suc, ◌+◌, ◌*◌, ◌<◌, ◌≤◌, ◌^◌, min, List, [], ◌∷◌, length, map, flat_map, ap, arith, length-append, fold, replicate, slice_index_or, AllByRecursion, range_with_len, length-map, Arrival, Scheduled, IsRecorded, IsTraffic, KeepsLaws, Machine, machine_at, all_both, ArePackets, IsScheduleOf, Switch, switch_of, AreTables, IsSetup, Tables, machine_of, machines_of, opening_of, openings_of, AreRecorded, of_images, FitsLine, length-map-range_with_len, ClassRow, Kind, FirstCome, Priority, Fair, Setup, came_more, few_by, length_packet, row_of, rows_are, Captured, schedule_known, all_cells, keeps_laws, kind, machine_is, right_classes, right_size}
+use Rattle.cq_stopped.proofs.Terms.{common_steps, rules, ◌≡◌, ℕ, zero, suc, ◌+◌, ◌-◌, ◌*◌, ◌<◌, ◌≤◌, ◌^◌, min, List, [], ◌∷◌, length, map, flat_map, ap, arith, length-append, fold, replicate, slice_index_or, AllByRecursion, range_with_len, length-map, Arrival, Scheduled, IsRecorded, IsTraffic, KeepsLaws, Machine, machine_at, all_both, ArePackets, IsScheduleOf, Switch, switch_of, AreTables, IsSetup, Tables, machine_of, machines_of, opening_of, openings_of, AreRecorded, of_images, FitsLine, length-map-range_with_len, ClassRow, Kind, FirstCome, Priority, Fair, Setup, came_more, few_by, length_packet, row_of, rows_are, Captured, schedule_known, all_cells, keeps_laws, kind, machine_is, right_classes, right_size, level_count, longest_file, most_classes, most_ports}
 use Rattle.cq_cells.specs.Schedule.{arrivals, arrivals_at, cell_of, first_stamp, packets_of}
 
 -- all numbers of a rank state fit 128 bits
@@ -17,9 +17,9 @@ pub record KeepsLow (m : Machine) : Type 0 where
 
 pub record IsConfigured (w : Switch) (ranks : List (List ℕ)) : Type 0 where
   pub some : 1 ≤ length w.machines
-  pub few : length w.machines ≤ 64
+  pub few : length w.machines ≤ most_ports
   pub some_classes : 1 ≤ w.classes
-  pub few_classes : w.classes ≤ 16
+  pub few_classes : w.classes ≤ most_classes
   pub first_stamp : w.first_stamp < 2 ^ 63
   pub traffic : IsTraffic (length w.machines) w.classes w.came
   pub packets : ArePackets (length w.machines) w.came
@@ -27,7 +27,7 @@ pub record IsConfigured (w : Switch) (ranks : List (List ℕ)) : Type 0 where
   pub few_cells : length w.came ≤ 2 ^ 34
   pub laws : (j : ℕ) → j < length w.machines → KeepsLaws (machine_at w.machines j)
   pub same : (j : ℕ) → j < length w.machines → (machine_at w.machines j).classes ≡ w.classes
-  pub level : (j c : ℕ) → j < length w.machines → c < w.classes → (machine_at w.machines j).level c ≤ 15
+  pub level : (j c : ℕ) → j < length w.machines → c < w.classes → (machine_at w.machines j).level c ≤ level_count - 1
   pub low : (j : ℕ) → KeepsLow (machine_at w.machines j)
   pub small : (j : ℕ) → j < length w.machines → (machine_at w.machines j).size ≤ 32
   pub openings : length ranks ≡ length w.machines
@@ -57,22 +57,23 @@ machines_low (k ∷ kinds) rows zero = machine_low k rows
 machines_low (k ∷ kinds) rows (suc j) = machines_low kinds rows j
 
 module _ (setup : Setup) (j : ℕ) (inside : j < length setup.kinds) where
-  small_size : length setup.classes ≤ 16 → (machine_at (machines_of setup) j).size ≤ 32
+  small_size : length setup.classes ≤ most_classes → (machine_at (machines_of setup) j).size ≤ 32
   small_size few = search (arith, rules, kind, machine_is)
 
-  low_level : (c : ℕ) → c < length setup.classes → IsSetup setup → (machine_at (machines_of setup) j).level c ≤ 15
+  low_level : (c : ℕ) → c < length setup.classes → IsSetup setup →
+      (machine_at (machines_of setup) j).level c ≤ level_count - 1
   low_level c known is = search (arith, rules, machine_is, kind)
 
 -- ## The captures
 
 module _ (t : Tables) (captures : List (List Captured)) where
   lines_short : (a n : ℕ) → 1 ≤ t.cell_bytes → ((i : ℕ) → i < a + n → IsRecorded (packets_of captures i)) →
-      length (flat_map (arrivals_at t captures) (range_with_len a n)) ≤ n * 2 ^ 28
+      length (flat_map (arrivals_at t captures) (range_with_len a n)) ≤ n * longest_file
   unfolding arrivals_at
   lines_short a zero some each = omega arith
   lines_short a (suc n) some each = search (rules, few_by, flat_map, length-append, lines_short (a + 1) n some)
 
-  all_short : AreTables t → length captures ≤ 64 → ((i : ℕ) → i < length captures →
+  all_short : AreTables t → length captures ≤ most_ports → ((i : ℕ) → i < length captures →
       IsRecorded (packets_of captures i)) →
       length (arrivals t captures) ≤ 2 ^ 34
   unfolding arrivals
@@ -121,7 +122,7 @@ configured t s made tables recorded =
     let setup = t.setup in
     let many = length-map setup.kinds (λ (k : Kind). machine_of k setup.classes) in
     let known = schedule_known t s tables made in
-    let few : length made.captures ≤ 64 = omega arith in
+    let few : length made.captures ≤ most_ports = omega arith in
     let stamp : s.first_stamp < 2 ^ 63 = rw made.schedule (first_low made.captures recorded) in
     let names = small_names t made.captures (omega arith) recorded in
     let short = all_short t made.captures tables few recorded in

@@ -5,6 +5,7 @@ pub use Rattle.cq_base.specs.Arriving.{Arrival, arriving_at}
 unfoldable pub use Rattle.cq_base.specs.Arriving.{arriving}
 pub use Rattle.cq_base.specs.Cells.{IsBefore, is_for, put}
 pub use Rattle.cq_base.specs.Items.{EachPair, Has}
+pub use Rattle.cq_base.specs.Limits.{level_count, longest_file, most_classes, most_ports}
 pub use Rattle.cq_route.specs.Tables.{AreTables, IsSetup, ports_of}
 pub use Rattle.cq_route.specs.declared.tables.Tables.{Tables}
 pub use Rattle.cq_cells.specs.Scheduled.{Scheduled}

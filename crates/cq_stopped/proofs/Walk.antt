@@ -4,7 +4,7 @@
 -- walk over the arrivals that compares each with the mark before it ends, with the mark of the run: each packet is
 -- named whole or not at all, and the mark is that of the packet that began last. And what was refused slot by slot is,
 -- counted by any test, what is not named input by input.
-use Rattle.cq_stopped.proofs.Terms.{rules, ◌≡◌, ℕ, zero, suc, ◌+◌, ◌<◌, ◌≤◌, eqb, Bool, true, false, List, [], ◌∷◌, length, Option, None, Some, refl, ap, ◌∙◌, arith, ◌⊎◌, length-append, map, and_parts, and_right, cases_Bool, cases_lt, eq-eqb, eqb-true, le-ltb, lt-leb, cases_eq, ne_eqb, common_steps, get_or-map, get_or-replicate, length-map, length-replicate, map-append, All-from_recursion, filter-append, filter_agree, get_or-map-range_with_len, unwrap_or-slice_get, AllByRecursion, cons_option, range_with_len, filter, is_some, not, All, flat_map, arrival_at, Arrival, arriving, arriving_at, Cell, Queued, is_from, admitted_at, marks_kept, Marked, admission, held_after, mark_after, mark_at, marks_after, unless, refused, arriving_from, cells_refused, packets_refused, refused_counts, refused_in, with_refused, fabric_judged, Fabric, fabric_held, LimitedRecord, admissions_in, all_both, all_weaker, all_from_has, found_at, is_refused, marks_told, refused_arrivals, ComeBehind, IsLine, coming, has_limit, mark_on, ArePackets, IsWholePacket, has_name, is_left_out, left_out, unnamed, opening, Runs, AllNamed, AreWholePackets, NoneNamed, Switch, HasLimit, is_named, key_of, named_in, packet_before, Named, State, flat_same, ArrivesIn, refused_here, where_up, Refused, is_between, one_comes, mapped_alike, whole, all_marks, all_stand, cells_in, Name, filter_none}
+use Rattle.cq_stopped.proofs.Terms.{rules, ◌≡◌, ℕ, zero, suc, ◌+◌, ◌<◌, ◌≤◌, eqb, Bool, true, false, List, [], ◌∷◌, length, Option, None, Some, refl, ap, ◌∙◌, arith, ◌⊎◌, length-append, map, and_parts, and_right, cases_Bool, cases_lt, eq-eqb, eqb-true, le-ltb, lt-leb, cases_eq, ne_eqb, common_steps, get_or-map, get_or-replicate, length-map, length-replicate, map-append, All-from_recursion, filter-append, filter_agree, get_or-map-range_with_len, unwrap_or-slice_get, AllByRecursion, cons_option, range_with_len, filter, is_some, not, All, flat_map, arrival_at, Arrival, arriving, arriving_at, Cell, Queued, is_from, admitted_at, marks_kept, Marked, admission, held_after, mark_after, mark_at, marks_after, unless, refused, arriving_from, cells_refused, packets_refused, refused_counts, refused_in, with_refused, fabric_judged, Fabric, fabric_held, LimitedRecord, admissions_in, all_both, all_weaker, all_from_has, found_at, is_refused, marks_told, refused_arrivals, ComeBehind, IsLine, coming, has_limit, mark_on, ArePackets, IsWholePacket, has_name, is_left_out, left_out, unnamed, opening, Runs, AllNamed, AreWholePackets, NoneNamed, Switch, HasLimit, is_named, key_of, named_in, packet_before, Named, State, flat_same, ArrivesIn, refused_here, where_up, Refused, is_between, one_comes, mapped_alike, whole, all_marks, all_stand, cells_in, Name, filter_none, most_ports}
 use Rattle.cq_ideal.proofs.Standing.{StandAt, of_input, refused_are as refused_of_input, stand_in}
 use Rattle.cq_resume.proofs.Adding.{Tallied, left_before, mark_at as walk_mark, tallied_counts}
 use Rattle.cq_stopped.proofs.Ran.{came_in, came_of}
@@ -88,7 +88,8 @@ pub record Walks (w : Switch) (i : ℕ) (named : Arrival → Bool) (end slot : �
   pub ends : mark_on named (has_limit w.limits) mark (coming i slot end w.came) ≡ Some last
   pub lost_are : lost ≡ cells_in (filter (λ a. not (named a)) (coming i slot end w.came))
 
-module _ (w : Switch) (i : ℕ) (few : i < 64) (whole : IsLine (filter (is_from i) w.came)) (named : Arrival → Bool)
+module _ (w : Switch) (i : ℕ) (few : i < most_ports) (whole : IsLine (filter (is_from i) w.came))
+    (named : Arrival → Bool)
     (cs : List (List (Option Queued))) (end : ℕ)
     (named_is : (a : Arrival) → named a ≡ is_some (came_in cs a.slot a.cell.id.input)) where
   arrival_is : (slot : ℕ) → arrival_at (arriving w.came slot) i ≡ arriving_at w.came slot i
@@ -96,7 +97,7 @@ module _ (w : Switch) (i : ℕ) (few : i < 64) (whole : IsLine (filter (is_from 
   arrival_is slot =
       let none = None in
       unwrap_or-slice_get (arriving w.came slot) i none
-      ∙ get_or-map-range_with_len (arriving_at w.came slot) 0 64 i i none few (omega arith)
+      ∙ get_or-map-range_with_len (arriving_at w.came slot) 0 most_ports i i none few (omega arith)
 
   module _ (slot : ℕ) (f g : Marked Fabric) (r : LimitedRecord) (many : i < length f.marks)
       (admits : r.admission ≡ admission w.limits (fabric_held f.state) f.marks (arriving w.came slot))
@@ -237,7 +238,7 @@ has_as_name (c ∷ names) a = grind (arith, common_steps, has_as_name names a)
 -- ## Together
 
 module _ (w : Switch) (ranks : List (List ℕ)) (st : State) (rs : List LimitedRecord) (g : Marked Fabric)
-    (few : length w.machines ≤ 64) (are : ArePackets (length w.machines) w.came)
+    (few : length w.machines ≤ most_ports) (are : ArePackets (length w.machines) w.came)
     (runs : Runs w 0 (arriving_from w.came 0 st.head.next) (opening w ranks) rs g)
     (named_is : (a : Arrival) → is_named (named_in st) a ≡ is_some (came_in (came_of rs) a.slot a.cell.id.input)) where
   abbrev ports : ℕ

@@ -1,6 +1,6 @@
 -- What arrives in a slot is for the ports and of the classes, and each cell comes at its own input. It is found among
 -- all cells that come, and what holds of each of these holds of it.
-use Rattle.cq_traffic.proofs.Terms.{common_steps, ◌≡◌, ℕ, zero, suc, ◌+◌, ◌<◌, List, map, Some, None, arith, get_or, Option, sym, ◌∙◌, ⊎_elim, subst, AllByRecursion, range_with_len, cases_lt, get_or_past, get_or-map-range_with_len, length-map-range_with_len, unwrap_or-slice_get, Cell, arrival_at, Arrival, arriving, arriving_at, IsInRange, IsTraffic, arriving_from, cell_listed, found, all_found, arriving_is, all_weaker}
+use Rattle.cq_traffic.proofs.Terms.{common_steps, ◌≡◌, ℕ, zero, suc, ◌+◌, ◌<◌, List, map, Some, None, arith, get_or, Option, sym, ◌∙◌, ⊎_elim, subst, AllByRecursion, range_with_len, cases_lt, get_or_past, get_or-map-range_with_len, length-map-range_with_len, unwrap_or-slice_get, Cell, arrival_at, Arrival, arriving, arriving_at, IsInRange, IsTraffic, arriving_from, cell_listed, found, all_found, arriving_is, all_weaker, most_ports}
 use Rattle.cq_ideal.specs.Ranking.{AreForPorts}
 
 -- what is known of the cells that arrive
@@ -22,7 +22,7 @@ arriving_fits ports classes came t k cell all is = one_found (Fits ports classes
     record { input = subst (λ (i : ℕ). i < ports) same r.input; output = r.output; class = r.class }) came
     all)) is
 
-pub place_of : (came : List Arrival) (t input inputs : ℕ) (cell : Cell) → inputs ≡ 64 →
+pub place_of : (came : List Arrival) (t input inputs : ℕ) (cell : Cell) → inputs ≡ most_ports →
     arrival_at (arriving came t) input ≡ Some cell → arriving_at came t input ≡ Some cell
 place_of came t input inputs cell are at =
     let here : get_or (map (arriving_at came t) (range_with_len 0 inputs)) input None ≡ Some cell =

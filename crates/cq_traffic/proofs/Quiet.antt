@@ -1,6 +1,6 @@
 -- Stretches of slots in which no cell arrives. No cell comes before the next arrival, so up to it there is nothing that
 -- comes at any input.
-use Rattle.cq_traffic.proofs.Terms.{rules, ◌≡◌, ℕ, zero, suc, ◌+◌, ◌<◌, ◌≤◌, List, [], ◌∷◌, map, replicate, Option, Some, None, refl, ◌∙◌, arith, min, unwrap_or, AllByRecursion, range_with_len, cases_lt, ne_eqb, no_arrivals, Arrival, arriving, arriving_at, end_of, arriving_is, arriving_from, common_steps, all_weaker}
+use Rattle.cq_traffic.proofs.Terms.{rules, ◌≡◌, ℕ, zero, suc, ◌+◌, ◌<◌, ◌≤◌, List, [], ◌∷◌, map, replicate, Option, Some, None, refl, ◌∙◌, arith, min, unwrap_or, AllByRecursion, range_with_len, cases_lt, ne_eqb, no_arrivals, Arrival, arriving, arriving_at, end_of, arriving_is, arriving_from, common_steps, all_weaker, most_ports}
 use Rattle.cq_cells.specs.NextArrival.{ArrivesIn, IsNextArrival}
 use Rattle.cq_traffic.specs.Stretch.{IsQuiet, IsQuietUntil}
 
@@ -15,7 +15,7 @@ none_at : (came : List Arrival) (t : ℕ) → AllByRecursion (λ a. a.slot ≡ t
 none_at came t all a zero = refl
 none_at came t all a (suc n) = λ k. not_at came t a all k ∷ none_at came t all (a + 1) n k
 
-none_arrive : (came : List Arrival) (t inputs : ℕ) → inputs ≡ 64 → AllByRecursion (λ a. a.slot ≡ t → ⊥) came →
+none_arrive : (came : List Arrival) (t inputs : ℕ) → inputs ≡ most_ports → AllByRecursion (λ a. a.slot ≡ t → ⊥) came →
     arriving came t ≡ replicate inputs None
 none_arrive came t inputs are all = arriving_is came t inputs are ∙ none_at came t all 0 inputs
 
@@ -46,9 +46,9 @@ until_next came slot (Some next) is = record {
 -- up to a slot that is no later than the next arrival none arrives
 pub none_up_to : (came : List Arrival) (slot n : ℕ) (next : Option ℕ) → IsNextArrival came slot next →
     n ≤ unwrap_or next n → (t : ℕ) → slot ≤ t → t < n → arriving came t ≡ no_arrivals
-none_up_to came slot n None all le t from to = none_arrive came t 64 refl
+none_up_to came slot n None all le t from to = none_arrive came t most_ports refl
     (all_weaker (λ (a : Arrival). a.slot < slot) (λ (a : Arrival). a.slot ≡ t → ⊥) (λ a had at. omega arith) came all)
-none_up_to came slot n (Some next) is le t from to = none_arrive came t 64 refl (all_weaker
+none_up_to came slot n (Some next) is le t from to = none_arrive came t most_ports refl (all_weaker
     (λ (a : Arrival). slot ≤ a.slot → next ≤ a.slot) (λ (a : Arrival). a.slot ≡ t → ⊥)
     (λ a had at. let later = had (omega arith) in omega arith) came is.none_before)
 

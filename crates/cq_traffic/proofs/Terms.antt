@@ -3,6 +3,7 @@ pub use Rattle.cq_base.proofs.Library.{AllByRecursion, Bool, List, None, Option,
 pub use Rattle.cq_base.specs.Arrivals.{arrival_at, no_arrivals}
 pub use Rattle.cq_base.specs.Arriving.{Arrival, arriving, arriving_at, end_of, enough}
 unfoldable pub use Rattle.cq_base.specs.Arriving.{traffic_of}
+pub use Rattle.cq_base.specs.Limits.{most_ports}
 pub use Rattle.cq_base.specs.declared.cell.Cell.{Cell}
 pub use Rattle.cq_cells.specs.Traffic.{IsInRange, IsTraffic, is_from, is_to, number_of}
 pub use Rattle.cq_ideal.proofs.FlowFound.{all_found, arriving_is, cell_listed, found_here, found_none, other_input, other_slot}

@@ -1,5 +1,6 @@
 //! Cells that wait, how they come into a list, and lists to which some have come.
 ghost use Rattle.std.specs.Prelude.{◌≡◌, ◌<◌, ◌≤◌, ◌^◌, All, IfOk, length};
+ghost use Rattle.cq_base.specs.Limits.{most_ports};
 ghost use Rattle.cq_trial_kit.specs.Arriving.{IsNewest, HasArrived};
 
 use cq_base::{Cell, CellId, Key, NoMemory, Port, Queued};
@@ -51,7 +52,7 @@ pub fn list_of(
     outputs: u16,
     cells: &[(Port, u128)],
 ) -> Result<InputList, NoMemory>
-    requires few { outputs ≤ 64 }
+    requires few { outputs ≤ most_ports }
     requires count { length cells.now < 2 ^ 32 }
     requires cells { All (λ cell. cell.0 < outputs) cells.now }
     ensures outputs { IfOk result (λ list. list.outputs ≡ outputs) }

@@ -2,7 +2,7 @@
 -- changed in the pool changes at its one place in the order and nowhere else; a block that comes in under a number that
 -- was free or is new stands nowhere in the order, so that the blocks there stay; and so do the others where the first
 -- one becomes free.
-use Rattle.cq_urgency.proofs.Terms.{common_steps, rules, ◌≡◌, ◌≢◌, ℕ, zero, suc, ◌+◌, ◌-◌, ◌<◌, ◌≤◌, Bool, true, false, List, [], ◌∷◌, ◌++◌, length, map, get_or, set, take, drop, refl, sym, ap, ◌∙◌, arith, Some, length-set, length-take, length-drop, get_or-set_same, get_or-set_other, get_or-drop, ◌==◌, insert, remove, slice_get, sum_by, cases_Bool, cases_eq, cases_lt, ltb-true, lt-ltb, eq-eqb, ne_eqb, cond-true, cond-false, take_rest, take_more, take_all, drop_more, set-set, length_push, length-map, map-set, take-map, get_or-map, get_or_past, get_or_read, length-insert, insert_end, sum_by-cons, sum_by_push, sum_by-insert, sum_by-take-drop, get_or-le-sum_by, slice_get_within, get_or_from_slice_get, Queued, BlocksView, block_at, cells_in_all, halved, without_first, in_order, bit, times, has, parted, ArePlaced, ComesIn, map-insert}
+use Rattle.cq_urgency.proofs.Terms.{common_steps, rules, ◌≡◌, ◌≢◌, ℕ, zero, suc, ◌+◌, ◌-◌, ◌<◌, ◌≤◌, Bool, true, false, List, [], ◌∷◌, ◌++◌, length, map, get_or, set, take, drop, refl, sym, ap, ◌∙◌, arith, Some, length-set, length-take, length-drop, get_or-set_same, get_or-set_other, get_or-drop, ◌==◌, insert, remove, slice_get, sum_by, cases_Bool, cases_eq, cases_lt, ltb-true, lt-ltb, eq-eqb, ne_eqb, cond-true, cond-false, take_rest, take_more, take_all, drop_more, set-set, length_push, length-map, map-set, take-map, get_or-map, get_or_past, get_or_read, length-insert, insert_end, sum_by-cons, sum_by_push, sum_by-insert, sum_by-take-drop, get_or-le-sum_by, slice_get_within, get_or_from_slice_get, Queued, BlocksView, block_at, cells_in_all, halved, without_first, in_order, bit, times, has, parted, ArePlaced, ComesIn, map-insert, most_cells}
 
 -- ## How often a number stands in a list
 
@@ -168,7 +168,7 @@ started pool pool' (x ∷ xs) counts free free' block number w q one = absurd (l
 -- a full block split
 pub split : {pool : List (List Queued)} {order counts free : List ℕ} {blocks : List (List Queued)}
     (w : Kept pool order counts free blocks) (i : ℕ) {number other : ℕ} {pool' : List (List Queued)} {free' : List ℕ} →
-    i < length blocks → number ≡ get_or order i number → length (block_at blocks i) ≡ 64 →
+    i < length blocks → number ≡ get_or order i number → length (block_at blocks i) ≡ most_cells →
     ComesIn (set pool number (take 32 (block_at pool number))) free pool' free' (drop 32 (block_at pool number)) other →
     Kept pool' (insert order (i + 1) other) (insert (set counts i 32) (i + 1) 32) free' (halved blocks i)
 split {pool = pool} w i {number = number} inside is full q =
@@ -204,7 +204,7 @@ module _ (pool pool' : List (List Queued)) (free free' : List ℕ) (block : List
 
 -- where so many cells of the upper half of one block are in the other
 module _ (pool pool' : List (List Queued)) (from to place : ℕ) (inside : from < length pool) (there : to < length pool)
-    (apart : to ≢ from) (full : length (block_at pool from) ≡ 64)
+    (apart : to ≢ from) (full : length (block_at pool from) ≡ most_cells)
     (is : pool' ≡ set pool to (take place (drop 32 (block_at pool from)))) where
   pub read_from : (read : List Queued) → read ≡ get_or pool' from read → read ≡ block_at pool from
   read_from read e = search (rules, length-set, get_or_read, get_or-set_other)

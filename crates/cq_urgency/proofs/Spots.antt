@@ -5,7 +5,7 @@
 --
 -- A full block that is split keeps each place: in its front half, or in its back half behind 32 cells more.
 use Rattle.cq_urgency.specs.declared.blocks.Spot.{Spot}
-use Rattle.cq_urgency.proofs.Terms.{⊎_elim, cases_lt, rules, ◌≡◌, ℕ, zero, suc, ◌+◌, ◌<◌, ◌≤◌, true, false, List, [], ◌∷◌, ◌++◌, length, take, drop, Some, ap, length-append, length-set, length-take, length-drop, get_or-set_same, arith, sym, subst, common_steps, slice_get, AllByRecursion, cases_Bool, take-append-le, take-take, take-set, length-insert, get_or-insert_below, get_or-insert_at, sum_by_more, Key, Queued, is_before, IsBefore, IsRising, cushion, key_laws, all_at, flattened, block_at, halved, AreFilled, AreBegun, IsSpot, starts_before, all_weaker, all_front, all_back}
+use Rattle.cq_urgency.proofs.Terms.{⊎_elim, cases_lt, rules, ◌≡◌, ℕ, zero, suc, ◌+◌, ◌<◌, ◌≤◌, true, false, List, [], ◌∷◌, ◌++◌, length, take, drop, Some, ap, length-append, length-set, length-take, length-drop, get_or-set_same, arith, sym, subst, common_steps, slice_get, AllByRecursion, cases_Bool, take-append-le, take-take, take-set, length-insert, get_or-insert_below, get_or-insert_at, sum_by_more, Key, Queued, is_before, IsBefore, IsRising, cushion, key_laws, all_at, flattened, block_at, halved, AreFilled, AreBegun, IsSpot, starts_before, all_weaker, all_front, all_back, most_cells}
 use Rattle.cq_urgency.proofs.Flattened.{length-flattened}
 use Rattle.cq_urgency.proofs.Halving.{cushion_all, cushion_none, cushion_le, cushion-append}
 
@@ -112,7 +112,7 @@ module _ (key : Key) (blocks : List (List Queued)) (r : IsRising (flattened bloc
 -- ## The spot where a block was split
 
 module _ (blocks : List (List Queued)) (ahead i o : ℕ) (spot : IsSpot blocks ahead i o)
-    (full : length (block_at blocks i) ≡ 64) where
+    (full : length (block_at blocks i) ≡ most_cells) where
   pub longer : length (halved blocks i) ≡ length blocks + 1
   longer = grind (arith, common_steps, length-set, length-insert)
 
@@ -138,11 +138,11 @@ module _ (blocks : List (List Queued)) (ahead i o : ℕ) (spot : IsSpot blocks a
   in_back_half p late = grind (arith, common_steps, longer, back_length, sum_by_more, front_length, ahead_same)
 
 pub spot_halved : (blocks : List (List Queued)) (ahead : ℕ) (was now : Spot) →
-    IsSpot blocks ahead was.block was.within → length (block_at blocks was.block) ≡ 64 →
+    IsSpot blocks ahead was.block was.within → length (block_at blocks was.block) ≡ most_cells →
     (was.within ≤ 32 → now ≡ was) →
     (32 < was.within → (now.block ≡ was.block + 1) × (now.within + 32 ≡ was.within)) →
     IsSpot (halved blocks was.block) ahead now.block now.within
-    × (length (block_at (halved blocks was.block) now.block) < 64)
+    × (length (block_at (halved blocks was.block) now.block) < most_cells)
 spot_halved blocks ahead was now spot full front back = ⊎_elim
     (λ late. rw (back late).0 (
       in_back_half blocks ahead was.block was.within spot full now.within (back late).1,

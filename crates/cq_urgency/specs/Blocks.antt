@@ -3,10 +3,14 @@ use Rattle.std.specs.Prelude.{◌≡◌, ◌≢◌, ℕ, ◌+◌, ◌<◌, ◌�
 use Rattle.std.specs.List.{sum_by}
 use Rattle.cq_base.specs.declared.cell.Queued.{Queued}
 
+-- the most cells of a block
+abbrev pub most_cells : ℕ
+most_cells = 64
+
 -- so many cells of an array of 64, from its head on
 pub record IsPiece (cells : List Queued) (head len : ℕ) : Type 0 where
-  pub inside : head + len ≤ 64
-  pub each : length cells ≡ 64
+  pub inside : head + len ≤ most_cells
+  pub each : length cells ≡ most_cells
 
 -- the cells, block after block
 abbrev pub flattened : List (List Queued) → List Queued

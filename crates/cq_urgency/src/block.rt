@@ -1,10 +1,13 @@
 //! A few cells that wait next to each other.
 ghost use Rattle.std.specs.Prelude.{◌≡◌, ◌+◌, ◌-◌, ◌<◌, ◌≤◌, [], ◌∷◌, Some, length, replicate, take, drop, insert, slice_get};
 ghost use Rattle.cq_base.specs.Cells.{IsRising, cushion};
-ghost use Rattle.cq_urgency.specs.Blocks.{IsPiece};
+ghost use Rattle.cq_urgency.specs.Blocks.{IsPiece, most_cells};
 
 use cq_base::{Key, Queued};
 use std::marker::Model;
+
+/// The most cells of a block.
+pub const MOST_CELLS: usize = 64;
 
 /// At most 64 cells in order. Contracts see the cells.
 ///
@@ -12,7 +15,7 @@ use std::marker::Model;
 /// head, and no cell is moved.
 #[derive(Drop)]
 pub struct Block {
-    cells: [Queued; 64],
+    cells: [Queued; MOST_CELLS],
     head: usize,
     len: usize,
 }
@@ -39,20 +42,20 @@ fn push_on(cells: &mut [Queued], queued: Queued)
 }
 
 // The cells from a place on move to the front of the array.
-fn move_front(cells: &mut [Queued; 64], head: usize)
-    requires inside { head ≤ 64 }
-    requires each { length cells.old ≡ 64 }
-    ensures each { length cells.new ≡ 64 }
-    ensures front { take (64 - head) cells.new ≡ drop head cells.old }
+fn move_front(cells: &mut [Queued; MOST_CELLS], head: usize)
+    requires inside { head ≤ most_cells }
+    requires each { length cells.old ≡ most_cells }
+    ensures each { length cells.new ≡ most_cells }
+    ensures front { take (most_cells - head) cells.new ≡ drop head cells.old }
 {
-    cells.copy_within(head..64, 0);
+    cells.copy_within(head..MOST_CELLS, 0);
 }
 
 // A cell goes into the piece of so many cells from the head on, and the answer is where the piece begins now. The
 // cells behind it move. Where the array ends behind the piece, all of it moves to the front first, once for all cells
 // that find room behind it then.
 fn put_inside(
-    cells: &mut [Queued; 64],
+    cells: &mut [Queued; MOST_CELLS],
     head: usize,
     len: usize,
     place: usize,
@@ -60,12 +63,12 @@ fn put_inside(
 ) -> usize
     requires inside { place ≤ len }
     requires piece { IsPiece cells.old head len }
-    requires room { len < 64 }
+    requires room { len < most_cells }
     ensures cells { take (len + 1) (drop result cells.new) ≡ insert (take len (drop head cells.old)) place queued }
     ensures piece { IsPiece cells.new result (len + 1) }
 {
     let end = head + len;
-    if end < 64 {
+    if end < MOST_CELLS {
         push_on(&mut cells[head + place..end + 1], queued);
         return head;
     }
@@ -88,7 +91,7 @@ impl Block {
         ensures { result ≡ queued ∷ [] }
     {
         Block {
-            cells: [queued; 64],
+            cells: [queued; MOST_CELLS],
             head: 0,
             len: 1,
         }
@@ -97,7 +100,7 @@ impl Block {
     /// How many cells there are.
     pub fn len(&self) -> usize
         ensures len { result ≡ length self.now }
-        ensures fits { result ≤ 64 }
+        ensures fits { result ≤ most_cells }
     {
         self.len
     }
@@ -128,7 +131,7 @@ impl Block {
     /// Puts a cell in.
     pub fn insert(&mut self, place: usize, queued: Queued)
         requires inside { place ≤ length self.old }
-        requires room { length self.old < 64 }
+        requires room { length self.old < most_cells }
         ensures { self.new ≡ insert self.old place queued }
     {
         self.head = put_inside(&mut self.cells, self.head, self.len, place, queued);
@@ -158,7 +161,7 @@ impl Block {
 
     /// Leaves the first 32 cells of a full block alone.
     pub fn keep_half(&mut self)
-        requires { length self.old ≡ 64 }
+        requires { length self.old ≡ most_cells }
         ensures { self.new ≡ take 32 self.old }
     {
         self.len = 32;

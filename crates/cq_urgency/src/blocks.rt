@@ -1,7 +1,7 @@
 //! Cells in blocks, in an order of blocks.
 ghost use Rattle.std.specs.Prelude.{◌≡◌, ◌≢◌, ℕ, ◌+◌, ◌<◌, ◌≤◌, ◌^◌, ◌∷◌, ◌++◌, [], Some, IfOk, length, take, drop, insert, slice_get, slice_set, slice_index_or, vec_capacity};
 ghost use Rattle.std.specs.List.{sum_by};
-ghost use Rattle.cq_urgency.specs.Blocks.{flattened, block_at, cells_in_all, halved, parted, without_first, times, has, ComesIn};
+ghost use Rattle.cq_urgency.specs.Blocks.{flattened, block_at, cells_in_all, halved, parted, without_first, times, has, ComesIn, most_cells};
 
 use crate::block::Block;
 use cq_base::{NoMemory, Queued};
@@ -73,7 +73,7 @@ fn move_upper(pool: &mut Vec<Block>, from: usize, to: usize)
     requires from { from < length pool.old.items }
     requires to { to < length pool.old.items }
     requires apart { to ≢ from }
-    requires full { length (block_at pool.old.items from) ≡ 64 }
+    requires full { length (block_at pool.old.items from) ≡ most_cells }
     requires first { block_at pool.old.items to ≡ take 1 (drop 32 (block_at pool.old.items from)) }
     ensures moved { pool.new.items ≡ parted pool.old.items from to }
     ensures capacity { vec_capacity pool.new ≡ vec_capacity pool.old }
@@ -89,7 +89,7 @@ fn move_upper(pool: &mut Vec<Block>, from: usize, to: usize)
 fn put_upper(pool: &mut Vec<Block>, free: &mut Vec<usize>, number: usize) -> usize
     requires there { number < length pool.old.items }
     requires used { times number free.old.items ≡ 0 }
-    requires full { length (block_at pool.old.items number) ≡ 64 }
+    requires full { length (block_at pool.old.items number) ≡ most_cells }
     requires within { (n : ℕ) → times n free.old.items ≤ has pool.old.items n }
     requires memory { length free.old.items ≡ 0 → length pool.old.items < vec_capacity pool.old }
     ensures comes { ComesIn (slice_set pool.old.items number (take 32 (block_at pool.old.items number)))
@@ -231,7 +231,7 @@ impl Blocks {
     pub fn insert(&mut self, block: usize, place: usize, queued: Queued)
         requires block { block < length self.old.blocks }
         requires inside { place ≤ length (block_at self.old.blocks block) }
-        requires room { length (block_at self.old.blocks block) < 64 }
+        requires room { length (block_at self.old.blocks block) < most_cells }
         ensures blocks { self.new.blocks ≡
             slice_set self.old.blocks block (insert (block_at self.old.blocks block) place queued) }
         ensures most { self.new.most ≡ self.old.most }
@@ -244,7 +244,7 @@ impl Blocks {
     /// Splits a full block in two halves.
     pub fn split(&mut self, block: usize)
         requires block { block < length self.old.blocks }
-        requires full { length (block_at self.old.blocks block) ≡ 64 }
+        requires full { length (block_at self.old.blocks block) ≡ most_cells }
         requires room { length self.old.blocks < self.old.most }
         ensures blocks { self.new.blocks ≡ halved self.old.blocks block }
         ensures most { self.new.most ≡ self.old.most }

@@ -1,9 +1,10 @@
 //! The buffer of cells that wait at one output.
 ghost use Rattle.std.specs.Prelude.{◌≡◌, ◌+◌, ◌<◌, ◌≤◌, ◌/◌, ◌^◌, [], Some, IfOk, IfSome, length, drop, slice_get, is_some, if◌then◌else◌};
 ghost use Rattle.cq_base.specs.Cells.{HasOtherKey, IsRising, cushion, put};
-ghost use Rattle.cq_urgency.specs.Blocks.{flattened, block_at};
+ghost use Rattle.cq_urgency.specs.Blocks.{flattened, block_at, most_cells};
 ghost use Rattle.cq_urgency.specs.OutputBuffer.{AreFilled, AreBegun, IsSpot, starts_before};
 
+use crate::block::MOST_CELLS;
 use crate::blocks::{Blocks, Spot};
 use cq_base::{Key, NoMemory, Queued, Sequence};
 use std::alloc::Global;
@@ -152,10 +153,10 @@ fn spot_with_room(blocks: &mut Blocks, key: Key, room: u64) -> Spot
     ensures filled { AreFilled blocks.new.blocks }
     ensures most { blocks.new.most ≡ blocks.old.most }
     ensures spot { IsSpot blocks.new.blocks (cushion key (flattened blocks.old.blocks)) result.block result.within }
-    ensures room { length (block_at blocks.new.blocks result.block) < 64 }
+    ensures room { length (block_at blocks.new.blocks result.block) < most_cells }
 {
     let spot = spot_of(blocks, key);
-    if blocks.block(spot.block).len() < 64 {
+    if blocks.block(spot.block).len() < MOST_CELLS {
         return spot;
     }
     blocks.split(spot.block);

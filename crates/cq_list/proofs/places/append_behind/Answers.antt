@@ -6,5 +6,5 @@ use Rattle.cq_list.proofs.places.append_behind.Goals as goal
 pub push_block-requires-clause-full : goal.push_block-requires-clause-full
 push_block-requires-clause-full c = search (arith, rules, get_or_read, full_last)
 
-pub returns-then-len-lt64 : goal.returns-then-len-lt64
-returns-then-len-lt64 c = search (arith, rules, get_or_read, length-insert, append_in, filled_longer)
+pub returns-then-len-lt-MOST_PLACES : goal.returns-then-len-lt-MOST_PLACES
+returns-then-len-lt-MOST_PLACES c = search (arith, rules, get_or_read, length-insert, append_in, filled_longer)

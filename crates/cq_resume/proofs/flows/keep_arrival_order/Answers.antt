@@ -1,15 +1,16 @@
-use Rattle.cq_resume.proofs.Terms.{rules, ◌≡◌, ◌*◌, ◌<◌, arith, length-replicate, get_or, inl, inr, Name, take_at}
+use Rattle.cq_resume.proofs.Terms.{rules, ◌≡◌, ◌*◌, ◌<◌, arith, length-replicate, get_or, inl, inr, Name, take_at, most_classes}
 use Rattle.cq_resume.proofs.Each.{all_at}
 use Rattle.cq_resume.proofs.Lanes.{Place, lanes_first, lanes_hold, lanes_next, lanes_stop, leaves_on, name_inputs, LeavesFirst, flow_of, flows_as_lanes, input_of, through}
 use Rattle.cq_resume.proofs.flows.keep_arrival_order.Goals.{After-may_leave, then-begins, else-begins}
 use Rattle.cq_resume.proofs.flows.keep_arrival_order.Goals as goal
 
-here : (c : After-may_leave) (e : Name) → Place input_of flow_of LeavesFirst c.args.names.now (c.args.ports * 16)
+here : (c : After-may_leave) (e : Name) → Place input_of flow_of LeavesFirst c.args.names.now
+    (c.args.ports * most_classes)
     c.places.at e c.places.last.items c.if-begins.last.items c.begins.result
 here c e =
     let inside = c.places-test.true in
     let long = c.places.invariant.long in
-    let own = all_at (λ (m : Name). (m.queued.cell.output < c.args.ports) × (m.queued.cell.class < 16))
+    let own = all_at (λ (m : Name). (m.queued.cell.output < c.args.ports) × (m.queued.cell.class < most_classes))
     c.args.names.now c.places.at e (omega arith) c.requires.names in
     record {
       known = c.places.invariant;
@@ -19,7 +20,7 @@ here c e =
       is = c.begins.ensures;
       ways = elim c.if-begins.branch [
         | then-begins w ↦
-            let many : c.places.last.len ≡ c.args.ports * 16 = omega (arith, long, c.places.last.ok) in
+            let many : c.places.last.len ≡ c.args.ports * most_classes = omega (arith, long, c.places.last.ok) in
             let none = w.forget.ensures in
             let read = w.deref_mut.ensures.value in
             inl (w.if-begins.true, search (rules, long, many, take_at, length-replicate, w.last-is, none, read))
@@ -29,7 +30,8 @@ here c e =
     }
 
 pub places-init : goal.places-init
-places-init c = rw c.in_ok-last.ensures (lanes_first input_of flow_of LeavesFirst c.args.names.now (c.args.ports * 16))
+places-init c = rw c.in_ok-last.ensures (lanes_first input_of flow_of LeavesFirst c.args.names.now
+    (c.args.ports * most_classes))
 
 pub places-preserved : goal.places-preserved
 places-preserved c = lanes_next input_of flow_of LeavesFirst (here (goal.at.places-preserved c).After-may_leave _)

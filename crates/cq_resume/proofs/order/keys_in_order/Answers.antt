@@ -1,4 +1,4 @@
-use Rattle.cq_resume.proofs.Terms.{rules, ℕ, ◌<◌, get_or_default, arith, IsBefore, Queued}
+use Rattle.cq_resume.proofs.Terms.{rules, ℕ, ◌<◌, get_or_default, arith, IsBefore, Queued, most_ports}
 use Rattle.cq_resume.proofs.Each.{all_at}
 use Rattle.cq_resume.proofs.Lanes.{Place, lanes_first, lanes_hold, lanes_next, lanes_stop, urgent_on}
 use Rattle.cq_resume.proofs.order.keys_in_order.Goals.{After-may_follow}
@@ -10,15 +10,16 @@ of_input q = q.key.input
 abbrev of_output : Queued → ℕ
 of_output q = q.cell.output
 
-here : (c : After-may_follow) (e : Queued) → Place of_input of_output IsBefore c.args.listed.now 64 c.places.at e
+here : (c : After-may_follow) (e : Queued) → Place of_input of_output IsBefore c.args.listed.now most_ports
+    c.places.at e
     c.places.last c.if-begins.last c.begins.result
 here c e =
     let inside = c.places-test.true in
-    let own = all_at (λ (q : Queued). q.cell.output < 64) c.args.listed.now c.places.at e (omega arith)
+    let own = all_at (λ (q : Queued). q.cell.output < most_ports) c.args.listed.now c.places.at e (omega arith)
     c.requires.outputs in search (arith, rules)
 
 pub places-init : goal.places-init
-places-init c = rw c.none_seen-last.ensures (lanes_first of_input of_output IsBefore c.args.listed.now 64)
+places-init c = rw c.none_seen-last.ensures (lanes_first of_input of_output IsBefore c.args.listed.now most_ports)
 
 pub places-preserved : goal.places-preserved
 places-preserved c = lanes_next of_input of_output IsBefore (here (goal.at.places-preserved c).After-may_follow _) _

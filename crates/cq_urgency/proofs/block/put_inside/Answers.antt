@@ -2,8 +2,8 @@ use Rattle.cq_urgency.proofs.Terms.{rules, ◌-◌, arith, take-take, take_all, 
 use Rattle.cq_urgency.proofs.Pieces.{length_piece, put_on, put_on_front}
 use Rattle.cq_urgency.proofs.block.put_inside.Goals as goal
 
-pub returns-then-end-lt64-clause-cells : goal.returns-then-end-lt64-clause-cells
-returns-then-end-lt64-clause-cells c =
+pub returns-then-end-lt-MOST_CELLS-clause-cells : goal.returns-then-end-lt-MOST_CELLS-clause-cells
+returns-then-end-lt-MOST_CELLS-clause-cells c =
     search (arith, rules, c.args.len, length_piece, c.args.queued, take-take, put_on)
 
 pub returns-clause-cells : goal.returns-clause-cells

@@ -1,11 +1,12 @@
-use Rattle.cq_urgency.proofs.Terms.{rules, ◌≡◌, ◌≤◌, List, length, ap, arith, ℕ, Queued}
+use Rattle.cq_urgency.proofs.Terms.{rules, ◌≡◌, ◌≤◌, List, length, ap, arith, ℕ, Queued, most_cells}
 use Rattle.cq_urgency.proofs.Filled.{filled_halved, room_to_split}
 use Rattle.cq_urgency.proofs.Flattened.{flattened-halved}
 use Rattle.cq_urgency.proofs.Spots.{longer, spot_halved}
 use Rattle.cq_urgency.proofs.output_buffer.spot_with_room.Goals as goal
 
 -- the block is full
-full : (len : ℕ) (block read : List Queued) → len ≡ length read → len ≤ 64 → 64 ≤ len → read ≡ block → length block ≡ 64
+full : (len : ℕ) (block read : List Queued) → len ≡ length read → len ≤ most_cells → most_cells ≤ len → read ≡ block →
+    length block ≡ most_cells
 full len block read is fits late same = let size = ap length same in omega arith
 
 pub split-requires-clause-room : goal.split-requires-clause-room
@@ -13,7 +14,7 @@ split-requires-clause-room c = search (arith, rules, full, room_to_split, longer
 
 pub in_halves-requires : goal.in_halves-requires
 in_halves-requires c =
-    let all = full c.len.result _ _ c.len.ensures.len c.len.ensures.fits c.if-len-lt64.false c.block.ensures in
+    let all = full c.len.result _ _ c.len.ensures.len c.len.ensures.fits c.if-len-lt-MOST_CELLS.false c.block.ensures in
     let spot = c.spot_of-spot.ensures in
     let few = room_to_split c.args.blocks.now.blocks c.spot_of-spot.result.block c.args.blocks.now.most c.args.room
     c.requires.filled spot.inside all (longer _ _ _ _ spot all) c.requires.fits c.requires.enough in
@@ -27,12 +28,12 @@ returns-clause-filled c = search (arith, rules, full, filled_halved)
 
 pub returns-clause-spot : goal.returns-clause-spot
 returns-clause-spot c =
-    let all = full c.len.result _ _ c.len.ensures.len c.len.ensures.fits c.if-len-lt64.false c.block.ensures in
+    let all = full c.len.result _ _ c.len.ensures.len c.len.ensures.fits c.if-len-lt-MOST_CELLS.false c.block.ensures in
     rw c.split.ensures.blocks (spot_halved _ _ _ _ c.spot_of-spot.ensures all c.in_halves.ensures.front
     c.in_halves.ensures.back).0
 
 pub returns-clause-room : goal.returns-clause-room
 returns-clause-room c =
-    let all = full c.len.result _ _ c.len.ensures.len c.len.ensures.fits c.if-len-lt64.false c.block.ensures in
+    let all = full c.len.result _ _ c.len.ensures.len c.len.ensures.fits c.if-len-lt-MOST_CELLS.false c.block.ensures in
     rw c.split.ensures.blocks (spot_halved _ _ _ _ c.spot_of-spot.ensures all c.in_halves.ensures.front
     c.in_halves.ensures.back).1

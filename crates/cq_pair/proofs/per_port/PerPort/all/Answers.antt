@@ -1,5 +1,5 @@
-use Rattle.cq_pair.proofs.Terms.{take-replicate}
+use Rattle.cq_pair.proofs.Terms.{take-replicate, most_ports}
 use Rattle.cq_pair.proofs.per_port.PerPort.all.Goals as goal
 
 pub returns : goal.returns
-returns c = take-replicate c.args.ports 64 c.args.number c.requires
+returns c = take-replicate c.args.ports most_ports c.args.number c.requires
