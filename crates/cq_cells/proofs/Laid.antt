@@ -1,5 +1,5 @@
 -- A line is laid out: where its packets go, what each step of it adds, and what stands at its end.
-use Rattle.cq_cells.proofs.Terms.{rules, ◌≡◌, ℕ, ◌+◌, ◌-◌, ◌/◌, ◌^◌, ◌<◌, ◌≤◌, max, List, length, map, not, slice_index_or, refl, arith, common_steps, AllByRecursion, length-filter_both, Arrival, end_of, Captured, rows_from, file_length, PacketRow, Tables, route, AreTables, ports_of, Row, AreAdded, AreRows, line_arrivals, cells_of, packets_of, cells, start, stamp_slot, arrivals_at, first_stamp, IsRecorded, is_to, number_of, [], sym, ◌∙◌, range_with_len, length-map, get_or-map, fill_by_all, route_output, packet_at, packet_in}
+use Rattle.cq_cells.proofs.Terms.{rules, ◌≡◌, ℕ, ◌+◌, ◌-◌, ◌/◌, ◌^◌, ◌<◌, ◌≤◌, max, List, length, map, not, slice_index_or, refl, arith, common_steps, AllByRecursion, length-filter_both, Arrival, end_of, Captured, rows_from, file_length, PacketRow, Tables, route, AreTables, ports_of, Row, AreAdded, AreRows, line_arrivals, cells_of, packets_of, cells, start, stamp_slot, arrivals_at, t0_of, IsRecorded, is_to, number_of, [], sym, ◌∙◌, range_with_len, length-map, get_or-map, fill_by_all, route_output, packet_at, packet_in}
 use Rattle.cq_cells.proofs.Packets.{start_by, row_of, came_by, ends_by, longer_by, length_packet, end_packet, IsSoFar, few_by, early_by, line_is, rows_are}
 use Rattle.cq_cells.proofs.Stamps.{length-rows_from, row_is_of}
 
@@ -57,7 +57,7 @@ pub next_row : (t : Tables) (captures : List (List Captured)) (input k : ℕ) (p
     (places : List PacketRow) (ways : List (ℕ × ℕ)) (row : Row) (origin free : ℕ) → AreTables t →
     AreRead captures input ps places → k < length places →
     ways ≡ map (λ (p : Captured). route t input p.body) (packets_of captures input) →
-    origin ≡ first_stamp captures → free ≡ end_of (came_by t captures input k) →
+    origin ≡ t0_of captures → free ≡ end_of (came_by t captures input k) →
     row.start ≡ max (((slice_index_or places k no_place).stamp - origin) / t.slot_ns) free →
     row.cells ≡ cells_of (slice_index_or places k no_place).len t.cell_bytes →
     (row.output, row.class) ≡ slice_index_or ways k (0, 0) → row.len ≡ (slice_index_or places k no_place).len →

@@ -11,7 +11,7 @@ pub use Rattle.cq_route.proofs.Bounds.{route_class, route_output}
 pub use Rattle.cq_cells.specs.Lines.{AreAdded, AreOwn, AreRows, IsBegun, IsEnded, all_of, row_arrivals, row_at, row_cell}
 unfoldable pub use Rattle.cq_cells.specs.Lines.{line_arrivals}
 pub use Rattle.cq_cells.specs.NextArrival.{ArrivesIn, IsFirstFrom, IsNextArrival}
-pub use Rattle.cq_cells.specs.Schedule.{arrivals_of, earlier, first_stamp, packet_at, packet_in, packets_of, stamps_of}
+pub use Rattle.cq_cells.specs.Schedule.{arrivals_of, earlier, t0_of, packet_at, packet_in, packets_of, stamps_of}
 unfoldable pub use Rattle.cq_base.specs.Pieces.{cells_of}
 pub use Rattle.cq_base.specs.Items.{EachPair}
 unfoldable pub use Rattle.cq_cells.specs.Schedule.{arrivals, arrivals_at, cell_of, cells, stamp_slot, start}

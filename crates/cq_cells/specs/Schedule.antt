@@ -22,9 +22,9 @@ earlier (Some a) (Some b) = Some (min a b)
 abbrev pub stamps_of : List (List Captured) → List ℕ
 stamps_of captures = flat_map (λ ps. map (λ p. p.stamp) ps) captures
 
--- the stamp from which slots are counted: the least over all inputs
-unfoldable pub first_stamp : List (List Captured) → ℕ
-first_stamp captures = least (stamps_of captures)
+-- T0, the stamp from which slots are counted: the least over all inputs
+unfoldable pub t0_of : List (List Captured) → ℕ
+t0_of captures = least (stamps_of captures)
 
 -- the packets of an input, in the order of its capture
 abbrev pub packets_of : List (List Captured) → ℕ → List Captured
@@ -40,7 +40,7 @@ packet_at captures input k = packet_in (packets_of captures input) k
 
 -- the slot in which the stamp of packet k lies
 unfoldable pub stamp_slot : Tables → List (List Captured) → ℕ → ℕ → ℕ
-stamp_slot t captures input k = ((packet_at captures input k).stamp - first_stamp captures) / t.slot_ns
+stamp_slot t captures input k = ((packet_at captures input k).stamp - t0_of captures) / t.slot_ns
 
 -- how many cells packet k has
 unfoldable pub cells : Tables → List (List Captured) → ℕ → ℕ → ℕ

@@ -8,5 +8,5 @@ pub use Rattle.cq_route.specs.{Directory.IsDirectoryOf, Route.route, declared.ta
 pub use Rattle.cq_route.specs.Tables.{AreTables, classes_of, ports_of}
 pub use Rattle.cq_cells.specs.{Coming.StandBelow, NextArrival.IsNextArrival, Scheduled.schedule_of}
 pub use Rattle.cq_cells.specs.Lines.{AreOwn, all_of, AreAdded, AreRows, IsBegun, IsEnded, row_at, row_cell}
-pub use Rattle.cq_cells.specs.Schedule.{earlier, first_stamp, arrivals, arrivals_at, packets_of, packet_in}
+pub use Rattle.cq_cells.specs.Schedule.{earlier, t0_of, arrivals, arrivals_at, packets_of, packet_in}
 pub use Rattle.cq_cells.specs.Traffic.{IsRecorded, IsShort, IsTraffic, is_from, is_to, number_of}

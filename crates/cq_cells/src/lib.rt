@@ -5,13 +5,13 @@
 #![tactic(auto)]
 
 mod coming;
-mod first_stamp;
 mod laws;
 mod line;
 mod nearby;
 mod routes;
 mod schedule;
 mod segments;
+mod t0;
 
 pub use coming::Coming;
 pub use laws::{arrivals_end_early, one_cell_arrives_a_slot, packets_arrive_in_order};

@@ -2,7 +2,7 @@
 //! before was, or by halving: the work grows with the logarithm of the number of packets at most.
 ghost use Rattle.std.specs.Prelude.{◌≡◌, ℕ, ◌+◌, ◌-◌, ◌/◌, ◌==◌, ◌^◌, ◌<◌, ◌≤◌, find, length, map, max, option_map, slice_index_or, IfOk, IsTrue};
 ghost use Rattle.std.specs.List.Sorted.{IsNonDecreasingBy};
-ghost use Rattle.cq_cells.specs.Schedule.{first_stamp as first_stamp_of};
+ghost use Rattle.cq_cells.specs.Schedule.{t0_of};
 ghost use Rattle.cq_cells.specs.Terms.{end_of, longest_file, AreAdded, AreRows, IsBegun, IsEnded, row_at, row_cell, IsNextArrival, arrivals_at, cells_of, packets_of, IsRecorded, route, AreTables, ports_of};
 
 use crate::segments::cells_of;
@@ -109,13 +109,13 @@ impl Line {
         input: Port,
         captures: &[Capture],
         tables: &Tables,
-        first_stamp: u64,
+        t0: u64,
         routes: &[(Port, Class)],
         to_output: &mut [u64],
     ) -> Result<Line, NoMemory>
         requires tables { AreTables tables.now }
         requires place { input < length captures.now }
-        requires first_stamp { first_stamp ≡ first_stamp_of captures.now }
+        requires t0 { t0 ≡ t0_of captures.now }
         requires routes { routes.now ≡ map (λ p. route tables.now input p.body) (packets_of captures.now input) }
         requires outputs { length to_output.old ≡ ports_of tables.now.setup }
         requires room { (j : ℕ) → j < length to_output.old → slice_index_or to_output.old j 0 + longest_file < 2 ^ 64 }
@@ -132,7 +132,7 @@ impl Line {
         let mut free = 0;
         let mut cells = 0;
         'packets: for k in 0..packets.len() {
-            let row = row_of(tables, first_stamp, free, packets[k], routes[k]);
+            let row = row_of(tables, t0, free, packets[k], routes[k]);
             free = row.start + u64::from(row.cells);
             cells += u64::from(row.cells);
             to_output[row.output as usize] += u64::from(row.cells);
@@ -221,21 +221,15 @@ fn ended(rows: &[Row], cell_bytes: u32, slot: Slot) -> usize
 }
 
 // The row of a packet that can begin in this slot at the earliest.
-fn row_of(
-    tables: &Tables,
-    first_stamp: u64,
-    free: u64,
-    packet: PacketRow,
-    way: (Port, Class),
-) -> Row
+fn row_of(tables: &Tables, t0: u64, free: u64, packet: PacketRow, way: (Port, Class)) -> Row
     requires tables { AreTables tables.now }
-    ensures start { result.start ≡ max ((packet.stamp - first_stamp) / tables.now.slot_ns) free }
+    ensures start { result.start ≡ max ((packet.stamp - t0) / tables.now.slot_ns) free }
     ensures cells { result.cells ≡ cells_of packet.len tables.now.cell_bytes }
     ensures route { (result.output, result.class) ≡ way }
     ensures len { result.len ≡ packet.len }
 {
     let (output, class) = way;
-    let slot = packet.stamp.saturating_sub(first_stamp) / tables.slot_ns;
+    let slot = packet.stamp.saturating_sub(t0) / tables.slot_ns;
     Row {
         start: slot.max(free),
         cells: cells_of(packet.len, tables.cell_bytes),

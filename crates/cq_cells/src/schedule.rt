@@ -1,13 +1,13 @@
 //! What arrives at all inputs.
 ghost use Rattle.std.specs.Prelude.{◌≡◌, ℕ, ◌^◌, ◌<◌, ◌≤◌, filter, length, map, replicate, IfOk};
 ghost use Rattle.std.specs.List.{range_with_len};
-ghost use Rattle.cq_cells.specs.Schedule.{first_stamp as first_stamp_of};
+ghost use Rattle.cq_cells.specs.Schedule.{t0_of};
 ghost use Rattle.cq_cells.specs.Terms.{arriving, most_ports, arriving_at, end_of, AreAdded, all_of, IsNextArrival, arrivals_at, packets_of, schedule_of, IsRecorded, IsShort, IsTraffic, is_from, is_to, number_of, IsDirectoryOf, AreTables, classes_of, ports_of};
 
 use crate::coming::Coming;
-use crate::first_stamp::{earlier, first_stamp};
 use crate::line::Line;
 use crate::routes::routes_of;
+use crate::t0::{earlier, t0_of};
 use cq_base::{Arrivals, Cell, NoMemory, Port, Slot};
 use cq_pcap::Capture;
 use cq_route::{Directory, Tables};
@@ -19,7 +19,7 @@ use std::thread::Threads;
 /// number of ports, and all arrivals, input after input and packet after packet.
 #[derive(Drop)]
 pub struct Schedule {
-    first_stamp: u64,
+    t0: u64,
     total: u64,
     end: Slot,
     lines: Vec<Line>,
@@ -34,7 +34,7 @@ impl Model for Schedule {
     ghost Value = { Scheduled };
 
     ghost view = { λ s.
-        record { first_stamp = s.first_stamp; ports = length s.lines.items; came = all_of s.lines.items } };
+        record { t0 = s.t0; ports = length s.lines.items; came = all_of s.lines.items } };
 
     ghost invariant = { λ s. AreCounted s.lines.items s.total s.end s.to_output.items };
 }
@@ -59,22 +59,14 @@ impl Schedule {
         ensures recorded { IfOk result (λ _.
             (i : ℕ) → i < length captures.now → IsRecorded (packets_of captures.now i)) }
     {
-        let first_stamp = first_stamp(captures);
+        let t0 = t0_of(captures);
         let directory = Directory::of(alloc, tables)?;
         let mut to_output = no_cells(alloc, captures.len())?;
-        let lines = lines_of(
-            rt,
-            alloc,
-            captures,
-            tables,
-            &directory,
-            first_stamp,
-            &mut to_output,
-        )?;
+        let lines = lines_of(rt, alloc, captures, tables, &directory, t0, &mut to_output)?;
         let total = total_of(&lines);
         let end = end_of(&lines);
         Ok(Schedule {
-            first_stamp,
+            t0,
             total,
             end,
             lines,
@@ -134,9 +126,9 @@ impl Schedule {
     /// The stamp from which slots are counted, in nanoseconds: the least one, or 0 where there is no
     /// packet.
     pub fn t0(&self) -> u64
-        ensures { result ≡ self.now.first_stamp }
+        ensures { result ≡ self.now.t0 }
     {
-        self.first_stamp
+        self.t0
     }
 
     /// How many cells arrive.
@@ -187,13 +179,13 @@ fn lines_of<R: Threads + Sync>(
     captures: &[Capture],
     tables: &Tables,
     directory: &Directory,
-    first_stamp: u64,
+    t0: u64,
     to_output: &mut [u64],
 ) -> Result<Vec<Line>, NoMemory>
     requires tables { AreTables tables.now }
     requires directory { IsDirectoryOf tables.now directory.now }
     requires captures { length captures.now ≡ ports_of tables.now.setup }
-    requires first_stamp { first_stamp ≡ first_stamp_of captures.now }
+    requires t0 { t0 ≡ t0_of captures.now }
     requires outputs { to_output.old ≡ replicate (ports_of tables.now.setup) 0 }
     ensures lines { IfOk result (λ lines.
         lines.items ≡ map (arrivals_at tables.now captures.now) (range_with_len 0 (length captures.now))) }
@@ -205,7 +197,7 @@ fn lines_of<R: Threads + Sync>(
     'inputs: for input in 0..captures.len() {
         let at = input as Port;
         let routes = routes_of(rt, alloc, at, &captures[input], tables, directory)?;
-        let line = Line::of(alloc, at, captures, tables, first_stamp, &routes, to_output)?;
+        let line = Line::of(alloc, at, captures, tables, t0, &routes, to_output)?;
         lines.push_reserved(line);
     }
     Ok(lines)

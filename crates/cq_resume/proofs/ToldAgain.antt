@@ -124,7 +124,7 @@ module _ (w : Switch) (s : State) (in_range : IsInRange s) (shape : HasShape w s
       s.head.ports (λ j. refl) outputs_rise outputs_low)
       (waiting_again s.buffered (search (rules, has_left, has_right)))
 
-  pub state_again : state_of (frozen_told w s) (sent_told w.came s) s.moved w.first_stamp w.classes (length w.came) ≡ s
+  pub state_again : state_of (frozen_told w s) (sent_told w.came s) s.moved w.t0 w.classes (length w.came) ≡ s
   unfolding state_of frozen_told fabric_told figures_told
   state_again =
       let head = shape.head in

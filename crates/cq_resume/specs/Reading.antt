@@ -48,13 +48,13 @@ told_by head x sent note =
 -- what the text of a stopped run tells: its frozen state, its departures and its transfers, and the stamp from which
 -- slots are counted, the number of classes, and the number of cells in the schedule
 unfoldable pub state_of : Frozen → List Departure → List Transfer → ℕ → ℕ → ℕ → State
-state_of x sent note first_stamp classes total =
+state_of x sent note t0 classes total =
     told_by
     (record {
       next = x.next;
       ports = length x.lists;
       classes = classes;
-      t0 = first_stamp;
+      t0 = t0;
       total = total;
       proposals = x.figures.proposals;
       most = x.figures.most;
@@ -62,7 +62,7 @@ state_of x sent note first_stamp classes total =
 
 -- the text of what was taken up, which stands still in this switch
 abbrev pub text_of_taken : Switch → Taken → List ℕ
-text_of_taken w x = state_text (state_of x.frozen x.sent x.note w.first_stamp w.classes (length w.came))
+text_of_taken w x = state_text (state_of x.frozen x.sent x.note w.t0 w.classes (length w.came))
 
 -- ## Reading
 

@@ -18,7 +18,7 @@ pub record Switch : Type 0 where
   pub machines : List Machine
   pub limits : List (Option ℕ)
   pub classes : ℕ
-  pub first_stamp : ℕ
+  pub t0 : ℕ
   pub came : List Arrival
 
 -- the switch of this setup, with these limits of its outputs, and with this schedule
@@ -28,7 +28,7 @@ switch_with setup limits s =
       machines = machines_of setup;
       limits = limits;
       classes = classes_of setup;
-      first_stamp = s.first_stamp;
+      t0 = s.t0;
       came = s.came;
     }
 
@@ -50,7 +50,7 @@ HasLimit limits j = (limit : ℕ) × (slice_index_or limits j None ≡ Some limi
 pub record IsHeadOf (w : Switch) (head : Head) : Type 0 where
   pub ports : head.ports ≡ length w.machines
   pub classes : head.classes ≡ w.classes
-  pub first_stamp : head.t0 ≡ w.first_stamp
+  pub t0 : head.t0 ≡ w.t0
   pub total : head.total ≡ length w.came
 
 -- the state tells of a switch of this shape, and each of its rank states has as many numbers as its machine asks for

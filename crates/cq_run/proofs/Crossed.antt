@@ -1,6 +1,6 @@
 -- The captures of the outputs, one after another: those that were made and those that are still to be made are all.
 -- Each is that which was built at its output.
-use Rattle.cq_run.proofs.Terms.{common_steps, rules, ◌≡◌, ◌<◌, ◌≤◌, ◌∙◌, ℕ, ◌+◌, List, [], ◌∷◌, ◌++◌, length, drop, get_or, refl, ap, sym, add-one, append_assoc, arith, Result, Ok, append-nil, drop_all, drop_more, length-drop, trace_of, log_of, Departure, TagFault, Transfer, arrivals, Captured, AreTables, ports_of, PortRow, Tables, Plan, capture_out, captures_out, switched, IsSent, IsSwitched, sent_or_tag, Switched, ArePacked, LeaveWhole, Arrival, first_stamp, packets_of, IsRecorded, IsTraffic, LimitedRecord, report_with, classes_of, always_slack, best_in_each, slot_by_slot, IsFabricRun, IsKeptOf, unpacked_run, ideal_departures, PackedFabricRun, Contents, AreGiven, AreRead, IsEmulation, KeepsUp, crossed, reported, Reader, IsCrossed, IsCrossing, Crossed, left_in_packets, Packing, each_packet_once}
+use Rattle.cq_run.proofs.Terms.{common_steps, rules, ◌≡◌, ◌<◌, ◌≤◌, ◌∙◌, ℕ, ◌+◌, List, [], ◌∷◌, ◌++◌, length, drop, get_or, refl, ap, sym, add-one, append_assoc, arith, Result, Ok, append-nil, drop_all, drop_more, length-drop, trace_of, log_of, Departure, TagFault, Transfer, arrivals, Captured, AreTables, ports_of, PortRow, Tables, Plan, capture_out, captures_out, switched, IsSent, IsSwitched, sent_or_tag, Switched, ArePacked, LeaveWhole, Arrival, t0_of, packets_of, IsRecorded, IsTraffic, LimitedRecord, report_with, classes_of, always_slack, best_in_each, slot_by_slot, IsFabricRun, IsKeptOf, unpacked_run, ideal_departures, PackedFabricRun, Contents, AreGiven, AreRead, IsEmulation, KeepsUp, crossed, reported, Reader, IsCrossed, IsCrossing, Crossed, left_in_packets, Packing, each_packet_once}
 
 -- a plan of these names and this text
 pub plan_is : (plan : Plan) (writes : List (List ℕ × List ℕ)) (text : List ℕ) → plan.writes ≡ writes →
@@ -118,10 +118,10 @@ keeps_up t captures rs given traffic is = record {
 -- a run over a schedule of the captures
 pub is_crossed : (t : Tables) (captures : List (List Captured)) (came : List Arrival) (run : PackedFabricRun)
     (stamp : ℕ) →
-    AreGiven t captures → came ≡ arrivals t captures → stamp ≡ first_stamp captures →
+    AreGiven t captures → came ≡ arrivals t captures → stamp ≡ t0_of captures →
     IsTraffic (ports_of t.setup) (classes_of t.setup) came → IsKeptOf t came (unpacked_run run) →
     ideal_departures t came ≡ Ok run.sent.items →
-    IsCrossed t captures (record { run = run; first_stamp = stamp })
+    IsCrossed t captures (record { run = run; t0 = stamp })
 is_crossed t captures came run stamp given e s traffic kept sent =
     grind (arith, common_steps, keeps_up, keeps_up t captures kept.records given)
 

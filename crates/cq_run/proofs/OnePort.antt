@@ -1,7 +1,7 @@
 -- A switch of one port sends each cell in the slot in which it comes. Cells come one after another, at most one in a
 -- slot. So no cell waits when a slot begins; the cell that comes is alone in the one list, and leaves.
 -- The departures are the arrivals, and every packet leaves with its last cell, which alone is marked as last.
-use Rattle.cq_run.proofs.Terms.{common_steps, ◌≡◌, ℕ, zero, suc, ◌+◌, ◌<◌, ◌≤◌, Bool, true, false, cond, List, [], ◌∷◌, map, replicate, Option, Some, None, Result, Ok, Err, refl, sym, ap, ◌∙◌, subst, ⊎_elim, arith, rules, ◌-◌, ◌*◌, length, flat_map, ◌==◌, ◌^◌, nat_lt, find, slice_index_or, append-nil, option_map, AllByRecursion, range_with_len, AllPairs, filter, cases_eq, cond-true, eq-eqb, and_from, Arrival, arriving, arriving_at, is_at, end_of, enough, traffic_of, Departure, TagFault, filter-append, arrivals, arrivals_at, arrivals_of, cell_of, cells, cells_of, first_stamp, packet_at, start, IsInRange, IsLater, IsTraffic, traffic_is, departures_limited, whole_limited_run, LimitedRan, empty_limited, unlimited, all_weaker, run_as_before, same_sent, Captured, AreTables, classes_of, ports_of, Tables, machines_of, openings_of, ideal_departures, ran_ideal, ends_packet_at, leaving, packets_out, all_leave, as_it_leaves, ne_eqb, Cell, Queued, Machine, machine_at, Ranking, after_input, keyed, ranking, arriving_is, first_slot, ranked_none, NoLimits, all_slots, before_end, OutPacket, one_is, most_ports}
+use Rattle.cq_run.proofs.Terms.{common_steps, ◌≡◌, ℕ, zero, suc, ◌+◌, ◌<◌, ◌≤◌, Bool, true, false, cond, List, [], ◌∷◌, map, replicate, Option, Some, None, Result, Ok, Err, refl, sym, ap, ◌∙◌, subst, ⊎_elim, arith, rules, ◌-◌, ◌*◌, length, flat_map, ◌==◌, ◌^◌, nat_lt, find, slice_index_or, append-nil, option_map, AllByRecursion, range_with_len, AllPairs, filter, cases_eq, cond-true, eq-eqb, and_from, Arrival, arriving, arriving_at, is_at, end_of, enough, traffic_of, Departure, TagFault, filter-append, arrivals, arrivals_at, arrivals_of, cell_of, cells, cells_of, t0_of, packet_at, start, IsInRange, IsLater, IsTraffic, traffic_is, departures_limited, whole_limited_run, LimitedRan, empty_limited, unlimited, all_weaker, run_as_before, same_sent, Captured, AreTables, classes_of, ports_of, Tables, machines_of, openings_of, ideal_departures, ran_ideal, ends_packet_at, leaving, packets_out, all_leave, as_it_leaves, ne_eqb, Cell, Queued, Machine, machine_at, Ranking, after_input, keyed, ranking, arriving_is, first_slot, ranked_none, NoLimits, all_slots, before_end, OutPacket, one_is, most_ports}
 use Rattle.cq_ideal.specs.Ending.{arriving_from}
 use Rattle.cq_ideal.specs.IdealRun.{Ran, departures_of, ideal_run, departures_ran, empty_ideal}
 use Rattle.cq_ideal.specs.IdealSlot.{IdealState, Sent, all_told, departures_in, filled, fronts, ideal_sends, ideal_slot, put_all, rests}
@@ -274,7 +274,7 @@ module _ (t : Tables) (captures : List (List Captured)) where
   abbrev with_slot : Arrival → OutPacket
   with_slot a =
       let p = packet_at captures a.cell.id.input a.cell.id.packet in
-      record { stamp = first_stamp captures + a.slot * t.slot_ns; original = p.original; body = p.body }
+      record { stamp = t0_of captures + a.slot * t.slot_ns; original = p.original; body = p.body }
 
   outs : (sent : List Departure) → AllByRecursion (λ d. d.output ≡ 0) sent →
       map (leaving t captures) (filter (ends_packet_at 0) sent) ≡ map with_slot (filter is_last (map as_arrival sent))

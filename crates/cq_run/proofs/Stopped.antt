@@ -50,7 +50,7 @@ module _ (t : Tables) (captures : List (List Captured)) where
     part_halt of_run.NoMemory h = tt
 
     module _ (at : Taken) (parted : IsParted (switch_of t schedule) (openings_of t.setup) slots at) (told : State)
-        (tells : told ≡ state_of at.frozen at.sent at.note schedule.first_stamp (classes_of t.setup)
+        (tells : told ≡ state_of at.frozen at.sent at.note schedule.t0 (classes_of t.setup)
         (length schedule.came)) where
       -- the text of its state
       pub part_text : (text : List ℕ) → text ≡ state_text told → length text ≤ longest_file →
@@ -83,8 +83,8 @@ module _ (t : Tables) (captures : List (List Captured)) where
           (given : AreGiven t captures) where
         -- what it keeps is that of the run that goes on, and leaves in whole packets. No output sent more cells than
         -- there were slots
-        pub resumed_by : (stamp : ℕ) → stamp ≡ schedule.first_stamp → IsResumedBy t captures text
-            (record { run = run; first_stamp = stamp })
+        pub resumed_by : (stamp : ℕ) → stamp ≡ schedule.t0 → IsResumedBy t captures text
+            (record { run = run; t0 = stamp })
         resumed_by stamp e =
             record {
               given = given;
@@ -92,7 +92,7 @@ module _ (t : Tables) (captures : List (List Captured)) where
               sent = record {
                 whole = resumed_whole t captures from (kept_of (unpacked_run run)) given.tables given.each
                     (taken_up read) resumed;
-                first_stamp = e;
+                t0 = e;
               };
               reportable = resumed_counts t captures from (kept_of (unpacked_run run)) given.tables given.each
                   (taken_up read) resumed;

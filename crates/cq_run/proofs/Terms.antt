@@ -16,7 +16,7 @@ unfoldable pub use Rattle.cq_tables.specs.Check.{first}
 pub use Rattle.cq_tables.specs.Document.{Named, apart_from, checks_in, clash, file_check, files_in, files_of, names_of, read_at, read_of, tables_of, top_of, written_at}
 unfoldable pub use Rattle.cq_tables.specs.Document.{read_or_refused}
 pub use Rattle.cq_cells.proofs.Rising.{short_is, traffic_is}
-pub use Rattle.cq_cells.specs.Schedule.{arrivals_of, first_stamp, packet_at, packets_of, start}
+pub use Rattle.cq_cells.specs.Schedule.{arrivals_of, t0_of, packet_at, packets_of, start}
 unfoldable pub use Rattle.cq_base.specs.Pieces.{cells_of}
 pub use Rattle.cq_base.specs.Items.{EachPair, Has}
 pub use Rattle.cq_base.specs.Limits.{longest_file, most_ports}

@@ -35,7 +35,7 @@ IsPartedAt t captures slots at = IsParted (switch_over t captures) (openings_of 
 -- the text of a state of it
 abbrev pub text_at : Tables → List (List Captured) → Taken → List ℕ
 text_at t captures at =
-    state_text (state_of at.frozen at.sent at.note (schedule_of t captures).first_stamp (classes_of t.setup)
+    state_text (state_of at.frozen at.sent at.note (schedule_of t captures).t0 (classes_of t.setup)
     (length (schedule_of t captures).came))
 
 -- the text is that of this state, and no longer than a text may be

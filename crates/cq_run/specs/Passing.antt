@@ -1,7 +1,7 @@
 -- What leaves a switch of one port: every packet of its capture, once and in its place.
 use Rattle.std.specs.Prelude.{ℕ, ◌+◌, ◌-◌, ◌*◌, List, [], ◌∷◌, length, map}
 use Rattle.std.specs.List.{range_with_len}
-use Rattle.cq_cells.specs.Schedule.{cells, first_stamp, packet_in, start}
+use Rattle.cq_cells.specs.Schedule.{cells, t0_of, packet_in, start}
 use Rattle.cq_pcap.specs.Captured.{Captured}
 use Rattle.cq_pcap.specs.Written.{written}
 use Rattle.cq_pcap.specs.declared.write.OutPacket.{OutPacket}
@@ -16,7 +16,7 @@ abbrev pub as_it_leaves : Tables → List Captured → ℕ → OutPacket
 as_it_leaves t packets k =
     let p = packet_in packets k in
     record {
-      stamp = first_stamp (packets ∷ []) + last_slot t packets k * t.slot_ns;
+      stamp = t0_of (packets ∷ []) + last_slot t packets k * t.slot_ns;
       original = p.original;
       body = p.body;
     }

@@ -1,7 +1,7 @@
 -- What is kept of a run until its bytes are built.
 use Rattle.std.specs.Prelude.{◌≡◌, ◌∷◌, [], ℕ, List, Option, None, Some, Ok}
 use Rattle.cq_base.specs.declared.cell.Departure.{Departure}
-use Rattle.cq_cells.specs.Schedule.{arrivals, first_stamp}
+use Rattle.cq_cells.specs.Schedule.{arrivals, t0_of}
 use Rattle.cq_ideal.specs.Refused.{refused_counts}
 use Rattle.cq_laws.specs.LimitedFabric.{LimitedRecord, slots_in}
 use Rattle.cq_laws.specs.Measures.{figures_of}
@@ -28,16 +28,16 @@ use Rattle.cq_run.specs.Verdict.{ideally_sent}
 -- these are the departures of the ideal switch, and the stamp from which their slots are counted
 pub record IsSwitched (t : Tables) (captures : List (List Captured)) (s : Switched) : Type 0 where
   pub sent : ideally_sent t captures ≡ Ok s.sent.items
-  pub first_stamp : s.first_stamp ≡ first_stamp captures
+  pub t0 : s.t0 ≡ t0_of captures
 
 -- these departures leave in whole packets, and their slots are counted from this stamp
 pub record IsSent (t : Tables) (captures : List (List Captured)) (s : Switched) : Type 0 where
   pub whole : LeaveWhole (arrivals t captures) s.sent.items
-  pub first_stamp : s.first_stamp ≡ first_stamp captures
+  pub t0 : s.t0 ≡ t0_of captures
 
 -- what it sent
 abbrev pub sent_by : Crossed → Switched
-sent_by c = record { sent = c.run.sent; first_stamp = c.first_stamp }
+sent_by c = record { sent = c.run.sent; t0 = c.t0 }
 
 -- they are the departures of the crossbar switch, which keeps up, with its transfers, its figures and what was refused
 pub record IsCrossed (t : Tables) (captures : List (List Captured)) (c : Crossed) : Type 0 where

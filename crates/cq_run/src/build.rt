@@ -98,8 +98,8 @@ fn build_first(
     requires run { IsSwitched tables.now captures run }
     ensures { IfOk result (λ bytes. bytes.items ≡ capture_out tables.now captures run.sent.items 0) }
 {
-    let Switched { sent, first_stamp } = run;
-    let left = packets_of_all(alloc, sent, captures.as_slice(), tables, first_stamp)?;
+    let Switched { sent, t0 } = run;
+    let left = packets_of_all(alloc, sent, captures.as_slice(), tables, t0)?;
     drop(captures);
     let mut places = Supply::of(left);
     let Some(place) = places.pop_first() else {
@@ -153,12 +153,9 @@ fn build_logged(
         ∷ []) }
     ensures text { IfOk result (λ plan. plan.text ≡ report_with crossed.run.figures crossed.run.refused.items) }
 {
-    let Crossed { run, first_stamp } = crossed;
+    let Crossed { run, t0 } = crossed;
     let log = log_text_of_room(alloc, run.note)?;
-    let switched = Switched {
-        sent: run.sent,
-        first_stamp,
-    };
+    let switched = Switched { sent: run.sent, t0 };
     let mut writes = build_traced(alloc, tables, captures, switched)?;
     put_write(alloc, &mut writes, &tables.log, log)?;
     Ok(Work::of(writes, report_text(alloc, &run.figures, &run.refused)?))
@@ -216,8 +213,8 @@ fn build_captures(
     ensures { IfOk result (λ writes. writes.items
         ≡ captures_out tables.now captures run.sent.items 0 tables.now.ports) }
 {
-    let Switched { sent, first_stamp } = run;
-    let left = packets_of_all(alloc, sent, captures.as_slice(), tables, first_stamp)?;
+    let Switched { sent, t0 } = run;
+    let left = packets_of_all(alloc, sent, captures.as_slice(), tables, t0)?;
     drop(captures);
     let mut places = Supply::of(left);
     let rows = tables.ports.as_slice();

@@ -65,7 +65,7 @@ pub fn resume_by_crossbar<R: Threads + Sync, G: Gate>(
     let resumed = resume_fabric(rt, alloc, tables, &schedule, &taken, gate)?;
     Ok(Crossed {
         run: resumed,
-        first_stamp: schedule.t0(),
+        t0: schedule.t0(),
     })
 }
 

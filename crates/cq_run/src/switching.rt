@@ -18,14 +18,14 @@ use std::thread::Threads;
 #[derive(Drop)]
 pub struct Switched {
     pub sent: Departures,
-    pub first_stamp: u64,
+    pub t0: u64,
 }
 
 /// What the crossbar switch did, and the stamp from which its slots are counted, in nanoseconds.
 #[derive(Drop)]
 pub struct Crossed {
     pub run: PackedFabricRun,
-    pub first_stamp: u64,
+    pub t0: u64,
 }
 
 impl Crossed {
@@ -33,14 +33,14 @@ impl Crossed {
     pub fn into_switched(self) -> Switched
         ensures { result ≡ sent_by self }
     {
-        let Crossed { run, first_stamp } = self;
+        let Crossed { run, t0 } = self;
         let PackedFabricRun {
             sent,
             note: _,
             figures: _,
             refused: _,
         } = run;
-        Switched { sent, first_stamp }
+        Switched { sent, t0 }
     }
 }
 
@@ -60,7 +60,7 @@ pub fn switch_ideally<R: Threads + Sync>(
     let sent = run_ideal_packed(alloc, tables, &schedule)?;
     Ok(Switched {
         sent,
-        first_stamp: schedule.t0(),
+        t0: schedule.t0(),
     })
 }
 
@@ -84,7 +84,7 @@ pub fn switch_by_crossbar<R: Threads + Sync, G: Gate>(
     let run = run_fabric_packed(rt, alloc, tables, &schedule, gate)?;
     Ok(Crossed {
         run,
-        first_stamp: schedule.t0(),
+        t0: schedule.t0(),
     })
 }
 

@@ -4,7 +4,7 @@ use Rattle.std.specs.List.{flat_map}
 use Rattle.cq_base.specs.Arriving.{Arrival}
 use Rattle.cq_base.specs.declared.cell.Cell.{Cell}
 use Rattle.cq_base.specs.declared.cell.Departure.{Departure}
-use Rattle.cq_cells.specs.Schedule.{arrivals, first_stamp, packet_at}
+use Rattle.cq_cells.specs.Schedule.{arrivals, t0_of, packet_at}
 use Rattle.cq_ideal.specs.Flows.{came_in_flow, left_in_flow}
 use Rattle.cq_pcap.specs.Captured.{Captured}
 use Rattle.cq_pcap.specs.Written.{written}
@@ -33,7 +33,7 @@ pub record HaveLeftOf (t : Tables) (cs : List (List Captured)) (sent : List Depa
   pub tables : AreTables t
   pub captures : length cs ≡ ports_of t.setup
   pub whole : LeaveWhole (arrivals t cs) sent
-  pub t0 : stamp ≡ first_stamp cs
+  pub t0 : stamp ≡ t0_of cs
 
 -- whether the last cell of a packet departs at this output
 abbrev pub ends_packet_at : ℕ → Departure → Bool
@@ -43,7 +43,7 @@ ends_packet_at output d = d.output == output && d.queued.cell.last
 abbrev pub leaving : Tables → List (List Captured) → Departure → OutPacket
 leaving t captures d =
     let p = packet_at captures d.queued.cell.id.input d.queued.cell.id.packet in
-    record { stamp = first_stamp captures + d.slot * t.slot_ns; original = p.original; body = p.body }
+    record { stamp = t0_of captures + d.slot * t.slot_ns; original = p.original; body = p.body }
 
 -- the packets that leave an output, in the order in which their last cells depart
 unfoldable pub packets_out : Tables → List (List Captured) → List Departure → ℕ → List OutPacket

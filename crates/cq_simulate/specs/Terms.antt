@@ -7,7 +7,7 @@ pub use Rattle.cq_route.specs.Tables.{AreTables, IsSetup, classes_of, ports_of}
 pub use Rattle.cq_route.specs.declared.tables.Tables.{Tables}
 pub use Rattle.cq_cells.specs.{NextArrival.ArrivesIn, Scheduled.Scheduled, Scheduled.schedule_of}
 pub use Rattle.cq_cells.specs.Traffic.{is_from, is_to, IsTraffic}
-pub use Rattle.cq_cells.specs.Schedule.{arrivals, first_stamp, packet_at}
+pub use Rattle.cq_cells.specs.Schedule.{arrivals, t0_of, packet_at}
 pub use Rattle.cq_rank.specs.Machine.{Machine}
 pub use Rattle.cq_scfq.specs.Disciplines.{machines_of, openings_of}
 pub use Rattle.cq_engine.specs.Engine.{CanGoOn}

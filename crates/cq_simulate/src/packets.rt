@@ -1,7 +1,7 @@
 //! The packets that leave an output.
 ghost use Rattle.std.specs.Prelude.{◌≡◌, ◌+◌, ◌*◌, ◌<◌, ◌≤◌, ℕ, All, IfOk, IfSome, OnOk, [], length};
 ghost use Rattle.cq_cells.specs.Schedule.{packets_of as packets_at};
-ghost use Rattle.cq_simulate.specs.Terms.{first_stamp, packet_at, ports_of, IsOtherPair, open_after, open_at, HaveLeftOf, packets_out, Fits, IsCaptured, left_with, piece_at};
+ghost use Rattle.cq_simulate.specs.Terms.{t0_of, packet_at, ports_of, IsOtherPair, open_after, open_at, HaveLeftOf, packets_out, Fits, IsCaptured, left_with, piece_at};
 
 use cq_base::{Cell, Departure, NoMemory, Port, Slot};
 use cq_pcap::{Capture, OutPacket};
@@ -53,7 +53,7 @@ pub(crate) fn take(
     t0: u64,
 ) -> Result<Option<OutPacket>, NoMemory>
     requires slot_ns { tables.now.slot_ns ≤ 1000000000 }
-    requires t0 { t0 ≡ first_stamp captures.now }
+    requires t0 { t0 ≡ t0_of captures.now }
     requires input { departure.now.queued.cell.id.input < joiner.old.inputs }
     requires class { departure.now.queued.cell.class < joiner.old.classes }
     requires captured { IsCaptured captures.now departure.now.queued.cell }
@@ -103,10 +103,10 @@ fn piece_of<'a>(captures: &'a [Capture], cell: &Cell) -> &'a [u8]
 // A packet that is whole, with the stamp of the slot.
 fn leaving(slot: Slot, joined: Joined, captures: &[Capture], tables: &Tables, t0: u64) -> OutPacket
     requires slot_ns { tables.now.slot_ns ≤ 1000000000 }
-    requires t0 { t0 ≡ first_stamp captures.now }
+    requires t0 { t0 ≡ t0_of captures.now }
     requires input { joined.input < length captures.now }
     requires packet { joined.packet < length (packets_at captures.now joined.input) }
-    ensures stamp { result.stamp ≡ first_stamp captures.now + slot * tables.now.slot_ns }
+    ensures stamp { result.stamp ≡ t0_of captures.now + slot * tables.now.slot_ns }
     ensures original { result.original ≡ (packet_at captures.now joined.input joined.packet).original }
     ensures body { result.body ≡ joined.body }
     ensures small { length (packet_at captures.now joined.input joined.packet).body ≤ 262144 }

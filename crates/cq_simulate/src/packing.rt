@@ -1,6 +1,6 @@
 //! The captures of what leaves all outputs, built in one pass over the departures.
 ghost use Rattle.std.specs.Prelude.{◌≡◌, ◌≤◌, All, IfOk, OnOk, length};
-ghost use Rattle.cq_simulate.specs.Terms.{first_stamp, most_classes, most_ports, ArePacked, HaveLeftOf, CanBeJoined, IsEmptied, Took};
+ghost use Rattle.cq_simulate.specs.Terms.{t0_of, most_classes, most_ports, ArePacked, HaveLeftOf, CanBeJoined, IsEmptied, Took};
 
 use crate::packets::{frame_of, original_of, stamp_of, take};
 use cq_base::{Cell, Departure, Departures, NoMemory, PackedDeparture};
@@ -105,7 +105,7 @@ impl Packing {
         t0: u64,
     ) -> Result<(), NoMemory>
         requires slot_ns { tables.now.slot_ns ≤ 1000000000 }
-        requires t0 { t0 ≡ first_stamp captures.now }
+        requires t0 { t0 ≡ t0_of captures.now }
         requires can { CanBeJoined captures.now self.old.joiner departure.now }
         ensures { OnOk result (Took tables.now captures.now departure.now self.old self.new) }
     {

@@ -3,7 +3,7 @@
 -- come packet after packet at each input. A capture is a file of 2^28 bytes at most, and each packet and each cell of
 -- it takes a byte there, so that no packet's number and no cell's place in its packet comes near 2^32.
 use Rattle.cq_stopped.proofs.Terms.{common_steps, rules, ◌≡◌, ℕ, zero, suc, ◌+◌, ◌-◌, ◌*◌, ◌<◌, ◌≤◌, ◌^◌, min, List, [], ◌∷◌, length, map, flat_map, ap, arith, length-append, fold, replicate, slice_index_or, AllByRecursion, range_with_len, length-map, Arrival, Scheduled, IsRecorded, IsTraffic, KeepsLaws, Machine, machine_at, all_both, ArePackets, IsScheduleOf, Switch, switch_of, AreTables, IsSetup, Tables, machine_of, machines_of, opening_of, openings_of, AreRecorded, of_images, FitsLine, length-map-range_with_len, ClassRow, Kind, FirstCome, Priority, Fair, Setup, came_more, few_by, length_packet, row_of, rows_are, Captured, schedule_known, all_cells, keeps_laws, kind, machine_is, right_classes, right_size, level_count, longest_file, most_classes, most_ports}
-use Rattle.cq_cells.specs.Schedule.{arrivals, arrivals_at, cell_of, first_stamp, packets_of}
+use Rattle.cq_cells.specs.Schedule.{arrivals, arrivals_at, cell_of, t0_of, packets_of}
 
 -- all numbers of a rank state fit 128 bits
 abbrev pub AreLow : List ℕ → Type 0
@@ -20,7 +20,7 @@ pub record IsConfigured (w : Switch) (ranks : List (List ℕ)) : Type 0 where
   pub few : length w.machines ≤ most_ports
   pub some_classes : 1 ≤ w.classes
   pub few_classes : w.classes ≤ most_classes
-  pub first_stamp : w.first_stamp < 2 ^ 63
+  pub t0 : w.t0 < 2 ^ 63
   pub traffic : IsTraffic (length w.machines) w.classes w.came
   pub packets : ArePackets (length w.machines) w.came
   pub names : AllByRecursion FitsLine w.came
@@ -91,7 +91,7 @@ module _ (t : Tables) (captures : List (List Captured)) where
       let own = length_packet t captures i k in
       (omega (arith, rows.few, many), omega (arith, all, more, own, length-append {A = Arrival})))
 
--- ## The first stamp
+-- ## T0
 
 abbrev IsStamp : ℕ → Type 0
 IsStamp n = n < 2 ^ 63
@@ -110,8 +110,8 @@ stamps_low (ps ∷ captures) each =
     search (rules, all_both, of_images)
 
 first_low : (captures : List (List Captured)) → ((i : ℕ) → i < length captures → IsRecorded (packets_of captures i)) →
-    first_stamp captures < 2 ^ 63
-unfolding first_stamp
+    t0_of captures < 2 ^ 63
+unfolding t0_of
 first_low captures each = search (arith, rules, flat_map, stamps_low, least_of)
 
 -- ## Together
@@ -123,7 +123,7 @@ configured t s made tables recorded =
     let many = length-map setup.kinds (λ (k : Kind). machine_of k setup.classes) in
     let known = schedule_known t s tables made in
     let few : length made.captures ≤ most_ports = omega arith in
-    let stamp : s.first_stamp < 2 ^ 63 = rw made.schedule (first_low made.captures recorded) in
+    let stamp : s.t0 < 2 ^ 63 = rw made.schedule (first_low made.captures recorded) in
     let names = small_names t made.captures (omega arith) recorded in
     let short = all_short t made.captures tables few recorded in
     let low = machines_low setup.kinds setup.classes in

@@ -14,7 +14,7 @@ use Rattle.cq_state.specs.declared.state.State.{State}
 
 -- the state that tells of what a run of this switch left
 abbrev pub told_state : Switch → Taken → State
-told_state w at = state_of at.frozen at.sent at.note w.first_stamp w.classes (length w.came)
+told_state w at = state_of at.frozen at.sent at.note w.t0 w.classes (length w.came)
 
 -- its numbers are in range, it is a sound state of the switch, and it comes to what was left
 abbrev pub CanBeTakenUp : Switch → Taken → Type 0

@@ -20,7 +20,7 @@ invariant_of-result g c = search (
 
 pub returns-clause-schedule : goal.returns-clause-schedule
 returns-clause-schedule g c =
-    search (arith, rules, length-map-range_with_len, all_lines, c.first_stamp-first_stamp.ensures)
+    search (arith, rules, length-map-range_with_len, all_lines, c.t0_of-t0.ensures)
 
 pub returns-clause-traffic : goal.returns-clause-traffic
 returns-clause-traffic g c =

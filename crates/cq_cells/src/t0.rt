@@ -1,14 +1,14 @@
-//! The stamp from which slots are counted.
+//! T0, the stamp from which slots are counted.
 ghost use Rattle.std.specs.Prelude.{◌≡◌, map, min};
 ghost use Rattle.std.specs.List.{reduce};
-ghost use Rattle.cq_cells.specs.Terms.{earlier, first_stamp};
+ghost use Rattle.cq_cells.specs.Terms.{earlier, t0_of};
 
 use cq_pcap::{Capture, PacketRow};
 
 /// The least stamp of all captures, in nanoseconds, or 0 where there is no packet.
-#[tactic(auto, unfolding(crate::specs::Schedule::first_stamp))]
-pub fn first_stamp(captures: &[Capture]) -> u64
-    ensures { result ≡ first_stamp captures.now }
+#[tactic(auto, unfolding(crate::specs::Schedule::t0_of))]
+pub fn t0_of(captures: &[Capture]) -> u64
+    ensures { result ≡ t0_of captures.now }
 {
     let mut first = None;
     'captures: for capture in captures {
