@@ -65,10 +65,10 @@ def slots(packets):
 
     One cell arrives in a slot, and the output sends one in every slot, so a cell leaves in the slot
     in which it arrives. So the last slot is that in which the packet leaves."""
-    first_stamp = min((p.stamp for p in packets), default=0)
+    t0 = min((p.stamp for p in packets), default=0)
     rows, free = [], 0
     for packet in packets:
-        stamp_slot = (packet.stamp - first_stamp) // SLOT_NS
+        stamp_slot = (packet.stamp - t0) // SLOT_NS
         start = max(stamp_slot, free)
         free = start + cells_of(packet)
         rows.append((stamp_slot, start, free - 1))
@@ -77,8 +77,8 @@ def slots(packets):
 
 def passed(packets):
     """The packets that leave, each with the stamp of the slot in which it leaves."""
-    first_stamp = min((p.stamp for p in packets), default=0)
-    return [p._replace(stamp=first_stamp + last * SLOT_NS) for p, (_, _, last) in zip(packets, slots(packets))]
+    t0 = min((p.stamp for p in packets), default=0)
+    return [p._replace(stamp=t0 + last * SLOT_NS) for p, (_, _, last) in zip(packets, slots(packets))]
 
 
 def main():

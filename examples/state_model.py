@@ -43,15 +43,15 @@ class Named(NamedTuple):
 class State:
     """What the lines of a state tell."""
 
-    def __init__(self, next, ports, classes, first_stamp, total, proposals, most):
+    def __init__(self, next, ports, classes, t0, total, proposals, most):
         self.next, self.ports, self.classes = next, ports, classes
-        self.first_stamp, self.total, self.proposals, self.most = first_stamp, total, proposals, most
+        self.t0, self.total, self.proposals, self.most = t0, total, proposals, most
         self.inputs, self.ranks, self.listed, self.buffered, self.sent, self.moved = [], [], [], [], [], []
 
     def lines(self):
         yield "cq-state 1"
         yield "next %d" % self.next
-        yield "shape %d %d %d %d" % (self.ports, self.classes, self.first_stamp, self.total)
+        yield "shape %d %d %d %d" % (self.ports, self.classes, self.t0, self.total)
         yield "sum %d %d" % (self.proposals, self.most)
         for i, (longest, slack) in enumerate(self.inputs):
             yield "input %d %d %s" % (i, longest, "-" if slack is None else slack)
@@ -154,7 +154,7 @@ class Judge:
         state, switch = self.state, self.switch
         widths = [len(switch.classes) + LEVELS if kind == "fair" else 0 for kind in switch.disciplines]
         return ((state.ports, state.classes) == (len(widths), len(switch.classes))
-                and (state.first_stamp, state.total) == (switch.first_stamp, len(self.came))
+                and (state.t0, state.total) == (switch.t0, len(self.came))
                 and [len(numbers) for numbers in state.ranks] == widths)
 
     def arrivals(self):
@@ -289,7 +289,7 @@ class Parted(Fabric):
     def state(self):
         switch = self.switch
         total = sum(len(cells) for cells in switch.arrivals().values())
-        state = State(self.next, len(self.lists), len(switch.classes), switch.first_stamp, total, self.proposals, self.most)
+        state = State(self.next, len(self.lists), len(switch.classes), switch.t0, total, self.proposals, self.most)
         named = lambda q: Named(q.level, q.rank, q.slot, q.input)
         state.inputs = list(zip(self.longest, self.slack))
         state.ranks = [self.numbers(ranks) for ranks in self.ranks]

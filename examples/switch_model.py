@@ -135,7 +135,7 @@ class Switch:
         self.limits = [port.get("limit") for port in tables["port"]]
         self.classes = tables.get("class", [{}])
         self.captures = captures
-        self.first_stamp = min((p.stamp for packets in captures for p in packets), default=0)
+        self.t0 = min((p.stamp for packets in captures for p in packets), default=0)
 
     @staticmethod
     def of(config):
@@ -159,7 +159,7 @@ class Switch:
         for i, packets in enumerate(self.captures):
             free = 0
             for k, packet in enumerate(packets):
-                start = max(free, (packet.stamp - self.first_stamp) // self.slot_ns)
+                start = max(free, (packet.stamp - self.t0) // self.slot_ns)
                 cells = max(1, -(-len(packet.body) // self.cell_bytes))
                 output, kind = self.route(i, packet.body)
                 for c in range(cells):
@@ -190,7 +190,7 @@ class Switch:
     def write(self, sent):
         """The captures and the trace of these departures."""
         for output, name in enumerate(self.written):
-            packets = [self.captures[cell.input][cell.packet]._replace(stamp=self.first_stamp + slot * self.slot_ns)
+            packets = [self.captures[cell.input][cell.packet]._replace(stamp=self.t0 + slot * self.slot_ns)
                        for slot, at, cell in sent if at == output and cell.last]
             with open(name, "wb") as capture:
                 capture.write(written(packets))

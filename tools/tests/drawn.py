@@ -149,7 +149,7 @@ def flows_of(fabric: Watched) -> list[dict[str, Any]]:
             if sent or (output, kind) == ("all", "all"):
                 waits = [slot - q.slot for slot, q in sent]
                 delays = [
-                    switch.first_stamp + slot * switch.slot_ns - switch.captures[q.input][q.cell.packet].stamp
+                    switch.t0 + slot * switch.slot_ns - switch.captures[q.input][q.cell.packet].stamp
                     for slot, q in sent
                     if q.cell.last
                 ]
@@ -188,7 +188,7 @@ def inputs_of(fabric: Watched, slots: int) -> list[dict[str, Any]]:
     for i in fabric.ports:
         packets = switch.captures[i]
         ahead = [
-            starts[i, k] - (packet.stamp - switch.first_stamp) // switch.slot_ns for k, packet in enumerate(packets)
+            starts[i, k] - (packet.stamp - switch.t0) // switch.slot_ns for k, packet in enumerate(packets)
         ]
         unknown = [packet.body for packet in packets if packet.body[:6] not in switch.outputs]
         rows.append(

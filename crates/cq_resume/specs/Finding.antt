@@ -43,7 +43,7 @@ AreFound came next names told = AllZip (IsTold came next) names told
 abbrev pub AreGone : List Arrival → ℕ → List Sent → List Gone → Type 0
 AreGone came next sent gone = AllZip (IsGone came next) sent gone
 
--- one of these names has none
+-- this name has none
 abbrev pub IsMissed : List Arrival → ℕ → Named → Type 0
 IsMissed came next c = told_of came next c ≡ None
 

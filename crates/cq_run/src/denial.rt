@@ -8,7 +8,8 @@ pub enum Denial {
     LongTrace,
     /// A6 of the log: its file has more than 268,435,456 bytes.
     LongLog,
-    /// A1 to A4, in the order of the refusals: the log is refused for this. Want of memory is no denial.
+    /// A1 to A4, numbered as `AuditRefusal` lists them and tried as it says: the log is refused for this. Want of
+    /// memory is no denial.
     Log(AuditRefusal),
     /// A5: the trace differs from the ideal one in this line first.
     Trace {

@@ -37,7 +37,7 @@ pub fn whole_packets_arrive()
 {}
 
 /// From every state that can be taken up an engine of the tables' machines and limits can go on, with room at each port
-/// for the cells that arrive there in all. So one can be made of what was read, as `Engine::thaw` asks.
+/// for the cells that arrive there in all. So what was read meets what `Engine::thaw` asks of a state.
 pub fn taken_up_states_can_go_on()
     ensures { (t : Tables) (s : Scheduled) (from : Taken) →
         IsScheduleFor t s → CanBeTakenUp (switch_of t s) from →

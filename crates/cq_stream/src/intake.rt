@@ -69,8 +69,9 @@ impl Intake {
     }
 
     /// What `read_capture` answers on the reader's bytes, where the last item taken was `Ended` and
-    /// these are the rows taken. Each record up to the end, or up to the first at fault, has one of them, and they
-    /// stand as the records do. A refusal is the fault that the reader found, and never want of memory.
+    /// these are the rows taken. Each record ahead of the end, or of the first at fault, has one of them, there
+    /// is no other, and they stand as the records do. A refusal is the fault that the reader found, and never want of
+    /// memory.
     pub fn close(self, done: Done, rows: Vec<PacketRow>) -> Result<Capture, PcapRefusal>
         requires done { IsLeftTo self done }
         requires taken { taken self ≡ items_of rows.items }
