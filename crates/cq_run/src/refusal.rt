@@ -9,7 +9,7 @@ use cq_pcap::PcapRefusal;
 /// What is wrong with a capture.
 #[derive(Clone, Copy, Debug, PartialEq, Eq)]
 pub enum CaptureFault {
-    /// Numbers 1 to 7, in the order of the refusals: its bytes have this fault first. Want of memory is none.
+    /// Numbers 1 to 7, as `PcapRefusal` lists them: its bytes have this fault first. Want of memory is none.
     Read(PcapRefusal),
     /// Number 8: its file is too long.
     Long {

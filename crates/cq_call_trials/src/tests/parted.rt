@@ -63,7 +63,7 @@ fn is_refused<R: Threads + Sync>(
     leaves(rt, alloc, call, disk, left)
 }
 
-// Whether the changed state is.
+// Whether the text with that part changed is refused so, over the inputs of `TWO_FOR_ONE`.
 fn is_changed_refused<R: Threads + Sync>(rt: &R, alloc: Global, case: &Changed) -> Answer {
     let (part, other, line) = *case;
     let Some((front, back)) = STATE.split_once(part) else {
