@@ -1,8 +1,10 @@
 -- What is told of a text, as the trace or the log of an audit or the state of a stopped run, from what was read under
 -- its name: its bytes, where they are not too many. The name that was asked for is the one that is to be read, or a
 -- copy of it.
-use Rattle.cq_run.proofs.Terms.{rules, ◌≡◌, ◌<◌, ◌≤◌, ◌⊎◌, ℕ, IsTrue, List, length, inl, inr, arith, codes, refl, false, Option, None, Some, IfSome, Result, Ok, Err, IsErrOf, Vec, nat_le, le-ltb, lt-ltb, get, Global, Contents, bytes_of, Refusal, Missing, Configuration, IsRefused, IsToRead, meaning_of, short_in, tables_in, first, read_or_refused, common_steps, ◌∙◌, ap, sym, slice_index, Captured, PcapRefusal, IsFaulty, Spells, Space, Halts, AnyName, Pace, Uncounted, Reader, halt_for, capture_in, read_or_faulty, Lacks, ReadRefusal, spelt_or_faulty, fault_is_read, spelt_is_read, longest_file}
+use Rattle.cq_run.proofs.Terms.{rules, ◌≡◌, ◌<◌, ◌≤◌, ◌⊎◌, ℕ, IsTrue, List, length, inl, inr, arith, codes, refl, false, Option, None, Some, IfSome, Result, Ok, Err, IsErrOf, Vec, nat_le, le-ltb, lt-ltb, get, Global, Contents, bytes_of, Refusal, Missing, Configuration, IsRefused, IsToRead, meaning_of, short_in, tables_in, first, read_or_refused, common_steps, ◌∙◌, ap, sym, slice_index, Captured, PcapRefusal, IsFaulty, Spells, Space, Halts, AnyName, Pace, Uncounted, Reader, halt_for, capture_in, read_or_faulty, Lacks, ReadRefusal, spelt_or_faulty, fault_is_read, spelt_is_read, longest_file, is_fault}
 use Rattle.std.specs.FinMap.{remove}
+use Rattle.cq_pcap.specs.declared.read.PcapRefusal.TheVariants as refusal
+use Rattle.cq_run.specs.declared.refusal.CaptureFault.TheVariants.{Read}
 use Rattle.cq_space.specs.declared.whole.ReadRefusal.TheVariants as whole
 use Rattle.cq_run.proofs.Stays.{get-remove_same}
 use Rattle.cq_pcap.specs.Reading.{packets_of}
@@ -82,6 +84,11 @@ one_answer r s bytes are = go (spelt_or_faulty bytes are)
     go (inl (packets, h)) = r.spelt bytes packets h ∙ sym (s.spelt bytes packets h)
     go (inr (fault, h)) = r.faulty bytes fault h ∙ sym (s.faulty bytes fault h)
 
+-- bytes are at no fault by want of memory
+faulty_told : (bytes : List ℕ) (fault : PcapRefusal) → IsFaulty bytes fault → IsTrue (is_fault (Read fault))
+faulty_told bytes refusal.NoMemory h = absurd h
+faulty_told bytes fault h = refl
+
 module _ (r : Reader) (name : List ℕ) (input limit : ℕ) (bytes : List ℕ) (short : length bytes ≤ limit) where
   -- a file of at most this length is looked at
   read_at : (m : Contents) → get m name ≡ Some bytes →
@@ -100,7 +107,8 @@ module _ (r : Reader) (name : List ℕ) (input limit : ℕ) (bytes : List ℕ) (
       → Uncounted p (AnyName R) old.faults new.faults →
       Halts p (capture_in r name input limit) R old new (halt_for input found)
   capture_halts p R old new None at faulty kept = kept
-  capture_halts p R old new (Some fault) at faulty kept = grind (arith, common_steps)
+  capture_halts p R old new (Some fault) at faulty kept =
+      let told = faulty_told bytes fault faulty in grind (arith, common_steps)
 
 -- a file that was read was read with no fault
 pub read_is_no_fault : (v : Vec ℕ Global) (P : Type 0) → IsErrOf {T = Vec ℕ Global} (Ok v) whole.Fault ⊎ P → P

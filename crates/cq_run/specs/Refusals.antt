@@ -45,6 +45,11 @@ abbrev pub fault_text : CaptureFault → List ℕ
 fault_text (Read refusal) = refusal_text refusal
 fault_text (Long limit) = codes "8, limit " ++ decimal limit
 
+-- whether bytes, or the length of a file, can be at fault so: want of memory is no fault of theirs
+abbrev pub is_fault : CaptureFault → Bool
+is_fault (Read NoMemory) = false
+is_fault fault = true
+
 -- in which phase of which slot
 abbrev pub in_phase_text : ℕ → ℕ → List ℕ
 in_phase_text slot phase = codes " at slot " ++ decimal slot ++ codes " phase " ++ decimal phase
@@ -66,6 +71,11 @@ denial_text audit.LongTrace = codes "audit: A6 trace"
 denial_text audit.LongLog = codes "audit: A6 log"
 denial_text (audit.Log refusal) = log_text refusal
 denial_text (audit.Trace n) = codes "audit: A5 at line " ++ decimal n
+
+-- whether an audit can say no so: want of memory says nothing of a log
+abbrev pub is_no : Denial → Bool
+is_no (audit.Log of_log.NoMemory) = false
+is_no denial = true
 
 -- what is wrong with the state of a stopped run, with its figure
 abbrev pub state_fault_text : StateFault → List ℕ
@@ -98,7 +108,7 @@ meaning_of (Configuration code path) = record {
 meaning_of (Capture input fault) = record {
   status = status.Capture;
   text = codes "capture of input " ++ decimal input ++ codes ": " ++ fault_text fault;
-  untold = true;
+  untold = is_fault fault;
   outruns = true;
 }
 meaning_of (Tag fault) = record {
@@ -111,7 +121,7 @@ meaning_of (Tag fault) = record {
 meaning_of (Audit denial) = record {
   status = status.AuditNo;
   text = denial_text denial;
-  untold = true;
+  untold = is_no denial;
   outruns = false;
 }
 meaning_of (State fault) = record {

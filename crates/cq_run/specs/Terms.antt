@@ -26,7 +26,7 @@ pub use Rattle.cq_run.specs.Pace.{Ahead, InTurn, pace_of}
 pub use Rattle.cq_run.specs.PartEnds.{IsResumeHalt, IsResuming, IsPartHalt, IsResumedBy}
 pub use Rattle.cq_run.specs.Planning.{IsWithinRange, known_by}
 pub use Rattle.cq_run.specs.Plans.{audited, capture_out, captures_out, check_line, checked, counted, state_written, switched, yes_line}
-pub use Rattle.cq_run.specs.Refusals.{meaning_of, denial_text, fault_text, log_text, refusal_text, state_fault_text}
+pub use Rattle.cq_run.specs.Refusals.{is_no, meaning_of, denial_text, fault_text, log_text, refusal_text, state_fault_text}
 pub use Rattle.cq_run.specs.Running.{IsEmptied, reader_of}
 pub use Rattle.cq_run.specs.Switching.{IsSent, IsSwitched, sent_by, IsCrossing, IsIdeal, IsPassing, halt_for, IsCrossed}
 pub use Rattle.cq_run.specs.Verdict.{captures_from, packets_at, ideally_sent, capture_in, captures_in, short_in, state_in, tables_in, text_in, verdict}

@@ -1,6 +1,6 @@
 //! Reading what a command names. Nothing is written here.
 ghost use Rattle.std.specs.Prelude.{◌≡◌, ◌≤◌, ◌∷◌, ◌++◌, [], IfErr, IfOk, IsTrue, OnOk, length};
-ghost use Rattle.cq_run.specs.Terms.{AreTables, ports_of, Fails, Reads, fault_of, Closed, EndsGiven, IsGiven, IsFileOf, Halts, Judges, InTurn, Reader, meaning_of, halt_for, capture_in, captures_in, packets_at, short_in, state_in, tables_in, text_in, longest_file};
+ghost use Rattle.cq_run.specs.Terms.{AreTables, ports_of, Fails, Reads, fault_of, Closed, EndsGiven, IsGiven, IsFileOf, Halts, Judges, InTurn, Reader, is_no, meaning_of, halt_for, capture_in, captures_in, packets_at, short_in, state_in, tables_in, text_in, longest_file};
 
 use crate::{CaptureFault, Denial, Halt, Refusal, StateFault};
 use cq_base::{Name, NoMemory, Sequence};
@@ -62,7 +62,8 @@ pub fn read_text<F: Files>(
     name: &Name,
     long: Denial,
 ) -> Result<Sequence<u8>, Halt>
-    requires { (F.space files.old).mode ≡ Closed }
+    requires closed { (F.space files.old).mode ≡ Closed }
+    requires untold { IsTrue (is_no long) }
     ensures judges { Judges InTurn (text_in long name.now)
         (λ asked. (asked ≡ name.now) × Fails F.space F.may_fail F.keeps (Reads asked) files.old files.new)
         (F.space files.old) (F.space files.new) result }
