@@ -23,13 +23,14 @@ pub use Rattle.cq_run.specs.Input.{IsHaltFor, IsFileOf}
 pub use Rattle.cq_run.specs.Judging.{Halts, Judges, IsHaltOf}
 pub use Rattle.cq_run.specs.Line.{Says, line, halt_text, unwritten_text, stop_text, Tells}
 pub use Rattle.cq_run.specs.Pace.{Ahead, InTurn, pace_of}
-pub use Rattle.cq_run.specs.PartEnds.{IsResumeHalt, IsResuming, IsPartHalt, IsResumedBy}
+pub use Rattle.cq_run.specs.PartEnds.{IsResumeHalt, IsResuming, IsPartHalt, IsResumedBy, halt_for_state, halt_for_text}
 pub use Rattle.cq_run.specs.Planning.{IsWithinRange, known_by}
 pub use Rattle.cq_run.specs.Plans.{audited, capture_out, captures_out, check_line, checked, counted, state_written, switched, yes_line}
 pub use Rattle.cq_run.specs.Refusals.{is_no, meaning_of, denial_text, fault_text, log_text, refusal_text, state_fault_text}
 pub use Rattle.cq_run.specs.Running.{IsEmptied, reader_of}
-pub use Rattle.cq_run.specs.Switching.{IsSent, IsSwitched, sent_by, IsCrossing, IsIdeal, IsPassing, halt_for, IsCrossed}
+pub use Rattle.cq_run.specs.Switching.{IsSent, IsSwitched, sent_by, IsCrossing, IsIdeal, IsPassing, halt_for, halt_of, IsCrossed}
 pub use Rattle.cq_run.specs.Verdict.{captures_from, packets_at, ideally_sent, capture_in, captures_in, short_in, state_in, tables_in, text_in, verdict}
 pub use Rattle.cq_run.specs.Workers.{WorkersChangeNothing}
 pub use Rattle.cq_run.specs.World.{world, taken_by}
 pub use Rattle.cq_run.specs.Writing.{IsDone, IsCut, IsCutAtFile, all_replaced}
+pub use Rattle.cq_run.specs.Auditing.{halt_for_log}

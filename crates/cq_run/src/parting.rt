@@ -1,6 +1,6 @@
 //! Stopping a run over the captures that were read, and taking one up.
 ghost use Rattle.std.specs.Prelude.{◌≡◌, ◌<◌, ◌^◌, IfErr, IfOk, OnOk, length};
-ghost use Rattle.cq_run.specs.Terms.{AreTables, ports_of, AreGiven, IsPartHalt, IsResumeHalt, IsResumedBy, IsPartText};
+ghost use Rattle.cq_run.specs.Terms.{AreTables, ports_of, AreGiven, IsPartHalt, IsResumeHalt, IsResumedBy, IsPartText, halt_for_state, halt_for_text};
 
 use crate::switching::Crossed;
 use crate::{Halt, Refusal, StateFault};
@@ -70,9 +70,6 @@ pub fn resume_by_crossbar<R: Threads + Sync, G: Gate>(
 }
 
 impl From<StateLong> for Halt {
-    ghost use Rattle.std.specs.Prelude.{◌≡◌};
-    ghost use Rattle.cq_run.specs.PartEnds.{halt_for_text};
-
     ghost from_gives = { λ refusal halt. halt ≡ halt_for_text refusal };
 
     fn from(refusal: StateLong) -> Self {
@@ -84,9 +81,6 @@ impl From<StateLong> for Halt {
 }
 
 impl From<StateRefusal> for Halt {
-    ghost use Rattle.std.specs.Prelude.{◌≡◌};
-    ghost use Rattle.cq_run.specs.PartEnds.{halt_for_state};
-
     ghost from_gives = { λ refusal halt. halt ≡ halt_for_state refusal };
 
     fn from(refusal: StateRefusal) -> Self {

@@ -1,6 +1,8 @@
 //! Why a run stops before its work is done.
 ghost use Rattle.std.specs.Prelude.{◌≡◌};
 ghost use Rattle.cq_run.specs.Terms.{halt_status, stop_status};
+ghost use Rattle.cq_run.specs.declared.stop.Halt.TheVariants.{NoMemory as no_memory};
+ghost use Rattle.cq_run.specs.declared.stop.Stop.TheVariants.{Cut, Halted};
 
 use crate::Refusal;
 use cq_base::{Name, NoMemory, Status};
@@ -50,9 +52,6 @@ pub enum Stop {
 }
 
 impl From<NoMemory> for Halt {
-    ghost use Rattle.std.specs.Prelude.{◌≡◌};
-    ghost use Rattle.cq_run.specs.declared.stop.Halt.TheVariants.{NoMemory as no_memory};
-
     ghost from_gives = { λ _ halt. halt ≡ no_memory };
 
     fn from(_: NoMemory) -> Self {
@@ -61,10 +60,6 @@ impl From<NoMemory> for Halt {
 }
 
 impl From<NoMemory> for Stop {
-    ghost use Rattle.std.specs.Prelude.{◌≡◌};
-    ghost use Rattle.cq_run.specs.declared.stop.Halt.TheVariants.{NoMemory as no_memory};
-    ghost use Rattle.cq_run.specs.declared.stop.Stop.TheVariants.{Halted};
-
     ghost from_gives = { λ _ stop. stop ≡ Halted no_memory };
 
     fn from(_: NoMemory) -> Self {
@@ -75,9 +70,6 @@ impl From<NoMemory> for Stop {
 }
 
 impl From<Halt> for Stop {
-    ghost use Rattle.std.specs.Prelude.{◌≡◌};
-    ghost use Rattle.cq_run.specs.declared.stop.Stop.TheVariants.{Halted};
-
     ghost from_gives = { λ halt stop. stop ≡ Halted halt };
 
     fn from(halt: Halt) -> Self {
@@ -86,9 +78,6 @@ impl From<Halt> for Stop {
 }
 
 impl From<Unwritten> for Stop {
-    ghost use Rattle.std.specs.Prelude.{◌≡◌};
-    ghost use Rattle.cq_run.specs.declared.stop.Stop.TheVariants.{Cut};
-
     ghost from_gives = { λ at stop. stop ≡ Cut at };
 
     fn from(at: Unwritten) -> Self {

@@ -1,6 +1,6 @@
 //! Running a switch over the captures that were read.
 ghost use Rattle.std.specs.Prelude.{◌≡◌, ◌≤◌, All, IfOk, IfErr, OnOk, length};
-ghost use Rattle.cq_run.specs.Terms.{AreTables, ports_of, IsAuditHalted, IsAuditPassed, IsHaltOf, IsCrossed, IsSwitched, sent_by, ideally_sent};
+ghost use Rattle.cq_run.specs.Terms.{AreTables, ports_of, IsAuditHalted, IsAuditPassed, IsHaltOf, IsCrossed, IsSwitched, sent_by, ideally_sent, halt_for_log, halt_of};
 
 use crate::{Denial, Halt, Refusal};
 use cq_audit::{AuditRefusal, audit_log, audit_trace};
@@ -131,9 +131,6 @@ fn denied(denial: Denial) -> Halt
 }
 
 impl From<AuditRefusal> for Halt {
-    ghost use Rattle.std.specs.Prelude.{◌≡◌};
-    ghost use Rattle.cq_run.specs.Auditing.{halt_for_log};
-
     ghost from_gives = { λ refusal halt. halt ≡ halt_for_log refusal };
 
     fn from(refusal: AuditRefusal) -> Self {
@@ -145,9 +142,6 @@ impl From<AuditRefusal> for Halt {
 }
 
 impl From<RunRefusal> for Halt {
-    ghost use Rattle.std.specs.Prelude.{◌≡◌};
-    ghost use Rattle.cq_run.specs.Switching.{halt_of};
-
     ghost from_gives = { λ refusal halt. halt ≡ halt_of refusal };
 
     fn from(refusal: RunRefusal) -> Self {
