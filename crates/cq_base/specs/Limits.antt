@@ -17,7 +17,7 @@ level_count = 16
 abbrev pub most_workers : ℕ
 most_workers = 64
 
--- the most bytes of a file that is kept whole
+-- the most bytes of a file that is kept whole: a capture, a state, a log or a trace that is read
 abbrev pub longest_file : ℕ
 longest_file = 2 ^ 28
 

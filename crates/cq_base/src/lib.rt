@@ -3,6 +3,7 @@
 //! Ports, slots, cells and keys are plain data. The other types own memory or hide how they are kept,
 //! and contracts see what they mean: `Name` is its bytes, `Sequence` its items, `Supply` those that are left,
 //! `Room` its items and the room that is left, `Departures` those of a run, and `Arrivals` a map from inputs to cells.
+//! The limits of a switch, and of the files of a run, stand here once for all crates.
 #![tactic(auto)]
 
 mod arrivals;

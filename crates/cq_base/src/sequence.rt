@@ -2,7 +2,7 @@
 //!
 //! Two vectors with the same items may differ in capacity, so values that hold them could not be
 //! called equal. A `Sequence` is its items and nothing else.
-ghost use Rattle.std.specs.Prelude.{◌≡◌, ◌<◌, [], ◌∷◌, ◌++◌, OnOk, IfOk, length, slice_set};
+ghost use Rattle.std.specs.Prelude.{◌≡◌, ◌<◌, [], ◌∷◌, ◌++◌, OnErr, OnOk, IfOk, length, slice_set};
 
 use crate::NoMemory;
 use std::alloc::Global;
@@ -58,9 +58,10 @@ impl<T: Drop> Sequence<T> {
         self.items[place] = item;
     }
 
-    /// Puts the item behind all others. The error is want of memory.
+    /// Puts the item behind all others. The error is want of memory, and then the items are as before.
     pub fn push(&mut self, item: T) -> Result<(), NoMemory>
-        ensures { OnOk result (self.new ≡ self.old ++ item ∷ []) }
+        ensures more { OnOk result (self.new ≡ self.old ++ item ∷ []) }
+        ensures kept { OnErr result (self.new ≡ self.old) }
     {
         Ok(self.items.push(item)?)
     }

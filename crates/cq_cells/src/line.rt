@@ -2,8 +2,7 @@
 //! before was, or by halving: the work grows with the logarithm of the number of packets at most.
 ghost use Rattle.std.specs.Prelude.{◌≡◌, ℕ, ◌+◌, ◌-◌, ◌/◌, ◌==◌, ◌^◌, ◌<◌, ◌≤◌, find, length, map, max, option_map, slice_index_or, IfOk, IsTrue};
 ghost use Rattle.std.specs.List.Sorted.{IsNonDecreasingBy};
-ghost use Rattle.cq_cells.specs.Schedule.{t0_of};
-ghost use Rattle.cq_cells.specs.Terms.{end_of, longest_file, AreAdded, AreRows, IsBegun, IsEnded, row_at, row_cell, IsNextArrival, arrivals_at, cells_of, packets_of, IsRecorded, route, AreTables, ports_of};
+ghost use Rattle.cq_cells.specs.Terms.{end_of, longest_file, AreAdded, AreRows, IsBegun, IsEnded, row_at, row_cell, IsNextArrival, arrivals_at, cells_of, packets_of, IsRecorded, route, AreTables, ports_of, t0_of};
 
 use crate::segments::cells_of;
 use cq_base::{Cell, CellId, Class, NoMemory, Port, Slot};

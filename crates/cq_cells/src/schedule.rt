@@ -1,8 +1,7 @@
 //! What arrives at all inputs.
 ghost use Rattle.std.specs.Prelude.{◌≡◌, ℕ, ◌^◌, ◌<◌, ◌≤◌, filter, length, map, replicate, IfOk};
 ghost use Rattle.std.specs.List.{range_with_len};
-ghost use Rattle.cq_cells.specs.Schedule.{t0_of};
-ghost use Rattle.cq_cells.specs.Terms.{arriving, most_ports, arriving_at, end_of, AreAdded, all_of, IsNextArrival, arrivals_at, packets_of, schedule_of, IsRecorded, IsShort, IsTraffic, is_from, is_to, number_of, IsDirectoryOf, AreTables, classes_of, ports_of};
+ghost use Rattle.cq_cells.specs.Terms.{arriving, most_ports, arriving_at, end_of, AreAdded, all_of, IsNextArrival, arrivals_at, packets_of, schedule_of, IsRecorded, IsShort, IsTraffic, is_from, is_to, number_of, IsDirectoryOf, AreTables, classes_of, ports_of, t0_of};
 
 use crate::coming::Coming;
 use crate::line::Line;

@@ -43,7 +43,9 @@ impl Model for Offers {
 /// What an input asks: an output, and the position of the input there.
 #[derive(Clone, Copy)]
 pub struct Ask {
+    /// The output that is asked.
     pub output: Port,
+    /// Where the input stands in the order of the output, from 0: the less, the more it is wanted.
     pub position: u16,
 }
 

@@ -13,7 +13,6 @@ mod priority;
 mod rank;
 
 pub use classes::Classes;
-pub use cq_base::LEVELS;
 pub use first_come::FirstCome;
 pub use laws::ranks_of_a_class_never_fall;
 pub use priority::Priority;

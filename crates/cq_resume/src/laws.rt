@@ -14,14 +14,14 @@ pub fn parts_join()
     ensures { PartsJoin }
 {}
 
-/// After any number of slots a run stands in one state at most, and has kept one thing, or met one tag fault before at
-/// most, and never both. It does nothing: its contract is the claim.
+/// After any number of slots a run stands in one state at most, with one thing kept, or met one tag fault at most, and
+/// never both. It does nothing: its contract is the claim.
 pub fn one_parted_run()
     ensures { IsOneParted }
 {}
 
-/// From any state that was taken up there is one run at most: it keeps one thing to its end, or meets one tag fault, and
-/// never both. It does nothing: its contract is the claim.
+/// From any state that was taken up there is one run at most: it keeps one thing to its end, or meets one tag fault,
+/// and never both. It does nothing: its contract is the claim.
 pub fn one_resumed_run()
     ensures { IsOneResumed }
 {}

@@ -2,9 +2,8 @@
 ghost use Rattle.std.specs.Prelude.{◌≡◌, ◌↔◌, ◌≤◌, IsTrue, length};
 ghost use Rattle.cq_resume.specs.Terms.{AreSized, HasShape, IsHeadOf, switch_of, machine_of, machines_of, most_classes};
 
-use cq_base::{ClassRow, Kind, Sequence, Setup};
+use cq_base::{ClassRow, Kind, LEVELS, Sequence, Setup};
 use cq_cells::Schedule;
-use cq_rank::LEVELS;
 use cq_route::Tables;
 use cq_state::State;
 

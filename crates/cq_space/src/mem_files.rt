@@ -21,10 +21,10 @@ use std::marker::Model;
 /// Clauses see the mode, the contents, where reading and writing each name are cut, the count of faults,
 /// the count of those that came from want of memory, and the numbered calls. A call of [`Files`] answers
 /// [`Failed`] only where its number was set to fail, at a cut, or where [`MemFiles::starved`] was raised by
-/// one in it, or stands at its last value, and counts one fault then. A call whose number was set to fail always does; a read or a
-/// write never goes past a cut, never succeeds at one, and never moves more bytes than
-/// [`MemFiles::short`] allows. `start_read` and `read` take no memory. The calls below are none of
-/// `Files`, and leave the mode as it was.
+/// one in it, or stands at its last value, and counts one fault then. A call whose number was set to
+/// fail always does; a read or a write never goes past a cut, never succeeds at one, and never moves more
+/// bytes than [`MemFiles::short`] allows. `start_read` and `read` take no memory. The calls below are none
+/// of `Files`, and leave the mode as it was.
 #[derive(Drop)]
 pub struct MemFiles {
     alloc: Global,

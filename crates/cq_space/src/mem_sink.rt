@@ -13,7 +13,8 @@ use std::marker::Model;
 ///
 /// Clauses see the bytes taken, the cut, the count of faults and the count of those that came from want
 /// of memory. A write answers [`Failed`] only at the cut, or where [`MemSink::starved`] was raised by
-/// one in it, or stands at its last value, and counts one fault then; it never goes past the cut and never succeeds there.
+/// one in it, or stands at its last value, and counts one fault then; it never goes past the cut and never
+/// succeeds there.
 #[derive(Drop)]
 pub struct MemSink {
     bytes: Vec<u8>,

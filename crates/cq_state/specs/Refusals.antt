@@ -4,7 +4,7 @@ use Rattle.cq_base.specs.Limits.{longest_file}
 use Rattle.cq_state.specs.declared.write.StateLong.{StateLong}
 use Rattle.cq_state.specs.declared.write.StateLong.TheVariants.{Long, NoMemory}
 
--- the most bytes of a state's text, as it is written and as it is read; an audit reads no longer trace and no longer log
+-- the most bytes of a state's text, as it is written and as it is read
 abbrev pub longest_text : ℕ
 longest_text = longest_file
 

@@ -31,7 +31,7 @@ impl From<NoMemory> for StateLong {
     }
 }
 
-/// The most bytes that the text of a state may have. No longer trace and no longer log is audited.
+/// The most bytes that the text of a state may have.
 pub const LONGEST_TEXT: usize = LONGEST_FILE;
 
 /// The text of a state.

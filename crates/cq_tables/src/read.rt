@@ -124,9 +124,6 @@ fn document(alloc: Global, bytes: &[u8]) -> Result<Table, TableRefusal>
     }
 }
 
-// The most bytes that a configuration may have.
-const LONGEST: usize = LONGEST_CONFIGURATION;
-
 /// Reads a configuration: the tables that its document gives where each of its checks holds, or the
 /// first check that does not hold, with its number from 1 to 10 and the path of its key.
 ///
@@ -137,7 +134,7 @@ pub fn read_tables(alloc: Global, bytes: &[u8]) -> Result<Tables, TableRefusal>
     ensures in_range { IfOk result (λ tables. AreTables tables) }
     ensures refused { IfErr result (IsRefusedFor (read_or_refused bytes.now)) }
 {
-    if bytes.len() > LONGEST {
+    if bytes.len() > LONGEST_CONFIGURATION {
         return Err(refusal(alloc, Wrong::TooLong, Place::Top, "-"));
     }
     let top = document(alloc, bytes)?;

@@ -1,5 +1,5 @@
 //! A few cells that wait next to each other.
-ghost use Rattle.std.specs.Prelude.{◌≡◌, ◌+◌, ◌-◌, ◌<◌, ◌≤◌, [], ◌∷◌, Some, length, replicate, take, drop, insert, slice_get};
+ghost use Rattle.std.specs.Prelude.{◌≡◌, ◌+◌, ◌-◌, ◌<◌, ◌≤◌, [], ◌∷◌, Some, length, take, drop, insert, slice_get};
 ghost use Rattle.cq_base.specs.Cells.{IsRising, cushion};
 ghost use Rattle.cq_urgency.specs.Blocks.{IsPiece, most_cells};
 
