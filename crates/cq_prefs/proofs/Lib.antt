@@ -6,6 +6,7 @@ pub mod OutputOrder
 pub mod InputOrder
 pub mod OneOrder
 pub mod ByKey
+pub mod Halving
 pub mod PutBack
 pub mod Renewing
 pub mod BehindFirst

@@ -1,7 +1,12 @@
 use Rattle.cq_prefs.proofs.Terms.{arith, rules, ◌∙◌, sym, ap, position_or_len, taken_none}
+use Rattle.cq_prefs.proofs.Halving.{output_parts}
 use Rattle.cq_prefs.proofs.Renewing.{output_gone, output_room, output_back}
 use Rattle.cq_prefs.proofs.ByKey.{found_place}
 use Rattle.cq_prefs.proofs.renewal.renew_outputs.Goals as goal
+
+pub place_by_place-at-requires : goal.place_by_place-at-requires
+place_by_place-at-requires c = output_parts c.args.list.now.cells c.in-Some.place c.args.output _
+    (c.as_slice.ensures.ports ∙ c.leave.ensures ∙ c.requires.others)
 
 pub insert-requires-clause-room : goal.insert-requires-clause-room
 insert-requires-clause-room c = search (arith, rules, found_place, output_room)
