@@ -18,10 +18,12 @@ pub struct Fair {
     classes: Classes,
     // the tags of the classes in order, and behind them the virtual times of the levels
     numbers: Vec<u128>,
+    // all numbers are 0, so that an idle slot has none to set
+    cleared: bool,
 }
 
 impl Model for Fair {
-    ghost use Rattle.std.specs.Prelude.{◌≡◌, ◌+◌, length, vec_len};
+    ghost use Rattle.std.specs.Prelude.{◌≡◌, ◌+◌, IsTrue, length, replicate, vec_len};
     ghost use Rattle.cq_base.specs.Limits.{level_count};
     ghost use Rattle.cq_rank.specs.Classes.{numbers_of};
     ghost use Rattle.cq_rank.specs.Machine.{Ranker};
@@ -30,7 +32,8 @@ impl Model for Fair {
 
     ghost view = { λ r. record { fixed = numbers_of r.classes; state = r.numbers.items } };
 
-    ghost invariant = { λ r. vec_len r.numbers ≡ length r.classes + level_count };
+    ghost invariant = { λ r. (vec_len r.numbers ≡ length r.classes + level_count)
+        × (IsTrue r.cleared → r.numbers.items ≡ replicate (length r.classes + level_count) 0) };
 }
 
 impl Fair {
@@ -44,7 +47,11 @@ impl Fair {
         let classes = Classes::of(alloc, classes)?;
         let mut numbers = Vec::new(alloc);
         numbers.resize(classes.len() as usize + LEVELS, 0)?;
-        Ok(Fair { classes, numbers })
+        Ok(Fair {
+            classes,
+            numbers,
+            cleared: true,
+        })
     }
 }
 
@@ -82,6 +89,7 @@ impl Rank for Fair {
         match from.checked_add(self.classes.cost(class)) {
             None => Err(TagOverflow),
             Some(rank) => {
+                self.cleared = false;
                 self.numbers[class as usize] = rank;
                 Ok(rank)
             }
@@ -92,12 +100,16 @@ impl Rank for Fair {
     fn sent(&mut self, level: u8, rank: u128) {
         let place = time_place(&self.classes, level);
         if place < self.numbers.len() {
+            self.cleared = false;
             self.numbers[place] = rank;
         }
     }
 
     fn idle(&mut self) {
-        self.numbers.fill(0);
+        if !self.cleared {
+            self.numbers.fill(0);
+            self.cleared = true;
+        }
     }
 
     /// One for each class, and one for each level.
@@ -110,6 +122,7 @@ impl Rank for Fair {
     }
 
     fn put(&mut self, at: u16, number: u128) {
+        self.cleared = false;
         self.numbers[at as usize] = number;
     }
 }
