@@ -25,7 +25,7 @@ pub fn cross<T: Threads + Sync, G: Gate>(
     requires can { CanBeCrossed workers queues.old note.old }
     ensures { HasCrossed slot phase queues.old queues.new note.old note.new result }
 {
-    if queues.offers().offering() == 0 {
+    if queues.offers().are_none() {
         return 0;
     }
     if workers > 1 {

@@ -1,8 +1,7 @@
--- The inputs that have an offer, counted from the first on: one more is listed where its order has an output. Where
--- none is listed, each order is empty.
-use Rattle.cq_prefs.proofs.Terms.{common_steps, ℕ, ◌≡◌, ◌+◌, ◌<◌, ◌≤◌, Bool, true, false, List, [], ◌∷◌, ◌++◌, length, filter, range_with_len, ap, ◌∙◌, subst, arith, ⊎_elim, cases_lt, cond-true, cond-false, eqb, eqb-true, eq-eqb, lt-ltb, le-ltb, true≢false, append-nil, filter-append, length-range_with_len, nil_from_length, few_kept, has_kept, has_number, Has, Orders, ports, outputs_of, has_offer, inputs_with_offers}
+-- The inputs that have an offer, counted from the first on: one more is listed where its order has an output. And where
+-- no order has one, each is empty.
+use Rattle.cq_prefs.proofs.Terms.{common_steps, ℕ, zero, suc, ◌≡◌, ◌+◌, ◌≤◌, Bool, true, false, List, [], ◌∷◌, ◌++◌, length, get_or, list_all, filter, refl, ap, ◌∙◌, arith, and_parts, cases_lt, cond-true, cond-false, eqb, eqb-true, eq-eqb, lt-ltb, le-ltb, true≢false, append-nil, filter-append, length-range_with_len, nil_from_length, few_kept, Orders, outputs_of, has_offer, inputs_with_offers}
 use Rattle.cq_prefs.proofs.Members.{range_next}
-use Rattle.cq_prefs.proofs.Places.{has_place}
 
 -- an order is empty or not
 pub offers_if : (o : Orders) (n : ℕ) (order : List ℕ) (empty : Bool) → order ≡ outputs_of o n →
@@ -29,13 +28,14 @@ module _ (o : Orders) (n : ℕ) where
   pub few_offers : length (inputs_with_offers o n) ≤ n
   few_offers = grind (arith, common_steps, few_kept, length-range_with_len)
 
-pub none_offers : (o : Orders) → length (inputs_with_offers o (ports o)) ≡ 0 → (i : ℕ) → outputs_of o i ≡ []
-none_offers o none i =
-    ⊎_elim (λ (some : 0 < length (outputs_of o i)).
-    let inside : i < ports o = has_place o i 0 some in
-    let there = has_number 0 (ports o) i (omega arith) (omega arith) in
-    let offers = lt-ltb 0 (length (outputs_of o i)) some in
-    let kept = has_kept (has_offer o) (range_with_len 0 (ports o)) i there offers in
-    absurd (subst (λ (l : List ℕ). Has l i) (nil_from_length (inputs_with_offers o (ports o)) none) kept))
-    (λ (l : length (outputs_of o i) ≤ 0). nil_from_length (outputs_of o i) (omega arith))
-    (cases_lt 0 (length (outputs_of o i)))
+-- ## No input has one
+
+none_in : (orders : List (List ℕ)) → list_all (λ order. eqb (length order) 0) orders ≡ true → (i : ℕ) →
+    get_or orders i [] ≡ []
+none_in [] all i = refl
+none_in (order ∷ orders) all zero = nil_from_length order (eqb-true (length order) 0 (and_parts _ _ all).0)
+none_in (order ∷ orders) all (suc i) = none_in orders (and_parts _ _ all).1 i
+
+pub none_offers : (o : Orders) → list_all (λ order. eqb (length order) 0) o.outputs ≡ true → (i : ℕ) →
+    outputs_of o i ≡ []
+none_offers o none i = none_in o.outputs none i

@@ -20,13 +20,9 @@ place_in-le-length xs y = prefix_len-le-length _ xs
 pub same_at_place : (xs : List ℕ) (a b : ℕ) → place_in xs a ≡ place_in xs b → place_in xs a < length xs → a ≡ b
 same_at_place xs a b e h = grind (arith, common_steps, get_or-place_in xs a h, get_or-place_in xs b)
 
--- an input whose order has a place is a port
-pub has_place : (o : Orders) (i p : ℕ) → p < length (outputs_of o i) → i < ports o
-has_place o i p h = grind (arith, common_steps, get_or_past, cases_lt)
-
 -- ports that are offered are in range
 pub input_in_range : (o : Orders) (i j : ℕ) → IsOffered o i j → i < ports o
-input_in_range o i j h = has_place o i (place_of o i j) h
+input_in_range o i j h = grind (arith, common_steps, get_or_past, cases_lt)
 
 pub output_in_range : (o : Orders) → AreOffers o → (i j : ℕ) → IsOffered o i j → j < ports o
 output_in_range o v i j h = grind (arith, common_steps, get_or_past, cases_lt, v.square, v.shown i j)

@@ -1,5 +1,6 @@
 //! Who offers a cell to whom, and whom each port prefers.
-ghost use Rattle.std.specs.Prelude.{◌≡◌, ◌<◌, ◌≤◌, ◌↔◌, [], All, IsSome, IfSome, IfOk, None, length, replicate};
+ghost use Rattle.std.specs.Prelude.{◌≡◌, ◌<◌, ◌≤◌, ◌==◌, ◌↔◌, [], All, IsSome, IfSome, IfOk, None, length, replicate};
+ghost use Rattle.std.specs.List.{list_all};
 ghost use Rattle.cq_base.specs.Limits.{most_ports};
 ghost use Rattle.cq_list.specs.InputList.{cells_of};
 ghost use Rattle.cq_prefs.specs.FirstCells.{AreOrdersOf, FirstKeysDiffer, orders_of};
@@ -144,6 +145,15 @@ impl Offers {
         ensures few { ports self.now ≤ most_ports }
     {
         self.by_input.len() as u16
+    }
+
+    /// Whether no input has an offer. It looks no further than the first that has one.
+    pub fn are_none(&self) -> bool
+        ensures { result ≡ list_all (λ order. length order == 0) self.now.outputs }
+    {
+        self.by_input
+            .iter()
+            .all(|order| order.as_slice().is_empty())
     }
 
     /// How many inputs have an offer.

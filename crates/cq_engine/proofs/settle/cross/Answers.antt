@@ -3,7 +3,7 @@ use Rattle.cq_prefs.proofs.Offering.{none_offers}
 use Rattle.cq_engine.proofs.NoOffers.{nothing_crosses}
 use Rattle.cq_engine.proofs.settle.cross.Goals as goal
 
-pub returns-then-offering-eq0 : goal.returns-then-offering-eq0
-returns-then-offering-eq0 g c = nothing_crosses c.args.slot c.args.phase c.args.queues.now c.args.note.now
+pub returns-then-are_none : goal.returns-then-are_none
+returns-then-are_none g c = nothing_crosses c.args.slot c.args.phase c.args.queues.now c.args.note.now
     (subst (λ (p : Orders). (i : ℕ) → outputs_of p i ≡ []) c.offers.ensures
-    (none_offers c.offers.result.now (sym c.offering.ensures.count ∙ c.if-offering-eq0.true)))
+    (none_offers c.offers.result.now (sym c.are_none.ensures ∙ c.if-are_none.true)))
