@@ -2,7 +2,7 @@
 -- written, so over what is left the same tables and captures are judged; the trace and the log stand there as they were
 -- written. The run with input-best matchings is a stable one, and its log is read as what it is spelt from. A yes that
 -- holds is never denied.
-use Rattle.cq_run.proofs.Terms.{rules, ◌≡◌, ◌≢◌, ◌≤◌, ◌^◌, ◌+◌, ◌∙◌, ◌++◌, ℕ, List, [], ◌∷◌, length, Option, None, Some, refl, ap, arith, sym, ◌<◌, map, IfSome, IsOkAnd, Result, Ok, IsOk, length-append, get, AllByRecursion, range_with_len, Arrival, log_of, trace_of, Departure, Transfer, short_is, traffic_is, all_flat, arrivals, arrivals_at, arrivals_of, cell_of, packets_of, start, cells, IsTraffic, IsRecorded, all_weaker, limited_not_more, LimitedRecord, slots_in, Captured, all_both, all_back, classes_of, ports_of, Tables, machines_of, openings_of, as_many_slots, sends_as_ideal, stable_limited_whole, departures_in_run, slots_ran, IsRefusalOf, ideal_departures, ran_ideal, Contents, files_in, read_or_refused, Audit, Denial, Refusal, Aim, Auditing, Denies, Meets, KeepsUp, audited, captures_out, crossed, Reader, ◌>>=◌, captures_in, found_or_missing, ideally_sent, judged, read_or_refused_for, sent_or_tag, tables_in, text_in, all_replaced, PortRow, common_steps, whole_limited_run, empty_limited, RunRefusal, IsAuditHalted, IsAuditPassed, halt_of, length-map-range_with_len, audit_is_exact, stable_log, FitsLine, trace_is_exact, IsYes, opening_fabric, IsNo, AuditRefusal, transfers_of_run, empty_list, DiffersFirst, all_stable, stable_sends, stable_slack, came_more, few_by, rows_are, length_packet, row_of, all_made, longest_file}
+use Rattle.cq_run.proofs.Terms.{rules, ◌≡◌, ◌≢◌, ◌≤◌, ◌^◌, ◌+◌, ◌∙◌, ◌++◌, ℕ, List, [], ◌∷◌, length, Option, None, Some, refl, ap, arith, sym, IfSome, IsOkAnd, Result, Ok, IsOk, get, AllByRecursion, Arrival, log_of, trace_of, Departure, Transfer, short_is, small_cells, traffic_is, arrivals, IsTraffic, all_weaker, limited_not_more, LimitedRecord, slots_in, Captured, all_both, all_back, classes_of, ports_of, Tables, machines_of, openings_of, as_many_slots, sends_as_ideal, stable_limited_whole, departures_in_run, slots_ran, IsRefusalOf, ideal_departures, ran_ideal, Contents, files_in, read_or_refused, Audit, Denial, Refusal, Aim, Auditing, Denies, Meets, KeepsUp, audited, captures_out, crossed, Reader, ◌>>=◌, captures_in, found_or_missing, ideally_sent, judged, read_or_refused_for, sent_or_tag, tables_in, text_in, all_replaced, PortRow, common_steps, whole_limited_run, empty_limited, RunRefusal, IsAuditHalted, IsAuditPassed, halt_of, audit_is_exact, stable_log, trace_is_exact, IsYes, opening_fabric, IsNo, AuditRefusal, transfers_of_run, empty_list, DiffersFirst, all_stable, stable_sends, stable_slack, longest_file}
 use Rattle.cq_audit.specs.declared.refusal.AuditRefusal.TheVariants as of_log
 use Rattle.cq_tables.specs.Check.{Refused}
 use Rattle.cq_run.specs.declared.denial.Denial.TheVariants as why
@@ -13,41 +13,6 @@ use Rattle.cq_run.proofs.Left.{captures_same, last_two, outputs_named, tables_sa
 use Rattle.cq_run.proofs.NamesApart.{ArePairs, IsUnwritten, names_apart, reads_unwritten, trace_or_log}
 use Rattle.cq_run.proofs.TextRead.{text_is}
 use Rattle.cq_run.specs.declared.stop.Halt.TheVariants as stop
-
--- ## The numbers of cells fit a line: a capture has few packets, and a packet few cells
-
-module _ (t : Tables) (captures : List (List Captured)) (some : 1 ≤ t.cell_bytes) where
-  -- a cell of a packet as it arrives
-  abbrev arrival_of : ℕ → ℕ → ℕ → Arrival
-  arrival_of input k i = record { slot = start t captures input k + i; cell = cell_of t captures input k i }
-
-  pieces_fit : (input k : ℕ) → k < 2 ^ 32 → (n : ℕ) → n ≤ 2 ^ 32 →
-      AllByRecursion FitsLine (map (arrival_of input k) (range_with_len 0 n))
-  unfolding cell_of
-  pieces_fit input k small n few = all_made FitsLine (arrival_of input k) 0 n (λ i _ l. (small, omega arith))
-
-  packet_fits : (input k : ℕ) → IsRecorded (packets_of captures input) → k < length (packets_of captures input) →
-      AllByRecursion FitsLine (arrivals_of t captures input k)
-  packet_fits input k recorded inside =
-      let rows = rows_are t captures input some recorded in
-      let many = length-map-range_with_len (row_of t captures input) 0 (length (packets_of captures input)) in
-      let all = few_by t captures input (k + 1) some recorded (omega arith) in
-      let more = ap (λ (l : List Arrival). length l) (came_more t captures input k) in
-      let own = length_packet t captures input k in
-      pieces_fit input k (omega (arith, rows.few, many)) (cells t captures input k)
-      (omega (arith, all, more, own, length-append {A = Arrival}))
-
-  input_fits : (input : ℕ) → IsRecorded (packets_of captures input) →
-      AllByRecursion FitsLine (arrivals_at t captures input)
-  unfolding arrivals_at
-  input_fits input recorded = all_flat FitsLine (arrivals_of t captures input) 0 (length (packets_of captures input))
-      (λ k from inside. packet_fits input k recorded (omega arith))
-
-  pub all_fit : ((i : ℕ) → i < length captures → IsRecorded (packets_of captures i)) →
-      AllByRecursion FitsLine (arrivals t captures)
-  unfolding arrivals
-  all_fit recorded = all_flat FitsLine (arrivals_at t captures) 0 (length captures) (λ input from inside.
-      input_fits input (recorded input (omega arith)))
 
 -- ## The configuration was accepted
 
@@ -105,7 +70,7 @@ module _ (t : Tables) (captures : List (List Captured)) (rs : List LimitedRecord
         record {
           note = note;
           read = stable_log (ports_of t.setup) (classes_of t.setup) came traffic
-              (all_fit t captures keeps.given.tables.cell_bytes.0 keeps.given.recorded) t.limits (machines_of t.setup)
+              (small_cells t captures keeps.given.tables.cell_bytes.0 keeps.given.recorded) t.limits (machines_of t.setup)
               start keeps.runs.end rs keeps.given.tables.setup.ports.1 few_slots
               (λ i. empty_list (ports_of t.setup) i) stable;
           run = record { records = rs; end = keeps.runs.end; runs = stable; moved = refl };

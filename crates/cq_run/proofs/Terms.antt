@@ -1,5 +1,5 @@
 -- The words of this crate's proofs that stand elsewhere, each passed on from its place.
-pub use Rattle.cq_base.proofs.Library.{AllByRecursion, AllPairs, Bool, Bor, Err, Global, IfErr, IfOk, IfSome, IsErr, IsErrAnd, IsErrOf, IsOk, IsOkAnd, IsTrue, List, MatchOption, None, Ok, Option, Result, Some, Vec, [], add-one, and_from, and_left, and_right, ap, append-nil, append_assoc, append_known, arith, bytes_eq, bytes_eq-Decides, cases_eq, codes, common_steps, cond, cond-true, drop, drop_all, drop_more, eq-eqb, eq_by_cmp_equiv, exact_bytes, false, filter, filter-append, find, flat_map, flat_map-append, get, get-insert, get-remove, get_or, if◌then◌else◌, inl, inr, is_some, le-ltb, leb-true, length, length-append, length-drop, length-map-range_with_len, length-take-le, list_any, lt-ltb, map, nat_le, nat_list_cmp_total, nat_lt, ne_eqb, nil_from_length, not, not_from_false, option_map, option_map_or, or_parts, range_with_len, recursion_from_All, refl, replicate, rules, slice_index, slice_index_or, string_bytes, subst, suc, sym, take, take-append-add, take-append-drop, take_all, take_at, take_more, tells_apart, true, unwrap_or, vec_len, zero, ℕ, ⊎_elim, ◌&&◌, ◌*◌, ◌++◌, ◌+◌, ◌-◌, ◌<◌, ◌==◌, ◌^◌, ◌∙◌, ◌∷◌, ◌≡◌, ◌≢◌, ◌≤◌, ◌⊎◌}
+pub use Rattle.cq_base.proofs.Library.{AllByRecursion, AllPairs, Bool, Bor, Err, Global, IfErr, IfOk, IfSome, IsErr, IsErrAnd, IsErrOf, IsOk, IsOkAnd, IsTrue, List, MatchOption, None, Ok, Option, Result, Some, Vec, [], add-one, and_from, and_left, and_right, ap, append-nil, append_assoc, append_known, arith, bytes_eq, bytes_eq-Decides, cases_eq, codes, common_steps, cond, cond-true, drop, drop_all, drop_more, eq-eqb, eq_by_cmp_equiv, exact_bytes, false, filter, filter-append, find, flat_map, flat_map-append, get, get-insert, get-remove, get_or, if◌then◌else◌, inl, inr, is_some, le-ltb, leb-true, length, length-append, length-drop, length-take-le, list_any, lt-ltb, map, nat_le, nat_list_cmp_total, nat_lt, ne_eqb, nil_from_length, not, not_from_false, option_map, option_map_or, or_parts, range_with_len, recursion_from_All, refl, replicate, rules, slice_index, slice_index_or, string_bytes, subst, suc, sym, take, take-append-add, take-append-drop, take_all, take_at, take_more, tells_apart, true, unwrap_or, vec_len, zero, ℕ, ⊎_elim, ◌&&◌, ◌*◌, ◌++◌, ◌+◌, ◌-◌, ◌<◌, ◌==◌, ◌^◌, ◌∙◌, ◌∷◌, ◌≡◌, ◌≢◌, ◌≤◌, ◌⊎◌}
 pub use Rattle.cq_base.specs.Arriving.{Arrival, arriving, arriving_at, end_of, is_at, traffic_of}
 unfoldable pub use Rattle.cq_base.specs.Arriving.{enough}
 pub use Rattle.cq_base.specs.{declared.cell.Departure.Departure, declared.cell.TagFault.TagFault, declared.cell.Transfer.Transfer}
@@ -60,7 +60,7 @@ pub use Rattle.cq_run.specs.{declared.denial.Denial.Denial, declared.refusal.Cap
 pub use Rattle.cq_run.specs.declared.refusal.Refusal.TheVariants.{Audit as Audited, Capture, Configuration, Missing, State, Words}
 pub use Rattle.cq_run.specs.declared.stop.Halt.TheVariants.{NoMemory, Refused, Unread}
 pub use Rattle.cq_run.specs.Terms.{IsAuditHalted, IsAuditPassed, IsCut, IsCutAtFile, IsDone, IsJudged, Plan, Reader, SameReader, Spells, StatusCauses, all_replaced, decimal, log_of, report_with, soak_captures, soak_tables, taken, trace_of}
-pub use Rattle.cq_base.proofs.Each.{all_back, all_both, all_front, all_weaker, all_flat, all_made}
+pub use Rattle.cq_base.proofs.Each.{all_back, all_both, all_front, all_weaker}
 pub use Rattle.cq_base.specs.{declared.cell.Cell.Cell, declared.cell.Queued.Queued, declared.status.Status.Status}
 pub use Rattle.cq_space.proofs.Replaced.{get_same}
 pub use Rattle.cq_space.specs.declared.whole.ReadRefusal.{ReadRefusal}
@@ -70,17 +70,16 @@ pub use Rattle.cq_stream.specs.declared.item.Item.TheVariants.{Row}
 pub use Rattle.cq_base.proofs.Having.{has_left, has_right, pair_of_has}
 pub use Rattle.cq_tables.proofs.Versions.{first_parts}
 pub use Rattle.cq_tables.specs.{declared.place.Array.TheVariants.Ports, declared.place.Place.TheVariants.Element, declared.place.Place.TheVariants.Top, declared.refusal.Wrong.TheVariants.DuplicateFile}
-pub use Rattle.cq_cells.proofs.{Packets.came_more, Packets.few_by, Packets.rows_are, Packets.length_packet, Packets.row_of}
 pub use Rattle.cq_cells.specs.{Scheduled.Scheduled, Scheduled.schedule_of}
 pub use Rattle.cq_rank.specs.{Machine.Machine, Machine.machine_at}
 pub use Rattle.cq_ideal.specs.{Admission.NoLimits, Ranking.Ranking, Ranking.after_input, Ranking.keyed, Ranking.ranking}
 pub use Rattle.cq_ideal.proofs.{Ends.all_slots, FlowCount.before_end, FlowFound.arriving_is, Parted.first_slot, Resting.ranked_none}
-pub use Rattle.cq_audit.proofs.{AuditExact.audit_is_exact, Noted.stable_log, Noted.FitsLine, OneDifference.trace_is_exact}
+pub use Rattle.cq_audit.proofs.{AuditExact.audit_is_exact, Noted.stable_log, OneDifference.trace_is_exact}
 pub use Rattle.cq_audit.specs.{Audit.IsYes, Audit.opening_fabric, Audit.IsNo, Trace.DiffersFirst, declared.refusal.AuditRefusal.AuditRefusal}
 pub use Rattle.cq_state.specs.{Refusals.IsTooLong, State.state_text, declared.write.StateLong.StateLong}
 pub use Rattle.cq_laws.specs.{Records.transfers_of_run, declared.frozen.Frozen.Frozen}
 pub use Rattle.cq_laws.proofs.WholeRuns.{empty_list}
 pub use Rattle.cq_resume.specs.{Parts.IsParted, Reading.IsRead, Reading.IsRefusal, Reading.state_of, Resumed.IsResumed, Resumed.Kept, Switch.Switch, Switch.switch_of, declared.refusal.StateRefusal.StateRefusal}
-pub use Rattle.cq_simulate.proofs.{Chosen.parted_best, Chosen.parted_slack, Chosen.resumed_best, Chosen.resumed_slack, Departed.left_in_packets, EachPacket.each_packet_once, ResumedCounts.resumed_counts, ResumedWhole.resumed_whole, StableRuns.all_stable, StableRuns.stable_sends, StableRuns.stable_slack, Tallies.one_is}
+pub use Rattle.cq_simulate.proofs.{Chosen.parted_best, Chosen.parted_slack, Chosen.resumed_best, Chosen.resumed_slack, Departed.left_in_packets, Departed.small_cells, EachPacket.each_packet_once, ResumedCounts.resumed_counts, ResumedWhole.resumed_whole, StableRuns.all_stable, StableRuns.stable_sends, StableRuns.stable_slack, Tallies.one_is}
 pub use Rattle.cq_simulate.specs.{PartedRuns.CanBeTakenUp, PartedRuns.IsPartFault, PartedRuns.IsResumeFault, PartedRuns.kept_of, declared.packing.Packing.Packing}
 pub use Rattle.cq_words.specs.{Numbers.number_from, Streamed.as_run, Streamed.run_of, Streamed.streamed}

@@ -1,8 +1,8 @@
 -- Each cell that departs has arrived. Of each input and class the cells of the packets that are taken in leave an
 -- output as they came. So what holds of all cells that arrive holds of each that departs: it is of a packet of its
 -- input's capture.
-use Rattle.cq_simulate.proofs.Terms.{rules, ◌≡◌, ℕ, ◌+◌, ◌<◌, true, List, [], ◌∷◌, length, get_or, Result, Ok, Err, refl, sym, ap, ◌∙◌, arith, common_steps, max, AllByRecursion, filter, eq-eqb, and_from, Arrival, end_of, Departure, TagFault, packets_of, cells, start, cell_of, arrivals_of, arrivals_at, arrivals, IsTraffic, piece_begins, all_flat, traffic_is, NoLimits, slots_of, leaves_in_flow, departures_of, departures_limited, LimitedRan, unlimited, flows_leave_in_packets, limited_same_sent, run_as_before, slots_as_before, Captured, AreTables, IsSetup, classes_of, ports_of, Tables, machines_of, openings_of, HaveLeftOf, LeaveWhole, LeftInPackets, IsCaptured, ideal_departures, ran_ideal, slots_ran, subst, and_parts, eqb-true, Has, all_of_has, has_cases, has_image, has_kept, image_has, kept_has, flat_map, of_packet, Cell, came_in_flow, last_departs, limited_slots, has_at, all_made}
-use Rattle.cq_cells.specs.Traffic.{IsInRange}
+use Rattle.cq_simulate.proofs.Terms.{rules, ◌≡◌, ℕ, ◌+◌, ◌<◌, ◌≤◌, ◌^◌, true, List, [], ◌∷◌, length, get_or, Result, Ok, Err, refl, sym, ap, ◌∙◌, arith, common_steps, max, AllByRecursion, filter, eq-eqb, and_from, Arrival, end_of, Departure, TagFault, packets_of, cells, start, cell_of, arrivals_of, arrivals_at, arrivals, IsTraffic, piece_begins, all_flat, traffic_is, NoLimits, slots_of, leaves_in_flow, departures_of, departures_limited, LimitedRan, unlimited, flows_leave_in_packets, limited_same_sent, run_as_before, slots_as_before, Captured, AreTables, IsSetup, classes_of, ports_of, Tables, machines_of, openings_of, HaveLeftOf, LeaveWhole, LeftInPackets, IsCaptured, ideal_departures, ran_ideal, slots_ran, subst, and_parts, eqb-true, Has, all_of_has, has_cases, has_image, has_kept, image_has, kept_has, flat_map, of_packet, Cell, came_in_flow, came_more, few_by, length_packet, row_of, rows_are, length-append, length-map-range_with_len, last_departs, limited_slots, has_at, all_made}
+use Rattle.cq_cells.specs.Traffic.{IsInRange, IsRecorded}
 use Rattle.cq_simulate.proofs.OfPackets.{packets_come}
 use Rattle.cq_simulate.proofs.SomePackets.{as_packets}
 use Rattle.cq_simulate.proofs.Runnable.{runnable}
@@ -63,6 +63,22 @@ all_cells t captures P each = all_flat P (arrivals_at t captures) 0 (length capt
     (arrivals_of t captures i) 0 (length (packets_of captures i)) (λ k _ in_packets. all_made P
     (λ n. record { slot = start t captures i k + n; cell = cell_of t captures i k n }) 0 (cells t captures i k)
     (λ n _ in_cells. each i k n (omega arith) (omega arith) (omega arith))))
+
+-- a capture is a file of 2^28 bytes at most, and each packet and each cell of it takes a byte there, so that no packet's
+-- number and no cell's place in its packet comes near 2^32
+pub small_cells : (t : Tables) (captures : List (List Captured)) → 1 ≤ t.cell_bytes →
+    ((i : ℕ) → i < length captures → IsRecorded (packets_of captures i)) →
+    AllByRecursion (λ (a : Arrival). (a.cell.id.packet < 2 ^ 32) × (a.cell.id.index < 2 ^ 32)) (arrivals t captures)
+unfolding cell_of
+small_cells t captures some each =
+    all_cells t captures (λ (a : Arrival). (a.cell.id.packet < 2 ^ 32) × (a.cell.id.index < 2 ^ 32))
+    (λ i k n in_captures in_packets below.
+    let rows = rows_are t captures i some (each i in_captures) in
+    let many = length-map-range_with_len (row_of t captures i) 0 (length (packets_of captures i)) in
+    let all = few_by t captures i (k + 1) some (each i in_captures) (omega arith) in
+    let more = ap (λ (l : List Arrival). length l) (came_more t captures i k) in
+    let own = length_packet t captures i k in
+    (omega (arith, rows.few, many), omega (arith, all, more, own, length-append {A = Arrival})))
 
 module _ {t : Tables} {captures : List (List Captured)} {sent : List Departure} {stamp : ℕ}
     (of_run : HaveLeftOf t captures sent stamp) (k : ℕ) (e : Departure) (inside : k < length sent) where

@@ -1,9 +1,8 @@
 -- What is known of a switch that tables configure, with what arrives at it: its ports and classes, its machines, that
 -- keep the laws of machines and begin in a state of their size, and its arrivals, of which there are not many. They
--- come packet after packet at each input. A capture is a file of 2^28 bytes at most, and each packet and each cell of
--- it takes a byte there, so that no packet's number and no cell's place in its packet comes near 2^32.
-use Rattle.cq_stopped.proofs.Terms.{common_steps, rules, ◌≡◌, ℕ, zero, suc, ◌+◌, ◌-◌, ◌*◌, ◌<◌, ◌≤◌, ◌^◌, min, List, [], ◌∷◌, length, map, flat_map, ap, arith, length-append, fold, replicate, slice_index_or, AllByRecursion, range_with_len, length-map, Arrival, Scheduled, IsRecorded, IsTraffic, KeepsLaws, Machine, machine_at, all_both, ArePackets, IsScheduleOf, Switch, switch_of, AreTables, IsSetup, Tables, machine_of, machines_of, opening_of, openings_of, AreRecorded, of_images, FitsLine, length-map-range_with_len, ClassRow, Kind, FirstCome, Priority, Fair, Setup, came_more, few_by, length_packet, row_of, rows_are, Captured, schedule_known, all_cells, keeps_laws, kind, machine_is, right_classes, right_size, level_count, longest_file, most_classes, most_ports}
-use Rattle.cq_cells.specs.Schedule.{arrivals, arrivals_at, cell_of, t0_of, packets_of}
+-- come packet after packet at each input.
+use Rattle.cq_stopped.proofs.Terms.{common_steps, rules, ◌≡◌, ℕ, zero, suc, ◌+◌, ◌-◌, ◌*◌, ◌<◌, ◌≤◌, ◌^◌, min, List, [], ◌∷◌, length, map, flat_map, arith, length-append, fold, replicate, slice_index_or, AllByRecursion, range_with_len, length-map, Scheduled, IsRecorded, IsTraffic, KeepsLaws, Machine, machine_at, all_both, ArePackets, IsScheduleOf, Switch, switch_of, AreTables, IsSetup, Tables, machine_of, machines_of, opening_of, openings_of, AreRecorded, of_images, FitsLine, ClassRow, Kind, FirstCome, Priority, Fair, Setup, few_by, Captured, schedule_known, small_cells, keeps_laws, kind, machine_is, right_classes, right_size, level_count, longest_file, most_classes, most_ports}
+use Rattle.cq_cells.specs.Schedule.{arrivals, arrivals_at, t0_of, packets_of}
 
 -- all numbers of a rank state fit 128 bits
 abbrev pub AreLow : List ℕ → Type 0
@@ -79,18 +78,6 @@ module _ (t : Tables) (captures : List (List Captured)) where
   unfolding arrivals
   all_short tables few each = grind (arith, common_steps, lines_short)
 
-  small_names : 1 ≤ t.cell_bytes → ((i : ℕ) → i < length captures → IsRecorded (packets_of captures i)) →
-      AllByRecursion FitsLine (arrivals t captures)
-  unfolding cell_of
-  small_names some each =
-      all_cells t captures FitsLine (λ i k n in_captures in_packets below.
-      let rows = rows_are t captures i some (each i in_captures) in
-      let many = length-map-range_with_len (row_of t captures i) 0 (length (packets_of captures i)) in
-      let all = few_by t captures i (k + 1) some (each i in_captures) (omega arith) in
-      let more = ap (λ (l : List Arrival). length l) (came_more t captures i k) in
-      let own = length_packet t captures i k in
-      (omega (arith, rows.few, many), omega (arith, all, more, own, length-append {A = Arrival})))
-
 -- ## T0
 
 abbrev IsStamp : ℕ → Type 0
@@ -124,7 +111,7 @@ configured t s made tables recorded =
     let known = schedule_known t s tables made in
     let few : length made.captures ≤ most_ports = omega arith in
     let stamp : s.t0 < 2 ^ 63 = rw made.schedule (first_low made.captures recorded) in
-    let names = small_names t made.captures (omega arith) recorded in
+    let names = small_cells t made.captures (omega arith) recorded in
     let short = all_short t made.captures tables few recorded in
     let low = machines_low setup.kinds setup.classes in
     let openings = length-map setup.kinds (λ (k : Kind). opening_of k setup.classes) in

@@ -67,7 +67,7 @@ pub use Rattle.cq_base.proofs.Putting.{all_put, length_put}
 pub use Rattle.cq_base.specs.{declared.cell.TagFault.TagFault, declared.figures.Figures.Figures, declared.figures.InputFigures.InputFigures, declared.key.Key.Key, declared.setup.ClassRow.ClassRow, declared.setup.Kind.Kind, declared.setup.Kind.TheVariants.FirstCome, declared.setup.Kind.TheVariants.Priority, declared.setup.Kind.TheVariants.Fair, declared.setup.Setup.Setup}
 pub use Rattle.cq_base.proofs.Keys.{key_laws}
 pub use Rattle.cq_pcap.specs.Captured.{Captured}
-pub use Rattle.cq_cells.proofs.{Packets.came_more, Packets.few_by, Packets.length_packet, Packets.row_of, Packets.rows_are, Ranges.flat_same}
+pub use Rattle.cq_cells.proofs.{Packets.few_by, Ranges.flat_same}
 pub use Rattle.cq_cells.specs.NextArrival.{ArrivesIn}
 pub use Rattle.cq_rank.proofs.Floors.{given_floor}
 pub use Rattle.cq_laws.proofs.AddingUp.{figures_fold, fold-max}
@@ -85,5 +85,5 @@ pub use Rattle.cq_resume.proofs.{Coming.is_between, Coming.one_comes, Judging.ma
 pub use Rattle.cq_resume.specs.declared.found.Name.{Name}
 pub use Rattle.cq_traffic.proofs.{ForPorts.arrivals_for, ForPorts.place_of}
 pub use Rattle.cq_simulate.proofs.{FabricSteps.all_wait, OnceASlot.AreNumbered}
-pub use Rattle.cq_simulate.proofs.{Departed.all_cells, OnceASlot.limited_numbered, Runnable.keeps_laws, Runnable.kind, Runnable.machine_is, Runnable.right_classes, Runnable.right_size}
+pub use Rattle.cq_simulate.proofs.{Departed.small_cells, OnceASlot.limited_numbered, Runnable.keeps_laws, Runnable.kind, Runnable.machine_is, Runnable.right_classes, Runnable.right_size}
 pub use Rattle.cq_simulate.specs.{FabricRuns.IsFabricRun, FabricRuns.refused_in_run}
