@@ -2,7 +2,7 @@
 -- changed in the pool changes at its one place in the order and nowhere else; a block that comes in under a number that
 -- was free or is new stands nowhere in the order, so that the blocks there stay; and so do the others where the first
 -- one becomes free.
-use Rattle.cq_urgency.proofs.Terms.{common_steps, rules, ◌≡◌, ◌≢◌, ℕ, zero, suc, ◌+◌, ◌-◌, ◌<◌, ◌≤◌, Bool, true, false, List, [], ◌∷◌, ◌++◌, length, map, get_or, set, take, drop, refl, sym, ap, ◌∙◌, arith, Some, length-set, length-take, length-drop, get_or-set_same, get_or-set_other, get_or-drop, ◌==◌, insert, remove, slice_get, sum_by, cases_Bool, cases_eq, cases_lt, ltb-true, lt-ltb, eq-eqb, ne_eqb, cond-true, cond-false, take_rest, take_more, take_all, drop_more, set-set, length_push, length-map, map-set, take-map, get_or-map, get_or_past, get_or_read, length-insert, insert_end, sum_by-cons, sum_by_push, sum_by-insert, sum_by-take-drop, get_or-le-sum_by, slice_get_within, get_or_from_slice_get, Queued, BlocksView, block_at, cells_in_all, halved, without_first, in_order, bit, times, has, parted, ArePlaced, ComesIn, map-insert, most_cells}
+use Rattle.cq_urgency.proofs.Terms.{common_steps, rules, ◌≡◌, ◌≢◌, ℕ, zero, suc, ◌+◌, ◌-◌, ◌<◌, ◌≤◌, Bool, true, false, List, [], ◌∷◌, ◌++◌, length, map, get_or, set, take, drop, refl, sym, ap, ◌∙◌, arith, Some, length-set, length-take, length-drop, get_or-set_same, get_or-set_other, get_or-drop, ◌==◌, insert, slice_get, sum_by, cases_Bool, cases_eq, cases_lt, ltb-true, lt-ltb, eq-eqb, ne_eqb, cond-true, cond-false, take_more, take_all, drop_more, set-set, length_push, length-map, map-set, take-map, get_or-map, get_or_past, get_or_read, length-insert, insert_end, sum_by-cons, sum_by_push, sum_by-insert, get_or-le-sum_by, slice_get_within, get_or_from_slice_get, Queued, BlocksView, block_at, cells_in_all, halved, without_first, in_order, bit, times, has, parted, ArePlaced, ComesIn, map-insert, most_cells}
 
 -- ## How often a number stands in a list
 
@@ -59,13 +59,6 @@ sum_counts : (blocks : List (List Queued)) →
     sum_by (λ n. n) (map (λ (b : List Queued). length b) blocks) ≡ cells_in_all blocks
 sum_counts [] = refl
 sum_counts (b ∷ bs) = grind (arith, common_steps, sum_by-cons, sum_counts bs)
-
-pub sum_parts : (xs : List ℕ) (i : ℕ) → sum_by (λ n. n) (take i xs) + sum_by (λ n. n) (drop i xs) ≡ sum_by (λ n. n) xs
-sum_parts xs i = sum_by-take-drop (λ (n : ℕ). n) xs i
-
-pub sum_rest : (xs : List ℕ) (i : ℕ) →
-    sum_by (λ n. n) (take (length xs - i) (drop i xs)) + sum_by (λ n. n) (take i xs) ≡ sum_by (λ n. n) xs
-sum_rest xs i = grind (arith, common_steps, sum_parts, take_rest)
 
 -- the fields are in order, and stand for these blocks
 pub record Kept (pool : List (List Queued)) (order counts free : List ℕ) (blocks : List (List Queued)) : Type 0 where
@@ -250,7 +243,7 @@ upper_first block x at = sym (ap (take 1) (drop_more block 32 x (slice_get_withi
 
 pub freed : (pool : List (List Queued)) (order counts free : List ℕ) (blocks : List (List Queued)) (block : List Queued)
     (number : ℕ) → Kept pool order counts free blocks → 0 < length blocks → number ≡ get_or order 0 number →
-    Kept (set pool number block) (remove order 0) (remove counts 0) (free ++ number ∷ []) (drop 1 blocks)
+    Kept (set pool number block) (drop 1 order) (drop 1 counts) (free ++ number ∷ []) (drop 1 blocks)
 freed pool [] counts free blocks block number w some is = let many = as_many w in absurd (omega arith)
 freed pool (x ∷ xs) counts free blocks block number w some is =
     let p = w.placed in

@@ -6,6 +6,7 @@ ghost use Rattle.cq_urgency.specs.Blocks.{flattened, block_at, cells_in_all, hal
 use crate::block::Block;
 use cq_base::{NoMemory, Queued};
 use std::alloc::Global;
+use std::collections::VecDeque;
 use std::marker::Model;
 
 /// Cells in blocks of at most 64. Contracts see the cells of each block, in the order of the blocks, and how many
@@ -13,19 +14,21 @@ use std::marker::Model;
 ///
 /// The blocks stand in a pool and stay where they are. The order has their numbers, and beside it the counts say how
 /// many cells each block has: so to put a block in between two others moves numbers and no cells, and to count the
-/// cells ahead of a block reads counts that stand next to each other, and no block. An emptied block is free, and is
-/// used again before the pool grows. All memory is reserved at the start, and none of it is touched before it is used.
+/// cells ahead of a block reads counts that stand next to each other, and no block. A block that comes or goes moves
+/// the numbers on its shorter side, and the first block none. An emptied block is free, and is used again before the
+/// pool grows. All memory is reserved at the start, and none of it is touched before it is used.
 #[derive(Drop)]
 pub struct Blocks {
     pool: Vec<Block>,
-    order: Vec<usize>,
-    counts: Vec<usize>,
+    order: VecDeque<usize>,
+    counts: VecDeque<usize>,
     free: Vec<usize>,
     most: usize,
 }
 
 impl Model for Blocks {
     ghost use Rattle.std.specs.Prelude.{length, vec_capacity};
+    ghost use Rattle.std.specs.VecDeque.{deque_capacity};
     ghost use Rattle.cq_urgency.specs.Blocks.{BlocksView, in_order, ArePlaced, HaveMemory};
 
     ghost Value = { BlocksView };
@@ -33,8 +36,8 @@ impl Model for Blocks {
     ghost view = { λ b. record { blocks = in_order b.pool.items b.order.items; most = b.most } };
 
     ghost invariant = { λ b. ArePlaced b.pool.items b.order.items b.counts.items b.free.items
-        × HaveMemory b.most (length b.pool.items) (vec_capacity b.pool) (vec_capacity b.order) (vec_capacity b.counts)
-        (vec_capacity b.free) };
+        × HaveMemory b.most (length b.pool.items) (vec_capacity b.pool) (deque_capacity b.order)
+        (deque_capacity b.counts) (vec_capacity b.free) };
 }
 
 // A new block of one cell. It is made apart from all callers, so that none of them has room for a block on its stack.
@@ -103,31 +106,34 @@ fn put_upper(pool: &mut Vec<Block>, free: &mut Vec<usize>, number: usize) -> usi
     other
 }
 
-// The sum of some counts.
+// The sum of the counts from one place up to another.
 #[tactic(auto, using(std::proofs::lemmas::List::Sums::sum_by_more, std::proofs::lemmas::List::Sums::sum_by_more_le))]
-fn sum_of(counts: &[usize]) -> usize
-    requires { sum_by (λ n. n) counts.now < 2 ^ 64 }
-    ensures { result ≡ sum_by (λ n. n) counts.now }
+fn sum_of(counts: &VecDeque<usize>, from: usize, to: usize) -> usize
+    requires order { from ≤ to }
+    requires inside { to ≤ length counts.now.items }
+    requires fits { sum_by (λ n. n) counts.now.items < 2 ^ 64 }
+    ensures { sum_by (λ n. n) (take from counts.now.items) + result ≡ sum_by (λ n. n) (take to counts.now.items) }
 {
     let mut sum = 0;
-    'counts: for count in counts {
-        sum += *count;
+    'places: for place in from..to {
+        sum += counts[place];
     }
     sum
 }
 
 // The sum of the counts ahead of a place, where all add up to the whole: those ahead are added, or those behind are
 // taken off, whichever are fewer.
-#[tactic(auto, using(crate::proofs::Placed::sum_parts, crate::proofs::Placed::sum_rest))]
-fn sum_ahead(counts: &[usize], place: usize, whole: usize) -> usize
-    requires inside { place ≤ length counts.now }
-    requires whole { whole ≡ sum_by (λ n. n) counts.now }
-    ensures { result ≡ sum_by (λ n. n) (take place counts.now) }
+#[tactic(auto, using(std::proofs::lemmas::List::take_all))]
+fn sum_ahead(counts: &VecDeque<usize>, place: usize, whole: usize) -> usize
+    requires inside { place ≤ length counts.now.items }
+    requires whole { whole ≡ sum_by (λ n. n) counts.now.items }
+    ensures { result ≡ sum_by (λ n. n) (take place counts.now.items) }
 {
-    if place <= counts.len() / 2 {
-        return sum_of(&counts[..place]);
+    let len = counts.len();
+    if place <= len / 2 {
+        return sum_of(counts, 0, place);
     }
-    whole - sum_of(&counts[place..])
+    whole - sum_of(counts, place, len)
 }
 
 /// A place in the order of blocks, and a place in this block.
@@ -140,18 +146,19 @@ pub struct Spot {
 }
 
 // Where the cell stands that has so many ahead.
-#[tactic(auto, using(std::proofs::lemmas::List::Sums::sum_by_more))]
-fn place_of(counts: &[usize], ahead: usize) -> Spot
-    requires { ahead < sum_by (λ n. n) counts.now }
-    ensures block { sum_by (λ n. n) (take result.block counts.now) + result.within ≡ ahead }
-    ensures within { result.within < slice_index_or counts.now result.block 0 }
+#[tactic(auto, using(std::proofs::lemmas::List::Sums::sum_by_more, std::proofs::lemmas::List::take_all))]
+fn place_of(counts: &VecDeque<usize>, ahead: usize) -> Spot
+    requires { ahead < sum_by (λ n. n) counts.now.items }
+    ensures block { sum_by (λ n. n) (take result.block counts.now.items) + result.within ≡ ahead }
+    ensures within { result.within < slice_index_or counts.now.items result.block 0 }
 {
     let mut within = ahead;
-    'counts: for (block, count) in counts.iter().enumerate() {
-        if within < *count {
+    'counts: for block in 0..counts.len() {
+        let count = counts[block];
+        if within < count {
             return Spot { block, within };
         }
-        within -= *count;
+        within -= count;
     }
     unreachable!()
 }
@@ -164,8 +171,8 @@ impl Blocks {
     {
         Ok(Blocks {
             pool: Vec::with_capacity(alloc, most)?,
-            order: Vec::with_capacity(alloc, most)?,
-            counts: Vec::with_capacity(alloc, most)?,
+            order: VecDeque::with_capacity(alloc, most)?,
+            counts: VecDeque::with_capacity(alloc, most)?,
             free: Vec::with_capacity(alloc, most)?,
             most,
         })
@@ -223,8 +230,8 @@ impl Blocks {
         ensures most { self.new.most ≡ self.old.most }
     {
         let number = put_block(&mut self.pool, &mut self.free, queued);
-        self.order.push_reserved(number);
-        self.counts.push_reserved(1);
+        self.order.push_back_reserved(number);
+        self.counts.push_back_reserved(1);
     }
 
     /// Puts a cell into a block.
@@ -270,8 +277,8 @@ impl Blocks {
             self.counts[0] -= 1;
             return queued;
         }
-        self.order.remove(0);
-        self.counts.remove(0);
+        self.order.pop_front();
+        self.counts.pop_front();
         self.free.push_reserved(number);
         queued
     }

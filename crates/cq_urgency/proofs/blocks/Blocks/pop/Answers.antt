@@ -32,4 +32,4 @@ returns-clause-blocks c =
     let w = kept c.self.invariant.0 c.self.view_is in
     let count = count_is w 0 c.requires.block c.index-number.ensures c.index.ensures in
     let k = freed _ _ _ _ _ c.pop-queued.new.self _ w c.requires.block c.index-number.ensures in
-    rw c.remove.ensures.items (k.seen ∙ sym (without_block c.args.self.now.blocks (omega arith)))
+    rw c.pop_front.ensures.rest (k.seen ∙ sym (without_block c.args.self.now.blocks (omega arith)))

@@ -1,4 +1,4 @@
-use Rattle.cq_urgency.proofs.Terms.{common_steps, cases_lt, ◌∙◌, length, ap, length-set, arith, BlocksView, left_by_ok}
+use Rattle.cq_urgency.proofs.Terms.{common_steps, cases_lt, ◌∙◌, length, ap, length-set, arith, BlocksView}
 use Rattle.cq_urgency.proofs.Placed.{kept, as_many, in_pool, not_freed, block_same, split}
 use Rattle.cq_urgency.proofs.blocks.Blocks.split.Goals as goal
 
@@ -20,8 +20,8 @@ invariant_of-self c =
     let w = kept c.self.invariant.0 c.self.view_is in
     let come = c.put_upper-other.ensures.comes in
     let k = split w c.args.block c.requires.block c.index-number.ensures c.requires.full come in
-    let order = left_by_ok c.insert.result c.unwrap.result _ _ _ c.insert.ensures.items c.unwrap.ensures in
-    let counts = left_by_ok c.insert-2.result c.unwrap-2.result _ _ _ c.insert-2.ensures.items c.unwrap-2.ensures in
+    let order = rw c.unwrap.ensures at c.insert.ensures.items in
+    let counts = rw c.unwrap-2.ensures at c.insert-2.ensures.items in
     let view = ap (λ (v : BlocksView). v.most) c.self.view_is in
     let many = as_many w in
     (rw (order, counts) k.placed, grind (arith, common_steps, length-set, cases_lt))
@@ -31,4 +31,4 @@ returns-clause-blocks c =
     let w = kept c.self.invariant.0 c.self.view_is in
     let come = c.put_upper-other.ensures.comes in
     let k = split w c.args.block c.requires.block c.index-number.ensures c.requires.full come in
-    rw (left_by_ok c.insert.result c.unwrap.result _ _ _ c.insert.ensures.items c.unwrap.ensures) k.seen
+    rw (rw c.unwrap.ensures at c.insert.ensures.items) k.seen

@@ -8,5 +8,5 @@ invariant_of-self c =
     let come = c.put_block-number.ensures.comes in
     let k = started _ _ _ _ _ _ _ _ w come refl in
     let view = ap (λ (v : BlocksView). v.most) c.self.view_is in
-    let pushed = c.push_reserved.ensures.items in
-    (rw (pushed, c.push_reserved-2.ensures.items) k.placed, grind (arith, common_steps, cases_lt))
+    let pushed = c.push_back_reserved.ensures.items in
+    (rw (pushed, c.push_back_reserved-2.ensures.items) k.placed, grind (arith, common_steps, cases_lt))
