@@ -35,6 +35,9 @@ CASES = (
     Case("8 ports, 3 of 10 slots, smallest packets", "run", Traffic(8, 8, longest=60, load=3), 4_000_000, 10, None),
     Case("16 ports, 9 of 10 packets to one output", "run", Traffic(16, 16, most=9), 30_000, 1, 67_900),
     Case("16 ports, 9 of 10 packets to one output, for longer", "run", Traffic(16, 16, most=9), 240_000, 1, None),
+    Case("16 ports by priority, two classes an input, to one output", "run", Traffic(16, 1, classes=2), 60_000, 1, None,
+         "priority"),
+    Case("the same for longer", "run", Traffic(16, 1, classes=2), 240_000, 1, None, "priority"),
     Case("64 ports, to all outputs", "run", Traffic(64, 64), 1_000_000, 10, 7_480),
     Case("8 ports, to all outputs", "ideal", Traffic(8, 8), 4_000_000, 10, 1_970),
     Case("16 ports by priority, to all outputs", "ideal", Traffic(16, 16), 50_000, 1, None, "priority"),
@@ -59,7 +62,8 @@ def counted(case, words, options):
 
 
 def row(program, case, options):
-    words = [program, case.command, write_configuration(".", case.traffic.ports, discipline=case.discipline)]
+    tables = write_configuration(".", case.traffic.ports, discipline=case.discipline, classes=case.traffic.classes)
+    words = [program, case.command, tables]
     each = counted(case, words, options)
     made = make_captures(".", case.traffic, case.size * options.scale)
     start, end = ("`%s`, %s" % (case.command, case.name), whole(made.cells)), (each, per(case.before, 1))

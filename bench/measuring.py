@@ -21,6 +21,7 @@ WITHOUT_REP = {**os.environ, "GLIBC_TUNABLES": "glibc.cpu.x86_rep_movsb_threshol
 
 
 SHORTEST, CLASSES = 60, 8
+FIRST_TYPE = 0x88B5  # of the packets of class 0, where each input sends several classes
 
 
 class Traffic(NamedTuple):
@@ -31,6 +32,7 @@ class Traffic(NamedTuple):
     most: int = 0  # but so many packets of ten to output 0
     longest: int = 1514
     load: int = 8  # of ten slots so many have a cell
+    classes: int = 1  # that each input sends, drawn alike
 
 
 class Made(NamedTuple):
@@ -142,23 +144,26 @@ def program_of(options):
     return os.path.abspath(options.program) if options.program else built_program()
 
 
-def configuration(ports, workers=1, discipline=None):
-    """Each station is at the output of its number. With a discipline there are eight classes, by input."""
+def configuration(ports, workers=1, discipline=None, classes=1):
+    """Each station is at the output of its number. With a discipline there are eight classes, by input, or by the type
+    of a packet where each input sends several."""
     lines = ["version = 1", "workers = %d" % workers, 'trace = "trace.txt"', 'log = "log.txt"']
     how = '\ndiscipline = "%s"' % discipline if discipline else ""
     lines += ['[[port]]\nread = "in%d.pcap"\nwrite = "out%d.pcap"%s' % (i, i, how) for i in range(ports)]
     lines += ['[[address]]\nmac = "02:00:00:00:00:%02x"\noutput = %d' % (i, i) for i in range(ports)]
     if discipline:
         lines += ["[[class]]\npriority = %d\ncost = %d" % (CLASSES - 1 - k, 1 + k) for k in range(CLASSES)]
-        lines += ["[[rule]]\ninput = %d\nclass = %d" % (i, i % CLASSES) for i in range(ports)]
+        typed = [("ether_type", FIRST_TYPE + k) for k in range(classes)]
+        of = typed if classes > 1 else [("input", i) for i in range(ports)]
+        lines += ["[[rule]]\n%s = %d\nclass = %d" % (*rule, i % CLASSES) for i, rule in enumerate(of)]
     return "\n".join(lines) + "\n"
 
 
-def write_configuration(folder, ports, workers=1, discipline=None):
+def write_configuration(folder, ports, workers=1, discipline=None, classes=1):
     """Writes a switch.toml, and gives its name."""
     name = os.path.join(folder, "switch.toml")
     with open(name, "w", encoding="ascii") as file:
-        file.write(configuration(ports, workers, discipline))
+        file.write(configuration(ports, workers, discipline, classes))
     return name
 
 
@@ -172,6 +177,8 @@ def make_captures(folder, traffic, size):
             while file.tell() < size:
                 to = 0 if traffic.most and draw.randrange(10) < traffic.most else draw.randrange(traffic.outputs)
                 body = bytes([2, 0, 0, 0, 0, to]) + draw.randbytes(draw.randint(SHORTEST - 6, traffic.longest - 6))
+                if traffic.classes > 1:
+                    body = body[:12] + (FIRST_TYPE + draw.randrange(traffic.classes)).to_bytes(2, "big") + body[14:]
                 packet = rules.Packet(stamp, len(body), body)
                 file.write(rules.record(stamp // rules.SECOND_NS, stamp % rules.SECOND_NS, packet))
                 cells += rules.cells_of(packet)

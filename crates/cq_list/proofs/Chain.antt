@@ -5,7 +5,7 @@
 -- cells of other queues are for other outputs.
 --
 -- A node that is linked in behind another one goes into the chain behind it, for it leads on to where that one led.
-use Rattle.cq_list.proofs.Terms.{common_steps, rules, ◌≡◌, ◌≢◌, ℕ, zero, suc, List, ◌∷◌, length, Option, None, Some, refl, sym, ap, ◌∙◌, subst, arith, insert, slice_get, AllByRecursion, same_Some, slice_get-map, Queued, IsBefore, IsRising, key_laws, all_at, Node, Nodes, followed, chain, places, cells, all_weaker}
+use Rattle.cq_list.proofs.Terms.{common_steps, rules, ◌≡◌, ◌≢◌, ℕ, zero, suc, List, ◌∷◌, length, Option, None, Some, refl, sym, ap, ◌∙◌, subst, arith, insert, slice_get, AllByRecursion, same_Some, slice_get-map, Queued, IsBefore, IsRising, key_laws, all_at, Node, Nodes, followed, chain, cells, all_weaker}
 
 -- a chain that is whole begins with a node
 pub begins : (nodes : Nodes) (n place : ℕ) → length (chain nodes (suc n) place) ≡ suc n →
@@ -23,14 +23,6 @@ chain-at nodes n place node e = ap (λ o. followed place o (chain nodes n)) e
 rest_whole : (nodes : Nodes) (n place : ℕ) (node : Node) → nodes place ≡ Some node →
     length (chain nodes (suc n) place) ≡ suc n → length (chain nodes n node.next) ≡ n
 rest_whole nodes n place node e whole = grind (arith, common_steps, chain-at)
-
--- the node at a place of the chain
-pub node_at : (nodes : Nodes) (n first p place : ℕ) → length (chain nodes n first) ≡ n →
-    slice_get (places (chain nodes n first)) p ≡ Some place →
-    (node : Node) × (nodes place ≡ Some node) × (slice_get (chain nodes n first) p ≡ Some (place, node.queued))
-node_at nodes zero first p place whole at = cc
-node_at nodes (suc n) first zero place whole at = grind (arith, common_steps, begins, chain-at, same_Some)
-node_at nodes (suc n) first (suc p) place whole at = search (rules, begins, chain-at, rest_whole, node_at nodes n)
 
 -- ## A chain whose nodes stay
 

@@ -4,6 +4,7 @@ pub mod Blocks
 pub mod Chain
 pub mod Counts
 pub mod Filled
+pub mod Finger
 pub mod Kept
 pub mod Least
 pub mod Linked

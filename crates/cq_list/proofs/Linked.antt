@@ -1,10 +1,11 @@
 -- A queue of nodes that are linked, with one node more or less: it is linked again, and its cells are those of the
 -- queue with the cell put in, or without its head. The other queues keep their nodes, for these have cells for other
 -- outputs.
-use Rattle.cq_list.proofs.Terms.{slice_get-get_or, get_or-insert_at, false, key_laws, IsBefore, first_here, first_later, common_steps, rules, ◌≡◌, ◌≢◌, ℕ, suc, ◌+◌, ◌<◌, ◌≤◌, eqb, true, cond, List, [], ◌∷◌, length, None, Some, sym, ap, ◌∙◌, subst, arith, insert, slice_get, AllByRecursion, position_or_len, cond_both, eqb-true, eqb-false, length-insert, length-map, same_Some, none-some, ◌-◌, slice_get-map, Queued, Key, is_before, Slab, get, Updates, IsRising, HasOtherKey, put, first_inside, all_at, Node, Queue, Nodes, chain, linked, places, cells, EndsAt, IsChained, IsLinked, OthersStay, behind_first, all_weaker, all_put, rising_put, map-insert}
-use Rattle.std.proofs.lemmas.List.Edits.{get_or-insert_above}
-use Rattle.cq_list.proofs.Chain.{chain_stays, chain-at, differs, node_at, IsBehind, chain_behind}
-use Rattle.cq_list.proofs.Put.{put_is, is_later, is_no_sooner, ahead_of_last}
+use Rattle.cq_list.proofs.Terms.{slice_get-get_or, get_or-insert_at, common_steps, rules, ◌≡◌, ◌≢◌, ℕ, suc, ◌+◌, ◌<◌, ◌≤◌, eqb, cond, List, ◌∷◌, length, None, Some, sym, ap, ◌∙◌, subst, arith, insert, slice_get, AllByRecursion, position_or_len, cond_both, eqb-true, eqb-false, length-insert, length-map, same_Some, none-some, ◌-◌, Queued, Slab, get, Updates, IsRising, HasOtherKey, put, first_inside, all_at, Node, Queue, Nodes, chain, linked, places, cells, EndsAt, IsLinked, OthersStay, behind_first, all_weaker, all_put, rising_put, map-insert}
+use Rattle.cq_list.proofs.Chain.{chain_stays, chain-at, differs, IsBehind, chain_behind}
+use Rattle.cq_list.proofs.Finger.{insert_end_kept}
+use Rattle.cq_list.proofs.Walk.{node_ahead, cell_ahead}
+use Rattle.cq_list.proofs.Put.{put_is, is_later}
 
 -- the queue of another output stays
 pub linked_stays : (old new : Nodes) (j i : ℕ) (queue : Queue) → OthersStay j old new → i ≢ j → IsLinked old i queue →
@@ -15,49 +16,6 @@ linked_stays old new j i queue stay ne had = chain_stays old new (λ c. c.cell.o
 pub is_linked_along : (old new : Nodes) (i : ℕ) (queue : Queue) → linked new queue ≡ linked old queue →
     IsLinked old i queue → IsLinked new i queue
 is_linked_along old new i queue same had = grind (arith, common_steps)
-
--- ## The last cell
-
-module _ {nodes : Nodes} {queue : Queue} (had : IsChained nodes queue) (some : 0 < queue.len) where
-  pub last_there : (node : Node) × (nodes queue.last ≡ Some node)
-  last_there =
-      let at = had.last (queue.len - 1) (omega arith) in
-      let found = node_at nodes queue.len queue.first (queue.len - 1) queue.last had.whole at in (found.0, found.1)
-
-  module _ {node : Node} (here : nodes queue.last ≡ Some node) (key : Key) where
-    -- as many as there are ahead of the last, and it too where it is more urgent
-    ahead : ((x : Queued) → IsBefore x node.queued → is_before x.key key ≡ true) →
-        position_or_len (is_no_sooner key) (cells (linked nodes queue))
-        ≡ queue.len - 1 + position_or_len (is_no_sooner key) (node.queued ∷ [])
-    ahead sooner =
-        let at = had.last (queue.len - 1) (omega arith) in
-        let found = node_at nodes queue.len queue.first (queue.len - 1) queue.last had.whole at in
-        let long = length-map (linked nodes queue) (λ (e : ℕ × Queued). e.1) in
-        let whole = had.whole in
-        ahead_of_last key node.queued (cells (linked nodes queue)) (queue.len - 1) sooner had.rising (omega arith)
-        (search (arith, rules, same_Some, slice_get-map))
-
-    pub last_ahead : is_before node.queued.key key ≡ true →
-        queue.len ≡ position_or_len (is_no_sooner key) (cells (linked nodes queue))
-    last_ahead before =
-        let all = ahead (λ x first. key_laws.on x.key node.queued.key key first before) in
-        search (arith, rules, first_later)
-
-    pub last_is : node.queued.key ≡ key →
-        queue.len - 1 ≡ position_or_len (is_no_sooner key) (cells (linked nodes queue))
-    last_is own =
-        let all = ahead (λ x first. subst (λ (k : Key). is_before x.key k ≡ true) own first) in
-        let never = subst (λ (k : Key). is_before node.queued.key k ≡ false) own
-        (key_laws.never_itself node.queued.key) in
-        search (arith, rules, first_here)
-
--- a node of the queue has a cell for its output
-pub own_at : (nodes : Nodes) (j : ℕ) (queue : Queue) (m place : ℕ) (node : Node) → IsLinked nodes j queue →
-    slice_get (places (linked nodes queue)) m ≡ Some place → nodes place ≡ Some node → node.queued.cell.output ≡ j
-own_at nodes j queue m place node had at here =
-    let found = node_at nodes queue.len queue.first m place had.chained.whole at in
-    all_at (λ c. c.cell.output ≡ j) (cells (linked nodes queue)) m node.queued had.own
-    (search (arith, rules, slice_get-map))
 
 -- ## A node more
 
@@ -88,36 +46,26 @@ is_behind {old} {mid} {k = k} {ahead = ahead} vacant here more again led = recor
 }
 
 module _ {old : Nodes} {j : ℕ} {queue : Queue} (had : IsLinked old j queue) (count : ℕ) {a : ℕ}
-    (ends : EndsAt (linked old queue) count a) (some : 0 < count) where
-  place_ahead : slice_get (places (linked old queue)) (count - 1) ≡ Some a
-  place_ahead = ends (count - 1) (omega arith)
-
-  pub ahead_there : (node : Node) × (old a ≡ Some node)
-  ahead_there =
-      let found = node_at old queue.len queue.first (count - 1) a had.chained.whole place_ahead in (found.0, found.1)
-
+    (ends : EndsAt (places (linked old queue)) count a) (some : 0 < count) where
   module _ {new : Nodes} {k : ℕ} {ahead : Node} {c : Queued} (b : IsBehind old new a k ahead c) where
     pub chain_more : chain new (queue.len + 1) queue.first ≡ insert (linked old queue) count (k, c)
     chain_more =
-        let found = node_at old queue.len queue.first (count - 1) a had.chained.whole place_ahead in
-        let same = same_Some found.0 ahead (sym found.1 ∙ b.here) in
+        let shown = node_ahead had.chained ends some b.here in
         let next : count ≡ suc (count - 1) = omega arith in rw next (search (arith, rules, chain_behind b))
 
     pub others_stay : OthersStay j old new
     others_stay i node there ne =
-        let own = own_at old j queue (count - 1) a ahead had place_ahead b.here in search (rules, b.others, same_Some)
+        let own : ahead.queued.cell.output ≡ j = all_at (λ c. c.cell.output ≡ j) (cells (linked old queue)) (count - 1)
+        ahead.queued had.own (cell_ahead had.chained ends some b.here) in
+        search (rules, b.others, same_Some)
 
 insert_end_shown : {X : Type 0} (xs : List X) (n : ℕ) (y : X) → length xs ≡ n → slice_get (insert xs n y) n ≡ Some y
 insert_end_shown xs n y len =
     grind (arith, common_steps, slice_get-get_or (insert xs n y) n y, get_or-insert_at, length-insert)
 
-insert_end_kept : {X : Type 0} (xs : List X) (i m : ℕ) (y : X) → i ≤ m → m < length xs →
-    slice_get (insert xs i y) (suc m) ≡ slice_get xs m
-insert_end_kept xs i m y le inside =
-    let next : suc m ≡ m + 1 = omega arith in
-    let above = get_or-insert_above xs i y y m in
-    let here = slice_get-get_or (insert xs i y) (m + 1) y in
-    rw next (grind (arith, common_steps, here, slice_get-get_or xs m y, length-insert))
+pub placed : (chained more : List (ℕ × Queued)) (n k : ℕ) (c : Queued) → more ≡ insert chained n (k, c) →
+    places more ≡ insert (places chained) n k
+placed chained more n k c e = ap places e ∙ map-insert (λ (x : ℕ × Queued). x.0) chained n (k, c)
 
 ruleset equal_or_not = (cond_both, eqb-true, eqb-false)
 
@@ -132,7 +80,7 @@ module _ (old new : Nodes) (j : ℕ) (queue more : Queue) (count k : ℕ) (c : Q
   pub cells_more : cells (linked new more) ≡ put c (cells (linked old queue))
   cells_more = grind (arith, common_steps, map-insert, put_is)
 
-  ends_more : EndsAt (linked new more) more.len more.last
+  ends_more : EndsAt (places (linked new more)) more.len more.last
   ends_more m is =
       search (arith, rules, equal_or_not, length-map, count_inside, map-insert, insert_end_shown, insert_end_kept)
 
@@ -186,8 +134,12 @@ module _ {old new : Slab Node} {j : ℕ} {queue : Queue} {node : Node} (had : Is
       chain_stays (get old) (get new) (λ x. x ≢ node.queued) (search (arith, rules, others, same_Some)) (queue.len - 1)
       node.next whole (search (arith, rules, all_weaker, differs))
 
+  pub links_less : linked (get old) queue
+      ≡ (queue.first, node.queued) ∷ linked (get new) (behind_first queue node.next)
+  links_less = begins_with had some here ∙ ap (λ l. (queue.first, node.queued) ∷ l) (sym rest_stays)
+
   pub cells_less : cells (linked (get old) queue) ≡ node.queued ∷ cells (linked (get new) (behind_first queue node.next))
-  cells_less = cells_behind had some here ∙ ap (λ l. node.queued ∷ cells l) (sym rest_stays)
+  cells_less = ap cells links_less
 
   pub linked_less : IsLinked (get new) j (behind_first queue node.next)
   linked_less = is_linked_along (get old) (get new) j (behind_first queue node.next) rest_stays

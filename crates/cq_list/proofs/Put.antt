@@ -1,6 +1,6 @@
 -- A cell put into a queue whose cells rise in their keys: it goes in at the place of the first less urgent cell, and
 -- the queue still rises, since a cell that has another key and is not before it is after it.
-use Rattle.cq_list.proofs.Terms.{rules, ◌≡◌, ℕ, zero, suc, ◌+◌, Bool, true, not, List, [], ◌∷◌, length, Some, refl, ap, ◌∙◌, arith, common_steps, insert, slice_get, position_or_len, cond_both, cases_Bool, not-true, same_Some, Queued, Key, is_before, IsBefore, IsRising, HasOtherKey, put, key_laws, all_at, first_here, first_later, after_other}
+use Rattle.cq_list.proofs.Terms.{rules, ◌≡◌, ℕ, zero, suc, ◌≤◌, Bool, true, not, List, [], ◌∷◌, Some, refl, ap, ◌∙◌, arith, common_steps, insert, slice_get, position_or_len, cond_both, cases_Bool, not-true, Queued, Key, is_before, IsBefore, IsRising, HasOtherKey, put, key_laws, all_at, first_here, first_later, after_other}
 
 -- the test that finds its place
 abbrev pub is_later : Key → Queued → Bool
@@ -33,15 +33,12 @@ no_sooner_is_later c (x ∷ xs) other =
     let rest = no_sooner_is_later c xs other.1 in let sooner = cases_Bool (is_before x.key c.key) in
     grind (arith, common_steps, first_later, first_here, key_laws.one_way, after_other)
 
--- how many are more urgent than the key, where all cells before the last are
-pub ahead_of_last : (key : Key) (last : Queued) (xs : List Queued) (m : ℕ) →
-    ((x : Queued) → IsBefore x last → is_before x.key key ≡ true) → IsRising xs → length xs ≡ m + 1 →
-    slice_get xs m ≡ Some last →
-    position_or_len (is_no_sooner key) xs ≡ m + position_or_len (is_no_sooner key) (last ∷ [])
-ahead_of_last key last [] m sooner rising len at = cc
-ahead_of_last key last (x ∷ y ∷ xs) zero sooner rising len at = absurd (omega arith)
-ahead_of_last key last (x ∷ []) zero sooner rising len at =
-    let same = ap (λ (c : Queued). position_or_len (is_no_sooner key) (c ∷ [])) (same_Some x last at) in omega arith
-ahead_of_last key last (x ∷ xs) (suc m) sooner rising len at =
-    let ahead = sooner x (all_at (IsBefore x) xs m last rising.0 at) in
-    search (arith, rules, first_later, ahead_of_last key last xs m sooner rising.1)
+-- where all cells before one of rising cells are more urgent, those ahead of it are
+pub sooner_to : (key : Key) (x : Queued) (xs : List Queued) (m : ℕ) →
+    ((y : Queued) → IsBefore y x → is_before y.key key ≡ true) → IsRising xs → slice_get xs m ≡ Some x →
+    m ≤ position_or_len (is_no_sooner key) xs
+sooner_to key x xs zero sooner rising at = omega arith
+sooner_to key x [] (suc m) sooner rising at = cc
+sooner_to key x (y ∷ xs) (suc m) sooner rising at =
+    let ahead = sooner y (all_at (IsBefore y) xs m x rising.0 at) in
+    let rest = sooner_to key x xs m sooner rising.1 at in grind (arith, common_steps, first_later)

@@ -1,5 +1,5 @@
 -- A pool in which one queue changes: each queue is linked as before, and the cells of the others are the same.
-use Rattle.cq_list.proofs.Terms.{common_steps, rules, ◌≡◌, ◌≢◌, ℕ, zero, suc, ◌+◌, ◌<◌, ◌≤◌, List, [], ◌∷◌, replicate, length, get_or, set, drop, Some, refl, sym, ap, ◌∙◌, arith, length-set, get_or-set_same, get_or-set_other, Bool, position_or_len, cases_lt, cases_eq, length-map, get_or-map, get_or_past, get_or_read, ext_get_or, sum_by-set, slice_get, Slab, get, slab_len, Node, Queued, Queue, PoolView, Nodes, linked, cells, IsLinked, OthersStay, AreLinked, IsPool, behind_first, no_queue, queue_at, cells_in_queues, queue_of}
+use Rattle.cq_list.proofs.Terms.{common_steps, rules, ◌≡◌, ◌≢◌, ℕ, zero, suc, ◌+◌, ◌<◌, ◌≤◌, List, [], ◌∷◌, replicate, length, get_or, set, drop, Some, refl, sym, ap, ◌∙◌, arith, length-set, get_or-set_same, get_or-set_other, Bool, position_or_len, cases_lt, cases_eq, length-map, get_or-map, get_or_past, get_or_read, ext_get_or, sum_by-set, slice_get, Slab, get, slab_len, Node, Queued, Queue, PoolView, Nodes, linked, places, cells, IsLinked, OthersStay, AreLinked, IsPool, Ahead, AreFingers, HaveFingers, behind_first, no_queue, queue_at, cells_in_queues, queue_of}
 use Rattle.cq_list.proofs.Linked.{linked_stays, is_linked_along, cells_behind, linked_behind}
 use Rattle.cq_list.proofs.Walk.{head_there, head_shown}
 
@@ -25,6 +25,12 @@ module _ (old new : Nodes) (j : ℕ) (queues : List Queue) (queue : Queue) (had 
   pub are_linked_changed : IsLinked new j queue → AreLinked new (set queues j queue)
   are_linked_changed changed i =
       grind (arith, common_steps, get_or-set_same, get_or-set_other, is_linked_along, other_stays, cases_eq)
+
+  pub have_fingers_changed : (fingers : List (List Ahead)) (own : List Ahead) → HaveFingers old queues fingers →
+      length fingers ≡ length queues → AreFingers (places (linked new queue)) own →
+      HaveFingers new (set queues j queue) (set fingers j own)
+  have_fingers_changed fingers own have_fingers even changed i = search
+      (arith, rules, get_or-set_same, get_or-set_other, other_stays, cases_eq i j)
 
   pub cells_changed : cells_in_queues new (set queues j queue)
       ≡ set (cells_in_queues old queues) j (cells (linked new queue))
@@ -57,15 +63,25 @@ pub is_read : (nodes : Nodes) (queues : List Queue) (seen : List (List Queued)) 
 is_read nodes queues seen j queue had view inside read = search (arith, rules, queue_seen, get_or_read)
 
 -- so of a queue of the pool
-pub read_of : {nodes : Slab Node} {queues : List Queue} {room spare : ℕ} {seen : PoolView} {j : ℕ} {queue : Queue} →
-    IsPool nodes queues room → record { queues = cells_in_queues (get nodes) queues; spare = spare } ≡ seen →
+pub read_of : {nodes : Slab Node} {queues : List Queue} {fingers : List (List Ahead)} {room spare : ℕ} {seen : PoolView}
+    {j : ℕ} {queue : Queue} → IsPool nodes queues fingers room →
+    record { queues = cells_in_queues (get nodes) queues; spare = spare } ≡ seen →
     j < length seen.queues → queue ≡ get_or queues j queue → IsRead (get nodes) queues seen.queues j queue
 read_of {nodes} {queues} {seen = seen} {j} {queue} had is inside read =
     let view = ap (λ (v : PoolView). v.queues) is in search (arith, rules, is_read, inside_seen)
 
+-- and of its fingers
+pub fingers_read : {nodes : Slab Node} {queues : List Queue} {fingers : List (List Ahead)} {room j : ℕ} {queue : Queue}
+    {own : List Ahead} → IsPool nodes queues fingers room → j < length queues → queue ≡ get_or queues j queue →
+    own ≡ get_or fingers j own → AreFingers (places (linked (get nodes) queue)) own
+fingers_read {queues = queues} {fingers} {j = j} {queue} {own} had inside read is =
+    let long = had.even in
+    rw (get_or_read queues j queue inside read no_queue)
+    (rw (get_or_read fingers j own (omega arith) is []) (had.have_fingers j))
+
 -- what stands first in it stands first in what is seen
-pub first_seen : {nodes : Slab Node} {queues : List Queue} {room spare : ℕ} {seen : PoolView} {j : ℕ} {queue : Queue}
-    (p : Queued → Bool) {n : ℕ} → IsPool nodes queues room →
+pub first_seen : {nodes : Slab Node} {queues : List Queue} {fingers : List (List Ahead)} {room spare : ℕ}
+    {seen : PoolView} {j : ℕ} {queue : Queue} (p : Queued → Bool) {n : ℕ} → IsPool nodes queues fingers room →
     record { queues = cells_in_queues (get nodes) queues; spare = spare } ≡ seen → j < length seen.queues →
     queue ≡ get_or queues j queue → n ≡ position_or_len p (cells (linked (get nodes) queue)) →
     n ≡ position_or_len p (queue_of seen.queues j)
@@ -77,14 +93,18 @@ as_many {nodes} {queue = queue} r = grind (arith, common_steps, length-map)
 
 -- ## Another queue in its place
 
-module _ {old : Slab Node} (new : Slab Node) {j room : ℕ} {queues : List Queue} {seen : List (List Queued)}
-    {read queue : Queue} (had : IsPool old queues room) (r : IsRead (get old) queues seen j read)
+module _ {old : Slab Node} (new : Slab Node) {j room : ℕ} {queues : List Queue} {fingers : List (List Ahead)}
+    {seen : List (List Queued)} {read queue : Queue} (had : IsPool old queues fingers room)
+    (r : IsRead (get old) queues seen j read)
     (stay : OthersStay j (get old) (get new)) (changed : IsLinked (get new) j queue) where
-  pub is_pool_changed : slab_len new + read.len ≡ slab_len old + queue.len →
-      slab_len new ≤ room → new.capacity ≡ old.capacity → IsPool new (set queues j queue) room
-  is_pool_changed len fits capacity =
+  pub is_pool_changed : (own : List Ahead) → AreFingers (places (linked (get new) queue)) own →
+      slab_len new + read.len ≡ slab_len old + queue.len → slab_len new ≤ room → new.capacity ≡ old.capacity →
+      IsPool new (set queues j queue) (set fingers j own) room
+  is_pool_changed own are len fits capacity =
       let linked = are_linked_changed (get old) (get new) j queues queue had.linked r.inside stay changed in
-      grind (arith, common_steps, linked, sum_by-set)
+      let have_fingers = have_fingers_changed (get old) (get new) j queues queue had.linked r.inside stay fingers own
+      had.have_fingers had.even are in
+      grind (arith, common_steps, linked, have_fingers, sum_by-set, length-set)
 
   pub view_changed : (f : List Queued → List Queued) → cells (linked (get new) queue) ≡ f
       (cells (linked (get old) read)) → cells_in_queues (get new) (set queues j queue) ≡ set seen j

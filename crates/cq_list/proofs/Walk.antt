@@ -1,7 +1,10 @@
 -- A walk along a queue, node by node. Where it has come the rest of the chain begins at the place that it looks at,
 -- none of the cells behind it is less urgent, and it knows the place of the last of them.
-use Rattle.cq_list.proofs.Terms.{common_steps, rules, ◌≡◌, ℕ, zero, suc, ◌+◌, ◌-◌, ◌<◌, ◌≤◌, Bool, true, false, List, [], ◌∷◌, drop, Some, sym, ap, ◌∙◌, arith, length-drop, slice_get, position_or_len, drop-drop, drop_all, length-map, drop_more, slice_get-map, slice_get_within, get_or_from_slice_get, Queued, first_here, first_inside, first_later, Node, Queue, Nodes, chain, linked, cells, EndsAt, IsChained}
+use Rattle.cq_list.proofs.Terms.{common_steps, rules, ◌≡◌, ℕ, zero, suc, ◌+◌, ◌-◌, ◌<◌, ◌≤◌, subst, length, ⊎_elim, cases_lt, Bool, true, false, List, [], ◌∷◌, drop, Some, sym, ap, ◌∙◌, arith, length-drop, slice_get, position_or_len, drop-drop, length-map, slice_get-map, slice_get_within, get_or_from_slice_get, Queued, first_inside, Node, Queue, Nodes, chain, linked, cells, EndsAt, IsChained, first_le, places, same_Some, Key, is_before, key_laws, not}
+use Rattle.std.proofs.lemmas.List.Sums.{passes_at_first}
 use Rattle.cq_list.proofs.Chain.{chain-at, begins}
+use Rattle.cq_list.proofs.Finger.{ends_inside}
+use Rattle.cq_list.proofs.Put.{is_no_sooner, sooner_to}
 
 shown_at : {X : Type 0} (xs : List X) (i : ℕ) (x : X) (ys : List X) → drop i xs ≡ x ∷ ys → slice_get xs i ≡ Some x
 shown_at [] zero x ys e = cc
@@ -49,21 +52,19 @@ head_shown {nodes} {queue} had some here = cell_shown had (reached_first nodes q
 
 -- ## A search for the first cell that passes a test
 
-drop_shown : {X : Type 0} (xs : List X) (i : ℕ) (x : X) → slice_get xs i ≡ Some x → drop i xs ≡ x ∷ drop (i + 1) xs
-drop_shown xs i x at =
-    drop_more xs i x (slice_get_within xs i x at) ∙ ap (λ y. y ∷ drop (i + 1) xs) (get_or_from_slice_get xs i x x at)
-
-not_here : {X : Type 0} (p : X → Bool) (xs : List X) (i : ℕ) (x : X) →
-    position_or_len p xs ≡ i + position_or_len p
-    (drop i xs) → slice_get xs i ≡ Some x → p x ≡ false → position_or_len p xs ≡ i + 1 + position_or_len p
-    (drop (i + 1) xs)
-not_here p xs i x rest at fails = grind (arith, common_steps, drop_shown, first_later)
+-- a place that is no later than the first one that passes, and does not, is earlier
+past_this : {X : Type 0} (p : X → Bool) (xs : List X) (i : ℕ) (x : X) → slice_get xs i ≡ Some x → p x ≡ false →
+    i ≤ position_or_len p xs → i < position_or_len p xs
+past_this p xs i x at fails le = ⊎_elim (λ lt. lt) (λ ge.
+    let same : i ≡ position_or_len p xs = omega arith in
+    let inside = slice_get_within xs i x at in
+    let passes = passes_at_first p xs x (omega arith) in
+    let shown = get_or_from_slice_get xs i x x at in absurd (let P : ⊥ = cc in P)) (cases_lt i (position_or_len p xs))
 
 -- and none of the cells behind it passes
 pub record HasPassed (nodes : Nodes) (queue : Queue) (p : Queued → Bool) (count place : ℕ) : Type 0 where
   pub reached : HasReached nodes queue count place
-  pub behind : position_or_len p (cells (linked nodes queue))
-      ≡ count + position_or_len p (drop count (cells (linked nodes queue)))
+  pub behind : count ≤ position_or_len p (cells (linked nodes queue))
 
 pub search_starts : (nodes : Nodes) (queue : Queue) (p : Queued → Bool) → HasPassed nodes queue p 0 queue.first
 search_starts nodes queue p = record { reached = reached_first nodes queue; behind = omega arith }
@@ -76,15 +77,83 @@ module _ {nodes : Nodes} {queue : Queue} {p : Queued → Bool} {count place : �
   shown = cell_shown chained passed.reached inside here
 
   pub search_ends : p node.queued ≡ true → count ≡ position_or_len p (cells (linked nodes queue))
-  search_ends passes = grind (arith, common_steps, drop_shown, shown, first_here)
+  search_ends passes = search (arith, rules, first_le, shown)
 
   pub search_on : p node.queued ≡ false → HasPassed nodes queue p (count + 1) node.next
-  search_on fails = search (rules, reached_next, not_here, shown)
+  search_on fails = search (arith, rules, reached_next, past_this, shown)
 
   -- the place of its node is the last one behind which it goes on
-  pub ends_on : EndsAt (linked nodes queue) (count + 1) place
+  pub ends_on : EndsAt (places (linked nodes queue)) (count + 1) place
   ends_on m is = search (rules, slice_get-map, node_shown)
 
-pub searched_all : {nodes : Nodes} {queue : Queue} {p : Queued → Bool} {count place : ℕ} → IsChained nodes queue →
-    HasPassed nodes queue p count place → queue.len ≤ count → queue.len ≡ position_or_len p (cells (linked nodes queue))
-searched_all had passed past = search (rules, length-map, drop_all, first_inside)
+pub searched_all : {nodes : Nodes} {queue : Queue} {count : ℕ} (p : Queued → Bool) → IsChained nodes queue →
+    count ≤ position_or_len p (cells (linked nodes queue)) → queue.len ≤ count →
+    queue.len ≡ position_or_len p (cells (linked nodes queue))
+searched_all {nodes} {queue} p had behind past =
+    let inside = first_inside p (cells (linked nodes queue)) in
+    let long = length-map (linked nodes queue) (λ (e : ℕ × Queued). e.1) in grind (arith, common_steps, had.whole)
+
+-- ## Where a walk begins
+
+module _ {nodes : Nodes} {queue : Queue} (had : IsChained nodes queue) where
+  pub all_placed : length (places (linked nodes queue)) ≡ queue.len
+  all_placed = length-map (linked nodes queue) (λ (e : ℕ × Queued). e.0) ∙ had.whole
+
+  pub within : {count place : ℕ} → EndsAt (places (linked nodes queue)) count place → count ≤ queue.len
+  within ends = let long = ends_inside (places (linked nodes queue)) ends in let all = all_placed in omega arith
+
+  reached_at : (count : ℕ) → count ≤ queue.len → (place : ℕ) × HasReached nodes queue count place
+  reached_at zero le = (queue.first, reached_first nodes queue)
+  reached_at (suc n) le =
+      let before = reached_at n (omega arith) in
+      let there = node_there had before.1 (omega arith) in
+      let next : suc n ≡ n + 1 = omega arith in
+      (there.0.next, rw next (reached_next had before.1 (omega arith) there.1))
+
+  module _ {count place : ℕ} (ends : EndsAt (places (linked nodes queue)) count place) (some : 0 < count) where
+    inside : count - 1 < queue.len
+    inside = let all = within ends in omega arith
+
+    last_reached : HasReached nodes queue (count - 1) place
+    last_reached =
+        let lt = inside in
+        let found = reached_at (count - 1) (omega arith) in
+        let shown = node_shown had found.1 inside (node_there had found.1 inside).1 in
+        let at : slice_get (places (linked nodes queue)) (count - 1) ≡ Some found.0 =
+        grind (arith, common_steps, slice_get-map) in
+        let same = same_Some found.0 place (sym at ∙ ends (count - 1) (omega arith)) in
+        subst (HasReached nodes queue (count - 1)) same found.1
+
+    pub finger_there : (node : Node) × (nodes place ≡ Some node)
+    finger_there = node_there had last_reached inside
+
+    module _ {node : Node} (here : nodes place ≡ Some node) where
+      pub node_ahead : slice_get (linked nodes queue) (count - 1) ≡ Some (place, node.queued)
+      node_ahead = node_shown had last_reached inside here
+
+      pub cell_ahead : slice_get (cells (linked nodes queue)) (count - 1) ≡ Some node.queued
+      cell_ahead = cell_shown had last_reached inside here
+
+      pub next_reached : HasReached nodes queue count node.next
+      next_reached =
+          let next : count ≡ count - 1 + 1 = omega arith in rw next (reached_next had last_reached inside here)
+
+      -- where the last of some cells is more urgent, they all are
+      pub all_sooner : (key : Key) → is_before node.queued.key key ≡ true →
+          count ≤ position_or_len (is_no_sooner key) (cells (linked nodes queue))
+      all_sooner key sooner =
+          let ahead = sooner_to key node.queued (cells (linked nodes queue)) (count - 1)
+          (λ x first. key_laws.on x.key node.queued.key key first sooner) had.rising cell_ahead in
+          let past = past_this (is_no_sooner key) (cells (linked nodes queue)) (count - 1) node.queued cell_ahead
+          (ap not sooner) ahead in omega arith
+
+      -- and where it has the key, all but it
+      pub all_but_last : (key : Key) → node.queued.key ≡ key →
+          count - 1 ≡ position_or_len (is_no_sooner key) (cells (linked nodes queue))
+      all_but_last key own =
+          let ahead = sooner_to key node.queued (cells (linked nodes queue)) (count - 1)
+          (λ x first. subst (λ (k : Key). is_before x.key k ≡ true) own first) had.rising cell_ahead in
+          let never = subst (λ (k : Key). is_before node.queued.key k ≡ false) own
+          (key_laws.never_itself node.queued.key) in
+          let past = first_le (is_no_sooner key) (cells (linked nodes queue)) (count - 1) node.queued cell_ahead
+          (ap not never) in omega arith

@@ -1,4 +1,5 @@
 pub mod Block
+pub mod Fingers
 pub mod InputList
 pub mod Places
 pub mod Pool

@@ -1,11 +1,13 @@
 -- A pool of cells that are linked into a queue for each output, and what clauses see of it.
-use Rattle.std.specs.Prelude.{◌≡◌, ◌≢◌, ℕ, zero, suc, ◌+◌, ◌-◌, ◌≤◌, List, [], ◌∷◌, length, map, Option, None, Some, slice_get, slice_index_or}
+use Rattle.std.specs.Prelude.{◌≡◌, ◌≢◌, ℕ, zero, suc, ◌-◌, ◌≤◌, List, [], ◌∷◌, length, map, Option, None, Some, slice_index_or}
 use Rattle.std.specs.List.{AllByRecursion, sum_by}
 use Rattle.slab.specs.Slab.{Slab, get, slab_len}
 use Rattle.cq_base.specs.declared.cell.Queued.{Queued}
 use Rattle.cq_base.specs.Cells.{IsRising}
 use Rattle.cq_list.specs.declared.pool.Node.{Node}
 use Rattle.cq_list.specs.declared.pool.Queue.{Queue}
+use Rattle.cq_list.specs.declared.fingers.Ahead.{Ahead}
+use Rattle.cq_list.specs.Fingers.{EndsAt, AreFingers}
 use Rattle.cq_list.specs.Split.{Queues}
 
 -- the queue of each output, and how many more cells there is room for
@@ -43,15 +45,11 @@ places chained = map (λ e. e.0) chained
 abbrev pub cells : List (ℕ × Queued) → List Queued
 cells chained = map (λ e. e.1) chained
 
--- the last of the first so many nodes stands at this place
-abbrev pub EndsAt : List (ℕ × Queued) → ℕ → ℕ → Type 0
-EndsAt chained count place = (m : ℕ) → count ≡ m + 1 → slice_get (places chained) m ≡ Some place
-
 -- all nodes of the queue are there, its cells rise in their keys, and it knows the place of its last node
 pub record IsChained (nodes : Nodes) (queue : Queue) : Type 0 where
   pub whole : length (linked nodes queue) ≡ queue.len
   pub rising : IsRising (cells (linked nodes queue))
-  pub last : EndsAt (linked nodes queue) queue.len queue.last
+  pub last : EndsAt (places (linked nodes queue)) queue.len queue.last
 
 -- and its cells are for output j
 pub record IsLinked (nodes : Nodes) (j : ℕ) (queue : Queue) : Type 0 where
@@ -74,6 +72,11 @@ queue_at queues j = slice_index_or queues j no_queue
 abbrev pub AreLinked : Nodes → List Queue → Type 0
 AreLinked nodes queues = (j : ℕ) → IsLinked nodes j (queue_at queues j)
 
+-- each queue has its fingers
+abbrev pub HaveFingers : Nodes → List Queue → List (List Ahead) → Type 0
+HaveFingers nodes queues fingers = (j : ℕ) → AreFingers (places (linked nodes (queue_at queues j)))
+    (slice_index_or fingers j [])
+
 -- the cells of each queue
 abbrev pub cells_in_queues : Nodes → List Queue → List (List Queued)
 cells_in_queues nodes queues = map (λ queue. cells (linked nodes queue)) queues
@@ -82,9 +85,12 @@ cells_in_queues nodes queues = map (λ queue. cells (linked nodes queue)) queues
 abbrev pub OthersStay : ℕ → Nodes → Nodes → Type 0
 OthersStay j old new = (i : ℕ) (node : Node) → old i ≡ Some node → node.queued.cell.output ≢ j → new i ≡ Some node
 
--- what holds of each pool: the queues are linked, they have all of its nodes, and there is memory for its room
-pub record IsPool (nodes : Slab Node) (queues : List Queue) (room : ℕ) : Type 0 where
+-- what holds of each pool: its queues are linked and have fingers, they have all its nodes, and there is memory for its
+-- room
+pub record IsPool (nodes : Slab Node) (queues : List Queue) (fingers : List (List Ahead)) (room : ℕ) : Type 0 where
   pub linked : AreLinked (get nodes) queues
+  pub have_fingers : HaveFingers (get nodes) queues fingers
+  pub even : length fingers ≡ length queues
   pub counted : sum_by (λ queue. queue.len) queues ≡ slab_len nodes
   pub fits : slab_len nodes ≤ room
   pub memory : room ≤ nodes.capacity

@@ -6,6 +6,7 @@
 #![tactic(auto)]
 
 mod block;
+mod fingers;
 mod input_list;
 mod places;
 mod pool;

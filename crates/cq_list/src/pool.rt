@@ -1,11 +1,13 @@
 //! The cells that wait, in a queue for each output.
-ghost use Rattle.std.specs.Prelude.{◌≡◌, ◌-◌, ◌+◌, ◌<◌, ◌==◌, ◌^◌, [], ◌∷◌, Some, IfOk, IsTrue, length, replicate, drop, insert, slice_get, slice_set, not, if◌then◌else◌};
+ghost use Rattle.std.specs.Prelude.{◌≡◌, ◌-◌, ◌+◌, ◌<◌, ◌≤◌, ℕ, ◌==◌, ◌^◌, [], ◌∷◌, Some, IfOk, IsTrue, length, replicate, drop, insert, slice_get, slice_set, not, if◌then◌else◌};
 ghost use Rattle.std.specs.List.{position_or_len};
 ghost use Rattle.cq_base.specs.Key.{is_before};
 ghost use Rattle.cq_base.specs.Cells.{HasOtherKey, has_id, put};
-ghost use Rattle.cq_list.specs.Pool.{queue_of, behind_first, chain, linked, cells, EndsAt, IsChained, IsLinked, OthersStay};
+ghost use Rattle.cq_list.specs.Fingers.{AreFingers, EndsAt};
+ghost use Rattle.cq_list.specs.Pool.{queue_of, behind_first, chain, linked, places, cells, IsChained, IsLinked, OthersStay};
 ghost use Rattle.slab.specs.Slab.{get, slab_len, HasRoomFor};
 
+use crate::fingers::{Ahead, Fingers};
 use cq_base::{CellId, Key, NoMemory, Port, Queued};
 use slab::Slab;
 use std::alloc::Global;
@@ -26,21 +28,16 @@ struct Queue {
     len: usize,
 }
 
-// How many nodes of a queue stand ahead, and the place of the last of these.
-#[derive(Clone, Copy)]
-struct Ahead {
-    count: usize,
-    last: usize,
-}
-
 /// A queue of cells for each output. Contracts see the queues, and how many more cells there is room for.
 ///
 /// The cells stand in one pool, and each has the place of the next one of its queue. A place that was freed is used
-/// before a new one.
+/// before a new one. A cell that goes in at the end of its queue walks along no other, and one that overtakes others
+/// begins its walk at a finger.
 #[derive(Drop)]
 pub struct Pool {
     nodes: Slab<Node>,
     queues: Vec<Queue>,
+    fingers: Vec<Fingers>,
     room: u64,
 }
 
@@ -54,7 +51,7 @@ impl Model for Pool {
     ghost view = { λ p.
         record { queues = cells_in_queues (get p.nodes) p.queues.items; spare = p.room - slab_len p.nodes } };
 
-    ghost invariant = { λ p. IsPool p.nodes p.queues.items p.room };
+    ghost invariant = { λ p. IsPool p.nodes p.queues.items p.fingers.items p.room };
 }
 
 // Whether the one key is no more urgent.
@@ -72,16 +69,67 @@ fn is_same(key: Key, other: Key) -> bool
     is_no_sooner(key, other) && is_no_sooner(other, key)
 }
 
-// How many cells of a queue are more urgent, cell by cell.
-fn walk(nodes: &Slab<Node>, queue: Queue, key: Key) -> Ahead
-    requires { IsChained (get nodes.now) queue }
+// A finger, where it has more nodes ahead than the one that was found and the last of them is more urgent.
+fn further(nodes: &Slab<Node>, queue: Queue, found: Ahead, finger: Ahead, key: Key) -> Ahead
+    requires chained { IsChained (get nodes.now) queue }
+    requires count { found.count ≤
+        position_or_len (λ x. not (is_before x.key key)) (cells (linked (get nodes.now) queue)) }
+    requires last { EndsAt (places (linked (get nodes.now) queue)) found.count found.last }
+    requires finger { EndsAt (places (linked (get nodes.now) queue)) finger.count finger.last }
+    ensures count { result.count ≤
+        position_or_len (λ x. not (is_before x.key key)) (cells (linked (get nodes.now) queue)) }
+    ensures last { EndsAt (places (linked (get nodes.now) queue)) result.count result.last }
+{
+    if finger.count > found.count && nodes[finger.last].queued.key.precedes(key) {
+        return finger;
+    }
+    found
+}
+
+// The finger with the most nodes ahead of which the last is more urgent, or none ahead.
+fn nearest(nodes: &Slab<Node>, queue: Queue, fingers: &[Ahead], key: Key) -> Ahead
+    requires chained { IsChained (get nodes.now) queue }
+    requires fingers { AreFingers (places (linked (get nodes.now) queue)) fingers.now }
+    ensures count { result.count ≤
+        position_or_len (λ x. not (is_before x.key key)) (cells (linked (get nodes.now) queue)) }
+    ensures last { EndsAt (places (linked (get nodes.now) queue)) result.count result.last }
+{
+    let mut found = Ahead {
+        count: 0,
+        last: queue.last,
+    };
+    'fingers: for at in 0..fingers.len() {
+        found = further(nodes, queue, found, fingers[at], key);
+    }
+    found
+}
+
+// The place of the node behind some of a queue, which is not read where there is none.
+fn next_of(nodes: &Slab<Node>, queue: Queue, ahead: Ahead) -> usize
+    requires chained { IsChained (get nodes.now) queue }
+    requires last { EndsAt (places (linked (get nodes.now) queue)) ahead.count ahead.last }
+    ensures { drop ahead.count (linked (get nodes.now) queue) ≡
+        chain (get nodes.now) (queue.len - ahead.count) result }
+{
+    if ahead.count == 0 {
+        return queue.first;
+    }
+    nodes[ahead.last].next
+}
+
+// How many cells of a queue are more urgent, cell by cell behind some that are.
+fn walk(nodes: &Slab<Node>, queue: Queue, from: Ahead, key: Key) -> Ahead
+    requires chained { IsChained (get nodes.now) queue }
+    requires count { from.count ≤
+        position_or_len (λ x. not (is_before x.key key)) (cells (linked (get nodes.now) queue)) }
+    requires last { EndsAt (places (linked (get nodes.now) queue)) from.count from.last }
     ensures count { result.count ≡
         position_or_len (λ x. not (is_before x.key key)) (cells (linked (get nodes.now) queue)) }
-    ensures last { EndsAt (linked (get nodes.now) queue) result.count result.last }
+    ensures last { EndsAt (places (linked (get nodes.now) queue)) result.count result.last }
 {
-    let mut last = queue.last;
-    let mut place = queue.first;
-    'nodes: for count in 0..queue.len {
+    let mut last = from.last;
+    let mut place = next_of(nodes, queue, from);
+    'nodes: for count in from.count..queue.len {
         let node = nodes[place];
         if is_no_sooner(node.queued.key, key) {
             return Ahead { count, last };
@@ -95,31 +143,40 @@ fn walk(nodes: &Slab<Node>, queue: Queue, key: Key) -> Ahead
     }
 }
 
-// The same, but a last cell that is more urgent tells it at once.
-fn ahead_of(nodes: &Slab<Node>, queue: Queue, key: Key) -> Ahead
-    requires { IsChained (get nodes.now) queue }
+// The same from the nearest finger on, but no cell, and a last one that is more urgent, tell it at once.
+fn ahead_of(nodes: &Slab<Node>, queue: Queue, fingers: &[Ahead], key: Key) -> Ahead
+    requires chained { IsChained (get nodes.now) queue }
+    requires fingers { AreFingers (places (linked (get nodes.now) queue)) fingers.now }
     ensures count { result.count ≡
         position_or_len (λ x. not (is_before x.key key)) (cells (linked (get nodes.now) queue)) }
-    ensures last { EndsAt (linked (get nodes.now) queue) result.count result.last }
+    ensures last { EndsAt (places (linked (get nodes.now) queue)) result.count result.last }
 {
-    if queue.len > 0 && nodes[queue.last].queued.key.precedes(key) {
+    if queue.len == 0 {
+        return Ahead {
+            count: 0,
+            last: queue.last,
+        };
+    }
+    if nodes[queue.last].queued.key.precedes(key) {
         return Ahead {
             count: queue.len,
             last: queue.last,
         };
     }
-    walk(nodes, queue, key)
+    let from = nearest(nodes, queue, fingers, key);
+    walk(nodes, queue, from, key)
 }
 
 // How many cells of a queue are more urgent. A last cell that has the key tells it at once too.
-fn count_ahead(nodes: &Slab<Node>, queue: Queue, key: Key) -> usize
-    requires { IsChained (get nodes.now) queue }
+fn count_ahead(nodes: &Slab<Node>, queue: Queue, fingers: &[Ahead], key: Key) -> usize
+    requires chained { IsChained (get nodes.now) queue }
+    requires fingers { AreFingers (places (linked (get nodes.now) queue)) fingers.now }
     ensures { result ≡ position_or_len (λ x. not (is_before x.key key)) (cells (linked (get nodes.now) queue)) }
 {
     if queue.len > 0 && is_same(nodes[queue.last].queued.key, key) {
         return queue.len - 1;
     }
-    ahead_of(nodes, queue, key).count
+    ahead_of(nodes, queue, fingers, key).count
 }
 
 // How many cells of a queue stand ahead of the first one with an id, which are all where none has it.
@@ -171,7 +228,7 @@ fn put_behind(nodes: &mut Slab<Node>, queue: Queue, queued: Queued, ahead: Ahead
     requires room { HasRoomFor nodes.old 1 }
     requires linked { IsLinked (get nodes.old) queued.cell.output queue }
     requires some { 0 < ahead.count }
-    requires last { EndsAt (linked (get nodes.old) queue) ahead.count ahead.last }
+    requires last { EndsAt (places (linked (get nodes.old) queue)) ahead.count ahead.last }
     ensures chained { chain (get nodes.new) (queue.len + 1) queue.first ≡
         insert (linked (get nodes.old) queue) ahead.count (result, queued) }
     ensures others { OthersStay queued.cell.output (get nodes.old) (get nodes.new) }
@@ -202,9 +259,11 @@ fn put_into(nodes: &mut Slab<Node>, queue: Queue, queued: Queued, ahead: Ahead) 
     requires other_key { HasOtherKey queued (cells (linked (get nodes.old) queue)) }
     requires count { ahead.count ≡
         position_or_len (λ x. is_before queued.key x.key) (cells (linked (get nodes.old) queue)) }
-    requires last { EndsAt (linked (get nodes.old) queue) ahead.count ahead.last }
+    requires last { EndsAt (places (linked (get nodes.old) queue)) ahead.count ahead.last }
     requires fits { queue.len + 1 < 2 ^ 64 }
     ensures linked { IsLinked (get nodes.new) queued.cell.output result }
+    ensures places { (place : ℕ) × (places (linked (get nodes.new) result) ≡
+        insert (places (linked (get nodes.old) queue)) ahead.count place) }
     ensures cells { cells (linked (get nodes.new) result) ≡ put queued (cells (linked (get nodes.old) queue)) }
     ensures others { OthersStay queued.cell.output (get nodes.old) (get nodes.new) }
     ensures len { slab_len nodes.new ≡ slab_len nodes.old + 1 }
@@ -238,6 +297,17 @@ fn behind_first(queue: Queue, next: usize) -> Queue
     }
 }
 
+// No finger in each of so many queues. The error is want of memory.
+fn no_fingers(alloc: Global, queues: u16) -> Result<Vec<Fingers>, NoMemory>
+    ensures { IfOk result (λ fingers. fingers.items ≡ replicate queues []) }
+{
+    let mut fingers = Vec::with_capacity(alloc, queues as usize)?;
+    'queues: for _ in 0..queues {
+        fingers.push(Fingers::none())?;
+    }
+    Ok(fingers)
+}
+
 impl Pool {
     /// No cell waits for any of so many outputs, and there is room for so many cells. The error is want of memory.
     #[tactic(auto, using(crate::proofs::Queues::no_cells))]
@@ -253,6 +323,7 @@ impl Pool {
         Ok(Pool {
             nodes: Slab::with_capacity(alloc, room as usize)?,
             queues: vec![in alloc; nobody; outputs as usize]?,
+            fingers: no_fingers(alloc, outputs)?,
             room,
         })
     }
@@ -271,8 +342,14 @@ impl Pool {
     {
         let output = queued.cell.output as usize;
         let queue = self.queues[output];
-        let ahead = ahead_of(&self.nodes, queue, queued.key);
+        let ahead = ahead_of(
+            &self.nodes,
+            queue,
+            self.fingers[output].as_slice(),
+            queued.key,
+        );
         self.queues[output] = put_into(&mut self.nodes, queue, queued, ahead);
+        self.fingers[output].put(queue.len, queued.cell.class, ahead);
         ahead.count
     }
 
@@ -300,7 +377,8 @@ impl Pool {
         requires { output < length self.now.queues }
         ensures { result ≡ position_or_len (λ x. not (is_before x.key key)) (queue_of self.now.queues output) }
     {
-        count_ahead(&self.nodes, self.queues[output as usize], key)
+        let fingers = self.fingers[output as usize].as_slice();
+        count_ahead(&self.nodes, self.queues[output as usize], fingers, key)
     }
 
     /// How many cells of a queue stand ahead of the first one with an id, which are all where none has it.
@@ -329,6 +407,7 @@ impl Pool {
         let queue = self.queues[output as usize];
         let node = self.nodes.remove(queue.first);
         self.queues[output as usize] = behind_first(queue, node.next);
+        self.fingers[output as usize].take();
         node.queued
     }
 

@@ -17,4 +17,4 @@ nodes-preserved c = search_on c.requires c.nodes.invariant c.nodes-test.true c.i
     (rw and_assoc (sym c.eq.ensures ∙ c.if-eq.false))
 
 pub returns : goal.returns
-returns c = searched_all c.requires c.nodes.invariant c.nodes-test.false
+returns c = searched_all _ c.requires c.nodes.invariant.behind c.nodes-test.false

@@ -1,10 +1,11 @@
 use Rattle.cq_list.proofs.Terms.{ap, is_some, arith, common_steps}
 use Rattle.slab.proofs.SlabLemmas.{Updates-with_value}
-use Rattle.cq_list.proofs.Linked.{is_behind, ahead_there, chain_more, others_stay}
+use Rattle.cq_list.proofs.Linked.{is_behind, chain_more, others_stay}
+use Rattle.cq_list.proofs.Walk.{finger_there}
 use Rattle.cq_list.proofs.pool.put_behind.Goals as goal
 
 pub index-requires : goal.index-requires
-index-requires c = ap is_some (ahead_there c.requires.linked c.args.ahead.count c.requires.last c.requires.some).1
+index-requires c = ap is_some (finger_there c.requires.linked.chained c.requires.last c.requires.some).1
 
 pub returns : goal.returns
 returns c =

@@ -1,22 +1,27 @@
 use Rattle.cq_list.proofs.Terms.{rules, ◌∙◌, sym, ap, is_some, arith}
 use Rattle.cq_list.proofs.Put.{is_no_sooner}
-use Rattle.cq_list.proofs.Walk.{node_there, search_starts, search_ends, search_on, ends_on, searched_all}
+use Rattle.cq_list.proofs.Walk.{node_there, search_ends, search_on, ends_on, searched_all, within}
 use Rattle.cq_list.proofs.pool.walk.Goals as goal
 
 pub nodes-init : goal.nodes-init
-nodes-init c = (search_starts _ _ _, λ m is. absurd (omega arith))
+nodes-init c = (record { reached = c.next_of-place.ensures; behind = c.requires.count }, c.requires.last)
 
 pub index-node-requires : goal.index-node-requires
-index-node-requires c = ap is_some (node_there c.requires c.nodes.invariant.0.reached c.nodes-test.true).1
+index-node-requires c = ap is_some (node_there c.requires.chained c.nodes.invariant.0.reached c.nodes-test.true).1
 
 pub returns-then-is_no_sooner-clause-count : goal.returns-then-is_no_sooner-clause-count
 returns-then-is_no_sooner-clause-count c = search (arith, rules, search_ends, is_no_sooner)
 
 pub nodes-preserved : goal.nodes-preserved
 nodes-preserved c =
-    let on = search_on c.requires c.nodes.invariant.0 c.nodes-test.true c.index-node.ensures
+    let on = search_on c.requires.chained c.nodes.invariant.0 c.nodes-test.true c.index-node.ensures
     (sym c.is_no_sooner.ensures ∙ c.if-is_no_sooner.false) in
-    (on, ends_on c.requires c.nodes.invariant.0 c.nodes-test.true c.index-node.ensures)
+    (on, ends_on c.requires.chained c.nodes.invariant.0 c.nodes-test.true c.index-node.ensures)
 
 pub returns-clause-count : goal.returns-clause-count
-returns-clause-count c = searched_all c.requires c.nodes.invariant.0 c.nodes-test.false
+returns-clause-count c = searched_all _ c.requires.chained c.nodes.invariant.0.behind c.nodes-test.false
+
+pub returns-clause-last : goal.returns-clause-last
+returns-clause-last c m is =
+    let end = c.nodes.auto.count-end (within c.requires.chained c.requires.last) in
+    c.nodes.invariant.1 m (omega arith)

@@ -1,6 +1,6 @@
-use Rattle.cq_list.proofs.Terms.{rules, ap, sym, drop, is_some, arith, ◌<◌}
-use Rattle.cq_list.proofs.Linked.{rest_stay, linked_less, cells_less}
-use Rattle.cq_list.proofs.Queues.{read_of, as_many, inside_some, is_pool_changed, view_changed}
+use Rattle.cq_list.proofs.Terms.{rules, ap, sym, drop, is_some, arith, ◌<◌, ℕ, List, subst, Queued, AreFingers, places}
+use Rattle.cq_list.proofs.Linked.{rest_stay, links_less, linked_less, cells_less}
+use Rattle.cq_list.proofs.Queues.{read_of, fingers_read, as_many, inside_some, is_pool_changed, view_changed}
 use Rattle.cq_list.proofs.Walk.{head_there, head_shown}
 use Rattle.cq_list.proofs.pool.Pool.take.Goals as goal
 
@@ -18,9 +18,14 @@ invariant_of-self c =
     let many = as_many read in
     let some : 0 < c.index-queue.result.now.len = let some = c.requires in omega arith in
     let removed = c.remove-node.ensures in
+    let fingers = fingers_read c.self.invariant read.inside c.index-queue.ensures c.index_mut-2.ensures.value in
+    let less = links_less read.is_linked some removed.value removed.updates in
     rw c.behind_first.ensures (is_pool_changed c.remove-node.new.self c.self.invariant read
     (rest_stay read.is_linked some removed.value removed.updates)
-    (linked_less read.is_linked some removed.value removed.updates) (omega arith) (omega arith) removed.capacity)
+    (linked_less read.is_linked some removed.value removed.updates) c.take.new.self
+    (c.take.ensures _ c.index-queue.result.now.first
+    (subst (λ (l : List (ℕ × Queued)). AreFingers (places l) c.index_mut-2.result.now) less fingers))
+    (omega arith) (omega arith) removed.capacity)
 
 pub returns-clause-first : goal.returns-clause-first
 returns-clause-first c =

@@ -1,0 +1,72 @@
+-- The fingers of a queue that has a node more or less. A finger tells where the last of some nodes stands, so one of no
+-- more nodes than stand ahead of the new one stays, and one of more has it among them.
+use Rattle.cq_list.proofs.Terms.{common_steps, ◌≡◌, ℕ, zero, suc, ◌+◌, ◌-◌, ◌<◌, ◌≤◌, List, ◌∷◌, length, arith, ◌∙◌, insert, slice_get, cases_lt, length-insert, slice_get-get_or, slice_get_within, get_or-insert_below, ⊎_elim, append-nil, drop_all, take_all, Ahead, AreFingers, AreSet, AreShifted, EndsAt, finger_at}
+use Rattle.std.specs.List.{refill}
+use Rattle.std.proofs.lemmas.List.Edits.{get_or-insert_above}
+
+-- ## A list with one more
+
+pub insert_end_kept : {X : Type 0} (xs : List X) (i m : ℕ) (y : X) → i ≤ m → m < length xs →
+    slice_get (insert xs i y) (suc m) ≡ slice_get xs m
+insert_end_kept xs i m y le inside =
+    let next : suc m ≡ m + 1 = omega arith in
+    let above = get_or-insert_above xs i y y m in
+    let here = slice_get-get_or (insert xs i y) (m + 1) y in
+    rw next (grind (arith, common_steps, here, slice_get-get_or xs m y, length-insert))
+
+insert_kept : {X : Type 0} (xs : List X) (i m : ℕ) (y : X) → m < i → i ≤ length xs →
+    slice_get (insert xs i y) m ≡ slice_get xs m
+insert_kept xs i m y lt inside =
+    let here = slice_get-get_or (insert xs i y) m y in
+    grind (arith, common_steps, here, slice_get-get_or xs m y, length-insert, get_or-insert_below)
+
+-- ## The end of some nodes
+
+module _ (places : List ℕ) {count place : ℕ} (ends : EndsAt places count place) where
+  pub ends_inside : count ≤ length places
+  ends_inside = go count ends
+    where
+      go : (n : ℕ) → EndsAt places n place → n ≤ length places
+      go zero e = omega arith
+      go (suc m) e = let inside = slice_get_within places m place (e m (omega arith)) in omega arith
+
+  module _ (n x : ℕ) where
+    ends_kept : count ≤ n → n ≤ length places → EndsAt (insert places n x) count place
+    ends_kept le inside m is = insert_kept places n m x (omega arith) inside ∙ ends m is
+
+    ends_later : n < count → (more : ℕ) → more ≡ count + 1 → EndsAt (insert places n x) more place
+    ends_later lt more one m is =
+        let all = ends_inside in
+        let next : m ≡ suc (count - 1) = omega arith in
+        rw next (insert_end_kept places n (count - 1) x (omega arith) (omega arith) ∙ ends (count - 1) (omega arith))
+
+-- ## Fingers
+
+module _ (places : List ℕ) (fingers : List Ahead) where
+  pub fingers_set : (finger : Ahead) (new : List Ahead) → AreFingers places fingers →
+      EndsAt places finger.count finger.last → AreSet finger fingers new → AreFingers places new
+  fingers_set finger new had ends set k = ⊎_elim (λ same. rw same (had k)) (λ is. rw is ends) (set k)
+
+  module _ (n x : ℕ) where
+    -- behind all nodes
+    pub fingers_kept : AreFingers places fingers → n ≡ length places → AreFingers (insert places n x) fingers
+    fingers_kept had all k =
+        let inside = ends_inside places (had k) in ends_kept places (had k) n x (omega arith) (omega arith)
+
+    pub fingers_more : (new : List Ahead) → AreFingers places fingers → n ≤ length places →
+        AreShifted n 0 1 fingers new → AreFingers (insert places n x) new
+    fingers_more new had inside moved k = ⊎_elim
+        (λ more. rw ((moved k).moves more) (ends_later places (had k) n x more _ (omega arith)))
+        (λ few. rw ((moved k).stays few) (ends_kept places (had k) n x few inside))
+        (cases_lt n (finger_at fingers k).count)
+
+  pub fingers_less : (x : ℕ) (new : List Ahead) → AreFingers (x ∷ places) fingers → AreShifted 0 1 0 fingers new →
+      AreFingers places new
+  fingers_less x new had moved k = ⊎_elim
+      (λ more. rw ((moved k).moves more) (λ m is. had k (suc m) (omega arith)))
+      (λ few. rw ((moved k).stays few) (λ m is. absurd (omega arith))) (cases_lt 0 (finger_at fingers k).count)
+
+-- ## Written back
+
+pub refilled : {X : Type 0} (xs ws : List X) → length ws ≡ length xs → refill (length xs) xs ws ≡ ws
+refilled xs ws same = grind (arith, common_steps, drop_all, append-nil, take_all)

@@ -1,0 +1,10 @@
+use Rattle.cq_list.proofs.Terms.{◌∙◌, sym, ap, is_some, arith}
+use Rattle.cq_list.proofs.Walk.{finger_there, all_sooner}
+use Rattle.cq_list.proofs.pool.further.Goals as goal
+
+pub index-requires : goal.index-requires
+index-requires c = ap is_some (finger_there c.requires.chained c.requires.finger (omega arith)).1
+
+pub returns-then-precedes-clause-count : goal.returns-then-precedes-clause-count
+returns-then-precedes-clause-count c = all_sooner c.requires.chained c.requires.finger (omega arith) c.index.ensures
+    c.args.key (sym c.precedes.ensures ∙ c.if-precedes.true)
