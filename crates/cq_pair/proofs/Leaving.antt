@@ -1,7 +1,12 @@
 -- Inputs that leave. The last of the free ones is taken out where it stands, since no input is free twice. And inputs
 -- that are parted one after another, from the first on, leave no pair.
-use Rattle.cq_pair.proofs.Terms.{common_steps, ◌≡◌, ℕ, zero, suc, ◌+◌, ◌-◌, ◌<◌, eqb, List, [], ◌∷◌, length, take, replicate, Some, None, arith, slice_get, IsDistinct, length-set, nil_from_length, take_all, take_more_set, same_Some, Partners, without_pair, Apart, without_here, without_there, without, Has, has_there}
+use Rattle.cq_pair.proofs.Terms.{common_steps, ◌≡◌, ℕ, zero, suc, ◌+◌, ◌-◌, ◌<◌, eqb, List, [], ◌∷◌, length, take, replicate, Some, None, arith, slice_get, IsDistinct, length-set, nil_from_length, take_all, take_more_set, same_Some, Partners, without_pair, Apart, without_here, without_there, without, Has, has_there, ap, sym, ◌∙◌, get_or, place_in, place_in-get_or}
 use Rattle.cq_prefs.proofs.OneOrder.{apart}
+
+-- a port stands where it is seen
+pub seen : (order : List ℕ) (p x : ℕ) → IsDistinct eqb order → p < length order → get_or order p 0 ≡ x →
+    place_in order x ≡ p
+seen order p x differ inside e = ap (place_in order) (sym e) ∙ place_in-get_or order p differ inside
 
 -- ## The last of all
 

@@ -1,7 +1,7 @@
 -- The steps of one proposal put together: the input goes on to its next place, whom the output held is parted, and
 -- the output takes the input. What is then shown is the state after the event, with its pairs, its free inputs and
 -- its count.
-use Rattle.cq_pair.proofs.Terms.{common_steps, rules, ℕ, ◌≡◌, ◌≢◌, ◌+◌, ◌<◌, ◌≤◌, ◌∷◌, mul-le-mul, List, length, get_or, set, None, refl, sym, ◌∙◌, ap, arith, lt-ltb, eq-eqb, ne_eqb, get_or-set_other, length-set, Orders, ports, inputs_of, position_of, partner_of, IsFreeInput, State, position_held, Holds, IsSound, next_output, holder, propose, answer_of, outcome_of, matching_of, input_in_range, inputs_at_most, events_at_most, holder-holds, matching-of, partner-free, partner-from, Progress, IsReached, IsAsk, MovesOn, Parts, CanTake, Takes, most_ports}
+use Rattle.cq_pair.proofs.Terms.{common_steps, rules, ℕ, ◌≡◌, ◌≢◌, ◌+◌, ◌<◌, ◌≤◌, ◌∷◌, mul-le-mul, List, length, get_or, set, Option, Some, None, refl, sym, ◌∙◌, ap, arith, cases_lt, lt-ltb, eq-eqb, ne_eqb, get_or-set_other, length-set, Orders, ports, inputs_of, position_of, partner_of, IsFreeInput, State, position_held, Holds, IsSound, next_output, holder, propose, answer_of, outcome_of, matching_of, input_in_range, inputs_at_most, events_at_most, holder-holds, matching-of, partner-free, partner-from, Progress, IsReached, IsAsk, MovesOn, Parts, CanTake, Takes, most_ports}
 use Rattle.cq_prefs.specs.declared.outcome.Outcome.{Outcome}
 use Rattle.cq_prefs.specs.declared.outcome.Outcome.TheVariants.{Held, Displaced, Rejected}
 use Rattle.cq_pair.proofs.Turns.{state-refused, state-taken, matching-refused, unheld-empty, matching-empty, unheld-parted, matching-displaced}
@@ -17,7 +17,7 @@ pub record Proposed (o : Orders) (c d : Progress) (i : ℕ) (outcome : Outcome) 
 state_from : (s t : State) → s.positions ≡ t.positions → s.places ≡ t.places → s ≡ t
 state_from s t e f = λ k. record { positions = e k; places = f k }
 
-module _ {o : Orders} {c : Progress} {i j p h : ℕ} (a : IsAsk o c i j p h) where
+module _ {o : Orders} {c : Progress} {i j h : ℕ} {ahead : Option ℕ} (a : IsAsk o c i j h ahead) where
   sound : IsSound o c.state
   sound = sound-reached o a.offers c a.reached
 
@@ -32,9 +32,17 @@ module _ {o : Orders} {c : Progress} {i j p h : ℕ} (a : IsAsk o c i j p h) whe
 
   ruleset known = (input_known, output_known, sound)
 
-  -- the output does not hold the input already
-  taken_less : p ≤ h → position_of o (next_output o c.state i) i < position_held c.state (next_output o c.state i)
-  taken_less l = grind (arith, common_steps, a.offers.shown, asked_offered, a.free.unheld)
+  -- whether the output prefers the input to the one that it holds
+  less : {p : ℕ} → ahead ≡ Some p →
+      position_of o (next_output o c.state i) i < position_held c.state (next_output o c.state i)
+  less is = let l = a.ahead.0 (rw is refl) in let e = a.held in omega arith
+
+  not_less : ahead ≡ None →
+      position_held c.state (next_output o c.state i) ≤ position_of o (next_output o c.state i) i
+  not_less is = grind (arith, common_steps, cases_lt, a.ahead.1)
+
+  at : {p : ℕ} → ahead ≡ Some p → p ≡ position_of o (next_output o c.state i) i
+  at is = rw is at a.position
 
   -- there is one proposal more to make
   pub few_made : ports o ≤ most_ports → c.made < 4096
@@ -51,14 +59,16 @@ module _ {o : Orders} {c : Progress} {i j p h : ℕ} (a : IsAsk o c i j p h) whe
     free_input = grind (arith, common_steps, input_known, matching-of, partner-free)
 
     -- the output keeps whom it holds
-    pub rejected : h < p → Proposed o c d i Rejected
+    pub rejected : ahead ≡ None → Proposed o c d i Rejected
     unfolding answer_of
-    rejected less =
+    rejected none =
+        let l = not_less none in
         search (rules, sound, inputs_at_most, asked_offered, state-refused, reached-step, matching-refused)
 
     -- the output takes the input
-    taken : p ≤ h → {e f : Progress} → e.state ≡ d.state → Takes o e f i j p → f.state ≡ propose o c.state i
-    taken l same t = search (rules, state_from, state-taken, taken_less)
+    taken : {p : ℕ} → ahead ≡ Some p → {e f : Progress} → e.state ≡ d.state → Takes o e f i j p →
+        f.state ≡ propose o c.state i
+    taken some same t = let e = at some in let l = less some in search (rules, state_from, state-taken)
 
     -- ## It held nobody
 
@@ -66,11 +76,13 @@ module _ {o : Orders} {c : Progress} {i j p h : ℕ} (a : IsAsk o c i j p h) whe
     can_take nobody =
         search (arith, rules, known, sizes, free_input, unheld-empty o a.offers c.state)
 
-    pub holding : p ≤ h → h ≡ ports o → {e : Progress} → Takes o d e i j p → Proposed o c e i Held
+    pub holding : {p : ℕ} → ahead ≡ Some p → h ≡ ports o → {e : Progress} → Takes o d e i j p →
+        Proposed o c e i Held
     unfolding answer_of
-    holding l nobody t =
-        let event = taken l refl t in
-        search (arith, rules, sound, eq-eqb, matching-empty, taken_less, reached-step)
+    holding some nobody t =
+        let event = taken some refl t in
+        let l = less some in
+        search (arith, rules, sound, eq-eqb, matching-empty, reached-step)
 
     -- ## It held another input
 
@@ -97,11 +109,11 @@ module _ {o : Orders} {c : Progress} {i j p h : ℕ} (a : IsAsk o c i j p h) whe
         can_take_then =
             search (arith, rules, known, sizes, still_free, parted, length-set, unheld-parted, next_known, other_held)
 
-        pub displaced : p ≤ h → {f : Progress} → Takes o e f i j p → Proposed o c f i (Displaced k)
+        pub displaced : {p : ℕ} → ahead ≡ Some p → {f : Progress} → Takes o e f i j p → Proposed o c f i (Displaced k)
         unfolding answer_of
-        displaced l t =
-            let event = taken l s.state t in
-            let less = taken_less in
+        displaced some t =
+            let event = taken some s.state t in
+            let l = less some in
             search (arith, rules, sound, other_held, ne_eqb, lt-ltb, parted, matching-displaced, reached-step)
 
   pub held_inside : h ≢ ports o → h < length (inputs_of o j)

@@ -1,5 +1,5 @@
 -- What a proposal core shows, and how it changes.
-use Rattle.std.specs.Prelude.{ℕ, ◌≡◌, ◌<◌, ◌+◌, ◌&&◌, Bool, nat_lt, is_none, List, [], length, filter, slice_index, slice_set}
+use Rattle.std.specs.Prelude.{ℕ, ◌≡◌, ◌↔◌, ◌<◌, ◌+◌, ◌&&◌, Bool, nat_lt, is_none, IfSome, IsSome, List, [], Option, length, filter, slice_index, slice_set}
 use Rattle.std.specs.List.{range_with_len}
 use Rattle.cq_prefs.specs.Orders.{Orders, AreOffers, ports, outputs_of, position_of}
 use Rattle.cq_prefs.specs.Pairing.{IsFreeInput, IsFreeOutput, Partners, partner_of, with_pair, without_pair}
@@ -27,14 +27,15 @@ pub record IsReached (o : Orders) (c : Progress) : Type 0 where
   pub free : c.free ≡ free_inputs o c.state
   pub made : c.made ≡ length events
 
--- input i is free and asks output j, where it has position p, and which holds position h
-pub record IsAsk (o : Orders) (c : Progress) (i j p h : ℕ) : Type 0 where
+-- input i is free and asks output j, which holds position h, and p is its own position there, if that is less
+pub record IsAsk (o : Orders) (c : Progress) (i j h : ℕ) (p : Option ℕ) : Type 0 where
   pub offers : AreOffers o
   pub reached : IsReached o c
   pub free : IsFree o c.state i
   pub output : j ≡ next_output o c.state i
-  pub position : p ≡ position_of o (next_output o c.state i) i
   pub held : h ≡ position_held c.state (next_output o c.state i)
+  pub ahead : IsSome p ↔ (position_of o (next_output o c.state i) i < h)
+  pub position : IfSome p (λ q. q ≡ position_of o (next_output o c.state i) i)
 
 -- whether input i has no partner, and an output is left to which it has not proposed
 abbrev pub is_waiting : Orders → List ℕ → Partners → ℕ → Bool

@@ -1,11 +1,12 @@
 //! The free inputs in order of number.
-ghost use Rattle.std.specs.Prelude.{◌≡◌, ◌==◌, ◌↔◌, ◌-◌, ◌<◌, ◌≤◌, IsTrue, [], Some, length, nat_eq, nat_lt, position, slice_get};
+ghost use Rattle.std.specs.Prelude.{◌≡◌, ◌↔◌, ◌-◌, ◌<◌, ◌≤◌, IsTrue, [], Some, length, nat_eq, nat_lt, position, slice_get};
 ghost use Rattle.std.specs.List.{IsDistinct, position_or_len};
 ghost use Rattle.cq_base.specs.Limits.{most_ports};
-ghost use Rattle.cq_prefs.specs.Orders.{inputs_with_offers, place_in, ports};
+ghost use Rattle.cq_prefs.specs.Orders.{inputs_with_offers, ports};
 ghost use Rattle.cq_prefs.specs.Renewal.{without};
 ghost use Rattle.cq_pair.specs.FreeInputs.{with_input};
 
+use crate::before::place_before;
 use arrayvec::ArrayVec;
 use cq_base::{MOST_PORTS, Port};
 use cq_prefs::Offers;
@@ -39,22 +40,6 @@ fn place_of(inputs: &[Port], input: Port) -> usize
     ensures place { result ≡ position_or_len (nat_lt input) inputs.now }
 {
     greater(inputs, input).unwrap_or(inputs.len())
-}
-
-// The first place of an input.
-fn found(inputs: &[Port], input: Port) -> Option<usize>
-    ensures { result ≡ position (λ other. other == input) inputs.now }
-{
-    inputs.iter().position(|other| *other == input)
-}
-
-// The same, or the end.
-#[tactic(auto, using(cq_base::proofs::Lists::place_found, cq_base::proofs::Lists::first_inside), unfolding(cq_prefs::specs::Orders::place_in))]
-fn place_or_end(inputs: &[Port], input: Port) -> usize
-    ensures inside { result ≤ length inputs.now }
-    ensures place { result ≡ place_in inputs.now input }
-{
-    found(inputs, input).unwrap_or(inputs.len())
 }
 
 // Whether an input is the last of all.
@@ -95,8 +80,8 @@ impl FreeInputs {
         self.inputs.insert(place, input);
     }
 
-    /// Takes an input out. It may be out already. Of the others only those behind it move, so the last one is looked
-    /// at first.
+    /// Takes an input out. It may be out already. Of the others only those behind it move, and it is looked for from
+    /// the last on.
     pub fn remove(&mut self, input: Port)
         requires { IsDistinct nat_eq self.old }
         ensures { self.new ≡ without input self.old }
@@ -105,8 +90,7 @@ impl FreeInputs {
             self.inputs.pop();
             return;
         }
-        let place = place_or_end(self.inputs.as_slice(), input);
-        if place < self.inputs.len() {
+        if let Some(place) = place_before(self.inputs.as_slice(), self.inputs.len(), input) {
             self.inputs.remove(place);
         }
     }

@@ -5,6 +5,7 @@
 //! that matching has. So the order is left to the caller.
 #![tactic(auto)]
 
+mod before;
 mod free_inputs;
 mod order;
 mod per_port;

@@ -1,11 +1,13 @@
 //! Proposals, one at a time.
-ghost use Rattle.std.specs.Prelude.{◌≡◌, ◌≢◌, ◌<◌, ◌≤◌, ◌+◌, [], length, replicate, None};
+ghost use Rattle.std.specs.Prelude.{◌≡◌, ◌≢◌, ◌↔◌, ◌<◌, ◌≤◌, ◌+◌, [], length, nat_eq, replicate, IfSome, IsSome, None};
+ghost use Rattle.std.specs.List.{IsDistinct};
 ghost use Rattle.cq_base.specs.Limits.{most_ports};
-ghost use Rattle.cq_prefs.specs.Orders.{ports, outputs_of};
+ghost use Rattle.cq_prefs.specs.Orders.{IsListed, ports, outputs_of, place_in};
 ghost use Rattle.cq_prefs.specs.Pairing.{IsInputBest, partner_of, proposals};
 ghost use Rattle.cq_prefs.specs.Proposals.{IsFree, next_place, outcome_of, propose, start};
 ghost use Rattle.cq_pair.specs.Progress.{CanTake, IsAsk, IsReached, MovesOn, Parts, ShowsWaiting, Takes, no_progress};
 
+use crate::before::place_before;
 use crate::free_inputs::FreeInputs;
 use crate::order::Order;
 use crate::per_port::PerPort;
@@ -40,12 +42,32 @@ impl Model for Core {
     } };
 }
 
-// The output to which an input proposes, the input's position there, and the position that the output holds.
+// The output to which an input proposes, the position that the output holds, and the input's position there if it is
+// less.
 #[derive(Clone, Copy)]
 struct Asked {
     output: Port,
-    position: u16,
     held: u16,
+    ahead: Option<u16>,
+}
+
+// The position of an input in an order, if it is less than this one, which is not its own. The first is looked at, since
+// most inputs that propose stand there, and then those ahead of this one, the nearest first: an output soon holds an
+// input that stands far ahead, or right behind the one that proposes.
+fn position_ahead(order: &[Port], input: Port, held: u16) -> Option<u16>
+    requires differ { IsDistinct nat_eq order.now }
+    requires few { length order.now ≤ most_ports }
+    requires listed { IsListed order.now input }
+    requires other { place_in order.now input ≢ held }
+    ensures ahead { IsSome result ↔ (place_in order.now input < held) }
+    ensures position { IfSome result (λ position. position ≡ place_in order.now input) }
+{
+    if order[0] == input {
+        return Some(0);
+    }
+    let end = order.len().min(held as usize);
+    let place = place_before(order, end, input)?;
+    Some(place as u16)
 }
 
 // No pair is left, over so many ports. Pairs of as many ports are parted where they stand.
@@ -121,16 +143,16 @@ impl Core {
     {
         let asked = self.asked_by(offers, input);
         self.move_on(offers, input);
-        if asked.held < asked.position {
+        let Some(position) = asked.ahead else {
             return Outcome::Rejected;
-        }
+        };
         if asked.held == offers.ports() {
-            self.take(offers, input, asked.output, asked.position);
+            self.take(offers, input, asked.output, position);
             return Outcome::Held;
         }
         let other = offers.inputs_of(asked.output)[asked.held as usize];
         self.part(offers, other);
-        self.take(offers, input, asked.output, asked.position);
+        self.take(offers, input, asked.output, position);
         Outcome::Displaced(other)
     }
 
@@ -177,17 +199,19 @@ impl Core {
     fn asked_by(&self, offers: &Offers, input: Port) -> Asked
         requires reached { IsReached offers.now self.now }
         requires free { IsFree offers.now self.now.state input }
-        ensures ask { IsAsk offers.now self.now input result.output result.position result.held }
+        ensures ask { IsAsk offers.now self.now input result.output result.held result.ahead }
         ensures few { ports offers.now ≤ most_ports }
     {
         // Its contract tells that the orders of both sides fit together.
         let _ports = offers.ports();
         let place = self.places.at(input);
-        let ask = offers.asked(input, place);
+        let output = offers.outputs_of(input)[place as usize];
+        let held = self.positions.at(output);
+        let ahead = position_ahead(offers.inputs_of(output), input, held);
         Asked {
-            output: ask.output,
-            position: ask.position,
-            held: self.positions.at(ask.output),
+            output,
+            held,
+            ahead,
         }
     }
 

@@ -1,12 +1,33 @@
-use Rattle.cq_pair.proofs.Terms.{rules, arith}
-use Rattle.cq_pair.proofs.Reached.{asked_known, free_known, places_known, positions_known}
+use Rattle.cq_pair.proofs.Terms.{rules, arith, inputs_at_most}
+use Rattle.cq_pair.proofs.Reached.{asked_known, asked_offered, free_known, places_known, positions_known}
 use Rattle.cq_pair.proofs.proposal_core.Core.asked_by.Goals as goal
 
 pub at-place-requires : goal.at-place-requires
 at-place-requires c = search (arith, rules, free_known, places_known)
 
-pub at-requires : goal.at-requires
-at-requires c = search (arith, rules, asked_known, positions_known)
+pub outputs_of-requires : goal.outputs_of-requires
+outputs_of-requires c = search (arith, rules, free_known)
+
+pub bounds-outputs_of-place : goal.bounds-outputs_of-place
+bounds-outputs_of-place c = search (arith, rules)
+
+pub at-held-requires : goal.at-held-requires
+at-held-requires c = search (arith, rules, asked_known, positions_known)
+
+pub inputs_of-requires : goal.inputs_of-requires
+inputs_of-requires c = search (arith, rules, asked_known)
+
+pub position_ahead-ahead-requires-clause-differ : goal.position_ahead-ahead-requires-clause-differ
+position_ahead-ahead-requires-clause-differ c = search (arith, rules)
+
+pub position_ahead-ahead-requires-clause-few : goal.position_ahead-ahead-requires-clause-few
+position_ahead-ahead-requires-clause-few c = search (arith, rules, inputs_at_most)
+
+pub position_ahead-ahead-requires-clause-listed : goal.position_ahead-ahead-requires-clause-listed
+position_ahead-ahead-requires-clause-listed c = search (arith, rules, asked_offered)
+
+pub position_ahead-ahead-requires-clause-other : goal.position_ahead-ahead-requires-clause-other
+position_ahead-ahead-requires-clause-other c = search (arith, rules, asked_offered)
 
 pub returns-clause-ask : goal.returns-clause-ask
 returns-clause-ask c = search (arith, rules)

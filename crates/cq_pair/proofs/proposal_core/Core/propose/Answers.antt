@@ -8,9 +8,9 @@ move_on-requires c =
     let most = outputs_at_most c.args.offers.now c.asked_by-asked.ensures.ask.offers c.args.input in
     search (arith, rules, input_known, places_known, few_made, waiting-reached)
 
-pub returns-then-asked : goal.returns-then-asked
-returns-then-asked c =
-    let r = rejected c.asked_by-asked.ensures.ask c.move_on.ensures c.if-asked.true in
+pub returns-in_default : goal.returns-in_default
+returns-in_default c =
+    let r = rejected c.asked_by-asked.ensures.ask c.move_on.ensures c.in_default.is in
     record { reached = r.reached; event = r.event; made = r.made; outcome = r.answer }
 
 -- ## The output held nobody
@@ -21,7 +21,7 @@ take-requires c =
 
 pub returns-then-asked-ports : goal.returns-then-asked-ports
 returns-then-asked-ports c =
-    let r = holding c.asked_by-asked.ensures.ask c.move_on.ensures c.if-asked.false
+    let r = holding c.asked_by-asked.ensures.ask c.move_on.ensures c.in-Some.is
     (c.if-asked-ports.true ∙ c.ports.ensures.value) c.take.ensures in
     record { reached = r.reached; event = r.event; made = r.made; outcome = r.answer }
 
@@ -56,5 +56,5 @@ take-requires-2 c = can_take_then c.asked_by-asked.ensures.ask c.move_on.ensures
 pub returns : goal.returns
 returns c =
     let r = displaced c.asked_by-asked.ensures.ask c.move_on.ensures c.inputs_of.ensures refl c.ports.ensures.value
-    c.if-asked-ports.false c.part.ensures c.if-asked.false c.take-2.ensures in
+    c.if-asked-ports.false c.part.ensures c.in-Some.is c.take-2.ensures in
     record { reached = r.reached; event = r.event; made = r.made; outcome = r.answer }
