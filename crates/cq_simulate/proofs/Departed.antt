@@ -1,7 +1,7 @@
 -- Each cell that departs has arrived. Of each input and class the cells of the packets that are taken in leave an
 -- output as they came. So what holds of all cells that arrive holds of each that departs: it is of a packet of its
 -- input's capture.
-use Rattle.cq_simulate.proofs.Terms.{rules, ◌≡◌, ℕ, ◌+◌, ◌<◌, ◌≤◌, ◌^◌, true, List, [], ◌∷◌, length, get_or, Result, Ok, Err, refl, sym, ap, ◌∙◌, arith, common_steps, max, AllByRecursion, filter, eq-eqb, and_from, Arrival, end_of, Departure, TagFault, packets_of, cells, start, cell_of, arrivals_of, arrivals_at, arrivals, IsTraffic, piece_begins, all_flat, traffic_is, NoLimits, slots_of, leaves_in_flow, departures_of, departures_limited, LimitedRan, unlimited, flows_leave_in_packets, limited_same_sent, run_as_before, slots_as_before, Captured, AreTables, IsSetup, classes_of, ports_of, Tables, machines_of, openings_of, HaveLeftOf, LeaveWhole, LeftInPackets, IsCaptured, ideal_departures, ran_ideal, slots_ran, subst, and_parts, eqb-true, Has, all_of_has, has_cases, has_image, has_kept, image_has, kept_has, flat_map, of_packet, Cell, came_in_flow, came_more, few_by, length_packet, row_of, rows_are, length-append, length-map-range_with_len, last_departs, limited_slots, has_at, all_made}
+use Rattle.cq_simulate.proofs.Terms.{rules, ◌≡◌, ℕ, ◌+◌, ◌<◌, ◌≤◌, ◌^◌, true, List, [], ◌∷◌, length, get_or, Result, Ok, Err, refl, sym, ap, ◌∙◌, arith, common_steps, max, AllByRecursion, filter, eq-eqb, and_from, Arrival, end_of, Departure, TagFault, packets_of, cells, start, cell_of, arrivals_of, arrivals_at, arrivals, IsTraffic, piece_begins, all_flat, traffic_is, NoLimits, slots_of, leaves_in_flow, departures_of, departures_limited, LimitedRan, unlimited, flows_leave_in_packets, limited_same_sent, run_as_before, slots_as_before, Captured, AreTables, IsSetup, classes_of, ports_of, Tables, machines_of, openings_of, HaveLeftOf, LeaveInOrder, LeaveWhole, LeftInOrder, IsCaptured, ideal_departures, ran_ideal, slots_ran, subst, and_parts, eqb-true, Has, all_of_has, has_cases, has_image, has_kept, image_has, kept_has, flat_map, of_packet, Cell, came_in_flow, came_more, few_by, length_packet, row_of, rows_are, length-append, length-map-range_with_len, last_departs, limited_slots, has_at, all_made}
 use Rattle.cq_cells.specs.Traffic.{IsInRange, IsRecorded}
 use Rattle.cq_simulate.proofs.OfPackets.{packets_come}
 use Rattle.cq_simulate.proofs.SomePackets.{as_packets}
@@ -14,18 +14,25 @@ ran_ok : (P : List Departure → Type 0) (x : Result LimitedRan TagFault) (sent 
 ran_ok P (Ok ran) sent h f = let same : departures_of 0 ran.gone ≡ sent = cc in subst P same (f ran refl)
 ran_ok P (Err fault) sent h f = absurd (let P : ⊥ = cc in P)
 
--- what the ideal switch sends leaves in whole packets
-pub left_in_packets : (t : Tables) (captures : List (List Captured)) (sent : List Departure) → AreTables t →
+-- what the ideal switch sends leaves in the order in which it came
+pub left_in_order : (t : Tables) (captures : List (List Captured)) (sent : List Departure) → AreTables t →
     length captures ≡ ports_of t.setup → ideal_departures t (arrivals t captures) ≡ Ok sent →
-    LeaveWhole (arrivals t captures) sent
+    LeaveInOrder (arrivals t captures) sent
 unfolding ideal_departures ran_ideal
-left_in_packets t captures sent are many h i =
+left_in_order t captures sent are many h i =
     let came = arrivals t captures in
-    ran_ok (LeftInPackets came i) _ sent
+    ran_ok (LeftInOrder came i) _ sent
     (limited_same_sent t.limits _ (ports_of t.setup) (openings_of t.setup) came ∙ h) (λ ran is.
     let l = flows_leave_in_packets t.limits _ _ _ came ran (runnable t.setup came are.setup (traffic_is t captures are
     many)) is i (packets_come t captures i are many) in
-    as_packets t captures i are many _ l.is_taken l.left)
+    record { is_taken = l.is_taken; left = l.left })
+
+-- and so in whole packets
+pub left_in_packets : (t : Tables) (captures : List (List Captured)) (sent : List Departure) → AreTables t →
+    length captures ≡ ports_of t.setup → ideal_departures t (arrivals t captures) ≡ Ok sent →
+    LeaveWhole (arrivals t captures) sent
+left_in_packets t captures sent are many h i =
+    as_packets t captures i are many sent (left_in_order t captures sent are many h i)
 
 -- a cell that departs came in its flow
 pub record CameAs (came : List Arrival) (d : Departure) : Type 0 where

@@ -1,7 +1,7 @@
 -- What arrives of a flow are the cells of its packets, one packet after another. So where some packets are taken of it,
 -- with all their cells, what is taken are the cells of a list of packets. The numbers of the packets rise: those that
 -- equal one of them are that one alone.
-use Rattle.cq_simulate.proofs.Terms.{common_steps, ◌≡◌, ℕ, zero, suc, ◌+◌, ◌<◌, ◌≤◌, Bool, true, List, [], ◌∷◌, length, map, flat_map, filter, range_with_len, refl, sym, ap, ◌∙◌, arith, AllByRecursion, cases_lt, ⊎_elim, ne_eqb, eq-eqb, flat_map-append, ◌&&◌, ◌==◌, Arrival, Cell, Departure, arrivals, arrivals_at, at_input, traffic_is, cell_of, came_in_flow, is_from, left_in_flow, packet_at, packets_of, route, Captured, AreTables, classes_of, ports_of, Tables, LeftInPackets, of_packet}
+use Rattle.cq_simulate.proofs.Terms.{common_steps, ◌≡◌, ℕ, zero, suc, ◌+◌, ◌<◌, ◌≤◌, Bool, true, List, [], ◌∷◌, length, map, flat_map, filter, range_with_len, refl, sym, ap, ◌∙◌, arith, AllByRecursion, cases_lt, ⊎_elim, ne_eqb, eq-eqb, flat_map-append, ◌&&◌, ◌==◌, Arrival, Cell, Departure, arrivals, arrivals_at, at_input, traffic_is, cell_of, came_in_flow, is_from, packet_at, packets_of, route, Captured, AreTables, classes_of, ports_of, Tables, LeftInOrder, LeftInPackets, of_packet}
 use Rattle.std.proofs.lemmas.List.{get_or_past}
 use Rattle.cq_cells.specs.Traffic.{IsInRange}
 use Rattle.cq_simulate.proofs.OfPackets.{by_packet, line_cells, packet_cells}
@@ -81,20 +81,18 @@ module _ (t : Tables) (captures : List (List Captured)) (input : ℕ) where
         ∙ by_packet t captures input (in_flow c j) (goes_in c j) (λ k m. refl) ks
 
     -- so packets that are taken from those that come are a list of packets
-    pub as_packets : (sent : List Departure) (is_taken : ℕ → Bool) →
-        ((c j : ℕ) → left_in_flow input c j sent
-        ≡ filter (λ cell. is_taken cell.id.packet) (came_in_flow input c j (arrivals t captures))) →
+    pub as_packets : (sent : List Departure) → LeftInOrder (arrivals t captures) input sent →
         LeftInPackets (arrivals t captures) input sent
     unfolding cell_of
-    as_packets sent is_taken left = record {
-      packets = λ c j. filter is_taken (packets_in c j);
+    as_packets sent some = record {
+      packets = λ c j. filter some.is_taken (packets_in c j);
       left = λ c j.
           let n = length (packets_of captures input) in
-          let taken : Cell → Bool = λ cell. is_taken cell.id.packet in
-          left c j ∙ ap (filter taken) (flow_is c j)
-          ∙ by_packet t captures input taken is_taken (λ k m. refl) (packets_in c j)
+          let taken : Cell → Bool = λ cell. some.is_taken cell.id.packet in
+          some.left c j ∙ ap (filter taken) (flow_is c j)
+          ∙ by_packet t captures input taken some.is_taken (λ k m. refl) (packets_in c j)
           ∙ ap (flat_map (packet_cells t captures input))
-          (sym (each_alone (goes_in c j) is_taken 0 n 0 n (omega arith) (omega arith)))
-          ∙ sym (parts_of (packets_in c j) (filter is_taken (packets_in c j)))
-          ∙ ap (λ cells. flat_map (of_packet cells) (filter is_taken (packets_in c j))) (sym (flow_is c j));
+          (sym (each_alone (goes_in c j) some.is_taken 0 n 0 n (omega arith) (omega arith)))
+          ∙ sym (parts_of (packets_in c j) (filter some.is_taken (packets_in c j)))
+          ∙ ap (λ cells. flat_map (of_packet cells) (filter some.is_taken (packets_in c j))) (sym (flow_is c j));
     }

@@ -23,6 +23,15 @@ pub record LeftInPackets (came : List Arrival) (i : ℕ) (sent : List Departure)
   pub packets : ℕ → ℕ → List ℕ
   pub left : (c j : ℕ) → left_in_flow i c j sent ≡ flat_map (of_packet (came_in_flow i c j came)) (packets c j)
 
+-- of each class and at each output, the cells of some packets of input i left, in the order in which they came
+pub record LeftInOrder (came : List Arrival) (i : ℕ) (sent : List Departure) : Type 0 where
+  pub is_taken : ℕ → Bool
+  pub left : (c j : ℕ) → left_in_flow i c j sent ≡ filter (λ cell. is_taken cell.id.packet) (came_in_flow i c j came)
+
+-- at each output the departures of one input and one class are in the order of arrival
+abbrev pub LeaveInOrder : List Arrival → List Departure → Type 0
+LeaveInOrder came sent = (i : ℕ) → LeftInOrder came i sent
+
 -- the cells that departed are those of whole packets, one packet after another of each input, class and output
 abbrev pub LeaveWhole : List Arrival → List Departure → Type 0
 LeaveWhole came sent = (i : ℕ) → LeftInPackets came i sent

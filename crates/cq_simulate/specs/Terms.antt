@@ -25,6 +25,6 @@ pub use Rattle.cq_simulate.specs.FabricRuns.{IsKeptOf, unpacked_run, IsFabricRun
 pub use Rattle.cq_simulate.specs.FreshFabric.{ArePortsFor, IsFreshFor}
 pub use Rattle.cq_simulate.specs.GoingOn.{HasKept, HasRunOn, IsReadyOn, IsRefusalOn, StopsOn, HasPartedTo, IsIdle, IsReadyPart, StopsWithin}
 pub use Rattle.cq_simulate.specs.IdealRuns.{ideal_departures, ideal_refusals, IsRefusalOf, slots_ran}
-pub use Rattle.cq_simulate.specs.Packets.{HaveLeftOf, packets_out, ArePacked}
+pub use Rattle.cq_simulate.specs.Packets.{HaveLeftOf, LeaveInOrder, packets_out, ArePacked}
 pub use Rattle.cq_simulate.specs.PartedRuns.{CanBeTakenUp, IsPartFault, IsResumeFault, kept_of, taken_at}
 pub use Rattle.cq_simulate.specs.Pieces.{Fits, IsCaptured, left_with, piece_at, CanBeJoined, IsEmptied, Took}

@@ -1,7 +1,7 @@
 //! What holds of what arrives, and of runs over it, whatever a fabric is made of. Each law is the contract of a
 //! function that does nothing.
 ghost use Rattle.std.specs.Prelude.{◌≡◌, ◌<◌, ℕ, List, Ok, length};
-ghost use Rattle.cq_simulate.specs.Terms.{Arrival, traffic_of, arrivals, IsTraffic, NoLimits, AreOfPackets, cells_at, LimitedRecord, slots_in, figures_of, Captured, AreTables, IsSetup, classes_of, ports_of, Tables, EachPacketOnce, EmulatesIdeal, IsFabricRun, departures_in_run, refused_in_run, CanBeTakenUp, Departure, HaveLeftOf, IsResumed, Kept, Taken, t0_of, ideal_departures, schedule_of, switch_of, Scheduled, IsScheduleFor, CanGoOn, machines_of, by_port, is_from, is_to};
+ghost use Rattle.cq_simulate.specs.Terms.{Arrival, traffic_of, arrivals, IsTraffic, NoLimits, AreOfPackets, cells_at, LimitedRecord, slots_in, figures_of, Captured, AreTables, IsSetup, classes_of, ports_of, Tables, EachPacketOnce, EmulatesIdeal, IsFabricRun, departures_in_run, refused_in_run, CanBeTakenUp, Departure, HaveLeftOf, LeaveInOrder, IsResumed, Kept, Taken, t0_of, ideal_departures, schedule_of, switch_of, Scheduled, IsScheduleFor, CanGoOn, machines_of, by_port, is_from, is_to};
 
 /// The fabric of the tables' ranks and limits admits, refuses and sends what the ideal switch of the same ranks and
 /// limits does, each cell in the same slot at the same output. Its matchings are the input-best ones of what the lists
@@ -45,7 +45,8 @@ pub fn taken_up_states_can_go_on()
 {}
 
 /// What a run sends leaves in whole packets: of the ideal switch, of the fabric, and of a fabric that goes on from any
-/// state that can be taken up. So it can be put together, as `packets_of` and `packets_of_all` ask.
+/// state that can be taken up. So it can be put together, as `packets_of` and `packets_of_all` ask. And at each output
+/// the departures of one input and one class are in the order of arrival, and so are their packets.
 pub fn runs_leave_whole_packets()
     ensures ideal { (t : Tables) (captures : List (List Captured)) (sent : List Departure) →
         AreTables t → length captures ≡ ports_of t.setup → ideal_departures t (arrivals t captures) ≡ Ok sent →
@@ -57,4 +58,14 @@ pub fn runs_leave_whole_packets()
         AreTables t → length captures ≡ ports_of t.setup → CanBeTakenUp (switch_of t (schedule_of t captures)) from →
         IsResumed (switch_of t (schedule_of t captures)) from kept →
         HaveLeftOf t captures kept.sent (t0_of captures) }
+    ensures ideal_in_order { (t : Tables) (captures : List (List Captured)) (sent : List Departure) →
+        AreTables t → length captures ≡ ports_of t.setup → ideal_departures t (arrivals t captures) ≡ Ok sent →
+        LeaveInOrder (arrivals t captures) sent }
+    ensures fabric_in_order { (t : Tables) (captures : List (List Captured)) (rs : List LimitedRecord) →
+        AreTables t → length captures ≡ ports_of t.setup → IsFabricRun t (arrivals t captures) rs →
+        LeaveInOrder (arrivals t captures) (departures_in_run rs) }
+    ensures resumed_in_order { (t : Tables) (captures : List (List Captured)) (from : Taken) (kept : Kept) →
+        AreTables t → length captures ≡ ports_of t.setup → CanBeTakenUp (switch_of t (schedule_of t captures)) from →
+        IsResumed (switch_of t (schedule_of t captures)) from kept →
+        LeaveInOrder (arrivals t captures) kept.sent }
 {}

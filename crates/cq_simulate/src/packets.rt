@@ -11,10 +11,10 @@ use std::alloc::Global;
 
 /// The packets that leave an output, in the order in which their last cells depart: each with the stamp of that slot,
 /// its original length, and its captured bytes. `sent` is what departs of the cells that come over the schedule of
-/// these captures: of each input, class and output whole packets, one after another, in whatever order, as a run that
-/// comes to its end sends them. `t0` is the stamp from which its slots are counted, in nanoseconds. From an output
-/// that is no port nothing departs, so no packet leaves it; and a packet that is refused does not leave. The error is
-/// want of memory.
+/// these captures: of each input, class and output whole packets, one after another, in whatever order. What a run that
+/// comes to its end sends is so, and each of these in the order of arrival (`runs_leave_whole_packets`). `t0` is the
+/// stamp from which its slots are counted, in nanoseconds. From an output that is no port nothing departs, so no packet
+/// leaves it; and a packet that is refused does not leave. The error is want of memory.
 pub fn packets_of(
     alloc: Global,
     output: Port,
