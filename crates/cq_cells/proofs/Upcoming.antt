@@ -1,31 +1,13 @@
 -- The next slot with an arrival. At one input the packets that have arrived whole before a slot stand first. Of the
 -- others the first one begins first, and its cells come one a slot. So the slot itself has a cell where that packet
 -- has begun, and else the slot in which it begins is the next one. Of several inputs the earliest counts.
-use Rattle.cq_cells.proofs.Terms.{common_steps, rules, ◌≡◌, ℕ, zero, suc, ◌+◌, ◌-◌, ◌<◌, ◌≤◌, max, leb, Bool, true, false, List, [], ◌∷◌, ◌++◌, length, map, flat_map, slice_index_or, Option, Some, None, inl, inr, arith, AllByRecursion, range_with_len, IsPartitionPoint, IsPartitionedBy, cases_eq, cases_lt, get_or_default, Arrival, Cell, Row, AreRows, IsEnded, line_arrivals, row_arrivals, row_at, row_cell, ArrivesIn, IsFirstFrom, IsNextArrival, earlier, all_both, all_weaker, all_made, all_flat}
-use Rattle.cq_cells.proofs.Looked.{no_row, piece}
+use Rattle.cq_cells.proofs.Terms.{common_steps, rules, ◌≡◌, ℕ, zero, suc, ◌+◌, ◌-◌, ◌<◌, ◌≤◌, max, List, [], ◌∷◌, ◌++◌, length, map, flat_map, Option, Some, None, inl, inr, arith, AllByRecursion, range_with_len, cases_eq, cases_lt, Arrival, Cell, Row, AreRows, IsEnded, line_arrivals, row_arrivals, row_at, row_cell, ArrivesIn, IsFirstFrom, IsNextArrival, earlier, all_both, all_weaker, all_made, all_flat}
+use Rattle.cq_cells.proofs.Looked.{piece}
 use Rattle.cq_cells.proofs.Pieces.{cells_above}
 
--- ## Which packets have arrived whole
-
--- whether a packet has
-abbrev pub has_ended : ℕ → Row → Bool
-has_ended slot row = leb row.cells (slot - row.start)
-
-module _ (cell_bytes : ℕ) (rows : List Row) (are : AreRows cell_bytes rows) where
-  some_cells : (k : ℕ) → k < length rows → 0 < (row_at rows k).cells
-  some_cells k inside = grind (arith, common_steps, cells_above)
-
-  ended_by : (slot k : ℕ) (d : Row) → k < length rows → has_ended slot (slice_index_or rows k d) ≡ true →
-      (row_at rows k).start + (row_at rows k).cells ≤ slot
-  ended_by slot k d inside test = grind (arith, common_steps, slice_index_or, get_or_default, no_row, some_cells)
-
-  pub parted_by_end : (slot : ℕ) → IsPartitionedBy (has_ended slot) rows
-  parted_by_end slot i j d le inside test = search (rules, cases_eq, slice_index_or, ended_by, get_or_default, no_row)
-
-  pub ended_from_partition : (slot n : ℕ) → n ≤ length rows →
-      IsPartitionPoint (λ row. has_ended slot row ≡ true) (λ row. has_ended slot row ≡ false) rows n →
-      IsEnded rows slot n
-  ended_from_partition slot n few point = search (arith, rules, ended_by, no_row, slice_index_or, get_or_default)
+some_cells : (cell_bytes : ℕ) (rows : List Row) → AreRows cell_bytes rows → (k : ℕ) → k < length rows →
+    0 < (row_at rows k).cells
+some_cells cell_bytes rows are k inside = grind (arith, common_steps, cells_above)
 
 -- ## Where a cell arrives
 

@@ -104,6 +104,11 @@ impl Coming {
         none_stand(&self.arrivals, self.ports)
     }
 
+    /// Where the cells of the next slot are looked for first.
+    pub(crate) fn near(&self) -> &Nearby {
+        &self.near
+    }
+
     /// The cells that arrive in the slot at the inputs of these lines come in place of those that stand there.
     pub(crate) fn fill(&mut self, lines: &[Line], slot: Slot)
         requires few { length lines.now ≤ most_ports }

@@ -94,7 +94,15 @@ impl Line {
     pub fn next_arrival(&self, from: Slot) -> Option<Slot>
         ensures { IsNextArrival self.now from result }
     {
-        let packet = ended(&self.rows, self.cell_bytes, from);
+        self.next_near(from, 0)
+    }
+
+    /// The least slot from this one on in which a cell arrives, or None where there is none. Where so many packets have
+    /// begun, or one more, it is found at once.
+    pub fn next_near(&self, from: Slot, near: usize) -> Option<Slot>
+        ensures { IsNextArrival self.now from result }
+    {
+        let packet = ended(&self.rows, self.cell_bytes, from, near);
         if packet == self.rows.len() {
             return None;
         }
@@ -210,13 +218,24 @@ fn start_before(rows: &[Row], number: usize) -> Slot
     }
 }
 
-// How many packets have arrived whole before the slot.
-fn ended(rows: &[Row], cell_bytes: u32, slot: Slot) -> usize
+// How many packets have arrived whole before the slot. Of those that have begun only the last may not have.
+fn ended(rows: &[Row], cell_bytes: u32, slot: Slot, near: usize) -> usize
     requires { AreRows cell_bytes rows.now }
     ensures few { result ≤ length rows.now }
     ensures ended { IsEnded rows.now slot result }
 {
-    rows.partition_point(|row| u64::from(row.cells) <= slot.saturating_sub(row.start))
+    let begun = begun_near(rows, slot, near);
+    match begun.checked_sub(1) {
+        None => 0,
+        Some(last) => {
+            let row = rows[last];
+            if slot - row.start < u64::from(row.cells) {
+                last
+            } else {
+                begun
+            }
+        }
+    }
 }
 
 // The row of a packet that can begin in this slot at the earliest.

@@ -5,6 +5,7 @@ ghost use Rattle.cq_cells.specs.Terms.{arriving, most_ports, arriving_at, end_of
 
 use crate::coming::Coming;
 use crate::line::Line;
+use crate::nearby::Nearby;
 use crate::routes::routes_of;
 use crate::t0::{earlier, t0_of};
 use cq_base::{Arrivals, Cell, NoMemory, Port, Slot};
@@ -111,7 +112,15 @@ impl Schedule {
     pub fn next_arrival(&self, from: Slot) -> Option<Slot>
         ensures { IsNextArrival self.now.came from result }
     {
-        next_of(&self.lines, from)
+        next_of(&self.lines, from, &Nearby::nowhere())
+    }
+
+    /// The least slot from this one on in which a cell arrives, or None where there is none. It is looked for near the
+    /// cells that were found last, so that the end of a stretch in which none arrives costs no search.
+    pub fn next_near(&self, from: Slot, coming: &Coming) -> Option<Slot>
+        ensures { IsNextArrival self.now.came from result }
+    {
+        next_of(&self.lines, from, coming.near())
     }
 
     /// The least slot from this one on in which a cell arrives at the input, or None where none arrives there any more.
@@ -227,13 +236,13 @@ fn end_of(lines: &[Line]) -> Slot
 }
 
 // The least slot from this one on in which a cell arrives at the inputs of these lines, or None where there is
-// none.
-fn next_of(lines: &[Line], from: Slot) -> Option<Slot>
+// none. It is looked for near these places first.
+fn next_of(lines: &[Line], from: Slot, near: &Nearby) -> Option<Slot>
     ensures { IsNextArrival (all_of lines.now) from result }
 {
     let mut next = None;
-    'lines: for line in lines {
-        next = earlier(next, line.next_arrival(from));
+    'lines: for (input, line) in lines.iter().enumerate() {
+        next = earlier(next, line.next_near(from, near.of_input(input)));
     }
     next
 }

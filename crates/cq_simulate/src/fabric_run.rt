@@ -1,7 +1,8 @@
 //! The run of the fabric.
-ghost use Rattle.std.specs.Prelude.{◌≡◌, ◌↔◌, ◌<◌, ◌≤◌, ℕ, IsTrue, false, IfOk, IfErr, Ok, OnOk, [], length, map};
+ghost use Rattle.std.specs.Prelude.{◌≡◌, ◌↔◌, ◌<◌, ◌≤◌, ℕ, List, Option, IsTrue, false, IfOk, IfErr, Ok, OnOk, [], length, map};
 ghost use Rattle.cq_engine.specs.Resting.{HasRested};
-ghost use Rattle.cq_simulate.specs.Terms.{arriving, end_of, IsEmptyFabric, IsKeptOf, unpacked_run, ideal_departures, ideal_refusals, IsRefusalOf, IsScheduleFor, HasKept, HasRunOn, IsIdle, IsReadyOn, IsRefusalOn, StopsOn};
+ghost use denote.Ref.{Bor};
+ghost use Rattle.cq_simulate.specs.Terms.{Cell, arriving, end_of, IsEmptyFabric, IsKeptOf, unpacked_run, ideal_departures, ideal_refusals, IsRefusalOf, IsScheduleFor, HasKept, HasRunOn, IsIdle, IsReadyOn, IsRefusalOn, StopsOn};
 
 use crate::RunRefusal;
 use crate::ports::{engine_for, port_count};
@@ -11,7 +12,7 @@ use cq_crew::Gate;
 use cq_engine::{Engine, Refused};
 use cq_rank::Rank;
 use cq_route::Tables;
-use cq_traffic::quiet_until;
+use cq_traffic::quiet_near;
 use std::alloc::Global;
 use std::thread::Threads;
 
@@ -149,7 +150,7 @@ fn is_over<R: Rank>(engine: &Engine<R>, schedule: &Schedule, slot: Slot) -> bool
 
 /// The cells of the slot come. Where none comes and none waits, the slots up to the one that `until` tells are skipped:
 /// the fabric rests, and the cells of that slot come. The answer is the slot whose cells came.
-pub fn skip<R: Rank, F: FnOnce() -> Slot>(
+pub fn skip<R: Rank, F: FnOnce(&Coming) -> Slot>(
     engine: &mut Engine<R>,
     schedule: &Schedule,
     slot: Slot,
@@ -158,11 +159,12 @@ pub fn skip<R: Rank, F: FnOnce() -> Slot>(
 ) -> Slot
     requires running { engine.old.stopped ≡ false }
     requires next { engine.old.next ≡ slot }
-    requires tells { F.pre until }
-    requires late { (next : ℕ) → F.post until next → slot ≤ next }
+    requires tells { (near : Bor (List (Option Cell))) → F.pre until near }
+    requires late { (near : Bor (List (Option Cell))) (next : ℕ) → F.post until near next → slot ≤ next }
     ensures late { slot ≤ result }
     ensures idle { slot < result → IsIdle schedule.now.came slot engine.old.fabric }
-    ensures told { IsIdle schedule.now.came slot engine.old.fabric → F.post until result }
+    ensures told { IsIdle schedule.now.came slot engine.old.fabric →
+        (near : Bor (List (Option Cell))) × F.post until near result }
     ensures rested { HasRested (map R.machine engine.old.fixed) slot result engine.old engine.new }
     ensures came { coming.new ≡ arriving schedule.now.came result }
 {
@@ -170,7 +172,7 @@ pub fn skip<R: Rank, F: FnOnce() -> Slot>(
     if !coming.is_empty() || !engine.empty() {
         return slot;
     }
-    let next = until();
+    let next = until(coming);
     if next == slot {
         return slot;
     }
@@ -201,8 +203,8 @@ fn run_slots<T: Threads + Sync, R: Rank, G: Gate>(
     let mut coming = Coming::none();
     let mut slot = engine.next();
     'slots: while !is_over(engine, schedule, slot) {
-        slot = skip(engine, schedule, slot, &mut coming, || {
-            quiet_until(schedule, slot)
+        slot = skip(engine, schedule, slot, &mut coming, |coming| {
+            quiet_near(schedule, slot, coming)
         });
         engine.slot(rt, alloc, slot, coming.arrivals(), gate, leaving, note)?;
         sent.take_all(leaving);

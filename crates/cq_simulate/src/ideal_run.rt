@@ -10,7 +10,7 @@ use cq_ideal::Ideal;
 use cq_rank::Rank;
 use cq_route::Tables;
 use cq_scfq::Discipline;
-use cq_traffic::{quiet_until, rooms_to};
+use cq_traffic::{quiet_near, rooms_to};
 use std::alloc::Global;
 
 /// What the ideal switch did.
@@ -94,7 +94,7 @@ fn skip<R: Rank>(ideal: &mut Ideal<R>, schedule: &Schedule, slot: Slot, coming: 
     if !coming.is_empty() || !ideal.empty() {
         return slot;
     }
-    let next = quiet_until(schedule, slot);
+    let next = quiet_near(schedule, slot, coming);
     if next == slot {
         return slot;
     }

@@ -130,14 +130,14 @@ fn packed_holding(alloc: Global, items: &[Departure], spare: u64) -> Result<Depa
 }
 
 // The slot up to which no cell arrives: that of the next arrival, but no later than the last.
-fn quiet_before(schedule: &Schedule, slot: Slot, last: Slot) -> Slot
+fn quiet_before(schedule: &Schedule, slot: Slot, last: Slot, coming: &Coming) -> Slot
     requires { slot ≤ last }
     ensures late { slot ≤ result }
     ensures within { result ≤ last }
     ensures none { NoneCome schedule.now.came slot result }
     ensures ends { result < last → ArrivesIn result schedule.now.came }
 {
-    schedule.next_arrival(slot).unwrap_or(last).min(last)
+    schedule.next_near(slot, coming).unwrap_or(last).min(last)
 }
 
 // Runs a fabric over the slots from the next one up to the last, which it does not run.
@@ -160,8 +160,8 @@ fn run_before<T: Threads + Sync, R: Rank, G: Gate>(
     let mut coming = Coming::none();
     let mut slot = engine.next();
     'slots: while slot < last {
-        slot = skip(engine, schedule, slot, &mut coming, || {
-            quiet_before(schedule, slot, last)
+        slot = skip(engine, schedule, slot, &mut coming, |coming| {
+            quiet_before(schedule, slot, last, coming)
         });
         if slot >= last {
             return Ok(());

@@ -8,4 +8,4 @@ mod rooms;
 mod stretch;
 
 pub use rooms::{rooms_from, rooms_to};
-pub use stretch::quiet_until;
+pub use stretch::{quiet_near, quiet_until};

@@ -2,7 +2,7 @@
 ghost use Rattle.cq_traffic.specs.Stretch.{IsQuietUntil};
 
 use cq_base::Slot;
-use cq_cells::Schedule;
+use cq_cells::{Coming, Schedule};
 
 /// The slot up to which no cell arrives: that of the next arrival, at or after this one, or this one where none arrives
 /// any more.
@@ -10,4 +10,11 @@ pub fn quiet_until(schedule: &Schedule, slot: Slot) -> Slot
     ensures { IsQuietUntil schedule.now.came slot result }
 {
     schedule.next_arrival(slot).unwrap_or(slot)
+}
+
+/// The slot up to which no cell arrives, as [`quiet_until`] tells it. It is looked for near the cells that came last.
+pub fn quiet_near(schedule: &Schedule, slot: Slot, coming: &Coming) -> Slot
+    ensures { IsQuietUntil schedule.now.came slot result }
+{
+    schedule.next_near(slot, coming).unwrap_or(slot)
 }

@@ -15,7 +15,7 @@ stands : (g : given.Over) (c : After-arrivals g) →
 stands g c = run_stands g.R.Rank.machine c.requires.ready c.slots.invariant.runs (goes_on c.is_over.result
     (end_of c.args.schedule.now.came) c.slots.slot (IsEmptyFabric c.slots.engine.fabric) c.slots-test.true
     c.is_over.ensures) (quiet_if c.skip-slot.ensures.late (λ lt.
-    let told = c.skip-slot.ensures.told (c.skip-slot.ensures.idle lt) in search (rules, quiet_of)))
+    let told = (c.skip-slot.ensures.told (c.skip-slot.ensures.idle lt)).1 in search (rules, quiet_of)))
     c.skip-slot.ensures.rested
 
 -- and finds all that it asks for, with a list of its own for what leaves

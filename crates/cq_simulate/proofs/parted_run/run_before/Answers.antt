@@ -64,7 +64,8 @@ pub returns-then-slot-last-clause-run : goal.returns-then-slot-last-clause-run
 returns-then-slot-last-clause-run g c =
     let rests =
     part_rests g.R.Rank.machine c.requires.ready c.slots.invariant.crossing c.slots.invariant.before
-    c.skip-slot.ensures.late (λ lt. let told = c.skip-slot.ensures.told (c.skip-slot.ensures.idle lt) in search rules)
+    c.skip-slot.ensures.late
+    (λ lt. let told = (c.skip-slot.ensures.told (c.skip-slot.ensures.idle lt)).1 in search rules)
     c.skip-slot.ensures.rested in
     let within : c.skip-slot.result ≤ c.args.last = rests.1 in
     part_ends g.R.Rank.machine c.requires.ready rests.0 (omega arith)

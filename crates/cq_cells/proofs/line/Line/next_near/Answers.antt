@@ -1,7 +1,7 @@
 use Rattle.cq_cells.proofs.Terms.{rules, arith, get_or_read}
 use Rattle.cq_cells.proofs.Looked.{no_row}
 use Rattle.cq_cells.proofs.Upcoming.{line_done, line_next}
-use Rattle.cq_cells.proofs.line.Line.next_arrival.Goals as goal
+use Rattle.cq_cells.proofs.line.Line.next_near.Goals as goal
 
 pub returns-then-packet-len : goal.returns-then-packet-len
 returns-then-packet-len c = search (arith, rules, line_done)
