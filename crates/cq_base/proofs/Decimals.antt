@@ -1,8 +1,10 @@
 -- How a number is written digit by digit. A number below ten is one digit. Any other is the number without its last
 -- digit, and then that digit, so it is one digit longer. A number below 2 ^ 128 is below 10 ^ 39, so it has at most 39
--- digits. And a digit that is written right behind those at the front leaves what comes after it as it was.
+-- digits. A digit that is written right behind those at the front leaves what comes after it as it was, and one that is
+-- written right before those that stand there leaves one less to write.
 use Rattle.cq_base.proofs.Terms.{rules, ◌≡◌, ℕ, ◌+◌, ◌<◌, ◌≤◌, ◌/◌, ◌%◌, ◌^◌, List, [], ◌∷◌, ◌++◌, length, map, refl, ap, sym, ◌∙◌, arith, lit≤, zero, suc, set, drop, length-append, append_assoc, common_steps, digits_of, digits_of_step, length-digits_of-le, map-append, length-map, length-drop, drop-drop}
 use Rattle.cq_base.specs.Decimal.{decimal}
+use Rattle.std.proofs.lemmas.List.{drop-set}
 
 pub decimal_above : (n : ℕ) → 0 < n → decimal n ≡ map (λ d. 48 + d) (digits_of 10 n)
 unfolding decimal
@@ -26,6 +28,9 @@ length-decimal-le most (suc k) some below =
 pub length-decimal : (n : ℕ) → n < 2 ^ 128 → length (decimal n) ≤ 39
 length-decimal n h = let below : n < 10 ^ 39 = omega arith in length-decimal-le 39 n (lit≤ tt) below
 
+pub length-decimal_small : (n : ℕ) → n < 10 → length (decimal n) ≡ 1
+length-decimal_small n h = ap length (decimal_small n h)
+
 pub length-decimal_more : (n : ℕ) → 10 ≤ n → length (decimal n) ≡ length (decimal (n / 10)) + 1
 length-decimal_more n h = grind (arith, common_steps, decimal_more, length-append)
 
@@ -38,9 +43,22 @@ first_set : (to : List ℕ) (v : ℕ) → 0 < length to → set to 0 v ≡ v ∷
 first_set [] v h = absurd (omega arith)
 first_set (x ∷ xs) v h = refl
 
--- the digits after one was written at the front
-pub one_digit : (n : ℕ) (to : List ℕ) → n < 10 → 0 < length to → set to 0 (48 + n % 10) ≡ decimal n ++ drop 1 to
-one_digit n to h k = first_set to (48 + n % 10) k ∙ ap (λ ds. ds ++ drop 1 to) (sym (decimal_small n h))
+-- the number of which one digit is left gets its first one
+pub last_digit : (n end : ℕ) (to all : List ℕ) → n < 10 → 0 < length to → length (decimal n) ≡ end →
+    decimal n ++ drop end to ≡ all → set to 0 (48 + n) ≡ all
+last_digit n end to all h room is had =
+    let small = decimal_small n h in
+    let itself : n ≡ n % 10 = omega arith in
+    first_set to (48 + n) room ∙ ap (λ d. (48 + d) ∷ drop 1 to) itself ∙ ap (λ ds. ds ++ drop 1 to) (sym small)
+    ∙ ap (λ k. decimal n ++ drop k to) (sym (ap length small) ∙ is) ∙ had
+
+-- a digit that is written right before those that stand there: one less is left
+pub one_digit_less : (n at end : ℕ) (to all : List ℕ) → 10 ≤ n → end ≡ at + 1 → at < length to →
+    decimal n ++ drop end to ≡ all → decimal (n / 10) ++ drop at (set to at (48 + n % 10)) ≡ all
+one_digit_less n at end to all more e room had =
+    ap (λ t. decimal (n / 10) ++ t) (drop-set to at (48 + n % 10) room)
+    ∙ sym (append_assoc (decimal (n / 10)) ((48 + n % 10) ∷ []) (drop (at + 1) to))
+    ∙ ap (λ ds. ds ++ drop (at + 1) to) (sym (decimal_more n more)) ∙ ap (λ k. decimal n ++ drop k to) (sym e) ∙ had
 
 -- the digits after the last one was written behind the others
 pub one_more_digit : (n count : ℕ) (to mid : List ℕ) → 10 ≤ n → count ≡ length (decimal (n / 10)) →

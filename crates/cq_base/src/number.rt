@@ -15,12 +15,42 @@ pub fn digits(n: u128, to: &mut [u8; MOST_DIGITS]) -> usize
     ensures most { result ≤ 39 }
     ensures text { to.new ≡ decimal n ++ drop result to.old }
 {
-    let last = b'0' + (n % 10) as u8;
-    if n < 10 {
-        to[0] = last;
-        return 1;
+    if n <= u128::from(u64::MAX) {
+        return short_digits(n as u64, to);
     }
-    let count = digits(n / 10, to);
-    to[count] = last;
-    count + 1
+    let before = digits(n / 10, to);
+    to[before] = b'0' + (n % 10) as u8;
+    before + 1
+}
+
+// The same of a number below 2^64, as most are: 64 bits are divided in a few instructions, 128 by a call. The digits
+// are written from the last to the first.
+fn short_digits(n: u64, to: &mut [u8; MOST_DIGITS]) -> usize
+    ensures count { result ≡ length (decimal n) }
+    ensures text { to.new ≡ decimal n ++ drop result to.old }
+{
+    let count = count_of(n);
+    let mut left = n;
+    let mut end = count;
+    'places: while left >= 10 {
+        end -= 1;
+        to[end] = b'0' + (left % 10) as u8;
+        left /= 10;
+    }
+    to[0] = b'0' + left as u8;
+    count
+}
+
+// How many decimal digits the number has.
+fn count_of(n: u64) -> usize
+    ensures count { result ≡ length (decimal n) }
+    ensures most { result ≤ 39 }
+{
+    let mut left = n;
+    let mut count = 1;
+    'tens: while left >= 10 {
+        left /= 10;
+        count += 1;
+    }
+    count
 }
