@@ -1,5 +1,5 @@
 //! Fields of a line, up to its end.
-ghost use Rattle.std.specs.Prelude.{◌≡◌, ◌≢◌, ℕ, ◌≤◌, List, ◌++◌, length, take, Option, IfSome, IfNone, MatchOption};
+ghost use Rattle.std.specs.Prelude.{◌≡◌, ◌≢◌, ℕ, ◌≤◌, List, ◌∷◌, ◌++◌, length, take, Option, IfSome, IfNone, MatchOption};
 ghost use Rattle.cq_lines.specs.Lines.{ending, BeginsWith, Fits, AllFit};
 
 use crate::take_number;
@@ -9,7 +9,7 @@ pub fn take_field(text: &[u8]) -> Option<(Option<u128>, &[u8])>
     ensures found { IfSome result (λ f. BeginsWith text.now f.0 f.1.now) }
     ensures none { IfNone result ((f : Option ℕ) (rest : List ℕ) → Fits f → BeginsWith text.now f rest → ⊥) }
 {
-    if let Some(rest) = behind(text, b"-") {
+    if let Some(rest) = behind_byte(text, b'-') {
         return Some((None, rest));
     }
     let (number, rest) = take_number(text)?;
@@ -26,7 +26,7 @@ pub fn take_fields<'a>(text: &'a [u8], to: &mut [Option<u128>]) -> Option<(usize
 {
     let mut rest = text;
     let mut count = 0;
-    'fields: while let Some(after) = behind(rest, b" ") {
+    'fields: while let Some(after) = behind_byte(rest, b' ') {
         if count == to.len() {
             return None;
         }
@@ -35,8 +35,19 @@ pub fn take_fields<'a>(text: &'a [u8], to: &mut [Option<u128>]) -> Option<(usize
         count += 1;
         rest = next;
     }
-    let after = behind(rest, b"\n")?;
+    let after = behind_byte(rest, b'\n')?;
     Some((count, after))
+}
+
+// What stands behind this byte, where it stands at the front. A word of one byte goes this way, since `strip_prefix`
+// costs many times as much.
+fn behind_byte(text: &[u8], byte: u8) -> Option<&[u8]>
+    ensures { MatchOption result ((rest : List ℕ) → text.now ≢ byte ∷ rest) (λ rest. text.now ≡ byte ∷ rest.now) }
+{
+    match text {
+        [first, rest @ ..] if *first == byte => Some(rest),
+        _ => None,
+    }
 }
 
 /// What stands behind this word, where it stands at the front.

@@ -2,6 +2,9 @@
 ghost use Rattle.std.specs.Prelude.{◌≡◌, ℕ, ◌+◌, ◌*◌, ◌<◌, ◌≤◌, ◌^◌, ◌⊎◌, List, ◌∷◌, Some, IfSome, IfNone};
 ghost use Rattle.cq_lines.specs.Lines.{BeginsWith, EndsDigits};
 
+// Ten times a number below this, and a digit, is below 2^64.
+const LONG: u128 = 1 << 60;
+
 /// The number at the front, and what stands behind its digits. None where the text begins with no number
 /// of 128 bits in decimal digits without leading zeros.
 pub fn take_number(text: &[u8]) -> Option<(u128, &[u8])>
@@ -35,6 +38,9 @@ fn with_digit(number: u128, digit: u8) -> Option<u128>
 {
     if number == 0 {
         return None;
+    }
+    if number < LONG {
+        return Some(u128::from(number as u64 * 10 + u64::from(digit)));
     }
     number.checked_mul(10)?.checked_add(u128::from(digit))
 }
