@@ -30,16 +30,17 @@ pub struct Seen {
 }
 
 /// A cell, named by the slot and the input of its arrival, with its level and its rank.
+// Fields lie in memory as they stand here: the wide ones first, so that a cell takes 32 bytes.
 #[derive(Clone, Copy, Debug, PartialEq, Eq)]
 pub struct Named {
-    /// The level of its key.
-    pub level: u8,
     /// The rank that its output gave it.
     pub rank: u128,
     /// The slot in which it arrived.
     pub slot: Slot,
     /// The input that it came to.
     pub input: Port,
+    /// The level of its key.
+    pub level: u8,
 }
 
 /// A cell that was sent.
