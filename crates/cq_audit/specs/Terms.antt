@@ -5,7 +5,7 @@ pub use Rattle.cq_base.specs.{Texts.log_line, declared.cell.Cell.Cell, declared.
 pub use Rattle.cq_rank.specs.{Machine.Machine, Switch.AreForOneSwitch}
 pub use Rattle.cq_ideal.specs.Admission.{Marked}
 pub use Rattle.cq_lines.specs.{Refusals.IsCause, Transfers.IsTransferBefore}
-pub use Rattle.cq_audit.specs.Audit.{CanBeAudited, IsNo, IsYes, IsAuditExact}
+pub use Rattle.cq_audit.specs.Audit.{CanBeAudited, IsNo, IsYes, IsAuditExact, unread}
 pub use Rattle.cq_audit.specs.Crossing.{AreNoted, HaveCrossed}
 pub use Rattle.cq_audit.specs.Log.{AreInOrder, IsLog, IsLogExact, IsLogFault, IsOf, IsTransfer, Comes, numbers_behind}
 pub use Rattle.cq_audit.specs.{Pairs.CanBeJoined, StableRun.StableRun, declared.refusal.AuditRefusal.TheVariants.Left}

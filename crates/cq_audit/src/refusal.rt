@@ -1,6 +1,7 @@
 //! Why a log is not that of a stable run.
 ghost use Rattle.std.specs.Prelude.{◌≡◌};
-ghost use Rattle.cq_audit.specs.Terms.{refusal_of};
+ghost use Rattle.cq_audit.specs.Terms.{refusal_of, unread};
+ghost use Rattle.cq_audit.specs.declared.refusal.AuditRefusal.TheVariants.{NoMemory as no_memory};
 
 use crate::phase::PhaseFault;
 use crate::replay::SlotFault;
@@ -66,9 +67,6 @@ impl AuditRefusal {
 }
 
 impl From<NoMemory> for AuditRefusal {
-    ghost use Rattle.std.specs.Prelude.{◌≡◌};
-    ghost use Rattle.cq_audit.specs.declared.refusal.AuditRefusal.TheVariants.{NoMemory as no_memory};
-
     ghost from_gives = { λ _ refusal. refusal ≡ no_memory };
 
     fn from(_: NoMemory) -> Self {
@@ -77,9 +75,6 @@ impl From<NoMemory> for AuditRefusal {
 }
 
 impl From<LineRefusal> for AuditRefusal {
-    ghost use Rattle.std.specs.Prelude.{◌≡◌};
-    ghost use Rattle.cq_audit.specs.Audit.{unread};
-
     ghost from_gives = { λ log refusal. refusal ≡ unread log };
 
     fn from(refusal: LineRefusal) -> Self {

@@ -1,4 +1,8 @@
 //! Why a text is not taken as a state.
+ghost use Rattle.std.specs.Prelude.{◌≡◌};
+ghost use Rattle.cq_resume.specs.Refused.{refusal_of};
+ghost use Rattle.cq_resume.specs.declared.refusal.StateRefusal.TheVariants.{NoMemory as no_memory};
+
 use cq_base::NoMemory;
 use cq_lines::LineRefusal;
 
@@ -22,9 +26,6 @@ pub enum StateRefusal {
 }
 
 impl From<NoMemory> for StateRefusal {
-    ghost use Rattle.std.specs.Prelude.{◌≡◌};
-    ghost use Rattle.cq_resume.specs.declared.refusal.StateRefusal.TheVariants.{NoMemory as no_memory};
-
     ghost from_gives = { λ _ refusal. refusal ≡ no_memory };
 
     fn from(_: NoMemory) -> Self {
@@ -33,9 +34,6 @@ impl From<NoMemory> for StateRefusal {
 }
 
 impl From<LineRefusal> for StateRefusal {
-    ghost use Rattle.std.specs.Prelude.{◌≡◌};
-    ghost use Rattle.cq_resume.specs.Refused.{refusal_of};
-
     ghost from_gives = { λ text refusal. refusal ≡ refusal_of text };
 
     fn from(refusal: LineRefusal) -> Self {

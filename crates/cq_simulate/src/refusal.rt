@@ -1,4 +1,7 @@
 //! Why a run has no result.
+ghost use Rattle.std.specs.Prelude.{◌≡◌};
+ghost use Rattle.cq_simulate.specs.declared.refusal.RunRefusal.TheVariants.{NoMemory as no_memory, Tag as tag};
+
 use cq_base::{NoMemory, TagFault};
 
 /// Why a run has no result.
@@ -11,9 +14,6 @@ pub enum RunRefusal {
 }
 
 impl From<NoMemory> for RunRefusal {
-    ghost use Rattle.std.specs.Prelude.{◌≡◌};
-    ghost use Rattle.cq_simulate.specs.declared.refusal.RunRefusal.TheVariants.{NoMemory as no_memory};
-
     ghost from_gives = { λ _ refusal. refusal ≡ no_memory };
 
     fn from(_: NoMemory) -> Self {
@@ -22,9 +22,6 @@ impl From<NoMemory> for RunRefusal {
 }
 
 impl From<TagFault> for RunRefusal {
-    ghost use Rattle.std.specs.Prelude.{◌≡◌};
-    ghost use Rattle.cq_simulate.specs.declared.refusal.RunRefusal.TheVariants.{Tag as tag};
-
     ghost from_gives = { λ fault refusal. refusal ≡ tag fault };
 
     fn from(fault: TagFault) -> Self {

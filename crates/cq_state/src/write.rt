@@ -4,6 +4,7 @@ ghost use Rattle.std.specs.List.{flat_map};
 ghost use Rattle.cq_state.specs.Refusals.{IsTooLong, longest_text};
 ghost use Rattle.cq_state.specs.State.{state_text, head_lines, numbered, input_line, rank_line, cell_numbers, cell_line, sent_line, moved_line};
 ghost use Rattle.cq_state.specs.StateText.{Line, spelled};
+ghost use Rattle.cq_state.specs.declared.write.StateLong.TheVariants.{NoMemory as none};
 
 use crate::kind::Kind;
 use crate::state::{Head, Named, Seen, Sent, State};
@@ -21,9 +22,6 @@ pub enum StateLong {
 }
 
 impl From<NoMemory> for StateLong {
-    ghost use Rattle.std.specs.Prelude.{◌≡◌};
-    ghost use Rattle.cq_state.specs.declared.write.StateLong.TheVariants.{NoMemory as none};
-
     ghost from_gives = { λ _ e. e ≡ none };
 
     fn from(_: NoMemory) -> Self {

@@ -1,6 +1,7 @@
 //! Why a configuration is refused.
 ghost use Rattle.std.specs.Prelude.{◌≡◌, ℕ, List, Some, IfOk};
 ghost use Rattle.cq_tables.specs.Terms.{Refuses, code_of, refused, element_path, path};
+ghost use Rattle.cq_tables.specs.declared.refusal.TableRefusal.TheVariants.{NoMemory as none};
 
 use crate::place::{Array, Place, element_name, key_name};
 use cq_base::{Name, NoMemory};
@@ -37,9 +38,6 @@ impl fmt::Debug for TableRefusal {
 }
 
 impl From<NoMemory> for TableRefusal {
-    ghost use Rattle.std.specs.Prelude.{◌≡◌};
-    ghost use Rattle.cq_tables.specs.declared.refusal.TableRefusal.TheVariants.{NoMemory as none};
-
     ghost from_gives = { λ _ e. e ≡ none };
 
     fn from(_: NoMemory) -> Self {
