@@ -11,8 +11,5 @@ put-requires g c = search (arith, rules, length-changed, g.R.Rank.state)
 pub places-preserved : goal.places-preserved
 places-preserved g c = search (arith, rules, put_next, g.R.Rank.state)
 
-pub returns-clause-fixed : goal.returns-clause-fixed
-returns-clause-fixed g c = c.places.invariant.fixed
-
-pub returns-clause-state : goal.returns-clause-state
-returns-clause-state g c = search (arith, rules, at_end, g.R.Rank.state)
+pub returns : goal.returns
+returns g c = record { fixed = c.places.invariant.fixed; state = search (arith, rules, at_end, g.R.Rank.state) }
