@@ -1,7 +1,6 @@
 -- A slot is what the parts do one after the other: the arrivals are judged, those that are admitted are ranked and go
 -- into the lists, and then the outputs send.
-use Rattle.std.proofs.Common.{rules}
-use Rattle.cq_ideal.proofs.Terms.{◌≡◌, ℕ, ◌+◌, ◌<◌, ◌≤◌, ◌^◌, Bool, false, List, [], length, map, get_or, Option, Ok, Err, refl, ap, ◌∙◌, arith, common_steps, get_or-map, Cell, Queued, TagFault, Departure, RoomView, Machine, class_count, Admission, admission, admitted, marked, refused, IdealSwitch, HasRoomFor, SpareFollows, marked_state, IdealState, Sent, ideal_slot, ideal_sends, filled, fronts, rests, all_told, LimitedSent, limited_slot, with_admission, HoldsLists, LimiterView, AreParts, AreWithinRooms, CameToPorts, FitTogether, RanksView, QueuesView, AllArrivedBefore, HaveOwnKeys, HaveRoomFor, state_of, AreForPorts, Ranking, ranking}
+use Rattle.cq_ideal.proofs.Terms.{◌≡◌, ℕ, ◌+◌, ◌<◌, ◌≤◌, ◌^◌, Bool, false, List, [], length, map, get_or, Option, Ok, Err, refl, ap, ◌∙◌, arith, common_steps, get_or-map, Cell, Queued, TagFault, Departure, RoomView, Machine, class_count, Admission, admission, admitted, marked, refused, IdealSwitch, HasRoomFor, SpareFollows, marked_state, IdealState, Sent, ideal_slot, ideal_sends, filled, fronts, rests, all_told, LimitedSent, limited_slot, with_admission, HoldsLists, LimiterView, AreParts, AreWithinRooms, CameToPorts, FitTogether, RanksView, QueuesView, AllArrivedBefore, HaveOwnKeys, HaveRoomFor, state_of, AreForPorts, Ranking, ranking, rules}
 use Rattle.cq_ideal.specs.OneSlot.{CanHaveSlot}
 use Rattle.cq_ideal.specs.Taking.{CanTakeIn, HasJudged, HasTakenIn}
 use Rattle.cq_ideal.proofs.Admitted.{admitted_for_ports}

@@ -4,8 +4,7 @@
 -- most urgent cell for an output is never left: it would have slack 1, so a cushion, so a more urgent cell for the
 -- same output. And each cell is where it was or has crossed to its output, and the first cell for an output that a
 -- list gave is in it no more: so no key is twice, and the cells for each output stay the same.
-use Rattle.cq_laws.proofs.Terms.{rules, ◌≡◌, ◌≢◌, ℕ, suc, ◌+◌, ◌<◌, ◌≤◌, ◌⊎◌, ◌↔◌, List, Option, Some, None, refl, sym, ap, ◌∙◌, inl, inr, ⊎_elim, arith, common_steps, slice_get, eq-eqb, same_Some, Key, cushion_of, Queued, Fabric, input, buffer, IsAmong, IsFabric, ListsKeepOrder, Transfers, EachRises, HasSlack, put, KeepsOrder, cushion, is_for, first_for, place_for, without_first, key_laws, first_le, each_pair_left, IsListed, place_in, outputs_of, partner_of, depth, HasBetterInput, IsOutputOrder, AreOrdersOf, orders_of, list_taken, HasFor, IsMostUrgentFor, has_there, stands_at}
-use Rattle.cq_prefs.specs.Pairing.{Partners, IsStable}
+use Rattle.cq_laws.proofs.Terms.{rules, ◌≡◌, ◌≢◌, ℕ, suc, ◌+◌, ◌<◌, ◌≤◌, ◌⊎◌, ◌↔◌, List, Option, Some, None, refl, sym, ap, ◌∙◌, inl, inr, ⊎_elim, arith, common_steps, slice_get, eq-eqb, same_Some, Key, cushion_of, Queued, Fabric, input, buffer, IsAmong, IsFabric, ListsKeepOrder, Transfers, EachRises, HasSlack, put, KeepsOrder, cushion, is_for, first_for, place_for, without_first, key_laws, first_le, each_pair_left, IsListed, place_in, outputs_of, partner_of, depth, HasBetterInput, IsOutputOrder, AreOrdersOf, orders_of, list_taken, HasFor, IsMostUrgentFor, has_there, stands_at, Partners, IsStable}
 use Rattle.cq_laws.proofs.Members.{from_first, first_at, first_of, left_at, left_among, left_or_first, among_put, put_new, put_old, rising_put}
 use Rattle.cq_laws.proofs.Cushions.{cushion_grows, cushion_grows_by_one, cushion_has}
 use Rattle.cq_laws.proofs.Sound.{same_cell, Apart, Early, Sound, one_in_order, orders_are}

@@ -1,7 +1,6 @@
 -- What ranking gives, as the fabric sees it: each cell that came has the slot, the input at which it came, and is the
 -- one that arrived there.
-use Rattle.cq_laws.proofs.Terms.{rules, ◌≡◌, ℕ, List, Option, Some, Ok, arith, Cell, Queued, Machine, Fabric, Arrives, came_to, Ranking, ranking, arrival_at}
-use Rattle.cq_ideal.specs.Ranking.{AreForPorts}
+use Rattle.cq_laws.proofs.Terms.{rules, ◌≡◌, ℕ, List, Option, Some, Ok, arith, Cell, Queued, Machine, Fabric, Arrives, came_to, Ranking, ranking, arrival_at, AreForPorts}
 pub use Rattle.cq_ideal.proofs.Came.{came_from}
 use Rattle.cq_laws.proofs.AfterArrivals.{Keyed}
 

@@ -2,10 +2,8 @@
 -- and states that agree are empty together. So the least number of slots after which the one is over is that of the
 -- other. In the last slot a cell departs, as it does in the ideal switch, so the figures tell the number of slots.
 -- And what goes on behind the end is quiet slots.
-use Rattle.cq_laws.proofs.Terms.{cases_lt, ⊎_elim, common_steps, rules, ◌≡◌, ℕ, ◌+◌, ◌-◌, ◌≤◌, cond, List, [], ◌∷◌, ◌++◌, length, take, drop, map, Option, Some, None, Ok, Err, refl, sym, ap, ◌∙◌, subst, arith, replicate, filter, fold, is_some, max, AllByRecursion, list_any, cases_Bool, cond_both, length-take-le, take-append-drop, take_all, append-nil, Cell, Queued, TagFault, Machine, IsForSwitch, AreForPorts, IsInputBest, IsStable, Partners, Agrees, EndsAlike, Fabric, IsEmptyFabric, empty_fabric, BeginsWhole, FabricRun, FabricStops, WholeRun, FabricSlot, SlotRecord, idled_for, quiet_slots, no_arrivals, IdealAfter, IdealEnds, arriving_from, first_slots, slots_of, slots_of_run, whole_ideal_run, IsEmptyIdeal, departures_of, empty_ideal, ideal_run, departures_from, departures_in, ends, fewer_slots, found_end, not_more, whole_fault, arriving_length, quiet_from, Orders, figures_of, sends, figures_after, no_figures, AfterBy, fold-append, all_slots, slots_of-append, last_departs}
+use Rattle.cq_laws.proofs.Terms.{cases_lt, ⊎_elim, common_steps, rules, ◌≡◌, ℕ, ◌+◌, ◌-◌, ◌≤◌, cond, List, [], ◌∷◌, ◌++◌, length, take, drop, map, Option, Some, None, Ok, Err, refl, sym, ap, ◌∙◌, subst, arith, replicate, filter, fold, is_some, max, AllByRecursion, list_any, cases_Bool, cond_both, length-take-le, take-append-drop, take_all, append-nil, Cell, Queued, TagFault, Machine, IsForSwitch, AreForPorts, IsInputBest, IsStable, Partners, Agrees, EndsAlike, Fabric, IsEmptyFabric, empty_fabric, BeginsWhole, FabricRun, FabricStops, WholeRun, FabricSlot, SlotRecord, idled_for, quiet_slots, no_arrivals, IdealAfter, IdealEnds, arriving_from, first_slots, slots_of, slots_of_run, whole_ideal_run, IsEmptyIdeal, departures_of, empty_ideal, ideal_run, departures_from, departures_in, ends, fewer_slots, found_end, not_more, whole_fault, arriving_length, quiet_from, Orders, figures_of, sends, figures_after, no_figures, AfterBy, fold-append, all_slots, slots_of-append, last_departs, gone_in, transfers_of_run, IdealState}
 use Rattle.cq_base.specs.Arriving.{Arrival, enough, traffic_of}
-use Rattle.cq_laws.specs.Terms.{gone_in, transfers_of_run}
-use Rattle.cq_ideal.specs.IdealSlot.{IdealState}
 use Rattle.cq_laws.proofs.AddingUp.{figures_fold}
 use Rattle.cq_laws.proofs.InputBest.{stable_run}
 use Rattle.cq_laws.proofs.KeptParts.{departures_on, transfers_both}

@@ -2,9 +2,7 @@
 -- slot, so a cell that comes has another key; and each has slack 1, so that the more urgent cells for an output stand
 -- below the cushion of one that comes. All keys differ in each state of a slot, so the cells that cross have keys
 -- that are new in their buffers.
-use Rattle.cq_laws.proofs.Terms.{rules, ◌≡◌, ℕ, ◌+◌, List, length, Option, Some, Ok, sym, arith, Cell, Queued, Machine, IdealState, IsStable, Partners, Agrees, FirstsCanCross, FitsList, Fabric, buffer, input, Arrives, Departs, Transfers, came_to, Ranking, ranking, all_from_has}
-use Rattle.cq_laws.specs.Terms.{orders_of}
-use Rattle.cq_ideal.specs.Ranking.{AreForPorts}
+use Rattle.cq_laws.proofs.Terms.{rules, ◌≡◌, ℕ, ◌+◌, List, length, Option, Some, Ok, sym, arith, Cell, Queued, Machine, IdealState, IsStable, Partners, Agrees, FirstsCanCross, FitsList, Fabric, buffer, input, Arrives, Departs, Transfers, came_to, Ranking, ranking, all_from_has, orders_of, AreForPorts}
 use Rattle.cq_laws.proofs.AfterArrivals.{arrived_sound}
 use Rattle.cq_laws.proofs.AfterDepartures.{sent_sound}
 use Rattle.cq_laws.proofs.AfterTransfer.{moved_sound}

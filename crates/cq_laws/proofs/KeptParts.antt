@@ -1,7 +1,6 @@
 -- What is kept of a run is kept of its parts: the departures and the transfers of two runs on end are those of the
 -- first and then those of the second.
-use Rattle.cq_laws.proofs.Terms.{common_steps, ◌≡◌, ℕ, ◌+◌, List, [], ◌∷◌, ◌++◌, length, arith, append-nil, map-append, length-map, flat_map-append, departures_of, departures_in, departures_append, gone_in, transfers_in, transfers_of_run}
-use Rattle.cq_laws.specs.FabricSlot.{SlotRecord}
+use Rattle.cq_laws.proofs.Terms.{common_steps, ◌≡◌, ℕ, ◌+◌, List, [], ◌∷◌, ◌++◌, length, arith, append-nil, map-append, length-map, flat_map-append, departures_of, departures_in, departures_append, gone_in, transfers_in, transfers_of_run, SlotRecord}
 
 -- from any slot on
 pub departures_on : (rs ss : List SlotRecord) (first slot : ℕ) → first + length rs ≡ slot →

@@ -1,6 +1,5 @@
 -- The least slack of a whole run, slot by slot.
-use Rattle.cq_laws.proofs.Terms.{rules, ◌≡◌, ℕ, zero, suc, ◌+◌, ◌<◌, List, [], ◌∷◌, length, Option, Some, None, refl, arith, ap, ◌∙◌, common_steps, min, fold, slice_get, option_and_then, filter_map, replicate, AllByRecursion, reduce, cons_option, length-replicate, Cell, Figures, Machine, AreForPorts, IdealState, IsStable, Fabric, empty_fabric, SlotRecord, FabricRun, Agrees, least_slack, HasMoreSlack, InputFigures}
-use Rattle.cq_laws.specs.Terms.{empty_ideal, either_by, figures_of, figures_after, no_figures, slack_on_arrival}
+use Rattle.cq_laws.proofs.Terms.{rules, ◌≡◌, ℕ, zero, suc, ◌+◌, ◌<◌, List, [], ◌∷◌, length, Option, Some, None, refl, arith, ap, ◌∙◌, common_steps, min, fold, slice_get, option_and_then, filter_map, replicate, AllByRecursion, reduce, cons_option, length-replicate, Cell, Figures, Machine, AreForPorts, IdealState, IsStable, Fabric, empty_fabric, SlotRecord, FabricRun, Agrees, least_slack, HasMoreSlack, InputFigures, empty_ideal, either_by, figures_of, figures_after, no_figures, slack_on_arrival}
 use Rattle.cq_laws.proofs.AddingUp.{reduce-append, min_assoc, figures_fold}
 use Rattle.cq_laws.proofs.OneSlot.{same_slot}
 use Rattle.cq_laws.proofs.WholeRuns.{empty_agree, no_place, traffic_for_empty}

@@ -1,7 +1,6 @@
 -- Where runs with limits end. Beside the fabric the ideal switch runs, and after each slot both are empty together; so
 -- both end after the same slot.
-use Rattle.cq_laws.proofs.Terms.{◌≡◌, ℕ, List, length, take, Option, Ok, arith, common_steps, AllByRecursion, Arrival, Machine, Marked, IdealState, AreForPorts, IsInputBest, IsStable, LimitedEndsAlike, LimitedFabricRun, LimitedFabricSlot, LimitedRecord, LimitedWholeRun, admissions_in, empty_limited_fabric, slots_in, Fabric, IsEmptyFabric, LimitedRan, empty_limited, limited_run, arriving_length, LimitedIdealAfter}
-use Rattle.cq_laws.specs.Terms.{first_slots, IsEmptyIdeal, LimitedAgrees, gone_in}
+use Rattle.cq_laws.proofs.Terms.{◌≡◌, ℕ, List, length, take, Option, Ok, arith, common_steps, AllByRecursion, Arrival, Machine, Marked, IdealState, AreForPorts, IsInputBest, IsStable, LimitedEndsAlike, LimitedFabricRun, LimitedFabricSlot, LimitedRecord, LimitedWholeRun, admissions_in, empty_limited_fabric, slots_in, Fabric, IsEmptyFabric, LimitedRan, empty_limited, limited_run, arriving_length, LimitedIdealAfter, first_slots, IsEmptyIdeal, LimitedAgrees, gone_in}
 use Rattle.cq_laws.proofs.LimitedWhole.{same_limited_run, begin}
 use Rattle.cq_laws.proofs.OneRun.{only_limited_run}
 use Rattle.cq_laws.proofs.Parted.{ends_with, fewer_fit, one_whole, run_of_whole}

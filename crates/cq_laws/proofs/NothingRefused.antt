@@ -1,8 +1,6 @@
 -- Where nothing is refused a slot with limits is the slot without, and no mark moves; so it is with runs. Nothing is
 -- refused where no output has a limit and no mark is up, nor where nothing arrives.
-use Rattle.cq_laws.proofs.Terms.{common_steps, arith, rules, ◌≡◌, ℕ, ◌+◌, Bool, List, [], ◌∷◌, replicate, zero, suc, Option, refl, sym, ap, AllByRecursion, Cell, TagFault, no_arrivals, Machine, Partners, Fabric, FabricRun, FabricStops, SlotRecord, FabricSlot, LimitedRecord, LimitedFabricSlot, LimitedFabricRun, LimitedFabricStops, slots_in, passed, RefusesNone, marked, nothing_refused, no_arrivals_refuse_none, Orders}
-use Rattle.cq_laws.specs.Terms.{fabric_held}
-use Rattle.cq_ideal.specs.Admission.{Marked}
+use Rattle.cq_laws.proofs.Terms.{common_steps, arith, rules, ◌≡◌, ℕ, ◌+◌, Bool, List, [], ◌∷◌, replicate, zero, suc, Option, refl, sym, ap, AllByRecursion, Cell, TagFault, no_arrivals, Machine, Partners, Fabric, FabricRun, FabricStops, SlotRecord, FabricSlot, LimitedRecord, LimitedFabricSlot, LimitedFabricRun, LimitedFabricStops, slots_in, passed, RefusesNone, marked, nothing_refused, no_arrivals_refuse_none, Orders, fabric_held, Marked}
 
 module _ (MayChoose : Orders → Partners → Type 0) (limits : List (Option ℕ)) (ms : List Machine) (marks : List Bool)
   where

@@ -3,8 +3,7 @@
 -- buffer is after it, as does a departure. So each state of a slot is one, and by induction the states and records of
 -- a run.
 pub use Rattle.cq_prefs.proofs.InputOrder.{outputs_at}
-use Rattle.cq_laws.proofs.Terms.{common_steps, arith, rules, ◌≡◌, ℕ, List, [], ◌∷◌, length, Option, Some, refl, sym, ◌∙◌, ⊎_elim, ◌+◌, ext_get_or, Cell, Queued, TagFault, Machine, Marked, Fabric, Arrives, Transfers, Departs, SlotRecord, FabricSlot, IsFault, IsOneRun, LimitedRecord, LimitedFabricSlot, IsLimitedFault, fabric_admission, partner_of, HasCellFor, list_of, orders_of, RunBy, StopBy, is_output_order, one_input_best}
-use Rattle.cq_prefs.specs.Pairing.{Partners, IsStable, IsInputBest}
+use Rattle.cq_laws.proofs.Terms.{common_steps, arith, rules, ◌≡◌, ℕ, List, [], ◌∷◌, length, Option, Some, refl, sym, ◌∙◌, ⊎_elim, ◌+◌, ext_get_or, Cell, Queued, TagFault, Machine, Marked, Fabric, Arrives, Transfers, Departs, SlotRecord, FabricSlot, IsFault, IsOneRun, LimitedRecord, LimitedFabricSlot, IsLimitedFault, fabric_admission, partner_of, HasCellFor, list_of, orders_of, RunBy, StopBy, is_output_order, one_input_best, Partners, IsStable, IsInputBest}
 use Rattle.cq_laws.proofs.Rises.{sender}
 
 -- ## Where a state and what arrives leave no choice in a slot, they leave none in a run

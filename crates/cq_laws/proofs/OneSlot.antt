@@ -2,9 +2,7 @@
 -- after the arrivals, 1 after the first transfer, 0 after the departures, and 1 again after the second transfer.
 -- After the first transfer each cell that still waits at an input has slack 1, so it comes after a cell that its
 -- output has: the ideal list covers the buffer, both send the same cell, and the states agree again.
-use Rattle.cq_laws.proofs.Terms.{rules, ◌≡◌, ℕ, ◌+◌, ◌↔◌, List, length, Option, Err, sym, ap, ◌∙◌, inl, inr, ⊎_elim, arith, drop, zero, suc, ◌⊎◌, [], ◌∷◌, refl, common_steps, Cell, Queued, TagFault, Machine, AreForPorts, IsStable, Fabric, input, buffer, IsAmong, HasSlack, SlotRecord, FabricSlot, Partners, Agrees, IsWholeFabric, ListsKeepOrder, EachIsWhole, Arrives, Transfers, Departs, Key, IsBefore, IsRising, put_all, filled, fronts, rests, all_told, ideal_slot, list_of, HasFor, SendsAlike, slice_get, length-map-range_with_len, length-filled, ranks_kept, all_of_has, stands_at}
-use Rattle.cq_laws.specs.Terms.{ranking, orders_of}
-use Rattle.cq_ideal.specs.IdealSlot.{IdealState}
+use Rattle.cq_laws.proofs.Terms.{rules, ◌≡◌, ℕ, ◌+◌, ◌↔◌, List, length, Option, Err, sym, ap, ◌∙◌, inl, inr, ⊎_elim, arith, drop, zero, suc, ◌⊎◌, [], ◌∷◌, refl, common_steps, Cell, Queued, TagFault, Machine, AreForPorts, IsStable, Fabric, input, buffer, IsAmong, HasSlack, SlotRecord, FabricSlot, Partners, Agrees, IsWholeFabric, ListsKeepOrder, EachIsWhole, Arrives, Transfers, Departs, Key, IsBefore, IsRising, put_all, filled, fronts, rests, all_told, ideal_slot, list_of, HasFor, SendsAlike, slice_get, length-map-range_with_len, length-filled, ranks_kept, all_of_has, stands_at, ranking, orders_of, IdealState}
 use Rattle.cq_laws.proofs.Cushions.{cushion_has}
 use Rattle.cq_laws.proofs.Falls.{rest_of}
 use Rattle.cq_laws.proofs.Sound.{Sound, apart_from, early_from, differ_from, all_before, Apart, never_both, not_before_itself, same_first}

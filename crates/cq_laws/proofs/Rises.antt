@@ -1,8 +1,6 @@
 -- Partners of a matching, and the cells that they give: an output has an input whose partner it is, or none, and an
 -- input has a cell for its partner. The first cell for an output is no less urgent than any other for it.
-use Rattle.std.proofs.Common.{rules}
-use Rattle.cq_laws.proofs.Terms.{◌≡◌, ◌≢◌, ℕ, zero, suc, ◌⊎◌, List, [], ◌∷◌, Option, Some, None, inl, inr, ⊎_elim, arith, slice_get, cases_lt, cases_eq, eqb-true, eq-eqb, same_Some, Queued, Fabric, input, IsFabric, Transfers, IsBefore, KeepsOrder, is_for, first_for, each_pair_at, first_le, Orders, partner_of, HasCellFor, AreOrdersOf}
-use Rattle.cq_prefs.specs.Pairing.{Partners, IsStable}
+use Rattle.cq_laws.proofs.Terms.{◌≡◌, ◌≢◌, ℕ, zero, suc, ◌⊎◌, List, [], ◌∷◌, Option, Some, None, inl, inr, ⊎_elim, arith, slice_get, cases_lt, cases_eq, eqb-true, eq-eqb, same_Some, Queued, Fabric, input, IsFabric, Transfers, IsBefore, KeepsOrder, is_for, first_for, each_pair_at, first_le, Orders, partner_of, HasCellFor, AreOrdersOf, rules, Partners, IsStable}
 use Rattle.cq_laws.proofs.Members.{first_at}
 
 pub is_partner : (x : Option ℕ) (j : ℕ) → (x ≡ Some j) ⊎ (x ≢ Some j)

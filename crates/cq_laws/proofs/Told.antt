@@ -1,9 +1,7 @@
 -- The transfers of a phase tell its matching. They stand in the order of the inputs, at most one each, so two lists
 -- of them that are equal are equal input by input. And a partner in a matching is offered, so its input has a first
 -- cell for it, and that is noted.
-use Rattle.cq_laws.proofs.Terms.{rules, ◌≡◌, ℕ, zero, suc, ◌+◌, ◌<◌, ◌≤◌, List, ◌∷◌, length, Option, None, Some, ap, sym, ◌∙◌, arith, common_steps, filter_map, range_with_len, option_map, cases_lt, ext_get_or, first_for, list_of, orders_of, HasCellFor, noted, transfers_of, partner_of, Transfer}
-use Rattle.cq_base.specs.declared.cell.Queued.{Queued}
-use Rattle.cq_prefs.specs.Pairing.{Partners, IsStable}
+use Rattle.cq_laws.proofs.Terms.{rules, ◌≡◌, ℕ, zero, suc, ◌+◌, ◌<◌, ◌≤◌, List, ◌∷◌, length, Option, None, Some, ap, sym, ◌∙◌, arith, common_steps, filter_map, range_with_len, option_map, cases_lt, ext_get_or, first_for, list_of, orders_of, HasCellFor, noted, transfers_of, partner_of, Transfer, Queued, Partners, IsStable}
 use Rattle.cq_laws.proofs.OneRun.{offer_of}
 
 -- what a function notes of an input is a transfer of it

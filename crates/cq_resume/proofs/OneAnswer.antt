@@ -1,9 +1,8 @@
 -- Of a text there is one answer. A text of a state in range is that of no other such state, and each of its lines is
 -- allowed. So the text tells the state, whether that has the switch's shape, and which clauses hold of it; and of two
 -- clauses that are the first to fail neither is before the other.
-use Rattle.cq_resume.proofs.Terms.{◌≡◌, ◌≢◌, ℕ, zero, suc, ◌≤◌, List, refl, sym, ap, ◌∙◌, ⊎_elim, arith, cases_lt, taken_of, Clause, IsFirstUnsound, IsSound, HasShape, Switch, IsInRange, State, Taken}
+use Rattle.cq_resume.proofs.Terms.{◌≡◌, ◌≢◌, ℕ, zero, suc, ◌≤◌, List, refl, sym, ap, ◌∙◌, ⊎_elim, arith, cases_lt, taken_of, Clause, IsFirstUnsound, IsSound, HasShape, Switch, IsInRange, State, Taken, StateRefusal}
 use Rattle.cq_resume.specs.Reading.{HasOtherShape, IsRead, IsReadExact, IsRefusal}
-use Rattle.cq_resume.specs.declared.refusal.StateRefusal.{StateRefusal}
 use Rattle.cq_resume.specs.declared.refusal.StateRefusal.TheVariants as refusal
 use Rattle.cq_state.proofs.{OneReading.state_is_exact, OneText.have_one_text}
 use Rattle.cq_state.specs.State.{state_lines, state_text}

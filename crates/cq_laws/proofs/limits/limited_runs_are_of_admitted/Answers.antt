@@ -1,5 +1,4 @@
-use Rattle.cq_laws.proofs.Terms.{arith, rules, whole_packets}
-use Rattle.cq_prefs.specs.Pairing.{IsInputBest, IsStable}
+use Rattle.cq_laws.proofs.Terms.{arith, rules, whole_packets, IsInputBest, IsStable}
 use Rattle.cq_laws.proofs.LimitedWhole.{fabric_judged, run_through, stop_through}
 use Rattle.cq_laws.proofs.Recorded.{recorded}
 use Rattle.cq_laws.proofs.limits.limited_runs_are_of_admitted.Goals as goal

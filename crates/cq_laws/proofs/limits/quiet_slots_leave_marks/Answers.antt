@@ -1,5 +1,4 @@
-use Rattle.cq_laws.proofs.Terms.{arith, rules, no_arrivals_refuse_none}
-use Rattle.cq_prefs.specs.Pairing.{IsInputBest}
+use Rattle.cq_laws.proofs.Terms.{arith, rules, no_arrivals_refuse_none, IsInputBest}
 use Rattle.cq_laws.proofs.NothingRefused.{none_come, run_with, slot_with}
 use Rattle.cq_laws.proofs.QuietSlots.{quiet, quiet_run}
 use Rattle.cq_laws.proofs.limits.quiet_slots_leave_marks.Goals as goal

@@ -1,5 +1,4 @@
-use Rattle.cq_resume.proofs.Terms.{arith, rules, get_or-replicate, length-replicate}
-use Rattle.std.proofs.Common.{ext_get_or}
+use Rattle.cq_resume.proofs.Terms.{arith, rules, get_or-replicate, length-replicate, ext_get_or}
 use Rattle.cq_resume.proofs.order.forget.Goals as goal
 
 pub returns : goal.returns
