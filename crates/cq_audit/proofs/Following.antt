@@ -93,10 +93,8 @@ module _ (limits : List (Option ℕ)) (ms : List Machine) where
       transfers_of_run (slots_in rs) ≡ transfers_of_run (slots_in ss) → (rs ≡ ss) × (g ≡ h)
   unfolding transfers_of_run
   one_stable_run slot [] f g h [] [] x y moved = (refl, x ∙ sym y)
-  one_stable_run slot [] f g h [] (s ∷ ss) x y moved = absurd y
   one_stable_run slot [] f g h (r ∷ rs) ss x y moved = absurd x
   one_stable_run slot (cells ∷ traffic) f g h [] ss x y moved = absurd x
-  one_stable_run slot (cells ∷ traffic) f g h (r ∷ rs) [] x y moved = absurd y
   one_stable_run slot (cells ∷ traffic) f g h (r ∷ rs) (s ∷ ss) x y moved =
       let here = slot_at IsStable ms slot r.admission.cells f.state x.0.state r.of_slot x.1.runs in
       let there = slot_at IsStable ms slot s.admission.cells f.state y.0.state s.of_slot y.1.runs in
@@ -106,3 +104,4 @@ module _ (limits : List (Option ℕ)) (ms : List Machine) where
       let one = one_limited_slot slot cells f x.0 y.0 r s x.1 y.1 parts.0 in
       let rest = one_stable_run (slot + 1) traffic x.0 g h rs ss x.2 (rw (← one.1) at y.2) parts.1 in
       grind (arith, common_steps)
+  one_stable_run slot traffic f g h rs ss x y moved = absurd y

@@ -1,7 +1,7 @@
 -- Admission, input by input. The mark of an input after a slot says what became of its arrival, and without a first
 -- cell it is the mark of before. So what is admitted arrives; and where no mark is up and no output has a limit all
 -- is admitted, as where nothing arrives.
-use Rattle.cq_ideal.proofs.Terms.{rules, arith, ◌≡◌, ℕ, zero, suc, Bool, false, List, [], ◌∷◌, length, replicate, Option, Some, None, refl, ap, common_steps, Cell, arrival_at, no_arrivals, NoLimits, RefusesNone, mark_after, held_after, marks_after, admitted, refused, Admission, admission, mark_at, unless, marks_down, AreForPorts, most_ports}
+use Rattle.cq_ideal.proofs.Terms.{rules, arith, ◌≡◌, ℕ, suc, Bool, false, List, [], ◌∷◌, length, replicate, Option, Some, None, refl, ap, common_steps, Cell, arrival_at, no_arrivals, NoLimits, RefusesNone, mark_after, held_after, marks_after, admitted, refused, Admission, admission, mark_at, unless, marks_down, AreForPorts, most_ports}
 
 -- ## What is admitted
 
@@ -26,10 +26,9 @@ admitted_for_ports ports classes marks cells are = grind (arith, common_steps, a
 -- each input keeps one mark
 pub marks_kept : (limits : List (Option ℕ)) (held : List ℕ) (marks : List Bool) (cells : List (Option Cell)) →
     length (marks_after limits held marks cells) ≡ length marks
-marks_kept limits held [] cells = refl
-marks_kept limits held (mark ∷ marks) [] = refl
 marks_kept limits held (mark ∷ marks) (cell ∷ cells) =
     ap suc (marks_kept limits (held_after (mark_after limits held mark cell) held cell) marks cells)
+marks_kept limits held marks cells = refl
 
 -- an admission is what its marks say
 pub its_marks : (limits : List (Option ℕ)) (marks : List Bool) (cells : List (Option Cell)) (a : Admission)
@@ -44,10 +43,9 @@ its_marks limits marks cells a by = let is = by.1 in grind (arith, common_steps)
 all_admitted : (limits : List (Option ℕ)) (held : List ℕ) (ports : ℕ) (cells : List (Option Cell)) → NoLimits limits →
     (marks_after limits held (marks_down ports) cells ≡ marks_down ports)
     × (admitted (marks_down ports) cells ≡ cells) × (refused (marks_down ports) cells ≡ [])
-all_admitted limits held zero cells none = (refl, refl, refl)
-all_admitted limits held (suc ports) [] none = (refl, refl, refl)
 all_admitted limits held (suc ports) (cell ∷ cells) none =
     grind (arith, common_steps, all_admitted limits (held_after false held cell) ports cells none)
+all_admitted limits held ports cells none = (refl, refl, refl)
 
 pub no_limits_refuse_none : (limits : List (Option ℕ)) (ports : ℕ) (cells : List (Option Cell)) → NoLimits limits →
     RefusesNone limits (marks_down ports) cells
@@ -60,9 +58,8 @@ no_limits_refuse_none limits ports cells none held =
 all_rest : (limits : List (Option ℕ)) (held : List ℕ) (marks : List Bool) (n : ℕ) →
     (marks_after limits held marks (replicate n None) ≡ marks)
     × (admitted marks (replicate n None) ≡ replicate n None) × (refused marks (replicate n None) ≡ [])
-all_rest limits held [] n = (refl, refl, refl)
-all_rest limits held (mark ∷ marks) zero = (refl, refl, refl)
 all_rest limits held (mark ∷ marks) (suc n) = grind (arith, common_steps, all_rest limits held marks n)
+all_rest limits held marks n = (refl, refl, refl)
 
 pub no_arrivals_refuse_none : (limits : List (Option ℕ)) (marks : List Bool) → RefusesNone limits marks no_arrivals
 unfolding admission

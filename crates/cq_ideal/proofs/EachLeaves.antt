@@ -64,11 +64,10 @@ keep_output i next (a ∷ line) at pairs are = (
 refused_all : (P : Cell → Type 0) (marks : List Bool) (cells : List (Option Cell)) →
     ((i : ℕ) (cell : Cell) → i < length cells → mark_at marks i ≡ true → arrival_at cells i ≡ Some cell → P cell) →
     AllByRecursion P (refused marks cells)
-refused_all P [] cells each = tt
-refused_all P (mark ∷ marks) [] each = tt
 refused_all P (mark ∷ marks) (o ∷ cells) each =
     let rest = refused_all P marks cells (λ i cell inside up at. each (suc i) cell (omega arith) up at) in
     let here = λ (cell : Cell). each zero cell (omega arith) in grind (arith, common_steps)
+refused_all P marks cells each = tt
 
 module _ (limits : List (Option ℕ)) (j : ℕ) (none : slice_index_or limits j None ≡ None) where
   -- it is for another output
@@ -79,11 +78,10 @@ module _ (limits : List (Option ℕ)) (j : ℕ) (none : slice_index_or limits j 
   first_elsewhere : (held : List ℕ) (marks : List Bool) (cells : List (Option Cell)) (i : ℕ) (cell : Cell) →
       arrival_at cells i ≡ Some cell → is_first cell ≡ true → mark_at (marks_after limits held marks cells) i ≡ true →
       Elsewhere cell
-  first_elsewhere held [] cells i cell at first up = absurd (let P : ⊥ = cc in P)
-  first_elsewhere held (mark ∷ marks) [] i cell at first up = absurd (let P : ⊥ = cc in P)
   first_elsewhere held (mark ∷ marks) (x ∷ cells) zero cell at first up = search (arith, rules, cond-true)
   first_elsewhere held (mark ∷ marks) (x ∷ cells) (suc i) cell at first up =
       first_elsewhere (held_after (mark_after limits held mark x) held x) marks cells i cell at first up
+  first_elsewhere held marks cells i cell at first up = absurd (let P : ⊥ = cc in P)
 
   -- an input after a slot in which its mark is up: what came is for another output, and so is the rest of its packet
   one_slot : (x : Option Cell) (mark up : Bool) (rest : List Cell) → (GoesOn x → up ≡ mark) →

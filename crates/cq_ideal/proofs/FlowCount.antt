@@ -77,12 +77,11 @@ none_after came t le = ap length (none_from came t most_ports refl le)
 quiet_from : (came : List Arrival) (e a n : ℕ) → end_of came ≤ a + e →
     come_count (drop e (map (arriving came) (range_with_len a n))) ≡ 0
 unfolding come_count
-quiet_from came zero a zero le = refl
-quiet_from came (suc e) a zero le = refl
 quiet_from came zero a (suc n) le =
     let rest = quiet_from came zero (a + 1) n (omega arith) in
     let here = none_after came a (omega arith) in omega arith
 quiet_from came (suc e) a (suc n) le = quiet_from came e (a + 1) n (omega arith)
+quiet_from came e a n le = refl
 
 pub quiet_at_end : (came : List Arrival) → come_count (drop (end_of came) (traffic_of came)) ≡ 0
 unfolding traffic_of

@@ -14,11 +14,10 @@ GoesOn (Some cell) = is_first cell ≡ false
 
 pub mark_stays : (limits : List (Option ℕ)) (held : List ℕ) (marks : List Bool) (cells : List (Option Cell)) (i : ℕ) →
     GoesOn (arrival_at cells i) → mark_at (marks_after limits held marks cells) i ≡ mark_at marks i
-mark_stays limits held [] cells i on = refl
-mark_stays limits held (mark ∷ marks) [] i on = refl
 mark_stays limits held (mark ∷ marks) (cell ∷ cells) zero on = search (arith, rules, cond-false)
 mark_stays limits held (mark ∷ marks) (cell ∷ cells) (suc i) on =
     mark_stays limits (held_after (mark_after limits held mark cell) held cell) marks cells i on
+mark_stays limits held marks cells i on = refl
 
 -- ## The cells of one input
 
@@ -97,8 +96,6 @@ module _ (limits : List (Option ℕ)) (i : ℕ) where
       (refused_here traffic admissions)
   taken_or_refused next marks [] [] judged are =
       record { is_taken = λ _. not (mark_at marks i); before = λ packet e. refl; are = refl; others = refl }
-  taken_or_refused next marks [] (a ∷ admissions) judged are = absurd judged
-  taken_or_refused next marks (cells ∷ traffic) [] judged are = absurd judged
   taken_or_refused next marks (cells ∷ traffic) (a ∷ admissions) judged are =
       let by = its_marks limits marks cells a judged.0 in
       rw (ap (λ (l : List (Option Cell)). arrival_at l i) by.1 ∙ admitted_at a.marks cells i) (step next
@@ -106,6 +103,7 @@ module _ (limits : List (Option ℕ)) (i : ℕ) where
       (cells_at i (admitted_in admissions)) (refused_here traffic admissions)
       (mark_is judged.0.0 marks cells a judged.0.1) are
       (λ n rest. taken_or_refused n a.marks traffic admissions judged.1 rest))
+  taken_or_refused next marks traffic admissions judged are = absurd judged
 
   pub whole_packets : (marks : List Bool) (traffic : List (List (Option Cell))) (admissions : List Admission) →
       AreJudged limits marks traffic admissions → AreOfPackets 0 (cells_at i traffic) →

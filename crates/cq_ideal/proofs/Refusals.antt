@@ -52,9 +52,8 @@ cells_cons j cell cells = grind (arith, common_steps)
 
 pub each_once : (j : ℕ) (marks : List Bool) (cells : List (Option Cell)) →
     count_for j cells ≡ count_for j (admitted marks cells) + cells_refused j (refused marks cells)
-each_once j [] cells = let none = of_none j in omega arith
-each_once j (mark ∷ marks) [] = let none = of_none j in omega arith
 each_once j (mark ∷ marks) (cell ∷ cells) = grind (arith, common_steps, cells_cons, each_once j marks cells)
+each_once j marks cells = let none = of_none j in omega arith
 
 pub counts_once : EachCountsOnce
 unfolding admission

@@ -1,7 +1,7 @@
 -- How far a slack falls. An arriving cell goes in at its cushion or ahead of it; no other cell of the list goes back
 -- by more than a place, and no buffer changes. A departure takes one cell from a buffer, so it lowers each cushion by
 -- one at most, and no input thread changes.
-use Rattle.cq_laws.proofs.Terms.{rules, ◌≡◌, ℕ, zero, suc, ◌⊎◌, List, [], ◌∷◌, Option, Some, None, refl, sym, ap, ◌∙◌, inr, arith, drop, slice_get, Cell, Queued, Machine, Fabric, input, cushion_of, came_to, list_arrived, Arrives, Departs, cushion, rests, list_of, ArrivesWithSlack, Falls, EachFalls, EachArrivesOrFalls}
+use Rattle.cq_laws.proofs.Terms.{rules, ◌≡◌, ℕ, suc, ◌⊎◌, List, ◌∷◌, Option, Some, None, refl, sym, ap, ◌∙◌, inr, arith, drop, slice_get, Cell, Queued, Machine, Fabric, input, cushion_of, came_to, list_arrived, Arrives, Departs, cushion, rests, list_of, ArrivesWithSlack, Falls, EachFalls, EachArrivesOrFalls}
 use Rattle.cq_laws.proofs.Members.{inserted_at}
 use Rattle.cq_laws.proofs.Cushions.{cushion_tail}
 
@@ -20,9 +20,8 @@ module _ (ms : List Machine) (slot : ℕ) (cells : List (Option Cell)) (came : L
   arrivals_fall i t c at = fall i t c (came_to came i) refl (ap (λ xs. slice_get xs t) (sym (arrive.lists i)) ∙ at)
 
 pub rest_of : (lists : List (List Queued)) (j : ℕ) → list_of (rests lists) j ≡ drop 1 (list_of lists j)
-rest_of [] j = refl
-rest_of (xs ∷ lists) zero = refl
 rest_of (xs ∷ lists) (suc j) = rest_of lists j
+rest_of lists j = refl
 
 pub departures_fall : (ms : List Machine) (gone : List (Option Queued)) (old new : Fabric) → Departs ms gone old new →
     EachFalls 1 old new

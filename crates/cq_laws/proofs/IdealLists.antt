@@ -20,12 +20,11 @@ put_all_keeps j (Some q ∷ came) xs c h =
 
 pub put_all_new : (j : ℕ) (came : List (Option Queued)) (xs : List Queued) (c : Queued) (k : ℕ) →
     came_to came k ≡ Some c → c.cell.output ≡ j → IsAmong c (put_all j came xs)
-put_all_new j [] xs c k e out = cc
-put_all_new j (None ∷ came) xs c zero e out = cc
 put_all_new j (None ∷ came) xs c (suc k) e out = put_all_new j came xs c k e out
 put_all_new j (Some q ∷ came) xs c zero e out =
     grind (arith, common_steps, same_Some, put_all_keeps, cond_both, put_new, true≢false, eq-eqb)
 put_all_new j (Some q ∷ came) xs c (suc k) e out = put_all_new j came (cond (is_for j q) (put q xs) xs) c k e out
+put_all_new j came xs c k e out = cc
 
 -- no key came that the list has
 abbrev NewTo : List (Option Queued) → List Queued → Type 0

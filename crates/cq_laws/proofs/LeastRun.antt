@@ -1,5 +1,5 @@
 -- The least slack of a whole run, slot by slot.
-use Rattle.cq_laws.proofs.Terms.{rules, ◌≡◌, ℕ, zero, suc, ◌+◌, ◌<◌, List, [], ◌∷◌, length, Option, Some, None, refl, arith, ap, ◌∙◌, common_steps, min, fold, slice_get, option_and_then, filter_map, replicate, AllByRecursion, reduce, cons_option, length-replicate, Cell, Figures, Machine, AreForPorts, IdealState, IsStable, Fabric, empty_fabric, SlotRecord, FabricRun, Agrees, least_slack, HasMoreSlack, InputFigures, empty_ideal, either_by, figures_of, figures_after, no_figures, slack_on_arrival}
+use Rattle.cq_laws.proofs.Terms.{rules, ◌≡◌, ℕ, suc, ◌+◌, ◌<◌, List, [], ◌∷◌, length, Option, Some, None, refl, arith, ap, ◌∙◌, common_steps, min, fold, slice_get, option_and_then, filter_map, replicate, AllByRecursion, reduce, cons_option, length-replicate, Cell, Figures, Machine, AreForPorts, IdealState, IsStable, Fabric, empty_fabric, SlotRecord, FabricRun, Agrees, least_slack, HasMoreSlack, InputFigures, empty_ideal, either_by, figures_of, figures_after, no_figures, slack_on_arrival}
 use Rattle.cq_laws.proofs.AddingUp.{reduce-append, min_assoc, figures_fold}
 use Rattle.cq_laws.proofs.OneSlot.{same_slot}
 use Rattle.cq_laws.proofs.WholeRuns.{empty_agree, no_place, traffic_for_empty}
@@ -30,9 +30,8 @@ module _ (ms : List Machine) (class_count : ℕ) where
 no_least : (n i : ℕ) →
     option_and_then (λ (y : InputFigures). y.slack) (slice_get
     (replicate n (record { cells = 0; longest = 0; slack = None })) i) ≡ None
-no_least zero i = refl
-no_least (suc n) zero = refl
 no_least (suc n) (suc i) = no_least n i
+no_least n i = refl
 
 pub more_at_first : (ports : ℕ) (ranks : List (List ℕ)) → HasMoreSlack (no_figures ports) (empty_fabric ports ranks)
 more_at_first ports ranks = grind (arith, common_steps, length-replicate, no_place)

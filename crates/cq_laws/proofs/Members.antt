@@ -98,13 +98,12 @@ pub record Inserted (n : Queued) (p : ℕ) (xs : List Queued) (t : ℕ) (c : Que
 
 pub inserted_at : (xs : List Queued) (p t : ℕ) (n c : Queued) → slice_get (insert xs p n) t ≡ Some c →
     Inserted n p xs t c
-inserted_at xs zero zero n c h = record { was = inl (omega arith, cc) }
 inserted_at xs zero (suc t) n c h = record { was = inr (t, h, omega arith) }
-inserted_at [] (suc p) zero n c h = record { was = inl (omega arith, cc) }
 inserted_at [] (suc p) (suc t) n c h = cc
 inserted_at (x ∷ xs) (suc p) zero n c h = record { was = inr (zero, h, omega arith) }
 inserted_at (x ∷ xs) (suc p) (suc t) n c h = ⊎_elim (λ k. record { was = inl (omega arith, k.1) })
     (λ k. record { was = inr (suc k.0, k.1, omega arith) }) (inserted_at xs p t n c h).was
+inserted_at xs p t n c h = record { was = inl (omega arith, cc) }
 
 pub insert_new : (xs : List Queued) (p : ℕ) (n : Queued) → IsAmong n (insert xs p n)
 insert_new xs zero n = inl refl

@@ -60,10 +60,9 @@ module _ (w : Switch) where
       RunBy Step slot traffic f rs g → length f.state.buffers ≡ length f.state.inputs →
       length g.state.buffers ≡ length g.state.inputs
   run_square slot [] f g [] x square = search (arith, rules)
-  run_square slot [] f g (r ∷ rs) x square = absurd x
-  run_square slot (cells ∷ traffic) f g [] x square = absurd x
   run_square slot (cells ∷ traffic) f g (r ∷ rs) x square =
       grind (arith, common_steps, slot_square, run_square (slot + 1) traffic x.0 g rs)
+  run_square slot traffic f g rs x square = absurd x
 
   one : IsOneRun Step Fault
   one = only_limited_run w.machines w.limits
@@ -98,14 +97,13 @@ module _ (w : Switch) where
   unfolding arriving_from
   stops_past slot zero count at f middle [] rs fault there x y =
       let here : at ≡ slot = omega arith in (count, rs, rw (here, x) y)
-  stops_past slot zero count at f middle (p ∷ ps) rs fault there x y = absurd x
   stops_past slot (suc n) zero at f middle ps rs fault there x y = absurd y
-  stops_past slot (suc n) (suc count) at f middle [] rs fault there x y = absurd x
   stops_past slot (suc n) (suc count) at f middle (p ∷ ps) [] fault there x y =
       absurd (search (arith, rules))
   stops_past slot (suc n) (suc count) at f middle (p ∷ ps) (r ∷ rs) fault there x y =
       let same = one.slot slot (arriving w.came slot) f x.0 y.0 p r x.1 y.1 in
       stops_past (slot + 1) n count at x.0 middle ps rs fault (omega arith) x.2 (rw (← same.1) at y.2)
+  stops_past slot n count at f middle ps rs fault there x y = absurd x
 
   -- of two runs to their ends neither is shorter
   no_longer : (next : ℕ) (start g h : Marked Fabric) (rs ss : List LimitedRecord) → RunsOn w next start rs g →
@@ -236,8 +234,6 @@ module _ (w : Switch) where
   unfolding arriving_from
   ends zero next start over [] run late empty =
       record { records = []; end = start; runs = over_at next start (omega arith) (rw run at empty) }
-  ends zero next start over (r ∷ rs) run late empty = absurd run
-  ends (suc n) next start over [] run late empty = absurd run
   ends (suc n) next start over (r ∷ rs) run late empty =
       let rest = ends n (next + 1) run.0 over rs run.2 (omega arith) empty in
       ⊎_elim (λ now. record { records = []; end = start; runs = over_at next start now.0 now.1 })
@@ -246,6 +242,7 @@ module _ (w : Switch) where
         end = rest.end;
         runs = slot_ahead next start run.0 rest.end r rest.records run.1 rest.runs more;
       }) (over_or_not next start.state)
+  ends n next start over rs run late empty = absurd run
 
   -- ## A run that was stopped
 

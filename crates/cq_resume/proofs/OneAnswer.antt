@@ -9,14 +9,13 @@ use Rattle.cq_state.specs.State.{state_lines, state_text}
 use Rattle.cq_state.specs.StateText.{IsStateFault}
 
 each_clause : (w : Switch) (s : State) → IsSound w s → (k : ℕ) → Clause w s k
-each_clause w s sound zero = tt
 each_clause w s sound (suc zero) = sound.arrivals
 each_clause w s sound (suc (suc zero)) = sound.order
 each_clause w s sound (suc (suc (suc zero))) = sound.slack
 each_clause w s sound (suc (suc (suc (suc zero)))) = sound.packets
 each_clause w s sound (suc (suc (suc (suc (suc zero))))) = sound.flows
 each_clause w s sound (suc (suc (suc (suc (suc (suc zero)))))) = sound.floors
-each_clause w s sound (suc (suc (suc (suc (suc (suc (suc k))))))) = tt
+each_clause w s sound k = tt
 
 no_later : (w : Switch) (s : State) (j k : ℕ) → IsFirstUnsound w s j → IsFirstUnsound w s k → j ≤ k
 no_later w s j k a b = ⊎_elim (λ lt. absurd (b.fails (a.before k lt))) (λ le. le) (cases_lt k j)

@@ -19,9 +19,8 @@ module _ {A B : Type 0} (R : A → B → Type 0) where
       ((x : A) (y : B) (xs : List A) (ys : List B) → R x y → AllZip R xs ys → P xs ys → P (x ∷ xs) (y ∷ ys)) →
       (xs : List A) (ys : List B) → AllZip R xs ys → P xs ys
   zip_by P none more [] [] zips = none
-  zip_by P none more [] (y ∷ ys) zips = absurd zips
-  zip_by P none more (x ∷ xs) [] zips = absurd zips
   zip_by P none more (x ∷ xs) (y ∷ ys) zips = more x y xs ys zips.0 zips.1 (zip_by P none more xs ys zips.1)
+  zip_by P none more xs ys zips = absurd zips
 
   -- each of the one list has its own in the other
   pub zip_has : (xs : List A) (ys : List B) → AllZip R xs ys → (y : B) → Has ys y → (x : A) × Has xs x × R x y
@@ -291,8 +290,7 @@ module _ (came : List Arrival) (s : State) where
     λ are. is.1 (all_weaker (λ x. Missed x → ⊥) (λ x. Found x → ⊥) (λ x none found. none (give x found)) xs (all are)),
   )
   missed Found Missed xs give all refusal.NoMemory is = tt
-  missed Found Missed xs give all refusal.Shape is = absurd is
-  missed Found Missed xs give all (refusal.Text line) is = absurd is
+  missed Found Missed xs give all f is = absurd is
 
   -- the cells that were looked up, and all their names
   pub record AreLookedUp (listed buffered : List Queued) (sent : List Gone) (names : List Name) : Type 0 where

@@ -1,7 +1,7 @@
 -- What is known of a switch that tables configure, with what arrives at it: its ports and classes, its machines, that
 -- keep the laws of machines and begin in a state of their size, and its arrivals, of which there are not many. They
 -- come packet after packet at each input.
-use Rattle.cq_stopped.proofs.Terms.{common_steps, rules, ◌≡◌, ℕ, zero, suc, ◌+◌, ◌-◌, ◌*◌, ◌<◌, ◌≤◌, ◌^◌, min, List, [], ◌∷◌, length, map, flat_map, arith, length-append, fold, replicate, slice_index_or, AllByRecursion, range_with_len, length-map, Scheduled, IsRecorded, IsTraffic, KeepsLaws, Machine, machine_at, all_both, ArePackets, IsScheduleOf, Switch, switch_of, AreTables, IsSetup, Tables, machine_of, machines_of, opening_of, openings_of, AreRecorded, of_images, FitsLine, ClassRow, Kind, FirstCome, Priority, Fair, Setup, few_by, Captured, schedule_known, small_cells, keeps_laws, kind, machine_is, right_classes, right_size, level_count, longest_file, most_classes, most_ports}
+use Rattle.cq_stopped.proofs.Terms.{common_steps, rules, ◌≡◌, ℕ, zero, suc, ◌+◌, ◌-◌, ◌*◌, ◌<◌, ◌≤◌, ◌^◌, min, List, [], ◌∷◌, length, map, flat_map, arith, length-append, fold, replicate, slice_index_or, AllByRecursion, range_with_len, length-map, Scheduled, IsRecorded, IsTraffic, KeepsLaws, Machine, machine_at, all_both, ArePackets, IsScheduleOf, Switch, switch_of, AreTables, IsSetup, Tables, machine_of, machines_of, opening_of, openings_of, AreRecorded, of_images, FitsLine, ClassRow, Kind, FirstCome, Fair, Setup, few_by, Captured, schedule_known, small_cells, keeps_laws, kind, machine_is, right_classes, right_size, level_count, longest_file, most_classes, most_ports}
 use Rattle.cq_cells.specs.Schedule.{arrivals, arrivals_at, t0_of, packets_of}
 
 -- all numbers of a rank state fit 128 bits
@@ -40,9 +40,8 @@ zeros_low zero = tt
 zeros_low (suc n) = (omega arith, zeros_low n)
 
 machine_low : (kind : Kind) (rows : List ClassRow) → KeepsLow (machine_of kind rows)
-machine_low FirstCome rows = search rules
-machine_low Priority rows = search rules
 machine_low Fair rows = grind (arith, common_steps, zeros_low)
+machine_low kind rows = search rules
 
 openings_all : (kinds : List Kind) (rows : List ClassRow) →
     AllByRecursion AreLow (map (λ (k : Kind). opening_of k rows) kinds)

@@ -19,10 +19,9 @@ mark_moves : (limits : List (Option ℕ)) (held : List ℕ) (marks : List Bool) 
     (h : List ℕ) × (mark_at (marks_after limits held marks cells) i ≡ mark_after limits h (mark_at marks i) (arrival_at
     cells i))
 mark_moves limits held [] cells i inside = absurd (omega arith)
-mark_moves limits held (mark ∷ marks) [] i inside = (held, refl)
-mark_moves limits held (mark ∷ marks) (cell ∷ cells) zero inside = (held, refl)
 mark_moves limits held (mark ∷ marks) (cell ∷ cells) (suc i) inside =
     mark_moves limits (held_after (mark_after limits held mark cell) held cell) marks cells i (omega arith)
+mark_moves limits held marks cells i inside = (held, refl)
 
 -- ## The arrivals at an input from a slot on
 
@@ -201,11 +200,10 @@ cells_flat f (i ∷ is) = grind (arith, common_steps, map-append, cells_in, cell
 refused_low : (a : ℕ) (marks : List Bool) (cells : List (Option Cell)) (n : ℕ) → StandAt a cells →
     a + length marks ≤ n →
     AllByRecursion (λ (c : Cell). c.id.input < n) (refused marks cells)
-refused_low a [] cells n at le = tt
-refused_low a (mark ∷ marks) [] n at le = tt
 refused_low a (mark ∷ marks) (None ∷ cells) n at le = grind (arith, common_steps, refused_low (a + 1) marks cells n at)
 refused_low a (mark ∷ marks) (Some cell ∷ cells) n at le =
     grind (arith, common_steps, refused_low (a + 1) marks cells n at.1)
+refused_low a marks cells n at le = tt
 
 module _ (w : Switch) where
   -- each input keeps its mark, and what is refused is of an input that has one

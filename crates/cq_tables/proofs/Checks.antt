@@ -1,5 +1,5 @@
 -- Checks in order: where one holds, the next ones decide, and where one does not, it is the first.
-use Rattle.cq_tables.proofs.Terms.{rules, arith, ◌≡◌, ℕ, List, [], ◌∷◌, ◌++◌, Some, None, Result, Ok, Err, IfErr, IfOk, refl, ◌∙◌, common_steps, TableRefusal, Data, Members, Place, Element, element_check, Key, table_checks, members, table_type, Check, Refuses, first, otherwise}
+use Rattle.cq_tables.proofs.Terms.{rules, arith, ◌≡◌, ℕ, List, [], ◌∷◌, ◌++◌, None, Result, Ok, Err, IfErr, IfOk, refl, ◌∙◌, common_steps, TableRefusal, Data, Members, Place, Element, element_check, Key, table_checks, members, table_type, Check, Refuses, first, otherwise}
 use Rattle.cq_tables.specs.declared.refusal.TableRefusal.TheVariants as refusal
 use Rattle.cq_tables.specs.declared.place.Array.{Array}
 
@@ -27,9 +27,8 @@ first_all c cs e h = first_on c cs e ∙ h
 
 pub first-append : (cs ds : List Check) → first (cs ++ ds) ≡ otherwise (first cs) (first ds)
 unfolding first
-first-append [] ds = refl
 first-append (None ∷ cs) ds = first-append cs ds
-first-append (Some f ∷ cs) ds = refl
+first-append cs ds = refl
 
 -- ---- of an answer: a check that does not hold is the first, where those before it hold
 
