@@ -55,16 +55,8 @@ module _ (slot : ℕ) where
     -- and so are later ones
     pub phase_now : (xs ys : List Transfer) → AllByRecursion (λ t. slot + 1 ≤ t.slot) ys →
         in_phase slot phase (xs ++ ys) ≡ in_phase slot phase xs
-    phase_now xs ys all = grind (
-      arith,
-      common_steps,
-      filter-append,
-      filter_none,
-      all_weaker,
-      and_left,
-      ne_eqb,
-      append-nil,
-    )
+    phase_now xs ys all =
+        grind (arith, common_steps, filter-append, filter_none, all_weaker, and_left, ne_eqb, append-nil)
 
     -- the lines of the phase are before each later slot
     pub phase_before : (to : ℕ) (note : List Transfer) → slot < to →
@@ -98,8 +90,7 @@ module _ (ports : ℕ) where
   pub none_from : (slot : ℕ) (lines : List Transfer) → AreInOrder ports lines →
       AllByRecursion (λ t. slot ≤ t.slot) lines → NoneBefore slot 1 lines
   none_from slot [] order all = tt
-  none_from slot (t ∷ lines) order all =
-      grind (arith, common_steps, cases_lt, none_from slot lines order.2 all.1)
+  none_from slot (t ∷ lines) order all = grind (arith, common_steps, cases_lt, none_from slot lines order.2 all.1)
 
   pub none_first : (lines : List Transfer) → AreInOrder ports lines → NoneBefore 0 1 lines
   none_first [] order = tt

@@ -77,8 +77,7 @@ module _ (limits : List (Option ℕ)) (ms : List Machine) where
   run_within slot [] f g [] x = tt
   run_within slot (cells ∷ traffic) f g (r ∷ rs) x =
       let here = slot_at IsStable ms slot r.admission.cells f.state x.0.state r.of_slot x.1.runs in
-      let rest = run_within (slot + 1) traffic x.0 g rs x.2 in
-      search (arith, rules, all_both, all_weaker)
+      let rest = run_within (slot + 1) traffic x.0 g rs x.2 in search (arith, rules, all_both, all_weaker)
   run_within slot _ f g _ x = absurd x
 
   pub run_later : (slot : ℕ) (traffic : List (List (Option Cell))) (f g : Marked Fabric) (rs : List LimitedRecord) →
@@ -87,9 +86,8 @@ module _ (limits : List (Option ℕ)) (ms : List Machine) where
   run_later slot traffic f g rs run = search (arith, rules, all_weaker, run_within)
 
   pub one_stable_run : (slot : ℕ) (traffic : List (List (Option Cell))) (f g h : Marked Fabric)
-      (rs ss : List LimitedRecord) →
-      LimitedFabricRun IsStable limits ms slot traffic f rs g → LimitedFabricRun IsStable limits ms slot traffic f ss
-      h →
+      (rs ss : List LimitedRecord) → LimitedFabricRun IsStable limits ms slot traffic f rs g →
+      LimitedFabricRun IsStable limits ms slot traffic f ss h →
       transfers_of_run (slots_in rs) ≡ transfers_of_run (slots_in ss) → (rs ≡ ss) × (g ≡ h)
   unfolding transfers_of_run
   one_stable_run slot [] f g h [] [] x y moved = (refl, x ∙ sym y)

@@ -92,8 +92,7 @@ module _ (ports : ℕ) where
 
   -- the lines of a slot, first those of its first phase
   slot_written : (r : SlotRecord) → ports ≤ most_ports → r.slot < 2 ^ 64 → AllListed ports r.arrived →
-      AllListed ports r.sent →
-      AreWritten ports (transfers_in r)
+      AllListed ports r.sent → AreWritten ports (transfers_in r)
   unfolding transfers_in
   slot_written r few small arrived sent =
       let one = matching_written r.slot 1 few small (omega arith) (omega arith) r.first r.arrived.inputs arrived in
@@ -112,8 +111,7 @@ module _ (ports : ℕ) where
       let put = all_insert (λ q. Tellable ports i q.cell) (input old i) in
       let from = came_from ms slot 0 cells old.ranks _ arrive.ranked i in
       let had = all i in
-      let may = come i in
-      grind arith
+      let may = come i in grind arith
 
   after_transfers : (m : Partners) (old new : Fabric) → Transfers m old new → AllListed ports old → AllListed ports new
   after_transfers m old new transfers all i = grind (arith, common_steps, all_left)
@@ -185,9 +183,8 @@ module _ (ports classes : ℕ) (came : List Arrival) (traffic : IsTraffic ports 
       (rs : List LimitedRecord) → ports ≤ most_ports → length rs ≤ 2 ^ 64 → ((i : ℕ) → input start.state i ≡ []) →
       LimitedFabricRun IsStable limits ms 0 (arriving_from came 0 n) start rs end →
       AreWritten ports (transfers_of_run (slots_in rs))
-  written_in_run limits ms n start end rs few long empty run =
-      run_written limits ms ports few 0 (arriving_from came 0 n) start end rs (omega arith) (slots_tellable 0 n)
-      (λ i. rw (empty i) tt) run
+  written_in_run limits ms n start end rs few long empty run = run_written limits ms ports few 0
+      (arriving_from came 0 n) start end rs (omega arith) (slots_tellable 0 n) (λ i. rw (empty i) tt) run
 
   -- and where it is whole they are those of a log
   pub stable_log : (limits : List (Option ℕ)) (ms : List Machine) (start end : Marked Fabric)
@@ -199,5 +196,4 @@ module _ (ports classes : ℕ) (came : List Arrival) (traffic : IsTraffic ports 
       let run =
       run_of_whole (LimitedFabricSlot IsStable limits ms) came start rs (λ f. IsEmptyFabric f.state) end whole in
       let written = written_in_run limits ms (length rs) start end rs few long empty run in
-      let led = leads_written ports None _ written tt in
-      search (arith, rules)
+      let led = leads_written ports None _ written tt in search (arith, rules)

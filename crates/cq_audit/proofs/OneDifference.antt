@@ -60,6 +60,4 @@ feeds_more (x ∷ xs) c = grind (arith, common_steps, feeds_more xs c)
 pub one_same_more : (a b left right x y : List ℕ) (c line next bit : ℕ) → SameSoFar a b left right line →
     left ≡ c ∷ x → right ≡ c ∷ y → feeds (c ∷ []) ≡ bit → bit ≤ 1 → next ≡ line + bit → SameSoFar a b x y next
 one_same_more a b left right x y c line next bit had e f is small told =
-    let more = feeds_more had.front c in
-    let size = ap length e in
-    search (arith, rules, append_assoc)
+    let more = feeds_more had.front c in let size = ap length e in search (arith, rules, append_assoc)

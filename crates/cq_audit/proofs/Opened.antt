@@ -23,12 +23,11 @@ module _ {M : List ℕ → Machine} {setup : Setup} {limits : List (Option ℕ)}
   pub ready : (lines : List Transfer) (note : RoomView Transfer) (ports : ℕ) → ports ≡ length setup.kinds →
       IsInStep (map M first.fixed) 0 first → class_count (machines_of setup) ≡ length setup.classes →
       IsTraffic (length setup.kinds) (length setup.classes) came → IsShort came →
-      IsOk (whole_limited_run limits (machines_of setup) came
-      (empty_limited (length setup.kinds) (openings_of setup))) →
-      first.from_inputs ≡ map (λ i. number_of (is_from i) came) (range_with_len 0 ports) →
-      first.to_outputs ≡ map (λ j. number_of (is_to j) came) (range_with_len 0 ports) →
-      AreInOrder ports lines → note.items ≡ [] → note.spare ≡ 2 * ports →
-      IsReady (map M first.fixed) came lines first note
+      IsOk
+      (whole_limited_run limits (machines_of setup) came (empty_limited (length setup.kinds) (openings_of setup)))
+      → first.from_inputs ≡ map (λ i. number_of (is_from i) came) (range_with_len 0 ports) →
+      first.to_outputs ≡ map (λ j. number_of (is_to j) came) (range_with_len 0 ports) → AreInOrder ports lines →
+      note.items ≡ [] → note.spare ≡ 2 * ports → IsReady (map M first.fixed) came lines first note
   ready lines note ports many step classes traffic short ranked from_inputs to_outputs order none spare =
       search (arith, rules, get_or-map-range_with_len)
 

@@ -99,8 +99,7 @@ module _ {M : List ℕ → Machine} {slot : ℕ} {cells : List (Option Cell)} {l
   room : BuffersHaveRoom (length ms) q0 comes
   room = search (arith, rules, admitted_room, buffers_room)
 
-  admits : by_marks judged.marks cells
-      ≡ fabric_admission l.limits cells (marked l.marks (fabric_of q0 ranks0.states))
+  admits : by_marks judged.marks cells ≡ fabric_admission l.limits cells (marked l.marks (fabric_of q0 ranks0.states))
   admits = search (arith, rules, admits_are, holds)
 
   first_long : length q1.inputs ≡ length ranks0.fixed
@@ -157,8 +156,7 @@ module _ {M : List ℕ → Machine} {slot : ℕ} {cells : List (Option Cell)} {l
       half : IsHalfPast ms slot (in_phase slot 1 lines) (fabric_of q1 ranks1.states) (fabric_of q3 ranks2.states)
       half =
           let filled = slot_fills ranked arrived room moved1 have_sent in
-          let gone = slot_departs ranked arrived room moved1 have_sent in
-          search (arith, rules)
+          let gone = slot_departs ranked arrived room moved1 have_sent in search (arith, rules)
 
       pub second_fault : (f : SlotFault) → (f.phase ≡ 2) × IsPhaseFault q3.inputs (in_phase slot 2 behind) f.fault →
           IsSlotFault (map M v.fixed) slot cells lines v f

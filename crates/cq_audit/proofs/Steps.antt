@@ -246,8 +246,7 @@ module _ {M : List ℕ → Machine} {came : List Arrival} {lines : List Transfer
         let here = rw (are, b.made.limits, b.made.fixed) at is in
         let first_lines = same_lines 1 in
         let second_lines = same_lines 2 in
-        let far = reached in
-        grind (arith, common_steps)
+        let far = reached in grind (arith, common_steps)
 
     -- ## What a slot asks for
 
@@ -278,13 +277,11 @@ module _ {M : List ℕ → Machine} {came : List Arrival} {lines : List Transfer
     whole = grind (arith, common_steps, one_each, take_all, reached, cases_lt)
 
     pub at_end : (result : Result (Unit {0}) AuditRefusal) → OnOk result (rest ≡ []) →
-        IfErr result (λ refusal.
-        (refusal ≡ Left (length lines - length rest + 1)) × (0 < length rest)) →
+        IfErr result (λ refusal. (refusal ≡ Left (length lines - length rest + 1)) × (0 < length rest)) →
         RunEnds (map M first.fixed) came lines first result
     at_end result none some =
         let told = told_before in
         let long = one_each in
         let all = whole in
         let size = length-append (moved b.records) rest in
-        let right = append-nil (moved b.records) in
-        grind (arith, common_steps)
+        let right = append-nil (moved b.records) in grind (arith, common_steps)

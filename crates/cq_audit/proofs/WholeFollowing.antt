@@ -22,8 +22,7 @@ moved_parts (x ∷ xs) ys = grind (arith, common_steps, append_assoc, moved_part
 module _ (limits : List (Option ℕ)) (ms : List Machine) (came : List Arrival) where
   -- the transfers of a run of so many slots are of these slots
   pub all_before : (n : ℕ) (f g : Marked Fabric) (rs : List LimitedRecord) →
-      LimitedFabricRun IsStable limits ms 0 (first_slots came n) f rs g →
-      AllByRecursion (λ t. t.slot < n) (moved rs)
+      LimitedFabricRun IsStable limits ms 0 (first_slots came n) f rs g → AllByRecursion (λ t. t.slot < n) (moved rs)
   all_before n f g rs run = grind (arith, common_steps, arriving_length, all_weaker, run_within)
 
   module _ (start : Marked Fabric) where
@@ -70,8 +69,7 @@ module _ (limits : List (Option ℕ)) (ms : List Machine) (came : List Arrival) 
           let earlier = all_before m start r.state (take m rs) r.after in
           let later = run_later limits ms m (arriving_from came m (n - m)) r.state end (drop m rs) r.rest in
           let first = before_is m (moved (take m rs)) (moved (drop m rs)) earlier later in
-          let same = before_later m n note le in
-          search (arith, rules)
+          let same = before_later m n note le in search (arith, rules)
 
       pub reaches : (m n : ℕ) (rs : List LimitedRecord) (end : Marked Fabric) (h : Halfway m n rs end) →
           Going m rs → Reaches limits ms came start note m h.state
@@ -163,8 +161,7 @@ module _ (limits : List (Option ℕ)) (ms : List Machine) (came : List Arrival) 
           let now : (phase : ℕ) → in_phase slot phase (transfers_in r.of_slot) ≡ in_phase slot phase note =
           grind (arith, common_steps, phase_now, run_later, same) in
           let first = now 1 in
-          let second = now 2 in
-          search (arith, rules, each_moved r.of_slot)
+          let second = now 2 in search (arith, rules, each_moved r.of_slot)
 
       passed : (slot n : ℕ) (rs : List LimitedRecord) (end : Marked Fabric) → slot < n → Runs n rs end →
           moved rs ≡ before_slot n note → Going slot rs → IsSettled slot 2
@@ -210,10 +207,9 @@ module _ (limits : List (Option ℕ)) (ms : List Machine) (came : List Arrival) 
           let n = length w.records in
           let run = whole_run w.records w.end w.runs in
           let at = reached_at slot phase fault f in
-          ⊎_elim (λ (within : slot < n). none_passed slot phase fault (passed slot n w.records w.end within run w.told
-          (whole_going slot w.records w.end within w.runs)) f)
-          (λ (behind : n ≤ slot).
-          let h = halfway n slot at.1.records at.0 behind at.1.runs at.1.moved in
+          ⊎_elim (λ (within : slot < n). none_passed slot phase fault (passed slot n w.records w.end within run
+          w.told (whole_going slot w.records w.end within w.runs)) f)
+          (λ (behind : n ≤ slot). let h = halfway n slot at.1.records at.0 behind at.1.runs at.1.moved in
           search (arith, rules, one_stable_run)) (cases_lt slot n)
 
       -- no line is left of those that it moves all

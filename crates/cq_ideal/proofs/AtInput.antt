@@ -19,9 +19,8 @@ from_first (a ∷ line) = grind (arith, common_steps, from_first line)
 all_shown : (i : ℕ) (came : List Arrival) → IsShown came i → RiseByInput came →
     cells_at i (traffic_of came) ≡ came_at i came
 unfolding enough
-all_shown i came shown rise =
-    ap (cells_at i) (sym (all_slots came)) ∙ comes_shown i came shown 0 (enough came) rise (omega arith)
-    ∙ ap cells_of (from_first (line_at i came))
+all_shown i came shown rise = ap (cells_at i) (sym (all_slots came))
+    ∙ comes_shown i came shown 0 (enough came) rise (omega arith) ∙ ap cells_of (from_first (line_at i came))
 
 pub come_in_order : (i : ℕ) → i < most_ports → (came : List Arrival) → RiseByInput came →
     cells_at i (traffic_of came) ≡ came_at i came
@@ -75,9 +74,7 @@ module _ (i c j : ℕ) where
       nobody (a ∷ came) all = grind (arith, common_steps, and_right, ne_eqb, cond-false, nobody came all.1)
 
   pub came_in_order : (came : List Arrival) → AllByRecursion (λ a. a.cell.id.input < most_ports) came →
-      RiseByInput came →
-      flow_came i c j (traffic_of came) ≡ came_in_flow i c j came
+      RiseByInput came → flow_came i c j (traffic_of came) ≡ came_in_flow i c j came
   came_in_order came inputs rise = comes_at_input (traffic_of came) (all_stand came)
       ∙ ap (of_flow i c j) (⊎_elim (λ inside. come_in_order i inside came rise)
-      (λ past. all_shown i came (shown_past came inputs past) rise) (cases_lt i most_ports))
-      ∙ of_line came
+      (λ past. all_shown i came (shown_past came inputs past) rise) (cases_lt i most_ports)) ∙ of_line came

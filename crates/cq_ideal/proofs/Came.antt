@@ -70,8 +70,7 @@ module _ (ms : List Machine) (slot : ℕ) (cells : List (Option Cell)) (ranks : 
 
   arrived_filled : AllArrivedBefore (slot + 1) (filled r.came lists)
   arrived_filled j = ⊎_elim (λ (inside : j < length lists).
-      rw (filled_at r.came lists j inside)
-      (all_put_all (λ x. x.key.slot < slot + 1) j r.came (list_at lists j)
+      rw (filled_at r.came lists j inside) (all_put_all (λ x. x.key.slot < slot + 1) j r.came (list_at lists j)
       (λ k q at. let is = (came_from ms slot 0 cells ranks r ok k q at).slot_is in omega arith)
       (arrived_later slot (slot + 1) lists (omega arith) arrived j)))
       (λ (past : length lists ≤ j). let long = length-filled r.came lists in
@@ -220,8 +219,7 @@ if_some q P f = grind (arith, common_steps)
 
 -- the cells from an input on
 pub from_input : (cells : List (Option Cell)) (input : ℕ) (o : Option Cell) → length cells ≡ most_ports →
-    input < most_ports →
-    o ≡ arrival_at cells input → drop input cells ≡ o ∷ drop (input + 1) cells
+    input < most_ports → o ≡ arrival_at cells input → drop input cells ≡ o ∷ drop (input + 1) cells
 from_input cells input o places inside is = grind (arith, common_steps, drop_more, unwrap_or-slice_get)
 
 -- What was put in so far, and then the cells of the inputs from this one on, is all that is put in; and there is room

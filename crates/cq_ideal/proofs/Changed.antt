@@ -137,8 +137,7 @@ one_made rooms n items more q made is inside empty room one =
 pub empty_within : (items : List QueueView) (n : ℕ) → map cells_in items ≡ replicate n [] →
     All (λ q. q.room < 2 ^ 64) items → All IsWithin items
 empty_within items n e few k d inside =
-    let none = [] in
-    grind (arith, common_steps, length-map items cells_in, get_or-map cells_in items k d none inside)
+    let none = [] in grind (arith, common_steps, length-map items cells_in, get_or-map cells_in items k d none inside)
 
 -- each list is within its room, which is a number of 64 bits
 pub within_rooms : (items : List QueueView) (v : QueuesView) → All IsWithin items →

@@ -68,12 +68,8 @@ module _ (cell : Cell) (first : List Refused) (place : ℕ) (now : List Refused)
   pub untouched_next : (d : Refused) → (get_or now place d).output ≢ cell.output →
       now ≡ changed_to (with_refused (cell ∷ []) first) first (place + 1)
   untouched_next d other =
-      let same : get_or now place d ≡ with_cells (cell ∷ []) (get_or now place d) = search (
-        arith,
-        rules,
-        other_output,
-        ne_eqb,
-      ) in
+      let same : get_or now place d
+      ≡ with_cells (cell ∷ []) (get_or now place d) = search (arith, rules, other_output, ne_eqb) in
       sym (set-get_or now place d) ∙ tallied_next d (get_or now place d) same
 
 -- ## Cells one after another
@@ -82,8 +78,7 @@ pub all_counted_both : (before now : List Cell) (counts : List Refused) →
     with_refused (before ++ now) counts ≡ with_refused now (with_refused before counts)
 unfolding cells_refused packets_refused
 all_counted_both before now [] = refl
-all_counted_both before now (r ∷ counts) =
-    search (arith, rules, count_both, all_counted_both before now counts)
+all_counted_both before now (r ∷ counts) = search (arith, rules, count_both, all_counted_both before now counts)
 
 pub none_counted : (counts : List Refused) → with_refused [] counts ≡ counts
 unfolding cells_refused packets_refused
@@ -198,8 +193,7 @@ pub record Judged (cells : List (Option Cell)) (first now : LimiterView) : Type 
 module _ {cells : List (Option Cell)} {first : LimiterView} {input : ℕ} {now : LimiterView}
     (so_far : Judging cells first input now) where
   pub judged_next : (after : LimiterView) (cell : Option Cell) (up : Bool) → input < length first.marks →
-      drop input cells ≡ cell ∷ drop (input + 1) cells →
-      ((c : Cell) → cell ≡ Some c → c.output < length first.held) →
+      drop input cells ≡ cell ∷ drop (input + 1) cells → ((c : Cell) → cell ≡ Some c → c.output < length first.held) →
       up ≡ mark_after now.limits now.held (get_or now.marks input false) cell → after.marks ≡ set now.marks input up →
       after.held ≡ held_after up now.held cell → after.limits ≡ now.limits → after.refused ≡ now.refused →
       Judging cells first (input + 1) after

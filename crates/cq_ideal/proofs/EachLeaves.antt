@@ -93,9 +93,8 @@ module _ (limits : List (Option ℕ)) (j : ℕ) (none : slice_index_or limits j 
   keep_later : (x : Option Cell) (rest : List Cell) → KeepOutput (cons_option x rest) → KeepOutput rest
   keep_later cell rest keep = grind (arith, common_steps)
 
-  all_elsewhere : (inputs : ℕ) (marks : List Bool) (traffic : List (List (Option Cell)))
-      (admissions : List Admission) → AreJudged limits marks traffic admissions →
-      AllByRecursion (λ cells. length cells ≡ inputs) traffic →
+  all_elsewhere : (inputs : ℕ) (marks : List Bool) (traffic : List (List (Option Cell))) (admissions : List Admission)
+      → AreJudged limits marks traffic admissions → AllByRecursion (λ cells. length cells ≡ inputs) traffic →
       ((i : ℕ) → i < inputs → KeepOutput (cells_at i traffic)) →
       ((i : ℕ) → i < inputs → mark_at marks i ≡ true → UpToNext Elsewhere (cells_at i traffic)) →
       AllByRecursion Elsewhere (refused_in admissions)
@@ -105,11 +104,10 @@ module _ (limits : List (Option ℕ)) (j : ℕ) (none : slice_index_or limits j 
   all_elsewhere inputs marks (cells ∷ traffic) (a ∷ admissions) judged long keep clear =
       let held = judged.0.0 in
       let by = its_marks limits marks cells a judged.0 in
-      let slot = λ (i : ℕ) (inside : i < inputs) (up : mark_at a.marks i ≡ true). one_slot (arrival_at cells i)
-      (mark_at marks i) (mark_at a.marks i) (cells_at i traffic) (mark_is limits i held marks cells a judged.0.1)
-      (search (arith, rules, first_elsewhere))
-      (clear i inside)
-      (keep i inside) up in
+      let slot = λ (i : ℕ) (inside : i < inputs) (up : mark_at a.marks i ≡ true).
+      one_slot (arrival_at cells i) (mark_at marks i) (mark_at a.marks i) (cells_at i traffic)
+      (mark_is limits i held marks cells a judged.0.1) (search (arith, rules, first_elsewhere))
+      (clear i inside) (keep i inside) up in
       let here = refused_all Elsewhere a.marks cells (λ i cell inside up at. (slot i (omega arith) up).0 cell at) in
       let rest = all_elsewhere inputs a.marks traffic admissions judged.1 long.1 (search (arith, rules, keep_later))
       (λ i inside up. (slot i inside up).1) in
@@ -136,8 +134,7 @@ refuses_none_elsewhere limits ms ports openings came ran j runs keep packets is 
     let same_output = λ (a b : Arrival). a.cell.id.input ≡ b.cell.id.input → a.cell.id.packet ≡ b.cell.id.packet →
     a.cell.output ≡ b.cell.output in
     let all = all_elsewhere limits j none most_ports (marks_down ports) (traffic_of came) same.all.admissions
-    each_judged
-    (all_long came most_ports refl) (λ i inside. subst KeepOutput (sym (come_in_order i inside came runs.rise))
-    (keep_output i 0 (line_at i came) (filter_passes _ came) (AllPairs-filter same_output _ came keep)
-    (packets i inside))) (search (arith, rules, same_at)) in
+    each_judged (all_long came most_ports refl) (λ i inside. subst KeepOutput
+    (sym (come_in_order i inside came runs.rise)) (keep_output i 0 (line_at i came) (filter_passes _ came)
+    (AllPairs-filter same_output _ came keep) (packets i inside))) (search (arith, rules, same_at)) in
     ap (cells_refused j) (sym same.refused) ∙ none_counted limits j none (refused_in same.all.admissions) all

@@ -88,8 +88,7 @@ none_after_end came t h = none_arrive came t most_ports refl (omega arith)
 
 pub limited_empty_at_end : (limits : List (Option ℕ)) (ms : List Machine) (ports : ℕ) (ranks : List (List ℕ))
     (came : List Arrival) →
-    IfOk (limited_run limits ms 0 (traffic_of came) (empty_limited ports ranks))
-    (λ ran. IsEmptyIdeal ran.after.state)
+    IfOk (limited_run limits ms 0 (traffic_of came) (empty_limited ports ranks)) (λ ran. IsEmptyIdeal ran.after.state)
 limited_empty_at_end limits ms ports ranks came =
     let start = empty_limited ports ranks in
     if_ok (λ ran. IsEmptyIdeal ran.after.state) _ (λ ran is.

@@ -55,8 +55,7 @@ module _ (limits : List (Option ℕ)) (ms : List Machine) (slot : ℕ) (traffic 
   module _ (i next : ℕ) (packets : AreOfPackets next (cells_at i traffic)) where
     -- what is admitted of what comes to the input
     pub whole_on : TakenOrRefused next (mark_at old.marks i) (cells_at i traffic)
-        (cells_at i (admitted_in ran.admissions))
-        (refused_here limits i traffic ran.admissions)
+        (cells_at i (admitted_in ran.admissions)) (refused_here limits i traffic ran.admissions)
     whole_on = taken_or_refused limits i next old.marks traffic ran.admissions each_judged packets
 
     pub admitted_of_flow : (c j : ℕ) → flow_came i c j (admitted_in ran.admissions)
@@ -102,10 +101,9 @@ in_packets limits ms ports openings came ran runs is i packets =
         left = λ c j. left_as_came ms ports openings came runs i c j (admitted_in ran.admissions)
             (record { gone = ran.gone; after = ran.after.state }) (is_run_of limits ms 0 traffic start ran is)
             (of_classes limits ms 0 traffic start ran is stand over j (classes ms ports j came runs.for_switch)) over
-            (takes (came_in_flow i c j came)) (admitted_of_flow limits ms 0 traffic start ran is stand over i 0
-            packets c j
-            ∙ ap takes (all_came ms ports openings came runs i c j))
-            (λ past. ap takes (none_came ms ports i c j came runs.for_switch past));
+            (takes (came_in_flow i c j came)) (admitted_of_flow limits ms 0 traffic start ran is stand over i 0 packets
+            c j ∙ ap takes (all_came ms ports openings came runs i c j)) (λ past.
+            ap takes (none_came ms ports i c j came runs.for_switch past));
       },
       refused_are i limits start.marks traffic ran.admissions (judged limits ms 0 traffic start ran is) stand
           ∙ whole.others,

@@ -40,5 +40,4 @@ module _ (p : Queued → Bool) (n : Queued) where
   pub filter-put : (xs : List Queued) → p n ≡ true → EachPair NoLater xs →
       AllByRecursion (λ x. p x ≡ true → NoLater x n) xs → filter p (put n xs) ≡ filter p xs ++ n ∷ []
   filter-put [] h e a = cond-true (p n) (n ∷ []) [] h
-  filter-put (x ∷ xs) h e a =
-      grind (arith, common_steps, filter_none, none_behind, filter-put xs h e.1 a.1)
+  filter-put (x ∷ xs) h e a = grind (arith, common_steps, filter_none, none_behind, filter-put xs h e.1 a.1)

@@ -35,8 +35,7 @@ module _ (ms : List Machine) (j slot : ℕ) (laws : KeepsLaws (machine_at ms j))
 
   served_from : (come : List Cell) (old : IdealState) (r : Ranking) → j < length old.lists → j < length old.ranks →
       Filled ms j slot laws i c come (slice_index_or old.lists j [])
-      (put_all j r.came (slice_index_or old.lists j [])) old.ranks r.ranks →
-      Served come old (sent_by ms old r)
+      (put_all j r.came (slice_index_or old.lists j [])) old.ranks r.ranks → Served come old (sent_by ms old r)
   served_from come old r in_lists in_ranks f =
       let many = length-filled r.came old.lists in
       let inside : j < length (filled r.came old.lists) = omega arith in

@@ -45,8 +45,7 @@ pub record Comes (ports : ℕ) (came : List Arrival) (slot : ℕ) : Type 0 where
 pub comes : (ms : List Machine) (ports : ℕ) (came : List Arrival) (slot : ℕ) →
     AllByRecursion (IsForSwitch ms ports) came → end_of came ≡ slot + 1 → Comes ports came slot
 comes ms ports [] slot all e = absurd (omega arith)
-comes ms ports (a ∷ came) slot all e =
-    ⊎_elim (λ (is : a.slot ≡ slot). search (arith, rules, found_here))
+comes ms ports (a ∷ came) slot all e = ⊎_elim (λ (is : a.slot ≡ slot). search (arith, rules, found_here))
     (search (arith, rules, cases_lt, other_slot, comes ms ports came slot all.1)) (cases_eq a.slot slot)
 
 counted_at : (cells : List (Option Cell)) (i : ℕ) (cell : Cell) → arrival_at cells i ≡ Some cell →

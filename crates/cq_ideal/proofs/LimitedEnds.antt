@@ -64,8 +64,7 @@ module _ (limits : List (Option ℕ)) (ms : List Machine) (ports : ℕ) (ranks :
   over_at_last lt =
       let is = last_is in
       let long = length-range_with_len 0 (enough came) in
-      let passes = passes_at_first over (range_with_len 0 (enough came)) 0 (omega arith) in
-      cc (range_at last lt)
+      let passes = passes_at_first over (range_with_len 0 (enough came)) 0 (omega arith) in cc (range_at last lt)
 
   pub run_all : run_to (enough came) ≡ limited_run limits ms 0 (traffic_of came) (empty_limited ports ranks)
   run_all = ap (λ l. limited_run limits ms 0 l (empty_limited ports ranks)) (all_slots came)
@@ -105,9 +104,8 @@ module _ (limits : List (Option ℕ)) (ms : List Machine) (ports : ℕ) (ranks :
   goes_on : (n k m : ℕ) → m ≡ n + k → run_to m ≡ limited_going_on limits ms n (arriving_from came n k) (run_to n)
   goes_on n k m e =
       let long = arriving_length came 0 n in
-      let parts =
-      limited_parts limits ms 0 n (first_slots came n) (arriving_from came n k) (empty_limited ports ranks)
-      (omega arith) in
+      let parts = limited_parts limits ms 0 n (first_slots came n) (arriving_from came n k)
+      (empty_limited ports ranks) (omega arith) in
       cc (arriving_parts came 0 n n k m (omega arith) e, parts)
 
   -- the first slots of a run that meets no fault, and the others
@@ -271,8 +269,7 @@ module _ (ms : List Machine) (ports : ℕ) (ranks : List (List ℕ)) (came : Lis
 
   pub ends : (ran : Ran) → whole_ideal_run ms came (empty_ideal ports ranks) ≡ Ok ran →
       IdealEnds ms came (empty_ideal ports ranks) (slots_of_run ms came (empty_ideal ports ranks)) ran.after
-  ends ran is =
-      subst (λ (n : ℕ). IdealEnds ms came (empty_ideal ports ranks) n ran.after)
+  ends ran is = subst (λ (n : ℕ). IdealEnds ms came (empty_ideal ports ranks) n ran.after)
       (slots_as_before [] ms ports ranks came no_limit) (search (arith, rules, plain_ends, limited_ends, whole_as))
 
   pub found_end : (n : ℕ) (end : IdealState) → IdealEnds ms came (empty_ideal ports ranks) n end →

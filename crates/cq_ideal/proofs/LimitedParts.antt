@@ -70,12 +70,11 @@ module _ (limits : List (Option ℕ)) (ms : List Machine) where
       let state = all_empty s.state ports (nothing_left s.state.lists none) refl in
       record {
         ran = nothing_came n ports (marked s.marks (empty_ideal ports idle.0));
-        is =
-            cc (
-              quiet_from came n slot le,
-              rest_refuses_none limits ms n slot ports s.marks s.state _ (ap (ideal_run
-                  ms slot (replicate n no_arrivals)) state ∙ idle.1),
-            );
+        is = cc (
+          quiet_from came n slot le,
+          rest_refuses_none limits ms n slot ports s.marks s.state _
+              (ap (ideal_run ms slot (replicate n no_arrivals)) state ∙ idle.1),
+        );
         none = none_departs ports n slot;
         refused = refuse_none s.marks n;
       }

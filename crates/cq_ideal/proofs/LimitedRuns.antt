@@ -130,8 +130,7 @@ none_in limits marks (suc slots) = (no_arrivals_refuse_none limits marks, none_i
 
 -- many slots in which nothing comes refuse nothing
 pub rest_refuses_none : (limits : List (Option ℕ)) (ms : List Machine) (slots slot ports : ℕ) (marks : List Bool)
-    (s after : IdealState) →
-    ideal_run ms slot (replicate slots no_arrivals) s ≡ Ok (nothing_sent slots ports after) →
+    (s after : IdealState) → ideal_run ms slot (replicate slots no_arrivals) s ≡ Ok (nothing_sent slots ports after) →
     limited_run limits ms slot (replicate slots no_arrivals) (marked marks s)
     ≡ Ok (nothing_came slots ports (marked marks after))
 rest_refuses_none limits ms slots slot ports marks s after ran =

@@ -58,12 +58,11 @@ step next mark false None came taken refused same are rest = grind (arith, commo
 step next mark up (Some cell) came taken refused same are rest =
     let r = rest (cell.id.packet + 1) are.1 in
     let f = r.is_taken in
-    let all : cons_option (unless up (Some cell)) taken ≡ filter (λ c. f c.id.packet) (cell ∷ came) =
-    search (arith, rules, kept) in
-    let none : cons_option (where_up up (Some cell)) refused ≡ filter (λ c. not (f c.id.packet)) (cell ∷ came) =
-    search (arith, rules, common_steps) in
-    ⊎_elim (λ on. search (arith, rules)) (λ new.
-    let g : ℕ → Bool = λ n. cond (nat_lt n next) (not mark) (f n) in
+    let all : cons_option (unless up (Some cell)) taken
+    ≡ filter (λ c. f c.id.packet) (cell ∷ came) = search (arith, rules, kept) in
+    let none : cons_option (where_up up (Some cell)) refused
+    ≡ filter (λ c. not (f c.id.packet)) (cell ∷ came) = search (arith, rules, common_steps) in
+    ⊎_elim (λ on. search (arith, rules)) (λ new. let g : ℕ → Bool = λ n. cond (nat_lt n next) (not mark) (f n) in
     let later = beyond (not mark) f next (cell.id.packet + 1) came (omega arith) are.1 in
     let alike : AllByRecursion (λ c. f c.id.packet ≡ g c.id.packet) (cell ∷ came) =
     (past (not mark) f next cell new.0, later) in

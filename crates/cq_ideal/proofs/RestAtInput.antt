@@ -57,8 +57,7 @@ is_shown i inside came t =
     ∙ get_or-map-range_with_len (arriving_at came t) 0 most_ports i i none inside (omega arith)
 
 pub comes_shown : (i : ℕ) (came : List Arrival) → IsShown came i → (from slots : ℕ) → RiseByInput came →
-    end_of came ≤ from + slots →
-    cells_at i (arriving_from came from slots) ≡ cells_of (rest_of from (line_at i came))
+    end_of came ≤ from + slots → cells_at i (arriving_from came from slots) ≡ cells_of (rest_of from (line_at i came))
 unfolding arriving_from found
 comes_shown i came shown from zero rise all =
     let before = all_weaker (λ a. a.slot < end_of came) (λ a. a.slot < from) (λ a l. omega arith) came in
@@ -68,6 +67,5 @@ comes_shown i came shown from (suc n) rise all =
     search (arith, rules, listed, cell_listed, comes_shown i came shown (from + 1) n rise)
 
 pub comes_from : (i : ℕ) → i < most_ports → (came : List Arrival) (from slots : ℕ) → RiseByInput came →
-    end_of came ≤ from + slots →
-    cells_at i (arriving_from came from slots) ≡ cells_of (rest_of from (line_at i came))
+    end_of came ≤ from + slots → cells_at i (arriving_from came from slots) ≡ cells_of (rest_of from (line_at i came))
 comes_from i inside came = comes_shown i came (is_shown i inside came)

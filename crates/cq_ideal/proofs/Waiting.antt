@@ -183,10 +183,8 @@ counted_sent ms slot cells old r same =
     let left = left_of cells old r same in
     search (arith, rules, length-map, left, filled_long r.came old.lists, count_to-cells, one_of_all lists)
 
-pub sends_ok : (P : Sent → Type 0) (ms : List Machine) (old : IdealState) (x : Result Ranking TagFault) (sent : Sent) →
-    ideal_sends ms old x ≡ Ok sent →
-    ((r : Ranking) → x ≡ Ok r →
-    P (sent_by ms old r)) → P sent
+pub sends_ok : (P : Sent → Type 0) (ms : List Machine) (old : IdealState) (x : Result Ranking TagFault) (sent : Sent)
+    → ideal_sends ms old x ≡ Ok sent → ((r : Ranking) → x ≡ Ok r → P (sent_by ms old r)) → P sent
 sends_ok P ms old fault sent h f = grind (arith, common_steps, only_ok)
 
 pub counted : (ms : List Machine) (slot : ℕ) (cells : List (Option Cell)) (old : IdealState) (sent : Sent) →

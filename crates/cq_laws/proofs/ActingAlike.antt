@@ -25,8 +25,7 @@ module _ (limits : List (Option ℕ)) (ms : List Machine) where
   best_act_alike = search (rules, stable_act_alike, stable_limited_slot, stable_limited_run, stable_limited_stop)
 
   runs_from_empty : (ports class_count : ℕ) (ranks : List (List ℕ)) (traffic : List (List (Option Cell)))
-      (rs : List LimitedRecord) (g : Marked Fabric) →
-      AllByRecursion (AreForPorts ports class_count) traffic →
+      (rs : List LimitedRecord) (g : Marked Fabric) → AllByRecursion (AreForPorts ports class_count) traffic →
       LimitedFabricRun IsInputBest limits ms 0 traffic (empty_limited_fabric ports ranks) rs g →
       LimitedRunsAlike limits ms 0 traffic (empty_limited ports ranks) rs g
   runs_from_empty ports class_count ranks traffic rs g come run =

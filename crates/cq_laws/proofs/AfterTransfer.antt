@@ -31,8 +31,7 @@ record Stayed (p : Option ℕ) (xs : List Queued) (t : ℕ) (c : Queued) : Type 
 stayed : (p : Option ℕ) (xs : List Queued) (t : ℕ) (c : Queued) → slice_get (list_taken p xs) t ≡ Some c →
     Stayed p xs t c
 stayed None xs t c h = record { place = t; at = h; no_sooner = omega arith; behind = λ k e. cc }
-stayed (Some l) xs t c h =
-    let st = left_at l xs t c h in search (arith, rules, same_Some)
+stayed (Some l) xs t c h = let st = left_at l xs t c h in search (arith, rules, same_Some)
 
 -- a partner that is preferred has its first cell ahead
 better_ahead : (order : List ℕ) (cells : List Queued) (p : Option ℕ) (j : ℕ) → IsOutputOrder cells order →

@@ -16,8 +16,7 @@ pub can_cross : (slot : ℕ) (f : Fabric) → Sound slot f → FirstsCanCross f
 can_cross slot f sound =
     record {
       differ = firsts_differ f sound.apart;
-      keys = λ i j c found.
-          let among = (from_first j (input f i) c found).0 in
+      keys = λ i j c found. let among = (from_first j (input f i) c found).0 in
           all_from_has _ (buffer f j) (λ d h same. sound.apart.between i j c d among h (sym same));
     }
 

@@ -12,8 +12,7 @@ length-waits j [] = refl
 length-waits j (cells ∷ lists) = grind (arith, common_steps, length-append, length-waits j lists)
 
 holds_as_many : (f : Fabric) (j : ℕ) → length (in_order (cells_for j f)) ≡ held_for j f
-holds_as_many f j =
-    length_in_order (cells_for j f) ∙ length-append (waits j f.inputs) (buffer f j)
+holds_as_many f j = length_in_order (cells_for j f) ∙ length-append (waits j f.inputs) (buffer f j)
     ∙ ap (λ n. n + length (buffer f j)) (length-waits j f.inputs)
 
 hold_so : (f : Fabric) (js : List ℕ) → map length (map (λ j. in_order (cells_for j f)) js) ≡ map (λ j. held_for j f) js

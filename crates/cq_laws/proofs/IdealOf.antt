@@ -31,10 +31,9 @@ module _ (j : ℕ) where
   waits_at : (lists : List (List Queued)) (c : Queued) → IsAmong c (waits lists) →
       (i : ℕ) × IsAmong c (list_of lists i) × (c.cell.output ≡ j)
   waits_at [] c h = absurd h
-  waits_at (cells ∷ lists) c h =
-      ⊎_elim (λ l. let r = kept_has (is_for j) cells c l in (zero, r.0, eqb-true c.cell.output j r.1))
-      (λ k. let r = waits_at lists c k in (suc r.0, r.1, r.2))
-      (has_cases (filter (is_for j) cells) (waits lists) c h)
+  waits_at (cells ∷ lists) c h = ⊎_elim
+      (λ l. let r = kept_has (is_for j) cells c l in (zero, r.0, eqb-true c.cell.output j r.1))
+      (λ k. let r = waits_at lists c k in (suc r.0, r.1, r.2)) (has_cases (filter (is_for j) cells) (waits lists) c h)
 
   at_waits : (lists : List (List Queued)) (i : ℕ) (c : Queued) → IsAmong c (list_of lists i) → c.cell.output ≡ j →
       IsAmong c (waits lists)

@@ -18,8 +18,7 @@ first_at p (x ∷ xs) c h = search (arith, rules, first_here, first_later, first
 
 pub from_first : (j : ℕ) (xs : List Queued) (f : Queued) → first_for j xs ≡ Some f →
     IsAmong f xs × (f.cell.output ≡ j)
-from_first j xs f is =
-    let first = first_at (is_for j) xs f is in (search (arith, rules, has_there, eqb-true))
+from_first j xs f is = let first = first_at (is_for j) xs f is in (search (arith, rules, has_there, eqb-true))
 
 -- where one passes, there is a first
 pub first_of : (p : Queued → Bool) (xs : List Queued) (c : Queued) → IsAmong c xs → p c ≡ true →

@@ -26,8 +26,7 @@ pub record Sound (slot : ℕ) (f : Fabric) : Type 0 where
 pub apart_from : (f : Fabric) → NoKeyTwice f → Apart f
 apart_from f differ =
     record {
-      waiting = λ i k c d a b e.
-          let p = stands_at (input f i) c a in
+      waiting = λ i k c d a b e. let p = stands_at (input f i) c a in
           let q = stands_at (input f k) d b in
           let same = differ (Waiting i p.0) (Waiting k q.0) c d p.1 q.1 e in (cc, cc);
       between = λ i j c d a b e.

@@ -40,8 +40,7 @@ module _ (slot phase i : ℕ) (cells : List Queued) where
   same_partner p q has_p has_q e = grind (arith, common_steps, noted_some)
 
 pub transfers_tell : (lists : List (List Queued)) (m n : Partners) (slot phase : ℕ) → IsStable (orders_of lists) m →
-    IsStable (orders_of lists) n →
-    transfers_of m lists slot phase ≡ transfers_of n lists slot phase → m ≡ n
+    IsStable (orders_of lists) n → transfers_of m lists slot phase ≡ transfers_of n lists slot phase → m ≡ n
 unfolding transfers_of
 transfers_tell lists m n slot phase stable_m stable_n e =
     let size = stable_m.matching.size ∙ sym stable_n.matching.size in

@@ -23,8 +23,7 @@ module _ (r : Reader) (config state : List ℕ) where
 
     configured_left : tables_in config left ≡ Ok is.stops.tables
     configured_left =
-        let read = is.stops.read.configured in
-        search (arith, rules, is.configuration_stays, tables_same, same_under)
+        let read = is.stops.read.configured in search (arith, rules, is.configuration_stays, tables_same, same_under)
 
     captures_left : captures_in r is.stops.tables left ≡ Ok is.stops.captures
     captures_left =

@@ -65,11 +65,10 @@ names_few : (test : Arrival → Bool) (next : ℕ) (came : List Arrival) (p : Na
     ((c : Named) (a : Arrival) → p c ≡ true → arriving_cell came c ≡ Some a.cell → a.cell.id.input ≡ c.input →
     test a ≡ true) → length (filter p names) ≤ number_of test (came_before next came)
 names_few test next came p names pairs arrive passes =
-    no_more IsOfArrival (filter p names) (filter test (came_before next came))
-    (pairs_kept_with Differ (AreApart IsOfArrival) p (λ c d _ _ differ a first second. search (arith, rules, differ))
-    names pairs)
-    (all_from_has (Stands IsOfArrival (filter test (came_before next came))) (filter p names) (λ c has.
-    let kept = kept_has p names c has in
+    no_more IsOfArrival (filter p names) (filter test (came_before next came)) (pairs_kept_with Differ
+    (AreApart IsOfArrival) p (λ c d _ _ differ a first second. search (arith, rules, differ)) names pairs)
+    (all_from_has (Stands IsOfArrival (filter test (came_before next came))) (filter p names)
+    (λ c has. let kept = kept_has p names c has in
     let some = some_cell (arriving_cell came c) (arrive c kept.0).1 in
     search (arith, rules, arrive c, found_at came c.slot c.input some.0, lt-ltb, has_kept)))
 

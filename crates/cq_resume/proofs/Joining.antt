@@ -98,8 +98,7 @@ module _ (w : Switch) where
   stops_past slot zero count at f middle [] rs fault there x y =
       let here : at ≡ slot = omega arith in (count, rs, rw (here, x) y)
   stops_past slot (suc n) zero at f middle ps rs fault there x y = absurd y
-  stops_past slot (suc n) (suc count) at f middle (p ∷ ps) [] fault there x y =
-      absurd (search (arith, rules))
+  stops_past slot (suc n) (suc count) at f middle (p ∷ ps) [] fault there x y = absurd (search (arith, rules))
   stops_past slot (suc n) (suc count) at f middle (p ∷ ps) (r ∷ rs) fault there x y =
       let same = one.slot slot (arriving w.came slot) f x.0 y.0 p r x.1 y.1 in
       stops_past (slot + 1) n count at x.0 middle ps rs fault (omega arith) x.2 (rw (← same.1) at y.2)
@@ -296,8 +295,7 @@ module _ (w : Switch) where
       -- stopped behind its end
       module _ (behind : length rs < slots) where
         square : length end.state.buffers ≡ length end.state.inputs
-        square = run_square 0 (arriving_from w.came 0 (length rs)) start end rs
-            (whole_run 0 start end rs runs) refl
+        square = run_square 0 (arriving_from w.came 0 (length rs)) start end rs (whole_run 0 start end rs runs) refl
 
         abbrev ports : ℕ
         ports = length end.state.inputs

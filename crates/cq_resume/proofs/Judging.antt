@@ -184,8 +184,7 @@ module _ (w : Switch) (s : State) (f : Found) (found : IsFound w.came s f) where
   entry m has = ⊎_elim (search (arith, rules, zip_has, zips))
       (search (arith, rules, zip_has)) (told_cases m (has_moved f.names.items told m found.same has))
 
-  waits : (c : Named) → Has (queued_in s) c →
-      (m : Name) × Has f.names.items m × Told c m.queued × (m.sent ≡ None)
+  waits : (c : Named) → Has (queued_in s) c → (m : Name) × Has f.names.items m × Told c m.queued × (m.sent ≡ None)
   waits c has =
       let by = zip_mate Told (queued_in s) waiting zips c has in
       let among = rw (map-append waiting_name f.listed.items f.buffered.items) at
@@ -201,8 +200,7 @@ module _ (w : Switch) (s : State) (f : Found) (found : IsFound w.came s f) where
         sent_name by.0,
         has_moved told f.names.items (sent_name by.0) back here,
         by.2.1,
-        ap (λ (k : ℕ). Some k)
-            by.2.0,
+        ap (λ (k : ℕ). Some k) by.2.0,
       )
 
   module _ (c d : Named) (m n : Name) (first : Told c m.queued) (second : Told d n.queued) where
@@ -557,6 +555,5 @@ module _ (t : Tables) (c : Scheduled) (s : State) (f : Found) (k : Known t c s f
 
       pub is_sound : FlowsStand f.names.items × StandBelow t.setup s.ranks f → IsSound (switch_of t c) s
       is_sound leave =
-          let all = two_more (switch_of t c) s 5 packets_known _ _ (flows_is stand.0)
-          floors_is leave in
+          let all = two_more (switch_of t c) s 5 packets_known _ _ (flows_is stand.0) floors_is leave in
           search (arith, rules, all 2, all 3, all 4, all 5, all 6)

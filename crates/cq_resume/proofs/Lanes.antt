@@ -14,8 +14,7 @@ use Rattle.cq_resume.proofs.Cut.{none_kept}
 
 module _ {X : Type 0} (input : X → ℕ) (xs : List X) (n : ℕ) (d : X) (inside : n < length xs) where
   begins_test : begins_at (map input xs) n ≡ (ltb 0 n && ltb (input (get_or xs (n - 1) d)) (input (get_or xs n d)))
-  begins_test =
-      grind (arith, common_steps)
+  begins_test = grind (arith, common_steps)
 
   begins_says : begins_at (map input xs) n ≡ true → (0 < n) × (input (get_or xs (n - 1) d) < input (get_or xs n d))
   begins_says is = grind (arith, common_steps, and_parts, begins_test, ltb-true)
@@ -23,8 +22,7 @@ module _ {X : Type 0} (input : X → ℕ) (xs : List X) (n : ℕ) (d : X) (insid
   -- where none begins the one before it is of its input
   same_there : AllPairs (λ a b. input a ≤ input b) xs → begins_at (map input xs) n ≡ false →
       input (get_or xs (n - 1) d) ≡ input (get_or xs n d)
-  same_there rising is =
-      search (arith, rules, begins_test, and_from, lt-ltb, cases_eq, cases_lt)
+  same_there rising is = search (arith, rules, begins_test, and_from, lt-ltb, cases_eq, cases_lt)
 
   -- what was kept for the input of the one before it, or is begun with where another input begins, is for its input
   pub known_here : {Y : Type 0} (P : ℕ → Y → Type 0) (none last now : Y) (begun : Bool) →

@@ -21,8 +21,7 @@ no_later : (w : Switch) (s : State) (j k : ℕ) → IsFirstUnsound w s j → IsF
 no_later w s j k a b = ⊎_elim (λ lt. absurd (b.fails (a.before k lt))) (λ le. le) (cases_lt k j)
 
 one_first : (w : Switch) (s : State) (j k : ℕ) → IsFirstUnsound w s j → IsFirstUnsound w s k → j ≡ k
-one_first w s j k a b =
-    let le : j ≤ k = no_later w s j k a b in let ge : k ≤ j = no_later w s k j b a in omega arith
+one_first w s j k a b = let le : j ≤ k = no_later w s j k a b in let ge : k ≤ j = no_later w s k j b a in omega arith
 
 module _ (w : Switch) (text : List ℕ) where
   one_state : (s t : State) → IsInRange s → IsInRange t → state_text s ≡ text → state_text t ≡ text → s ≡ t
@@ -57,14 +56,12 @@ module _ (w : Switch) (text : List ℕ) where
   one_refusal (refusal.Text m) (refusal.Text n) some other r s =
       ap (λ (n : ℕ). refusal.Text n) (state_is_exact.one_fault text m n r s)
   one_refusal (refusal.Text m) refusal.Shape some other r s = absurd (no_fault s.state m s.in_range s.spelled r)
-  one_refusal (refusal.Text m) (refusal.Unsound k) some other r s =
-      absurd (no_fault s.state m s.in_range s.spelled r)
+  one_refusal (refusal.Text m) (refusal.Unsound k) some other r s = absurd (no_fault s.state m s.in_range s.spelled r)
   one_refusal refusal.Shape (refusal.Text n) some other r s = absurd (no_fault r.state n r.in_range r.spelled s)
   one_refusal refusal.Shape refusal.Shape some other r s = refl
   one_refusal refusal.Shape (refusal.Unsound k) some other r s =
       absurd (no_other s.state s.in_range s.spelled s.shape r)
-  one_refusal (refusal.Unsound j) (refusal.Text n) some other r s =
-      absurd (no_fault r.state n r.in_range r.spelled s)
+  one_refusal (refusal.Unsound j) (refusal.Text n) some other r s = absurd (no_fault r.state n r.in_range r.spelled s)
   one_refusal (refusal.Unsound j) refusal.Shape some other r s =
       absurd (no_other r.state r.in_range r.spelled r.shape s)
   one_refusal (refusal.Unsound j) (refusal.Unsound k) some other r s =
@@ -74,5 +71,4 @@ module _ (w : Switch) (text : List ℕ) where
   one_refusal r refusal.NoMemory some other _ _ = absurd (other refl)
 
 pub read_exact : (w : Switch) → IsReadExact w
-read_exact w =
-    record { one_state = one_read w; one_refusal = one_refusal w; never_refused = never_refused w }
+read_exact w = record { one_state = one_read w; one_refusal = one_refusal w; never_refused = never_refused w }

@@ -53,8 +53,7 @@ module _ (t : Tables) (captures : List (List Captured)) (input : ℕ) where
       let many : cells t captures input k ≡ suc (cells t captures input k - 1) = omega arith in
       rw many (
         begins k a packet slot,
-        one_packet k (cells t captures input k - 1) (packets_from (k + 1) m) many
-            (come_behind (k + 1) m),
+        one_packet k (cells t captures input k - 1) (packets_from (k + 1) m) many (come_behind (k + 1) m),
       )
 
   line_of : (m : ℕ) → IsLine (packets_from 0 m)

@@ -115,8 +115,7 @@ module _ (next : ℕ) where
   early_behind a (b ∷ line) behind = grind (arith, common_steps, none_behind, is_late, early_behind b line)
 
 -- the first cells before a slot are the first ones of the line
-firsts_are : (next i : ℕ) (came : List Arrival) →
-    firsts_before i next came ≡ filter is_first (coming i 0 next came)
+firsts_are : (next i : ℕ) (came : List Arrival) → firsts_before i next came ≡ filter is_first (coming i 0 next came)
 firsts_are next i [] = refl
 firsts_are next i (a ∷ came) = grind (arith, common_steps, le-leb, firsts_are next i came)
 
@@ -155,9 +154,8 @@ module _ (limits : List (Option ℕ)) (ports next : ℕ) (came : List Arrival) (
   -- where all inputs stand so do all packets
   pub packets_stand : ((i : ℕ) → i < ports → LineStands i) → PacketsStand limits next came names
   packets_stand stand =
-      all_from_has (λ (a : Arrival). a.cell.id.index ≡ 0 → a.slot < next → IsWholePacket limits next came names a) came
-      (λ a has begins early.
-      let in_packet-here = in_packet a in
+      all_from_has (λ (a : Arrival). a.cell.id.index ≡ 0 → a.slot < next → IsWholePacket limits next came names a)
+      came (λ a has begins early. let in_packet-here = in_packet a in
       let alike_there-here = alike_there a.cell.id.input in
       search (arith, rules, cases_Bool (has_name names a), all_of_has, to_line, all_from_has))
 
@@ -167,8 +165,7 @@ module _ (limits : List (Option ℕ)) (ports next : ℕ) (came : List Arrival) (
       (has_name names b ≡ has_name names f) × IsAllowed (has_name names) (has_limit limits) f
   as_first stand i f b first second begins packet =
       let one = in_line i f first in
-      let two = in_line i b second in
-      search (arith, rules, all_of_has, to_packet f f, to_packet f b)
+      let two = in_line i b second in search (arith, rules, all_of_has, to_packet f f, to_packet f b)
 
   -- ## Marks
 

@@ -105,8 +105,7 @@ module _ (w : Switch) (s : State) (in_range : IsInRange s) (shape : HasShape w s
 
   lists_again : map named_as (flat_map (λ l. l) (map (list_told w.came s) (range_with_len 0 s.head.ports))) ≡ s.listed
   lists_again = rw (end_on_end (λ q. q.key.input) (list_told w.came s) (filter_map cell_of s.listed) s.head.ports
-      (λ i. sifted i s.listed) inputs_rise inputs_low)
-      (waiting_again s.listed (search (rules, has_left)))
+      (λ i. sifted i s.listed) inputs_rise inputs_low) (waiting_again s.listed (search (rules, has_left)))
 
   outputs_rise : EachPair (λ q r. q.cell.output ≤ r.cell.output) (filter_map cell_of s.buffered)
   outputs_rise = pairs_looked_up cell_of (IsBufferedBefore w.came) (λ q r. q.cell.output ≤ r.cell.output)
@@ -140,5 +139,4 @@ text_again t c text x tables is read =
     let same = state_again (switch_of t c) read.state up.in_range up.shape up.sound
     (rw many (schedule_known t c tables is).traffic) in
     let told = up.told in
-    let spelled = read.spelled in
-    cc
+    let spelled = read.spelled in cc

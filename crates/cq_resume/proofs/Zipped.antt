@@ -60,13 +60,11 @@ module _ {A B : Type 0} (R : A → B → Type 0) where
   -- what holds of each item by its own
   pub each_left : (P : A → Type 0) → ((x : A) (y : B) → R x y → P x) → (xs : List A) (ys : List B) → AllZip R xs ys →
       AllByRecursion P xs
-  each_left P give xs ys zips =
-      all_from_has P xs (λ x has. let it = zip_mate xs ys zips x has in give x it.0 it.2)
+  each_left P give xs ys zips = all_from_has P xs (λ x has. let it = zip_mate xs ys zips x has in give x it.0 it.2)
 
   pub each_right : (Q : B → Type 0) → ((x : A) (y : B) → R x y → Q y) → (xs : List A) (ys : List B) → AllZip R xs ys →
       AllByRecursion Q ys
-  each_right Q give xs ys zips =
-      all_from_has Q ys (λ y has. let it = zip_has xs ys zips y has in give it.0 y it.2)
+  each_right Q give xs ys zips = all_from_has Q ys (λ y has. let it = zip_has xs ys zips y has in give it.0 y it.2)
 
   -- and of two of one side
   module _ (P : A → A → Type 0) (Q : B → B → Type 0)
@@ -122,8 +120,7 @@ zip_right R S g give = zip_by R (λ xs ys. AllZip S xs (map g ys)) tt (λ x y xs
 -- the names of a state and those that were found, in the order of the lines
 pub names_zip : (came : List Arrival) (s : State) (listed buffered : List Queued) (sent : List Gone) →
     AreFound came s.head.next s.listed listed → AreFound came s.head.next s.buffered buffered →
-    AreGone came s.head.next s.sent sent →
-    AllZip (IsOf came s.head.next) (named_in s) (names_of listed buffered sent)
+    AreGone came s.head.next s.sent sent → AllZip (IsOf came s.head.next) (named_in s) (names_of listed buffered sent)
 names_zip came s listed buffered sent first second third =
     grind (arith, common_steps, zip_right, told_facts, zip_both, s.listed, zip_images)
 
@@ -189,8 +186,7 @@ still_differ = search (arith, rules, IsDistinct-IsPermutation, eqb_flips)
 
 -- names that stand strictly in order differ
 pub rising_differ : (xs : List Name) → AllPairs IsNameBefore xs → IsDistinct same_name xs
-rising_differ xs rising =
-    IsDistinct-from_apart same_name xs (search (arith, rules, and_right, and_left, ne_eqb))
+rising_differ xs rising = IsDistinct-from_apart same_name xs (search (arith, rules, and_right, and_left, ne_eqb))
 
 -- ## Looked up
 
@@ -223,8 +219,7 @@ ahead_parts input slot names order i j d le inside holds =
 any_only : {X : Type 0} (p : X → Bool) (xs : List X) (n : ℕ) (e : X) → n < length xs →
     ((k : ℕ) (d : X) → k < length xs → k ≢ n → p (get_or xs k d) ≡ false) → list_any p xs ≡ p (get_or xs n e)
 any_only p xs n e inside none = ⊎_elim (λ is. list_any_at p xs n e inside is ∙ sym is)
-    (search (arith, rules, list_any_none, cases_eq, get_or_default))
-    (cases_Bool (p (get_or xs n e)))
+    (search (arith, rules, list_any_none, cases_eq, get_or_default)) (cases_Bool (p (get_or xs n e)))
 
 module _ (input slot : ℕ) (names : List Name) (order : AllPairs IsNameBefore names) (at : ℕ) (few : at ≤ length names)
     (point : IsPartitionPoint (λ n. is_ahead input slot n ≡ true) (λ n. is_ahead input slot n ≡ false) names at) where

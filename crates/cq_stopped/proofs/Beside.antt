@@ -135,8 +135,7 @@ module _ (w : Switch) where
         length moment.inputs ≡ length w.machines →
         Sound (slot + 1) moment → IsStable (orders_of moment.inputs) m → proposals (orders_of moment.inputs) m ≤ 4096
     phase_few moment m few many sound stable =
-        let most = proposals_few moment m stable.matching sound.fabric in
-        grind (arith, common_steps, square_few)
+        let most = proposals_few moment m stable.matching sound.fabric in grind (arith, common_steps, square_few)
 
     proposed_few : length w.machines ≤ most_ports → sum (proposals_in r.of_slot) ≤ 8192
     unfolding proposals_in

@@ -71,9 +71,8 @@ module _ (t : Tables) (captures : List (List Captured)) where
   lines_short a zero some each = omega arith
   lines_short a (suc n) some each = search (rules, few_by, flat_map, length-append, lines_short (a + 1) n some)
 
-  all_short : AreTables t → length captures ≤ most_ports → ((i : ℕ) → i < length captures →
-      IsRecorded (packets_of captures i)) →
-      length (arrivals t captures) ≤ 2 ^ 34
+  all_short : AreTables t → length captures ≤ most_ports →
+      ((i : ℕ) → i < length captures → IsRecorded (packets_of captures i)) → length (arrivals t captures) ≤ 2 ^ 34
   unfolding arrivals
   all_short tables few each = grind (arith, common_steps, lines_short)
 
@@ -92,8 +91,7 @@ stamps_low : (captures : List (List Captured)) →
 stamps_low [] each = tt
 stamps_low (ps ∷ captures) each =
     let first = (each zero (omega arith)).stamps in
-    let rest = stamps_low captures (λ i lt. each (suc i) (omega arith)) in
-    search (rules, all_both, of_images)
+    let rest = stamps_low captures (λ i lt. each (suc i) (omega arith)) in search (rules, all_both, of_images)
 
 first_low : (captures : List (List Captured)) → ((i : ℕ) → i < length captures → IsRecorded (packets_of captures i)) →
     t0_of captures < 2 ^ 63

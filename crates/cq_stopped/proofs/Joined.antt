@@ -122,7 +122,6 @@ module _ {X Y : Type 0} (number : X → ℕ) (f : X → Y) where
 
     -- what holds of each pair of one number
     pub pairs_by_number : (P : ℕ → Type 0) (xs : List X) → AllByRecursion (λ x. P (number x)) xs →
-        ((j : ℕ) → P j → EachPair R (of_number j xs)) →
-        EachPair (λ x y. number x ≡ number y → R (f x) (f y)) xs
+        ((j : ℕ) → P j → EachPair R (of_number j xs)) → EachPair (λ x y. number x ≡ number y → R (f x) (f y)) xs
     pairs_by_number P [] own pairs = tt
     pairs_by_number P (x ∷ xs) own pairs = search (arith, rules, first_pairs, EachPair, pairs_by_number P xs own.1)

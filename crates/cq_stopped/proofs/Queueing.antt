@@ -54,8 +54,7 @@ module _ (ms : List Machine) (slot : ℕ) where
   -- its rank fits, and behind it come the other inputs
   one_behind : (i : ℕ) (cell : Cell) (cells : List (Option Cell)) (ranks : List (List ℕ)) (r : Ranking) →
       ranking ms slot i (Some cell ∷ cells) ranks ≡ Ok r →
-      ((one_at i ranks cell).key.rank < 2 ^ 128)
-      × (s : Ranking)
+      ((one_at i ranks cell).key.rank < 2 ^ 128) × (s : Ranking)
       × (ranking ms slot (i + 1) cells (after ranks cell) ≡ Ok s)
       × (record { came = Some (one_at i ranks cell) ∷ s.came; ranks = s.ranks } ≡ r)
   one_behind i cell cells ranks r h = grind (arith, common_steps, fits, ltb-true, after_input_ok)
@@ -76,12 +75,10 @@ module _ (ms : List Machine) (slot : ℕ) where
       let at' = rw (← b.3) at at in
       let same = length-set ranks cell.output (given ranks cell) in
       let keeps = still_keep ranks keep cell here in
-      let it =
-      ranked_from (i + 1) cells (after ranks cell) b.1 keeps (λ l other is. rw same (known (suc l) other is)) b.2 k q
-      at' in
+      let it = ranked_from (i + 1) cells (after ranks cell) b.1 keeps (λ l other is. rw same (known (suc l) other is))
+      b.2 k q at' in
       let c = came_from ms slot (i + 1) cells (after ranks cell) b.1 b.2 k q at' in
-      let own = known (suc k) q.cell c.cell_is in
-      search (arith, rules, rises)
+      let own = known (suc k) q.cell c.cell_is in search (arith, rules, rises)
 
   -- a cell came just where one arrives
   pub came_where : (i : ℕ) (cells : List (Option Cell)) (ranks : List (List ℕ)) (r : Ranking) →
@@ -92,8 +89,7 @@ module _ (ms : List Machine) (slot : ℕ) where
       grind (arith, common_steps, after_input_ok, came_where (i + 1) cells ranks)
   came_where i (Some cell ∷ cells) ranks r h zero = grind (arith, common_steps, one_behind)
   came_where i (Some cell ∷ cells) ranks r h (suc k) =
-      let b = one_behind i cell cells ranks r h in
-      rw (← b.3) (came_where (i + 1) cells (after ranks cell) b.1 b.2 k)
+      let b = one_behind i cell cells ranks r h in rw (← b.3) (came_where (i + 1) cells (after ranks cell) b.1 b.2 k)
 
 -- ## The numbers of the rank states fit 128 bits, since the run would stop at the first rank that does not
 
@@ -146,9 +142,8 @@ module _ (R : Queued → Queued → Type 0) (q : Queued) where
   waiting_pairs : (xs : List Queued) → EachPair NoLater xs → EachPair R xs → AllByRecursion (λ x. R x q) xs →
       AllByRecursion MayStandBehind xs → EachPair R (put q xs)
   waiting_pairs [] order pairs ahead after = (tt, tt)
-  waiting_pairs (x ∷ xs) order pairs ahead after =
-      cond_both (is_before q.key x.key) (q ∷ x ∷ xs) (x ∷ put q xs) (λ l. EachPair R l)
-      (λ h. (
+  waiting_pairs (x ∷ xs) order pairs ahead after = cond_both (is_before q.key x.key) (q ∷ x ∷ xs) (x ∷ put q xs)
+      (λ l. EachPair R l) (λ h. (
         (
           after.0 (key_laws.one_way q.key x.key h),
           all_from_has (R q) xs (search (arith, rules, all_of_has, none_before, NoLater)),
@@ -208,8 +203,7 @@ module _ (j slot : ℕ) where
       let own : IsEarlier (a + 1) q = search (arith, rules) in
       cond_both (is_for j q) (put q xs) xs (λ l. EachPair Follows (left ++ put_all j came l))
       (λ here. pairs_put_all came (a + 1) left (put q xs) (come_on a (Some q) came come)
-      (search (arith, rules, all_both, earlier_on, all_front, all_put))
-      (λ k p x at output among before class.
+      (search (arith, rules, all_both, earlier_on, all_front, all_put)) (λ k p x at output among before class.
       ⊎_elim (λ same. absurd (omega (arith, ap (λ (y : Queued). y.key.slot) same)))
       (λ was. old (suc k) p x at output was before class) (among_put x q xs among))
       (in_order_put q xs order)

@@ -180,12 +180,11 @@ module _ {w : Switch} (at : Taken) {ideal : IdealState} {cs : List (List (Option
   name_held t i q it =
       let j = q.cell.output in
       ⊎_elim (search (arith, rules, image_has, kept_has, name_left)) (λ (there : Has (list_of ideal.lists j) q).
-      ⊎_elim (λ at_input. waits_named q (has_left (map named_as listed) _ (named_as q) (has_image named_as listed q
-      (has_at_place at.frozen.lists at_input.0 q at_input.1))))
-      (λ crossed. waits_named q (has_right (map named_as listed) _ (named_as q) (has_image named_as buffered q
-      (has_at_place at.frozen.buffers j q crossed))))
-      ((known.agrees.same j q).0 there))
-      (has_cases (left_at j at.sent) (list_of ideal.lists j) q it.held)
+      ⊎_elim (λ at_input. waits_named q (has_left (map named_as listed) _ (named_as q)
+      (has_image named_as listed q (has_at_place at.frozen.lists at_input.0 q at_input.1))))
+      (λ crossed. waits_named q (has_right (map named_as listed) _ (named_as q)
+      (has_image named_as buffered q (has_at_place at.frozen.buffers j q crossed))))
+      ((known.agrees.same j q).0 there)) (has_cases (left_at j at.sent) (list_of ideal.lists j) q it.held)
 
   -- ## An arrival is named where its cell came in
 
@@ -255,16 +254,13 @@ module _ {w : Switch} (at : Taken) {ideal : IdealState} {cs : List (List (Option
       let x = is_at at.frozen.lists a first in
       let y = is_at at.frozen.buffers b second in
       let same = same_waiting a b (waits_at x.place a x.has) (waits_behind y.place b y.has) slot place in
-      let apart = (apart_from f known.agrees.differ).between x.place y.place a b in
-      search (arith, rules)
+      let apart = (apart_from f known.agrees.differ).between x.place y.place a b in search (arith, rules)
 
   queued_pairs : EachPair Differ (queued_in st)
   unfolding state_of
-  queued_pairs = pairs_joined Differ (map named_as listed) (map named_as buffered)
-      (pairs_mapped named_as Differ listed
-      (search (arith, rules, each_listed Other, same_waiting, waits_at, itself, placed)))
-      (pairs_mapped named_as Differ buffered
-      (let all = pairs_of_all Other at.frozen.buffers in
+  queued_pairs = pairs_joined Differ (map named_as listed) (map named_as buffered) (pairs_mapped named_as Differ
+      listed (search (arith, rules, each_listed Other, same_waiting, waits_at, itself, placed)))
+      (pairs_mapped named_as Differ buffered (let all = pairs_of_all Other at.frozen.buffers in
       let pairs = pairs_with IsBefore Other Waits in
       search (arith, rules, all, pairs, same_waiting, itself, all_from_has, waits_behind, crossed_to)))
       (λ c d first second. search (arith, rules, image_has, all_of, Differ, crossed))
@@ -322,11 +318,9 @@ module _ {w : Switch} (at : Taken) {ideal : IdealState} {cs : List (List (Option
       record {
         sent = image_pairs sent_as (λ (d e : Sent). Flow d.cell e.cell → d.cell.slot < e.cell.slot) at.sent
             (each_sent _ (search (arith, rules, of_one, has_left_it, right_at)));
-        after = has_all _ (map sent_as at.sent) (λ d has.
-            let image = image_has sent_as at.sent d has in
+        after = has_all _ (map sent_as at.sent) (λ d has. let image = image_has sent_as at.sent d has in
             has_all (After d) queued (search (arith, rules, is_waiting, waits_after)));
-        queued = has_all _ queued (λ a first.
-            let x = is_waiting a first in
+        queued = has_all _ queued (λ a first. let x = is_waiting a first in
             has_all (Ahead a) queued (search (arith, rules, is_waiting, goes_first)));
       }
 
@@ -359,14 +353,12 @@ module _ {w : Switch} (at : Taken) {ideal : IdealState} {cs : List (List (Option
             (λ i k a b lt first second. let x = placed i a first in let y = placed k b second in omega arith));
         keys = image_pairs named_as
             (λ (a b : Named). a.input ≡ b.input → output_of w.came a ≡ output_of w.came b → is_ahead a b ≡ true)
-            listed (each_listed _ (search (arith, rules, its_output, waits_at))
-            (search (arith, rules, placed)));
+            listed (each_listed _ (search (arith, rules, its_output, waits_at)) (search (arith, rules, placed)));
         buffers = image_pairs named_as (IsBufferedBefore w.came) buffered (pairs_of_all _ at.frozen.buffers
             (λ j. pairs_in IsBefore _ (buffer f j) (search (arith, rules, out))
             (known.agrees.fabric.rising j)) (search (arith, rules, out)));
         sent = search (arith, rules, image_pairs, pairs_in, left_by);
         sent_times = has_all Timely (map sent_as at.sent) (search (arith, rules, image_has, right_at));
         moved = all_pairs IsTransferBefore at.note moved.pairs;
-        moved_times = has_all (λ (t : Transfer). t.slot < at.frozen.next) at.note
-            (search (arith, rules, all_of_has));
+        moved_times = has_all (λ (t : Transfer). t.slot < at.frozen.next) at.note (search (arith, rules, all_of_has));
       }

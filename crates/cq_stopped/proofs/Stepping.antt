@@ -173,12 +173,10 @@ module _ (w : Switch) (ranks : List (List ℕ)) (configured : IsConfigured w ran
 
     -- it did so before the slot, or came
     was_or_new : (j : ℕ) (q : Queued) → Has (left j ++ full j) q → Has (left j ++ waiting j) q ⊎ CameFor came j q
-    was_or_new j q has =
-        grind (arith, common_steps, has_cases, has_left, has_right, among_put_all)
+    was_or_new j q has = grind (arith, common_steps, has_cases, has_left, has_right, among_put_all)
 
     pool_keeps : (j : ℕ) (q : Queued) → Has (left j ++ waiting j) q → Has (left j ++ full j) q
-    pool_keeps j q has =
-        grind (arith, common_steps, has_cases, has_left, has_right, put_all_keeps)
+    pool_keeps j q has = grind (arith, common_steps, has_cases, has_left, has_right, put_all_keeps)
 
     -- ## At each output
 
@@ -190,8 +188,7 @@ module _ (w : Switch) (ranks : List (List ℕ)) (configured : IsConfigured w ran
       older q own = grind (arith, common_steps, keyed)
 
       new_own : (q : Queued) → CameFor came j q → IsOwn w (n + 1) j q
-      new_own q new =
-          let c = its_came new.0 q new.1 in let keyed = is_keyed new.0 q new.1 in search (arith, rules)
+      new_own q new = let c = its_came new.0 q new.1 in let keyed = is_keyed new.0 q new.1 in search (arith, rules)
 
       own_all : AllByRecursion (IsOwn w (n + 1) j) (left j ++ full j)
       own_all = all_from_has (IsOwn w (n + 1) j) (left j ++ full j)
@@ -213,9 +210,8 @@ module _ (w : Switch) (ranks : List (List ℕ)) (configured : IsConfigured w ran
 
       its_served : Served w.machines j n (configured.laws j inside) 0 0 (present r.admission.cells) ideal
           (record { gone = r.of_slot.gone; after = next })
-      its_served =
-          served w.machines j n (configured.laws j inside) 0 0 r.admission.cells ideal _ alike.sent (omega arith)
-          (omega arith) lane.stands classes
+      its_served = served w.machines j n (configured.laws j inside) 0 0 r.admission.cells ideal _ alike.sent
+          (omega arith) (omega arith) lane.stands classes
 
       next_lane : Lane w (n + 1) j (slice_index_or next.ranks j []) (left_at j sent_next) (list_of next.lists j)
       next_lane =
@@ -313,8 +309,7 @@ module _ (w : Switch) (ranks : List (List ℕ)) (configured : IsConfigured w ran
       Ended a m end f rs g (cs ++ came_of rs) (sent ++ departures_of a (gone_in (slots_in rs)))
   unfolding departures_of arriving_from
   run_known zero a end f g [] ideal cs sent known is run =
-      let e : end ≡ a = omega arith in
-      record { ideal = ideal; known = simp (append-nil, run, e) known; slots = run }
+      let e : end ≡ a = omega arith in record { ideal = ideal; known = simp (append-nil, run, e) known; slots = run }
   run_known (suc m) a end f g (r ∷ rs) ideal cs sent known is run =
       let next = known_next a f run.0 r ideal cs sent known run.1 in
       search (arith, rules, append_assoc, slot_known, run_known m (a + 1) end run.0 g rs _ _ _ next)
@@ -328,6 +323,5 @@ module _ (w : Switch) (ranks : List (List ℕ)) (configured : IsConfigured w ran
   pub stopped_is : (n : ℕ) (rs : List LimitedRecord) (f : Marked Fabric) →
       Runs w 0 (arriving_from w.came 0 n) (opening w ranks) rs f →
       Ended 0 n n (opening w ranks) rs f (came_of rs) (departures_of 0 (gone_in (slots_in rs)))
-  stopped_is n rs f runs =
-      run_known n 0 n (opening w ranks) f rs (empty_ideal (length w.machines) ranks) [] [] known_first (omega arith)
-      runs
+  stopped_is n rs f runs = run_known n 0 n (opening w ranks) f rs (empty_ideal (length w.machines) ranks) [] []
+      known_first (omega arith) runs

@@ -136,8 +136,7 @@ module _ (w : Switch) (ranks : List (List ℕ)) (configured : IsConfigured w ran
 
   -- the name of a cell that the run keeps
   named_right : (c : Named) → Has (named_in st) c → IsNamed ports c
-  named_right c has =
-      let it = is_of_one at known c has in search (arith, rules)
+  named_right c has = let it = is_of_one at known c has in search (arith, rules)
 
   queued_right : (names : List Named) → ((c : Named) → Has names c → Has (queued_in st) c) →
       AllByRecursion (IsNamed ports) names
@@ -162,8 +161,7 @@ module _ (w : Switch) (ranks : List (List ℕ)) (configured : IsConfigured w ran
       let listed = rw (← many) at (queued_right st.listed (has_left st.listed st.buffered)) in
       let buffered = rw (← many) at (queued_right st.buffered (has_right st.listed st.buffered)) in
       let sent = rw (← many) at sent_right in
-      let moved = rw (← many) at moved.all in
-      search (arith, rules, seen_right, states_right)
+      let moved = rw (← many) at moved.all in search (arith, rules, seen_right, states_right)
 
   -- ## It comes to what was left
 

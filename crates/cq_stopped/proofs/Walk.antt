@@ -125,8 +125,7 @@ module _ (w : Switch) (i : ℕ) (few : i < most_ports) (whole : IsLine (filter (
         Walks w i named end slot (mark_at f.marks i) last
         (cons_option (where_up (mark_at r.admission.marks i) (arrival_at (arriving w.came slot) i)) lost)
     slot_more None none lt lost last follow here rest =
-        let same = none_comes_now i slot end w.came none in
-        let moved = mark_is.1 in search (arith, rules, arrival_is)
+        let same = none_comes_now i slot end w.came none in let moved = mark_is.1 in search (arith, rules, arrival_is)
     slot_more (Some cell) some lt lost last follow here rest =
         let up = mark_at r.admission.marks i in
         let a : Arrival = record { slot = slot; cell = cell } in
@@ -198,8 +197,7 @@ cells_flat f (i ∷ is) = grind (arith, common_steps, map-append, cells_in, cell
 -- ## What is refused is of an input that has a mark
 
 refused_low : (a : ℕ) (marks : List Bool) (cells : List (Option Cell)) (n : ℕ) → StandAt a cells →
-    a + length marks ≤ n →
-    AllByRecursion (λ (c : Cell). c.id.input < n) (refused marks cells)
+    a + length marks ≤ n → AllByRecursion (λ (c : Cell). c.id.input < n) (refused marks cells)
 refused_low a (mark ∷ marks) (None ∷ cells) n at le = grind (arith, common_steps, refused_low (a + 1) marks cells n at)
 refused_low a (mark ∷ marks) (Some cell ∷ cells) n at le =
     grind (arith, common_steps, refused_low (a + 1) marks cells n at.1)
@@ -280,14 +278,11 @@ module _ (w : Switch) (ranks : List (List ℕ)) (st : State) (rs : List LimitedR
       search (arith, rules, by_places ends (Some false) some, many_marks, ends_marked, get_or-map)
 
   -- what was refused, by input
-  lost_here : (i : ℕ) → i < ports → of_input i (refused_in (admissions_in rs)) ≡ cells_in (unnamed names (coming i 0
-      next
-      w.came))
+  lost_here : (i : ℕ) → i < ports →
+      of_input i (refused_in (admissions_in rs)) ≡ cells_in (unnamed names (coming i 0 next w.came))
   unfolding arriving_from
-  lost_here i inside =
-      refused_of_input i w.limits (opening w ranks).marks (arriving_from w.came 0 next) (admissions_in rs)
-      (search (arith, rules, fabric_judged))
-      (stand_in w.came 0 next) ∙ (walk i inside).lost_are
+  lost_here i inside = refused_of_input i w.limits (opening w ranks).marks (arriving_from w.came 0 next)
+      (admissions_in rs) (search (arith, rules, fabric_judged)) (stand_in w.came 0 next) ∙ (walk i inside).lost_are
 
   lost_counted : (p : Cell → Bool) → length (filter p (refused_in (admissions_in rs)))
       ≡ length (filter p (cells_in (left_before w.limits next w.came names ports)))

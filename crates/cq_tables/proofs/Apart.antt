@@ -29,15 +29,13 @@ files_take : (rows : List PortRow) (i n m : ℕ) (d : PortRow) → m ≡ n + i �
     files_of n (take (suc i) rows) ≡ files_of n (take i rows) ++ names_of m (get_or rows i d)
 files_take [] i n m d e h = absurd (omega arith)
 files_take (row ∷ rows) zero n m d e h = let same : m ≡ n = omega arith in rw (same) (append-nil (names_of n row))
-files_take (row ∷ rows) (suc i) n m d e h =
-    grind (arith, common_steps, append_assoc, files_take rows i (suc n) m d)
+files_take (row ∷ rows) (suc i) n m d e h = grind (arith, common_steps, append_assoc, files_take rows i (suc n) m d)
 
 -- the names of the first i ports clash with none before them
 abbrev pub Apart : Tables → ℕ → Type 0
 Apart t i = file_check t ≡ first (apart_from (files_before t i) (files_of i (drop i t.ports)))
 
-port_step : (t : Tables) (i : ℕ) (row : PortRow) → i < length t.ports → row ≡ get_or t.ports i row
-    →
+port_step : (t : Tables) (i : ℕ) (row : PortRow) → i < length t.ports → row ≡ get_or t.ports i row →
     apart_from (files_before t i) (files_of i (drop i t.ports))
     ≡ apart_from (files_before t i) (names_of i row)
     ++ apart_from (files_before t (suc i)) (files_of (suc i) (drop (suc i) t.ports))
@@ -55,8 +53,7 @@ apart_next t i row small is held apart = rw add-one (apart
 
 pub apart_stops : {B : Type 0} (r : Result B TableRefusal) (t : Tables) (i : ℕ) (row : PortRow) → i < length t.ports →
     row ≡ get_or t.ports i row → IfErr r (Refuses (first (apart_from (files_before t i) (names_of i row)))) →
-    Apart t i
-    → IfErr r (Refuses (file_check t))
+    Apart t i → IfErr r (Refuses (file_check t))
 apart_stops r t i row small is told apart =
     rw (apart, port_step t i row small is) (here_in r (apart_from (files_before t i) (names_of i row)) _ told)
 

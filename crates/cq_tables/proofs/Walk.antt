@@ -4,8 +4,7 @@ use Rattle.cq_tables.proofs.Checks.{first_none, first_on, here}
 use Rattle.cq_route.specs.declared.tables.AddressRow.{AddressRow}
 
 -- the checks from an element on are its own and those from the next one on
-each_drop : (check : ℕ → Data → Check) (vs : List Value) (i n : ℕ) (d : Value) → i < length vs
-    →
+each_drop : (check : ℕ → Data → Check) (vs : List Value) (i n : ℕ) (d : Value) → i < length vs →
     each check n (map view (drop i vs))
     ≡ check n (view (get_or vs i d)) ∷ each check (suc n) (map view (drop (suc i) vs))
 unfolding each
@@ -81,8 +80,7 @@ has-insert (x ∷ xs) mac q =
     grind (arith, common_steps, bytes_eq-Decides mac x, is_eq-slice_cmp mac x, has-insert xs mac q)
 
 -- an address is a new one by what is known alone
-mac_same : (a b : List (List ℕ)) → ((q : List ℕ) → has a q ≡ has b q) → (d : Option Data)
-    →
+mac_same : (a b : List (List ℕ)) → ((q : List ℕ) → has a q ≡ has b q) → (d : Option Data) →
     required (and_then address address_value (is_new a) DuplicateAddress) d
     ≡ required (and_then address address_value (is_new b) DuplicateAddress) d
 mac_same a b same None = refl

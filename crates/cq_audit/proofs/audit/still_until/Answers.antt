@@ -3,9 +3,8 @@ use Rattle.cq_audit.proofs.Skips.{until_arrival, until_here, until_line}
 use Rattle.cq_audit.proofs.audit.still_until.Goals as goal
 
 pub returns-in-Some : goal.returns-in-Some
-returns-in-Some c =
-    until_here c.args.schedule.now.came c.args.slot c.args.lines.now c.in-Some.line.now c.requires.none_before
-    c.in-Some.ensures.value c.if-line-slot.true
+returns-in-Some c = until_here c.args.schedule.now.came c.args.slot c.args.lines.now c.in-Some.line.now
+    c.requires.none_before c.in-Some.ensures.value c.if-line-slot.true
 
 pub returns-in-Some-2 : goal.returns-in-Some-2
 returns-in-Some-2 c = subst (λ (n : ℕ). IsStillUntil c.args.schedule.now.came c.args.lines.now c.args.slot n)

@@ -7,8 +7,7 @@ outputs-init c = search (arith, rules)
 
 pub outputs-preserved : goal.outputs-preserved
 unfolding cells_refused packets_refused
-outputs-preserved c =
-    search (arith, rules, drop_more, append_assoc, c.outputs.refused.items, c.outputs.invariant)
+outputs-preserved c = search (arith, rules, drop_more, append_assoc, c.outputs.refused.items, c.outputs.invariant)
 
 pub returns : goal.returns
 returns c = search (arith, rules, drop_all, append-nil, c.outputs.refused.items)

@@ -23,15 +23,13 @@ arrive-requires g c =
 
 pub send-requires-clause-fit : goal.send-requires-clause-fit
 send-requires-clause-fit g c = (placed (known g (goal.at.send-requires-clause-fit g c).After-self)
-    c.take_in.ensures.judged
-    c.in_default.ensures.taken c.arrive.new.self c.arrive.ensures.lists c.arrive.ensures.rooms c.take_in.ensures.fixed
-    c.take_in.ensures.many).fit
+    c.take_in.ensures.judged c.in_default.ensures.taken c.arrive.new.self c.arrive.ensures.lists
+    c.arrive.ensures.rooms c.take_in.ensures.fixed c.take_in.ensures.many).fit
 
 pub send-requires-clause-holds : goal.send-requires-clause-holds
 send-requires-clause-holds g c = (placed (known g (goal.at.send-requires-clause-holds g c).After-self)
-    c.take_in.ensures.judged
-    c.in_default.ensures.taken c.arrive.new.self c.arrive.ensures.lists c.arrive.ensures.rooms c.take_in.ensures.fixed
-    c.take_in.ensures.many).holds
+    c.take_in.ensures.judged c.in_default.ensures.taken c.arrive.new.self c.arrive.ensures.lists
+    c.arrive.ensures.rooms c.take_in.ensures.fixed c.take_in.ensures.many).holds
 
 pub invariant_of-self-2 : goal.invariant_of-self-2
 invariant_of-self-2 g c =
@@ -56,10 +54,9 @@ pub returns-in-Err-clause-same : goal.returns-in-Err-clause-same
 returns-in-Err-clause-same g c = search (arith, rules, known)
 
 pub returns-clause-answer : goal.returns-clause-answer
-returns-clause-answer g c =
-    sym (ap answer_to (placed (known g (goal.at.returns-clause-answer g c).After-self) c.take_in.ensures.judged
-    c.in_default.ensures.taken c.arrive.new.self c.arrive.ensures.lists c.arrive.ensures.rooms c.take_in.ensures.fixed
-    c.take_in.ensures.many).limited_ok)
+returns-clause-answer g c = sym (ap answer_to (placed (known g (goal.at.returns-clause-answer g c).After-self)
+    c.take_in.ensures.judged c.in_default.ensures.taken c.arrive.new.self c.arrive.ensures.lists
+    c.arrive.ensures.rooms c.take_in.ensures.fixed c.take_in.ensures.many).limited_ok)
 
 pub returns-clause-slot : goal.returns-clause-slot
 returns-clause-slot g c =
@@ -67,13 +64,8 @@ returns-clause-slot g c =
     c.in_default.ensures.taken c.arrive.new.self c.arrive.ensures.lists c.arrive.ensures.rooms c.take_in.ensures.fixed
     c.take_in.ensures.many in
     let new = seen c.send.new.ranks c.send.new.queues c.send.new.limiter (c.args.slot + 1) c.self.inside.stopped in
-    rw p.limited_ok (search (
-      arith,
-      rules,
-      p.spare new,
-      same_state,
-      known g (goal.at.returns-clause-slot g c).After-self,
-    ))
+    rw p.limited_ok
+    (search (arith, rules, p.spare new, same_state, known g (goal.at.returns-clause-slot g c).After-self))
 
 pub returns-clause-same : goal.returns-clause-same
 returns-clause-same g c = search (arith, rules, known)
