@@ -101,17 +101,12 @@ module _ (r : Reader) (config : List ℕ) (m : Contents) (t : Tables) (captures 
       never why other is = other (read_as.never_refused why is)
 
       denied : (refusal : Refusal) → Denies aim refusal → judged r (Run config) m ≡ Err refusal
-      denied refused.Words is = absurd is
-      denied (refused.Missing name) is = absurd is
-      denied (refused.Configuration code path) is = absurd is
-      denied (refused.Capture input fault) is = absurd is
-      denied (refused.Audit denial) is = absurd is
       denied (refused.Tag fault) is = run_refused fault (ap sent_or_tag (whole_fault t captures fault given.tables
           given.each ((goes is.from is.read).whole_fault fault is.stops)))
-      denied (refused.State stopped.Long) is = absurd is
       denied (refused.State (stopped.Line n)) is = absurd (never (of_state.Text n) (λ e. cc) is)
       denied (refused.State stopped.Shape) is = absurd (never of_state.Shape (λ e. cc) is)
       denied (refused.State (stopped.Unsound clause)) is = absurd (never (of_state.Unsound clause) (λ e. cc) is)
+      denied refusal is = absurd is
 
       pub aim_of_run : IsAimOfRun r config m aim
       aim_of_run = record { met = met; only = only; writes = writes; refused = denied }
