@@ -1,5 +1,5 @@
 //! Lists and buffers in which cells wait from the start, and the cells that wait in them.
-ghost use Rattle.std.specs.Prelude.{◌≡◌, ◌<◌, ◌≤◌, IfOk, Ok, length};
+ghost use Rattle.std.specs.Prelude.{◌≡◌, ◌≤◌, IfOk, Ok, length};
 ghost use Rattle.std.specs.Fn.{FnReturnsAt};
 ghost use Rattle.cq_fabric.specs.Terms.{CanStand, CanWait, buffer_room, list_room, most_ports, AllAreFilled, AllAreTold, CanFill};
 

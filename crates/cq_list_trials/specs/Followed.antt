@@ -2,6 +2,7 @@
 -- Lists that change in slot after slot: to each comes a cell, or a first cell leaves it, or it stays.
 use Rattle.std.specs.Prelude.{◌≡◌, ℕ, ◌+◌, ◌<◌, ◌≤◌, ◌⊎◌, All, List, insert, length, slice_index_or}
 use Rattle.std.specs.List.{AllByRecursion}
+use Rattle.cq_base.specs.Limits.{most_ports}
 use Rattle.cq_base.specs.declared.cell.Queued.{Queued}
 use Rattle.cq_base.specs.Cells.{ArrivedBefore, without_first}
 use Rattle.cq_list.specs.InputList.{Waiting, cells_of}
@@ -33,7 +34,7 @@ HasChanged j old new = HasCome j old new ⊎ (new ≡ without_first j old)
 -- the lists of a switch with their offers
 pub record IsFollowed (slot : ℕ) (lists : List Waiting) (offers : Orders) : Type 0 where
   pub some : 0 < length lists
-  pub few : length lists ≤ 64
+  pub few : length lists ≤ most_ports
   pub outputs : All (λ list. list.outputs ≡ length lists) lists
   pub own : AreOwn slot lists
   pub offered : offers ≡ orders_of (cells_of lists)

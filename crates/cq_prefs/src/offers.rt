@@ -28,7 +28,7 @@ pub struct Offers {
 }
 
 impl Model for Offers {
-    ghost use Rattle.std.specs.Prelude.{◌≤◌, map};
+    ghost use Rattle.std.specs.Prelude.{◌≤◌};
     ghost use Rattle.cq_base.specs.Limits.{most_ports};
     ghost use Rattle.cq_prefs.specs.Orders.{Orders, AreOffers, ports};
 

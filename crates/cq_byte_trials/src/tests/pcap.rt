@@ -1,5 +1,6 @@
 //! Captures of the format's own values, byte by byte.
-ghost use Rattle.std.specs.Prelude.{◌≡◌, ◌≤◌, ◌^◌, All, IfOk, length};
+ghost use Rattle.std.specs.Prelude.{◌≡◌, ◌≤◌, All, IfOk, length};
+ghost use Rattle.cq_base.specs.Limits.{longest_file};
 
 use cq_base::{NoMemory, Sequence};
 use cq_pcap::{
@@ -19,7 +20,7 @@ const PACKET: PacketRow = PacketRow {
 
 // The capture that the bytes spell, or why they spell none.
 fn capture_of(alloc: Global, bytes: &[u8]) -> Result<Capture, PcapRefusal>
-    requires { length bytes.now ≤ 2 ^ 28 }
+    requires { length bytes.now ≤ longest_file }
 {
     let bytes = bytes.to_vec(alloc).or(Err(PcapRefusal::NoMemory))?;
     read_capture(alloc, bytes)
@@ -27,7 +28,7 @@ fn capture_of(alloc: Global, bytes: &[u8]) -> Result<Capture, PcapRefusal>
 
 // How many packets are read, or why none.
 fn packets_read(alloc: Global, bytes: &[u8]) -> Result<usize, PcapRefusal>
-    requires { length bytes.now ≤ 2 ^ 28 }
+    requires { length bytes.now ≤ longest_file }
 {
     let capture = capture_of(alloc, bytes)?;
     Ok(capture.rows().len())
@@ -269,7 +270,7 @@ fn a_refusal_says_why(rt: HostRuntime) -> Result<(), Fail> {
 
 // The form of a file, and the row of its first record.
 fn first_found(bytes: &[u8]) -> Result<(Form, Option<PacketRow>), PcapRefusal>
-    requires { length bytes.now ≤ 2 ^ 28 }
+    requires { length bytes.now ≤ longest_file }
 {
     let form = form_of(bytes)?;
     Ok((form, row_at(bytes, form, 24)?))

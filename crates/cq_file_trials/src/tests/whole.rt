@@ -1,5 +1,6 @@
 //! Whole reads, writes and puts, over files and a sink in memory.
-ghost use Rattle.std.specs.Prelude.{◌≡◌, ◌≤◌, ◌^◌};
+ghost use Rattle.std.specs.Prelude.{◌≡◌, ◌≤◌};
+ghost use Rattle.cq_base.specs.Limits.{longest_file};
 ghost use Rattle.cq_space.specs.Space.{Closed};
 
 use cq_base::NoMemory;
@@ -29,7 +30,7 @@ fn is_read(
     cut: Option<u64>,
     wanted: Result<usize, ReadRefusal>,
 ) -> Result<bool, NoMemory>
-    requires { limit ≤ 2 ^ 28 }
+    requires { limit ≤ longest_file }
 {
     let mut files = MemFiles::new(alloc);
     give(&mut files, cut)?;

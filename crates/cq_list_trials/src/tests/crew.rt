@@ -1,5 +1,6 @@
 //! A phase by workers: worked examples by one and by several, and workers who wait for one another.
-ghost use Rattle.std.specs.Prelude.{◌<◌, ◌≤◌};
+ghost use Rattle.std.specs.Prelude.{◌≤◌};
+ghost use Rattle.cq_base.specs.Limits.{most_workers};
 
 use super::opposed::opposed_offers;
 use cq_base::{NoMemory, Port};
@@ -56,7 +57,7 @@ fn settles<R: Threads + Sync>(
     wanted: (bool, &[Option<Port>], u64),
 ) -> Result<bool, NoMemory>
     requires some { 1 ≤ workers }
-    requires few { workers ≤ 64 }
+    requires few { workers ≤ most_workers }
 {
     let settled = pair_phase(rt, alloc, offers, workers, &OpenGate);
     let phase = settled.phase();
@@ -143,7 +144,7 @@ fn meet<R: Threads + Sync>(
     held: u64,
 ) -> Result<bool, NoMemory>
     requires some { 1 ≤ workers }
-    requires few { workers ≤ 64 }
+    requires few { workers ≤ most_workers }
 {
     let gate = Meeting::of(workers);
     let settled = pair_phase(rt, alloc, offers, workers, &gate);

@@ -1,5 +1,6 @@
 //! Offers that are renewed after each of many drawn changes, compared with offers that are filled anew.
 ghost use Rattle.std.specs.Prelude.{◌≡◌, ◌+◌, ◌<◌, ◌≤◌, All, IfOk, Some, length};
+ghost use Rattle.cq_base.specs.Limits.{most_ports};
 ghost use Rattle.cq_base.specs.Cells.{MoreUrgentAhead};
 ghost use Rattle.cq_list.specs.InputList.{cells_of};
 ghost use Rattle.cq_prefs.specs.FirstCells.{first_key, key_before, orders_of};
@@ -35,7 +36,7 @@ impl Model for Followed {
 
 // Lists without cells, each with room for 32 of them.
 fn new_lists(alloc: Global, ports: u16) -> Result<Vec<InputList>, NoMemory>
-    requires { ports ≤ 64 }
+    requires { ports ≤ most_ports }
     ensures len { IfOk result (λ lists. length lists.items ≡ ports) }
     ensures outputs { IfOk result (λ lists. All (λ list. list.outputs ≡ ports) lists.items) }
     ensures own { IfOk result (λ lists. AreOwn 0 lists.items) }
@@ -61,7 +62,7 @@ fn join_free(matching: &mut Matching, input: Port, output: Port)
 // A matching of drawn pairs, and of no more of them than there are ports.
 fn drawn_matching(drawn: &mut Draws, ports: u16) -> Matching
     requires some { 0 < ports }
-    requires few { ports ≤ 64 }
+    requires few { ports ≤ most_ports }
     ensures { length result ≡ ports }
 {
     let mut matching = Matching::none(ports);
@@ -151,7 +152,7 @@ fn are_same(left: &Offers, right: &Offers) -> bool {
 impl Followed {
     fn new(alloc: Global, ports: u16) -> Result<Followed, NoMemory>
         requires some { 0 < ports }
-        requires few { ports ≤ 64 }
+        requires few { ports ≤ most_ports }
         ensures { IfOk result (λ switch. switch ≡ ports) }
     {
         let lists = new_lists(alloc, ports)?;

@@ -1,5 +1,6 @@
 //! Offers in which each output prefers the inputs from the last to the first.
 ghost use Rattle.std.specs.Prelude.{◌≡◌, ◌≤◌, IfOk};
+ghost use Rattle.cq_base.specs.Limits.{most_ports};
 ghost use Rattle.cq_prefs.specs.Orders.{ports};
 
 use cq_base::{NoMemory, Port};
@@ -16,7 +17,7 @@ fn list_for(
     wanted: u16,
     rank: u16,
 ) -> Result<InputList, NoMemory>
-    requires few { outputs ≤ 64 }
+    requires few { outputs ≤ most_ports }
     requires wanted { wanted ≤ outputs }
     ensures { IfOk result (λ list. list.outputs ≡ outputs) }
 {
@@ -32,7 +33,7 @@ fn list_for(
 
 // Each input prefers the first of the outputs, so many, from the first to the last, and has no offer to others.
 fn offers_for(alloc: Global, count: u16, wanted: u16) -> Result<Offers, NoMemory>
-    requires few { count ≤ 64 }
+    requires few { count ≤ most_ports }
     requires wanted { wanted ≤ count }
     ensures { IfOk result (λ offers. ports offers ≡ count) }
 {
@@ -47,7 +48,7 @@ fn offers_for(alloc: Global, count: u16, wanted: u16) -> Result<Offers, NoMemory
 
 /// Each input prefers the outputs from the first to the last, and each output the inputs from the last to the first.
 pub(super) fn opposed_offers(alloc: Global, count: u16) -> Result<Offers, NoMemory>
-    requires { count ≤ 64 }
+    requires { count ≤ most_ports }
     ensures { IfOk result (λ offers. ports offers ≡ count) }
 {
     offers_for(alloc, count, count)

@@ -1,6 +1,7 @@
 //! Offers: a worked example, drawn lists compared with a plain slow reading, and the calls that want memory, with
 //! ample memory.
 ghost use Rattle.std.specs.Prelude.{◌≡◌, ◌<◌, ◌≤◌, All, IfOk, length};
+ghost use Rattle.cq_base.specs.Limits.{most_ports};
 ghost use Rattle.cq_prefs.specs.Orders.{ports};
 
 use cq_base::{NoMemory, Port};
@@ -51,7 +52,7 @@ fn drawn_list(
     outputs: u16,
 ) -> Result<InputList, NoMemory>
     requires some { 0 < outputs }
-    requires few { outputs ≤ 64 }
+    requires few { outputs ≤ most_ports }
     ensures { IfOk result (λ list. list.outputs ≡ outputs) }
 {
     let count = drawn.below(12) as u32;
@@ -67,7 +68,7 @@ fn drawn_list(
 // One drawn list for each input.
 fn drawn_lists(alloc: Global, drawn: &mut Draws, ports: u16) -> Result<Vec<InputList>, NoMemory>
     requires some { 0 < ports }
-    requires few { ports ≤ 64 }
+    requires few { ports ≤ most_ports }
     ensures len { IfOk result (λ lists. length lists.items ≡ ports) }
     ensures outputs { IfOk result (λ lists. All (λ list. list.outputs ≡ ports) lists.items) }
 {

@@ -1,5 +1,5 @@
 //! The crossbar: a worked transfer of three inputs.
-ghost use Rattle.std.specs.Prelude.{◌≡◌, ◌<◌, ◌≤◌, ◌∷◌, [], IfOk, None, Some, length};
+ghost use Rattle.std.specs.Prelude.{◌≡◌, ◌≤◌, ◌∷◌, [], IfOk, None, Some, length};
 ghost use Rattle.cq_prefs.specs.FirstCells.{HasCellFor};
 ghost use Rattle.cq_list_trials.specs.Crossing.{CanCross};
 

@@ -1,5 +1,6 @@
 //! A log and a trace that were worked by hand, and what is wrong with others.
 ghost use Rattle.std.specs.Prelude.{◌≡◌, ◌≤◌, IfOk, length};
+ghost use Rattle.cq_base.specs.Limits.{most_ports};
 ghost use Rattle.cq_list.specs.InputList.{cells_of};
 ghost use Rattle.cq_prefs.specs.FirstCells.{orders_of};
 ghost use Rattle.cq_audit.specs.Phase.{AreOfPhase};
@@ -98,7 +99,7 @@ fn crossing(phase: u8, input: Port, output: Port) -> Transfer
 
 // What is wrong with these lines, if anything is.
 fn verdict(lists: &[InputList], offers: &Offers, lines: &[Transfer]) -> Option<PhaseFault>
-    requires few { length lists.now ≤ 64 }
+    requires few { length lists.now ≤ most_ports }
     requires offers { offers.now ≡ orders_of (cells_of lists.now) }
     requires lines { AreOfPhase (length lists.now) 0 1 lines.now }
 {

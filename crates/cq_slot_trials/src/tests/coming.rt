@@ -1,5 +1,6 @@
 //! What comes in a slot of a trial.
 ghost use Rattle.std.specs.Prelude.{◌<◌, ◌≤◌};
+ghost use Rattle.cq_base.specs.Limits.{most_ports};
 ghost use Rattle.cq_ideal.specs.Ranking.{AreForPorts};
 
 use cq_base::{Arrivals, Cell, CellId, Class, Port};
@@ -22,7 +23,7 @@ impl<const PORTS: u16> Coming<PORTS> {
     /// A packet of one cell comes to each of the inputs 0, 1 and 2, for output 0.
     pub(super) fn three() -> Coming<PORTS>
         requires some { 3 ≤ PORTS }
-        requires few { PORTS ≤ 64 }
+        requires few { PORTS ≤ most_ports }
     {
         Coming::nothing()
             .with_packet(0, 0, 0, 0)
@@ -38,7 +39,7 @@ impl<const PORTS: u16> Coming<PORTS> {
         output: Port,
         class: Class,
     ) -> Coming<PORTS>
-        requires few { PORTS ≤ 64 }
+        requires few { PORTS ≤ most_ports }
         requires input { input < PORTS }
         requires output { output < PORTS }
         requires class { class < 2 }
@@ -53,7 +54,7 @@ impl<const PORTS: u16> Coming<PORTS> {
 
     /// And the second cell of the packet comes to the input, in class 0.
     pub(super) fn with_second(self, input: Port, packet: u32, output: Port) -> Coming<PORTS>
-        requires few { PORTS ≤ 64 }
+        requires few { PORTS ≤ most_ports }
         requires input { input < PORTS }
         requires output { output < PORTS }
     {
@@ -68,7 +69,7 @@ impl<const PORTS: u16> Coming<PORTS> {
     /// And the cell with this id comes to its input.
     #[tactic(auto, using(crate::proofs::Arriving::for_ports_with))]
     pub(super) fn with_cell(self, id: CellId, output: Port, class: Class) -> Coming<PORTS>
-        requires few { PORTS ≤ 64 }
+        requires few { PORTS ≤ most_ports }
         requires input { id.input < PORTS }
         requires output { output < PORTS }
         requires class { class < 2 }

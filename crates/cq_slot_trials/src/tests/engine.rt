@@ -1,5 +1,6 @@
 //! Worked slots, drawn slots against a plain slow fabric, and the call that wants memory, with ample memory.
 ghost use Rattle.std.specs.Prelude.{◌≡◌, ◌+◌, ◌^◌, ◌<◌, ◌≤◌, ℕ, IfOk, OnOk, false, is_err, length, map};
+ghost use Rattle.cq_base.specs.Limits.{most_workers};
 ghost use Rattle.cq_rank.specs.Classes.{rows_of};
 ghost use Rattle.cq_ideal.specs.Limiter.{CanCount};
 ghost use Rattle.cq_engine.specs.Engine.{IsMadeAs};
@@ -128,7 +129,7 @@ fn worked<T: Threads + Sync>(
     workers: u16,
 ) -> Result<(Engine<FirstCome>, Told), NoMemory>
     requires some { 1 ≤ workers }
-    requires few { workers ≤ 64 }
+    requires few { workers ≤ most_workers }
 {
     let ranks = vec![in alloc;
         first_come(alloc)?,
@@ -359,7 +360,7 @@ fn prioritized<T: Threads + Sync>(
 ) -> Result<(Engine<Priority>, Told), NoMemory>
     requires length { length slots.now ≤ 40 }
     requires some { 1 ≤ workers }
-    requires few { workers ≤ 64 }
+    requires few { workers ≤ most_workers }
 {
     let ranks = vec![in alloc;
         by_priority(alloc, LEVELS[0], PRIORITIES[0])?,
