@@ -6,7 +6,7 @@ use Rattle.cq_run.proofs.Terms.{common_steps, arith, ◌≡◌, ℕ, List, refl,
 use Rattle.cq_run.specs.declared.stop.Stop.{Stop}
 use Rattle.cq_run.specs.declared.stop.Stop.TheVariants.{Cut, Halted}
 use Rattle.cq_run.specs.declared.stop.Unwritten.{Unwritten}
-use Rattle.cq_run.specs.Ending.{CommandEnds, IsPlanned, CallsFor, EndsFor, status_of}
+use Rattle.cq_run.specs.Ending.{CommandEnds, IsPlanned, CallsFor, EndsFor, WhereHalted, status_of}
 use Rattle.cq_run.proofs.Chain.{fails_after, rose_from, counts_same}
 use Rattle.cq_run.proofs.Planned.{same_faults, counts_known, rose_known}
 use Rattle.cq_run.proofs.Told.{told_map, told_any}
@@ -36,20 +36,20 @@ decides_halt : (p : Pace) (j : Contents → Result Aim Refusal) (R : List ℕ �
 decides_halt p j R old new halt (inl h) = inl h.halt
 decides_halt p j R old new halt (inr h) = inr h.halts
 
-module _ {S : Type 0} (space : S → Space) (may_fail : Call → S → S → Type 0) (keeps : S → S → Type 0) (pace : Pace)
-    (command : Command) (old mid : S) (out : Taken) where
+module _ {S : Type 0} (space : S → Space) (may_fail : Call → S → S → Type 0) (unbegun : S → S → Type 0)
+    (pace : Pace) (command : Command) (old mid : S) (out : Taken) where
   -- the file space at this moment, where standard output is as it was
   abbrev at : S → World
   at s = record { files = space s; out = out }
 
   pub judging_ends : (r : Reader) (U : List ℕ → Type 0) (T : Type 0) (halt : Halt) (end : Result (Unit {0}) Stop) →
-      IsErrAnd end (λ stop. stop ≡ Halted halt) → IsJudged space may_fail keeps pace command old mid (Err halt) →
-      CommandEnds pace r (λ name. Fails space may_fail keeps (Reads name) old mid) U T command (at old) (at mid) end
+      IsErrAnd end (λ stop. stop ≡ Halted halt) → IsJudged space may_fail unbegun pace command old mid (Err halt) →
+      CommandEnds pace r (λ name. Fails space may_fail unbegun (Reads name) old mid) U T command (at old) (at mid) end
   judging_ends r U T halt (Ok x) e h = absurd e
   judging_ends r U T halt (Err stop) e h =
       grind (arith, common_steps, decides_halt pace _ _ _ _ halt (h.judges r), h.judges r)
 
-  module _ (plan : Plan) (judged : IsJudged space may_fail keeps pace command old mid (Ok plan)) (r : Reader)
+  module _ (plan : Plan) (judged : IsJudged space may_fail unbegun pace command old mid (Ok plan)) (r : Reader)
       (R : List ℕ → Type 0) (T : Type 0) where
     is_planned : IsPlanned r command (space old) plan
     is_planned =
@@ -75,17 +75,35 @@ module _ {S : Type 0} (space : S → Space) (may_fail : Call → S → S → Typ
     )
 
     -- or cut short
-    pub cut_short : (new : S) (out_new : Taken) (unwritten : Unwritten) (end : Result (Unit {0}) Stop) →
-        IsErrAnd end (λ stop. stop ≡ Cut unwritten) → Lasts keeps →
+    pub cut_short : (keeps : S → S → Type 0) (new : S) (out_new : Taken) (unwritten : Unwritten)
+        (end : Result (Unit {0}) Stop) → IsErrAnd end (λ stop. stop ≡ Cut unwritten) → Lasts keeps → keeps old mid →
         IsCut (λ name. Fails space may_fail keeps (Writes name) mid new) T plan (at mid)
         (record { files = space new; out = out_new }) unwritten →
         CommandEnds pace r R (λ name. Fails space may_fail keeps (Writes name) old new) T command (at old)
         (record { files = space new; out = out_new }) end
-    cut_short new out_new unwritten end e lasts h =
+    cut_short keeps new out_new unwritten end e lasts kept h =
         cut_ends pace r R _ (λ name. Fails space may_fail keeps (Writes name) old new) T command plan (at old) (at mid)
         (record { files = space new; out = out_new }) unwritten end e is_planned
-        (λ name. fails_after space may_fail keeps (Writes name) old mid new lasts uncounted judged.kept) judged.told
+        (λ name. fails_after space may_fail keeps (Writes name) old mid new lasts uncounted kept) judged.told
         uncounted refl h
+
+-- no writing was begun where the run halted, and the status tells whether it did
+
+pub halts_so : {P : Type 0} (end : Result (Unit {0}) Stop) → P → WhereHalted end P
+halts_so (Ok x) h = tt
+halts_so (Err (Halted halt)) h = h
+halts_so (Err (Cut unwritten)) h = tt
+
+pub never_halts : (P : Type 0) (end : Result (Unit {0}) Stop) (unwritten : Unwritten) →
+    IsErrAnd end (λ stop. stop ≡ Cut unwritten) → WhereHalted end P
+never_halts P (Ok x) unwritten e = tt
+never_halts P (Err stop) unwritten e = rw e tt
+
+pub halted_so : {P : Type 0} (end : Result (Unit {0}) Stop) (answer : Status) → answer ≡ status_of end →
+    WhereHalted end P → answer ≢ status.Done → answer ≢ status.WriteFault → P
+halted_so (Ok x) answer e h done cut = absurd (done e)
+halted_so (Err (Halted halt)) answer e h done cut = h
+halted_so (Err (Cut unwritten)) answer e h done cut = absurd (cut e)
 
 -- ## What the status says of such an end
 

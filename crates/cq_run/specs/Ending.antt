@@ -62,15 +62,22 @@ abbrev pub Ends : Pace → Reader → (unread unwritten : List ℕ → Type 0) �
 Ends pace r unread unwritten untaken words old new end =
     EndsFor pace r unread unwritten untaken (command_for words) old new end
 
--- over objects that are a file space and a sink: the calls that failed are calls of these
-abbrev pub EndsIn : {F O : Type 0} → (F → Space) → (Call → F → F → Type 0) → (F → F → Type 0)
+-- over objects that are a file space and a sink: the calls that failed are calls of these, and no writing was begun
+-- before one that reads
+abbrev pub EndsIn : {F O : Type 0} → (F → Space) → (Call → F → F → Type 0) → (keeps unbegun : F → F → Type 0)
     → (O → Option (List ℕ)) → (O → ℕ) → (O → O → Type 0) → (O → O → Type 0) → Pace → Reader → Option Command
     → (old new : F) → (before after : O) → Result (Unit {0}) Stop → Type 0
-EndsIn space may_fail keeps taken faults may_refuse holds pace r asked old new before after end =
-    EndsFor pace r (λ name. Fails space may_fail keeps (Reads name) old new)
+EndsIn space may_fail keeps unbegun taken faults may_refuse holds pace r asked old new before after end =
+    EndsFor pace r (λ name. Fails space may_fail unbegun (Reads name) old new)
     (λ name. Fails space may_fail keeps (Writes name) old new)
     (FailsTaking taken faults may_refuse holds before after) asked (world space taken faults old before)
     (world space taken faults new after) end
+
+-- so it is where the run halted, before anything was to be written
+abbrev pub WhereHalted : Result (Unit {0}) Stop → Type 0 → Type 0
+WhereHalted (Ok x) P = Unit {0}
+WhereHalted (Err (Halted halt)) P = P
+WhereHalted (Err (Cut at)) P = Unit {0}
 
 -- the status of a run that halts so
 abbrev pub halt_status : Halt → Status

@@ -35,9 +35,9 @@ pub fn stream_from<R: Threads + Wait + Copy + Send + 'static, F: Files, W: Watch
     requires tables { AreTables tables.now }
     requires few { input + length rows.now < 2 ^ 16 }
     ensures judges { (r : Reader) → Judges Ahead (captures_from r tables.now.limit_bytes input rows.now)
-        (λ asked. Fails F.space F.may_fail F.keeps (Reads asked) files.old files.new)
+        (λ asked. Fails F.space F.may_fail F.unbegun (Reads asked) files.old files.new)
         (F.space files.old) (F.space files.new) result }
-    ensures kept { F.keeps files.old files.new }
+    ensures kept { F.unbegun files.old files.new }
     ensures each { IfOk result (λ captures. length captures ≡ length rows.now) }
 {
     match rows.split_first() {
@@ -66,11 +66,11 @@ fn begin_port<R: Threads + Wait + Copy + Send + 'static, F: Files, W: Watch + 's
     requires limit { limit ≤ longest_file }
     ensures begun { IfOk result (HasBegun row.now limit (F.space files.old) (F.space files.new)) }
     ensures halts { IfErr result (λ halt. (r : Reader) → Halts InTurn (packets_at r input limit row.now.read)
-        (λ asked. Fails F.space F.may_fail F.keeps (Reads asked) files.old files.new)
+        (λ asked. Fails F.space F.may_fail F.unbegun (Reads asked) files.old files.new)
         (F.space files.old) (F.space files.new) halt) }
     ensures told { (F.space files.new).told ≡ (F.space files.old).told }
     ensures closed { (F.space files.new).mode ≡ Closed }
-    ensures kept { F.keeps files.old files.new }
+    ensures kept { F.unbegun files.old files.new }
 {
     match &row.read {
         None => Ok(None),

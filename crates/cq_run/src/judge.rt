@@ -38,7 +38,7 @@ pub fn judge<R: Threads + Sync, F: Files, G: Gate>(
 ) -> Result<Work, Halt>
     requires closed { (F.space files.old).mode ≡ Closed }
     requires range { IsWithinRange command }
-    ensures { IsJudged F.space F.may_fail F.keeps InTurn command files.old files.new result }
+    ensures { IsJudged F.space F.may_fail F.unbegun InTurn command files.old files.new result }
 {
     match command {
         Command::Pass { from, to } => pass(rt, alloc, files, from, to, gate),
@@ -76,7 +76,7 @@ fn pass<R: Threads + Sync, F: Files, G: Gate>(
     gate: &G,
 ) -> Result<Work, Halt>
     requires { (F.space files.old).mode ≡ Closed }
-    ensures { IsJudged F.space F.may_fail F.keeps InTurn (Command.Pass from to) files.old files.new result }
+    ensures { IsJudged F.space F.may_fail F.unbegun InTurn (Command.Pass from to) files.old files.new result }
 {
     let tables = Tables::plain(alloc, from.text(), to.text())?;
     let capture = read_input(alloc, files, from, 0, tables.limit_bytes)?;
@@ -106,7 +106,7 @@ fn pass_on<R: Threads + Sync, G: Gate>(
 
 fn check<F: Files>(alloc: Global, files: &mut F, config: Name) -> Result<Work, Halt>
     requires { (F.space files.old).mode ≡ Closed }
-    ensures { IsJudged F.space F.may_fail F.keeps InTurn (Command.Check config) files.old files.new result }
+    ensures { IsJudged F.space F.may_fail F.unbegun InTurn (Command.Check config) files.old files.new result }
 {
     let tables = read_configuration(alloc, files, config)?;
     Ok(build_check(alloc, &tables)?)
@@ -136,7 +136,7 @@ pub fn run_ahead<R, F: Files, G: Gate, W: Watch + 'static>(
 where
     R: Threads + Wait + Sync + Copy + Send + 'static,
     requires closed { (F.space files.old).mode ≡ Closed }
-    ensures { IsJudged F.space F.may_fail F.keeps Ahead (Command.Run config) files.old files.new result }
+    ensures { IsJudged F.space F.may_fail F.unbegun Ahead (Command.Run config) files.old files.new result }
 {
     let tables = read_configuration(alloc, files, config)?;
     let rows = tables.ports.as_slice();
@@ -206,7 +206,7 @@ fn audit<R: Threads + Sync, F: Files>(
     config: Name,
 ) -> Result<Work, Halt>
     requires { (F.space files.old).mode ≡ Closed }
-    ensures { IsJudged F.space F.may_fail F.keeps InTurn (Command.Audit config) files.old files.new result }
+    ensures { IsJudged F.space F.may_fail F.unbegun InTurn (Command.Audit config) files.old files.new result }
 {
     let given = read_given(alloc, files, config)?;
     let trace = read_text(alloc, files, &given.tables.trace, Denial::LongTrace)?;
@@ -250,7 +250,8 @@ fn part<R: Threads + Sync, F: Files, G: Gate>(
 ) -> Result<Work, Halt>
     requires closed { (F.space files.old).mode ≡ Closed }
     requires slots { slots < 2 ^ 63 }
-    ensures { IsJudged F.space F.may_fail F.keeps InTurn (Command.Part config slots state) files.old files.new result }
+    ensures { IsJudged F.space F.may_fail F.unbegun InTurn (Command.Part config slots state)
+        files.old files.new result }
 {
     let given = read_given(alloc, files, config)?;
     stop_at(rt, alloc, &given, slots, state, gate)

@@ -27,9 +27,9 @@ pub fn read_configuration<F: Files>(
 ) -> Result<Tables, Halt>
     requires { (F.space files.old).mode ≡ Closed }
     ensures judges { Judges InTurn (tables_in name)
-        (λ asked. (asked ≡ name) × Fails F.space F.may_fail F.keeps (Reads asked) files.old files.new)
+        (λ asked. (asked ≡ name) × Fails F.space F.may_fail F.unbegun (Reads asked) files.old files.new)
         (F.space files.old) (F.space files.new) result }
-    ensures kept { F.keeps files.old files.new }
+    ensures kept { F.unbegun files.old files.new }
     ensures in_range { IfOk result (λ tables. AreTables tables) }
 {
     match read_whole(alloc, files, name.text(), LONGEST_CONFIGURATION) {
@@ -65,9 +65,9 @@ pub fn read_text<F: Files>(
     requires closed { (F.space files.old).mode ≡ Closed }
     requires untold { IsTrue (is_no long) }
     ensures judges { Judges InTurn (text_in long name.now)
-        (λ asked. (asked ≡ name.now) × Fails F.space F.may_fail F.keeps (Reads asked) files.old files.new)
+        (λ asked. (asked ≡ name.now) × Fails F.space F.may_fail F.unbegun (Reads asked) files.old files.new)
         (F.space files.old) (F.space files.new) result }
-    ensures kept { F.keeps files.old files.new }
+    ensures kept { F.unbegun files.old files.new }
 {
     let asked = Name::of(alloc, name.text())?;
     read_short(alloc, files, asked, Refusal::Audit { denial: long })
@@ -82,9 +82,9 @@ pub fn read_stopped<F: Files>(
 ) -> Result<Sequence<u8>, Halt>
     requires { (F.space files.old).mode ≡ Closed }
     ensures judges { Judges InTurn (state_in name)
-        (λ asked. (asked ≡ name) × Fails F.space F.may_fail F.keeps (Reads asked) files.old files.new)
+        (λ asked. (asked ≡ name) × Fails F.space F.may_fail F.unbegun (Reads asked) files.old files.new)
         (F.space files.old) (F.space files.new) result }
-    ensures kept { F.keeps files.old files.new }
+    ensures kept { F.unbegun files.old files.new }
 {
     let long = Refusal::State {
         fault: StateFault::Long,
@@ -102,9 +102,9 @@ fn read_short<F: Files>(
     requires closed { (F.space files.old).mode ≡ Closed }
     requires untold { IsTrue (meaning_of long).untold }
     ensures judges { Judges InTurn (short_in long name)
-        (λ asked. (asked ≡ name) × Fails F.space F.may_fail F.keeps (Reads asked) files.old files.new)
+        (λ asked. (asked ≡ name) × Fails F.space F.may_fail F.unbegun (Reads asked) files.old files.new)
         (F.space files.old) (F.space files.new) result }
-    ensures kept { F.keeps files.old files.new }
+    ensures kept { F.unbegun files.old files.new }
 {
     match read_whole(alloc, files, name.text(), LONGEST_TEXT) {
         Ok(bytes) => {
@@ -133,12 +133,12 @@ pub fn read_file<F: Files>(
     requires limit { limit ≤ longest_file }
     ensures file { IfOk result (λ bytes. IsFileOf name limit (F.space files.old).told bytes.items) }
     ensures halts { IfErr result (λ halt. (r : Reader) → Halts InTurn (capture_in r name input limit)
-        (λ asked. (asked ≡ name) × Fails F.space F.may_fail F.keeps (Reads asked) files.old files.new)
+        (λ asked. (asked ≡ name) × Fails F.space F.may_fail F.unbegun (Reads asked) files.old files.new)
         (F.space files.old) (F.space files.new) halt) }
     ensures uncounted { OnOk result ((F.space files.new).faults ≡ (F.space files.old).faults) }
     ensures told { (F.space files.new).told ≡ (F.space files.old).told }
     ensures closed { (F.space files.new).mode ≡ Closed }
-    ensures kept { F.keeps files.old files.new }
+    ensures kept { F.unbegun files.old files.new }
 {
     match read_whole(alloc, files, name.text(), limit) {
         Ok(bytes) => Ok(bytes),
@@ -168,9 +168,9 @@ pub fn read_input<F: Files>(
     requires closed { (F.space files.old).mode ≡ Closed }
     requires limit { limit ≤ longest_file }
     ensures judges { (r : Reader) → Judges InTurn (capture_in r name input limit)
-        (λ asked. (asked ≡ name) × Fails F.space F.may_fail F.keeps (Reads asked) files.old files.new)
+        (λ asked. (asked ≡ name) × Fails F.space F.may_fail F.unbegun (Reads asked) files.old files.new)
         (F.space files.old) (F.space files.new) result }
-    ensures kept { F.keeps files.old files.new }
+    ensures kept { F.unbegun files.old files.new }
 {
     let bytes = read_file(alloc, files, name, input, limit)?;
     match read_capture(alloc, bytes) {
@@ -205,9 +205,9 @@ fn read_port<F: Files>(
     requires closed { (F.space files.old).mode ≡ Closed }
     requires limit { limit ≤ longest_file }
     ensures judges { (r : Reader) → Judges InTurn (packets_at r input limit row.now.read)
-        (λ asked. Fails F.space F.may_fail F.keeps (Reads asked) files.old files.new)
+        (λ asked. Fails F.space F.may_fail F.unbegun (Reads asked) files.old files.new)
         (F.space files.old) (F.space files.new) result }
-    ensures kept { F.keeps files.old files.new }
+    ensures kept { F.unbegun files.old files.new }
 {
     match &row.read {
         None => Ok(Capture::empty(alloc)),
@@ -227,9 +227,9 @@ pub fn read_inputs<F: Files>(
     requires closed { (F.space files.old).mode ≡ Closed }
     requires tables { AreTables tables.now }
     ensures judges { (r : Reader) → Judges InTurn (captures_in r tables.now)
-        (λ asked. Fails F.space F.may_fail F.keeps (Reads asked) files.old files.new)
+        (λ asked. Fails F.space F.may_fail F.unbegun (Reads asked) files.old files.new)
         (F.space files.old) (F.space files.new) result }
-    ensures kept { F.keeps files.old files.new }
+    ensures kept { F.unbegun files.old files.new }
     ensures each { IfOk result (λ captures. length captures ≡ ports_of tables.now.setup) }
 {
     let rows = tables.ports.as_slice();
@@ -251,8 +251,8 @@ pub struct Given {
 /// What the configuration of this name gives.
 pub fn read_given<F: Files>(alloc: Global, files: &mut F, config: Name) -> Result<Given, Halt>
     requires { (F.space files.old).mode ≡ Closed }
-    ensures given { IfOk result (IsGiven F.space F.keeps config files.old files.new) }
-    ensures ends { IfErr result (EndsGiven F.space F.may_fail F.keeps InTurn config files.old files.new) }
+    ensures given { IfOk result (IsGiven F.space F.unbegun config files.old files.new) }
+    ensures ends { IfErr result (EndsGiven F.space F.may_fail F.unbegun InTurn config files.old files.new) }
 {
     let tables = read_configuration(alloc, files, config)?;
     let captures = read_inputs(alloc, files, &tables)?;

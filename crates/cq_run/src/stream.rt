@@ -1,6 +1,6 @@
 //! The top call that reads ahead. It is the one public function of this crate that waits.
-ghost use Rattle.std.specs.Prelude.{◌≡◌, None, Some, IfSome, map, string_bytes};
-ghost use Rattle.cq_run.specs.Terms.{Fails, FailsTaking, Reads, Writes, Closed, as_run, command_for, Emulates, Ahead, pace_of, Plan, known_by, Reader, verdict, IsDone, world, taken_by, EndsIn, Answers, StatusCauses};
+ghost use Rattle.std.specs.Prelude.{◌≡◌, ◌≢◌, None, Some, IfSome, map, string_bytes};
+ghost use Rattle.cq_run.specs.Terms.{Fails, FailsTaking, Reads, Writes, Closed, as_run, command_for, Emulates, Ahead, pace_of, Plan, known_by, Reader, verdict, IsDone, world, taken_by, EndsIn, WhereHalted, Answers, StatusCauses};
 
 use crate::judge::run_ahead;
 use crate::perform::perform;
@@ -40,7 +40,7 @@ where
     R: Threads + Wait + Sync + Copy + Send + 'static,
     requires { (F.space files.old).mode ≡ Closed }
     ensures answer { (r : Reader) → Answers (pace_of (map string_bytes words.now)) r
-        (λ name. Fails F.space F.may_fail F.keeps (Reads name) files.old files.new)
+        (λ name. Fails F.space F.may_fail F.unbegun (Reads name) files.old files.new)
         (λ name. Fails F.space F.may_fail F.keeps (Writes name) files.old files.new)
         (FailsTaking O.taken O.faults O.may_fail O.keeps out.old out.new) (as_run (map string_bytes words.now))
         (world F.space O.taken O.faults files.old out.old)
@@ -62,6 +62,9 @@ where
     // Also over files that tell nothing.
     ensures no_command { command_for (as_run (map string_bytes words.now)) ≡ None → result ≡ Status.Words }
     ensures words_only { result ≡ Status.Words → command_for (as_run (map string_bytes words.now)) ≡ None }
+    // No writing is begun, as far as files tell that.
+    ensures unbegun { result ≢ Status.Done → result ≢ Status.WriteFault → F.unbegun files.old files.new }
+    // No name is open, whatever files tell.
     ensures closed { (F.space files.new).mode ≡ Closed }
 {
     match streamed(words) {
@@ -85,8 +88,9 @@ fn stream<R, F: Files, O: Sink, G: Gate, W: Watch + 'static>(
 where
     R: Threads + Wait + Sync + Copy + Send + 'static,
     requires { (F.space files.old).mode ≡ Closed }
-    ensures ends { (r : Reader) → EndsIn F.space F.may_fail F.keeps O.taken O.faults O.may_fail O.keeps Ahead r
-        (Some (Command.Run config.now)) files.old files.new out.old out.new result }
+    ensures ends { (r : Reader) → EndsIn F.space F.may_fail F.keeps F.unbegun O.taken O.faults O.may_fail O.keeps
+        Ahead r (Some (Command.Run config.now)) files.old files.new out.old out.new result }
+    ensures unbegun { WhereHalted result (F.unbegun files.old files.new) }
     ensures closed { (F.space files.new).mode ≡ Closed }
 {
     let name = Name::of(alloc, config)?;

@@ -1,6 +1,6 @@
 //! The top call.
-ghost use Rattle.std.specs.Prelude.{◌≡◌, None, Some, IfSome, map, string_bytes};
-ghost use Rattle.cq_run.specs.Terms.{Fails, FailsTaking, Reads, Writes, Closed, command_for, Emulates, InTurn, Plan, IsWithinRange, known_by, Reader, verdict, IsDone, world, taken_by, EndsIn, status_of, Tells, Answers, StatusCauses};
+ghost use Rattle.std.specs.Prelude.{◌≡◌, ◌≢◌, None, Some, IfSome, map, string_bytes};
+ghost use Rattle.cq_run.specs.Terms.{Fails, FailsTaking, Reads, Writes, Closed, command_for, Emulates, InTurn, Plan, IsWithinRange, known_by, Reader, verdict, IsDone, world, taken_by, EndsIn, WhereHalted, status_of, Tells, Answers, StatusCauses};
 
 use crate::judge::judge;
 use crate::perform::perform;
@@ -47,7 +47,7 @@ pub fn switch_top<R: Threads + Sync, F: Files, O: Sink, E: Sink, G: Gate>(
 ) -> Status
     requires { (F.space files.old).mode ≡ Closed }
     ensures answer { (r : Reader) → Answers InTurn r
-        (λ name. Fails F.space F.may_fail F.keeps (Reads name) files.old files.new)
+        (λ name. Fails F.space F.may_fail F.unbegun (Reads name) files.old files.new)
         (λ name. Fails F.space F.may_fail F.keeps (Writes name) files.old files.new)
         (FailsTaking O.taken O.faults O.may_fail O.keeps out.old out.new) (map string_bytes words.now)
         (world F.space O.taken O.faults files.old out.old)
@@ -67,6 +67,9 @@ pub fn switch_top<R: Threads + Sync, F: Files, O: Sink, E: Sink, G: Gate>(
     // Also over files that tell nothing.
     ensures no_command { command_for (map string_bytes words.now) ≡ None → result ≡ Status.Words }
     ensures words_only { result ≡ Status.Words → command_for (map string_bytes words.now) ≡ None }
+    // No writing is begun, as far as files tell that.
+    ensures unbegun { result ≢ Status.Done → result ≢ Status.WriteFault → F.unbegun files.old files.new }
+    // No name is open, whatever files tell.
     ensures closed { (F.space files.new).mode ≡ Closed }
 {
     let end = run(rt, alloc, words, files, out, gate);
@@ -96,8 +99,9 @@ fn run<R: Threads + Sync, F: Files, O: Sink, G: Gate>(
     gate: &G,
 ) -> Result<(), Stop>
     requires { (F.space files.old).mode ≡ Closed }
-    ensures ends { (r : Reader) → EndsIn F.space F.may_fail F.keeps O.taken O.faults O.may_fail O.keeps InTurn r
-        (command_for (map string_bytes words.now)) files.old files.new out.old out.new result }
+    ensures ends { (r : Reader) → EndsIn F.space F.may_fail F.keeps F.unbegun O.taken O.faults O.may_fail O.keeps
+        InTurn r (command_for (map string_bytes words.now)) files.old files.new out.old out.new result }
+    ensures unbegun { WhereHalted result (F.unbegun files.old files.new) }
     ensures closed { (F.space files.new).mode ≡ Closed }
 {
     match command_of(alloc, words)? {
@@ -118,8 +122,9 @@ fn obey<R: Threads + Sync, F: Files, O: Sink, G: Gate>(
 ) -> Result<(), Stop>
     requires closed { (F.space files.old).mode ≡ Closed }
     requires range { IsWithinRange command }
-    ensures ends { (r : Reader) → EndsIn F.space F.may_fail F.keeps O.taken O.faults O.may_fail O.keeps InTurn r
-        (Some command) files.old files.new out.old out.new result }
+    ensures ends { (r : Reader) → EndsIn F.space F.may_fail F.keeps F.unbegun O.taken O.faults O.may_fail O.keeps
+        InTurn r (Some command) files.old files.new out.old out.new result }
+    ensures unbegun { WhereHalted result (F.unbegun files.old files.new) }
     ensures closed { (F.space files.new).mode ≡ Closed }
 {
     let work = judge(rt, alloc, files, command, gate)?;

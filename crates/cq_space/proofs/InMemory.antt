@@ -46,8 +46,8 @@ read_is es at place e sound here = grind (arith, common_steps, bytes_first, held
 seen_as : (k : Inside) (v : MemSpace) → mode_of (columns_of k.entries.items) k.state ≡ v.mode →
     contents_of (columns_of k.entries.items) ≡ v.contents → read_cuts_of (columns_of k.entries.items) ≡ v.read_cuts →
     write_cuts_of (columns_of k.entries.items) ≡ v.write_cuts → k.faults ≡ v.faults → k.starved ≡ v.starved →
-    k.calls ≡ v.calls → mem_space k ≡ v
-seen_as k v mode contents reads writes faults starved calls = grind (arith, common_steps)
+    k.begun ≡ v.begun → k.calls ≡ v.calls → mem_space k ≡ v
+seen_as k v mode contents reads writes faults starved begun calls = grind (arith, common_steps)
 
 -- what a call that was counted may move, fewer bytes could be moved by before
 pub short_before : (old new : Calls) (n k : ℕ) → new ≡ one_more old → k ≤ n → IsShort new n → IsShort old k

@@ -3,7 +3,7 @@
 use Rattle.std.proofs.Common.{◌≡◌, ◌⊎◌, ◌∙◌, ℕ, ◌≤◌, inl, inr, refl, arith}
 use Rattle.cq_space.specs.Causes.{Rose}
 use Rattle.cq_space.specs.Failing.{Lasts}
-use Rattle.cq_space.specs.MemSpace.{KeepsCuts}
+use Rattle.cq_space.specs.MemSpace.{KeepsCuts, IsUnbegun}
 use Rattle.cq_space.specs.MemTaken.{KeepsCut}
 
 rose_on : (a b c : ℕ) → b ≤ c → Rose a b → Rose a c
@@ -47,6 +47,12 @@ cuts_last = record {
     counted =
         counted_both s.starved t.starved u.starved s.faults t.faults u.faults h.faults k.faults h.counted k.counted;
   };
+}
+
+pub unbegun_lasts : Lasts IsUnbegun
+unbegun_lasts = record {
+  none = λ s. record { kept = cuts_last.none s; begun = refl };
+  both = λ s t u h k. record { kept = cuts_last.both s t u h.kept k.kept; begun = k.begun ∙ h.begun };
 }
 
 pub cut_lasts : Lasts KeepsCut

@@ -13,6 +13,7 @@ mem_space m = record {
   write_cuts = write_cuts_of (columns_of m.entries.items);
   faults = m.faults;
   starved = m.starved;
+  begun = m.begun;
   calls = m.calls;
 }
 

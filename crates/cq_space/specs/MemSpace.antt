@@ -19,7 +19,7 @@ abbrev pub cuts_code : Coded Cuts
 cuts_code = code (coded_list coded_ℕ) coded_ℕ
 
 -- the mode, the contents, where reading and writing names are cut, the faults, those of them that came from want of
--- memory, and the calls but `end_read`, which are numbered
+-- memory, how often a writing was to begin, and the calls but `end_read`, which are numbered
 pub record MemSpace : Type 0 where
   pub mode : Mode
   pub contents : Contents
@@ -27,6 +27,7 @@ pub record MemSpace : Type 0 where
   pub write_cuts : Cuts
   pub faults : ℕ
   pub starved : ℕ
+  pub begun : ℕ
   pub calls : Calls
 
 -- no name, nothing open, no cut and no fault
@@ -38,6 +39,7 @@ no_files = record {
   write_cuts = empty;
   faults = 0;
   starved = 0;
+  begun = 0;
   calls = record { made = 0; failing = []; most = None };
 }
 
@@ -112,3 +114,12 @@ pub record KeepsCuts (old new : MemSpace) : Type 0 where
   pub faults : old.faults ≤ new.faults
   pub later : old.starved ≤ new.starved
   pub counted : (new.starved ≡ old.starved) ⊎ Rose old.faults new.faults
+
+-- and no writing was to begin
+pub record IsUnbegun (old new : MemSpace) : Type 0 where
+  pub kept : KeepsCuts old new
+  pub begun : new.begun ≡ old.begun
+
+-- one writing more was to begin
+abbrev pub HasBegun : MemSpace → MemSpace → Type 0
+HasBegun old new = IsRaised old.begun new.begun

@@ -25,7 +25,10 @@ pub struct Failed;
 ///   the count as it was.
 ///
 /// An implementation may promise more, by the members `may_fail`, `may_pass`, `may_move`, `gives`, `keeps`,
-/// `counts` and `leaves`. Files that fail only where a test sets them to fail are an example.
+/// `unbegun`, `begins`, `counts` and `leaves`. Files that fail only where a test sets them to fail are an example.
+///
+/// Only `start_write` begins a writing. The calls that read leave all `unbegun`, and those that write need not: so what
+/// leaves any file space unbegun, whichever it is, begins none.
 pub trait Files {
     /// The mode, the told contents and the count of faults.
     ghost space: { Self → Space };
@@ -45,6 +48,12 @@ pub trait Files {
     /// What is beside the meaning and stays as it was, from before a call to after it.
     ghost keeps: { Self → Self → Type 0 } = { λ _ _. Unit {0} };
 
+    /// What stays beside the meaning where no writing is begun: all that `keeps` has, or more.
+    ghost unbegun: { Self → Self → Type 0 } = { λ _ _. Unit {0} };
+
+    /// What the call that begins a writing moves on beside the meaning, also where it fails.
+    ghost begins: { Self → Self → Type 0 } = { λ _ _. Unit {0} };
+
     /// What each call that can fail moves on beside the meaning, from before it to after it.
     ghost counts: { Self → Self → Type 0 } = { λ _ _. Unit {0} };
 
@@ -61,7 +70,7 @@ pub trait Files {
         ensures found { IfOk result (Finds (space self.old) (space self.new) name.now) }
         ensures err { OnErr result ((space self.new).mode ≡ Closed) }
         ensures told { (space self.new).told ≡ (space self.old).told }
-        ensures answered { HasAnswered space (Call.StartRead name.now) may_fail may_pass counts keeps
+        ensures answered { HasAnswered space (Call.StartRead name.now) may_fail may_pass counts unbegun
             self.old self.new result };
 
     /// Reads on, into the front of `buf`. The mode has to be reading, and `buf` not empty.
@@ -77,7 +86,7 @@ pub trait Files {
         ensures told { (space self.new).told ≡ (space self.old).told }
         ensures moved { IfOk result (may_move self.old) }
         ensures given { IfOk result (λ count. gives self.old (take count buf.new) self.new) }
-        ensures answered { HasAnswered space Call.Read may_fail may_pass counts keeps
+        ensures answered { HasAnswered space Call.Read may_fail may_pass counts unbegun
             self.old self.new result };
 
     /// Ends reading, at the name's end or before it. The mode has to be reading. The mode is closed
@@ -87,7 +96,7 @@ pub trait Files {
         ensures closed { Closes (space self.old) (space self.new) }
         ensures uncounted { (space self.new).faults ≡ (space self.old).faults }
         ensures left { leaves self.old self.new }
-        ensures kept { keeps self.old self.new };
+        ensures kept { unbegun self.old self.new };
 
     /// Begins to write a name, with no bytes. The mode has to be closed.
     ///
@@ -97,6 +106,7 @@ pub trait Files {
         requires { (space self.old).mode ≡ Closed }
         ensures ok { OnOk result (BeginsWriting (space self.old) (space self.new) name.now) }
         ensures err { OnErr result (Closes (space self.old) (space self.new)) }
+        ensures begun { begins self.old self.new }
         ensures answered { HasAnswered space (Call.StartWrite name.now) may_fail may_pass counts keeps
             self.old self.new result };
 
@@ -123,4 +133,10 @@ pub trait Files {
 
     /// What stays through each of two calls stays through both.
     ghost lasts: { Lasts keeps };
+
+    /// So does what stays where no writing is begun.
+    ghost lasts_unbegun: { Lasts unbegun };
+
+    /// Where no writing is begun all stays that stays in any case.
+    ghost unbegun_keeps: { (s t : Self) → unbegun s t → keeps s t };
 }

@@ -106,6 +106,10 @@ impl<R: rt::Files> Files for HostFiles<R> {
 
     ghost lasts = { record { none = λ _. tt; both = λ _ _ _ _ _. tt } };
 
+    ghost lasts_unbegun = { record { none = λ _. tt; both = λ _ _ _ _ _. tt } };
+
+    ghost unbegun_keeps = { λ _ _ h. h };
+
     fn start_read(&mut self, name: &str) -> Result<bool, Failed> {
         match self.open(name) {
             Ok((name, file)) => {

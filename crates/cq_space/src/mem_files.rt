@@ -1,9 +1,9 @@
 //! Files in memory, which a test can set to fail.
 ghost use Rattle.std.specs.Prelude.{◌≡◌, ◌+◌, ◌-◌, ◌<◌, ◌≤◌, ◌^◌, ◌++◌, ◌∷◌, [], None, Some, min, OnOk, OnErr, MatchOption};
 ghost use Rattle.std.specs.FinMap.{insert, get};
-ghost use Rattle.cq_space.specs.Lasting.{cuts_last};
+ghost use Rattle.cq_space.specs.Lasting.{cuts_last, unbegun_lasts};
 ghost use Rattle.cq_space.specs.Space.{Closed};
-ghost use Rattle.cq_space.specs.MemSpace.{no_files, told_space, IsCounted, IsUncounted, MayFail, MayMove, MayPass, KeepsCuts};
+ghost use Rattle.cq_space.specs.MemSpace.{no_files, told_space, IsCounted, IsUncounted, MayFail, MayMove, MayPass, KeepsCuts, IsUnbegun, HasBegun};
 
 use crate::cut::before_cut;
 use crate::entries::{
@@ -19,12 +19,12 @@ use std::marker::Model;
 /// Files in memory, for tests: they tell their contents, and fail where a test set them to fail.
 ///
 /// Clauses see the mode, the contents, where reading and writing each name are cut, the count of faults,
-/// the count of those that came from want of memory, and the numbered calls. A call of [`Files`] answers
-/// [`Failed`] only where its number was set to fail, at a cut, or where [`MemFiles::starved`] was raised by
-/// one in it, or stands at its last value, and counts one fault then. A call whose number was set to
-/// fail always does; a read or a write never goes past a cut, never succeeds at one, and never moves more
-/// bytes than [`MemFiles::short`] allows. `start_read` and `read` take no memory. The calls below are none
-/// of `Files`, and leave the mode as it was.
+/// the count of those that came from want of memory, how often a writing was to begin, and the numbered
+/// calls. A call of [`Files`] answers [`Failed`] only where its number was set to fail, at a cut, or where
+/// [`MemFiles::starved`] was raised by one in it, or stands at its last value, and counts one fault then.
+/// A call whose number was set to fail always does; a read or a write never goes past a cut, never
+/// succeeds at one, and never moves more bytes than [`MemFiles::short`] allows. `start_read` and `read`
+/// take no memory. The calls below are none of `Files`, and leave the mode as it was.
 #[derive(Drop)]
 pub struct MemFiles {
     alloc: Global,
@@ -32,6 +32,8 @@ pub struct MemFiles {
     state: State,
     faults: u64,
     starved: u64,
+    // No code reads it: clauses tell by it how often a writing was to begin. At its last value it stays.
+    begun: u64,
     calls: Tally,
 }
 
@@ -64,6 +66,7 @@ impl MemFiles {
             state: State::Shut,
             faults: 0,
             starved: 0,
+            begun: 0,
             calls: Tally::new(alloc),
         }
     }
@@ -180,11 +183,19 @@ impl Files for MemFiles {
 
     ghost keeps = { KeepsCuts };
 
+    ghost unbegun = { IsUnbegun };
+
+    ghost begins = { HasBegun };
+
     ghost counts = { IsCounted };
 
     ghost leaves = { IsUncounted };
 
     ghost lasts = { cuts_last };
+
+    ghost lasts_unbegun = { unbegun_lasts };
+
+    ghost unbegun_keeps = { λ _ _ h. h.kept };
 
     fn start_read(&mut self, name: &str) -> Result<bool, Failed> {
         if self.calls.next() {
@@ -227,6 +238,7 @@ impl Files for MemFiles {
     }
 
     fn start_write(&mut self, name: &str) -> Result<(), Failed> {
+        raise(&mut self.begun);
         if self.calls.next() {
             return Err(self.fault());
         }

@@ -40,7 +40,8 @@ pub struct WriteFault;
 /// that lack the name alone can do; `Fault` exactly where the last call failed, which was `start_read`, or a `read`
 /// before which no more than `limit` bytes were taken: the count of faults rose in that call, and with every other
 /// answer it is as before; `Long` exactly where `limit + 1` bytes were taken and there was memory for them, so only
-/// where the name has more than `limit`. After every answer the mode is closed, and contents are as before.
+/// where the name has more than `limit`. After every answer the mode is closed, contents are as
+/// before, and no writing was begun.
 ///
 /// Also where no contents are told, the bytes of `Ok` are those that the reads of this name gave, one
 /// after another, until one gave none; and `Long` comes only where they gave `limit + 1` in all. What a
@@ -55,18 +56,18 @@ pub fn read_whole<F: Files>(
     requires closed { (F.space files.old).mode ≡ Closed }
     requires limit { limit ≤ longest_file }
     ensures whole { ReadsWhole (F.space files.old) (F.space files.new) name.now limit result }
-    ensures why { IsErrOf result ReadRefusal.Fault → Fails F.space F.may_fail F.keeps
+    ensures why { IsErrOf result ReadRefusal.Fault → Fails F.space F.may_fail F.unbegun
         (Reads name.now) files.old files.new }
     ensures broken { IsErrOf result ReadRefusal.Fault →
-        BreaksOff F.space F.may_fail F.may_pass F.may_move F.gives F.counts F.leaves F.keeps
+        BreaksOff F.space F.may_fail F.may_pass F.may_move F.gives F.counts F.leaves F.unbegun
         name.now limit files.old files.new }
     ensures taken { (n : ℕ) → IsErrOf result (ReadRefusal.Long n) →
-        TakesSoMany F.space F.may_fail F.may_pass F.may_move F.gives F.counts F.leaves F.keeps
+        TakesSoMany F.space F.may_fail F.may_pass F.may_move F.gives F.counts F.leaves F.unbegun
         name.now (limit + 1) files.old files.new }
     ensures all { IfOk result (λ v.
-        TakesAll F.space F.may_fail F.may_pass F.may_move F.gives F.counts F.leaves F.keeps
+        TakesAll F.space F.may_fail F.may_pass F.may_move F.gives F.counts F.leaves F.unbegun
         name.now v.items files.old files.new) }
-    ensures kept { F.keeps files.old files.new }
+    ensures kept { F.unbegun files.old files.new }
 {
     match files.start_read(name) {
         Ok(true) => {}

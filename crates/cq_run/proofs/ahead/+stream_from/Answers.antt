@@ -11,7 +11,7 @@ returns-in-None-clause-judges g t c = λ r.
     let F = g.F.Files in
     let files = c.args.files.now in
     rw (none, c.of.ensures, c.new.ensures.items) (none_arrive r c.args.tables.now.limit_bytes c.args.input
-    (Unread F.space F.may_fail F.keeps files files) (F.space files) c.requires.closed)
+    (Unread F.space F.may_fail F.unbegun files files) (F.space files) c.requires.closed)
 
 pub finish_port-requires-clause-begun : goal.finish_port-requires-clause-begun
 finish_port-requires-clause-begun g t c = begun_is c.in_ok-begun-in-Some.ensures.begun
@@ -29,7 +29,7 @@ pub returns-in_err-capture-in-Some-clause-judges : goal.returns-in_err-capture-i
 returns-in_err-capture-in-Some-clause-judges g t c = λ r.
     rw (exit_is _ c.from_residual-in_err-capture-in-Some.ensures.1, c.in-Some.ensures.cases.0)
     (capture_ends _ c.in_ok-begun-in-Some.ensures.begun c.begin_port.ensures.closed c.begin_port.ensures.told
-    c.begin_port.ensures.kept g.met.F.Files.lasts r c.args.input c.in-Some.rest.now _ _
+    c.begin_port.ensures.kept g.met.F.Files.lasts_unbegun r c.args.input c.in-Some.rest.now _ _
     c.in_err-capture-in-Some.ensures.halts (c.stream_from-later.ensures.judges r))
 
 pub returns-in_err-captures-in-Some-clause-judges : goal.returns-in_err-captures-in-Some-clause-judges
@@ -37,14 +37,14 @@ returns-in_err-captures-in-Some-clause-judges g t c = λ r.
     let spelt = c.in_ok-capture-in-Some.ensures.spelt in
     rw (exit_is _ c.from_residual-in_err-captures-in-Some.ensures.1, c.in-Some.ensures.cases.0)
     (later_ends _ c.in_ok-begun-in-Some.ensures.begun c.begin_port.ensures.closed c.begin_port.ensures.told
-    c.begin_port.ensures.kept g.met.F.Files.lasts r c.args.input c.in-Some.rest.now _ _
+    c.begin_port.ensures.kept g.met.F.Files.lasts_unbegun r c.args.input c.in-Some.rest.now _ _
     c.in_ok-capture-in-Some.capture spelt (c.in_err-captures-in-Some.ensures.judges r))
 
 pub returns-in_err-in_front-in-Some-clause-judges : goal.returns-in_err-in_front-in-Some-clause-judges
 returns-in_err-in_front-in-Some-clause-judges g t c = λ r.
     rw (exit_is _ c.from_residual-in_err-in_front-in-Some.ensures.1, c.in-Some.ensures.cases.0)
     (memory_ends _ c.in_ok-begun-in-Some.ensures.begun c.begin_port.ensures.closed c.begin_port.ensures.told
-    c.begin_port.ensures.kept g.met.F.Files.lasts r c.args.input c.in-Some.rest.now _ _
+    c.begin_port.ensures.kept g.met.F.Files.lasts_unbegun r c.args.input c.in-Some.rest.now _ _
     c.in_ok-capture-in-Some.capture c.in_ok-capture-in-Some.ensures.spelt
     (c.in_ok-captures-in-Some.ensures.judges r))
 
@@ -52,7 +52,7 @@ pub returns-in_ok-in_front-in-Some-clause-judges : goal.returns-in_ok-in_front-i
 returns-in_ok-in_front-in-Some-clause-judges g t c = λ r.
     rw (c.in_ok-in_front-in-Some.ensures, c.in-Some.ensures.cases.0)
     (all_arrive _ c.in_ok-begun-in-Some.ensures.begun c.begin_port.ensures.closed c.begin_port.ensures.told
-    c.begin_port.ensures.kept g.met.F.Files.lasts r c.args.input c.in-Some.rest.now _ _
+    c.begin_port.ensures.kept g.met.F.Files.lasts_unbegun r c.args.input c.in-Some.rest.now _ _
     c.in_ok-capture-in-Some.capture c.in_ok-capture-in-Some.ensures.spelt (c.in_ok-captures-in-Some.ensures.judges r))
 
 pub returns-in_ok-in_front-in-Some-clause-each : goal.returns-in_ok-in_front-in-Some-clause-each

@@ -9,7 +9,7 @@ returns-in_err-bytes-in-Some-clause-halts g c =
     let space = g.F.Files.space in
     let halt = c.in_err-bytes-in-Some.field-0.0 in
     let S : List ℕ → Type 0 = λ asked.
-    Fails space g.F.Files.may_fail g.F.Files.keeps (Reads asked) c.args.files.now c.read_file.new.files in
+    Fails space g.F.Files.may_fail g.F.Files.unbegun (Reads asked) c.args.files.now c.read_file.new.files in
     rw (exit_is _ c.from_residual-in_err-bytes-in-Some.ensures.1) (λ r.
     rw c.in-Some.is (rw (c.in_ok-name-in-Some.ensures, c.text.ensures) at
     (halts_more InTurn _ _ S (space c.args.files.now) (space c.read_file.new.files) halt (λ name u. u.1)

@@ -19,16 +19,17 @@ module _ {S : Type 0} {space : S → Space} {keeps : S → S → Type 0} {config
   at_plan kept h = read_on aim_of lasts at_tables kept (λ r. tables_stay config) (λ r. h)
 
 pub returns-in_err-tables : goal.returns-in_err-tables
-returns-in_err-tables g c = rw (exit_is _ c.from_residual.ensures.1) (read_ends _ g.met.F.Files.lasts
-    (at_tables g.met.F.Files.lasts c.requires) c.read_configuration.ensures.kept
+returns-in_err-tables g c = rw (exit_is _ c.from_residual.ensures.1) (read_ends _ g.met.F.Files.lasts_unbegun
+    (at_tables g.met.F.Files.lasts_unbegun c.requires) c.read_configuration.ensures.kept
     (λ r. c.in_err-tables.ensures.judges) (λ name u. u))
 
 pub returns-in_err-build_check : goal.returns-in_err-build_check
 returns-in_err-build_check g c = rw (exit_is _ c.from_residual-in_err-build_check.ensures.1) (no_memory
-    (at_plan g.met.F.Files.lasts c.requires c.read_configuration.ensures.kept c.in_ok-tables.ensures.judges))
+    (at_plan g.met.F.Files.lasts_unbegun c.requires c.read_configuration.ensures.kept c.in_ok-tables.ensures.judges))
 
 pub returns : goal.returns
 returns g c =
-    settled (at_plan g.met.F.Files.lasts c.requires c.read_configuration.ensures.kept c.in_ok-tables.ensures.judges) _
+    settled (at_plan g.met.F.Files.lasts_unbegun c.requires c.read_configuration.ensures.kept
+    c.in_ok-tables.ensures.judges) _
     (Exactly (checked c.in_ok-tables.tables), refl, c.in_ok-build_check.ensures)
     (rw c.in_ok-build_check.ensures tt) (λ r. told_any (g.F.Files.space c.args.files.now).told _ (λ m. tt))

@@ -23,8 +23,8 @@ returns-in_ok-given-in-Run g c = rw c.in-Run.is
 pub returns-in-Soak : goal.returns-in-Soak
 returns-in-Soak g c =
     let F = g.F.Files in
-    rw c.in-Soak.is (soak_judged F.space F.may_fail F.keeps c.in-Soak.seed c.in-Soak.ports c.in-Soak.slots
-    c.args.files.now c.requires.closed (g.met.F.Files.lasts.none _) c.soak.result c.soak.ensures.meets
+    rw c.in-Soak.is (soak_judged F.space F.may_fail F.unbegun c.in-Soak.seed c.in-Soak.ports c.in-Soak.slots
+    c.args.files.now c.requires.closed (g.met.F.Files.lasts_unbegun.none _) c.soak.result c.soak.ensures.meets
     c.soak.ensures.writes c.soak.ensures.sent c.soak.ensures.refused)
 
 pub returns-in_err-given-in-Resume : goal.returns-in_err-given-in-Resume
@@ -34,10 +34,11 @@ returns-in_err-given-in-Resume g c = rw (exit_is _ c.from_residual-in_err-given-
 pub returns-in_err-text-in-Resume : goal.returns-in_err-text-in-Resume
 returns-in_err-text-in-Resume g c =
     rw (exit_is _ c.from_residual-in_err-text-in-Resume.ensures.1, c.in-Resume.is)
-    (read_ends _ g.met.F.Files.lasts (at_text c.in_ok-given-in-Resume.ensures.given _) c.read_stopped.ensures.kept
+    (read_ends _ g.met.F.Files.lasts_unbegun (at_text c.in_ok-given-in-Resume.ensures.given _)
+    c.read_stopped.ensures.kept
     (λ r. c.in_err-text-in-Resume.ensures.judges) (λ asked u. (tt, u.1)))
 
 pub returns-in_ok-text-in-Resume : goal.returns-in_ok-text-in-Resume
 returns-in_ok-text-in-Resume g c = rw c.in-Resume.is (resume_judged c.in_ok-given-in-Resume.ensures.given _
-    g.met.F.Files.lasts c.read_stopped.ensures.kept c.in_ok-text-in-Resume.ensures.judges
+    g.met.F.Files.lasts_unbegun c.read_stopped.ensures.kept c.in_ok-text-in-Resume.ensures.judges
     c.resume.result c.resume.ensures.resuming c.resume.ensures.refused)

@@ -1,6 +1,15 @@
-use Rattle.cq_run.proofs.Terms.{◌≡◌, ◌∙◌, sym, Writes}
+use Rattle.cq_run.proofs.Terms.{arith, rules, ◌≡◌, ◌∙◌, sym, Writes}
 use Rattle.cq_run.proofs.Chain.{fails_after}
 use Rattle.cq_run.proofs.perform.write_all.Goals as goal
+
+pub loop-writes-preserved : goal.loop-writes-preserved
+loop-writes-preserved g c = record {
+  closed = c.in_default.ensures.whole.closed;
+  told = search (arith, rules);
+  uncounted = search (arith, rules);
+  kept = g.met.F.Files.lasts.both _ _ _ c.loop-writes.invariant.kept c.in_default.ensures.kept;
+  cut = search (arith, rules);
+}
 
 pub returns-in-Err-clause-why : goal.returns-in-Err-clause-why
 returns-in-Err-clause-why g c =

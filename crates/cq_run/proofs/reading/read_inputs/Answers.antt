@@ -6,7 +6,7 @@ use Rattle.cq_run.proofs.Told.{exit_is}
 use Rattle.cq_run.proofs.reading.read_inputs.Goals as goal
 
 pub ports-init : goal.ports-init
-ports-init g c = search (arith, rules, reads_none, g.F.Files.space, g.met.F.Files.lasts.none)
+ports-init g c = search (arith, rules, reads_none, g.F.Files.space, g.met.F.Files.lasts_unbegun.none)
 
 pub ports-preserved : goal.ports-preserved
 ports-preserved g c =
@@ -16,14 +16,14 @@ ports-preserved g c =
           (c.ports.invariant.judged r) (c.in_ok-capture.ensures.judges r);
       each = ap (λ (cs : List (List Captured)). length cs) c.in_ok-put_capture.ensures
           ∙ length-append c.ports.captures.items _ ∙ omega (arith, c.ports.invariant.each);
-      kept = g.met.F.Files.lasts.both _ _ _ c.ports.invariant.kept c.read_port.ensures.kept;
+      kept = g.met.F.Files.lasts_unbegun.both _ _ _ c.ports.invariant.kept c.read_port.ensures.kept;
     }
 
 pub returns-in_err-capture-clause-judges : goal.returns-in_err-capture-clause-judges
 returns-in_err-capture-clause-judges g c = λ r. rw (exit_is _ c.from_residual.ensures.1, sym c.as_slice-rows.ensures)
     (ends_all r c.args.tables.now.limit_bytes c.as_slice-rows.result.now c.ports.input c.index-rows-input.result
-    c.ports-test.true c.index-rows-input.is (λ name. fails_after g.F.Files.space g.F.Files.may_fail g.F.Files.keeps
-    (Reads name) c.args.files.now c.ports.files c.read_port.new.files g.met.F.Files.lasts
+    c.ports-test.true c.index-rows-input.is (λ name. fails_after g.F.Files.space g.F.Files.may_fail g.F.Files.unbegun
+    (Reads name) c.args.files.now c.ports.files c.read_port.new.files g.met.F.Files.lasts_unbegun
     (c.ports.invariant.judged r).uncounted c.ports.invariant.kept) (c.ports.invariant.judged r)
     (c.in_err-capture.ensures.judges r))
 

@@ -9,5 +9,5 @@ invariant-ports g l = record {
       (g.F.Files.space l.fn.files) (g.F.Files.space l.files) (Ok l.captures.items);
   each : length l.captures.items
       ≡ l.input;
-  kept : g.F.Files.keeps l.fn.files l.files;
+  kept : g.F.Files.unbegun l.fn.files l.files;
 }

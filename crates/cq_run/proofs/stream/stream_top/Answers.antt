@@ -1,5 +1,5 @@
 use Rattle.cq_run.proofs.Terms.{◌∙◌, map, string_bytes, subst, sym, Option, Some, Command, Run, Ahead, known_by, StatusCauses, judged_or_words, world}
-use Rattle.cq_run.proofs.Ends.{causes_at, emulated_at, only_words, words_end}
+use Rattle.cq_run.proofs.Ends.{causes_at, emulated_at, halted_so, only_words, words_end}
 use Rattle.cq_run.proofs.TextRead.{from_front}
 use Rattle.cq_run.proofs.Within.{others, streams}
 use Rattle.cq_run.proofs.stream.stream_top.Goals as goal
@@ -16,6 +16,7 @@ returns-in-None g c =
       headline = rw (e.0) all.headline;
       no_command = rw (e.0) all.no_command;
       words_only = rw (e.0) all.words_only;
+      unbegun = all.unbegun;
       closed = all.closed;
     }
 
@@ -47,5 +48,6 @@ returns-in-Some g c =
           c.stream-end.result c.answer.result is (c.stream-end.ensures.ends from_front));
       words_only = rw (e.0, c.in-Some.ensures.runs) (only_words Ahead from_front _ _ _ command old new
           c.stream-end.result c.answer.result is (c.stream-end.ensures.ends from_front));
+      unbegun = halted_so c.stream-end.result c.answer.result is c.stream-end.ensures.unbegun;
       closed = c.stream-end.ensures.closed;
     }

@@ -1,4 +1,5 @@
-use Rattle.cq_run.proofs.Terms.{arith, rules, string_bytes, ◌∙◌, sym}
+use Rattle.cq_run.proofs.Terms.{arith, rules, string_bytes, ◌∙◌, sym, Err}
+use Rattle.cq_run.proofs.Ends.{halts_so}
 use Rattle.cq_run.proofs.Within.{words_within}
 use Rattle.cq_run.proofs.top.run.Goals as goal
 
@@ -7,3 +8,9 @@ obey-requires-clause-range g c κs within = search (arith, rules, words_within, 
 
 pub returns-in-Some-clause-ends : goal.returns-in-Some-clause-ends
 returns-in-Some-clause-ends g c = λ r. rw (sym c.in_ok-command.ensures.command ∙ c.in-Some.is) (c.obey.ensures.ends r)
+
+pub returns-in_err-command-clause-unbegun : goal.returns-in_err-command-clause-unbegun
+returns-in_err-command-clause-unbegun g c = halts_so _ (g.met.F.Files.lasts_unbegun.none _)
+
+pub returns-in-None-clause-unbegun : goal.returns-in-None-clause-unbegun
+returns-in-None-clause-unbegun g c = halts_so (Err c.from.result) (g.met.F.Files.lasts_unbegun.none c.args.files.now)

@@ -1,5 +1,5 @@
 use Rattle.cq_run.proofs.Terms.{arith, rules, map, string_bytes, ◌∙◌, sym, command_for, InTurn, world}
-use Rattle.cq_run.proofs.Ends.{causes_at, emulated_at, only_words, words_end}
+use Rattle.cq_run.proofs.Ends.{causes_at, emulated_at, halted_so, only_words, words_end}
 use Rattle.cq_run.proofs.TextRead.{from_front}
 use Rattle.cq_run.proofs.top.switch_top.Goals as goal
 
@@ -20,5 +20,6 @@ returns g c =
           (c.run-end.ensures.ends from_front);
       words_only = only_words InTurn from_front _ _ _ command old new c.run-end.result c.answer.result is
           (c.run-end.ensures.ends from_front);
+      unbegun = halted_so c.run-end.result c.answer.result is c.run-end.ensures.unbegun;
       closed = c.run-end.ensures.closed;
     }

@@ -28,7 +28,7 @@ pieces-preserved g c =
       within = grind (arith, common_steps);
       told = cc;
       uncounted = search (arith, rules, g.F.Files.space);
-      kept = search (arith, rules, g.met.F.Files.lasts.both);
+      kept = search (arith, rules, g.met.F.Files.lasts_unbegun.both);
       taken = search (arith, rules, length-take, g.F.Files.space, on);
     }
 

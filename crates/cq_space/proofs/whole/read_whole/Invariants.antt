@@ -13,9 +13,9 @@ invariant-pieces g l =
       within : vec_len l.bytes ≤ l.limit + 1;
       told : now.told ≡ start.told;
       uncounted : now.faults ≡ start.faults;
-      kept : g.F.Files.keeps l.fn.files l.files;
+      kept : g.F.Files.unbegun l.fn.files l.files;
       taken : HasTaken g.F.Files.space g.F.Files.may_fail g.F.Files.may_pass g.F.Files.may_move g.F.Files.gives
-          g.F.Files.counts g.F.Files.leaves g.F.Files.keeps l.name l.fn.files l.bytes.items l.files;
+          g.F.Files.counts g.F.Files.leaves g.F.Files.unbegun l.name l.fn.files l.bytes.items l.files;
     }
 
 abbrev pub decreases-pieces : goal.decreases-pieces
