@@ -5,7 +5,7 @@
 use Rattle.cq_parts.proofs.Terms.{common_steps, arith, ◌≡◌, ◌∙◌, ◌<◌, ◌^◌, ℕ, List, refl, ap, sym, subst, Ok, Err, IsOkAnd, Result, TagFault, Scheduled, schedule_of, LimitedRecord, Captured, IsScheduleOf, Switch, switch_of, Tables, Contents, Run, Aim, Denies, Meets, Resuming, Reader, captures_in, ideally_sent, judged, tables_in, sent_or_tag, IsRead, IsRefusal, Kept, StateRefusal, Taken, departures_in_run, read_runs_go_on, stopped_runs_are_read, GoesOnAsRun, IsReadAs, kept_in_run, traffic_is, AreGiven, IsEmulation, KeepsUp, IsPartText, Plan, Refusal}
 use Rattle.cq_resume.specs.declared.refusal.StateRefusal.TheVariants as of_state
 use Rattle.cq_run.proofs.Crossed.{keeps_up}
-use Rattle.cq_run.specs.Plans.{crossed, resumed}
+use Rattle.cq_run.specs.Plan.{crossed, resumed}
 use Rattle.cq_run.specs.declared.refusal.Refusal.TheVariants as refused
 use Rattle.cq_run.specs.declared.refusal.StateFault.TheVariants as stopped
 use Rattle.cq_parts.proofs.Faulty.{whole_fault}

@@ -10,7 +10,7 @@ use Rattle.cq_route.specs.Route.{route}
 use Rattle.cq_run.proofs.OnePlan.{one_plan}
 use Rattle.cq_run.proofs.Planned.{from_log, from_trace, part_rest, resume_rest, sent_of}
 use Rattle.cq_run.specs.Auditing.{IsAuditYes, IsLogDenied}
-use Rattle.cq_run.specs.Plans.{check_line}
+use Rattle.cq_run.specs.Plan.{check_line}
 use Rattle.cq_run.specs.Workers.{WorkersChangeNothing, over, with_workers}
 use Rattle.cq_run.specs.declared.denial.Denial.TheVariants as why
 

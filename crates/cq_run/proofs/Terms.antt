@@ -49,8 +49,8 @@ pub use Rattle.cq_run.specs.PartEnds.{IsPartHalt, IsResumeHalt, IsResumedBy, IsR
 pub use Rattle.cq_run.specs.Parting.{IsPartRefusal, IsPartText, IsResumeRefusal, IsResumedText}
 pub use Rattle.cq_run.specs.Passing.{all_leave, as_it_leaves, capture_of_all}
 pub use Rattle.cq_run.specs.Planning.{CommandHalts, Decides, IsDenial, IsWithinRange, known_by, known_to}
-pub use Rattle.cq_run.specs.Plans.{audited, capture_out, checked, passed, state_written}
-unfoldable pub use Rattle.cq_run.specs.Plans.{captures_out, crossed, reported, resumed, switched}
+pub use Rattle.cq_run.specs.Plan.{audited, capture_out, checked, passed, state_written}
+unfoldable pub use Rattle.cq_run.specs.Plan.{captures_out, crossed, reported, resumed, switched}
 pub use Rattle.cq_run.specs.Refusals.{fault_text, in_phase_text, is_fault, is_no, meaning_of}
 pub use Rattle.cq_run.specs.Switching.{IsCrossed, IsCrossing, IsIdeal, IsPassing, IsSent, IsSwitched, halt_for, halt_of, sent_by}
 pub use Rattle.cq_run.specs.Verdict.{MayRead, MayWrite, capture_in, capture_of, captures_in, found_or_missing, ideally_sent, judged, judged_or_words, named, packets_at, read_or_faulty, read_or_refused_for, sent_or_tag, short_in, short_or, state_in, tables_in, text_in, ◌>>=◌}

@@ -8,8 +8,7 @@ use Rattle.cq_pcap.specs.Captured.{Captured}
 use Rattle.cq_resume.specs.Resumed.{Kept}
 use Rattle.cq_route.specs.declared.tables.Tables.{Tables}
 use Rattle.cq_simulate.specs.FabricRuns.{IsFabricRun}
-use Rattle.cq_run.specs.Plan.{Plan}
-use Rattle.cq_run.specs.Plans.{audited, crossed, reported, resumed, state_written}
+use Rattle.cq_run.specs.Plan.{Plan, audited, crossed, reported, resumed, state_written}
 use Rattle.cq_run.specs.Auditing.{IsAuditYes, IsDenied}
 use Rattle.cq_run.specs.Parting.{IsPartRefusal, IsPartText, IsResumeRefusal, IsResumedText}
 use Rattle.cq_run.specs.declared.refusal.Refusal.{Refusal}

@@ -20,8 +20,7 @@ use Rattle.cq_words.specs.declared.command.Command.{Command}
 use Rattle.cq_words.specs.declared.command.Command.TheVariants.{Pass, Check, Ideal, Run, Soak, Audit, Part, Resume}
 use Rattle.cq_run.specs.Parting.{IsPartText, IsResumedText}
 use Rattle.cq_run.specs.Passing.{capture_of_all}
-use Rattle.cq_run.specs.Plan.{Plan}
-use Rattle.cq_run.specs.Plans.{audited, crossed, passed, resumed, state_written}
+use Rattle.cq_run.specs.Plan.{Plan, audited, crossed, passed, resumed, state_written}
 use Rattle.cq_run.specs.Reader.{Reader}
 use Rattle.cq_run.specs.Verdict.{tables_in, capture_in, captures_in}
 

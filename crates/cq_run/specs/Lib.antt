@@ -1,5 +1,4 @@
 pub mod Plan
-pub mod Plans
 pub mod Passing
 pub mod Auditing
 pub mod Parting

@@ -9,8 +9,7 @@ use Rattle.cq_state.specs.declared.write.StateLong.{StateLong}
 use Rattle.cq_state.specs.declared.write.StateLong.TheVariants as of_text
 use Rattle.cq_run.specs.Headline.{AreGiven}
 use Rattle.cq_run.specs.Parting.{IsPartRefusal, IsResumeRefusal, IsResumedText}
-use Rattle.cq_run.specs.Plan.{Plan}
-use Rattle.cq_run.specs.Plans.{resumed}
+use Rattle.cq_run.specs.Plan.{Plan, resumed}
 use Rattle.cq_run.specs.Switching.{IsSent, sent_by}
 use Rattle.cq_run.specs.declared.refusal.Refusal.TheVariants.{State}
 use Rattle.cq_run.specs.declared.refusal.StateFault.TheVariants.{Line, Long, Shape, Unsound}

@@ -7,8 +7,7 @@ use Rattle.cq_words.specs.declared.command.Command.TheVariants.{Audit}
 use Rattle.cq_run.specs.declared.refusal.Refusal.{Refusal}
 use Rattle.cq_run.specs.Aim.{Denies, Meets}
 use Rattle.cq_run.specs.Headline.{IsEmulation}
-use Rattle.cq_run.specs.Plan.{Plan}
-use Rattle.cq_run.specs.Plans.{audited}
+use Rattle.cq_run.specs.Plan.{Plan, audited}
 use Rattle.cq_run.specs.Reader.{Reader}
 use Rattle.cq_run.specs.Verdict.{judged}
 use Rattle.cq_run.specs.Writing.{all_replaced}

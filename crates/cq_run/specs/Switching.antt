@@ -21,8 +21,7 @@ use Rattle.cq_run.specs.declared.stop.Halt.TheVariants.{Refused, NoMemory}
 use Rattle.cq_run.specs.declared.switching.Crossed.{Crossed}
 use Rattle.cq_run.specs.declared.switching.Switched.{Switched}
 use Rattle.cq_run.specs.Headline.{KeepsUp}
-use Rattle.cq_run.specs.Plan.{Plan}
-use Rattle.cq_run.specs.Plans.{capture_out, crossed, switched}
+use Rattle.cq_run.specs.Plan.{Plan, capture_out, crossed, switched}
 use Rattle.cq_run.specs.Verdict.{ideally_sent}
 
 -- these are the departures of the ideal switch, and the stamp from which their slots are counted

@@ -28,7 +28,7 @@ use Rattle.cq_run.specs.declared.refusal.StateFault.TheVariants as stopped
 use Rattle.cq_words.specs.Words.{command_for}
 use Rattle.cq_run.specs.Aim.{Aim, Exactly, Crossing, Reporting, Auditing, Parting, Resuming}
 use Rattle.cq_run.specs.Reader.{Reader}
-use Rattle.cq_run.specs.Plans.{checked, passed, switched}
+use Rattle.cq_run.specs.Plan.{checked, passed, switched}
 
 -- one judgement after another: the first refusal is the answer
 infixl 10 ◌>>=◌

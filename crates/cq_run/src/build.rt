@@ -28,7 +28,7 @@ pub fn build_yes(alloc: Global) -> Result<Work, NoMemory>
     Ok(Work::of(Vec::new(alloc), text))
 }
 
-#[tactic(auto, unfolding(crate::specs::Plans::yes_line))]
+#[tactic(auto, unfolding(crate::specs::Plan::yes_line))]
 fn yes_text(alloc: Global) -> Result<Vec<u8>, NoMemory>
     ensures { IfOk result (λ text. text.items ≡ yes_line) }
 {
@@ -38,7 +38,7 @@ fn yes_text(alloc: Global) -> Result<Vec<u8>, NoMemory>
     Ok(text)
 }
 
-#[tactic(auto, unfolding(crate::specs::Plans::check_line))]
+#[tactic(auto, unfolding(crate::specs::Plan::check_line))]
 fn check_text(alloc: Global, tables: &Tables) -> Result<Vec<u8>, NoMemory>
     ensures { IfOk result (λ text. text.items ≡ check_line tables.now) }
 {
