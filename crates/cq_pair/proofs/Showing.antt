@@ -1,8 +1,8 @@
 -- What the steps of a core do to what it shows. Its fields are what was shown; the free inputs that it shows are those
 -- that wait by the places and the pairs, and so they are after a step that takes an input out, or puts it back, as it
 -- waits.
-use Rattle.cq_pair.proofs.Terms.{common_steps, ℕ, ◌≡◌, ◌≢◌, ◌+◌, ◌<◌, ◌≤◌, eqb, List, length, set, get_or, Some, None, sym, ap, subst, arith, IsDistinct, Orders, ports, outputs_of, Partners, partner_of, next_place, with_input, without, Progress, ShowsWaiting, MovesOn, Parts, Takes, waiting_inputs}
-use Rattle.cq_pair.proofs.Waiting.{waiting_differ, moved_still, moved_out, joined_out, parted_back, still_out, room_back}
+use Rattle.cq_pair.proofs.Terms.{common_steps, ℕ, ◌≡◌, ◌≢◌, ◌+◌, ◌<◌, ◌≤◌, eqb, List, length, set, get_or, Some, None, sym, ap, subst, arith, IsDistinct, IsNonDecreasingBy, Orders, ports, outputs_of, Partners, partner_of, next_place, with_input, without, Progress, ShowsWaiting, MovesOn, Parts, Takes, waiting_inputs}
+use Rattle.cq_pair.proofs.Waiting.{waiting_differ, waiting_rise, moved_still, moved_out, joined_out, parted_back, still_out, room_back}
 
 -- the fields, with other places, and one proposal more
 abbrev pub moved_on : Progress → List ℕ → List ℕ → Progress
@@ -28,6 +28,9 @@ module _ (o : Orders) (fields now : Progress) (is : fields ≡ now) (shows : Sho
 
   pub free_differ : IsDistinct eqb fields.free
   free_differ = subst (IsDistinct eqb) (sym waits) (waiting_differ o fields.state.places fields.matching)
+
+  pub free_rise : IsNonDecreasingBy (λ k. k) fields.free
+  free_rise = subst (IsNonDecreasingBy (λ k. k)) (sym waits) (waiting_rise o fields.state.places fields.matching)
 
   -- ## An input goes on to its next place
 

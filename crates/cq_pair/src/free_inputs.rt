@@ -1,6 +1,7 @@
 //! The free inputs in order of number.
-ghost use Rattle.std.specs.Prelude.{◌≡◌, ◌↔◌, ◌-◌, ◌<◌, ◌≤◌, IsTrue, [], Some, length, nat_eq, nat_lt, position, slice_get};
+ghost use Rattle.std.specs.Prelude.{◌≡◌, ◌↔◌, ◌-◌, ◌<◌, ◌≤◌, IsTrue, [], Some, length, nat_eq, nat_lt, slice_get};
 ghost use Rattle.std.specs.List.{IsDistinct, position_or_len};
+ghost use Rattle.std.specs.List.Sorted.{IsNonDecreasing};
 ghost use Rattle.cq_base.specs.Limits.{most_ports};
 ghost use Rattle.cq_prefs.specs.Orders.{inputs_with_offers, ports};
 ghost use Rattle.cq_prefs.specs.Renewal.{without};
@@ -26,20 +27,14 @@ impl Model for FreeInputs {
     ghost view = { λ a. a.inputs.items };
 }
 
-// The place of the first input with a greater number.
-fn greater(inputs: &[Port], input: Port) -> Option<usize>
-    ensures { result ≡ position (nat_lt input) inputs.now }
-{
-    inputs.iter().position(|other| input < *other)
-}
-
-// The same, or the end.
-#[tactic(auto, using(cq_base::proofs::Lists::place_found, cq_base::proofs::Lists::first_inside))]
+// The place of the first input with a greater number, or the end. The inputs stand in order of number, so halving finds
+// it.
 fn place_of(inputs: &[Port], input: Port) -> usize
+    requires { IsNonDecreasing inputs.now }
     ensures inside { result ≤ length inputs.now }
     ensures place { result ≡ position_or_len (nat_lt input) inputs.now }
 {
-    greater(inputs, input).unwrap_or(inputs.len())
+    inputs.partition_point(|other| *other <= input)
 }
 
 // Whether an input is the last of all.
@@ -73,7 +68,8 @@ impl FreeInputs {
 
     /// Puts an input in, before those of greater numbers.
     pub fn insert(&mut self, input: Port)
-        requires { length self.old < most_ports }
+        requires room { length self.old < most_ports }
+        requires rising { IsNonDecreasing self.old }
         ensures { self.new ≡ with_input input self.old }
     {
         let place = place_of(self.inputs.as_slice(), input);
