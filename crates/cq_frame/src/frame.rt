@@ -1,6 +1,7 @@
 //! The fields of a frame.
-ghost use Rattle.std.specs.Prelude.{◌≡◌, drop, if◌then◌else◌};
-ghost use Rattle.cq_frame.specs.Frame.{code_point, code_point_at, destination, ether_type, has_tag_at, number_at, priority, priority_at, type_offset};
+ghost use Rattle.std.specs.Prelude.{◌≡◌, ◌≤◌, false, true};
+ghost use Rattle.std.specs.Option.{option_map_or};
+ghost use Rattle.cq_frame.specs.Frame.{code_point, code_point_at, destination, ether_type, has_tag_at, is_tag, number_at, priority, priority_at};
 
 /// The fields of a frame. One that the frame does not have is `None`.
 #[derive(Clone, Copy, Debug, PartialEq, Eq)]
@@ -33,80 +34,86 @@ const IPV6: u16 = 0x86dd;
 
 /// Finds the fields of a frame. It may be any bytes: a field has to stand in it whole, and where the
 /// frame ends before, the field is `None`.
+#[tactic(auto, unfolding(crate::specs::Frame::priority, crate::specs::Frame::ether_type, crate::specs::Frame::code_point))]
 pub fn parts(bytes: &[u8]) -> FrameParts
     ensures dest { result.dest ≡ destination bytes.now }
     ensures pcp { result.pcp ≡ priority bytes.now }
     ensures ether_type { result.ether_type ≡ ether_type bytes.now }
     ensures dscp { result.dscp ≡ code_point bytes.now }
 {
-    let untagged = from_ether_type(bytes);
+    let outer = number_at(bytes, ADDRESSES);
+    if !is_tag(outer) {
+        return parts_with(bytes, None, ADDRESSES, outer);
+    }
+    let priority = tag_priority(bytes);
+    let inner = number_at(bytes, ADDRESSES + TAG);
+    if !is_tag(inner) {
+        return parts_with(bytes, priority, ADDRESSES + TAG, inner);
+    }
+    let at = ADDRESSES + 2 * TAG;
+    parts_with(bytes, priority, at, number_at(bytes, at))
+}
+
+// The fields of a frame whose outermost tag has this priority. At the offset stands its EtherType, which is given.
+#[tactic(auto, unfolding(crate::specs::Frame::destination))]
+fn parts_with(bytes: &[u8], pcp: Option<u8>, at: usize, ether_type: Option<u16>) -> FrameParts
+    requires inside { at ≤ 20 }
+    requires ether_type { ether_type ≡ number_at bytes.now at }
+    ensures { result ≡ record {
+      dest = destination bytes.now;
+      pcp = pcp;
+      ether_type = ether_type;
+      dscp = code_point_at bytes.now at;
+    } }
+{
     FrameParts {
         dest: bytes.first_chunk().copied(),
-        pcp: tag_priority(from_first_type(bytes)),
-        ether_type: first_number(untagged),
-        dscp: packet_code_point(untagged),
+        pcp,
+        ether_type,
+        dscp: packet_code_point(bytes, at, ether_type),
     }
 }
 
-// The bytes from the first type on, be it a tag's or not.
-fn from_first_type(bytes: &[u8]) -> &[u8]
-    ensures { result.now ≡ drop 12 bytes.now }
+// The number of the two bytes at the offset, if both are there.
+fn number_at(bytes: &[u8], at: usize) -> Option<u16>
+    requires { at ≤ 20 }
+    ensures { result ≡ number_at bytes.now at }
 {
-    bytes.get(ADDRESSES..).unwrap_or(&[])
-}
-
-// The bytes from the EtherType on.
-#[tactic(auto, using(crate::proofs::Dropped::without_tags))]
-fn from_ether_type(bytes: &[u8]) -> &[u8]
-    ensures { result.now ≡ drop (type_offset bytes.now) bytes.now }
-{
-    after_tag(after_tag(from_first_type(bytes)))
-}
-
-// The bytes without the tag at the front, if one is there.
-fn after_tag(bytes: &[u8]) -> &[u8]
-    ensures { result.now ≡ drop (if has_tag_at bytes.now 0 then 4 else 0) bytes.now }
-{
-    if begins_with_tag(bytes) {
-        bytes.get(TAG..).unwrap_or(&[])
-    } else {
-        bytes
-    }
-}
-
-fn begins_with_tag(bytes: &[u8]) -> bool
-    ensures { result ≡ has_tag_at bytes.now 0 }
-{
-    matches!(first_number(bytes), Some(CUSTOMER_TAG | PROVIDER_TAG))
-}
-
-fn first_number(bytes: &[u8]) -> Option<u16>
-    ensures { result ≡ number_at bytes.now 0 }
-{
-    let pair = bytes.first_chunk()?;
-    Some(u16::from_be_bytes(*pair))
-}
-
-// The priority of the tag at the front, if a whole one is there.
-fn tag_priority(bytes: &[u8]) -> Option<u8>
-    ensures { result ≡ priority_at bytes.now 0 }
-{
-    match bytes {
-        [_, _, control, _, ..] if begins_with_tag(bytes) => Some(control >> 5),
-        _ => None,
-    }
-}
-
-// The code point of the packet that follows the type at the front.
-fn packet_code_point(bytes: &[u8]) -> Option<u8>
-    ensures { result ≡ code_point_at bytes.now 0 }
-{
-    let [_, _, first, second, ..] = bytes else {
+    if bytes.len() < at + 2 {
         return None;
-    };
-    let services = match first_number(bytes)? {
-        IPV4 => *second,
-        IPV6 => (first & 0x0f) << 4 | second >> 4,
+    }
+    Some(u16::from_be_bytes([bytes[at], bytes[at + 1]]))
+}
+
+fn is_tag(kind: Option<u16>) -> bool
+    ensures { result ≡ option_map_or is_tag kind false }
+{
+    matches!(kind, Some(CUSTOMER_TAG | PROVIDER_TAG))
+}
+
+// The priority of the tag behind the addresses, if it is there whole.
+fn tag_priority(bytes: &[u8]) -> Option<u8>
+    requires { has_tag_at bytes.now 12 ≡ true }
+    ensures { result ≡ priority_at bytes.now 12 }
+{
+    if bytes.len() < ADDRESSES + TAG {
+        return None;
+    }
+    Some(bytes[ADDRESSES + 2] >> 5)
+}
+
+// The code point of the packet that follows this type at the offset.
+fn packet_code_point(bytes: &[u8], at: usize, kind: Option<u16>) -> Option<u8>
+    requires inside { at ≤ 20 }
+    requires kind { kind ≡ number_at bytes.now at }
+    ensures { result ≡ code_point_at bytes.now at }
+{
+    if bytes.len() < at + 4 {
+        return None;
+    }
+    let services = match kind? {
+        IPV4 => bytes[at + 3],
+        IPV6 => (bytes[at + 2] & 0x0f) << 4 | bytes[at + 3] >> 4,
         _ => return None,
     };
     Some(services >> 2)
