@@ -1,6 +1,7 @@
 -- Rows that are listed by the numbers of their addresses.
-use Rattle.cq_route.proofs.Terms.{common_steps, ℕ, zero, suc, ◌≡◌, ◌<◌, ◌==◌, ◌+◌, Bool, w64, List, [], ◌∷◌, ◌++◌, length, take, drop, get_or, Option, None, Some, option_map, All, refl, ap, sym, ◌∙◌, arith, nat_cmp, BTreeMap, rules, if◌then◌else◌, subst, IsEmpty, to_be_bytes, find, option_map_or, option_or, unwrap_or, bytes_eq, cond_both, Decides-eqb, same_from_decides, take_more, All-push, find-append, be_bytes_8, bytes_eq-Decides, AddressRow, Tables, IsAddress, IsDirectoryOf, number_of, some_if, is_to, output_for}
-use Rattle.std.specs.BTreeMap.{get}
+use Rattle.cq_route.proofs.Terms.{common_steps, ℕ, zero, suc, ◌≡◌, ◌<◌, ◌==◌, ◌+◌, Bool, w64, List, [], ◌∷◌, ◌++◌, length, take, drop, get_or, Option, None, Some, option_map, All, refl, ap, sym, ◌∙◌, arith, rules, if◌then◌else◌, subst, to_be_bytes, find, option_map_or, option_or, unwrap_or, bytes_eq, cond_both, Decides-eqb, same_from_decides, take_more, All-push, find-append, be_bytes_8, bytes_eq-Decides, AddressRow, Tables, IsAddress, IsDirectoryOf, number_of, some_if, is_to, output_for}
+use Rattle.std.specs.HashMap.{HashMap, IsEmpty, get}
+use Rattle.std.specs.Prelude.{nat_eq}
 use Rattle.cq_route.specs.declared.directory.Directory.{Directory}
 
 -- the output of the first row whose address has this number
@@ -58,9 +59,9 @@ pub listed_push : (rows : List AddressRow) (row : AddressRow) (q : ℕ) →
 listed_push rows row q = grind (arith, common_steps, option_map, find-append, either, one)
 
 -- the rows are listed in a map
-pub record AreListed (rows : List AddressRow) (outputs : BTreeMap ℕ ℕ) : Type 0 where
+pub record AreListed {S : Type 0} (rows : List AddressRow) (outputs : HashMap ℕ ℕ S) : Type 0 where
   pub macs : AreAddresses rows
-  pub known : (q : ℕ) → get nat_cmp outputs q ≡ listed rows q
+  pub known : (q : ℕ) → get nat_eq outputs q ≡ listed rows q
 
 -- which is the directory of tables with these rows
 pub directory_is : (t : Tables) (d : Directory) → AreListed t.addresses d.outputs → IsDirectoryOf t d
@@ -75,7 +76,7 @@ found None d = refl
 
 -- frames to an address go where the directory says, or by default
 pub goes_to : (t : Tables) (d : Directory) (mac : List ℕ) → IsAddress mac → IsDirectoryOf t d →
-    unwrap_or (get nat_cmp d.outputs (number_of mac)) t.default_output ≡ output_for t (Some mac)
+    unwrap_or (get nat_eq d.outputs (number_of mac)) t.default_output ≡ output_for t (Some mac)
 unfolding IsDirectoryOf
 goes_to t d mac a is = grind (arith, common_steps, found)
 
@@ -88,14 +89,14 @@ pub goes_nowhere : (t : Tables) → output_for t None ≡ t.default_output
 goes_nowhere t = grind (arith, common_steps, nobody)
 
 -- an empty map lists no row
-pub none_listed : (outputs : BTreeMap ℕ ℕ) → IsEmpty outputs → AreListed [] outputs
+pub none_listed : {S : Type 0} (outputs : HashMap ℕ ℕ S) → IsEmpty outputs → AreListed [] outputs
 none_listed outputs e = record { macs = λ k d h. absurd (let P : ⊥ = omega arith in P); known = λ q. search (rules, e) }
 
 -- a map that has learnt the next row
-pub listed_more : (rows : List AddressRow) (i : ℕ) (old new : BTreeMap ℕ ℕ) (n : ℕ) (d : AddressRow) →
+pub listed_more : {S : Type 0} (rows : List AddressRow) (i : ℕ) (old new : HashMap ℕ ℕ S) (n : ℕ) (d : AddressRow) →
     i < length rows → AreListed (take i rows) old → IsAddress (get_or rows i d).mac →
     n ≡ number_of (get_or rows i d).mac →
-    ((q : ℕ) → get nat_cmp new q ≡ option_or (get nat_cmp old q) (some_if (n == q) (get_or rows i d).output)) →
+    ((q : ℕ) → get nat_eq new q ≡ option_or (get nat_eq old q) (some_if (n == q) (get_or rows i d).output)) →
     AreListed (take (i + 1) rows) new
 listed_more rows i old new n d inside l a is learnt =
     let row = get_or rows i d in

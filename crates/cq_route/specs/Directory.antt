@@ -1,8 +1,7 @@
 -- The addresses that are known, by their numbers.
-use Rattle.std.specs.Prelude.{ℕ, ◌≡◌, ◌<◌, Bool, true, false, List, ◌∷◌, length, get_or, find, Option, None, Some, option_map}
-use Rattle.std.specs.BTreeMap.{get}
+use Rattle.std.specs.Prelude.{ℕ, ◌≡◌, ◌<◌, Bool, true, false, List, ◌∷◌, length, nat_eq, get_or, find, Option, None, Some, option_map}
+use Rattle.std.specs.HashMap.{get}
 use Rattle.std.specs.Int.{w64, from_be_bytes}
-use Rattle.std.specs.Ordering.{nat_cmp}
 use Rattle.cq_route.specs.declared.directory.Directory.{Directory}
 use Rattle.cq_route.specs.declared.tables.Tables.{Tables}
 use Rattle.cq_route.specs.Route.{is_to}
@@ -25,4 +24,4 @@ some_if false n = None
 unfoldable pub IsDirectoryOf : Tables → Directory → Type 0
 IsDirectoryOf t d =
     (mac : List ℕ) → IsAddress mac →
-    get nat_cmp d.outputs (number_of mac) ≡ option_map (λ row. row.output) (find (is_to (Some mac)) t.addresses)
+    get nat_eq d.outputs (number_of mac) ≡ option_map (λ row. row.output) (find (is_to (Some mac)) t.addresses)

@@ -1,8 +1,7 @@
-//! The addresses that are known, in order.
-ghost use Rattle.std.specs.Prelude.{ℕ, ◌≡◌, ◌<◌, ◌==◌, length, IfOk, OnOk, Some, None};
-ghost use Rattle.std.specs.BTreeMap.{get};
+//! The addresses that are known.
+ghost use Rattle.std.specs.Prelude.{ℕ, ◌≡◌, ◌<◌, ◌==◌, length, nat_eq, IfOk, OnOk, Some, None};
+ghost use Rattle.std.specs.HashMap.{get};
 ghost use Rattle.std.specs.Option.{option_or};
-ghost use Rattle.std.specs.Ordering.{nat_cmp};
 ghost use Rattle.cq_route.specs.Directory.{IsAddress, IsDirectoryOf, number_of, some_if};
 ghost use Rattle.cq_route.specs.Route.{output_for, route};
 ghost use Rattle.cq_route.specs.Tables.{AreTables, classes_of, ports_of};
@@ -11,14 +10,14 @@ use crate::Tables;
 use cq_base::{Class, NoMemory, Port};
 use cq_frame::parts;
 use std::alloc::Global;
-use std::collections::BTreeMap;
+use std::collections::HashMap;
 
-/// The outputs of the addresses that the rows of tables speak of, in the order of the addresses. It is made once for
-/// many packets: each looks its address up in a few steps, and does not go through the rows.
+/// The outputs of the addresses that the rows of tables speak of. It is made once for many packets: each looks its
+/// address up in a few steps, however many there are, and does not go through the rows.
 #[derive(Drop)]
 pub struct Directory {
     // By the number of the address.
-    outputs: BTreeMap<u64, Port>,
+    outputs: HashMap<u64, Port>,
 }
 
 impl Directory {
@@ -27,7 +26,7 @@ impl Directory {
     pub fn of(alloc: Global, tables: &Tables) -> Result<Directory, NoMemory>
         ensures { IfOk result (λ directory. IsDirectoryOf tables.now directory) }
     {
-        let mut outputs = BTreeMap::new(alloc);
+        let mut outputs = HashMap::new(alloc);
         let rows = tables.addresses.as_slice();
         'rows: for row in rows {
             learn(&mut outputs, number_of(&row.mac), row.output)?;
@@ -63,7 +62,7 @@ impl Directory {
 
     // The output of frames to the address, or None where it is not known.
     fn output_of(&self, mac: [u8; 6]) -> Option<Port>
-        ensures output { result ≡ get nat_cmp self.now.outputs (number_of mac) }
+        ensures output { result ≡ get nat_eq self.now.outputs (number_of mac) }
         ensures address { IsAddress mac }
     {
         self.outputs.get(&number_of(&mac)).copied()
@@ -71,9 +70,9 @@ impl Directory {
 }
 
 // The address of this number goes to the output, where it was not known before.
-fn learn(outputs: &mut BTreeMap<u64, Port>, number: u64, output: Port) -> Result<(), NoMemory>
-    ensures { OnOk result ((q : ℕ) → get nat_cmp outputs.new q
-        ≡ option_or (get nat_cmp outputs.old q) (some_if (number == q) output)) }
+fn learn(outputs: &mut HashMap<u64, Port>, number: u64, output: Port) -> Result<(), NoMemory>
+    ensures { OnOk result ((q : ℕ) → get nat_eq outputs.new q
+        ≡ option_or (get nat_eq outputs.old q) (some_if (number == q) output)) }
 {
     if !outputs.contains_key(&number) {
         outputs.insert(number, output)?;

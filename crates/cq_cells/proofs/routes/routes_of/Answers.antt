@@ -27,7 +27,8 @@ returns g c =
     let whole : n - 0 ≡ length ps = omega arith in
     let way = λ (k : ℕ). route c.args.tables.now c.args.input (packet_in ps k).body in
     let given = c.in_ok-routes.ensures in
-    let chain = rw (c.map.ensures.base, c.map.ensures.f, c.with_min_len.ensures.base) at given.1 in
-    let places = chain.1 ∙ (λ i. nat_range (ends.0 i) (ends.1 i)) ∙ ap (range_with_len 0) whole in
-    given.2 ∙ AllZip-map way chain.0 given.0 chain.2 ∙ ap (map way) places
+    let base = rw (c.map.ensures.base, c.with_min_len.ensures.base) at given.1.1 in
+    let each = rw c.map.ensures.f at given.1.2 in
+    let places = base ∙ (λ i. nat_range (ends.0 i) (ends.1 i)) ∙ ap (range_with_len 0) whole in
+    given.2 ∙ AllZip-map way given.1.0 given.0 each ∙ ap (map way) places
     ∙ map-packet_in (λ (p : Captured). route c.args.tables.now c.args.input p.body) ps
