@@ -32,6 +32,14 @@ const IPV4: u16 = 0x0800;
 
 const IPV6: u16 = 0x86dd;
 
+/// The address that a frame goes to: its first six bytes, or `None` where they are not all there.
+#[tactic(auto, unfolding(crate::specs::Frame::destination))]
+pub fn destination(bytes: &[u8]) -> Option<[u8; 6]>
+    ensures { result ≡ destination bytes.now }
+{
+    bytes.first_chunk().copied()
+}
+
 /// Finds the fields of a frame. It may be any bytes: a field has to stand in it whole, and where the
 /// frame ends before, the field is `None`.
 #[tactic(auto, unfolding(crate::specs::Frame::priority, crate::specs::Frame::ether_type, crate::specs::Frame::code_point))]
@@ -55,7 +63,6 @@ pub fn parts(bytes: &[u8]) -> FrameParts
 }
 
 // The fields of a frame whose outermost tag has this priority. At the offset stands its EtherType, which is given.
-#[tactic(auto, unfolding(crate::specs::Frame::destination))]
 fn parts_with(bytes: &[u8], pcp: Option<u8>, at: usize, ether_type: Option<u16>) -> FrameParts
     requires inside { at ≤ 20 }
     requires ether_type { ether_type ≡ number_at bytes.now at }
@@ -67,7 +74,7 @@ fn parts_with(bytes: &[u8], pcp: Option<u8>, at: usize, ether_type: Option<u16>)
     } }
 {
     FrameParts {
-        dest: bytes.first_chunk().copied(),
+        dest: destination(bytes),
         pcp,
         ether_type,
         dscp: packet_code_point(bytes, at, ether_type),

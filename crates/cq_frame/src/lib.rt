@@ -5,4 +5,4 @@
 
 mod frame;
 
-pub use frame::{FrameParts, parts};
+pub use frame::{FrameParts, destination, parts};

@@ -8,7 +8,7 @@ ghost use Rattle.cq_route.specs.Tables.{AreTables, classes_of, ports_of};
 
 use crate::Tables;
 use cq_base::{Class, NoMemory, Port};
-use cq_frame::parts;
+use cq_frame::{destination, parts};
 use std::alloc::Global;
 use std::collections::HashMap;
 
@@ -43,11 +43,11 @@ impl Directory {
         ensures output { AreTables tables.now → result.0 < ports_of tables.now.setup }
         ensures class { AreTables tables.now → result.1 < classes_of tables.now.setup }
     {
-        let fields = parts(bytes);
-        (
-            self.output_for(tables, fields.dest),
-            tables.class_for(input, &fields),
-        )
+        let output = self.output_for(tables, destination(bytes));
+        if tables.rules.as_slice().is_empty() {
+            return (output, tables.default_class);
+        }
+        (output, tables.class_for(input, &parts(bytes)))
     }
 
     fn output_for(&self, tables: &Tables, dest: Option<[u8; 6]>) -> Port
