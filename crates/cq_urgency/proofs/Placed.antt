@@ -2,7 +2,7 @@
 -- changed in the pool changes at its one place in the order and nowhere else; a block that comes in under a number that
 -- was free or is new stands nowhere in the order, so that the blocks there stay; and so do the others where the first
 -- one becomes free.
-use Rattle.cq_urgency.proofs.Terms.{common_steps, rules, ◌≡◌, ◌≢◌, ℕ, zero, suc, ◌+◌, ◌-◌, ◌<◌, ◌≤◌, Bool, true, false, List, [], ◌∷◌, ◌++◌, length, map, get_or, set, take, drop, refl, sym, ap, ◌∙◌, arith, Some, length-set, length-take, length-drop, get_or-set_same, get_or-set_other, get_or-drop, ◌==◌, insert, slice_get, sum_by, cases_Bool, cases_eq, cases_lt, ltb-true, lt-ltb, eq-eqb, ne_eqb, cond-true, cond-false, take_more, take_all, drop_more, set-set, length_push, length-map, map-set, take-map, get_or-map, get_or_past, get_or_read, length-insert, insert_end, sum_by-cons, sum_by_push, sum_by-insert, get_or-le-sum_by, slice_get_within, get_or_from_slice_get, Queued, BlocksView, block_at, cells_in_all, halved, without_first, in_order, bit, times, has, parted, ArePlaced, ComesIn, map-insert, most_cells}
+use Rattle.cq_urgency.proofs.Terms.{common_steps, rules, ◌≡◌, ◌≢◌, ℕ, zero, suc, ◌+◌, ◌<◌, ◌≤◌, Bool, true, false, List, [], ◌∷◌, ◌++◌, length, map, get_or, set, take, drop, refl, sym, ap, ◌∙◌, arith, Some, length-set, length-take, length-drop, get_or-set_same, get_or-set_other, get_or-drop, drop-map, ◌==◌, insert, slice_get, sum_by, cases_Bool, cases_eq, cases_lt, ltb-true, lt-ltb, eq-eqb, ne_eqb, cond-true, cond-false, take_more, take_all, drop_more, set-set, length_push, length-map, map-set, take-map, get_or-map, get_or_past, get_or_read, length-insert, insert_end, sum_by-cons, sum_by_push, sum_by-insert, get_or-le-sum_by, slice_get_within, get_or_from_slice_get, Queued, BlocksView, block_at, cells_in_all, counts_behind, get_or-insert_below, halved, without_first, in_order, bit, times, has, parted, ArePlaced, ComesIn, map-insert, most_cells}
 
 -- ## How often a number stands in a list
 
@@ -61,37 +61,56 @@ sum_counts [] = refl
 sum_counts (b ∷ bs) = grind (arith, common_steps, sum_by-cons, sum_counts bs)
 
 -- the fields are in order, and stand for these blocks
-pub record Kept (pool : List (List Queued)) (order counts free : List ℕ) (blocks : List (List Queued)) : Type 0 where
-  pub placed : ArePlaced pool order counts free
+pub record Kept (pool : List (List Queued)) (first : ℕ) (order counts free : List ℕ) (blocks : List (List Queued)) :
+    Type 0 where
+  pub placed : ArePlaced pool first order counts free
   pub seen : in_order pool order ≡ blocks
 
-pub kept : {pool : List (List Queued)} {order counts free : List ℕ} {most : ℕ} {v : BlocksView} →
-    ArePlaced pool order counts free → record { blocks = in_order pool order; most = most } ≡ v →
-    Kept pool order counts free v.blocks
+pub kept : {pool : List (List Queued)} {first : ℕ} {order counts free : List ℕ} {most : ℕ} {v : BlocksView} →
+    ArePlaced pool first order counts free → record { blocks = in_order pool order; most = most } ≡ v →
+    Kept pool first order counts free v.blocks
 kept p view = record { placed = p; seen = ap (λ (w : BlocksView). w.blocks) view }
 
-module _ {pool : List (List Queued)} {order counts free : List ℕ} {blocks : List (List Queued)}
-    (w : Kept pool order counts free blocks) where
+module _ {pool : List (List Queued)} {first : ℕ} {order counts free : List ℕ} {blocks : List (List Queued)}
+    (w : Kept pool first order counts free blocks) where
   pub as_many : length order ≡ length blocks
   as_many = grind (arith, common_steps, length-map)
 
-  pub as_many_counts : counts ≡ map (λ (b : List Queued). length b) blocks
-  as_many_counts = w.placed.counted ∙ ap (map (λ (b : List Queued). length b)) w.seen
+  pub as_many_counts : counts ≡ counts_behind blocks
+  as_many_counts = w.placed.counted ∙ ap counts_behind w.seen
 
-  -- the counts ahead of a place add up to the cells ahead
-  pub counts_ahead : (place : ℕ) → sum_by (λ n. n) (take place counts) ≡ cells_in_all (take place blocks)
-  counts_ahead place = grind (arith, common_steps, as_many_counts, take-map, sum_counts)
+sum_first : (blocks : List (List Queued)) (k : ℕ) →
+    sum_by (λ n. n) (take k (map (λ (b : List Queued). length b) blocks)) ≡ cells_in_all (take k blocks)
+sum_first blocks k = grind (arith, common_steps, take-map, sum_counts)
 
-  pub counts_all : sum_by (λ n. n) counts ≡ cells_in_all blocks
-  counts_all = grind (arith, common_steps, as_many_counts, sum_counts)
+-- the cells of the first block and the counts behind it add up to the cells
+pub counts_all : (blocks : List (List Queued)) (counts : List ℕ) → counts ≡ counts_behind blocks → 0 < length blocks →
+    length (block_at blocks 0) + sum_by (λ n. n) counts ≡ cells_in_all blocks
+counts_all [] counts is some = absurd (omega arith)
+counts_all (b ∷ bs) counts is some = grind (arith, common_steps, sum_by-cons, sum_counts)
 
-  -- where a count is more than nothing, there is a block
-  pub count_there : (place within : ℕ) → within < get_or counts place 0 → place < length blocks
-  count_there place within some = grind (arith, common_steps, as_many_counts, length-map, get_or_past, cases_lt)
+-- and so do those ahead of a place
+pub counts_ahead : (blocks : List (List Queued)) (counts : List ℕ) (behind place : ℕ) → counts ≡ counts_behind blocks →
+    0 < length blocks → place ≡ behind + 1 →
+    length (block_at blocks 0) + sum_by (λ n. n) (take behind counts) ≡ cells_in_all (take place blocks)
+counts_ahead [] counts behind place is some next = absurd (omega arith)
+counts_ahead (b ∷ bs) counts behind zero is some next = absurd (omega arith)
+counts_ahead (b ∷ bs) counts behind (suc n) is some next =
+    let same : behind ≡ n = omega arith in
+    let rest : sum_by (λ n. n) (take behind counts) ≡ cells_in_all (take n bs) = rw (is, same) (sum_first bs n) in
+    ap (λ (s : ℕ). length b + s) rest ∙ sym (sum_by-cons (λ (block : List Queued). length block) b (take n bs))
+
+-- where a count is more than nothing, there is a block, of so many cells
+pub count_there : (blocks : List (List Queued)) (counts : List ℕ) (behind within : ℕ) → counts ≡ counts_behind blocks →
+    within < get_or counts behind 0 →
+    (behind + 1 < length blocks) × (within < length (block_at blocks (behind + 1)))
+count_there [] counts behind within is some = absurd (let none : within < 0 = rw is at some in omega arith)
+count_there (b ∷ bs) counts behind within is some =
+    grind (arith, common_steps, length-map, get_or-map, get_or_past, cases_lt)
 
 -- the block at a place in the order
-module _ {pool : List (List Queued)} {order counts free : List ℕ} {blocks : List (List Queued)}
-    (w : Kept pool order counts free blocks) (i : ℕ) {number : ℕ} (inside : i < length blocks)
+module _ {pool : List (List Queued)} {first : ℕ} {order counts free : List ℕ} {blocks : List (List Queued)}
+    (w : Kept pool first order counts free blocks) (i : ℕ) {number : ℕ} (inside : i < length blocks)
     (is : number ≡ get_or order i number) where
   pub in_order_there : i < length order
   in_order_there = let many = as_many w in omega arith
@@ -105,19 +124,46 @@ module _ {pool : List (List Queued)} {order counts free : List ℕ} {blocks : Li
   pub block_same : block_at pool number ≡ block_at blocks i
   block_same = let read = get_or-map (λ (n : ℕ). block_at pool n) order i number [] in_order_there in cc (read, w.seen)
 
-  -- what is read in the pool is the block, and so many cells are counted
+  -- what is read in the pool is the block
   pub read_is : {read : List Queued} → read ≡ get_or pool number read → read ≡ block_at blocks i
   read_is e = grind (arith, common_steps, get_or_read, in_pool, block_same)
 
-  pub count_is : {count : ℕ} → count ≡ get_or counts i count → count ≡ length (block_at blocks i)
-  count_is read = grind (arith, common_steps, get_or-map, length-map, as_many_counts)
-
-  pub changed : (block : List Queued) (count : ℕ) → count ≡ length block →
-      Kept (set pool number block) order (set counts i count) free (set blocks i block)
-  changed block count long =
+  pub changed : (block : List Queued) (counts' : List ℕ) → counts' ≡ counts_behind (set blocks i block) →
+      Kept (set pool number block) first order counts' free (set blocks i block)
+  changed block counts' counted =
       let here : in_order (set pool number block) order ≡ set (in_order pool order) i block =
       search (arith, rules, in_order_there, set_order, in_pool, bit_le) in
-      record { placed = grind (arith, common_steps, length-set, map-set); seen = here ∙ ap (λ l. set l i block) w.seen }
+      let seen = here ∙ ap (λ l. set l i block) w.seen in
+      record {
+        placed = record {
+          led = w.placed.led;
+          once = search (arith, rules, length-set, w.placed.once);
+          all = search (arith, rules, length-set, w.placed.all);
+          counted = cc (seen, counted);
+        };
+        seen = seen;
+      }
+
+-- the count at a place behind the first is that of the block there
+pub count_is : (blocks : List (List Queued)) (counts : List ℕ) (i behind : ℕ) {count : ℕ} →
+    counts ≡ counts_behind blocks → i ≡ behind + 1 → i < length blocks → count ≡ get_or counts behind count →
+    count ≡ length (block_at blocks i)
+count_is [] counts i behind is e inside read = absurd (omega arith)
+count_is (b ∷ bs) counts zero behind is e inside read = absurd (omega arith)
+count_is (b ∷ bs) counts (suc n) behind is e inside read =
+    let same : behind ≡ n = omega arith in grind (arith, common_steps, get_or-map, length-map)
+
+-- the counts where a block changes
+pub count_first : (blocks : List (List Queued)) (block : List Queued) (i : ℕ) (counts : List ℕ) →
+    counts ≡ counts_behind blocks → i ≡ 0 → counts ≡ counts_behind (set blocks i block)
+count_first [] block i counts is e = grind (arith, common_steps)
+count_first (b ∷ bs) block i counts is e = grind (arith, common_steps)
+
+pub count_behind : (blocks : List (List Queued)) (block : List Queued) (i behind count : ℕ) (counts : List ℕ) →
+    counts ≡ counts_behind blocks → i ≡ behind + 1 → count ≡ length block →
+    set counts behind count ≡ counts_behind (set blocks i block)
+count_behind [] block i behind count counts is e long = grind (arith, common_steps)
+count_behind (b ∷ bs) block i behind count counts is e long = grind (arith, common_steps, map-set)
 
 -- ## A block that comes in
 
@@ -134,44 +180,90 @@ comes_free pool free free' block block' number within whole e =
     let inside = free_there pool free free' number within whole in
     grind (arith, common_steps, get_or-set_same, set_others, times_push, length-set, length_push)
 
-module _ {pool : List (List Queued)} {order counts free : List ℕ} {blocks : List (List Queued)}
-    (w : Kept pool order counts free blocks) {pool' : List (List Queued)} {free' : List ℕ} {block : List Queued}
+module _ {pool : List (List Queued)} {first : ℕ} {order counts free : List ℕ} {blocks : List (List Queued)}
+    (w : Kept pool first order counts free blocks) {pool' : List (List Queued)} {free' : List ℕ} {block : List Queued}
     {number : ℕ} (q : ComesIn pool free pool' free' block number) where
   fresh : times number order ≡ 0
   fresh = grind (arith, common_steps, bit_same, bit_le)
 
-  pub come : (i count : ℕ) → i ≤ length order → count ≡ length block →
-      Kept pool' (insert order i number) (insert counts i count) free' (insert blocks i block)
-  come i count le long =
+  pub come : (first' i : ℕ) (counts' : List ℕ) → i ≤ length order → first' ≡ get_or (insert order i number) 0 first' →
+      counts' ≡ counts_behind (insert blocks i block) →
+      Kept pool' first' (insert order i number) counts' free' (insert blocks i block)
+  come first' i counts' le led counted =
       let here : in_order pool' (insert order i number) ≡ insert (in_order pool order) i block =
       grind (arith, common_steps, map-insert, same_order, fresh) in
+      let seen = here ∙ ap (λ l. insert l i block) w.seen in
       record {
-        placed = grind (arith, common_steps, sum_by-insert, length-insert, map-insert);
-        seen = here ∙ ap (λ l. insert l i block) w.seen;
+        placed = record {
+          led = led;
+          once = search (arith, rules, sum_by-insert, w.placed.once, q.once);
+          all = search (arith, rules, length-insert, w.placed.all, q.all);
+          counted = cc (seen, counted);
+        };
+        seen = seen;
       }
 
 -- the first block
-pub started : (pool pool' : List (List Queued)) (order counts free free' : List ℕ) (block : List Queued) (number : ℕ) →
-    Kept pool order counts free [] → ComesIn pool free pool' free' block number → 1 ≡ length block →
-    Kept pool' (order ++ number ∷ []) (counts ++ 1 ∷ []) free' (block ∷ [])
-started pool pool' [] [] free free' block number w q one = come w q 0 1 (omega arith) one
-started pool pool' [] (x ∷ xs) free free' block number w q one = absurd (let P : ⊥ = cc (as_many_counts w) in P)
-started pool pool' (x ∷ xs) counts free free' block number w q one = absurd (let many = as_many w in omega arith)
+pub started : (pool pool' : List (List Queued)) (first : ℕ) (order counts free free' : List ℕ) (block : List Queued)
+    (number : ℕ) → Kept pool first order counts free [] → ComesIn pool free pool' free' block number →
+    Kept pool' number (order ++ number ∷ []) counts free' (block ∷ [])
+started pool pool' first [] counts free free' block number w q =
+    come w q number 0 counts (omega arith) refl (as_many_counts w)
+started pool pool' first (x ∷ xs) counts free free' block number w q = absurd (let many = as_many w in omega arith)
 
 -- a full block split
-pub split : {pool : List (List Queued)} {order counts free : List ℕ} {blocks : List (List Queued)}
-    (w : Kept pool order counts free blocks) (i : ℕ) {number other : ℕ} {pool' : List (List Queued)} {free' : List ℕ} →
-    i < length blocks → number ≡ get_or order i number → length (block_at blocks i) ≡ most_cells →
+pub split : {pool : List (List Queued)} {first : ℕ} {order counts free : List ℕ} {blocks : List (List Queued)}
+    (w : Kept pool first order counts free blocks) (i : ℕ) {number other : ℕ} {pool' : List (List Queued)}
+    {free' counts' : List ℕ} → i < length blocks → number ≡ get_or order i number →
     ComesIn (set pool number (take 32 (block_at pool number))) free pool' free' (drop 32 (block_at pool number)) other →
-    Kept pool' (insert order (i + 1) other) (insert (set counts i 32) (i + 1) 32) free' (halved blocks i)
-split {pool = pool} w i {number = number} inside is full q =
+    counts' ≡ counts_behind (halved blocks i) →
+    Kept pool' first (insert order (i + 1) other) counts' free' (halved blocks i)
+split {pool = pool} {first = first} {order = order} w i {number = number} {other = other} {counts' = counts'} inside is
+    q counted =
     let same = block_same w i inside is in
-    let size = ap length same in
-    let front = length-take 32 (block_at pool number) in
-    let back = length-drop 32 (block_at pool number) in
     let there = in_order_there w i inside is in
-    let fronted = changed w i inside is (take 32 (block_at pool number)) 32 (omega arith) in
-    rw same at (come fronted q (i + 1) 32 (omega arith) (omega arith))
+    let fronted = changed w i inside is (take 32 (block_at pool number)) _ refl in
+    let led : first ≡ get_or (insert order (i + 1) other) 0 first =
+    grind (arith, common_steps, get_or-insert_below, w.placed.led) in
+    rw same at (come fronted q first (i + 1) counts' (omega arith) led (rw same counted))
+
+-- the counts where a block is split
+pub count_halved : (blocks : List (List Queued)) (counts : List ℕ) (i : ℕ) → counts ≡ counts_behind blocks →
+    length (block_at blocks i) ≡ most_cells → i ≡ 0 → 32 ∷ counts ≡ counts_behind (halved blocks i)
+count_halved [] counts i is full e = absurd (omega arith)
+count_halved (b ∷ bs) counts zero is full e =
+    let long = length-drop 32 b in
+    let half : 32 ≡ length (drop 32 b) = omega arith in
+    ap (λ (l : List ℕ). 32 ∷ l) is ∙ ap (λ (n : ℕ). n ∷ counts_behind (b ∷ bs)) half
+count_halved (b ∷ bs) counts (suc n) is full e = absurd (omega arith)
+
+pub count_halved_behind : (blocks : List (List Queued)) (counts : List ℕ) (i behind : ℕ) →
+    counts ≡ counts_behind blocks → length (block_at blocks i) ≡ most_cells → i ≡ behind + 1 →
+    insert (set counts behind 32) i 32 ≡ counts_behind (halved blocks i)
+count_halved_behind [] counts i behind is full e = absurd (omega arith)
+count_halved_behind (b ∷ bs) counts zero behind is full e = absurd (omega arith)
+count_halved_behind (b ∷ bs) counts (suc n) behind is full e =
+    let same : behind ≡ n = omega arith in
+    let add : suc n ≡ n + 1 = omega arith in
+    let next : suc n + 1 ≡ suc (n + 1) = omega arith in
+    let size : length (block_at bs n) ≡ 64 = full in
+    let front_long = length-take 32 (block_at bs n) in
+    let back_long = length-drop 32 (block_at bs n) in
+    let front : length (take 32 (block_at bs n)) ≡ 32 = omega arith in
+    let back : length (drop 32 (block_at bs n)) ≡ 32 = omega arith in
+    let moved : counts_behind (halved (b ∷ bs) (suc n))
+    ≡ map (λ (c : List Queued). length c)
+    (insert (set bs n (take 32 (block_at bs n))) (n + 1) (drop 32 (block_at bs n))) = rw next refl in
+    cc (
+      is,
+      same,
+      add,
+      front,
+      back,
+      moved,
+      map-insert (λ (c : List Queued). length c) (set bs n (take 32 (block_at bs n))) (n + 1) (drop 32 (block_at bs n)),
+      map-set (λ (c : List Queued). length c) bs n (take 32 (block_at bs n)),
+    )
 
 -- ## The upper half of a block goes over to one that came in
 
@@ -241,30 +333,42 @@ upper_first block x at = sym (ap (take 1) (drop_more block 32 x (slice_get_withi
 
 -- ## The first block becomes free
 
-pub freed : (pool : List (List Queued)) (order counts free : List ℕ) (blocks : List (List Queued)) (block : List Queued)
-    (number : ℕ) → Kept pool order counts free blocks → 0 < length blocks → number ≡ get_or order 0 number →
-    Kept (set pool number block) (drop 1 order) (drop 1 counts) (free ++ number ∷ []) (drop 1 blocks)
-freed pool [] counts free blocks block number w some is = let many = as_many w in absurd (omega arith)
-freed pool (x ∷ xs) counts free blocks block number w some is =
+pub none_first : (order : List ℕ) (first : ℕ) → length order ≡ 0 → first ≡ get_or order 0 first
+none_first order first none = sym (get_or_past order 0 first (omega arith))
+
+pub freed : (pool : List (List Queued)) (first first' : ℕ) (order counts free : List ℕ) (blocks : List (List Queued)) →
+    Kept pool first order counts free blocks → 0 < length blocks → first' ≡ get_or (drop 1 order) 0 first' →
+    Kept pool first' (drop 1 order) (drop 1 counts) (free ++ first ∷ []) (drop 1 blocks)
+freed pool first first' [] counts free blocks w some led = absurd (let many = as_many w in omega arith)
+freed pool first first' (x ∷ xs) counts free blocks w some led =
     let p = w.placed in
-    let once = p.once number in
-    let same : in_order (set pool number block) xs ≡ in_order pool xs =
-    search (arith, rules, bit_le, times-cons, bit_same, same_order, set_others) in
     record {
       placed = record {
-        once = search (arith, rules, p.once, times-cons, times_push, length-set);
-        all = search (arith, rules, length_push, length-set);
-        counted = cc (same, p.counted);
+        led = led;
+        once = search (arith, rules, p.once, p.led, times-cons, times_push);
+        all = search (arith, rules, p.all, length_push);
+        counted = ap (drop 1) p.counted ∙ drop-map (λ (b : List Queued). length b) 1 (in_order pool xs);
       };
-      seen = same ∙ ap (drop 1) w.seen;
+      seen = ap (drop 1) w.seen;
     }
 
 -- ## The first cell taken out
 
-pub without_block : (blocks : List (List Queued)) → length (block_at blocks 0) ≡ 1 →
-    without_first blocks ≡ drop 1 blocks
-without_block [] one = absurd (omega arith)
-without_block (b ∷ bs) one = cond-true (length b == 1) bs (drop 1 b ∷ bs) (eq-eqb (length b) 1 one)
+-- the first block is in order where it is another one
+pub popped : {pool : List (List Queued)} {first : ℕ} {order counts free : List ℕ} {blocks : List (List Queued)} →
+    (w : Kept pool first order counts free blocks) → 0 < length blocks → (block : List Queued) →
+    Kept (set pool first block) first order counts free (set blocks 0 block)
+popped {blocks = blocks} w some block =
+    changed w 0 some w.placed.led block _ (count_first blocks block 0 _ (as_many_counts w) refl)
+
+pub read_set : (pool : List (List Queued)) {number : ℕ} {block read : List Queued} → number < length pool →
+    read ≡ get_or (set pool number block) number read → read ≡ block
+read_set pool inside e = grind (arith, common_steps, length-set, get_or_read, get_or-set_same)
+
+pub emptied : (blocks : List (List Queued)) (block : List Queued) → length (block_at blocks 0) ≡ 1 →
+    drop 1 (set blocks 0 block) ≡ without_first blocks
+emptied [] block one = absurd (omega arith)
+emptied (b ∷ bs) block one = sym (cond-true (length b == 1) bs (drop 1 b ∷ bs) (eq-eqb (length b) 1 one))
 
 pub without_cell : (blocks : List (List Queued)) → 0 < length blocks → 1 < length (block_at blocks 0) →
     without_first blocks ≡ set blocks 0 (drop 1 (block_at blocks 0))

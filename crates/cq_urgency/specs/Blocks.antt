@@ -63,12 +63,17 @@ times n numbers = sum_by (λ other. bit (other == n)) numbers
 abbrev pub has : List (List Queued) → ℕ → ℕ
 has pool n = bit (nat_lt n (length pool))
 
--- each block of the pool stands once, in the order or among the free ones, and each count says how many cells its block
--- has
-pub record ArePlaced (pool : List (List Queued)) (order counts free : List ℕ) : Type 0 where
+-- how many cells each block behind the first one has
+abbrev pub counts_behind : List (List Queued) → List ℕ
+counts_behind blocks = map (λ block. length block) (drop 1 blocks)
+
+-- each block of the pool stands once, in the order or among the free ones, the first number is that of the order, and
+-- the counts say how many cells the blocks behind the first one have
+pub record ArePlaced (pool : List (List Queued)) (first : ℕ) (order counts free : List ℕ) : Type 0 where
+  pub led : first ≡ slice_index_or order 0 first
   pub once : (n : ℕ) → times n order + times n free ≡ has pool n
   pub all : length order + length free ≡ length pool
-  pub counted : counts ≡ map (λ block. length block) (in_order pool order)
+  pub counted : counts ≡ counts_behind (in_order pool order)
 
 -- there is memory for all of the blocks that there can be, and for as many numbers and counts
 pub record HaveMemory (most pool in_pool in_order in_counts in_free : ℕ) : Type 0 where

@@ -12,14 +12,16 @@ use std::marker::Model;
 /// Cells in blocks of at most 64. Contracts see the cells of each block, in the order of the blocks, and how many
 /// blocks there can be.
 ///
-/// The blocks stand in a pool and stay where they are. The order has their numbers, and beside it the counts say how
-/// many cells each block has: so to put a block in between two others moves numbers and no cells, and to count the
-/// cells ahead of a block reads counts that stand next to each other, and no block. A block that comes or goes moves
-/// the numbers on its shorter side, and the first block none. An emptied block is free, and is used again before the
-/// pool grows. All memory is reserved at the start, and none of it is touched before it is used.
+/// The blocks stand in a pool and stay where they are. The order has their numbers, and the counts say how many cells
+/// each block behind the first has: so to put a block in between two others moves numbers and no cells, and to count
+/// the cells ahead of a block reads counts that stand next to each other, and no block but the first. A block that
+/// comes or goes moves the numbers on its shorter side, and the first block none. The number of the first block stands
+/// apart as well: where there is no other, as mostly, none is looked up in a deque. An emptied block is free, and is
+/// used again before the pool grows. All memory is reserved at the start, and none of it is touched before it is used.
 #[derive(Drop)]
 pub struct Blocks {
     pool: Vec<Block>,
+    first: usize,
     order: VecDeque<usize>,
     counts: VecDeque<usize>,
     free: Vec<usize>,
@@ -35,7 +37,7 @@ impl Model for Blocks {
 
     ghost view = { λ b. record { blocks = in_order b.pool.items b.order.items; most = b.most } };
 
-    ghost invariant = { λ b. ArePlaced b.pool.items b.order.items b.counts.items b.free.items
+    ghost invariant = { λ b. ArePlaced b.pool.items b.first b.order.items b.counts.items b.free.items
         × HaveMemory b.most (length b.pool.items) (vec_capacity b.pool) (deque_capacity b.order)
         (deque_capacity b.counts) (vec_capacity b.free) };
 }
@@ -106,6 +108,18 @@ fn put_upper(pool: &mut Vec<Block>, free: &mut Vec<usize>, number: usize) -> usi
     other
 }
 
+// The number at a place in the order, of which the first one stands apart as well.
+fn number_at(first: usize, order: &VecDeque<usize>, place: usize) -> usize
+    requires inside { place < length order.now.items }
+    requires first { first ≡ slice_index_or order.now.items 0 first }
+    ensures { result ≡ slice_index_or order.now.items place result }
+{
+    if place == 0 {
+        return first;
+    }
+    order[place]
+}
+
 // The sum of the counts from one place up to another.
 #[tactic(auto, using(std::proofs::lemmas::List::Sums::sum_by_more, std::proofs::lemmas::List::Sums::sum_by_more_le))]
 fn sum_of(counts: &VecDeque<usize>, from: usize, to: usize) -> usize
@@ -121,21 +135,6 @@ fn sum_of(counts: &VecDeque<usize>, from: usize, to: usize) -> usize
     sum
 }
 
-// The sum of the counts ahead of a place, where all add up to the whole: those ahead are added, or those behind are
-// taken off, whichever are fewer.
-#[tactic(auto, using(std::proofs::lemmas::List::take_all))]
-fn sum_ahead(counts: &VecDeque<usize>, place: usize, whole: usize) -> usize
-    requires inside { place ≤ length counts.now.items }
-    requires whole { whole ≡ sum_by (λ n. n) counts.now.items }
-    ensures { result ≡ sum_by (λ n. n) (take place counts.now.items) }
-{
-    let len = counts.len();
-    if place <= len / 2 {
-        return sum_of(counts, 0, place);
-    }
-    whole - sum_of(counts, place, len)
-}
-
 /// A place in the order of blocks, and a place in this block.
 #[derive(Clone, Copy)]
 pub struct Spot {
@@ -145,7 +144,7 @@ pub struct Spot {
     pub within: usize,
 }
 
-// Where the cell stands that has so many ahead.
+// Where the cell stands that has so many ahead, behind the first block.
 #[tactic(auto, using(std::proofs::lemmas::List::Sums::sum_by_more, std::proofs::lemmas::List::take_all))]
 fn place_of(counts: &VecDeque<usize>, ahead: usize) -> Spot
     requires { ahead < sum_by (λ n. n) counts.now.items }
@@ -171,6 +170,7 @@ impl Blocks {
     {
         Ok(Blocks {
             pool: Vec::with_capacity(alloc, most)?,
+            first: 0,
             order: VecDeque::with_capacity(alloc, most)?,
             counts: VecDeque::with_capacity(alloc, most)?,
             free: Vec::with_capacity(alloc, most)?,
@@ -190,16 +190,24 @@ impl Blocks {
         requires { place < length self.now.blocks }
         ensures { result.now ≡ block_at self.now.blocks place }
     {
-        &self.pool[self.order[place]]
+        &self.pool[number_at(self.first, &self.order, place)]
     }
 
-    /// How many of so many cells stand in the blocks ahead of this place.
+    /// How many of so many cells stand in the blocks ahead of this place. Those ahead are added, or the others are
+    /// taken off, whichever blocks are fewer.
     pub fn ahead(&self, place: usize, cells: usize) -> usize
         requires inside { place ≤ length self.now.blocks }
         requires cells { cells ≡ cells_in_all self.now.blocks }
         ensures { result ≡ cells_in_all (take place self.now.blocks) }
     {
-        sum_ahead(&self.counts, place, cells)
+        if place == 0 {
+            return 0;
+        }
+        let len = self.counts.len();
+        if place > len / 2 {
+            return cells - sum_of(&self.counts, place - 1, len);
+        }
+        self.block(0).len() + sum_of(&self.counts, 0, place - 1)
     }
 
     /// The cell that has so many ahead.
@@ -207,8 +215,13 @@ impl Blocks {
         requires { ahead < length (flattened self.now.blocks) }
         ensures { slice_get (flattened self.now.blocks) ahead ≡ Some result }
     {
-        let spot = place_of(&self.counts, ahead);
-        self.block(spot.block).at(spot.within)
+        let first = self.block(0);
+        let len = first.len();
+        if ahead < len {
+            return first.at(ahead);
+        }
+        let spot = place_of(&self.counts, ahead - len);
+        self.block(spot.block + 1).at(spot.within)
     }
 
     /// The cells, of which there are so many, block after block. The error is want of memory.
@@ -230,8 +243,8 @@ impl Blocks {
         ensures most { self.new.most ≡ self.old.most }
     {
         let number = put_block(&mut self.pool, &mut self.free, queued);
+        self.first = number;
         self.order.push_back_reserved(number);
-        self.counts.push_back_reserved(1);
     }
 
     /// Puts a cell into a block.
@@ -243,9 +256,12 @@ impl Blocks {
             slice_set self.old.blocks block (insert (block_at self.old.blocks block) place queued) }
         ensures most { self.new.most ≡ self.old.most }
     {
-        let number = self.order[block];
+        let number = number_at(self.first, &self.order, block);
         self.pool[number].insert(place, queued);
-        self.counts[block] += 1;
+        if block == 0 {
+            return;
+        }
+        self.counts[block - 1] += 1;
     }
 
     /// Splits a full block in two halves.
@@ -256,11 +272,30 @@ impl Blocks {
         ensures blocks { self.new.blocks ≡ halved self.old.blocks block }
         ensures most { self.new.most ≡ self.old.most }
     {
-        let number = self.order[block];
+        let number = number_at(self.first, &self.order, block);
         let other = put_upper(&mut self.pool, &mut self.free, number);
         self.order.insert(block + 1, other).unwrap();
-        self.counts[block] = 32;
-        self.counts.insert(block + 1, 32).unwrap();
+        if block == 0 {
+            self.counts.push_front_reserved(32);
+            return;
+        }
+        self.counts[block - 1] = 32;
+        self.counts.insert(block, 32).unwrap();
+    }
+
+    // Takes the first block away.
+    fn free_first(&mut self)
+        requires { 0 < length self.old.blocks }
+        ensures blocks { self.new.blocks ≡ drop 1 self.old.blocks }
+        ensures most { self.new.most ≡ self.old.most }
+    {
+        self.free.push_reserved(self.first);
+        self.order.pop_front();
+        self.counts.pop_front();
+        if self.order.len() == 0 {
+            return;
+        }
+        self.first = self.order[0];
     }
 
     /// Takes the first cell out, and its block where this was the only cell of it.
@@ -271,15 +306,11 @@ impl Blocks {
         ensures blocks { self.new.blocks ≡ without_first self.old.blocks }
         ensures most { self.new.most ≡ self.old.most }
     {
-        let number = self.order[0];
+        let number = self.first;
         let queued = self.pool[number].pop();
-        if self.counts[0] > 1 {
-            self.counts[0] -= 1;
-            return queued;
+        if self.pool[number].len() == 0 {
+            self.free_first();
         }
-        self.order.pop_front();
-        self.counts.pop_front();
-        self.free.push_reserved(number);
         queued
     }
 }

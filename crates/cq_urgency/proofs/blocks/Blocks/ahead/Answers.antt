@@ -1,12 +1,20 @@
-use Rattle.cq_urgency.proofs.Terms.{rules, arith, length-map}
+use Rattle.cq_urgency.proofs.Terms.{◌-◌, ◌∙◌, ap, List, ℕ, length, sum_by, arith, take_all}
 use Rattle.cq_urgency.proofs.Placed.{kept, as_many_counts, counts_ahead, counts_all}
 use Rattle.cq_urgency.proofs.blocks.Blocks.ahead.Goals as goal
 
-pub sum_ahead-requires-clause-inside : goal.sum_ahead-requires-clause-inside
-sum_ahead-requires-clause-inside c = search (arith, rules, kept, as_many_counts, length-map)
-
-pub sum_ahead-requires-clause-whole : goal.sum_ahead-requires-clause-whole
-sum_ahead-requires-clause-whole c = search (arith, rules, kept, counts_all)
+pub returns-then-place-len : goal.returns-then-place-len
+returns-then-place-len c =
+    let counts = as_many_counts (kept c.self.invariant.0 c.self.view_is) in
+    let all = counts_all c.args.self.now.blocks _ counts (omega arith) in
+    let sum = counts_ahead c.args.self.now.blocks _ (c.args.place - 1) c.args.place counts (omega arith)
+    (omega arith) in
+    let whole = ap (λ (l : List ℕ). sum_by (λ n. n) l)
+    (take_all c.len-len.result c.self.inside.counts.items (omega arith)) in
+    omega arith
 
 pub returns : goal.returns
-returns c = search (arith, rules, kept, counts_ahead)
+returns c =
+    let size = c.len.ensures.len ∙ ap length c.block.ensures in
+    let sum = counts_ahead c.args.self.now.blocks _ (c.args.place - 1) c.args.place
+    (as_many_counts (kept c.self.invariant.0 c.self.view_is)) (omega arith) (omega arith) in
+    omega arith

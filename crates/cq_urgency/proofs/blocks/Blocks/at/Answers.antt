@@ -1,15 +1,41 @@
-use Rattle.cq_urgency.proofs.Terms.{rules, arith}
-use Rattle.cq_urgency.proofs.Flattened.{length-flattened, shown_in}
-use Rattle.cq_urgency.proofs.Placed.{kept, counts_ahead, counts_all, count_there}
+use Rattle.cq_urgency.proofs.Terms.{◌+◌, ◌∙◌, ap, length, rules, arith}
+use Rattle.cq_urgency.proofs.Flattened.{length-flattened, shown_in, some_blocks}
+use Rattle.cq_urgency.proofs.Placed.{kept, as_many_counts, counts_ahead, counts_all, count_there}
 use Rattle.cq_urgency.proofs.blocks.Blocks.at.Goals as goal
+
+pub block-first-requires : goal.block-first-requires
+block-first-requires c = some_blocks c.args.self.now.blocks (omega arith)
+
+pub returns-then-ahead-len : goal.returns-then-ahead-len
+returns-then-ahead-len c =
+    shown_in c.args.self.now.blocks 0 c.args.ahead c.args.ahead _ (some_blocks c.args.self.now.blocks (omega arith))
+    (rw c.block-first.ensures at c.at.ensures) (omega arith)
 
 pub place_of-spot-requires : goal.place_of-spot-requires
 place_of-spot-requires c =
-    let all = counts_all (kept c.self.invariant.0 c.self.view_is) in
-    search (arith, rules, length-flattened c.args.self.now.blocks)
+    let size = c.len-len.ensures.len ∙ ap length c.block-first.ensures in
+    let flat = length-flattened c.args.self.now.blocks in
+    let all = counts_all c.args.self.now.blocks _ (as_many_counts (kept c.self.invariant.0 c.self.view_is))
+    (some_blocks c.args.self.now.blocks (omega arith)) in
+    omega arith
 
 pub block-requires : goal.block-requires
-block-requires c = search (arith, rules, kept, count_there)
+block-requires c =
+    (count_there c.args.self.now.blocks _ c.place_of-spot.result.block c.place_of-spot.result.within
+    (as_many_counts (kept c.self.invariant.0 c.self.view_is)) c.place_of-spot.ensures.within).0
+
+pub at-requires-2 : goal.at-requires-2
+at-requires-2 c =
+    rw c.block.ensures (count_there c.args.self.now.blocks _ c.place_of-spot.result.block c.place_of-spot.result.within
+    (as_many_counts (kept c.self.invariant.0 c.self.view_is)) c.place_of-spot.ensures.within).1
 
 pub returns : goal.returns
-returns c = search (arith, rules, kept, counts_ahead, count_there, shown_in)
+returns c =
+    let many = as_many_counts (kept c.self.invariant.0 c.self.view_is) in
+    let some = some_blocks c.args.self.now.blocks (omega arith) in
+    let size = c.len-len.ensures.len ∙ ap length c.block-first.ensures in
+    let sum = counts_ahead c.args.self.now.blocks _ c.place_of-spot.result.block (c.place_of-spot.result.block + 1) many
+    some (omega arith) in
+    let there = count_there c.args.self.now.blocks _ c.place_of-spot.result.block c.place_of-spot.result.within many
+    c.place_of-spot.ensures.within in
+    search (arith, rules, shown_in)

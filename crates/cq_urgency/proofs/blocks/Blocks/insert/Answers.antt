@@ -1,33 +1,47 @@
-use Rattle.cq_urgency.proofs.Terms.{◌+◌, ◌∙◌, arith, rules, refl, ap, List, length, length-set, length-insert, Queued}
-use Rattle.cq_urgency.proofs.Placed.{kept, in_pool, read_is, count_is, changed}
+use Rattle.cq_urgency.proofs.Terms.{◌+◌, ◌-◌, ◌∙◌, arith, rules, refl, ap, List, length, length-set, length-insert, Queued}
+use Rattle.cq_urgency.proofs.Placed.{kept, as_many_counts, in_pool, read_is, changed, count_is, count_first, count_behind}
 use Rattle.cq_urgency.proofs.blocks.Blocks.insert.Goals as goal
 
 pub index_mut-requires : goal.index_mut-requires
 index_mut-requires c =
     let w = kept c.self.invariant.0 c.self.view_is in
-    let there = in_pool w c.args.block c.requires.block c.index-number.ensures in omega arith
+    let there = in_pool w c.args.block c.requires.block c.number_at-number.ensures in omega arith
 
 pub insert-requires-clause-room : goal.insert-requires-clause-room
 insert-requires-clause-room c =
     let w = kept c.self.invariant.0 c.self.view_is in
-    let same = read_is w c.args.block c.requires.block c.index-number.ensures c.index_mut.ensures.value in
+    let same = read_is w c.args.block c.requires.block c.number_at-number.ensures c.index_mut.ensures.value in
     search (arith, rules)
 
 pub invariant_of-self : goal.invariant_of-self
 invariant_of-self c =
     let w = kept c.self.invariant.0 c.self.view_is in
-    let count = count_is w c.args.block c.requires.block c.index-number.ensures c.index_mut-2.ensures.value in
-    let same = read_is w c.args.block c.requires.block c.index-number.ensures c.index_mut.ensures.value in
+    let k = changed w c.args.block c.requires.block c.number_at-number.ensures c.insert.new.self _
+    (count_first c.args.self.now.blocks _ c.args.block _ (as_many_counts w) c.if-block-eq0.true) in
+    (k.placed, omega (arith, length-set {A = List Queued}))
+
+pub returns-then-block-eq0-clause-blocks : goal.returns-then-block-eq0-clause-blocks
+returns-then-block-eq0-clause-blocks c =
+    let w = kept c.self.invariant.0 c.self.view_is in
+    let same = read_is w c.args.block c.requires.block c.number_at-number.ensures c.index_mut.ensures.value in
+    let k = changed w c.args.block c.requires.block c.number_at-number.ensures c.insert.new.self _ refl in cc (k.seen)
+
+pub invariant_of-self-2 : goal.invariant_of-self-2
+invariant_of-self-2 c =
+    let w = kept c.self.invariant.0 c.self.view_is in
+    let same = read_is w c.args.block c.requires.block c.number_at-number.ensures c.index_mut.ensures.value in
     let long = ap length same in
     let more = ap length c.insert.ensures
     ∙ length-insert c.index_mut.result.now c.args.place c.args.queued (omega arith) in
-    let k = changed w c.args.block c.requires.block c.index-number.ensures c.insert.new.self
-    (c.index_mut-2.result.now + 1) (omega arith) in
+    let count = count_is c.args.self.now.blocks _ c.args.block (c.args.block - 1) (as_many_counts w) (omega arith)
+    c.requires.block c.index_mut-2.ensures.value in
+    let k = changed w c.args.block c.requires.block c.number_at-number.ensures c.insert.new.self _
+    (count_behind c.args.self.now.blocks _ c.args.block (c.args.block - 1) (c.index_mut-2.result.now + 1) _
+    (as_many_counts w) (omega arith) (omega arith)) in
     (k.placed, omega (arith, length-set {A = List Queued}))
 
 pub returns-clause-blocks : goal.returns-clause-blocks
 returns-clause-blocks c =
     let w = kept c.self.invariant.0 c.self.view_is in
-    let same = read_is w c.args.block c.requires.block c.index-number.ensures c.index_mut.ensures.value in
-    let k = changed w c.args.block c.requires.block c.index-number.ensures c.insert.new.self _ refl in
-    cc (k.seen)
+    let same = read_is w c.args.block c.requires.block c.number_at-number.ensures c.index_mut.ensures.value in
+    let k = changed w c.args.block c.requires.block c.number_at-number.ensures c.insert.new.self _ refl in cc (k.seen)

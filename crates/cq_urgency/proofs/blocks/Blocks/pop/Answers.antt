@@ -1,35 +1,39 @@
-use Rattle.cq_urgency.proofs.Terms.{◌-◌, rules, refl, ◌∙◌, length, ap, length-drop, length-set, arith, sym, List, Queued}
-use Rattle.cq_urgency.proofs.Placed.{kept, read_is, count_is, changed, freed, without_block, without_cell}
+use Rattle.cq_urgency.proofs.Terms.{◌∙◌, length, ap, drop, length-drop, length-set, arith, List, Queued}
+use Rattle.cq_urgency.proofs.Placed.{kept, in_pool, read_is, read_set, popped, emptied, without_cell}
 use Rattle.cq_urgency.proofs.blocks.Blocks.pop.Goals as goal
+
+pub index_mut-requires : goal.index_mut-requires
+index_mut-requires c =
+    let w = kept c.self.invariant.0 c.self.view_is in
+    let there = in_pool w 0 c.requires.block c.self.invariant.0.led in omega arith
 
 pub invariant_of-self : goal.invariant_of-self
 invariant_of-self c =
-    let w = kept c.self.invariant.0 c.self.view_is in
-    let same = read_is w 0 c.requires.block c.index-number.ensures c.index_mut.ensures.value in
-    let long = ap length same in
-    let count = count_is w 0 c.requires.block c.index-number.ensures c.index_mut-then-index-gt1.ensures.value in
-    let less = ap length c.pop-queued.ensures.rest ∙ length-drop 1 c.index_mut.result.now in
-    let k = changed w 0 c.requires.block c.index-number.ensures c.pop-queued.new.self
-    (c.index_mut-then-index-gt1.result.now - 1) (omega arith) in
+    let k = popped (kept c.self.invariant.0 c.self.view_is) c.requires.block c.pop-queued.new.self in
     (k.placed, omega (arith, length-set {A = List Queued}))
 
-pub returns-then-index-gt1-clause-blocks : goal.returns-then-index-gt1-clause-blocks
-returns-then-index-gt1-clause-blocks c =
+pub returns-then-len-eq0-clause-blocks : goal.returns-then-len-eq0-clause-blocks
+returns-then-len-eq0-clause-blocks c =
     let w = kept c.self.invariant.0 c.self.view_is in
-    let same = read_is w 0 c.requires.block c.index-number.ensures c.index_mut.ensures.value in
-    let count = count_is w 0 c.requires.block c.index-number.ensures c.index.ensures in
-    let k = changed w 0 c.requires.block c.index-number.ensures c.pop-queued.new.self _ refl in
+    let there = in_pool w 0 c.requires.block c.self.invariant.0.led in
+    let long = ap length (read_is w 0 c.requires.block c.self.invariant.0.led c.index_mut.ensures.value) in
+    let less = ap length c.pop-queued.ensures.rest ∙ length-drop 1 c.index_mut.result.now in
+    let again = ap length (read_set _ there c.index.ensures) in
+    let k = popped w c.requires.block c.pop-queued.new.self in
+    c.free_first.ensures.blocks ∙ ap (drop 1) k.seen ∙ emptied c.args.self.now.blocks _ (omega arith)
+
+pub invariant_of-self-else-len-eq0 : goal.invariant_of-self-else-len-eq0
+invariant_of-self-else-len-eq0 c =
+    let k = popped (kept c.self.invariant.0 c.self.view_is) c.requires.block c.pop-queued.new.self in
+    (k.placed, omega (arith, length-set {A = List Queued}))
+
+pub returns-else-len-eq0-clause-blocks : goal.returns-else-len-eq0-clause-blocks
+returns-else-len-eq0-clause-blocks c =
+    let w = kept c.self.invariant.0 c.self.view_is in
+    let there = in_pool w 0 c.requires.block c.self.invariant.0.led in
+    let same = read_is w 0 c.requires.block c.self.invariant.0.led c.index_mut.ensures.value in
+    let long = ap length same in
+    let less = ap length c.pop-queued.ensures.rest ∙ length-drop 1 c.index_mut.result.now in
+    let again = ap length (read_set _ there c.index.ensures) in
+    let k = popped w c.requires.block c.pop-queued.new.self in
     let without = without_cell c.args.self.now.blocks c.requires.block (omega arith) in cc (k.seen)
-
-pub invariant_of-self-2 : goal.invariant_of-self-2
-invariant_of-self-2 c =
-    let w = kept c.self.invariant.0 c.self.view_is in
-    let k = freed _ _ _ _ _ c.pop-queued.new.self _ w c.requires.block c.index-number.ensures in
-    search (arith, rules, length-set)
-
-pub returns-clause-blocks : goal.returns-clause-blocks
-returns-clause-blocks c =
-    let w = kept c.self.invariant.0 c.self.view_is in
-    let count = count_is w 0 c.requires.block c.index-number.ensures c.index.ensures in
-    let k = freed _ _ _ _ _ c.pop-queued.new.self _ w c.requires.block c.index-number.ensures in
-    rw c.pop_front.ensures.rest (k.seen ∙ sym (without_block c.args.self.now.blocks (omega arith)))

@@ -1,25 +1,42 @@
-use Rattle.cq_urgency.proofs.Terms.{common_steps, cases_lt, ◌∙◌, length, ap, length-set, arith, BlocksView}
-use Rattle.cq_urgency.proofs.Placed.{kept, as_many, in_pool, not_freed, block_same, split}
+use Rattle.cq_urgency.proofs.Terms.{common_steps, cases_lt, ◌∙◌, ◌-◌, length, ap, length-set, arith, BlocksView}
+use Rattle.cq_urgency.proofs.Placed.{kept, as_many, as_many_counts, in_pool, not_freed, block_same, split, count_halved, count_halved_behind}
 use Rattle.cq_urgency.proofs.blocks.Blocks.split.Goals as goal
 
 pub put_upper-other-requires-clause-there : goal.put_upper-other-requires-clause-there
 put_upper-other-requires-clause-there c =
-    in_pool (kept c.self.invariant.0 c.self.view_is) c.args.block c.requires.block c.index-number.ensures
+    in_pool (kept c.self.invariant.0 c.self.view_is) c.args.block c.requires.block c.number_at-number.ensures
 
 pub put_upper-other-requires-clause-used : goal.put_upper-other-requires-clause-used
 put_upper-other-requires-clause-used c =
-    not_freed (kept c.self.invariant.0 c.self.view_is) c.args.block c.requires.block c.index-number.ensures
+    not_freed (kept c.self.invariant.0 c.self.view_is) c.args.block c.requires.block c.number_at-number.ensures
 
 pub put_upper-other-requires-clause-full : goal.put_upper-other-requires-clause-full
 put_upper-other-requires-clause-full c =
     let w = kept c.self.invariant.0 c.self.view_is in
-    ap length (block_same w c.args.block c.requires.block c.index-number.ensures) ∙ c.requires.full
+    ap length (block_same w c.args.block c.requires.block c.number_at-number.ensures) ∙ c.requires.full
 
 pub invariant_of-self : goal.invariant_of-self
 invariant_of-self c =
     let w = kept c.self.invariant.0 c.self.view_is in
-    let come = c.put_upper-other.ensures.comes in
-    let k = split w c.args.block c.requires.block c.index-number.ensures c.requires.full come in
+    let k = split w c.args.block c.requires.block c.number_at-number.ensures c.put_upper-other.ensures.comes
+    (count_halved _ _ c.args.block (as_many_counts w) c.requires.full c.if-block-eq0.true) in
+    let order = rw c.unwrap.ensures at c.insert.ensures.items in
+    let view = ap (λ (v : BlocksView). v.most) c.self.view_is in
+    let many = as_many w in
+    (rw (order, c.push_front_reserved.ensures.items) k.placed, grind (arith, common_steps, length-set, cases_lt))
+
+pub returns-then-block-eq0-clause-blocks : goal.returns-then-block-eq0-clause-blocks
+returns-then-block-eq0-clause-blocks c =
+    let w = kept c.self.invariant.0 c.self.view_is in
+    let k = split w c.args.block c.requires.block c.number_at-number.ensures c.put_upper-other.ensures.comes
+    (count_halved _ _ c.args.block (as_many_counts w) c.requires.full c.if-block-eq0.true) in
+    rw (rw c.unwrap.ensures at c.insert.ensures.items) k.seen
+
+pub invariant_of-self-2 : goal.invariant_of-self-2
+invariant_of-self-2 c =
+    let w = kept c.self.invariant.0 c.self.view_is in
+    let k = split w c.args.block c.requires.block c.number_at-number.ensures c.put_upper-other.ensures.comes
+    (count_halved_behind _ _ c.args.block (c.args.block - 1) (as_many_counts w) c.requires.full (omega arith)) in
     let order = rw c.unwrap.ensures at c.insert.ensures.items in
     let counts = rw c.unwrap-2.ensures at c.insert-2.ensures.items in
     let view = ap (λ (v : BlocksView). v.most) c.self.view_is in
@@ -29,6 +46,6 @@ invariant_of-self c =
 pub returns-clause-blocks : goal.returns-clause-blocks
 returns-clause-blocks c =
     let w = kept c.self.invariant.0 c.self.view_is in
-    let come = c.put_upper-other.ensures.comes in
-    let k = split w c.args.block c.requires.block c.index-number.ensures c.requires.full come in
+    let k = split w c.args.block c.requires.block c.number_at-number.ensures c.put_upper-other.ensures.comes
+    (count_halved_behind _ _ c.args.block (c.args.block - 1) (as_many_counts w) c.requires.full (omega arith)) in
     rw (rw c.unwrap.ensures at c.insert.ensures.items) k.seen

@@ -1,12 +1,10 @@
-use Rattle.cq_urgency.proofs.Terms.{refl, ap, arith, common_steps, cases_lt, BlocksView}
+use Rattle.cq_urgency.proofs.Terms.{ap, arith, common_steps, cases_lt, BlocksView}
 use Rattle.cq_urgency.proofs.Placed.{kept, started}
 use Rattle.cq_urgency.proofs.blocks.Blocks.start.Goals as goal
 
 pub invariant_of-self : goal.invariant_of-self
 invariant_of-self c =
     let w = rw c.requires.none at (kept c.self.invariant.0 c.self.view_is) in
-    let come = c.put_block-number.ensures.comes in
-    let k = started _ _ _ _ _ _ _ _ w come refl in
+    let k = started _ _ _ _ _ _ _ _ _ w c.put_block-number.ensures.comes in
     let view = ap (λ (v : BlocksView). v.most) c.self.view_is in
-    let pushed = c.push_back_reserved.ensures.items in
-    (rw (pushed, c.push_back_reserved-2.ensures.items) k.placed, grind (arith, common_steps, cases_lt))
+    (rw c.push_back_reserved.ensures.items k.placed, grind (arith, common_steps, cases_lt))
