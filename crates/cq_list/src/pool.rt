@@ -143,7 +143,31 @@ fn walk(nodes: &Slab<Node>, queue: Queue, from: Ahead, key: Key) -> Ahead
     }
 }
 
-// The same from the nearest finger on, but no cell, and a last one that is more urgent, tell it at once.
+// Whether a cell with this key goes in behind all others of a queue.
+fn is_behind_all(nodes: &Slab<Node>, queue: Queue, key: Key) -> bool
+    requires { IsChained (get nodes.now) queue }
+    ensures { IsTrue result → queue.len ≡
+        position_or_len (λ x. not (is_before x.key key)) (cells (linked (get nodes.now) queue)) }
+{
+    if queue.len == 0 {
+        return true;
+    }
+    nodes[queue.last].queued.key.precedes(key)
+}
+
+// How many cells of a queue are more urgent, from the nearest finger on.
+fn walk_on(nodes: &Slab<Node>, queue: Queue, fingers: &[Ahead], key: Key) -> Ahead
+    requires chained { IsChained (get nodes.now) queue }
+    requires fingers { AreFingers (places (linked (get nodes.now) queue)) fingers.now }
+    ensures count { result.count ≡
+        position_or_len (λ x. not (is_before x.key key)) (cells (linked (get nodes.now) queue)) }
+    ensures last { EndsAt (places (linked (get nodes.now) queue)) result.count result.last }
+{
+    let from = nearest(nodes, queue, fingers, key);
+    walk(nodes, queue, from, key)
+}
+
+// The same, but no walk where all are.
 fn ahead_of(nodes: &Slab<Node>, queue: Queue, fingers: &[Ahead], key: Key) -> Ahead
     requires chained { IsChained (get nodes.now) queue }
     requires fingers { AreFingers (places (linked (get nodes.now) queue)) fingers.now }
@@ -151,20 +175,13 @@ fn ahead_of(nodes: &Slab<Node>, queue: Queue, fingers: &[Ahead], key: Key) -> Ah
         position_or_len (λ x. not (is_before x.key key)) (cells (linked (get nodes.now) queue)) }
     ensures last { EndsAt (places (linked (get nodes.now) queue)) result.count result.last }
 {
-    if queue.len == 0 {
-        return Ahead {
-            count: 0,
-            last: queue.last,
-        };
-    }
-    if nodes[queue.last].queued.key.precedes(key) {
+    if is_behind_all(nodes, queue, key) {
         return Ahead {
             count: queue.len,
             last: queue.last,
         };
     }
-    let from = nearest(nodes, queue, fingers, key);
-    walk(nodes, queue, from, key)
+    walk_on(nodes, queue, fingers, key)
 }
 
 // How many cells of a queue are more urgent. A last cell that has the key tells it at once too.
