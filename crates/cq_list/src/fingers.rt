@@ -18,8 +18,8 @@ pub struct Ahead {
     pub last: usize,
 }
 
-/// The fingers of a queue: for each class, what stands ahead of the cell of it that overtook others last. A finger with
-/// no node ahead says nothing. Contracts see the fingers.
+/// The fingers of a queue, at most one for each class: what stands ahead of a cell that overtook others not long ago,
+/// of that class once it has a finger of its own. A finger with no node ahead says nothing. Contracts see the fingers.
 #[derive(Drop)]
 pub struct Fingers {
     fingers: ArrayVec<Ahead, MOST_CLASSES>,
