@@ -138,7 +138,8 @@ module _ {old new : Slab Node} {j : ℕ} {queue : Queue} {node : Node} (had : Is
       ≡ (queue.first, node.queued) ∷ linked (get new) (behind_first queue node.next)
   links_less = begins_with had some here ∙ ap (λ l. (queue.first, node.queued) ∷ l) (sym rest_stays)
 
-  pub cells_less : cells (linked (get old) queue) ≡ node.queued ∷ cells (linked (get new) (behind_first queue node.next))
+  pub cells_less : cells (linked (get old) queue)
+      ≡ node.queued ∷ cells (linked (get new) (behind_first queue node.next))
   cells_less = ap cells links_less
 
   pub linked_less : IsLinked (get new) j (behind_first queue node.next)

@@ -132,8 +132,8 @@ module _ (nodes : Nodes) (queues : List Queue) {seen : List (List Queued)} (j : 
     head_is = ap (λ l. slice_get l 0) head_read.are_cells ∙ head_shown head_read.is_linked.chained has_head here
 
     pub are_linked_behind : AreLinked nodes (set queues j rest)
-    are_linked_behind = rw less (are_linked_changed nodes nodes j queues (behind_first queue node.next) had head_read.inside
-        (λ i m there ne. there) (linked_behind head_read.is_linked has_head here))
+    are_linked_behind = rw less (are_linked_changed nodes nodes j queues (behind_first queue node.next) had
+        head_read.inside (λ i m there ne. there) (linked_behind head_read.is_linked has_head here))
 
     pub cells_told : cells_in_queues nodes (set queues j rest) ≡ set seen j (drop 1 (queue_of seen j))
     cells_told =
