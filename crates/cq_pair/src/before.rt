@@ -12,12 +12,5 @@ pub fn place_before(order: &[Port], end: usize, port: Port) -> Option<usize>
     ensures found { IsSome result ↔ (place_in order.now port < end) }
     ensures place { IfSome result (λ place. place ≡ place_in order.now port) }
 {
-    let mut place = end;
-    'places: while place > 0 {
-        place -= 1;
-        if order[place] == port {
-            return Some(place);
-        }
-    }
-    None
+    order[..end].iter().rposition(|other| *other == port)
 }
