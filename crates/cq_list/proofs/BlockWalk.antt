@@ -9,7 +9,7 @@ pub nth_end : {X : Type 0} (p : X → Bool) (k : ℕ) (xs : List X) → k ≡ le
     place_of_nth p k xs ≡ length xs
 nth_end p k xs all = grind (arith, common_steps, nth_behind p k xs [], append-nil xs)
 
-take_past : (xs ys : List ℕ) (n : ℕ) → length xs ≤ n → take n (xs ++ ys) ≡ xs ++ take (n - length xs) ys
+pub take_past : (xs ys : List ℕ) (n : ℕ) → length xs ≤ n → take n (xs ++ ys) ≡ xs ++ take (n - length xs) ys
 take_past [] ys n past = let e : n ≡ n - 0 = omega arith in ap (λ m. take m ys) e
 take_past (x ∷ xs) ys zero past = absurd (omega arith)
 take_past (x ∷ xs) ys (suc n) past = grind (arith, common_steps, take_past xs ys n)

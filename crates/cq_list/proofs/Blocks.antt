@@ -20,24 +20,24 @@ whole_is blocks i =
 
 -- ## One block
 
+pub shown_front : (xs ys : List ℕ) (k x : ℕ) → slice_get xs k ≡ Some x → slice_get (xs ++ ys) k ≡ Some x
+shown_front [] ys k x e = absurd (let P : ⊥ = cc in P)
+shown_front (y ∷ xs) ys zero x e = e
+shown_front (y ∷ xs) ys (suc k) x e = shown_front xs ys k x e
+
+pub shown_behind : (xs ys : List ℕ) (k : ℕ) → slice_get (xs ++ ys) (length xs + k) ≡ slice_get ys k
+shown_behind [] ys k = ap (slice_get ys) (let e : 0 + k ≡ k = omega arith in e)
+shown_behind (y ∷ xs) ys k = search (arith, rules, shown_behind xs ys k)
+
 pub shown_in : (blocks : List (List ℕ)) (i o x : ℕ) → i < length blocks → slice_get (get_or blocks i []) o ≡ Some x →
     slice_get (concat blocks) (length (concat (take i blocks)) + o) ≡ Some x
 shown_in [] i o x inside at = absurd (omega arith)
 shown_in (b ∷ bs) zero o x inside at = ap (slice_get (b ++ concat bs)) (let e : 0 + o ≡ o = omega arith in e)
-    ∙ in_front b (concat bs) o at
-  where
-    in_front : (xs ys : List ℕ) (k : ℕ) → slice_get xs k ≡ Some x → slice_get (xs ++ ys) k ≡ Some x
-    in_front [] ys k e = absurd (let P : ⊥ = cc in P)
-    in_front (y ∷ xs) ys zero e = e
-    in_front (y ∷ xs) ys (suc k) e = in_front xs ys k e
+    ∙ shown_front b (concat bs) o x at
 shown_in (b ∷ bs) (suc i) o x inside at =
     let len = length-append b (concat (take i bs)) in
     let place : length (concat (take (suc i) (b ∷ bs))) + o ≡ length b + (length (concat (take i bs)) + o) =
-    omega arith in search (arith, rules, behind, shown_in bs i o x)
-  where
-    behind : (xs ys : List ℕ) (k : ℕ) → slice_get (xs ++ ys) (length xs + k) ≡ slice_get ys k
-    behind [] ys k = ap (slice_get ys) (let e : 0 + k ≡ k = omega arith in e)
-    behind (y ∷ xs) ys k = search (arith, rules, behind xs ys k)
+    omega arith in search (arith, rules, shown_behind, shown_in bs i o x)
 
 pub insert_in : (blocks : List (List ℕ)) (i o n y : ℕ) → i < length blocks → o ≤ length (get_or blocks i []) →
     length (concat (take i blocks)) + o ≡ n →

@@ -26,7 +26,7 @@ many_in (b ∷ c ∷ bs) (suc i) filled inside = many_in (c ∷ bs) i filled.1 (
 
 -- ## The first block and the others
 
-filled_rest : (b : List ℕ) (bs : List (List ℕ)) → AreFilled (b ∷ bs) → AreFilled bs
+pub filled_rest : (b : List ℕ) (bs : List (List ℕ)) → AreFilled (b ∷ bs) → AreFilled bs
 filled_rest b [] filled = tt
 filled_rest b (c ∷ bs) filled = filled.1
 
@@ -36,7 +36,7 @@ filled_first b [] many filled = tt
 filled_first b (c ∷ bs) many filled = (many (omega arith), filled)
 
 -- others behind the same first block, where there were some
-filled_behind :
+pub filled_behind :
     (b : List ℕ) (bs cs : List (List ℕ)) → AreFilled (b ∷ bs) → (0 < length cs → 0 < length bs) → AreFilled cs →
     AreFilled (b ∷ cs)
 filled_behind b bs cs filled as_many new = grind (arith, common_steps, filled_first, many_in)

@@ -5,6 +5,7 @@ pub mod Chain
 pub mod Counts
 pub mod Filled
 pub mod Finger
+pub mod First
 pub mod Kept
 pub mod Least
 pub mod Linked

@@ -39,6 +39,11 @@ module _ {places : List ℕ} {old left : Queues} {told cells : List Queued} (t :
         left = λ j. search (arith, rules, n.left, t.left, drop-drop, filter-append, length-append);
       }
 
+  pub can_behind : (more : List ℕ) → CanTell (places ++ more) old → CanTell more left
+  can_behind more there j =
+      let enough = there j in
+      grind (arith, common_steps, enough, t.left, length-drop, filter-append, length-append)
+
   pub can_left : (next rest : List ℕ) → CanTell (places ++ (next ++ rest)) old → CanTell next left
   can_left next rest there j =
       let enough = there j in

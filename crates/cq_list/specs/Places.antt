@@ -1,7 +1,9 @@
 -- The places of a list, in blocks, and what clauses see of them.
-use Rattle.std.specs.Prelude.{◌≡◌, ℕ, ◌+◌, ◌*◌, ◌<◌, ◌≤◌, List, [], ◌∷◌, ◌++◌, length, take, drop, insert, remove, slice_set, slice_index_or, Vec, vec_capacity}
+use Rattle.std.specs.Prelude.{◌≡◌, ℕ, ◌+◌, ◌*◌, ◌<◌, ◌≤◌, List, [], ◌∷◌, ◌++◌, length, take, drop, insert, remove, slice_set, slice_index_or}
 use Rattle.std.specs.List.{concat}
+use Rattle.std.specs.VecDeque.{deque_capacity}
 use Rattle.std.specs.declared.alloc.Global.{Global}
+use Rattle.std.specs.declared.collections.VecDeque.{VecDeque}
 use Rattle.cq_base.specs.Limits.{most_ports}
 use Rattle.cq_list.specs.Split.{count_of}
 
@@ -32,16 +34,16 @@ pub record AreBlocks (blocks : List (List ℕ)) (len room capacity : ℕ) : Type
   pub memory : HaveMemory room capacity
 
 -- an output can go into these blocks: they are filled, and there is memory for a block more
-pub record CanGrow (blocks : Vec (List ℕ) Global) (output : ℕ) : Type 0 where
+pub record CanGrow (blocks : VecDeque (List ℕ) Global) (output : ℕ) : Type 0 where
   pub filled : AreFilled blocks.items
-  pub memory : HaveMemory (length (concat blocks.items)) (vec_capacity blocks)
+  pub memory : HaveMemory (length (concat blocks.items)) (deque_capacity blocks)
   pub in_range : output < most_ports
 
--- an output went in at this place, the blocks are filled still, and they have as much memory
-pub record HasGrown (place output : ℕ) (old new : Vec (List ℕ) Global) : Type 0 where
+-- an output went in at this place, the blocks are filled still, and they have no less memory
+pub record HasGrown (place output : ℕ) (old new : VecDeque (List ℕ) Global) : Type 0 where
   pub places : concat new.items ≡ insert (concat old.items) place output
   pub filled : AreFilled new.items
-  pub capacity : vec_capacity new ≡ vec_capacity old
+  pub capacity : deque_capacity old ≤ deque_capacity new
 
 -- the blocks, where block i has the places of the next one too
 abbrev pub joined : List (List ℕ) → ℕ → List (List ℕ)
@@ -53,6 +55,14 @@ abbrev pub pulled : List (List ℕ) → ℕ → List (List ℕ)
 pulled blocks i =
     slice_set (slice_set blocks (i + 1) (drop 1 (slice_index_or blocks (i + 1) []))) i
     (slice_index_or blocks i [] ++ take 1 (slice_index_or blocks (i + 1) []))
+
+-- the first block and the others hold the same places, and are filled still: the first has no fewer, and more than the
+-- least where there are others
+pub record IsFilledUp (first : List ℕ) (others : List (List ℕ)) (new : List ℕ) (left : List (List ℕ)) : Type 0 where
+  pub places : new ++ concat left ≡ first ++ concat others
+  pub filled : AreFilled (new ∷ left)
+  pub longer : 0 < length left → least_places < length new
+  pub kept : length first ≤ length new
 
 -- the block of a place, and where it stands in this block
 pub record IsSpot (blocks : List (List ℕ)) (place block within : ℕ) : Type 0 where

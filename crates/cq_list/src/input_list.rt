@@ -201,8 +201,10 @@ impl InputList {
     {
         let mut heads = self.pool.heads(alloc)?;
         let mut cells = Vec::with_capacity(alloc, self.places.len())?;
-        'each: for block in self.places.blocks() {
-            tell(&mut cells, &mut heads, block.outputs())?;
+        let (first, others) = self.places.blocks();
+        tell(&mut cells, &mut heads, first.outputs())?;
+        'each: for block in 0..others.len() {
+            tell(&mut cells, &mut heads, others[block].outputs())?;
         }
         Ok(Sequence::of(cells))
     }

@@ -1,14 +1,16 @@
 //! The outputs of the cells of a list, in order.
-ghost use Rattle.std.specs.Prelude.{◌≡◌, ℕ, ◌+◌, ◌<◌, ◌≤◌, ◌^◌, [], Some, IfOk, length, take, insert, remove, slice_get, slice_index_or, vec_capacity};
+ghost use Rattle.std.specs.Prelude.{◌≡◌, ℕ, ◌+◌, ◌<◌, ◌≤◌, ◌^◌, ◌++◌, [], ◌∷◌, Some, IfOk, length, take, insert, remove, slice_get, slice_index_or};
+ghost use Rattle.std.specs.VecDeque.{deque_capacity};
 ghost use Rattle.std.specs.List.{position_or_len, concat};
 ghost use Rattle.cq_base.specs.Limits.{most_ports};
 ghost use Rattle.cq_list.specs.Split.{is_output, place_of_nth, count_of};
-ghost use Rattle.cq_list.specs.Places.{CanGrow, HasGrown, IsSpot, IsAhead, AreFilled, HaveMemory, joined, least_places, pulled};
+ghost use Rattle.cq_list.specs.Places.{CanGrow, HasGrown, IsSpot, IsAhead, AreFilled, HaveMemory, IsFilledUp, joined, least_places, pulled};
 ghost use Rattle.cq_list.specs.Block.{most_places};
 
 use crate::block::{Block, MOST_PLACES};
 use cq_base::{NoMemory, Port};
 use std::alloc::Global;
+use std::collections::VecDeque;
 use std::marker::Model;
 
 // The least places of a block that is not the last.
@@ -16,30 +18,35 @@ const LEAST_PLACES: usize = 16;
 
 /// The output of each place of a list. Contracts see the outputs, and how many more places there is room for.
 ///
-/// The places stand in blocks of at most 64, and each block but the last has at least 16, so that memory for a block in
-/// 16 places is enough. A full block is split into two of 32, which 16 places or more have to leave before they are
-/// joined again. The last block stays where it runs empty, so that a list that is often empty makes no block anew. A
-/// place is found by the blocks' lengths and an output's by their counts, from the nearer end, but for `count_ahead`,
-/// which counts from the start: a call reads two numbers of each block that it passes, and searches one block. So what
-/// stands near the start or the end is found at once, and what stands in the middle of 50,000 places behind some 400
-/// full blocks.
+/// The places stand in blocks of at most 64, and each block but the last has at least 16, so that memory for a block
+/// in 16 places is enough. A full block is split into two of 32, which 16 places or more have to leave before they are
+/// joined again. The last block stays where it runs empty, so that a list that is often empty makes no block anew. The
+/// first block stands apart, since most happens there, and the others in a deque, where a block that comes or goes
+/// moves those on its shorter side: none, where the first is split or takes the next one in.
+///
+/// A place is found by the blocks' lengths and an output's by their counts: in the first block, or in the others from
+/// the nearer end, but for `count_ahead`, which counts from the start: a call reads two numbers of each block that it
+/// passes, and searches one block. So what stands near the start or the end is found at once, and what stands in the
+/// middle of 50,000 places behind some 400 full blocks.
 #[derive(Drop)]
 pub struct Places {
-    blocks: Vec<Block>,
+    first: Block,
+    others: VecDeque<Block>,
     len: usize,
     room: u64,
 }
 
 impl Model for Places {
-    ghost use Rattle.std.specs.Prelude.{◌-◌, vec_capacity};
+    ghost use Rattle.std.specs.Prelude.{◌-◌, ◌∷◌};
+    ghost use Rattle.std.specs.VecDeque.{deque_capacity};
     ghost use Rattle.std.specs.List.{concat};
     ghost use Rattle.cq_list.specs.Places.{PlacesView, AreBlocks};
 
     ghost Value = { PlacesView };
 
-    ghost view = { λ p. record { outputs = concat p.blocks.items; spare = p.room - p.len } };
+    ghost view = { λ p. record { outputs = concat (p.first ∷ p.others.items); spare = p.room - p.len } };
 
-    ghost invariant = { λ p. AreBlocks p.blocks.items p.len p.room (vec_capacity p.blocks) };
+    ghost invariant = { λ p. AreBlocks (p.first ∷ p.others.items) p.len p.room (deque_capacity p.others) };
 }
 
 // The block of a place, and where it stands in this block.
@@ -57,14 +64,14 @@ struct Ahead {
 }
 
 // Where a place stands, from the first block on.
-#[tactic(auto, using(crate::proofs::Blocks::ahead_more, crate::proofs::Blocks::whole_is))]
-fn spot_from_start(blocks: &[Block], place: usize) -> Spot
-    requires { place < length (concat blocks.now) }
-    ensures { IsSpot blocks.now place result.block result.within }
+#[tactic(auto, using(crate::proofs::BlockWalk::ahead_next, crate::proofs::Blocks::whole_is))]
+fn spot_from_start(blocks: &VecDeque<Block>, place: usize) -> Spot
+    requires { place < length (concat blocks.now.items) }
+    ensures { IsSpot blocks.now.items place result.block result.within }
 {
     let mut within = place;
-    'each: for (block, places) in blocks.iter().enumerate() {
-        let len = places.len();
+    'each: for block in 0..blocks.len() {
+        let len = blocks[block].len();
         if within < len {
             return Spot { block, within };
         }
@@ -74,10 +81,10 @@ fn spot_from_start(blocks: &[Block], place: usize) -> Spot
 }
 
 // Where a place stands, from the last block back.
-fn spot_from_end(blocks: &[Block], place: usize, len: usize) -> Spot
+fn spot_from_end(blocks: &VecDeque<Block>, place: usize, len: usize) -> Spot
     requires inside { place < len }
-    requires len { len ≡ length (concat blocks.now) }
-    ensures { IsSpot blocks.now place result.block result.within }
+    requires len { len ≡ length (concat blocks.now.items) }
+    ensures { IsSpot blocks.now.items place result.block result.within }
 {
     let mut end = len;
     'each: for passed in 0..blocks.len() {
@@ -94,10 +101,10 @@ fn spot_from_end(blocks: &[Block], place: usize, len: usize) -> Spot
 }
 
 // Where a place stands, from the nearer end.
-fn spot_of(blocks: &[Block], place: usize, len: usize) -> Spot
+fn spot_of(blocks: &VecDeque<Block>, place: usize, len: usize) -> Spot
     requires inside { place < len }
-    requires len { len ≡ length (concat blocks.now) }
-    ensures { IsSpot blocks.now place result.block result.within }
+    requires len { len ≡ length (concat blocks.now.items) }
+    ensures { IsSpot blocks.now.items place result.block result.within }
 {
     if place <= len / 2 {
         return spot_from_start(blocks, place);
@@ -106,11 +113,11 @@ fn spot_of(blocks: &[Block], place: usize, len: usize) -> Spot
 }
 
 // What stands ahead of the block behind a block.
-fn with_block(blocks: &[Block], block: usize, output: Port, ahead: Ahead) -> Ahead
-    requires inside { block < length blocks.now }
-    requires ahead { IsAhead blocks.now output block ahead.places ahead.own }
-    requires fits { length (concat blocks.now) < 2 ^ 64 }
-    ensures { IsAhead blocks.now output (block + 1) result.places result.own }
+fn with_block(blocks: &VecDeque<Block>, block: usize, output: Port, ahead: Ahead) -> Ahead
+    requires inside { block < length blocks.now.items }
+    requires ahead { IsAhead blocks.now.items output block ahead.places ahead.own }
+    requires fits { length (concat blocks.now.items) < 2 ^ 64 }
+    ensures { IsAhead blocks.now.items output (block + 1) result.places result.own }
 {
     let places = &blocks[block];
     Ahead {
@@ -120,10 +127,10 @@ fn with_block(blocks: &[Block], block: usize, output: Port, ahead: Ahead) -> Ahe
 }
 
 // What stands ahead of a block, by what stands ahead of the block behind it.
-fn without_block(blocks: &[Block], block: usize, output: Port, ahead: Ahead) -> Ahead
-    requires inside { block < length blocks.now }
-    requires ahead { IsAhead blocks.now output (block + 1) ahead.places ahead.own }
-    ensures { IsAhead blocks.now output block result.places result.own }
+fn without_block(blocks: &VecDeque<Block>, block: usize, output: Port, ahead: Ahead) -> Ahead
+    requires inside { block < length blocks.now.items }
+    requires ahead { IsAhead blocks.now.items output (block + 1) ahead.places ahead.own }
+    ensures { IsAhead blocks.now.items output block result.places result.own }
 {
     let places = &blocks[block];
     Ahead {
@@ -134,32 +141,35 @@ fn without_block(blocks: &[Block], block: usize, output: Port, ahead: Ahead) -> 
 
 // The place of an output that has so many of its places ahead, and where it stands, in the block that has it.
 fn nth_in(
-    blocks: &[Block],
+    blocks: &VecDeque<Block>,
     block: usize,
     output: Port,
     number: usize,
     ahead: Ahead,
 ) -> (usize, Spot)
-    requires inside { block < length blocks.now }
-    requires ahead { IsAhead blocks.now output block ahead.places ahead.own }
-    requires fits { length (concat blocks.now) < 2 ^ 64 }
+    requires inside { block < length blocks.now.items }
+    requires ahead { IsAhead blocks.now.items output block ahead.places ahead.own }
+    requires fits { length (concat blocks.now.items) < 2 ^ 64 }
     requires late { ahead.own ≤ number }
-    requires early { number < count_of output (concat (take (block + 1) blocks.now)) }
-    ensures place { result.0 ≡ place_of_nth (is_output output) number (concat blocks.now) }
-    ensures spot { IsSpot blocks.now result.0 result.1.block result.1.within }
+    requires early { number < count_of output (concat (take (block + 1) blocks.now.items)) }
+    ensures place { result.0 ≡ place_of_nth (is_output output) number (concat blocks.now.items) }
+    ensures spot { IsSpot blocks.now.items result.0 result.1.block result.1.within }
 {
     let within = blocks[block].place_of(output, number - ahead.own);
     (ahead.places + within, Spot { block, within })
 }
 
-// The same in all blocks. It is looked for from both ends at once, so it is met from the nearer one. It is kept apart
-// from its caller, which is then short enough to become a part of those that call it.
-#[inline(never)]
-fn find_from_ends(blocks: &[Block], output: Port, number: usize, all: Ahead) -> (usize, Spot)
-    requires all { IsAhead blocks.now output (length blocks.now) all.places all.own }
+// The same in all blocks. It is looked for from both ends at once, so it is met from the nearer one.
+fn find_from_ends(
+    blocks: &VecDeque<Block>,
+    output: Port,
+    number: usize,
+    all: Ahead,
+) -> (usize, Spot)
+    requires all { IsAhead blocks.now.items output (length blocks.now.items) all.places all.own }
     requires there { number < all.own }
-    ensures place { result.0 ≡ place_of_nth (is_output output) number (concat blocks.now) }
-    ensures spot { IsSpot blocks.now result.0 result.1.block result.1.within }
+    ensures place { result.0 ≡ place_of_nth (is_output output) number (concat blocks.now.items) }
+    ensures spot { IsSpot blocks.now.items result.0 result.1.block result.1.within }
 {
     let mut front = Ahead { places: 0, own: 0 };
     let mut back = all;
@@ -178,27 +188,42 @@ fn find_from_ends(blocks: &[Block], output: Port, number: usize, all: Ahead) -> 
     unreachable!()
 }
 
-// The same, where the first block often has it.
-fn find_nth(blocks: &[Block], output: Port, number: usize, all: Ahead) -> (usize, Spot)
-    requires all { IsAhead blocks.now output (length blocks.now) all.places all.own }
+// The same behind the first block, where that has no more than so many, and `all` counts the places of both. The place
+// is told from the first block's end on. What works on other blocks stands apart, so that what the first one alone
+// answers stays short.
+#[inline(never)]
+fn find_behind(
+    first: &Block,
+    others: &VecDeque<Block>,
+    output: Port,
+    number: usize,
+    all: Ahead,
+) -> (usize, Spot)
+    requires places { all.places ≡ length (first.now ++ concat others.now.items) }
+    requires own { all.own ≡ count_of output (first.now ++ concat others.now.items) }
+    requires late { count_of output first.now ≤ number }
     requires there { number < all.own }
-    ensures place { result.0 ≡ place_of_nth (is_output output) number (concat blocks.now) }
-    ensures spot { IsSpot blocks.now result.0 result.1.block result.1.within }
+    ensures place { length first.now + result.0
+        ≡ place_of_nth (is_output output) number (first.now ++ concat others.now.items) }
+    ensures spot { IsSpot others.now.items result.0 result.1.block result.1.within }
 {
-    if number < blocks[0].count(output) {
-        return nth_in(blocks, 0, output, number, Ahead { places: 0, own: 0 });
-    }
-    find_from_ends(blocks, output, number, all)
+    let own = first.count(output);
+    let behind = Ahead {
+        places: all.places - first.len(),
+        own: all.own - own,
+    };
+    find_from_ends(others, output, number - own, behind)
 }
 
 // How many of the places ahead of this one are an output's.
-fn count_in(blocks: &[Block], output: Port, place: usize) -> usize
-    requires inside { place ≤ length (concat blocks.now) }
-    ensures { result ≡ count_of output (take place (concat blocks.now)) }
+fn count_in(blocks: &VecDeque<Block>, output: Port, place: usize) -> usize
+    requires inside { place ≤ length (concat blocks.now.items) }
+    ensures { result ≡ count_of output (take place (concat blocks.now.items)) }
 {
     let mut left = place;
     let mut count = 0;
-    'each: for places in blocks {
+    'each: for block in 0..blocks.len() {
+        let places = &blocks[block];
         let len = places.len();
         if left <= len {
             return count + places.count_ahead(output, left);
@@ -225,16 +250,16 @@ fn in_halves(spot: Spot) -> Spot
 }
 
 // Where a place stands in a block with room: a full block is split in two.
-fn spot_with_room(blocks: &mut Vec<Block>, place: usize, len: usize) -> Spot
+fn spot_with_room(blocks: &mut VecDeque<Block>, place: usize, len: usize) -> Spot
     requires filled { AreFilled blocks.old.items }
-    requires memory { HaveMemory (length (concat blocks.old.items)) (vec_capacity blocks.old) }
+    requires memory { HaveMemory (length (concat blocks.old.items)) (deque_capacity blocks.old) }
     requires inside { place < len }
     requires len { len ≡ length (concat blocks.old.items) }
     ensures places { concat blocks.new.items ≡ concat blocks.old.items }
     ensures filled { AreFilled blocks.new.items }
     ensures spot { IsSpot blocks.new.items place result.block result.within }
     ensures room { length (slice_index_or blocks.new.items result.block []) < most_places }
-    ensures capacity { vec_capacity blocks.new ≡ vec_capacity blocks.old }
+    ensures capacity { deque_capacity blocks.old ≤ deque_capacity blocks.new }
 {
     let spot = spot_of(blocks, place, len);
     let block = &mut blocks[spot.block];
@@ -247,7 +272,7 @@ fn spot_with_room(blocks: &mut Vec<Block>, place: usize, len: usize) -> Spot
 }
 
 // A place at the end, in a block of its own behind a full one.
-fn push_block(blocks: &mut Vec<Block>, output: Port)
+fn push_block(blocks: &mut VecDeque<Block>, output: Port)
     requires can { CanGrow blocks.old output }
     requires full { (i : ℕ) → i + 1 ≡ length blocks.old.items →
         most_places ≤ length (slice_index_or blocks.old.items i []) }
@@ -255,11 +280,11 @@ fn push_block(blocks: &mut Vec<Block>, output: Port)
 {
     let mut block = Block::new();
     block.insert(0, output);
-    blocks.push_reserved(block);
+    blocks.push_back_reserved(block);
 }
 
 // A place at the end, in the last block or behind it.
-fn append_behind(blocks: &mut Vec<Block>, last: usize, output: Port)
+fn append_behind(blocks: &mut VecDeque<Block>, last: usize, output: Port)
     requires can { CanGrow blocks.old output }
     requires last { last + 1 ≡ length blocks.old.items }
     ensures { HasGrown (length (concat blocks.old.items)) output blocks.old blocks.new }
@@ -274,7 +299,7 @@ fn append_behind(blocks: &mut Vec<Block>, last: usize, output: Port)
 }
 
 // A place at the end.
-fn append(blocks: &mut Vec<Block>, output: Port)
+fn append(blocks: &mut VecDeque<Block>, output: Port)
     requires { CanGrow blocks.old output }
     ensures { HasGrown (length (concat blocks.old.items)) output blocks.old blocks.new }
 {
@@ -287,7 +312,7 @@ fn append(blocks: &mut Vec<Block>, output: Port)
 }
 
 // A place ahead of another one.
-fn insert_inside(blocks: &mut Vec<Block>, place: usize, len: usize, output: Port)
+fn insert_inside(blocks: &mut VecDeque<Block>, place: usize, len: usize, output: Port)
     requires can { CanGrow blocks.old output }
     requires inside { place < len }
     requires len { len ≡ length (concat blocks.old.items) }
@@ -299,24 +324,24 @@ fn insert_inside(blocks: &mut Vec<Block>, place: usize, len: usize, output: Port
 }
 
 // The places of the next block go over to the end of a block.
-fn join_next(blocks: &mut Vec<Block>, at: usize)
+fn join_next(blocks: &mut VecDeque<Block>, at: usize)
     requires inside { at + 1 < length blocks.old.items }
     requires fits { length (slice_index_or blocks.old.items at [])
         + length (slice_index_or blocks.old.items (at + 1) []) ≤ most_places }
     ensures joined { blocks.new.items ≡ joined blocks.old.items at }
-    ensures capacity { vec_capacity blocks.new ≡ vec_capacity blocks.old }
+    ensures capacity { deque_capacity blocks.new ≡ deque_capacity blocks.old }
 {
-    let next = blocks.remove(at + 1);
+    let next = blocks.remove(at + 1).unwrap();
     blocks[at].append(&next);
 }
 
 // The first place of the next block goes over to the end of a block.
-fn pull_next(blocks: &mut Vec<Block>, at: usize)
+fn pull_next(blocks: &mut VecDeque<Block>, at: usize)
     requires inside { at + 1 < length blocks.old.items }
     requires room { length (slice_index_or blocks.old.items at []) < most_places }
     requires some { 0 < length (slice_index_or blocks.old.items (at + 1) []) }
     ensures pulled { blocks.new.items ≡ pulled blocks.old.items at }
-    ensures capacity { vec_capacity blocks.new ≡ vec_capacity blocks.old }
+    ensures capacity { deque_capacity blocks.new ≡ deque_capacity blocks.old }
 {
     let output = blocks[at + 1].remove(0);
     let block = &mut blocks[at];
@@ -324,7 +349,7 @@ fn pull_next(blocks: &mut Vec<Block>, at: usize)
 }
 
 // A block that is as short as it may be gets the places of the next one, or the first of them where it has many.
-fn fill_up(blocks: &mut Vec<Block>, at: usize)
+fn fill_up(blocks: &mut VecDeque<Block>, at: usize)
     requires filled { AreFilled blocks.old.items }
     requires inside { at < length blocks.old.items }
     ensures places { concat blocks.new.items ≡ concat blocks.old.items }
@@ -332,7 +357,7 @@ fn fill_up(blocks: &mut Vec<Block>, at: usize)
     ensures spot { (place within : ℕ) →
         IsSpot blocks.old.items place at within → IsSpot blocks.new.items place at within }
     ensures longer { at + 1 < length blocks.new.items → least_places < length (slice_index_or blocks.new.items at []) }
-    ensures capacity { vec_capacity blocks.new ≡ vec_capacity blocks.old }
+    ensures capacity { deque_capacity blocks.new ≡ deque_capacity blocks.old }
 {
     let next = at + 1;
     let count = blocks.len();
@@ -354,16 +379,104 @@ fn fill_up(blocks: &mut Vec<Block>, at: usize)
 }
 
 // A place taken out. The last block stays where it runs empty.
-fn remove_at(blocks: &mut Vec<Block>, place: usize, spot: Spot)
+fn remove_at(blocks: &mut VecDeque<Block>, place: usize, spot: Spot)
     requires filled { AreFilled blocks.old.items }
     requires spot { IsSpot blocks.old.items place spot.block spot.within }
     ensures places { concat blocks.new.items ≡ remove (concat blocks.old.items) place }
     ensures filled { AreFilled blocks.new.items }
-    ensures capacity { vec_capacity blocks.new ≡ vec_capacity blocks.old }
+    ensures capacity { deque_capacity blocks.new ≡ deque_capacity blocks.old }
 {
     fill_up(blocks, spot.block);
     let block = &mut blocks[spot.block];
     block.remove(spot.within);
+}
+
+// A place at the end of other blocks than the first, or ahead of one of theirs. It stands apart, as `find_behind` does.
+#[inline(never)]
+fn insert_behind(others: &mut VecDeque<Block>, place: usize, len: usize, output: Port)
+    requires can { CanGrow others.old output }
+    requires inside { place ≤ len }
+    requires len { len ≡ length (concat others.old.items) }
+    ensures { HasGrown place output others.old others.new }
+{
+    if place == len {
+        append(others, output);
+    } else {
+        insert_inside(others, place, len, output);
+    }
+}
+
+// A place in the first block, which is full, and is split in two. It stands apart, as `find_behind` does.
+#[inline(never)]
+fn split_first(first: &mut Block, others: &mut VecDeque<Block>, place: usize, output: Port)
+    requires can { CanGrow others.old output }
+    requires full { length first.old ≡ most_places }
+    requires inside { place < most_places }
+    ensures places { first.new ++ concat others.new.items
+        ≡ insert (first.old ++ concat others.old.items) place output }
+    ensures filled { AreFilled (first.new ∷ others.new.items) }
+    ensures capacity { deque_capacity others.new ≡ deque_capacity others.old }
+{
+    let mut back = first.split_off();
+    if place < 32 {
+        first.insert(place, output);
+    } else {
+        back.insert(place - 32, output);
+    }
+    others.push_front_reserved(back);
+}
+
+// The first block, as short as it may be, gets the places of the next one, or the first of them where it has many. It
+// stands apart, as `find_behind` does.
+#[inline(never)]
+fn fill_first(first: &mut Block, others: &mut VecDeque<Block>)
+    requires filled { AreFilled (first.old ∷ others.old.items) }
+    requires some { 0 < length others.old.items }
+    requires short { length first.old ≤ least_places }
+    ensures filled { IsFilledUp first.old others.old.items first.new others.new.items }
+    ensures capacity { deque_capacity others.new ≡ deque_capacity others.old }
+{
+    if others[0].len() <= 32 {
+        let next = others.pop_front().unwrap();
+        first.append(&next);
+    } else {
+        let output = others[0].remove(0);
+        first.insert(first.len(), output);
+    }
+}
+
+// A place of the first block taken out.
+fn remove_in_first(first: &mut Block, others: &mut VecDeque<Block>, place: usize)
+    requires filled { AreFilled (first.old ∷ others.old.items) }
+    requires inside { place < length first.old }
+    ensures places { first.new ++ concat others.new.items
+        ≡ remove (first.old ++ concat others.old.items) place }
+    ensures filled { AreFilled (first.new ∷ others.new.items) }
+    ensures capacity { deque_capacity others.new ≡ deque_capacity others.old }
+{
+    if first.len() <= LEAST_PLACES && !others.is_empty() {
+        fill_first(first, others);
+    }
+    first.remove(place);
+}
+
+// The first place of an output taken out, which stands behind the first block. It is a call of its own, as
+// `find_behind` is.
+#[inline(never)]
+fn remove_behind(first: &Block, others: &mut VecDeque<Block>, output: Port, all: Ahead)
+    requires filled { AreFilled (first.now ∷ others.old.items) }
+    requires places { all.places ≡ length (first.now ++ concat others.old.items) }
+    requires own { all.own ≡ count_of output (first.now ++ concat others.old.items) }
+    requires behind { count_of output first.now ≡ 0 }
+    requires some { 0 < all.own }
+    ensures places { first.now ++ concat others.new.items
+        ≡ remove (first.now ++ concat others.old.items)
+        (place_of_nth (is_output output) 0 (first.now ++ concat others.old.items)) }
+    ensures filled { AreFilled (first.now ∷ others.new.items) }
+    ensures capacity { deque_capacity others.new ≡ deque_capacity others.old }
+{
+    let (place, spot) = find_behind(first, others, output, 0, all);
+    remove_at(others, place, spot);
 }
 
 impl Places {
@@ -373,7 +486,8 @@ impl Places {
         ensures spare { IfOk result (λ places. places.spare ≡ room) }
     {
         Ok(Places {
-            blocks: Vec::with_capacity(alloc, (room / LEAST_PLACES as u64 + 2) as usize)?,
+            first: Block::new(),
+            others: VecDeque::with_capacity(alloc, (room / LEAST_PLACES as u64 + 2) as usize)?,
             len: 0,
             room,
         })
@@ -386,11 +500,11 @@ impl Places {
         self.len
     }
 
-    /// The blocks in which the places stand, in order.
-    pub fn blocks(&self) -> &[Block]
-        ensures { concat result.now ≡ self.now.outputs }
+    /// The blocks in which the places stand: the first, and the others in order.
+    pub fn blocks(&self) -> (&Block, &VecDeque<Block>)
+        ensures { result.0.now ++ concat result.1.now.items ≡ self.now.outputs }
     {
-        self.blocks.as_slice()
+        (&self.first, &self.others)
     }
 
     /// The output of a place.
@@ -398,8 +512,12 @@ impl Places {
         requires { place < length self.now.outputs }
         ensures { slice_get self.now.outputs place ≡ Some result }
     {
-        let spot = spot_of(&self.blocks, place, self.len);
-        self.blocks[spot.block].at(spot.within)
+        let len = self.first.len();
+        if place < len {
+            return self.first.at(place);
+        }
+        let spot = spot_of(&self.others, place - len, self.len - len);
+        self.others[spot.block].at(spot.within)
     }
 
     /// How many of the places ahead of this one are an output's.
@@ -407,7 +525,11 @@ impl Places {
         requires { place ≤ length self.now.outputs }
         ensures { result ≡ count_of output (take place self.now.outputs) }
     {
-        count_in(&self.blocks, output, place)
+        let len = self.first.len();
+        if place <= len {
+            return self.first.count_ahead(output, place);
+        }
+        self.first.count(output) + count_in(&self.others, output, place - len)
     }
 
     /// The place of an output that has so many of its places ahead, where it has so many in all.
@@ -416,16 +538,15 @@ impl Places {
         requires there { ahead < all }
         ensures { result ≡ place_of_nth (is_output output) ahead self.now.outputs }
     {
-        let (place, _) = find_nth(
-            &self.blocks,
-            output,
-            ahead,
-            Ahead {
-                places: self.len,
-                own: all,
-            },
-        );
-        place
+        if ahead < self.first.count(output) {
+            return self.first.place_of(output, ahead);
+        }
+        let all = Ahead {
+            places: self.len,
+            own: all,
+        };
+        let (place, _) = find_behind(&self.first, &self.others, output, ahead, all);
+        self.first.len() + place
     }
 
     /// Puts a place of an output in. It takes room for one place and no memory.
@@ -436,10 +557,13 @@ impl Places {
         ensures outputs { self.new.outputs ≡ insert self.old.outputs place output }
         ensures spare { self.new.spare + 1 ≡ self.old.spare }
     {
-        if place == self.len {
-            append(&mut self.blocks, output);
+        let len = self.first.len();
+        if place <= len && len < MOST_PLACES {
+            self.first.insert(place, output);
+        } else if place < len {
+            split_first(&mut self.first, &mut self.others, place, output);
         } else {
-            insert_inside(&mut self.blocks, place, self.len, output);
+            insert_behind(&mut self.others, place - len, self.len - len, output);
         }
         self.len += 1;
     }
@@ -453,16 +577,16 @@ impl Places {
             remove self.old.outputs (position_or_len (is_output output) self.old.outputs) }
         ensures spare { self.new.spare ≡ self.old.spare + 1 }
     {
-        let (place, spot) = find_nth(
-            &self.blocks,
-            output,
-            0,
-            Ahead {
+        if self.first.count(output) == 0 {
+            let all = Ahead {
                 places: self.len,
                 own: all,
-            },
-        );
-        remove_at(&mut self.blocks, place, spot);
+            };
+            remove_behind(&self.first, &mut self.others, output, all);
+        } else {
+            let place = self.first.place_of(output, 0);
+            remove_in_first(&mut self.first, &mut self.others, place);
+        }
         self.len -= 1;
     }
 }

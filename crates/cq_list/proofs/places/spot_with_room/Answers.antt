@@ -1,12 +1,17 @@
-use Rattle.cq_list.proofs.Terms.{rules, ◌≡◌, ◌+◌, ◌++◌, get_or, [], arith, insert, slice_set, get_or_read, IsSpot, left_by_ok}
+use Rattle.cq_list.proofs.Terms.{rules, ◌≡◌, ◌+◌, ◌++◌, get_or, [], arith, insert, slice_set, get_or_read, IsSpot, refl, ℕ, ◌<◌, ◌≤◌, Result, Ok}
+use Rattle.std.specs.Prelude.{Err, IsOk, OnErr}
 use Rattle.cq_list.proofs.Blocks.{spot_along, split_in, in_half}
 use Rattle.cq_list.proofs.Filled.{room_for_block, filled_split}
 use Rattle.cq_list.proofs.places.spot_with_room.Goals as goal
 
+has_room : {T E : Type 0} (r : Result T E) (len capacity : ℕ) → OnErr r (capacity ≤ len) → len < capacity → IsOk r
+has_room (Ok t) len capacity full room = refl
+has_room (Err e) len capacity full room = absurd (let none : capacity ≤ len = full in omega arith)
+
 pub unwrap-requires : goal.unwrap-requires
 unwrap-requires c =
     let room = room_for_block c.args.blocks.now.items _ c.requires.filled c.requires.memory in
-    c.insert.ensures.succeeds (omega arith)
+    has_room _ _ _ c.insert.ensures.full (omega arith)
 
 -- what is known of the block that was split
 record Halved (c : goal.After-in_halves) : Type 0 where
@@ -18,7 +23,8 @@ record Halved (c : goal.After-in_halves) : Type 0 where
       (c.spot_of-spot.result.block + 1) c.split_off-back.result
 
 halved : (c : goal.After-in_halves) → Halved c
-halved c = search (arith, rules, spot_along, get_or_read, left_by_ok)
+halved c =
+    let items = rw c.unwrap.ensures at c.insert.ensures.items in search (arith, rules, spot_along, get_or_read)
 
 pub returns-clause-places : goal.returns-clause-places
 returns-clause-places c = search (arith, rules, halved, split_in)
@@ -29,9 +35,7 @@ returns-clause-spot c =
     c.in_halves.ensures.front c.in_halves.ensures.back)
 
 pub returns-clause-capacity : goal.returns-clause-capacity
-returns-clause-capacity c =
-    let room = room_for_block c.args.blocks.now.items _ c.requires.filled c.requires.memory in
-    (c.insert.ensures.in_place (omega arith)).1.0
+returns-clause-capacity c = search (arith, rules, c.insert.ensures.capacity)
 
 pub returns-clause-filled : goal.returns-clause-filled
 returns-clause-filled c = search (arith, rules, halved, filled_split)

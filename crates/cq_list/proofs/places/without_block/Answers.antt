@@ -7,7 +7,8 @@ overflow_sub-result c = search (arith, rules, ahead_next)
 
 pub overflow_sub-result-2 : goal.overflow_sub-result-2
 overflow_sub-result-2 c =
-    let next = count_next c.args.blocks.now _ c.requires.inside c.index-blocks-block.is c.args.output in omega arith
+    let next = count_next c.args.blocks.now.items _ c.requires.inside c.index-places.ensures c.args.output in
+    omega arith
 
 pub returns : goal.returns
 returns c = search (arith, rules, ahead_without)

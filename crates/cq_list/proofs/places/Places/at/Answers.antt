@@ -1,6 +1,14 @@
-use Rattle.cq_list.proofs.Terms.{arith, rules}
-use Rattle.cq_list.proofs.Blocks.{spot_along, shown_at_spot}
+use Rattle.cq_list.proofs.Terms.{PlacesView, arith, rules, ap, slice_get, ◌≡◌, ◌-◌, Some, concat}
+use Rattle.cq_list.proofs.Blocks.{shown_front, spot_along, shown_at_spot}
+use Rattle.cq_list.proofs.First.{shown_later}
 use Rattle.cq_list.proofs.places.Places.at.Goals as goal
 
+pub returns-then-place-len : goal.returns-then-place-len
+returns-then-place-len c = search (arith, rules, shown_front)
+
 pub returns : goal.returns
-returns c = search (arith, rules, spot_along, shown_at_spot)
+returns c =
+    let seen = ap (λ (v : PlacesView). slice_get v.outputs c.args.place) c.self.view_is in
+    let at : slice_get (concat c.self.inside.others.items) (c.args.place - c.len-len.result) ≡ Some c.at-2.result =
+    search (arith, rules, spot_along, shown_at_spot) in
+    search (arith, rules, seen, at, shown_later)

@@ -1,0 +1,44 @@
+-- The first block and the others, which stand apart. The places of a list are those of the first, and then those of the
+-- others: what is asked of the others is asked from the first block's end on.
+use Rattle.cq_list.proofs.Terms.{common_steps, ◌≡◌, ℕ, ◌+◌, ◌-◌, ◌<◌, ◌≤◌, List, ◌++◌, length, take, ap, ◌∙◌, sym, arith, length-append, append_assoc, take_all, filter-append, insert, remove, concat, Some, slice_get, insert-append_left, insert-append_right, remove-append_right, IsAhead, count_of}
+use Rattle.cq_list.proofs.Blocks.{shown_behind}
+use Rattle.cq_list.proofs.BlockWalk.{take_past}
+
+module _ (b : List ℕ) (bs : List (List ℕ)) (n : ℕ) (long : n ≡ length b) where
+  pub shown_later : (place x : ℕ) → n ≤ place → slice_get (concat bs) (place - n) ≡ Some x →
+      slice_get (b ++ concat bs) place ≡ Some x
+  shown_later place x past at =
+      let same : place ≡ length b + (place - n) = omega arith in
+      ap (slice_get (b ++ concat bs)) same ∙ shown_behind b (concat bs) (place - n) ∙ at
+
+  -- what stands ahead of the end, of the others alone
+  pub ahead_behind : (j places own k : ℕ) → k ≡ count_of j b → places ≡ length (b ++ concat bs) →
+      own ≡ count_of j (b ++ concat bs) → IsAhead bs j (length bs) (places - n) (own - k)
+  ahead_behind j places own k few all every = grind (arith, common_steps, take_all, length-append, filter-append)
+
+  pub count_behind : (j place : ℕ) → n < place →
+      count_of j (take place (b ++ concat bs)) ≡ count_of j b + count_of j (take (place - n) (concat bs))
+  count_behind j place past = grind (arith, common_steps, take_past, length-append, filter-append)
+
+  pub insert_later : (place y : ℕ) → n ≤ place →
+      insert (b ++ concat bs) place y ≡ b ++ insert (concat bs) (place - n) y
+  insert_later place y past = insert-append_right b (concat bs) n place y (sym long) past
+
+  pub remove_later : (place k : ℕ) → n + place ≡ k → remove (b ++ concat bs) k ≡ b ++ remove (concat bs) place
+  remove_later place k at =
+      let same : k - n ≡ place = omega arith in
+      remove-append_right b (concat bs) n k (sym long) (omega arith) ∙ ap (λ m. b ++ remove (concat bs) m) same
+
+-- ## The first block split in two
+
+module _ (front back : List ℕ) (bs : List (List ℕ)) (place y : ℕ) where
+  pub split_front : place ≤ length front →
+      insert ((front ++ back) ++ concat bs) place y ≡ insert front place y ++ (back ++ concat bs)
+  split_front inside = ap (λ l. insert l place y) (append_assoc front back (concat bs))
+      ∙ insert-append_left front (back ++ concat bs) place y inside
+
+  pub split_back : length front ≡ 32 → 32 ≤ place → place - 32 ≤ length back →
+      insert ((front ++ back) ++ concat bs) place y ≡ front ++ (insert back (place - 32) y ++ concat bs)
+  split_back half past inside = ap (λ l. insert l place y) (append_assoc front back (concat bs))
+      ∙ insert-append_right front (back ++ concat bs) 32 place y half past
+      ∙ ap (λ l. front ++ l) (insert-append_left back (concat bs) (place - 32) y inside)

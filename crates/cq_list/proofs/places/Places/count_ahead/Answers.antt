@@ -1,0 +1,12 @@
+use Rattle.cq_list.proofs.Terms.{PlacesView, arith, rules, ap, take, length-take, count_of}
+use Rattle.cq_list.proofs.Counts.{count_le}
+use Rattle.cq_list.proofs.First.{count_behind}
+use Rattle.cq_list.proofs.places.Places.count_ahead.Goals as goal
+
+pub overflow_add-result : goal.overflow_add-result
+overflow_add-result c = search (arith, rules, count_le, length-take)
+
+pub returns : goal.returns
+returns c =
+    let seen = ap (λ (v : PlacesView). count_of c.args.output (take c.args.place v.outputs)) c.self.view_is in
+    search (arith, rules, seen, count_behind)
