@@ -1,5 +1,5 @@
 -- The words of this crate's proofs that stand elsewhere, each passed on from its place.
-pub use Rattle.cq_base.proofs.Library.{AllByRecursion, Bool, Err, IfErr, IfSome, IsOk, IsTrue, List, None, Ok, OnOk, Option, Result, Some, [], and_from, and_left, and_parts, and_right, ap, append-nil, append_assoc, append_cancel_left, arith, cases_Bool, cases_eq, cases_lt, cases_order, common_steps, cond-false, cond_both, cons_option, drop, drop_more, eq-eqb, eqb-true, err_from_is_err_and, ext_get_or, false, false_from_ne_true, filter, filter-append, filter_map, find-append, get_or, get_or-map-range_with_len, get_or-set_other, get_or-set_same, get_or-take, get_or_past, inl, inr, le-ltb, length, length-append, length-map, length-map-range_with_len, length-replicate, length-set, length-take-le, lit≤, lt-ltb, ltb-true, map, min, ne_eqb, not, option_map, position_or_len, range_with_len, refl, replicate, rules, slice_get, subst, suc, sym, take, take-append-drop, take-append-le, take-take, take_all, take_more, take_rest, true, zero, ℕ, ⊎_elim, ⊤, ◌*◌, ◌++◌, ◌+◌, ◌-◌, ◌<◌, ◌^◌, ◌↔◌, ◌∙◌, ◌∷◌, ◌≡◌, ◌≢◌, ◌≤◌, ◌⊎◌}
+pub use Rattle.cq_base.proofs.Library.{AllByRecursion, Bool, Err, IfErr, IfSome, IsOk, IsTrue, List, None, Ok, OnOk, Option, Result, Some, [], and_from, and_left, and_parts, and_right, ap, append-nil, append_assoc, append_cancel_left, arith, cases_Bool, cases_eq, cases_lt, cases_order, common_steps, cond-false, cond_both, drop, drop_more, eq-eqb, eqb-true, err_from_is_err_and, ext_get_or, false, false_from_ne_true, filter, filter-append, filter_map, find-append, get_or, get_or-map-range_with_len, get_or-set_other, get_or-set_same, get_or-take, get_or_past, inl, inr, le-ltb, length, length-append, length-map, length-map-range_with_len, length-replicate, length-set, length-take-le, lit≤, lt-ltb, ltb-true, map, min, ne_eqb, not, option_map, position_or_len, range_with_len, refl, replicate, rules, slice_get, subst, suc, sym, take, take-append-drop, take-append-le, take-take, take_all, take_more, take_rest, true, zero, ℕ, ⊎_elim, ⊤, ◌*◌, ◌++◌, ◌+◌, ◌-◌, ◌<◌, ◌^◌, ◌↔◌, ◌∙◌, ◌∷◌, ◌≡◌, ◌≢◌, ◌≤◌, ◌⊎◌}
 pub use Rattle.cq_base.proofs.Lists.{all_at, all_insert, all_left, first_here, first_later}
 pub use Rattle.cq_base.specs.Arrivals.{arrival_at, no_arrivals}
 pub use Rattle.cq_base.specs.Arriving.{Arrival, arriving, end_of, enough}
@@ -16,14 +16,14 @@ pub use Rattle.cq_ideal.specs.Admission.{Marked, admitted, marked, marks_after, 
 unfoldable pub use Rattle.cq_ideal.specs.Admission.{admission}
 pub use Rattle.cq_ideal.specs.{Ending.first_slots, Ideal.count_for, LimitedEnding.whole_limited_run, LimitedIdeal.empty_limited}
 unfoldable pub use Rattle.cq_ideal.specs.Ending.{arriving_from}
-pub use Rattle.cq_ideal.specs.Ranking.{AreForPorts, ranking}
+pub use Rattle.cq_ideal.specs.Ranking.{ranking}
 pub use Rattle.cq_lines.proofs.Going.{SoFar, one_line_more}
 pub use Rattle.cq_lines.specs.Texts.{Leads}
-pub use Rattle.cq_audit.specs.Audit.{IsAuditExact, IsNo, IsNoOf, IsReadNo, IsYes, opening_fabric, phase_refusal, unread}
+pub use Rattle.cq_audit.specs.Audit.{IsAuditExact, IsNo, IsNoOf, IsReadNo, IsYes, opening_fabric, phase_refusal}
 pub use Rattle.cq_audit.specs.Phase.{AllBehind, AreOfPhase, AreParted, AreRight, IsBlocking, IsFirstWrong, IsPhaseExact, IsPhaseFault, IsStableTold, IsWrongLine, NoneBefore, RiseByInput, first_id, in_phase, is_at, line_of_input, output_told}
 unfoldable pub use Rattle.cq_audit.specs.Phase.{told}
 pub use Rattle.cq_audit.specs.Replay.{CanCome, CanReplay, HasRested, IsInStep, IsMadeAs, IsSlotFault, ReplayView, SlotReplayed, ports_in, refusal_of, shown}
-pub use Rattle.cq_audit.specs.StableRun.{Begins, BeginsFirst, BeginsSecond, IsFaultAt, IsHalfPast, IsLeftAt, IsOfStableRun, Reaches, StableRun, before_slot}
+pub use Rattle.cq_audit.specs.StableRun.{Begins, BeginsFirst, IsFaultAt, IsHalfPast, IsLeftAt, IsOfStableRun, Reaches, StableRun, before_slot}
 pub use Rattle.cq_audit.specs.{declared.phase.PhaseFault.PhaseFault, declared.refusal.AuditRefusal.AuditRefusal, declared.replay.SlotFault.SlotFault}
 pub use Rattle.cq_audit.specs.declared.refusal.AuditRefusal.TheVariants.{Left, Line, NoMemory}
 pub use Rattle.cq_list.specs.InputList.{Waiting, cells_of}
@@ -41,7 +41,7 @@ pub use Rattle.cq_laws.specs.Fabric.{Fabric, IsEmptyFabric, empty_fabric, input}
 pub use Rattle.cq_laws.specs.FabricSlot.{FabricSlot, SlotRecord}
 pub use Rattle.cq_laws.specs.LimitedFabric.{IsLimitedFault, LimitedFabricRun, LimitedFabricSlot, LimitedRecord, empty_limited_fabric, fabric_admission, slots_in}
 pub use Rattle.cq_laws.specs.{LimitedQuiet.quiet_limited_slots, SlotBySlot.AfterBy}
-pub use Rattle.cq_laws.specs.Phases.{Arrives, Departs, Transfers}
+pub use Rattle.cq_laws.specs.Phases.{Arrives, Transfers}
 unfoldable pub use Rattle.cq_laws.specs.Records.{transfers_in, transfers_of_run}
 pub use Rattle.cq_fabric.proofs.Limits.{admits_are, admitted_room, holds_first, nothing_for, numbers_fit, still_holds}
 pub use Rattle.cq_fabric.specs.Queues.{ComeApart, FitLists, Queues, fabric_of}

@@ -1,6 +1,5 @@
 -- The words of this crate's proofs that stand elsewhere, each passed on from its place.
-pub use Rattle.cq_base.proofs.Library.{All, AllByRecursion, Bool, Err, IsOkAnd, List, None, Ok, Option, Result, Some, [], ap, append-nil, append_assoc, arith, cases_Bool, cases_eq, cases_lt, common_steps, cond, cond_both, cons_option, drop, enumerate_from, eq-eqb, eqb-true, ext_get_or, false, filter, filter_map, filter_map-append, find, flat_map, flat_map-append, fold, fold-append, get_or-map-range_with_len, get_or-set_other, get_or-set_same, get_or_default, get_or_past, inl, inr, insert, is_some, length, length-append, length-enumerate_from, length-map, length-map-range_with_len, length-replicate, length-take-le, list_any, map, map-append, map_push, max, min, ne_eqb, option_and_then, option_map, position_or_len, range_with_len, reduce, refl, replicate, rules, same_Some, set, slice_get, slice_get-get_or, slice_index_or, subst, suc, sum, sum_by-replicate, sum_by_push, sym, take, take-append-drop, take_all, true, true≢false, zero, ℕ, ⊎_elim, ◌++◌, ◌+◌, ◌-◌, ◌<◌, ◌==◌, ◌↔◌, ◌∙◌, ◌∷◌, ◌≡◌, ◌≢◌, ◌≤◌, ◌⊎◌}
-unfoldable pub use Rattle.cq_base.proofs.Library.{IsDistinct}
+pub use Rattle.cq_base.proofs.Library.{All, AllByRecursion, Bool, Err, List, None, Ok, Option, Result, Some, [], ap, append-nil, append_assoc, arith, cases_Bool, cases_eq, cases_lt, common_steps, cond, cond_both, cons_option, drop, enumerate_from, eq-eqb, eqb-true, ext_get_or, false, filter, filter_map, filter_map-append, find, flat_map, flat_map-append, fold, fold-append, get_or-map-range_with_len, get_or-set_other, get_or-set_same, get_or_default, get_or_past, inl, inr, insert, is_some, length, length-append, length-enumerate_from, length-map, length-map-range_with_len, length-replicate, length-take-le, list_any, map, map-append, map_push, max, min, ne_eqb, option_and_then, option_map, position_or_len, range_with_len, reduce, refl, replicate, rules, same_Some, set, slice_get, slice_get-get_or, subst, suc, sum, sum_by-replicate, sum_by_push, sym, take, take-append-drop, take_all, true, true≢false, zero, ℕ, ⊎_elim, ◌++◌, ◌+◌, ◌-◌, ◌<◌, ◌==◌, ◌↔◌, ◌∙◌, ◌∷◌, ◌≡◌, ◌≢◌, ◌≤◌, ◌⊎◌}
 pub use Rattle.cq_base.proofs.Keys.{key_laws}
 pub use Rattle.cq_base.proofs.Lists.{each_pair_at, each_pair_left, first_here, first_later, first_le, keeps_order_arrival}
 pub use Rattle.cq_base.specs.{Arrivals.arrival_at, declared.figures.InputFigures.InputFigures, declared.key.Key.Key}
@@ -9,7 +8,7 @@ pub use Rattle.cq_base.specs.Items.{EachPair, Has}
 unfoldable pub use Rattle.cq_base.specs.Key.{is_before}
 pub use Rattle.cq_base.specs.Limits.{most_ports}
 pub use Rattle.cq_ideal.proofs.Admitted.{admitted_for_ports, marks_kept, no_arrivals_refuse_none}
-pub use Rattle.cq_ideal.proofs.LimitedEnds.{at_ok, ends, fewer_slots, found_end, limited_found_end, limited_whole_fault, not_more, whole_fault}
+pub use Rattle.cq_ideal.proofs.LimitedEnds.{ends, fewer_slots, found_end, limited_found_end, limited_whole_fault, not_more, whole_fault}
 pub use Rattle.cq_ideal.proofs.LimitedRuns.{admitted_are, admitted_step, none_refused_in, run_fault, run_step}
 pub use Rattle.cq_ideal.proofs.Parted.{arriving_length, arriving_parts, departures_append, quiet_from}
 pub use Rattle.cq_ideal.proofs.Resting.{all_empty, idle_at, length-idle, nobody_sends, none_at, nothing_left, ranked_none}
@@ -24,11 +23,11 @@ unfoldable pub use Rattle.cq_ideal.specs.IdealSlot.{all_told, departures_in, fil
 pub use Rattle.cq_ideal.specs.LimitedIdeal.{LimitedRan, empty_limited, ideal_admission}
 unfoldable pub use Rattle.cq_ideal.specs.LimitedIdeal.{admitted_traffic, limited_run, limited_slot}
 pub use Rattle.cq_ideal.specs.Ranking.{Ranking, ranking}
-pub use Rattle.cq_prefs.proofs.InputOrder.{are_offers, are_orders, no_inputs_past}
-pub use Rattle.cq_prefs.specs.FirstCells.{AreOrdersOf, FirstKeysDiffer, HasCellFor, IsOutputOrder, list_of, orders_of, output_order}
-pub use Rattle.cq_prefs.specs.Moves.{Moves, list_taken, noted}
+pub use Rattle.cq_prefs.proofs.InputOrder.{are_offers, are_orders}
+pub use Rattle.cq_prefs.specs.FirstCells.{AreOrdersOf, FirstKeysDiffer, HasCellFor, IsOutputOrder, list_of, orders_of}
+pub use Rattle.cq_prefs.specs.Moves.{list_taken, noted}
 unfoldable pub use Rattle.cq_prefs.specs.Moves.{transfers_of}
-pub use Rattle.cq_prefs.specs.Orders.{AreOffers, IsListed, Orders, inputs_of, outputs_of, ports}
+pub use Rattle.cq_prefs.specs.Orders.{IsListed, Orders, outputs_of, ports}
 unfoldable pub use Rattle.cq_prefs.specs.Orders.{place_in}
 pub use Rattle.cq_prefs.specs.Pairing.{HasBetterInput, depth, partner_of, proposals, spent, with_pair}
 pub use Rattle.cq_laws.specs.Agreement.{RunsAlike, SendsAlike}
@@ -42,8 +41,8 @@ unfoldable pub use Rattle.cq_laws.specs.Measures.{figures_after, figures_of, inp
 pub use Rattle.cq_laws.specs.Places.{AllBefore, Crossed, HasFor, IsMostUrgentFor, NoKeyTwice, Waiting}
 pub use Rattle.cq_laws.specs.Records.{gone_in}
 unfoldable pub use Rattle.cq_laws.specs.Records.{transfers_in, transfers_of_run}
-pub use Rattle.cq_laws.specs.Slack.{ArrivesWithSlack, EachArrivesOrFalls, EachFalls, Falls, Rises}
-pub use Rattle.cq_laws.specs.SlotBySlot.{AfterBy, AreAlso, GoOn, HaveParts, HasParts, RunBy, StopBy, WholeBy}
+pub use Rattle.cq_laws.specs.Slack.{ArrivesWithSlack, EachArrivesOrFalls, EachFalls, Falls}
+pub use Rattle.cq_laws.specs.SlotBySlot.{AfterBy, AreAlso, GoOn, HasParts, RunBy, StopBy, WholeBy}
 pub use Rattle.cq_laws.specs.Terms.{ActAlikeFromEmptyWithoutLimits, ActAlikeWithoutLimits, Agrees, AreForPorts, Arrival, Arrives, BeginsWhole, Cell, Departs, EachArrivesOr, EachIsWhole, EachRises, EndsAlike, Fabric, FabricRun, FabricSlot, FabricStops, Figures, FirstsCanCross, FitsList, HasMoreSlack, HasSlack, IdealState, IsAmong, IsEmptyFabric, IsFabric, IsFault, IsForSwitch, IsInputBest, IsLimitedFault, IsOneRun, IsRunOfRecorded, IsStable, IsWholeFabric, LimitedEndsAlike, LimitedFabricRun, LimitedFabricSlot, LimitedFabricStops, LimitedRecord, LimitedWholeRun, ListsKeepOrder, Machine, Marked, Partners, Queued, SlotRecord, TagFault, Transfers, WholeRun, admissions_in, buffer, came_to, cushion_of, empty_fabric, empty_limited_fabric, fabric_admission, first_come_all, for_output1, from_input2, ideal_held, idled_for, input, least_slack, list_arrived, no_arrivals, passed, place_of_arrival, quiet_slots, slots_in, three, three_empty, three_slots, worked_figures, worked_records, worked_transfers}
 pub use Rattle.cq_base.proofs.Putting.{all_put, length_put}
 pub use Rattle.cq_base.proofs.Each.{all_front}

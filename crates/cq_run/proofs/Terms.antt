@@ -1,5 +1,5 @@
 -- The words of this crate's proofs that stand elsewhere, each passed on from its place.
-pub use Rattle.cq_base.proofs.Library.{AllByRecursion, AllPairs, Bool, Bor, Err, Global, IfErr, IfOk, IfSome, IsErr, IsErrAnd, IsErrOf, IsOk, IsOkAnd, IsTrue, List, MatchOption, None, Ok, Option, Result, Some, Vec, [], add-one, and_from, and_left, and_right, ap, append-nil, append_assoc, append_known, arith, bytes_eq, bytes_eq-Decides, cases_eq, codes, common_steps, cond, cond-true, drop, drop_all, drop_more, eq-eqb, eq_by_cmp_equiv, exact_bytes, false, filter, filter-append, find, flat_map, flat_map-append, get, get-insert, get-remove, get_or, if◌then◌else◌, inl, inr, is_some, le-ltb, leb-true, length, length-append, length-drop, length-take-le, list_any, lt-ltb, map, nat_le, nat_list_cmp_total, nat_lt, ne_eqb, nil_from_length, not, not_from_false, option_map, option_map_or, or_parts, range_with_len, recursion_from_All, refl, replicate, rules, slice_index, slice_index_or, string_bytes, subst, suc, sym, take, take-append-add, take-append-drop, take_all, take_at, take_more, tells_apart, true, unwrap_or, vec_len, zero, ℕ, ⊎_elim, ◌&&◌, ◌*◌, ◌++◌, ◌+◌, ◌-◌, ◌<◌, ◌==◌, ◌^◌, ◌∙◌, ◌∷◌, ◌≡◌, ◌≢◌, ◌≤◌, ◌⊎◌}
+pub use Rattle.cq_base.proofs.Library.{AllByRecursion, AllPairs, Bool, Bor, Err, Global, IfErr, IfOk, IfSome, IsErr, IsErrAnd, IsErrOf, IsOk, IsOkAnd, IsTrue, List, MatchOption, None, Ok, Option, Result, Some, Vec, [], add-one, and_from, ap, append-nil, append_assoc, append_known, arith, bytes_eq-Decides, cases_eq, codes, common_steps, cond, cond-true, drop, drop_all, drop_more, eq-eqb, eq_by_cmp_equiv, exact_bytes, false, filter, filter-append, find, flat_map, flat_map-append, get, get-insert, get-remove, get_or, if◌then◌else◌, inl, inr, is_some, le-ltb, leb-true, length, length-append, length-drop, length-take-le, list_any, lt-ltb, map, nat_le, nat_list_cmp_total, nat_lt, ne_eqb, nil_from_length, not, not_from_false, option_map, option_map_or, range_with_len, recursion_from_All, refl, replicate, rules, slice_index, slice_index_or, string_bytes, subst, suc, sym, take, take-append-add, take-append-drop, take_all, take_at, take_more, tells_apart, true, vec_len, zero, ℕ, ⊎_elim, ◌&&◌, ◌*◌, ◌++◌, ◌+◌, ◌-◌, ◌<◌, ◌==◌, ◌^◌, ◌∙◌, ◌∷◌, ◌≡◌, ◌≢◌, ◌≤◌, ◌⊎◌}
 pub use Rattle.cq_base.specs.Arriving.{Arrival, arriving, arriving_at, end_of, is_at, traffic_of}
 unfoldable pub use Rattle.cq_base.specs.Arriving.{enough}
 pub use Rattle.cq_base.specs.{declared.cell.Departure.Departure, declared.cell.TagFault.TagFault, declared.cell.Transfer.Transfer}
@@ -35,7 +35,7 @@ unfoldable pub use Rattle.cq_simulate.specs.IdealRuns.{ideal_departures, ran_ide
 pub use Rattle.cq_simulate.specs.Packets.{ArePacked, LeaveWhole, ends_packet_at, leaving}
 unfoldable pub use Rattle.cq_simulate.specs.Packets.{packets_out}
 pub use Rattle.cq_simulate.specs.{declared.fabric_run.PackedFabricRun.PackedFabricRun, declared.refusal.RunRefusal.RunRefusal}
-pub use Rattle.cq_words.specs.Words.{command_for, form_of, most_slots, soak_of, with_config, with_three, with_two}
+pub use Rattle.cq_words.specs.Words.{command_for, form_of, most_slots, with_config, with_three, with_two}
 pub use Rattle.cq_words.specs.declared.command.Command.{Command}
 pub use Rattle.cq_words.specs.declared.command.Command.TheVariants.{Audit, Check, Ideal, Part, Pass, Resume, Run, Soak}
 pub use Rattle.cq_run.specs.Aim.{Aim, Auditing, Crossing, Denies, Exactly, Meets, Parting, Reporting, Resuming}
@@ -60,7 +60,7 @@ pub use Rattle.cq_run.specs.{declared.denial.Denial.Denial, declared.refusal.Cap
 pub use Rattle.cq_run.specs.declared.refusal.Refusal.TheVariants.{Audit as Audited, Capture, Configuration, Missing, State, Words}
 pub use Rattle.cq_run.specs.declared.stop.Halt.TheVariants.{NoMemory, Refused, Unread}
 pub use Rattle.cq_run.specs.Terms.{IsAuditHalted, IsAuditPassed, IsCut, IsCutAtFile, IsDone, IsJudged, Plan, Reader, SameReader, Spells, StatusCauses, all_replaced, decimal, log_of, report_with, soak_captures, soak_tables, taken, trace_of}
-pub use Rattle.cq_base.proofs.Each.{all_back, all_both, all_front, all_weaker}
+pub use Rattle.cq_base.proofs.Each.{all_back, all_both, all_weaker}
 pub use Rattle.cq_base.specs.{declared.cell.Cell.Cell, declared.cell.Queued.Queued, declared.status.Status.Status}
 pub use Rattle.cq_space.proofs.Replaced.{get_same}
 pub use Rattle.cq_space.specs.declared.whole.ReadRefusal.{ReadRefusal}

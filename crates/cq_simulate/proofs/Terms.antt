@@ -1,5 +1,5 @@
 -- The words of this crate's proofs that stand elsewhere, each passed on from its place.
-pub use Rattle.cq_base.proofs.Library.{All, All-from_recursion, All-map, All-push, AllByRecursion, AllPairs, Bool, Err, IfErr-weaker, IfOk, IfOk-weaker, IfSome, IsOkAnd, IsTrue, List, None, Ok, Option, Result, Some, [], and_from, and_left, and_parts, and_right, ap, append-nil, append_assoc, arith, cases_Bool, cases_eq, cases_lt, common_steps, cond, cond-false, cond-true, cond_both, cons_option, drop, drop_more, enumerate_from, eq-eqb, eqb-true, err_from_is_err_and, false, filter, filter-append, filter_map, find, flat_map, flat_map-append, flat_map-map, fold, fold-append, get_or, get_or-map, get_or-map-range_with_len, get_or-replicate, get_or-set_other, get_or-set_same, get_or_default, get_or_from_slice_get, get_or_past, if◌then◌else◌, inl, inr, is_err, is_some, le-leb, le-ltb, leb-false, leb-zero, length, length-append, length-drop, length-filter, length-filter_both, length-insert, length-map, length-map-range_with_len, length-replicate, length-set, list_any, lt-leb, lt-ltb, ltb-true, map, map-append, map-range_with_len_more, max, min, mul-le-mul, nat_lt, ne_eqb, nil_from_length, not, option_map, range_with_len, recursion_from_All, refl, replicate, rules, set, slice_get, slice_get_within, slice_index, slice_index_or, subst, suc, sum, sum-map, sum_by, sum_by-cons, sum_by-le, sym, take, take-append-drop, take-append-le, take_all, take_more, true, vec_len, zero, ℕ, ⊎_elim, ◌&&◌, ◌*◌, ◌++◌, ◌+◌, ◌-◌, ◌<◌, ◌==◌, ◌^◌, ◌↔◌, ◌∙◌, ◌∷◌, ◌≡◌, ◌≢◌, ◌≤◌, ◌⊎◌}
+pub use Rattle.cq_base.proofs.Library.{All, All-from_recursion, All-push, AllByRecursion, AllPairs, Bool, Err, IfErr-weaker, IfOk, IfOk-weaker, IfSome, IsTrue, List, None, Ok, Option, Result, Some, [], and_from, and_left, and_parts, and_right, ap, append-nil, append_assoc, arith, cases_Bool, cases_eq, cases_lt, common_steps, cond, cond-false, cond-true, cond_both, cons_option, drop, drop_more, enumerate_from, eq-eqb, eqb-true, err_from_is_err_and, false, filter, filter-append, filter_map, find, flat_map, flat_map-append, flat_map-map, fold, fold-append, get_or, get_or-map, get_or-map-range_with_len, get_or-replicate, get_or-set_other, get_or-set_same, get_or_default, get_or_from_slice_get, get_or_past, if◌then◌else◌, inl, inr, is_err, is_some, le-leb, le-ltb, leb-false, length, length-append, length-drop, length-filter, length-filter_both, length-insert, length-map, length-map-range_with_len, length-replicate, length-set, list_any, lt-leb, lt-ltb, ltb-true, map, map-append, map-range_with_len_more, max, min, mul-le-mul, nat_lt, ne_eqb, nil_from_length, not, option_map, range_with_len, recursion_from_All, refl, replicate, rules, set, slice_get_within, slice_index, slice_index_or, subst, suc, sum, sum-map, sum_by, sum_by-cons, sum_by-le, sym, take, take-append-drop, take-append-le, take_all, take_more, true, vec_len, zero, ℕ, ⊎_elim, ◌&&◌, ◌*◌, ◌++◌, ◌+◌, ◌-◌, ◌<◌, ◌==◌, ◌^◌, ◌↔◌, ◌∙◌, ◌∷◌, ◌≡◌, ◌≢◌, ◌≤◌, ◌⊎◌}
 pub use Rattle.cq_base.specs.Arrivals.{arrival_at, no_arrivals}
 pub use Rattle.cq_base.specs.Arriving.{Arrival, arriving_at, end_of, is_at}
 unfoldable pub use Rattle.cq_base.specs.Arriving.{arriving, enough, traffic_of}
@@ -16,7 +16,7 @@ pub use Rattle.cq_cells.specs.Schedule.{arrivals_of, packet_at, packet_in, packe
 unfoldable pub use Rattle.cq_base.specs.Pieces.{cells_of}
 unfoldable pub use Rattle.cq_cells.specs.Schedule.{arrivals, arrivals_at, cell_of, cells}
 pub use Rattle.cq_cells.specs.Scheduled.{Scheduled, schedule_of}
-pub use Rattle.cq_cells.specs.Traffic.{IsInRange as IsOfSwitch, IsLater, IsShort, IsTraffic, is_from, is_to, number_of}
+pub use Rattle.cq_cells.specs.Traffic.{IsLater, IsShort, IsTraffic, is_from, is_to, number_of}
 pub use Rattle.cq_rank.specs.Machine.{KeepsLaws, Machine, first_come, machine_at}
 pub use Rattle.cq_rank.specs.Switch.{class_count}
 pub use Rattle.cq_scfq.specs.Discipline.{fixed_of, machine_from, state_of}
@@ -41,7 +41,7 @@ pub use Rattle.cq_ideal.proofs.Refusals.{counts_more, each_once, one_slot_more}
 pub use Rattle.cq_ideal.proofs.RestAtInput.{comes_from, is_from_on, line_at, rest_of}
 pub use Rattle.cq_ideal.proofs.Waiting.{counted, total_more, total_none, total_same}
 unfoldable pub use Rattle.cq_ideal.proofs.Waiting.{total, waiting}
-pub use Rattle.cq_ideal.specs.Admission.{Admission, Marked, NoLimits, admitted, admitted_in, is_first, marked, marks_down, nothing_refused, refused}
+pub use Rattle.cq_ideal.specs.Admission.{Admission, Marked, NoLimits, admitted, admitted_in, is_first, marked, nothing_refused, refused}
 unfoldable pub use Rattle.cq_ideal.specs.Admission.{admission}
 pub use Rattle.cq_ideal.specs.Ending.{first_slots, slots_of}
 unfoldable pub use Rattle.cq_ideal.specs.Ending.{arriving_from}
@@ -55,7 +55,7 @@ pub use Rattle.cq_ideal.specs.LimitedEnding.{departures_limited, slots_of_limite
 unfoldable pub use Rattle.cq_ideal.specs.LimitedEnding.{whole_limited_run}
 pub use Rattle.cq_ideal.specs.LimitedIdeal.{LimitedRan, LimitedSent, empty_limited, ideal_admission, ideal_held, limited_run, nothing_came, then_limited, unlimited, with_admission}
 unfoldable pub use Rattle.cq_ideal.specs.LimitedIdeal.{limited_slot}
-pub use Rattle.cq_ideal.specs.Ranking.{AreForPorts, Ranking, ranking}
+pub use Rattle.cq_ideal.specs.Ranking.{AreForPorts, ranking}
 pub use Rattle.cq_ideal.specs.Refused.{refused_counts, refused_in, with_refused}
 unfoldable pub use Rattle.cq_ideal.specs.Refused.{packets_refused}
 pub use Rattle.cq_ideal.specs.WholePackets.{AreJudged, AreOfPackets, came_at, cells_at}
@@ -64,23 +64,23 @@ pub use Rattle.cq_state.specs.{State.IsInRange, declared.state.Sent.Sent, declar
 pub use Rattle.cq_prefs.specs.FirstCells.{list_of, orders_of, output_order}
 pub use Rattle.cq_prefs.specs.Pairing.{IsInputBest, IsMatching, IsStable, Partners, partner_of, proposals, spent}
 pub use Rattle.cq_laws.proofs.{IdealOf.agrees_of, Recorded.recorded}
-pub use Rattle.cq_laws.proofs.InputBest.{each_run, stable_limited_run, stable_limited_slot, stable_limited_stop, stable_run, stable_slot}
+pub use Rattle.cq_laws.proofs.InputBest.{each_run, stable_limited_slot}
 pub use Rattle.cq_laws.proofs.LimitedEnds.{limited_ends, one_limited_whole}
 pub use Rattle.cq_laws.proofs.LimitedSlots.{admission_for_ports, limited_ports_kept, same_limited_slot}
 pub use Rattle.cq_laws.proofs.OneRun.{only_limited_run, outputs_at}
-pub use Rattle.cq_laws.proofs.OneSlot.{after_sent, arrived, ports_kept, same_slot}
+pub use Rattle.cq_laws.proofs.OneSlot.{after_sent, arrived}
 pub use Rattle.cq_laws.proofs.QuietSlots.{no_departures, quiet_figures, quiet_transfers}
-pub use Rattle.cq_laws.proofs.Sound.{Sound, orders_are}
-pub use Rattle.cq_laws.proofs.WholeRuns.{empty_agree, empty_list, empty_together, run_slack, traffic_for_empty}
+pub use Rattle.cq_laws.proofs.Sound.{orders_are}
+pub use Rattle.cq_laws.proofs.WholeRuns.{empty_agree, empty_list, empty_together}
 pub use Rattle.cq_laws.specs.{Agreement.Agrees, Frozen.ideal_of, Records.gone_in}
 pub use Rattle.cq_laws.specs.Fabric.{Fabric, IsAmong, IsEmptyFabric, IsFabric, buffer, empty_fabric, input}
 pub use Rattle.cq_laws.specs.FabricSlot.{FabricSlot, SlotRecord}
 pub use Rattle.cq_laws.specs.Holding.{held_for, waiting_for}
 unfoldable pub use Rattle.cq_laws.specs.Holding.{fabric_held}
 pub use Rattle.cq_laws.specs.LimitedAgreement.{LimitedAgrees, LimitedEndsAlike, LimitedRunsAlike}
-pub use Rattle.cq_laws.specs.LimitedFabric.{IsLimitedFault, LimitedFabricRun, LimitedFabricSlot, LimitedFabricStops, LimitedRecord, LimitedWholeRun, admissions_in, empty_limited_fabric, slots_in}
-pub use Rattle.cq_laws.specs.Measures.{no_figures, sends, sent_by}
-unfoldable pub use Rattle.cq_laws.specs.Measures.{figures_after, figures_of, output_after, output_figures, proposals_in}
+pub use Rattle.cq_laws.specs.LimitedFabric.{IsLimitedFault, LimitedFabricRun, LimitedFabricSlot, LimitedRecord, LimitedWholeRun, admissions_in, empty_limited_fabric, slots_in}
+pub use Rattle.cq_laws.specs.Measures.{no_figures, sends}
+unfoldable pub use Rattle.cq_laws.specs.Measures.{figures_after, figures_of, output_after, proposals_in}
 unfoldable pub use Rattle.cq_laws.specs.Records.{transfers_in, transfers_of_run}
 pub use Rattle.cq_resume.proofs.GoesOn.{GoesOn, buffer_is, came_before, comes, found_at, goes_on, in_buffer, in_list, in_order, is_cell_of, its_output, its_slot, list_is, of_traffic, ports_are, queued_differ, queued_named, some_cell}
 pub use Rattle.cq_resume.specs.Counted.{departure_of, firsts_at, is_refused, latest, marks_told, output_told, sent_told, taken_of}
@@ -98,8 +98,8 @@ unfoldable pub use Rattle.cq_traffic.proofs.FromInputs.{come_from}
 pub use Rattle.cq_traffic.proofs.Quiet.{arrives_before, before_both, none_up_to, quiet_of, quiet_slots}
 pub use Rattle.cq_traffic.proofs.ToOutputs.{come_for-traffic_of, for_here, no_more_to}
 unfoldable pub use Rattle.cq_traffic.proofs.ToOutputs.{come_for}
-pub use Rattle.cq_simulate.specs.FabricRuns.{AlwaysHasSlack, AreChosen, AreInputBest, AreStable, IsChosenFor, IsFabricRun, IsKeptOf, SendsSlotBySlot, departures_in_run, refused_in_run, unpacked_run}
-pub use Rattle.cq_simulate.specs.GoingOn.{HasKept, HasPartedTo, HasRunOn, IsReadyOn, IsReadyPart, IsRefusalOn, RanTo, StopsOn, StopsWithin, WentOn, to_come}
+pub use Rattle.cq_simulate.specs.FabricRuns.{AlwaysHasSlack, AreChosen, AreInputBest, AreStable, IsFabricRun, IsKeptOf, SendsSlotBySlot, departures_in_run, refused_in_run, unpacked_run}
+pub use Rattle.cq_simulate.specs.GoingOn.{HasKept, HasPartedTo, HasRunOn, IsReadyOn, IsReadyPart, IsRefusalOn, RanTo, StopsWithin, WentOn, to_come}
 pub use Rattle.cq_simulate.specs.IdealRuns.{IsRefusalOf, counts_limited, slots_ran}
 unfoldable pub use Rattle.cq_simulate.specs.IdealRuns.{ideal_departures, ideal_refusals, ran_ideal}
 pub use Rattle.cq_simulate.specs.Packets.{ArePacked, HaveLeftOf, LeaveInOrder, LeaveWhole, LeftInOrder, LeftInPackets, ends_packet_at, leaving, of_packet}
@@ -126,6 +126,6 @@ pub use Rattle.cq_state.specs.declared.state.Named.{Named}
 pub use Rattle.cq_prefs.specs.Orders.{Orders}
 pub use Rattle.cq_prefs.proofs.{InputOrder.OutputsInRange, InputOrder.are_offers, Places.outputs_at_most}
 pub use Rattle.cq_laws.specs.{Frozen.fabric_in, Frozen.marked_in, Frozen.IsSoundFabric, LimitedQuiet.quiet_limited_slots, LimitedQuiet.quiet_limited_slot, Phases.Transfers, Phases.came_to, Phases.list_arrived, Places.HasFor, declared.frozen.Frozen.Frozen}
-pub use Rattle.cq_laws.proofs.{ActingAlike.best_act_alike_from_empty, ActingAlike.best_act_alike, AddingUp.figures_fold, Came.came_from, EndsTogether.slots_of_figures, Held.hold_as_many, Joined.all_go_on, KeptParts.departures_one, KeptParts.transfers_both, KeptParts.transfers_one, KeptParts.departures_on, Members.first_at, Parted.reach, Parted.run_of_whole}
+pub use Rattle.cq_laws.proofs.{ActingAlike.best_act_alike_from_empty, ActingAlike.best_act_alike, AddingUp.figures_fold, Came.came_from, EndsTogether.slots_of_figures, Held.hold_as_many, Joined.all_go_on, KeptParts.departures_one, KeptParts.transfers_both, KeptParts.transfers_one, KeptParts.departures_on, Members.first_at, Parted.run_of_whole}
 pub use Rattle.cq_resume.specs.Parts.{IsParted}
 pub use Rattle.cq_engine.proofs.{Kept.limited_lists_kept, Kept.limited_outputs_kept}
