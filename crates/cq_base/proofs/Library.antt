@@ -1,10 +1,9 @@
 -- The library's words that proofs of ours use, each passed on from its place.
 pub use Rattle.std.proofs.Common.{BTreeMap, Bool, Bor, EachIndex, Err, IfErr, IsErrAnd, IsErrOf, List, MatchOption, None, Ok, Option, Result, Some, String, [], add-one, add-zero, ap, append_assoc, ap₂, arith, bit_or, codes, cond, drop, eqb, false, fold, get_or, inl, inr, is_ok, leb, length, length-append, length-set, length-take, lit≤, ltb, map, min, mod-lt, mul-le-mul, nat_le, not, refl, replicate, reverse, rules, set, slice_index, string_bytes, subst, suc, sym, take, tests, true, vec_capacity, vec_len, w64, zero, ℕ, ⊎_elim, ◌%◌, ◌*◌, ◌++◌, ◌+◌, ◌-◌, ◌/◌, ◌<◌, ◌^◌, ◌||◌, ◌↔◌, ◌∙◌, ◌∷◌, ◌≡◌, ◌≢◌, ◌≤◌, ◌⊎◌}
-pub use Rattle.std.proofs.Math.Bool.{and-true, and_assoc, or-false, or_self_left}
-pub use Rattle.std.proofs.Math.Dec.{leb-zero}
+pub use Rattle.std.proofs.Math.Bool.{and-true, and_assoc, or-false}
 pub use Rattle.std.proofs.Math.Nat.{div-eq_of_lt, div-le_self, mul-le-mul_right, pow-suc}
 pub use Rattle.std.proofs.Math.Seq.{drop-cons, get_or-append_seam, map-set_same, take-add, take-append-add, take-set-lt, take-suc}
-pub use Rattle.std.proofs.lemmas.Bool.{and_from, and_left, and_parts, and_right, both_ways, cases_Bool, cases_eq, cases_lt, cases_order, cond-false, cond-true, cond_both, eq-eqb, eqb-false, eqb-true, false_from_ne_true, le-leb, le-ltb, leb-false, leb-true, lt-leb, lt-ltb, ltb-false, ltb-true, ne_eqb, not-true, not_from_false, or_cases, or_left, or_parts, or_right, true≢false}
+pub use Rattle.std.proofs.lemmas.Bool.{and_from, and_left, and_parts, and_right, both_ways, cases_Bool, cases_eq, cases_lt, cases_order, cond-false, cond-true, cond_both, eq-eqb, eqb-false, eqb-true, false_from_ne_true, le-leb, le-ltb, leb-false, leb-true, lt-leb, lt-ltb, ltb-false, ltb-true, ne_eqb, not-true, not_from_false, or_cases, or_left, or_right, true≢false}
 pub use Rattle.std.proofs.lemmas.Bool.Decides.{Decides-and, Decides-eqb, Decides-like, nat_tests, same_from_decides}
 pub use Rattle.std.proofs.lemmas.Cmp.{tied_itself}
 pub use Rattle.std.proofs.lemmas.Fn.{always_returns_same}
@@ -16,14 +15,14 @@ pub use Rattle.std.proofs.lemmas.Iterator.Search.{find_from_yields_List}
 pub use Rattle.std.proofs.lemmas.List.{append-nil, append_cancel_left, at_drop_all, at_drop_more, drop-append-le, drop-drop, drop-map, drop-replicate, drop-set-lt, drop-take, drop_all, drop_at, drop_more, ext_get_or, flat_map_more, get_or-append-add, get_or-drop, get_or-map, get_or-replicate, get_or-set_other, get_or-set_same, get_or-take, get_or_append_left, get_or_at, get_or_default, get_or_past, get_or_read, length-drop, length-map, length-replicate, length-take-le, length_push, map-append, map-id, map-set, map_more, map_push, nil_from_length, replicate-append-replicate, replicate_more, reverse-append, reverse-reverse, same_lists, set-get_or, set-set, set_at, set_past, take-append-drop, take-append-le, take-map, take-replicate, take-set, take-set-le, take-take, take_all, take_at, take_min, take_more, take_more_set, take_rest, with_items_is}
 pub use Rattle.std.proofs.lemmas.List.Concat.{flat_map-append}
 pub use Rattle.std.proofs.lemmas.List.Edits.{get_or-insert_at, get_or-insert_below, insert-append_left, insert-append_right, insert_end, length-insert, length-paste, length-remove, remove-append_left, remove-append_right, take-paste}
-pub use Rattle.std.proofs.lemmas.List.Elements.{All-from_recursion, All-map, All-push, All-replicate, All-set, filter-append, filter_agree, filter_map-append, filter_more, filter_passes, recursion_from_All}
+pub use Rattle.std.proofs.lemmas.List.Elements.{All-from_recursion, All-push, All-replicate, All-set, filter-append, filter_agree, filter_map-append, filter_more, filter_passes, recursion_from_All}
 pub use Rattle.std.proofs.lemmas.List.Filters.{length-filter_both}
 pub use Rattle.std.proofs.lemmas.List.Folds.{Any-from_list_any, concat-append, find-append, find_at, flat_map-map, list_all-map, list_any_at, list_any_none, position_or_len_push, sum_by-replicate}
 pub use Rattle.std.proofs.lemmas.List.FromFn.{fill_by_all, get_or-enumerate_from, get_or-map-range_with_len, get_or-range_with_len, length-enumerate_from, length-map-range_with_len, length-range_with_len, map-range_with_len_more}
 pub use Rattle.std.proofs.lemmas.List.Kept.{AllPairs-cons}
 pub use Rattle.std.proofs.lemmas.List.Quantifiers.{all_pairs_push}
-pub use Rattle.std.proofs.lemmas.List.Sorted.{All-permutation, Contains-permutation, IsNonDecreasingBy-take, IsPartitionPoint-from_clause, IsPartitionedBy-leb, IsPartitionedBy-ltb, IsPermutation-sym, list_any-IsPermutation, sum_by-IsPermutation}
-pub use Rattle.std.proofs.lemmas.List.Sums.{AllPass-from_list_all, count_by-le-length, fails_before_first, fold-append, get_or-le-sum_by, length-filter, list_all-from_AllPass, passes_at_first, position_or_len_is, prefix_len-le-length, sum-map, sum_by-append, sum_by-cons, sum_by-insert, sum_by-le, sum_by-set, sum_by-take-drop, sum_by-take-le, sum_by_more, sum_by_push}
+pub use Rattle.std.proofs.lemmas.List.Sorted.{All-permutation, IsNonDecreasingBy-take, IsPartitionPoint-from_clause, IsPartitionedBy-leb, IsPartitionedBy-ltb, IsPermutation-sym, list_any-IsPermutation, sum_by-IsPermutation}
+pub use Rattle.std.proofs.lemmas.List.Sums.{AllPass-from_list_all, count_by-le-length, fails_before_first, fold-append, get_or-le-sum_by, length-filter, list_all-from_AllPass, passes_at_first, position_or_len_is, prefix_len-le-length, sum-map, sum_by-append, sum_by-cons, sum_by-insert, sum_by-le, sum_by-set, sum_by-take-le, sum_by_more, sum_by_push}
 pub use Rattle.std.proofs.lemmas.Map.Keys.{IsDistinct-IsPermutation, IsDistinct-from_apart, apart_from_distinct, ge_from_not_lt}
 pub use Rattle.std.proofs.lemmas.Map.Lookups.{exact_bytes, exact_pairs, exact_unsigned}
 pub use Rattle.std.proofs.lemmas.Map.Steps.{length-le_from_distinct_below}
@@ -31,7 +30,7 @@ pub use Rattle.std.proofs.lemmas.Map.Text.{is_eq-slice_cmp}
 pub use Rattle.std.proofs.lemmas.Map.Views.{tells_apart}
 pub use Rattle.std.proofs.lemmas.Nat.{be_bytes_4, be_bytes_8, div-mul-add, le_bytes_4, mul-le, row_fits}
 pub use Rattle.std.proofs.lemmas.Nat.Bits.{bit_at-lt, bit_at-pow_other, bit_at-pow_same, bit_at-zero, bit_at_or, same_from_bits, shr_and_one}
-pub use Rattle.std.proofs.lemmas.Option.{get_or_from_slice_get, none-some, same_Some, slice_get-get_or, slice_get-map, slice_get_cases, slice_get_past, slice_get_read, slice_get_within, unwrap_or-slice_get}
+pub use Rattle.std.proofs.lemmas.Option.{get_or_from_slice_get, none-some, same_Some, slice_get-get_or, slice_get-map, slice_get_cases, slice_get_past, slice_get_within, unwrap_or-slice_get}
 pub use Rattle.std.proofs.lemmas.Result.{IfErr-weaker, IfOk-weaker, err_from_is_err_and, on_err_weaker, on_ok_weaker}
 pub use Rattle.std.proofs.lemmas.Slice.Eq.{bytes_eq-Decides, strip_prefix_is}
 pub use Rattle.std.proofs.lemmas.Slice.Zip.{AllZip-map}
@@ -54,8 +53,8 @@ pub use Rattle.std.specs.List.Sorted.{IsNonDecreasingBy, IsPartitionPoint, IsPar
 unfoldable pub use Rattle.std.specs.List.Sorted.{IsStrictlySortedBy}
 pub use Rattle.std.specs.Map.{keys_of}
 pub use Rattle.std.specs.Option.{option_copied, option_flatten, option_map, option_map_or, option_or, option_to_list}
-pub use Rattle.std.specs.Ordering.{eq_by_cmp, is_eq, is_lt, match_ordering, nat_cmp, ordering_then}
-pub use Rattle.std.specs.Prelude.{All, Contains, IfOk, IfSome, IsErr, IsOk, IsOkAnd, IsPermutation, IsSome, IsTrue, IsUtf8, OnOk, Vec, count_by, filter, find, if◌then◌else◌, insert, is_none, is_some, max, nat_eq, nat_lt, option_and_then, position, remove, slice_get, slice_index_or, slice_set, sum, unwrap_or, ⊤, ◌&&◌, ◌==◌}
+pub use Rattle.std.specs.Ordering.{is_eq, is_lt, nat_cmp, ordering_then}
+pub use Rattle.std.specs.Prelude.{All, IfOk, IfSome, IsErr, IsOk, IsOkAnd, IsPermutation, IsSome, IsTrue, IsUtf8, OnOk, Vec, count_by, filter, find, if◌then◌else◌, insert, is_none, is_some, max, nat_eq, nat_lt, option_and_then, position, remove, slice_get, slice_index_or, slice_set, sum, unwrap_or, ⊤, ◌&&◌, ◌==◌}
 pub use Rattle.std.specs.Result.{OkIff, is_err, result_ok, result_or}
 pub use Rattle.std.specs.Slots.{slots_items}
 pub use Rattle.std.specs.Str.{all_ascii_digits, bytes_eq}
