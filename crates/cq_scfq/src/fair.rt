@@ -18,7 +18,7 @@ pub struct Fair {
     classes: Classes,
     // the tags of the classes in order, and behind them the virtual times of the levels
     numbers: Vec<u128>,
-    // all numbers are 0, so that an idle slot has none to set
+    // whether all numbers are known to be 0: then an idle slot sets none
     cleared: bool,
 }
 
