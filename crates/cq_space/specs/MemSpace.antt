@@ -115,7 +115,7 @@ pub record KeepsCuts (old new : MemSpace) : Type 0 where
   pub later : old.starved ≤ new.starved
   pub counted : (new.starved ≡ old.starved) ⊎ Rose old.faults new.faults
 
--- and no writing was to begin
+-- and no writing was to begin, as far as the count tells, which rises no more at its greatest value
 pub record IsUnbegun (old new : MemSpace) : Type 0 where
   pub kept : KeepsCuts old new
   pub begun : new.begun ≡ old.begun
