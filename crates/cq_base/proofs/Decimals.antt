@@ -2,8 +2,9 @@
 -- digit, and then that digit, so it is one digit longer. A number below 2 ^ 128 is below 10 ^ 39, so it has at most 39
 -- digits. A digit that is written right behind those at the front leaves what comes after it as it was, and one that is
 -- written right before those that stand there leaves one less to write.
-use Rattle.cq_base.proofs.Terms.{rules, ◌≡◌, ℕ, ◌+◌, ◌<◌, ◌≤◌, ◌/◌, ◌%◌, ◌^◌, List, [], ◌∷◌, ◌++◌, length, map, refl, ap, sym, ◌∙◌, arith, lit≤, zero, suc, set, drop, length-append, append_assoc, common_steps, digits_of, digits_of_step, length-digits_of-le, map-append, length-map, length-drop, drop-drop}
+use Rattle.cq_base.proofs.Terms.{rules, ◌≡◌, ℕ, ◌+◌, ◌*◌, ◌<◌, ◌≤◌, ◌/◌, ◌%◌, ◌^◌, List, [], ◌∷◌, ◌++◌, length, map, refl, ap, sym, ◌∙◌, arith, lit≤, zero, suc, set, drop, length-append, append_assoc, common_steps, digits_of, digits_of_step, length-digits_of-le, map-append, length-map, length-drop, drop-drop}
 use Rattle.cq_base.specs.Decimal.{decimal}
+use Rattle.std.proofs.Math.Nat.{one-le-pow}
 use Rattle.std.proofs.lemmas.List.{drop-set}
 
 pub decimal_above : (n : ℕ) → 0 < n → decimal n ≡ map (λ d. 48 + d) (digits_of 10 n)
@@ -33,6 +34,13 @@ length-decimal_small n h = ap length (decimal_small n h)
 
 pub length-decimal_more : (n : ℕ) → 10 ≤ n → length (decimal n) ≡ length (decimal (n / 10)) + 1
 length-decimal_more n h = grind (arith, common_steps, decimal_more, length-append)
+
+-- and with 10 ^ tens the least number of that many digits and one more
+pub length-decimal_from : (tens n : ℕ) → 10 ^ tens ≤ n → n < 10 * 10 ^ tens → length (decimal n) ≡ tens + 1
+length-decimal_from zero n from below = length-decimal_small n (omega arith)
+length-decimal_from (suc tens) n from below =
+    let more : 10 ≤ n = omega (arith, one-le-pow tens 10 (lit≤ tt)) in
+    omega (arith, length-decimal_more n more, length-decimal_from tens (n / 10) (omega arith) (omega arith))
 
 -- a write right behind the first list is a write at the front of the second
 set-append_seam : (xs ys : List ℕ) (v : ℕ) → set (xs ++ ys) (length xs) v ≡ xs ++ set ys 0 v

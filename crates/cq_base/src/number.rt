@@ -46,11 +46,5 @@ fn count_of(n: u64) -> usize
     ensures count { result ≡ length (decimal n) }
     ensures most { result ≤ 39 }
 {
-    let mut left = n;
-    let mut count = 1;
-    'tens: while left >= 10 {
-        left /= 10;
-        count += 1;
-    }
-    count
+    n.checked_ilog10().unwrap_or(0) as usize + 1
 }
