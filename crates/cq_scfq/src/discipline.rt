@@ -60,6 +60,17 @@ impl Discipline {
     }
 }
 
+// What the machine of a discipline answers, whichever it is.
+macro_rules! by_machine {
+    ($discipline:expr, $machine:ident => $answer:expr) => {
+        match $discipline {
+            Discipline::FirstCome($machine) => $answer,
+            Discipline::Priority($machine) => $answer,
+            Discipline::Fair($machine) => $answer,
+        }
+    };
+}
+
 impl Rank for Discipline {
     ghost use Rattle.cq_scfq.specs.Discipline.{machine_laws};
 
@@ -72,66 +83,34 @@ impl Rank for Discipline {
     ghost laws = { machine_laws };
 
     fn classes(&self) -> u16 {
-        match self {
-            Discipline::FirstCome(rank) => rank.classes(),
-            Discipline::Priority(rank) => rank.classes(),
-            Discipline::Fair(rank) => rank.classes(),
-        }
+        by_machine!(self, machine => machine.classes())
     }
 
     fn level(&self, class: Class) -> u8 {
-        match self {
-            Discipline::FirstCome(rank) => rank.level(class),
-            Discipline::Priority(rank) => rank.level(class),
-            Discipline::Fair(rank) => rank.level(class),
-        }
+        by_machine!(self, machine => machine.level(class))
     }
 
     fn rank(&mut self, class: Class) -> Result<u128, TagOverflow> {
-        match self {
-            Discipline::FirstCome(rank) => rank.rank(class),
-            Discipline::Priority(rank) => rank.rank(class),
-            Discipline::Fair(rank) => rank.rank(class),
-        }
+        by_machine!(self, machine => machine.rank(class))
     }
 
     fn sent(&mut self, level: u8, rank: u128) {
-        match self {
-            Discipline::FirstCome(machine) => machine.sent(level, rank),
-            Discipline::Priority(machine) => machine.sent(level, rank),
-            Discipline::Fair(machine) => machine.sent(level, rank),
-        }
+        by_machine!(self, machine => machine.sent(level, rank))
     }
 
     fn idle(&mut self) {
-        match self {
-            Discipline::FirstCome(rank) => rank.idle(),
-            Discipline::Priority(rank) => rank.idle(),
-            Discipline::Fair(rank) => rank.idle(),
-        }
+        by_machine!(self, machine => machine.idle())
     }
 
     fn width(&self) -> u16 {
-        match self {
-            Discipline::FirstCome(rank) => rank.width(),
-            Discipline::Priority(rank) => rank.width(),
-            Discipline::Fair(rank) => rank.width(),
-        }
+        by_machine!(self, machine => machine.width())
     }
 
     fn number(&self, at: u16) -> u128 {
-        match self {
-            Discipline::FirstCome(rank) => rank.number(at),
-            Discipline::Priority(rank) => rank.number(at),
-            Discipline::Fair(rank) => rank.number(at),
-        }
+        by_machine!(self, machine => machine.number(at))
     }
 
     fn put(&mut self, at: u16, number: u128) {
-        match self {
-            Discipline::FirstCome(rank) => rank.put(at, number),
-            Discipline::Priority(rank) => rank.put(at, number),
-            Discipline::Fair(rank) => rank.put(at, number),
-        }
+        by_machine!(self, machine => machine.put(at, number))
     }
 }
