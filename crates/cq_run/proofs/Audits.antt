@@ -70,8 +70,8 @@ module _ (t : Tables) (captures : List (List Captured)) (rs : List LimitedRecord
         record {
           note = note;
           read = stable_log (ports_of t.setup) (classes_of t.setup) came traffic
-              (small_cells t captures keeps.given.tables.cell_bytes.0 keeps.given.recorded) t.limits (machines_of t.setup)
-              start keeps.runs.end rs keeps.given.tables.setup.ports.1 few_slots
+              (small_cells t captures keeps.given.tables.cell_bytes.0 keeps.given.recorded)
+              t.limits (machines_of t.setup) start keeps.runs.end rs keeps.given.tables.setup.ports.1 few_slots
               (λ i. empty_list (ports_of t.setup) i) stable;
           run = record { records = rs; end = keeps.runs.end; runs = stable; moved = refl };
         }

@@ -55,7 +55,8 @@ came_as came sent whole d has =
     let left = has_image (λ (x : Departure). x.queued.cell) (filter (leaves_in_flow i c d.output) sent) d
     (has_kept (leaves_in_flow i c d.output) sent d has own) in
     let l = whole i in
-    let here = of_flow (came_in_flow i c d.output came) (l.packets c d.output) d.queued.cell (rw (l.left c d.output) at left) in
+    let here = of_flow (came_in_flow i c d.output came) (l.packets c d.output) d.queued.cell
+    (rw (l.left c d.output) at left) in
     grind (arith, common_steps, kept_has, image_has, and_parts, eqb-true)
 
 -- ## The cells of captures
@@ -71,8 +72,8 @@ all_cells t captures P each = all_flat P (arrivals_at t captures) 0 (length capt
     (λ n. record { slot = start t captures i k + n; cell = cell_of t captures i k n }) 0 (cells t captures i k)
     (λ n _ in_cells. each i k n (omega arith) (omega arith) (omega arith))))
 
--- a capture is a file of 2^28 bytes at most, and each packet and each cell of it takes a byte there, so that no packet's
--- number and no cell's place in its packet comes near 2^32
+-- a capture is a file of 2^28 bytes at most, and each packet and each cell of it takes a byte there, so that no
+-- packet's number and no cell's place in its packet comes near 2^32
 pub small_cells : (t : Tables) (captures : List (List Captured)) → 1 ≤ t.cell_bytes →
     ((i : ℕ) → i < length captures → IsRecorded (packets_of captures i)) →
     AllByRecursion (λ (a : Arrival). (a.cell.id.packet < 2 ^ 32) × (a.cell.id.index < 2 ^ 32)) (arrivals t captures)

@@ -2,8 +2,10 @@ use Rattle.cq_tables.proofs.Terms.{IfErr, rules, arith, table_view, Refuses, fil
 use Rattle.cq_tables.proofs.Text.{file_fault, long_told, no_document, read_all, table_fault}
 use Rattle.cq_tables.proofs.read.read_tables.Goals as goal
 
-pub returns-then-bytes-gt-LONGEST_CONFIGURATION-clause-refused : goal.returns-then-bytes-gt-LONGEST_CONFIGURATION-clause-refused
-returns-then-bytes-gt-LONGEST_CONFIGURATION-clause-refused c = long_told c.args.bytes.now _ (omega arith) c.refusal.ensures
+pub returns-then-bytes-gt-LONGEST_CONFIGURATION-clause-refused :
+    goal.returns-then-bytes-gt-LONGEST_CONFIGURATION-clause-refused
+returns-then-bytes-gt-LONGEST_CONFIGURATION-clause-refused c =
+    long_told c.args.bytes.now _ (omega arith) c.refusal.ensures
 
 pub returns-in_err-top-clause-refused : goal.returns-in_err-top-clause-refused
 returns-in_err-top-clause-refused c = no_document c.args.bytes.now _ (omega arith) (search rules)
