@@ -226,15 +226,8 @@ fn ended(rows: &[Row], cell_bytes: u32, slot: Slot, near: usize) -> usize
 {
     let begun = begun_near(rows, slot, near);
     match begun.checked_sub(1) {
-        None => 0,
-        Some(last) => {
-            let row = rows[last];
-            if slot - row.start < u64::from(row.cells) {
-                last
-            } else {
-                begun
-            }
-        }
+        Some(last) if slot - rows[last].start < u64::from(rows[last].cells) => last,
+        _ => begun,
     }
 }
 
