@@ -102,11 +102,10 @@ impl Line {
     pub fn next_near(&self, from: Slot, near: usize) -> Option<Slot>
         ensures { IsNextArrival self.now from result }
     {
-        let packet = ended(&self.rows, self.cell_bytes, from, near);
-        if packet == self.rows.len() {
-            return None;
-        }
-        Some(self.rows[packet].start.max(from))
+        let row = self
+            .rows
+            .get(ended(&self.rows, self.cell_bytes, from, near))?;
+        Some(row.start.max(from))
     }
 
     /// The arrivals at an input, whose packets go where they are routed. Each is counted for its output. The
@@ -186,16 +185,10 @@ fn is_begun(rows: &[Row], slot: Slot, number: usize) -> bool
     requires { IsNonDecreasingBy (λ row. row.start) rows.now }
     ensures { IsTrue result → (number ≤ length rows.now) × IsBegun rows.now slot number }
 {
-    let packets = rows.len();
-    if packets < number {
+    if rows.len() < number {
         return false;
     }
-    let next = start_after(rows, number);
-    if next <= slot {
-        return false;
-    }
-    let last = start_before(rows, number);
-    last <= slot
+    slot < start_after(rows, number) && start_before(rows, number) <= slot
 }
 
 // When the packet after so many begins, or the last slot where there is none.

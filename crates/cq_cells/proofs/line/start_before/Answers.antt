@@ -1,4 +1,4 @@
-use Rattle.cq_cells.proofs.Terms.{rules, ◌-◌, arith}
+use Rattle.cq_cells.proofs.Terms.{rules, arith}
 use Rattle.cq_cells.proofs.line.start_before.Goals as goal
 
 pub returns-in-Some : goal.returns-in-Some

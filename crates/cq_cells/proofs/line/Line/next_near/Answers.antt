@@ -3,8 +3,8 @@ use Rattle.cq_cells.proofs.Looked.{no_row}
 use Rattle.cq_cells.proofs.Upcoming.{line_done, line_next}
 use Rattle.cq_cells.proofs.line.Line.next_near.Goals as goal
 
-pub returns-then-packet-len : goal.returns-then-packet-len
-returns-then-packet-len c = search (arith, rules, line_done)
+pub returns-in_err-row : goal.returns-in_err-row
+returns-in_err-row c = search (arith, rules, line_done)
 
 pub returns : goal.returns
 returns c = search (arith, rules, get_or_read, no_row, line_next)
