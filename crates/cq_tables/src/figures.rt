@@ -44,9 +44,9 @@ pub fn figures_in(entries: Entries) -> Result<Figures, TableRefusal>
         DEFAULT_LIMIT_BYTES,
     )?;
     let workers = entries.integer_or("workers", 1, MOST_WORKERS as u64, DEFAULT_WORKERS)?;
-    let (port, class) = (GREATEST_PORT as u64, GREATEST_CLASS as u64);
-    let default_output = entries.integer_or("default_output", 0, port, DEFAULT_OUTPUT)?;
-    let default_class = entries.integer_or("default_class", 0, class, DEFAULT_CLASS)?;
+    let (last_port, last_class) = (GREATEST_PORT as u64, GREATEST_CLASS as u64);
+    let default_output = entries.integer_or("default_output", 0, last_port, DEFAULT_OUTPUT)?;
+    let default_class = entries.integer_or("default_class", 0, last_class, DEFAULT_CLASS)?;
     Ok(Figures {
         version: Version::of(version),
         cell_bytes: cell_bytes as u32,
