@@ -138,10 +138,7 @@ pub fn discipline(value: &Value) -> Result<Kind, Wrong>
 {
     match value.as_str() {
         None => Err(Wrong::WrongType),
-        Some(name) => match discipline_of(name) {
-            None => Err(Wrong::OutOfRange),
-            Some(kind) => Ok(kind),
-        },
+        Some(name) => discipline_of(name).ok_or(Wrong::OutOfRange),
     }
 }
 
@@ -203,10 +200,7 @@ pub fn address(value: &Value) -> Result<[u8; 6], Wrong>
 {
     match value.as_str() {
         None => Err(Wrong::WrongType),
-        Some(text) => match address_of(text.as_bytes()) {
-            None => Err(Wrong::BadAddress),
-            Some(mac) => Ok(mac),
-        },
+        Some(text) => address_of(text.as_bytes()).ok_or(Wrong::BadAddress),
     }
 }
 
