@@ -114,13 +114,8 @@ fn document(alloc: Global, bytes: &[u8]) -> Result<Table, TableRefusal>
 {
     match toml::table_from_slice(alloc, bytes) {
         Ok(top) => Ok(top),
-        Err(error) => {
-            if error.is_memory() {
-                Err(TableRefusal::NoMemory)
-            } else {
-                Err(refusal(alloc, Wrong::NotToml, Place::Top, "-"))
-            }
-        }
+        Err(error) if error.is_memory() => Err(TableRefusal::NoMemory),
+        Err(_) => Err(refusal(alloc, Wrong::NotToml, Place::Top, "-")),
     }
 }
 
