@@ -1,5 +1,5 @@
 -- What values are seen as.
-use Rattle.cq_tables.proofs.Terms.{rules, arith, ◌≡◌, ◌↔◌, ℕ, ◌<◌, ◌^◌, Bool, true, ◌&&◌, IsTrue, EachIndex, slice_index, if◌then◌else◌, nat_lt, nat_le, ◌≤◌, IfSome, Option, List, [], ◌∷◌, length, get_or, map, Some, None, Result, Ok, Err, refl, ap, common_steps, result_ok, OkIff, and_parts, cases_Bool, lt-ltb, leb-true, ltb-true, IsInRange, all_ascii_digits, digits_value, ParsesUnsigned, IsNumeralModel, numerals_by_value, tells_all_ascii_digits, tells_by_index, parse_digits, Data, as_array, view, items_of, items_view, Value, OutOfRange, unless, listed, array_of, elements, is_from, written, not, option_map, String, Bor, Less, string_bytes, nat_list_cmp_total, find, AllByRecursion, list_any, IsStrictlySortedBy, keys_of, bytes_eq, string_cmp, members_view, Entry, is_among, least_unknown, lesser}
+use Rattle.cq_tables.proofs.Terms.{rules, arith, ◌≡◌, ℕ, ◌<◌, ◌^◌, Bool, true, ◌&&◌, if◌then◌else◌, nat_lt, nat_le, ◌≤◌, IfSome, Option, List, [], ◌∷◌, length, map, Some, None, Result, Ok, Err, refl, ap, common_steps, result_ok, OkIff, and_parts, cases_Bool, lt-ltb, leb-true, ltb-true, IsInRange, all_ascii_digits, is_ascii_digit, list_all, digits_value, ParsesUnsigned, IsNumeralModel, numerals_by_value, tells_all_ascii_digits, parse_digits, Data, as_array, view, items_of, items_view, Value, OutOfRange, unless, listed, array_of, elements, is_from, written, not, option_map, String, Bor, Less, string_bytes, nat_list_cmp_total, find, AllByRecursion, list_any, IsStrictlySortedBy, keys_of, bytes_eq, string_cmp, members_view, Entry, is_among, least_unknown, lesser}
 use Rattle.std.proofs.Common.{Global}
 
 pub listed_items : (ds : List Data) → listed (items_of ds) ≡ ds
@@ -17,19 +17,12 @@ pub array_view_elements : (d : Data) (vs : List Value) → as_array d ≡ Some (
 array_view_elements d vs e = rw (e, listed_view vs)
 
 -- a test of each byte is the test of the whole text
-by_index : IsNumeralModel (λ ds. (i : ℕ) → i < length ds → IsInRange 48 57 (get_or ds i 0)) (digits_value 10)
-by_index = numerals_by_value _ tells_by_index
+pub each_is_digit : (text : List ℕ) → list_all is_ascii_digit text ≡ all_ascii_digits text
+each_is_digit [] = refl
+each_is_digit (byte ∷ text) = ap (λ rest. is_ascii_digit byte && rest) (each_is_digit text)
 
 pub whole : IsNumeralModel (λ ds. all_ascii_digits ds ≡ true) (digits_value 10)
 whole = numerals_by_value _ tells_all_ascii_digits
-
-pub same_test : (a b : Bool) → (a ≡ true → b ≡ true) → (b ≡ true → a ≡ true) → a ≡ b
-same_test a b f g = grind (arith, common_steps)
-
-pub tells_all_digits : (b : Bool) (text : List ℕ) →
-    (IsTrue b ↔ EachIndex text (λ i. IsInRange 48 57 (slice_index text i))) → b ≡ all_ascii_digits text
-tells_all_digits b text both = same_test b (all_ascii_digits text)
-    (λ e. whole.from text (by_index.to text (both.0 e))) (λ e. both.1 (by_index.from text (whole.to text e)))
 
 -- what `parse` gives of a text of digits is what the text writes
 pub parsed_is_written : {E : Type 0} (text : List ℕ) (r : Result ℕ E) →

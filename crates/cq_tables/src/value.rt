@@ -1,6 +1,8 @@
 //! What the values of keys say, kind by kind, or what is wrong with them.
-ghost use Rattle.std.specs.Prelude.{◌≡◌, ◌↔◌, EachIndex, IsTrue, slice_index, ◌≤◌, ◌<◌, ◌&&◌, IfSome, None, Some, IfOk};
+ghost use Rattle.std.specs.Prelude.{◌≡◌, ◌≤◌, ◌<◌, ◌&&◌, IfSome, None, Some, IfOk};
 ghost use Rattle.std.specs.Prelude.{IfErr, length, map, option_map};
+ghost use Rattle.std.specs.Char.{is_ascii_digit};
+ghost use Rattle.std.specs.List.{list_all};
 ghost use Rattle.std.specs.Str.{all_ascii_digits};
 ghost use Rattle.std.specs.Int.{IsInRange};
 ghost use Rattle.cq_tables.specs.Terms.{get_member, view, table_view, number_below, is_from, wide_from, wide_value, address, address_of, address_value, array_of, discipline, discipline_of, elements, file_name, group, hex_digit, integer_in, integer_value, kind_value, natural, text_value, written};
@@ -42,15 +44,13 @@ fn is_from(least: usize, most: usize, n: usize) -> bool
 
 // Whether each byte is a digit.
 fn is_all_digits(text: &str) -> bool
-    ensures { IsTrue result ↔ EachIndex text.now (λ i. IsInRange 48 57 (slice_index text.now i)) }
+    ensures { result ≡ list_all is_ascii_digit text.now }
 {
-    text.as_bytes()
-        .iter()
-        .all(|byte| (b'0'..=b'9').contains(byte))
+    text.as_bytes().iter().all(|byte| byte.is_ascii_digit())
 }
 
 // Whether the text has 1 to 39 digits and nothing else.
-#[tactic(auto, using(crate::proofs::Values::tells_all_digits))]
+#[tactic(auto, using(crate::proofs::Values::each_is_digit))]
 fn is_numeral(text: &str) -> bool
     ensures { result ≡ (is_from 1 39 (length text.now) && all_ascii_digits text.now) }
 {
