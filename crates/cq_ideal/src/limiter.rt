@@ -64,10 +64,9 @@ impl Limiter {
         held.resize(limits.len(), 0)?;
         let mut marks = Vec::new(alloc);
         marks.resize(limits.len(), false)?;
-        let mut kept = Vec::new(alloc);
-        kept.extend_from_slice(limits)?;
+        let limits = Vec::from_slice(alloc, limits)?;
         Ok(Limiter {
-            limits: kept,
+            limits,
             held,
             marks,
             refused,

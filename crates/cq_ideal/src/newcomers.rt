@@ -64,7 +64,6 @@ impl Newcomers {
         ensures { self.new ≡ slice_set self.old input queued }
     {
         self.places[input as usize] = queued;
-        let used = self.used.max(input + 1);
-        self.used = used;
+        self.used = self.used.max(input + 1);
     }
 }
