@@ -1,7 +1,7 @@
 -- Reading a line field by field. What was read so far stands at the front of the text, and whoever reads a whole line
 -- there reads the same fields first, and the rest of his line from the rest of the text. So where no field can go on,
 -- no line stands there.
-use Rattle.cq_lines.proofs.Terms.{common_steps, rules, ◌≡◌, ◌≢◌, ℕ, suc, ◌+◌, ◌<◌, ◌≤◌, List, [], ◌∷◌, ◌++◌, length, map, take, drop, set, get_or, Option, None, Some, refl, ap, sym, ◌∙◌, arith, append_assoc, length-set, append-nil, append_cancel_left, take_more_set, take_more, take_all, field, ending, line, EndsDigits, MayFollow, BeginsWith, Fits, AllFit, InRange, Within, any_number}
+use Rattle.cq_lines.proofs.Terms.{common_steps, rules, ◌≡◌, ◌≢◌, ℕ, suc, ◌+◌, ◌<◌, ◌≤◌, List, [], ◌∷◌, ◌++◌, length, map, take, drop, set, get_or, Option, None, Some, refl, ap, sym, ◌∙◌, arith, append_assoc, length-append, length-set, append-nil, append_cancel_left, take_more_set, take_more, take_all, take-append-le, take-take, length-take, field, ending, line, EndsDigits, MayFollow, BeginsWith, Fits, AllFit, InRange, Within, any_number}
 use Rattle.cq_base.specs.Texts.{line_of_words}
 use Rattle.cq_lines.specs.declared.range.Range.{Range}
 use Rattle.cq_lines.proofs.Spelling.{one_field}
@@ -122,19 +122,59 @@ line_spelled word (f ∷ fs) = ap (λ (rest : List ℕ). word ++ 32 ∷ rest) (l
 
 -- ## Writing
 
-pub line_goes_on : (start text blank new : List ℕ) (fs : List (Option ℕ)) (i : ℕ) (d : Option ℕ) → i < length fs →
-    text ≡ start ++ begun (take i fs) → blank ≡ text ++ 32 ∷ [] → new ≡ blank ++ field (get_or fs i d) →
-    new ≡ start ++ begun (take (i + 1) fs)
-line_goes_on start text blank new fs i d inside e f g =
-    let last = field (get_or fs i d) in
-    let more = begun_more (take i fs) (get_or fs i d) in
-    let parts = append_assoc start (begun (take i fs)) (32 ∷ last) in
-    cc (append_assoc text (32 ∷ []) last, parts, more, take_more fs i d inside)
+-- the front of what was copied in from a place on
+pub copied_in : (old copied new digits rest : List ℕ) (at k count : ℕ) → at ≤ length old →
+    take (at + k) new ≡ take at old ++ copied → count ≤ k → copied ≡ digits ++ rest → count ≡ length digits →
+    take (at + count) new ≡ take at old ++ digits
+copied_in old copied new digits rest at k count inside front few spelled long =
+    let size : at + count ≡ length (take at old ++ digits) =
+    omega (arith, length-append (take at old) digits, length-take at old) in
+    sym (take-take (at + count) (at + k) new (omega arith))
+    ∙ ap (take (at + count)) (front ∙ ap (λ l. take at old ++ l) spelled ∙ sym (append_assoc (take at old) digits rest))
+    ∙ take-append-le (at + count) (take at old ++ digits) rest (omega arith)
+    ∙ take_all (at + count) (take at old ++ digits) (omega arith)
 
-pub line_ends : (start word text new : List ℕ) (fs : List (Option ℕ)) (i : ℕ) → length fs ≤ i →
-    text ≡ (start ++ word) ++ begun (take i fs) → new ≡ text ++ 10 ∷ [] → new ≡ start ++ line word fs
-line_ends start word text new fs i past e f =
-    f ∙ ap (λ t. t ++ 10 ∷ []) (e ∙ ap (λ gs. (start ++ word) ++ begun gs) (take_all i fs past))
+-- The text with what is gathered behind it is what stood there and the line as far as it goes.
+pub record IsGathered (start word text bytes : List ℕ) (end : ℕ) (fs : List (Option ℕ)) : Type 0 where
+  pub spelled : text ++ take end bytes ≡ (start ++ word) ++ begun fs
+  pub before : take (length start) text ≡ start
+  pub room : end < 128
+  pub long : length bytes ≡ 128
+
+pub still_before : (start text new : List ℕ) → take (length start) text ≡ start → take (length text) new ≡ text →
+    take (length start) new ≡ start
+still_before [] text new a b = refl
+still_before (x ∷ start) [] new a b = absurd (let P : ⊥ = cc in P)
+still_before (x ∷ start) (y ∷ text) [] a b = absurd (let P : ⊥ = cc in P)
+still_before (x ∷ start) (y ∷ text) (z ∷ new) a b =
+    let rest = still_before start text new (ap (drop 1) a) (ap (drop 1) b) in
+    let first : z ≡ x = cc in cc
+
+pub gathers_on : (start word text bytes text_on bytes_on : List ℕ) (end at end_on : ℕ) (fs : List (Option ℕ)) (i : ℕ)
+    (d : Option ℕ) → i < length fs → IsGathered start word text bytes end (take i fs) →
+    text_on ++ take at bytes ≡ text ++ take end bytes → take (length text) text_on ≡ text →
+    take end_on bytes_on ≡ take at bytes ++ 32 ∷ field (get_or fs i d) → end_on < 128 → length bytes_on ≡ 128 →
+    IsGathered start word text_on bytes_on end_on (take (i + 1) fs)
+gathers_on start word text bytes text_on bytes_on end at end_on fs i d inside had same begins put room long = record {
+  spelled =
+      let last : List ℕ = 32 ∷ field (get_or fs i d) in
+      ap (λ t. text_on ++ t) put ∙ sym (append_assoc text_on (take at bytes) last)
+      ∙ ap (λ t. t ++ last) (same ∙ had.spelled)
+      ∙ append_assoc (start ++ word) (begun (take i fs)) last
+      ∙ ap (λ t. (start ++ word) ++ t) (sym (begun_more (take i fs) (get_or fs i d)))
+      ∙ ap (λ gs. (start ++ word) ++ begun gs) (sym (take_more fs i d inside));
+  before = still_before start text text_on had.before begins;
+  room = room;
+  long = long;
+}
+
+pub line_ends : (start word text bytes new : List ℕ) (end : ℕ) (fs : List (Option ℕ)) (i : ℕ) → length fs ≤ i →
+    IsGathered start word text bytes end (take i fs) → new ≡ text ++ take (end + 1) (set bytes end 10) →
+    new ≡ start ++ line word fs
+line_ends start word text bytes new end fs i past had put =
+    let inside : end < length bytes = omega (arith, had.room, had.long) in
+    put ∙ ap (λ t. text ++ t) (take_more_set bytes end 10 inside) ∙ sym (append_assoc text (take end bytes) (10 ∷ []))
+    ∙ ap (λ t. t ++ 10 ∷ []) (had.spelled ∙ ap (λ gs. (start ++ word) ++ begun gs) (take_all i fs past))
     ∙ append_assoc (start ++ word) (begun fs) (10 ∷ [])
     ∙ ap (λ t. (start ++ word) ++ t) (ending_begun fs [] ∙ append-nil (ending fs)) ∙ append_assoc start word (ending fs)
 

@@ -1,6 +1,6 @@
-use Rattle.cq_lines.proofs.Terms.{◌≡◌, ◌++◌, take}
-use Rattle.cq_lines.proofs.Walk.{begun}
+use Rattle.cq_lines.proofs.Terms.{take}
+use Rattle.cq_lines.proofs.Walk.{IsGathered}
 use Rattle.cq_lines.proofs.write.put_parts.Given as goal
 
 abbrev pub invariant-fields : goal.invariant-fields
-invariant-fields l = l.text.items ≡ (l.fn.text.items ++ l.word) ++ begun (take l.field-index l.fields)
+invariant-fields l = IsGathered l.fn.text.items l.word l.text.items l.bytes l.end (take l.field-index l.fields)
