@@ -1,5 +1,5 @@
 //! The cells that a state names, looked up among those that arrive.
-ghost use Rattle.std.specs.Prelude.{◌≡◌, ◌↔◌, ◌<◌, ◌&&◌, ◌||◌, ◌==◌, nat_lt, AllPairs, IfErr, IfNone, IfOk, IfSome, IsPermutation, IsTrue, None, OnOk, Some, filter, length, map};
+ghost use Rattle.std.specs.Prelude.{◌≡◌, ◌↔◌, ◌<◌, ◌&&◌, ◌||◌, ◌==◌, nat_lt, AllPairs, IfErr, IfNone, IfOk, IfSome, IsPermutation, IsTrue, None, OnOk, Some, filter, length, map, true};
 ghost use Rattle.std.specs.List.{AllAdjacentBelow, AllByRecursion, AllZip, list_any};
 ghost use Rattle.cq_resume.specs.Finding.{names_of as names_told};
 ghost use Rattle.cq_resume.specs.Terms.{IsFound, IsGone, IsMissed, IsNameBefore, IsNameNotAfter, sent_name, told_of, waiting_name, AreArrivals, IsForPorts, IsOnlyFor};
@@ -206,16 +206,37 @@ fn is_of(name: &Name, input: Port, slot: Slot) -> bool
     name.queued.key.slot == slot && name.queued.key.input == input
 }
 
-/// Whether one of the names, which stand in order, is of the cell that arrived in the slot at the input.
-pub fn is_named(names: &[Name], input: Port, slot: Slot) -> bool
+// Whether the name at a place, where there is one, is of the cell that arrived in the slot at the input.
+fn is_at(names: &[Name], place: usize, input: Port, slot: Slot) -> bool
+    ensures { IsTrue result →
+        list_any (λ n. n.queued.key.slot == slot && n.queued.key.input == input) names.now ≡ true }
+{
+    if place >= names.len() {
+        return false;
+    }
+    is_of(&names[place], input, slot)
+}
+
+/// Whether one of the names, which stand in order, is of the cell that arrived in the slot at the input. Where it is
+/// the one at this place, it is found at once.
+pub fn is_named(names: &[Name], input: Port, slot: Slot, near: usize) -> bool
     requires { AllPairs IsNameBefore names.now }
     ensures { result ≡ list_any (λ n. n.queued.key.slot == slot && n.queued.key.input == input) names.now }
 {
+    if is_at(names, near, input, slot) {
+        return true;
+    }
     let at = names.partition_point(|name| is_ahead(name, input, slot));
     if at >= names.len() {
         return false;
     }
     is_of(&names[at], input, slot)
+}
+
+/// How many of the names, which stand in order, are of inputs before this one. It says only where to look first, so no
+/// clause speaks of it.
+pub fn before_input(names: &[Name], input: Port) -> usize {
+    names.partition_point(|name| name.queued.key.input < input)
 }
 
 /// Those of the names, which stand in order, that are of this input.
