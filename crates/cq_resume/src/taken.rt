@@ -181,14 +181,24 @@ pub fn take_up(alloc: Global, state: State, found: Found, tally: Tally) -> Resul
         ranks,
         listed: _,
         buffered: _,
-        sent: _,
+        sent: lines,
         moved,
     } = state;
-    let sent = departures_of(alloc, &found.sent)?;
+    let Found {
+        listed,
+        buffered,
+        sent: gone,
+        names,
+    } = found;
+    let inputs = inputs_of(alloc, &names, inputs.as_slice())?;
+    // The names, and the lines of what was sent, are wanted no more: they go before the departures come.
+    drop(lines);
+    drop(names);
+    let sent = departures_of(alloc, &gone)?;
+    drop(gone);
     let slots = slots_of(&sent);
-    let inputs = inputs_of(alloc, &found.names, inputs.as_slice())?;
     let outputs = outputs_of(alloc, &sent, head.ports)?;
-    let (lists, buffers) = queues_of(alloc, &found.listed, &found.buffered, head.ports)?;
+    let (lists, buffers) = queues_of(alloc, &listed, &buffered, head.ports)?;
     let figures = Figures {
         slots,
         proposals: head.proposals,
