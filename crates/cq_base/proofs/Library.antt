@@ -1,5 +1,5 @@
 -- The library's words that proofs of ours use, each passed on from its place.
-pub use Rattle.std.proofs.Common.{BTreeMap, Bool, Bor, Err, IfErr, IsErrAnd, IsErrOf, List, MatchOption, None, Ok, Option, Result, Some, String, [], add-one, add-zero, ap, append_assoc, ap₂, arith, bit_or, codes, cond, drop, eqb, false, fold, get_or, inl, inr, is_ok, leb, length, length-append, length-set, length-take, lit≤, ltb, map, min, mod-lt, mul-le-mul, nat_le, not, refl, replicate, reverse, rules, set, slice_index, string_bytes, subst, suc, sym, take, tests, true, vec_capacity, vec_len, w64, zero, ℕ, ⊎_elim, ◌%◌, ◌*◌, ◌++◌, ◌+◌, ◌-◌, ◌/◌, ◌<◌, ◌^◌, ◌||◌, ◌↔◌, ◌∙◌, ◌∷◌, ◌≡◌, ◌≢◌, ◌≤◌, ◌⊎◌}
+pub use Rattle.std.proofs.Common.{Bool, Bor, Err, IfErr, IsErrAnd, IsErrOf, List, MatchOption, None, Ok, Option, Result, Some, String, [], add-one, add-zero, ap, append_assoc, ap₂, arith, bit_or, codes, cond, drop, eqb, false, fold, get_or, inl, inr, is_ok, leb, length, length-append, length-set, length-take, lit≤, ltb, map, min, mod-lt, mul-le-mul, nat_le, not, refl, replicate, reverse, rules, set, slice_index, string_bytes, subst, suc, sym, take, tests, true, vec_capacity, vec_len, w64, zero, ℕ, ⊎_elim, ◌%◌, ◌*◌, ◌++◌, ◌+◌, ◌-◌, ◌/◌, ◌<◌, ◌^◌, ◌||◌, ◌↔◌, ◌∙◌, ◌∷◌, ◌≡◌, ◌≢◌, ◌≤◌, ◌⊎◌}
 pub use Rattle.std.proofs.Math.Bool.{and-true, and_assoc, or-false}
 pub use Rattle.std.proofs.Math.Nat.{div-eq_of_lt, div-le_self, mul-le-mul_right, pow-suc}
 pub use Rattle.std.proofs.Math.Seq.{drop-cons, get_or-append_seam, map-set_same, take-add, take-append-add, take-set-lt, take-suc}
@@ -36,7 +36,6 @@ pub use Rattle.std.proofs.lemmas.Slice.Eq.{bytes_eq-Decides, strip_prefix_is}
 pub use Rattle.std.proofs.lemmas.Slice.Zip.{AllZip-map}
 pub use Rattle.std.proofs.lemmas.Str.{IsUtf8-from_is_utf8, is_utf8-from_IsUtf8}
 pub use Rattle.std.proofs.lemmas.Str.Parse.{IsNumeralModel, numerals_by_value, parse_digits, tells_all_ascii_digits}
-pub use Rattle.std.specs.BTreeMap.{IsEmpty}
 pub use Rattle.std.specs.BTreeSet.{insert_key}
 pub use Rattle.std.specs.Bool.{Decides}
 pub use Rattle.std.specs.Char.{is_ascii_digit}

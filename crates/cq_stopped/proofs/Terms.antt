@@ -64,7 +64,7 @@ pub use Rattle.cq_stopped.specs.Stopped.{AreRecorded, CanBeTakenUp, StoppedRunsA
 pub use Rattle.cq_audit.proofs.Noted.{AreWritten, FitsLine, written_in_run}
 pub use Rattle.cq_base.proofs.Each.{all_back, all_both, all_front, all_weaker, few_kept, of_images, all_give, all_made, filter_all, filter_none}
 pub use Rattle.cq_base.proofs.Putting.{all_put, length_put}
-pub use Rattle.cq_base.specs.{declared.cell.TagFault.TagFault, declared.figures.Figures.Figures, declared.figures.InputFigures.InputFigures, declared.key.Key.Key, declared.setup.ClassRow.ClassRow, declared.setup.Kind.Kind, declared.setup.Kind.TheVariants.FirstCome, declared.setup.Kind.TheVariants.Priority, declared.setup.Kind.TheVariants.Fair, declared.setup.Setup.Setup}
+pub use Rattle.cq_base.specs.{declared.cell.TagFault.TagFault, declared.figures.Figures.Figures, declared.figures.InputFigures.InputFigures, declared.key.Key.Key, declared.setup.ClassRow.ClassRow, declared.setup.Kind.Kind, declared.setup.Kind.TheVariants.FirstCome, declared.setup.Kind.TheVariants.Fair, declared.setup.Setup.Setup}
 pub use Rattle.cq_base.proofs.Keys.{key_laws}
 pub use Rattle.cq_pcap.specs.Captured.{Captured}
 pub use Rattle.cq_cells.proofs.{Packets.few_by, Ranges.flat_same}

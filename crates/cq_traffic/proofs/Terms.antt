@@ -1,5 +1,5 @@
 -- The words of this crate's proofs that stand elsewhere, each passed on from its place.
-pub use Rattle.cq_base.proofs.Library.{AllByRecursion, Bool, List, None, Option, Some, [], ap, arith, cases_eq, cases_lt, common_steps, cond, eq-eqb, eqb, false, filter, get_or, get_or-map-range_with_len, get_or_past, inl, inr, is_some, length, length-map-range_with_len, map, map-range_with_len_more, min, ne_eqb, range_with_len, refl, replicate, rules, subst, suc, sym, true, unwrap_or, unwrap_or-slice_get, zero, ℕ, ⊎_elim, ◌&&◌, ◌++◌, ◌+◌, ◌<◌, ◌==◌, ◌∙◌, ◌∷◌, ◌≡◌, ◌≤◌}
+pub use Rattle.cq_base.proofs.Library.{AllByRecursion, Bool, List, None, Option, Some, [], ap, arith, cases_eq, cases_lt, common_steps, cond, eq-eqb, get_or, get_or-map-range_with_len, get_or_past, is_some, length, length-map-range_with_len, map, map-range_with_len_more, min, ne_eqb, range_with_len, refl, replicate, rules, subst, suc, sym, unwrap_or, unwrap_or-slice_get, zero, ℕ, ⊎_elim, ◌++◌, ◌+◌, ◌<◌, ◌==◌, ◌∙◌, ◌∷◌, ◌≡◌, ◌≤◌}
 pub use Rattle.cq_base.specs.Arrivals.{arrival_at, no_arrivals}
 pub use Rattle.cq_base.specs.Arriving.{Arrival, arriving, arriving_at, end_of, enough}
 unfoldable pub use Rattle.cq_base.specs.Arriving.{traffic_of}
