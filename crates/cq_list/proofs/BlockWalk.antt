@@ -1,6 +1,6 @@
 -- A walk along the blocks, from the first on or from the last back. The places ahead of the block behind a block are
 -- those ahead of it and its own; so what is counted grows by a block's numbers, or shrinks by them.
-use Rattle.cq_list.proofs.Terms.{rules, ◌≡◌, ℕ, zero, suc, ◌+◌, ◌-◌, ◌<◌, ◌≤◌, Bool, List, [], ◌∷◌, ◌++◌, length, get_or, take, drop, refl, sym, ap, ◌∙◌, arith, length-append, take-append-drop, common_steps, filter, concat, get_or_read, take_more, append-nil, filter-append, concat-append, place_of_nth, is_output, count_of, IsSpot, IsAhead}
+use Rattle.cq_list.proofs.Terms.{⊎_elim, cases_lt, rules, ◌≡◌, ℕ, zero, suc, ◌+◌, ◌-◌, ◌<◌, ◌≤◌, Bool, List, [], ◌∷◌, ◌++◌, length, get_or, take, drop, refl, sym, ap, ◌∙◌, arith, length-append, take-append-drop, common_steps, filter, concat, get_or_read, get_or-take, get_or-append_seam, length-drop, length-take-le, take-append-le, take-take, take_all, drop_more, take_more, append-nil, filter-append, concat-append, place_of_nth, is_output, count_of, IsSpot, IsAhead}
 use Rattle.cq_list.proofs.Counts.{count_le}
 use Rattle.cq_list.proofs.Nth.{nth_inside, nth_in_front, nth_behind}
 use Rattle.cq_list.proofs.Blocks.{rest_more, ahead_more, whole_is}
@@ -33,14 +33,6 @@ module _ (blocks : List (List ℕ)) (i : ℕ) {block : List ℕ} (inside : i < l
   count_next j =
       grind (arith, common_steps, take_more, concat-append, filter-append, length-append, append-nil, block_is)
 
-  pub ahead_with : {j places own more count : ℕ} → IsAhead blocks j i places own → more ≡ length block →
-      count ≡ count_of j block → IsAhead blocks j (i + 1) (places + more) (own + count)
-  ahead_with {j} ahead long many = grind (arith, common_steps, ahead_next, count_next)
-
-  pub ahead_without : {j places own less count : ℕ} → IsAhead blocks j (i + 1) places own → less ≡ length block →
-      count ≡ count_of j block → IsAhead blocks j i (places - less) (own - count)
-  ahead_without {j} ahead long many = grind (arith, common_steps, ahead_next, count_next)
-
   pub rest_next : length (concat (drop i blocks)) ≡ length block + length (concat (drop (i + 1) blocks))
   rest_next = ap length rest_is ∙ length-append block (concat (drop (i + 1) blocks))
 
@@ -48,20 +40,16 @@ module _ (blocks : List (List ℕ)) (i : ℕ) {block : List ℕ} (inside : i < l
   block_fits = let whole = whole_is blocks i in let rest = rest_next in omega arith
 
   -- the place of number k where the block has it
-  module _ {j : ℕ} (k : ℕ) {places own : ℕ} (ahead : IsAhead blocks j i places own) (late : own ≤ k)
-      (early : k < count_of j (concat (take (i + 1) blocks))) where
-    pub own_inside : k - own < count_of j block
-    own_inside = let next = count_next j in omega arith
-
-    pub nth_place : (within : ℕ) → within ≡ place_of_nth (is_output j) (k - own) block →
-        places + within ≡ place_of_nth (is_output j) k (concat blocks)
-    nth_place within is =
+  module _ {j k places own : ℕ} (ahead : IsAhead blocks j i places own) (late : own ≤ k)
+      (early : k < own + count_of j block) {place at within : ℕ} (is : place ≡ places + within) (in_block : at ≡ i)
+      (found : within ≡ place_of_nth (is_output j) (k - own) block) where
+    pub nth_found : (place ≡ place_of_nth (is_output j) k (concat blocks)) × IsSpot blocks place at within
+    nth_found =
         let whole = ap concat (sym (take-append-drop i blocks)) ∙ concat-append (take i blocks) (drop i blocks) in
-        search (arith, rules, own_inside, nth_behind, rest_is, nth_in_front)
-
-    pub nth_spot : (within : ℕ) → within ≡ place_of_nth (is_output j) (k - own) block →
-        IsSpot blocks (places + within) i within
-    nth_spot within is = grind (arith, common_steps, nth_inside, own_inside, block_is)
+        let inside : k - own < count_of j block = omega arith in (
+          search (arith, rules, inside, nth_behind, rest_is, nth_in_front),
+          grind (arith, common_steps, nth_inside, inside, block_is),
+        )
 
   pub count_past_block : (j n : ℕ) → length block ≤ n →
       count_of j (take n (concat (drop i blocks))) ≡ count_of j block + count_of j
@@ -73,10 +61,89 @@ module _ (blocks : List (List ℕ)) (i : ℕ) {block : List ℕ} (inside : i < l
 pub none_ahead : (blocks : List (List ℕ)) (j : ℕ) → IsAhead blocks j 0 0 0
 none_ahead blocks j = record { all = refl; few = refl }
 
-pub some_blocks : (blocks : List (List ℕ)) (j k places own : ℕ) → IsAhead blocks j (length blocks) places own →
-    k < own → 0 < length blocks
-some_blocks [] j k places own all there = absurd (omega arith)
-some_blocks (b ∷ bs) j k places own all there = omega arith
+-- ## From both ends at once
+
+-- what two walks meet that have both come past so many blocks, and what is counted with it
+pub record AreMet (blocks : List (List ℕ)) (j i : ℕ) (front back : List ℕ) (left lent : List (List ℕ))
+    (places own later some : ℕ) : Type 0 where
+  pub inside : i < length blocks
+  pub first : front ≡ get_or blocks i front
+  pub last : back ≡ get_or blocks (length blocks - (i + 1)) back
+  pub ahead : left ≡ drop (i + 1) blocks
+  pub behind : lent ≡ take (length blocks - (i + 1)) blocks
+  pub fits : places + length front ≤ length (concat blocks)
+  pub few : own + count_of j front ≤ length (concat blocks)
+  pub longer : places + length front ≡ length (concat (take (i + 1) blocks))
+  pub more : own + count_of j front ≡ count_of j (concat (take (i + 1) blocks))
+  pub all : later ≤ length (concat blocks)
+  pub shorter : length (concat (take (length blocks - (i + 1)) blocks)) + length back ≡ later
+  pub fewer : count_of j (concat (take (length blocks - (i + 1)) blocks)) + count_of j back ≡ some
+
+module _ (blocks : List (List ℕ)) (i : ℕ) {j later some : ℕ} {from to : List (List ℕ)} (ahead : from ≡ drop i blocks)
+    (behind : to ≡ take (length blocks - i) blocks) (rest : IsAhead blocks j (length blocks - i) later some) where
+  pub are_met : {front back : List ℕ} {left lent : List (List ℕ)} {places own : ℕ} → from ≡ front ∷ left →
+      to ≡ lent ++ back ∷ [] → IsAhead blocks j i places own →
+      AreMet blocks j i front back left lent places own later some
+  are_met {front} {back} {left} {lent} first last counted =
+      let next : drop i blocks ≡ front ∷ left = sym ahead ∙ first in
+      let one = ap length next in
+      let many = length-drop i blocks in
+      let inside : i < length blocks = omega arith in
+      let met : get_or blocks i front ∷ drop (i + 1) blocks ≡ front ∷ left =
+      sym (drop_more blocks i front inside) ∙ next in
+      let read : front ≡ get_or blocks i front = cc in
+      let parts : take (length blocks - i) blocks ≡ lent ++ back ∷ [] = sym behind ∙ last in
+      let all = length-take-le (length blocks - i) blocks (omega arith) in
+      let sum = ap length parts ∙ length-append lent (back ∷ []) in
+      let long : length lent ≡ length blocks - (i + 1) = omega arith in
+      let back_read : back ≡ get_or blocks (length blocks - (i + 1)) back =
+      sym (get_or-append_seam lent back [] back) ∙ ap (λ l. get_or l (length lent) back) (sym parts)
+      ∙ get_or-take (length blocks - i) blocks (length lent) back (omega arith)
+      ∙ ap (λ n. get_or blocks n back) long in
+      let before : length blocks - (i + 1) < length blocks = omega arith in
+      let same : length blocks - i ≡ length blocks - (i + 1) + 1 = omega arith in
+      let places = ap (λ n. length (concat (take n blocks))) same in
+      let own = ap (λ n. count_of j (concat (take n blocks))) same in
+      let rest_all = rest.all in
+      let rest_few = rest.few in
+      let counted_all = counted.all in
+      let counted_few = counted.few in
+      let longer = ahead_next blocks i inside read in
+      let more = count_next blocks i inside read j in
+      let shorter = ahead_next blocks (length blocks - (i + 1)) before back_read in
+      let fewer = count_next blocks (length blocks - (i + 1)) before back_read j in
+      let fits = block_fits blocks i inside read in
+      let few = count_all_le blocks (i + 1) j in
+      let most = block_fits blocks (length blocks - (i + 1)) before back_read in
+      record {
+        inside = inside;
+        first = read;
+        last = back_read;
+        ahead = cc;
+        behind =
+            sym (take_all (length lent) lent (omega arith))
+            ∙ sym (take-append-le (length lent) lent (back ∷ []) (omega arith))
+            ∙ ap (take (length lent)) (sym parts) ∙ take-take (length lent) (length blocks - i) blocks (omega arith)
+            ∙ ap (λ n. take n blocks) long;
+        fits = omega arith;
+        few = omega arith;
+        longer = omega arith;
+        more = omega arith;
+        all = omega arith;
+        shorter = omega arith;
+        fewer = omega arith;
+      }
+
+  -- while there is more of an output ahead of what was passed from the end, neither is at its own
+  pub both_left : {k : ℕ} → k < some → (0 < length from) × (0 < length to)
+  both_left there =
+      let inside : i < length blocks = ⊎_elim (λ lt. lt) (λ ge.
+      let none : length blocks - i ≡ 0 = omega arith in
+      let few = ap (λ n. count_of j (concat (take n blocks))) none in
+      let own = rest.few in absurd (omega arith)) (cases_lt i (length blocks)) in
+      let many = ap length ahead ∙ length-drop i blocks in
+      let all = ap length behind ∙ length-take-le (length blocks - i) blocks (omega arith) in
+      (omega arith, omega arith)
 
 -- ## From the last block back
 

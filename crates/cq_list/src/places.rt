@@ -1,5 +1,5 @@
 //! The outputs of the cells of a list, in order.
-ghost use Rattle.std.specs.Prelude.{◌≡◌, ℕ, ◌+◌, ◌<◌, ◌≤◌, ◌^◌, ◌++◌, [], ◌∷◌, Some, IfOk, length, take, insert, remove, slice_get, slice_index_or};
+ghost use Rattle.std.specs.Prelude.{◌≡◌, ℕ, ◌+◌, ◌-◌, ◌<◌, ◌≤◌, ◌^◌, ◌++◌, [], ◌∷◌, Some, IfOk, length, take, insert, remove, slice_get, slice_index_or};
 ghost use Rattle.std.specs.VecDeque.{deque_capacity};
 ghost use Rattle.std.specs.List.{position_or_len, concat};
 ghost use Rattle.cq_base.specs.Limits.{most_ports};
@@ -113,13 +113,12 @@ fn spot_of(blocks: &VecDeque<Block>, place: usize, len: usize) -> Spot
 }
 
 // What stands ahead of the block behind a block.
-fn with_block(blocks: &VecDeque<Block>, block: usize, output: Port, ahead: Ahead) -> Ahead
-    requires inside { block < length blocks.now.items }
-    requires ahead { IsAhead blocks.now.items output block ahead.places ahead.own }
-    requires fits { length (concat blocks.now.items) < 2 ^ 64 }
-    ensures { IsAhead blocks.now.items output (block + 1) result.places result.own }
+fn with_block(places: &Block, output: Port, ahead: Ahead) -> Ahead
+    requires fits { ahead.places + length places.now < 2 ^ 64 }
+    requires few { ahead.own + count_of output places.now < 2 ^ 64 }
+    ensures places { result.places ≡ ahead.places + length places.now }
+    ensures own { result.own ≡ ahead.own + count_of output places.now }
 {
-    let places = &blocks[block];
     Ahead {
         places: ahead.places + places.len(),
         own: ahead.own + places.count(output),
@@ -127,12 +126,12 @@ fn with_block(blocks: &VecDeque<Block>, block: usize, output: Port, ahead: Ahead
 }
 
 // What stands ahead of a block, by what stands ahead of the block behind it.
-fn without_block(blocks: &VecDeque<Block>, block: usize, output: Port, ahead: Ahead) -> Ahead
-    requires inside { block < length blocks.now.items }
-    requires ahead { IsAhead blocks.now.items output (block + 1) ahead.places ahead.own }
-    ensures { IsAhead blocks.now.items output block result.places result.own }
+fn without_block(places: &Block, output: Port, ahead: Ahead) -> Ahead
+    requires fits { length places.now ≤ ahead.places }
+    requires few { count_of output places.now ≤ ahead.own }
+    ensures places { result.places ≡ ahead.places - length places.now }
+    ensures own { result.own ≡ ahead.own - count_of output places.now }
 {
-    let places = &blocks[block];
     Ahead {
         places: ahead.places - places.len(),
         own: ahead.own - places.count(output),
@@ -140,22 +139,15 @@ fn without_block(blocks: &VecDeque<Block>, block: usize, output: Port, ahead: Ah
 }
 
 // The place of an output that has so many of its places ahead, and where it stands, in the block that has it.
-fn nth_in(
-    blocks: &VecDeque<Block>,
-    block: usize,
-    output: Port,
-    number: usize,
-    ahead: Ahead,
-) -> (usize, Spot)
-    requires inside { block < length blocks.now.items }
-    requires ahead { IsAhead blocks.now.items output block ahead.places ahead.own }
-    requires fits { length (concat blocks.now.items) < 2 ^ 64 }
+fn nth_in(places: &Block, block: usize, output: Port, number: usize, ahead: Ahead) -> (usize, Spot)
+    requires fits { ahead.places + length places.now < 2 ^ 64 }
     requires late { ahead.own ≤ number }
-    requires early { number < count_of output (concat (take (block + 1) blocks.now.items)) }
-    ensures place { result.0 ≡ place_of_nth (is_output output) number (concat blocks.now.items) }
-    ensures spot { IsSpot blocks.now.items result.0 result.1.block result.1.within }
+    requires early { number < ahead.own + count_of output places.now }
+    ensures place { result.0 ≡ ahead.places + result.1.within }
+    ensures block { result.1.block ≡ block }
+    ensures within { result.1.within ≡ place_of_nth (is_output output) (number - ahead.own) places.now }
 {
-    let within = blocks[block].place_of(output, number - ahead.own);
+    let within = places.place_of(output, number - ahead.own);
     (ahead.places + within, Spot { block, within })
 }
 
@@ -173,16 +165,15 @@ fn find_from_ends(
 {
     let mut front = Ahead { places: 0, own: 0 };
     let mut back = all;
-    'each: for first in 0..blocks.len() {
-        let next = with_block(blocks, first, output, front);
+    'each: for (first, (places, behind)) in blocks.iter().zip(blocks.iter().rev()).enumerate() {
+        let next = with_block(places, output, front);
         if number < next.own {
-            return nth_in(blocks, first, output, number, front);
+            return nth_in(places, first, output, number, front);
         }
         front = next;
-        let last = blocks.len() - 1 - first;
-        back = without_block(blocks, last, output, back);
+        back = without_block(behind, output, back);
         if back.own <= number {
-            return nth_in(blocks, last, output, number, back);
+            return nth_in(behind, blocks.len() - 1 - first, output, number, back);
         }
     }
     unreachable!()
