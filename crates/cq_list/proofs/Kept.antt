@@ -1,7 +1,7 @@
 -- The places and the pool of a list, before and after its calls. The cells for which they stand are known by the split
 -- alone, so each call has to show no more than the split of the cells that it promises; that these are the cells that
 -- the new places and the new pool stand for follows.
-use Rattle.cq_list.proofs.Terms.{◌+◌, all_insert, all_left, each_pair_left, keys_differ_insert, keeps_order_arrival, common_steps, rules, ◌≡◌, ℕ, zero, suc, ◌<◌, ◌≤◌, eqb, Bool, cond, List, [], ◌∷◌, length, set, take, take_all, concat, drop, min, None, Some, sym, ap, ◌∙◌, subst, arith, length-set, get_or-set_same, get_or-set_other, ⊎_elim, length-map, get_or_past, ◌&&◌, slice_get, remove, insert, position, position_or_len, cond_both, eqb-true, eqb-false, ltb-true, lt-ltb, cases_lt, slice_get-map, slice_get_within, slice_get_cases, find_at, Queued, is_before, HasOtherKey, MoreUrgentAhead, is_for, first_for, without_first, put, place_of_arrival, with_arrival, CanTell, HaveTold, IsSplit, Queues, merged, is_output, place_of_nth, count_of, PlacesView, PoolView, queue_of, Waiting, AreWaiting, StandFor, cells_in, all_filter, position_or_len-map}
+use Rattle.cq_list.proofs.Terms.{◌+◌, all_insert, all_left, each_pair_left, keys_differ_insert, keeps_order_arrival, common_steps, rules, ◌≡◌, ℕ, zero, suc, ◌<◌, eqb, Bool, cond, List, [], ◌∷◌, length, set, take, concat, drop, min, None, Some, sym, ap, ◌∙◌, subst, arith, length-set, get_or-set_same, get_or-set_other, ⊎_elim, length-map, get_or_past, ◌&&◌, slice_get, remove, insert, position, position_or_len, cond_both, eqb-true, eqb-false, ltb-true, lt-ltb, cases_lt, slice_get-map, slice_get_within, slice_get_cases, find_at, Queued, is_before, HasOtherKey, MoreUrgentAhead, is_for, first_for, without_first, put, place_of_arrival, with_arrival, CanTell, IsSplit, merged, is_output, place_of_nth, count_of, PlacesView, PoolView, queue_of, Waiting, AreWaiting, StandFor, cells_in, all_filter, position_or_len-map}
 use Rattle.cq_list.proofs.Split.{merged_is, split_arrived, split_left, both_is_nth, first-is-head, length-filter-map, cell_at}
 
 -- an output with a cell is one of them
@@ -131,11 +131,9 @@ module _ {outputs : ℕ} {places : PlacesView} {pool : PoolView} {w : Waiting}
         let all = ap (count_of j) in_blocks in
         omega arith
 
-    pub told_all : {left : Queues} {n : ℕ} {all : List Queued} →
-        HaveTold (concat (take n blocks)) (queue_of heads) left [] all → length blocks ≤ n → all ≡ w.cells
-    told_all {n = n} told past =
-        told.cells ∙ ap (λ l. merged (concat l) (queue_of heads)) (take_all n blocks past)
-        ∙ ap (λ l. merged l (queue_of heads)) in_blocks ∙ ap (λ q. merged places.outputs (queue_of q)) heads_are
+    pub all_merged : merged (concat blocks) (queue_of heads) ≡ w.cells
+    all_merged =
+        ap (λ l. merged l (queue_of heads)) in_blocks ∙ ap (λ q. merged places.outputs (queue_of q)) heads_are
         ∙ ap (λ (v : Waiting). v.cells) is
 
   -- ## The cell at a place

@@ -1,8 +1,7 @@
 -- What is told of a list, place after place: each place takes the head of the queue of its output. So the cells of some
 -- places are told, and then those of the places behind them from what is left of the queues, and no cell is looked for.
-use Rattle.cq_list.proofs.Terms.{common_steps, rules, ◌≡◌, ℕ, ◌+◌, ◌<◌, List, [], ◌∷◌, ◌++◌, length, get_or, take, drop, subst, take_more, drop_more, eq-eqb, Some, refl, sym, ap, ◌∙◌, arith, concat, filter-append, length-append, append_assoc, append-nil, drop-drop, length-drop, slice_get, slice_set, take-append-drop, concat-append, cond_both, Queued, Queues, merged, without_head, is_output, count_of, CanTell, HaveTold, queue_of}
+use Rattle.cq_list.proofs.Terms.{common_steps, rules, ◌≡◌, ℕ, ◌+◌, ◌<◌, List, [], ◌∷◌, ◌++◌, length, get_or, take, drop, subst, take_more, drop_more, eq-eqb, Some, refl, sym, ap, ◌∙◌, arith, concat, filter-append, length-append, append_assoc, append-nil, drop-drop, length-drop, slice_get, slice_set, take-append-drop, cond_both, Queued, Queues, merged, without_head, is_output, count_of, CanTell, HaveTold, queue_of}
 use Rattle.cq_list.proofs.Nth.{passes, fails}
-use Rattle.cq_list.proofs.BlockWalk.{rest_is}
 use Rattle.cq_list.proofs.Kept.{queue_inside, queue_of-set}
 
 merged_same : (places : List ℕ) (p q : Queues) → ((j : ℕ) → p j ≡ q j) → merged places p ≡ merged places q
@@ -81,18 +80,24 @@ told_next places i {output} queues t head less more inside is_read =
     let next = take_more places i output inside ∙ ap (λ o. take i places ++ o ∷ []) (sym is_read) in
     rw next (told_on t (told_one queues head less more))
 
-module _ (blocks : List (List ℕ)) (i : ℕ) {block outputs : List ℕ} {old left : Queues} {told cells : List Queued}
-    (t : HaveTold (concat (take i blocks)) old left told cells) (inside : i < length blocks)
-    (is_read : block ≡ get_or blocks i block) (same : outputs ≡ block) where
-  pub block_left : CanTell (concat blocks) old → CanTell outputs left
-  block_left can =
-      let parts = ap concat (sym (take-append-drop i blocks)) ∙ concat-append (take i blocks) (drop i blocks)
-      ∙ ap (λ l. concat (take i blocks) ++ l) (rest_is blocks i inside is_read) in
-      rw same (can_left t block (concat (drop (i + 1) blocks)) (subst (λ l. CanTell l old) parts can))
+-- ## Block by block
 
-  pub block_told : {new : Queues} {all : List Queued} → HaveTold outputs left new cells all →
-      HaveTold (concat (take (i + 1) blocks)) old new told all
-  block_told n =
-      let next : concat (take (i + 1) blocks) ≡ concat (take i blocks) ++ outputs =
-      search (rules, take_more blocks i block inside, is_read, same, concat-append, append-nil) in
-      rw next (told_on t n)
+pub can_first : (places more : List ℕ) (queues : Queues) → CanTell (places ++ more) queues → CanTell places queues
+can_first places more queues can j =
+    let enough = can j in grind (arith, common_steps, enough, filter-append, length-append)
+
+-- what is told and what is left to be told are all
+pub told_rest : {places : List ℕ} (more : List ℕ) {old new : Queues} {told cells all : List Queued} →
+    told ++ merged (places ++ more) old ≡ all → HaveTold places old new told cells → cells ++ merged more new ≡ all
+told_rest {places} more {old} {new} {told} whole t =
+    let same = merged_same more new (left_of places old) t.left in
+    search (arith, rules, t.cells, merged_on, same, append_assoc, whole)
+
+pub block_first : {left rest : List (List ℕ)} {block outputs : List ℕ} → left ≡ block ∷ rest → outputs ≡ block →
+    concat left ≡ outputs ++ concat rest
+block_first {rest = rest} met same = ap concat met ∙ ap (λ l. l ++ concat rest) (sym same)
+
+pub none_left : (left : List (List ℕ)) (queues : Queues) {cells all : List Queued} →
+    cells ++ merged (concat left) queues ≡ all → length left ≡ 0 → cells ≡ all
+none_left [] queues {cells} whole none = sym (append-nil cells) ∙ whole
+none_left (x ∷ xs) queues whole none = absurd (omega arith)

@@ -203,8 +203,8 @@ impl InputList {
         let mut cells = Vec::with_capacity(alloc, self.places.len())?;
         let (first, others) = self.places.blocks();
         tell(&mut cells, &mut heads, first.outputs())?;
-        'each: for block in 0..others.len() {
-            tell(&mut cells, &mut heads, others[block].outputs())?;
+        'each: for block in others.iter() {
+            tell(&mut cells, &mut heads, block.outputs())?;
         }
         Ok(Sequence::of(cells))
     }

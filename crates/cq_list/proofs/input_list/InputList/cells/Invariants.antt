@@ -1,8 +1,10 @@
-use Rattle.cq_list.proofs.Terms.{take, concat, HaveTold, queue_of}
+use Rattle.cq_list.proofs.Terms.{◌≡◌, ◌++◌, concat, merged, queue_of, CanTell}
+use Rattle.std.specs.VecDeque.Iter.{deque_iter_rest}
 use Rattle.cq_list.proofs.input_list.InputList.cells.Given as goal
 
--- the places of the blocks between the first and this one are told
+-- what is told and what the blocks that are left still tell are all cells
 abbrev pub invariant-each : goal.invariant-each
-invariant-each l =
-    HaveTold (concat (take l.block l.others.items)) (queue_of l.initial.heads) (queue_of l.heads) l.initial.cells.items
-    l.cells.items
+invariant-each l = record {
+  all : l.cells.items ++ merged (concat (deque_iter_rest l.block-iterator)) (queue_of l.heads) ≡ l.self.cells;
+  can : CanTell (concat (deque_iter_rest l.block-iterator)) (queue_of l.heads);
+}
