@@ -1,6 +1,5 @@
 -- Places in blocks: what is done to one block is done to the places where it stands, behind those of the blocks ahead.
-use Rattle.cq_list.specs.declared.places.Spot.{Spot}
-use Rattle.cq_list.proofs.Terms.{⊎_elim, cases_lt, common_steps, rules, ◌≡◌, ℕ, zero, suc, ◌+◌, ◌-◌, ◌<◌, ◌≤◌, List, [], ◌∷◌, ◌++◌, length, get_or, set, take, drop, Some, sym, ap, ◌∙◌, subst, arith, length-append, length-set, length-take, get_or-set_same, take-append-drop, append_assoc, insert, remove, slice_get, concat, take_more, drop_more, take_all, take-set, take-set-le, take-take, take-append-le, get_or_read, concat-append, length-insert, length-remove, get_or-insert_below, get_or-insert_at, insert_end, insert-append_left, insert-append_right, remove-append_left, remove-append_right, IsSpot, joined, pulled}
+use Rattle.cq_list.proofs.Terms.{common_steps, rules, ◌≡◌, ℕ, zero, suc, ◌+◌, ◌-◌, ◌<◌, ◌≤◌, List, [], ◌∷◌, ◌++◌, length, get_or, set, take, drop, Some, sym, ap, ◌∙◌, subst, arith, length-append, length-set, length-take, get_or-set_same, take-append-drop, append_assoc, insert, remove, slice_get, concat, take_more, drop_more, take_all, take-set, take-set-le, take-take, take-append-le, get_or_read, concat-append, length-remove, insert_end, insert-append_left, insert-append_right, remove-append_left, remove-append_right, IsSpot, joined, pulled}
 
 -- ## Block by block
 
@@ -58,10 +57,10 @@ remove_in (b ∷ bs) (suc i) o n inside lt place =
 -- ## Blocks split, and a place at the end
 
 pub split_in : (blocks : List (List ℕ)) (i : ℕ) (front back : List ℕ) → i < length blocks →
-    get_or blocks i [] ≡ front ++ back → concat (insert (set blocks i front) (i + 1) back) ≡ concat blocks
-split_in [] i front back inside parts = absurd (omega arith)
-split_in (b ∷ bs) zero front back inside parts = grind (arith, common_steps, append_assoc)
-split_in (b ∷ bs) (suc i) front back inside parts = grind (arith, common_steps, split_in bs i front back)
+    concat (insert (set blocks i front) (i + 1) back) ≡ concat (set blocks i (front ++ back))
+split_in [] i front back inside = absurd (omega arith)
+split_in (b ∷ bs) zero front back inside = grind (arith, common_steps, append_assoc)
+split_in (b ∷ bs) (suc i) front back inside = grind (arith, common_steps, split_in bs i front back)
 
 -- a place at the end of the last block, or in a block of its own
 pub append_in : (blocks : List (List ℕ)) (i y : ℕ) (block : List ℕ) → i + 1 ≡ length blocks →
@@ -108,37 +107,6 @@ module _ (blocks : List (List ℕ)) (i : ℕ) (inside : i + 1 < length blocks) w
 
   pub spot_pulled : (place o : ℕ) → IsSpot blocks place i o → IsSpot (pulled blocks i) place i o
   spot_pulled place o spot = grind (arith, common_steps, length-set, take-set, take-set-le, pulled_at, length-append)
-
--- ## Where a place stands after a split
-
-module _ (blocks : List (List ℕ)) (place i o : ℕ) (front back : List ℕ) (spot : IsSpot blocks place i o)
-    (parts : get_or blocks i [] ≡ front ++ back) (half : length front ≡ 32) where
-  longer : length (insert (set blocks i front) (i + 1) back) ≡ length blocks + 1
-  longer = grind (arith, common_steps, length-set, length-insert)
-
-  first_half : get_or (insert (set blocks i front) (i + 1) back) i [] ≡ front
-  first_half = grind (arith, common_steps, length-set, get_or-insert_below, get_or-set_same)
-
-  ahead_same : take i (insert (set blocks i front) (i + 1) back) ≡ take i blocks
-  ahead_same = grind (arith, common_steps, length-set, length-take, take-append-le, take-take, take-set)
-
-  pub in_front_half : o < 32 → IsSpot (insert (set blocks i front) (i + 1) back) place i o
-  in_front_half early = grind (arith, common_steps, longer, first_half, ahead_same)
-
-  pub in_back_half : (p : ℕ) → p + 32 ≡ o → IsSpot (insert (set blocks i front) (i + 1) back) place (i + 1) p
-  in_back_half p late =
-      search (arith, rules, longer, length-append, ahead_more, first_half, ahead_same, length-set, get_or-insert_at)
-
-pub in_half : (blocks : List (List ℕ)) (place : ℕ) (was now : Spot) (front back : List ℕ) →
-    IsSpot blocks place was.block was.within → get_or blocks was.block [] ≡ front ++ back → length front ≡ 32 →
-    (was.within < 32 → now ≡ was) →
-    (32 ≤ was.within → (now.block ≡ was.block + 1) × (now.within + 32 ≡ was.within)) →
-    IsSpot (insert (set blocks was.block front) (was.block + 1) back) place now.block now.within
-in_half blocks place was now front back spot parts half early late = ⊎_elim
-    (λ e. rw (early e) (in_front_half blocks place was.block was.within front back spot parts half e))
-    (λ l. rw (late l).0 (in_back_half blocks place was.block was.within front back spot parts half
-    now.within (late l).1))
-    (cases_lt was.within 32)
 
 -- ## At a spot
 

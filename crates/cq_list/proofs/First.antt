@@ -1,6 +1,6 @@
 -- The first block and the others, which stand apart. The places of a list are those of the first, and then those of the
 -- others: what is asked of the others is asked from the first block's end on.
-use Rattle.cq_list.proofs.Terms.{common_steps, ◌≡◌, ℕ, ◌+◌, ◌-◌, ◌<◌, ◌≤◌, List, ◌++◌, length, take, ap, ◌∙◌, sym, arith, length-append, append_assoc, take_all, filter-append, insert, remove, concat, Some, slice_get, insert-append_left, insert-append_right, remove-append_right, IsAhead, count_of}
+use Rattle.cq_list.proofs.Terms.{common_steps, ◌≡◌, ℕ, ◌+◌, ◌-◌, ◌<◌, ◌≤◌, List, ◌++◌, length, take, ap, ◌∙◌, sym, arith, length-append, take_all, filter-append, insert, remove, concat, Some, slice_get, insert-append_right, remove-append_right, IsAhead, count_of}
 use Rattle.cq_list.proofs.Blocks.{shown_behind}
 use Rattle.cq_list.proofs.BlockWalk.{take_past}
 
@@ -28,17 +28,3 @@ module _ (b : List ℕ) (bs : List (List ℕ)) (n : ℕ) (long : n ≡ length b)
   remove_later place k at =
       let same : k - n ≡ place = omega arith in
       remove-append_right b (concat bs) n k (sym long) (omega arith) ∙ ap (λ m. b ++ remove (concat bs) m) same
-
--- ## The first block split in two
-
-module _ (front back : List ℕ) (bs : List (List ℕ)) (place y : ℕ) where
-  pub split_front : place ≤ length front →
-      insert ((front ++ back) ++ concat bs) place y ≡ insert front place y ++ (back ++ concat bs)
-  split_front inside = ap (λ l. insert l place y) (append_assoc front back (concat bs))
-      ∙ insert-append_left front (back ++ concat bs) place y inside
-
-  pub split_back : length front ≡ 32 → 32 ≤ place → place - 32 ≤ length back →
-      insert ((front ++ back) ++ concat bs) place y ≡ front ++ (insert back (place - 32) y ++ concat bs)
-  split_back half past inside = ap (λ l. insert l place y) (append_assoc front back (concat bs))
-      ∙ insert-append_right front (back ++ concat bs) 32 place y half past
-      ∙ ap (λ l. front ++ l) (insert-append_left back (concat bs) (place - 32) y inside)

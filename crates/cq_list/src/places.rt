@@ -4,7 +4,7 @@ ghost use Rattle.std.specs.VecDeque.{deque_capacity};
 ghost use Rattle.std.specs.List.{position_or_len, concat};
 ghost use Rattle.cq_base.specs.Limits.{most_ports};
 ghost use Rattle.cq_list.specs.Split.{is_output, place_of_nth, count_of};
-ghost use Rattle.cq_list.specs.Places.{CanGrow, HasGrown, IsSpot, IsAhead, AreFilled, HaveMemory, IsFilledUp, joined, least_places, pulled};
+ghost use Rattle.cq_list.specs.Places.{CanGrow, HasGrown, IsSpot, IsAhead, AreFilled, IsFilledUp, joined, least_places, pulled};
 ghost use Rattle.cq_list.specs.Block.{most_places};
 
 use crate::block::{Block, MOST_PLACES};
@@ -225,41 +225,22 @@ fn count_in(blocks: &VecDeque<Block>, output: Port, place: usize) -> usize
     count
 }
 
-// Where it stands once its block was split into two of 32.
-fn in_halves(spot: Spot) -> Spot
-    requires { spot.block + 1 < 2 ^ 64 }
-    ensures front { spot.within < 32 → result ≡ spot }
-    ensures back { 32 ≤ spot.within → (result.block ≡ spot.block + 1) × (result.within + 32 ≡ spot.within) }
+// A place in a full block, which is split in two. Its second half is given back.
+fn insert_and_split(block: &mut Block, place: usize, output: Port) -> Block
+    requires full { length block.old ≡ most_places }
+    requires inside { place < most_places }
+    requires in_range { output < most_ports }
+    ensures whole { block.new ++ result ≡ insert block.old place output }
+    ensures front { least_places ≤ length block.new }
+    ensures back { least_places ≤ length result }
 {
-    if spot.within < 32 {
-        return spot;
+    let mut back = block.split_off();
+    if place < 32 {
+        block.insert(place, output);
+    } else {
+        back.insert(place - 32, output);
     }
-    Spot {
-        block: spot.block + 1,
-        within: spot.within - 32,
-    }
-}
-
-// Where a place stands in a block with room: a full block is split in two.
-fn spot_with_room(blocks: &mut VecDeque<Block>, place: usize, len: usize) -> Spot
-    requires filled { AreFilled blocks.old.items }
-    requires memory { HaveMemory (length (concat blocks.old.items)) (deque_capacity blocks.old) }
-    requires inside { place < len }
-    requires len { len ≡ length (concat blocks.old.items) }
-    ensures places { concat blocks.new.items ≡ concat blocks.old.items }
-    ensures filled { AreFilled blocks.new.items }
-    ensures spot { IsSpot blocks.new.items place result.block result.within }
-    ensures room { length (slice_index_or blocks.new.items result.block []) < most_places }
-    ensures capacity { deque_capacity blocks.old ≤ deque_capacity blocks.new }
-{
-    let spot = spot_of(blocks, place, len);
-    let block = &mut blocks[spot.block];
-    if block.len() < MOST_PLACES {
-        return spot;
-    }
-    let back = block.split_off();
-    blocks.insert(spot.block + 1, back).unwrap();
-    in_halves(spot)
+    back
 }
 
 // A place at the end, in a block of its own behind a full one.
@@ -302,16 +283,21 @@ fn append(blocks: &mut VecDeque<Block>, output: Port)
     }
 }
 
-// A place ahead of another one.
+// A place ahead of another one. A full block is split in two.
 fn insert_inside(blocks: &mut VecDeque<Block>, place: usize, len: usize, output: Port)
     requires can { CanGrow blocks.old output }
     requires inside { place < len }
     requires len { len ≡ length (concat blocks.old.items) }
     ensures { HasGrown place output blocks.old blocks.new }
 {
-    let spot = spot_with_room(blocks, place, len);
+    let spot = spot_of(blocks, place, len);
     let block = &mut blocks[spot.block];
-    block.insert(spot.within, output);
+    if block.len() < MOST_PLACES {
+        block.insert(spot.within, output);
+        return;
+    }
+    let back = insert_and_split(block, spot.within, output);
+    blocks.insert(spot.block + 1, back).unwrap();
 }
 
 // The places of the next block go over to the end of a block.
@@ -408,12 +394,7 @@ fn split_first(first: &mut Block, others: &mut VecDeque<Block>, place: usize, ou
     ensures filled { AreFilled (first.new ∷ others.new.items) }
     ensures capacity { deque_capacity others.new ≡ deque_capacity others.old }
 {
-    let mut back = first.split_off();
-    if place < 32 {
-        first.insert(place, output);
-    } else {
-        back.insert(place - 32, output);
-    }
+    let back = insert_and_split(first, place, output);
     others.push_front_reserved(back);
 }
 

@@ -1,6 +1,5 @@
-use Rattle.cq_list.proofs.Terms.{rules, arith, ap, ◌++◌, concat, insert}
+use Rattle.cq_list.proofs.Terms.{rules, arith, ap, ◌++◌, ◌∙◌, sym, concat, append_assoc, insert-append_left}
 use Rattle.cq_list.proofs.Filled.{room_for_block}
-use Rattle.cq_list.proofs.First.{split_front, split_back}
 use Rattle.cq_list.proofs.places.split_first.Goals as goal
 
 pub push_front_reserved-requires : goal.push_front_reserved-requires
@@ -8,6 +7,8 @@ push_front_reserved-requires c = search (arith, rules, room_for_block)
 
 pub returns-clause-places : goal.returns-clause-places
 returns-clause-places c =
-    let whole = ap (λ l. insert (l ++ concat c.args.others.now.items) c.args.place c.args.output)
-    c.split_off-back.ensures.whole in
-    search (arith, rules, split_front, split_back, whole)
+    let others = concat c.args.others.now.items in
+    let parts = sym (append_assoc c.insert_and_split-back.new.block c.insert_and_split-back.result others)
+    ∙ ap (λ l. l ++ others) c.insert_and_split-back.ensures.whole
+    ∙ sym (insert-append_left c.args.first.now others c.args.place c.args.output (omega arith)) in
+    search (arith, rules, parts)
