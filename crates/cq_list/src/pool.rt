@@ -155,19 +155,7 @@ fn is_behind_all(nodes: &Slab<Node>, queue: Queue, key: Key) -> bool
     nodes[queue.last].queued.key.precedes(key)
 }
 
-// How many cells of a queue are more urgent, from the nearest finger on.
-fn walk_on(nodes: &Slab<Node>, queue: Queue, fingers: &[Ahead], key: Key) -> Ahead
-    requires chained { IsChained (get nodes.now) queue }
-    requires fingers { AreFingers (places (linked (get nodes.now) queue)) fingers.now }
-    ensures count { result.count ≡
-        position_or_len (λ x. not (is_before x.key key)) (cells (linked (get nodes.now) queue)) }
-    ensures last { EndsAt (places (linked (get nodes.now) queue)) result.count result.last }
-{
-    let from = nearest(nodes, queue, fingers, key);
-    walk(nodes, queue, from, key)
-}
-
-// The same, but no walk where all are.
+// How many cells of a queue are more urgent, from the nearest finger on, or with no walk where all are.
 fn ahead_of(nodes: &Slab<Node>, queue: Queue, fingers: &[Ahead], key: Key) -> Ahead
     requires chained { IsChained (get nodes.now) queue }
     requires fingers { AreFingers (places (linked (get nodes.now) queue)) fingers.now }
@@ -181,7 +169,8 @@ fn ahead_of(nodes: &Slab<Node>, queue: Queue, fingers: &[Ahead], key: Key) -> Ah
             last: queue.last,
         };
     }
-    walk_on(nodes, queue, fingers, key)
+    let from = nearest(nodes, queue, fingers, key);
+    walk(nodes, queue, from, key)
 }
 
 // How many cells of a queue are more urgent. A last cell that has the key tells it at once too.
