@@ -59,17 +59,11 @@ impl Limiter {
         ensures marks { IfOk result (λ limiter. limiter.marks ≡ marks_down (length limits.now)) }
         ensures refused { IfOk result (λ limiter. limiter.refused ≡ refused_counts limits.now []) }
     {
-        let refused = none_refused(alloc, limits)?;
-        let mut held = Vec::new(alloc);
-        held.resize(limits.len(), 0)?;
-        let mut marks = Vec::new(alloc);
-        marks.resize(limits.len(), false)?;
-        let limits = Vec::from_slice(alloc, limits)?;
         Ok(Limiter {
-            limits,
-            held,
-            marks,
-            refused,
+            limits: Vec::from_slice(alloc, limits)?,
+            held: vec![in alloc; 0; limits.len()]?,
+            marks: vec![in alloc; false; limits.len()]?,
+            refused: none_refused(alloc, limits)?,
         })
     }
 
@@ -89,15 +83,11 @@ impl Limiter {
         ensures marks { IfOk result (λ limiter. limiter.marks ≡ marks.now) }
         ensures refused { IfOk result (λ limiter. limiter.refused ≡ refused.now) }
     {
-        let limits = Vec::from_slice(alloc, limits)?;
-        let held = Vec::from_slice(alloc, held)?;
-        let marks = Vec::from_slice(alloc, marks)?;
-        let refused = Vec::from_slice(alloc, refused)?;
         Ok(Limiter {
-            limits,
-            held,
-            marks,
-            refused,
+            limits: Vec::from_slice(alloc, limits)?,
+            held: Vec::from_slice(alloc, held)?,
+            marks: Vec::from_slice(alloc, marks)?,
+            refused: Vec::from_slice(alloc, refused)?,
         })
     }
 
