@@ -4,6 +4,7 @@ ghost use Rattle.cq_base.specs.declared.cell.Queued.{Queued as OfCell};
 ghost use Rattle.cq_engine.specs.Terms.{is_for, IsAmong, input, fabric_in, fabric_held};
 
 use cq_base::{Figures, NoMemory, Port, Queued, Sequence};
+use cq_ideal::Limiter;
 use cq_laws::Frozen;
 use std::alloc::Global;
 
@@ -61,8 +62,8 @@ fn count_each(held: &mut Sequence<u64>, cells: &[Queued]) -> Result<(), NoMemory
     Ok(())
 }
 
-/// How many cells each output holds, in the lists and in its buffer. The error is want of memory.
-pub fn held_in(alloc: Global, from: &Frozen) -> Result<Sequence<u64>, NoMemory>
+// How many cells each output holds, in the lists and in its buffer. The error is want of memory.
+fn held_in(alloc: Global, from: &Frozen) -> Result<Sequence<u64>, NoMemory>
     requires square { length from.now.buffers ≡ length from.now.lists }
     requires outputs { (i : ℕ) (c : OfCell) → IsAmong c (input (fabric_in from.now) i) →
         c.cell.output < length from.now.lists }
@@ -75,4 +76,24 @@ pub fn held_in(alloc: Global, from: &Frozen) -> Result<Sequence<u64>, NoMemory>
         count_each(&mut held, lists[input].as_slice())?;
     }
     Ok(held)
+}
+
+/// The limiter of an engine that goes on from a state: it has these limits, and the marks and the numbers of what was
+/// refused of the state, and each output holds the cells that wait for it there. The error is want of memory, as that
+/// of `count_one`.
+pub fn limiter_of(alloc: Global, limits: &[Option<u64>], from: &Frozen) -> Result<Limiter, NoMemory>
+    requires square { length from.now.buffers ≡ length from.now.lists }
+    requires ports { length from.now.lists ≡ length limits.now }
+    requires marks { length from.now.marks ≡ length limits.now }
+    requires outputs { (i : ℕ) (c : OfCell) → IsAmong c (input (fabric_in from.now) i) →
+        c.cell.output < length from.now.lists }
+    ensures limits { IfOk result (λ limiter. limiter.limits ≡ limits.now) }
+    ensures held { IfOk result (λ limiter. limiter.held ≡ fabric_held (fabric_in from.now)) }
+    ensures marks { IfOk result (λ limiter. limiter.marks ≡ from.now.marks) }
+    ensures refused { IfOk result (λ limiter. limiter.refused ≡ from.now.refused) }
+{
+    let held = held_in(alloc, from)?;
+    let marks = from.marks.as_slice();
+    let refused = from.refused.as_slice();
+    Limiter::of(alloc, limits, held.as_slice(), marks, refused)
 }

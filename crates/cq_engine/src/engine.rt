@@ -2,7 +2,7 @@
 ghost use Rattle.std.specs.Prelude.{◌≡◌, ◌↔◌, ◌+◌, ◌-◌, ◌^◌, ◌<◌, IsTrue, false, is_err, IfOk, OnOk, OnErr, length, map, max};
 ghost use Rattle.cq_engine.specs.Terms.{class_count, AreForPorts, ranking, IsEmptyFabric, no_figures, CanBeMade, CanGoOn, HasGoneOn, HasStopped, IsMadeAs, IsReadyFor, SlotDone, answer_to, fresh_engine, frozen_of, its_admission, ports_of, HasRested};
 
-use crate::copied::{copied_figures, held_in};
+use crate::copied::{copied_figures, limiter_of};
 use crate::depart::depart;
 use crate::measure::{Look, count_inputs};
 use crate::settle::cross;
@@ -181,17 +181,14 @@ impl<R: Rank> Engine<R> {
         ensures to_outputs { IfOk result (λ engine. engine.to_outputs ≡ to_outputs.now) }
         ensures stopped { IfOk result (λ engine. engine.stopped ≡ false) }
     {
-        let mut ranks = Ranks::of(ranks);
-        let states = from.ranks.as_slice();
-        ranks.put(states);
-        let held = held_in(alloc, from)?;
+        let limiter = limiter_of(alloc, limits, from)?;
         let figures = copied_figures(alloc, &from.figures)?;
         let lists = from.lists.as_slice();
         let buffers = from.buffers.as_slice();
         let queues = Queues::holding(alloc, from_inputs, to_outputs, lists, buffers)?;
-        let marks = from.marks.as_slice();
-        let refused = from.refused.as_slice();
-        let limiter = Limiter::of(alloc, limits, held.as_slice(), marks, refused)?;
+        let mut ranks = Ranks::of(ranks);
+        let states = from.ranks.as_slice();
+        ranks.put(states);
         Ok(Engine {
             ranks,
             queues,

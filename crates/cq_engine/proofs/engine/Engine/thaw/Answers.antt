@@ -1,4 +1,4 @@
-use Rattle.cq_engine.proofs.Terms.{◌≡◌, List, length, map, sym, ◌∙◌, arith, rules, length-map, held_long}
+use Rattle.cq_engine.proofs.Terms.{◌≡◌, List, length, map, sym, ◌∙◌, arith, rules, length-map}
 use Rattle.cq_engine.proofs.Going.{can_hold, goes_on, same_frozen}
 use Rattle.cq_engine.proofs.engine.Engine.thaw.Goals as goal
 
@@ -9,15 +9,12 @@ pub put-requires : goal.put-requires
 put-requires g c =
     let many = length-map (map g.R.Rank.fixed c.args.ranks.items) g.R.Rank.machine in search (arith, rules)
 
-pub held_in-requires : goal.held_in-requires
-held_in-requires g c = search (arith, rules)
+pub limiter_of-requires : goal.limiter_of-requires
+limiter_of-requires g c = search (arith, rules, as_many g.R.Rank.fixed g.R.Rank.machine c.args.ranks.items)
 
 pub holding-requires : goal.holding-requires
 holding-requires g c =
     let many = as_many g.R.Rank.fixed g.R.Rank.machine c.args.ranks.items in search (arith, rules, can_hold)
-
-pub of-requires : goal.of-requires
-of-requires g c = search (arith, rules, held_long, as_many g.R.Rank.fixed g.R.Rank.machine c.args.ranks.items)
 
 pub invariant_of-result : goal.invariant_of-result
 invariant_of-result g c =
@@ -30,8 +27,7 @@ invariant_of-result g c =
     let many = as_many g.R.Rank.fixed g.R.Rank.machine c.args.ranks.items in
     let runs = goes_on ms c.args.limits.now c.args.from_inputs.now c.args.to_outputs.now x c.requires.made.machines
     c.requires.goes_on limiter c.in_ok-limiter.ensures.limits (c.requires.made.limits ∙ sym many)
-    (c.in_ok-limiter.ensures.held ∙ c.as_slice.ensures ∙ c.in_ok-held.ensures) queues states figures
-    (c.in_ok-queues.ensures.inputs ∙ c.as_slice-lists.ensures)
+    c.in_ok-limiter.ensures.held queues states figures (c.in_ok-queues.ensures.inputs ∙ c.as_slice-lists.ensures)
     (c.in_ok-queues.ensures.buffers ∙ c.as_slice-buffers.ensures)
     (c.put.ensures.states ∙ c.as_slice-states.ensures) c.in_ok-figures.ensures in (
       c.requires.made.workers,
