@@ -292,10 +292,9 @@ impl Blocks {
         self.free.push_reserved(self.first);
         self.order.pop_front();
         self.counts.pop_front();
-        if self.order.len() == 0 {
-            return;
+        if let Some(first) = self.order.front() {
+            self.first = *first;
         }
-        self.first = self.order[0];
     }
 
     /// Takes the first cell out, and its block where this was the only cell of it.

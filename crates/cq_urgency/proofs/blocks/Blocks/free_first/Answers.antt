@@ -1,17 +1,18 @@
-use Rattle.cq_urgency.proofs.Terms.{arith, rules, ◌≡◌, sym, length}
+use Rattle.cq_urgency.proofs.Terms.{arith, common_steps, rules, ◌≡◌, sym, length}
 use Rattle.cq_urgency.proofs.Placed.{kept, freed, none_first}
 use Rattle.cq_urgency.proofs.blocks.Blocks.free_first.Goals as goal
 
 pub invariant_of-self : goal.invariant_of-self
 invariant_of-self c =
     let w = kept c.self.invariant.0 c.self.view_is in
-    let none : length c.pop_front.new.self.items ≡ 0 = omega arith in
-    let k = freed _ c.self.inside.first c.self.inside.first _ _ _ _ w c.requires
-    (rw (sym c.pop_front.ensures.rest) (none_first _ _ none)) in
+    let k = freed _ _ _ _ _ _ _ w c.requires (rw c.pop_front.ensures.rest at c.in-Some.ensures.lookup) in
     search (arith, rules)
 
-pub invariant_of-self-2 : goal.invariant_of-self-2
-invariant_of-self-2 c =
+pub invariant_of-self-in_default : goal.invariant_of-self-in_default
+invariant_of-self-in_default c =
     let w = kept c.self.invariant.0 c.self.view_is in
-    let k = freed _ _ _ _ _ _ _ w c.requires (rw c.pop_front.ensures.rest at c.index.ensures) in
+    let none : length c.pop_front.new.self.items ≡ 0 =
+    grind (arith, common_steps, c.front.ensures.variant, c.in_default.is) in
+    let k = freed _ c.self.inside.first c.self.inside.first _ _ _ _ w c.requires
+    (rw (sym c.pop_front.ensures.rest) (none_first _ _ none)) in
     search (arith, rules)
