@@ -58,12 +58,16 @@ resume_form = two_form (codes "resume") (codes "CONFIG") (codes "STATE")
 abbrev pub with_form : App → App → App
 with_form line form = with_subcommand line form.top
 
+-- the line with the forms of a configuration alone
+abbrev pub config_forms : App → App
+config_forms line =
+    with_form (with_form (with_form (with_form line (config_form (codes "check"))) (config_form (codes "ideal")))
+    (config_form (codes "run"))) (config_form (codes "audit"))
+
 -- the whole line: one subcommand a form
 abbrev pub line : App
 line =
-    with_form (with_form (with_form (with_form (with_form (with_form (with_form (with_form bare_line pass_form)
-    (config_form (codes "check"))) (config_form (codes "ideal"))) (config_form (codes "run"))) soak_form)
-    (config_form (codes "audit"))) part_form) resume_form
+    with_form (with_form (with_form (config_forms (with_form bare_line pass_form)) soak_form) part_form) resume_form
 
 -- the command of `clap` is this form, and no value of it stands for other forms
 abbrev pub IsForm : App → Parser → Type 0

@@ -14,6 +14,7 @@ ghost use Rattle.cq_words.specs.Words.{command_for};
 ghost use Rattle.cq_words.specs.Line.{
   IsForm,
   command_found,
+  config_forms,
   line as whole_line,
   one_form,
   three_form,
@@ -54,13 +55,20 @@ fn line<'a>(alloc: Global) -> Result<Command<'a>, AllocError>
         .disable_help_flag(true)
         .disable_help_subcommand(true);
     let line = with_two(alloc, line, "pass", "IN", "OUT")?;
+    let line = with_config_forms(alloc, line)?;
+    let line = with_three(alloc, line, "soak", "SEED", "PORTS", "SLOTS")?;
+    let line = with_three(alloc, line, "part", "CONFIG", "SLOTS", "STATE")?;
+    with_two(alloc, line, "resume", "CONFIG", "STATE")
+}
+
+// The line with the forms of a configuration alone.
+fn with_config_forms<'a>(alloc: Global, line: Command<'a>) -> Result<Command<'a>, AllocError>
+    ensures { IfOk result (λ r. app_of r ≡ config_forms (app_of line.entry)) }
+{
     let line = with_one(alloc, line, "check", "CONFIG")?;
     let line = with_one(alloc, line, "ideal", "CONFIG")?;
     let line = with_one(alloc, line, "run", "CONFIG")?;
-    let line = with_three(alloc, line, "soak", "SEED", "PORTS", "SLOTS")?;
-    let line = with_one(alloc, line, "audit", "CONFIG")?;
-    let line = with_three(alloc, line, "part", "CONFIG", "SLOTS", "STATE")?;
-    with_two(alloc, line, "resume", "CONFIG", "STATE")
+    with_one(alloc, line, "audit", "CONFIG")
 }
 
 // The line with one more form, of a word and one value.
