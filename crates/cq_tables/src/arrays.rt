@@ -1,5 +1,5 @@
 //! The arrays of a configuration, element by element.
-ghost use Rattle.std.specs.Prelude.{◌≡◌, ◌≤◌, ◌<◌, None, IfOk, IfErr, IfSome, All, map};
+ghost use Rattle.std.specs.Prelude.{◌≡◌, ◌≤◌, ◌<◌, ◌++◌, ◌∷◌, [], None, IfOk, IfErr, IfSome, OnOk, All, map};
 ghost use Rattle.cq_tables.specs.Terms.{level_count, view, Refuses, each, first, class_keys, class_row, element_check, port_keys, port_kind, port_limit, port_row, rule_keys, rule_row, members};
 
 use crate::place::Array;
@@ -121,8 +121,33 @@ pub struct PortEntries {
     pub limits: Vec<Option<u64>>,
 }
 
+impl PortEntries {
+    // No port.
+    fn new(alloc: Global) -> Self
+        ensures files { result.files.items ≡ [] }
+        ensures kinds { result.kinds.items ≡ [] }
+        ensures limits { result.limits.items ≡ [] }
+    {
+        PortEntries {
+            files: Vec::new(alloc),
+            kinds: Vec::new(alloc),
+            limits: Vec::new(alloc),
+        }
+    }
+
+    // Puts a port behind the others.
+    fn push(&mut self, port: PortEntry) -> Result<(), NoMemory>
+        ensures files { OnOk result (self.new.files.items ≡ self.old.files.items ++ port.files ∷ []) }
+        ensures kinds { OnOk result (self.new.kinds.items ≡ self.old.kinds.items ++ port.kind ∷ []) }
+        ensures limits { OnOk result (self.new.limits.items ≡ self.old.limits.items ++ port.limit ∷ []) }
+    {
+        self.files.push(port.files)?;
+        self.kinds.push(port.kind)?;
+        Ok(self.limits.push(port.limit)?)
+    }
+}
+
 /// The ports that the elements tell.
-#[tactic(auto, using(crate::proofs::Walk::walk_holds))]
 pub fn port_rows(alloc: Global, values: &[Value]) -> Result<PortEntries, TableRefusal>
     ensures held { IfOk result (λ _. first (each (element_check Array.Ports (λ _. port_keys)) 0 (map view values.now))
         ≡ None) }
@@ -133,18 +158,10 @@ pub fn port_rows(alloc: Global, values: &[Value]) -> Result<PortEntries, TableRe
     ensures refused { IfErr result (Refuses (first (each (element_check Array.Ports (λ _. port_keys)) 0
         (map view values.now)))) }
 {
-    let mut files = Vec::new(alloc);
-    let mut kinds = Vec::new(alloc);
-    let mut limits = Vec::new(alloc);
-    'ports: for (index, value) in values.iter().enumerate() {
+    let mut ports = PortEntries::new(alloc);
+    'elements: for (index, value) in values.iter().enumerate() {
         let port = port_in(alloc, index, value)?;
-        limits.push(port.limit).map_err(NoMemory::from)?;
-        kinds.push(port.kind).map_err(NoMemory::from)?;
-        files.push(port.files).map_err(NoMemory::from)?;
+        ports.push(port)?;
     }
-    Ok(PortEntries {
-        files,
-        kinds,
-        limits,
-    })
+    Ok(ports)
 }
