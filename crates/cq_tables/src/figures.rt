@@ -13,7 +13,7 @@ use crate::version::Version;
 use cq_base::{Class, Port};
 
 /// The version, and the figures as the fields of these names in the tables.
-#[derive(Clone, Copy, Debug, PartialEq, Eq)]
+#[derive(Clone, Copy)]
 pub struct Figures {
     pub version: Version,
     pub cell_bytes: u32,

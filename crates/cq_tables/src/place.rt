@@ -6,7 +6,7 @@ use cq_base::{Name, NoMemory};
 use std::alloc::Global;
 
 /// The arrays of tables.
-#[derive(Clone, Copy, Debug, PartialEq, Eq)]
+#[derive(Clone, Copy)]
 pub enum Array {
     Classes,
     Ports,
@@ -29,7 +29,7 @@ impl Array {
 }
 
 /// The table in which a key stands: the top one, or an element of an array, by its index.
-#[derive(Clone, Copy, Debug, PartialEq, Eq)]
+#[derive(Clone, Copy)]
 pub enum Place {
     Top,
     Element(Array, usize),

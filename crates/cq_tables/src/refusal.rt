@@ -46,7 +46,7 @@ impl From<NoMemory> for TableRefusal {
 }
 
 /// What is wrong with a document.
-#[derive(Clone, Copy, Debug, PartialEq, Eq)]
+#[derive(Clone, Copy)]
 pub enum Wrong {
     /// The text is no TOML document.
     NotToml = 1,

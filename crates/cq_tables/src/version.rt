@@ -3,7 +3,7 @@ ghost use Rattle.std.specs.Prelude.{◌≡◌};
 ghost use Rattle.cq_tables.specs.Terms.{version_of};
 
 /// What a configuration may say: in version 2 a class may have a level, and in version 1 none has.
-#[derive(Clone, Copy, Debug, PartialEq, Eq)]
+#[derive(Clone, Copy)]
 pub enum Version {
     /// Number 1.
     One,
