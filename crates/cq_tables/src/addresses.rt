@@ -102,7 +102,6 @@ fn address_in(
 }
 
 /// The addresses that the elements tell, among so many ports.
-#[tactic(auto, using(crate::proofs::Walk::walk_holds))]
 pub fn address_rows(
     alloc: Global,
     values: &[Value],

@@ -32,7 +32,6 @@ fn class_in(
 }
 
 /// The classes that the elements tell, in this version.
-#[tactic(auto, using(crate::proofs::Walk::walk_holds))]
 pub fn class_rows(
     alloc: Global,
     values: &[Value],
@@ -76,7 +75,6 @@ fn rule_in(
 }
 
 /// The rules that the elements tell, among so many ports and classes.
-#[tactic(auto, using(crate::proofs::Walk::walk_holds))]
 pub fn rule_rows(
     alloc: Global,
     values: &[Value],

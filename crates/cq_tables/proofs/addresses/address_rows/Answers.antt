@@ -1,5 +1,5 @@
 use Rattle.cq_tables.proofs.Terms.{rules, arith}
-use Rattle.cq_tables.proofs.Walk.{apart_more, apart_none, apart_stop, walked_read}
+use Rattle.cq_tables.proofs.Walk.{apart_more, apart_none, apart_stop, walk_holds, walked_read}
 use Rattle.cq_tables.proofs.addresses.address_rows.Goals as goal
 
 pub addresses-init : goal.addresses-init
@@ -15,5 +15,13 @@ addresses-preserved c =
     apart_more c.addresses.invariant c.index-values-index.result (omega arith) c.index-values-index.is told.held
     told.value told.output told.fresh told.known (search rules)
 
-pub returns-clause-value : goal.returns-clause-value
-returns-clause-value c = walked_read c.addresses.invariant.walked (omega arith)
+pub returns : goal.returns
+returns c =
+    let walked = c.addresses.invariant.walked in
+    record {
+      held = walk_holds _ _ _ walked.checked (omega arith);
+      value = walked_read walked (omega arith);
+      outputs = walked.kept;
+      differ = c.addresses.invariant.differ;
+      refused = tt;
+    }

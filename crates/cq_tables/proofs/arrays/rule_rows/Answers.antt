@@ -1,5 +1,5 @@
 use Rattle.cq_tables.proofs.Terms.{rules, arith}
-use Rattle.cq_tables.proofs.Walk.{walked_more, walked_stop}
+use Rattle.cq_tables.proofs.Walk.{walk_holds, walked_more, walked_read, walked_stop}
 use Rattle.cq_tables.proofs.arrays.rule_rows.Goals as goal
 
 pub returns-in_err-row-clause-refused : goal.returns-in_err-row-clause-refused
@@ -8,3 +8,14 @@ returns-in_err-row-clause-refused c = search (arith, rules, walked_stop c.rules.
 pub rules-preserved : goal.rules-preserved
 rules-preserved c = walked_more c.rules.invariant _ (omega arith) c.index-values-index.is c.in_ok-row.ensures.held
     c.in_ok-row.ensures.value (c.in_ok-row.ensures.input, c.in_ok-row.ensures.class) (search rules)
+
+pub returns : goal.returns
+returns c =
+    let walked = c.rules.invariant in
+    record {
+      held = walk_holds _ _ _ walked.checked (omega arith);
+      value = walked_read walked (omega arith);
+      inputs = λ k row h. (walked.kept k row h).0;
+      classes = λ k row h. (walked.kept k row h).1;
+      refused = tt;
+    }
