@@ -13,6 +13,29 @@ returns-in-None-clause-judges g t c = λ r.
     rw (none, c.of.ensures, c.new.ensures.items) (none_arrive r c.args.tables.now.limit_bytes c.args.input
     (Unread F.space F.may_fail F.unbegun files files) (F.space files) c.requires.closed)
 
+-- ## No writing was begun
+
+pub returns-in-None-clause-kept : goal.returns-in-None-clause-kept
+returns-in-None-clause-kept g t c = g.met.F.Files.lasts_unbegun.none _
+
+pub returns-in_err-capture-in-Some-clause-kept : goal.returns-in_err-capture-in-Some-clause-kept
+returns-in_err-capture-in-Some-clause-kept g t c =
+    g.met.F.Files.lasts_unbegun.both _ _ _ c.begin_port.ensures.kept c.stream_from-later.ensures.kept
+
+pub returns-in_err-captures-in-Some-clause-kept : goal.returns-in_err-captures-in-Some-clause-kept
+returns-in_err-captures-in-Some-clause-kept g t c =
+    g.met.F.Files.lasts_unbegun.both _ _ _ c.begin_port.ensures.kept c.stream_from-later.ensures.kept
+
+pub returns-in_err-in_front-in-Some-clause-kept : goal.returns-in_err-in_front-in-Some-clause-kept
+returns-in_err-in_front-in-Some-clause-kept g t c =
+    g.met.F.Files.lasts_unbegun.both _ _ _ c.begin_port.ensures.kept c.stream_from-later.ensures.kept
+
+pub returns-in_ok-in_front-in-Some-clause-kept : goal.returns-in_ok-in_front-in-Some-clause-kept
+returns-in_ok-in_front-in-Some-clause-kept g t c =
+    g.met.F.Files.lasts_unbegun.both _ _ _ c.begin_port.ensures.kept c.stream_from-later.ensures.kept
+
+-- ## What the readers and the rows before come to
+
 pub finish_port-requires-clause-begun : goal.finish_port-requires-clause-begun
 finish_port-requires-clause-begun g t c = begun_is c.in_ok-begun-in-Some.ensures.begun
 
