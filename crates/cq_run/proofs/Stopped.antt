@@ -1,6 +1,7 @@
 -- What stopping a run and taking one up come to, from what is known of the schedule of the captures: the text of the
 -- state in which the run stands, what the run keeps that goes on, and why there is none.
-use Rattle.cq_run.proofs.Terms.{◌≡◌, ◌≤◌, ℕ, List, length, Departure, Transfer, Captured, classes_of, Tables, openings_of, unpacked_run, PackedFabricRun, RunRefusal, AreGiven, IsPartHalt, IsResumeHalt, IsResumedBy, halt_for_state, halt_for_text, IsPartText, IsResumedText, halt_of, Scheduled, schedule_of, Frozen, IsParted, IsRead, IsRefusal, state_of, IsResumed, Kept, Switch, switch_of, StateRefusal, parted_best, parted_slack, resumed_best, resumed_slack, resumed_counts, resumed_whole, AlwaysHasSlack, AreInputBest, CanBeTakenUp, IsPartFault, IsResumeFault, kept_of, IsTooLong, state_text, StateLong, longest_file}
+use Rattle.cq_run.proofs.Terms.{◌≡◌, ◌≤◌, ℕ, List, length, Departure, Transfer, Captured, classes_of, Tables, openings_of, unpacked_run, PackedFabricRun, RunRefusal, AreGiven, IsPartHalt, IsResumeHalt, IsResumedBy, halt_for_state, halt_for_text, IsPartText, IsResumedText, halt_of, Scheduled, schedule_of, Frozen, IsRead, IsRefusal, state_of, IsResumed, Kept, Switch, switch_of, StateRefusal, parted_best, parted_slack, resumed_best, resumed_slack, resumed_counts, resumed_whole, AlwaysHasSlack, AreInputBest, CanBeTakenUp, IsPartFault, IsResumeFault, kept_of, IsTooLong, state_text, StateLong, longest_file}
+use Rattle.cq_run.specs.Parting.{IsPartedAt}
 use Rattle.cq_resume.specs.declared.refusal.StateRefusal.TheVariants as of_state
 use Rattle.cq_resume.specs.declared.taken.Taken.{Taken}
 use Rattle.cq_simulate.specs.declared.refusal.RunRefusal.TheVariants as of_run
@@ -36,31 +37,30 @@ module _ (t : Tables) (captures : List (List Captured)) (text : List ℕ) (given
     pub goes_slack : AlwaysHasSlack goes.resumed.records
     goes_slack = resumed_slack t captures given.tables given.each goes.from kept (taken_up goes.read) goes.resumed
 
-module _ (t : Tables) (captures : List (List Captured)) where
-  abbrev schedule : Scheduled
-  schedule = schedule_of t captures
-
+-- over the schedule of the captures
+module _ (t : Tables) (captures : List (List Captured)) (schedule : Scheduled)
+    (is : schedule ≡ schedule_of t captures) where
   -- ## Stopping
 
   module _ (slots : ℕ) where
     -- a slot before meets a tag fault, or memory ran out
     pub part_halt : (refusal : RunRefusal) → IsPartFault (switch_of t schedule) (openings_of t.setup) slots refusal →
         IsPartHalt t captures slots (halt_of refusal)
-    part_halt (of_run.Tag fault) h = h
+    part_halt (of_run.Tag fault) h = rw is at h
     part_halt of_run.NoMemory h = tt
 
-    module _ (at : Taken) (parted : IsParted (switch_of t schedule) (openings_of t.setup) slots at) (told : State)
+    module _ (at : Taken) (parted : IsPartedAt t captures slots at) (told : State)
         (tells : told ≡ state_of at.frozen at.sent at.note schedule.t0 (classes_of t.setup)
         (length schedule.came)) where
       -- the text of its state
       pub part_text : (text : List ℕ) → text ≡ state_text told → length text ≤ longest_file →
           IsPartText t captures slots text
-      part_text text e short = record { at = at; parted = parted; told = rw tells at e; short = short }
+      part_text text e short = record { at = at; parted = parted; told = rw (tells, is) at e; short = short }
 
       -- which is too long, or memory ran out
       pub part_long : (refusal : StateLong) → IsTooLong (state_text told) refusal →
           IsPartHalt t captures slots (halt_for_text refusal)
-      part_long of_text.Long h = record { at = at; parted = parted; long = rw tells at h }
+      part_long of_text.Long h = record { at = at; parted = parted; long = rw (tells, is) at h }
       part_long of_text.NoMemory h = tt
 
   -- ## Going on
@@ -69,31 +69,37 @@ module _ (t : Tables) (captures : List (List Captured)) where
     -- the text is none of a sound state, or memory ran out
     pub resume_refused : (refusal : StateRefusal) → IsRefusal (switch_of t schedule) text refusal →
         IsResumeHalt t captures text (halt_for_state refusal)
+    resume_refused (of_state.Text line) h = h
+    resume_refused of_state.Shape h = rw is at h
+    resume_refused (of_state.Unsound clause) h = rw is at h
     resume_refused of_state.NoMemory h = tt
-    resume_refused refusal h = h
 
     module _ (from : Taken) (read : IsRead (switch_of t schedule) text from) where
       -- a slot from there on meets a tag fault, or memory ran out
       pub resume_halt : (refusal : RunRefusal) → IsResumeFault (switch_of t schedule) from refusal →
           IsResumeHalt t captures text (halt_of refusal)
-      resume_halt (of_run.Tag fault) h = record { from = from; read = read; stops = h }
+      resume_halt (of_run.Tag fault) h = record { from = from; read = rw is at read; stops = rw is at h }
       resume_halt of_run.NoMemory h = tt
 
       module _ (run : PackedFabricRun) (resumed : IsResumed (switch_of t schedule) from (kept_of (unpacked_run run)))
           (given : AreGiven t captures) where
+        goes : IsResumed (switch_of t (schedule_of t captures)) from (kept_of (unpacked_run run))
+        goes = rw is at resumed
+
         -- what it keeps is that of the run that goes on, and leaves in whole packets. No output sent more cells than
         -- there were slots
         pub resumed_by : (stamp : ℕ) → stamp ≡ schedule.t0 → IsResumedBy t captures text
             (record { run = run; t0 = stamp })
         resumed_by stamp e =
+            let from_there = rw is at read in
             record {
               given = given;
-              resumed = record { from = from; read = read; resumed = resumed };
+              resumed = record { from = from; read = from_there; resumed = goes };
               sent = record {
                 whole = resumed_whole t captures from (kept_of (unpacked_run run)) given.tables given.each
-                    (taken_up read) resumed;
-                t0 = e;
+                    (taken_up from_there) goes;
+                t0 = rw is at e;
               };
               reportable = resumed_counts t captures from (kept_of (unpacked_run run)) given.tables given.each
-                  (taken_up read) resumed;
+                  (taken_up from_there) goes;
             }

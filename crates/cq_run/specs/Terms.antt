@@ -4,16 +4,19 @@ pub use Rattle.cq_base.specs.Limits.{longest_file, most_ports}
 pub use Rattle.cq_base.specs.Texts.{log_of, trace_of}
 pub use Rattle.cq_space.specs.Failing.{Fails, Reads, FailsTaking, Writes}
 pub use Rattle.cq_space.specs.Space.{Closed}
-pub use Rattle.cq_pcap.specs.Faults.{IsFaulty, fault_of}
-pub use Rattle.cq_pcap.specs.Record.{Spells}
+pub use Rattle.cq_pcap.specs.{Captured.Captured, Faults.IsFaulty, Faults.fault_of, Record.Spells}
 pub use Rattle.cq_stream.specs.Rings.{IsPairOf, SameReader, bytes_to_read, taken}
 pub use Rattle.cq_stream.specs.Stream.{items_of}
+unfoldable pub use Rattle.cq_route.specs.Plain.{plain_tables}
 pub use Rattle.cq_route.specs.Tables.{AreTables, ports_of}
+pub use Rattle.cq_cells.specs.Scheduled.{schedule_of}
 pub use Rattle.cq_report.specs.Report.{report_with}
+pub use Rattle.cq_resume.specs.{Reading.IsRead, Reading.IsRefusal, Switch.IsScheduleOf, Switch.switch_of}
+pub use Rattle.cq_simulate.specs.{PartedRuns.CanBeTakenUp, PartedRuns.taken_at, ScheduleFor.IsScheduleFor}
 pub use Rattle.cq_gen.specs.{Packets.soak_captures, Tables.soak_tables}
 pub use Rattle.cq_words.specs.{Streamed.as_run, Words.command_for}
 pub use Rattle.cq_run.specs.Aim.{Meets, Reporting}
-pub use Rattle.cq_run.specs.{Answers.Answers, Judged.IsJudged, Parting.IsPartText, Plan.Plan, Reader.Reader, RunsAudited.RunsAreAudited, StatusCauses.StatusCauses}
+pub use Rattle.cq_run.specs.{Answers.Answers, Judged.IsJudged, Parting.IsPartText, Parting.IsPartedAt, Plan.Plan, Reader.Reader, RunsAudited.RunsAreAudited, StatusCauses.StatusCauses}
 pub use Rattle.cq_run.specs.AuditEnds.{IsAuditHalted, IsAuditPassed}
 pub use Rattle.cq_run.specs.Decoding.{HasBegun, IsBegun, source}
 pub use Rattle.cq_run.specs.Ending.{halt_status, stop_status, EndsIn, WhereHalted, status_of}

@@ -3,13 +3,12 @@ ghost use Rattle.std.specs.Prelude.{◌≡◌, ◌∷◌, ◌++◌, ◌≤◌, [
 ghost use Rattle.cq_run.specs.Terms.{AreTables, ports_of, audited, capture_out, captures_out, check_line, checked, counted, state_written, switched, yes_line, report_with, log_of, trace_of, IsSent, IsSwitched, sent_by};
 
 use crate::plan::{Work, Write};
-use crate::reading::Given;
 use crate::switching::{Crossed, Switched};
-use cq_base::{Figures, MOST_DIGITS, Name, NoMemory, Sequence, Supply, digits};
+use cq_base::{Figures, MOST_DIGITS, Name, NoMemory, Room, Sequence, Supply, Transfer, digits};
 use cq_pcap::Capture;
 use cq_report::{log_text_of_room, report_text, trace_text_of_packed};
 use cq_route::Tables;
-use cq_simulate::{Refused, packets_of_all};
+use cq_simulate::{PackedFabricRun, Refused, packets_of_all};
 use std::alloc::Global;
 
 /// The line that says what is in a configuration.
@@ -109,35 +108,23 @@ fn build_first(
 }
 
 /// What leaves each output of a switch, and the trace of its run.
-pub fn build_switched(alloc: Global, given: Given, run: Switched) -> Result<Work, NoMemory>
-    requires tables { AreTables given.tables }
-    requires captures { length given.captures ≡ ports_of given.tables.setup }
-    requires run { IsSwitched given.tables given.captures run }
-    ensures { IfOk result (λ plan. plan ≡ switched given.tables given.captures run.sent.items) }
+pub fn build_switched(
+    alloc: Global,
+    tables: &Tables,
+    captures: Sequence<Capture>,
+    run: Switched,
+) -> Result<Work, NoMemory>
+    requires tables { AreTables tables.now }
+    requires captures { length captures ≡ ports_of tables.now.setup }
+    requires run { IsSwitched tables.now captures run }
+    ensures { IfOk result (λ plan. plan ≡ switched tables.now captures run.sent.items) }
 {
-    let Given { tables, captures } = given;
-    let writes = build_traced(alloc, &tables, captures, run)?;
+    let writes = build_traced(alloc, tables, captures, run)?;
     Ok(Work::of(writes, Vec::new(alloc)))
 }
 
 /// What leaves each output of the crossbar switch, the trace and the log of its run, and its report.
-pub fn build_crossed(alloc: Global, given: Given, crossed: Crossed) -> Result<Work, NoMemory>
-    requires tables { AreTables given.tables }
-    requires captures { length given.captures ≡ ports_of given.tables.setup }
-    requires run { IsSent given.tables given.captures (sent_by crossed) }
-    requires reportable { All (λ x. x.cells ≤ crossed.run.figures.slots) crossed.run.figures.outputs }
-    ensures writes { IfOk result (λ plan. plan.writes
-        ≡ captures_out given.tables given.captures crossed.run.sent.items 0 given.tables.ports
-        ++ (given.tables.trace, trace_of crossed.run.sent.items) ∷ (given.tables.log, log_of crossed.run.note.items)
-        ∷ []) }
-    ensures text { IfOk result (λ plan. plan.text ≡ report_with crossed.run.figures crossed.run.refused.items) }
-{
-    let Given { tables, captures } = given;
-    build_logged(alloc, &tables, captures, crossed)
-}
-
-// The same, of tables that are lent. The log comes first, since it uses up the transfers.
-fn build_logged(
+pub fn build_crossed(
     alloc: Global,
     tables: &Tables,
     captures: Sequence<Capture>,
@@ -154,11 +141,39 @@ fn build_logged(
     ensures text { IfOk result (λ plan. plan.text ≡ report_with crossed.run.figures crossed.run.refused.items) }
 {
     let Crossed { run, t0 } = crossed;
-    let log = log_text_of_room(alloc, run.note)?;
-    let switched = Switched { sent: run.sent, t0 };
-    let mut writes = build_traced(alloc, tables, captures, switched)?;
+    let PackedFabricRun {
+        sent,
+        note,
+        figures,
+        refused,
+    } = run;
+    let switched = Switched { sent, t0 };
+    build_logged(alloc, tables, captures, switched, note, &figures, &refused)
+}
+
+// The same, of the parts of what the switch did. The log comes first, since it uses up the transfers.
+fn build_logged(
+    alloc: Global,
+    tables: &Tables,
+    captures: Sequence<Capture>,
+    run: Switched,
+    note: Room<Transfer>,
+    figures: &Figures,
+    refused: &[Refused],
+) -> Result<Work, NoMemory>
+    requires tables { AreTables tables.now }
+    requires captures { length captures ≡ ports_of tables.now.setup }
+    requires run { IsSent tables.now captures run }
+    requires reportable { All (λ x. x.cells ≤ figures.now.slots) figures.now.outputs }
+    ensures writes { IfOk result (λ plan. plan.writes
+        ≡ captures_out tables.now captures run.sent.items 0 tables.now.ports
+        ++ (tables.now.trace, trace_of run.sent.items) ∷ (tables.now.log, log_of note.items) ∷ []) }
+    ensures text { IfOk result (λ plan. plan.text ≡ report_with figures.now refused.now) }
+{
+    let log = log_text_of_room(alloc, note)?;
+    let mut writes = build_traced(alloc, tables, captures, run)?;
     put_write(alloc, &mut writes, &tables.log, log)?;
-    Ok(Work::of(writes, report_text(alloc, &run.figures, &run.refused)?))
+    Ok(Work::of(writes, report_text(alloc, figures, refused)?))
 }
 
 /// The text of a stopped run, under this name, and nothing else.

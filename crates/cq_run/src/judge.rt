@@ -1,7 +1,7 @@
 //! Judging what the words name. Nothing is written here.
-ghost use Rattle.std.specs.Prelude.{◌≡◌, ℕ, ◌<◌, ◌^◌, List, ◌∷◌, [], IfErr, IfOk, IsOk, length};
+ghost use Rattle.std.specs.Prelude.{◌≡◌, ℕ, ◌<◌, ◌^◌, List, ◌∷◌, [], IfErr, IfOk, IsOk, Ok, length};
 ghost use Rattle.std.specs.Int.{IsInRange};
-ghost use Rattle.cq_run.specs.Terms.{Closed, AreGiven, AreTables, ports_of, audited, state_written, IsAuditHalted, IsAuditPassed, IsPartHalt, IsPartText, soak_captures, soak_tables, Meets, Reporting, IsJudged, IsHaltOf, Ahead, InTurn, IsResumeHalt, IsResuming, IsWithinRange, IsCrossing, IsIdeal, IsPassing, ideally_sent, most_ports};
+ghost use Rattle.cq_run.specs.Terms.{Closed, Fails, Reads, Judges, tables_in, checked, AreGiven, AreTables, ports_of, audited, state_written, IsAuditHalted, IsAuditPassed, IsPartHalt, IsPartText, soak_captures, soak_tables, plain_tables, Meets, Reporting, IsJudged, IsHaltOf, Ahead, InTurn, IsGiven, IsResumeHalt, IsResuming, IsWithinRange, IsCrossing, IsIdeal, IsPassing, ideally_sent, most_ports};
 
 use crate::ahead::stream_from;
 use crate::build::{
@@ -43,14 +43,8 @@ pub fn judge<R: Threads + Sync, F: Files, G: Gate>(
     match command {
         Command::Pass { from, to } => pass(rt, alloc, files, from, to, gate),
         Command::Check { config } => check(alloc, files, config),
-        Command::Ideal { config } => {
-            let given = read_given(alloc, files, config)?;
-            ideal(rt, alloc, given)
-        }
-        Command::Run { config } => {
-            let given = read_given(alloc, files, config)?;
-            cross(rt, alloc, given, gate)
-        }
+        Command::Ideal { config } => ideal(rt, alloc, files, config),
+        Command::Run { config } => run(rt, alloc, files, config, gate),
         Command::Soak { seed, ports, slots } => soak(rt, alloc, seed, ports, slots, gate),
         Command::Audit { config } => audit(rt, alloc, files, config),
         Command::Part {
@@ -58,15 +52,10 @@ pub fn judge<R: Threads + Sync, F: Files, G: Gate>(
             slots,
             state,
         } => part(rt, alloc, files, config, slots, state, gate),
-        Command::Resume { config, state } => {
-            let given = read_given(alloc, files, config)?;
-            let text = read_stopped(alloc, files, state)?;
-            resume(rt, alloc, given, text, gate)
-        }
+        Command::Resume { config, state } => resume(rt, alloc, files, config, state, gate),
     }
 }
 
-#[tactic(auto, unfolding(cq_route::specs::Plain::plain_tables))]
 fn pass<R: Threads + Sync, F: Files, G: Gate>(
     rt: &R,
     alloc: Global,
@@ -79,8 +68,27 @@ fn pass<R: Threads + Sync, F: Files, G: Gate>(
     ensures { IsJudged F.space F.may_fail F.unbegun InTurn (Command.Pass from to) files.old files.new result }
 {
     let tables = Tables::plain(alloc, from.text(), to.text())?;
+    pass_over(rt, alloc, files, &tables, from, to, gate)
+}
+
+// The same, over the tables of a plain switch between these names.
+#[tactic(auto, unfolding(cq_route::specs::Plain::plain_tables))]
+fn pass_over<R: Threads + Sync, F: Files, G: Gate>(
+    rt: &R,
+    alloc: Global,
+    files: &mut F,
+    tables: &Tables,
+    from: Name,
+    to: Name,
+    gate: &G,
+) -> Result<Work, Halt>
+    requires closed { (F.space files.old).mode ≡ Closed }
+    requires plain { tables.now ≡ plain_tables from to }
+    requires tables { AreTables tables.now }
+    ensures { IsJudged F.space F.may_fail F.unbegun InTurn (Command.Pass from to) files.old files.new result }
+{
     let capture = read_input(alloc, files, from, 0, tables.limit_bytes)?;
-    pass_on(rt, alloc, &tables, capture, to, gate)
+    pass_on(rt, alloc, tables, capture, to, gate)
 }
 
 // What the crossbar switch of one port makes of this capture, with all its bytes.
@@ -109,18 +117,61 @@ fn check<F: Files>(alloc: Global, files: &mut F, config: Name) -> Result<Work, H
     ensures { IsJudged F.space F.may_fail F.unbegun InTurn (Command.Check config) files.old files.new result }
 {
     let tables = read_configuration(alloc, files, config)?;
-    Ok(build_check(alloc, &tables)?)
+    count(alloc, &tables)
 }
 
-// What the ideal switch makes of these captures, one for each port, with all its bytes.
-fn ideal<R: Threads + Sync>(rt: &R, alloc: Global, given: Given) -> Result<Work, Halt>
-    requires tables { AreTables given.tables }
-    requires captures { length given.captures ≡ ports_of given.tables.setup }
-    ensures ideal { IfOk result (IsIdeal given.tables given.captures) }
-    ensures refused { IfErr result (IsHaltOf (ideally_sent given.tables given.captures)) }
+// The line that says what is in these tables.
+fn count(alloc: Global, tables: &Tables) -> Result<Work, Halt>
+    ensures checked { IfOk result (λ plan. plan ≡ checked tables.now) }
+    ensures memory { IfErr result (λ halt. halt ≡ Halt.NoMemory) }
 {
-    let switched = switch_ideally(rt, alloc, &given.tables, given.captures.as_slice())?;
-    Ok(build_switched(alloc, given, switched)?)
+    Ok(build_check(alloc, tables)?)
+}
+
+fn ideal<R: Threads + Sync, F: Files>(
+    rt: &R,
+    alloc: Global,
+    files: &mut F,
+    config: Name,
+) -> Result<Work, Halt>
+    requires { (F.space files.old).mode ≡ Closed }
+    ensures { IsJudged F.space F.may_fail F.unbegun InTurn (Command.Ideal config) files.old files.new result }
+{
+    let given = read_given(alloc, files, config)?;
+    let Given { tables, captures } = given;
+    send_ideally(rt, alloc, &tables, captures)
+}
+
+// What the ideal switch makes of these captures, one for each port, with all its bytes. The captures are given up on
+// the way.
+fn send_ideally<R: Threads + Sync>(
+    rt: &R,
+    alloc: Global,
+    tables: &Tables,
+    captures: Sequence<Capture>,
+) -> Result<Work, Halt>
+    requires tables { AreTables tables.now }
+    requires captures { length captures ≡ ports_of tables.now.setup }
+    ensures ideal { IfOk result (IsIdeal tables.now captures) }
+    ensures refused { IfErr result (IsHaltOf (ideally_sent tables.now captures)) }
+{
+    let switched = switch_ideally(rt, alloc, tables, captures.as_slice())?;
+    Ok(build_switched(alloc, tables, captures, switched)?)
+}
+
+fn run<R: Threads + Sync, F: Files, G: Gate>(
+    rt: &R,
+    alloc: Global,
+    files: &mut F,
+    config: Name,
+    gate: &G,
+) -> Result<Work, Halt>
+    requires { (F.space files.old).mode ≡ Closed }
+    ensures { IsJudged F.space F.may_fail F.unbegun InTurn (Command.Run config) files.old files.new result }
+{
+    let given = read_given(alloc, files, config)?;
+    let Given { tables, captures } = given;
+    cross(rt, alloc, &tables, captures, gate)
 }
 
 /// What `run` comes to for a configuration, where captures are decoded by readers ahead of judging. The watch is told
@@ -139,9 +190,31 @@ where
     ensures { IsJudged F.space F.may_fail F.unbegun Ahead (Command.Run config) files.old files.new result }
 {
     let tables = read_configuration(alloc, files, config)?;
+    cross_ahead(rt, alloc, files, &tables, gate, watch)
+}
+
+// The same, over the tables of the configuration: the captures of their ports are read next.
+fn cross_ahead<R, F: Files, G: Gate, W: Watch + 'static>(
+    rt: R,
+    alloc: Global,
+    files: &mut F,
+    tables: &Tables,
+    gate: &G,
+    watch: &W,
+) -> Result<Work, Halt>
+where
+    R: Threads + Wait + Sync + Copy + Send + 'static,
+    requires closed { (F.space files.old).mode ≡ Closed }
+    requires tables { AreTables tables.now }
+    ensures { (config : List ℕ) (start : F) → F.unbegun start files.old →
+        Judges InTurn (tables_in config)
+        (λ asked. (asked ≡ config) × Fails F.space F.may_fail F.unbegun (Reads asked) start files.old)
+        (F.space start) (F.space files.old) (Ok tables.now) →
+        IsJudged F.space F.may_fail F.unbegun Ahead (Command.Run config) start files.new result }
+{
     let rows = tables.ports.as_slice();
-    let captures = stream_from(rt, alloc, files, &tables, rows, 0, watch)?;
-    cross(&rt, alloc, Given { tables, captures }, gate)
+    let captures = stream_from(rt, alloc, files, tables, rows, 0, watch)?;
+    cross(&rt, alloc, tables, captures, gate)
 }
 
 // What the crossbar switch makes of these captures, one for each port, with all its bytes. The captures are given up
@@ -149,16 +222,17 @@ where
 fn cross<R: Threads + Sync, G: Gate>(
     rt: &R,
     alloc: Global,
-    given: Given,
+    tables: &Tables,
+    captures: Sequence<Capture>,
     gate: &G,
 ) -> Result<Work, Halt>
-    requires tables { AreTables given.tables }
-    requires captures { length given.captures ≡ ports_of given.tables.setup }
-    ensures crossing { IfOk result (IsCrossing given.tables given.captures) }
-    ensures refused { IfErr result (IsHaltOf (ideally_sent given.tables given.captures)) }
+    requires tables { AreTables tables.now }
+    requires captures { length captures ≡ ports_of tables.now.setup }
+    ensures crossing { IfOk result (IsCrossing tables.now captures) }
+    ensures refused { IfErr result (IsHaltOf (ideally_sent tables.now captures)) }
 {
-    let crossed = switch_by_crossbar(rt, alloc, &given.tables, given.captures.as_slice(), gate)?;
-    Ok(build_crossed(alloc, given, crossed)?)
+    let crossed = switch_by_crossbar(rt, alloc, tables, captures.as_slice(), gate)?;
+    Ok(build_crossed(alloc, tables, captures, crossed)?)
 }
 
 fn soak<R: Threads + Sync, G: Gate>(
@@ -209,9 +283,25 @@ fn audit<R: Threads + Sync, F: Files>(
     ensures { IsJudged F.space F.may_fail F.unbegun InTurn (Command.Audit config) files.old files.new result }
 {
     let given = read_given(alloc, files, config)?;
+    audit_given(rt, alloc, files, &given)
+}
+
+// The same, of what the configuration gave: its trace and its log are read next.
+fn audit_given<R: Threads + Sync, F: Files>(
+    rt: &R,
+    alloc: Global,
+    files: &mut F,
+    given: &Given,
+) -> Result<Work, Halt>
+    requires closed { (F.space files.old).mode ≡ Closed }
+    requires tables { AreTables given.now.tables }
+    requires captures { length given.now.captures ≡ ports_of given.now.tables.setup }
+    ensures { (config : List ℕ) (start : F) → IsGiven F.space F.unbegun config start files.old given.now →
+        IsJudged F.space F.may_fail F.unbegun InTurn (Command.Audit config) start files.new result }
+{
     let trace = read_text(alloc, files, &given.tables.trace, Denial::LongTrace)?;
     let log = read_text(alloc, files, &given.tables.log, Denial::LongLog)?;
-    answer(rt, alloc, &given, trace.as_slice(), log.as_slice())
+    answer(rt, alloc, given, trace.as_slice(), log.as_slice())
 }
 
 // The answer of an audit of these texts, a trace and a log.
@@ -286,26 +376,58 @@ fn stop_at<R: Threads + Sync, G: Gate>(
     Ok(build_state(alloc, state, text)?)
 }
 
-// What the crossbar switch makes of these captures, one for each port, where it goes on from the state of this text.
-fn resume<R: Threads + Sync, G: Gate>(
+fn resume<R: Threads + Sync, F: Files, G: Gate>(
     rt: &R,
     alloc: Global,
-    given: Given,
+    files: &mut F,
+    config: Name,
+    state: Name,
+    gate: &G,
+) -> Result<Work, Halt>
+    requires { (F.space files.old).mode ≡ Closed }
+    ensures { IsJudged F.space F.may_fail F.unbegun InTurn (Command.Resume config state) files.old files.new result }
+{
+    let given = read_given(alloc, files, config)?;
+    let Given { tables, captures } = given;
+    resume_given(rt, alloc, files, &tables, captures, state, gate)
+}
+
+// The same, of what the configuration gave: the text of the state is read next.
+fn resume_given<R: Threads + Sync, F: Files, G: Gate>(
+    rt: &R,
+    alloc: Global,
+    files: &mut F,
+    tables: &Tables,
+    captures: Sequence<Capture>,
+    state: Name,
+    gate: &G,
+) -> Result<Work, Halt>
+    requires closed { (F.space files.old).mode ≡ Closed }
+    requires tables { AreTables tables.now }
+    requires captures { length captures ≡ ports_of tables.now.setup }
+    ensures { (config : List ℕ) (start : F) →
+        IsGiven F.space F.unbegun config start files.old (record { tables = tables.now; captures = captures }) →
+        IsJudged F.space F.may_fail F.unbegun InTurn (Command.Resume config state) start files.new result }
+{
+    let text = read_stopped(alloc, files, state)?;
+    go_on(rt, alloc, tables, captures, text, gate)
+}
+
+// What the crossbar switch makes of these captures, one for each port, where it goes on from the state of this text.
+// The captures are given up on the way, and the text once it is read.
+fn go_on<R: Threads + Sync, G: Gate>(
+    rt: &R,
+    alloc: Global,
+    tables: &Tables,
+    captures: Sequence<Capture>,
     text: Sequence<u8>,
     gate: &G,
 ) -> Result<Work, Halt>
-    requires tables { AreTables given.tables }
-    requires captures { length given.captures ≡ ports_of given.tables.setup }
-    ensures resuming { IfOk result (IsResuming given.tables given.captures text) }
-    ensures refused { IfErr result (IsResumeHalt given.tables given.captures text) }
+    requires tables { AreTables tables.now }
+    requires captures { length captures ≡ ports_of tables.now.setup }
+    ensures resuming { IfOk result (IsResuming tables.now captures text) }
+    ensures refused { IfErr result (IsResumeHalt tables.now captures text) }
 {
-    let crossed = resume_by_crossbar(
-        rt,
-        alloc,
-        &given.tables,
-        given.captures.as_slice(),
-        text.as_slice(),
-        gate,
-    )?;
-    Ok(build_crossed(alloc, given, crossed)?)
+    let crossed = resume_by_crossbar(rt, alloc, tables, captures.as_slice(), text, gate)?;
+    Ok(build_crossed(alloc, tables, captures, crossed)?)
 }

@@ -1,15 +1,16 @@
 //! Stopping a run over the captures that were read, and taking one up.
-ghost use Rattle.std.specs.Prelude.{◌≡◌, ◌<◌, ◌^◌, IfErr, IfOk, OnOk, length};
-ghost use Rattle.cq_run.specs.Terms.{AreTables, ports_of, AreGiven, IsPartHalt, IsResumeHalt, IsResumedBy, IsPartText, halt_for_state, halt_for_text};
+ghost use Rattle.std.specs.Prelude.{◌≡◌, ◌<◌, ◌^◌, ℕ, List, IfErr, IfOk, OnOk, length};
+ghost use Rattle.cq_run.specs.Terms.{AreTables, Captured, ports_of, AreGiven, IsPartHalt, IsRead, IsRefusal, IsResumeHalt, IsResumedBy, IsPartText, IsPartedAt, IsScheduleFor, IsScheduleOf, CanBeTakenUp, halt_for_state, halt_for_text, schedule_of, switch_of, taken_at};
 
 use crate::switching::Crossed;
 use crate::{Halt, Refusal, StateFault};
+use cq_base::Sequence;
 use cq_cells::Schedule;
 use cq_crew::Gate;
 use cq_pcap::Capture;
-use cq_resume::{StateLong, StateRefusal, read_state, state_bytes};
+use cq_resume::{StateLong, StateRefusal, Taken, read_state, state_bytes};
 use cq_route::Tables;
-use cq_simulate::{part_fabric, resume_fabric};
+use cq_simulate::{Parted, part_fabric, resume_fabric};
 use std::alloc::Global;
 use std::thread::Threads;
 
@@ -32,7 +33,47 @@ pub fn part_by_crossbar<R: Threads + Sync, G: Gate>(
     ensures refused { IfErr result (IsPartHalt tables.now captures.now slots) }
 {
     let schedule = Schedule::of(rt, alloc, captures, tables)?;
-    let parted = part_fabric(rt, alloc, tables, &schedule, slots, gate)?;
+    part_by_schedule(rt, alloc, tables, &schedule, slots, gate)
+}
+
+// The same, of the schedule of these captures.
+fn part_by_schedule<R: Threads + Sync, G: Gate>(
+    rt: &R,
+    alloc: Global,
+    tables: &Tables,
+    schedule: &Schedule,
+    slots: u64,
+    gate: &G,
+) -> Result<Vec<u8>, Halt>
+    requires fit { IsScheduleFor tables.now schedule.now }
+    requires slots { slots < 2 ^ 63 }
+    ensures text { (captures : List (List Captured)) → schedule.now ≡ schedule_of tables.now captures →
+        IfOk result (λ text. IsPartText tables.now captures slots text.items) }
+    ensures refused { (captures : List (List Captured)) → schedule.now ≡ schedule_of tables.now captures →
+        IfErr result (IsPartHalt tables.now captures slots) }
+{
+    let parted = part_fabric(rt, alloc, tables, schedule, slots, gate)?;
+    text_of_parted(alloc, tables, schedule, &parted)
+}
+
+// The text of the state of a run that stopped, over the schedule of these captures.
+fn text_of_parted(
+    alloc: Global,
+    tables: &Tables,
+    schedule: &Schedule,
+    parted: &Parted,
+) -> Result<Vec<u8>, Halt>
+    requires tables { AreTables tables.now }
+    requires ports { length parted.now.frozen.lists ≡ ports_of tables.now.setup }
+    ensures text { (captures : List (List Captured)) (slots : ℕ) →
+        schedule.now ≡ schedule_of tables.now captures →
+        IsPartedAt tables.now captures slots (taken_at parted.now) →
+        IfOk result (λ text. IsPartText tables.now captures slots text.items) }
+    ensures refused { (captures : List (List Captured)) (slots : ℕ) →
+        schedule.now ≡ schedule_of tables.now captures →
+        IsPartedAt tables.now captures slots (taken_at parted.now) →
+        IfErr result (IsPartHalt tables.now captures slots) }
+{
     let classes = tables.setup.classes.as_slice().len() as u16;
     Ok(state_bytes(
         alloc,
@@ -52,21 +93,78 @@ pub fn resume_by_crossbar<R: Threads + Sync, G: Gate>(
     alloc: Global,
     tables: &Tables,
     captures: &[Capture],
-    text: &[u8],
+    text: Sequence<u8>,
     gate: &G,
 ) -> Result<Crossed, Halt>
     requires tables { AreTables tables.now }
     requires captures { length captures.now ≡ ports_of tables.now.setup }
-    ensures resumed { IfOk result (IsResumedBy tables.now captures.now text.now) }
-    ensures refused { IfErr result (IsResumeHalt tables.now captures.now text.now) }
+    ensures resumed { IfOk result (IsResumedBy tables.now captures.now text) }
+    ensures refused { IfErr result (IsResumeHalt tables.now captures.now text) }
 {
     let schedule = Schedule::of(rt, alloc, captures, tables)?;
-    let taken = read_state(alloc, text, tables, &schedule)?;
-    let resumed = resume_fabric(rt, alloc, tables, &schedule, &taken, gate)?;
+    resume_by_schedule(rt, alloc, tables, &schedule, text, gate)
+}
+
+// The same, over the schedule of these captures.
+fn resume_by_schedule<R: Threads + Sync, G: Gate>(
+    rt: &R,
+    alloc: Global,
+    tables: &Tables,
+    schedule: &Schedule,
+    text: Sequence<u8>,
+    gate: &G,
+) -> Result<Crossed, Halt>
+    requires fit { IsScheduleFor tables.now schedule.now }
+    requires made { IsScheduleOf tables.now schedule.now }
+    ensures resumed { (captures : List (List Captured)) → schedule.now ≡ schedule_of tables.now captures →
+        AreGiven tables.now captures → IfOk result (IsResumedBy tables.now captures text) }
+    ensures refused { (captures : List (List Captured)) → schedule.now ≡ schedule_of tables.now captures →
+        IfErr result (IsResumeHalt tables.now captures text) }
+{
+    let taken = read_out(alloc, text, tables, schedule)?;
+    run_from(rt, alloc, tables, schedule, &taken, gate)
+}
+
+// What the crossbar switch does over this schedule from this state on.
+fn run_from<R: Threads + Sync, G: Gate>(
+    rt: &R,
+    alloc: Global,
+    tables: &Tables,
+    schedule: &Schedule,
+    taken: &Taken,
+    gate: &G,
+) -> Result<Crossed, Halt>
+    requires fit { IsScheduleFor tables.now schedule.now }
+    requires sound { CanBeTakenUp (switch_of tables.now schedule.now) taken.now }
+    ensures resumed { (captures : List (List Captured)) (text : List ℕ) →
+        schedule.now ≡ schedule_of tables.now captures → AreGiven tables.now captures →
+        IsRead (switch_of tables.now schedule.now) text taken.now →
+        IfOk result (IsResumedBy tables.now captures text) }
+    ensures refused { (captures : List (List Captured)) (text : List ℕ) →
+        schedule.now ≡ schedule_of tables.now captures →
+        IsRead (switch_of tables.now schedule.now) text taken.now →
+        IfErr result (IsResumeHalt tables.now captures text) }
+{
+    let run = resume_fabric(rt, alloc, tables, schedule, taken, gate)?;
     Ok(Crossed {
-        run: resumed,
+        run,
         t0: schedule.t0(),
     })
+}
+
+// The stopped run that this text tells. The text is given up, since the run that goes on from there needs it no more.
+fn read_out(
+    alloc: Global,
+    text: Sequence<u8>,
+    tables: &Tables,
+    schedule: &Schedule,
+) -> Result<Taken, StateRefusal>
+    requires tables { AreTables tables.now }
+    requires schedule { IsScheduleOf tables.now schedule.now }
+    ensures read { IfOk result (IsRead (switch_of tables.now schedule.now) text) }
+    ensures cause { IfErr result (IsRefusal (switch_of tables.now schedule.now) text) }
+{
+    read_state(alloc, text.as_slice(), tables, schedule)
 }
 
 impl From<StateLong> for Halt {

@@ -6,5 +6,5 @@ pub build_traced-requires-clause-run : goal.build_traced-requires-clause-run
 build_traced-requires-clause-run c = search (arith, rules, switched_whole)
 
 pub returns : goal.returns
-returns c = switched_is c.args.given.tables c.args.given.captures c.args.run.sent.items c.of.result
+returns c = switched_is c.args.tables.now c.args.captures c.args.run.sent.items c.of.result
     c.in_ok-writes.writes.items c.in_ok-writes.ensures c.of.ensures.writes (c.of.ensures.text ∙ c.new.ensures.items)

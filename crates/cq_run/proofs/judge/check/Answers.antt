@@ -1,4 +1,4 @@
-use Rattle.cq_run.proofs.Terms.{◌≡◌, ℕ, List, refl, Result, Ok, Tables, Lasts, Closed, Contents, Space, Check, Aim, Exactly, Judges, InTurn, checked, Reader, ◌>>=◌, tables_in, Refusal}
+use Rattle.cq_run.proofs.Terms.{◌≡◌, ℕ, List, refl, Result, Ok, Tables, Lasts, Closed, Contents, Space, Check, Aim, Exactly, Judges, InTurn, checked, Reader, ◌>>=◌, tables_in, Refusal, Call, Err, Halt, IfErr, IfOk, IsJudged, NoMemory, Plan}
 use Rattle.cq_run.proofs.Reached.{Reached, begun, no_memory, read_ends, read_on, settled}
 use Rattle.cq_run.proofs.Stays.{tables_stay}
 use Rattle.cq_run.proofs.Told.{told_any, exit_is}
@@ -18,18 +18,22 @@ module _ {S : Type 0} {space : S → Space} {keeps : S → S → Type 0} {config
       Reached space keeps (Check config) old new (λ r m. Ok (Exactly (checked tables)))
   at_plan kept h = read_on aim_of lasts at_tables kept (λ r. tables_stay config) (λ r. h)
 
+  -- the line of the tables, or no memory for it
+  at_line : {may_fail : Call → S → S → Type 0} {new : S} (kept : keeps old new) {Q : List ℕ → Type 0} {tables : Tables}
+      (h : Judges InTurn (tables_in config) Q (space old) (space new) (Ok tables)) (result : Result Plan Halt) →
+      IfOk result (λ plan. plan ≡ checked tables) → IfErr result (λ halt. halt ≡ NoMemory) →
+      IsJudged space may_fail keeps InTurn (Check config) old new result
+  at_line kept {tables = tables} h (Ok plan) line memory =
+      let is : plan ≡ checked tables = line in
+      settled (at_plan kept h) (Ok plan) (Exactly (checked tables), refl, is) (rw is tt)
+      (λ r. told_any (space old).told _ (λ m. tt))
+  at_line kept h (Err halt) line memory = let is : halt ≡ NoMemory = memory in rw is (no_memory (at_plan kept h))
+
 pub returns-in_err-tables : goal.returns-in_err-tables
 returns-in_err-tables g c = rw (exit_is _ c.from_residual.ensures.1) (read_ends _ g.met.F.Files.lasts_unbegun
     (at_tables g.met.F.Files.lasts_unbegun c.requires) c.read_configuration.ensures.kept
     (λ r. c.in_err-tables.ensures.judges) (λ name u. u))
 
-pub returns-in_err-build_check : goal.returns-in_err-build_check
-returns-in_err-build_check g c = rw (exit_is _ c.from_residual-in_err-build_check.ensures.1) (no_memory
-    (at_plan g.met.F.Files.lasts_unbegun c.requires c.read_configuration.ensures.kept c.in_ok-tables.ensures.judges))
-
 pub returns : goal.returns
-returns g c =
-    settled (at_plan g.met.F.Files.lasts_unbegun c.requires c.read_configuration.ensures.kept
-    c.in_ok-tables.ensures.judges) _
-    (Exactly (checked c.in_ok-tables.tables), refl, c.in_ok-build_check.ensures)
-    (rw c.in_ok-build_check.ensures tt) (λ r. told_any (g.F.Files.space c.args.files.now).told _ (λ m. tt))
+returns g c = at_line g.met.F.Files.lasts_unbegun c.requires c.read_configuration.ensures.kept
+    c.in_ok-tables.ensures.judges c.count.result c.count.ensures.checked c.count.ensures.memory

@@ -8,7 +8,7 @@ switch_by_crossbar-requires-clause-captures g c κs within = search (arith, rule
 
 pub build_crossed-requires-clause-run : goal.build_crossed-requires-clause-run
 build_crossed-requires-clause-run g c =
-    switched_whole c.args.given.tables c.args.given.captures (sent_by c.in_ok-crossed.crossed) c.requires.tables
+    switched_whole c.args.tables.now c.args.captures (sent_by c.in_ok-crossed.crossed) c.requires.tables
     c.requires.captures (rw c.as_slice.ensures at c.in_ok-crossed.ensures.crossed.switched)
 
 pub returns-clause-crossing : goal.returns-clause-crossing

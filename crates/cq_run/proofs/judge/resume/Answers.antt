@@ -1,17 +1,12 @@
-use Rattle.cq_run.proofs.Terms.{arith, rules}
+use Rattle.cq_run.proofs.Terms.{refl}
+use Rattle.cq_run.proofs.Planned.{resume_rest}
 use Rattle.cq_run.proofs.Told.{exit_is}
-use Rattle.cq_run.proofs.Planned.{resuming_is}
+use Rattle.cq_run.proofs.Reached.{given_ends}
 use Rattle.cq_run.proofs.judge.resume.Goals as goal
 
-pub build_crossed-requires-clause-run : goal.build_crossed-requires-clause-run
-build_crossed-requires-clause-run g c = search (arith, rules)
+pub returns-in_err-given : goal.returns-in_err-given
+returns-in_err-given g c = rw (exit_is _ c.from_residual.ensures.1)
+    (given_ends (λ s. refl) (resume_rest _) (λ r. refl) (λ name. tt) c.in_err-given.ensures.ends)
 
-pub returns-in_err-crossed-clause-refused : goal.returns-in_err-crossed-clause-refused
-returns-in_err-crossed-clause-refused g c = search (arith, rules, exit_is)
-
-pub returns-clause-resuming : goal.returns-clause-resuming
-returns-clause-resuming g c =
-    let resumed = rw (c.as_slice.ensures, c.as_slice-2.ensures) at c.in_ok-crossed.ensures.resumed in
-    resuming_is c.args.given.tables c.args.given.captures c.args.text c.in_ok-crossed.crossed
-    c.in_ok-build_crossed.field-0 resumed.given resumed.resumed c.in_ok-build_crossed.ensures.writes
-    c.in_ok-build_crossed.ensures.text
+pub returns : goal.returns
+returns g c = c.resume_given.ensures _ _ c.in_ok-given.ensures.given

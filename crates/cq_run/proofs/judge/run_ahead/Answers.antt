@@ -1,27 +1,11 @@
-use Rattle.cq_run.proofs.Terms.{rules, ◌∙◌, ap, arith, length, List, PortRow}
-use Rattle.cq_run.proofs.Planned.{run_ends, run_judged}
+use Rattle.cq_run.proofs.Terms.{rules, arith}
+use Rattle.cq_run.proofs.Planned.{run_ends}
 use Rattle.cq_run.proofs.Told.{exit_is}
-use Rattle.cq_run.proofs.Reached.{captures_end, given_read, tables_end}
+use Rattle.cq_run.proofs.Reached.{tables_end}
 use Rattle.cq_run.proofs.judge.run_ahead.Goals as goal
-
-pub stream_from-requires-clause-few : goal.stream_from-requires-clause-few
-stream_from-requires-clause-few g c κs within = search (arith, rules)
 
 pub returns-in_err-tables : goal.returns-in_err-tables
 returns-in_err-tables g c = search (arith, rules, exit_is, run_ends, tables_end)
 
-pub returns-in_err-captures : goal.returns-in_err-captures
-returns-in_err-captures g c = rw (exit_is _ c.from_residual-in_err-captures.ensures.1) (run_ends
-    (captures_end g.met.F.Files.lasts_unbegun c.in_ok-tables.ensures.judges c.read_configuration.ensures.kept
-    (λ r. rw c.as_slice-rows.ensures at (c.in_err-captures.ensures.judges r)) c.stream_from.ensures.kept))
-
-pub cross-requires-clause-captures : goal.cross-requires-clause-captures
-cross-requires-clause-captures g c κs within = search (arith, rules)
-
 pub returns : goal.returns
-returns g c =
-    let many = ap (λ (rows : List PortRow). length rows) c.as_slice-rows.ensures in
-    run_judged (given_read g.met.F.Files.lasts_unbegun c.in_ok-tables.ensures.in_range c.in_ok-tables.ensures.judges
-    c.read_configuration.ensures.kept (λ r. rw c.as_slice-rows.ensures at (c.in_ok-captures.ensures.judges r))
-    (c.in_ok-captures.ensures.each ∙ many ∙ c.in_ok-tables.ensures.in_range.files) c.stream_from.ensures.kept)
-    c.cross.result c.cross.ensures.crossing c.cross.ensures.refused
+returns g c = c.cross_ahead.ensures _ _ c.read_configuration.ensures.kept c.in_ok-tables.ensures.judges

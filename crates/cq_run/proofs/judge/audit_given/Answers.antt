@@ -1,0 +1,22 @@
+use Rattle.cq_run.proofs.Planned.{at_log, at_trace, audit_judged}
+use Rattle.cq_run.proofs.Told.{exit_is}
+use Rattle.cq_run.proofs.Reached.{read_ends}
+use Rattle.cq_run.proofs.judge.audit_given.Goals as goal
+
+pub returns-in_err-trace : goal.returns-in_err-trace
+returns-in_err-trace g c = λ config start is. rw (exit_is _ c.from_residual.ensures.1)
+    (read_ends _ g.met.F.Files.lasts_unbegun (at_trace is) c.read_text.ensures.kept
+    (λ r. c.in_err-trace.ensures.judges) (λ asked u. (tt, u.1)))
+
+pub returns-in_err-log : goal.returns-in_err-log
+returns-in_err-log g c = λ config start is.
+    let log = at_log is g.met.F.Files.lasts_unbegun c.read_text.ensures.kept c.in_ok-trace.ensures.judges in
+    rw (exit_is _ c.from_residual-in_err-log.ensures.1) (read_ends _ g.met.F.Files.lasts_unbegun log
+    c.read_text-2.ensures.kept
+    (λ r. c.in_err-log.ensures.judges) (λ asked u. (tt, u.1)))
+
+pub returns : goal.returns
+returns g c = λ config start is.
+    let answered = rw (c.as_slice.ensures, c.as_slice-2.ensures) at c.answer.ensures in
+    audit_judged is g.met.F.Files.lasts_unbegun c.read_text.ensures.kept c.in_ok-trace.ensures.judges
+    c.read_text-2.ensures.kept c.in_ok-log.ensures.judges _ answered.passed answered.answered answered.halted

@@ -1,0 +1,9 @@
+use Rattle.cq_run.proofs.Terms.{arith, rules}
+use Rattle.cq_run.proofs.Told.{exit_is}
+use Rattle.cq_run.proofs.judge.send_ideally.Goals as goal
+
+pub returns-in_err-switched-clause-refused : goal.returns-in_err-switched-clause-refused
+returns-in_err-switched-clause-refused g c = search (arith, rules, exit_is)
+
+pub returns-clause-ideal : goal.returns-clause-ideal
+returns-clause-ideal g c = search (arith, rules)
