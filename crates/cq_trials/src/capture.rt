@@ -44,13 +44,19 @@ pub fn capture_with(alloc: Global, header: &[u8], packets: &[Packet]) -> Result<
     Ok(capture)
 }
 
-/// A capture in the form that is written, of these frames.
-pub fn capture_of(alloc: Global, frames: &[Frame]) -> Result<Vec<u8>, NoMemory> {
-    let mut capture = HEADER.to_vec(alloc)?;
+/// Puts these frames.
+fn put_frames(capture: &mut Vec<u8>, frames: &[Frame]) -> Result<(), NoMemory> {
     for (seconds, nanoseconds, output, len) in frames {
         let mut head = FRAME;
         head[5] = *output;
-        put_packet(&mut capture, [*seconds, *nanoseconds, *len, *len], &head)?;
+        put_packet(capture, [*seconds, *nanoseconds, *len, *len], &head)?;
     }
+    Ok(())
+}
+
+/// A capture in the form that is written, of these frames.
+pub fn capture_of(alloc: Global, frames: &[Frame]) -> Result<Vec<u8>, NoMemory> {
+    let mut capture = HEADER.to_vec(alloc)?;
+    put_frames(&mut capture, frames)?;
     Ok(capture)
 }

@@ -31,31 +31,46 @@ pub const DEAREST: Keys = Keys {
     ..DEFAULTS
 };
 
-/// The configuration of a switch of at most ten ports with so many workers, whose input i reads `in<i>.pcap` and
+/// The table of port 0.
+const FIRST_PORT: &str = "[[port]]\nread = \"in0.pcap\"\nwrite = \"out0.pcap\"\n";
+
+/// Its address, and then the table of each port behind it and its address.
+const TABLES: &[&str] = &[
+    "[[address]]\nmac = \"02:00:00:00:00:00\"\noutput = 0\n",
+    "[[port]]\nread = \"in1.pcap\"\nwrite = \"out1.pcap\"\n\
+    [[address]]\nmac = \"02:00:00:00:00:01\"\noutput = 1\n",
+    "[[port]]\nread = \"in2.pcap\"\nwrite = \"out2.pcap\"\n\
+    [[address]]\nmac = \"02:00:00:00:00:02\"\noutput = 2\n",
+    "[[port]]\nread = \"in3.pcap\"\nwrite = \"out3.pcap\"\n\
+    [[address]]\nmac = \"02:00:00:00:00:03\"\noutput = 3\n",
+];
+
+fn put_pieces(text: &mut String, pieces: &[&str]) -> Result<(), NoMemory> {
+    for piece in pieces {
+        text.push_str(piece)?;
+    }
+    Ok(())
+}
+
+/// Puts the tables of so many ports and of their addresses, and the last keys.
+fn put_tables(text: &mut String, ports: usize, keys: &Keys) -> Result<(), NoMemory> {
+    put_pieces(text, &[FIRST_PORT, keys.port])?;
+    put_pieces(text, &TABLES[..ports.min(TABLES.len())])?;
+    put_pieces(text, &[keys.last])
+}
+
+/// The configuration of a switch of one to four ports with so many workers, whose input i reads `in<i>.pcap` and
 /// whose output i, with the address that ends in i, writes `out<i>.pcap`.
 pub fn configuration(
     alloc: Global,
     ports: usize,
     workers: u8,
-    keys: Keys,
+    keys: &Keys,
 ) -> Result<String, NoMemory> {
     let mut text = format!(in alloc;
         "version = {}\ntrace = \"trace.txt\"\nlog = \"log.txt\"\nworkers = {workers}\n{}",
         keys.version, keys.first
     )?;
-    for i in 0..ports {
-        let own = if i == 0 { keys.port } else { "" };
-        write!(
-            text,
-            "[[port]]\nread = \"in{i}.pcap\"\nwrite = \"out{i}.pcap\"\n{own}"
-        )?;
-    }
-    for i in 0..ports {
-        write!(
-            text,
-            "[[address]]\nmac = \"02:00:00:00:00:0{i}\"\noutput = {i}\n"
-        )?;
-    }
-    text.push_str(keys.last)?;
+    put_tables(&mut text, ports, keys)?;
     Ok(text)
 }

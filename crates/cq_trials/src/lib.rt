@@ -4,8 +4,8 @@
 //! what a trial begins with, captures and configurations, among them the worked runs with what they come to,
 //! keeps them on a `Disk`, has the top call answer words over it, and compares. The program uses nothing of it.
 //!
-//! Whether a trial ends as it should is a `bool` here, and the tests assert it: so a test is short, and its
-//! proof too.
+//! Whether a trial ends as it should is a `bool` here, for which want of memory is a no, and the tests assert it: so a
+//! test is short, and its proof too.
 #![tactic(auto)]
 
 mod capture;
@@ -15,14 +15,12 @@ mod runs;
 mod trial;
 mod worked;
 
-pub use capture::{
-    FRAME, Frame, MICROSECONDS, Packet, capture_of, capture_with, put_packet, put_packets,
-};
+pub use capture::{FRAME, Frame, MICROSECONDS, Packet, capture_with, put_packet, put_packets};
 pub use disk::Disk;
-pub use keys::{DEAREST, DEFAULTS, Keys, configuration};
-pub use runs::{RUNS, RUNS_BY_KEYS, SENT, THREE_INPUTS, TWO_FOR_ONE};
+pub use keys::{DEAREST, DEFAULTS, Keys};
+pub use runs::{RUNS, RUNS_BY_KEYS, SENT_CAPTURE, THREE_INPUTS, TWO_FOR_ONE};
 pub use trial::{
-    Answer, Call, Left, Told, WRITTEN, all_leave, leaves, leaves_ahead, leaves_within, passes,
+    Call, Left, Told, WRITTEN, all_leave, leaves, leaves_ahead, leaves_within, passes,
     touches_nothing, words_of,
 };
 pub use worked::Run;

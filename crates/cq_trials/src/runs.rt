@@ -3,7 +3,20 @@ use crate::{DEAREST, DEFAULTS, Frame, Keys, Run};
 use cq_trial_kit::{LOG, TRACE};
 
 /// What output 0 sends of two cells in two slots after one another.
-pub const SENT: &[Frame] = &[(0, 0, 0, 60), (0, 512, 0, 60)];
+const SENT: &[Frame] = &[(0, 0, 0, 60), (0, 512, 0, 60)];
+
+/// The capture of these.
+pub const SENT_CAPTURE: &[u8] = &[
+    0x4d, 0x3c, 0xb2, 0xa1, 2, 0, 4, 0, 0, 0, 0, 0, 0, 0, 0, 0, 0, 0, 4, 0, 1, 0, 0, 0, //
+    0, 0, 0, 0, 0, 0, 0, 0, 60, 0, 0, 0, 60, 0, 0, 0, //
+    2, 0, 0, 0, 0, 0, 2, 0, 0, 0, 0, 0xaa, 0x88, 0xb5, //
+    0, 0, 0, 0, 0, 0, 0, 0, 0, 0, 0, 0, 0, 0, 0, 0, 0, 0, 0, 0, 0, 0, 0, //
+    0, 0, 0, 0, 0, 0, 0, 0, 0, 0, 0, 0, 0, 0, 0, 0, 0, 0, 0, 0, 0, 0, 0, //
+    0, 0, 0, 0, 0, 2, 0, 0, 60, 0, 0, 0, 60, 0, 0, 0, //
+    2, 0, 0, 0, 0, 0, 2, 0, 0, 0, 0, 0xaa, 0x88, 0xb5, //
+    0, 0, 0, 0, 0, 0, 0, 0, 0, 0, 0, 0, 0, 0, 0, 0, 0, 0, 0, 0, 0, 0, 0, //
+    0, 0, 0, 0, 0, 0, 0, 0, 0, 0, 0, 0, 0, 0, 0, 0, 0, 0, 0, 0, 0, 0, 0,
+];
 
 /// Two inputs with a cell for one output.
 pub const TWO_FOR_ONE: Run = Run {

@@ -20,19 +20,8 @@ pub type Left<'a> = (&'a [(&'a str, &'a [u8])], &'a [&'a str]);
 /// The words of a call, and what it tells.
 pub type Call<'a> = (&'a [&'a str], Told<'a>);
 
-/// Whether a trial came out as it should, or want of memory for what it is made of.
-pub type Answer = Result<bool, NoMemory>;
-
 /// Room for all that the two streams are given.
 pub(crate) const ALL: (u64, u64) = (u64::MAX, u64::MAX);
-
-/// What a call comes to: the code of its status, and what the two streams took.
-#[derive(Drop)]
-struct Ended {
-    code: u8,
-    out: MemSink,
-    err: MemSink,
-}
 
 /// Whether a stream with so much room took the text, or as much of it as there was room for.
 fn has_taken(stream: &MemSink, text: &str, room: u64) -> bool {
@@ -40,88 +29,92 @@ fn has_taken(stream: &MemSink, text: &str, room: u64) -> bool {
     taken.len() == text.len().min(room as usize) && text.as_bytes().starts_with(taken)
 }
 
-impl Ended {
-    /// Whether the call told this, where its streams had so much room.
-    fn has_told(&self, told: Told, rooms: (u64, u64)) -> bool {
-        let (code, out, err) = told;
-        self.code == code
-            && has_taken(&self.out, out, rooms.0)
-            && has_taken(&self.err, err, rooms.1)
+/// Puts the words, each a text of its own.
+fn put_words(owned: &mut Vec<String>, alloc: Global, words: &[&str]) -> Result<(), NoMemory> {
+    for word in words {
+        owned.push(String::from_str(alloc, word)?)?;
     }
+    Ok(())
 }
 
 /// The words, each a text of its own.
 pub fn words_of(alloc: Global, words: &[&str]) -> Result<Vec<String>, NoMemory> {
     let mut owned = Vec::new(alloc);
-    for word in words {
-        owned.push(String::from_str(alloc, word)?)?;
-    }
+    put_words(&mut owned, alloc, words)?;
     Ok(owned)
 }
 
-/// The answer to the words over the disk, where the gate is told of the workers' steps, and the two
+/// Whether the call over the disk tells what it should, where the gate is told of the workers' steps, and the two
 /// streams take so many bytes.
-fn watched<R: Threads + Sync, G: Gate>(
+fn answers<R: Threads + Sync, G: Gate>(
     rt: &R,
     alloc: Global,
-    words: &[&str],
+    words: &[String],
+    (code, to_out, to_err): Told,
     disk: &mut Disk,
     rooms: (u64, u64),
     gate: &G,
-) -> Result<Ended, NoMemory> {
-    let words = words_of(alloc, words)?;
+) -> bool {
     let mut out = MemSink::new(alloc);
     let mut err = MemSink::new(alloc);
     out.fail_after(rooms.0);
     err.fail_after(rooms.1);
-    let status = switch_top(rt, alloc, &words, &mut disk.files, &mut out, &mut err, gate);
-    Ok(Ended {
-        code: status.code(),
-        out,
-        err,
-    })
+    let status = switch_top(rt, alloc, words, &mut disk.files, &mut out, &mut err, gate);
+    status.code() == code && has_taken(&out, to_out, rooms.0) && has_taken(&err, to_err, rooms.1)
 }
 
-/// The answer of the call that may read ahead, where the watch is told of its readers.
-fn streamed<R, W: Watch + 'static>(
+/// Whether the call that may read ahead tells what it should over the disk, where the watch is told of its readers.
+fn answers_ahead<R, W: Watch + 'static>(
     rt: R,
     alloc: Global,
-    words: &[&str],
+    words: &[String],
+    (code, to_out, to_err): Told,
     disk: &mut Disk,
     watch: &W,
-) -> Result<Ended, NoMemory>
+) -> bool
 where
     R: Threads + Wait + Sync + Copy + Send + 'static,
 {
-    let words = words_of(alloc, words)?;
     let mut out = MemSink::new(alloc);
     let mut err = MemSink::new(alloc);
     let status = stream_top(
         rt,
         alloc,
-        &words,
+        words,
         &mut disk.files,
         &mut out,
         &mut err,
         &OpenGate,
         watch,
     );
-    Ok(Ended {
-        code: status.code(),
-        out,
-        err,
-    })
+    status.code() == code && has_taken(&out, to_out, u64::MAX) && has_taken(&err, to_err, u64::MAX)
+}
+
+/// Whether the call over the disk tells what it should, where the gate is told of the workers' steps, and the two
+/// streams take so many bytes.
+fn tells_within<R: Threads + Sync, G: Gate>(
+    rt: &R,
+    alloc: Global,
+    (words, told): Call,
+    disk: &mut Disk,
+    rooms: (u64, u64),
+    gate: &G,
+) -> bool {
+    match words_of(alloc, words) {
+        Ok(words) => disk.is_whole && answers(rt, alloc, &words, told, disk, rooms, gate),
+        Err(_) => false,
+    }
 }
 
 /// Whether the call over the disk tells what it should, where the gate is told of the workers' steps.
 pub(crate) fn tells<R: Threads + Sync, G: Gate>(
     rt: &R,
     alloc: Global,
-    (words, told): Call,
+    call: Call,
     disk: &mut Disk,
     gate: &G,
-) -> Answer {
-    Ok(watched(rt, alloc, words, disk, ALL, gate)?.has_told(told, ALL))
+) -> bool {
+    tells_within(rt, alloc, call, disk, ALL, gate)
 }
 
 /// Whether the call that may read ahead tells what it should over the disk, where the watch is told of its readers.
@@ -131,24 +124,26 @@ pub(crate) fn tells_ahead<R, W: Watch + 'static>(
     (words, told): Call,
     disk: &mut Disk,
     watch: &W,
-) -> Answer
+) -> bool
 where
     R: Threads + Wait + Sync + Copy + Send + 'static,
 {
-    Ok(streamed(rt, alloc, words, disk, watch)?.has_told(told, ALL))
+    match words_of(alloc, words) {
+        Ok(words) => disk.is_whole && answers_ahead(rt, alloc, &words, told, disk, watch),
+        Err(_) => false,
+    }
 }
 
 /// Whether the call over the disk tells what it should and leaves this, where the two streams take so many bytes.
 pub fn leaves_within<R: Threads + Sync>(
     rt: &R,
     alloc: Global,
-    (words, told): Call,
+    call: Call,
     mut disk: Disk,
     rooms: (u64, u64),
     left: Left,
-) -> Answer {
-    let ended = watched(rt, alloc, words, &mut disk, rooms, &OpenGate)?;
-    Ok(ended.has_told(told, rooms) && disk.is_left(left))
+) -> bool {
+    tells_within(rt, alloc, call, &mut disk, rooms, &OpenGate) && disk.is_left(left)
 }
 
 /// Whether the call over the disk tells what it should and leaves this.
@@ -158,8 +153,18 @@ pub fn leaves<R: Threads + Sync>(
     call: Call,
     disk: Disk,
     left: Left,
-) -> Answer {
+) -> bool {
     leaves_within(rt, alloc, call, disk, ALL, left)
+}
+
+/// Whether each of the calls over the disk, one after another, tells what it should.
+fn all_tell<R: Threads + Sync>(rt: &R, alloc: Global, calls: &[Call], disk: &mut Disk) -> bool {
+    for call in calls {
+        if !tells(rt, alloc, *call, disk, &OpenGate) {
+            return false;
+        }
+    }
+    true
 }
 
 /// Whether each of the calls over the disk, one after another, tells what it should, and the last leaves this.
@@ -169,28 +174,24 @@ pub fn all_leave<R: Threads + Sync>(
     calls: &[Call],
     mut disk: Disk,
     left: Left,
-) -> Answer {
-    for call in calls {
-        if !tells(rt, alloc, *call, &mut disk, &OpenGate)? {
-            return Ok(false);
-        }
-    }
-    Ok(disk.is_left(left))
+) -> bool {
+    all_tell(rt, alloc, calls, &mut disk) && disk.is_left(left)
 }
 
 /// Whether the call that may read ahead tells what it should over the disk, and leaves this.
-pub fn leaves_ahead<R>(
-    rt: R,
-    alloc: Global,
-    (words, told): Call,
-    mut disk: Disk,
-    left: Left,
-) -> Answer
+pub fn leaves_ahead<R>(rt: R, alloc: Global, call: Call, mut disk: Disk, left: Left) -> bool
 where
     R: Threads + Wait + Sync + Copy + Send + 'static,
 {
-    let ended = streamed(rt, alloc, words, &mut disk, &OpenWatch)?;
-    Ok(ended.has_told(told, ALL) && disk.is_left(left))
+    tells_ahead(rt, alloc, call, &mut disk, &OpenWatch) && disk.is_left(left)
+}
+
+/// Whether the call over the disk does all, whatever it tells.
+fn is_done<R: Threads + Sync>(rt: &R, alloc: Global, words: &[String], disk: &mut Disk) -> bool {
+    let mut out = MemSink::new(alloc);
+    let mut err = MemSink::new(alloc);
+    let files = &mut disk.files;
+    switch_top(rt, alloc, words, files, &mut out, &mut err, &OpenGate).code() == 0
 }
 
 /// Whether the call of the words over the disk does all, whatever it tells, and leaves this.
@@ -200,9 +201,13 @@ pub fn passes<R: Threads + Sync>(
     words: &[&str],
     mut disk: Disk,
     left: Left,
-) -> Answer {
-    let ended = watched(rt, alloc, words, &mut disk, ALL, &OpenGate)?;
-    Ok(ended.code == 0 && disk.is_left(left))
+) -> bool {
+    match words_of(alloc, words) {
+        Ok(words) => {
+            disk.is_whole && is_done(rt, alloc, &words, &mut disk) && disk.is_left(left)
+        }
+        Err(_) => false,
+    }
 }
 
 /// The names that a command of a trial may write.
@@ -222,7 +227,7 @@ pub fn touches_nothing<R: Threads + Sync>(
     alloc: Global,
     call: Call,
     given: &[(&str, &[u8])],
-) -> Answer {
-    let disk = Disk::new(alloc).holding(given)?;
+) -> bool {
+    let disk = Disk::new(alloc).holding(given);
     leaves(rt, alloc, call, disk, (given, WRITTEN))
 }

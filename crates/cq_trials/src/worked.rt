@@ -1,7 +1,7 @@
 //! Worked runs: what a switch is told, and all that it writes.
+use crate::capture::capture_of;
 use crate::trial::{WRITTEN, tells, tells_ahead};
-use crate::{Answer, Call, Disk, Frame, Keys, Left, capture_of, leaves};
-use cq_base::NoMemory;
+use crate::{Call, Disk, Frame, Keys, Left, leaves};
 use cq_crew::{Gate, OpenGate};
 use cq_stream::Watch;
 use std::alloc::Global;
@@ -27,17 +27,21 @@ pub struct Run {
     pub report: &'static str,
 }
 
-/// Whether the capture of the output of this number is of these frames.
-fn holds_capture(alloc: Global, disk: &Disk, j: usize, frames: &[Frame]) -> Answer {
-    let capture = capture_of(alloc, frames)?;
-    let name = format!(in alloc; "out{j}.pcap")?;
-    Ok(disk.holds(&name, &capture))
+/// What the outputs of a switch write.
+const OUTPUTS: [&str; 4] = ["out0.pcap", "out1.pcap", "out2.pcap", "out3.pcap"];
+
+/// Whether the name is there with just a capture of these frames.
+fn holds_capture(alloc: Global, disk: &Disk, name: &str, frames: &[Frame]) -> bool {
+    match capture_of(alloc, frames) {
+        Ok(capture) => disk.holds(name, &capture),
+        Err(_) => false,
+    }
 }
 
 impl Run {
     /// What the run begins with, where it has so many workers.
-    pub fn disk(&self, alloc: Global, workers: u8) -> Result<Disk, NoMemory> {
-        Disk::of_switch(alloc, self.inputs, workers, self.keys)
+    pub fn disk(&self, alloc: Global, workers: u8) -> Disk {
+        Disk::of_switch(alloc, self.inputs, workers, &self.keys)
     }
 
     /// Whether the call, where these files are there beside what the run begins with, tells what it should and leaves
@@ -49,24 +53,24 @@ impl Run {
         call: Call,
         given: &[(&str, &[u8])],
         left: Left,
-    ) -> Answer {
-        let disk = self.disk(alloc, 1)?.holding(given)?;
+    ) -> bool {
+        let disk = self.disk(alloc, 1).holding(given);
         leaves(rt, alloc, call, disk, left)
     }
 
     /// Whether the captures and the trace are those of the run.
-    fn is_sent(&self, alloc: Global, disk: &Disk) -> Answer {
-        for (j, frames) in self.outputs.iter().enumerate() {
-            if !holds_capture(alloc, disk, j, frames)? {
-                return Ok(false);
+    fn is_sent(&self, alloc: Global, disk: &Disk) -> bool {
+        for (name, frames) in OUTPUTS.iter().zip(self.outputs) {
+            if !holds_capture(alloc, disk, name, frames) {
+                return false;
             }
         }
-        Ok(disk.holds("trace.txt", self.trace.as_bytes()))
+        self.outputs.len() <= OUTPUTS.len() && disk.holds("trace.txt", self.trace.as_bytes())
     }
 
     /// Whether the captures, the trace and the log are those of the run.
-    fn is_crossed(&self, alloc: Global, disk: &Disk) -> Answer {
-        Ok(disk.holds("log.txt", self.log.as_bytes()) && self.is_sent(alloc, disk)?)
+    fn is_crossed(&self, alloc: Global, disk: &Disk) -> bool {
+        disk.holds("log.txt", self.log.as_bytes()) && self.is_sent(alloc, disk)
     }
 
     /// Whether the call of the words does all of the run, where the gate is told of the workers' steps.
@@ -77,9 +81,9 @@ impl Run {
         words: &[&str],
         disk: &mut Disk,
         gate: &G,
-    ) -> Answer {
+    ) -> bool {
         let call = (words, (0, self.report, ""));
-        Ok(tells(rt, alloc, call, disk, gate)? && self.is_crossed(alloc, disk)?)
+        tells(rt, alloc, call, disk, gate) && self.is_crossed(alloc, disk)
     }
 
     /// Whether the crossbar switch does all of the run, from this disk on, and leaves these files as they are.
@@ -89,9 +93,9 @@ impl Run {
         alloc: Global,
         mut disk: Disk,
         kept: &[(&str, &[u8])],
-    ) -> Answer {
-        let is_done = self.is_done(rt, alloc, &["run", "c.toml"], &mut disk, &OpenGate)?;
-        Ok(is_done && disk.is_left((kept, &[])))
+    ) -> bool {
+        self.is_done(rt, alloc, &["run", "c.toml"], &mut disk, &OpenGate)
+            && disk.is_left((kept, &[]))
     }
 
     /// Whether the crossbar switch with so many workers does all of the run, where the gate is told of their steps.
@@ -101,8 +105,8 @@ impl Run {
         alloc: Global,
         workers: u8,
         gate: &G,
-    ) -> Answer {
-        let mut disk = self.disk(alloc, workers)?;
+    ) -> bool {
+        let mut disk = self.disk(alloc, workers);
         self.is_done(rt, alloc, &["run", "c.toml"], &mut disk, gate)
     }
 
@@ -113,20 +117,20 @@ impl Run {
         alloc: Global,
         disk: &mut Disk,
         watch: &W,
-    ) -> Answer
+    ) -> bool
     where
         R: Threads + Wait + Sync + Copy + Send + 'static,
     {
         let call: Call = (&["stream", "c.toml"], (0, self.report, ""));
-        Ok(tells_ahead(rt, alloc, call, disk, watch)? && self.is_crossed(alloc, disk)?)
+        tells_ahead(rt, alloc, call, disk, watch) && self.is_crossed(alloc, disk)
     }
 
     /// Whether the call that reads ahead does all of the run too, where the watch is told of its readers.
-    pub fn streams<R, W: Watch + 'static>(&self, rt: R, alloc: Global, watch: &W) -> Answer
+    pub fn streams<R, W: Watch + 'static>(&self, rt: R, alloc: Global, watch: &W) -> bool
     where
         R: Threads + Wait + Sync + Copy + Send + 'static,
     {
-        let mut disk = self.disk(alloc, 1)?;
+        let mut disk = self.disk(alloc, 1);
         self.is_streamed(rt, alloc, &mut disk, watch)
     }
 
@@ -136,18 +140,16 @@ impl Run {
         rt: &R,
         alloc: Global,
         disk: &mut Disk,
-    ) -> Answer {
+    ) -> bool {
         let audit: Call = (&["audit", "c.toml"], (0, "audit yes\n", ""));
-        Ok(
-            self.is_done(rt, alloc, &["run", "c.toml"], disk, &OpenGate)?
-                && tells(rt, alloc, audit, disk, &OpenGate)?
-                && self.is_sent(alloc, disk)?,
-        )
+        self.is_done(rt, alloc, &["run", "c.toml"], disk, &OpenGate)
+            && tells(rt, alloc, audit, disk, &OpenGate)
+            && self.is_sent(alloc, disk)
     }
 
     /// Whether the crossbar switch with so many workers does all of the run, and an audit says yes to what it leaves.
-    pub fn is_audited<R: Threads + Sync>(&self, rt: &R, alloc: Global, workers: u8) -> Answer {
-        let mut disk = self.disk(alloc, workers)?;
+    pub fn is_audited<R: Threads + Sync>(&self, rt: &R, alloc: Global, workers: u8) -> bool {
+        let mut disk = self.disk(alloc, workers);
         self.is_crossed_and_audited(rt, alloc, &mut disk)
     }
 
@@ -159,30 +161,32 @@ impl Run {
         alloc: Global,
         slots: &str,
         disk: &mut Disk,
-    ) -> Answer {
+    ) -> bool {
         let part: Call = (&["part", "c.toml", slots, "s.txt"], (0, "", ""));
-        let is_stopped = tells(rt, alloc, part, disk, &OpenGate)? && disk.lacks(WRITTEN);
         let resume = ["resume", "c.toml", "s.txt"];
-        Ok(is_stopped && self.is_done(rt, alloc, &resume, disk, &OpenGate)?)
+        tells(rt, alloc, part, disk, &OpenGate)
+            && disk.lacks(WRITTEN)
+            && self.is_done(rt, alloc, &resume, disk, &OpenGate)
     }
 
     /// Whether a run that stops after so many slots writes its state alone, and what goes on from there does all of the
     /// run.
-    pub fn goes_on<R: Threads + Sync>(&self, rt: &R, alloc: Global, slots: &str) -> Answer {
-        let mut disk = self.disk(alloc, 1)?;
+    pub fn goes_on<R: Threads + Sync>(&self, rt: &R, alloc: Global, slots: &str) -> bool {
+        let mut disk = self.disk(alloc, 1);
         self.is_resumed(rt, alloc, slots, &mut disk)
     }
 
     /// Whether the ideal switch sends from this disk on what the run sends, and touches no log.
-    fn is_sent_ideally<R: Threads + Sync>(&self, rt: &R, alloc: Global, disk: &mut Disk) -> Answer {
+    fn is_sent_ideally<R: Threads + Sync>(&self, rt: &R, alloc: Global, disk: &mut Disk) -> bool {
         let call: Call = (&["ideal", "c.toml"], (0, "", ""));
-        let is_told = tells(rt, alloc, call, disk, &OpenGate)?;
-        Ok(is_told && disk.lacks(&["log.txt"]) && self.is_sent(alloc, disk)?)
+        tells(rt, alloc, call, disk, &OpenGate)
+            && disk.lacks(&["log.txt"])
+            && self.is_sent(alloc, disk)
     }
 
     /// Whether the ideal switch sends what the run sends, and touches no log.
-    pub fn is_ideal<R: Threads + Sync>(&self, rt: &R, alloc: Global) -> Answer {
-        let mut disk = self.disk(alloc, 1)?;
+    pub fn is_ideal<R: Threads + Sync>(&self, rt: &R, alloc: Global) -> bool {
+        let mut disk = self.disk(alloc, 1);
         self.is_sent_ideally(rt, alloc, &mut disk)
     }
 }

@@ -1,8 +1,7 @@
 //! Words that are no command, and commands that are refused before they write.
 use cq_trial_kit::HEADER;
-use cq_trials::{Answer, Disk, Left, MICROSECONDS, leaves_within, touches_nothing};
+use cq_trials::{Disk, Left, MICROSECONDS, leaves_within, touches_nothing};
 use std::alloc::Global;
-use std::test::Fail;
 use std::thread::Threads;
 
 /// The line of words that are no command.
@@ -30,31 +29,29 @@ const PLACES: &[Place] = &[
     ((&[], &["b"]), 0),
 ];
 
-fn is_refused<R: Threads + Sync>(
-    rt: &R,
-    alloc: Global,
-    refusal: &Refusal,
-    place: &Place,
-) -> Answer {
+fn is_refused<R: Threads + Sync>(rt: &R, alloc: Global, refusal: &Refusal, place: &Place) -> bool {
     let (words, code, line) = *refusal;
     let (left, room) = *place;
     let captures: [(&str, &[u8]); 2] = [("a", &MICROSECONDS), ("c", &HEADER[..23])];
-    let disk = Disk::new(alloc).holding(&captures)?.holding(left.0)?;
+    let disk = Disk::new(alloc).holding(&captures).holding(left.0);
     leaves_within(rt, alloc, (words, (code, "", line)), disk, (0, room), left)
 }
 
-#[test]
-fn a_refusal_says_why_and_starts_no_file(rt: HostRuntime) -> Result<(), Fail> {
-    for refusal in REFUSALS {
-        for place in PLACES {
-            assert!(rt;
-                is_refused(&rt, rt.alloc(), refusal, place)?,
-                "{}",
-                refusal.2
-            );
+/// Whether a command is refused at each place, and writes nothing.
+fn is_refused_everywhere<R: Threads + Sync>(rt: &R, alloc: Global, refusal: &Refusal) -> bool {
+    for place in PLACES {
+        if !is_refused(rt, alloc, refusal, place) {
+            return false;
         }
     }
-    Ok(())
+    true
+}
+
+#[test]
+fn a_refusal_says_why_and_starts_no_file(rt: HostRuntime) {
+    for refusal in REFUSALS {
+        assert!(rt; is_refused_everywhere(&rt, rt.alloc(), refusal));
+    }
 }
 
 const NO_COMMANDS: &[&[&str]] = &[
@@ -91,10 +88,8 @@ const NO_COMMANDS: &[&[&str]] = &[
 ];
 
 #[test]
-fn words_that_are_no_command_get_the_usage(rt: HostRuntime) -> Result<(), Fail> {
+fn words_that_are_no_command_get_the_usage(rt: HostRuntime) {
     for words in NO_COMMANDS {
-        let call = (*words, (1, "", USAGE));
-        assert!(rt; touches_nothing(&rt, rt.alloc(), call, &[])?, "{words:?}");
+        assert!(rt; touches_nothing(&rt, rt.alloc(), (words, (1, "", USAGE)), &[]));
     }
-    Ok(())
 }

@@ -1,54 +1,50 @@
 //! Worked runs of the ideal switch and of the crossbar switch, to the last byte.
-use cq_trials::{Answer, Keys, RUNS, RUNS_BY_KEYS, Run, TWO_FOR_ONE};
+use cq_trials::{Keys, RUNS, RUNS_BY_KEYS, Run, TWO_FOR_ONE};
 use std::alloc::Global;
-use std::test::Fail;
 use std::thread::Threads;
 
 /// Whether both switches write the run, the crossbar switch with 1, 2 and 64 workers, and audits say yes.
-fn is_written<R: Threads + Sync>(rt: &R, alloc: Global, run: &Run) -> Answer {
-    Ok(
-        run.is_ideal(rt, alloc)?
-            && run.is_audited(rt, alloc, 1)?
-            && run.is_audited(rt, alloc, 2)?
-            && run.is_audited(rt, alloc, 64)?,
-    )
+fn is_written<R: Threads + Sync>(rt: &R, alloc: Global, run: &Run) -> bool {
+    run.is_ideal(rt, alloc)
+        && run.is_audited(rt, alloc, 1)
+        && run.is_audited(rt, alloc, 2)
+        && run.is_audited(rt, alloc, 64)
 }
 
 #[test]
-fn both_switches_write_worked_runs_whatever_the_workers_and_audits_say_yes(
-    rt: HostRuntime,
-) -> Result<(), Fail> {
+fn both_switches_write_worked_runs_whatever_the_workers_and_audits_say_yes(rt: HostRuntime) {
     for run in RUNS.iter().chain(RUNS_BY_KEYS) {
-        assert!(rt; is_written(&rt, rt.alloc(), run)?, "{}", run.shows);
+        assert!(rt; is_written(&rt, rt.alloc(), run), "{}", run.shows);
     }
-    Ok(())
+}
+
+/// Whether the run goes on after each of its first stops.
+fn goes_on<R: Threads + Sync>(rt: &R, alloc: Global, run: &Run) -> bool {
+    run.goes_on(rt, alloc, "0") && run.goes_on(rt, alloc, "1") && run.goes_on(rt, alloc, "2")
 }
 
 #[test]
-fn worked_runs_go_on_after_a_stop(rt: HostRuntime) -> Result<(), Fail> {
+fn worked_runs_go_on_after_a_stop(rt: HostRuntime) {
     for run in RUNS.iter().chain(RUNS_BY_KEYS) {
-        for slots in ["0", "1", "2"] {
-            assert!(rt;
-                run.goes_on(&rt, rt.alloc(), slots)?,
-                "{} after {slots}",
-                run.shows
-            );
-        }
+        assert!(rt; goes_on(&rt, rt.alloc(), run));
     }
-    Ok(())
+}
+
+/// Whether an audit says yes to the run where its configuration is of version 2.
+fn is_the_same<R: Threads + Sync>(rt: &R, alloc: Global, run: &Run) -> bool {
+    let keys = Keys {
+        version: 2,
+        ..run.keys
+    };
+    let newer = Run { keys, ..*run };
+    newer.is_audited(rt, alloc, 1)
 }
 
 #[test]
-fn version_two_without_levels_is_version_one(rt: HostRuntime) -> Result<(), Fail> {
+fn version_two_without_levels_is_version_one(rt: HostRuntime) {
     for run in RUNS.iter().chain(RUNS_BY_KEYS) {
-        let keys = Keys {
-            version: 2,
-            ..run.keys
-        };
-        let newer = Run { keys, ..*run };
-        assert!(rt; newer.is_audited(&rt, rt.alloc(), 1)?, "{}", run.shows);
+        assert!(rt; is_the_same(&rt, rt.alloc(), run));
     }
-    Ok(())
 }
 
 /// A big-endian capture with microseconds of one packet of 60 bytes.
@@ -61,14 +57,13 @@ const BIG_ENDIAN: &[u8] = &[
 ];
 
 /// Whether the run does all from this capture of its first input on, and leaves that as it is.
-fn runs_from<R: Threads + Sync>(rt: &R, alloc: Global, input: &[u8]) -> Answer {
+fn runs_from<R: Threads + Sync>(rt: &R, alloc: Global, input: &[u8]) -> bool {
     let given: [(&str, &[u8]); 1] = [("in0.pcap", input)];
-    let disk = TWO_FOR_ONE.disk(alloc, 1)?.holding(&given)?;
+    let disk = TWO_FOR_ONE.disk(alloc, 1).holding(&given);
     TWO_FOR_ONE.crosses(rt, alloc, disk, &given)
 }
 
 #[test]
-fn a_capture_of_another_form_runs_as_one_of_the_written_form(rt: HostRuntime) -> Result<(), Fail> {
-    assert!(rt; runs_from(&rt, rt.alloc(), BIG_ENDIAN)?);
-    Ok(())
+fn a_capture_of_another_form_runs_as_one_of_the_written_form(rt: HostRuntime) {
+    assert!(rt; runs_from(&rt, rt.alloc(), BIG_ENDIAN));
 }

@@ -3,26 +3,24 @@
 use cq_base::Port;
 use cq_crew::{Gate, LedgerSeat, Outcome};
 use cq_trial_kit::Meeting;
-use cq_trials::{Answer, THREE_INPUTS, TWO_FOR_ONE};
+use cq_trials::{THREE_INPUTS, TWO_FOR_ONE};
 use std::alloc::Global;
 use std::sync::atomic::AtomicU64;
 use std::sync::atomic::Ordering::SeqCst;
-use std::test::Fail;
 use std::thread::Threads;
 
 /// Whether two workers do all of a run and meet, each with a proposal, none in vain.
-fn meet<R: Threads + Sync>(rt: &R, alloc: Global) -> Answer {
+fn meet<R: Threads + Sync>(rt: &R, alloc: Global) -> bool {
     let gate = Meeting::of(2);
-    let crosses = TWO_FOR_ONE.crosses_watched(rt, alloc, 2, &gate)?;
+    let crosses = TWO_FOR_ONE.crosses_watched(rt, alloc, 2, &gate);
     let faults = [gate.in_vain(), gate.miscounted()];
     // The first phase alone has two workers and two proposals.
-    Ok(crosses && faults == [0, 0] && gate.proposals() == [1, 1, 0])
+    crosses && faults == [0, 0] && gate.proposals() == [1, 1, 0]
 }
 
 #[test]
-fn two_workers_meet(rt: HostRuntime) -> Result<(), Fail> {
-    assert!(rt; meet(&rt, rt.alloc())?);
-    Ok(())
+fn two_workers_meet(rt: HostRuntime) {
+    assert!(rt; meet(&rt, rt.alloc()));
 }
 
 /// Counts the claims that it is told of, and those of workers beyond the first two.
@@ -44,21 +42,18 @@ impl Gate for Counting {
 }
 
 /// Whether so many workers do all of a run, of whom only the first two claim anything, and none where one is all.
-fn is_done_by<R: Threads + Sync>(rt: &R, alloc: Global, workers: u8) -> Answer {
+fn is_done_by<R: Threads + Sync>(rt: &R, alloc: Global, workers: u8) -> bool {
     let gate = Counting {
         claims: AtomicU64::new(0),
         beyond_two: AtomicU64::new(0),
     };
-    let crosses = THREE_INPUTS.crosses_watched(rt, alloc, workers, &gate)?;
+    let crosses = THREE_INPUTS.crosses_watched(rt, alloc, workers, &gate);
     let are_used = (gate.claims.load(SeqCst) > 0) == (workers > 1);
-    Ok(crosses && are_used && gate.beyond_two.load(SeqCst) == 0)
+    crosses && are_used && gate.beyond_two.load(SeqCst) == 0
 }
 
 #[test]
-fn no_more_workers_are_used_than_asked_for(rt: HostRuntime) -> Result<(), Fail> {
+fn no_more_workers_are_used_than_asked_for(rt: HostRuntime) {
     // Three inputs have a cell in the first slot.
-    for workers in [1, 2] {
-        assert!(rt; is_done_by(&rt, rt.alloc(), workers)?, "{workers} workers");
-    }
-    Ok(())
+    assert!(rt; is_done_by(&rt, rt.alloc(), 1) && is_done_by(&rt, rt.alloc(), 2));
 }

@@ -3,10 +3,9 @@
 //! The same switch is shipped in `examples/office`, and told there.
 use cq_base::NoMemory;
 use cq_trial_kit::HEADER;
-use cq_trials::{Answer, Call, Disk, MICROSECONDS, Told, all_leave, leaves_ahead, put_packet};
+use cq_trials::{Call, Disk, MICROSECONDS, Told, all_leave, leaves_ahead, put_packet};
 use std::alloc::Global;
 use std::sync::Wait;
-use std::test::Fail;
 use std::thread::Threads;
 
 const CONFIGURATION: &str = r#"version = 1
@@ -135,68 +134,98 @@ const PHONES_OUT: Packets = &[(1024, UPLINK_1), (1536, UPLINK_0), (3072, PHONES_
 /// What leaves to the servers.
 const SERVERS_OUT: Packets = &[(2560, UPLINK_2), (3072, PHONES_2)];
 
-fn capture_of(alloc: Global, header: &[u8], packets: Packets) -> Result<Vec<u8>, NoMemory> {
-    let mut capture = header.to_vec(alloc)?;
+/// Puts a capture of these packets.
+fn put_capture(capture: &mut Vec<u8>, header: &[u8], packets: Packets) -> Result<(), NoMemory> {
+    capture.extend_from_slice(header)?;
     for (subseconds, (len, head)) in packets {
         let numbers = [1_700_000_000, *subseconds, *len, *len];
-        put_packet(&mut capture, numbers, head)?;
+        put_packet(capture, numbers, head)?;
     }
-    Ok(capture)
+    Ok(())
 }
 
-fn disk_of(alloc: Global, workers: u8) -> Result<Disk, NoMemory> {
-    let text = format!(in alloc; "workers = {workers}\n{CONFIGURATION}")?;
-    let uplink = capture_of(alloc, &MICROSECONDS, UPLINK)?;
-    let phones = capture_of(alloc, &MICROSECONDS, PHONES)?;
-    Disk::new(alloc).holding(&[
-        ("c.toml", text.as_bytes()),
-        ("uplink.pcap", &uplink),
-        ("phones.pcap", &phones),
-    ])
+/// What the switch reads, and what it writes but for the capture of the spare port.
+#[derive(Drop)]
+struct Office {
+    text: String,
+    uplink: Vec<u8>,
+    phones: Vec<u8>,
+    uplink_out: Vec<u8>,
+    phones_out: Vec<u8>,
+    servers_out: Vec<u8>,
 }
 
-/// The captures that leave, but for that of the spare port.
-fn sent(alloc: Global) -> Result<[Vec<u8>; 3], NoMemory> {
-    let uplink = capture_of(alloc, &HEADER, UPLINK_OUT)?;
-    let phones = capture_of(alloc, &HEADER, PHONES_OUT)?;
-    let servers = capture_of(alloc, &HEADER, SERVERS_OUT)?;
-    Ok([uplink, phones, servers])
-}
+impl Office {
+    fn new(alloc: Global) -> Office {
+        Office {
+            text: String::new(alloc),
+            uplink: Vec::new(alloc),
+            phones: Vec::new(alloc),
+            uplink_out: Vec::new(alloc),
+            phones_out: Vec::new(alloc),
+            servers_out: Vec::new(alloc),
+        }
+    }
 
-/// All that is written, where these captures leave.
-fn written(sent: &[Vec<u8>; 3]) -> [(&str, &[u8]); 6] {
-    let [uplink, phones, servers] = sent;
-    [
-        ("uplink-out.pcap", uplink),
-        ("phones-out.pcap", phones),
-        ("servers-out.pcap", servers),
-        ("spare-out.pcap", &HEADER),
-        ("trace.txt", TRACE.as_bytes()),
-        ("log.txt", LOG.as_bytes()),
-    ]
+    /// Puts the configuration with so many workers, and the packets.
+    fn put(&mut self, workers: u8) -> Result<(), NoMemory> {
+        write!(self.text, "workers = {workers}\n{CONFIGURATION}")?;
+        put_capture(&mut self.uplink, &MICROSECONDS, UPLINK)?;
+        put_capture(&mut self.phones, &MICROSECONDS, PHONES)?;
+        put_capture(&mut self.uplink_out, &HEADER, UPLINK_OUT)?;
+        put_capture(&mut self.phones_out, &HEADER, PHONES_OUT)?;
+        put_capture(&mut self.servers_out, &HEADER, SERVERS_OUT)
+    }
+
+    fn disk(&self, alloc: Global) -> Disk {
+        Disk::new(alloc).holding(&[
+            ("c.toml", self.text.as_bytes()),
+            ("uplink.pcap", &self.uplink),
+            ("phones.pcap", &self.phones),
+        ])
+    }
+
+    /// All that is written.
+    fn written(&self) -> [(&str, &[u8]); 6] {
+        [
+            ("uplink-out.pcap", &self.uplink_out),
+            ("phones-out.pcap", &self.phones_out),
+            ("servers-out.pcap", &self.servers_out),
+            ("spare-out.pcap", &HEADER),
+            ("trace.txt", TRACE.as_bytes()),
+            ("log.txt", LOG.as_bytes()),
+        ]
+    }
 }
 
 /// What a call tells that does all.
 const DONE: Told = (0, REPORT, "");
 
-/// Whether the switch with so many workers sends it all in two calls.
-fn both_send<R: Threads + Sync>(rt: &R, alloc: Global, workers: u8, calls: [Call; 2]) -> Answer {
-    let sent = sent(alloc)?;
-    let disk = disk_of(alloc, workers)?;
-    all_leave(rt, alloc, &calls, disk, (&written(&sent), &[]))
+/// Whether the switch with so many workers sends it all in these calls.
+fn all_send<R: Threads + Sync>(rt: &R, alloc: Global, workers: u8, calls: &[Call]) -> bool {
+    let mut office = Office::new(alloc);
+    match office.put(workers) {
+        Ok(()) => {
+            let disk = office.disk(alloc);
+            all_leave(rt, alloc, calls, disk, (&office.written(), &[]))
+        }
+        Err(_) => false,
+    }
 }
 
+/// A run, and its audit.
+const AUDITED: &[Call] = &[
+    (&["run", "c.toml"], DONE),
+    (&["audit", "c.toml"], (0, "audit yes\n", "")),
+];
+
+const WORKERS: &[u8] = &[1, 2, 64];
+
 #[test]
-fn an_office_sends_by_urgency_whatever_the_workers(rt: HostRuntime) -> Result<(), Fail> {
-    let run: Call = (&["run", "c.toml"], DONE);
-    let audit: Call = (&["audit", "c.toml"], (0, "audit yes\n", ""));
-    for workers in [1, 2, 64] {
-        assert!(rt;
-            both_send(&rt, rt.alloc(), workers, [run, audit])?,
-            "{workers} workers"
-        );
+fn an_office_sends_by_urgency_whatever_the_workers(rt: HostRuntime) {
+    for workers in WORKERS {
+        assert!(rt; all_send(&rt, rt.alloc(), *workers, AUDITED));
     }
-    Ok(())
 }
 
 const STOPPED: Told = (0, "", "");
@@ -211,26 +240,29 @@ const STOPS: &[[Call; 2]] = &[
 ];
 
 #[test]
-fn an_office_goes_on_after_a_stop(rt: HostRuntime) -> Result<(), Fail> {
+fn an_office_goes_on_after_a_stop(rt: HostRuntime) {
     for calls in STOPS {
-        assert!(rt; both_send(&rt, rt.alloc(), 1, *calls)?, "{:?}", calls[0].0);
+        assert!(rt; all_send(&rt, rt.alloc(), 1, calls));
     }
-    Ok(())
 }
 
 /// Whether it is all sent too where the captures are read ahead.
-fn streams<R>(rt: R, alloc: Global) -> Answer
+fn streams<R>(rt: R, alloc: Global) -> bool
 where
     R: Threads + Wait + Sync + Copy + Send + 'static,
 {
-    let sent = sent(alloc)?;
-    let disk = disk_of(alloc, 1)?;
-    let call: Call = (&["stream", "c.toml"], DONE);
-    leaves_ahead(rt, alloc, call, disk, (&written(&sent), &[]))
+    let mut office = Office::new(alloc);
+    match office.put(1) {
+        Ok(()) => {
+            let disk = office.disk(alloc);
+            let call: Call = (&["stream", "c.toml"], DONE);
+            leaves_ahead(rt, alloc, call, disk, (&office.written(), &[]))
+        }
+        Err(_) => false,
+    }
 }
 
 #[test]
-fn an_office_is_the_same_where_captures_are_read_ahead(rt: HostRuntime) -> Result<(), Fail> {
-    assert!(rt; streams(rt, rt.alloc())?);
-    Ok(())
+fn an_office_is_the_same_where_captures_are_read_ahead(rt: HostRuntime) {
+    assert!(rt; streams(rt, rt.alloc()));
 }

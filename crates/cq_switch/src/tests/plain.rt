@@ -2,14 +2,13 @@
 //! program's traces are its traces.
 //!
 //! It shares no line with the crates: it counts slots one by one, looks through all cells in each, and
-//! sorts a list whenever a cell comes. Slots, cells and outputs are those of `cq_trials::configuration`.
+//! sorts a list whenever a cell comes. Slots, cells and outputs are those of the configuration of `cq_trials`.
 ghost use Rattle.std.specs.Prelude.{◌<◌};
 
 use cq_base::NoMemory;
 use cq_trial_kit::Draws;
-use cq_trials::{Answer, DEFAULTS, Disk, Frame, Left, RUNS, passes};
+use cq_trials::{DEFAULTS, Disk, Frame, Left, RUNS, passes};
 use std::alloc::Global;
-use std::test::Fail;
 use std::thread::Threads;
 
 /// The slot of its arrival, its input, its packet, and its number in the packet. So the order of these
@@ -83,14 +82,16 @@ fn put_frames(
     Ok(())
 }
 
-/// All cells of all inputs.
-fn arrivals_of(alloc: Global, inputs: &[&[Frame]]) -> Result<Vec<Arrival>, NoMemory> {
-    let origin = origin_of(inputs);
-    let mut arrivals = Vec::new(alloc);
+/// Puts all cells of all inputs.
+fn put_inputs(
+    arrivals: &mut Vec<Arrival>,
+    inputs: &[&[Frame]],
+    origin: u64,
+) -> Result<(), NoMemory> {
     for (input, frames) in inputs.iter().enumerate() {
-        put_frames(&mut arrivals, input, frames, origin)?;
+        put_frames(arrivals, input, frames, origin)?;
     }
-    Ok(arrivals)
+    Ok(())
 }
 
 /// Puts the cells that arrive in the slot into the lists of their outputs.
@@ -117,36 +118,52 @@ fn send(lists: &mut Vec<Vec<Cell>>, slot: u64, trace: &mut String) -> Result<(),
     Ok(())
 }
 
-/// A list for each output, in which nothing waits.
-fn no_cells(alloc: Global, outputs: usize) -> Result<Vec<Vec<Cell>>, NoMemory> {
-    let mut lists = Vec::new(alloc);
+/// Puts a list for each output, in which nothing waits.
+fn put_lists(lists: &mut Vec<Vec<Cell>>, alloc: Global, outputs: usize) -> Result<(), NoMemory> {
     for _ in 0..outputs {
         lists.push(Vec::new(alloc))?;
     }
-    Ok(lists)
+    Ok(())
 }
 
-/// The departures, where these cells arrive.
-fn departures_of(
-    alloc: Global,
+/// Writes the departures, where these cells arrive.
+fn put_departures(
+    trace: &mut String,
     lists: &mut Vec<Vec<Cell>>,
     arrivals: &[Arrival],
-) -> Result<String, NoMemory> {
+) -> Result<(), NoMemory> {
     // After the last arrival each slot sends a cell, until none is left.
     let last = arrivals.iter().map(|(cell, _)| cell.0).max().unwrap_or(0);
-    let mut trace = String::new(alloc);
     for slot in 0..last.saturating_add(arrivals.len() as u64) {
         arrive(lists, arrivals, slot)?;
-        send(lists, slot, &mut trace)?;
+        send(lists, slot, trace)?;
     }
-    Ok(trace)
+    Ok(())
 }
 
-/// The departures of a switch whose inputs have these frames.
-fn trace_of(alloc: Global, inputs: &[&[Frame]]) -> Result<String, NoMemory> {
-    let arrivals = arrivals_of(alloc, inputs)?;
-    let mut lists = no_cells(alloc, inputs.len())?;
-    departures_of(alloc, &mut lists, &arrivals)
+/// What the plain switch works on.
+#[derive(Drop)]
+struct Plain {
+    arrivals: Vec<Arrival>,
+    lists: Vec<Vec<Cell>>,
+    trace: String,
+}
+
+impl Plain {
+    fn new(alloc: Global) -> Plain {
+        Plain {
+            arrivals: Vec::new(alloc),
+            lists: Vec::new(alloc),
+            trace: String::new(alloc),
+        }
+    }
+
+    /// Runs the switch whose inputs have these frames.
+    fn run(&mut self, alloc: Global, inputs: &[&[Frame]]) -> Result<(), NoMemory> {
+        put_inputs(&mut self.arrivals, inputs, origin_of(inputs))?;
+        put_lists(&mut self.lists, alloc, inputs.len())?;
+        put_departures(&mut self.trace, &mut self.lists, &self.arrivals)
+    }
 }
 
 /// A frame of up to 300 bytes, stamped within 4 microseconds of three seconds.
@@ -161,27 +178,27 @@ fn drawn_frame(draws: &mut Draws, ports: u64) -> Frame
     (seconds, nanoseconds, output, draws.below(301) as u32)
 }
 
-/// Three to six frames.
-fn drawn_frames(draws: &mut Draws, alloc: Global, ports: u64) -> Result<Vec<Frame>, NoMemory>
+/// Puts three to six frames.
+fn put_drawn_frames(frames: &mut Vec<Frame>, draws: &mut Draws, ports: u64) -> Result<(), NoMemory>
     requires some { 0 < ports }
     requires few { ports < 5 }
 {
-    let mut frames = Vec::new(alloc);
     for _ in 0..3 + draws.below(4) {
         frames.push(drawn_frame(draws, ports))?;
     }
-    Ok(frames)
+    Ok(())
 }
 
-/// The frames of two to four inputs.
-fn drawn_inputs(alloc: Global, seed: u64) -> Result<Vec<Vec<Frame>>, NoMemory> {
+/// Puts the frames of two to four inputs.
+fn put_drawn(inputs: &mut Vec<Vec<Frame>>, alloc: Global, seed: u64) -> Result<(), NoMemory> {
     let mut draws = Draws::from_seed(seed);
     let ports = 2 + draws.below(3);
-    let mut inputs = Vec::new(alloc);
     for _ in 0..ports {
-        inputs.push(drawn_frames(&mut draws, alloc, ports)?)?;
+        let mut frames = Vec::new(alloc);
+        put_drawn_frames(&mut frames, &mut draws, ports)?;
+        inputs.push(frames)?;
     }
-    Ok(inputs)
+    Ok(())
 }
 
 /// Whether a switch of the program writes this trace.
@@ -191,24 +208,32 @@ fn writes<R: Threads + Sync>(
     command: &str,
     inputs: &[&[Frame]],
     trace: &str,
-) -> Answer {
-    let disk = Disk::of_switch(alloc, inputs, 1, DEFAULTS)?;
+) -> bool {
+    let disk = Disk::of_switch(alloc, inputs, 1, &DEFAULTS);
     let left: Left = (&[("trace.txt", trace.as_bytes())], &[]);
     passes(rt, alloc, &[command, "c.toml"], disk, left)
 }
 
-/// Whether the program writes the plain switch's trace, by either switch.
-fn agrees<R: Threads + Sync>(rt: &R, alloc: Global, inputs: &[&[Frame]]) -> Answer {
-    let trace = trace_of(alloc, inputs)?;
-    Ok(writes(rt, alloc, "ideal", inputs, &trace)? && writes(rt, alloc, "run", inputs, &trace)?)
+/// Whether the program writes this trace, by either switch.
+fn both_write<R: Threads + Sync>(rt: &R, alloc: Global, inputs: &[&[Frame]], trace: &str) -> bool {
+    writes(rt, alloc, "ideal", inputs, trace) && writes(rt, alloc, "run", inputs, trace)
 }
 
-/// What the frames show, the frames of the one input, and their cells, in the slots in which they come.
-type Line = (&'static str, &'static [Frame], &'static [Arrival]);
+/// Whether the program writes the plain switch's trace, by either switch.
+fn agrees<R: Threads + Sync>(rt: &R, alloc: Global, inputs: &[&[Frame]]) -> bool {
+    let mut plain = Plain::new(alloc);
+    match plain.run(alloc, inputs) {
+        Ok(()) => both_write(rt, alloc, inputs, &plain.trace),
+        Err(_) => false,
+    }
+}
+
+/// The frames of one input, and their cells, in the slots in which they come.
+type Line = (&'static [Frame], &'static [Arrival]);
 
 const LINES: &[Line] = &[
+    // One, two and two cells at once.
     (
-        "one, two and two cells at once",
         &[(0, 0, 0, 64), (0, 0, 0, 65), (0, 0, 0, 128)],
         &[
             ((0, 0, 0, 0), 0),
@@ -218,13 +243,13 @@ const LINES: &[Line] = &[
             ((4, 0, 2, 1), 0),
         ],
     ),
+    // An earlier stamp after a later one.
     (
-        "an earlier stamp after a later one",
         &[(0, 2048, 0, 60), (0, 0, 0, 60)],
         &[((4, 0, 0, 0), 0), ((5, 0, 1, 0), 0)],
     ),
+    // A busy line.
     (
-        "a busy line",
         &[(0, 0, 0, 200), (0, 512, 0, 60)],
         &[
             ((0, 0, 0, 0), 0),
@@ -237,50 +262,60 @@ const LINES: &[Line] = &[
 ];
 
 /// Whether the cells of the one input come in these slots, also in the program.
-fn comes_so<R: Threads + Sync>(rt: &R, alloc: Global, line: &Line) -> Answer {
-    let (_, frames, cells) = *line;
+fn comes_so<R: Threads + Sync>(rt: &R, alloc: Global, line: &Line) -> bool {
+    let (frames, cells) = *line;
     let inputs = [frames];
-    let are_so = arrivals_of(alloc, &inputs)?.as_slice() == cells;
-    Ok(are_so && agrees(rt, alloc, &inputs)?)
-}
-
-#[test]
-fn one_line_is_as_in_the_plain_switch(rt: HostRuntime) -> Result<(), Fail> {
-    for line in LINES {
-        assert!(rt; comes_so(&rt, rt.alloc(), line)?, "{}", line.0);
+    let mut plain = Plain::new(alloc);
+    match plain.run(alloc, &inputs) {
+        Ok(()) => {
+            plain.arrivals.as_slice() == cells && both_write(rt, alloc, &inputs, &plain.trace)
+        }
+        Err(_) => false,
     }
-    Ok(())
 }
 
 #[test]
-fn worked_runs_are_as_in_the_plain_switch(rt: HostRuntime) -> Result<(), Fail> {
+fn one_line_is_as_in_the_plain_switch(rt: HostRuntime) {
+    for line in LINES {
+        assert!(rt; comes_so(&rt, rt.alloc(), line));
+    }
+}
+
+#[test]
+fn worked_runs_are_as_in_the_plain_switch(rt: HostRuntime) {
     for run in RUNS {
-        assert!(rt; agrees(&rt, rt.alloc(), run.inputs)?, "{}", run.shows);
+        assert!(rt; agrees(&rt, rt.alloc(), run.inputs));
+    }
+}
+
+/// Puts the frames of each input.
+fn put_slices<'a>(inputs: &mut Vec<&'a [Frame]>, drawn: &'a [Vec<Frame>]) -> Result<(), NoMemory> {
+    for frames in drawn {
+        inputs.push(frames.as_slice())?;
     }
     Ok(())
 }
 
 /// Whether the program agrees on these frames.
-fn agrees_on<R: Threads + Sync>(rt: &R, alloc: Global, drawn: &[Vec<Frame>]) -> Answer {
+fn agrees_on<R: Threads + Sync>(rt: &R, alloc: Global, drawn: &[Vec<Frame>]) -> bool {
     let mut inputs = Vec::new(alloc);
-    for frames in drawn {
-        inputs.push(frames.as_slice())?;
+    match put_slices(&mut inputs, drawn) {
+        Ok(()) => agrees(rt, alloc, &inputs),
+        Err(_) => false,
     }
-    agrees(rt, alloc, &inputs)
 }
 
-fn agrees_on_drawn<R: Threads + Sync>(rt: &R, alloc: Global, seed: u64) -> Answer {
-    let drawn = drawn_inputs(alloc, seed)?;
-    agrees_on(rt, alloc, &drawn)
+fn agrees_on_drawn<R: Threads + Sync>(rt: &R, alloc: Global, seed: u64) -> bool {
+    let mut drawn = Vec::new(alloc);
+    match put_drawn(&mut drawn, alloc, seed) {
+        Ok(()) => agrees_on(rt, alloc, &drawn),
+        Err(_) => false,
+    }
 }
 
 #[test]
-fn drawn_traffic_is_as_in_the_plain_switch(rt: HostRuntime) -> Result<(), Fail> {
+fn drawn_traffic_is_as_in_the_plain_switch(rt: HostRuntime) {
     for seed in 1..9 {
-        assert!(rt;
-            agrees_on_drawn(&rt, rt.alloc(), seed)?,
-            "drawn from {seed}"
-        );
+        assert!(rt; agrees_on_drawn(&rt, rt.alloc(), seed));
     }
-    Ok(())
 }

@@ -2,12 +2,11 @@
 
 use cq_base::Port;
 use cq_stream::{OpenWatch, Watch};
-use cq_trials::{Answer, RUNS, RUNS_BY_KEYS, TWO_FOR_ONE};
+use cq_trials::{RUNS, RUNS_BY_KEYS, TWO_FOR_ONE};
 use std::alloc::Global;
 use std::sync::atomic::AtomicU64;
 use std::sync::atomic::Ordering::SeqCst;
 use std::sync::{Arc, Wait};
-use std::test::Fail;
 use std::thread::{Threads, yield_now};
 
 /// How many turns a reader is held for at most.
@@ -84,29 +83,36 @@ impl Watch for Meeting {
     }
 }
 
-/// Whether the readers of inputs 0 and 1 tell once each, no other does, none waits in vain, and all is done.
-fn meet<R>(rt: R, alloc: Global) -> Answer
+/// Whether a run is all done where a watch keeps what is told here, the readers of inputs 0 and 1 tell once each, no
+/// other does, and none waits in vain.
+fn meet_under<R>(rt: R, alloc: Global, told: &Arc<Told, Global>) -> bool
 where
     R: Threads + Wait + Sync + Copy + Send + 'static,
 {
-    let told = Arc::new(alloc, Told::nothing())?;
     let watch = Meeting {
-        told: Arc::try_clone(&told).ok(),
+        told: Arc::try_clone(told).ok(),
     };
-    let streams = TWO_FOR_ONE.streams(rt, alloc, &watch)?;
-    Ok(streams && told.all() == [1, 1, 0, 0])
+    TWO_FOR_ONE.streams(rt, alloc, &watch) && told.all() == [1, 1, 0, 0]
 }
 
-#[test]
-fn readers_meet(rt: HostRuntime) -> Result<(), Fail> {
-    assert!(rt; meet(rt, rt.alloc())?);
-    Ok(())
-}
-
-#[test]
-fn worked_runs_are_the_same_where_captures_are_read_ahead(rt: HostRuntime) -> Result<(), Fail> {
-    for run in RUNS.iter().chain(RUNS_BY_KEYS) {
-        assert!(rt; run.streams(rt, rt.alloc(), &OpenWatch)?, "{}", run.shows);
+fn meet<R>(rt: R, alloc: Global) -> bool
+where
+    R: Threads + Wait + Sync + Copy + Send + 'static,
+{
+    match Arc::new(alloc, Told::nothing()) {
+        Ok(told) => meet_under(rt, alloc, &told),
+        Err(_) => false,
     }
-    Ok(())
+}
+
+#[test]
+fn readers_meet(rt: HostRuntime) {
+    assert!(rt; meet(rt, rt.alloc()));
+}
+
+#[test]
+fn worked_runs_are_the_same_where_captures_are_read_ahead(rt: HostRuntime) {
+    for run in RUNS.iter().chain(RUNS_BY_KEYS) {
+        assert!(rt; run.streams(rt, rt.alloc(), &OpenWatch));
+    }
 }
