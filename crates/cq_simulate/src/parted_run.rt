@@ -1,6 +1,6 @@
 //! The run of the fabric in parts: up to a slot, and on from there.
 ghost use Rattle.std.specs.Prelude.{◌≡◌, ◌+◌, ◌-◌, ◌<◌, ◌≤◌, ◌^◌, IfErr, IfOk, OnOk, length, map};
-ghost use Rattle.cq_simulate.specs.Terms.{IsParted, IsResumed, switch_of, ports_of, openings_of, ArrivesIn, HasPartedTo, IsReadyPart, NoneCome, StopsWithin, CanBeTakenUp, IsPartFault, IsResumeFault, kept_of, taken_at, unpacked_run, IsScheduleFor};
+ghost use Rattle.cq_simulate.specs.Terms.{IsParted, IsResumed, switch_of, ports_of, openings_of, ArrivesIn, HasPartedTo, IsReadyPart, NoneCome, StopsWithin, CanBeTakenUp, IsPartFault, IsResumeFault, kept_of, taken_at, unpacked_run, IsScheduleFor, IsFreshFor};
 
 use crate::RunRefusal;
 use crate::fabric_run::{PackedFabricRun, run_on, skip};
@@ -12,6 +12,7 @@ use cq_engine::Engine;
 use cq_rank::Rank;
 use cq_resume::{Frozen, Taken};
 use cq_route::Tables;
+use cq_scfq::Discipline;
 use std::alloc::Global;
 use std::thread::Threads;
 
@@ -48,20 +49,35 @@ pub fn part_fabric<R: Threads + Sync, G: Gate>(
     ensures refused { IfErr result
         (IsPartFault (switch_of tables.now schedule.now) (openings_of tables.now.setup) slots) }
 {
+    let mut engine = engine_for(alloc, tables, schedule)?;
+    part_fresh(rt, alloc, &mut engine, tables, schedule, slots, gate)
+}
+
+// Does so with a fabric of the tables' switch that has had no slot.
+fn part_fresh<R: Threads + Sync, G: Gate>(
+    rt: &R,
+    alloc: Global,
+    engine: &mut Engine<Discipline>,
+    tables: &Tables,
+    schedule: &Schedule,
+    slots: Slot,
+    gate: &G,
+) -> Result<Parted, RunRefusal>
+    requires fit { IsScheduleFor tables.now schedule.now }
+    requires slots { slots < 2 ^ 63 }
+    requires fresh { IsFreshFor tables.now schedule.now.came engine.old }
+    ensures parted { IfOk result (λ run.
+        IsParted (switch_of tables.now schedule.now) (openings_of tables.now.setup) slots (taken_at run)) }
+    ensures ports { IfOk result (λ run. length run.frozen.lists ≡ ports_of tables.now.setup) }
+    ensures refused { IfErr result
+        (IsPartFault (switch_of tables.now schedule.now) (openings_of tables.now.setup) slots) }
+{
     let ports = port_count(tables);
     let total = schedule.total();
     let mut sent = Room::new(alloc, total + ports)?;
     let mut note = Room::new(alloc, total + 2 * ports)?;
-    let mut engine = engine_for(alloc, tables, schedule)?;
     run_before(
-        rt,
-        alloc,
-        &mut engine,
-        schedule,
-        slots,
-        gate,
-        &mut sent,
-        &mut note,
+        rt, alloc, engine, schedule, slots, gate, &mut sent, &mut note,
     )?;
     let frozen = engine.freeze(alloc)?;
     Ok(Parted { frozen, sent, note })

@@ -1,20 +1,20 @@
 use Rattle.cq_simulate.proofs.Terms.{rules, ap, arith, err_from_is_err_and, EngineView}
 use Rattle.cq_simulate.proofs.FabricOpening.{IsMade, can_begin, made_for, port_count}
 use Rattle.cq_simulate.proofs.Parting.{part_fault, parted_of}
-use Rattle.cq_simulate.proofs.parted_run.part_fabric.Given as given
-use Rattle.cq_simulate.proofs.parted_run.part_fabric.Goals as goal
-use Rattle.cq_simulate.proofs.parted_run.part_fabric.Goals.{In_ok-engine}
+use Rattle.cq_simulate.proofs.parted_run.part_fresh.Given as given
+use Rattle.cq_simulate.proofs.parted_run.part_fresh.Goals as goal
+use Rattle.cq_simulate.proofs.parted_run.part_fresh.Goals.{In_ok-note}
 
 -- the engine is made for the tables and the schedule, with room for all that it is to send and to note
-made : (g : given.Over) (c : In_ok-engine g) →
-    IsMade c.args.tables.now c.args.schedule.now c.in_ok-engine.engine c.in_ok-sent.sent c.in_ok-note.note
+made : (g : given.Over) (c : In_ok-note g) →
+    IsMade c.args.tables.now c.args.schedule.now c.args.engine.now c.in_ok-sent.sent c.in_ok-note.note
 made g c = search (arith, rules, made_for)
 
 pub run_before-requires-clause-ready : goal.run_before-requires-clause-ready
 run_before-requires-clause-ready g c =
-    let next = ap (λ (e : EngineView). e.next) c.in_ok-engine.ensures.fresh in
+    let next = ap (λ (e : EngineView). e.next) c.requires.fresh.fresh in
     λ _ _. record {
-      ready = can_begin (made g (goal.at.run_before-requires-clause-ready g c).In_ok-engine);
+      ready = can_begin (made g (goal.at.run_before-requires-clause-ready g c).In_ok-note);
       next = omega arith;
       early = c.requires.slots;
     }
@@ -24,14 +24,14 @@ freeze-requires g c = c.in_ok-run_before.ensures.run.went.running
 
 pub returns-in_err-run_before-clause-refused : goal.returns-in_err-run_before-clause-refused
 returns-in_err-run_before-clause-refused g c =
-    let begins = made g (goal.at.returns-in_err-run_before-clause-refused g c).In_ok-engine in
+    let begins = made g (goal.at.returns-in_err-run_before-clause-refused g c).In_ok-note in
     let p = err_from_is_err_and c.from_residual-in_err-run_before.result c.from_residual-in_err-run_before.ensures.1 in
     rw (p.1, p.2)
     (part_fault c.args.tables.now c.args.schedule.now begins c.args.slots _ c.in_err-run_before.ensures.fault)
 
 pub returns-clause-parted : goal.returns-clause-parted
 returns-clause-parted g c =
-    parted_of c.args.tables.now c.args.schedule.now (made g (goal.at.returns-clause-parted g c).In_ok-engine)
+    parted_of c.args.tables.now c.args.schedule.now (made g (goal.at.returns-clause-parted g c).In_ok-note)
     c.args.slots c.run_before.new.engine c.run_before.new.sent c.run_before.new.note c.in_ok-frozen.frozen
     c.in_ok-run_before.ensures.run c.in_ok-frozen.ensures
 
