@@ -74,11 +74,26 @@ fn departed(gone: Gone) -> Departure
     }
 }
 
-// The departures.
-fn departures_of(alloc: Global, sent: &[Gone]) -> Result<Vec<Departure>, AllocError>
-    ensures { IfOk result (λ departures. departures.items ≡ map departed sent.now) }
+// What was found of the cells that were sent. Nothing else is kept of what was found.
+fn sent_of(found: Found) -> Vec<Gone>
+    ensures { result.items ≡ found.sent.items }
+{
+    found.sent
+}
+
+// The departures of cells that were sent.
+fn departures_of(alloc: Global, sent: Vec<Gone>) -> Result<Vec<Departure>, AllocError>
+    ensures { IfOk result (λ departures. departures.items ≡ map departed sent.items) }
 {
     sent.iter().map(|gone| departed(*gone)).collect(alloc)
+}
+
+// The numbers of the rank states, and the transfers. No line of a cell is kept.
+fn beside_cells(state: State) -> (Sequence<Sequence<u128>>, Sequence<Transfer>)
+    ensures ranks { result.0 ≡ state.ranks }
+    ensures moved { result.1 ≡ state.moved }
+{
+    (state.ranks, state.moved)
 }
 
 // What was seen of each input: the cells that are named, and what the lines tell.
@@ -169,42 +184,55 @@ fn slots_of(sent: &[Departure]) -> Slot
     sent[sent.len() - 1].slot + 1
 }
 
+// What left: the departures, how many slots they took, and what was seen of each output.
+#[derive(Drop)]
+struct Left {
+    sent: Sequence<Departure>,
+    slots: Slot,
+    outputs: Sequence<OutputFigures>,
+}
+
+// What left with these cells.
+fn left_of(alloc: Global, sent: Vec<Gone>, ports: u16) -> Result<Left, NoMemory>
+    requires rising { AllPairs (λ d e. d.slot ≤ e.slot) (map departed sent.items) }
+    requires low { AllByRecursion (λ d. d.slot < 2 ^ 63) (map departed sent.items) }
+    requires outputs { AllByRecursion (λ d. d.output < ports) (map departed sent.items) }
+    ensures sent { IfOk result (λ left. left.sent ≡ map departed sent.items) }
+    ensures slots { IfOk result (λ left. left.slots ≡ slots_of (map departed sent.items)) }
+    ensures outputs { IfOk result (λ left. left.outputs
+        ≡ map (output_told (map departed sent.items)) (range_with_len 0 ports)) }
+{
+    let sent = departures_of(alloc, sent)?;
+    let slots = slots_of(&sent);
+    let outputs = outputs_of(alloc, &sent, ports)?;
+    Ok(Left {
+        sent: Sequence::of(sent),
+        slots,
+        outputs,
+    })
+}
+
 /// What a state comes to that was found to be sound. The error is want of memory.
+// The lines of the state go before the lists come, and what was found of them before the departures do.
 pub fn take_up(alloc: Global, state: State, found: Found, tally: Tally) -> Result<Taken, NoMemory>
     requires { CanTakeUp state found }
     ensures { (w : Switch) → IsFound w.came state found → IsTally w state tally
         → IfOk result (λ taken. taken ≡ taken_of w state) }
 {
-    let State {
-        head,
-        inputs,
-        ranks,
-        listed: _,
-        buffered: _,
-        sent: lines,
-        moved,
-    } = state;
-    let Found {
-        listed,
-        buffered,
-        sent: gone,
-        names,
-    } = found;
-    let inputs = inputs_of(alloc, &names, inputs.as_slice())?;
-    // The names, and the lines of what was sent, are wanted no more: they go before the departures come.
-    drop(lines);
-    drop(names);
-    let sent = departures_of(alloc, &gone)?;
-    drop(gone);
-    let slots = slots_of(&sent);
-    let outputs = outputs_of(alloc, &sent, head.ports)?;
-    let (lists, buffers) = queues_of(alloc, &listed, &buffered, head.ports)?;
+    let head = state.head;
+    let inputs = inputs_of(alloc, &found.names, state.inputs.as_slice());
+    let (ranks, moved) = beside_cells(state);
+    let queues = queues_of(alloc, &found.listed, &found.buffered, head.ports);
+    let sent = sent_of(found);
+    let inputs = inputs?;
+    let (lists, buffers) = queues?;
+    let left = left_of(alloc, sent, head.ports)?;
     let figures = Figures {
-        slots,
+        slots: left.slots,
         proposals: head.proposals,
         most: head.most,
         inputs,
-        outputs,
+        outputs: left.outputs,
     };
     let frozen = Frozen {
         next: head.next,
@@ -217,7 +245,7 @@ pub fn take_up(alloc: Global, state: State, found: Found, tally: Tally) -> Resul
     };
     Ok(Taken {
         frozen,
-        sent: Sequence::of(sent),
+        sent: left.sent,
         note: moved,
     })
 }
