@@ -1,6 +1,7 @@
 -- The walk over the cells of one input, cell by cell: the mark so far with the cells that are left gives the mark in
 -- the end, and so do the counts. Each step takes the first of the cells that are left.
-use Rattle.cq_resume.proofs.Terms.{rules, ◌≡◌, ℕ, suc, eqb, Bool, true, false, cond, List, [], ◌∷◌, ◌++◌, length, map, Option, None, refl, ap, inl, arith, common_steps, ◌&&◌, ◌==◌, not, list_any, eqb-true, Arrival, Cell, Refused, CanCount, with_refused, all_counted_both, counts_left, fewer_left, none_counted, coming, has_limit, has_name, mark_on, may_come, unnamed, Name, kept_has, Has}
+use Rattle.cq_resume.proofs.Terms.{rules, ◌≡◌, ℕ, suc, eqb, Bool, true, false, cond, List, [], ◌∷◌, ◌++◌, length, map, filter, and_parts, Option, None, refl, ap, inl, arith, common_steps, ◌&&◌, ◌==◌, not, list_any, eqb-true, Arrival, Cell, Refused, CanCount, with_refused, all_counted_both, counts_left, fewer_left, none_counted, coming, has_limit, has_name, mark_on, may_come, unnamed, Name, kept_has, Has}
+use Rattle.std.proofs.lemmas.Map.Views.{any-filter_same}
 use Rattle.cq_resume.proofs.Coming.{is_between}
 
 abbrev pub cells_in : List Arrival → List Cell
@@ -25,14 +26,19 @@ module _ (input from next : ℕ) (came : List Arrival) {names : List Name} {limi
     {all rest : List Arrival} {mark : Bool} {first now : List Refused}
     (known : Walked names limits all (coming input from next came) mark first now) {slot : ℕ} {cell : Cell}
     (splits : coming input from next came ≡ record { slot = slot; cell = cell } ∷ rest) {is_told limited may : Bool}
-    (name : is_told ≡ list_any (λ n. eqb n.queued.key.slot slot && eqb n.queued.key.input input) names)
+    {own : List Name} (at_input : own ≡ filter (λ n. eqb n.queued.key.input input) names)
+    (name : is_told ≡ list_any (λ n. eqb n.queued.key.slot slot && eqb n.queued.key.input input) own)
     (limit : limited ≡ has_limit limits cell.output)
     (test : may ≡ may_come (cell.id.index == 0) is_told limited mark) where
   abbrev its : Arrival
   its = record { slot = slot; cell = cell }
 
   its_name : is_told ≡ has_name names its
-  its_name = grind (arith, common_steps, comes_from input from next came its rest splits)
+  its_name =
+      let alike = any-filter_same (λ n. eqb n.queued.key.slot slot && eqb n.queued.key.input input)
+      (λ n. eqb n.queued.key.input input) true
+      (λ n holds. (and_parts (eqb n.queued.key.slot slot) (eqb n.queued.key.input input) holds).1) names in
+      grind (arith, common_steps, comes_from input from next came its rest splits)
 
   step : mark_on (has_name names) (has_limit limits) mark (coming input from next came)
       ≡ cond may (mark_on (has_name names) (has_limit limits) (not is_told) rest) None

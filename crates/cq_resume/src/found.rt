@@ -233,12 +233,6 @@ pub fn is_named(names: &[Name], input: Port, slot: Slot, near: usize) -> bool
     is_of(&names[at], input, slot)
 }
 
-/// How many of the names, which stand in order, are of inputs before this one. It says only where to look first, so no
-/// clause speaks of it.
-pub fn before_input(names: &[Name], input: Port) -> usize {
-    names.partition_point(|name| name.queued.key.input < input)
-}
-
 /// Those of the names, which stand in order, that are of this input.
 pub fn names_at(names: &[Name], input: Port) -> &[Name]
     requires { AllPairs IsNameBefore names.now }

@@ -2,7 +2,7 @@
 ghost use Rattle.std.specs.Prelude.{◌≡◌, ◌∷◌, ◌+◌, ◌==◌, ◌<◌, ◌≤◌, ◌^◌, [], if◌then◌else◌, AllPairs, IfNone, IfOk, IfSome, false, length, map};
 ghost use Rattle.cq_resume.specs.Terms.{CanCount, with_refused, ArePackets, IsNameBefore, PacketsStand, TalliesUp, coming, has_limit, has_name, mark_on, may_come, unnamed, most_ports};
 
-use crate::found::{Name, before_input, is_named};
+use crate::found::{Name, is_named, names_at};
 use cq_base::{Cell, NoMemory, Port, Sequence, Slot};
 use cq_cells::Schedule;
 use cq_ideal::{count_refused, none_refused};
@@ -78,9 +78,10 @@ fn walk(
     let mut mark = false;
     let mut from = 0;
     // The names of an input stand in the order in which its cells arrive, so the next one that is named is here.
-    let mut near = before_input(names, input);
+    let own = names_at(names, input);
+    let mut near = 0;
     'arrivals: while let Some((slot, cell)) = next_cell(schedule, input, from, next) {
-        let named = is_named(names, input, slot, near);
+        let named = is_named(own, input, slot, near);
         near = near.saturating_add(usize::from(named));
         let limited = limits[cell.output as usize].is_some();
         if !may_come(cell.id.index == 0, named, limited, mark) {
