@@ -6,11 +6,28 @@ use Rattle.cq_base.specs.declared.cell.Queued.{Queued}
 use Rattle.cq_base.specs.declared.cell.Transfer.{Transfer}
 use Rattle.cq_base.specs.declared.setup.Setup.{Setup}
 use Rattle.cq_base.specs.Limits.{most_classes}
+use Rattle.cq_cells.specs.Scheduled.{Scheduled}
+use Rattle.cq_cells.specs.Traffic.{IsTraffic}
 use Rattle.cq_lines.specs.Transfers.{IsTransferBefore}
-use Rattle.cq_resume.specs.Finding.{BuffersStand, ListsStand, SentStand, SlackStands, StandsBelow}
+use Rattle.cq_resume.specs.Finding.{BuffersStand, IsFound, ListsStand, SentStand, SlackStands, StandsBelow}
+use Rattle.cq_resume.specs.Sound.{AreArrivals}
+use Rattle.cq_resume.specs.Switch.{HasShape, switch_of}
 use Rattle.cq_resume.specs.declared.found.Found.{Found}
 use Rattle.cq_resume.specs.declared.refusal.StateRefusal.{StateRefusal}
 use Rattle.cq_resume.specs.declared.refusal.StateRefusal.TheVariants as refusal
+use Rattle.cq_route.specs.Tables.{AreTables, classes_of, ports_of}
+use Rattle.cq_route.specs.declared.tables.Tables.{Tables}
+use Rattle.cq_state.specs.State.{IsInRange}
+use Rattle.cq_state.specs.declared.state.State.{State}
+
+-- what is known once the cells of a state were found
+pub record Known (t : Tables) (c : Scheduled) (s : State) (f : Found) : Type 0 where
+  pub tables : AreTables t
+  pub traffic : IsTraffic (ports_of t.setup) (classes_of t.setup) c.came
+  pub range : IsInRange s
+  pub shape : HasShape (switch_of t c) s
+  pub found : IsFound c.came s f
+  pub arrivals : AreArrivals c.came s
 
 -- the cells are those of a switch of this setup
 abbrev pub IsCellFor : Setup → Queued → Type 0

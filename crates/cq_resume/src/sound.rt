@@ -1,7 +1,7 @@
 //! Whether a state is sound.
 ghost use Rattle.std.specs.Prelude.{◌≡◌, ◌↔◌, ◌<◌, ◌≤◌, AllPairs, IfErr, IfOk, IsTrue, OnOk, length};
 ghost use Rattle.std.specs.List.{AllByRecursion};
-ghost use Rattle.cq_resume.specs.Terms.{IsTraffic, IsTally, AreSized, ArePackets, FlowsStand, IsFound, IsNameBefore, AreCellsFor, AreNamesFor, AreOrdered, HaveRoom, IsFirstOfTwo, StandBelow, IsFirstOf, IsSound, HasShape, switch_of, CanTakeUp, AreTables, classes_of, ports_of, machines_of, IsInRange, most_ports};
+ghost use Rattle.cq_resume.specs.Terms.{IsTraffic, IsTally, AreSized, ArePackets, FlowsStand, IsFound, IsNameBefore, AreCellsFor, AreNamesFor, AreOrdered, HaveRoom, IsFirstOfTwo, Known, StandBelow, IsFirstOf, IsSound, HasShape, switch_of, CanTakeUp, AreTables, classes_of, ports_of, machines_of, IsInRange, most_ports};
 
 use crate::StateRefusal;
 use crate::floors::are_below_floors;
@@ -71,6 +71,38 @@ fn judge_ranks(
     Ok(())
 }
 
+// What the cells come to that a state does not name, where those that it names were found. It is refused for the first
+// of the other clauses that does not hold.
+fn judge_found(
+    alloc: Global,
+    state: &State,
+    tables: &Tables,
+    schedule: &Schedule,
+    found: &Found,
+) -> Result<Tally, StateRefusal>
+    requires ports { schedule.now.ports ≡ ports_of tables.now.setup }
+    requires packets { ArePackets schedule.now.ports schedule.now.came }
+    requires known { Known tables.now schedule.now state.now found.now }
+    ensures ready { OnOk result (CanTakeUp state.now found.now) }
+    ensures tally { IfOk result (IsTally (switch_of tables.now schedule.now) state.now) }
+    ensures sound { OnOk result (IsSound (switch_of tables.now schedule.now) state.now) }
+    ensures refused { IfErr result (IsFirstOf (switch_of tables.now schedule.now) state.now) }
+{
+    judge_places(found, state)?;
+    let tally = tally_packets(
+        alloc,
+        schedule,
+        state.head.next,
+        &found.names,
+        tables.limits.as_slice(),
+    )?;
+    let Some(tally) = tally else {
+        return Err(StateRefusal::Unsound { clause: 4 });
+    };
+    judge_ranks(alloc, &tables.setup, state, found)?;
+    Ok(tally)
+}
+
 /// The cells that a state of this shape names, and what those come to that it does not name. It is refused for the
 /// first clause that does not hold.
 pub fn judge(
@@ -91,19 +123,7 @@ pub fn judge(
     ensures sound { OnOk result (IsSound (switch_of tables.now schedule.now) state.now) }
     ensures refused { IfErr result (IsFirstOf (switch_of tables.now schedule.now) state.now) }
 {
-    let next = state.head.next;
     let found = find(alloc, state, schedule)?;
-    judge_places(&found, state)?;
-    let tally = tally_packets(
-        alloc,
-        schedule,
-        next,
-        &found.names,
-        tables.limits.as_slice(),
-    )?;
-    let Some(tally) = tally else {
-        return Err(StateRefusal::Unsound { clause: 4 });
-    };
-    judge_ranks(alloc, &tables.setup, state, &found)?;
+    let tally = judge_found(alloc, state, tables, schedule, &found)?;
     Ok((found, tally))
 }
