@@ -1,12 +1,12 @@
 //! The run of the fabric.
-ghost use Rattle.std.specs.Prelude.{◌≡◌, ◌↔◌, ◌<◌, ◌≤◌, ℕ, List, Option, IsTrue, false, IfOk, IfErr, Ok, OnOk, [], length, map};
+ghost use Rattle.std.specs.Prelude.{◌≡◌, ◌↔◌, ◌<◌, ◌≤◌, ℕ, List, Option, IsTrue, false, IfOk, IfErr, Ok, OnOk, length, map};
 ghost use Rattle.cq_engine.specs.Resting.{HasRested};
 ghost use denote.Ref.{Bor};
-ghost use Rattle.cq_simulate.specs.Terms.{Cell, arriving, end_of, IsEmptyFabric, IsKeptOf, unpacked_run, ideal_departures, ideal_refusals, IsRefusalOf, IsScheduleFor, HasKept, HasRunOn, IsIdle, IsReadyOn, IsRefusalOn, StopsOn};
+ghost use Rattle.cq_simulate.specs.Terms.{Cell, arriving, end_of, IsEmptyFabric, IsKeptOf, unpacked_run, ideal_departures, ideal_refusals, IsRefusalOf, IsScheduleFor, HasKept, HasRunOn, IsIdle, IsReadyOn, IsRefusalOn};
 
 use crate::RunRefusal;
 use crate::ports::{engine_for, port_count};
-use cq_base::{Departure, Departures, Figures, Room, Slot, TagFault, Transfer};
+use cq_base::{Departure, Departures, Figures, Room, Slot, Transfer};
 use cq_cells::{Coming, Schedule};
 use cq_crew::Gate;
 use cq_engine::{Engine, Refused};
@@ -121,14 +121,13 @@ pub fn run_on<T: Threads + Sync, R: Rank, G: Gate>(
     ensures run { IfOk result (HasKept (map R.machine engine.fixed) schedule.now.came engine sent note) }
     ensures refused { IfErr result (IsRefusalOn (map R.machine engine.fixed) schedule.now.came engine) }
 {
-    let mut leaving = Room::new(alloc, ports)?;
     run_slots(
         rt,
         alloc,
         &mut engine,
+        ports,
         schedule,
         gate,
-        &mut leaving,
         &mut sent,
         &mut note,
     )?;
@@ -181,33 +180,33 @@ pub fn skip<R: Rank, F: FnOnce(&Coming) -> Slot>(
     next
 }
 
-// Runs a fabric on over all cells that are still to come. What is sent in a slot stands in a list for as many as there
-// are ports, until it is packed. The error is the first tag fault.
+// Runs a fabric of so many ports on over all cells that are still to come. What is sent in a slot stands in a list for
+// as many as there are ports, until it is packed. The error is the first tag fault, or want of memory.
 fn run_slots<T: Threads + Sync, R: Rank, G: Gate>(
     rt: &T,
     alloc: Global,
     engine: &mut Engine<R>,
+    ports: u64,
     schedule: &Schedule,
     gate: &G,
-    leaving: &mut Room<Departure>,
     sent: &mut Departures,
     note: &mut Room<Transfer>,
-) -> Result<(), TagFault>
+) -> Result<(), RunRefusal>
     requires ready { IsReadyOn (map R.machine engine.old.fixed) schedule.now.came engine.old sent.old note.old }
-    requires none { leaving.old.items ≡ [] }
-    requires few { leaving.old.spare ≡ length engine.old.fixed }
+    requires ports { ports ≡ length engine.old.fixed }
     ensures run { OnOk result (HasRunOn (map R.machine engine.old.fixed) schedule.now.came engine.old engine.new
         sent.old sent.new note.old note.new) }
-    ensures fault { IfErr result (StopsOn (map R.machine engine.old.fixed) schedule.now.came engine.old) }
+    ensures refused { IfErr result (IsRefusalOn (map R.machine engine.old.fixed) schedule.now.came engine.old) }
 {
+    let mut leaving = Room::new(alloc, ports)?;
     let mut coming = Coming::none();
     let mut slot = engine.next();
     'slots: while !is_over(engine, schedule, slot) {
         slot = skip(engine, schedule, slot, &mut coming, |coming| {
             quiet_near(schedule, slot, coming)
         });
-        engine.slot(rt, alloc, slot, coming.arrivals(), gate, leaving, note)?;
-        sent.take_all(leaving);
+        engine.slot(rt, alloc, slot, coming.arrivals(), gate, &mut leaving, note)?;
+        sent.take_all(&mut leaving);
         slot += 1;
     }
     Ok(())

@@ -39,10 +39,10 @@ slot-requires-clause-arrivals g c = search (arith, rules, can)
 pub slot-requires-clause-ready : goal.slot-requires-clause-ready
 slot-requires-clause-ready g c = search (arith, rules, can g (goal.at.slot-requires-clause-ready g c).After-arrivals)
 
-pub returns-in_err-slot-clause-fault : goal.returns-in_err-slot-clause-fault
-returns-in_err-slot-clause-fault g c =
-    let here = stands g (goal.at.returns-in_err-slot-clause-fault g c).After-arrivals in
-    let p = err_from_is_err_and c.from_residual.result c.from_residual.ensures.1 in
+pub returns-in_err-slot-clause-refused : goal.returns-in_err-slot-clause-refused
+returns-in_err-slot-clause-refused g c =
+    let here = stands g (goal.at.returns-in_err-slot-clause-refused g c).After-arrivals in
+    let p = err_from_is_err_and c.from_residual-in_err-slot.result c.from_residual-in_err-slot.ensures.1 in
     let count = c.skip-slot.result + 1 - c.args.engine.now.next in
     rw (p.1, p.2) (record {
       count = count;
