@@ -1,6 +1,6 @@
 -- How the run of a fabric that is made for tables begins, and what its end says of the tables. What the calls say that
 -- made it is one record. From it the engine can begin.
-use Rattle.cq_simulate.proofs.Terms.{refl, common_steps, rules, ◌≡◌, ℕ, ◌+◌, ◌*◌, ◌≤◌, ◌^◌, List, [], length, map, Option, sym, ap, ◌∙◌, arith, take_all, length-map, length-map-range_with_len, Arrival, traffic_of, first_slots, RoomView, Departure, Transfer, Scheduled, CanBeMade, EngineView, fresh_engine, frozen_of, marked_fabric, departures_limited, limited_run, counts_more, refused_in, admissions_in, slots_in, AreTables, ports_of, IsSetup, classes_of, Tables, fixed_of, machine_from, state_of, machines_of, openings_of, IsKeptOf, unpacked_run, kept_of, ArePortsFor, IsFreshFor, HasKept, IsReadyOn, IsRefusalOn, IsRefusalOf, ideal_departures, ran_ideal, limited_same_sent, limited_whole_fault, slots_fit, IsScheduleFor, PackedFabricRun, Ports, RunRefusal, range_with_len, IsShort, IsTraffic, is_from, is_to, number_of, IdealSwitch, marked_state, Machine, class_count, IsReady, IsResumed, Kept, RunsOn, Switch, switch_of, Taken, best_act_alike_from_empty, figures_fold, Discipline, fresh_ideal}
+use Rattle.cq_simulate.proofs.Terms.{refl, common_steps, rules, ◌≡◌, ℕ, ◌+◌, ◌*◌, ◌≤◌, ◌^◌, List, [], length, map, Option, sym, ap, ◌∙◌, arith, take_all, length-map, length-map-range_with_len, Arrival, traffic_of, first_slots, RoomView, Departure, Transfer, Scheduled, CanBeMade, EngineView, fresh_engine, frozen_of, marked_fabric, departures_limited, limited_run, counts_more, refused_in, admissions_in, slots_in, AreTables, ports_of, IsSetup, classes_of, Tables, fixed_of, machine_from, state_of, machines_of, openings_of, IsKeptOf, unpacked_run, kept_of, ArePortsFor, IsFreshFor, IsIdealFor, HasKept, IsReadyOn, IsRefusalOn, IsRefusalOf, ideal_departures, ran_ideal, limited_same_sent, limited_whole_fault, slots_fit, IsScheduleFor, PackedFabricRun, Ports, RunRefusal, range_with_len, IsShort, IsTraffic, is_from, is_to, number_of, IdealSwitch, marked_state, Machine, class_count, IsReady, IsResumed, Kept, RunsOn, Switch, switch_of, Taken, best_act_alike_from_empty, figures_fold, Discipline, fresh_ideal}
 use Rattle.cq_simulate.proofs.TakenUp.{goes_from, holds_none, machine_count, room_at}
 use Rattle.cq_simulate.specs.ScheduleFor.{by_port}
 use Rattle.cq_simulate.specs.declared.refusal.RunRefusal.TheVariants as refusal
@@ -10,26 +10,31 @@ use Rattle.cq_simulate.specs.declared.refusal.RunRefusal.TheVariants as refusal
 
 -- ## A new switch
 
-module _ (M : List ℕ → Machine) (t : Tables) (ports : ℕ) (fixed states : List (List ℕ)) (limits : List (Option ℕ))
-    (rooms : List ℕ) (first : IdealSwitch) (is : first ≡ fresh_ideal ports fixed states limits rooms)
-    (machines : map M fixed ≡ machines_of t.setup) (many : length fixed ≡ ports) (same : limits ≡ t.limits) where
-  -- its run is the tables' run
-  pub run_of_tables : (came : List Arrival) → states ≡ openings_of t.setup →
-      departures_limited (limited_run first.limits (map M first.fixed) 0 (traffic_of came) (marked_state first))
-      ≡ ideal_departures t came
-  unfolding ideal_departures ran_ideal
-  run_of_tables came openings =
-      let ports_are : ports ≡ ports_of t.setup = sym many ∙ machine_count M fixed t.setup machines in
-      rw (is, same, machines, ports_are, openings)
-      (limited_same_sent t.limits (machines_of t.setup) (ports_of t.setup) (openings_of t.setup) came)
+module _ {t : Tables} {came : List Arrival} {first : IdealSwitch} (fresh : IsIdealFor t came first) where
+  pub ideal_ports : length first.fixed ≡ ports_of t.setup
+  ideal_ports = machine_count machine_from first.fixed t.setup fresh.machines
 
-  pub ready_ideal : (came : List Arrival) (sent : RoomView Departure) → IsSetup t.setup →
-      class_count (machines_of t.setup) ≡ length t.setup.classes →
-      rooms ≡ map (λ j. number_of (is_to j) came) (range_with_len 0 ports) →
+  abbrev ideal_begins : IdealSwitch
+  ideal_begins = fresh_ideal (ports_of t.setup) first.fixed (openings_of t.setup) t.limits (by_port is_to t came)
+
+  -- its run is the tables' run
+  pub run_of_tables :
+      departures_limited (limited_run first.limits (map machine_from first.fixed) 0 (traffic_of came)
+      (marked_state first)) ≡ ideal_departures t came
+  unfolding ideal_departures ran_ideal
+  run_of_tables =
+      rw fresh.fresh (rw fresh.machines
+      (limited_same_sent t.limits (machines_of t.setup) (ports_of t.setup) (openings_of t.setup) came))
+
+  pub ready_ideal : (sent : RoomView Departure) → IsSetup t.setup →
       IsTraffic (ports_of t.setup) (classes_of t.setup) came → IsShort came → sent.items ≡ [] →
-      sent.spare ≡ length came + ports → IsReady (map M first.fixed) came first sent
-  ready_ideal came sent setup classes rooms_are traffic short nothing spare =
-      grind (arith, common_steps, machine_count, length-map-range_with_len, room_at)
+      sent.spare ≡ length came + ports_of t.setup → IsReady (map machine_from first.fixed) came first sent
+  ready_ideal sent setup traffic short nothing spare = rw fresh.fresh (begun ideal_begins refl ideal_ports) where
+    begun : (now : IdealSwitch) → now ≡ ideal_begins → length first.fixed ≡ ports_of t.setup →
+        IsReady (map machine_from first.fixed) came now sent
+    begun now is many =
+        let machines = fresh.machines in
+        let classes = fresh.classes in grind (arith, common_steps, length-map-range_with_len, room_at)
 
 -- ## What an engine is made of
 
@@ -52,6 +57,16 @@ pub fresh_for : (t : Tables) (came : List Arrival) (p : Ports) (engine : EngineV
     ≡ fresh_engine (length p.ranks.items) (map fixed_of p.ranks.items) (map state_of p.ranks.items) from to limits →
     IsFreshFor t came engine
 fresh_for t came p engine are from to same is = grind (arith, common_steps, are.many, are.openings)
+
+-- and so is an ideal switch of them
+pub ideal_is_for : (t : Tables) (came : List Arrival) (ranks : List Discipline) (ideal : IdealSwitch)
+    {rooms : List ℕ} {limits : List (Option ℕ)} → map machine_from (map fixed_of ranks) ≡ machines_of t.setup →
+    map state_of ranks ≡ openings_of t.setup → class_count (machines_of t.setup) ≡ length t.setup.classes →
+    rooms ≡ by_port is_to t came → limits ≡ t.limits →
+    ideal ≡ fresh_ideal (length ranks) (map fixed_of ranks) (map state_of ranks) limits rooms →
+    IsIdealFor t came ideal
+ideal_is_for t came ranks ideal machines openings classes to same is =
+    let many = ranks_many t ranks machines in grind (arith, common_steps)
 
 -- ## A fresh engine
 

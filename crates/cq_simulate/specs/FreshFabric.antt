@@ -1,8 +1,11 @@
--- Only proofs use this. What a fabric of tables is made of, for the cells that arrive, and one that has had no slot.
+-- Only proofs use this. What a fabric of tables is made of, for the cells that arrive, and one that has had no slot;
+-- and an ideal switch that has had none.
 use Rattle.std.specs.Prelude.{◌≡◌, List, length, map}
 use Rattle.cq_base.specs.Arriving.{Arrival}
 use Rattle.cq_cells.specs.Traffic.{is_from, is_to}
 use Rattle.cq_engine.specs.Engine.{EngineView, fresh_engine}
+use Rattle.cq_ideal.specs.Fresh.{fresh_ideal}
+use Rattle.cq_ideal.specs.Ideal.{IdealSwitch}
 use Rattle.cq_rank.specs.Switch.{AreForOneSwitch, class_count}
 use Rattle.cq_route.specs.Tables.{ports_of}
 use Rattle.cq_route.specs.declared.tables.Tables.{Tables}
@@ -27,3 +30,9 @@ pub record IsFreshFor (t : Tables) (came : List Arrival) (engine : EngineView) :
   pub classes : class_count (machines_of t.setup) ≡ length t.setup.classes
   pub fresh : engine ≡ fresh_engine (ports_of t.setup) engine.fixed (openings_of t.setup) (by_port is_from t came)
       (by_port is_to t came) t.limits
+
+-- so has an ideal switch
+pub record IsIdealFor (t : Tables) (came : List Arrival) (ideal : IdealSwitch) : Type 0 where
+  pub machines : map machine_from ideal.fixed ≡ machines_of t.setup
+  pub classes : class_count (machines_of t.setup) ≡ length t.setup.classes
+  pub fresh : ideal ≡ fresh_ideal (ports_of t.setup) ideal.fixed (openings_of t.setup) t.limits (by_port is_to t came)

@@ -1,16 +1,16 @@
 //! The run of the ideal switch.
-ghost use Rattle.std.specs.Prelude.{◌≡◌, ◌↔◌, ◌+◌, ◌<◌, ◌≤◌, ◌^◌, IsTrue, false, All, Ok, Err, IfOk, IfErr, OnOk, [], length, map, max};
+ghost use Rattle.std.specs.Prelude.{◌≡◌, ◌↔◌, ◌+◌, ◌<◌, ◌≤◌, ◌^◌, IsTrue, false, All, Ok, IfOk, IfErr, OnOk, [], length, map, max};
 ghost use Rattle.cq_ideal.specs.Rest.{HasRested};
 ghost use Rattle.cq_simulate.specs.Terms.{no_arrivals, arriving, end_of, traffic_of, NoLimits, marked_state, departures_limited, limited_run, slots_of, ideal_departures, slots_ran, IsRefusalOf, IsReady, IsScheduleFor, IsQuiet, IsQuietUntil};
 
 use crate::RunRefusal;
-use cq_base::{Departure, Departures, Room, Slot, TagFault};
+use crate::ports::{ideal_for, port_count};
+use cq_base::{Departure, Departures, Room, Slot};
 use cq_cells::{Coming, Schedule};
 use cq_ideal::Ideal;
 use cq_rank::Rank;
 use cq_route::Tables;
-use cq_scfq::Discipline;
-use cq_traffic::{quiet_near, rooms_to};
+use cq_traffic::quiet_near;
 use std::alloc::Global;
 
 /// What the ideal switch did.
@@ -60,13 +60,10 @@ pub fn run_ideal_packed(
     ensures early { IfOk result (λ sent. slots_of sent.items ≤ 2 ^ 63 + 2 ^ 35) }
     ensures refused { IfErr result (IsRefusalOf (ideal_departures tables.now schedule.now.came)) }
 {
-    let ranks = Discipline::all(alloc, &tables.setup)?;
-    let ports = ranks.len() as u16;
-    let rooms = rooms_to(alloc, schedule, ports)?;
-    let mut sent = Departures::new(alloc, schedule.total() + ports as u64)?;
-    let mut ideal = Ideal::new(alloc, ranks, rooms.as_slice(), tables.limits.as_slice())?;
-    let mut leaving = Room::new(alloc, ports as u64)?;
-    run_slots(&mut ideal, schedule, &mut leaving, &mut sent)?;
+    let ports = port_count(tables);
+    let mut sent = Departures::new(alloc, schedule.total() + ports)?;
+    let mut ideal = ideal_for(alloc, tables, schedule)?;
+    run_slots(alloc, &mut ideal, ports, schedule, &mut sent)?;
     Ok(sent)
 }
 
@@ -103,29 +100,30 @@ fn skip<R: Rank>(ideal: &mut Ideal<R>, schedule: &Schedule, slot: Slot, coming: 
     next
 }
 
-// Runs a switch over all cells that arrive. What is sent in a slot stands in a list for as many as there are ports,
-// until it is packed. The error is the switch's first tag fault.
+// Runs a switch of so many ports over all cells that arrive. What is sent in a slot stands in a list for as many as
+// there are ports, until it is packed. The error is the switch's first tag fault, or want of memory.
 fn run_slots<R: Rank>(
+    alloc: Global,
     ideal: &mut Ideal<R>,
+    ports: u64,
     schedule: &Schedule,
-    leaving: &mut Room<Departure>,
     sent: &mut Departures,
-) -> Result<(), TagFault>
+) -> Result<(), RunRefusal>
     requires ready { IsReady (map R.machine ideal.old.fixed) schedule.now.came ideal.old sent.old }
-    requires none { leaving.old.items ≡ [] }
-    requires few { leaving.old.spare ≡ length ideal.old.fixed }
+    requires ports { ports ≡ length ideal.old.fixed }
     ensures sent { OnOk result (departures_limited (limited_run ideal.old.limits (map R.machine ideal.old.fixed) 0
         (traffic_of schedule.now.came) (marked_state ideal.old)) ≡ Ok sent.new.items) }
-    ensures fault { IfErr result (λ fault. departures_limited (limited_run ideal.old.limits (map R.machine
-        ideal.old.fixed) 0 (traffic_of schedule.now.came) (marked_state ideal.old)) ≡ Err fault) }
+    ensures refused { IfErr result (IsRefusalOf (departures_limited (limited_run ideal.old.limits (map R.machine
+        ideal.old.fixed) 0 (traffic_of schedule.now.came) (marked_state ideal.old)))) }
     ensures early { OnOk result (slots_of sent.new.items ≤ 2 ^ 63 + 2 ^ 35) }
 {
+    let mut leaving = Room::new(alloc, ports)?;
     let mut coming = Coming::none();
     let mut slot = 0;
     'slots: while !is_over(ideal, schedule, slot) {
         slot = skip(ideal, schedule, slot, &mut coming);
-        ideal.slot(slot, coming.arrivals(), leaving)?;
-        sent.take_all(leaving);
+        ideal.slot(slot, coming.arrivals(), &mut leaving)?;
+        sent.take_all(&mut leaving);
         slot += 1;
     }
     Ok(())

@@ -1,10 +1,11 @@
-//! What a fabric of tables is made of, and one that has had no slot.
+//! What a fabric of tables is made of, and one that has had no slot; and an ideal switch of tables that has had none.
 ghost use Rattle.std.specs.Prelude.{◌≡◌, IfOk};
-ghost use Rattle.cq_simulate.specs.Terms.{AreTables, ports_of, ArePortsFor, IsFreshFor};
+ghost use Rattle.cq_simulate.specs.Terms.{AreTables, ports_of, ArePortsFor, IsFreshFor, IsIdealFor};
 
 use cq_base::NoMemory;
 use cq_cells::Schedule;
 use cq_engine::Engine;
+use cq_ideal::Ideal;
 use cq_route::Tables;
 use cq_scfq::Discipline;
 use cq_traffic::{rooms_from, rooms_to};
@@ -64,4 +65,21 @@ pub fn engine_for(
     let to = ports.to_outputs.as_slice();
     let limits = tables.limits.as_slice();
     Engine::new(alloc, ranks, from, to, limits, tables.workers)
+}
+
+/// An ideal switch of the tables that has had no slot, with room for the cells of a schedule of as many ports. The
+/// error is want of memory.
+pub fn ideal_for(
+    alloc: Global,
+    tables: &Tables,
+    schedule: &Schedule,
+) -> Result<Ideal<Discipline>, NoMemory>
+    requires tables { AreTables tables.now }
+    requires ports { schedule.now.ports ≡ ports_of tables.now.setup }
+    ensures { IfOk result (IsIdealFor tables.now schedule.now.came) }
+{
+    let ports = port_count(tables) as u16;
+    let ranks = Discipline::all(alloc, &tables.setup)?;
+    let rooms = rooms_to(alloc, schedule, ports)?;
+    Ideal::new(alloc, ranks, rooms.as_slice(), tables.limits.as_slice())
 }

@@ -36,10 +36,10 @@ slot-requires g c =
     can_have g.R.Rank.machine c.requires.ready (stands g at) (going g at) (c.arrivals.ensures
     ∙ c.skip-slot.ensures.came) c.slots.invariant.free
 
-pub returns-in_err-slot-clause-fault : goal.returns-in_err-slot-clause-fault
-returns-in_err-slot-clause-fault g c =
-    let at = (goal.at.returns-in_err-slot-clause-fault g c).After-arrivals in
-    let p = err_from_is_err_and c.from_residual.result c.from_residual.ensures.1 in
+pub returns-in_err-slot-clause-refused : goal.returns-in_err-slot-clause-refused
+returns-in_err-slot-clause-refused g c =
+    let at = (goal.at.returns-in_err-slot-clause-refused g c).After-arrivals in
+    let p = err_from_is_err_and c.from_residual-in_err-slot.result c.from_residual-in_err-slot.ensures.1 in
     rw (p.1, p.2) (at_fault g.R.Rank.machine c.requires.ready (stands g at) (going g at) c.arrivals.result.now
     c.in_err-slot.field-0.0 (c.arrivals.ensures ∙ c.skip-slot.ensures.came)
     (sym c.in_err-slot.was ∙ c.slot.ensures.answer))
