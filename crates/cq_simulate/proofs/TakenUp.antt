@@ -1,7 +1,7 @@
 -- A fabric can go on from where it stands, whether it is fresh or was taken up. What waits in it came before the slot
 -- that it stands at, and what is to come comes from that slot on, so both together are no more than what comes in all:
 -- at each input, for each output, and of all cells.
-use Rattle.cq_simulate.proofs.Terms.{nat_lt, length-filter_both, ◌≡◌, ℕ, zero, suc, ◌+◌, ◌-◌, ◌*◌, ◌≤◌, ◌<◌, ◌^◌, Bool, false, List, [], ◌∷◌, length, map, replicate, Option, refl, sym, ap, ◌∙◌, arith, rules, subst, common_steps, ◌==◌, All, sum, flat_map, range_with_len, slice_index, cases_lt, le-leb, le-ltb, lt-leb, lt-ltb, ne_eqb, length-map, length-replicate, get_or-map-range_with_len, sum_by-cons, Arrival, RoomView, Departure, Queued, Transfer, IsTraffic, is_from, is_to, number_of, Scheduled, Setup, CanGoOn, EngineView, fresh_engine, frozen_of, total, total_more, total_none, zero_fits, Fabric, input, fabric_held, held_for, waiting_for, empty_agree, empty_list, Machine, class_count, GoesOn, came_before, goes_on, switch_of, Taken, classes_of, ports_of, Tables, fixed_of, machine_from, machine_of, machines_of, ArePortsFor, IsReadyOn, to_come, CanBeTakenUp, IsScheduleFor, Ports, All-from_recursion, IsSoundFabric}
+use Rattle.cq_simulate.proofs.Terms.{nat_lt, length-filter_both, ◌≡◌, ℕ, zero, suc, ◌+◌, ◌-◌, ◌*◌, ◌≤◌, ◌<◌, ◌^◌, Bool, false, List, [], ◌∷◌, length, map, replicate, Option, refl, sym, ap, ◌∙◌, arith, rules, subst, common_steps, ◌==◌, All, sum, flat_map, range_with_len, slice_index, cases_lt, le-leb, le-ltb, lt-leb, lt-ltb, ne_eqb, length-map, length-replicate, get_or-map-range_with_len, sum_by-cons, Arrival, RoomView, Departure, Queued, Transfer, IsTraffic, is_from, is_to, number_of, Scheduled, Setup, CanGoOn, EngineView, fresh_engine, frozen_of, total, total_more, total_none, zero_fits, Fabric, input, fabric_held, held_for, waiting_for, empty_agree, empty_list, Machine, class_count, GoesOn, came_before, goes_on, switch_of, Taken, classes_of, ports_of, Tables, fixed_of, machine_from, machine_of, machines_of, ArePortsFor, GoesOnFrom, IsReadyOn, to_come, CanBeTakenUp, IsScheduleFor, Ports, All-from_recursion, IsSoundFabric}
 use Rattle.std.specs.Prelude.{nat_le}
 use Rattle.cq_simulate.proofs.FabricCounts.{at_inputs, total_most}
 use Rattle.cq_simulate.proofs.FabricSteps.{all_at_inputs}
@@ -153,31 +153,29 @@ can_go_on {t} {s} {taken} sound fit classes same inputs outputs =
     let goes = goes_of t s taken sound fit.traffic in
     let many = machines_many t in grind (arith, common_steps, goes.lists, both_parts, room_at, goes.buffers)
 
-module _ {t : Tables} {s : Scheduled} {taken : Taken} {p : Ports} (are : ArePortsFor t s.came p)
-    (sound : CanBeTakenUp (switch_of t s) taken) (fit : IsScheduleFor t s) where
-  pub can_thaw : {from to : List ℕ} {limits : List (Option ℕ)} → from ≡ p.from_inputs.items →
-      to ≡ p.to_outputs.items → limits ≡ t.limits →
+module _ {t : Tables} {s : Scheduled} {taken : Taken} (sound : CanBeTakenUp (switch_of t s) taken)
+    (fit : IsScheduleFor t s) where
+  pub can_thaw : (p : Ports) → ArePortsFor t s.came p → {from to : List ℕ} {limits : List (Option ℕ)} →
+      from ≡ p.from_inputs.items → to ≡ p.to_outputs.items → limits ≡ t.limits →
       CanGoOn (map machine_from (map fixed_of p.ranks.items)) limits from to taken.frozen
-  can_thaw from to same =
+  can_thaw p are from to same =
       rw are.machines (can_go_on sound fit are.classes same (from ∙ are.from_inputs) (to ∙ are.to_outputs))
 
   -- and it runs on
-  pub runs_on : (engine : EngineView) (sent : RoomView Departure) (note : RoomView Transfer) {count total : ℕ} →
-      count ≡ ports_of t.setup → total ≡ length s.came → total ≤ 2 ^ 34 → engine.fixed ≡ map fixed_of p.ranks.items →
-      frozen_of engine ≡ taken.frozen → engine.from_inputs ≡ p.from_inputs.items →
-      engine.to_outputs ≡ p.to_outputs.items → engine.stopped ≡ false → sent.spare ≡ total + count →
-      note.spare ≡ total + 2 * count → IsReadyOn (map machine_from engine.fixed) s.came engine sent note
-  runs_on engine sent note counted all few fixed frozen from to running sent_room note_room =
+  pub runs_on : (engine : EngineView) → GoesOnFrom t s.came taken.frozen engine → (sent : RoomView Departure)
+      (note : RoomView Transfer) {count total : ℕ} → count ≡ ports_of t.setup → total ≡ length s.came →
+      total ≤ 2 ^ 34 → sent.spare ≡ total + count → note.spare ≡ total + 2 * count →
+      IsReadyOn (map machine_from engine.fixed) s.came engine sent note
+  runs_on engine is sent note counted all few sent_room note_room =
       let goes : GoesOn (switch_of t s) (frozen_of engine) =
-      subst (GoesOn (switch_of t s)) (sym frozen) (goes_of t s taken sound fit.traffic) in
-      let machines = ap (map machine_from) fixed ∙ are.machines in
+      subst (GoesOn (switch_of t s)) (sym is.stands) (goes_of t s taken sound fit.traffic) in
       goes_from engine sent note fit (record {
         early = goes.early;
-        inputs = goes.ports.lists ∙ machines_many t ∙ sym (machine_count machine_from engine.fixed t.setup machines);
+        inputs = goes.ports.lists ∙ machines_many t
+            ∙ sym (machine_count machine_from engine.fixed t.setup is.machines);
         sound = goes.sound;
         lists = goes.lists;
         buffers = goes.buffers;
         proposals = goes.proposals;
         lost = All-from_recursion _ engine.refused goes.lost;
-      }) machines are.classes (from ∙ are.from_inputs) (to ∙ are.to_outputs) running (omega arith) (omega arith)
-      (omega arith)
+      }) is.machines is.classes is.from_inputs is.to_outputs is.running (omega arith) (omega arith) (omega arith)

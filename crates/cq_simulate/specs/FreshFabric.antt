@@ -1,11 +1,12 @@
--- Only proofs use this. What a fabric of tables is made of, for the cells that arrive, and one that has had no slot;
--- and an ideal switch that has had none.
-use Rattle.std.specs.Prelude.{◌≡◌, List, length, map}
+-- Only proofs use this. What a fabric of tables is made of, for the cells that arrive, one that has had no slot, and
+-- one that goes on from where another stood still; and an ideal switch that has had no slot.
+use Rattle.std.specs.Prelude.{◌≡◌, List, false, length, map}
 use Rattle.cq_base.specs.Arriving.{Arrival}
 use Rattle.cq_cells.specs.Traffic.{is_from, is_to}
-use Rattle.cq_engine.specs.Engine.{EngineView, fresh_engine}
+use Rattle.cq_engine.specs.Engine.{EngineView, fresh_engine, frozen_of}
 use Rattle.cq_ideal.specs.Fresh.{fresh_ideal}
 use Rattle.cq_ideal.specs.Ideal.{IdealSwitch}
+use Rattle.cq_laws.specs.declared.frozen.Frozen.{Frozen}
 use Rattle.cq_rank.specs.Switch.{AreForOneSwitch, class_count}
 use Rattle.cq_route.specs.Tables.{ports_of}
 use Rattle.cq_route.specs.declared.tables.Tables.{Tables}
@@ -31,7 +32,17 @@ pub record IsFreshFor (t : Tables) (came : List Arrival) (engine : EngineView) :
   pub fresh : engine ≡ fresh_engine (ports_of t.setup) engine.fixed (openings_of t.setup) (by_port is_from t came)
       (by_port is_to t came) t.limits
 
--- so has an ideal switch
+-- it has the machines of the tables, and stands where another stood still
+pub record GoesOnFrom (t : Tables) (came : List Arrival) (frozen : Frozen) (engine : EngineView) : Type 0 where
+  pub machines : map machine_from engine.fixed ≡ machines_of t.setup
+  pub classes : class_count (machines_of t.setup) ≡ length t.setup.classes
+  pub limits : engine.limits ≡ t.limits
+  pub stands : frozen_of engine ≡ frozen
+  pub from_inputs : engine.from_inputs ≡ by_port is_from t came
+  pub to_outputs : engine.to_outputs ≡ by_port is_to t came
+  pub running : engine.stopped ≡ false
+
+-- an ideal switch of the tables that has had no slot
 pub record IsIdealFor (t : Tables) (came : List Arrival) (ideal : IdealSwitch) : Type 0 where
   pub machines : map machine_from ideal.fixed ≡ machines_of t.setup
   pub classes : class_count (machines_of t.setup) ≡ length t.setup.classes

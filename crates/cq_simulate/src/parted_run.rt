@@ -1,6 +1,6 @@
 //! The run of the fabric in parts: up to a slot, and on from there.
 ghost use Rattle.std.specs.Prelude.{◌≡◌, ◌+◌, ◌-◌, ◌<◌, ◌≤◌, ◌^◌, IfErr, IfOk, OnOk, length, map};
-ghost use Rattle.cq_simulate.specs.Terms.{IsParted, IsResumed, switch_of, ports_of, openings_of, ArrivesIn, HasPartedTo, IsReadyPart, NoneCome, StopsWithin, CanBeTakenUp, IsPartFault, IsResumeFault, kept_of, taken_at, unpacked_run, IsScheduleFor, IsFreshFor};
+ghost use Rattle.cq_simulate.specs.Terms.{IsParted, IsResumed, switch_of, ports_of, openings_of, ArrivesIn, HasPartedTo, IsReadyPart, NoneCome, StopsWithin, CanBeTakenUp, IsPartFault, IsResumeFault, kept_of, taken_at, unpacked_run, IsScheduleFor, GoesOnFrom, IsFreshFor};
 
 use crate::RunRefusal;
 use crate::fabric_run::{PackedFabricRun, run_on, skip};
@@ -104,16 +104,39 @@ pub fn resume_fabric<R: Threads + Sync, G: Gate>(
 {
     let count = port_count(tables);
     let total = schedule.total();
-    let ports = ports_for(alloc, tables, schedule)?;
     let sent = packed_holding(alloc, taken.sent.as_slice(), total + count)?;
     let note = holding(alloc, taken.note.as_slice(), total + 2 * count)?;
+    let engine = engine_from(alloc, tables, schedule, taken)?;
+    run_on(rt, alloc, engine, count, schedule, gate, sent, note)
+}
+
+// A fabric of the tables' switch that goes on from a state that was taken up. The error is want of memory. It is
+// inlined since an engine is large: so it is made where its caller keeps it.
+#[inline(always)]
+fn engine_from(
+    alloc: Global,
+    tables: &Tables,
+    schedule: &Schedule,
+    taken: &Taken,
+) -> Result<Engine<Discipline>, NoMemory>
+    requires fit { IsScheduleFor tables.now schedule.now }
+    requires sound { CanBeTakenUp (switch_of tables.now schedule.now) taken.now }
+    ensures { IfOk result (GoesOnFrom tables.now schedule.now.came taken.now.frozen) }
+{
+    let ports = ports_for(alloc, tables, schedule)?;
     let ranks = ports.ranks;
     let from = ports.from_inputs.as_slice();
     let to = ports.to_outputs.as_slice();
     let limits = tables.limits.as_slice();
-    let workers = tables.workers;
-    let engine = Engine::thaw(alloc, ranks, from, to, limits, workers, &taken.frozen)?;
-    run_on(rt, alloc, engine, count, schedule, gate, sent, note)
+    Engine::thaw(
+        alloc,
+        ranks,
+        from,
+        to,
+        limits,
+        tables.workers,
+        &taken.frozen,
+    )
 }
 
 // Room for those that are held and so many more. The error is want of memory: none holds more than 64 bits count.
