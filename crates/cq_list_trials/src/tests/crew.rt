@@ -1,12 +1,12 @@
 //! A phase by workers: worked examples by one and by several, and workers who wait for one another.
 ghost use Rattle.std.specs.Prelude.{◌≤◌};
-ghost use Rattle.cq_base.specs.Limits.{most_workers};
+ghost use Rattle.cq_base.specs.Limits.{most_ports, most_workers};
 
-use super::opposed::opposed_offers;
+use super::opposed::{filled, opposed_offers};
 use cq_base::{NoMemory, Port};
 use cq_crew::{OpenGate, Phase, Settled, pair_phase};
 use cq_pair::{Core, LowestFirst};
-use cq_prefs::{Matching, Offers};
+use cq_prefs::Offers;
 use cq_trial_kit::{Meeting, list_of};
 use std::alloc::Global;
 use std::test::Fail;
@@ -18,27 +18,29 @@ fn offers_apart(alloc: Global) -> Result<Offers, NoMemory> {
         list_of(alloc, 0, 2, &[(0, 0)])?,
         list_of(alloc, 1, 2, &[(1, 0)])?,
     ];
-    let mut offers = Offers::new(alloc, 2)?;
-    offers.fill(&lists);
-    Ok(offers)
+    filled(alloc, 2, &lists)
 }
 
-// The partners of all inputs, in order of number.
-fn partners(alloc: Global, matching: &Matching) -> Result<Vec<Option<Port>>, NoMemory> {
-    let mut partners = Vec::new(alloc);
-    'inputs: for input in 0..matching.ports() {
-        partners.push(matching.partner_of(input))?;
+// Whether these are the partners of all inputs, in order of number, after so many proposals.
+fn comes_to(phase: &Phase, partners: &[Option<Port>], proposals: u64) -> bool {
+    let ports = phase.matching.ports();
+    'inputs: for input in 0..ports {
+        if partners.get(input as usize).copied() != Some(phase.matching.partner_of(input)) {
+            return false;
+        }
     }
-    Ok(partners)
+    (ports as usize, phase.proposals) == (partners.len(), proposals)
 }
 
-// The outputs from the last to the first.
-fn last_to_first(alloc: Global, ports: u16) -> Result<Vec<Option<Port>>, NoMemory> {
-    let mut outputs = Vec::new(alloc);
-    'outputs: for output in 0..ports {
-        outputs.push(Some(ports - 1 - output))?;
+// Whether each of so many inputs has the output that stands as far from the last as the input from the first.
+fn is_opposed(phase: &Phase, ports: u16, proposals: u64) -> bool {
+    let inputs = phase.matching.ports();
+    'inputs: for input in 0..inputs {
+        if phase.matching.partner_of(input) != Some(inputs - 1 - input) {
+            return false;
+        }
     }
-    Ok(outputs)
+    (inputs, phase.proposals) == (ports, proposals)
 }
 
 fn is_shared(settled: &Settled) -> bool {
@@ -48,66 +50,63 @@ fn is_shared(settled: &Settled) -> bool {
     }
 }
 
-// Whether a phase comes to this: whether workers shared it, the partners, and the number of proposals.
-fn settles<R: Threads + Sync>(
+// Whether one worker alone, two, and 64 come to the same over opposed offers.
+fn any_number_settles<R: Threads + Sync>(
     rt: &R,
     alloc: Global,
-    offers: &Offers,
-    workers: u16,
-    wanted: (bool, &[Option<Port>], u64),
+    ports: u16,
+    proposals: u64,
 ) -> Result<bool, NoMemory>
-    requires some { 1 ≤ workers }
-    requires few { workers ≤ most_workers }
+    requires { ports ≤ most_ports }
 {
-    let settled = pair_phase(rt, alloc, offers, workers, &OpenGate);
-    let phase = settled.phase();
-    let partners = partners(alloc, &phase.matching)?;
-    Ok((is_shared(&settled), partners.as_slice(), phase.proposals) == wanted)
+    let offers = opposed_offers(alloc, ports)?;
+    for workers in [1u16, 2, 64] {
+        let settled = pair_phase(rt, alloc, &offers, workers, &OpenGate);
+        let is_so = is_opposed(&settled.phase(), ports, proposals);
+        if !is_so || is_shared(&settled) != (workers > 1) {
+            return Ok(false);
+        }
+    }
+    Ok(true)
 }
 
 #[test]
 fn any_number_of_workers_comes_to_the_same(rt: HostRuntime) -> Result<(), Fail> {
     for (ports, proposals) in [(2u16, 3u64), (3, 6), (64, 2080)] {
-        let offers = opposed_offers(rt.alloc(), ports)?;
-        let outputs = last_to_first(rt.alloc(), ports)?;
-        for workers in [1u16, 2, 64] {
-            let wanted = (workers > 1, outputs.as_slice(), proposals);
-            assert!(rt;
-                settles(&rt, rt.alloc(), &offers, workers, wanted)?,
-                "{ports} ports, {workers} workers"
-            );
-        }
+        assert!(rt; any_number_settles(&rt, rt.alloc(), ports, proposals)?);
     }
     Ok(())
+}
+
+// Whether one core comes to it.
+fn one_core_settles(offers: &Offers) -> bool {
+    let mut core = Core::begin(offers);
+    core.settle(offers, &mut LowestFirst);
+    let phase = Phase {
+        matching: *core.pairs(),
+        proposals: core.made(),
+    };
+    is_opposed(&phase, 64, 2080)
 }
 
 #[test]
 fn one_core_comes_to_the_same(rt: HostRuntime) -> Result<(), Fail> {
     let offers = opposed_offers(rt.alloc(), 64)?;
-    let mut core = Core::begin(&offers);
-    core.settle(&offers, &mut LowestFirst);
-    assert!(rt; partners(rt.alloc(), core.pairs())? == last_to_first(rt.alloc(), 64)?);
-    assert!(rt; core.made() == 2080);
+    assert!(rt; one_core_settles(&offers));
     Ok(())
+}
+
+// Whether there is nothing to share for 64 workers, and no input gets a partner.
+fn nothing_is_shared<R: Threads + Sync>(rt: &R, alloc: Global, offers: &Offers) -> bool {
+    let settled = pair_phase(rt, alloc, offers, 64, &OpenGate);
+    !is_shared(&settled) && comes_to(&settled.phase(), &[None; 3], 0)
 }
 
 #[test]
 fn without_offers_there_is_nothing_to_share(rt: HostRuntime) -> Result<(), Fail> {
     let offers = Offers::new(rt.alloc(), 3)?;
-    let wanted = (false, [None; 3].as_slice(), 0);
-    assert!(rt; settles(&rt, rt.alloc(), &offers, 64, wanted)?);
+    assert!(rt; nothing_is_shared(&rt, rt.alloc(), &offers));
     Ok(())
-}
-
-// Whether each of 64 inputs has the output that stands as far from the last as the input from the first.
-fn is_opposed(phase: &Phase) -> bool {
-    let ports = phase.matching.ports();
-    'inputs: for input in 0..ports {
-        if phase.matching.partner_of(input) != Some(ports - 1 - input) {
-            return false;
-        }
-    }
-    (ports, phase.proposals) == (64, 2080)
 }
 
 // For a run in which some growth of memory is refused, as by `rt try --test --fail-alloc N` or `tests/phases.py`: where
@@ -118,48 +117,56 @@ fn whatever_growth_is_refused_a_phase_comes_to_the_same(rt: HostRuntime) -> Resu
         return Ok(());
     };
     let settled = pair_phase(&rt, rt.alloc(), &offers, 2, &OpenGate);
-    assert!(rt; is_opposed(&settled.phase()));
+    assert!(rt; is_opposed(&settled.phase(), 64, 2080));
     Ok(())
 }
 
 // Whether the workers met at the gate, and each of them told of proposals of its own, all of them in time: so many in
-// all.
-fn have_proposed(gate: &Meeting, workers: u16, proposals: u64) -> bool {
+// all, of which one for each input was told to be held.
+fn have_proposed(gate: &Meeting, workers: u16, proposals: u64, held: u64) -> bool {
     let [zero, one, two] = gate.proposals();
     let each_has = zero > 0 && one > 0 && (two > 0) == (workers > 2);
     let told = zero.wrapping_add(one).wrapping_add(two);
     let faults = [gate.in_vain(), gate.miscounted(), gate.misclaimed()];
-    gate.have_met() && each_has && told == proposals && faults == [0; 3]
+    gate.have_met() && each_has && (told, gate.held()) == (proposals, held) && faults == [0; 3]
 }
 
-// Whether two workers or three, who wait for one another's first claim, come to these partners, after so many proposals
-// of which so many were told to be held.
+// Whether two workers or three, who wait for one another's first claim, come to these partners, after so many
+// proposals, of which one for each input was told to be held.
 fn meet<R: Threads + Sync>(
     rt: &R,
     alloc: Global,
     offers: &Offers,
     workers: u16,
-    pairs: &[Option<Port>],
+    partners: &[Option<Port>],
     proposals: u64,
-    held: u64,
-) -> Result<bool, NoMemory>
+) -> bool
     requires some { 1 ≤ workers }
     requires few { workers ≤ most_workers }
 {
     let gate = Meeting::of(workers);
     let settled = pair_phase(rt, alloc, offers, workers, &gate);
-    let phase = settled.phase();
-    let is_told = is_shared(&settled) && have_proposed(&gate, workers, proposals);
-    let is_counted = phase.proposals == proposals && gate.held() == held;
-    Ok(is_told && is_counted && partners(alloc, &phase.matching)?.as_slice() == pairs)
+    is_shared(&settled)
+        && have_proposed(&gate, workers, proposals, partners.len() as u64)
+        && comes_to(&settled.phase(), partners, proposals)
+}
+
+// Whether two workers meet where each input has an output of its own.
+fn two_meet_apart<R: Threads + Sync>(rt: &R, alloc: Global) -> Result<bool, NoMemory> {
+    let offers = offers_apart(alloc)?;
+    Ok(meet(rt, alloc, &offers, 2, &[Some(0), Some(1)], 2))
+}
+
+// Whether so many workers meet where two inputs both prefer output 0.
+fn two_meet_opposed<R: Threads + Sync>(rt: &R, alloc: Global) -> Result<bool, NoMemory> {
+    let offers = opposed_offers(alloc, 2)?;
+    Ok(meet(rt, alloc, &offers, 2, &[Some(1), Some(0)], 3))
 }
 
 #[test]
 fn two_workers_meet(rt: HostRuntime) -> Result<(), Fail> {
-    let apart = offers_apart(rt.alloc())?;
-    assert!(rt; meet(&rt, rt.alloc(), &apart, 2, &[Some(0), Some(1)], 2, 2)?);
-    let opposed = opposed_offers(rt.alloc(), 2)?;
-    assert!(rt; meet(&rt, rt.alloc(), &opposed, 2, &[Some(1), Some(0)], 3, 2)?);
+    let apart = two_meet_apart(&rt, rt.alloc())?;
+    assert!(rt; apart && two_meet_opposed(&rt, rt.alloc())?);
     Ok(())
 }
 
@@ -167,12 +174,9 @@ fn two_workers_meet(rt: HostRuntime) -> Result<(), Fail> {
 #[test]
 fn two_workers_and_three_meet_over_three_inputs(rt: HostRuntime) -> Result<(), Fail> {
     let offers = opposed_offers(rt.alloc(), 3)?;
-    let pairs = [Some(2), Some(1), Some(0)];
+    let partners = [Some(2), Some(1), Some(0)];
     for workers in [2u16, 3] {
-        assert!(rt;
-            meet(&rt, rt.alloc(), &offers, workers, &pairs, 6, 3)?,
-            "{workers} workers"
-        );
+        assert!(rt; meet(&rt, rt.alloc(), &offers, workers, &partners, 6));
     }
     Ok(())
 }

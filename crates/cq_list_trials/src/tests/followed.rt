@@ -139,14 +139,26 @@ fn change_each(
     kept.renew(lists, changed);
 }
 
+// Whether the offers say the same of an input and each output.
+fn say_the_same(left: &Offers, right: &Offers, input: Port) -> bool {
+    for output in 0..left.ports() {
+        if left.place_of(input, output) != right.place_of(input, output)
+            || left.position_of(output, input) != right.position_of(output, input)
+        {
+            return false;
+        }
+    }
+    true
+}
+
 // Whether the offers say the same of each two ports.
 fn are_same(left: &Offers, right: &Offers) -> bool {
-    (0..left.ports()).all(|input| {
-        (0..left.ports()).all(|output| {
-            left.place_of(input, output) == right.place_of(input, output)
-                && left.position_of(output, input) == right.position_of(output, input)
-        })
-    })
+    for input in 0..left.ports() {
+        if !say_the_same(left, right, input) {
+            return false;
+        }
+    }
+    true
 }
 
 impl Followed {
@@ -186,19 +198,34 @@ impl Followed {
     }
 }
 
+// Whether offers that are filled anew are those that were renewed, after each of 32 changes.
+fn agree_after_changes(switch: &mut Followed, filled: &mut Offers, drawn: &mut Draws) -> bool
+    requires { ports filled.old ≡ switch.old }
+{
+    for _ in 0..32 {
+        switch.change(drawn);
+        if !switch.agrees(filled) {
+            return false;
+        }
+    }
+    true
+}
+
+// Whether they are so in a new switch of so many ports.
+fn agree_from_new(alloc: Global, drawn: &mut Draws, count: u16) -> Result<bool, NoMemory>
+    requires some { 0 < count }
+    requires few { count ≤ most_ports }
+{
+    let mut switch = Followed::new(alloc, count)?;
+    let mut filled = Offers::new(alloc, count)?;
+    Ok(agree_after_changes(&mut switch, &mut filled, drawn))
+}
+
 #[test]
 fn renewed_offers_are_those_that_are_filled_anew(rt: HostRuntime) -> Result<(), Fail> {
     let mut drawn = Draws::from_seed(2);
     for ports in 1..13 {
-        let mut switch = Followed::new(rt.alloc(), ports)?;
-        let mut filled = Offers::new(rt.alloc(), ports)?;
-        for change in 0..32u16 {
-            switch.change(&mut drawn);
-            assert!(rt;
-                switch.agrees(&mut filled),
-                "of {ports} ports after change {change}"
-            );
-        }
+        assert!(rt; agree_from_new(rt.alloc(), &mut drawn, ports)?);
     }
     Ok(())
 }

@@ -4,9 +4,11 @@ ghost use Rattle.cq_prefs.specs.Orders.{ports};
 ghost use Rattle.cq_ledger.specs.Seats.{HasClaimedAll, IsSeatOf};
 
 use super::opposed::{contested_offers, opposed_offers};
-use cq_base::Port;
+use Outcome::{Displaced, Held, Rejected};
+use cq_base::{NoMemory, Port};
 use cq_ledger::{Ledger, LedgerSeat, Outcome};
-use cq_prefs::Matching;
+use cq_prefs::{Matching, Offers};
+use std::alloc::Global;
 use std::test::Fail;
 use std::thread::{Threads, join};
 
@@ -80,145 +82,134 @@ fn closed_with_both(ledger: Ledger, mut seat: LedgerSeat, other: LedgerSeat) -> 
     closed(ledger, seat)
 }
 
-// What a proposal comes to, and the hand that it leaves.
-type Proposed = (Option<Outcome>, Option<Port>);
+// The input that a seat claims first, if it does, what its proposal comes to then, and the hand that it leaves.
+type Step = (Option<Port>, Outcome, Option<Port>);
 
-const NO_PROPOSAL: Proposed = (None, None);
-
-// What a seat comes to: the answer of a claim with the hand after it, and three proposals.
-type Work = ((Option<bool>, Option<Port>), [Proposed; 3]);
-
-// What a proposal comes to, and the hand that it leaves.
-fn proposed_on(ledger: &Ledger, seat: &mut LedgerSeat) -> Proposed
-    requires { IsSeatOf ledger.now seat.old }
-    ensures { IsSeatOf ledger.now seat.new }
-{
-    (proposed(ledger, seat), seat.hand())
-}
-
-// Claims an input, and proposes three times at most.
-fn worked(ledger: &Ledger, seat: &mut LedgerSeat, input: Port) -> Work
+// Whether a seat claims the input, if there is one, and has it in its hand.
+fn claims(ledger: &Ledger, seat: &mut LedgerSeat, input: Option<Port>) -> bool
     requires seat { IsSeatOf ledger.now seat.old }
     requires ports { ports ledger.now.offers ≡ 3 }
     ensures { IsSeatOf ledger.now seat.new }
 {
-    let claim = (claimed(ledger, seat, input), seat.hand());
-    let proposals = [
-        proposed_on(ledger, seat),
-        proposed_on(ledger, seat),
-        proposed_on(ledger, seat),
-    ];
-    (claim, proposals)
+    if let Some(input) = input {
+        return claimed(ledger, seat, input) == Some(true) && seat.hand() == Some(input);
+    }
+    true
 }
 
-// The work of a seat that has claimed an input, where its proposals come to this.
-fn work_for(input: Port, proposals: [Proposed; 3]) -> Work {
-    ((Some(true), Some(input)), proposals)
+// Whether a seat makes these steps, and has nothing in its hand after them.
+fn makes_all(ledger: &Ledger, seat: &mut LedgerSeat, steps: &[Step]) -> bool
+    requires seat { IsSeatOf ledger.now seat.old }
+    requires ports { ports ledger.now.offers ≡ 3 }
+    ensures { IsSeatOf ledger.now seat.new }
+{
+    'steps: for (claim, outcome, hand) in steps {
+        if !claims(ledger, seat, *claim)
+            || proposed(ledger, seat) != Some(*outcome)
+            || seat.hand() != *hand
+        {
+            return false;
+        }
+    }
+    seat.hand().is_none()
 }
 
 // What three inputs come to whose outputs prefer the last of them.
 const OPPOSED: Settled = ([Some(2), Some(1), Some(0)], 6);
 
-// The work of two seats in turn, for inputs 0, 1 and 2, and the answer of the first to a claim of input 1 then.
-fn worked_in_turn(
-    ledger: &Ledger,
-    a: &mut LedgerSeat,
-    b: &mut LedgerSeat,
-) -> ([Work; 3], Option<bool>)
+const WITH_0: [Step; 1] = [(Some(0), Held, None)];
+
+const WITH_1: [Step; 2] = [(Some(1), Displaced(0), Some(0)), (None, Held, None)];
+
+const WITH_2: [Step; 3] = [
+    (Some(2), Displaced(1), Some(1)),
+    (None, Displaced(0), Some(0)),
+    (None, Held, None),
+];
+
+// Whether two seats in turn work for inputs 0, 1 and 2, and the first does not get input 1 then.
+fn work_in_turn(ledger: &Ledger, a: &mut LedgerSeat, b: &mut LedgerSeat) -> bool
     requires a { IsSeatOf ledger.now a.old }
     requires b { IsSeatOf ledger.now b.old }
     requires ports { ports ledger.now.offers ≡ 3 }
     ensures a { IsSeatOf ledger.now a.new }
     ensures b { IsSeatOf ledger.now b.new }
 {
-    let works = [
-        worked(ledger, a, 0),
-        worked(ledger, b, 1),
-        worked(ledger, a, 2),
-    ];
-    (works, claimed(ledger, a, 1))
+    makes_all(ledger, a, &WITH_0)
+        && makes_all(ledger, b, &WITH_1)
+        && makes_all(ledger, a, &WITH_2)
+        && claimed(ledger, a, 1) == Some(false)
 }
 
-// Whether two seats that work in turn do this work, know what they claimed, and settle the opposed offers.
-fn settles_in_turn(ledger: Ledger, mut a: LedgerSeat, works: &[Work; 3]) -> bool
+// Whether each of the two seats knows what it claimed, and how many proposals it made.
+fn know_their_work(a: &LedgerSeat, b: &LedgerSeat) -> bool
+    requires a { ports a.now.view.offers ≡ 3 }
+    requires b { ports b.now.view.offers ≡ 3 }
+{
+    let claims = [a.claimed(0), a.claimed(1), a.claimed(2), b.claimed(1)];
+    claims == [true, false, true, true] && [a.made(), b.made()] == [4, 2]
+}
+
+// Whether two seats that work in turn know their work, and settle the opposed offers.
+fn settle_in_turn(ledger: Ledger, mut a: LedgerSeat) -> bool
     requires seat { IsSeatOf ledger a }
     requires ports { ports ledger.offers ≡ 3 }
 {
     let mut b = ledger.split(&mut a);
-    let (worked, again) = worked_in_turn(&ledger, &mut a, &mut b);
-    let claims = [a.claimed(0), a.claimed(1), a.claimed(2), b.claimed(1)];
-    let is_worked = worked == *works && again == Some(false);
-    let is_known = claims == [true, false, true, true] && [a.made(), b.made()] == [4, 2];
-    is_worked && is_known && closed_with_both(ledger, a, b) == Some(OPPOSED)
+    let is_worked = work_in_turn(&ledger, &mut a, &mut b) && know_their_work(&a, &b);
+    let settled = closed_with_both(ledger, a, b);
+    is_worked && settled == Some(OPPOSED)
 }
 
 #[test]
 fn two_seats_share_one_ledger(rt: HostRuntime) -> Result<(), Fail> {
-    use Outcome::{Displaced, Held};
-    let held = (Some(Held), None);
-    let (back_to_0, back_to_1) = ((Some(Displaced(0)), Some(0)), (Some(Displaced(1)), Some(1)));
-    let works = [
-        work_for(0, [held, NO_PROPOSAL, NO_PROPOSAL]),
-        work_for(1, [back_to_0, held, NO_PROPOSAL]),
-        work_for(2, [back_to_1, back_to_0, held]),
-    ];
     let (ledger, seat) = Ledger::start(rt.alloc(), &opposed_offers(rt.alloc(), 3)?)?;
-    assert!(rt; settles_in_turn(ledger, seat, &works));
+    assert!(rt; settle_in_turn(ledger, seat));
     Ok(())
 }
 
-// Whether a seat that claims these inputs one after another makes these proposals.
-fn works_so(ledger: &Ledger, seat: &mut LedgerSeat, rows: &[(Port, [Proposed; 3])]) -> bool
-    requires seat { IsSeatOf ledger.now seat.old }
-    requires ports { ports ledger.now.offers ≡ 3 }
-    ensures { IsSeatOf ledger.now seat.new }
+// Whether the one seat of a ledger makes these steps, and settles the offers so.
+fn settles_alone(
+    alloc: Global,
+    offers: &Offers,
+    steps: &[Step],
+    settled: Settled,
+) -> Result<bool, NoMemory>
+    requires { ports offers.now ≡ 3 }
 {
-    let mut are_so = true;
-    'rows: for (input, proposals) in rows {
-        let work = worked(ledger, seat, *input);
-        are_so = are_so && work == work_for(*input, *proposals);
-    }
-    are_so
+    let (ledger, mut seat) = Ledger::start(alloc, offers)?;
+    let is_worked = makes_all(&ledger, &mut seat, steps);
+    let closed = closed(ledger, seat);
+    Ok(is_worked && closed == Some(settled))
 }
 
-// Whether the one seat of a ledger works so, and settles the offers so.
-fn settles_alone(
-    ledger: Ledger,
-    mut seat: LedgerSeat,
-    rows: &[(Port, [Proposed; 3])],
-    settled: Settled,
-) -> bool
-    requires seat { IsSeatOf ledger seat }
-    requires ports { ports ledger.offers ≡ 3 }
-{
-    works_so(&ledger, &mut seat, rows) && closed(ledger, seat) == Some(settled)
-}
+const REJECTED: [Step; 6] = [
+    (Some(2), Held, None),
+    (Some(1), Rejected, Some(1)),
+    (None, Held, None),
+    (Some(0), Rejected, Some(0)),
+    (None, Rejected, Some(0)),
+    (None, Held, None),
+];
 
 #[test]
 fn one_seat_claims_every_input(rt: HostRuntime) -> Result<(), Fail> {
-    use Outcome::{Held, Rejected};
-    let held = (Some(Held), None);
-    let (still_0, still_1) = ((Some(Rejected), Some(0)), (Some(Rejected), Some(1)));
-    let rows = [
-        (2, [held, NO_PROPOSAL, NO_PROPOSAL]),
-        (1, [still_1, held, NO_PROPOSAL]),
-        (0, [still_0, still_0, held]),
-    ];
-    let (ledger, seat) = Ledger::start(rt.alloc(), &opposed_offers(rt.alloc(), 3)?)?;
-    assert!(rt; settles_alone(ledger, seat, &rows, OPPOSED));
+    let offers = opposed_offers(rt.alloc(), 3)?;
+    assert!(rt; settles_alone(rt.alloc(), &offers, &REJECTED, OPPOSED)?);
     Ok(())
 }
 
+const EMPTIED: [Step; 3] = [
+    (Some(1), Held, None),
+    (Some(0), Rejected, None),
+    (Some(2), Displaced(1), None),
+];
+
 #[test]
 fn each_outcome_can_empty_the_hand(rt: HostRuntime) -> Result<(), Fail> {
-    use Outcome::{Displaced, Held, Rejected};
-    let rows = [
-        (1, [(Some(Held), None), NO_PROPOSAL, NO_PROPOSAL]),
-        (0, [(Some(Rejected), None), NO_PROPOSAL, NO_PROPOSAL]),
-        (2, [(Some(Displaced(1)), None), NO_PROPOSAL, NO_PROPOSAL]),
-    ];
-    let (ledger, seat) = Ledger::start(rt.alloc(), &contested_offers(rt.alloc())?)?;
-    assert!(rt; settles_alone(ledger, seat, &rows, ([None, None, Some(0)], 3)));
+    let offers = contested_offers(rt.alloc())?;
+    let settled = ([None, None, Some(0)], 3);
+    assert!(rt; settles_alone(rt.alloc(), &offers, &EMPTIED, settled)?);
     Ok(())
 }
 

@@ -11,33 +11,26 @@ use cq_trial_kit::{Draws, list_of, waiting};
 use std::alloc::Global;
 use std::test::Fail;
 
-// The slots of the cells, where a cell arrives in slot 2 behind one for each of two outputs.
-fn slots_after(alloc: Global, output: u16, rank: u128) -> Result<[u64; 3], NoMemory>
+// Whether the cells stand in the order of these slots, where a cell arrives in slot 2 behind one for each of two
+// outputs.
+fn stand_so(alloc: Global, output: u16, rank: u128, slots: [u64; 3]) -> Result<bool, NoMemory>
     requires { output < 2 }
 {
     let list = list_of(alloc, 0, 2, &[(0, 3), (1, 0), (output, rank)])?;
-    Ok([
-        list.at(0).key.slot,
-        list.at(1).key.slot,
-        list.at(2).key.slot,
-    ])
+    Ok(
+        [
+            list.at(0).key.slot,
+            list.at(1).key.slot,
+            list.at(2).key.slot,
+        ] == slots,
+    )
 }
 
 #[test]
 fn a_cell_goes_ahead_of_less_urgent_ones_for_its_output(rt: HostRuntime) -> Result<(), Fail> {
-    let slots = [
-        slots_after(rt.alloc(), 0, 1)?,
-        slots_after(rt.alloc(), 1, 5)?,
-    ];
-    assert!(rt; slots == [[2, 0, 1], [0, 1, 2]]);
+    let ahead = stand_so(rt.alloc(), 0, 1, [2, 0, 1])?;
+    assert!(rt; ahead && stand_so(rt.alloc(), 1, 5, [0, 1, 2])?);
     Ok(())
-}
-
-// Two cells for output 0, of which the newer one is the more urgent, and one for output 1.
-fn three_cells(alloc: Global) -> Result<InputList, NoMemory>
-    ensures { IfOk result (λ list. list.outputs ≡ 3) }
-{
-    list_of(alloc, 0, 3, &[(0, 3), (1, 0), (0, 1)])
 }
 
 // Whether the first cell for each output is found, with its place.
@@ -71,15 +64,16 @@ fn finds_by_key(list: &InputList) -> bool
     places == [0, 1, 2, 3]
 }
 
+// Whether all three find what they are to find among two cells for output 0, of which the newer one is the more urgent,
+// and one for output 1.
+fn each_finds(alloc: Global) -> Result<bool, NoMemory> {
+    let list = list_of(alloc, 0, 3, &[(0, 3), (1, 0), (0, 1)])?;
+    Ok(finds_by_output(&list) && finds_by_id(&list) && finds_by_key(&list))
+}
+
 #[test]
 fn a_cell_is_found_by_its_output_its_id_and_its_key(rt: HostRuntime) -> Result<(), Fail> {
-    let list = three_cells(rt.alloc())?;
-    let finds = [
-        finds_by_output(&list),
-        finds_by_id(&list),
-        finds_by_key(&list),
-    ];
-    assert!(rt; finds == [true; 3]);
+    assert!(rt; each_finds(rt.alloc())?);
     Ok(())
 }
 
@@ -161,27 +155,57 @@ fn output_in(slot: u32, draws: &mut Draws) -> u16
     }
 }
 
-#[test]
-fn drawn_calls_answer_as_a_plain_list_does(rt: HostRuntime) -> Result<(), Fail> {
-    let mut list = InputList::new(rt.alloc(), 3, 600)?;
-    let mut plain = Vec::new(rt.alloc());
-    let mut draws = Draws::from_seed(1);
-    'calls: for slot in 0..2000_u32 {
-        let output = output_in(slot, &mut draws);
-        if list.len() < 600 && one_arrives(slot, &mut draws) {
-            let queued = waiting(0, output, draws.below(40) as u128, slot);
-            let cushion = cut_in(&mut list, queued, draws.below(500));
-            let place = place_in(&plain, &queued).min(cushion as usize);
-            plain.insert(place, queued)?;
-        } else {
-            let first = take_plain(&mut plain, output);
-            assert!(rt; depart(&mut list, output, slot) == first, "slot {slot}");
+// Whether the call of a slot answers as that of a plain list: a cell comes to both, or the first one for an output
+// leaves both.
+fn agree(
+    list: &mut InputList,
+    plain: &mut Vec<Queued>,
+    draws: &mut Draws,
+    slot: u32,
+) -> Result<bool, NoMemory>
+    requires arrived { ArrivedBefore slot list.old.cells }
+    requires room { list.old.spare + length list.old.cells ≡ 600 }
+    requires outputs { list.old.outputs ≡ 3 }
+    ensures arrived { ArrivedBefore (slot + 1) list.new.cells }
+    ensures room { list.new.spare + length list.new.cells ≡ 600 }
+    ensures outputs { list.new.outputs ≡ 3 }
+{
+    let output = output_in(slot, draws);
+    if list.len() < 600 && one_arrives(slot, draws) {
+        let queued = waiting(0, output, draws.below(40) as u128, slot);
+        let cushion = cut_in(list, queued, draws.below(500));
+        let place = place_in(plain, &queued).min(cushion as usize);
+        plain.insert(place, queued)?;
+        return Ok(true);
+    }
+    Ok(depart(list, output, slot) == take_plain(plain, output))
+}
+
+// Whether the cells are those of a plain list.
+fn are_same(list: &InputList, plain: &[Queued]) -> bool {
+    for place in 0..list.len() {
+        if plain.get(place as usize).copied() != Some(list.at(place)) {
+            return false;
         }
     }
-    assert!(rt; list.len() == plain.len() as u64);
-    for place in 0..list.len() {
-        let queued = plain.get(place as usize).copied();
-        assert!(rt; Some(list.at(place)) == queued, "place {place}");
+    list.len() == plain.len() as u64
+}
+
+// Whether drawn calls answer as those of a plain list, and leave the same cells.
+fn all_agree(alloc: Global) -> Result<bool, NoMemory> {
+    let mut list = InputList::new(alloc, 3, 600)?;
+    let mut plain = Vec::new(alloc);
+    let mut draws = Draws::from_seed(1);
+    'calls: for slot in 0..2000_u32 {
+        if !agree(&mut list, &mut plain, &mut draws, slot)? {
+            return Ok(false);
+        }
     }
+    Ok(are_same(&list, &plain))
+}
+
+#[test]
+fn drawn_calls_answer_as_a_plain_list_does(rt: HostRuntime) -> Result<(), Fail> {
+    assert!(rt; all_agree(rt.alloc())?);
     Ok(())
 }

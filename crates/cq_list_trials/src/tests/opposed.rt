@@ -1,5 +1,5 @@
-//! Offers in which each output prefers the inputs from the last to the first.
-ghost use Rattle.std.specs.Prelude.{◌≡◌, ◌≤◌, IfOk};
+//! Offers that are filled from lists, and those in which each output prefers the inputs from the last to the first.
+ghost use Rattle.std.specs.Prelude.{◌≡◌, ◌≤◌, All, IfOk, length};
 ghost use Rattle.cq_base.specs.Limits.{most_ports};
 ghost use Rattle.cq_prefs.specs.Orders.{ports};
 
@@ -8,6 +8,18 @@ use cq_list::InputList;
 use cq_prefs::Offers;
 use cq_trial_kit::{arrive, waiting};
 use std::alloc::Global;
+
+/// Offers of so many ports, filled from these lists.
+pub(super) fn filled(alloc: Global, count: u16, lists: &[InputList]) -> Result<Offers, NoMemory>
+    requires few { count ≤ most_ports }
+    requires len { length lists.now ≡ count }
+    requires outputs { All (λ list. list.outputs ≡ count) lists.now }
+    ensures { IfOk result (λ offers. ports offers ≡ count) }
+{
+    let mut offers = Offers::new(alloc, count)?;
+    offers.fill(lists);
+    Ok(offers)
+}
 
 // The list of an input, with a cell of one rank for each of so many outputs, from the first on.
 fn list_for(
@@ -41,9 +53,7 @@ fn offers_for(alloc: Global, count: u16, wanted: u16) -> Result<Offers, NoMemory
     'lists: for input in 0..count {
         lists.push(list_for(alloc, input, count, wanted, count - 1 - input)?)?;
     }
-    let mut offers = Offers::new(alloc, count)?;
-    offers.fill(&lists);
-    Ok(offers)
+    filled(alloc, count, &lists)
 }
 
 /// Each input prefers the outputs from the first to the last, and each output the inputs from the last to the first.

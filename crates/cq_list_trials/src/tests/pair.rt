@@ -3,7 +3,8 @@
 ghost use Rattle.std.specs.Prelude.{◌≡◌, ◌<◌, length, IfOk, IfSome};
 ghost use Rattle.cq_pair.specs.Progress.{IsReached};
 
-use super::opposed::opposed_offers;
+use super::opposed::{filled, opposed_offers};
+use Outcome::{Displaced, Held, Rejected};
 use cq_base::{NoMemory, Port};
 use cq_list::InputList;
 use cq_pair::{Core, LastFirst, LowestFirst, Order, Outcome};
@@ -31,19 +32,17 @@ fn proposed(core: &mut Core, offers: &Offers, input: Port) -> Option<Outcome>
     Some(core.propose(offers, input))
 }
 
-// What six proposals come to, one after another.
-fn six_proposed(core: &mut Core, offers: &Offers, inputs: [Port; 6]) -> [Option<Outcome>; 6]
+// Whether proposals of these inputs come to these outcomes, one after another.
+fn come_to(core: &mut Core, offers: &Offers, steps: &[(Port, Outcome)]) -> bool
     requires { IsReached offers.now core.old }
     ensures { IsReached offers.now core.new }
 {
-    [
-        proposed(core, offers, inputs[0]),
-        proposed(core, offers, inputs[1]),
-        proposed(core, offers, inputs[2]),
-        proposed(core, offers, inputs[3]),
-        proposed(core, offers, inputs[4]),
-        proposed(core, offers, inputs[5]),
-    ]
+    'steps: for (input, outcome) in steps {
+        if proposed(core, offers, *input) != Some(*outcome) {
+            return false;
+        }
+    }
+    true
 }
 
 // The partners of three inputs.
@@ -60,32 +59,36 @@ fn partners(core: &Core, offers: &Offers) -> [Option<Port>; 3]
 }
 
 // Whether six proposals come to these outcomes, all that there are, and leave each side with its best partner.
-fn settle_in_six(offers: &Offers, inputs: [Port; 6], outcomes: [Outcome; 6]) -> bool {
+fn settle_in_six(offers: &Offers, steps: &[(Port, Outcome); 6]) -> bool {
     let mut core = Core::begin(offers);
-    let proposed = six_proposed(&mut core, offers, inputs);
-    let is_settled = core.made() == 6 && core.free().is_empty();
-    proposed == outcomes.map(Some)
-        && is_settled
+    come_to(&mut core, offers, steps)
+        && core.made() == 6
+        && core.free().is_empty()
         && partners(&core, offers) == [Some(2), Some(1), Some(0)]
 }
 
-#[test]
-fn outputs_keep_the_best_and_displace_the_others(rt: HostRuntime) -> Result<(), Fail> {
-    use Outcome::{Displaced, Held, Rejected};
-    let offers = opposed_offers(rt.alloc(), 3)?;
-    let displacing = [Held, Displaced(0), Held, Displaced(1), Displaced(0), Held];
-    assert!(rt; settle_in_six(&offers, [0, 1, 0, 2, 1, 0], displacing));
-    let rejecting = [Held, Rejected, Rejected, Held, Rejected, Held];
-    assert!(rt; settle_in_six(&offers, [2, 1, 0, 1, 0, 0], rejecting));
-    Ok(())
-}
+const DISPLACING: [(Port, Outcome); 6] = [
+    (0, Held),
+    (1, Displaced(0)),
+    (0, Held),
+    (2, Displaced(1)),
+    (1, Displaced(0)),
+    (0, Held),
+];
+
+const REJECTING: [(Port, Outcome); 6] = [
+    (2, Held),
+    (1, Rejected),
+    (0, Rejected),
+    (1, Held),
+    (0, Rejected),
+    (0, Held),
+];
 
 #[test]
-fn settling_does_not_depend_on_who_proposes_next(rt: HostRuntime) -> Result<(), Fail> {
+fn outputs_keep_the_best_and_displace_the_others(rt: HostRuntime) -> Result<(), Fail> {
     let offers = opposed_offers(rt.alloc(), 3)?;
-    let settled = ([Some(2), Some(1), Some(0)], 6);
-    assert!(rt; settled_in(&offers, &mut LastFirst) == settled);
-    assert!(rt; settled_in(&offers, &mut LowestFirst) == settled);
+    assert!(rt; settle_in_six(&offers, &DISPLACING) && settle_in_six(&offers, &REJECTING));
     Ok(())
 }
 
@@ -94,6 +97,19 @@ fn settled_in<O: Order>(offers: &Offers, order: &mut O) -> ([Option<Port>; 3], u
     let mut core = Core::begin(offers);
     core.settle(offers, order);
     (partners(&core, offers), core.made())
+}
+
+// Whether the last input first, and the lowest first, come to the same partners by as many proposals.
+fn settle_in_each_order(offers: &Offers) -> bool {
+    let settled = ([Some(2), Some(1), Some(0)], 6);
+    settled_in(offers, &mut LastFirst) == settled && settled_in(offers, &mut LowestFirst) == settled
+}
+
+#[test]
+fn settling_does_not_depend_on_who_proposes_next(rt: HostRuntime) -> Result<(), Fail> {
+    let offers = opposed_offers(rt.alloc(), 3)?;
+    assert!(rt; settle_in_each_order(&offers));
+    Ok(())
 }
 
 // The list of an input with one to three drawn offers.
@@ -115,9 +131,7 @@ fn drawn_offers(alloc: Global, drawn: &mut Draws) -> Result<Offers, NoMemory> {
         drawn_list(alloc, drawn, 1)?,
         drawn_list(alloc, drawn, 2)?,
     ];
-    let mut offers = Offers::new(alloc, 3)?;
-    offers.fill(&lists);
-    Ok(offers)
+    filled(alloc, 3, &lists)
 }
 
 // The partner that a number stands for.
@@ -225,17 +239,33 @@ fn other_stable(offers: &Offers, settled: &[Option<Port>; 3]) -> (bool, bool) {
     (some, all_no_better)
 }
 
-#[test]
-fn drawn_offers_settle_at_the_best_of_all_stable_matchings(rt: HostRuntime) -> Result<(), Fail> {
+// Whether drawn offers settle at the best of all their stable matchings. Notes where there are several.
+fn settle_at_best(
+    alloc: Global,
+    drawn: &mut Draws,
+    some_have_several: &mut bool,
+) -> Result<bool, NoMemory> {
+    let offers = drawn_offers(alloc, drawn)?;
+    let (settled, _) = settled_in(&offers, &mut LastFirst);
+    let (several, best) = other_stable(&offers, &settled);
+    *some_have_several = *some_have_several || several;
+    Ok(best && is_stable(&offers, &settled))
+}
+
+// Whether they do each of 40 times, and some of them have several.
+fn all_settle_at_best(alloc: Global) -> Result<bool, NoMemory> {
     let mut drawn = Draws::from_seed(1);
     let mut some_have_several = false;
-    for round in 0..40u16 {
-        let offers = drawn_offers(rt.alloc(), &mut drawn)?;
-        let (settled, _) = settled_in(&offers, &mut LastFirst);
-        let (several, best) = other_stable(&offers, &settled);
-        assert!(rt; best && is_stable(&offers, &settled), "in round {round}");
-        some_have_several = some_have_several || several;
+    for _ in 0..40 {
+        if !settle_at_best(alloc, &mut drawn, &mut some_have_several)? {
+            return Ok(false);
+        }
     }
-    assert!(rt; some_have_several);
+    Ok(some_have_several)
+}
+
+#[test]
+fn drawn_offers_settle_at_the_best_of_all_stable_matchings(rt: HostRuntime) -> Result<(), Fail> {
+    assert!(rt; all_settle_at_best(rt.alloc())?);
     Ok(())
 }

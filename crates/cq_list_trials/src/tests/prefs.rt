@@ -4,6 +4,7 @@ ghost use Rattle.std.specs.Prelude.{◌≡◌, ◌<◌, ◌≤◌, All, IfOk, le
 ghost use Rattle.cq_base.specs.Limits.{most_ports};
 ghost use Rattle.cq_prefs.specs.Orders.{ports};
 
+use super::opposed::filled;
 use cq_base::{NoMemory, Port};
 use cq_list::InputList;
 use cq_prefs::Offers;
@@ -11,7 +12,7 @@ use cq_trial_kit::{Draws, arrive, list_of, waiting};
 use std::alloc::Global;
 use std::test::Fail;
 
-// A copy of the offers of three inputs with two cells each.
+// The offers of three inputs with two cells each.
 fn three_offers(alloc: Global) -> Result<Offers, NoMemory>
     ensures { IfOk result (λ offers. ports offers ≡ 3) }
 {
@@ -20,9 +21,7 @@ fn three_offers(alloc: Global) -> Result<Offers, NoMemory>
         list_of(alloc, 1, 3, &[(1, 1), (0, 0)])?,
         list_of(alloc, 2, 3, &[(0, 2), (2, 0)])?,
     ];
-    let mut offers = Offers::new(alloc, 3)?;
-    offers.fill(&lists);
-    offers.copy(alloc)
+    filled(alloc, 3, &lists)
 }
 
 // Whether a port of each side prefers the others in this order.
@@ -32,15 +31,23 @@ fn prefer(offers: &Offers, port: Port, outputs: &[Port], inputs: &[Port]) -> boo
     offers.outputs_of(port) == outputs && offers.inputs_of(port) == inputs
 }
 
+// Whether a copy of the offers prefers by the first cells of both sides.
+fn copy_prefers(alloc: Global, offers: &Offers) -> Result<bool, NoMemory>
+    requires { ports offers.now ≡ 3 }
+{
+    let copy = offers.copy(alloc)?;
+    Ok(
+        copy.ports() == 3
+            && prefer(&copy, 0, &[0, 1], &[1, 0, 2])
+            && prefer(&copy, 1, &[1, 0], &[0, 1])
+            && prefer(&copy, 2, &[0, 2], &[2]),
+    )
+}
+
 #[test]
 fn each_side_prefers_by_first_cells(rt: HostRuntime) -> Result<(), Fail> {
     let offers = three_offers(rt.alloc())?;
-    let prefers = [
-        prefer(&offers, 0, &[0, 1], &[1, 0, 2]),
-        prefer(&offers, 1, &[1, 0], &[0, 1]),
-        prefer(&offers, 2, &[0, 2], &[2]),
-    ];
-    assert!(rt; prefers == [true; 3] && offers.ports() == 3);
+    assert!(rt; copy_prefers(rt.alloc(), &offers)?);
     Ok(())
 }
 
@@ -80,48 +87,87 @@ fn drawn_lists(alloc: Global, drawn: &mut Draws, ports: u16) -> Result<Vec<Input
 }
 
 // How many of the ports stand before an output, by the places in the list, or None where it has no cell for it.
-fn slow_place(list: &InputList, ports: u16, output: Port) -> Option<usize> {
+fn slow_place(list: &InputList, ports: u16, output: Port) -> Option<u16> {
     let place = list.place_for(output)?;
-    let ahead = (0..ports).filter(|other| list.place_for(*other).is_some_and(|at| at < place));
-    Some(ahead.count())
+    let mut ahead = 0u16;
+    for other in 0..ports {
+        if let Some(at) = list.place_for(other)
+            && at < place
+        {
+            ahead = ahead.wrapping_add(1);
+        }
+    }
+    Some(ahead)
 }
 
 // How many of the lists have a more urgent first cell for an output, or None where the list has none for it.
-fn slow_position(lists: &[InputList], list: &InputList, output: Port) -> Option<usize> {
-    let key = list.front_for(output)?.key;
-    let ahead = lists.iter().filter(|other| {
-        other.front_for(output).is_some_and(|front| front.key < key)
-    });
-    Some(ahead.count())
+fn slow_position(lists: &[InputList], list: &InputList, output: Port) -> Option<u16> {
+    let queued = list.front_for(output)?;
+    let mut ahead = 0u16;
+    for other in lists {
+        if let Some(front) = other.front_for(output)
+            && front.key < queued.key
+        {
+            ahead = ahead.wrapping_add(1);
+        }
+    }
+    Some(ahead)
 }
 
 // Whether the offers say of an input what the slow reading of the lists says.
 fn agrees(offers: &Offers, lists: &[InputList], list: &InputList, input: Port) -> bool {
-    (0..offers.ports()).all(|output| {
-        let place = offers.place_of(input, output).map(|place| place as usize);
-        let position = offers
-            .position_of(output, input)
-            .map(|position| position as usize);
-        place == slow_place(list, offers.ports(), output)
-            && position == slow_position(lists, list, output)
-    })
+    let ports = offers.ports();
+    for output in 0..ports {
+        if offers.place_of(input, output) != slow_place(list, ports, output)
+            || offers.position_of(output, input) != slow_position(lists, list, output)
+        {
+            return false;
+        }
+    }
+    true
+}
+
+// Whether they do of each input, once they are filled from drawn lists.
+fn all_agree(
+    alloc: Global,
+    drawn: &mut Draws,
+    offers: &mut Offers,
+    count: u16,
+) -> Result<bool, NoMemory>
+    requires some { 0 < count }
+    requires few { count ≤ most_ports }
+    requires ports { ports offers.old ≡ count }
+    ensures { ports offers.new ≡ count }
+{
+    let lists = drawn_lists(alloc, drawn, count)?;
+    offers.fill(&lists);
+    for (input, list) in lists.iter().enumerate() {
+        if !agrees(offers, &lists, list, input as Port) {
+            return Ok(false);
+        }
+    }
+    Ok(true)
+}
+
+// Whether they do each of ten times.
+fn all_agree_again(alloc: Global, drawn: &mut Draws, count: u16) -> Result<bool, NoMemory>
+    requires some { 0 < count }
+    requires few { count ≤ most_ports }
+{
+    let mut offers = Offers::new(alloc, count)?;
+    for _ in 0..10 {
+        if !all_agree(alloc, drawn, &mut offers, count)? {
+            return Ok(false);
+        }
+    }
+    Ok(true)
 }
 
 #[test]
 fn drawn_lists_are_read_as_a_slow_reading_says(rt: HostRuntime) -> Result<(), Fail> {
     let mut drawn = Draws::from_seed(1);
     for ports in 1..9 {
-        let mut offers = Offers::new(rt.alloc(), ports)?;
-        for round in 0..10u16 {
-            let lists = drawn_lists(rt.alloc(), &mut drawn, ports)?;
-            offers.fill(&lists);
-            for (input, list) in lists.iter().enumerate() {
-                assert!(rt;
-                    agrees(&offers, &lists, list, input as Port),
-                    "of {ports} ports in round {round}"
-                );
-            }
-        }
+        assert!(rt; all_agree_again(rt.alloc(), &mut drawn, ports)?);
     }
     Ok(())
 }

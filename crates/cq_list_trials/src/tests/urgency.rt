@@ -33,22 +33,32 @@ fn four_cells(alloc: Global) -> Result<OutputBuffer, NoMemory>
     Ok(buffer)
 }
 
-#[test]
-fn equal_ranks_wait_in_the_order_of_their_arrival(rt: HostRuntime) -> Result<(), Fail> {
-    let mut buffer = four_cells(rt.alloc())?;
+// Whether the four cells wait in the order of their ranks and then of their arrival, as do those that are to come, and
+// the first of them leaves first.
+fn wait_in_order(buffer: &mut OutputBuffer) -> bool
+    requires { length buffer.old.cells ≡ 4 }
+{
     let slots = [
         buffer.at(0).key.slot,
         buffer.at(1).key.slot,
         buffer.at(2).key.slot,
         buffer.at(3).key.slot,
     ];
-    assert!(rt; slots == [1, 0, 2, 3]);
     let cushions = [
         buffer.cushion(waiting(0, 0, 5, 2).key),
         buffer.cushion(waiting(0, 0, 5, 3).key),
     ];
-    assert!(rt; cushions == [2, 3]);
-    assert!(rt; buffer.pop().map(|sent| sent.key.slot) == Some(1) && buffer.len() == 3);
+    let first = buffer.pop();
+    slots == [1, 0, 2, 3]
+        && cushions == [2, 3]
+        && first == Some(waiting(0, 0, 2, 1))
+        && buffer.len() == 3
+}
+
+#[test]
+fn equal_ranks_wait_in_the_order_of_their_arrival(rt: HostRuntime) -> Result<(), Fail> {
+    let mut buffer = four_cells(rt.alloc())?;
+    assert!(rt; wait_in_order(&mut buffer));
     Ok(())
 }
 
@@ -81,35 +91,76 @@ fn leave_plain(cells: &mut Vec<Queued>) -> Option<Queued> {
     Some(cells.remove(0))
 }
 
-// Blocks split while the buffer fills, in the first half of each 800 calls, and are freed while it empties.
-#[test]
-fn drawn_calls_answer_as_a_plain_list_does(rt: HostRuntime) -> Result<(), Fail> {
-    let mut buffer = OutputBuffer::new(rt.alloc(), 300)?;
-    let mut plain = Vec::new(rt.alloc());
+// Whether a cushion, the number of cells, and the cell at a drawn place are those of a plain list, in which a cell with
+// this key goes in at this place.
+fn is_as_plain(
+    buffer: &OutputBuffer,
+    plain: &[Queued],
+    draws: &mut Draws,
+    key: Key,
+    place: usize,
+) -> bool {
+    let len = buffer.len();
+    if buffer.cushion(key) != place as u64 || len != plain.len() as u64 {
+        return false;
+    }
+    if len == 0 {
+        return true;
+    }
+    let at = draws.below(len);
+    plain.get(at as usize).copied() == Some(buffer.at(at))
+}
+
+// Whether the calls of a slot answer as those of a plain list: a cell comes to both, or the first one leaves both.
+fn agree(
+    buffer: &mut OutputBuffer,
+    plain: &mut Vec<Queued>,
+    draws: &mut Draws,
+    slot: u32,
+) -> Result<bool, NoMemory>
+    requires arrived { ArrivedBefore slot buffer.old.cells }
+    requires room { buffer.old.spare + length buffer.old.cells ≡ 300 }
+    ensures arrived { ArrivedBefore (slot + 1) buffer.new.cells }
+    ensures room { buffer.new.spare + length buffer.new.cells ≡ 300 }
+{
+    let queued = waiting(0, 0, draws.below(40) as u128, slot);
+    let place = place_in(plain, queued.key);
+    let is_as = is_as_plain(buffer, plain, draws, queued.key, place);
+    let fills = slot % 800 < 400;
+    if buffer.len() < 300 && (draws.below(8) < 7) == fills {
+        come(buffer, queued);
+        plain.insert(place, queued)?;
+        return Ok(is_as);
+    }
+    Ok(leave(buffer, slot) == leave_plain(plain) && is_as)
+}
+
+// Whether the cells are those of a plain list.
+fn are_same(buffer: &OutputBuffer, plain: &[Queued]) -> bool {
+    for place in 0..buffer.len() {
+        if plain.get(place as usize).copied() != Some(buffer.at(place)) {
+            return false;
+        }
+    }
+    buffer.len() == plain.len() as u64
+}
+
+// Whether drawn calls answer as those of a plain list, and leave the same cells. Blocks split while the buffer fills,
+// in the first half of each 800 calls, and are freed while it empties.
+fn all_agree(alloc: Global) -> Result<bool, NoMemory> {
+    let mut buffer = OutputBuffer::new(alloc, 300)?;
+    let mut plain = Vec::new(alloc);
     let mut draws = Draws::from_seed(1);
     'calls: for slot in 0..2000_u32 {
-        let queued = waiting(0, 0, draws.below(40) as u128, slot);
-        let place = place_in(&plain, queued.key);
-        assert!(rt; buffer.cushion(queued.key) == place as u64, "slot {slot}");
-        let len = buffer.len();
-        assert!(rt; len == plain.len() as u64, "slot {slot}");
-        if len > 0 {
-            let at = draws.below(len);
-            let cell = plain.get(at as usize).copied();
-            assert!(rt; Some(buffer.at(at)) == cell, "slot {slot}, place {at}");
-        }
-        let fills = slot % 800 < 400;
-        if len < 300 && (draws.below(8) < 7) == fills {
-            come(&mut buffer, queued);
-            plain.insert(place, queued)?;
-        } else {
-            let first = leave_plain(&mut plain);
-            assert!(rt; leave(&mut buffer, slot) == first, "slot {slot}");
+        if !agree(&mut buffer, &mut plain, &mut draws, slot)? {
+            return Ok(false);
         }
     }
-    for place in 0..buffer.len() {
-        let cell = plain.get(place as usize).copied();
-        assert!(rt; Some(buffer.at(place)) == cell, "place {place}");
-    }
+    Ok(are_same(&buffer, &plain))
+}
+
+#[test]
+fn drawn_calls_answer_as_a_plain_list_does(rt: HostRuntime) -> Result<(), Fail> {
+    assert!(rt; all_agree(rt.alloc())?);
     Ok(())
 }
