@@ -1,5 +1,5 @@
 //! A phase by workers: worked examples by one and by several, and workers who wait for one another.
-ghost use Rattle.std.specs.Prelude.{◌≤◌};
+ghost use Rattle.std.specs.Prelude.{◌≤◌, length};
 ghost use Rattle.cq_base.specs.Limits.{most_ports, most_workers};
 
 use super::opposed::{filled, opposed_offers};
@@ -12,11 +12,14 @@ use std::alloc::Global;
 use std::test::Fail;
 use std::thread::Threads;
 
-// Two inputs, each with an offer to the output of its own number.
+// Two inputs, each with a cell for the output of its own number.
+const APART: [[(Port, u128); 1]; 2] = [[(0, 0)], [(1, 0)]];
+
+// Their offers.
 fn offers_apart(alloc: Global) -> Result<Offers, NoMemory> {
     let lists = [
-        list_of(alloc, 0, 2, &[(0, 0)])?,
-        list_of(alloc, 1, 2, &[(1, 0)])?,
+        list_of(alloc, 0, 2, &APART[0])?,
+        list_of(alloc, 1, 2, &APART[1])?,
     ];
     filled(alloc, 2, &lists)
 }
@@ -72,9 +75,9 @@ fn any_number_settles<R: Threads + Sync>(
 
 #[test]
 fn any_number_of_workers_comes_to_the_same(rt: HostRuntime) -> Result<(), Fail> {
-    for (ports, proposals) in [(2u16, 3u64), (3, 6), (64, 2080)] {
-        assert!(rt; any_number_settles(&rt, rt.alloc(), ports, proposals)?);
-    }
+    let over_two = any_number_settles(&rt, rt.alloc(), 2, 3)?;
+    let over_three = any_number_settles(&rt, rt.alloc(), 3, 6)?;
+    assert!(rt; over_two && over_three && any_number_settles(&rt, rt.alloc(), 64, 2080)?);
     Ok(())
 }
 
@@ -127,8 +130,8 @@ fn have_proposed(gate: &Meeting, workers: u16, proposals: u64, held: u64) -> boo
     let [zero, one, two] = gate.proposals();
     let each_has = zero > 0 && one > 0 && (two > 0) == (workers > 2);
     let told = zero.wrapping_add(one).wrapping_add(two);
-    let faults = [gate.in_vain(), gate.miscounted(), gate.misclaimed()];
-    gate.have_met() && each_has && (told, gate.held()) == (proposals, held) && faults == [0; 3]
+    let are_sound = gate.in_vain() == 0 && gate.miscounted() == 0 && gate.misclaimed() == 0;
+    gate.have_met() && each_has && told == proposals && gate.held() == held && are_sound
 }
 
 // Whether two workers or three, who wait for one another's first claim, come to these partners, after so many
@@ -152,31 +155,44 @@ fn meet<R: Threads + Sync>(
 }
 
 // Whether two workers meet where each input has an output of its own.
-fn two_meet_apart<R: Threads + Sync>(rt: &R, alloc: Global) -> Result<bool, NoMemory> {
+fn meet_apart<R: Threads + Sync>(rt: &R, alloc: Global) -> Result<bool, NoMemory> {
     let offers = offers_apart(alloc)?;
-    Ok(meet(rt, alloc, &offers, 2, &[Some(0), Some(1)], 2))
+    Ok(meet(rt, alloc, &offers, 2, &OWN_OF_TWO, 2))
 }
 
-// Whether so many workers meet where two inputs both prefer output 0.
-fn two_meet_opposed<R: Threads + Sync>(rt: &R, alloc: Global) -> Result<bool, NoMemory> {
-    let offers = opposed_offers(alloc, 2)?;
-    Ok(meet(rt, alloc, &offers, 2, &[Some(1), Some(0)], 3))
+// Whether so many workers meet over opposed offers, of as many inputs as there are partners.
+fn meet_opposed<R: Threads + Sync>(
+    rt: &R,
+    alloc: Global,
+    workers: u16,
+    partners: &[Option<Port>],
+    proposals: u64,
+) -> Result<bool, NoMemory>
+    requires ports { length partners.now ≤ most_ports }
+    requires some { 1 ≤ workers }
+    requires few { workers ≤ most_workers }
+{
+    let offers = opposed_offers(alloc, partners.len() as u16)?;
+    Ok(meet(rt, alloc, &offers, workers, partners, proposals))
 }
+
+const OWN_OF_TWO: [Option<Port>; 2] = [Some(0), Some(1)];
+
+const LAST_OF_TWO: [Option<Port>; 2] = [Some(1), Some(0)];
+
+const LAST_OF_THREE: [Option<Port>; 3] = [Some(2), Some(1), Some(0)];
 
 #[test]
 fn two_workers_meet(rt: HostRuntime) -> Result<(), Fail> {
-    let apart = two_meet_apart(&rt, rt.alloc())?;
-    assert!(rt; apart && two_meet_opposed(&rt, rt.alloc())?);
+    let apart = meet_apart(&rt, rt.alloc())?;
+    assert!(rt; apart && meet_opposed(&rt, rt.alloc(), 2, &LAST_OF_TWO, 3)?);
     Ok(())
 }
 
 // With two workers, one of them claims an input that is not of its own number.
 #[test]
 fn two_workers_and_three_meet_over_three_inputs(rt: HostRuntime) -> Result<(), Fail> {
-    let offers = opposed_offers(rt.alloc(), 3)?;
-    let partners = [Some(2), Some(1), Some(0)];
-    for workers in [2u16, 3] {
-        assert!(rt; meet(&rt, rt.alloc(), &offers, workers, &partners, 6));
-    }
+    let two = meet_opposed(&rt, rt.alloc(), 2, &LAST_OF_THREE, 6)?;
+    assert!(rt; two && meet_opposed(&rt, rt.alloc(), 3, &LAST_OF_THREE, 6)?);
     Ok(())
 }

@@ -216,8 +216,8 @@ fn agree_from_new(alloc: Global, drawn: &mut Draws, count: u16) -> Result<bool, 
     requires some { 0 < count }
     requires few { count ≤ most_ports }
 {
-    let mut switch = Followed::new(alloc, count)?;
     let mut filled = Offers::new(alloc, count)?;
+    let mut switch = Followed::new(alloc, count)?;
     Ok(agree_after_changes(&mut switch, &mut filled, drawn))
 }
 

@@ -57,29 +57,34 @@ fn partners(matching: &Matching) -> [Option<Port>; 3]
 // The partners of three inputs, and the number of proposals.
 type Settled = ([Option<Port>; 3], u64);
 
-// The partners and the number of proposals, or None where the seat's hand is not empty or a port is not claimed.
-fn closed(ledger: Ledger, seat: LedgerSeat) -> Option<Settled>
+// Whether a ledger closes with this, where the seat has nothing in its hand and has claimed all ports.
+fn closes_with(ledger: Ledger, seat: LedgerSeat, settled: &Settled) -> bool
     requires seat { IsSeatOf ledger seat }
     requires ports { ports ledger.offers ≡ 3 }
 {
     if seat.hand().is_some() || !has_claimed_all(&seat) {
-        return None;
+        return false;
     }
     let phase = ledger.close(seat).phase();
-    Some((partners(&phase.matching), phase.proposals))
+    partners(&phase.matching) == settled.0 && phase.proposals == settled.1
 }
 
-// The partners and the number of proposals of a ledger with two seats, whose hands are empty.
-fn closed_with_both(ledger: Ledger, mut seat: LedgerSeat, other: LedgerSeat) -> Option<Settled>
+// Whether a ledger with two seats closes so, where their hands are empty and they have claimed all ports.
+fn both_close_with(
+    ledger: Ledger,
+    mut seat: LedgerSeat,
+    other: LedgerSeat,
+    settled: &Settled,
+) -> bool
     requires seat { IsSeatOf ledger seat }
     requires other { IsSeatOf ledger other }
     requires ports { ports ledger.offers ≡ 3 }
 {
     if seat.hand().is_some() || other.hand().is_some() {
-        return None;
+        return false;
     }
     ledger.join(&mut seat, other);
-    closed(ledger, seat)
+    closes_with(ledger, seat, settled)
 }
 
 // The input that a seat claims first, if it does, what its proposal comes to then, and the hand that it leaves.
@@ -157,8 +162,8 @@ fn settle_in_turn(ledger: Ledger, mut a: LedgerSeat) -> bool
 {
     let mut b = ledger.split(&mut a);
     let is_worked = work_in_turn(&ledger, &mut a, &mut b) && know_their_work(&a, &b);
-    let settled = closed_with_both(ledger, a, b);
-    is_worked && settled == Some(OPPOSED)
+    let is_settled = both_close_with(ledger, a, b, &OPPOSED);
+    is_worked && is_settled
 }
 
 #[test]
@@ -173,14 +178,14 @@ fn settles_alone(
     alloc: Global,
     offers: &Offers,
     steps: &[Step],
-    settled: Settled,
+    settled: &Settled,
 ) -> Result<bool, NoMemory>
     requires { ports offers.now ≡ 3 }
 {
     let (ledger, mut seat) = Ledger::start(alloc, offers)?;
     let is_worked = makes_all(&ledger, &mut seat, steps);
-    let closed = closed(ledger, seat);
-    Ok(is_worked && closed == Some(settled))
+    let is_settled = closes_with(ledger, seat, settled);
+    Ok(is_worked && is_settled)
 }
 
 const REJECTED: [Step; 6] = [
@@ -195,7 +200,7 @@ const REJECTED: [Step; 6] = [
 #[test]
 fn one_seat_claims_every_input(rt: HostRuntime) -> Result<(), Fail> {
     let offers = opposed_offers(rt.alloc(), 3)?;
-    assert!(rt; settles_alone(rt.alloc(), &offers, &REJECTED, OPPOSED)?);
+    assert!(rt; settles_alone(rt.alloc(), &offers, &REJECTED, &OPPOSED)?);
     Ok(())
 }
 
@@ -205,11 +210,13 @@ const EMPTIED: [Step; 3] = [
     (Some(2), Displaced(1), None),
 ];
 
+// What three inputs come to of which each has an offer to output 0 alone.
+const CONTESTED: Settled = ([None, None, Some(0)], 3);
+
 #[test]
 fn each_outcome_can_empty_the_hand(rt: HostRuntime) -> Result<(), Fail> {
     let offers = contested_offers(rt.alloc())?;
-    let settled = ([None, None, Some(0)], 3);
-    assert!(rt; settles_alone(rt.alloc(), &offers, &EMPTIED, settled)?);
+    assert!(rt; settles_alone(rt.alloc(), &offers, &EMPTIED, &CONTESTED)?);
     Ok(())
 }
 
@@ -272,7 +279,7 @@ fn settles_by_two<R: Threads>(rt: &R, ledger: Ledger, mut a: LedgerSeat) -> bool
 {
     let b = ledger.split(&mut a);
     let (a, b) = worked_by_two(rt, &ledger, a, b);
-    closed_with_both(ledger, a, b) == Some(OPPOSED)
+    both_close_with(ledger, a, b, &OPPOSED)
 }
 
 #[test]

@@ -1,35 +1,40 @@
 //! The list of an input: worked insertions, drawn calls compared with a plain list, and the call that wants memory,
 //! with ample memory.
-ghost use Rattle.std.specs.Prelude.{◌≡◌, ℕ, ◌+◌, ◌<◌, ◌≤◌, ◌&&◌, IfOk, length};
+ghost use Rattle.std.specs.Prelude.{◌≡◌, ℕ, ◌+◌, ◌<◌, ◌≤◌, ◌&&◌, All, length};
 ghost use Rattle.cq_base.specs.Key.{is_before};
 ghost use Rattle.cq_base.specs.Cells.{ArrivedBefore, MoreUrgentAhead, is_for};
 ghost use Rattle.cq_trial_kit.specs.Arriving.{IsNewest, HasArrived};
 
-use cq_base::{NoMemory, Queued};
+use cq_base::{NoMemory, Port, Queued};
 use cq_list::InputList;
 use cq_trial_kit::{Draws, list_of, waiting};
 use std::alloc::Global;
 use std::test::Fail;
 
-// Whether the cells stand in the order of these slots, where a cell arrives in slot 2 behind one for each of two
-// outputs.
-fn stand_so(alloc: Global, output: u16, rank: u128, slots: [u64; 3]) -> Result<bool, NoMemory>
-    requires { output < 2 }
+// Two cells for output 0, of which the newer one is the more urgent, and one for output 1.
+const URGENT: [(Port, u128); 3] = [(0, 3), (1, 0), (0, 1)];
+
+// A cell for output 0, and two for output 1, of which the newer one is the less urgent.
+const PATIENT: [(Port, u128); 3] = [(0, 3), (1, 0), (1, 5)];
+
+// Whether three cells that come one after another stand in the order of these slots.
+fn stand_so(alloc: Global, cells: &[(Port, u128)], slots: [u64; 3]) -> Result<bool, NoMemory>
+    requires count { length cells.now ≡ 3 }
+    requires cells { All (λ cell. cell.0 < 2) cells.now }
 {
-    let list = list_of(alloc, 0, 2, &[(0, 3), (1, 0), (output, rank)])?;
-    Ok(
-        [
-            list.at(0).key.slot,
-            list.at(1).key.slot,
-            list.at(2).key.slot,
-        ] == slots,
-    )
+    let list = list_of(alloc, 0, 2, cells)?;
+    let stand = [
+        list.at(0).key.slot,
+        list.at(1).key.slot,
+        list.at(2).key.slot,
+    ];
+    Ok(stand == slots)
 }
 
 #[test]
 fn a_cell_goes_ahead_of_less_urgent_ones_for_its_output(rt: HostRuntime) -> Result<(), Fail> {
-    let ahead = stand_so(rt.alloc(), 0, 1, [2, 0, 1])?;
-    assert!(rt; ahead && stand_so(rt.alloc(), 1, 5, [0, 1, 2])?);
+    let ahead = stand_so(rt.alloc(), &URGENT, [2, 0, 1])?;
+    assert!(rt; ahead && stand_so(rt.alloc(), &PATIENT, [0, 1, 2])?);
     Ok(())
 }
 
@@ -64,10 +69,9 @@ fn finds_by_key(list: &InputList) -> bool
     places == [0, 1, 2, 3]
 }
 
-// Whether all three find what they are to find among two cells for output 0, of which the newer one is the more urgent,
-// and one for output 1.
+// Whether all three find among the three cells, of which the last one is urgent, what they are to find.
 fn each_finds(alloc: Global) -> Result<bool, NoMemory> {
-    let list = list_of(alloc, 0, 3, &[(0, 3), (1, 0), (0, 1)])?;
+    let list = list_of(alloc, 0, 3, &URGENT)?;
     Ok(finds_by_output(&list) && finds_by_id(&list) && finds_by_key(&list))
 }
 

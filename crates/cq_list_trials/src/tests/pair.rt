@@ -126,11 +126,10 @@ fn drawn_list(alloc: Global, drawn: &mut Draws, input: Port) -> Result<InputList
 
 // Offers of three ports, as drawn.
 fn drawn_offers(alloc: Global, drawn: &mut Draws) -> Result<Offers, NoMemory> {
-    let lists = [
-        drawn_list(alloc, drawn, 0)?,
-        drawn_list(alloc, drawn, 1)?,
-        drawn_list(alloc, drawn, 2)?,
-    ];
+    let mut lists = Vec::new(alloc);
+    'lists: for input in 0..3 {
+        lists.push(drawn_list(alloc, drawn, input)?)?;
+    }
     filled(alloc, 3, &lists)
 }
 

@@ -12,14 +12,17 @@ use cq_trial_kit::{Draws, arrive, list_of, waiting};
 use std::alloc::Global;
 use std::test::Fail;
 
-// The offers of three inputs with two cells each.
+// The cells of three inputs, two of each.
+const CELLS: [[(Port, u128); 2]; 3] = [[(0, 1), (1, 0)], [(1, 1), (0, 0)], [(0, 2), (2, 0)]];
+
+// Their offers.
 fn three_offers(alloc: Global) -> Result<Offers, NoMemory>
     ensures { IfOk result (λ offers. ports offers ≡ 3) }
 {
     let lists = [
-        list_of(alloc, 0, 3, &[(0, 1), (1, 0)])?,
-        list_of(alloc, 1, 3, &[(1, 1), (0, 0)])?,
-        list_of(alloc, 2, 3, &[(0, 2), (2, 0)])?,
+        list_of(alloc, 0, 3, &CELLS[0])?,
+        list_of(alloc, 1, 3, &CELLS[1])?,
+        list_of(alloc, 2, 3, &CELLS[2])?,
     ];
     filled(alloc, 3, &lists)
 }
