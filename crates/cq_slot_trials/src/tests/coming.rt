@@ -6,7 +6,7 @@ ghost use Rattle.cq_ideal.specs.Ranking.{AreForPorts};
 use cq_base::{Arrivals, Cell, CellId, Class, Port};
 
 /// The arrivals of a slot at some of the first ports, for some of these, in two classes.
-#[derive(Drop)]
+#[derive(Clone, Copy)]
 pub(super) struct Coming<const PORTS: u16> {
     pub(super) arrivals: Arrivals,
     ghost for_ports: { AreForPorts PORTS 2 arrivals },

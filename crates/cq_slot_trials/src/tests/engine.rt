@@ -1,19 +1,20 @@
 //! Worked slots, drawn slots against a plain slow fabric, and the call that wants memory, with ample memory.
-ghost use Rattle.std.specs.Prelude.{◌≡◌, ◌+◌, ◌^◌, ◌<◌, ◌≤◌, ℕ, IfOk, OnOk, false, is_err, length, map};
+ghost use Rattle.std.specs.Prelude.{◌≡◌, ◌+◌, ◌^◌, ◌<◌, ◌≤◌, ℕ, IfOk, OnOk, is_err, length, map};
 ghost use Rattle.cq_base.specs.Limits.{most_workers};
 ghost use Rattle.cq_rank.specs.Classes.{rows_of};
+ghost use Rattle.cq_rank.specs.Switch.{AreForOneSwitch, class_count};
 ghost use Rattle.cq_ideal.specs.Limiter.{CanCount};
 ghost use Rattle.cq_engine.specs.Engine.{IsMadeAs};
 ghost use Rattle.cq_slot_trials.specs.Trial.{HasGrown, IsOnTrial};
 
 use super::coming::Coming;
-use super::outputs::{first_come, note_departures, refused_at};
+use super::outputs::{first_come, note_departures};
 use super::slow::{LEVELS, PRIORITIES, Slow};
 use cq_base::{
     CellId, ClassRow, Departure, Figures, InputFigures, NoMemory, OutputFigures, Queued, Room,
     Sequence, TagFault, Transfer,
 };
-use cq_engine::{Engine, Gate, OpenGate};
+use cq_engine::{Engine, OpenGate, Refused};
 use cq_rank::{FirstCome, Priority, Rank};
 use cq_trial_kit::Draws;
 use std::alloc::Global;
@@ -21,12 +22,11 @@ use std::test::Fail;
 use std::thread::Threads;
 
 // The next of 40 slots of an engine with four ports.
-fn step<R: Rank, T: Threads + Sync, G: Gate>(
+fn step<R: Rank, T: Threads + Sync>(
     engine: &mut Engine<R>,
     rt: &T,
     alloc: Global,
     coming: &Coming<4>,
-    gate: &G,
     sent: &mut Room<Departure>,
     note: &mut Room<Transfer>,
 ) -> Result<(), TagFault>
@@ -44,7 +44,8 @@ fn step<R: Rank, T: Threads + Sync, G: Gate>(
 {
     // Its contract tells that there are 64 places.
     let _places = coming.arrivals.at(0);
-    engine.slot(rt, alloc, engine.next(), &coming.arrivals, gate, sent, note)
+    let arrivals = &coming.arrivals;
+    engine.slot(rt, alloc, engine.next(), arrivals, &OpenGate, sent, note)
 }
 
 // What is told of a run: of each departure its slot, its output, and the input and the packet of the cell, and of
@@ -92,42 +93,60 @@ fn run<R: Rank, T: Threads + Sync>(
     alloc: Global,
     engine: &mut Engine<R>,
     slots: &[Coming<4>],
-) -> Result<Told, NoMemory>
+    told: &mut Told,
+) -> Result<(), NoMemory>
     requires trial { IsOnTrial (map R.machine engine.old.fixed) engine.old }
     requires next { engine.old.next ≡ 0 }
     requires grown { HasGrown 0 engine.old }
     requires counts { (n : ℕ) → n < 2 ^ 64 → CanCount n engine.old.refused }
     requires few { length slots.now ≤ 40 }
 {
-    let mut told = Told::nothing(alloc);
     'slots: for coming in slots {
         let mut sent = Room::new(alloc, 4)?;
         let mut note = Room::new(alloc, 8)?;
-        if let Err(fault) = step(engine, rt, alloc, coming, &OpenGate, &mut sent, &mut note) {
+        if let Err(fault) = step(engine, rt, alloc, coming, &mut sent, &mut note) {
             told.fault = Some(fault);
-            return Ok(told);
+            return Ok(());
         }
         told.tell(&sent, &note)?;
     }
-    Ok(told)
+    Ok(())
 }
 
-// Cells of three inputs come for output 0, and one slot later a cell of input 2 for output 1.
-fn worked_slots() -> [Coming<4>; 3] {
-    let later = Coming::nothing().with_packet(2, 1, 1, 0);
-    [Coming::three(), later, Coming::nothing()]
+// An engine of these four outputs after these slots, of which it tells.
+fn ran<R: Rank, T: Threads + Sync>(
+    rt: &T,
+    alloc: Global,
+    ranks: Vec<R>,
+    limits: [Option<u64>; 4],
+    slots: &[Coming<4>],
+    workers: u16,
+    told: &mut Told,
+) -> Result<Engine<R>, NoMemory>
+    requires ports { length ranks.items ≡ 4 }
+    requires machines { AreForOneSwitch (map R.machine (map R.fixed ranks.items)) }
+    requires classes { class_count (map R.machine (map R.fixed ranks.items)) ≡ 2 }
+    requires length { length slots.now ≤ 40 }
+    requires some { 1 ≤ workers }
+    requires few { workers ≤ most_workers }
+{
+    let mut engine = Engine::new(alloc, ranks, &[40; 4], &[2560; 4], &limits, workers)?;
+    run(rt, alloc, &mut engine, slots, told)?;
+    Ok(engine)
 }
 
 const NO_LIMITS: [Option<u64>; 4] = [None, None, None, None];
 
-// An engine of four first-come outputs on these slots.
+// An engine of four first-come outputs after these slots.
 fn worked<T: Threads + Sync>(
     rt: &T,
     alloc: Global,
     limits: [Option<u64>; 4],
-    slots: [Coming<4>; 3],
+    slots: &[Coming<4>],
     workers: u16,
-) -> Result<(Engine<FirstCome>, Told), NoMemory>
+    told: &mut Told,
+) -> Result<Engine<FirstCome>, NoMemory>
+    requires length { length slots.now ≤ 40 }
     requires some { 1 ≤ workers }
     requires few { workers ≤ most_workers }
 {
@@ -137,40 +156,39 @@ fn worked<T: Threads + Sync>(
         first_come(alloc)?,
         first_come(alloc)?,
     ]?;
-    let mut engine = Engine::new(alloc, ranks, &[40; 4], &[2560; 4], &limits, workers)?;
-    let told = run(rt, alloc, &mut engine, &slots)?;
-    Ok((engine, told))
+    ran(rt, alloc, ranks, limits, slots, workers, told)
 }
 
-// What was seen of an input.
-pub(super) fn of_input(cells: u64, longest: u64, slack: Option<u64>) -> InputFigures {
-    InputFigures {
-        cells,
-        longest,
-        slack,
-    }
+// Cells of three inputs come for output 0, and one slot later a cell of input 2 for output 1.
+fn worked_slots() -> [Coming<4>; 3] {
+    let later = Coming::nothing().with_packet(2, 1, 1, 0);
+    [Coming::three(), later, Coming::nothing()]
 }
 
-// What was seen of an output.
-pub(super) fn of_output(cells: u64, wait: Option<u64>) -> OutputFigures {
-    OutputFigures { cells, wait }
+const SENT: [[u64; 4]; 4] = [[0, 0, 0, 0], [1, 0, 1, 0], [1, 1, 2, 1], [2, 0, 2, 0]];
+
+const CROSSED: [[u64; 5]; 4] = [
+    [0, 1, 0, 0, 0],
+    [0, 2, 1, 0, 0],
+    [1, 1, 2, 1, 1],
+    [1, 2, 2, 0, 0],
+];
+
+// Whether an engine with so many workers sends these cells, and nothing waits behind them.
+fn sends_worked<T: Threads + Sync>(rt: &T, alloc: Global, workers: u16) -> Result<bool, NoMemory>
+    requires some { 1 ≤ workers }
+    requires few { workers ≤ most_workers }
+{
+    let mut told = Told::nothing(alloc);
+    let engine = worked(rt, alloc, NO_LIMITS, &worked_slots(), workers, &mut told)?;
+    let is_done = (engine.empty(), engine.stopped(), engine.next()) == (true, false, 3);
+    Ok(is_done && told.is(&SENT, &CROSSED))
 }
 
 #[test]
 fn a_new_cell_goes_ahead_of_an_older_one_for_a_busy_output(rt: HostRuntime) -> Result<(), Fail> {
-    let sent = [[0, 0, 0, 0], [1, 0, 1, 0], [1, 1, 2, 1], [2, 0, 2, 0]];
-    let crossed = [
-        [0, 1, 0, 0, 0],
-        [0, 2, 1, 0, 0],
-        [1, 1, 2, 1, 1],
-        [1, 2, 2, 0, 0],
-    ];
-    for workers in 1..3 {
-        let (engine, told) = worked(&rt, rt.alloc(), NO_LIMITS, worked_slots(), workers)?;
-        assert!(rt; told.is(&sent, &crossed), "{workers} workers");
-        let is_done = engine.empty() && !engine.stopped() && engine.next() == 3;
-        assert!(rt; is_done, "{workers} workers");
-    }
+    let alone = sends_worked(&rt, rt.alloc(), 1)?;
+    assert!(rt; alone && sends_worked(&rt, rt.alloc(), 2)?);
     Ok(())
 }
 
@@ -186,77 +204,103 @@ fn are(
         && figures.outputs.as_slice() == outputs
 }
 
+// What is seen of the inputs in the worked slots.
+const INPUTS: [InputFigures; 4] = [
+    InputFigures {
+        cells: 1,
+        longest: 1,
+        slack: Some(0),
+    },
+    InputFigures {
+        cells: 1,
+        longest: 1,
+        slack: Some(0),
+    },
+    InputFigures {
+        cells: 2,
+        longest: 2,
+        slack: Some(0),
+    },
+    InputFigures {
+        cells: 0,
+        longest: 0,
+        slack: None,
+    },
+];
+
+// What is seen of the outputs in them.
+const OUTPUTS: [OutputFigures; 4] = [
+    OutputFigures {
+        cells: 3,
+        wait: Some(2),
+    },
+    OutputFigures {
+        cells: 1,
+        wait: Some(0),
+    },
+    OutputFigures {
+        cells: 0,
+        wait: None,
+    },
+    OutputFigures {
+        cells: 0,
+        wait: None,
+    },
+];
+
+// Whether an engine has seen this of the worked slots.
+fn sees_worked<T: Threads + Sync>(rt: &T, alloc: Global) -> Result<bool, NoMemory> {
+    let mut told = Told::nothing(alloc);
+    let engine = worked(rt, alloc, NO_LIMITS, &worked_slots(), 2, &mut told)?;
+    Ok(are(&engine.into_seen().figures, [3, 7, 3], &INPUTS, &OUTPUTS))
+}
+
 #[test]
 fn figures_count_cells_proposals_slack_and_waits(rt: HostRuntime) -> Result<(), Fail> {
-    let (engine, _) = worked(&rt, rt.alloc(), NO_LIMITS, worked_slots(), 2)?;
-    let figures = engine.into_seen().figures;
-    let inputs = [
-        of_input(1, 1, Some(0)),
-        of_input(1, 1, Some(0)),
-        of_input(2, 2, Some(0)),
-        of_input(0, 0, None),
-    ];
-    let outputs = [
-        of_output(3, Some(2)),
-        of_output(1, Some(0)),
-        of_output(0, None),
-        of_output(0, None),
-    ];
-    assert!(rt; are(&figures, [3, 7, 3], &inputs, &outputs));
+    assert!(rt; sees_worked(&rt, rt.alloc())?);
     Ok(())
 }
 
-// How many cells each of these has.
-fn lengths(alloc: Global, queues: &[Sequence<Queued>]) -> Result<Vec<usize>, NoMemory> {
-    let mut lengths = Vec::new(alloc);
-    for cells in queues {
-        lengths.push(cells.as_slice().len())?;
+// Whether these have so many cells, one after the other.
+fn have_lengths(queues: &[Sequence<Queued>], lengths: &[usize]) -> bool {
+    for (cells, length) in queues.iter().zip(lengths) {
+        if cells.as_slice().len() != *length {
+            return false;
+        }
     }
-    Ok(lengths)
+    queues.len() == lengths.len()
 }
 
-// What an engine tells of itself where it stands still.
-#[derive(Drop)]
-struct Standing {
-    next: u64,
-    lists: Vec<usize>,
-    buffers: Vec<usize>,
-    marks: Vec<bool>,
-}
+// How many cells wait at each input and in each buffer behind the late slots.
+const IN_LISTS: [usize; 4] = [0, 0, 1, 0];
 
-impl Standing {
-    fn is(&self, next: u64, lists: [usize; 4], buffers: [usize; 4], marks: [bool; 4]) -> bool {
-        self.next == next
-            && self.lists.as_slice() == lists.as_slice()
-            && self.buffers.as_slice() == buffers.as_slice()
-            && self.marks.as_slice() == marks.as_slice()
+const IN_BUFFERS: [usize; 4] = [1, 0, 0, 0];
+
+// Whether an engine that stands still before slot 3 tells that so many cells wait, and that no input has a mark.
+fn has_waiting(alloc: Global, engine: &Engine<FirstCome>) -> Result<bool, NoMemory> {
+    if engine.stopped() {
+        return Ok(false);
     }
-}
-
-// The slot that comes next, how many cells wait at each input and in each buffer, and the marks.
-fn what_waits(alloc: Global, engine: &Engine<FirstCome>) -> Result<Standing, NoMemory>
-    requires { engine.now.stopped ≡ false }
-{
     let frozen = engine.freeze(alloc)?;
-    Ok(Standing {
-        next: frozen.next,
-        lists: lengths(alloc, frozen.lists.as_slice())?,
-        buffers: lengths(alloc, frozen.buffers.as_slice())?,
-        marks: frozen.marks.as_slice().to_vec(alloc)?,
-    })
+    Ok(
+        frozen.next == 3
+            && have_lengths(frozen.lists.as_slice(), &IN_LISTS)
+            && have_lengths(frozen.buffers.as_slice(), &IN_BUFFERS)
+            && frozen.marks.as_slice() == [false; 4].as_slice(),
+    )
 }
 
-// Cells of three inputs come for output 0 in the last of three slots.
-fn late_slots() -> [Coming<4>; 3] {
-    [Coming::nothing(), Coming::nothing(), Coming::three()]
+// Whether one does after cells of three inputs came for output 0 in the last of three slots.
+fn has_late_waiting<T: Threads + Sync>(rt: &T, alloc: Global) -> Result<bool, NoMemory> {
+    let slots = [Coming::nothing(), Coming::nothing(), Coming::three()];
+    let mut told = Told::nothing(alloc);
+    let engine = worked(rt, alloc, NO_LIMITS, &slots, 2, &mut told)?;
+    has_waiting(alloc, &engine)
 }
 
 #[test]
 fn an_engine_that_stands_still_tells_what_waits(rt: HostRuntime) -> Result<(), Fail> {
-    let (engine, _) = worked(&rt, rt.alloc(), NO_LIMITS, late_slots(), 2)?;
-    assert!(rt; !engine.stopped());
-    let tells = what_waits(rt.alloc(), &engine)?;
-    assert!(rt; tells.is(3, [0, 0, 1, 0], [1, 0, 0, 0], [false; 4]));
+    assert!(rt; has_late_waiting(&rt, rt.alloc())?);
     Ok(())
 }
 
@@ -267,15 +311,39 @@ fn crowded_slots() -> [Coming<4>; 3] {
     [Coming::three(), rest, next]
 }
 
+// The limits of a switch with crowded outputs.
+const CROWDED: [Option<u64>; 4] = [Some(2), None, Some(1), None];
+
+// What leaves it, and what it refuses. Two cells fill output 0, one of which waits at input 1 for a slot. So the packet
+// of input 2 that comes with them is refused, though nothing is in the buffer, and its second cell with it, though one
+// cell has left.
+const LEFT: [[u64; 4]; 3] = [[0, 0, 0, 0], [1, 0, 1, 0], [2, 0, 2, 1]];
+
+const REFUSED: [Refused; 2] = [
+    Refused {
+        output: 0,
+        limit: 2,
+        packets: 1,
+        cells: 2,
+    },
+    Refused {
+        output: 2,
+        limit: 1,
+        packets: 0,
+        cells: 0,
+    },
+];
+
+// Whether this leaves it and is refused.
+fn refuses_crowded<T: Threads + Sync>(rt: &T, alloc: Global) -> Result<bool, NoMemory> {
+    let mut told = Told::nothing(alloc);
+    let engine = worked(rt, alloc, CROWDED, &crowded_slots(), 2, &mut told)?;
+    Ok(told.sent.as_slice() == LEFT.as_slice() && engine.refused() == REFUSED.as_slice())
+}
+
 #[test]
 fn an_output_is_full_of_what_waits_for_it_at_inputs(rt: HostRuntime) -> Result<(), Fail> {
-    // Two cells fill output 0, one of which waits at input 1 for a slot. So the packet of input 2 that comes with
-    // them is refused, though nothing is in the buffer, and its second cell with it, though one cell has left.
-    let limits = [Some(2), None, Some(1), None];
-    let (engine, told) = worked(&rt, rt.alloc(), limits, crowded_slots(), 2)?;
-    let sent = [[0, 0, 0, 0], [1, 0, 1, 0], [2, 0, 2, 1]];
-    let refused = [refused_at(0, 2, 1, 2), refused_at(2, 1, 0, 0)];
-    assert!(rt; told.sent.as_slice() == &sent[..] && engine.refused() == &refused[..]);
+    assert!(rt; refuses_crowded(&rt, rt.alloc())?);
     Ok(())
 }
 
@@ -350,14 +418,15 @@ fn by_priority(alloc: Global, levels: [u8; 2], priorities: [u128; 2]) -> Result<
     Priority::new(alloc, &classes)
 }
 
-// An engine of four outputs by priority on these slots.
+// An engine of four outputs by priority after these slots.
 fn prioritized<T: Threads + Sync>(
     rt: &T,
     alloc: Global,
     limits: [Option<u64>; 4],
     slots: &[Coming<4>],
     workers: u16,
-) -> Result<(Engine<Priority>, Told), NoMemory>
+    told: &mut Told,
+) -> Result<Engine<Priority>, NoMemory>
     requires length { length slots.now ≤ 40 }
     requires some { 1 ≤ workers }
     requires few { workers ≤ most_workers }
@@ -368,9 +437,7 @@ fn prioritized<T: Threads + Sync>(
         by_priority(alloc, LEVELS[2], PRIORITIES[2])?,
         by_priority(alloc, LEVELS[3], PRIORITIES[3])?,
     ]?;
-    let mut engine = Engine::new(alloc, ranks, &[40; 4], &[2560; 4], &limits, workers)?;
-    let told = run(rt, alloc, &mut engine, slots)?;
-    Ok((engine, told))
+    ran(rt, alloc, ranks, limits, slots, workers, told)
 }
 
 // Whether the engine came to what the plain slow fabric came to.
@@ -381,16 +448,48 @@ fn is_as_plain(engine: &Engine<Priority>, told: &Told, plain: &Slow) -> bool {
         && engine.refused() == plain.refused.as_slice()
 }
 
+// Whether an engine with so many workers comes to what the plain slow fabric came to.
+fn comes_to<T: Threads + Sync>(
+    rt: &T,
+    alloc: Global,
+    limits: [Option<u64>; 4],
+    slots: &[Coming<4>],
+    workers: u16,
+    plain: &Slow,
+) -> Result<bool, NoMemory>
+    requires length { length slots.now ≤ 40 }
+    requires some { 1 ≤ workers }
+    requires few { workers ≤ most_workers }
+{
+    let mut told = Told::nothing(alloc);
+    let engine = prioritized(rt, alloc, limits, slots, workers, &mut told)?;
+    Ok(is_as_plain(&engine, &told, plain))
+}
+
+// Whether one worker and two come to it over these slots.
+fn agree<T: Threads + Sync>(
+    rt: &T,
+    alloc: Global,
+    limits: [Option<u64>; 4],
+    slots: &[Coming<4>],
+) -> Result<bool, NoMemory>
+    requires { length slots.now ≤ 40 }
+{
+    let plain = Slow::run(alloc, limits, slots)?;
+    let alone = comes_to(rt, alloc, limits, slots, 1, &plain)?;
+    Ok(alone && comes_to(rt, alloc, limits, slots, 2, &plain)?)
+}
+
+// Whether they do over slots that are drawn from the seed.
+fn agree_over_drawn<T: Threads + Sync>(rt: &T, alloc: Global, seed: u64) -> Result<bool, NoMemory> {
+    let slots = drawn_slots(alloc, seed)?;
+    agree(rt, alloc, drawn_limits(seed), &slots)
+}
+
 #[test]
 fn drawn_slots_are_as_in_the_plain_slow_fabric(rt: HostRuntime) -> Result<(), Fail> {
     for seed in 1..17 {
-        let slots = drawn_slots(rt.alloc(), seed)?;
-        let limits = drawn_limits(seed);
-        let plain = Slow::run(rt.alloc(), limits, &slots)?;
-        for workers in 1..3 {
-            let (engine, told) = prioritized(&rt, rt.alloc(), limits, &slots, workers)?;
-            assert!(rt; is_as_plain(&engine, &told, &plain), "seed {seed}");
-        }
+        assert!(rt; agree_over_drawn(&rt, rt.alloc(), seed)?);
     }
     Ok(())
 }

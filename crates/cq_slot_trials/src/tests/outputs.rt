@@ -2,8 +2,7 @@
 ghost use Rattle.std.specs.Prelude.{◌≡◌, IfOk, length};
 ghost use Rattle.cq_rank.specs.Classes.{rows_of};
 
-use cq_base::{ClassRow, Departure, NoMemory, Port, Room};
-use cq_ideal::Refused;
+use cq_base::{ClassRow, Departure, NoMemory, Room};
 use cq_rank::FirstCome;
 use std::alloc::Global;
 
@@ -17,16 +16,6 @@ pub(super) fn first_come(alloc: Global) -> Result<FirstCome, NoMemory>
         cost: 1,
     };
     FirstCome::new(alloc, &[class, class])
-}
-
-/// What an output with this limit has refused.
-pub(super) fn refused_at(output: Port, limit: u64, packets: u64, cells: u64) -> Refused {
-    Refused {
-        output,
-        limit,
-        packets,
-        cells,
-    }
 }
 
 /// Notes of each departure its slot, its output, and the input and the packet of the cell.

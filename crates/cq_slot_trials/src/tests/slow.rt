@@ -4,7 +4,7 @@
 //! sends, and finds a matching in rounds, in which all inputs ask at once.
 
 use super::coming::Coming;
-use super::engine::{Told, of_input, of_output};
+use super::engine::Told;
 use cq_base::{Arrivals, Cell, InputFigures, NoMemory, OutputFigures};
 use cq_engine::Refused;
 use std::alloc::Global;
@@ -14,6 +14,19 @@ pub(super) const PRIORITIES: [[u128; 2]; 4] = [[0, 0], [3, 1], [7, 7], [0, 9]];
 
 /// Per output the levels of the two classes.
 pub(super) const LEVELS: [[u8; 2]; 4] = [[0, 0], [0, 0], [1, 0], [1, 0]];
+
+/// What is seen of an input to which nothing came yet.
+const NOTHING_CAME: InputFigures = InputFigures {
+    cells: 0,
+    longest: 0,
+    slack: None,
+};
+
+/// What is seen of an output that nothing left yet.
+const NOTHING_LEFT: OutputFigures = OutputFigures {
+    cells: 0,
+    wait: None,
+};
 
 /// Its level, its rank, the slot of its arrival, its input, and its output. So cells compare as their keys do.
 type Waiting = (u8, u128, u64, u16, u16);
@@ -61,10 +74,15 @@ fn none_refused(alloc: Global, limits: &[Option<u64>; 4]) -> Result<Vec<Refused>
 
 /// How many cells of the output's buffer are more urgent.
 fn cushion(buffers: &[Vec<Waiting>], cell: Waiting) -> usize {
-    match buffers.get(cell.4 as usize) {
-        None => 0,
-        Some(buffer) => buffer.iter().filter(|other| **other < cell).count(),
+    let mut more_urgent = 0usize;
+    if let Some(buffer) = buffers.get(cell.4 as usize) {
+        for other in buffer.iter() {
+            if *other < cell {
+                more_urgent = more_urgent.wrapping_add(1);
+            }
+        }
     }
+    more_urgent
 }
 
 /// The cell goes in at the least of its cushion, the place of the first less urgent cell for its output, and the
@@ -92,12 +110,24 @@ fn asks(lists: &[Vec<Waiting>], refused: &[(usize, u16)]) -> [Option<Waiting>; 4
     asks
 }
 
+/// Whether some input asks for the same output with a more urgent cell.
+fn is_outdone(asks: &[Option<Waiting>; 4], cell: Waiting) -> bool {
+    for ask in asks {
+        if let Some(other) = ask
+            && other.4 == cell.4
+            && *other < cell
+        {
+            return true;
+        }
+    }
+    false
+}
+
 /// Each output that is asked by several inputs refuses all but the one with the most urgent cell.
 fn refuse(asks: &[Option<Waiting>; 4], refused: &mut Vec<(usize, u16)>) -> Result<(), NoMemory> {
     for (input, ask) in asks.iter().enumerate() {
         if let Some(cell) = ask
-            && asks.iter().any(|other| other.is_some_and(|other| other.4 == cell.4
-                && other < *cell))
+            && is_outdone(asks, *cell)
         {
             refused.push((input, cell.4))?;
         }
@@ -121,7 +151,20 @@ fn matched(
 /// The lesser of the slack so far and that of the cell at this place.
 fn lesser(so_far: Option<u64>, cushion: usize, place: usize) -> Option<u64> {
     let slack = (cushion as u64).wrapping_sub(place as u64);
-    Some(so_far.map_or(slack, |least| least.min(slack)))
+    Some(so_far.unwrap_or(slack).min(slack))
+}
+
+/// How many cells for the output wait in these queues.
+fn waiting_for(queues: &[Vec<Waiting>], output: u16) -> u64 {
+    let mut waiting = 0u64;
+    for queue in queues {
+        for cell in queue.iter() {
+            if cell.4 == output {
+                waiting = waiting.wrapping_add(1);
+            }
+        }
+    }
+    waiting
 }
 
 impl Slow {
@@ -141,30 +184,27 @@ impl Slow {
             slots: 0,
             proposals: 0,
             most: 0,
-            inputs: [of_input(0, 0, None); 4],
-            outputs: [of_output(0, None); 4],
+            inputs: [NOTHING_CAME; 4],
+            outputs: [NOTHING_LEFT; 4],
         };
         for (slot, coming) in slots.iter().enumerate() {
-            slow.arrive(slot as u64, &coming.arrivals)?;
-            slow.look();
-            slow.transfer(alloc, slot as u64, 1)?;
-            slow.send(slot as u64)?;
-            slow.transfer(alloc, slot as u64, 2)?;
+            slow.slot(alloc, slot as u64, &coming.arrivals)?;
         }
         Ok(slow)
     }
 
+    /// One slot: the arrivals, and a sending between two transfers.
+    fn slot(&mut self, alloc: Global, slot: u64, arrivals: &Arrivals) -> Result<(), NoMemory> {
+        self.arrive(slot, arrivals)?;
+        self.look();
+        self.transfer(alloc, slot, 1)?;
+        self.send(slot)?;
+        self.transfer(alloc, slot, 2)
+    }
+
     /// How many cells for the output wait at any input or in its buffer.
     fn held(&self, output: u16) -> u64 {
-        let waiting = |queue: &Vec<Waiting>| queue.iter().filter(|cell| cell.4 == output).count();
-        let mut held = 0usize;
-        for queue in self.lists.iter() {
-            held = held.wrapping_add(waiting(queue));
-        }
-        for queue in self.buffers.iter() {
-            held = held.wrapping_add(waiting(queue));
-        }
-        held as u64
+        waiting_for(&self.lists, output).wrapping_add(waiting_for(&self.buffers, output))
     }
 
     /// Whether the cell is of a packet that is refused: its first cell finds that its output holds as many cells as the
@@ -174,7 +214,7 @@ impl Slow {
             let held = self.held(cell.output);
             let limit = self.limits.get(cell.output as usize).copied().flatten();
             if let Some(mark) = self.marks.get_mut(input as usize) {
-                *mark = limit.is_some_and(|limit| held >= limit);
+                *mark = held >= limit.unwrap_or(u64::MAX);
             }
         }
         self.marks.get(input as usize).copied().unwrap_or(false)
@@ -260,7 +300,7 @@ impl Slow {
                 self.slots = slot.wrapping_add(1);
                 let wait = slot.wrapping_sub(came);
                 figures.cells = figures.cells.wrapping_add(1);
-                figures.wait = Some(figures.wait.map_or(wait, |most| most.max(wait)));
+                figures.wait = Some(figures.wait.unwrap_or(wait).max(wait));
             }
         }
         Ok(())

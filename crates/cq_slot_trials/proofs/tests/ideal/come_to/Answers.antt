@@ -1,5 +1,5 @@
 use Rattle.cq_slot_trials.proofs.Terms.{◌+◌, ap, rules, subst, sym, arith, IdealSwitch, CanCount, zero_fits}
-use Rattle.cq_slot_trials.proofs.tests.ideal.departures.Goals as goal
+use Rattle.cq_slot_trials.proofs.tests.ideal.come_to.Goals as goal
 
 pub slots-init : goal.slots-init
 slots-init g c = record {
@@ -17,6 +17,7 @@ slots-init g c = record {
 pub step-requires : goal.step-requires
 step-requires g c =
     let test = c.slots-test.true in
+    let few = c.requires.few in
     let now = c.slots.invariant in
     record {
       running = now.running;

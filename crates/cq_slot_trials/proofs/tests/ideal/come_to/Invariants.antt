@@ -1,5 +1,5 @@
 use Rattle.cq_slot_trials.proofs.Terms.{◌≡◌, ℕ, ◌+◌, ◌*◌, ◌<◌, ◌≤◌, false, length, map, class_count, spare_at, CanCount}
-use Rattle.cq_slot_trials.proofs.tests.ideal.departures.Given as goal
+use Rattle.cq_slot_trials.proofs.tests.ideal.come_to.Given as goal
 
 abbrev pub invariant-slots : goal.invariant-slots
 invariant-slots g l = record {
