@@ -2,13 +2,12 @@
 use cq_base::{Kind, NoMemory};
 use cq_tables::{TableRefusal, Tables, read_tables};
 use std::alloc::Global;
-use std::test::Fail;
 
-const TWO_PORTS: &str =
-    "version = 1\ntrace = \"trace.txt\"\nlog = \"log.txt\"\n[[port]]\nread = \"in0.pcap\"\nwrite = \"out0.pcap\"\n[[port]]\nread = \"in1.pcap\"\nwrite = \"out1.pcap\"\n[[address]]\nmac = \"02:00:00:00:00:00\"\noutput = 0\n[[address]]\nmac = \"02:00:00:00:00:01\"\noutput = 1\n";
+/// The check, by its number, and the key that a text is refused for; none where it gives tables.
+type Told = Option<(u8, &'static str)>;
 
-/// Whether a text is refused for this check, by its number, at this key; or gives tables where none is named.
-fn is_told(alloc: Global, bytes: &[u8], told: Option<(u8, &str)>) -> bool {
+/// Whether a text is told this.
+fn is_told(alloc: Global, bytes: &[u8], told: Told) -> bool {
     match read_tables(alloc, bytes) {
         Ok(_tables) => told.is_none(),
         Err(TableRefusal::At { code, path }) => match told {
@@ -19,133 +18,163 @@ fn is_told(alloc: Global, bytes: &[u8], told: Option<(u8, &str)>) -> bool {
     }
 }
 
+/// Texts, each with what it is told.
+const TEXTS: [(&str, Told); 13] = [
+    ("version =", Some((1, "-"))),
+    ("version = 1", Some((2, "trace"))),
+    ("version = \"1\"", Some((3, "version"))),
+    ("version = 2", Some((2, "trace"))),
+    ("version = 0", Some((4, "version"))),
+    ("version = 3", Some((4, "version"))),
+    ("versoin = 1", Some((5, "versoin"))),
+    ("zz = 1\nversion = 2\naa = 1", Some((5, "aa"))),
+    ("version = 1\nworkers = 0", Some((4, "workers"))),
+    ("version = 1\nworkers = 65", Some((4, "workers"))),
+    ("version = 1\ncell_bytes = 0", Some((4, "cell_bytes"))),
+    ("version = 1\nlimit_bytes = 23", Some((4, "limit_bytes"))),
+    ("version = 1\ntrace = \"\"", Some((4, "trace"))),
+];
+
 #[test]
-fn the_first_check_that_fails_is_told(rt: HostRuntime) -> Result<(), Fail> {
-    let cases: [(&str, Option<(u8, &str)>); 13] = [
-        ("version =", Some((1, "-"))),
-        ("version = 1", Some((2, "trace"))),
-        ("version = \"1\"", Some((3, "version"))),
-        ("version = 2", Some((2, "trace"))),
-        ("version = 0", Some((4, "version"))),
-        ("version = 3", Some((4, "version"))),
-        ("versoin = 1", Some((5, "versoin"))),
-        ("zz = 1\nversion = 2\naa = 1", Some((5, "aa"))),
-        ("version = 1\nworkers = 0", Some((4, "workers"))),
-        ("version = 1\nworkers = 65", Some((4, "workers"))),
-        ("version = 1\ncell_bytes = 0", Some((4, "cell_bytes"))),
-        ("version = 1\nlimit_bytes = 23", Some((4, "limit_bytes"))),
-        ("version = 1\ntrace = \"\"", Some((4, "trace"))),
-    ];
-    for (text, told) in cases {
-        assert!(rt; is_told(rt.alloc(), text.as_bytes(), told), "{text}");
+fn the_first_check_that_fails_is_told(rt: HostRuntime) {
+    for (text, told) in TEXTS {
+        assert!(rt; is_told(rt.alloc(), text.as_bytes(), told));
     }
-    Ok(())
 }
 
-/// Changes of the configuration of two ports: what is replaced, by what, and what it is refused for, if it is. What
-/// `check` tells in `cq_call_trials` does not stand here again.
-const CHANGES: [(&str, &str, Option<(u8, &str)>); 7] = [
-    ("\"out1.pcap\"\n", "\"out1.pcap\"\nlimit = 1\n", None),
-    ("00:01\"", "00:00\"", Some((6, "address[1].mac"))),
-    ("\"log.txt\"", "\"trace.txt\"", Some((7, "log"))),
+/// The first line of a configuration, of either version.
+const OLDER: &str = "version = 1\n";
+
+const NEWER: &str = "version = 2\n";
+
+/// The other lines of one of two ports.
+const TWO_PORTS: &str =
+    "trace = \"trace.txt\"\nlog = \"log.txt\"\n[[port]]\nread = \"in0.pcap\"\nwrite = \"out0.pcap\"\n[[port]]\nread = \"in1.pcap\"\nwrite = \"out1.pcap\"\n[[address]]\nmac = \"02:00:00:00:00:00\"\noutput = 0\n[[address]]\nmac = \"02:00:00:00:00:01\"\noutput = 1\n";
+
+/// Changes of the configuration of two ports: its first lines, what is replaced in the others, by what, and what the
+/// text is told. What `check` tells in `cq_call_trials` does not stand here again.
+const CHANGES: [(&str, &str, &str, Told); 19] = [
+    (OLDER, "\"out1.pcap\"\n", "\"out1.pcap\"\nlimit = 1\n", None),
+    (OLDER, "00:01\"", "00:00\"", Some((6, "address[1].mac"))),
+    (OLDER, "\"log.txt\"", "\"trace.txt\"", Some((7, "log"))),
     (
+        OLDER,
         "\"02:00:00:00:00:00\"",
         "\"03:00:00:00:00:00\"",
         Some((8, "address[0].mac")),
     ),
-    ("\"out1.pcap\"", "\"in0.pcap\"", Some((7, "port[1].write"))),
-    ("\"in1.pcap\"", "\"out0.pcap\"", Some((7, "port[1].read"))),
-    ("output = 1", "output = 2", Some((9, "address[1].output"))),
-];
-
-// The lines of that configuration, or their ends, behind which others are put.
-const TOP: &str = "version = 1\n";
-
-const OUT_0: &str = "\"out0.pcap\"\n";
-
-const OUT_1: &str = "\"out1.pcap\"\n";
-
-const END: &str = "output = 1\n";
-
-/// Lines that are put behind one of the configuration of two ports, with the check and the key that it is refused for.
-const ADDITIONS: [(&str, &str, u8, &str); 7] = [
-    (OUT_1, "limit = 0\n", 4, "port[1].limit"),
-    (OUT_0, "limit = 1000000001\n", 4, "port[0].limit"),
-    (OUT_0, "limit = \"1\"\n", 3, "port[0].limit"),
-    (TOP, "default_output = 2\n", 9, "default_output"),
-    (TOP, "default_class = 1\n", 9, "default_class"),
-    (END, "[[rule]]\npcp = 8\n", 4, "rule[0].pcp"),
-    (OUT_1, "discipline = \"fifo\"\n", 4, "port[1].discipline"),
+    (
+        OLDER,
+        "\"out1.pcap\"",
+        "\"in0.pcap\"",
+        Some((7, "port[1].write")),
+    ),
+    (
+        OLDER,
+        "\"in1.pcap\"",
+        "\"out0.pcap\"",
+        Some((7, "port[1].read")),
+    ),
+    (
+        OLDER,
+        "output = 1",
+        "output = 2",
+        Some((9, "address[1].output")),
+    ),
+    // Lines that are put behind others.
+    (
+        OLDER,
+        "\"out1.pcap\"\n",
+        "\"out1.pcap\"\nlimit = 0\n",
+        Some((4, "port[1].limit")),
+    ),
+    (
+        OLDER,
+        "\"out0.pcap\"\n",
+        "\"out0.pcap\"\nlimit = 1000000001\n",
+        Some((4, "port[0].limit")),
+    ),
+    (
+        OLDER,
+        "\"out0.pcap\"\n",
+        "\"out0.pcap\"\nlimit = \"1\"\n",
+        Some((3, "port[0].limit")),
+    ),
+    (
+        "version = 1\ndefault_output = 2\n",
+        "",
+        "",
+        Some((9, "default_output")),
+    ),
+    (
+        "version = 1\ndefault_class = 1\n",
+        "",
+        "",
+        Some((9, "default_class")),
+    ),
+    (
+        OLDER,
+        "output = 1\n",
+        "output = 1\n[[rule]]\npcp = 8\n",
+        Some((4, "rule[0].pcp")),
+    ),
+    (
+        OLDER,
+        "\"out1.pcap\"\n",
+        "\"out1.pcap\"\ndiscipline = \"fifo\"\n",
+        Some((4, "port[1].discipline")),
+    ),
+    // In version two a class has a level.
+    (
+        NEWER,
+        "output = 1\n",
+        "output = 1\n[[class]]\nlevel = 0\n",
+        None,
+    ),
+    (
+        NEWER,
+        "output = 1\n",
+        "output = 1\n[[class]]\n[[class]]\nlevel = 15\n",
+        None,
+    ),
+    (
+        NEWER,
+        "output = 1\n",
+        "output = 1\n[[class]]\nlevel = 16\n",
+        Some((4, "class[0].level")),
+    ),
+    (
+        NEWER,
+        "output = 1\n",
+        "output = 1\n[[class]]\nlevel = \"1\"\n",
+        Some((3, "class[0].level")),
+    ),
+    (
+        NEWER,
+        "output = 1\n",
+        "output = 1\n[[class]]\nlevel = 16\npriority = -1\n",
+        Some((4, "class[0].priority")),
+    ),
 ];
 
 /// Whether the configuration of two ports, changed so, is told this.
 fn change_is_told(
     alloc: Global,
+    first: &str,
     old: &str,
     new: &str,
-    told: Option<(u8, &str)>,
+    told: Told,
 ) -> Result<bool, NoMemory> {
-    let text = TWO_PORTS.replacen(alloc, old, new, 1)?;
+    let others = TWO_PORTS.replacen(alloc, old, new, 1)?;
+    let text = [first, &others].concat(alloc)?;
     Ok(is_told(alloc, text.as_bytes(), told))
 }
 
-/// Whether a configuration, with these lines behind one of its own, is told this.
-fn addition_is_told(
-    alloc: Global,
-    text: &str,
-    line: &str,
-    added: &str,
-    told: Option<(u8, &str)>,
-) -> Result<bool, NoMemory> {
-    let mut new = String::from_str(alloc, line)?;
-    new.push_str(added)?;
-    let text = text.replacen(alloc, line, &new, 1)?;
-    Ok(is_told(alloc, text.as_bytes(), told))
-}
-
-/// Classes of the configuration of two ports in version 2, and what it is refused for, if it is.
-const LEVELS: [(&str, Option<(u8, &str)>); 5] = [
-    ("[[class]]\nlevel = 0\n", None),
-    ("[[class]]\n[[class]]\nlevel = 15\n", None),
-    ("[[class]]\nlevel = 16\n", Some((4, "class[0].level"))),
-    ("[[class]]\nlevel = \"1\"\n", Some((3, "class[0].level"))),
-    (
-        "[[class]]\nlevel = 16\npriority = -1\n",
-        Some((4, "class[0].priority")),
-    ),
-];
-
-/// Whether the configuration of two ports in version 2, with these classes, is told this.
-fn levels_are_told(
-    alloc: Global,
-    classes: &str,
-    told: Option<(u8, &str)>,
-) -> Result<bool, NoMemory> {
-    let newer = TWO_PORTS.replacen(alloc, "version = 1", "version = 2", 1)?;
-    addition_is_told(alloc, &newer, END, classes, told)
-}
-
 #[test]
-fn a_class_has_a_level_in_version_two(rt: HostRuntime) -> Result<(), Fail> {
-    for (classes, told) in LEVELS {
-        assert!(rt; levels_are_told(rt.alloc(), classes, told)?, "{classes}");
+fn a_change_of_a_good_configuration_is_told_at_its_key(rt: HostRuntime) {
+    for (first, old, new, told) in CHANGES {
+        assert!(rt; change_is_told(rt.alloc(), first, old, new, told) == Ok(true));
     }
-    Ok(())
-}
-
-#[test]
-fn a_change_of_a_good_configuration_is_told_at_its_key(rt: HostRuntime) -> Result<(), Fail> {
-    for (old, new, told) in CHANGES {
-        assert!(rt; change_is_told(rt.alloc(), old, new, told)?, "{new}");
-    }
-    for (line, added, check, key) in ADDITIONS {
-        let told = Some((check, key));
-        assert!(rt;
-            addition_is_told(rt.alloc(), TWO_PORTS, line, added, told)?,
-            "{added}"
-        );
-    }
-    Ok(())
 }
 
 /// Whether a text that is longer than a configuration may be is told so, and the same but for its first byte is read.
@@ -158,9 +187,8 @@ fn length_is_told(alloc: Global) -> Result<bool, NoMemory> {
 }
 
 #[test]
-fn a_text_that_is_too_long_is_told(rt: HostRuntime) -> Result<(), Fail> {
-    assert!(rt; length_is_told(rt.alloc())?);
-    Ok(())
+fn a_text_that_is_too_long_is_told(rt: HostRuntime) {
+    assert!(rt; length_is_told(rt.alloc()) == Ok(true));
 }
 
 /// A good configuration of four ports, one that names no discipline and one of each, with two classes, two addresses
@@ -192,10 +220,15 @@ fn has_classes(tables: &Tables) -> bool {
         && classes[1].cost == u128::MAX
 }
 
+/// The disciplines of its ports.
+const KINDS: [Kind; 4] = [Kind::FirstCome, Kind::Priority, Kind::Fair, Kind::FirstCome];
+
+/// Their limits.
+const LIMITS: [Option<u64>; 4] = [None, Some(7), None, None];
+
 /// Its ports, with their files, disciplines and limits.
 fn has_ports(tables: &Tables) -> bool {
     let ports = tables.ports.as_slice();
-    let kinds = [Kind::FirstCome, Kind::Priority, Kind::Fair, Kind::FirstCome];
     ports.len() == 4
         && ports[1].write.text() == "out1.pcap"
         && match &ports[1].read {
@@ -203,8 +236,8 @@ fn has_ports(tables: &Tables) -> bool {
             None => false,
         }
         && ports[2].read.is_none()
-        && tables.setup.kinds.as_slice() == kinds.as_slice()
-        && tables.limits.as_slice() == [None, Some(7), None, None].as_slice()
+        && tables.setup.kinds.as_slice() == KINDS.as_slice()
+        && tables.limits.as_slice() == LIMITS.as_slice()
 }
 
 /// Its addresses.
@@ -224,31 +257,33 @@ fn has_rule(tables: &Tables) -> bool {
         && rules[0].class == 1
 }
 
+/// Whether tables have all this.
+fn are_good(tables: &Tables) -> bool {
+    has_figures(tables)
+        && has_classes(tables)
+        && has_ports(tables)
+        && has_addresses(tables)
+        && has_rule(tables)
+}
+
 /// Whether that configuration gives all this.
 fn is_good(alloc: Global) -> bool {
     match read_tables(alloc, GOOD.as_bytes()) {
-        Ok(tables) => {
-            has_figures(&tables)
-                && has_classes(&tables)
-                && has_ports(&tables)
-                && has_addresses(&tables)
-                && has_rule(&tables)
-        }
+        Ok(tables) => are_good(&tables),
         Err(_) => false,
     }
 }
 
 /// Whether the configuration of two ports has one worker.
-fn has_one_worker(alloc: Global) -> bool {
-    match read_tables(alloc, TWO_PORTS.as_bytes()) {
-        Ok(tables) => tables.workers == 1,
-        Err(_) => false,
+fn has_one_worker(alloc: Global) -> Result<bool, NoMemory> {
+    let text = [OLDER, TWO_PORTS].concat(alloc)?;
+    match read_tables(alloc, text.as_bytes()) {
+        Ok(tables) => Ok(tables.workers == 1),
+        Err(_) => Ok(false),
     }
 }
 
 #[test]
-fn a_good_configuration_gives_its_tables(rt: HostRuntime) -> Result<(), Fail> {
-    assert!(rt; is_good(rt.alloc()));
-    assert!(rt; has_one_worker(rt.alloc()));
-    Ok(())
+fn a_good_configuration_gives_its_tables(rt: HostRuntime) {
+    assert!(rt; is_good(rt.alloc()) && has_one_worker(rt.alloc()) == Ok(true));
 }
