@@ -8,7 +8,6 @@ use cq_pcap::{
 };
 use cq_trial_kit::{BIG_MICROSECONDS, BIG_NANOSECONDS, FORMS, HEADER, MICROSECONDS, NANOSECONDS};
 use std::alloc::Global;
-use std::test::Fail;
 
 // The row of that packet.
 const PACKET: PacketRow = PacketRow {
@@ -22,16 +21,20 @@ const PACKET: PacketRow = PacketRow {
 fn capture_of(alloc: Global, bytes: &[u8]) -> Result<Capture, PcapRefusal>
     requires { length bytes.now ≤ longest_file }
 {
-    let bytes = bytes.to_vec(alloc).or(Err(PcapRefusal::NoMemory))?;
-    read_capture(alloc, bytes)
+    match bytes.to_vec(alloc) {
+        Ok(bytes) => read_capture(alloc, bytes),
+        Err(_) => Err(PcapRefusal::NoMemory),
+    }
 }
 
 // How many packets are read, or why none.
 fn packets_read(alloc: Global, bytes: &[u8]) -> Result<usize, PcapRefusal>
     requires { length bytes.now ≤ longest_file }
 {
-    let capture = capture_of(alloc, bytes)?;
-    Ok(capture.rows().len())
+    match capture_of(alloc, bytes) {
+        Ok(capture) => Ok(capture.rows().len()),
+        Err(refusal) => Err(refusal),
+    }
 }
 
 // Whether a capture has that packet alone.
@@ -40,20 +43,31 @@ fn has_the_packet(capture: &Capture) -> bool {
     rows.len() == 1 && rows[0] == PACKET && capture.body(0) == [0xab, 0xcd].as_slice()
 }
 
-#[test]
-fn each_form_is_read(rt: HostRuntime) {
-    for bytes in FORMS {
-        let capture = capture_of(rt.alloc(), &bytes);
-        assert!(rt;
-            capture.is_ok_and(|capture| has_the_packet(&capture)),
-            "{bytes:?}"
-        );
+// Whether the bytes spell a capture of that packet.
+fn spell_the_packet(alloc: Global, bytes: &[u8]) -> bool
+    requires { length bytes.now ≤ longest_file }
+{
+    match capture_of(alloc, bytes) {
+        Ok(capture) => has_the_packet(&capture),
+        Err(_) => false,
     }
 }
 
 #[test]
+fn each_form_is_read(rt: HostRuntime) {
+    for bytes in FORMS {
+        assert!(rt; spell_the_packet(rt.alloc(), &bytes));
+    }
+}
+
+// Whether the capture that begins with nothing has no packet.
+fn none_is_empty(alloc: Global) -> bool {
+    Capture::empty(alloc).rows().is_empty()
+}
+
+#[test]
 fn an_empty_capture_has_no_packets(rt: HostRuntime) {
-    assert!(rt; Capture::empty(rt.alloc()).rows().is_empty());
+    assert!(rt; none_is_empty(rt.alloc()));
 }
 
 const LITTLE: [u8; 4] = [0xd4, 0xc3, 0xb2, 0xa1];
@@ -61,7 +75,9 @@ const LITTLE: [u8; 4] = [0xd4, 0xc3, 0xb2, 0xa1];
 const BIG: [u8; 4] = [0xa1, 0xb2, 0xc3, 0xd4];
 
 // The magic, the version, the network field, and what is read.
-const HEADERS: [([u8; 4], [u8; 4], [u8; 4], Result<usize, PcapRefusal>); 10] = [
+type Header = ([u8; 4], [u8; 4], [u8; 4], Result<usize, PcapRefusal>);
+
+const HEADERS: &[Header] = &[
     (LITTLE, [2, 0, 4, 0], [1, 0, 0xff, 0xff], Ok(0)),
     (BIG, [0, 2, 0, 4], [0xff, 0xff, 0, 1], Ok(0)),
     // The block type of pcapng, and the magic of modified pcap.
@@ -100,8 +116,11 @@ const HEADERS: [([u8; 4], [u8; 4], [u8; 4], Result<usize, PcapRefusal>); 10] = [
     ),
 ];
 
-// Whether a header is read so. Without its last byte it is none.
-fn is_header_read(alloc: Global, header: &[u8], read: Result<usize, PcapRefusal>) -> bool {
+// Whether a header is read so. Without its last byte it is none. Zone, sigfigs and snaplen are ignored.
+fn is_header_read(alloc: Global, header: &Header) -> bool {
+    let (magic, version, network, read) = *header;
+    let fields = [magic, version, [9; 4], [9; 4], [9; 4], network];
+    let header = fields.as_flattened();
     if header.len() != 24 {
         return false;
     }
@@ -111,11 +130,8 @@ fn is_header_read(alloc: Global, header: &[u8], read: Result<usize, PcapRefusal>
 
 #[test]
 fn a_header_is_refused_by_its_first_fault(rt: HostRuntime) {
-    for (magic, version, network, read) in HEADERS {
-        // Zone, sigfigs and snaplen are ignored.
-        let fields = [magic, version, [9; 4], [9; 4], [9; 4], network];
-        let header = fields.as_flattened();
-        assert!(rt; is_header_read(rt.alloc(), header, read), "{header:?}");
+    for header in HEADERS {
+        assert!(rt; is_header_read(rt.alloc(), header));
     }
 }
 
@@ -144,22 +160,33 @@ fn is_read_with(
     capture: &[u8],
     there: usize,
     read: Result<usize, PcapRefusal>,
-) -> Result<bool, NoMemory>
+) -> bool
     requires whole { length capture.now ≡ 42 }
     requires part { there ≤ 18 }
 {
-    let bytes = [capture, &capture[24..24 + there]].concat(alloc)?;
-    Ok(bytes.len() <= 60 && packets_read(alloc, bytes.as_slice()) == read)
+    match [capture, &capture[24..24 + there]].concat(alloc) {
+        Ok(bytes) => bytes.len() <= 60 && packets_read(alloc, &bytes) == read,
+        Err(_) => false,
+    }
+}
+
+// Whether it is, with each such part of a second record.
+fn is_read_with_each(alloc: Global, capture: &[u8]) -> bool
+    requires { length capture.now ≡ 42 }
+{
+    for (there, read) in CUTS {
+        if !is_read_with(alloc, capture, there, read) {
+            return false;
+        }
+    }
+    true
 }
 
 #[test]
-fn a_cut_record_is_told_by_its_place(rt: HostRuntime) -> Result<(), Fail> {
+fn a_cut_record_is_told_by_its_place(rt: HostRuntime) {
     for bytes in FORMS {
-        for (there, read) in CUTS {
-            assert!(rt; is_read_with(rt.alloc(), &bytes, there, read)?, "{there}");
-        }
+        assert!(rt; is_read_with_each(rt.alloc(), &bytes));
     }
-    Ok(())
 }
 
 const CUT_AT_FIRST: PcapRefusal = PcapRefusal::CutBody { offset: 24 };
@@ -190,28 +217,40 @@ fn is_body_read(
     stated: &[u8],
     there: usize,
     read: Result<usize, PcapRefusal>,
-) -> Result<bool, NoMemory>
+) -> bool
     requires { there ≤ 262145 }
 {
-    let mut bytes = [&BIG_MICROSECONDS[..32], stated, stated].concat(alloc)?;
-    bytes.resize(40 + there, 0)?;
-    Ok(packets_read(alloc, bytes.as_slice()) == read)
+    let Ok(mut bytes) = [&BIG_MICROSECONDS[..32], stated, stated].concat(alloc) else {
+        return false;
+    };
+    match bytes.resize(40 + there, 0) {
+        Ok(()) => packets_read(alloc, &bytes) == read,
+        Err(_) => false,
+    }
+}
+
+fn bodies_are_read(alloc: Global) -> bool {
+    for (stated, there, read) in LONG_BODIES {
+        if !is_body_read(alloc, &stated, there, read) {
+            return false;
+        }
+    }
+    true
 }
 
 #[test]
-fn the_longest_body_has_262144_bytes(rt: HostRuntime) -> Result<(), Fail> {
-    for (stated, there, read) in LONG_BODIES {
-        assert!(rt; is_body_read(rt.alloc(), &stated, there, read)?, "{there}");
-    }
-    Ok(())
+fn the_longest_body_has_262144_bytes(rt: HostRuntime) {
+    assert!(rt; bodies_are_read(rt.alloc()));
 }
 
 // Whether these bytes are written for the packets.
-fn are_written_as(alloc: Global, packets: &[OutPacket], wanted: &[u8]) -> Result<bool, NoMemory>
+fn are_written_as(alloc: Global, packets: &[OutPacket], wanted: &[u8]) -> bool
     requires { All (λ p. length p.body ≤ 262144) packets.now }
 {
-    let bytes = capture_bytes(alloc, packets)?;
-    Ok(bytes.as_slice() == wanted)
+    match capture_bytes(alloc, packets) {
+        Ok(bytes) => bytes.as_slice() == wanted,
+        Err(_) => false,
+    }
 }
 
 // That packet, to be written.
@@ -226,15 +265,23 @@ fn out_packet(alloc: Global) -> Result<OutPacket, NoMemory>
     })
 }
 
-#[test]
-fn a_packet_is_written_with_nanoseconds(rt: HostRuntime) -> Result<(), Fail> {
-    let packet = out_packet(rt.alloc())?;
-    assert!(rt; are_written_as(rt.alloc(), &[], &HEADER)?);
-    assert!(rt; are_written_as(rt.alloc(), &[packet], &NANOSECONDS)?);
-    Ok(())
+fn nothing_is_written(alloc: Global) -> bool {
+    are_written_as(alloc, &[], &HEADER)
 }
 
-const TEXTS: [(PcapRefusal, &str); 8] = [
+fn packet_is_written(alloc: Global) -> bool {
+    match out_packet(alloc) {
+        Ok(packet) => are_written_as(alloc, &[packet], &NANOSECONDS),
+        Err(_) => false,
+    }
+}
+
+#[test]
+fn a_packet_is_written_with_nanoseconds(rt: HostRuntime) {
+    assert!(rt; nothing_is_written(rt.alloc()) && packet_is_written(rt.alloc()));
+}
+
+const TEXTS: &[(PcapRefusal, &str)] = &[
     (PcapRefusal::NoHeader, "no file header"),
     (PcapRefusal::Magic, "not a pcap file"),
     (PcapRefusal::Version, "not version 2.4"),
@@ -255,17 +302,19 @@ const TEXTS: [(PcapRefusal, &str); 8] = [
 ];
 
 // Whether the refusal has this text.
-fn has_text(alloc: Global, refusal: PcapRefusal, text: &str) -> Result<bool, NoMemory> {
-    let told = refusal.to_string(alloc)?;
-    Ok(told.as_str() == text)
+fn has_text(alloc: Global, row: &(PcapRefusal, &str)) -> bool {
+    let (refusal, text) = *row;
+    match refusal.to_string(alloc) {
+        Ok(told) => told.as_str() == text,
+        Err(_) => false,
+    }
 }
 
 #[test]
-fn a_refusal_says_why(rt: HostRuntime) -> Result<(), Fail> {
-    for (refusal, text) in TEXTS {
-        assert!(rt; has_text(rt.alloc(), refusal, text)?, "{text}");
+fn a_refusal_says_why(rt: HostRuntime) {
+    for row in TEXTS {
+        assert!(rt; has_text(rt.alloc(), row));
     }
-    Ok(())
 }
 
 // The form of a file, and the row of its first record.
@@ -276,17 +325,21 @@ fn first_found(bytes: &[u8]) -> Result<(Form, Option<PacketRow>), PcapRefusal>
     Ok((form, row_at(bytes, form, 24)?))
 }
 
+// Whether the bytes are of this form, and that packet's row stands behind their header.
+fn is_found(big: bool, nano: bool, bytes: &[u8]) -> bool
+    requires { length bytes.now ≤ longest_file }
+{
+    first_found(bytes) == Ok((Form { big, nano }, Some(PACKET)))
+}
+
+fn are_found() -> bool {
+    is_found(false, false, &MICROSECONDS)
+        && is_found(false, true, &NANOSECONDS)
+        && is_found(true, false, &BIG_MICROSECONDS)
+        && is_found(true, true, &BIG_NANOSECONDS)
+}
+
 #[test]
 fn the_first_record_is_found_by_the_form(rt: HostRuntime) {
-    let forms = [
-        (false, false, MICROSECONDS),
-        (false, true, NANOSECONDS),
-        (true, false, BIG_MICROSECONDS),
-        (true, true, BIG_NANOSECONDS),
-    ];
-    for (big, nano, bytes) in forms {
-        let found = first_found(&bytes);
-        let wanted = (Form { big, nano }, Some(PACKET));
-        assert!(rt; found == Ok(wanted), "big {big}, nano {nano}");
-    }
+    assert!(rt; are_found());
 }

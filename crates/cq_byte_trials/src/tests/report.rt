@@ -6,7 +6,6 @@ use cq_base::{
 use cq_ideal::Refused;
 use cq_report::{log_text, log_text_of_room, report_text, trace_text, trace_text_of_packed};
 use std::alloc::Global;
-use std::test::Fail;
 
 // A cell leaves: its slot and its output, and its input, its packet and its number there.
 type Leaving = (u64, u16, u16, u32, u32);
@@ -79,29 +78,56 @@ const TRACES: &[(&[Leaving], &[u8])] = &[
     ),
 ];
 
-fn have_trace(alloc: Global, rows: &[Leaving], text: &[u8]) -> Result<bool, NoMemory> {
-    let sent: Vec<Departure> = rows.iter().map(departure).collect(alloc)?;
-    let trace = trace_text(alloc, sent.as_slice())?;
-    Ok(trace.as_slice() == text)
+fn are_traced(alloc: Global, sent: &[Departure], text: &[u8]) -> bool {
+    match trace_text(alloc, sent) {
+        Ok(trace) => trace.as_slice() == text,
+        Err(_) => false,
+    }
 }
 
-fn have_packed_trace(alloc: Global, rows: &[Leaving], text: &[u8]) -> Result<bool, NoMemory> {
-    let packed = rows.iter().map(|row| PackedDeparture::of(&departure(row)));
-    let sent: Vec<PackedDeparture> = packed.collect(alloc)?;
-    let trace = trace_text_of_packed(alloc, sent.as_slice())?;
-    Ok(trace.as_slice() == text)
+fn departures(alloc: Global, rows: &[Leaving]) -> Result<Vec<Departure>, NoMemory> {
+    Ok(rows.iter().map(departure).collect(alloc)?)
+}
+
+fn have_trace(alloc: Global, rows: &[Leaving], text: &[u8]) -> bool {
+    match departures(alloc, rows) {
+        Ok(sent) => are_traced(alloc, &sent, text),
+        Err(_) => false,
+    }
+}
+
+fn packed_are_traced(alloc: Global, sent: &[PackedDeparture], text: &[u8]) -> bool {
+    match trace_text_of_packed(alloc, sent) {
+        Ok(trace) => trace.as_slice() == text,
+        Err(_) => false,
+    }
+}
+
+fn packed(row: &Leaving) -> PackedDeparture {
+    PackedDeparture::of(&departure(row))
+}
+
+fn packed_departures(alloc: Global, rows: &[Leaving]) -> Result<Vec<PackedDeparture>, NoMemory> {
+    Ok(rows.iter().map(packed).collect(alloc)?)
+}
+
+fn have_packed_trace(alloc: Global, rows: &[Leaving], text: &[u8]) -> bool {
+    match packed_departures(alloc, rows) {
+        Ok(sent) => packed_are_traced(alloc, &sent, text),
+        Err(_) => false,
+    }
+}
+
+fn have_both_traces(alloc: Global, row: &(&[Leaving], &[u8])) -> bool {
+    let (rows, text) = *row;
+    have_trace(alloc, rows, text) && have_packed_trace(alloc, rows, text)
 }
 
 #[test]
-fn a_trace_has_a_line_for_each_departure(rt: HostRuntime) -> Result<(), Fail> {
-    for (rows, text) in TRACES {
-        let told = have_trace(rt.alloc(), rows, text)?;
-        assert!(rt;
-            told && have_packed_trace(rt.alloc(), rows, text)?,
-            "{text:?}"
-        );
+fn a_trace_has_a_line_for_each_departure(rt: HostRuntime) {
+    for row in TRACES {
+        assert!(rt; have_both_traces(rt.alloc(), row));
     }
-    Ok(())
 }
 
 // Transfers, and their log.
@@ -129,10 +155,22 @@ const LOGS: &[(&[Crossing], &[u8])] = &[
     ),
 ];
 
-fn have_log(alloc: Global, rows: &[Crossing], text: &[u8]) -> Result<bool, NoMemory> {
-    let note: Vec<Transfer> = rows.iter().map(transfer).collect(alloc)?;
-    let log = log_text(alloc, note.as_slice())?;
-    Ok(log.as_slice() == text)
+fn are_logged(alloc: Global, note: &[Transfer], text: &[u8]) -> bool {
+    match log_text(alloc, note) {
+        Ok(log) => log.as_slice() == text,
+        Err(_) => false,
+    }
+}
+
+fn transfers(alloc: Global, rows: &[Crossing]) -> Result<Vec<Transfer>, NoMemory> {
+    Ok(rows.iter().map(transfer).collect(alloc)?)
+}
+
+fn have_log(alloc: Global, rows: &[Crossing], text: &[u8]) -> bool {
+    match transfers(alloc, rows) {
+        Ok(note) => are_logged(alloc, &note, text),
+        Err(_) => false,
+    }
 }
 
 // The transfers, in a room that they fill.
@@ -146,24 +184,30 @@ fn noted(alloc: Global, rows: &[Crossing]) -> Result<Room<Transfer>, NoMemory> {
     Ok(note)
 }
 
-fn have_log_of_room(alloc: Global, rows: &[Crossing], text: &[u8]) -> Result<bool, NoMemory> {
-    let note = noted(alloc, rows)?;
-    let log = log_text_of_room(alloc, note)?;
-    Ok(log.as_slice() == text)
+fn is_logged(alloc: Global, note: Room<Transfer>, text: &[u8]) -> bool {
+    match log_text_of_room(alloc, note) {
+        Ok(log) => log.as_slice() == text,
+        Err(_) => false,
+    }
+}
+
+fn have_log_of_room(alloc: Global, rows: &[Crossing], text: &[u8]) -> bool {
+    match noted(alloc, rows) {
+        Ok(note) => is_logged(alloc, note, text),
+        Err(_) => false,
+    }
+}
+
+fn have_both_logs(alloc: Global, row: &(&[Crossing], &[u8])) -> bool {
+    let (rows, text) = *row;
+    have_log(alloc, rows, text) && have_log_of_room(alloc, rows, text)
 }
 
 #[test]
-fn a_log_has_a_line_for_each_transfer_also_where_they_are_used_up(
-    rt: HostRuntime,
-) -> Result<(), Fail> {
-    for (rows, text) in LOGS {
-        let told = have_log(rt.alloc(), rows, text)?;
-        assert!(rt;
-            told && have_log_of_room(rt.alloc(), rows, text)?,
-            "{text:?}"
-        );
+fn a_log_has_a_line_for_each_transfer_also_where_they_are_used_up(rt: HostRuntime) {
+    for row in LOGS {
+        assert!(rt; have_both_logs(rt.alloc(), row));
     }
-    Ok(())
 }
 
 // What is told of a run: its slots, its proposals and the most of one phase; of each input its cells, the greatest
@@ -174,19 +218,25 @@ struct Told {
     outputs: &'static [(u64, Option<u64>)],
 }
 
-fn figures_of(alloc: Global, told: &Told) -> Result<Figures, NoMemory> {
-    let (slots, proposals, most) = told.run;
-    let inputs = told.inputs.iter().map(|row| InputFigures {
+fn input_figures(row: &(u64, u64, Option<u64>)) -> InputFigures {
+    InputFigures {
         cells: row.0,
         longest: row.1,
         slack: row.2,
-    });
-    let inputs: Vec<InputFigures> = inputs.collect(alloc)?;
-    let outputs = told.outputs.iter().map(|row| OutputFigures {
+    }
+}
+
+fn output_figures(row: &(u64, Option<u64>)) -> OutputFigures {
+    OutputFigures {
         cells: row.0,
         wait: row.1,
-    });
-    let outputs: Vec<OutputFigures> = outputs.collect(alloc)?;
+    }
+}
+
+fn figures_of(alloc: Global, told: &Told) -> Result<Figures, NoMemory> {
+    let (slots, proposals, most) = told.run;
+    let inputs: Vec<InputFigures> = told.inputs.iter().map(input_figures).collect(alloc)?;
+    let outputs: Vec<OutputFigures> = told.outputs.iter().map(output_figures).collect(alloc)?;
     Ok(Figures {
         slots,
         proposals,
@@ -196,31 +246,32 @@ fn figures_of(alloc: Global, told: &Told) -> Result<Figures, NoMemory> {
     })
 }
 
+// Whether a text has these lines.
+fn is_of(alloc: Global, text: &[u8], lines: &[&str]) -> bool {
+    match lines.concat(alloc) {
+        Ok(lines) => text == lines.as_bytes(),
+        Err(_) => false,
+    }
+}
+
 // Whether the report of these figures, and of what was refused, has these lines.
-fn is_reported(
-    alloc: Global,
-    figures: &Figures,
-    refused: &[Refused],
-    lines: &[&str],
-) -> Result<bool, NoMemory> {
+fn is_reported(alloc: Global, figures: &Figures, refused: &[Refused], lines: &[&str]) -> bool {
     let outputs = figures.outputs.as_slice();
     if !outputs.iter().all(|x| x.cells <= figures.slots) {
-        return Ok(false);
+        return false;
     }
-    let text = report_text(alloc, figures, refused)?;
-    let lines = lines.concat(alloc)?;
-    Ok(text.as_slice() == lines.as_bytes())
+    match report_text(alloc, figures, refused) {
+        Ok(text) => is_of(alloc, &text, lines),
+        Err(_) => false,
+    }
 }
 
 // Whether the report of what is told of a run, and of what was refused, has these lines.
-fn has_lines(
-    alloc: Global,
-    told: &Told,
-    refused: &[Refused],
-    lines: &[&str],
-) -> Result<bool, NoMemory> {
-    let figures = figures_of(alloc, told)?;
-    is_reported(alloc, &figures, refused, lines)
+fn has_lines(alloc: Global, told: &Told, refused: &[Refused], lines: &[&str]) -> bool {
+    match figures_of(alloc, told) {
+        Ok(figures) => is_reported(alloc, &figures, refused, lines),
+        Err(_) => false,
+    }
 }
 
 const NOTHING_CAME: [&str; 5] = [
@@ -311,9 +362,8 @@ const REFUSED: [Refused; 2] = [
 ];
 
 #[test]
-fn a_report_tells_what_was_refused_at_outputs_with_limits(rt: HostRuntime) -> Result<(), Fail> {
-    assert!(rt; has_lines(rt.alloc(), &LIMITED, &REFUSED, &BURST)?);
-    Ok(())
+fn a_report_tells_what_was_refused_at_outputs_with_limits(rt: HostRuntime) {
+    assert!(rt; has_lines(rt.alloc(), &LIMITED, &REFUSED, &BURST));
 }
 
 // Runs, with the lines of their reports.
@@ -361,9 +411,8 @@ const RUNS: &[(Told, &[&str])] = &[
 ];
 
 #[test]
-fn a_report_has_the_figures_behind_their_names(rt: HostRuntime) -> Result<(), Fail> {
+fn a_report_has_the_figures_behind_their_names(rt: HostRuntime) {
     for (told, lines) in RUNS {
-        assert!(rt; has_lines(rt.alloc(), told, &[], lines)?, "{lines:?}");
+        assert!(rt; has_lines(rt.alloc(), told, &[], lines));
     }
-    Ok(())
 }
