@@ -1,12 +1,11 @@
 //! The adapters over the system's own files and over writers that take little at a time.
 use cq_space::{HostFiles, HostSink, ReadRefusal, WriteFault, put_all, read_whole, write_whole};
-use std::alloc::Allocator;
+use std::alloc::{Allocator, Global};
 use std::fs::{Metadata, OpenFile, OpenOptions, Permissions};
 use std::io::{PipeReader, PipeWriter, Read, Seek, SeekFrom, Write};
 use std::os::fd::BorrowedFd;
 use std::os::unix::net::SocketAddr;
 use std::path::PathBuf;
-use std::test::Fail;
 use std::{env, fs, io, process, rt};
 
 const TEXT: &[u8; 5] = b"abcde";
@@ -164,32 +163,52 @@ fn is_moved(rt: &HostRuntime, name: &str) -> bool {
     }
 }
 
+/// Whether the file of this name has these bytes.
+fn has_bytes(rt: &HostRuntime, name: &str, wanted: &[u8]) -> bool {
+    match fs::read(rt, name) {
+        Ok(bytes) => bytes.as_slice() == wanted,
+        Err(_) => false,
+    }
+}
+
 /// Whether a file has the text, which was written and read one byte at a time.
-fn has_moved(rt: &HostRuntime) -> io::Result<bool> {
-    let name = own_name(rt, "", "slow")?;
-    let moved = is_moved(rt, &name) && fs::read(rt, &name)?.as_slice() == TEXT.as_slice();
-    fs::remove_file(rt, &name)?;
-    Ok(moved)
+fn has_moved(rt: &HostRuntime) -> bool {
+    match own_name(rt, "", "slow") {
+        Ok(name) => {
+            let moved = is_moved(rt, &name) && has_bytes(rt, &name, TEXT);
+            fs::remove_file(rt, &name).is_ok() && moved
+        }
+        Err(_) => false,
+    }
 }
 
 #[test]
-fn a_file_moves_one_byte_at_a_time(rt: HostRuntime) -> Result<(), Fail> {
-    assert!(rt; has_moved(&rt)?);
-    Ok(())
+fn a_file_moves_one_byte_at_a_time(rt: HostRuntime) {
+    assert!(rt; has_moved(&rt));
+}
+
+/// Whether a writer that takes one byte at a time has taken the text.
+fn is_taken(alloc: Global) -> bool {
+    let mut taken = Vec::new(alloc);
+    let answer = put_all(&mut HostSink::new(Slow(&mut taken)), TEXT);
+    answer == Ok(()) && taken.as_slice() == TEXT.as_slice()
 }
 
 #[test]
 fn a_writer_takes_one_byte_at_a_time(rt: HostRuntime) {
-    let mut taken = Vec::new(rt.alloc());
-    let answer = put_all(&mut HostSink::new(Slow(&mut taken)), TEXT);
-    assert!(rt; answer == Ok(()) && taken.as_slice() == TEXT.as_slice());
+    assert!(rt; is_taken(rt.alloc()));
+}
+
+/// Whether a writer with room for three bytes is a fault, and has them.
+fn three_are_taken() -> bool {
+    let mut room = [0u8; 3];
+    let answer = put_all(&mut HostSink::new(room.as_mut_slice()), TEXT);
+    answer == Err(WriteFault) && room.as_slice() == &TEXT[..3]
 }
 
 #[test]
 fn a_writer_that_is_full_is_a_fault(rt: HostRuntime) {
-    let mut room = [0u8; 3];
-    let answer = put_all(&mut HostSink::new(room.as_mut_slice()), TEXT);
-    assert!(rt; answer == Err(WriteFault) && room.as_slice() == &TEXT[..3]);
+    assert!(rt; three_are_taken());
 }
 
 /// Whether the name can neither be read nor written.
@@ -200,35 +219,52 @@ fn is_shut(rt: &HostRuntime, name: &str) -> bool {
     unread == Some(ReadRefusal::Fault) && written == Err(WriteFault)
 }
 
+/// Whether the name below that of another, which is a file meanwhile, is shut.
+fn is_shut_meanwhile(rt: &HostRuntime, name: &str, below: &str) -> bool {
+    let shut = fs::write(rt, name, TEXT).is_ok() && is_shut(rt, below);
+    fs::remove_file(rt, name).is_ok() && shut
+}
+
 /// Whether a name below that of a file is shut.
-fn is_shut_below(rt: &HostRuntime) -> io::Result<bool> {
-    let name = own_name(rt, "", "plain")?;
-    fs::write(rt, &name, TEXT)?;
-    let shut = is_shut(rt, &own_name(rt, "", "plain/below")?);
-    fs::remove_file(rt, &name)?;
-    Ok(shut)
+fn is_shut_below(rt: &HostRuntime) -> bool {
+    let Ok(name) = own_name(rt, "", "plain") else {
+        return false;
+    };
+    match own_name(rt, "", "plain/below") {
+        Ok(below) => is_shut_meanwhile(rt, &name, &below),
+        Err(_) => false,
+    }
 }
 
 #[test]
-fn a_name_that_cannot_be_opened_is_a_fault(rt: HostRuntime) -> Result<(), Fail> {
-    assert!(rt; is_shut_below(&rt)?);
-    Ok(())
+fn a_name_that_cannot_be_opened_is_a_fault(rt: HostRuntime) {
+    assert!(rt; is_shut_below(&rt));
 }
 
 /// The way to a name, the name, the answer where new bytes are written to it after `read` was read, and what it then
 /// has.
-const WRITTEN: [(&str, &str, Result<(), WriteFault>, &[u8]); 4] = [
+type Written = (
+    &'static str,
+    &'static str,
+    Result<(), WriteFault>,
+    &'static [u8],
+);
+
+const WRITTEN: &[Written] = &[
     ("./", "read", Err(WriteFault), TEXT),
     ("", "linked", Err(WriteFault), TEXT),
     ("", "other", Ok(()), b"new"),
     ("", "read", Ok(()), b"new"),
 ];
 
-/// Writes the text to a name, and lets another lead to its file.
-fn link(rt: &HostRuntime) -> io::Result<()> {
-    let name = own_name(rt, "", "read")?;
-    fs::write(rt, &name, TEXT)?;
-    fs::hard_link(rt, &name, &own_name(rt, "", "linked")?)
+/// Writes the text to a name and lets another lead to its file. Whether both was done.
+fn is_linked(rt: &HostRuntime, name: &str) -> bool {
+    match own_name(rt, "", "linked") {
+        Ok(linked) => {
+            fs::write(rt, name, TEXT).is_ok() && fs::hard_link(rt, name, &linked).is_ok()
+        }
+        Err(_) => false,
+    }
 }
 
 /// Whether writing the second name after the first was read has the wanted answer, and leaves these bytes.
@@ -238,37 +274,55 @@ fn is_left(
     written: &str,
     wanted: Result<(), WriteFault>,
     left: &[u8],
-) -> io::Result<bool> {
+) -> bool {
     let mut files = HostFiles::new(rt.alloc(), rt);
     let is_read = read_whole(rt.alloc(), &mut files, read, 9).is_ok();
     let answer = write_whole(&mut files, written, b"new");
-    Ok(is_read && answer == wanted && fs::read(rt, written)?.as_slice() == left)
+    is_read && answer == wanted && has_bytes(rt, written, left)
+}
+
+/// Whether a name is left as it should be after the first was read.
+fn is_left_as_told(rt: &HostRuntime, read: &str, row: &Written) -> bool {
+    let (way, name, wanted, left) = *row;
+    match own_name(rt, way, name) {
+        Ok(written) => is_left(rt, read, &written, wanted, left),
+        Err(_) => false,
+    }
 }
 
 /// Whether each name is left as it should be.
-fn are_left(rt: &HostRuntime) -> io::Result<bool> {
-    let read = own_name(rt, "", "read")?;
-    for (way, name, wanted, left) in WRITTEN {
-        let written = own_name(rt, way, name)?;
-        if !is_left(rt, &read, &written, wanted, left)? {
-            return Ok(false);
+fn are_left(rt: &HostRuntime, read: &str) -> bool {
+    for row in WRITTEN {
+        if !is_left_as_told(rt, read, row) {
+            return false;
         }
     }
-    Ok(true)
+    true
 }
 
-/// Removes the files of these names.
-fn remove(rt: &HostRuntime, names: [&str; 3]) -> io::Result<()> {
-    for name in names {
-        fs::remove_file(rt, &own_name(rt, "", name)?)?;
+/// Removes the file of this name. Whether that was done.
+fn is_removed(rt: &HostRuntime, name: &str) -> bool {
+    match own_name(rt, "", name) {
+        Ok(name) => fs::remove_file(rt, &name).is_ok(),
+        Err(_) => false,
     }
-    Ok(())
+}
+
+/// Whether the names are left as they should be, and are removed.
+fn names_are_left(rt: &HostRuntime) -> bool {
+    match own_name(rt, "", "read") {
+        Ok(read) => {
+            is_linked(rt, &read)
+                && are_left(rt, &read)
+                && is_removed(rt, "read")
+                && is_removed(rt, "linked")
+                && is_removed(rt, "other")
+        }
+        Err(_) => false,
+    }
 }
 
 #[test]
-fn what_was_read_is_not_written_over_by_another_name(rt: HostRuntime) -> Result<(), Fail> {
-    link(&rt)?;
-    assert!(rt; are_left(&rt)?);
-    remove(&rt, ["read", "linked", "other"])?;
-    Ok(())
+fn what_was_read_is_not_written_over_by_another_name(rt: HostRuntime) {
+    assert!(rt; names_are_left(&rt));
 }

@@ -1,5 +1,6 @@
 //! Captures go through a reader, in a thread of its own and beside its caller.
-ghost use Rattle.std.specs.Prelude.{◌≡◌, [], IfSome};
+ghost use Rattle.std.specs.Prelude.{◌≡◌, ◌≤◌, [], IfOk, IfSome, length};
+ghost use Rattle.cq_base.specs.Limits.{longest_file};
 ghost use Rattle.cq_stream.specs.Rings.{IsPairOf, SameReader, taken, told};
 ghost use Rattle.cq_stream.specs.Stream.{IsLeftTo, items_of};
 
@@ -11,7 +12,6 @@ use std::alloc::Global;
 use std::sync::atomic::AtomicU64;
 use std::sync::atomic::Ordering::SeqCst;
 use std::sync::{Arc, Wait};
-use std::test::Fail;
 use std::thread;
 use std::thread::{Threads, yield_now};
 
@@ -75,57 +75,135 @@ fn read_beside<R: Threads + Wait + Copy + Send + 'static>(
     intake.send();
     let promise = reader.promise();
     let run = move || reader.run(&rt, 0, OpenWatch);
-    let child = thread::spawn_with(&rt, promise, run).ok()?;
-    let rows = rows_taken(alloc, intake)?;
+    let Ok(child) = thread::spawn_with(&rt, promise, run) else {
+        return None;
+    };
+    let Some(rows) = rows_taken(alloc, intake) else {
+        return None;
+    };
     Some((rows, child.join(&rt)))
 }
 
-// Whether the five packets are read, where a thread of its own sends their rows.
-fn are_read<R: Threads + Wait + Copy + Send + 'static>(rt: R, alloc: Global) -> Option<bool> {
-    let bytes = five_packets().to_vec(alloc).ok()?;
-    let (reader, mut intake) = pair(alloc, bytes, 2).ok()?;
-    let (rows, mut done) = read_beside(rt, alloc, reader, &mut intake)?;
+// A reader of these bytes and its other end, with room for two items.
+fn reader_of(alloc: Global, file: &[u8]) -> Result<(Reader, Intake), NoMemory>
+    requires { length file.now ≤ longest_file }
+    ensures pair { IfOk result (λ r. IsPairOf r.0 r.1) }
+    ensures taken { IfOk result (λ r. taken r.1 ≡ []) }
+    ensures told { IfOk result (λ r. told r.1 ≡ []) }
+{
+    pair(alloc, file.to_vec(alloc)?, 2)
+}
+
+// How what a thread of its own reads ends.
+#[derive(Drop)]
+enum Ending {
+    // With the five packets.
+    Five,
+    // With no row and a cut header behind that of the file.
+    Cut,
+}
+
+// Whether the five packets are read.
+fn ends_with_five(mut intake: Intake, mut done: Done, rows: Vec<PacketRow>) -> bool
+    requires left { IsLeftTo intake done }
+    requires taken { taken intake ≡ items_of rows.items }
+{
     let shown = done.shown();
     intake.meet(&mut done);
-    let capture = intake.close(done, rows).ok()?;
-    Some(shown && are_of_five(capture.rows()))
+    match intake.close(done, rows) {
+        Ok(capture) => shown && are_of_five(capture.rows()),
+        Err(_) => false,
+    }
+}
+
+// Whether no row and a cut header are.
+fn ends_cut(intake: Intake, done: Done, rows: Vec<PacketRow>) -> bool
+    requires left { IsLeftTo intake done }
+    requires taken { taken intake ≡ items_of rows.items }
+{
+    let found_none = done.shown() && rows.is_empty();
+    match intake.close(done, rows) {
+        Ok(_) => false,
+        Err(refusal) => found_none && refusal == PcapRefusal::CutHeader { offset: 24 },
+    }
+}
+
+// Whether what a thread of its own reads from these ends so.
+fn ends_so<R: Threads + Wait + Copy + Send + 'static>(
+    rt: R,
+    alloc: Global,
+    reader: Reader,
+    mut intake: Intake,
+    ending: Ending,
+) -> bool
+    requires pair { IsPairOf reader intake }
+    requires taken { taken intake ≡ [] }
+    requires told { told intake ≡ [] }
+{
+    match read_beside(rt, alloc, reader, &mut intake) {
+        Some((rows, done)) => match ending {
+            Ending::Five => ends_with_five(intake, done, rows),
+            Ending::Cut => ends_cut(intake, done, rows),
+        },
+        None => false,
+    }
+}
+
+// Whether what a thread of its own reads in the file ends so.
+fn is_read<R: Threads + Wait + Copy + Send + 'static>(
+    rt: R,
+    alloc: Global,
+    file: &[u8],
+    ending: Ending,
+) -> bool
+    requires { length file.now ≤ longest_file }
+{
+    match reader_of(alloc, file) {
+        Ok((reader, intake)) => ends_so(rt, alloc, reader, intake, ending),
+        Err(_) => false,
+    }
 }
 
 #[test]
 fn rows_come_from_a_thread_in_order(rt: HostRuntime) {
-    assert!(rt; are_read(rt, rt.alloc()) == Some(true));
+    assert!(rt; is_read(rt, rt.alloc(), &five_packets(), Ending::Five));
 }
 
-// Whether 15 bytes behind the header are no row and a cut header, where a thread of its own reads them.
-fn is_cut<R: Threads + Wait + Copy + Send + 'static>(rt: R, alloc: Global) -> Option<bool> {
+// The header of a file, and 15 bytes behind it.
+fn cut_file() -> [u8; 39] {
     let mut file = [0; 39];
     file[..24].copy_from_slice(&HEADER);
-    let (reader, mut intake) = pair(alloc, file.to_vec(alloc).ok()?, 2).ok()?;
-    let (rows, done) = read_beside(rt, alloc, reader, &mut intake)?;
-    let found_none = done.shown() && rows.is_empty();
-    let refusal = intake.close(done, rows).err();
-    Some(found_none && refusal == Some(PcapRefusal::CutHeader { offset: 24 }))
+    file
 }
 
 #[test]
 fn a_cut_header_ends_the_items(rt: HostRuntime) {
-    assert!(rt; is_cut(rt, rt.alloc()) == Some(true));
+    assert!(rt; is_read(rt, rt.alloc(), &cut_file(), Ending::Cut));
 }
 
 // Whether a reader that is told to be alone sends nothing, and leaves the bytes.
-fn is_left_alone<R: Wait>(rt: &R, alloc: Global) -> Result<bool, NoMemory> {
-    let file = five_packets();
-    let (reader, mut intake) = pair(alloc, file.to_vec(alloc)?, 2)?;
+fn sends_nothing<R: Wait>(rt: &R, reader: Reader, mut intake: Intake) -> bool
+    requires pair { IsPairOf reader intake }
+    requires told { told intake ≡ [] }
+{
     intake.alone();
     let mut done = reader.run(rt, 0, OpenWatch);
     intake.meet(&mut done);
-    Ok(intake.take().is_none() && done.bytes().as_slice() == file.as_slice())
+    let sent_nothing = intake.take().is_none();
+    let left = done.bytes();
+    sent_nothing && left.as_slice() == five_packets().as_slice()
+}
+
+fn is_left_alone<R: Wait>(rt: &R, alloc: Global) -> bool {
+    match reader_of(alloc, &five_packets()) {
+        Ok((reader, intake)) => sends_nothing(rt, reader, intake),
+        Err(_) => false,
+    }
 }
 
 #[test]
-fn a_reader_that_is_alone_sends_nothing(rt: HostRuntime) -> Result<(), Fail> {
-    assert!(rt; is_left_alone(&rt, rt.alloc())?);
-    Ok(())
+fn a_reader_that_is_alone_sends_nothing(rt: HostRuntime) {
+    assert!(rt; is_left_alone(&rt, rt.alloc()));
 }
 
 // Counts how often it is told that a reader begins.
@@ -152,33 +230,46 @@ impl Watch for Counting {
 }
 
 // Runs a reader with this order. Its file has no packet, so the ring has room for all that is sent.
-fn run_told<R: Wait>(rt: &R, alloc: Global, order: Order, watch: Counting) -> Result<(), NoMemory> {
-    let (reader, mut intake) = pair(alloc, HEADER.to_vec(alloc)?, 2)?;
+fn run_told<R: Wait>(rt: &R, reader: Reader, mut intake: Intake, order: Order, watch: Counting)
+    requires pair { IsPairOf reader intake }
+    requires told { told intake ≡ [] }
+{
     match order {
         Order::Send => intake.send(),
         Order::Alone => intake.alone(),
     }
     let _done = reader.run(rt, 0, watch);
-    Ok(())
 }
 
-// How often the watch is told that a reader with this order begins.
-fn times_begun<R: Wait>(rt: &R, alloc: Global, order: Order) -> Result<u64, NoMemory> {
-    let began = Arc::new(alloc, AtomicU64::new(0))?;
+// Whether the watch is told so often that a reader with this order begins.
+fn begins<R: Wait>(
+    rt: &R,
+    alloc: Global,
+    order: Order,
+    began: &Arc<AtomicU64, Global>,
+    times: u64,
+) -> bool {
     let watch = Counting {
-        began: Arc::try_clone(&began).ok(),
+        began: Arc::try_clone(began).ok(),
     };
-    run_told(rt, alloc, order, watch.again())?;
-    Ok(began.load(SeqCst))
+    match reader_of(alloc, &HEADER) {
+        Ok((reader, intake)) => {
+            run_told(rt, reader, intake, order, watch.again());
+            began.load(SeqCst) == times
+        }
+        Err(_) => false,
+    }
+}
+
+fn begins_so_often<R: Wait>(rt: &R, alloc: Global, order: Order, times: u64) -> bool {
+    match Arc::new(alloc, AtomicU64::new(0)) {
+        Ok(began) => begins(rt, alloc, order, &began, times),
+        Err(_) => false,
+    }
 }
 
 #[test]
-fn the_watch_is_told_once_where_the_reader_sends(rt: HostRuntime) -> Result<(), Fail> {
-    for (order, times) in [(Order::Send, 1), (Order::Alone, 0)] {
-        assert!(rt;
-            times_begun(&rt, rt.alloc(), order)? == times,
-            "{times} times"
-        );
-    }
-    Ok(())
+fn the_watch_is_told_once_where_the_reader_sends(rt: HostRuntime) {
+    let once = begins_so_often(&rt, rt.alloc(), Order::Send, 1);
+    assert!(rt; once && begins_so_often(&rt, rt.alloc(), Order::Alone, 0));
 }

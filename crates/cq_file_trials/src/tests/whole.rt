@@ -6,7 +6,6 @@ ghost use Rattle.cq_space.specs.Space.{Closed};
 use cq_base::NoMemory;
 use cq_space::{MemFiles, MemSink, ReadRefusal, WriteFault, put_all, read_whole, write_whole};
 use std::alloc::Global;
-use std::test::Fail;
 
 const TEXT: &[u8; 5] = b"abcde";
 
@@ -23,82 +22,121 @@ fn give(files: &mut MemFiles, cut: Option<u64>) -> Result<(), NoMemory>
     Ok(())
 }
 
-/// Whether reading comes to this, where the name has a limit and may be cut, and the name stays.
-fn is_read(
+/// Whether reading from these files comes to this, where the name has a limit, and the name stays.
+fn is_read_from(
     alloc: Global,
+    files: &mut MemFiles,
     limit: u64,
-    cut: Option<u64>,
     wanted: Result<usize, ReadRefusal>,
-) -> Result<bool, NoMemory>
+) -> bool
+    requires closed { files.old.mode ≡ Closed }
+    requires limit { limit ≤ longest_file }
+{
+    let answer = match read_whole(alloc, files, "in", limit) {
+        Ok(bytes) => Ok(bytes.len()),
+        Err(refusal) => Err(refusal),
+    };
+    let stays = files.bytes("in") == Some(TEXT.as_slice()) && files.starved() == 0;
+    answer == wanted && stays
+}
+
+/// Whether reading comes to this, where the name has a limit and may be cut, and the name stays.
+fn is_read(alloc: Global, limit: u64, cut: Option<u64>, wanted: Result<usize, ReadRefusal>) -> bool
     requires { limit ≤ longest_file }
 {
     let mut files = MemFiles::new(alloc);
-    give(&mut files, cut)?;
-    let count = read_whole(alloc, &mut files, "in", limit).map(|bytes| bytes.len());
-    let stays = files.bytes("in") == Some(TEXT.as_slice()) && files.starved() == 0;
-    Ok(count == wanted && stays)
+    give(&mut files, cut).is_ok() && is_read_from(alloc, &mut files, limit, wanted)
+}
+
+/// The limit of the name, its cut, and what reading comes to.
+const READ: [(u64, Option<u64>, Result<usize, ReadRefusal>); 8] = [
+    (5, None, Ok(5)),
+    (4, None, Err(ReadRefusal::Long { limit: 4 })),
+    (0, None, Err(ReadRefusal::Long { limit: 0 })),
+    (9, Some(0), Err(ReadRefusal::Fault)),
+    (9, Some(3), Err(ReadRefusal::Fault)),
+    (9, Some(5), Err(ReadRefusal::Fault)),
+    (9, Some(6), Ok(5)),
+    (2, Some(3), Err(ReadRefusal::Long { limit: 2 })),
+];
+
+fn are_read(alloc: Global) -> bool {
+    for (limit, cut, wanted) in READ {
+        if !is_read(alloc, limit, cut, wanted) {
+            return false;
+        }
+    }
+    true
 }
 
 #[test]
-fn a_name_is_read_up_to_its_cut_and_the_limit(rt: HostRuntime) -> Result<(), Fail> {
-    let cases = [
-        (5, None, Ok(5)),
-        (4, None, Err(ReadRefusal::Long { limit: 4 })),
-        (0, None, Err(ReadRefusal::Long { limit: 0 })),
-        (9, Some(0), Err(ReadRefusal::Fault)),
-        (9, Some(3), Err(ReadRefusal::Fault)),
-        (9, Some(5), Err(ReadRefusal::Fault)),
-        (9, Some(6), Ok(5)),
-        (2, Some(3), Err(ReadRefusal::Long { limit: 2 })),
-    ];
-    for (limit, cut, wanted) in cases {
-        assert!(rt;
-            is_read(rt.alloc(), limit, cut, wanted)?,
-            "limit {limit}, cut {cut:?}"
-        );
-    }
-    Ok(())
+fn a_name_is_read_up_to_its_cut_and_the_limit(rt: HostRuntime) {
+    assert!(rt; are_read(rt.alloc()));
+}
+
+/// Cuts a name that has no bytes, and gives another some.
+fn cut_none(files: &mut MemFiles) -> Result<(), NoMemory>
+    requires { files.old.mode ≡ Closed }
+    ensures { files.new.mode ≡ Closed }
+{
+    files.fail_read("in", 0)?;
+    files.set("other", TEXT)
+}
+
+/// Whether a name is missing, and has no bytes.
+fn is_missing_from(alloc: Global, files: &mut MemFiles) -> bool
+    requires { files.old.mode ≡ Closed }
+{
+    let refusal = read_whole(alloc, files, "in", 9).err();
+    refusal == Some(ReadRefusal::Missing) && files.bytes("in").is_none()
 }
 
 /// Whether a name that is cut, and has no bytes, is missing beside another name.
-fn is_missing(alloc: Global) -> Result<bool, NoMemory> {
+fn is_missing(alloc: Global) -> bool {
     let mut files = MemFiles::new(alloc);
-    files.fail_read("in", 0)?;
-    files.set("other", TEXT)?;
-    let refusal = read_whole(alloc, &mut files, "in", 9).err();
-    Ok(refusal == Some(ReadRefusal::Missing) && files.bytes("in").is_none())
+    cut_none(&mut files).is_ok() && is_missing_from(alloc, &mut files)
 }
 
 #[test]
-fn a_name_that_is_only_cut_is_missing(rt: HostRuntime) -> Result<(), Fail> {
-    assert!(rt; is_missing(rt.alloc())?);
-    Ok(())
+fn a_name_that_is_only_cut_is_missing(rt: HostRuntime) {
+    assert!(rt; is_missing(rt.alloc()));
+}
+
+/// Whether the text is written to a name of these files, and read from it.
+fn is_kept_in(alloc: Global, files: &mut MemFiles, text: &[u8]) -> bool
+    requires { files.old.mode ≡ Closed }
+{
+    let written = write_whole(files, "out", text);
+    match read_whole(alloc, files, "out", 1 << 28) {
+        Ok(bytes) => written == Ok(()) && bytes.as_slice() == text,
+        Err(_) => false,
+    }
 }
 
 /// Whether the text is written to a name that had other bytes, and read from it.
-fn is_kept(alloc: Global, text: &[u8]) -> Result<bool, NoMemory> {
+fn is_kept(alloc: Global, text: &[u8]) -> bool {
     let mut files = MemFiles::new(alloc);
-    files.set("out", TEXT)?;
-    let written = write_whole(&mut files, "out", text);
-    match read_whole(alloc, &mut files, "out", 1 << 28) {
-        Ok(bytes) => Ok(written == Ok(()) && bytes.as_slice() == text),
-        Err(_) => Ok(false),
+    files.set("out", TEXT).is_ok() && is_kept_in(alloc, &mut files, text)
+}
+
+/// Whether a text of three pieces is: 65,536 bytes are asked for at once.
+fn pieces_are_kept(alloc: Global) -> bool {
+    match vec![in alloc; 7u8; 2 * 65_536 + 1] {
+        Ok(text) => is_kept(alloc, &text),
+        Err(_) => false,
     }
 }
 
 #[test]
-fn a_name_of_many_pieces_is_read_and_written_whole(rt: HostRuntime) -> Result<(), Fail> {
-    // 65,536 bytes are asked for at once.
-    let text = vec![in rt.alloc(); 7u8; 2 * 65_536 + 1]?;
-    assert!(rt; is_kept(rt.alloc(), &text)?);
-    Ok(())
+fn a_name_of_many_pieces_is_read_and_written_whole(rt: HostRuntime) {
+    assert!(rt; pieces_are_kept(rt.alloc()));
 }
 
 /// Where writing is cut, what it comes to, and what is left.
 type Cut = (Option<u64>, Result<(), WriteFault>, &'static [u8]);
 
 /// Of a name that had other bytes.
-const CUT_NAMES: [Cut; 4] = [
+const CUT_NAMES: &[Cut] = &[
     (None, Ok(()), b"abcde"),
     (Some(0), Err(WriteFault), b""),
     (Some(3), Err(WriteFault), b"abc"),
@@ -106,7 +144,7 @@ const CUT_NAMES: [Cut; 4] = [
 ];
 
 /// Of a sink that has taken one byte.
-const CUT_SINKS: [Cut; 4] = [
+const CUT_SINKS: &[Cut] = &[
     (None, Ok(()), b"-abcde"),
     (Some(0), Err(WriteFault), b"-"),
     (Some(3), Err(WriteFault), b"-ab"),
@@ -128,31 +166,32 @@ fn give_two(files: &mut MemFiles, cut: Option<u64>) -> Result<(), NoMemory>
     Ok(())
 }
 
-/// Whether writing to a name, which is cut after so many bytes if at all, has the wanted answer and leaves these bytes
-/// there, and another name keeps its own.
-fn is_written(
-    alloc: Global,
-    cut: Option<u64>,
-    wanted: Result<(), WriteFault>,
-    left: &[u8],
-) -> Result<bool, NoMemory> {
-    let mut files = MemFiles::new(alloc);
-    give_two(&mut files, cut)?;
-    let written = write_whole(&mut files, "out", TEXT);
+/// Whether writing to a name of these files comes to this, and another name keeps its own.
+fn is_written_in(files: &mut MemFiles, wanted: Result<(), WriteFault>, left: &[u8]) -> bool
+    requires { files.old.mode ≡ Closed }
+{
+    let written = write_whole(files, "out", TEXT);
     let other = files.bytes("other") == Some(b"kept".as_slice());
-    Ok(written == wanted && files.bytes("out") == Some(left) && other && files.starved() == 0)
+    written == wanted && files.bytes("out") == Some(left) && other && files.starved() == 0
+}
+
+/// Whether writing to a name, which may be cut, comes to this, and another name keeps its own.
+fn is_written(alloc: Global, row: &Cut) -> bool {
+    let (cut, wanted, left) = *row;
+    let mut files = MemFiles::new(alloc);
+    give_two(&mut files, cut).is_ok() && is_written_in(&mut files, wanted, left)
 }
 
 #[test]
-fn a_name_is_written_up_to_its_cut(rt: HostRuntime) -> Result<(), Fail> {
-    for (cut, wanted, left) in CUT_NAMES {
-        assert!(rt; is_written(rt.alloc(), cut, wanted, left)?, "cut {cut:?}");
+fn a_name_is_written_up_to_its_cut(rt: HostRuntime) {
+    for row in CUT_NAMES {
+        assert!(rt; is_written(rt.alloc(), row));
     }
-    Ok(())
 }
 
 /// Whether a sink that may be cut comes to this behind a first byte, and has then taken these bytes.
-fn is_taken(alloc: Global, cut: Option<u64>, wanted: Result<(), WriteFault>, taken: &[u8]) -> bool {
+fn is_taken(alloc: Global, row: &Cut) -> bool {
+    let (cut, wanted, taken) = *row;
     let mut sink = MemSink::new(alloc);
     let first = put_all(&mut sink, b"-");
     if let Some(after) = cut {
@@ -165,7 +204,7 @@ fn is_taken(alloc: Global, cut: Option<u64>, wanted: Result<(), WriteFault>, tak
 
 #[test]
 fn a_sink_takes_bytes_up_to_its_cut(rt: HostRuntime) {
-    for (cut, wanted, taken) in CUT_SINKS {
-        assert!(rt; is_taken(rt.alloc(), cut, wanted, taken), "cut {cut:?}");
+    for row in CUT_SINKS {
+        assert!(rt; is_taken(rt.alloc(), row));
     }
 }
