@@ -12,7 +12,6 @@ use cq_list::InputList;
 use cq_prefs::Offers;
 use cq_trial_kit::{LOG, TRACE, list_of, waiting};
 use std::alloc::Global;
-use std::test::Fail;
 
 // Whether a log is read as these transfers.
 fn is_read_as(alloc: Global, log: &[u8], told: &[Transfer]) -> bool {
@@ -42,7 +41,8 @@ const LOGS: &[(&[u8], Option<u64>)] = &[
 ];
 
 // Whether a log is refused at this line, or read where none is wrong.
-fn is_refused_at(alloc: Global, log: &[u8], line: Option<u64>) -> bool {
+fn is_refused_at(alloc: Global, row: &(&[u8], Option<u64>)) -> bool {
+    let (log, line) = *row;
     match read_log(alloc, log, 2) {
         Ok(_) => line.is_none(),
         Err(LineRefusal::Line { line: at }) => line == Some(at),
@@ -52,8 +52,8 @@ fn is_refused_at(alloc: Global, log: &[u8], line: Option<u64>) -> bool {
 
 #[test]
 fn a_log_is_refused_at_its_first_wrong_line(rt: HostRuntime) {
-    for (log, line) in LOGS {
-        assert!(rt; is_refused_at(rt.alloc(), log, *line), "{log:?}");
+    for row in LOGS {
+        assert!(rt; is_refused_at(rt.alloc(), row));
     }
 }
 
@@ -66,11 +66,14 @@ const TRACES: &[(&str, Option<u64>)] = &[
     ("0 0 0 0 0\n1 0 1 0 0\n2 0 0 1 0\n", Some(3)),
 ];
 
+fn differs_at(row: &(&str, Option<u64>)) -> bool {
+    audit_trace(row.0.as_bytes(), TRACE.as_bytes()) == row.1
+}
+
 #[test]
 fn a_trace_differs_in_its_first_line_that_is_other(rt: HostRuntime) {
-    for (trace, line) in TRACES {
-        let is_so = audit_trace(trace.as_bytes(), TRACE.as_bytes()) == *line;
-        assert!(rt; is_so, "{trace:?}");
+    for row in TRACES {
+        assert!(rt; differs_at(row));
     }
 }
 
@@ -136,19 +139,24 @@ fn are_told(lists: &[InputList], offers: &Offers) -> bool
 }
 
 // Whether it is, with the lists and the offers of that phase.
-fn phases_are_told(alloc: Global) -> Result<bool, NoMemory> {
-    let lists = [one_waits(alloc, 0)?, one_waits(alloc, 1)?];
-    let mut offers = Offers::new(alloc, 2)?;
+fn phases_are_told(alloc: Global) -> bool {
+    let Ok(zero) = one_waits(alloc, 0) else {
+        return false;
+    };
+    let Ok(one) = one_waits(alloc, 1) else {
+        return false;
+    };
+    let Ok(mut offers) = Offers::new(alloc, 2) else {
+        return false;
+    };
+    let lists = [zero, one];
     offers.fill(&lists);
-    Ok(are_told(&lists, &offers))
+    are_told(&lists, &offers)
 }
 
 #[test]
-fn a_phase_is_refused_at_its_first_wrong_line_or_first_unsettled_pair(
-    rt: HostRuntime,
-) -> Result<(), Fail> {
-    assert!(rt; phases_are_told(rt.alloc())?);
-    Ok(())
+fn a_phase_is_refused_at_its_first_wrong_line_or_first_unsettled_pair(rt: HostRuntime) {
+    assert!(rt; phases_are_told(rt.alloc()));
 }
 
 // Whether so many lines are of the phase, and so many stand behind them.

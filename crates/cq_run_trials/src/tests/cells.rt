@@ -1,95 +1,122 @@
 //! Captures, and the slots in which their cells arrive.
-ghost use Rattle.std.specs.Prelude.{◌≡◌, IfOk, IfSome};
-ghost use Rattle.cq_route.specs.Tables.{AreTables, ports_of};
+ghost use Rattle.std.specs.Prelude.{◌≡◌, ◌<◌};
+ghost use Rattle.cq_route.specs.Tables.{AreTables};
 
 use super::given::{Come, captures_of, one_port, three_ports};
 use cq_base::{Arrivals, Cell, NoMemory, Port, Slot};
 use cq_cells::{Coming, Schedule, cells_of};
+use cq_pcap::Capture;
 use cq_route::Tables;
 use std::alloc::Global;
-use std::test::Fail;
 use std::thread::Threads;
+
+// The length of a packet, the bytes of a cell, and how many cells it has.
+const LENGTHS: [(u32, u32, u32); 6] = [
+    (0, 64, 1),
+    (64, 64, 1),
+    (65, 64, 2),
+    (128, 64, 2),
+    (262_144, 64, 4096),
+    (60, 65_535, 1),
+];
+
+fn have_as_many() -> bool {
+    for (length, cell_bytes, cells) in LENGTHS {
+        if cells_of(length, cell_bytes) != cells {
+            return false;
+        }
+    }
+    true
+}
 
 #[test]
 fn a_packet_has_as_many_cells_as_it_needs(rt: HostRuntime) {
-    let cases = [
-        (0, 64, 1),
-        (64, 64, 1),
-        (65, 64, 2),
-        (128, 64, 2),
-        (262_144, 64, 4096),
-        (60, 65_535, 1),
-    ];
-    for (length, cell_bytes, cells) in cases {
-        assert!(rt;
-            cells_of(length, cell_bytes) == cells,
-            "{length} {cell_bytes}"
-        );
-    }
-}
-
-// The slots of what comes to so many ports, those of the tables, where all of it can be read.
-fn schedule_for<R: Threads + Sync>(
-    rt: &R,
-    alloc: Global,
-    tables: &Tables,
-    ports: u16,
-    inputs: &[&[Come]],
-) -> Result<Option<Schedule>, NoMemory>
-    requires tables { AreTables tables.now }
-    requires ports { ports_of tables.now.setup ≡ ports }
-    ensures { IfOk result (λ found. IfSome found (λ schedule. schedule.ports ≡ ports)) }
-{
-    let captures = captures_of(alloc, inputs)?;
-    if captures.len() != usize::from(ports) {
-        return Ok(None);
-    }
-    Ok(Some(Schedule::of(rt, alloc, &captures, tables)?))
-}
-
-// The slots of what comes to one port.
-fn at_one_port<R: Threads + Sync>(
-    rt: &R,
-    alloc: Global,
-    packets: &[Come],
-) -> Result<Option<Schedule>, NoMemory>
-    ensures { IfOk result (λ found. IfSome found (λ schedule. schedule.ports ≡ 1)) }
-{
-    let tables = one_port(alloc)?;
-    schedule_for(rt, alloc, &tables, 1, &[packets])
-}
-
-// The slots of what comes to three ports.
-fn at_three_ports<R: Threads + Sync>(
-    rt: &R,
-    alloc: Global,
-    inputs: &[&[Come]],
-) -> Result<Option<Schedule>, NoMemory>
-    ensures { IfOk result (λ found. IfSome found (λ schedule. schedule.ports ≡ 3)) }
-{
-    let tables = three_ports(alloc, None)?;
-    schedule_for(rt, alloc, &tables, 3, inputs)
+    assert!(rt; have_as_many());
 }
 
 // Of the cell that arrives in a slot its packet, its number, where its piece begins, how long it is, and whether it is
 // the last.
 type Piece = (u32, u32, u32, u32, bool);
 
-// Whether this arrives in a slot where these packets come to one port.
-fn arrives_at_one_port<R: Threads + Sync>(
+// Of a cell that arrives its packet and its output.
+type Arrived = Option<(u32, Port)>;
+
+// What a schedule is to show.
+#[derive(Drop)]
+enum Shown {
+    // In a slot this arrives at input zero.
+    Piece(Slot, Option<Piece>),
+    // In slot after slot what is to come in turn arrives at three inputs, and the counts are those of such cells.
+    Turns,
+    // Of many packets each is counted, and goes to its own output.
+    Many,
+}
+
+// Whether the schedule of what comes to the ports of the tables shows this.
+fn is_shown<R: Threads + Sync>(
     rt: &R,
     alloc: Global,
-    packets: &[Come],
-    slot: Slot,
-    piece: Option<Piece>,
-) -> Result<bool, NoMemory> {
-    match at_one_port(rt, alloc, packets)? {
-        Some(schedule) => {
-            let cell = schedule.cell_at(slot, 0);
-            Ok(cell.map(|c| (c.id.packet, c.id.index, c.at, c.len, c.last)) == piece)
-        }
-        None => Ok(false),
+    tables: &Tables,
+    inputs: &[&[Come]],
+    shown: Shown,
+) -> bool
+    requires { AreTables tables.now }
+{
+    match captures_of(alloc, inputs) {
+        Ok(captures) => is_seen(rt, alloc, tables, &captures, shown),
+        Err(_) => false,
     }
+}
+
+// Whether that of these captures does, of which there is one for each port.
+fn is_seen<R: Threads + Sync>(
+    rt: &R,
+    alloc: Global,
+    tables: &Tables,
+    captures: &[Capture],
+    shown: Shown,
+) -> bool
+    requires { AreTables tables.now }
+{
+    let ports = tables.setup.kinds.as_slice().len();
+    if captures.len() != ports {
+        return false;
+    }
+    match Schedule::of(rt, alloc, captures, tables) {
+        Ok(schedule) => shows(&schedule, ports, shown),
+        Err(_) => false,
+    }
+}
+
+fn shows(schedule: &Schedule, ports: usize, shown: Shown) -> bool
+    requires { schedule.now.ports ≡ ports }
+{
+    match shown {
+        Shown::Piece(slot, piece) => 0 < ports && arrives(schedule, slot, piece),
+        Shown::Turns => ports == 3 && arrive_in_turn(schedule) && has_counts(schedule),
+        Shown::Many => ports == 3 && has_many(schedule) && has_routes(schedule),
+    }
+}
+
+// Whether what comes to three ports shows this.
+fn is_shown_at_three<R: Threads + Sync>(
+    rt: &R,
+    alloc: Global,
+    inputs: &[&[Come]],
+    shown: Shown,
+) -> bool {
+    match three_ports(alloc, None) {
+        Ok(tables) => is_shown(rt, alloc, &tables, inputs, shown),
+        Err(_) => false,
+    }
+}
+
+// Whether this arrives in a slot at input zero.
+fn arrives(schedule: &Schedule, slot: Slot, piece: Option<Piece>) -> bool
+    requires { 0 < schedule.now.ports }
+{
+    let cell = schedule.cell_at(slot, 0);
+    cell.map(|c| (c.id.packet, c.id.index, c.at, c.len, c.last)) == piece
 }
 
 const TOGETHER: &[Come] = &[(0, 64, 0), (0, 65, 0), (0, 128, 0)];
@@ -98,8 +125,10 @@ const TURNED: &[Come] = &[(2048, 60, 0), (0, 60, 0)];
 
 const CROWDED: &[Come] = &[(0, 200, 0), (512, 60, 0)];
 
-// Packets, a slot, and what arrives in it.
-const PIECES: &[(&[Come], Slot, Option<Piece>)] = &[
+// Packets that come to one port, a slot, and what arrives in it.
+type Row = (&'static [Come], Slot, Option<Piece>);
+
+const PIECES: &[Row] = &[
     (TOGETHER, 0, Some((0, 0, 0, 64, true))),
     (TOGETHER, 1, Some((1, 0, 0, 64, false))),
     (TOGETHER, 2, Some((1, 1, 64, 1, true))),
@@ -116,39 +145,49 @@ const PIECES: &[(&[Come], Slot, Option<Piece>)] = &[
     (&[], 0, None),
 ];
 
-#[test]
-fn cells_arrive_one_a_slot_from_the_slot_of_their_stamp_on(rt: HostRuntime) -> Result<(), Fail> {
-    for (packets, slot, piece) in PIECES {
-        assert!(rt;
-            arrives_at_one_port(&rt, rt.alloc(), packets, *slot, *piece)?,
-            "{packets:?} {slot}"
-        );
+fn has_piece<R: Threads + Sync>(rt: &R, alloc: Global, row: &Row) -> bool {
+    let (packets, slot, piece) = *row;
+    match one_port(alloc) {
+        Ok(tables) => is_shown(rt, alloc, &tables, &[packets], Shown::Piece(slot, piece)),
+        Err(_) => false,
     }
-    Ok(())
 }
 
-// Of a cell that arrives its packet and its output.
-type Arrived = Option<(u32, Port)>;
+#[test]
+fn cells_arrive_one_a_slot_from_the_slot_of_their_stamp_on(rt: HostRuntime) {
+    for row in PIECES {
+        assert!(rt; has_piece(&rt, rt.alloc(), row));
+    }
+}
 
 fn arrived(cell: Option<Cell>) -> Arrived {
     cell.map(|cell| (cell.id.packet, cell.output))
 }
 
 // Whether these arrive at the three inputs.
-fn arrive(arrivals: &Arrivals, told: [Arrived; 3]) -> bool {
-    [
-        arrived(arrivals.at(0)),
-        arrived(arrivals.at(1)),
-        arrived(arrivals.at(2)),
-    ] == told
+fn arrive(arrivals: &Arrivals, first: Arrived, second: Arrived, third: Arrived) -> bool {
+    arrived(arrivals.at(0)) == first
+        && arrived(arrivals.at(1)) == second
+        && arrived(arrivals.at(2)) == third
 }
 
-// Whether these arrive in slot after slot, where a slot is looked up and where it is filled in place.
-fn arrive_in_turn(schedule: &Schedule, slots: &[(Slot, [Arrived; 3])]) -> bool {
+// What arrives at three ports in slot after slot, and in the first again.
+const TURNS: &[(Slot, Arrived, Arrived, Arrived)] = &[
+    (0, Some((0, 0)), Some((0, 0)), Some((0, 0))),
+    (1, None, None, Some((1, 1))),
+    (2, None, None, None),
+    (0, Some((0, 0)), Some((0, 0)), Some((0, 0))),
+];
+
+// Whether these arrive in turn, where a slot is looked up and where it is filled in place.
+fn arrive_in_turn(schedule: &Schedule) -> bool {
     let mut coming = Coming::none();
-    for (slot, told) in slots {
+    for (slot, first, second, third) in TURNS {
         schedule.arrive(*slot, &mut coming);
-        if !arrive(&schedule.arrivals_at(*slot), *told) || !arrive(coming.arrivals(), *told) {
+        let looked_up = schedule.arrivals_at(*slot);
+        if !arrive(&looked_up, *first, *second, *third)
+            || !arrive(coming.arrivals(), *first, *second, *third)
+        {
             return false;
         }
     }
@@ -175,24 +214,9 @@ const INPUTS: &[&[Come]] = &[
     &[(1024, 60, 0), (1536, 60, 1)],
 ];
 
-// Whether it arrives in slot after slot, and the first again, and as many cells in all.
-fn arrive_at_three_ports<R: Threads + Sync>(rt: &R, alloc: Global) -> Result<bool, NoMemory> {
-    let slots = [
-        (0, [Some((0, 0)), Some((0, 0)), Some((0, 0))]),
-        (1, [None, None, Some((1, 1))]),
-        (2, [None, None, None]),
-        (0, [Some((0, 0)), Some((0, 0)), Some((0, 0))]),
-    ];
-    match at_three_ports(rt, alloc, INPUTS)? {
-        Some(schedule) => Ok(arrive_in_turn(&schedule, &slots) && has_counts(&schedule)),
-        None => Ok(false),
-    }
-}
-
 #[test]
-fn each_input_has_its_own_packets(rt: HostRuntime) -> Result<(), Fail> {
-    assert!(rt; arrive_at_three_ports(&rt, rt.alloc())?);
-    Ok(())
+fn each_input_has_its_own_packets(rt: HostRuntime) {
+    assert!(rt; is_shown_at_three(&rt, rt.alloc(), INPUTS, Shown::Turns));
 }
 
 // Packets of one stamp, every third of which goes to output one.
@@ -228,18 +252,15 @@ fn has_routes(schedule: &Schedule) -> bool
 }
 
 // Whether each of many packets goes to its own output.
-fn many_are_routed<R: Threads + Sync>(rt: &R, alloc: Global) -> Result<bool, NoMemory> {
-    let packets = many_packets(alloc)?;
-    let inputs = [packets.as_slice(), &[], &[]];
-    match at_three_ports(rt, alloc, &inputs)? {
-        Some(schedule) => Ok(has_many(&schedule) && has_routes(&schedule)),
-        None => Ok(false),
+fn many_are_routed<R: Threads + Sync>(rt: &R, alloc: Global) -> bool {
+    match many_packets(alloc) {
+        Ok(packets) => is_shown_at_three(rt, alloc, &[&packets, &[], &[]], Shown::Many),
+        Err(_) => false,
     }
 }
 
 // A capture this long is split among threads.
 #[test]
-fn each_of_many_packets_has_its_own_route(rt: HostRuntime) -> Result<(), Fail> {
-    assert!(rt; many_are_routed(&rt, rt.alloc())?);
-    Ok(())
+fn each_of_many_packets_has_its_own_route(rt: HostRuntime) {
+    assert!(rt; many_are_routed(&rt, rt.alloc()));
 }

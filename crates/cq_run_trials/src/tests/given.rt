@@ -36,10 +36,14 @@ fn capture_of(alloc: Global, packets: &[Come]) -> Result<Capture, PcapRefusal> {
 }
 
 fn put_packet(bytes: &mut Vec<u8>, stamp: u32, length: u8, to: u8) -> Result<(), NoMemory> {
-    bytes.extend_from_slice(&[0; 4])?;
-    bytes.extend_from_slice(&stamp.to_le_bytes())?;
-    bytes.extend_from_slice(&u32::from(length).to_le_bytes())?;
-    bytes.extend_from_slice(&(u32::from(length) + 4).to_le_bytes())?;
+    let captured = u32::from(length);
+    let header = [
+        [0; 4],
+        stamp.to_le_bytes(),
+        captured.to_le_bytes(),
+        (captured + 4).to_le_bytes(),
+    ];
+    bytes.extend_from_slice(header.as_flattened())?;
     for place in 0..length {
         bytes.push(match place {
             0 => 0x02,
@@ -91,15 +95,11 @@ pub fn three_ports(alloc: Global, limit: Option<u64>) -> Result<Tables, NoMemory
         mac: [0x02, 0, 0, 0, 0, 1],
         output: 1,
     };
-    let kinds = Vec::from_array(alloc, [Kind::FirstCome; 3])?;
-    let files = three_files(alloc)?;
-    let limits = Vec::from_array(alloc, [limit, None, None])?;
-    let addresses = Vec::from_array(alloc, [one])?;
     let mut tables = Tables::plain(alloc, "in", "out")?;
-    tables.setup.kinds = Sequence::of(kinds);
-    tables.ports = Sequence::of(files);
-    tables.limits = Sequence::of(limits);
-    tables.addresses = Sequence::of(addresses);
+    tables.setup.kinds = Sequence::of(Vec::from_array(alloc, [Kind::FirstCome; 3])?);
+    tables.ports = Sequence::of(three_files(alloc)?);
+    tables.limits = Sequence::of(Vec::from_array(alloc, [limit, None, None])?);
+    tables.addresses = Sequence::of(Vec::from_array(alloc, [one])?);
     tables.workers = 2;
     Ok(tables)
 }

@@ -1,5 +1,6 @@
 //! Small captures through switches of one and three ports.
-ghost use Rattle.std.specs.Prelude.{◌≡◌, ◌<◌, IfOk, length};
+ghost use Rattle.std.specs.Prelude.{◌≡◌, ◌≤◌, IfOk, length};
+ghost use Rattle.cq_base.specs.Limits.{longest_file};
 ghost use Rattle.cq_route.specs.Tables.{AreTables, ports_of};
 ghost use Rattle.cq_cells.specs.Scheduled.{schedule_of};
 ghost use Rattle.cq_simulate.specs.ScheduleFor.{IsScheduleFor};
@@ -11,11 +12,10 @@ use cq_crew::OpenGate;
 use cq_pcap::{Capture, OutPacket, PacketRow, read_capture};
 use cq_route::Tables;
 use cq_simulate::{
-    Refused, RunRefusal, packets_of, packets_of_all, run_fabric, run_ideal, run_ideal_packed,
-    runs_leave_whole_packets,
+    FabricRun, IdealRun, Packing, Refused, RunRefusal, packets_of, packets_of_all, run_fabric,
+    run_ideal, run_ideal_packed, runs_leave_whole_packets,
 };
 use std::alloc::Global;
-use std::test::Fail;
 use std::thread::Threads;
 
 /// Of a departure the slot, the output, and the cell by input, packet and number.
@@ -60,11 +60,9 @@ fn dear_port(alloc: Global) -> Result<Tables, NoMemory>
         priority: 0,
         cost: u128::MAX,
     };
-    let kinds = Vec::from_array(alloc, [Kind::Fair])?;
-    let classes = Vec::from_array(alloc, [class])?;
     let mut tables = Tables::plain(alloc, "in", "out")?;
-    tables.setup.kinds = Sequence::of(kinds);
-    tables.setup.classes = Sequence::of(classes);
+    tables.setup.kinds = Sequence::of(Vec::from_array(alloc, [Kind::Fair])?);
+    tables.setup.classes = Sequence::of(Vec::from_array(alloc, [class])?);
     Ok(tables)
 }
 
@@ -84,52 +82,51 @@ enum Shown<'a> {
     Packets(Port, &'a [Left]),
 }
 
-// Whether a switch shows this, where these packets come to its inputs.
-fn is_shown<R: Threads + Sync>(
-    rt: &R,
-    alloc: Global,
-    switch: Switch,
-    inputs: &[&[Come]],
-    shown: Shown,
-) -> Result<bool, NoMemory> {
-    let tables = switch.tables(alloc)?;
-    is_shown_by(rt, alloc, &tables, inputs, shown)
+// A run: the switch, the packets that come to its inputs, and what it is to show.
+type Run = (Switch, &'static [&'static [Come]], Shown<'static>);
+
+// Whether a run shows what it is to.
+fn is_shown<R: Threads + Sync>(rt: &R, alloc: Global, run: &Run) -> bool {
+    let (switch, inputs, shown) = *run;
+    match switch.tables(alloc) {
+        Ok(tables) => is_shown_by(rt, alloc, &tables, inputs, shown),
+        Err(_) => false,
+    }
 }
 
-// Whether the switch of these tables does.
+// Whether the switch of these tables shows this.
 fn is_shown_by<R: Threads + Sync>(
     rt: &R,
     alloc: Global,
     tables: &Tables,
     inputs: &[&[Come]],
     shown: Shown,
-) -> Result<bool, NoMemory>
+) -> bool
     requires { AreTables tables.now }
 {
-    let captures = captures_of(alloc, inputs)?;
-    if captures.len() != tables.setup.kinds.as_slice().len() {
-        return Ok(false);
-    }
-    match is_seen(rt, alloc, tables, &captures, shown) {
-        Ok(seen) => Ok(seen),
-        Err(RunRefusal::NoMemory) => Err(NoMemory),
-        Err(RunRefusal::Tag(_)) => Ok(false),
+    match captures_of(alloc, inputs) {
+        Ok(captures) => is_seen(rt, alloc, tables, &captures, shown),
+        Err(_) => false,
     }
 }
 
-// Whether it is seen in these captures.
+// Whether it is seen in these captures, of which there is one for each of its ports.
 fn is_seen<R: Threads + Sync>(
     rt: &R,
     alloc: Global,
     tables: &Tables,
     captures: &[Capture],
     shown: Shown,
-) -> Result<bool, RunRefusal>
-    requires tables { AreTables tables.now }
-    requires captures { length captures.now ≡ ports_of tables.now.setup }
+) -> bool
+    requires { AreTables tables.now }
 {
-    let schedule = Schedule::of(rt, alloc, captures, tables)?;
-    is_seen_over(rt, alloc, tables, captures, &schedule, shown)
+    if captures.len() != tables.setup.kinds.as_slice().len() {
+        return false;
+    }
+    match Schedule::of(rt, alloc, captures, tables) {
+        Ok(schedule) => is_seen_over(rt, alloc, tables, captures, &schedule, shown),
+        Err(_) => false,
+    }
 }
 
 // Whether it is seen in them over these slots, which are theirs.
@@ -140,39 +137,44 @@ fn is_seen_over<R: Threads + Sync>(
     captures: &[Capture],
     schedule: &Schedule,
     shown: Shown,
-) -> Result<bool, RunRefusal>
+) -> bool
     requires captures { length captures.now ≡ ports_of tables.now.setup }
     requires came { schedule.now ≡ schedule_of tables.now captures.now }
     requires schedule { IsScheduleFor tables.now schedule.now }
 {
     if let Shown::Packets(output, left) = shown {
-        let apart = leave_alone(alloc, tables, captures, schedule, output, left)?;
-        return Ok(apart && leave_in_one_pass(alloc, tables, captures, schedule, output, left)?);
+        leave_alone(alloc, tables, captures, schedule, output, left)
+            && leave_in_one_pass(alloc, tables, captures, schedule, output, left)
+    } else {
+        is_seen_ideally(alloc, tables, schedule, shown)
+            && is_kept(rt, alloc, tables, schedule, shown)
     }
-    Ok(
-        is_seen_ideally(alloc, tables, schedule, shown)?
-            && is_kept(rt, alloc, tables, schedule, shown)?,
-    )
+}
+
+// Whether a run that has no result shows it.
+fn is_stopped(refusal: RunRefusal, shown: Shown) -> bool {
+    match shown {
+        Shown::Fault(fault) => refusal == RunRefusal::Tag(fault),
+        _ => false,
+    }
 }
 
 // Whether the run of the ideal switch shows it, where that is to show something.
-fn is_seen_ideally(
-    alloc: Global,
-    tables: &Tables,
-    schedule: &Schedule,
-    shown: Shown,
-) -> Result<bool, RunRefusal>
+fn is_seen_ideally(alloc: Global, tables: &Tables, schedule: &Schedule, shown: Shown) -> bool
     requires { IsScheduleFor tables.now schedule.now }
 {
-    if let Shown::Fault(fault) = shown {
-        let run = run_ideal(alloc, tables, schedule);
-        return Ok(run.err() == Some(RunRefusal::Tag(fault)));
+    match run_ideal(alloc, tables, schedule) {
+        Ok(run) => shows_ideally(&run, shown),
+        Err(refusal) => is_stopped(refusal, shown),
     }
-    let run = run_ideal(alloc, tables, schedule)?;
-    Ok(match shown {
+}
+
+fn shows_ideally(run: &IdealRun, shown: Shown) -> bool {
+    match shown {
         Shown::Trace(slots, sent) => run.slots == slots && are(run.sent.items(), sent),
+        Shown::Fault(_) => false,
         _ => true,
-    })
+    }
 }
 
 // Whether the run of the fabric shows it.
@@ -182,22 +184,24 @@ fn is_kept<R: Threads + Sync>(
     tables: &Tables,
     schedule: &Schedule,
     shown: Shown,
-) -> Result<bool, RunRefusal>
+) -> bool
     requires { IsScheduleFor tables.now schedule.now }
 {
-    if let Shown::Fault(fault) = shown {
-        let run = run_fabric(rt, alloc, tables, schedule, &OpenGate);
-        return Ok(run.err() == Some(RunRefusal::Tag(fault)));
+    match run_fabric(rt, alloc, tables, schedule, &OpenGate) {
+        Ok(run) => keeps(&run, shown),
+        Err(refusal) => is_stopped(refusal, shown),
     }
-    let run = run_fabric(rt, alloc, tables, schedule, &OpenGate)?;
-    Ok(match shown {
+}
+
+fn keeps(run: &FabricRun, shown: Shown) -> bool {
+    match shown {
         Shown::Trace(slots, sent) => run.figures.slots == slots && are(run.sent.items(), sent),
         Shown::Log(proposals, log) => {
             run.figures.proposals == proposals && are(run.note.items(), log)
         }
         Shown::Refused(refused) => run.refused.as_slice() == refused,
         _ => false,
-    })
+    }
 }
 
 // Whether these packets leave the output, where they are put together for it alone.
@@ -208,16 +212,20 @@ fn leave_alone(
     schedule: &Schedule,
     output: Port,
     left: &[Left],
-) -> Result<bool, RunRefusal>
+) -> bool
     requires captures { length captures.now ≡ ports_of tables.now.setup }
     requires came { schedule.now ≡ schedule_of tables.now captures.now }
     requires schedule { IsScheduleFor tables.now schedule.now }
 {
-    let run = run_ideal(alloc, tables, schedule)?;
+    let Ok(run) = run_ideal(alloc, tables, schedule) else {
+        return false;
+    };
     let t0 = schedule.t0();
     runs_leave_whole_packets();
-    let packets = packets_of(alloc, output, run.sent.items(), captures, tables, t0)?;
-    Ok(are(&packets, left))
+    match packets_of(alloc, output, run.sent.items(), captures, tables, t0) {
+        Ok(packets) => are(&packets, left),
+        Err(_) => false,
+    }
 }
 
 // Whether these packets leave the output, where those of all outputs are put together in one pass.
@@ -228,18 +236,27 @@ fn leave_in_one_pass(
     schedule: &Schedule,
     output: Port,
     left: &[Left],
-) -> Result<bool, RunRefusal>
+) -> bool
     requires captures { length captures.now ≡ ports_of tables.now.setup }
     requires came { schedule.now ≡ schedule_of tables.now captures.now }
     requires schedule { IsScheduleFor tables.now schedule.now }
 {
-    let sent = run_ideal_packed(alloc, tables, schedule)?;
+    let Ok(sent) = run_ideal_packed(alloc, tables, schedule) else {
+        return false;
+    };
     let t0 = schedule.t0();
     runs_leave_whole_packets();
-    let places = packets_of_all(alloc, sent, captures, tables, t0)?;
+    match packets_of_all(alloc, sent, captures, tables, t0) {
+        Ok(places) => are_packed(alloc, &places, output, left),
+        Err(_) => false,
+    }
+}
+
+// Whether they stand at the place of the output.
+fn are_packed(alloc: Global, places: &[Packing], output: Port, left: &[Left]) -> bool {
     match places.get(output as usize) {
-        Some(place) => Ok(hold(alloc, &place.bytes, left)?),
-        None => Ok(false),
+        Some(place) => hold(alloc, &place.bytes, left),
+        None => false,
     }
 }
 
@@ -293,23 +310,24 @@ fn are<T: IsTold<U>, U>(found: &[T], told: &[U]) -> bool {
 }
 
 // Whether the bytes are a capture of such packets.
-fn hold(alloc: Global, bytes: &[u8], left: &[Left]) -> Result<bool, NoMemory> {
+fn hold(alloc: Global, bytes: &[u8], left: &[Left]) -> bool {
     if bytes.len() > 1 << 28 {
-        return Ok(false);
+        return false;
     }
-    match read_capture(alloc, bytes.to_vec(alloc)?) {
-        Ok(capture) => Ok(are(capture.rows(), left)),
-        Err(_) => Ok(false),
+    match bytes.to_vec(alloc) {
+        Ok(bytes) => is_capture_of(alloc, bytes, left),
+        Err(_) => false,
     }
 }
 
-// A run: how it is called, the switch, the packets that come to its inputs, and what it is to show.
-type Run = (
-    &'static str,
-    Switch,
-    &'static [&'static [Come]],
-    Shown<'static>,
-);
+fn is_capture_of(alloc: Global, bytes: Vec<u8>, left: &[Left]) -> bool
+    requires { length bytes.items ≤ longest_file }
+{
+    match read_capture(alloc, bytes) {
+        Ok(capture) => are(capture.rows(), left),
+        Err(_) => false,
+    }
+}
 
 const TOGETHER: &[Come] = &[(0, 64, 0), (0, 65, 0), (0, 128, 0)];
 
@@ -321,20 +339,16 @@ const WAITING: &[&[Come]] = &[&[(0, 60, 0)], &[(0, 60, 0)], &[(0, 60, 0), (512, 
 const CROWDING: &[&[Come]] = &[&[(0, 60, 0)], &[(0, 128, 0), (2560, 60, 0)], &[]];
 
 const RUNS: &[Run] = &[
+    // Packets pass one line as they came.
     (
-        "packets pass one line as they came",
         Switch::OnePort,
         &[TOGETHER],
         Shown::Packets(0, &[(0, 68, 64), (1024, 69, 65), (2048, 132, 128)]),
     ),
+    // No packet comes.
+    (Switch::OnePort, &[&[]], Shown::Trace(0, &[])),
+    // Cells wait for their output after the last has arrived.
     (
-        "no packet comes",
-        Switch::OnePort,
-        &[&[]],
-        Shown::Trace(0, &[]),
-    ),
-    (
-        "cells wait for their output after the last has arrived",
         Switch::ThreePorts,
         WAITING,
         Shown::Trace(
@@ -347,8 +361,8 @@ const RUNS: &[Run] = &[
             ],
         ),
     ),
+    // Of those cells one crosses to an output in a phase.
     (
-        "of those cells one crosses to an output in a phase",
         Switch::ThreePorts,
         WAITING,
         Shown::Log(
@@ -361,32 +375,28 @@ const RUNS: &[Run] = &[
             ],
         ),
     ),
+    // Of those packets three leave output 0.
     (
-        "of those packets three leave output 0",
         Switch::ThreePorts,
         WAITING,
         Shown::Packets(0, &[(0, 64, 60), (512, 64, 60), (1024, 64, 60)]),
     ),
+    // Of those packets one leaves output 1.
     (
-        "of those packets one leaves output 1",
         Switch::ThreePorts,
         WAITING,
         Shown::Packets(1, &[(512, 64, 60)]),
     ),
+    // Of those packets none leaves output 2.
+    (Switch::ThreePorts, WAITING, Shown::Packets(2, &[])),
+    // Packets leave by their last cells.
     (
-        "of those packets none leaves output 2",
-        Switch::ThreePorts,
-        WAITING,
-        Shown::Packets(2, &[]),
-    ),
-    (
-        "packets leave by their last cells",
         Switch::ThreePorts,
         &[&[(1000, 200, 0)], &[(1000, 60, 0)], &[]],
         Shown::Packets(0, &[(1512, 64, 60), (3048, 204, 200)]),
     ),
+    // A rank that does not fit stops the run.
     (
-        "a rank that does not fit stops the run",
         Switch::DearPort,
         &[&[(0, 60, 0), (512, 60, 0)]],
         Shown::Fault(TagFault {
@@ -395,26 +405,26 @@ const RUNS: &[Run] = &[
             output: 0,
         }),
     ),
+    // A rank fits again after a slot in which nothing is sent.
     (
-        "a rank fits again after a slot in which nothing is sent",
         Switch::DearPort,
         &[&[(0, 60, 0), (1024, 60, 0)]],
         Shown::Trace(3, &[(0, 0, 0, 0, 0), (2, 0, 0, 1, 0)]),
     ),
+    // A packet that finds its output full does not leave.
     (
-        "a packet that finds its output full does not leave",
         Switch::ThreeLimitedPorts,
         CROWDING,
         Shown::Trace(6, &[(0, 0, 0, 0, 0), (5, 0, 1, 1, 0)]),
     ),
+    // A packet that finds its output full is not written.
     (
-        "a packet that finds its output full is not written",
         Switch::ThreeLimitedPorts,
         CROWDING,
         Shown::Packets(0, &[(0, 64, 60), (2560, 64, 60)]),
     ),
+    // A packet that finds its output full is refused whole.
     (
-        "a packet that finds its output full is refused whole",
         Switch::ThreeLimitedPorts,
         CROWDING,
         Shown::Refused(&[Refused {
@@ -424,8 +434,8 @@ const RUNS: &[Run] = &[
             cells: 2,
         }]),
     ),
+    // The slots end with the last departure where the rest is refused.
     (
-        "the slots end with the last departure where the rest is refused",
         Switch::ThreeLimitedPorts,
         &[&[(0, 60, 0)], &[(0, 200, 0)], &[]],
         Shown::Trace(1, &[(0, 0, 0, 0, 0)]),
@@ -433,12 +443,8 @@ const RUNS: &[Run] = &[
 ];
 
 #[test]
-fn each_run_shows_what_it_is_to(rt: HostRuntime) -> Result<(), Fail> {
-    for (name, switch, inputs, shown) in RUNS {
-        assert!(rt;
-            is_shown(&rt, rt.alloc(), *switch, inputs, *shown)?,
-            "{name}"
-        );
+fn each_run_shows_what_it_is_to(rt: HostRuntime) {
+    for run in RUNS {
+        assert!(rt; is_shown(&rt, rt.alloc(), run));
     }
-    Ok(())
 }

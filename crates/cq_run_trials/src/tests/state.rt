@@ -4,27 +4,48 @@ use cq_state::{State, read_text, text_of};
 use cq_trial_kit::STATE;
 use std::alloc::Global;
 
+// A text, how many bytes are missing at its end, and its first wrong line.
+type Row = (&'static str, usize, Option<u64>);
+
+const TEXTS: &[Row] = &[
+    (STATE, 0, None),
+    (STATE, 4, Some(13)),
+    (STATE, 1, Some(13)),
+    ("", 0, Some(1)),
+    ("cq-state 2\n", 0, Some(1)),
+    ("cq-state 1\nnext 01\n", 0, Some(2)),
+    ("cq-state 1\nnext 9223372036854775808\n", 0, Some(2)),
+    ("cq-state 1\nnext 9223372036854775807\n", 0, Some(3)),
+    (
+        "cq-state 1\nnext 1\nshape 1 1 0 0\nsum 0 0\ninput 0 0 -\ninput 1 0 -\n",
+        0,
+        Some(6),
+    ),
+];
+
+// Whether a text is refused at this line, or read where none is wrong.
+fn is_refused_at(alloc: Global, text: &[u8], line: Option<u64>) -> bool {
+    match read_text(alloc, text) {
+        Ok(_) => line.is_none(),
+        Err(LineRefusal::Line { line: at }) => line == Some(at),
+        Err(LineRefusal::NoMemory) => false,
+    }
+}
+
+// Whether it is, where so many bytes are missing at its end.
+fn is_refused_without(alloc: Global, row: &Row) -> bool {
+    let (text, missing, line) = *row;
+    let text = text.as_bytes();
+    match text.get(..text.len().saturating_sub(missing)) {
+        Some(text) => is_refused_at(alloc, text, line),
+        None => false,
+    }
+}
+
 #[test]
 fn wrong_texts_are_refused_at_their_first_wrong_line(rt: HostRuntime) {
-    let alloc = rt.alloc();
-    let whole = STATE.as_bytes();
-    let cases: [(&[u8], Option<u64>); 9] = [
-        (whole, None),
-        (&whole[..whole.len().saturating_sub(4)], Some(13)),
-        (&whole[..whole.len().saturating_sub(1)], Some(13)),
-        (b"", Some(1)),
-        (b"cq-state 2\n", Some(1)),
-        (b"cq-state 1\nnext 01\n", Some(2)),
-        (b"cq-state 1\nnext 9223372036854775808\n", Some(2)),
-        (b"cq-state 1\nnext 9223372036854775807\n", Some(3)),
-        (
-            b"cq-state 1\nnext 1\nshape 1 1 0 0\nsum 0 0\ninput 0 0 -\ninput 1 0 -\n",
-            Some(6),
-        ),
-    ];
-    for (text, line) in cases {
-        let refusal = line.map(|line| LineRefusal::Line { line });
-        assert!(rt; read_text(alloc, text).err() == refusal, "{text:?}");
+    for row in TEXTS {
+        assert!(rt; is_refused_without(rt.alloc(), row));
     }
 }
 
