@@ -79,7 +79,7 @@ pub use Rattle.cq_audit.specs.{Audit.IsYes, Audit.opening_fabric, Audit.IsNo, Tr
 pub use Rattle.cq_state.specs.{Refusals.IsTooLong, State.state_text, declared.write.StateLong.StateLong}
 pub use Rattle.cq_laws.specs.{Records.transfers_of_run, declared.frozen.Frozen.Frozen}
 pub use Rattle.cq_laws.proofs.WholeRuns.{empty_list}
-pub use Rattle.cq_resume.specs.{Parts.IsParted, Reading.IsRead, Reading.IsRefusal, Reading.state_of, Resumed.IsResumed, Resumed.Kept, Switch.Switch, Switch.switch_of, declared.refusal.StateRefusal.StateRefusal}
+pub use Rattle.cq_resume.specs.{Reading.IsRead, Reading.IsRefusal, Reading.state_of, Resumed.IsResumed, Resumed.Kept, Switch.Switch, Switch.switch_of, declared.refusal.StateRefusal.StateRefusal}
 pub use Rattle.cq_simulate.proofs.{Chosen.parted_best, Chosen.parted_slack, Chosen.resumed_best, Chosen.resumed_slack, Departed.left_in_packets, Departed.small_cells, EachPacket.each_packet_once, ResumedCounts.resumed_counts, ResumedWhole.resumed_whole, StableRuns.all_stable, StableRuns.stable_sends, StableRuns.stable_slack, Tallies.one_is}
 pub use Rattle.cq_simulate.specs.{PartedRuns.CanBeTakenUp, PartedRuns.IsPartFault, PartedRuns.IsResumeFault, PartedRuns.kept_of, declared.packing.Packing.Packing}
 pub use Rattle.cq_words.specs.{Numbers.number_from, Streamed.as_run, Streamed.run_of, Streamed.streamed}

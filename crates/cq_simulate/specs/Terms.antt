@@ -23,7 +23,7 @@ pub use Rattle.cq_traffic.specs.Stretch.{IsQuiet, IsQuietUntil, NoneCome}
 pub use Rattle.cq_simulate.specs.{EachPacket.EachPacketOnce, Emulation.EmulatesIdeal, Ready.IsReady, ScheduleFor.by_port, ScheduleFor.IsScheduleFor}
 pub use Rattle.cq_simulate.specs.FabricRuns.{IsKeptOf, unpacked_run, IsFabricRun, departures_in_run, refused_in_run}
 pub use Rattle.cq_simulate.specs.FreshFabric.{ArePortsFor, GoesOnFrom, IsFreshFor, IsIdealFor}
-pub use Rattle.cq_simulate.specs.GoingOn.{HasKept, HasRunOn, IsReadyOn, IsRefusalOn, StopsOn, HasPartedTo, IsIdle, IsReadyPart, StopsWithin}
+pub use Rattle.cq_simulate.specs.GoingOn.{HasKept, HasRunOn, IsReadyOn, IsRefusalOn, HasPartedTo, IsIdle, IsReadyPart, StopsWithin}
 pub use Rattle.cq_simulate.specs.IdealRuns.{ideal_departures, ideal_refusals, IsRefusalOf, slots_ran}
 pub use Rattle.cq_simulate.specs.Packets.{HaveLeftOf, LeaveInOrder, packets_out, ArePacked}
 pub use Rattle.cq_simulate.specs.PartedRuns.{CanBeTakenUp, IsPartFault, IsResumeFault, kept_of, taken_at}
