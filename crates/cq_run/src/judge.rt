@@ -1,7 +1,7 @@
 //! Judging what the words name. Nothing is written here.
-ghost use Rattle.std.specs.Prelude.{◌≡◌, ℕ, ◌<◌, ◌^◌, List, ◌∷◌, [], IfErr, IfOk, IsOk, Ok, length};
+ghost use Rattle.std.specs.Prelude.{◌≡◌, ℕ, ◌≤◌, ◌<◌, ◌^◌, List, ◌∷◌, [], All, IfErr, IfOk, IsOk, Ok, length};
 ghost use Rattle.std.specs.Int.{IsInRange};
-ghost use Rattle.cq_run.specs.Terms.{Closed, Fails, Reads, Judges, tables_in, checked, AreGiven, AreTables, ports_of, audited, state_written, IsAuditHalted, IsAuditPassed, IsPartHalt, IsPartText, soak_captures, soak_tables, plain_tables, Meets, Reporting, IsJudged, IsHaltOf, Ahead, InTurn, IsGiven, IsResumeHalt, IsResuming, IsWithinRange, IsCrossing, IsIdeal, IsPassing, ideally_sent, most_ports};
+ghost use Rattle.cq_run.specs.Terms.{Closed, Fails, Reads, Judges, tables_in, checked, AreGiven, AreTables, ports_of, audited, state_written, IsAuditHalted, IsAuditPassed, IsPartHalt, IsPartText, soak_captures, soak_tables, plain_tables, Meets, Reporting, IsJudged, IsHaltOf, Ahead, InTurn, IsGiven, IsResumeHalt, IsResuming, IsWithinRange, IsCrossing, IsIdeal, IsPassing, ideally_sent, most_ports, report_with};
 
 use crate::ahead::stream_from;
 use crate::build::{
@@ -12,7 +12,7 @@ use crate::plan::Work;
 use crate::reading::{
     Given, put_capture, read_configuration, read_given, read_input, read_stopped, read_text,
 };
-use crate::switching::{audit_texts, switch_by_crossbar, switch_ideally};
+use crate::switching::{Crossed, audit_texts, switch_by_crossbar, switch_ideally};
 use crate::{Command, Denial, Halt};
 use cq_base::{Name, Sequence};
 use cq_crew::Gate;
@@ -270,6 +270,17 @@ fn report_on<R: Threads + Sync, G: Gate>(
     ensures refused { IfErr result (IsHaltOf (ideally_sent tables.now captures.now)) }
 {
     let crossed = switch_by_crossbar(rt, alloc, tables, captures, gate)?;
+    report_of(alloc, &crossed)
+}
+
+// The report of what the crossbar switch did.
+fn report_of(alloc: Global, crossed: &Crossed) -> Result<Work, Halt>
+    requires { All (λ x. x.cells ≤ crossed.now.run.figures.slots) crossed.now.run.figures.outputs }
+    ensures writes { IfOk result (λ plan. plan.writes ≡ []) }
+    ensures text { IfOk result (λ plan.
+        plan.text ≡ report_with crossed.now.run.figures crossed.now.run.refused.items) }
+    ensures memory { IfErr result (λ halt. halt ≡ Halt.NoMemory) }
+{
     Ok(build_report(alloc, &crossed.run.figures, &crossed.run.refused)?)
 }
 
