@@ -9,12 +9,10 @@ use crate::build::{
 };
 use crate::parting::{part_by_crossbar, resume_by_crossbar};
 use crate::plan::Work;
-use crate::reading::{
-    Given, put_capture, read_configuration, read_given, read_input, read_stopped, read_text,
-};
+use crate::reading::{Given, read_configuration, read_given, read_input, read_stopped, read_text};
 use crate::switching::{Crossed, audit_texts, switch_by_crossbar, switch_ideally};
 use crate::{Command, Denial, Halt};
-use cq_base::{Name, Sequence};
+use cq_base::{Name, NoMemory, Sequence};
 use cq_crew::Gate;
 use cq_gen::make;
 use cq_pcap::Capture;
@@ -105,11 +103,16 @@ fn pass_on<R: Threads + Sync, G: Gate>(
     ensures passing { IfOk result (IsPassing tables.now capture to) }
     ensures refused { IfErr result (IsHaltOf (ideally_sent tables.now (capture ∷ []))) }
 {
-    let mut captures = Vec::new(alloc);
-    put_capture(&mut captures, capture)?;
-    let captures = Sequence::of(captures);
+    let captures = alone(alloc, capture)?;
     let crossed = switch_by_crossbar(rt, alloc, tables, captures.as_slice(), gate)?;
     Ok(build_passed(alloc, tables, captures, crossed.into_switched(), to)?)
+}
+
+// The captures of a switch of one port.
+fn alone(alloc: Global, capture: Capture) -> Result<Sequence<Capture>, NoMemory>
+    ensures { IfOk result (λ captures. captures ≡ capture ∷ []) }
+{
+    Ok(Sequence::of(Vec::from_array(alloc, [capture])?))
 }
 
 fn check<F: Files>(alloc: Global, files: &mut F, config: Name) -> Result<Work, Halt>

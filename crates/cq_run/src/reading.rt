@@ -259,8 +259,8 @@ pub fn read_given<F: Files>(alloc: Global, files: &mut F, config: Name) -> Resul
     Ok(Given { tables, captures })
 }
 
-/// One more capture, behind the others.
-pub fn put_capture(captures: &mut Vec<Capture>, capture: Capture) -> Result<(), NoMemory>
+// One more capture, behind the others.
+fn put_capture(captures: &mut Vec<Capture>, capture: Capture) -> Result<(), NoMemory>
     ensures { OnOk result (captures.new.items ≡ captures.old.items ++ capture ∷ []) }
 {
     captures.push(capture)?;
