@@ -2,12 +2,12 @@
 -- the rest, is reading them all, and what ends one of these ends the whole. Where files are read ahead, reading leaves
 -- contents as they are, so the first capture is judged as if nothing had come between. Where it ends the whole, the
 -- later inputs say nothing but what the count of faults may show.
-use Rattle.cq_run.proofs.Terms.{rules, ◌≡◌, ◌<◌, ◌≤◌, ◌∙◌, ℕ, ◌+◌, List, [], ◌∷◌, ◌++◌, length, take, drop, get_or, refl, ap, sym, arith, length-take-le, inl, Result, Ok, Err, Option, None, Some, IfSome, MatchOption, common_steps, take_all, take_more, Contents, Space, Closed, Captured, PortRow, Refusal, Halt, Judges, Halts, InTurn, Ahead, AnyName, Uncounted, Reader, ◌>>=◌, packets_at, captures_from, Spells, Call, Fails, Lasts, Reads, NoMemory, longest_file}
+use Rattle.cq_run.proofs.Terms.{rules, suc, ◌≡◌, ◌<◌, ◌≤◌, ◌∙◌, ℕ, ◌+◌, List, [], ◌∷◌, ◌++◌, length, take, drop, get_or, refl, ap, sym, arith, length-take-le, inl, Result, Ok, Err, Option, None, Some, IfSome, IfOk, IfErr, MatchOption, common_steps, take_all, take_more, Contents, Space, Closed, Captured, PortRow, Refusal, Halt, Judges, Halts, InTurn, Ahead, AnyName, Uncounted, Reader, ◌>>=◌, packets_at, captures_from, Spells, Call, Fails, Lasts, Reads, NoMemory, longest_file}
 use Rattle.cq_run.proofs.Stays.{captures_from_stay, packets_stay}
 use Rattle.cq_run.proofs.Chain.{judges_then, judges_after, judges_any, judges_both, judges_computed, judges_as, counts_of, halts_at, name_after, fails_after}
 use Rattle.cq_run.specs.declared.decoding.Decoding.{Decoding}
 use Rattle.cq_run.specs.Decoding.{HasBegun, IsBegun, IsBegunFor, source}
-use Rattle.cq_run.specs.Input.{IsHaltFor}
+use Rattle.cq_run.specs.Input.{IsHaltFor, IsInFront}
 use Rattle.cq_run.proofs.TextRead.{capture_halts, capture_is}
 use Rattle.cq_run.proofs.Told.{told_any}
 
@@ -164,7 +164,7 @@ module _ {S : Type 0} (space : S → Space) {keeps : S → S → Type 0} {row : 
     ever name = fails_after space may_fail keeps (Reads name) old mid new lasts b.uncounted kept
 
     -- the first capture ends it, whatever the later ones came to
-    pub capture_ends : {halt : Halt} {later : Result (List (List Captured)) Halt} →
+    capture_ends : {halt : Halt} {later : Result (List (List Captured)) Halt} →
         MatchOption begun ⊥ (λ d. IsHaltFor input (source d) halt) → Later later → Whole (Err halt)
     capture_ends {halt} {later} h g = first_ends r limit input row rows (record {
       ok = tt;
@@ -187,19 +187,19 @@ module _ {S : Type 0} (space : S → Space) {keeps : S → S → Type 0} {row : 
       }
 
       -- the first capture is sound, and a later one ends it
-      pub later_ends : {halt : Halt} → Later (Err halt) → Whole (Err halt)
+      later_ends : {halt : Halt} → Later (Err halt) → Whole (Err halt)
       unfolding captures_from
       later_ends g = judges_after (then_later r limit input row rows) first (packets_stay r input limit row.read) ever
           (judges_then _ (λ name u. u) g)
 
       -- all are sound
-      pub all_arrive : {others : List (List Captured)} → Later (Ok others) → Whole (Ok (packets ∷ others))
+      all_arrive : {others : List (List Captured)} → Later (Ok others) → Whole (Ok (packets ∷ others))
       unfolding captures_from
       all_arrive g = judges_both (then_later r limit input row rows) first
           (judges_both _ g (judges_computed g.closed refl))
 
       -- all are sound, and memory ran out after that
-      pub memory_ends : {others : List (List Captured)} → Later (Ok others) → Whole (Err NoMemory)
+      memory_ends : {others : List (List Captured)} → Later (Ok others) → Whole (Err NoMemory)
       memory_ends g = record {
         ok = tt;
         halt = inl (g.uncounted ∙ b.uncounted);
@@ -207,6 +207,25 @@ module _ {S : Type 0} (space : S → Space) {keeps : S → S → Type 0} {row : 
         told = g.told ∙ told;
         uncounted = tt;
       }
+
+    -- whatever the first and the later ones came to, with the first in front
+    pub together : (first : Result (List Captured) Halt) (later result : Result (List (List Captured)) Halt) →
+        IfOk first (λ packets. MatchOption begun (packets ≡ []) (λ d. Spells (source d) packets)) →
+        IfErr first (λ halt. MatchOption begun ⊥ (λ d. IsHaltFor input (source d) halt)) → Later later →
+        IsInFront first later result → Whole result
+    together (Err halt) later result spelt halts g is = rw is (capture_ends halts g)
+    together (Ok packets) (Err halt) result spelt halts g is = rw is (later_ends packets spelt g)
+    together (Ok packets) (Ok others) (Ok all) spelt halts g is = rw is (all_arrive packets spelt g)
+    together (Ok packets) (Ok others) (Err halt) spelt halts g is = rw is (memory_ends packets spelt g)
+
+-- with the first in front there is one more
+pub one_more : (row : PortRow) (rest : List PortRow) (first : Result Packets Halt)
+    (later result : Result (List Packets) Halt) → IfOk later (λ made. length made ≡ length rest) →
+    IsInFront first later result → IfOk result (λ made. length made ≡ length (row ∷ rest))
+one_more row rest (Err halt) later result each is = rw is tt
+one_more row rest (Ok packets) (Err halt) result each is = rw is tt
+one_more row rest (Ok packets) (Ok others) (Ok all) each is = rw is (ap suc each)
+one_more row rest (Ok packets) (Ok others) (Err halt) each is = tt
 
 -- no input is left
 pub none_arrive : (r : Reader) (limit input : ℕ) (R : List ℕ → Type 0) (at : Space) → at.mode ≡ Closed

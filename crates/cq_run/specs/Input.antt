@@ -1,11 +1,12 @@
 -- Only proofs use this.
 -- What is known of the file of an input.
-use Rattle.std.specs.Prelude.{◌≡◌, ◌≤◌, ℕ, List, length, Option, Some, IfSome}
+use Rattle.std.specs.Prelude.{◌≡◌, ◌≤◌, ◌∷◌, ℕ, List, length, Option, Some, IfSome, Result, Ok, Err}
 use Rattle.std.specs.FinMap.{get}
 use Rattle.cq_pcap.specs.declared.read.PcapRefusal.{PcapRefusal}
 use Rattle.cq_pcap.specs.Faults.{IsFaulty}
 use Rattle.cq_space.specs.Space.{Contents}
 use Rattle.cq_run.specs.declared.stop.Halt.{Halt}
+use Rattle.cq_run.specs.declared.stop.Halt.TheVariants.{NoMemory}
 use Rattle.cq_run.specs.Switching.{halt_for}
 
 -- these are the bytes of the name, and not too many
@@ -18,3 +19,11 @@ pub record IsHaltFor (input : ℕ) (bytes : List ℕ) (halt : Halt) : Type 0 whe
   pub found : Option PcapRefusal
   pub faulty : IfSome found (IsFaulty bytes)
   pub told : halt ≡ halt_for input found
+
+-- the first in front of the later ones, or why there are none: the halt of the first, or else that of the later ones,
+-- or else want of memory
+abbrev pub IsInFront : {A : Type 0} → Result A Halt → Result (List A) Halt → Result (List A) Halt → Type 0
+IsInFront (Err halt) later result = result ≡ Err halt
+IsInFront (Ok x) (Err halt) result = result ≡ Err halt
+IsInFront (Ok x) (Ok xs) (Ok all) = all ≡ x ∷ xs
+IsInFront (Ok x) (Ok xs) (Err halt) = halt ≡ NoMemory

@@ -22,7 +22,7 @@ pub use Rattle.cq_run.specs.Decoding.{HasBegun, IsBegun, source}
 pub use Rattle.cq_run.specs.Ending.{halt_status, stop_status, EndsIn, WhereHalted, status_of}
 pub use Rattle.cq_run.specs.Given.{EndsGiven, IsGiven}
 pub use Rattle.cq_run.specs.Headline.{AreGiven, Emulates}
-pub use Rattle.cq_run.specs.Input.{IsHaltFor, IsFileOf}
+pub use Rattle.cq_run.specs.Input.{IsHaltFor, IsFileOf, IsInFront}
 pub use Rattle.cq_run.specs.Judging.{Halts, Judges, IsHaltOf}
 pub use Rattle.cq_run.specs.Line.{Says, line, halt_text, unwritten_text, stop_text, Tells}
 pub use Rattle.cq_run.specs.Pace.{Ahead, InTurn, pace_of}

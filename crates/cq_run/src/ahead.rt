@@ -4,13 +4,13 @@
 //! decoded. Each reader that is started is joined by the call that started it, after those of the later inputs,
 //! whatever they come to: neither what was begun nor its reader can be dropped, and only a join uses a reader up. So
 //! a way out that leaves one behind is no program.
-ghost use Rattle.std.specs.Prelude.{◌≡◌, ◌+◌, ◌≤◌, ◌<◌, ◌^◌, ◌∷◌, [], IfErr, IfOk, IfSome, MatchOption, length};
-ghost use Rattle.cq_run.specs.Terms.{Spells, AreTables, Fails, Reads, Closed, HasBegun, IsBegun, source, IsHaltFor, Halts, Judges, Ahead, InTurn, Reader, captures_from, packets_at, longest_file};
+ghost use Rattle.std.specs.Prelude.{◌≡◌, ◌+◌, ◌≤◌, ◌<◌, ◌^◌, [], IfErr, IfOk, IfSome, MatchOption, length};
+ghost use Rattle.cq_run.specs.Terms.{Spells, AreTables, Fails, Reads, Closed, HasBegun, IsBegun, source, IsHaltFor, IsInFront, Halts, Judges, Ahead, InTurn, Reader, captures_from, packets_at, longest_file};
 
 use crate::Halt;
 use crate::decoding::{Decoding, begin, finish};
 use crate::reading::{read_file, unreadable};
-use cq_base::{Name, NoMemory, Port, Sequence};
+use cq_base::{Name, Port, Sequence};
 use cq_pcap::Capture;
 use cq_route::{PortRow, Tables};
 use cq_space::Files;
@@ -45,9 +45,7 @@ pub fn stream_from<R: Threads + Wait + Copy + Send + 'static, F: Files, W: Watch
         Some((row, rest)) => {
             let begun = begin_port(rt, alloc, files, row, input, tables.limit_bytes, watch)?;
             let later = stream_from(rt, alloc, files, tables, rest, input + 1, watch);
-            let capture = finish_port(&rt, alloc, begun, input)?;
-            let captures = later?;
-            Ok(in_front(capture, captures)?)
+            in_front(finish_port(&rt, alloc, begun, input), later)
         }
     }
 }
@@ -104,11 +102,17 @@ fn finish_port<R: Threads + Wait>(
     }
 }
 
-// The captures with this one in front.
-fn in_front(capture: Capture, later: Sequence<Capture>) -> Result<Sequence<Capture>, NoMemory>
-    ensures { IfOk result (λ captures. captures ≡ capture ∷ later) }
+// The first capture in front of the later ones. Where both came to a halt, that of the first is told.
+fn in_front(
+    first: Result<Capture, Halt>,
+    later: Result<Sequence<Capture>, Halt>,
+) -> Result<Sequence<Capture>, Halt>
+    ensures { IsInFront first later result }
 {
-    let mut captures = later.into_vec();
-    captures.insert(0, capture)?;
-    Ok(Sequence::of(captures))
+    let capture = first?;
+    let mut captures = later?.into_vec();
+    match captures.insert(0, capture) {
+        Ok(()) => Ok(Sequence::of(captures)),
+        Err(_) => Err(Halt::NoMemory),
+    }
 }

@@ -1,5 +1,5 @@
-use Rattle.cq_run.proofs.Terms.{rules, ◌≡◌, [], arith, nil_from_length}
-use Rattle.cq_run.proofs.Ports.{Unread, all_arrive, begun_is, begun_small, capture_ends, file_ends, later_ends, memory_ends, none_arrive}
+use Rattle.cq_run.proofs.Terms.{◌≡◌, [], arith, nil_from_length}
+use Rattle.cq_run.proofs.Ports.{Unread, begun_is, begun_small, file_ends, none_arrive, one_more, together}
 use Rattle.cq_run.proofs.Told.{exit_is}
 use Rattle.cq_run.proofs.ahead.+stream_from.Goals as goal
 
@@ -18,20 +18,8 @@ returns-in-None-clause-judges g t c = λ r.
 pub returns-in-None-clause-kept : goal.returns-in-None-clause-kept
 returns-in-None-clause-kept g t c = g.met.F.Files.lasts_unbegun.none _
 
-pub returns-in_err-capture-in-Some-clause-kept : goal.returns-in_err-capture-in-Some-clause-kept
-returns-in_err-capture-in-Some-clause-kept g t c =
-    g.met.F.Files.lasts_unbegun.both _ _ _ c.begin_port.ensures.kept c.stream_from-later.ensures.kept
-
-pub returns-in_err-captures-in-Some-clause-kept : goal.returns-in_err-captures-in-Some-clause-kept
-returns-in_err-captures-in-Some-clause-kept g t c =
-    g.met.F.Files.lasts_unbegun.both _ _ _ c.begin_port.ensures.kept c.stream_from-later.ensures.kept
-
-pub returns-in_err-in_front-in-Some-clause-kept : goal.returns-in_err-in_front-in-Some-clause-kept
-returns-in_err-in_front-in-Some-clause-kept g t c =
-    g.met.F.Files.lasts_unbegun.both _ _ _ c.begin_port.ensures.kept c.stream_from-later.ensures.kept
-
-pub returns-in_ok-in_front-in-Some-clause-kept : goal.returns-in_ok-in_front-in-Some-clause-kept
-returns-in_ok-in_front-in-Some-clause-kept g t c =
+pub returns-in_ok-begun-in-Some-clause-kept : goal.returns-in_ok-begun-in-Some-clause-kept
+returns-in_ok-begun-in-Some-clause-kept g t c =
     g.met.F.Files.lasts_unbegun.both _ _ _ c.begin_port.ensures.kept c.stream_from-later.ensures.kept
 
 -- ## What the readers and the rows before come to
@@ -48,35 +36,15 @@ returns-in_err-begun-in-Some-clause-judges g t c = λ r.
     (file_ends r c.args.tables.now.limit_bytes c.args.input c.in-Some.row.now c.in-Some.rest.now
     (c.in_err-begun-in-Some.ensures.halts r) c.begin_port.ensures.closed c.begin_port.ensures.told)
 
-pub returns-in_err-capture-in-Some-clause-judges : goal.returns-in_err-capture-in-Some-clause-judges
-returns-in_err-capture-in-Some-clause-judges g t c = λ r.
-    rw (exit_is _ c.from_residual-in_err-capture-in-Some.ensures.1, c.in-Some.ensures.cases.0)
-    (capture_ends _ c.in_ok-begun-in-Some.ensures.begun c.begin_port.ensures.closed c.begin_port.ensures.told
+pub returns-in_ok-begun-in-Some-clause-judges : goal.returns-in_ok-begun-in-Some-clause-judges
+returns-in_ok-begun-in-Some-clause-judges g t c = λ r.
+    rw c.in-Some.ensures.cases.0
+    (together _ c.in_ok-begun-in-Some.ensures.begun c.begin_port.ensures.closed c.begin_port.ensures.told
     c.begin_port.ensures.kept g.met.F.Files.lasts_unbegun r c.args.input c.in-Some.rest.now _ _
-    c.in_err-capture-in-Some.ensures.halts (c.stream_from-later.ensures.judges r))
+    c.finish_port.result c.stream_from-later.result c.in_front.result c.finish_port.ensures.spelt
+    c.finish_port.ensures.halts (c.stream_from-later.ensures.judges r) c.in_front.ensures)
 
-pub returns-in_err-captures-in-Some-clause-judges : goal.returns-in_err-captures-in-Some-clause-judges
-returns-in_err-captures-in-Some-clause-judges g t c = λ r.
-    let spelt = c.in_ok-capture-in-Some.ensures.spelt in
-    rw (exit_is _ c.from_residual-in_err-captures-in-Some.ensures.1, c.in-Some.ensures.cases.0)
-    (later_ends _ c.in_ok-begun-in-Some.ensures.begun c.begin_port.ensures.closed c.begin_port.ensures.told
-    c.begin_port.ensures.kept g.met.F.Files.lasts_unbegun r c.args.input c.in-Some.rest.now _ _
-    c.in_ok-capture-in-Some.capture spelt (c.in_err-captures-in-Some.ensures.judges r))
-
-pub returns-in_err-in_front-in-Some-clause-judges : goal.returns-in_err-in_front-in-Some-clause-judges
-returns-in_err-in_front-in-Some-clause-judges g t c = λ r.
-    rw (exit_is _ c.from_residual-in_err-in_front-in-Some.ensures.1, c.in-Some.ensures.cases.0)
-    (memory_ends _ c.in_ok-begun-in-Some.ensures.begun c.begin_port.ensures.closed c.begin_port.ensures.told
-    c.begin_port.ensures.kept g.met.F.Files.lasts_unbegun r c.args.input c.in-Some.rest.now _ _
-    c.in_ok-capture-in-Some.capture c.in_ok-capture-in-Some.ensures.spelt
-    (c.in_ok-captures-in-Some.ensures.judges r))
-
-pub returns-in_ok-in_front-in-Some-clause-judges : goal.returns-in_ok-in_front-in-Some-clause-judges
-returns-in_ok-in_front-in-Some-clause-judges g t c = λ r.
-    rw (c.in_ok-in_front-in-Some.ensures, c.in-Some.ensures.cases.0)
-    (all_arrive _ c.in_ok-begun-in-Some.ensures.begun c.begin_port.ensures.closed c.begin_port.ensures.told
-    c.begin_port.ensures.kept g.met.F.Files.lasts_unbegun r c.args.input c.in-Some.rest.now _ _
-    c.in_ok-capture-in-Some.capture c.in_ok-capture-in-Some.ensures.spelt (c.in_ok-captures-in-Some.ensures.judges r))
-
-pub returns-in_ok-in_front-in-Some-clause-each : goal.returns-in_ok-in_front-in-Some-clause-each
-returns-in_ok-in_front-in-Some-clause-each g t c = search (arith, rules)
+pub returns-in_ok-begun-in-Some-clause-each : goal.returns-in_ok-begun-in-Some-clause-each
+returns-in_ok-begun-in-Some-clause-each g t c = rw c.in-Some.ensures.cases.0
+    (one_more c.in-Some.row.now c.in-Some.rest.now c.finish_port.result c.stream_from-later.result c.in_front.result
+    c.stream_from-later.ensures.each c.in_front.ensures)
