@@ -48,3 +48,16 @@ returns-in_err-put_capture-clause-judges g c = λ r. rw (exit_is _ c.from_residu
       (c.in_ok-capture.ensures.judges r).told ∙ (c.ports.invariant.judged r).told;
   uncounted = tt;
 }
+
+-- ## No writing was begun
+
+pub returns-in_err-capture-clause-kept : goal.returns-in_err-capture-clause-kept
+returns-in_err-capture-clause-kept g c =
+    g.met.F.Files.lasts_unbegun.both _ _ _ c.ports.invariant.kept c.read_port.ensures.kept
+
+pub returns-in_err-put_capture-clause-kept : goal.returns-in_err-put_capture-clause-kept
+returns-in_err-put_capture-clause-kept g c =
+    g.met.F.Files.lasts_unbegun.both _ _ _ c.ports.invariant.kept c.read_port.ensures.kept
+
+pub returns-clause-kept : goal.returns-clause-kept
+returns-clause-kept g c = c.ports.invariant.kept
