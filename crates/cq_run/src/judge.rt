@@ -66,7 +66,9 @@ fn pass<R: Threads + Sync, F: Files, G: Gate>(
     ensures { IsJudged F.space F.may_fail F.unbegun InTurn (Command.Pass from to) files.old files.new result }
 {
     let tables = Tables::plain(alloc, from.text(), to.text())?;
-    pass_over(rt, alloc, files, &tables, from, to, gate)
+    let work = pass_over(rt, alloc, files, &tables, from, to, gate);
+    drop(tables);
+    work
 }
 
 // The same, over the tables of a plain switch between these names.
@@ -120,7 +122,9 @@ fn check<F: Files>(alloc: Global, files: &mut F, config: Name) -> Result<Work, H
     ensures { IsJudged F.space F.may_fail F.unbegun InTurn (Command.Check config) files.old files.new result }
 {
     let tables = read_configuration(alloc, files, config)?;
-    count(alloc, &tables)
+    let work = count(alloc, &tables);
+    drop(tables);
+    work
 }
 
 // The line that says what is in these tables.
@@ -142,7 +146,9 @@ fn ideal<R: Threads + Sync, F: Files>(
 {
     let given = read_given(alloc, files, config)?;
     let Given { tables, captures } = given;
-    send_ideally(rt, alloc, &tables, captures)
+    let work = send_ideally(rt, alloc, &tables, captures);
+    drop(tables);
+    work
 }
 
 // What the ideal switch makes of these captures, one for each port, with all its bytes. The captures are given up on
@@ -174,7 +180,9 @@ fn run<R: Threads + Sync, F: Files, G: Gate>(
 {
     let given = read_given(alloc, files, config)?;
     let Given { tables, captures } = given;
-    cross(rt, alloc, &tables, captures, gate)
+    let work = cross(rt, alloc, &tables, captures, gate);
+    drop(tables);
+    work
 }
 
 /// What `run` comes to for a configuration, where captures are decoded by readers ahead of judging. The watch is told
@@ -193,7 +201,9 @@ where
     ensures { IsJudged F.space F.may_fail F.unbegun Ahead (Command.Run config) files.old files.new result }
 {
     let tables = read_configuration(alloc, files, config)?;
-    cross_ahead(rt, alloc, files, &tables, gate, watch)
+    let work = cross_ahead(rt, alloc, files, &tables, gate, watch);
+    drop(tables);
+    work
 }
 
 // The same, over the tables of the configuration: the captures of their ports are read next.
@@ -254,7 +264,9 @@ fn soak<R: Threads + Sync, G: Gate>(
     ensures refused { IfErr result (IsHaltOf (ideally_sent (soak_tables ports) (soak_captures seed ports slots))) }
 {
     let soak = make(alloc, seed, ports, slots)?;
-    report_on(rt, alloc, &soak.tables, &soak.captures, gate)
+    let work = report_on(rt, alloc, &soak.tables, &soak.captures, gate);
+    drop(soak);
+    work
 }
 
 // The report of what the crossbar switch makes of these captures, one for each port.
@@ -273,7 +285,9 @@ fn report_on<R: Threads + Sync, G: Gate>(
     ensures refused { IfErr result (IsHaltOf (ideally_sent tables.now captures.now)) }
 {
     let crossed = switch_by_crossbar(rt, alloc, tables, captures, gate)?;
-    report_of(alloc, &crossed)
+    let work = report_of(alloc, &crossed);
+    drop(crossed);
+    work
 }
 
 // The report of what the crossbar switch did.
@@ -297,7 +311,9 @@ fn audit<R: Threads + Sync, F: Files>(
     ensures { IsJudged F.space F.may_fail F.unbegun InTurn (Command.Audit config) files.old files.new result }
 {
     let given = read_given(alloc, files, config)?;
-    audit_given(rt, alloc, files, &given)
+    let work = audit_given(rt, alloc, files, &given);
+    drop(given);
+    work
 }
 
 // The same, of what the configuration gave: its trace and its log are read next.
@@ -358,7 +374,9 @@ fn part<R: Threads + Sync, F: Files, G: Gate>(
         files.old files.new result }
 {
     let given = read_given(alloc, files, config)?;
-    stop_at(rt, alloc, &given, slots, state, gate)
+    let work = stop_at(rt, alloc, &given, slots, state, gate);
+    drop(given);
+    work
 }
 
 // The text of the state in which the crossbar switch stands after so many slots with these captures, one for each
@@ -403,7 +421,9 @@ fn resume<R: Threads + Sync, F: Files, G: Gate>(
 {
     let given = read_given(alloc, files, config)?;
     let Given { tables, captures } = given;
-    resume_given(rt, alloc, files, &tables, captures, state, gate)
+    let work = resume_given(rt, alloc, files, &tables, captures, state, gate);
+    drop(tables);
+    work
 }
 
 // The same, of what the configuration gave: the text of the state is read next.

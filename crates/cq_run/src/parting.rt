@@ -33,7 +33,9 @@ pub fn part_by_crossbar<R: Threads + Sync, G: Gate>(
     ensures refused { IfErr result (IsPartHalt tables.now captures.now slots) }
 {
     let schedule = Schedule::of(rt, alloc, captures, tables)?;
-    part_by_schedule(rt, alloc, tables, &schedule, slots, gate)
+    let text = part_by_schedule(rt, alloc, tables, &schedule, slots, gate);
+    drop(schedule);
+    text
 }
 
 // The same, of the schedule of these captures.
@@ -53,7 +55,9 @@ fn part_by_schedule<R: Threads + Sync, G: Gate>(
         IfErr result (IsPartHalt tables.now captures slots) }
 {
     let parted = part_fabric(rt, alloc, tables, schedule, slots, gate)?;
-    text_of_parted(alloc, tables, schedule, &parted)
+    let text = text_of_parted(alloc, tables, schedule, &parted);
+    drop(parted);
+    text
 }
 
 // The text of the state of a run that stopped, over the schedule of these captures.
@@ -102,7 +106,9 @@ pub fn resume_by_crossbar<R: Threads + Sync, G: Gate>(
     ensures refused { IfErr result (IsResumeHalt tables.now captures.now text) }
 {
     let schedule = Schedule::of(rt, alloc, captures, tables)?;
-    resume_by_schedule(rt, alloc, tables, &schedule, text, gate)
+    let crossed = resume_by_schedule(rt, alloc, tables, &schedule, text, gate);
+    drop(schedule);
+    crossed
 }
 
 // The same, over the schedule of these captures.
@@ -122,7 +128,9 @@ fn resume_by_schedule<R: Threads + Sync, G: Gate>(
         IfErr result (IsResumeHalt tables.now captures text) }
 {
     let taken = read_out(alloc, text, tables, schedule)?;
-    run_from(rt, alloc, tables, schedule, &taken, gate)
+    let crossed = run_from(rt, alloc, tables, schedule, &taken, gate);
+    drop(taken);
+    crossed
 }
 
 // What the crossbar switch does over this schedule from this state on.

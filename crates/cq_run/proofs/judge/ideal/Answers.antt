@@ -9,4 +9,5 @@ returns-in_err-given g c = rw (exit_is _ c.from_residual.ensures.1)
     (given_ends (λ s. refl) (sent_of switching) (λ r. refl) (λ name. tt) c.in_err-given.ensures.ends)
 
 pub returns : goal.returns
-returns g c = ideal_judged c.in_ok-given.ensures.given _ c.send_ideally.ensures.ideal c.send_ideally.ensures.refused
+returns g c = ideal_judged c.in_ok-given.ensures.given _ c.send_ideally-work.ensures.ideal
+    c.send_ideally-work.ensures.refused

@@ -9,5 +9,5 @@ returns-in_err-given g c = rw (exit_is _ c.from_residual.ensures.1)
     (given_ends (λ s. refl) (part_rest _ _) (λ r. refl) (λ name. tt) c.in_err-given.ensures.ends)
 
 pub returns : goal.returns
-returns g c = part_judged c.in_ok-given.ensures.given _ _ c.stop_at.ensures.are_given c.stop_at.ensures.text
-    c.stop_at.ensures.refused
+returns g c = part_judged c.in_ok-given.ensures.given _ _ c.stop_at-work.ensures.are_given c.stop_at-work.ensures.text
+    c.stop_at-work.ensures.refused

@@ -8,8 +8,8 @@ use Rattle.cq_run.proofs.judge.pass.Goals as goal
 plain : (t : Tables) (from to x y : List ℕ) → t ≡ plain_tables x y → x ≡ from → y ≡ to → t ≡ plain_tables from to
 plain t from to x y e f h = cc
 
-pub pass_over-requires-clause-plain : goal.pass_over-requires-clause-plain
-pass_over-requires-clause-plain g c κs within =
+pub pass_over-work-requires-clause-plain : goal.pass_over-work-requires-clause-plain
+pass_over-work-requires-clause-plain g c κs within =
     plain _ _ _ _ _ c.in_ok-tables.ensures.tables c.text.ensures c.text-2.ensures
 
 pub returns-in_err-tables : goal.returns-in_err-tables

@@ -12,4 +12,5 @@ module _ (t : Tables) (captures : List (List Captured)) (x : Crossed) (is : IsCr
 
 pub returns-clause-meets : goal.returns-clause-meets
 returns-clause-meets g c = meets c.args.tables.now c.args.captures.now c.in_ok-crossed.crossed
-    c.in_ok-crossed.ensures.crossed c.report_of.result c.report_of.ensures.writes c.report_of.ensures.text
+    c.in_ok-crossed.ensures.crossed c.report_of-work.result c.report_of-work.ensures.writes
+    c.report_of-work.ensures.text

@@ -9,4 +9,4 @@ returns-in_err-given g c = rw (exit_is _ c.from_residual.ensures.1)
     (given_ends (λ s. refl) (resume_rest _) (λ r. refl) (λ name. tt) c.in_err-given.ensures.ends)
 
 pub returns : goal.returns
-returns g c = c.resume_given.ensures _ _ c.in_ok-given.ensures.given
+returns g c = c.resume_given-work.ensures _ _ c.in_ok-given.ensures.given

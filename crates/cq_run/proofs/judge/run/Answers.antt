@@ -6,4 +6,4 @@ pub returns-in_err-given : goal.returns-in_err-given
 returns-in_err-given g c = rw (exit_is _ c.from_residual.ensures.1) (run_ends c.in_err-given.ensures.ends)
 
 pub returns : goal.returns
-returns g c = run_judged c.in_ok-given.ensures.given _ c.cross.ensures.crossing c.cross.ensures.refused
+returns g c = run_judged c.in_ok-given.ensures.given _ c.cross-work.ensures.crossing c.cross-work.ensures.refused

@@ -8,4 +8,4 @@ pub returns-in_err-tables : goal.returns-in_err-tables
 returns-in_err-tables g c = search (arith, rules, exit_is, run_ends, tables_end)
 
 pub returns : goal.returns
-returns g c = c.cross_ahead.ensures _ _ c.read_configuration.ensures.kept c.in_ok-tables.ensures.judges
+returns g c = c.cross_ahead-work.ensures _ _ c.read_configuration.ensures.kept c.in_ok-tables.ensures.judges

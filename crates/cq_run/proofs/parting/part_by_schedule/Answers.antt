@@ -4,11 +4,11 @@ use Rattle.cq_run.proofs.parting.part_by_schedule.Goals as goal
 
 pub returns-clause-text : goal.returns-clause-text
 returns-clause-text g c = λ captures is.
-    c.text_of_parted.ensures.text captures _ is (rw is at c.in_ok-parted.ensures.parted)
+    c.text_of_parted-text.ensures.text captures _ is (rw is at c.in_ok-parted.ensures.parted)
 
 pub returns-clause-refused : goal.returns-clause-refused
 returns-clause-refused g c = λ captures is.
-    c.text_of_parted.ensures.refused captures _ is (rw is at c.in_ok-parted.ensures.parted)
+    c.text_of_parted-text.ensures.refused captures _ is (rw is at c.in_ok-parted.ensures.parted)
 
 -- a tag fault
 pub returns-in_err-parted-clause-refused : goal.returns-in_err-parted-clause-refused
