@@ -9,7 +9,7 @@ use cq_base::{Room, Setup, Slot, Transfer};
 use cq_cells::{Coming, Schedule};
 use cq_rank::Rank;
 use cq_scfq::Discipline;
-use cq_traffic::{quiet_until, rooms_from, rooms_to};
+use cq_traffic::quiet_until;
 use std::alloc::Global;
 
 /// Checks a log of any maker, of a switch of this setup with these limits, over cells that arrive by this schedule. A
@@ -33,16 +33,8 @@ pub fn audit_log(
     let ranks = Discipline::all(alloc, setup)?;
     let ports = ranks.len() as u16;
     let lines = read_log(alloc, log, ports)?;
-    let from_inputs = rooms_from(alloc, schedule, ports)?;
-    let to_outputs = rooms_to(alloc, schedule, ports)?;
     let mut note = Room::new(alloc, 2 * ports as u64)?;
-    let mut replay = Replay::new(
-        alloc,
-        ranks,
-        limits,
-        from_inputs.as_slice(),
-        to_outputs.as_slice(),
-    )?;
+    let mut replay = Replay::new(alloc, ranks, limits, schedule)?;
     replay_run(&mut replay, schedule, lines.as_slice(), &mut note)
 }
 

@@ -1,16 +1,19 @@
 //! A fabric that goes by the lines of a log.
 //!
 //! It is the fabric of the definitions, with the matchings that the lines tell in place of ones that were looked for.
-ghost use Rattle.std.specs.Prelude.{◌≡◌, ◌<◌, ◌↔◌, IfErr, IfOk, IsTrue, length, map};
-ghost use Rattle.cq_audit.specs.Terms.{AreForOneSwitch, IsEmptyFabric, empty_limited_fabric, IsPhaseFault, in_phase, CanCome, CanReplay, HasRested, IsInStep, IsSlotFault, SlotReplayed, shown, CanGoBy, CanSend, HasGoneBy, HaveAllSent, HaveCome};
+ghost use Rattle.std.specs.Prelude.{◌≡◌, ◌<◌, ◌≤◌, ◌↔◌, [], IfErr, IfOk, IsTrue, length, map, replicate};
+ghost use Rattle.std.specs.List.{range_with_len};
+ghost use Rattle.cq_audit.specs.Terms.{AreForOneSwitch, IsEmptyFabric, empty_limited_fabric, IsPhaseFault, in_phase, CanCome, CanReplay, HasRested, IsInStep, IsSlotFault, SlotReplayed, shown, CanGoBy, CanSend, HasGoneBy, HaveAllSent, HaveCome, is_from, is_to, most_ports, number_of};
 
 use crate::crossing::cross;
 use crate::parted::part;
 use crate::phase::PhaseFault;
 use cq_base::{Arrivals, NoMemory, Room, Slot, Transfer};
+use cq_cells::Schedule;
 use cq_fabric::{Gone, Queues, release, tell};
 use cq_ideal::{Limiter, Newcomers, Ranks};
 use cq_rank::Rank;
+use cq_traffic::{rooms_from, rooms_to};
 use std::alloc::Global;
 use std::marker::Model;
 
@@ -105,31 +108,48 @@ fn send<R: Rank>(
     release(limiter, gone);
 }
 
+// No cell waits, and the lists and the buffers of so many ports have room for all cells that arrive by this schedule.
+fn queues_for(alloc: Global, schedule: &Schedule, ports: u16) -> Result<Queues, NoMemory>
+    requires few { ports ≤ most_ports }
+    requires ports { ports ≤ schedule.now.ports }
+    ensures inputs { IfOk result (λ q. q.inputs ≡ replicate ports []) }
+    ensures buffers { IfOk result (λ q. q.buffers ≡ replicate ports []) }
+    ensures from_inputs { IfOk result (λ q. q.from_inputs
+        ≡ map (λ i. number_of (is_from i) schedule.now.came) (range_with_len 0 ports)) }
+    ensures to_outputs { IfOk result (λ q. q.to_outputs
+        ≡ map (λ j. number_of (is_to j) schedule.now.came) (range_with_len 0 ports)) }
+{
+    let from_inputs = rooms_from(alloc, schedule, ports)?;
+    let to_outputs = rooms_to(alloc, schedule, ports)?;
+    Queues::new(alloc, from_inputs.as_slice(), to_outputs.as_slice())
+}
+
 impl<R: Rank> Replay<R> {
-    /// A fabric with an input and an output for each rank. No cell waits, list i has room for `from_inputs[i]` cells
-    /// and buffer j for `to_outputs[j]`, and output j has the limit `limits[j]`, or none. All memory that slots need
+    /// A fabric with an input and an output for each rank. No cell waits, the lists and the buffers have room for all
+    /// cells that arrive by this schedule, and output j has the limit `limits[j]`, or none. All memory that slots need
     /// is taken here. The error is want of memory.
     pub fn new(
         alloc: Global,
         ranks: Vec<R>,
         limits: &[Option<u64>],
-        from_inputs: &[u64],
-        to_outputs: &[u64],
+        schedule: &Schedule,
     ) -> Result<Replay<R>, NoMemory>
         requires machines { AreForOneSwitch (map R.machine (map R.fixed ranks.items)) }
         requires limits { length limits.now ≡ length ranks.items }
-        requires from_inputs { length from_inputs.now ≡ length ranks.items }
-        requires to_outputs { length to_outputs.now ≡ length ranks.items }
+        requires ports { length ranks.items ≤ schedule.now.ports }
         ensures fixed { IfOk result (λ replay. replay.fixed ≡ map R.fixed ranks.items) }
         ensures limits { IfOk result (λ replay. replay.limits ≡ limits.now) }
         ensures fabric { IfOk result (λ replay. replay.fabric
             ≡ empty_limited_fabric (length ranks.items) (map R.state ranks.items)) }
-        ensures from_inputs { IfOk result (λ replay. replay.from_inputs ≡ from_inputs.now) }
-        ensures to_outputs { IfOk result (λ replay. replay.to_outputs ≡ to_outputs.now) }
+        ensures from_inputs { IfOk result (λ replay. replay.from_inputs
+            ≡ map (λ i. number_of (is_from i) schedule.now.came) (range_with_len 0 (length ranks.items))) }
+        ensures to_outputs { IfOk result (λ replay. replay.to_outputs
+            ≡ map (λ j. number_of (is_to j) schedule.now.came) (range_with_len 0 (length ranks.items))) }
         ensures in_step { IfOk result (λ replay. IsInStep (map R.machine replay.fixed) 0 replay) }
     {
+        let ports = ranks.len() as u16;
         Ok(Replay {
-            queues: Queues::new(alloc, from_inputs, to_outputs)?,
+            queues: queues_for(alloc, schedule, ports)?,
             limiter: Limiter::new(alloc, limits)?,
             ranks: Ranks::of(ranks),
             came: Newcomers::none(),

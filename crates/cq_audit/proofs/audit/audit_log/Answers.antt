@@ -1,8 +1,8 @@
-use Rattle.cq_audit.proofs.Terms.{rules, ◌≡◌, length, ◌∙◌, arith, length-map, length-map-range_with_len, err_from_is_err_and, IsLog, machine_from}
+use Rattle.cq_audit.proofs.Terms.{rules, ◌≡◌, length, ◌∙◌, arith, length-map, err_from_is_err_and, IsLog, machine_from}
 use Rattle.cq_audit.proofs.Opened.{IsOpened, opened, ready, verdict}
 use Rattle.cq_audit.proofs.LogLines.{log_in_order}
 use Rattle.cq_audit.proofs.audit.audit_log.Goals as goal
-use Rattle.cq_audit.proofs.audit.audit_log.Goals.{After-as_slice-3, After-len-ports, In_ok-ranks}
+use Rattle.cq_audit.proofs.audit.audit_log.Goals.{After-as_slice, After-len-ports, In_ok-ranks}
 
 -- ## What is known, call by call
 
@@ -15,13 +15,13 @@ counted : (c : After-len-ports) → c.len-ports.result ≡ length c.in_ok-ranks.
 counted c = omega (arith, c.len-ports.ensures, c.in_ok-ranks.ranks.ok)
 
 -- the replay is that of the setup, before its first slot
-stands : (c : After-as_slice-3) → length c.in_ok-ranks.ranks.items ≡ length c.args.setup.now.kinds →
+stands : (c : After-as_slice) → length c.in_ok-ranks.ranks.items ≡ length c.args.setup.now.kinds →
     IsOpened machine_from c.args.setup.now c.args.limits.now c.in_ok-replay.replay
 stands c kinds = search (arith, rules, opened, length-map)
 
 -- and it goes by the lines of the log
-logged : (c : After-as_slice-3) → c.len-ports.result ≡ length c.args.setup.now.kinds →
-    IsLog (length c.args.setup.now.kinds) c.as_slice-3.result.now c.args.log.now
+logged : (c : After-as_slice) → c.len-ports.result ≡ length c.args.setup.now.kinds →
+    IsLog (length c.args.setup.now.kinds) c.as_slice.result.now c.args.log.now
 logged c as_many = search (arith, rules)
 
 -- ## What is asked, and what the audit says
@@ -39,24 +39,22 @@ new-requires-2-clause-machines c = search (arith, rules, c.in_ok-ranks.ensures.o
 pub new-requires-2-clause-limits : goal.new-requires-2-clause-limits
 new-requires-2-clause-limits c = cc (ranked (goal.at.new-requires-2-clause-limits c).In_ok-ranks)
 
-pub new-requires-2-clause-from_inputs : goal.new-requires-2-clause-from_inputs
-new-requires-2-clause-from_inputs c = search (arith, rules, length-map-range_with_len, counted)
-
-pub new-requires-2-clause-to_outputs : goal.new-requires-2-clause-to_outputs
-new-requires-2-clause-to_outputs c = search (arith, rules, length-map-range_with_len, counted)
+pub new-requires-2-clause-ports : goal.new-requires-2-clause-ports
+new-requires-2-clause-ports c =
+    let many = ranked (goal.at.new-requires-2-clause-ports c).In_ok-ranks in
+    let ports = c.requires.ports in omega arith
 
 pub replay_run-requires : goal.replay_run-requires
 replay_run-requires c =
     let at = goal.at.replay_run-requires c in
     let kinds = ranked at.In_ok-ranks in
+    let many = counted at.After-len-ports in
     let made = c.in_ok-replay.ensures in
-    let lines = c.as_slice-3.ensures.value in
-    ready (stands at.After-as_slice-3 kinds) c.args.schedule.now.came c.as_slice-3.result.now c.in_ok-note.note
-    c.len-ports.result (counted at.After-len-ports ∙ kinds) made.in_step
-    (c.in_ok-ranks.ensures.classes c.requires.some) c.requires.traffic c.requires.short c.requires.ranked
-    (made.from_inputs ∙ c.as_slice.ensures.value ∙ c.in_ok-from_inputs.ensures)
-    (made.to_outputs ∙ c.as_slice-2.ensures.value ∙ c.in_ok-to_outputs.ensures)
-    (rw lines (log_in_order c.len-ports.result c.in_ok-lines.lines.items c.args.log.now c.in_ok-lines.ensures.read))
+    ready (stands at.After-as_slice kinds) c.args.schedule.now.came c.as_slice.result.now c.in_ok-note.note
+    c.len-ports.result (many ∙ kinds) made.in_step (c.in_ok-ranks.ensures.classes c.requires.some) c.requires.traffic
+    c.requires.short c.requires.ranked (rw (← many) at made.from_inputs) (rw (← many) at made.to_outputs)
+    (rw c.as_slice.ensures.value
+    (log_in_order c.len-ports.result c.in_ok-lines.lines.items c.args.log.now c.in_ok-lines.ensures.read))
     c.in_ok-note.ensures.items c.in_ok-note.ensures.spare
 
 pub returns : goal.returns
@@ -64,4 +62,4 @@ returns c =
     let at = goal.at.returns c in
     let kinds = ranked at.In_ok-ranks in
     let many = counted at.After-len-ports in
-    let begins = stands at.After-as_slice-3 kinds in search (arith, rules, verdict, logged)
+    let begins = stands at.After-as_slice kinds in search (arith, rules, verdict, logged)

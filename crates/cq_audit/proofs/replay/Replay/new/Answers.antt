@@ -1,17 +1,32 @@
-use Rattle.cq_audit.proofs.Terms.{arith, rules, length, length-map}
+use Rattle.cq_audit.proofs.Terms.{◌≡◌, arith, rules, length, length-map}
 use Rattle.cq_audit.proofs.Slots.{AreNew, in_step_first, opening_is}
 use Rattle.cq_audit.proofs.replay.Replay.new.Given as given
 use Rattle.cq_audit.proofs.replay.Replay.new.Goals as goal
 use Rattle.cq_audit.proofs.replay.Replay.new.Goals.{After-of}
 
+pub queues_for-requires : goal.queues_for-requires
+queues_for-requires g c = search (arith, rules, length-map)
+
+-- there is a rank for each port
+many : (g : given.Over) (c : After-of g) → c.len-ports.result ≡ length c.args.ranks.items
+many g c = search (arith, rules)
+
 -- what was made
 made : (g : given.Over) (c : After-of g) →
-    AreNew (length c.args.ranks.items) c.in_ok-new.field-0 c.in_ok-new-2.field-0
+    AreNew (length c.args.ranks.items) c.in_ok-queues_for.field-0 c.in_ok-new.field-0
 made g c = search (arith, rules)
 
-pub returns-clause-fabric : goal.returns-clause-fabric
-returns-clause-fabric g c = search (arith, rules, opening_is, made)
-
-pub returns-clause-in_step : goal.returns-clause-in_step
-returns-clause-in_step g c = in_step_first (made g (goal.at.returns-clause-in_step g c).After-of) c.of.result
-    (search (arith, rules)) (search (arith, rules, length-map)) (search (arith, rules, length-map))
+pub returns : goal.returns
+returns g c =
+    let at = (goal.at.returns g c).After-of in
+    let each = many g at in
+    let is = made g at in
+    record {
+      fixed = c.of.ensures.fixed;
+      limits = c.in_ok-new.ensures.limits;
+      fabric = opening_is is c.of.result c.of.ensures.states;
+      from_inputs = rw each at c.in_ok-queues_for.ensures.from_inputs;
+      to_outputs = rw each at c.in_ok-queues_for.ensures.to_outputs;
+      in_step = in_step_first is c.of.result (search (arith, rules)) (search (arith, rules, length-map))
+          (search (arith, rules, length-map));
+    }
