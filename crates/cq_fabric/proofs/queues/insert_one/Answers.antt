@@ -1,6 +1,12 @@
-use Rattle.cq_fabric.proofs.Terms.{rules, length-set, arith, get_or_default, length-map, get_or-map}
+use Rattle.cq_fabric.proofs.Terms.{common_steps, rules, length-set, arith, get_or_default, length-map, get_or-map, get_or-set_other, get_or-set_same, no_list}
 use Rattle.cq_fabric.proofs.Offered.{come_behind, come_differ, come_same, set_came}
 use Rattle.cq_fabric.proofs.queues.insert_one.Goals as goal
+
+pub bounds-buffers-output : goal.bounds-buffers-output
+bounds-buffers-output c = search (arith, rules, length-map)
+
+pub cushion_for-cushion-requires : goal.cushion_for-cushion-requires
+cushion_for-cushion-requires c = grind (arith, common_steps, get_or_default, get_or-map)
 
 pub renew_pair-requires-clause-keys : goal.renew_pair-requires-clause-keys
 renew_pair-requires-clause-keys c =
@@ -17,3 +23,17 @@ renew_pair-requires-clause-others c =
 pub returns-then-behind-clause-offers : goal.returns-then-behind-clause-offers
 returns-then-behind-clause-offers c =
     search (arith, rules, length-map, get_or-map, come_behind, set_came, get_or_default)
+
+pub returns-then-behind-clause-list : goal.returns-then-behind-clause-list
+returns-then-behind-clause-list c = grind (arith, common_steps, get_or_default, get_or-map, get_or-set_same)
+
+pub returns-then-behind-clause-others : goal.returns-then-behind-clause-others
+returns-then-behind-clause-others c i other =
+    get_or-set_other c.args.lists.now c.args.input i c.insert.new.self no_list other
+
+pub returns-clause-list : goal.returns-clause-list
+returns-clause-list c = grind (arith, common_steps, get_or_default, get_or-map, get_or-set_same)
+
+pub returns-clause-others : goal.returns-clause-others
+returns-clause-others c i other =
+    get_or-set_other c.args.lists.now c.args.input i c.insert.new.self no_list other
