@@ -121,7 +121,7 @@ pub fn run_on<T: Threads + Sync, R: Rank, G: Gate>(
     ensures run { IfOk result (HasKept (map R.machine engine.fixed) schedule.now.came engine sent note) }
     ensures refused { IfErr result (IsRefusalOn (map R.machine engine.fixed) schedule.now.came engine) }
 {
-    run_slots(
+    let ran = run_slots(
         rt,
         alloc,
         &mut engine,
@@ -130,8 +130,10 @@ pub fn run_on<T: Threads + Sync, R: Rank, G: Gate>(
         gate,
         &mut sent,
         &mut note,
-    )?;
+    );
+    // What was seen is taken out whatever came of the run, so that an engine is dropped nowhere else.
     let seen = engine.into_seen();
+    ran?;
     Ok(PackedFabricRun {
         sent,
         note,
