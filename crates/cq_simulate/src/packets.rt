@@ -1,5 +1,5 @@
 //! The packets that leave an output.
-ghost use Rattle.std.specs.Prelude.{◌≡◌, ◌+◌, ◌*◌, ◌<◌, ◌≤◌, ℕ, All, IfOk, IfSome, OnOk, [], length};
+ghost use Rattle.std.specs.Prelude.{◌≡◌, ◌+◌, ◌*◌, ◌<◌, ◌≤◌, ℕ, All, IfOk, IfSome, None, OnOk, [], length};
 ghost use Rattle.cq_cells.specs.Schedule.{packets_of as packets_at};
 ghost use Rattle.cq_simulate.specs.Terms.{t0_of, packet_at, ports_of, IsOtherPair, open_after, open_at, HaveLeftOf, packets_out, Fits, IsCaptured, left_with, piece_at};
 
@@ -32,16 +32,46 @@ pub fn packets_of(
     let classes = tables.setup.classes.as_slice().len() as u16;
     let mut joiner = Joiner::new(alloc, inputs, classes)?;
     let mut packets = Vec::new(alloc);
+    put_together(
+        &mut joiner,
+        &mut packets,
+        output,
+        sent,
+        captures,
+        tables,
+        t0,
+    )?;
+    Ok(packets)
+}
+
+// Puts the packets that leave an output together, where no packet is open and none has left.
+fn put_together(
+    joiner: &mut Joiner,
+    packets: &mut Vec<OutPacket>,
+    output: Port,
+    sent: &[Departure],
+    captures: &[Capture],
+    tables: &Tables,
+    t0: u64,
+) -> Result<(), NoMemory>
+    requires of { HaveLeftOf tables.now captures.now sent.now t0 }
+    requires inputs { joiner.old.inputs ≡ length captures.now }
+    requires classes { joiner.old.classes ≡ length tables.now.setup.classes }
+    requires nothing { (input class : ℕ) → open_at joiner.old input class ≡ None }
+    requires none { packets.old.items ≡ [] }
+    ensures packets { OnOk result (packets.new.items ≡ packets_out tables.now captures.now sent.now output) }
+    ensures bodies { OnOk result (All (λ p. length p.body ≤ 262144) packets.new.items) }
+{
     'departures: for departure in sent {
         if departure.output == output {
-            let left = take(&mut joiner, departure, captures, tables, t0)?;
+            let left = take(joiner, departure, captures, tables, t0)?;
             match left {
                 None => {}
                 Some(packet) => packets.push(packet)?,
             }
         }
     }
-    Ok(packets)
+    Ok(())
 }
 
 /// Takes the cell that departs. If it is the last of its packet, that packet leaves.

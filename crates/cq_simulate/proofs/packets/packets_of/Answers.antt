@@ -1,50 +1,19 @@
-use Rattle.cq_simulate.proofs.Terms.{rules, arith, sym, ◌∙◌, ap, append-nil, length, take_all, None, Some, JoinerView}
-use Rattle.cq_simulate.proofs.Departed.{departed_captured, departed_class}
-use Rattle.cq_simulate.proofs.AllPacked.{at_first, at_other, cell_fits, nowhere, went_on}
+use Rattle.cq_simulate.proofs.Terms.{rules, arith, ◌∙◌, ap, length, JoinerView}
+use Rattle.cq_simulate.proofs.AllPacked.{nowhere}
 use Rattle.cq_simulate.proofs.packets.packets_of.Goals as goal
-use Rattle.cq_simulate.proofs.packets.packets_of.Goals.{then-departure-output+in_ok-left+in-Some+in_ok-push-in-Some, then-departure-output+in_ok-left+in-None, else-departure-output}
 
-pub departures-init : goal.departures-init
-departures-init c = at_first c.args.tables.now c.args.captures.now c.args.sent.now c.args.output c.in_ok-joiner.joiner
-    c.new-packets.result.items (ap (λ (v : JoinerView). v.inputs) c.in_ok-joiner.ensures.joiner)
-    (ap (λ (v : JoinerView). v.classes) c.in_ok-joiner.ensures.joiner ∙ ap (λ l. length l) c.as_slice.ensures)
-    c.in_ok-joiner.ensures.nothing c.new-packets.ensures.items
+pub put_together-requires-clause-inputs : goal.put_together-requires-clause-inputs
+put_together-requires-clause-inputs c = ap (λ (v : JoinerView). v.inputs) c.in_ok-joiner.ensures.joiner
 
-pub take-requires-clause-input : goal.take-requires-clause-input
-take-requires-clause-input c = search (arith, rules, departed_captured)
+pub put_together-requires-clause-classes : goal.put_together-requires-clause-classes
+put_together-requires-clause-classes c =
+    ap (λ (v : JoinerView). v.classes) c.in_ok-joiner.ensures.joiner ∙ ap (λ l. length l) c.as_slice.ensures
 
-pub take-requires-clause-class : goal.take-requires-clause-class
-take-requires-clause-class c = search (arith, rules, departed_class)
+pub put_together-requires-clause-nothing : goal.put_together-requires-clause-nothing
+put_together-requires-clause-nothing c = c.in_ok-joiner.ensures.nothing
 
-pub take-requires-clause-captured : goal.take-requires-clause-captured
-take-requires-clause-captured c = departed_captured c.requires c.departures.departure-index _ c.departures-test.true
-
-pub take-requires-clause-fits : goal.take-requires-clause-fits
-take-requires-clause-fits c = search (arith, rules, cell_fits, departed_class)
-
-pub departures-preserved : goal.departures-preserved
-departures-preserved c =
-    let t = c.args.tables.now in
-    let captures = c.args.captures.now in
-    let sent = c.args.sent.now in
-    let k = c.departures.departure-index in
-    let inv = c.departures.invariant in
-    elim c.if-departure-output.branch [
-      | then-departure-output+in_ok-left+in-Some+in_ok-push-in-Some w ↦
-          rw (w.joiner-is, w.packets-is) (went_on t captures sent c.args.output k _ c.departures-test.true
-          w.if-departure-output.true w.take.new.joiner inv w.take.ensures.inputs w.take.ensures.classes
-          w.in_ok-left.ensures.pair w.take.ensures.others (Some w.in-Some.packet)
-          (sym w.in-Some.is ∙ w.in_ok-left.ensures.packet) w.in_ok-push-in-Some.ensures.items
-          (rw w.in-Some.is at w.in_ok-left.ensures.body))
-      | then-departure-output+in_ok-left+in-None w ↦
-          rw (w.joiner-is, w.packets-is) (went_on t captures sent c.args.output k _ c.departures-test.true
-          w.if-departure-output.true w.take.new.joiner inv w.take.ensures.inputs w.take.ensures.classes
-          w.in_ok-left.ensures.pair w.take.ensures.others None (sym w.in-None.is ∙ w.in_ok-left.ensures.packet)
-          (sym (append-nil c.departures.packets.items)) tt)
-      | else-departure-output w ↦ rw (w.joiner-is, w.packets-is)
-          (at_other t captures sent c.args.output k _ c.departures-test.true inv w.if-departure-output.false)
-    ]
+pub put_together-requires-clause-none : goal.put_together-requires-clause-none
+put_together-requires-clause-none c = c.new-packets.ensures.items
 
 pub returns-clause-nowhere : goal.returns-clause-nowhere
-returns-clause-nowhere c none = search
-    (arith, rules, take_all c.departures.departure-index c.args.sent.now, nowhere c.args.output c.requires none)
+returns-clause-nowhere c none = search (arith, rules, nowhere c.args.output c.requires none)

@@ -1,5 +1,5 @@
 use Rattle.cq_simulate.proofs.AllPacked.{SoFar}
-use Rattle.cq_simulate.proofs.packets.packets_of.Given as goal
+use Rattle.cq_simulate.proofs.packets.put_together.Given as goal
 
 abbrev pub invariant-departures : goal.invariant-departures
 invariant-departures l = SoFar l.tables l.captures l.sent l.output l.departure-index l.joiner l.packets.items
