@@ -1,7 +1,7 @@
 -- What each step asks follows from the range and the shape of the state, and of cells that were found. What a step that
 -- fails says of the clauses, and that a state is sound that passes all, is in the lemmas.
-use Rattle.cq_resume.proofs.Terms.{arith, rules, err_from_is_err_and, PacketsStand, AreOrdered, HaveRoom}
-use Rattle.cq_resume.proofs.Judging.{can_take_up, cells_for, few_ports, names_for, outputs_low, tally_from, is_sound, leave_refused, packets_refused, stand_refused}
+use Rattle.cq_resume.proofs.Terms.{arith, rules, ◌∙◌, err_from_is_err_and, PacketsStand, AreOrdered, HaveRoom}
+use Rattle.cq_resume.proofs.Judging.{can_take_up, cells_for, few_ports, names_for, outputs_low, ports_are, tally_from, is_sound, leave_refused, packets_refused, stand_refused}
 use Rattle.cq_resume.proofs.sound.judge_found.Goals as goal
 use Rattle.cq_resume.proofs.sound.judge_found.Goals.{In-Some, In_ok-judge_places}
 
@@ -20,6 +20,18 @@ packets_stand c = search (arith, rules)
 
 pub judge_places-requires : goal.judge_places-requires
 judge_places-requires c = outputs_low _ _ _ _ c.requires.known
+
+pub tally_packets-requires-clause-ordered : goal.tally_packets-requires-clause-ordered
+tally_packets-requires-clause-ordered c = rw c.deref.ensures.value c.requires.known.found.ordered
+
+pub judge_ranks-requires-clause-ordered : goal.judge_ranks-requires-clause-ordered
+judge_ranks-requires-clause-ordered c = c.requires.known.found.ordered
+
+pub judge_ranks-requires-clause-ranks : goal.judge_ranks-requires-clause-ranks
+judge_ranks-requires-clause-ranks c = c.requires.known.range.outputs_told ∙ ports_are _ _ _ _ c.requires.known
+
+pub judge_ranks-requires-clause-sized : goal.judge_ranks-requires-clause-sized
+judge_ranks-requires-clause-sized c = c.requires.known.shape.ranks
 
 pub judge_ranks-requires-clause-ports : goal.judge_ranks-requires-clause-ports
 judge_ranks-requires-clause-ports c = few_ports _ _ _ _ c.requires.known
