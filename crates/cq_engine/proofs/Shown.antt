@@ -18,6 +18,10 @@ seen fixed states q l x next stopped =
       stopped = stopped;
     }
 
+-- what a number is at most, one that is the same is
+pub at_most : (a b n : ℕ) → a ≡ b → b ≤ n → a ≤ n
+at_most a b n e le = omega arith
+
 -- ## What is known where a slot begins
 
 -- what is asked of an engine

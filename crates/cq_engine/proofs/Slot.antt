@@ -1,6 +1,6 @@
 -- A slot of the engine: that of the fabric below, with the figures that are counted of it. What each phase asks for
 -- is shown there, for any stable matchings, and input-best ones are stable.
-use Rattle.cq_engine.proofs.Terms.{common_steps, rules, ◌≡◌, ℕ, zero, suc, ◌+◌, ◌-◌, ◌≤◌, eqb, Bool, List, [], ◌∷◌, ◌++◌, length, map, Option, Some, None, refl, ap, ◌∙◌, arith, if◌then◌else◌, min, max, slice_get, is_some, option_and_then, enumerate_from, list_any, position_or_len, reduce, option_map, same_Some, Cell, Queued, Transfer, InputFigures, OutputFigures, Figures, Machine, IdealState, fronts, list_of, orders_of, Moves, transfers_of, Partners, IsInputBest, IsStable, proposals, Fabric, cushion_of, came_to, SlotRecord, FabricSlot, figures_after, input_after, output_after, either_by, slacks, slack_on_arrival, proposals_in, stable_slot, Queues, fabric_of, length-by_place, AreRanked, BuffersHaveRoom, HaveArrived, HaveMoved, HaveSent, alike, arrive, come, depart, fill, keyed, recorded, IsInStep, IsSeen, CountsFit, Look, arriving_slack, input_counted, output_counted, slack_seen, SendsAlike, by_arrivals, more_after}
+use Rattle.cq_engine.proofs.Terms.{common_steps, rules, ◌≡◌, ℕ, zero, suc, ◌+◌, ◌-◌, ◌≤◌, eqb, Bool, List, [], ◌∷◌, ◌++◌, length, map, Option, Some, None, refl, ap, ◌∙◌, arith, if◌then◌else◌, min, max, slice_get, is_some, option_and_then, enumerate_from, list_any, position_or_len, reduce, option_map, same_Some, Cell, Queued, Transfer, InputFigures, OutputFigures, Figures, Machine, IdealState, fronts, list_of, orders_of, Moves, transfers_of, Partners, IsInputBest, IsStable, proposals, Fabric, cushion_of, came_to, SlotRecord, FabricSlot, figures_after, input_after, output_after, either_by, slacks, slack_on_arrival, proposals_in, stable_slot, Queues, fabric_of, length-by_place, AreRanked, BuffersHaveRoom, HaveArrived, HaveMoved, HaveSent, alike, arrive, come, depart, fill, keyed, recorded, IsInStep, IsRunning, IsSeen, HoldsFabric, LimiterView, CountsFit, Look, arriving_slack, input_counted, output_counted, slack_seen, SendsAlike, by_arrivals, more_after}
 use Rattle.cq_laws.specs.Records.{transfers_in}
 use Rattle.cq_engine.specs.declared.measure.Look.TheVariants as look
 
@@ -90,6 +90,13 @@ pub record Whole (ms : List Machine) (slot : ℕ) (cells : List (Option Cell)) (
   pub in_step : IsInStep ms (slot + 1) y g
   pub seen : IsSeen look.Arriving y g
   pub alike : SendsAlike ms slot cells ideal left g
+
+-- so the next slot can follow
+pub still_runs : {ms : List Machine} {slot : ℕ} {cells : List (Option Cell)} {x y : Figures} {f g : Fabric}
+    {ideal : IdealState} {left : List (Option Queued)} {noted : List Transfer} {l : LimiterView} →
+    Whole ms slot cells x y f g ideal left noted → length g.ranks ≡ length ms → HoldsFabric g l →
+    IsRunning ms (slot + 1) look.Arriving y g l
+still_runs done ranks holds = record { in_step = done.in_step; seen = done.seen; ranks = ranks; holds = holds }
 
 -- ## A slot
 
