@@ -1,6 +1,7 @@
 -- Before the first slot nothing waits and nothing was counted.
-use Rattle.cq_engine.proofs.Terms.{arith, rules, length, map, length-map, ◌≡◌, ℕ, zero, suc, List, [], Some, replicate, sym, common_steps, slice_get, same_Some, Figures, Machine, AreForOneSwitch, empty_fabric, no_figures, empty_agree, Queues, fabric_of, LimiterView, IsInStep, IsRunning, holds_first, empty_ideal, more_at_first}
+use Rattle.cq_engine.proofs.Terms.{arith, rules, length, map, length-map, ◌≡◌, ℕ, zero, suc, List, [], Some, replicate, ap, sym, ◌∙◌, common_steps, slice_get, same_Some, Figures, Machine, AreForOneSwitch, empty_fabric, no_figures, empty_agree, Queues, fabric_of, LimiterView, IsInStep, IsRunning, holds_first, empty_ideal, more_at_first}
 use Rattle.cq_engine.specs.declared.measure.Look.TheVariants as look
+use Rattle.cq_engine.proofs.Shown.{at_most}
 use Rattle.cq_engine.proofs.engine.Engine.new.Goals as goal
 
 replicated : {X : Type 0} (n i : ℕ) (x y : X) → slice_get (replicate n x) i ≡ Some y → y ≡ x
@@ -29,16 +30,35 @@ running_first : (ms : List Machine) (n : ℕ) (ranks : List (List ℕ)) (q : Que
 running_first ms n ranks q x l one ports states inputs buffers figures limits held =
     grind (arith, common_steps, holds_first, first_up, more_at_first)
 
+pub new-requires : goal.new-requires
+new-requires g c =
+    let made = c.requires in
+    let many = length-map (map g.R.Rank.fixed c.args.ranks.items) g.R.Rank.machine
+    ∙ length-map c.args.ranks.items g.R.Rank.fixed in
+    record {
+      few = at_most _ _ _ (made.from_inputs ∙ sym many) made.machines.few;
+      square = made.to_outputs ∙ sym made.from_inputs;
+    }
+
+pub new-requires-2 : goal.new-requires-2
+new-requires-2 g c =
+    let many = length-map (map g.R.Rank.fixed c.args.ranks.items) g.R.Rank.machine
+    ∙ length-map c.args.ranks.items g.R.Rank.fixed in
+    at_most _ _ _ (c.requires.limits ∙ sym many) c.requires.machines.few
+
 pub invariant_of-result : goal.invariant_of-result
-invariant_of-result g c = search (
-  arith,
-  rules,
-  length-map c.of.result.fixed g.R.Rank.machine,
-  length-map c.args.ranks.items g.R.Rank.fixed,
-  length-map c.args.ranks.items g.R.Rank.state,
-  running_first (map g.R.Rank.machine c.of.result.fixed) (length c.args.ranks.items) c.of.result.states
-      c.in_ok-new.field-0 c.in_ok-no_figures.field-0 c.in_ok-new-2.field-0,
-)
+invariant_of-result g c =
+    let made = c.requires in
+    let items = c.args.ranks.items in
+    let fixed = c.of.ensures.fixed in
+    let figures = c.in_ok-no_figures.ensures ∙ ap no_figures made.from_inputs in
+    let runs = running_first (map g.R.Rank.machine c.of.result.fixed) (length items) c.of.result.states
+    c.in_ok-new.field-0 c.in_ok-no_figures.field-0 c.in_ok-new-2.field-0 (rw fixed made.machines)
+    (length-map c.of.result.fixed g.R.Rank.machine ∙ ap length fixed ∙ length-map items g.R.Rank.fixed)
+    (ap length c.of.ensures.states ∙ length-map items g.R.Rank.state)
+    (rw (← made.from_inputs) c.in_ok-new.ensures.inputs) (rw (← made.from_inputs) c.in_ok-new.ensures.buffers) figures
+    (ap length c.in_ok-new-2.ensures.limits ∙ made.limits) (rw (← made.limits) c.in_ok-new-2.ensures.held) in
+    (made.workers, λ _. runs)
 
 pub returns : goal.returns
 returns g c = search (arith, rules, c.of.ensures.fixed, c.of.ensures.states)
