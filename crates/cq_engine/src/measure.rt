@@ -10,7 +10,7 @@ use cq_fabric::Queues;
 use cq_ideal::Newcomers;
 
 /// Which of the waiting cells a slot looks at for the least slack.
-#[derive(Clone, Copy, Debug, PartialEq, Eq)]
+#[derive(Clone, Copy)]
 pub enum Look {
     /// Those that arrive: no other has less slack than the least that was seen.
     Arriving,
