@@ -1,5 +1,5 @@
 -- Only proofs use this.
--- What is known of the file of an input.
+-- What is known of the file of an input, and of what the inputs come to together.
 use Rattle.std.specs.Prelude.{◌≡◌, ◌≤◌, ◌∷◌, ℕ, List, length, Option, Some, IfSome, Result, Ok, Err}
 use Rattle.std.specs.FinMap.{get}
 use Rattle.cq_pcap.specs.declared.read.PcapRefusal.{PcapRefusal}

@@ -1,4 +1,7 @@
 //! Judging what the words name. Nothing is written here.
+//!
+//! What a command owns it lends to its last call, and drops by name behind it: this is one step of a proof, where the
+//! end of a scope is one for each field.
 ghost use Rattle.std.specs.Prelude.{◌≡◌, ℕ, ◌≤◌, ◌<◌, ◌^◌, List, ◌∷◌, [], All, IfErr, IfOk, IsOk, Ok, length};
 ghost use Rattle.std.specs.Int.{IsInRange};
 ghost use Rattle.cq_run.specs.Terms.{Closed, Fails, Reads, Judges, tables_in, checked, AreGiven, AreTables, ports_of, audited, state_written, IsAuditHalted, IsAuditPassed, IsPartHalt, IsPartText, soak_captures, soak_tables, plain_tables, Meets, Reporting, IsJudged, IsHaltOf, Ahead, InTurn, IsGiven, IsResumeHalt, IsResuming, IsWithinRange, IsCrossing, IsIdeal, IsPassing, ideally_sent, most_ports, report_with};

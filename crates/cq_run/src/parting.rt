@@ -1,4 +1,7 @@
 //! Stopping a run over the captures that were read, and taking one up.
+//!
+//! What a function owns it lends to its last call, and drops by name behind it: this is one step of a proof, where the
+//! end of a scope is one for each field.
 ghost use Rattle.std.specs.Prelude.{◌≡◌, ◌<◌, ◌^◌, ℕ, List, IfErr, IfOk, OnOk, length};
 ghost use Rattle.cq_run.specs.Terms.{AreTables, Captured, ports_of, AreGiven, IsPartHalt, IsRead, IsRefusal, IsResumeHalt, IsResumedBy, IsPartText, IsPartedAt, IsScheduleFor, IsScheduleOf, CanBeTakenUp, halt_for_state, halt_for_text, schedule_of, switch_of, taken_at};
 

@@ -44,7 +44,7 @@ pub fn packets_of(
     Ok(packets)
 }
 
-// Puts the packets that leave an output together, where no packet is open and none has left.
+// Puts together the packets that leave an output, into a list that is empty, with a joiner at which none is open.
 fn put_together(
     joiner: &mut Joiner,
     packets: &mut Vec<OutPacket>,
