@@ -11,8 +11,5 @@ stable_told-requires-clause-lines c = search (arith, rules, lists_long)
 pub cross-requires-clause-matching : goal.cross-requires-clause-matching
 cross-requires-clause-matching c = search (arith, rules, told_there)
 
-pub returns-clause-crossed : goal.returns-clause-crossed
-returns-clause-crossed c = search (arith, rules, have_crossed)
-
-pub returns-clause-noted : goal.returns-clause-noted
-returns-clause-noted c = search (arith, rules, are_noted)
+pub returns : goal.returns
+returns c = search (arith, rules, have_crossed, are_noted)
