@@ -4,7 +4,7 @@ use Rattle.cq_base.specs.declared.setup.Kind.TheVariants.{FirstCome}
 use Rattle.cq_base.specs.declared.setup.Setup.{Setup}
 use Rattle.cq_route.specs.declared.tables.PortRow.{PortRow}
 use Rattle.cq_route.specs.declared.tables.Tables.{Tables}
-use Rattle.cq_route.specs.Defaults.{default_cell_bytes, default_slot_ns, default_limit_bytes, default_workers, default_output, default_class, default_class_row}
+use Rattle.cq_route.specs.Defaults.{default_class_row, default_tables}
 
 -- one class, and an output that sends in the order of arrival
 abbrev pub plain_setup : Setup
@@ -16,18 +16,5 @@ plain_ports read write = (record { read = Some read; write = write }) ∷ []
 
 -- every other figure has its default, no address and no rule is known, and no trace and no log is named
 unfoldable pub plain_tables : List ℕ → List ℕ → Tables
-plain_tables read write = record {
-  cell_bytes = default_cell_bytes;
-  slot_ns = default_slot_ns;
-  limit_bytes = default_limit_bytes;
-  workers = default_workers;
-  default_output = default_output;
-  default_class = default_class;
-  trace = [];
-  log = [];
-  setup = plain_setup;
-  ports = plain_ports read write;
-  limits = None ∷ [];
-  addresses = [];
-  rules = [];
-}
+plain_tables read write =
+    record default_tables { setup = plain_setup; ports = plain_ports read write; limits = None ∷ [] }

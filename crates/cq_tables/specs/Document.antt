@@ -13,7 +13,7 @@ use Rattle.cq_route.specs.declared.tables.PortRow.{PortRow}
 use Rattle.cq_route.specs.declared.tables.AddressRow.{AddressRow}
 use Rattle.cq_route.specs.declared.tables.RuleRow.{RuleRow}
 use Rattle.cq_route.specs.declared.tables.Tables.{Tables}
-use Rattle.cq_route.specs.Defaults.{default_cell_bytes, default_slot_ns, default_limit_bytes, default_workers, default_output, default_class, default_class_row}
+use Rattle.cq_route.specs.Defaults.{default_class_row, default_tables}
 use Rattle.cq_tables.specs.declared.version.Version.{Version}
 use Rattle.cq_tables.specs.declared.version.Version.TheVariants.{One, Two}
 use Rattle.cq_tables.specs.declared.refusal.Wrong.{Wrong}
@@ -236,12 +236,12 @@ top_keys top = figure_keys Top ++ (file_keys Top ++ array_keys top)
 abbrev pub figures_of : Members → Figures
 figures_of top = record {
   version = version_in top;
-  cell_bytes = found_or default_cell_bytes integer_value (codes "cell_bytes") top;
-  slot_ns = found_or default_slot_ns integer_value (codes "slot_ns") top;
-  limit_bytes = found_or default_limit_bytes integer_value (codes "limit_bytes") top;
-  workers = found_or default_workers integer_value (codes "workers") top;
-  default_output = found_or default_output integer_value (codes "default_output") top;
-  default_class = found_or default_class integer_value (codes "default_class") top;
+  cell_bytes = found_or default_tables.cell_bytes integer_value (codes "cell_bytes") top;
+  slot_ns = found_or default_tables.slot_ns integer_value (codes "slot_ns") top;
+  limit_bytes = found_or default_tables.limit_bytes integer_value (codes "limit_bytes") top;
+  workers = found_or default_tables.workers integer_value (codes "workers") top;
+  default_output = found_or default_tables.default_output integer_value (codes "default_output") top;
+  default_class = found_or default_tables.default_class integer_value (codes "default_class") top;
 }
 
 -- those that have a range of their own are in it
