@@ -35,8 +35,5 @@ lines-preserved c =
     c.cell_near-cell.result c.lines.invariant (omega arith) (c.cell_near-cell.ensures
     ∙ ap (shown c.args.slot) line ∙ sym (arriving_at_line c.args.slot i lines c.requires.own inside)))
 
-pub returns-clause-cells : goal.returns-clause-cells
-returns-clause-cells c = search (arith, rules, all_filled)
-
-pub returns-clause-stand : goal.returns-clause-stand
-returns-clause-stand c = search (arith, rules, still_stand)
+pub returns : goal.returns
+returns c = search (arith, rules, all_filled, still_stand)

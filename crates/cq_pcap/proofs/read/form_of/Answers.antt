@@ -3,8 +3,5 @@ use Rattle.cq_pcap.proofs.Refused.{err_map, ok_map}
 use Rattle.cq_pcap.proofs.Rows.{header_fault, rows_none}
 use Rattle.cq_pcap.proofs.read.form_of.Goals as goal
 
-pub returns-clause-form : goal.returns-clause-form
-returns-clause-form c = search (arith, rules, ok_map, rows_none)
-
-pub returns-clause-fault : goal.returns-clause-fault
-returns-clause-fault c = search (arith, rules, err_map, header_fault)
+pub returns : goal.returns
+returns c = search (arith, rules, ok_map, rows_none, err_map, header_fault)
