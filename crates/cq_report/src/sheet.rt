@@ -78,7 +78,7 @@ impl Sheet {
         let numerals = &self.numerals;
         let bytes = &mut self.bytes;
         let id = departure.queued.cell.id;
-        let slot = put_slot(bytes, self.end, numerals, departure.slot);
+        let slot = put_number(bytes, self.end, numerals, departure.slot);
         let output = put_number(bytes, slot, numerals, u64::from(departure.output));
         self.end = put_cell(bytes, output, numerals, id.input, id.packet, id.index);
         Ok(())
@@ -92,7 +92,7 @@ impl Sheet {
         let numerals = &self.numerals;
         let bytes = &mut self.bytes;
         let id = transfer.id;
-        let slot = put_slot(bytes, self.end, numerals, transfer.slot);
+        let slot = put_number(bytes, self.end, numerals, transfer.slot);
         let phase = put_number(bytes, slot, numerals, u64::from(transfer.phase));
         let input = put_number(bytes, phase, numerals, u64::from(transfer.input));
         self.end = put_cell(bytes, input, numerals, transfer.output, id.packet, id.index);
@@ -122,22 +122,7 @@ fn put_cell(
     end
 }
 
-// Writes the first number of a line, its slot, from a place on and a blank behind it, and answers the place behind
-// that. What stands before stays. It is seldom below a thousand, so a large one is written where it stands.
-#[inline(always)]
-#[tactic(auto, using(crate::proofs::Hundreds::few_digits, crate::proofs::Hundreds::some_digit))]
-fn put_slot(bytes: &mut [u8; SHEET], at: usize, numerals: &Numerals, slot: u64) -> usize
-    requires { at + 25 ≤ 4096 }
-    ensures { IsPut slot at bytes.old bytes.new result }
-{
-    if slot < 1000 {
-        return put_short(bytes, at, numerals, slot);
-    }
-    put_large(bytes, at, numerals, slot)
-}
-
-// Writes a number further on in a line from a place on and a blank behind it, and answers the place behind that. What
-// stands before stays. Most are below a thousand, so a large one is written apart.
+// Writes a number from a place on and a blank behind it, and answers the place behind that. What stands before stays.
 #[inline(always)]
 #[tactic(auto, using(crate::proofs::Hundreds::few_digits, crate::proofs::Hundreds::some_digit))]
 fn put_number(bytes: &mut [u8; SHEET], at: usize, numerals: &Numerals, number: u64) -> usize
@@ -147,27 +132,6 @@ fn put_number(bytes: &mut [u8; SHEET], at: usize, numerals: &Numerals, number: u
     if number < 1000 {
         return put_short(bytes, at, numerals, number);
     }
-    put_large_apart(bytes, at, numerals, number)
-}
-
-// A number from a thousand on. It stands apart, so that small ones, which are most, are written where they stand.
-#[inline(never)]
-fn put_large_apart(bytes: &mut [u8; SHEET], at: usize, numerals: &Numerals, number: u64) -> usize
-    requires large { 1000 ≤ number }
-    requires room { at + 25 ≤ 4096 }
-    ensures { IsPut number at bytes.old bytes.new result }
-{
-    put_large(bytes, at, numerals, number)
-}
-
-// The same, where it stands.
-#[inline(always)]
-#[tactic(auto, using(crate::proofs::Hundreds::few_digits, crate::proofs::Hundreds::some_digit))]
-fn put_large(bytes: &mut [u8; SHEET], at: usize, numerals: &Numerals, number: u64) -> usize
-    requires large { 1000 ≤ number }
-    requires room { at + 25 ≤ 4096 }
-    ensures { IsPut number at bytes.old bytes.new result }
-{
     if number < 100_000 {
         return put_middle(bytes, at, numerals, number);
     }
