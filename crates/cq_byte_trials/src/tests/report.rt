@@ -1,7 +1,7 @@
 //! Texts of runs that were worked by hand.
 use cq_base::{
     Cell, CellId, Departure, Figures, InputFigures, Key, NoMemory, OutputFigures, PackedDeparture,
-    Queued, Room, Sequence, Transfer,
+    Port, Queued, Room, Sequence, Transfer,
 };
 use cq_ideal::Refused;
 use cq_report::{log_text, log_text_of_room, report_text, trace_text, trace_text_of_packed};
@@ -10,15 +10,18 @@ use std::alloc::Global;
 // A cell leaves: its slot and its output, and its input, its packet and its number there.
 type Leaving = (u64, u16, u16, u32, u32);
 
-fn departure(row: &Leaving) -> Departure {
-    let (slot, output, input, packet, index) = *row;
-    let id = CellId {
+fn cell_id(input: Port, packet: u32, index: u32) -> CellId {
+    CellId {
         input,
         packet,
         index,
-    };
+    }
+}
+
+fn departure(row: &Leaving) -> Departure {
+    let (slot, output, input, packet, index) = *row;
     let cell = Cell {
-        id,
+        id: cell_id(input, packet, index),
         output,
         class: 0,
         last: true,
@@ -43,17 +46,50 @@ type Crossing = (u64, u8, u16, u16, u32, u32);
 
 fn transfer(row: &Crossing) -> Transfer {
     let (slot, phase, input, output, packet, index) = *row;
-    let id = CellId {
-        input,
-        packet,
-        index,
-    };
     Transfer {
         slot,
         phase,
         input,
         output,
-        id,
+        id: cell_id(input, packet, index),
+    }
+}
+
+fn packed(row: &Leaving) -> PackedDeparture {
+    PackedDeparture::of(&departure(row))
+}
+
+fn departures(alloc: Global, rows: &[Leaving]) -> Result<Vec<Departure>, NoMemory> {
+    Ok(rows.iter().map(departure).collect(alloc)?)
+}
+
+fn packed_departures(alloc: Global, rows: &[Leaving]) -> Result<Vec<PackedDeparture>, NoMemory> {
+    Ok(rows.iter().map(packed).collect(alloc)?)
+}
+
+fn transfers(alloc: Global, rows: &[Crossing]) -> Result<Vec<Transfer>, NoMemory> {
+    Ok(rows.iter().map(transfer).collect(alloc)?)
+}
+
+// Whether this text was made.
+fn is_text(made: Result<Vec<u8>, NoMemory>, text: &[u8]) -> bool {
+    match made {
+        Ok(bytes) => bytes.as_slice() == text,
+        Err(_) => false,
+    }
+}
+
+// Whether what is told of these items is this text.
+fn is_told<T: Drop, F: Fn(&[T]) -> Result<Vec<u8>, NoMemory>>(
+    items: Result<Vec<T>, NoMemory>,
+    tell: F,
+    text: &[u8],
+) -> bool
+    requires { F.IsAlwaysCallable tell }
+{
+    match items {
+        Ok(items) => is_text(tell(&items), text),
+        Err(_) => false,
     }
 }
 
@@ -78,49 +114,17 @@ const TRACES: &[(&[Leaving], &[u8])] = &[
     ),
 ];
 
-fn are_traced(alloc: Global, sent: &[Departure], text: &[u8]) -> bool {
-    match trace_text(alloc, sent) {
-        Ok(trace) => trace.as_slice() == text,
-        Err(_) => false,
-    }
-}
-
-fn departures(alloc: Global, rows: &[Leaving]) -> Result<Vec<Departure>, NoMemory> {
-    Ok(rows.iter().map(departure).collect(alloc)?)
-}
-
-fn have_trace(alloc: Global, rows: &[Leaving], text: &[u8]) -> bool {
-    match departures(alloc, rows) {
-        Ok(sent) => are_traced(alloc, &sent, text),
-        Err(_) => false,
-    }
-}
-
-fn packed_are_traced(alloc: Global, sent: &[PackedDeparture], text: &[u8]) -> bool {
-    match trace_text_of_packed(alloc, sent) {
-        Ok(trace) => trace.as_slice() == text,
-        Err(_) => false,
-    }
-}
-
-fn packed(row: &Leaving) -> PackedDeparture {
-    PackedDeparture::of(&departure(row))
-}
-
-fn packed_departures(alloc: Global, rows: &[Leaving]) -> Result<Vec<PackedDeparture>, NoMemory> {
-    Ok(rows.iter().map(packed).collect(alloc)?)
-}
-
-fn have_packed_trace(alloc: Global, rows: &[Leaving], text: &[u8]) -> bool {
-    match packed_departures(alloc, rows) {
-        Ok(sent) => packed_are_traced(alloc, &sent, text),
-        Err(_) => false,
-    }
-}
-
 fn have_both_traces(alloc: Global, row: &(&[Leaving], &[u8])) -> bool {
     let (rows, text) = *row;
-    have_trace(alloc, rows, text) && have_packed_trace(alloc, rows, text)
+    is_told(
+        departures(alloc, rows),
+        |sent| trace_text(alloc, sent),
+        text,
+    ) && is_told(
+        packed_departures(alloc, rows),
+        |sent| trace_text_of_packed(alloc, sent),
+        text,
+    )
 }
 
 #[test]
@@ -155,24 +159,6 @@ const LOGS: &[(&[Crossing], &[u8])] = &[
     ),
 ];
 
-fn are_logged(alloc: Global, note: &[Transfer], text: &[u8]) -> bool {
-    match log_text(alloc, note) {
-        Ok(log) => log.as_slice() == text,
-        Err(_) => false,
-    }
-}
-
-fn transfers(alloc: Global, rows: &[Crossing]) -> Result<Vec<Transfer>, NoMemory> {
-    Ok(rows.iter().map(transfer).collect(alloc)?)
-}
-
-fn have_log(alloc: Global, rows: &[Crossing], text: &[u8]) -> bool {
-    match transfers(alloc, rows) {
-        Ok(note) => are_logged(alloc, &note, text),
-        Err(_) => false,
-    }
-}
-
 // The transfers, in a room that they fill.
 fn noted(alloc: Global, rows: &[Crossing]) -> Result<Room<Transfer>, NoMemory> {
     let mut note = Room::new(alloc, rows.len() as u64)?;
@@ -184,23 +170,17 @@ fn noted(alloc: Global, rows: &[Crossing]) -> Result<Room<Transfer>, NoMemory> {
     Ok(note)
 }
 
-fn is_logged(alloc: Global, note: Room<Transfer>, text: &[u8]) -> bool {
-    match log_text_of_room(alloc, note) {
-        Ok(log) => log.as_slice() == text,
-        Err(_) => false,
-    }
-}
-
 fn have_log_of_room(alloc: Global, rows: &[Crossing], text: &[u8]) -> bool {
     match noted(alloc, rows) {
-        Ok(note) => is_logged(alloc, note, text),
+        Ok(note) => is_text(log_text_of_room(alloc, note), text),
         Err(_) => false,
     }
 }
 
 fn have_both_logs(alloc: Global, row: &(&[Crossing], &[u8])) -> bool {
     let (rows, text) = *row;
-    have_log(alloc, rows, text) && have_log_of_room(alloc, rows, text)
+    is_told(transfers(alloc, rows), |note| log_text(alloc, note), text)
+        && have_log_of_room(alloc, rows, text)
 }
 
 #[test]
