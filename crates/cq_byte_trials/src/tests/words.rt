@@ -3,11 +3,12 @@ use cq_base::NoMemory;
 use cq_words::{Command, command_of, streamed};
 use std::alloc::Global;
 
-/// The words of a line, which are parted by blanks.
+/// The words of a line, which are parted by blanks. An empty one is written `''`.
 fn words_of(alloc: Global, line: &str) -> Result<Vec<String>, NoMemory> {
     let mut words: Vec<String> = Vec::new(alloc);
     for word in line.split_ascii_whitespace() {
-        words.push(String::from_str(alloc, word)?)?;
+        let text = if word == "''" { "" } else { word };
+        words.push(String::from_str(alloc, text)?)?;
     }
     Ok(words)
 }
@@ -45,8 +46,7 @@ fn requested(command: &Command) -> Request<'_> {
 /// Whether words ask for this, or for nothing.
 fn ask_for(alloc: Global, words: &[String], wanted: Option<Request>) -> bool {
     match command_of(alloc, words) {
-        Ok(Some(command)) => wanted == Some(requested(&command)),
-        Ok(None) => wanted.is_none(),
+        Ok(command) => command.as_ref().map(requested) == wanted,
         Err(_) => false,
     }
 }
@@ -100,6 +100,7 @@ const OTHERS: &[&str] = &[
     "",
     "run",
     "run a b",
+    "run ''",
     "run -",
     "run -a",
     "run --help",
@@ -144,27 +145,6 @@ fn other_words_are_no_command(rt: HostRuntime) {
     }
 }
 
-/// The word `run` with an empty word behind it.
-fn run_of_nothing(alloc: Global) -> Result<Vec<String>, NoMemory> {
-    let mut words: Vec<String> = Vec::new(alloc);
-    words.push(String::from_str(alloc, "run")?)?;
-    words.push(String::from_str(alloc, "")?)?;
-    Ok(words)
-}
-
-/// Whether it asks for nothing.
-fn run_of_nothing_is_refused(alloc: Global) -> bool {
-    match run_of_nothing(alloc) {
-        Ok(words) => ask_for(alloc, &words, None),
-        Err(_) => false,
-    }
-}
-
-#[test]
-fn an_empty_word_is_no_value(rt: HostRuntime) {
-    assert!(rt; run_of_nothing_is_refused(rt.alloc()));
-}
-
 /// Words, parted by blanks, with their configuration to stream, or `-` where they have none.
 const STREAMED: &[(&str, &str)] = &[
     ("stream c.toml", "c.toml"),
@@ -181,10 +161,7 @@ const STREAMED: &[(&str, &str)] = &[
 /// Whether words have this configuration to stream. Those that have one are no command.
 fn have_to_stream(alloc: Global, words: &[String], config: &str) -> bool {
     let found = streamed(words).unwrap_or("-");
-    match command_of(alloc, words) {
-        Ok(command) => found == config && (config == "-" || command.is_none()),
-        Err(_) => false,
-    }
+    found == config && (config == "-" || ask_for(alloc, words, None))
 }
 
 /// Whether the words of a line have this configuration to stream.
