@@ -1,5 +1,5 @@
 //! Captures of the format's own values, byte by byte.
-ghost use Rattle.std.specs.Prelude.{◌≡◌, ◌≤◌, All, IfOk, length};
+ghost use Rattle.std.specs.Prelude.{◌≤◌, All, IfOk, length};
 ghost use Rattle.cq_base.specs.Limits.{longest_file};
 
 use cq_base::{NoMemory, Sequence};
@@ -145,7 +145,9 @@ const CUT_HEADER: PcapRefusal = PcapRefusal::CutHeader { offset: 42 };
 const CUT_BODY: PcapRefusal = PcapRefusal::CutBody { offset: 42 };
 
 // How many bytes of a second record are there, and what is read.
-const CUTS: [(usize, Result<usize, PcapRefusal>); 6] = [
+type Cut = (u8, Result<usize, PcapRefusal>);
+
+const CUTS: &[Cut] = &[
     (0, Ok(1)),
     (1, Err(CUT_HEADER)),
     (15, Err(CUT_HEADER)),
@@ -154,38 +156,27 @@ const CUTS: [(usize, Result<usize, PcapRefusal>); 6] = [
     (18, Ok(2)),
 ];
 
-// Whether the capture is read so with that many bytes of a second record, which is as the first.
-fn is_read_with(
-    alloc: Global,
-    capture: &[u8],
-    there: usize,
-    read: Result<usize, PcapRefusal>,
-) -> bool
-    requires whole { length capture.now ≡ 42 }
-    requires part { there ≤ 18 }
-{
-    match [capture, &capture[24..24 + there]].concat(alloc) {
+// Whether a capture is read so with that many bytes of a second record, which is as the first.
+fn is_read_with(alloc: Global, capture: &[u8], cut: &Cut) -> bool {
+    let (there, read) = *cut;
+    let Some(part) = capture.get(24..24 + usize::from(there)) else {
+        return false;
+    };
+    match [capture, part].concat(alloc) {
         Ok(bytes) => bytes.len() <= 60 && packets_read(alloc, &bytes) == read,
         Err(_) => false,
     }
 }
 
-// Whether it is, with each such part of a second record.
-fn is_read_with_each(alloc: Global, capture: &[u8]) -> bool
-    requires { length capture.now ≡ 42 }
-{
-    for (there, read) in CUTS {
-        if !is_read_with(alloc, capture, there, read) {
-            return false;
-        }
-    }
-    true
+// Whether one in each form is.
+fn forms_are_read_with(alloc: Global, cut: &Cut) -> bool {
+    FORMS.iter().all(|bytes| is_read_with(alloc, bytes, cut))
 }
 
 #[test]
 fn a_cut_record_is_told_by_its_place(rt: HostRuntime) {
-    for bytes in FORMS {
-        assert!(rt; is_read_with_each(rt.alloc(), &bytes));
+    for cut in CUTS {
+        assert!(rt; forms_are_read_with(rt.alloc(), cut));
     }
 }
 
@@ -229,18 +220,11 @@ fn is_body_read(
     }
 }
 
-fn bodies_are_read(alloc: Global) -> bool {
-    for (stated, there, read) in LONG_BODIES {
-        if !is_body_read(alloc, &stated, there, read) {
-            return false;
-        }
-    }
-    true
-}
-
 #[test]
 fn the_longest_body_has_262144_bytes(rt: HostRuntime) {
-    assert!(rt; bodies_are_read(rt.alloc()));
+    for (stated, there, read) in LONG_BODIES {
+        assert!(rt; is_body_read(rt.alloc(), &stated, there, read));
+    }
 }
 
 // Whether these bytes are written for the packets.
