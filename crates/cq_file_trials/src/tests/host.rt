@@ -211,12 +211,21 @@ fn a_writer_that_is_full_is_a_fault(rt: HostRuntime) {
     assert!(rt; three_are_taken());
 }
 
+/// How reading a name is refused, if it is, and how writing these bytes to another then goes.
+fn read_then_write(
+    rt: &HostRuntime,
+    read: &str,
+    written: &str,
+    bytes: &[u8],
+) -> (Option<ReadRefusal>, Result<(), WriteFault>) {
+    let mut files = HostFiles::new(rt.alloc(), rt);
+    let unread = read_whole(rt.alloc(), &mut files, read, 9).err();
+    (unread, write_whole(&mut files, written, bytes))
+}
+
 /// Whether the name can neither be read nor written.
 fn is_shut(rt: &HostRuntime, name: &str) -> bool {
-    let mut files = HostFiles::new(rt.alloc(), rt);
-    let unread = read_whole(rt.alloc(), &mut files, name, 9).err();
-    let written = write_whole(&mut files, name, TEXT);
-    unread == Some(ReadRefusal::Fault) && written == Err(WriteFault)
+    read_then_write(rt, name, name, TEXT) == (Some(ReadRefusal::Fault), Err(WriteFault))
 }
 
 /// Whether the name below that of another, which is a file meanwhile, is shut.
@@ -275,10 +284,8 @@ fn is_left(
     wanted: Result<(), WriteFault>,
     left: &[u8],
 ) -> bool {
-    let mut files = HostFiles::new(rt.alloc(), rt);
-    let is_read = read_whole(rt.alloc(), &mut files, read, 9).is_ok();
-    let answer = write_whole(&mut files, written, b"new");
-    is_read && answer == wanted && has_bytes(rt, written, left)
+    let answer = read_then_write(rt, read, written, b"new");
+    answer == (None, wanted) && has_bytes(rt, written, left)
 }
 
 /// Whether a name is left as it should be after the first was read.
