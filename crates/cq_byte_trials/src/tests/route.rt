@@ -187,7 +187,11 @@ fn are_plain(alloc: Global, tables: &Tables, file: &str) -> bool {
 
 fn plain_tables_are_plain(alloc: Global) -> bool {
     match Tables::plain(alloc, "in.pcap", "out.pcap") {
-        Ok(tables) => are_plain(alloc, &tables, "out.pcap"),
+        Ok(tables) => {
+            let plain = are_plain(alloc, &tables, "out.pcap");
+            drop(tables);
+            plain
+        }
         Err(_) => false,
     }
 }

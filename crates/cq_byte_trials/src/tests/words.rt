@@ -46,7 +46,12 @@ fn requested(command: &Command) -> Request<'_> {
 /// Whether words ask for this, or for nothing.
 fn ask_for(alloc: Global, words: &[String], wanted: Option<Request>) -> bool {
     match command_of(alloc, words) {
-        Ok(command) => command.as_ref().map(requested) == wanted,
+        Ok(command) => {
+            let asked = command.as_ref().map(requested);
+            let is_wanted = asked == wanted;
+            drop(command);
+            is_wanted
+        }
         Err(_) => false,
     }
 }

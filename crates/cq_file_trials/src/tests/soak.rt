@@ -11,7 +11,11 @@ fn is_made<F: FnOnce(&Soak) -> bool>(made: Result<Soak, NoMemory>, is_so: F) -> 
     requires { F.IsAlwaysCallable is_so }
 {
     match made {
-        Ok(soak) => is_so(&soak),
+        Ok(soak) => {
+            let so = is_so(&soak);
+            drop(soak);
+            so
+        }
         Err(_) => false,
     }
 }
@@ -52,7 +56,11 @@ fn begins_with(soak: &Soak, words: &[u32; 2]) -> bool
 fn has_words(alloc: Global, row: &(u64, [u32; 2])) -> bool {
     let (seed, words) = row;
     match make(alloc, *seed, 61, 2) {
-        Ok(soak) => begins_with(&soak, words),
+        Ok(soak) => {
+            let begins = begins_with(&soak, words);
+            drop(soak);
+            begins
+        }
         Err(_) => false,
     }
 }
