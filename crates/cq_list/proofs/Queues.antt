@@ -1,5 +1,5 @@
 -- A pool in which one queue changes: each queue is linked as before, and the cells of the others are the same.
-use Rattle.cq_list.proofs.Terms.{common_steps, rules, ◌≡◌, ◌≢◌, ℕ, zero, suc, ◌+◌, ◌<◌, ◌≤◌, List, [], ◌∷◌, replicate, length, get_or, set, drop, Some, refl, sym, ap, ◌∙◌, arith, length-set, get_or-set_same, get_or-set_other, Bool, position_or_len, cases_lt, cases_eq, length-map, get_or-map, get_or_past, get_or_read, ext_get_or, sum_by-set, slice_get, Slab, get, slab_len, Node, Queued, Queue, PoolView, Nodes, linked, places, cells, IsLinked, OthersStay, AreLinked, IsPool, Ahead, AreFingers, HaveFingers, behind_first, no_queue, queue_at, cells_in_queues, queue_of}
+use Rattle.cq_list.proofs.Terms.{common_steps, rules, ◌≡◌, ◌≢◌, ℕ, zero, suc, ◌+◌, ◌<◌, ◌≤◌, List, [], ◌∷◌, replicate, length, get_or, set, drop, Some, refl, sym, ap, ◌∙◌, arith, length-set, get_or-set_same, get_or-set_other, Bool, position_or_len, cases_lt, cases_eq, length-map, get_or-map, get_or_past, get_or_read, ext_get_or, length-replicate, sum_by-replicate, sum_by-set, slice_get, Slab, get, slab_len, Node, Queued, Queue, PoolView, Nodes, linked, places, cells, IsLinked, OthersStay, AreLinked, IsPool, Ahead, AreFingers, HaveFingers, behind_first, no_queue, queue_at, cells_in_queues, queue_of}
 use Rattle.cq_list.proofs.Linked.{linked_stays, is_linked_along, cells_behind, linked_behind}
 use Rattle.cq_list.proofs.Walk.{head_there, head_shown}
 
@@ -16,6 +16,16 @@ no_cells nodes queues n e = ap (cells_in_queues nodes) e ∙ go n
     go : (n : ℕ) → cells_in_queues nodes (replicate n no_queue) ≡ replicate n []
     go zero = refl
     go (suc n) = ap (λ l. [] ∷ l) (go n)
+
+-- nor a finger
+pub same_at : {X : Type 0} (n j : ℕ) (x : X) → get_or (replicate n x) j x ≡ x
+same_at (suc n) (suc j) x = same_at n j x
+same_at n j x = refl
+
+pub empty_pool : {nodes : Slab Node} {queues : List Queue} {fingers : List (List Ahead)} (n room : ℕ) →
+    nodes.slots ≡ [] → room ≤ nodes.capacity → queues ≡ replicate n no_queue → fingers ≡ replicate n [] →
+    IsPool nodes queues fingers room
+empty_pool n room none few is are = rw (is, are) (search (arith, rules, same_at, sum_by-replicate, length-replicate))
 
 module _ (old new : Nodes) (j : ℕ) (queues : List Queue) (queue : Queue) (had : AreLinked old queues)
     (inside : j < length queues) (stay : OthersStay j old new) where

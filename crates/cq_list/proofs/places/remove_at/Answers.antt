@@ -12,17 +12,16 @@ remove-requires c =
     let read = ap length (get_or_read c.fill_up.new.blocks.items _ _ spot.inside c.index_mut-block.ensures.value []) in
     omega arith
 
-pub returns-clause-places : goal.returns-clause-places
-returns-clause-places c =
-    let spot = c.fill_up.ensures.spot _ _ c.requires.spot in
-    removed_at _ _ _ _ _ spot c.index_mut-block.ensures.value _ c.remove.ensures.rest
-    ∙ ap (λ l. remove l c.args.place) c.fill_up.ensures.places
-
-pub returns-clause-filled : goal.returns-clause-filled
-returns-clause-filled c =
+pub returns : goal.returns
+returns c =
     let spot = c.fill_up.ensures.spot _ _ c.requires.spot in
     let read = ap length (get_or_read c.fill_up.new.blocks.items _ _ spot.inside c.index_mut-block.ensures.value []) in
     let less = length-remove c.index_mut-block.result.now c.args.spot.within (omega arith) in
     let left = ap length c.remove.ensures.rest in
-    filled_set c.fill_up.new.blocks.items c.args.spot.block _ c.fill_up.ensures.filled
-    (λ l. let longer = c.fill_up.ensures.longer l in omega arith)
+    record {
+      places = removed_at _ _ _ _ _ spot c.index_mut-block.ensures.value _ c.remove.ensures.rest
+          ∙ ap (λ l. remove l c.args.place) c.fill_up.ensures.places;
+      filled = filled_set c.fill_up.new.blocks.items c.args.spot.block _ c.fill_up.ensures.filled
+          (λ l. let longer = c.fill_up.ensures.longer l in omega arith);
+      capacity = c.fill_up.ensures.capacity;
+    }

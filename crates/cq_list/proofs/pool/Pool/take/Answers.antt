@@ -1,4 +1,4 @@
-use Rattle.cq_list.proofs.Terms.{rules, ap, sym, drop, is_some, arith, ◌<◌, ℕ, List, subst, Queued, AreFingers, places}
+use Rattle.cq_list.proofs.Terms.{rules, ap, sym, drop, is_some, arith, ◌<◌, ℕ, List, subst, Queued, AreFingers, PoolView, places}
 use Rattle.cq_list.proofs.Linked.{rest_stay, links_less, linked_less, cells_less}
 use Rattle.cq_list.proofs.Queues.{read_of, fingers_read, as_many, inside_some, is_pool_changed, view_changed}
 use Rattle.cq_list.proofs.Walk.{head_there, head_shown}
@@ -27,19 +27,20 @@ invariant_of-self c =
     (subst (λ (l : List (ℕ × Queued)). AreFingers (places l) c.index_mut-2.result.now) less fingers))
     (omega arith) (omega arith) removed.capacity)
 
-pub returns-clause-first : goal.returns-clause-first
-returns-clause-first c =
-    let read = read_of c.self.invariant c.self.view_is (inside_some _ c.args.output 0 c.requires)
-    c.index-queue.ensures in search (arith, rules, as_many, head_shown)
-
-pub returns-clause-queues : goal.returns-clause-queues
-returns-clause-queues c =
+pub returns : goal.returns
+returns c =
     let read = read_of c.self.invariant c.self.view_is (inside_some _ c.args.output 0 c.requires)
     c.index-queue.ensures in
     let many = as_many read in
     let some : 0 < c.index-queue.result.now.len = let some = c.requires in omega arith in
     let removed = c.remove-node.ensures in
-    rw c.behind_first.ensures (view_changed c.remove-node.new.self c.self.invariant read
-    (rest_stay read.is_linked some removed.value removed.updates)
-    (linked_less read.is_linked some removed.value removed.updates) (drop 1)
-    (sym (ap (drop 1) (cells_less read.is_linked some removed.value removed.updates))))
+    let pool = c.self.invariant in
+    let spare = ap (λ (v : PoolView). v.spare) c.self.view_is in
+    record {
+      first = search (arith, rules, head_shown);
+      queues = rw c.behind_first.ensures (view_changed c.remove-node.new.self c.self.invariant read
+          (rest_stay read.is_linked some removed.value removed.updates)
+          (linked_less read.is_linked some removed.value removed.updates) (drop 1)
+          (sym (ap (drop 1) (cells_less read.is_linked some removed.value removed.updates))));
+      spare = omega arith;
+    }
