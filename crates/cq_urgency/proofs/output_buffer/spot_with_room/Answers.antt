@@ -20,20 +20,14 @@ in_halves-requires c =
     c.requires.filled spot.inside all (longer _ _ _ _ spot all) c.requires.fits c.requires.enough in
     omega arith
 
-pub returns-clause-cells : goal.returns-clause-cells
-returns-clause-cells c = search (arith, rules, flattened-halved)
-
-pub returns-clause-filled : goal.returns-clause-filled
-returns-clause-filled c = search (arith, rules, full, filled_halved)
-
-pub returns-clause-spot : goal.returns-clause-spot
-returns-clause-spot c =
+pub returns : goal.returns
+returns c =
     let all = full c.len.result _ _ c.len.ensures.len c.len.ensures.fits c.if-len-lt-MOST_CELLS.false c.block.ensures in
-    rw c.split.ensures.blocks (spot_halved _ _ _ _ c.spot_of-spot.ensures all c.in_halves.ensures.front
-    c.in_halves.ensures.back).0
-
-pub returns-clause-room : goal.returns-clause-room
-returns-clause-room c =
-    let all = full c.len.result _ _ c.len.ensures.len c.len.ensures.fits c.if-len-lt-MOST_CELLS.false c.block.ensures in
-    rw c.split.ensures.blocks (spot_halved _ _ _ _ c.spot_of-spot.ensures all c.in_halves.ensures.front
-    c.in_halves.ensures.back).1
+    let spot = spot_halved _ _ _ _ c.spot_of-spot.ensures all c.in_halves.ensures.front c.in_halves.ensures.back in
+    record {
+      cells = search (arith, rules, all, flattened-halved);
+      filled = search (arith, rules, all, filled_halved);
+      most = c.split.ensures.most;
+      spot = rw c.split.ensures.blocks spot.0;
+      room = rw c.split.ensures.blocks spot.1;
+    }
