@@ -17,17 +17,8 @@ at-held-requires c = search (arith, rules, asked_known, positions_known)
 pub inputs_of-requires : goal.inputs_of-requires
 inputs_of-requires c = search (arith, rules, asked_known)
 
-pub position_ahead-ahead-requires-clause-differ : goal.position_ahead-ahead-requires-clause-differ
-position_ahead-ahead-requires-clause-differ c = search (arith, rules)
-
-pub position_ahead-ahead-requires-clause-few : goal.position_ahead-ahead-requires-clause-few
-position_ahead-ahead-requires-clause-few c = search (arith, rules, inputs_at_most)
-
-pub position_ahead-ahead-requires-clause-listed : goal.position_ahead-ahead-requires-clause-listed
-position_ahead-ahead-requires-clause-listed c = search (arith, rules, asked_offered)
-
-pub position_ahead-ahead-requires-clause-other : goal.position_ahead-ahead-requires-clause-other
-position_ahead-ahead-requires-clause-other c = search (arith, rules, asked_offered)
+pub position_ahead-ahead-requires : goal.position_ahead-ahead-requires
+position_ahead-ahead-requires c = search (arith, rules, inputs_at_most, asked_offered)
 
 pub returns-clause-ask : goal.returns-clause-ask
 returns-clause-ask c = search (arith, rules)

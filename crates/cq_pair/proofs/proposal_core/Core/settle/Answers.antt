@@ -10,11 +10,10 @@ loop-order-smaller g c =
     let most = made-most c.args.offers.now c.ports-ports.ensures.offers c.propose.new.self c.propose.ensures.reached in
     omega arith
 
-pub returns-clause-best : goal.returns-clause-best
-returns-clause-best g c =
+pub returns : goal.returns
+returns g c =
     let empty : c.loop-order.self.free ≡ [] =
     sym c.free.ensures ∙ nil_from_length _ (eqb-true _ _ (sym c.loop-order-test.ensures)) in
-    (best-reached c.args.offers.now c.ports-ports.ensures.offers c.loop-order.self c.loop-order.invariant empty).0
-
-pub returns-clause-proposals : goal.returns-clause-proposals
-returns-clause-proposals g c = search (arith, rules, nil_from_length, eqb-true, best-reached)
+    let best = best-reached c.args.offers.now c.ports-ports.ensures.offers c.loop-order.self c.loop-order.invariant
+    empty in
+    record { reached = c.loop-order.invariant; nobody_free = empty; best = best.0; proposals = best.1 }
