@@ -22,20 +22,13 @@ none_in_any cells_of items lists b e l =
     let is : b ≡ list_all none_in lists = e ∙ sym (list_all-map none_in cells_of items) ∙ ap (list_all none_in) l in
     search (rules, AllPass-from_list_all, list_all-from_AllPass, nil_of, of_nil)
 
-pub returns-then-none_wait-clause-lists : goal.returns-then-none_wait-clause-lists
-returns-then-none_wait-clause-lists c t =
-    (none_in_any (λ (w : Waiting). w.cells) c.self.inside.lists.items c.args.self.now.inputs c.none_wait.result
-    (search (arith, rules)) (search (arith, rules))).0 c.if-none_wait.true
-
-pub returns-then-none_wait-clause-buffers : goal.returns-then-none_wait-clause-buffers
-returns-then-none_wait-clause-buffers c =
-    (none_in_any (λ (b : Buffered). b.cells) c.self.inside.buffers.items c.args.self.now.buffers c.none_crossed.result
-    (search (arith, rules)) (search (arith, rules))).0
-
-pub returns-then-none_wait-clause-empty : goal.returns-then-none_wait-clause-empty
-returns-then-none_wait-clause-empty c lists buffers =
-    (none_in_any (λ (b : Buffered). b.cells) c.self.inside.buffers.items c.args.self.now.buffers c.none_crossed.result
-    (search (arith, rules)) (search (arith, rules))).1 buffers
+pub returns-then-none_wait : goal.returns-then-none_wait
+returns-then-none_wait c =
+    let lists = none_in_any (λ (w : Waiting). w.cells) c.self.inside.lists.items c.args.self.now.inputs
+    c.none_wait.result (search (arith, rules)) (search (arith, rules)) in
+    let buffers = none_in_any (λ (b : Buffered). b.cells) c.self.inside.buffers.items c.args.self.now.buffers
+    c.none_crossed.result (search (arith, rules)) (search (arith, rules)) in
+    record { lists = λ t. lists.0 c.if-none_wait.true; buffers = buffers.0; empty = λ none. buffers.1 }
 
 pub returns-else-none_wait-clause-empty : goal.returns-else-none_wait-clause-empty
 returns-else-none_wait-clause-empty c lists buffers =

@@ -41,17 +41,12 @@ pub fill-requires : goal.fill-requires
 fill-requires c = search (arith, rules, square (goal.at.fill-requires c).In_ok-offers)
 
 pub invariant_of-result : goal.invariant_of-result
-invariant_of-result c = search (
-  arith,
-  rules,
-  square (goal.at.invariant_of-result c).In_ok-offers,
-  square,
-  as_offered c.in_ok-waiting.waiting.items c.fill.new.self,
-  buffers_filled (goal.at.invariant_of-result c).In_ok-offers,
-  take_all (length c.args.to_outputs.now) c.args.to_outputs.now,
-  get_or_default c.args.to_outputs.now,
-  c.type_inv.to_outputs,
-)
+invariant_of-result c =
+    let now = (goal.at.invariant_of-result c).In_ok-offers in
+    let offered = as_offered c.in_ok-waiting.waiting.items c.fill.new.self in
+    let whole = take_all (length c.args.to_outputs.now) c.args.to_outputs.now in
+    let room = get_or_default c.args.to_outputs.now in
+    search (arith, rules, square now, square, offered, buffers_filled now, whole, room, c.type_inv.to_outputs)
 
 pub returns : goal.returns
 returns c =
