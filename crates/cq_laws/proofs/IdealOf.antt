@@ -110,18 +110,8 @@ pub agrees_of : (slot : ℕ) (f : Fabric) → IsSoundFabric slot f → Agrees sl
 unfolding ideal_of
 agrees_of slot f sound =
     let apart = apart_from f sound.differ in
-    search (
-      arith,
-      rules,
-      ports_of,
-      list_is,
-      rising_in_order,
-      cells_differ,
-      from_cells,
-      among_in_order,
-      in_order_among,
-      to_cells,
-    )
+    let rise = rising_in_order in
+    search (arith, rules, ports_of, list_is, rise, cells_differ, from_cells, among_in_order, in_order_among, to_cells)
 
 pub sound_from : (slot : ℕ) (f : Fabric) (ideal : IdealState) → Agrees slot f ideal → IsSoundFabric slot f
 sound_from slot f ideal agrees = grind (arith, common_steps)
