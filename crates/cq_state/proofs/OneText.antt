@@ -1,7 +1,7 @@
 -- States and texts stand one for one. What the lines of a text that is allowed tell is a state in range, and its
 -- lines are those of the text. And who gathers what the lines of a state tell has the state again, so states with
 -- the same lines are the same.
-use Rattle.cq_state.proofs.Terms.{common_steps, ◌≡◌, ℕ, ◌+◌, false, true, List, [], ◌∷◌, ◌++◌, map, drop, Option, Some, refl, ap, sym, ◌∙◌, arith, rules, append_assoc, inl, inr, IsTrue, unwrap_or, AllByRecursion, append-nil, Transfer, Kind, Version, Next, Shape, Sum, Input, Rank, Listed, Buffered, Sent, Moved, End, Head, Seen, Named, State, Line, kinds, start, IsInRange, IsSeen, AreRankNumbers, IsNamed, IsSent, IsMoved, state_lines, state_text, numbered, input_line, rank_line, cell_line, sent_line, moved_line, added, gathered, nothing, number_at, seen_of, rank_of, named_of, sent_of, moved_of}
+use Rattle.cq_state.proofs.Terms.{common_steps, ◌≡◌, ℕ, ◌+◌, false, true, List, [], ◌∷◌, ◌++◌, map, drop, Option, Some, refl, ap, sym, ◌∙◌, arith, rules, append_assoc, inl, inr, IsTrue, unwrap_or, AllByRecursion, append-nil, Transfer, Kind, Version, Next, Shape, Sum, Input, Rank, Listed, Buffered, Sent, Moved, End, Head, Seen, Named, State, Line, kinds, start, IsInRange, IsSeen, AreRankNumbers, IsNamed, IsSent, IsMoved, state_lines, state_text, numbered, input_line, numbers, rank_line, cell_line, sent_line, moved_line, added, gathered, nothing, number_at, seen_of, rank_of, named_of, sent_of, moved_of}
 use Rattle.cq_state.proofs.EachTold.{one_told, many_told, line_of}
 use Rattle.cq_state.proofs.Fields.{version_told, end_told, count_told, counts_told, shape_told, seen_told, rank_told, named_told, sent_told, moved_told}
 use Rattle.cq_state.proofs.OneReading.{state_is_exact}
@@ -112,12 +112,24 @@ state_again s is = search (rules, inputs_add, ranks_add, listed_add, buffered_ad
 false_is_not_true : IsTrue false → ⊥
 false_is_not_true e = let clash : false ≡ true = e in let P : ⊥ = cc in P
 
-cons_is : (xs zs ws : List Line) (x y : Line) → xs ≡ x ∷ zs → x ≡ y → zs ≡ ws → xs ≡ y ∷ ws
-cons_is xs zs ws x y e f g = e ∙ ap (λ z. z ∷ zs) f ∙ ap (λ vs. y ∷ vs) g
+one_is : {k : Kind} {fs gs : List (Option ℕ)} {xs zs : List Line} → xs ≡ line_of k fs ∷ zs → fs ≡ gs →
+    xs ≡ line_of k gs ∷ zs
+one_is {k} {zs = zs} e f = e ∙ ap (λ gs. line_of k gs ∷ zs) f
 
-plain_is : {X : Type 0} (line : X → Line) (vs : List X) (xs zs ws : List Line) → xs ≡ numbered (plain line) 0 vs ++ zs →
-    zs ≡ ws → xs ≡ map line vs ++ ws
-plain_is line vs xs zs ws e f = e ∙ ap (λ ys. ys ++ zs) (sym (map_numbered line 0 vs)) ∙ ap (λ ys. map line vs ++ ys) f
+-- parts of a state that stand one after the other are its lines
+joined : (s : State) (xs xs1 xs2 xs3 xs4 xs5 xs6 xs7 xs8 xs9 xs10 : List Line) → xs ≡ numbers Version (1 ∷ []) ∷ xs1 →
+    xs1 ≡ numbers Next (s.head.next ∷ []) ∷ xs2 →
+    xs2 ≡ numbers Shape (s.head.ports ∷ s.head.classes ∷ s.head.t0 ∷ s.head.total ∷ []) ∷ xs3 →
+    xs3 ≡ numbers Sum (s.head.proposals ∷ s.head.most ∷ []) ∷ xs4 → xs4 ≡ numbered input_line 0 s.inputs ++ xs5 →
+    xs5 ≡ numbered rank_line 0 s.ranks ++ xs6 → xs6 ≡ numbered (plain (cell_line Listed)) 0 s.listed ++ xs7 →
+    xs7 ≡ numbered (plain (cell_line Buffered)) 0 s.buffered ++ xs8 → xs8 ≡ numbered (plain sent_line) 0 s.sent ++ xs9 →
+    xs9 ≡ numbered (plain moved_line) 0 s.moved ++ xs10 → xs10 ≡ numbers End [] ∷ [] → xs ≡ state_lines s
+unfolding state_lines
+joined s xs xs1 xs2 xs3 xs4 xs5 xs6 xs7 xs8 xs9 xs10 a b c d e f g h i j k =
+    let listed = map_numbered (cell_line Listed) 0 s.listed in
+    let buffered = map_numbered (cell_line Buffered) 0 s.buffered in
+    let sent = map_numbered sent_line 0 s.sent in
+    let moved = map_numbered moved_line 0 s.moved in cc
 
 nothing_behind : (ports : ℕ) (xs : List Line) → Completes (at [] 0 ports) xs → xs ≡ []
 unfolding Completes
@@ -128,7 +140,6 @@ told_line : {A : Type 0} {fs gs : List (Option ℕ)} (k : Kind) → (fs ≡ gs) 
 told_line k told = (ap (line_of k) told.0, told.1)
 
 pub each_told : (xs : List Line) → Completes start xs → (s : State) × IsInRange s × (xs ≡ state_lines s)
-unfolding state_lines
 each_told xs c =
     let version = one_told Version false_is_not_true (λ _. refl) (drop 1 kinds) 0 xs c in
     let next = one_told Next false_is_not_true (λ _. refl) (drop 2 kinds) 0 version.behind version.rest in
@@ -166,15 +177,11 @@ each_told xs c =
     }) inputs.values ranks.values listed.values buffered.values sent.values moved.values in (
       s,
       search rules,
-      cons_is xs _ _ _ _ version.is (ap (line_of Version) (version_told version.fields version.within))
-          (cons_is _ _ _ _ _ next.is (ap (line_of Next) next_told.0) (cons_is _ _ _ _ _ shape.is
-          (ap (line_of Shape) is_shape.fields) (cons_is _ _ _ _ _ sum.is (ap (line_of Sum) sum_told.0)
-          (inputs.is
-          ∙ ap (λ ls. numbered input_line 0 inputs.values ++ ls) (ranks.is
-          ∙ ap (λ ls. numbered rank_line 0 ranks.values ++ ls) (plain_is (cell_line Listed)
-          listed.values _ _ _ listed.is (plain_is (cell_line Buffered) buffered.values _ _ _
-          buffered.is (plain_is sent_line sent.values _ _ _ sent.is (plain_is moved_line
-          moved.values _ _ _ moved.is (search (arith, rules, cons_is, line_of, end_told, nothing_behind))))))))))),
+      joined s xs version.behind next.behind shape.behind sum.behind inputs.behind ranks.behind listed.behind
+          buffered.behind sent.behind moved.behind
+          (one_is version.is (version_told version.fields version.within)) (one_is next.is next_told.0)
+          (one_is shape.is is_shape.fields) (one_is sum.is sum_told.0) inputs.is ranks.is listed.is buffered.is sent.is
+          moved.is (search (arith, rules, one_is, line_of, end_told, nothing_behind)),
     )
 
 -- ## One for one
