@@ -20,8 +20,9 @@ use Rattle.cq_route.specs.declared.tables.Tables.{Tables}
 use Rattle.cq_state.specs.State.{IsInRange}
 use Rattle.cq_state.specs.declared.state.State.{State}
 
--- what is known once the cells of a state were found
-pub record Known (t : Tables) (c : Scheduled) (s : State) (f : Found) : Type 0 where
+-- these cells of a state, which is in range and of the shape of these tables, were found among those of the schedule,
+-- each before the next slot
+pub record AreFoundIn (t : Tables) (c : Scheduled) (s : State) (f : Found) : Type 0 where
   pub tables : AreTables t
   pub traffic : IsTraffic (ports_of t.setup) (classes_of t.setup) c.came
   pub range : IsInRange s

@@ -15,6 +15,6 @@ pub use Rattle.cq_resume.specs.{Neighbours.IsOfNeighbours, Parts.IsOneParted, Pa
 pub use Rattle.cq_resume.specs.Reading.{IsRead, IsReadExact, IsRefusal, named_as, seen_as, sent_as, state_of, text_of_taken, told_by}
 pub use Rattle.cq_resume.specs.Resumed.{IsOneResumed}
 pub use Rattle.cq_resume.specs.Sound.{AreArrivals, IsForPorts, IsOnlyFor, IsFirstOf, IsSound}
-pub use Rattle.cq_resume.specs.Steps.{AreCellsFor, AreNamesFor, AreOrdered, HaveRoom, IsFirstOfTwo, Known, StandBelow}
+pub use Rattle.cq_resume.specs.Steps.{AreCellsFor, AreNamesFor, AreOrdered, HaveRoom, IsFirstOfTwo, AreFoundIn, StandBelow}
 pub use Rattle.cq_resume.specs.Switch.{IsScheduleOf, switch_of, HasShape, IsHeadOf, Switch}
 pub use Rattle.cq_resume.specs.Taking.{CanTakeUp, departed, figures_at_input, longer, with_departure}

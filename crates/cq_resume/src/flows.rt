@@ -5,7 +5,7 @@ ghost use Rattle.cq_resume.specs.Terms.{FlowsStand, IsNameBefore, Leaves, begins
 
 use crate::found::Name;
 use crate::order::is_before;
-use cq_base::{MOST_CLASSES, NoMemory, Slot};
+use cq_base::{MOST_CLASSES, NoMemory};
 use std::alloc::Global;
 
 // Whether the first of two cells of a flow, which arrived before the other, leaves before it.

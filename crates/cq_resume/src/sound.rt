@@ -1,7 +1,7 @@
 //! Whether a state is sound.
 ghost use Rattle.std.specs.Prelude.{◌≡◌, ◌↔◌, ◌<◌, ◌≤◌, AllPairs, IfErr, IfOk, IsTrue, OnOk, length};
 ghost use Rattle.std.specs.List.{AllByRecursion};
-ghost use Rattle.cq_resume.specs.Terms.{IsTraffic, IsTally, AreSized, ArePackets, FlowsStand, IsFound, IsNameBefore, AreCellsFor, AreNamesFor, AreOrdered, HaveRoom, IsFirstOfTwo, Known, StandBelow, IsFirstOf, IsSound, HasShape, switch_of, CanTakeUp, AreTables, classes_of, ports_of, machines_of, IsInRange, most_ports};
+ghost use Rattle.cq_resume.specs.Terms.{IsTraffic, IsTally, AreSized, ArePackets, FlowsStand, IsFound, IsNameBefore, AreCellsFor, AreNamesFor, AreOrdered, HaveRoom, IsFirstOfTwo, AreFoundIn, StandBelow, IsFirstOf, IsSound, HasShape, switch_of, CanTakeUp, AreTables, classes_of, ports_of, machines_of, IsInRange, most_ports};
 
 use crate::StateRefusal;
 use crate::floors::are_below_floors;
@@ -82,7 +82,7 @@ fn judge_found(
 ) -> Result<Tally, StateRefusal>
     requires ports { schedule.now.ports ≡ ports_of tables.now.setup }
     requires packets { ArePackets schedule.now.ports schedule.now.came }
-    requires known { Known tables.now schedule.now state.now found.now }
+    requires known { AreFoundIn tables.now schedule.now state.now found.now }
     ensures ready { OnOk result (CanTakeUp state.now found.now) }
     ensures tally { IfOk result (IsTally (switch_of tables.now schedule.now) state.now) }
     ensures sound { OnOk result (IsSound (switch_of tables.now schedule.now) state.now) }
