@@ -1,6 +1,6 @@
 use Rattle.cq_resume.proofs.Terms.{◌≡◌, ◌∷◌, ◌++◌, [], get_or, Some, subst, arith, rules}
 use Rattle.cq_resume.proofs.Each.{all_at}
-use Rattle.cq_resume.proofs.Zipped.{zip_more}
+use Rattle.cq_resume.proofs.Zipped.{zip_all, zip_more}
 use Rattle.cq_resume.proofs.found.found_all.Given as given
 use Rattle.cq_resume.proofs.found.found_all.Goals as goal
 
@@ -19,3 +19,6 @@ items-preserved g c =
 
 pub returns-in_default-clause-refused : goal.returns-in_default-clause-refused
 returns-in_default-clause-refused g c = search (arith, rules, all_at)
+
+pub returns-clause-found : goal.returns-clause-found
+returns-clause-found g c = search (arith, rules, zip_all)
