@@ -15,9 +15,8 @@ walk-requires-clause-room c =
     let many = c.requires.limits in
     let few = c.total-total.ensures.few in
     let size = c.total-total.ensures.cells in
-    rw c.deref_mut.ensures.value (tally_fits c.args.limits.now c.args.next c.args.schedule.now.came
-    c.args.names.now c.args.schedule.now.ports c.requires.packets c.inputs.input c.inputs.marks.items
-    c.inputs.refused.items c.inputs.invariant (omega arith) (omega arith))
+    rw c.deref_mut.ensures.value
+    (tally_fits _ _ _ _ _ c.requires.packets _ _ _ c.inputs.invariant (omega arith) (omega arith))
 
 pub inputs-preserved : goal.inputs-preserved
 inputs-preserved c =
@@ -30,10 +29,8 @@ inputs-preserved c =
     let same = ap (λ (l : List Refused). length l) counted in
     let mapped = length-map c.inputs.refused.items (with_cells left) in
     rw (with_items_is c.inputs.refused c.walk.new.refused (omega (arith, c.inputs.refused.ok.0)))
-    (tallied_more c.args.limits.now c.args.next c.args.schedule.now.came c.args.names.now c.args.schedule.now.ports
-    c.requires.packets c.inputs.input c.inputs.marks.items c.inputs.refused.items c.inputs.invariant (omega arith)
-    (omega arith) c.in-Some.mark c.push.new.self.items c.walk.new.refused (sym c.in-Some.is ∙ c.walk.ensures.mark)
-    counted c.in_ok-push-in-Some.ensures.items)
+    (tallied_more _ _ _ _ _ c.requires.packets _ _ _ c.inputs.invariant (omega arith) (omega arith) _ _ _
+    (sym c.in-Some.is ∙ c.walk.ensures.mark) counted c.in_ok-push-in-Some.ensures.items)
 
 pub returns-in-None-clause-none : goal.returns-in-None-clause-none
 returns-in-None-clause-none c stand = search (arith, rules, packet_fails)
@@ -45,8 +42,7 @@ ended : (c : After-of-2) →
 ended c = search (arith, rules, Tallied)
 
 pub returns-clause-stand : goal.returns-clause-stand
-returns-clause-stand c = all_stand c.args.limits.now c.args.next c.args.schedule.now.came c.args.names.now
-    c.args.schedule.now.ports c.requires.packets c.inputs.marks.items c.inputs.refused.items (ended c)
+returns-clause-stand c = all_stand _ _ _ _ _ c.requires.packets _ _ (ended c)
 
 pub returns-clause-tally : goal.returns-clause-tally
 returns-clause-tally c = search (arith, rules, tallies_up, ended)

@@ -9,19 +9,15 @@ has_shape-requires-clause-few c = let most = c.requires.tables.setup.classes in 
 pub has_shape-requires-clause-told : goal.has_shape-requires-clause-told
 has_shape-requires-clause-told c = c.in_ok-state.ensures.read.0.outputs_told
 
-pub judge-requires-clause-ports : goal.judge-requires-clause-ports
-judge-requires-clause-ports c = search (arith, rules, schedule_known)
-
-pub judge-requires-clause-traffic : goal.judge-requires-clause-traffic
-judge-requires-clause-traffic c =
-    (schedule_known c.args.tables.now c.args.schedule.now c.requires.tables c.requires.schedule).traffic
-
-pub judge-requires-clause-packets : goal.judge-requires-clause-packets
-judge-requires-clause-packets c =
-    (schedule_known c.args.tables.now c.args.schedule.now c.requires.tables c.requires.schedule).packets
-
-pub judge-requires-clause-shape : goal.judge-requires-clause-shape
-judge-requires-clause-shape c = c.has_shape.ensures.0 c.if-not-has_shape.false
+pub judge-requires : goal.judge-requires
+judge-requires c = let known = schedule_known _ _ c.requires.tables c.requires.schedule in record {
+  tables = c.requires.tables;
+  ports = known.ports;
+  traffic = known.traffic;
+  packets = known.packets;
+  in_range = c.in_ok-state.ensures.read.0;
+  shape = c.has_shape.ensures.0 c.if-not-has_shape.false;
+}
 
 pub returns-clause-written : goal.returns-clause-written
 returns-clause-written c = search (arith, rules, text_again c.args.tables.now c.args.schedule.now c.args.bytes.now)

@@ -24,23 +24,15 @@ judge_places-requires c = outputs_low _ _ _ _ c.requires.known
 pub tally_packets-requires-clause-ordered : goal.tally_packets-requires-clause-ordered
 tally_packets-requires-clause-ordered c = rw c.deref.ensures.value c.requires.known.found.ordered
 
-pub judge_ranks-requires-clause-ordered : goal.judge_ranks-requires-clause-ordered
-judge_ranks-requires-clause-ordered c = c.requires.known.found.ordered
-
-pub judge_ranks-requires-clause-ranks : goal.judge_ranks-requires-clause-ranks
-judge_ranks-requires-clause-ranks c = c.requires.known.range.outputs_told ∙ ports_are _ _ _ _ c.requires.known
-
-pub judge_ranks-requires-clause-sized : goal.judge_ranks-requires-clause-sized
-judge_ranks-requires-clause-sized c = c.requires.known.shape.ranks
-
-pub judge_ranks-requires-clause-ports : goal.judge_ranks-requires-clause-ports
-judge_ranks-requires-clause-ports c = few_ports _ _ _ _ c.requires.known
-
-pub judge_ranks-requires-clause-names : goal.judge_ranks-requires-clause-names
-judge_ranks-requires-clause-names c = names_for _ _ _ _ c.requires.known
-
-pub judge_ranks-requires-clause-cells : goal.judge_ranks-requires-clause-cells
-judge_ranks-requires-clause-cells c = cells_for _ _ _ _ c.requires.known
+pub judge_ranks-requires : goal.judge_ranks-requires
+judge_ranks-requires c = let known = c.requires.known in record {
+  ordered = known.found.ordered;
+  ports = few_ports _ _ _ _ known;
+  names = names_for _ _ _ _ known;
+  ranks = known.range.outputs_told ∙ ports_are _ _ _ _ known;
+  sized = known.shape.ranks;
+  cells = cells_for _ _ _ _ known;
+}
 
 -- ## Why it is refused
 
