@@ -144,5 +144,7 @@ pub fn state_bytes(
         most: frozen.figures.most,
     };
     let state = told(alloc, head, frozen, sent, note).or(Err(StateLong::NoMemory))?;
-    text_of(alloc, &state)
+    let text = text_of(alloc, &state);
+    drop(state);
+    text
 }
