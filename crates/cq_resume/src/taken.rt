@@ -184,28 +184,42 @@ fn slots_of(sent: &[Departure]) -> Slot
     sent[sent.len() - 1].slot + 1
 }
 
-// What left: the departures, how many slots they took, and what was seen of each output.
+// Where the cells that were found are: those that wait, in their queues, and those that left, with how many slots they
+// took, and what was seen of each output.
 #[derive(Drop)]
-struct Left {
+struct Placed {
+    lists: Sequence<Sequence<Queued>>,
+    buffers: Sequence<Sequence<Queued>>,
     sent: Sequence<Departure>,
     slots: Slot,
     outputs: Sequence<OutputFigures>,
 }
 
-// What left with these cells.
-fn left_of(alloc: Global, sent: Vec<Gone>, ports: u16) -> Result<Left, NoMemory>
-    requires rising { AllPairs (λ d e. d.slot ≤ e.slot) (map departed sent.items) }
-    requires low { AllByRecursion (λ d. d.slot < 2 ^ 63) (map departed sent.items) }
-    requires outputs { AllByRecursion (λ d. d.output < ports) (map departed sent.items) }
-    ensures sent { IfOk result (λ left. left.sent ≡ map departed sent.items) }
-    ensures slots { IfOk result (λ left. left.slots ≡ slots_of (map departed sent.items)) }
-    ensures outputs { IfOk result (λ left. left.outputs
-        ≡ map (output_told (map departed sent.items)) (range_with_len 0 ports)) }
+// Where these cells are. What was found goes before the departures come.
+fn places_of(alloc: Global, found: Found, ports: u16) -> Result<Placed, NoMemory>
+    requires listed { AllPairs IsNoLaterInput found.listed.items }
+    requires buffered { BuffersStand found.buffered.items }
+    requires rising { AllPairs (λ d e. d.slot ≤ e.slot) (map departed found.sent.items) }
+    requires low { AllByRecursion (λ d. d.slot < 2 ^ 63) (map departed found.sent.items) }
+    requires outputs { AllByRecursion (λ d. d.output < ports) (map departed found.sent.items) }
+    ensures lists { IfOk result (λ cells. cells.lists
+        ≡ map (λ i. filter (λ q. q.key.input == i) found.listed.items) (range_with_len 0 ports)) }
+    ensures buffers { IfOk result (λ cells. cells.buffers
+        ≡ map (λ j. filter (λ q. q.cell.output == j) found.buffered.items) (range_with_len 0 ports)) }
+    ensures sent { IfOk result (λ cells. cells.sent ≡ map departed found.sent.items) }
+    ensures slots { IfOk result (λ cells. cells.slots ≡ slots_of (map departed found.sent.items)) }
+    ensures outputs { IfOk result (λ cells. cells.outputs
+        ≡ map (output_told (map departed found.sent.items)) (range_with_len 0 ports)) }
 {
+    let queues = queues_of(alloc, &found.listed, &found.buffered, ports);
+    let sent = sent_of(found);
+    let (lists, buffers) = queues?;
     let sent = departures_of(alloc, sent)?;
     let slots = slots_of(&sent);
     let outputs = outputs_of(alloc, &sent, ports)?;
-    Ok(Left {
+    Ok(Placed {
+        lists,
+        buffers,
         sent: Sequence::of(sent),
         slots,
         outputs,
@@ -213,7 +227,7 @@ fn left_of(alloc: Global, sent: Vec<Gone>, ports: u16) -> Result<Left, NoMemory>
 }
 
 /// What a state comes to that was found to be sound. The error is want of memory.
-// The lines of the state go before the lists come, and what was found of them before the departures do.
+// The lines of the state go before the lists come.
 pub fn take_up(alloc: Global, state: State, found: Found, tally: Tally) -> Result<Taken, NoMemory>
     requires { CanTakeUp state found }
     ensures { (w : Switch) → IsFound w.came state found → IsTally w state tally
@@ -222,17 +236,15 @@ pub fn take_up(alloc: Global, state: State, found: Found, tally: Tally) -> Resul
     let head = state.head;
     let inputs = inputs_of(alloc, &found.names, state.inputs.as_slice());
     let (ranks, moved) = beside_cells(state);
-    let queues = queues_of(alloc, &found.listed, &found.buffered, head.ports);
-    let sent = sent_of(found);
+    let placed = places_of(alloc, found, head.ports);
     let inputs = inputs?;
-    let (lists, buffers) = queues?;
-    let left = left_of(alloc, sent, head.ports)?;
+    let placed = placed?;
     let figures = Figures {
-        slots: left.slots,
+        slots: placed.slots,
         proposals: head.proposals,
         most: head.most,
         inputs,
-        outputs: left.outputs,
+        outputs: placed.outputs,
     };
     let frozen = Frozen {
         next: head.next,
@@ -240,12 +252,12 @@ pub fn take_up(alloc: Global, state: State, found: Found, tally: Tally) -> Resul
         refused: tally.refused,
         marks: tally.marks,
         ranks,
-        lists,
-        buffers,
+        lists: placed.lists,
+        buffers: placed.buffers,
     };
     Ok(Taken {
         frozen,
-        sent: left.sent,
+        sent: placed.sent,
         note: moved,
     })
 }
