@@ -3,7 +3,7 @@
 //! What a function owns it lends to its last call, and drops by name behind it: this is one step of a proof, where the
 //! end of a scope is one for each field.
 ghost use Rattle.std.specs.Prelude.{◌≡◌, ◌<◌, ◌^◌, ℕ, List, IfErr, IfOk, OnOk, length};
-ghost use Rattle.cq_run.specs.Terms.{AreTables, Captured, ports_of, AreGiven, IsPartHalt, IsRead, IsRefusal, IsResumeHalt, IsResumedBy, IsPartText, IsPartedAt, IsScheduleFor, IsScheduleOf, CanBeTakenUp, halt_for_state, halt_for_text, schedule_of, switch_of, taken_at};
+ghost use Rattle.cq_run.specs.Terms.{AreTables, Captured, ports_of, AreGiven, IsPartHalt, IsRead, IsRefusal, IsResumeHalt, IsResumedBy, IsPartText, IsPartedAt, IsScheduleFor, IsScheduleOf, halt_for_state, halt_for_text, schedule_of, switch_of, taken_at};
 
 use crate::switching::Crossed;
 use crate::{Halt, Refusal, StateFault};
@@ -13,7 +13,7 @@ use cq_crew::Gate;
 use cq_pcap::Capture;
 use cq_resume::{StateLong, StateRefusal, Taken, read_state, state_bytes};
 use cq_route::Tables;
-use cq_simulate::{Parted, part_fabric, resume_fabric};
+use cq_simulate::{PackedFabricRun, Parted, part_fabric, resume_fabric};
 use std::alloc::Global;
 use std::thread::Threads;
 
@@ -36,48 +36,31 @@ pub fn part_by_crossbar<R: Threads + Sync, G: Gate>(
     ensures refused { IfErr result (IsPartHalt tables.now captures.now slots) }
 {
     let schedule = Schedule::of(rt, alloc, captures, tables)?;
-    let text = part_by_schedule(rt, alloc, tables, &schedule, slots, gate);
+    let (t0, total) = (schedule.t0(), schedule.total());
+    let parted = part_fabric(rt, alloc, tables, &schedule, slots, gate);
     drop(schedule);
-    text
-}
-
-// The same, of the schedule of these captures.
-fn part_by_schedule<R: Threads + Sync, G: Gate>(
-    rt: &R,
-    alloc: Global,
-    tables: &Tables,
-    schedule: &Schedule,
-    slots: u64,
-    gate: &G,
-) -> Result<Vec<u8>, Halt>
-    requires fit { IsScheduleFor tables.now schedule.now }
-    requires slots { slots < 2 ^ 63 }
-    ensures text { (captures : List (List Captured)) → schedule.now ≡ schedule_of tables.now captures →
-        IfOk result (λ text. IsPartText tables.now captures slots text.items) }
-    ensures refused { (captures : List (List Captured)) → schedule.now ≡ schedule_of tables.now captures →
-        IfErr result (IsPartHalt tables.now captures slots) }
-{
-    let parted = part_fabric(rt, alloc, tables, schedule, slots, gate)?;
-    let text = text_of_parted(alloc, tables, schedule, &parted);
+    let parted = parted?;
+    let text = text_of_parted(alloc, tables, &parted, t0, total);
     drop(parted);
     text
 }
 
-// The text of the state of a run that stopped, over the schedule of these captures.
+// The text of the state of a run that stopped, over a schedule of so many cells that begins at this stamp.
 fn text_of_parted(
     alloc: Global,
     tables: &Tables,
-    schedule: &Schedule,
     parted: &Parted,
+    t0: u64,
+    total: u64,
 ) -> Result<Vec<u8>, Halt>
     requires tables { AreTables tables.now }
     requires ports { length parted.now.frozen.lists ≡ ports_of tables.now.setup }
     ensures text { (captures : List (List Captured)) (slots : ℕ) →
-        schedule.now ≡ schedule_of tables.now captures →
+        t0 ≡ (schedule_of tables.now captures).t0 → total ≡ length (schedule_of tables.now captures).came →
         IsPartedAt tables.now captures slots (taken_at parted.now) →
         IfOk result (λ text. IsPartText tables.now captures slots text.items) }
     ensures refused { (captures : List (List Captured)) (slots : ℕ) →
-        schedule.now ≡ schedule_of tables.now captures →
+        t0 ≡ (schedule_of tables.now captures).t0 → total ≡ length (schedule_of tables.now captures).came →
         IsPartedAt tables.now captures slots (taken_at parted.now) →
         IfErr result (IsPartHalt tables.now captures slots) }
 {
@@ -87,9 +70,9 @@ fn text_of_parted(
         &parted.frozen,
         parted.sent.items(),
         parted.note.items(),
-        schedule.t0(),
+        t0,
         classes,
-        schedule.total(),
+        total,
     )?)
 }
 
@@ -109,12 +92,13 @@ pub fn resume_by_crossbar<R: Threads + Sync, G: Gate>(
     ensures refused { IfErr result (IsResumeHalt tables.now captures.now text) }
 {
     let schedule = Schedule::of(rt, alloc, captures, tables)?;
-    let crossed = resume_by_schedule(rt, alloc, tables, &schedule, text, gate);
+    let t0 = schedule.t0();
+    let run = resume_by_schedule(rt, alloc, tables, &schedule, text, gate);
     drop(schedule);
-    crossed
+    Ok(Crossed { run: run?, t0 })
 }
 
-// The same, over the schedule of these captures.
+// What it does over the schedule of these captures.
 fn resume_by_schedule<R: Threads + Sync, G: Gate>(
     rt: &R,
     alloc: Global,
@@ -122,45 +106,19 @@ fn resume_by_schedule<R: Threads + Sync, G: Gate>(
     schedule: &Schedule,
     text: Sequence<u8>,
     gate: &G,
-) -> Result<Crossed, Halt>
+) -> Result<PackedFabricRun, Halt>
     requires fit { IsScheduleFor tables.now schedule.now }
     requires made { IsScheduleOf tables.now schedule.now }
     ensures resumed { (captures : List (List Captured)) → schedule.now ≡ schedule_of tables.now captures →
-        AreGiven tables.now captures → IfOk result (IsResumedBy tables.now captures text) }
+        AreGiven tables.now captures →
+        IfOk result (λ run. IsResumedBy tables.now captures text (record { run = run; t0 = schedule.now.t0 })) }
     ensures refused { (captures : List (List Captured)) → schedule.now ≡ schedule_of tables.now captures →
         IfErr result (IsResumeHalt tables.now captures text) }
 {
     let taken = read_out(alloc, text, tables, schedule)?;
-    let crossed = run_from(rt, alloc, tables, schedule, &taken, gate);
+    let run = resume_fabric(rt, alloc, tables, schedule, &taken, gate);
     drop(taken);
-    crossed
-}
-
-// What the crossbar switch does over this schedule from this state on.
-fn run_from<R: Threads + Sync, G: Gate>(
-    rt: &R,
-    alloc: Global,
-    tables: &Tables,
-    schedule: &Schedule,
-    taken: &Taken,
-    gate: &G,
-) -> Result<Crossed, Halt>
-    requires fit { IsScheduleFor tables.now schedule.now }
-    requires sound { CanBeTakenUp (switch_of tables.now schedule.now) taken.now }
-    ensures resumed { (captures : List (List Captured)) (text : List ℕ) →
-        schedule.now ≡ schedule_of tables.now captures → AreGiven tables.now captures →
-        IsRead (switch_of tables.now schedule.now) text taken.now →
-        IfOk result (IsResumedBy tables.now captures text) }
-    ensures refused { (captures : List (List Captured)) (text : List ℕ) →
-        schedule.now ≡ schedule_of tables.now captures →
-        IsRead (switch_of tables.now schedule.now) text taken.now →
-        IfErr result (IsResumeHalt tables.now captures text) }
-{
-    let run = resume_fabric(rt, alloc, tables, schedule, taken, gate)?;
-    Ok(Crossed {
-        run,
-        t0: schedule.t0(),
-    })
+    Ok(run?)
 }
 
 // The stopped run that this text tells. The text is given up, since the run that goes on from there needs it no more.

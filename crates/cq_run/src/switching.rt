@@ -1,6 +1,8 @@
 //! Running a switch over the captures that were read.
-ghost use Rattle.std.specs.Prelude.{◌≡◌, ◌≤◌, All, IfOk, IfErr, OnOk, length};
-ghost use Rattle.cq_run.specs.Terms.{AreTables, ports_of, IsAuditHalted, IsAuditPassed, IsHaltOf, IsCrossed, IsSwitched, sent_by, ideally_sent, halt_for_log, halt_of};
+//!
+//! What a function owns it lends to its last call, and drops by name behind it, as in `judge`.
+ghost use Rattle.std.specs.Prelude.{◌≡◌, ◌≤◌, List, All, IfOk, IfErr, Ok, OnOk, length};
+ghost use Rattle.cq_run.specs.Terms.{AreTables, Captured, Departure, IsScheduleFor, ideal_departures, schedule_of, sent_or_tag, trace_of, ports_of, IsAuditHalted, IsAuditPassed, IsHaltOf, IsCrossed, IsSwitched, sent_by, ideally_sent, halt_for_log, halt_of};
 
 use crate::{Denial, Halt, Refusal};
 use cq_audit::{AuditRefusal, audit_log, audit_trace};
@@ -57,11 +59,10 @@ pub fn switch_ideally<R: Threads + Sync>(
     ensures refused { IfErr result (IsHaltOf (ideally_sent tables.now captures.now)) }
 {
     let schedule = Schedule::of(rt, alloc, captures, tables)?;
-    let sent = run_ideal_packed(alloc, tables, &schedule)?;
-    Ok(Switched {
-        sent,
-        t0: schedule.t0(),
-    })
+    let t0 = schedule.t0();
+    let sent = run_ideal_packed(alloc, tables, &schedule);
+    drop(schedule);
+    Ok(Switched { sent: sent?, t0 })
 }
 
 /// What the crossbar switch does with these captures, one for each port. It sends what the ideal switch
@@ -81,11 +82,10 @@ pub fn switch_by_crossbar<R: Threads + Sync, G: Gate>(
     ensures refused { IfErr result (IsHaltOf (ideally_sent tables.now captures.now)) }
 {
     let schedule = Schedule::of(rt, alloc, captures, tables)?;
-    let run = run_fabric_packed(rt, alloc, tables, &schedule, gate)?;
-    Ok(Crossed {
-        run,
-        t0: schedule.t0(),
-    })
+    let t0 = schedule.t0();
+    let run = run_fabric_packed(rt, alloc, tables, &schedule, gate);
+    drop(schedule);
+    Ok(Crossed { run: run?, t0 })
 }
 
 /// Checks a log and a trace of any maker of what a switch does with these captures, one for each port. Ok comes where
@@ -104,21 +104,50 @@ pub fn audit_texts<R: Threads + Sync>(
     ensures halted { IfErr result (IsAuditHalted tables.now captures.now trace.now log.now) }
 {
     let schedule = Schedule::of(rt, alloc, captures, tables)?;
-    let ideal = run_ideal_packed(alloc, tables, &schedule)?;
-    let text = trace_text_of_packed(alloc, ideal.as_slice())?;
-    // From here on the departures are wanted as text alone, which has a quarter of their bytes.
-    drop(ideal);
+    let done = audit_over(alloc, tables, &schedule, trace, log);
+    drop(schedule);
+    done
+}
+
+// The same, over the schedule of these captures.
+fn audit_over(
+    alloc: Global,
+    tables: &Tables,
+    schedule: &Schedule,
+    trace: &[u8],
+    log: &[u8],
+) -> Result<(), Halt>
+    requires { IsScheduleFor tables.now schedule.now }
+    ensures passed { (captures : List (List Captured)) → schedule.now ≡ schedule_of tables.now captures →
+        OnOk result (IsAuditPassed tables.now captures trace.now log.now) }
+    ensures halted { (captures : List (List Captured)) → schedule.now ≡ schedule_of tables.now captures →
+        IfErr result (IsAuditHalted tables.now captures trace.now log.now) }
+{
+    let text = ideal_text(alloc, tables, schedule)?;
     audit_log(
         alloc,
         &tables.setup,
         tables.limits.as_slice(),
-        &schedule,
+        schedule,
         log,
     )?;
     match audit_trace(trace, &text) {
         None => Ok(()),
         Some(line) => Err(denied(Denial::Trace { line })),
     }
+}
+
+// The trace of what the ideal switch sends. The departures are given up: as text they have a quarter of their bytes.
+fn ideal_text(alloc: Global, tables: &Tables, schedule: &Schedule) -> Result<Vec<u8>, Halt>
+    requires { IsScheduleFor tables.now schedule.now }
+    ensures text { IfOk result (λ text. (sent : List Departure)
+        × (ideal_departures tables.now schedule.now.came ≡ Ok sent) × (text.items ≡ trace_of sent)) }
+    ensures refused { IfErr result (IsHaltOf (sent_or_tag (ideal_departures tables.now schedule.now.came))) }
+{
+    let sent = run_ideal_packed(alloc, tables, schedule)?;
+    let text = trace_text_of_packed(alloc, sent.as_slice());
+    drop(sent);
+    Ok(text?)
 }
 
 // The halt of an audit that says no.

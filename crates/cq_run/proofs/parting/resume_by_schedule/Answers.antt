@@ -1,18 +1,22 @@
-use Rattle.cq_run.proofs.Stopped.{resume_refused, taken_up}
+use Rattle.cq_run.proofs.Stopped.{resume_halt, resume_refused, resumed_by, taken_up}
+use Rattle.cq_run.proofs.Terms.{refl}
 use Rattle.cq_run.proofs.Told.{exit_is}
 use Rattle.cq_run.proofs.parting.resume_by_schedule.Goals as goal
 
-pub run_from-crossed-requires-clause-sound : goal.run_from-crossed-requires-clause-sound
-run_from-crossed-requires-clause-sound g c κs within = taken_up c.in_ok-taken.ensures.read
+pub resume_fabric-run-requires-clause-sound : goal.resume_fabric-run-requires-clause-sound
+resume_fabric-run-requires-clause-sound g c κs within = taken_up c.in_ok-taken.ensures.read
 
 pub returns-clause-resumed : goal.returns-clause-resumed
-returns-clause-resumed g c = λ captures is given.
-    c.run_from-crossed.ensures.resumed captures _ is given c.in_ok-taken.ensures.read
-
-pub returns-clause-refused : goal.returns-clause-refused
-returns-clause-refused g c = λ captures is. c.run_from-crossed.ensures.refused captures _ is c.in_ok-taken.ensures.read
+returns-clause-resumed g c = λ captures is given. resumed_by c.args.tables.now captures _ is c.args.text _
+    c.in_ok-taken.ensures.read _ c.in_ok-run.ensures.run given _ refl
 
 -- a text that is refused
 pub returns-in_err-taken-clause-refused : goal.returns-in_err-taken-clause-refused
 returns-in_err-taken-clause-refused g c = λ captures is. rw (exit_is _ c.from_residual.ensures.1)
     (resume_refused c.args.tables.now captures _ is _ _ c.in_err-taken.ensures.cause)
+
+-- a tag fault
+pub returns-in_err-run-clause-refused : goal.returns-in_err-run-clause-refused
+returns-in_err-run-clause-refused g c = λ captures is. rw (exit_is _ c.from_residual-in_err-run.ensures.1)
+    (resume_halt c.args.tables.now captures _ is c.args.text _ c.in_ok-taken.ensures.read _
+    c.in_err-run.ensures.refused)
