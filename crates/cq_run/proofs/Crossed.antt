@@ -1,6 +1,6 @@
 -- The captures of the outputs, one after another: those that were made and those that are still to be made are all.
 -- Each is that which was built at its output.
-use Rattle.cq_run.proofs.Terms.{common_steps, rules, ◌≡◌, ◌<◌, ◌≤◌, ◌∙◌, ℕ, ◌+◌, List, [], ◌∷◌, ◌++◌, length, drop, get_or, refl, ap, sym, add-one, append_assoc, arith, Result, Ok, append-nil, drop_all, drop_more, length-drop, trace_of, log_of, Departure, TagFault, Transfer, arrivals, Captured, AreTables, ports_of, PortRow, Tables, Plan, capture_out, captures_out, switched, IsSent, IsSwitched, sent_or_tag, Switched, ArePacked, LeaveWhole, Arrival, t0_of, packets_of, IsRecorded, IsTraffic, LimitedRecord, report_with, classes_of, always_slack, best_in_each, slot_by_slot, IsFabricRun, IsKeptOf, unpacked_run, ideal_departures, PackedFabricRun, Contents, AreGiven, AreRead, IsEmulation, KeepsUp, crossed, reported, Reader, IsCrossed, IsCrossing, Crossed, left_in_packets, Packing, each_packet_once}
+use Rattle.cq_run.proofs.Terms.{common_steps, rules, ◌≡◌, ◌<◌, ◌≤◌, ◌∙◌, ℕ, ◌+◌, List, [], ◌∷◌, ◌++◌, length, drop, get_or, refl, ap, sym, add-one, append_assoc, arith, Result, Ok, append-nil, drop_all, drop_more, length-drop, trace_of, log_of, Departure, TagFault, Transfer, arrivals, Captured, AreTables, ports_of, PortRow, Tables, Plan, capture_out, captures_out, switched, IsSwitched, sent_or_tag, Switched, ArePacked, HaveLeftOf, Arrival, t0_of, packets_of, IsRecorded, IsTraffic, LimitedRecord, report_with, under_names, classes_of, always_slack, best_in_each, slot_by_slot, IsFabricRun, IsKeptOf, unpacked_run, ideal_departures, PackedFabricRun, Contents, AreGiven, AreRead, IsEmulation, KeepsUp, crossed, reported, Reader, IsCrossed, IsCrossing, Crossed, left_in_packets, Packing, each_packet_once}
 
 -- a plan of these names and this text
 pub plan_is : (plan : Plan) (writes : List (List ℕ × List ℕ)) (text : List ℕ) → plan.writes ≡ writes →
@@ -14,21 +14,37 @@ sent_ok sent x h = grind (arith, common_steps)
 
 -- what the ideal switch sends leaves in whole packets
 pub switched_whole : (t : Tables) (captures : List (List Captured)) (s : Switched) → AreTables t →
-    length captures ≡ ports_of t.setup → IsSwitched t captures s → IsSent t captures s
+    length captures ≡ ports_of t.setup → IsSwitched t captures s → HaveLeftOf t captures s.sent.items s.t0
 switched_whole t captures s are many is =
     grind (arith, common_steps, left_in_packets t captures s.sent.items are many)
 
+-- one more capture under its name, and all of them
+module _ (rows : List PortRow) (k : ℕ) where
+  pub one_fewer : (left rest : List Packing) (place : Packing) → left ≡ place ∷ rest → length rows ≤ k + length left →
+      length rows ≤ k + 1 + length rest
+  one_fewer left rest place first enough =
+      let longer : length left ≡ length (place ∷ rest) = ap (λ (ps : List Packing). length ps) first in omega arith
+
+  module _ (writes all : List (List ℕ × List ℕ)) where
+    pub one_under : (row d : PortRow) (more : List (List ℕ × List ℕ)) (left rest : List Packing) (place : Packing) →
+        k < length rows → row ≡ get_or rows k d → left ≡ place ∷ rest →
+        more ≡ writes ++ (row.write, place.bytes.items) ∷ [] → writes ++ under_names (drop k rows) left ≡ all →
+        more ++ under_names (drop (k + 1) rows) rest ≡ all
+    one_under row d more left rest place inside is first put made = search (arith, rules, append_assoc, drop_more)
+
+    pub all_under : (left : List Packing) → length rows ≤ k → writes ++ under_names (drop k rows) left ≡ all →
+        writes ≡ all
+    all_under left over made = cc (append-nil writes, drop_all k rows over)
+
 module _ (t : Tables) (captures : List (List Captured)) (sent : List Departure) where
-  -- what leaves in whole packets of captures that were lent
-  pub whole_of_lent : (lent : List (List Captured)) → lent ≡ captures → LeaveWhole (arrivals t captures) sent →
-      LeaveWhole (arrivals t lent) sent
-  whole_of_lent lent same h = rw same h
+  -- the first output, and those after it
+  captures_of_more : (k : ℕ) (row : PortRow) (rows : List PortRow) →
+      captures_out t captures sent k (row ∷ rows) ≡ (row.write, capture_out t captures sent k) ∷ captures_out t
+      captures sent (k + 1) rows
+  unfolding captures_out
+  captures_of_more k row rows = rw add-one refl
 
-  pub packed_of_lent : (lent : List (List Captured)) (places : List Packing) → lent ≡ captures →
-      ArePacked t lent sent places → ArePacked t captures sent places
-  packed_of_lent lent places same h = rw same at h
-
-  -- the captures that were built, where those of the first outputs were taken
+  -- the captures that were built, from this output on
   module _ (places : List Packing) (packed : ArePacked t captures sent places) (output : ℕ)
       (there : output < ports_of t.setup) where
     in_places : output < length places
@@ -45,34 +61,35 @@ module _ (t : Tables) (captures : List (List Captured)) (sent : List Departure) 
       file_is = sym (ap (λ (ps : List Packing). (get_or ps 0 place).bytes.items) parts)
           ∙ packed.bytes output place in_places
 
-  -- the first output, and those after it
-  captures_of_more : (k : ℕ) (row : PortRow) (rows : List PortRow) →
-      captures_out t captures sent k (row ∷ rows) ≡ (row.write, capture_out t captures sent k) ∷ captures_out t
-      captures sent (k + 1) rows
+      rest_is : drop (output + 1) places ≡ rest
+      rest_is = cc parts
+
+  -- each of those under its name
+  pub packed_under : (places : List Packing) → ArePacked t captures sent places → (rows : List PortRow) (k : ℕ)
+      (left : List Packing) → drop k places ≡ left → k + length rows ≤ ports_of t.setup →
+      under_names rows left ≡ captures_out t captures sent k rows
   unfolding captures_out
-  captures_of_more k row rows = rw add-one refl
+  packed_under places packed [] k left is fit = refl
+  packed_under places packed (row ∷ rows) k [] is fit = absurd (some_left places packed k (omega arith) is)
+  packed_under places packed (row ∷ rows) k (place ∷ left) is fit =
+      let inside : k < ports_of t.setup = omega arith in
+      let others = packed_under places packed rows (k + 1) left (rest_is places packed k inside place left is)
+      (omega arith) in
+      cc (file_is places packed k inside place left is, others, captures_of_more k row rows)
 
-  -- what is known when the captures of so many outputs were taken
-  pub record Building (rows : List PortRow) (k : ℕ) (writes : List (List ℕ × List ℕ)) (left : List Packing) :
-      Type 0 where
-    pub places : List Packing
-    pub packed : ArePacked t captures sent places
-    pub others : left ≡ drop k places
-    pub made : writes ++ captures_out t captures sent k (drop k rows) ≡ captures_out t captures sent 0 rows
+  -- those of all outputs
+  module _ (places : List Packing) (packed : ArePacked t captures sent places) (are : AreTables t)
+      (rows : List PortRow) (all : rows ≡ t.ports) where
+    pub rows_fit : length rows ≤ length places
+    rows_fit = let outputs : length places ≡ ports_of t.setup = packed.outputs in
+        let files : length t.ports ≡ ports_of t.setup = are.files in
+        let rows_are : length rows ≡ length t.ports = ap (λ (rs : List PortRow). length rs) all in omega arith
 
-  -- one more
-  pub one_built : (rows : List PortRow) (k : ℕ) (row d : PortRow) (writes more : List (List ℕ × List ℕ))
-      (left rest : List Packing) (place : Packing) → Building rows k writes left → k < length rows →
-      length rows ≡ ports_of t.setup → row ≡ get_or rows k d → left ≡ place ∷ rest →
-      more ≡ writes ++ (row.write, place.bytes.items) ∷ [] → Building rows (k + 1) more rest
-  one_built rows k row d writes more left rest place so_far inside files is first pushed =
-      search (arith, rules, file_is, append_assoc, drop_more, captures_of_more, parts)
-
-  -- at the end all are made
-  pub made_all : (rows : List PortRow) (k : ℕ) (made all : List (List ℕ × List ℕ)) → length rows ≤ k →
-      made ++ captures_out t captures sent k (drop k rows) ≡ all → made ≡ all
-  unfolding captures_out
-  made_all rows k made all over so_far = cc (append-nil made, drop_all k rows over)
+    pub packed_all : under_names rows places ≡ captures_out t captures sent 0 t.ports
+    packed_all =
+        let outputs : length places ≡ ports_of t.setup = packed.outputs in
+        let fit : 0 + length rows ≤ ports_of t.setup = omega (arith, rows_fit) in
+        packed_under places packed rows 0 places refl fit ∙ ap (captures_out t captures sent 0) all
 
   -- these and the trace, and then the log
   pub traced_writes : (made traced : List (List ℕ × List ℕ)) (trace : List ℕ) →

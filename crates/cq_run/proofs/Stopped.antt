@@ -95,7 +95,9 @@ module _ (t : Tables) (captures : List (List Captured)) (schedule : Scheduled)
             record {
               given = given;
               resumed = record { from = from; read = from_there; resumed = goes };
-              sent = record {
+              left = record {
+                tables = given.tables;
+                captures = given.each;
                 whole = resumed_whole t captures from (kept_of (unpacked_run run)) given.tables given.each
                     (taken_up from_there) goes;
                 t0 = rw is at e;

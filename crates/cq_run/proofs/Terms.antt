@@ -32,7 +32,7 @@ pub use Rattle.cq_simulate.proofs.FabricLaws.{always_slack, as_many_slots, best_
 pub use Rattle.cq_simulate.specs.FabricRuns.{AlwaysHasSlack, AreInputBest, IsFabricRun, IsKeptOf, departures_in_run, unpacked_run}
 pub use Rattle.cq_simulate.specs.IdealRuns.{IsRefusalOf, slots_ran}
 unfoldable pub use Rattle.cq_simulate.specs.IdealRuns.{ideal_departures, ran_ideal}
-pub use Rattle.cq_simulate.specs.Packets.{ArePacked, LeaveWhole, ends_packet_at, leaving}
+pub use Rattle.cq_simulate.specs.Packets.{ArePacked, HaveLeftOf, ends_packet_at, leaving}
 unfoldable pub use Rattle.cq_simulate.specs.Packets.{packets_out}
 pub use Rattle.cq_simulate.specs.{declared.fabric_run.PackedFabricRun.PackedFabricRun, declared.refusal.RunRefusal.RunRefusal}
 pub use Rattle.cq_words.specs.Words.{command_for, form_of, most_slots, with_config, with_three, with_two}
@@ -52,7 +52,7 @@ pub use Rattle.cq_run.specs.Planning.{CommandHalts, Decides, IsDenial, IsWithinR
 pub use Rattle.cq_run.specs.Plan.{audited, capture_out, checked, passed, state_written}
 unfoldable pub use Rattle.cq_run.specs.Plan.{captures_out, crossed, reported, resumed, switched}
 pub use Rattle.cq_run.specs.Refusals.{fault_text, in_phase_text, is_fault, is_no, meaning_of}
-pub use Rattle.cq_run.specs.Switching.{IsCrossed, IsCrossing, IsIdeal, IsPassing, IsSent, IsSwitched, halt_for, halt_of, sent_by}
+pub use Rattle.cq_run.specs.Switching.{IsCrossed, IsCrossing, IsIdeal, IsPassing, IsSwitched, halt_for, halt_of, sent_by, under_names}
 pub use Rattle.cq_run.specs.Verdict.{MayRead, MayWrite, capture_in, capture_of, captures_in, found_or_missing, ideally_sent, judged, judged_or_words, named, packets_at, read_or_faulty, read_or_refused_for, sent_or_tag, short_in, short_or, state_in, tables_in, text_in, ◌>>=◌}
 unfoldable pub use Rattle.cq_run.specs.Verdict.{captures_from}
 pub use Rattle.cq_run.specs.World.{IsUntouched, Taken, World, taken_by, world}

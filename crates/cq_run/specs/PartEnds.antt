@@ -5,12 +5,12 @@ use Rattle.cq_resume.specs.Resumed.{Kept}
 use Rattle.cq_resume.specs.declared.refusal.StateRefusal.{StateRefusal}
 use Rattle.cq_resume.specs.declared.refusal.StateRefusal.TheVariants as of_state
 use Rattle.cq_route.specs.declared.tables.Tables.{Tables}
+use Rattle.cq_simulate.specs.Packets.{HaveLeftOf}
 use Rattle.cq_state.specs.declared.write.StateLong.{StateLong}
 use Rattle.cq_state.specs.declared.write.StateLong.TheVariants as of_text
 use Rattle.cq_run.specs.Headline.{AreGiven}
 use Rattle.cq_run.specs.Parting.{IsPartRefusal, IsResumeRefusal, IsResumedText}
 use Rattle.cq_run.specs.Plan.{Plan, resumed}
-use Rattle.cq_run.specs.Switching.{IsSent, sent_by}
 use Rattle.cq_run.specs.declared.refusal.Refusal.TheVariants.{State}
 use Rattle.cq_run.specs.declared.refusal.StateFault.TheVariants.{Line, Long, Shape, Unsound}
 use Rattle.cq_run.specs.declared.stop.Halt.{Halt}
@@ -43,7 +43,7 @@ kept_by c =
 pub record IsResumedBy (t : Tables) (captures : List (List Captured)) (text : List ℕ) (c : Crossed) : Type 0 where
   pub given : AreGiven t captures
   pub resumed : IsResumedText t captures text (kept_by c)
-  pub sent : IsSent t captures (sent_by c)
+  pub left : HaveLeftOf t captures c.run.sent.items c.t0
   pub reportable : All (λ x. x.cells ≤ c.run.figures.slots) c.run.figures.outputs
 
 -- the plan is what is written of the run that goes on from the state whose text this is

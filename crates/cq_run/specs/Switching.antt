@@ -1,17 +1,18 @@
 -- What is kept of a run until its bytes are built.
 use Rattle.std.specs.Prelude.{◌≡◌, ◌∷◌, [], ℕ, List, Option, None, Some, Ok}
 use Rattle.cq_base.specs.declared.cell.Departure.{Departure}
-use Rattle.cq_cells.specs.Schedule.{arrivals, t0_of}
+use Rattle.cq_cells.specs.Schedule.{t0_of}
 use Rattle.cq_ideal.specs.Refused.{refused_counts}
 use Rattle.cq_laws.specs.LimitedFabric.{LimitedRecord, slots_in}
 use Rattle.cq_laws.specs.Measures.{figures_of}
 use Rattle.cq_laws.specs.Records.{transfers_of_run}
 use Rattle.cq_pcap.specs.declared.read.PcapRefusal.{PcapRefusal}
 use Rattle.cq_pcap.specs.Captured.{Captured}
+use Rattle.cq_route.specs.declared.tables.PortRow.{PortRow}
 use Rattle.cq_route.specs.declared.tables.Tables.{Tables}
 use Rattle.cq_route.specs.Tables.{ports_of}
 use Rattle.cq_simulate.specs.FabricRuns.{departures_in_run, refused_in_run}
-use Rattle.cq_simulate.specs.Packets.{LeaveWhole}
+use Rattle.cq_simulate.specs.declared.packing.Packing.{Packing}
 use Rattle.cq_simulate.specs.declared.refusal.RunRefusal.{RunRefusal}
 use Rattle.cq_simulate.specs.declared.refusal.RunRefusal.TheVariants as run
 use Rattle.cq_run.specs.declared.refusal.CaptureFault.TheVariants.{Read}
@@ -29,10 +30,11 @@ pub record IsSwitched (t : Tables) (captures : List (List Captured)) (s : Switch
   pub sent : ideally_sent t captures ≡ Ok s.sent.items
   pub t0 : s.t0 ≡ t0_of captures
 
--- these departures leave in whole packets, and their slots are counted from this stamp
-pub record IsSent (t : Tables) (captures : List (List Captured)) (s : Switched) : Type 0 where
-  pub whole : LeaveWhole (arrivals t captures) s.sent.items
-  pub t0 : s.t0 ≡ t0_of captures
+-- the captures that were packed, one for each row, each under its name there
+abbrev pub under_names : List PortRow → List Packing → List (List ℕ × List ℕ)
+under_names [] places = []
+under_names (row ∷ rows) [] = []
+under_names (row ∷ rows) (place ∷ places) = (row.write, place.bytes.items) ∷ under_names rows places
 
 -- what it sent
 abbrev pub sent_by : Crossed → Switched

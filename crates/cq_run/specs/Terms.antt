@@ -13,7 +13,7 @@ pub use Rattle.cq_route.specs.Tables.{AreTables, ports_of}
 pub use Rattle.cq_cells.specs.Scheduled.{schedule_of}
 pub use Rattle.cq_report.specs.Report.{report_with}
 pub use Rattle.cq_resume.specs.{Reading.IsRead, Reading.IsRefusal, Switch.IsScheduleOf, Switch.switch_of}
-pub use Rattle.cq_simulate.specs.{PartedRuns.CanBeTakenUp, PartedRuns.taken_at, ScheduleFor.IsScheduleFor}
+pub use Rattle.cq_simulate.specs.{Packets.ArePacked, Packets.HaveLeftOf, PartedRuns.CanBeTakenUp, PartedRuns.taken_at, ScheduleFor.IsScheduleFor}
 unfoldable pub use Rattle.cq_simulate.specs.IdealRuns.{ideal_departures}
 pub use Rattle.cq_gen.specs.{Packets.soak_captures, Tables.soak_tables}
 pub use Rattle.cq_words.specs.{Streamed.as_run, Words.command_for}
@@ -33,7 +33,7 @@ pub use Rattle.cq_run.specs.Planning.{IsWithinRange, known_by}
 pub use Rattle.cq_run.specs.Plan.{audited, capture_out, captures_out, check_line, checked, counted, state_written, switched, yes_line}
 pub use Rattle.cq_run.specs.Refusals.{is_no, meaning_of, denial_text, fault_text, log_text, refusal_text, state_fault_text}
 pub use Rattle.cq_run.specs.Running.{IsEmptied, reader_of}
-pub use Rattle.cq_run.specs.Switching.{IsSent, IsSwitched, sent_by, IsCrossing, IsIdeal, IsPassing, halt_for, halt_of, IsCrossed}
+pub use Rattle.cq_run.specs.Switching.{IsSwitched, sent_by, under_names, IsCrossing, IsIdeal, IsPassing, halt_for, halt_of, IsCrossed}
 pub use Rattle.cq_run.specs.Verdict.{captures_from, packets_at, ideally_sent, sent_or_tag, capture_in, captures_in, short_in, state_in, tables_in, text_in, verdict}
 pub use Rattle.cq_run.specs.Workers.{WorkersChangeNothing}
 pub use Rattle.cq_run.specs.World.{world, taken_by}

@@ -1,14 +1,14 @@
 //! Building the bytes that a command comes to. Here nothing is read and nothing is written.
 ghost use Rattle.std.specs.Prelude.{◌≡◌, ◌∷◌, ◌++◌, ◌≤◌, [], All, IfOk, OnOk, length};
-ghost use Rattle.cq_run.specs.Terms.{AreTables, ports_of, audited, capture_out, captures_out, check_line, checked, counted, state_written, switched, yes_line, report_with, log_of, trace_of, IsSent, IsSwitched, sent_by};
+ghost use Rattle.cq_run.specs.Terms.{HaveLeftOf, audited, capture_out, captures_out, check_line, checked, counted, state_written, switched, under_names, yes_line, report_with, log_of, trace_of};
 
 use crate::plan::{Work, Write};
 use crate::switching::{Crossed, Switched};
 use cq_base::{Figures, MOST_DIGITS, Name, NoMemory, Room, Sequence, Supply, Transfer, digits};
 use cq_pcap::Capture;
 use cq_report::{log_text_of_room, report_text, trace_text_of_packed};
-use cq_route::Tables;
-use cq_simulate::{PackedFabricRun, Refused, packets_of_all};
+use cq_route::{PortRow, Tables};
+use cq_simulate::{Packing, Refused};
 use std::alloc::Global;
 
 /// The line that says what is in a configuration.
@@ -65,8 +65,7 @@ fn put_counted(text: &mut Vec<u8>, name: &[u8], count: usize) -> Result<(), NoMe
     Ok(())
 }
 
-/// What leaves the one output of a switch of one port, under this name. The departures are used up while its file
-/// grows, and then the captures are given up.
+/// What leaves the one output of a switch of one port, under this name.
 pub fn build_passed(
     alloc: Global,
     tables: &Tables,
@@ -74,37 +73,14 @@ pub fn build_passed(
     run: Switched,
     to: Name,
 ) -> Result<Work, NoMemory>
-    requires tables { AreTables tables.now }
-    requires captures { length captures ≡ ports_of tables.now.setup }
-    requires run { IsSwitched tables.now captures run }
-    ensures writes { IfOk result (λ plan. plan.writes ≡ (to, capture_out tables.now captures run.sent.items 0) ∷ []) }
-    ensures text { IfOk result (λ plan. plan.text ≡ []) }
+    requires { HaveLeftOf tables.now captures run.sent.items run.t0 }
+    ensures { IfOk result (λ plan. plan ≡ state_written to (capture_out tables.now captures run.sent.items 0)) }
 {
-    let bytes = build_first(alloc, tables, captures, run)?;
-    let writes = Vec::from_array(alloc, [Write::of(to, bytes)])?;
-    Ok(Work::of(writes, Vec::new(alloc)))
-}
-
-// The capture of what leaves the first output.
-fn build_first(
-    alloc: Global,
-    tables: &Tables,
-    captures: Sequence<Capture>,
-    run: Switched,
-) -> Result<Vec<u8>, NoMemory>
-    requires tables { AreTables tables.now }
-    requires captures { length captures ≡ ports_of tables.now.setup }
-    requires run { IsSwitched tables.now captures run }
-    ensures { IfOk result (λ bytes. bytes.items ≡ capture_out tables.now captures run.sent.items 0) }
-{
-    let Switched { sent, t0 } = run;
-    let left = packets_of_all(alloc, sent, captures.as_slice(), tables, t0)?;
-    drop(captures);
-    let mut places = Supply::of(left);
+    let mut places = run.into_packets(alloc, tables, captures)?;
     let Some(place) = places.pop_first() else {
         unreachable!()
     };
-    Ok(place.bytes)
+    build_file(alloc, to, place.bytes)
 }
 
 /// What leaves each output of a switch, and the trace of its run.
@@ -114,9 +90,7 @@ pub fn build_switched(
     captures: Sequence<Capture>,
     run: Switched,
 ) -> Result<Work, NoMemory>
-    requires tables { AreTables tables.now }
-    requires captures { length captures ≡ ports_of tables.now.setup }
-    requires run { IsSwitched tables.now captures run }
+    requires { HaveLeftOf tables.now captures run.sent.items run.t0 }
     ensures { IfOk result (λ plan. plan ≡ switched tables.now captures run.sent.items) }
 {
     let writes = build_traced(alloc, tables, captures, run)?;
@@ -130,9 +104,7 @@ pub fn build_crossed(
     captures: Sequence<Capture>,
     crossed: Crossed,
 ) -> Result<Work, NoMemory>
-    requires tables { AreTables tables.now }
-    requires captures { length captures ≡ ports_of tables.now.setup }
-    requires run { IsSent tables.now captures (sent_by crossed) }
+    requires left { HaveLeftOf tables.now captures crossed.run.sent.items crossed.t0 }
     requires reportable { All (λ x. x.cells ≤ crossed.run.figures.slots) crossed.run.figures.outputs }
     ensures writes { IfOk result (λ plan. plan.writes
         ≡ captures_out tables.now captures crossed.run.sent.items 0 tables.now.ports
@@ -141,14 +113,16 @@ pub fn build_crossed(
     ensures text { IfOk result (λ plan. plan.text ≡ report_with crossed.run.figures crossed.run.refused.items) }
 {
     let Crossed { run, t0 } = crossed;
-    let PackedFabricRun {
+    let sent = Switched { sent: run.sent, t0 };
+    build_logged(
+        alloc,
+        tables,
+        captures,
         sent,
-        note,
-        figures,
-        refused,
-    } = run;
-    let switched = Switched { sent, t0 };
-    build_logged(alloc, tables, captures, switched, note, &figures, &refused)
+        run.note,
+        &run.figures,
+        &run.refused,
+    )
 }
 
 // The same, of the parts of what the switch did. The log comes first, since it uses up the transfers.
@@ -161,9 +135,7 @@ fn build_logged(
     figures: &Figures,
     refused: &[Refused],
 ) -> Result<Work, NoMemory>
-    requires tables { AreTables tables.now }
-    requires captures { length captures ≡ ports_of tables.now.setup }
-    requires run { IsSent tables.now captures run }
+    requires left { HaveLeftOf tables.now captures run.sent.items run.t0 }
     requires reportable { All (λ x. x.cells ≤ figures.now.slots) figures.now.outputs }
     ensures writes { IfOk result (λ plan. plan.writes
         ≡ captures_out tables.now captures run.sent.items 0 tables.now.ports
@@ -176,11 +148,11 @@ fn build_logged(
     Ok(Work::of(writes, report_text(alloc, figures, refused)?))
 }
 
-/// The text of a stopped run, under this name, and nothing else.
-pub fn build_state(alloc: Global, name: Name, text: Vec<u8>) -> Result<Work, NoMemory>
-    ensures { IfOk result (λ plan. plan ≡ state_written name text.items) }
+/// These bytes, under this name, and nothing else.
+pub fn build_file(alloc: Global, name: Name, bytes: Vec<u8>) -> Result<Work, NoMemory>
+    ensures { IfOk result (λ plan. plan ≡ state_written name bytes.items) }
 {
-    let writes = Vec::from_array(alloc, [Write::of(name, text)])?;
+    let writes = Vec::from_array(alloc, [Write::of(name, bytes)])?;
     Ok(Work::of(writes, Vec::new(alloc)))
 }
 
@@ -201,46 +173,51 @@ fn build_traced(
     captures: Sequence<Capture>,
     run: Switched,
 ) -> Result<Vec<Write>, NoMemory>
-    requires tables { AreTables tables.now }
-    requires captures { length captures ≡ ports_of tables.now.setup }
-    requires run { IsSent tables.now captures run }
+    requires { HaveLeftOf tables.now captures run.sent.items run.t0 }
     ensures { IfOk result (λ writes. writes.items
         ≡ captures_out tables.now captures run.sent.items 0 tables.now.ports
         ++ (tables.now.trace, trace_of run.sent.items) ∷ []) }
 {
     let trace = trace_text_of_packed(alloc, run.sent.as_slice())?;
-    let mut writes = build_captures(alloc, tables, captures, run)?;
+    let places = run.into_packets(alloc, tables, captures)?;
+    let mut writes = build_captures(alloc, tables.ports.as_slice(), places)?;
     put_write(alloc, &mut writes, &tables.trace, trace)?;
     Ok(writes)
 }
 
-// The captures of what leaves each output, each under its name, with places for the trace and the log. The captures
-// that were read are given up as soon as these are built.
+// The captures of the outputs, each under its name in the row of its port, with room for two writes more.
 fn build_captures(
     alloc: Global,
-    tables: &Tables,
-    captures: Sequence<Capture>,
-    run: Switched,
+    rows: &[PortRow],
+    mut places: Supply<Packing>,
 ) -> Result<Vec<Write>, NoMemory>
-    requires tables { AreTables tables.now }
-    requires captures { length captures ≡ ports_of tables.now.setup }
-    requires run { IsSent tables.now captures run }
-    ensures { IfOk result (λ writes. writes.items
-        ≡ captures_out tables.now captures run.sent.items 0 tables.now.ports) }
+    requires { length rows.now ≤ length places }
+    ensures { IfOk result (λ writes. writes.items ≡ under_names rows.now places) }
 {
-    let Switched { sent, t0 } = run;
-    let left = packets_of_all(alloc, sent, captures.as_slice(), tables, t0)?;
-    drop(captures);
-    let mut places = Supply::of(left);
-    let rows = tables.ports.as_slice();
     let mut writes = Vec::with_capacity(alloc, rows.len() + 2)?;
+    let done = put_captures(alloc, &mut writes, rows, &mut places);
+    drop(places);
+    done?;
+    Ok(writes)
+}
+
+// Those captures behind what is to be written already. They are used up.
+fn put_captures(
+    alloc: Global,
+    writes: &mut Vec<Write>,
+    rows: &[PortRow],
+    places: &mut Supply<Packing>,
+) -> Result<(), NoMemory>
+    requires { length rows.now ≤ length places.old }
+    ensures { OnOk result (writes.new.items ≡ writes.old.items ++ under_names rows.now places.old) }
+{
     'ports: for row in rows {
         let Some(place) = places.pop_first() else {
             unreachable!()
         };
-        put_write(alloc, &mut writes, &row.write, place.bytes)?;
+        put_write(alloc, writes, &row.write, place.bytes)?;
     }
-    Ok(writes)
+    Ok(())
 }
 
 // One more name that is to have these bytes, behind the others.

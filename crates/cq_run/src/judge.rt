@@ -8,7 +8,7 @@ ghost use Rattle.cq_run.specs.Terms.{Closed, Fails, Reads, Judges, tables_in, ch
 
 use crate::ahead::stream_from;
 use crate::build::{
-    build_check, build_crossed, build_passed, build_report, build_state, build_switched, build_yes,
+    build_check, build_crossed, build_file, build_passed, build_report, build_switched, build_yes,
 };
 use crate::parting::{part_by_crossbar, resume_by_crossbar};
 use crate::plan::Work;
@@ -408,7 +408,7 @@ fn stop_at<R: Threads + Sync, G: Gate>(
         slots,
         gate,
     )?;
-    Ok(build_state(alloc, state, text)?)
+    Ok(build_file(alloc, state, text)?)
 }
 
 fn resume<R: Threads + Sync, F: Files, G: Gate>(

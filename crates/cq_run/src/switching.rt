@@ -2,17 +2,19 @@
 //!
 //! What a function owns it lends to its last call, and drops by name behind it, as in `judge`.
 ghost use Rattle.std.specs.Prelude.{◌≡◌, ◌≤◌, List, All, IfOk, IfErr, Ok, OnOk, length};
-ghost use Rattle.cq_run.specs.Terms.{AreTables, Captured, Departure, IsScheduleFor, ideal_departures, schedule_of, sent_or_tag, trace_of, ports_of, IsAuditHalted, IsAuditPassed, IsHaltOf, IsCrossed, IsSwitched, sent_by, ideally_sent, halt_for_log, halt_of};
+ghost use Rattle.cq_run.specs.Terms.{ArePacked, AreTables, Captured, HaveLeftOf, Departure, IsScheduleFor, ideal_departures, schedule_of, sent_or_tag, trace_of, ports_of, IsAuditHalted, IsAuditPassed, IsHaltOf, IsCrossed, IsSwitched, sent_by, ideally_sent, halt_for_log, halt_of};
 
 use crate::{Denial, Halt, Refusal};
 use cq_audit::{AuditRefusal, audit_log, audit_trace};
-use cq_base::Departures;
+use cq_base::{Departures, NoMemory, Sequence, Supply};
 use cq_cells::Schedule;
 use cq_crew::Gate;
 use cq_pcap::Capture;
 use cq_report::trace_text_of_packed;
 use cq_route::Tables;
-use cq_simulate::{PackedFabricRun, RunRefusal, run_fabric_packed, run_ideal_packed};
+use cq_simulate::{
+    PackedFabricRun, Packing, RunRefusal, packets_of_all, run_fabric_packed, run_ideal_packed,
+};
 use std::alloc::Global;
 use std::thread::Threads;
 
@@ -21,6 +23,25 @@ use std::thread::Threads;
 pub struct Switched {
     pub sent: Departures,
     pub t0: u64,
+}
+
+impl Switched {
+    /// What leaves each output, in order. The departures are used up while the captures of the outputs grow, and then
+    /// the captures that were read are given up.
+    pub fn into_packets(
+        self,
+        alloc: Global,
+        tables: &Tables,
+        captures: Sequence<Capture>,
+    ) -> Result<Supply<Packing>, NoMemory>
+        requires { HaveLeftOf tables.now captures self.sent.items self.t0 }
+        ensures { IfOk result (ArePacked tables.now captures self.sent.items) }
+    {
+        let Switched { sent, t0 } = self;
+        let places = packets_of_all(alloc, sent, captures.as_slice(), tables, t0);
+        drop(captures);
+        Ok(Supply::of(places?))
+    }
 }
 
 /// What the crossbar switch did, and the stamp from which its slots are counted, in nanoseconds.
@@ -36,13 +57,7 @@ impl Crossed {
         ensures { result ≡ sent_by self }
     {
         let Crossed { run, t0 } = self;
-        let PackedFabricRun {
-            sent,
-            note: _,
-            figures: _,
-            refused: _,
-        } = run;
-        Switched { sent, t0 }
+        Switched { sent: run.sent, t0 }
     }
 }
 

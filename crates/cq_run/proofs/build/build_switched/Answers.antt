@@ -1,9 +1,6 @@
-use Rattle.cq_run.proofs.Terms.{arith, rules, ◌∙◌}
-use Rattle.cq_run.proofs.Crossed.{switched_is, switched_whole}
+use Rattle.cq_run.proofs.Terms.{◌∙◌}
+use Rattle.cq_run.proofs.Crossed.{switched_is}
 use Rattle.cq_run.proofs.build.build_switched.Goals as goal
-
-pub build_traced-requires-clause-run : goal.build_traced-requires-clause-run
-build_traced-requires-clause-run c = search (arith, rules, switched_whole)
 
 pub returns : goal.returns
 returns c = switched_is c.args.tables.now c.args.captures c.args.run.sent.items c.of.result

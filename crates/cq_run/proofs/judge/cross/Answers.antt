@@ -6,8 +6,8 @@ use Rattle.cq_run.proofs.judge.cross.Goals as goal
 pub switch_by_crossbar-requires-clause-captures : goal.switch_by_crossbar-requires-clause-captures
 switch_by_crossbar-requires-clause-captures g c κs within = search (arith, rules)
 
-pub build_crossed-requires-clause-run : goal.build_crossed-requires-clause-run
-build_crossed-requires-clause-run g c =
+pub build_crossed-requires-clause-left : goal.build_crossed-requires-clause-left
+build_crossed-requires-clause-left g c =
     switched_whole c.args.tables.now c.args.captures (sent_by c.in_ok-crossed.crossed) c.requires.tables
     c.requires.captures (rw c.as_slice.ensures at c.in_ok-crossed.ensures.crossed.switched)
 

@@ -3,8 +3,8 @@ use Rattle.cq_run.proofs.Told.{exit_is}
 use Rattle.cq_run.proofs.Planned.{resuming_is}
 use Rattle.cq_run.proofs.judge.go_on.Goals as goal
 
-pub build_crossed-requires-clause-run : goal.build_crossed-requires-clause-run
-build_crossed-requires-clause-run g c = search (arith, rules)
+pub build_crossed-requires-clause-left : goal.build_crossed-requires-clause-left
+build_crossed-requires-clause-left g c = search (arith, rules)
 
 pub returns-in_err-crossed-clause-refused : goal.returns-in_err-crossed-clause-refused
 returns-in_err-crossed-clause-refused g c = search (arith, rules, exit_is)

@@ -1,9 +1,17 @@
-use Rattle.cq_run.proofs.Terms.{arith, rules, ◌≡◌, ◌∷◌, []}
+use Rattle.cq_run.proofs.Terms.{arith, rules, ap, sym, ◌∙◌, ◌≡◌, ◌∷◌, [], length, List, Captured, Plan, sent_by}
+use Rattle.cq_run.proofs.Crossed.{switched_whole}
 use Rattle.cq_run.proofs.Told.{exit_is}
 use Rattle.cq_run.proofs.judge.pass_on.Goals as goal
 
 pub switch_by_crossbar-requires-clause-captures : goal.switch_by_crossbar-requires-clause-captures
 switch_by_crossbar-requires-clause-captures g c κs within = search (arith, rules)
+
+pub build_passed-requires : goal.build_passed-requires
+build_passed-requires g c =
+    let one = ap (λ (cs : List (List Captured)). length cs) c.in_ok-captures.ensures ∙ sym c.requires.port in
+    rw c.into_switched.ensures (switched_whole c.args.tables.now c.in_ok-captures.captures
+    (sent_by c.in_ok-crossed.crossed) c.requires.tables one
+    (rw c.as_slice.ensures at c.in_ok-crossed.ensures.crossed.switched))
 
 pub returns-in_err-crossed-clause-refused : goal.returns-in_err-crossed-clause-refused
 returns-in_err-crossed-clause-refused g c = search (arith, rules, exit_is)
@@ -12,6 +20,7 @@ pub returns-clause-passing : goal.returns-clause-passing
 returns-clause-passing g c =
     let one : c.in_ok-captures.captures ≡ c.args.capture ∷ [] = c.in_ok-captures.ensures in
     let is = rw (c.as_slice.ensures, one) at c.in_ok-crossed.ensures.crossed in
+    let written = rw (c.into_switched.ensures, one) at c.in_ok-build_passed.ensures in
     let sent = c.in_ok-crossed.crossed.run.sent.items in
     record {
       sent = sent;
@@ -19,6 +28,6 @@ returns-clause-passing g c =
       records = is.records;
       keeps_up = is.keeps_up;
       departed = is.departed;
-      writes = rw (c.into_switched.ensures, one) at c.in_ok-build_passed.ensures.writes;
-      text = c.in_ok-build_passed.ensures.text;
+      writes = ap (λ (plan : Plan). plan.writes) written;
+      text = ap (λ (plan : Plan). plan.text) written;
     }
