@@ -21,7 +21,7 @@ pub use Rattle.cq_run.specs.Aim.{Meets, Reporting}
 pub use Rattle.cq_run.specs.{Answers.Answers, Judged.IsJudged, Parting.IsPartText, Parting.IsPartedAt, Plan.Plan, Reader.Reader, RunsAudited.RunsAreAudited, StatusCauses.StatusCauses}
 pub use Rattle.cq_run.specs.AuditEnds.{IsAuditHalted, IsAuditPassed}
 pub use Rattle.cq_run.specs.Decoding.{HasBegun, IsBegun, source}
-pub use Rattle.cq_run.specs.Ending.{halt_status, stop_status, EndsIn, WhereHalted, status_of}
+pub use Rattle.cq_run.specs.Ending.{stop_status, EndsIn, WhereHalted, status_of}
 pub use Rattle.cq_run.specs.Given.{EndsGiven, IsGiven}
 pub use Rattle.cq_run.specs.Headline.{AreGiven, Emulates}
 pub use Rattle.cq_run.specs.Input.{IsHaltFor, IsFileOf, IsInFront}

@@ -1,6 +1,6 @@
 //! Why a run stops before its work is done.
 ghost use Rattle.std.specs.Prelude.{◌≡◌};
-ghost use Rattle.cq_run.specs.Terms.{halt_status, stop_status};
+ghost use Rattle.cq_run.specs.Terms.{stop_status};
 ghost use Rattle.cq_run.specs.declared.stop.Halt.TheVariants.{NoMemory as no_memory};
 ghost use Rattle.cq_run.specs.declared.stop.Stop.TheVariants.{Cut, Halted};
 
@@ -85,26 +85,21 @@ impl From<Unwritten> for Stop {
     }
 }
 
-impl Halt {
-    /// The status of a run that halts so.
-    pub fn status(&self) -> Status
-        ensures { result ≡ halt_status self.now }
-    {
-        match self {
-            Halt::Refused { refusal } => refusal.status(),
-            Halt::Unread { .. } => Status::ReadFault,
-            Halt::NoMemory => Status::NoMemory,
-        }
-    }
-}
-
 impl Stop {
     /// The status of a run that stops so.
     pub fn status(&self) -> Status
         ensures { result ≡ stop_status self.now }
     {
         match self {
-            Stop::Halted { halt } => halt.status(),
+            Stop::Halted {
+                halt: Halt::Refused { refusal },
+            } => refusal.status(),
+            Stop::Halted {
+                halt: Halt::Unread { .. },
+            } => Status::ReadFault,
+            Stop::Halted {
+                halt: Halt::NoMemory,
+            } => Status::NoMemory,
             Stop::Cut { .. } => Status::WriteFault,
         }
     }
