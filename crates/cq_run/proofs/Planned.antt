@@ -1,6 +1,6 @@
 -- From one judgement after another to a plan that meets what is aimed at: for each command what is judged of what it
 -- reads, and a plan that it comes to.
-use Rattle.cq_run.proofs.Terms.{rules, arith, ◌≡◌, ◌∙◌, ℕ, List, [], ◌∷◌, refl, sym, ap, inl, inr, ◌++◌, IsTrue, Result, Ok, Err, IfOk, IfErr, IsOk, common_steps, AllByRecursion, Departure, soak_captures, soak_tables, Captured, Tables, Call, Rose, Contents, Space, Closed, Command, Ideal, Run, Soak, Pass, Audit, Part, Resume, Given, Refusal, Halt, Aim, Reporting, Meets, Crossing, Exactly, Auditing, Parting, Resuming, EndsGiven, IsGiven, IsPassage, AreRead, IsAudited, AreGiven, IsJudged, IsHaltOf, Judges, Pace, InTurn, Uncounted, Plan, known_to, Reader, ◌>>=◌, ideally_sent, capture_in, text_in, state_in, switched, capture_out, passed, audited, captures_out, resumed, state_written, IsCrossing, IsIdeal, IsPassing, arrivals, plain_tables, AreTables, ports_of, ideal_departures, Lasts, capture_of_all, trace_of, log_of, Audited, Missing, State, Words, IsAuditHalted, IsAuditPassed, report_with, NoMemory, Refused, Unread, Crossed, IsPartHalt, IsResumeHalt, IsResuming, kept_by, IsPartRefusal, IsPartText, IsResumeRefusal, IsResumedText, meaning_of, written, Denial, CaptureFault, Capture, is_no}
+use Rattle.cq_run.proofs.Terms.{rules, arith, ◌≡◌, ◌∙◌, ℕ, List, [], ◌∷◌, refl, sym, ap, inl, inr, ◌++◌, IsTrue, Result, Ok, Err, IfOk, IfErr, IsOk, common_steps, AllByRecursion, Departure, soak_captures, soak_tables, Captured, Tables, Call, Rose, Contents, Space, Closed, Command, Ideal, Run, Soak, Pass, Audit, Part, Resume, Given, Refusal, Halt, Aim, Reporting, Meets, Crossing, Exactly, Auditing, Parting, Resuming, EndsGiven, IsGiven, command_asking, IsPassage, AreRead, IsAudited, AreGiven, IsJudged, IsHaltOf, Judges, Pace, InTurn, Uncounted, Plan, known_to, Reader, ◌>>=◌, ideally_sent, capture_in, text_in, state_in, switched, capture_out, passed, audited, captures_out, resumed, state_written, IsCrossing, IsIdeal, IsPassing, arrivals, plain_tables, AreTables, ports_of, ideal_departures, Lasts, capture_of_all, trace_of, log_of, Audited, Missing, State, Words, IsAuditHalted, IsAuditPassed, report_with, NoMemory, Refused, Unread, Crossed, IsPartHalt, IsResumeHalt, IsResuming, kept_by, IsPartRefusal, IsPartText, IsResumeRefusal, IsResumedText, meaning_of, written, Denial, CaptureFault, Capture, is_no}
 use Rattle.cq_run.proofs.Chain.{counts_after, judges_computed, judges_computed_err}
 use Rattle.cq_run.proofs.Told.{told_any, told_map, told_two}
 use Rattle.cq_run.proofs.Crossed.{emulates, plan_is, sent_ok}
@@ -14,6 +14,8 @@ use Rattle.cq_run.proofs.Stopped.{goes_best, goes_slack, stops_best, stops_slack
 use Rattle.cq_run.proofs.TextRead.{text_stands}
 use Rattle.cq_run.specs.Headline.{IsStopped, IsTakenUp}
 use Rattle.cq_run.specs.declared.refusal.StateFault.TheVariants as stopped
+use Rattle.cq_run.specs.declared.judge.Asked.{Asked}
+use Rattle.cq_run.specs.declared.judge.Asked.TheVariants as asked
 
 -- what a command knows of a file space has its count of faults
 known_faults : (command : Command) (s : Space) → (known_to command s).faults ≡ s.faults
@@ -363,6 +365,18 @@ module _ {S : Type 0} {space : S → Space} {keeps : S → S → Type 0} {old no
         (λ m are_read d. goes_as _ _ text are_read d met) (read_told is r) (rw is.told at read.ok))
     resume_judged (Err halt) met refused =
         settled at_state (Err halt) (resume_settles given.tables given.captures text halt refused) tt (λ r. tt)
+
+-- ## Whatever is asked of a configuration, reading it or its captures ends judging
+
+pub asked_ends : {S : Type 0} {space : S → Space} {may_fail : Call → S → S → Type 0} {keeps : S → S → Type 0} {p : Pace}
+    {config : List ℕ} {old new : S} {halt : Halt} (asked : Asked) →
+    EndsGiven space may_fail keeps p config old new halt →
+    IsJudged space may_fail keeps p (command_asking config asked) old new (Err halt)
+asked_ends asked.Ideal ended = given_ends (λ s. refl) (sent_of switching) (λ r. refl) (λ name. tt) ended
+asked_ends asked.Run ended = run_ends ended
+asked_ends asked.Audit ended = given_ends (λ s. refl) from_trace (λ r. refl) (λ name. tt) ended
+asked_ends (asked.Part slots name) ended = given_ends (λ s. refl) (part_rest slots name) (λ r. refl) (λ name. tt) ended
+asked_ends (asked.Resume name) ended = given_ends (λ s. refl) (resume_rest name) (λ r. refl) (λ name. tt) ended
 
 -- what was kept of a run that goes on is built
 pub resuming_is : (t : Tables) (captures : List (List Captured)) (text : List ℕ) (c : Crossed) (plan : Plan) →

@@ -39,7 +39,8 @@ pub use Rattle.cq_words.specs.Words.{command_for, form_of, most_slots, with_conf
 pub use Rattle.cq_words.specs.declared.command.Command.{Command}
 pub use Rattle.cq_words.specs.declared.command.Command.TheVariants.{Audit, Check, Ideal, Part, Pass, Resume, Run, Soak}
 pub use Rattle.cq_run.specs.Aim.{Aim, Auditing, Crossing, Denies, Exactly, Meets, Parting, Reporting, Resuming}
-pub use Rattle.cq_run.specs.Given.{EndsGiven, IsGiven, judged_of_given}
+pub use Rattle.cq_run.specs.Asked.{command_asking}
+pub use Rattle.cq_run.specs.Given.{EndsGiven, Given, IsGiven, judged_of_given}
 pub use Rattle.cq_run.specs.Headline.{AreGiven, AreRead, Emulates, IsAudited, IsEmulation, IsPassage, KeepsUp}
 pub use Rattle.cq_run.specs.Judging.{Halts, IsHaltOf, IsRefused, IsToRead, Judges}
 pub use Rattle.cq_run.specs.Line.{Puts, TakesText}
@@ -56,7 +57,7 @@ pub use Rattle.cq_run.specs.Switching.{IsCrossed, IsCrossing, IsIdeal, IsPassing
 pub use Rattle.cq_run.specs.Verdict.{MayRead, MayWrite, capture_in, capture_of, captures_in, found_or_missing, ideally_sent, judged, judged_or_words, named, packets_at, read_or_faulty, read_or_refused_for, sent_or_tag, short_in, short_or, state_in, tables_in, text_in, ◌>>=◌}
 unfoldable pub use Rattle.cq_run.specs.Verdict.{captures_from}
 pub use Rattle.cq_run.specs.World.{IsUntouched, Taken, World, taken_by, world}
-pub use Rattle.cq_run.specs.{declared.denial.Denial.Denial, declared.refusal.CaptureFault.CaptureFault, declared.reading.Given.Given, declared.refusal.Refusal.Refusal, declared.stop.Halt.Halt, declared.switching.Crossed.Crossed, declared.switching.Switched.Switched}
+pub use Rattle.cq_run.specs.{declared.denial.Denial.Denial, declared.refusal.CaptureFault.CaptureFault, declared.refusal.Refusal.Refusal, declared.stop.Halt.Halt, declared.switching.Crossed.Crossed, declared.switching.Switched.Switched}
 pub use Rattle.cq_run.specs.declared.refusal.Refusal.TheVariants.{Audit as Audited, Capture, Configuration, Missing, State, Words}
 pub use Rattle.cq_run.specs.declared.stop.Halt.TheVariants.{NoMemory, Refused, Unread}
 pub use Rattle.cq_run.specs.Terms.{IsAuditHalted, IsAuditPassed, IsCut, IsCutAtFile, IsDone, IsJudged, Plan, Reader, SameReader, Spells, StatusCauses, all_replaced, decimal, log_of, report_with, soak_captures, soak_tables, taken, trace_of}

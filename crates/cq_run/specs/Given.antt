@@ -7,7 +7,6 @@ use Rattle.cq_route.specs.declared.tables.Tables.{Tables}
 use Rattle.cq_space.specs.Call.{Call}
 use Rattle.cq_space.specs.Failing.{Fails, Reads}
 use Rattle.cq_space.specs.Space.{Closed, Contents, Space}
-use Rattle.cq_run.specs.declared.reading.Given.{Given}
 use Rattle.cq_run.specs.declared.refusal.Refusal.{Refusal}
 use Rattle.cq_run.specs.declared.stop.Halt.{Halt}
 use Rattle.cq_run.specs.Aim.{Aim}
@@ -15,6 +14,11 @@ use Rattle.cq_run.specs.Judging.{Judges}
 use Rattle.cq_run.specs.Pace.{Pace}
 use Rattle.cq_run.specs.Reader.{Reader}
 use Rattle.cq_run.specs.Verdict.{◌>>=◌, captures_in, tables_in}
+
+-- tables, and a capture for each port
+pub record Given : Type 0 where
+  pub tables : Tables
+  pub captures : List (List Captured)
 
 -- this is read of what the file space told: tables that are in range, and a capture for each of their ports. No fault
 -- was counted, and nothing was written

@@ -18,6 +18,7 @@ pub mod World
 pub mod Writing
 pub mod Planning
 pub mod Given
+pub mod Asked
 pub mod Headline
 pub mod Judged
 pub mod Ending

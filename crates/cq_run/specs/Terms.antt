@@ -19,10 +19,11 @@ pub use Rattle.cq_gen.specs.{Packets.soak_captures, Tables.soak_tables}
 pub use Rattle.cq_words.specs.{Streamed.as_run, Words.command_for}
 pub use Rattle.cq_run.specs.Aim.{Meets, Reporting}
 pub use Rattle.cq_run.specs.{Answers.Answers, Judged.IsJudged, Parting.IsPartText, Parting.IsPartedAt, Plan.Plan, Reader.Reader, RunsAudited.RunsAreAudited, StatusCauses.StatusCauses}
+pub use Rattle.cq_run.specs.Asked.{StopsInTime, command_asking}
 pub use Rattle.cq_run.specs.AuditEnds.{IsAuditHalted, IsAuditPassed}
 pub use Rattle.cq_run.specs.Decoding.{HasBegun, IsBegun, source}
 pub use Rattle.cq_run.specs.Ending.{stop_status, EndsIn, WhereHalted, status_of}
-pub use Rattle.cq_run.specs.Given.{EndsGiven, IsGiven}
+pub use Rattle.cq_run.specs.Given.{IsGiven}
 pub use Rattle.cq_run.specs.Headline.{AreGiven, Emulates}
 pub use Rattle.cq_run.specs.Input.{IsHaltFor, IsFileOf, IsInFront}
 pub use Rattle.cq_run.specs.Judging.{Halts, Judges, IsHaltOf}

@@ -4,7 +4,7 @@
 //! end of a scope is one for each field.
 ghost use Rattle.std.specs.Prelude.{◌≡◌, ℕ, ◌≤◌, ◌<◌, ◌^◌, List, ◌∷◌, [], All, IfErr, IfOk, IsOk, Ok, length};
 ghost use Rattle.std.specs.Int.{IsInRange};
-ghost use Rattle.cq_run.specs.Terms.{Closed, Fails, Reads, Judges, tables_in, checked, AreGiven, AreTables, ports_of, audited, state_written, IsAuditHalted, IsAuditPassed, IsPartHalt, IsPartText, soak_captures, soak_tables, plain_tables, Meets, Reporting, IsJudged, IsHaltOf, Ahead, InTurn, IsGiven, IsResumeHalt, IsResuming, IsWithinRange, IsCrossing, IsIdeal, IsPassing, ideally_sent, most_ports, report_with};
+ghost use Rattle.cq_run.specs.Terms.{Closed, StopsInTime, command_asking, Fails, Reads, Judges, tables_in, checked, AreGiven, AreTables, ports_of, state_written, IsPartHalt, IsPartText, soak_captures, soak_tables, plain_tables, Meets, Reporting, IsJudged, IsHaltOf, Ahead, InTurn, IsGiven, IsResumeHalt, IsResuming, IsWithinRange, IsCrossing, IsIdeal, IsPassing, ideally_sent, most_ports, report_with};
 
 use crate::ahead::stream_from;
 use crate::build::{
@@ -12,12 +12,12 @@ use crate::build::{
 };
 use crate::parting::{part_by_crossbar, resume_by_crossbar};
 use crate::plan::Work;
-use crate::reading::{Given, read_configuration, read_given, read_input, read_stopped, read_text};
+use crate::reading::{read_configuration, read_input, read_inputs, read_stopped, read_text};
 use crate::switching::{Crossed, audit_texts, switch_by_crossbar, switch_ideally};
 use crate::{Command, Denial, Halt};
 use cq_base::{Name, NoMemory, Sequence};
 use cq_crew::Gate;
-use cq_gen::make;
+use cq_gen::{Soak, make};
 use cq_pcap::Capture;
 use cq_route::Tables;
 use cq_space::Files;
@@ -44,16 +44,18 @@ pub fn judge<R: Threads + Sync, F: Files, G: Gate>(
     match command {
         Command::Pass { from, to } => pass(rt, alloc, files, from, to, gate),
         Command::Check { config } => check(alloc, files, config),
-        Command::Ideal { config } => ideal(rt, alloc, files, config),
-        Command::Run { config } => run(rt, alloc, files, config, gate),
+        Command::Ideal { config } => over(rt, alloc, files, config, Asked::Ideal, gate),
+        Command::Run { config } => over(rt, alloc, files, config, Asked::Run, gate),
         Command::Soak { seed, ports, slots } => soak(rt, alloc, seed, ports, slots, gate),
-        Command::Audit { config } => audit(rt, alloc, files, config),
+        Command::Audit { config } => over(rt, alloc, files, config, Asked::Audit, gate),
         Command::Part {
             config,
             slots,
             state,
-        } => part(rt, alloc, files, config, slots, state, gate),
-        Command::Resume { config, state } => resume(rt, alloc, files, config, state, gate),
+        } => over(rt, alloc, files, config, Asked::Part { slots, state }, gate),
+        Command::Resume { config, state } => {
+            over(rt, alloc, files, config, Asked::Resume { state }, gate)
+        }
     }
 }
 
@@ -125,33 +127,108 @@ fn check<F: Files>(alloc: Global, files: &mut F, config: Name) -> Result<Work, H
     ensures { IsJudged F.space F.may_fail F.unbegun InTurn (Command.Check config) files.old files.new result }
 {
     let tables = read_configuration(alloc, files, config)?;
-    let work = count(alloc, &tables);
+    let work = say_check(alloc, &tables);
     drop(tables);
     work
 }
 
 // The line that says what is in these tables.
-fn count(alloc: Global, tables: &Tables) -> Result<Work, Halt>
+fn say_check(alloc: Global, tables: &Tables) -> Result<Work, Halt>
     ensures checked { IfOk result (λ plan. plan ≡ checked tables.now) }
     ensures memory { IfErr result (λ halt. halt ≡ Halt.NoMemory) }
 {
     Ok(build_check(alloc, tables)?)
 }
 
-fn ideal<R: Threads + Sync, F: Files>(
+// What is asked of a configuration and the captures that it names.
+#[derive(Drop)]
+enum Asked {
+    // What the ideal switch sends.
+    Ideal,
+    // What the crossbar switch does.
+    Run,
+    // Whether its trace and its log are those of a switch.
+    Audit,
+    // The state after so many slots, under this name.
+    Part { slots: u64, state: Name },
+    // What the crossbar switch does from the state of this name on.
+    Resume { state: Name },
+}
+
+// What a command comes to that asks this of a configuration.
+fn over<R: Threads + Sync, F: Files, G: Gate>(
     rt: &R,
     alloc: Global,
     files: &mut F,
     config: Name,
+    asked: Asked,
+    gate: &G,
 ) -> Result<Work, Halt>
-    requires { (F.space files.old).mode ≡ Closed }
-    ensures { IsJudged F.space F.may_fail F.unbegun InTurn (Command.Ideal config) files.old files.new result }
+    requires closed { (F.space files.old).mode ≡ Closed }
+    requires slots { StopsInTime asked }
+    ensures { IsJudged F.space F.may_fail F.unbegun InTurn (command_asking config asked) files.old files.new result }
 {
-    let given = read_given(alloc, files, config)?;
-    let Given { tables, captures } = given;
-    let work = send_ideally(rt, alloc, &tables, captures);
+    let tables = read_configuration(alloc, files, config)?;
+    let work = over_tables(rt, alloc, files, &tables, asked, gate);
     drop(tables);
     work
+}
+
+// The same, over the tables of the configuration: the captures of their ports are read next.
+fn over_tables<R: Threads + Sync, F: Files, G: Gate>(
+    rt: &R,
+    alloc: Global,
+    files: &mut F,
+    tables: &Tables,
+    asked: Asked,
+    gate: &G,
+) -> Result<Work, Halt>
+    requires closed { (F.space files.old).mode ≡ Closed }
+    requires tables { AreTables tables.now }
+    requires slots { StopsInTime asked }
+    ensures { (config : List ℕ) (start : F) → F.unbegun start files.old →
+        Judges InTurn (tables_in config)
+        (λ name. (name ≡ config) × Fails F.space F.may_fail F.unbegun (Reads name) start files.old)
+        (F.space start) (F.space files.old) (Ok tables.now) →
+        IsJudged F.space F.may_fail F.unbegun InTurn (command_asking config asked) start files.new result }
+{
+    let captures = read_inputs(alloc, files, tables)?;
+    over_given(rt, alloc, files, tables, captures, asked, gate)
+}
+
+// The same, of what the configuration gave. What more a command reads is read next. The captures are given up on the
+// way.
+fn over_given<R: Threads + Sync, F: Files, G: Gate>(
+    rt: &R,
+    alloc: Global,
+    files: &mut F,
+    tables: &Tables,
+    captures: Sequence<Capture>,
+    asked: Asked,
+    gate: &G,
+) -> Result<Work, Halt>
+    requires closed { (F.space files.old).mode ≡ Closed }
+    requires tables { AreTables tables.now }
+    requires captures { length captures ≡ ports_of tables.now.setup }
+    requires slots { StopsInTime asked }
+    ensures { (config : List ℕ) (start : F) →
+        IsGiven F.space F.unbegun config start files.old (record { tables = tables.now; captures = captures }) →
+        IsJudged F.space F.may_fail F.unbegun InTurn (command_asking config asked) start files.new result }
+{
+    match asked {
+        Asked::Ideal => send_ideally(rt, alloc, tables, captures),
+        Asked::Run => cross(rt, alloc, tables, captures, gate),
+        Asked::Audit => {
+            let work = audit(rt, alloc, files, tables, captures.as_slice());
+            drop(captures);
+            work
+        }
+        Asked::Part { slots, state } => part(rt, alloc, tables, captures, slots, state, gate),
+        Asked::Resume { state } => {
+            let text = read_stopped(alloc, files, state)?;
+            go_on(rt, alloc, tables, captures, text, gate)
+        }
+    }
 }
 
 // What the ideal switch makes of these captures, one for each port, with all its bytes. The captures are given up on
@@ -169,23 +246,6 @@ fn send_ideally<R: Threads + Sync>(
 {
     let switched = switch_ideally(rt, alloc, tables, captures.as_slice())?;
     Ok(build_switched(alloc, tables, captures, switched)?)
-}
-
-fn run<R: Threads + Sync, F: Files, G: Gate>(
-    rt: &R,
-    alloc: Global,
-    files: &mut F,
-    config: Name,
-    gate: &G,
-) -> Result<Work, Halt>
-    requires { (F.space files.old).mode ≡ Closed }
-    ensures { IsJudged F.space F.may_fail F.unbegun InTurn (Command.Run config) files.old files.new result }
-{
-    let given = read_given(alloc, files, config)?;
-    let Given { tables, captures } = given;
-    let work = cross(rt, alloc, &tables, captures, gate);
-    drop(tables);
-    work
 }
 
 /// What `run` comes to for a configuration, where captures are decoded by readers ahead of judging. The watch is told
@@ -267,27 +327,26 @@ fn soak<R: Threads + Sync, G: Gate>(
     ensures refused { IfErr result (IsHaltOf (ideally_sent (soak_tables ports) (soak_captures seed ports slots))) }
 {
     let soak = make(alloc, seed, ports, slots)?;
-    let work = report_on(rt, alloc, &soak.tables, &soak.captures, gate);
+    let work = report_on(rt, alloc, &soak, gate);
     drop(soak);
     work
 }
 
-// The report of what the crossbar switch makes of these captures, one for each port.
+// The report of what the crossbar switch makes of this traffic.
 fn report_on<R: Threads + Sync, G: Gate>(
     rt: &R,
     alloc: Global,
-    tables: &Tables,
-    captures: &[Capture],
+    soak: &Soak,
     gate: &G,
 ) -> Result<Work, Halt>
-    requires tables { AreTables tables.now }
-    requires captures { length captures.now ≡ ports_of tables.now.setup }
-    ensures meets { IfOk result (λ plan. Meets (Reporting tables.now captures.now) plan) }
+    requires tables { AreTables soak.now.tables }
+    requires captures { length soak.now.captures.items ≡ ports_of soak.now.tables.setup }
+    ensures meets { IfOk result (λ plan. Meets (Reporting soak.now.tables soak.now.captures.items) plan) }
     ensures writes { IfOk result (λ plan. plan.writes ≡ []) }
-    ensures sent { IfOk result (λ _. IsOk (ideally_sent tables.now captures.now)) }
-    ensures refused { IfErr result (IsHaltOf (ideally_sent tables.now captures.now)) }
+    ensures sent { IfOk result (λ _. IsOk (ideally_sent soak.now.tables soak.now.captures.items)) }
+    ensures refused { IfErr result (IsHaltOf (ideally_sent soak.now.tables soak.now.captures.items)) }
 {
-    let crossed = switch_by_crossbar(rt, alloc, tables, captures, gate)?;
+    let crossed = switch_by_crossbar(rt, alloc, &soak.tables, &soak.captures, gate)?;
     let work = report_of(alloc, &crossed);
     drop(crossed);
     work
@@ -304,150 +363,59 @@ fn report_of(alloc: Global, crossed: &Crossed) -> Result<Work, Halt>
     Ok(build_report(alloc, &crossed.run.figures, &crossed.run.refused)?)
 }
 
+// What an audit comes to of these captures, one for each port: the trace and the log are read next.
 fn audit<R: Threads + Sync, F: Files>(
     rt: &R,
     alloc: Global,
     files: &mut F,
-    config: Name,
-) -> Result<Work, Halt>
-    requires { (F.space files.old).mode ≡ Closed }
-    ensures { IsJudged F.space F.may_fail F.unbegun InTurn (Command.Audit config) files.old files.new result }
-{
-    let given = read_given(alloc, files, config)?;
-    let work = audit_given(rt, alloc, files, &given);
-    drop(given);
-    work
-}
-
-// The same, of what the configuration gave: its trace and its log are read next.
-fn audit_given<R: Threads + Sync, F: Files>(
-    rt: &R,
-    alloc: Global,
-    files: &mut F,
-    given: &Given,
+    tables: &Tables,
+    captures: &[Capture],
 ) -> Result<Work, Halt>
     requires closed { (F.space files.old).mode ≡ Closed }
-    requires tables { AreTables given.now.tables }
-    requires captures { length given.now.captures ≡ ports_of given.now.tables.setup }
-    ensures { (config : List ℕ) (start : F) → IsGiven F.space F.unbegun config start files.old given.now →
+    requires tables { AreTables tables.now }
+    requires captures { length captures.now ≡ ports_of tables.now.setup }
+    ensures { (config : List ℕ) (start : F) →
+        IsGiven F.space F.unbegun config start files.old (record { tables = tables.now; captures = captures.now }) →
         IsJudged F.space F.may_fail F.unbegun InTurn (Command.Audit config) start files.new result }
 {
-    let trace = read_text(alloc, files, &given.tables.trace, Denial::LongTrace)?;
-    let log = read_text(alloc, files, &given.tables.log, Denial::LongLog)?;
-    answer(rt, alloc, given, trace.as_slice(), log.as_slice())
-}
-
-// The answer of an audit of these texts, a trace and a log.
-fn answer<R: Threads + Sync>(
-    rt: &R,
-    alloc: Global,
-    given: &Given,
-    trace: &[u8],
-    log: &[u8],
-) -> Result<Work, Halt>
-    requires tables { AreTables given.now.tables }
-    requires captures { length given.now.captures ≡ ports_of given.now.tables.setup }
-    ensures passed { IfOk result (λ _. IsAuditPassed given.now.tables given.now.captures trace.now log.now) }
-    ensures answered { IfOk result (λ plan. plan ≡ audited) }
-    ensures halted { IfErr result (IsAuditHalted given.now.tables given.now.captures trace.now log.now) }
-{
-    audit_texts(
+    let trace = read_text(alloc, files, &tables.trace, Denial::LongTrace)?;
+    let log = read_text(alloc, files, &tables.log, Denial::LongLog)?;
+    let done = audit_texts(
         rt,
         alloc,
-        &given.tables,
-        given.captures.as_slice(),
-        trace,
-        log,
-    )?;
+        tables,
+        captures,
+        trace.as_slice(),
+        log.as_slice(),
+    );
+    drop(log);
+    drop(trace);
+    done?;
     Ok(build_yes(alloc)?)
-}
-
-fn part<R: Threads + Sync, F: Files, G: Gate>(
-    rt: &R,
-    alloc: Global,
-    files: &mut F,
-    config: Name,
-    slots: u64,
-    state: Name,
-    gate: &G,
-) -> Result<Work, Halt>
-    requires closed { (F.space files.old).mode ≡ Closed }
-    requires slots { slots < 2 ^ 63 }
-    ensures { IsJudged F.space F.may_fail F.unbegun InTurn (Command.Part config slots state)
-        files.old files.new result }
-{
-    let given = read_given(alloc, files, config)?;
-    let work = stop_at(rt, alloc, &given, slots, state, gate);
-    drop(given);
-    work
 }
 
 // The text of the state in which the crossbar switch stands after so many slots with these captures, one for each
 // port, under this name.
-fn stop_at<R: Threads + Sync, G: Gate>(
+fn part<R: Threads + Sync, G: Gate>(
     rt: &R,
     alloc: Global,
-    given: &Given,
+    tables: &Tables,
+    captures: Sequence<Capture>,
     slots: u64,
     state: Name,
     gate: &G,
 ) -> Result<Work, Halt>
-    requires tables { AreTables given.now.tables }
-    requires captures { length given.now.captures ≡ ports_of given.now.tables.setup }
-    requires slots { slots < 2 ^ 63 }
-    ensures are_given { IfOk result (λ _. AreGiven given.now.tables given.now.captures) }
-    ensures text { IfOk result (λ plan. (text : List ℕ)
-        × IsPartText given.now.tables given.now.captures slots text × (plan ≡ state_written state text)) }
-    ensures refused { IfErr result (IsPartHalt given.now.tables given.now.captures slots) }
-{
-    let text = part_by_crossbar(
-        rt,
-        alloc,
-        &given.tables,
-        given.captures.as_slice(),
-        slots,
-        gate,
-    )?;
-    Ok(build_file(alloc, state, text)?)
-}
-
-fn resume<R: Threads + Sync, F: Files, G: Gate>(
-    rt: &R,
-    alloc: Global,
-    files: &mut F,
-    config: Name,
-    state: Name,
-    gate: &G,
-) -> Result<Work, Halt>
-    requires { (F.space files.old).mode ≡ Closed }
-    ensures { IsJudged F.space F.may_fail F.unbegun InTurn (Command.Resume config state) files.old files.new result }
-{
-    let given = read_given(alloc, files, config)?;
-    let Given { tables, captures } = given;
-    let work = resume_given(rt, alloc, files, &tables, captures, state, gate);
-    drop(tables);
-    work
-}
-
-// The same, of what the configuration gave: the text of the state is read next.
-fn resume_given<R: Threads + Sync, F: Files, G: Gate>(
-    rt: &R,
-    alloc: Global,
-    files: &mut F,
-    tables: &Tables,
-    captures: Sequence<Capture>,
-    state: Name,
-    gate: &G,
-) -> Result<Work, Halt>
-    requires closed { (F.space files.old).mode ≡ Closed }
     requires tables { AreTables tables.now }
     requires captures { length captures ≡ ports_of tables.now.setup }
-    ensures { (config : List ℕ) (start : F) →
-        IsGiven F.space F.unbegun config start files.old (record { tables = tables.now; captures = captures }) →
-        IsJudged F.space F.may_fail F.unbegun InTurn (Command.Resume config state) start files.new result }
+    requires slots { slots < 2 ^ 63 }
+    ensures are_given { IfOk result (λ _. AreGiven tables.now captures) }
+    ensures text { IfOk result (λ plan. (text : List ℕ)
+        × IsPartText tables.now captures slots text × (plan ≡ state_written state text)) }
+    ensures refused { IfErr result (IsPartHalt tables.now captures slots) }
 {
-    let text = read_stopped(alloc, files, state)?;
-    go_on(rt, alloc, tables, captures, text, gate)
+    let text = part_by_crossbar(rt, alloc, tables, captures.as_slice(), slots, gate);
+    drop(captures);
+    Ok(build_file(alloc, state, text?)?)
 }
 
 // What the crossbar switch makes of these captures, one for each port, where it goes on from the state of this text.

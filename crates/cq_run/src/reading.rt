@@ -1,6 +1,6 @@
 //! Reading what a command names. Nothing is written here.
 ghost use Rattle.std.specs.Prelude.{◌≡◌, ◌≤◌, ◌∷◌, ◌++◌, [], IfErr, IfOk, IsTrue, OnOk, length};
-ghost use Rattle.cq_run.specs.Terms.{AreTables, ports_of, Fails, Reads, fault_of, Closed, EndsGiven, IsGiven, IsFileOf, Halts, Judges, InTurn, Reader, is_no, meaning_of, halt_for, capture_in, captures_in, packets_at, short_in, state_in, tables_in, text_in, longest_file};
+ghost use Rattle.cq_run.specs.Terms.{AreTables, ports_of, Fails, Reads, fault_of, Closed, IsFileOf, Halts, Judges, InTurn, Reader, is_no, meaning_of, halt_for, capture_in, captures_in, packets_at, short_in, state_in, tables_in, text_in, longest_file};
 
 use crate::{CaptureFault, Denial, Halt, Refusal, StateFault};
 use cq_base::{Name, NoMemory, Sequence};
@@ -239,24 +239,6 @@ pub fn read_inputs<F: Files>(
         put_capture(&mut captures, capture)?;
     }
     Ok(Sequence::of(captures))
-}
-
-/// What a configuration gives: its tables, and what arrives at each input.
-#[derive(Drop)]
-pub struct Given {
-    pub tables: Tables,
-    pub captures: Sequence<Capture>,
-}
-
-/// What the configuration of this name gives.
-pub fn read_given<F: Files>(alloc: Global, files: &mut F, config: Name) -> Result<Given, Halt>
-    requires { (F.space files.old).mode ≡ Closed }
-    ensures given { IfOk result (IsGiven F.space F.unbegun config files.old files.new) }
-    ensures ends { IfErr result (EndsGiven F.space F.may_fail F.unbegun InTurn config files.old files.new) }
-{
-    let tables = read_configuration(alloc, files, config)?;
-    let captures = read_inputs(alloc, files, &tables)?;
-    Ok(Given { tables, captures })
 }
 
 // One more capture, behind the others.

@@ -11,6 +11,6 @@ module _ (t : Tables) (captures : List (List Captured)) (x : Crossed) (is : IsCr
   meets (Err halt) writes text = tt
 
 pub returns-clause-meets : goal.returns-clause-meets
-returns-clause-meets g c = meets c.args.tables.now c.args.captures.now c.in_ok-crossed.crossed
-    c.in_ok-crossed.ensures.crossed c.report_of-work.result c.report_of-work.ensures.writes
+returns-clause-meets g c = meets c.args.soak.now.tables c.args.soak.now.captures.items c.in_ok-crossed.crossed
+    (rw c.deref.ensures.value at c.in_ok-crossed.ensures.crossed) c.report_of-work.result c.report_of-work.ensures.writes
     c.report_of-work.ensures.text
