@@ -1,6 +1,15 @@
-use Rattle.cq_run.proofs.Terms.{arith, rules, ◌≡◌, ◌∙◌, sym, Writes}
+use Rattle.cq_run.proofs.Terms.{arith, refl, rules, ◌≡◌, ◌∙◌, sym, Writes}
 use Rattle.cq_run.proofs.Chain.{fails_after}
 use Rattle.cq_run.proofs.perform.write_all.Goals as goal
+
+pub loop-writes-init : goal.loop-writes-init
+loop-writes-init g c = record {
+  closed = c.requires;
+  told = refl;
+  uncounted = refl;
+  kept = g.met.F.Files.lasts.none _;
+  cut = λ name end h. h;
+}
 
 pub loop-writes-preserved : goal.loop-writes-preserved
 loop-writes-preserved g c = record {
