@@ -1,6 +1,6 @@
 -- An aim is met by one plan. There is one whole run, one run up to a slot, one state with a given text, and from each
 -- state one run goes on; a plan is written of what such a run keeps.
-use Rattle.cq_run.proofs.Terms.{◌≡◌, ◌∙◌, ℕ, List, ap, sym, arrivals, Captured, Tables, LimitedRecord, IsFabricRun, Kept, crossed, reported, resumed, state_written, openings_of, IsPartText, IsResumedText, Aim, Meets, Crossing, Reporting, Auditing, Parting, Resuming, Exactly, Plan}
+use Rattle.cq_run.proofs.Terms.{◌≡◌, ◌∙◌, ℕ, List, ap, sym, arrivals, Captured, Tables, LimitedRecord, IsFabricRun, Kept, crossed, reported, resumed, file_alone, openings_of, IsPartText, IsResumedText, Aim, Meets, Crossing, Reporting, Auditing, Parting, Resuming, Exactly, Plan}
 use Rattle.cq_resume.proofs.{Joining.one_part, Joining.one_resumed, OneAnswer.read_exact}
 use Rattle.cq_resume.specs.Switch.{Switch}
 use Rattle.cq_resume.specs.declared.taken.Taken.{Taken}
@@ -32,6 +32,6 @@ one_plan (Reporting t cs) a b (rs, x, e) (ss, y, f) =
     e ∙ ap (λ (r : List LimitedRecord). reported t r) (one_run t cs rs ss x y) ∙ sym f
 one_plan (Auditing t cs sent trace log) a b x y = x.1 ∙ sym y.1
 one_plan (Parting t cs slots name) a b (p, x, e) (q, y, f) =
-    e ∙ ap (λ (text : List ℕ). state_written name text) (one_text t cs slots p q x y) ∙ sym f
+    e ∙ ap (λ (text : List ℕ). file_alone name text) (one_text t cs slots p q x y) ∙ sym f
 one_plan (Resuming t cs text) a b (k, x, e) (l, y, f) =
     e ∙ ap (λ (kept : Kept). resumed t cs kept) (one_kept t cs text k l x y) ∙ sym f

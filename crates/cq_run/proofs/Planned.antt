@@ -1,6 +1,6 @@
 -- From one judgement after another to a plan that meets what is aimed at: for each command what is judged of what it
 -- reads, and a plan that it comes to.
-use Rattle.cq_run.proofs.Terms.{rules, arith, ◌≡◌, ◌∙◌, ℕ, List, [], ◌∷◌, refl, sym, ap, inl, inr, ◌++◌, IsTrue, Result, Ok, Err, IfOk, IfErr, IsOk, common_steps, AllByRecursion, Departure, soak_captures, soak_tables, Captured, Tables, Call, Rose, Contents, Space, Closed, Command, Ideal, Run, Soak, Pass, Audit, Part, Resume, Given, Refusal, Halt, Aim, Reporting, Meets, Crossing, Exactly, Auditing, Parting, Resuming, EndsGiven, IsGiven, command_asking, IsPassage, AreRead, IsAudited, AreGiven, IsJudged, IsHaltOf, Judges, Pace, InTurn, Uncounted, Plan, known_to, Reader, ◌>>=◌, ideally_sent, capture_in, text_in, state_in, switched, capture_out, passed, audited, captures_out, resumed, state_written, IsCrossing, IsIdeal, IsPassing, arrivals, plain_tables, AreTables, ports_of, ideal_departures, Lasts, capture_of_all, trace_of, log_of, Audited, Missing, State, Words, IsAuditHalted, IsAuditPassed, report_with, NoMemory, Refused, Unread, Crossed, IsPartHalt, IsResumeHalt, IsResuming, kept_by, IsPartRefusal, IsPartText, IsResumeRefusal, IsResumedText, meaning_of, written, Denial, CaptureFault, Capture, is_no}
+use Rattle.cq_run.proofs.Terms.{rules, arith, ◌≡◌, ◌∙◌, ℕ, List, [], ◌∷◌, refl, sym, ap, inl, inr, ◌++◌, IsTrue, Result, Ok, Err, IfOk, IfErr, IsOk, common_steps, AllByRecursion, Departure, soak_captures, soak_tables, Captured, Tables, Call, Rose, Contents, Space, Closed, Command, Ideal, Run, Soak, Pass, Audit, Part, Resume, Given, Refusal, Halt, Aim, Reporting, Meets, Crossing, Exactly, Auditing, Parting, Resuming, EndsGiven, IsGiven, command_asking, IsPassage, AreRead, IsAudited, AreGiven, IsJudged, IsHaltOf, Judges, Pace, InTurn, Uncounted, Plan, known_to, Reader, ◌>>=◌, ideally_sent, capture_in, text_in, state_in, switched, capture_out, passed, audited, captures_out, resumed, file_alone, IsCrossing, IsIdeal, IsPassing, arrivals, plain_tables, AreTables, ports_of, ideal_departures, Lasts, capture_of_all, trace_of, log_of, Audited, Missing, State, Words, IsAuditHalted, IsAuditPassed, report_with, NoMemory, Refused, Unread, Crossed, IsPartHalt, IsResumeHalt, IsResuming, kept_by, IsPartRefusal, IsPartText, IsResumeRefusal, IsResumedText, meaning_of, written, Denial, CaptureFault, Capture, is_no}
 use Rattle.cq_run.proofs.Chain.{counts_after, judges_computed, judges_computed_err}
 use Rattle.cq_run.proofs.Told.{told_any, told_map, told_two}
 use Rattle.cq_run.proofs.Crossed.{emulates, plan_is, sent_ok}
@@ -283,7 +283,7 @@ module _ (t : Tables) (captures : List (List Captured)) where
 module _ (t : Tables) (captures : List (List Captured)) (text : List ℕ) {r : Reader} {config state : List ℕ}
     {m : Contents} {plan : Plan} where
   stops_as : {slots : ℕ} → AreGiven t captures → AreRead r config m t captures → IsPartText t captures slots text →
-      plan ≡ state_written state text → IsStopped r config slots state m plan
+      plan ≡ file_alone state text → IsStopped r config slots state m plan
   stops_as {slots} given read is written = record {
     tables = t;
     captures = captures;
@@ -326,7 +326,7 @@ module _ {S : Type 0} {space : S → Space} {keeps : S → S → Type 0} {old no
 
   pub part_plans : {may_fail : Call → S → S → Type 0} {slots : ℕ} {text : List ℕ} {plan : Plan} →
       AreGiven given.tables given.captures → IsPartText given.tables given.captures slots text →
-      plan ≡ state_written name text → IsJudged space may_fail keeps InTurn (Part config slots name) old now (Ok plan)
+      plan ≡ file_alone name text → IsJudged space may_fail keeps InTurn (Part config slots name) old now (Ok plan)
   part_plans {slots = slots} {text = text} {plan = plan} are text_is written =
       settled (at_part slots) (Ok plan)
       (Parting given.tables given.captures slots name, refl, (text, text_is, written))
@@ -335,7 +335,7 @@ module _ {S : Type 0} {space : S → Space} {keeps : S → S → Type 0} {old no
 
   pub part_judged : {may_fail : Call → S → S → Type 0} {slots : ℕ} (result : Result Plan Halt) →
       IfOk result (λ _. AreGiven given.tables given.captures) → IfOk result (λ plan. (text : List ℕ)
-      × IsPartText given.tables given.captures slots text × (plan ≡ state_written name text)) →
+      × IsPartText given.tables given.captures slots text × (plan ≡ file_alone name text)) →
       IfErr result (IsPartHalt given.tables given.captures slots) →
       IsJudged space may_fail keeps InTurn (Part config slots name) old now result
   part_judged (Ok plan) are text halted = part_plans are text.1 text.2

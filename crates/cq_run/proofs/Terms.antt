@@ -50,7 +50,7 @@ pub use Rattle.cq_run.specs.PartEnds.{IsPartHalt, IsResumeHalt, IsResumedBy, IsR
 pub use Rattle.cq_run.specs.Parting.{IsPartRefusal, IsPartText, IsResumeRefusal, IsResumedText}
 pub use Rattle.cq_run.specs.Passing.{all_leave, as_it_leaves, capture_of_all}
 pub use Rattle.cq_run.specs.Planning.{CommandHalts, Decides, IsDenial, IsWithinRange, known_by, known_to}
-pub use Rattle.cq_run.specs.Plan.{audited, capture_out, checked, passed, state_written}
+pub use Rattle.cq_run.specs.Plan.{audited, capture_out, checked, passed, file_alone}
 unfoldable pub use Rattle.cq_run.specs.Plan.{captures_out, crossed, reported, resumed, switched}
 pub use Rattle.cq_run.specs.Refusals.{fault_text, in_phase_text, is_fault, is_no, meaning_of}
 pub use Rattle.cq_run.specs.Switching.{IsCrossed, IsCrossing, IsIdeal, IsPassing, IsSwitched, halt_for, halt_of, sent_by, under_names}

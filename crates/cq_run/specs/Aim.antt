@@ -8,7 +8,7 @@ use Rattle.cq_pcap.specs.Captured.{Captured}
 use Rattle.cq_resume.specs.Resumed.{Kept}
 use Rattle.cq_route.specs.declared.tables.Tables.{Tables}
 use Rattle.cq_simulate.specs.FabricRuns.{IsFabricRun}
-use Rattle.cq_run.specs.Plan.{Plan, audited, crossed, reported, resumed, state_written}
+use Rattle.cq_run.specs.Plan.{Plan, audited, crossed, reported, resumed, file_alone}
 use Rattle.cq_run.specs.Auditing.{IsAuditYes, IsDenied}
 use Rattle.cq_run.specs.Parting.{IsPartRefusal, IsPartText, IsResumeRefusal, IsResumedText}
 use Rattle.cq_run.specs.declared.refusal.Refusal.{Refusal}
@@ -40,7 +40,7 @@ Meets (Reporting t captures) p =
     (rs : List LimitedRecord) × IsFabricRun t (arrivals t captures) rs × (p ≡ reported t rs)
 Meets (Auditing t captures sent trace log) p = IsAuditYes t captures sent trace log × (p ≡ audited)
 Meets (Parting t captures slots name) p =
-    (text : List ℕ) × IsPartText t captures slots text × (p ≡ state_written name text)
+    (text : List ℕ) × IsPartText t captures slots text × (p ≡ file_alone name text)
 Meets (Resuming t captures text) p = (kept : Kept) × IsResumedText t captures text kept × (p ≡ resumed t captures kept)
 
 -- why no plan meets an aim: the no of an audit, and why there is no text of a state or no run from one. Every other

@@ -20,7 +20,7 @@ use Rattle.cq_words.specs.declared.command.Command.{Command}
 use Rattle.cq_words.specs.declared.command.Command.TheVariants.{Pass, Check, Ideal, Run, Soak, Audit, Part, Resume}
 use Rattle.cq_run.specs.Parting.{IsPartText, IsResumedText}
 use Rattle.cq_run.specs.Passing.{capture_of_all}
-use Rattle.cq_run.specs.Plan.{Plan, audited, crossed, passed, resumed, state_written}
+use Rattle.cq_run.specs.Plan.{Plan, audited, crossed, passed, resumed, file_alone}
 use Rattle.cq_run.specs.Reader.{Reader}
 use Rattle.cq_run.specs.Verdict.{tables_in, capture_in, captures_in}
 
@@ -110,7 +110,7 @@ pub record IsStopped (r : Reader) (config : List ℕ) (slots : ℕ) (state : Lis
     pub input_best : AreInputBest stopped.parted.records
     -- after the arrivals of each slot no cell's input thread exceeds its output cushion
     pub slack : AlwaysHasSlack stopped.parted.records
-    pub written : plan ≡ state_written state text
+    pub written : plan ≡ file_alone state text
 
 -- What is written for a run that goes on from a state over these contents: what it keeps to its end, behind what the
 -- state tells of what was kept before.

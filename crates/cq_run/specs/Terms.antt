@@ -31,7 +31,7 @@ pub use Rattle.cq_run.specs.Line.{Says, line, halt_text, unwritten_text, stop_te
 pub use Rattle.cq_run.specs.Pace.{Ahead, InTurn, pace_of}
 pub use Rattle.cq_run.specs.PartEnds.{IsResumeHalt, IsResuming, IsPartHalt, IsResumedBy, halt_for_state, halt_for_text}
 pub use Rattle.cq_run.specs.Planning.{IsWithinRange, known_by}
-pub use Rattle.cq_run.specs.Plan.{audited, capture_out, captures_out, check_line, checked, counted, state_written, switched, yes_line}
+pub use Rattle.cq_run.specs.Plan.{audited, capture_out, captures_out, check_line, checked, counted, file_alone, switched, yes_line}
 pub use Rattle.cq_run.specs.Refusals.{is_no, meaning_of, denial_text, fault_text, log_text, refusal_text, state_fault_text}
 pub use Rattle.cq_run.specs.Running.{IsEmptied, reader_of}
 pub use Rattle.cq_run.specs.Switching.{IsSwitched, sent_by, under_names, IsCrossing, IsIdeal, IsPassing, halt_for, halt_of, IsCrossed}

@@ -1,6 +1,6 @@
 //! Building the bytes that a command comes to. Here nothing is read and nothing is written.
 ghost use Rattle.std.specs.Prelude.{◌≡◌, ◌∷◌, ◌++◌, ◌≤◌, [], All, IfOk, OnOk, length};
-ghost use Rattle.cq_run.specs.Terms.{HaveLeftOf, audited, capture_out, captures_out, check_line, checked, counted, state_written, switched, under_names, yes_line, report_with, log_of, trace_of};
+ghost use Rattle.cq_run.specs.Terms.{HaveLeftOf, audited, capture_out, captures_out, check_line, checked, counted, file_alone, switched, under_names, yes_line, report_with, log_of, trace_of};
 
 use crate::plan::{Work, Write};
 use crate::switching::{Crossed, Switched};
@@ -74,7 +74,7 @@ pub fn build_passed(
     to: Name,
 ) -> Result<Work, NoMemory>
     requires { HaveLeftOf tables.now captures run.sent.items run.t0 }
-    ensures { IfOk result (λ plan. plan ≡ state_written to (capture_out tables.now captures run.sent.items 0)) }
+    ensures { IfOk result (λ plan. plan ≡ file_alone to (capture_out tables.now captures run.sent.items 0)) }
 {
     let mut places = run.into_packets(alloc, tables, captures)?;
     let Some(place) = places.pop_first() else {
@@ -150,7 +150,7 @@ fn build_logged(
 
 /// These bytes, under this name, and nothing else.
 pub fn build_file(alloc: Global, name: Name, bytes: Vec<u8>) -> Result<Work, NoMemory>
-    ensures { IfOk result (λ plan. plan ≡ state_written name bytes.items) }
+    ensures { IfOk result (λ plan. plan ≡ file_alone name bytes.items) }
 {
     let writes = Vec::from_array(alloc, [Write::of(name, bytes)])?;
     Ok(Work::of(writes, Vec::new(alloc)))

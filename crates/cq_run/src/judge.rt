@@ -4,7 +4,7 @@
 //! end of a scope is one for each field.
 ghost use Rattle.std.specs.Prelude.{◌≡◌, ℕ, ◌≤◌, ◌<◌, ◌^◌, List, ◌∷◌, [], All, IfErr, IfOk, IsOk, Ok, length};
 ghost use Rattle.std.specs.Int.{IsInRange};
-ghost use Rattle.cq_run.specs.Terms.{Closed, StopsInTime, command_asking, Fails, Reads, Judges, tables_in, checked, AreGiven, AreTables, ports_of, state_written, IsPartHalt, IsPartText, soak_captures, soak_tables, plain_tables, Meets, Reporting, IsJudged, IsHaltOf, Ahead, InTurn, IsGiven, IsResumeHalt, IsResuming, IsWithinRange, IsCrossing, IsIdeal, IsPassing, ideally_sent, most_ports, report_with};
+ghost use Rattle.cq_run.specs.Terms.{Closed, StopsInTime, command_asking, Fails, Reads, Judges, tables_in, checked, AreGiven, AreTables, ports_of, file_alone, IsPartHalt, IsPartText, soak_captures, soak_tables, plain_tables, Meets, Reporting, IsJudged, IsHaltOf, Ahead, InTurn, IsGiven, IsResumeHalt, IsResuming, IsWithinRange, IsCrossing, IsIdeal, IsPassing, ideally_sent, most_ports, report_with};
 
 use crate::ahead::stream_from;
 use crate::build::{
@@ -410,7 +410,7 @@ fn part<R: Threads + Sync, G: Gate>(
     requires slots { slots < 2 ^ 63 }
     ensures are_given { IfOk result (λ _. AreGiven tables.now captures) }
     ensures text { IfOk result (λ plan. (text : List ℕ)
-        × IsPartText tables.now captures slots text × (plan ≡ state_written state text)) }
+        × IsPartText tables.now captures slots text × (plan ≡ file_alone state text)) }
     ensures refused { IfErr result (IsPartHalt tables.now captures slots) }
 {
     let text = part_by_crossbar(rt, alloc, tables, captures.as_slice(), slots, gate);
