@@ -1,5 +1,6 @@
 //! The trials, by the crate that they try, and what they share.
 mod crew;
+mod drawn;
 mod followed;
 mod ledger;
 mod list;

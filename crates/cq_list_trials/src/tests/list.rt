@@ -1,15 +1,15 @@
-//! The list of an input: worked insertions, drawn calls compared with a plain list, and the call that wants memory,
-//! with ample memory.
+//! The list of an input: worked insertions, the calls that are drawn, and the call that wants memory, with ample
+//! memory.
 ghost use Rattle.std.specs.Prelude.{◌≡◌, ℕ, ◌+◌, ◌<◌, ◌≤◌, ◌&&◌, All, length};
 ghost use Rattle.cq_base.specs.Key.{is_before};
 ghost use Rattle.cq_base.specs.Cells.{ArrivedBefore, MoreUrgentAhead, is_for};
 ghost use Rattle.cq_trial_kit.specs.Arriving.{IsNewest, HasArrived};
 
+use super::drawn::{Keeper, Plain};
 use cq_base::{NoMemory, Port, Queued};
 use cq_list::InputList;
 use cq_trial_kit::{Draws, list_of, waiting};
 use std::alloc::Global;
-use std::test::Fail;
 
 // Two cells for output 0, of which the newer one is the more urgent, and one for output 1.
 const URGENT: [(Port, u128); 3] = [(0, 3), (1, 0), (0, 1)];
@@ -28,14 +28,8 @@ fn stand_so(alloc: Global, cells: &[(Port, u128)], slots: [u64; 3]) -> Result<bo
         list.at(1).key.slot,
         list.at(2).key.slot,
     ];
+    drop(list);
     Ok(stand == slots)
-}
-
-#[test]
-fn a_cell_goes_ahead_of_less_urgent_ones_for_its_output(rt: HostRuntime) -> Result<(), Fail> {
-    let ahead = stand_so(rt.alloc(), &URGENT, [2, 0, 1])?;
-    assert!(rt; ahead && stand_so(rt.alloc(), &PATIENT, [0, 1, 2])?);
-    Ok(())
 }
 
 // Whether the first cell for each output is found, with its place.
@@ -72,25 +66,23 @@ fn finds_by_key(list: &InputList) -> bool
 // Whether all three find among the three cells, of which the last one is urgent, what they are to find.
 fn each_finds(alloc: Global) -> Result<bool, NoMemory> {
     let list = list_of(alloc, 0, 3, &URGENT)?;
-    Ok(finds_by_output(&list) && finds_by_id(&list) && finds_by_key(&list))
+    let finds = finds_by_output(&list) && finds_by_id(&list) && finds_by_key(&list);
+    drop(list);
+    Ok(finds)
+}
+
+// Whether a cell goes ahead of less urgent ones for its output, and is found by its output, its id and its key.
+fn each_stands_and_finds(alloc: Global) -> Result<bool, NoMemory> {
+    Ok(
+        stand_so(alloc, &URGENT, [2, 0, 1])?
+            && stand_so(alloc, &PATIENT, [0, 1, 2])?
+            && each_finds(alloc)?,
+    )
 }
 
 #[test]
-fn a_cell_is_found_by_its_output_its_id_and_its_key(rt: HostRuntime) -> Result<(), Fail> {
-    assert!(rt; each_finds(rt.alloc())?);
-    Ok(())
-}
-
-// The place in a plain list at which a cell goes in that comes behind all others but less urgent ones for its output.
-fn place_in(cells: &[Queued], queued: &Queued) -> usize
-    ensures { result ≤ length cells.now }
-{
-    for (place, other) in cells.iter().enumerate() {
-        if other.cell.output == queued.cell.output && queued.key < other.key {
-            return place;
-        }
-    }
-    cells.len()
+fn a_cell_goes_ahead_of_less_urgent_ones_and_is_found(rt: HostRuntime) {
+    assert!(rt; each_stands_and_finds(rt.alloc()) == Ok(true));
 }
 
 // The first cell for an output leaves.
@@ -101,14 +93,6 @@ fn depart(list: &mut InputList, output: u16, slot: u32) -> Option<Queued>
     ensures outputs { list.new.outputs ≡ list.old.outputs }
 {
     list.take(output)
-}
-
-// Takes the first cell for an output out of a plain list.
-fn take_plain(cells: &mut Vec<Queued>, output: u16) -> Option<Queued> {
-    let place = cells
-        .iter()
-        .position(|waiting| waiting.cell.output == output)?;
-    Some(cells.remove(place))
 }
 
 // The least cushion with which a cell may go in: all more urgent cells for its output stand ahead of it.
@@ -159,57 +143,27 @@ fn output_in(slot: u32, draws: &mut Draws) -> u16
     }
 }
 
-// Whether the call of a slot answers as that of a plain list: a cell comes to both, or the first one for an output
-// leaves both.
-fn agree(
-    list: &mut InputList,
-    plain: &mut Vec<Queued>,
-    draws: &mut Draws,
-    slot: u32,
-) -> Result<bool, NoMemory>
-    requires arrived { ArrivedBefore slot list.old.cells }
-    requires room { list.old.spare + length list.old.cells ≡ 600 }
-    requires outputs { list.old.outputs ≡ 3 }
-    ensures arrived { ArrivedBefore (slot + 1) list.new.cells }
-    ensures room { list.new.spare + length list.new.cells ≡ 600 }
-    ensures outputs { list.new.outputs ≡ 3 }
-{
-    let output = output_in(slot, draws);
-    if list.len() < 600 && one_arrives(slot, draws) {
-        let queued = waiting(0, output, draws.below(40) as u128, slot);
-        let cushion = cut_in(list, queued, draws.below(500));
-        let place = place_in(plain, &queued).min(cushion as usize);
-        plain.insert(place, queued)?;
-        return Ok(true);
-    }
-    Ok(depart(list, output, slot) == take_plain(plain, output))
-}
+impl Keeper for InputList {
+    ghost awaits = { λ slot list. ArrivedBefore slot list.cells × (list.spare + length list.cells ≡ 600)
+        × (list.outputs ≡ 3) };
 
-// Whether the cells are those of a plain list.
-fn are_same(list: &InputList, plain: &[Queued]) -> bool {
-    for place in 0..list.len() {
-        if plain.get(place as usize).copied() != Some(list.at(place)) {
-            return false;
+    fn agrees(&mut self, plain: &mut Plain, slot: u32) -> Result<bool, NoMemory> {
+        let output = output_in(slot, &mut plain.draws);
+        if self.len() < 600 && one_arrives(slot, &mut plain.draws) {
+            let queued = waiting(0, output, plain.draws.below(40) as u128, slot);
+            let cushion = cut_in(self, queued, plain.draws.below(500));
+            let place = plain.place_in(&queued).min(cushion as usize);
+            plain.cells.insert(place, queued)?;
+            return Ok(true);
         }
+        Ok(depart(self, output, slot) == plain.take(output))
     }
-    list.len() == plain.len() as u64
-}
 
-// Whether drawn calls answer as those of a plain list, and leave the same cells.
-fn all_agree(alloc: Global) -> Result<bool, NoMemory> {
-    let mut list = InputList::new(alloc, 3, 600)?;
-    let mut plain = Vec::new(alloc);
-    let mut draws = Draws::from_seed(1);
-    'calls: for slot in 0..2000_u32 {
-        if !agree(&mut list, &mut plain, &mut draws, slot)? {
-            return Ok(false);
-        }
+    fn count(&self) -> u64 {
+        self.len()
     }
-    Ok(are_same(&list, &plain))
-}
 
-#[test]
-fn drawn_calls_answer_as_a_plain_list_does(rt: HostRuntime) -> Result<(), Fail> {
-    assert!(rt; all_agree(rt.alloc())?);
-    Ok(())
+    fn has_at(&self, place: u64, queued: &Queued) -> bool {
+        place < self.len() && self.at(place) == *queued
+    }
 }

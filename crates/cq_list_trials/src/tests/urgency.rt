@@ -1,8 +1,9 @@
-//! The buffer of an output: a worked one, drawn calls compared with a plain list, and the call that wants memory,
-//! with ample memory.
+//! The buffer of an output: a worked one, the calls that are drawn, and the call that wants memory, with ample
+//! memory.
 ghost use Rattle.std.specs.Prelude.{◌≡◌, ◌+◌, ◌<◌, ◌≤◌, IfOk, length};
 ghost use Rattle.cq_base.specs.Cells.{ArrivedBefore};
 
+use super::drawn::{Keeper, Plain};
 use cq_base::{Key, NoMemory, Queued};
 use cq_trial_kit::{Draws, waiting};
 use cq_urgency::OutputBuffer;
@@ -62,18 +63,6 @@ fn equal_ranks_wait_in_the_order_of_their_arrival(rt: HostRuntime) -> Result<(),
     Ok(())
 }
 
-// The place in a plain list of the first cell with a greater key, or its end.
-fn place_in(cells: &[Queued], key: Key) -> usize
-    ensures { result ≤ length cells.now }
-{
-    for (place, other) in cells.iter().enumerate() {
-        if key < other.key {
-            return place;
-        }
-    }
-    cells.len()
-}
-
 // The first cell leaves.
 fn leave(buffer: &mut OutputBuffer, slot: u32) -> Option<Queued>
     requires { ArrivedBefore slot buffer.old.cells }
@@ -81,14 +70,6 @@ fn leave(buffer: &mut OutputBuffer, slot: u32) -> Option<Queued>
     ensures room { buffer.new.spare + length buffer.new.cells ≡ buffer.old.spare + length buffer.old.cells }
 {
     buffer.pop()
-}
-
-// The first cell of a plain list leaves.
-fn leave_plain(cells: &mut Vec<Queued>) -> Option<Queued> {
-    if cells.is_empty() {
-        return None;
-    }
-    Some(cells.remove(0))
 }
 
 // Whether a cushion, the number of cells, and the cell at a drawn place are those of a plain list, in which a cell with
@@ -111,56 +92,28 @@ fn is_as_plain(
     plain.get(at as usize).copied() == Some(buffer.at(at))
 }
 
-// Whether the calls of a slot answer as those of a plain list: a cell comes to both, or the first one leaves both.
-fn agree(
-    buffer: &mut OutputBuffer,
-    plain: &mut Vec<Queued>,
-    draws: &mut Draws,
-    slot: u32,
-) -> Result<bool, NoMemory>
-    requires arrived { ArrivedBefore slot buffer.old.cells }
-    requires room { buffer.old.spare + length buffer.old.cells ≡ 300 }
-    ensures arrived { ArrivedBefore (slot + 1) buffer.new.cells }
-    ensures room { buffer.new.spare + length buffer.new.cells ≡ 300 }
-{
-    let queued = waiting(0, 0, draws.below(40) as u128, slot);
-    let place = place_in(plain, queued.key);
-    let is_as = is_as_plain(buffer, plain, draws, queued.key, place);
-    let fills = slot % 800 < 400;
-    if buffer.len() < 300 && (draws.below(8) < 7) == fills {
-        come(buffer, queued);
-        plain.insert(place, queued)?;
-        return Ok(is_as);
-    }
-    Ok(leave(buffer, slot) == leave_plain(plain) && is_as)
-}
+impl Keeper for OutputBuffer {
+    ghost awaits = { λ slot buffer. ArrivedBefore slot buffer.cells × (buffer.spare + length buffer.cells ≡ 300) };
 
-// Whether the cells are those of a plain list.
-fn are_same(buffer: &OutputBuffer, plain: &[Queued]) -> bool {
-    for place in 0..buffer.len() {
-        if plain.get(place as usize).copied() != Some(buffer.at(place)) {
-            return false;
+    // Blocks split while the buffer fills, in the first half of each 800 calls, and are freed while it empties.
+    fn agrees(&mut self, plain: &mut Plain, slot: u32) -> Result<bool, NoMemory> {
+        let queued = waiting(0, 0, plain.draws.below(40) as u128, slot);
+        let place = plain.place_in(&queued);
+        let is_as = is_as_plain(self, &plain.cells, &mut plain.draws, queued.key, place);
+        let fills = slot % 800 < 400;
+        if self.len() < 300 && (plain.draws.below(8) < 7) == fills {
+            come(self, queued);
+            plain.cells.insert(place, queued)?;
+            return Ok(is_as);
         }
+        Ok(leave(self, slot) == plain.take(0) && is_as)
     }
-    buffer.len() == plain.len() as u64
-}
 
-// Whether drawn calls answer as those of a plain list, and leave the same cells. Blocks split while the buffer fills,
-// in the first half of each 800 calls, and are freed while it empties.
-fn all_agree(alloc: Global) -> Result<bool, NoMemory> {
-    let mut buffer = OutputBuffer::new(alloc, 300)?;
-    let mut plain = Vec::new(alloc);
-    let mut draws = Draws::from_seed(1);
-    'calls: for slot in 0..2000_u32 {
-        if !agree(&mut buffer, &mut plain, &mut draws, slot)? {
-            return Ok(false);
-        }
+    fn count(&self) -> u64 {
+        self.len()
     }
-    Ok(are_same(&buffer, &plain))
-}
 
-#[test]
-fn drawn_calls_answer_as_a_plain_list_does(rt: HostRuntime) -> Result<(), Fail> {
-    assert!(rt; all_agree(rt.alloc())?);
-    Ok(())
+    fn has_at(&self, place: u64, queued: &Queued) -> bool {
+        place < self.len() && self.at(place) == *queued
+    }
 }
