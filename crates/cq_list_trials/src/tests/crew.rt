@@ -53,63 +53,64 @@ fn is_shared(settled: &Settled) -> bool {
     }
 }
 
-// Whether one worker alone, two, and 64 come to the same over opposed offers.
+// Whether one core, one worker alone, two, and 64 come to the same over opposed offers.
 fn any_number_settles<R: Threads + Sync>(
     rt: &R,
     alloc: Global,
-    ports: u16,
+    offers: &Offers,
     proposals: u64,
-) -> Result<bool, NoMemory>
-    requires { ports ≤ most_ports }
-{
-    let offers = opposed_offers(alloc, ports)?;
+) -> bool {
     for workers in [1u16, 2, 64] {
-        let settled = pair_phase(rt, alloc, &offers, workers, &OpenGate);
-        let is_so = is_opposed(&settled.phase(), ports, proposals);
+        let settled = pair_phase(rt, alloc, offers, workers, &OpenGate);
+        let is_so = is_opposed(&settled.phase(), offers.ports(), proposals);
         if !is_so || is_shared(&settled) != (workers > 1) {
-            return Ok(false);
+            return false;
         }
     }
-    Ok(true)
-}
-
-#[test]
-fn any_number_of_workers_comes_to_the_same(rt: HostRuntime) -> Result<(), Fail> {
-    let over_two = any_number_settles(&rt, rt.alloc(), 2, 3)?;
-    let over_three = any_number_settles(&rt, rt.alloc(), 3, 6)?;
-    assert!(rt; over_two && over_three && any_number_settles(&rt, rt.alloc(), 64, 2080)?);
-    Ok(())
+    one_core_settles(offers, proposals)
 }
 
 // Whether one core comes to it.
-fn one_core_settles(offers: &Offers) -> bool {
+fn one_core_settles(offers: &Offers, proposals: u64) -> bool {
     let mut core = Core::begin(offers);
     core.settle(offers, &mut LowestFirst);
     let phase = Phase {
         matching: *core.pairs(),
         proposals: core.made(),
     };
-    is_opposed(&phase, 64, 2080)
+    is_opposed(&phase, offers.ports(), proposals)
+}
+
+// Whether they do where there are so many ports, 64 at most, and proposals.
+fn any_number_settles_over<R: Threads + Sync>(
+    rt: &R,
+    alloc: Global,
+    row: (u16, u64),
+) -> Result<bool, NoMemory> {
+    let offers = opposed_offers(alloc, row.0.min(64))?;
+    let settles = any_number_settles(rt, alloc, &offers, row.1);
+    drop(offers);
+    Ok(settles)
 }
 
 #[test]
-fn one_core_comes_to_the_same(rt: HostRuntime) -> Result<(), Fail> {
-    let offers = opposed_offers(rt.alloc(), 64)?;
-    assert!(rt; one_core_settles(&offers));
-    Ok(())
+fn any_number_of_workers_comes_to_the_same(rt: HostRuntime) {
+    for row in [(2u16, 3u64), (3, 6), (64, 2080)] {
+        assert!(rt; any_number_settles_over(&rt, rt.alloc(), row) == Ok(true));
+    }
 }
 
-// Whether there is nothing to share for 64 workers, and no input gets a partner.
-fn nothing_is_shared<R: Threads + Sync>(rt: &R, alloc: Global, offers: &Offers) -> bool {
-    let settled = pair_phase(rt, alloc, offers, 64, &OpenGate);
-    !is_shared(&settled) && comes_to(&settled.phase(), &[None; 3], 0)
+// Whether there is nothing to share for 64 workers where there are no offers, and no input gets a partner.
+fn nothing_is_shared<R: Threads + Sync>(rt: &R, alloc: Global) -> Result<bool, NoMemory> {
+    let offers = Offers::new(alloc, 3)?;
+    let settled = pair_phase(rt, alloc, &offers, 64, &OpenGate);
+    drop(offers);
+    Ok(!is_shared(&settled) && comes_to(&settled.phase(), &[None; 3], 0))
 }
 
 #[test]
-fn without_offers_there_is_nothing_to_share(rt: HostRuntime) -> Result<(), Fail> {
-    let offers = Offers::new(rt.alloc(), 3)?;
-    assert!(rt; nothing_is_shared(&rt, rt.alloc(), &offers));
-    Ok(())
+fn without_offers_there_is_nothing_to_share(rt: HostRuntime) {
+    assert!(rt; nothing_is_shared(&rt, rt.alloc()) == Ok(true));
 }
 
 // For a run in which some growth of memory is refused, as by `rt try --test --fail-alloc N` or `tests/phases.py`: where
@@ -157,7 +158,9 @@ fn meet<R: Threads + Sync>(
 // Whether two workers meet where each input has an output of its own.
 fn meet_apart<R: Threads + Sync>(rt: &R, alloc: Global) -> Result<bool, NoMemory> {
     let offers = offers_apart(alloc)?;
-    Ok(meet(rt, alloc, &offers, 2, &OWN_OF_TWO, 2))
+    let meet = meet(rt, alloc, &offers, 2, &OWN_OF_TWO, 2);
+    drop(offers);
+    Ok(meet)
 }
 
 // Whether so many workers meet over opposed offers, of as many inputs as there are partners.
@@ -173,7 +176,9 @@ fn meet_opposed<R: Threads + Sync>(
     requires few { workers ≤ most_workers }
 {
     let offers = opposed_offers(alloc, partners.len() as u16)?;
-    Ok(meet(rt, alloc, &offers, workers, partners, proposals))
+    let meet = meet(rt, alloc, &offers, workers, partners, proposals);
+    drop(offers);
+    Ok(meet)
 }
 
 const OWN_OF_TWO: [Option<Port>; 2] = [Some(0), Some(1)];
@@ -182,17 +187,18 @@ const LAST_OF_TWO: [Option<Port>; 2] = [Some(1), Some(0)];
 
 const LAST_OF_THREE: [Option<Port>; 3] = [Some(2), Some(1), Some(0)];
 
-#[test]
-fn two_workers_meet(rt: HostRuntime) -> Result<(), Fail> {
-    let apart = meet_apart(&rt, rt.alloc())?;
-    assert!(rt; apart && meet_opposed(&rt, rt.alloc(), 2, &LAST_OF_TWO, 3)?);
-    Ok(())
+// Whether workers meet over two inputs and over three. With two workers over three, one of them claims an input that is
+// not of its own number.
+fn any_meet<R: Threads + Sync>(rt: &R, alloc: Global) -> Result<bool, NoMemory> {
+    Ok(
+        meet_apart(rt, alloc)?
+            && meet_opposed(rt, alloc, 2, &LAST_OF_TWO, 3)?
+            && meet_opposed(rt, alloc, 2, &LAST_OF_THREE, 6)?
+            && meet_opposed(rt, alloc, 3, &LAST_OF_THREE, 6)?,
+    )
 }
 
-// With two workers, one of them claims an input that is not of its own number.
 #[test]
-fn two_workers_and_three_meet_over_three_inputs(rt: HostRuntime) -> Result<(), Fail> {
-    let two = meet_opposed(&rt, rt.alloc(), 2, &LAST_OF_THREE, 6)?;
-    assert!(rt; two && meet_opposed(&rt, rt.alloc(), 3, &LAST_OF_THREE, 6)?);
-    Ok(())
+fn two_workers_and_three_meet(rt: HostRuntime) {
+    assert!(rt; any_meet(&rt, rt.alloc()) == Ok(true));
 }

@@ -9,7 +9,6 @@ use cq_base::{NoMemory, Port};
 use cq_ledger::{Ledger, LedgerSeat, Outcome};
 use cq_prefs::{Matching, Offers};
 use std::alloc::Global;
-use std::test::Fail;
 use std::thread::{Threads, join};
 
 // The answer of a claim, or None where the seat's hand is not empty or the input is no port.
@@ -63,6 +62,8 @@ fn closes_with(ledger: Ledger, seat: LedgerSeat, settled: &Settled) -> bool
     requires ports { ports ledger.offers ≡ 3 }
 {
     if seat.hand().is_some() || !has_claimed_all(&seat) {
+        drop(seat);
+        drop(ledger);
         return false;
     }
     let phase = ledger.close(seat).phase();
@@ -81,6 +82,9 @@ fn both_close_with(
     requires ports { ports ledger.offers ≡ 3 }
 {
     if seat.hand().is_some() || other.hand().is_some() {
+        drop(other);
+        drop(seat);
+        drop(ledger);
         return false;
     }
     ledger.join(&mut seat, other);
@@ -156,21 +160,14 @@ fn know_their_work(a: &LedgerSeat, b: &LedgerSeat) -> bool
 }
 
 // Whether two seats that work in turn know their work, and settle the opposed offers.
-fn settle_in_turn(ledger: Ledger, mut a: LedgerSeat) -> bool
-    requires seat { IsSeatOf ledger a }
-    requires ports { ports ledger.offers ≡ 3 }
+fn settle_in_turn(alloc: Global, offers: &Offers) -> Result<bool, NoMemory>
+    requires { ports offers.now ≡ 3 }
 {
+    let (ledger, mut a) = Ledger::start(alloc, offers)?;
     let mut b = ledger.split(&mut a);
     let is_worked = work_in_turn(&ledger, &mut a, &mut b) && know_their_work(&a, &b);
     let is_settled = both_close_with(ledger, a, b, &OPPOSED);
-    is_worked && is_settled
-}
-
-#[test]
-fn two_seats_share_one_ledger(rt: HostRuntime) -> Result<(), Fail> {
-    let (ledger, seat) = Ledger::start(rt.alloc(), &opposed_offers(rt.alloc(), 3)?)?;
-    assert!(rt; settle_in_turn(ledger, seat));
-    Ok(())
+    Ok(is_worked && is_settled)
 }
 
 // Whether the one seat of a ledger makes these steps, and settles the offers so.
@@ -197,13 +194,6 @@ const REJECTED: [Step; 6] = [
     (None, Held, None),
 ];
 
-#[test]
-fn one_seat_claims_every_input(rt: HostRuntime) -> Result<(), Fail> {
-    let offers = opposed_offers(rt.alloc(), 3)?;
-    assert!(rt; settles_alone(rt.alloc(), &offers, &REJECTED, &OPPOSED)?);
-    Ok(())
-}
-
 const EMPTIED: [Step; 3] = [
     (Some(1), Held, None),
     (Some(0), Rejected, None),
@@ -212,13 +202,6 @@ const EMPTIED: [Step; 3] = [
 
 // What three inputs come to of which each has an offer to output 0 alone.
 const CONTESTED: Settled = ([None, None, Some(0)], 3);
-
-#[test]
-fn each_outcome_can_empty_the_hand(rt: HostRuntime) -> Result<(), Fail> {
-    let offers = contested_offers(rt.alloc())?;
-    assert!(rt; settles_alone(rt.alloc(), &offers, &EMPTIED, &CONTESTED)?);
-    Ok(())
-}
 
 // Claims the inputs from one on, and after each claim proposes until the hand is empty.
 fn work(ledger: &Ledger, mut seat: LedgerSeat, from: Port) -> LedgerSeat
@@ -273,18 +256,35 @@ fn worked_by_two<R: Threads>(
 }
 
 // Whether two seats, each in a thread of its own, settle the opposed offers.
-fn settles_by_two<R: Threads>(rt: &R, ledger: Ledger, mut a: LedgerSeat) -> bool
-    requires seat { IsSeatOf ledger a }
-    requires ports { ports ledger.offers ≡ 3 }
+fn settle_by_two<R: Threads>(rt: &R, alloc: Global, offers: &Offers) -> Result<bool, NoMemory>
+    requires { ports offers.now ≡ 3 }
 {
+    let (ledger, mut a) = Ledger::start(alloc, offers)?;
     let b = ledger.split(&mut a);
     let (a, b) = worked_by_two(rt, &ledger, a, b);
-    both_close_with(ledger, a, b, &OPPOSED)
+    Ok(both_close_with(ledger, a, b, &OPPOSED))
+}
+
+// Whether two seats that share one ledger settle them, in turn and in threads, and one that claims every input.
+fn any_seats_settle<R: Threads>(rt: &R, alloc: Global) -> Result<bool, NoMemory> {
+    let offers = opposed_offers(alloc, 3)?;
+    let in_turn = settle_in_turn(alloc, &offers);
+    let by_two = settle_by_two(rt, alloc, &offers);
+    let alone = settles_alone(alloc, &offers, &REJECTED, &OPPOSED);
+    drop(offers);
+    Ok(in_turn? && by_two? && alone?)
+}
+
+// Whether each outcome can empty the hand.
+fn each_outcome_empties(alloc: Global) -> Result<bool, NoMemory> {
+    let offers = contested_offers(alloc)?;
+    let settles = settles_alone(alloc, &offers, &EMPTIED, &CONTESTED);
+    drop(offers);
+    settles
 }
 
 #[test]
-fn two_threads_share_one_ledger(rt: HostRuntime) -> Result<(), Fail> {
-    let (ledger, seat) = Ledger::start(rt.alloc(), &opposed_offers(rt.alloc(), 3)?)?;
-    assert!(rt; settles_by_two(&rt, ledger, seat));
-    Ok(())
+fn any_seats_settle_a_ledger_and_each_outcome_can_empty_a_hand(rt: HostRuntime) {
+    assert!(rt; any_seats_settle(&rt, rt.alloc()) == Ok(true));
+    assert!(rt; each_outcome_empties(rt.alloc()) == Ok(true));
 }
