@@ -7,7 +7,7 @@ pub use Rattle.cq_rank.specs.{Machine.Machine, Switch.class_count}
 pub use Rattle.cq_ideal.proofs.Counting.{counts_fit, zero_fits}
 pub use Rattle.cq_ideal.specs.Admission.{Admission, Marked, marked, marks_after, refused}
 unfoldable pub use Rattle.cq_ideal.specs.Admission.{admission}
-pub use Rattle.cq_ideal.specs.Ideal.{IdealSwitch, answer_to, count_for, marked_state, spare_at}
+pub use Rattle.cq_ideal.specs.Ideal.{IdealSwitch, answer_to, count_for, marked_state}
 pub use Rattle.cq_ideal.specs.LimitedIdeal.{LimitedSent, ideal_admission, ideal_held, with_admission}
 unfoldable pub use Rattle.cq_ideal.specs.LimitedIdeal.{limited_slot}
 pub use Rattle.cq_ideal.specs.{Limiter.CanCount, Ranking.AreForPorts}

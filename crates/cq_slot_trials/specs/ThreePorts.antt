@@ -1,6 +1,6 @@
 -- Only proofs use this.
 -- An ideal switch of three ports and two classes, as the tests try it.
-use Rattle.std.specs.Prelude.{◌≡◌, ℕ, ◌+◌, ◌<◌, ◌≤◌, false, List, length}
+use Rattle.std.specs.Prelude.{◌≡◌, ℕ, ◌+◌, ◌*◌, ◌<◌, ◌≤◌, false, List, length}
 use Rattle.cq_base.specs.Room.{RoomView}
 use Rattle.cq_base.specs.declared.cell.Departure.{Departure}
 use Rattle.cq_rank.specs.Machine.{Machine}
@@ -19,6 +19,16 @@ pub record CanStep (ms : List Machine) (ideal : IdealSwitch) (room : RoomView De
   pub counts : CanCount 3 ideal.refused
   -- each output can send a cell
   pub sent : 3 ≤ room.spare
+
+-- it is before this slot of a few, and no more cells went into a list or were refused than arrive at 64 places
+pub record IsAt (ms : List Machine) (slot : ℕ) (ideal : IdealSwitch) : Type 0 where
+  pub running : ideal.stopped ≡ false
+  pub next : ideal.next ≡ slot
+  pub ports : length ideal.fixed ≡ 3
+  pub rooms : length ideal.rooms ≡ 3
+  pub classes : class_count ms ≡ 2
+  pub counts : (n : ℕ) → n + 64 * slot ≤ 1000 → CanCount n ideal.refused
+  pub spare : (j : ℕ) → j < 3 → 192 ≤ spare_at ideal j + 64 * slot
 
 -- it had its next slot: no more cells went into a list, and no more were refused at an output, than arrive at 64 places
 pub record HasStepped (old new : IdealSwitch) : Type 0 where
