@@ -1,8 +1,9 @@
 -- The slots of the engine's trials: four ports, and how many cells there are after so many slots.
-use Rattle.cq_slot_trials.proofs.Terms.{rules, ◌≡◌, ℕ, ◌+◌, ◌*◌, ◌^◌, ◌<◌, ◌≤◌, List, [], ◌∷◌, length, get_or, Option, sym, ap, ◌∙◌, subst, arith, Err, Ok, OnOk, Result, get_or-replicate, Cell, Machine, CanCount, AreForPorts, counts_fit, zero_fits, EngineView, HasGoneOn, HaveBufferRoom, HaveListRoom, SlotDone, fresh_engine, ports_of, HasGrown, common_steps}
+use Rattle.cq_slot_trials.proofs.Terms.{rules, ◌≡◌, ℕ, ◌+◌, ◌*◌, ◌^◌, ◌<◌, ◌≤◌, List, [], ◌∷◌, length, get_or, Option, sym, ap, ◌∙◌, subst, arith, Err, Ok, OnOk, Result, All, map, refl, class_count, get_or-replicate, Cell, Machine, CanCount, AreForPorts, counts_fit, zero_fits, EngineView, HasGoneOn, HaveBufferRoom, HaveListRoom, SlotDone, fresh_engine, ports_of, HasGrown, common_steps}
 use Rattle.cq_base.specs.declared.cell.Departure.{Departure}
 use Rattle.cq_base.specs.declared.cell.Transfer.{Transfer}
 use Rattle.cq_base.specs.Room.{RoomView}
+use Rattle.cq_rank.specs.{Classes.rows_of, Machine.Ranker, Switch.AreForOneSwitch}
 use Rattle.cq_laws.specs.LimitedFabric.{LimitedRecord}
 use Rattle.cq_laws.specs.Fabric.{input}
 use Rattle.cq_laws.specs.Holding.{fabric_held, held_for}
@@ -77,3 +78,34 @@ module _ (ports : ℕ) (fixed states : List (List ℕ)) (from_inputs to_outputs 
     held = λ j. let none = nothing_in j ports in let nobody = nothing_for j ports in omega arith;
     proposals = omega arith;
   })
+
+-- four machines of two classes each are for one switch
+module _ (machine : List ℕ → Machine) (same : (numbers : List ℕ) → (machine numbers).classes ≡ length (rows_of numbers))
+  where
+    pub one_switch : (rs : List Ranker) → length rs ≡ 4 → All (λ r. length (rows_of r.fixed) ≡ 2) rs →
+        AreForOneSwitch (map machine (map (λ (r : Ranker). r.fixed) rs)) ×
+        (class_count (map machine (map (λ (r : Ranker). r.fixed) rs)) ≡ 2)
+    one_switch [] four two = absurd (omega arith)
+    one_switch (a ∷ []) four two = absurd (omega arith)
+    one_switch (a ∷ b ∷ []) four two = absurd (omega arith)
+    one_switch (a ∷ b ∷ c ∷ []) four two = absurd (omega arith)
+    one_switch (a ∷ b ∷ c ∷ d ∷ e ∷ rs) four two = absurd (omega arith)
+    one_switch (a ∷ b ∷ c ∷ d ∷ []) four two =
+        let of : (r : Ranker) → length (rows_of r.fixed) ≡ 2 → (machine r.fixed).classes ≡ 2 =
+        λ r e. same r.fixed ∙ e in
+        let first = of a (two 0 a (omega arith)) in
+        let all : (r : Ranker) → length (rows_of r.fixed) ≡ 2 → (machine r.fixed).classes ≡ (machine a.fixed).classes =
+        λ r e. of r e ∙ sym first in (
+          record {
+            some = omega arith;
+            few = omega arith;
+            same = (
+              refl,
+              (
+                all b (two 1 a (omega arith)),
+                (all c (two 2 a (omega arith)), (all d (two 3 a (omega arith)), tt)),
+              ),
+            );
+          },
+          first,
+        )

@@ -1,6 +1,5 @@
 //! Worked slots, drawn slots against a plain slow fabric, and the call that wants memory, with ample memory.
-ghost use Rattle.std.specs.Prelude.{◌≡◌, ◌+◌, ◌^◌, ◌<◌, ◌≤◌, ℕ, IfOk, OnOk, is_err, length, map};
-ghost use Rattle.cq_base.specs.Limits.{most_workers};
+ghost use Rattle.std.specs.Prelude.{◌≡◌, ◌+◌, ◌^◌, ◌<◌, ◌≤◌, ℕ, All, IfOk, OnOk, is_err, length, map};
 ghost use Rattle.cq_rank.specs.Classes.{rows_of};
 ghost use Rattle.cq_rank.specs.Switch.{AreForOneSwitch, class_count};
 ghost use Rattle.cq_ideal.specs.Limiter.{CanCount};
@@ -8,17 +7,16 @@ ghost use Rattle.cq_engine.specs.Engine.{IsMadeAs};
 ghost use Rattle.cq_slot_trials.specs.Trial.{HasGrown, IsOnTrial};
 
 use super::coming::Coming;
-use super::outputs::{first_come, note_departures};
-use super::slow::{LEVELS, PRIORITIES, Slow};
+use super::outputs::note_departures;
+use super::slow::{LEVELS, NOTHING_CAME, NOTHING_LEFT, PRIORITIES, Slow};
 use cq_base::{
     CellId, ClassRow, Departure, Figures, InputFigures, NoMemory, OutputFigures, Queued, Room,
     Sequence, TagFault, Transfer,
 };
-use cq_engine::{Engine, OpenGate, Refused};
-use cq_rank::{FirstCome, Priority, Rank};
+use cq_engine::{Engine, Frozen, OpenGate, Refused};
+use cq_rank::{Priority, Rank};
 use cq_trial_kit::Draws;
 use std::alloc::Global;
-use std::test::Fail;
 use std::thread::Threads;
 
 // The next of 40 slots of an engine with four ports.
@@ -54,7 +52,6 @@ fn step<R: Rank, T: Threads + Sync>(
 pub(super) struct Told {
     pub(super) sent: Vec<[u64; 4]>,
     pub(super) crossed: Vec<[u64; 5]>,
-    fault: Option<TagFault>,
 }
 
 impl Told {
@@ -62,13 +59,7 @@ impl Told {
         Told {
             sent: Vec::new(alloc),
             crossed: Vec::new(alloc),
-            fault: None,
         }
-    }
-
-    // Whether these departures and these transfers are told, and no fault.
-    fn is(&self, sent: &[[u64; 4]], crossed: &[[u64; 5]]) -> bool {
-        self.sent.as_slice() == sent && self.crossed.as_slice() == crossed && self.fault.is_none()
     }
 
     // The departures and the transfers of a slot.
@@ -87,14 +78,38 @@ impl Told {
     }
 }
 
-// A run of these slots, up to the first tag fault.
+// What a run comes to: what is told of it, the slots, the proposals and the most of them in a phase, what is seen of
+// each port, what is refused, the marks, and how many cells wait at each input and in each buffer behind it.
+#[derive(Clone, Copy)]
+pub(super) struct Outcome<'a> {
+    pub(super) sent: &'a [[u64; 4]],
+    pub(super) crossed: &'a [[u64; 5]],
+    pub(super) sums: [u64; 3],
+    pub(super) inputs: &'a [InputFigures],
+    pub(super) outputs: &'a [OutputFigures],
+    pub(super) refused: &'a [Refused],
+    pub(super) marks: [bool; 4],
+    pub(super) in_lists: [usize; 4],
+    pub(super) in_buffers: [usize; 4],
+}
+
+// What comes to an engine with these limits and so many workers, one or two, and what it comes to.
+#[derive(Clone, Copy)]
+struct Trial<'s, 'o> {
+    workers: u16,
+    limits: [Option<u64>; 4],
+    slots: &'s [Coming<4>],
+    outcome: Outcome<'o>,
+}
+
+// Runs these slots, and tells of each up to the first tag fault: whether there is none.
 fn run<R: Rank, T: Threads + Sync>(
     rt: &T,
     alloc: Global,
     engine: &mut Engine<R>,
     slots: &[Coming<4>],
     told: &mut Told,
-) -> Result<(), NoMemory>
+) -> Result<bool, NoMemory>
     requires trial { IsOnTrial (map R.machine engine.old.fixed) engine.old }
     requires next { engine.old.next ≡ 0 }
     requires grown { HasGrown 0 engine.old }
@@ -104,161 +119,19 @@ fn run<R: Rank, T: Threads + Sync>(
     'slots: for coming in slots {
         let mut sent = Room::new(alloc, 4)?;
         let mut note = Room::new(alloc, 8)?;
-        if let Err(fault) = step(engine, rt, alloc, coming, &mut sent, &mut note) {
-            told.fault = Some(fault);
-            return Ok(());
+        if let Err(_) = step(engine, rt, alloc, coming, &mut sent, &mut note) {
+            return Ok(false);
         }
         told.tell(&sent, &note)?;
     }
-    Ok(())
+    Ok(true)
 }
 
-// An engine of these four outputs after these slots, of which it tells.
-fn ran<R: Rank, T: Threads + Sync>(
-    rt: &T,
-    alloc: Global,
-    ranks: Vec<R>,
-    limits: [Option<u64>; 4],
-    slots: &[Coming<4>],
-    workers: u16,
-    told: &mut Told,
-) -> Result<Engine<R>, NoMemory>
-    requires ports { length ranks.items ≡ 4 }
-    requires machines { AreForOneSwitch (map R.machine (map R.fixed ranks.items)) }
-    requires classes { class_count (map R.machine (map R.fixed ranks.items)) ≡ 2 }
-    requires length { length slots.now ≤ 40 }
-    requires some { 1 ≤ workers }
-    requires few { workers ≤ most_workers }
-{
-    let mut engine = Engine::new(alloc, ranks, &[40; 4], &[2560; 4], &limits, workers)?;
-    run(rt, alloc, &mut engine, slots, told)?;
-    Ok(engine)
-}
-
-const NO_LIMITS: [Option<u64>; 4] = [None, None, None, None];
-
-// An engine of four first-come outputs after these slots.
-fn worked<T: Threads + Sync>(
-    rt: &T,
-    alloc: Global,
-    limits: [Option<u64>; 4],
-    slots: &[Coming<4>],
-    workers: u16,
-    told: &mut Told,
-) -> Result<Engine<FirstCome>, NoMemory>
-    requires length { length slots.now ≤ 40 }
-    requires some { 1 ≤ workers }
-    requires few { workers ≤ most_workers }
-{
-    let ranks = vec![in alloc;
-        first_come(alloc)?,
-        first_come(alloc)?,
-        first_come(alloc)?,
-        first_come(alloc)?,
-    ]?;
-    ran(rt, alloc, ranks, limits, slots, workers, told)
-}
-
-// Cells of three inputs come for output 0, and one slot later a cell of input 2 for output 1.
-fn worked_slots() -> [Coming<4>; 3] {
-    let later = Coming::nothing().with_packet(2, 1, 1, 0);
-    [Coming::three(), later, Coming::nothing()]
-}
-
-const SENT: [[u64; 4]; 4] = [[0, 0, 0, 0], [1, 0, 1, 0], [1, 1, 2, 1], [2, 0, 2, 0]];
-
-const CROSSED: [[u64; 5]; 4] = [
-    [0, 1, 0, 0, 0],
-    [0, 2, 1, 0, 0],
-    [1, 1, 2, 1, 1],
-    [1, 2, 2, 0, 0],
-];
-
-// Whether an engine with so many workers sends these cells, and nothing waits behind them.
-fn sends_worked<T: Threads + Sync>(rt: &T, alloc: Global, workers: u16) -> Result<bool, NoMemory>
-    requires some { 1 ≤ workers }
-    requires few { workers ≤ most_workers }
-{
-    let mut told = Told::nothing(alloc);
-    let engine = worked(rt, alloc, NO_LIMITS, &worked_slots(), workers, &mut told)?;
-    let is_done = (engine.empty(), engine.stopped(), engine.next()) == (true, false, 3);
-    Ok(is_done && told.is(&SENT, &CROSSED))
-}
-
-#[test]
-fn a_new_cell_goes_ahead_of_an_older_one_for_a_busy_output(rt: HostRuntime) -> Result<(), Fail> {
-    let alone = sends_worked(&rt, rt.alloc(), 1)?;
-    assert!(rt; alone && sends_worked(&rt, rt.alloc(), 2)?);
-    Ok(())
-}
-
-// Whether the slots, the proposals and the most of them are these, and what was seen of each port.
-fn are(
-    figures: &Figures,
-    sums: [u64; 3],
-    inputs: &[InputFigures],
-    outputs: &[OutputFigures],
-) -> bool {
-    [figures.slots, figures.proposals, figures.most] == sums
-        && figures.inputs.as_slice() == inputs
-        && figures.outputs.as_slice() == outputs
-}
-
-// What is seen of the inputs in the worked slots.
-const INPUTS: [InputFigures; 4] = [
-    InputFigures {
-        cells: 1,
-        longest: 1,
-        slack: Some(0),
-    },
-    InputFigures {
-        cells: 1,
-        longest: 1,
-        slack: Some(0),
-    },
-    InputFigures {
-        cells: 2,
-        longest: 2,
-        slack: Some(0),
-    },
-    InputFigures {
-        cells: 0,
-        longest: 0,
-        slack: None,
-    },
-];
-
-// What is seen of the outputs in them.
-const OUTPUTS: [OutputFigures; 4] = [
-    OutputFigures {
-        cells: 3,
-        wait: Some(2),
-    },
-    OutputFigures {
-        cells: 1,
-        wait: Some(0),
-    },
-    OutputFigures {
-        cells: 0,
-        wait: None,
-    },
-    OutputFigures {
-        cells: 0,
-        wait: None,
-    },
-];
-
-// Whether an engine has seen this of the worked slots.
-fn sees_worked<T: Threads + Sync>(rt: &T, alloc: Global) -> Result<bool, NoMemory> {
-    let mut told = Told::nothing(alloc);
-    let engine = worked(rt, alloc, NO_LIMITS, &worked_slots(), 2, &mut told)?;
-    Ok(are(&engine.into_seen().figures, [3, 7, 3], &INPUTS, &OUTPUTS))
-}
-
-#[test]
-fn figures_count_cells_proposals_slack_and_waits(rt: HostRuntime) -> Result<(), Fail> {
-    assert!(rt; sees_worked(&rt, rt.alloc())?);
-    Ok(())
+// Whether these figures are those of a run.
+fn are(figures: &Figures, outcome: &Outcome) -> bool {
+    [figures.slots, figures.proposals, figures.most] == outcome.sums
+        && figures.inputs.as_slice() == outcome.inputs
+        && figures.outputs.as_slice() == outcome.outputs
 }
 
 // Whether these have so many cells, one after the other.
@@ -271,80 +144,233 @@ fn have_lengths(queues: &[Sequence<Queued>], lengths: &[usize]) -> bool {
     queues.len() == lengths.len()
 }
 
-// How many cells wait at each input and in each buffer behind the late slots.
-const IN_LISTS: [usize; 4] = [0, 0, 1, 0];
+// Whether so many cells wait before this slot, and the marks are those behind a run.
+fn is_frozen(frozen: &Frozen, next: u64, outcome: &Outcome) -> bool {
+    frozen.next == next
+        && have_lengths(frozen.lists.as_slice(), &outcome.in_lists)
+        && have_lengths(frozen.buffers.as_slice(), &outcome.in_buffers)
+        && frozen.marks.as_slice() == outcome.marks.as_slice()
+}
 
-const IN_BUFFERS: [usize; 4] = [1, 0, 0, 0];
-
-// Whether an engine that stands still before slot 3 tells that so many cells wait, and that no input has a mark.
-fn has_waiting(alloc: Global, engine: &Engine<FirstCome>) -> Result<bool, NoMemory> {
-    if engine.stopped() {
+// Whether an engine stands still before this slot, and all is as it is to be after the run.
+fn stands<R: Rank>(
+    alloc: Global,
+    engine: &Engine<R>,
+    next: u64,
+    outcome: &Outcome,
+) -> Result<bool, NoMemory> {
+    if engine.stopped() || engine.next() != next || engine.refused() != outcome.refused {
         return Ok(false);
     }
     let frozen = engine.freeze(alloc)?;
+    let is_so = is_frozen(&frozen, next, outcome);
+    drop(frozen);
+    let is_empty = outcome.in_lists == [0; 4] && outcome.in_buffers == [0; 4];
+    Ok(is_so && engine.empty() == is_empty && are(engine.figures(), outcome))
+}
+
+// Whether an engine of these four outputs comes to what it is to come to.
+fn comes_to<R: Rank, T: Threads + Sync>(
+    rt: &T,
+    alloc: Global,
+    ranks: Vec<R>,
+    trial: &Trial,
+) -> Result<bool, NoMemory>
+    requires ports { length ranks.items ≡ 4 }
+    requires machines { AreForOneSwitch (map R.machine (map R.fixed ranks.items)) }
+    requires classes { class_count (map R.machine (map R.fixed ranks.items)) ≡ 2 }
+    requires few { length trial.now.slots.now ≤ 40 }
+{
+    let workers = trial.workers.max(1).min(2);
+    let mut engine = Engine::new(alloc, ranks, &[40; 4], &[2560; 4], &trial.limits, workers)?;
+    let mut told = Told::nothing(alloc);
+    let runs = run(rt, alloc, &mut engine, trial.slots, &mut told);
+    let outcome = &trial.outcome;
+    let tells = told.sent.as_slice() == outcome.sent && told.crossed.as_slice() == outcome.crossed;
+    drop(told);
+    let stands = stands(alloc, &engine, trial.slots.len() as u64, outcome);
+    let seen = engine.into_seen();
+    let has_seen = are(&seen.figures, outcome) && seen.refused.as_slice() == outcome.refused;
+    drop(seen);
+    Ok(runs? && stands? && tells && has_seen)
+}
+
+// A discipline of two classes with these levels, each below 16, and these priorities.
+fn priority(alloc: Global, levels: [u8; 2], priorities: [u128; 2]) -> Result<Priority, NoMemory>
+    ensures { IfOk result (λ rank. length (rows_of rank.fixed) ≡ 2) }
+{
+    let classes = [
+        ClassRow {
+            level: levels[0] % 16,
+            priority: priorities[0],
+            cost: 1,
+        },
+        ClassRow {
+            level: levels[1] % 16,
+            priority: priorities[1],
+            cost: 1,
+        },
+    ];
+    Priority::new(alloc, &classes)
+}
+
+// Those of four outputs.
+fn four_ranks(alloc: Global) -> Result<Vec<Priority>, NoMemory>
+    ensures ports { IfOk result (λ ranks. length ranks.items ≡ 4) }
+    ensures classes { IfOk result (λ ranks. All (λ rank. length (rows_of rank.fixed) ≡ 2) ranks.items) }
+{
+    let mut ranks = Vec::new(alloc);
+    'outputs: for output in 0..4usize {
+        ranks.push(priority(alloc, LEVELS[output], PRIORITIES[output])?)?;
+    }
+    Ok(ranks)
+}
+
+// Whether an engine of them comes to what it is to come to, in 40 slots at most.
+fn prioritized<T: Threads + Sync>(rt: &T, alloc: Global, trial: &Trial) -> Result<bool, NoMemory> {
+    if trial.slots.len() > 40 {
+        return Ok(false);
+    }
+    let ranks = four_ranks(alloc)?;
+    comes_to(rt, alloc, ranks, trial)
+}
+
+const NO_LIMITS: [Option<u64>; 4] = [None, None, None, None];
+
+// What is seen of an input to which a cell came, and of one to which two came before one had crossed, all in time.
+const ONE_CAME: InputFigures = InputFigures {
+    cells: 1,
+    longest: 1,
+    slack: Some(0),
+};
+
+const TWO_CAME: InputFigures = InputFigures {
+    cells: 2,
+    longest: 2,
+    ..ONE_CAME
+};
+
+// What is seen of an output that so many cells left, and that was waited for so long.
+const ONE_AT_ONCE: OutputFigures = OutputFigures {
+    cells: 1,
+    wait: Some(0),
+};
+
+const THREE_IN_ONE: OutputFigures = OutputFigures {
+    cells: 3,
+    wait: Some(1),
+};
+
+const THREE_IN_TWO: OutputFigures = OutputFigures {
+    wait: Some(2),
+    ..THREE_IN_ONE
+};
+
+// A new cell goes ahead of an older one for a busy output.
+const OVERTAKEN: Outcome = Outcome {
+    sent: &[[0, 0, 0, 0], [1, 0, 1, 0], [1, 1, 2, 1], [2, 0, 2, 0]],
+    crossed: &[
+        [0, 1, 0, 0, 0],
+        [0, 2, 1, 0, 0],
+        [1, 1, 2, 1, 1],
+        [1, 2, 2, 0, 0],
+    ],
+    sums: [3, 7, 3],
+    inputs: &[ONE_CAME, ONE_CAME, TWO_CAME, NOTHING_CAME],
+    outputs: &[THREE_IN_TWO, ONE_AT_ONCE, NOTHING_LEFT, NOTHING_LEFT],
+    refused: &[],
+    marks: [false; 4],
+    in_lists: [0; 4],
+    in_buffers: [0; 4],
+};
+
+// An engine that stands still tells what waits.
+const LATE: Outcome = Outcome {
+    sent: &[[2, 0, 0, 0]],
+    crossed: &[[2, 1, 0, 0, 0], [2, 2, 1, 0, 0]],
+    sums: [3, 5, 3],
+    inputs: &[ONE_CAME, ONE_CAME, ONE_CAME, NOTHING_CAME],
+    outputs: &[ONE_AT_ONCE, NOTHING_LEFT, NOTHING_LEFT, NOTHING_LEFT],
+    refused: &[],
+    marks: [false; 4],
+    in_lists: [0, 0, 1, 0],
+    in_buffers: [1, 0, 0, 0],
+};
+
+// The limits of a switch with crowded outputs.
+const LIMITS: [Option<u64>; 4] = [Some(2), None, Some(1), None];
+
+// Two cells fill output 0, one of which waits at input 1 for a slot. So the packet of input 2 that comes with them is
+// refused, though nothing is in the buffer, and its second cell with it, though one cell has left.
+const CROWDED: Outcome = Outcome {
+    sent: &[[0, 0, 0, 0], [1, 0, 1, 0], [2, 0, 2, 1]],
+    crossed: &[[0, 1, 0, 0, 0], [0, 2, 1, 0, 0], [2, 1, 2, 0, 1]],
+    sums: [3, 4, 2],
+    inputs: &[ONE_CAME, ONE_CAME, ONE_CAME, NOTHING_CAME],
+    outputs: &[THREE_IN_ONE, NOTHING_LEFT, NOTHING_LEFT, NOTHING_LEFT],
+    refused: &[
+        Refused {
+            output: 0,
+            limit: 2,
+            packets: 1,
+            cells: 2,
+        },
+        Refused {
+            output: 2,
+            limit: 1,
+            packets: 0,
+            cells: 0,
+        },
+    ],
+    marks: [false; 4],
+    in_lists: [0; 4],
+    in_buffers: [0; 4],
+};
+
+// Whether engines of so many workers come to the worked outcomes: cells of three inputs come for output 0, and one slot
+// later a cell of input 2 for output 1; or they come in the last of three slots; or behind them the second cell of
+// input 2's packet, and then another packet there.
+fn come_to_worked<T: Threads + Sync>(
+    rt: &T,
+    alloc: Global,
+    workers: u16,
+) -> Result<bool, NoMemory> {
+    let none = Coming::nothing();
+    let three = Coming::three();
+    let overtaken = Trial {
+        workers,
+        limits: NO_LIMITS,
+        slots: &[three, none.with_packet(2, 1, 1, 0), none],
+        outcome: OVERTAKEN,
+    };
+    let late = Trial {
+        workers,
+        limits: NO_LIMITS,
+        slots: &[none, none, three],
+        outcome: LATE,
+    };
+    let crowded = Trial {
+        workers,
+        limits: LIMITS,
+        slots: &[
+            three,
+            none.with_second(2, 0, 0),
+            none.with_packet(2, 1, 0, 0),
+        ],
+        outcome: CROWDED,
+    };
     Ok(
-        frozen.next == 3
-            && have_lengths(frozen.lists.as_slice(), &IN_LISTS)
-            && have_lengths(frozen.buffers.as_slice(), &IN_BUFFERS)
-            && frozen.marks.as_slice() == [false; 4].as_slice(),
+        prioritized(rt, alloc, &overtaken)?
+            && prioritized(rt, alloc, &late)?
+            && prioritized(rt, alloc, &crowded)?,
     )
 }
 
-// Whether one does after cells of three inputs came for output 0 in the last of three slots.
-fn has_late_waiting<T: Threads + Sync>(rt: &T, alloc: Global) -> Result<bool, NoMemory> {
-    let slots = [Coming::nothing(), Coming::nothing(), Coming::three()];
-    let mut told = Told::nothing(alloc);
-    let engine = worked(rt, alloc, NO_LIMITS, &slots, 2, &mut told)?;
-    has_waiting(alloc, &engine)
-}
-
 #[test]
-fn an_engine_that_stands_still_tells_what_waits(rt: HostRuntime) -> Result<(), Fail> {
-    assert!(rt; has_late_waiting(&rt, rt.alloc())?);
-    Ok(())
-}
-
-// Cells of three inputs come for output 0, then the second cell of input 2's packet, and then another packet there.
-fn crowded_slots() -> [Coming<4>; 3] {
-    let rest = Coming::nothing().with_second(2, 0, 0);
-    let next = Coming::nothing().with_packet(2, 1, 0, 0);
-    [Coming::three(), rest, next]
-}
-
-// The limits of a switch with crowded outputs.
-const CROWDED: [Option<u64>; 4] = [Some(2), None, Some(1), None];
-
-// What leaves it, and what it refuses. Two cells fill output 0, one of which waits at input 1 for a slot. So the packet
-// of input 2 that comes with them is refused, though nothing is in the buffer, and its second cell with it, though one
-// cell has left.
-const LEFT: [[u64; 4]; 3] = [[0, 0, 0, 0], [1, 0, 1, 0], [2, 0, 2, 1]];
-
-const REFUSED: [Refused; 2] = [
-    Refused {
-        output: 0,
-        limit: 2,
-        packets: 1,
-        cells: 2,
-    },
-    Refused {
-        output: 2,
-        limit: 1,
-        packets: 0,
-        cells: 0,
-    },
-];
-
-// Whether this leaves it and is refused.
-fn refuses_crowded<T: Threads + Sync>(rt: &T, alloc: Global) -> Result<bool, NoMemory> {
-    let mut told = Told::nothing(alloc);
-    let engine = worked(rt, alloc, CROWDED, &crowded_slots(), 2, &mut told)?;
-    Ok(told.sent.as_slice() == LEFT.as_slice() && engine.refused() == REFUSED.as_slice())
-}
-
-#[test]
-fn an_output_is_full_of_what_waits_for_it_at_inputs(rt: HostRuntime) -> Result<(), Fail> {
-    assert!(rt; refuses_crowded(&rt, rt.alloc())?);
-    Ok(())
+fn cells_overtake_wait_and_are_refused_as_worked_by_hand(rt: HostRuntime) {
+    for workers in 1..3 {
+        assert!(rt; come_to_worked(&rt, rt.alloc(), workers) == Ok(true));
+    }
 }
 
 // What comes in a slot at some of the first ports, for them. The packets are numbered by the slot, and a third of the
@@ -369,20 +395,14 @@ fn drawn_arrivals(draws: &mut Draws, slot: u32, ports: u16) -> Coming<4>
 }
 
 // 30 slots with arrivals at two to four ports, and 10 without.
-fn drawn_slots(alloc: Global, seed: u64) -> Result<Vec<Coming<4>>, NoMemory>
-    ensures { IfOk result (λ slots. length slots.items ≡ 40) }
-{
+fn drawn_slots(alloc: Global, seed: u64) -> Result<Vec<Coming<4>>, NoMemory> {
     let mut draws = Draws::from_seed(seed);
     let ports = 2 + draws.below(3) as u16;
     let mut slots = Vec::new(alloc);
-    'slots: for slot in 0..40 {
-        let coming = if slot < 30 {
-            drawn_arrivals(&mut draws, slot, ports)
-        } else {
-            Coming::nothing()
-        };
-        slots.push(coming)?;
+    for slot in 0..30 {
+        slots.push(drawn_arrivals(&mut draws, slot, ports))?;
     }
+    slots.resize(40, Coming::nothing())?;
     Ok(slots)
 }
 
@@ -399,97 +419,40 @@ fn drawn_limits(seed: u64) -> [Option<u64>; 4] {
     limits
 }
 
-// A discipline of two classes with these levels, each below 16, and these priorities.
-fn by_priority(alloc: Global, levels: [u8; 2], priorities: [u128; 2]) -> Result<Priority, NoMemory>
-    ensures { IfOk result (λ rank. length (rows_of rank.fixed) ≡ 2) }
-{
-    let classes = [
-        ClassRow {
-            level: levels[0] % 16,
-            priority: priorities[0],
-            cost: 1,
-        },
-        ClassRow {
-            level: levels[1] % 16,
-            priority: priorities[1],
-            cost: 1,
-        },
-    ];
-    Priority::new(alloc, &classes)
-}
-
-// An engine of four outputs by priority after these slots.
-fn prioritized<T: Threads + Sync>(
-    rt: &T,
-    alloc: Global,
-    limits: [Option<u64>; 4],
-    slots: &[Coming<4>],
-    workers: u16,
-    told: &mut Told,
-) -> Result<Engine<Priority>, NoMemory>
-    requires length { length slots.now ≤ 40 }
-    requires some { 1 ≤ workers }
-    requires few { workers ≤ most_workers }
-{
-    let ranks = vec![in alloc;
-        by_priority(alloc, LEVELS[0], PRIORITIES[0])?,
-        by_priority(alloc, LEVELS[1], PRIORITIES[1])?,
-        by_priority(alloc, LEVELS[2], PRIORITIES[2])?,
-        by_priority(alloc, LEVELS[3], PRIORITIES[3])?,
-    ]?;
-    ran(rt, alloc, ranks, limits, slots, workers, told)
-}
-
-// Whether the engine came to what the plain slow fabric came to.
-fn is_as_plain(engine: &Engine<Priority>, told: &Told, plain: &Slow) -> bool {
-    let sums = [plain.slots, plain.proposals, plain.most];
-    told.is(plain.told.sent.as_slice(), plain.told.crossed.as_slice())
-        && are(engine.figures(), sums, &plain.inputs, &plain.outputs)
-        && engine.refused() == plain.refused.as_slice()
-}
-
-// Whether an engine with so many workers comes to what the plain slow fabric came to.
-fn comes_to<T: Threads + Sync>(
-    rt: &T,
-    alloc: Global,
-    limits: [Option<u64>; 4],
-    slots: &[Coming<4>],
-    workers: u16,
-    plain: &Slow,
-) -> Result<bool, NoMemory>
-    requires length { length slots.now ≤ 40 }
-    requires some { 1 ≤ workers }
-    requires few { workers ≤ most_workers }
-{
-    let mut told = Told::nothing(alloc);
-    let engine = prioritized(rt, alloc, limits, slots, workers, &mut told)?;
-    Ok(is_as_plain(&engine, &told, plain))
-}
-
-// Whether one worker and two come to it over these slots.
+// Whether engines of one worker and of two come to what the plain slow fabric comes to over these slots.
 fn agree<T: Threads + Sync>(
     rt: &T,
     alloc: Global,
-    limits: [Option<u64>; 4],
     slots: &[Coming<4>],
-) -> Result<bool, NoMemory>
-    requires { length slots.now ≤ 40 }
-{
-    let plain = Slow::run(alloc, limits, slots)?;
-    let alone = comes_to(rt, alloc, limits, slots, 1, &plain)?;
-    Ok(alone && comes_to(rt, alloc, limits, slots, 2, &plain)?)
+    plain: &mut Slow,
+) -> Result<bool, NoMemory> {
+    plain.run(alloc, slots)?;
+    let outcome = plain.outcome();
+    let alone = Trial {
+        workers: 1,
+        limits: plain.limits,
+        slots,
+        outcome,
+    };
+    let shared = Trial {
+        workers: 2,
+        ..alone
+    };
+    Ok(prioritized(rt, alloc, &alone)? && prioritized(rt, alloc, &shared)?)
 }
 
 // Whether they do over slots that are drawn from the seed.
 fn agree_over_drawn<T: Threads + Sync>(rt: &T, alloc: Global, seed: u64) -> Result<bool, NoMemory> {
     let slots = drawn_slots(alloc, seed)?;
-    agree(rt, alloc, drawn_limits(seed), &slots)
+    let mut plain = Slow::nothing(alloc, drawn_limits(seed))?;
+    let agree = agree(rt, alloc, &slots, &mut plain);
+    drop(plain);
+    agree
 }
 
 #[test]
-fn drawn_slots_are_as_in_the_plain_slow_fabric(rt: HostRuntime) -> Result<(), Fail> {
+fn drawn_slots_are_as_in_the_plain_slow_fabric(rt: HostRuntime) {
     for seed in 1..17 {
-        assert!(rt; agree_over_drawn(&rt, rt.alloc(), seed)?);
+        assert!(rt; agree_over_drawn(&rt, rt.alloc(), seed) == Ok(true));
     }
-    Ok(())
 }

@@ -4,7 +4,7 @@
 //! sends, and finds a matching in rounds, in which all inputs ask at once.
 
 use super::coming::Coming;
-use super::engine::Told;
+use super::engine::{Outcome, Told};
 use cq_base::{Arrivals, Cell, InputFigures, NoMemory, OutputFigures};
 use cq_engine::Refused;
 use std::alloc::Global;
@@ -16,14 +16,14 @@ pub(super) const PRIORITIES: [[u128; 2]; 4] = [[0, 0], [3, 1], [7, 7], [0, 9]];
 pub(super) const LEVELS: [[u8; 2]; 4] = [[0, 0], [0, 0], [1, 0], [1, 0]];
 
 /// What is seen of an input to which nothing came yet.
-const NOTHING_CAME: InputFigures = InputFigures {
+pub(super) const NOTHING_CAME: InputFigures = InputFigures {
     cells: 0,
     longest: 0,
     slack: None,
 };
 
 /// What is seen of an output that nothing left yet.
-const NOTHING_LEFT: OutputFigures = OutputFigures {
+pub(super) const NOTHING_LEFT: OutputFigures = OutputFigures {
     cells: 0,
     wait: None,
 };
@@ -36,15 +36,15 @@ type Waiting = (u8, u128, u64, u16, u16);
 pub(super) struct Slow {
     lists: Vec<Vec<Waiting>>,
     buffers: Vec<Vec<Waiting>>,
-    limits: [Option<u64>; 4],
+    pub(super) limits: [Option<u64>; 4],
     marks: [bool; 4],
-    pub(super) refused: Vec<Refused>,
-    pub(super) told: Told,
-    pub(super) slots: u64,
-    pub(super) proposals: u64,
-    pub(super) most: u64,
-    pub(super) inputs: [InputFigures; 4],
-    pub(super) outputs: [OutputFigures; 4],
+    refused: Vec<Refused>,
+    told: Told,
+    slots: u64,
+    proposals: u64,
+    most: u64,
+    inputs: [InputFigures; 4],
+    outputs: [OutputFigures; 4],
 }
 
 /// Four empty queues.
@@ -54,6 +54,15 @@ fn empty(alloc: Global) -> Result<Vec<Vec<Waiting>>, NoMemory> {
         queues.push(Vec::new(alloc))?;
     }
     Ok(queues)
+}
+
+/// How many cells wait in each of four queues.
+fn lengths(queues: &[Vec<Waiting>]) -> [usize; 4] {
+    let mut lengths = [0; 4];
+    for (length, queue) in lengths.iter_mut().zip(queues) {
+        *length = queue.len();
+    }
+    lengths
 }
 
 /// Nothing was refused yet at the outputs with limits.
@@ -168,13 +177,9 @@ fn waiting_for(queues: &[Vec<Waiting>], output: u16) -> u64 {
 }
 
 impl Slow {
-    /// A run of these slots. The packet of each cell has the number of the slot of its arrival.
-    pub(super) fn run(
-        alloc: Global,
-        limits: [Option<u64>; 4],
-        slots: &[Coming<4>],
-    ) -> Result<Slow, NoMemory> {
-        let mut slow = Slow {
+    /// Nothing came yet, and the outputs have these limits.
+    pub(super) fn nothing(alloc: Global, limits: [Option<u64>; 4]) -> Result<Slow, NoMemory> {
+        Ok(Slow {
             lists: empty(alloc)?,
             buffers: empty(alloc)?,
             limits,
@@ -186,11 +191,30 @@ impl Slow {
             most: 0,
             inputs: [NOTHING_CAME; 4],
             outputs: [NOTHING_LEFT; 4],
-        };
+        })
+    }
+
+    /// A run of these slots. The packet of each cell has the number of the slot of its arrival.
+    pub(super) fn run(&mut self, alloc: Global, slots: &[Coming<4>]) -> Result<(), NoMemory> {
         for (slot, coming) in slots.iter().enumerate() {
-            slow.slot(alloc, slot as u64, &coming.arrivals)?;
+            self.slot(alloc, slot as u64, &coming.arrivals)?;
         }
-        Ok(slow)
+        Ok(())
+    }
+
+    /// What the run came to.
+    pub(super) fn outcome(&self) -> Outcome<'_> {
+        Outcome {
+            sent: self.told.sent.as_slice(),
+            crossed: self.told.crossed.as_slice(),
+            sums: [self.slots, self.proposals, self.most],
+            inputs: &self.inputs,
+            outputs: &self.outputs,
+            refused: self.refused.as_slice(),
+            marks: self.marks,
+            in_lists: lengths(&self.lists),
+            in_buffers: lengths(&self.buffers),
+        }
     }
 
     /// One slot: the arrivals, and a sending between two transfers.
