@@ -2,9 +2,9 @@
 ghost use Rattle.std.specs.Prelude.{◌≡◌, length};
 ghost use Rattle.cq_rank.specs.Classes.{AreClasses};
 
-use cq_base::ClassRow;
+use cq_base::{ClassRow, NoMemory};
 use cq_rank::{FirstCome, Priority, Rank};
-use std::test::Fail;
+use std::alloc::Global;
 
 // Two classes, the second of the least urgent level.
 fn two_classes() -> [ClassRow; 2]
@@ -39,16 +39,16 @@ fn has_ranks<R: Rank>(r: &mut R, ranks: [Option<u128>; 3]) -> bool {
     levels == [3, 15] && [first, second, r.rank(1).ok()] == ranks
 }
 
-#[test]
-fn every_cell_comes_first_at_a_first_come_output(rt: HostRuntime) -> Result<(), Fail> {
-    let mut machine = FirstCome::new(rt.alloc(), &two_classes())?;
-    assert!(rt; has_ranks(&mut machine, [Some(0); 3]));
-    Ok(())
+// Whether every cell comes first at a first-come output, and is ranked elsewhere by the priority of its class.
+fn each_has_ranks(alloc: Global) -> Result<bool, NoMemory> {
+    let mut machine = FirstCome::new(alloc, &two_classes())?;
+    let first_come = has_ranks(&mut machine, [Some(0); 3]);
+    drop(machine);
+    let mut machine = Priority::new(alloc, &two_classes())?;
+    Ok(first_come && has_ranks(&mut machine, [Some(u128::MAX), Some(7), Some(u128::MAX)]))
 }
 
 #[test]
-fn a_cell_is_ranked_by_the_priority_of_its_class(rt: HostRuntime) -> Result<(), Fail> {
-    let mut machine = Priority::new(rt.alloc(), &two_classes())?;
-    assert!(rt; has_ranks(&mut machine, [Some(u128::MAX), Some(7), Some(u128::MAX)]));
-    Ok(())
+fn cells_come_first_or_are_ranked_by_the_priority_of_their_class(rt: HostRuntime) {
+    assert!(rt; each_has_ranks(rt.alloc()) == Ok(true));
 }

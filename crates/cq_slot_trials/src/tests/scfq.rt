@@ -7,7 +7,6 @@ use cq_base::{ClassRow, Kind, NoMemory, Sequence, Setup};
 use cq_rank::Rank;
 use cq_scfq::{Discipline, Fair};
 use std::alloc::Global;
-use std::test::Fail;
 
 // What an output's machine meets.
 #[derive(Clone, Copy)]
@@ -68,6 +67,7 @@ fn class(level: u8, cost: u128) -> ClassRow
     }
 }
 
+// A cell is ranked behind its class and the virtual time.
 const SEVERAL: [Step; 9] = [
     Ranks(0, Some(1)),
     Ranks(1, Some(2)),
@@ -80,13 +80,7 @@ const SEVERAL: [Step; 9] = [
     Ranks(0, Some(1)),
 ];
 
-#[test]
-fn a_cell_is_ranked_behind_its_class_and_the_virtual_time(rt: HostRuntime) -> Result<(), Fail> {
-    let classes = [class(0, 1), class(0, 2)];
-    assert!(rt; fair_meets_all(rt.alloc(), &classes, &SEVERAL)?);
-    Ok(())
-}
-
+// Each level has its own virtual time.
 const LEVELS: [Step; 5] = [
     Ranks(1, Some(100)),
     Sent(0, 100),
@@ -95,13 +89,7 @@ const LEVELS: [Step; 5] = [
     Ranks(1, Some(200)),
 ];
 
-#[test]
-fn each_level_has_its_own_virtual_time(rt: HostRuntime) -> Result<(), Fail> {
-    let classes = [class(1, 5), class(0, 100)];
-    assert!(rt; fair_meets_all(rt.alloc(), &classes, &LEVELS)?);
-    Ok(())
-}
-
+// A rank does not fit until the output was idle.
 const GREATEST: [Step; 6] = [
     Ranks(0, Some(u128::MAX)),
     Sent(0, u128::MAX),
@@ -111,11 +99,13 @@ const GREATEST: [Step; 6] = [
     Ranks(0, Some(u128::MAX)),
 ];
 
-#[test]
-fn a_rank_does_not_fit_until_the_output_was_idle(rt: HostRuntime) -> Result<(), Fail> {
-    let classes = [class(0, u128::MAX)];
-    assert!(rt; fair_meets_all(rt.alloc(), &classes, &GREATEST)?);
-    Ok(())
+// Whether fair queueing meets each of these, of classes of one level, of two levels, and of the greatest cost.
+fn fair_meets_each(alloc: Global) -> Result<bool, NoMemory> {
+    Ok(
+        fair_meets_all(alloc, &[class(0, 1), class(0, 2)], &SEVERAL)?
+            && fair_meets_all(alloc, &[class(1, 5), class(0, 100)], &LEVELS)?
+            && fair_meets_all(alloc, &[class(0, u128::MAX)], &GREATEST)?,
+    )
 }
 
 // Machines of each kind, for one class.
@@ -172,11 +162,10 @@ fn each_meets_all(machines: &mut [Discipline], steps: &[[Step; 5]]) -> bool {
     true
 }
 
-#[test]
-fn each_port_ranks_by_its_own_discipline(rt: HostRuntime) -> Result<(), Fail> {
-    let mut machines = each_kind(rt.alloc())?;
-    assert!(rt; each_meets_all(machines.as_mut_slice(), &KINDS));
-    Ok(())
+// Whether each port ranks by its own discipline.
+fn each_kind_meets_all(alloc: Global) -> Result<bool, NoMemory> {
+    let mut machines = each_kind(alloc)?;
+    Ok(each_meets_all(machines.as_mut_slice(), &KINDS))
 }
 
 // The numbers of a machine's state are put into another, one after the other.
@@ -199,11 +188,20 @@ fn goes_on<R: Rank, S: Rank>(first: &mut R, second: &mut S) -> bool {
     begun && meets_all(second, &BEHIND)
 }
 
-#[test]
-fn a_machine_goes_on_from_the_numbers_of_another(rt: HostRuntime) -> Result<(), Fail> {
+// Whether a machine goes on from the numbers of another.
+fn second_goes_on(alloc: Global) -> Result<bool, NoMemory> {
     let classes = [class(1, 3), class(0, 5)];
-    let mut first = Fair::new(rt.alloc(), &classes)?;
-    let mut second = Fair::new(rt.alloc(), &classes)?;
-    assert!(rt; goes_on(&mut first, &mut second));
-    Ok(())
+    let mut first = Fair::new(alloc, &classes)?;
+    let mut second = Fair::new(alloc, &classes)?;
+    let is_so = goes_on(&mut first, &mut second);
+    drop(first);
+    drop(second);
+    Ok(is_so)
+}
+
+#[test]
+fn each_discipline_meets_its_worked_ranks(rt: HostRuntime) {
+    assert!(rt; fair_meets_each(rt.alloc()) == Ok(true));
+    assert!(rt; each_kind_meets_all(rt.alloc()) == Ok(true));
+    assert!(rt; second_goes_on(rt.alloc()) == Ok(true));
 }
