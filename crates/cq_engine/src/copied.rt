@@ -24,7 +24,6 @@ pub fn copied_figures(alloc: Global, figures: &Figures) -> Result<Figures, NoMem
 }
 
 // How many cells each of these has. The error is want of memory.
-#[tactic(auto, using(std::proofs::lemmas::List::take_all))]
 fn lengths_of(alloc: Global, buffers: &[Sequence<Queued>]) -> Result<Sequence<u64>, NoMemory>
     ensures { IfOk result (λ counts. counts ≡ map length buffers.now) }
 {
