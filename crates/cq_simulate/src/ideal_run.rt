@@ -63,7 +63,9 @@ pub fn run_ideal_packed(
     let ports = port_count(tables);
     let mut sent = Departures::new(alloc, schedule.total() + ports)?;
     let mut ideal = ideal_for(alloc, tables, schedule)?;
-    run_slots(alloc, &mut ideal, ports, schedule, &mut sent)?;
+    let ran = run_slots(alloc, &mut ideal, ports, schedule, &mut sent);
+    drop(ideal);
+    ran?;
     Ok(sent)
 }
 

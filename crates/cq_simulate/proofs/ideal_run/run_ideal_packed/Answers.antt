@@ -9,19 +9,19 @@ run_of : (c : In_ok-ideal) → departures_limited (limited_run c.in_ok-ideal.ide
     (marked_state c.in_ok-ideal.ideal)) ≡ ideal_departures c.args.tables.now c.args.schedule.now.came
 run_of c = run_of_tables c.in_ok-ideal.ensures
 
-pub run_slots-requires-clause-ready : goal.run_slots-requires-clause-ready
-run_slots-requires-clause-ready c =
+pub run_slots-ran-requires-clause-ready : goal.run_slots-ran-requires-clause-ready
+run_slots-ran-requires-clause-ready c =
     let total = c.total.ensures.cells in
     let ports = c.port_count-ports.ensures in
     let spare = c.in_ok-sent.ensures.spare in
     ready_ideal c.in_ok-ideal.ensures c.in_ok-sent.sent c.requires.tables.setup c.requires.traffic c.requires.short
     c.in_ok-sent.ensures.items (omega arith)
 
-pub run_slots-requires-clause-ports : goal.run_slots-requires-clause-ports
-run_slots-requires-clause-ports c = search (arith, rules, ideal_ports)
+pub run_slots-ran-requires-clause-ports : goal.run_slots-ran-requires-clause-ports
+run_slots-ran-requires-clause-ports c = search (arith, rules, ideal_ports)
 
-pub returns-in_err-run_slots-clause-refused : goal.returns-in_err-run_slots-clause-refused
-returns-in_err-run_slots-clause-refused c = search (arith, rules, err_from_is_err_and, run_of)
+pub returns-in_err-ran-clause-refused : goal.returns-in_err-ran-clause-refused
+returns-in_err-ran-clause-refused c = search (arith, rules, err_from_is_err_and, run_of)
 
 pub returns-clause-sent : goal.returns-clause-sent
 returns-clause-sent c = search (arith, rules, run_of)
