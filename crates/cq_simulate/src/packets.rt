@@ -32,7 +32,7 @@ pub fn packets_of(
     let classes = tables.setup.classes.as_slice().len() as u16;
     let mut joiner = Joiner::new(alloc, inputs, classes)?;
     let mut packets = Vec::new(alloc);
-    put_together(
+    let put = put_together(
         &mut joiner,
         &mut packets,
         output,
@@ -40,7 +40,9 @@ pub fn packets_of(
         captures,
         tables,
         t0,
-    )?;
+    );
+    drop(joiner);
+    put?;
     Ok(packets)
 }
 
