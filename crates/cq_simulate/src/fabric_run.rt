@@ -64,18 +64,12 @@ pub fn run_fabric<R: Threads + Sync, G: Gate>(
     ensures refused { IfErr result (IsRefusalOf (ideal_departures tables.now schedule.now.came)) }
 {
     let run = run_fabric_packed(rt, alloc, tables, schedule, gate)?;
-    let PackedFabricRun {
-        sent,
-        note,
-        figures,
-        refused,
-    } = run;
-    let room = sent.into_room(alloc)?;
+    let room = run.sent.into_room(alloc)?;
     Ok(FabricRun {
         sent: room,
-        note,
-        figures,
-        refused,
+        note: run.note,
+        figures: run.figures,
+        refused: run.refused,
     })
 }
 
