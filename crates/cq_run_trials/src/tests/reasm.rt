@@ -1,36 +1,50 @@
 //! Packets of several cells, some of them interleaved.
-ghost use Rattle.std.specs.Prelude.{◌≡◌, ℕ, ◌<◌, ◌^◌, OnOk, length};
-ghost use Rattle.cq_reasm.specs.Joining.{IsOtherPair, IsTakable, nothing_open, open_after, open_at, with_open};
+ghost use Rattle.std.specs.Prelude.{◌≡◌, ◌≤◌};
+ghost use Rattle.cq_base.specs.Limits.{most_classes, most_ports};
+ghost use Rattle.cq_reasm.specs.Joining.{HasTaken, IsTakable};
 
-use cq_base::{Cell, CellId, NoMemory};
+use cq_base::{Cell, CellId, Class, NoMemory, Port};
 use cq_reasm::{Joined, Joiner};
 use std::alloc::Global;
+use std::marker::Model;
 
-// A cell, given by its input, its packet and its number, of the class, with so many bytes.
-fn cell(id: (u16, u32, u32), class: u16, last: bool, piece: &[u8]) -> Cell
-    requires { length piece.now < 2 ^ 32 }
-    ensures id { result.id ≡ record { input = id.0; packet = id.1; index = id.2 } }
-    ensures class { result.class ≡ class }
-    ensures last { result.last ≡ last }
-    ensures len { result.len ≡ length piece.now }
-{
-    let (input, packet, index) = id;
-    let id = CellId {
-        input,
-        packet,
-        index,
-    };
-    Cell {
-        id,
-        output: 0,
-        class,
-        last,
-        at: 0,
-        len: piece.len() as u32,
-    }
+/// A joiner, and what is open in it: of each input and class, at the place of the pair, the number of the packet of
+/// which the first cell was taken, and the piece of that cell.
+#[derive(Drop)]
+struct Taking {
+    joiner: Joiner,
+    inputs: u16,
+    classes: u16,
+    opened: Vec<Option<(u32, &'static [u8])>>,
 }
 
-// Whether the packet of the cell is whole, with this body, or none is.
+impl Model for Taking {
+    ghost use Rattle.std.specs.Prelude.{◌≡◌, option_map, map};
+    ghost use Rattle.cq_reasm.specs.Joining.{JoinerView};
+
+    ghost Value = { Unit {0} };
+
+    ghost view = { λ _. tt };
+
+    ghost invariant = { λ t. t.joiner ≡ record {
+      inputs = t.inputs;
+      classes = t.classes;
+      open_packets = map (option_map (λ o. record { packet = o.0; taken = 1; body = o.1.now })) t.opened.items;
+    } };
+}
+
+/// A cell that is the next of its input and class: the two, its packet, its bytes, the memory that a packet is opened
+/// with, where that is told, and the body of the packet that is whole with it, if it is its last.
+type Taken = (
+    Port,
+    Class,
+    u32,
+    &'static [u8],
+    Option<usize>,
+    Option<&'static [u8]>,
+);
+
+/// Whether the packet of the cell is whole, with this body, or none is.
 fn is_whole(joined: Option<Joined>, cell: &Cell, body: Option<&[u8]>) -> bool {
     match joined {
         Some(whole) => {
@@ -41,171 +55,159 @@ fn is_whole(joined: Option<Joined>, cell: &Cell, body: Option<&[u8]>) -> bool {
     }
 }
 
-// Takes a cell, and tells whether its packet is whole with this body, or none is.
-fn takes(
+/// Takes a cell, where a packet that is opened gets memory for so many bytes, if that is told.
+fn take(
     joiner: &mut Joiner,
     cell: &Cell,
     piece: &[u8],
-    body: Option<&[u8]>,
-) -> Result<bool, NoMemory>
+    room: Option<usize>,
+) -> Result<Option<Joined>, NoMemory>
     requires { IsTakable joiner.old cell.now piece.now }
-    ensures left { OnOk result (joiner.new ≡ with_open joiner.old cell.now.id.input cell.now.class
-        (open_after (open_at joiner.old cell.now.id.input cell.now.class) cell.now piece.now)) }
-    ensures pair { OnOk result (open_at joiner.new cell.now.id.input cell.now.class
-        ≡ open_after (open_at joiner.old cell.now.id.input cell.now.class) cell.now piece.now) }
-    ensures others { (input class : ℕ) → class < joiner.old.classes → IsOtherPair input class cell.now →
-        open_at joiner.new input class ≡ open_at joiner.old input class }
+    ensures { HasTaken joiner.old joiner.new cell.now piece.now result }
 {
-    let whole = joiner.take(cell, piece)?;
-    Ok(is_whole(whole, cell, body))
-}
-
-// The same, where a packet that is opened gets memory for so many bytes.
-fn takes_reserving(
-    joiner: &mut Joiner,
-    cell: &Cell,
-    piece: &[u8],
-    room: usize,
-    body: Option<&[u8]>,
-) -> Result<bool, NoMemory>
-    requires { IsTakable joiner.old cell.now piece.now }
-    ensures left { OnOk result (joiner.new ≡ with_open joiner.old cell.now.id.input cell.now.class
-        (open_after (open_at joiner.old cell.now.id.input cell.now.class) cell.now piece.now)) }
-    ensures pair { OnOk result (open_at joiner.new cell.now.id.input cell.now.class
-        ≡ open_after (open_at joiner.old cell.now.id.input cell.now.class) cell.now piece.now) }
-{
-    let whole = joiner.take_reserving(cell, piece, room)?;
-    Ok(is_whole(whole, cell, body))
-}
-
-// Whether a packet of one cell is whole at once, and two packets of two cells are at their second.
-fn are_whole_at_their_last(joiner: &mut Joiner) -> Result<bool, NoMemory>
-    requires { joiner.old ≡ nothing_open 1 1 }
-{
-    let one = takes(
-        joiner,
-        &cell((0, 0, 0), 0, true, b"abcd"),
-        b"abcd",
-        Some(b"abcd"),
-    )?;
-    let opens = takes(joiner, &cell((0, 1, 0), 0, false, b"efgh"), b"efgh", None)?;
-    let closes = takes(
-        joiner,
-        &cell((0, 1, 1), 0, true, b"i"),
-        b"i",
-        Some(b"efghi"),
-    )?;
-    let opens_again = takes(joiner, &cell((0, 2, 0), 0, false, b"jklm"), b"jklm", None)?;
-    let last = cell((0, 2, 1), 0, true, b"nopq");
-    let closes_again = takes(joiner, &last, b"nopq", Some(b"jklmnopq"))?;
-    Ok(one && opens && closes && opens_again && closes_again)
-}
-
-fn packets_are_whole_at_their_last(alloc: Global) -> bool {
-    match Joiner::new(alloc, 1, 1) {
-        Ok(mut joiner) => are_whole_at_their_last(&mut joiner) == Ok(true),
-        Err(_) => false,
+    match room {
+        Some(room) => joiner.take_reserving(cell, piece, room),
+        None => joiner.take(cell, piece),
     }
 }
 
-#[test]
-fn packets_of_one_and_two_cells_are_whole_at_their_last(rt: HostRuntime) {
-    assert!(rt; packets_are_whole_at_their_last(rt.alloc()));
-}
-
-// Whether a packet that is opened with memory for no byte is whole at its last cell, and then one that is opened with
-// memory for more than it has.
-fn are_whole_with_any_memory(joiner: &mut Joiner) -> Result<bool, NoMemory>
-    requires { joiner.old ≡ nothing_open 1 1 }
-{
-    let first = cell((0, 0, 0), 0, false, b"abcd");
-    let opens = takes_reserving(joiner, &first, b"abcd", 0, None)?;
-    let last = cell((0, 0, 1), 0, true, b"e");
-    let closes = takes_reserving(joiner, &last, b"e", 0, Some(b"abcde"))?;
-    let first = cell((0, 1, 0), 0, false, b"fghi");
-    let opens_again = takes_reserving(joiner, &first, b"fghi", 9, None)?;
-    let last = cell((0, 1, 1), 0, true, b"j");
-    let closes_again = takes_reserving(joiner, &last, b"j", 9, Some(b"fghij"))?;
-    Ok(opens && closes && opens_again && closes_again)
-}
-
-fn packets_are_whole_with_any_memory(alloc: Global) -> bool {
-    match Joiner::new(alloc, 1, 1) {
-        Ok(mut joiner) => are_whole_with_any_memory(&mut joiner) == Ok(true),
-        Err(_) => false,
+impl Taking {
+    /// With nothing open.
+    fn new(alloc: Global, inputs: u16, classes: u16) -> Result<Taking, NoMemory>
+        requires inputs { 1 ≤ inputs × inputs ≤ most_ports }
+        requires classes { 1 ≤ classes × classes ≤ most_classes }
+    {
+        let places = usize::from(inputs) * usize::from(classes);
+        let joiner = Joiner::new(alloc, inputs, classes)?;
+        let mut opened = Vec::new(alloc);
+        opened.resize(places, None)?;
+        Ok(Taking {
+            joiner,
+            inputs,
+            classes,
+            opened,
+        })
     }
-}
 
-#[test]
-fn a_packet_is_whole_whatever_memory_it_was_opened_with(rt: HostRuntime) {
-    assert!(rt; packets_are_whole_with_any_memory(rt.alloc()));
-}
-
-// Whether packets of two inputs, whose cells take turns, are whole at their second cells.
-fn are_apart_by_input(joiner: &mut Joiner) -> Result<bool, NoMemory>
-    requires { joiner.old ≡ nothing_open 2 1 }
-{
-    let zero_opens = takes(joiner, &cell((0, 3, 0), 0, false, b"ab"), b"ab", None)?;
-    let one_opens = takes(joiner, &cell((1, 5, 0), 0, false, b"uvw"), b"uvw", None)?;
-    let zero_closes = takes(joiner, &cell((0, 3, 1), 0, true, b"c"), b"c", Some(b"abc"))?;
-    let last = cell((1, 5, 1), 0, true, b"xyz");
-    let one_closes = takes(joiner, &last, b"xyz", Some(b"uvwxyz"))?;
-    Ok(zero_opens && one_opens && zero_closes && one_closes)
-}
-
-fn inputs_are_apart(alloc: Global) -> bool {
-    match Joiner::new(alloc, 2, 1) {
-        Ok(mut joiner) => are_apart_by_input(&mut joiner) == Ok(true),
-        Err(_) => false,
-    }
-}
-
-#[test]
-fn two_inputs_are_kept_apart(rt: HostRuntime) {
-    assert!(rt; inputs_are_apart(rt.alloc()));
-}
-
-// Whether packets of two classes, the second of which is opened and whole within the first, are whole at their second
-// cells.
-fn are_apart_by_class(joiner: &mut Joiner) -> Result<bool, NoMemory>
-    requires { joiner.old ≡ nothing_open 1 2 }
-{
-    let zero_opens = takes(joiner, &cell((0, 0, 0), 0, false, b"ab"), b"ab", None)?;
-    let one_opens = takes(joiner, &cell((0, 1, 0), 1, false, b"uvw"), b"uvw", None)?;
-    let last = cell((0, 1, 1), 1, true, b"xyz");
-    let one_closes = takes(joiner, &last, b"xyz", Some(b"uvwxyz"))?;
-    let zero_closes = takes(joiner, &cell((0, 0, 1), 0, true, b"c"), b"c", Some(b"abc"))?;
-    Ok(zero_opens && one_opens && one_closes && zero_closes)
-}
-
-fn classes_are_apart(alloc: Global) -> bool {
-    match Joiner::new(alloc, 1, 2) {
-        Ok(mut joiner) => are_apart_by_class(&mut joiner) == Ok(true),
-        Err(_) => false,
-    }
-}
-
-#[test]
-fn two_classes_of_an_input_are_kept_apart(rt: HostRuntime) {
-    assert!(rt; classes_are_apart(rt.alloc()));
-}
-
-// Whether a packet of no bytes is whole at its cell, of the last input and class.
-fn is_whole_without_bytes(alloc: Global) -> bool {
-    match Joiner::new(alloc, 64, 16) {
-        Ok(mut joiner) => {
-            takes(
-                &mut joiner,
-                &cell((63, 0, 0), 15, true, b""),
-                b"",
-                Some(b""),
-            ) == Ok(true)
+    /// Takes a cell, and tells whether it is the next of its input and class, and its packet is whole with the body, or
+    /// none is.
+    fn takes(&mut self, taken: &Taken) -> bool {
+        let (input, class, packet, piece, room, body) = *taken;
+        let place = usize::from(input) * usize::from(self.classes) + usize::from(class);
+        if input >= self.inputs
+            || class >= self.classes
+            || place >= self.opened.len()
+            || piece.len() > 8
+        {
+            return false;
         }
+        let index = match self.opened[place] {
+            None => 0,
+            Some((number, _)) if number == packet && body.is_some() => 1,
+            Some(_) => return false,
+        };
+        let cell = Cell {
+            id: CellId {
+                input,
+                packet,
+                index,
+            },
+            output: 0,
+            class,
+            last: body.is_some(),
+            at: 0,
+            len: piece.len() as u32,
+        };
+        match take(&mut self.joiner, &cell, piece, room) {
+            Ok(joined) => {
+                self.opened[place] = match body {
+                    Some(_) => None,
+                    None => Some((packet, piece)),
+                };
+                is_whole(joined, &cell, body)
+            }
+            Err(_) => false,
+        }
+    }
+}
+
+/// How many inputs and classes there are, and the cells that come in turn.
+type Trial = (u16, u16, &'static [Taken]);
+
+const TRIALS: &[Trial] = &[
+    // A packet of one cell is whole at once, and two packets of two cells are at their second.
+    (
+        1,
+        1,
+        &[
+            (0, 0, 0, b"abcd", None, Some(b"abcd")),
+            (0, 0, 1, b"efgh", None, None),
+            (0, 0, 1, b"i", None, Some(b"efghi")),
+            (0, 0, 2, b"jklm", None, None),
+            (0, 0, 2, b"nopq", None, Some(b"jklmnopq")),
+        ],
+    ),
+    // A packet is whole that was opened with memory for no byte, and one that was with memory for more than it has.
+    (
+        1,
+        1,
+        &[
+            (0, 0, 0, b"abcd", Some(0), None),
+            (0, 0, 0, b"e", Some(0), Some(b"abcde")),
+            (0, 0, 1, b"fghi", Some(9), None),
+            (0, 0, 1, b"j", Some(9), Some(b"fghij")),
+        ],
+    ),
+    // Two inputs are kept apart, whose cells take turns.
+    (
+        2,
+        1,
+        &[
+            (0, 0, 3, b"ab", None, None),
+            (1, 0, 5, b"uvw", None, None),
+            (0, 0, 3, b"c", None, Some(b"abc")),
+            (1, 0, 5, b"xyz", None, Some(b"uvwxyz")),
+        ],
+    ),
+    // Two classes of an input are kept apart, where a packet of the second is opened and whole within one of the first.
+    (
+        1,
+        2,
+        &[
+            (0, 0, 0, b"ab", None, None),
+            (0, 1, 1, b"uvw", None, None),
+            (0, 1, 1, b"xyz", None, Some(b"uvwxyz")),
+            (0, 0, 0, b"c", None, Some(b"abc")),
+        ],
+    ),
+    // A packet of no bytes is whole at its cell, of the last input and class.
+    (64, 16, &[(63, 15, 0, b"", None, Some(b""))]),
+];
+
+/// Whether each of the cells is answered so.
+fn are_taken(taking: &mut Taking, cells: &[Taken]) -> bool {
+    for taken in cells {
+        if !taking.takes(taken) {
+            return false;
+        }
+    }
+    true
+}
+
+fn holds(alloc: Global, trial: &Trial) -> bool {
+    let (inputs, classes, cells) = *trial;
+    if inputs == 0 || inputs > 64 || classes == 0 || classes > 16 {
+        return false;
+    }
+    match Taking::new(alloc, inputs, classes) {
+        Ok(mut taking) => are_taken(&mut taking, cells),
         Err(_) => false,
     }
 }
 
 #[test]
-fn a_packet_of_no_bytes_is_whole_at_its_cell(rt: HostRuntime) {
-    assert!(rt; is_whole_without_bytes(rt.alloc()));
+fn packets_are_whole_at_their_last_cells_whatever_comes_between(rt: HostRuntime) {
+    for trial in TRIALS {
+        assert!(rt; holds(rt.alloc(), trial));
+    }
 }
