@@ -1,12 +1,9 @@
 //! Captures, and the slots in which their cells arrive.
 ghost use Rattle.std.specs.Prelude.{◌≡◌, ◌<◌};
-ghost use Rattle.cq_route.specs.Tables.{AreTables};
 
-use super::given::{Come, captures_of, one_port, three_ports};
+use super::given::{Come, Given, Switch, Trial, shows};
 use cq_base::{Arrivals, Cell, NoMemory, Port, Slot};
 use cq_cells::{Coming, Schedule, cells_of};
-use cq_pcap::Capture;
-use cq_route::Tables;
 use std::alloc::Global;
 use std::thread::Threads;
 
@@ -42,7 +39,7 @@ type Piece = (u32, u32, u32, u32, bool);
 type Arrived = Option<(u32, Port)>;
 
 // What a schedule is to show.
-#[derive(Drop)]
+#[derive(Clone, Copy)]
 enum Shown {
     // In a slot this arrives at input zero.
     Piece(Slot, Option<Piece>),
@@ -52,62 +49,15 @@ enum Shown {
     Many,
 }
 
-// Whether the schedule of what comes to the ports of the tables shows this.
-fn is_shown<R: Threads + Sync>(
-    rt: &R,
-    alloc: Global,
-    tables: &Tables,
-    inputs: &[&[Come]],
-    shown: Shown,
-) -> bool
-    requires { AreTables tables.now }
-{
-    match captures_of(alloc, inputs) {
-        Ok(captures) => is_seen(rt, alloc, tables, &captures, shown),
-        Err(_) => false,
-    }
-}
-
-// Whether that of these captures does, of which there is one for each port.
-fn is_seen<R: Threads + Sync>(
-    rt: &R,
-    alloc: Global,
-    tables: &Tables,
-    captures: &[Capture],
-    shown: Shown,
-) -> bool
-    requires { AreTables tables.now }
-{
-    let ports = tables.setup.kinds.as_slice().len();
-    if captures.len() != ports {
-        return false;
-    }
-    match Schedule::of(rt, alloc, captures, tables) {
-        Ok(schedule) => shows(&schedule, ports, shown),
-        Err(_) => false,
-    }
-}
-
-fn shows(schedule: &Schedule, ports: usize, shown: Shown) -> bool
-    requires { schedule.now.ports ≡ ports }
-{
-    match shown {
-        Shown::Piece(slot, piece) => 0 < ports && arrives(schedule, slot, piece),
-        Shown::Turns => ports == 3 && arrive_in_turn(schedule) && has_counts(schedule),
-        Shown::Many => ports == 3 && has_many(schedule) && has_routes(schedule),
-    }
-}
-
-// Whether what comes to three ports shows this.
-fn is_shown_at_three<R: Threads + Sync>(
-    rt: &R,
-    alloc: Global,
-    inputs: &[&[Come]],
-    shown: Shown,
-) -> bool {
-    match three_ports(alloc, None) {
-        Ok(tables) => is_shown(rt, alloc, &tables, inputs, shown),
-        Err(_) => false,
+impl Trial for Shown {
+    fn is_seen<R: Threads + Sync>(&self, _rt: &R, _alloc: Global, given: Given) -> bool {
+        let schedule = given.schedule;
+        let ports = given.captures.len();
+        match *self {
+            Shown::Piece(slot, piece) => 0 < ports && arrives(schedule, slot, piece),
+            Shown::Turns => ports == 3 && arrive_in_turn(schedule) && has_counts(schedule),
+            Shown::Many => ports == 3 && has_many(schedule) && has_routes(schedule),
+        }
     }
 }
 
@@ -145,18 +95,11 @@ const PIECES: &[Row] = &[
     (&[], 0, None),
 ];
 
-fn has_piece<R: Threads + Sync>(rt: &R, alloc: Global, row: &Row) -> bool {
-    let (packets, slot, piece) = *row;
-    match one_port(alloc) {
-        Ok(tables) => is_shown(rt, alloc, &tables, &[packets], Shown::Piece(slot, piece)),
-        Err(_) => false,
-    }
-}
-
 #[test]
 fn cells_arrive_one_a_slot_from_the_slot_of_their_stamp_on(rt: HostRuntime) {
-    for row in PIECES {
-        assert!(rt; has_piece(&rt, rt.alloc(), row));
+    for (packets, slot, piece) in PIECES {
+        let shown = Shown::Piece(*slot, *piece);
+        assert!(rt; shows(&rt, rt.alloc(), Switch::OnePort, &[*packets], &shown));
     }
 }
 
@@ -216,7 +159,7 @@ const INPUTS: &[&[Come]] = &[
 
 #[test]
 fn each_input_has_its_own_packets(rt: HostRuntime) {
-    assert!(rt; is_shown_at_three(&rt, rt.alloc(), INPUTS, Shown::Turns));
+    assert!(rt; shows(&rt, rt.alloc(), Switch::ThreePorts, INPUTS, &Shown::Turns));
 }
 
 // Packets of one stamp, every third of which goes to output one.
@@ -254,7 +197,10 @@ fn has_routes(schedule: &Schedule) -> bool
 // Whether each of many packets goes to its own output.
 fn many_are_routed<R: Threads + Sync>(rt: &R, alloc: Global) -> bool {
     match many_packets(alloc) {
-        Ok(packets) => is_shown_at_three(rt, alloc, &[&packets, &[], &[]], Shown::Many),
+        Ok(packets) => {
+            let inputs: [&[Come]; 3] = [&packets, &[], &[]];
+            shows(rt, alloc, Switch::ThreePorts, &inputs, &Shown::Many)
+        }
         Err(_) => false,
     }
 }

@@ -1,16 +1,15 @@
 //! Small captures through switches of one and three ports.
-ghost use Rattle.std.specs.Prelude.{◌≡◌, ◌≤◌, IfOk, length};
+ghost use Rattle.std.specs.Prelude.{◌≡◌, ◌≤◌, length};
 ghost use Rattle.cq_base.specs.Limits.{longest_file};
-ghost use Rattle.cq_route.specs.Tables.{AreTables, ports_of};
+ghost use Rattle.cq_route.specs.Tables.{ports_of};
 ghost use Rattle.cq_cells.specs.Scheduled.{schedule_of};
+ghost use Rattle.cq_simulate.specs.Packets.{HaveLeftOf};
 ghost use Rattle.cq_simulate.specs.ScheduleFor.{IsScheduleFor};
 
-use super::given::{Come, captures_of, one_port, three_ports};
-use cq_base::{ClassRow, Departure, Kind, NoMemory, Port, Sequence, TagFault, Transfer};
-use cq_cells::Schedule;
+use super::given::{Come, Given, Switch, Trial, shows};
+use cq_base::{Departure, Port, TagFault, Transfer};
 use cq_crew::OpenGate;
-use cq_pcap::{Capture, OutPacket, PacketRow, read_capture};
-use cq_route::Tables;
+use cq_pcap::{OutPacket, PacketRow, read_capture};
 use cq_simulate::{
     FabricRun, IdealRun, Packing, Refused, RunRefusal, packets_of, packets_of_all, run_fabric,
     run_ideal, run_ideal_packed, runs_leave_whole_packets,
@@ -26,45 +25,6 @@ type Crossed = (u64, u8, u16, u16, u32);
 
 /// Of a packet that leaves the stamp, the length on the wire, and how many bytes were captured.
 type Left = (u128, u32, usize);
-
-/// The switch of a trial.
-#[derive(Clone, Copy)]
-enum Switch {
-    OnePort,
-    /// One fair port, where each cell costs all that a rank can hold.
-    DearPort,
-    ThreePorts,
-    /// The three ports, where one cell fills output zero.
-    ThreeLimitedPorts,
-}
-
-impl Switch {
-    fn tables(self, alloc: Global) -> Result<Tables, NoMemory>
-        ensures in_range { IfOk result (λ tables. AreTables tables) }
-    {
-        match self {
-            Switch::OnePort => one_port(alloc),
-            Switch::DearPort => dear_port(alloc),
-            Switch::ThreePorts => three_ports(alloc, None),
-            Switch::ThreeLimitedPorts => three_ports(alloc, Some(1)),
-        }
-    }
-}
-
-#[tactic(auto, unfolding(cq_route::specs::Plain::plain_tables))]
-fn dear_port(alloc: Global) -> Result<Tables, NoMemory>
-    ensures in_range { IfOk result (λ tables. AreTables tables) }
-{
-    let class = ClassRow {
-        level: 0,
-        priority: 0,
-        cost: u128::MAX,
-    };
-    let mut tables = Tables::plain(alloc, "in", "out")?;
-    tables.setup.kinds = Sequence::of(Vec::from_array(alloc, [Kind::Fair])?);
-    tables.setup.classes = Sequence::of(Vec::from_array(alloc, [class])?);
-    Ok(tables)
-}
 
 /// What a switch is to show.
 #[derive(Clone, Copy)]
@@ -85,69 +45,17 @@ enum Shown<'a> {
 // A run: the switch, the packets that come to its inputs, and what it is to show.
 type Run = (Switch, &'static [&'static [Come]], Shown<'static>);
 
-// Whether a run shows what it is to.
-fn is_shown<R: Threads + Sync>(rt: &R, alloc: Global, run: &Run) -> bool {
-    let (switch, inputs, shown) = *run;
-    match switch.tables(alloc) {
-        Ok(tables) => is_shown_by(rt, alloc, &tables, inputs, shown),
-        Err(_) => false,
-    }
-}
-
-// Whether the switch of these tables shows this.
-fn is_shown_by<R: Threads + Sync>(
-    rt: &R,
-    alloc: Global,
-    tables: &Tables,
-    inputs: &[&[Come]],
-    shown: Shown,
-) -> bool
-    requires { AreTables tables.now }
-{
-    match captures_of(alloc, inputs) {
-        Ok(captures) => is_seen(rt, alloc, tables, &captures, shown),
-        Err(_) => false,
-    }
-}
-
-// Whether it is seen in these captures, of which there is one for each of its ports.
-fn is_seen<R: Threads + Sync>(
-    rt: &R,
-    alloc: Global,
-    tables: &Tables,
-    captures: &[Capture],
-    shown: Shown,
-) -> bool
-    requires { AreTables tables.now }
-{
-    if captures.len() != tables.setup.kinds.as_slice().len() {
-        return false;
-    }
-    match Schedule::of(rt, alloc, captures, tables) {
-        Ok(schedule) => is_seen_over(rt, alloc, tables, captures, &schedule, shown),
-        Err(_) => false,
-    }
-}
-
-// Whether it is seen in them over these slots, which are theirs.
-fn is_seen_over<R: Threads + Sync>(
-    rt: &R,
-    alloc: Global,
-    tables: &Tables,
-    captures: &[Capture],
-    schedule: &Schedule,
-    shown: Shown,
-) -> bool
-    requires captures { length captures.now ≡ ports_of tables.now.setup }
-    requires came { schedule.now ≡ schedule_of tables.now captures.now }
-    requires schedule { IsScheduleFor tables.now schedule.now }
-{
-    if let Shown::Packets(output, left) = shown {
-        leave_alone(alloc, tables, captures, schedule, output, left)
-            && leave_in_one_pass(alloc, tables, captures, schedule, output, left)
-    } else {
-        is_seen_ideally(alloc, tables, schedule, shown)
-            && is_kept(rt, alloc, tables, schedule, shown)
+impl<'a> Trial for Shown<'a> {
+    fn is_seen<R: Threads + Sync>(&self, rt: &R, alloc: Global, given: Given) -> bool {
+        let Shown::Packets(output, left) = *self else {
+            return is_seen_ideally(alloc, given, *self) && is_kept(rt, alloc, given, *self);
+        };
+        let Ok(run) = run_ideal(alloc, given.tables, given.schedule) else {
+            return false;
+        };
+        runs_leave_whole_packets();
+        leave_alone(alloc, given, run.sent.items(), output, left)
+            && leave_in_one_pass(alloc, given, output, left)
     }
 }
 
@@ -160,10 +68,10 @@ fn is_stopped(refusal: RunRefusal, shown: Shown) -> bool {
 }
 
 // Whether the run of the ideal switch shows it, where that is to show something.
-fn is_seen_ideally(alloc: Global, tables: &Tables, schedule: &Schedule, shown: Shown) -> bool
-    requires { IsScheduleFor tables.now schedule.now }
+fn is_seen_ideally(alloc: Global, given: Given, shown: Shown) -> bool
+    requires { IsScheduleFor given.tables.now given.schedule.now }
 {
-    match run_ideal(alloc, tables, schedule) {
+    match run_ideal(alloc, given.tables, given.schedule) {
         Ok(run) => shows_ideally(&run, shown),
         Err(refusal) => is_stopped(refusal, shown),
     }
@@ -178,16 +86,10 @@ fn shows_ideally(run: &IdealRun, shown: Shown) -> bool {
 }
 
 // Whether the run of the fabric shows it.
-fn is_kept<R: Threads + Sync>(
-    rt: &R,
-    alloc: Global,
-    tables: &Tables,
-    schedule: &Schedule,
-    shown: Shown,
-) -> bool
-    requires { IsScheduleFor tables.now schedule.now }
+fn is_kept<R: Threads + Sync>(rt: &R, alloc: Global, given: Given, shown: Shown) -> bool
+    requires { IsScheduleFor given.tables.now given.schedule.now }
 {
-    match run_fabric(rt, alloc, tables, schedule, &OpenGate) {
+    match run_fabric(rt, alloc, given.tables, given.schedule, &OpenGate) {
         Ok(run) => keeps(&run, shown),
         Err(refusal) => is_stopped(refusal, shown),
     }
@@ -204,49 +106,29 @@ fn keeps(run: &FabricRun, shown: Shown) -> bool {
     }
 }
 
-// Whether these packets leave the output, where they are put together for it alone.
-fn leave_alone(
-    alloc: Global,
-    tables: &Tables,
-    captures: &[Capture],
-    schedule: &Schedule,
-    output: Port,
-    left: &[Left],
-) -> bool
-    requires captures { length captures.now ≡ ports_of tables.now.setup }
-    requires came { schedule.now ≡ schedule_of tables.now captures.now }
-    requires schedule { IsScheduleFor tables.now schedule.now }
+// Whether these packets leave the output, where they are put together of what departs for it alone.
+fn leave_alone(alloc: Global, given: Given, sent: &[Departure], output: Port, left: &[Left]) -> bool
+    requires { HaveLeftOf given.tables.now given.captures.now sent.now given.schedule.now.t0 }
 {
-    let Ok(run) = run_ideal(alloc, tables, schedule) else {
-        return false;
-    };
-    let t0 = schedule.t0();
-    runs_leave_whole_packets();
-    match packets_of(alloc, output, run.sent.items(), captures, tables, t0) {
+    let t0 = given.schedule.t0();
+    match packets_of(alloc, output, sent, given.captures, given.tables, t0) {
         Ok(packets) => are(&packets, left),
         Err(_) => false,
     }
 }
 
-// Whether these packets leave the output, where those of all outputs are put together in one pass.
-fn leave_in_one_pass(
-    alloc: Global,
-    tables: &Tables,
-    captures: &[Capture],
-    schedule: &Schedule,
-    output: Port,
-    left: &[Left],
-) -> bool
-    requires captures { length captures.now ≡ ports_of tables.now.setup }
-    requires came { schedule.now ≡ schedule_of tables.now captures.now }
-    requires schedule { IsScheduleFor tables.now schedule.now }
+// Whether they do where those of all outputs are put together in one pass.
+fn leave_in_one_pass(alloc: Global, given: Given, output: Port, left: &[Left]) -> bool
+    requires captures { length given.captures.now ≡ ports_of given.tables.now.setup }
+    requires came { given.schedule.now ≡ schedule_of given.tables.now given.captures.now }
+    requires schedule { IsScheduleFor given.tables.now given.schedule.now }
 {
-    let Ok(sent) = run_ideal_packed(alloc, tables, schedule) else {
+    let Ok(sent) = run_ideal_packed(alloc, given.tables, given.schedule) else {
         return false;
     };
-    let t0 = schedule.t0();
     runs_leave_whole_packets();
-    match packets_of_all(alloc, sent, captures, tables, t0) {
+    let t0 = given.schedule.t0();
+    match packets_of_all(alloc, sent, given.captures, given.tables, t0) {
         Ok(places) => are_packed(alloc, &places, output, left),
         Err(_) => false,
     }
@@ -334,6 +216,22 @@ const TOGETHER: &[Come] = &[(0, 64, 0), (0, 65, 0), (0, 128, 0)];
 // Cells of three inputs come for output 0, and one slot later a cell of input 2 for output 1.
 const WAITING: &[&[Come]] = &[&[(0, 60, 0)], &[(0, 60, 0)], &[(0, 60, 0), (512, 60, 1)]];
 
+// What leaves of these.
+const WAITED: &[Sent] = &[
+    (0, 0, 0, 0, 0),
+    (1, 0, 1, 0, 0),
+    (1, 1, 2, 1, 0),
+    (2, 0, 2, 0, 0),
+];
+
+// What crosses of these, to an output one cell a phase.
+const CROSSED: &[Crossed] = &[
+    (0, 1, 0, 0, 0),
+    (0, 2, 1, 0, 0),
+    (1, 1, 2, 1, 1),
+    (1, 2, 2, 0, 0),
+];
+
 // The two cells of input 1 come in slots 0 and 1, and output 0, which one cell fills, is empty in slot 1. The run goes
 // on to slot 5, in which the next packet finds room.
 const CROWDING: &[&[Come]] = &[&[(0, 60, 0)], &[(0, 128, 0), (2560, 60, 0)], &[]];
@@ -348,33 +246,9 @@ const RUNS: &[Run] = &[
     // No packet comes.
     (Switch::OnePort, &[&[]], Shown::Trace(0, &[])),
     // Cells wait for their output after the last has arrived.
-    (
-        Switch::ThreePorts,
-        WAITING,
-        Shown::Trace(
-            3,
-            &[
-                (0, 0, 0, 0, 0),
-                (1, 0, 1, 0, 0),
-                (1, 1, 2, 1, 0),
-                (2, 0, 2, 0, 0),
-            ],
-        ),
-    ),
+    (Switch::ThreePorts, WAITING, Shown::Trace(3, WAITED)),
     // Of those cells one crosses to an output in a phase.
-    (
-        Switch::ThreePorts,
-        WAITING,
-        Shown::Log(
-            7,
-            &[
-                (0, 1, 0, 0, 0),
-                (0, 2, 1, 0, 0),
-                (1, 1, 2, 1, 1),
-                (1, 2, 2, 0, 0),
-            ],
-        ),
-    ),
+    (Switch::ThreePorts, WAITING, Shown::Log(7, CROSSED)),
     // Of those packets three leave output 0.
     (
         Switch::ThreePorts,
@@ -444,7 +318,7 @@ const RUNS: &[Run] = &[
 
 #[test]
 fn each_run_shows_what_it_is_to(rt: HostRuntime) {
-    for run in RUNS {
-        assert!(rt; is_shown(&rt, rt.alloc(), run));
+    for (switch, inputs, shown) in RUNS {
+        assert!(rt; shows(&rt, rt.alloc(), *switch, inputs, shown));
     }
 }
