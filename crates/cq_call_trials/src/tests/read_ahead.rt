@@ -1,9 +1,10 @@
-//! What is read ahead and refused: the lowest input is told, whatever happens behind it.
-use super::configured::CUT;
+//! Captures that are refused, also where they are read ahead: the lowest input is told, whatever happens behind it.
 use super::words::USAGE;
 use cq_base::NoMemory;
 use cq_trial_kit::HEADER;
-use cq_trials::{Call, DEFAULTS, Disk, FRAME, Keys, WRITTEN, leaves, leaves_ahead, put_packet};
+use cq_trials::{
+    Call, DEFAULTS, Disk, FRAME, Keys, Left, WRITTEN, leaves, leaves_ahead, put_packet,
+};
 use std::alloc::Global;
 use std::sync::Wait;
 use std::thread::Threads;
@@ -19,6 +20,8 @@ enum Input {
     Long,
     /// A header and ten bytes.
     Cut,
+    /// A header and one byte.
+    OneMore,
     /// A file of one byte more than the limit.
     Above,
     /// A file whose reading fails at its end.
@@ -27,46 +30,47 @@ enum Input {
     Missing,
 }
 
-/// The two inputs, and the status and the line.
-type Case = ([Input; 2], u8, &'static str);
+/// The status and the line.
+type Fault = (u8, &'static str);
+
+const CUT_0: Fault = (3, "capture of input 0: 5 at 24\n");
+
+const CUT_1: Fault = (3, "capture of input 1: 5 at 24\n");
+
+const UNREAD_0: Fault = (5, "read fault: in0.pcap\n");
+
+const UNREAD_1: Fault = (5, "read fault: in1.pcap\n");
+
+const ABOVE_0: Fault = (3, "capture of input 0: 8, limit 40000\n");
+
+const ABOVE_1: Fault = (3, "capture of input 1: 8, limit 40000\n");
+
+const ABOVE_SMALL_0: Fault = (3, "capture of input 0: 8, limit 24\n");
+
+const ABOVE_SMALL_1: Fault = (3, "capture of input 1: 8, limit 24\n");
+
+/// The keys, the two inputs, and what is told.
+type Case = (Keys, [Input; 2], Fault);
 
 const CASES: &[Case] = &[
-    ([Input::Cut, Input::One], 3, "capture of input 0: 5 at 24\n"),
-    (
-        [Input::Empty, Input::Cut],
-        3,
-        "capture of input 1: 5 at 24\n",
-    ),
-    (
-        [Input::Long, Input::Cut],
-        3,
-        "capture of input 1: 5 at 24\n",
-    ),
-    ([Input::Cut, Input::Cut], 3, "capture of input 0: 5 at 24\n"),
-    (
-        [Input::Cut, Input::Missing],
-        3,
-        "capture of input 0: 5 at 24\n",
-    ),
-    (
-        [Input::Cut, Input::Unread],
-        3,
-        "capture of input 0: 5 at 24\n",
-    ),
-    ([Input::Missing, Input::Cut], 5, "read fault: in0.pcap\n"),
-    ([Input::Unread, Input::Cut], 5, "read fault: in0.pcap\n"),
-    ([Input::One, Input::Unread], 5, "read fault: in1.pcap\n"),
-    ([Input::Long, Input::Missing], 5, "read fault: in1.pcap\n"),
-    (
-        [Input::Long, Input::Above],
-        3,
-        "capture of input 1: 8, limit 40000\n",
-    ),
-    (
-        [Input::Above, Input::Missing],
-        3,
-        "capture of input 0: 8, limit 40000\n",
-    ),
+    (LIMITED, [Input::Cut, Input::One], CUT_0),
+    (LIMITED, [Input::Empty, Input::Cut], CUT_1),
+    (LIMITED, [Input::Long, Input::Cut], CUT_1),
+    (LIMITED, [Input::Cut, Input::Cut], CUT_0),
+    (LIMITED, [Input::Cut, Input::Missing], CUT_0),
+    (LIMITED, [Input::Cut, Input::Unread], CUT_0),
+    (LIMITED, [Input::Missing, Input::Cut], UNREAD_0),
+    (LIMITED, [Input::Unread, Input::Cut], UNREAD_0),
+    (LIMITED, [Input::One, Input::Unread], UNREAD_1),
+    (LIMITED, [Input::Long, Input::Missing], UNREAD_1),
+    (LIMITED, [Input::Long, Input::Above], ABOVE_1),
+    (LIMITED, [Input::Above, Input::Missing], ABOVE_0),
+    (DEFAULTS, [Input::Cut, Input::Missing], CUT_0),
+    (DEFAULTS, [Input::Missing, Input::Cut], UNREAD_0),
+    (DEFAULTS, [Input::Empty, Input::Cut], CUT_1),
+    (DEFAULTS, [Input::Empty, Input::Missing], UNREAD_1),
+    (SMALL, [Input::Empty, Input::Cut], ABOVE_SMALL_1),
+    (SMALL, [Input::OneMore, Input::Missing], ABOVE_SMALL_0),
 ];
 
 /// A limit that the longest capture here keeps.
@@ -74,6 +78,18 @@ const LIMITED: Keys = Keys {
     first: "limit_bytes = 40000\n",
     ..DEFAULTS
 };
+
+/// As many bytes as a header has.
+const SMALL: Keys = Keys {
+    first: "limit_bytes = 24\n",
+    ..DEFAULTS
+};
+
+/// A header, and ten bytes of a record's.
+const CUT: &[u8] = &[
+    0x4d, 0x3c, 0xb2, 0xa1, 2, 0, 4, 0, 0, 0, 0, 0, 0, 0, 0, 0, 0, 0, 4, 0, 1, 0, 0, 0, //
+    0, 0, 0, 0, 0, 0, 0, 0, 0, 0,
+];
 
 /// A capture of one packet of 14 bytes.
 const ONE: &[u8] = &[
@@ -102,35 +118,47 @@ fn with_input(disk: Disk, name: &str, input: Input, large: Large) -> Disk {
         Input::Long => disk.holding(&[(name, large.0)]),
         Input::Above => disk.holding(&[(name, large.1)]),
         Input::Cut => disk.holding(&[(name, CUT)]),
+        Input::OneMore => disk.holding(&[(name, &CUT[..25])]),
         Input::Unread => disk.holding(&[(name, &HEADER)]).failing_read(name, 24),
         Input::Missing => disk,
     }
 }
 
 /// A switch of two ports with these inputs.
-fn disk_with(alloc: Global, inputs: [Input; 2], large: Large) -> Disk {
-    let disk = Disk::of_ports(alloc, 2, 1, &LIMITED);
-    let disk = with_input(disk, "in0.pcap", inputs[0], large);
-    with_input(disk, "in1.pcap", inputs[1], large)
+fn disk_with(alloc: Global, case: &Case, large: Large) -> Disk {
+    let (keys, [zero, one], _) = *case;
+    let disk = Disk::of_ports(alloc, 2, 1, &keys);
+    let disk = with_input(disk, "in0.pcap", zero, large);
+    with_input(disk, "in1.pcap", one, large)
 }
 
-/// Whether both commands refuse the inputs with the code and the line, and write nothing.
-fn is_refused<R>(rt: R, alloc: Global, case: &Case, large: Large) -> bool
+/// What is left: nothing is written.
+const NOTHING: Left = (&[], WRITTEN);
+
+/// Whether a command refuses the inputs, and writes nothing.
+fn is_refused<R: Threads + Sync>(
+    rt: &R,
+    alloc: Global,
+    words: &[&str],
+    case: &Case,
+    large: Large,
+) -> bool {
+    let (_, _, (code, line)) = *case;
+    let disk = disk_with(alloc, case, large);
+    leaves(rt, alloc, (words, (code, "", line)), disk, NOTHING)
+}
+
+/// Whether the command that may read ahead does, and the others that read captures.
+fn is_refused_by_all<R>(rt: R, alloc: Global, case: &Case, large: Large) -> bool
 where
     R: Threads + Wait + Sync + Copy + Send + 'static,
 {
-    let (inputs, code, line) = *case;
-    let stream: Call = (&["stream", "c.toml"], (code, "", line));
-    let run: Call = (&["run", "c.toml"], (code, "", line));
-    let streamed = disk_with(alloc, inputs, large);
-    leaves_ahead(rt, alloc, stream, streamed, (&[], WRITTEN))
-        && leaves(
-            &rt,
-            alloc,
-            run,
-            disk_with(alloc, inputs, large),
-            (&[], WRITTEN),
-        )
+    let (_, _, (code, line)) = *case;
+    let call: Call = (&["stream", "c.toml"], (code, "", line));
+    let disk = disk_with(alloc, case, large);
+    leaves_ahead(rt, alloc, call, disk, NOTHING)
+        && is_refused(&rt, alloc, &["ideal", "c.toml"], case, large)
+        && is_refused(&rt, alloc, &["run", "c.toml"], case, large)
 }
 
 fn are_refused<R>(rt: R, alloc: Global, large: Large) -> bool
@@ -138,7 +166,7 @@ where
     R: Threads + Wait + Sync + Copy + Send + 'static,
 {
     for case in CASES {
-        if !is_refused(rt, alloc, case, large) {
+        if !is_refused_by_all(rt, alloc, case, large) {
             return false;
         }
     }
@@ -188,6 +216,6 @@ fn other_words_are_answered_too(rt: HostRuntime) {
     for (words, code, line) in OTHERS {
         let call = (*words, (*code, "", *line));
         let disk = Disk::new(rt.alloc());
-        assert!(rt; leaves_ahead(rt, rt.alloc(), call, disk, (&[], WRITTEN)));
+        assert!(rt; leaves_ahead(rt, rt.alloc(), call, disk, NOTHING));
     }
 }
