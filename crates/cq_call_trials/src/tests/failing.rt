@@ -83,20 +83,12 @@ const STEPS: &[(u64, u64)] = &[
     (2, 3),
 ];
 
-/// Whether a run ends as it should whichever call for the name fails.
-fn each_fails<R: Threads + Sync>(rt: &R, alloc: Global, place: &Place) -> bool {
-    for (step, room) in STEPS {
-        if !fails(rt, alloc, place, *step, *room) {
-            return false;
-        }
-    }
-    true
-}
-
 #[test]
 fn each_outside_call_fails_in_turn(rt: HostRuntime) {
     for place in PLACES {
-        assert!(rt; each_fails(&rt, rt.alloc(), place));
+        for (step, room) in STEPS {
+            assert!(rt; fails(&rt, rt.alloc(), place, *step, *room));
+        }
     }
 }
 
