@@ -164,6 +164,14 @@ impl Plain {
         put_lists(&mut self.lists, alloc, inputs.len())?;
         put_departures(&mut self.trace, &mut self.lists, &self.arrivals)
     }
+
+    /// Whether these cells came, in this order, or none are told.
+    fn came_as(&self, cells: Option<&[Arrival]>) -> bool {
+        match cells {
+            Some(cells) => self.arrivals.as_slice() == cells,
+            None => true,
+        }
+    }
 }
 
 /// A frame of up to 300 bytes, stamped within 4 microseconds of three seconds.
@@ -219,11 +227,17 @@ fn both_write<R: Threads + Sync>(rt: &R, alloc: Global, inputs: &[&[Frame]], tra
     writes(rt, alloc, "ideal", inputs, trace) && writes(rt, alloc, "run", inputs, trace)
 }
 
-/// Whether the program writes the plain switch's trace, by either switch.
-fn agrees<R: Threads + Sync>(rt: &R, alloc: Global, inputs: &[&[Frame]]) -> bool {
+/// Whether the program writes the plain switch's trace, by either switch, and the cells come so to the plain switch, if
+/// these are told.
+fn agrees<R: Threads + Sync>(
+    rt: &R,
+    alloc: Global,
+    inputs: &[&[Frame]],
+    cells: Option<&[Arrival]>,
+) -> bool {
     let mut plain = Plain::new(alloc);
     match plain.run(alloc, inputs) {
-        Ok(()) => both_write(rt, alloc, inputs, &plain.trace),
+        Ok(()) => plain.came_as(cells) && both_write(rt, alloc, inputs, &plain.trace),
         Err(_) => false,
     }
 }
@@ -261,30 +275,17 @@ const LINES: &[Line] = &[
     ),
 ];
 
-/// Whether the cells of the one input come in these slots, also in the program.
-fn comes_so<R: Threads + Sync>(rt: &R, alloc: Global, line: &Line) -> bool {
-    let (frames, cells) = *line;
-    let inputs = [frames];
-    let mut plain = Plain::new(alloc);
-    match plain.run(alloc, &inputs) {
-        Ok(()) => {
-            plain.arrivals.as_slice() == cells && both_write(rt, alloc, &inputs, &plain.trace)
-        }
-        Err(_) => false,
-    }
-}
-
 #[test]
 fn one_line_is_as_in_the_plain_switch(rt: HostRuntime) {
-    for line in LINES {
-        assert!(rt; comes_so(&rt, rt.alloc(), line));
+    for (frames, cells) in LINES {
+        assert!(rt; agrees(&rt, rt.alloc(), &[*frames], Some(*cells)));
     }
 }
 
 #[test]
 fn worked_runs_are_as_in_the_plain_switch(rt: HostRuntime) {
     for run in RUNS {
-        assert!(rt; agrees(&rt, rt.alloc(), run.inputs));
+        assert!(rt; agrees(&rt, rt.alloc(), run.inputs, None));
     }
 }
 
@@ -300,7 +301,7 @@ fn put_slices<'a>(inputs: &mut Vec<&'a [Frame]>, drawn: &'a [Vec<Frame>]) -> Res
 fn agrees_on<R: Threads + Sync>(rt: &R, alloc: Global, drawn: &[Vec<Frame>]) -> bool {
     let mut inputs = Vec::new(alloc);
     match put_slices(&mut inputs, drawn) {
-        Ok(()) => agrees(rt, alloc, &inputs),
+        Ok(()) => agrees(rt, alloc, &inputs, None),
         Err(_) => false,
     }
 }
