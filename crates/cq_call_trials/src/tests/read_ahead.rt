@@ -110,17 +110,26 @@ fn put_long(capture: &mut Vec<u8>) -> Result<(), NoMemory> {
 /// A capture of more packets than are read at once, and a file above the limit.
 type Large<'a> = (&'a [u8], &'a [u8]);
 
+/// The bytes of an input, where it is there.
+fn bytes_of<'a>(input: Input, large: Large<'a>) -> &'a [u8] {
+    match input {
+        Input::One => ONE,
+        Input::Long => large.0,
+        Input::Above => large.1,
+        Input::Cut => CUT,
+        Input::OneMore => &CUT[..25],
+        Input::Empty | Input::Unread | Input::Missing => &HEADER,
+    }
+}
+
 /// The disk with what stands under the name of an input.
 fn with_input(disk: Disk, name: &str, input: Input, large: Large) -> Disk {
     match input {
-        Input::Empty => disk.holding(&[(name, &HEADER)]),
-        Input::One => disk.holding(&[(name, ONE)]),
-        Input::Long => disk.holding(&[(name, large.0)]),
-        Input::Above => disk.holding(&[(name, large.1)]),
-        Input::Cut => disk.holding(&[(name, CUT)]),
-        Input::OneMore => disk.holding(&[(name, &CUT[..25])]),
-        Input::Unread => disk.holding(&[(name, &HEADER)]).failing_read(name, 24),
         Input::Missing => disk,
+        Input::Unread => disk
+            .holding(&[(name, bytes_of(input, large))])
+            .failing_read(name, 24),
+        _ => disk.holding(&[(name, bytes_of(input, large))]),
     }
 }
 
@@ -148,7 +157,7 @@ fn is_refused<R: Threads + Sync>(
     leaves(rt, alloc, (words, (code, "", line)), disk, NOTHING)
 }
 
-/// Whether the command that may read ahead does, and the others that read captures.
+/// Whether `stream`, which may read ahead, does, and `ideal` and `run`.
 fn is_refused_by_all<R>(rt: R, alloc: Global, case: &Case, large: Large) -> bool
 where
     R: Threads + Wait + Sync + Copy + Send + 'static,
