@@ -3,6 +3,16 @@ use cq_trials::{Keys, RUNS, RUNS_BY_KEYS, Run, TWO_FOR_ONE};
 use std::alloc::Global;
 use std::thread::Threads;
 
+/// The worked runs by defaults. The tests ask for them, so that the table stands in one proof alone.
+pub(super) fn by_defaults() -> &'static [Run] {
+    RUNS
+}
+
+/// The worked runs by keys.
+pub(super) fn by_keys() -> &'static [Run] {
+    RUNS_BY_KEYS
+}
+
 /// Whether both switches write the run, the crossbar switch with 1, 2 and 64 workers, and audits say yes.
 fn is_written<R: Threads + Sync>(rt: &R, alloc: Global, run: &Run) -> bool {
     run.is_ideal(rt, alloc)
@@ -13,7 +23,7 @@ fn is_written<R: Threads + Sync>(rt: &R, alloc: Global, run: &Run) -> bool {
 
 #[test]
 fn both_switches_write_worked_runs_whatever_the_workers_and_audits_say_yes(rt: HostRuntime) {
-    for run in RUNS.iter().chain(RUNS_BY_KEYS) {
+    for run in by_defaults().iter().chain(by_keys()) {
         assert!(rt; is_written(&rt, rt.alloc(), run), "{}", run.shows);
     }
 }
@@ -25,7 +35,7 @@ fn goes_on<R: Threads + Sync>(rt: &R, alloc: Global, run: &Run) -> bool {
 
 #[test]
 fn worked_runs_go_on_after_a_stop(rt: HostRuntime) {
-    for run in RUNS.iter().chain(RUNS_BY_KEYS) {
+    for run in by_defaults().iter().chain(by_keys()) {
         assert!(rt; goes_on(&rt, rt.alloc(), run));
     }
 }
@@ -42,7 +52,7 @@ fn is_the_same<R: Threads + Sync>(rt: &R, alloc: Global, run: &Run) -> bool {
 
 #[test]
 fn version_two_without_levels_is_version_one(rt: HostRuntime) {
-    for run in RUNS.iter().chain(RUNS_BY_KEYS) {
+    for run in by_defaults().iter().chain(by_keys()) {
         assert!(rt; is_the_same(&rt, rt.alloc(), run));
     }
 }

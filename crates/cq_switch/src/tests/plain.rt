@@ -5,9 +5,10 @@
 //! sorts a list whenever a cell comes. Slots, cells and outputs are those of the configuration of `cq_trials`.
 ghost use Rattle.std.specs.Prelude.{◌<◌};
 
+use super::crossed::by_defaults;
 use cq_base::NoMemory;
 use cq_trial_kit::Draws;
-use cq_trials::{DEFAULTS, Disk, Frame, Left, RUNS, passes};
+use cq_trials::{DEFAULTS, Disk, Frame, Left, passes};
 use std::alloc::Global;
 use std::thread::Threads;
 
@@ -284,7 +285,7 @@ fn one_line_is_as_in_the_plain_switch(rt: HostRuntime) {
 
 #[test]
 fn worked_runs_are_as_in_the_plain_switch(rt: HostRuntime) {
-    for run in RUNS {
+    for run in by_defaults() {
         assert!(rt; agrees(&rt, rt.alloc(), run.inputs, None));
     }
 }

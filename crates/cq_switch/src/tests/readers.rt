@@ -1,8 +1,9 @@
 //! Captures are decoded by readers ahead of the engine, and two of them are at work at once.
 
+use super::crossed::{by_defaults, by_keys};
 use cq_base::Port;
 use cq_stream::{OpenWatch, Watch};
-use cq_trials::{RUNS, RUNS_BY_KEYS, TWO_FOR_ONE};
+use cq_trials::TWO_FOR_ONE;
 use std::alloc::Global;
 use std::sync::atomic::AtomicU64;
 use std::sync::atomic::Ordering::SeqCst;
@@ -112,7 +113,7 @@ fn readers_meet(rt: HostRuntime) {
 
 #[test]
 fn worked_runs_are_the_same_where_captures_are_read_ahead(rt: HostRuntime) {
-    for run in RUNS.iter().chain(RUNS_BY_KEYS) {
+    for run in by_defaults().iter().chain(by_keys()) {
         assert!(rt; run.streams(rt, rt.alloc(), &OpenWatch));
     }
 }
