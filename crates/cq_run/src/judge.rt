@@ -44,17 +44,17 @@ pub fn judge<R: Threads + Sync, F: Files, G: Gate>(
     match command {
         Command::Pass { from, to } => pass(rt, alloc, files, from, to, gate),
         Command::Check { config } => check(alloc, files, config),
-        Command::Ideal { config } => over(rt, alloc, files, config, Asked::Ideal, gate),
-        Command::Run { config } => over(rt, alloc, files, config, Asked::Run, gate),
+        Command::Ideal { config } => judge_configured(rt, alloc, files, config, Asked::Ideal, gate),
+        Command::Run { config } => judge_configured(rt, alloc, files, config, Asked::Run, gate),
         Command::Soak { seed, ports, slots } => soak(rt, alloc, seed, ports, slots, gate),
-        Command::Audit { config } => over(rt, alloc, files, config, Asked::Audit, gate),
+        Command::Audit { config } => judge_configured(rt, alloc, files, config, Asked::Audit, gate),
         Command::Part {
             config,
             slots,
             state,
-        } => over(rt, alloc, files, config, Asked::Part { slots, state }, gate),
+        } => judge_configured(rt, alloc, files, config, Asked::Part { slots, state }, gate),
         Command::Resume { config, state } => {
-            over(rt, alloc, files, config, Asked::Resume { state }, gate)
+            judge_configured(rt, alloc, files, config, Asked::Resume { state }, gate)
         }
     }
 }
@@ -156,7 +156,7 @@ enum Asked {
 }
 
 // What a command comes to that asks this of a configuration.
-fn over<R: Threads + Sync, F: Files, G: Gate>(
+fn judge_configured<R: Threads + Sync, F: Files, G: Gate>(
     rt: &R,
     alloc: Global,
     files: &mut F,
@@ -169,13 +169,13 @@ fn over<R: Threads + Sync, F: Files, G: Gate>(
     ensures { IsJudged F.space F.may_fail F.unbegun InTurn (command_asking config asked) files.old files.new result }
 {
     let tables = read_configuration(alloc, files, config)?;
-    let work = over_tables(rt, alloc, files, &tables, asked, gate);
+    let work = judge_tables(rt, alloc, files, &tables, asked, gate);
     drop(tables);
     work
 }
 
 // The same, over the tables of the configuration: the captures of their ports are read next.
-fn over_tables<R: Threads + Sync, F: Files, G: Gate>(
+fn judge_tables<R: Threads + Sync, F: Files, G: Gate>(
     rt: &R,
     alloc: Global,
     files: &mut F,
@@ -193,12 +193,12 @@ fn over_tables<R: Threads + Sync, F: Files, G: Gate>(
         IsJudged F.space F.may_fail F.unbegun InTurn (command_asking config asked) start files.new result }
 {
     let captures = read_inputs(alloc, files, tables)?;
-    over_given(rt, alloc, files, tables, captures, asked, gate)
+    judge_captures(rt, alloc, files, tables, captures, asked, gate)
 }
 
 // The same, of what the configuration gave. What more a command reads is read next. The captures are given up on the
 // way.
-fn over_given<R: Threads + Sync, F: Files, G: Gate>(
+fn judge_captures<R: Threads + Sync, F: Files, G: Gate>(
     rt: &R,
     alloc: Global,
     files: &mut F,

@@ -36,4 +36,5 @@ returns-in_err-tables g c = rw (exit_is _ c.from_residual.ensures.1) (read_ends 
 
 pub returns : goal.returns
 returns g c = at_line g.met.F.Files.lasts_unbegun c.requires c.read_configuration.ensures.kept
-    c.in_ok-tables.ensures.judges c.say_check-work.result c.say_check-work.ensures.checked c.say_check-work.ensures.memory
+    c.in_ok-tables.ensures.judges c.say_check-work.result c.say_check-work.ensures.checked
+    c.say_check-work.ensures.memory

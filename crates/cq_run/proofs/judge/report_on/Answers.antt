@@ -12,5 +12,5 @@ module _ (t : Tables) (captures : List (List Captured)) (x : Crossed) (is : IsCr
 
 pub returns-clause-meets : goal.returns-clause-meets
 returns-clause-meets g c = meets c.args.soak.now.tables c.args.soak.now.captures.items c.in_ok-crossed.crossed
-    (rw c.deref.ensures.value at c.in_ok-crossed.ensures.crossed) c.report_of-work.result c.report_of-work.ensures.writes
-    c.report_of-work.ensures.text
+    (rw c.deref.ensures.value at c.in_ok-crossed.ensures.crossed) c.report_of-work.result
+    c.report_of-work.ensures.writes c.report_of-work.ensures.text

@@ -1,7 +1,7 @@
 use Rattle.cq_run.proofs.Planned.{at_text, ideal_judged, part_judged, resume_judged, run_judged}
 use Rattle.cq_run.proofs.Told.{exit_is}
 use Rattle.cq_run.proofs.Reached.{read_ends}
-use Rattle.cq_run.proofs.judge.over_given.Goals as goal
+use Rattle.cq_run.proofs.judge.judge_captures.Goals as goal
 
 pub returns-in-Ideal : goal.returns-in-Ideal
 returns-in-Ideal g c = λ config start is. rw c.in-Ideal.is
@@ -27,7 +27,8 @@ returns-in-Part g c = λ config start is. rw c.in-Part.is
 
 pub returns-in_ok-text-in-Resume : goal.returns-in_ok-text-in-Resume
 returns-in_ok-text-in-Resume g c = λ config start is. rw c.in-Resume.is (resume_judged is _ g.met.F.Files.lasts_unbegun
-    c.read_stopped.ensures.kept c.in_ok-text-in-Resume.ensures.judges _ c.go_on.ensures.resuming c.go_on.ensures.refused)
+    c.read_stopped.ensures.kept c.in_ok-text-in-Resume.ensures.judges _ c.go_on.ensures.resuming
+    c.go_on.ensures.refused)
 
 pub returns-in_err-text-in-Resume : goal.returns-in_err-text-in-Resume
 returns-in_err-text-in-Resume g c = λ config start is. rw (c.in-Resume.is, exit_is _ c.from_residual.ensures.1)
