@@ -93,7 +93,7 @@ def configuration_of(name: str, tables: dict[str, Any]) -> Configuration:
             text(tables["log"]),
             [text(port["read"]) if "read" in port else None for port in ports],
             [port.get("discipline", "first-come") for port in ports],
-            [port.get("limit") for port in ports],
+            [whole(port["limit"]) if "limit" in port else None for port in ports],
             tables.get("class", [{}]),
             (tables.get("default_output", 0), tables.get("default_class", 0)),
             switch_model.Switch({**tables, "default_output": None, "default_class": None}, []),
@@ -110,27 +110,36 @@ def read_configuration(name: str) -> Configuration:
 
 
 def judge(configuration: Configuration) -> None:
-    """Refuses ports and classes that are not there, and disciplines that are none."""
+    """Refuses ports and classes that are not there, disciplines that are none, and classes whose numbers are none."""
     ports, kinds = configuration.ports, len(configuration.classes)
     outputs = [row["output"] for row in configuration.tables.get("address", [])] + [configuration.defaults[0]]
     given = [row["class"] for row in configuration.tables.get("rule", [])] + [configuration.defaults[1]]
-    if not ports or not all(0 <= output < ports for output in outputs):
+    if not ports or not all(whole(output, 0) < ports for output in outputs):
         raise ValueError("no such port")
-    if not all(0 <= kind < kinds for kind in given):
+    if not all(whole(kind, 0) < kinds for kind in given):
         raise ValueError("no such class")
     if not set(configuration.disciplines) <= {"first-come", "priority", "fair"}:
         raise ValueError("no such discipline")
+    for row in configuration.classes:
+        wide(row.get("priority", 0), 0)
+        wide(row.get("cost", 1), 1)
+        whole(row.get("level", 0), 0)
 
 
-def whole(value: Any) -> int:
-    """A number that is at least 1."""
-    if not isinstance(value, int) or value < 1:
-        raise ValueError(f"{value!r} is no number from 1 on")
+def whole(value: Any, least: int = 1) -> int:
+    """A number that is at least this."""
+    if not isinstance(value, int) or value < least:
+        raise ValueError(f"{value!r} is no number from {least} on")
     return value
+
+
+def wide(value: Any, least: int) -> int:
+    """The same, or a text of such a number."""
+    return whole(int(value) if isinstance(value, str) else value, least)
 
 
 def text(value: Any) -> str:
     """A name of a file."""
-    if not isinstance(value, str) or not value:
+    if not isinstance(value, str) or not value or "\0" in value:
         raise ValueError(f"{value!r} is no name of a file")
     return value

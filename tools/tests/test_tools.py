@@ -24,6 +24,7 @@ from cq.toml import toml_text
 from switch_model import Switch
 
 HEADER = bytes.fromhex("4d3cb2a1 02000400 00000000 00000000 00000400 01000000")
+ONE_PORT = "version = 2\ntrace = 't'\nlog = 'l'\n[[port]]\nwrite = 'o'\n"
 
 
 def frame(output: int, urgent: bool, length: int = 60) -> bytes:
@@ -216,6 +217,17 @@ class Stats(InFolder):
             (
                 "version = 1",
                 "switch.toml: not the tables of a switch ('port'); docs/FORMATS.md has them",
+            ),
+            *(
+                (f"{ONE_PORT}{more}", f"switch.toml: not the tables of a switch ({why}); docs/FORMATS.md has them")
+                for more, why in (
+                    ("limit = '1'", "'1' is no number from 1 on"),
+                    ("[[class]]\nlevel = '1'", "'1' is no number from 0 on"),
+                    ("[[class]]\npriority = 0.5", "0.5 is no number from 0 on"),
+                    ("[[class]]\ncost = '0'", "0 is no number from 1 on"),
+                    ("[[rule]]\nclass = 0.0", "0.0 is no number from 0 on"),
+                    ('read = "a\\u0000b"', r"'a\x00b' is no name of a file"),
+                )
             ),
         ):
             with open("switch.toml", "w", encoding="ascii") as file:
