@@ -28,7 +28,7 @@ from typing import Any
 from cq import ROOT
 from cq.config import configuration_of, load
 from cq.faults import Fault, guarded
-from cq.toml import toml_text
+from cq.toml import is_rows, toml_text
 
 ONE = os.path.join(os.path.dirname(os.path.realpath(__file__)), "sweep_one.py")
 LAUNCHER = shlex.quote(os.path.join(ROOT, "cq_switch"))
@@ -58,8 +58,10 @@ def bits_of(text: str) -> Fraction:
     return Fraction(match[1]) * PREFIXES[match[2]]
 
 
-def slot_of(rate: str, cell_bytes: int) -> int:
+def slot_of(rate: str, cell_bytes: int | str) -> int:
     """The whole nanoseconds that are next to what a cell takes on such a line."""
+    if not isinstance(cell_bytes, int):
+        raise Fault(f"cell_bytes={cell_bytes}: it is to be a number")
     slot_ns = round(Fraction(8 * 10**9 * cell_bytes) / bits_of(rate))
     if slot_ns < 1:
         raise Fault(f"line_rate={rate}: a cell of {cell_bytes} bytes takes less than a nanosecond")
@@ -78,7 +80,7 @@ def rows_of(tables: dict[str, Any], key: str) -> tuple[list[dict[str, Any]], str
         if not re.fullmatch(r"\w+", key):
             raise Fault(f"{key}: a key is as cell_bytes, port[1].discipline or port[*].discipline")
         return [tables], key
-    rows = tables.get(match[1], [])
+    rows = tables[match[1]] if is_rows(tables.get(match[1])) else []
     if match[2] != "*":
         rows = rows[int(match[2]) : int(match[2]) + 1]
     if not rows:
@@ -100,7 +102,7 @@ def chosen(tables: dict[str, Any], choice: Choice, folder: str) -> dict[str, Any
         made["slot_ns"] = slot_of(choice["line_rate"], made.get("cell_bytes", 64))
     for name in ("trace", "log"):
         made[name] = os.path.join(folder, name + ".txt")
-    for number, port in enumerate(made.get("port", [])):
+    for number, port in enumerate(rows_of(made, "port[*].write")[0]):
         port["write"] = os.path.join(folder, f"out{number}.pcap")
     return made
 

@@ -2,14 +2,21 @@
 
 from typing import Any
 
+from .faults import Fault
+
 ESCAPES = {"\\": "\\\\", '"': '\\"', "\n": "\\n", "\r": "\\r", "\t": "\\t"}
+
+
+def is_rows(value: Any) -> bool:
+    """Whether it is an array of tables."""
+    return isinstance(value, list) and all(isinstance(row, dict) for row in value)
 
 
 def toml_text(tables: dict[str, Any]) -> str:
     """A document with keys of numbers and texts, and arrays of tables of such keys."""
-    lines = [f"{key} = {value_text(value)}" for key, value in tables.items() if not isinstance(value, list)]
+    lines = [f"{key} = {value_text(value)}" for key, value in tables.items() if not is_rows(value)]
     for key, rows in tables.items():
-        if isinstance(rows, list):
+        if is_rows(rows):
             for row in rows:
                 lines += [f"\n[[{key}]]"] + [f"{name} = {value_text(value)}" for name, value in row.items()]
     return "\n".join(lines) + "\n"
@@ -18,7 +25,7 @@ def toml_text(tables: dict[str, Any]) -> str:
 def value_text(value: Any) -> str:
     """A number or a text."""
     if isinstance(value, bool) or not isinstance(value, (int, str)):
-        raise TypeError(f"{value!r} is neither a number nor a text")
+        raise Fault(f"{value!r} is neither a number nor a text, and a configuration has no other values")
     return str(value) if isinstance(value, int) else '"' + "".join(map(escaped, value)) + '"'
 
 

@@ -303,6 +303,10 @@ class Sweeps(InFolder):
             {"rule[*].class": "1"},
             {"port.discipline": "fair"},
             {"slot_ns": "1", "line_rate": "1G"},
+            {"cell_bytes": "48x", "line_rate": "1G"},
+            {"trace[0].cost": "1"},
+            {"cell_bytes[0].cost": "1"},
+            {"port": "1"},
         ):
             with self.assertRaises(Fault):
                 sweep.chosen(tables, choice, "out")
@@ -376,6 +380,9 @@ class Parts(unittest.TestCase):
             "port": [{"write": "out"}, {"write": "more", "read": "in"}],
         }
         self.assertEqual(tomllib.loads(toml_text(tables)), tables)
+        for value in (True, 1.5, [1], {}):
+            with self.assertRaises(Fault):
+                toml_text({"slot_ns": value})
 
 
 if __name__ == "__main__":
