@@ -253,6 +253,8 @@ def read_rows(name: str, where: dict[str, str], keys: Iterable[str]) -> list[Row
             rows = list(csv.DictReader(file))
     except OSError as error:
         raise Fault(f"{name}: {reason(error)}") from None
+    except UnicodeDecodeError:
+        raise Fault(f"{name}: no text") from None
     missing = [key for key in keys if not rows or key not in rows[0]]
     if missing:
         raise Fault(f"{name}: no column {missing[0]}; it has {', '.join(rows[0]) if rows else 'no row'}")
@@ -270,7 +272,10 @@ class Sweep:
                 line = self.lines.setdefault(tuple(row[key] for key in by), {})
                 if row[x] in line:
                     raise Fault(f"{name}: several rows for {x} = {row[x]}; tell them apart by --by or --where")
-                line[row[x]] = float(row[y])
+                figure = number_of(row[y])
+                if figure is None:
+                    raise Fault(f"{name}: {y} is no figure, as {row[y]} shows")
+                line[row[x]] = figure
         if not self.lines:
             raise Fault(f"{name}: no row has a figure {y} there")
         self.values = list(dict.fromkeys(value for line in self.lines.values() for value in line))

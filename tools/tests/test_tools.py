@@ -333,6 +333,7 @@ class Sweeps(InFolder):
             ("cell", "wait", [], {}),
             ("cell_bytes", "wait", ["output"], {"output": "7"}),
             ("class", "wait", ["class"], {"output": "0"}),
+            ("cell_bytes", "output", [], {}),
         ):
             with self.assertRaises(Fault):
                 plot.Sweep("sweep.csv", x, y, by, where)
