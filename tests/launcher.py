@@ -59,12 +59,13 @@ class Launcher(unittest.TestCase):
         with open(os.path.join(self.folder, name), "w", encoding="utf-8") as file:
             file.write(text)
 
-    def call(self, line, *words, status=3, is_seen=True, path=None):
-        """The status, and what is on standard error."""
+    def call(self, line, *words, status=3, is_seen=True, path=None, before=None):
+        """The status, and what is on standard error. Something may be done before it is called, as to close a stream."""
         above, below = pty.openpty() if is_seen else os.pipe()
         surroundings = {**os.environ, "LINE": line, "STATUS": str(status), "PATH": path or os.environ["PATH"]}
         done = subprocess.run([os.path.join(self.folder, "cq_switch"), *words], cwd=self.folder, env=surroundings,
-                              stdin=subprocess.DEVNULL, stdout=subprocess.DEVNULL, stderr=below, check=False)
+                              stdin=subprocess.DEVNULL, stdout=subprocess.DEVNULL, stderr=below, check=False,
+                              preexec_fn=before)
         os.close(below)
         return done.returncode, everything(above).decode().replace("\r\n", "\n")
 
@@ -98,6 +99,10 @@ class Launcher(unittest.TestCase):
     def test_a_pipe_gets_the_line_alone(self):
         self.put("c.toml", CONFIGURATIONS["one line"])
         self.assertEqual(self.call(REFUSED, "run", "c.toml", is_seen=False), (3, f"{REFUSED}\n"))
+
+    def test_a_closed_standard_output_is_the_programs_to_tell(self):
+        line = "write fault: -"
+        self.assertEqual(self.call(line, "run", "c.toml", status=6, before=lambda: os.close(1)), (6, f"{line}\n"))
 
     def test_each_status_has_its_words(self):
         for line, status, words in (
