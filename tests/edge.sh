@@ -1,6 +1,7 @@
 #!/usr/bin/env bash
 # tests/edge.sh [PROGRAM]: runs the built program where it meets the system, and checks its status, its line and the files.
-# It is no part of the gate: what it needs (a full device, pipes, a limit on the length of files) not every machine has.
+# It is no part of the gate: what it needs (devices that are full or have no end, pipes, a limit on the length of files) not
+# every machine has.
 # It prints one line a case, and ends with 1 where one differs.
 set -u
 
@@ -82,6 +83,17 @@ if [[ -c /dev/full ]]; then
     "$program" soak 1 2 10 >/dev/full 2>err
     status=$?
     want 'standard output on a full device' 6 'write fault: -'
+fi
+if [[ -c /dev/zero ]]; then
+    run check /dev/zero
+    want 'a configuration without an end' 2 'configuration: C10 at -'
+    run pass /dev/zero b
+    want 'a capture without an end' 3 'capture of input 0: 8, limit 67108864'
+    sed 's,"trace.txt","/dev/zero",' c.toml >endless.toml
+    run audit endless.toml
+    want 'a trace without an end' 8 'audit: A6 trace'
+    run resume c.toml /dev/zero
+    want 'a state without an end' 9 'state: S4'
 fi
 "$program" soak 1 2 10 >&- 2>err
 status=$?
