@@ -239,7 +239,7 @@ class Stats:
         return row
 
     def _load(self, cells: int) -> float:
-        """The share of the slots in which a line carries a cell."""
+        """The share of the slots in which one of these cells, admitted or sent, is on its line."""
         return round(cells / self.slots, 3) if self.slots else 0.0
 
     def _output_row(self, j: int, flow: Flow) -> Row:
