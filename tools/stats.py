@@ -302,7 +302,7 @@ def document_of(configuration: Configuration, with_log: bool = True) -> dict[str
 
 
 def write_csv(folder: str, configuration: Configuration, with_log: bool) -> None:
-    """Writes a CSV of each table, and one of all packets in the order in which they left."""
+    """Writes a CSV of each table, and one of all packets in the order in which they left or were refused."""
     os.makedirs(folder, exist_ok=True)
     run, stats = stats_of(configuration, with_log)
     with ExitStack() as files:
