@@ -3,10 +3,10 @@
 
     drawn.py [--seed SEED] [--count COUNT]
 
-For each switch the model of the fabric writes the files of a run, and notes its figures slot by slot from whole
-lists and buffers; `stats.py` has to find the same figures in the files. Each cheaper switch has to send each cell
-once, from its arrival on, with one cell at most from an input and to an output in a slot, and a maximal one leaves no
-cell waiting whose input and output are both free.
+For each switch, with limits and levels or without, the model of the fabric writes the files of a run, and notes its
+figures slot by slot from whole lists and buffers; `stats.py` has to find the same figures in the files. Each cheaper
+switch has to send each cell once, from its arrival on, with one cell at most from an input and to an output in a slot,
+and a maximal one leaves no cell waiting whose input and output are both free.
 """
 
 import argparse
@@ -28,10 +28,24 @@ from cq.config import read_configuration
 from cq.toml import toml_text
 
 from fabric_model import Fabric
-from switch_model import Switch
+from switch_model import Limits, Switch
 
 STATIONS = 8
 MAGICS = {("<", 1000): "d4c3b2a1", ("<", 1): "4d3cb2a1"}
+
+
+class Noted(Limits):
+    """Limits that note the cells which they refuse."""
+
+    def __init__(self, limits: list[int | None]) -> None:
+        super().__init__(limits)
+        self.cells: list[Any] = []
+
+    def admits(self, cell: Any, held: int) -> bool:
+        is_admitted = super().admits(cell, held)
+        if not is_admitted:
+            self.cells.append(cell)
+        return is_admitted
 
 
 class Watched(Fabric):
@@ -39,6 +53,7 @@ class Watched(Fabric):
 
     def __init__(self, switch: Switch) -> None:
         super().__init__(switch)
+        self.limits = Noted(switch.limits)
         self.lengths: list[list[int]] = [[] for _ in self.ports]  # per input, after the arrivals of each slot
         self.kept: list[list[int]] = [[] for _ in self.ports]  # per output, at the end of each slot
         self.peaks = [0 for _ in self.ports]
@@ -62,7 +77,7 @@ class Watched(Fabric):
 
 def drawn_tables(draw: random.Random) -> dict[str, Any]:
     """A configuration of one to six ports."""
-    ports, kinds = draw.randint(1, 6), draw.randint(1, 4)
+    ports, kinds, version = draw.randint(1, 6), draw.randint(1, 4), draw.choice((1, 2))
     rules = [
         {
             key: value
@@ -78,17 +93,22 @@ def drawn_tables(draw: random.Random) -> dict[str, Any]:
         for _ in range(draw.randrange(4))
     ]
     return {
-        "version": 1,
+        "version": version,
         "cell_bytes": draw.choice((24, 48, 64, 100)),
         "slot_ns": draw.choice((1, 100, 512, 5000)),
         "default_output": draw.randrange(ports),
         "default_class": draw.randrange(kinds),
         "trace": "trace.txt",
         "log": "log.txt",
-        "class": [{"priority": draw.randrange(4), "cost": draw.randint(1, 5)} for _ in range(kinds)],
+        "class": [
+            {"priority": draw.randrange(4), "cost": draw.randint(1, 5)}
+            | ({"level": draw.choice((0, 1, 15))} if version == 2 else {})
+            for _ in range(kinds)
+        ],
         "port": [
             ({"read": f"in{i}.pcap"} if draw.random() < 0.9 else {})
             | {"write": f"out{i}.pcap", "discipline": draw.choice(("first-come", "priority", "fair"))}
+            | ({"limit": draw.choice((1, 2, 3, 8))} if draw.random() < 0.3 else {})
             for i in range(ports)
         ],
         "address": [
@@ -146,7 +166,8 @@ def flows_of(fabric: Watched) -> list[dict[str, Any]]:
     for output in [*fabric.ports, "all"]:
         for kind in [*range(len(switch.classes)), "all"]:
             sent = [(slot, q) for slot, at, q in fabric.sent if output in (at, "all") and kind in (q.cell.kind, "all")]
-            if sent or (output, kind) == ("all", "all"):
+            lost = [c for c in fabric.limits.cells if output in (c.output, "all") and kind in (c.kind, "all")]
+            if sent or lost or (output, kind) == ("all", "all"):
                 waits = [slot - q.slot for slot, q in sent]
                 delays = [
                     switch.t0 + slot * switch.slot_ns - switch.captures[q.input][q.cell.packet].stamp
@@ -155,6 +176,7 @@ def flows_of(fabric: Watched) -> list[dict[str, Any]]:
                 ]
                 rows.append(
                     {"output": output, "class": kind, "packets": len(delays), "cells": len(waits)}
+                    | {"refused_packets": sum(cell.index == 0 for cell in lost), "refused_cells": len(lost)}
                     | four(waits, "wait", "slots")
                     | four([wait * switch.slot_ns for wait in waits], "wait", "ns")
                     | four(delays, "delay", "ns")
@@ -172,6 +194,7 @@ def outputs_of(fabric: Watched, slots: int) -> list[dict[str, Any]]:
                 "output": j,
                 "cells": cells,
                 "idle_slots": slots - cells,
+                "load": round(cells / slots, 3) if slots else 0.0,
                 "buffer_peak": fabric.peaks[j],
                 "buffer_mean": round(sum(fabric.kept[j]) / slots, 3) if slots else 0.0,
                 "packets": sum(output == j and queued.cell.last for _, output, queued in fabric.sent),
@@ -196,6 +219,7 @@ def inputs_of(fabric: Watched, slots: int) -> list[dict[str, Any]]:
                 "input": i,
                 "packets": len(packets),
                 "cells": fabric.cells[i],
+                "load": round(fabric.cells[i] / slots, 3) if slots else 0.0,
                 "list_peak": fabric.longest[i],
                 "list_mean": round(sum(fabric.lengths[i]) / slots, 3) if slots else 0.0,
                 "slack_least": fabric.slack[i],
