@@ -95,6 +95,10 @@ class Launcher(unittest.TestCase):
         self.assertEqual(self.call(line, "pass", "in.pcap", "out.pcap")[1],
                          f"{line}\n  in.pcap ends inside a packet: editcap -F pcap keeps the whole ones;"
                          " docs/FORMATS.md, \"Reading\"\n")
+        line = "capture of input 0: 8, limit 67108864"
+        self.assertEqual(self.call(line, "pass", "in.pcap", "out.pcap")[1],
+                         f"{line}\n  in.pcap has more than 67108864 bytes: take a part of it, or set limit_bytes;"
+                         " docs/FORMATS.md, \"Reading\"\n")
 
     def test_a_pipe_gets_the_line_alone(self):
         self.put("c.toml", CONFIGURATIONS["one line"])
