@@ -97,8 +97,14 @@ class Launcher(unittest.TestCase):
                          " docs/FORMATS.md, \"Reading\"\n")
         line = "capture of input 0: 8, limit 67108864"
         self.assertEqual(self.call(line, "pass", "in.pcap", "out.pcap")[1],
-                         f"{line}\n  in.pcap has more than 67108864 bytes: take a part of it, or set limit_bytes;"
+                         f"{line}\n  in.pcap has more than 67108864 bytes: take a part of it;"
                          " docs/FORMATS.md, \"Reading\"\n")
+
+    def test_a_long_capture_of_a_configuration_may_have_another_limit(self):
+        line = "capture of input 0: 8, limit 1000"
+        self.assertEqual(self.call(line, "run", "none.toml")[1],
+                         f"{line}\n  the capture of input 0 has more than 1000 bytes: take a part of it,"
+                         " or set limit_bytes; docs/FORMATS.md, \"Reading\"\n")
 
     def test_a_pipe_gets_the_line_alone(self):
         self.put("c.toml", CONFIGURATIONS["one line"])
