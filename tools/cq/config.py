@@ -1,5 +1,6 @@
 """A configuration, as the tools need it. `cq_switch check` judges it; here only what would mislead is refused."""
 
+import re
 import tomllib
 from dataclasses import dataclass
 from typing import Any, NamedTuple
@@ -128,14 +129,16 @@ def judge(configuration: Configuration) -> None:
 
 def whole(value: Any, least: int = 1) -> int:
     """A number that is at least this."""
-    if not isinstance(value, int) or value < least:
+    if isinstance(value, bool) or not isinstance(value, int) or value < least:
         raise ValueError(f"{value!r} is no number from {least} on")
     return value
 
 
 def wide(value: Any, least: int) -> int:
-    """The same, or a text of such a number."""
-    return whole(int(value) if isinstance(value, str) else value, least)
+    """The same, or a text of its digits."""
+    if isinstance(value, str) and re.fullmatch("[0-9]{1,39}", value):
+        value = int(value)
+    return whole(value, least)
 
 
 def text(value: Any) -> str:
