@@ -2,16 +2,17 @@
 -- with the same digits are one. Digits with more digits behind them say a greater number, and 0 stands at the front
 -- of no other digit. So a text that goes on with digits behind those of one number begins with no lesser number, and
 -- with none at all behind a 0.
-use Rattle.cq_lines.proofs.Terms.{rules, ◌≡◌, ℕ, zero, suc, ◌+◌, ◌-◌, ◌*◌, ◌/◌, ◌%◌, ◌^◌, ◌<◌, ◌≤◌, ◌⊎◌, List, [], ◌∷◌, ◌++◌, map, drop, get_or, Option, None, Some, refl, ap, sym, subst, ◌∙◌, arith, lit≤, append_assoc, IsInRange, digits_of, number_from_digits_after, AllBelowBase, AllByRecursion, append-nil, number_digits_of, all_below_base_digits_of, first_digits_of, decimal, EndsDigits, BeginsWith}
+use Rattle.cq_lines.proofs.Terms.{rules, ◌≡◌, ℕ, zero, suc, ◌+◌, ◌-◌, ◌*◌, ◌/◌, ◌%◌, ◌^◌, ◌<◌, ◌≤◌, ◌⊎◌, List, [], ◌∷◌, ◌++◌, map, drop, get_or, Option, None, Some, refl, ap, sym, subst, ◌∙◌, arith, lit≤, append_assoc, IsInRange, digits_of, number_from_digits_after, AllBelowBase, AllByRecursion, append-nil, number_digits_of, all_below_base_digits_of, first_digits_of, decimal, EndsDigits, BeginsWith, all_back, all_both, all_weaker, of_images, map-append, common_steps}
 use Rattle.cq_base.proofs.Decimals.{decimal_small, decimal_above, decimal_more}
 use Rattle.std.proofs.Math.ListN.{get_or-map}
+use Rattle.std.proofs.lemmas.Int.Digits.{number_after_append, number_after_ge}
 
 abbrev pub AreDigits : List ℕ → Type 0
 AreDigits ds = AllByRecursion (IsInRange 48 57) ds
 
 digits_from_values : (ds : List ℕ) → AllBelowBase 10 ds → AreDigits (map (λ d. 48 + d) ds)
-digits_from_values [] a = tt
-digits_from_values (d ∷ ds) a = let small : d < 10 = a.0 in ((omega arith, omega arith), digits_from_values ds a.1)
+digits_from_values ds a = of_images (λ d. 48 + d) (IsInRange 48 57) ds
+    (all_weaker (λ d. d < 10) (λ d. IsInRange 48 57 (48 + d)) (λ d small. (omega arith, omega arith)) ds a)
 
 pub decimal_digits : (n : ℕ) → AreDigits (decimal n)
 decimal_digits zero = let e = decimal_small 0 (lit≤ tt) in
@@ -21,28 +22,21 @@ decimal_digits (suc k) = subst AreDigits (sym (decimal_above (suc k) (omega arit
 
 -- ## What digits say
 
+abbrev values : List ℕ → List ℕ
+values cs = map (λ c. c - 48) cs
+
 -- the number that digits say behind those of another
 abbrev pub said_after : ℕ → List ℕ → ℕ
-said_after n [] = n
-said_after n (c ∷ cs) = said_after (n * 10 + (c - 48)) cs
+said_after n cs = number_from_digits_after 10 n (values cs)
 
-said_by_values : (n : ℕ) (ds : List ℕ) → said_after n (map (λ d. 48 + d) ds) ≡ number_from_digits_after 10 n ds
-said_by_values n [] = refl
-said_by_values n (d ∷ ds) = let e : n * 10 + ((48 + d) - 48) ≡ n * 10 + d = omega arith in
-    ap (λ m. said_after m (map (λ d. 48 + d) ds)) e ∙ said_by_values (n * 10 + d) ds
+values_back : (ds : List ℕ) → values (map (λ d. 48 + d) ds) ≡ ds
+values_back [] = refl
+values_back (d ∷ ds) = grind (arith, common_steps, values_back ds)
 
 pub said_decimal : (n : ℕ) → said_after 0 (decimal n) ≡ n
 said_decimal zero = ap (said_after 0) (decimal_small 0 (lit≤ tt))
 said_decimal (suc k) = ap (said_after 0) (decimal_above (suc k) (omega arith))
-    ∙ said_by_values 0 (digits_of 10 (suc k)) ∙ number_digits_of 10 (suc k) (lit≤ tt)
-
-said_append : (n : ℕ) (xs ys : List ℕ) → said_after n (xs ++ ys) ≡ said_after (said_after n xs) ys
-said_append n [] ys = refl
-said_append n (c ∷ xs) ys = said_append (n * 10 + (c - 48)) xs ys
-
-said_ge : (n : ℕ) (cs : List ℕ) → n ≤ said_after n cs
-said_ge n [] = omega arith
-said_ge n (c ∷ cs) = let rest = said_ge (n * 10 + (c - 48)) cs in omega arith
+    ∙ ap (number_from_digits_after 10 0) (values_back (digits_of 10 (suc k))) ∙ number_digits_of 10 (suc k) (lit≤ tt)
 
 pub decimal_injective : (m n : ℕ) → decimal m ≡ decimal n → m ≡ n
 decimal_injective m n e = sym (said_decimal m) ∙ ap (said_after 0) e ∙ said_decimal n
@@ -55,10 +49,6 @@ digits_go_on [] b x y p q ends e = (b, refl, e)
 digits_go_on (c ∷ a) [] x y p q ends e = absurd (subst EndsDigits (sym e) ends p.0)
 digits_go_on (c ∷ a) (d ∷ b) x y p q ends e =
     let same : c ≡ d = cc in search (arith, rules, digits_go_on a b x y p.1 q.1 ends)
-
-all_behind : (xs ys : List ℕ) → AreDigits (xs ++ ys) → AreDigits ys
-all_behind [] ys a = a
-all_behind (x ∷ xs) ys a = all_behind xs ys a.1
 
 nothing_goes_on : (ds x y : List ℕ) → AreDigits ds → EndsDigits x → x ≡ ds ++ y → ds ≡ []
 nothing_goes_on [] x y p ends e = refl
@@ -88,8 +78,11 @@ above_zero (suc m) n d ds e = omega arith
 -- digits with one more digit behind them say ten times their number at least, and are not those of 0
 more_digits : (m n d : ℕ) (ds : List ℕ) → decimal n ≡ decimal m ++ (48 + d) ∷ ds → (0 < m) × (m * 10 + d ≤ n)
 more_digits m n d ds e =
-    let said = sym (said_decimal n) ∙ ap (said_after 0) e ∙ said_append 0 (decimal m) ((48 + d) ∷ ds)
-    ∙ ap (λ k. said_after (k * 10 + ((48 + d) - 48)) ds) (said_decimal m) in omega (arith, said_ge, above_zero)
+    let said = sym (said_decimal n) ∙ ap (said_after 0) e
+    ∙ ap (number_from_digits_after 10 0) (map-append (λ c. c - 48) (decimal m) ((48 + d) ∷ ds))
+    ∙ number_after_append 10 0 (values (decimal m)) (values ((48 + d) ∷ ds))
+    ∙ ap (λ k. said_after (k * 10 + ((48 + d) - 48)) ds) (said_decimal m) in
+    omega (arith, number_after_ge 10 (m * 10 + ((48 + d) - 48)) (values ds) (lit≤ tt), above_zero)
 
 -- ## What a text begins with
 
@@ -101,13 +94,9 @@ pub one_number : (text x y : List ℕ) (m n : ℕ) → BeginsWith text (Some m) 
 one_number text x y m n a b =
     let more = digits_go_on (decimal m) (decimal n) x y (decimal_digits m) (decimal_digits n) b.ended (sym a.spelled
     ∙ b.spelled) in
-    let digits = all_behind (decimal m) more.0 (subst AreDigits more.1 (decimal_digits n)) in
+    let digits = all_back (IsInRange 48 57) (decimal m) more.0 (subst AreDigits more.1 (decimal_digits n)) in
     let none = nothing_goes_on more.0 x y digits a.ended more.2 in
     search (arith, rules, decimal_injective, append-nil)
-
-both_digits : (xs ys : List ℕ) → AreDigits xs → AreDigits ys → AreDigits (xs ++ ys)
-both_digits [] ys a b = b
-both_digits (x ∷ xs) ys a b = (a.0, both_digits xs ys a.1 b)
 
 -- no number of 128 bits is spelled so: another digit stands behind a 0, or behind digits that say too much with it
 pub none_goes_on : (text rest after : List ℕ) (m d : ℕ) → d < 10 → text ≡ decimal m ++ rest →
@@ -115,7 +104,7 @@ pub none_goes_on : (text rest after : List ℕ) (m d : ℕ) → d < 10 → text 
     BeginsWith text (Some n) end → ⊥
 none_goes_on text rest after m d small e f why n end fits begins =
     let one = (48 + d) ∷ [] in
-    let digits = both_digits (decimal m) one (decimal_digits m) ((omega arith, omega arith), tt) in
+    let digits = all_both (IsInRange 48 57) (decimal m) one (decimal_digits m) ((omega arith, omega arith), tt) in
     let read : (decimal m ++ one) ++ after ≡ decimal n ++ end = search (arith, rules, append_assoc) in
     let more = digits_go_on (decimal m ++ one) (decimal n) after end digits (decimal_digits n) begins.ended read in
     let said = more_digits m n d more.0 (more.1 ∙ append_assoc (decimal m) one more.0) in omega arith

@@ -1,7 +1,7 @@
 -- Reading a line field by field. What was read so far stands at the front of the text, and whoever reads a whole line
 -- there reads the same fields first, and the rest of his line from the rest of the text. So where no field can go on,
 -- no line stands there.
-use Rattle.cq_lines.proofs.Terms.{common_steps, rules, ◌≡◌, ◌≢◌, ℕ, suc, ◌+◌, ◌<◌, ◌≤◌, List, [], ◌∷◌, ◌++◌, length, map, take, drop, set, get_or, Option, None, Some, refl, ap, sym, ◌∙◌, arith, append_assoc, length-append, length-set, append-nil, append_cancel_left, take_more_set, take_more, take_all, take-append-le, take-take, length-take, field, ending, line, EndsDigits, MayFollow, BeginsWith, Fits, AllFit, InRange, Within, any_number}
+use Rattle.cq_lines.proofs.Terms.{common_steps, rules, ◌≡◌, ◌≢◌, ℕ, ◌+◌, ◌<◌, ◌≤◌, List, [], ◌∷◌, ◌++◌, length, map, take, drop, set, get_or, Option, None, Some, refl, ap, sym, ◌∙◌, arith, append_assoc, length-append, length-set, append-nil, append_cancel_left, take_more_set, take_more, take_all, take-append-le, take-take, length-take, field, ending, line, EndsDigits, MayFollow, BeginsWith, Fits, AllFit, InRange, Within, any_number, all_back, get_or_default, recursion_from_All}
 use Rattle.cq_base.specs.Texts.{line_of_words}
 use Rattle.cq_lines.specs.declared.range.Range.{Range}
 use Rattle.cq_lines.proofs.Spelling.{one_field}
@@ -44,34 +44,19 @@ next_field (g ∷ hs) rest after more e h =
 pub one_read_more : (text : List ℕ) (to : List (Option ℕ)) (count : ℕ) (rest after next : List ℕ) (f : Option ℕ) →
     ReadSoFar text to count rest → count < length to → rest ≡ 32 ∷ after → BeginsWith after f next →
     ReadSoFar text (set to count f) (count + 1) next
-one_read_more text to count rest after next f had room e begins = record {
-  placed = omega (arith, length-set to count f);
-  spelled = had.spelled ∙ ap (λ r. begun (take count to) ++ r) (e ∙ ap (λ t. 32 ∷ t) begins.spelled)
-      ∙ sym (append_assoc (begun (take count to)) (32 ∷ field f) next)
-      ∙ ap (λ t. t ++ next) (sym (begun_more (take count to) f) ∙ ap begun (sym taken));
-  alone = λ fs more h. go more (had.alone fs more h);
-}
-  where
-    taken : take (count + 1) (set to count f) ≡ take count to ++ f ∷ []
-    taken = take_more_set to count f room
-
-    go : {fs : List (Option ℕ)} (more : List ℕ) →
-        (gs : List (Option ℕ)) × (fs ≡ take count to ++ gs) × (rest ≡ ending gs ++ more) →
-        (gs : List (Option ℕ)) × (fs ≡ take (count + 1) (set to count f) ++ gs) × (next ≡ ending gs ++ more)
-    go more w =
-        let field_next = next_field w.0 rest after more e w.2 in
-        let same = one_field after next (ending field_next.1 ++ more) f field_next.0 begins field_next.3 in (
-          field_next.1,
-          w.1 ∙ ap (λ gs. take count to ++ gs) (field_next.2 ∙ ap (λ g. g ∷ field_next.1) (sym same.0))
-              ∙ sym (append_assoc (take count to) (f ∷ []) field_next.1) ∙ ap (λ t. t ++ field_next.1) (sym taken),
-          same.1,
-        )
+one_read_more text to count rest after next f had room e begins =
+    let taken = take_more_set to count f room in
+    record {
+      placed = omega (arith, length-set to count f);
+      spelled = search (arith, rules, append_assoc, begun_more (take count to) f, taken);
+      alone = λ fs more h.
+          let w = had.alone fs more h in
+          let field_next = next_field w.0 rest after more e w.2 in
+          let same = one_field after next (ending field_next.1 ++ more) f field_next.0 begins field_next.3 in
+          (field_next.1, search (arith, rules, append_assoc, taken, w.1, field_next.2, same.0), same.1);
+    }
 
 -- ## No line stands there
-
-all_fit_behind : (fs gs : List (Option ℕ)) → AllFit (fs ++ gs) → AllFit gs
-all_fit_behind [] gs a = a
-all_fit_behind (f ∷ fs) gs a = all_fit_behind fs gs a.1
 
 -- there is no field behind the blank
 pub no_next : (text : List ℕ) (to : List (Option ℕ)) (count : ℕ) (rest after : List ℕ) →
@@ -79,7 +64,7 @@ pub no_next : (text : List ℕ) (to : List (Option ℕ)) (count : ℕ) (rest aft
     BeginsWith after f next → ⊥) → (fs : List (Option ℕ)) (more : List ℕ) → AllFit fs → text ≡ ending fs ++ more → ⊥
 no_next text to count rest after had e none fs more fit h =
     let w = had.alone fs more h in
-    let next = next_field w.0 rest after more e w.2 in search (arith, rules, all_fit_behind)
+    let next = next_field w.0 rest after more e w.2 in search (arith, rules, all_back Fits (take count to))
 
 -- there is neither a blank nor a line feed
 pub no_end : (text : List ℕ) (to : List (Option ℕ)) (count : ℕ) (rest : List ℕ) → ReadSoFar text to count rest →
@@ -143,12 +128,9 @@ pub record IsGathered (start word text bytes : List ℕ) (end : ℕ) (fs : List 
 
 pub still_before : (start text new : List ℕ) → take (length start) text ≡ start → take (length text) new ≡ text →
     take (length start) new ≡ start
-still_before [] text new a b = refl
-still_before (x ∷ start) [] new a b = absurd (let P : ⊥ = cc in P)
-still_before (x ∷ start) (y ∷ text) [] a b = absurd (let P : ⊥ = cc in P)
-still_before (x ∷ start) (y ∷ text) (z ∷ new) a b =
-    let rest = still_before start text new (ap (drop 1) a) (ap (drop 1) b) in
-    let first : z ≡ x = cc in cc
+still_before start text new a b =
+    let few : length start ≤ length text = omega (arith, ap length a, length-take (length start) text) in
+    sym (take-take (length start) (length text) new few) ∙ ap (take (length start)) b ∙ a
 
 pub gathers_on : (start word text bytes text_on bytes_on : List ℕ) (end at end_on : ℕ) (fs : List (Option ℕ)) (i : ℕ)
     (d : Option ℕ) → i < length fs → IsGathered start word text bytes end (take i fs) →
@@ -157,12 +139,8 @@ pub gathers_on : (start word text bytes text_on bytes_on : List ℕ) (end at end
     IsGathered start word text_on bytes_on end_on (take (i + 1) fs)
 gathers_on start word text bytes text_on bytes_on end at end_on fs i d inside had same begins put room long = record {
   spelled =
-      let last : List ℕ = 32 ∷ field (get_or fs i d) in
-      ap (λ t. text_on ++ t) put ∙ sym (append_assoc text_on (take at bytes) last)
-      ∙ ap (λ t. t ++ last) (same ∙ had.spelled)
-      ∙ append_assoc (start ++ word) (begun (take i fs)) last
-      ∙ ap (λ t. (start ++ word) ++ t) (sym (begun_more (take i fs) (get_or fs i d)))
-      ∙ ap (λ gs. (start ++ word) ++ begun gs) (sym (take_more fs i d inside));
+      let more = begun_more (take i fs) (get_or fs i d) in
+      search (arith, rules, append_assoc, more, take_more fs i d inside, had.spelled, same, put);
   before = still_before start text text_on had.before begins;
   room = room;
   long = long;
@@ -173,25 +151,21 @@ pub line_ends : (start word text bytes new : List ℕ) (end : ℕ) (fs : List (O
     new ≡ start ++ line word fs
 line_ends start word text bytes new end fs i past had put =
     let inside : end < length bytes = omega (arith, had.room, had.long) in
-    put ∙ ap (λ t. text ++ t) (take_more_set bytes end 10 inside) ∙ sym (append_assoc text (take end bytes) (10 ∷ []))
-    ∙ ap (λ t. t ++ 10 ∷ []) (had.spelled ∙ ap (λ gs. (start ++ word) ++ begun gs) (take_all i fs past))
-    ∙ append_assoc (start ++ word) (begun fs) (10 ∷ [])
-    ∙ ap (λ t. (start ++ word) ++ t) (ending_begun fs [] ∙ append-nil (ending fs)) ∙ append_assoc start word (ending fs)
+    let last = take_more_set bytes end 10 inside in
+    let all = ending_begun fs [] in
+    search (arith, rules, last, all, append_assoc, append-nil, take_all i fs past, had.spelled, put)
 
 -- ## Within ranges
 
 -- what is within ranges fits
 pub within_fits : (ranges : List Range) (further : ℕ) (fs : List (Option ℕ)) → Within ranges further fs → AllFit fs
-within_fits ranges further fs within = go fs (λ i inside. fits (get_or ranges i any_number) (get_or fs i None)
-    (within.each i inside))
+within_fits ranges further fs within = recursion_from_All Fits fs (λ i d inside.
+    rw (get_or_default fs i d None inside)
+    (fits (get_or ranges i any_number) (get_or fs i None) (within.each i inside)))
   where
     fits : (r : Range) (f : Option ℕ) → InRange r f → Fits f
     fits r None is = tt
     fits r (Some n) is = is.2
-
-    go : (gs : List (Option ℕ)) → ((i : ℕ) → i < length gs → Fits (get_or gs i None)) → AllFit gs
-    go [] each = tt
-    go (g ∷ gs) each = (each 0 (omega arith), go gs (λ i inside. each (suc i) (omega arith)))
 
 pub few_within : (ranges : List Range) (further : ℕ) (to fs : List (Option ℕ)) →
     length ranges + further ≤ length to → Within ranges further fs → length fs ≤ length to
