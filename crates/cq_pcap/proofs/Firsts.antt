@@ -1,6 +1,6 @@
 -- What the bytes from a place on come to: a packet where a whole record stands there, or else what is wrong with it.
 -- The three faults are tried in their order.
-use Rattle.cq_pcap.proofs.Terms.{rules, ◌≡◌, ℕ, ◌+◌, ◌*◌, ◌<◌, ◌≤◌, List, length, take, drop, arith, common_steps, Result, Ok, Err, nat_tests, Form, number_at, unit, Captured, PcapRefusal, CutHeader, LongRecord, CutBody, first_packet}
+use Rattle.cq_pcap.proofs.Terms.{rules, ◌≡◌, ℕ, ◌+◌, ◌*◌, ◌<◌, ◌≤◌, List, length, take, drop, arith, common_steps, Result, Ok, Err, nat_tests, Form, number_at, unit, Captured, PcapRefusal, CutHeader, LongRecord, CutBody, first_packet, subst}
 
 -- the captured length that the record at the front states
 abbrev pub stated : Form → List ℕ → ℕ
@@ -32,9 +32,12 @@ Says form place xs (Err (CutBody offset)) =
 Says form place xs _ = ⊥
 
 -- what is answered is so
-pub first_says : (form : Form) (place : ℕ) (xs : List ℕ) → Says form place xs (first_packet form place xs)
+pub first_says : (form : Form) (place : ℕ) (xs : List ℕ) (answer : Result Captured PcapRefusal) →
+    first_packet form place xs ≡ answer → Says form place xs answer
 unfolding first_packet
-first_says form place xs = search (arith, rules, nat_tests)
+first_says form place xs answer e =
+    let P : Result Captured PcapRefusal → Type 0 = Says form place xs in
+    let own : P (first_packet form place xs) = search (arith, rules, nat_tests) in subst P e own
 
 -- and what is so is answered
 pub first_said : (form : Form) (place : ℕ) (xs : List ℕ) (answer : Result Captured PcapRefusal) →

@@ -33,11 +33,8 @@ pub header_says : (bytes : List ℕ) → Says bytes (header_form bytes)
 unfolding header_form
 header_says bytes = search (arith, rules, nat_tests, form_found, found_magic, version-Decides, link-Decides)
 
-pub header_ok : (bytes : List ℕ) (form : Form) → header_form bytes ≡ Ok form → Says bytes (Ok form)
-header_ok bytes form e = let P : Result Form PcapRefusal → Type 0 = Says bytes in subst P e (header_says bytes)
-
-pub header_err : (bytes : List ℕ) (fault : PcapRefusal) → header_form bytes ≡ Err fault → IsFaulty bytes fault
-header_err bytes fault e = let P : Result Form PcapRefusal → Type 0 = Says bytes in subst P e (header_says bytes)
+pub header_is : (bytes : List ℕ) (answer : Result Form PcapRefusal) → header_form bytes ≡ answer → Says bytes answer
+header_is bytes answer e = let P : Result Form PcapRefusal → Type 0 = Says bytes in subst P e (header_says bytes)
 
 pub header_place : (bytes : List ℕ) (fault : PcapRefusal) → header_form bytes ≡ Err fault → offset_of fault ≡ None
 unfolding header_form

@@ -2,7 +2,7 @@
 -- whole record stands behind a capture, the bytes up to its end are a capture too. This goes on from the header until
 -- no byte is left, or to a record with a fault, which is the file's then. And what is spelt or faulty is read as
 -- that.
-use Rattle.cq_pcap.proofs.Terms.{rules, ◌≡◌, ◌⊎◌, ℕ, zero, suc, ◌+◌, ◌<◌, ◌≤◌, List, [], ◌∷◌, ◌++◌, length, take, drop, inl, inr, refl, ap, ◌∙◌, arith, append_assoc, length-append, common_steps, drop-drop, length-drop, length-take-le, take-append-drop, take-append-le, take_at, Result, Ok, Err, AllByRecursion, Form, number_at, Captured, PcapRefusal, CutHeader, LongRecord, CutBody, IsFaulty, IsSpeltUpTo, packets_of, HasLinkType, HasMagic, HasVersion, IsHeader, Record, spelling, Fits, Spells, captured_of, subst, ⊎_elim, cases_lt, take_all, SpellsIn, append-nil, flat_map-append, map-append}
+use Rattle.cq_pcap.proofs.Terms.{rules, ◌≡◌, ◌⊎◌, ℕ, zero, suc, ◌+◌, ◌<◌, ◌≤◌, List, [], ◌∷◌, ◌++◌, length, take, drop, inl, inr, refl, ap, ◌∙◌, arith, append_assoc, length-append, common_steps, drop-drop, length-drop, length-take-le, take-append-drop, take-append-le, take_at, Result, Ok, Err, Form, number_at, Captured, PcapRefusal, CutHeader, LongRecord, CutBody, IsFaulty, IsSpeltUpTo, packets_of, HasLinkType, HasMagic, HasVersion, IsHeader, Record, spelling, Fits, Spells, captured_of, subst, ⊎_elim, cases_lt, take_all, SpellsIn, append-nil, flat_map-append, map-append, all_both}
 use Rattle.cq_pcap.proofs.Numbers.{AreBytes, AreBytes-drop, number_at-append, number_at-drop, number_at-lt, number_at-spelt}
 use Rattle.cq_pcap.proofs.Headers.{header_says, Says as HeaderSays}
 use Rattle.cq_pcap.proofs.Firsts.{IsWhole, Says, first_says, front_packet, stated}
@@ -39,11 +39,6 @@ module _ (form : Form) (xs : List ℕ) (fits : AreBytes xs) (w : IsWhole form xs
         ← number_at-spelt form.big xs 0 4 fits refl (omega arith),
       ) refl)
 
-pub AllByRecursion-push : {X : Type 0} (P : X → Type 0) (xs : List X) (y : X) → AllByRecursion P xs → P y
-    → AllByRecursion P (xs ++ y ∷ [])
-AllByRecursion-push P [] y h p = (p, tt)
-AllByRecursion-push P (x ∷ xs) y h p = (h.0, AllByRecursion-push P xs y h.1 p)
-
 -- a record at the front of what follows a capture goes on with it
 module _ (form : Form) (bytes : List ℕ) (at : ℕ) (packets : List Captured) (fits : AreBytes bytes)
     (within : at ≤ length bytes) (s : SpellsIn form (take at bytes) packets) (w : IsWhole form (drop at bytes)) where
@@ -75,7 +70,7 @@ module _ (form : Form) (bytes : List ℕ) (at : ℕ) (packets : List Captured) (
     header = s.header;
     records = s.records ++ next ∷ [];
     begins = s.begins;
-    fit = AllByRecursion-push Fits s.records next s.fit (record_fits form xs (AreBytes-drop bytes at fits) w);
+    fit = all_both Fits s.records (next ∷ []) s.fit (record_fits form xs (AreBytes-drop bytes at fits) w, tt);
     whole = search (arith, rules, front_is, append_assoc, append-nil, flat_map-append);
     kept = map-append (captured_of form) s.records (next ∷ []) ∙ ap (λ ps. ps ++ front_packet form xs ∷ []) s.kept;
   }
@@ -129,7 +124,7 @@ walk : (form : Form) (bytes : List ℕ) (n at : ℕ) (packets : List Captured) �
     length bytes ≤ at + n → SpellsIn form (take at bytes) packets → Known bytes
 walk form bytes zero at packets fits within few s = at_end form bytes at packets s (omega arith)
 walk form bytes (suc n) at packets fits within few s = ⊎_elim
-    (λ left. by_first form bytes at packets s left _ (first_says form at (drop at bytes)) (λ w.
+    (λ left. by_first form bytes at packets s left _ (first_says form at (drop at bytes) _ refl) (λ w.
     let body = w.body in
     walk form bytes n _ _ fits (omega (arith, length-drop at bytes)) (omega arith)
     (spelt_more form bytes at packets fits within s w)))

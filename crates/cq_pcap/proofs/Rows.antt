@@ -2,12 +2,12 @@
 -- header on, they end at that place, and the bytes before it are a capture of their packets. A whole record at that
 -- place goes on so: the record read there is spelt by the bytes up to its end. A fault there is the file's, and where
 -- no byte is left the file is a capture.
-use Rattle.cq_pcap.proofs.Terms.{◌≡◌, ℕ, ◌+◌, ◌-◌, ◌<◌, ◌≤◌, ◌^◌, List, [], ◌∷◌, ◌++◌, length, take, drop, ap, sym, subst, arith, add-zero, common_steps, map-append, length-drop, length-take-le, drop-drop, take_all, take_rest, All-push, sum_by-cons, sum_by_push, Ok, Err, Some, None, sum_by, Result, Form, PcapRefusal, Captured, rows_from, file_length, first_packet, header_form, AreRowsOf, AreRowsTo, AreSpelt, IsFaultAt, IsRowOf, offset_of, packet_at, packets_at}
+use Rattle.cq_pcap.proofs.Terms.{◌≡◌, ℕ, ◌+◌, ◌-◌, ◌<◌, ◌≤◌, ◌^◌, List, [], ◌∷◌, ◌++◌, length, take, drop, ap, sym, arith, add-zero, common_steps, map-append, length-drop, length-take-le, drop-drop, take_all, take_rest, All-push, sum_by-cons, sum_by_push, Ok, Err, Some, None, sum_by, Form, PcapRefusal, Captured, rows_from, file_length, first_packet, header_form, AreRowsOf, AreRowsTo, AreSpelt, IsFaultAt, IsRowOf, offset_of, packet_at, packets_at, all_both}
 use Rattle.cq_pcap.specs.declared.capture.PacketRow.{PacketRow}
 use Rattle.cq_pcap.proofs.Firsts.{Says, first_says, stated}
-use Rattle.cq_pcap.proofs.Headers.{header_err, header_ok, header_place}
+use Rattle.cq_pcap.proofs.Headers.{header_is, header_place}
 use Rattle.cq_pcap.proofs.Numbers.{AreBytes, AreBytes-drop}
-use Rattle.cq_pcap.proofs.ReadIsSpelt.{AllByRecursion-push, body_length, faulty_at, spelt_more, spelt_none}
+use Rattle.cq_pcap.proofs.ReadIsSpelt.{body_length, faulty_at, spelt_more, spelt_none}
 
 -- the bytes of these records
 abbrev records_length : List Captured → ℕ
@@ -36,25 +36,18 @@ module _ (form : Form) (bytes : List ℕ) (at : ℕ) (row : PacketRow) (r : IsRo
 -- the header alone, where it is one of a form
 pub rows_none : (form : Form) (bytes : List ℕ) → header_form bytes ≡ Ok form → AreRowsTo form bytes 24 []
 rows_none form bytes e =
-    let h = header_ok bytes form e in
+    let h = header_is bytes (Ok form) e in
     grind (arith, common_steps, spelt_none form bytes h.0 h.1 h.2 h.3)
+
+ruleset longer = (sum_by_push, All-push)
 
 -- the places of one row more
 places_more : (form : Form) (bytes : List ℕ) (rows : List PacketRow) (at : ℕ) (row : PacketRow)
     → length bytes ≤ 2 ^ 28 → at ≡ file_length (packets_at bytes rows) → AreRowsOf bytes rows
     → IsRowOf form (drop at bytes) at row
     → (row.at + row.len ≡ file_length (packets_at bytes (rows ++ row ∷ []))) × AreRowsOf bytes (rows ++ row ∷ [])
-places_more form bytes rows at row small so_far s r = grind (
-  arith,
-  common_steps,
-  map-append,
-  length_is,
-  sum_by_push,
-  inside_is,
-  rows_from-push,
-  AllByRecursion-push,
-  All-push,
-)
+places_more form bytes rows at row small so_far s r =
+    grind (arith, common_steps, map-append, length_is, inside_is, rows_from-push, all_both, longer)
 
 -- one more row
 pub rows_more : (form : Form) (bytes : List ℕ) (rows : List PacketRow) (at : ℕ) (row : PacketRow) → AreBytes bytes
@@ -62,9 +55,7 @@ pub rows_more : (form : Form) (bytes : List ℕ) (rows : List PacketRow) (at : �
     → AreRowsTo form bytes at rows → AreRowsTo form bytes (row.at + row.len) (rows ++ row ∷ [])
 rows_more form bytes rows at row fits small is_row so_far =
     let r : IsRowOf form (drop at bytes) at row = rw take_rest at is_row in
-    let P : Result Captured PcapRefusal → Type 0 = Says form at (drop at bytes) in
-    let says : P (Ok (packet_at bytes row)) =
-    rw (packet_is form bytes at row r) at (first_says form at (drop at bytes)) in
+    let says = first_says form at (drop at bytes) (Ok (packet_at bytes row)) (packet_is form bytes at row r) in
     let w = says.0 in
     let more = places_more form bytes rows at row small so_far.ends so_far.stand r in
     let body = body_length form (drop at bytes) (AreBytes-drop bytes at fits) w in
@@ -88,9 +79,7 @@ pub rows_fault : (form : Form) (bytes : List ℕ) (rows : List PacketRow) (at : 
     → at < length bytes → first_packet form at (take (length bytes - at) (drop at bytes)) ≡ Err refusal
     → AreRowsTo form bytes at rows → IsFaultAt bytes (Some at) refusal
 rows_fault form bytes rows at refusal left e so_far =
-    let P : Result Captured PcapRefusal → Type 0 = Says form at (drop at bytes) in
-    let named : first_packet form at (drop at bytes) ≡ Err refusal = rw take_rest at e in
-    let says : P (Err refusal) = subst P named (first_says form at (drop at bytes)) in
+    let says = first_says form at (drop at bytes) (Err refusal) (rw take_rest at e) in
     record {
       faulty = faulty_at form bytes at refusal
           (record { packets = packets_at bytes rows; spelt = so_far.spelt; left = left }) says;
@@ -101,7 +90,7 @@ rows_fault form bytes rows at refusal left e so_far =
 pub header_fault : (bytes : List ℕ) (refusal : PcapRefusal) → header_form bytes ≡ Err refusal
     → IsFaultAt bytes None refusal
 header_fault bytes refusal e =
-    record { faulty = header_err bytes refusal e; there = header_place bytes refusal e }
+    record { faulty = header_is bytes (Err refusal) e; there = header_place bytes refusal e }
 
 -- no byte is left
 pub rows_all : (form : Form) (bytes : List ℕ) (rows : List PacketRow) (at : ℕ) → at ≡ length bytes

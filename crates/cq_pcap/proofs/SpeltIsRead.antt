@@ -20,13 +20,10 @@ stands big r rest fit = search (arith, rules, number_in-reads_back, length-appen
 
 module _ (form : Form) (r : Record) (rest : List ℕ) (fit : Fits r) where
   first_is : (place : ℕ) → first_packet form place (spelling form.big r ++ rest) ≡ Ok (captured_of form r)
-  first_is place = grind (
-    arith,
-    common_steps,
-    stands form.big r rest fit,
-    take_at r.body rest (length r.body) refl,
-    first_said form place (spelling form.big r ++ rest) (Ok (captured_of form r)),
-  )
+  first_is place =
+      let body = take_at r.body rest (length r.body) refl in
+      let said = first_said form place (spelling form.big r ++ rest) (Ok (captured_of form r)) in
+      grind (arith, common_steps, stands form.big r rest fit, body, said)
 
   after_is : drop (16 + length r.body) (spelling form.big r ++ rest) ≡ rest
   after_is = grind (arith, common_steps, stands, drop-drop, drop_at)

@@ -1,6 +1,6 @@
 -- What is written is spelt: the header is one of the form, each record fits, and the seconds and nanoseconds of a
 -- stamp below 2^32 seconds make the stamp again.
-use Rattle.cq_pcap.proofs.Terms.{rules, ◌≡◌, List, [], ◌∷◌, ◌++◌, map, refl, ap, arith, true, false, common_steps, flat_map, AllByRecursion, Form, OutPacket, number_at, Fits, IsHeader, Spells, captured_of, spelling, IsWritable, read_again, record_of, written, written_header, written_record}
+use Rattle.cq_pcap.proofs.Terms.{rules, ◌≡◌, List, [], ◌∷◌, map, refl, arith, true, false, common_steps, AllByRecursion, Form, OutPacket, number_at, Fits, IsHeader, Spells, captured_of, IsWritable, read_again, written, written_header, written_record, flat_map-map}
 
 -- the form that is written
 abbrev little_nanos : Form
@@ -15,13 +15,9 @@ records_kept : (ps : List OutPacket) → AllByRecursion IsWritable ps →
 records_kept [] w = refl
 records_kept (p ∷ ps) w = search (arith, rules, records_kept ps w.1)
 
-records_spelt : (ps : List OutPacket) → flat_map record_of ps ≡ flat_map (spelling false) (map written_record ps)
-records_spelt [] = refl
-records_spelt (p ∷ ps) = ap (λ bytes. record_of p ++ bytes) (records_spelt ps)
-
 begins : IsHeader little_nanos written_header
 unfolding number_at
 begins = record { len = refl; magic = refl; version = record { major = refl; minor = refl }; link = refl }
 
 pub written_is_spelt : (ps : List OutPacket) → AllByRecursion IsWritable ps → Spells (written ps) (map read_again ps)
-written_is_spelt ps w = grind (arith, common_steps, begins, records_fit, records_spelt, records_kept)
+written_is_spelt ps w = grind (arith, common_steps, begins, records_fit, flat_map-map, records_kept)
