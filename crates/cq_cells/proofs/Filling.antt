@@ -1,18 +1,12 @@
 -- The places of a slot's arrivals are filled input by input. Those before the next input have what arrives there, and
 -- the others have what stood there before. No cell stood behind the last line, and none arrives there. So in the end
 -- each place has what arrives.
-use Rattle.cq_cells.proofs.Terms.{common_steps, rules, ◌≡◌, ℕ, ◌+◌, ◌<◌, ◌≤◌, List, length, get_or, set, Option, None, Some, refl, ◌∙◌, length-set, get_or-set_same, get_or-set_other, arith, IfSome, cases_eq, cases_lt, length-replicate, fill_by_all, unwrap_or-slice_get, no_arrivals, Arrival, arriving_at, arriving, Cell, arrival_at-no_arrivals, StandBelow, AreOwn, all_of}
+use Rattle.cq_cells.proofs.Terms.{common_steps, rules, ◌≡◌, ℕ, ◌+◌, ◌<◌, ◌≤◌, List, length, get_or, set, Option, None, ◌∙◌, length-set, get_or-set_same, get_or-set_other, arith, cases_eq, cases_lt, length-replicate, fill_by_all, unwrap_or-slice_get, no_arrivals, Arrival, arriving_at, arriving, Cell, arrival_at-no_arrivals, StandBelow, AreOwn, all_of}
 use Rattle.cq_cells.proofs.Owned.{none_arrives_past}
 
 -- no cell stands anywhere
 pub none_stand : (ports : ℕ) → StandBelow ports no_arrivals
 none_stand ports = search (rules, length-replicate, arrival_at-no_arrivals)
-
--- what is asked of a cell, where there is one
-pub own_if : (o : Option Cell) (input : ℕ) → ((cell : Cell) → o ≡ Some cell → cell.id.input ≡ input) →
-    IfSome o (λ cell. cell.id.input ≡ input)
-own_if None input own = tt
-own_if (Some cell) input own = own cell refl
 
 -- the places of the inputs before n are filled
 pub record Filling (came : List Arrival) (slot n : ℕ) (old now : List (Option Cell)) : Type 0 where
@@ -23,10 +17,10 @@ pub record Filling (came : List Arrival) (slot n : ℕ) (old now : List (Option 
 pub filling_first : (came : List Arrival) (slot : ℕ) (old : List (Option Cell)) → Filling came slot 0 old old
 filling_first came slot old = grind (arith, common_steps)
 
-pub filling_next : (came : List Arrival) (slot n : ℕ) (old now : List (Option Cell)) (cell : Option Cell) →
-    Filling came slot n old now → n < length now → cell ≡ arriving_at came slot n →
-    Filling came slot (n + 1) old (set now n cell)
-filling_next came slot n old now cell f inside is =
+pub filling_next : (came : List Arrival) (slot n : ℕ) (old now new : List (Option Cell)) (cell : Option Cell) →
+    Filling came slot n old now → n < length now → cell ≡ arriving_at came slot n → new ≡ set now n cell →
+    Filling came slot (n + 1) old new
+filling_next came slot n old now new cell f inside is put =
     grind (arith, common_steps, length-set, get_or-set_same, get_or-set_other, f.done, cases_eq, f.left)
 
 -- ## All inputs

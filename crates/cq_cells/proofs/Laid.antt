@@ -47,49 +47,44 @@ pub are_read : (captures : List (List Captured)) (input : ℕ) (ps : List Captur
     file_length ps ≤ 2 ^ 28 → AreRead captures input ps places
 are_read captures input ps places same placed stamps small = grind (arith, common_steps, length-rows_from)
 
--- a row is that of packet k, which goes to a port
-pub record IsMade (t : Tables) (captures : List (List Captured)) (input k : ℕ) (row : Row) : Type 0 where
-  pub within : k < length (packets_of captures input)
+-- a row is that of packet k, which goes to a port, and with it the counts stay small
+pub record IsMade (t : Tables) (captures : List (List Captured)) (input k : ℕ) (row : Row) (all : ℕ)
+    (old counts : List ℕ) : Type 0 where
   pub is : row ≡ row_of t captures input k
   pub to_port : row.output < ports_of t.setup
-
-pub next_row : (t : Tables) (captures : List (List Captured)) (input k : ℕ) (ps : List Captured)
-    (places : List PacketRow) (ways : List (ℕ × ℕ)) (row : Row) (origin free : ℕ) → AreTables t →
-    AreRead captures input ps places → k < length places →
-    ways ≡ map (λ (p : Captured). route t input p.body) (packets_of captures input) →
-    origin ≡ t0_of captures → free ≡ end_of (came_by t captures input k) →
-    row.start ≡ max (((slice_index_or places k no_place).stamp - origin) / t.slot_ns) free →
-    row.cells ≡ cells_of (slice_index_or places k no_place).len t.cell_bytes →
-    (row.output, row.class) ≡ slice_index_or ways k (0, 0) → row.len ≡ (slice_index_or places k no_place).len →
-    IsMade t captures input k row
-unfolding stamp_slot cells
-next_row t captures input k ps places ways row origin free tables read inside sent from ended starts cut routed long =
-    let its = row_is_of 24 ps k no_place (record { stamp = 0; original = 0; body = [] }) in
-    let to = way_to_port t captures input ways sent k row.output row.class tables in
-    grind (arith, common_steps, start_by, row_is_of, way_is, to, its)
+  pub ends : row.start + row.cells ≤ 2 ^ 63 + 2 ^ 28
+  pub few : all + row.cells ≤ 2 ^ 28
+  pub each : slice_index_or counts row.output 0 + row.cells ≤ slice_index_or old row.output 0 + 2 ^ 28
 
 pub filter_few : (j : ℕ) (came : List Arrival) → number_of (is_to j) came ≤ length came
 filter_few j came = omega (arith, length-filter_both (is_to j) (λ (a : Arrival). not (is_to j a)) (λ _. refl) came)
 
--- with a packet more the counts stay small
-pub record AreSmall (row : Row) (cells : ℕ) (old counts : List ℕ) : Type 0 where
-  pub ends : row.start + row.cells ≤ 2 ^ 63 + 2 ^ 28
-  pub all : cells + row.cells ≤ 2 ^ 28
-  pub each : row.output < length old →
-      slice_index_or counts row.output 0 + row.cells ≤ slice_index_or old row.output 0 + 2 ^ 28
-
-pub still_small : (t : Tables) (captures : List (List Captured)) (input k : ℕ) (rows : List Row) (free all : ℕ)
-    (old counts : List ℕ) (row : Row) → 1 ≤ t.cell_bytes → IsRecorded (packets_of captures input) →
-    IsMade t captures input k row → IsSoFar t captures input k rows free all old counts → AreSmall row all old counts
-still_small t captures input k rows free all old counts row some r made s =
+pub next_row : (t : Tables) (captures : List (List Captured)) (input k : ℕ) (ps : List Captured)
+    (places : List PacketRow) (ways : List (ℕ × ℕ)) (row : Row) (origin free all : ℕ) (rows : List Row)
+    (old counts : List ℕ) → AreTables t → AreRead captures input ps places → k < length places →
+    ways ≡ map (λ (p : Captured). route t input p.body) (packets_of captures input) →
+    length old ≡ ports_of t.setup → IsSoFar t captures input k rows free all old counts → origin ≡ t0_of captures →
+    row.start ≡ max (((slice_index_or places k no_place).stamp - origin) / t.slot_ns) free →
+    row.cells ≡ cells_of (slice_index_or places k no_place).len t.cell_bytes →
+    (row.output, row.class) ≡ slice_index_or ways k (0, 0) → row.len ≡ (slice_index_or places k no_place).len →
+    IsMade t captures input k row all old counts
+unfolding stamp_slot cells
+next_row t captures input k ps places ways row origin free all rows old counts tables read inside sent ports s from
+    starts cut routed long =
+    let its = row_is_of 24 ps k no_place (record { stamp = 0; original = 0; body = [] }) in
+    let within : k < length (packets_of captures input) = omega (arith, read.many) in
+    let to = way_to_port t captures input ways sent k row.output row.class tables within routed in
+    let made : row ≡ row_of t captures input k =
+    grind (arith, common_steps, start_by, row_is_of, way_is, its) in
     let longer = longer_by t captures input k in
     let ends = ends_by t captures input k in
-    let few = few_by t captures input (k + 1) some r in
-    let early = early_by t captures input (k + 1) r in
+    let few = few_by t captures input (k + 1) tables.cell_bytes.0 read.recorded (omega arith) in
+    let early = early_by t captures input (k + 1) read.recorded (omega arith) in
     let its_end = end_packet t captures input k in
     let its_length = length_packet t captures input k in
+    let each = s.each row.output in
     let of_output = filter_few row.output in
-    search (arith, rules, longer, ends, few, early, its_end, its_length, s.each row.output, of_output, came_by)
+    search (arith, rules, made, to, longer, ends, few, early, its_end, its_length, each, of_output, came_by)
 
 -- what stands at the end of a line
 pub record IsWhole (t : Tables) (captures : List (List Captured)) (input : ℕ) (rows : List Row) (free cells : ℕ)

@@ -1,5 +1,5 @@
 -- Each line's cells arrive at its own input, so what is asked of an input is found in its line.
-use Rattle.cq_cells.proofs.Terms.{rules, ◌≡◌, ◌≢◌, ℕ, zero, suc, ◌+◌, ◌<◌, ◌≤◌, max, Bool, ◌&&◌, List, [], ◌∷◌, ◌++◌, length, filter, take, slice_index_or, None, option_map, refl, arith, common_steps, AllByRecursion, find, ne_eqb, append-nil, take_more, flat_map-append, filter-append, Arrival, arriving_at, end_of, AreOwn, all_of, is_from, Some, Cell}
+use Rattle.cq_cells.proofs.Terms.{rules, ◌≡◌, ◌≢◌, ℕ, IfSome, and_right, cond_both, eqb-true, zero, suc, ◌+◌, ◌<◌, ◌≤◌, max, Bool, ◌&&◌, List, [], ◌∷◌, ◌++◌, length, filter, take, slice_index_or, None, option_map, refl, arith, common_steps, AllByRecursion, find, ne_eqb, append-nil, take_more, flat_map-append, filter-append, Arrival, arriving_at, end_of, AreOwn, all_of, is_from}
 use Rattle.cq_cells.proofs.Looked.{is_in}
 
 abbrev pub AllFrom : ℕ → List Arrival → Type 0
@@ -67,19 +67,9 @@ pub end_of-append : (xs ys : List Arrival) → end_of (xs ++ ys) ≡ max (end_of
 end_of-append [] ys = omega arith
 end_of-append (x ∷ xs) ys = omega (arith, end_of-append xs ys)
 
--- ## A line gives a cell to its own input only
-
-own_at : (k i j : ℕ) (lines : List (List Arrival)) → AreOwn k lines → i < length lines → k + i ≡ j →
-    AllFrom j (slice_index_or lines i [])
-own_at k i j [] own h e = absurd (omega arith)
-own_at k zero j (line ∷ lines) own h e = let same : k ≡ j = omega arith in rw (← same) own.0
-own_at k (suc i) j (line ∷ lines) own h e = own_at (k + 1) i j lines own.1 (omega arith) (omega arith)
-
-found_from : (p : Arrival → Bool) (input : ℕ) (line : List Arrival) (cell : Cell) → AllFrom input line →
-    option_map (λ a. a.cell) (find p line) ≡ Some cell → cell.id.input ≡ input
-found_from p input [] cell own e = cc
-found_from p input (a ∷ line) cell own e = search (arith, rules, found_from p input line cell own.1)
-
-pub comes_to_own : (slot i : ℕ) (lines : List (List Arrival)) (cell : Cell) → AreOwn 0 lines → i < length lines →
-    option_map (λ a. a.cell) (find (is_in slot) (slice_index_or lines i [])) ≡ Some cell → cell.id.input ≡ i
-comes_to_own slot i lines cell own h e = search (arith, rules, found_from, is_in, slice_index_or, own_at)
+-- what arrives at an input is its own
+pub arrives_own : (came : List Arrival) (slot input : ℕ) →
+    IfSome (arriving_at came slot input) (λ cell. cell.id.input ≡ input)
+arrives_own [] slot input = tt
+arrives_own (a ∷ came) slot input =
+    search (arith, rules, cond_both, and_right, eqb-true, arrives_own came slot input)

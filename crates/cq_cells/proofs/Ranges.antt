@@ -1,5 +1,5 @@
--- Lists that are made number by number.
-use Rattle.cq_cells.proofs.Terms.{rules, ◌≡◌, ◌≢◌, ℕ, zero, suc, ◌+◌, ◌<◌, ◌≤◌, Bool, List, [], ◌∷◌, ◌++◌, map, flat_map, None, refl, ap, sym, ◌∙◌, set, arith, common_steps, range_with_len, find, cases_eq, find-append, map-id, get_or-set_same, get_or-set_other, length-set, map-range_with_len_more, fill_by_all, length-map-range_with_len, get_or-map-range_with_len}
+-- Lists that are made number by number: what is found in them, and what holds of each two of their items.
+use Rattle.cq_cells.proofs.Terms.{rules, ◌≡◌, ◌≢◌, ℕ, zero, suc, ◌+◌, ◌<◌, ◌≤◌, Bool, List, [], ◌∷◌, ◌++◌, map, flat_map, None, refl, ap, sym, ◌∙◌, set, arith, common_steps, range_with_len, find, cases_eq, find-append, map-id, get_or-set_same, get_or-set_other, length-set, map-range_with_len_more, fill_by_all, length-map-range_with_len, get_or-map-range_with_len, EachPair, Has, all_flat, all_from_has, all_made, all_of_has, pairs_joined}
 
 -- the numbers up to the next one
 pub range_more : (a n : ℕ) → range_with_len a (n + 1) ≡ range_with_len a n ++ (a + n) ∷ []
@@ -25,6 +25,22 @@ pub find_only : {X : Type 0} (p : X → Bool) (f : ℕ → List X) (a n k : ℕ)
 find_only p f a zero k from to h = absurd (omega arith)
 find_only {X = X} p f a (suc n) k from to h =
     search (arith, rules, flat_map, cases_eq, find-append, find_none, find_only p f (a + 1) n k)
+
+-- what holds of each two numbers of a row holds of what is told for them
+pub pairs_made : {X : Type 0} (R : X → X → Type 0) (f : ℕ → X) (a n : ℕ) → ((j k : ℕ) → j < k → R (f j) (f k)) →
+    EachPair R (map f (range_with_len a n))
+pairs_made R f a zero each = tt
+pairs_made R f a (suc n) each =
+    (all_made (R (f a)) f (a + 1) n (λ k low high. each a k (omega arith)), pairs_made R f (a + 1) n each)
+
+pub pairs_flat : {X : Type 0} (R : X → X → Type 0) (f : ℕ → List X) (a n : ℕ) →
+    ((k : ℕ) → EachPair R (f k)) → ((j k : ℕ) (x y : X) → j < k → Has (f j) x → Has (f k) y → R x y) →
+    EachPair R (flat_map f (range_with_len a n))
+pairs_flat R f a zero own across = tt
+pairs_flat R f a (suc n) own across = pairs_joined R (f a) (flat_map f (range_with_len (a + 1) n))
+    (own a) (pairs_flat R f (a + 1) n own across)
+    (λ x y one two. all_of_has (R x) (flat_map f (range_with_len (a + 1) n)) y (all_flat (R x) f (a + 1) n
+    (λ k low high. all_from_has (R x) (f k) (λ z has. across a k x z (omega arith) one has))) two)
 
 -- one value that is written among those of the numbers
 pub set_one : {X : Type 0} (f g : ℕ → X) (n i : ℕ) (y : X) → i < n → g i ≡ y → ((j : ℕ) → j < n → j ≢ i → g j ≡ f j) →

@@ -5,10 +5,6 @@ use Rattle.cq_cells.proofs.Terms.{common_steps, rules, ◌≡◌, ℕ, zero, suc
 use Rattle.cq_cells.proofs.Looked.{piece}
 use Rattle.cq_cells.proofs.Pieces.{cells_above}
 
-some_cells : (cell_bytes : ℕ) (rows : List Row) → AreRows cell_bytes rows → (k : ℕ) → k < length rows →
-    0 < (row_at rows k).cells
-some_cells cell_bytes rows are k inside = grind (arith, common_steps, cells_above)
-
 -- ## Where a cell arrives
 
 arrives_first : (slot : ℕ) (xs ys : List Arrival) → ArrivesIn slot xs → ArrivesIn slot (xs ++ ys)
@@ -49,7 +45,8 @@ module _ (input cell_bytes : ℕ) (rows : List Row) (from n : ℕ) (ended : IsEn
       let start = (row_at rows n).start in
       let cell = row_cell input cell_bytes n (row_at rows n) in
       let piece_of_last = arrives_piece slot start cell 0 (row_at rows n).cells (slot - start) in
-      let some = some_cells cell_bytes rows are n inside in
+      let some : 0 < (row_at rows n).cells =
+      omega (arith, are.cut n inside, cells_above (row_at rows n).len cell_bytes) in
       let cells : ℕ → List Arrival = λ k. row_arrivals input cell_bytes k (row_at rows k) in
       let P : Arrival → Type 0 = λ a. from ≤ a.slot → slot ≤ a.slot in
       record {

@@ -1,39 +1,33 @@
-use Rattle.cq_cells.proofs.Terms.{rules, ◌≡◌, ◌+◌, List, [], Option, option_map, slice_index_or, ap, sym, ◌∙◌, subst, arith, ℕ, find, get_or_read, Arrival, Cell, all_of}
-use Rattle.cq_cells.proofs.Filling.{Filling, own_if, filling_first, filling_next, all_filled, still_stand}
+use Rattle.cq_cells.proofs.Terms.{rules, ◌≡◌, List, [], option_map, ap, sym, ◌∙◌, arith, find, get_or_read, Arrival, arriving_at, all_of}
+use Rattle.cq_cells.proofs.Filling.{filling_first, filling_next, all_filled, still_stand}
 use Rattle.cq_cells.proofs.Looked.{is_in}
-use Rattle.cq_cells.proofs.Owned.{arriving_at_line, comes_to_own}
+use Rattle.cq_cells.proofs.Owned.{arriving_at_line, arrives_own}
 use Rattle.cq_cells.proofs.coming.come.Goals as goal
+use Rattle.cq_cells.proofs.coming.come.Goals.{After-cell_near-cell}
 
--- the cell that a line gives
-abbrev shown : ℕ → List Arrival → Option Cell
-shown slot came = option_map (λ a. a.cell) (find (is_in slot) came)
+-- the cell that a line gives is the one that arrives at its input
+given : (c : After-cell_near-cell) →
+    c.cell_near-cell.result ≡ arriving_at (all_of c.args.lines.now) c.args.slot c.lines.input
+given c = c.cell_near-cell.ensures
+    ∙ ap (λ (came : List Arrival). option_map (λ a. a.cell) (find (is_in c.args.slot) came))
+    (get_or_read c.args.lines.now c.lines.input _ c.lines-test.true c.index-lines-input.is [])
+    ∙ sym (arriving_at_line c.args.slot c.lines.input c.args.lines.now c.requires.own c.lines-test.true)
 
 pub lines-init : goal.lines-init
 lines-init c = filling_first (all_of c.args.lines.now) c.args.slot c.args.arrivals.now
 
 pub put-requires-clause-own : goal.put-requires-clause-own
-put-requires-clause-own c =
-    let lines = c.args.lines.now in
-    let i = c.lines.input in
-    let line : c.index-lines-input.result ≡ slice_index_or lines i [] =
-    get_or_read lines i _ c.lines-test.true c.index-lines-input.is [] in
-    own_if c.cell_near-cell.result i (λ cell is. comes_to_own c.args.slot i lines cell c.requires.own
-    c.lines-test.true (sym (ap (shown c.args.slot) line) ∙ sym c.cell_near-cell.ensures ∙ is))
+put-requires-clause-own c = rw (given (goal.at.put-requires-clause-own c).After-cell_near-cell)
+    (arrives_own (all_of c.args.lines.now) c.args.slot c.lines.input)
 
 pub lines-preserved : goal.lines-preserved
 lines-preserved c =
-    let lines = c.args.lines.now in
-    let i = c.lines.input in
-    let line : c.index-lines-input.result ≡ slice_index_or lines i [] =
-    get_or_read lines i _ c.lines-test.true c.index-lines-input.is [] in
     let places = c.lines.invariant.places in
     let all = c.requires.stand.places in
     let few = c.requires.few in
     let inside = c.lines-test.true in
-    subst (λ (now : List (Option Cell)). Filling (all_of lines) c.args.slot (i + 1) c.args.arrivals.now now)
-    (sym c.put.ensures) (filling_next (all_of lines) c.args.slot i c.args.arrivals.now c.lines.arrivals
-    c.cell_near-cell.result c.lines.invariant (omega arith) (c.cell_near-cell.ensures
-    ∙ ap (shown c.args.slot) line ∙ sym (arriving_at_line c.args.slot i lines c.requires.own inside)))
+    filling_next _ _ _ _ _ _ _ c.lines.invariant (omega arith)
+    (given (goal.at.lines-preserved c).After-cell_near-cell) c.put.ensures
 
 pub returns : goal.returns
 returns c = search (arith, rules, all_filled, still_stand)
