@@ -58,7 +58,7 @@ impl Departures {
         ensures none_left { sent.new.items ≡ [] }
         ensures room { sent.new.spare ≡ sent.old.spare + length sent.old.items }
     {
-        put_each(&mut self.packed, sent.items());
+        self.put_all(sent.items());
         sent.clear();
     }
 
