@@ -2,10 +2,11 @@
 -- digit, and then that digit, so it is one digit longer. A number below 2 ^ 128 is below 10 ^ 39, so it has at most 39
 -- digits. A digit that is written right behind those at the front leaves what comes after it as it was, and one that is
 -- written right before those that stand there leaves one less to write.
-use Rattle.cq_base.proofs.Terms.{rules, ◌≡◌, ℕ, ◌+◌, ◌*◌, ◌<◌, ◌≤◌, ◌/◌, ◌%◌, ◌^◌, List, [], ◌∷◌, ◌++◌, length, map, refl, ap, sym, ◌∙◌, arith, lit≤, zero, suc, set, drop, length-append, append_assoc, common_steps, digits_of, digits_of_step, length-digits_of-le, map-append, length-map, length-drop, drop-drop}
+use Rattle.cq_base.proofs.Terms.{rules, ◌≡◌, ℕ, ◌+◌, ◌*◌, ◌<◌, ◌≤◌, ◌/◌, ◌%◌, ◌^◌, List, [], ◌∷◌, ◌++◌, length, map, refl, ap, sym, ◌∙◌, arith, lit≤, zero, suc, set, get_or, drop, length-append, append_assoc, common_steps, digits_of, digits_of_step, length-digits_of-le, map-append, length-map}
 use Rattle.cq_base.specs.Decimal.{decimal}
 use Rattle.std.proofs.Math.Nat.{one-le-pow}
-use Rattle.std.proofs.lemmas.List.{drop-set}
+use Rattle.std.proofs.lemmas.Grind.{drop-set_at}
+use Rattle.std.proofs.lemmas.List.{drop-set, drop_more, set_at}
 
 pub decimal_above : (n : ℕ) → 0 < n → decimal n ≡ map (λ d. 48 + d) (digits_of 10 n)
 unfolding decimal
@@ -42,41 +43,26 @@ length-decimal_from (suc tens) n from below =
     let more : 10 ≤ n = omega (arith, one-le-pow tens 10 (lit≤ tt)) in
     omega (arith, length-decimal_more n more, length-decimal_from tens (n / 10) (omega arith) (omega arith))
 
--- a write right behind the first list is a write at the front of the second
-set-append_seam : (xs ys : List ℕ) (v : ℕ) → set (xs ++ ys) (length xs) v ≡ xs ++ set ys 0 v
-set-append_seam [] ys v = refl
-set-append_seam (x ∷ xs) ys v = ap (λ zs. x ∷ zs) (set-append_seam xs ys v)
-
-first_set : (to : List ℕ) (v : ℕ) → 0 < length to → set to 0 v ≡ v ∷ drop 1 to
-first_set [] v h = absurd (omega arith)
-first_set (x ∷ xs) v h = refl
-
 -- the number of which one digit is left gets its first one
 pub last_digit : (n end : ℕ) (to all : List ℕ) → n < 10 → 0 < length to → length (decimal n) ≡ end →
     decimal n ++ drop end to ≡ all → set to 0 (48 + n) ≡ all
 last_digit n end to all h room is had =
     let small = decimal_small n h in
     let itself : n ≡ n % 10 = omega arith in
-    first_set to (48 + n) room ∙ ap (λ d. (48 + d) ∷ drop 1 to) itself ∙ ap (λ ds. ds ++ drop 1 to) (sym small)
+    drop-set_at to 0 0 (48 + n) refl room ∙ ap (λ d. (48 + d) ∷ drop 1 to) itself
+    ∙ ap (λ ds. ds ++ drop 1 to) (sym small)
     ∙ ap (λ k. decimal n ++ drop k to) (sym (ap length small) ∙ is) ∙ had
 
 -- a digit that is written right before those that stand there: one less is left
 pub one_digit_less : (n at end : ℕ) (to all : List ℕ) → 10 ≤ n → end ≡ at + 1 → at < length to →
     decimal n ++ drop end to ≡ all → decimal (n / 10) ++ drop at (set to at (48 + n % 10)) ≡ all
 one_digit_less n at end to all more e room had =
-    ap (λ t. decimal (n / 10) ++ t) (drop-set to at (48 + n % 10) room)
-    ∙ sym (append_assoc (decimal (n / 10)) ((48 + n % 10) ∷ []) (drop (at + 1) to))
-    ∙ ap (λ ds. ds ++ drop (at + 1) to) (sym (decimal_more n more)) ∙ ap (λ k. decimal n ++ drop k to) (sym e) ∙ had
+    search (arith, rules, drop-set to at (48 + n % 10) room, append_assoc, decimal_more n more, had)
 
 -- the digits after the last one was written behind the others
 pub one_more_digit : (n count : ℕ) (to mid : List ℕ) → 10 ≤ n → count ≡ length (decimal (n / 10)) →
     count < length to → mid ≡ decimal (n / 10) ++ drop count to →
     set mid count (48 + n % 10) ≡ decimal n ++ drop (count + 1) to
 one_more_digit n count to mid h c k m =
-    let r : 0 < length (drop count to) = omega (arith, length-drop count to) in
-    ap (λ ys. set ys count (48 + n % 10)) m ∙ ap (λ i. set (decimal (n / 10) ++ drop count to) i (48 + n % 10)) c
-    ∙ set-append_seam (decimal (n / 10)) (drop count to) (48 + n % 10)
-    ∙ ap (λ ys. decimal (n / 10) ++ ys)
-    (first_set (drop count to) (48 + n % 10) r ∙ ap (λ ys. (48 + n % 10) ∷ ys) (drop-drop 1 count to))
-    ∙ sym (append_assoc (decimal (n / 10)) ((48 + n % 10) ∷ []) (drop (count + 1) to))
-    ∙ ap (λ ds. ds ++ drop (count + 1) to) (sym (decimal_more n h))
+    let put = set_at (decimal (n / 10)) (get_or to count 0) (drop (count + 1) to) (48 + n % 10) count (sym c) in
+    search (arith, rules, m, drop_more to count 0 k, put, append_assoc, decimal_more n h)

@@ -1,7 +1,7 @@
 -- What a list has, of whatever type: an item is the first, or one of the others. What holds of each item holds of
 -- those that it has, and the other way; and so it is for two. And what places, joined lists, images and tests show of
 -- it.
-use Rattle.cq_base.proofs.Terms.{common_steps, arith, Bool, List, Some, [], ap, false, get_or, inl, inr, length, map, refl, suc, sym, true, zero, ℕ, ⊎_elim, ◌++◌, ◌<◌, ◌∙◌, ◌∷◌, ◌≡◌, ◌⊎◌, cases_Bool, or_left, or_right, true≢false, All-from_recursion, recursion_from_All, AllByRecursion, list_any, All, filter, slice_get}
+use Rattle.cq_base.proofs.Terms.{common_steps, arith, Bool, List, Some, [], ap, false, get_or, inl, inr, length, map, refl, suc, true, zero, ℕ, ⊎_elim, ◌++◌, ◌<◌, ◌∷◌, ◌≡◌, ◌⊎◌, cases_Bool, or_left, or_right, All-from_recursion, recursion_from_All, AllByRecursion, list_any, All, filter, slice_get}
 use Rattle.cq_base.specs.Items.{EachPair, Has}
 
 -- ## Each item
@@ -91,6 +91,4 @@ module _ {X : Type 0} (p : X → Bool) where
   -- one passes where all are alike, and there is one
   pub any_alike : (t : Bool) (xs : List X) (x : X) → Has xs x → ((y : X) → Has xs y → p y ≡ t) → list_any p xs ≡ t
   any_alike true xs x has alike = any_has xs x has (alike x has)
-  any_alike false xs x has alike = ⊎_elim (λ holds.
-      let it = has_any xs holds in absurd (true≢false (sym it.2 ∙ alike it.0 it.1))) (λ none. none)
-      (cases_Bool (list_any p xs))
+  any_alike false xs x has alike = grind (arith, common_steps, cases_Bool (list_any p xs), has_any xs, alike)

@@ -80,12 +80,7 @@ each_pair_left R j (x ∷ xs) e = grind (arith, common_steps, cond_both, all_lef
 
 none_left : (j : ℕ) (xs : List Queued) → first_for j xs ≡ None → without_first j xs ≡ xs
 none_left j [] h = refl
-none_left j (x ∷ xs) h = go (is_for j x) h (none_left j xs)
-  where
-    go : (b : Bool) → cond b (Some x) (first_for j xs) ≡ None → (first_for j xs ≡ None → without_first j xs ≡ xs) →
-        cond b xs (x ∷ without_first j xs) ≡ x ∷ xs
-    go true e rest = cc
-    go false e rest = ap (λ l. x ∷ l) (rest e)
+none_left j (x ∷ xs) h = grind (arith, common_steps, none_left j xs)
 
 -- what is left where a search for the first cell for the output found none
 pub taken_none : (j : ℕ) (xs : List Queued) → position (is_for j) xs ≡ None →

@@ -1,7 +1,7 @@
 -- What stands at the places of arrivals. Where no cell came every place answers none, inside the list and beyond it,
 -- so there is no cell of which anything is asked. And what is read at a place, if it is a cell, stands at its own
 -- input, also where it was put there in place of another.
-use Rattle.cq_base.proofs.Terms.{common_steps, rules, ◌≡◌, ◌<◌, ℕ, List, get_or, set, Option, None, Some, Bor, sym, ◌∙◌, length-set, get_or-set_same, get_or-set_other, arith, ◌≢◌, ap, ⊎_elim, IfSome, unwrap_or, option_copied, option_flatten, option_map, cases_eq, cases_lt, length-replicate, get_or-replicate, slice_get_past, unwrap_or-slice_get}
+use Rattle.cq_base.proofs.Terms.{common_steps, rules, ◌≡◌, ◌<◌, ℕ, List, get_or, set, Option, None, Some, Bor, sym, ◌∙◌, length-set, get_or-set_same, get_or-set_other, arith, ap, ⊎_elim, IfSome, unwrap_or, option_copied, option_flatten, option_map, cases_eq, cases_lt, length-replicate, get_or-replicate, slice_get_past, unwrap_or-slice_get}
 use Rattle.cq_base.specs.declared.cell.Cell.{Cell}
 use Rattle.cq_base.specs.Arrivals.{AreArrivals, arrival_at, no_arrivals}
 
@@ -45,16 +45,12 @@ pub put_are : (cells : List (Option Cell)) (input : ℕ) (o : Option Cell) → A
     IfSome o (λ cell. cell.id.input ≡ input) → AreArrivals (set cells input o)
 put_are cells input o are place own =
     let none : Option Cell = None in
-    let places = are.places in
     record {
       places = length-set cells input o ∙ are.places;
       own_input = λ i cell at.
-          let read : get_or (set cells input o) i none ≡ Some cell =
-          sym (unwrap_or-slice_get (set cells input o) i none) ∙ at in
-          ⊎_elim (λ (here : i ≡ input).
-          let is : o ≡ Some cell = sym (get_or-set_same cells input o none (omega arith))
-          ∙ ap (λ k. get_or (set cells input o) k none) (sym here) ∙ read in
-          own_of o cell input is own ∙ sym here) (λ (other : i ≢ input). are.own_input i cell
-          (unwrap_or-slice_get cells i none ∙ sym (get_or-set_other cells input i o none other) ∙ read))
-          (cases_eq i input);
+          let read = unwrap_or-slice_get (set cells input o) i none in
+          let had = unwrap_or-slice_get cells i none in
+          let same = get_or-set_same cells input o none in
+          let other = get_or-set_other cells input i o none in
+          grind (arith, common_steps, cases_eq i input, read, had, same, other, are.own_input, are.places, own_of);
     }

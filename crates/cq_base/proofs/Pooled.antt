@@ -3,7 +3,7 @@
 -- the other and no later than its first, and the other way round: so their firsts are one, and then the others. And no
 -- more items than a pool has, where each item stands for one of the pool and no two stand for the same. So items with
 -- different numbers below a bound are no more than the bound.
-use Rattle.cq_base.proofs.Terms.{common_steps, arith, rules, Bool, List, Option, Some, [], ap, inl, inr, length, map, refl, suc, sym, true, zero, ℕ, ◌++◌, ◌+◌, ◌<◌, ◌∙◌, ◌∷◌, ◌≡◌, ◌≢◌, ◌≤◌, ◌⊎◌, cases_eq, All-from_recursion, recursion_from_All, length-range_with_len, AllPairs-cons, AllByRecursion, AllPairs, filter_map, range_with_len, filter, slice_get, ⊎_elim}
+use Rattle.cq_base.proofs.Terms.{common_steps, arith, rules, Bool, List, Option, Some, [], ap, inl, inr, length, map, refl, suc, sym, true, zero, ℕ, ◌++◌, ◌+◌, ◌<◌, ◌∙◌, ◌∷◌, ◌≡◌, ◌≢◌, ◌≤◌, ◌⊎◌, cases_eq, All-from_recursion, recursion_from_All, length-range_with_len, AllPairs-cons, AllByRecursion, AllPairs, filter_map, range_with_len, filter, slice_get}
 use Rattle.cq_base.proofs.Each.{all_both, all_front, all_weaker, images_held, of_images}
 use Rattle.cq_base.proofs.Having.{all_from_has, all_of_has, has_right, kept_has}
 use Rattle.cq_base.specs.Items.{EachPair, Has}
@@ -104,9 +104,7 @@ same_pairs R never [] [] up rising to from = refl
 same_pairs R never [] (y ∷ ys) up rising to from = absurd (from y (inl refl))
 same_pairs R never (x ∷ xs) [] up rising to from = absurd (to x (inl refl))
 same_pairs R never (x ∷ xs) (y ∷ ys) up rising to from =
-    let first : x ≡ y = ⊎_elim (λ same. sym same) (λ later. ⊎_elim (λ same. same) (λ after.
-    absurd (never y x (all_of_has (R y) ys x rising.0 later) (all_of_has (R x) xs y up.0 after)))
-    (from y (inl refl))) (to x (inl refl)) in
+    let first : x ≡ y = search (arith, rules, all_of_has, never, to x (inl refl), from y (inl refl)) in
     search (arith, rules, all_of_has, never, same_pairs R never xs ys up.1 rising.1)
 
 -- of images, and the other way

@@ -3,6 +3,7 @@
 use Rattle.cq_base.proofs.Terms.{common_steps, ◌≡◌, ◌≢◌, ◌+◌, true, false, List, [], ◌∷◌, length, refl, sym, ⊎_elim, arith, AllByRecursion, cond_both, cases_Bool, Key, is_before}
 use Rattle.cq_base.specs.declared.cell.Queued.{Queued}
 use Rattle.cq_base.specs.Cells.{IsBefore, IsRising, HasOtherKey, put}
+use Rattle.cq_base.proofs.Each.{all_weaker}
 use Rattle.cq_base.proofs.Keys.{key_laws}
 
 pub all_put : (P : Queued → Type 0) (c : Queued) (xs : List Queued) → P c → AllByRecursion P xs →
@@ -21,8 +22,7 @@ after_other a b h ne = ⊎_elim (λ e. e) (λ e. absurd (ne (sym (key_laws.alike
 -- what comes before the first cell of a rising list comes before all
 pub before_all : (c x : Queued) (xs : List Queued) → IsBefore c x → AllByRecursion (IsBefore x) xs →
     AllByRecursion (IsBefore c) xs
-before_all c x [] e all = tt
-before_all c x (y ∷ ys) e all = (key_laws.on c.key x.key y.key e all.0, before_all c x ys e all.1)
+before_all c x xs e all = all_weaker (IsBefore x) (IsBefore c) (λ y. key_laws.on c.key x.key y.key e) xs all
 
 pub rising_put : (c : Queued) (xs : List Queued) → IsRising xs → HasOtherKey c xs → IsRising (put c xs)
 rising_put c [] rising other = (tt, tt)
