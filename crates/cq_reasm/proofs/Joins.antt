@@ -1,5 +1,5 @@
 -- What a cell changes of a joiner: what is open of its pair, and nothing else.
-use Rattle.cq_reasm.proofs.Terms.{common_steps, rules, ◌≡◌, ◌≢◌, ◌⊎◌, ℕ, zero, suc, ◌+◌, ◌*◌, ◌<◌, true, arith, List, [], ◌∷◌, set, get_or, Option, None, Some, refl, sym, ap, div-mul-add, get_or-set_other, Open, cells_taken, JoinerView, IsNext, IsOtherPair, open_at, with_open, open_after}
+use Rattle.cq_reasm.proofs.Terms.{common_steps, rules, ◌≡◌, ◌≢◌, ◌⊎◌, ℕ, ◌+◌, ◌*◌, ◌<◌, true, arith, List, set, get_or, Option, None, Some, sym, div-mul-add, get_or-set_other, Open, cells_taken, JoinerView, IsNext, IsOtherPair, open_at, with_open, open_after}
 use Rattle.cq_base.specs.declared.cell.Cell.{Cell}
 
 -- as many cells were taken as stand before it in its packet
@@ -21,13 +21,6 @@ pub left_is : (inputs classes : ℕ) (packets left : List (Option Open)) (joiner
     (let seen : JoinerView = record { inputs = inputs; classes = classes; open_packets = left } in seen)
     ≡ with_open joiner input class now
 left_is inputs classes packets left joiner input class place now e p h = grind (arith, common_steps)
-
--- what was put at a place and taken away again
-pub closed_again : (packets : List (Option Open)) (place : ℕ) (added now : Option Open) →
-    set (set packets place added) place now ≡ set packets place now
-closed_again [] place added now = refl
-closed_again (x ∷ xs) zero added now = refl
-closed_again (x ∷ xs) (suc place) added now = ap (λ ys. x ∷ ys) (closed_again xs place added now)
 
 -- the last cell leaves nothing open
 pub closed_by_last : (was : Option Open) (cell : Cell) (piece : List ℕ) → cell.last ≡ true →

@@ -1,7 +1,7 @@
 -- The cells of whole packets are taken one after another. At each cell before the last one the packet stays open,
 -- with this cell's piece behind the others, so the next cell is the next of the packet. The last one gives the
 -- packet, and closes it, so the first cell of the packet behind it is the next.
-use Rattle.cq_reasm.proofs.Terms.{rules, ◌≡◌, ℕ, ◌+◌, true, false, List, [], ◌∷◌, ◌++◌, Option, None, Some, refl, sym, ap, ◌∙◌, arith, append_assoc, common_steps, flat_map, append-nil, Open, bytes_taken, with_piece, IsNext, joined_at, open_after, Piece}
+use Rattle.cq_reasm.proofs.Terms.{◌≡◌, ℕ, ◌+◌, List, [], ◌∷◌, ◌++◌, Option, None, Some, refl, sym, ap, ◌∙◌, arith, append_assoc, common_steps, flat_map, append-nil, Open, bytes_taken, with_piece, IsNext, Piece}
 use Rattle.cq_reasm.specs.declared.joiner.Joined.{Joined}
 use Rattle.cq_reasm.specs.Whole.{IsCellOf, AreCellsFrom, cells_in, AreNext, given, open_after_all, WholeAreTaken, whole}
 
@@ -27,16 +27,6 @@ module _ (input class packet : ℕ) where
   bytes_more None number bytes rest = refl
   bytes_more (Some p) number bytes rest = append_assoc p.body bytes rest
 
-  stays_open : (was : Option Open) (x : Piece) → x.cell.last ≡ false →
-      open_after was x.cell x.bytes ≡ Some (with_piece was x.cell.id.packet x.bytes)
-  stays_open was x e = grind (arith, common_steps)
-
-  gives_none : (was : Option Open) (x : Piece) → x.cell.last ≡ false → joined_at was x.cell x.bytes ≡ None
-  gives_none was x e = grind (arith, common_steps)
-
-  closes : (was : Option Open) (x : Piece) → x.cell.last ≡ true → open_after was x.cell x.bytes ≡ None
-  closes was x e = grind (arith, common_steps)
-
   -- the cells of a packet from one on, and others behind them
   record Rest (was : Option Open) (xs later : List Piece) : Type 0 where
     next : AreNext None later → AreNext was (xs ++ later)
@@ -49,11 +39,10 @@ module _ (input class packet : ℕ) where
   rest_of : (was : Option Open) (index : ℕ) (xs later : List Piece) → IsOpenAt was packet index →
       AreCellsFrom input class packet index xs → Rest was xs later
   rest_of was index [] later o h = absurd h
-  rest_of was index (x ∷ []) later o h = search (arith, rules, closes, is_next, append-nil)
+  rest_of was index (x ∷ []) later o h = grind (arith, common_steps, is_next, append-nil)
   rest_of was index (x ∷ y ∷ xs) later o h =
       let on : Option Open = Some (with_piece was x.cell.id.packet x.bytes) in
-      let kept : open_after was x.cell x.bytes ≡ on = stays_open was x h.1 in
-      search (arith, rules, one_more, is_next, gives_none, bytes_more, rest_of on (index + 1) (y ∷ xs) later)
+      grind (arith, common_steps, one_more, is_next, bytes_more, rest_of on (index + 1) (y ∷ xs) later)
 
 pub whole_are_taken : WholeAreTaken
 whole_are_taken input class [] h = record { next = tt; gives = refl; closes = refl }

@@ -1,32 +1,27 @@
 -- The open packets lie in a slab under keys, no key stands at two places, and each packet of the slab stands at one.
 -- So what happens under one key changes what is seen at its own place, and at no other.
-use Rattle.cq_reasm.proofs.Terms.{common_steps, rules, ◌≡◌, ◌≢◌, ℕ, zero, suc, ◌-◌, ◌<◌, List, [], ◌∷◌, ◌++◌, take, length, map, get_or, set, Option, None, Some, refl, sym, ap, subst, ◌∙◌, ⊎_elim, ◌⊎◌, inr, arith, replicate, IsSome, option_map, same_Some, cases_eq, get_or-set_same, get_or-set_other, set-get_or, length-map, take_all, Open, grown, with_piece}
+use Rattle.cq_reasm.proofs.Terms.{common_steps, rules, ◌≡◌, ◌≢◌, ℕ, zero, suc, ◌-◌, ◌<◌, List, [], ◌++◌, take, length, map, get_or, set, Option, None, Some, refl, sym, ap, subst, ◌∙◌, ⊎_elim, ◌⊎◌, inr, arith, replicate, IsSome, option_map, same_Some, cases_eq, get_or-set_same, get_or-set_other, set-get_or, length-map, take_all, Open, grown, with_piece, get_or_read, ext_get_or, length-set}
 use Rattle.std.proofs.Math.ListN.{get_or-map}
+use Rattle.std.proofs.lemmas.List.{get_or-map as read_map}
 use Rattle.slab.specs.Slab.{Slab, get, ContainsKey}
 use Rattle.cq_reasm.specs.declared.open_packets.OpenPacket.{OpenPacket}
 use Rattle.cq_reasm.specs.Table.{packet_under, IsTable}
 
 -- ## Lists seen through a function
 
--- seen alike at each place
-same_seen : {X Y : Type 0} (f g : X → Y) (xs : List X) (d : X) →
-    ((q : ℕ) → q < length xs → f (get_or xs q d) ≡ g (get_or xs q d)) → map f xs ≡ map g xs
-same_seen f g [] d h = refl
-same_seen f g (x ∷ xs) d h =
-    let head = h zero (omega arith) in let tail = same_seen f g xs d (λ q l. h (suc q) (omega arith)) in cc
-
 -- seen alike at each other place than this
 pub seen_at_one : {X Y : Type 0} (f g : X → Y) (xs : List X) (p : ℕ) (x d : X) (y : Y) → g x ≡ y →
     ((q : ℕ) → q < length xs → q ≢ p → f (get_or xs q d) ≡ g (get_or xs q d)) →
     map g (set xs p x) ≡ set (map f xs) p y
-seen_at_one f g [] p x d y e h = refl
-seen_at_one f g (z ∷ xs) zero x d y e h =
-    let tail =
-    same_seen f g xs d (λ q l. h (suc q) (omega arith) (λ c. let P : ℕ = q in absurd (omega (arith, c)))) in
-    cc
-seen_at_one f g (z ∷ xs) (suc p) x d y e h =
-    let head : f z ≡ g z = h zero (omega arith) (λ c. absurd (omega (arith, c))) in
-    let tail = seen_at_one f g xs p x d y e (λ q l ne. h (suc q) (omega arith) (λ c. ne (omega (arith, c)))) in cc
+seen_at_one f g xs p x d y e h =
+    let seen : length (map g (set xs p x)) ≡ length xs = length-map (set xs p x) g ∙ length-set xs p x in
+    let long = length-map xs f in
+    ext_get_or y (map g (set xs p x)) (set (map f xs) p y) (seen ∙ sym (length-set (map f xs) p y ∙ long)) (λ q inside.
+    let here = read_map g (set xs p x) q d y (omega (arith, seen, length-set xs p x)) in
+    ⊎_elim (λ same. here ∙ rw same (ap g (get_or-set_same xs p x d (omega arith)) ∙ e
+    ∙ sym (get_or-set_same (map f xs) p y y (omega arith))))
+    (λ away. here ∙ ap g (get_or-set_other xs p q x d away) ∙ sym (h q (omega arith) away)
+    ∙ sym (read_map f xs q d y (omega arith)) ∙ sym (get_or-set_other (map f xs) p q y y away)) (cases_eq q p))
 
 -- ## What is seen at a place
 
@@ -60,13 +55,6 @@ filled was now n l e z h = grind (arith, common_steps, take_all)
 pub inside_keys : (packets : Slab OpenPacket) (keys : List (Option ℕ)) (seen : List (Option Open)) (place : ℕ) →
     map (packet_under packets) keys ≡ seen → place < length seen → place < length keys
 inside_keys packets keys seen place e h = omega (arith, length-map keys (packet_under packets), ap length e)
-
--- the key that was read
-pub key_at : (keys : List (Option ℕ)) (place : ℕ) (k : Option ℕ) → place < length keys → k ≡ get_or keys place k →
-    get_or keys place None ≡ k
-key_at [] place k h e = absurd (omega arith)
-key_at (x ∷ xs) zero k h e = sym e
-key_at (x ∷ xs) (suc place) k h e = key_at xs place k (omega arith) e
 
 -- where no key stands no packet is open
 pub none_at : (packets : Slab OpenPacket) (keys : List (Option ℕ)) (seen : List (Option Open)) (place : ℕ) →
@@ -109,7 +97,7 @@ module _ (old new : Slab OpenPacket) (keys : List (Option ℕ)) (seen : List (Op
   -- the packet under the key of this place grows, or goes
   module _ (is : read ≡ Some key) where
     at : get_or keys place None ≡ Some key
-    at = key_at keys place read inside was_read ∙ is
+    at = sym (get_or_read keys place read inside was_read None) ∙ is
 
     not_elsewhere : (q k : ℕ) → q ≢ place → get_or keys q None ≡ Some k → k ≢ key
     not_elsewhere q k ne e same = ne (table.apart q place k e (at ∙ ap Some (sym same)))
@@ -122,10 +110,8 @@ module _ (old new : Slab OpenPacket) (keys : List (Option ℕ)) (seen : List (Op
         map (packet_under new) keys ≡ set seen place (Some (with_piece (get_or seen place None) number piece))
     grown_seen number piece e =
         let now = grown_now old keys seen place key number piece table view at in
-        ap (map (packet_under new)) (sym (set-get_or keys place None))
-        ∙ seen_at_one (packet_under old) (packet_under new) keys place (get_or keys place None) None _
-        (ap (packet_under new) at ∙ e ∙ now) (λ q l ne. seen_elsewhere q ne)
-        ∙ ap (λ s. set s place (Some (with_piece (get_or seen place None) number piece))) view
+        rw (set-get_or keys place None, view) at (seen_at_one (packet_under old) (packet_under new) keys place
+        (get_or keys place None) None _ (ap (packet_under new) at ∙ e ∙ now) (λ q l ne. seen_elsewhere q ne))
 
     -- what is left in the slab stands where it stood
     left_at : get_or keys place None ≡ Some key → get new key ≡ None → (k : ℕ) → ContainsKey new k →
@@ -145,7 +131,7 @@ module _ (old new : Slab OpenPacket) (keys : List (Option ℕ)) (seen : List (Op
   module _ (is : read ≡ None) (vacant : get old key ≡ None) (now : Open)
       (stored : packet_under new (Some key) ≡ Some now) where
     none : get_or keys place None ≡ None
-    none = key_at keys place read inside was_read ∙ is
+    none = sym (get_or_read keys place read inside was_read None) ∙ is
 
     vacant_elsewhere : (q k : ℕ) → get_or keys q None ≡ Some k → k ≢ key
     vacant_elsewhere q k e same = grind (arith, common_steps)
@@ -165,8 +151,8 @@ module _ (old new : Slab OpenPacket) (keys : List (Option ℕ)) (seen : List (Op
     started_table = record {
       present = λ p k e. let stood = stands p k e in
           grind (arith, common_steps, present_now, kept_present, table.present);
-      apart = λ p q k e f. ⊎_elim (λ a. ⊎_elim (λ b. a.0 ∙ sym b.0) (λ b. absurd (b.0 a.1)) (stands q k f))
-          (λ a. ⊎_elim (λ b. absurd (a.0 b.1)) (λ b. table.apart p q k a.1 b.1) (stands q k f)) (stands p k e);
+      apart = λ p q k e f.
+          let a = stands p k e in let b = stands q k f in grind (arith, common_steps, table.apart p q k);
       placed = λ k h. ⊎_elim
           (λ same. (place, get_or-set_same keys place (Some key) None inside ∙ ap Some (sym same)))
           (λ ne.

@@ -1,20 +1,17 @@
-use Rattle.cq_reasm.proofs.Terms.{arith, ◌≡◌, ◌+◌, ◌*◌, set, get_or, None, Some, ap, ◌∙◌, rules, with_piece, open_at, with_open}
-use Rattle.cq_reasm.proofs.Joins.{taken_before, open_is, left_is, closed_again, closed_by_last, others_kept}
+use Rattle.cq_reasm.proofs.Terms.{arith, ◌≡◌, ◌+◌, ◌*◌, set, get_or, None, Some, ap, ◌∙◌, rules, set-set, with_piece, open_at, with_open}
+use Rattle.cq_reasm.proofs.Joins.{taken_before, open_is, left_is, closed_by_last, others_kept}
 use Rattle.cq_reasm.proofs.joiner.Joiner.take_reserving.Goals as goal
 
 pub add-requires-clause-next : goal.add-requires-clause-next
 add-requires-clause-next c = search (arith, rules, open_is, taken_before)
 
 pub returns-then-not-cell : goal.returns-then-not-cell
-returns-then-not-cell c = search (
-  arith,
-  rules,
-  c.from.result * c.from-2.result,
-  others_kept c.self.inside.inputs c.self.inside.classes c.self.inside.packets c.add.new.self c.args.self.now
-      c.args.cell.now (c.from.result * c.from-2.result + c.from-3.result) (Some (with_piece
-      (get_or c.self.inside.packets (c.from.result * c.from-2.result + c.from-3.result) None)
-      c.args.cell.now.id.packet c.args.piece.now)) c.self.view_is,
-)
+returns-then-not-cell c =
+    let at = c.from.result * c.from-2.result + c.from-3.result in
+    let added = Some (with_piece (get_or c.self.inside.packets at None) c.args.cell.now.id.packet c.args.piece.now) in
+    let others = others_kept c.self.inside.inputs c.self.inside.classes c.self.inside.packets c.add.new.self
+    c.args.self.now c.args.cell.now at added c.self.view_is in
+    search (arith, rules, c.from.result * c.from-2.result, others)
 
 pub returns : goal.returns
 returns c =
@@ -25,7 +22,7 @@ returns c =
     let packets = c.self.inside.packets in
     let added = Some (with_piece (get_or packets at None) id.packet c.args.piece.now) in
     let closed = c.close-body.ensures.closed ∙ ap (λ others. set others at None) c.in_ok-add.ensures.added
-    ∙ closed_again packets at added None in
+    ∙ set-set packets at added None in
     record {
       joined = search rules;
       left = left_is c.self.inside.inputs c.self.inside.classes packets c.close-body.new.self c.args.self.now id.input

@@ -1,5 +1,5 @@
-use Rattle.cq_reasm.proofs.Terms.{◌∙◌, on_ok_weaker}
-use Rattle.cq_reasm.proofs.Tables.{inside_keys, key_at, none_at, grown_seen, started_table, started_seen}
+use Rattle.cq_reasm.proofs.Terms.{◌∙◌, on_ok_weaker, None, get_or_read, sym}
+use Rattle.cq_reasm.proofs.Tables.{inside_keys, none_at, grown_seen, started_table, started_seen}
 use Rattle.cq_reasm.proofs.open_packets.OpenPackets.add.Goals as goal
 
 pub invariant_of-self-in-None : goal.invariant_of-self-in-None
@@ -13,7 +13,7 @@ returns-in_ok-key-in-None-clause-added c =
     let inside = inside_keys c.self.inside.packets keys c.args.self.now c.args.place c.self.view_is c.requires.place in
     let none =
     none_at c.self.inside.packets keys c.args.self.now c.args.place c.self.view_is
-    (key_at keys c.args.place c.index.result.now inside c.index.ensures ∙ c.in-None.is) in
+    (sym (get_or_read keys c.args.place c.index.result.now inside c.index.ensures None) ∙ c.in-None.is) in
     let seen = started_seen c.self.inside.packets c.start.new.packets _ _ _ _ c.self.invariant c.self.view_is
     c.requires.place c.in_ok-key-in-None.ensures.others _ c.index.ensures c.in-None.is
     c.in_ok-key-in-None.ensures.vacant _ c.in_ok-key-in-None.ensures.started in cc

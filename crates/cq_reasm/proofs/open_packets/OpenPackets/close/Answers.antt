@@ -1,5 +1,5 @@
-use Rattle.cq_reasm.proofs.Terms.{◌∙◌}
-use Rattle.cq_reasm.proofs.Tables.{inside_keys, key_at, none_at, closed_already, closed_table, closed_seen}
+use Rattle.cq_reasm.proofs.Terms.{◌∙◌, None, get_or_read, sym}
+use Rattle.cq_reasm.proofs.Tables.{inside_keys, none_at, closed_already, closed_table, closed_seen}
 use Rattle.cq_reasm.proofs.open_packets.OpenPackets.close.Goals as goal
 
 pub returns-in_err-key-clause-closed : goal.returns-in_err-key-clause-closed
@@ -8,7 +8,7 @@ returns-in_err-key-clause-closed c =
     let inside = inside_keys c.self.inside.packets keys c.args.self.now c.args.place c.self.view_is c.requires in
     closed_already c.args.self.now c.args.place
     (none_at c.self.inside.packets keys c.args.self.now c.args.place c.self.view_is
-    (key_at keys c.args.place c.index.result.now inside c.index.ensures ∙ c.in_err-key.was {u = tt}))
+    (sym (get_or_read keys c.args.place c.index.result.now inside c.index.ensures None) ∙ c.in_err-key.was {u = tt}))
 
 pub invariant_of-self : goal.invariant_of-self
 invariant_of-self c = closed_table c.self.inside.packets c.finish.new.packets _ _ _ _ c.self.invariant c.self.view_is
