@@ -1,6 +1,5 @@
--- Texts of lines. In a text one line more stands behind the lines before it. And the lines of what items stand for
--- are a text of those items.
-use Rattle.cq_report.proofs.Terms.{common_steps, rules, ◌≡◌, ℕ, ◌+◌, ◌<◌, List, [], ◌∷◌, ◌++◌, length, take, get_or, map, refl, ap, ◌∙◌, append_assoc, arith, flat_map, append-nil, flat_map_more, take_more, length-take-le, numbered_lines}
+-- Texts of lines. In a text one line more stands behind the lines before it.
+use Rattle.cq_report.proofs.Terms.{common_steps, rules, ◌≡◌, ℕ, ◌+◌, ◌<◌, List, [], ◌∷◌, ◌++◌, length, take, get_or, ap, ◌∙◌, append_assoc, arith, flat_map, append-nil, flat_map_more, take_more, length-take-le, numbered_lines}
 
 numbered_end : {X : Type 0} (line : ℕ → X → List ℕ) (n : ℕ) (xs : List X) (x : X) (m : ℕ) → m ≡ n + length xs →
     numbered_lines line n (xs ++ x ∷ []) ≡ numbered_lines line n xs ++ line m x
@@ -28,9 +27,3 @@ first_line line x left rest old new all first more so_far = grind (arith, common
 pub no_line_left : {X : Type 0} (line : X → List ℕ) (left : List X) (text all : List ℕ) → left ≡ [] →
     text ++ flat_map line left ≡ all → text ≡ all
 no_line_left line left text all none so_far = grind (arith, common_steps, append-nil)
-
--- the lines of what the items stand for
-pub lines_of_these : {X Y : Type 0} (line : Y → List ℕ) (f : X → Y) (xs : List X) →
-    flat_map (λ (x : X). line (f x)) xs ≡ flat_map line (map f xs)
-lines_of_these line f [] = refl
-lines_of_these line f (x ∷ xs) = ap (λ ys. line (f x) ++ ys) (lines_of_these line f xs)
