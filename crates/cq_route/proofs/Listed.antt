@@ -1,5 +1,5 @@
 -- Rows that are listed by the numbers of their addresses.
-use Rattle.cq_route.proofs.Terms.{common_steps, ℕ, zero, suc, ◌≡◌, ◌<◌, ◌==◌, ◌+◌, Bool, w64, List, [], ◌∷◌, ◌++◌, length, take, drop, get_or, Option, None, Some, option_map, All, refl, ap, sym, ◌∙◌, arith, rules, if◌then◌else◌, subst, to_be_bytes, find, option_map_or, option_or, unwrap_or, bytes_eq, cond_both, Decides-eqb, same_from_decides, take_more, All-push, find-append, be_bytes_8, bytes_eq-Decides, AddressRow, Tables, IsAddress, IsDirectoryOf, number_of, some_if, is_to, output_for}
+use Rattle.cq_route.proofs.Terms.{common_steps, ℕ, zero, suc, ◌≡◌, ◌<◌, ◌==◌, ◌+◌, Bool, w64, List, [], ◌∷◌, ◌++◌, length, take, drop, get_or, Option, None, Some, option_map, All, refl, ap, sym, ◌∙◌, arith, rules, if◌then◌else◌, to_be_bytes, find, option_map_or, option_or, unwrap_or, bytes_eq, cond_both, Decides-eqb, same_from_decides, take_more, All-push, find-append, be_bytes_8, bytes_eq-Decides, AddressRow, Tables, IsAddress, IsDirectoryOf, number_of, some_if, is_to, output_for}
 use Rattle.std.specs.HashMap.{HashMap, IsEmpty, get}
 use Rattle.std.specs.Prelude.{nat_eq}
 use Rattle.cq_route.specs.declared.directory.Directory.{Directory}
@@ -99,11 +99,7 @@ pub listed_more : {S : Type 0} (rows : List AddressRow) (i : ℕ) (old new : Has
     ((q : ℕ) → get nat_eq new q ≡ option_or (get nat_eq old q) (some_if (n == q) (get_or rows i d).output)) →
     AreListed (take (i + 1) rows) new
 listed_more rows i old new n d inside l a is learnt =
-    let row = get_or rows i d in
-    let more : take (i + 1) rows ≡ take i rows ++ row ∷ [] = take_more rows i d inside in
-    subst (λ (rs : List AddressRow). AreListed rs new) (sym more) (record {
-      macs = All-push (λ (r : AddressRow). IsAddress r.mac) (take i rows) row l.macs a;
-      known = λ q. learnt q ∙ ap (λ (o : Option ℕ). option_or o (some_if (n == q) row.output)) (l.known q)
-          ∙ ap (λ (m : ℕ). option_or (listed (take i rows) q) (some_if (m == q) row.output)) is
-          ∙ sym (listed_push (take i rows) row q);
+    rw (take_more rows i d inside) (record {
+      macs = All-push (λ (r : AddressRow). IsAddress r.mac) (take i rows) (get_or rows i d) l.macs a;
+      known = λ q. rw (listed_push (take i rows) (get_or rows i d) q, ← is, ← l.known q) (learnt q);
     })
