@@ -1,6 +1,6 @@
 -- What arrives in a slot is for the ports and of the classes, and each cell comes at its own input. It is found among
 -- all cells that come, and what holds of each of these holds of it.
-use Rattle.cq_traffic.proofs.Terms.{common_steps, ◌≡◌, ℕ, zero, suc, ◌+◌, ◌<◌, List, map, Some, None, arith, get_or, Option, sym, ◌∙◌, ⊎_elim, subst, AllByRecursion, range_with_len, cases_lt, get_or_past, get_or-map-range_with_len, length-map-range_with_len, unwrap_or-slice_get, Cell, arrival_at, Arrival, arriving, arriving_at, IsInRange, IsTraffic, arriving_from, cell_listed, found, all_found, arriving_is, all_weaker, most_ports}
+use Rattle.cq_traffic.proofs.Terms.{common_steps, ◌≡◌, ℕ, zero, suc, ◌+◌, ◌<◌, List, [], ◌∷◌, rules, map, Some, None, arith, get_or, AllByRecursion, range_with_len, cases_lt, get_or_past, get_or-map-range_with_len, length-map-range_with_len, unwrap_or-slice_get, Cell, arrival_at, Arrival, arriving, arriving_at, IsInRange, IsTraffic, arriving_from, cell_listed, found, arriving_is, most_ports}
 use Rattle.cq_ideal.specs.Ranking.{AreForPorts}
 
 -- what is known of the cells that arrive
@@ -16,23 +16,18 @@ one_found P came t k cell all is = grind (arith, common_steps, cell_listed)
 
 arriving_fits : (ports classes : ℕ) (came : List Arrival) (t k : ℕ) (cell : Cell) →
     AllByRecursion (IsInRange ports classes) came → arriving_at came t k ≡ Some cell → Fits ports classes k cell
-arriving_fits ports classes came t k cell all is = one_found (Fits ports classes k) came t k cell
-    (all_found (Fits ports classes k) came t k (all_weaker (IsInRange ports classes)
-    (λ a. a.slot ≡ t → a.cell.id.input ≡ k → Fits ports classes k a.cell) (λ a r _ same.
-    record { input = subst (λ (i : ℕ). i < ports) same r.input; output = r.output; class = r.class }) came
-    all)) is
+arriving_fits ports classes [] t k cell all is = absurd (let P : ⊥ = cc in P)
+arriving_fits ports classes (a ∷ came) t k cell all is =
+    grind (arith, common_steps, arriving_fits ports classes came t k cell all.1)
 
 pub place_of : (came : List Arrival) (t input inputs : ℕ) (cell : Cell) → inputs ≡ most_ports →
     arrival_at (arriving came t) input ≡ Some cell → arriving_at came t input ≡ Some cell
 place_of came t input inputs cell are at =
     let here : get_or (map (arriving_at came t) (range_with_len 0 inputs)) input None ≡ Some cell =
     rw (← arriving_is came t inputs are, ← unwrap_or-slice_get (arriving came t) input None) at in
-    let cells : List (Option Cell) = map (arriving_at came t) (range_with_len 0 inputs) in
-    let length_is = length-map-range_with_len (arriving_at came t) 0 inputs in
-    ⊎_elim (λ inside. sym
-    (get_or-map-range_with_len (arriving_at came t) 0 inputs input input None inside (omega arith)) ∙ here)
-    (λ outside. absurd (let past = get_or_past cells input None (omega arith) in let P : ⊥ = cc (past, here) in P))
-    (cases_lt input inputs)
+    let inside = get_or-map-range_with_len (arriving_at came t) 0 inputs input input None in
+    let past = get_or_past (map (arriving_at came t) (range_with_len 0 inputs)) input None in
+    search (arith, rules, cases_lt input inputs, inside, past, length-map-range_with_len)
 
 pub arrivals_for : (ports classes : ℕ) (came : List Arrival) (t : ℕ) → IsTraffic ports classes came →
     AreForPorts ports classes (arriving came t)

@@ -46,11 +46,8 @@ until_next came slot (Some next) is = record {
 -- up to a slot that is no later than the next arrival none arrives
 pub none_up_to : (came : List Arrival) (slot n : ℕ) (next : Option ℕ) → IsNextArrival came slot next →
     n ≤ unwrap_or next n → (t : ℕ) → slot ≤ t → t < n → arriving came t ≡ no_arrivals
-none_up_to came slot n None all le t from to = none_arrive came t most_ports refl
-    (all_weaker (λ (a : Arrival). a.slot < slot) (λ (a : Arrival). a.slot ≡ t → ⊥) (λ a had at. omega arith) came all)
-none_up_to came slot n (Some next) is le t from to = none_arrive came t most_ports refl (all_weaker
-    (λ (a : Arrival). slot ≤ a.slot → next ≤ a.slot) (λ (a : Arrival). a.slot ≡ t → ⊥)
-    (λ a had at. let later = had (omega arith) in omega arith) came is.none_before)
+none_up_to came slot n None all le t from to = search (arith, rules, none_arrive, all_weaker)
+none_up_to came slot n (Some next) is le t from to = search (arith, rules, none_arrive, all_weaker)
 
 -- the next arrival, but no later than the last slot
 pub record IsBeforeBoth (slot last n : ℕ) (next : Option ℕ) : Type 0 where
