@@ -76,6 +76,8 @@ impl Rank for Priority {
 
     fn idle(&mut self) {}
 
+    // In these three a field is looked at, which shows the proof that the state has no numbers.
+
     /// There are none.
     fn width(&self) -> u16 {
         let _ = &self.classes;
