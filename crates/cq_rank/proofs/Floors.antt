@@ -7,30 +7,28 @@ use Rattle.cq_rank.specs.Machine.{Machine, KeepsLaws}
 use Rattle.cq_rank.specs.Steps.{Step, Given, Sent, AreOfClasses, after}
 
 module _ (m : Machine) (laws : KeepsLaws m) where
-  after_length : (steps : List Step) (state : List ℕ) → length state ≡ m.size → AreOfClasses m.classes steps →
-      length (after m steps state) ≡ m.size
-  after_length [] state long inside = long
-  after_length (Given c ∷ steps) state long inside =
-      after_length steps (m.given state c) (laws.given_length state c long inside.0) inside.1
-  after_length (Sent l r ∷ steps) state long inside =
-      after_length steps (m.sent state l r) (laws.sent_length state l r long) inside
-
   -- a rank of any class lowers no floor
   pub given_floor : (state : List ℕ) (c d : ℕ) → length state ≡ m.size → c < m.classes → d < m.classes →
       m.floor state d ≤ m.floor (m.given state c) d
   given_floor state c d long in_c in_d = grind (arith, common_steps, cases_Bool, eqb-true, eq-eqb)
 
-  after_floor : (steps : List Step) (state : List ℕ) (c : ℕ) → length state ≡ m.size → c < m.classes →
-      AreOfClasses m.classes steps → m.floor state c ≤ m.floor (after m steps state) c
-  after_floor [] state c long in_c inside = omega arith
-  after_floor (Given d ∷ steps) state c long in_c inside =
+  -- no steps lower one, and the states stay as long
+  after_steps : (steps : List Step) (state : List ℕ) (c : ℕ) → length state ≡ m.size → c < m.classes →
+      AreOfClasses m.classes steps →
+      (length (after m steps state) ≡ m.size) × (m.floor state c ≤ m.floor (after m steps state) c)
+  after_steps [] state c long in_c inside = (long, omega arith)
+  after_steps (Given d ∷ steps) state c long in_c inside =
       let step = given_floor state d c long inside.0 in_c in
-      let rest = after_floor steps (m.given state d) c (laws.given_length state d long inside.0) in_c inside.1 in
-      omega arith
-  after_floor (Sent l r ∷ steps) state c long in_c inside =
+      let rest = after_steps steps (m.given state d) c (laws.given_length state d long inside.0) in_c inside.1 in
+      (rest.0, omega (arith, step, rest.1))
+  after_steps (Sent l r ∷ steps) state c long in_c inside =
       let step = laws.sent_floor state l r c long in_c in
-      let rest = after_floor steps (m.sent state l r) c (laws.sent_length state l r long) in_c inside in omega arith
+      let rest = after_steps steps (m.sent state l r) c (laws.sent_length state l r long) in_c inside in
+      (rest.0, omega (arith, step, rest.1))
 
   pub never_fall : (c : ℕ) (steps : List Step) (state : List ℕ) → length state ≡ m.size → c < m.classes →
       AreOfClasses m.classes steps → m.ranked state c ≤ m.ranked (after m steps (m.given state c)) c
-  never_fall c steps state long in_c inside = grind (arith, common_steps, after_floor, after_length)
+  never_fall c steps state long in_c inside =
+      let stands = after_steps steps (m.given state c) c (laws.given_length state c long in_c) in_c inside in
+      let above = laws.above (after m steps (m.given state c)) c stands.0 in_c in
+      omega (arith, laws.given_floor state c long in_c, stands.1, above)
