@@ -70,6 +70,7 @@ impl PartialOrd for Key {
 
 /// Keys are compared by level, then rank, then slot, then input, and this is a strict total order. It
 /// does nothing: its contract is the claim.
+#[tactic(auto, using(crate::proofs::Keys::key_laws))]
 pub fn keys_are_ordered()
     ensures compared { (a b : Key) → ⟦<Key as Ord>⟧.cmp a b ≡ key_cmp a b }
     ensures laws { KeyLaws }
