@@ -2,7 +2,7 @@
 -- The map is made from the last entry to the first, so a name has the value of its first entry. Two maps
 -- that answer alike are equal, so lemmas on maps compare what they answer, by an induction on the
 -- entries: the first entry of a name is at the head, or the head has another name.
-use Rattle.cq_space.proofs.Terms.{common_steps, rules, ◌≡◌, ℕ, ◌+◌, ◌<◌, ◌≤◌, Bool, true, false, not, cond, List, [], ◌∷◌, ◌++◌, length, get_or, set, refl, ap, sym, ◌∙◌, arith, Option, None, Some, position_or_len, is_eq-slice_cmp, bytes_eq-Decides, nat_cmp, eq_by_cmp_equiv, slice_cmp, nat_list_cmp_total, FinMap, get, get-empty, get-insert, get-remove, same_map, slice_cmp-IsAntisymmetric, nat_cmp-IsAntisymmetric, same_name, put, by_name, IsEntryOf, nat_lt, string_bytes, length-append, unwrap_or, add-zero, length-map, map-append, map-set, get_or_append_left, get_or-map, set-get_or, get_or-append_seam, map-set_same, ltb-false, eq-eqb, ne_eqb, prefix_len-le-length, Global, position_or_len_push, position_or_len_is, Vec, position, option_map, Entry, State, Columns, columns_of, told_at, bytes_at, IsInPlace, with_bytes, SaysTheSame, position_or_len-map}
+use Rattle.cq_space.proofs.Terms.{common_steps, rules, ◌≡◌, ℕ, ◌+◌, ◌<◌, ◌≤◌, Bool, true, cond, List, [], ◌∷◌, ◌++◌, length, get_or, set, refl, ap, sym, ◌∙◌, arith, Option, None, Some, position_or_len, is_eq-slice_cmp, bytes_eq-Decides, nat_cmp, eq_by_cmp_equiv, slice_cmp, nat_list_cmp_total, FinMap, get, get-empty, get-insert, get-remove, same_map, slice_cmp-IsAntisymmetric, nat_cmp-IsAntisymmetric, same_name, put, by_name, IsEntryOf, passes_at_first, length-set, get_or-set_same, get_or-set_other, nat_lt, string_bytes, length-append, unwrap_or, add-zero, length-map, map-append, map-set, get_or_append_left, get_or-map, set-get_or, get_or-append_seam, map-set_same, ltb-false, eq-eqb, ne_eqb, prefix_len-le-length, Global, position_or_len_push, position_or_len_is, Vec, position, option_map, Entry, State, Columns, columns_of, told_at, bytes_at, IsInPlace, with_bytes, SaysTheSame, position_or_len-map}
 use Rattle.std.specs.FinMap.{insert}
 use Rattle.cq_space.specs.declared.entries.State.TheVariants as state
 use Rattle.std.proofs.lemmas.List.Quantifiers.{position-Some}
@@ -33,35 +33,16 @@ module _ {X : Type 0} where
   get-first (n ∷ names) (value ∷ values) name even =
       grind (arith, common_steps, get-put, get-first names values name)
 
-  changed : (b : Bool) (n name q : List ℕ) (w value : Option X) (names : List (List ℕ)) (values : List (Option X))
-      (place : ℕ)
-      → same_name name n ≡ b →
-      (b ≡ false → get (by_name names (set values place w)) q ≡ cond (same_name q name) w
-      (get (by_name names values) q))
-      →
-      get (by_name (n ∷ names) (set (value ∷ values) (cond (not b) (1 + place) 0) w)) q
-      ≡ cond (same_name q name) w (get (by_name (n ∷ names) (value ∷ values)) q)
-  changed true n name q w value names values place is later =
-      let e : name ≡ n = is_same name n is in grind (arith, common_steps, get-put)
-  changed false n name q w value names values place is later = search (arith, rules, is_same q name, get-put)
-
-  -- a change of the first entry of a name changes its value, and no other
-  get-set : (names : List (List ℕ)) (values : List (Option X)) (name : List ℕ) (w : Option X) (q : List ℕ) →
-      position_or_len (same_name name) names < length names → length values ≡ length names
-      →
-      get (by_name names (set values (position_or_len (same_name name) names) w)) q
-      ≡ cond (same_name q name) w (get (by_name names values) q)
-  get-set [] values name w q there even = absurd (omega arith)
-  get-set (n ∷ names) [] name w q there even = absurd (omega arith)
-  get-set (n ∷ names) (value ∷ values) name w q there even =
-      grind (arith, common_steps, changed, get-set names values name w q)
-
   pub by_name-set : (names : List (List ℕ)) (values : List (Option X)) (i : ℕ) (name : List ℕ) (x : X) →
       IsEntryOf names i name → length values ≡ length names →
       by_name names (set values i (Some x)) ≡ insert (by_name names values) name x
   by_name-set names values i name x is even =
       let inserted = get-insert nat_list_cmp_total (by_name names values) name x in
-      same_answers _ _ (λ q. grind (arith, common_steps, get-set, inserted))
+      same_answers _ _ (λ q.
+      let first = passes_at_first (same_name q) names [] in
+      let new = get-first names (set values i (Some x)) q (length-set values i (Some x) ∙ even) in
+      let old = get-first names values q even in
+      grind (arith, common_steps, inserted, new, old, first, is_same q name, get_or-set_same, get_or-set_other))
 
   -- an entry without a value, put at the end, changes no value
   pub by_name-push : (names : List (List ℕ)) (values : List (Option X)) (name : List ℕ) →

@@ -1,17 +1,7 @@
 -- What was taken begins with nothing, and each read puts its piece behind it.
-use Rattle.cq_space.proofs.Terms.{arith, rules, common_steps, ℕ, List, ◌++◌, ◌≡◌, ◌<◌, length, take, length-take, Space}
-use Rattle.cq_space.specs.Call.{Call}
-use Rattle.cq_space.specs.Pieces.{Gives, HasTaken, Begun, More, Later}
+use Rattle.cq_space.proofs.Terms.{arith, rules, common_steps, ◌++◌, ◌≡◌, take, length-take}
+use Rattle.cq_space.specs.Pieces.{Begun, More, Later}
 use Rattle.cq_space.proofs.whole.read_whole.Goals as goal
-
-more : {S : Type 0} {space : S → Space} {may_fail : Call → S → S → Type 0} {may_pass : S → Type 0}
-    {may_move : S → ℕ → Type 0} {gives : S → List ℕ → S → Type 0} {counts leaves keeps : S → S → Type 0}
-    {name : List ℕ} {old : S} (all bytes piece : List ℕ) (mid now : S) →
-    HasTaken space may_fail may_pass may_move gives counts leaves keeps name old bytes mid →
-    all ≡ bytes ++ piece → 0 < length piece →
-    Gives space may_fail may_pass may_move gives counts leaves keeps piece mid now →
-    HasTaken space may_fail may_pass may_move gives counts leaves keeps name old all now
-more all bytes piece mid now t e some s = rw e (More bytes piece mid now t some s)
 
 pub pieces-init : goal.pieces-init
 pieces-init g c = search (arith, rules, Begun)
@@ -20,8 +10,8 @@ pub pieces-preserved : goal.pieces-preserved
 pieces-preserved g c =
     let all : c.extend_from_slice.new.self.items ≡ c.pieces.bytes.items ++ take c.in-Ok.count c.read.new.buf =
     grind (arith, common_steps) in
-    let on = more c.extend_from_slice.new.self.items c.pieces.bytes.items (take c.in-Ok.count c.read.new.buf)
-    c.pieces.files c.read.new.self c.pieces.invariant.taken all in
+    let on = More c.pieces.bytes.items (take c.in-Ok.count c.read.new.buf) c.pieces.files c.read.new.self
+    c.pieces.invariant.taken in
     record {
       read = grind (arith, common_steps);
       named = search (arith, rules, g.F.Files.space);
@@ -29,7 +19,7 @@ pieces-preserved g c =
       told = cc;
       uncounted = search (arith, rules, g.F.Files.space);
       kept = search (arith, rules, g.met.F.Files.lasts_unbegun.both);
-      taken = search (arith, rules, length-take, g.F.Files.space, on);
+      taken = rw all (search (arith, rules, length-take, g.F.Files.space, on));
     }
 
 pub returns-in-Err-read-clause-broken : goal.returns-in-Err-read-clause-broken
