@@ -1,4 +1,3 @@
 mod Terms
 pub mod Bounds
-pub mod Found
 pub mod Listed

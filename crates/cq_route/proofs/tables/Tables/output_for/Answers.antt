@@ -1,15 +1,14 @@
-use Rattle.cq_route.proofs.Terms.{Bor, rules, tests, YieldsList-from_slice, find_from_yields_List, AddressRow, is_to}
-use Rattle.cq_route.proofs.Found.{taken, missed}
+use Rattle.cq_route.proofs.Terms.{refl, rules, tests, YieldsList-from_slice, find_from_yields_List, is_to}
 use Rattle.cq_route.proofs.tables.Tables.output_for.Goals as goal
 
 pub returns-in-Some : goal.returns-in-Some
 returns-in-Some c =
     let found = find_from_yields_List (is_to c.args.dest) _ _ c.find.result c.find.ensures.ran
     (YieldsList-from_slice c.args.self.now.addresses (cc)) (λ x b q k. search (rules, tests)) in
-    taken (λ (b : Bor AddressRow). b.now) (λ (x : AddressRow). x.output) _ _ _ _ found c.in-Some.is
+    rw (← found, c.in-Some.is) refl
 
 pub returns-in-None : goal.returns-in-None
 returns-in-None c =
     let found = find_from_yields_List (is_to c.args.dest) _ _ c.find.result c.find.ensures.ran
     (YieldsList-from_slice c.args.self.now.addresses (cc)) (λ x b q k. search (rules, tests)) in
-    missed (λ (b : Bor AddressRow). b.now) (λ (x : AddressRow). x.output) _ _ _ found c.in-None.is
+    rw (← found, c.in-None.is) refl
