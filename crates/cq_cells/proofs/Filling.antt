@@ -1,12 +1,12 @@
 -- The places of a slot's arrivals are filled input by input. Those before the next input have what arrives there, and
 -- the others have what stood there before. No cell stood behind the last line, and none arrives there. So in the end
 -- each place has what arrives.
-use Rattle.cq_cells.proofs.Terms.{common_steps, rules, ◌≡◌, ℕ, ◌+◌, ◌<◌, ◌≤◌, List, length, get_or, set, Option, None, ◌∙◌, length-set, get_or-set_same, get_or-set_other, arith, cases_eq, cases_lt, length-replicate, fill_by_all, unwrap_or-slice_get, no_arrivals, Arrival, arriving_at, arriving, Cell, arrival_at-no_arrivals, StandBelow, AreOwn, all_of}
+use Rattle.cq_cells.proofs.Terms.{common_steps, rules, ◌≡◌, ℕ, ◌+◌, ◌<◌, ◌≤◌, List, length, get_or, set, Option, None, ◌∙◌, length-set, get_or-set_same, get_or-set_other, arith, cases_eq, cases_lt, fill_by_all, unwrap_or-slice_get, no_arrivals, Arrival, arriving_at, arriving, Cell, arrival_at-no_arrivals, StandBelow, AreOwn, all_of}
 use Rattle.cq_cells.proofs.Owned.{none_arrives_past}
 
 -- no cell stands anywhere
 pub none_stand : (ports : ℕ) → StandBelow ports no_arrivals
-none_stand ports = search (rules, length-replicate, arrival_at-no_arrivals)
+none_stand ports = search (rules, arrival_at-no_arrivals)
 
 -- the places of the inputs before n are filled
 pub record Filling (came : List Arrival) (slot n : ℕ) (old now : List (Option Cell)) : Type 0 where

@@ -1,5 +1,5 @@
 -- A line is laid out: where its packets go, what each step of it adds, and what stands at its end.
-use Rattle.cq_cells.proofs.Terms.{rules, ◌≡◌, ℕ, ◌+◌, ◌-◌, ◌/◌, ◌^◌, ◌<◌, ◌≤◌, max, List, length, map, not, slice_index_or, refl, arith, common_steps, AllByRecursion, length-filter_both, Arrival, end_of, Captured, rows_from, file_length, PacketRow, Tables, route, AreTables, ports_of, Row, AreAdded, AreRows, line_arrivals, cells_of, packets_of, cells, start, stamp_slot, arrivals_at, t0_of, IsRecorded, is_to, number_of, [], sym, ◌∙◌, range_with_len, length-map, get_or-map, fill_by_all, route_output, packet_at, packet_in}
+use Rattle.cq_cells.proofs.Terms.{rules, ◌≡◌, ℕ, ◌+◌, ◌-◌, ◌/◌, ◌^◌, ◌<◌, ◌≤◌, max, List, length, map, slice_index_or, arith, common_steps, AllByRecursion, end_of, Captured, rows_from, file_length, PacketRow, Tables, route, AreTables, ports_of, Row, AreAdded, AreRows, line_arrivals, cells_of, packets_of, cells, start, stamp_slot, arrivals_at, few_kept, t0_of, IsRecorded, is_to, [], sym, ◌∙◌, range_with_len, length-map, get_or-map, fill_by_all, route_output, packet_at, packet_in}
 use Rattle.cq_cells.proofs.Packets.{start_by, row_of, came_by, ends_by, longer_by, length_packet, end_packet, IsSoFar, few_by, early_by, line_is, rows_are}
 use Rattle.cq_cells.proofs.Stamps.{length-rows_from, row_is_of}
 
@@ -56,9 +56,6 @@ pub record IsMade (t : Tables) (captures : List (List Captured)) (input k : ℕ)
   pub few : all + row.cells ≤ 2 ^ 28
   pub each : slice_index_or counts row.output 0 + row.cells ≤ slice_index_or old row.output 0 + 2 ^ 28
 
-pub filter_few : (j : ℕ) (came : List Arrival) → number_of (is_to j) came ≤ length came
-filter_few j came = omega (arith, length-filter_both (is_to j) (λ (a : Arrival). not (is_to j a)) (λ _. refl) came)
-
 pub next_row : (t : Tables) (captures : List (List Captured)) (input k : ℕ) (ps : List Captured)
     (places : List PacketRow) (ways : List (ℕ × ℕ)) (row : Row) (origin free all : ℕ) (rows : List Row)
     (old counts : List ℕ) → AreTables t → AreRead captures input ps places → k < length places →
@@ -83,7 +80,7 @@ next_row t captures input k ps places ways row origin free all rows old counts t
     let its_end = end_packet t captures input k in
     let its_length = length_packet t captures input k in
     let each = s.each row.output in
-    let of_output = filter_few row.output in
+    let of_output = few_kept (is_to row.output) in
     search (arith, rules, made, to, longer, ends, few, early, its_end, its_length, each, of_output, came_by)
 
 -- what stands at the end of a line

@@ -17,10 +17,7 @@ module _ (t : Tables) (captures : List (List Captured)) where
   input_in_range : (input : ℕ) → AreTables t → input < ports_of t.setup →
       AllByRecursion (IsInRange (ports_of t.setup) (classes_of t.setup)) (arrivals_at t captures input)
   unfolding arrivals_at cell_of
-  input_in_range input a inside = all_flat (IsInRange (ports_of t.setup) (classes_of t.setup))
-      (arrivals_of t captures input) 0 (length (packets_of captures input)) (λ k b h. all_made _
-      (piece (start t captures input k) (cell_of t captures input k)) 0 (cells t captures input k)
-      (λ i low high. search (arith, rules, route_output, route_class)))
+  input_in_range input a inside = search (arith, rules, all_flat, all_made, route_output, route_class)
 
   -- the cells of a packet come from its start on, and before its end
   packet_slots : (input k : ℕ) → AllByRecursion (λ (a : Arrival). (start t captures input k ≤ a.slot) ×

@@ -1,6 +1,5 @@
-use Rattle.cq_cells.proofs.Terms.{rules, ◌≡◌, List, [], option_map, ap, sym, ◌∙◌, arith, find, get_or_read, Arrival, arriving_at, all_of}
+use Rattle.cq_cells.proofs.Terms.{rules, ◌≡◌, [], arith, get_or_read, arriving_at, all_of}
 use Rattle.cq_cells.proofs.Filling.{filling_first, filling_next, all_filled, still_stand}
-use Rattle.cq_cells.proofs.Looked.{is_in}
 use Rattle.cq_cells.proofs.Owned.{arriving_at_line, arrives_own}
 use Rattle.cq_cells.proofs.coming.come.Goals as goal
 use Rattle.cq_cells.proofs.coming.come.Goals.{After-cell_near-cell}
@@ -8,10 +7,10 @@ use Rattle.cq_cells.proofs.coming.come.Goals.{After-cell_near-cell}
 -- the cell that a line gives is the one that arrives at its input
 given : (c : After-cell_near-cell) →
     c.cell_near-cell.result ≡ arriving_at (all_of c.args.lines.now) c.args.slot c.lines.input
-given c = c.cell_near-cell.ensures
-    ∙ ap (λ (came : List Arrival). option_map (λ a. a.cell) (find (is_in c.args.slot) came))
-    (get_or_read c.args.lines.now c.lines.input _ c.lines-test.true c.index-lines-input.is [])
-    ∙ sym (arriving_at_line c.args.slot c.lines.input c.args.lines.now c.requires.own c.lines-test.true)
+given c =
+    let line = get_or_read c.args.lines.now c.lines.input _ c.lines-test.true c.index-lines-input.is [] in
+    rw (arriving_at_line c.args.slot c.lines.input c.args.lines.now c.requires.own c.lines-test.true, ← line)
+    c.cell_near-cell.ensures
 
 pub lines-init : goal.lines-init
 lines-init c = filling_first (all_of c.args.lines.now) c.args.slot c.args.arrivals.now

@@ -1,5 +1,4 @@
-use Rattle.cq_cells.proofs.Terms.{rules, arith, ◌≡◌, ℕ, ◌+◌, List, ap, cases_eq, append-nil, flat_map-append, map-range_with_len_more, Arrival, all_of, arrivals_at, is_to, number_of}
-use Rattle.cq_cells.proofs.Laid.{filter_few}
+use Rattle.cq_cells.proofs.Terms.{few_kept, rules, arith, ◌≡◌, ℕ, ◌+◌, List, ap, cases_eq, append-nil, flat_map-append, map-range_with_len_more, Arrival, all_of, arrivals_at, is_to, number_of}
 use Rattle.cq_cells.proofs.Packets.{number-append}
 use Rattle.cq_cells.proofs.schedule.lines_of.Goals as goal
 
@@ -25,5 +24,5 @@ inputs-preserved g c =
           let here = c.in_ok-line.ensures.counts j (omega arith) in
           let had = c.inputs.invariant.counts j h in
           omega (arith, added j, here, had, ap (number_of (is_to j)) c.in_ok-line.ensures.line);
-      small = λ j h. search (arith, rules, filter_few, c.in_ok-line.ensures.counts, c.inputs.invariant.small);
+      small = λ j h. search (arith, rules, few_kept, c.in_ok-line.ensures.counts, c.inputs.invariant.small);
     }
