@@ -26,7 +26,7 @@ abbrev pub end_of : List Arrival → ℕ
 end_of [] = 0
 end_of (a ∷ came) = max (a.slot + 1) (end_of came)
 
--- slots that are enough for a run: those with an arrival, and then one for each cell
+-- slots that are enough for a run: those up to the last arrival, and then one for each cell
 unfoldable pub enough : List Arrival → ℕ
 enough came = end_of came + length came
 

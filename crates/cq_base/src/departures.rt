@@ -86,9 +86,11 @@ impl Departures {
         Supply::of(packed.into_vec())
     }
 
-    /// The departures as they are, in order. They are used up as these are put together. The error is want of memory.
+    /// The departures as they are, in order, with room for no more. They are used up as these are put together. The
+    /// error is want of memory.
     pub fn into_room(self, alloc: Global) -> Result<Room<Departure>, NoMemory>
-        ensures { IfOk result (λ room. room.items ≡ self.items) }
+        ensures items { IfOk result (λ room. room.items ≡ self.items) }
+        ensures spare { IfOk result (λ room. room.spare ≡ 0) }
     {
         let count = self.as_slice().len();
         let mut room = Room::new(alloc, count as u64)?;

@@ -6,7 +6,7 @@ pub slots_of-slots-requires : goal.slots_of-slots-requires
 slots_of-slots-requires c = search (arith, rules)
 
 pub returns-clause-sent : goal.returns-clause-sent
-returns-clause-sent c = c.in_ok-packed.ensures.sent ∙ ap Ok (sym c.in_ok-sent.ensures)
+returns-clause-sent c = c.in_ok-packed.ensures.sent ∙ ap Ok (sym c.in_ok-sent.ensures.items)
 
 pub returns-clause-slots : goal.returns-clause-slots
 returns-clause-slots c = c.slots_of-slots.ensures ∙ ap slots_of c.items.ensures

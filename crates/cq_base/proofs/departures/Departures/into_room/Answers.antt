@@ -23,5 +23,5 @@ departures-preserved c =
       spare = omega arith;
     }
 
-pub returns : goal.returns
-returns c = search (arith, rules, none_packed)
+pub returns-clause-items : goal.returns-clause-items
+returns-clause-items c = search (arith, rules, none_packed)
