@@ -34,10 +34,11 @@ is_at slot phase t = t.slot == slot && t.phase == phase
 abbrev pub in_phase : ℕ → ℕ → List Transfer → List Transfer
 in_phase slot phase note = filter (is_at slot phase) note
 
--- no line is of an earlier phase than this one, and all are of later ones
+-- no line is of an earlier phase than this one
 abbrev pub NoneBefore : ℕ → ℕ → List Transfer → Type 0
 NoneBefore slot phase note = AllByRecursion (λ t. (slot < t.slot) ⊎ ((slot ≡ t.slot) × (phase ≤ t.phase))) note
 
+-- every line is of a later phase than this one
 abbrev pub AllBehind : ℕ → ℕ → List Transfer → Type 0
 AllBehind slot phase note = AllByRecursion (λ t. (slot < t.slot) ⊎ ((slot ≡ t.slot) × (phase < t.phase))) note
 

@@ -1,5 +1,5 @@
 //! The lines of one phase after another.
-ghost use Rattle.std.specs.Prelude.{◌≡◌, ◌≤◌, ℕ, length, not, position};
+ghost use Rattle.std.specs.Prelude.{◌≡◌, ◌≤◌, ℕ, drop, length, not, position, take};
 ghost use Rattle.std.specs.List.{position_or_len};
 ghost use Rattle.cq_audit.specs.Terms.{AreInOrder, AreParted, NoneBefore, is_at};
 
@@ -28,9 +28,12 @@ fn end_of_phase(note: &[Transfer], slot: Slot, phase: u8) -> usize
     elsewhere(note, slot, phase).unwrap_or(note.len())
 }
 
-/// The lines of a phase, and those behind them, where none is of an earlier phase.
+/// The lines ahead of the first that is of no such phase, and the rest. Where the lines are in order and none is of an
+/// earlier phase, these are the lines of the phase, and those behind them.
 pub fn part(note: &[Transfer], slot: Slot, phase: u8) -> (&[Transfer], &[Transfer])
-    ensures { (ports : ℕ) → AreInOrder ports note.now → NoneBefore slot phase note.now →
+    ensures lines { result.0.now ≡ take (position_or_len (λ t. not (is_at slot phase t)) note.now) note.now }
+    ensures rest { result.1.now ≡ drop (position_or_len (λ t. not (is_at slot phase t)) note.now) note.now }
+    ensures parted { (ports : ℕ) → AreInOrder ports note.now → NoneBefore slot phase note.now →
         AreParted ports slot phase note.now result.0.now result.1.now }
 {
     let end = end_of_phase(note, slot, phase);

@@ -5,7 +5,7 @@ use Rattle.cq_audit.proofs.replay.go_by.Goals.{After-part}
 -- the lines of the phase are found
 parted : (c : After-part) → AreParted (length c.args.queues.now.inputs) c.args.slot c.args.phase c.args.lines.now
     c.part.result.0.now c.part.result.1.now
-parted c = c.part.ensures (length c.args.queues.now.inputs) c.requires.in_order c.requires.none_before
+parted c = c.part.ensures.parted (length c.args.queues.now.inputs) c.requires.in_order c.requires.none_before
 
 pub cross-requires-clause-lines : goal.cross-requires-clause-lines
 cross-requires-clause-lines c = (parted (goal.at.cross-requires-clause-lines c).After-part).of_phase
