@@ -18,6 +18,7 @@ use Rattle.cq_state.specs.StateText.{Line, spelled}
 abbrev pub IsCount : ℕ → Type 0
 IsCount n = n < 2 ^ 63
 
+-- the numbers of the lines that are there once
 pub record IsHead (h : Head) : Type 0 where
   pub next : IsCount h.next
   pub ports : (1 ≤ h.ports) × (h.ports ≤ most_ports)
@@ -27,6 +28,7 @@ pub record IsHead (h : Head) : Type 0 where
   pub proposals : IsCount h.proposals
   pub most : IsCount h.most
 
+-- the numbers of the line of an input
 abbrev pub IsSeen : Seen → Type 0
 IsSeen x = IsCount x.longest × IfSome x.slack IsCount
 
@@ -41,6 +43,7 @@ pub record IsNamed (ports : ℕ) (c : Named) : Type 0 where
   pub slot : IsCount c.slot
   pub input : c.input < ports
 
+-- a departure from a switch of so many ports
 abbrev pub IsSent : ℕ → Sent → Type 0
 IsSent ports d = IsCount d.slot × IsNamed ports d.cell
 
@@ -72,6 +75,7 @@ pub record IsInRange (s : State) : Type 0 where
 abbrev pub numbers : Kind → List ℕ → Line
 numbers k ns = record { kind = k; fields = map Some ns }
 
+-- the lines that are there once, in front of all others
 abbrev pub head_lines : Head → List Line
 head_lines h =
     numbers kind.Version (1 ∷ [])
@@ -80,18 +84,21 @@ head_lines h =
     ∷ numbers kind.Sum (h.proposals ∷ h.most ∷ [])
     ∷ []
 
+-- the line of input i, and that of the rank machine of output j
 abbrev pub input_line : ℕ → Seen → Line
 input_line i x = record { kind = kind.Input; fields = Some i ∷ Some x.longest ∷ x.slack ∷ [] }
 
 abbrev pub rank_line : ℕ → List ℕ → Line
 rank_line j ns = numbers kind.Rank (j ∷ ns)
 
+-- the numbers that name a cell, and the line of one that waits
 abbrev pub cell_numbers : Named → List ℕ
 cell_numbers c = c.level ∷ c.rank ∷ c.slot ∷ c.input ∷ []
 
 abbrev pub cell_line : Kind → Named → Line
 cell_line k c = numbers k (cell_numbers c)
 
+-- the line of a departure, and that of a transfer
 abbrev pub sent_line : Sent → Line
 sent_line d = numbers kind.Sent (d.slot ∷ cell_numbers d.cell)
 
@@ -116,6 +123,7 @@ parts s =
     ∷ (numbers kind.End [] ∷ [])
     ∷ []
 
+-- all lines of a state, in order
 unfoldable pub state_lines : State → List Line
 state_lines s = flat_map (λ part. part) (parts s)
 

@@ -91,6 +91,7 @@ pub record Line : Type 0 where
   pub kind : Kind
   pub fields : List (Option ℕ)
 
+-- the text of a line
 abbrev pub spelled : Line → List ℕ
 spelled x = line (word x.kind) x.fields
 
@@ -124,6 +125,7 @@ ComesAt [] seen ports x next = ⊥
 ComesAt (k ∷ due) seen ports x next = IsOneMore k due seen ports x next ⊎ ((needed ports k ≤ seen) × ComesAt due 0
     ports x next)
 
+-- a line comes at a place, and leads to the next one
 abbrev pub Comes : Place → Line → Place → Type 0
 Comes p x next = ComesAt p.due p.seen p.ports x next
 
@@ -132,9 +134,11 @@ abbrev pub HasAll : List Kind → ℕ → ℕ → Type 0
 HasAll [] seen ports = ⊤
 HasAll (k ∷ due) seen ports = (needed ports k ≤ seen) × HasAll due 0 ports
 
+-- the text may end at a place
 abbrev pub MayEnd : Place → Type 0
 MayEnd p = HasAll p.due p.seen p.ports
 
+-- where a text begins
 abbrev pub start : Place
 start = record { due = kinds; seen = 0; ports = 0 }
 
