@@ -22,6 +22,7 @@ abbrev pub departure_of : List Arrival → Sent → Option Departure
 departure_of came d =
     option_map (λ q. record { slot = d.slot; output = q.cell.output; queued = q }) (queued_of came d.cell)
 
+-- the departures that a state tells, in order
 abbrev pub sent_told : List Arrival → State → List Departure
 sent_told came s = filter_map (departure_of came) s.sent
 
@@ -36,6 +37,7 @@ input_told s i x =
       slack = x.slack;
     }
 
+-- those from output j, and what was seen of it: how many they are, and the longest wait of one of them
 abbrev pub sent_by : List Departure → ℕ → List Departure
 sent_by sent j = filter (λ d. d.output == j) sent
 
@@ -46,6 +48,7 @@ output_told sent j =
       wait = reduce max (map (λ d. d.slot - d.queued.key.slot) (sent_by sent j));
     }
 
+-- the figures of the slots that are done
 unfoldable pub figures_told : List Arrival → State → Figures
 figures_told came s =
     record {
@@ -86,6 +89,7 @@ pub record IsTally (w : Switch) (s : State) (x : Tally) : Type 0 where
 
 -- ## Together
 
+-- the fabric as it stands still
 unfoldable pub frozen_told : Switch → State → Frozen
 frozen_told w s =
     let fabric = fabric_told w.came s in
@@ -99,5 +103,6 @@ frozen_told w s =
       buffers = fabric.buffers;
     }
 
+-- and with it the departures and the transfers
 abbrev pub taken_of : Switch → State → Taken
 taken_of w s = record { frozen = frozen_told w s; sent = sent_told w.came s; note = s.moved }

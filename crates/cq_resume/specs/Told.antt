@@ -15,6 +15,7 @@ use Rattle.cq_state.specs.declared.state.State.{State}
 abbrev pub arriving_cell : List Arrival → Named → Option Cell
 arriving_cell came c = arriving_at came c.slot c.input
 
+-- the output and the class of a cell, and 0 where there is none
 abbrev pub output_in : Option Cell → ℕ
 output_in None = 0
 output_in (Some cell) = cell.output
