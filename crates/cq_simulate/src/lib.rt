@@ -1,4 +1,8 @@
 //! Whole runs of a configured switch over the cells that arrive, and the packets that leave it.
+//!
+//! The run of the fabric is the one run of the definition, whatever the workers do, and it sends and refuses what the
+//! ideal switch does. It may stop before a slot, and goes on from any state that can be taken up. What departs is put
+//! together into packets, each with the stamp of the slot in which its last cell left.
 #![tactic(auto)]
 
 mod fabric_run;
