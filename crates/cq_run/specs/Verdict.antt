@@ -116,7 +116,7 @@ abbrev pub ideally_sent : Tables → List (List Captured) → Result (List Depar
 ideally_sent tables captures = sent_or_tag (ideal_departures tables (arrivals tables captures))
 
 -- what a command comes to; a new command is one case here, in `MayRead` and in `MayWrite`, and in `known_to`,
--- `IsWithinRange` and `Emulates`
+-- `IsWithinRange`, `Emulates` and `over`
 abbrev pub judged : Reader → Command → Contents → Result Aim Refusal
 judged r (Pass from to) m = do
   packets ← capture_in r from 0 (plain_tables from to).limit_bytes m
