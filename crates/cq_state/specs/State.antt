@@ -1,5 +1,5 @@
 -- The state of a stopped run: the ranges of its numbers, and the lines of its text.
-use Rattle.std.specs.Prelude.{◌≡◌, ℕ, ◌+◌, ◌-◌, ◌^◌, ◌<◌, ◌≤◌, List, [], ◌∷◌, length, map, Some, IfSome}
+use Rattle.std.specs.Prelude.{◌≡◌, ℕ, ◌+◌, ◌-◌, ◌^◌, ◌<◌, ◌≤◌, List, [], ◌∷◌, length, map, Option, Some, IfSome}
 use Rattle.std.specs.List.{AllByRecursion, flat_map}
 use Rattle.cq_base.specs.Limits.{level_count, most_classes, most_ports}
 use Rattle.cq_base.specs.declared.cell.Transfer.{Transfer}
@@ -83,6 +83,10 @@ head_lines h =
     ∷ numbers kind.Shape (h.ports ∷ h.classes ∷ h.t0 ∷ h.total ∷ [])
     ∷ numbers kind.Sum (h.proposals ∷ h.most ∷ [])
     ∷ []
+
+-- the line of a thing with these fields
+abbrev pub line_by : {X : Type 0} → Kind → (X → List (Option ℕ)) → X → Line
+line_by k fields x = record { kind = k; fields = fields x }
 
 -- the line of input i, and that of the rank machine of output j
 abbrev pub input_line : ℕ → Seen → Line

@@ -1,9 +1,9 @@
 //! Writes the text of a state, part by part.
-ghost use Rattle.std.specs.Prelude.{◌≡◌, ◌≤◌, [], ◌∷◌, ◌++◌, length, map, Some, OnOk, IfOk, IfErr};
+ghost use Rattle.std.specs.Prelude.{◌≡◌, ◌≤◌, ℕ, List, [], ◌∷◌, ◌++◌, length, map, Option, Some, OnOk, IfOk, IfErr};
 ghost use Rattle.std.specs.List.{flat_map};
 ghost use Rattle.cq_state.specs.Refusals.{IsTooLong, longest_text};
-ghost use Rattle.cq_state.specs.State.{state_text, head_lines, numbered, input_line, rank_line, cell_numbers, cell_line, sent_line, moved_line};
-ghost use Rattle.cq_state.specs.StateText.{Line, spelled};
+ghost use Rattle.cq_state.specs.State.{state_text, head_lines, numbered, input_line, line_by, rank_line, cell_numbers, moved_line};
+ghost use Rattle.cq_state.specs.StateText.{spelled};
 ghost use Rattle.cq_state.specs.declared.write.StateLong.TheVariants.{NoMemory as none};
 
 use crate::kind::Kind;
@@ -64,10 +64,10 @@ fn put_state(alloc: Global, text: &mut Vec<u8>, state: &State) -> Result<(), Sta
     put_head(text, state.head)?;
     put_inputs(text, state.inputs.as_slice())?;
     put_ranks(alloc, text, state.ranks.as_slice())?;
-    put_cells(text, Kind::Listed, state.listed.as_slice())?;
-    put_cells(text, Kind::Buffered, state.buffered.as_slice())?;
-    put_each(text, state.sent.as_slice())?;
-    put_each(text, state.moved.as_slice())?;
+    put_each(text, Kind::Listed, state.listed.as_slice())?;
+    put_each(text, Kind::Buffered, state.buffered.as_slice())?;
+    put_each(text, Kind::Sent, state.sent.as_slice())?;
+    put_each(text, Kind::Moved, state.moved.as_slice())?;
     put_numbers(text, Kind::End, &[])?;
     enough(text.as_slice())
 }
@@ -139,18 +139,6 @@ fn rank_fields(
     Ok(fields)
 }
 
-fn put_cells(text: &mut Vec<u8>, kind: Kind, cells: &[Named]) -> Result<(), StateLong>
-    ensures lines { OnOk result (text.new.items
-        ≡ text.old.items ++ flat_map spelled (map (cell_line kind) cells.now)) }
-    ensures long { IfErr result (IsTooLong (text.old.items ++ flat_map spelled (map (cell_line kind) cells.now))) }
-{
-    'cells: for cell in cells {
-        put_numbers(text, kind, &cell_fields(*cell))?;
-        enough(text.as_slice())?;
-    }
-    Ok(())
-}
-
 fn cell_fields(cell: Named) -> [Option<u128>; 4]
     ensures { result ≡ map Some (cell_numbers cell) }
 {
@@ -162,30 +150,42 @@ fn cell_fields(cell: Named) -> [Option<u128>; 4]
     ]
 }
 
-// A thing of which the text has a line. `line` is that line, and `put` writes it behind the text.
+// A thing of which the text has a line. `fields` are the fields of that line, and `put` writes it behind the text, with
+// the word of a kind.
 trait Told {
-    ghost line: { Self → Line };
+    ghost fields: { Self → List (Option ℕ) };
 
-    fn put(&self, text: &mut Vec<u8>) -> Result<(), NoMemory>
-        ensures { OnOk result (text.new.items ≡ text.old.items ++ spelled (line self.now)) };
+    fn put(&self, text: &mut Vec<u8>, kind: Kind) -> Result<(), NoMemory>
+        ensures { OnOk result (text.new.items ≡ text.old.items ++ spelled (line_by kind fields self.now)) };
 }
 
-fn put_each<T: Told>(text: &mut Vec<u8>, items: &[T]) -> Result<(), StateLong>
-    ensures lines { OnOk result (text.new.items ≡ text.old.items ++ flat_map spelled (map T.line items.now)) }
-    ensures long { IfErr result (IsTooLong (text.old.items ++ flat_map spelled (map T.line items.now))) }
+// Puts the lines of this kind, one for each of these things, up to the first with which the text is too long.
+fn put_each<T: Told>(text: &mut Vec<u8>, kind: Kind, items: &[T]) -> Result<(), StateLong>
+    ensures lines { OnOk result (text.new.items
+        ≡ text.old.items ++ flat_map spelled (map (line_by kind T.fields) items.now)) }
+    ensures long { IfErr result (IsTooLong
+        (text.old.items ++ flat_map spelled (map (line_by kind T.fields) items.now))) }
 {
     'items: for item in items {
-        item.put(text)?;
+        item.put(text, kind)?;
         enough(text.as_slice())?;
     }
     Ok(())
 }
 
-impl Told for Sent {
-    ghost line = { sent_line };
+impl Told for Named {
+    ghost fields = { λ c. map Some (cell_numbers c) };
 
-    fn put(&self, text: &mut Vec<u8>) -> Result<(), NoMemory> {
-        put_numbers(text, Kind::Sent, &sent_fields(*self))
+    fn put(&self, text: &mut Vec<u8>, kind: Kind) -> Result<(), NoMemory> {
+        put_numbers(text, kind, &cell_fields(*self))
+    }
+}
+
+impl Told for Sent {
+    ghost fields = { λ d. map Some (d.slot ∷ cell_numbers d.cell) };
+
+    fn put(&self, text: &mut Vec<u8>, kind: Kind) -> Result<(), NoMemory> {
+        put_numbers(text, kind, &sent_fields(*self))
     }
 }
 
@@ -197,10 +197,10 @@ fn sent_fields(sent: Sent) -> [Option<u128>; 5]
 }
 
 impl Told for Transfer {
-    ghost line = { moved_line };
+    ghost fields = { λ t. (moved_line t).fields };
 
-    fn put(&self, text: &mut Vec<u8>) -> Result<(), NoMemory> {
-        put_numbers(text, Kind::Moved, &moved_fields(*self))
+    fn put(&self, text: &mut Vec<u8>, kind: Kind) -> Result<(), NoMemory> {
+        put_numbers(text, kind, &moved_fields(*self))
     }
 }
 
