@@ -6,7 +6,7 @@
 -- are the same; and where no two are the same they do. The name of an arrival, if there is one, stands where halving
 -- finds the first that is not ahead of it. So no cell is named twice exactly where the names that were found stand
 -- strictly in order: order changes nothing of which names are the same.
-use Rattle.cq_resume.proofs.Terms.{rules, arith, ◌≡◌, ℕ, ◌+◌, ◌<◌, ◌≤◌, ◌↔◌, List, [], ◌∷◌, ◌++◌, length, get_or, map, take, refl, ⊎_elim, subst, None, Some, Bool, common_steps, All, filter_map, Option, IsSome, AllByRecursion, AllPairs, AllZip, take_all, take_more, All-from_recursion, recursion_from_All, cases_Bool, lt-ltb, ltb-true, Arrival, Queued, AreGone, AreFound, IsTold, names_of, told_of, IsGone, arriving_cell, key_of, named_in, queued_of, Gone, Name, Named, State, IsOfSwitch, IsTraffic, Sent, ◌≢◌, ◌⊎◌, eqb, ltb, true, false, sym, ◌∙◌, Bor, ◌&&◌, ◌||◌, IsPermutation, Called, ComputesKey, Mut, AllAdjacentBelow, IsDistinct, list_any, IsPartitionPoint, IsPartitionedBy, IsSortedByKey, Ordering, is_lt, nat_cmp, ordering_then, and_from, and_left, and_parts, and_right, cases_eq, cases_lt, cases_order, eq-eqb, eqb-true, le-ltb, ne_eqb, or_cases, or_left, or_right, false_from_ne_true, always_returns_same, get_or_default, list_any_at, list_any_none, IsDistinct-IsPermutation, IsDistinct-from_apart, apart_from_distinct, ge_from_not_lt, IsNameBefore, IsNameNotAfter, IsPermutation-sym, AreArrivals, all_weaker, all_front, all_back, images_held, all_of_has, all_from_has, Has, each_pair, all_pairs, EachPair, StateRefusal}
+use Rattle.cq_resume.proofs.Terms.{rules, arith, ◌≡◌, ℕ, ◌+◌, ◌<◌, ◌≤◌, ◌↔◌, List, [], ◌∷◌, ◌++◌, length, get_or, map, take, refl, ⊎_elim, subst, None, Some, Bool, common_steps, All, filter_map, Option, IsSome, AllByRecursion, AllPairs, AllZip, take_all, take_more, All-from_recursion, recursion_from_All, cases_Bool, lt-ltb, ltb-true, Arrival, Queued, AreGone, AreFound, IsTold, names_of, told_of, IsGone, arriving_cell, key_of, named_in, queued_of, Gone, Name, Named, State, IsOfSwitch, IsTraffic, Sent, ◌≢◌, ◌⊎◌, eqb, ltb, true, false, sym, ◌∙◌, Bor, ◌&&◌, ◌||◌, IsPermutation, Called, ComputesKey, Mut, AllAdjacentBelow, IsDistinct, list_any, IsPartitionPoint, IsPartitionedBy, IsSortedByKey, Ordering, is_lt, nat_cmp, ordering_then, and_from, and_left, and_parts, and_right, cases_eq, cases_lt, cases_order, eq-eqb, eqb-true, le-ltb, ne_eqb, or_cases, or_left, or_right, false_from_ne_true, always_returns_same, get_or_default, list_any_at, list_any_none, IsDistinct-IsPermutation, IsDistinct-from_apart, apart_from_distinct, ge_from_not_lt, IsNameBefore, IsNameNotAfter, IsPermutation-sym, AreArrivals, all_has, all_of_has, all_from_has, Has, each_pair, all_pairs, EachPair, StateRefusal}
 use Rattle.cq_resume.specs.Sound.{IsOnlyFor}
 use Rattle.cq_resume.specs.declared.refusal.StateRefusal.TheVariants as refusal
 use Rattle.cq_resume.proofs.Coming.{found_at}
@@ -253,39 +253,19 @@ abbrev CanBe : List Arrival → ℕ → Named → Type 0
 CanBe came next c = (c.slot < next) × IsSome (arriving_cell came c)
 
 module _ (came : List Arrival) (s : State) where
-  abbrev IsMiss : Named → Type 0
-  IsMiss c = told_of came s.head.next c ≡ None → ⊥
-
-  -- where each arrives none is missed
-  pub record NoneMissed : Type 0 where
-    pub listed : AllByRecursion IsMiss s.listed
-    pub buffered : AllByRecursion IsMiss s.buffered
-    pub sent : AllByRecursion (λ (d : Sent). IsMiss d.cell) s.sent
-
-  each_told : AreArrivals came s → AllByRecursion IsMiss (named_in s)
-  each_told are = grind (arith, common_steps, all_weaker, can_be_told, recursion_from_All)
-
-  pub none_missed : AreArrivals came s → NoneMissed
-  none_missed are =
-      let sent = map (λ (d : Sent). d.cell) s.sent in
-      let all = each_told are in
-      let waits = all_front IsMiss (s.listed ++ s.buffered) sent all in
-      record {
-        listed = all_front IsMiss s.listed s.buffered waits;
-        buffered = all_back IsMiss s.listed s.buffered waits;
-        sent = images_held (λ (d : Sent). d.cell) IsMiss s.sent (all_back IsMiss (s.listed ++ s.buffered) sent all);
-      }
-
-  -- so a state of which one is missed is refused for that
-  pub missed : {X : Type 0} (Found Missed : X → Type 0) (xs : List X) → ((x : X) → Found x → Missed x) →
-      (AreArrivals came s → AllByRecursion (λ x. Missed x → ⊥) xs) → (f : StateRefusal) →
-      IsOnlyFor 1 (AllByRecursion (λ x. Found x → ⊥) xs → ⊥) f → IsOnlyFor 1 (AreArrivals came s → ⊥) f
-  missed Found Missed xs give all (refusal.Unsound k) is = (
+  -- a state with a name that is missed is refused for that, since each would arrive
+  pub missed : {X : Type 0} (name : X → Named) (Miss : X → Type 0) →
+      ((x : X) → Miss x → told_of came s.head.next (name x) ≡ None) → (xs : List X) →
+      ((x : X) → Has xs x → Has (named_in s) (name x)) → (f : StateRefusal) →
+      IsOnlyFor 1 ((x : X) × Has xs x × Miss x) f → IsOnlyFor 1 (AreArrivals came s → ⊥) f
+  missed name Miss give xs named (refusal.Unsound k) is = (
     is.0,
-    λ are. is.1 (all_weaker (λ x. Missed x → ⊥) (λ x. Found x → ⊥) (λ x none found. none (give x found)) xs (all are)),
+    λ are.
+        let it = all_has (CanBe came s.head.next) (named_in s) (name is.1.0) are.arrive (named is.1.0 is.1.1) in
+        can_be_told came s.head.next (name is.1.0) it.0 it.1 (give is.1.0 is.1.2),
   )
-  missed Found Missed xs give all refusal.NoMemory is = tt
-  missed Found Missed xs give all f is = absurd is
+  missed name Miss give xs named refusal.NoMemory is = tt
+  missed name Miss give xs named f is = absurd is
 
   -- the cells that were looked up, and all their names
   pub record AreLookedUp (listed buffered : List Queued) (sent : List Gone) (names : List Name) : Type 0 where

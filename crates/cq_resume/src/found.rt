@@ -1,6 +1,7 @@
 //! The cells that a state names, looked up among those that arrive.
 ghost use Rattle.std.specs.Prelude.{◌≡◌, ◌↔◌, ◌<◌, ◌&&◌, ◌||◌, ◌==◌, nat_lt, AllPairs, IfErr, IfNone, IfOk, IfSome, IsPermutation, IsTrue, None, OnOk, Some, filter, length, map, true};
 ghost use Rattle.std.specs.List.{AllAdjacentBelow, AllByRecursion, AllZip, list_any};
+ghost use Rattle.cq_base.specs.Items.{Has};
 ghost use Rattle.cq_resume.specs.Finding.{names_of as names_told};
 ghost use Rattle.cq_resume.specs.Terms.{IsFound, IsGone, IsMissed, IsNameBefore, IsNameNotAfter, sent_name, told_of, waiting_name, AreArrivals, IsForPorts, IsOnlyFor};
 
@@ -81,7 +82,7 @@ fn found_all<S: Copy, T: Copy, F: Fn(S) -> Option<T>>(
 ) -> Result<Vec<T>, StateRefusal>
     requires { AllByRecursion (F.pre find) items.now }
     ensures found { IfOk result (λ found. AllZip (λ s t. F.post find s (Some t)) items.now found.items) }
-    ensures refused { IfErr result (IsOnlyFor 1 (AllByRecursion (λ s. F.post find s None → ⊥) items.now → ⊥)) }
+    ensures refused { IfErr result (IsOnlyFor 1 ((s : S) × Has items.now s × F.post find s None)) }
 {
     let mut all = Vec::new(alloc);
     'items: for item in items {

@@ -1,5 +1,5 @@
-use Rattle.cq_resume.proofs.Terms.{arith, rules, ◌≡◌, List, refl, AllZip, all_front, all_back, all_weaker, images_held, err_from_is_err_and}
-use Rattle.cq_resume.proofs.Zipped.{AreLookedUp, are_arrivals, arrivals_rise, missed, none_missed, zip_by}
+use Rattle.cq_resume.proofs.Terms.{arith, rules, ◌≡◌, List, refl, AllZip, all_front, all_back, all_weaker, images_held, err_from_is_err_and, has_image, has_left, has_right, Named, Sent}
+use Rattle.cq_resume.proofs.Zipped.{AreLookedUp, are_arrivals, arrivals_rise, missed, zip_by}
 use Rattle.cq_resume.proofs.found.find.Goals as goal
 use Rattle.cq_resume.proofs.found.find.Goals.{In_ok-names}
 
@@ -26,19 +26,20 @@ found_all-requires-3 c = search (arith, rules, images_held, all_back, all_weaker
 pub returns-in_err-listed-clause-refused : goal.returns-in_err-listed-clause-refused
 returns-in_err-listed-clause-refused c =
     let p = err_from_is_err_and c.from_residual.result c.from_residual.ensures.1 in
-    rw (p.1, p.2) (missed _ _ _ _ _ (search (arith, rules)) (λ are. (none_missed _ _ are).listed) _
+    rw (p.1, p.2) (missed _ _ (λ (n : Named). n) _ (search (arith, rules)) _ (search (rules, has_left)) _
     (rw c.as_slice.ensures at c.in_err-listed.ensures.refused))
 
 pub returns-in_err-buffered-clause-refused : goal.returns-in_err-buffered-clause-refused
 returns-in_err-buffered-clause-refused c =
     let p = err_from_is_err_and c.from_residual-in_err-buffered.result c.from_residual-in_err-buffered.ensures.1 in
-    rw (p.1, p.2) (missed _ _ _ _ _ (search (arith, rules)) (λ are. (none_missed _ _ are).buffered) _
+    rw (p.1, p.2) (missed _ _ (λ (n : Named). n) _ (search (arith, rules)) _ (search (rules, has_left, has_right)) _
     (rw c.as_slice-2.ensures at c.in_err-buffered.ensures.refused))
 
 pub returns-in_err-sent-clause-refused : goal.returns-in_err-sent-clause-refused
 returns-in_err-sent-clause-refused c =
     let p = err_from_is_err_and c.from_residual-in_err-sent.result c.from_residual-in_err-sent.ensures.1 in
-    rw (p.1, p.2) (missed _ _ _ _ _ (search (arith, rules)) (λ are. (none_missed _ _ are).sent) _
+    rw (p.1, p.2) (missed _ _ (λ (d : Sent). d.cell) _ (search (arith, rules)) _
+    (λ d has. has_right _ _ d.cell (has_image (λ (e : Sent). e.cell) _ d has)) _
     (rw c.as_slice-3.ensures at c.in_err-sent.ensures.refused))
 
 pub returns-clause-found : goal.returns-clause-found

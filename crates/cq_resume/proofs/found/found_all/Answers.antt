@@ -1,4 +1,4 @@
-use Rattle.cq_resume.proofs.Terms.{◌≡◌, ◌∷◌, ◌++◌, [], get_or, Some, subst, arith, rules}
+use Rattle.cq_resume.proofs.Terms.{◌≡◌, ◌∷◌, ◌++◌, [], get_or, Some, subst, arith, rules, has_at}
 use Rattle.cq_resume.proofs.Each.{all_at}
 use Rattle.cq_resume.proofs.Zipped.{zip_all, zip_more}
 use Rattle.cq_resume.proofs.found.found_all.Given as given
@@ -18,7 +18,7 @@ items-preserved g c =
     (subst (λ s. given.F-post g c.args.find s (Some found)) read (rw c.in-Some.is at c.find.ensures)) pushed
 
 pub returns-in_default-clause-refused : goal.returns-in_default-clause-refused
-returns-in_default-clause-refused g c = search (arith, rules, all_at)
+returns-in_default-clause-refused g c = search (arith, rules, has_at)
 
 pub returns-clause-found : goal.returns-clause-found
 returns-clause-found g c = search (arith, rules, zip_all)
