@@ -2,7 +2,7 @@
 -- Items that stand in order of a number, taken number by number and laid end on end, are the same list. The cells of
 -- the lists stand in order of their inputs and those of the buffers in order of their outputs, and all of these are
 -- ports. Each name arrives, so its cell is told by it, and a departure by the slot and the name of its cell.
-use Rattle.cq_resume.proofs.Terms.{common_steps, rules, ◌≡◌, ℕ, zero, suc, ◌+◌, ◌<◌, ◌≤◌, List, [], ◌∷◌, length, map, flat_map, Option, Some, refl, ◌∙◌, arith, ◌==◌, filter, AllByRecursion, enumerate_from, filter_map, range_with_len, option_map, cases_eq, eq-eqb, flat_same, ne_eqb, length-map, length-map-range_with_len, Cell, Queued, Scheduled, IsTraffic, departure_of, figures_told, frozen_told, input_told, machine_of, sent_told, AreTables, IsScheduleOf, IsSound, HasShape, Switch, Tables, arriving_cell, buffer_told, fabric_told, list_told, named_as, named_in, queued_of, switch_of, IsInRange, IsNamed, Named, Seen, Sent, State, Taken, all_of_has, all_from_has, has_left, has_right, has_image, Has, each_pair, looked_up, pairs_looked_up, EachPair}
+use Rattle.cq_resume.proofs.Terms.{common_steps, rules, ◌≡◌, ℕ, zero, suc, ◌+◌, ◌<◌, ◌≤◌, List, [], ◌∷◌, length, map, flat_map, Option, Some, refl, ◌∙◌, arith, ◌==◌, filter, AllByRecursion, AllPairs, enumerate_from, filter_map, range_with_len, option_map, cases_eq, eq-eqb, flat_same, ne_eqb, length-map, length-map-range_with_len, Cell, Queued, Scheduled, IsTraffic, departure_of, figures_told, frozen_told, input_told, machine_of, sent_told, AreTables, IsScheduleOf, IsSound, HasShape, Switch, Tables, arriving_cell, buffer_told, fabric_told, list_told, named_as, named_in, queued_of, switch_of, IsInRange, IsNamed, Named, Seen, Sent, State, Taken, all_of_has, all_from_has, has_left, has_right, has_image, Has, each_pair, looked_up, pairs_looked_up, EachPair}
 use Rattle.std.proofs.lemmas.List.Folds.{flat_map-map}
 use Rattle.cq_resume.proofs.GoesOn.{comes, of_traffic, its_input, its_output, some_cell}
 use Rattle.cq_resume.proofs.Scheduling.{schedule_known}
@@ -81,47 +81,38 @@ module _ (w : Switch) (s : State) (in_range : IsInRange s) (shape : HasShape w s
       let some = arrives d.cell (has_right _ _ d.cell (has_image (λ (e : Sent). e.cell) s.sent d has)) in
       grind (arith, common_steps))
 
-  -- the cells that wait
-  waiting_again : (xs : List Named) → ((c : Named) → Has xs c → Has (named_in s) c) →
-      map named_as (filter_map cell_of xs) ≡ xs
-  waiting_again xs named = told_again cell_of named_as xs
-      (λ c has. let some = arrives c (named c has) in grind (arith, common_steps))
-
   -- those of an input are the cells of its names
   sifted : (i : ℕ) (xs : List Named) → filter_map cell_of (filter (λ (c : Named). c.input == i) xs)
       ≡ filter (λ (q : Queued). q.key.input == i) (filter_map cell_of xs)
   sifted i [] = refl
   sifted i (c ∷ xs) = grind (arith, common_steps, sifted i xs)
 
-  inputs_rise : EachPair (λ q r. q.key.input ≤ r.key.input) (filter_map cell_of s.listed)
-  inputs_rise = pairs_looked_up cell_of (λ c d. c.input ≤ d.input) (λ q r. q.key.input ≤ r.key.input)
-      (search (arith, rules, its_input)) s.listed (each_pair (λ c d. c.input ≤ d.input) s.listed sound.order.lists)
-
-  inputs_low : AllByRecursion (λ q. q.key.input < s.head.ports) (filter_map cell_of s.listed)
-  inputs_low = all_from_has (λ q. q.key.input < s.head.ports) (filter_map cell_of s.listed) (λ q has.
-      let it = looked_up cell_of s.listed q has in
-      let own = all_of_has (IsNamed s.head.ports) s.listed it.origin in_range.listed it.has in
-      search (arith, rules, its_input))
+  -- cells that wait stand in order of a number below that of the ports, and are told number by number
+  module _ (number : Queued → ℕ) (R : Named → Named → Type 0)
+      (no_less : (c d : Named) (q r : Queued) → R c d → cell_of c ≡ Some q → cell_of d ≡ Some r → number q ≤ number r)
+      (xs : List Named) (pairs : AllPairs R xs)
+      (low : (c : Named) (q : Queued) → Has xs c → cell_of c ≡ Some q → number q < s.head.ports)
+      (told : ℕ → List Queued) (is : (i : ℕ) → told i ≡ numbered number (filter_map cell_of xs) i)
+      (named : (c : Named) → Has xs c → Has (named_in s) c) where
+    again : map named_as (flat_map (λ l. l) (map told (range_with_len 0 s.head.ports))) ≡ xs
+    again = rw (end_on_end number told (filter_map cell_of xs) s.head.ports is
+        (pairs_looked_up cell_of R (λ q r. number q ≤ number r) no_less xs (each_pair R xs pairs))
+        (all_from_has (λ q. number q < s.head.ports) (filter_map cell_of xs) (λ q has.
+        let it = looked_up cell_of xs q has in low it.origin q it.has it.is)))
+        (told_again cell_of named_as xs
+        (λ c has. let some = arrives c (named c has) in grind (arith, common_steps)))
 
   lists_again : map named_as (flat_map (λ l. l) (map (list_told w.came s) (range_with_len 0 s.head.ports))) ≡ s.listed
-  lists_again = rw (end_on_end (λ q. q.key.input) (list_told w.came s) (filter_map cell_of s.listed) s.head.ports
-      (λ i. sifted i s.listed) inputs_rise inputs_low) (waiting_again s.listed (search (rules, has_left)))
-
-  outputs_rise : EachPair (λ q r. q.cell.output ≤ r.cell.output) (filter_map cell_of s.buffered)
-  outputs_rise = pairs_looked_up cell_of (IsBufferedBefore w.came) (λ q r. q.cell.output ≤ r.cell.output)
-      (search (arith, rules, its_output)) s.buffered
-      (each_pair (IsBufferedBefore w.came) s.buffered sound.order.buffers)
-
-  outputs_low : AllByRecursion (λ q. q.cell.output < s.head.ports) (filter_map cell_of s.buffered)
-  outputs_low = all_from_has (λ q. q.cell.output < s.head.ports) (filter_map cell_of s.buffered) (λ q has.
-      let it = looked_up cell_of s.buffered q has in
-      search (arith, rules, shape.head.ports, of_traffic w s in_range shape sound traffic it.origin q it.is))
+  lists_again = again (λ q. q.key.input) (λ c d. c.input ≤ d.input) (search (arith, rules, its_input)) s.listed
+      sound.order.lists (λ c q has is. let own = all_of_has (IsNamed s.head.ports) s.listed c in_range.listed has in
+      search (arith, rules, its_input)) (list_told w.came s) (λ i. sifted i s.listed) (search (rules, has_left))
 
   buffers_again : map named_as (flat_map (λ l. l) (map (buffer_told w.came s) (range_with_len 0 s.head.ports)))
       ≡ s.buffered
-  buffers_again = rw (end_on_end (λ q. q.cell.output) (buffer_told w.came s) (filter_map cell_of s.buffered)
-      s.head.ports (λ j. refl) outputs_rise outputs_low)
-      (waiting_again s.buffered (search (rules, has_left, has_right)))
+  buffers_again = again (λ q. q.cell.output) (IsBufferedBefore w.came) (search (arith, rules, its_output)) s.buffered
+      sound.order.buffers
+      (λ c q has is. search (arith, rules, shape.head.ports, of_traffic w s in_range shape sound traffic c q is))
+      (buffer_told w.came s) (λ j. refl) (search (rules, has_left, has_right))
 
   pub state_again : state_of (frozen_told w s) (sent_told w.came s) s.moved w.t0 w.classes (length w.came) ≡ s
   unfolding state_of frozen_told fabric_told figures_told
