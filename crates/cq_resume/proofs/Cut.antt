@@ -6,7 +6,7 @@
 -- are before the next one, and each is at one of the outputs, where it is counted. The figures of the outputs change
 -- departure by departure, each those of its own output. And the slots of a run: departures that stand by slot end with
 -- the last.
-use Rattle.cq_resume.proofs.Terms.{◌&&◌, rules, ◌≡◌, ℕ, zero, suc, ◌+◌, ◌-◌, ◌<◌, ◌≤◌, eqb, leb, ltb, Bool, true, false, List, [], ◌∷◌, length, get_or, take, drop, refl, sym, ap, ◌∙◌, length-drop, Bor, arith, ◌++◌, map, flat_map, common_steps, filter, Called, ComputesKey, Mut, IsPartitionPoint, IsNonDecreasingBy, always_returns_same, append-nil, get_or-drop, get_or-take, length-take-le, take-append-drop, map-append, take_all, take_more, filter-append, eq-eqb, leb-false, leb-true, ltb-false, ltb-true, ne_eqb, cases_eq, eqb-true, AllPairs, range_with_len, enumerate_from, IsRising, Queued, BuffersStand, IsBufferedBefore, flat_map-append, map-range_with_len_more, ◌^◌, set, replicate, length-append, AllByRecursion, Departure, OutputFigures, output_told, IsSentBefore, IsTimely, departed, with_departure, Gone, cases_Bool, get_or-map-range_with_len, set_one, slots_of, all_weaker, of_images, few_kept, map-constant, all_of_has, all_from_has, kept_has, each_pair, all_pairs, EachPair}
+use Rattle.cq_resume.proofs.Terms.{◌&&◌, rules, ◌≡◌, ℕ, zero, suc, ◌+◌, ◌-◌, ◌<◌, ◌≤◌, eqb, leb, ltb, Bool, true, false, List, [], ◌∷◌, length, get_or, take, drop, refl, sym, ap, ◌∙◌, length-drop, Bor, arith, ◌++◌, map, flat_map, common_steps, filter, Called, ComputesKey, Mut, IsPartitionPoint, IsNonDecreasingBy, always_returns_same, append-nil, get_or-drop, get_or-take, length-take-le, take-append-drop, map-append, take_all, take_more, filter-append, eq-eqb, leb-false, leb-true, ltb-false, ltb-true, ne_eqb, cases_eq, eqb-true, AllPairs, range_with_len, enumerate_from, IsRising, Queued, BuffersStand, IsBufferedBefore, flat_map-append, map-range_with_len_more, ◌^◌, set, replicate, length-append, AllByRecursion, Departure, OutputFigures, output_told, IsSentBefore, IsTimely, departed, with_departure, Gone, recursion_from_All, filter_all, filter_none, cases_Bool, get_or-map-range_with_len, set_one, slots_of, all_weaker, of_images, few_kept, map-constant, all_of_has, all_from_has, kept_has, each_pair, all_pairs, EachPair}
 use Rattle.std.proofs.lemmas.List.{take_rest}
 use Rattle.cq_resume.proofs.Each.{all_at}
 
@@ -15,15 +15,9 @@ pub computes : {F X K : Type 0} {g : Mut F (Bor X × Unit {0}) K} {f : F} (key :
     ((a : Bor X × Unit {0}) (r : K) (f' : F) → Called g f a r f' → (r ≡ key a.0.now) × (f' ≡ f)) → ComputesKey g key f
 computes {g = g} {f = f} key calls = always_returns_same g (λ a r. r ≡ key a.0.now) f calls
 
-module _ {X : Type 0} (p : X → Bool) where
-  pub none_kept : (xs : List X) → ((k : ℕ) (d : X) → k < length xs → p (get_or xs k d) ≡ false) → filter p xs ≡ []
-  none_kept [] none = refl
-  none_kept (x ∷ xs) none = rw (none zero x (omega arith)) (none_kept xs (λ k d inside. none (suc k) d (omega arith)))
-
-  all_kept : (xs : List X) → ((k : ℕ) (d : X) → k < length xs → p (get_or xs k d) ≡ true) → filter p xs ≡ xs
-  all_kept [] all = refl
-  all_kept (x ∷ xs) all = rw (all zero x (omega arith)) (ap (λ (l : List X). x ∷ l) (all_kept xs
-      (λ k d inside. all (suc k) d (omega arith))))
+pub none_kept : {X : Type 0} (p : X → Bool) (xs : List X) →
+    ((k : ℕ) (d : X) → k < length xs → p (get_or xs k d) ≡ false) → filter p xs ≡ []
+none_kept p xs none = filter_none p xs (recursion_from_All (λ x. p x ≡ false) xs none)
 
 -- a list that does not fall is cut behind the last item that is no greater, and what is left before the first that is
 -- no less
@@ -45,8 +39,8 @@ module _ {X : Type 0} (key : X → ℕ) (t start end : ℕ) (xs upto : List X) (
   before_none = none_kept its (take start upto) (search (arith, rules, length-take-le, get_or-take, ltb-true, ne_eqb))
 
   inner_all : filter its (drop start upto) ≡ drop start upto
-  inner_all = all_kept its (drop start upto)
-      (search (arith, rules, length-drop, size, get_or-take, get_or-drop, leb-true, ltb-false, eq-eqb))
+  inner_all = filter_all its (drop start upto) (recursion_from_All (λ x. its x ≡ true) (drop start upto)
+      (search (arith, rules, length-drop, size, get_or-take, get_or-drop, leb-true, ltb-false, eq-eqb)))
 
   pub cut_at : take (length upto - start) (drop start upto) ≡ filter (λ x. eqb (key x) t) xs
   cut_at =
