@@ -133,12 +133,6 @@ module _ (w : Switch) (s : State) (in_range : IsInRange s) (shape : HasShape w s
   pub queued_named : (c : Named) → Has (queued_in s) c → Has (named_in s) c
   queued_named c has = has_left (queued_in s) sent_names c has
 
-  listed_named : (c : Named) → Has s.listed c → Has (named_in s) c
-  listed_named c has = queued_named c (has_left s.listed s.buffered c has)
-
-  buffered_named : (c : Named) → Has s.buffered c → Has (named_in s) c
-  buffered_named c has = queued_named c (has_right s.listed s.buffered c has)
-
   -- what the traffic says of a cell
   pub record OfTraffic (c : Named) (q : Queued) : Type 0 where
     pub input : q.cell.id.input ≡ c.input
@@ -243,9 +237,9 @@ module _ (w : Switch) (s : State) (in_range : IsInRange s) (shape : HasShape w s
   early : Early s.head.next f
   early = record {
     waiting = λ i c a. let one = in_list i c a in
-        search (arith, rules, its_slot, comes one.name (listed_named one.name one.has));
+        search (arith, rules, its_slot, comes one.name (has_left _ _ one.name (has_left _ _ one.name one.has)));
     crossed = λ j c a. let one = in_buffer j c a in
-        search (arith, rules, its_slot, comes one.name (buffered_named one.name one.has));
+        search (arith, rules, its_slot, comes one.name (has_left _ _ one.name (has_right s.listed _ one.name one.has)));
   }
 
   sides : (length f.inputs ≡ length w.machines) × (length f.buffers ≡ length f.inputs)
@@ -277,7 +271,7 @@ module _ (w : Switch) (s : State) (in_range : IsInRange s) (shape : HasShape w s
   lists_few : (i : ℕ) → length (input f i) ≤ number_of (is_from i) (came_before s.head.next w.came)
   lists_few i =
       let few = names_few (is_from i) s.head.next w.came (at_input i) s.listed listed_differ
-      (λ c has. comes c (listed_named c has)) (λ c a own arrives input. search (arith, rules, eq-eqb, eqb-true)) in
+      (λ c has. comes c (has_left _ _ c (has_left _ _ c has))) (λ c a own arrives input. search (arith, rules, eq-eqb, eqb-true)) in
       of_list (λ (l : List Queued). length l ≤ number_of (is_from i) (came_before s.head.next w.came)) (omega arith) i
       (omega (arith, looked_few t (filter (at_input i) s.listed)))
 
