@@ -1,7 +1,7 @@
 -- How the replay of a log begins that is made for a setup: the machines are those of the disciplines, each in its
 -- opening state, and there is room for all cells that arrive, and for what one slot notes. And what its end says of
 -- the log.
-use Rattle.cq_audit.proofs.Terms.{common_steps, rules, ◌≡◌, ℕ, ◌*◌, List, [], length, map, Option, Result, arith, IfErr, IsOk, OnOk, range_with_len, get_or-map-range_with_len, Arrival, RoomView, Transfer, Setup, IsShort, IsTraffic, is_from, is_to, number_of, Machine, class_count, machines_of, openings_of, Marked, whole_limited_run, empty_limited, Fabric, empty_limited_fabric, IsNo, IsYes, opening_fabric, AreInOrder, IsLog, IsInStep, ReplayView, ports_in, IsReady, RunEnds, AuditRefusal}
+use Rattle.cq_audit.proofs.Terms.{common_steps, rules, ◌≡◌, ℕ, ◌*◌, List, [], length, map, Option, Result, arith, IfErr, IsOk, OnOk, get_or-map-range_with_len, Arrival, RoomView, Transfer, Setup, IsShort, IsTraffic, is_from, is_to, rooms_of, Machine, class_count, machines_of, openings_of, Marked, whole_limited_run, empty_limited, Fabric, empty_limited_fabric, IsNo, IsYes, opening_fabric, AreInOrder, IsLog, IsInStep, ReplayView, ports_in, IsReady, RunEnds, AuditRefusal}
 
 -- The replay of a switch of this setup with these limits, before its first slot.
 pub record IsOpened (M : List ℕ → Machine) (setup : Setup) (limits : List (Option ℕ)) (first : ReplayView) : Type 0
@@ -25,9 +25,9 @@ module _ {M : List ℕ → Machine} {setup : Setup} {limits : List (Option ℕ)}
       IsTraffic (length setup.kinds) (length setup.classes) came → IsShort came →
       IsOk
       (whole_limited_run limits (machines_of setup) came (empty_limited (length setup.kinds) (openings_of setup)))
-      → first.from_inputs ≡ map (λ i. number_of (is_from i) came) (range_with_len 0 ports) →
-      first.to_outputs ≡ map (λ j. number_of (is_to j) came) (range_with_len 0 ports) → AreInOrder ports lines →
-      note.items ≡ [] → note.spare ≡ 2 * ports → IsReady (map M first.fixed) came lines first note
+      → first.from_inputs ≡ rooms_of is_from came ports → first.to_outputs ≡ rooms_of is_to came ports →
+      AreInOrder ports lines → note.items ≡ [] → note.spare ≡ 2 * ports →
+      IsReady (map M first.fixed) came lines first note
   ready lines note ports many step classes traffic short ranked from_inputs to_outputs order none spare =
       search (arith, rules, get_or-map-range_with_len)
 

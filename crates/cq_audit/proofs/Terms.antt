@@ -60,5 +60,5 @@ pub use Rattle.cq_laws.proofs.{Came.came_from, InputBest.stable_limited_run, Joi
 pub use Rattle.cq_laws.specs.{Agreement.SendsAlike, Agreement.Agrees, Holding.held_for, LimitedAgreement.LimitedAgrees, LimitedAgreement.LimitedRunsAlike, Quiet.idled}
 pub use Rattle.cq_fabric.specs.Held.{HoldsFabric}
 pub use Rattle.cq_fabric.proofs.{Kept.limited_lists_kept, Kept.limited_outputs_kept, Known.AreRanked, Known.BuffersHaveRoom, Known.HaveArrived, Known.HaveJudged, Known.HaveMoved, Known.HaveSent, Rested.rested_agrees, Rested.rested_limited_run, Rested.still_held}
-pub use Rattle.cq_traffic.specs.Stretch.{IsQuietUntil}
+pub use Rattle.cq_traffic.specs.{Rooms.rooms_of, Stretch.IsQuietUntil}
 pub use Rattle.cq_traffic.proofs.{ToOutputs.come_for, ToOutputs.for_here, ToOutputs.for_last, ToOutputs.no_more_to}

@@ -2,7 +2,8 @@
 pub use Rattle.cq_base.specs.Arriving.{end_of, Arrival}
 pub use Rattle.cq_base.specs.Limits.{most_ports}
 pub use Rattle.cq_base.specs.{Texts.log_line, declared.cell.Cell.Cell, declared.cell.Transfer.Transfer, declared.setup.Setup.Setup}
-pub use Rattle.cq_cells.specs.Traffic.{is_from, is_to, number_of}
+pub use Rattle.cq_cells.specs.Traffic.{is_from, is_to}
+pub use Rattle.cq_traffic.specs.Rooms.{rooms_of}
 pub use Rattle.cq_rank.specs.{Machine.Machine, Switch.AreForOneSwitch}
 pub use Rattle.cq_ideal.specs.Admission.{Marked}
 pub use Rattle.cq_lines.specs.{Refusals.IsCause, Transfers.IsTransferBefore}

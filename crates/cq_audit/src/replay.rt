@@ -2,8 +2,7 @@
 //!
 //! It is the fabric of the definitions, with the matchings that the lines tell in place of ones that were looked for.
 ghost use Rattle.std.specs.Prelude.{◌≡◌, ◌<◌, ◌≤◌, ◌↔◌, [], IfErr, IfOk, IsTrue, length, map, replicate};
-ghost use Rattle.std.specs.List.{range_with_len};
-ghost use Rattle.cq_audit.specs.Terms.{AreForOneSwitch, IsEmptyFabric, empty_limited_fabric, IsPhaseFault, in_phase, CanCome, CanReplay, HasRested, IsInStep, IsSlotFault, SlotReplayed, shown, CanGoBy, CanSend, HasGoneBy, HaveAllSent, HaveCome, is_from, is_to, most_ports, number_of};
+ghost use Rattle.cq_audit.specs.Terms.{AreForOneSwitch, IsEmptyFabric, empty_limited_fabric, IsPhaseFault, in_phase, CanCome, CanReplay, HasRested, IsInStep, IsSlotFault, SlotReplayed, shown, CanGoBy, CanSend, HasGoneBy, HaveAllSent, HaveCome, is_from, is_to, most_ports, rooms_of};
 
 use crate::crossing::cross;
 use crate::parted::part;
@@ -114,10 +113,8 @@ fn queues_for(alloc: Global, schedule: &Schedule, ports: u16) -> Result<Queues, 
     requires ports { ports ≤ schedule.now.ports }
     ensures inputs { IfOk result (λ q. q.inputs ≡ replicate ports []) }
     ensures buffers { IfOk result (λ q. q.buffers ≡ replicate ports []) }
-    ensures from_inputs { IfOk result (λ q. q.from_inputs
-        ≡ map (λ i. number_of (is_from i) schedule.now.came) (range_with_len 0 ports)) }
-    ensures to_outputs { IfOk result (λ q. q.to_outputs
-        ≡ map (λ j. number_of (is_to j) schedule.now.came) (range_with_len 0 ports)) }
+    ensures from_inputs { IfOk result (λ q. q.from_inputs ≡ rooms_of is_from schedule.now.came ports) }
+    ensures to_outputs { IfOk result (λ q. q.to_outputs ≡ rooms_of is_to schedule.now.came ports) }
 {
     let from_inputs = rooms_from(alloc, schedule, ports)?;
     let to_outputs = rooms_to(alloc, schedule, ports)?;
@@ -142,9 +139,9 @@ impl<R: Rank> Replay<R> {
         ensures fabric { IfOk result (λ replay. replay.fabric
             ≡ empty_limited_fabric (length ranks.items) (map R.state ranks.items)) }
         ensures from_inputs { IfOk result (λ replay. replay.from_inputs
-            ≡ map (λ i. number_of (is_from i) schedule.now.came) (range_with_len 0 (length ranks.items))) }
+            ≡ rooms_of is_from schedule.now.came (length ranks.items)) }
         ensures to_outputs { IfOk result (λ replay. replay.to_outputs
-            ≡ map (λ j. number_of (is_to j) schedule.now.came) (range_with_len 0 (length ranks.items))) }
+            ≡ rooms_of is_to schedule.now.came (length ranks.items)) }
         ensures in_step { IfOk result (λ replay. IsInStep (map R.machine replay.fixed) 0 replay) }
     {
         let ports = ranks.len() as u16;
