@@ -120,10 +120,10 @@ fn replay_run<R: Rank>(
     let mut slot = 0;
     let mut rest = lines;
     'slots: while !is_over(replay, schedule, slot) {
+        note.clear();
         slot = skip(replay, schedule, rest, slot);
         schedule.arrive(slot, &mut coming);
         let arrivals = coming.arrivals();
-        note.clear();
         rest = match replay.slot(slot, arrivals, rest, note) {
             Ok(rest) => rest,
             Err(fault) => return Err(AuditRefusal::of_slot(slot, fault)),

@@ -2,21 +2,16 @@ use Rattle.cq_audit.proofs.Terms.{rules, ◌≤◌, ◌∙◌, arith, end_of, Is
 use Rattle.cq_audit.proofs.Steps.{Replaying, a_slot_left, at_end, at_fault, at_next, can_replay, cleared, goes_on, not_over_past, past, replaying_first, rest_is_short}
 use Rattle.cq_audit.proofs.audit.replay_run.Given as given
 use Rattle.cq_audit.proofs.audit.replay_run.Goals as goal
-use Rattle.cq_audit.proofs.audit.replay_run.Goals.{After-skip-slot, After-clear}
+use Rattle.cq_audit.proofs.audit.replay_run.Goals.{After-skip-slot}
 
 pub slots-init : goal.slots-init
 slots-init g c = search (rules, replaying_first)
 
--- the replay behind the slots that were skipped
+-- the replay behind the slots that were skipped, with room for what a slot notes
 there : (g : given.Over) (c : After-skip-slot g) → Replaying g.R.Rank.machine c.args.schedule.now.came c.args.lines.now
-    c.args.replay.now c.skip-slot.result c.slots.rest.now c.skip-slot.new.replay c.slots.note
-there g c = past c.slots.invariant c.skip-slot.ensures.still c.skip-slot.ensures.rested
-
--- and with room for what a slot notes
-free : (g : given.Over) (c : After-clear g) → Replaying g.R.Rank.machine c.args.schedule.now.came c.args.lines.now
     c.args.replay.now c.skip-slot.result c.slots.rest.now c.skip-slot.new.replay c.clear.new.self
-free g c = cleared (past c.slots.invariant c.skip-slot.ensures.still c.skip-slot.ensures.rested) c.clear.new.self
-    c.clear.ensures.items c.clear.ensures.spare
+there g c = past (cleared c.slots.invariant c.clear.new.self c.clear.ensures.items c.clear.ensures.spare)
+    c.skip-slot.ensures.still c.skip-slot.ensures.rested
 
 -- the loop goes on there
 more : (g : given.Over) (c : After-skip-slot g) → end_of c.args.schedule.now.came ≤ c.skip-slot.result →
@@ -26,8 +21,8 @@ more g c = not_over_past c.slots.invariant c.skip-slot.ensures.still c.skip-slot
 
 pub slot-requires : goal.slot-requires
 slot-requires g c =
-    let at = goal.at.slot-requires g c in
-    can_replay (free g at.After-clear) (more g at.After-skip-slot) c.requires _
+    let at = (goal.at.slot-requires g c).After-skip-slot in
+    can_replay (there g at) (more g at) c.requires _
     (c.arrivals-arrivals.ensures ∙ c.arrive.ensures) c.clear.ensures.items
 
 pub returns-in-Err : goal.returns-in-Err
@@ -43,14 +38,14 @@ slots-smaller g c =
 
 pub slots-preserved : goal.slots-preserved
 slots-preserved g c =
-    let at = goal.at.slots-preserved g c in
-    at_next (free g at.After-clear) (more g at.After-skip-slot) _ _ _ _
+    let at = (goal.at.slots-preserved g c).After-skip-slot in
+    at_next (there g at) (more g at) _ _ _ _
     (c.arrivals-arrivals.ensures ∙ c.arrive.ensures) c.in-Ok.ensures.slot
 
 pub overflow_add-slot : goal.overflow_add-slot
 overflow_add-slot g c =
-    let at = goal.at.overflow_add-slot g c in
-    let can = can_replay (free g at.After-clear) (more g at.After-skip-slot) c.requires _
+    let at = (goal.at.overflow_add-slot g c).After-skip-slot in
+    let can = can_replay (there g at) (more g at) c.requires _
     (c.arrivals-arrivals.ensures ∙ c.arrive.ensures) c.clear.ensures.items in
     let early = can.early in omega arith
 
