@@ -77,20 +77,17 @@ module _ {X : Type 0} (number : X → ℕ) where
   later a xs xss own k x has = let e = own (suc k) x has in omega arith
 
   none_past : (a i : ℕ) (xss : List (List X)) → i < a → AreNumbered a xss → filter (is_numbered i) (all_of xss) ≡ []
-  none_past a i xss lt own = filter_none (is_numbered i) (all_of xss) (all_from_has _ (all_of xss) (λ x has.
-      let it = is_at xss x has in
-      let e : number x ≡ a + it.place = own it.place x it.has in ne_eqb (number x) i (λ same. omega arith)))
+  none_past a i xss lt own =
+      filter_none (is_numbered i) (all_of xss) (all_from_has _ (all_of xss) (search (arith, rules, is_at, own, ne_eqb)))
 
   sifted : (a i : ℕ) (xss : List (List X)) → AreNumbered a xss → (k : ℕ) → a + k ≡ i →
       filter (is_numbered i) (all_of xss) ≡ list_at xss k
   sifted a i [] own k is = refl
   sifted a i (xs ∷ xss) own zero is =
-      let here = filter_all (is_numbered i) xs (all_from_has _ xs (λ x has.
-      let e = own zero x has in eq-eqb (number x) i (omega arith))) in
+      let here = filter_all (is_numbered i) xs (all_from_has _ xs (search (arith, rules, own zero, eq-eqb))) in
       search (arith, rules, none_past (a + 1) i xss, later a xs xss own, filter-append, append-nil)
   sifted a i (xs ∷ xss) own (suc k) is =
-      let none = filter_none (is_numbered i) xs (all_from_has _ xs (λ x has.
-      let e = own zero x has in ne_eqb (number x) i (λ same. omega arith))) in
+      let none = filter_none (is_numbered i) xs (all_from_has _ xs (search (arith, rules, own zero, ne_eqb))) in
       simp (filter-append, none) (sifted (a + 1) i xss (later a xs xss own) k (omega arith))
 
   pub sift : (xss : List (List X)) → ((k : ℕ) (x : X) → Has (list_at xss k) x → number x ≡ k) → (i : ℕ) →

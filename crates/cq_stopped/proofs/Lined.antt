@@ -38,9 +38,8 @@ module _ (j : ℕ) where
   its_one : (slot a k : ℕ) (gone : List (Option Queued)) → a + k ≡ j →
       filter is_its (departures_from slot a gone) ≡ told_of slot (slice_index_or gone k None)
   its_one slot a k [] is = refl
-  its_one slot a zero (None ∷ gone) is = none_its slot (a + 1) gone (omega arith)
+  its_one slot a zero gone is = grind (arith, common_steps, eq-eqb, none_its)
   its_one slot a (suc k) (None ∷ gone) is = its_one slot (a + 1) k gone (omega arith)
-  its_one slot a zero (Some q ∷ gone) is = grind (arith, common_steps, eq-eqb, none_its)
   its_one slot a (suc k) (Some q ∷ gone) is = grind (arith, common_steps, ne_eqb, its_one slot (a + 1) k gone)
 
   -- what left an output with this slot
