@@ -6,7 +6,7 @@
 -- are before the next one, and each is at one of the outputs, where it is counted. The figures of the outputs change
 -- departure by departure, each those of its own output. And the slots of a run: departures that stand by slot end with
 -- the last.
-use Rattle.cq_resume.proofs.Terms.{◌&&◌, rules, ◌≡◌, ℕ, zero, suc, ◌+◌, ◌-◌, ◌<◌, ◌≤◌, eqb, leb, ltb, Bool, true, false, List, [], ◌∷◌, length, get_or, take, drop, refl, sym, ap, ◌∙◌, length-drop, Bor, arith, ◌++◌, map, flat_map, common_steps, filter, Called, ComputesKey, Mut, IsPartitionPoint, IsNonDecreasingBy, always_returns_same, append-nil, get_or-drop, get_or-take, length-take-le, take-append-drop, map-append, take_all, take_more, filter-append, eq-eqb, leb-false, leb-true, ltb-false, ltb-true, ne_eqb, cases_eq, eqb-true, AllPairs, range_with_len, enumerate_from, IsRising, Queued, BuffersStand, IsBufferedBefore, flat_map-append, map-range_with_len_more, ◌^◌, set, replicate, length-append, AllByRecursion, Departure, OutputFigures, output_told, IsSentBefore, IsTimely, departed, with_departure, Gone, recursion_from_All, filter_all, filter_none, cases_Bool, get_or-map-range_with_len, set_one, slots_of, all_weaker, of_images, few_kept, map-constant, all_of_has, all_from_has, kept_has, each_pair, all_pairs, EachPair}
+use Rattle.cq_resume.proofs.Terms.{◌&&◌, rules, ◌≡◌, ℕ, ◌+◌, ◌-◌, ◌<◌, ◌≤◌, eqb, leb, ltb, Bool, true, false, List, [], ◌∷◌, length, get_or, take, drop, refl, sym, ap, ◌∙◌, length-drop, Bor, arith, ◌++◌, map, flat_map, common_steps, filter, Called, ComputesKey, Mut, IsPartitionPoint, IsNonDecreasingBy, always_returns_same, append-nil, get_or-drop, get_or-take, length-take-le, take-append-drop, map-append, take_all, take_more, filter-append, eq-eqb, leb-false, leb-true, ltb-false, ltb-true, ne_eqb, cases_eq, eqb-true, AllPairs, range_with_len, enumerate_from, IsRising, Queued, BuffersStand, IsBufferedBefore, flat_map-append, map-range_with_len_more, ◌^◌, set, replicate, length-append, AllByRecursion, Departure, OutputFigures, output_told, IsSentBefore, IsTimely, departed, with_departure, Gone, recursion_from_All, filter_all, filter_none, cases_Bool, get_or-map-range_with_len, set_one, slots_of, all_weaker, of_images, few_kept, map-constant, all_of_has, all_from_has, kept_has, each_pair, all_pairs, EachPair}
 use Rattle.std.proofs.lemmas.List.{take_rest}
 use Rattle.cq_resume.proofs.Each.{all_at}
 

@@ -118,6 +118,35 @@ module _ (came : List Arrival) (next : ℕ) where
       filter_map (queued_of came) names ≡ found
   all_found names found zips = search (arith, rules, same_mapped (IsTold came next) (queued_of came), map-id found)
 
+-- ## Names that stand for those of a state
+
+-- whole packets and what is left out are the same by both
+module _ (w : Switch) (s : State) (names : List Name)
+    (same : (a : Arrival) → is_named (named_in s) a ≡ has_name names a) where
+  abbrev ByState : Arrival → Type 0
+  ByState a = a.cell.id.index ≡ 0 → a.slot < s.head.next →
+      AllNamed s (packet_before w.came s.head.next a)
+      ⊎ (NoneNamed s (packet_before w.came s.head.next a) × HasLimit w.limits a.cell.output)
+
+  abbrev ByNames : Arrival → Type 0
+  ByNames a = a.cell.id.index ≡ 0 → a.slot < s.head.next → IsWholePacket w.limits s.head.next w.came names a
+
+  alike : (t : Bool) (xs : List Arrival) →
+      All (λ b. is_named (named_in s) b ≡ t) xs ↔ AllByRecursion (λ b. has_name names b ≡ t) xs
+  alike t xs = search (rules, all_same, same)
+
+  pub packets_alike : AreWholePackets w s ↔ PacketsStand w.limits s.head.next w.came names
+  packets_alike = all_same ByState ByNames (λ a.
+      let all = alike true (packet_before w.came s.head.next a) in
+      let none = alike false (packet_before w.came s.head.next a) in (
+        (λ by begins early. let ways = by begins early in search (arith, rules)),
+        (λ by begins early. let ways = by begins early in search (arith, rules)),
+      )) w.came
+
+  pub tally_is : (x : Tally) → length w.limits ≡ s.head.ports → TalliesUp w.limits s.head.next w.came names x →
+      IsTally w s x
+  tally_is x many up = search (arith, rules, mapped_alike, any_alike, same, filter_agree)
+
 -- ## Of the cells that were found
 
 module _ (w : Switch) (s : State) (f : Found) (found : IsFound w.came s f) where
@@ -345,34 +374,6 @@ module _ (w : Switch) (s : State) (f : Found) (found : IsFound w.came s f) where
       (λ n. eqb n.queued.key.slot a.slot && eqb n.queued.key.input a.cell.id.input) (λ c n is. search (arith, rules))
       (named_in s) _ named_zips ∙ list_any-IsPermutation _ _ f.names.items found.same
 
-  -- ## Whole packets
-
-  abbrev ByState : Arrival → Type 0
-  ByState a = a.cell.id.index ≡ 0 → a.slot < s.head.next →
-      AllNamed s (packet_before w.came s.head.next a)
-      ⊎ (NoneNamed s (packet_before w.came s.head.next a) × HasLimit w.limits a.cell.output)
-
-  abbrev ByNames : Arrival → Type 0
-  ByNames a = a.cell.id.index ≡ 0 → a.slot < s.head.next → IsWholePacket w.limits s.head.next w.came f.names.items a
-
-  alike : (t : Bool) (xs : List Arrival) →
-      All (λ b. is_named (named_in s) b ≡ t) xs ↔ AllByRecursion (λ b. has_name f.names.items b ≡ t) xs
-  alike t xs = search (rules, all_same, one_named)
-
-  pub packets_alike : AreWholePackets w s ↔ PacketsStand w.limits s.head.next w.came f.names.items
-  packets_alike = all_same ByState ByNames (λ a.
-      let all = alike true (packet_before w.came s.head.next a) in
-      let none = alike false (packet_before w.came s.head.next a) in (
-        (λ by begins early. let ways = by begins early in search (arith, rules)),
-        (λ by begins early. let ways = by begins early in search (arith, rules)),
-      )) w.came
-
-  -- ## What is left out
-
-  pub tally_is : (x : Tally) → length w.limits ≡ s.head.ports → TalliesUp w.limits s.head.next w.came f.names.items x →
-      IsTally w s x
-  tally_is x many up = search (arith, rules, mapped_alike, any_alike, one_named, filter_agree)
-
   -- ## Figures
 
   pub sent_is : sent_told w.came s ≡ map departed f.sent.items
@@ -490,10 +491,12 @@ module _ (t : Tables) (c : Scheduled) (s : State) (f : Found) (k : AreFoundIn t 
   -- ## Packets
 
   pub packets_is : AreWholePackets (switch_of t c) s ↔ PacketsStand t.limits s.head.next c.came f.names.items
-  packets_is = search (rules, packets_alike)
+  packets_is = packets_alike (switch_of t c) s f.names.items (one_named (switch_of t c) s f k.found)
 
   pub tally_from : (x : Tally) → TalliesUp t.limits s.head.next c.came f.names.items x → IsTally (switch_of t c) s x
-  tally_from x up = search (rules, tally_is, ports_are)
+  tally_from =
+      let tally = tally_is (switch_of t c) s f.names.items (one_named (switch_of t c) s f k.found) in
+      search (arith, rules, tally, ports_are)
 
   -- ## Flows
 

@@ -17,6 +17,7 @@ pub record KeepsLow (m : Machine) : Type 0 where
 pub record IsConfigured (w : Switch) (ranks : List (List ℕ)) : Type 0 where
   pub some : 1 ≤ length w.machines
   pub few : length w.machines ≤ most_ports
+  pub limits : length w.limits ≡ length w.machines
   pub some_classes : 1 ≤ w.classes
   pub few_classes : w.classes ≤ most_classes
   pub t0 : w.t0 < 2 ^ 63

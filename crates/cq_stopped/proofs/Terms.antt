@@ -1,5 +1,5 @@
 -- The words of this crate's proofs that stand elsewhere, each passed on from its place.
-pub use Rattle.cq_base.proofs.Library.{All, All-from_recursion, AllByRecursion, AllPairs, Bool, Err, IsSome, List, None, Ok, Option, Result, Some, [], and_from, and_parts, and_right, ap, append-nil, append_assoc, arith, both_ways, cases_Bool, cases_eq, cases_lt, common_steps, cond, cond_both, cons_option, count_by, drop, enumerate_from, eq-eqb, eqb, eqb-true, false, false_from_ne_true, fill_by_all, filter, filter-append, filter_agree, filter_map, flat_map, fold, get_or-append-add, get_or-map, get_or-map-range_with_len, get_or-replicate, get_or-set_other, get_or-set_same, get_or_append_left, get_or_past, inl, inr, is_some, le-ltb, length, length-append, length-drop, length-insert, length-map, length-map-range_with_len, length-replicate, length-set, list_any, lt-leb, lt-ltb, ltb-true, map, map-append, max, min, ne_eqb, not, option_map, range_with_len, refl, replicate, rules, same_Some, slice_get, slice_index_or, slice_set, suc, sum, sum_by-append, sum_by-cons, sym, true, unwrap_or-slice_get, zero, ℕ, ⊎_elim, ◌&&◌, ◌*◌, ◌++◌, ◌+◌, ◌-◌, ◌<◌, ◌==◌, ◌^◌, ◌∙◌, ◌∷◌, ◌≡◌, ◌≢◌, ◌≤◌, ◌⊎◌}
+pub use Rattle.cq_base.proofs.Library.{All, AllByRecursion, AllPairs, Bool, Err, IsSome, List, None, Ok, Option, Result, Some, [], and_from, and_parts, and_right, ap, append-nil, append_assoc, arith, both_ways, cases_Bool, cases_eq, cases_lt, common_steps, cond, cond_both, cons_option, count_by, drop, enumerate_from, eq-eqb, eqb, eqb-true, false, false_from_ne_true, fill_by_all, filter, filter-append, filter_map, flat_map, fold, get_or-append-add, get_or-map, get_or-map-range_with_len, get_or-replicate, get_or-set_other, get_or-set_same, get_or_append_left, get_or_past, inl, inr, is_some, le-ltb, length, length-append, length-drop, length-insert, length-map, length-map-range_with_len, length-replicate, length-set, list_any, lt-leb, lt-ltb, ltb-true, map, map-append, max, min, ne_eqb, not, option_map, range_with_len, refl, replicate, rules, same_Some, slice_get, slice_index_or, slice_set, suc, sum, sum_by-append, sum_by-cons, sym, true, unwrap_or-slice_get, zero, ℕ, ⊎_elim, ◌&&◌, ◌*◌, ◌++◌, ◌+◌, ◌-◌, ◌<◌, ◌==◌, ◌^◌, ◌∙◌, ◌∷◌, ◌≡◌, ◌≢◌, ◌≤◌, ◌⊎◌}
 pub use Rattle.cq_base.specs.{Arrivals.arrival_at, declared.cell.Cell.Cell, declared.cell.Departure.Departure, declared.cell.Queued.Queued, declared.cell.Transfer.Transfer}
 pub use Rattle.cq_base.specs.Arriving.{Arrival, arriving_at}
 unfoldable pub use Rattle.cq_base.specs.Arriving.{arriving}
@@ -47,17 +47,17 @@ unfoldable pub use Rattle.cq_laws.specs.Measures.{figures_of, input_figures, out
 pub use Rattle.cq_laws.specs.Phases.{Transfers, came_to, list_arrived}
 unfoldable pub use Rattle.cq_laws.specs.Records.{transfers_of_run}
 pub use Rattle.cq_resume.proofs.GoesOn.{Differ, cell_with, found_at}
-pub use Rattle.cq_resume.specs.Counted.{departure_of, input_told, is_refused, marks_told, output_told, refused_arrivals, sent_by as sent_at, sent_told, taken_of}
+pub use Rattle.cq_resume.specs.Counted.{IsTally, departure_of, input_told, output_told, sent_by as sent_at, sent_told, taken_of}
 unfoldable pub use Rattle.cq_resume.specs.Counted.{figures_told, frozen_told}
-pub use Rattle.cq_resume.specs.Finding.{ArePackets, ComeBehind, IsLine, IsWholePacket, coming, has_limit, has_name, is_left_out, left_out, mark_on, unnamed}
+pub use Rattle.cq_resume.specs.Finding.{ArePackets, ComeBehind, IsLine, coming, has_limit, has_name, mark_on, unnamed}
 pub use Rattle.cq_resume.specs.Parts.{IsParted, IsWhole, opening}
 pub use Rattle.cq_resume.specs.Reading.{IsRead, named_as, seen_as, sent_as}
 unfoldable pub use Rattle.cq_resume.specs.Reading.{state_of}
 pub use Rattle.cq_resume.specs.Resumed.{Kept, Runs}
-pub use Rattle.cq_resume.specs.Sound.{AllNamed, AreArrivals, AreBelowFloors, AreWholePackets, HaveSlack, IsBelowFloor, IsBufferedBefore, KeepArrivalOrder, NoneNamed, OfOneFlow, StandInOrder}
-pub use Rattle.cq_resume.specs.Switch.{HasLimit, HasShape, IsScheduleOf, Switch, switch_of}
+pub use Rattle.cq_resume.specs.Sound.{AreArrivals, AreBelowFloors, AreWholePackets, HaveSlack, IsBelowFloor, IsBufferedBefore, KeepArrivalOrder, OfOneFlow, StandInOrder}
+pub use Rattle.cq_resume.specs.Switch.{HasShape, IsScheduleOf, Switch, switch_of}
 pub use Rattle.cq_resume.specs.Terms.{IsTransferBefore}
-pub use Rattle.cq_resume.specs.Told.{arriving_cell, buffer_told, class_in, class_of, is_ahead, is_named, key_of, list_told, named_in, output_in, output_of, packet_before, queued_in, queued_of}
+pub use Rattle.cq_resume.specs.Told.{arriving_cell, buffer_told, class_in, class_of, is_ahead, is_named, key_of, list_told, named_in, output_in, output_of, queued_in, queued_of}
 unfoldable pub use Rattle.cq_resume.specs.Told.{fabric_told}
 pub use Rattle.cq_resume.specs.declared.taken.Taken.{Taken}
 pub use Rattle.cq_stopped.specs.Stopped.{AreRecorded, CanBeTakenUp, StoppedRunsAreSound, told_state}
@@ -81,7 +81,7 @@ pub use Rattle.cq_ideal.specs.{Limiter.where_up, declared.refused.Refused.Refuse
 pub use Rattle.cq_state.specs.declared.state.Seen.{Seen}
 pub use Rattle.cq_laws.proofs.{AfterDepartures.sent_buffer, AfterTransfer.moved_has, Falls.rest_of, IdealLists.among_put_all, IdealLists.list_after, IdealLists.put_all_keeps, IdealLists.put_all_new, InputBest.stable_slot, InputBest.stable_limited_run, LimitedSlots.admission_for_ports, Rises.partner_offers, Rises.sender, WholeRuns.empty_together, WholeRuns.empty_list}
 pub use Rattle.cq_laws.specs.SlotBySlot.{RunBy}
-pub use Rattle.cq_resume.proofs.{Coming.is_between, Coming.one_comes, Judging.mapped_alike, Scheduling.schedule_known, Tallied.whole, Upheld.all_marks, Upheld.all_stand, Walking.cells_in}
+pub use Rattle.cq_resume.proofs.{Coming.is_between, Coming.one_comes, Judging.packets_alike, Judging.tally_is, Scheduling.schedule_known, Tallied.whole, Upheld.all_stand, Upheld.tallies_up, Walking.cells_in}
 pub use Rattle.cq_resume.specs.declared.found.Name.{Name}
 pub use Rattle.cq_traffic.proofs.{ForPorts.arrivals_for, ForPorts.place_of}
 pub use Rattle.cq_simulate.proofs.{FabricSteps.all_wait, OnceASlot.AreNumbered}

@@ -13,7 +13,7 @@ use Rattle.cq_stopped.proofs.Lined.{figures_are, are_moved, AreMoved, DepartsBef
 use Rattle.cq_stopped.proofs.Ran.{IsSentRight, Known, came_of}
 use Rattle.cq_stopped.proofs.Standing.{is_of_one, state_sized, states_many, fabric_same, sent_same, arrivals_are, named_is, below_floors, keep_order, stand_in_order, has_shape, slack_kept}
 use Rattle.cq_stopped.proofs.Stepping.{Ended, stopped_is}
-use Rattle.cq_stopped.proofs.Walk.{counts_are, marks_are, packets_are}
+use Rattle.cq_stopped.proofs.Walk.{packets_are, tally_are}
 use Rattle.cq_stopped.specs.Read.{kept_in_run, IsReadAs, ReadRunsGoOn, StoppedRunsAreRead}
 
 -- ## Figures of inputs
@@ -177,9 +177,9 @@ module _ (w : Switch) (ranks : List (List ℕ)) (configured : IsConfigured w ran
   unfolding frozen_told state_of
   taken_same =
       let fabric = fabric_same at known in
-      let marks = marks_are w ranks st rs (marked_in at.frozen) configured.few configured.packets runs in
-      let counts = counts_are w ranks st rs (marked_in at.frozen) configured.few configured.packets runs in
-      search (arith, rules, sent_same at known, known, marks, runs, named_is at known, counts, figures_same)
+      let tally = tally_are w ranks st rs (marked_in at.frozen) configured.few configured.packets runs
+      (named_is at known) configured.limits in
+      search (arith, rules, sent_same at known, known, tally, figures_same)
 
   -- ## It can be taken up
 

@@ -4,9 +4,9 @@
 -- walk over the arrivals that compares each with the mark before it ends, with the mark of the run: each packet is
 -- named whole or not at all, and the mark is that of the packet that began last. And what was refused slot by slot is,
 -- counted by any test, what is not named input by input.
-use Rattle.cq_stopped.proofs.Terms.{rules, ◌≡◌, ℕ, zero, suc, ◌+◌, ◌<◌, ◌≤◌, eqb, Bool, true, false, List, [], ◌∷◌, length, Option, None, Some, refl, ap, ◌∙◌, arith, ◌⊎◌, length-append, map, and_parts, and_right, cases_Bool, cases_lt, eq-eqb, eqb-true, le-ltb, lt-leb, cases_eq, ne_eqb, common_steps, get_or-map, get_or-replicate, length-map, length-replicate, map-append, All-from_recursion, filter-append, filter_agree, get_or-map-range_with_len, unwrap_or-slice_get, AllByRecursion, cons_option, range_with_len, filter, is_some, not, All, flat_map, arrival_at, Arrival, arriving, arriving_at, Cell, Queued, is_from, admitted_at, marks_kept, Marked, admission, held_after, mark_after, mark_at, marks_after, unless, refused, arriving_from, cells_refused, packets_refused, refused_counts, refused_in, with_refused, fabric_judged, Fabric, fabric_held, LimitedRecord, admissions_in, all_both, all_weaker, all_from_has, found_at, is_refused, marks_told, refused_arrivals, ComeBehind, IsLine, coming, has_limit, mark_on, ArePackets, IsWholePacket, has_name, is_left_out, left_out, unnamed, opening, Runs, AllNamed, AreWholePackets, NoneNamed, Switch, HasLimit, is_named, key_of, named_in, packet_before, Named, State, flat_same, ArrivesIn, refused_here, where_up, Refused, is_between, one_comes, mapped_alike, whole, all_marks, all_stand, cells_in, Name, filter_none, most_ports}
+use Rattle.cq_stopped.proofs.Terms.{rules, ◌≡◌, ℕ, zero, suc, ◌+◌, ◌<◌, ◌≤◌, eqb, Bool, true, false, List, [], ◌∷◌, length, Option, None, Some, refl, ap, sym, ◌∙◌, arith, length-append, map, and_parts, and_right, cases_Bool, cases_lt, eq-eqb, eqb-true, le-ltb, lt-leb, cases_eq, ne_eqb, common_steps, get_or-map, get_or-replicate, length-map, length-replicate, map-append, filter-append, get_or-map-range_with_len, unwrap_or-slice_get, AllByRecursion, cons_option, range_with_len, filter, is_some, not, flat_map, arrival_at, Arrival, arriving, arriving_at, Cell, Queued, is_from, admitted_at, marks_kept, Marked, admission, held_after, mark_after, mark_at, marks_after, unless, refused, arriving_from, cells_refused, packets_refused, refused_counts, refused_in, with_refused, fabric_judged, Fabric, fabric_held, LimitedRecord, admissions_in, all_both, all_from_has, found_at, ComeBehind, IsLine, coming, has_limit, mark_on, ArePackets, has_name, unnamed, opening, Runs, AreWholePackets, Switch, is_named, key_of, named_in, Named, State, flat_same, ArrivesIn, refused_here, where_up, Refused, is_between, one_comes, whole, all_stand, tallies_up, packets_alike, tally_is, IsTally, cells_in, Name, filter_none, most_ports}
 use Rattle.cq_ideal.proofs.Standing.{StandAt, of_input, refused_are as refused_of_input, stand_in}
-use Rattle.cq_resume.proofs.Adding.{Tallied, left_before, mark_at as walk_mark, tallied_counts}
+use Rattle.cq_resume.proofs.Adding.{Tallied, left_before, mark_at as walk_mark}
 use Rattle.cq_stopped.proofs.Ran.{came_in, came_of}
 use Rattle.cq_stopped.proofs.Joined.{by_places}
 use Rattle.cq_stopped.proofs.Queueing.{came_where}
@@ -299,37 +299,16 @@ module _ (w : Switch) (ranks : List (List ℕ)) (st : State) (rs : List LimitedR
   known : Tallied w.limits next w.came names ports g.marks counts
   known = grind (arith, common_steps, marks_walked, same_counts, cells_in, left_before, lost_counted)
 
-  -- ## The fourth clause
+  -- ## The fourth clause, the marks and the counts
 
-  abbrev ByState : Arrival → Type 0
-  ByState a = a.cell.id.index ≡ 0 → a.slot < next →
-      AllNamed st (packet_before w.came next a) ⊎ (NoneNamed st (packet_before w.came next a) × HasLimit w.limits
-      a.cell.output)
-
-  abbrev ByNames : Arrival → Type 0
-  ByNames a = a.cell.id.index ≡ 0 → a.slot < next → IsWholePacket w.limits next w.came names a
-
-  alike : (t : Bool) (xs : List Arrival) → AllByRecursion (λ b. has_name names b ≡ t) xs →
-      All (λ b. is_named (named_in st) b ≡ t) xs
-  alike t xs all = grind (arith, common_steps, All-from_recursion, all_weaker, has_as_name)
+  same_names : (a : Arrival) → is_named (named_in st) a ≡ has_name names a
+  same_names a = sym (has_as_name (named_in st) a)
 
   pub packets_are : AreWholePackets w st
-  packets_are =
-      let stand = all_stand w.limits next w.came names ports are g.marks counts known in
-      All-from_recursion ByState w.came (search (arith, rules, all_weaker ByNames ByState, alike true, alike false))
+  packets_are = (packets_alike w st names same_names).1
+      (all_stand w.limits next w.came names ports are g.marks counts known)
 
-  -- ## The marks, and the counts
-
-  same_mark : (o : Option Arrival) → is_left_out names next w.came o ≡ is_refused w.came st o
-  same_mark None = refl
-  same_mark (Some a) = search (arith, rules, has_as_name)
-
-  pub marks_are : ports ≡ st.head.ports → g.marks ≡ marks_told w.came st
-  marks_are many = rw (← many) (let all = all_marks w.limits next w.came names ports are g.marks counts known in
-      search (arith, rules, all, known, mapped_alike, same_mark))
-
-  pub counts_are : counts ≡ refused_counts w.limits (map (λ a. a.cell) (refused_arrivals w.came st))
-  counts_are =
-      let left : left_out next w.came names ≡ refused_arrivals w.came st =
-      grind (arith, common_steps, filter_agree, has_as_name) in
-      simp (tallied_counts, known, left)
+  pub tally_are : length w.limits ≡ ports → ports ≡ st.head.ports →
+      IsTally w st (record { marks = g.marks; refused = counts })
+  tally_are limits many = tally_is w st names same_names _ (limits ∙ many)
+      (tallies_up w.limits next w.came names ports are g.marks counts known _ limits refl refl)
