@@ -2,7 +2,7 @@
 -- What goes on from there keeps what the run keeps, and comes to an end where the run does (`read_runs_go_on`); both
 -- write the same of it. A tag fault that is met from there is one of the whole run, and so that of the ideal switch,
 -- for which `run` is refused.
-use Rattle.cq_parts.proofs.Terms.{common_steps, arith, ◌≡◌, ◌∙◌, ◌<◌, ◌^◌, ℕ, List, refl, ap, sym, subst, Ok, Err, IsOkAnd, Result, TagFault, Scheduled, schedule_of, LimitedRecord, Captured, IsScheduleOf, Switch, switch_of, Tables, Contents, Run, Aim, Denies, Meets, Resuming, Reader, captures_in, ideally_sent, judged, tables_in, sent_or_tag, IsRead, IsRefusal, Kept, StateRefusal, Taken, departures_in_run, read_runs_go_on, stopped_runs_are_read, GoesOnAsRun, IsReadAs, kept_in_run, traffic_is, AreGiven, IsEmulation, KeepsUp, IsPartText, Plan, Refusal}
+use Rattle.cq_parts.proofs.Terms.{common_steps, arith, rules, ◌≡◌, ◌∙◌, ◌<◌, ◌^◌, ℕ, List, refl, ap, sym, subst, Ok, Err, IsOkAnd, Result, TagFault, Scheduled, schedule_of, LimitedRecord, Captured, IsScheduleOf, Switch, switch_of, Tables, Contents, Run, Aim, Denies, Meets, Resuming, Reader, captures_in, ideally_sent, judged, tables_in, sent_or_tag, IsRead, IsRefusal, Kept, StateRefusal, Taken, departures_in_run, read_runs_go_on, stopped_runs_are_read, GoesOnAsRun, IsReadAs, kept_in_run, traffic_is, AreGiven, IsEmulation, KeepsUp, IsPartText, Plan, Refusal}
 use Rattle.cq_resume.specs.declared.refusal.StateRefusal.TheVariants as of_state
 use Rattle.cq_run.proofs.Crossed.{keeps_up}
 use Rattle.cq_run.specs.Plan.{crossed, resumed}
@@ -65,16 +65,8 @@ module _ (r : Reader) (config : List ℕ) (m : Contents) (t : Tables) (captures 
 
       met : (whole : Plan) → IsEmulation r config m whole → Meets aim whole
       met whole e =
-          let it = ran whole e in (
-            kept_in_run t it.records,
-            record {
-              from = part.at;
-              read = read_as.read;
-              resumed = (goes part.at read_as.read).resumes it.records
-                  it.keeps_up.runs;
-            },
-            it.written,
-          )
+          let it = ran whole e in
+          let resumed = (goes part.at read_as.read).resumes it.records it.keeps_up.runs in search (rules, read_as)
 
       only : (whole plan : Plan) → IsEmulation r config m whole → Meets aim plan → plan ≡ whole
       only whole plan e (kept, is, written) =
@@ -87,14 +79,9 @@ module _ (r : Reader) (config : List ℕ) (m : Contents) (t : Tables) (captures 
       writes : (plan : Plan) → Meets aim plan → IsEmulation r config m plan
       writes plan (kept, is, written) =
           let it = (goes is.from is.read).ends kept is.resumed in
-          record {
-            tables = t;
-            captures = captures;
-            read = record { configured = configured; captured = captured };
-            records = it.0;
-            keeps_up = keeps_up t captures it.0 given (traffic_is t captures given.tables given.each) it.1;
-            written = written ∙ ap (λ (k : Kept). resumed t captures k) it.2 ∙ sym (same_plan t captures it.0);
-          }
+          let up = keeps_up t captures it.0 given (traffic_is t captures given.tables given.each) it.1 in
+          let same = written ∙ ap (λ (k : Kept). resumed t captures k) it.2 ∙ sym (same_plan t captures it.0) in
+          search (rules, configured, captured)
 
       -- the text itself is refused for nothing
       never : (why : StateRefusal) → (why ≡ of_state.NoMemory → ⊥) → IsRefusal w text why → ⊥
