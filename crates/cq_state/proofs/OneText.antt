@@ -1,7 +1,7 @@
 -- States and texts stand one for one. What the lines of a text that is allowed tell is a state in range, and its
 -- lines are those of the text. And who gathers what the lines of a state tell has the state again, so states with
 -- the same lines are the same.
-use Rattle.cq_state.proofs.Terms.{common_steps, ◌≡◌, ℕ, ◌+◌, false, true, List, [], ◌∷◌, ◌++◌, map, drop, Option, Some, refl, ap, sym, ◌∙◌, arith, rules, append_assoc, inl, inr, IsTrue, unwrap_or, AllByRecursion, append-nil, Transfer, Kind, Version, Next, Shape, Sum, Input, Rank, Listed, Buffered, Sent, Moved, End, Head, Seen, Named, State, Line, kinds, start, IsInRange, IsSeen, AreRankNumbers, IsNamed, IsSent, IsMoved, state_lines, state_text, numbered, input_line, numbers, rank_line, cell_line, sent_line, moved_line, added, gathered, nothing, number_at, seen_of, rank_of, named_of, sent_of, moved_of}
+use Rattle.cq_state.proofs.Terms.{common_steps, ◌≡◌, ℕ, ◌+◌, false, true, List, [], ◌∷◌, ◌++◌, map, drop, Option, Some, refl, ap, sym, ◌∙◌, arith, rules, append_assoc, inl, inr, IsTrue, unwrap_or, AllByRecursion, append-nil, all_weaker, Transfer, Kind, Version, Next, Shape, Sum, Input, Rank, Listed, Buffered, Sent, Moved, End, Head, Seen, Named, State, Line, kinds, start, IsInRange, IsSeen, AreRankNumbers, IsNamed, IsSent, IsMoved, state_lines, state_text, numbered, input_line, numbers, rank_line, cell_line, sent_line, moved_line, added, gathered, nothing, number_at, seen_of, rank_of, named_of, sent_of, moved_of}
 use Rattle.cq_state.proofs.EachTold.{one_told, many_told, line_of}
 use Rattle.cq_state.proofs.Fields.{version_told, end_told, count_told, counts_told, shape_told, seen_told, rank_told, named_told, sent_told, moved_told}
 use Rattle.cq_state.proofs.OneReading.{state_is_exact}
@@ -27,15 +27,6 @@ plain line n x = line x
 map_numbered : {X : Type 0} (line : X → Line) (n : ℕ) (xs : List X) → map line xs ≡ numbered (plain line) n xs
 map_numbered line n [] = refl
 map_numbered line n (x ∷ xs) = ap (λ ls. line x ∷ ls) (map_numbered line (n + 1) xs)
-
--- and their values
-module _ {X : Type 0} (line : X → Line) (put : State → List X → State) (Is : X → Type 0) (none : (s : State) →
-    put s [] ≡ s) (more : (s : State) (x : X) (xs : List X) → put (put s (x ∷ [])) xs ≡ put s (x ∷ xs)) (one : (s :
-    State) (x : X) → Is x → added (line x).kind (line x).fields s ≡ put s (x ∷ [])) where
-  plain_adds : (xs : List X) (s : State) (rest : List Line) → AllByRecursion Is xs →
-      gathered s (map line xs ++ rest) ≡ gathered (put s xs) rest
-  plain_adds xs s rest all =
-      rw (map_numbered line 0 xs) (part_adds (plain line) put Is none more (λ t n. one t) xs 0 s rest all)
 
 all_any : {X : Type 0} (xs : List X) → AllByRecursion (λ x. Unit {0}) xs
 all_any [] = tt
@@ -81,31 +72,29 @@ ranks_add xs s rest =
 
 listed_add : (xs : List Named) (s : State) (rest : List Line) → gathered s (map (cell_line Listed) xs ++ rest)
     ≡ gathered (with_listed s xs) rest
-listed_add xs s rest =
-    search (arith, rules, plain_adds (cell_line Listed) with_listed, append-nil, append_assoc, all_any xs)
+listed_add xs s rest = rw (map_numbered (cell_line Listed) 0 xs)
+    (search (arith, rules, part_adds (plain (cell_line Listed)) with_listed, append-nil, append_assoc, all_any xs))
 
 buffered_add : (xs : List Named) (s : State) (rest : List Line) → gathered s (map (cell_line Buffered) xs ++ rest)
     ≡ gathered (with_buffered s xs) rest
-buffered_add xs s rest =
-    search (arith, rules, plain_adds (cell_line Buffered) with_buffered, append-nil, append_assoc, all_any xs)
+buffered_add xs s rest = rw (map_numbered (cell_line Buffered) 0 xs)
+    (search (arith, rules, part_adds (plain (cell_line Buffered)) with_buffered, append-nil, append_assoc, all_any xs))
 
 sent_add : (xs : List kept.Sent) (s : State) (rest : List Line) → gathered s (map sent_line xs ++ rest)
     ≡ gathered (with_sent s xs) rest
-sent_add xs s rest = search (arith, rules, plain_adds sent_line with_sent, append-nil, append_assoc, all_any xs)
+sent_add xs s rest = rw (map_numbered sent_line 0 xs)
+    (search (arith, rules, part_adds (plain sent_line) with_sent, append-nil, append_assoc, all_any xs))
 
 moved_add : (xs : List Transfer) (s : State) (rest : List Line) → AllByRecursion (λ t. t.id.input ≡ t.input) xs →
     gathered s (map moved_line xs ++ rest) ≡ gathered (with_moved s xs) rest
-moved_add xs s rest all =
-    search (arith, rules, plain_adds moved_line with_moved (λ t. t.id.input ≡ t.input), append-nil, append_assoc)
-
-all_own : (ports : ℕ) (xs : List Transfer) → AllByRecursion (IsMoved ports) xs →
-    AllByRecursion (λ t. t.id.input ≡ t.input) xs
-all_own ports [] all = tt
-all_own ports (t ∷ xs) all = (all.0.own, all_own ports xs all.1)
+moved_add xs s rest all = rw (map_numbered moved_line 0 xs)
+    (search (arith, rules, part_adds (plain moved_line) with_moved (λ t. t.id.input ≡ t.input), append-nil, append_assoc))
 
 pub state_again : (s : State) → IsInRange s → gathered nothing (state_lines s) ≡ s
 unfolding state_lines
-state_again s is = search (rules, inputs_add, ranks_add, listed_add, buffered_add, sent_add, moved_add, all_own)
+state_again s is =
+    let own = all_weaker (IsMoved s.head.ports) (λ t. t.id.input ≡ t.input) (λ t m. m.own) s.moved is.moved in
+    search (rules, inputs_add, ranks_add, listed_add, buffered_add, sent_add, moved_add, own)
 
 -- ## What a text tells
 
