@@ -1,10 +1,10 @@
 -- What an arrival and a transfer change in the offers. A cell that goes into a list, or the first cell for an output
 -- that leaves it, changes neither the first cells for the other outputs nor the order in which these stand. So with the
 -- pair of the input and of this output taken out, the orders are as before.
-use Rattle.cq_prefs.proofs.Terms.{common_steps, rules, ◌≡◌, ◌≢◌, ℕ, zero, suc, eqb, not, cond, Bool, true, false, List, [], ◌∷◌, length, map, Option, Some, None, refl, sym, ap, arith, ◌∙◌, filter, insert, cond_both, cond-false, cases_eq, cases_lt, eq-eqb, ne_eqb, eqb-true, not-true, length-map, Queued, is_for, first_for, without_first, list_of, FirstKeysDiffer, without_repeats, output_order, input_order, orders_of, first_key, key_at, Partners, partner_of, without, is_partner, is_pair, AreSameWithout, kept_has, Has, has_kept}
+use Rattle.cq_prefs.proofs.Terms.{common_steps, rules, ◌≡◌, ◌≢◌, ℕ, zero, suc, eqb, not, cond, Bool, true, false, List, [], ◌∷◌, length, map, Option, Some, None, refl, sym, ap, arith, ◌∙◌, filter, insert, cond_both, cond-false, cases_eq, cases_lt, eq-eqb, ne_eqb, eqb-true, not-true, length-map, Queued, is_for, first_for, without_first, list_of, FirstKeysDiffer, without_repeats, output_order, input_order, orders_of, first_key, key_at, Partners, partner_of, without, is_partner, is_pair, AreSameWithout, kept_has, has_kept, pairs_kept, pairs_kept_with, same_pairs}
 use Rattle.cq_prefs.proofs.InputOrder.{key_at-first, is_input_order, outputs_at, inputs_at, no_inputs_past}
-use Rattle.cq_prefs.proofs.Members.{among, listed, Rises}
-use Rattle.cq_prefs.proofs.OneOrder.{rises_unique, more_urgent, urgent_one_way, inputs_rise}
+use Rattle.cq_prefs.proofs.Members.{among, listed}
+use Rattle.cq_prefs.proofs.OneOrder.{more_urgent, urgent_one_way, inputs_rise}
 use Rattle.cq_prefs.proofs.PutBack.{without_here, without_there, without_none}
 
 -- ## The order of the outputs
@@ -84,15 +84,6 @@ same_but_taken p old new j partner e =
 
 -- ## The order of the inputs
 
-rises_filter : (b : ℕ → ℕ → Bool) (p : ℕ → Bool) (xs : List ℕ) → Rises b xs → Rises b (filter p xs)
-rises_filter b p [] r = tt
-rises_filter b p (x ∷ xs) r = grind (arith, common_steps, cond_both, Rises, kept_has, rises_filter b p xs r.1)
-
-rises_same : (b d : ℕ → ℕ → Bool) (xs : List ℕ) → ((x y : ℕ) → Has xs x → Has xs y → d x y ≡ b x y) → Rises b xs →
-    Rises d xs
-rises_same b d [] same r = tt
-rises_same b d (x ∷ xs) same r = grind (arith, common_steps, rises_same b d xs)
-
 -- two switches in which the first cells for output k are the same but for those of its pairs
 module _ (m : Partners) (old new : List (List Queued)) (k : ℕ)
     (firsts : (i : ℕ) → is_pair m i k ≡ false → first_for k (list_of new i) ≡ first_for k (list_of old i))
@@ -113,12 +104,11 @@ module _ (m : Partners) (old new : List (List Queued)) (k : ℕ)
   same_inputs =
       let a = is_input_order old k old_differ in
       let b = is_input_order new k new_differ in
-      rises_unique (more_urgent old k) (urgent_one_way old k)
+      same_pairs (λ i n. more_urgent old k i n ≡ true) (urgent_one_way old k)
       (filter kept (input_order old k)) (filter kept (input_order new k))
-      (rises_filter (more_urgent old k) kept (input_order old k) (inputs_rise old k (input_order old k) a))
-      (rises_same (more_urgent new k) (more_urgent old k) (filter kept (input_order new k))
-      (λ x y s t. search (arith, rules, same_key, kept_has))
-      (rises_filter (more_urgent new k) kept (input_order new k) (inputs_rise new k (input_order new k) b)))
+      (pairs_kept _ kept (input_order old k) (inputs_rise old k (input_order old k) a))
+      (pairs_kept_with _ (λ x y. more_urgent old k x y ≡ true) kept (λ x y s t later. search (arith, rules, same_key))
+      (input_order new k) (inputs_rise new k (input_order new k) b))
       (λ i s. search (arith, rules, kept_has, listed, has_kept, among, no_pair))
       (λ i s. search (arith, rules, kept_has, listed, has_kept, among, no_pair))
 

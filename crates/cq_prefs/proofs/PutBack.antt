@@ -1,7 +1,7 @@
 -- A number that leaves an order and goes in before the first that it comes before stands where it stood. Those ahead of
 -- it come before it, so it goes past them, and it comes before the one that followed it. So of an order it is enough to
 -- know what is left without the number, and whether the number is in it.
-use Rattle.cq_prefs.proofs.Terms.{rules, ◌≡◌, ◌≢◌, ℕ, suc, ◌<◌, ◌≤◌, eqb, not, cond, Bool, true, List, [], ◌∷◌, length, refl, sym, ap, ◌∙◌, inl, ⊎_elim, arith, common_steps, insert, remove, IsDistinct, position_or_len, cond-true, cond-false, cases_Bool, cases_eq, eq-eqb, ne_eqb, put_by, place_in, IsListed, without, Has, most_ports}
+use Rattle.cq_prefs.proofs.Terms.{rules, ◌≡◌, ◌≢◌, ℕ, suc, ◌<◌, ◌≤◌, eqb, not, cond, Bool, true, List, [], ◌∷◌, length, refl, sym, ap, ◌∙◌, ⊎_elim, arith, common_steps, insert, remove, IsDistinct, position_or_len, cond-true, cond-false, cases_Bool, cases_eq, eq-eqb, ne_eqb, put_by, place_in, IsListed, without, AllByRecursion, all_of_has, Has, most_ports}
 use Rattle.cq_prefs.proofs.ByKey.{put_is, length-put}
 use Rattle.cq_prefs.proofs.Members.{Apart, among, listed, place_head, place_next, Rises}
 use Rattle.cq_prefs.proofs.OneOrder.{apart}
@@ -33,9 +33,10 @@ pub left_by : (x place : ℕ) (xs : List ℕ) → IsDistinct eqb xs → place �
     remove xs place ≡ without x xs
 left_by x place xs differ e inside = grind (arith, common_steps, without_place, apart, among)
 
-goes_first : (b : ℕ → ℕ → Bool) (x : ℕ) (ys : List ℕ) → ((k : ℕ) → Has ys k → b x k ≡ true) → put_by b x ys ≡ x ∷ ys
+goes_first : (b : ℕ → ℕ → Bool) (x : ℕ) (ys : List ℕ) → AllByRecursion (λ k. b x k ≡ true) ys →
+    put_by b x ys ≡ x ∷ ys
 goes_first b x [] before = refl
-goes_first b x (y ∷ ys) before = cond-true (b x y) (x ∷ y ∷ ys) (y ∷ put_by b x ys) (before y (inl refl))
+goes_first b x (y ∷ ys) before = cond-true (b x y) (x ∷ y ∷ ys) (y ∷ put_by b x ys) before.0
 
 module _ (b : ℕ → ℕ → Bool) (one_way : (x y : ℕ) → b x y ≡ true → b y x ≡ true → ⊥) where
   goes_back : (x : ℕ) (ys : List ℕ) → Apart ys → Rises b ys → Has ys x → put_by b x (without x ys) ≡ ys
@@ -44,7 +45,8 @@ module _ (b : ℕ → ℕ → Bool) (one_way : (x y : ℕ) → b x y ≡ true �
       let here = without_here x y ys in
       let there = without_there x y ys in
       let rest = goes_back x ys a.1 r.1 in
-      search (arith, rules, without_none, goes_first, r.0, one_way, cases_eq, cases_Bool, cond-false)
+      let first = all_of_has (λ k. b y k ≡ true) ys x r.0 in
+      search (arith, rules, without_none, goes_first, first, one_way, cases_eq, cases_Bool, cond-false)
 
   -- an order that is known but for x, which is in it
   pub put_back :

@@ -5,7 +5,7 @@ pub use Rattle.cq_base.proofs.Keys.{key_laws}
 pub use Rattle.cq_base.proofs.Lists.{first_here, first_later, taken_none}
 pub use Rattle.cq_base.specs.Cells.{IsBefore, MoreUrgentAhead, first_for, is_for, place_for, place_of_arrival, place_of_later, with_arrival, without_first}
 pub use Rattle.cq_base.specs.{declared.cell.Queued.Queued, declared.key.Key.Key}
-pub use Rattle.cq_base.specs.Items.{Has}
+pub use Rattle.cq_base.specs.Items.{EachPair, Has}
 pub use Rattle.cq_base.specs.Limits.{most_ports}
 pub use Rattle.cq_list.specs.InputList.{AreWaiting, Waiting, cells_of}
 pub use Rattle.cq_prefs.specs.FirstCells.{AreOrdersOf, FirstKeysDiffer, HasCellFor, IsInputOrder, IsOutputOrder, first_key, input_order, key_at, key_before, list_of, orders_of, output_order, places_by_key, put_by, sorted_by, without_repeats}
@@ -16,6 +16,6 @@ pub use Rattle.cq_prefs.specs.Pairing.{ArePairs, HasBetterInput, HasBetterOutput
 pub use Rattle.cq_prefs.specs.Proposals.{AreEvents, Holds, IsFree, IsQuiescent, IsSound, State, holder, holds, next_output, next_place, position_held, state_after}
 unfoldable pub use Rattle.cq_prefs.specs.Proposals.{is_free, keeper, matching_of, propose, start}
 pub use Rattle.cq_prefs.specs.Renewal.{AreSameWithout, is_pair, is_partner, without}
-pub use Rattle.cq_base.proofs.Each.{few_kept, one_there}
+pub use Rattle.cq_base.proofs.Each.{all_weaker, few_kept, one_there}
 pub use Rattle.cq_base.proofs.Having.{all_from_has, all_of_has, has_at, has_kept, kept_has}
-pub use Rattle.cq_base.proofs.Pooled.{has_number}
+pub use Rattle.cq_base.proofs.Pooled.{all_pairs, has_number, pairs_kept, pairs_kept_with, same_pairs}
