@@ -1,7 +1,8 @@
 -- The inputs that wait, as places and pairs change. An input that gets a partner, or has no output left, is taken out
 -- of the list, and one that is parted goes back in by its number if it has an output left. The others stay as they
 -- were, and all stand in order of number.
-use Rattle.cq_pair.proofs.Terms.{common_steps, rules, ℕ, zero, suc, ◌≡◌, ◌≢◌, ◌+◌, ◌<◌, ◌≤◌, Bool, true, false, is_none, eqb, ⊎_elim, List, [], ◌∷◌, length, set, get_or, replicate, Option, Some, None, refl, sym, ap, arith, filter, IsDistinct, IsNonDecreasingBy, range_with_len, and-true, cases_eq, cond_both, cond-true, cond-false, eq-eqb, ne_eqb, lt-ltb, le-ltb, and_left, and_right, get_or-set_same, get_or-set_other, filter_agree, length-range_with_len, Orders, AreOffers, ports, outputs_of, Partners, partner_of, State, start, is_free, matching_of, free_inputs, length-put, few_kept, Has, has_at, kept_has, among_range, apart_filter, apart_range, distinct, next_place-start, nobody, partner-is, with_input, without, inputs_with_offers, is_waiting, waiting_inputs}
+use Rattle.cq_pair.proofs.Terms.{common_steps, rules, ℕ, zero, suc, ◌≡◌, ◌≢◌, ◌+◌, ◌<◌, ◌≤◌, Bool, true, false, is_none, eqb, ⊎_elim, List, [], ◌∷◌, length, set, get_or, replicate, Option, Some, None, refl, sym, ap, arith, filter, IsDistinct, IsNonDecreasingBy, range_with_len, AllPairs, IsDistinct-from_apart, get_or-range_with_len, cases_lt, and-true, cases_eq, cond_both, cond-true, cond-false, eq-eqb, ne_eqb, lt-ltb, le-ltb, and_left, and_right, get_or-set_same, get_or-set_other, filter_agree, length-range_with_len, Orders, AreOffers, ports, outputs_of, Partners, partner_of, State, start, is_free, matching_of, free_inputs, length-put, few_kept, next_place-start, nobody, partner-is, with_input, without, inputs_with_offers, is_waiting, waiting_inputs}
+use Rattle.std.proofs.lemmas.List.Kept.{AllPairs-from_increasing, IsStrictlyIncreasing-filter}
 
 -- ## A test that changes at one number
 
@@ -43,36 +44,25 @@ put_back p q i out back same a (suc n) l u =
 
 -- ## In order of number
 
-rises_on : (x : ℕ) (xs : List ℕ) → ((k : ℕ) → Has xs k → x ≤ k) → IsNonDecreasingBy (λ k. k) xs →
-    IsNonDecreasingBy (λ k. k) (x ∷ xs)
-rises_on x xs least r zero zero d le inside = omega arith
-rises_on x xs least r (suc i) zero d le inside = absurd (omega arith)
-rises_on x xs least r zero (suc j) d le inside = least (get_or xs j d) (has_at xs j d (omega arith))
-rises_on x xs least r (suc i) (suc j) d le inside = r i j d (omega arith) (omega arith)
-
--- what is kept of a range rises
-kept_rise : (p : ℕ → Bool) (a n : ℕ) → IsNonDecreasingBy (λ k. k) (filter p (range_with_len a n))
-kept_rise p a zero = λ i j d le inside. absurd (omega arith)
-kept_rise p a (suc n) =
-    let after = kept_rise p (a + 1) n in
-    cond_both (p a) (a ∷ rest) rest (IsNonDecreasingBy (λ k. k)) (λ e. rises_on a rest least after) (λ e. after)
-  where
-    rest : List ℕ
-    rest = filter p (range_with_len (a + 1) n)
-
-    least : (k : ℕ) → Has rest k → a ≤ k
-    least k has = let inside = among_range (a + 1) n k (kept_has p _ k has).0 in omega arith
+-- the numbers of a range that pass a test rise
+kept_rise : (p : ℕ → Bool) (n : ℕ) → AllPairs (λ x y. x < y) (filter p (range_with_len 0 n))
+kept_rise p n = AllPairs-from_increasing (filter p (range_with_len 0 n))
+    (IsStrictlyIncreasing-filter p (range_with_len 0 n) (λ k inside.
+    let long = length-range_with_len 0 n in
+    let one = get_or-range_with_len 0 n k 0 (omega arith) in
+    let next = get_or-range_with_len 0 n (k + 1) 0 (omega arith) in omega arith))
 
 -- ## Who waits
 
 module _ (o : Orders) (places : List ℕ) (m : Partners) where
   -- no input waits twice
   pub waiting_differ : IsDistinct eqb (waiting_inputs o places m)
-  waiting_differ = grind (arith, common_steps, distinct, apart_filter, apart_range)
+  waiting_differ = IsDistinct-from_apart eqb _ (λ i j d l inside. ne_eqb _ _ (λ same.
+      let less = kept_rise (is_waiting o places m) (ports o) i j d l inside in omega arith))
 
   -- they wait in order of number
   pub waiting_rise : IsNonDecreasingBy (λ k. k) (waiting_inputs o places m)
-  waiting_rise = kept_rise (is_waiting o places m) 0 (ports o)
+  waiting_rise i j d le inside = grind (arith, common_steps, kept_rise (is_waiting o places m) (ports o), cases_lt i j)
 
   waits-no : (i : ℕ) → partner_of m i ≢ None → is_waiting o places m i ≡ false
   waits-no i h = search (arith, rules, and_right)
