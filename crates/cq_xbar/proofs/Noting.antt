@@ -1,5 +1,6 @@
 -- The transfers, noted input by input: the next one is put at the end, and no input and no output is in two of them.
 use Rattle.cq_xbar.proofs.Terms.{rules, ◌≡◌, ℕ, ◌+◌, ◌≤◌, List, [], ◌∷◌, ◌++◌, length, Option, Some, None, refl, arith, common_steps, range_with_len, filter_map, option_to_list, append-nil, length-range_with_len, filter_map-append, Queued, Transfer, first_for, list_of, noted, transfers_of, Partners, partner_of}
+use Rattle.cq_base.proofs.Pooled.{looked_few}
 use Rattle.cq_prefs.proofs.Members.{range_next}
 
 -- the transfers of the inputs below n
@@ -38,12 +39,8 @@ pub noted_one : (m : Partners) (lists : List (List Queued)) (slot phase n j : �
     noted_until m lists slot phase (n + 1) ≡ noted_until m lists slot phase n ++ t ∷ []
 noted_one m lists slot phase n j c p found = grind (arith, common_steps, noted_more)
 
-mapped_few : {X Y : Type 0} (f : X → Option Y) (xs : List X) → length (filter_map f xs) ≤ length xs
-mapped_few f [] = omega arith
-mapped_few f (x ∷ xs) = grind (arith, common_steps, mapped_few f xs)
-
 -- one transfer an input at most
 pub noted_few : (m : Partners) (lists : List (List Queued)) (slot phase n : ℕ) →
     length (noted_until m lists slot phase n) ≤ n
 unfolding noted_until
-noted_few m lists slot phase n = grind (arith, common_steps, mapped_few, length-range_with_len)
+noted_few m lists slot phase n = grind (arith, common_steps, looked_few, length-range_with_len)

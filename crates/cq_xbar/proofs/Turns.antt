@@ -1,7 +1,7 @@
 -- The transfer of a matching, input by input. Once the inputs below n had their turn, their lists are without their
 -- first cells for their partners, the buffers of these partners have the cells, and all else is as before. No output
 -- has two partners, so the buffer that the next cell comes to is as before.
-use Rattle.cq_xbar.proofs.Terms.{common_steps, rules, ◌≡◌, ◌≢◌, ℕ, zero, suc, ◌+◌, ◌-◌, ◌<◌, ◌≤◌, cond, List, [], ◌∷◌, length, map, get_or, set, Option, Some, None, refl, sym, ap, ◌∙◌, subst, arith, is_some, cases_lt, same_Some, length-map, length-set, get_or_past, get_or-set_same, get_or-set_other, ext_get_or, Queued, HasOtherKey, put, first_for, without_first, Waiting, cells_of, Buffered, cells_in, list_of, HasCellFor, Moves, Partners, partner_of, ArePairs, HaveCells, KeysAreNew, HaveRoom, MovesRoom, list_spare, buffer_spare}
+use Rattle.cq_xbar.proofs.Terms.{common_steps, rules, ◌≡◌, ◌≢◌, ℕ, ◌+◌, ◌-◌, ◌<◌, ◌≤◌, cond, List, [], length, map, get_or, set, Option, Some, None, refl, sym, ap, ◌∙◌, subst, arith, is_some, cases_lt, same_Some, length-map, length-set, get_or_past, get_or-set_same, get_or-set_other, get_or_default, ext_get_or, Queued, HasOtherKey, put, first_for, without_first, Waiting, cells_of, Buffered, cells_in, list_of, HasCellFor, Moves, Partners, partner_of, ArePairs, HaveCells, KeysAreNew, HaveRoom, MovesRoom, list_spare, buffer_spare}
 use Rattle.std.proofs.Math.ListN.{get_or-map}
 
 -- ## The lists and the buffers
@@ -45,11 +45,6 @@ buffer_spare-at : (buffers : List Buffered) (j : ℕ) → buffer_spare buffers j
 unfolding buffer_at no_buffer
 buffer_spare-at buffers j = get_or-map (λ (b : Buffered). b.spare) buffers j no_buffer
 
-get_or_in : {X : Type 0} (xs : List X) (i : ℕ) (d e : X) → i < length xs → get_or xs i d ≡ get_or xs i e
-get_or_in [] i d e l = absurd (omega arith)
-get_or_in (x ∷ xs) zero d e l = refl
-get_or_in (x ∷ xs) (suc i) d e l = get_or_in xs i d e (omega arith)
-
 -- an input with a partner has a cell for it
 cell_there : (m : Partners) (lists : List Waiting) (n j : ℕ) → HaveCells m (cells_of lists) →
     partner_of m n ≡ Some j → HasCellFor (list_at lists n).cells j
@@ -89,7 +84,7 @@ module _ {m : Partners} {lists : List Waiting} {buffers : List Buffered} {n : �
   -- the next input's list is as before, and has a cell for its partner
   next_list : (d : Waiting) → n < length lists → get_or lists' n d ≡ list_at lists n
   unfolding list_at
-  next_list d l = get_or_in lists' n d no_list (omega arith) ∙ x.waits n (omega arith)
+  next_list d l = get_or_default lists' n d no_list (omega arith) ∙ x.waits n (omega arith)
 
   pub cell_next : (j : ℕ) (d : Waiting) → HaveCells m (cells_of lists) → partner_of m n ≡ Some j →
       n < length lists → HasCellFor (get_or lists' n d).cells j
@@ -100,7 +95,7 @@ module _ {m : Partners} {lists : List Waiting} {buffers : List Buffered} {n : �
     -- and so is the buffer of its partner
     next_buffer : get_or buffers' j e ≡ buffer_at buffers j
     unfolding buffer_at
-    next_buffer = search (rules, get_or_in, pairs.ports, pairs.once)
+    next_buffer = search (rules, get_or_default, pairs.ports, pairs.once)
 
     pub room_next : HaveRoom m buffers → 0 < (get_or buffers' j e).spare
     room_next room = rw next_buffer (subst (λ s. 0 < s) (buffer_spare-at buffers j) (room n j p))
