@@ -20,7 +20,7 @@ use std::alloc::Global;
 use std::marker::Model;
 
 /// The offers of a switch: whom each input would send to, and from whom each output would take, the most wanted
-/// first.
+/// first. Contracts see the orders of both sides. Both show the same pairs, and no order has a port twice.
 #[derive(Drop)]
 pub struct Offers {
     by_input: Vec<Preference>,
