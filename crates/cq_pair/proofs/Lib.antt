@@ -2,6 +2,5 @@ mod Terms
 pub mod Waiting
 pub mod Showing
 pub mod Leaving
-pub mod Turns
 pub mod Reached
 pub mod Proposing

@@ -1,7 +1,7 @@
 -- The inputs that wait, as places and pairs change. An input that gets a partner, or has no output left, is taken out
 -- of the list, and one that is parted goes back in by its number if it has an output left. The others stay as they
 -- were, and all stand in order of number.
-use Rattle.cq_pair.proofs.Terms.{common_steps, rules, ℕ, zero, suc, ◌≡◌, ◌≢◌, ◌+◌, ◌<◌, ◌≤◌, Bool, true, false, is_none, eqb, ⊎_elim, List, [], ◌∷◌, length, set, get_or, replicate, Option, Some, None, refl, sym, ap, arith, filter, IsDistinct, IsNonDecreasingBy, range_with_len, AllPairs, IsDistinct-from_apart, get_or-range_with_len, cases_lt, and-true, cases_eq, cond_both, cond-true, cond-false, eq-eqb, ne_eqb, lt-ltb, le-ltb, and_left, and_right, get_or-set_same, get_or-set_other, filter_agree, length-range_with_len, Orders, AreOffers, ports, outputs_of, Partners, partner_of, State, start, is_free, matching_of, free_inputs, length-put, few_kept, next_place-start, nobody, partner-is, with_input, without, inputs_with_offers, is_waiting, waiting_inputs}
+use Rattle.cq_pair.proofs.Terms.{common_steps, rules, ℕ, zero, suc, ◌≡◌, ◌≢◌, ◌+◌, ◌<◌, ◌≤◌, Bool, true, false, is_none, eqb, ⊎_elim, List, [], ◌∷◌, length, set, get_or, replicate, Option, Some, None, refl, ap, arith, filter, IsDistinct, IsNonDecreasingBy, range_with_len, AllPairs, IsDistinct-from_apart, get_or-range_with_len, cases_lt, and-true, cases_eq, cond_both, cond-true, cond-false, eq-eqb, ne_eqb, lt-ltb, le-ltb, and_left, and_right, get_or-set_same, get_or-set_other, filter_agree, length-range_with_len, Orders, AreOffers, ports, outputs_of, Partners, partner_of, State, start, is_free, matching_of, free_inputs, length-put, few_kept, next_place-start, nobody, partner-is, with_input, without, inputs_with_offers, is_waiting, waiting_inputs}
 use Rattle.std.proofs.lemmas.List.Kept.{AllPairs-from_increasing, IsStrictlyIncreasing-filter}
 
 -- ## A test that changes at one number
@@ -48,9 +48,7 @@ put_back p q i out back same a (suc n) l u =
 kept_rise : (p : ℕ → Bool) (n : ℕ) → AllPairs (λ x y. x < y) (filter p (range_with_len 0 n))
 kept_rise p n = AllPairs-from_increasing (filter p (range_with_len 0 n))
     (IsStrictlyIncreasing-filter p (range_with_len 0 n) (λ k inside.
-    let long = length-range_with_len 0 n in
-    let one = get_or-range_with_len 0 n k 0 (omega arith) in
-    let next = get_or-range_with_len 0 n (k + 1) 0 (omega arith) in omega arith))
+    let long = length-range_with_len 0 n in omega (arith, get_or-range_with_len)))
 
 -- ## Who waits
 
@@ -85,10 +83,7 @@ module _ (o : Orders) (places : List ℕ) (m : Partners) (i : ℕ) where
       x < length (outputs_of o i) → waiting_inputs o places m ≡ waiting_inputs o (set places i x) m
   moved_still x inside before now =
       let here : (k : ℕ) → k ≡ i → is_waiting o places m k ≡ is_waiting o (set places i x) m k = λ k is. search
-      (arith, rules, lt-ltb, get_or-set_same) in
-      filter_agree (is_waiting o places m) (is_waiting o (set places i x) m)
-      (λ k. ⊎_elim (λ is. here k is) (λ apart. sym (waits-place o places m i x k apart)) (cases_eq k i))
-      (range_with_len 0 (ports o))
+      (arith, rules, lt-ltb, get_or-set_same) in search (arith, rules, filter_agree, waits-place, cases_eq)
 
   pub moved_out : (x : ℕ) → i < length places → length (outputs_of o i) ≤ x →
       without i (waiting_inputs o places m) ≡ waiting_inputs o (set places i x) m
