@@ -1,7 +1,8 @@
 -- How many cells have a lesser key, and that halving finds it. The cells stand in the order of keys. So where a cell
 -- has a lesser key, all cells before it have one too. The test is thus passed by the first cells and by no others, and
 -- halving finds the point where they end. As many cells pass as stand before the point.
-use Rattle.cq_urgency.proofs.Terms.{common_steps, rules, ◌≡◌, ℕ, zero, suc, ◌+◌, ◌≤◌, Bool, true, false, cond, List, [], ◌∷◌, ◌++◌, length, filter, refl, sym, ap, ◌∙◌, length-append, arith, AllByRecursion, IsPartitionPoint, IsPartitionedBy, cases_eq, cond_both, filter-append, slice_get-get_or, Key, Queued, is_before, IsBefore, IsRising, cushion, key_laws, each_pair_at}
+-- A cell goes in behind the cells of lesser key, and the list stays in the order of keys.
+use Rattle.cq_urgency.proofs.Terms.{common_steps, rules, ◌≡◌, ℕ, zero, suc, ◌+◌, ◌≤◌, Bool, true, false, cond, List, [], ◌∷◌, ◌++◌, length, filter, refl, sym, ap, ◌∙◌, length-append, arith, AllByRecursion, IsPartitionPoint, IsPartitionedBy, cases_eq, cond_both, filter-append, slice_get-get_or, Key, Queued, is_before, IsBefore, IsRising, cushion, key_laws, each_pair_at, insert, HasOtherKey, put, after_other, before_all, all_weaker}
 
 -- a test that passes on to each cell before parts a rising list
 parts_rising : (p : Queued → Bool) → ((a b : Queued) → IsBefore a b → p b ≡ true → p a ≡ true) → (xs : List Queued) →
@@ -53,3 +54,15 @@ cushion_none key (x ∷ xs) a = search (arith, rules, cushion_none key xs a.1)
 pub cushion_first : (key : Key) (x : Queued) (xs : List Queued) → is_before x.key key ≡ true →
     cushion key (x ∷ xs) ≡ suc (cushion key xs)
 cushion_first key x xs e = passes_more (λ y. is_before y.key key) x xs e
+
+-- ## A cell put in
+
+-- a cell goes in behind those of lesser key
+pub put_is : (c : Queued) (xs : List Queued) → IsRising xs → HasOtherKey c xs →
+    insert xs (cushion c.key xs) c ≡ put c xs
+put_is c [] r other = refl
+put_is c (x ∷ xs) r other = cond_both (is_before c.key x.key) (c ∷ x ∷ xs) (x ∷ put c xs)
+    (λ l. insert (x ∷ xs) (cushion c.key (x ∷ xs)) c ≡ l) (λ e. ap (λ n. insert (x ∷ xs) n c)
+    (cushion_none c.key (x ∷ xs) (all_weaker (IsBefore c) (λ y. is_before y.key c.key ≡ false)
+    (λ y. key_laws.one_way c.key y.key) (x ∷ xs) (e, before_all c x xs e r.0))))
+    (λ e. search (arith, rules, cushion_first, after_other, put_is c xs r.1 other.1))

@@ -132,17 +132,7 @@ module _ {pool : List (List Queued)} {first : ℕ} {order counts free : List ℕ
       Kept (set pool number block) first order counts' free (set blocks i block)
   changed block counts' counted =
       let here : in_order (set pool number block) order ≡ set (in_order pool order) i block =
-      search (arith, rules, in_order_there, set_order, in_pool, bit_le) in
-      let seen = here ∙ ap (λ l. set l i block) w.seen in
-      record {
-        placed = record {
-          led = w.placed.led;
-          once = search (arith, rules, length-set, w.placed.once);
-          all = search (arith, rules, length-set, w.placed.all);
-          counted = cc (seen, counted);
-        };
-        seen = seen;
-      }
+      search (arith, rules, in_order_there, set_order, in_pool, bit_le) in search (arith, rules, length-set)
 
 -- the count at a place behind the first is that of the block there
 pub count_is : (blocks : List (List Queued)) (counts : List ℕ) (i behind : ℕ) {count : ℕ} →
@@ -192,16 +182,7 @@ module _ {pool : List (List Queued)} {first : ℕ} {order counts free : List ℕ
   come first' i counts' le led counted =
       let here : in_order pool' (insert order i number) ≡ insert (in_order pool order) i block =
       grind (arith, common_steps, map-insert, same_order, fresh) in
-      let seen = here ∙ ap (λ l. insert l i block) w.seen in
-      record {
-        placed = record {
-          led = led;
-          once = search (arith, rules, sum_by-insert, w.placed.once, q.once);
-          all = search (arith, rules, length-insert, w.placed.all, q.all);
-          counted = cc (seen, counted);
-        };
-        seen = seen;
-      }
+      search (arith, rules, sum_by-insert, length-insert)
 
 -- the first block
 pub started : (pool pool' : List (List Queued)) (first : ℕ) (order counts free free' : List ℕ) (block : List Queued)
@@ -223,18 +204,14 @@ split {pool = pool} {first = first} {order = order} w i {number = number} {other
     let same = block_same w i inside is in
     let there = in_order_there w i inside is in
     let fronted = changed w i inside is (take 32 (block_at pool number)) _ refl in
-    let led : first ≡ get_or (insert order (i + 1) other) 0 first =
-    grind (arith, common_steps, get_or-insert_below, w.placed.led) in
-    rw same at (come fronted q first (i + 1) counts' (omega arith) led (rw same counted))
+    search (arith, rules, get_or-insert_below, come fronted q first (i + 1) counts')
 
 -- the counts where a block is split
 pub count_halved : (blocks : List (List Queued)) (counts : List ℕ) (i : ℕ) → counts ≡ counts_behind blocks →
     length (block_at blocks i) ≡ most_cells → i ≡ 0 → 32 ∷ counts ≡ counts_behind (halved blocks i)
 count_halved [] counts i is full e = absurd (omega arith)
 count_halved (b ∷ bs) counts zero is full e =
-    let long = length-drop 32 b in
-    let half : 32 ≡ length (drop 32 b) = omega arith in
-    ap (λ (l : List ℕ). 32 ∷ l) is ∙ ap (λ (n : ℕ). n ∷ counts_behind (b ∷ bs)) half
+    let long = length-drop 32 b in cc
 count_halved (b ∷ bs) counts (suc n) is full e = absurd (omega arith)
 
 pub count_halved_behind : (blocks : List (List Queued)) (counts : List ℕ) (i behind : ℕ) →
@@ -246,24 +223,8 @@ count_halved_behind (b ∷ bs) counts (suc n) behind is full e =
     let same : behind ≡ n = omega arith in
     let add : suc n ≡ n + 1 = omega arith in
     let next : suc n + 1 ≡ suc (n + 1) = omega arith in
-    let size : length (block_at bs n) ≡ 64 = full in
     let front_long = length-take 32 (block_at bs n) in
-    let back_long = length-drop 32 (block_at bs n) in
-    let front : length (take 32 (block_at bs n)) ≡ 32 = omega arith in
-    let back : length (drop 32 (block_at bs n)) ≡ 32 = omega arith in
-    let moved : counts_behind (halved (b ∷ bs) (suc n))
-    ≡ map (λ (c : List Queued). length c)
-    (insert (set bs n (take 32 (block_at bs n))) (n + 1) (drop 32 (block_at bs n))) = rw next refl in
-    cc (
-      is,
-      same,
-      add,
-      front,
-      back,
-      moved,
-      map-insert (λ (c : List Queued). length c) (set bs n (take 32 (block_at bs n))) (n + 1) (drop 32 (block_at bs n)),
-      map-set (λ (c : List Queued). length c) bs n (take 32 (block_at bs n)),
-    )
+    search (arith, rules, length-drop 32 (block_at bs n), map-insert, map-set)
 
 -- ## The upper half of a block goes over to one that came in
 
@@ -311,14 +272,7 @@ module _ (pool pool' : List (List Queued)) (from to place : ℕ) (inside : from 
         get_or_from_slice_get block (place + 32) x x at,
         read_from block f,
         get_or-drop 32 (block_at pool from) place x,
-      ) in
-      cc (
-        here,
-        read_to read e,
-        set-set pool to (take place half) next,
-        insert_end (take place half) x,
-        take_more half place x (omega arith),
-      )
+      ) in search (arith, rules, read_to, set-set, insert_end, take_more)
 
   pub moved_all : (block front : List Queued) → place ≡ 32 → block ≡ get_or pool' from block → front ≡ take 32 block →
       set pool' from front ≡ parted pool from to
@@ -341,16 +295,7 @@ pub freed : (pool : List (List Queued)) (first first' : ℕ) (order counts free 
     Kept pool first' (drop 1 order) (drop 1 counts) (free ++ first ∷ []) (drop 1 blocks)
 freed pool first first' [] counts free blocks w some led = absurd (let many = as_many w in omega arith)
 freed pool first first' (x ∷ xs) counts free blocks w some led =
-    let p = w.placed in
-    record {
-      placed = record {
-        led = led;
-        once = search (arith, rules, p.once, p.led, times-cons, times_push);
-        all = search (arith, rules, p.all, length_push);
-        counted = ap (drop 1) p.counted ∙ drop-map (λ (b : List Queued). length b) 1 (in_order pool xs);
-      };
-      seen = ap (drop 1) w.seen;
-    }
+    let p = w.placed in search (arith, rules, times-cons, times_push, length_push, drop-map)
 
 -- ## The first cell taken out
 

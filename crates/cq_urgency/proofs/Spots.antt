@@ -15,8 +15,7 @@ rising_parts : (xs ys : List Queued) → IsRising (xs ++ ys) →
     IsRising xs × IsRising ys × AllByRecursion (λ x. AllByRecursion (IsBefore x) ys) xs
 rising_parts [] ys r = (tt, r, tt)
 rising_parts (x ∷ xs) ys r =
-    let rest = rising_parts xs ys r.1 in
-    ((all_front (IsBefore x) xs ys r.0, rest.0), rest.1, (all_back (IsBefore x) xs ys r.0, rest.2))
+    let rest = rising_parts xs ys r.1 in (search (arith, rules, all_front, all_back))
 
 pub rising_block : (blocks : List (List Queued)) (i : ℕ) → IsRising (flattened blocks) → IsRising (block_at blocks i)
 rising_block [] i r = tt
@@ -62,12 +61,9 @@ cushion_in key (b ∷ bs) zero r some inside e behind =
     let both = cushion-append key b (flattened bs) in
     let rest = none_behind key bs (rising_parts b (flattened bs) r).1 some.1 (λ l. behind (omega arith)) in omega arith
 cushion_in key (b ∷ bs) (suc i) r some inside e behind =
-    let next : suc i + 1 ≡ suc (i + 1) = omega arith in
     let parts = rising_parts b (flattened bs) r in
     let both = cushion-append key b (flattened bs) in
-    let long = length-append b (flattened (take i bs)) in
-    let rest = cushion_in key bs i in
-    search (arith, rules, cushion_all key b, all_weaker, lesser_ahead key bs i e, parts.1, parts.2, rest)
+    search (arith, rules, length-append, cushion_all, all_weaker, lesser_ahead, cushion_in key bs i)
 
 pub some_at : (blocks : List (List Queued)) (i : ℕ) (block : List Queued) → AreFilled blocks → i < length blocks →
     block ≡ block_at blocks i → 0 < length block

@@ -1,6 +1,6 @@
 use Rattle.cq_urgency.proofs.Terms.{arith, rules}
 use Rattle.cq_urgency.proofs.Flattened.{insert_in}
-use Rattle.cq_urgency.proofs.Rising.{put_is}
+use Rattle.cq_urgency.proofs.Halving.{put_is}
 use Rattle.cq_urgency.proofs.output_buffer.put_into.Goals as goal
 
 pub returns-clause-cells : goal.returns-clause-cells
