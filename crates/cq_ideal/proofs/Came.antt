@@ -73,8 +73,7 @@ module _ (ms : List Machine) (slot : ℕ) (cells : List (Option Cell)) (ranks : 
       rw (filled_at r.came lists j inside) (all_put_all (λ x. x.key.slot < slot + 1) j r.came (list_at lists j)
       (λ k q at. let is = (came_from ms slot 0 cells ranks r ok k q at).slot_is in omega arith)
       (arrived_later slot (slot + 1) lists (omega arith) arrived j)))
-      (λ (past : length lists ≤ j). let long = length-filled r.came lists in
-      rw (get_or_past (filled r.came lists) j [] (omega arith)) tt) (cases_lt j (length lists))
+      (search (arith, rules, length-filled, get_or_past)) (cases_lt j (length lists))
 
   pub arrived_next : AllArrivedBefore (slot + 1) (rests (filled r.came lists))
   arrived_next = left (filled r.came lists) arrived_filled
@@ -155,16 +154,11 @@ module _ {M : List ℕ → Machine} {slot : ℕ} {cells : List (Option Cell)} {f
       0 < length first.fixed → length first.fixed ≤ input →
       ranking (map M first.fixed) slot 0 cells first.states ≡ Ok (record { came = came; ranks = ranks.states })
   in_turn_last class_count for some past =
-      let none : Option Queued = None in
+      let none = None in
       let left = length (drop input cells) in
-      let places = so_far.places (omega arith) in
-      let behind : drop input came ≡ replicate left none = ext_get_or none (drop input came) (replicate left none)
-      (grind (arith, common_steps, length-drop, length-replicate))
-      (λ i inside. grind (arith, common_steps, get_or-drop, so_far.later (input + i), same_at)) in
-      let nobody = none_ranked (map M first.fixed) slot input (drop input cells) ranks.states
-      (none_beyond (length first.fixed) class_count input cells for past) in
-      let all = after_inputs-ok (take input came) (record { came = replicate left none; ranks = ranks.states }) in
-      cc (so_far.ranked, nobody, all, behind, take-append-drop input came)
+      let behind = ext_get_or none (drop input came) (replicate left none)
+      (grind (arith, common_steps, length-drop, length-replicate)) (search (arith, rules, get_or-drop, same_at)) in
+      search (arith, rules, none_ranked, none_beyond, after_inputs-ok, take-append-drop)
 
 -- ## Putting cells into the lists
 
@@ -249,7 +243,6 @@ module _ {came : List (Option Queued)} {first : QueuesView} {input : ℕ} {queue
     pub putting_next : (new : QueuesView) → new.lists ≡ with_came (get_or came input None) queues.lists →
         new.rooms ≡ queues.rooms → Putting came first (input + 1) new
     putting_next new lists rooms =
-        let o = get_or came input None in
         search (arith, rules, next, length-with_came, own_keys_rest, filled_next, one_put, length_put)
 
 -- parts that have as many outputs as others fit as these do

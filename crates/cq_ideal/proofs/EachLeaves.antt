@@ -2,12 +2,10 @@
 -- are enough the cells that come to an input are its arrivals, and of these the packets that are taken leave flow by
 -- flow, while all cells of the others are refused. The whole run sends and refuses the same. And a cell is refused
 -- because its packet's first one found its output full, which an output without a limit never is.
-use Rattle.cq_ideal.proofs.Terms.{rules, ◌≡◌, ℕ, zero, suc, ◌+◌, ◌<◌, Bool, true, false, List, [], ◌∷◌, length, Option, Some, None, refl, sym, ap, ◌∙◌, subst, arith, common_steps, All, ◌==◌, slice_index_or, AllByRecursion, cons_option, cases_Bool, cond-false, cond-true, eqb-true, ne_eqb, Cell, Arrival, traffic_of, arrival_at, Admission, admission, held_after, is_first, mark_after, mark_at, marks_after, marks_down, refused, whole_limited_run, empty_limited, cells_refused, refused_in, AreJudged, AreOfPackets, cells_at, recursion_from_All, filter_passes, AllPairs-filter, get_or, most_ports}
+use Rattle.cq_ideal.proofs.Terms.{all_made, rules, ◌≡◌, ℕ, zero, suc, ◌+◌, ◌<◌, Bool, true, false, List, [], ◌∷◌, length, Option, Some, None, refl, sym, ap, ◌∙◌, subst, arith, common_steps, All, ◌==◌, slice_index_or, AllByRecursion, cons_option, cases_Bool, cond-false, cond-true, eqb-true, ne_eqb, Cell, Arrival, traffic_of, arrival_at, Admission, admission, held_after, is_first, mark_after, mark_at, marks_after, marks_down, refused, whole_limited_run, empty_limited, cells_refused, refused_in, AreJudged, AreOfPackets, cells_at, recursion_from_All, filter_passes, AllPairs-filter, get_or, most_ports}
 use Rattle.cq_ideal.specs.EachOnce.{EachLeavesOrIsRefused, KeepTheirOutput, RefusesNoneElsewhere}
-use Rattle.cq_ideal.proofs.Admitted.{its_marks}
 use Rattle.cq_ideal.proofs.AtInput.{come_in_order}
 use Rattle.cq_ideal.proofs.FlowFound.{length-arriving}
-use Rattle.cq_ideal.proofs.FlowLaw.{all_in_range}
 use Rattle.cq_ideal.proofs.FlowOn.{in_packets}
 use Rattle.cq_ideal.proofs.LimitedEnds.{limited_over_all, run_all}
 use Rattle.cq_ideal.proofs.LimitedRuns.{judged}
@@ -103,7 +101,6 @@ module _ (limits : List (Option ℕ)) (j : ℕ) (none : slice_index_or limits j 
   all_elsewhere inputs marks (cells ∷ traffic) [] judged long keep clear = absurd judged
   all_elsewhere inputs marks (cells ∷ traffic) (a ∷ admissions) judged long keep clear =
       let held = judged.0.0 in
-      let by = its_marks limits marks cells a judged.0 in
       let slot = λ (i : ℕ) (inside : i < inputs) (up : mark_at a.marks i ≡ true).
       one_slot (arrival_at cells i) (mark_at marks i) (mark_at a.marks i) (cells_at i traffic)
       (mark_is limits i held marks cells a judged.0.1) (search (arith, rules, first_elsewhere))
@@ -122,7 +119,7 @@ module _ (limits : List (Option ℕ)) (j : ℕ) (none : slice_index_or limits j 
 all_long : (came : List Arrival) (inputs : ℕ) → inputs ≡ most_ports →
     AllByRecursion (λ cells. length cells ≡ inputs) (traffic_of came)
 unfolding traffic_of
-all_long came inputs are = search (rules, all_in_range, length-arriving)
+all_long came inputs are = search (rules, all_made, length-arriving)
 
 pub refuses_none_elsewhere : RefusesNoneElsewhere
 unfolding whole_limited_run

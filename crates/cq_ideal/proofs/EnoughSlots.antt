@@ -23,9 +23,7 @@ empties ms [] slot e s ran is quiet enough = grind (arith, common_steps, waiting
 empties ms (cells ∷ traffic) slot zero s ran is quiet enough =
     let p = first_slot ms slot cells traffic s ran is in
     let fewer = (counted ms slot cells s p.sent p.ran_slot).fewer in
-    let none : length (present cells) + come_count traffic ≡ 0 = quiet in
-    let rest = empties ms traffic (slot + 1) zero p.sent.after p.second p.ran_second (omega arith) (omega arith) in
-    cc p.both
+    search (arith, rules, empties ms traffic (slot + 1) zero p.sent.after p.second p.ran_second)
 empties ms (cells ∷ traffic) slot (suc e) s ran is quiet enough =
     let p = first_slot ms slot cells traffic s ran is in
     let fewer = (counted ms slot cells s p.sent p.ran_slot).fewer in
@@ -74,8 +72,7 @@ emptied ms ports ranks came traffic ran is less =
     let few = come_count-traffic_of came in
     let slots = length-traffic_of came in
     let none = waiting-empty ports in
-    let fewer = less.count zero in
-    let quiet = quiet_at_end came in search (arith, rules, less.count, nothing_left, empties)
+    search (arith, rules, less.count zero, less.count, quiet_at_end came, nothing_left, empties)
 
 pub empty_at_end : (ms : List Machine) (ports : ℕ) (ranks : List (List ℕ)) (came : List Arrival) →
     IfOk (ideal_run ms 0 (traffic_of came) (empty_ideal ports ranks)) (λ ran. IsEmptyIdeal ran.after)

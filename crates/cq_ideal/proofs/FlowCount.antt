@@ -2,7 +2,7 @@
 -- comes weighs no more than the arrivals, whatever a cell weighs, and no more cells come than there are arrivals. From
 -- the end of the arrivals on none comes. So a run of as many slots as are enough has one slot for each cell after the
 -- last of them came.
-use Rattle.cq_ideal.proofs.Terms.{◌≡◌, ℕ, zero, suc, ◌+◌, ◌<◌, ◌≤◌, List, [], ◌∷◌, length, map, drop, refl, sym, ap, arith, common_steps, AllByRecursion, range_with_len, length-map-range_with_len, Arrival, arriving_at, arriving, end_of, enough, traffic_of, all_weaker, Cell, Option, Some, None, ◌∙◌, none_had, all_of_has, most_ports}
+use Rattle.cq_ideal.proofs.Terms.{rules, ◌≡◌, ℕ, zero, suc, ◌+◌, ◌<◌, ◌≤◌, List, [], ◌∷◌, length, map, drop, refl, sym, ap, arith, common_steps, AllByRecursion, range_with_len, length-map-range_with_len, Arrival, arriving_at, arriving, end_of, enough, traffic_of, all_weaker, Cell, Option, Some, None, ◌∙◌, none_had, all_of_has, most_ports}
 use Rattle.cq_ideal.proofs.FlowRank.{present}
 use Rattle.cq_ideal.proofs.FlowRun.{come_count}
 use Rattle.cq_ideal.proofs.Waiting.{total, total_more, total_none, total_same}
@@ -36,28 +36,23 @@ module _ (of : List Cell → ℕ) (here : List (Option Cell) → ℕ) (bound : L
     unfolding in_slot
     in_slot-cons a came = total_more (λ k. of (found (a ∷ came) a.slot k)) (λ k. of (found came a.slot k))
         a.cell.id.input (of (a.cell ∷ [])) 0 inputs (λ k ne. ap of (other_input a came a.slot k (λ e. ne (sym e))))
-        (let one : of (found (a ∷ came) a.slot a.cell.id.input) ≡ of (a.cell ∷ []) =
-        ap of (found_here a came a.slot a.cell.id.input refl refl) in omega arith)
+        (search (arith, rules, found, a.cell, found_here))
 
     slots_within : (came : List Arrival) (n : ℕ) → total (in_slot came) 0 n ≤ bound came
     unfolding in_slot
     slots_within [] n =
-        let nothing = total_none (in_slot []) 0 n (λ t. total_none (λ k. of (found [] t k)) 0 inputs
-        (λ k. ap of (found_none [] t k tt) ∙ none)) in
+        let nothing = total_none (in_slot []) 0 n (search (arith, rules, total_none, found, found_none)) in
         omega arith
     slots_within (a ∷ came) n =
         let now = total_more (in_slot (a ∷ came)) (in_slot came) a.slot (of (a.cell ∷ [])) 0 n
-        (λ t ne. total_same (λ k. of (found (a ∷ came) t k)) (λ k. of (found came t k)) 0 inputs
-        (λ k l. ap of (other_slot a came t k (λ e. ne (sym e))))) (in_slot-cons a came) in
-        let rest = slots_within came n in
-        let one = adds a came in omega arith
+        (search (arith, rules, total_same, found, other_slot)) (in_slot-cons a came) in
+        omega (arith, slots_within came n)
 
   -- in any number of slots
   pub weighed : (came : List Arrival) (n : ℕ) → total (λ t. here (arriving came t)) 0 n ≤ bound came
   weighed came n =
       let slot = is_in_slot most_ports refl came in
-      let same = total_same (λ t. here (arriving came t)) (in_slot most_ports refl came) 0 n (λ t _. slot t) in
-      omega (arith, slots_within most_ports refl came n)
+      search (arith, rules, total_same, slots_within most_ports refl came n)
 
 -- ## The end of the arrivals
 
@@ -104,7 +99,7 @@ count_from came a (suc n) = let rest = count_from came (a + 1) n in omega arith
 pub come_count-first : (came : List Arrival) (n : ℕ) →
     come_count (map (arriving came) (range_with_len 0 n)) ≤ length came
 come_count-first came n =
-    let most : total (λ t. length (present (arriving came t))) 0 n ≤ length came = weighed (λ cells. length cells)
+    let most = weighed (λ cells. length cells)
     (λ cells. length (present cells)) (λ all. length all) refl refl present_more (λ a all. omega arith) came n in
     omega (arith, count_from came 0 n)
 

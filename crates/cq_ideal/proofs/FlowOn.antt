@@ -102,8 +102,7 @@ in_packets limits ms ports openings came ran runs is i packets =
             (record { gone = ran.gone; after = ran.after.state }) (is_run_of limits ms 0 traffic start ran is)
             (of_classes limits ms 0 traffic start ran is stand over j (classes ms ports j came runs.for_switch)) over
             (takes (came_in_flow i c j came)) (admitted_of_flow limits ms 0 traffic start ran is stand over i 0 packets
-            c j ∙ ap takes (all_came ms ports openings came runs i c j)) (λ past.
-            ap takes (none_came ms ports i c j came runs.for_switch past));
+            c j ∙ ap takes (all_came ms ports openings came runs i c j)) (search (arith, rules, none_came));
       },
       refused_are i limits start.marks traffic ran.admissions (judged limits ms 0 traffic start ran is) stand
           ∙ whole.others,

@@ -1,7 +1,7 @@
 -- One slot at one output. After its arrivals the output sends the first cell of its list, and a sending lowers no
 -- floor; where it sends nothing its list is empty. So what is known of the list stays known. And what the list showed
 -- of a flow, and then what arrived of it, is what the output sent of it, and then what the list shows afterwards.
-use Rattle.cq_ideal.proofs.Terms.{rules, ◌≡◌, ℕ, ◌+◌, ◌<◌, List, [], ◌∷◌, ◌++◌, length, drop, Option, Some, None, Ok, arith, common_steps, slice_get, slice_index_or, get_or-map, length-map, Cell, Queued, Machine, KeepsLaws, machine_at, told, Ranking, ranking, IdealState, Sent, put_all, filled, ideal_slot, all_weaker}
+use Rattle.cq_ideal.proofs.Terms.{rules, ◌≡◌, ℕ, ◌+◌, ◌<◌, List, [], ◌∷◌, ◌++◌, length, drop, Option, Some, None, Ok, arith, common_steps, slice_get, slice_index_or, get_or-map, length-map, Cell, Queued, Machine, KeepsLaws, machine_at, told, Ranking, ranking, IdealState, Sent, put_all, ideal_slot, all_weaker}
 use Rattle.cq_ideal.proofs.FlowStands.{Stands, is_kind, shown, of_flow}
 use Rattle.cq_ideal.proofs.FlowRank.{present, AreOfClasses, Filled, filled_from}
 use Rattle.cq_ideal.proofs.Sending.{length-told, told_at}
@@ -38,8 +38,6 @@ module _ (ms : List Machine) (j slot : ℕ) (laws : KeepsLaws (machine_at ms j))
       (put_all j r.came (slice_index_or old.lists j [])) old.ranks r.ranks → Served come old (sent_by ms old r)
   served_from come old r in_lists in_ranks f =
       let many = length-filled r.came old.lists in
-      let inside : j < length (filled r.came old.lists) = omega arith in
-      let inside_ranks : j < length r.ranks = omega (arith, f.ports) in
       let here = filled_at r.came old.lists j in_lists in
       search (arith, rules, get_or-map, told_at, stands_sent, Stands, length-told, length-map, shown_sent, shown)
 

@@ -84,7 +84,6 @@ module _ {M : List ℕ → Machine} {slot : ℕ} {first_ranks : RanksView} {firs
       sent_new
   sending_next gone ranks_new queues_new limiter_new sent_new inside as_many is lists rooms fixed states holds judges
       put =
-      let ms = map M first_ranks.fixed in
       let old = first_queues.lists in
       let none = None in
       let dropped = length-map old (λ (xs : List Queued). drop 1 xs) in
@@ -94,7 +93,6 @@ module _ {M : List ℕ → Machine} {slot : ℕ} {first_ranks : RanksView} {firs
       cc (get_or-map (λ (xs : List Queued). slice_get xs 0) old output [] none inside) in
       let rest : drop 1 (list_at queues.lists output) ≡ get_or (rests old) output [] =
       cc (get_or-map (λ (xs : List Queued). drop 1 xs) old output [] [] inside) in
-      let fronts_long = length-map old (λ (xs : List Queued). slice_get xs 0) in
       let later = departures_from slot (output + 1) (drop (output + 1) (fronts old)) in
       let both : one_sent slot output gone ++ later ≡ departures_from slot output (drop output (fronts old)) =
       grind (arith, common_steps) in

@@ -1,6 +1,6 @@
 -- A slot is what the parts do one after the other: the arrivals are judged, those that are admitted are ranked and go
 -- into the lists, and then the outputs send.
-use Rattle.cq_ideal.proofs.Terms.{◌≡◌, ℕ, ◌+◌, ◌<◌, ◌≤◌, ◌^◌, Bool, false, List, [], length, map, get_or, Option, Ok, Err, refl, ap, ◌∙◌, arith, common_steps, get_or-map, Cell, Queued, TagFault, Departure, RoomView, Machine, class_count, Admission, admission, admitted, marked, refused, IdealSwitch, HasRoomFor, SpareFollows, marked_state, IdealState, Sent, ideal_slot, ideal_sends, filled, fronts, rests, all_told, LimitedSent, limited_slot, with_admission, HoldsLists, LimiterView, AreParts, AreWithinRooms, CameToPorts, FitTogether, RanksView, QueuesView, AllArrivedBefore, HaveOwnKeys, HaveRoomFor, state_of, AreForPorts, Ranking, ranking, rules}
+use Rattle.cq_ideal.proofs.Terms.{◌≡◌, ℕ, ◌+◌, ◌<◌, ◌^◌, Bool, false, List, length, map, get_or, Option, Ok, Err, refl, ap, ◌∙◌, arith, common_steps, get_or-map, Cell, Queued, TagFault, Departure, RoomView, Machine, class_count, Admission, admission, admitted, marked, refused, IdealSwitch, HasRoomFor, SpareFollows, marked_state, IdealState, Sent, ideal_slot, ideal_sends, filled, fronts, rests, all_told, LimitedSent, limited_slot, with_admission, HoldsLists, LimiterView, AreParts, AreWithinRooms, CameToPorts, FitTogether, RanksView, QueuesView, AllArrivedBefore, HaveOwnKeys, HaveRoomFor, state_of, AreForPorts, Ranking, ranking, rules}
 use Rattle.cq_ideal.specs.OneSlot.{CanHaveSlot}
 use Rattle.cq_ideal.specs.Taking.{CanTakeIn, HasJudged, HasTakenIn}
 use Rattle.cq_ideal.proofs.Admitted.{admitted_for_ports}
@@ -158,8 +158,5 @@ module _ {M : List ℕ → Machine} {slot : ℕ} {cells : List (Option Cell)} {v
             limited_ok = judged_slot ∙ ap (with_admission (by_marks judged.marks cells)) ok;
             spare = λ new within same_rooms after j inside.
                 let count = counted (map M v.fixed) slot (admitted judged.marks cells) v.state _ ok in
-                let room = admitted_room judged.marks j inside in
-                let had : length (get_or v.state.lists j []) ≤ get_or v.rooms j 0 =
-                rw (← lists_are, ← known.rooms) (within j) in
-                grind (arith, common_steps, count.left);
+                search (arith, rules, admitted_room, lists_are);
           }

@@ -1,7 +1,7 @@
 -- Each cell stands at the place of the input that its id names, in each slot of a run, and among the admitted ones
 -- too. So of the cells that are refused in a slot only the one at the place of an input is of that input, and it is
 -- refused where the mark is up.
-use Rattle.cq_ideal.proofs.Terms.{rules, ◌≡◌, ℕ, zero, suc, ◌+◌, ◌<◌, Bool, List, [], ◌∷◌, map, filter, Option, Some, None, refl, ap, ◌∙◌, arith, common_steps, ◌==◌, AllByRecursion, range_with_len, and_parts, eqb-true, cond-false, cond-true, eq-eqb, ne_eqb, filter-append, Cell, Arrival, arriving, arriving_at, enough, traffic_of, arrival_at, Admission, admitted, mark_at, refused, where_up, refused_in, AreJudged, most_ports}
+use Rattle.cq_ideal.proofs.Terms.{all_made, rules, ◌≡◌, ℕ, zero, suc, ◌+◌, ◌<◌, Bool, List, [], ◌∷◌, map, filter, Option, Some, None, refl, ap, ◌∙◌, arith, common_steps, ◌==◌, AllByRecursion, range_with_len, and_parts, eqb-true, cond-false, cond-true, eq-eqb, ne_eqb, filter-append, Cell, Arrival, arriving, arriving_at, enough, traffic_of, arrival_at, Admission, admitted, mark_at, refused, where_up, refused_in, AreJudged, most_ports}
 use Rattle.cq_ideal.proofs.Admitted.{its_marks}
 use Rattle.cq_ideal.proofs.FlowFound.{cell_listed, listed}
 use Rattle.cq_ideal.proofs.Packets.{refused_here}
@@ -30,8 +30,7 @@ stand_arriving came t a (suc n) = own_place t a _ came (stand_arriving came t (a
 
 pub stand_in : (came : List Arrival) (a n : ℕ) → AllByRecursion (StandAt 0) (map (arriving came) (range_with_len a n))
 unfolding arriving
-stand_in came a zero = tt
-stand_in came a (suc n) = (stand_arriving came a 0 most_ports, stand_in came (a + 1) n)
+stand_in came a n = all_made _ (arriving came) a n (λ t _ _. stand_arriving came t 0 most_ports)
 
 pub all_stand : (came : List Arrival) → AllByRecursion (StandAt 0) (traffic_of came)
 unfolding traffic_of
@@ -69,5 +68,4 @@ module _ (i : ℕ) where
       let both = filter-append (λ cell. cell.id.input == i) a.refused (refused_in admissions) in
       let first = ap of_input (its_marks limits marks cells a judged.0).2
       ∙ refused_at_place 0 i a.marks cells at.0 (omega arith) in
-      let rest = refused_are limits a.marks traffic admissions judged.1 at.1 in
-      cc (both, first, rest, listed here (refused_here limits i traffic admissions))
+      search (arith, rules, listed, refused_here, refused_are limits a.marks traffic admissions judged.1 at.1)
