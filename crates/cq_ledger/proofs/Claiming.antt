@@ -1,8 +1,9 @@
 -- A claim that finds the input unclaimed keeps the rule, and is no event. The input has not proposed and nobody holds
 -- it, so it is free where its order is not empty, and the hand takes it at its first place.
-use Rattle.cq_ledger.proofs.Terms.{ℕ, suc, ◌≡◌, ◌≢◌, ◌⊎◌, inl, ◌<◌, ◌^◌, List, length, set, None, ◌∙◌, ap, arith, bit_or, rules, cases_eq, get_or-set_same, get_or-set_other, length-set, at_set, Orders, ports, outputs_of, sound-after, State, next_place, IsFree, state_after, IsSound, AreClaims, AreHands, IsLedger, hand_at, claim_taken, Waits, Sits, IsClaimedByOne, bit, claim_word, View, common_steps}
+-- A claim that finds the input claimed keeps the rule: it changes only what its seat has seen.
+use Rattle.cq_ledger.proofs.Terms.{ℕ, suc, ◌≡◌, ◌≢◌, ◌⊎◌, inl, ◌<◌, ◌^◌, List, length, set, None, ◌∙◌, ap, arith, bit_or, rules, cases_eq, get_or-set_same, get_or-set_other, length-set, at_set, Orders, ports, outputs_of, sound-after, State, next_place, IsFree, state_after, IsSound, AreClaims, AreHands, IsLedger, hand_at, claim_taken, Waits, Sits, IsClaimedByOne, bit, claim_word, View, common_steps, inr, ⊎_elim, refl, sym, claim_refused}
 use Rattle.cq_ledger.proofs.Hands.{hand_at-left, hand_at-shows}
-use Rattle.cq_ledger.proofs.Dealt.{sits_now, by_one_still, in_hand_still, made_with, hands_with, offers_with}
+use Rattle.cq_ledger.proofs.Dealt.{sits_now, by_one_still, in_hand_still, made_with, hands_with, offers_with, stood, claims_stay, hands_from, dealt}
 use Rattle.cq_ledger.proofs.Views.{bit-or_same, bit-or_other, bit-zero}
 
 module _ (o : Orders) (words : List ℕ) (views : List View) (k : IsLedger o words views) (id i : ℕ) (v : View)
@@ -104,3 +105,31 @@ module _ (o : Orders) (words : List ℕ) (views : List View) (k : IsLedger o wor
         made = let a = made_with views id v view_now at_id in let b = k.made in omega arith;
         idle = idle_now;
       }
+
+-- ## A claim that finds the input claimed
+
+module _ (o : Orders) (words : List ℕ) (views : List View) (k : IsLedger o words views) (id i : ℕ) (v : View)
+    (at_id : Sits views id v) (found : bit (claim_word words) i ≡ 1) (same_offers : v.offers ≡ o) where
+  abbrev refused_now : View
+  refused_now = claim_refused v i
+
+  abbrev refused_views : List View
+  refused_views = set views id refused_now
+
+  -- the view that stood there before
+  pub had : (b : ℕ) (u : View) → Sits refused_views b u →
+      (x : View) × Sits views b x × ((x.claims ≡ u.claims) × (x.hand ≡ u.hand) × (x.made ≡ u.made))
+  had = stood views id v refused_now at_id (λ x u. (x.claims ≡ u.claims) × (x.hand ≡ u.hand) × (x.made ≡ u.made))
+      (refl, refl, refl) (λ u. (refl, refl, refl))
+
+  unfoldable pub refuse-keeps : IsLedger o words refused_views
+  refuse-keeps =
+      dealt o words views refused_views k (offers_with o views id refused_now k.same (inl same_offers))
+      (claims_stay views id v refused_now at_id o words words refl refl (λ q h. ⊎_elim (λ e. rw e found)
+      (λ n. k.claims.seen id q v at_id (sym (bit-or_other v.seen i q n) ∙ h)) (cases_eq q i)) k.claims)
+      (hands_from k.hands (λ b q p u a h. let x = had b u a in (x.0, x.1, x.2.1 ∙ h))
+      (λ q. ⊎_elim (λ z. inl z) (λ x. inr (in_hand_still views id v refused_now at_id q (λ p h. h) x))))
+      (let a = made_with views id v refused_now at_id in omega arith)
+      (λ b u a h. let x = had b u a in
+      let y = k.idle b x.0 x.1 (x.2.0 ∙ h) in
+      (sym x.2.1 ∙ y.0, sym x.2.2 ∙ y.1))

@@ -1,6 +1,5 @@
 -- A view in another one's place, and the rule where the words stay and the views alone change.
-use Rattle.std.proofs.Common.{rules}
-use Rattle.cq_ledger.proofs.Terms.{common_steps, subst, ℕ, ◌≡◌, ◌≢◌, ◌⊎◌, ⊎_elim, ◌+◌, ◌<◌, List, length, set, Some, None, IsFree, next_place, sym, ap, ◌∙◌, arith, sum_by, cases_eq, sum_by-set, at_set, set_here, set_else, Orders, State, state_after, View, AreClaims, AreHands, IsLedger, IsViewOf, Sits, HasClaimed, HasSeen, IsClaimed, IsClaimedByOne, IsInAHand, Waits, bit, claim_word}
+use Rattle.cq_ledger.proofs.Terms.{rules, common_steps, subst, ℕ, ◌≡◌, ◌≢◌, ◌⊎◌, ⊎_elim, ◌+◌, ◌<◌, List, length, set, Some, None, IsFree, next_place, sym, ap, ◌∙◌, arith, sum_by, cases_eq, sum_by-set, at_set, set_here, set_else, Orders, State, state_after, View, AreClaims, AreHands, IsLedger, IsViewOf, Sits, HasClaimed, HasSeen, IsClaimed, IsClaimedByOne, IsInAHand, Waits, bit, claim_word}
 use Rattle.cq_ledger.proofs.Views.{at_known, same_at}
 
 -- what a hand with this input and place asks for

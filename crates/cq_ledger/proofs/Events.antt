@@ -1,11 +1,10 @@
 -- Each kind of step keeps the rule. A proposal is the event of the hand's input on the state that words and views show,
 -- and every other kind of step leaves that state as it is: the list of events behind the rule is the same, or longer by
 -- that input.
-use Rattle.cq_ledger.proofs.Terms.{ℕ, suc, ◌≡◌, ◌≢◌, ◌<◌, ◌≤◌, ◌++◌, List, [], ◌∷◌, get_or, set, Some, None, refl, sym, ◌∙◌, ap, set-get_or, set_again, Orders, AreOffers, ports, State, next_place, next_output, start, propose, outcome_of, state_after, IsFree, output_in_range, next_output-offered, View, IsLedger, core_state, first_words, blank, output_at, words_proposed, proposed, answer_of, words_claimed, claim_taken, claim_refused, joined, spent, Sits, IsClaimed, IsUnclaimed, most_ports}
-use Rattle.cq_ledger.proofs.Claiming.{claim-keeps}
+use Rattle.cq_ledger.proofs.Terms.{arith, rules, ℕ, suc, ◌≡◌, ◌≢◌, ◌<◌, ◌≤◌, ◌++◌, List, [], ◌∷◌, get_or, set, Some, None, refl, sym, ◌∙◌, ap, set-get_or, set_again, Orders, AreOffers, ports, State, next_place, start, propose, outcome_of, state_after, IsFree, output_in_range, next_output-offered, View, IsLedger, core_state, first_words, blank, output_at, words_proposed, proposed, answer_of, words_claimed, claim_taken, claim_refused, joined, spent, Sits, IsClaimed, IsUnclaimed, most_ports}
+use Rattle.cq_ledger.proofs.Claiming.{claim-keeps, refuse-keeps}
 use Rattle.cq_ledger.proofs.CoreState.{core_state-is}
 use Rattle.cq_ledger.proofs.Proposing.{propose-keeps}
-use Rattle.cq_ledger.proofs.Refusing.{refuse-keeps}
 use Rattle.cq_ledger.proofs.Dealt.{dealt}
 use Rattle.cq_ledger.proofs.Seats.{start-keeps, longer-keeps, half_of, join-keeps}
 use Rattle.cq_ledger.proofs.Views.{or_set}
@@ -45,9 +44,7 @@ module _ (o : Orders) (words : List ℕ) (views : List View) (k : IsLedger o wor
     pub proposal-outcome : answer_of o i p (get_or words (suc (output_at o i p)) 0)
         ≡ outcome_of o (core_state o words views) i
     proposal-outcome =
-        let f = k.hands.free id i p v at hand in
-        let r = output_in_range o k.offers i (next_output o s i) (next_output-offered o k.offers s i f.left) in
-        rw (is, ← here) (ap (answer_of o i (next_place s i)) (k.positions (next_output o s i) r))
+        let f = k.hands.free id i p v at hand in search (arith, rules, output_in_range, next_output-offered, is, here)
 
   module _ (i : ℕ) where
     pub taken-shows : i < ports o → IsUnclaimed words i → v.hand ≡ None → v.offers ≡ o →

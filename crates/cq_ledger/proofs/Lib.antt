@@ -4,13 +4,11 @@ pub mod Dealt
 pub mod Hands
 pub mod Proposing
 pub mod Claiming
-pub mod Refusing
 pub mod Seats
 pub mod Allowed
 pub mod SeatFields
 pub mod Closing
 pub mod Matched
-pub mod InHands
 pub mod CoreState
 pub mod Events
 pub mod Shows
