@@ -1,6 +1,6 @@
 -- A walk along the blocks, from the first on or from the last back. The places ahead of the block behind a block are
 -- those ahead of it and its own; so what is counted grows by a block's numbers, or shrinks by them.
-use Rattle.cq_list.proofs.Terms.{⊎_elim, cases_lt, rules, ◌≡◌, ℕ, zero, suc, ◌+◌, ◌-◌, ◌<◌, ◌≤◌, Bool, List, [], ◌∷◌, ◌++◌, length, get_or, take, drop, refl, sym, ap, ◌∙◌, arith, length-append, take-append-drop, common_steps, filter, concat, get_or_read, get_or-take, get_or-append_seam, length-drop, length-take-le, take-append-le, take-take, take_all, drop_more, take_more, append-nil, filter-append, concat-append, place_of_nth, is_output, count_of, IsSpot, IsAhead}
+use Rattle.cq_list.proofs.Terms.{take-append-add, ⊎_elim, cases_lt, rules, ◌≡◌, ℕ, ◌+◌, ◌-◌, ◌<◌, ◌≤◌, Bool, List, [], ◌∷◌, ◌++◌, length, get_or, take, drop, refl, sym, ap, ◌∙◌, arith, length-append, take-append-drop, common_steps, filter, concat, get_or_read, get_or-take, get_or-append_seam, length-drop, length-take-le, take-append-le, take-take, take_all, drop_more, take_more, append-nil, filter-append, concat-append, place_of_nth, is_output, count_of, IsSpot, IsAhead}
 use Rattle.cq_list.proofs.Counts.{count_le}
 use Rattle.cq_list.proofs.Nth.{nth_inside, nth_in_front, nth_behind}
 use Rattle.cq_list.proofs.Blocks.{rest_more, ahead_more, whole_is}
@@ -10,9 +10,9 @@ pub nth_end : {X : Type 0} (p : X → Bool) (k : ℕ) (xs : List X) → k ≡ le
 nth_end p k xs all = grind (arith, common_steps, nth_behind p k xs [], append-nil xs)
 
 pub take_past : (xs ys : List ℕ) (n : ℕ) → length xs ≤ n → take n (xs ++ ys) ≡ xs ++ take (n - length xs) ys
-take_past [] ys n past = let e : n ≡ n - 0 = omega arith in ap (λ m. take m ys) e
-take_past (x ∷ xs) ys zero past = absurd (omega arith)
-take_past (x ∷ xs) ys (suc n) past = grind (arith, common_steps, take_past xs ys n)
+take_past xs ys n past =
+    let e : n ≡ length xs + (n - length xs) = omega arith in
+    ap (λ m. take m (xs ++ ys)) e ∙ take-append-add xs ys (n - length xs)
 
 pub count_all_le : (blocks : List (List ℕ)) (i j : ℕ) → count_of j (concat (take i blocks)) ≤ length (concat blocks)
 count_all_le blocks i j = let le = count_le j (concat (take i blocks)) in let whole = whole_is blocks i in omega arith
@@ -46,10 +46,7 @@ module _ (blocks : List (List ℕ)) (i : ℕ) {block : List ℕ} (inside : i < l
     pub nth_found : (place ≡ place_of_nth (is_output j) k (concat blocks)) × IsSpot blocks place at within
     nth_found =
         let whole = ap concat (sym (take-append-drop i blocks)) ∙ concat-append (take i blocks) (drop i blocks) in
-        let inside : k - own < count_of j block = omega arith in (
-          search (arith, rules, inside, nth_behind, rest_is, nth_in_front),
-          grind (arith, common_steps, nth_inside, inside, block_is),
-        )
+        search (arith, rules, nth_behind, rest_is, nth_in_front, nth_inside, block_is)
 
   pub count_past_block : (j n : ℕ) → length block ≤ n →
       count_of j (take n (concat (drop i blocks))) ≡ count_of j block + count_of j
@@ -138,12 +135,8 @@ module _ (blocks : List (List ℕ)) (i : ℕ) {j later some : ℕ} {from to : Li
   pub both_left : {k : ℕ} → k < some → (0 < length from) × (0 < length to)
   both_left there =
       let inside : i < length blocks = ⊎_elim (λ lt. lt) (λ ge.
-      let none : length blocks - i ≡ 0 = omega arith in
-      let few = ap (λ n. count_of j (concat (take n blocks))) none in
-      let own = rest.few in absurd (omega arith)) (cases_lt i (length blocks)) in
-      let many = ap length ahead ∙ length-drop i blocks in
-      let all = ap length behind ∙ length-take-le (length blocks - i) blocks (omega arith) in
-      (omega arith, omega arith)
+      let none : length blocks - i ≡ 0 = omega arith in search (arith, rules)) (cases_lt i (length blocks)) in
+      search (arith, rules, length-drop, length-take-le)
 
 -- ## From the last block back
 

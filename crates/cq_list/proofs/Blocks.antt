@@ -34,9 +34,7 @@ shown_in [] i o x inside at = absurd (omega arith)
 shown_in (b ∷ bs) zero o x inside at = ap (slice_get (b ++ concat bs)) (let e : 0 + o ≡ o = omega arith in e)
     ∙ shown_front b (concat bs) o x at
 shown_in (b ∷ bs) (suc i) o x inside at =
-    let len = length-append b (concat (take i bs)) in
-    let place : length (concat (take (suc i) (b ∷ bs))) + o ≡ length b + (length (concat (take i bs)) + o) =
-    omega arith in search (arith, rules, shown_behind, shown_in bs i o x)
+    let len = length-append b (concat (take i bs)) in search (arith, rules, shown_behind, shown_in bs i o x)
 
 pub insert_in : (blocks : List (List ℕ)) (i o n y : ℕ) → i < length blocks → o ≤ length (get_or blocks i []) →
     length (concat (take i blocks)) + o ≡ n →

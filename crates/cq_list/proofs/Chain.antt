@@ -72,7 +72,4 @@ module _ {old new : Nodes} {a k : ℕ} {ahead : Node} {c : Queued} (b : IsBehind
       let rise = subst (λ (l : List (ℕ × Queued)). IsRising (cells l)) seen rising in
       let later = all_at _ (cells (chain old n node.next)) p ahead.queued rise.0 in
       let seen_now = chain-at new (suc n) first node in
-      let stays = other_cell first node there in
-      let apart = differs node.queued ahead.queued in
-      let whole_rest = rest_whole old n first node there whole in
-      search (arith, rules, later, slice_get-map, seen_now, stays, apart, chain_behind n node.next p)
+      search (arith, rules, other_cell, differs, rest_whole, slice_get-map, chain_behind n node.next p)

@@ -1,6 +1,6 @@
 -- The fingers of a queue that has a node more or less. A finger tells where the last of some nodes stands, so one of no
 -- more nodes than stand ahead of the new one stays, and one of more has it among them.
-use Rattle.cq_list.proofs.Terms.{common_steps, ◌≡◌, ℕ, zero, suc, ◌+◌, ◌-◌, ◌<◌, ◌≤◌, List, ◌∷◌, length, arith, ◌∙◌, insert, slice_get, cases_lt, length-insert, slice_get-get_or, slice_get_within, get_or-insert_below, ⊎_elim, append-nil, drop_all, take_all, Ahead, AreFingers, AreSet, AreShifted, EndsAt, finger_at}
+use Rattle.cq_list.proofs.Terms.{common_steps, rules, ◌≡◌, ℕ, zero, suc, ◌+◌, ◌-◌, ◌<◌, ◌≤◌, List, ◌∷◌, length, arith, ◌∙◌, insert, slice_get, cases_lt, length-insert, slice_get-get_or, slice_get_within, get_or-insert_below, ⊎_elim, append-nil, drop_all, take_all, Ahead, AreFingers, AreSet, AreShifted, EndsAt, finger_at}
 use Rattle.std.specs.List.{refill}
 use Rattle.std.proofs.lemmas.List.Edits.{get_or-insert_above}
 
@@ -10,9 +10,7 @@ pub insert_end_kept : {X : Type 0} (xs : List X) (i m : ℕ) (y : X) → i ≤ m
     slice_get (insert xs i y) (suc m) ≡ slice_get xs m
 insert_end_kept xs i m y le inside =
     let next : suc m ≡ m + 1 = omega arith in
-    let above = get_or-insert_above xs i y y m in
-    let here = slice_get-get_or (insert xs i y) (m + 1) y in
-    rw next (grind (arith, common_steps, here, slice_get-get_or xs m y, length-insert))
+    let above = get_or-insert_above xs i y y m in search (arith, rules, slice_get-get_or, length-insert)
 
 insert_kept : {X : Type 0} (xs : List X) (i m : ℕ) (y : X) → m < i → i ≤ length xs →
     slice_get (insert xs i y) m ≡ slice_get xs m
@@ -36,9 +34,7 @@ module _ (places : List ℕ) {count place : ℕ} (ends : EndsAt places count pla
 
     ends_later : n < count → (more : ℕ) → more ≡ count + 1 → EndsAt (insert places n x) more place
     ends_later lt more one m is =
-        let all = ends_inside in
-        let next : m ≡ suc (count - 1) = omega arith in
-        rw next (insert_end_kept places n (count - 1) x (omega arith) (omega arith) ∙ ends (count - 1) (omega arith))
+        let all = ends_inside in search (arith, rules, insert_end_kept)
 
 -- ## Fingers
 

@@ -1,6 +1,6 @@
 -- What is told of a list, place after place: each place takes the head of the queue of its output. So the cells of some
 -- places are told, and then those of the places behind them from what is left of the queues, and no cell is looked for.
-use Rattle.cq_list.proofs.Terms.{common_steps, rules, ◌≡◌, ℕ, ◌+◌, ◌<◌, List, [], ◌∷◌, ◌++◌, length, get_or, take, drop, subst, take_more, drop_more, eq-eqb, Some, refl, sym, ap, ◌∙◌, arith, concat, filter-append, length-append, append_assoc, append-nil, drop-drop, length-drop, slice_get, slice_set, take-append-drop, cond_both, Queued, Queues, merged, without_head, is_output, count_of, CanTell, HaveTold, queue_of}
+use Rattle.cq_list.proofs.Terms.{common_steps, rules, ◌≡◌, ℕ, ◌+◌, ◌<◌, List, [], ◌∷◌, ◌++◌, length, get_or, take, drop, subst, take_more, drop_more, eq-eqb, Some, refl, sym, ap, ◌∙◌, arith, concat, filter-append, length-append, append_assoc, append-nil, drop-drop, length-drop, slice_get, slice_set, take-append-drop, cond_both, Queued, Queues, merged, without_head, count_of, CanTell, HaveTold, queue_of}
 use Rattle.cq_list.proofs.Nth.{passes, fails}
 use Rattle.cq_list.proofs.Kept.{queue_inside, queue_of-set}
 
@@ -33,10 +33,7 @@ module _ {places : List ℕ} {old left : Queues} {told cells : List Queued} (t :
       HaveTold (places ++ more) old new told all
   told_on {more} {new} {all} n =
       let same = merged_same more left (left_of places old) t.left in
-      record {
-        cells = search (arith, rules, n.cells, t.cells, merged_on, same, append_assoc);
-        left = λ j. search (arith, rules, n.left, t.left, drop-drop, filter-append, length-append);
-      }
+      search (arith, rules, merged_on, append_assoc, drop-drop, filter-append, length-append)
 
   pub can_behind : (more : List ℕ) → CanTell (places ++ more) old → CanTell more left
   can_behind more there j =
@@ -68,8 +65,7 @@ head_left places {i} {output} queues {old} t inside is_read can =
     sym (take-append-drop i places) ∙ ap (λ l. take i places ++ l) (drop_more places i output inside
     ∙ ap (λ o. o ∷ drop (i + 1) places) (sym is_read)) in
     let enough = can_left t (output ∷ []) (drop (i + 1) places) (subst (λ l. CanTell l old) parts can) output in
-    let one = ap length (passes (is_output output) output [] (eq-eqb output output refl)) in
-    omega arith
+    search (arith, rules, passes, eq-eqb)
 
 pub told_next : (places : List ℕ) (i : ℕ) {output : ℕ} (queues : List (List Queued)) {new : List (List Queued)}
     {old : Queues} {told cells all : List Queued} {x : Queued} →

@@ -1,6 +1,6 @@
 -- A walk along a queue, node by node. Where it has come the rest of the chain begins at the place that it looks at,
 -- none of the cells behind it is less urgent, and it knows the place of the last of them.
-use Rattle.cq_list.proofs.Terms.{common_steps, rules, ◌≡◌, ℕ, zero, suc, ◌+◌, ◌-◌, ◌<◌, ◌≤◌, subst, length, ⊎_elim, cases_lt, Bool, true, false, List, [], ◌∷◌, drop, Some, sym, ap, ◌∙◌, arith, length-drop, slice_get, position_or_len, drop-drop, length-map, slice_get-map, slice_get_within, get_or_from_slice_get, Queued, first_inside, Node, Queue, Nodes, chain, linked, cells, EndsAt, IsChained, first_le, places, same_Some, Key, is_before, key_laws, not}
+use Rattle.cq_list.proofs.Terms.{common_steps, rules, ◌≡◌, ℕ, zero, suc, ◌+◌, ◌-◌, ◌<◌, ◌≤◌, subst, length, ⊎_elim, cases_lt, Bool, true, false, List, [], ◌∷◌, drop, Some, sym, ap, ◌∙◌, arith, length-drop, slice_get, position_or_len, drop-drop, length-map, slice_get-map, slice_get_within, get_or_from_slice_get, Queued, first_inside, Node, Queue, Nodes, chain, linked, cells, EndsAt, IsChained, first_le, places, same_Some, Key, is_before, key_laws}
 use Rattle.std.proofs.lemmas.List.Sums.{passes_at_first}
 use Rattle.cq_list.proofs.Chain.{chain-at, begins}
 use Rattle.cq_list.proofs.Finger.{ends_inside}
@@ -58,8 +58,7 @@ past_this : {X : Type 0} (p : X → Bool) (xs : List X) (i : ℕ) (x : X) → sl
 past_this p xs i x at fails le = ⊎_elim (λ lt. lt) (λ ge.
     let same : i ≡ position_or_len p xs = omega arith in
     let inside = slice_get_within xs i x at in
-    let passes = passes_at_first p xs x (omega arith) in
-    let shown = get_or_from_slice_get xs i x x at in absurd (let P : ⊥ = cc in P)) (cases_lt i (position_or_len p xs))
+    cc (passes_at_first p xs x (omega arith), get_or_from_slice_get xs i x x at)) (cases_lt i (position_or_len p xs))
 
 -- and none of the cells behind it passes
 pub record HasPassed (nodes : Nodes) (queue : Queue) (p : Queued → Bool) (count place : ℕ) : Type 0 where
@@ -120,9 +119,7 @@ module _ {nodes : Nodes} {queue : Queue} (had : IsChained nodes queue) where
         let found = reached_at (count - 1) (omega arith) in
         let shown = node_shown had found.1 inside (node_there had found.1 inside).1 in
         let at : slice_get (places (linked nodes queue)) (count - 1) ≡ Some found.0 =
-        grind (arith, common_steps, slice_get-map) in
-        let same = same_Some found.0 place (sym at ∙ ends (count - 1) (omega arith)) in
-        subst (HasReached nodes queue (count - 1)) same found.1
+        grind (arith, common_steps, slice_get-map) in search (arith, rules, same_Some)
 
     pub finger_there : (node : Node) × (nodes place ≡ Some node)
     finger_there = node_there had last_reached inside
@@ -144,8 +141,7 @@ module _ {nodes : Nodes} {queue : Queue} (had : IsChained nodes queue) where
       all_sooner key sooner =
           let ahead = sooner_to key node.queued (cells (linked nodes queue)) (count - 1)
           (λ x first. key_laws.on x.key node.queued.key key first sooner) had.rising cell_ahead in
-          let past = past_this (is_no_sooner key) (cells (linked nodes queue)) (count - 1) node.queued cell_ahead
-          (ap not sooner) ahead in omega arith
+          search (arith, rules, past_this, is_no_sooner, cell_ahead)
 
       -- and where it has the key, all but it
       pub all_but_last : (key : Key) → node.queued.key ≡ key →
@@ -154,6 +150,4 @@ module _ {nodes : Nodes} {queue : Queue} (had : IsChained nodes queue) where
           let ahead = sooner_to key node.queued (cells (linked nodes queue)) (count - 1)
           (λ x first. subst (λ (k : Key). is_before x.key k ≡ true) own first) had.rising cell_ahead in
           let never = subst (λ (k : Key). is_before node.queued.key k ≡ false) own
-          (key_laws.never_itself node.queued.key) in
-          let past = first_le (is_no_sooner key) (cells (linked nodes queue)) (count - 1) node.queued cell_ahead
-          (ap not never) in omega arith
+          (key_laws.never_itself node.queued.key) in search (arith, rules, first_le, is_no_sooner, cell_ahead)
