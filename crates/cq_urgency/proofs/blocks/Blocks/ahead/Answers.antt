@@ -1,4 +1,4 @@
-use Rattle.cq_urgency.proofs.Terms.{◌-◌, ◌∙◌, ap, List, ℕ, length, sum_by, arith, take_all}
+use Rattle.cq_urgency.proofs.Terms.{◌-◌, ap, List, ℕ, sum_by, arith, take_all, rules}
 use Rattle.cq_urgency.proofs.Placed.{kept, as_many_counts, counts_ahead, counts_all}
 use Rattle.cq_urgency.proofs.blocks.Blocks.ahead.Goals as goal
 
@@ -13,8 +13,4 @@ returns-then-place-len c =
     omega arith
 
 pub returns : goal.returns
-returns c =
-    let size = c.len.ensures.len ∙ ap length c.block.ensures in
-    let sum = counts_ahead c.args.self.now.blocks _ (c.args.place - 1) c.args.place
-    (as_many_counts (kept c.self.invariant.0 c.self.view_is)) (omega arith) (omega arith) in
-    omega arith
+returns c = search (arith, rules, counts_ahead, c.args.place, as_many_counts, kept)

@@ -7,17 +7,10 @@ pub block-first-requires : goal.block-first-requires
 block-first-requires c = some_blocks c.args.self.now.blocks (omega arith)
 
 pub returns-then-ahead-len : goal.returns-then-ahead-len
-returns-then-ahead-len c =
-    shown_in c.args.self.now.blocks 0 c.args.ahead c.args.ahead _ (some_blocks c.args.self.now.blocks (omega arith))
-    (rw c.block-first.ensures at c.at.ensures) (omega arith)
+returns-then-ahead-len c = search (arith, rules, shown_in, some_blocks)
 
 pub place_of-spot-requires : goal.place_of-spot-requires
-place_of-spot-requires c =
-    let size = c.len-len.ensures.len ∙ ap length c.block-first.ensures in
-    let flat = length-flattened c.args.self.now.blocks in
-    let all = counts_all c.args.self.now.blocks _ (as_many_counts (kept c.self.invariant.0 c.self.view_is))
-    (some_blocks c.args.self.now.blocks (omega arith)) in
-    omega arith
+place_of-spot-requires c = search (arith, rules, length-flattened, counts_all, as_many_counts, kept, some_blocks)
 
 pub block-requires : goal.block-requires
 block-requires c =

@@ -3,10 +3,7 @@ use Rattle.cq_urgency.proofs.Placed.{kept, freed, none_first}
 use Rattle.cq_urgency.proofs.blocks.Blocks.free_first.Goals as goal
 
 pub invariant_of-self : goal.invariant_of-self
-invariant_of-self c =
-    let w = kept c.self.invariant.0 c.self.view_is in
-    let k = freed _ _ _ _ _ _ _ w c.requires (rw c.pop_front.ensures.rest at c.in-Some.ensures.lookup) in
-    search (arith, rules)
+invariant_of-self c = search (arith, rules, kept, freed)
 
 pub invariant_of-self-in_default : goal.invariant_of-self-in_default
 invariant_of-self-in_default c =
