@@ -2,7 +2,7 @@
 -- below the cushion, since it is more urgent, ahead of the first one that is less urgent, and ahead of the end. So it
 -- stays the first, and the newcomer's output stands behind it in the list of all the cells' outputs, where a repeat
 -- is not seen.
-use Rattle.cq_prefs.proofs.Terms.{rules, ◌≡◌, ◌≢◌, ℕ, zero, suc, ◌<◌, cond, Bool, true, List, [], ◌∷◌, length, map, Option, Some, None, refl, sym, ap, ◌∙◌, ⊎_elim, arith, ◌&&◌, insert, option_map, cases_eq, eq-eqb, ne_eqb, length-map, ext_get_or, find_at, length-map-range_with_len, slice_get_within, same_Some, Queued, IsBefore, MoreUrgentAhead, is_for, first_for, place_for, place_of_later, place_of_arrival, with_arrival, key_laws, first_here, first_later, list_of, output_order, input_order, orders_of, first_key, key_before, places_by_key}
+use Rattle.cq_prefs.proofs.Terms.{rules, ◌≡◌, ◌≢◌, ℕ, zero, suc, ◌<◌, cond, Bool, true, List, [], ◌∷◌, length, map, Option, Some, None, refl, sym, ap, ◌∙◌, ⊎_elim, arith, ◌&&◌, insert, option_map, cases_eq, eq-eqb, ne_eqb, length-map, ext_get_or, find_at, length-map-range_with_len, slice_get_within, same_Some, Queued, IsBefore, MoreUrgentAhead, is_for, first_for, place_for, place_of_later, place_of_arrival, with_arrival, key_laws, first_here, first_later, list_of, output_order, input_order, orders_of, first_key, key_before}
 use Rattle.cq_base.specs.Key.{is_before}
 use Rattle.cq_prefs.proofs.ByKey.{first_is_for}
 use Rattle.cq_prefs.proofs.Changes.{same_but_arrival}
@@ -29,8 +29,7 @@ first_ahead c f (x ∷ xs) h before =
     let here = first_here (is_for c.cell.output) x xs (eq-eqb x.cell.output c.cell.output is) in
     search (arith, rules, key_laws.one_way)) (λ other.
     let here = first_later (is_for c.cell.output) x xs (ne_eqb x.cell.output c.cell.output other) in
-    let rest = first_ahead c f xs (sym (shown_later x xs c.cell.output other) ∙ h) before in
-    search (arith, rules, ne_eqb))
+    search (arith, rules, shown_later x xs c.cell.output other, ne_eqb, first_ahead c f xs))
     (cases_eq x.cell.output c.cell.output)
 
 -- so the newcomer goes in behind it
@@ -91,6 +90,4 @@ same_offers old new long each =
     same_orders (orders_of new) (orders_of old) (ext_get_or [] (orders_of new).outputs (orders_of old).outputs
     (omega arith) (λ i _. outputs_at new i ∙ (each i).order ∙ sym (outputs_at old i))) (ext_get_or []
     (orders_of new).inputs (orders_of old).inputs (omega arith) (λ j l.
-    let inside : j < length new = omega arith in
-    let inside' : j < length old = omega arith in
-    inputs_at new j inside ∙ ap places_by_key (keys j) ∙ sym (inputs_at old j inside')))
+    let inside : j < length new = omega arith in search (arith, rules, inputs_at)))

@@ -19,8 +19,7 @@ sum-places o v (i ∷ events) es =
     let s = state_after o events in
     let w = sound-after o v events es.0 in
     let r = input_in_range o i (next_output o s i) (step o v s w i es.1).offered in
-    let a = sum-places o v events es.0 in
-    grind (arith, common_steps, sum_by-set)
+    search (arith, rules, sum_by-set, sum-places o v events es.0)
 
 pub events_at_most : (o : Orders) → AreOffers o → (events : List ℕ) → AreEvents o events →
     length events ≤ ports o * ports o

@@ -5,7 +5,7 @@
 -- partner. So stability gives the one who asks a partner at a lower place of its order, which it has asked before.
 -- That output holds it or one that it likes better, and it holds none better than its partner, since nobody was
 -- passed until now. So it holds the one who asks, who was not free.
-use Rattle.cq_prefs.proofs.Terms.{ℕ, ◌≡◌, ◌⊎◌, ◌+◌, ◌<◌, ◌≤◌, List, [], ◌∷◌, Option, Some, refl, ap, arith, rules, ⊎_elim, cases_lt, cases_eq, Orders, AreOffers, outputs_of, place_of, position_of, IsOffered, Partners, partner_of, depth, IsMatching, IsStable, State, position_held, next_place, start, IsFree, IsSound, propose, state_after, AreEvents, common_steps}
+use Rattle.cq_prefs.proofs.Terms.{ℕ, ◌≡◌, ◌+◌, ◌<◌, ◌≤◌, List, [], ◌∷◌, Option, Some, ap, arith, rules, cases_lt, cases_eq, Orders, AreOffers, outputs_of, place_of, position_of, IsOffered, Partners, partner_of, depth, IsMatching, IsStable, State, position_held, next_place, start, IsFree, IsSound, propose, state_after, AreEvents, common_steps}
 use Rattle.cq_prefs.proofs.Places.{output_in_range, inputs_at_most}
 use Rattle.cq_prefs.proofs.Steps.{step, held-start, sound-after}
 
@@ -27,17 +27,13 @@ never_ousts : (o : Orders) → AreOffers o → (s : State) → IsSound o s → (
     position_of o j i < position_of o j k → ⊥
 never_ousts o v s w m stable none i f k j to offered mk less =
     let once = λ (x : ℕ) (h : partner_of m x ≡ Some j). ap (position_of o j) (stable.matching.once x k j h mk) in
-    ⊎_elim (λ l. not_below o v s w m stable.matching none i f (partner_of m i) refl (omega arith))
-    (λ x. let same = once x.0 x.1 in let l = x.2 in omega arith)
-    (stable.settled i j offered (λ e. let same = once i e in omega arith))
+    search (arith, rules, not_below, stable.settled)
 
 none_passed-step : (o : Orders) → AreOffers o → (s : State) → IsSound o s → (m : Partners) → IsStable o m →
     NonePassed o s m →
     (i : ℕ) → IsFree o s i → NonePassed o (propose o s i) m
 none_passed-step o v s w m stable none i f k j mk =
-    let st = step o v s w i f in
-    let had = none k j mk in
-    search (arith, rules, st.held_other, never_ousts, cases_eq, cases_lt)
+    let st = step o v s w i f in search (arith, rules, never_ousts, cases_eq, cases_lt)
 
 none_passed-start : (o : Orders) → AreOffers o → (m : Partners) → IsMatching o m → NonePassed o (start o) m
 none_passed-start o v m matching i j e =
@@ -55,8 +51,4 @@ pub none_goes_past : (o : Orders) → AreOffers o → (events : List ℕ) → Ar
     (i j : ℕ) → partner_of m i ≡ Some j → next_place (state_after o events) i ≤ place_of o i j + 1
 none_goes_past o v events es m stable i j e =
     let w = sound-after o v events es in
-    let asked = w.asked_before i j in
-    let none = none_passed-after o v events es m stable i j e in
-    let last = w.last i j in
-    let shown = v.shown i j (stable.matching.offered i j e) in
-    grind (arith, common_steps, cases_lt)
+    search (arith, rules, none_passed-after, v.shown, stable.matching.offered, cases_lt)

@@ -1,7 +1,7 @@
 -- A number that leaves an order and goes in before the first that it comes before stands where it stood. Those ahead of
 -- it come before it, so it goes past them, and it comes before the one that followed it. So of an order it is enough to
 -- know what is left without the number, and whether the number is in it.
-use Rattle.cq_prefs.proofs.Terms.{rules, ◌≡◌, ◌≢◌, ℕ, suc, ◌<◌, ◌≤◌, eqb, not, cond, Bool, true, List, [], ◌∷◌, length, refl, sym, ap, ◌∙◌, ⊎_elim, arith, common_steps, insert, remove, IsDistinct, position_or_len, cond-true, cond-false, cases_Bool, cases_eq, eq-eqb, ne_eqb, put_by, place_in, IsListed, without, AllByRecursion, all_of_has, Has, most_ports}
+use Rattle.cq_prefs.proofs.Terms.{rules, ◌≡◌, ◌≢◌, ℕ, suc, ◌<◌, ◌≤◌, eqb, not, cond, Bool, true, List, [], ◌∷◌, length, refl, sym, ap, ⊎_elim, arith, common_steps, insert, remove, IsDistinct, position_or_len, cond-true, cond-false, cases_Bool, cases_eq, eq-eqb, ne_eqb, put_by, place_in, IsListed, without, AllByRecursion, all_of_has, Has, most_ports}
 use Rattle.cq_prefs.proofs.ByKey.{put_is, length-put}
 use Rattle.cq_prefs.proofs.Members.{Apart, among, listed, place_head, place_next, Rises}
 use Rattle.cq_prefs.proofs.OneOrder.{apart}
@@ -25,8 +25,7 @@ without_place x (y ∷ xs) a m =
     let later : Has xs x = ⊎_elim (λ e. absurd (other e)) (λ r. r) m in
     let place : place_in (y ∷ xs) x ≡ suc (place_in xs x) =
     let next = place_next xs y x other in omega arith in
-    ap (remove (y ∷ xs)) place ∙ ap (λ l. y ∷ l) (without_place x xs a.1 later)
-    ∙ sym (without_there x y xs other)) (cases_eq y x)
+    cc (without_there x y xs other, without_place x xs a.1 later)) (cases_eq y x)
 
 -- the same of a place that a search found, or did not find
 pub left_by : (x place : ℕ) (xs : List ℕ) → IsDistinct eqb xs → place ≡ place_in xs x → place < length xs →
@@ -45,8 +44,7 @@ module _ (b : ℕ → ℕ → Bool) (one_way : (x y : ℕ) → b x y ≡ true �
       let here = without_here x y ys in
       let there = without_there x y ys in
       let rest = goes_back x ys a.1 r.1 in
-      let first = all_of_has (λ k. b y k ≡ true) ys x r.0 in
-      search (arith, rules, without_none, goes_first, first, one_way, cases_eq, cases_Bool, cond-false)
+      search (arith, rules, all_of_has, without_none, goes_first, cases_eq, cases_Bool, cond-false)
 
   -- an order that is known but for x, which is in it
   pub put_back :

@@ -1,7 +1,7 @@
 -- A state in which nobody is free. Each input is held by the output that it asked last, or has asked its whole order.
 -- Each output that it has asked holds it or a better one, and it likes the others less than the one that holds it: so
 -- the matching is stable. In another stable matching it has no better partner, or it would have passed that one.
-use Rattle.cq_prefs.proofs.Terms.{ℕ, ◌≡◌, ◌≢◌, ◌⊎◌, inl, inr, ◌+◌, ◌<◌, ◌≤◌, List, length, get_or, Option, Some, None, refl, sym, arith, rules, ⊎_elim, cases_lt, Orders, AreOffers, outputs_of, inputs_of, place_of, position_of, IsOffered, Partners, partner_of, depth, IsMatching, IsStable, IsInputBest, HasBetterOutput, HasBetterInput, State, position_held, next_place, IsQuiescent, IsSound, matching_of, state_after, AreEvents, common_steps}
+use Rattle.cq_prefs.proofs.Terms.{ℕ, ◌≡◌, ◌≢◌, ◌⊎◌, inl, ◌+◌, ◌<◌, ◌≤◌, List, length, get_or, Option, Some, None, refl, arith, rules, ⊎_elim, cases_lt, Orders, AreOffers, outputs_of, inputs_of, place_of, position_of, IsOffered, Partners, partner_of, depth, IsMatching, IsStable, IsInputBest, HasBetterOutput, HasBetterInput, State, position_held, next_place, IsQuiescent, IsSound, matching_of, state_after, AreEvents, common_steps}
 use Rattle.cq_prefs.proofs.Places.{position_of-at, place_in-le-length}
 use Rattle.cq_prefs.proofs.Steps.{sound-after}
 use Rattle.cq_prefs.proofs.Holding.{matching-of, partner-holds, partner-from}
@@ -25,8 +25,7 @@ settled o v s w q i j offered apart = ⊎_elim (λ (l : place_of o i j < next_pl
     let shown = v.shown i j offered in
     let differ : position_held s j ≢ position_of o j i = λ e. apart (partner-from o v s w i j (e, shown)) in
     let holder = get_or (inputs_of o j) (position_held s j) 0 in
-    let at : position_of o j holder ≡ position_held s j = position_of-at o v j (position_held s j) (omega arith) in
-    inr (holder, partner-from o v s w holder j (sym at, omega arith), omega arith))
+    search (arith, rules, position_of-at o v j (position_held s j), partner-from o v s w holder j))
     (λ (l : next_place s i ≤ place_of o i j).
     let is = kept o v s w q i in inl (grind (arith, common_steps, is.matched)))
     (cases_lt (place_of o i j) (next_place s i))
@@ -43,10 +42,7 @@ no_better : (o : Orders) → AreOffers o → (s : State) → IsSound o s → IsQ
 no_better o v s w q n matching none i p r e f =
     let is = kept o v s w q i in
     let asked = w.asked_before i in
-    let offered = matching.offered i in
-    let shown = v.shown i in
-    let passed = none i in
-    grind (arith, common_steps, place_in-le-length, partner-from, cases_lt, is.matched)
+    search (arith, rules, matching.offered, v.shown, place_in-le-length, partner-from, cases_lt)
 
 pub input_best-quiet : (o : Orders) → AreOffers o → (events : List ℕ) → AreEvents o events →
     IsQuiescent o (state_after o events) → IsInputBest o (matching_of o (state_after o events))

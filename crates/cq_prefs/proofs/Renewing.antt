@@ -34,11 +34,9 @@ in_range_of lists n waiting same size i j c found =
     let w = get_or lists i d in
     ⊎_elim (λ l.
     let member = has_output w.cells j c (sym (ap (first_for j) (cells_at lists i d l)) ∙ found) in
-    let below = outputs_below w.outputs w.cells j (waiting i d l).in_range member in
-    let outputs = same i d l in omega arith) (λ past.
+    search (arith, rules, outputs_below)) (λ past.
     let none : list_of (cells_of lists) i ≡ [] = get_or_past (cells_of lists) i [] (omega arith) in
-    let no : None ≡ Some c = sym (ap (first_for j) none) ∙ found in
-    let P : ⊥ = cc in absurd P) (cases_lt i (length lists))
+    cc) (cases_lt i (length lists))
 
 -- ## The orders
 
@@ -69,8 +67,7 @@ pub offers_made : (lists : List Waiting) (outputs inputs : List (List ℕ)) →
     let o : Orders = record { outputs = outputs; inputs = inputs } in AreOffers o × (ports o ≤ most_ports)
 offers_made lists outputs inputs e m n waiting same size few =
     let o : Orders = record { outputs = outputs; inputs = inputs } in
-    let is : o ≡ orders_of (cells_of lists) = orders_made lists outputs inputs e m in
-    search (arith, rules, are_offers, in_range_of, length-map)
+    search (arith, rules, orders_made lists outputs inputs e m, are_offers, in_range_of, length-map)
 
 -- ## Filters
 
@@ -116,19 +113,7 @@ pub one_more :
 one_more m n j o t row column pairs v r e inside offered is_row is_column =
     let row_here : (i : ℕ) → i ≡ n → get_or (set o.outputs n row) i [] ≡ outputs_of t i =
     grind (arith, common_steps, get_or-set_same) in
-    let row_there = λ (i : ℕ) (other : i ≢ n). get_or-set_other o.outputs n i row [] other in
-    let column_here : (k : ℕ) → k ≡ j → get_or (set o.inputs j column) k [] ≡ inputs_of t k =
-    grind (arith, common_steps, get_or-set_same) in
-    let column_there = λ (k : ℕ) (other : k ≢ j). get_or-set_other o.inputs j k column [] other in
-    let rows = r.outputs_differ in
-    let columns = r.inputs_differ in
-    let rows' = v.outputs_differ in
-    let columns' = v.inputs_differ in
-    let done = r.outputs_done in
-    let done' = r.inputs_done in
-    let wait = r.outputs_wait in
-    let wait' = r.inputs_wait in
-    search (arith, rules, length-set, row_here, row_there, column_here, column_there, pairs.once, cases_eq)
+    search (arith, rules, get_or-set_other, get_or-set_same, length-set, cases_eq)
 
 -- all are renewed
 pub all_renewed : (m : Partners) (n : ℕ) (o t : Orders) → Renewing m n o t → length m ≤ n → o ≡ t
@@ -164,9 +149,7 @@ in_range_still m o lists pairs v size long same i j c found =
     (λ no_pair.
     let left : Has (filter (λ k. not (is_pair m i k)) (outputs_of t i)) j =
     has_kept (λ k. not (is_pair m i k)) (outputs_of t i) j member (ap not no_pair) in
-    let before = kept_has (λ k. not (is_pair m i k)) (outputs_of o i) j
-    (subst (λ (l : List ℕ). Has l j) (sym (same.outputs i)) left) in
-    let below = output_in_range o v i j (listed (outputs_of o i) j before.0) in omega arith)
+    search (arith, rules, kept_has, same.outputs, output_in_range, listed))
     (cases_Bool (is_pair m i j))
 
 -- so what they are to be are offers
@@ -251,10 +234,7 @@ module _ (n j : ℕ) (lists : List Waiting) (inside : n < length lists) (within 
       let m = pair_of lists n j in
       let size = pair_size in
       let first = none_renewed m o (orders_of (cells_of lists)) pair_apart v.0 (rw (← is) at same) in
-      let all = none_between m 0 n o (orders_of (cells_of lists)) first (omega arith)
-      (λ i _ l. pair_else i (λ e. let P : ⊥ = omega arith in P)) in
-      let offers = still_offers m o now lists pair_apart v is (size ∙ many) many same in
-      search (arith, rules, pair_apart, pair_here)
+      search (arith, rules, none_between, pair_else, still_offers, pair_apart, pair_here)
 
   -- the two orders are all
   pub pair_renewed : (outputs inputs : List (List ℕ)) (row column : List ℕ) (list : Waiting) →
@@ -266,8 +246,7 @@ module _ (n j : ℕ) (lists : List Waiting) (inside : n < length lists) (within 
       let t = orders_of (cells_of lists) in
       let size = pair_size in
       let next = next_renewed x row list at column e f in
-      all_renewed m (length m) _ t (none_between m (n + 1) (length m) _ t next (omega arith)
-      (λ i l _. pair_else i (λ is. let P : ⊥ = omega arith in P))) (omega arith)
+      search (arith, rules, all_renewed m (length m), none_between m (n + 1) (length m), pair_else)
 
 -- ## The order of an input
 
@@ -302,17 +281,14 @@ module _ (lists : List (List Queued)) (differ : FirstKeysDiffer lists) (j i : �
   pub input_gone : key_at (map (first_key j) lists) i ≡ None → left ≡ input_order lists j
   input_gone none =
       let order = is_input_order lists j differ in
-      let gone = without_none i (input_order lists j) in
-      let key = key_at-first j lists i in
-      search (arith, rules, gone, listed, order.offered)
+      search (arith, rules, without_none i (input_order lists j), key_at-first j lists i, listed)
 
   pub input_room : (key : Key) → key_at (map (first_key j) lists) i ≡ Some key →
       length (input_order lists j) ≤ most_ports →
       length left < most_ports
   input_room key has =
       let order = is_input_order lists j differ in
-      let back = room_back (more_urgent lists j) (urgent_one_way lists j) i left in
-      search (arith, rules, back, apart, inputs_rise, input_there)
+      search (arith, rules, room_back, more_urgent, urgent_one_way, apart, inputs_rise, input_there)
 
   pub input_back : (key : Key) (at : ℕ) → key_at (map (first_key j) lists) i ≡ Some key →
       at ≡ position_or_len (λ k. key_before (Some key) (key_at (map (first_key j) lists) k)) left →

@@ -2,7 +2,7 @@
 -- asked output holds, which only falls, and moves the input on by one place. So an output that was asked once holds the
 -- input or a better one from then on, and whom it holds has it as the last output that was asked: an input that is held
 -- is not free and asks no further.
-use Rattle.cq_prefs.proofs.Terms.{common_steps, rules, ℕ, ◌≡◌, ◌≢◌, ◌⊎◌, ◌+◌, ◌<◌, ◌≤◌, min, List, [], ◌∷◌, length, sym, ◌∙◌, arith, ⊎_elim, cases_lt, cases_eq, get_or-set_same, get_or-set_other, get_or_past, length-set, length-replicate, get_or-replicate, Orders, AreOffers, ports, outputs_of, inputs_of, place_of, position_of, IsOffered, State, position_held, next_place, start, Holds, IsFree, IsSound, next_output, propose, state_after, AreEvents}
+use Rattle.cq_prefs.proofs.Terms.{common_steps, rules, ℕ, ◌≡◌, ◌≢◌, ◌⊎◌, ◌+◌, ◌<◌, ◌≤◌, min, List, [], ◌∷◌, length, ◌∙◌, arith, cases_lt, cases_eq, get_or-set_same, get_or-set_other, get_or_past, length-set, length-replicate, get_or-replicate, Orders, AreOffers, ports, outputs_of, inputs_of, place_of, position_of, IsOffered, State, position_held, next_place, start, Holds, IsFree, IsSound, next_output, propose, state_after, AreEvents}
 use Rattle.cq_prefs.proofs.Places.{same_at_place, input_in_range, output_in_range, place_of-at, inputs_at_most}
 
 -- the output that a free input asks is offered
@@ -25,16 +25,7 @@ pub step : (o : Orders) → AreOffers o → (s : State) → IsSound o s → (i :
 unfolding propose
 step o v s w i f =
     let offered = next_output-offered o v s i f.left in
-    let output = output_in_range o v i (next_output o s i) offered in
-    let input = input_in_range o i (next_output o s i) offered in
-    record {
-      to = place_of-at o v i (next_place s i) f.left;
-      offered = offered;
-      held_asked = get_or-set_same s.positions (next_output o s i) _ 0 (omega (arith, w.outputs));
-      held_other = λ j n. get_or-set_other s.positions (next_output o s i) j _ 0 n;
-      moved_on = get_or-set_same s.places i _ 0 (omega (arith, w.inputs));
-      others_stay = λ k n. get_or-set_other s.places i k _ 0 n;
-    }
+    search (arith, rules, output_in_range, input_in_range, place_of-at, get_or-set_same, get_or-set_other)
 
 -- a position that is held only falls
 pub held-falls : (o : Orders) (s : State) (i : ℕ) (t : State) → IsStep o s i t → (j : ℕ) →
@@ -53,12 +44,7 @@ last-step : (o : Orders) → AreOffers o → (s : State) → IsSound o s → (i 
 last-step o v s w i f t st k j h =
     let kept : Holds o s j k → next_place t k ≡ place_of o k j + 1 =
     λ held. st.others_stay k (λ e. f.unheld j (rw e at held)) ∙ w.last k j held in
-    ⊎_elim (λ e.
-    let now = rw (← e) at st.held_asked in
-    let to = rw (← e) at st.to in
-    ⊎_elim (λ l. grind (arith, common_steps, same_at_place)) (λ (l : position_held s j ≤ position_of o j i).
-    kept (search (arith, rules))) (cases_lt (position_of o j i) (position_held s j)))
-    (λ n. kept (sym (st.held_other j n) ∙ h.0, h.1)) (cases_eq j (next_output o s i))
+    search (arith, rules, same_at_place, cases_lt, st.held_other, cases_eq)
 
 held_in-step : (o : Orders) → AreOffers o → (s : State) → IsSound o s → (i : ℕ) (t : State) → IsStep o s i t →
     (j : ℕ) → j < ports o → (position_held t j ≡ ports o) ⊎ (position_held t j < length (inputs_of o j))
