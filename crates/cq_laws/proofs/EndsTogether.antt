@@ -2,7 +2,7 @@
 -- and states that agree are empty together. So the least number of slots after which the one is over is that of the
 -- other. In the last slot a cell departs, as it does in the ideal switch, so the figures tell the number of slots.
 -- And what goes on behind the end is quiet slots.
-use Rattle.cq_laws.proofs.Terms.{cases_lt, ⊎_elim, common_steps, rules, ◌≡◌, ℕ, ◌+◌, ◌-◌, ◌≤◌, cond, List, [], ◌∷◌, ◌++◌, length, take, drop, map, Option, Some, None, Ok, Err, refl, sym, ap, ◌∙◌, subst, arith, replicate, filter, fold, is_some, max, AllByRecursion, list_any, cases_Bool, cond_both, length-take-le, take-append-drop, take_all, append-nil, Cell, Queued, TagFault, Machine, IsForSwitch, AreForPorts, IsInputBest, IsStable, Partners, Agrees, EndsAlike, Fabric, IsEmptyFabric, empty_fabric, BeginsWhole, FabricRun, FabricStops, WholeRun, FabricSlot, SlotRecord, idled_for, quiet_slots, no_arrivals, IdealAfter, IdealEnds, arriving_from, first_slots, slots_of, slots_of_run, whole_ideal_run, IsEmptyIdeal, departures_of, empty_ideal, ideal_run, departures_from, departures_in, ends, fewer_slots, found_end, not_more, whole_fault, arriving_length, quiet_from, Orders, figures_of, sends, figures_after, no_figures, AfterBy, fold-append, all_slots, slots_of-append, last_departs, gone_in, transfers_of_run, IdealState}
+use Rattle.cq_laws.proofs.Terms.{cases_lt, ⊎_elim, common_steps, rules, ◌≡◌, ℕ, ◌+◌, ◌-◌, ◌≤◌, cond, List, [], ◌∷◌, ◌++◌, length, take, drop, map, Option, Some, None, Err, refl, sym, ap, ◌∙◌, subst, arith, replicate, filter, fold, is_some, max, AllByRecursion, list_any, cases_Bool, cond_both, length-take-le, take-append-drop, take_all, append-nil, Cell, Queued, TagFault, Machine, IsForSwitch, AreForPorts, IsInputBest, IsStable, Partners, EndsAlike, RunsAlike, Fabric, IsEmptyFabric, empty_fabric, BeginsWhole, FabricRun, FabricStops, WholeRun, FabricSlot, SlotRecord, idled_for, quiet_slots, no_arrivals, IdealAfter, IdealEnds, arriving_from, first_slots, slots_of, slots_of_run, whole_ideal_run, IsEmptyIdeal, departures_of, empty_ideal, departures_from, departures_in, ends, fewer_slots, found_end, not_more, whole_fault, arriving_length, quiet_from, Orders, figures_of, sends, figures_after, no_figures, AfterBy, fold-append, all_slots, slots_of-append, last_departs, gone_in, transfers_of_run, IdealState}
 use Rattle.cq_base.specs.Arriving.{Arrival, enough, traffic_of}
 use Rattle.cq_laws.proofs.AddingUp.{figures_fold}
 use Rattle.cq_laws.proofs.InputBest.{stable_run}
@@ -20,22 +20,17 @@ module _ (ms : List Machine) (ports class_count : ℕ) (ranks : List (List ℕ))
   Fit n = AllByRecursion (AreForPorts ports class_count) (first_slots came n)
 
   -- beside a run over n slots the ideal switch runs
-  record Beside (n : ℕ) (rs : List SlotRecord) (f : Fabric) : Type 0 where
-    pub after : IdealState
-    pub ran : ideal_run ms 0 (first_slots came n) (empty_ideal ports ranks) ≡ Ok (record {
-      gone = gone_in rs;
-      after = after;
-    })
-    pub agrees : Agrees n f after
+  abbrev Beside : ℕ → List SlotRecord → Fabric → Type 0
+  Beside n rs f = RunsAlike ms 0 (first_slots came n) (empty_ideal ports ranks) rs f
 
   beside : (n : ℕ) (rs : List SlotRecord) (f : Fabric) → Fit n →
       FabricRun IsStable ms 0 (first_slots came n) (empty_fabric ports ranks) rs f → Beside n rs f
-  beside n rs f fit run = grind (arith, common_steps, run_from_empty, arriving_length)
+  beside n = run_from_empty ports ranks ms class_count (first_slots came n)
 
   -- the fabric is over after m slots where the ideal switch is
   over_too : (m : ℕ) (rs : List SlotRecord) (f : Fabric) (s : IdealState) → Beside m rs f →
       IdealAfter ms came (empty_ideal ports ranks) m s → IsEmptyIdeal s → IsEmptyFabric f
-  over_too m rs f s b after empty = grind (arith, common_steps, empty_together m f b.after b.agrees)
+  over_too m rs f s b after empty = grind (arith, common_steps, empty_together _ f b.after b.agrees)
 
   module _ (rs : List SlotRecord) (g : Fabric) (fit : Fit (length rs)) (w : WholeRun IsStable ms came
       (empty_fabric ports ranks) rs g) where
@@ -47,10 +42,10 @@ module _ (ms : List Machine) (ports class_count : ℕ) (ranks : List (List ℕ))
         let b = beside (length rs) rs g fit run in
         let ends = ends_with (FabricSlot IsStable ms) came start rs IsEmptyFabric
         (IdealAfter ms came (empty_ideal ports ranks)) IsEmptyIdeal g b.after w (rw b.ran)
-        ((empty_together (length rs) g b.after b.agrees).0 w.empty) (λ m u v lt after at done.
+        ((empty_together _ g b.after b.agrees).0 w.empty) (λ m u v lt after at done.
         let fit = fewer_fit (AreForPorts ports class_count) came m (length rs) (omega arith) fit in
         over_too m (take m rs) v u (beside m (take m rs) v fit after) at done) in
-        search (arith, rules, found_end, ends)
+        let long = arriving_length came 0 (length rs) in search (arith, rules, found_end, ends)
 
   pub stop_alike : (n : ℕ) (rs : List SlotRecord) (fault : TagFault) → Fit n →
       FabricStops IsStable ms 0 (first_slots came n) (empty_fabric ports ranks) rs fault →
@@ -114,7 +109,9 @@ module _ (ms : List Machine) (ports class_count : ℕ) (ranks : List (List ℕ))
   fewer : (m : ℕ) (s : Fabric) (ss : List SlotRecord) → m ≤ enough came →
       FabricRun IsInputBest ms 0 (first_slots came m) (empty_fabric ports ranks) ss s →
       Beside ms ports class_count ranks came m ss s
-  fewer m s ss le x = search (arith, rules, beside, fewer_fit, stable_run, all_slots)
+  fewer m s ss le x = beside ms ports class_count ranks came m ss s
+      (fewer_fit (AreForPorts ports class_count) came m (enough came) le (rw (all_slots came) fit))
+      (stable_run ms 0 (first_slots came m) (empty_fabric ports ranks) s ss x)
 
   -- the end of the ideal switch
   abbrev n : ℕ
@@ -151,7 +148,7 @@ module _ (ms : List Machine) (ports class_count : ℕ) (ranks : List (List ℕ))
         empty = empty_end;
         first = λ m u at late over. rw cut (⊎_elim (λ lt.
             let b = fewer m u (take m (take n rs)) (omega arith) at in
-            done.1.first m b.after (rw b.ran) late ((empty_together m u b.after b.agrees).0 over)) (λ ge. ge)
+            done.1.first m b.after (rw b.ran) late ((empty_together _ u b.after b.agrees).0 over)) (λ ge. ge)
             (cases_lt m n));
       }
 

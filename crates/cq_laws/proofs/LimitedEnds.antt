@@ -1,6 +1,6 @@
 -- Where runs with limits end. Beside the fabric the ideal switch runs, and after each slot both are empty together; so
 -- both end after the same slot.
-use Rattle.cq_laws.proofs.Terms.{◌≡◌, ℕ, List, length, take, Option, Ok, arith, common_steps, AllByRecursion, Arrival, Machine, Marked, IdealState, AreForPorts, IsInputBest, IsStable, LimitedEndsAlike, LimitedFabricRun, LimitedFabricSlot, LimitedRecord, LimitedWholeRun, admissions_in, empty_limited_fabric, slots_in, Fabric, IsEmptyFabric, LimitedRan, empty_limited, limited_run, arriving_length, LimitedIdealAfter, first_slots, IsEmptyIdeal, LimitedAgrees, gone_in}
+use Rattle.cq_laws.proofs.Terms.{◌≡◌, ◌+◌, ℕ, List, length, take, Option, arith, common_steps, AllByRecursion, Arrival, Machine, Marked, IdealState, AreForPorts, IsInputBest, IsStable, LimitedEndsAlike, LimitedRunsAlike, LimitedFabricRun, LimitedFabricSlot, LimitedRecord, LimitedWholeRun, empty_limited_fabric, Fabric, IsEmptyFabric, empty_limited, arriving_length, LimitedIdealAfter, first_slots, IsEmptyIdeal}
 use Rattle.cq_laws.proofs.LimitedWhole.{same_limited_run, begin}
 use Rattle.cq_laws.proofs.OneRun.{only_limited_run}
 use Rattle.cq_laws.proofs.Parted.{ends_with, fewer_fit, one_whole, run_of_whole}
@@ -12,28 +12,20 @@ module _ (limits : List (Option ℕ)) (ms : List Machine) (ports class_count : �
   abbrev Fit : ℕ → Type 0
   Fit n = AllByRecursion (AreForPorts ports class_count) (first_slots came n)
 
-  -- what the ideal switch did beside a run of these records
-  abbrev told : List LimitedRecord → Marked IdealState → LimitedRan
-  told rs after = record { admissions = admissions_in rs; gone = gone_in (slots_in rs); after = after }
-
   -- beside a run over n slots the ideal switch runs
-  record Beside (n : ℕ) (rs : List LimitedRecord) (f : Marked Fabric) : Type 0 where
-    pub after : Marked IdealState
-    pub ran : limited_run limits ms 0 (first_slots came n) (empty_limited ports ranks) ≡ Ok (told rs after)
-    pub agrees : LimitedAgrees n f after
+  abbrev Beside : ℕ → List LimitedRecord → Marked Fabric → Type 0
+  Beside n rs f = LimitedRunsAlike limits ms 0 (first_slots came n) (empty_limited ports ranks) rs f
 
   beside : (n : ℕ) (rs : List LimitedRecord) (f : Marked Fabric) → Fit n →
       LimitedFabricRun IsStable limits ms 0 (first_slots came n) (empty_limited_fabric ports ranks) rs f → Beside n rs f
-  beside n rs f fit run =
-      let alike = same_limited_run limits ms class_count 0 (first_slots came n) (empty_limited_fabric ports ranks) f
-      (empty_limited ports ranks) rs (begin limits ms class_count ports ranks (first_slots came n) fit) run in
-      let long = arriving_length came 0 n in grind (arith, common_steps)
+  beside n rs f fit run = same_limited_run limits ms class_count 0 (first_slots came n) _ f _ rs
+      (begin limits ms class_count ports ranks (first_slots came n) fit) run
 
   -- the fabric is over after m slots where the ideal switch is
   over_too : (m : ℕ) (rs : List LimitedRecord) (f : Marked Fabric) (s : Marked IdealState) → Beside m rs f →
       LimitedIdealAfter limits ms came (empty_limited ports ranks) m s → IsEmptyIdeal s.state → IsEmptyFabric f.state
   over_too m rs f s b after empty =
-      grind (arith, common_steps, empty_together m f.state b.after.state b.agrees.states)
+      grind (arith, common_steps, empty_together _ f.state b.after.state b.agrees.states)
 
   pub limited_ends : (rs : List LimitedRecord) (g : Marked Fabric) → Fit (length rs) →
       LimitedWholeRun IsStable limits ms came (empty_limited_fabric ports ranks) rs g →
@@ -42,16 +34,18 @@ module _ (limits : List (Option ℕ)) (ms : List Machine) (ports class_count : �
       let start = empty_limited_fabric ports ranks in
       let run = run_of_whole (LimitedFabricSlot IsStable limits ms) came start rs (λ f. IsEmptyFabric f.state) g w in
       let b = beside (length rs) rs g fit run in
+      let same = arriving_length came 0 (length rs) in
+      let long : 0 + length (first_slots came (length rs)) ≡ length rs = omega arith in
       record {
         after = b.after;
         ends = ends_with (LimitedFabricSlot IsStable limits ms) came start rs (λ f. IsEmptyFabric f.state)
             (LimitedIdealAfter limits ms came (empty_limited ports ranks)) (λ s. IsEmptyIdeal s.state) g b.after w
-            (rw b.ran) ((empty_together (length rs) g.state b.after.state b.agrees.states).0 w.empty)
+            (rw b.ran) ((empty_together _ g.state b.after.state b.agrees.states).0 w.empty)
             (λ m u v lt after.
             let fit = fewer_fit (AreForPorts ports class_count) came m (length rs) (omega arith) fit in
             over_too m (take m rs) v u (beside m (take m rs) v fit after));
         ran = b.ran;
-        agrees = b.agrees;
+        agrees = rw long at b.agrees;
       }
 
 -- and there is one whole run, if there is one
