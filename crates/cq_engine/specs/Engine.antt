@@ -204,6 +204,21 @@ frozen_of e = record {
   buffers = e.fabric.buffers;
 }
 
+-- an engine with these machines, limits and rooms that stands in this state
+abbrev pub thawed_engine : List (List ℕ) → List (Option ℕ) → List ℕ → List ℕ → Frozen → EngineView
+thawed_engine fixed limits from_inputs to_outputs x = record {
+  fixed = fixed;
+  limits = limits;
+  fabric = fabric_in x;
+  marks = x.marks;
+  refused = x.refused;
+  from_inputs = from_inputs;
+  to_outputs = to_outputs;
+  figures = x.figures;
+  next = x.next;
+  stopped = false;
+}
+
 -- An engine with these machines, limits and rooms can go on from this state: it has what each port has, its fabric is
 -- one that a fabric can go on from, its cells are of their inputs, each rank state is of its machine's size, what was
 -- refused is counted for each output with a limit, and no port has counted more cells than there were slots. Each

@@ -14,7 +14,7 @@ pub use Rattle.cq_laws.specs.LimitedFabric.{LimitedFabricSlot, LimitedRecord}
 pub use Rattle.cq_laws.specs.Measures.{no_figures, either_by, slacks}
 pub use Rattle.cq_fabric.specs.{Newest.IsNewest, Queues.fabric_of}
 pub use Rattle.cq_engine.specs.Crossing.{CanBeCrossed, HasCrossed}
-pub use Rattle.cq_engine.specs.Engine.{CanBeMade, CanGoOn, HasGoneOn, HasStopped, IsMadeAs, IsReadyFor, SlotDone, fresh_engine, frozen_of, its_admission, ports_of}
+pub use Rattle.cq_engine.specs.Engine.{CanBeMade, CanGoOn, HasGoneOn, HasStopped, IsMadeAs, IsReadyFor, SlotDone, fresh_engine, frozen_of, its_admission, ports_of, thawed_engine}
 pub use Rattle.cq_engine.specs.Measuring.{output_counted, arriving_slack, input_counted, slack_seen}
 pub use Rattle.cq_engine.specs.Resting.{HasRested}
 pub use Rattle.cq_engine.specs.Sending.{CanSend, EachHasSent}

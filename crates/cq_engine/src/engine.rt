@@ -1,6 +1,6 @@
 //! The engine: a fabric, slot by slot.
 ghost use Rattle.std.specs.Prelude.{◌≡◌, ◌↔◌, ◌+◌, ◌-◌, ◌^◌, ◌<◌, IsTrue, false, is_err, IfOk, OnOk, OnErr, length, map, max};
-ghost use Rattle.cq_engine.specs.Terms.{class_count, AreForPorts, ranking, IsEmptyFabric, no_figures, CanBeMade, CanGoOn, HasGoneOn, HasStopped, IsMadeAs, IsReadyFor, SlotDone, answer_to, fresh_engine, frozen_of, its_admission, ports_of, HasRested};
+ghost use Rattle.cq_engine.specs.Terms.{class_count, AreForPorts, ranking, IsEmptyFabric, no_figures, CanBeMade, CanGoOn, HasGoneOn, HasStopped, IsMadeAs, IsReadyFor, SlotDone, answer_to, fresh_engine, frozen_of, thawed_engine, its_admission, ports_of, HasRested};
 
 use crate::copied::{copied_figures, limiter_of};
 use crate::depart::depart;
@@ -155,12 +155,12 @@ impl<R: Rank> Engine<R> {
         })
     }
 
-    /// An engine that goes on from a state in which another stood still, with an input and an output for each rank. The
-    /// ranks take on the states of their machines. List i has room for `from_inputs[i]` cells and buffer j for
-    /// `to_outputs[j]`, those that it begins with included, which have to fit; output j has the limit `limits[j]`, or
-    /// none. All memory that a slot needs is taken here. The first slot looks at all cells that wait, since nothing is
-    /// known yet of their slack. The error is want of memory, and comes too where an output holds more cells than 64
-    /// bits count, which no memory has.
+    /// An engine that goes on from a state in which another stood still, with an input and an output for each rank, and
+    /// is not stopped. The ranks take on the states of their machines. List i has room for `from_inputs[i]` cells and
+    /// buffer j for `to_outputs[j]`, those that it begins with included, which have to fit; output j has the limit
+    /// `limits[j]`, or none. All memory that a slot needs is taken here. The first slot looks at all cells that wait,
+    /// since nothing is known yet of their slack. The error is want of memory, and comes too where an output holds more
+    /// cells than 64 bits count, which no memory has.
     pub fn thaw(
         alloc: Global,
         ranks: Vec<R>,
@@ -174,12 +174,8 @@ impl<R: Rank> Engine<R> {
             to_outputs.now limits.now workers }
         requires goes_on { CanGoOn (map R.machine (map R.fixed ranks.items)) limits.now from_inputs.now to_outputs.now
             from.now }
-        ensures fixed { IfOk result (λ engine. engine.fixed ≡ map R.fixed ranks.items) }
-        ensures limits { IfOk result (λ engine. engine.limits ≡ limits.now) }
-        ensures frozen { IfOk result (λ engine. frozen_of engine ≡ from.now) }
-        ensures from_inputs { IfOk result (λ engine. engine.from_inputs ≡ from_inputs.now) }
-        ensures to_outputs { IfOk result (λ engine. engine.to_outputs ≡ to_outputs.now) }
-        ensures stopped { IfOk result (λ engine. engine.stopped ≡ false) }
+        ensures { IfOk result (λ engine. engine ≡ thawed_engine (map R.fixed ranks.items) limits.now from_inputs.now
+            to_outputs.now from.now) }
     {
         let limiter = limiter_of(alloc, limits, from)?;
         let figures = copied_figures(alloc, &from.figures)?;

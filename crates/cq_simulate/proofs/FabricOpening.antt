@@ -1,6 +1,6 @@
 -- How the run of a fabric that is made for tables begins, and what its end says of the tables. What the calls say that
 -- made it is one record. From it the engine can begin.
-use Rattle.cq_simulate.proofs.Terms.{refl, common_steps, rules, ◌≡◌, ℕ, ◌+◌, ◌*◌, ◌≤◌, ◌^◌, List, [], length, map, Option, sym, ap, ◌∙◌, arith, take_all, length-map, length-map-range_with_len, Arrival, traffic_of, first_slots, RoomView, Departure, Transfer, Scheduled, CanBeMade, EngineView, fresh_engine, frozen_of, marked_fabric, departures_limited, limited_run, counts_more, refused_in, admissions_in, slots_in, AreTables, ports_of, IsSetup, classes_of, Tables, fixed_of, machine_from, state_of, machines_of, openings_of, IsKeptOf, unpacked_run, kept_of, ArePortsFor, IsFreshFor, IsIdealFor, HasKept, IsReadyOn, IsRefusalOn, IsRefusalOf, ideal_departures, ran_ideal, limited_same_sent, limited_whole_fault, slots_fit, IsScheduleFor, PackedFabricRun, Ports, RunRefusal, IsShort, IsTraffic, is_from, is_to, IdealSwitch, marked_state, Machine, class_count, IsReady, IsResumed, Kept, RunsOn, Switch, switch_of, Taken, best_act_alike_from_empty, figures_fold, Discipline, fresh_ideal}
+use Rattle.cq_simulate.proofs.Terms.{refl, common_steps, rules, ◌≡◌, ℕ, ◌+◌, ◌*◌, ◌≤◌, ◌^◌, List, [], length, map, Option, sym, ap, ◌∙◌, arith, take_all, length-map, length-map-range_with_len, Arrival, traffic_of, first_slots, RoomView, Departure, Transfer, Scheduled, CanBeMade, EngineView, fresh_engine, frozen_of, thawed_engine, Frozen, GoesOnFrom, marked_fabric, departures_limited, limited_run, counts_more, refused_in, admissions_in, slots_in, AreTables, ports_of, IsSetup, classes_of, Tables, fixed_of, machine_from, state_of, machines_of, openings_of, IsKeptOf, unpacked_run, kept_of, ArePortsFor, IsFreshFor, IsIdealFor, HasKept, IsReadyOn, IsRefusalOn, IsRefusalOf, ideal_departures, ran_ideal, limited_same_sent, limited_whole_fault, slots_fit, IsScheduleFor, PackedFabricRun, Ports, RunRefusal, IsShort, IsTraffic, is_from, is_to, IdealSwitch, marked_state, Machine, class_count, IsReady, IsResumed, Kept, RunsOn, Switch, switch_of, Taken, best_act_alike_from_empty, figures_fold, Discipline, fresh_ideal}
 use Rattle.cq_simulate.proofs.TakenUp.{goes_from, holds_none, machine_count, room_at}
 use Rattle.cq_simulate.specs.ScheduleFor.{by_port}
 use Rattle.cq_simulate.specs.declared.refusal.RunRefusal.TheVariants as refusal
@@ -57,6 +57,13 @@ pub fresh_for : (t : Tables) (came : List Arrival) (p : Ports) (engine : EngineV
     ≡ fresh_engine (length p.ranks.items) (map fixed_of p.ranks.items) (map state_of p.ranks.items) from to limits →
     IsFreshFor t came engine
 fresh_for t came p engine are from to same is = grind (arith, common_steps, are.many, are.openings)
+
+-- and one that goes on from a state is of the tables
+pub thawed_for : (t : Tables) (came : List Arrival) (p : Ports) (x : Frozen) (engine : EngineView) {from to : List ℕ}
+    {limits : List (Option ℕ)} → ArePortsFor t came p → from ≡ p.from_inputs.items → to ≡ p.to_outputs.items →
+    limits ≡ t.limits → engine ≡ thawed_engine (map fixed_of p.ranks.items) limits from to x →
+    GoesOnFrom t came x engine
+thawed_for t came p x engine are from to same is = grind (arith, common_steps)
 
 -- and so is an ideal switch of them
 pub ideal_is_for : (t : Tables) (came : List Arrival) (ranks : List Discipline) (ideal : IdealSwitch)

@@ -1,7 +1,7 @@
 -- A fabric can go on from where it stands, whether it is fresh or was taken up. What waits in it came before the slot
 -- that it stands at, and what is to come comes from that slot on, so both together are no more than what comes in all:
 -- at each input, for each output, and of all cells.
-use Rattle.cq_simulate.proofs.Terms.{nat_lt, length-filter_both, ◌≡◌, ℕ, zero, suc, ◌+◌, ◌-◌, ◌*◌, ◌≤◌, ◌<◌, ◌^◌, Bool, false, List, [], ◌∷◌, length, map, replicate, Option, refl, sym, ap, ◌∙◌, arith, rules, subst, common_steps, ◌==◌, All, sum, flat_map, range_with_len, slice_index, cases_lt, le-leb, le-ltb, lt-leb, lt-ltb, ne_eqb, length-map, length-replicate, get_or-map-range_with_len, sum_by-cons, Arrival, RoomView, Departure, Queued, Transfer, IsTraffic, is_from, is_to, number_of, Scheduled, Setup, CanGoOn, EngineView, fresh_engine, frozen_of, total, total_more, total_none, zero_fits, Fabric, input, fabric_held, held_for, waiting_for, empty_agree, empty_list, Machine, class_count, GoesOn, came_before, goes_on, switch_of, Taken, classes_of, ports_of, Tables, fixed_of, machine_from, machine_of, machines_of, ArePortsFor, GoesOnFrom, IsReadyOn, to_come, CanBeTakenUp, IsScheduleFor, Ports, All-from_recursion, IsSoundFabric}
+use Rattle.cq_simulate.proofs.Terms.{nat_lt, length-filter_both, ◌≡◌, ℕ, zero, suc, ◌+◌, ◌-◌, ◌*◌, ◌≤◌, ◌<◌, ◌^◌, Bool, false, List, [], ◌∷◌, length, map, replicate, Option, refl, sym, ap, ◌∙◌, arith, rules, common_steps, ◌==◌, All, sum, flat_map, range_with_len, slice_index, cases_lt, le-leb, le-ltb, lt-leb, lt-ltb, ne_eqb, length-map, length-replicate, get_or-map-range_with_len, sum_by-cons, Arrival, RoomView, Departure, Queued, Transfer, IsTraffic, is_from, is_to, number_of, Scheduled, Setup, CanGoOn, EngineView, fresh_engine, thawed_engine, total, total_more, total_none, zero_fits, Fabric, input, fabric_held, held_for, waiting_for, empty_agree, empty_list, Machine, class_count, GoesOn, came_before, goes_on, switch_of, Taken, classes_of, ports_of, Tables, fixed_of, machine_from, machine_of, machines_of, ArePortsFor, GoesOnFrom, IsReadyOn, to_come, CanBeTakenUp, IsScheduleFor, Ports, All-from_recursion, IsSoundFabric}
 use Rattle.std.specs.Prelude.{nat_le}
 use Rattle.cq_simulate.proofs.FabricCounts.{at_inputs, total_most}
 use Rattle.cq_simulate.proofs.FabricSteps.{all_at_inputs}
@@ -167,9 +167,9 @@ module _ {t : Tables} {s : Scheduled} {taken : Taken} (sound : CanBeTakenUp (swi
       total ≤ 2 ^ 34 → sent.spare ≡ total + count → note.spare ≡ total + 2 * count →
       IsReadyOn (map machine_from engine.fixed) s.came engine sent note
   runs_on engine is sent note counted all few sent_room note_room =
-      let goes : GoesOn (switch_of t s) (frozen_of engine) =
-      subst (GoesOn (switch_of t s)) (sym is.stands) (goes_of t s taken sound fit.traffic) in
-      goes_from engine sent note fit (record {
+      let goes = goes_of t s taken sound fit.traffic in
+      let stands = thawed_engine engine.fixed t.limits (by_port is_from t s.came) (by_port is_to t s.came) taken.frozen in
+      rw is.stands (goes_from stands sent note fit (record {
         early = goes.early;
         inputs = goes.ports.lists ∙ machines_many t
             ∙ sym (machine_count machine_from engine.fixed t.setup is.machines);
@@ -177,5 +177,5 @@ module _ {t : Tables} {s : Scheduled} {taken : Taken} (sound : CanBeTakenUp (swi
         lists = goes.lists;
         buffers = goes.buffers;
         proposals = goes.proposals;
-        lost = All-from_recursion _ engine.refused goes.lost;
-      }) is.machines is.classes is.from_inputs is.to_outputs is.running (omega arith) (omega arith) (omega arith)
+        lost = All-from_recursion _ taken.frozen.refused goes.lost;
+      }) is.machines is.classes refl refl refl (omega arith) (omega arith) (omega arith))

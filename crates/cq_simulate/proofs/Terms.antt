@@ -91,7 +91,7 @@ pub use Rattle.cq_resume.specs.Switch.{HasLimit, HasShape, Switch, switch_of}
 pub use Rattle.cq_resume.specs.Told.{arriving_cell, class_in, class_of, is_ahead, is_named, key_of, list_told, named_in, output_of, packet_before, queued_in, queued_of}
 unfoldable pub use Rattle.cq_resume.specs.Told.{fabric_told}
 pub use Rattle.cq_resume.specs.declared.taken.Taken.{Taken}
-pub use Rattle.cq_engine.specs.Engine.{CanBeMade, CanGoOn, EngineView, HaveBufferRoom, HaveListRoom, IsMadeAs, IsReadyFor, SlotDone, fresh_engine, frozen_of, its_admission, marked_fabric}
+pub use Rattle.cq_engine.specs.Engine.{CanBeMade, CanGoOn, EngineView, HaveBufferRoom, HaveListRoom, IsMadeAs, IsReadyFor, SlotDone, fresh_engine, frozen_of, thawed_engine, its_admission, marked_fabric}
 pub use Rattle.cq_traffic.proofs.ForPorts.{arrivals_for, slots_fit}
 pub use Rattle.cq_traffic.proofs.FromInputs.{arrives_found, from_here, no_more_from, one_if, some_one}
 unfoldable pub use Rattle.cq_traffic.proofs.FromInputs.{come_from}

@@ -1,9 +1,9 @@
 -- Only proofs use this. What a fabric of tables is made of, for the cells that arrive, one that has had no slot, and
 -- one that goes on from where another stood still; and an ideal switch that has had no slot.
-use Rattle.std.specs.Prelude.{◌≡◌, List, false, length, map}
+use Rattle.std.specs.Prelude.{◌≡◌, List, length, map}
 use Rattle.cq_base.specs.Arriving.{Arrival}
 use Rattle.cq_cells.specs.Traffic.{is_from, is_to}
-use Rattle.cq_engine.specs.Engine.{EngineView, fresh_engine, frozen_of}
+use Rattle.cq_engine.specs.Engine.{EngineView, fresh_engine, thawed_engine}
 use Rattle.cq_ideal.specs.Fresh.{fresh_ideal}
 use Rattle.cq_ideal.specs.Ideal.{IdealSwitch}
 use Rattle.cq_laws.specs.declared.frozen.Frozen.{Frozen}
@@ -36,11 +36,7 @@ pub record IsFreshFor (t : Tables) (came : List Arrival) (engine : EngineView) :
 pub record GoesOnFrom (t : Tables) (came : List Arrival) (frozen : Frozen) (engine : EngineView) : Type 0 where
   pub machines : map machine_from engine.fixed ≡ machines_of t.setup
   pub classes : class_count (machines_of t.setup) ≡ length t.setup.classes
-  pub limits : engine.limits ≡ t.limits
-  pub stands : frozen_of engine ≡ frozen
-  pub from_inputs : engine.from_inputs ≡ by_port is_from t came
-  pub to_outputs : engine.to_outputs ≡ by_port is_to t came
-  pub running : engine.stopped ≡ false
+  pub stands : engine ≡ thawed_engine engine.fixed t.limits (by_port is_from t came) (by_port is_to t came) frozen
 
 -- an ideal switch of the tables that has had no slot
 pub record IsIdealFor (t : Tables) (came : List Arrival) (ideal : IdealSwitch) : Type 0 where

@@ -1,4 +1,4 @@
-use Rattle.cq_simulate.proofs.Terms.{arith, rules, ◌∙◌, IfErr-weaker, IfOk-weaker, machine_from}
+use Rattle.cq_simulate.proofs.Terms.{arith, rules, ◌∙◌, IfErr-weaker, IfOk-weaker}
 use Rattle.cq_simulate.proofs.Parting.{resumed_fault, resumed_of}
 use Rattle.cq_simulate.proofs.TakenUp.{machine_count, runs_on}
 use Rattle.cq_simulate.proofs.parted_run.resume_fabric.Goals as goal
@@ -12,10 +12,8 @@ pub run_on-requires-clause-ports : goal.run_on-requires-clause-ports
 run_on-requires-clause-ports g c = search (arith, rules, machine_count)
 
 pub returns-clause-run : goal.returns-clause-run
-returns-clause-run g c =
-    let is = c.in_ok-engine.ensures in
-    IfOk-weaker c.run_on.result _ _ (λ run kept. resumed_of machine_from c.args.tables.now c.args.schedule.now
-    c.in_ok-engine.engine c.args.taken.now is.machines is.limits is.stands c.in_ok-sent.sent c.in_ok-note.note run kept
+returns-clause-run g c = IfOk-weaker c.run_on.result _ _ (λ run kept. resumed_of c.args.tables.now c.args.schedule.now
+    c.in_ok-engine.engine c.args.taken.now c.in_ok-engine.ensures c.in_ok-sent.sent c.in_ok-note.note run kept
     (c.in_ok-sent.ensures.items ∙ c.as_slice.ensures) (c.in_ok-note.ensures.items ∙ c.as_slice-2.ensures))
     c.run_on.ensures.run
 

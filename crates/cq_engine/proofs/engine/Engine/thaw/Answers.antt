@@ -1,6 +1,6 @@
-use Rattle.cq_engine.proofs.Terms.{◌≡◌, List, length, map, refl, sym, ap, ◌∙◌, length-map}
-use Rattle.cq_engine.proofs.Going.{can_hold, goes_on, same_frozen}
-use Rattle.cq_engine.proofs.Shown.{at_most}
+use Rattle.cq_engine.proofs.Terms.{arith, rules, ◌≡◌, List, length, map, refl, sym, ap, ◌∙◌, length-map}
+use Rattle.cq_engine.proofs.Going.{can_hold, goes_on}
+use Rattle.cq_engine.proofs.Shown.{at_most, seen}
 use Rattle.cq_engine.proofs.engine.Engine.thaw.Goals as goal
 
 as_many : {X Y Z : Type 0} (f : X → Y) (g : Y → Z) (xs : List X) → length (map g (map f xs)) ≡ length xs
@@ -62,17 +62,4 @@ invariant_of-result g c =
     )
 
 pub returns : goal.returns
-returns g c =
-    let limiter = c.in_ok-limiter.ensures in
-    let queues = c.in_ok-queues.ensures in
-    record {
-      fixed = c.put.ensures.fixed ∙ c.of-ranks.ensures.fixed;
-      limits = limiter.limits;
-      frozen =
-          same_frozen _ _ refl c.in_ok-figures.ensures limiter.refused limiter.marks
-          (c.put.ensures.states ∙ c.as_slice-states.ensures) (queues.inputs ∙ c.as_slice-lists.ensures)
-          (queues.buffers ∙ c.as_slice-buffers.ensures);
-      from_inputs = queues.from_inputs;
-      to_outputs = queues.to_outputs;
-      stopped = refl;
-    }
+returns g c = search (arith, rules, seen)
