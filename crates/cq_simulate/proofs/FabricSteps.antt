@@ -344,9 +344,9 @@ module _ {whole : Bool} {ms : List Machine} {came : List Arrival} {first : Engin
           running = passed.running;
         };
         lists =
-            let limited_lists_kept-here = limited_lists_kept first.limits ms slot cells f g r step in
+            let limited_lists_kept-here = limited_lists_kept first.limits ms slot cells f g r stable in
             let arrives_found-here = arrives_found came slot in search (arith, rules, c.lists, from_here, some_one);
-        buffers = search (arith, rules, for_here, limited_outputs_kept first.limits ms slot cells f g r step);
+        buffers = search (arith, rules, for_here, limited_outputs_kept first.limits ms slot cells f g r stable);
         spare = search (arith, rules, waiting, come_count, present);
         room = search (arith, rules, at_inputs, come_count, cross_few);
         proposed =

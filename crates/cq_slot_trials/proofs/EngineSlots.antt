@@ -5,10 +5,11 @@ use Rattle.cq_base.specs.declared.cell.Transfer.{Transfer}
 use Rattle.cq_base.specs.Room.{RoomView}
 use Rattle.cq_rank.specs.{Classes.rows_of, Machine.Ranker, Switch.AreForOneSwitch}
 use Rattle.cq_laws.specs.LimitedFabric.{LimitedRecord}
+use Rattle.cq_laws.proofs.InputBest.{stable_slot}
 use Rattle.cq_laws.specs.Fabric.{input}
 use Rattle.cq_laws.specs.Holding.{fabric_held, held_for}
 use Rattle.cq_fabric.proofs.Limits.{nothing_for, nothing_in}
-use Rattle.cq_engine.proofs.Kept.{lists_kept, outputs_kept}
+use Rattle.cq_fabric.proofs.Kept.{lists_kept, outputs_kept}
 use Rattle.cq_slot_trials.proofs.Arriving.{admitted_most, count_most, refusals_most}
 
 -- what follows from two facts at one variant
@@ -41,8 +42,8 @@ module _ (ms : List Machine) (slot : ℕ) (cells : List (Option Cell)) (old new 
   unfolding record_is
   lists_after n few i =
       let had = few i in
-      let kept =
-      lists_kept ms slot record_is.admission.cells old.fabric new.fabric record_is.of_slot slot_done.is_slot.runs i in
+      let stable = stable_slot ms slot _ old.fabric new.fabric record_is.of_slot slot_done.is_slot.runs in
+      let kept = lists_kept ms slot _ old.fabric new.fabric record_is.of_slot stable i in
       grind (arith, common_steps)
 
   held_after : (n : ℕ) → length cells ≡ 64 → ((j : ℕ) → held_for j old.fabric ≤ 64 * n) → (j : ℕ) →
@@ -50,9 +51,9 @@ module _ (ms : List Machine) (slot : ℕ) (cells : List (Option Cell)) (old new 
   unfolding record_is
   held_after n places few j =
       let had = few j in
-      let kept =
-      outputs_kept ms slot record_is.admission.cells old.fabric new.fabric record_is.of_slot slot_done.is_slot.runs j
-      in search (arith, rules, admitted_most)
+      let stable = stable_slot ms slot _ old.fabric new.fabric record_is.of_slot slot_done.is_slot.runs in
+      let kept = outputs_kept ms slot _ old.fabric new.fabric record_is.of_slot stable j in
+      search (arith, rules, admitted_most)
 
   pub grown_after : (n : ℕ) → length cells ≡ 64 → ports_of old ≡ 4 → HasGrown n old → HasGoneOn slot old new →
       HasGrown (n + 1) new
