@@ -1,6 +1,6 @@
 -- What the parts of an engine show of what a slot asks. It is asked of the engine as clauses see it. Moved to the
 -- parts it is one record, which the lemmas take.
-use Rattle.cq_engine.proofs.Terms.{common_steps, rules, ◌≡◌, ◌<◌, ◌≤◌, ◌^◌, ℕ, Bool, false, List, Option, length, map, get_or, ◌∙◌, arith, Ok, length-map, Cell, Figures, Queued, Machine, class_count, admitted, CanCount, LimiterView, AreForPorts, ranking, list_of, Queues, fabric_of, admitted_room, numbers_fit, AreRanked, BuffersHaveRoom, ListsHaveRoom, EngineView, HaveBufferRoom, HaveListRoom, IsRunning, ports_of, Look, CanTakeIn, admitted_arrives, admitted_for_ports}
+use Rattle.cq_engine.proofs.Terms.{common_steps, rules, ◌≡◌, ◌<◌, ◌≤◌, ◌^◌, ℕ, Bool, false, List, Option, length, map, get_or, ◌∙◌, arith, length-map, Cell, Figures, Queued, Machine, class_count, admitted, CanCount, LimiterView, AreForPorts, list_of, Queues, fabric_of, admitted_room, numbers_fit, AreRanked, BuffersHaveRoom, ListsHaveRoom, Departure, Transfer, RoomView, EngineView, IsReadyFor, IsRunning, ports_of, Look, CanTakeIn, HasTakenIn, RanksView, admitted_arrives, admitted_for_ports}
 
 -- what is seen of these parts
 abbrev pub seen : List (List ℕ) → List (List ℕ) → Queues → LimiterView → Figures → ℕ → Bool → EngineView
@@ -24,16 +24,7 @@ at_most a b n e le = omega arith
 
 -- ## What is known where a slot begins
 
--- what is asked of an engine
-pub record Begins (M : List ℕ → Machine) (slot : ℕ) (cells : List (Option Cell)) (v : EngineView) : Type 0 where
-  pub running : v.stopped ≡ false
-  pub next : slot ≡ v.next
-  pub come : AreForPorts (ports_of v) (class_count (map M v.fixed)) cells
-  pub list_room : HaveListRoom cells v
-  pub buffer_room : HaveBufferRoom cells v
-  pub refused : CanCount (ports_of v) v.refused
-
--- what that is of its parts
+-- what is asked of an engine, as it is of its parts
 pub record Begun (ms : List Machine) (slot : ℕ) (cells : List (Option Cell)) (q : Queues) (states : List (List ℕ))
     (l : LimiterView) (looks : Look) (x : Figures) : Type 0 where
   pub running : IsRunning ms slot looks x (fabric_of q states) l
@@ -48,9 +39,10 @@ module _ (M : List ℕ → Machine) (v : EngineView) (fixed states : List (List 
   pub up : (slot : ℕ) → slot ≡ v.next → v.stopped ≡ false → IsRunning (map M fixed) slot looks x (fabric_of q states) l
   up slot now running = grind (arith, common_steps)
 
-  pub begun : (slot : ℕ) (cells : List (Option Cell)) → Begins M slot cells v →
-      Begun (map M fixed) slot cells q states l looks x
-  begun slot cells begins = search (rules, up, length-map)
+  pub begun : (slot : ℕ) (cells : List (Option Cell)) {sent : RoomView Departure} {note : RoomView Transfer} →
+      v.stopped ≡ false → slot ≡ v.next → AreForPorts (ports_of v) (class_count (map M v.fixed)) cells →
+      IsReadyFor cells v sent note → Begun (map M fixed) slot cells q states l looks x
+  begun slot cells running now come ready = search (rules, up, length-map)
 
 -- ## What follows
 
@@ -66,13 +58,15 @@ module _ {ms : List Machine} {slot : ℕ} {cells : List (Option Cell)} {q : Queu
 
   -- ## What is admitted by some marks
 
-  pub ranked : (marks : List Bool) (came : List (Option Queued)) (ranks : List (List ℕ)) →
-      ranking ms slot 0 (admitted marks cells) states ≡ Ok (record { came = came; ranks = ranks }) →
-      AreRanked ms slot q states (admitted marks cells) (class_count ms) came ranks
-  ranked marks came ranks is = search (arith, rules, admitted_for_ports)
-
   pub lists_room : (marks : List Bool) → ListsHaveRoom q (admitted marks cells)
   lists_room marks i cell at = search (rules, known.list_room, admitted_arrives)
 
   pub buffers_room : (marks : List Bool) → BuffersHaveRoom (length ms) q (admitted marks cells)
   buffers_room marks = admitted_room (length ms) q marks cells known.buffer_room
+
+-- once the arrivals are taken in, those that are admitted have their keys
+pub taken : {ms : List Machine} {slot : ℕ} {cells : List (Option Cell)} {q : Queues} {l l' : LimiterView} {looks : Look}
+    {x : Figures} {ranks ranks' : RanksView} {came : List (Option Queued)} →
+    Begun ms slot cells q ranks.states l looks x → HasTakenIn ms slot cells ranks ranks' l l' came →
+    AreRanked ms slot q ranks.states (admitted l'.marks cells) (class_count ms) came ranks'.states
+taken known did = search (arith, rules, admitted_for_ports)

@@ -69,14 +69,13 @@ pub record HaveCrossed (m : Partners) (count : ℕ) (q q' : Queues) : Type 0 whe
 pub moved_of : {m : Partners} {count : ℕ} {q q' : Queues} → HaveCrossed m count q q' → HaveMoved m q q'
 moved_of crossed = record { stable = crossed.best.stable; moves = crossed.moves }
 
--- what was counted of a slot in which these cells were looked at, came to these lists and left, with so many proposals
-pub record AreCounted (looks : Look) (slot : ℕ) (q : Queues) (came gone : List (Option Queued)) (first second : ℕ)
-    (x y : Figures) : Type 0 where
+-- what was counted of a slot, so at each input, in which these cells left, with so many proposals
+pub record AreCounted (counted : ℕ → InputFigures → InputFigures) (slot : ℕ) (gone : List (Option Queued))
+    (first second : ℕ) (x y : Figures) : Type 0 where
   pub slots : y.slots ≡ (if list_any is_some gone then max x.slots (slot + 1) else x.slots)
   pub proposed : y.proposals ≡ x.proposals + (first + second)
   pub most : y.most ≡ max x.most (max first second)
-  pub inputs :
-      y.inputs ≡ map (λ at. input_counted looks q at.0 (came_to came at.0) at.1) (enumerate_from 0 x.inputs)
+  pub inputs : y.inputs ≡ map (λ at. counted at.0 at.1) (enumerate_from 0 x.inputs)
   pub outputs : y.outputs ≡ map (λ at. output_counted slot (came_to gone at.0) at.1) (enumerate_from 0 x.outputs)
 
 -- what a slot comes to, with the figures after it
@@ -167,7 +166,7 @@ module _ {ms : List Machine} {slot : ℕ} {q0 : Queues} {ranks0 : List (List ℕ
     in_step = search (arith, rules, same, seen_after, outputs_long, counts_fit)
 
     pub whole_slot : (looks : Look) → IsSeen looks x (fabric_of q0 ranks0) → (y : Figures) →
-        AreCounted looks slot q1 came (fronts q2.buffers) p1 p2 x y →
+        AreCounted (λ i. input_counted looks q1 i (came_to came i)) slot (fronts q2.buffers) p1 p2 x y →
         Whole ms slot cells x y (fabric_of q0 ranks0) (fabric_of q4 ranks2) known.ideal (fronts q2.buffers)
         (transfers_of m1 q1.inputs slot 1 ++ transfers_of m2 q3.inputs slot 2)
     unfolding transfers_in

@@ -5,11 +5,11 @@
 -- transfer empties the lists and puts each cell alone into the buffer of its output, which sends it. After that nothing
 -- waits and nothing is offered, and the second matching is empty. The lists and buffers in between are made here for
 -- the proof alone.
-use Rattle.cq_engine.proofs.Terms.{common_steps, rules, ◌≡◌, ℕ, zero, suc, ◌+◌, ◌-◌, ◌*◌, ◌<◌, ◌≤◌, true, List, [], ◌∷◌, ◌++◌, length, map, drop, get_or, replicate, Option, Some, None, refl, sym, ap, ◌∙◌, ⊎_elim, arith, All, IfSome, if◌then◌else◌, is_some, max, min, slice_get, cons_option, enumerate_from, filter_map, list_any, range_with_len, reduce, sum_by, option_map, option_to_list, cases_lt, cond_both, eq-eqb, row_fits, same_Some, append-nil, ext_get_or, get_or_past, length-map, get_or-map-range_with_len, length-map-range_with_len, sum-map, sum_by-cons, Cell, Queued, Transfer, Figures, InputFigures, cushion, first_for, is_for, Machine, all_told, fronts, rests, LimiterView, list_of, orders_of, output_order, Moves, list_taken, noted, transfers_of, outputs_of, ports, IsListed, Partners, partner_of, partner_place, depth, spent, proposals, IsFreeOutput, IsInputBest, IsStable, Fabric, cushion_of, either_by, slacks, came_to, list_arrived, HoldsFabric, Queues, fabric_of, AreRanked, BuffersHaveRoom, HaveArrived, HaveJudged, HaveSent, ListsHaveRoom, fits_lists, held_before, keyed, IsInStep, IsSeen, arriving_slack, input_counted, output_counted, slack_seen, GoStraight, crossing, crossings, input_passed, Look, among, place_head, kept_more}
+use Rattle.cq_engine.proofs.Terms.{common_steps, rules, ◌≡◌, ℕ, zero, suc, ◌+◌, ◌-◌, ◌*◌, ◌<◌, ◌≤◌, true, List, [], ◌∷◌, ◌++◌, length, map, drop, get_or, replicate, Option, Some, None, refl, sym, ap, ◌∙◌, ⊎_elim, arith, All, IfSome, min, slice_get, cons_option, enumerate_from, filter_map, range_with_len, reduce, sum_by, option_map, option_to_list, cases_lt, cond_both, eq-eqb, row_fits, same_Some, append-nil, ext_get_or, get_or_past, length-map, get_or-map-range_with_len, length-map-range_with_len, sum-map, sum_by-cons, Cell, Queued, Transfer, Figures, InputFigures, cushion, first_for, is_for, Machine, all_told, fronts, rests, LimiterView, list_of, orders_of, output_order, Moves, list_taken, noted, transfers_of, outputs_of, ports, IsListed, Partners, partner_of, partner_place, depth, spent, proposals, IsFreeOutput, IsInputBest, IsStable, Fabric, cushion_of, either_by, slacks, came_to, list_arrived, HoldsFabric, Queues, fabric_of, AreRanked, BuffersHaveRoom, HaveArrived, HaveJudged, HaveSent, ListsHaveRoom, fits_lists, held_before, keyed, IsInStep, IsSeen, arriving_slack, input_counted, slack_seen, GoStraight, crossing, crossings, input_passed, Look, among, place_head, kept_more}
 use Rattle.std.proofs.Math.ListN.{get_or-map}
 use Rattle.cq_engine.specs.declared.measure.Look.TheVariants as look
 use Rattle.cq_engine.proofs.NoOffers.{none_best, none_proposed, nothing_moves, nothing_noted}
-use Rattle.cq_engine.proofs.Slot.{HaveCrossed, Whole, moved_of, whole_slot}
+use Rattle.cq_engine.proofs.Slot.{AreCounted, HaveCrossed, Whole, moved_of, whole_slot}
 
 -- ## A cell alone
 
@@ -337,17 +337,10 @@ module _ {ms : List Machine} {slot : ℕ} {q : Queues} {ranks0 : List (List ℕ)
   held_straight room {before} {judged} holds judges j =
       rw (← fronts_alone gone) (held_before known arrived room (moved_of crossed) holds judges j)
 
-  -- what was counted of the slot
-  pub record AreCountedStraight (x y : Figures) : Type 0 where
-    pub slots : y.slots ≡ (if list_any is_some gone then max x.slots (slot + 1) else x.slots)
-    pub proposed : y.proposals ≡ x.proposals + (length (crossings slot n came) + 0)
-    pub most : y.most ≡ max x.most (max (length (crossings slot n came)) 0)
-    pub inputs : y.inputs ≡ map (λ at. input_passed (came_to came at.0) at.1) (enumerate_from 0 x.inputs)
-    pub outputs : y.outputs ≡ map (λ at. output_counted slot (came_to gone at.0) at.1) (enumerate_from 0 x.outputs)
-
   pub whole_straight : (room : BuffersHaveRoom (length ms) q cells) (x : Figures) →
       IsInStep ms slot x (fabric_of q ranks0) → (looks : Look) → IsSeen looks x (fabric_of q ranks0) →
-      (ranks2 : List (List ℕ)) → ranks2 ≡ all_told ms gone ranks1 → (y : Figures) → AreCountedStraight x y →
+      (ranks2 : List (List ℕ)) → ranks2 ≡ all_told ms gone ranks1 → (y : Figures) →
+      AreCounted (λ i. input_passed (came_to came i)) slot gone (length (crossings slot n came)) 0 x y →
       Whole ms slot cells x y (fabric_of q ranks0) (fabric_of q ranks2) known.ideal gone (crossings slot n came)
   whole_straight room x up looks seen ranks2 told y counts =
       let fronts_are = fronts_alone gone in

@@ -12,7 +12,7 @@ pub use Rattle.cq_ideal.specs.Ideal.{HaveLeft, answer_to, count_for}
 pub use Rattle.cq_ideal.specs.IdealSlot.{IdealState, all_told, departures_from, fronts, rests}
 unfoldable pub use Rattle.cq_ideal.specs.IdealSlot.{departures_in}
 pub use Rattle.cq_ideal.specs.Limiter.{CanCount, LimiterView}
-pub use Rattle.cq_ideal.specs.{IdealRun.empty_ideal, Refused.with_refused, Taking.CanTakeIn}
+pub use Rattle.cq_ideal.specs.{IdealRun.empty_ideal, Parts.RanksView, Refused.with_refused, Taking.CanTakeIn, Taking.HasJudged, Taking.HasTakenIn}
 pub use Rattle.cq_ideal.proofs.{Admitted.admitted_arrives, Admitted.admitted_for_ports, Resting.length-idle, Sending.length-told, Slot.by_marks}
 pub use Rattle.cq_prefs.specs.FirstCells.{list_of, orders_of, output_order}
 pub use Rattle.cq_prefs.specs.Moves.{Moves, list_taken, noted}
@@ -38,7 +38,7 @@ pub use Rattle.cq_fabric.proofs.Slot.{alike, arrive, came_newest, came_outputs, 
 pub use Rattle.cq_fabric.specs.Held.{HoldsFabric}
 pub use Rattle.cq_fabric.specs.Queues.{Queues, fabric_of}
 pub use Rattle.cq_fabric.specs.{Holding.CanHold, Released.HasReleased}
-pub use Rattle.cq_engine.specs.Engine.{CanGoOn, CountsFit, EngineView, HasStopped, HaveBufferRoom, HaveListRoom, IsInStep, IsMadeAs, IsRunning, IsSeen, SlotDone, its_admission, ports_of}
+pub use Rattle.cq_engine.specs.Engine.{CanGoOn, CountsFit, EngineView, HasStopped, HaveBufferRoom, HaveListRoom, IsInStep, IsMadeAs, IsReadyFor, IsRunning, IsSeen, SlotDone, its_admission, ports_of}
 pub use Rattle.cq_engine.specs.Measuring.{arriving_slack, slack_seen}
 unfoldable pub use Rattle.cq_engine.specs.Measuring.{input_counted, output_counted}
 pub use Rattle.cq_engine.specs.Straight.{AreApart, AreSent, GoStraight, crossing, input_passed}

@@ -1,12 +1,12 @@
-use Rattle.cq_engine.proofs.Terms.{◌≡◌, ◌+◌, ◌*◌, ◌<◌, ◌≤◌, ◌++◌, ℕ, List, length, get_or, map, refl, sym, ap, ◌∙◌, subst, arith, append_assoc, length-append, ap₂, IfSome, Option, slice_get, max, length-map, Queued, Figures, class_count, Admission, admitted, all_told, fronts, ranking, transfers_of, came_to, EngineView, HoldsFabric, answer_to, fabric_of, AreRanked, HaveArrived, HaveJudged, HaveSent, admits_are, still_holds, came_newest, came_outputs, can_cross_first, can_cross_second, come_apart, few_cross, fits_lists, held_before, its_admission, GoStraight, crossings, length-told}
-use Rattle.cq_engine.specs.{Crossing.CanBeCrossed, Sending.CanSend}
-use Rattle.cq_engine.proofs.Shown.{Begun, at_most, begun, buffers_room, can_take_in, lists_room, ranked}
+use Rattle.cq_engine.proofs.Terms.{◌≡◌, ◌+◌, ◌*◌, ◌<◌, ◌≤◌, ◌++◌, ℕ, List, length, get_or, map, refl, sym, ap, ◌∙◌, arith, append_assoc, length-append, ap₂, IfSome, Option, slice_get, max, length-map, Queued, Figures, Admission, admitted, fronts, ranking, transfers_of, came_to, EngineView, HoldsFabric, answer_to, fabric_of, HaveArrived, HaveJudged, HaveSent, admits_are, still_holds, came_newest, came_outputs, can_cross_first, can_cross_second, come_apart, few_cross, fits_lists, held_before, its_admission, GoStraight, crossings, length-told, HasJudged, Cell, LimiterView, Queues, RoomView, Transfer}
+use Rattle.cq_engine.specs.{Crossing.CanBeCrossed, Crossing.HasCrossed, Sending.CanSend}
+use Rattle.cq_engine.proofs.Shown.{Begun, at_most, begun, buffers_room, can_take_in, lists_room, taken}
 use Rattle.cq_engine.proofs.Done.{made_as, slot_done, stopped_as}
 use Rattle.cq_engine.proofs.Slot.{HaveCrossed, Whole, moved_of, still_runs, whole_slot}
 use Rattle.cq_engine.proofs.StraightSlot.{at_most_square, crossings_few, held_straight, whole_straight}
 use Rattle.cq_engine.proofs.engine.Engine.slot.Given as given
 use Rattle.cq_engine.proofs.engine.Engine.slot.Goals as goal
-use Rattle.cq_engine.proofs.engine.Engine.slot.Goals.{After-arrive, After-cross-first, After-cross-second, After-depart, After-take_in, After-of_outputs, After-pass-crossed, After-self, In_default}
+use Rattle.cq_engine.proofs.engine.Engine.slot.Goals.{After-arrive, After-cross-second, After-depart, After-take_in, After-of_outputs, After-pass-crossed, After-self}
 
 -- ## Numbers
 
@@ -37,14 +37,8 @@ known : (g : given.Over) (c : After-self g) →
 known g c =
     let e = c.self.inside in
     begun g.R.Rank.machine c.args.self.now e.ranks.fixed e.ranks.states e.queues e.limiter e.figures e.next e.look
-    e.stopped c.self.view_is c.self.invariant.1 c.args.slot c.args.arrivals.now (record {
-      running = c.requires.running;
-      next = c.requires.next;
-      come = c.requires.arrivals;
-      list_room = c.requires.ready.list_room;
-      buffer_room = c.requires.ready.buffer_room;
-      refused = c.requires.ready.refused;
-    })
+    e.stopped c.self.view_is c.self.invariant.1 c.args.slot c.args.arrivals.now c.requires.running c.requires.next
+    c.requires.arrivals c.requires.ready
 
 -- clauses see as many machines as there are inputs
 ports_seen : (g : given.Over) (c : After-self g) → length c.self.inside.queues.inputs ≡ length c.args.self.now.fixed
@@ -68,17 +62,6 @@ asks g c holds =
     ∙ ap (λ (v : EngineView). ranking (map g.R.Rank.machine v.fixed) c.args.slot 0 (its_admission cells v).cells
     v.fabric.ranks) c.self.view_is
 
--- once what is admitted has its keys
-taken : (g : given.Over) (c : In_default g) →
-    Begun (map g.R.Rank.machine c.self.inside.ranks.fixed) c.args.slot c.args.arrivals.now c.self.inside.queues
-    c.self.inside.ranks.states c.self.inside.limiter c.self.inside.look c.self.inside.figures →
-    AreRanked (map g.R.Rank.machine c.self.inside.ranks.fixed) c.args.slot c.self.inside.queues
-    c.self.inside.ranks.states (admitted c.take_in.new.limiter.marks c.args.arrivals.now)
-    (class_count (map g.R.Rank.machine c.self.inside.ranks.fixed)) c.take_in.new.came c.take_in.new.ranks.states
-taken g c begins =
-    ranked begins c.take_in.new.limiter.marks c.take_in.new.came c.take_in.new.ranks.states
-    c.in_default.ensures.taken.ranked
-
 -- once it has arrived
 arrived : (g : given.Over) (c : After-arrive g) →
     HaveArrived c.self.inside.queues c.take_in.new.came c.arrive.new.self
@@ -91,15 +74,9 @@ arrived g c =
     }
 
 -- what each output holds then
-judged : (g : given.Over) (c : After-take_in g) →
-    HaveJudged (admitted c.take_in.new.limiter.marks c.args.arrivals.now) c.self.inside.limiter c.take_in.new.limiter
-judged g c =
-    let judges = c.take_in.ensures.judged in
-    record {
-      limits = judges.limits;
-      as_many = judges.ports.held ∙ ap length judges.limits;
-      more = judges.held;
-    }
+judged : {cells : List (Option Cell)} {old new : LimiterView} → HasJudged cells old new →
+    HaveJudged (admitted new.marks cells) old new
+judged did = record { limits = did.limits; as_many = did.ports.held ∙ ap length did.limits; more = did.held }
 
 -- these cells can be sent, if each output that sends one holds a cell
 can_send : (g : given.Over) (c : After-take_in g) →
@@ -119,7 +96,7 @@ can_send g c begins seen gone long {x} outputs holds =
       early = c.requires.early;
       machines = fixed ∙ sym many ∙ sym ports;
       states = c.take_in.ensures.many ∙ begins.running.ranks ∙ many ∙ sym fixed;
-      held = (judged g c).as_many ∙ begins.running.holds.ports ∙ sym long;
+      held = (judged c.take_in.ensures.judged).as_many ∙ begins.running.holds.ports ∙ sym long;
       holds = holds;
       sent = at_most _ _ _ (long ∙ seen) c.requires.ready.sent_room;
       outputs = ap length outputs ∙ step.outputs ∙ sym ports;
@@ -127,11 +104,10 @@ can_send g c begins seen gone long {x} outputs holds =
           c.requires.early;
     }
 
--- once the first matching has crossed
-crossed : (g : given.Over) (c : After-cross-first g) →
-    HaveCrossed c.cross-first.ensures.matching c.cross-first.result c.arrive.new.self c.cross-first.new.queues
-crossed g c =
-    let did = c.cross-first.ensures in record { best = did.best; counted = did.count; moves = did.moves }
+-- once a matching has crossed
+crossed : {slot phase : ℕ} {q q' : Queues} {note note' : RoomView Transfer} {made : ℕ}
+    (did : HasCrossed slot phase q q' note note' made) → HaveCrossed did.matching made q q'
+crossed did = record { best = did.best; counted = did.count; moves = did.moves }
 
 -- once the outputs have sent, and the machines are told
 sent : (g : given.Over) (c : After-depart g) →
@@ -141,17 +117,9 @@ sent g c =
     record {
       inputs = c.depart.ensures.inputs;
       buffers = c.depart.ensures.buffers;
-      told = c.depart.ensures.sent.told ∙ ap (λ (fixed : List (List ℕ)). all_told (map g.R.Rank.machine fixed)
-          (fronts c.cross-first.new.queues.buffers) c.take_in.new.ranks.states) c.take_in.ensures.fixed;
+      told = rw c.take_in.ensures.fixed at c.depart.ensures.sent.told;
       to_outputs = c.depart.ensures.to_outputs ∙ c.cross-first.ensures.to_outputs;
     }
-
--- once the second matching has crossed too
-crossed_again : (g : given.Over) (c : After-cross-second g) →
-    HaveCrossed c.cross-second.ensures.matching c.cross-second.result c.depart.new.queues
-    c.cross-second.new.queues
-crossed_again g c =
-    let did = c.cross-second.ensures in record { best = did.best; counted = did.count; moves = did.moves }
 
 -- all that the slot comes to
 whole : (g : given.Over) (c : goal.After-count_proposals-2 g) →
@@ -159,18 +127,17 @@ whole : (g : given.Over) (c : goal.After-count_proposals-2 g) →
     (admitted c.take_in.new.limiter.marks c.args.arrivals.now) c.self.inside.figures c.count_proposals-2.new.figures
     (fabric_of c.self.inside.queues c.self.inside.ranks.states)
     (fabric_of c.cross-second.new.queues c.depart.new.ranks.states)
-    (taken g (goal.at.returns-clause-slot g c).In_default
-    (known g (goal.at.returns-clause-slot g c).After-self)).ideal
+    (taken (known g (goal.at.returns g c).After-self) c.in_default.ensures.taken).ideal
     (fronts c.cross-first.new.queues.buffers)
     (transfers_of c.cross-first.ensures.matching c.arrive.new.self.inputs c.args.slot 1
     ++ transfers_of c.cross-second.ensures.matching c.depart.new.queues.inputs c.args.slot 2)
 whole g c =
-    let at = goal.at.returns-clause-slot g c in
+    let at = goal.at.returns g c in
     let begins = known g at.After-self in
-    whole_slot c.self.inside.figures begins.running.in_step (taken g at.In_default begins) (arrived g at.After-arrive)
-    (buffers_room begins c.take_in.new.limiter.marks) (crossed g at.After-cross-first) (sent g at.After-depart)
-    (crossed_again g at.After-cross-second) c.self.inside.look begins.running.seen c.count_proposals-2.new.figures
-    (record {
+    whole_slot c.self.inside.figures begins.running.in_step (taken begins c.in_default.ensures.taken)
+    (arrived g at.After-arrive) (buffers_room begins c.take_in.new.limiter.marks) (crossed c.cross-first.ensures)
+    (sent g at.After-depart) (crossed c.cross-second.ensures) c.self.inside.look begins.running.seen
+    c.count_proposals-2.new.figures (record {
       slots = c.count_proposals-2.ensures.slots ∙ c.depart.ensures.sent.slots;
       proposed = c.count_proposals-2.ensures.proposals ∙ ap (λ (n : ℕ). n + (c.cross-first.result
           + c.cross-second.result)) c.depart.ensures.sent.proposals;
@@ -186,14 +153,6 @@ whole g c =
 straight : (g : given.Over) (c : After-of_outputs g) →
     GoStraight c.self.inside.queues c.take_in.new.came c.of_outputs.result.now
 straight g c = rw (c.of_outputs.ensures, c.ports-ports.ensures.value) (c.go_straight.ensures.sent c.if-go_straight.true)
-
--- what the machines are told
-told_straight : (g : given.Over) (c : After-pass-crossed g) →
-    c.pass-crossed.new.ranks.states
-    ≡ all_told (map g.R.Rank.machine c.self.inside.ranks.fixed) c.of_outputs.result.now c.take_in.new.ranks.states
-told_straight g c =
-    c.pass-crossed.ensures.sent.told ∙ ap (λ (fixed : List (List ℕ)). all_told (map g.R.Rank.machine fixed)
-    c.of_outputs.result.now c.take_in.new.ranks.states) c.take_in.ensures.fixed
 
 -- no more cells cross than there are ports
 few_proposed : (g : given.Over) (c : After-pass-crossed g) →
@@ -223,19 +182,18 @@ all_straight : (g : given.Over) (c : goal.After-count_proposals g) →
     (admitted c.take_in.new.limiter.marks c.args.arrivals.now) c.self.inside.figures c.count_proposals.new.figures
     (fabric_of c.self.inside.queues c.self.inside.ranks.states)
     (fabric_of c.self.inside.queues c.pass-crossed.new.ranks.states)
-    (taken g (goal.at.returns-then-go_straight-clause-slot g c).In_default
-    (known g (goal.at.returns-then-go_straight-clause-slot g c).After-self)).ideal
+    (taken (known g (goal.at.returns-then-go_straight g c).After-self) c.in_default.ensures.taken).ideal
     c.of_outputs.result.now (crossings c.args.slot (length c.self.inside.queues.inputs) c.take_in.new.came)
 all_straight g c =
-    let at = goal.at.returns-then-go_straight-clause-slot g c in
+    let at = goal.at.returns-then-go_straight g c in
     let begins = known g at.After-self in
     let marks = c.take_in.new.limiter.marks in
     let is = straight g at.After-of_outputs in
     let many =
     c.pass-crossed.ensures.many ∙ ap (λ (n : ℕ). length (crossings c.args.slot n c.take_in.new.came)) is.ports in
-    whole_straight (taken g at.In_default begins) (lists_room begins marks) is (buffers_room begins marks)
+    whole_straight (taken begins c.in_default.ensures.taken) (lists_room begins marks) is (buffers_room begins marks)
     c.self.inside.figures begins.running.in_step c.self.inside.look begins.running.seen c.pass-crossed.new.ranks.states
-    (told_straight g at.After-pass-crossed) c.count_proposals.new.figures (record {
+    (rw c.take_in.ensures.fixed at c.pass-crossed.ensures.sent.told) c.count_proposals.new.figures (record {
       slots = c.count_proposals.ensures.slots ∙ c.pass-crossed.ensures.sent.slots;
       proposed = c.count_proposals.ensures.proposals ∙ ap₂ (λ (n m : ℕ). n + (m + 0))
           c.pass-crossed.ensures.sent.proposals many;
@@ -253,40 +211,28 @@ take_in-requires g c =
 
 pub go_straight-requires : goal.go_straight-requires
 go_straight-requires g c =
-    let at = goal.at.go_straight-requires g c in came_outputs (taken g at.In_default (known g at.After-self))
+    let at = goal.at.go_straight-requires g c in came_outputs (taken (known g at.After-self) c.in_default.ensures.taken)
 
 pub of_outputs-requires : goal.of_outputs-requires
 of_outputs-requires g c = at_most _ _ _ c.ports-ports.ensures.value c.ports-ports.ensures.few
 
-pub pass-crossed-requires-clause-send : goal.pass-crossed-requires-clause-send
-pass-crossed-requires-clause-send g c =
-    let at = goal.at.pass-crossed-requires-clause-send g c in
+pub pass-crossed-requires : goal.pass-crossed-requires
+pass-crossed-requires g c =
+    let at = goal.at.pass-crossed-requires g c in
     let begins = known g at.After-self in
+    let step = begins.running.in_step in
+    let seen = ports_seen g at.After-self in
     let marks = c.take_in.new.limiter.marks in
     let is = straight g at.After-of_outputs in
-    can_send g at.After-take_in begins (ports_seen g at.After-self) c.of_outputs.result.now is.ports refl
-    (held_straight (taken g at.In_default begins) (lists_room begins marks) is (buffers_room begins marks)
-    begins.running.holds (judged g at.After-take_in))
-
-pub pass-crossed-requires-clause-few : goal.pass-crossed-requires-clause-few
-pass-crossed-requires-clause-few g c =
-    let is = straight g (goal.at.pass-crossed-requires-clause-few g c).After-of_outputs in
-    at_most _ _ _ is.ports c.ports-ports.ensures.few
-
-pub pass-crossed-requires-clause-note : goal.pass-crossed-requires-clause-note
-pass-crossed-requires-clause-note g c =
-    let at = goal.at.pass-crossed-requires-clause-note g c in
-    half _ _ _ ((straight g at.After-of_outputs).ports ∙ ports_seen g at.After-self) c.requires.ready.note_room
-
-pub pass-crossed-requires-clause-inputs : goal.pass-crossed-requires-clause-inputs
-pass-crossed-requires-clause-inputs g c =
-    let at = goal.at.pass-crossed-requires-clause-inputs g c in
-    (known g at.After-self).running.in_step.inputs ∙ sym (straight g at.After-of_outputs).ports
-
-pub pass-crossed-requires-clause-input_counts : goal.pass-crossed-requires-clause-input_counts
-pass-crossed-requires-clause-input_counts g c =
-    let begins = known g (goal.at.pass-crossed-requires-clause-input_counts g c).After-self in
-    λ i x at. below _ _ _ (begins.running.in_step.counts.inputs i x at) c.requires.early
+    record {
+      few = at_most _ _ _ is.ports c.ports-ports.ensures.few;
+      send = can_send g at.After-take_in begins seen c.of_outputs.result.now is.ports refl
+          (held_straight (taken begins c.in_default.ensures.taken) (lists_room begins marks) is
+          (buffers_room begins marks) begins.running.holds (judged c.take_in.ensures.judged));
+      note = half _ _ _ (is.ports ∙ seen) c.requires.ready.note_room;
+      inputs = step.inputs ∙ sym is.ports;
+      input_counts = λ i x at. below _ _ _ (step.counts.inputs i x at) c.requires.early;
+    }
 
 pub count_proposals-requires : goal.count_proposals-requires
 count_proposals-requires g c =
@@ -298,30 +244,22 @@ pub arrive-requires : goal.arrive-requires
 arrive-requires g c =
     let at = goal.at.arrive-requires g c in
     let begins = known g at.After-self in
-    let come = taken g at.In_default begins in
+    let come = taken begins c.in_default.ensures.taken in
     let room = lists_room begins c.take_in.new.limiter.marks in
     record { fit = fits_lists come room; come = come_apart come }
 
-pub count_inputs-requires-clause-outputs : goal.count_inputs-requires-clause-outputs
-count_inputs-requires-clause-outputs g c =
-    let at = goal.at.count_inputs-requires-clause-outputs g c in
-    let come = taken g at.In_default (known g at.After-self) in
-    λ i q is. subst (λ (n : ℕ). q.cell.output < n) (sym c.arrive.ensures.ports) (came_outputs come i q is)
-
-pub count_inputs-requires-clause-newest : goal.count_inputs-requires-clause-newest
-count_inputs-requires-clause-newest g c =
-    let at = goal.at.count_inputs-requires-clause-newest g c in
-    came_newest (taken g at.In_default (known g at.After-self)) (arrived g at.After-arrive)
-
-pub count_inputs-requires-clause-ports : goal.count_inputs-requires-clause-ports
-count_inputs-requires-clause-ports g c =
-    (known g (goal.at.count_inputs-requires-clause-ports g c).After-self).running.in_step.inputs
-    ∙ sym c.arrive.ensures.ports
-
-pub count_inputs-requires-clause-counts : goal.count_inputs-requires-clause-counts
-count_inputs-requires-clause-counts g c =
-    let begins = known g (goal.at.count_inputs-requires-clause-counts g c).After-self in
-    λ i x at. below _ _ _ (begins.running.in_step.counts.inputs i x at) c.requires.early
+pub count_inputs-requires : goal.count_inputs-requires
+count_inputs-requires g c =
+    let at = goal.at.count_inputs-requires g c in
+    let begins = known g at.After-self in
+    let step = begins.running.in_step in
+    let come = taken begins c.in_default.ensures.taken in
+    record {
+      ports = step.inputs ∙ sym c.arrive.ensures.ports;
+      outputs = λ i q is. rw c.arrive.ensures.ports (came_outputs come i q is);
+      newest = came_newest come (arrived g at.After-arrive);
+      counts = λ i x at. below _ _ _ (step.counts.inputs i x at) c.requires.early;
+    }
 
 pub cross-first-requires-clause-can : goal.cross-first-requires-clause-can
 cross-first-requires-clause-can g c =
@@ -331,7 +269,7 @@ cross-first-requires-clause-can g c =
     record {
       workers = c.self.invariant.0;
       cells =
-          can_cross_first (taken g at.In_default begins) (arrived g at.After-arrive)
+          can_cross_first (taken begins c.in_default.ensures.taken) (arrived g at.After-arrive)
           (buffers_room begins c.take_in.new.limiter.marks);
       room = half _ _ _ (c.arrive.ensures.ports ∙ ports_seen g at.After-self) c.requires.ready.note_room;
     } in
@@ -342,19 +280,19 @@ depart-requires g c =
     let at = goal.at.depart-requires g c in
     let begins = known g at.After-self in
     let buffers = c.cross-first.new.queues.buffers in
-    let moved = moved_of (crossed g at.After-cross-first) in
+    let moved = moved_of (crossed c.cross-first.ensures) in
     let long : length (fronts buffers) ≡ length c.self.inside.queues.inputs =
     length-map buffers _ ∙ moved.moves.ports.1 ∙ ap length c.arrive.ensures.buffers
     ∙ c.ports-ports.ensures.buffers in
-    can_send g at.After-take_in begins (ports_seen g at.After-self) (fronts buffers) long refl (held_before
-    (taken g at.In_default begins) (arrived g at.After-arrive) (buffers_room begins c.take_in.new.limiter.marks)
-    moved begins.running.holds (judged g at.After-take_in))
+    can_send g at.After-take_in begins (ports_seen g at.After-self) (fronts buffers) long refl
+    (held_before (taken begins c.in_default.ensures.taken) (arrived g at.After-arrive)
+    (buffers_room begins c.take_in.new.limiter.marks) moved begins.running.holds (judged c.take_in.ensures.judged))
 
 pub cross-second-requires-clause-can : goal.cross-second-requires-clause-can
 cross-second-requires-clause-can g c =
     let at = goal.at.cross-second-requires-clause-can g c in
     let begins = known g at.After-self in
-    let moved = moved_of (crossed g at.After-cross-first) in
+    let moved = moved_of (crossed c.cross-first.ensures) in
     let few = few_cross c.cross-first.ensures.matching c.arrive.new.self.inputs c.args.slot 1 moved.stable.matching in
     let first = c.arrive.ensures.ports ∙ ports_seen g at.After-self in
     let second = ap length c.depart.ensures.inputs ∙ moved.moves.ports.0 ∙ first in
@@ -362,7 +300,7 @@ cross-second-requires-clause-can g c =
     record {
       workers = c.self.invariant.0;
       cells =
-          can_cross_second (taken g at.In_default begins) (arrived g at.After-arrive)
+          can_cross_second (taken begins c.in_default.ensures.taken) (arrived g at.After-arrive)
           (buffers_room begins c.take_in.new.limiter.marks) moved (sent g at.After-depart);
       room = half_left _ _ _ _ _ _ first second few c.cross-first.ensures.note_room c.requires.ready.note_room;
     } in
@@ -377,14 +315,15 @@ count_proposals-requires-2 g c =
 
 pub invariant_of-self-2 : goal.invariant_of-self-2
 invariant_of-self-2 g c =
-    let at = goal.at.returns-clause-slot g c in
+    let at = goal.at.returns g c in
     let begins = known g at.After-self in
     let done = whole g c in
     let next = sent g at.After-depart in
     let gone = fronts c.cross-first.new.queues.buffers in
     let long = length-told (map g.R.Rank.machine c.self.inside.ranks.fixed) gone c.take_in.new.ranks.states in
-    let holds = still_holds (taken g at.In_default begins) gone _ c.self.inside.limiter c.take_in.new.limiter
-    c.depart.new.limiter done.alike begins.running.holds (judged g at.After-take_in) c.depart.ensures.sent.released in
+    let holds = still_holds (taken begins c.in_default.ensures.taken) gone _ c.self.inside.limiter c.take_in.new.limiter
+    c.depart.new.limiter done.alike begins.running.holds (judged c.take_in.ensures.judged)
+    c.depart.ensures.sent.released in
     let runs = still_runs done (ap length next.told ∙ long ∙ c.take_in.ensures.many ∙ begins.running.ranks) holds in
     (c.self.invariant.0, λ _. rw (c.depart.ensures.sent.fixed ∙ c.take_in.ensures.fixed) runs)
 
@@ -396,60 +335,84 @@ returns-in-Err-clause-answer g c =
 
 pub invariant_of-self-then-go_straight : goal.invariant_of-self-then-go_straight
 invariant_of-self-then-go_straight g c =
-    let at = goal.at.returns-then-go_straight-clause-slot g c in
+    let at = goal.at.returns-then-go_straight g c in
     let begins = known g at.After-self in
     let done = all_straight g c in
     let gone = c.of_outputs.result.now in
-    let told = told_straight g at.After-pass-crossed in
+    let told = rw c.take_in.ensures.fixed at c.pass-crossed.ensures.sent.told in
     let long = length-told (map g.R.Rank.machine c.self.inside.ranks.fixed) gone c.take_in.new.ranks.states in
-    let holds = still_holds (taken g at.In_default begins) gone _ c.self.inside.limiter c.take_in.new.limiter
-    c.pass-crossed.new.limiter done.alike begins.running.holds (judged g at.After-take_in)
+    let holds = still_holds (taken begins c.in_default.ensures.taken) gone _ c.self.inside.limiter c.take_in.new.limiter
+    c.pass-crossed.new.limiter done.alike begins.running.holds (judged c.take_in.ensures.judged)
     c.pass-crossed.ensures.sent.released in
     let runs = still_runs done (ap length told ∙ long ∙ c.take_in.ensures.many ∙ begins.running.ranks) holds in
     (c.self.invariant.0, λ _. rw (c.pass-crossed.ensures.sent.fixed ∙ c.take_in.ensures.fixed) runs)
 
-pub returns-then-go_straight-clause-answer : goal.returns-then-go_straight-clause-answer
-returns-then-go_straight-clause-answer g c =
-    let at = goal.at.returns-then-go_straight-clause-answer g c in
-    let holds = (known g at.After-self).running.holds in
-    sym (ap answer_to (sym (asks g at.After-take_in holds) ∙ c.in_default.ensures.taken.ranked))
-
-pub returns-then-go_straight-clause-slot : goal.returns-then-go_straight-clause-slot
-returns-then-go_straight-clause-slot g c =
-    let at = goal.at.returns-then-go_straight-clause-slot g c in
+pub returns-then-go_straight : goal.returns-then-go_straight
+returns-then-go_straight g c =
+    let at = goal.at.returns-then-go_straight g c in
     let e = c.self.inside in
     let slot = c.args.slot in
     let came = c.take_in.new.came in
+    let holds = (known g at.After-self).running.holds in
     let is = straight g at.After-of_outputs in
     let did = c.pass-crossed.ensures in
-    slot_done g.R.Rank.machine e.ranks.fixed e.ranks.states e.queues e.limiter c.take_in.new.limiter e.figures e.next
-    e.stopped c.self.view_is (known g at.After-self).running.holds c.take_in.ensures.judged.marks
-    c.in_default.ensures.taken.refused c.pass-crossed.new.ranks.fixed c.pass-crossed.new.ranks.states e.queues
-    c.pass-crossed.new.limiter c.count_proposals.new.figures (slot + 1) (all_straight g c) did.sent.released
-    did.sent.left (did.note ∙ ap (λ (n : ℕ). c.args.note.now.items ++ crossings slot n came) is.ports)
-    (ap (λ (n : ℕ). c.pass-crossed.new.note.spare + length (crossings slot n came)) (sym is.ports) ∙ did.note_room)
+    record {
+      answer = sym (ap answer_to (sym (asks g at.After-take_in holds) ∙ c.in_default.ensures.taken.ranked));
+      slot = slot_done g.R.Rank.machine e.ranks.fixed e.ranks.states e.queues e.limiter c.take_in.new.limiter e.figures
+          e.next e.stopped c.self.view_is holds c.take_in.ensures.judged.marks c.in_default.ensures.taken.refused
+          c.pass-crossed.new.ranks.fixed c.pass-crossed.new.ranks.states e.queues c.pass-crossed.new.limiter
+          c.count_proposals.new.figures (slot + 1) (all_straight g c) did.sent.released did.sent.left
+          (did.note ∙ ap (λ (n : ℕ). c.args.note.now.items ++ crossings slot n came) is.ports)
+          (ap (λ (n : ℕ). c.pass-crossed.new.note.spare + length (crossings slot n came)) (sym is.ports)
+          ∙ did.note_room);
+      went_on = record {
+        next = refl;
+        few = at_most _ _ _ c.count_proposals.ensures.proposals
+            (few_proposed g at.After-pass-crossed (ports_seen g at.After-self) is);
+      };
+      made = made_as c.self.view_is (record {
+        fixed = did.sent.fixed ∙ c.take_in.ensures.fixed;
+        limits = did.sent.released.judges.limits ∙ c.take_in.ensures.judged.limits;
+        from_inputs = refl;
+        to_outputs = refl;
+      });
+      stopped = ap (λ (v : EngineView). v.stopped) c.self.view_is ∙ c.requires.running;
+      stays = tt;
+    }
 
-pub returns-clause-answer : goal.returns-clause-answer
-returns-clause-answer g c =
-    let at = goal.at.returns-clause-answer g c in
-    let holds = (known g at.After-self).running.holds in
-    sym (ap answer_to (sym (asks g at.After-take_in holds) ∙ c.in_default.ensures.taken.ranked))
-
-pub returns-clause-slot : goal.returns-clause-slot
-returns-clause-slot g c =
+pub returns : goal.returns
+returns g c =
+    let at = goal.at.returns g c in
     let e = c.self.inside in
     let slot = c.args.slot in
     let first = transfers_of c.cross-first.ensures.matching c.arrive.new.self.inputs slot 1 in
     let second = transfers_of c.cross-second.ensures.matching c.depart.new.queues.inputs slot 2 in
+    let holds = (known g at.After-self).running.holds in
     let one = c.cross-first.ensures in
+    let sent = c.depart.ensures in
     let two = c.cross-second.ensures in
-    slot_done g.R.Rank.machine e.ranks.fixed e.ranks.states e.queues e.limiter c.take_in.new.limiter e.figures e.next
-    e.stopped c.self.view_is (known g (goal.at.returns-clause-slot g c).After-self).running.holds
-    c.take_in.ensures.judged.marks c.in_default.ensures.taken.refused c.depart.new.ranks.fixed
-    c.depart.new.ranks.states c.cross-second.new.queues c.depart.new.limiter c.count_proposals-2.new.figures (slot + 1)
-    (whole g c) c.depart.ensures.sent.released c.depart.ensures.sent.left
-    (two.noted ∙ ap (λ l. l ++ second) one.noted ∙ append_assoc c.args.note.now.items first second)
-    (omega (arith, length-append first second))
+    record {
+      answer = sym (ap answer_to (sym (asks g at.After-take_in holds) ∙ c.in_default.ensures.taken.ranked));
+      slot = slot_done g.R.Rank.machine e.ranks.fixed e.ranks.states e.queues e.limiter c.take_in.new.limiter e.figures
+          e.next e.stopped c.self.view_is holds c.take_in.ensures.judged.marks c.in_default.ensures.taken.refused
+          c.depart.new.ranks.fixed c.depart.new.ranks.states c.cross-second.new.queues c.depart.new.limiter
+          c.count_proposals-2.new.figures (slot + 1) (whole g c) sent.sent.released sent.sent.left
+          (two.noted ∙ ap (λ l. l ++ second) one.noted ∙ append_assoc c.args.note.now.items first second)
+          (omega (arith, length-append first second));
+      went_on = record {
+        next = refl;
+        few = at_most _ _ _ c.count_proposals-2.ensures.proposals
+            (few_crossed g at.After-cross-second (ports_seen g at.After-self));
+      };
+      made = made_as c.self.view_is (record {
+        fixed = sent.sent.fixed ∙ c.take_in.ensures.fixed;
+        limits = sent.sent.released.judges.limits ∙ c.take_in.ensures.judged.limits;
+        from_inputs = two.from_inputs ∙ sent.from_inputs ∙ one.from_inputs ∙ c.arrive.ensures.from_inputs;
+        to_outputs = two.to_outputs ∙ sent.to_outputs ∙ one.to_outputs ∙ c.arrive.ensures.to_outputs;
+      });
+      stopped = ap (λ (v : EngineView). v.stopped) c.self.view_is ∙ c.requires.running;
+      stays = tt;
+    }
 
 -- ## What stays
 
@@ -473,45 +436,3 @@ returns-in-Err-clause-made g c =
       from_inputs = refl;
       to_outputs = refl;
     })
-
-pub returns-then-go_straight-clause-made : goal.returns-then-go_straight-clause-made
-returns-then-go_straight-clause-made g c =
-    let did = c.pass-crossed.ensures.sent in
-    made_as c.self.view_is (record {
-      fixed = did.fixed ∙ c.take_in.ensures.fixed;
-      limits = did.released.judges.limits ∙ c.take_in.ensures.judged.limits;
-      from_inputs = refl;
-      to_outputs = refl;
-    })
-
-pub returns-clause-made : goal.returns-clause-made
-returns-clause-made g c =
-    let did = c.depart.ensures in
-    let first = c.cross-first.ensures in
-    made_as c.self.view_is (record {
-      fixed = did.sent.fixed ∙ c.take_in.ensures.fixed;
-      limits = did.sent.released.judges.limits ∙ c.take_in.ensures.judged.limits;
-      from_inputs =
-          c.cross-second.ensures.from_inputs ∙ did.from_inputs ∙ first.from_inputs ∙ c.arrive.ensures.from_inputs;
-      to_outputs = c.cross-second.ensures.to_outputs ∙ did.to_outputs ∙ first.to_outputs ∙ c.arrive.ensures.to_outputs;
-    })
-
-pub returns-then-go_straight-clause-stopped : goal.returns-then-go_straight-clause-stopped
-returns-then-go_straight-clause-stopped g c = ap (λ (v : EngineView). v.stopped) c.self.view_is ∙ c.requires.running
-
-pub returns-clause-stopped : goal.returns-clause-stopped
-returns-clause-stopped g c = ap (λ (v : EngineView). v.stopped) c.self.view_is ∙ c.requires.running
-
--- ## The next slot
-
-pub returns-then-go_straight-clause-went_on : goal.returns-then-go_straight-clause-went_on
-returns-then-go_straight-clause-went_on g c =
-    let at = goal.at.returns-then-go_straight-clause-went_on g c in
-    let few = few_proposed g at.After-pass-crossed (ports_seen g at.After-self) (straight g at.After-of_outputs) in
-    record { next = refl; few = at_most _ _ _ c.count_proposals.ensures.proposals few }
-
-pub returns-clause-went_on : goal.returns-clause-went_on
-returns-clause-went_on g c =
-    let at = goal.at.returns-clause-went_on g c in
-    let few = few_crossed g at.After-cross-second (ports_seen g at.After-self) in
-    record { next = refl; few = at_most _ _ _ c.count_proposals-2.ensures.proposals few }
