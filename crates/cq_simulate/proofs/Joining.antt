@@ -3,6 +3,7 @@
 -- packets. So each cell is the next of the packet that is open, or the first of one where none is; and at the last
 -- cell of a packet all its pieces are together, which are its frame.
 use Rattle.cq_simulate.proofs.Terms.{common_steps, flat_map-map, length-map-range_with_len, rules, ◌≡◌, ℕ, zero, suc, ◌+◌, ◌-◌, ◌*◌, ◌<◌, true, List, [], ◌∷◌, ◌++◌, length, map, flat_map, take, drop, min, Option, Some, None, refl, sym, ap, ◌∙◌, subst, arith, ◌==◌, filter, range_with_len, eqb-true, eq-eqb, ne_eqb, append-nil, flat_map-append, Cell, packet_at, cells, cells_of, cell_of, arrivals, came_in_flow, Captured, open_after, Fits, opened, piece_at, AreTables, ports_of, Tables, of_packet, AreCutFrom, Piece, Open, bytes_taken, with_piece, pieces_give_frame, range_more}
+use Rattle.cq_simulate.proofs.OfPackets.{packet_cells}
 use Rattle.cq_simulate.proofs.SomePackets.{flow_is, packets_in, parts_of}
 
 -- ## What a cell carries
@@ -96,10 +97,6 @@ module _ (t : Tables) (captures : List (List Captured)) (input : ℕ) (some : 0 
   after_cell k m zero e = grind (arith, common_steps, eq-eqb)
   after_cell k m (suc r) e = grind (arith, common_steps, ne_eqb, piece_is, grown_is)
 
-  -- all cells of a packet
-  abbrev packet_cells : ℕ → List Cell
-  packet_cells k = map (cell_of t captures input k) (range_with_len 0 (cells t captures input k))
-
   closed_at_first : (k n : ℕ) → open_with k 0 n ≡ None
   closed_at_first k zero = refl
   closed_at_first k (suc n) = refl
@@ -115,11 +112,11 @@ module _ (t : Tables) (captures : List (List Captured)) (input : ℕ) (some : 0 
 
   -- each cell of some packets, one after another
   each_fits : (ks : List ℕ) (p : List Cell) (cell : Cell) (rest : List Cell) →
-      flat_map packet_cells ks ≡ p ++ cell ∷ rest → Fits captures (opened captures None p) cell
+      flat_map (packet_cells t captures input) ks ≡ p ++ cell ∷ rest → Fits captures (opened captures None p) cell
   each_fits [] [] cell rest is = absurd (let P : ⊥ = cc in P)
   each_fits [] (x ∷ p) cell rest is = absurd (let P : ⊥ = cc in P)
   each_fits (k ∷ ks) p cell rest is = subst (λ (o : Option Open). Fits captures (opened captures o p) cell)
-      (closed_at_first k (cells t captures input k)) (walk k (flat_map packet_cells ks) cell rest
+      (closed_at_first k (cells t captures input k)) (walk k (flat_map (packet_cells t captures input) ks) cell rest
       (λ q same. each_fits ks q cell rest same) (cells t captures input k) 0 (omega arith) p is)
 
   -- ## A flow of some packets
