@@ -30,14 +30,9 @@ can g c = can_run_here (stands g c) c.arrivals.result.now (c.arrivals.ensures âˆ
 pub slots-init : goal.slots-init
 slots-init g c = search (arith, rules, run_begins)
 
-pub slot-requires-clause-early : goal.slot-requires-clause-early
-slot-requires-clause-early g c = omega (arith, can g (goal.at.slot-requires-clause-early g c).After-arrivals)
-
-pub slot-requires-clause-arrivals : goal.slot-requires-clause-arrivals
-slot-requires-clause-arrivals g c = search (arith, rules, can)
-
-pub slot-requires-clause-ready : goal.slot-requires-clause-ready
-slot-requires-clause-ready g c = search (arith, rules, can g (goal.at.slot-requires-clause-ready g c).After-arrivals)
+pub slot-requires : goal.slot-requires
+slot-requires g c =
+    let can = can g (goal.at.slot-requires g c).After-arrivals in search (arith, rules, sym)
 
 pub returns-in_err-slot-clause-refused : goal.returns-in_err-slot-clause-refused
 returns-in_err-slot-clause-refused g c =

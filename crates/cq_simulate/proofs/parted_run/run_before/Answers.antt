@@ -24,14 +24,9 @@ can g c = can_run_here (stands g c) c.arrivals-arrivals.result.now
 pub slots-init : goal.slots-init
 slots-init g c = search (arith, rules, part_begins)
 
-pub slot-requires-clause-early : goal.slot-requires-clause-early
-slot-requires-clause-early g c = search (arith, rules, can)
-
-pub slot-requires-clause-arrivals : goal.slot-requires-clause-arrivals
-slot-requires-clause-arrivals g c = search (arith, rules, can)
-
-pub slot-requires-clause-ready : goal.slot-requires-clause-ready
-slot-requires-clause-ready g c = λ _ _. (can g (goal.at.slot-requires-clause-ready g c).After-arrivals-arrivals).ready
+pub slot-requires : goal.slot-requires
+slot-requires g c =
+    let can = can g (goal.at.slot-requires g c).After-arrivals-arrivals in search (arith, rules, sym)
 
 pub returns-in_err-slot-clause-fault : goal.returns-in_err-slot-clause-fault
 returns-in_err-slot-clause-fault g c =
