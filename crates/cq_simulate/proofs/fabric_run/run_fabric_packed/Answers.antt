@@ -1,4 +1,4 @@
-use Rattle.cq_simulate.proofs.Terms.{arith, rules, sym, ◌∙◌, IfErr-weaker, IfOk-weaker, unpacked_run}
+use Rattle.cq_simulate.proofs.Terms.{arith, rules, IfErr-weaker, IfOk-weaker, unpacked_run}
 use Rattle.cq_simulate.proofs.FabricLaws.{kept_as_ideal, kept_refuses}
 use Rattle.cq_simulate.proofs.FabricOpening.{IsMade, can_begin, made_for, no_run, port_count, run_is_kept}
 use Rattle.cq_simulate.proofs.fabric_run.run_fabric_packed.Given as given
@@ -10,11 +10,9 @@ made : (g : given.Over) (c : In_ok-engine g) →
     IsMade c.args.tables.now c.args.schedule.now c.in_ok-engine.engine c.in_ok-sent.sent c.in_ok-note.note
 made g c = search (arith, rules, made_for)
 
-pub run_on-requires-clause-ready : goal.run_on-requires-clause-ready
-run_on-requires-clause-ready g c = λ _ _. can_begin (made g (goal.at.run_on-requires-clause-ready g c).In_ok-engine)
-
-pub run_on-requires-clause-ports : goal.run_on-requires-clause-ports
-run_on-requires-clause-ports g c = λ _ _. c.port_count-ports.ensures ∙ sym (port_count c.in_ok-engine.ensures)
+pub run_on-requires : goal.run_on-requires
+run_on-requires g c =
+    let ready = can_begin (made g (goal.at.run_on-requires g c).In_ok-engine) in search (arith, rules, port_count)
 
 pub returns-clause-run : goal.returns-clause-run
 returns-clause-run g c = search (arith, rules, IfOk-weaker, run_is_kept, made)

@@ -3,12 +3,11 @@ use Rattle.cq_simulate.proofs.FabricOpening.{can_be_made, thawed_for}
 use Rattle.cq_simulate.proofs.TakenUp.{can_thaw}
 use Rattle.cq_simulate.proofs.parted_run.engine_from.Goals as goal
 
-pub thaw-requires-clause-made : goal.thaw-requires-clause-made
-thaw-requires-clause-made c = search (arith, rules, can_be_made)
-
-pub thaw-requires-clause-goes_on : goal.thaw-requires-clause-goes_on
-thaw-requires-clause-goes_on c = can_thaw c.requires.sound c.requires.fit c.in_ok-ports.ports c.in_ok-ports.ensures
-    c.as_slice-from.ensures.value c.as_slice-to.ensures.value c.as_slice-limits.ensures
+pub thaw-requires : goal.thaw-requires
+thaw-requires c =
+    let goes_on = can_thaw c.requires.sound c.requires.fit c.in_ok-ports.ports c.in_ok-ports.ensures
+    c.as_slice-from.ensures.value c.as_slice-to.ensures.value c.as_slice-limits.ensures in
+    search (arith, rules, can_be_made)
 
 pub returns : goal.returns
 returns c = search (arith, rules, IfOk-weaker, thawed_for)

@@ -3,11 +3,8 @@ use Rattle.cq_simulate.proofs.FabricOpening.{ideal_is_for, ranks_many}
 use Rattle.cq_simulate.specs.ScheduleFor.{by_port}
 use Rattle.cq_simulate.proofs.ports.ideal_for.Goals as goal
 
-pub new-requires-clause-rooms : goal.new-requires-clause-rooms
-new-requires-clause-rooms c = search (arith, rules, ranks_many, length-map-range_with_len)
-
-pub new-requires-clause-limits : goal.new-requires-clause-limits
-new-requires-clause-limits c = search (arith, rules, ranks_many)
+pub new-requires : goal.new-requires
+new-requires c = search (arith, rules, ranks_many, length-map-range_with_len)
 
 pub returns : goal.returns
 returns c =
