@@ -39,7 +39,6 @@ can_hold ms limits from to x can =
     let f = fabric_in x in
     record {
       inputs = λ i inside.
-          let ports : length x.lists ≡ length ms = can.ports.lists in
           record {
             room = can.list_rooms i (omega arith);
             outputs =
@@ -47,9 +46,7 @@ can_hold ms limits from to x can =
             order = can.sound.order i;
             differ = keys_differ f i can.sound.differ;
           };
-      outputs = λ j inside.
-          let ports : length x.buffers ≡ length ms = can.ports.buffers in
-          record { room = can.buffer_rooms j (omega arith); rising = can.sound.fabric.rising j };
+      outputs = search (arith, rules, can.buffer_rooms, can.sound.fabric.rising);
     }
 
 -- ## The engine

@@ -34,7 +34,7 @@ nothing_noted n lists slot phase = grind (arith, common_steps, none_kept, nobody
 pub nothing_crosses : (slot phase : ℕ) (q : Queues) (note : RoomView Transfer) →
     ((i : ℕ) → outputs_of (orders_of q.inputs) i ≡ []) → HasCrossed slot phase q q note note 0
 nothing_crosses slot phase q note none =
-    let free : Option ℕ = None in
+    let free = None in
     let o = orders_of q.inputs in
     let noted = nothing_noted (ports o) q.inputs slot phase in
     record {

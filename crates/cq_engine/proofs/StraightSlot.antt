@@ -102,8 +102,8 @@ none_if (Some x) h = absurd (h x refl)
 rests_alone : (buffers : List (List Queued)) (gone : List (Option Queued)) → length gone ≡ length buffers →
     All (λ cells. cells ≡ []) buffers → buffers ≡ rests (map alone gone)
 rests_alone buffers gone long empty =
-    let nil : List Queued = [] in
-    let none : Option Queued = None in
+    let nil = [] in
+    let none = None in
     let rest : List Queued → List Queued = λ xs. drop 1 xs in
     ext_get_or nil buffers (rests (map alone gone)) (grind (arith, common_steps, length-map)) (λ j below.
     let left = get_or-map rest (map alone gone) j nil in
@@ -221,9 +221,7 @@ module _ {ms : List Machine} {slot : ℕ} {q : Queues} {ranks0 : List (List ℕ)
   once : (i k j : ℕ) → partner_of pairs i ≡ Some j → partner_of pairs k ≡ Some j → i ≡ k
   once i k j h g =
       let a = pair_cell i j h in
-      let b = pair_cell k j g in
-      let own = (keyed known).input_is in
-      grind (arith, common_steps, pair_gone i a.0, pair_gone k b.0, own i a.0, own k b.0)
+      let b = pair_cell k j g in search (arith, rules, keyed known, pair_gone i a.0, pair_gone k b.0)
 
   pairs_stable : IsStable (orders_of lists) pairs
   pairs_stable =
@@ -346,11 +344,6 @@ module _ {ms : List Machine} {slot : ℕ} {q : Queues} {ranks0 : List (List ℕ)
       let fronts_are = fronts_alone gone in
       let notes : transfers_of pairs lists slot 1 ++ transfers_of nobody q.inputs slot 2 ≡ crossings slot n came =
       rw (nothing_noted (ports (orders_of q.inputs)) q.inputs slot 2, append-nil) all_noted in
-      let long = whole_slot x up known arrived room crossed (sent ranks2 told) crossed_again looks seen y (record {
-        slots = rw fronts_are counts.slots;
-        proposed = counts.proposed;
-        most = counts.most;
-        inputs = counts.inputs ∙ counted_passed looks x.inputs;
-        outputs = rw fronts_are counts.outputs;
-      }) in
+      let long = whole_slot x up known arrived room crossed (sent ranks2 told) crossed_again looks seen y
+      (search (arith, rules, counted_passed looks x.inputs)) in
       rw (fronts_are, notes) at long
