@@ -2,7 +2,7 @@
 -- are the others, and each output stands where a walk over its own departures would stand (`SoFar`), with the packets
 -- of that walk in its bytes (`Walked`). One departure more goes on with the walk at its output, and passes by those
 -- at all others.
-use Rattle.cq_simulate.proofs.Terms.{rules, ◌≡◌, ◌≢◌, ℕ, ◌+◌, ◌<◌, ◌≤◌, All, List, [], ◌∷◌, ◌++◌, length, map, drop, get_or, set, Option, Some, None, refl, sym, ap, ◌∙◌, subst, arith, suc, Bool, true, false, take, zero, cond, common_steps, IfSome, ◌==◌, cases_eq, cond-true, cond-false, eq-eqb, ne_eqb, and_from, and_left, and_right, append-nil, drop_more, get_or-set_other, get_or-set_same, length-drop, length-set, map-append, take_more, take-append-drop, get_or_default, unpacked, Departure, Captured, rows_from, ports_of, Tables, ArePacked, HaveLeftOf, ends_packet_at, leaving, packets_out, CanBeJoined, IsEmptied, Took, left_with, records_of, Fits, opened, piece_at, filter, filter-append, All-push, leaves_in_flow, left_in_flow, JoinerView, IsOtherPair, open_after, open_at, packet_at, packets_of, length-rows_from, PackedDeparture, packet_in, written_with, OutPacket, PacketRow}
+use Rattle.cq_simulate.proofs.Terms.{rules, ◌≡◌, ◌≢◌, ℕ, ◌+◌, ◌<◌, ◌≤◌, All, List, [], ◌∷◌, ◌++◌, length, map, drop, get_or, set, Option, Some, None, refl, sym, ap, ◌∙◌, subst, arith, suc, Bool, true, false, take, zero, cond, common_steps, IfSome, cases_eq, cond-true, cond-false, eq-eqb, ne_eqb, and_from, and_left, and_right, append-nil, drop_more, get_or-set_other, get_or-set_same, length-drop, length-set, map-append, take_more, take-append-drop, get_or_default, unpacked, Departure, Captured, rows_from, ports_of, Tables, ArePacked, HaveLeftOf, ends_packet_at, leaving, packets_out, CanBeJoined, IsEmptied, Took, left_with, records_of, Fits, opened, piece_at, filter, filter-append, All-push, leaves_in_flow, left_in_flow, JoinerView, IsOtherPair, open_after, open_at, packet_at, packets_of, length-rows_from, PackedDeparture, written_with, OutPacket, PacketRow}
 use Rattle.cq_pcap.specs.Written.{written}
 use Rattle.cq_simulate.specs.declared.packing.Packing.{Packing}
 use Rattle.cq_simulate.proofs.Departed.{departed_captured, departed_class, departed_output}
@@ -35,8 +35,7 @@ module _ (captures : List (List Captured)) (input k : ℕ) (capture : List Captu
 
   pub original_is : (rows : List PacketRow) (d : PacketRow) → rows ≡ rows_from 24 capture →
       (get_or rows k d).original ≡ (packet_at captures input k).original
-  original_is rows d e = rw e (original_at 24 capture k d _ in_capture
-      ∙ ap (λ (ps : List Captured). (packet_in ps k).original) capture_is)
+  original_is rows d e = rw e (search (arith, rules, original_at, in_capture, capture_is))
 
 -- ## One after another
 
@@ -96,10 +95,7 @@ module _ (t : Tables) (captures : List (List Captured)) (sent : List Departure) 
   pub at_other : {joiner : JoinerView} {packets : List OutPacket} → SoFar t captures sent output k joiner packets →
       d.output ≢ output → SoFar t captures sent output (k + 1) joiner packets
   at_other {packets = packets} so_far ne =
-      let away : (d.output == output) ≡ false = ne_eqb d.output output ne in
-      let made : packets ≡ packets_out t captures (take (k + 1) sent) output =
-      grind (arith, common_steps, next_out, append-nil, cond-false) in
-      search (arith, rules, same_flow)
+      search (arith, rules, next_out, append-nil, cond-false, same_flow)
 
   module _ (here : d.output ≡ output) where
     own_cell : leaves_in_flow d.queued.cell.id.input d.queued.cell.class output d ≡ true
@@ -112,7 +108,7 @@ module _ (t : Tables) (captures : List (List Captured)) (sent : List Departure) 
     cell_fits so_far of_run few =
         let i = d.queued.cell.id.input in
         let c = d.queued.cell.class in
-        let parts : take k sent ++ (d ∷ drop (k + 1) sent) ≡ sent = ap (λ (l : List Departure). take k sent ++ l)
+        let parts = ap (λ (l : List Departure). take k sent ++ l)
         (sym (drop_more sent k e inside)) ∙ take-append-drop k sent in
         let l = of_run.whole i in
         let left = l.left c output in
@@ -144,9 +140,7 @@ module _ (t : Tables) (captures : List (List Captured)) (sent : List Departure) 
         inputs = inputs ∙ so_far.inputs;
         classes = classes ∙ so_far.classes;
         open_packets = open_next;
-        made = pushed ∙ ap (λ (l : List OutPacket). l ++ listed o) so_far.made
-            ∙ ap (λ (l : List OutPacket). packets_out t captures (take k sent) output ++ l) (ap listed is ∙ sym leaves)
-            ∙ sym next_out;
+        made = cc (leaves, next_out);
         small = rw pushed (all_pushed packets o so_far.small small);
       }
 
@@ -197,12 +191,7 @@ none_yet t captures sent left places all outputs emptied = record {
   others = all;
   outputs = outputs;
   each = λ j p inside.
-      let e = emptied j p inside in
-      record {
-        packets = [];
-        so_far = at_first t captures sent j _ [] e.lines e.kinds e.nothing refl;
-        bytes = e.bytes;
-      };
+      let e = emptied j p inside in search (arith, rules, at_first);
 }
 
 module _ {t : Tables} {captures : List (List Captured)} {sent : List Departure} {left rest : List PackedDeparture}
@@ -266,7 +255,7 @@ module _ {t : Tables} {captures : List (List Captured)} {sent : List Departure} 
         at_another : (j : ℕ) (p : Packing) → j < length places → j ≢ d.output →
             Walked t captures sent j (so_far.done + 1) (get_or (set places d.output new) j p)
         at_another j p in_places ne =
-            let was : Walked t captures sent j so_far.done (get_or places j p) = so_far.each j p in_places in
+            let was = so_far.each j p in_places in
             rw (get_or-set_other places d.output j new p ne) (record {
               packets = was.packets;
               so_far = at_other t captures sent j so_far.done d inside was.so_far (λ e. ne (sym e ∙ its_output));

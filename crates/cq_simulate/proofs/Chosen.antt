@@ -2,7 +2,7 @@
 -- at any moment of it: so both its matchings are chosen of orders by first cells. After the slot both agree again. So
 -- it is of a run from the empty fabric on, and of one that goes on from a sound state, whichever stable matchings may
 -- be chosen; and after the arrivals of each slot no slack is below 0.
-use Rattle.cq_simulate.proofs.Terms.{rules, ◌≡◌, ℕ, ◌+◌, List, [], ◌∷◌, length, refl, arith, take_all, Option, Arrival, IsTraffic, traffic_is, schedule_of, Cell, Machine, Marked, empty_limited, first_slots, arriving_from, IdealState, AreForPorts, admission_for_ports, agrees_of, after_sent, arrived, limited_ports_kept, orders_are, same_limited_slot, slots_fit, Fabric, ideal_of, LimitedFabricRun, LimitedFabricSlot, LimitedRecord, empty_limited_fabric, Partners, IsInputBest, IsStable, Captured, IsResumed, Kept, Switch, switch_of, Taken, AreTables, classes_of, ports_of, openings_of, Tables, AlwaysHasSlack, AreChosen, AreInputBest, CanBeTakenUp, GoesOn, each_run, fabric_in, marked_in, IsLimitedFault, Orders, IsParted}
+use Rattle.cq_simulate.proofs.Terms.{rules, ◌≡◌, ℕ, ◌+◌, List, [], ◌∷◌, length, refl, arith, take_all, Option, Arrival, IsTraffic, traffic_is, schedule_of, Cell, Machine, Marked, empty_limited, first_slots, arriving_from, IdealState, AreForPorts, admission_for_ports, agrees_of, after_sent, arrived, orders_are, same_limited_slot, slots_fit, Fabric, ideal_of, LimitedFabricRun, LimitedFabricSlot, LimitedRecord, empty_limited_fabric, Partners, IsInputBest, IsStable, Captured, IsResumed, Kept, Switch, switch_of, Taken, AreTables, classes_of, ports_of, openings_of, Tables, AlwaysHasSlack, AreChosen, AreInputBest, CanBeTakenUp, GoesOn, each_run, fabric_in, marked_in, Orders, IsParted}
 use Rattle.cq_laws.proofs.LimitedWhole.{Stands, begin, limited_run_slack}
 use Rattle.cq_simulate.proofs.TakenUp.{goes_of, machines_many}
 
@@ -20,7 +20,6 @@ module _ (MayChoose : Orders → Partners → Type 0)
   each_chosen slot (cells ∷ traffic) f g ideal (r ∷ rs) s (next, is, rest) =
       let step = stable_step slot cells f next r is in
       let one = same_limited_slot limits ms slot class_count cells f next ideal r s.agrees s.come.0 step in
-      let ports = limited_ports_kept limits ms slot class_count cells f next ideal r s.agrees s.come.0 step in
       let come : AreForPorts (length f.state.inputs) class_count r.admission.cells =
       search (arith, rules, admission_for_ports) in
       let before = (arrived ms slot class_count r.admission.cells f.state next.state ideal.state r.of_slot
@@ -34,8 +33,7 @@ module _ (MayChoose : Orders → Partners → Type 0)
       (rs : List LimitedRecord) → Stands limits ms class_count slot traffic f ideal →
       LimitedFabricRun MayChoose limits ms slot traffic f rs g → AlwaysHasSlack rs
   each_slack slot traffic f g ideal rs s run = limited_run_slack limits ms class_count slot traffic f g ideal rs s
-      (each_run (LimitedFabricSlot MayChoose limits ms) (LimitedFabricSlot IsStable limits ms)
-      (IsLimitedFault limits ms) stable_step slot traffic f g rs run)
+      (search (arith, rules, each_run, stable_step))
 
   -- ## From the empty fabric on
 

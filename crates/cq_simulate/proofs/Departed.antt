@@ -1,7 +1,7 @@
 -- Each cell that departs has arrived. Of each input and class the cells of the packets that are taken in leave an
 -- output as they came. So what holds of all cells that arrive holds of each that departs: it is of a packet of its
 -- input's capture.
-use Rattle.cq_simulate.proofs.Terms.{rules, ◌≡◌, ℕ, ◌+◌, ◌<◌, ◌≤◌, ◌^◌, true, List, [], ◌∷◌, length, get_or, Result, Ok, Err, refl, sym, ap, ◌∙◌, arith, common_steps, max, AllByRecursion, filter, eq-eqb, and_from, Arrival, end_of, Departure, TagFault, packets_of, cells, start, cell_of, arrivals_of, arrivals_at, arrivals, IsTraffic, piece_begins, all_flat, traffic_is, NoLimits, slots_of, leaves_in_flow, departures_of, departures_limited, LimitedRan, unlimited, flows_leave_in_packets, limited_same_sent, run_as_before, slots_as_before, Captured, AreTables, IsSetup, classes_of, ports_of, Tables, machines_of, openings_of, HaveLeftOf, LeaveInOrder, LeaveWhole, LeftInOrder, IsCaptured, ideal_departures, ran_ideal, slots_ran, subst, and_parts, eqb-true, Has, all_of_has, has_cases, has_image, has_kept, image_has, kept_has, flat_map, of_packet, Cell, came_in_flow, came_more, few_by, length_packet, row_of, rows_are, length-append, length-map-range_with_len, last_departs, limited_slots, has_at, all_made}
+use Rattle.cq_simulate.proofs.Terms.{rules, ◌≡◌, ℕ, ◌+◌, ◌<◌, ◌≤◌, ◌^◌, true, List, [], ◌∷◌, length, get_or, Result, Ok, Err, refl, sym, ◌∙◌, arith, common_steps, max, AllByRecursion, filter, eq-eqb, and_from, Arrival, end_of, Departure, TagFault, packets_of, cells, start, cell_of, arrivals_at, arrivals, IsTraffic, piece_begins, all_flat, traffic_is, NoLimits, slots_of, leaves_in_flow, departures_of, departures_limited, LimitedRan, flows_leave_in_packets, limited_same_sent, run_as_before, slots_as_before, Captured, AreTables, IsSetup, classes_of, ports_of, Tables, machines_of, openings_of, HaveLeftOf, LeaveInOrder, LeaveWhole, LeftInOrder, IsCaptured, ideal_departures, ran_ideal, slots_ran, subst, and_parts, eqb-true, Has, all_of_has, has_cases, has_image, has_kept, image_has, kept_has, flat_map, of_packet, Cell, came_more, few_by, length_packet, row_of, rows_are, length-append, length-map-range_with_len, last_departs, limited_slots, has_at, all_made}
 use Rattle.cq_cells.specs.Traffic.{IsInRange, IsRecorded}
 use Rattle.cq_simulate.proofs.OfPackets.{packets_come}
 use Rattle.cq_simulate.proofs.SomePackets.{as_packets}
@@ -21,8 +21,7 @@ pub left_in_order : (t : Tables) (captures : List (List Captured)) (sent : List 
 unfolding ideal_departures ran_ideal
 left_in_order t captures sent are many h i =
     let came = arrivals t captures in
-    ran_ok (LeftInOrder came i) _ sent
-    (limited_same_sent t.limits _ (ports_of t.setup) (openings_of t.setup) came ∙ h) (λ ran is.
+    ran_ok (LeftInOrder came i) _ sent (search (arith, rules, limited_same_sent)) (λ ran is.
     let l = flows_leave_in_packets t.limits _ _ _ came ran (runnable t.setup came are.setup (traffic_is t captures are
     many)) is i (packets_come t captures i are many) in
     record { is_taken = l.is_taken; left = l.left })
@@ -54,10 +53,7 @@ came_as came sent whole d has =
     let own : leaves_in_flow i c d.output d ≡ true = grind (arith, common_steps, and_from, d.output, eq-eqb) in
     let left = has_image (λ (x : Departure). x.queued.cell) (filter (leaves_in_flow i c d.output) sent) d
     (has_kept (leaves_in_flow i c d.output) sent d has own) in
-    let l = whole i in
-    let here = of_flow (came_in_flow i c d.output came) (l.packets c d.output) d.queued.cell
-    (rw (l.left c d.output) at left) in
-    grind (arith, common_steps, kept_has, image_has, and_parts, eqb-true)
+    let l = whole i in search (arith, rules, of_flow, kept_has, image_has, and_parts, eqb-true)
 
 -- ## The cells of captures
 
@@ -67,10 +63,8 @@ pub all_cells : (t : Tables) (captures : List (List Captured)) (P : Arrival → 
     P (record { slot = start t captures i k + n; cell = cell_of t captures i k n })) →
     AllByRecursion P (arrivals t captures)
 unfolding arrivals arrivals_at
-all_cells t captures P each = all_flat P (arrivals_at t captures) 0 (length captures) (λ i _ in_captures. all_flat P
-    (arrivals_of t captures i) 0 (length (packets_of captures i)) (λ k _ in_packets. all_made P
-    (λ n. record { slot = start t captures i k + n; cell = cell_of t captures i k n }) 0 (cells t captures i k)
-    (λ n _ in_cells. each i k n (omega arith) (omega arith) (omega arith))))
+all_cells t captures P each = all_flat P (arrivals_at t captures) 0 (length captures)
+    (search (arith, rules, all_flat P, all_made P))
 
 -- a capture is a file of 2^28 bytes at most, and each packet and each cell of it takes a byte there, so that no
 -- packet's number and no cell's place in its packet comes near 2^32
@@ -84,9 +78,7 @@ small_cells t captures some each =
     let rows = rows_are t captures i some (each i in_captures) in
     let many = length-map-range_with_len (row_of t captures i) 0 (length (packets_of captures i)) in
     let all = few_by t captures i (k + 1) some (each i in_captures) (omega arith) in
-    let more = ap (λ (l : List Arrival). length l) (came_more t captures i k) in
-    let own = length_packet t captures i k in
-    (omega (arith, rows.few, many), omega (arith, all, more, own, length-append {A = Arrival})))
+    search (arith, rules, came_more, length_packet, length-append))
 
 module _ {t : Tables} {captures : List (List Captured)} {sent : List Departure} {stamp : ℕ}
     (of_run : HaveLeftOf t captures sent stamp) (k : ℕ) (e : Departure) (inside : k < length sent) where
@@ -130,5 +122,4 @@ last_departs_without_limits t came sent none is traffic h =
     ran_ok (λ sent. slots_ran t came ≡ slots_of sent) (ran_ideal t came) sent h (λ ran is_ok.
     slots_as_before t.limits (machines_of t.setup) (ports_of t.setup) (openings_of t.setup) came none
     ∙ sym (last_departs _ _ _ came (runnable t.setup came is traffic).for_switch
-    (record { gone = ran.gone; after = ran.after.state })
-    (sym (run_as_before t.limits _ _ _ came none) ∙ ap unlimited is_ok)))
+    (record { gone = ran.gone; after = ran.after.state }) (cc (run_as_before t.limits _ _ _ came none))))

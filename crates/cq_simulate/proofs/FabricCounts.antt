@@ -1,7 +1,7 @@
 -- One slot of the fabric by its numbers. The cells that wait at the inputs grow by those that arrive and fall by one
 -- for each transfer. A phase has no more proposals than the number of ports squared, and none where no cell waits at
 -- an input.
-use Rattle.cq_simulate.proofs.Terms.{common_steps, rules, ◌≡◌, ℕ, zero, suc, ◌+◌, ◌*◌, ◌≤◌, List, [], ◌∷◌, length, length-append, Option, Some, None, refl, ap, ◌∙◌, subst, arith, mul-le-mul, sum, range_with_len, filter_map, cons_option, cond_both, eqb-true, length-map, nil_from_length, length-insert, length-map-range_with_len, get_or-map-range_with_len, sum_by-le, arrival_at, is_for, Cell, Queued, Transfer, present, outputs_at, Fabric, IsFabric, input, SlotRecord, FabricSlot, proposals_in, transfers_in, list_of, orders_of, output_order, Partners, partner_of, spent, proposals, IsMatching, IsInputBest, Machine, one_if, total, total_none, came_from, first_at, Transfers, came_to, list_arrived, OutputsInRange, are_offers, outputs_at_most, has_there, most_ports}
+use Rattle.cq_simulate.proofs.Terms.{common_steps, rules, ◌≡◌, ℕ, zero, suc, ◌+◌, ◌*◌, ◌≤◌, List, [], ◌∷◌, length, length-append, Option, Some, None, refl, ap, ◌∙◌, subst, arith, mul-le-mul, sum, range_with_len, filter_map, cons_option, cond_both, length-map, nil_from_length, length-insert, length-map-range_with_len, get_or-map-range_with_len, sum_by-le, arrival_at, is_for, Cell, Queued, Transfer, present, outputs_at, Fabric, IsFabric, input, SlotRecord, FabricSlot, proposals_in, transfers_in, list_of, orders_of, output_order, Partners, partner_of, spent, proposals, IsMatching, IsInputBest, Machine, one_if, total, total_none, came_from, first_at, Transfers, came_to, list_arrived, OutputsInRange, are_offers, outputs_at_most, has_there, most_ports}
 use Rattle.cq_prefs.specs.Moves.{list_taken, noted, transfers_of}
 use Rattle.cq_prefs.specs.Orders.{Orders, ports, outputs_of}
 
@@ -32,8 +32,7 @@ unfolding total
 all_arrivals cells zero = omega arith
 all_arrivals [] (suc n) = let none = total_none (λ i. one_if (arrival_at [] i)) 0 (suc n) (λ i. refl) in omega arith
 all_arrivals (o ∷ cells) (suc n) =
-    let next : total (λ i. one_if (arrival_at (o ∷ cells) i)) (0 + 1) n ≡ total (λ i. one_if (arrival_at cells i)) 0 n =
-    total_next (λ i. one_if (arrival_at (o ∷ cells) i)) 0 (0 + 1) n refl in
+    let next = total_next (λ i. one_if (arrival_at (o ∷ cells) i)) 0 (0 + 1) n refl in
     let rest = all_arrivals cells n in grind (arith, common_steps)
 
 -- how many cells wait at the first n inputs
@@ -93,14 +92,13 @@ module _ (o : Orders) (m : Partners) (is : IsMatching o m) where
 in_range : (f : Fabric) → IsFabric f → OutputsInRange f.inputs
 in_range f is i j c first =
     let at = first_at (is_for j) (input f i) c first in
-    let same : c.cell.output ≡ j = eqb-true c.cell.output j at.passes in
     search (arith, rules, is.outputs i c, has_there (input f i) at.place c at.at)
 
 module _ (f : Fabric) (m : Partners) (is : IsMatching (orders_of f.inputs) m) where
   pub proposals_few : IsFabric f → proposals (orders_of f.inputs) m ≤ length f.inputs * length f.inputs
   proposals_few fabric =
       let o = orders_of f.inputs in
-      let n : ports o ≡ length f.inputs = length-map f.inputs output_order in
+      let n = length-map f.inputs output_order in
       subst (λ (k : ℕ). proposals o m ≤ k * k) n (proposals_within o m is (ports o)
       (outputs_at_most o (are_offers f.inputs (in_range f fabric))))
 
@@ -115,8 +113,7 @@ module _ (ms : List Machine) (slot : ℕ) (cells : List (Option Cell)) (f g : Fa
     (step : FabricSlot IsInputBest ms slot cells f r g) where
   arrived_one : (i : ℕ) → length (input r.arrived i) ≤ length (input f i) + one_if (arrival_at cells i)
   arrived_one i =
-      let e : length (input r.arrived i) ≡ length (list_arrived f (came_to r.came i) (input f i)) =
-      ap length (step.arrive.lists i) in
+      let e = ap length (step.arrive.lists i) in
       let l = longer_one f (came_to r.came i) (arrival_at cells i) (input f i) (λ c is. (came_from ms slot 0 cells
       f.ranks (record { came = r.came; ranks = r.arrived.ranks }) step.arrive.ranked i c is).cell_is) in
       omega arith
@@ -149,9 +146,7 @@ module _ (ms : List Machine) (slot : ℕ) (cells : List (Option Cell)) (f g : Fa
       λ i. omega (arith, arrived_one i, none i, one_present cells i) in
       let after : (i : ℕ) → length (input r.sent i) ≡ 0 =
       λ i. rw step.depart.inputs (omega (arith, before i, shorter r.first r.arrived r.filled step.fill i)) in
-      let first = proposals_none r.arrived r.first step.first_chosen.stable.matching before in
-      let second = proposals_none r.sent r.second step.second_chosen.stable.matching after in
-      omega arith
+      omega (arith, proposals_none)
 
 pub square_few : (n : ℕ) → n ≤ most_ports → n * n ≤ 4096
 square_few n few = let square : n * n ≤ most_ports * most_ports = mul-le-mul few few in omega arith

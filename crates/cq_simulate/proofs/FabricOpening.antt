@@ -1,6 +1,6 @@
 -- How the run of a fabric that is made for tables begins, and what its end says of the tables. What the calls say that
 -- made it is one record. From it the engine can begin.
-use Rattle.cq_simulate.proofs.Terms.{refl, common_steps, rules, ◌≡◌, ℕ, ◌+◌, ◌*◌, ◌≤◌, ◌^◌, List, [], length, map, Option, sym, ap, ◌∙◌, arith, take_all, length-map, length-map-range_with_len, Arrival, traffic_of, first_slots, RoomView, Departure, Transfer, Scheduled, CanBeMade, EngineView, fresh_engine, frozen_of, thawed_engine, Frozen, GoesOnFrom, marked_fabric, departures_limited, limited_run, counts_more, refused_in, admissions_in, slots_in, AreTables, ports_of, IsSetup, classes_of, Tables, fixed_of, machine_from, state_of, machines_of, openings_of, IsKeptOf, unpacked_run, kept_of, ArePortsFor, IsFreshFor, IsIdealFor, HasKept, IsReadyOn, IsRefusalOn, IsRefusalOf, ideal_departures, ran_ideal, limited_same_sent, limited_whole_fault, slots_fit, IsScheduleFor, PackedFabricRun, Ports, RunRefusal, IsShort, IsTraffic, is_from, is_to, IdealSwitch, marked_state, Machine, class_count, IsReady, IsResumed, Kept, RunsOn, Switch, switch_of, Taken, best_act_alike_from_empty, figures_fold, Discipline, fresh_ideal}
+use Rattle.cq_simulate.proofs.Terms.{refl, common_steps, rules, ◌≡◌, ℕ, ◌+◌, ◌*◌, ◌≤◌, ◌^◌, List, [], length, map, Option, sym, ap, ◌∙◌, arith, take_all, length-map, length-map-range_with_len, Arrival, traffic_of, RoomView, Departure, Transfer, Scheduled, CanBeMade, EngineView, fresh_engine, frozen_of, thawed_engine, Frozen, GoesOnFrom, marked_fabric, departures_limited, limited_run, counts_more, refused_in, admissions_in, slots_in, AreTables, ports_of, IsSetup, classes_of, Tables, fixed_of, machine_from, state_of, machines_of, openings_of, IsKeptOf, unpacked_run, kept_of, ArePortsFor, IsFreshFor, IsIdealFor, HasKept, IsReadyOn, IsRefusalOn, IsRefusalOf, ideal_departures, ran_ideal, limited_same_sent, limited_whole_fault, slots_fit, IsScheduleFor, PackedFabricRun, Ports, RunRefusal, IsShort, IsTraffic, is_from, is_to, IdealSwitch, marked_state, Machine, class_count, IsReady, IsResumed, Kept, RunsOn, Switch, switch_of, Taken, best_act_alike_from_empty, figures_fold, Discipline, fresh_ideal}
 use Rattle.cq_simulate.proofs.TakenUp.{goes_from, holds_none, machine_count, room_at}
 use Rattle.cq_simulate.specs.ScheduleFor.{by_port}
 use Rattle.cq_simulate.specs.declared.refusal.RunRefusal.TheVariants as refusal
@@ -23,8 +23,7 @@ module _ {t : Tables} {came : List Arrival} {first : IdealSwitch} (fresh : IsIde
       (marked_state first)) ≡ ideal_departures t came
   unfolding ideal_departures ran_ideal
   run_of_tables =
-      rw fresh.fresh (rw fresh.machines
-      (limited_same_sent t.limits (machines_of t.setup) (ports_of t.setup) (openings_of t.setup) came))
+      rw fresh.fresh (search (arith, rules, limited_same_sent))
 
   pub ready_ideal : (sent : RoomView Departure) → IsSetup t.setup →
       IsTraffic (ports_of t.setup) (classes_of t.setup) came → IsShort came → sent.items ≡ [] →
@@ -97,22 +96,13 @@ module _ (M : List ℕ → Machine) (t : Tables) (s : Scheduled) (first : Engine
         let has = kept.ran in
         let rs = has.records in
         let engine : Switch = record (switch_of t s) { machines = map M first.fixed; limits = first.limits } in
-        let runs : RunsOn engine first.next (marked_fabric first) rs (marked_fabric kept.last) = record {
-          after = rw (take_all (length rs) rs (omega arith)) has.went.runs;
-          all_came = has.all_came;
-          empty = has.empty;
-          first = has.first;
-        } in
+        let runs : RunsOn engine first.next (marked_fabric first) rs (marked_fabric kept.last) =
+        search (arith, rules, take_all) in
         record {
           records = rs;
           end = marked_fabric kept.last;
           runs = rw (limits, machines) at runs;
-          kept_is = λ k. record {
-            sent = has.went.departed k;
-            note = has.went.crossed k;
-            figures = (kept.figures ∙ has.went.counted) k;
-            refused = (kept.refused ∙ has.went.refused) k;
-          };
+          kept_is = search (arith, rules);
         }
 
 -- ## What is known once its run can begin
@@ -158,24 +148,13 @@ module _ {t : Tables} {s : Scheduled} {first : EngineView} {sent : RoomView Depa
   run_is_kept run kept =
       let from_fresh = rw made.fresh.fresh at kept in
       let it = resumes machine_from t s begins sent note made.fresh.machines refl run from_fresh in
-      let nothing_sent = made.nothing_sent in
-      let nothing_noted = made.nothing_noted in
       record {
         records = it.records;
-        is_run = record {
-          end = it.end;
-          runs = record {
-            after = it.runs.after;
-            all_came = omega arith;
-            empty = it.runs.empty;
-            first = λ m f ran late none. it.runs.first m f ran (omega arith) none;
-          };
-        };
+        is_run = search (arith, rules);
         sent = ap (λ (k : Kept). k.sent) it.kept_is ∙ grind (arith, common_steps);
         note = ap (λ (k : Kept). k.note) it.kept_is ∙ grind (arith, common_steps);
         figures = ap (λ (k : Kept). k.figures) it.kept_is ∙ sym (figures_fold (ports_of t.setup) (slots_in it.records));
-        refused = ap (λ (k : Kept). k.refused) it.kept_is
-            ∙ sym (counts_more t.limits [] (refused_in (admissions_in it.records)));
+        refused = search (arith, rules, counts_more t.limits [] (refused_in (admissions_in it.records)));
       }
 
   -- and where it has none, the ideal switch has none
@@ -188,6 +167,5 @@ module _ {t : Tables} {s : Scheduled} {first : EngineView} {sent : RoomView Depa
       let alike = best_act_alike_from_empty t.limits (machines_of t.setup) in
       let stops = rw (made.fresh.fresh, made.fresh.machines) at stop.stops.stops in
       ap departures_limited (limited_whole_fault t.limits (machines_of t.setup) ports openings s.came stop.count fault
-      (alike.stop ports (classes_of t.setup) openings (first_slots s.came stop.count) stop.stops.records fault
-      (slots_fit ports (classes_of t.setup) s.came 0 stop.count made.fit.traffic) stops))
+      (search (arith, rules, slots_fit)))
   no_run refusal.NoMemory stop = tt

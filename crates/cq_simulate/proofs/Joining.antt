@@ -2,7 +2,7 @@
 -- those of one packet after another, each whole and in order; those that leave are all cells of some of these
 -- packets. So each cell is the next of the packet that is open, or the first of one where none is; and at the last
 -- cell of a packet all its pieces are together, which are its frame.
-use Rattle.cq_simulate.proofs.Terms.{common_steps, flat_map-map, length-map-range_with_len, rules, ◌≡◌, ℕ, zero, suc, ◌+◌, ◌-◌, ◌*◌, ◌<◌, true, List, [], ◌∷◌, ◌++◌, length, map, flat_map, take, drop, min, Option, Some, None, refl, sym, ap, ◌∙◌, subst, arith, ◌==◌, filter, range_with_len, eqb-true, eq-eqb, ne_eqb, append-nil, flat_map-append, Cell, packet_at, cells, cells_of, cell_of, arrivals, came_in_flow, Captured, open_after, Fits, opened, piece_at, AreTables, ports_of, Tables, of_packet, AreCutFrom, Piece, Open, bytes_taken, with_piece, pieces_give_frame, range_more}
+use Rattle.cq_simulate.proofs.Terms.{common_steps, flat_map-map, length-map-range_with_len, rules, ◌≡◌, ℕ, zero, suc, ◌+◌, ◌-◌, ◌*◌, ◌<◌, true, List, [], ◌∷◌, ◌++◌, length, map, flat_map, take, drop, min, Option, Some, None, refl, sym, ◌∙◌, subst, arith, ◌==◌, filter, range_with_len, eq-eqb, ne_eqb, append-nil, flat_map-append, Cell, packet_at, cells, cells_of, cell_of, arrivals, came_in_flow, Captured, open_after, Fits, opened, piece_at, AreTables, ports_of, Tables, of_packet, AreCutFrom, Piece, Open, bytes_taken, with_piece, pieces_give_frame, range_more}
 use Rattle.cq_simulate.proofs.OfPackets.{packet_cells}
 use Rattle.cq_simulate.proofs.SomePackets.{flow_is, packets_in, parts_of}
 
@@ -72,8 +72,6 @@ module _ (t : Tables) (captures : List (List Captured)) (input : ℕ) (some : 0 
       bytes_taken (open_at_cell k m) ++ piece_at captures (cell_of t captures input k m) ≡ frame k
   unfolding cell_of
   whole_is k m last =
-      let end : m + 1 ≡ cells t captures input k =
-      eqb-true (m + 1) (cells t captures input k) last in
       search (arith, rules, taken_so_far k m, piece_is k m, pieces_more k m, all_pieces k)
 
   fits : (k m : ℕ) → Fits captures (open_at_cell k m) (cell_of t captures input k m)
@@ -129,5 +127,4 @@ module _ (t : Tables) (captures : List (List Captured)) (input : ℕ) (some : 0 
   flow_fits are many c j ks p cell rest is =
       let gs = packets_in t captures input c j in
       each_fits (flat_map (λ k. filter (λ g. g == k) gs) ks) p cell rest
-      (sym (parts_of t captures input gs ks)
-      ∙ ap (λ cells. flat_map (of_packet cells) ks) (sym (flow_is t captures input are many c j)) ∙ is)
+      (cc (parts_of t captures input gs ks, flow_is t captures input are many c j))

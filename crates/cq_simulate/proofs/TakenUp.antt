@@ -44,8 +44,7 @@ kinds_few : (f : ℕ → ℕ) (kind : Arrival → ℕ) (xs : List Arrival) (n : 
     ((k : ℕ) → f k ≤ number_of (λ a. kind a == k) xs) → total f 0 n ≤ length xs
 kinds_few f kind xs n few =
     let each = total_most f (λ k. number_of (λ a. kind a == k) xs) (λ k. 0) 0 n (λ k. omega (arith, few k)) in
-    let none = total_none (λ k. 0) 0 n (λ k. refl) in
-    let kinds = of_kinds kind xs n in omega arith
+    search (arith, rules, total_none, of_kinds)
 
 -- so all outputs hold no more cells than came, and so the lists of all inputs
 held_before : (f : Fabric) (xs : List Arrival) → ((j : ℕ) → held_for j f ≤ number_of (is_to j) xs) →
@@ -96,25 +95,7 @@ goes_from {t} {s} e sent note fit has machines classes from to running few sent_
     let many = machine_count machine_from e.fixed t.setup machines in
     let earlier = came_before e.next s.came in
     let every = all_parts e.next s.came in
-    let held = held_before e.fabric earlier has.buffers in
-    let listed = listed_before e.fabric earlier has.lists in
-    record {
-      running = running;
-      ports = omega arith;
-      inputs = has.inputs;
-      sound = has.sound;
-      traffic = rw (machines, classes, many) fit.traffic;
-      short = fit.short;
-      few = few;
-      early = has.early;
-      cells = omega arith;
-      lists = grind (arith, common_steps, has.lists, both_parts, room_at);
-      buffers = grind (arith, common_steps, has.buffers, both_parts, room_at);
-      sent_room = omega arith;
-      note_room = omega arith;
-      proposals = has.proposals;
-      refused = λ k d inside. let lost = has.lost k d inside in (omega arith, omega arith);
-    }
+    search (arith, rules, held_before, listed_before, both_parts, room_at, has.lost)
 
 -- ## A fresh one
 
@@ -125,7 +106,7 @@ none_waiting_for j (suc n) = let rest = none_waiting_for j n in omega arith
 pub holds_none : (came : List Arrival) (ports : ℕ) (fixed states : List (List ℕ)) (from to : List ℕ)
     (limits : List (Option ℕ)) → length fixed ≡ ports → HoldsSome came (fresh_engine ports fixed states from to limits)
 holds_none came ports fixed states from to limits many =
-    let nil : List Queued = [] in
+    let nil = [] in
     record {
       early = omega arith;
       inputs = length-replicate ports nil ∙ sym many;
@@ -133,8 +114,7 @@ holds_none came ports fixed states from to limits many =
       lists = λ i. let none = ap (λ (l : List Queued). length l) (empty_list ports i) in omega arith;
       buffers = λ j. search (arith, rules, empty_list, none_waiting_for);
       proposals = omega arith;
-      lost = λ k d inside.
-          let zeros = zero_fits (2 ^ 64 - 1) limits (omega arith) k d inside in (omega arith, omega arith);
+      lost = search (arith, rules, zero_fits (2 ^ 64 - 1) limits);
     }
 
 -- ## One that was taken up
@@ -168,14 +148,8 @@ module _ {t : Tables} {s : Scheduled} {taken : Taken} (sound : CanBeTakenUp (swi
       IsReadyOn (map machine_from engine.fixed) s.came engine sent note
   runs_on engine is sent note counted all few sent_room note_room =
       let goes = goes_of t s taken sound fit.traffic in
-      let stands = thawed_engine engine.fixed t.limits (by_port is_from t s.came) (by_port is_to t s.came) taken.frozen in
-      rw is.stands (goes_from stands sent note fit (record {
-        early = goes.early;
-        inputs = goes.ports.lists ∙ machines_many t
-            ∙ sym (machine_count machine_from engine.fixed t.setup is.machines);
-        sound = goes.sound;
-        lists = goes.lists;
-        buffers = goes.buffers;
-        proposals = goes.proposals;
-        lost = All-from_recursion _ taken.frozen.refused goes.lost;
-      }) is.machines is.classes refl refl refl (omega arith) (omega arith) (omega arith))
+      let from = by_port is_from t s.came in
+      let stands = thawed_engine engine.fixed t.limits from (by_port is_to t s.came) taken.frozen in
+      rw is.stands (goes_from stands sent note fit
+      (search (arith, rules, machines_many, machine_count, All-from_recursion)) is.machines is.classes refl refl refl
+      (omega arith) (omega arith) (omega arith))

@@ -1,7 +1,7 @@
 -- How many of a list pass a test. A tally of what passes one test, taken of what passes another, is one of what
 -- passes both; of numbers in a row of which one passes it is 1; and of two sums, one within the other, either may be
 -- taken first. So the tally of a list is the sum of those of its parts, where each item that passes is in one of them.
-use Rattle.cq_simulate.proofs.Terms.{rules, ◌≡◌, ℕ, zero, suc, ◌+◌, ◌<◌, ◌≤◌, Bool, true, false, cond, List, [], ◌∷◌, length, map, filter, refl, sym, ◌∙◌, arith, common_steps, ◌&&◌, ◌==◌, sum_by, AllByRecursion, range_with_len, and_right, cases_eq, eq-eqb, ne_eqb, length-filter, sum_by-cons, cases_Bool, ap, ⊎_elim}
+use Rattle.cq_simulate.proofs.Terms.{rules, ◌≡◌, ℕ, zero, suc, ◌+◌, ◌<◌, ◌≤◌, Bool, true, false, cond, List, [], ◌∷◌, length, map, filter, refl, sym, ◌∙◌, arith, common_steps, ◌&&◌, ◌==◌, sum_by, AllByRecursion, range_with_len, and_right, cases_eq, eq-eqb, ne_eqb, length-filter, sum_by-cons, cases_Bool, ap}
 
 -- how many pass
 abbrev pub tally : {X : Type 0} → (X → Bool) → List X → ℕ
@@ -60,8 +60,8 @@ pub one_where : (b : Bool) (p : ℕ → Bool) (n k : ℕ) → (b ≡ true → k 
     tally (λ i. b && p i) (range_with_len 0 n) ≡ bit b
 one_where true p n k inside here only =
     let low : k < n = inside refl in
-    length-filter p (range_with_len 0 n) ∙ one_summed (λ i. bit (p i)) 0 n k (omega arith) (omega arith) (λ i ne.
-    ⊎_elim (λ yes_. absurd (ne (sym (only i yes_)))) (λ no_. ap bit no_) (cases_Bool (p i))) ∙ ap bit here
+    length-filter p (range_with_len 0 n) ∙ one_summed (λ i. bit (p i)) 0 n k (omega arith) (omega arith)
+    (search (arith, rules, cases_Bool)) ∙ ap bit here
 one_where false p n k inside here only =
     length-filter (λ i. false) (range_with_len 0 n) ∙ none_summed (λ i. 0) 0 n (λ i _. refl)
 
@@ -106,16 +106,14 @@ module _ {X : Type 0} (p : X → Bool) (outer inner : X → ℕ) (n : ℕ) (many
   one_part : (x : X) → IsNumbered x → summed (λ i k. bit (in_part i k x)) ≡ bit (p x)
   one_part x at =
       one_summed (λ i. sum_by (λ k. bit (in_part i k x)) (range_with_len 0 (many i))) 0 n (outer x) (omega arith)
-      (omega arith) (λ i ne. none_summed (λ k. bit (in_part i k x)) 0 (many i) (λ k _.
-      let off = ne_eqb (outer x) i ne in grind (arith, common_steps)))
+      (omega arith) (search (arith, rules, none_summed, ne_eqb))
       ∙ one_summed (λ k. bit (in_part (outer x) k x)) 0 (many (outer x)) (inner x) (omega arith) (omega arith)
       (λ k ne. let off = ne_eqb (inner x) k ne in grind (arith, common_steps, and_right))
       ∙ search (arith, rules, eq-eqb)
 
   pub tally_by_parts : (xs : List X) → AllByRecursion IsNumbered xs →
       tally p xs ≡ summed (λ i k. tally (in_part i k) xs)
-  tally_by_parts [] all = sym (none_summed (λ i. sum_by (λ k. 0) (range_with_len 0 (many i))) 0 n
-      (λ i _. none_summed (λ k. 0) 0 (many i) (λ _ _. refl)))
+  tally_by_parts [] all = sym (search (arith, rules, none_summed))
   tally_by_parts (x ∷ xs) all =
       let here : ℕ → ℕ → ℕ = λ i k. bit (in_part i k x) in
       let rest : ℕ → ℕ → ℕ = λ i k. tally (in_part i k) xs in
