@@ -1,7 +1,7 @@
 -- Every packet leaves its output whole or is counted as refused there, once. The fabric sends and refuses what the
 -- ideal switch does, and there each packet of an input leaves or is refused: what comes are whole packets, and the
 -- cells of one are for one output.
-use Rattle.cq_simulate.proofs.Terms.{common_steps, rules, append-nil, flat_map, ◌≡◌, ℕ, ◌<◌, List, length, Ok, ap, arith, zero, suc, ◌+◌, Bool, [], ◌∷◌, map, Option, cond, not, filter, refl, sym, ◌∙◌, ◌-◌, AllByRecursion, range_with_len, All-from_recursion, subst, all_from_has, all_of_has, Arrival, arriving, Departure, traffic_is, at_input, arrivals, packets_of, arrivals_at, arrivals_of, cell_of, cells, packet_at, come_in_order, departures_of, departures_limited, whole_limited_run, slots_of_limited_run, LimitedRan, refused_in, packets_refused, AreOfPackets, came_at, AreJudged, LimitedRecord, Captured, AreTables, ports_of, Tables, machines_of, openings_of, IsFabricRun, departures_in_run, refused_in_run, ideal_departures, ran_ideal, Cell, all_found, all_present, all_weaker, present, judged, Admission, Marked, admission, refused, is_first, arriving_from, IdealState, Machine, ◌&&◌, ◌==◌, sum_by, length-map, length-filter, sum-map, is_from, came_in_flow, comes_in_flow, leaves_in_flow, ends_packet_at, leaving, packets_out, eq-eqb, eqb-true, cells_above, route, each_leaves_or_is_refused, refuses_none_elsewhere, KeepTheirOutput, LeaveOrAreRefused, most_ports}
+use Rattle.cq_simulate.proofs.Terms.{common_steps, rules, append-nil, flat_map, ◌≡◌, ℕ, ◌<◌, List, length, Ok, ap, arith, zero, suc, ◌+◌, Bool, [], ◌∷◌, map, Option, cond, not, filter, refl, sym, ◌∙◌, ◌-◌, AllByRecursion, range_with_len, All-from_recursion, all_from_has, all_of_has, Arrival, arriving, Departure, traffic_is, at_input, arrivals, packets_of, arrivals_at, arrivals_of, cell_of, cells, packet_at, come_in_order, departures_of, departures_limited, whole_limited_run, slots_of_limited_run, LimitedRan, refused_in, packets_refused, AreOfPackets, came_at, AreJudged, LimitedRecord, Captured, AreTables, ports_of, Tables, machines_of, openings_of, IsFabricRun, departures_in_run, refused_in_run, ideal_departures, ran_ideal, Cell, all_found, all_present, all_weaker, present, judged, Admission, Marked, admission, refused, is_first, arriving_from, IdealState, Machine, ◌&&◌, ◌==◌, sum_by, length-map, length-filter, sum-map, is_from, came_in_flow, comes_in_flow, ends_packet_at, leaving, packets_out, eq-eqb, eqb-true, cells_above, route, each_leaves_or_is_refused, refuses_none_elsewhere, KeepTheirOutput, LeaveOrAreRefused, most_ports}
 use Rattle.cq_simulate.proofs.Departed.{all_cells, came_as, left_in_packets}
 use Rattle.cq_simulate.proofs.FabricLaws.{slot_by_slot}
 use Rattle.cq_simulate.proofs.OfPackets.{by_packet, line_cells, packet_cells, packets_come}
@@ -33,8 +33,7 @@ module _ (t : Tables) (captures : List (List Captured)) where
 
   pub all_of_packets : AllByRecursion (λ a. IsOfPacket t captures a.cell) (arrivals t captures)
   unfolding cell_of
-  all_of_packets = all_cells t captures (λ a. IsOfPacket t captures a.cell) (λ input k n in_captures in_packets _.
-      record { input = in_captures; packet = in_packets; output = refl; class = refl })
+  all_of_packets = all_cells t captures (λ a. IsOfPacket t captures a.cell) (search (arith, rules))
 
   module _ (input k : ℕ) (inside : k < length (packets_of captures input)) where
     -- ## Those of one packet
@@ -127,9 +126,7 @@ module _ (t : Tables) (captures : List (List Captured)) (sent : List Departure) 
         tally-map ends (λ (a : Arrival). a.cell) (filter (comes_in_flow input class j) arrived)
         ∙ tally_both (λ (a : Arrival). ends a.cell) (comes_in_flow input class j) arrived
         ∙ tally_same (λ a. comes_in_flow input class j a && ends a.cell) (λ a. is_from input a && in_line a) arrived
-        (all_weaker (λ a. IsOfPacket t captures a.cell) _ (λ a of. search (arith, rules, flow_test, input_first))
-        arrived
-        (all_of_packets t captures))
+        (search (arith, rules, all_weaker, flow_test, input_first, all_of_packets))
         ∙ sym (tally_both in_line (is_from input) arrived) ∙ ap (tally in_line) (at_input t captures input in_captures)
         ∙ one_last t captures input k in_packets j
 
@@ -144,12 +141,9 @@ module _ (t : Tables) (captures : List (List Captured)) (sent : List Departure) 
         let p = parted input in_captures in
         let of_it : Departure → Bool =
         λ d. ends_packet_at j d && (d.queued.cell.id.input == input && d.queued.cell.id.packet == k) in
-        sym (tally-map ends (λ (d : Departure). d.queued.cell) (filter (leaves_in_flow input class j) sent)
-        ∙ tally_both (λ (d : Departure). ends d.queued.cell) (leaves_in_flow input class j) sent
-        ∙ tally_same (λ d. leaves_in_flow input class j d && ends d.queued.cell) of_it sent
-        (all_weaker (λ d. IsOfPacket t captures d.queued.cell) _ (λ d of. flow_test (d.output == j) d.queued.cell of)
-        sent
-        left)) ∙ ap (tally ends) (p.left class j)
+        sym
+        (search (arith, rules, tally-map, tally_both, tally_same, all_weaker, flow_test))
+        ∙ ap (tally ends) (p.left class j)
         ∙ tally_of_kind (λ (cell : Cell). cell.id.packet) k p.is_taken (λ cell. cell.last)
         (came_in_flow input class j arrived) ∙ ap (λ (n : ℕ). cond taken n 0) came_last
 
@@ -158,9 +152,9 @@ module _ (t : Tables) (captures : List (List Captured)) (sent : List Departure) 
         let p = parted input in_captures in
         let of_it : Cell → Bool =
         λ cell. (cell.output == j && is_first cell) && (cell.id.input == input && cell.id.packet == k) in
-        tally_same of_it (λ cell. cell.id.input == input && begins cell) refused (all_weaker (IsOfPacket t captures) _
-        (λ cell _. input_first (cell.output == j && is_first cell) (cell.id.input == input) (cell.id.packet == k))
-        refused lost) ∙ sym (tally_both begins (λ cell. cell.id.input == input) refused)
+        tally_same of_it (λ cell. cell.id.input == input && begins cell) refused
+        (search (arith, rules, all_weaker, input_first))
+        ∙ sym (tally_both begins (λ cell. cell.id.input == input) refused)
         ∙ ap (tally begins) p.others
         ∙ tally_of_kind (λ (cell : Cell). cell.id.packet) k (λ n. not (p.is_taken n))
         (λ cell. cell.output == j && is_first cell) (came_at input arrived)
@@ -190,20 +184,18 @@ module _ (t : Tables) (captures : List (List Captured)) (sent : List Departure) 
     unfolding packets_out
     written = length-map (filter (ends_packet_at j) sent) (leaving t captures)
         ∙ tally_by_parts (ends_packet_at j) (λ d. d.queued.cell.id.input) (λ d. d.queued.cell.id.packet)
-        (length captures) many sent
-        (all_weaker (λ d. IsOfPacket t captures d.queued.cell) _ (λ d of. (of.input, of.packet)) sent left)
+        (length captures) many sent (search (arith, rules, all_weaker))
 
     counted : packets_refused j refused ≡ sum_by refusals inputs
     unfolding packets_refused
     counted = tally_by_parts (λ cell. cell.output == j && is_first cell) (λ cell. cell.id.input)
-        (λ cell. cell.id.packet) (length captures) many refused (all_weaker (IsOfPacket t captures) _
-        (λ cell of. (of.input, of.packet)) refused lost)
+        (λ cell. cell.id.packet) (length captures) many refused (search (arith, rules, all_weaker))
 
     from_input : (input : ℕ) → input < length captures → lefts input + refusals input ≡ number_from t captures j input
     from_input input inside =
         let times : ℕ → ℕ = λ k. times_left input k j sent + times_refused input k j refused in
         let goes : ℕ → ℕ = λ k. bit (output_of t captures input k == j) in
-        sym (sum_by_both (λ k. times_left input k j sent) (λ k. times_refused input k j refused) (packets input))
+        sym (search (arith, rules, sum_by_both))
         ∙ sum_by_same times goes (packets input)
         (all_in_row _ 0 (many input) (λ k less. each_once input k j inside (omega arith)))
         ∙ sym (length-filter (λ k. output_of t captures input k == j) (packets input))
@@ -268,10 +260,7 @@ module _ (t : Tables) (captures : List (List Captured)) (tables : AreTables t)
     unfolding ideal_departures
     left =
         let whole = left_in_packets t captures sent tables many (ap departures_limited is) in
-        all_from_has (λ (d : Departure). IsOfPacket t captures d.queued.cell) sent (λ d has.
-        let it = came_as came sent whole d has in
-        subst (IsOfPacket t captures) it.own (all_of_has (λ (a : Arrival). IsOfPacket t captures a.cell) came it.arrival
-        (all_of_packets t captures) it.has))
+        search (arith, rules, all_from_has, came_as came sent whole, all_of_has, all_of_packets t captures)
 
     lost : AllByRecursion (IsOfPacket t captures) (refused_in ran.admissions)
     unfolding ran_ideal
@@ -288,17 +277,11 @@ module _ (t : Tables) (captures : List (List Captured)) (tables : AreTables t)
         let few : input < most_ports = omega arith in
         each_leaves_or_is_refused t.limits (machines_of t.setup) ports (openings_of t.setup) came ran runs is input few
         (packets input few) in
-        record {
-          whole = parted;
-          each = search (arith, rules, each_once t captures sent (refused_in ran.admissions) parted left lost);
-          all = all_once t captures sent (refused_in ran.admissions) parted left lost;
-          nowhere_else = search (arith, rules, refuses_none_elsewhere, keep_output);
-        }
+        search (arith, rules, each_once, left, lost, all_once, refuses_none_elsewhere, keep_output)
 
 pub each_packet_once : (t : Tables) (captures : List (List Captured)) (rs : List LimitedRecord) → AreTables t →
     length captures ≡ ports_of t.setup → IsFabricRun t (arrivals t captures) rs →
     EachPacketOnce t captures (departures_in_run rs) (refused_in_run rs)
 each_packet_once t captures rs tables many is =
     let slot_by_slot-here = slot_by_slot t (arrivals t captures) rs in
-    let traffic_is-here = traffic_is t captures tables many in
-    let packets_of_ran-here = packets_of_ran t captures tables many in grind (arith, common_steps)
+    search (arith, rules, traffic_is t captures tables many, packets_of_ran t captures tables many)

@@ -2,7 +2,7 @@
 -- state says was sent, and then what waits in it, are the arrivals that it names, in their order. What waits leaves
 -- first, as it does from the list of the ideal switch beside it, and then what is admitted of what comes. A packet
 -- that the state names is named with all its cells, and goes on as it began.
-use Rattle.cq_simulate.proofs.Terms.{rules, ◌≡◌, ℕ, ◌+◌, ◌<◌, ◌≤◌, Bool, not, List, [], ◌∷◌, ◌++◌, length, filter, Option, refl, sym, ap, ◌∙◌, ⊎_elim, arith, false, common_steps, All, AllByRecursion, cases_lt, append_assoc, map-append, take_all, filter-append, get_or-map-range_with_len, Arrival, Cell, traffic_is, arrivals, schedule_of, IsTraffic, come_in_order, comes_at_input, AreOfClasses, present, flow_came, no_port, is_of_flow, of_flow, shown, is_run_of, comes_from, line_at, rest_of, Marked, admitted_in, arriving_from, IsRunnable, came_in_flow, comes_in_flow, left_in_flow, departures_of, IdealState, LimitedRan, AreForPorts, AreOfPackets, cells_at, agrees_of, empty_together, Agrees, Fabric, ideal_of, LimitedRunsAlike, LimitedFabricRun, LimitedRecord, admissions_in, slots_in, gone_in, Captured, list_of, IsInputBest, machine_at, firsts_at, frozen_told, is_refused, latest, marks_told, sent_told, taken_of, IsResumed, Kept, RunsOn, IsSound, HasShape, Switch, switch_of, fabric_told, is_named, named_in, Taken, EachPair, GoesOn, goes_on, ports_are, all_from_has, AreTables, classes_of, ports_of, Tables, openings_of, machines_of, LeaveInOrder, LeaveWhole, LeftInOrder, CanBeTakenUp, IsInRange, State, slots_fit, all_filter, all_in_range, class_in_slot, none_came, flow_on, whole_on, StandAt, stand_in, best_act_alike, most_ports}
+use Rattle.cq_simulate.proofs.Terms.{rules, ◌≡◌, ℕ, ◌+◌, ◌<◌, ◌≤◌, Bool, not, List, [], ◌∷◌, ◌++◌, length, filter, Option, refl, sym, ap, ◌∙◌, ⊎_elim, arith, common_steps, All, AllByRecursion, cases_lt, append_assoc, map-append, take_all, filter-append, get_or-map-range_with_len, Arrival, Cell, traffic_is, arrivals, schedule_of, IsTraffic, come_in_order, comes_at_input, AreOfClasses, present, flow_came, no_port, is_of_flow, of_flow, shown, is_run_of, comes_from, line_at, rest_of, Marked, admitted_in, arriving_from, IsRunnable, came_in_flow, comes_in_flow, left_in_flow, departures_of, IdealState, LimitedRan, AreForPorts, AreOfPackets, cells_at, agrees_of, empty_together, Agrees, Fabric, ideal_of, LimitedRunsAlike, LimitedFabricRun, LimitedRecord, admissions_in, slots_in, gone_in, Captured, list_of, IsInputBest, machine_at, firsts_at, frozen_told, is_refused, latest, marks_told, sent_told, taken_of, IsResumed, Kept, RunsOn, IsSound, HasShape, Switch, switch_of, fabric_told, is_named, named_in, Taken, EachPair, GoesOn, goes_on, all_from_has, AreTables, classes_of, ports_of, Tables, openings_of, LeaveInOrder, LeaveWhole, LeftInOrder, CanBeTakenUp, IsInRange, State, slots_fit, all_filter, all_in_range, class_in_slot, none_came, flow_on, whole_on, StandAt, stand_in, best_act_alike, most_ports}
 use Rattle.cq_ideal.proofs.RestAtInput.{cells_of}
 use Rattle.cq_simulate.proofs.NamedFlow.{line_rises, told_flow, stands_there, IsEarlier, early_of, is_taken, packets_behind, parted_at, taken_before, taken_behind, next_after, packet}
 use Rattle.cq_simulate.proofs.OfPackets.{none_from, packets_come}
@@ -138,11 +138,7 @@ module _ (t : Tables) (captures : List (List Captured)) (are : AreTables t) (man
     line_is = ⊎_elim (λ (inside : i < ports). (
       rw (come_in_order i (omega arith) came runs.rise) at (packets_come t captures i are many),
       comes_from i (omega arith) came next (length rs) runs.rise runs_on.all_came,
-    ))
-        (λ (past : ports ≤ i). (
-          rw (no_line past) tt,
-          rw (no_line past) (none_from ports (classes_of t.setup) came comes_as i past next (length rs)),
-        )) (cases_lt i ports)
+    )) (search (arith, rules, no_line, none_from, comes_as)) (cases_lt i ports)
 
     rises : EachPair IsEarlier line
     rises = line_rises came comes_as.one_by_one i
@@ -160,13 +156,8 @@ module _ (t : Tables) (captures : List (List Captured)) (are : AreTables t) (man
     goes_as_marked : (p : ℕ) → p + 1 ≡ begin → taken p ≡ not (is_refused came s (latest (firsts_at came s i)))
     unfolding next_after
     goes_as_marked p last = ⊎_elim (λ (inside : i < ports).
-        let known : s.head.ports ≡ length (machines_of t.setup) = ports_are w s in_range shape sound traffic in
-        let as_many : length (machines_of t.setup) ≡ ports = machines_many t in
-        (whole_on w.limits w.machines next slots beside ran alike.ran stand over i begin late_packets).before p
-        last
-        ∙ ap not (get_or-map-range_with_len (λ (k : ℕ). is_refused came s (latest (firsts_at came s k))) 0
-        s.head.ports i i false (omega arith) (omega arith)))
-        (λ (past : ports ≤ i). let none : begin ≡ 0 = rw (no_line past) in absurd (omega arith)) (cases_lt i ports)
+        search (arith, rules, machines_many, whole_on, stand, over, late_packets, get_or-map-range_with_len))
+        (search (arith, rules, no_line)) (cases_lt i ports)
 
     -- and of all packets
     abbrev takes : ℕ → Bool
@@ -223,8 +214,7 @@ module _ (t : Tables) (captures : List (List Captured)) (are : AreTables t) (man
       left_is : left_in_flow i c j kept.sent ≡ first_left ++ left_in_flow i c j (departures_of next ran.gone)
       unfolding frozen_told
       left_is =
-          let is : kept.sent ≡ sent_told came s ++ departures_of next ran.gone =
-          ap (λ (k : Kept). k.sent) resumed.kept_is in grind (arith, common_steps, filter-append, map-append)
+          grind (arith, common_steps, filter-append, map-append)
 
       told_first : first_left ++ waits ≡ cells_of told
       told_first = told_flow w s in_range shape sound traffic agrees j i c
@@ -235,7 +225,7 @@ module _ (t : Tables) (captures : List (List Captured)) (are : AreTables t) (man
           let as_many = machines_many t in
           let all = many_are in
           let ranks = ap (λ (l : List (List ℕ)). length l) agrees.ranks in
-          let rest : List Cell = filter taken_cell (flow_came i c j slots) in
+          let rest = filter taken_cell (flow_came i c j slots) in
           let flow = flow_on w.limits w.machines next slots beside ran alike.ran stand over i begin late_packets c j
           (runs.machines j inside) (omega arith) (omega arith)
           (stands_there w s in_range shape sound traffic agrees j (omega arith) (right_classes t.setup j inside))
@@ -247,13 +237,13 @@ module _ (t : Tables) (captures : List (List Captured)) (are : AreTables t) (man
           let lists = agrees.ports in
           let all = many_are in
           let high : length (ideal_of f).lists ≤ j = omega arith in
-          let none : came_in_flow i c j came ≡ [] = none_came w.machines ports i c j came runs.for_switch past in
-          let nothing : filter takes_cell (came_in_flow i c j came) ≡ [] = ap (filter takes_cell) none in
+          let none = none_came w.machines ports i c j came runs.for_switch past in
+          let nothing = ap (filter takes_cell) none in
           let none_told = no_first (cells_of told) (filter taken_cell later) (sym takes_parts ∙ nothing) in
-          let none_first : first_left ≡ [] = no_first first_left waits (told_first ∙ none_told) in
+          let none_first = no_first first_left waits (told_first ∙ none_told) in
           let ideal_runs = is_run_of w.limits w.machines next slots beside ran alike.ran in
-          let none_left : left_in_flow i c j (departures_of next ran.gone) ≡ [] =
-          no_port w.machines i c j (admitted_in (admissions_in rs)) next (ideal_of f) _ ideal_runs high in
+          let admitted = admitted_in (admissions_in rs) in
+          let none_left = no_port w.machines i c j admitted next (ideal_of f) _ ideal_runs high in
           rw (left_is, none_first, none_left, nothing)
 
     left_taken : (c j : ℕ) → left_in_flow i c j kept.sent ≡ filter takes_cell (came_in_flow i c j came)
