@@ -6,12 +6,7 @@ module _ (words : List ℕ) (ports input : ℕ) where
   made_in : ℕ → Captured
   made_in slot = packet_of ports slot input (draw_for words ports slot input)
 
-  -- before the first slot
-  pub none_put : (bytes : List ℕ) → bytes ≡ written [] → bytes ≡ written (map to_write (packets_to words ports 0 input))
-  unfolding packets_to
-  none_put bytes is = is
-
-  -- and with one slot more
+  -- with one slot more
   more : (slot : ℕ) → packets_to words ports slot input ++ made_in slot ∷ [] ≡ packets_to words ports (slot + 1) input
   unfolding packets_to made_in
   more slot = search (rules, counted_more)

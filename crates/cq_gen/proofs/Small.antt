@@ -65,14 +65,8 @@ module _ (words : List ℕ) (ports slots input : ℕ) (few : slots ≤ 20000) (b
 -- a file that is read has no fault, so a refusal is want of memory
 pub only_memory : (bytes : List ℕ) (packets : List Captured) (why : PcapRefusal) → packets_of bytes ≡ Ok packets →
     IfSome (fault_of why) (λ fault. packets_of bytes ≡ Err fault) → why ≡ refusal.NoMemory
-only_memory bytes packets refusal.NoHeader read unread = absurd (let P : ⊥ = cc in P)
-only_memory bytes packets refusal.Magic read unread = absurd (let P : ⊥ = cc in P)
-only_memory bytes packets refusal.Version read unread = absurd (let P : ⊥ = cc in P)
-only_memory bytes packets refusal.LinkType read unread = absurd (let P : ⊥ = cc in P)
-only_memory bytes packets (refusal.CutHeader offset) read unread = absurd (let P : ⊥ = cc in P)
-only_memory bytes packets (refusal.CutBody offset) read unread = absurd (let P : ⊥ = cc in P)
-only_memory bytes packets (refusal.LongRecord offset len) read unread = absurd (let P : ⊥ = cc in P)
 only_memory bytes packets refusal.NoMemory read unread = refl
+only_memory bytes packets why read unread = absurd (let P : ⊥ = cc in P)
 
 -- and what is read is the packets
 pub same_packets : (bytes : List ℕ) (read packets : List Captured) → packets_of bytes ≡ Ok packets →
