@@ -1,5 +1,5 @@
 -- The words of this crate's proofs that stand elsewhere, each passed on from its place.
-pub use Rattle.cq_base.proofs.Library.{AllByRecursion, AllPairs, Bool, Bor, Err, Global, IfErr, IfOk, IfSome, IsErr, IsErrAnd, IsErrOf, IsOk, IsOkAnd, IsTrue, List, MatchOption, None, Ok, Option, Result, Some, Vec, [], add-one, and_from, ap, append-nil, append_assoc, append_known, arith, bytes_eq-Decides, cases_eq, codes, common_steps, cond, cond-true, drop, drop_all, drop_more, eq-eqb, eq_by_cmp_equiv, exact_bytes, false, filter, filter-append, find, flat_map, flat_map-append, get, get-insert, get-remove, get_or, if◌then◌else◌, inl, inr, is_some, le-ltb, leb-true, length, length-append, length-drop, length-take-le, list_any, lt-ltb, map, nat_le, nat_list_cmp_total, nat_lt, ne_eqb, nil_from_length, not, not_from_false, option_map, option_map_or, range_with_len, recursion_from_All, refl, replicate, rules, slice_index, slice_index_or, string_bytes, subst, suc, sym, take, take-append-add, take-append-drop, take_all, take_at, take_more, tells_apart, true, vec_len, zero, ℕ, ⊎_elim, ◌&&◌, ◌*◌, ◌++◌, ◌+◌, ◌-◌, ◌<◌, ◌==◌, ◌^◌, ◌∙◌, ◌∷◌, ◌≡◌, ◌≢◌, ◌≤◌, ◌⊎◌}
+pub use Rattle.cq_base.proofs.Library.{AllByRecursion, AllPairs, Bool, Err, Global, IfErr, IfOk, IfSome, IsErr, IsErrAnd, IsErrOf, IsOk, IsOkAnd, IsTrue, List, MatchOption, None, Ok, Option, Result, Some, Vec, [], add-one, and_from, ap, append-nil, append_assoc, append_known, arith, bytes_eq-Decides, cases_eq, codes, common_steps, cond, cond-true, drop, drop_all, drop_more, eq-eqb, eq_by_cmp_equiv, exact_bytes, false, filter, filter-append, find, flat_map, get, get-insert, get-remove, get_or, if◌then◌else◌, inl, inr, is_some, le-ltb, leb-true, length, length-append, length-drop, length-take-le, list_any, lt-ltb, map, nat_le, nat_list_cmp_total, nat_lt, ne_eqb, nil_from_length, not, not_from_false, option_map, option_map_or, range_with_len, recursion_from_All, refl, replicate, rules, slice_index, slice_index_or, string_bytes, subst, suc, sym, take, take-append-add, take-append-drop, take_all, take_at, take_more, tells_apart, true, vec_len, zero, ℕ, ⊎_elim, ◌&&◌, ◌*◌, ◌++◌, ◌+◌, ◌-◌, ◌<◌, ◌==◌, ◌^◌, ◌∙◌, ◌∷◌, ◌≡◌, ◌≢◌, ◌≤◌, ◌⊎◌}
 pub use Rattle.cq_base.specs.Arriving.{Arrival, arriving, arriving_at, end_of, is_at, traffic_of}
 unfoldable pub use Rattle.cq_base.specs.Arriving.{enough}
 pub use Rattle.cq_base.specs.{declared.cell.Departure.Departure, declared.cell.TagFault.TagFault, declared.cell.Transfer.Transfer}
@@ -49,10 +49,11 @@ pub use Rattle.cq_run.specs.Pace.{Ahead, AnyName, InTurn, Pace, Uncounted, pace_
 pub use Rattle.cq_run.specs.PartEnds.{IsPartHalt, IsResumeHalt, IsResumedBy, IsResuming, halt_for_state, halt_for_text, kept_by}
 pub use Rattle.cq_run.specs.Parting.{IsPartRefusal, IsPartText, IsResumeRefusal, IsResumedText}
 pub use Rattle.cq_run.specs.Passing.{all_leave, as_it_leaves, capture_of_all}
+pub use Rattle.cq_run.specs.Pieces.{joined, piece_text}
 pub use Rattle.cq_run.specs.Planning.{CommandHalts, Decides, IsDenial, IsWithinRange, known_by, known_to}
 pub use Rattle.cq_run.specs.Plan.{audited, capture_out, checked, passed, file_alone}
 unfoldable pub use Rattle.cq_run.specs.Plan.{captures_out, crossed, reported, resumed, switched}
-pub use Rattle.cq_run.specs.Refusals.{fault_text, in_phase_text, is_fault, is_no, meaning_of}
+pub use Rattle.cq_run.specs.Refusals.{is_fault, is_no, meaning_of}
 pub use Rattle.cq_run.specs.Switching.{IsCrossed, IsCrossing, IsIdeal, IsPassing, IsSwitched, halt_for, halt_of, sent_by, under_names}
 pub use Rattle.cq_run.specs.Verdict.{MayRead, MayWrite, capture_in, capture_of, captures_in, found_or_missing, ideally_sent, judged, judged_or_words, named, packets_at, read_or_faulty, read_or_refused_for, sent_or_tag, short_in, short_or, state_in, tables_in, text_in, ◌>>=◌}
 unfoldable pub use Rattle.cq_run.specs.Verdict.{captures_from}

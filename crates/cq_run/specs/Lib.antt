@@ -23,6 +23,7 @@ pub mod Headline
 pub mod Judged
 pub mod Ending
 pub mod Line
+pub mod Pieces
 pub mod Answers
 pub mod RunsAudited
 pub mod StatusCauses

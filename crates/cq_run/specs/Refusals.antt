@@ -50,18 +50,14 @@ abbrev pub is_fault : CaptureFault → Bool
 is_fault (Read NoMemory) = false
 is_fault fault = true
 
--- in which phase of which slot
-abbrev pub in_phase_text : ℕ → ℕ → List ℕ
-in_phase_text slot phase = codes " at slot " ++ decimal slot ++ codes " phase " ++ decimal phase
-
 -- what an audit refuses a log for, with its figures; want of memory says nothing of a log
 abbrev pub log_text : AuditRefusal → List ℕ
 log_text (of_log.Line n) = codes "audit: A1 at line " ++ decimal n
 log_text (of_log.Transfer slot phase input) =
-    (codes "audit: A2" ++ in_phase_text slot phase) ++ (codes " input " ++ decimal input)
+    codes "audit: A2 at slot " ++ decimal slot ++ codes " phase " ++ decimal phase ++ codes " input " ++ decimal input
 log_text (of_log.Blocking slot phase input output) =
-    (codes "audit: A3" ++ in_phase_text slot phase)
-    ++ (codes " input " ++ decimal input ++ codes " output " ++ decimal output)
+    codes "audit: A3 at slot " ++ decimal slot ++ codes " phase " ++ decimal phase ++ codes " input " ++ decimal input
+    ++ codes " output " ++ decimal output
 log_text (of_log.Left n) = codes "audit: A4 at line " ++ decimal n
 log_text of_log.NoMemory = []
 

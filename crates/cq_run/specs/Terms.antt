@@ -30,9 +30,10 @@ pub use Rattle.cq_run.specs.Judging.{Halts, Judges, IsHaltOf}
 pub use Rattle.cq_run.specs.Line.{Says, line, halt_text, unwritten_text, stop_text, Tells}
 pub use Rattle.cq_run.specs.Pace.{Ahead, InTurn, pace_of}
 pub use Rattle.cq_run.specs.PartEnds.{IsResumeHalt, IsResuming, IsPartHalt, IsResumedBy, halt_for_state, halt_for_text}
+pub use Rattle.cq_run.specs.Pieces.{joined, piece_text}
 pub use Rattle.cq_run.specs.Planning.{IsWithinRange, known_by}
 pub use Rattle.cq_run.specs.Plan.{audited, capture_out, captures_out, check_line, checked, counted, file_alone, switched, yes_line}
-pub use Rattle.cq_run.specs.Refusals.{is_no, meaning_of, denial_text, fault_text, log_text, refusal_text, state_fault_text}
+pub use Rattle.cq_run.specs.Refusals.{is_no, meaning_of, denial_text, log_text, refusal_text, state_fault_text}
 pub use Rattle.cq_run.specs.Running.{IsEmptied, reader_of}
 pub use Rattle.cq_run.specs.Switching.{IsSwitched, sent_by, under_names, IsCrossing, IsIdeal, IsPassing, halt_for, halt_of, IsCrossed}
 pub use Rattle.cq_run.specs.Verdict.{captures_from, packets_at, ideally_sent, sent_or_tag, capture_in, captures_in, short_in, state_in, tables_in, text_in, verdict}

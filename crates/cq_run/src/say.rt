@@ -1,7 +1,6 @@
 //! The line that tells why a run stopped. Nothing here takes memory.
-ghost use Rattle.std.specs.Prelude.{◌++◌};
-ghost use Rattle.std.specs.List.{flat_map};
-ghost use Rattle.cq_run.specs.Terms.{decimal, denial_text, fault_text, log_text, refusal_text, meaning_of, state_fault_text, Says, line, halt_text, unwritten_text, stop_text};
+ghost use Rattle.std.specs.Prelude.{◌++◌, codes};
+ghost use Rattle.cq_run.specs.Terms.{decimal, denial_text, log_text, refusal_text, meaning_of, state_fault_text, Says, joined, line, piece_text, halt_text, unwritten_text, stop_text};
 
 use crate::{CaptureFault, Denial, Halt, Refusal, StateFault, Stop, Unwritten};
 use cq_audit::AuditRefusal;
@@ -16,6 +15,14 @@ const USAGE: &[u8; 174] =
 const READ_FAULT: &[u8; 12] = b"read fault: ";
 
 const WRITE_FAULT: &[u8; 13] = b"write fault: ";
+
+// A piece of a line.
+#[derive(Clone, Copy)]
+enum Piece<'a> {
+    Text(&'a [u8]),
+    // A number, in decimal digits.
+    Number(u64),
+}
 
 /// Puts the line of a stop. After a fault, which comes only where the sink's count of faults rose, a
 /// front of the line was put.
@@ -61,43 +68,36 @@ fn say_refusal<S: Sink>(sink: &mut S, refusal: &Refusal) -> Result<(), WriteFaul
     }
 }
 
+#[tactic(auto, using(crate::proofs::Put::puts_as))]
 fn say_configuration<S: Sink>(sink: &mut S, code: u8, path: &Name) -> Result<(), WriteFault>
     ensures { Says S.taken S.faults (line (meaning_of (Refusal.Configuration code path.now)).text)
         sink.old sink.new result }
 {
-    let mut places = [0u8; MOST_DIGITS];
-    let count = digits(u128::from(code), &mut places);
-    put_pieces(
+    let path = path.text().as_bytes();
+    put_line(
         sink,
         &[
-            b"configuration: C",
-            &places[..count],
-            b" at ",
-            path.text().as_bytes(),
-            b"\n",
+            Piece::Text(b"configuration: C"),
+            Piece::Number(u64::from(code)),
+            Piece::Text(b" at "),
+            Piece::Text(path),
         ],
     )
 }
 
+#[tactic(auto, using(crate::proofs::Put::puts_as))]
 fn say_tag<S: Sink>(sink: &mut S, fault: TagFault) -> Result<(), WriteFault>
     ensures { Says S.taken S.faults (line (meaning_of (Refusal.Tag fault)).text) sink.old sink.new result }
 {
-    let mut slot = [0u8; MOST_DIGITS];
-    let slot_count = digits(u128::from(fault.slot), &mut slot);
-    let mut input = [0u8; MOST_DIGITS];
-    let input_count = digits(u128::from(fault.input), &mut input);
-    let mut output = [0u8; MOST_DIGITS];
-    let output_count = digits(u128::from(fault.output), &mut output);
-    put_pieces(
+    put_line(
         sink,
         &[
-            b"tag: slot ",
-            &slot[..slot_count],
-            b", input ",
-            &input[..input_count],
-            b", output ",
-            &output[..output_count],
-            b"\n",
+            Piece::Text(b"tag: slot "),
+            Piece::Number(fault.slot),
+            Piece::Text(b", input "),
+            Piece::Number(u64::from(fault.input)),
+            Piece::Text(b", output "),
+            Piece::Number(u64::from(fault.output)),
         ],
     )
 }
@@ -105,42 +105,89 @@ fn say_tag<S: Sink>(sink: &mut S, fault: TagFault) -> Result<(), WriteFault>
 fn say_capture<S: Sink>(sink: &mut S, input: u16, fault: CaptureFault) -> Result<(), WriteFault>
     ensures { Says S.taken S.faults (line (meaning_of (Refusal.Capture input fault)).text) sink.old sink.new result }
 {
-    let mut places = [0u8; MOST_DIGITS];
-    let count = digits(u128::from(input), &mut places);
-    put_pieces(sink, &[b"capture of input ", &places[..count], b": "])?;
-    say_fault(sink, fault)
-}
-
-fn say_fault<S: Sink>(sink: &mut S, fault: CaptureFault) -> Result<(), WriteFault>
-    ensures { Says S.taken S.faults (line (fault_text fault)) sink.old sink.new result }
-{
     match fault {
-        CaptureFault::Read(refusal) => say_unreadable(sink, refusal),
-        CaptureFault::Long { limit } => say_number(sink, b"8, limit ", limit),
+        CaptureFault::Read(refusal) => say_unreadable(sink, input, refusal),
+        CaptureFault::Long { limit } => say_fault_with(sink, input, b"8, limit ", limit),
     }
 }
 
-fn say_unreadable<S: Sink>(sink: &mut S, refusal: PcapRefusal) -> Result<(), WriteFault>
-    ensures { Says S.taken S.faults (line (refusal_text refusal)) sink.old sink.new result }
+fn say_unreadable<S: Sink>(sink: &mut S, input: u16, refusal: PcapRefusal) -> Result<(), WriteFault>
+    ensures { Says S.taken S.faults (line (codes "capture of input " ++ decimal input ++ codes ": "
+        ++ refusal_text refusal)) sink.old sink.new result }
 {
     match refusal {
-        PcapRefusal::NoHeader => say_line(sink, b"1"),
-        PcapRefusal::Magic => say_line(sink, b"2"),
-        PcapRefusal::Version => say_line(sink, b"3"),
-        PcapRefusal::LinkType => say_line(sink, b"4"),
-        PcapRefusal::CutHeader { offset } => say_number(sink, b"5 at ", offset),
-        PcapRefusal::CutBody { offset } => say_number(sink, b"6 at ", offset),
-        PcapRefusal::LongRecord { offset, length } => say_long_record(sink, offset, length),
-        PcapRefusal::NoMemory => say_line(sink, b""),
+        PcapRefusal::NoHeader => say_fault(sink, input, b"1"),
+        PcapRefusal::Magic => say_fault(sink, input, b"2"),
+        PcapRefusal::Version => say_fault(sink, input, b"3"),
+        PcapRefusal::LinkType => say_fault(sink, input, b"4"),
+        PcapRefusal::CutHeader { offset } => say_fault_with(sink, input, b"5 at ", offset),
+        PcapRefusal::CutBody { offset } => say_fault_with(sink, input, b"6 at ", offset),
+        PcapRefusal::LongRecord { offset, length } => say_long_record(sink, input, offset, length),
+        PcapRefusal::NoMemory => say_fault(sink, input, b""),
     }
 }
 
-fn say_long_record<S: Sink>(sink: &mut S, offset: u64, length: u32) -> Result<(), WriteFault>
-    ensures { Says S.taken S.faults (line (refusal_text (PcapRefusal.LongRecord offset length)))
-        sink.old sink.new result }
+// The fault of a capture of this number.
+#[tactic(auto, using(crate::proofs::Put::puts_as))]
+fn say_fault<S: Sink>(sink: &mut S, input: u16, number: &[u8]) -> Result<(), WriteFault>
+    ensures { Says S.taken S.faults (line (codes "capture of input " ++ decimal input ++ codes ": "
+        ++ number.now)) sink.old sink.new result }
 {
-    put_two(sink, b"7 at ", offset, b", length ", u64::from(length))?;
-    put_pieces(sink, &[b"\n"])
+    put_line(
+        sink,
+        &[
+            Piece::Text(b"capture of input "),
+            Piece::Number(u64::from(input)),
+            Piece::Text(b": "),
+            Piece::Text(number),
+        ],
+    )
+}
+
+// The same, with a figure behind the number.
+#[tactic(auto, using(crate::proofs::Put::puts_as))]
+fn say_fault_with<S: Sink>(
+    sink: &mut S,
+    input: u16,
+    number: &[u8],
+    figure: u64,
+) -> Result<(), WriteFault>
+    ensures { Says S.taken S.faults (line (codes "capture of input " ++ decimal input ++ codes ": "
+        ++ number.now ++ decimal figure)) sink.old sink.new result }
+{
+    put_line(
+        sink,
+        &[
+            Piece::Text(b"capture of input "),
+            Piece::Number(u64::from(input)),
+            Piece::Text(b": "),
+            Piece::Text(number),
+            Piece::Number(figure),
+        ],
+    )
+}
+
+#[tactic(auto, using(crate::proofs::Put::puts_as))]
+fn say_long_record<S: Sink>(
+    sink: &mut S,
+    input: u16,
+    offset: u64,
+    length: u32,
+) -> Result<(), WriteFault>
+    ensures { Says S.taken S.faults (line (codes "capture of input " ++ decimal input ++ codes ": "
+        ++ refusal_text (PcapRefusal.LongRecord offset length))) sink.old sink.new result }
+{
+    put_line(
+        sink,
+        &[
+            Piece::Text(b"capture of input "),
+            Piece::Number(u64::from(input)),
+            Piece::Text(b": 7 at "),
+            Piece::Number(offset),
+            Piece::Text(b", length "),
+            Piece::Number(u64::from(length)),
+        ],
+    )
 }
 
 fn say_denial<S: Sink>(sink: &mut S, denial: Denial) -> Result<(), WriteFault>
@@ -171,15 +218,25 @@ fn say_log<S: Sink>(sink: &mut S, refusal: AuditRefusal) -> Result<(), WriteFaul
     }
 }
 
+#[tactic(auto, using(crate::proofs::Put::puts_as))]
 fn say_transfer<S: Sink>(sink: &mut S, slot: Slot, phase: u8, input: Port) -> Result<(), WriteFault>
     ensures { Says S.taken S.faults (line (log_text (AuditRefusal.Transfer slot phase input)))
         sink.old sink.new result }
 {
-    let phase = u64::from(phase);
-    put_two(sink, b"audit: A2 at slot ", slot, b" phase ", phase)?;
-    say_number(sink, b" input ", u64::from(input))
+    put_line(
+        sink,
+        &[
+            Piece::Text(b"audit: A2 at slot "),
+            Piece::Number(slot),
+            Piece::Text(b" phase "),
+            Piece::Number(u64::from(phase)),
+            Piece::Text(b" input "),
+            Piece::Number(u64::from(input)),
+        ],
+    )
 }
 
+#[tactic(auto, using(crate::proofs::Put::puts_as))]
 fn say_blocking<S: Sink>(
     sink: &mut S,
     slot: Slot,
@@ -190,10 +247,19 @@ fn say_blocking<S: Sink>(
     ensures { Says S.taken S.faults (line (log_text (AuditRefusal.Blocking slot phase input output)))
         sink.old sink.new result }
 {
-    let (phase, input, output) = (u64::from(phase), u64::from(input), u64::from(output));
-    put_two(sink, b"audit: A3 at slot ", slot, b" phase ", phase)?;
-    put_two(sink, b" input ", input, b" output ", output)?;
-    put_pieces(sink, &[b"\n"])
+    put_line(
+        sink,
+        &[
+            Piece::Text(b"audit: A3 at slot "),
+            Piece::Number(slot),
+            Piece::Text(b" phase "),
+            Piece::Number(u64::from(phase)),
+            Piece::Text(b" input "),
+            Piece::Number(u64::from(input)),
+            Piece::Text(b" output "),
+            Piece::Number(u64::from(output)),
+        ],
+    )
 }
 
 fn say_state<S: Sink>(sink: &mut S, fault: StateFault) -> Result<(), WriteFault>
@@ -210,49 +276,41 @@ fn say_state<S: Sink>(sink: &mut S, fault: StateFault) -> Result<(), WriteFault>
 fn say_line<S: Sink>(sink: &mut S, text: &[u8]) -> Result<(), WriteFault>
     ensures { Says S.taken S.faults (line text.now) sink.old sink.new result }
 {
-    put_pieces(sink, &[text, b"\n"])
+    put_line(sink, &[Piece::Text(text)])
 }
 
+#[tactic(auto, using(crate::proofs::Put::puts_as))]
 fn say_name<S: Sink>(sink: &mut S, head: &[u8], name: &Name) -> Result<(), WriteFault>
     ensures { Says S.taken S.faults (line (head.now ++ name.now)) sink.old sink.new result }
 {
-    put_pieces(sink, &[head, name.text().as_bytes(), b"\n"])
+    let name = name.text().as_bytes();
+    put_line(sink, &[Piece::Text(head), Piece::Text(name)])
 }
 
 fn say_number<S: Sink>(sink: &mut S, head: &[u8], number: u64) -> Result<(), WriteFault>
     ensures { Says S.taken S.faults (line (head.now ++ decimal number)) sink.old sink.new result }
 {
-    let mut places = [0u8; MOST_DIGITS];
-    let count = digits(u128::from(number), &mut places);
-    put_pieces(sink, &[head, &places[..count], b"\n"])
+    put_line(sink, &[Piece::Text(head), Piece::Number(number)])
 }
 
-// Puts two numbers, each behind a text.
-fn put_two<S: Sink>(
-    sink: &mut S,
-    head: &[u8],
-    number: u64,
-    middle: &[u8],
-    other: u64,
-) -> Result<(), WriteFault>
-    ensures { Says S.taken S.faults (head.now ++ decimal number ++ middle.now ++ decimal other)
-        sink.old sink.new result }
+fn put_line<S: Sink>(sink: &mut S, pieces: &[Piece]) -> Result<(), WriteFault>
+    ensures { Says S.taken S.faults (line (joined pieces.now)) sink.old sink.new result }
 {
-    let mut places = [0u8; MOST_DIGITS];
-    let count = digits(u128::from(number), &mut places);
-    let mut others = [0u8; MOST_DIGITS];
-    let other_count = digits(u128::from(other), &mut others);
-    put_pieces(
-        sink,
-        &[head, &places[..count], middle, &others[..other_count]],
-    )
-}
-
-fn put_pieces<S: Sink>(sink: &mut S, pieces: &[&[u8]]) -> Result<(), WriteFault>
-    ensures { Says S.taken S.faults (flat_map (λ p. p.now) pieces.now) sink.old sink.new result }
-{
-    for piece in pieces {
-        put_all(sink, piece)?;
+    'pieces: for piece in pieces {
+        put_piece(sink, *piece)?;
     }
-    Ok(())
+    put_all(sink, b"\n")
+}
+
+fn put_piece<S: Sink>(sink: &mut S, piece: Piece) -> Result<(), WriteFault>
+    ensures { Says S.taken S.faults (piece_text piece.entry) sink.old sink.new result }
+{
+    match piece {
+        Piece::Text(text) => put_all(sink, text),
+        Piece::Number(number) => {
+            let mut places = [0u8; MOST_DIGITS];
+            let count = digits(u128::from(number), &mut places);
+            put_all(sink, &places[..count])
+        }
+    }
 }
