@@ -28,7 +28,7 @@ pub use Rattle.cq_run.specs.Headline.{AreGiven, Emulates}
 pub use Rattle.cq_run.specs.Input.{IsHaltFor, IsFileOf, IsInFront}
 pub use Rattle.cq_run.specs.Judging.{Halts, Judges, IsHaltOf}
 pub use Rattle.cq_run.specs.Line.{Says, line, halt_text, unwritten_text, stop_text, Tells}
-pub use Rattle.cq_run.specs.Pace.{Ahead, InTurn, pace_of}
+pub use Rattle.cq_run.specs.Pace.{Ahead, InTurn, Pace, pace_of}
 pub use Rattle.cq_run.specs.PartEnds.{IsResumeHalt, IsResuming, IsPartHalt, IsResumedBy, halt_for_state, halt_for_text}
 pub use Rattle.cq_run.specs.Pieces.{joined, piece_text}
 pub use Rattle.cq_run.specs.Planning.{IsWithinRange, known_by}

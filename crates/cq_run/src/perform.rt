@@ -1,15 +1,35 @@
 //! Writing what is planned.
-ghost use Rattle.std.specs.Prelude.{◌≡◌, IfErr, OnOk};
-ghost use Rattle.cq_run.specs.Terms.{Fails, FailsTaking, Writes, Closed, world, IsDone, IsCut, IsCutAtFile, all_replaced};
+ghost use Rattle.std.specs.Prelude.{◌≡◌, IfErr, OnOk, Some};
+ghost use Rattle.cq_run.specs.Terms.{EndsIn, Fails, FailsTaking, IsJudged, Pace, Reader, WhereHalted, Writes, Closed, world, IsDone, IsCut, IsCutAtFile, all_replaced};
 
-use crate::Unwritten;
 use crate::plan::{Work, Write};
+use crate::{Command, Halt, Stop, Unwritten};
 use cq_base::Name;
 use cq_space::{Files, Sink, WriteFault, put_all, write_whole};
 
-/// Writes the names in order, and then the text on standard output. It stops at the first fault, and
-/// leaves the file space closed. It takes no memory.
-pub fn perform<F: Files, O: Sink>(files: &mut F, out: &mut O, work: Work) -> Result<(), Unwritten>
+/// Performs what judging a command came to, and tells how the command ends.
+pub fn conclude<F: Files, O: Sink>(
+    files: &mut F,
+    out: &mut O,
+    judged: Result<Work, Halt>,
+) -> Result<(), Stop>
+    requires { (F.space files.old).mode ≡ Closed }
+    ensures ends { (pace : Pace) (command : Command) (start : F) (r : Reader) →
+        IsJudged F.space F.may_fail F.unbegun pace command start files.old judged →
+        EndsIn F.space F.may_fail F.keeps F.unbegun O.taken O.faults O.may_fail O.keeps
+        pace r (Some command) start files.new out.old out.new result }
+    ensures unbegun { (start : F) → F.unbegun start files.old → WhereHalted result (F.unbegun start files.new) }
+    ensures closed { (F.space files.new).mode ≡ Closed }
+{
+    match judged {
+        Ok(work) => Ok(perform(files, out, work)?),
+        Err(halt) => Err(Stop::from(halt)),
+    }
+}
+
+// Writes the names in order, and then the text on standard output. It stops at the first fault, and
+// leaves the file space closed. It takes no memory.
+fn perform<F: Files, O: Sink>(files: &mut F, out: &mut O, work: Work) -> Result<(), Unwritten>
     requires { (F.space files.old).mode ≡ Closed }
     ensures done { OnOk result (IsDone work (world F.space O.taken O.faults files.old out.old)
         (world F.space O.taken O.faults files.new out.new)) }

@@ -3,7 +3,7 @@ ghost use Rattle.std.specs.Prelude.{◌≡◌, ◌≢◌, None, Some, IfSome, ma
 ghost use Rattle.cq_run.specs.Terms.{Fails, FailsTaking, Reads, Writes, Closed, as_run, command_for, Emulates, Ahead, pace_of, Plan, known_by, Reader, verdict, IsDone, world, taken_by, EndsIn, WhereHalted, Answers, StatusCauses};
 
 use crate::judge::run_ahead;
-use crate::perform::perform;
+use crate::perform::conclude;
 use crate::top::answer;
 use crate::{Command, Stop, switch_top};
 use cq_base::{Name, Status};
@@ -94,7 +94,6 @@ where
     ensures closed { (F.space files.new).mode ≡ Closed }
 {
     let name = Name::of(alloc, config)?;
-    let work = run_ahead(rt, alloc, files, name, gate, watch)?;
-    perform(files, out, work)?;
-    Ok(())
+    let judged = run_ahead(rt, alloc, files, name, gate, watch);
+    conclude(files, out, judged)
 }

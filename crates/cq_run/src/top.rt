@@ -3,7 +3,7 @@ ghost use Rattle.std.specs.Prelude.{◌≡◌, ◌≢◌, None, Some, IfSome, ma
 ghost use Rattle.cq_run.specs.Terms.{Fails, FailsTaking, Reads, Writes, Closed, command_for, Emulates, InTurn, Plan, IsWithinRange, known_by, Reader, verdict, IsDone, world, taken_by, EndsIn, WhereHalted, status_of, Tells, Answers, StatusCauses};
 
 use crate::judge::judge;
-use crate::perform::perform;
+use crate::perform::conclude;
 use crate::say::say;
 use crate::{Command, Halt, Refusal, Stop, command_of};
 use cq_base::Status;
@@ -127,7 +127,6 @@ fn obey<R: Threads + Sync, F: Files, O: Sink, G: Gate>(
     ensures unbegun { WhereHalted result (F.unbegun files.old files.new) }
     ensures closed { (F.space files.new).mode ≡ Closed }
 {
-    let work = judge(rt, alloc, files, command, gate)?;
-    perform(files, out, work)?;
-    Ok(())
+    let judged = judge(rt, alloc, files, command, gate);
+    conclude(files, out, judged)
 }
