@@ -1,5 +1,5 @@
 -- What is kept of a run until its bytes are built.
-use Rattle.std.specs.Prelude.{◌≡◌, ◌∷◌, [], ℕ, List, Option, None, Some, Ok}
+use Rattle.std.specs.Prelude.{◌≡◌, ◌∷◌, [], ℕ, List, map, zip, Option, None, Some, Ok}
 use Rattle.cq_base.specs.declared.cell.Departure.{Departure}
 use Rattle.cq_cells.specs.Schedule.{t0_of}
 use Rattle.cq_ideal.specs.Refused.{refused_counts}
@@ -32,9 +32,7 @@ pub record IsSwitched (t : Tables) (captures : List (List Captured)) (s : Switch
 
 -- the captures that were packed, one for each row, each under its name there
 abbrev pub under_names : List PortRow → List Packing → List (List ℕ × List ℕ)
-under_names [] places = []
-under_names (row ∷ rows) [] = []
-under_names (row ∷ rows) (place ∷ places) = (row.write, place.bytes.items) ∷ under_names rows places
+under_names rows places = map (λ (both : PortRow × Packing). (both.0.write, both.1.bytes.items)) (zip rows places)
 
 -- what it sent
 abbrev pub sent_by : Crossed → Switched
