@@ -35,14 +35,12 @@ aimed a b met denied =
 
 then_both : {A : Type 0} (x : Result A Refusal) (f g : A → Result Aim Refusal) → ((a : A) → Follows (f a) (g a)) →
     Follows (x >>= f) (x >>= g)
-then_both (Ok a) f g h = h a
-then_both (Err e) f g h = alike (Err e)
+then_both x f g h = grind (arith, common_steps)
 
 -- and of one there is one plan
 met_once : (x : Result Aim Refusal) (a b : Plan) → IsOkAnd x (λ aim. Meets aim a) → IsOkAnd x (λ aim. Meets aim b) →
     a ≡ b
-met_once (Ok aim) a b h k = one_plan aim a b h k
-met_once (Err e) a b h k = absurd h
+met_once x a b h k = grind (arith, common_steps, one_plan)
 
 module _ (n : ℕ) (t : Tables) where
   -- the tables with another number of workers

@@ -1,7 +1,7 @@
 -- One judgement after another. Where the first ends without an answer, so do both; where it has one, both end as the
 -- second does. A name that the second is to read is to be read by both, since the first comes to the same without it,
 -- or misses it. First, the count of faults where an answer tells of none.
-use Rattle.cq_run.proofs.Terms.{rules, arith, ◌≡◌, ◌∙◌, ◌⊎◌, ℕ, IsTrue, List, ap, refl, inl, inr, Option, None, Some, IfSome, Result, Ok, Err, common_steps, Contents, Space, Closed, Mode, Refusal, Missing, Halt, Refused, Unread, NoMemory, meaning_of, ◌>>=◌, Halts, IsHaltOf, Judges, InTurn, Pace, Ahead, Uncounted, AnyName, Rose, Call, Fails, Lasts}
+use Rattle.cq_run.proofs.Terms.{rules, arith, ◌≡◌, ◌∙◌, ◌⊎◌, ℕ, List, ap, refl, inl, Option, None, Some, IfSome, Result, Ok, Err, common_steps, Contents, Space, Closed, Mode, Refusal, Missing, Halt, ◌>>=◌, Halts, IsHaltOf, Judges, InTurn, Pace, Ahead, Uncounted, AnyName, Rose, Call, Fails, Lasts}
 use Rattle.std.specs.FinMap.{remove}
 use Rattle.cq_run.proofs.Stays.{Stays}
 
@@ -19,41 +19,27 @@ rose_from old mid new l r = omega arith
 
 -- it is as before
 pub counts_same : (pace : Pace) (U : Type 0) (old new : ℕ) → new ≡ old → Uncounted pace U old new
-counts_same InTurn U old new e = e
-counts_same Ahead U old new e = inl e
+counts_same pace U old new e = grind (arith, common_steps)
 
 -- it was as before up to some moment, and what holds where it rose since then implies more
 pub counts_after : (pace : Pace) (U V : Type 0) (old mid new : ℕ) → (U → V) → mid ≡ old → Uncounted pace U mid new
     → Uncounted pace V old new
-counts_after InTurn U V old mid new f e h = h ∙ e
-counts_after Ahead U V old mid new f e (inl h) = inl (h ∙ e)
-counts_after Ahead U V old mid new f e (inr h) = inr (rose_from old mid new e h.0, f h.1)
+counts_after pace U V old mid new f e h = grind (arith, common_steps)
 
 -- more may be said of a name that was unread
 pub name_after : (pace : Pace) (R S : List ℕ → Type 0) (old mid new : ℕ) → ((name : List ℕ) → R name → S name)
     → mid ≡ old → Uncounted pace (AnyName R) mid new → Uncounted pace (AnyName S) old new
 name_after pace R S old mid new i e h = search (arith, rules, counts_after pace (AnyName R) (AnyName S) old mid new)
 
--- the same beside something that stays
-pub outrun_after : (pace : Pace) (T : Type 0) (R S : List ℕ → Type 0) (old mid new : ℕ)
-    → ((name : List ℕ) → R name → S name) → mid ≡ old → Uncounted pace (T × AnyName R) mid new
-    → Uncounted pace (T × AnyName S) old new
-outrun_after pace T R S old mid new i e h =
-    grind (arith, common_steps, counts_after pace (T × AnyName R) (T × AnyName S) old mid new)
-
 -- what ends reading in turn ends it at either pace
 pub halts_at : {A : Type 0} (p : Pace) (j : Contents → Result A Refusal) (R : List ℕ → Type 0) (old new : Space)
     (halt : Halt) → Halts InTurn j R old new halt → Halts p j R old new halt
-halts_at InTurn j R old new halt h = h
-halts_at Ahead j R old new (Refused refusal) h = (h.0, inl h.1)
-halts_at Ahead j R old new NoMemory h = inl h
-halts_at Ahead j R old new (Unread name) h = h
+halts_at p j R old new halt h = grind (arith, common_steps)
 
 -- and where nothing did
 pub counts_of : {A : Type 0} (j : Contents → Result A Refusal) (R : List ℕ → Type 0) (old new : Space)
     (result : Result A Halt) → Judges Ahead j R old new result → Uncounted Ahead (AnyName R) old.faults new.faults
-counts_of j R old new (Ok x) h = inl h.uncounted
-counts_of j R old new (Err halt) h = search (arith, rules, counts_after)
+counts_of j R old new result h = grind (arith, common_steps)
 
 -- ## The rest of a judgement
 
@@ -117,18 +103,12 @@ module _ {A B : Type 0} {j : Contents → Result A Refusal} (f : A → Contents 
 pub halts_more : {A : Type 0} (p : Pace) (j : Contents → Result A Refusal) (R S : List ℕ → Type 0) (old new : Space)
     (halt : Halt) → ((name : List ℕ) → R name → S name)
     → Halts p j R old new halt → Halts p j S old new halt
-halts_more p j R S old new (Refused refusal) i h =
-    (h.0, outrun_after p (IsTrue (meaning_of refusal).outruns) R S old.faults old.faults new.faults i refl h.1)
-halts_more p j R S old new (Unread name) i h = (h.0, i name h.1, h.2)
-halts_more p j R S old new NoMemory i h = name_after p R S old.faults old.faults new.faults i refl h
+halts_more p j R S old new halt i h = grind (arith, common_steps)
 
 module _ {A : Type 0} {j : Contents → Result A Refusal} {p : Pace} {old new : Space} where
   pub judges_more : {R S : List ℕ → Type 0} {result : Result A Halt} → ((name : List ℕ) → R name → S name) →
       Judges p j R old new result → Judges p j S old new result
-  judges_more {result = Ok x} i h =
-      record { ok = h.ok; halt = tt; closed = h.closed; told = h.told; uncounted = h.uncounted }
-  judges_more {R = R} {S = S} {result = Err halt} i h =
-      grind (arith, common_steps, halts_more p j R S old new halt i h.halt)
+  judges_more i h = grind (arith, common_steps)
 
   -- what ends judging in turn ends it at either pace
   pub judges_at : {R : List ℕ → Type 0} {halt : Halt} → Judges InTurn j R old new (Err halt) →

@@ -2,12 +2,12 @@
 -- status says. Each end has one status, and what the end says of the verdict is what the status says of it. The table
 -- of refusals is used for three facts alone: no refusal has a status of an end that is none, one with the status of
 -- read faults comes only where contents are told, and words are refused only where they are no command.
-use Rattle.cq_run.proofs.Terms.{common_steps, arith, ◌≡◌, ℕ, List, refl, inl, inr, rules, ◌∙◌, [], ◌∷◌, ap, ◌≢◌, ◌⊎◌, IsTrue, sym, Result, Ok, Err, IsErrAnd, Option, None, Some, IfSome, MatchOption, IsOkAnd, Call, Fails, Lasts, Reads, Writes, Contents, Space, replaced, Command, Refusal, Halt, Aim, Denies, Meets, IsJudged, Pace, Uncounted, Plan, CommandHalts, Decides, IsDenial, known_to, known_by, Reader, Taken, World, IsUntouched, IsCut, IsDone, IsCutAtFile, all_replaced, Rose, Words, Capture, Refused, Unread, NoMemory, Emulates, meaning_of, judged, judged_or_words, StatusCauses, Status}
+use Rattle.cq_run.proofs.Terms.{common_steps, arith, ◌≡◌, ℕ, List, refl, inl, inr, rules, ◌∙◌, [], ◌∷◌, ap, ◌≢◌, ◌⊎◌, IsTrue, Result, Ok, Err, IsErrAnd, Option, None, Some, IfSome, MatchOption, IsOkAnd, Call, Fails, Lasts, Reads, Writes, Contents, Space, Command, Refusal, Halt, Aim, Meets, IsJudged, Pace, Uncounted, Plan, CommandHalts, Decides, IsDenial, known_to, known_by, Reader, Taken, World, IsUntouched, IsCut, IsDone, IsCutAtFile, all_replaced, Rose, Words, Capture, Refused, Unread, NoMemory, Emulates, meaning_of, judged, judged_or_words, StatusCauses, Status}
 use Rattle.cq_run.specs.declared.stop.Stop.{Stop}
 use Rattle.cq_run.specs.declared.stop.Stop.TheVariants.{Cut, Halted}
 use Rattle.cq_run.specs.declared.stop.Unwritten.{Unwritten}
 use Rattle.cq_run.specs.Ending.{CommandEnds, IsPlanned, CallsFor, EndsFor, WhereHalted, status_of}
-use Rattle.cq_run.proofs.Chain.{fails_after, rose_from, counts_same}
+use Rattle.cq_run.proofs.Chain.{fails_after, counts_same}
 use Rattle.cq_run.proofs.Planned.{same_faults, counts_known, rose_known}
 use Rattle.cq_run.proofs.Told.{told_map, told_any}
 use Rattle.cq_base.specs.declared.status.Status.TheVariants as status
@@ -17,9 +17,7 @@ use Rattle.cq_run.proofs.Never.{never_words}
 file_from : (ws : List (List ℕ × List ℕ)) (name : List ℕ) (old mid new : Space) → mid.told ≡ old.told →
     mid.faults ≡ old.faults → IsCutAtFile ws name mid new → IsCutAtFile ws name old new
 file_from [] name old mid new t l h = h
-file_from (w ∷ ws) name old mid new t l (inl h) = search (arith, rules, rose_from)
-file_from (w ∷ ws) name old mid new t l (inr h) =
-    inr (h.0, record { told = h.1.told ∙ ap (replaced w.0 w.1) t; uncounted = h.1.uncounted ∙ l }, h.2)
+file_from (w ∷ ws) name old mid new t l h = grind (arith, common_steps)
 
 -- a command whose plan was cut short ends so
 cut_ends : (p : Pace) (r : Reader) (R U V : List ℕ → Type 0) (T : Type 0) (command : Command) (plan : Plan)
@@ -33,8 +31,7 @@ cut_ends p r R U V T command plan old mid new at (Err stop) e j i t l o h = sear
 -- without a plan the command halts
 decides_halt : (p : Pace) (j : Contents → Result Aim Refusal) (R : List ℕ → Type 0) (old new : Space) (halt : Halt) →
     Decides p j R old new (Err halt) → CommandHalts p j R old new halt
-decides_halt p j R old new halt (inl h) = inl h.halt
-decides_halt p j R old new halt (inr h) = inr h.halts
+decides_halt p j R old new halt h = grind (arith, common_steps)
 
 module _ {S : Type 0} (space : S → Space) (may_fail : Call → S → S → Type 0) (unbegun : S → S → Type 0)
     (pace : Pace) (command : Command) (old mid : S) (out : Taken) where
@@ -90,33 +87,26 @@ module _ {S : Type 0} (space : S → Space) (may_fail : Call → S → S → Typ
 -- no writing was begun where the run halted, and the status tells whether it did
 
 pub halts_so : {P : Type 0} (end : Result (Unit {0}) Stop) → P → WhereHalted end P
-halts_so (Ok x) h = tt
-halts_so (Err (Halted halt)) h = h
-halts_so (Err (Cut unwritten)) h = tt
+halts_so end h = grind (arith, common_steps)
 
 pub never_halts : (P : Type 0) (end : Result (Unit {0}) Stop) (unwritten : Unwritten) →
     IsErrAnd end (λ stop. stop ≡ Cut unwritten) → WhereHalted end P
-never_halts P (Ok x) unwritten e = tt
-never_halts P (Err stop) unwritten e = rw e tt
+never_halts P end unwritten e = grind (arith, common_steps)
 
 pub halted_so : {P : Type 0} (end : Result (Unit {0}) Stop) (answer : Status) → answer ≡ status_of end →
     WhereHalted end P → answer ≢ status.Done → answer ≢ status.WriteFault → P
-halted_so (Ok x) answer e h done cut = absurd (done e)
-halted_so (Err (Halted halt)) answer e h done cut = h
-halted_so (Err (Cut unwritten)) answer e h done cut = absurd (cut e)
+halted_so end answer e h done cut = grind (arith, common_steps)
 
 -- ## What the status says of such an end
 
 -- the table of refusals
 
 not_done_not_cut : (r : Refusal) → ((meaning_of r).status ≢ status.Done) × ((meaning_of r).status ≢ status.WriteFault)
-not_done_not_cut Words = (λ e. cc, λ e. cc)
-not_done_not_cut r = (λ e. cc, λ e. cc)
+not_done_not_cut r = grind (arith, common_steps)
 
 -- only the refusal of an input's capture is told before a fault of a name that is read behind it
 outruns_is : (r : Refusal) → IsTrue (meaning_of r).outruns → (meaning_of r).status ≡ status.Capture
-outruns_is (Capture input fault) h = refl
-outruns_is r h = absurd (let no : ⊥ = cc h in no)
+outruns_is r h = grind (arith, common_steps)
 
 -- the statuses of answers that may come before such a fault
 abbrev Outruns : Status → Type 0
@@ -126,8 +116,7 @@ Outruns answer = (answer ≡ status.Capture) ⊎ (answer ≡ status.NoMemory)
 cut_rose : (ws : List (List ℕ × List ℕ)) (name : List ℕ) (old new : Space) → IsCutAtFile ws name old new →
     Rose old.faults new.faults
 cut_rose [] name old new h = absurd h
-cut_rose (w ∷ ws) name old new (inl h) = h.1.cause
-cut_rose (w ∷ ws) name old new (inr h) = omega (arith, rose_from, cut_rose ws name h.0 new h.2)
+cut_rose (w ∷ ws) name old new h = grind (arith, common_steps, cut_rose ws name)
 
 module _ (p : Pace) (v : Contents → Result Aim Refusal) (known : Option Contents) (old new : World) where
   -- want of memory says nothing of the verdict
@@ -165,12 +154,7 @@ module _ (p : Pace) (v : Contents → Result Aim Refusal) (known : Option Conten
 -- only words that are no command are refused as such
 
 words_is : (r : Refusal) → (meaning_of r).status ≡ status.Words → r ≡ Words
-words_is Words e = refl
-words_is r e = cc
-
-never_denied_at : (v : Result Aim Refusal) → IsOkAnd v (λ aim. Denies aim Words) → ⊥
-never_denied_at (Ok aim) h = search (arith, rules)
-never_denied_at (Err e) h = h
+words_is r e = grind (arith, common_steps)
 
 module _ (p : Pace) (a : Reader) (R W : List ℕ → Type 0) (T : Type 0) where
   command_causes : (command : Command) (old new : World) (end : Result (Unit {0}) Stop) →
@@ -196,22 +180,16 @@ module _ (p : Pace) (a : Reader) (R W : List ℕ → Type 0) (T : Type 0) where
 
   not_words : (command : Command) (old new : World) (end : Result (Unit {0}) Stop) →
       CommandEnds p a R W T command old new end → status_of end ≡ status.Words → ⊥
-  not_words command old new (Err (Halted (Refused r))) (inl h, u) e =
-      let is = words_is r e in search (arith, rules, never_words)
-  not_words command old new (Err (Halted (Refused r))) (inr h, u) e =
-      let is = words_is r e in search (arith, rules, never_denied_at)
-  not_words command old new end h e = cc
+  not_words command old new end h e = grind (arith, common_steps, never_words, words_is)
 
   -- words that are no command end with the status of such words, and no others do
   pub words_end : (command : Option Command) (old new : World) (end : Result (Unit {0}) Stop) (answer : Status) →
       answer ≡ status_of end → EndsFor p a R W T command old new end → command ≡ None → answer ≡ status.Words
-  words_end None old new end answer e h none = e ∙ ap status_of h.0
-  words_end (Some c) old new end answer e h none = cc
+  words_end command old new end answer e h none = grind (arith, common_steps)
 
   pub only_words : (command : Option Command) (old new : World) (end : Result (Unit {0}) Stop) (answer : Status) →
       answer ≡ status_of end → EndsFor p a R W T command old new end → answer ≡ status.Words → command ≡ None
-  only_words None old new end answer e h w = refl
-  only_words (Some c) old new end answer e h w = absurd (not_words c old new end h (sym e ∙ w))
+  only_words command old new end answer e h w = grind (arith, common_steps, not_words)
 
   -- ## The headline
 
@@ -219,6 +197,4 @@ module _ (p : Pace) (a : Reader) (R W : List ℕ → Type 0) (T : Type 0) where
   pub emulated_at : (command : Option Command) (old new : World) (end : Result (Unit {0}) Stop) →
       status_of end ≡ status.Done → EndsFor p a R W T command old new end → (c : Command) → command ≡ Some c →
       IfSome old.files.told (λ m. (plan : Plan) × Emulates a c m plan × IsDone plan old new)
-  emulated_at command old new (Ok x) done h c e = search (arith, rules, told_map)
-  emulated_at command old new (Err (Halted (Refused r))) done h c e = search (arith, rules, not_done_not_cut)
-  emulated_at command old new (Err stop) done h c e = absurd (let P : ⊥ = cc done in P)
+  emulated_at command old new end done h c e = grind (arith, common_steps, not_done_not_cut)

@@ -26,8 +26,7 @@ abbrev pub ArePairs : List Named → Type 0
 ArePairs = EachPair (λ x n. clash n x ≡ false)
 
 no_clash : (b : Bool) (path : List ℕ) → at path (unless (not b) DuplicateFile) ≡ None → b ≡ false
-no_clash true path h = cc
-no_clash false path h = refl
+no_clash b path h = grind (arith, common_steps)
 
 pairs_in : (earlier names : List Named) → first (apart_from earlier names) ≡ None →
     AllByRecursion (λ k. list_any (clash k) earlier ≡ false) names × ArePairs names

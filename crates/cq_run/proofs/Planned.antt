@@ -1,15 +1,13 @@
 -- From one judgement after another to a plan that meets what is aimed at: for each command what is judged of what it
 -- reads, and a plan that it comes to.
-use Rattle.cq_run.proofs.Terms.{rules, arith, ◌≡◌, ◌∙◌, ℕ, List, [], ◌∷◌, refl, sym, ap, inl, inr, ◌++◌, IsTrue, Result, Ok, Err, IfOk, IfErr, IsOk, common_steps, AllByRecursion, Departure, soak_captures, soak_tables, Captured, Tables, Call, Rose, Contents, Space, Closed, Command, Ideal, Run, Soak, Pass, Audit, Part, Resume, Given, Refusal, Halt, Aim, Reporting, Meets, Crossing, Exactly, Auditing, Parting, Resuming, EndsGiven, IsGiven, command_asking, IsPassage, AreRead, IsAudited, AreGiven, IsJudged, IsHaltOf, Judges, Pace, InTurn, Uncounted, Plan, known_to, Reader, ◌>>=◌, ideally_sent, capture_in, text_in, state_in, switched, capture_out, passed, audited, captures_out, resumed, file_alone, IsCrossing, IsIdeal, IsPassing, arrivals, plain_tables, AreTables, ports_of, ideal_departures, Lasts, capture_of_all, trace_of, log_of, Audited, Missing, State, Words, IsAuditHalted, IsAuditPassed, report_with, NoMemory, Refused, Unread, Crossed, IsPartHalt, IsResumeHalt, IsResuming, kept_by, IsPartRefusal, IsPartText, IsResumeRefusal, IsResumedText, meaning_of, written, Denial, CaptureFault, Capture, is_no}
+use Rattle.cq_run.proofs.Terms.{rules, arith, ◌≡◌, ◌∙◌, ℕ, List, [], ◌∷◌, refl, sym, ap, ◌++◌, Result, Ok, Err, IfOk, IfErr, IsOk, common_steps, AllByRecursion, Departure, soak_captures, soak_tables, Captured, Tables, Call, Rose, Contents, Space, Closed, Command, Ideal, Run, Soak, Pass, Audit, Part, Resume, Given, Refusal, Halt, Aim, Reporting, Meets, Crossing, Exactly, Auditing, Parting, Resuming, EndsGiven, IsGiven, command_asking, IsPassage, AreRead, IsAudited, AreGiven, IsJudged, IsHaltOf, Judges, Pace, InTurn, Uncounted, Plan, known_to, Reader, ◌>>=◌, ideally_sent, capture_in, text_in, state_in, switched, capture_out, passed, audited, captures_out, resumed, file_alone, IsCrossing, IsIdeal, IsPassing, arrivals, plain_tables, AreTables, ports_of, ideal_departures, Lasts, capture_of_all, trace_of, log_of, Audited, State, IsAuditHalted, IsAuditPassed, report_with, Crossed, IsPartHalt, IsResumeHalt, IsResuming, kept_by, IsPartText, IsResumedText, written}
 use Rattle.cq_run.proofs.Chain.{counts_after, judges_computed, judges_computed_err}
 use Rattle.cq_run.proofs.Told.{told_any, told_map, told_two}
 use Rattle.cq_run.proofs.Crossed.{emulates, plan_is, sent_ok}
-use Rattle.cq_run.proofs.Reached.{computed_halts, computed_plans, given_ends, given_so, read_told, Reached, begun, read_on, Settles, refused_settles, settled}
+use Rattle.cq_run.proofs.Reached.{computed_halts, computed_plans, given_ends, given_so, read_told, Reached, begun, read_on, Settles, settled}
 use Rattle.cq_run.proofs.OnePort.{all_leave_is, none_limited}
 use Rattle.cq_run.proofs.Stays.{capture_stays, text_stays, short_stays}
-use Rattle.cq_audit.specs.declared.refusal.AuditRefusal.TheVariants as of_log
-use Rattle.cq_run.specs.Auditing.{IsDenied}
-use Rattle.cq_run.specs.declared.denial.Denial.TheVariants.{Log, LongLog, LongTrace}
+use Rattle.cq_run.specs.declared.denial.Denial.TheVariants.{LongLog, LongTrace}
 use Rattle.cq_run.proofs.Stopped.{goes_best, goes_slack, stops_best, stops_slack}
 use Rattle.cq_run.proofs.TextRead.{text_stands}
 use Rattle.cq_run.specs.Headline.{IsStopped, IsTakenUp}
@@ -179,16 +177,9 @@ from_log t captures trace m = text_in LongLog t.log m >>= (λ log. last t captur
 abbrev pub from_trace : Reader → Tables → List (List Captured) → Contents → Result Aim Refusal
 from_trace r t captures m = text_in LongTrace t.trace m >>= (λ trace. from_log t captures trace m)
 
--- no want of memory denies a log
-denied_told : (t : Tables) (captures : List (List Captured)) (sent : List Departure) (trace log : List ℕ)
-    (denial : Denial) → IsDenied t captures sent trace log denial → IsTrue (is_no denial)
-denied_told _ _ _ _ _ (Log of_log.NoMemory) h = absurd h
-denied_told _ _ _ _ _ denial h = refl
-
 pub halt_settles : {t : Tables} {captures : List (List Captured)} {trace log : List ℕ} (halt : Halt) →
     IsAuditHalted t captures trace log halt → Settles (last t captures trace log) (Err halt)
-halt_settles {t} {captures} halt (inl ends) = search (arith, rules, refused_settles (ideally_sent t captures))
-halt_settles halt (inr n) = search (arith, rules, Settles, denied_told)
+halt_settles halt h = grind (arith, common_steps)
 
 module _ (given : Given) (trace log : List ℕ) where
   -- what a yes says
@@ -253,31 +244,15 @@ module _ {S : Type 0} {space : S → Space} {keeps : S → S → Type 0} {old s1
 
 -- ## Stopping a run and taking one up: the configuration, its captures, and then the text of a state
 
--- what denies such an aim is neither of words nor of a missing name, and no fault of a capture and no word of an audit,
--- so it can come where contents are not told
-untold : (P : Refusal → Type 0) → ¬ P Words → ((name : List ℕ) → ¬ P (Missing name)) →
-    ((input : ℕ) (fault : CaptureFault) → ¬ P (Capture input fault)) → ((denial : Denial) → ¬ P (Audited denial)) →
-    (refusal : Refusal) → P refusal → IsTrue (meaning_of refusal).untold
-untold P of_words missed faulty denied Words h = absurd (of_words h)
-untold P of_words missed faulty denied (Missing name) h = absurd (missed name h)
-untold P of_words missed faulty denied (Capture input fault) h = absurd (faulty input fault h)
-untold P of_words missed faulty denied (Audited denial) h = absurd (denied denial h)
-untold P of_words missed faulty denied refusal h = refl
-
+-- what denies such an aim can come where contents are not told
 module _ (t : Tables) (captures : List (List Captured)) where
   pub part_settles : (slots : ℕ) (name : List ℕ) (halt : Halt) → IsPartHalt t captures slots halt →
       Settles (Ok (Parting t captures slots name)) (Err halt)
-  part_settles slots name (Refused refusal) h =
-      grind (arith, common_steps, untold (IsPartRefusal t captures slots))
-  part_settles slots name NoMemory h = tt
-  part_settles slots name (Unread unread) h = h
+  part_settles slots name halt h = grind (arith, common_steps)
 
   resume_settles : (text : List ℕ) (halt : Halt) → IsResumeHalt t captures text halt →
       Settles (Ok (Resuming t captures text)) (Err halt)
-  resume_settles text (Refused refusal) h =
-      grind (arith, common_steps, untold (IsResumeRefusal t captures text))
-  resume_settles text NoMemory h = tt
-  resume_settles text (Unread unread) h = h
+  resume_settles text halt h = grind (arith, common_steps)
 
 -- what is said of a run that stops, and of one that goes on
 module _ (t : Tables) (captures : List (List Captured)) (text : List ℕ) {r : Reader} {config state : List ℕ}

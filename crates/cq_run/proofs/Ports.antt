@@ -2,7 +2,7 @@
 -- the rest, is reading them all, and what ends one of these ends the whole. Where files are read ahead, reading leaves
 -- contents as they are, so the first capture is judged as if nothing had come between. Where it ends the whole, the
 -- later inputs say nothing but what the count of faults may show.
-use Rattle.cq_run.proofs.Terms.{rules, suc, ◌≡◌, ◌<◌, ◌≤◌, ◌∙◌, ℕ, ◌+◌, List, [], ◌∷◌, ◌++◌, length, take, drop, get_or, refl, ap, sym, arith, length-take-le, inl, Result, Ok, Err, Option, None, Some, IfSome, IfOk, IfErr, MatchOption, common_steps, take_all, take_more, Contents, Space, Closed, Captured, PortRow, Refusal, Halt, Judges, Halts, InTurn, Ahead, AnyName, Uncounted, Reader, ◌>>=◌, packets_at, captures_from, Spells, Call, Fails, Lasts, Reads, NoMemory, longest_file}
+use Rattle.cq_run.proofs.Terms.{rules, ◌≡◌, ◌<◌, ◌≤◌, ◌∙◌, ℕ, ◌+◌, List, [], ◌∷◌, ◌++◌, length, take, drop, get_or, refl, ap, sym, arith, length-take-le, inl, Result, Ok, Err, Option, None, Some, IfSome, IfOk, IfErr, MatchOption, common_steps, take_all, take_more, Contents, Space, Closed, Captured, PortRow, Refusal, Halt, Judges, Halts, InTurn, Ahead, AnyName, Uncounted, Reader, ◌>>=◌, packets_at, captures_from, Spells, Call, Fails, Lasts, Reads, NoMemory, longest_file}
 use Rattle.cq_run.proofs.Stays.{captures_from_stay, packets_stay}
 use Rattle.cq_run.proofs.Chain.{judges_then, judges_after, judges_any, judges_both, judges_computed, judges_as, counts_of, halts_at, name_after, fails_after}
 use Rattle.cq_run.specs.declared.decoding.Decoding.{Decoding}
@@ -222,10 +222,7 @@ module _ {S : Type 0} (space : S → Space) {keeps : S → S → Type 0} {row : 
 pub one_more : (row : PortRow) (rest : List PortRow) (first : Result Packets Halt)
     (later result : Result (List Packets) Halt) → IfOk later (λ made. length made ≡ length rest) →
     IsInFront first later result → IfOk result (λ made. length made ≡ length (row ∷ rest))
-one_more row rest (Err halt) later result each is = rw is tt
-one_more row rest (Ok packets) (Err halt) result each is = rw is tt
-one_more row rest (Ok packets) (Ok others) (Ok all) each is = rw is (ap suc each)
-one_more row rest (Ok packets) (Ok others) (Err halt) each is = tt
+one_more row rest first later result each is = grind (arith, common_steps)
 
 -- no input is left
 pub none_arrive : (r : Reader) (limit input : ℕ) (R : List ℕ → Type 0) (at : Space) → at.mode ≡ Closed

@@ -1,7 +1,7 @@
 -- What is known at a moment of judging a command. All that was judged so far was accepted: no fault was counted, the
 -- file space is closed, its contents are as before, and of these the command comes to what is left to judge. So where a
 -- name that is read next is unread or refused, or what was read is judged, that is what the command comes to.
-use Rattle.cq_run.proofs.Terms.{rules, arith, ◌≡◌, ◌∙◌, ◌⊎◌, ℕ, IsTrue, List, ap, subst, inl, inr, length, Option, None, Some, IfOk, IfSome, Result, Ok, Err, common_steps, AllByRecursion, Captured, Tables, Call, Fails, Lasts, Reads, Closed, Contents, Space, Command, Given, Refusal, Halt, NoMemory, Refused, Unread, Aim, Denies, Meets, EndsGiven, IsGiven, judged_of_given, Emulates, AreRead, IsJudged, IsHaltOf, Judges, Pace, InTurn, Plan, Decides, IsDenial, known_to, Reader, meaning_of, ◌>>=◌, MayRead, MayWrite, captures_in, judged, tables_in, AreTables, ports_of}
+use Rattle.cq_run.proofs.Terms.{rules, arith, ◌≡◌, ◌∙◌, ◌⊎◌, ℕ, IsTrue, List, ap, subst, inl, inr, length, Option, IfOk, IfSome, Result, Ok, Err, common_steps, AllByRecursion, Captured, Tables, Call, Fails, Lasts, Reads, Closed, Contents, Space, Command, Given, Refusal, Halt, NoMemory, Refused, Unread, Aim, Denies, Meets, EndsGiven, IsGiven, judged_of_given, Emulates, AreRead, IsJudged, IsHaltOf, Judges, Pace, InTurn, Plan, Decides, IsDenial, known_to, Reader, meaning_of, ◌>>=◌, MayRead, MayWrite, captures_in, judged, tables_in, AreTables, ports_of}
 use Rattle.cq_run.proofs.Chain.{ComesTo, comes_to_itself, goes_on, judges_back, judges_computed_err, judges_more, judges_then, counts_same, judges_after, judges_at, fails_after}
 use Rattle.cq_run.proofs.TextRead.{from_front}
 use Rattle.cq_run.proofs.Stays.{Stays, captures_from_stay, tables_stay}
@@ -20,16 +20,12 @@ Settles v (Err NoMemory) = Unit {0}
 -- a result that is refused is refused behind it
 pub refused_settles : {A : Type 0} (r : Result A Refusal) (f : A → Result Aim Refusal) (halt : Halt) →
     IsHaltOf r halt → Settles (r >>= f) (Err halt)
-refused_settles {A} r f (Refused refusal) h = (h.1, inl (ap (λ (s : Result A Refusal). s >>= f) h.0))
-refused_settles r f (Unread name) h = h
-refused_settles r f NoMemory h = tt
+refused_settles r f halt h = grind (arith, common_steps)
 
 -- what is aimed at is denied of contents that are told, and may be of others
 denied_at : (j : Contents → Result Aim Refusal) (told : Option Contents) (aim : Aim) (refusal : Refusal) →
     IsTrue (meaning_of refusal).untold → Denies aim refusal → IfSome told (λ m. j m ≡ Ok aim) → IsDenial j told refusal
-denied_at j None aim refusal untold denied is = untold
-denied_at j (Some m) aim refusal untold denied is =
-    rw is denied
+denied_at j told aim refusal untold denied is = grind (arith, common_steps)
 
 -- what is known at such a moment, of a command that knows all of the files
 pub record Reached {S : Type 0} (space : S → Space) (keeps : S → S → Type 0) (command : Command) (old now : S)

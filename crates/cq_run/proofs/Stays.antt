@@ -1,7 +1,7 @@
 -- Judging where a name is not there. A judgement that accepts the contents comes to the same without some name,
 -- unless it is to read that name: then it misses it. This holds of the bytes of one name, and of one judgement after
 -- another.
-use Rattle.cq_run.proofs.Terms.{rules, arith, ◌≡◌, ◌⊎◌, ◌∙◌, ℕ, cond, List, [], ◌∷◌, ap, inl, Option, None, Some, Result, Ok, Err, ◌+◌, common_steps, nat_list_cmp_total, get, get-remove, exact_bytes, tells_apart, Contents, Captured, PortRow, read_or_refused, Refusal, Missing, Denial, Reader, ◌>>=◌, named, tables_in, read_or_refused_for, capture_in, capture_of, packets_at, captures_from, short_in, short_or, text_in, eq_by_cmp_equiv, IsToRead}
+use Rattle.cq_run.proofs.Terms.{arith, ◌≡◌, ◌⊎◌, ◌∙◌, ℕ, cond, List, [], ◌∷◌, ap, inl, Option, None, Some, Result, Ok, Err, ◌+◌, common_steps, nat_list_cmp_total, get, get-remove, exact_bytes, tells_apart, Contents, PortRow, read_or_refused, Refusal, Missing, Denial, Reader, ◌>>=◌, named, tables_in, read_or_refused_for, capture_in, capture_of, packets_at, captures_from, short_in, short_or, text_in, eq_by_cmp_equiv, IsToRead}
 use Rattle.std.specs.FinMap.{remove}
 use Rattle.cq_run.specs.declared.refusal.Refusal.TheVariants.{Audit}
 
@@ -18,15 +18,6 @@ named_then asked f m name x h =
     let removed = get-remove nat_list_cmp_total m name asked in
     grind (arith, common_steps, removed, tells_apart exact_bytes asked name)
 
-pub pure_stays : {A : Type 0} (r : Result A Refusal) → Stays (λ (m : Contents). r)
-unfolding Stays
-pure_stays r m name x h = inl h
-
-module _ {A B : Type 0} (j : Contents → Result A Refusal) (f : A → Contents → Result B Refusal) where
-  pub then_stays : Stays j → ((x : A) → Stays (f x)) → Stays (λ (m : Contents). j m >>= (λ x. f x m))
-  unfolding Stays
-  then_stays first then m name y h = search (arith, rules)
-
 pub tables_stay : (name : List ℕ) → Stays (tables_in name)
 tables_stay name = named_then name (λ (bytes : List ℕ). read_or_refused_for (read_or_refused bytes))
 
@@ -40,17 +31,16 @@ pub text_stays : (long : Denial) (name : List ℕ) → Stays (text_in long name)
 text_stays long name = short_stays (Audit long) name
 
 pub packets_stay : (r : Reader) (input limit : ℕ) (read : Option (List ℕ)) → Stays (packets_at r input limit read)
-packets_stay r input limit None = pure_stays _
+unfolding Stays
+packets_stay r input limit None = λ m name x h. inl h
 packets_stay r input limit (Some name) = capture_stays r name input limit
 
 pub captures_from_stay : (r : Reader) (limit input : ℕ) (rows : List PortRow) → Stays (captures_from r limit input rows)
-unfolding captures_from
-captures_from_stay r limit input [] = pure_stays _
-captures_from_stay r limit input (row ∷ rows) =
-    then_stays (packets_at r input limit row.read) (λ (packets : List Captured) (m : Contents).
-    captures_from r limit (input + 1) rows m >>= (λ others. Ok (packets ∷ others)))
-    (packets_stay r input limit row.read) (λ packets.
-    search (arith, rules, then_stays, pure_stays, captures_from_stay r limit (input + 1) rows))
+unfolding captures_from Stays
+captures_from_stay r limit input [] m name x h = inl h
+captures_from_stay r limit input (row ∷ rows) m name x h =
+    let here = packets_stay r input limit row.read m name in
+    grind (arith, common_steps, here, captures_from_stay r limit (input + 1) rows m name)
 
 pub get-remove_same : (m : Contents) (name : List ℕ) → get (remove m name) name ≡ None
 get-remove_same m name = get-remove nat_list_cmp_total m name name
@@ -58,5 +48,4 @@ get-remove_same m name = get-remove nat_list_cmp_total m name name
 
 pub capture_is_to_read : (r : Reader) (told : Option Contents) (name : List ℕ) (input limit : ℕ) →
     IsToRead (capture_in r name input limit) told name
-capture_is_to_read r None name input limit = tt
-capture_is_to_read r (Some m) name input limit = cc (get-remove_same m name)
+capture_is_to_read r told name input limit = grind (arith, common_steps, get-remove_same)

@@ -1,12 +1,9 @@
 -- What stopping a run and taking one up come to, from what is known of the schedule of the captures: the text of the
 -- state in which the run stands, what the run keeps that goes on, and why there is none.
-use Rattle.cq_run.proofs.Terms.{◌≡◌, ◌≤◌, ℕ, List, length, Departure, Transfer, Captured, classes_of, Tables, openings_of, unpacked_run, PackedFabricRun, RunRefusal, AreGiven, IsPartHalt, IsResumeHalt, IsResumedBy, halt_for_state, halt_for_text, IsPartText, IsResumedText, halt_of, Scheduled, schedule_of, Frozen, IsRead, IsRefusal, state_of, IsResumed, Kept, Switch, switch_of, StateRefusal, parted_best, parted_slack, resumed_best, resumed_slack, resumed_counts, resumed_whole, AlwaysHasSlack, AreInputBest, CanBeTakenUp, IsPartFault, IsResumeFault, kept_of, IsTooLong, state_text, StateLong, longest_file}
+use Rattle.cq_run.proofs.Terms.{arith, common_steps, ◌≡◌, ◌≤◌, ℕ, List, length, Departure, Transfer, Captured, classes_of, Tables, openings_of, unpacked_run, PackedFabricRun, RunRefusal, AreGiven, IsPartHalt, IsResumeHalt, IsResumedBy, halt_for_state, halt_for_text, IsPartText, IsResumedText, halt_of, Scheduled, schedule_of, Frozen, IsRead, IsRefusal, state_of, IsResumed, Kept, Switch, switch_of, StateRefusal, parted_best, parted_slack, resumed_best, resumed_slack, resumed_counts, resumed_whole, AlwaysHasSlack, AreInputBest, CanBeTakenUp, IsPartFault, IsResumeFault, kept_of, IsTooLong, state_text, StateLong, longest_file}
 use Rattle.cq_run.specs.Parting.{IsPartedAt}
-use Rattle.cq_resume.specs.declared.refusal.StateRefusal.TheVariants as of_state
 use Rattle.cq_resume.specs.declared.taken.Taken.{Taken}
-use Rattle.cq_simulate.specs.declared.refusal.RunRefusal.TheVariants as of_run
 use Rattle.cq_state.specs.declared.state.State.{State}
-use Rattle.cq_state.specs.declared.write.StateLong.TheVariants as of_text
 
 -- ## The state that is written
 
@@ -46,8 +43,7 @@ module _ (t : Tables) (captures : List (List Captured)) (schedule : Scheduled)
     -- a slot before meets a tag fault, or memory ran out
     pub part_halt : (refusal : RunRefusal) → IsPartFault (switch_of t schedule) (openings_of t.setup) slots refusal →
         IsPartHalt t captures slots (halt_of refusal)
-    part_halt (of_run.Tag fault) h = rw is at h
-    part_halt of_run.NoMemory h = tt
+    part_halt refusal h = grind (arith, common_steps)
 
     module _ (at : Taken) (parted : IsPartedAt t captures slots at) (told : State)
         (tells : told ≡ state_of at.frozen at.sent at.note schedule.t0 (classes_of t.setup)
@@ -60,8 +56,7 @@ module _ (t : Tables) (captures : List (List Captured)) (schedule : Scheduled)
       -- which is too long, or memory ran out
       pub part_long : (refusal : StateLong) → IsTooLong (state_text told) refusal →
           IsPartHalt t captures slots (halt_for_text refusal)
-      part_long of_text.Long h = record { at = at; parted = parted; long = rw (tells, is) at h }
-      part_long of_text.NoMemory h = tt
+      part_long refusal h = grind (arith, common_steps)
 
   -- ## Going on
 
@@ -69,17 +64,13 @@ module _ (t : Tables) (captures : List (List Captured)) (schedule : Scheduled)
     -- the text is none of a sound state, or memory ran out
     pub resume_refused : (refusal : StateRefusal) → IsRefusal (switch_of t schedule) text refusal →
         IsResumeHalt t captures text (halt_for_state refusal)
-    resume_refused (of_state.Text line) h = h
-    resume_refused of_state.Shape h = rw is at h
-    resume_refused (of_state.Unsound clause) h = rw is at h
-    resume_refused of_state.NoMemory h = tt
+    resume_refused refusal h = grind (arith, common_steps)
 
     module _ (from : Taken) (read : IsRead (switch_of t schedule) text from) where
       -- a slot from there on meets a tag fault, or memory ran out
       pub resume_halt : (refusal : RunRefusal) → IsResumeFault (switch_of t schedule) from refusal →
           IsResumeHalt t captures text (halt_of refusal)
-      resume_halt (of_run.Tag fault) h = record { from = from; read = rw is at read; stops = rw is at h }
-      resume_halt of_run.NoMemory h = tt
+      resume_halt refusal h = grind (arith, common_steps)
 
       module _ (run : PackedFabricRun) (resumed : IsResumed (switch_of t schedule) from (kept_of (unpacked_run run)))
           (given : AreGiven t captures) where

@@ -1,9 +1,7 @@
 -- What is told of a text, as the trace or the log of an audit or the state of a stopped run, from what was read under
 -- its name: its bytes, where they are not too many. The name that was asked for is the one that is to be read, or a
 -- copy of it.
-use Rattle.cq_run.proofs.Terms.{rules, ◌≡◌, ◌<◌, ◌≤◌, ◌⊎◌, ℕ, IsTrue, List, length, inl, inr, arith, codes, refl, false, Option, None, Some, IfSome, Result, Ok, Err, IsErrOf, Vec, nat_le, le-ltb, lt-ltb, get, Global, Contents, bytes_of, Refusal, Missing, Configuration, IsRefused, IsToRead, meaning_of, short_in, tables_in, first, read_or_refused, common_steps, ◌∙◌, ap, sym, slice_index, Captured, PcapRefusal, IsFaulty, Spells, Space, Halts, AnyName, Pace, Uncounted, Reader, halt_for, capture_in, read_or_faulty, Lacks, ReadRefusal, spelt_or_faulty, fault_is_read, spelt_is_read, longest_file, is_fault}
-use Rattle.std.specs.FinMap.{remove}
-use Rattle.cq_pcap.specs.declared.read.PcapRefusal.TheVariants as refusal
+use Rattle.cq_run.proofs.Terms.{rules, ◌≡◌, ◌<◌, ◌≤◌, ◌⊎◌, ℕ, IsTrue, List, length, inl, inr, arith, codes, false, Option, Some, IfSome, Result, Ok, Err, IsErrOf, Vec, nat_le, le-ltb, lt-ltb, get, Global, Contents, bytes_of, Refusal, Missing, Configuration, IsRefused, IsToRead, meaning_of, short_in, tables_in, first, read_or_refused, common_steps, ◌∙◌, sym, slice_index, Captured, PcapRefusal, IsFaulty, Spells, Space, Halts, AnyName, Pace, Uncounted, Reader, halt_for, capture_in, Lacks, ReadRefusal, spelt_or_faulty, fault_is_read, spelt_is_read, longest_file, is_fault}
 use Rattle.cq_run.specs.declared.refusal.CaptureFault.TheVariants.{Read}
 use Rattle.cq_space.specs.declared.whole.ReadRefusal.TheVariants as whole
 use Rattle.cq_run.proofs.Stays.{get-remove_same}
@@ -13,29 +11,20 @@ module _ (long : Refusal) (name : List ℕ) where
   pub text_is : (told : Option Contents) (bytes : List ℕ) → length bytes ≤ longest_file →
       IfSome told (λ m. get m name ≡ Some bytes)
       → IfSome told (λ m. short_in long name m ≡ Ok bytes)
-  text_is None bytes short at = tt
-  text_is (Some m) bytes short at = search (arith, rules, le-ltb)
+  text_is told bytes short at = grind (arith, common_steps, le-ltb)
 
   pub text_long : (told : Option Contents) (asked : List ℕ) → IsTrue (meaning_of long).untold → asked ≡ name →
       IfSome told (λ m. longest_file < length (bytes_of m asked))
       → IsRefused (short_in long name) told long
-  text_long None asked untold a h = untold
-  text_long (Some m) asked untold a h = search (arith, rules, lt-ltb)
-
-  -- it is missed under the name that was asked for
-  missing_as : (m : Contents) (asked : List ℕ) → asked ≡ name → get m name ≡ None →
-      short_in long name m ≡ Err (Missing asked)
-  missing_as m asked a at = search (arith, rules)
+  text_long told asked untold a h = grind (arith, common_steps, lt-ltb)
 
   pub text_missed : (told : Option Contents) (asked : List ℕ) → asked ≡ name → Lacks told asked →
       IsRefused (short_in long name) told (Missing asked)
-  text_missed None asked a h = absurd h
-  text_missed (Some m) asked a h = missing_as m asked a (rw a at h)
+  text_missed told asked a h = grind (arith, common_steps)
 
   pub text_is_to_read : (told : Option Contents) (asked : List ℕ) → asked ≡ name →
       IsToRead (short_in long name) told asked
-  text_is_to_read None asked a = tt
-  text_is_to_read (Some m) asked a = search (arith, rules, missing_as (remove m name) asked a, get-remove_same m name)
+  text_is_to_read told asked a = grind (arith, common_steps, get-remove_same)
 
 -- ## What was accepted
 
@@ -58,8 +47,7 @@ too_long text e = rw e cc
 
 pub configuration_long : (told : Option Contents) (name asked path : List ℕ) → asked ≡ name → path ≡ codes "-" →
     IfSome told (λ m. 1048576 < length (bytes_of m asked)) → IsRefused (tables_in name) told (Configuration 10 path)
-configuration_long None name asked path a e h = refl
-configuration_long (Some m) name asked path a e h = search (arith, rules, too_long)
+configuration_long told name asked path a e h = search (arith, rules, too_long)
 
 -- a file that is too long was read with no fault
 pub long_is_no_fault : (r : ReadRefusal) (n : ℕ) (P : Type 0) → r ≡ whole.Long n →
@@ -67,8 +55,7 @@ pub long_is_no_fault : (r : ReadRefusal) (n : ℕ) (P : Type 0) → r ≡ whole.
 long_is_no_fault r n P e h = grind (arith, common_steps)
 
 pub configuration_is_to_read : (told : Option Contents) (name : List ℕ) → IsToRead (tables_in name) told name
-configuration_is_to_read None name = tt
-configuration_is_to_read (Some m) name = cc (get-remove_same m name)
+configuration_is_to_read told name = grind (arith, common_steps, get-remove_same)
 
 -- ## Captures are read in one way
 
@@ -86,31 +73,23 @@ one_answer r s bytes are = go (spelt_or_faulty bytes are)
 
 -- bytes are at no fault by want of memory
 faulty_told : (bytes : List ℕ) (fault : PcapRefusal) → IsFaulty bytes fault → IsTrue (is_fault (Read fault))
-faulty_told bytes refusal.NoMemory h = absurd h
-faulty_told bytes fault h = refl
+faulty_told bytes fault h = grind (arith, common_steps)
 
 module _ (r : Reader) (name : List ℕ) (input limit : ℕ) (bytes : List ℕ) (short : length bytes ≤ limit) where
-  -- a file of at most this length is looked at
-  read_at : (m : Contents) → get m name ≡ Some bytes →
-      capture_in r name input limit m ≡ read_or_faulty input (r.read bytes)
-  read_at m at = cc (le-ltb limit (length bytes) short)
-
   pub capture_is : (told : Option Contents) (packets : List Captured) → IfSome told (λ m. get m name ≡ Some bytes) →
       Spells bytes packets
       → IfSome told (λ m. capture_in r name input limit m ≡ Ok packets)
-  capture_is None packets at spelt = tt
-  capture_is (Some m) packets at spelt = read_at m at ∙ ap (read_or_faulty input) (r.spelt bytes packets spelt)
+  capture_is told packets at spelt =
+      let read = r.spelt bytes packets spelt in grind (arith, common_steps, le-ltb)
 
   -- a refusal of the reading stops it for its fault, or for want of memory
   pub capture_halts : (p : Pace) (R : List ℕ → Type 0) (old new : Space) (found : Option PcapRefusal) →
       IfSome old.told (λ m. get m name ≡ Some bytes) → IfSome found (IsFaulty bytes)
       → Uncounted p (AnyName R) old.faults new.faults →
       Halts p (capture_in r name input limit) R old new (halt_for input found)
-  capture_halts p R old new None at faulty kept = kept
-  capture_halts p R old new (Some fault) at faulty kept =
-      let told = faulty_told bytes fault faulty in grind (arith, common_steps)
+  capture_halts p R old new found at faulty kept =
+      grind (arith, common_steps, faulty_told bytes, r.faulty bytes, le-ltb)
 
 -- a file that was read was read with no fault
 pub read_is_no_fault : (v : Vec ℕ Global) (P : Type 0) → IsErrOf {T = Vec ℕ Global} (Ok v) whole.Fault ⊎ P → P
-read_is_no_fault v P (inl f) = absurd (let no : ⊥ = cc f in no)
-read_is_no_fault v P (inr p) = p
+read_is_no_fault v P h = grind (arith, common_steps)
