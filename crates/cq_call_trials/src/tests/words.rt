@@ -1,6 +1,6 @@
 //! Words that are no command, and commands that are refused before they write.
 use cq_trial_kit::HEADER;
-use cq_trials::{Disk, Left, MICROSECONDS, leaves_within, touches_nothing};
+use cq_trials::{Disk, Left, MICROSECONDS, leaves_within};
 use std::alloc::Global;
 use std::thread::Threads;
 
@@ -8,14 +8,22 @@ use std::thread::Threads;
 pub(super) const USAGE: &str =
     "usage: cq_switch pass IN OUT | check CONFIG | ideal CONFIG | run CONFIG | soak SEED PORTS SLOTS | audit CONFIG | part CONFIG SLOTS STATE | resume CONFIG STATE | stream CONFIG\n";
 
-/// Words, the code of their status, and the line.
+/// Words, the code of their status, and the line. More words that are no command stand in `cq_byte_trials`.
 type Refusal = (&'static [&'static str], u8, &'static str);
 
 const REFUSALS: &[Refusal] = &[
     (&[], 1, USAGE),
+    (&["help"], 1, USAGE),
+    (&["run"], 1, USAGE),
+    (&["run", "a", "b"], 1, USAGE),
+    (&["pass", "-a", "b"], 1, USAGE),
     (&["pass", "a", "b", "c"], 1, USAGE),
     (&["soak", "1", "65", "10"], 1, USAGE),
+    (&["soak", "1", "8", "0"], 1, USAGE),
+    (&["soak", "+1", "8", "10"], 1, USAGE),
     (&["part", "a", "9223372036854775808", "b"], 1, USAGE),
+    // A command of the call that may read ahead alone.
+    (&["stream", "c.toml"], 1, USAGE),
     (&["pass", "c", "b"], 3, "capture of input 0: 1\n"),
     (&["pass", "d", "b"], 5, "read fault: d\n"),
 ];
@@ -43,45 +51,5 @@ fn a_refusal_says_why_and_starts_no_file(rt: HostRuntime) {
         for place in PLACES {
             assert!(rt; is_refused(&rt, rt.alloc(), refusal, place));
         }
-    }
-}
-
-const NO_COMMANDS: &[&[&str]] = &[
-    &[""],
-    &["help"],
-    &["--help"],
-    &["Pass", "a", "b"],
-    &["pass"],
-    &["pass", "a"],
-    &["pass", "a", ""],
-    &["pass", "", "b"],
-    &["pass", "-a", "b"],
-    &["pass", "a", "-b"],
-    &["pass", "--", "a", "b"],
-    &["pass", "a", "b", "c"],
-    &["check"],
-    &["check", "-c"],
-    &["ideal", ""],
-    &["ideal", "a", "b"],
-    &["run"],
-    &["run", "-"],
-    &["run", "a", "b"],
-    &["soak", "1", "8"],
-    &["soak", "+1", "8", "10"],
-    &["soak", "1", "0", "10"],
-    &["soak", "1", "65", "10"],
-    &["soak", "1", "8", "0"],
-    &["soak", "1", "8", "20001"],
-    &["soak", "1", "8", "10", "1"],
-    &["soak", "18446744073709551616", "8", "10"],
-    &["soak", "1", "8", "000000000000000000010"],
-    // A command of the call that may read ahead alone.
-    &["stream", "c.toml"],
-];
-
-#[test]
-fn words_that_are_no_command_get_the_usage(rt: HostRuntime) {
-    for words in NO_COMMANDS {
-        assert!(rt; touches_nothing(&rt, rt.alloc(), (words, (1, "", USAGE)), &[]));
     }
 }
