@@ -28,7 +28,8 @@ merged_on (i ∷ places) more queues =
 pub told_none : {queues : Queues} {told all : List Queued} → all ≡ told → HaveTold [] queues queues told all
 told_none {told = told} none = record { cells = none ∙ sym (append-nil told); left = λ j. refl }
 
-module _ {places : List ℕ} {old left : Queues} {told cells : List Queued} (t : HaveTold places old left told cells) where
+module _ {places : List ℕ} {old left : Queues} {told cells : List Queued}
+    (t : HaveTold places old left told cells) where
   pub told_on : {more : List ℕ} {new : Queues} {all : List Queued} → HaveTold more left new cells all →
       HaveTold (places ++ more) old new told all
   told_on {more} {new} {all} n =
@@ -57,7 +58,8 @@ told_one {j} {x} queues head less more = record {
 
 -- ## The place, or the block of places, that is told next
 
-pub head_left : (places : List ℕ) {i output : ℕ} (queues : List (List Queued)) {old : Queues} {told cells : List Queued} →
+pub head_left : (places : List ℕ) {i output : ℕ} (queues : List (List Queued)) {old : Queues}
+    {told cells : List Queued} →
     HaveTold (take i places) old (queue_of queues) told cells → i < length places → output ≡ get_or places i output →
     CanTell places old → 0 < length (queue_of queues output)
 head_left places {i} {output} queues {old} t inside is_read can =

@@ -271,7 +271,8 @@ module _ (w : Switch) (s : State) (in_range : IsInRange s) (shape : HasShape w s
   lists_few : (i : ℕ) → length (input f i) ≤ number_of (is_from i) (came_before s.head.next w.came)
   lists_few i =
       let few = names_few (is_from i) s.head.next w.came (at_input i) s.listed listed_differ
-      (λ c has. comes c (has_left _ _ c (has_left _ _ c has))) (λ c a own arrives input. search (arith, rules, eq-eqb, eqb-true)) in
+      (λ c has. comes c (has_left _ _ c (has_left _ _ c has)))
+      (λ c a own arrives input. search (arith, rules, eq-eqb, eqb-true)) in
       of_list (λ (l : List Queued). length l ≤ number_of (is_from i) (came_before s.head.next w.came)) (omega arith) i
       (omega (arith, looked_few t (filter (at_input i) s.listed)))
 

@@ -87,8 +87,9 @@ sent_add xs s rest = rw (map_numbered sent_line 0 xs)
 
 moved_add : (xs : List Transfer) (s : State) (rest : List Line) → AllByRecursion (λ t. t.id.input ≡ t.input) xs →
     gathered s (map moved_line xs ++ rest) ≡ gathered (with_moved s xs) rest
-moved_add xs s rest all = rw (map_numbered moved_line 0 xs)
-    (search (arith, rules, part_adds (plain moved_line) with_moved (λ t. t.id.input ≡ t.input), append-nil, append_assoc))
+moved_add xs s rest all =
+    let adds = part_adds (plain moved_line) with_moved (λ t. t.id.input ≡ t.input) in
+    rw (map_numbered moved_line 0 xs) (search (arith, rules, adds, append-nil, append_assoc))
 
 pub state_again : (s : State) → IsInRange s → gathered nothing (state_lines s) ≡ s
 unfolding state_lines
