@@ -2,7 +2,7 @@
 -- run the setup and the limits, and what is written the names of the files and the length of a slot. So the same
 -- arrives whatever that number is; and each verdict, each plan that meets it, and each reason that denies it, is made
 -- of what arrives and of these. Numbers can be exchanged, so it holds both ways.
-use Rattle.cq_run.proofs.Terms.{rules, arith, common_steps, ◌≡◌, ◌∙◌, ◌+◌, ℕ, zero, suc, List, [], ◌∷◌, length, map, refl, ap, sym, subst, range_with_len, Arrival, IsOkAnd, Result, Ok, Err, arrivals, arrivals_at, arrivals_of, cell_of, cells, packets_of, Captured, Tables, Departure, LimitedRecord, IsFabricRun, PortRow, Kept, captures_out, checked, crossed, resumed, switched, ideal_departures, ran_ideal, packets_out, Contents, IsPartText, IsResumedText, Aim, Denies, Meets, Crossing, Auditing, Parting, Resuming, Exactly, Refusal, Plan, Reader, ◌>>=◌, judged, captures_in, ideally_sent, sent_or_tag, tables_in, text_in, state_in, judged_of_given, IsNo, AuditRefusal, Command, Audit, Check, Ideal, Part, Pass, Resume, Run, Soak}
+use Rattle.cq_run.proofs.Terms.{rules, arith, common_steps, ◌≡◌, ◌+◌, ℕ, zero, suc, List, [], ◌∷◌, length, refl, ap, sym, subst, Arrival, IsOkAnd, Result, Ok, Err, arrivals, arrivals_at, arrivals_of, cell_of, cells, Captured, Tables, Departure, LimitedRecord, IsFabricRun, PortRow, Kept, captures_out, checked, crossed, resumed, switched, ideal_departures, ran_ideal, packets_out, Contents, IsPartText, IsResumedText, Aim, Denies, Meets, Crossing, Auditing, Parting, Resuming, Exactly, Refusal, Plan, Reader, ◌>>=◌, judged, ideally_sent, sent_or_tag, tables_in, text_in, judged_of_given, IsNo, AuditRefusal, Command, Audit, Check, Ideal, Part, Pass, Resume, Run, Soak}
 use Rattle.std.specs.Prelude.{max}
 use Rattle.cq_cells.proofs.Ranges.{flat_same}
 use Rattle.cq_cells.specs.Schedule.{stamp_slot, start}
@@ -30,8 +30,7 @@ same x y e = rw e (alike x)
 
 aimed : (a b : Aim) → ((plan : Plan) → Meets a plan → Meets b plan) →
     ((refusal : Refusal) → Denies a refusal → Denies b refusal) → Follows (Ok a) (Ok b)
-aimed a b met denied =
-    record { met = met; denied = denied; refused = λ refusal e. absurd (let P : ⊥ = cc e in P) }
+aimed a b met denied = grind (arith, common_steps)
 
 then_both : {A : Type 0} (x : Result A Refusal) (f g : A → Result Aim Refusal) → ((a : A) → Follows (f a) (g a)) →
     Follows (x >>= f) (x >>= g)
@@ -57,13 +56,11 @@ module _ (n : ℕ) (t : Tables) where
 
     packet_same : (i k : ℕ) → arrivals_of u cs i k ≡ arrivals_of t cs i k
     unfolding cell_of cells route
-    packet_same i k = ap (λ (s : ℕ). map (λ (j : ℕ). record { slot = s + j; cell = cell_of t cs i k j })
-        (range_with_len 0 (cells t cs i k))) (start_same i k)
+    packet_same i k = search (rules, start_same)
 
     input_same : (i : ℕ) → arrivals_at u cs i ≡ arrivals_at t cs i
     unfolding arrivals_at
-    input_same i = flat_same (arrivals_of u cs i) (arrivals_of t cs i) 0 (length (packets_of cs i))
-        (λ k from inside. packet_same i k)
+    input_same i = grind (arith, common_steps, flat_same, packet_same)
 
     arrivals_same : arrivals u cs ≡ arrivals t cs
     unfolding arrivals
@@ -117,8 +114,7 @@ module _ (n : ℕ) (t : Tables) where
         (λ plan is. (yes sent trace log is.0, is.1)) (no sent trace log)
 
     text : (slots : ℕ) (bytes : List ℕ) → IsPartText t cs slots bytes → IsPartText u cs slots bytes
-    text slots bytes is =
-        record { at = is.at; parted = rw arrivals_same is.parted; told = rw arrivals_same is.told; short = is.short }
+    text slots bytes is = grind (arith, common_steps, arrivals_same)
 
     no_text : (slots : ℕ) (name : List ℕ) (refusal : Refusal) → Denies (Parting t cs slots name) refusal →
         Denies (Parting u cs slots name) refusal
@@ -129,17 +125,14 @@ module _ (n : ℕ) (t : Tables) where
         (λ plan (bytes, is, written). (bytes, text slots bytes is, written)) (no_text slots name)
 
     goes_on : (bytes : List ℕ) (kept : Kept) → IsResumedText t cs bytes kept → IsResumedText u cs bytes kept
-    goes_on bytes kept is =
-        record { from = is.from; read = rw arrivals_same is.read; resumed = rw arrivals_same is.resumed }
+    goes_on bytes kept is = grind (arith, common_steps, arrivals_same)
 
     not_on : (bytes : List ℕ) (refusal : Refusal) → Denies (Resuming t cs bytes) refusal →
         Denies (Resuming u cs bytes) refusal
     not_on bytes refusal d = search (arith, rules, arrivals_same)
 
     resuming : (bytes : List ℕ) → Follows (Ok (Resuming t cs bytes)) (Ok (Resuming u cs bytes))
-    resuming bytes = aimed (Resuming t cs bytes) (Resuming u cs bytes)
-        (λ plan (kept, is, written). (kept, goes_on bytes kept is, written ∙ sym (resumed_same kept)))
-        (not_on bytes)
+    resuming bytes = grind (arith, common_steps, aimed, goes_on, resumed_same, not_on)
 
   -- ## Each command
 
@@ -148,14 +141,12 @@ module _ (n : ℕ) (t : Tables) where
     both : (rest : Reader → Tables → List (List Captured) → Contents → Result Aim Refusal) →
         ((cs : List (List Captured)) → Follows (rest r t cs m) (rest r u cs m)) →
         Follows (judged_of_given r one (rest r) m) (judged_of_given r other (rest r) m)
-    both rest h =
-        rw (first, second) (then_both (captures_in r t m) (λ cs. rest r t cs m) (λ cs. rest r u cs m) h)
+    both rest h = grind (arith, common_steps, then_both)
 
     sends : (cs : List (List Captured)) (aim : Tables → List (List Captured) → List Departure → Aim) →
         ((sent : List Departure) → Follows (Ok (aim t cs sent)) (Ok (aim u cs sent))) →
         Follows (sent_of aim r t cs m) (sent_of aim r u cs m)
-    sends cs aim h = rw (ideally_same cs)
-        (then_both (ideally_sent t cs) (λ sent. Ok (aim t cs sent)) (λ sent. Ok (aim u cs sent)) h)
+    sends cs aim h = grind (arith, common_steps, ideally_same, then_both)
 
     check : Follows (Ok (Exactly (checked t))) (Ok (Exactly (checked u)))
     unfolding check_line
@@ -163,8 +154,7 @@ module _ (n : ℕ) (t : Tables) where
 
     ideal : (cs : List (List Captured)) (sent : List Departure) →
         Follows (Ok (Exactly (switched t cs sent))) (Ok (Exactly (switched u cs sent)))
-    ideal cs sent = same (Ok (Exactly (switched t cs sent))) (Ok (Exactly (switched u cs sent)))
-        (ap (λ (plan : Plan). let v : Result Aim Refusal = Ok (Exactly plan) in v) (switched_same cs sent))
+    ideal cs sent = grind (arith, common_steps, same, switched_same)
 
     audit : (cs : List (List Captured)) → Follows (from_trace r t cs m) (from_trace r u cs m)
     audit cs = then_both (text_in why.LongTrace t.trace m) (λ trace. from_log t cs trace m)
@@ -175,8 +165,7 @@ module _ (n : ℕ) (t : Tables) where
 
     resume : (name : List ℕ) (cs : List (List Captured)) →
         Follows (resume_rest name r t cs m) (resume_rest name r u cs m)
-    resume name cs = then_both (state_in name m) (λ bytes. Ok (Resuming t cs bytes)) (λ bytes. Ok (Resuming u cs bytes))
-        (resuming cs)
+    resume name cs = search (rules, then_both, resuming)
 
     follows : (command : Command) → Follows (judged r (over one command) m) (judged r (over other command) m)
     follows (Pass from to) = alike (judged r (Pass from to) m)

@@ -181,14 +181,12 @@ module _ (t : Tables) (captures : List (List Captured)) (came : List Arrival) (t
       -- a trace that differs
       pub trace_denied : (text : List ℕ) (n : ℕ) → text ≡ trace_of sent → DiffersFirst trace text n →
           IsAuditHalted t captures trace log (stop.Refused (refused.Audit (why.Trace n)))
-      trace_denied text n same differs =
-          let P : List ℕ → Type 0 = λ x. DiffersFirst trace x n in search (arith, rules, sends, log_stands)
+      trace_denied text n same differs = grind (arith, common_steps, sends, log_stands)
 
       -- the run of the log sends what the ideal switch sends
       departed : IsTraffic (ports_of t.setup) (classes_of t.setup) came →
           sent ≡ departures_in_run log_stands.run.records
-      departed traffic =
-          grind (arith, common_steps, stable_sends t (arrivals t captures) log_stands.run.records log_stands.run.end)
+      departed traffic = grind (arith, common_steps, stable_sends)
 
       -- and a trace that is the same
       pub both_passed : (text : List ℕ) → IsTraffic (ports_of t.setup) (classes_of t.setup) came →

@@ -1,7 +1,7 @@
 -- One judgement after another. Where the first ends without an answer, so do both; where it has one, both end as the
 -- second does. A name that the second is to read is to be read by both, since the first comes to the same without it,
 -- or misses it. First, the count of faults where an answer tells of none.
-use Rattle.cq_run.proofs.Terms.{rules, arith, ◌≡◌, ◌∙◌, ◌⊎◌, ℕ, List, ap, refl, inl, Option, None, Some, IfSome, Result, Ok, Err, common_steps, Contents, Space, Closed, Mode, Refusal, Missing, Halt, ◌>>=◌, Halts, IsHaltOf, Judges, InTurn, Pace, Ahead, Uncounted, AnyName, Rose, Call, Fails, Lasts}
+use Rattle.cq_run.proofs.Terms.{rules, arith, ◌≡◌, ◌∙◌, ◌⊎◌, ℕ, List, ap, refl, inl, Option, None, Some, IfSome, Result, Ok, Err, common_steps, Contents, Space, Closed, Mode, Refusal, Missing, Halt, ◌>>=◌, Halts, IsHaltOf, Judges, InTurn, Pace, Ahead, Uncounted, AnyName, Call, Fails, Lasts}
 use Rattle.std.specs.FinMap.{remove}
 use Rattle.cq_run.proofs.Stays.{Stays}
 
@@ -10,12 +10,7 @@ pub fails_after : {S : Type 0} (space : S → Space) (may_fail : Call → S → 
     (kind : Mode → Call → Type 0) (old mid new : S) → Lasts keeps → (space mid).faults ≡ (space old).faults →
     keeps old mid
     → Fails space may_fail keeps kind mid new → Fails space may_fail keeps kind old new
-fails_after space may_fail keeps kind old mid new lasts same kept h =
-    grind (arith, common_steps, lasts.both old mid h.before kept h.kept)
-
--- a fault that was counted since some moment was counted since the start
-pub rose_from : (old mid new : ℕ) → mid ≡ old → Rose mid new → Rose old new
-rose_from old mid new l r = omega arith
+fails_after space may_fail keeps kind old mid new lasts same kept h = grind (arith, common_steps, lasts.both)
 
 -- it is as before
 pub counts_same : (pace : Pace) (U : Type 0) (old new : ℕ) → new ≡ old → Uncounted pace U old new

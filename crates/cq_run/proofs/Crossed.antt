@@ -1,12 +1,11 @@
 -- The captures of the outputs, one after another: those that were made and those that are still to be made are all.
 -- Each is that which was built at its output.
-use Rattle.cq_run.proofs.Terms.{common_steps, rules, ◌≡◌, ◌<◌, ◌≤◌, ◌∙◌, ℕ, ◌+◌, List, [], ◌∷◌, ◌++◌, length, drop, get_or, refl, ap, sym, add-one, append_assoc, arith, Result, Ok, append-nil, drop_all, drop_more, length-drop, trace_of, log_of, Departure, TagFault, Transfer, arrivals, Captured, AreTables, ports_of, PortRow, Tables, Plan, capture_out, captures_out, switched, IsSwitched, sent_or_tag, Switched, ArePacked, HaveLeftOf, Arrival, t0_of, packets_of, IsRecorded, IsTraffic, LimitedRecord, report_with, under_names, classes_of, always_slack, best_in_each, slot_by_slot, IsFabricRun, IsKeptOf, unpacked_run, ideal_departures, PackedFabricRun, Contents, AreGiven, AreRead, IsEmulation, KeepsUp, crossed, reported, Reader, IsCrossed, IsCrossing, Crossed, left_in_packets, Packing, each_packet_once}
+use Rattle.cq_run.proofs.Terms.{common_steps, rules, ◌≡◌, ◌<◌, ◌≤◌, ◌∙◌, ℕ, ◌+◌, List, [], ◌∷◌, ◌++◌, length, drop, get_or, refl, sym, add-one, append_assoc, arith, Result, Ok, append-nil, drop_all, drop_more, length-drop, trace_of, log_of, Departure, TagFault, Transfer, arrivals, Captured, AreTables, ports_of, PortRow, Tables, Plan, capture_out, captures_out, switched, IsSwitched, sent_or_tag, Switched, ArePacked, HaveLeftOf, Arrival, t0_of, packets_of, IsRecorded, IsTraffic, LimitedRecord, report_with, under_names, classes_of, always_slack, best_in_each, slot_by_slot, IsFabricRun, IsKeptOf, unpacked_run, ideal_departures, PackedFabricRun, Contents, AreGiven, AreRead, IsEmulation, KeepsUp, crossed, reported, Reader, IsCrossed, IsCrossing, Crossed, left_in_packets, Packing, each_packet_once}
 
 -- a plan of these names and this text
 pub plan_is : (plan : Plan) (writes : List (List ℕ × List ℕ)) (text : List ℕ) → plan.writes ≡ writes →
     plan.text ≡ text → plan ≡ record { writes = writes; text = text }
-plan_is plan writes text e f =
-    rw (← e, ← f) refl
+plan_is plan writes text e f = grind (arith, common_steps)
 
 -- a run that has no tag fault
 pub sent_ok : (sent : List Departure) (x : Result (List Departure) TagFault) → sent_or_tag x ≡ Ok sent → x ≡ Ok sent
@@ -15,15 +14,13 @@ sent_ok sent x h = grind (arith, common_steps)
 -- what the ideal switch sends leaves in whole packets
 pub switched_whole : (t : Tables) (captures : List (List Captured)) (s : Switched) → AreTables t →
     length captures ≡ ports_of t.setup → IsSwitched t captures s → HaveLeftOf t captures s.sent.items s.t0
-switched_whole t captures s are many is =
-    grind (arith, common_steps, left_in_packets t captures s.sent.items are many)
+switched_whole t captures s are many is = grind (arith, common_steps, left_in_packets)
 
 -- one more capture under its name, and all of them
 module _ (rows : List PortRow) (k : ℕ) where
   pub one_fewer : (left rest : List Packing) (place : Packing) → left ≡ place ∷ rest → length rows ≤ k + length left →
       length rows ≤ k + 1 + length rest
-  one_fewer left rest place first enough =
-      let longer : length left ≡ length (place ∷ rest) = ap (λ (ps : List Packing). length ps) first in omega arith
+  one_fewer left rest place first enough = grind (arith, common_steps)
 
   module _ (writes all : List (List ℕ × List ℕ)) where
     pub one_under : (row d : PortRow) (more : List (List ℕ × List ℕ)) (left rest : List Packing) (place : Packing) →
@@ -58,8 +55,7 @@ module _ (t : Tables) (captures : List (List Captured)) (sent : List Departure) 
       parts = sym (drop_more places output place in_places) ∙ first
 
       pub file_is : place.bytes.items ≡ capture_out t captures sent output
-      file_is = sym (ap (λ (ps : List Packing). (get_or ps 0 place).bytes.items) parts)
-          ∙ packed.bytes output place in_places
+      file_is = grind (arith, common_steps, parts, in_places)
 
       rest_is : drop (output + 1) places ≡ rest
       rest_is = cc parts
@@ -72,24 +68,16 @@ module _ (t : Tables) (captures : List (List Captured)) (sent : List Departure) 
   packed_under places packed [] k left is fit = refl
   packed_under places packed (row ∷ rows) k [] is fit = absurd (some_left places packed k (omega arith) is)
   packed_under places packed (row ∷ rows) k (place ∷ left) is fit =
-      let inside : k < ports_of t.setup = omega arith in
-      let others = packed_under places packed rows (k + 1) left (rest_is places packed k inside place left is)
-      (omega arith) in
-      cc (file_is places packed k inside place left is, others, captures_of_more k row rows)
+      grind (arith, common_steps, rest_is, file_is, captures_of_more, packed_under places packed rows (k + 1) left)
 
   -- those of all outputs
   module _ (places : List Packing) (packed : ArePacked t captures sent places) (are : AreTables t)
       (rows : List PortRow) (all : rows ≡ t.ports) where
     pub rows_fit : length rows ≤ length places
-    rows_fit = let outputs : length places ≡ ports_of t.setup = packed.outputs in
-        let files : length t.ports ≡ ports_of t.setup = are.files in
-        let rows_are : length rows ≡ length t.ports = ap (λ (rs : List PortRow). length rs) all in omega arith
+    rows_fit = let outputs : length places ≡ ports_of t.setup = packed.outputs in search (arith, rules)
 
     pub packed_all : under_names rows places ≡ captures_out t captures sent 0 t.ports
-    packed_all =
-        let outputs : length places ≡ ports_of t.setup = packed.outputs in
-        let fit : 0 + length rows ≤ ports_of t.setup = omega (arith, rows_fit) in
-        packed_under places packed rows 0 places refl fit ∙ ap (captures_out t captures sent 0) all
+    packed_all = grind (arith, common_steps, rows_fit, packed_under)
 
   -- these and the trace, and then the log
   pub traced_writes : (made traced : List (List ℕ × List ℕ)) (trace : List ℕ) →
@@ -101,8 +89,7 @@ module _ (t : Tables) (captures : List (List Captured)) (sent : List Departure) 
       traced ≡ captures_out t captures sent 0 t.ports ++ (t.trace, trace_of sent) ∷ [] →
       logged ≡ traced ++ (t.log, log) ∷ [] → log ≡ log_of note →
       logged ≡ captures_out t captures sent 0 t.ports ++ (t.trace, trace_of sent) ∷ (t.log, log_of note) ∷ []
-  crossed_writes traced logged log note all put is =
-      cc (append_assoc (captures_out t captures sent 0 t.ports) ((t.trace, trace_of sent) ∷ []) ((t.log, log) ∷ []))
+  crossed_writes traced logged log note all put is = grind (arith, common_steps, append_assoc)
 
   -- a plan with these and the trace
   pub switched_is : (plan : Plan) (traced : List (List ℕ × List ℕ)) →
@@ -122,15 +109,7 @@ are_given t captures tables each recorded = record { tables = tables; each = eac
 pub keeps_up : (t : Tables) (captures : List (List Captured)) (rs : List LimitedRecord) → AreGiven t captures →
     IsTraffic (ports_of t.setup) (classes_of t.setup) (arrivals t captures) →
     IsFabricRun t (arrivals t captures) rs → KeepsUp t captures rs
-keeps_up t captures rs given traffic is = record {
-  given = given;
-  runs = is;
-  drained = is.runs.empty;
-  input_best = best_in_each t (arrivals t captures) rs traffic is;
-  same = slot_by_slot t (arrivals t captures) rs traffic is;
-  slack = always_slack t (arrivals t captures) rs traffic is;
-  once = each_packet_once t captures rs given.tables given.each is;
-}
+keeps_up t captures rs given traffic is = search (rules, best_in_each, slot_by_slot, always_slack, each_packet_once)
 
 -- a run over a schedule of the captures
 pub is_crossed : (t : Tables) (captures : List (List Captured)) (came : List Arrival) (run : PackedFabricRun)
@@ -155,24 +134,10 @@ module _ (t : Tables) (captures : List (List Captured)) (c : Crossed) (is : IsCr
       ++ (t.trace, trace_of c.run.sent.items) ∷ (t.log, log_of c.run.note.items) ∷ [] →
       plan.text ≡ report_with c.run.figures c.run.refused.items → IsCrossing t captures plan
   unfolding crossed
-  crossing writes text = record {
-    sent = c.run.sent.items;
-    is_sent = is.switched.sent;
-    records = is.records;
-    keeps_up = is.keeps_up;
-    departed = is.departed;
-    written = plan_is plan _ _ (rw is.note at writes) (rw (is.figures, is.refused) at text);
-  }
+  crossing writes text = grind (arith, common_steps, keeps_up, plan_is)
 
 module _ (t : Tables) (captures : List (List Captured)) (plan : Plan) (is : IsCrossing t captures plan) where
   -- what is written of what was read
   pub emulates : (r : Reader) (config : List ℕ) (m : Contents) → AreRead r config m t captures →
       IsEmulation r config m plan
-  emulates r config m read = record {
-    tables = t;
-    captures = captures;
-    read = read;
-    records = is.records;
-    keeps_up = is.keeps_up;
-    written = is.written ∙ ap (λ (sent : List Departure). crossed t captures sent is.records) is.departed;
-  }
+  emulates r config m read = grind (arith, common_steps, keeps_up)

@@ -2,7 +2,7 @@
 -- status says. Each end has one status, and what the end says of the verdict is what the status says of it. The table
 -- of refusals is used for three facts alone: no refusal has a status of an end that is none, one with the status of
 -- read faults comes only where contents are told, and words are refused only where they are no command.
-use Rattle.cq_run.proofs.Terms.{common_steps, arith, ◌≡◌, ℕ, List, refl, inl, inr, rules, ◌∙◌, [], ◌∷◌, ap, ◌≢◌, ◌⊎◌, IsTrue, Result, Ok, Err, IsErrAnd, Option, None, Some, IfSome, MatchOption, IsOkAnd, Call, Fails, Lasts, Reads, Writes, Contents, Space, Command, Refusal, Halt, Aim, Meets, IsJudged, Pace, Uncounted, Plan, CommandHalts, Decides, IsDenial, known_to, known_by, Reader, Taken, World, IsUntouched, IsCut, IsDone, IsCutAtFile, all_replaced, Rose, Words, Capture, Refused, Unread, NoMemory, Emulates, meaning_of, judged, judged_or_words, StatusCauses, Status}
+use Rattle.cq_run.proofs.Terms.{common_steps, arith, ◌≡◌, ℕ, List, refl, rules, [], ◌∷◌, ◌≢◌, ◌⊎◌, IsTrue, Result, Ok, Err, IsErrAnd, Option, None, Some, IfSome, MatchOption, IsOkAnd, Call, Fails, Lasts, Reads, Writes, Contents, Space, Command, Refusal, Halt, Aim, Meets, IsJudged, Pace, Uncounted, Plan, CommandHalts, Decides, IsDenial, known_to, known_by, Reader, Taken, World, IsUntouched, IsCut, IsDone, IsCutAtFile, Rose, Words, Capture, Refused, Unread, NoMemory, Emulates, meaning_of, judged, judged_or_words, StatusCauses, Status}
 use Rattle.cq_run.specs.declared.stop.Stop.{Stop}
 use Rattle.cq_run.specs.declared.stop.Stop.TheVariants.{Cut, Halted}
 use Rattle.cq_run.specs.declared.stop.Unwritten.{Unwritten}
@@ -50,9 +50,7 @@ module _ {S : Type 0} (space : S → Space) (may_fail : Call → S → S → Typ
       (R : List ℕ → Type 0) (T : Type 0) where
     is_planned : IsPlanned r command (space old) plan
     is_planned =
-        let d = judged.judges r in
-        let judges = d.2 in
-        search (arith, rules, told_map, d.1, judged.names, judged.emulates r)
+        let d = judged.judges r in search (arith, rules, told_map)
 
     uncounted : (space mid).faults ≡ (space old).faults
     uncounted = same_faults command (space old) (space mid) (judged.judges r).2.uncounted
@@ -60,16 +58,7 @@ module _ {S : Type 0} (space : S → Space) (may_fail : Call → S → S → Typ
     -- the plan is done
     pub performed : (W : List ℕ → Type 0) (new : World) → IsDone plan (at mid) new →
         CommandEnds pace r R W T command (at old) new (Ok tt)
-    performed W new h = (
-      plan,
-      is_planned,
-      record {
-        told = h.told ∙ ap (all_replaced plan.writes) judged.told;
-        out = h.out;
-        files_uncounted = h.files_uncounted ∙ uncounted;
-        out_uncounted = h.out_uncounted;
-      },
-    )
+    performed W new h = grind (arith, common_steps, is_planned, uncounted)
 
     -- or cut short
     pub cut_short : (keeps : S → S → Type 0) (new : S) (out_new : Taken) (unwritten : Unwritten)
@@ -165,11 +154,8 @@ module _ (p : Pace) (a : Reader) (R W : List ℕ → Type 0) (T : Type 0) where
       search (arith, rules, refusal_causes, counts_known, outruns_is, denial_causes, counts_same, same_faults)
   command_causes command old new (Err (Halted (Unread name))) h = search (arith, rules, rose_known)
   command_causes command old new (Err (Halted NoMemory)) h = search (arith, rules, memory_causes, counts_known)
-  command_causes command old new (Err (Cut (File name))) h =
-      cut_causes p (judged a command) (known_to command old.files).told old new h.0 h.1.verdict
-      (inl (cut_rose h.0.writes name old.files new.files h.2.0))
-  command_causes command old new (Err (Cut Output)) h =
-      cut_causes p (judged a command) (known_to command old.files).told old new h.0 h.1.verdict (inr h.2.0.cause)
+  command_causes command old new (Err (Cut (File name))) h = grind (arith, common_steps, cut_causes, cut_rose)
+  command_causes command old new (Err (Cut Output)) h = grind (arith, common_steps, cut_causes)
 
   -- the top call's status is that of its end
   pub causes_at : (command : Option Command) (old new : World) (end : Result (Unit {0}) Stop) (answer : Status) →

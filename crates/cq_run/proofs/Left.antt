@@ -1,6 +1,6 @@
 -- What stands under a name after files were written. A name that is none of theirs has what it had, and the last of a
 -- name stays.
-use Rattle.cq_run.proofs.Terms.{common_steps, arith, rules, ◌≡◌, ◌≢◌, ◌∙◌, ◌+◌, ◌++◌, ℕ, suc, List, [], ◌∷◌, Option, Some, refl, ap, IfSome, get, get-insert, AllByRecursion, nat_list_cmp_total, exact_bytes, tells_apart, Departure, Captured, PortRow, Tables, Contents, captures_out, Reader, captures_from, tables_in, all_replaced, get_same}
+use Rattle.cq_run.proofs.Terms.{common_steps, arith, rules, ◌≡◌, ◌≢◌, ◌+◌, ◌++◌, ℕ, suc, List, [], ◌∷◌, Option, Some, refl, ap, IfSome, get, get-insert, AllByRecursion, nat_list_cmp_total, exact_bytes, tells_apart, Departure, Captured, PortRow, Tables, Contents, captures_out, Reader, captures_from, tables_in, all_replaced, get_same}
 use Rattle.std.specs.FinMap.{insert}
 
 -- ## One name
@@ -13,14 +13,12 @@ other_same m name bytes asked other =
 pub untouched : (ws : List (List ℕ × List ℕ)) (m left : Contents) (name : List ℕ) → all_replaced ws (Some m) ≡ Some left
     → AllByRecursion (λ w. w.0 ≢ name) ws → get left name ≡ get m name
 untouched [] m left name e none = let same : left ≡ m = cc e in ap (λ (c : Contents). get c name) same
-untouched (w ∷ ws) m left name e none =
-    untouched ws (insert m w.0 w.1) left name e none.1 ∙ other_same m w.0 w.1 name none.0
+untouched (w ∷ ws) m left name e none = search (rules, other_same, untouched ws (insert m w.0 w.1) left name e none.1)
 
 -- the last two files
 pub last_two : (ws : List (List ℕ × List ℕ)) (m left : Contents) (a x b y : List ℕ) → a ≢ b
     → all_replaced (ws ++ (a, x) ∷ (b, y) ∷ []) (Some m) ≡ Some left → (get left a ≡ Some x) × (get left b ≡ Some y)
-last_two [] m left a x b y ne e =
-    grind (arith, common_steps, other_same (insert m a x) b y a, get_same m a x, get_same (insert m a x) b y)
+last_two [] m left a x b y ne e = grind (arith, common_steps, other_same, get_same)
 last_two (w ∷ ws) m left a x b y ne e = last_two ws (insert m w.0 w.1) left a x b y ne e
 
 -- ## All that is written

@@ -1,7 +1,6 @@
 -- The files that an accepted configuration names. No two names clash, so a file that is read is none that is written,
 -- and the trace is not the log.
 use Rattle.cq_run.proofs.Terms.{rules, arith, ◌≡◌, ◌≢◌, ◌++◌, ◌&&◌, ℕ, suc, Bool, true, false, not, List, [], ◌∷◌, Option, None, Some, Ok, codes, is_some, refl, sym, inl, inr, IfSome, common_steps, AllByRecursion, list_any, and_from, not_from_false, bytes_eq-Decides, all_weaker, PortRow, Tables, at, first, unless, Named, apart_from, checks_in, clash, file_check, files_in, files_of, names_of, read_at, read_of, read_or_refused, tables_of, top_of, written_at, first_parts, Ports, Element, Top, DuplicateFile, EachPair, Has, has_left, has_right, pair_of_has}
-use Rattle.cq_tables.specs.Check.{Check}
 use Rattle.std.proofs.lemmas.List.Folds.{list_any-append}
 
 -- ## Checks that hold
@@ -17,10 +16,6 @@ files_apart text t h = search (arith, rules, files_checked)
 
 -- ## Names that do not clash
 
--- the check that a name clashes with none of these
-abbrev check_of : List Named → Named → Check
-check_of earlier n = at n.path (unless (not (list_any (clash n) earlier)) DuplicateFile)
-
 -- each of the later names clashes with none of the earlier ones
 abbrev pub ArePairs : List Named → Type 0
 ArePairs = EachPair (λ x n. clash n x ≡ false)
@@ -32,18 +27,7 @@ pairs_in : (earlier names : List Named) → first (apart_from earlier names) ≡
     AllByRecursion (λ k. list_any (clash k) earlier ≡ false) names × ArePairs names
 pairs_in earlier [] h = (tt, tt)
 pairs_in earlier (n ∷ names) h =
-    let more : List Named = earlier ++ n ∷ [] in
-    let step = first_parts (check_of earlier n) (apart_from more names) h in
-    let behind = pairs_in more names step.1 in
-    let each = all_weaker (λ k. list_any (clash k) more ≡ false)
-    (λ k. (list_any (clash k) earlier ≡ false) × (clash k n ≡ false))
-    (λ k clear. grind (arith, common_steps, list_any-append)) names behind.0 in (
-      (
-        no_clash (list_any (clash n) earlier) n.path step.0,
-        all_weaker _ (λ k. list_any (clash k) earlier ≡ false) (λ k both. both.0) names each,
-      ),
-      (all_weaker _ (λ k. clash k n ≡ false) (λ k both. both.1) names each, behind.1),
-    )
+    search (arith, rules, first_parts, all_weaker, list_any-append, no_clash, pairs_in (earlier ++ n ∷ []) names)
 
 pub names_apart : (text : List ℕ) (t : Tables) → read_or_refused text ≡ Ok t → ArePairs (files_in t)
 names_apart text t h = (pairs_in [] (files_in t) (files_apart text t h)).1
@@ -56,9 +40,7 @@ never_same a b clear written same = search (arith, rules, and_from, not_from_fal
 -- a file that is read is none that is written
 read_or_written : (xs : List Named) → ArePairs xs → (r w : Named) → Has xs r → Has xs w →
     r.is_read ≡ true → w.is_read ≡ false → r.file ≢ w.file
-read_or_written xs pairs r w k l read written =
-    let two = pair_of_has (λ (x n : Named). clash n x ≡ false) xs r w pairs k l in
-    grind (arith, common_steps, never_same r w, never_same w r)
+read_or_written xs pairs r w k l read written = grind (arith, common_steps, pair_of_has, never_same)
 
 -- ## The names of the ports
 
@@ -113,5 +95,4 @@ module _ (t : Tables) (pairs : ArePairs (files_in t)) where
 
   -- and the trace is not the log
   pub trace_or_log : t.trace ≢ t.log
-  trace_or_log same =
-      never_same (written_at Top (codes "log") t.log) (written_at Top (codes "trace") t.trace) pairs.0.0 refl (sym same)
+  trace_or_log same = search (rules, never_same)

@@ -9,8 +9,7 @@ never_captures : (r : Reader) (limit input : ℕ) (rows : List PortRow) (m : Con
     IsOfContents (captures_from r limit input rows m)
 unfolding captures_from
 never_captures r limit input [] m h = cc
-never_captures r limit input (row ∷ rows) m h =
-    grind (arith, common_steps, never_captures r limit (input + 1) rows m)
+never_captures r limit input (row ∷ rows) m h = grind (arith, common_steps, never_captures r limit (input + 1) rows m)
 
 pub never_words : (r : Reader) (command : Command) (m : Contents) → IsOfContents (judged r command m)
 never_words r command m h = grind (arith, common_steps, never_captures)

@@ -1,10 +1,10 @@
 -- A switch of one port sends each cell in the slot in which it comes. Cells come one after another, at most one in a
 -- slot. So no cell waits when a slot begins; the cell that comes is alone in the one list, and leaves.
 -- The departures are the arrivals, and every packet leaves with its last cell, which alone is marked as last.
-use Rattle.cq_run.proofs.Terms.{common_steps, ◌≡◌, ℕ, zero, suc, ◌+◌, ◌<◌, ◌≤◌, Bool, true, false, cond, List, [], ◌∷◌, map, replicate, Option, Some, None, Result, Ok, Err, refl, sym, ap, ◌∙◌, subst, ⊎_elim, arith, rules, ◌-◌, ◌*◌, length, flat_map, ◌==◌, ◌^◌, nat_lt, find, slice_index_or, append-nil, option_map, AllByRecursion, range_with_len, AllPairs, filter, cases_eq, cond-true, eq-eqb, and_from, Arrival, arriving, arriving_at, is_at, end_of, enough, traffic_of, Departure, TagFault, filter-append, arrivals, arrivals_at, arrivals_of, cell_of, cells, cells_of, t0_of, packet_at, start, IsInRange, IsLater, IsTraffic, traffic_is, departures_limited, whole_limited_run, LimitedRan, empty_limited, unlimited, all_weaker, run_as_before, same_sent, Captured, AreTables, classes_of, ports_of, Tables, machines_of, openings_of, ideal_departures, ran_ideal, ends_packet_at, leaving, packets_out, all_leave, as_it_leaves, ne_eqb, Cell, Queued, Machine, machine_at, Ranking, after_input, keyed, ranking, arriving_is, first_slot, ranked_none, NoLimits, all_slots, before_end, OutPacket, one_is, most_ports}
+use Rattle.cq_run.proofs.Terms.{common_steps, ◌≡◌, ℕ, zero, suc, ◌+◌, ◌<◌, ◌≤◌, Bool, true, false, cond, List, [], ◌∷◌, map, replicate, Option, Some, None, Result, Ok, Err, refl, sym, ap, ◌∙◌, subst, ⊎_elim, arith, rules, ◌-◌, ◌*◌, length, flat_map, ◌==◌, find, append-nil, option_map, AllByRecursion, range_with_len, AllPairs, filter, cases_eq, cond-true, eq-eqb, and_from, Arrival, arriving, arriving_at, is_at, end_of, enough, traffic_of, Departure, TagFault, filter-append, arrivals, arrivals_at, arrivals_of, cell_of, cells, cells_of, t0_of, packet_at, start, IsInRange, IsLater, IsTraffic, traffic_is, departures_limited, whole_limited_run, LimitedRan, empty_limited, unlimited, all_weaker, run_as_before, same_sent, Captured, AreTables, classes_of, ports_of, Tables, machines_of, openings_of, ideal_departures, ran_ideal, ends_packet_at, leaving, packets_out, all_leave, as_it_leaves, ne_eqb, Cell, Queued, Machine, after_input, ranking, arriving_is, first_slot, ranked_none, NoLimits, all_slots, before_end, OutPacket, one_is, most_ports}
 use Rattle.cq_ideal.specs.Ending.{arriving_from}
 use Rattle.cq_ideal.specs.IdealRun.{Ran, departures_of, ideal_run, departures_ran, empty_ideal}
-use Rattle.cq_ideal.specs.IdealSlot.{IdealState, Sent, all_told, departures_in, filled, fronts, ideal_sends, ideal_slot, put_all, rests}
+use Rattle.cq_ideal.specs.IdealSlot.{IdealState, Sent, departures_in, filled, fronts, ideal_sends, ideal_slot, put_all, rests}
 
 -- cells of the one input for the one output, of which each comes later than the one before it, from this slot on
 pub record IsNextFrom (slot : ℕ) (a : Arrival) : Type 0 where
@@ -31,13 +31,11 @@ all_none f a (suc n) e = grind (arith, common_steps, all_none f (a + 1) n)
 -- none comes before its slot, or at another input
 none_before : (slot : ℕ) (came : List Arrival) (t k : ℕ) → InTurnFrom slot came → t < slot → arriving_at came t k ≡ None
 none_before slot [] t k turn less = refl
-none_before slot (a ∷ came) t k turn less =
-    grind (arith, common_steps, none_before (a.slot + 1) came t k turn.1)
+none_before slot (a ∷ came) t k turn less = grind (arith, common_steps, none_before (a.slot + 1) came t k turn.1)
 
 none_elsewhere : (slot : ℕ) (came : List Arrival) (t k : ℕ) → InTurnFrom slot came → 0 < k → arriving_at came t k ≡ None
 none_elsewhere slot [] t k turn some = refl
-none_elsewhere slot (a ∷ came) t k turn some =
-    grind (arith, common_steps, none_elsewhere (a.slot + 1) came t k turn.1 some)
+none_elsewhere slot (a ∷ came) t k turn some = search (rules, none_elsewhere (a.slot + 1) came t k turn.1 some)
 
 module _ (inputs : ℕ) (many : suc inputs ≡ most_ports) where
   none_comes : (slot : ℕ) (came : List Arrival) (t : ℕ) → InTurnFrom slot came → t < slot →
@@ -63,8 +61,7 @@ module _ (inputs : ℕ) (many : suc inputs ≡ most_ports) where
   later_slots : (a : Arrival) (came : List Arrival) (s n : ℕ) → a.slot < s →
       arriving_from (a ∷ came) s n ≡ arriving_from came s n
   unfolding arriving_from
-  later_slots a came s n less =
-      all_same (arriving (a ∷ came)) (arriving came) s n (λ t l. same_later a came t (omega arith))
+  later_slots a came s n less = grind (arith, common_steps, all_same, same_later)
 
 -- ## One slot
 
@@ -89,40 +86,25 @@ module _ (ms : List Machine) (slot : ℕ) (ranks : List (List ℕ)) where
       filled came ([] ∷ []) ≡ lists
       → ideal_sends ms (alone ranks) (Ok (record { came = came; ranks = rs })) ≡ Ok sent
       → (sent.gone ≡ fronts lists) × (sent.after ≡ record { lists = rests lists; ranks = sent.after.ranks })
-  sends_of came rs lists sent is h =
-      let full : List (List Queued) = filled came ([] ∷ []) in
-      let made : Sent = record {
-        gone = fronts full;
-        after = record { lists = rests full; ranks = all_told ms (fronts full) rs };
-      } in
-      let same : made ≡ sent = cc h in
-      rw (← same, is) (refl, refl)
+  sends_of came rs lists sent is h = grind (arith, common_steps)
 
   none_sent : (n : ℕ) (sent : Sent) → ideal_slot ms slot (replicate n None) (alone ranks) ≡ Ok sent
       → (sent.gone ≡ None ∷ []) × (sent.after ≡ alone sent.after.ranks)
   unfolding ideal_slot
-  none_sent n sent h = sends_of (replicate n None) ranks ([] ∷ []) sent (filled_none n)
-      (sym (ap (ideal_sends ms (alone ranks)) (ranked_none ms slot 0 n ranks)) ∙ h)
+  none_sent n sent h = grind (arith, common_steps, sends_of, filled_none, ranked_none)
 
   sends_one : (n : ℕ) (q : Queued) (given : List (List ℕ)) (fault : TagFault) (fits : Bool) (sent : Sent) →
       q.cell.output ≡ 0 → ideal_sends ms (alone ranks)
       (cond fits (after_input (Some q) (ranking ms slot 1 (replicate n None) given)) (Err fault)) ≡ Ok sent
       → (sent.gone ≡ Some q ∷ []) × (sent.after ≡ alone sent.after.ranks)
-  sends_one n q given fault true sent out h =
-      sends_of (Some q ∷ replicate n None) given ((q ∷ []) ∷ []) sent (filled_one n q out)
-      (sym (ap (λ (r : Result Ranking TagFault). ideal_sends ms (alone ranks) (after_input (Some q) r))
-      (ranked_none ms slot 1 n given)) ∙ h)
+  sends_one n q given fault true sent out h = grind (arith, common_steps, sends_of, filled_one, ranked_none)
   sends_one n q given fault false sent out h = absurd (let P : ⊥ = cc h in P)
 
   one_sent : (n : ℕ) (cell : Cell) (sent : Sent) → cell.output ≡ 0 →
       ideal_slot ms slot (Some cell ∷ replicate n None) (alone ranks) ≡ Ok sent
       → (q : Queued) × (q.cell ≡ cell) × (sent.gone ≡ Some q ∷ []) × (sent.after ≡ alone sent.after.ranks)
   unfolding ideal_slot
-  one_sent n cell sent out h =
-      let m = machine_at ms cell.output in
-      let rank = m.ranked (slice_index_or ranks cell.output []) cell.class in
-      let both = sends_one n (keyed cell (m.level cell.class) rank slot 0) _ _ (nat_lt rank (2 ^ 128)) sent out h in
-      (keyed cell (m.level cell.class) rank slot 0, refl, both.0, both.1)
+  one_sent n cell sent out h = grind (arith, common_steps, sends_one)
 
 -- ## Slot after slot
 
@@ -139,10 +121,7 @@ in_slot_one : (s : ℕ) (a : Arrival) (q : Queued) (came : List Arrival) (gone :
     a.slot ≡ s → q.cell ≡ a.cell
     → AreInSlot came (departures_of (s + 1) gone) → AreInSlot (a ∷ came) (departures_of s ((Some q ∷ []) ∷ gone))
 unfolding departures_of departures_in
-in_slot_one s a q came gone e f h = record {
-  cells = rw (h.cells, ← e, f) refl;
-  output = (refl, h.output);
-}
+in_slot_one s a q came gone e f h = grind (arith, common_steps)
 
 module _ (ms : List Machine) (inputs : ℕ) (many : suc inputs ≡ most_ports) where
   run_empty : (s : ℕ) (ranks : List (List ℕ)) (ran : Ran) → ideal_run ms s [] (alone ranks) ≡ Ok ran → ran.gone ≡ []
@@ -181,17 +160,14 @@ module _ (ms : List Machine) (inputs : ℕ) (many : suc inputs ≡ most_ports) w
   pub each_in_its_slot : (n s end : ℕ) (came : List Arrival) → InTurnFrom s came →
       AllByRecursion (λ a. a.slot < end) came → end ≤ s + n → LeaveFrom s came n
   unfolding arriving_from departures_of
-  each_in_its_slot zero s end [] turn before all ranks ran h =
-      rw (run_empty s ranks ran h) (record { cells = refl; output = tt })
-  each_in_its_slot zero s end (a ∷ came) turn before all ranks ran h =
-      absurd (let f = turn.0.from in let l = before.0 in omega arith)
+  each_in_its_slot zero s end [] turn before all ranks ran h = grind (arith, common_steps, run_empty)
+  each_in_its_slot zero s end (a ∷ came) turn before all ranks ran h = grind (arith, common_steps)
   each_in_its_slot (suc n) s end [] turn before all ranks ran h =
       idle_slot n s [] tt (each_in_its_slot n (s + 1) end [] tt tt (omega arith)) ranks ran h
   each_in_its_slot (suc n) s end (a ∷ came) turn before all ranks ran h = ⊎_elim (λ (e : a.slot ≡ s).
       let later = each_in_its_slot n (s + 1) end came (rw e at turn.1) before.1 (omega arith) in
       busy_slot n s a came e turn later ranks ran h)
       (λ (ne : a.slot ≡ s → ⊥).
-      let from = turn.0.from in
       let next : IsNextFrom (s + 1) a =
       record { from = omega arith; input = turn.0.input; output = turn.0.output } in
       idle_slot n s (a ∷ came) (next, turn.1)
@@ -306,9 +282,7 @@ module _ (t : Tables) (captures : List (List Captured)) where
   lasts_of : (k : ℕ) → filter is_last (arrivals_of t captures 0 k) ≡ last_of k ∷ []
   lasts_of k =
       let n = cells t captures 0 k in
-      let some = some_cells k in
-      last_alone (arrival_of k) (n - 1) (marked k) (range_with_len 0 n)
-      ∙ ap (map (arrival_of k)) (one_is (n - 1) 0 n (omega arith) (omega arith))
+      search (arith, rules, some_cells k, last_alone (arrival_of k) (n - 1), marked k, one_is (n - 1) 0 n)
 
   lasts : (n a : ℕ) → filter is_last (flat_map (arrivals_of t captures 0) (range_with_len a n)) ≡ map last_of
       (range_with_len a n)

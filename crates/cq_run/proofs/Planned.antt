@@ -1,6 +1,6 @@
 -- From one judgement after another to a plan that meets what is aimed at: for each command what is judged of what it
 -- reads, and a plan that it comes to.
-use Rattle.cq_run.proofs.Terms.{rules, arith, ◌≡◌, ◌∙◌, ℕ, List, [], ◌∷◌, refl, sym, ap, ◌++◌, Result, Ok, Err, IfOk, IfErr, IsOk, common_steps, AllByRecursion, Departure, soak_captures, soak_tables, Captured, Tables, Call, Rose, Contents, Space, Closed, Command, Ideal, Run, Soak, Pass, Audit, Part, Resume, Given, Refusal, Halt, Aim, Reporting, Meets, Crossing, Exactly, Auditing, Parting, Resuming, EndsGiven, IsGiven, command_asking, IsPassage, AreRead, IsAudited, AreGiven, IsJudged, IsHaltOf, Judges, Pace, InTurn, Uncounted, Plan, known_to, Reader, ◌>>=◌, ideally_sent, capture_in, text_in, state_in, switched, capture_out, passed, audited, captures_out, resumed, file_alone, IsCrossing, IsIdeal, IsPassing, arrivals, plain_tables, AreTables, ports_of, ideal_departures, Lasts, capture_of_all, trace_of, log_of, Audited, State, IsAuditHalted, IsAuditPassed, report_with, Crossed, IsPartHalt, IsResumeHalt, IsResuming, kept_by, IsPartText, IsResumedText, written}
+use Rattle.cq_run.proofs.Terms.{rules, arith, ◌≡◌, ◌∙◌, ℕ, List, [], ◌∷◌, refl, sym, ap, ◌++◌, Result, Ok, Err, IfOk, IfErr, IsOk, common_steps, AllByRecursion, Departure, soak_captures, soak_tables, Captured, Tables, Call, Rose, Contents, Space, Closed, Command, Ideal, Run, Soak, Pass, Audit, Part, Resume, Given, Refusal, Halt, Aim, Reporting, Meets, Crossing, Exactly, Auditing, Parting, Resuming, EndsGiven, IsGiven, command_asking, IsPassage, AreRead, IsAudited, AreGiven, IsJudged, IsHaltOf, Judges, Pace, InTurn, Uncounted, Plan, known_to, Reader, ◌>>=◌, ideally_sent, capture_in, text_in, state_in, switched, capture_out, passed, audited, captures_out, resumed, file_alone, IsCrossing, IsIdeal, IsPassing, plain_tables, AreTables, Lasts, capture_of_all, trace_of, log_of, Audited, State, IsAuditHalted, IsAuditPassed, report_with, Crossed, IsPartHalt, IsResumeHalt, IsResuming, kept_by, IsPartText, IsResumedText, written}
 use Rattle.cq_run.proofs.Chain.{counts_after, judges_computed, judges_computed_err}
 use Rattle.cq_run.proofs.Told.{told_any, told_map, told_two}
 use Rattle.cq_run.proofs.Crossed.{emulates, plan_is, sent_ok}
@@ -30,9 +30,7 @@ rose_known command old new r = omega (arith, known_faults command old, known_fau
 -- the count of faults that a command knows of is that of the file space
 pub counts_known : (p : Pace) (U V : Type 0) (command : Command) (old new : Space) → (U → V) →
     Uncounted p U (known_to command old).faults (known_to command new).faults → Uncounted p V old.faults new.faults
-counts_known p U V command old new f h =
-    counts_after p U V old.faults old.faults new.faults f refl
-    (rw (known_faults command old, known_faults command new) at h)
+counts_known p U V command old new f h = grind (arith, common_steps, counts_after, known_faults)
 
 -- ## Judging a configuration, its captures, and then what the ideal switch sends of them
 
@@ -126,11 +124,7 @@ module _ (from to : List ℕ) (packets : List Captured) where
       ideally_sent (plain_tables from to) (packets ∷ []) ≡ Ok sent →
       capture_out (plain_tables from to) (packets ∷ []) sent 0 ≡ capture_of_all (plain_tables from to) packets
   unfolding plain_tables
-  leaves_all sent are h =
-      let t = plain_tables from to in
-      let single : ports_of t.setup ≡ 1 = refl in
-      ap written (all_leave_is t packets sent are single none_limited
-      (sent_ok sent (ideal_departures t (arrivals t (packets ∷ []))) h))
+  leaves_all sent are h = grind (arith, common_steps, all_leave_is, none_limited, sent_ok)
 
   module _ (plan : Plan) (is : IsPassing (plain_tables from to) packets to plan) where
     plan_passed : plan ≡ passed from to packets is.sent
@@ -239,8 +233,7 @@ module _ {S : Type 0} {space : S → Space} {keeps : S → S → Type 0} {old s1
           IfOk result (λ plan. plan ≡ audited) → IfErr result (IsAuditHalted given.tables given.captures trace log) →
           IsJudged space may_fail keeps InTurn (Audit config) old s3 result
       audit_judged (Ok plan) passed written halted = audit_plans passed written
-      audit_judged (Err halt) passed written halted =
-          settled at_last (Err halt) (halt_settles halt halted) tt (λ r. tt)
+      audit_judged (Err halt) passed written halted = search (rules, settled, at_last, halt_settles)
 
 -- ## Stopping a run and taking one up: the configuration, its captures, and then the text of a state
 
@@ -338,8 +331,7 @@ module _ {S : Type 0} {space : S → Space} {keeps : S → S → Type 0} {old no
         (Resuming given.tables given.captures text, refl, (met.kept, met.goes_on, met.written))
         (all_any plan.writes) (λ r. told_two (space old).told _ _ _
         (λ m are_read d. goes_as _ _ text are_read d met) (read_told is r) (rw is.told at read.ok))
-    resume_judged (Err halt) met refused =
-        settled at_state (Err halt) (resume_settles given.tables given.captures text halt refused) tt (λ r. tt)
+    resume_judged (Err halt) met refused = search (rules, settled, at_state, resume_settles)
 
 -- ## Whatever is asked of a configuration, reading it or its captures ends judging
 

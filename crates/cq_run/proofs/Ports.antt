@@ -2,7 +2,7 @@
 -- the rest, is reading them all, and what ends one of these ends the whole. Where files are read ahead, reading leaves
 -- contents as they are, so the first capture is judged as if nothing had come between. Where it ends the whole, the
 -- later inputs say nothing but what the count of faults may show.
-use Rattle.cq_run.proofs.Terms.{rules, ◌≡◌, ◌<◌, ◌≤◌, ◌∙◌, ℕ, ◌+◌, List, [], ◌∷◌, ◌++◌, length, take, drop, get_or, refl, ap, sym, arith, length-take-le, inl, Result, Ok, Err, Option, None, Some, IfSome, IfOk, IfErr, MatchOption, common_steps, take_all, take_more, Contents, Space, Closed, Captured, PortRow, Refusal, Halt, Judges, Halts, InTurn, Ahead, AnyName, Uncounted, Reader, ◌>>=◌, packets_at, captures_from, Spells, Call, Fails, Lasts, Reads, NoMemory, longest_file}
+use Rattle.cq_run.proofs.Terms.{rules, ◌≡◌, ◌<◌, ◌≤◌, ◌∙◌, ℕ, ◌+◌, List, [], ◌∷◌, ◌++◌, length, take, drop, get_or, refl, ap, sym, arith, length-take-le, Result, Ok, Err, Option, None, Some, IfSome, IfOk, IfErr, MatchOption, common_steps, take_all, take_more, Contents, Space, Closed, Captured, PortRow, Refusal, Halt, Judges, Halts, InTurn, Ahead, AnyName, Uncounted, Reader, ◌>>=◌, packets_at, captures_from, Spells, Call, Fails, Lasts, Reads, NoMemory, longest_file}
 use Rattle.cq_run.proofs.Stays.{captures_from_stay, packets_stay}
 use Rattle.cq_run.proofs.Chain.{judges_then, judges_after, judges_any, judges_both, judges_computed, judges_as, counts_of, halts_at, name_after, fails_after}
 use Rattle.cq_run.specs.declared.decoding.Decoding.{Decoding}
@@ -23,8 +23,7 @@ pub split_at : (r : Reader) (limit input at : ℕ) (xs : List PortRow) (row : Po
     (λ q. captures_from r limit (at + 1) ys m >>= (λ rest. Ok (made ++ q ∷ rest)))))
 unfolding captures_from
 split_at r limit input at [] row ys m e = let same : at ≡ input = omega (arith, e) in search (arith, rules)
-split_at r limit input at (x ∷ xs) row ys m e =
-    grind (arith, common_steps, split_at r limit (input + 1) at xs row ys m)
+split_at r limit input at (x ∷ xs) row ys m e = search (rules, split_at r limit (input + 1) at xs row ys m)
 
 module _ (r : Reader) (limit : ℕ) (rows : List PortRow) (k : ℕ) (row : PortRow) (inside : k < length rows)
     (is : row ≡ get_or rows k row) where
@@ -92,8 +91,7 @@ module _ (r : Reader) (input limit : ℕ) where
   arrived : (told : Option Contents) (packets : List Captured) (read : Option (List ℕ)) (begun : Option Decoding)
       → IsBegunFor read limit told begun → MatchOption begun (packets ≡ []) (λ d. Spells (source d) packets)
       → IfSome told (λ m. packets_at r input limit read m ≡ Ok packets)
-  arrived told packets None None b h =
-      told_any told _ (λ m. ap (λ (ps : List Captured). let x : Result (List Captured) Refusal = Ok ps in x) (sym h))
+  arrived told packets None None b h = grind (arith, common_steps, told_any)
   arrived told packets (Some name) (Some d) b h =
       capture_is r name input limit (source d) b.1.short told packets b.1.whole h
   arrived told packets read begun b h = absurd b
@@ -103,9 +101,7 @@ module _ (r : Reader) (input limit : ℕ) where
       → IsBegunFor read limit old.told begun → MatchOption begun ⊥ (λ d. IsHaltFor input (source d) halt)
       → Uncounted Ahead (AnyName R) old.faults new.faults → Halts Ahead (packets_at r input limit read) R old new halt
   halted R old new halt None None b h k = absurd h
-  halted R old new halt (Some name) (Some d) b h k =
-      rw h.told
-      (capture_halts r name input limit (source d) b.1.short Ahead R old new h.found b.1.whole h.faulty k)
+  halted R old new halt (Some name) (Some d) b h k = grind (arith, common_steps, capture_halts)
   halted R old new halt read begun b h k = absurd b
 
 -- ## The first input, and those after it
@@ -125,13 +121,7 @@ module _ (r : Reader) (limit input : ℕ) (row : PortRow) (rows : List PortRow) 
   pub file_ends : {R : List ℕ → Type 0} {old new : Space} {halt : Halt} →
       Halts InTurn (packets_at r input limit row.read) R old new halt → new.mode ≡ Closed → new.told ≡ old.told →
       Judges Ahead (captures_from r limit input (row ∷ rows)) R old new (Err halt)
-  file_ends {R} {old} {new} {halt} h c t = first_ends (record {
-    ok = tt;
-    halt = halts_at Ahead (packets_at r input limit row.read) R old new halt h;
-    closed = c;
-    told = t;
-    uncounted = tt;
-  })
+  file_ends {R} {old} {new} {halt} h c t = grind (arith, common_steps, first_ends, halts_at)
 
 module _ {row : PortRow} {limit : ℕ} {old mid : Space} {begun : Option Decoding}
     (b : HasBegun row limit old mid begun) where
@@ -200,13 +190,7 @@ module _ {S : Type 0} (space : S → Space) {keeps : S → S → Type 0} {row : 
 
       -- all are sound, and memory ran out after that
       memory_ends : {others : List (List Captured)} → Later (Ok others) → Whole (Err NoMemory)
-      memory_ends g = record {
-        ok = tt;
-        halt = inl (g.uncounted ∙ b.uncounted);
-        closed = g.closed;
-        told = g.told ∙ told;
-        uncounted = tt;
-      }
+      memory_ends g = grind (arith, common_steps)
 
     -- whatever the first and the later ones came to, with the first in front
     pub together : (first : Result (List Captured) Halt) (later result : Result (List (List Captured)) Halt) →

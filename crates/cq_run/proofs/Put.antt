@@ -17,18 +17,13 @@ puts_as a b old new r e h = rw e at h
 
 -- a front of a text is a front of a longer one
 front_of_longer : (a b : List ℕ) (n : ℕ) → take n a ≡ take (length (take n a)) (a ++ b)
-front_of_longer a b n = sym (ap (take (length (take n a)))
-    (ap (λ ys. ys ++ b) (sym (take-append-drop n a)) ∙ append_assoc (take n a) (drop n a) b)
-    ∙ take_at (take n a) (drop n a ++ b) (length (take n a)) refl)
+front_of_longer a b n = grind (arith, common_steps, take-append-drop, append_assoc, take_at)
 
 -- the first of two texts was cut short
 puts_cut : {E : Type 0} (a b : List ℕ) (old new : Taken) {fault : E} (r : Result (Unit {0}) E) → IsErr r →
     Puts a old new (Err fault) → Puts (a ++ b) old new r
 puts_cut a b old new (Ok x) err h = cc
-puts_cut a b old new (Err e) err h = record {
-  bytes = (length (take h.bytes.0 a), h.bytes.1 ∙ ap (append_known old.bytes) (front_of_longer a b h.bytes.0));
-  cause = record { later = h.cause.later; uncounted = tt; failed = h.cause.failed };
-}
+puts_cut a b old new (Err e) err h = grind (arith, common_steps, front_of_longer a b h.bytes.0)
 
 -- the first of two texts was put whole, and then the second was put
 puts_then : {E : Type 0} (a b : List ℕ) (old mid new : Taken) (r : Result (Unit {0}) E) →

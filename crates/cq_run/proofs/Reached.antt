@@ -1,7 +1,7 @@
 -- What is known at a moment of judging a command. All that was judged so far was accepted: no fault was counted, the
 -- file space is closed, its contents are as before, and of these the command comes to what is left to judge. So where a
 -- name that is read next is unread or refused, or what was read is judged, that is what the command comes to.
-use Rattle.cq_run.proofs.Terms.{rules, arith, ◌≡◌, ◌∙◌, ◌⊎◌, ℕ, IsTrue, List, ap, subst, inl, inr, length, Option, IfOk, IfSome, Result, Ok, Err, common_steps, AllByRecursion, Captured, Tables, Call, Fails, Lasts, Reads, Closed, Contents, Space, Command, Given, Refusal, Halt, NoMemory, Refused, Unread, Aim, Denies, Meets, EndsGiven, IsGiven, judged_of_given, Emulates, AreRead, IsJudged, IsHaltOf, Judges, Pace, InTurn, Plan, Decides, IsDenial, known_to, Reader, meaning_of, ◌>>=◌, MayRead, MayWrite, captures_in, judged, tables_in, AreTables, ports_of}
+use Rattle.cq_run.proofs.Terms.{rules, arith, ◌≡◌, ◌∙◌, ◌⊎◌, ℕ, IsTrue, List, subst, inl, inr, length, Option, IfOk, IfSome, Result, Ok, Err, common_steps, AllByRecursion, Captured, Tables, Call, Fails, Lasts, Reads, Closed, Contents, Space, Command, Given, Refusal, Halt, NoMemory, Refused, Unread, Aim, Denies, Meets, EndsGiven, IsGiven, judged_of_given, Emulates, AreRead, IsJudged, IsHaltOf, Judges, Pace, InTurn, Plan, Decides, IsDenial, known_to, Reader, meaning_of, ◌>>=◌, MayRead, MayWrite, captures_in, judged, tables_in, AreTables, ports_of}
 use Rattle.cq_run.proofs.Chain.{ComesTo, comes_to_itself, goes_on, judges_back, judges_computed_err, judges_more, judges_then, counts_same, judges_after, judges_at, fails_after}
 use Rattle.cq_run.proofs.TextRead.{from_front}
 use Rattle.cq_run.proofs.Stays.{Stays, captures_from_stay, tables_stay}
@@ -47,8 +47,7 @@ Failed space may_fail keeps command old new name =
 known : (command : Command) → ((s : Space) → known_to command s ≡ s) → (p : Pace) (r : Reader) (R : List ℕ → Type 0)
     (old new : Space) (result : Result Plan Halt) → Decides p (judged r command) R old new result →
     Decides p (judged r command) R (known_to command old) (known_to command new) result
-known command knows p r R old new result h =
-    let P : Space → Type 0 = λ s. Decides p (judged r command) R s new result in search (arith, rules)
+known command knows p r R old new result h = grind (arith, common_steps)
 
 module _ {S : Type 0} {space : S → Space} {keeps : S → S → Type 0} {command : Command} {old : S} where
   -- at first all is left
@@ -191,9 +190,7 @@ module _ {S : Type 0} {space : S → Space} {may_fail : Call → S → S → Typ
         AllByRecursion (λ write. MayWrite command write.0) plan.writes →
         ((r : Reader) → IfSome (space old).told (λ m. Emulates r command m plan)) →
         IsJudged space may_fail keeps p command old new (Ok plan)
-    computed_plans {x} {plan} e meets names emulates = settled reached (Ok plan)
-        (f x, ap (λ (s : Result A Refusal). s >>= (λ (z : A). let a : Result Aim Refusal = Ok (f z) in a)) e, meets)
-        names emulates
+    computed_plans {x} {plan} e meets names emulates = grind (arith, common_steps, settled reached (Ok plan))
 
 -- ## Reading a configuration and its captures, in turn or ahead
 

@@ -39,8 +39,7 @@ pub captures_from_stay : (r : Reader) (limit input : ℕ) (rows : List PortRow) 
 unfolding captures_from Stays
 captures_from_stay r limit input [] m name x h = inl h
 captures_from_stay r limit input (row ∷ rows) m name x h =
-    let here = packets_stay r input limit row.read m name in
-    grind (arith, common_steps, here, captures_from_stay r limit (input + 1) rows m name)
+    grind (arith, common_steps, packets_stay, captures_from_stay r limit (input + 1) rows m name)
 
 pub get-remove_same : (m : Contents) (name : List ℕ) → get (remove m name) name ≡ None
 get-remove_same m name = get-remove nat_list_cmp_total m name name

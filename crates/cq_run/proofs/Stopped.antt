@@ -82,17 +82,13 @@ module _ (t : Tables) (captures : List (List Captured)) (schedule : Scheduled)
         pub resumed_by : (stamp : ℕ) → stamp ≡ schedule.t0 → IsResumedBy t captures text
             (record { run = run; t0 = stamp })
         resumed_by stamp e =
-            let from_there = rw is at read in
-            record {
-              given = given;
-              resumed = record { from = from; read = from_there; resumed = goes };
-              left = record {
-                tables = given.tables;
-                captures = given.each;
-                whole = resumed_whole t captures from (kept_of (unpacked_run run)) given.tables given.each
-                    (taken_up from_there) goes;
-                t0 = rw is at e;
-              };
-              reportable = resumed_counts t captures from (kept_of (unpacked_run run)) given.tables given.each
-                  (taken_up from_there) goes;
-            }
+            grind (
+              arith,
+              common_steps,
+              goes,
+              resumed_whole t captures from (kept_of (unpacked_run run)) given.tables
+                  given.each,
+              taken_up (rw is at read),
+              resumed_counts t captures from (kept_of (unpacked_run run))
+                  given.tables given.each,
+            )

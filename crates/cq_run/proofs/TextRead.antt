@@ -87,8 +87,7 @@ module _ (r : Reader) (name : List ℕ) (input limit : ℕ) (bytes : List ℕ) (
       IfSome old.told (λ m. get m name ≡ Some bytes) → IfSome found (IsFaulty bytes)
       → Uncounted p (AnyName R) old.faults new.faults →
       Halts p (capture_in r name input limit) R old new (halt_for input found)
-  capture_halts p R old new found at faulty kept =
-      grind (arith, common_steps, faulty_told bytes, r.faulty bytes, le-ltb)
+  capture_halts p R old new found at faulty kept = grind (arith, common_steps, faulty_told, le-ltb)
 
 -- a file that was read was read with no fault
 pub read_is_no_fault : (v : Vec ℕ Global) (P : Type 0) → IsErrOf {T = Vec ℕ Global} (Ok v) whole.Fault ⊎ P → P

@@ -1,5 +1,5 @@
 -- The numbers of a command that words are are in their ranges.
-use Rattle.cq_run.proofs.Terms.{◌≡◌, ℕ, Bool, cond, List, [], ◌∷◌, arith, Option, None, Some, option_map, leb-true, common_steps, command_for, most_slots, with_three, Command, IsWithinRange, ◌∙◌, ap, sym, if◌then◌else◌, is_some, option_map_or, Ahead, InTurn, Pace, pace_of, number_from, as_run, run_of, streamed, most_ports}
+use Rattle.cq_run.proofs.Terms.{◌≡◌, ℕ, Bool, cond, List, [], ◌∷◌, arith, Option, None, Some, option_map, leb-true, common_steps, command_for, most_slots, with_three, Command, IsWithinRange, Ahead, InTurn, pace_of, number_from, as_run, run_of, streamed, most_ports}
 use Rattle.std.specs.Int.{IsInRange}
 
 -- a number that a text writes is in its range
@@ -9,9 +9,7 @@ in_range least most text n e = grind (arith, common_steps, leb-true)
 three_within : (word first second third : List ℕ) (command : Command) →
     with_three word first second third ≡ Some command → IsWithinRange command
 three_within word first second third command e =
-    let slots = in_range 0 most_slots second in
-    let ports = in_range 1 most_ports second in
-    let long = in_range 1 20000 third in grind (arith, common_steps, slots, ports, long)
+    grind (arith, common_steps, in_range 0 most_slots second, in_range 1 most_ports second, in_range 1 20000 third)
 
 tested : (b : Bool) (o : Option Command) (command : Command) → cond b o None ≡ Some command → o ≡ Some command
 tested b o command e = grind (arith, common_steps)
@@ -27,20 +25,11 @@ words_within (word ∷ a ∷ b ∷ c ∷ d ∷ more) command e = grind (arith, c
 
 -- ## The words `stream CONFIG` are judged as `run CONFIG`, ahead
 
-abbrev run_or : List (List ℕ) → Option (List ℕ) → List (List ℕ)
-run_or words config = option_map_or run_of config words
-
-abbrev pace_with : Option (List ℕ) → Pace
-pace_with config = if is_some config then Ahead else InTurn
-
 -- what was found in the words, told of what it points to
 module _ {A : Type 0} (found : Option A) (now : A → List ℕ) (words : List (List ℕ))
     (is : option_map now found ≡ streamed words) where
   pub others : found ≡ None → (as_run words ≡ words) × (pace_of words ≡ InTurn)
-  others e =
-      let none : streamed words ≡ None = sym is ∙ ap (option_map now) e in (ap (run_or words) none, ap pace_with none)
+  others e = grind (arith, common_steps)
 
   pub streams : (config : A) → found ≡ Some config → (as_run words ≡ run_of (now config)) × (pace_of words ≡ Ahead)
-  streams config e =
-      let some : streamed words ≡ Some (now config) = sym is ∙ ap (option_map now) e in
-      (ap (run_or words) some, ap pace_with some)
+  streams config e = grind (arith, common_steps)
