@@ -1,7 +1,7 @@
 -- With which outputs an input blocks a matching: with those that it prefers to its partner and that have none which
 -- they prefer to the input. So it is enough to look at its order up to its partner, and to keep the least output.
 use Rattle.std.proofs.Common.{IfNone}
-use Rattle.cq_audit.proofs.Terms.{common_steps, rules, ℕ, ◌≡◌, ◌≢◌, ◌+◌, ◌<◌, ◌≤◌, ◌⊎◌, List, length, take, Option, None, Some, IfSome, get_or, get_or-take, length-take-le, arith, cases_eq, cases_lt, depth, AreOffers, IsListed, IsOffered, Orders, outputs_of, place_in, place_of, ports, HasBetterInput, IsBlocking, Partners, partner_of, partner_place, output_in_range, place_in-le-length, place_of-at, same_at_place}
+use Rattle.cq_audit.proofs.Terms.{common_steps, rules, ℕ, ◌≡◌, ◌≢◌, ◌+◌, ◌<◌, ◌≤◌, ◌⊎◌, List, length, take, Option, None, Some, IfSome, get_or, get_or-take, length-take-le, arith, cases_eq, cases_lt, depth, AreOffers, IsListed, IsOffered, Orders, outputs_of, place_in, place_of, ports, HasBetterInput, IsBlocking, Partners, partner_place, output_in_range, place_in-le-length, place_of-at, same_at_place}
 
 -- an output of an order that is not behind a partner, and is not this partner, stands ahead of it
 ahead_of : (order : List ℕ) (p : Option ℕ) (j : ℕ) → IsListed order j → p ≢ Some j →
@@ -10,8 +10,7 @@ ahead_of order p j listed other none = grind (arith, common_steps, cases_lt, sam
 
 module _ (o : Orders) (m : Partners) (i : ℕ) where
   pub is_ahead : (j : ℕ) → IsBlocking o m i j → place_of o i j < partner_place o m i
-  is_ahead j blocks =
-      ahead_of (outputs_of o i) (partner_of m i) j blocks.offered blocks.outside blocks.no_better_output
+  is_ahead j blocks = grind (arith, common_steps, ahead_of)
 
   pub order_ends : partner_place o m i ≤ length (outputs_of o i)
   order_ends = grind (arith, common_steps, place_in-le-length)
@@ -47,12 +46,7 @@ module _ (o : Orders) (m : Partners) (i : ℕ) where
       output = get_or xs n 0
 
       stands : (place_of o i output ≡ n) × (n < partner_place o m i) × (n < length (outputs_of o i))
-      stands =
-          let ends : partner_place o m i ≤ length (outputs_of o i) = order_ends in
-          let long : length xs ≡ partner_place o m i = all_ahead in
-          let at = place_of-at o offers i n (omega arith) in
-          let read = get_or-take (partner_place o m i) (outputs_of o i) n 0 (omega arith) in
-          (cc, omega arith, omega arith)
+      stands = grind (arith, common_steps, order_ends, all_ahead, place_of-at, get_or-take)
 
       pub is_offered : IsOffered o i output
       is_offered = grind (arith, common_steps, stands)

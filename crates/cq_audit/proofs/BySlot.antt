@@ -36,8 +36,7 @@ module _ (slot : ℕ) where
   pub one_parting : (xs ys us vs : List Transfer) → AllByRecursion (λ t. t.slot < slot) xs →
       AllByRecursion (λ t. slot ≤ t.slot) ys → AllByRecursion (λ t. t.slot < slot) us →
       AllByRecursion (λ t. slot ≤ t.slot) vs → xs ++ ys ≡ us ++ vs → (xs ≡ us) × (ys ≡ vs)
-  one_parting xs ys us vs a b c d e =
-      let same : xs ≡ us = grind (arith, common_steps, before_is) in (same, append_cancel_left us ys vs (cc))
+  one_parting xs ys us vs a b c d e = search (rules, before_is, append_cancel_left)
 
   -- those before this slot are among those before a later one
   pub before_later : (to : ℕ) (note : List Transfer) → slot ≤ to →
@@ -55,8 +54,7 @@ module _ (slot : ℕ) where
     -- and so are later ones
     pub phase_now : (xs ys : List Transfer) → AllByRecursion (λ t. slot + 1 ≤ t.slot) ys →
         in_phase slot phase (xs ++ ys) ≡ in_phase slot phase xs
-    phase_now xs ys all =
-        grind (arith, common_steps, filter-append, filter_none, all_weaker, and_left, ne_eqb, append-nil)
+    phase_now xs ys all = search (rules, filter-append, filter_none, all_weaker, and_left, ne_eqb, append-nil)
 
     -- the lines of the phase are before each later slot
     pub phase_before : (to : ℕ) (note : List Transfer) → slot < to →
@@ -100,8 +98,7 @@ module _ (ports : ℕ) where
   pub none_next : (slot : ℕ) (lines : List Transfer) → AreInOrder ports lines → AllBehind slot 2 lines →
       NoneBefore (slot + 1) 1 lines
   none_next slot [] order behind = tt
-  none_next slot (t ∷ lines) order behind =
-      grind (arith, common_steps, cases_lt, none_next slot lines order.2 behind.1)
+  none_next slot (t ∷ lines) order behind = search (rules, cases_lt, none_next slot lines order.2 behind.1)
 
 module _ (ports slot phase : ℕ) where
   -- a line of this phase, and one behind it that is not earlier
@@ -113,9 +110,7 @@ module _ (ports slot phase : ℕ) where
       let own_slot = eqb-true t.slot slot both.0 in
       let own_phase = eqb-true t.phase phase both.1 in
       let front = all_front (IsTransferBefore t) lines behind (rw had.whole at later) in
-      let rise = all_give _ _ (λ u. t.input < u.input) (λ u before now. grind arith) lines front had.of_phase.now in
-      let own : in_phase slot phase (t ∷ rest) ≡ t ∷ in_phase slot phase rest = grind (arith, common_steps) in
-      search (arith, rules)
+      search (arith, rules, all_give)
 
   -- a line behind this phase has only lines behind it behind it
   all_behind : (t : Transfer) (rest : List Transfer) → (slot < t.slot) ⊎ ((slot ≡ t.slot) × (phase < t.phase)) →

@@ -10,9 +10,7 @@ use Rattle.cq_audit.proofs.BySlot.{of_two, one_parting}
 pub all_noted : (h : ℕ → Option Transfer) (Q : Transfer → Type 0) (a n : ℕ) →
     ((i : ℕ) (t : Transfer) → a ≤ i → h i ≡ Some t → Q t) → AllByRecursion Q (filter_map h (range_with_len a n))
 all_noted h Q a zero each = tt
-all_noted h Q a (suc n) each =
-    let rest = all_noted h Q (a + 1) n (λ i t low. each i t (omega arith)) in
-    let here : (t : Transfer) → h a ≡ Some t → Q t = λ t. each a t (omega arith) in grind (arith, common_steps)
+all_noted h Q a (suc n) each = grind (arith, common_steps, all_noted h Q (a + 1) n)
 
 pub transfers_at : (m : Partners) (lists : List (List Queued)) (slot phase : ℕ) →
     AllByRecursion (λ t. (t.slot ≡ slot) × (t.phase ≡ phase)) (transfers_of m lists slot phase)
@@ -65,7 +63,6 @@ module _ (limits : List (Option ℕ)) (ms : List Machine) where
       LimitedFabricSlot IsStable limits ms slot cells f r g → LimitedFabricSlot IsStable limits ms slot cells f s h →
       transfers_in r.of_slot ≡ transfers_in s.of_slot → (r ≡ s) × (g ≡ h)
   one_limited_slot slot cells f g h r s x y moved =
-      let judged = x.admits ∙ sym y.admits in
       search
       (arith, rules, one_stable_slot ms slot r.admission.cells f.state g.state h.state r.of_slot s.of_slot x.runs)
 
@@ -100,6 +97,5 @@ module _ (limits : List (Option ℕ)) (ms : List Machine) where
       (all_weaker _ _ (λ t at. omega arith) _ here) (run_later (slot + 1) traffic x.0 g rs x.2)
       (all_weaker _ _ (λ t at. omega arith) _ there) (run_later (slot + 1) traffic y.0 h ss y.2) moved in
       let one = one_limited_slot slot cells f x.0 y.0 r s x.1 y.1 parts.0 in
-      let rest = one_stable_run (slot + 1) traffic x.0 g h rs ss x.2 (rw (← one.1) at y.2) parts.1 in
-      grind (arith, common_steps)
+      search (arith, rules, one_stable_run (slot + 1) traffic x.0 g h rs ss x.2 (rw (← one.1) at y.2) parts.1)
   one_stable_run slot traffic f g h rs ss x y moved = absurd y

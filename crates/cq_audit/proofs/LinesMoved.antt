@@ -5,7 +5,7 @@
 -- Where no line of a phase is wrong, the transfers of the pairs that they tell are the lines. What is noted of an
 -- input is its line: its partner is the output that the line names, and its first cell for that output is the one.
 -- And the lines of all inputs, in order, are the lines.
-use Rattle.cq_audit.proofs.Terms.{common_steps, ◌≡◌, ◌≢◌, ℕ, zero, suc, ◌+◌, ◌<◌, ◌≤◌, ◌⊎◌, List, [], ◌∷◌, length, Option, None, Some, refl, ap, ◌∙◌, ⊎_elim, arith, rules, inl, inr, sym, AllByRecursion, filter_map, range_with_len, option_map, length-map, get_or_past, cases_eq, cond_both, eqb-true, eq-eqb, cases_lt, Queued, Transfer, first_for, Waiting, cells_of, list_of, orders_of, HasCellFor, output_order, noted, transfers_of, Orders, ports, IsOffered, place_of, position_of, Partners, partner_of, HasBetterInput, HasBetterOutput, IsMatching, IsStable, partner_place, AreOfPhase, AreRight, IsBlocking, IsStableTold, RiseByInput, line_of_input, told, first_id, output_told, all_weaker, get_or-map-range_with_len, length-map-range_with_len, is_output_order, outputs_at, CellId, sender, all_give}
+use Rattle.cq_audit.proofs.Terms.{common_steps, ◌≡◌, ◌≢◌, ℕ, zero, suc, ◌+◌, ◌<◌, ◌≤◌, ◌⊎◌, List, [], ◌∷◌, length, Option, None, Some, refl, ◌∙◌, ⊎_elim, arith, rules, inl, inr, sym, AllByRecursion, filter_map, range_with_len, option_map, length-map, get_or_past, cases_eq, cond_both, eqb-true, eq-eqb, cases_lt, Queued, Transfer, Waiting, cells_of, list_of, orders_of, HasCellFor, output_order, noted, transfers_of, Orders, ports, IsOffered, place_of, position_of, Partners, partner_of, HasBetterInput, HasBetterOutput, IsMatching, IsStable, partner_place, AreOfPhase, AreRight, IsBlocking, IsStableTold, RiseByInput, line_of_input, told, first_id, output_told, all_weaker, get_or-map-range_with_len, length-map-range_with_len, is_output_order, outputs_at, CellId, sender, all_give}
 use Rattle.cq_audit.proofs.TellingLines.{line_holds, line_is_of, no_line}
 
 -- ## Settled
@@ -16,7 +16,7 @@ module _ (o : Orders) (m : Partners) (matching : IsMatching o m) (none : (i j : 
       let block : (HasBetterInput o m i j → ⊥) → ⊥ = λ no. none i j
       (record { offered = offered; outside = outside; no_better_output = λ b. omega arith; no_better_input = no }) in
       ⊎_elim (λ joined. ⊎_elim (λ better. inr (joined.0, joined.1, better)) (λ (low : position_of o j i ≤ _).
-      absurd (block (λ b. let same = matching.once b.0 joined.0 j b.1 joined.1 in grind arith)))
+      absurd (block (λ b. grind arith)))
       (cases_lt (position_of o j joined.0) (position_of o j i))) (λ free. absurd (block (λ b. free b.0 b.1)))
       (sender m j)) (cases_lt (partner_place o m i) (place_of o i j))
 
@@ -55,9 +55,7 @@ module _ (lists : List (List Queued)) (lines : List Transfer) where
         (same_id (first_id t.output (list_of lists i)) t.id)
 
     has_cell : (i : ℕ) (t : Transfer) → line_of_input i lines ≡ Some t → HasCellFor (list_of lists i) t.output
-    has_cell i t stands =
-        let c = some_of (λ q. q.cell.id) (first_for t.output (list_of lists i)) t.id (names_first i t stands) in
-        (c.0, c.1)
+    has_cell i t stands = grind (arith, common_steps, some_of, names_first i t stands)
 
     apart : (i k j : ℕ) → output_told lines i ≡ Some j → output_told lines k ≡ Some j → i < k → ⊥
     apart i k j at_i at_k before = grind (arith, common_steps, right k)
@@ -97,20 +95,14 @@ lines_by_input : (f : ℕ → Option Transfer) (lines : List Transfer) (a n : �
     filter_map f (range_with_len a n) ≡ lines
 lines_by_input f [] a zero same rise all = refl
 lines_by_input f (t ∷ lines) a zero same rise all = absurd (grind arith)
-lines_by_input f [] a (suc n) same rise all =
-    let rest = lines_by_input f [] (a + 1) n (λ i low high. same i (omega arith) (omega arith)) tt tt in
-    let here = same a (omega arith) (omega arith) in grind (arith, common_steps)
+lines_by_input f [] a (suc n) same rise all = grind (arith, common_steps, lines_by_input f [] (a + 1) n)
 lines_by_input f (t ∷ lines) a (suc n) same rise all = ⊎_elim (λ (at : t.input ≡ a).
     let rest = lines_by_input f lines (a + 1) n (λ i low high. same i (omega arith) (omega arith)
     ∙ line_later i t lines (λ is. let P : ⊥ = omega arith in P)) rise.1
     (later_between a n t.input lines (omega arith) rise.0 all.1) in
-    let here = same a (omega arith) (omega arith) ∙ line_first a t lines at in grind (arith, common_steps))
+    grind (arith, common_steps))
     (λ (other : t.input ≢ a).
-    let low = all.0.0 in
-    let later = all_weaker _ _ (λ u above. omega arith) lines rise.0 in
-    let rest = lines_by_input f (t ∷ lines) (a + 1) n (λ i low high. same i (omega arith) (omega arith)) rise
-    (later_between a n a (t ∷ lines) (omega arith) (omega arith, later) all) in
-    let here = same a (omega arith) (omega arith) in grind (arith, common_steps, no_line)) (cases_eq t.input a)
+    search (arith, rules, all_weaker, later_between, no_line, lines_by_input f (t ∷ lines) (a + 1) n)) (cases_eq t.input a)
 
 -- ## What is noted of an input
 
@@ -119,10 +111,7 @@ module _ (lists : List (List Queued)) (lines : List Transfer) (right : AreRight 
   note_is : (o : Option Transfer) → line_of_input i lines ≡ o →
       noted slot phase i (list_of lists i) (option_map (λ (t : Transfer). t.output) o) ≡ o
   note_is None is = refl
-  note_is (Some t) is =
-      let c = some_of (λ q. q.cell.id) (first_for t.output (list_of lists i)) t.id
-      (names_first lists lines right i t is) in
-      grind (arith, common_steps, line_holds, line_is_of)
+  note_is (Some t) is = search (arith, rules, some_of, names_first lists lines right i t is, line_holds, line_is_of)
 
   line_is_noted : i < length lists →
       noted slot phase i (list_of lists i) (partner_of (told (length lists) lines) i) ≡ line_of_input i lines
@@ -131,12 +120,7 @@ module _ (lists : List (List Queued)) (lines : List Transfer) (right : AreRight 
 pub told_moves : (lists : List (List Queued)) (lines : List Transfer) (slot phase : ℕ) → AreRight lists lines →
     AreOfPhase (length lists) slot phase lines → transfers_of (told (length lists) lines) lists slot phase ≡ lines
 unfolding transfers_of
-told_moves lists lines slot phase right are =
-    let note : ℕ → Option Transfer = λ i. noted slot phase i (list_of lists i)
-    (partner_of (told (length lists) lines) i) in
-    ap (λ n. filter_map note (range_with_len 0 n)) (told_long lists lines) ∙ lines_by_input note lines 0 (length lists)
-    (λ i low high. line_is_noted lists lines right i slot phase are (omega arith)) are.rise
-    (all_weaker _ _ (λ t of. (omega arith, omega arith)) lines are.of)
+told_moves lists lines slot phase right are = search (rules, told_long, lines_by_input, line_is_noted, all_weaker)
 
 -- the same of lists, and of the offers of what they hold
 pub judged_stable : (lists : List Waiting) (lines : List Transfer) (slot phase : ℕ) (m : Partners) (o : Orders) →

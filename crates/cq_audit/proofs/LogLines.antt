@@ -25,9 +25,7 @@ pub one_log_line : (t u : Transfer) (x y : List ℕ) → IsTransfer t → IsTran
 one_log_line t u x y is_t is_u e =
     let slot = one_number (log_line t ++ x) _ _ t.slot u.slot (begins_with_slot (log_line t ++ x) x t refl)
     (begins_with_slot (log_line t ++ x) y u e) in
-    let rest = one_ending (numbers_behind t) (numbers_behind u) x y slot.1 in
-    let numbers = rest.0 in
-    let one_slot = slot.0 in (search (arith, rules), rest.1)
+    search (arith, rules, one_ending (numbers_behind t) (numbers_behind u) x y slot.1)
 
 -- the transfer whose line stands there may not come, so none may
 pub none_comes : (text behind : List ℕ) (ports : ℕ) (last : Option Transfer) (t : Transfer) →

@@ -2,7 +2,7 @@
 -- before it: by its input in a phase, by its phase in a slot, and by its slot. A cell that waits at an input came to
 -- it and keeps its numbers. So where all cells that come fit the numbers of a line, the transfers of a run are those
 -- of a log.
-use Rattle.cq_audit.proofs.Terms.{common_steps, rules, ◌≡◌, ℕ, zero, suc, ◌+◌, ◌<◌, ◌≤◌, ◌^◌, List, [], ◌∷◌, ◌++◌, length, Option, None, Some, refl, arith, IfSome, AllByRecursion, filter_map, range_with_len, eqb-true, Cell, Queued, Transfer, arrival_at, Arrival, arriving, first_for, is_for, log_of, all_at, all_insert, all_left, IsInRange, IsTraffic, Machine, Marked, admission, arriving_from, admitted_arrives, list_of, noted, transfers_of, IsStable, Partners, partner_of, Fabric, IsEmptyFabric, input, FabricSlot, SlotRecord, LimitedFabricRun, LimitedFabricSlot, LimitedRecord, fabric_admission, slots_in, Arrives, Transfers, transfers_in, transfers_of_run, run_of_whole, Leads, one_found, Comes, IsLog, StableRun, IsTransfer, IsOf, IsTransferBefore, all_weaker, all_both, all_found, came_from, first_at, all_give, most_ports}
+use Rattle.cq_audit.proofs.Terms.{common_steps, rules, ◌≡◌, ℕ, zero, suc, ◌+◌, ◌<◌, ◌≤◌, ◌^◌, List, [], ◌∷◌, ◌++◌, length, Option, None, Some, refl, arith, IfSome, AllByRecursion, filter_map, range_with_len, eqb-true, Cell, Queued, Transfer, arrival_at, Arrival, arriving, first_for, is_for, log_of, all_at, all_insert, all_left, IsInRange, IsTraffic, Machine, Marked, admission, arriving_from, admitted_arrives, list_of, noted, transfers_of, IsStable, Partners, Fabric, IsEmptyFabric, input, FabricSlot, SlotRecord, LimitedFabricRun, LimitedFabricSlot, LimitedRecord, fabric_admission, slots_in, Arrives, Transfers, transfers_in, transfers_of_run, run_of_whole, Leads, one_found, Comes, IsLog, StableRun, IsTransfer, IsOf, IsTransferBefore, all_weaker, all_both, all_found, came_from, first_at, all_give, most_ports}
 use Rattle.cq_audit.proofs.Following.{all_noted, run_later, slot_at, transfers_at}
 use Rattle.cq_traffic.proofs.ForPorts.{place_of}
 
@@ -30,11 +30,7 @@ ComesTellable ports cells = (i : ℕ) (cell : Cell) → arrival_at cells i ≡ S
 
 first_tellable : (ports i j : ℕ) (cells : List Queued) (c : Queued) → AllTellable ports i cells →
     first_for j cells ≡ Some c → Tellable ports i c.cell × (c.cell.output ≡ j)
-first_tellable ports i j cells c all is =
-    let first = first_at (is_for j) cells c is in (
-      all_at (λ (q : Queued). Tellable ports i q.cell) cells first.place c all first.at,
-      eqb-true c.cell.output j first.passes,
-    )
+first_tellable ports i j cells c all is = search (arith, rules, first_at (is_for j) cells c is, all_at, eqb-true)
 
 -- ## What can be written
 
@@ -50,17 +46,14 @@ module _ (ports : ℕ) where
       IfSome last (λ u. AllByRecursion (IsTransferBefore u) note) →
       (end : Option Transfer) × Leads (Comes ports) last note end
   leads_written last [] are first = (last, refl)
-  leads_written last (t ∷ note) are first =
-      let rest = leads_written (Some t) note are.3 are.2 in
-      let comes : Comes ports last t (Some t) = grind (arith, common_steps) in (rest.0, (Some t, comes, rest.1))
+  leads_written last (t ∷ note) are first = grind (arith, common_steps, leads_written (Some t) note are.3 are.2)
 
   both_written : (P Q : Transfer → Type 0) → ((t u : Transfer) → P t → Q u → IsTransferBefore t u) →
       (xs ys : List Transfer) → AllByRecursion P xs → AllByRecursion Q ys → AreWritten ports xs →
       AreWritten ports ys → AreWritten ports (xs ++ ys)
   both_written P Q before [] ys first later a b = b
   both_written P Q before (x ∷ xs) ys first later a b =
-      let behind = all_both (IsTransferBefore x) xs ys a.2 (all_weaker Q _ (λ u. before x u first.0) ys later) in
-      (a.0, a.1, behind, both_written P Q before xs ys first.1 later a.3 b)
+      grind (arith, common_steps, all_both, all_weaker, both_written P Q before xs ys first.1 later a.3 b)
 
   -- what is noted of an input
   record IsLineOf (slot phase i : ℕ) (t : Transfer) : Type 0 where
@@ -87,18 +80,13 @@ module _ (ports : ℕ) where
     matching_written : (m : Partners) (lists : List (List Queued)) → ((i : ℕ) → AllTellable ports i (list_of lists i)) →
         AreWritten ports (transfers_of m lists slot phase)
     unfolding transfers_of
-    matching_written m lists all =
-        inputs_written _ (λ i. noted_line i (list_of lists i) (all i) (partner_of m i)) 0 (length m)
+    matching_written m lists all = search (rules, inputs_written, noted_line)
 
   -- the lines of a slot, first those of its first phase
   slot_written : (r : SlotRecord) → ports ≤ most_ports → r.slot < 2 ^ 64 → AllListed ports r.arrived →
       AllListed ports r.sent → AreWritten ports (transfers_in r)
   unfolding transfers_in
-  slot_written r few small arrived sent =
-      let one = matching_written r.slot 1 few small (omega arith) (omega arith) r.first r.arrived.inputs arrived in
-      let two = matching_written r.slot 2 few small (omega arith) (omega arith) r.second r.sent.inputs sent in
-      both_written _ _ (λ t u x y. grind arith) _ _ (transfers_at r.first r.arrived.inputs r.slot 1)
-      (transfers_at r.second r.sent.inputs r.slot 2) one two
+  slot_written r few small arrived sent = grind (arith, common_steps, matching_written, both_written, transfers_at)
 
   -- ## A slot
 
@@ -107,11 +95,7 @@ module _ (ports : ℕ) where
       (old new : Fabric) → ComesTellable ports cells → Arrives ms slot cells came old new → AllListed ports old →
       AllListed ports new
   after_arrivals ms slot cells came old new come arrive all i =
-      let is = arrive.lists i in
-      let put = all_insert (λ q. Tellable ports i q.cell) (input old i) in
-      let from = came_from ms slot 0 cells old.ranks _ arrive.ranked i in
-      let had = all i in
-      let may = come i in grind arith
+      search (arith, rules, all_insert, came_from ms slot 0 cells old.ranks _ arrive.ranked i)
 
   after_transfers : (m : Partners) (old new : Fabric) → Transfers m old new → AllListed ports old → AllListed ports new
   after_transfers m old new transfers all i = grind (arith, common_steps, all_left)
@@ -127,8 +111,7 @@ module _ (ports : ℕ) where
   through_slot ms slot cells old new r come step all =
       let arrived = after_arrivals ms slot cells r.came old r.arrived come step.arrive all in
       let filled = after_transfers r.first r.arrived r.filled step.fill arrived in
-      let sent : AllListed ports r.sent = λ i. rw step.depart.inputs (filled i) in
-      record { arrived = arrived; sent = sent; last = after_transfers r.second r.sent new step.finish sent }
+      search (arith, rules, after_transfers r.second r.sent new step.finish)
 
   -- what is admitted comes
   admitted_tellable : (limits : List (Option ℕ)) (cells : List (Option Cell)) (old : Marked Fabric) →
@@ -146,7 +129,6 @@ module _ (limits : List (Option ℕ)) (ms : List Machine) (ports : ℕ) (few : p
   run_written slot [] f g [] long come all run = tt
   run_written slot (cells ∷ traffic) f g (r ∷ rs) long come all run =
       let step = run.1 in
-      let here : r.of_slot.slot ≡ slot = step.runs.numbered in
       let through = through_slot ports ms slot r.admission.cells f.state run.0.state r.of_slot
       (rw step.admits (admitted_tellable ports limits cells f come.0)) step.runs all in
       let one = slot_written ports r.of_slot few (omega arith) through.arrived through.sent in

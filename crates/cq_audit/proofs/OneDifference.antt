@@ -2,7 +2,7 @@
 -- of two such beginnings neither is longer, for there the texts would have a byte in common.
 -- Comparing two texts byte by byte. What was the same so far stands at the front of both, and one same byte more
 -- stands there too.
-use Rattle.cq_audit.proofs.Terms.{common_steps, arith, ◌≡◌, ◌≢◌, ℕ, ◌+◌, List, [], ◌∷◌, ◌++◌, drop, refl, ap, sym, ◌≤◌, length, append_assoc, rules, append_cancel_left, ⊎_elim, cases_eq}
+use Rattle.cq_audit.proofs.Terms.{common_steps, arith, ◌≡◌, ◌≢◌, ℕ, ◌+◌, List, [], ◌∷◌, ◌++◌, drop, refl, ap, sym, ◌≤◌, length, append_assoc, rules, append_cancel_left, cases_eq}
 use Rattle.cq_audit.specs.Trace.{DiffersFirst, IsTraceExact, feeds}
 
 -- the texts have no byte in common at their front
@@ -39,9 +39,8 @@ some_line : (a b : List ℕ) → a ≢ b → (n : ℕ) × DiffersFirst a b n
 some_line [] [] apart = absurd (apart refl)
 some_line [] (d ∷ b) apart = found_at [] [] (d ∷ b) refl refl (search rules) (search rules)
 some_line (c ∷ a) [] apart = found_at [] (c ∷ a) [] refl refl (search rules) (search rules)
-some_line (c ∷ a) (d ∷ b) apart = ⊎_elim
-    (λ same. behind_byte c d a b same (some_line a b (λ e. apart (grind (arith, common_steps)))))
-    (λ other. found_at [] (c ∷ a) (d ∷ b) refl refl (grind (arith, common_steps)) (search rules)) (cases_eq c d)
+some_line (c ∷ a) (d ∷ b) apart =
+    search (arith, rules, behind_byte c d a b, found_at [] (c ∷ a) (d ∷ b) refl refl, cases_eq c d, some_line a b)
 
 pub trace_is_exact : IsTraceExact
 trace_is_exact = grind (arith, common_steps, same_goes_on, append_cancel_left, same_front, some_line)

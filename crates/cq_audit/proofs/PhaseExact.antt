@@ -1,7 +1,7 @@
 -- The lines of a phase have one verdict. Of two faults neither comes before the other. And where the lines are the
 -- transfers of a stable matching, the line of an input is what is noted of it: it names the input's first cell for its
 -- partner. So no line is wrong, the pairs that the lines tell are the matching, and none blocks it.
-use Rattle.cq_audit.proofs.Terms.{⊎_elim, common_steps, rules, ◌≡◌, ℕ, zero, suc, ◌+◌, ◌<◌, ◌≤◌, ◌⊎◌, List, length, Option, None, Some, refl, ap, sym, subst, ◌∙◌, arith, filter_map, range_with_len, option_map, cases_lt, cases_eq, ext_get_or, length-map, Queued, Transfer, HasCellFor, list_of, output_order, noted, transfers_of, IsListed, Partners, partner_of, is_output_order, outputs_at, transfers_tell, IsPhaseExact, IsPhaseFault, IsStableTold, IsWrongLine, first_id, line_of_input, output_told, told, PhaseFault}
+use Rattle.cq_audit.proofs.Terms.{common_steps, rules, ◌≡◌, ℕ, zero, suc, ◌+◌, ◌<◌, ◌≤◌, ◌⊎◌, List, length, Option, None, Some, refl, ap, sym, subst, ◌∙◌, arith, filter_map, range_with_len, option_map, cases_lt, cases_eq, ext_get_or, length-map, Queued, Transfer, HasCellFor, list_of, output_order, noted, transfers_of, IsListed, Partners, partner_of, is_output_order, outputs_at, transfers_tell, IsPhaseExact, IsPhaseFault, IsStableTold, IsWrongLine, first_id, line_of_input, output_told, told, PhaseFault}
 use Rattle.cq_audit.specs.declared.phase.PhaseFault.TheVariants.{WrongLine, Blocking}
 use Rattle.cq_audit.proofs.LinesMoved.{line_first, line_later, some_of, told_at, told_long}
 
@@ -14,13 +14,11 @@ OwnInput h = (i : ℕ) (t : Transfer) → h i ≡ Some t → t.input ≡ i
 module _ (h : ℕ → Option Transfer) (own : OwnInput h) where
   none_here : (i a n : ℕ) → (i < a) ⊎ (a + n ≤ i) → line_of_input i (filter_map h (range_with_len a n)) ≡ None
   none_here i a zero out = refl
-  none_here i a (suc n) out =
-      let rest = none_here i (a + 1) n (grind arith) in grind (arith, common_steps, line_later, own)
+  none_here i a (suc n) out = grind (arith, common_steps, line_later, none_here i (a + 1) n (grind arith))
 
   line_here : (i a n : ℕ) → a ≤ i → i < a + n → line_of_input i (filter_map h (range_with_len a n)) ≡ h i
   line_here i a zero low high = absurd (omega arith)
-  line_here i a (suc n) low high =
-      grind (arith, common_steps, line_first, line_later, own, none_here, cases_eq, line_here i (a + 1) n)
+  line_here i a (suc n) low high = search (rules, line_first, line_later, none_here, cases_eq, line_here i (a + 1) n)
 
 -- ## The transfers of a stable matching
 
@@ -83,9 +81,7 @@ module _ (lists : List (List Queued)) (slot phase : ℕ) (lines : List Transfer)
 one_fault : (lists : List (List Queued)) (lines : List Transfer) (f g : PhaseFault) → IsPhaseFault lists lines f →
     IsPhaseFault lists lines g → f ≡ g
 one_fault lists lines (WrongLine i) (WrongLine k) x y =
-    let same : i ≡ k = ⊎_elim (λ lt. absurd (y.least i lt x.wrong)) (λ ge. ⊎_elim
-    (λ lt. absurd (x.least k lt y.wrong)) (λ le. omega arith) (cases_lt k i)) (cases_lt i k) in
-    ap (λ n. WrongLine n) same
+    grind (arith, common_steps, y.least i, x.least k, cases_lt k i, cases_lt i k)
 one_fault lists lines (WrongLine i) (Blocking k l) x y = absurd (y.right i x.wrong)
 one_fault lists lines (Blocking i j) (WrongLine k) x y = absurd (x.right k y.wrong)
 one_fault lists lines (Blocking i j) (Blocking k l) x y = search (arith, rules)

@@ -8,9 +8,9 @@
 -- than arrive at its input, and an output holds no more cells more than arrive for it. So no list and no output holds
 -- more than arrives in all. Beside the fabric an ideal switch runs, with which it agrees. So where the whole run of
 -- that one meets no tag fault, the fabric meets none, and it goes on for no more slots than that one.
-use Rattle.cq_audit.proofs.Terms.{common_steps, rules, ◌≡◌, ◌↔◌, ℕ, ◌+◌, ◌-◌, ◌<◌, ◌≤◌, Bool, false, List, [], length, map, Option, Result, Err, arith, length-append, ◌*◌, zero, suc, ◌∷◌, ◌++◌, replicate, refl, append_assoc, IfErr, IsOk, IsTrue, OnOk, cases_lt, append-nil, take_all, take-append-le, Arrival, arriving, end_of, enough, RoomView, Cell, Transfer, Machine, class_count, Marked, first_slots, arriving_from, ranking, IsStable, Fabric, IsEmptyFabric, LimitedFabricRun, empty_limited_fabric, fabric_admission, IsLimitedFault, LimitedFabricSlot, LimitedRecord, arrivals_for, refusal_of, AreInOrder, in_phase, NoneBefore, CanReplay, HasRested, IsInStep, IsSlotFault, ReplayView, SlotReplayed, ports_in, IsMadeAs, IsReady, IsStill, RunEnds, Reaches, StableRun, before_slot, AuditRefusal, Left, SlotFault, no_arrivals, arriving_length, arriving_parts, quiet_limited_slots, transfers_in, transfers_of_run, AfterBy, run_length, first_more, quiet_slots, Ok, ap, Some, TagFault, arrival_at, IsTraffic, is_from, is_to, number_of, count_for, whole_limited_run, empty_limited, empty_fabric, input, reach, empty_list, empty_together, nothing_for, slots_fit, arrives_found, come_from, from_here, from_last, no_more_from, one_if, some_one, idled, all_go_on, transfers_one, quiet_transfers, limited_parts, run_fault, held_for, LimitedAgrees, LimitedRunsAlike, same_limited_fault, begin, same_limited_run, limited_lists_kept, limited_outputs_kept, come_for, for_here, for_last, no_more_to}
+use Rattle.cq_audit.proofs.Terms.{common_steps, rules, ◌≡◌, ◌↔◌, ℕ, ◌+◌, ◌-◌, ◌<◌, ◌≤◌, Bool, false, List, [], length, map, Option, Result, Err, arith, length-append, ◌*◌, zero, suc, ◌∷◌, ◌++◌, refl, append_assoc, IfErr, IsOk, IsTrue, OnOk, cases_lt, append-nil, take_all, take-append-le, Arrival, arriving, end_of, enough, RoomView, Cell, Transfer, Machine, class_count, Marked, first_slots, arriving_from, ranking, IsStable, Fabric, IsEmptyFabric, LimitedFabricRun, empty_limited_fabric, fabric_admission, IsLimitedFault, LimitedFabricSlot, LimitedRecord, arrivals_for, refusal_of, AreInOrder, in_phase, NoneBefore, CanReplay, HasRested, IsInStep, IsSlotFault, ReplayView, SlotReplayed, ports_in, IsMadeAs, IsReady, IsStill, RunEnds, Reaches, StableRun, before_slot, AuditRefusal, Left, SlotFault, arriving_length, arriving_parts, quiet_limited_slots, transfers_in, transfers_of_run, AfterBy, run_length, first_more, quiet_slots, Ok, Some, TagFault, arrival_at, IsTraffic, is_from, is_to, number_of, count_for, whole_limited_run, empty_limited, input, reach, empty_list, empty_together, nothing_for, slots_fit, arrives_found, come_from, from_here, from_last, no_more_from, one_if, some_one, idled, all_go_on, transfers_one, quiet_transfers, limited_parts, run_fault, held_for, LimitedAgrees, LimitedRunsAlike, same_limited_fault, begin, same_limited_run, limited_lists_kept, limited_outputs_kept, come_for, for_here, for_last, no_more_to, replicate, no_arrivals, ap, empty_fabric}
 use Rattle.cq_audit.proofs.BySlot.{before_is, phase_later, none_first, none_from, none_next}
-use Rattle.cq_audit.proofs.Skips.{all_late, made_alike, made_on, same_fabric}
+use Rattle.cq_audit.proofs.Skips.{all_late, made_alike, same_fabric, made_on}
 use Rattle.cq_audit.proofs.WholeFollowing.{all_before, moved, moved_parts}
 use Rattle.cq_audit.proofs.Following.{one_stable_run}
 use Rattle.cq_ideal.proofs.LimitedEnds.{last, limited_ends, limited_not_more, limited_whole_fault}
@@ -98,8 +98,7 @@ module _ (limits : List (Option ℕ)) (ms : List Machine) (came : List Arrival) 
         let ends = limited_ends limits ms ports ranks came ran.0 ran.1 in
         let alike = beside ports ranks n f rs run classes traffic in
         let agrees = agree_now ports ranks n f rs run classes traffic in
-        let after = rw alike.ran at ends.after in
-        (ends.all_came, (empty_together n f.state alike.after.state agrees.states).1 (rw after ends.empty))
+        search (arith, rules, empty_together n f.state alike.after.state agrees.states)
 
     -- so a run that is over at no slot up to this one has no more slots
     pub slots_bounded : (slot : ℕ) (f : Marked Fabric) (rs : List LimitedRecord) →
@@ -214,9 +213,7 @@ module _ {M : List ℕ → Machine} {came : List Arrival} {lines : List Transfer
     not_over : (m : ℕ) (f : Marked Fabric) → m ≤ slot →
         AfterBy (LimitedFabricSlot IsStable first.limits (map M first.fixed)) came first.fabric b.records m f →
         end_of came ≤ m → IsEmptyFabric f.state → ⊥
-    not_over m f le run late empty =
-        let one = one_stable_run first.limits (map M first.fixed) 0 in
-        grind (arith, common_steps, one_each, take_all, one, cases_lt)
+    not_over m f le run late empty = grind (arith, common_steps, one_stable_run, one_each, take_all, cases_lt)
 
     pub at_next : (cells : List (Option Cell)) (left : List Transfer) (new : ReplayView) (note' : RoomView Transfer) →
         cells ≡ arriving came slot → SlotReplayed (map M now.fixed) slot cells rest left now new note note' →
@@ -242,11 +239,7 @@ module _ {M : List ℕ → Machine} {came : List Arrival} {lines : List Transfer
     pub at_fault : (cells : List (Option Cell)) (fault : SlotFault) → cells ≡ arriving came slot →
         IsSlotFault (map M now.fixed) slot cells rest now fault →
         RunEnds (map M first.fixed) came lines first (Err (refusal_of slot fault))
-    at_fault cells fault are is =
-        let here = rw (are, b.made.limits, b.made.fixed) at is in
-        let first_lines = same_lines 1 in
-        let second_lines = same_lines 2 in
-        let far = reached in grind (arith, common_steps)
+    at_fault cells fault are is = search (rules, same_lines, reached)
 
     -- ## What a slot asks for
 
@@ -266,7 +259,6 @@ module _ {M : List ℕ → Machine} {came : List Arrival} {lines : List Transfer
       pub can_replay : (cells : List (Option Cell)) → cells ≡ arriving came slot → note.items ≡ [] →
           CanReplay (map M now.fixed) slot cells rest now note
       can_replay cells are none =
-          let run = run_from_start in
           let for_ports = arrivals_for (ports_in first) (class_count (map M first.fixed)) came slot ready.traffic in
           search (arith, rules, fit, a_slot_left, list_is_short, output_is_short)
 
@@ -279,9 +271,4 @@ module _ {M : List ℕ → Machine} {came : List Arrival} {lines : List Transfer
     pub at_end : (result : Result (Unit {0}) AuditRefusal) → OnOk result (rest ≡ []) →
         IfErr result (λ refusal. (refusal ≡ Left (length lines - length rest + 1)) × (0 < length rest)) →
         RunEnds (map M first.fixed) came lines first result
-    at_end result none some =
-        let told = told_before in
-        let long = one_each in
-        let all = whole in
-        let size = length-append (moved b.records) rest in
-        let right = append-nil (moved b.records) in grind (arith, common_steps)
+    at_end result none some = search (rules, told_before, one_each, whole, length-append, moved, append-nil)

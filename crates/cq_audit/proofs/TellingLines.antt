@@ -1,7 +1,7 @@
 -- The lines of a phase, told one after another. Their inputs rise, so where a line has its turn, those before it are of
 -- lesser inputs and those behind it of greater ones: it is the line of its input, and an output that is taken then is
 -- taken by a lesser input's line.
-use Rattle.cq_audit.proofs.Terms.{common_steps, rules, ◌≡◌, ◌≢◌, ℕ, ◌+◌, ◌<◌, ◌≤◌, ◌⊎◌, List, [], ◌∷◌, ◌++◌, length, map, get_or, take, drop, None, Some, refl, ap, sym, ◌∙◌, arith, replicate, option_map, AllByRecursion, range_with_len, ⊎_elim, cases_eq, cond_both, eq-eqb, eqb-true, length-map, length-replicate, length-set, get_or-set_same, get_or-set_other, ext_get_or, get_or-map-range_with_len, length-map-range_with_len, take-append-drop, take_all, take_more, drop_more, find-append, all_back, all_weaker, Queued, Transfer, Waiting, cells_of, list_of, Partners, partner_of, with_pair, IsFreeOutput, nobody, IsOf, AreRight, IsFirstWrong, IsWrongLine, RiseByInput, first_id, line_of_input, output_told, told}
+use Rattle.cq_audit.proofs.Terms.{common_steps, rules, ◌≡◌, ◌≢◌, ℕ, ◌+◌, ◌<◌, ◌≤◌, ◌⊎◌, List, [], ◌∷◌, ◌++◌, length, map, get_or, take, drop, None, Some, refl, sym, ◌∙◌, arith, replicate, AllByRecursion, range_with_len, ⊎_elim, cases_eq, cond_both, eq-eqb, eqb-true, length-map, length-replicate, length-set, get_or-set_same, get_or-set_other, ext_get_or, get_or-map-range_with_len, length-map-range_with_len, take-append-drop, take_all, take_more, drop_more, find-append, all_back, all_weaker, Queued, Transfer, Waiting, cells_of, list_of, Partners, partner_of, with_pair, IsFreeOutput, nobody, IsOf, AreRight, IsFirstWrong, IsWrongLine, RiseByInput, first_id, line_of_input, output_told, told}
 use Rattle.cq_audit.specs.Pairs.{CanBeJoined}
 
 -- the list of an input that is one
@@ -74,9 +74,7 @@ module _ (t : Transfer) (rest : List Transfer) where
 module _ (front : List Transfer) (t : Transfer) (lesser : AllByRecursion (λ u. u.input < t.input) front) where
   -- an input that has a line among those before is lesser
   told_before : (k : ℕ) (u : Transfer) → line_of_input k front ≡ Some u → k < t.input
-  told_before k u is =
-      let less : u.input < t.input = line_holds k (λ v. v.input < t.input) front u lesser is in
-      let own : u.input ≡ k = line_is_of k front u is in omega arith
+  told_before k u is = grind (arith, common_steps, line_holds, line_is_of)
 
   free_before : line_of_input t.input front ≡ None
   free_before = grind (arith, common_steps, told_before)
@@ -86,9 +84,7 @@ module _ (front : List Transfer) (t : Transfer) (lesser : AllByRecursion (λ u. 
 
   lesser_line : (rest : List Transfer) → AllByRecursion (λ u. t.input < u.input) rest → (k : ℕ) → k < t.input →
       line_of_input k (front ++ t ∷ rest) ≡ line_of_input k front
-  lesser_line rest greater k less =
-      let none = no_line k (t ∷ rest) (less, all_weaker _ _ (λ u above. omega arith) rest greater) in
-      grind (arith, common_steps, find-append)
+  lesser_line rest greater k less = grind (arith, common_steps, no_line, all_weaker, find-append)
 
   other_line : (k : ℕ) → k ≢ t.input → line_of_input k (front ++ t ∷ []) ≡ line_of_input k front
   other_line k other = grind (arith, common_steps, find-append, cond_both, eqb-true)
@@ -155,15 +151,8 @@ module _ (ws : List Waiting) (lines : List Transfer) (n : ℕ) (d : Transfer) (m
   wrong_at why = wrong_line (cells_of ws) lines (take n lines) (drop (n + 1) lines) line m parts rise had (rw list why)
 
   pub can_join : IsFreeOutput m line.output → CanBeJoined m line.input line.output
-  can_join free =
-      let none : partner_of m line.input ≡ None =
-      had.told line.input ∙ ap (option_map (λ (t : Transfer). t.output))
-      (free_before (take n lines) line (less _ _ _ _ _ m parts rise had)) in
-      let size = long in search (arith, rules, own)
+  can_join free = grind (arith, common_steps, free_before, less, parts, long, own)
 
   pub right_at : first_id line.output w.cells ≡ Some line.id → IsFreeOutput m line.output →
       ToldBy (cells_of ws) (take (n + 1) lines) (with_pair m line.input line.output)
-  right_at names free =
-      let size = long in
-      rw (take_more lines n d inside) (right_line (cells_of ws) lines (take n lines) (drop (n + 1) lines) line m parts
-      rise had (grind (arith, common_steps, own)) (rw list names) free)
+  right_at names free = search (rules, long, take_more, right_line, parts, own, list)

@@ -5,7 +5,7 @@
 -- the run. So of two faults of phases neither stands before the other, for a run that goes on past a phase has made
 -- the transfers of a stable matching there, as its lines say. For the same reason no fault stands within a whole run
 -- that moves what the lines say, and none behind it, for the run is over there. And two such runs are one.
-use Rattle.cq_audit.proofs.Terms.{common_steps, rules, ◌≡◌, ℕ, ◌+◌, ◌<◌, ◌≤◌, List, [], ◌∷◌, ◌++◌, length, take, drop, Option, refl, sym, arith, append_assoc, ◌-◌, AllByRecursion, cases_lt, take-append-drop, take-take, Arrival, end_of, Transfer, Marked, arriving_from, first_slots, arriving_length, Machine, IsStable, Fabric, IsEmptyFabric, LimitedFabricRun, LimitedFabricSlot, LimitedRecord, slots_in, transfers_of_run, AfterBy, reach, run_of_whole, Reaches, StableRun, before_slot, all_weaker, suc, ◌⊎◌, inl, inr, ap, ◌∙◌, ⊎_elim, cases_order, Partners, transfers_in, one_arrival, one_departure, IsNoOf, phase_refusal, IsStableTold, in_phase, Begins, BeginsFirst, IsFaultAt, IsLeftAt, IsOfStableRun, PhaseFault, AuditRefusal, Left}
+use Rattle.cq_audit.proofs.Terms.{common_steps, rules, ◌≡◌, ℕ, ◌+◌, ◌<◌, ◌≤◌, List, [], ◌∷◌, ◌++◌, length, take, drop, Option, refl, sym, arith, append_assoc, ◌-◌, AllByRecursion, cases_lt, take-append-drop, take-take, Arrival, end_of, Transfer, Marked, arriving_from, first_slots, arriving_length, Machine, IsStable, Fabric, IsEmptyFabric, LimitedFabricRun, LimitedFabricSlot, LimitedRecord, slots_in, transfers_of_run, AfterBy, reach, run_of_whole, Reaches, StableRun, before_slot, all_weaker, suc, ◌⊎◌, inl, inr, ap, ◌∙◌, ⊎_elim, cases_order, Partners, one_arrival, one_departure, IsNoOf, phase_refusal, IsStableTold, in_phase, Begins, BeginsFirst, IsFaultAt, IsLeftAt, IsOfStableRun, PhaseFault, AuditRefusal, Left}
 use Rattle.cq_audit.proofs.BySlot.{before_all, before_is, before_later, phase_before, phase_later, phase_now}
 use Rattle.cq_audit.proofs.Following.{each_moved, one_move, one_stable_run, run_later, run_within}
 use Rattle.cq_audit.proofs.PhaseExact.{phase_is_exact}
@@ -33,8 +33,7 @@ module _ (limits : List (Option ℕ)) (ms : List Machine) (came : List Arrival) 
     Whole rs end = StableRun limits ms came start rs end
 
     pub whole_run : (rs : List LimitedRecord) (g : Marked Fabric) → Whole rs g → Runs (length rs) rs g
-    whole_run rs g w =
-        run_of_whole (LimitedFabricSlot IsStable limits ms) came start rs (λ f. IsEmptyFabric f.state) g w
+    whole_run rs g w = grind (arith, common_steps, run_of_whole)
 
     -- it is over at no slot up to this one
     abbrev pub Going : ℕ → List LimitedRecord → Type 0
@@ -109,8 +108,7 @@ module _ (limits : List (Option ℕ)) (ms : List Machine) (came : List Arrival) 
       one_begun slot phase f g (inl a) (inr b) = absurd (omega arith)
       one_begun slot phase f g (inr a) (inl b) = absurd (omega arith)
       one_begun slot phase f g (inr a) (inr b) =
-          let arrived = one_first slot a.1.arrived b.1.arrived a.1.begun b.1.begun in
-          search (arith, rules, one_move, one_departure)
+          search (arith, rules, one_first slot a.1.arrived b.1.arrived a.1.begun b.1.begun, one_move, one_departure)
 
       -- ## Where the lines of a phase have a fault
 
@@ -136,9 +134,8 @@ module _ (limits : List (Option ℕ)) (ms : List Machine) (came : List Arrival) 
       first_of slot phase f (inr b) is = search (arith, rules)
 
       none_passed : (slot phase : ℕ) (fault : PhaseFault) → IsSettled slot 2 → FaultAt slot phase fault → ⊥
-      none_passed slot phase fault s f = ⊎_elim
-          (λ one. none_settled slot phase fault (rw one.0 (first_of slot 2 s.fabric s.begins refl)) f)
-          (λ two. none_settled slot phase fault (rw two.0 s) f) f.begins
+      none_passed slot phase fault s f =
+          grind (arith, common_steps, none_settled slot phase fault, first_of slot 2 s.fabric s.begins refl)
 
       -- in one slot there is one
       one_phase : (slot p q : ℕ) (a b : PhaseFault) → FaultAt slot p a → FaultAt slot q b → p ≡ q
@@ -158,10 +155,7 @@ module _ (limits : List (Option ℕ)) (ms : List Machine) (came : List Arrival) 
       unfolding arriving_from transfers_of_run
       next_settled slot k old [] end reached same run = absurd run
       next_settled slot k old (r ∷ rs) end reached same run =
-          let now : (phase : ℕ) → in_phase slot phase (transfers_in r.of_slot) ≡ in_phase slot phase note =
-          grind (arith, common_steps, phase_now, run_later, same) in
-          let first = now 1 in
-          let second = now 2 in search (arith, rules, each_moved r.of_slot)
+          search (arith, rules, phase_now, run_later, each_moved r.of_slot)
 
       passed : (slot n : ℕ) (rs : List LimitedRecord) (end : Marked Fabric) → slot < n → Runs n rs end →
           moved rs ≡ before_slot n note → Going slot rs → IsSettled slot 2
