@@ -2,7 +2,7 @@
 -- they come, which all differ: so no key is twice. Each older cell for the same output in the list has slack 1 at
 -- least, so where it is more urgent than the new cell it stands below the new cell's cushion: so the insertion keeps
 -- the order. And the cells for each output are those that were there and those that came for it.
-use Rattle.cq_laws.proofs.Terms.{common_steps, rules, ◌≡◌, ◌≢◌, ℕ, ◌+◌, ◌<◌, ◌⊎◌, List, length, Option, Some, None, sym, ap, subst, ⊎_elim, arith, same_Some, Key, Cell, Queued, Machine, Fabric, input, buffer, IsAmong, IsFabric, cushion_of, came_to, list_arrived, Arrives, HasSlack, KeepsOrder, keeps_order_arrival, list_of, HasFor, all_from_has}
+use Rattle.cq_laws.proofs.Terms.{common_steps, rules, ◌≡◌, ◌≢◌, ℕ, ◌+◌, ◌<◌, ◌⊎◌, List, length, Option, Some, None, ap, subst, arith, same_Some, Key, Cell, Queued, Machine, Fabric, input, buffer, IsAmong, IsFabric, cushion_of, came_to, list_arrived, Arrives, HasSlack, KeepsOrder, keeps_order_arrival, list_of, HasFor, all_from_has}
 use Rattle.cq_laws.proofs.Members.{among_insert, insert_new, insert_old}
 use Rattle.cq_laws.proofs.Cushions.{cushion_rises}
 use Rattle.cq_laws.proofs.Falls.{arrivals_fall}
@@ -30,13 +30,7 @@ module _ (ms : List Machine) (slot : ℕ) (cells : List (Option Cell)) (came : L
   in_buffer j c h = subst (λ b. IsAmong c (list_of b j)) arrive.buffers h
 
   pub arrived_fabric : IsFabric old → IsFabric new
-  arrived_fabric fabric =
-      record {
-        square = cc;
-        outputs = λ i c h. search (arith, rules, fabric.outputs i c, arrived_from i c h);
-        own = λ j c h. fabric.own j c (in_buffer j c h);
-        rising = search (arith, rules, fabric.rising);
-      }
+  arrived_fabric fabric = search (rules, fabric.outputs, arrived_from, fabric.own, in_buffer)
 
   module _ (sound : Sound slot old) (slack : HasSlack 1 old) where
     -- a cell that came has the key of no older one
@@ -44,24 +38,10 @@ module _ (ms : List Machine) (slot : ℕ) (cells : List (Option Cell)) (came : L
     new_old k q d e lt same = let s = keyed.slot_is k q e in let t = ap (λ (x : Key). x.slot) same in omega arith
 
     arrived_apart : Apart new
-    arrived_apart =
-        record {
-          waiting = λ i k c d a b e. ⊎_elim (λ x. ⊎_elim (λ y. search (rules, same_Some))
-              (λ y. absurd (new_old i c d x (sound.early.waiting k d y) e)) (arrived_from k d b))
-              (λ x. ⊎_elim (λ y. absurd (new_old k d c y (sound.early.waiting i c x) (sym e)))
-              (λ y. sound.apart.waiting i k c d x y e) (arrived_from k d b)) (arrived_from i c a);
-          between = λ i j c d a b e. ⊎_elim (λ x. new_old i c d x (sound.early.crossed j d (in_buffer j d b)) e)
-              (λ x. sound.apart.between i j c d x (in_buffer j d b) e) (arrived_from i c a);
-          crossed = λ j l c d a b e. sound.apart.crossed j l c d (in_buffer j c a) (in_buffer l d b) e;
-        }
+    arrived_apart = search (rules, same_Some, new_old, arrived_from, in_buffer)
 
     arrived_early : Early (slot + 1) new
-    arrived_early =
-        record {
-          waiting = λ i c h. ⊎_elim (λ e. let s = keyed.slot_is i c e in omega arith)
-              (λ k. let lt = sound.early.waiting i c k in omega arith) (arrived_from i c h);
-          crossed = λ j c h. let lt = sound.early.crossed j c (in_buffer j c h) in omega arith;
-        }
+    arrived_early = search (rules, arrived_from, in_buffer)
 
     ordered : (i : ℕ) (q : Option Queued) → came_to came i ≡ q → KeepsOrder (list_arrived old q (input old i))
     ordered i None e = sound.order i

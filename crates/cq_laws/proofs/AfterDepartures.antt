@@ -27,27 +27,13 @@ module _ (ms : List Machine) (gone : List (Option Queued)) (slot : ℕ) (old new
 
   pub sent_fabric : IsFabric old → IsFabric new
   sent_fabric fabric =
-      record {
-        square = cc (length_rests old.buffers);
-        outputs = λ i c h. search (arith, rules, fabric.outputs i c (same_input i c h));
-        own = λ j c h. fabric.own j c (was_crossed j c h);
-        rising = search (rules, sent_buffer, rising_rest, fabric.rising);
-      }
+      search (rules, length_rests, fabric.outputs, same_input, fabric.own, was_crossed, sent_buffer, rising_rest)
 
   sent_apart : Apart old → Apart new
-  sent_apart apart =
-      record {
-        waiting = λ i k c d a b e. apart.waiting i k c d (same_input i c a) (same_input k d b) e;
-        between = λ i j c d a b e. apart.between i j c d (same_input i c a) (was_crossed j d b) e;
-        crossed = λ j l c d a b e. apart.crossed j l c d (was_crossed j c a) (was_crossed l d b) e;
-      }
+  sent_apart apart = search (rules, apart.waiting, same_input, apart.between, was_crossed, apart.crossed)
 
   sent_early : Early slot old → Early slot new
-  sent_early early =
-      record {
-        waiting = λ i c h. early.waiting i c (same_input i c h);
-        crossed = λ j c h. early.crossed j c (was_crossed j c h);
-      }
+  sent_early early = search (rules, early.waiting, same_input, early.crossed, was_crossed)
 
   pub sent_sound : Sound slot old → Sound slot new
   sent_sound sound = grind (arith, common_steps, sent_fabric, sound.order, sent_apart, sent_early)

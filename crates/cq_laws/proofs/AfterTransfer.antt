@@ -131,8 +131,7 @@ module _ (old new : Fabric) (m : Partners) (fabric : IsFabric old) (order : List
   least_buffered slack j c least = ⊎_elim (λ w.
       let at = stands_at (input new w.0) c w.1 in
       let more = slack_risen 0 slack w.0 at.0 c at.1 in
-      let d = cushion_has c.key (buffer new c.cell.output) (omega arith) in
-      grind (arith, least.least d.0, has_before j d.0)) (λ b. b) (has_after j c least.there)
+      search (arith, rules, cushion_has, least.least, has_before)) (λ b. b) (has_after j c least.there)
 
   -- ## What it keeps
 
@@ -186,6 +185,4 @@ module _ (slot : ℕ) (old new : Fabric) (m : Partners) (sound : Sound slot old)
   moved_has = has_before old new m sound.fabric sound.order sound.apart stable moves
 
   pub moved : Moved slot old new
-  moved =
-      let after = has_after old new m sound.fabric sound.order sound.apart stable moves in
-      search (arith, rules, moved_sound, matching_rises, slack_risen, moved_has)
+  moved = search (rules, has_after, moved_sound, matching_rises, slack_risen, moved_has)

@@ -2,7 +2,7 @@
 -- and states that agree are empty together. So the least number of slots after which the one is over is that of the
 -- other. In the last slot a cell departs, as it does in the ideal switch, so the figures tell the number of slots.
 -- And what goes on behind the end is quiet slots.
-use Rattle.cq_laws.proofs.Terms.{cases_lt, ⊎_elim, common_steps, rules, ◌≡◌, ℕ, ◌+◌, ◌-◌, ◌≤◌, cond, List, [], ◌∷◌, ◌++◌, length, take, drop, map, Option, Some, None, Err, refl, sym, ap, ◌∙◌, subst, arith, replicate, filter, fold, is_some, max, AllByRecursion, list_any, cases_Bool, cond_both, length-take-le, take-append-drop, take_all, append-nil, Cell, Queued, TagFault, Machine, IsForSwitch, AreForPorts, IsInputBest, IsStable, Partners, EndsAlike, RunsAlike, Fabric, IsEmptyFabric, empty_fabric, BeginsWhole, FabricRun, FabricStops, WholeRun, FabricSlot, SlotRecord, idled_for, quiet_slots, no_arrivals, IdealAfter, IdealEnds, arriving_from, first_slots, slots_of, slots_of_run, whole_ideal_run, IsEmptyIdeal, departures_of, empty_ideal, departures_from, departures_in, ends, fewer_slots, found_end, not_more, whole_fault, arriving_length, quiet_from, Orders, figures_of, sends, figures_after, no_figures, AfterBy, fold-append, all_slots, slots_of-append, last_departs, gone_in, transfers_of_run, IdealState}
+use Rattle.cq_laws.proofs.Terms.{cases_lt, ⊎_elim, common_steps, rules, ◌≡◌, ℕ, ◌+◌, ◌-◌, ◌≤◌, cond, List, [], ◌∷◌, length, take, drop, map, Option, Some, None, Err, refl, sym, subst, arith, replicate, filter, fold, is_some, max, AllByRecursion, list_any, cases_Bool, cond_both, length-take-le, take-append-drop, take_all, append-nil, Cell, Queued, TagFault, Machine, IsForSwitch, AreForPorts, IsInputBest, IsStable, Partners, EndsAlike, RunsAlike, Fabric, IsEmptyFabric, empty_fabric, BeginsWhole, FabricRun, FabricStops, WholeRun, FabricSlot, SlotRecord, idled_for, quiet_slots, no_arrivals, IdealAfter, IdealEnds, arriving_from, first_slots, slots_of, slots_of_run, whole_ideal_run, IsEmptyIdeal, departures_of, empty_ideal, departures_from, departures_in, ends, fewer_slots, found_end, not_more, whole_fault, arriving_length, quiet_from, Orders, figures_of, sends, AfterBy, fold-append, all_slots, slots_of-append, last_departs, gone_in, IdealState, ◌++◌, ap, ◌∙◌, figures_after, no_figures, transfers_of_run}
 use Rattle.cq_base.specs.Arriving.{Arrival, enough, traffic_of}
 use Rattle.cq_laws.proofs.AddingUp.{figures_fold}
 use Rattle.cq_laws.proofs.InputBest.{stable_run}
@@ -84,8 +84,7 @@ pub slots_of_figures : (MayChoose : Orders → Partners → Type 0) (ms : List M
     (traffic : List (List (Option Cell))) (f g : Fabric) (rs : List SlotRecord) →
     FabricRun MayChoose ms 0 traffic f rs g → (figures_of ports rs).slots ≡ slots_of (departures_of 0 (gone_in rs))
 unfolding figures_of
-slots_of_figures MayChoose ms ports traffic f g rs run =
-    let count = slots_add MayChoose ms 0 0 traffic f g rs run in omega arith
+slots_of_figures MayChoose ms ports traffic f g rs run = omega (arith, slots_add MayChoose ms 0 0 traffic f g rs run)
 
 pub slots_told : (ms : List Machine) (ports class_count : ℕ) (ranks : List (List ℕ)) (came : List Arrival)
     (rs : List SlotRecord) (g : Fabric) →
@@ -125,8 +124,7 @@ module _ (ms : List Machine) (ports class_count : ℕ) (ranks : List (List ℕ))
       (ran.0.after, ends ms ports ranks came ran.0 ran.1)
 
   at_end : Reach (FabricSlot IsInputBest ms) came (empty_fabric ports ranks) rs n (enough came) g
-  at_end = reach (FabricSlot IsInputBest ms) came (empty_fabric ports ranks) rs n (enough came) g
-      (not_more ms ports ranks came) best_run
+  at_end = grind (arith, common_steps, reach, not_more, best_run)
 
   cut : length (take n rs) ≡ n
   cut = grind (arith, not_more, run_length, best_run, arriving_length, length-take-le)

@@ -1,6 +1,6 @@
 -- Where a fabric agrees with an ideal switch, each output holds as many cells in the one as in the other: the ideal
 -- switch is the one whose lists are the cells of the fabric for each output, put in the order of their keys.
-use Rattle.cq_laws.proofs.Terms.{common_steps, ◌≡◌, ℕ, ◌+◌, List, [], ◌∷◌, length, map, refl, sym, ap, ◌∙◌, arith, range_with_len, length-append, Queued, IdealState, ideal_held, Agrees, Fabric, buffer, cells_for, waiting_for, held_for, fabric_held, ideal_of, in_order, length_put}
+use Rattle.cq_laws.proofs.Terms.{common_steps, ◌≡◌, ℕ, List, [], ◌∷◌, length, map, refl, arith, range_with_len, length-append, Queued, IdealState, ideal_held, Agrees, Fabric, cells_for, waiting_for, held_for, fabric_held, ideal_of, in_order, length_put}
 use Rattle.cq_laws.proofs.IdealOf.{only_ideal, waits}
 
 length_in_order : (xs : List Queued) → length (in_order xs) ≡ length xs
@@ -12,8 +12,7 @@ length-waits j [] = refl
 length-waits j (cells ∷ lists) = grind (arith, common_steps, length-append, length-waits j lists)
 
 holds_as_many : (f : Fabric) (j : ℕ) → length (in_order (cells_for j f)) ≡ held_for j f
-holds_as_many f j = length_in_order (cells_for j f) ∙ length-append (waits j f.inputs) (buffer f j)
-    ∙ ap (λ n. n + length (buffer f j)) (length-waits j f.inputs)
+holds_as_many f j = grind (arith, common_steps, length_in_order, length-append, waits, length-waits)
 
 hold_so : (f : Fabric) (js : List ℕ) → map length (map (λ j. in_order (cells_for j f)) js) ≡ map (λ j. held_for j f) js
 hold_so f [] = refl
@@ -21,5 +20,4 @@ hold_so f (j ∷ js) = λ k. holds_as_many f j k ∷ hold_so f js k
 
 pub hold_as_many : (slot : ℕ) (f : Fabric) (ideal : IdealState) → Agrees slot f ideal → fabric_held f ≡ ideal_held ideal
 unfolding fabric_held ideal_of
-hold_as_many slot f ideal agrees =
-    sym (ap ideal_held (only_ideal slot f ideal agrees) ∙ hold_so f (range_with_len 0 (length f.inputs)))
+hold_as_many slot f ideal agrees = cc (only_ideal slot f ideal agrees, hold_so f (range_with_len 0 (length f.inputs)))

@@ -3,7 +3,7 @@
 -- of their keys, one after the other, each new one is before or behind every other, so the list rises, and it has the
 -- same members. So the lists made of the cells that the fabric has for each output rise and have these cells: that is
 -- agreement. And two lists that rise and have the same members are one list.
-use Rattle.cq_laws.proofs.Terms.{flat_map, common_steps, rules, ◌≡◌, ◌≢◌, ℕ, ◌≤◌, List, [], ◌∷◌, length, refl, sym, ◌∙◌, inl, inr, ⊎_elim, arith, zero, suc, ◌+◌, ◌⊎◌, true, ◌++◌, filter, cases_lt, cond_both, eqb-true, eq-eqb, ext_get_or, get_or_past, get_or-map-range_with_len, length-map-range_with_len, Queued, IdealState, Agrees, Fabric, IsAmong, IsFabric, buffer, ListsKeepOrder, IsBefore, IsRising, KeysDiffer, KeepsOrder, is_for, list_of, IsSoundFabric, ideal_of, in_order, cells_for, HasFor, has_cases, has_left, has_right, has_kept, kept_has, all_of_has, none_had, all_from_has, same_pairs}
+use Rattle.cq_laws.proofs.Terms.{flat_map, common_steps, rules, ◌≡◌, ◌≢◌, ℕ, ◌≤◌, List, [], ◌∷◌, length, refl, sym, ◌∙◌, inl, inr, ⊎_elim, arith, zero, suc, ◌+◌, ◌⊎◌, ◌++◌, filter, cases_lt, cond_both, eqb-true, eq-eqb, ext_get_or, get_or_past, get_or-map-range_with_len, length-map-range_with_len, Queued, IdealState, Agrees, Fabric, IsAmong, IsFabric, buffer, ListsKeepOrder, IsBefore, IsRising, KeysDiffer, KeepsOrder, is_for, list_of, IsSoundFabric, ideal_of, in_order, cells_for, HasFor, has_cases, has_left, has_right, has_kept, kept_has, all_of_has, none_had, all_from_has, same_pairs, true}
 use Rattle.cq_laws.proofs.Members.{among_put, put_new, put_old, rising_put}
 use Rattle.cq_laws.proofs.Sound.{apart_from, not_before_itself, Apart, never_both}
 
@@ -44,11 +44,7 @@ module _ (j : ℕ) where
   filter_rises : (xs : List Queued) → KeepsOrder xs → IsRising (filter (is_for j) xs)
   filter_rises [] order = tt
   filter_rises (x ∷ xs) order =
-      let rest = filter_rises xs order.1 in
-      let later = λ (e : is_for j x ≡ true). all_from_has (IsBefore x) (filter (is_for j) xs) (λ d h.
-      let a = kept_has (is_for j) xs d h in
-      all_of_has _ xs d order.0 a.0 (eqb-true x.cell.output j e ∙ sym (eqb-true d.cell.output j a.1))) in
-      grind (arith, cond_both, later)
+      grind (arith, common_steps, all_from_has, kept_has, all_of_has, eqb-true, cond_both, filter_rises xs order.1)
 
   waits_differ : (lists : List (List Queued)) → ((i : ℕ) → KeepsOrder (list_of lists i)) →
       ((i k : ℕ) (c d : Queued) → IsAmong c (list_of lists i) → IsAmong d (list_of lists k) → c.key ≡ d.key → i ≡ k) →

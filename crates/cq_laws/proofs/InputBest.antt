@@ -59,8 +59,7 @@ module _ (ms : List Machine) where
   same_choices slot cells f f' g g' r x y = grind (arith, common_steps)
 
   pub stable_too : AreAlso (FabricSlot IsInputBest ms) (FabricSlot IsStable ms) (IsFault ms) IsEmptyFabric
-  stable_too = are_also (FabricSlot IsInputBest ms) (FabricSlot IsStable ms) (IsFault ms) stable_slot same_choices
-      IsEmptyFabric
+  stable_too = grind (arith, common_steps, are_also, stable_slot, same_choices)
 
   pub stable_run : (slot : ℕ) (traffic : List (List (Option Cell))) (f g : Fabric) (rs : List SlotRecord) →
       FabricRun IsInputBest ms slot traffic f rs g → FabricRun IsStable ms slot traffic f rs g
@@ -87,8 +86,7 @@ module _ (ms : List Machine) where
 
     pub stable_limited_too : AreAlso (LimitedFabricSlot IsInputBest limits ms) (LimitedFabricSlot IsStable limits ms)
         (IsLimitedFault limits ms) (λ f. IsEmptyFabric f.state)
-    stable_limited_too = are_also (LimitedFabricSlot IsInputBest limits ms) (LimitedFabricSlot IsStable limits ms)
-        (IsLimitedFault limits ms) stable_limited_slot same_limited_choices (λ f. IsEmptyFabric f.state)
+    stable_limited_too = grind (arith, common_steps, are_also, stable_limited_slot, same_limited_choices)
 
     pub stable_limited_run : (slot : ℕ) (traffic : List (List (Option Cell))) (f g : Marked Fabric)
         (rs : List LimitedRecord) → LimitedFabricRun IsInputBest limits ms slot traffic f rs g →

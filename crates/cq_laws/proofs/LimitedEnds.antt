@@ -1,6 +1,6 @@
 -- Where runs with limits end. Beside the fabric the ideal switch runs, and after each slot both are empty together; so
 -- both end after the same slot.
-use Rattle.cq_laws.proofs.Terms.{◌≡◌, ◌+◌, ℕ, List, length, take, Option, arith, common_steps, AllByRecursion, Arrival, Machine, Marked, IdealState, AreForPorts, IsInputBest, IsStable, LimitedEndsAlike, LimitedRunsAlike, LimitedFabricRun, LimitedFabricSlot, LimitedRecord, LimitedWholeRun, empty_limited_fabric, Fabric, IsEmptyFabric, empty_limited, arriving_length, LimitedIdealAfter, first_slots, IsEmptyIdeal}
+use Rattle.cq_laws.proofs.Terms.{rules, ◌≡◌, ◌+◌, ℕ, List, length, take, Option, arith, AllByRecursion, Arrival, Machine, Marked, IdealState, AreForPorts, IsInputBest, IsStable, LimitedEndsAlike, LimitedRunsAlike, LimitedFabricRun, LimitedFabricSlot, LimitedRecord, LimitedWholeRun, empty_limited_fabric, Fabric, IsEmptyFabric, empty_limited, arriving_length, LimitedIdealAfter, first_slots, IsEmptyIdeal}
 use Rattle.cq_laws.proofs.LimitedWhole.{same_limited_run, begin}
 use Rattle.cq_laws.proofs.OneRun.{only_limited_run}
 use Rattle.cq_laws.proofs.Parted.{ends_with, fewer_fit, one_whole, run_of_whole}
@@ -24,8 +24,7 @@ module _ (limits : List (Option ℕ)) (ms : List Machine) (ports class_count : �
   -- the fabric is over after m slots where the ideal switch is
   over_too : (m : ℕ) (rs : List LimitedRecord) (f : Marked Fabric) (s : Marked IdealState) → Beside m rs f →
       LimitedIdealAfter limits ms came (empty_limited ports ranks) m s → IsEmptyIdeal s.state → IsEmptyFabric f.state
-  over_too m rs f s b after empty =
-      grind (arith, common_steps, empty_together _ f.state b.after.state b.agrees.states)
+  over_too m rs f s b after empty = search (arith, rules, empty_together _ f.state b.after.state b.agrees.states)
 
   pub limited_ends : (rs : List LimitedRecord) (g : Marked Fabric) → Fit (length rs) →
       LimitedWholeRun IsStable limits ms came (empty_limited_fabric ports ranks) rs g →

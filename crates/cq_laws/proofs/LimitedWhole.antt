@@ -80,8 +80,7 @@ module _ (limits : List (Option ℕ)) (ms : List Machine) (class_count : ℕ) wh
       FabricStops IsStable ms slot (admitted_traffic limits ms slot traffic ideal) f.state (slots_in rs) fault
   unfolding admitted_traffic
   stop_through slot [] f ideal rs fault s run = absurd run
-  stop_through slot (cells ∷ traffic) f ideal [] fault s run =
-      rw (same_admission limits slot cells f ideal s.agrees) at run
+  stop_through slot (cells ∷ traffic) f ideal [] fault s run = cc (same_admission limits slot cells f ideal s.agrees)
   stop_through slot (cells ∷ traffic) f ideal (r ∷ rs) fault s run =
       let went = go slot cells traffic f run.0 ideal r s run.1 in
       subst (λ came. FabricStops IsStable ms slot came f.state (slots_in (r ∷ rs)) fault)

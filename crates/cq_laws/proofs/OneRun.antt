@@ -100,12 +100,7 @@ one_slot ms slot cells f g g' r r' x y =
 
 module _ (ms : List Machine) where
   pub no_choice : LeavesNoChoice (FabricSlot IsInputBest ms) (IsFault ms)
-  no_choice =
-      record {
-        slot = one_slot ms;
-        fault = λ slot cells f u v x y. cc;
-        never_both = λ slot cells f g r u x y. cc x.arrive.ranked;
-      }
+  no_choice = grind (arith, common_steps, one_slot ms)
 
   pub only_run : IsOneRun (FabricSlot IsInputBest ms) (IsFault ms)
   only_run = one_of_each (FabricSlot IsInputBest ms) (IsFault ms) no_choice

@@ -43,16 +43,13 @@ module _ (Waits : Queued → Type 0) where
 
   -- the front does not wait
   front_there : (a : Queued) (more buf : List Queued) → Covers (a ∷ more) buf → IsAmong a buf
-  front_there a more buf h =
-      grind (arith, common_steps, never_both, not_before_itself, all_of_has, h.back, h.to a (inl refl), h.behind a)
+  front_there a more buf h = grind (arith, common_steps, never_both, not_before_itself, all_of_has, h.to, h.behind)
 
   pub follows : (full buf : List Queued) → Covers full buf → Follows full buf
   follows [] [] h = record { front = refl; to = h.to; back = h.back }
   follows [] (b ∷ bs) h = absurd (h.back b (inr (inl refl)))
   follows (a ∷ more) [] h = absurd (front_there a more [] h)
-  follows (a ∷ more) (b ∷ bs) h =
-      let there = front_there a more (b ∷ bs) h in
-      search (arith, rules, same_first, h.back, all_of_has, not_before_itself, h.to, never_both, h.behind)
+  follows (a ∷ more) (b ∷ bs) h = search (rules, front_there, same_first, all_of_has, not_before_itself, never_both)
 
 -- ## The same tag fault
 
@@ -145,9 +142,7 @@ module _ (ms : List Machine) (slot class_count : ℕ) (cells : List (Option Cell
   ports_kept = step.finish.moves.ports.0 ∙ ap length step.depart.inputs ∙ still_as_many
 
   same_gone : fronts lists ≡ r.gone
-  same_gone =
-      let lengths = as_many ∙ sym still_as_many ∙ sym first.sound.fabric.square in
-      same_fronts lists r.filled.buffers lengths (λ j. (follow j).front) ∙ sym step.depart.sent
+  same_gone = grind (arith, common_steps, as_many, still_as_many, same_fronts, follow)
 
   abbrev after : IdealState
   after = record { lists = rests lists; ranks = all_told ms (fronts lists) r.arrived.ranks }

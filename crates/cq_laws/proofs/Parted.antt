@@ -28,8 +28,7 @@ module _ {S R : Type 0} (Step : ℕ → List (Option Cell) → S → R → S →
       pub rest : RunBy Step m (arriving_from came m (n - m)) state (drop m rs) end
 
     pub reach : (m n : ℕ) (end : S) → m ≤ n → RunBy Step 0 (first_slots came n) start rs end → Reach m n end
-    reach m n end le run =
-        let halves = arriving_parts came 0 m m (n - m) n in search (arith, rules, arriving_length, parts)
+    reach m n end le run = search (arith, rules, arriving_parts came 0 m m (n - m) n, arriving_length, parts)
 
     pub run_of_whole : (IsEmpty : S → Type 0) (end : S) → WholeBy Step IsEmpty came start rs end →
         RunBy Step 0 (first_slots came (length rs)) start rs end

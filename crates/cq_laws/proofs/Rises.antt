@@ -17,8 +17,7 @@ sender (x ∷ m) j = ⊎_elim (λ e. inl (zero, e)) (λ ne. ⊎_elim (λ r. inl 
 pub first_least : (j : ℕ) (xs : List Queued) (s : ℕ) (c f : Queued) → KeepsOrder xs → slice_get xs s ≡ Some c →
     c.cell.output ≡ j → first_for j xs ≡ Some f → (f ≡ c) ⊎ IsBefore f c
 first_least j xs s c f order at out is =
-    let first = first_at (is_for j) xs f is in
-    search (arith, rules, first_le, eq-eqb, each_pair_at, eqb-true, cases_lt, same_Some)
+    search (arith, rules, first_at (is_for j) xs f is, first_le, eq-eqb, each_pair_at, eqb-true, cases_lt, same_Some)
 
 module _ (old new : Fabric) (o : Orders) (m : Partners) (order : (i : ℕ) → KeepsOrder (input old i))
     (fabric : IsFabric old) (are : AreOrdersOf old.inputs o) (stable : IsStable o m) (moves : Transfers m old new)

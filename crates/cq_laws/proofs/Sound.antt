@@ -2,7 +2,7 @@
 -- in order in each input's list, no key is twice, and every cell is from before a slot. That no key is twice is said
 -- of two cells at inputs, of one at an input and one that has crossed, and of two that have crossed; by their places
 -- it is the same.
-use Rattle.cq_laws.proofs.Terms.{common_steps, ◌≡◌, ◌≢◌, ◌∷◌, ℕ, ◌<◌, List, Some, refl, sym, ◌∙◌, arith, ⊎_elim, slice_get, cases_lt, true≢false, Queued, Fabric, input, buffer, IsAmong, IsFabric, ListsKeepOrder, IsBefore, IsRising, EachPair, key_laws, each_pair_at, AreOrdersOf, FirstKeysDiffer, orders_of, are_orders, HasFor, Waiting, Crossed, NoKeyTwice, AllBefore, all_of_has, has_there, stands_at}
+use Rattle.cq_laws.proofs.Terms.{rules, common_steps, ◌≡◌, ◌≢◌, ◌∷◌, ℕ, ◌<◌, List, Some, refl, sym, ◌∙◌, arith, slice_get, cases_lt, true≢false, Queued, Fabric, input, buffer, IsAmong, IsFabric, ListsKeepOrder, IsBefore, IsRising, EachPair, key_laws, each_pair_at, AreOrdersOf, FirstKeysDiffer, orders_of, are_orders, HasFor, Waiting, Crossed, NoKeyTwice, AllBefore, all_of_has, has_there, stands_at}
 use Rattle.cq_laws.proofs.Members.{from_first}
 
 pub record Apart (f : Fabric) : Type 0 where
@@ -47,9 +47,7 @@ early_from slot f before =
 
 -- a key is of one cell, wherever it stands
 pub same_cell : (f : Fabric) → Apart f → (j l : ℕ) (c d : Queued) → HasFor f j c → HasFor f l d → c.key ≡ d.key → c ≡ d
-same_cell f apart j l c d h k e = ⊎_elim
-    (λ w. ⊎_elim (λ v. (apart.waiting w.0 v.0 c d w.1 v.1 e).1) (λ b. absurd (apart.between w.0 l c d w.1 b e)) k)
-    (λ a. ⊎_elim (λ v. absurd (apart.between v.0 j d c v.1 a (sym e))) (λ b. apart.crossed j l c d a b e) k) h
+same_cell f apart j l c d h k e = grind (arith, common_steps, apart.waiting, apart.between, apart.crossed)
 
 -- ## And back
 
@@ -78,16 +76,11 @@ pub differ_from : (f : Fabric) → IsFabric f → ListsKeepOrder f → Apart f �
 differ_from f fabric order apart (Waiting i s) (Waiting k t) c d a b e =
     let r = apart.waiting i k c d (has_there (input f i) s c a) (has_there (input f k) t d b) e in
     grind (arith, r, one_in_order (input f i) s t c (order i) a)
-differ_from f fabric order apart (Waiting i s) (Crossed j t) c d a b e =
-    absurd (apart.between i j c d (has_there (input f i) s c a) (has_there (buffer f j) t d b) e)
+differ_from f fabric order apart (Waiting i s) (Crossed j t) c d a b e = search (rules, apart.between, has_there)
 differ_from f fabric order apart (Crossed j t) (Waiting i s) c d a b e =
     absurd (apart.between i j d c (has_there (input f i) s d b) (has_there (buffer f j) t c a) (sym e))
 differ_from f fabric order apart (Crossed j s) (Crossed l t) c d a b e =
-    let in_j = has_there (buffer f j) s c a in
-    let in_l = has_there (buffer f l) t d b in
-    let same = apart.crossed j l c d in_j in_l e in
-    let place = one_place IsBefore (buffer f j) s t c (not_before_itself c) (fabric.rising j) a in
-    grind (arith, same, place, fabric.own j c in_j, fabric.own l d in_l)
+    search (arith, rules, has_there (buffer f j) s c a, has_there (buffer f l) t d b, one_place, not_before_itself)
 
 pub all_before : (slot : ℕ) (f : Fabric) → Early slot f → AllBefore slot f
 all_before slot f early (Waiting i t) c at = early.waiting i c (has_there (input f i) t c at)

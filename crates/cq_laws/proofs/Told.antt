@@ -1,7 +1,7 @@
 -- The transfers of a phase tell its matching. They stand in the order of the inputs, at most one each, so two lists
 -- of them that are equal are equal input by input. And a partner in a matching is offered, so its input has a first
 -- cell for it, and that is noted.
-use Rattle.cq_laws.proofs.Terms.{rules, ◌≡◌, ℕ, zero, suc, ◌+◌, ◌<◌, ◌≤◌, List, ◌∷◌, length, Option, None, Some, ap, sym, ◌∙◌, arith, common_steps, filter_map, range_with_len, option_map, cases_lt, ext_get_or, first_for, list_of, orders_of, HasCellFor, noted, transfers_of, partner_of, Transfer, Queued, Partners, IsStable}
+use Rattle.cq_laws.proofs.Terms.{rules, ◌≡◌, ℕ, zero, suc, ◌+◌, ◌<◌, ◌≤◌, List, ◌∷◌, length, Option, None, Some, sym, ◌∙◌, arith, common_steps, filter_map, range_with_len, cases_lt, ext_get_or, list_of, orders_of, noted, transfers_of, partner_of, Transfer, Queued, Partners, IsStable}
 use Rattle.cq_laws.proofs.OneRun.{offer_of}
 
 -- what a function notes of an input is a transfer of it
@@ -25,19 +25,8 @@ one_by_one h k own_h own_k a (suc n) e i low high =
 -- ## Partners
 
 module _ (slot phase i : ℕ) (cells : List Queued) where
-  abbrev crosses : ℕ → Queued → Transfer
-  crosses j c = record { slot = slot; phase = phase; input = i; output = j; id = c.cell.id }
-
-  noted_some : (j : ℕ) (c : Queued) → first_for j cells ≡ Some c →
-      noted slot phase i cells (Some j) ≡ Some (crosses j c)
-  noted_some j c e = ap (option_map (crosses j)) e
-
   own_noted : (p : Option ℕ) (t : Transfer) → noted slot phase i cells p ≡ Some t → t.input ≡ i
   own_noted p t e = grind (arith, common_steps)
-
-  same_partner : (p q : Option ℕ) → ((j : ℕ) → p ≡ Some j → HasCellFor cells j) → ((j : ℕ) → q ≡ Some j →
-      HasCellFor cells j) → noted slot phase i cells p ≡ noted slot phase i cells q → p ≡ q
-  same_partner p q has_p has_q e = grind (arith, common_steps, noted_some)
 
 pub transfers_tell : (lists : List (List Queued)) (m n : Partners) (slot phase : ℕ) → IsStable (orders_of lists) m →
     IsStable (orders_of lists) n → transfers_of m lists slot phase ≡ transfers_of n lists slot phase → m ≡ n

@@ -32,8 +32,7 @@ AreFor ports lists = AllByRecursion (AllByRecursion (λ (c : Queued). c.cell.out
 first_in_range : (ports : ℕ) (lists : List (List Queued)) (i j : ℕ) (c : Queued) → AreFor ports lists →
     first_for j (list_of lists i) ≡ Some c → j < ports
 first_in_range ports [] i j c are is = absurd (let P : ⊥ = cc in P)
-first_in_range ports (cells ∷ lists) zero j c are is =
-    let f = from_first j cells c is in search (arith, rules, all_of_has)
+first_in_range ports (cells ∷ lists) zero j c are is = search (arith, rules, from_first j cells c is, all_of_has)
 first_in_range ports (cells ∷ lists) (suc i) j c are is = first_in_range ports lists i j c are.1 is
 
 -- a cell crosses
@@ -76,16 +75,12 @@ worked0 : FabricSlot IsInputBest first_come_all 0
     (Some (lone_cell 0 0 0) ∷ Some (lone_cell 1 0 0) ∷ Some (lone_cell 2 0 0) ∷ []) none_left slot0 after0
 unfolding all_told is_before place_in best least_free start propose
     keeper matching_of is_free
-worked0 =
-    let one = crosses slot0.arrived 0 0 from_input0 (omega arith) refl refl (omega arith) (omega arith) (omega arith) in
-    search (arith, rules, crosses slot0.sent 1 0 from_input1, at_inputs)
+worked0 = search (arith, rules, crosses slot0.arrived 0 0 from_input0, crosses slot0.sent 1 0 from_input1, at_inputs)
 
 worked1 : FabricSlot IsInputBest first_come_all 1 (None ∷ None ∷ Some (lone_cell 2 1 1) ∷ []) after0 slot1 after1
 unfolding all_told is_before place_in best least_free start propose
     keeper matching_of is_free
-worked1 =
-    let one = crosses slot1.arrived 2 1 for_output1 (omega arith) refl refl (omega arith) (omega arith) (omega arith) in
-    search (arith, rules, crosses slot1.sent 2 0 from_input2, at_inputs)
+worked1 = search (arith, rules, crosses slot1.arrived 2 1 for_output1, crosses slot1.sent 2 0 from_input2, at_inputs)
 
 worked2 : FabricSlot IsInputBest first_come_all 2 (None ∷ None ∷ None ∷ []) after1 slot2 none_left
 unfolding all_told
