@@ -1,5 +1,5 @@
 -- A line is laid out: where its packets go, what each step of it adds, and what stands at its end.
-use Rattle.cq_cells.proofs.Terms.{rules, ◌≡◌, ℕ, ◌+◌, ◌-◌, ◌/◌, ◌^◌, ◌<◌, ◌≤◌, max, List, length, map, slice_index_or, arith, common_steps, AllByRecursion, end_of, Captured, rows_from, file_length, PacketRow, Tables, route, AreTables, ports_of, Row, AreAdded, AreRows, line_arrivals, cells_of, packets_of, cells, start, stamp_slot, arrivals_at, few_kept, t0_of, IsRecorded, is_to, [], sym, ◌∙◌, range_with_len, length-map, get_or-map, fill_by_all, route_output, packet_at, packet_in}
+use Rattle.cq_cells.proofs.Terms.{rules, ◌≡◌, ℕ, ◌+◌, ◌-◌, ◌/◌, ◌^◌, ◌<◌, ◌≤◌, max, List, length, map, slice_index_or, arith, common_steps, AllByRecursion, end_of, Captured, rows_from, file_length, PacketRow, Tables, route, AreTables, ports_of, Row, AreAdded, AreRows, line_arrivals, cells_of, packets_of, cells, start, stamp_slot, arrivals_at, few_kept, t0_of, IsRecorded, [], sym, ◌∙◌, range_with_len, length-map, get_or-map, fill_by_all, route_output, packet_at, packet_in, is_to}
 use Rattle.cq_cells.proofs.Packets.{start_by, row_of, came_by, ends_by, longer_by, length_packet, end_packet, IsSoFar, few_by, early_by, line_is, rows_are}
 use Rattle.cq_cells.proofs.Stamps.{length-rows_from, row_is_of}
 

@@ -83,8 +83,7 @@ module _ (input cell_bytes : ℕ) (rows : List Row) (slot k : ℕ) (row : Row) (
     (last : LastBegun rows slot k row) where
   -- it has ended
   pub line_over : row.cells ≤ slot - row.start → find (is_in slot) (line_arrivals input cell_bytes rows) ≡ None
-  line_over over =
-      search (arith, rules, line_at input cell_bytes rows slot k r, row_none input cell_bytes k)
+  line_over over = grind (arith, common_steps, line_at input cell_bytes rows slot k r, row_none input cell_bytes k)
 
   -- it has not
   pub line_found : slot - row.start < row.cells →

@@ -71,5 +71,4 @@ end_of-append (x ∷ xs) ys = omega (arith, end_of-append xs ys)
 pub arrives_own : (came : List Arrival) (slot input : ℕ) →
     IfSome (arriving_at came slot input) (λ cell. cell.id.input ≡ input)
 arrives_own [] slot input = tt
-arrives_own (a ∷ came) slot input =
-    search (arith, rules, cond_both, and_right, eqb-true, arrives_own came slot input)
+arrives_own (a ∷ came) slot input = search (rules, cond_both, and_right, eqb-true, arrives_own came slot input)

@@ -1,6 +1,6 @@
 -- The packets of an input, one after another. The rows so far give the arrivals so far: their number, their end, and
 -- how many are for each output.
-use Rattle.cq_cells.proofs.Terms.{All-from_recursion, common_steps, rules, ◌≡◌, ℕ, zero, suc, ◌+◌, ◌-◌, ◌^◌, ◌<◌, ◌≤◌, max, eqb, cond, List, [], ◌∷◌, ◌++◌, length, map, flat_map, take, slice_index_or, slice_set, arith, sym, subst, range_with_len, sum_by, cases_eq, ne_eqb, append-nil, length-append, get_or-set_same, get_or-set_other, flat_map-append, filter-append, length-map-range_with_len, get_or-map-range_with_len, map-range_with_len_more, sum_by-cons, sum_by_more, sum_by-take-le, div-le_self, Arrival, end_of, Cell, Captured, file_length, Tables, route, Row, AreAdded, AreRows, row_at, line_arrivals, cells_of, packets_of, packet_at, stamp_slot, cells, start, cell_of, arrivals_of, arrivals_at, IsRecorded, is_to, number_of}
+use Rattle.cq_cells.proofs.Terms.{All-from_recursion, common_steps, rules, ◌≡◌, ℕ, zero, suc, ◌+◌, ◌-◌, ◌^◌, ◌<◌, ◌≤◌, max, eqb, cond, List, [], ◌∷◌, ◌++◌, length, map, flat_map, take, slice_index_or, slice_set, arith, range_with_len, sum_by, cases_eq, ne_eqb, append-nil, length-append, get_or-set_same, get_or-set_other, flat_map-append, filter-append, length-map-range_with_len, get_or-map-range_with_len, map-range_with_len_more, sum_by-cons, sum_by_more, sum_by-take-le, div-le_self, Arrival, end_of, Cell, Captured, file_length, Tables, route, Row, AreAdded, AreRows, row_at, line_arrivals, cells_of, packets_of, packet_at, stamp_slot, cells, start, cell_of, arrivals_of, arrivals_at, IsRecorded, is_to, number_of}
 use Rattle.cq_cells.proofs.Looked.{piece, no_row}
 use Rattle.cq_cells.proofs.Owned.{end_of-append}
 use Rattle.cq_cells.proofs.Pieces.{cells_above, cells_few}
@@ -63,9 +63,7 @@ module _ (t : Tables) (captures : List (List Captured)) (input : ℕ) where
   pub start_by : (k : ℕ) → start t captures input k ≡ max (stamp_slot t captures input k) (end_of (came_by k))
   unfolding start
   start_by zero = omega arith
-  start_by (suc k) =
-      let place : suc k ≡ k + 1 = omega arith in
-      let more = rw (← place) at (ends_by k) in omega (arith, more, end_packet k, start_by k)
+  start_by (suc k) = grind (arith, common_steps, ends_by k, end_packet k, start_by k)
 
   -- how many cells of a packet are for an output
   number_packet : (k j : ℕ) →
@@ -109,10 +107,7 @@ module _ (t : Tables) (captures : List (List Captured)) (input : ℕ) where
       let more = sum_by_more (λ (p : Captured). 16 + length p.body) (packets_of captures input) k
       (record { stamp = 0; original = 0; body = [] }) (omega arith) in
       let few = cells_few (length (packet_at captures input k).body) t.cell_bytes some in
-      let place : suc k ≡ k + 1 = omega arith in
-      let P : ℕ → Type 0 =
-      λ j. length (came_by j) ≤ sum_by (λ (p : Captured). 16 + length p.body) (take j (packets_of captures input)) in
-      subst P (sym place) (omega (arith, longer_by k, length_packet k, cells_by k some (omega arith)))
+      let place : suc k ≡ k + 1 = omega arith in search (arith, rules, longer_by k, length_packet k, cells_by k some)
 
   -- a capture has few cells
   pub few_by : (k : ℕ) → 1 ≤ t.cell_bytes → IsRecorded (packets_of captures input) →

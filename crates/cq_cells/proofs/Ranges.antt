@@ -30,8 +30,7 @@ find_only {X = X} p f a (suc n) k from to h =
 pub pairs_made : {X : Type 0} (R : X → X → Type 0) (f : ℕ → X) (a n : ℕ) → ((j k : ℕ) → j < k → R (f j) (f k)) →
     EachPair R (map f (range_with_len a n))
 pairs_made R f a zero each = tt
-pairs_made R f a (suc n) each =
-    (all_made (R (f a)) f (a + 1) n (λ k low high. each a k (omega arith)), pairs_made R f (a + 1) n each)
+pairs_made R f a (suc n) each = search (arith, rules, all_made (R (f a)) f (a + 1) n, pairs_made R f (a + 1) n each)
 
 pub pairs_flat : {X : Type 0} (R : X → X → Type 0) (f : ℕ → List X) (a n : ℕ) →
     ((k : ℕ) → EachPair R (f k)) → ((j k : ℕ) (x y : X) → j < k → Has (f j) x → Has (f k) y → R x y) →

@@ -39,9 +39,7 @@ module _ (t : Tables) (captures : List (List Captured)) where
   unfolding arrivals
   all_later = pairs_flat IsLater (arrivals_at t captures) 0 (length captures) line_later
       (λ i j x y less one two same.
-      let here : x.cell.id.input ≡ i = all_of_has _ (arrivals_at t captures i) x (own_input i) one in
-      let there : y.cell.id.input ≡ j = all_of_has _ (arrivals_at t captures j) y (own_input j) two in
-      absurd (omega arith))
+      search (arith, rules, all_of_has, own_input))
 
   pub traffic_is : AreTables t → length captures ≡ ports_of t.setup →
       IsTraffic (ports_of t.setup) (classes_of t.setup) (arrivals t captures)
@@ -64,8 +62,7 @@ module _ (t : Tables) (captures : List (List Captured)) where
       × (end_of (flat_map (arrivals_at t captures) (range_with_len a n)) ≤ 2 ^ 63 + 2 ^ 28)
   lines_few a zero some r = (omega arith, omega arith)
   lines_few a (suc n) some r =
-      let first = line_few a some (r a (omega arith)) in
-      search (arith, rules, flat_map, length-append, end_of-append, lines_few (a + 1) n some)
+      grind (arith, common_steps, line_few a some, length-append, end_of-append, lines_few (a + 1) n some)
 
   pub short_is : AreTables t → length captures ≡ ports_of t.setup →
       ((i : ℕ) → i < length captures → IsRecorded (packets_of captures i)) → IsShort (arrivals t captures)

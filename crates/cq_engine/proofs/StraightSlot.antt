@@ -225,8 +225,7 @@ module _ {ms : List Machine} {slot : ℕ} {q : Queues} {ranks0 : List (List ℕ)
 
   pairs_stable : IsStable (orders_of lists) pairs
   pairs_stable =
-      let size = length-map lists output_order in
-      search (arith, rules, pairs_long, lists_long, offers_wanted, wants_offered, order_is, partner_is, once)
+      search (rules, length-map, pairs_long, lists_long, offers_wanted, wants_offered, order_is, partner_is, once)
 
   pairs_best : IsInputBest (orders_of lists) pairs
   pairs_best = record { stable = pairs_stable; best = λ m stable i. let first = at_best i in omega arith }

@@ -82,13 +82,6 @@ module _ (t : Tables) (captures : List (List Captured)) (schedule : Scheduled)
         pub resumed_by : (stamp : ℕ) → stamp ≡ schedule.t0 → IsResumedBy t captures text
             (record { run = run; t0 = stamp })
         resumed_by stamp e =
-            grind (
-              arith,
-              common_steps,
-              goes,
-              resumed_whole t captures from (kept_of (unpacked_run run)) given.tables
-                  given.each,
-              taken_up (rw is at read),
-              resumed_counts t captures from (kept_of (unpacked_run run))
-                  given.tables given.each,
-            )
+            let whole = resumed_whole t captures from (kept_of (unpacked_run run)) given.tables given.each in
+            let counts = resumed_counts t captures from (kept_of (unpacked_run run)) given.tables given.each in
+            grind (arith, common_steps, goes, whole, taken_up (rw is at read), counts)
