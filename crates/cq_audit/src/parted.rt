@@ -28,8 +28,8 @@ fn end_of_phase(note: &[Transfer], slot: Slot, phase: u8) -> usize
     elsewhere(note, slot, phase).unwrap_or(note.len())
 }
 
-/// The lines ahead of the first that is of no such phase, and the rest. Where the lines are in order and none is of an
-/// earlier phase, these are the lines of the phase, and those behind them.
+/// The lines ahead of the first that is not of this phase of this slot, and the rest. Where the lines are in order and
+/// none is of an earlier phase, these are the lines of the phase, and those behind them.
 pub fn part(note: &[Transfer], slot: Slot, phase: u8) -> (&[Transfer], &[Transfer])
     ensures lines { result.0.now ≡ take (position_or_len (λ t. not (is_at slot phase t)) note.now) note.now }
     ensures rest { result.1.now ≡ drop (position_or_len (λ t. not (is_at slot phase t)) note.now) note.now }

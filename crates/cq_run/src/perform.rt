@@ -7,7 +7,8 @@ use crate::{Command, Halt, Stop, Unwritten};
 use cq_base::Name;
 use cq_space::{Files, Sink, WriteFault, put_all, write_whole};
 
-/// Performs what judging a command came to, and tells how the command ends.
+/// Performs what judging a command came to, and tells how the command ends. It leaves the file space closed, and takes
+/// no memory.
 pub fn conclude<F: Files, O: Sink>(
     files: &mut F,
     out: &mut O,

@@ -127,11 +127,11 @@ fn say_unreadable<S: Sink>(sink: &mut S, input: u16, refusal: PcapRefusal) -> Re
     }
 }
 
-// The fault of a capture of this number.
+// The fault of a capture. Its head is put in each of these three, so that a line is one call.
 #[tactic(auto, using(crate::proofs::Put::puts_as))]
-fn say_fault<S: Sink>(sink: &mut S, input: u16, number: &[u8]) -> Result<(), WriteFault>
+fn say_fault<S: Sink>(sink: &mut S, input: u16, fault: &[u8]) -> Result<(), WriteFault>
     ensures { Says S.taken S.faults (line (codes "capture of input " ++ decimal input ++ codes ": "
-        ++ number.now)) sink.old sink.new result }
+        ++ fault.now)) sink.old sink.new result }
 {
     put_line(
         sink,
@@ -139,21 +139,21 @@ fn say_fault<S: Sink>(sink: &mut S, input: u16, number: &[u8]) -> Result<(), Wri
             Piece::Text(b"capture of input "),
             Piece::Number(u64::from(input)),
             Piece::Text(b": "),
-            Piece::Text(number),
+            Piece::Text(fault),
         ],
     )
 }
 
-// The same, with a figure behind the number.
+// The same, with a figure behind it.
 #[tactic(auto, using(crate::proofs::Put::puts_as))]
 fn say_fault_with<S: Sink>(
     sink: &mut S,
     input: u16,
-    number: &[u8],
+    fault: &[u8],
     figure: u64,
 ) -> Result<(), WriteFault>
     ensures { Says S.taken S.faults (line (codes "capture of input " ++ decimal input ++ codes ": "
-        ++ number.now ++ decimal figure)) sink.old sink.new result }
+        ++ fault.now ++ decimal figure)) sink.old sink.new result }
 {
     put_line(
         sink,
@@ -161,7 +161,7 @@ fn say_fault_with<S: Sink>(
             Piece::Text(b"capture of input "),
             Piece::Number(u64::from(input)),
             Piece::Text(b": "),
-            Piece::Text(number),
+            Piece::Text(fault),
             Piece::Number(figure),
         ],
     )
