@@ -1,6 +1,6 @@
 -- What is left out at all inputs, input after input, comes to what is left out of all that arrives. No more cells are
 -- left out than arrive, and so the counts have room for them.
-use Rattle.cq_resume.proofs.Terms.{rules, ◌≡◌, ℕ, zero, suc, ◌+◌, ◌-◌, ◌<◌, ◌≤◌, ◌^◌, ltb, leb, Bool, false, List, [], ◌∷◌, ◌++◌, length, map, Option, Some, refl, sym, ap, length-append, arith, common_steps, ◌&&◌, filter, flat_map, nat_lt, not, range_with_len, le-leb, append-nil, length-map, map-append, flat_map-append, filter-append, map-range_with_len_more, Arrival, is_from, range_more, Refused, CanCount, refused_counts, with_refused, all_counted_both, counts_fit, none_counted, zero_fits, ArePackets, coming, has_limit, has_name, left_out, mark_on, unnamed, Name, few_kept, counts_more}
+use Rattle.cq_resume.proofs.Terms.{rules, ◌≡◌, ℕ, zero, suc, ◌+◌, ◌-◌, ◌<◌, ◌≤◌, ◌^◌, ltb, leb, Bool, false, List, [], ◌∷◌, ◌++◌, length, map, Option, Some, refl, sym, length-append, arith, common_steps, ◌&&◌, filter, flat_map, nat_lt, not, range_with_len, le-leb, append-nil, length-map, map-append, flat_map-append, filter-append, map-range_with_len_more, Arrival, is_from, range_more, Refused, CanCount, refused_counts, with_refused, all_counted_both, counts_fit, none_counted, zero_fits, ArePackets, coming, has_limit, has_name, left_out, mark_on, unnamed, Name, few_kept, counts_more}
 use Rattle.cq_resume.proofs.Coming.{is_between}
 use Rattle.cq_resume.proofs.Walking.{cells_in}
 
@@ -48,12 +48,8 @@ module _ (limits : List (Option ℕ)) (next : ℕ) (came : List Arrival) (names 
 
     -- none is left out twice
     few_before : (n m : ℕ) → n + m ≡ ports → length (left_before n) ≤ length came
-    few_before n zero all =
-        let same : n ≡ ports = omega arith in
-        rw (same, ← all_left_out) (few_kept (λ (a : Arrival). nat_lt a.slot next && not (has_name names a)) came)
-    few_before n (suc m) all =
-        let rest = few_before (n + 1) m (omega arith) in
-        let more = ap (λ (l : List Arrival). length l) (left_more n) in grind (arith, common_steps, length-append)
+    few_before n zero all = grind (arith, common_steps, all_left_out, few_kept)
+    few_before n (suc m) all = grind (arith, common_steps, left_more, length-append, few_before (n + 1) m)
 
     module _ (input : ℕ) (marks : List Bool) (refused : List Refused) (known : Tallied input marks refused)
         (inside : input < ports) (few : length came ≤ 2 ^ 34) where

@@ -47,17 +47,12 @@ module _ {X : Type 0} (key : X → ℕ) (t start end : ℕ) (xs upto : List X) (
       let rest = take_rest upto start in
       let outer = take-append-drop end xs in
       let inner = take-append-drop start upto in
-      let behind = behind_none in
-      let before = before_none in
-      let all = inner_all in
-      let both = filter-append its (take end xs) (drop end xs) in
-      let two = filter-append its (take start upto) (drop start upto) in grind (arith, common_steps, append-nil)
+      search (arith, rules, behind_none, before_none, inner_all, filter-append, append-nil)
 
 -- items of which each later one has no lesser number do not fall
 pub not_falling : {X : Type 0} (R : X → X → Type 0) (key : X → ℕ) → ((a b : X) → R a b → key a ≤ key b) →
     (xs : List X) → AllPairs R xs → IsNonDecreasingBy key xs
 not_falling R key no_less xs pairs i j d le inside =
-    let own = no_less (get_or xs i d) (get_or xs j d) in
     let before = pairs i j d in grind (arith, common_steps, cases_eq i j)
 
 pub output_no_less : (a b : Queued) → IsBufferedBefore a b → a.cell.output ≤ b.cell.output

@@ -228,11 +228,7 @@ module _ (w : Switch) (s : State) (in_range : IsInRange s) (shape : HasShape w s
       (search (arith, rules, pairs_looked_up t (IsBufferedBefore w.came) IsFoundBefore, each_pair))
 
   apart : Apart f
-  apart = record {
-    waiting = search (arith, rules, in_list, its_input, one_cell);
-    between = search (arith, rules, in_list, in_buffer, one_arrival, pairs_cross, Differ, queued_differ);
-    crossed = search (arith, rules, one_cell, in_buffer);
-  }
+  apart = search (rules, in_list, its_input, one_cell, in_buffer, one_arrival, pairs_cross, Differ, queued_differ)
 
   early : Early s.head.next f
   early = record {
@@ -261,10 +257,7 @@ module _ (w : Switch) (s : State) (in_range : IsInRange s) (shape : HasShape w s
   is_sound = search (rules, is_fabric, keep_order, sound.slack, differ_from, apart, all_before, early)
 
   are_own : AreOwn (length w.machines) w.classes f
-  are_own = record {
-    listed = λ i c among. let one = in_list i c among in search (arith, rules, of_traffic, its_input);
-    buffered = λ j c among. let one = in_buffer j c among in search (arith, rules, of_traffic, its_input);
-  }
+  are_own = search (rules, in_list, of_traffic, its_input, in_buffer)
 
   -- ## No more wait than came
 

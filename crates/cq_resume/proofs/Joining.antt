@@ -3,7 +3,7 @@
 -- and nothing comes, and the slots behind the end add nothing. A tag fault of the run comes behind the slots that were
 -- done, for these had none. A run that goes on to an end has a first slot at which it is over, maybe one of those that
 -- were done, and the whole run ends there.
-use Rattle.cq_resume.proofs.Terms.{common_steps, rules, ◌≡◌, ℕ, zero, suc, ◌+◌, ◌-◌, ◌<◌, ◌≤◌, Bool, List, [], ◌∷◌, ◌++◌, length, take, drop, Option, refl, ◌⊎◌, inl, inr, replicate, ⊎_elim, append_assoc, length-drop, arith, cases_lt, append-nil, length-map, map-append, take-append-drop, take_all, flat_map-append, All-replicate, end_of, Cell, arriving_from, refused_in, all_counted_both, none_counted, Fabric, IsEmptyFabric, empty_fabric, marked_in, Machine, Switch, Taken, no_arrivals, TagFault, no_arrivals_refuse_none, ranked_none, arriving_length, arriving_parts, quiet_from, FabricSlot, SlotRecord, fabric_held, IsLimitedFault, LimitedFabricSlot, LimitedRecord, admissions_in, slots_in, quiet_limited_slots, idled, idled_for, quiet_slots, GoOn, IsOneRun, RunBy, StopBy, all_go_on, departures_on, transfers_both, none_come, run_with, only_limited_run, parts, run_length, arriving, empty_is, quiet_departures, quiet_figures_of_run, quiet_run, quiet_transfers_of_run, IsInputBest, most_ports}
+use Rattle.cq_resume.proofs.Terms.{common_steps, rules, ◌≡◌, ℕ, zero, suc, ◌+◌, ◌-◌, ◌<◌, ◌≤◌, Bool, List, [], ◌∷◌, ◌++◌, length, take, drop, Option, refl, ◌⊎◌, inl, inr, replicate, ⊎_elim, append_assoc, length-drop, arith, cases_lt, append-nil, length-map, map-append, take-append-drop, take_all, flat_map-append, All-replicate, end_of, Cell, arriving_from, refused_in, all_counted_both, none_counted, Fabric, IsEmptyFabric, empty_fabric, marked_in, Machine, Switch, Taken, no_arrivals, TagFault, no_arrivals_refuse_none, arriving_length, arriving_parts, quiet_from, FabricSlot, SlotRecord, IsLimitedFault, LimitedFabricSlot, LimitedRecord, admissions_in, slots_in, quiet_limited_slots, idled, idled_for, quiet_slots, GoOn, IsOneRun, RunBy, StopBy, all_go_on, departures_on, transfers_both, none_come, run_with, only_limited_run, parts, run_length, arriving, empty_is, quiet_departures, quiet_figures_of_run, quiet_run, quiet_transfers_of_run, IsInputBest}
 use Rattle.cq_ideal.specs.Admission.{Marked, marked}
 use Rattle.cq_ideal.proofs.Ends.{none_waits, nothing_left}
 use Rattle.cq_ideal.proofs.Waiting.{waiting}
@@ -35,11 +35,8 @@ module _ (ms : List Machine) (n : ℕ) (marks : List Bool) where
   kept_quiet : (k : Kept) (count slot : ℕ) (ranks : List (List ℕ)) →
       kept_on k slot (quiet_limited_slots ms count slot n ranks marks) ≡ k
   kept_quiet k count slot ranks =
-      let same = quiet_records count slot ranks in
-      let departures = quiet_departures ms n count slot ranks in
-      let transfers = quiet_transfers_of_run ms n count slot ranks in
-      let figures = quiet_figures_of_run ms n count slot ranks k.figures in
-      search (arith, rules, same, departures, transfers, figures, append-nil, none_counted, none_refused)
+      search
+      (rules, quiet_records, quiet_departures, quiet_transfers_of_run, quiet_figures_of_run, append-nil, none_counted, none_refused)
 
 -- ## From a slot on
 
@@ -150,9 +147,7 @@ module _ (w : Switch) where
   quiet_stop : (count slot : ℕ) (f : Marked Fabric) (rs : List LimitedRecord) (fault : TagFault) →
       StopBy Step Fault slot (replicate count no_arrivals) f rs fault → ⊥
   quiet_stop zero slot f rs fault x = x
-  quiet_stop (suc count) slot f [] fault x =
-      let none = no_arrivals_refuse_none w.limits f.marks (fabric_held f.state) in
-      let ranked = ranked_none w.machines slot 0 most_ports f.state.ranks in cc (rw none at x)
+  quiet_stop (suc count) slot f [] fault x = grind (arith, common_steps, no_arrivals_refuse_none)
   quiet_stop (suc count) slot f (r ∷ rs) fault x = quiet_stop count (slot + 1) x.0 rs fault x.2
 
   never_both : (from : Taken) (k : Kept) (fault : TagFault) → IsResumed w from k → IsResumedFault w from fault → ⊥
@@ -164,8 +159,7 @@ module _ (w : Switch) where
       quiet_stop past.0 end x.end past.1 fault (rw (quiet_from w.came past.0 end x.runs.all_came) at past.2)
 
   one_kept : (from : Taken) (k l : Kept) → IsResumed w from k → IsResumed w from l → k ≡ l
-  one_kept from k l x y =
-      cc (one_on from.frozen.next (marked_in from.frozen) x.end y.end x.records y.records x.runs y.runs)
+  one_kept from k l x y = grind (arith, common_steps, one_on)
 
   -- one that is stopped stands in one state, or met one tag fault
   one_parted : (ranks : List (List ℕ)) (slots : ℕ) (a b : Taken) → IsParted w ranks slots a →
@@ -217,9 +211,7 @@ module _ (w : Switch) where
 
     slot_ahead : RunsOn w next start (r ∷ rs) end
     unfolding arriving_from
-    slot_ahead =
-        let late = on.all_came in
-        record { after = (middle, step, on.after); all_came = omega arith; empty = on.empty; first = no_sooner }
+    slot_ahead = grind (arith, common_steps, no_sooner)
 
   -- a run that is over somewhere has an end
   record Ends (next : ℕ) (start : Marked Fabric) : Type 0 where
@@ -231,8 +223,7 @@ module _ (w : Switch) where
       RunBy Step next (arriving_from w.came next n) start rs over → end_of w.came ≤ next + n →
       IsEmptyFabric over.state → Ends next start
   unfolding arriving_from
-  ends zero next start over [] run late empty =
-      record { records = []; end = start; runs = over_at next start (omega arith) (rw run at empty) }
+  ends zero next start over [] run late empty = grind (arith, common_steps, over_at)
   ends (suc n) next start over (r ∷ rs) run late empty =
       let rest = ends n (next + 1) run.0 over rs run.2 (omega arith) empty in
       ⊎_elim (λ now. record { records = []; end = start; runs = over_at next start now.0 now.1 })
@@ -326,9 +317,7 @@ module _ (w : Switch) where
             let whole = take-append-drop n part.records in (cc, both.1)
 
         rests : RunsOn w slots there [] there
-        rests =
-            let empty : IsEmptyFabric resting.state = search (arith, rules, All-replicate) in
-            search (arith, rules, over, over_at slots there)
+        rests = grind (arith, common_steps, All-replicate, over, over_at)
 
         kept_over : kept_on (nothing_kept w) 0 rs ≡ kept_on (kept_in at) slots []
         unfolding quiet
@@ -357,13 +346,8 @@ module _ (w : Switch) where
         let n = length resumed.records in
         let goes = whole_run at.frozen.next there resumed.end resumed.records resumed.runs in
         let all = join n resumed.records resumed.end (rw part.next at goes) in
-        let late = resumed.runs.all_came in
-        let next : at.frozen.next ≡ slots = part.next in
         let it = ends (slots + n) 0 start resumed.end (part.records ++ resumed.records) all (omega arith)
-        resumed.runs.empty in
-        let is : IsWhole w ranks (kept_on (nothing_kept w) 0 it.records) =
-        record { records = it.records; end = it.end; runs = it.runs; kept_is = refl } in
-        rw (part_is_run kept _ resumed is) is
+        resumed.runs.empty in search (arith, rules, part_is_run)
 
     -- a fault that is met later is met from there
     pub part_fault : (fault : TagFault) → IsWholeFault w ranks fault → IsResumedFault w at fault

@@ -138,10 +138,7 @@ module _ (w : Switch) (s : State) (names : List Name)
   pub packets_alike : AreWholePackets w s ↔ PacketsStand w.limits s.head.next w.came names
   packets_alike = all_same ByState ByNames (λ a.
       let all = alike true (packet_before w.came s.head.next a) in
-      let none = alike false (packet_before w.came s.head.next a) in (
-        (λ by begins early. let ways = by begins early in search (arith, rules)),
-        (λ by begins early. let ways = by begins early in search (arith, rules)),
-      )) w.came
+      search (arith, rules, alike false (packet_before w.came s.head.next a))) w.came
 
   pub tally_is : (x : Tally) → length w.limits ≡ s.head.ports → TalliesUp w.limits s.head.next w.came names x →
       IsTally w s x

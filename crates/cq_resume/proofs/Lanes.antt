@@ -7,7 +7,7 @@
 -- slot. It is compared with the last one of its flow, for which a place is kept. And how many cells stand ahead of
 -- each in its input's list, counted on from one cell to the next. Where an input begins, none stands ahead, since the
 -- cells before it are of earlier inputs.
-use Rattle.cq_resume.proofs.Terms.{common_steps, rules, ◌≡◌, ◌≢◌, ℕ, ◌+◌, ◌-◌, ◌<◌, ◌≤◌, ◌⊎◌, ◌↔◌, Bool, true, false, List, length, map, get_or, set, replicate, Option, None, Some, refl, sym, ◌∙◌, inl, inr, arith, ltb, ◌*◌, IfSome, ◌&&◌, AllPairs, AllByRecursion, cases_eq, cases_lt, and_from, and_parts, lt-ltb, ltb-true, get_or-replicate, get_or-set_other, get_or-set_same, get_or_default, get_or_past, length-replicate, length-set, get_or_read, begins_at, FlowsStand, InOneFlow, IsNameBefore, IsNoLaterInput, Leaves, IsBefore, Queued, Name, length-append, slice_get, ne_eqb, get_or-take, SlackStands, cushion_in, thread_in, filter_more, get_or_from_slice_get, slice_get-get_or, slice_get_within, key_laws, each_pair, all_pairs, most_classes}
+use Rattle.cq_resume.proofs.Terms.{common_steps, rules, ◌≡◌, ◌≢◌, ℕ, ◌+◌, ◌-◌, ◌<◌, ◌≤◌, ◌⊎◌, ◌↔◌, Bool, true, false, List, length, map, get_or, set, replicate, Option, None, Some, refl, sym, ◌∙◌, inl, inr, arith, ltb, ◌*◌, IfSome, ◌&&◌, AllPairs, AllByRecursion, cases_eq, cases_lt, and_from, lt-ltb, get_or-replicate, get_or-set_other, get_or-set_same, get_or_default, get_or_past, length-replicate, length-set, get_or_read, begins_at, FlowsStand, InOneFlow, IsNameBefore, IsNoLaterInput, Leaves, IsBefore, Queued, Name, length-append, slice_get, ne_eqb, get_or-take, SlackStands, cushion_in, thread_in, filter_more, get_or_from_slice_get, slice_get-get_or, slice_get_within, key_laws, each_pair, all_pairs, most_classes}
 use Rattle.cq_resume.proofs.Chained.{PairsBelow}
 use Rattle.cq_resume.proofs.Each.{all_each}
 use Rattle.cq_resume.proofs.Cut.{none_kept}
@@ -15,9 +15,6 @@ use Rattle.cq_resume.proofs.Cut.{none_kept}
 module _ {X : Type 0} (input : X → ℕ) (xs : List X) (n : ℕ) (d : X) (inside : n < length xs) where
   begins_test : begins_at (map input xs) n ≡ (ltb 0 n && ltb (input (get_or xs (n - 1) d)) (input (get_or xs n d)))
   begins_test = grind (arith, common_steps)
-
-  begins_says : begins_at (map input xs) n ≡ true → (0 < n) × (input (get_or xs (n - 1) d) < input (get_or xs n d))
-  begins_says is = grind (arith, common_steps, and_parts, begins_test, ltb-true)
 
   -- where none begins the one before it is of its input
   same_there : AllPairs (λ a b. input a ≤ input b) xs → begins_at (map input xs) n ≡ false →
@@ -31,12 +28,10 @@ module _ {X : Type 0} (input : X → ℕ) (xs : List X) (n : ℕ) (d : X) (insid
       AllPairs (λ a b. input a ≤ input b) xs → begun ≡ begins_at (map input xs) n →
       ((begun ≡ true) × (now ≡ none)) ⊎ ((begun ≡ false) × (now ≡ last)) → P (input (get_or xs n d)) now
   known_here P none last now begun known fresh rising is (inl begins) =
-      let says = begins_says (sym is ∙ begins.0) in
       rw begins.1 (fresh (input (get_or xs n d)) (λ k e lt own.
       let le = rising k (n - 1) e in
       let there = get_or_default xs (n - 1) e d in grind (arith, common_steps, cases_eq k (n - 1))))
-  known_here P none last now begun known fresh rising is (inr goes) =
-      rw (goes.1, ← same_there rising (sym is ∙ goes.0)) (known d)
+  known_here P none last now begun known fresh rising is (inr goes) = grind (arith, common_steps, same_there)
 
 module _ {X : Type 0} (input lane : X → ℕ) (R : X → X → Type 0) where
   -- it holds of two items of one lane
@@ -206,8 +201,7 @@ flow_number a b one = let output = one.output in let class = one.class in omega 
 pub flows_as_lanes : (ports : ℕ) (xs : List Name) →
     AllByRecursion (λ n. (n.queued.cell.output < ports) × (n.queued.cell.class < most_classes)) xs →
     AllPairs (InLane input_of flow_of LeavesFirst) xs ↔ FlowsStand xs
-flows_as_lanes ports xs each =
-    grind (arith, common_steps, all_pairs, each_pair, InLane, all_each, one_flow, flow_number)
+flows_as_lanes ports xs each = grind (arith, common_steps, all_pairs, each_pair, all_each, one_flow, flow_number)
 
 pub through : {A B C : Type 0} → A ↔ B → B ↔ C → A ↔ C
 through ab bc = ((λ a. bc.0 (ab.0 a)), (λ c. ab.1 (bc.1 c)))
@@ -247,8 +241,7 @@ module _ {listed buffered : List Queued} {n thread now : ℕ} {e : Queued} {begu
   -- one cell more, or one that has too little
   pub threads_next : now < cushion → Threads listed buffered (n + 1) (now + 1)
   threads_next less =
-      let counted = now_counted in
-      grind (arith, common_steps, get_or_default, filter_more, length-append, get_or_from_slice_get, at)
+      grind (arith, common_steps, now_counted, get_or_default, filter_more, length-append, get_or_from_slice_get)
 
   pub threads_stop : cushion ≤ now → (false ≡ true) ↔ SlackStands listed buffered
   threads_stop short = grind (arith, common_steps, now_counted, slice_get-get_or, at)

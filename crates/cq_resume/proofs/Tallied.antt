@@ -43,9 +43,7 @@ module _ (named : Arrival → Bool) (limited : ℕ → Bool) where
       mark_on named limited (not (named a)) line ≡ Some m → (b : Arrival) → Has line b →
       (a.cell.id.packet ≤ b.cell.id.packet) × AlikeIn a b × IsAllowed b
   behind_alike a [] m behind ends b has = absurd has
-  behind_alike a (c ∷ line) m behind ends b has =
-      let step = one_step (not (named a)) m c line ends in
-      grind (arith, common_steps, behind_alike c line m behind.1 step.1 b)
+  behind_alike a (c ∷ line) m behind ends b has = search (rules, one_step, behind_alike c line m behind.1)
 
   each_alike : (a : Arrival) (line : List Arrival) (m : Bool) → ComeBehind a line →
       mark_on named limited (not (named a)) line ≡ Some m → EachPair AlikeIn (a ∷ line)
@@ -88,7 +86,6 @@ module _ (named : Arrival → Bool) (limited : ℕ → Bool) where
       mark_on named limited (not (named a)) line ≡ None → ⊥
   walk_ends all first_like f a [] behind among there first packet output same stops = let P : ⊥ = cc in P
   walk_ends all first_like f a (b ∷ line) behind among there first packet output same stops =
-      let has = among b (inl refl) in
       let on = λ (g : Arrival). walk_ends all first_like g b line behind.1 (λ c has. among c (inr has)) in
       search (arith, rules, eq-eqb)
 

@@ -2,7 +2,7 @@
 -- Items that stand in order of a number, taken number by number and laid end on end, are the same list. The cells of
 -- the lists stand in order of their inputs and those of the buffers in order of their outputs, and all of these are
 -- ports. Each name arrives, so its cell is told by it, and a departure by the slot and the name of its cell.
-use Rattle.cq_resume.proofs.Terms.{common_steps, rules, ◌≡◌, ℕ, zero, suc, ◌+◌, ◌<◌, ◌≤◌, List, [], ◌∷◌, length, map, flat_map, Option, Some, refl, ◌∙◌, arith, ◌==◌, filter, AllByRecursion, AllPairs, enumerate_from, filter_map, range_with_len, option_map, cases_eq, eq-eqb, flat_same, ne_eqb, length-map, length-map-range_with_len, Cell, Queued, Scheduled, IsTraffic, departure_of, figures_told, frozen_told, input_told, machine_of, sent_told, AreTables, IsScheduleOf, IsSound, HasShape, Switch, Tables, arriving_cell, buffer_told, fabric_told, list_told, named_as, named_in, queued_of, switch_of, IsInRange, IsNamed, Named, Seen, Sent, State, Taken, all_of_has, all_from_has, has_left, has_right, has_image, Has, each_pair, looked_up, pairs_looked_up, EachPair}
+use Rattle.cq_resume.proofs.Terms.{common_steps, rules, ◌≡◌, ℕ, zero, suc, ◌+◌, ◌<◌, ◌≤◌, List, [], ◌∷◌, length, map, flat_map, Option, Some, refl, arith, ◌==◌, filter, AllByRecursion, AllPairs, enumerate_from, filter_map, range_with_len, option_map, cases_eq, eq-eqb, flat_same, ne_eqb, length-map, length-map-range_with_len, Cell, Queued, Scheduled, IsTraffic, departure_of, figures_told, frozen_told, input_told, machine_of, sent_told, AreTables, IsScheduleOf, IsSound, HasShape, Switch, Tables, arriving_cell, buffer_told, fabric_told, list_told, named_as, named_in, queued_of, switch_of, IsInRange, IsNamed, Named, Seen, Sent, State, Taken, all_of_has, all_from_has, has_left, has_right, has_image, Has, each_pair, looked_up, pairs_looked_up, EachPair}
 use Rattle.std.proofs.lemmas.List.Folds.{flat_map-map}
 use Rattle.cq_resume.proofs.GoesOn.{comes, of_traffic, its_input, its_output, some_cell}
 use Rattle.cq_resume.proofs.Scheduling.{schedule_known}
@@ -39,8 +39,7 @@ module _ {X : Type 0} (number : X → ℕ) where
   first x xs a zero low high all = absurd (omega arith)
   first x xs a (suc n) low high all =
       let none = none_below xs (number x) a in
-      let rest = past x xs (a + 1) n in
-      grind (arith, common_steps, cases_eq a (number x), ne_eqb, eq-eqb, none, rest, first x xs (a + 1) n)
+      search (arith, rules, past, cases_eq, ne_eqb, eq-eqb, first x xs (a + 1) n)
 
   ordered : (xs : List X) (n : ℕ) → EachPair (λ x y. number x ≤ number y) xs → AllByRecursion (λ x. number x < n) xs →
       by_number xs 0 n ≡ xs
@@ -51,8 +50,7 @@ module _ {X : Type 0} (number : X → ℕ) where
   end_on_end : (told : ℕ → List X) (xs : List X) (n : ℕ) → ((i : ℕ) → told i ≡ numbered xs i) →
       EachPair (λ x y. number x ≤ number y) xs → AllByRecursion (λ x. number x < n) xs →
       flat_map (λ l. l) (map told (range_with_len 0 n)) ≡ xs
-  end_on_end told xs n is pairs all = flat_map-map (λ l. l) told (range_with_len 0 n)
-      ∙ flat_same told (numbered xs) 0 n (λ i low high. is i) ∙ ordered xs n pairs all
+  end_on_end told xs n is pairs all = grind (arith, common_steps, flat_map-map, flat_same, ordered)
 
 -- ## What is looked up and told again
 
@@ -116,9 +114,7 @@ module _ (w : Switch) (s : State) (in_range : IsInRange s) (shape : HasShape w s
 
   pub state_again : state_of (frozen_told w s) (sent_told w.came s) s.moved w.t0 w.classes (length w.came) ≡ s
   unfolding state_of frozen_told fabric_told figures_told
-  state_again =
-      let head = shape.head in
-      grind (arith, common_steps, lists_again, buffers_again, sent_again, seen_again, length-map-range_with_len)
+  state_again = search (rules, lists_again, buffers_again, sent_again, seen_again, length-map-range_with_len)
 
 -- ## The text
 
@@ -128,6 +124,4 @@ text_again t c text x tables is read =
     let many = length-map t.setup.kinds (λ kind. machine_of kind t.setup.classes) in
     let up = read.comes in
     let same = state_again (switch_of t c) read.state up.in_range up.shape up.sound
-    (rw many (schedule_known t c tables is).traffic) in
-    let told = up.told in
-    let spelled = read.spelled in cc
+    (rw many (schedule_known t c tables is).traffic) in cc

@@ -6,7 +6,7 @@
 -- are the same; and where no two are the same they do. The name of an arrival, if there is one, stands where halving
 -- finds the first that is not ahead of it. So no cell is named twice exactly where the names that were found stand
 -- strictly in order: order changes nothing of which names are the same.
-use Rattle.cq_resume.proofs.Terms.{rules, arith, ◌≡◌, ℕ, ◌+◌, ◌<◌, ◌≤◌, ◌↔◌, List, [], ◌∷◌, ◌++◌, length, get_or, map, take, refl, ⊎_elim, subst, None, Some, Bool, common_steps, All, filter_map, Option, IsSome, AllByRecursion, AllPairs, AllZip, take_all, take_more, All-from_recursion, recursion_from_All, cases_Bool, lt-ltb, ltb-true, Arrival, Queued, AreGone, AreFound, IsTold, names_of, told_of, IsGone, arriving_cell, key_of, named_in, queued_of, Gone, Name, Named, State, IsOfSwitch, IsTraffic, Sent, ◌≢◌, ◌⊎◌, eqb, ltb, true, false, sym, ◌∙◌, Bor, ◌&&◌, ◌||◌, IsPermutation, Called, ComputesKey, Mut, AllAdjacentBelow, IsDistinct, list_any, IsPartitionPoint, IsPartitionedBy, IsSortedByKey, Ordering, is_lt, nat_cmp, ordering_then, and_from, and_left, and_parts, and_right, cases_eq, cases_lt, cases_order, eq-eqb, eqb-true, le-ltb, ne_eqb, or_cases, or_left, or_right, false_from_ne_true, always_returns_same, get_or_default, list_any_at, list_any_none, IsDistinct-IsPermutation, IsDistinct-from_apart, apart_from_distinct, ge_from_not_lt, IsNameBefore, IsNameNotAfter, IsPermutation-sym, AreArrivals, all_has, all_of_has, all_from_has, Has, each_pair, all_pairs, EachPair, StateRefusal}
+use Rattle.cq_resume.proofs.Terms.{rules, arith, ◌≡◌, ℕ, ◌+◌, ◌<◌, ◌≤◌, ◌↔◌, List, [], ◌∷◌, ◌++◌, length, get_or, map, take, refl, subst, None, Some, Bool, common_steps, All, filter_map, Option, IsSome, AllByRecursion, AllPairs, AllZip, take_all, take_more, All-from_recursion, recursion_from_All, cases_Bool, lt-ltb, ltb-true, Arrival, Queued, AreGone, AreFound, IsTold, names_of, told_of, IsGone, arriving_cell, key_of, named_in, queued_of, Gone, Name, Named, State, IsOfSwitch, IsTraffic, Sent, ◌≢◌, ◌⊎◌, eqb, ltb, true, false, sym, Bor, ◌&&◌, ◌||◌, IsPermutation, Called, ComputesKey, Mut, AllAdjacentBelow, IsDistinct, list_any, IsPartitionPoint, IsPartitionedBy, IsSortedByKey, Ordering, is_lt, nat_cmp, ordering_then, and_from, and_left, and_parts, and_right, cases_eq, cases_lt, cases_order, eq-eqb, eqb-true, le-ltb, ne_eqb, or_cases, or_left, or_right, false_from_ne_true, always_returns_same, get_or_default, list_any_at, list_any_none, IsDistinct-IsPermutation, IsDistinct-from_apart, apart_from_distinct, ge_from_not_lt, IsNameBefore, IsNameNotAfter, IsPermutation-sym, AreArrivals, all_has, all_of_has, all_from_has, Has, each_pair, all_pairs, EachPair, StateRefusal}
 use Rattle.cq_resume.specs.Sound.{IsOnlyFor}
 use Rattle.cq_resume.specs.declared.refusal.StateRefusal.TheVariants as refusal
 use Rattle.cq_resume.proofs.Coming.{found_at}
@@ -39,9 +39,7 @@ module _ {A B : Type 0} (R : A → B → Type 0) where
   -- one more of each
   pub zip_more : (xs : List A) (i : ℕ) (d : A) (ys new : List B) (y : B) → i < length xs → AllZip R (take i xs) ys →
       R (get_or xs i d) y → new ≡ ys ++ y ∷ [] → AllZip R (take (i + 1) xs) new
-  zip_more xs i d ys new y inside zips own is =
-      let both = zip_both (take i xs) ys (get_or xs i d ∷ []) (y ∷ []) zips (own, tt) in
-      grind (arith, common_steps, take_more)
+  zip_more xs i d ys new y inside zips own is = grind (arith, common_steps, zip_both, take_more)
 
   pub zip_all : (xs : List A) (i : ℕ) (ys : List B) → length xs ≤ i → AllZip R (take i xs) ys → AllZip R xs ys
   zip_all xs i ys past zips = subst (λ (l : List A). AllZip R l ys) (take_all i xs past) zips
@@ -121,8 +119,7 @@ zip_right R S g give = zip_by R (λ xs ys. AllZip S xs (map g ys)) tt (λ x y xs
 pub names_zip : (came : List Arrival) (s : State) (listed buffered : List Queued) (sent : List Gone) →
     AreFound came s.head.next s.listed listed → AreFound came s.head.next s.buffered buffered →
     AreGone came s.head.next s.sent sent → AllZip (IsOf came s.head.next) (named_in s) (names_of listed buffered sent)
-names_zip came s listed buffered sent first second third =
-    grind (arith, common_steps, zip_right, told_facts, zip_both, s.listed, zip_images)
+names_zip came s listed buffered sent first second third = search (rules, zip_right, told_facts, zip_both, zip_images)
 
 module _ (ports classes : ℕ) (came : List Arrival) (traffic : IsTraffic ports classes came) (next : ℕ) where
   -- the output and the class of a found cell are in range
@@ -218,8 +215,7 @@ ahead_parts input slot names order i j d le inside holds =
 
 any_only : {X : Type 0} (p : X → Bool) (xs : List X) (n : ℕ) (e : X) → n < length xs →
     ((k : ℕ) (d : X) → k < length xs → k ≢ n → p (get_or xs k d) ≡ false) → list_any p xs ≡ p (get_or xs n e)
-any_only p xs n e inside none = ⊎_elim (λ is. list_any_at p xs n e inside is ∙ sym is)
-    (search (arith, rules, list_any_none, cases_eq, get_or_default)) (cases_Bool (p (get_or xs n e)))
+any_only p xs n e inside none = search (rules, list_any_at, list_any_none, cases_eq, get_or_default, cases_Bool)
 
 module _ (input slot : ℕ) (names : List Name) (order : AllPairs IsNameBefore names) (at : ℕ) (few : at ≤ length names)
     (point : IsPartitionPoint (λ n. is_ahead input slot n ≡ true) (λ n. is_ahead input slot n ≡ false) names at) where
@@ -244,8 +240,7 @@ IsApart a b = same_name a b ≡ false
 
 apart_is : (came : List Arrival) (next : ℕ) (c d : Named) (m n : Name) → IsOf came next c m → IsOf came next d n →
     Differ c d ↔ IsApart m n
-apart_is came next c d m n first second =
-    (search (arith, rules, false_from_ne_true, and_parts, eqb-true, and_from, eq-eqb))
+apart_is came next c d m n first second = search (rules, false_from_ne_true, and_parts, eqb-true, and_from, eq-eqb)
 
 -- ## All names
 
