@@ -102,7 +102,8 @@ lines_by_input f (t ∷ lines) a (suc n) same rise all = ⊎_elim (λ (at : t.in
     (later_between a n t.input lines (omega arith) rise.0 all.1) in
     grind (arith, common_steps))
     (λ (other : t.input ≢ a).
-    search (arith, rules, all_weaker, later_between, no_line, lines_by_input f (t ∷ lines) (a + 1) n)) (cases_eq t.input a)
+    search (arith, rules, all_weaker, later_between, no_line, lines_by_input f (t ∷ lines) (a + 1) n))
+    (cases_eq t.input a)
 
 -- ## What is noted of an input
 

@@ -246,5 +246,6 @@ module _ (ms : List Machine) (slot to : ℕ) (ranks rested : RanksView) (q : Que
       (marked l.marks (fabric_of q ranks.states)) (quiet_limited_slots ms count slot ports ranks.states l.marks)
       (marked l.marks (fabric_of q rested.states))
   rested_run ports count many some is again =
-      let run = rested_limited_run l.limits l.marks ms ports count slot (fabric_of q ranks.states) rested.states empty in
+      let run = rested_limited_run l.limits l.marks ms ports count slot (fabric_of q ranks.states) rested.states
+      empty in
       search (arith, rules, stable_limited_run, run)

@@ -118,8 +118,9 @@ module _ (ms : List Machine) (slot class_count : ℕ) (cells : List (Option Cell
       position_or_len (λ x. x.key.slot == r.slot) (input r.arrived i)
       ≡ place_of_arrival (cushion_of f c) c (input f i)
   arrival_place i c came =
-      search
-      (arith, rules, old_sound ms slot class_count cells f g ideal r agrees come step, keyed ms slot class_count cells f g ideal r agrees come step, all_from_has, ne_eqb, position-insert, eq-eqb)
+      let old = old_sound ms slot class_count cells f g ideal r agrees come step in
+      let new = keyed ms slot class_count cells f g ideal r agrees come step in
+      search (arith, rules, old, new, all_from_has, ne_eqb, position-insert, eq-eqb)
 
   pub arrival_at_place : (i : ℕ) (c : Queued) → came_to r.came i ≡ Some c →
       slice_get (input r.arrived i) (place_of_arrival (cushion_of f c) c (input f i)) ≡ Some c

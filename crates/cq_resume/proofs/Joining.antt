@@ -35,8 +35,11 @@ module _ (ms : List Machine) (n : ℕ) (marks : List Bool) where
   kept_quiet : (k : Kept) (count slot : ℕ) (ranks : List (List ℕ)) →
       kept_on k slot (quiet_limited_slots ms count slot n ranks marks) ≡ k
   kept_quiet k count slot ranks =
-      search
-      (rules, quiet_records, quiet_departures, quiet_transfers_of_run, quiet_figures_of_run, append-nil, none_counted, none_refused)
+      let same = quiet_records count slot ranks in
+      let departures = quiet_departures ms n count slot ranks in
+      let transfers = quiet_transfers_of_run ms n count slot ranks in
+      let figures = quiet_figures_of_run ms n count slot ranks k.figures in
+      search (arith, rules, same, departures, transfers, figures, append-nil, none_counted, none_refused)
 
 -- ## From a slot on
 
