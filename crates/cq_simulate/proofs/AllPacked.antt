@@ -94,8 +94,7 @@ module _ (t : Tables) (captures : List (List Captured)) (sent : List Departure) 
 
   pub at_other : {joiner : JoinerView} {packets : List OutPacket} → SoFar t captures sent output k joiner packets →
       d.output ≢ output → SoFar t captures sent output (k + 1) joiner packets
-  at_other {packets = packets} so_far ne =
-      search (arith, rules, next_out, append-nil, cond-false, same_flow)
+  at_other {packets = packets} so_far ne = grind (arith, common_steps, next_out, append-nil, cond-false, same_flow)
 
   module _ (here : d.output ≡ output) where
     own_cell : leaves_in_flow d.queued.cell.id.input d.queued.cell.class output d ≡ true
@@ -136,13 +135,7 @@ module _ (t : Tables) (captures : List (List Captured)) (sent : List Departure) 
       pub went_on : (o : Option OutPacket) {more : List OutPacket} → o ≡ left_with t captures d →
           more ≡ packets ++ listed o → IfSome o (λ p. length p.body ≤ 262144) →
           SoFar t captures sent output (k + 1) joiner_new more
-      went_on o is pushed small = record {
-        inputs = inputs ∙ so_far.inputs;
-        classes = classes ∙ so_far.classes;
-        open_packets = open_next;
-        made = cc (leaves, next_out);
-        small = rw pushed (all_pushed packets o so_far.small small);
-      }
+      went_on o is pushed small = grind (arith, common_steps, open_next, leaves, next_out, all_pushed)
 
 pub at_first : (t : Tables) (captures : List (List Captured)) (sent : List Departure) (output : ℕ) (joiner : JoinerView)
     (packets : List OutPacket) → joiner.inputs ≡ length captures → joiner.classes ≡ length t.setup.classes →

@@ -2,7 +2,7 @@
 -- at any moment of it: so both its matchings are chosen of orders by first cells. After the slot both agree again. So
 -- it is of a run from the empty fabric on, and of one that goes on from a sound state, whichever stable matchings may
 -- be chosen; and after the arrivals of each slot no slack is below 0.
-use Rattle.cq_simulate.proofs.Terms.{rules, ◌≡◌, ℕ, ◌+◌, List, [], ◌∷◌, length, refl, arith, take_all, Option, Arrival, IsTraffic, traffic_is, schedule_of, Cell, Machine, Marked, empty_limited, first_slots, arriving_from, IdealState, AreForPorts, admission_for_ports, agrees_of, after_sent, arrived, orders_are, same_limited_slot, slots_fit, Fabric, ideal_of, LimitedFabricRun, LimitedFabricSlot, LimitedRecord, empty_limited_fabric, Partners, IsInputBest, IsStable, Captured, IsResumed, Kept, Switch, switch_of, Taken, AreTables, classes_of, ports_of, openings_of, Tables, AlwaysHasSlack, AreChosen, AreInputBest, CanBeTakenUp, GoesOn, each_run, fabric_in, marked_in, Orders, IsParted}
+use Rattle.cq_simulate.proofs.Terms.{common_steps, rules, ◌≡◌, ℕ, ◌+◌, List, [], ◌∷◌, length, refl, arith, take_all, Option, Arrival, IsTraffic, traffic_is, schedule_of, Cell, Machine, Marked, empty_limited, first_slots, arriving_from, IdealState, AreForPorts, admission_for_ports, agrees_of, after_sent, arrived, orders_are, same_limited_slot, slots_fit, Fabric, ideal_of, LimitedFabricRun, LimitedFabricSlot, LimitedRecord, empty_limited_fabric, Partners, IsInputBest, IsStable, Captured, IsResumed, Kept, Switch, switch_of, Taken, AreTables, classes_of, ports_of, openings_of, Tables, AlwaysHasSlack, AreChosen, AreInputBest, CanBeTakenUp, GoesOn, each_run, fabric_in, marked_in, Orders, IsParted}
 use Rattle.cq_laws.proofs.LimitedWhole.{Stands, begin, limited_run_slack}
 use Rattle.cq_simulate.proofs.TakenUp.{goes_of, machines_many}
 
@@ -63,12 +63,10 @@ module _ (t : Tables) (captures : List (List Captured)) (are : AreTables t)
   -- its first slots
   module _ (slots : ℕ) (at : Taken) (parted : IsParted w (openings_of t.setup) slots at) where
     pub parted_best : AreInputBest parted.records
-    parted_best = first_chosen IsInputBest (λ o m h. h.stable) w.limits w.machines (classes_of t.setup) w.came
-        (length w.machines) (openings_of t.setup) slots parted.records _ traffic_there parted.runs
+    parted_best = grind (arith, common_steps, first_chosen, traffic_there)
 
     pub parted_slack : AlwaysHasSlack parted.records
-    parted_slack = first_slack IsInputBest (λ o m h. h.stable) w.limits w.machines (classes_of t.setup) w.came
-        (length w.machines) (openings_of t.setup) slots parted.records _ traffic_there parted.runs
+    parted_slack = grind (arith, common_steps, first_slack, traffic_there)
 
   -- and those from a state that was taken up
   module _ (from : Taken) (kept : Kept) (up : CanBeTakenUp w from) (resumed : IsResumed w from kept) where

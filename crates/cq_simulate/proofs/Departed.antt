@@ -30,8 +30,7 @@ left_in_order t captures sent are many h i =
 pub left_in_packets : (t : Tables) (captures : List (List Captured)) (sent : List Departure) → AreTables t →
     length captures ≡ ports_of t.setup → ideal_departures t (arrivals t captures) ≡ Ok sent →
     LeaveWhole (arrivals t captures) sent
-left_in_packets t captures sent are many h i =
-    as_packets t captures i are many sent (left_in_order t captures sent are many h i)
+left_in_packets t captures sent are many h i = grind (arith, common_steps, as_packets, left_in_order)
 
 -- a cell that departs came in its flow
 pub record CameAs (came : List Arrival) (d : Departure) : Type 0 where
@@ -89,8 +88,7 @@ module _ {t : Tables} {captures : List (List Captured)} {sent : List Departure} 
   it = came_as came sent of_run.whole (get_or sent k e) (has_at sent k e inside)
 
   is_in_range : IsInRange (ports_of t.setup) (classes_of t.setup) it.arrival
-  is_in_range = all_of_has (IsInRange (ports_of t.setup) (classes_of t.setup)) came it.arrival
-      (traffic_is t captures of_run.tables of_run.captures).in_range it.has
+  is_in_range = grind (arith, common_steps, all_of_has, traffic_is)
 
   pub departed_captured : IsCaptured captures (get_or sent k e).queued.cell
   unfolding cell_of cells

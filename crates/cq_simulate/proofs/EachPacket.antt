@@ -249,8 +249,7 @@ module _ (t : Tables) (captures : List (List Captured)) (tables : AreTables t)
 
   -- each cell is for the output of its packet
   keep_output : KeepTheirOutput came
-  keep_output i j d before inside same_input same_packet =
-      grind (arith, common_steps, IsOfPacket, All-from_recursion, all_of_packets)
+  keep_output i j d before inside same_input same_packet = search (rules, All-from_recursion, all_of_packets)
 
   module _ (ran : LimitedRan) (is : ran_ideal t came ≡ Ok ran) where
     abbrev sent : List Departure

@@ -47,8 +47,7 @@ module _ (t : Tables) (came : List Arrival) where
     as_many_slots = stable_slots t came rs is.end traffic stable
 
     pub best_in_each : AreInputBest rs
-    best_in_each = first_chosen IsInputBest (λ o m h. h.stable) t.limits ms (classes_of t.setup) came
-        (ports_of t.setup) (openings_of t.setup) (length rs) rs is.end traffic (runs rs is)
+    best_in_each = grind (arith, common_steps, first_chosen, runs)
 
     pub slot_by_slot : SendsSlotBySlot t came rs
     unfolding ran_ideal

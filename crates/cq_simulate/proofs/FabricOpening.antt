@@ -22,8 +22,7 @@ module _ {t : Tables} {came : List Arrival} {first : IdealSwitch} (fresh : IsIde
       departures_limited (limited_run first.limits (map machine_from first.fixed) 0 (traffic_of came)
       (marked_state first)) ≡ ideal_departures t came
   unfolding ideal_departures ran_ideal
-  run_of_tables =
-      rw fresh.fresh (search (arith, rules, limited_same_sent))
+  run_of_tables = grind (arith, common_steps, limited_same_sent)
 
   pub ready_ideal : (sent : RoomView Departure) → IsSetup t.setup →
       IsTraffic (ports_of t.setup) (classes_of t.setup) came → IsShort came → sent.items ≡ [] →
@@ -71,8 +70,7 @@ pub ideal_is_for : (t : Tables) (came : List Arrival) (ranks : List Discipline) 
     rooms ≡ by_port is_to t came → limits ≡ t.limits →
     ideal ≡ fresh_ideal (length ranks) (map fixed_of ranks) (map state_of ranks) limits rooms →
     IsIdealFor t came ideal
-ideal_is_for t came ranks ideal machines openings classes to same is =
-    let many = ranks_many t ranks machines in grind (arith, common_steps)
+ideal_is_for t came ranks ideal machines openings classes to same is = grind (arith, common_steps, ranks_many)
 
 -- ## A fresh engine
 

@@ -14,8 +14,7 @@ use Rattle.cq_simulate.proofs.FabricCounts.{at_inputs, cross_few, none_proposed,
 
 find_kept : (s t k : ℕ) → s ≤ t → (came : List Arrival) → find (is_at t k) (to_come s came) ≡ find (is_at t k) came
 find_kept s t k le [] = refl
-find_kept s t k le (a ∷ came) =
-    grind (arith, common_steps, leb-false, ne_eqb, and_left, find_kept s t k le came)
+find_kept s t k le (a ∷ came) = grind (arith, common_steps, leb-false, ne_eqb, and_left, find_kept s t k le came)
 
 at_kept : (s t k : ℕ) → s ≤ t → (came : List Arrival) → arriving_at (to_come s came) t k ≡ arriving_at came t k
 at_kept s t k le came = grind (arith, common_steps, find_kept)
@@ -384,22 +383,7 @@ module _ {whole : Bool} {ms : List Machine} {came : List Arrival} {first : Engin
       after.figures ≡ now.figures → after.next ≡ slot + k → after.stopped ≡ false → after.refused ≡ now.refused →
       IsMadeAs now after → Crossing whole ms came first first_sent first_note (slot + k) n after sent note
   crossing_rest zero slot n m ranks marks now after left c quiet more ran figures next running refused made =
-      let there : slot ≡ slot + 0 = omega arith in
-      let is_next : now.next ≡ after.next = c.next ∙ there ∙ sym next in
-      let fabric : marked_fabric now ≡ marked_fabric after = sym ran in
-      let same : now ≡ after = λ e. record {
-        fixed = sym made.fixed e;
-        limits = sym made.limits e;
-        fabric = (fabric e).state;
-        marks = (fabric e).marks;
-        refused = sym refused e;
-        from_inputs = sym made.from_inputs e;
-        to_outputs = sym made.to_outputs e;
-        figures = sym figures e;
-        next = is_next e;
-        stopped = (c.went.running ∙ sym running) e;
-      } in
-      let count : m ≡ n = omega arith in rw (there, count, same) at c
+      grind (arith, common_steps)
   crossing_rest (suc k) slot n m ranks marks now after left c quiet more ran figures next running refused made =
       let r : LimitedRecord = quiet_limited_slot ms slot ports ranks marks in
       let leave : departures_in slot r.of_slot.gone ≡ [] = quiet_gone ms slot ports ranks in

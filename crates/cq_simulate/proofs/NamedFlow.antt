@@ -124,17 +124,13 @@ late_only : (next : ℕ) (line : List Arrival) → AllByRecursion (λ a. next �
     (early_of next line ≡ []) × (rest_of next line ≡ line)
 late_only next [] late = (refl, refl)
 late_only next (a ∷ line) late =
-    let rest = late_only next line late.1 in
-    (grind (arith, common_steps, cond-false, le-ltb), search (rules, cond-true, is_from_on, rest_of, le-ltb))
+    grind (arith, common_steps, cond-false, le-ltb, cond-true, is_from_on, rest_of, late_only next line late.1)
 
 pub parted_at : (next : ℕ) (line : List Arrival) → EachPair IsEarlier line →
     line ≡ early_of next line ++ rest_of next line
 parted_at next [] rising = refl
-parted_at next (a ∷ line) rising = ⊎_elim (λ early.
-    let rest = parted_at next line rising.1 in grind (arith, common_steps, lt-ltb)) (λ late.
-    let all = all_weaker (λ (b : Arrival). a.slot < b.slot) (λ (b : Arrival). next ≤ b.slot) (λ b l. omega arith) line
-    rising.0 in
-    let only = late_only next line all in grind (arith, common_steps, le-ltb)) (cases_lt a.slot next)
+parted_at next (a ∷ line) rising =
+    search (rules, lt-ltb, all_weaker, late_only, le-ltb, cases_lt, parted_at next line rising.1)
 
 -- ## By number
 
@@ -149,8 +145,7 @@ module _ (named : Arrival → Bool) (taken : ℕ → Bool) where
       Has line b → named_or_taken line (packet b) ≡ named b
   unfolding named_or_taken
   as_named [] alike b has = absurd has
-  as_named (a ∷ line) alike b has =
-      grind (arith, common_steps, packet, cond-true, eq-eqb, cond-false, ne_eqb, cases_eq, as_named line)
+  as_named (a ∷ line) alike b has = search (rules, cond-true, eq-eqb, cond-false, ne_eqb, cases_eq, as_named line)
 
   pub as_taken : (line : List Arrival) (p : ℕ) →
       ((a : Arrival) → Has line a → packet a ≡ p → named a ≡ taken p) → named_or_taken line p ≡ taken p
@@ -384,10 +379,7 @@ module _ (w : Switch) (s : State) (in_range : IsInRange s) (shape : HasShape w s
     was_sent q has = grind (arith, common_steps, image_has, kept_has, looked_up, sent_in_flow)
 
     waits : (q : Queued) → Has waiting q → (n : Named) × Has (queued_in s) n × InFlow n q
-    waits q has =
-        let kept = kept_has (is_kind i c) there q has in
-        let it = waits_there q kept.0 in
-        (it.name, it.has, record { is = it.is; output = it.output; kind = kept.1 })
+    waits q has = search (rules, kept_has, is_kind, waits_there)
 
     -- what its name is
     record NameInFlow (n : Named) : Type 0 where
@@ -506,10 +498,7 @@ module _ (w : Switch) (s : State) (in_range : IsInRange s) (shape : HasShape w s
         search (arith, rules, Has, and_from, q.cell.output, is_kind, eq-eqb, any_has, n.slot, n.input)
 
     to_told : (x : Arrival) → IsOne x → Has told x
-    to_told x one =
-        let tests = and_parts (x.cell.output == j) (x.cell.id.input == i && x.cell.class == c) one.flow in
-        let kind = and_parts (x.cell.id.input == i) (x.cell.class == c) tests.1 in
-        search (arith, rules, has_kept, lt-ltb)
+    to_told x one = search (rules, and_parts, x.cell.output, x.cell.id.input, x.cell.class, has_kept, lt-ltb)
 
     from_told : (x : Arrival) → Has told x → IsOne x
     from_told x has = grind (arith, common_steps, kept_has, early_of, line_at, is_early, ltb-true)
@@ -547,8 +536,7 @@ module _ (w : Switch) (s : State) (in_range : IsInRange s) (shape : HasShape w s
         (and_from (q.cell.output == j) (is_kind i c q) (eq-eqb q.cell.output j of.output) of.kind))
 
     among_waiting : (n : Named) (q : Queued) → InFlow n q → HasFor f j q → Has waiting q
-    among_waiting n q of stands =
-        has_kept (is_kind i c) there q ((agrees.same j q).1 stands) of.kind
+    among_waiting n q of stands = grind (arith, common_steps, has_kept, is_kind)
 
     among_listed : (n : Named) (q : Queued) → InFlow n q → Has s.listed n → Has waiting q
     among_listed n q of has =
@@ -594,10 +582,7 @@ module _ (w : Switch) (s : State) (in_range : IsInRange s) (shape : HasShape w s
 
     -- what was sent of the flow, and then what waits of it
     pub told_flow : left_in_flow i c j (sent_told w.came s) ++ shown i c there ≡ cells_of told
-    told_flow =
-        let same = same_pairs IsEarlier (λ x y one two. omega arith) (map as_arrival (gone ++ waiting)) told told_rise
-        told_rises has_told is_there in
-        search (rules, both_cells, cells_of, same)
+    told_flow = search (rules, same_pairs, told_rise, told_rises, has_told, is_there, both_cells, cells_of)
 
   -- ## How they stand
 

@@ -1,7 +1,7 @@
 -- What arrives at an input are its packets, one after another, each from its first cell to its last. Cell 0 of a
 -- packet is its first cell and no other is, and the next packet has the next number. At what is no input nothing
 -- arrives.
-use Rattle.cq_simulate.proofs.Terms.{common_steps, rules, cond, filter, filter-append, Bool, ◌≡◌, ℕ, zero, suc, ◌+◌, ◌<◌, ◌≤◌, List, [], ◌∷◌, ◌++◌, length, map, refl, inr, arith, flat_map, range_with_len, cases_lt, ne_eqb, Arrival, arriving, enough, traffic_of, Cell, cells_above, at_input, traffic_is, arrivals, arrivals_at, arrivals_of, cell_of, cells, packet_at, packets_of, IsTraffic, come_in_order, AreOfPackets, cells_at, Captured, AreTables, ports_of, Tables, arrivals_for, map-append}
+use Rattle.cq_simulate.proofs.Terms.{common_steps, rules, cond, filter, filter-append, Bool, ◌≡◌, ℕ, zero, suc, ◌+◌, ◌<◌, ◌≤◌, List, [], ◌∷◌, ◌++◌, length, map, refl, inr, arith, flat_map, range_with_len, cases_lt, ne_eqb, Arrival, arriving, enough, traffic_of, Cell, cells_above, at_input, traffic_is, arrivals, arrivals_at, arrivals_of, cell_of, cells, IsTraffic, come_in_order, AreOfPackets, cells_at, Captured, AreTables, ports_of, Tables, arrivals_for, map-append}
 use Rattle.std.proofs.lemmas.Simd.{map-map}
 use Rattle.cq_simulate.proofs.Runnable.{later_rise}
 
@@ -32,8 +32,7 @@ module _ (t : Tables) (captures : List (List Captured)) (input : ℕ) where
   packets : (k n : ℕ) → AreOfPackets k (flat_map packet_cells (range_with_len k n))
   unfolding cells
   packets k zero = tt
-  packets k (suc n) = one_packet k (cells t captures input k) (flat_map packet_cells (range_with_len (k + 1) n))
-      (cells_above (length (packet_at captures input k).body) t.cell_bytes) (packets (k + 1) n)
+  packets k (suc n) = grind (arith, common_steps, one_packet, cells_above, packets (k + 1) n)
 
   -- some packets, as they arrive
   pub line_cells : (ks : List ℕ) →
@@ -51,8 +50,7 @@ module _ (t : Tables) (captures : List (List Captured)) (input : ℕ) where
 
   at_line : AreOfPackets 0 (map (λ (x : Arrival). x.cell) (arrivals_at t captures input))
   unfolding arrivals_at
-  at_line =
-      let many = length (packets_of captures input) in rw (line_cells (range_with_len 0 many)) (packets 0 many)
+  at_line = grind (arith, common_steps, line_cells, packets)
 
 pub of_packets : (t : Tables) (captures : List (List Captured)) (input : ℕ) → AreTables t →
     length captures ≡ ports_of t.setup → input < length captures →

@@ -2,7 +2,7 @@
 -- output has sent no more cells than the number of that slot, and no more than the slots so far: a slot in which it
 -- sends adds one cell, and then the slots are one more than the number of that slot. What was counted before goes on
 -- so, and before the first slot nothing was counted.
-use Rattle.cq_simulate.proofs.Terms.{common_steps, rules, ◌≡◌, ℕ, zero, suc, ◌+◌, ◌≤◌, Bool, false, cond, List, [], ◌∷◌, map, Option, None, refl, arith, All, All-from_recursion, max, fold, is_some, slice_index_or, AllByRecursion, enumerate_from, list_any, cond_both, subst, sym, Cell, Queued, Figures, Marked, Machine, IsInputBest, Fabric, SlotRecord, FabricRun, LimitedFabricRun, LimitedRecord, slots_in, recorded, sends, output_after, figures_after, figures_of, OutputFigures, figures_fold, no_figures}
+use Rattle.cq_simulate.proofs.Terms.{common_steps, rules, ◌≡◌, ℕ, zero, suc, ◌+◌, ◌≤◌, Bool, false, cond, List, [], ◌∷◌, map, Option, None, refl, arith, All, All-from_recursion, max, fold, is_some, slice_index_or, AllByRecursion, enumerate_from, list_any, cond_both, Cell, Queued, Figures, Marked, Machine, IsInputBest, Fabric, SlotRecord, FabricRun, LimitedFabricRun, LimitedRecord, slots_in, recorded, sends, output_after, figures_after, figures_of, OutputFigures, figures_fold, no_figures}
 
 -- ## The records of a run
 
@@ -33,8 +33,7 @@ run_numbered ms slot (cells ∷ traffic) f g (r ∷ rs) run =
 pub limited_numbered : (limits : List (Option ℕ)) (ms : List Machine) (slot : ℕ) (traffic : List (List (Option Cell)))
     (f g : Marked Fabric) (rs : List LimitedRecord) → LimitedFabricRun IsInputBest limits ms slot traffic f rs g →
     AreNumbered slot (slots_in rs)
-limited_numbered limits ms slot traffic f g rs run = run_numbered ms slot _ f.state g.state (slots_in rs)
-    (recorded IsInputBest limits ms slot traffic f g rs run)
+limited_numbered limits ms slot traffic f g rs run = grind (arith, common_steps, run_numbered, recorded)
 
 -- ## What was counted before
 
@@ -73,7 +72,4 @@ pub once_a_slot : (ms : List Machine) (traffic : List (List (Option Cell))) (f g
     (ports : ℕ) → FabricRun IsInputBest ms 0 traffic f rs g → All (λ x. x.cells ≤ (figures_of ports rs).slots)
     (figures_of ports rs).outputs
 once_a_slot ms traffic f g rs ports run =
-    let counted = counts_on 0 rs (no_figures ports) (run_numbered ms 0 traffic f g rs run)
-    (record { slots = omega arith; each = none_yet ports }) in
-    subst (λ (x : Figures). All (λ y. y.cells ≤ x.slots) x.outputs) (sym (figures_fold ports rs))
-    (All-from_recursion _ _ counted)
+    grind (arith, common_steps, counts_on, run_numbered, none_yet, figures_fold, All-from_recursion)

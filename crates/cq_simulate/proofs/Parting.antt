@@ -1,7 +1,7 @@
 -- What a run of a fabric that is made for tables says of the tables. A run that goes on from where a run was taken up:
 -- what it kept, or the tag fault at which it stops. And a run up to a slot: the state in which it stands still, with
 -- what was kept, or the tag fault at which it stops.
-use Rattle.cq_simulate.proofs.Terms.{common_steps, ◌≡◌, ◌-◌, ℕ, length, map, ap, arith, subst, RoomView, Departure, TagFault, Transfer, arriving_from, Scheduled, EngineView, frozen_of, switch_of, Tables, GoesOnFrom, machine_from, openings_of, HasPartedTo, StopsWithin, HasKept, IsRefusalOn, IsPartFault, IsResumeFault, kept_of, IsResumed, Taken, unpacked_run, PackedFabricRun, RunRefusal, Frozen, IsParted, Stops, marked_in}
+use Rattle.cq_simulate.proofs.Terms.{common_steps, ◌≡◌, ◌-◌, ℕ, length, map, ap, arith, subst, RoomView, Departure, TagFault, Transfer, Scheduled, EngineView, frozen_of, switch_of, Tables, GoesOnFrom, machine_from, openings_of, HasPartedTo, StopsWithin, HasKept, IsRefusalOn, IsPartFault, IsResumeFault, kept_of, IsResumed, Taken, unpacked_run, PackedFabricRun, RunRefusal, Frozen, IsParted}
 use Rattle.cq_simulate.proofs.FabricOpening.{IsMade, begins, resumes}
 use Rattle.cq_simulate.proofs.TakenUp.{machines_many}
 use Rattle.cq_simulate.specs.declared.refusal.RunRefusal.TheVariants as refusal
@@ -24,12 +24,7 @@ module _ (t : Tables) (s : Scheduled) (first : EngineView) (taken : Taken)
 
   pub resumed_fault : (why : RunRefusal) → IsRefusalOn (map machine_from first.fixed) s.came first why →
       IsResumeFault (switch_of t s) taken why
-  resumed_fault (refusal.Tag fault) stop = record {
-    count = stop.count;
-    records = stop.stops.records;
-    stops = subst (λ (x : Frozen). Stops (switch_of t s) x.next (arriving_from s.came x.next stop.count) (marked_in x)
-        stop.stops.records fault) stood (rw (limits, is.machines) at stop.stops.stops);
-  }
+  resumed_fault (refusal.Tag fault) stop = grind (arith, common_steps, stood, limits)
   resumed_fault refusal.NoMemory stop = tt
 
 module _ (t : Tables) (s : Scheduled) {first : EngineView} {first_sent : RoomView Departure}
@@ -57,7 +52,4 @@ module _ (t : Tables) (s : Scheduled) {first : EngineView} {first_sent : RoomVie
   pub part_fault : (slots : ℕ) (fault : TagFault) →
       StopsWithin (map machine_from first.fixed) s.came first (slots - first.next) fault →
       IsPartFault (switch_of t s) (openings_of t.setup) slots (refusal.Tag fault)
-  part_fault slots fault stop =
-      let from_fresh = rw made.fresh.fresh at stop in
-      let all : slots - 0 ≡ slots = omega arith in
-      (from_fresh.records, rw (machines_many t) (rw (made.fresh.machines, all) at from_fresh.stops))
+  part_fault slots fault stop = grind (arith, common_steps, machines_many)

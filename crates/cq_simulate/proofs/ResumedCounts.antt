@@ -25,8 +25,7 @@ module _ (came : List Arrival) where
   from_next : (j : ℕ) (d : Sent) → output_of came d.cell ≡ j → (xs : List Sent) →
       AllByRecursion (IsSentBefore came d) xs → AllByRecursion (From j (d.slot + 1)) xs
   from_next j d here [] h = tt
-  from_next j d here (y ∷ xs) h =
-      (λ x e at. let slot : x.slot ≡ y.slot = (fields y x e).0 in omega (arith, fields), from_next j d here xs h.1)
+  from_next j d here (y ∷ xs) h = grind (arith, common_steps, fields, from_next j d here xs h.1)
 
   from_first : (j : ℕ) (xs : List Sent) → AllByRecursion (From j 0) xs
   from_first j [] = tt
@@ -39,8 +38,7 @@ module _ (came : List Arrival) where
   few_from : (j : ℕ) (xs : List Sent) → EachPair (IsSentBefore came) xs → (slot : ℕ) → AllByRecursion (From j slot) xs →
       length (sent_by (told xs) j) + slot ≤ max slot (slots_of (told xs))
   few_from j [] pairs slot from = let none : 0 + slot ≤ max slot 0 = omega arith in none
-  few_from j (d ∷ xs) pairs slot from =
-      grind (arith, common_steps, fields, cond_both, eqb-true, from_next, few_from j xs pairs.1)
+  few_from j (d ∷ xs) pairs slot from = search (rules, fields, cond_both, eqb-true, from_next, few_from j xs pairs.1)
 
   few : (j : ℕ) (xs : List Sent) → AllPairs (IsSentBefore came) xs → length (sent_by (told xs) j) ≤ slots_of (told xs)
   few j xs pairs = omega (arith, few_from j xs (each_pair (IsSentBefore came) xs pairs) 0 (from_first j xs))

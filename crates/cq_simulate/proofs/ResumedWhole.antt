@@ -213,8 +213,7 @@ module _ (t : Tables) (captures : List (List Captured)) (are : AreTables t) (man
 
       left_is : left_in_flow i c j kept.sent ≡ first_left ++ left_in_flow i c j (departures_of next ran.gone)
       unfolding frozen_told
-      left_is =
-          grind (arith, common_steps, filter-append, map-append)
+      left_is = grind (arith, common_steps, filter-append, map-append)
 
       told_first : first_left ++ waits ≡ cells_of told
       told_first = told_flow w s in_range shape sound traffic agrees j i c
@@ -260,5 +259,4 @@ resumed_in_order t captures from kept are many up resumed = grind (arith, common
 pub resumed_whole : (t : Tables) (captures : List (List Captured)) (from : Taken) (kept : Kept) → AreTables t →
     length captures ≡ ports_of t.setup → CanBeTakenUp (switch_of t (schedule_of t captures)) from →
     IsResumed (switch_of t (schedule_of t captures)) from kept → LeaveWhole (arrivals t captures) kept.sent
-resumed_whole t captures from kept are many up resumed i =
-    as_packets t captures i are many kept.sent (resumed_in_order t captures from kept are many up resumed i)
+resumed_whole t captures from kept are many up resumed i = search (rules, as_packets, resumed_in_order)

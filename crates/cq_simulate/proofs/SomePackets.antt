@@ -1,7 +1,7 @@
 -- What arrives of a flow are the cells of its packets, one packet after another. So where some packets are taken of it,
 -- with all their cells, what is taken are the cells of a list of packets. The numbers of the packets rise: those that
 -- equal one of them are that one alone.
-use Rattle.cq_simulate.proofs.Terms.{common_steps, ◌≡◌, ℕ, zero, suc, ◌+◌, ◌<◌, ◌≤◌, Bool, true, List, [], ◌∷◌, length, map, flat_map, filter, range_with_len, refl, sym, ap, ◌∙◌, arith, AllByRecursion, cases_lt, ⊎_elim, ne_eqb, eq-eqb, flat_map-append, ◌&&◌, ◌==◌, Arrival, Cell, Departure, arrivals, arrivals_at, at_input, traffic_is, cell_of, came_in_flow, is_from, packet_at, packets_of, route, Captured, AreTables, classes_of, ports_of, Tables, LeftInOrder, LeftInPackets, of_packet}
+use Rattle.cq_simulate.proofs.Terms.{rules, common_steps, ◌≡◌, ℕ, zero, suc, ◌+◌, ◌<◌, ◌≤◌, Bool, true, List, [], ◌∷◌, length, map, flat_map, filter, range_with_len, refl, sym, ap, ◌∙◌, arith, AllByRecursion, cases_lt, ne_eqb, eq-eqb, flat_map-append, ◌&&◌, ◌==◌, Arrival, Cell, Departure, arrivals, arrivals_at, at_input, traffic_is, cell_of, came_in_flow, is_from, packet_at, packets_of, route, Captured, AreTables, ports_of, Tables, LeftInOrder, LeftInPackets, of_packet}
 use Rattle.std.proofs.lemmas.List.{get_or_past}
 use Rattle.cq_cells.specs.Traffic.{IsInRange}
 use Rattle.cq_simulate.proofs.OfPackets.{by_packet, line_cells, packet_cells}
@@ -39,17 +39,14 @@ module _ (t : Tables) (captures : List (List Captured)) (input : ℕ) where
       ≡ flat_map (packet_cells t captures input) (flat_map (λ k. filter (λ g. g == k) gs) ks)
   unfolding cell_of
   parts_of gs [] = refl
-  parts_of gs (k ∷ ks) =
-      let here = by_packet t captures input (λ (cell : Cell). cell.id.packet == k) (λ g. g == k) (λ g m. refl) gs in
-      grind (arith, common_steps, flat_map-append, parts_of gs ks)
+  parts_of gs (k ∷ ks) = grind (arith, common_steps, by_packet, flat_map-append, parts_of gs ks)
 
   -- none comes to what is no input
   pub none_from : (ports classes : ℕ) (came : List Arrival) → AllByRecursion (IsInRange ports classes) came →
       ports ≤ input →
       filter (is_from input) came ≡ []
   none_from ports classes [] all past = refl
-  none_from ports classes (a ∷ came) all past =
-      let below = all.0.input in grind (arith, common_steps, ne_eqb, none_from ports classes came all.1 past)
+  none_from ports classes (a ∷ came) all past = search (rules, ne_eqb, none_from ports classes came all.1 past)
 
   -- of the cells that come to the input those of a flow
   abbrev in_flow : ℕ → ℕ → Cell → Bool
@@ -64,21 +61,12 @@ module _ (t : Tables) (captures : List (List Captured)) (input : ℕ) where
   module _ (are : AreTables t) (many : length captures ≡ ports_of t.setup) where
     comes : filter (is_from input) (arrivals t captures) ≡ arrivals_at t captures input
     unfolding arrivals_at
-    comes = ⊎_elim (λ (inside : input < length captures). at_input t captures input inside)
-        (λ (past : length captures ≤ input).
-        let none = none_from (ports_of t.setup) (classes_of t.setup) (arrivals t captures)
-        (traffic_is t captures are many).in_range (omega arith) in
-        let empty = get_or_past captures input [] past in rw empty none) (cases_lt input (length captures))
+    comes = grind (arith, common_steps, at_input, none_from, traffic_is, get_or_past, cases_lt)
 
     pub flow_is : (c j : ℕ) → came_in_flow input c j (arrivals t captures)
         ≡ flat_map (packet_cells t captures input) (packets_in c j)
     unfolding arrivals_at cell_of
-    flow_is c j =
-        let ks = range_with_len 0 (length (packets_of captures input)) in
-        flow_in_line c j (arrivals t captures)
-        ∙ ap (λ (l : List Arrival). filter (in_flow c j) (map (λ (a : Arrival). a.cell) l)) comes
-        ∙ ap (filter (in_flow c j)) (line_cells t captures input ks)
-        ∙ by_packet t captures input (in_flow c j) (goes_in c j) (λ k m. refl) ks
+    flow_is c j = grind (arith, common_steps, flow_in_line, comes, line_cells, by_packet)
 
     -- so packets that are taken from those that come are a list of packets
     pub as_packets : (sent : List Departure) → LeftInOrder (arrivals t captures) input sent →

@@ -38,9 +38,7 @@ module _ (t : Tables) (came : List Arrival) (rs : List LimitedRecord) (end : Mar
   runs = run_of_whole _ came _ rs (λ f. IsEmptyFabric f.state) end whole
 
   pub all_stable : AreStable rs
-  all_stable = first_chosen IsStable (λ o m h. h) t.limits (machines_of t.setup) (classes_of t.setup) came
-      (ports_of t.setup) (openings_of t.setup) (length rs) rs end traffic runs
+  all_stable = grind (arith, common_steps, first_chosen, runs)
 
   pub stable_slack : AlwaysHasSlack rs
-  stable_slack = first_slack IsStable (λ o m h. h) t.limits (machines_of t.setup) (classes_of t.setup) came
-      (ports_of t.setup) (openings_of t.setup) (length rs) rs end traffic runs
+  stable_slack = grind (arith, common_steps, first_slack, runs)

@@ -130,34 +130,11 @@ pub running_first : (ms : List Machine) (came : List Arrival) (first : IdealSwit
     (first_sent : RoomView Departure) → IsReady ms came first first_sent →
     Running ms came first first_sent 0 (enough came) first first_sent
 running_first ms came first first_sent ready =
-    let nil : List Queued = [] in
-    let lists : first.state.lists ≡ replicate (length first.fixed) nil =
-    ap (λ (s : IdealState). s.lists) ready.state in
-    let none : waiting first.state.lists ≡ 0 = ap waiting lists ∙ waiting-empty (length first.fixed) in
-    let come : come_count (arriving_from came 0 (enough came)) ≤ length came =
-    rw (all_slots came) (come_count-traffic_of came) in
-    let are = enough_are came in
-    record {
-      left = omega arith;
-      running = ready.running;
-      next = ready.next;
-      same = record { fixed = refl; limits = refl; rooms = refl };
-      whole = rw ready.nothing (grind (arith, common_steps));
-      lost = [];
-      refused = ready.refused;
-      ports = ap length lists ∙ length-replicate (length first.fixed) nil;
-      each = λ j inside.
-          let empty : length (slice_index_or first.state.lists j nil) ≡ 0 =
-          ap (λ (l : List (List Queued)). length (slice_index_or l j nil)) lists
-          ∙ ap length (get_or-replicate (length first.fixed) j nil nil inside) in
-          let to : come_for j (arriving_from came 0 (enough came)) ≤ number_of (is_to j) came =
-          rw (all_slots came) (come_for-traffic_of j came) in
-          omega arith;
-      spare = omega arith;
-      few = omega arith;
-      many = omega arith;
-      early = let e : slots_of first_sent.items ≡ 0 = ap slots_of ready.nothing in omega arith;
-    }
+    let all = come_count-traffic_of came in
+    let each = λ (j : ℕ). come_for-traffic_of j came in
+    let none = waiting-empty (length first.fixed) in
+    let slots = all_slots came in
+    grind (arith, common_steps, waiting, come_count, come_for, enough_are, length-replicate, get_or-replicate)
 
 pub come_here : (came : List Arrival) (slot n : ℕ) →
     come_count (arriving_from came slot (suc n)) ≡ length (present (arriving came slot)) + come_count

@@ -1,8 +1,7 @@
 -- A fabric can go on from where it stands, whether it is fresh or was taken up. What waits in it came before the slot
 -- that it stands at, and what is to come comes from that slot on, so both together are no more than what comes in all:
 -- at each input, for each output, and of all cells.
-use Rattle.cq_simulate.proofs.Terms.{nat_lt, length-filter_both, ◌≡◌, ℕ, zero, suc, ◌+◌, ◌-◌, ◌*◌, ◌≤◌, ◌<◌, ◌^◌, Bool, false, List, [], ◌∷◌, length, map, replicate, Option, refl, sym, ap, ◌∙◌, arith, rules, common_steps, ◌==◌, All, sum, flat_map, range_with_len, slice_index, cases_lt, le-leb, le-ltb, lt-leb, lt-ltb, ne_eqb, length-map, length-replicate, get_or-map-range_with_len, sum_by-cons, Arrival, RoomView, Departure, Queued, Transfer, IsTraffic, is_from, is_to, number_of, Scheduled, Setup, CanGoOn, EngineView, fresh_engine, thawed_engine, total, total_more, total_none, zero_fits, Fabric, input, fabric_held, held_for, waiting_for, empty_agree, empty_list, Machine, class_count, GoesOn, came_before, goes_on, switch_of, Taken, classes_of, ports_of, Tables, fixed_of, machine_from, machine_of, machines_of, ArePortsFor, GoesOnFrom, IsReadyOn, to_come, CanBeTakenUp, IsScheduleFor, Ports, All-from_recursion, IsSoundFabric}
-use Rattle.std.specs.Prelude.{nat_le}
+use Rattle.cq_simulate.proofs.Terms.{length-filter_both, ◌≡◌, ℕ, zero, suc, ◌+◌, ◌-◌, ◌*◌, ◌≤◌, ◌<◌, ◌^◌, Bool, false, List, [], ◌∷◌, length, map, replicate, Option, refl, sym, ap, ◌∙◌, arith, rules, common_steps, ◌==◌, All, sum, flat_map, range_with_len, slice_index, cases_lt, le-leb, le-ltb, lt-leb, lt-ltb, ne_eqb, length-map, length-replicate, get_or-map-range_with_len, sum_by-cons, Arrival, RoomView, Departure, Queued, Transfer, IsTraffic, is_from, is_to, number_of, Scheduled, Setup, CanGoOn, EngineView, fresh_engine, thawed_engine, total, total_more, total_none, zero_fits, Fabric, input, fabric_held, held_for, waiting_for, empty_agree, empty_list, Machine, class_count, GoesOn, came_before, goes_on, switch_of, Taken, classes_of, ports_of, Tables, fixed_of, machine_from, machine_of, machines_of, ArePortsFor, GoesOnFrom, IsReadyOn, to_come, CanBeTakenUp, IsScheduleFor, Ports, All-from_recursion, IsSoundFabric}
 use Rattle.cq_simulate.proofs.FabricCounts.{at_inputs, total_most}
 use Rattle.cq_simulate.proofs.FabricSteps.{all_at_inputs}
 use Rattle.cq_simulate.specs.ScheduleFor.{by_port}
@@ -13,13 +12,11 @@ use Rattle.cq_simulate.specs.ScheduleFor.{by_port}
 both_parts : (p : Arrival → Bool) (next : ℕ) (came : List Arrival) →
     number_of p (came_before next came) + number_of p (to_come next came) ≡ number_of p came
 both_parts p next [] = refl
-both_parts p next (a ∷ came) =
-    grind (arith, common_steps, lt-ltb, le-ltb, lt-leb, le-leb, cases_lt, both_parts p next came)
+both_parts p next (a ∷ came) = search (rules, lt-ltb, le-ltb, lt-leb, le-leb, cases_lt, both_parts p next came)
 
 all_parts : (next : ℕ) (came : List Arrival) →
     length (came_before next came) + length (to_come next came) ≡ length came
-all_parts next came = length-filter_both (λ a. nat_lt a.slot next) (λ a. nat_le next a.slot)
-    (λ a. grind (arith, common_steps, lt-ltb, le-ltb, lt-leb, le-leb, cases_lt)) came
+all_parts next came = grind (arith, common_steps, length-filter_both, lt-ltb, le-ltb, lt-leb, le-leb, cases_lt)
 
 -- ## Of all inputs, and for all outputs
 

@@ -52,8 +52,7 @@ none_summed f a (suc n) none = grind (arith, common_steps, sum_by-cons, none_sum
 one_summed : (f : ℕ → ℕ) (a n k : ℕ) → a ≤ k → k < a + n → ((i : ℕ) → (k ≡ i → ⊥) → f i ≡ 0) →
     sum_by f (range_with_len a n) ≡ f k
 one_summed f a zero k from to none = absurd (omega arith)
-one_summed f a (suc n) k from to none =
-    grind (arith, common_steps, sum_by-cons, cases_eq, none_summed f (a + 1) n, one_summed f (a + 1) n k)
+one_summed f a (suc n) k from to none = search (rules, sum_by-cons, cases_eq, none_summed, one_summed f (a + 1) n k)
 
 -- where one number alone passes, and it is among them, it is one, if something else holds too, and else none
 pub one_where : (b : Bool) (p : ℕ → Bool) (n k : ℕ) → (b ≡ true → k < n) → p k ≡ true → ((i : ℕ) → p i ≡ true → i ≡ k) →
@@ -62,8 +61,7 @@ one_where true p n k inside here only =
     let low : k < n = inside refl in
     length-filter p (range_with_len 0 n) ∙ one_summed (λ i. bit (p i)) 0 n k (omega arith) (omega arith)
     (search (arith, rules, cases_Bool)) ∙ ap bit here
-one_where false p n k inside here only =
-    length-filter (λ i. false) (range_with_len 0 n) ∙ none_summed (λ i. 0) 0 n (λ i _. refl)
+one_where false p n k inside here only = grind (arith, common_steps, length-filter, none_summed)
 
 -- what holds of each number of a row
 pub all_in_row : (P : ℕ → Type 0) (a n : ℕ) → ((i : ℕ) → i < a + n → P i) → AllByRecursion P (range_with_len a n)
@@ -77,8 +75,7 @@ none_is k a (suc n) past = grind (arith, common_steps, ne_eqb, none_is k (a + 1)
 
 pub one_is : (k a n : ℕ) → a ≤ k → k < a + n → filter (λ i. i == k) (range_with_len a n) ≡ k ∷ []
 one_is k a zero from to = absurd (omega arith)
-one_is k a (suc n) from to =
-    grind (arith, common_steps, cases_eq, eq-eqb, ne_eqb, none_is k (a + 1) n, one_is k (a + 1) n)
+one_is k a (suc n) from to = grind (arith, common_steps, cases_eq, eq-eqb, ne_eqb, none_is, one_is k (a + 1) n)
 
 -- ## Sums
 
