@@ -85,11 +85,6 @@ module _ (o : Orders) (slots id i : ℕ) (me : Seated) (r : i < ports o) (empty 
   claim-may = ⊎_elim (λ clear. (claim_taken me.0 i, may_take clear))
       (search (arith, rules, bit-lt, may_not)) (cases_eq (bit found i) 0)
 
-pub claim-allowed : (o : Orders) (slots id i : ℕ) (me : Seated) → i < ports o → me.0.hand ≡ None → me.0.offers ≡ o →
-    Allows (Ruled o) slots id me 0 (λ n. bit_or n (2 ^ i)) (claim (step slots 0 (2 ^ i) 0 none) me)
-claim-allowed o slots id i me r empty e s k size at bound =
-    let may = claim-may o slots id i me r empty e s k at in (search (arith, rules, one_power))
-
 pub split-allowed : (o : Orders) (id : ℕ) (v : View) → Splits (Ruled o) id v v (blank v.offers)
 split-allowed o id v s k at = split-keeps o s.words s.views k id v at
 
@@ -101,8 +96,8 @@ join-allowed key offers same id v gone w empty empty_gone same_offers s k at apa
 pub claim-allowed-at : (key offers : Orders) → key ≡ offers → (slots id i : ℕ) (me : Seated) → i < ports offers →
     me.0.hand ≡ None → me.0.offers ≡ offers → (m : ℕ) → m ≡ 2 ^ i →
     Allows (Ruled key) slots id me 0 (λ n. bit_or n m) (claim (step slots 0 m 0 none) me)
-claim-allowed-at key offers same slots id i me r empty e m is =
-    rw (same, is) (claim-allowed offers slots id i me r empty e)
+claim-allowed-at key offers same slots id i me r empty e m is = rw (same, is) (λ s k size at bound.
+    let may = claim-may offers slots id i me r empty e s k at in search (arith, rules, one_power))
 
 -- a look changes nothing
 pub look-allowed : (key offers : Orders) → key ≡ offers → (slots id : ℕ) (me : Seated) → me.0.offers ≡ offers →

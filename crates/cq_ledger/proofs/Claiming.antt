@@ -1,7 +1,7 @@
 -- A claim that finds the input unclaimed keeps the rule, and is no event. The input has not proposed and nobody holds
 -- it, so it is free where its order is not empty, and the hand takes it at its first place.
 -- A claim that finds the input claimed keeps the rule: it changes only what its seat has seen.
-use Rattle.cq_ledger.proofs.Terms.{ℕ, suc, ◌≡◌, ◌≢◌, ◌⊎◌, inl, ◌<◌, ◌^◌, List, length, set, None, ◌∙◌, ap, arith, bit_or, rules, cases_eq, get_or-set_same, get_or-set_other, length-set, at_set, Orders, ports, outputs_of, sound-after, State, next_place, IsFree, state_after, IsSound, AreClaims, AreHands, IsLedger, hand_at, claim_taken, Waits, Sits, IsClaimedByOne, bit, claim_word, View, common_steps, inr, ⊎_elim, refl, sym, claim_refused}
+use Rattle.cq_ledger.proofs.Terms.{ℕ, suc, ◌≡◌, ◌≢◌, ◌⊎◌, inl, ◌<◌, ◌^◌, List, length, set, None, ◌∙◌, ap, arith, bit_or, rules, cases_eq, get_or-set_same, get_or-set_other, length-set, at_set, Orders, ports, outputs_of, sound-after, State, next_place, IsFree, state_after, IsSound, IsLedger, hand_at, claim_taken, Waits, Sits, IsClaimedByOne, bit, claim_word, View, common_steps, inr, ⊎_elim, refl, sym, claim_refused}
 use Rattle.cq_ledger.proofs.Hands.{hand_at-left, hand_at-shows}
 use Rattle.cq_ledger.proofs.Dealt.{sits_now, by_one_still, in_hand_still, made_with, hands_with, offers_with, stood, claims_stay, hands_from, dealt}
 use Rattle.cq_ledger.proofs.Views.{bit-or_same, bit-or_other, bit-zero}
@@ -52,42 +52,19 @@ module _ (o : Orders) (words : List ℕ) (views : List View) (k : IsLedger o wor
   free_i h = grind (arith, common_steps, fresh_i, w.last)
 
   -- who has claimed an input now is this view, or had claimed it
-  claims_of : (b q : ℕ) (u : View) → Sits views_now b u → bit u.claims q ≡ 1 →
+  pub claims_of : (b q : ℕ) (u : View) → Sits views_now b u → bit u.claims q ≡ 1 →
       ((b ≡ id) × (q ≡ i)) ⊎ ((x : View) × Sits views b x × (bit x.claims q ≡ 1))
   claims_of b q u a h = search (rules, at_set views id b view_now u a, cases_eq q i, bit-or_other v.claims i q)
 
-  by_one_now : (q : ℕ) → bit (claim_word words_now) q ≡ 1 → IsClaimedByOne views_now q
+  pub by_one_now : (q : ℕ) → bit (claim_word words_now) q ≡ 1 → IsClaimedByOne views_now q
   by_one_now q h =
       let still = by_one_still views id v view_now at_id q in
       search (rules, cases_eq q i, here, bit-or_same, still, bit-or_other, others q, k.claims.by_one q)
 
-  pub claims_now : AreClaims o words_now views_now
-  claims_now =
-      record {
-        claimed = λ b q u a h. grind (arith, common_steps, claims_of b q u a h, now_set, still_set q, k.claims.claimed);
-        by_one = by_one_now;
-        apart = search (arith, rules, claims_of, not_i);
-        in_range = λ q h. grind (arith, common_steps, cases_eq q i, k.claims.in_range q, others q);
-        seen = search (arith, rules, at_set, still_set);
-      }
-
-  undropped_now : (q : ℕ) → IsFree o s q → Waits words_now views_now q
+  pub undropped_now : (q : ℕ) → IsFree o s q → Waits words_now views_now q
   undropped_now q g =
       let still = in_hand_still views id v view_now at_id in
       search (arith, rules, k.hands.undropped q g, cases_eq q i, others q, here, hand_is, hand_at-left, fresh_i, still)
-
-  pub hands_now : AreHands o s words_now views_now
-  hands_now = hands_with views id v view_now at_id o s s words words_now k.hands
-      (search (arith, rules, hand_at-shows, hand_is, free_i, fresh_i, now_set, not_i))
-      (search (arith, rules, still_set)) undropped_now
-
-  pub fresh_now : (q : ℕ) → bit (claim_word words_now) q ≡ 0 → next_place s q ≡ 0
-  fresh_now q h = grind (arith, common_steps, cases_eq q i, fresh_i, k.unclaimed q, others q)
-
-  pub idle_now : (b : ℕ) (u : View) → Sits views_now b u → u.claims ≡ 0 → (u.hand ≡ None) × (u.made ≡ 0)
-  idle_now b u a c =
-      let at = at_set views id b view_now u a in
-      grind (arith, common_steps, at, bit-or_same v.claims i, bit-zero i, k.idle b u)
 
   unfoldable pub claim-keeps : IsLedger o words_now views_now
   claim-keeps =
@@ -99,11 +76,22 @@ module _ (o : Orders) (words : List ℕ) (views : List View) (k : IsLedger o wor
         size = length-set words 0 _ ∙ k.size;
         same = offers_with o views id view_now k.same (inl same_offers);
         positions = λ j l. let n : suc j ≢ 0 = omega arith in get_or-set_other words 0 (suc j) _ 0 n ∙ k.positions j l;
-        claims = claims_now;
-        hands = hands_now;
-        unclaimed = fresh_now;
+        claims = record {
+          claimed =
+              λ b q u a h. grind (arith, common_steps, claims_of b q u a h, now_set, still_set q, k.claims.claimed);
+          by_one = by_one_now;
+          apart = search (arith, rules, claims_of, not_i);
+          in_range = λ q h. grind (arith, common_steps, cases_eq q i, k.claims.in_range q, others q);
+          seen = search (arith, rules, at_set, still_set);
+        };
+        hands = hands_with views id v view_now at_id o s s words words_now k.hands
+            (search (arith, rules, hand_at-shows, hand_is, free_i, fresh_i, now_set, not_i))
+            (search (arith, rules, still_set)) undropped_now;
+        unclaimed = λ q h. grind (arith, common_steps, cases_eq q i, fresh_i, k.unclaimed q, others q);
         made = let a = made_with views id v view_now at_id in let b = k.made in omega arith;
-        idle = idle_now;
+        idle = λ b u a c.
+            let at = at_set views id b view_now u a in
+            grind (arith, common_steps, at, bit-or_same v.claims i, bit-zero i, k.idle b u);
       }
 
 -- ## A claim that finds the input claimed

@@ -1,7 +1,8 @@
 -- A seat that has claimed every port and has nobody in its hand knows the whole phase: no other seat has a claim, so
 -- none has made a proposal or has an input in its hand. Nobody is dropped, so nobody is free.
-use Rattle.cq_ledger.proofs.Terms.{rules, ℕ, zero, suc, ◌≡◌, ◌≢◌, ◌⊎◌, ◌<◌, List, [], ◌∷◌, length, None, refl, sym, ◌∙◌, arith, ⊎_elim, some-injective, some-ne-none, sum_by, cases_eq, sum_by-cons, Orders, ports, Partners, IsInputBest, proposals, next_output-offered, sound-after, State, IsQuiescent, state_after, matching_of, IsSound, IsLedger, Sits, bit, input_in_range, Shows, events-quiet, View, common_steps}
+use Rattle.cq_ledger.proofs.Terms.{rules, ℕ, ◌≡◌, ◌≢◌, ◌⊎◌, ◌<◌, List, [], ◌∷◌, None, refl, sym, ◌∙◌, arith, ⊎_elim, sum_by, cases_eq, sum_by-cons, Orders, ports, Partners, IsInputBest, proposals, next_output-offered, sound-after, State, IsQuiescent, state_after, matching_of, IsSound, IsLedger, Sits, bit, input_in_range, Shows, events-quiet, View, common_steps, set, spent, at_set, suc}
 use Rattle.cq_prefs.proofs.Quiet.{input_best-quiet}
+use Rattle.cq_ledger.proofs.Dealt.{made_with}
 use Rattle.cq_ledger.proofs.Views.{same_at, no_bits}
 
 none_made : (views : List View) → ((a : ℕ) (u : View) → Sits views a u → u.made ≡ 0) →
@@ -12,13 +13,10 @@ none_made (x ∷ xs) h = grind (arith, common_steps, sum_by-cons, none_made xs (
 -- where no other seat made any, the sum is what the one made
 one_made : (views : List View) (id : ℕ) (v : View) → Sits views id v →
     ((a : ℕ) (u : View) → a ≢ id → Sits views a u → u.made ≡ 0) → sum_by (λ (y : View). y.made) views ≡ v.made
-one_made [] id v e h = absurd (some-ne-none v (sym e))
-one_made (x ∷ xs) zero v e h =
-    let b = none_made xs (λ n u f. h (suc n) u (λ z. let Q : ⊥ = omega arith in Q) f) in
-    grind (arith, common_steps, sum_by-cons, some-injective x v e)
-one_made (x ∷ xs) (suc id) v e h =
-    let b = one_made xs id v e (λ n u m f. h (suc n) u (λ z. m (omega arith)) f) in
-    grind (arith, common_steps, sum_by-cons, h 0 x)
+one_made views id v e h =
+    let none = none_made (set views id spent)
+    (λ a u at. grind (arith, common_steps, at_set views id a spent u at, h a u)) in
+    let sum = made_with views id v spent e in omega arith
 
 module _ (o : Orders) (words : List ℕ) (views : List View) (k : IsLedger o words views) (id : ℕ) (v : View)
     (at_id : Sits views id v)
@@ -34,13 +32,12 @@ module _ (o : Orders) (words : List ℕ) (views : List View) (k : IsLedger o wor
       (λ x. grind (arith, common_steps, cases_eq x.0 id, others_idle x.0 x.1, same_at views id v x.1))
       (k.hands.undropped i f)
 
-  pub closing-made : v.made ≡ length k.events
-  closing-made = sym (one_made views id v at_id (λ a u n at. (others_idle a u n at).1)) ∙ k.made
-
   -- what the words show is the one matching that is best for the inputs, and the seat made its proposals
   pub closing-best : IsInputBest o (matching_of o (state_after o k.events))
       × (v.made ≡ proposals o (matching_of o (state_after o k.events)))
-  closing-best = search (rules, input_best-quiet, closing-quiet, closing-made, events-quiet)
+  closing-best =
+      let made = sym (one_made views id v at_id (λ a u n at. (others_idle a u n at).1)) ∙ k.made in
+      search (rules, input_best-quiet, closing-quiet, made, events-quiet)
 
 -- the last words show a state that proposals reach
 pub closing-shown : (key offers : Orders) → key ≡ offers → (words items : List ℕ) (views : List View) →

@@ -1,7 +1,7 @@
 -- A proposal keeps the rule, and is one event. The word of the output that is asked becomes the position that it
 -- holds after the event. The new hand has the input that was displaced or rejected, if that is free: no other seat
 -- has it, since it was held, or in this hand.
-use Rattle.cq_ledger.proofs.Terms.{rules, ℕ, suc, ◌≡◌, ◌≢◌, inl, ⊎_elim, ◌<◌, min, List, ◌∷◌, get_or, set, Some, None, refl, sym, ◌∙◌, ap, arith, common_steps, cases_eq, get_or-set_same, get_or-set_other, length-set, at_set, Orders, ports, position_of, IsStep, step, sound-after, State, position_held, next_place, IsFree, next_output, propose, state_after, IsSound, IsLedger, proposed, Waits, Sits, bit, claim_word, output_in_range, View}
+use Rattle.cq_ledger.proofs.Terms.{rules, ℕ, suc, ◌≡◌, ◌≢◌, inl, ⊎_elim, ◌<◌, min, List, ◌∷◌, get_or, set, Some, refl, sym, ◌∙◌, ap, arith, common_steps, cases_eq, get_or-set_same, get_or-set_other, length-set, at_set, Orders, ports, position_of, IsStep, step, sound-after, State, position_held, next_place, IsFree, next_output, propose, state_after, IsSound, IsLedger, proposed, Waits, Sits, bit, claim_word, output_in_range, View}
 use Rattle.cq_ledger.proofs.Hands.{hand_found, still_free, hand-shows, free-before}
 use Rattle.cq_ledger.proofs.Dealt.{sits_now, in_hand_still, claims_stay as same_claims, made_with, hands_with, offers_with, MayHold}
 use Rattle.cq_ledger.proofs.Views.{bit-lt}
@@ -44,9 +44,6 @@ module _ (o : Orders) (words : List ℕ) (views : List View) (k : IsLedger o wor
 
   pub hand_is : view_now.hand ≡ hand_found o i (next_place s i) (position_held s j)
   hand_is = grind (arith, common_steps, hand_found, found_is)
-
-  pub here : Sits views_now id view_now
-  here = sits_now views id v view_now at_id
 
   pub claims_stay : claim_word words_now ≡ claim_word words
   claims_stay = let n : 0 ≢ suc j = omega arith in get_or-set_other words (suc j) 0 _ 0 n
@@ -91,6 +88,7 @@ module _ (o : Orders) (words : List ℕ) (views : List View) (k : IsLedger o wor
   pub undropped_now : (q : ℕ) → IsFree o t q → Waits words_now views_now q
   undropped_now q g =
       let before = free-before o k.offers s w i f q g in
+      let here = sits_now views id v view_now at_id in
       search (arith, rules, in_hand_still views id v view_now at_id q, here, hand_is, claims_stay)
 
   unfoldable pub propose-keeps : IsLedger o words_now views_now
@@ -110,8 +108,6 @@ module _ (o : Orders) (words : List ℕ) (views : List View) (k : IsLedger o wor
             let b : bit (claim_word words) i ≡ 0 = rw e at (was_set q 0 h) in omega arith))
             (λ n. st.others_stay q n ∙ k.unclaimed q (was_set q 0 h)) (cases_eq q i);
         made = let a = made_with views id v view_now at_id in let b = k.made in omega arith;
-        idle = λ b u a c. ⊎_elim (λ x. idle_now u c x.1) (λ x. k.idle b u x.1 c) (at_set views id b view_now u a);
+        idle = λ b u a c. ⊎_elim (λ x. let same = x.1 in search (rules)) (λ x. k.idle b u x.1 c)
+            (at_set views id b view_now u a);
       }
-    where
-      idle_now : (u : View) → u.claims ≡ 0 → view_now ≡ u → (u.hand ≡ None) × (u.made ≡ 0)
-      idle_now u c x = search (rules)

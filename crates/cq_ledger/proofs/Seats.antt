@@ -1,6 +1,6 @@
 -- Making the first seat, a split and a join keep the rule, and are no event: the words stay, and what the seats have
 -- claimed, seen, made and in their hands is only dealt out anew.
-use Rattle.cq_ledger.proofs.Terms.{ℕ, zero, suc, ◌≡◌, ◌≢◌, ◌⊎◌, inl, inr, subst, ◌+◌, ◌≤◌, List, [], ◌∷◌, ◌++◌, set, replicate, Some, None, refl, sym, ◌∙◌, ap, arith, bit_or, ⊎_elim, rules, sum_by, cases_eq, length-replicate, get_or-replicate, sum_by_push, at_set, set_else, set_again, at_longer, at_snoc, Orders, AreOffers, ports, held-start, next_place-start, AreClaims, AreHands, IsLedger, IsViewOf, State, state_after, blank, joined, spent, Waits, Sits, bit, claim_word, View, common_steps, most_ports}
+use Rattle.cq_ledger.proofs.Terms.{ℕ, zero, suc, ◌≡◌, ◌≢◌, ◌⊎◌, inl, inr, subst, ◌+◌, ◌≤◌, List, [], ◌∷◌, ◌++◌, set, replicate, Some, None, refl, sym, ◌∙◌, ap, arith, bit_or, ⊎_elim, rules, sum_by, cases_eq, length-replicate, get_or-replicate, sum_by_push, at_set, set_else, set_again, at_longer, at_snoc, Orders, AreOffers, ports, held-start, next_place-start, IsLedger, IsViewOf, blank, joined, spent, Sits, bit, View, common_steps, most_ports}
 use Rattle.cq_ledger.proofs.Dealt.{sits_now, made_with, hands_from, offers_with, dealt}
 use Rattle.cq_ledger.proofs.Views.{same_at, bit-zero, no_bits, bit-either, bit-left, bit-right}
 
@@ -13,12 +13,6 @@ only o x zero u e = mathlib.Core.Option.some-injective x u e
 only o x (suc b) u e = absurd (mathlib.Core.Option.some-ne-none u (sym e))
 
 -- nobody has claimed an input, and none is in a hand
-pub start_claims : (o : Orders) → AreClaims o (0 ∷ replicate (ports o) (ports o)) (blank o ∷ [])
-start_claims o = grind (arith, common_steps, only o (blank o), bit-zero)
-
-pub start_hands : (o : Orders) (s : State) → AreHands o s (0 ∷ replicate (ports o) (ports o)) (blank o ∷ [])
-start_hands o s = grind (arith, common_steps, only o (blank o), bit-zero)
-
 unfoldable pub start-keeps : (o : Orders) → AreOffers o → ports o ≤ most_ports →
     IsLedger o (0 ∷ replicate (ports o) (ports o)) (blank o ∷ [])
 start-keeps o v few =
@@ -30,8 +24,8 @@ start-keeps o v few =
       size = ap suc (length-replicate (ports o) (ports o));
       same = λ b u a. inl (sym (ap (λ (y : View). y.offers) (only o (blank o) b u a)));
       positions = λ j l. get_or-replicate (ports o) j (ports o) 0 l ∙ sym (held-start o j l);
-      claims = start_claims o;
-      hands = start_hands o (state_after o []);
+      claims = grind (arith, common_steps, only o (blank o), bit-zero);
+      hands = grind (arith, common_steps, only o (blank o), bit-zero);
       unclaimed = λ q h. next_place-start o q;
       made = refl;
       idle = λ b u a h. let e = only o (blank o) b u a in
@@ -53,12 +47,6 @@ module _ (o : Orders) (words : List ℕ) (views : List View) (k : IsLedger o wor
   pub with_hand : (b q p : ℕ) (u : View) → Sits longer b u → u.hand ≡ Some (q, p) → Sits views b u
   with_hand b q p u a h = grind (arith, common_steps, at_snoc views (blank other) u b a)
 
-  pub still_waits : (q : ℕ) → Waits words views q → Waits words longer q
-  still_waits q z = search (rules, at_longer)
-
-  pub still_idle : (b : ℕ) (u : View) → Sits longer b u → u.claims ≡ 0 → (u.hand ≡ None) × (u.made ≡ 0)
-  still_idle b u a h = grind (arith, common_steps, at_snoc views (blank other) u b a, k.idle b u)
-
   unfoldable pub longer-keeps : IsLedger o words longer
   longer-keeps =
       dealt o words views longer k
@@ -73,9 +61,10 @@ module _ (o : Orders) (words : List ℕ) (views : List View) (k : IsLedger o wor
         in_range = k.claims.in_range;
         seen = λ b q u a h. k.claims.seen b q u (with_seen b q u a h) h;
       })
-      (hands_from k.hands (λ b q p u a h. (u, with_hand b q p u a h, h)) still_waits)
+      (hands_from k.hands (λ b q p u a h. (u, with_hand b q p u a h, h))
+      (λ q z. search (rules, at_longer)))
       (let a = sum_by_push (λ (y : View). y.made) views (blank other) in omega arith)
-      still_idle
+      (λ b u a h. grind (arith, common_steps, at_snoc views (blank other) u b a, k.idle b u))
 
 -- a seat's half has the seat's offers
 pub half_of : (o : Orders) (v : View) → IsViewOf o v → IsViewOf o (blank v.offers)
@@ -128,14 +117,6 @@ module _ (o : Orders) (words : List ℕ) (views : List View) (k : IsLedger o wor
   claimed_by b q u m h = ⊎_elim (λ e. grind (arith, common_steps, bit-zero q)) (⊎_elim
       (search (arith, rules, bit-either)) (search (arith, rules))) m
 
-  pub seen_by : (b q : ℕ) (u : View) → Kind b u → bit u.seen q ≡ 1 → bit (claim_word words) q ≡ 1
-  unfolding Kind
-  seen_by b q u m h = grind (arith, common_steps, bit-zero q, bit-either v.seen w.seen q, k.claims.seen)
-
-  pub with_hand' : (b q p : ℕ) (u : View) → Kind b u → u.hand ≡ Some (q, p) → Sits views b u
-  unfolding Kind
-  with_hand' b q p u m h = grind (arith, common_steps)
-
   pub idle_now : (b : ℕ) (u : View) → Kind b u → u.claims ≡ 0 → (u.hand ≡ None) × (u.made ≡ 0)
   unfolding Kind
   idle_now b u m h =
@@ -148,9 +129,6 @@ module _ (o : Orders) (words : List ℕ) (views : List View) (k : IsLedger o wor
       (a : ℕ) × (u : View) × Sits whole a u × (bit u.claims q ≡ 1)
   by_one_now q x =
       search (rules, cases_eq x.0 id, cases_eq x.0 gone, same_at, here, bit-left, bit-right, still_there)
-
-  pub undropped_now : (q : ℕ) → Waits words views q → Waits words whole q
-  undropped_now q z = grind (arith, common_steps, same_at views id v, same_at views gone w, still_there)
 
   pub made_now : sum_by (λ (y : View). y.made) whole ≡ sum_by (λ (y : View). y.made) views
   made_now =
@@ -171,8 +149,11 @@ module _ (o : Orders) (words : List ℕ) (views : List View) (k : IsLedger o wor
             let e = k.claims.apart m.at n.at q m.by n.by m.stood n.stood m.has n.has in
             same_home b c n.at (rw e at m.home) n.home;
         in_range = k.claims.in_range;
-        seen = λ b q u a h. seen_by b q u (kind b u a) h;
+        seen = λ b q u a h.
+            let m = kind b u a in
+            grind (arith, common_steps, m, bit-zero q, bit-either v.seen w.seen q, k.claims.seen);
       })
-      (hands_from k.hands (λ b q p u a h. (u, with_hand' b q p u (kind b u a) h, h)) undropped_now)
+      (hands_from k.hands (λ b q p u a h. let m = kind b u a in (u, grind (arith, common_steps, m), h))
+      (λ q z. grind (arith, common_steps, same_at views id v, same_at views gone w, still_there)))
       made_now
       (λ b u a h. idle_now b u (kind b u a) h)

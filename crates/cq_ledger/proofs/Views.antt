@@ -53,9 +53,6 @@ pub one_power : (i q : ℕ) → 2 ^ i ≡ 2 ^ q → i ≡ q
 unfolding bit
 one_power i q e = grind (arith, common_steps, bit_at-pow_other i q, bit_at-pow_same q, cases_eq q i)
 
-pub clear_if : (n i : ℕ) → bit n i ≢ 1 → bit n i ≡ 0
-clear_if n i h = let b = bit-lt n i in omega arith
-
 -- a word has no bit past its last
 pub bit-past : (n i : ℕ) → n < 2 ^ 64 → 64 ≤ i → bit n i ≡ 0
 unfolding bit
