@@ -16,9 +16,7 @@ pub one_more : (blocks : List (List Queued)) (i : ℕ) → i < length blocks →
     flattened (take (i + 1) blocks) ≡ flattened (take i blocks) ++ block_at blocks i
 one_more [] i inside = absurd (omega arith)
 one_more (b ∷ bs) zero inside = append-nil b
-one_more (b ∷ bs) (suc i) inside =
-    let next : suc i + 1 ≡ suc (i + 1) = omega arith in
-    rw next (ap (λ cells. b ++ cells) (one_more bs i (omega arith)) ∙ sym (append_assoc b _ _))
+one_more (b ∷ bs) (suc i) inside = search (rules, append_assoc, one_more bs i)
 
 -- ## One block
 

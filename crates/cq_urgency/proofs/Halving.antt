@@ -4,14 +4,9 @@
 -- A cell goes in behind the cells of lesser key, and the list stays in the order of keys.
 use Rattle.cq_urgency.proofs.Terms.{common_steps, rules, ◌≡◌, ℕ, zero, suc, ◌+◌, ◌≤◌, Bool, true, false, cond, List, [], ◌∷◌, ◌++◌, length, filter, refl, sym, ap, ◌∙◌, length-append, arith, AllByRecursion, IsPartitionPoint, IsPartitionedBy, cases_eq, cond_both, filter-append, slice_get-get_or, Key, Queued, is_before, IsBefore, IsRising, cushion, key_laws, each_pair_at, insert, HasOtherKey, put, after_other, before_all, all_weaker}
 
--- a test that passes on to each cell before parts a rising list
-parts_rising : (p : Queued → Bool) → ((a b : Queued) → IsBefore a b → p b ≡ true → p a ≡ true) → (xs : List Queued) →
-    IsRising xs → IsPartitionedBy p xs
-parts_rising p back xs r i j d le lt e = search (rules, cases_eq, each_pair_at, slice_get-get_or)
-
 -- the cells of lesser key stand first
 pub lesser_part : (key : Key) (xs : List Queued) → IsRising xs → IsPartitionedBy (λ x. is_before x.key key) xs
-lesser_part key = parts_rising (λ x. is_before x.key key) (λ a b before e. key_laws.on a.key b.key key before e)
+lesser_part key xs r i j d le lt e = search (rules, cases_eq, each_pair_at, slice_get-get_or, key_laws.on)
 
 -- as many pass as stand before the point
 pub passed_at_point : {X : Type 0} (p : X → Bool) (xs : List X) (n : ℕ) → n ≤ length xs →
@@ -51,10 +46,6 @@ pub cushion_none : (key : Key) (xs : List Queued) → AllByRecursion (λ x. is_b
 cushion_none key [] a = refl
 cushion_none key (x ∷ xs) a = search (arith, rules, cushion_none key xs a.1)
 
-pub cushion_first : (key : Key) (x : Queued) (xs : List Queued) → is_before x.key key ≡ true →
-    cushion key (x ∷ xs) ≡ suc (cushion key xs)
-cushion_first key x xs e = passes_more (λ y. is_before y.key key) x xs e
-
 -- ## A cell put in
 
 -- a cell goes in behind those of lesser key
@@ -65,4 +56,4 @@ put_is c (x ∷ xs) r other = cond_both (is_before c.key x.key) (c ∷ x ∷ xs)
     (λ l. insert (x ∷ xs) (cushion c.key (x ∷ xs)) c ≡ l) (λ e. ap (λ n. insert (x ∷ xs) n c)
     (cushion_none c.key (x ∷ xs) (all_weaker (IsBefore c) (λ y. is_before y.key c.key ≡ false)
     (λ y. key_laws.one_way c.key y.key) (x ∷ xs) (e, before_all c x xs e r.0))))
-    (λ e. search (arith, rules, cushion_first, after_other, put_is c xs r.1 other.1))
+    (λ e. search (arith, rules, passes_more, after_other, put_is c xs r.1 other.1))

@@ -95,10 +95,7 @@ pub counts_ahead : (blocks : List (List Queued)) (counts : List ℕ) (behind pla
     length (block_at blocks 0) + sum_by (λ n. n) (take behind counts) ≡ cells_in_all (take place blocks)
 counts_ahead [] counts behind place is some next = absurd (omega arith)
 counts_ahead (b ∷ bs) counts behind zero is some next = absurd (omega arith)
-counts_ahead (b ∷ bs) counts behind (suc n) is some next =
-    let same : behind ≡ n = omega arith in
-    let rest : sum_by (λ n. n) (take behind counts) ≡ cells_in_all (take n bs) = rw (is, same) (sum_first bs n) in
-    ap (λ (s : ℕ). length b + s) rest ∙ sym (sum_by-cons (λ (block : List Queued). length block) b (take n bs))
+counts_ahead (b ∷ bs) counts behind (suc n) is some next = grind (arith, common_steps, sum_first, sum_by-cons)
 
 -- where a count is more than nothing, there is a block, of so many cells
 pub count_there : (blocks : List (List Queued)) (counts : List ℕ) (behind within : ℕ) → counts ≡ counts_behind blocks →
@@ -130,9 +127,7 @@ module _ {pool : List (List Queued)} {first : ℕ} {order counts free : List ℕ
 
   pub changed : (block : List Queued) (counts' : List ℕ) → counts' ≡ counts_behind (set blocks i block) →
       Kept (set pool number block) first order counts' free (set blocks i block)
-  changed block counts' counted =
-      let here : in_order (set pool number block) order ≡ set (in_order pool order) i block =
-      search (arith, rules, in_order_there, set_order, in_pool, bit_le) in search (arith, rules, length-set)
+  changed block counts' counted = grind (arith, common_steps, in_order_there, set_order, in_pool, bit_le, length-set)
 
 -- the count at a place behind the first is that of the block there
 pub count_is : (blocks : List (List Queued)) (counts : List ℕ) (i behind : ℕ) {count : ℕ} →
@@ -140,8 +135,7 @@ pub count_is : (blocks : List (List Queued)) (counts : List ℕ) (i behind : ℕ
     count ≡ length (block_at blocks i)
 count_is [] counts i behind is e inside read = absurd (omega arith)
 count_is (b ∷ bs) counts zero behind is e inside read = absurd (omega arith)
-count_is (b ∷ bs) counts (suc n) behind is e inside read =
-    let same : behind ≡ n = omega arith in grind (arith, common_steps, get_or-map, length-map)
+count_is (b ∷ bs) counts (suc n) behind is e inside read = grind (arith, common_steps, get_or-map, length-map)
 
 -- the counts where a block changes
 pub count_first : (blocks : List (List Queued)) (block : List Queued) (i : ℕ) (counts : List ℕ) →
@@ -179,17 +173,13 @@ module _ {pool : List (List Queued)} {first : ℕ} {order counts free : List ℕ
   pub come : (first' i : ℕ) (counts' : List ℕ) → i ≤ length order → first' ≡ get_or (insert order i number) 0 first' →
       counts' ≡ counts_behind (insert blocks i block) →
       Kept pool' first' (insert order i number) counts' free' (insert blocks i block)
-  come first' i counts' le led counted =
-      let here : in_order pool' (insert order i number) ≡ insert (in_order pool order) i block =
-      grind (arith, common_steps, map-insert, same_order, fresh) in
-      search (arith, rules, sum_by-insert, length-insert)
+  come first' i counts' le led counted = search (rules, map-insert, same_order, fresh, sum_by-insert, length-insert)
 
 -- the first block
 pub started : (pool pool' : List (List Queued)) (first : ℕ) (order counts free free' : List ℕ) (block : List Queued)
     (number : ℕ) → Kept pool first order counts free [] → ComesIn pool free pool' free' block number →
     Kept pool' number (order ++ number ∷ []) counts free' (block ∷ [])
-started pool pool' first [] counts free free' block number w q =
-    come w q number 0 counts (omega arith) refl (as_many_counts w)
+started pool pool' first [] counts free free' block number w q = grind (arith, common_steps, come, as_many_counts)
 started pool pool' first (x ∷ xs) counts free free' block number w q = absurd (let many = as_many w in omega arith)
 
 -- a full block split
@@ -287,9 +277,6 @@ upper_first block x at = sym (ap (take 1) (drop_more block 32 x (slice_get_withi
 
 -- ## The first block becomes free
 
-pub none_first : (order : List ℕ) (first : ℕ) → length order ≡ 0 → first ≡ get_or order 0 first
-none_first order first none = sym (get_or_past order 0 first (omega arith))
-
 pub freed : (pool : List (List Queued)) (first first' : ℕ) (order counts free : List ℕ) (blocks : List (List Queued)) →
     Kept pool first order counts free blocks → 0 < length blocks → first' ≡ get_or (drop 1 order) 0 first' →
     Kept pool first' (drop 1 order) (drop 1 counts) (free ++ first ∷ []) (drop 1 blocks)
@@ -303,8 +290,7 @@ freed pool first first' (x ∷ xs) counts free blocks w some led =
 pub popped : {pool : List (List Queued)} {first : ℕ} {order counts free : List ℕ} {blocks : List (List Queued)} →
     (w : Kept pool first order counts free blocks) → 0 < length blocks → (block : List Queued) →
     Kept (set pool first block) first order counts free (set blocks 0 block)
-popped {blocks = blocks} w some block =
-    changed w 0 some w.placed.led block _ (count_first blocks block 0 _ (as_many_counts w) refl)
+popped {blocks = blocks} w some block = search (rules, changed, count_first, as_many_counts)
 
 pub read_set : (pool : List (List Queued)) {number : ℕ} {block read : List Queued} → number < length pool →
     read ≡ get_or (set pool number block) number read → read ≡ block

@@ -5,7 +5,7 @@
 --
 -- A full block that is split keeps each place: in its front half, or in its back half behind 32 cells more.
 use Rattle.cq_urgency.specs.declared.blocks.Spot.{Spot}
-use Rattle.cq_urgency.proofs.Terms.{⊎_elim, cases_lt, rules, ◌≡◌, ℕ, zero, suc, ◌+◌, ◌<◌, ◌≤◌, true, false, List, [], ◌∷◌, ◌++◌, length, take, drop, Some, ap, length-append, length-set, length-take, length-drop, get_or-set_same, arith, sym, subst, common_steps, slice_get, AllByRecursion, cases_Bool, take-append-le, take-take, take-set, length-insert, get_or-insert_below, get_or-insert_at, sum_by_more, Key, Queued, is_before, IsBefore, IsRising, cushion, key_laws, all_at, flattened, block_at, halved, AreFilled, AreBegun, IsSpot, starts_before, all_weaker, all_front, all_back, most_cells}
+use Rattle.cq_urgency.proofs.Terms.{⊎_elim, cases_lt, rules, ◌≡◌, ℕ, zero, suc, ◌+◌, ◌<◌, ◌≤◌, true, false, List, [], ◌∷◌, ◌++◌, length, take, Some, length-append, length-set, length-take, length-drop, get_or-set_same, arith, sym, subst, common_steps, slice_get, AllByRecursion, cases_Bool, take-append-le, take-take, take-set, length-insert, get_or-insert_below, get_or-insert_at, sum_by_more, Key, Queued, is_before, IsBefore, IsRising, cushion, key_laws, all_at, flattened, block_at, halved, AreFilled, AreBegun, IsSpot, starts_before, all_weaker, all_front, all_back, most_cells, drop, ap}
 use Rattle.cq_urgency.proofs.Flattened.{length-flattened}
 use Rattle.cq_urgency.proofs.Halving.{cushion_all, cushion_none, cushion_le, cushion-append}
 
@@ -14,8 +14,7 @@ use Rattle.cq_urgency.proofs.Halving.{cushion_all, cushion_none, cushion_le, cus
 rising_parts : (xs ys : List Queued) → IsRising (xs ++ ys) →
     IsRising xs × IsRising ys × AllByRecursion (λ x. AllByRecursion (IsBefore x) ys) xs
 rising_parts [] ys r = (tt, r, tt)
-rising_parts (x ∷ xs) ys r =
-    let rest = rising_parts xs ys r.1 in (search (arith, rules, all_front, all_back))
+rising_parts (x ∷ xs) ys r = grind (arith, common_steps, all_front, all_back, rising_parts xs ys r.1)
 
 pub rising_block : (blocks : List (List Queued)) (i : ℕ) → IsRising (flattened blocks) → IsRising (block_at blocks i)
 rising_block [] i r = tt
@@ -93,8 +92,7 @@ module _ (key : Key) (blocks : List (List Queued)) (r : IsRising (flattened bloc
 
   pub spot_in : (place block within : ℕ) → AreBegun key blocks place → block + 1 ≡ place →
       within ≡ cushion key (block_at blocks block) → IsSpot blocks (cushion key (flattened blocks)) block within
-  spot_in place block within begun next is =
-      grind (arith, common_steps, cushion_le, cushion_in, filled_some, begun.before, begun.behind, length-flattened)
+  spot_in place block within begun next is = search (rules, cushion_le, cushion_in, filled_some, length-flattened)
 
   -- behind the last cell of all
   pub spot_end : (last within place : ℕ) (block : List Queued) (x : Queued) → last + 1 ≡ length blocks →

@@ -1,5 +1,5 @@
-use Rattle.cq_urgency.proofs.Terms.{arith, common_steps, rules, ◌≡◌, sym, length}
-use Rattle.cq_urgency.proofs.Placed.{kept, freed, none_first}
+use Rattle.cq_urgency.proofs.Terms.{arith, common_steps, rules, ◌≡◌, sym, length, get_or_past}
+use Rattle.cq_urgency.proofs.Placed.{kept, freed}
 use Rattle.cq_urgency.proofs.blocks.Blocks.free_first.Goals as goal
 
 pub invariant_of-self : goal.invariant_of-self
@@ -11,5 +11,5 @@ invariant_of-self-in_default c =
     let none : length c.pop_front.new.self.items ≡ 0 =
     grind (arith, common_steps, c.front.ensures.variant, c.in_default.is) in
     let k = freed _ c.self.inside.first c.self.inside.first _ _ _ _ w c.requires
-    (rw (sym c.pop_front.ensures.rest) (none_first _ _ none)) in
+    (rw (sym c.pop_front.ensures.rest) (sym (get_or_past c.pop_front.new.self.items 0 _ (omega arith)))) in
     search (arith, rules)
