@@ -1,9 +1,9 @@
 -- A walk along the blocks, from the first on or from the last back. The places ahead of the block behind a block are
 -- those ahead of it and its own; so what is counted grows by a block's numbers, or shrinks by them.
-use Rattle.cq_list.proofs.Terms.{take-append-add, ⊎_elim, cases_lt, rules, ◌≡◌, ℕ, ◌+◌, ◌-◌, ◌<◌, ◌≤◌, Bool, List, [], ◌∷◌, ◌++◌, length, get_or, take, drop, refl, sym, ap, ◌∙◌, arith, length-append, take-append-drop, common_steps, filter, concat, get_or_read, get_or-take, get_or-append_seam, length-drop, length-take-le, take-append-le, take-take, take_all, drop_more, take_more, append-nil, filter-append, concat-append, place_of_nth, is_output, count_of, IsSpot, IsAhead}
+use Rattle.cq_list.proofs.Terms.{take-append-add, cases_lt, rules, ◌≡◌, ℕ, ◌+◌, ◌-◌, ◌<◌, ◌≤◌, Bool, List, [], ◌∷◌, ◌++◌, length, get_or, take, drop, sym, ap, ◌∙◌, arith, length-append, take-append-drop, common_steps, filter, concat, get_or_read, get_or-take, get_or-append_seam, length-drop, length-take-le, take-append-le, take-take, take_all, drop_more, take_more, append-nil, filter-append, concat-append, place_of_nth, is_output, count_of, IsSpot, IsAhead}
 use Rattle.cq_list.proofs.Counts.{count_le}
 use Rattle.cq_list.proofs.Nth.{nth_inside, nth_in_front, nth_behind}
-use Rattle.cq_list.proofs.Blocks.{rest_more, ahead_more, whole_is}
+use Rattle.cq_list.proofs.Blocks.{ahead_more, whole_is}
 
 pub nth_end : {X : Type 0} (p : X → Bool) (k : ℕ) (xs : List X) → k ≡ length (filter p xs) →
     place_of_nth p k xs ≡ length xs
@@ -23,7 +23,7 @@ module _ (blocks : List (List ℕ)) (i : ℕ) {block : List ℕ} (inside : i < l
   block_is = get_or_read blocks i block inside is_read []
 
   pub rest_is : concat (drop i blocks) ≡ block ++ concat (drop (i + 1) blocks)
-  rest_is = rest_more blocks i inside ∙ ap (λ b. b ++ concat (drop (i + 1) blocks)) (sym block_is)
+  rest_is = ap concat (drop_more blocks i [] inside) ∙ ap (λ b. b ++ concat (drop (i + 1) blocks)) (sym block_is)
 
   pub ahead_next : length (concat (take i blocks)) + length block ≡ length (concat (take (i + 1) blocks))
   ahead_next = let more = ahead_more blocks i inside in let same = ap length block_is in omega arith
@@ -52,11 +52,6 @@ module _ (blocks : List (List ℕ)) (i : ℕ) {block : List ℕ} (inside : i < l
       count_of j (take n (concat (drop i blocks))) ≡ count_of j block + count_of j
       (take (n - length block) (concat (drop (i + 1) blocks)))
   count_past_block j n late = grind (arith, common_steps, rest_is, take_past, filter-append, length-append)
-
--- ## The first block
-
-pub none_ahead : (blocks : List (List ℕ)) (j : ℕ) → IsAhead blocks j 0 0 0
-none_ahead blocks j = record { all = refl; few = refl }
 
 -- ## From both ends at once
 
@@ -133,10 +128,7 @@ module _ (blocks : List (List ℕ)) (i : ℕ) {j later some : ℕ} {from to : Li
 
   -- while there is more of an output ahead of what was passed from the end, neither is at its own
   pub both_left : {k : ℕ} → k < some → (0 < length from) × (0 < length to)
-  both_left there =
-      let inside : i < length blocks = ⊎_elim (λ lt. lt) (λ ge.
-      let none : length blocks - i ≡ 0 = omega arith in search (arith, rules)) (cases_lt i (length blocks)) in
-      search (arith, rules, length-drop, length-take-le)
+  both_left there = grind (arith, common_steps, cases_lt, length-drop, length-take-le)
 
 -- ## From the last block back
 

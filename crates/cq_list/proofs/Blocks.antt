@@ -1,5 +1,5 @@
 -- Places in blocks: what is done to one block is done to the places where it stands, behind those of the blocks ahead.
-use Rattle.cq_list.proofs.Terms.{common_steps, rules, ◌≡◌, ℕ, zero, suc, ◌+◌, ◌-◌, ◌<◌, ◌≤◌, List, [], ◌∷◌, ◌++◌, length, get_or, set, take, drop, Some, sym, ap, ◌∙◌, subst, arith, length-append, length-set, length-take, get_or-set_same, take-append-drop, append_assoc, insert, remove, slice_get, concat, take_more, drop_more, take_all, take-set, take-set-le, take-take, take-append-le, get_or_read, concat-append, length-remove, insert_end, insert-append_left, insert-append_right, remove-append_left, remove-append_right, IsSpot, joined, pulled}
+use Rattle.cq_list.proofs.Terms.{common_steps, rules, ◌≡◌, ℕ, zero, suc, ◌+◌, ◌-◌, ◌<◌, ◌≤◌, List, [], ◌∷◌, ◌++◌, length, get_or, set, take, drop, Some, ap, subst, arith, length-append, length-set, length-take, get_or-set_same, take-append-drop, append_assoc, insert, remove, slice_get, concat, take_more, take_all, take-set, take-set-le, take-take, take-append-le, get_or_read, concat-append, length-remove, insert_end, insert-append_left, insert-append_right, remove-append_left, remove-append_right, IsSpot, joined, pulled}
 
 -- ## Block by block
 
@@ -7,15 +7,11 @@ pub ahead_more : (blocks : List (List ℕ)) (i : ℕ) → i < length blocks →
     length (concat (take (i + 1) blocks)) ≡ length (concat (take i blocks)) + length (get_or blocks i [])
 ahead_more blocks i inside = grind (arith, common_steps, take_more, concat-append, length-append)
 
-pub rest_more : (blocks : List (List ℕ)) (i : ℕ) → i < length blocks →
-    concat (drop i blocks) ≡ get_or blocks i [] ++ concat (drop (i + 1) blocks)
-rest_more blocks i inside = ap concat (drop_more blocks i [] inside)
-
 pub whole_is : (blocks : List (List ℕ)) (i : ℕ) →
     length (concat blocks) ≡ length (concat (take i blocks)) + length (concat (drop i blocks))
 whole_is blocks i =
-    ap length (ap concat (sym (take-append-drop i blocks)) ∙ concat-append (take i blocks) (drop i blocks))
-    ∙ length-append (concat (take i blocks)) (concat (drop i blocks))
+    let parts = concat-append (take i blocks) (drop i blocks) in
+    grind (arith, common_steps, parts, take-append-drop i blocks, length-append)
 
 -- ## One block
 
@@ -31,10 +27,8 @@ shown_behind (y ∷ xs) ys k = search (arith, rules, shown_behind xs ys k)
 pub shown_in : (blocks : List (List ℕ)) (i o x : ℕ) → i < length blocks → slice_get (get_or blocks i []) o ≡ Some x →
     slice_get (concat blocks) (length (concat (take i blocks)) + o) ≡ Some x
 shown_in [] i o x inside at = absurd (omega arith)
-shown_in (b ∷ bs) zero o x inside at = ap (slice_get (b ++ concat bs)) (let e : 0 + o ≡ o = omega arith in e)
-    ∙ shown_front b (concat bs) o x at
-shown_in (b ∷ bs) (suc i) o x inside at =
-    let len = length-append b (concat (take i bs)) in search (arith, rules, shown_behind, shown_in bs i o x)
+shown_in (b ∷ bs) zero o x inside at = search (arith, rules, shown_front)
+shown_in (b ∷ bs) (suc i) o x inside at = grind (arith, common_steps, length-append, shown_behind, shown_in bs i o x)
 
 pub insert_in : (blocks : List (List ℕ)) (i o n y : ℕ) → i < length blocks → o ≤ length (get_or blocks i []) →
     length (concat (take i blocks)) + o ≡ n →
@@ -97,8 +91,7 @@ module _ (blocks : List (List ℕ)) (i : ℕ) (inside : i + 1 < length blocks) w
 
   pub spot_joined : (place o : ℕ) → IsSpot blocks place i o → IsSpot (joined blocks i) place i o
   spot_joined place o spot =
-      search
-      (arith, rules, length-set, length-take, take-set, take-append-le, take-take, joined_at, length-append)
+      search (rules, length-set, length-take, take-set, take-append-le, take-take, joined_at, length-append)
 
   pub pulled_at : get_or (pulled blocks i) i [] ≡ block ++ take 1 next
   pulled_at = grind (arith, common_steps, length-set, get_or-set_same)

@@ -1,6 +1,6 @@
 -- The counts of a block, where a place is put in or taken out: the count of its output changes by one, and the others
 -- stay. A place that is taken out can be put back, so the one follows from the other.
-use Rattle.cq_list.proofs.Terms.{all_at, common_steps, rules, ◌≡◌, ◌≢◌, ℕ, zero, suc, ◌+◌, ◌-◌, ◌<◌, ◌≤◌, List, [], ◌∷◌, ◌++◌, length, replicate, get_or, set, take, refl, sym, ap, ◌∙◌, subst, arith, length-set, length-append, get_or-set_same, get_or-set_other, Some, insert, remove, slice_get, same_Some, slice_get_within, get_or_from_slice_get, slice_get-get_or, AllByRecursion, eq-eqb, ne_eqb, cases_eq, take_more, get_or-replicate, length-replicate, length-insert, length-remove, length-filter, count_by-le-length, is_output, count_of, most_ports, most_places}
+use Rattle.cq_list.proofs.Terms.{all_at, common_steps, rules, ◌≡◌, ◌≢◌, ℕ, zero, suc, ◌+◌, ◌-◌, ◌<◌, ◌≤◌, List, [], ◌∷◌, ◌++◌, length, replicate, get_or, set, refl, sym, ap, ◌∙◌, subst, arith, length-set, length-append, get_or-set_same, get_or-set_other, Some, insert, remove, slice_get, same_Some, slice_get-get_or, AllByRecursion, eq-eqb, ne_eqb, cases_eq, get_or-replicate, length-replicate, length-insert, length-remove, length-filter, count_by-le-length, is_output, count_of, most_ports, most_places}
 use Rattle.cq_list.specs.Block.{AreCounts}
 use Rattle.cq_list.proofs.Nth.{fails}
 use Rattle.cq_list.proofs.Split.{filter-insert, filter-insert-other, filter-parts}
@@ -50,16 +50,14 @@ module _ (places counts : List ℕ) (had : AreCounts places counts) where
 
   pub counts_insert : (i j : ℕ) → i ≤ length places → length places < most_places → j < most_ports →
       AreCounts (insert places i j) (set counts j (get_or counts j 0 + 1))
-  counts_insert i j inside room in_range =
-      grind (arith, common_steps, set_steps, count_of-own, count_of-other, cases_eq)
+  counts_insert i j inside room in_range = grind (arith, common_steps, count_of-own, count_of-other, cases_eq)
 
   module _ (i j : ℕ) (inside : i < length places) (read : j ≡ get_or places i j) where
     again : insert (remove places i) i j ≡ places
     again = put_back places i j inside read
 
     pub in_range_at : j < most_ports
-    in_range_at = all_at (λ k. k < most_ports) places i j had.in_range
-        (slice_get-get_or places i j inside ∙ ap Some (sym read))
+    in_range_at = grind (arith, common_steps, all_at, slice_get-get_or)
 
     pub count_some : 1 ≤ get_or counts j 0
     count_some = grind (arith, common_steps, in_range_at, again, count_of-own)
@@ -76,8 +74,3 @@ moved_over [] back i x last at = absurd (omega arith)
 moved_over (y ∷ []) back zero x last at = ap (λ z. z ∷ back) (sym (same_Some y x at))
 moved_over (y ∷ z ∷ xs) back zero x last at = absurd (omega arith)
 moved_over (y ∷ xs) back (suc i) x last at = ap (λ l. y ∷ l) (moved_over xs back i x (omega arith) at)
-
--- a place more of another block
-pub take_shown : (xs : List ℕ) (i x : ℕ) → slice_get xs i ≡ Some x → take (i + 1) xs ≡ take i xs ++ x ∷ []
-take_shown xs i x at =
-    take_more xs i x (slice_get_within xs i x at) ∙ ap (λ y. take i xs ++ y ∷ []) (get_or_from_slice_get xs i x x at)

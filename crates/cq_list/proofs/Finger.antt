@@ -1,6 +1,6 @@
 -- The fingers of a queue that has a node more or less. A finger tells where the last of some nodes stands, so one of no
 -- more nodes than stand ahead of the new one stays, and one of more has it among them.
-use Rattle.cq_list.proofs.Terms.{common_steps, rules, ◌≡◌, ℕ, zero, suc, ◌+◌, ◌-◌, ◌<◌, ◌≤◌, List, ◌∷◌, length, arith, ◌∙◌, insert, slice_get, cases_lt, length-insert, slice_get-get_or, slice_get_within, get_or-insert_below, ⊎_elim, append-nil, drop_all, take_all, Ahead, AreFingers, AreSet, AreShifted, EndsAt, finger_at}
+use Rattle.cq_list.proofs.Terms.{common_steps, rules, ◌≡◌, ℕ, suc, ◌+◌, ◌-◌, ◌<◌, ◌≤◌, List, ◌∷◌, length, arith, ◌∙◌, insert, slice_get, cases_eq, cases_lt, length-insert, slice_get-get_or, slice_get_within, get_or-insert_below, ⊎_elim, append-nil, drop_all, take_all, Ahead, AreFingers, AreSet, AreShifted, EndsAt, finger_at}
 use Rattle.std.specs.List.{refill}
 use Rattle.std.proofs.lemmas.List.Edits.{get_or-insert_above}
 
@@ -22,19 +22,15 @@ insert_kept xs i m y lt inside =
 
 module _ (places : List ℕ) {count place : ℕ} (ends : EndsAt places count place) where
   pub ends_inside : count ≤ length places
-  ends_inside = go count ends
-    where
-      go : (n : ℕ) → EndsAt places n place → n ≤ length places
-      go zero e = omega arith
-      go (suc m) e = let inside = slice_get_within places m place (e m (omega arith)) in omega arith
+  ends_inside =
+      grind (arith, common_steps, slice_get_within places (count - 1) place, ends (count - 1), cases_eq count 0)
 
   module _ (n x : ℕ) where
     ends_kept : count ≤ n → n ≤ length places → EndsAt (insert places n x) count place
     ends_kept le inside m is = insert_kept places n m x (omega arith) inside ∙ ends m is
 
     ends_later : n < count → (more : ℕ) → more ≡ count + 1 → EndsAt (insert places n x) more place
-    ends_later lt more one m is =
-        let all = ends_inside in search (arith, rules, insert_end_kept)
+    ends_later lt more one m is = grind (arith, common_steps, ends_inside, insert_end_kept)
 
 -- ## Fingers
 

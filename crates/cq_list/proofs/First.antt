@@ -7,9 +7,7 @@ use Rattle.cq_list.proofs.BlockWalk.{take_past}
 module _ (b : List ℕ) (bs : List (List ℕ)) (n : ℕ) (long : n ≡ length b) where
   pub shown_later : (place x : ℕ) → n ≤ place → slice_get (concat bs) (place - n) ≡ Some x →
       slice_get (b ++ concat bs) place ≡ Some x
-  shown_later place x past at =
-      let same : place ≡ length b + (place - n) = omega arith in
-      ap (slice_get (b ++ concat bs)) same ∙ shown_behind b (concat bs) (place - n) ∙ at
+  shown_later place x past at = grind (arith, common_steps, shown_behind)
 
   -- what stands ahead of the end, of the others alone
   pub ahead_behind : (j places own k : ℕ) → k ≡ count_of j b → places ≡ length (b ++ concat bs) →

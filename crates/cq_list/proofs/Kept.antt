@@ -2,7 +2,7 @@
 -- alone, so each call has to show no more than the split of the cells that it promises; that these are the cells that
 -- the new places and the new pool stand for follows.
 use Rattle.cq_list.proofs.Terms.{◌+◌, all_insert, all_left, each_pair_left, keys_differ_insert, keeps_order_arrival, common_steps, rules, ◌≡◌, ℕ, zero, suc, ◌<◌, eqb, Bool, cond, List, [], ◌∷◌, length, set, take, concat, drop, min, None, Some, sym, ap, ◌∙◌, subst, arith, length-set, get_or-set_same, get_or-set_other, ⊎_elim, length-map, get_or_past, ◌&&◌, slice_get, remove, insert, position, position_or_len, cond_both, eqb-true, eqb-false, ltb-true, lt-ltb, cases_lt, slice_get-map, slice_get_within, slice_get_cases, find_at, Queued, is_before, HasOtherKey, MoreUrgentAhead, is_for, first_for, without_first, put, place_of_arrival, with_arrival, CanTell, IsSplit, merged, is_output, place_of_nth, count_of, PlacesView, PoolView, queue_of, Waiting, AreWaiting, StandFor, cells_in, all_filter, position_or_len-map}
-use Rattle.cq_list.proofs.Split.{merged_is, split_arrived, split_left, both_is_nth, first-is-head, length-filter-map, cell_at}
+use Rattle.cq_list.proofs.Split.{merged_queues, split_arrived, split_left, both_is_nth, first-is-head, length-filter-map, cell_at}
 
 -- an output with a cell is one of them
 pub queue_inside : (queues : List (List Queued)) (j : ℕ) (x : Queued) → slice_get (queue_of queues j) 0 ≡ Some x →
@@ -12,7 +12,9 @@ queue_inside queues j x head = grind (arith, common_steps, slice_get_within, get
 -- they stand for no other cells than those that are seen
 pub cells_are : {outputs : ℕ} {places : PlacesView} {pool : PoolView} {xs : List Queued} →
     StandFor outputs places pool xs → cells_in places pool ≡ xs
-cells_are {places = places} {pool} {xs} s = merged_is places.outputs (queue_of pool.queues) xs s.split
+cells_are {pool = pool} {xs} s =
+    ap (λ l. merged l (queue_of pool.queues)) s.split.outputs
+    ∙ merged_queues xs (queue_of pool.queues) s.split.queued
 
 pub kept : {outputs : ℕ} {places : PlacesView} {pool : PoolView} {xs : List Queued} → StandFor outputs places pool xs →
     StandFor outputs places pool (cells_in places pool)

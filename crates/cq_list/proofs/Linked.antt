@@ -38,12 +38,8 @@ pub is_behind : {old mid new : Slab Node} {a k : ℕ} {ahead read : Node} {c : Q
     get old a ≡ Some ahead → Updates old mid k (Some (record { queued = c; next = ahead.next })) →
     get mid a ≡ Some read → Updates mid new a (Some (record { queued = read.queued; next = k })) →
     IsBehind (get old) (get new) a k ahead c
-is_behind {old} {mid} {k = k} {ahead = ahead} vacant here more again led = record {
-  here = here;
-  changed = search (rules, same_Some, still_there);
-  added = led.others k (λ same. none-some ahead (sym vacant ∙ ap (get old) same ∙ here)) ∙ more.changed;
-  others = λ i node there ne. led.others i ne ∙ still_there old mid k _ vacant more i node there;
-}
+is_behind {old} {mid} {k = k} {ahead = ahead} vacant here more again led =
+    search (rules, same_Some, still_there, led.others, none-some)
 
 module _ {old : Nodes} {j : ℕ} {queue : Queue} (had : IsLinked old j queue) (count : ℕ) {a : ℕ}
     (ends : EndsAt (places (linked old queue)) count a) (some : 0 < count) where
@@ -81,8 +77,7 @@ module _ (old new : Nodes) (j : ℕ) (queue more : Queue) (count k : ℕ) (c : Q
   cells_more = grind (arith, common_steps, map-insert, put_is)
 
   ends_more : EndsAt (places (linked new more)) more.len more.last
-  ends_more m is =
-      search (arith, rules, equal_or_not, length-map, count_inside, map-insert, insert_end_shown, insert_end_kept)
+  ends_more m is = search (rules, length-map, count_inside, map-insert, insert_end_shown, insert_end_kept)
 
   pub linked_more : IsLinked new j more
   linked_more = grind (arith, common_steps, length-insert, count_inside, cells_more, rising_put, ends_more, all_put)
@@ -95,9 +90,7 @@ module _ (old new : Nodes) (j : ℕ) (queue more : Queue) (count k : ℕ) (c : Q
 module _ {nodes : Nodes} {j : ℕ} {queue : Queue} {node : Node} (had : IsLinked nodes j queue) (some : 0 < queue.len)
     (here : nodes queue.first ≡ Some node) where
   begins_with : linked nodes queue ≡ (queue.first, node.queued) ∷ linked nodes (behind_first queue node.next)
-  begins_with =
-      let long : queue.len ≡ suc (queue.len - 1) = omega arith in
-      ap (λ n. chain nodes n queue.first) long ∙ chain-at nodes (queue.len - 1) queue.first node here
+  begins_with = grind (arith, common_steps, chain-at)
 
   pub cells_behind : cells (linked nodes queue) ≡ node.queued ∷ cells (linked nodes (behind_first queue node.next))
   cells_behind = ap cells begins_with
@@ -123,9 +116,7 @@ module _ {old new : Slab Node} {j : ℕ} {queue : Queue} {node : Node} (had : Is
   others i m there ne = less.others i ne ∙ there
 
   pub rest_stay : OthersStay j (get old) (get new)
-  rest_stay i m there ne =
-      let own = subst (AllByRecursion (λ c. c.cell.output ≡ j)) (cells_behind had some here) had.own in
-      grind (arith, common_steps, others, same_Some)
+  rest_stay i m there ne = search (rules, cells_behind, others, same_Some)
 
   rest_stays : linked (get new) (behind_first queue node.next) ≡ linked (get old) (behind_first queue node.next)
   rest_stays =
@@ -143,5 +134,4 @@ module _ {old new : Slab Node} {j : ℕ} {queue : Queue} {node : Node} (had : Is
   cells_less = ap cells links_less
 
   pub linked_less : IsLinked (get new) j (behind_first queue node.next)
-  linked_less = is_linked_along (get old) (get new) j (behind_first queue node.next) rest_stays
-      (linked_behind had some here)
+  linked_less = search (rules, is_linked_along, rest_stays, linked_behind)

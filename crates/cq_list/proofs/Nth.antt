@@ -1,7 +1,7 @@
 -- The place of the item number k of those that pass a test. It is read one item at a time: an item that fails is
 -- passed over, the first that passes is the answer for k = 0, and else leaves one less to look for. So it is the
 -- place at which a second test is first met among those that pass the first.
-use Rattle.cq_list.proofs.Terms.{rules, ◌≡◌, ◌≢◌, ℕ, ◌+◌, ◌-◌, ◌<◌, ◌≤◌, eqb, Bool, true, false, cond, List, [], ◌∷◌, ◌++◌, length, get_or, drop, map, refl, ap, arith, ⊎_elim, common_steps, ◌&&◌, filter, position_or_len, eq-eqb, ne_eqb, cases_Bool, cases_eq, drop_more, drop_all, first_here, first_later, place_of_nth, is_output}
+use Rattle.cq_list.proofs.Terms.{rules, ◌≡◌, ◌≢◌, ℕ, ◌+◌, ◌-◌, ◌<◌, ◌≤◌, eqb, Bool, true, false, cond, List, [], ◌∷◌, ◌++◌, length, get_or, drop, map, refl, ap, arith, common_steps, ◌&&◌, filter, position_or_len, eq-eqb, ne_eqb, cases_Bool, cases_eq, drop_more, drop_all, first_here, first_later, place_of_nth, is_output}
 
 -- ## One item
 
@@ -60,25 +60,21 @@ nth_none_left j k xs i h = ap (place_of_nth (is_output j) k) (drop_all i xs h)
 pub first_of_both : {X : Type 0} (p q : X → Bool) (xs : List X) →
     position_or_len (λ x. p x && q x) xs ≡ place_of_nth p (position_or_len q (filter p xs)) xs
 first_of_both p q [] = refl
-first_of_both {X} p q (x ∷ xs) =
-    grind (arith, common_steps, nth_item, first_here, first_later, cases_Bool, first_of_both p q xs)
+first_of_both {X} p q (x ∷ xs) = search (rules, first_here, first_later, cases_Bool, first_of_both p q xs)
 
 -- the item number k is there where more than k pass
 pub nth_inside : {X : Type 0} (p : X → Bool) (k : ℕ) (xs : List X) → k < length (filter p xs) →
     place_of_nth p k xs < length xs
 nth_inside p k [] some = absurd (omega arith)
-nth_inside p k (x ∷ xs) some = ⊎_elim
-    (search (arith, rules, passes, nth_here, nth_next, cases_eq, nth_inside p (k - 1) xs))
-    (search (arith, rules, fails, nth_other, nth_inside p k xs)) (cases_Bool (p x))
+nth_inside p k (x ∷ xs) some = search (rules, cases_Bool, cases_eq, nth_inside p (k - 1) xs, nth_inside p k xs)
 
 -- ## Two lists
 
 pub nth_in_front : {X : Type 0} (p : X → Bool) (k : ℕ) (xs ys : List X) → k < length (filter p xs) →
     place_of_nth p k (xs ++ ys) ≡ place_of_nth p k xs
 nth_in_front p k [] ys inside = absurd (omega arith)
-nth_in_front p k (x ∷ xs) ys inside = ⊎_elim
-    (search (arith, rules, passes, nth_here, nth_next, cases_eq, nth_in_front p (k - 1) xs ys))
-    (search (arith, rules, fails, nth_other, nth_in_front p k xs ys)) (cases_Bool (p x))
+nth_in_front p k (x ∷ xs) ys inside =
+    search (arith, rules, nth_item, cases_Bool, cases_eq, nth_in_front p (k - 1) xs ys, nth_in_front p k xs ys)
 
 pub nth_behind : {X : Type 0} (p : X → Bool) (k : ℕ) (xs ys : List X) → length (filter p xs) ≤ k →
     place_of_nth p k (xs ++ ys) ≡ length xs + place_of_nth p (k - length (filter p xs)) ys

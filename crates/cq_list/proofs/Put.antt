@@ -40,5 +40,4 @@ pub sooner_to : (key : Key) (x : Queued) (xs : List Queued) (m : ℕ) →
 sooner_to key x xs zero sooner rising at = omega arith
 sooner_to key x [] (suc m) sooner rising at = cc
 sooner_to key x (y ∷ xs) (suc m) sooner rising at =
-    let ahead = sooner y (all_at (IsBefore y) xs m x rising.0 at) in
-    let rest = sooner_to key x xs m sooner rising.1 at in grind (arith, common_steps, first_later)
+    grind (arith, common_steps, all_at, first_later, sooner_to key x xs m sooner rising.1 at)

@@ -127,8 +127,7 @@ module _ (nodes : Nodes) (queues : List Queue) {seen : List (List Queued)} (j : 
     (had : AreLinked nodes queues) (is : cells_in_queues nodes queues ≡ seen) (some : 0 < length (queue_of seen j))
     (read : queue ≡ get_or queues j queue) where
   head_read : IsRead nodes queues seen j queue
-  head_read = is_read nodes queues seen j queue had is
-      (inside_seen nodes queues seen j is (inside_some seen j 0 some)) read
+  head_read = search (rules, is_read, inside_seen, inside_some)
 
   pub has_head : 0 < queue.len
   has_head = let many = as_many head_read in omega arith

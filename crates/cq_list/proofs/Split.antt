@@ -39,16 +39,12 @@ behind_first : (queues : Queues) (x : Queued) (xs : List Queued) → ((j : ℕ) 
     (j : ℕ) → without_head x.cell.output queues j ≡ filter (is_for j) xs
 behind_first queues x xs same j = grind (arith, common_steps, cond_both, passes, fails)
 
-merged_queues : (cells : List Queued) (queues : Queues) → ((j : ℕ) → queues j ≡ filter (is_for j) cells) →
+pub merged_queues : (cells : List Queued) (queues : Queues) → ((j : ℕ) → queues j ≡ filter (is_for j) cells) →
     merged (map (λ c. c.cell.output) cells) queues ≡ cells
 merged_queues [] queues same = refl
 merged_queues (x ∷ xs) queues same =
     let rest = merged_queues xs (without_head x.cell.output queues) (behind_first queues x xs same) in
     search (arith, rules, passes, eq-eqb, cond_both, fails)
-
-pub merged_is : (places : List ℕ) (queues : Queues) (cells : List Queued) → IsSplit places queues cells →
-    merged places queues ≡ cells
-merged_is places queues cells s = ap (λ l. merged l queues) s.outputs ∙ merged_queues cells queues s.queued
 
 -- ## A cell that arrives
 
@@ -147,8 +143,7 @@ both_is_nth places queues xs j q s =
 own_at : (xs : List Queued) (i : ℕ) (c : Queued) → slice_get xs i ≡ Some c →
     slice_get (filter (is_for c.cell.output) xs) (length (filter (is_for c.cell.output) (take i xs))) ≡ Some c
 own_at [] i c h = cc
-own_at (x ∷ xs) zero c h =
-    let same : x ≡ c = cc in search (arith, rules, passes, eq-eqb)
+own_at (x ∷ xs) zero c h = grind (arith, common_steps, passes, eq-eqb)
 own_at (x ∷ xs) (suc i) c h = search (arith, rules, cond_both, passes, fails, own_at xs i c)
 
 pub cell_at : (places : List ℕ) (queues : Queues) (xs : List Queued) (i : ℕ) (c : Queued) → IsSplit places queues xs →

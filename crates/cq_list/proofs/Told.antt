@@ -21,40 +21,27 @@ merged_on : (places more : List ℕ) (queues : Queues) →
     merged (places ++ more) queues ≡ merged places queues ++ merged more (left_of places queues)
 merged_on [] more queues = refl
 merged_on (i ∷ places) more queues =
-    let same = merged_same more _ _ (left_behind i places queues) in
-    search (arith, rules, merged_on places more (without_head i queues), same, append_assoc)
-
--- nothing is told yet
-pub told_none : {queues : Queues} {told all : List Queued} → all ≡ told → HaveTold [] queues queues told all
-told_none {told = told} none = record { cells = none ∙ sym (append-nil told); left = λ j. refl }
+    grind (arith, common_steps, merged_same, left_behind, append_assoc, merged_on places more (without_head i queues))
 
 module _ {places : List ℕ} {old left : Queues} {told cells : List Queued}
     (t : HaveTold places old left told cells) where
   pub told_on : {more : List ℕ} {new : Queues} {all : List Queued} → HaveTold more left new cells all →
       HaveTold (places ++ more) old new told all
   told_on {more} {new} {all} n =
-      let same = merged_same more left (left_of places old) t.left in
-      search (arith, rules, merged_on, append_assoc, drop-drop, filter-append, length-append)
+      grind (arith, common_steps, merged_same, merged_on, append_assoc, drop-drop, filter-append, length-append)
 
   pub can_behind : (more : List ℕ) → CanTell (places ++ more) old → CanTell more left
-  can_behind more there j =
-      let enough = there j in
-      grind (arith, common_steps, enough, t.left, length-drop, filter-append, length-append)
+  can_behind more there j = grind (arith, common_steps, length-drop, filter-append, length-append)
 
-  pub can_left : (next rest : List ℕ) → CanTell (places ++ (next ++ rest)) old → CanTell next left
-  can_left next rest there j =
-      let enough = there j in
-      grind (arith, common_steps, enough, t.left, length-drop, filter-append, length-append)
+pub can_first : (places more : List ℕ) (queues : Queues) → CanTell (places ++ more) queues → CanTell places queues
+can_first places more queues can j = grind (arith, common_steps, filter-append, length-append)
 
 -- the head of a queue is told
 pub told_one : {j : ℕ} {x : Queued} (queues : List (List Queued)) {new : List (List Queued)}
     {told cells : List Queued} →
     slice_get (queue_of queues j) 0 ≡ Some x → new ≡ slice_set queues j (drop 1 (queue_of queues j)) →
     cells ≡ told ++ x ∷ [] → HaveTold (j ∷ []) (queue_of queues) (queue_of new) told cells
-told_one {j} {x} queues head less more = record {
-  cells = search (arith, rules, more, head);
-  left = λ i. search (arith, rules, less, queue_of-set, queue_inside queues j x head, cond_both, passes, fails);
-}
+told_one {j} {x} queues head less more = search (rules, queue_of-set, queue_inside, cond_both, passes, fails)
 
 -- ## The place, or the block of places, that is told next
 
@@ -66,7 +53,8 @@ head_left places {i} {output} queues {old} t inside is_read can =
     let parts : places ≡ take i places ++ output ∷ drop (i + 1) places =
     sym (take-append-drop i places) ∙ ap (λ l. take i places ++ l) (drop_more places i output inside
     ∙ ap (λ o. o ∷ drop (i + 1) places) (sym is_read)) in
-    let enough = can_left t (output ∷ []) (drop (i + 1) places) (subst (λ l. CanTell l old) parts can) output in
+    let enough = can_first (output ∷ []) (drop (i + 1) places) _
+    (can_behind t _ (subst (λ l. CanTell l old) parts can)) output in
     search (arith, rules, passes, eq-eqb)
 
 pub told_next : (places : List ℕ) (i : ℕ) {output : ℕ} (queues : List (List Queued)) {new : List (List Queued)}
@@ -80,16 +68,10 @@ told_next places i {output} queues t head less more inside is_read =
 
 -- ## Block by block
 
-pub can_first : (places more : List ℕ) (queues : Queues) → CanTell (places ++ more) queues → CanTell places queues
-can_first places more queues can j =
-    let enough = can j in grind (arith, common_steps, enough, filter-append, length-append)
-
 -- what is told and what is left to be told are all
 pub told_rest : {places : List ℕ} (more : List ℕ) {old new : Queues} {told cells all : List Queued} →
     told ++ merged (places ++ more) old ≡ all → HaveTold places old new told cells → cells ++ merged more new ≡ all
-told_rest {places} more {old} {new} {told} whole t =
-    let same = merged_same more new (left_of places old) t.left in
-    search (arith, rules, t.cells, merged_on, same, append_assoc, whole)
+told_rest {places} more {old} {new} {told} whole t = grind (arith, common_steps, merged_same, merged_on, append_assoc)
 
 pub block_first : {left rest : List (List ℕ)} {block outputs : List ℕ} → left ≡ block ∷ rest → outputs ≡ block →
     concat left ≡ outputs ++ concat rest

@@ -1,16 +1,14 @@
 -- A walk along a queue, node by node. Where it has come the rest of the chain begins at the place that it looks at,
 -- none of the cells behind it is less urgent, and it knows the place of the last of them.
-use Rattle.cq_list.proofs.Terms.{common_steps, rules, ◌≡◌, ℕ, zero, suc, ◌+◌, ◌-◌, ◌<◌, ◌≤◌, subst, length, ⊎_elim, cases_lt, Bool, true, false, List, [], ◌∷◌, drop, Some, sym, ap, ◌∙◌, arith, length-drop, slice_get, position_or_len, drop-drop, length-map, slice_get-map, slice_get_within, get_or_from_slice_get, Queued, first_inside, Node, Queue, Nodes, chain, linked, cells, EndsAt, IsChained, first_le, places, same_Some, Key, is_before, key_laws}
+use Rattle.cq_list.proofs.Terms.{common_steps, rules, ◌≡◌, ℕ, zero, suc, ◌+◌, ◌-◌, ◌<◌, ◌≤◌, subst, length, ⊎_elim, cases_lt, Bool, true, false, List, ◌∷◌, drop, Some, sym, ap, ◌∙◌, arith, length-drop, slice_get, slice_get-get_or, position_or_len, drop-drop, drop_more, length-map, slice_get-map, slice_get_within, get_or_from_slice_get, Queued, first_inside, Node, Queue, Nodes, chain, linked, cells, EndsAt, IsChained, first_le, places, same_Some, Key, is_before, key_laws}
 use Rattle.std.proofs.lemmas.List.Sums.{passes_at_first}
 use Rattle.cq_list.proofs.Chain.{chain-at, begins}
 use Rattle.cq_list.proofs.Finger.{ends_inside}
 use Rattle.cq_list.proofs.Put.{is_no_sooner, sooner_to}
 
 shown_at : {X : Type 0} (xs : List X) (i : ℕ) (x : X) (ys : List X) → drop i xs ≡ x ∷ ys → slice_get xs i ≡ Some x
-shown_at [] zero x ys e = cc
-shown_at [] (suc i) x ys e = cc
-shown_at (y ∷ xs) zero x ys e = cc
-shown_at (y ∷ xs) (suc i) x ys e = shown_at xs i x ys e
+shown_at xs i x ys e =
+    grind (arith, common_steps, length-drop i xs, drop_more xs i x, slice_get-get_or xs i x)
 
 -- it has come past so many nodes and looks at this place
 abbrev pub HasReached : Nodes → Queue → ℕ → ℕ → Type 0
@@ -65,9 +63,6 @@ pub record HasPassed (nodes : Nodes) (queue : Queue) (p : Queued → Bool) (coun
   pub reached : HasReached nodes queue count place
   pub behind : count ≤ position_or_len p (cells (linked nodes queue))
 
-pub search_starts : (nodes : Nodes) (queue : Queue) (p : Queued → Bool) → HasPassed nodes queue p 0 queue.first
-search_starts nodes queue p = record { reached = reached_first nodes queue; behind = omega arith }
-
 -- it looks at a node of the queue
 module _ {nodes : Nodes} {queue : Queue} {p : Queued → Bool} {count place : ℕ} {node : Node}
     (chained : IsChained nodes queue) (passed : HasPassed nodes queue p count place) (inside : count < queue.len)
@@ -88,9 +83,7 @@ module _ {nodes : Nodes} {queue : Queue} {p : Queued → Bool} {count place : �
 pub searched_all : {nodes : Nodes} {queue : Queue} {count : ℕ} (p : Queued → Bool) → IsChained nodes queue →
     count ≤ position_or_len p (cells (linked nodes queue)) → queue.len ≤ count →
     queue.len ≡ position_or_len p (cells (linked nodes queue))
-searched_all {nodes} {queue} p had behind past =
-    let inside = first_inside p (cells (linked nodes queue)) in
-    let long = length-map (linked nodes queue) (λ (e : ℕ × Queued). e.1) in grind (arith, common_steps, had.whole)
+searched_all {nodes} {queue} p had behind past = grind (arith, common_steps, first_inside, length-map)
 
 -- ## Where a walk begins
 
@@ -132,8 +125,7 @@ module _ {nodes : Nodes} {queue : Queue} (had : IsChained nodes queue) where
       cell_ahead = cell_shown had last_reached inside here
 
       pub next_reached : HasReached nodes queue count node.next
-      next_reached =
-          let next : count ≡ count - 1 + 1 = omega arith in rw next (reached_next had last_reached inside here)
+      next_reached = grind (arith, common_steps, reached_next, last_reached, inside)
 
       -- where the last of some cells is more urgent, they all are
       pub all_sooner : (key : Key) → is_before node.queued.key key ≡ true →

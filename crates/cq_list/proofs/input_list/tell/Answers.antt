@@ -1,9 +1,9 @@
-use Rattle.cq_list.proofs.Terms.{rules, arith, refl}
-use Rattle.cq_list.proofs.Told.{told_none, head_left, told_next}
+use Rattle.cq_list.proofs.Terms.{rules, arith, refl, sym, append-nil}
+use Rattle.cq_list.proofs.Told.{head_left, told_next}
 use Rattle.cq_list.proofs.input_list.tell.Goals as goal
 
 pub places-init : goal.places-init
-places-init c = told_none refl
+places-init c = record { cells = sym (append-nil _); left = λ j. refl }
 
 pub next-requires : goal.next-requires
 next-requires c = search (arith, rules, head_left)

@@ -1,11 +1,11 @@
 use Rattle.cq_list.proofs.Terms.{rules, arith, ◌≡◌, ◌+◌, ◌-◌, ◌<◌, ◌∙◌, ⊎_elim, length, take_all, concat, IsAhead}
 use Rattle.std.specs.VecDeque.Iter.{deque_iter_rest}
-use Rattle.cq_list.proofs.BlockWalk.{none_ahead, AreMet, are_met, both_left, nth_found}
+use Rattle.cq_list.proofs.BlockWalk.{AreMet, are_met, both_left, nth_found}
 use Rattle.cq_list.proofs.places.find_from_ends.Goals as goal
 use Rattle.cq_list.proofs.places.find_from_ends.Goals.{Start, In-Some}
 
 pub each-init : goal.each-init
-each-init c = search (arith, rules, none_ahead, take_all)
+each-init c = search (arith, rules, take_all)
 
 most : (c : Start) → length (concat c.args.blocks.now.items) < 18446744073709551616
 most c = search (arith, rules, take_all)

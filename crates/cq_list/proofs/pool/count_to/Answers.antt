@@ -1,9 +1,9 @@
-use Rattle.cq_list.proofs.Terms.{◌∙◌, sym, ap, is_some, and_assoc}
-use Rattle.cq_list.proofs.Walk.{node_there, search_starts, search_ends, search_on, searched_all}
+use Rattle.cq_list.proofs.Terms.{◌∙◌, sym, ap, is_some, and_assoc, arith, get}
+use Rattle.cq_list.proofs.Walk.{node_there, reached_first, search_ends, search_on, searched_all}
 use Rattle.cq_list.proofs.pool.count_to.Goals as goal
 
 pub nodes-init : goal.nodes-init
-nodes-init c = search_starts _ _ _
+nodes-init c = record { reached = reached_first (get c.args.nodes.now) c.args.queue; behind = omega arith }
 
 pub index-requires : goal.index-requires
 index-requires c = ap is_some (node_there c.requires c.nodes.invariant.reached c.nodes-test.true).1
