@@ -23,9 +23,6 @@ module _ (o : Orders) (v : AreOffers o) (c : Progress) (r : IsReached o c) where
   pub places_known : length c.state.places ≡ ports o
   places_known = sound-reached.inputs
 
-  pub positions_known : length c.state.positions ≡ ports o
-  positions_known = sound-reached.outputs
-
   pub made-most : c.made ≤ ports o * ports o
   made-most = rw r.made (events_at_most o v r.events r.are_events)
 

@@ -1,5 +1,5 @@
-use Rattle.cq_pair.proofs.Terms.{rules, ◌+◌, sym, subst, arith, Partners}
-use Rattle.cq_pair.proofs.Leaving.{ArePartedBefore, parted-next, parted-all}
+use Rattle.cq_pair.proofs.Terms.{rules, ◌+◌, sym, subst, arith, Partners, take_all}
+use Rattle.cq_pair.proofs.Leaving.{ArePartedBefore, parted-next}
 use Rattle.cq_pair.proofs.proposal_core.part_all.Goals as goal
 
 pub part-requires : goal.part-requires
@@ -10,4 +10,4 @@ inputs-preserved c = subst (λ (m : Partners). ArePartedBefore (c.inputs.input +
     (sym c.part.ensures) (parted-next c.inputs.input c.args.ports c.inputs.matching (omega arith) c.inputs.invariant)
 
 pub returns : goal.returns
-returns c = search (arith, rules, parted-all)
+returns c = search (arith, rules, take_all)

@@ -1,5 +1,5 @@
 use Rattle.cq_pair.proofs.Terms.{rules, arith, inputs_at_most}
-use Rattle.cq_pair.proofs.Reached.{asked_known, asked_offered, free_known, places_known, positions_known}
+use Rattle.cq_pair.proofs.Reached.{asked_known, asked_offered, free_known, places_known, sound-reached}
 use Rattle.cq_pair.proofs.proposal_core.Core.asked_by.Goals as goal
 
 pub at-place-requires : goal.at-place-requires
@@ -12,7 +12,7 @@ pub bounds-outputs_of-place : goal.bounds-outputs_of-place
 bounds-outputs_of-place c = search (arith, rules)
 
 pub at-held-requires : goal.at-held-requires
-at-held-requires c = search (arith, rules, asked_known, positions_known)
+at-held-requires c = search (arith, rules, asked_known, sound-reached)
 
 pub inputs_of-requires : goal.inputs_of-requires
 inputs_of-requires c = search (arith, rules, asked_known)
