@@ -1,7 +1,7 @@
 -- What an arrival and a transfer change in the offers. A cell that goes into a list, or the first cell for an output
 -- that leaves it, changes neither the first cells for the other outputs nor the order in which these stand. So with the
 -- pair of the input and of this output taken out, the orders are as before.
-use Rattle.cq_prefs.proofs.Terms.{common_steps, rules, ◌≡◌, ◌≢◌, ℕ, zero, suc, eqb, not, cond, Bool, true, false, List, [], ◌∷◌, length, map, Option, Some, None, refl, sym, ap, arith, ◌∙◌, filter, insert, cond_both, cond-false, cases_eq, cases_lt, eq-eqb, ne_eqb, eqb-true, not-true, length-map, Queued, is_for, first_for, without_first, list_of, FirstKeysDiffer, without_repeats, output_order, input_order, orders_of, first_key, key_at, Partners, partner_of, without, is_partner, is_pair, AreSameWithout, kept_has, has_kept, pairs_kept, pairs_kept_with, same_pairs}
+use Rattle.cq_prefs.proofs.Terms.{common_steps, rules, ◌≡◌, ◌≢◌, ℕ, zero, suc, eqb, not, cond, Bool, true, false, List, [], ◌∷◌, length, map, Option, Some, None, refl, sym, ap, arith, ◌∙◌, filter, insert, cond_both, cond-false, cases_eq, cases_lt, eq-eqb, ne_eqb, eqb-true, not-true, length-map, Queued, is_for, first_for, without_first, list_of, FirstKeysDiffer, without_repeats, output_order, input_order, orders_of, first_key, key_at, Partners, partner_of, without, is_partner, is_pair, AreSameWithout, kept_has, has_kept, pairs_kept, pairs_kept_with, same_pairs, eqb-false}
 use Rattle.cq_prefs.proofs.InputOrder.{key_at-first, is_input_order, outputs_at, inputs_at, no_inputs_past}
 use Rattle.cq_prefs.proofs.Members.{among, listed}
 use Rattle.cq_prefs.proofs.OneOrder.{more_urgent, urgent_one_way, inputs_rise}
@@ -60,15 +60,11 @@ pub record IsSameBut (p : Option ℕ) (old new : List Queued) : Type 0 where
 pub same_list : (p : Option ℕ) (old new : List Queued) → new ≡ old → IsSameBut p old new
 same_list p old new e = grind (arith, common_steps)
 
--- a number is not the one that is taken out
-other_than : (k j : ℕ) → eqb k j ≡ false → k ≢ j
-other_than k j differ e = let is = eq-eqb k j e in let P : ⊥ = cc in P
-
 same_but : (p : Option ℕ) (old new : List Queued) (j : ℕ) → p ≡ Some j →
     ((k : ℕ) → k ≢ j → first_for k new ≡ first_for k old) → without j (outputs old) ≡ without j (outputs new) →
     IsSameBut p old new
 same_but p old new j partner firsts e = rw partner (record {
-  firsts = λ k apart. firsts k (other_than k j apart);
+  firsts = λ k apart. firsts k (eqb-false k j apart);
   order = left_out j (outputs old) ∙ ap without_repeats e ∙ sym (left_out j (outputs new));
 })
 

@@ -20,9 +20,6 @@ found_only p (x ∷ xs) y m h only = grind (arith, common_steps, cond_both, true
 holds-yes : (o : Orders) (s : State) (i j : ℕ) → holds o s i j ≡ true → Holds o s j i
 holds-yes o s i j h = let parts = and_parts _ _ h in (eqb-true _ _ parts.0, ltb-true _ _ parts.1)
 
-holds-from : (o : Orders) (s : State) (i j : ℕ) → Holds o s j i → holds o s i j ≡ true
-holds-from o s i j h = and_from _ _ (eq-eqb _ _ h.0) (lt-ltb _ _ h.1)
-
 -- an output that does not hold nobody holds its holder
 pub holder-holds : (o : Orders) → AreOffers o → (s : State) → IsSound o s → (j : ℕ) → j < ports o →
     position_held s j ≢ ports o → Holds o s j (holder o s j)
@@ -43,7 +40,8 @@ unfolding keeper
 keeper-from o v s w i j h =
     let r : j < ports o = output_in_range o v i j (v.shown_back i j h.1) in
     found_only (holds o s i) (range_with_len 0 (ports o)) j (has_number 0 (ports o) j (omega arith) (omega arith))
-    (holds-from o s i j h) (λ k also. held_once o v s w i k j (holds-yes o s i k also) h)
+    (and_from _ _ (eq-eqb _ _ h.0) (lt-ltb _ _ h.1))
+    (λ k also. held_once o v s w i k j (holds-yes o s i k also) h)
 
 none_unless : (p : Option ℕ) → ((j : ℕ) → p ≡ Some j → ⊥) → p ≡ None
 none_unless p h = grind (arith, common_steps, h)
