@@ -3,7 +3,7 @@
 -- of their keys, one after the other, each new one is before or behind every other, so the list rises, and it has the
 -- same members. So the lists made of the cells that the fabric has for each output rise and have these cells: that is
 -- agreement. And two lists that rise and have the same members are one list.
-use Rattle.cq_laws.proofs.Terms.{flat_map, common_steps, rules, ◌≡◌, ◌≢◌, ℕ, ◌≤◌, List, [], ◌∷◌, length, refl, sym, ◌∙◌, inl, inr, ⊎_elim, arith, zero, suc, ◌+◌, ◌⊎◌, ◌++◌, filter, cases_lt, cond_both, eqb-true, eq-eqb, ext_get_or, get_or_past, get_or-map-range_with_len, length-map-range_with_len, Queued, IdealState, Agrees, Fabric, IsAmong, IsFabric, buffer, ListsKeepOrder, IsBefore, IsRising, KeysDiffer, KeepsOrder, is_for, list_of, IsSoundFabric, ideal_of, in_order, cells_for, HasFor, has_cases, has_left, has_right, has_kept, kept_has, all_of_has, none_had, all_from_has, same_pairs, true}
+use Rattle.cq_laws.proofs.Terms.{flat_map, common_steps, rules, ◌≡◌, ◌≢◌, ℕ, ◌≤◌, List, [], ◌∷◌, length, sym, ◌∙◌, inl, inr, ⊎_elim, arith, zero, suc, ◌⊎◌, filter, cases_lt, eqb-true, eq-eqb, ext_get_or, get_or_past, get_or-map-range_with_len, length-map-range_with_len, Queued, IdealState, Agrees, Fabric, IsAmong, IsFabric, buffer, ListsKeepOrder, IsBefore, IsRising, KeysDiffer, KeepsOrder, is_for, list_of, IsSoundFabric, ideal_of, in_order, cells_for, HasFor, has_cases, has_left, has_right, has_kept, kept_has, all_of_has, none_had, all_from_has, same_pairs, pairs_joined, pairs_kept_with}
 use Rattle.cq_laws.proofs.Members.{among_put, put_new, put_old, rising_put}
 use Rattle.cq_laws.proofs.Sound.{apart_from, not_before_itself, Apart, never_both}
 
@@ -12,14 +12,6 @@ use Rattle.cq_laws.proofs.Sound.{apart_from, not_before_itself, Apart, never_bot
 differ_rising : (xs : List Queued) → IsRising xs → KeysDiffer xs
 differ_rising [] r = tt
 differ_rising (x ∷ xs) r = grind (arith, all_from_has, all_of_has, not_before_itself, differ_rising xs r.1)
-
-differ_append : (xs ys : List Queued) → KeysDiffer xs → KeysDiffer ys →
-    ((c d : Queued) → IsAmong c xs → IsAmong d ys → c.key ≢ d.key) → KeysDiffer (xs ++ ys)
-differ_append [] ys x y apart = y
-differ_append (c ∷ xs) ys x y apart =
-    let differ = all_from_has (λ d. c.key ≢ d.key) (xs ++ ys) (λ d h. ⊎_elim (all_of_has (λ q. c.key ≢ q.key) xs d x.0)
-    (apart c d (inl refl)) (has_cases xs ys d h)) in
-    (differ, differ_append xs ys x.1 y (λ q d h. apart q d (inr h)))
 
 -- ## The cells that wait for an output
 
@@ -42,15 +34,14 @@ module _ (j : ℕ) where
   at_waits (cells ∷ lists) (suc i) c h e = grind (arith, common_steps, has_right, at_waits lists i c h e)
 
   filter_rises : (xs : List Queued) → KeepsOrder xs → IsRising (filter (is_for j) xs)
-  filter_rises [] order = tt
-  filter_rises (x ∷ xs) order =
-      grind (arith, common_steps, all_from_has, kept_has, all_of_has, eqb-true, cond_both, filter_rises xs order.1)
+  filter_rises xs order = pairs_kept_with _ IsBefore (is_for j) (λ x y here there before.
+      before (eqb-true x.cell.output j here ∙ sym (eqb-true y.cell.output j there))) xs order
 
   waits_differ : (lists : List (List Queued)) → ((i : ℕ) → KeepsOrder (list_of lists i)) →
       ((i k : ℕ) (c d : Queued) → IsAmong c (list_of lists i) → IsAmong d (list_of lists k) → c.key ≡ d.key → i ≡ k) →
       KeysDiffer (waits lists)
   waits_differ [] order apart = tt
-  waits_differ (cells ∷ lists) order apart = differ_append (filter (is_for j) cells) (waits lists)
+  waits_differ (cells ∷ lists) order apart = pairs_joined _ (filter (is_for j) cells) (waits lists)
       (differ_rising (filter (is_for j) cells) (filter_rises cells (order zero)))
       (waits_differ lists (λ i. order (suc i)) (λ i k c d a b e. omega (arith, apart (suc i) (suc k) c d a b e)))
       (λ c d l r e. let at = waits_at lists d r in
@@ -63,7 +54,7 @@ module _ (j : ℕ) where
   from_cells f c h = grind (arith, common_steps, waits_at f.inputs c, has_cases (waits f.inputs) (buffer f j) c h)
 
   cells_differ : (f : Fabric) → IsFabric f → ListsKeepOrder f → Apart f → KeysDiffer (cells_for j f)
-  cells_differ f fabric order apart = differ_append (waits f.inputs) (buffer f j)
+  cells_differ f fabric order apart = pairs_joined _ (waits f.inputs) (buffer f j)
       (waits_differ f.inputs order (λ i k c d a b e. (apart.waiting i k c d a b e).0))
       (differ_rising (buffer f j) (fabric.rising j)) (λ c d l r.
       let at = waits_at f.inputs c l in apart.between at.0 j c d at.1 r)

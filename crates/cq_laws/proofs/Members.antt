@@ -1,7 +1,8 @@
 -- The cells of a list, as members and by their places. First what a place shows of a member, then where the first
 -- cell for an output stands, then what becomes of the members where that cell is taken out, where a cell is put in
 -- the order of keys, and where one is inserted at a place.
-use Rattle.cq_laws.proofs.Terms.{rules, ◌≡◌, ◌≢◌, ℕ, zero, suc, ◌+◌, ◌<◌, ◌≤◌, ◌⊎◌, Bool, true, false, List, [], ◌∷◌, Some, refl, ap, inl, inr, ⊎_elim, arith, common_steps, slice_get, find, insert, position_or_len, eqb-true, cond_both, cases_Bool, Key, Queued, IsAmong, is_before, IsBefore, IsRising, put, is_for, first_for, place_for, without_first, key_laws, first_here, first_later, all_put, all_of_has, all_from_has, stands_at, has_there}
+use Rattle.cq_laws.proofs.Terms.{rules, ◌≡◌, ◌≢◌, ℕ, zero, suc, ◌+◌, ◌<◌, ◌≤◌, ◌⊎◌, Bool, true, List, [], ◌∷◌, Some, refl, sym, ap, inl, inr, ⊎_elim, arith, common_steps, slice_get, find, insert, position_or_len, eqb-true, cond_both, Queued, IsAmong, IsRising, put, is_for, first_for, place_for, without_first, first_here, first_later, all_from_has, stands_at, has_there, has_cases, has_left, has_right, drop, take, take-append-drop}
+use Rattle.cq_base.proofs.Putting.{rising_put as put_rises}
 
 -- ## The first cell for an output
 
@@ -75,18 +76,9 @@ pub put_old : (d c : Queued) (xs : List Queued) → IsAmong d xs → IsAmong d (
 put_old d c [] h = absurd h
 put_old d c (x ∷ xs) h = grind (arith, common_steps, cond_both, put_old d c xs)
 
--- a key that differs and is not before the other is after it
-pub after_other : (a b : Key) → is_before a b ≡ false → a ≢ b → is_before b a ≡ true
-after_other a b h ne = ⊎_elim (λ e. e) (λ e. absurd (ne (key_laws.alike a b h e))) (cases_Bool (is_before b a))
-
 pub rising_put : (c : Queued) (xs : List Queued) → IsRising xs → ((d : Queued) → IsAmong d xs → c.key ≢ d.key) →
     IsRising (put c xs)
-rising_put c [] r ne = (tt, tt)
-rising_put c (x ∷ xs) r ne =
-    let rest = rising_put c xs r.1 (λ d k. ne d (inr k)) in
-    let later = λ (e : IsBefore c x). all_from_has (IsBefore c) xs (λ d m.
-    key_laws.on c.key x.key d.key e (all_of_has (IsBefore x) xs d r.0 m)) in
-    grind (arith, common_steps, cond_both, all_put (IsBefore x) c xs, after_other, later, ne x)
+rising_put c xs r ne = put_rises c xs r (all_from_has _ xs (λ d h e. ne d h (sym e)))
 
 -- ## A cell inserted at a place
 
@@ -105,16 +97,12 @@ inserted_at (x ∷ xs) (suc p) (suc t) n c h = ⊎_elim (λ k. record { was = in
 inserted_at xs p t n c h = record { was = inl (omega arith, cc) }
 
 pub insert_new : (xs : List Queued) (p : ℕ) (n : Queued) → IsAmong n (insert xs p n)
-insert_new xs zero n = inl refl
-insert_new [] (suc p) n = inl refl
-insert_new (x ∷ xs) (suc p) n = inr (insert_new xs p n)
+insert_new xs p n = has_right (take p xs) (n ∷ drop p xs) n (inl refl)
 
 pub insert_old : (xs : List Queued) (p : ℕ) (n c : Queued) → IsAmong c xs → IsAmong c (insert xs p n)
-insert_old xs zero n c h = inr h
-insert_old [] (suc p) n c h = absurd h
-insert_old (x ∷ xs) (suc p) n c h = ⊎_elim (λ e. inl e) (λ k. inr (insert_old xs p n c k)) h
+insert_old xs p n c h = ⊎_elim (has_left (take p xs) (n ∷ drop p xs) c) (λ k. has_right (take p xs) _ c (inr k))
+    (has_cases (take p xs) (drop p xs) c (rw (take-append-drop p xs) h))
 
 pub among_insert : (xs : List Queued) (p : ℕ) (n c : Queued) → IsAmong c (insert xs p n) → (n ≡ c) ⊎ IsAmong c xs
-among_insert xs zero n c h = h
-among_insert [] (suc p) n c h = h
-among_insert (x ∷ xs) (suc p) n c h = grind (arith, common_steps, among_insert xs p n c)
+among_insert xs p n c h =
+    grind (arith, common_steps, has_cases, has_left, has_right (take p xs) (drop p xs), take-append-drop p xs)
