@@ -1,7 +1,7 @@
 -- The figures of all records, with one record more. A sum, a count and a greatest number of a list with one part more
 -- are those of the list and of the part, put together; and so are a least and a greatest that may be none, since it
 -- does not matter which two numbers are compared first.
-use Rattle.cq_laws.proofs.Terms.{common_steps, rules, ◌≡◌, ℕ, zero, suc, ◌+◌, List, [], ◌∷◌, ◌++◌, map, Some, refl, ap, ◌∙◌, append_assoc, arith, max, min, fold, replicate, range_with_len, enumerate_from, flat_map, reduce, append-nil, map_push, flat_map-append, fold-append, sum_by_push, filter_map-append, Figures, SlotRecord, proposals_in, input_figures, output_figures, figures_of, either_by, input_after, output_after, figures_after, no_figures}
+use Rattle.cq_laws.proofs.Terms.{common_steps, rules, ◌≡◌, ℕ, zero, suc, ◌+◌, List, [], ◌∷◌, ◌++◌, map, Some, refl, sym, ap, ◌∙◌, append_assoc, arith, max, min, fold, replicate, range_with_len, enumerate_from, flat_map, reduce, append-nil, map_push, flat_map-append, fold-append, sum_by_push, filter_map-append, Figures, SlotRecord, proposals_in, input_figures, output_figures, figures_of, either_by, input_after, output_after, figures_after, no_figures}
 
 -- ## Lists with one part more
 
@@ -23,15 +23,10 @@ pub min_assoc : (a b c : ℕ) → min (min a b) c ≡ min a (min b c)
 min_assoc a b c = omega arith
 
 -- a list by index, changed at each index
-map-enumerate : {X : Type 0} (f : ℕ → X) (g : ℕ → X → X) (n k : ℕ) →
-    map (λ (at : ℕ × X). g at.0 at.1) (enumerate_from n (map f (range_with_len n k)))
-    ≡ map (λ i. g i (f i)) (range_with_len n k)
-map-enumerate f g n zero = refl
-map-enumerate f g n (suc k) = ap (λ l. g n (f n) ∷ l) (map-enumerate f g (n + 1) k)
-
-map-same : {X : Type 0} (f g : ℕ → X) → ((i : ℕ) → f i ≡ g i) → (xs : List ℕ) → map f xs ≡ map g xs
-map-same f g h [] = refl
-map-same f g h (x ∷ xs) = λ k. h x k ∷ map-same f g h xs k
+map-enumerate : {X : Type 0} (f new : ℕ → X) (g : ℕ → X → X) → ((i : ℕ) → new i ≡ g i (f i)) → (n k : ℕ) →
+    map (λ (at : ℕ × X). g at.0 at.1) (enumerate_from n (map f (range_with_len n k))) ≡ map new (range_with_len n k)
+map-enumerate f new g is n zero = refl
+map-enumerate f new g is n (suc k) = λ t. sym (is n) t ∷ map-enumerate f new g is (n + 1) k t
 
 pub map-constant : {X : Type 0} (f : ℕ → X) (c : X) → ((i : ℕ) → f i ≡ c) → (n k : ℕ) →
     map f (range_with_len n k) ≡ replicate k c
@@ -56,11 +51,10 @@ pub figures_more : (ports : ℕ) (rs : List SlotRecord) (r : SlotRecord) →
 unfolding figures_of figures_after
 figures_more ports rs r =
     let most = fold-max (fold max 0 (flat_map proposals_in rs)) (proposals_in r) in
-    let inputs = map-enumerate (input_figures rs) (input_after r) 0 ports in
-    let outputs = map-enumerate (output_figures rs) (output_after r) 0 ports in
-    let same_inputs = map-same (input_figures (rs ++ r ∷ [])) in
-    let same_outputs = map-same (output_figures (rs ++ r ∷ [])) in
-    grind (arith, common_steps, most, same_inputs, same_outputs, input_more rs r, output_more rs r)
+    let now = rs ++ r ∷ [] in
+    let inputs = map-enumerate (input_figures rs) (input_figures now) (input_after r) (input_more rs r) 0 ports in
+    let outputs = map-enumerate (output_figures rs) (output_figures now) (output_after r) (output_more rs r) 0 ports in
+    grind (arith, common_steps, most, inputs, outputs)
 
 -- ## From none to all
 
