@@ -1,11 +1,11 @@
 -- Both switches act alike, with limits and without: with stable matchings, and so with input-best ones. From empty
 -- states on they refuse as much at each output, since their admissions are the same.
 use Rattle.cq_laws.proofs.Terms.{common_steps, arith, rules, ◌≡◌, ℕ, List, Option, Result, Ok, AllByRecursion, Cell, TagFault, Machine, Marked, AreForPorts, IsInputBest, IsStable, ActAlikeFromEmptyWithoutLimits, ActAlikeWithoutLimits, Fabric, LimitedFabricRun, LimitedRecord, empty_limited_fabric, LimitedRan, empty_limited, ActAlike, ActAlikeFromEmpty, LimitedRunsAlike}
-use Rattle.cq_laws.proofs.InputBest.{stable_slot, stable_run, stable_stop, stable_limited_slot, stable_limited_run, stable_limited_stop}
+use Rattle.cq_laws.proofs.InputBest.{stable_too, stable_limited_slot, stable_limited_run, stable_limited_stop}
 use Rattle.cq_laws.proofs.LimitedSlots.{same_limited_slot, same_limited_fault}
 use Rattle.cq_laws.proofs.LimitedWhole.{begin, same_limited_run, same_limited_stop}
 use Rattle.cq_laws.proofs.OneSlot.{same_slot, same_fault}
-use Rattle.cq_laws.proofs.WholeRuns.{same_run, same_stop, run_from_empty, stop_from_empty}
+use Rattle.cq_laws.proofs.WholeRuns.{empty_agree, same_run, same_stop, traffic_for_empty}
 
 same_admissions : (a b : LimitedRan) (x : Result LimitedRan TagFault) → x ≡ Ok a → x ≡ Ok b →
     a.admissions ≡ b.admissions
@@ -49,7 +49,17 @@ module _ (ms : List Machine) where
   stable_alike_without_limits = search (rules, same_slot, same_fault, same_run, same_stop)
 
   pub best_alike_without_limits : ActAlikeWithoutLimits IsInputBest ms
-  best_alike_without_limits = search (rules, stable_alike_without_limits, stable_slot, stable_run, stable_stop)
+  best_alike_without_limits =
+      let also = stable_too ms in search (rules, stable_alike_without_limits, also.slot, also.run, also.stop)
 
   pub best_alike_from_empty_without_limits : ActAlikeFromEmptyWithoutLimits IsInputBest ms
-  best_alike_from_empty_without_limits = search (rules, run_from_empty, stable_run, stop_from_empty, stable_stop)
+  best_alike_from_empty_without_limits =
+      let also = stable_too ms in
+      record {
+        run = λ ports class_count ranks traffic rs g come run. same_run ms class_count 0 traffic _ g _ rs
+            (empty_agree ports ranks) (traffic_for_empty ports ranks class_count traffic come)
+            (also.run 0 traffic _ g rs run);
+        stop = λ ports class_count ranks traffic rs fault come run. same_stop ms class_count 0 traffic _ _ rs fault
+            (empty_agree ports ranks) (traffic_for_empty ports ranks class_count traffic come)
+            (also.stop 0 traffic _ rs fault run);
+      }

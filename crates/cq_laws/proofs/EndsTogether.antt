@@ -4,13 +4,13 @@
 -- And what goes on behind the end is quiet slots.
 use Rattle.cq_laws.proofs.Terms.{cases_lt, ⊎_elim, common_steps, rules, ◌≡◌, ℕ, ◌+◌, ◌-◌, ◌≤◌, cond, List, [], ◌∷◌, length, take, drop, map, Option, Some, None, Err, refl, sym, subst, arith, replicate, filter, fold, is_some, max, AllByRecursion, list_any, cases_Bool, cond_both, length-take-le, take-append-drop, take_all, append-nil, Cell, Queued, TagFault, Machine, IsForSwitch, AreForPorts, IsInputBest, IsStable, Partners, EndsAlike, RunsAlike, Fabric, IsEmptyFabric, empty_fabric, BeginsWhole, FabricRun, FabricStops, WholeRun, FabricSlot, SlotRecord, idled_for, quiet_slots, no_arrivals, IdealAfter, IdealEnds, arriving_from, first_slots, slots_of, slots_of_run, whole_ideal_run, IsEmptyIdeal, departures_of, empty_ideal, departures_from, departures_in, ends, fewer_slots, found_end, not_more, whole_fault, arriving_length, quiet_from, Orders, figures_of, sends, AfterBy, fold-append, all_slots, slots_of-append, last_departs, gone_in, IdealState, ◌++◌, ap, ◌∙◌, figures_after, no_figures, transfers_of_run}
 use Rattle.cq_base.specs.Arriving.{Arrival, enough, traffic_of}
-use Rattle.cq_laws.proofs.AddingUp.{figures_fold}
-use Rattle.cq_laws.proofs.InputBest.{stable_run}
+use Rattle.cq_laws.proofs.AddingUp.{figures_fold, fold-max}
+use Rattle.cq_laws.proofs.InputBest.{stable_too}
 use Rattle.cq_laws.proofs.KeptParts.{departures_on, transfers_both}
 use Rattle.cq_laws.proofs.OneRun.{only_run}
 use Rattle.cq_laws.proofs.Parted.{ends_with, Reach, fewer_fit, reach, run_length, run_of_whole}
 use Rattle.cq_laws.proofs.QuietSlots.{empty_is, quiet_departures, quiet_figures_of_run, quiet_run, quiet_transfers_of_run}
-use Rattle.cq_laws.proofs.WholeRuns.{empty_together, run_from_empty, stop_from_empty}
+use Rattle.cq_laws.proofs.WholeRuns.{empty_agree, empty_together, same_run, same_stop, traffic_for_empty}
 
 -- ## The same end
 
@@ -25,7 +25,7 @@ module _ (ms : List Machine) (ports class_count : ℕ) (ranks : List (List ℕ))
 
   beside : (n : ℕ) (rs : List SlotRecord) (f : Fabric) → Fit n →
       FabricRun IsStable ms 0 (first_slots came n) (empty_fabric ports ranks) rs f → Beside n rs f
-  beside n = run_from_empty ports ranks ms class_count (first_slots came n)
+  beside n rs f fit run = search (rules, same_run ms class_count, empty_agree, traffic_for_empty)
 
   -- the fabric is over after m slots where the ideal switch is
   over_too : (m : ℕ) (rs : List SlotRecord) (f : Fabric) (s : IdealState) → Beside m rs f →
@@ -42,7 +42,7 @@ module _ (ms : List Machine) (ports class_count : ℕ) (ranks : List (List ℕ))
         let b = beside (length rs) rs g fit run in
         let ends = ends_with (FabricSlot IsStable ms) came start rs IsEmptyFabric
         (IdealAfter ms came (empty_ideal ports ranks)) IsEmptyIdeal g b.after w (rw b.ran)
-        ((empty_together _ g b.after b.agrees).0 w.empty) (λ m u v lt after at done.
+        ((empty_together _ g b.after b.agrees).0 w.empty) (λ m u v lt late after at done.
         let fit = fewer_fit (AreForPorts ports class_count) came m (length rs) (omega arith) fit in
         over_too m (take m rs) v u (beside m (take m rs) v fit after) at done) in
         let long = arriving_length came 0 (length rs) in search (arith, rules, found_end, ends)
@@ -50,7 +50,9 @@ module _ (ms : List Machine) (ports class_count : ℕ) (ranks : List (List ℕ))
   pub stop_alike : (n : ℕ) (rs : List SlotRecord) (fault : TagFault) → Fit n →
       FabricStops IsStable ms 0 (first_slots came n) (empty_fabric ports ranks) rs fault →
       whole_ideal_run ms came (empty_ideal ports ranks) ≡ Err fault
-  stop_alike n rs fault fit stop = grind (arith, common_steps, whole_fault, stop_from_empty)
+  stop_alike n rs fault fit stop =
+      let stops = same_stop ms class_count 0 (first_slots came n) (empty_fabric ports ranks) in
+      search (rules, whole_fault ms ports ranks came n, stops, empty_agree, traffic_for_empty)
 
 -- ## The number of slots
 
@@ -61,30 +63,26 @@ sent_slots slot j [] = refl
 sent_slots slot j (None ∷ gone) = sent_slots slot (j + 1) gone
 sent_slots slot j (Some q ∷ gone) = grind (arith, common_steps, cases_Bool, sent_slots slot (j + 1) gone)
 
-abbrev slots_so_far : ℕ → List SlotRecord → ℕ
-slots_so_far last rs = fold max last (map (λ r. r.slot + 1) (filter sends rs))
-
-slots_add : (MayChoose : Orders → Partners →
-    Type 0) (ms : List Machine) (slot last : ℕ) (traffic : List (List (Option Cell))) (f g : Fabric)
-    (rs : List SlotRecord) → FabricRun MayChoose ms slot traffic f rs g →
-    slots_so_far last rs ≡ max last (slots_of (departures_of slot (gone_in rs)))
+slots_add : (MayChoose : Orders → Partners → Type 0) (ms : List Machine) (slot : ℕ)
+    (traffic : List (List (Option Cell))) (f g : Fabric) (rs : List SlotRecord) →
+    FabricRun MayChoose ms slot traffic f rs g →
+    fold max 0 (map (λ r. r.slot + 1) (filter sends rs)) ≡ slots_of (departures_of slot (gone_in rs))
 unfolding departures_of departures_in
-slots_add MayChoose ms slot last [] f g [] run = omega arith
-slots_add MayChoose ms slot last (cells ∷ traffic) f g (r ∷ rs) run =
+slots_add MayChoose ms slot [] f g [] run = refl
+slots_add MayChoose ms slot (cells ∷ traffic) f g (r ∷ rs) run =
     let here : r.slot ≡ slot = run.1.numbered in
     let both = slots_of-append (departures_in slot r.gone) (departures_of (slot + 1) (gone_in rs)) in
     let in_slot = sent_slots slot 0 r.gone in
-    let stays = slots_add MayChoose ms (slot + 1) last traffic run.0 g rs run.2 in
-    let rises = slots_add MayChoose ms (slot + 1) (max last (r.slot + 1)) traffic run.0 g rs run.2 in
-    grind (arith, cond_both, cases_Bool (sends r))
-slots_add MayChoose ms slot last traffic f g rs run = absurd run
+    let rest = slots_add MayChoose ms (slot + 1) traffic run.0 g rs run.2 in
+    grind (arith, cond_both, fold-max, cases_Bool (sends r))
+slots_add MayChoose ms slot traffic f g rs run = absurd run
 
 -- so the figures tell the slot of the last departure
 pub slots_of_figures : (MayChoose : Orders → Partners → Type 0) (ms : List Machine) (ports : ℕ)
     (traffic : List (List (Option Cell))) (f g : Fabric) (rs : List SlotRecord) →
     FabricRun MayChoose ms 0 traffic f rs g → (figures_of ports rs).slots ≡ slots_of (departures_of 0 (gone_in rs))
 unfolding figures_of
-slots_of_figures MayChoose ms ports traffic f g rs run = omega (arith, slots_add MayChoose ms 0 0 traffic f g rs run)
+slots_of_figures MayChoose ms ports traffic f g rs run = slots_add MayChoose ms 0 traffic f g rs run
 
 pub slots_told : (ms : List Machine) (ports class_count : ℕ) (ranks : List (List ℕ)) (came : List Arrival)
     (rs : List SlotRecord) (g : Fabric) →
@@ -110,7 +108,7 @@ module _ (ms : List Machine) (ports class_count : ℕ) (ranks : List (List ℕ))
       Beside ms ports class_count ranks came m ss s
   fewer m s ss le x = beside ms ports class_count ranks came m ss s
       (fewer_fit (AreForPorts ports class_count) came m (enough came) le (rw (all_slots came) fit))
-      (stable_run ms 0 (first_slots came m) (empty_fabric ports ranks) s ss x)
+      ((stable_too ms).run 0 (first_slots came m) (empty_fabric ports ranks) s ss x)
 
   -- the end of the ideal switch
   abbrev n : ℕ

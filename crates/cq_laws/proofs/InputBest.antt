@@ -1,7 +1,7 @@
 -- A run with input-best matchings is a run with stable ones, for each input-best matching is stable. A whole run is a
 -- whole one too: the records tell which matchings were chosen, so no run of theirs with stable ones is over sooner.
-use Rattle.cq_laws.proofs.Terms.{common_steps, arith, ℕ, List, Option, rules, ⊎_elim, ◌+◌, ◌<◌, ◌≤◌, [], ◌∷◌, length, take, cases_lt, Arrival, Cell, TagFault, Machine, Marked, IsStable, IsInputBest, Fabric, IsEmptyFabric, SlotRecord, FabricSlot, FabricRun, FabricStops, IsFault, LimitedRecord, LimitedFabricSlot, LimitedFabricRun, LimitedFabricStops, LimitedWholeRun, IsLimitedFault, AreAlso, RunBy, StopBy, WholeBy}
-use Rattle.cq_laws.proofs.Parted.{reach, run_of_whole}
+use Rattle.cq_laws.proofs.Terms.{common_steps, arith, ℕ, List, Option, rules, ◌+◌, [], ◌∷◌, take, Arrival, Cell, TagFault, Machine, Marked, IsStable, IsInputBest, Fabric, IsEmptyFabric, SlotRecord, FabricSlot, IsFault, LimitedRecord, LimitedFabricSlot, LimitedFabricRun, LimitedFabricStops, LimitedWholeRun, IsLimitedFault, AreAlso, RunBy, StopBy, WholeBy, AfterBy}
+use Rattle.cq_laws.proofs.Parted.{ends_with}
 
 -- ## Where each slot of one kind is one of another, so are runs
 
@@ -33,16 +33,9 @@ module _ {S R : Type 0} (Step Step' : ℕ → List (Option Cell) → S → R →
     pub each_whole : (IsEmpty : S → Type 0) (came : List Arrival) (start end : S) (rs : List R) →
         WholeBy Step IsEmpty came start rs end → WholeBy Step' IsEmpty came start rs end
     each_whole IsEmpty came start end rs w =
-        record {
-          after = each_run 0 _ start end _ w.after;
-          all_came = w.all_came;
-          empty = w.empty;
-          first = λ m s after late empty. ⊎_elim (λ (lt : m < length rs).
-              let r = reach Step came start rs m (length rs) end (omega arith)
-              (run_of_whole Step came start rs IsEmpty end w) in
-              w.first m s (same_kind 0 _ start start r.state s (take m rs) r.after after) late empty)
-              (λ (ge : length rs ≤ m). ge) (cases_lt m (length rs));
-        }
+        ends_with Step came start rs IsEmpty (AfterBy Step' came start rs) IsEmpty end end w
+        (each_run 0 _ start end _ w.after) w.empty (λ m u v lt late after at over.
+        absurd (omega (arith, w.first m u (same_kind 0 _ start start v u (take m rs) after at) late over)))
 
     pub are_also : (IsEmpty : S → Type 0) → AreAlso Step Step' Fault IsEmpty
     are_also IsEmpty = record { slot = each; run = each_run; whole = each_whole IsEmpty; stop = each_stop }
@@ -53,22 +46,8 @@ module _ (ms : List Machine) where
   stable_slot slot cells f g r s = grind (arith, common_steps)
 
   -- which matchings were chosen is told by the record
-  same_choices : (slot : ℕ) (cells : List (Option Cell)) (f f' g g' : Fabric) (r : SlotRecord) →
-      FabricSlot IsInputBest ms slot cells f r g → FabricSlot IsStable ms slot cells f' r g' →
-      FabricSlot IsInputBest ms slot cells f' r g'
-  same_choices slot cells f f' g g' r x y = grind (arith, common_steps)
-
   pub stable_too : AreAlso (FabricSlot IsInputBest ms) (FabricSlot IsStable ms) (IsFault ms) IsEmptyFabric
-  stable_too = grind (arith, common_steps, are_also, stable_slot, same_choices)
-
-  pub stable_run : (slot : ℕ) (traffic : List (List (Option Cell))) (f g : Fabric) (rs : List SlotRecord) →
-      FabricRun IsInputBest ms slot traffic f rs g → FabricRun IsStable ms slot traffic f rs g
-  stable_run = stable_too.run
-
-  pub stable_stop : (slot : ℕ) (traffic : List (List (Option Cell))) (f : Fabric) (rs : List SlotRecord)
-      (fault : TagFault) → FabricStops IsInputBest ms slot traffic f rs fault →
-      FabricStops IsStable ms slot traffic f rs fault
-  stable_stop = stable_too.stop
+  stable_too = search (arith, rules, are_also, stable_slot)
 
   -- ## The same with limits
 
@@ -78,15 +57,9 @@ module _ (ms : List Machine) where
         LimitedFabricSlot IsStable limits ms slot cells f r g
     stable_limited_slot slot cells f g r s = grind (arith, common_steps, stable_slot)
 
-    same_limited_choices : (slot : ℕ) (cells : List (Option Cell)) (f f' g g' : Marked Fabric) (r : LimitedRecord) →
-        LimitedFabricSlot IsInputBest limits ms slot cells f r g →
-        LimitedFabricSlot IsStable limits ms slot cells f' r g' →
-        LimitedFabricSlot IsInputBest limits ms slot cells f' r g'
-    same_limited_choices slot cells f f' g g' r x y = grind (arith, common_steps, same_choices)
-
     pub stable_limited_too : AreAlso (LimitedFabricSlot IsInputBest limits ms) (LimitedFabricSlot IsStable limits ms)
         (IsLimitedFault limits ms) (λ f. IsEmptyFabric f.state)
-    stable_limited_too = grind (arith, common_steps, are_also, stable_limited_slot, same_limited_choices)
+    stable_limited_too = search (arith, rules, are_also, stable_limited_slot)
 
     pub stable_limited_run : (slot : ℕ) (traffic : List (List (Option Cell))) (f g : Marked Fabric)
         (rs : List LimitedRecord) → LimitedFabricRun IsInputBest limits ms slot traffic f rs g →

@@ -40,7 +40,7 @@ module _ (limits : List (Option ℕ)) (ms : List Machine) (ports class_count : �
         ends = ends_with (LimitedFabricSlot IsStable limits ms) came start rs (λ f. IsEmptyFabric f.state)
             (LimitedIdealAfter limits ms came (empty_limited ports ranks)) (λ s. IsEmptyIdeal s.state) g b.after w
             (rw b.ran) ((empty_together _ g.state b.after.state b.agrees.states).0 w.empty)
-            (λ m u v lt after.
+            (λ m u v lt late after.
             let fit = fewer_fit (AreForPorts ports class_count) came m (length rs) (omega arith) fit in
             over_too m (take m rs) v u (beside m (take m rs) v fit after));
         ran = b.ran;

@@ -1,6 +1,6 @@
 -- A run in parts: its first slots are a run, and where that ended the others go on. So a run over many slots passes
 -- through the end of each shorter one, and two whole runs of which each slot leaves no choice are one.
-use Rattle.cq_laws.proofs.Terms.{common_steps, rules, ◌≡◌, ℕ, suc, ◌+◌, ◌-◌, ◌<◌, ◌≤◌, List, [], ◌∷◌, ◌++◌, length, drop, Option, refl, ap, ⊎_elim, arith, AllByRecursion, cases_lt, take_all, Arrival, Cell, IsEnd, arriving_from, first_slots, arriving_length, arriving_parts, AfterBy, HasParts, RunBy, WholeBy, all_front}
+use Rattle.cq_laws.proofs.Terms.{common_steps, rules, ◌≡◌, ℕ, suc, ◌+◌, ◌-◌, ◌<◌, ◌≤◌, List, [], ◌∷◌, ◌++◌, length, drop, Option, refl, ap, ⊎_elim, arith, AllByRecursion, cases_lt, take_all, Arrival, end_of, Cell, IsEnd, arriving_from, first_slots, arriving_length, arriving_parts, AfterBy, HasParts, RunBy, WholeBy, all_front}
 
 pub fewer_fit : (P : List (Option Cell) → Type 0) (came : List Arrival) (m n : ℕ) → m ≤ n →
     AllByRecursion P (first_slots came n) → AllByRecursion P (first_slots came m)
@@ -37,7 +37,8 @@ module _ {S R : Type 0} (Step : ℕ → List (Option Cell) → S → R → S →
     -- where a run ends, what goes on beside it ends too, if it is not over sooner
     pub ends_with : {T : Type 0} (IsOver : S → Type 0) (At : ℕ → T → Type 0) (IsEmpty : T → Type 0) (s : S) (t : T) →
         WholeBy Step IsOver came start rs s → At (length rs) t → IsEmpty t →
-        ((m : ℕ) (u : T) (v : S) → m < length rs → AfterBy Step came start rs m v → At m u → IsEmpty u → IsOver v) →
+        ((m : ℕ) (u : T) (v : S) → m < length rs → end_of came ≤ m → AfterBy Step came start rs m v → At m u →
+        IsEmpty u → IsOver v) →
         IsEnd came At IsEmpty (length rs) t
     ends_with IsOver At IsEmpty s t w at empty back =
         record {

@@ -1,18 +1,14 @@
 -- Whole runs, slot by slot from states that agree. The empty states agree, so what holds of agreeing states holds
 -- from the first slot on.
-use Rattle.cq_laws.proofs.Terms.{common_steps, rules, ◌≡◌, ℕ, suc, ◌+◌, ◌↔◌, List, [], ◌∷◌, length, Option, Some, Result, Ok, Err, refl, ap, ◌∙◌, inl, inr, arith, ⊎_elim, All, slice_get, replicate, AllByRecursion, length-replicate, get_or_past, get_or_default, cases_lt, Cell, Queued, TagFault, Machine, AreForPorts, IsStable, Fabric, IsAmong, empty_fabric, IsEmptyFabric, HasSlack, SlotRecord, FabricRun, FabricStops, Sent, IsEmptyIdeal, Ran, then_ran, ideal_run, empty_ideal, list_of, RunsAlike, none_had, IdealState, Agrees}
+use Rattle.cq_laws.proofs.Terms.{common_steps, rules, ◌≡◌, ℕ, suc, ◌+◌, ◌↔◌, List, [], ◌∷◌, length, Option, Some, Err, refl, ap, ◌∙◌, inl, inr, arith, ⊎_elim, All, slice_get, replicate, AllByRecursion, length-replicate, get_or_past, get_or_default, cases_lt, Cell, Queued, TagFault, Machine, AreForPorts, IsStable, Fabric, IsAmong, next_slot, empty_fabric, IsEmptyFabric, HasSlack, SlotRecord, FabricRun, FabricStops, IsEmptyIdeal, ideal_run, empty_ideal, list_of, RunsAlike, none_had, IdealState, Agrees}
 use Rattle.cq_laws.proofs.OneSlot.{same_fault, same_slot, slack_arrived, ports_kept}
-
-goes_on : List Machine → ℕ → List (List (Option Cell)) → Result Sent TagFault → Result Ran TagFault
-goes_on ms slot traffic x =
-    elim x [ Ok sent ↦ then_ran sent.gone (ideal_run ms (slot + 1) traffic sent.after) | Err fault ↦ Err fault ]
 
 module _ (ms : List Machine) (class_count : ℕ) where
   pub same_run : (slot : ℕ) (traffic : List (List (Option Cell))) (f g : Fabric) (ideal : IdealState)
       (rs : List SlotRecord) → Agrees slot f ideal →
       AllByRecursion (AreForPorts (length f.inputs) class_count) traffic → FabricRun IsStable ms slot traffic f rs g →
       RunsAlike ms slot traffic ideal rs g
-  unfolding goes_on ideal_run
+  unfolding ideal_run
   same_run slot [] f g ideal [] agrees come run = search (arith, rules)
   same_run slot (cells ∷ traffic) f g ideal (r ∷ rs) agrees come run =
       let one = same_slot ms slot class_count cells f run.0 ideal r agrees come.0 run.1 in
@@ -23,10 +19,10 @@ module _ (ms : List Machine) (class_count : ℕ) where
       (rs : List SlotRecord) (fault : TagFault) → Agrees slot f ideal →
       AllByRecursion (AreForPorts (length f.inputs) class_count) traffic →
       FabricStops IsStable ms slot traffic f rs fault → ideal_run ms slot traffic ideal ≡ Err fault
-  unfolding goes_on ideal_run
+  unfolding ideal_run
   same_stop slot [] f ideal rs fault agrees come run = absurd run
   same_stop slot (cells ∷ traffic) f ideal [] fault agrees come run =
-      ap (goes_on ms slot traffic) ((same_fault ms slot cells f ideal fault agrees).1 run)
+      ap (next_slot ms (slot + 1) traffic) ((same_fault ms slot cells f ideal fault agrees).1 run)
   same_stop slot (cells ∷ traffic) f ideal (r ∷ rs) fault agrees come run =
       let one = same_slot ms slot class_count cells f run.0 ideal r agrees come.0 run.1 in
       search (arith, rules, ports_kept, same_stop (slot + 1) traffic run.0 one.next rs fault one.agrees)
@@ -90,15 +86,3 @@ module _ (ports : ℕ) (ranks : List (List ℕ)) where
       AllByRecursion (AreForPorts ports class_count) traffic →
       AllByRecursion (AreForPorts (length (empty_fabric ports ranks).inputs) class_count) traffic
   traffic_for_empty class_count traffic h = grind (arith, common_steps, length-replicate)
-
-  pub run_from_empty : (ms : List Machine) (class_count : ℕ) (traffic : List (List (Option Cell)))
-      (rs : List SlotRecord) (g : Fabric) → AllByRecursion (AreForPorts ports class_count) traffic →
-      FabricRun IsStable ms 0 traffic (empty_fabric ports ranks) rs g →
-      RunsAlike ms 0 traffic (empty_ideal ports ranks) rs g
-  run_from_empty ms class_count traffic rs g come run = search (rules, same_run, empty_agree, traffic_for_empty)
-
-  pub stop_from_empty : (ms : List Machine) (class_count : ℕ) (traffic : List (List (Option Cell)))
-      (rs : List SlotRecord) (fault : TagFault) → AllByRecursion (AreForPorts ports class_count) traffic →
-      FabricStops IsStable ms 0 traffic (empty_fabric ports ranks) rs fault →
-      ideal_run ms 0 traffic (empty_ideal ports ranks) ≡ Err fault
-  stop_from_empty ms class_count traffic rs fault come run = search (rules, same_stop, empty_agree, traffic_for_empty)
