@@ -178,13 +178,14 @@ module _ {R : Type 0} (F S : R → List ℕ) (items : List R) (o : ℕ) {r : R} 
   states_is : map S items ≡ v.states
   states_is = ap (λ (w : RanksView). w.states) view_is
 
-  -- what a machine in its state gives
-  pub seen : (M : List ℕ → Machine) {Y : Type 0} (f : Machine → List ℕ → Y) →
-      f (M (F r)) (S r) ≡ f (machine_at (map M v.fixed) o) (get_or v.states o [])
-  seen M f =
+  -- the machine at its place, and its state
+  pub machine_seen : (M : List ℕ → Machine) → M (F r) ≡ machine_at (map M v.fixed) o
+  machine_seen M =
       let here = item_inside F items fixed_is o inside in
-      let machine = get_or-map M v.fixed o (F r) (first_come []) inside in
-      cc (seen_at F items fixed_is o (F r) here is, machine, seen_at S items states_is o [] here is)
+      cc (seen_at F items fixed_is o (F r) here is, get_or-map M v.fixed o (F r) (first_come []) inside)
+
+  pub state_seen : S r ≡ get_or v.states o []
+  state_seen = seen_at S items states_is o [] (item_inside F items fixed_is o inside) is
 
   pub fixed_after : (s : R) → F s ≡ F r → map F (set items o s) ≡ v.fixed
   fixed_after s e = seen_same F items fixed_is o s is e

@@ -1,6 +1,6 @@
-use Rattle.cq_ideal.proofs.Changed.{seen}
+use Rattle.cq_ideal.proofs.Terms.{arith, rules}
+use Rattle.cq_ideal.proofs.Changed.{state_seen}
 use Rattle.cq_ideal.proofs.ranks.Ranks.numbers_at.Goals as goal
 
 pub returns : goal.returns
-returns g c = rw (seen _ _ _ _ c.requires c.index.ensures c.self.view_is g.R.Rank.machine (λ m s. s)) at
-    c.numbers_of.ensures
+returns g c = search (arith, rules, state_seen)
