@@ -3,8 +3,4 @@ use Rattle.cq_ideal.proofs.LimitedEnds.{limited_not_more, limited_same_sent, lim
 use Rattle.cq_ideal.proofs.limited_ending.more_limited_slots_send_nothing.Goals as goal
 
 pub returns : goal.returns
-returns c = record {
-  enough = λ limits ms ports ranks came. limited_not_more limits ms ports ranks came;
-  fault = search (arith, rules, limited_whole_fault);
-  same = λ limits ms ports ranks came. limited_same_sent limits ms ports ranks came;
-}
+returns c = search (arith, rules, limited_not_more, limited_whole_fault, limited_same_sent)

@@ -22,9 +22,8 @@ arrive-requires g c =
     search (arith, rules, come_to_ports begins judged taken, room, have_keys begins judged taken)
 
 pub send-requires-clause-fit : goal.send-requires-clause-fit
-send-requires-clause-fit g c = (placed (known g (goal.at.send-requires-clause-fit g c).After-self)
-    c.take_in.ensures.judged c.in_default.ensures.taken c.arrive.new.self c.arrive.ensures.lists
-    c.arrive.ensures.rooms c.take_in.ensures.fixed c.take_in.ensures.many).fit
+send-requires-clause-fit g c =
+    search (arith, rules, placed (known g (goal.at.send-requires-clause-fit g c).After-self))
 
 pub send-requires-clause-holds : goal.send-requires-clause-holds
 send-requires-clause-holds g c = (placed (known g (goal.at.send-requires-clause-holds g c).After-self)
@@ -40,12 +39,11 @@ invariant_of-self-2 g c =
 
 pub returns-in-Err-clause-answer : goal.returns-in-Err-clause-answer
 returns-in-Err-clause-answer g c =
-    sym (ap answer_to (limited_fault (known g (goal.at.returns-in-Err-clause-answer g c).After-self)
-    c.take_in.ensures.judged c.in-Err.ensures.fault))
+    search (arith, rules, limited_fault (known g (goal.at.returns-in-Err-clause-answer g c).After-self))
 
 pub returns-in-Err-clause-slot : goal.returns-in-Err-clause-slot
-returns-in-Err-clause-slot g c = rw (limited_fault (known g (goal.at.returns-in-Err-clause-slot g c).After-self)
-    c.take_in.ensures.judged c.in-Err.ensures.fault) tt
+returns-in-Err-clause-slot g c =
+    search (arith, rules, limited_fault (known g (goal.at.returns-in-Err-clause-slot g c).After-self))
 
 pub returns-in-Err-clause-unchanged : goal.returns-in-Err-clause-unchanged
 returns-in-Err-clause-unchanged g c = search (arith, rules, known)

@@ -1,4 +1,4 @@
-use Rattle.cq_ideal.proofs.Terms.{rules, Some, drop, ◌+◌, ◌∷◌, ap, ◌∙◌, arith, Option, Cell}
+use Rattle.cq_ideal.proofs.Terms.{rules, Some, arith}
 use Rattle.cq_ideal.proofs.Counting.{judged_last, judged_next, judged_none, one_more_fits}
 use Rattle.cq_ideal.proofs.Came.{from_input}
 use Rattle.cq_ideal.proofs.limiter.Limiter.judge.Goals as goal
@@ -20,8 +20,7 @@ inputs-preserved c =
     let out = c.requires.arrivals.outputs input in
     elim c.match-at.branch [
       | in-Some w ↦ rw w.self-is (search (arith, rules, judged_next inv w.turn.new.self (Some w.in-Some.cell), out))
-      | in-None w ↦ rw w.self-is
-          (judged_none inv (omega arith) (here ∙ ap (λ (o : Option Cell). o ∷ drop (input + 1) cells) w.in-None.is))
+      | in-None w ↦ rw w.self-is (search (arith, rules, judged_none inv, here))
     ]
 
 pub returns : goal.returns
