@@ -21,8 +21,7 @@ pub came_from : (ms : List Machine) (slot i : ℕ) (cells : List (Option Cell)) 
 came_from ms slot i [] ranks r h k q e = grind (arith, common_steps)
 came_from ms slot i cells ranks r h zero q e = search (arith, rules, after_input_ok, fits_ok, same_Some)
 came_from ms slot i (None ∷ cells) ranks r h (suc k) q e =
-    let w = after_input_ok None _ r h in
-    let later = came_from ms slot (i + 1) cells ranks w.0 w.1 k q (rw (← w.2) at e) in search (arith, rules)
+    search (arith, rules, after_input_ok, came_from ms slot (i + 1) cells ranks)
 came_from ms slot i (Some cell ∷ cells) ranks r h (suc k) q e =
     let w = after_input_ok _ _ r (fits_ok _ _ _ r h) in
     let later = came_from ms slot (i + 1) cells _ w.0 w.1 k q (rw (← w.2) at e) in search (arith, rules)

@@ -40,9 +40,7 @@ module _ (of : List Cell → ℕ) (here : List (Option Cell) → ℕ) (bound : L
 
     slots_within : (came : List Arrival) (n : ℕ) → total (in_slot came) 0 n ≤ bound came
     unfolding in_slot
-    slots_within [] n =
-        let nothing = total_none (in_slot []) 0 n (search (arith, rules, total_none, found, found_none)) in
-        omega arith
+    slots_within [] n = search (arith, rules, total_none, found, found_none)
     slots_within (a ∷ came) n =
         let now = total_more (in_slot (a ∷ came)) (in_slot came) a.slot (of (a.cell ∷ [])) 0 n
         (search (arith, rules, total_same, found, other_slot)) (in_slot-cons a came) in
@@ -72,9 +70,7 @@ none_after came t le = ap length (none_from came t most_ports refl le)
 quiet_from : (came : List Arrival) (e a n : ℕ) → end_of came ≤ a + e →
     come_count (drop e (map (arriving came) (range_with_len a n))) ≡ 0
 unfolding come_count
-quiet_from came zero a (suc n) le =
-    let rest = quiet_from came zero (a + 1) n (omega arith) in
-    let here = none_after came a (omega arith) in omega arith
+quiet_from came zero a (suc n) le = search (arith, rules, none_after, quiet_from came zero (a + 1) n)
 quiet_from came (suc e) a (suc n) le = quiet_from came e (a + 1) n (omega arith)
 quiet_from came e a n le = refl
 

@@ -66,8 +66,7 @@ module _ (ms : List Machine) (j slot : ℕ) (laws : KeepsLaws (machine_at ms j))
   unfolding of_flow
   filled_from [] input ranks xs r h inside stands are = search (rules, only_ok, stands_next, append-nil, shown)
   filled_from (None ∷ cells) input ranks xs r h inside stands are =
-      let w = after_input_ok None _ r h in
-      rw (← w.2) (filled_from cells (input + 1) ranks xs w.0 w.1 inside (search (arith, rules, stands_on)) are)
+      search (arith, rules, after_input_ok, stands_on, filled_from cells (input + 1) ranks xs)
   filled_from (Some cell ∷ cells) input ranks xs r h inside stands are =
       let one = one_filled cell input ranks xs inside stands are.0 in
       let next = given_at ms ranks cell.output cell.class in

@@ -6,9 +6,7 @@ use Rattle.cq_ideal.proofs.Waiting.{filled_long, length-filled}
 
 pub holds_none : (limiter : LimiterView) (ports : ℕ) (lists : List (List Queued)) → length limiter.limits ≡ ports →
     limiter.held ≡ replicate ports 0 → lists ≡ replicate ports [] → HoldsLists lists limiter
-holds_none limiter ports lists limits held empty =
-    let none : List Queued = [] in
-    let lengths = map-replicate length ports none in grind (arith, common_steps, length-replicate)
+holds_none limiter ports lists limits held empty = search (arith, rules, map-replicate, length-replicate)
 
 -- ## A cell that leaves
 

@@ -52,9 +52,7 @@ pub sends_long : (ms : List Machine) (slot : ℕ) (traffic : List (List (Option 
     ideal_run ms slot traffic s ≡ Ok ran → length ran.gone ≡ length traffic
 unfolding ideal_run
 sends_long ms slot [] s ran e = grind (arith, common_steps, only_ok)
-sends_long ms slot (cells ∷ traffic) s ran e =
-    let p = first_slot ms slot cells traffic s ran e in
-    search (arith, rules, sends_long ms (slot + 1) traffic p.sent.after p.second p.ran_second)
+sends_long ms slot (cells ∷ traffic) s ran e = search (arith, rules, first_slot, sends_long ms (slot + 1) traffic)
 
 -- ## What is sent
 

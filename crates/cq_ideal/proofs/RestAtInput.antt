@@ -63,8 +63,7 @@ comes_shown i came shown from zero rise all =
     let before = all_weaker (λ a. a.slot < end_of came) (λ a. a.slot < from) (λ a l. omega arith) came in
     grind (arith, common_steps, all_past i from came, before (before_end came))
 comes_shown i came shown from (suc n) rise all =
-    let first = found_first i from came rise in
-    search (arith, rules, listed, cell_listed, comes_shown i came shown (from + 1) n rise)
+    search (arith, rules, found_first, listed, cell_listed, comes_shown i came shown (from + 1) n rise)
 
 pub comes_from : (i : ℕ) → i < most_ports → (came : List Arrival) (from slots : ℕ) → RiseByInput came →
     end_of came ≤ from + slots → cells_at i (arriving_from came from slots) ≡ cells_of (rest_of from (line_at i came))

@@ -118,8 +118,7 @@ pub ranked_cells : (ms : List Machine) (slot input : ℕ) (cells : List (Option 
 unfolding cell_here
 ranked_cells ms slot input [] ranks r h = grind (arith, common_steps, only_ok)
 ranked_cells ms slot input (None ∷ cells) ranks r h =
-    let w = after_input_ok None _ r h in
-    rw (← w.2) (ap (λ (l : List (Option Cell)). None ∷ l) (ranked_cells ms slot (input + 1) cells ranks w.0 w.1))
+    search (arith, rules, after_input_ok, ranked_cells ms slot (input + 1) cells ranks)
 ranked_cells ms slot input (Some cell ∷ cells) ranks r h =
     let w = after_input_ok _ _ r (fits_ok _ _ _ r h) in
     rw (← w.2) (ap (λ (l : List (Option Cell)). Some cell ∷ l) (ranked_cells ms slot (input + 1) cells _ w.0 w.1))
