@@ -1,3 +1,2 @@
 pub mod Floors
 pub mod Rows
-pub mod NoNumbers

@@ -1,6 +1,6 @@
-use Rattle.std.proofs.Common.{sym}
-use Rattle.cq_rank.proofs.NoNumbers.{no_number}
+use Rattle.std.proofs.Common.{ap, get_or}
+use Rattle.cq_rank.specs.Machine.{Ranker}
 use Rattle.cq_rank.proofs.priority.PriorityRank.number.Goals as goal
 
 pub returns : goal.returns
-returns c = sym (no_number _ c.args.self.now c.self.view_is _)
+returns c = ap (λ (r : Ranker). get_or r.state c.args._at 0) c.self.view_is

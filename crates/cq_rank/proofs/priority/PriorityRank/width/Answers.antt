@@ -1,6 +1,6 @@
-use Rattle.std.proofs.Common.{sym}
-use Rattle.cq_rank.proofs.NoNumbers.{no_width}
+use Rattle.std.proofs.Common.{ap, length}
+use Rattle.cq_rank.specs.Machine.{Ranker}
 use Rattle.cq_rank.proofs.priority.PriorityRank.width.Goals as goal
 
 pub returns-clause-width : goal.returns-clause-width
-returns-clause-width c = sym (no_width _ c.args.self.now c.self.view_is)
+returns-clause-width c = ap (λ (r : Ranker). length r.state) c.self.view_is
