@@ -27,8 +27,7 @@ inputs-preserved c =
       | in-Some w ↦ rw w.self-is (counting_some c.inputs.invariant has few (omega arith) c.refused_at.ensures.places
           w.in-Some.cell w.tally.new.self (sym w.in-Some.is ∙ here) w.tally.ensures.refused w.tally.ensures.marks
           w.tally.ensures.held w.tally.ensures.limits)
-      | in-None w ↦ rw w.self-is (counting_none c.inputs.invariant has few (omega arith) c.refused_at.ensures.places
-          (sym w.in-None.is ∙ here))
+      | in-None w ↦ rw w.self-is (search (arith, rules, counting_none c.inputs.invariant has few, here))
     ]
 
 pub returns-clause-refused : goal.returns-clause-refused

@@ -1,4 +1,4 @@
-use Rattle.cq_ideal.proofs.Terms.{rules, refl, arith, Option, ap, ◌∙◌, Queued, with_came}
+use Rattle.cq_ideal.proofs.Terms.{rules, refl, arith}
 use Rattle.cq_ideal.proofs.Came.{if_some, putting_last, putting_next, putting_room}
 use Rattle.cq_ideal.proofs.queues.Queues.arrive.Goals as goal
 
@@ -12,9 +12,7 @@ pub inputs-preserved : goal.inputs-preserved
 inputs-preserved c =
     let ports = c.len-ports.ensures.len in
     let inside = c.inputs-test.true in
-    putting_next c.requires.ports c.inputs.invariant c.requires.few (omega arith) c.put_if.new.self
-    (c.put_if.ensures.lists ∙ ap (λ (o : Option Queued). with_came o c.inputs.self.lists) c.at.ensures)
-    c.put_if.ensures.rooms
+    search (arith, rules, putting_next c.requires.ports c.inputs.invariant c.requires.few)
 
 pub returns-clause-lists : goal.returns-clause-lists
 returns-clause-lists c = search (arith, rules, putting_last)

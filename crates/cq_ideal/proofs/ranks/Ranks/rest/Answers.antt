@@ -9,8 +9,7 @@ pub outputs-preserved : goal.outputs-preserved
 outputs-preserved g c =
     let ports = c.len-ports.ensures.value in
     let inside = c.outputs-test.true in
-    resting_next c.outputs.invariant c.requires.states c.idle.new.self.fixed c.idle.new.self.states (omega arith)
-    c.idle.ensures.fixed c.idle.ensures.states c.idle.ensures.sized
+    search (arith, rules, resting_next c.outputs.invariant c.requires.states)
 
 pub returns-clause-states : goal.returns-clause-states
 returns-clause-states g c = cc (resting_last c.outputs.invariant c.requires.states (omega arith))
