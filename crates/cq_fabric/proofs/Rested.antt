@@ -23,16 +23,6 @@ module _ (ms : List Machine) (ports : ℕ) where
 abbrev pub with_ranks : Fabric → List (List ℕ) → Fabric
 with_ranks f ranks = record { inputs = f.inputs; buffers = f.buffers; ranks = ranks }
 
-pub rested_run : (ms : List Machine) (ports count slot : ℕ) (f : Fabric) (rested : List (List ℕ)) → IsEmptyFabric f →
-    length f.buffers ≡ length f.inputs → length f.inputs ≡ ports → 0 < count → rested ≡ idled ms ports f.ranks →
-    idled ms ports rested ≡ rested →
-    FabricRun IsInputBest ms slot (replicate count no_arrivals) f (quiet_slots ms count slot ports f.ranks)
-    (record { inputs = f.inputs; buffers = f.buffers; ranks = rested })
-rested_run ms ports count slot f rested empty square long some is again =
-    let opening : f ≡ empty_fabric ports f.ranks = search (arith, rules, empty_is f empty square) in
-    let once = idle_once ms ports count f.ranks rested some is again in
-    rw (opening, ← once) (quiet_run ms count slot ports f.ranks)
-
 -- an empty fabric agrees with an empty ideal switch, whatever the slot
 pub rested_agrees : (slot later : ℕ) (f : Fabric) (ideal : IdealState) (rested : List (List ℕ)) → IsEmptyFabric f →
     Agrees slot f ideal → Agrees later (with_ranks f rested) (empty_ideal (length f.inputs) rested)
@@ -51,6 +41,10 @@ pub rested_limited_run : (limits : List (Option ℕ)) (marks : List Bool) (ms : 
     rested ≡ idled ms ports f.ranks → idled ms ports rested ≡ rested →
     LimitedFabricRun IsInputBest limits ms slot (replicate count no_arrivals) (marked marks f)
     (quiet_limited_slots ms count slot ports f.ranks marks) (marked marks (with_ranks f rested))
-rested_limited_run limits marks ms ports count slot f rested empty square long some is again = run_with IsInputBest
-    limits ms marks slot (replicate count no_arrivals) _ _ _ (none_come IsInputBest limits ms marks count)
-    (rested_run ms ports count slot f rested empty square long some is again)
+rested_limited_run limits marks ms ports count slot f rested empty square long some is again =
+    let opening : f ≡ empty_fabric ports f.ranks = search (arith, rules, empty_is f empty square) in
+    let once = idle_once ms ports count f.ranks rested some is again in
+    let run : FabricRun IsInputBest ms slot (replicate count no_arrivals) f (quiet_slots ms count slot ports f.ranks)
+    (with_ranks f rested) = rw (opening, ← once) (quiet_run ms count slot ports f.ranks) in
+    run_with IsInputBest limits ms marks slot (replicate count no_arrivals) _ _ _
+    (none_come IsInputBest limits ms marks count) run
