@@ -1,26 +1,16 @@
 -- Whether no cell waits in any of some lists.
-use Rattle.cq_fabric.proofs.Terms.{Waiting, Buffered, arith, rules, ◌≡◌, ◌↔◌, eqb, Bool, true, List, [], ◌∷◌, length, map, refl, ap, sym, ◌∙◌, IsTrue, All, list_all, eqb-true, eq-eqb, Queued, list_all-map, AllPass-from_list_all, list_all-from_AllPass, common_steps}
+use Rattle.cq_fabric.proofs.Terms.{Waiting, Buffered, arith, rules, ◌≡◌, ◌↔◌, eqb, Bool, List, [], length, map, IsTrue, All, list_all, Queued, list_all-map, list_all-from_AllPass, common_steps}
 use Rattle.cq_fabric.proofs.queues.Queues.are_empty.Goals as goal
 
-none_in : List Queued → Bool
+-- a list without cells has length 0
+abbrev none_in : List Queued → Bool
 none_in cells = eqb (length cells) 0
-
-nil_of : (cells : List Queued) → none_in cells ≡ true → cells ≡ []
-unfolding none_in
-nil_of [] e = refl
-nil_of (c ∷ cells) e = grind (arith, common_steps, eqb-true)
-
-of_nil : (cells : List Queued) → cells ≡ [] → none_in cells ≡ true
-unfolding none_in
-of_nil cells e = eq-eqb (length cells) 0 (ap length e)
 
 none_in_any : {X : Type 0} (cells_of : X → List Queued) (items : List X) (lists : List (List Queued)) (b : Bool) →
     b ≡ list_all (λ x. eqb (length (cells_of x)) 0) items → map cells_of items ≡ lists →
     IsTrue b ↔ All (λ cells. cells ≡ []) lists
-unfolding none_in
 none_in_any cells_of items lists b e l =
-    let is : b ≡ list_all none_in lists = e ∙ sym (list_all-map none_in cells_of items) ∙ ap (list_all none_in) l in
-    search (rules, AllPass-from_list_all, list_all-from_AllPass, nil_of, of_nil)
+    grind (arith, common_steps, list_all-map none_in cells_of items, list_all-from_AllPass none_in lists)
 
 pub returns-then-none_wait : goal.returns-then-none_wait
 returns-then-none_wait c =
