@@ -1,8 +1,7 @@
 -- Lists and buffers with their rooms. A cell that goes into a list takes the room that the list has for it, and a
 -- cell that leaves gives it back, so that no list and no buffer can hold more cells, or fewer, than before.
-use Rattle.cq_fabric.proofs.Terms.{zero, suc, common_steps, rules, ◌≡◌, ℕ, ◌+◌, ◌<◌, ◌≤◌, cond, List, [], ◌∷◌, ◌++◌, length, map, get_or, take, drop, Option, Some, None, refl, sym, ap, ◌∙◌, ⊎_elim, arith, replicate, is_some, slice_get, cases_lt, cond_both, length-map, get_or_default, get_or_past, ext_get_or, drop_all, take_all, append-nil, get_or-replicate, length-insert, Queued, is_for, first_for, without_first, fronts, rests, Waiting, cells_of, Buffered, cells_in, list_of, FirstKeysDiffer, orders_of, output_order, Moves, Orders, Partners, IsMatching, are_orders, HaveCells, HaveRoom, MovesRoom, list_spare, buffer_spare, partner_or_free, length_put, came_to, list_arrived, first_at, Queues, FitLists, KeysApart, CanCross, FitEach, AreSquare, list_room, buffer_room, fabric_of, no_list, list_at, list_with, front_of, popped, has_there, most_ports}
+use Rattle.cq_fabric.proofs.Terms.{zero, suc, common_steps, rules, ◌≡◌, ℕ, ◌+◌, ◌<◌, ◌≤◌, cond, List, [], ◌∷◌, ◌++◌, length, map, get_or, take, drop, Option, Some, None, refl, ap, ◌∙◌, ⊎_elim, arith, replicate, is_some, slice_get, cases_lt, cond_both, length-map, get_or_default, get_or_past, ext_get_or, drop_all, take_all, append-nil, get_or-replicate, length-insert, Queued, is_for, first_for, without_first, fronts, rests, Waiting, cells_of, Buffered, cells_in, list_of, FirstKeysDiffer, orders_of, output_order, Moves, Orders, Partners, IsMatching, are_orders, HaveCells, HaveRoom, MovesRoom, list_spare, buffer_spare, partner_or_free, length_put, came_to, list_arrived, first_at, Queues, FitLists, KeysApart, CanCross, FitEach, AreSquare, list_room, buffer_room, fabric_of, no_list, list_at, list_with, front_of, popped, has_there, most_ports}
 use Rattle.std.proofs.Math.ListN.{get_or-map}
-use Rattle.std.proofs.lemmas.List.{get_or-map as get_or-map_inside}
 
 -- what a slice of a vector leaves of the vector
 pub whole : {X : Type 0} (n : ℕ) (xs old : List X) → n ≡ length xs → length old ≡ length xs →
@@ -46,15 +45,6 @@ same_rooms : {X : Type 0} (room : X → ℕ) (new old : List X) → length new �
     ((i : ℕ) → i < length new → get_or (map room new) i 0 ≡ get_or (map room old) i 0) → map room new ≡ map room old
 same_rooms room new old long each =
     search (arith, rules, ext_get_or 0 (map room new) (map room old), length-map new room, length-map old room)
-
--- what is seen of items of which one is read
-module _ {X : Type 0} (f : X → List Queued) (items : List X) (seen : List (List Queued)) (is : map f items ≡ seen)
-    (i : ℕ) where
-  pub seen_inside : i < length seen → i < length items
-  seen_inside inside = let many = ap length is in let long = length-map items f in omega arith
-
-  pub seen_at : (x : X) → i < length items → x ≡ get_or items i x → f x ≡ list_of seen i
-  seen_at x inside read = ap f read ∙ sym (get_or-map_inside f items i x [] inside) ∙ ap (λ l. list_of l i) is
 
 -- ## Arrivals
 

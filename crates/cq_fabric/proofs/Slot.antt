@@ -3,7 +3,10 @@
 -- ones of this slot, and each cell that waits has slack 1, so that the more urgent cells for an output stand below
 -- the cushion of one that comes. Of the rooms it is enough that the buffer of each output for which a cell waits or
 -- comes has room for one: where the first matching fills that room, the output sends a cell and has it again.
-use Rattle.cq_fabric.proofs.Terms.{common_steps, rules, ◌≡◌, ℕ, zero, suc, ◌+◌, ◌-◌, ◌<◌, ◌≤◌, true, List, [], ◌∷◌, length, get_or, drop, Option, Some, None, refl, sym, ap, ◌∙◌, subst, inl, inr, ⊎_elim, arith, ◌⊎◌, IfSome, filter, cases_lt, cond_both, eqb-true, eq-eqb, get_or-map, get_or_past, length-drop, length-map, same_Some, Cell, Queued, Key, arrival_at, ArrivedBefore, is_for, Machine, count_for, LimiterView, AreForPorts, Ranking, fronts, list_of, orders_of, list_taken, transfers_of, Partners, partner_of, IsMatching, IsStable, HaveCells, partner_or_free, length_put, SendsAlike, Fabric, IsAmong, waiting_for, came_to, list_arrived, Arrives, Transfers, Departs, SlotRecord, FabricSlot, first_at, among_insert, left_among, Sound, came_from, keyed_from, rest_of, HoldsFabric, IsNewest, Queues, ComeApart, FitLists, CanCross, fabric_of, noted_all, noted_few, Keyed, arrived_sound, moved_sound, sent_sound, same_slot, sound_from, has_there, all_from_has}
+use Rattle.cq_fabric.proofs.Terms.{common_steps, rules, ◌≡◌, ℕ, zero, suc, ◌+◌, ◌-◌, ◌<◌, ◌≤◌, true, List, [], ◌∷◌, length, get_or, drop, Option, Some, None, refl, sym, ap, ◌∙◌, subst, inl, inr, ⊎_elim, arith, ◌⊎◌, IfSome, filter, cases_lt, cond_both, eqb-true, eq-eqb, get_or-map, get_or_past, length-drop, length-map, same_Some, Cell, Queued, Key, arrival_at, ArrivedBefore, is_for, Machine, count_for, LimiterView, AreForPorts, Ranking, fronts, list_of, orders_of, list_taken, Partners, partner_of, IsMatching, IsStable, HaveCells, partner_or_free, length_put, SendsAlike, Fabric, IsAmong, waiting_for, came_to, list_arrived, Arrives, Transfers, Departs, SlotRecord, FabricSlot, first_at, among_insert, left_among, Sound, came_from, keyed_from, rest_of, HoldsFabric, IsNewest, Queues, ComeApart, FitLists, CanCross, fabric_of, Keyed, arrived_sound, moved_sound, sent_sound, same_slot, sound_from, has_there, all_from_has}
+use Rattle.std.proofs.lemmas.List.FromFn.{length-range_with_len}
+use Rattle.cq_base.proofs.Pooled.{looked_few}
+use Rattle.cq_prefs.specs.Moves.{transfers_of}
 use Rattle.cq_laws.proofs.Entered.{can_cross as firsts_cross, fits_list}
 use Rattle.cq_fabric.proofs.Known.{AreRanked, BuffersHaveRoom, HaveArrived, HaveJudged, HaveMoved, HaveSent, ListsHaveRoom}
 use Rattle.cq_fabric.proofs.Limits.{held_at}
@@ -61,8 +64,9 @@ taken_among (Some j) xs c h = left_among j xs c h
 -- how many transfers a matching has
 pub few_cross : (m : Partners) (lists : List (List Queued)) (slot phase : ℕ) → IsMatching (orders_of lists) m →
     length (transfers_of m lists slot phase) ≤ length lists
+unfolding transfers_of
 few_cross m lists slot phase matching =
-    grind (arith, common_steps, noted_all m lists slot phase, noted_few m lists slot phase (length m), length-map)
+    grind (arith, common_steps, looked_few, length-range_with_len, length-map)
 
 -- ## A slot
 

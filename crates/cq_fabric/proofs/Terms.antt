@@ -9,7 +9,7 @@ pub use Rattle.cq_base.specs.Items.{EachPair}
 pub use Rattle.cq_base.specs.Limits.{most_ports}
 pub use Rattle.cq_base.specs.{Key.is_before, declared.cell.Cell.Cell, declared.cell.Queued.Queued, declared.key.Key.Key}
 pub use Rattle.cq_rank.specs.Machine.{Machine}
-pub use Rattle.cq_ideal.proofs.Changed.{at_end, at_place, changed_to, map_next, map_same, next_place, take_next}
+pub use Rattle.cq_ideal.proofs.Changed.{at_end, at_place, changed_to, item_inside, map_next, map_same, next_place, seen_at, take_next}
 pub use Rattle.cq_ideal.proofs.Refusals.{each_once}
 pub use Rattle.cq_ideal.specs.Admission.{Admission, Marked, admitted, marked, marks_after}
 unfoldable pub use Rattle.cq_ideal.specs.Admission.{admission}
@@ -22,7 +22,7 @@ pub use Rattle.cq_list.specs.InputList.{Waiting, cells_of}
 pub use Rattle.cq_urgency.specs.OutputBuffer.{Buffered, cells_in}
 pub use Rattle.cq_prefs.proofs.InputOrder.{are_orders}
 pub use Rattle.cq_prefs.specs.FirstCells.{AreOrdersOf, FirstKeysDiffer, HasCellFor, first_key, key_before, list_of, orders_of, output_order}
-pub use Rattle.cq_prefs.specs.Moves.{Moves, list_taken, transfers_of}
+pub use Rattle.cq_prefs.specs.Moves.{Moves, list_taken}
 pub use Rattle.cq_prefs.specs.Orders.{Orders, no_offers, ports}
 pub use Rattle.cq_prefs.specs.Pairing.{IsInputBest, IsMatching, IsStable, Partners, partner_of, with_pair}
 pub use Rattle.cq_xbar.proofs.OneEach.{partner_or_free}
@@ -47,7 +47,6 @@ pub use Rattle.cq_ideal.proofs.{Admitted.admitted_at, Holding.holds_filled, Send
 pub use Rattle.cq_ideal.specs.IdealRun.{empty_ideal}
 pub use Rattle.cq_prefs.proofs.{Changes.IsSameBut, Changes.same_list, Changes.same_but_arrival, Changes.same_but_taken, Changes.same_without, OneOrder.one_orders, OutputOrder.is_output_order, Places.place_in-le-length}
 pub use Rattle.cq_prefs.specs.Renewal.{AreSameWithout}
-pub use Rattle.cq_xbar.proofs.{Noting.noted_all, Noting.noted_few}
 pub use Rattle.cq_laws.proofs.WholeRuns.{empty_agree_at, empty_list}
 pub use Rattle.cq_laws.proofs.{AfterArrivals.Keyed, AfterArrivals.arrived_sound, AfterDepartures.sent_sound, AfterTransfer.moved_sound, Held.hold_as_many, NothingRefused.none_come, NothingRefused.run_with, OneSlot.same_slot, OneSlot.sound_from, QuietSlots.empty_is, QuietSlots.quiet_run}
 pub use Rattle.cq_laws.specs.{FabricRun.FabricRun, LimitedQuiet.quiet_limited_slots}

@@ -1,10 +1,9 @@
-use Rattle.cq_fabric.proofs.Terms.{rules, ◌≡◌, ◌<◌, length, arith, same_Some, all_at, list_of}
-use Rattle.cq_fabric.proofs.Queued.{seen_at, seen_inside}
+use Rattle.cq_fabric.proofs.Terms.{rules, ◌≡◌, ◌<◌, length, arith, same_Some, all_at, list_of, item_inside, seen_at}
 use Rattle.cq_fabric.proofs.queues.Queues.slack_at.Goals as goal
 use Rattle.cq_fabric.proofs.queues.Queues.slack_at.Goals.{After-at-queued, After-index-list}
 
 inside : (c : After-index-list) → c.args.input < length c.self.inside.lists.items
-inside c = search (arith, rules, seen_inside)
+inside c = search (arith, rules, item_inside)
 
 -- what is read there are the cells of the input
 cells : (c : After-index-list) → c.index-list.result.now.cells ≡ list_of c.args.self.now.inputs c.args.input
