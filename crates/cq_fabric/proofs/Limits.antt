@@ -1,7 +1,8 @@
 -- What the outputs of a fabric hold. Between two slots these are as many cells as the lists of an ideal switch have
 -- with which the fabric agrees. So the numbers that a limiter keeps are followed through a slot by the lists of that
 -- switch: it takes in the same cells and sends the same, and agrees again.
-use Rattle.cq_fabric.proofs.Terms.{common_steps, rules, ◌≡◌, ◌≢◌, ℕ, zero, suc, ◌+◌, ◌-◌, ◌<◌, ◌≤◌, ◌^◌, Bool, List, [], ◌∷◌, length, map, get_or, drop, replicate, Option, Some, None, Ok, refl, sym, ap, ◌∙◌, arith, get_or-set_same, get_or-set_other, length-set, IfSome, slice_get, ext_get_or, get_or-map, get_or-replicate, length-map, length-replicate, get_or-map-range_with_len, length-map-range_with_len, Cell, Queued, Machine, admission, admitted, marked, marks_after, count_for, IdealState, filled, fronts, ideal_slot, rests, HoldsLists, LimiterView, held_without, Ranking, ranking, each_once, Agrees, SendsAlike, Fabric, fabric_held, held_for, waiting_for, fabric_admission, came_to, list_of, HoldsFabric, Queues, fabric_of, holds_filled, by_marks, sent_from, came_for, hold_as_many}
+use Rattle.cq_fabric.proofs.Terms.{common_steps, rules, ◌≡◌, ◌≢◌, ℕ, zero, suc, ◌+◌, ◌<◌, ◌≤◌, ◌^◌, Bool, List, [], ◌∷◌, length, map, get_or, drop, replicate, Option, Some, None, Ok, refl, sym, ap, ◌∙◌, arith, get_or-set_same, get_or-set_other, length-set, IfSome, slice_get, ext_get_or, get_or-replicate, length-map, length-replicate, get_or-map-range_with_len, length-map-range_with_len, Cell, Queued, Machine, admission, admitted, marked, marks_after, count_for, IdealState, filled, fronts, ideal_slot, rests, HoldsLists, LimiterView, held_without, Ranking, ranking, each_once, Agrees, SendsAlike, Fabric, fabric_held, held_for, waiting_for, fabric_admission, came_to, list_of, HoldsFabric, Queues, fabric_of, holds_filled, by_marks, sent_from, came_for, hold_as_many}
+use Rattle.std.proofs.Math.ListN.{get_or-map as get_or_map}
 use Rattle.cq_fabric.specs.Released.{HasReleased}
 use Rattle.cq_fabric.proofs.Known.{AreRanked, BuffersHaveRoom, HaveJudged, bit}
 
@@ -86,24 +87,15 @@ holds_rests : (lists : List (List Queued)) (judged after : LimiterView) → Hold
     ((j : ℕ) → get_or after.held j 0 + bit (came_to (fronts lists) j) ≡ get_or judged.held j 0) →
     HoldsLists (rests lists) after
 holds_rests lists judged after holds limits long less =
+    let here : (j : ℕ) → get_or after.held j 0 ≡ get_or (map length (rests lists)) j 0 = λ j.
     let nil : List Queued = [] in
-    let none : Option Queued = None in
-    let mapped = length-map lists length in
-    let shorter = length-map lists (λ (xs : List Queued). drop 1 xs) in
-    let again = length-map (rests lists) length in
-    let held = ap length holds.held in
-    record {
-      ports = ap length limits ∙ holds.ports ∙ sym shorter;
-      held = ext_get_or 0 after.held (map length (rests lists)) (omega arith) (λ j inside.
-          let within : j < length lists = omega arith in
-          let was : get_or judged.held j 0 ≡ length (get_or lists j nil) =
-          ap (λ (l : List ℕ). get_or l j 0) holds.held ∙ get_or-map length lists j nil 0 within in
-          let front = ap bit (get_or-map (λ (xs : List Queued). slice_get xs 0) lists j nil none within) in
-          let n = less j in
-          one_less (get_or lists j nil) (get_or after.held j 0) (omega arith)
-          ∙ sym (get_or-map length (rests lists) j nil 0 (omega arith)
-          ∙ ap length (get_or-map (λ (xs : List Queued). drop 1 xs) lists j nil nil within)));
-    }
+    let was = get_or_map length lists j nil in
+    let front = get_or_map (λ (xs : List Queued). slice_get xs 0) lists j nil in
+    let rest = get_or_map (λ (xs : List Queued). drop 1 xs) lists j nil in
+    let left = get_or_map length (rests lists) j nil in
+    let n = less j in
+    search (arith, rules, one_less, holds.held) in
+    search (arith, rules, length-map, ext_get_or 0 after.held (map length (rests lists)), holds.held)
 
 -- what the ideal switch sends and keeps, once its arrivals are ranked
 sends_are : (ms : List Machine) (slot : ℕ) (cells : List (Option Cell)) (ideal : IdealState) (r : Ranking)

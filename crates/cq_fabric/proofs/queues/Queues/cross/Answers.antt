@@ -1,5 +1,4 @@
-use Rattle.cq_fabric.proofs.Terms.{refl, rules, ◌≡◌, List, length, sym, ◌∙◌, subst, arith, length-map, Waiting, cells_of, cells_in, orders_of, IsMatching, HaveCells, Held, CanCross}
-use Rattle.cq_fabric.specs.Crossing.{CanFollow}
+use Rattle.cq_fabric.proofs.Terms.{refl, rules, sym, subst, arith, length-map, cells_of, cells_in, orders_of, IsMatching, HaveCells, Held, CanCross}
 use Rattle.cq_fabric.proofs.Offered.{as_offered}
 use Rattle.cq_fabric.proofs.Queued.{HaveCrossed, whole, has_cell, have_room, lists_long, buffers_long, crossed_list_rooms, crossed_buffer_rooms, crossed_square, matched_long}
 use Rattle.cq_fabric.proofs.queues.Queues.cross.Goals as goal
@@ -24,25 +23,15 @@ crossed c = search (arith, rules, have)
 
 pub cross_matched-requires-clause-pairs : goal.cross_matched-requires-clause-pairs
 cross_matched-requires-clause-pairs c =
-    let m = c.args.matching.now in
     let lists = c.self.inside.lists.items in
-    let buffers = c.self.inside.buffers.items in
     let can = subst CanCross (sym c.self.view_is) c.requires.cells in
     let all = have (goal.at.cross_matched-requires-clause-pairs c).After-self in
-    let long : length lists ≡ length m = search (arith, rules, matched_long, length-map) in
-    rw (c.deref_mut.ensures.value, c.deref_mut-2.ensures.value) (record {
-      lists = long;
-      buffers = c.self.invariant.square.as_many ∙ long;
-      cells = all;
-      keys = λ i j q _ first. can.keys i j q first;
-      room = have_room lists buffers m can all;
-    })
+    let room = have_room lists c.self.inside.buffers.items c.args.matching.now can all in
+    search (arith, rules, matched_long, length-map, room, all, can.keys)
 
 pub cross_matched-requires-clause-follow : goal.cross_matched-requires-clause-follow
 cross_matched-requires-clause-follow c =
-    let can = subst CanCross (sym c.self.view_is) c.requires.cells in
-    subst (λ (ls : List Waiting). CanFollow ls c.self.inside.offers) (sym c.deref_mut.ensures.value)
-    (record { apart = can.apart; outputs = c.self.invariant.square.outputs; offers = c.self.invariant.offered })
+    let can = subst CanCross (sym c.self.view_is) c.requires.cells in search (arith, rules, can.apart)
 
 pub cross_matched-requires-clause-note : goal.cross_matched-requires-clause-note
 cross_matched-requires-clause-note c = search (arith, rules, matched_long)
