@@ -1,6 +1,6 @@
 -- Where nothing is offered the empty matching is the best for the inputs, and no proposal is made: no offered pair is
 -- left out, and no input has an order to go down. It moves no cell, and nothing is noted of it.
-use Rattle.cq_engine.proofs.Terms.{rules, ◌≡◌, ℕ, List, [], ◌∷◌, replicate, Option, None, refl, sym, arith, common_steps, filter_map, sum_by, append-nil, length-replicate, sum-map, sum_by-cons, Queued, Transfer, RoomView, Queues, orders_of, Moves, transfers_of, Orders, ports, outputs_of, proposals, IsInputBest}
+use Rattle.cq_engine.proofs.Terms.{rules, ◌≡◌, ℕ, List, [], ◌∷◌, replicate, Option, None, refl, arith, common_steps, filter_map, sum_by, append-nil, length-replicate, sum-map, sum_by-cons, Queued, Transfer, RoomView, Queues, orders_of, Moves, transfers_of, Orders, ports, outputs_of, proposals, IsInputBest}
 use Rattle.cq_prefs.proofs.Pairs.{nobody}
 use Rattle.cq_engine.specs.Crossing.{HasCrossed}
 
@@ -34,17 +34,6 @@ nothing_noted n lists slot phase = grind (arith, common_steps, none_kept, nobody
 pub nothing_crosses : (slot phase : ℕ) (q : Queues) (note : RoomView Transfer) →
     ((i : ℕ) → outputs_of (orders_of q.inputs) i ≡ []) → HasCrossed slot phase q q note note 0
 nothing_crosses slot phase q note none =
-    let free = None in
-    let o = orders_of q.inputs in
-    let noted = nothing_noted (ports o) q.inputs slot phase in
-    record {
-      matching = replicate (ports o) free;
-      best = none_best o none;
-      count = none_proposed o none;
-      few = omega arith;
-      moves = nothing_moves (ports o) q.inputs q.buffers;
-      from_inputs = refl;
-      to_outputs = refl;
-      noted = rw noted (sym (append-nil note.items));
-      note_room = rw noted (omega arith);
-    }
+    let noted = nothing_noted (ports (orders_of q.inputs)) q.inputs slot phase in
+    let best = none_best (orders_of q.inputs) none in
+    search (arith, rules, best, none_proposed (orders_of q.inputs) none, nothing_moves, append-nil)
