@@ -7,6 +7,8 @@
 -- the proof alone.
 use Rattle.cq_engine.proofs.Terms.{common_steps, rules, ◌≡◌, ℕ, zero, suc, ◌+◌, ◌-◌, ◌*◌, ◌<◌, ◌≤◌, true, List, [], ◌∷◌, ◌++◌, length, map, drop, get_or, replicate, Option, Some, None, refl, sym, ap, ◌∙◌, ⊎_elim, arith, All, IfSome, min, slice_get, cons_option, enumerate_from, filter_map, range_with_len, reduce, sum_by, option_map, option_to_list, cases_lt, cond_both, eq-eqb, row_fits, same_Some, append-nil, ext_get_or, get_or_past, length-map, get_or-map-range_with_len, length-map-range_with_len, sum-map, sum_by-cons, Cell, Queued, Transfer, Figures, InputFigures, cushion, first_for, is_for, Machine, all_told, fronts, rests, LimiterView, list_of, orders_of, output_order, Moves, list_taken, noted, transfers_of, outputs_of, ports, IsListed, Partners, partner_of, partner_place, depth, spent, proposals, IsFreeOutput, IsInputBest, IsStable, Fabric, cushion_of, either_by, slacks, came_to, list_arrived, HoldsFabric, Queues, fabric_of, AreRanked, BuffersHaveRoom, HaveArrived, HaveJudged, HaveSent, ListsHaveRoom, fits_lists, held_before, keyed, IsInStep, IsSeen, arriving_slack, input_counted, slack_seen, GoStraight, crossing, crossings, input_passed, Look, among, place_head, kept_more}
 use Rattle.std.proofs.Math.ListN.{get_or-map}
+use Rattle.std.proofs.lemmas.List.FromFn.{length-range_with_len}
+use Rattle.cq_base.proofs.Pooled.{looked_few}
 use Rattle.cq_engine.specs.declared.measure.Look.TheVariants as look
 use Rattle.cq_engine.proofs.NoOffers.{none_best, none_proposed, nothing_moves, nothing_noted}
 use Rattle.cq_engine.proofs.Slot.{AreCounted, HaveCrossed, Whole, moved_of, whole_slot}
@@ -132,18 +134,7 @@ crossings_one slot n came c is = grind (arith, common_steps, crossings_more)
 -- one an input at most
 pub crossings_few : (slot n : ℕ) (came : List (Option Queued)) → length (crossings slot n came) ≤ n
 unfolding crossings
-crossings_few slot n came = few 0 n
-  where
-    h : ℕ → Option Transfer
-    h = λ i. crossing slot i (came_to came i)
-
-    one_most : (o : Option Transfer) → size o ≤ 1
-    one_most None = omega arith
-    one_most (Some t) = omega arith
-
-    few : (a m : ℕ) → length (filter_map h (range_with_len a m)) ≤ m
-    few a zero = omega arith
-    few a (suc m) = grind (arith, common_steps, one_most, size_cons, few (a + 1) m)
+crossings_few slot n came = grind (arith, common_steps, looked_few, length-range_with_len)
 
 -- no more than there are pairs of ports
 pub at_most_square : (n : ℕ) → n ≤ n * n
