@@ -1,7 +1,6 @@
 -- Before the first slot nothing waits and nothing was counted.
-use Rattle.cq_engine.proofs.Terms.{arith, rules, length, map, length-map, ◌≡◌, ℕ, zero, suc, List, [], Some, replicate, ap, sym, ◌∙◌, common_steps, slice_get, same_Some, Figures, Machine, AreForOneSwitch, empty_fabric, no_figures, empty_agree, Queues, fabric_of, LimiterView, IsInStep, IsRunning, holds_first, empty_ideal, more_at_first}
+use Rattle.cq_engine.proofs.Terms.{arith, rules, length, map, length-map, length-replicate, ◌≡◌, ℕ, zero, suc, List, [], Some, replicate, ap, sym, ◌∙◌, common_steps, slice_get, same_Some, Figures, Machine, AreForOneSwitch, empty_fabric, no_figures, empty_agree, Queues, fabric_of, LimiterView, IsInStep, IsRunning, holds_first, more_at_first}
 use Rattle.cq_engine.specs.declared.measure.Look.TheVariants as look
-use Rattle.cq_engine.proofs.Shown.{at_most}
 use Rattle.cq_engine.proofs.engine.Engine.new.Goals as goal
 
 replicated : {X : Type 0} (n i : ℕ) (x y : X) → slice_get (replicate n x) i ≡ Some y → y ≡ x
@@ -11,16 +10,7 @@ replicated (suc n) (suc i) x y h = replicated n i x y h
 
 first_up : (ms : List Machine) (n : ℕ) (ranks : List (List ℕ)) → AreForOneSwitch ms → length ms ≡ n →
     IsInStep ms 0 (no_figures n) (empty_fabric n ranks)
-first_up ms n ranks one ports =
-    record {
-      machines = one;
-      ports = grind (arith, common_steps);
-      ideal = empty_ideal n ranks;
-      agrees = empty_agree n ranks;
-      inputs = grind (arith, common_steps);
-      outputs = grind (arith, common_steps);
-      counts = search (arith, rules, replicated);
-    }
+first_up ms n ranks one ports = search (arith, rules, replicated, length-replicate, empty_agree n ranks)
 
 -- and no output holds a cell
 running_first : (ms : List Machine) (n : ℕ) (ranks : List (List ℕ)) (q : Queues) (x : Figures) (l : LimiterView) →
@@ -31,20 +21,10 @@ running_first ms n ranks q x l one ports states inputs buffers figures limits he
     grind (arith, common_steps, holds_first, first_up, more_at_first)
 
 pub new-requires : goal.new-requires
-new-requires g c =
-    let made = c.requires in
-    let many = length-map (map g.R.Rank.fixed c.args.ranks.items) g.R.Rank.machine
-    ∙ length-map c.args.ranks.items g.R.Rank.fixed in
-    record {
-      few = at_most _ _ _ (made.from_inputs ∙ sym many) made.machines.few;
-      square = made.to_outputs ∙ sym made.from_inputs;
-    }
+new-requires g c = search (arith, rules, length-map)
 
 pub new-requires-2 : goal.new-requires-2
-new-requires-2 g c =
-    let many = length-map (map g.R.Rank.fixed c.args.ranks.items) g.R.Rank.machine
-    ∙ length-map c.args.ranks.items g.R.Rank.fixed in
-    at_most _ _ _ (c.requires.limits ∙ sym many) c.requires.machines.few
+new-requires-2 g c = search (arith, rules, length-map)
 
 pub invariant_of-result : goal.invariant_of-result
 invariant_of-result g c =
