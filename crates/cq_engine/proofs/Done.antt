@@ -1,18 +1,7 @@
 -- A slot that is done, as clauses see it: what is seen of the parts of the engine before it and after it.
-use Rattle.cq_engine.proofs.Terms.{rules, ◌≡◌, ◌+◌, ◌++◌, ℕ, Bool, List, Option, length, map, ap, ◌∙◌, arith, RoomView, Cell, Queued, Transfer, Figures, Machine, admitted, marks_after, refused, HaveLeft, IdealState, departures_in, LimiterView, HoldsFabric, Queues, fabric_of, admits_are, EngineView, HasStopped, IsMadeAs, SlotDone, Departure, with_refused, by_marks, HasReleased}
+use Rattle.cq_engine.proofs.Terms.{rules, ◌≡◌, ◌+◌, ◌++◌, ℕ, Bool, List, Option, length, map, ap, ◌∙◌, arith, RoomView, Cell, Queued, Transfer, Figures, Machine, admitted, marks_after, refused, HaveLeft, IdealState, departures_in, LimiterView, HoldsFabric, Queues, fabric_of, admits_are, EngineView, SlotDone, Departure, with_refused, by_marks, HasReleased}
 use Rattle.cq_engine.proofs.Shown.{seen}
 use Rattle.cq_engine.proofs.Slot.{Whole}
-
--- ## What is shown of the engine as it was seen
-
-pub made_as : {old shown new : EngineView} → shown ≡ old → IsMadeAs shown new → IsMadeAs old new
-made_as {new = new} is made = search (rules)
-
-pub stopped_as : {old shown new : EngineView} {sent sent' : RoomView Departure} {note note' : RoomView Transfer} →
-    shown ≡ old → HasStopped shown new sent sent' note note' → HasStopped old new sent sent' note note'
-stopped_as {new = new} {sent = sent} {sent' = sent'} {note = note} {note' = note'} is stopped = search (rules)
-
--- ## The slot
 
 -- the engine was seen like this, its outputs held these cells, and the arrivals were judged and taken
 module _ (M : List ℕ → Machine) (fixed states : List (List ℕ)) (q : Queues) (l taken : LimiterView) (x : Figures)

@@ -1,6 +1,6 @@
 -- A slot of the engine: that of the fabric below, with the figures that are counted of it. What each phase asks for
 -- is shown there, for any stable matchings, and input-best ones are stable.
-use Rattle.cq_engine.proofs.Terms.{common_steps, rules, ◌≡◌, ℕ, zero, suc, ◌+◌, ◌-◌, ◌≤◌, eqb, Bool, List, [], ◌∷◌, ◌++◌, length, map, Option, Some, None, refl, ap, ◌∙◌, arith, if◌then◌else◌, min, max, slice_get, is_some, enumerate_from, list_any, position_or_len, reduce, option_map, same_Some, Cell, Queued, Transfer, InputFigures, OutputFigures, Figures, Machine, IdealState, fronts, list_of, orders_of, Moves, transfers_of, Partners, IsInputBest, IsStable, proposals, Fabric, cushion_of, came_to, SlotRecord, FabricSlot, figures_after, input_after, output_after, either_by, slacks, slack_on_arrival, proposals_in, stable_slot, Queues, fabric_of, length-by_place, AreRanked, BuffersHaveRoom, HaveArrived, HaveMoved, HaveSent, alike, arrive, come, depart, fill, keyed, recorded, IsInStep, IsRunning, IsSeen, HoldsFabric, LimiterView, CountsFit, Look, arriving_slack, input_counted, output_counted, slack_seen, SendsAlike, by_arrivals, more_after}
+use Rattle.cq_engine.proofs.Terms.{slice_get_within, slice_get-get_or, common_steps, rules, ◌≡◌, ℕ, zero, suc, ◌+◌, ◌-◌, ◌≤◌, eqb, Bool, List, [], ◌∷◌, ◌++◌, length, map, Option, Some, None, refl, ap, ◌∙◌, arith, if◌then◌else◌, min, max, slice_get, is_some, enumerate_from, list_any, position_or_len, reduce, option_map, same_Some, Cell, Queued, Transfer, InputFigures, OutputFigures, Figures, Machine, IdealState, fronts, list_of, orders_of, Moves, transfers_of, Partners, IsInputBest, IsStable, proposals, Fabric, cushion_of, came_to, SlotRecord, FabricSlot, figures_after, input_after, output_after, either_by, slacks, slack_on_arrival, proposals_in, stable_slot, Queues, fabric_of, length-by_place, at-by_place, AreRanked, BuffersHaveRoom, HaveArrived, HaveMoved, HaveSent, alike, arrive, come, depart, fill, keyed, recorded, IsInStep, IsSeen, CountsFit, Look, arriving_slack, input_counted, output_counted, slack_seen, SendsAlike, by_arrivals, more_after}
 use Rattle.cq_laws.specs.Records.{transfers_in}
 use Rattle.cq_engine.specs.declared.measure.Look.TheVariants as look
 
@@ -22,20 +22,15 @@ by_place_same {X} f g n (x ∷ xs) same =
     ap (λ y. y ∷ map (λ (at : ℕ × X). f at.0 at.1) (enumerate_from (n + 1) xs)) (same zero x n (omega arith) refl)
     ∙ ap (λ l. g n x ∷ l) (by_place_same f g (n + 1) xs (λ i y k e at. same (suc i) y k (omega arith) at))
 
-placed : {X : Type 0} (f : ℕ → X → X) (n : ℕ) (xs : List X) (i : ℕ) (y : X) →
-    slice_get (map (λ at. f at.0 at.1) (enumerate_from n xs)) i ≡ Some y →
-    (z : X) × (slice_get xs i ≡ Some z) × (f (n + i) z ≡ y)
-placed f n [] i y h = absurd (let P : ⊥ = cc in P)
-placed f n (x ∷ xs) zero y h =
-    let at : n + 0 ≡ n = omega arith in (x, refl, ap (λ k. f k x) at ∙ same_Some (f n x) y h)
-placed f n (x ∷ xs) (suc i) y h = grind (arith, common_steps, placed f (n + 1) xs i y h)
-
 -- each item counts one more at most
 count_one : {X : Type 0} (cells : X → ℕ) (after : ℕ → X → X) (moved : List (Option Queued)) (n : ℕ) (xs : List X) →
     ((i : ℕ) (y : X) → cells (after i y) ≡ cells y + bit (is_some (came_to moved i))) →
     ((i : ℕ) (y : X) → slice_get xs i ≡ Some y → cells y ≤ n) → (i : ℕ) (y : X) →
     slice_get (map (λ at. after at.0 at.1) (enumerate_from 0 xs)) i ≡ Some y → cells y ≤ n + 1
-count_one cells after moved n xs more fit i y at = search (arith, rules, placed)
+count_one cells after moved n xs more fit i y at =
+    let within = slice_get_within (map (λ at. after at.0 at.1) (enumerate_from 0 xs)) i y at in
+    let long = length-by_place after xs in
+    grind (arith, common_steps, slice_get-get_or, at-by_place after xs i y, same_Some)
 
 counts_fit : (slot : ℕ) (x : Figures) (r : SlotRecord) → CountsFit slot x → CountsFit (slot + 1) (figures_after x r)
 unfolding figures_after input_after output_after
@@ -89,13 +84,6 @@ pub record Whole (ms : List Machine) (slot : ℕ) (cells : List (Option Cell)) (
   pub in_step : IsInStep ms (slot + 1) y g
   pub seen : IsSeen look.Arriving y g
   pub alike : SendsAlike ms slot cells ideal left g
-
--- so the next slot can follow
-pub still_runs : {ms : List Machine} {slot : ℕ} {cells : List (Option Cell)} {x y : Figures} {f g : Fabric}
-    {ideal : IdealState} {left : List (Option Queued)} {noted : List Transfer} {l : LimiterView} →
-    Whole ms slot cells x y f g ideal left noted → length g.ranks ≡ length ms → HoldsFabric g l →
-    IsRunning ms (slot + 1) look.Arriving y g l
-still_runs done ranks holds = record { in_step = done.in_step; seen = done.seen; ranks = ranks; holds = holds }
 
 -- ## A slot
 
