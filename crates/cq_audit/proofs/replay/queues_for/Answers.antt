@@ -1,4 +1,4 @@
-use Rattle.cq_audit.proofs.Terms.{arith, rules, ◌≡◌, ◌∙◌, length, length-map-range_with_len}
+use Rattle.cq_audit.proofs.Terms.{arith, rules, ◌≡◌, length, length-map-range_with_len}
 use Rattle.cq_audit.proofs.replay.queues_for.Goals as goal
 use Rattle.cq_audit.proofs.replay.queues_for.Goals.{After-as_slice}
 
@@ -10,10 +10,4 @@ pub new-requires : goal.new-requires
 new-requires c = search (arith, rules, length-map-range_with_len)
 
 pub returns : goal.returns
-returns c =
-    let each = many (goal.at.returns c).After-as_slice in record {
-      inputs = rw each at c.new.ensures.inputs;
-      buffers = rw each at c.new.ensures.buffers;
-      from_inputs = rw (c.as_slice.ensures.value ∙ c.in_ok-from_inputs.ensures) at c.new.ensures.from_inputs;
-      to_outputs = rw (c.as_slice-2.ensures.value ∙ c.in_ok-to_outputs.ensures) at c.new.ensures.to_outputs;
-    }
+returns c = let each = many (goal.at.returns c).After-as_slice in search (arith, rules)
