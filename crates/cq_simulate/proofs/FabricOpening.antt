@@ -1,7 +1,7 @@
 -- How the run of a fabric that is made for tables begins, and what its end says of the tables. What the calls say that
 -- made it is one record. From it the engine can begin.
-use Rattle.cq_simulate.proofs.Terms.{refl, common_steps, rules, ◌≡◌, ℕ, ◌+◌, ◌*◌, ◌≤◌, ◌^◌, List, [], length, map, Option, sym, ap, ◌∙◌, arith, take_all, length-map, length-map-range_with_len, Arrival, traffic_of, RoomView, Departure, Transfer, Scheduled, CanBeMade, EngineView, fresh_engine, frozen_of, thawed_engine, Frozen, GoesOnFrom, marked_fabric, departures_limited, limited_run, counts_more, refused_in, admissions_in, slots_in, AreTables, ports_of, IsSetup, classes_of, Tables, fixed_of, machine_from, state_of, machines_of, openings_of, IsKeptOf, unpacked_run, kept_of, ArePortsFor, IsFreshFor, IsIdealFor, HasKept, IsReadyOn, IsRefusalOn, IsRefusalOf, ideal_departures, ran_ideal, limited_same_sent, limited_whole_fault, slots_fit, IsScheduleFor, PackedFabricRun, Ports, RunRefusal, IsShort, IsTraffic, is_from, is_to, IdealSwitch, marked_state, Machine, class_count, IsReady, IsResumed, Kept, RunsOn, Switch, switch_of, Taken, best_act_alike_from_empty, figures_fold, Discipline, fresh_ideal}
-use Rattle.cq_simulate.proofs.TakenUp.{goes_from, holds_none, machine_count, room_at}
+use Rattle.cq_simulate.proofs.Terms.{refl, common_steps, rules, ◌≡◌, ℕ, ◌+◌, ◌*◌, ◌≤◌, ◌^◌, List, [], length, map, Option, sym, ap, ◌∙◌, arith, take_all, length-map, length-map-range_with_len, Arrival, traffic_of, RoomView, Departure, Transfer, Scheduled, CanBeMade, EngineView, fresh_engine, frozen_of, thawed_engine, Frozen, GoesOnFrom, marked_fabric, departures_limited, limited_run, counts_more, refused_in, admissions_in, slots_in, AreTables, ports_of, IsSetup, classes_of, Tables, fixed_of, machine_from, state_of, machines_of, openings_of, IsKeptOf, unpacked_run, kept_of, ArePortsFor, IsFreshFor, IsIdealFor, HasKept, IsReadyOn, IsRefusalOn, IsRefusalOf, ideal_departures, ran_ideal, limited_same_sent, limited_whole_fault, slots_fit, IsScheduleFor, PackedFabricRun, Ports, RunRefusal, IsShort, IsTraffic, is_from, is_to, IdealSwitch, marked_state, Machine, class_count, IsReady, IsResumed, Kept, RunsOn, Switch, switch_of, Taken, best_act_alike_from_empty, figures_fold, Discipline, fresh_ideal, ◌-◌, subst, TagFault, HasPartedTo, StopsWithin, IsPartFault, IsResumeFault, IsParted}
+use Rattle.cq_simulate.proofs.TakenUp.{goes_from, holds_none, machine_count, room_at, machines_many}
 use Rattle.cq_simulate.specs.ScheduleFor.{by_port}
 use Rattle.cq_simulate.specs.declared.refusal.RunRefusal.TheVariants as refusal
 
@@ -167,3 +167,55 @@ module _ {t : Tables} {s : Scheduled} {first : EngineView} {sent : RoomView Depa
       ap departures_limited (limited_whole_fault t.limits (machines_of t.setup) ports openings s.came stop.count fault
       (search (arith, rules, slots_fit)))
   no_run refusal.NoMemory stop = tt
+
+-- What a run of a fabric that is made for tables says of the tables. A run that goes on from where a run was taken up:
+-- what it kept, or the tag fault at which it stops. And a run up to a slot: the state in which it stands still, with
+-- what was kept, or the tag fault at which it stops.
+
+module _ (t : Tables) (s : Scheduled) (first : EngineView) (taken : Taken)
+    (is : GoesOnFrom t s.came taken.frozen first) where
+  its_limits : first.limits ≡ t.limits
+  its_limits = ap (λ (e : EngineView). e.limits) is.stands
+
+  stood : frozen_of first ≡ taken.frozen
+  stood = ap frozen_of is.stands
+
+  pub resumed_of : (sent : RoomView Departure) (note : RoomView Transfer) (run : PackedFabricRun) →
+      HasKept (map machine_from first.fixed) s.came first sent note run → sent.items ≡ taken.sent →
+      note.items ≡ taken.note → IsResumed (switch_of t s) taken (kept_of (unpacked_run run))
+  resumed_of sent note run kept sent_was note_was =
+      subst (λ (x : Taken). IsResumed (switch_of t s) x (kept_of (unpacked_run run)))
+      (λ k. record { frozen = stood k; sent = sent_was k; note = note_was k })
+      (resumes machine_from t s first sent note is.machines its_limits run kept)
+
+  pub resumed_fault : (why : RunRefusal) → IsRefusalOn (map machine_from first.fixed) s.came first why →
+      IsResumeFault (switch_of t s) taken why
+  resumed_fault (refusal.Tag fault) stop = grind (arith, common_steps, stood, its_limits)
+  resumed_fault refusal.NoMemory stop = tt
+
+module _ (t : Tables) (s : Scheduled) {first : EngineView} {first_sent : RoomView Departure}
+    {first_note : RoomView Transfer} (made : IsMade t s first first_sent first_note) where
+  pub parted_of : (slots : ℕ) (last : EngineView) (sent : RoomView Departure) (note : RoomView Transfer)
+      (frozen : Frozen) →
+      HasPartedTo (map machine_from first.fixed) s.came slots first last first_sent sent first_note note →
+      frozen ≡ frozen_of last →
+      IsParted (switch_of t s) (openings_of t.setup) slots
+      (record { frozen = frozen; sent = sent.items; note = note.items })
+  parted_of slots last sent note frozen has is = rw is (by (rw made.fresh.fresh at has)) where
+    by : HasPartedTo (map machine_from first.fixed) s.came slots (begins made) last first_sent sent first_note note →
+        IsParted (switch_of t s) (openings_of t.setup) slots
+        (record { frozen = frozen_of last; sent = sent.items; note = note.items })
+    by has =
+        let long : length has.records ≡ slots = omega arith in
+        let as_many = machines_many t in
+        record {
+          records = has.records;
+          next = has.next;
+          runs = rw as_many (rw (made.fresh.machines, long) at has.went.runs);
+          kept = grind (arith, common_steps);
+        }
+
+  pub part_fault : (slots : ℕ) (fault : TagFault) →
+      StopsWithin (map machine_from first.fixed) s.came first (slots - first.next) fault →
+      IsPartFault (switch_of t s) (openings_of t.setup) slots (refusal.Tag fault)
+  part_fault slots fault stop = grind (arith, common_steps, machines_many)

@@ -6,17 +6,14 @@ pub mod StableRuns
 pub mod FabricLaws
 pub mod FabricOpening
 pub mod FabricSteps
-pub mod Joining
 pub mod OnceASlot
 pub mod ResumedCounts
 pub mod NamedFlow
 pub mod ResumedWhole
 pub mod Steps
 pub mod OfPackets
-pub mod SomePackets
 pub mod Runnable
 pub mod Tallies
 pub mod EachPacket
 pub mod AllPacked
-pub mod Parting
 pub mod TakenUp

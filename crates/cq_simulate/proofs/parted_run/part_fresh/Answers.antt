@@ -1,6 +1,5 @@
 use Rattle.cq_simulate.proofs.Terms.{rules, ap, arith, err_from_is_err_and, EngineView}
-use Rattle.cq_simulate.proofs.FabricOpening.{IsMade, can_begin, made_for, port_count}
-use Rattle.cq_simulate.proofs.Parting.{part_fault, parted_of}
+use Rattle.cq_simulate.proofs.FabricOpening.{IsMade, can_begin, made_for, part_fault, parted_of, port_count}
 use Rattle.cq_simulate.proofs.parted_run.part_fresh.Given as given
 use Rattle.cq_simulate.proofs.parted_run.part_fresh.Goals as goal
 use Rattle.cq_simulate.proofs.parted_run.part_fresh.Goals.{In_ok-note}
