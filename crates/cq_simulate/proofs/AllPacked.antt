@@ -346,12 +346,8 @@ module _ {t : Tables} {captures : List (List Captured)} {sent : List Departure} 
       can_take =
           let came = departed_captured of_run so_far.done d inside in
           let class = departed_class of_run so_far.done d inside in
-          subst (λ (y : Departure). CanBeJoined captures place.joiner y) here (record {
-            input = rw own.so_far.inputs came.input;
-            class = rw own.so_far.classes class;
-            captured = came;
-            fits = cell_fits t captures sent d.output so_far.done d inside its_output own.so_far of_run class;
-          })
+          let fits = cell_fits t captures sent d.output so_far.done d inside its_output own.so_far of_run class in
+          search (arith, rules, own.so_far, here)
 
       module _ (new : Packing) (took : Took t captures d place new) where
         took_here : Took t captures (get_or sent so_far.done d) place new
@@ -377,11 +373,8 @@ module _ {t : Tables} {captures : List (List Captured)} {sent : List Departure} 
             Walked t captures sent j (so_far.done + 1) (get_or (set places d.output new) j p)
         at_another j p in_places ne =
             let was = so_far.each j p in_places in
-            rw (get_or-set_other places d.output j new p ne) (record {
-              packets = was.packets;
-              so_far = at_other t captures sent j so_far.done d inside was.so_far (λ e. ne (sym e ∙ its_output));
-              bytes = was.bytes;
-            })
+            let passed = at_other t captures sent j so_far.done d inside was.so_far in
+            search (arith, rules, get_or-set_other, passed, its_output)
 
         pub one_more : AllSoFar t captures sent (map unpacked rest) (set places d.output new)
         one_more = search (arith, rules, length-set, at_another, cases_eq, get_or-set_same, at_port, gone_on, parts)

@@ -83,10 +83,8 @@ module _ (t : Tables) (captures : List (List Captured)) (are : AreTables t)
     beside = record { state = ideal_of (fabric_in from.frozen); marks = from.frozen.marks }
 
     stands_on : Stands w.limits w.machines (classes_of t.setup) from.frozen.next to_run (marked_in from.frozen) beside
-    stands_on = record {
-      agrees = record { states = agrees_of from.frozen.next (fabric_in from.frozen) goes.sound; marks = refl };
-      come = search (arith, rules, slots_fit, traffic_there, goes.ports.lists);
-    }
+    stands_on =
+        search (arith, rules, agrees_of, slots_fit, traffic_there, goes.ports.lists, goes.sound)
 
     run_there : LimitedFabricRun IsInputBest w.limits w.machines from.frozen.next to_run (marked_in from.frozen) rs
         resumed.end

@@ -1,13 +1,13 @@
 -- Every packet leaves its output whole or is counted as refused there, once. The fabric sends and refuses what the
 -- ideal switch does, and there each packet of an input leaves or is refused: what comes are whole packets, and the
 -- cells of one are for one output.
-use Rattle.cq_simulate.proofs.Terms.{common_steps, rules, append-nil, flat_map, ◌≡◌, ℕ, ◌<◌, List, length, Ok, ap, arith, zero, suc, ◌+◌, Bool, [], ◌∷◌, map, Option, cond, not, filter, refl, sym, ◌∙◌, ◌-◌, AllByRecursion, range_with_len, All-from_recursion, all_from_has, all_of_has, Arrival, arriving, Departure, traffic_is, at_input, arrivals, packets_of, arrivals_at, arrivals_of, cell_of, cells, packet_at, come_in_order, departures_of, departures_limited, whole_limited_run, slots_of_limited_run, LimitedRan, refused_in, packets_refused, AreOfPackets, came_at, AreJudged, LimitedRecord, Captured, AreTables, ports_of, Tables, machines_of, openings_of, IsFabricRun, departures_in_run, refused_in_run, ideal_departures, ran_ideal, Cell, all_found, all_present, all_weaker, present, judged, Admission, Marked, admission, refused, is_first, arriving_from, IdealState, Machine, ◌&&◌, ◌==◌, sum_by, length-map, length-filter, sum-map, is_from, came_in_flow, comes_in_flow, ends_packet_at, leaving, packets_out, eq-eqb, eqb-true, cells_above, route, each_leaves_or_is_refused, refuses_none_elsewhere, KeepTheirOutput, LeaveOrAreRefused, most_ports}
+use Rattle.cq_simulate.proofs.Terms.{all_in_range, bit, common_steps, rules, append-nil, flat_map, ◌≡◌, ℕ, ◌<◌, List, length, Ok, ap, arith, zero, suc, ◌+◌, Bool, [], ◌∷◌, map, Option, cond, not, filter, refl, sym, ◌∙◌, ◌-◌, AllByRecursion, range_with_len, All-from_recursion, all_from_has, all_of_has, Arrival, arriving, Departure, traffic_is, at_input, arrivals, packets_of, arrivals_at, arrivals_of, cell_of, cells, packet_at, come_in_order, departures_of, departures_limited, whole_limited_run, slots_of_limited_run, LimitedRan, refused_in, packets_refused, AreOfPackets, came_at, AreJudged, LimitedRecord, Captured, AreTables, ports_of, Tables, machines_of, openings_of, IsFabricRun, departures_in_run, refused_in_run, ideal_departures, ran_ideal, Cell, all_found, all_present, all_weaker, present, judged, Admission, Marked, admission, refused, is_first, arriving_from, IdealState, Machine, ◌&&◌, ◌==◌, sum_by, length-map, length-filter, sum-map, is_from, came_in_flow, comes_in_flow, ends_packet_at, leaving, packets_out, eq-eqb, eqb-true, cells_above, route, each_leaves_or_is_refused, refuses_none_elsewhere, KeepTheirOutput, LeaveOrAreRefused, most_ports}
 use Rattle.cq_simulate.proofs.Departed.{all_cells, came_as, left_in_packets}
 use Rattle.cq_simulate.proofs.FabricLaws.{slot_by_slot}
 use Rattle.cq_simulate.proofs.OfPackets.{by_packet, line_cells, packet_cells, packets_come}
 use Rattle.cq_simulate.proofs.Runnable.{runnable}
 use Rattle.cq_simulate.specs.EachPacket.{EachPacketOnce, number_for, number_from, output_of, times_left, times_refused}
-use Rattle.cq_simulate.proofs.Tallies.{all_in_row, bit, sum_by_both, sum_by_same, tally, tally-map, tally_both, tally_by_parts, tally_of_kind, tally_same, tally_turned, one_is, one_where}
+use Rattle.cq_simulate.proofs.Tallies.{all_in_row, sum_by_both, sum_by_same, tally, tally-map, tally_both, tally_by_parts, tally_of_kind, tally_same, tally_turned, one_is, one_where}
 
 -- Each packet leaves its output or is refused there, once, and so are all of them together. Where a packet is one of
 -- those that are taken in at its input its last cell leaves in its flow, and where it is not its first cell is one of
@@ -226,12 +226,10 @@ module _ (P : Cell → Type 0) where
   all_judged limits marks (cells ∷ traffic) (a ∷ admissions) judged all =
       grind (arith, common_steps, all_refused, all_judged limits a.marks traffic admissions judged.1 all.1)
 
-  all_arriving : (came : List Arrival) (slot n : ℕ) → AllByRecursion (λ a. P a.cell) came →
-      AllByRecursion (λ cells. AllByRecursion P (present cells)) (map (arriving came) (range_with_len slot n))
+  all_arriving : (came : List Arrival) → AllByRecursion (λ a. P a.cell) came → (t : ℕ) →
+      AllByRecursion P (present (arriving came t))
   unfolding arriving
-  all_arriving came slot zero all = tt
-  all_arriving came slot (suc n) all =
-      search (rules, all_present, all_found, all_weaker, all_arriving came (slot + 1) n all)
+  all_arriving came all t = search (rules, all_present, all_found, all_weaker)
 
   pub refused_came : (limits : List (Option ℕ)) (ms : List Machine) (came : List Arrival) (old : Marked IdealState)
       (ran : LimitedRan) → whole_limited_run limits ms came old ≡ Ok ran → AllByRecursion (λ a. P a.cell) came →
@@ -240,7 +238,8 @@ module _ (P : Cell → Type 0) where
   refused_came limits ms came old ran is all =
       let n = slots_of_limited_run limits ms came old in
       all_judged limits old.marks (map (arriving came) (range_with_len 0 n)) ran.admissions
-      (judged limits ms 0 (map (arriving came) (range_with_len 0 n)) old ran is) (all_arriving came 0 n all)
+      (judged limits ms 0 (map (arriving came) (range_with_len 0 n)) old ran is)
+      (all_in_range (λ cells. AllByRecursion P (present cells)) came 0 n (all_arriving came all))
 
 module _ (t : Tables) (captures : List (List Captured)) (tables : AreTables t)
     (many : length captures ≡ ports_of t.setup) where

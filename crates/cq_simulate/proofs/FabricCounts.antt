@@ -54,11 +54,6 @@ one_crosses (Some t) = 1
 length-cons_option : (o : Option Transfer) (ts : List Transfer) → length (cons_option o ts) ≡ one_crosses o + length ts
 length-cons_option o ts = grind (arith, common_steps)
 
-length_taken : (p : Option ℕ) (xs : List Queued) → length (list_taken p xs) ≤ length xs
-length_taken None xs = omega arith
-length_taken (Some j) [] = omega arith
-length_taken (Some j) (x ∷ xs) = grind (arith, common_steps, cond_both, length_taken (Some j) xs)
-
 module _ (slot phase : ℕ) where
   one_taken : (i : ℕ) (p : Option ℕ) (xs : List Queued) → one_crosses (noted slot phase i xs p) + length
       (list_taken p xs) ≤ length xs
@@ -78,7 +73,8 @@ module _ (slot phase : ℕ) where
     all_cross n same = rw (← same) (some_cross 0 (length m))
 
 pub shorter : (m : Partners) (f g : Fabric) → Transfers m f g → (i : ℕ) → length (input g i) ≤ length (input f i)
-shorter m f g step i = grind (arith, common_steps, step.moves.taken, length_taken)
+shorter m f g step i =
+    let taken = ap length (step.moves.taken i) in omega (arith, one_taken 0 0 i (partner_of m i) (input f i))
 
 -- ## Proposals
 

@@ -96,12 +96,7 @@ module _ (M : List ℕ → Machine) (t : Tables) (s : Scheduled) (first : Engine
         let engine : Switch = record (switch_of t s) { machines = map M first.fixed; limits = first.limits } in
         let runs : RunsOn engine first.next (marked_fabric first) rs (marked_fabric kept.last) =
         search (arith, rules, take_all) in
-        record {
-          records = rs;
-          end = marked_fabric kept.last;
-          runs = rw (limits, machines) at runs;
-          kept_is = search (arith, rules);
-        }
+        let runs_there = rw (limits, machines) at runs in search (arith, rules)
 
 -- ## What is known once its run can begin
 
@@ -146,14 +141,8 @@ module _ {t : Tables} {s : Scheduled} {first : EngineView} {sent : RoomView Depa
   run_is_kept run kept =
       let from_fresh = rw made.fresh.fresh at kept in
       let it = resumes machine_from t s begins sent note made.fresh.machines refl run from_fresh in
-      record {
-        records = it.records;
-        is_run = search (arith, rules);
-        sent = ap (λ (k : Kept). k.sent) it.kept_is ∙ grind (arith, common_steps);
-        note = ap (λ (k : Kept). k.note) it.kept_is ∙ grind (arith, common_steps);
-        figures = ap (λ (k : Kept). k.figures) it.kept_is ∙ sym (figures_fold (ports_of t.setup) (slots_in it.records));
-        refused = search (arith, rules, counts_more t.limits [] (refused_in (admissions_in it.records)));
-      }
+      let refused = counts_more t.limits [] (refused_in (admissions_in it.records)) in
+      search (arith, rules, common_steps, figures_fold)
 
   -- and where it has none, the ideal switch has none
   pub no_run : (why : RunRefusal) → IsRefusalOn (map machine_from first.fixed) s.came first why →

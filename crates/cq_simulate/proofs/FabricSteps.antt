@@ -1,8 +1,8 @@
 -- What each step of the loop over the slots of the fabric asks for, where so many slots are left as are not yet over.
-use Rattle.cq_simulate.proofs.Terms.{common_steps, rules, ◌≡◌, ◌↔◌, ℕ, suc, ◌+◌, ◌-◌, ◌<◌, ◌≤◌, ◌^◌, Bool, true, false, List, [], ◌++◌, length, map, replicate, Option, Some, Err, refl, sym, ap, ◌∙◌, subst, arith, zero, ◌*◌, ◌∷◌, ⊎_elim, length-append, append_assoc, IsTrue, sum, slice_index, find, cases_lt, and_left, leb-false, ne_eqb, arrival_at, no_arrivals, Arrival, arriving, end_of, arriving_at, is_at, RoomView, Cell, Departure, TagFault, Transfer, EngineView, HaveBufferRoom, HaveListRoom, IsMadeAs, IsReadyFor, SlotDone, answer_to, its_admission, marked_fabric, HaveLeft, CanCount, AreForPorts, ranking, IsEmptyFabric, Fabric, input, LimitedFabricRun, admissions_in, LimitedRecord, IsLimitedFault, LimitedFabricSlot, slots_in, IsInputBest, Machine, class_count, counts_fit, none_counted, all_counted_both, refused_in, HasPartedTo, HasRunOn, IsReadyOn, IsReadyPart, NoneCome, StopsWithin, RanTo, WentOn, to_come, arrivals_for, arrives_found, from_here, one_if, come_from, some_one, no_more_from, for_here, come_for, no_more_to, IsQuiet, append-nil, length-map, get_or_past, map-append, take_all, take-append-le, departures_in, IdealState, quiet_figures, quiet_transfers, transfers_in, gone_in, transfers_of_run, flat_map, range_with_len, map-range_with_len_more, Queued, Figures, nothing_left, present, come_count, none_after, come_count-first, arriving_length, arriving_here, arriving_parts, one_slot_more, counted, waiting, total, total_same, Marked, arriving_from, departures_of, LimitedSent, stable_limited_slot, limited_ports_kept, same_limited_slot, only_limited_run, empty_together, Agrees, SlotRecord, fabric_held, held_for, LimitedAgrees, figures_after, proposals_in, fold-append, sum_by-cons, agrees_of, ideal_of, list_of, is_from, is_to, number_of, arriving_is, cell_listed, found, quiet_limited_slots, quiet_limited_slot, limited_lists_kept, limited_outputs_kept, all_go_on, departures_one, transfers_both, transfers_one, departures_on, hold_as_many, most_ports}
+use Rattle.cq_simulate.proofs.Terms.{common_steps, rules, ◌≡◌, ◌↔◌, ℕ, suc, ◌+◌, ◌-◌, ◌<◌, ◌≤◌, ◌^◌, Bool, true, false, List, [], ◌++◌, length, map, replicate, Option, Some, Err, refl, sym, ap, ◌∙◌, subst, arith, zero, ◌*◌, ◌∷◌, ⊎_elim, length-append, append_assoc, IsTrue, sum, slice_index, find, cases_lt, and_left, leb-false, ne_eqb, arrival_at, no_arrivals, Arrival, arriving, end_of, arriving_at, is_at, RoomView, Cell, Departure, TagFault, Transfer, EngineView, HaveBufferRoom, HaveListRoom, IsMadeAs, IsReadyFor, SlotDone, answer_to, its_admission, marked_fabric, HaveLeft, CanCount, AreForPorts, ranking, IsEmptyFabric, Fabric, input, LimitedFabricRun, admissions_in, LimitedRecord, IsLimitedFault, LimitedFabricSlot, slots_in, IsInputBest, Machine, class_count, counts_fit, none_counted, all_counted_both, refused_in, HasPartedTo, HasRunOn, IsReadyOn, IsReadyPart, NoneCome, StopsWithin, RanTo, WentOn, to_come, arrivals_for, arrives_found, from_here, one_if, come_from, some_one, no_more_from, for_here, come_for, no_more_to, IsQuiet, append-nil, length-map, get_or_past, map-append, take_all, take-append-le, departures_in, no_departures, IdealState, quiet_figures, quiet_transfers, transfers_in, gone_in, transfers_of_run, flat_map, range_with_len, map-range_with_len_more, Queued, Figures, nothing_left, present, come_count, none_after, come_count-first, arriving_length, arriving_here, arriving_parts, one_slot_more, counted, waiting, total, total_same, Marked, arriving_from, departures_of, LimitedSent, stable_limited_slot, limited_ports_kept, same_limited_slot, only_limited_run, empty_together, Agrees, SlotRecord, fabric_held, held_for, LimitedAgrees, figures_after, proposals_in, fold-append, sum_by-cons, agrees_of, ideal_of, list_of, is_from, is_to, number_of, arriving_is, cell_listed, found, quiet_limited_slots, quiet_limited_slot, limited_lists_kept, limited_outputs_kept, all_go_on, departures_one, transfers_both, transfers_one, departures_on, hold_as_many, most_ports}
 use Rattle.cq_engine.specs.Engine.{HasGoneOn, ports_of}
 use Rattle.cq_engine.specs.Resting.{HasRested}
-use Rattle.cq_simulate.proofs.Steps.{IsFree, few_left, fewer_come, nobody_departs, enough_are, of_admitted, come_here, fewer_left, none_come, slot_err}
+use Rattle.cq_simulate.proofs.Steps.{IsFree, few_left, fewer_come, enough_are, of_admitted, come_here, fewer_left, none_come, slot_err}
 use Rattle.cq_laws.specs.Quiet.{idled, quiet_slot}
 use Rattle.cq_simulate.proofs.FabricCounts.{at_inputs, cross_few, none_proposed, square_few, total_next}
 
@@ -92,7 +92,6 @@ pub record Crossing (whole : Bool) (ms : List Machine) (came : List Arrival) (fi
     (sent : RoomView Departure) (note : RoomView Transfer) : Type 0 where
   pub ideal : Marked IdealState
   pub agrees : LimitedAgrees slot (marked_fabric now) ideal
-  pub running : now.stopped ≡ false
   pub next : now.next ≡ slot
   pub made : IsMadeAs first now
   pub ports : length now.fabric.inputs ≡ ports_of first
@@ -175,21 +174,12 @@ crossing_first whole ms came first sent note n ready slots =
     record {
       ideal = record { state = ideal_of first.fabric; marks = first.marks };
       agrees = record { states = agrees_of first.next first.fabric ready.sound; marks = refl };
-      running = ready.running;
       next = refl;
       made = record { fixed = refl; limits = refl; from_inputs = refl; to_outputs = refl };
       ports = ready.inputs;
       records = [];
       long = omega arith;
-      went = record {
-        runs = refl;
-        departed = sym (append-nil sent.items);
-        crossed = sym (append-nil note.items);
-        counted = refl;
-        refused = sym (none_counted first.refused);
-        limits = refl;
-        running = ready.running;
-      };
+      went = search (arith, rules, append-nil, none_counted);
       lists = λ i inside. let had = ready.lists i inside in let from = from_few first.next n came i in omega arith;
       buffers = λ j inside. let had = ready.buffers j inside in let to = for_few first.next n came j in omega arith;
       spare = omega arith;
@@ -306,7 +296,6 @@ module _ {whole : Bool} {ms : List Machine} {came : List Arrival} {first : Engin
       record {
         ideal = alike.next;
         agrees = alike.agrees;
-        running = passed.running;
         next = passed.went_on.next;
         made = made_on c.made passed.made;
         ports = limited_ports_kept first.limits ms slot classes cells f g ideal r c.agrees come stable ∙ c.ports;
@@ -324,21 +313,11 @@ module _ {whole : Bool} {ms : List Machine} {came : List Arrival} {first : Engin
               (subst (λ (k : ℕ). LimitedFabricSlot IsInputBest first.limits ms k cells f r g) at step));
           departed =
               let seen = length-map c.records (λ (r : LimitedRecord). r.of_slot) in
-              search (
-                arith,
-                rules,
-                append_assoc first_sent.items (departures_of first.next (gone_in (slots_in c.records))) gone,
-                departures_one slot r.of_slot,
-                departures_on (slots_in c.records) (r.of_slot ∷ []) first.next slot,
-              );
+              let both = departures_on (slots_in c.records) (r.of_slot ∷ []) first.next slot in
+              search (arith, rules, append_assoc first_sent.items, departures_one slot r.of_slot);
           crossed = search (arith, rules, append_assoc, transfers_one, transfers_both);
           counted = search (arith, rules, fold-append);
-          refused = search (
-            arith,
-            rules,
-            all_counted_both (refused_in (admissions_in c.records)) r.admission.refused first.refused,
-            refused_more c.records r,
-          );
+          refused = search (arith, rules, all_counted_both, refused_more c.records r);
           limits = passed.made.limits ∙ c.went.limits;
           running = passed.running;
         };
@@ -367,8 +346,8 @@ module _ {whole : Bool} {ms : List Machine} {came : List Arrival} {first : Engin
 
 quiet_gone : (ms : List Machine) (slot ports : ℕ) (ranks : List (List ℕ)) →
     departures_in slot (quiet_slot ms slot ports ranks).gone ≡ []
-unfolding quiet_slot
-quiet_gone ms slot ports ranks = nobody_departs ports slot
+unfolding quiet_slot departures_in
+quiet_gone ms slot ports ranks = no_departures ports slot 0
 
 module _ {whole : Bool} {ms : List Machine} {came : List Arrival} {first : EngineView}
     {first_sent sent : RoomView Departure} {first_note note : RoomView Transfer} (ports classes : ℕ)
@@ -393,16 +372,8 @@ module _ {whole : Bool} {ms : List Machine} {came : List Arrival} {first : Engin
       let quiet_here : arriving came slot ≡ no_arrivals = quiet slot (omega arith) (omega arith) in
       let middle : EngineView =
       record now { fabric = ran.0.state; marks = ran.0.marks; next = slot + 1; stopped = false } in
-      let done : SlotDone ms slot no_arrivals now middle sent sent note note = record {
-        record_of = r;
-        is_slot = ran.1;
-        departed = sym (append-nil sent.items) ∙ ap (λ (l : List Departure). sent.items ++ l) (sym leave);
-        departed_room = omega arith;
-        crossed = sym (append-nil note.items) ∙ ap (λ (l : List Transfer). note.items ++ l) (sym cross);
-        crossed_room = omega arith;
-        counted = sym (quiet_figures ms slot ports ranks now.figures);
-        refused = sym (none_counted now.refused);
-      } in
+      let done : SlotDone ms slot no_arrivals now middle sent sent note note =
+      search (arith, rules, append-nil, quiet_figures, none_counted) in
       let passed : Passed ms slot no_arrivals now middle sent sent sent sent note note =
       record {
         done = done;
@@ -487,9 +458,6 @@ module _ {whole : Bool} {end : ℕ} {M : List ℕ → Machine} {came : List Arri
   c_next : Crossing whole (map M first.fixed) came first first_sent first_note slot (suc rest) now sent note
   c_next = let one_more : end - slot ≡ suc rest = omega arith in rw one_more at here.crossing
 
-  early : slot < 2 ^ 64 - 1
-  early = omega arith
-
   same_ports : length now.fixed ≡ length first.fixed
   same_ports = ap (λ (l : List (List ℕ)). length l) here.crossing.made.fixed
 
@@ -567,7 +535,7 @@ module _ (M : List ℕ → Machine) {came : List Arrival} {first : EngineView} {
       (over_by came first.next - slot) now sent note
 
   few_all : over_by came first.next ≤ 2 ^ 63 + 2 ^ 36
-  few_all = search (arith, rules, early, enough_are)
+  few_all = search (arith, rules, enough_are)
 
   pub run_begins : Runs first.next first first_sent first_note
   run_begins = grind (arith, common_steps, crossing_first)

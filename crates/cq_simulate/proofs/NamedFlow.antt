@@ -31,18 +31,12 @@ unfolding next_after
 of_parts n [] ys are = (tt, are)
 of_parts n (x ∷ xs) ys are = let rest = of_parts (packet x + 1) xs ys are.1 in ((are.0, rest.0), rest.1)
 
--- no number is below that from which they begin
-pub at_least : (m n : ℕ) (xs : List Arrival) → m ≤ n → AreOfPackets n (cells_of xs) →
-    AllByRecursion (λ a. m ≤ packet a + 1) xs
-at_least m n [] le are = tt
-at_least m n (x ∷ xs) le are = grind (arith, common_steps, at_least m (packet x + 1) xs)
-
--- and each is below that from which the next one begins
-pub below : (n : ℕ) (xs : List Arrival) → AreOfPackets n (cells_of xs) →
-    (n ≤ next_after n xs) × AllByRecursion (λ a. packet a + 1 ≤ next_after n xs) xs
+-- no number is below that from which they begin, and each is below that from which the next one begins
+pub within : (m n : ℕ) (xs : List Arrival) → m ≤ n → AreOfPackets n (cells_of xs) →
+    (n ≤ next_after n xs) × AllByRecursion (λ a. (m ≤ packet a + 1) × (packet a + 1 ≤ next_after n xs)) xs
 unfolding next_after
-below n [] are = (omega arith, tt)
-below n (x ∷ xs) are = let rest = below (packet x + 1) xs are.1 in (grind (arith, common_steps), rest)
+within m n [] le are = (omega arith, tt)
+within m n (x ∷ xs) le are = grind (arith, common_steps, within m (packet x + 1) xs)
 
 -- slots and packets rise together
 abbrev pub Rises : Arrival → Arrival → Type 0
@@ -52,7 +46,7 @@ pub both_rise : (n : ℕ) (xs : List Arrival) → EachPair (λ x y. x.slot < y.s
     EachPair Rises xs
 both_rise n [] rising are = tt
 both_rise n (x ∷ xs) rising are =
-    let on = at_least (packet x + 1) (packet x + 1) xs (omega arith) are.1 in
+    let on = within (packet x + 1) (packet x + 1) xs (omega arith) are.1 in
     grind (arith, common_steps, all_from_has, all_of_has, both_rise (packet x + 1) xs rising.1 are.1)
 
 -- the first cell of a packet
@@ -62,32 +56,22 @@ pub record Begins (xs : List Arrival) (a : Arrival) : Type 0 where
   pub begins : first.cell.id.index ≡ 0
   pub own : packet first ≡ packet a
 
-begun_or_on : (n : ℕ) (xs : List Arrival) → AreOfPackets n (cells_of xs) → (a : Arrival) → Has xs a →
-    Begins xs a ⊎ (packet a + 1 ≡ n)
-begun_or_on n [] are a has = absurd has
-begun_or_on n (x ∷ xs) are a has =
-    let here : packet x ≡ packet a → Begins (x ∷ xs) a ⊎ (packet a + 1 ≡ n) = search (arith, rules, eqb-true) in
-    ⊎_elim (λ same. here (ap packet same)) (λ more.
-    ⊎_elim (λ it. inl (record { first = it.first; has = inr it.has; begins = it.begins; own = it.own }))
-    (λ (on : packet a + 1 ≡ packet x + 1). let own : packet x ≡ packet a = omega arith in here own)
-    (begun_or_on (packet x + 1) xs are.1 a more)) has
-
-pub begun : (xs : List Arrival) → AreOfPackets 0 (cells_of xs) → (a : Arrival) → Has xs a → Begins xs a
-begun xs are a has = ⊎_elim (λ it. it) (λ (none : packet a + 1 ≡ 0). absurd (omega arith)) (begun_or_on 0 xs are a has)
+-- each of another packet than the one that goes on is of one that begins
+pub begun : (n : ℕ) (xs : List Arrival) → AreOfPackets n (cells_of xs) → (a : Arrival) → Has xs a →
+    (packet a + 1 ≡ n → ⊥) → Begins xs a
+begun n [] are a has other = absurd has
+begun n (x ∷ xs) are a has other =
+    let here : packet x ≡ packet a → Begins (x ∷ xs) a = search (arith, rules, eqb-true) in
+    let later = begun (packet x + 1) xs are.1 a in
+    ⊎_elim (λ same. here (ap packet same)) (λ more. ⊎_elim here (λ ne.
+    let it = later more (λ on. ne (omega arith)) in
+    record { first = it.first; has = inr it.has; begins = it.begins; own = it.own })
+    (cases_eq (packet x) (packet a))) has
 
 -- ## The last by slot
 
 abbrev later_one : Arrival → Arrival → Arrival
 later_one a b = if nat_lt a.slot b.slot then b else a
-
--- of two it is one, and neither is later
-record IsLaterOne (a b v : Arrival) : Type 0 where
-  pub one : (v ≡ a) ⊎ (v ≡ b)
-  pub first : a.slot ≤ v.slot
-  pub second : b.slot ≤ v.slot
-
-later_is : (a b : Arrival) → IsLaterOne a b (later_one a b)
-later_is a b = grind (arith, common_steps, lt-ltb, le-ltb, cases_lt)
 
 pub record IsLatest (xs : List Arrival) (g : Arrival) : Type 0 where
   pub has : Has xs g
@@ -100,9 +84,9 @@ latest_on : (x : Arrival) (xs : List Arrival) → IsLatest (x ∷ xs) (fold late
 latest_on x [] = grind (arith, common_steps, same_slot)
 latest_on x (z ∷ zs) =
     let v = later_one x z in
-    let later : IsLaterOne x z v = later_is x z in
     let it : IsLatest (v ∷ zs) (fold later_one v zs) = latest_on v zs in
-    let most : v.slot ≤ (fold later_one v zs).slot = it.after v (inl refl) in search (arith, rules, same_slot)
+    let most : v.slot ≤ (fold later_one v zs).slot = it.after v (inl refl) in
+    grind (arith, common_steps, same_slot, lt-ltb, le-ltb, cases_lt)
 
 pub latest_is : (xs : List Arrival) (y : Arrival) → Has xs y → (g : Arrival) × (latest xs ≡ Some g) × IsLatest xs g
 latest_is [] y has = absurd has
@@ -208,41 +192,38 @@ module _ (w : Switch) (s : State) (i : ℕ) (whole : AreWholePackets w s)
       → AllNamed s (packet_before w.came s.head.next a)
       ⊎ (NoneNamed s (packet_before w.came s.head.next a) × HasLimit w.limits a.cell.output)) w.came f whole first.came
       begins first.early in
-      ⊎_elim (λ yes_ a among.
-      let is = all_has (λ (b : Arrival). is_told b ≡ true) all in is a yes_ among ∙ sym (is f yes_ own))
-      (λ none a among.
-      let is = all_has (λ (b : Arrival). is_told b ≡ false) all in is a none.0 among ∙ sym (is f none.0 own)) said
+      let is = λ (yes_ : Bool). all_has (λ (b : Arrival). is_told b ≡ yes_) all in
+      grind (arith, common_steps, is true, is false)
 
   pub alike : (a b : Arrival) → Has before a → Has before b → packet a ≡ packet b → is_told a ≡ is_told b
   alike a b first second same =
-      let it = begun before packets_parted.0 a first in
+      let it = begun 0 before packets_parted.0 a first (λ none. omega arith) in
       let f = it.first in
       let answers = one_answer f it.has it.begins in search (arith, rules, of_line, in_packet)
 
   rise : EachPair Rises before
   rise = both_rise 0 before (pairs_kept IsEarlier (is_early s.head.next) line rising) packets_parted.0
 
+  of_first : (a : Arrival) → Has (firsts_at w.came s i) a → OfLine a × (a.cell.id.index ≡ 0)
+  of_first a has = grind (arith, common_steps, kept_has, and_parts, eqb-true, ltb-true)
+
   -- the packet that goes on is named exactly where the mark is down
   pub mark_says : (a : Arrival) → Has before a → packet a + 1 ≡ begin_from →
       not (is_refused w.came s (latest (firsts_at w.came s i))) ≡ is_told a
   mark_says a has last =
-      let it = begun before packets_parted.0 a has in
+      let it = begun 0 before packets_parted.0 a has (λ none. omega arith) in
       let f = it.first in
       let head = of_line f it.has in
-      let is_begin : Arrival → Bool = λ x. x.cell.id.input == i && x.cell.id.index == 0 && nat_lt x.slot s.head.next in
       let there : Has (firsts_at w.came s i) f = search (arith, rules, has_kept, and_from, eq-eqb, lt-ltb) in
       let found = latest_is (firsts_at w.came s i) f there in
       let g = found.0 in
-      let kept = kept_has is_begin w.came g found.2.has in
-      let most = and_parts (g.cell.id.input == i && g.cell.id.index == 0) (nat_lt g.slot s.head.next) kept.1 in
-      let first = and_parts (g.cell.id.input == i) (g.cell.id.index == 0) most.0 in
-      let of_g : OfLine g =
-      let early = ltb-true g.slot s.head.next most.1 in
-      record { came = kept.0; input = eqb-true g.cell.id.input i first.0; early = early } in
+      let first = of_first g found.2.has in
+      let of_g = first.0 in
       let g_has : Has before g = to_line g of_g in
       let later : f.slot ≤ g.slot = found.2.after f there in
       let own : packet f ≡ packet a = it.own in
-      let high : packet g + 1 ≤ begin_from = all_of_has _ before g (below 0 before packets_parted.0).1 g_has in
+      let most = within 0 0 before (omega arith) packets_parted.0 in
+      let high : packet g + 1 ≤ begin_from = (all_of_has _ before g most.1 g_has).1 in
       let low : packet f ≤ packet g = search (arith, rules, packet, pair_of_has, rise) in
       let any_alike-here = any_alike is_told (is_told g) (packet_before w.came s.head.next g) g in
       let in_packet-here = in_packet g g of_g of_g refl in
@@ -263,14 +244,12 @@ module _ (w : Switch) (s : State) (i : ℕ) (whole : AreWholePackets w s)
 
     pub taken_behind : AllByRecursion (λ b. is_taken (packet b) ≡ taken (packet b)) behind
     taken_behind =
+        let low = within begin_from begin_from behind (omega arith) packets_behind in
+        let high = within 0 0 before (omega arith) packets_parted.0 in
         all_from_has (λ (b : Arrival). is_taken (packet b) ≡ taken (packet b)) behind (λ b has.
-        let from : begin_from ≤ packet b + 1 =
-        all_of_has _ behind b (at_least begin_from begin_from behind (omega arith) packets_behind) has in
+        let from = all_of_has _ behind b low.1 has in
         as_taken is_told taken before (packet b) (λ a first same.
-        let high : packet a + 1 ≤ begin_from = all_of_has _ before a (below 0 before packets_parted.0).1 first in
-        let last : packet a + 1 ≡ begin_from = omega arith in
-        let this : packet b + 1 ≡ begin_from = omega arith in
-        sym (mark_says a first last) ∙ sym (goes_on (packet b) this)))
+        let to = all_of_has _ before a high.1 first in search (arith, rules, mark_says, goes_on)))
 
 -- ## Arrivals that rise by slot
 
@@ -285,12 +264,6 @@ line_rises came later i =
     rises (eqb-true a.cell.id.input i first ∙ sym (eqb-true b.cell.id.input i second))) came
     (each_pair IsLater came later)
 
--- the cell that departs, and where
-departs : (d : Sent) (o : Option Queued) (x : Departure) →
-    option_map (λ q. let y : Departure = record { slot = d.slot; output = q.cell.output; queued = q } in y) o ≡ Some x →
-    (o ≡ Some x.queued) × (x.output ≡ x.queued.cell.output)
-departs d o x is = grind (arith, common_steps)
-
 -- ## One flow
 
 -- the arrival of a queued cell
@@ -304,11 +277,8 @@ both_cells xs ys = simp (map-append, map-map)
 
 none_later : (xs : List Queued) → EachPair IsBefore xs → EachPair NoLater xs
 none_later [] rising = tt
-none_later (x ∷ xs) rising = (
-  all_weaker (IsBefore x) (NoLater x) (λ y before. key_laws.one_way x.key y.key before) xs
-      rising.0,
-  none_later xs rising.1,
-)
+none_later (x ∷ xs) rising =
+    grind (arith, common_steps, all_weaker (IsBefore x) (NoLater x), key_laws.one_way, none_later xs rising.1)
 
 module _ (w : Switch) (s : State) (in_range : IsInRange s) (shape : HasShape w s) (sound : IsSound w s)
     (traffic : IsTraffic (length w.machines) w.classes w.came)
@@ -331,14 +301,9 @@ module _ (w : Switch) (s : State) (in_range : IsInRange s) (shape : HasShape w s
 
   pub waits_there : (q : Queued) → Has there q → WaitsThere q
   waits_there q has =
-      ⊎_elim
-      (λ (at : (k : ℕ) × IsAmong q (input f k) × (q.cell.output ≡ j)).
-      let it = in_list w s in_range shape sound traffic at.0 q at.1 in
-      record { name = it.name; has = has_left s.listed s.buffered it.name it.has; is = it.is; output = at.2 })
-      (λ (at : IsAmong q (buffer f j)).
-      let it = in_buffer w s in_range shape sound traffic j q at in
-      record { name = it.name; has = has_right s.listed s.buffered it.name it.has; is = it.is; output = it.here })
-      ((agrees.same j q).0 has)
+      let listed = in_list w s in_range shape sound traffic in
+      let buffered = in_buffer w s in_range shape sound traffic in
+      search (arith, rules, listed, buffered, has_left, has_right, agrees.same)
 
   abbrev pub next : ℕ
   next = s.head.next
@@ -373,7 +338,7 @@ module _ (w : Switch) (s : State) (in_range : IsInRange s) (shape : HasShape w s
 
     sent_in_flow : (d : Sent) (x : Departure) → departure_of w.came d ≡ Some x → leaves x ≡ true →
         InFlow d.cell x.queued
-    sent_in_flow d x is passes = grind (arith, common_steps, departs, and_parts, x.output, is_kind, eqb-true)
+    sent_in_flow d x is passes = grind (arith, common_steps, and_parts, x.output, is_kind, eqb-true)
 
     was_sent : (q : Queued) → Has gone q → WasSent q
     was_sent q has = grind (arith, common_steps, image_has, kept_has, looked_up, sent_in_flow)
@@ -390,12 +355,8 @@ module _ (w : Switch) (s : State) (in_range : IsInRange s) (shape : HasShape w s
     name_in_flow : (n : Named) (q : Queued) → InFlow n q → NameInFlow n
     name_in_flow n q of =
         let tests = and_parts (q.cell.id.input == i) (q.cell.class == c) of.kind in
-        record {
-          input =
-              sym (of_traffic w s in_range shape sound traffic n q of.is).input ∙ eqb-true q.cell.id.input i tests.0;
-          output = its_output w s in_range shape sound traffic n q of.is ∙ of.output;
-          class = ap class_in (is_cell_of w.came n q of.is).arrives ∙ eqb-true q.cell.class c tests.1;
-        }
+        let own = is_cell_of w.came n q of.is in
+        search (arith, rules, of_traffic w s in_range shape sound traffic n q of.is, its_output, eqb-true)
 
     one_flow : (m n : Named) (q r : Queued) → InFlow m q → InFlow n r → OfOneFlow w.came m n
     one_flow m n q r first second = let a = name_in_flow m q first in search (arith, rules, name_in_flow n r second)
@@ -602,15 +563,7 @@ module _ (w : Switch) (s : State) (in_range : IsInRange s) (shape : HasShape w s
         let slot : q.key.slot ≡ n.slot = its_slot w s in_range shape sound traffic n q it.is in
         let early : n.slot < s.head.next =
         (comes w s in_range shape sound traffic n (queued_named w s in_range shape sound traffic n it.has)).0 in
-        record {
-          level = ap (λ (k : Key). k.level) own.key ∙ floor.level
-              ∙ ap (λ (o : ℕ). (machine_at w.machines o).level (class_of w.came n)) output
-              ∙ ap (λ (k : ℕ). m.level k) class;
-          rank = rw (ap (λ (k : Key). k.rank) own.key) below;
-          class = rw classes (of_traffic w s in_range shape sound traffic n q it.is).class;
-          came = omega arith;
-          before = λ same. absurd (omega arith);
-        }
+        search (arith, rules, of_traffic w s in_range shape sound traffic n q it.is)
 
     pub stands_there : Stands m (slice_index_or (ideal_of f).ranks j []) s.head.next 0 there
     unfolding fabric_told

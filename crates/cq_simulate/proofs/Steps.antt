@@ -188,10 +188,8 @@ module _ {ms : List Machine} {came : List Arrival} {first : IdealSwitch} {first_
       let o = of_admitted first.limits ms slot (arriving came slot) (marked_state now) of_slot is in
       let c = counted ms slot of_slot.admission.cells now.state o.sent o.ran in
       let becomes : after.state ≡ o.sent.after = ap (λ (m : Marked IdealState). m.state) state ∙ o.after in
-      let gone : length (departures_in slot of_slot.gone) ≡ length (departures_in slot o.sent.gone) =
-      ap (λ (l : List (Option Queued)). length (departures_in slot l)) o.gone in
-      let waits : waiting after.state.lists ≡ waiting o.sent.after.lists =
-      ap (λ (s : IdealState). waiting s.lists) becomes in
+      let gone = ap (λ (l : List (Option Queued)). length (departures_in slot l)) o.gone in
+      let waits = ap (λ (s : IdealState). waiting s.lists) becomes in
       let come = come_here came slot n in
       let later = run_from first.limits ms came (slot + 1) n of_slot.after in
       record {
@@ -201,20 +199,15 @@ module _ {ms : List Machine} {came : List Arrival} {first : IdealSwitch} {first_
         same = same_on r.same same;
         whole =
             let step = next_sent first.limits ms came slot n (marked_state now) of_slot is in
-            let both = sent_after-twice sent.items (departures_in slot of_slot.gone) later in cc;
+            search (rules, sent_after-twice);
         lost = r.lost ++ of_slot.admission.refused;
         refused = cc (counts_more first.limits r.lost of_slot.admission.refused);
         ports = ap (λ (s : IdealState). length s.lists) becomes ∙ c.ports ∙ r.ports;
-        each = λ j inside.
-            let here = r.each j inside in
-            let count = for_here j came slot n in
-            let less = o.once_each.each j in
-            let more = c.each j (omega arith) in
-            rw becomes (omega arith);
+        each = search (arith, rules, for_here, r.each, o.once_each.each, c.each);
         spare = omega arith;
         few = search (arith, rules, waiting, come_count, r.few, fewer_left, present, none_after, none_come);
-        many = let both = length-append r.lost of_slot.admission.refused in omega arith;
-        early = rw (left.items, slots_of-append) (let last = slots_of-departures slot of_slot.gone in omega arith);
+        many = search (arith, rules, length-append);
+        early = search (arith, rules, slots_of-append, slots_of-departures);
       }
 
   pub running_fault : (fault : TagFault) →
@@ -259,10 +252,6 @@ module _ {slot ports : ℕ} {gone : List (Option Queued)} {leaving left : RoomVi
 
 -- ## The ideal switch
 
-pub nobody_departs : (n slot : ℕ) → departures_in slot (replicate n None) ≡ []
-unfolding departures_in
-nobody_departs n slot = no_departures n slot 0
-
 -- fewer come in some slots than in those with the stretch before them
 pub fewer_come : (count : ℕ → ℕ → ℕ) → ((slot n : ℕ) → count (slot + 1) n ≤ count slot (suc n)) → (slot k n later : ℕ) →
     later ≡ slot + k → count later n ≤ count slot (k + n)
@@ -272,9 +261,10 @@ fewer_come count less slot (suc k) n later e = grind (arith, common_steps, fewer
 -- the slots of the stretch send nothing
 nothing_departs : (k slot ports : ℕ) (gone : List (List (Option Queued))) →
     departures_of slot (replicate k (replicate ports None) ++ gone) ≡ departures_of (slot + k) gone
-unfolding departures_of
+unfolding departures_of departures_in
 nothing_departs zero slot ports gone = grind (arith, common_steps)
-nothing_departs (suc k) slot ports gone = search (rules, nobody_departs, nothing_departs k (slot + 1) ports gone)
+nothing_departs (suc k) slot ports gone =
+    search (rules, no_departures ports slot 0, nothing_departs k (slot + 1) ports gone)
 
 sent_behind : (k slot ports : ℕ) (admissions : List Admission) (x : Result LimitedRan TagFault) →
     sent_from slot (behind admissions (replicate k (replicate ports None)) x) ≡ sent_from (slot + k) x
@@ -306,7 +296,7 @@ module _ {ms : List Machine} {came : List Arrival} {first : IdealSwitch} {first_
       after.next ≡ slot + k → after.stopped ≡ false → after.state.lists ≡ now.state.lists →
       after.refused ≡ now.refused → IsSameSwitch now after → Running ms came first first_sent (slot + k) n after sent
   running_rest ports k n after left quiet late ran next running lists refused same =
-      let waits : waiting after.state.lists ≡ waiting now.state.lists = ap waiting lists in
+      let waits = ap waiting lists in
       let fewer : come_count (arriving_from came (slot + k) n) ≤ come_count (arriving_from came slot m) =
       rw left (fewer_come (λ t l. come_count (arriving_from came t l)) (λ t l. omega (arith, come_here came t l)) slot
       k n (slot + k) refl) in
@@ -321,14 +311,12 @@ module _ {ms : List Machine} {came : List Arrival} {first : IdealSwitch} {first_
         refused = refused ∙ r.refused;
         ports = ap (λ (l : List (List Queued)). length l) lists ∙ r.ports;
         each = λ j inside.
-            let was = r.each j inside in
-            let list = ap (λ (l : List (List Queued)). length (slice_index_or l j [])) lists in
             let less : come_for j (arriving_from came (slot + k) n) ≤ come_for j (arriving_from came slot m) =
             rw left (fewer_come (λ t l. come_for j (arriving_from came t l))
             (λ t l. omega (arith, for_here j came t l)) slot k n (slot + k) refl) in
-            omega arith;
+            search (arith, rules, r.each);
         spare = omega arith;
-        few = ⊎_elim (λ some. let before = late some in omega arith) (λ none. omega arith) (cases_lt 0 k);
+        few = search (arith, rules, late, cases_lt 0 k);
         many = omega arith;
         early = omega arith;
       }

@@ -103,16 +103,9 @@ none_waiting_for j (suc n) = let rest = none_waiting_for j n in omega arith
 pub holds_none : (came : List Arrival) (ports : ℕ) (fixed states : List (List ℕ)) (from to : List ℕ)
     (limits : List (Option ℕ)) → length fixed ≡ ports → HoldsSome came (fresh_engine ports fixed states from to limits)
 holds_none came ports fixed states from to limits many =
-    let nil = [] in
-    record {
-      early = omega arith;
-      inputs = length-replicate ports nil ∙ sym many;
-      sound = search (arith, rules, empty_agree ports states);
-      lists = λ i. let none = ap (λ (l : List Queued). length l) (empty_list ports i) in omega arith;
-      buffers = λ j. search (arith, rules, empty_list, none_waiting_for);
-      proposals = omega arith;
-      lost = search (arith, rules, zero_fits (2 ^ 64 - 1) limits);
-    }
+    let sound = empty_agree ports states in
+    let lost = zero_fits (2 ^ 64 - 1) limits in
+    search (arith, rules, length-replicate, empty_list, none_waiting_for)
 
 -- ## One that was taken up
 

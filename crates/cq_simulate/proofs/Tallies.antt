@@ -1,15 +1,11 @@
 -- How many of a list pass a test. A tally of what passes one test, taken of what passes another, is one of what
 -- passes both; of numbers in a row of which one passes it is 1; and of two sums, one within the other, either may be
 -- taken first. So the tally of a list is the sum of those of its parts, where each item that passes is in one of them.
-use Rattle.cq_simulate.proofs.Terms.{rules, ◌≡◌, ℕ, zero, suc, ◌+◌, ◌<◌, ◌≤◌, Bool, true, false, cond, List, [], ◌∷◌, length, map, filter, refl, sym, ◌∙◌, arith, common_steps, ◌&&◌, ◌==◌, sum_by, AllByRecursion, range_with_len, and_right, cases_eq, eq-eqb, ne_eqb, length-filter, sum_by-cons, cases_Bool, ap}
+use Rattle.cq_simulate.proofs.Terms.{bit, rules, ◌≡◌, ℕ, zero, suc, ◌+◌, ◌<◌, ◌≤◌, Bool, true, false, cond, List, [], ◌∷◌, length, map, filter, refl, sym, ◌∙◌, arith, common_steps, ◌&&◌, ◌==◌, sum_by, AllByRecursion, range_with_len, and_right, cases_eq, eq-eqb, ne_eqb, length-filter, sum_by-cons, cases_Bool, ap}
 
 -- how many pass
 abbrev pub tally : {X : Type 0} → (X → Bool) → List X → ℕ
 tally p xs = length (filter p xs)
-
--- one where it is so, else none
-abbrev pub bit : Bool → ℕ
-bit b = cond b 1 0
 
 -- ## One list
 

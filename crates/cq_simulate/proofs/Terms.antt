@@ -93,7 +93,7 @@ unfoldable pub use Rattle.cq_resume.specs.Told.{fabric_told}
 pub use Rattle.cq_resume.specs.declared.taken.Taken.{Taken}
 pub use Rattle.cq_engine.specs.Engine.{CanBeMade, CanGoOn, EngineView, HaveBufferRoom, HaveListRoom, IsMadeAs, IsReadyFor, SlotDone, fresh_engine, frozen_of, thawed_engine, its_admission, marked_fabric}
 pub use Rattle.cq_traffic.proofs.ForPorts.{arrivals_for, slots_fit}
-pub use Rattle.cq_traffic.proofs.FromInputs.{arrives_found, from_here, no_more_from, one_if, some_one}
+pub use Rattle.cq_traffic.proofs.FromInputs.{arrives_found, bit, from_here, no_more_from, one_if, some_one}
 unfoldable pub use Rattle.cq_traffic.proofs.FromInputs.{come_from}
 pub use Rattle.cq_traffic.proofs.Quiet.{arrives_before, before_both, none_up_to, quiet_of, quiet_slots}
 pub use Rattle.cq_traffic.proofs.ToOutputs.{come_for-traffic_of, for_here, no_more_to}
