@@ -139,8 +139,6 @@ module _ (t : Tables) (captures : List (List Captured)) (sent : List Departure) 
     leaves : times_left input k j sent ≡ cond taken (bit goes) 0
     leaves =
         let p = parted input in_captures in
-        let of_it : Departure → Bool =
-        λ d. ends_packet_at j d && (d.queued.cell.id.input == input && d.queued.cell.id.packet == k) in
         sym
         (search (arith, rules, tally-map, tally_both, tally_same, all_weaker, flow_test))
         ∙ ap (tally ends) (p.left class j)

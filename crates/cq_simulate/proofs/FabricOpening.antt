@@ -152,7 +152,6 @@ module _ {t : Tables} {s : Scheduled} {first : EngineView} {sent : RoomView Depa
       let ports = ports_of t.setup in
       let openings = openings_of t.setup in
       let alike = best_act_alike_from_empty t.limits (machines_of t.setup) in
-      let stops = rw (made.fresh.fresh, made.fresh.machines) at stop.stops.stops in
       ap departures_limited (limited_whole_fault t.limits (machines_of t.setup) ports openings s.came stop.count fault
       (search (arith, rules, slots_fit)))
   no_run refusal.NoMemory stop = tt

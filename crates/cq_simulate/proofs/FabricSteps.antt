@@ -64,9 +64,7 @@ module _ (s n : ℕ) (came : List Arrival) where
   unfolding come_from
   from_few i =
       let less = fewer_come (come_from i later) (λ t m. omega (arith, from_here i later t m)) 0 s n s (omega arith) in
-      let kept : total (λ t. length (found later t i)) s n ≡ total (λ t. length (found came t i)) s n =
-      search (arith, rules, total_same, found, found_kept) in
-      let all = no_more_from i later (s + n) in omega arith
+      search (arith, rules, total, found, total_same, found_kept, no_more_from)
 
 -- The run of the fabric from any slot on, slot by slot. At each slot the fabric agrees with an ideal switch, so what
 -- is known of one slot of that holds here too: its departures fit, it refuses the same cells, and a cell that waits
@@ -468,7 +466,6 @@ module _ {whole : Bool} {end : ℕ} {M : List ℕ → Machine} {came : List Arri
   list_room cells are i cell at =
       let there : arrival_at (arriving came slot) i ≡ Some cell = search (arith, rules) in
       let inside : i < length first.fixed = for_ports.inputs i cell there in
-      let had = c_next.lists i inside in
       let from = from_here i came slot rest in
       let comes = arrives_found came slot i in search (arith, rules, one_if)
 
@@ -480,7 +477,6 @@ module _ {whole : Bool} {end : ℕ} {M : List ℕ → Machine} {came : List Arri
 
   can_refuse : CanCount (ports_of now) now.refused
   can_refuse =
-      let most : ports_of first ≤ most_ports = here.ready.ports in
       let lost = refused_in (admissions_in here.crossing.records) in
       let room : CanCount (ports_of first + length lost) first.refused = search (arith, rules) in
       search (arith, rules, counts_fit lost (ports_of first) (length lost) first.refused room)
@@ -548,7 +544,6 @@ module _ (M : List ℕ → Machine) {came : List Arrival} {first : EngineView} {
         HasRested (map M now.fixed) slot next now new →
         Stands true (over_by came first.next) M came first first_sent first_note next new sent note
     run_stands {next} {new} more quiet rested =
-        let still : true ≡ true → end_of came ≤ slot → IsEmptyFabric now.fabric → ⊥ = λ _. more in
         let left = crossing_left runs refl more in
         let some : slot < over_by came first.next = omega arith in search (arith, rules, at_rest, few_all)
 

@@ -62,11 +62,7 @@ pub begun : (n : ℕ) (xs : List Arrival) → AreOfPackets n (cells_of xs) → (
 begun n [] are a has other = absurd has
 begun n (x ∷ xs) are a has other =
     let here : packet x ≡ packet a → Begins (x ∷ xs) a = search (arith, rules, eqb-true) in
-    let later = begun (packet x + 1) xs are.1 a in
-    ⊎_elim (λ same. here (ap packet same)) (λ more. ⊎_elim here (λ ne.
-    let it = later more (λ on. ne (omega arith)) in
-    record { first = it.first; has = inr it.has; begins = it.begins; own = it.own })
-    (cases_eq (packet x) (packet a))) has
+    search (arith, rules, cases_eq, begun (packet x + 1) xs are.1 a)
 
 -- ## The last by slot
 
@@ -246,10 +242,7 @@ module _ (w : Switch) (s : State) (i : ℕ) (whole : AreWholePackets w s)
     taken_behind =
         let low = within begin_from begin_from behind (omega arith) packets_behind in
         let high = within 0 0 before (omega arith) packets_parted.0 in
-        all_from_has (λ (b : Arrival). is_taken (packet b) ≡ taken (packet b)) behind (λ b has.
-        let from = all_of_has _ behind b low.1 has in
-        as_taken is_told taken before (packet b) (λ a first same.
-        let to = all_of_has _ before a high.1 first in search (arith, rules, mark_says, goes_on)))
+        search (arith, rules, all_from_has, all_of_has, as_taken, mark_says)
 
 -- ## Arrivals that rise by slot
 
@@ -354,8 +347,6 @@ module _ (w : Switch) (s : State) (in_range : IsInRange s) (shape : HasShape w s
 
     name_in_flow : (n : Named) (q : Queued) → InFlow n q → NameInFlow n
     name_in_flow n q of =
-        let tests = and_parts (q.cell.id.input == i) (q.cell.class == c) of.kind in
-        let own = is_cell_of w.came n q of.is in
         search (arith, rules, of_traffic w s in_range shape sound traffic n q of.is, its_output, eqb-true)
 
     one_flow : (m n : Named) (q r : Queued) → InFlow m q → InFlow n r → OfOneFlow w.came m n
@@ -453,7 +444,6 @@ module _ (w : Switch) (s : State) (in_range : IsInRange s) (shape : HasShape w s
         let at = is_cell_of w.came n q of.is in
         let it = found_at w.came n.slot n.input q.cell at.arrives in
         let slot : q.key.slot ≡ n.slot = slot_is n q of in
-        let input : q.cell.id.input ≡ n.input = (of_traffic w s in_range shape sound traffic n q of.is).input in
         let same : it.arrival ≡ x = arrival_is it.arrival x (it.slot ∙ sym slot) it.own in
         let before : n.slot < next = (comes w s in_range shape sound traffic n has).0 in
         search (arith, rules, Has, and_from, q.cell.output, is_kind, eq-eqb, any_has, n.slot, n.input)
@@ -490,7 +480,6 @@ module _ (w : Switch) (s : State) (in_range : IsInRange s) (shape : HasShape w s
         let image = image_has (λ (d : Sent). d.cell) s.sent n has in
         let d = image.0 in
         let x : Departure = record { slot = d.slot; output = q.cell.output; queued = q } in
-        let looked : t d.cell ≡ Some q = ap t image.2 ∙ of.is in
         let is : departure_of w.came d ≡ Some x = search (arith, rules) in
         has_image (λ (y : Departure). y.queued) (filter leaves (sent_told w.came s)) x
         (has_kept leaves (sent_told w.came s) x (has_looked_up (departure_of w.came) s.sent d x image.1 is)
@@ -501,7 +490,6 @@ module _ (w : Switch) (s : State) (in_range : IsInRange s) (shape : HasShape w s
 
     among_listed : (n : Named) (q : Queued) → InFlow n q → Has s.listed n → Has waiting q
     among_listed n q of has =
-        let ports : s.head.ports ≡ length w.machines = ports_are w s in_range shape sound traffic in
         let low : n.input < length w.machines = (of_traffic w s in_range shape sound traffic n q of.is).within in
         let at : Named → Bool = λ m. m.input == n.input in
         let told_there : Has (list_told w.came s n.input) q =
@@ -512,7 +500,6 @@ module _ (w : Switch) (s : State) (in_range : IsInRange s) (shape : HasShape w s
 
     among_buffered : (n : Named) (q : Queued) → InFlow n q → Has s.buffered n → Has waiting q
     among_buffered n q of has =
-        let ports : s.head.ports ≡ length w.machines = ports_are w s in_range shape sound traffic in
         let low : q.cell.output < length w.machines = (of_traffic w s in_range shape sound traffic n q of.is).output in
         search (arith, rules, has_kept, has_looked_up, buffer_is, among_waiting)
 

@@ -425,8 +425,6 @@ module _ (M : List ℕ → Machine) {came : List Arrival} {first : IdealSwitch} 
 
     pub at_rest : Before next new sent
     at_rest =
-        let late : slot ≤ next = quiet.late in
-        let some = enough_are came in
         let left : enough came - slot ≡ next - slot + (enough came - next) =
         ⊎_elim (λ lt. let before = quiet.more lt in omega arith) (λ ge. omega arith) (cases_lt slot next) in
         let there : slot + (next - slot) ≡ next = omega arith in

@@ -90,7 +90,6 @@ pub goes_from : {t : Tables} {s : Scheduled} (e : EngineView) (sent : RoomView D
     IsReadyOn (map machine_from e.fixed) s.came e sent note
 goes_from {t} {s} e sent note fit has machines classes from to running few sent_room note_room =
     let many = machine_count machine_from e.fixed t.setup machines in
-    let earlier = came_before e.next s.came in
     let every = all_parts e.next s.came in
     search (arith, rules, held_before, listed_before, both_parts, room_at, has.lost)
 
@@ -103,7 +102,6 @@ none_waiting_for j (suc n) = let rest = none_waiting_for j n in omega arith
 pub holds_none : (came : List Arrival) (ports : ℕ) (fixed states : List (List ℕ)) (from to : List ℕ)
     (limits : List (Option ℕ)) → length fixed ≡ ports → HoldsSome came (fresh_engine ports fixed states from to limits)
 holds_none came ports fixed states from to limits many =
-    let sound = empty_agree ports states in
     let lost = zero_fits (2 ^ 64 - 1) limits in
     search (arith, rules, length-replicate, empty_list, none_waiting_for)
 
