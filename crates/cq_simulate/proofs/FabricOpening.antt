@@ -1,6 +1,6 @@
 -- How the run of a fabric that is made for tables begins, and what its end says of the tables. What the calls say that
 -- made it is one record. From it the engine can begin.
-use Rattle.cq_simulate.proofs.Terms.{refl, common_steps, rules, ◌≡◌, ℕ, ◌+◌, ◌*◌, ◌≤◌, ◌^◌, List, [], length, map, Option, sym, ap, ◌∙◌, arith, take_all, length-map, length-map-range_with_len, Arrival, traffic_of, RoomView, Departure, Transfer, Scheduled, CanBeMade, EngineView, fresh_engine, frozen_of, thawed_engine, Frozen, GoesOnFrom, marked_fabric, departures_limited, limited_run, counts_more, refused_in, admissions_in, slots_in, AreTables, ports_of, IsSetup, classes_of, Tables, fixed_of, machine_from, state_of, machines_of, openings_of, IsKeptOf, unpacked_run, kept_of, ArePortsFor, IsFreshFor, IsIdealFor, HasKept, IsReadyOn, IsRefusalOn, IsRefusalOf, ideal_departures, ran_ideal, limited_same_sent, limited_whole_fault, slots_fit, IsScheduleFor, PackedFabricRun, Ports, RunRefusal, IsShort, IsTraffic, is_from, is_to, IdealSwitch, marked_state, Machine, class_count, IsReady, IsResumed, Kept, RunsOn, Switch, switch_of, Taken, best_act_alike_from_empty, figures_fold, Discipline, fresh_ideal, ◌-◌, subst, TagFault, HasPartedTo, StopsWithin, IsPartFault, IsResumeFault, IsParted}
+use Rattle.cq_simulate.proofs.Terms.{refl, common_steps, rules, ◌≡◌, ℕ, ◌+◌, ◌*◌, ◌≤◌, ◌^◌, List, [], length, map, Option, ap, arith, take_all, length-map, length-map-range_with_len, Arrival, traffic_of, RoomView, Departure, Transfer, Scheduled, CanBeMade, EngineView, fresh_engine, frozen_of, thawed_engine, Frozen, GoesOnFrom, marked_fabric, departures_limited, limited_run, counts_more, refused_in, admissions_in, AreTables, ports_of, IsSetup, classes_of, Tables, fixed_of, machine_from, state_of, machines_of, openings_of, IsKeptOf, unpacked_run, kept_of, ArePortsFor, IsFreshFor, IsIdealFor, HasKept, IsReadyOn, IsRefusalOn, IsRefusalOf, ideal_departures, ran_ideal, limited_same_sent, limited_whole_fault, slots_fit, IsScheduleFor, PackedFabricRun, Ports, RunRefusal, IsShort, IsTraffic, is_from, is_to, IdealSwitch, marked_state, Machine, class_count, IsReady, IsResumed, RunsOn, Switch, switch_of, Taken, best_act_alike_from_empty, figures_fold, Discipline, fresh_ideal, ◌-◌, subst, TagFault, HasPartedTo, StopsWithin, IsPartFault, IsResumeFault, IsParted}
 use Rattle.cq_simulate.proofs.TakenUp.{goes_from, holds_none, machine_count, room_at, machines_many}
 use Rattle.cq_simulate.specs.ScheduleFor.{by_port}
 use Rattle.cq_simulate.specs.declared.refusal.RunRefusal.TheVariants as refusal

@@ -1,5 +1,5 @@
 -- What each step of the loop over the slots of the fabric asks for, where so many slots are left as are not yet over.
-use Rattle.cq_simulate.proofs.Terms.{common_steps, rules, ◌≡◌, ◌↔◌, ℕ, suc, ◌+◌, ◌-◌, ◌<◌, ◌≤◌, ◌^◌, Bool, true, false, List, [], ◌++◌, length, map, replicate, Option, Some, Err, refl, sym, ap, ◌∙◌, subst, arith, zero, ◌*◌, ◌∷◌, ⊎_elim, length-append, append_assoc, IsTrue, sum, slice_index, find, cases_lt, and_left, leb-false, ne_eqb, arrival_at, no_arrivals, Arrival, arriving, end_of, arriving_at, is_at, RoomView, Cell, Departure, TagFault, Transfer, EngineView, HaveBufferRoom, HaveListRoom, IsMadeAs, IsReadyFor, SlotDone, answer_to, its_admission, marked_fabric, HaveLeft, CanCount, AreForPorts, ranking, IsEmptyFabric, Fabric, input, LimitedFabricRun, admissions_in, LimitedRecord, IsLimitedFault, LimitedFabricSlot, slots_in, IsInputBest, Machine, class_count, counts_fit, none_counted, all_counted_both, refused_in, HasPartedTo, HasRunOn, IsReadyOn, IsReadyPart, NoneCome, StopsWithin, RanTo, WentOn, to_come, arrivals_for, arrives_found, from_here, one_if, come_from, some_one, no_more_from, for_here, come_for, no_more_to, IsQuiet, append-nil, length-map, get_or_past, map-append, take_all, take-append-le, departures_in, no_departures, IdealState, quiet_figures, quiet_transfers, transfers_in, gone_in, transfers_of_run, flat_map, range_with_len, map-range_with_len_more, Queued, Figures, nothing_left, present, come_count, none_after, come_count-first, arriving_length, arriving_here, arriving_parts, one_slot_more, counted, waiting, total, total_same, Marked, arriving_from, departures_of, LimitedSent, stable_limited_slot, limited_ports_kept, same_limited_slot, only_limited_run, empty_together, Agrees, SlotRecord, fabric_held, held_for, LimitedAgrees, figures_after, proposals_in, fold-append, sum_by-cons, agrees_of, ideal_of, list_of, is_from, is_to, number_of, arriving_is, cell_listed, found, quiet_limited_slots, quiet_limited_slot, limited_lists_kept, limited_outputs_kept, all_go_on, departures_one, transfers_both, transfers_one, departures_on, hold_as_many, most_ports}
+use Rattle.cq_simulate.proofs.Terms.{common_steps, rules, ◌≡◌, ◌↔◌, ℕ, suc, ◌+◌, ◌-◌, ◌<◌, ◌≤◌, ◌^◌, Bool, true, false, List, [], ◌++◌, length, map, replicate, Option, Some, Err, refl, sym, ap, ◌∙◌, subst, arith, zero, ◌*◌, ◌∷◌, ⊎_elim, length-append, append_assoc, IsTrue, sum, slice_index, find, cases_lt, and_left, leb-false, ne_eqb, arrival_at, no_arrivals, Arrival, arriving, end_of, arriving_at, is_at, RoomView, Cell, Departure, TagFault, Transfer, EngineView, HaveBufferRoom, HaveListRoom, IsMadeAs, IsReadyFor, SlotDone, answer_to, its_admission, marked_fabric, HaveLeft, CanCount, AreForPorts, ranking, IsEmptyFabric, Fabric, input, LimitedFabricRun, admissions_in, LimitedRecord, IsLimitedFault, LimitedFabricSlot, slots_in, IsInputBest, Machine, class_count, counts_fit, none_counted, all_counted_both, refused_in, HasPartedTo, HasRunOn, IsReadyOn, IsReadyPart, NoneCome, StopsWithin, RanTo, WentOn, to_come, arrivals_for, arrives_found, from_here, one_if, come_from, some_one, no_more_from, for_here, come_for, no_more_to, IsQuiet, append-nil, length-map, get_or_past, map-append, take_all, take-append-le, departures_in, no_departures, IdealState, quiet_figures, quiet_transfers, transfers_in, transfers_of_run, flat_map, range_with_len, map-range_with_len_more, Queued, Figures, nothing_left, present, come_count, none_after, come_count-first, arriving_length, arriving_here, arriving_parts, one_slot_more, counted, waiting, total, total_same, Marked, arriving_from, departures_of, LimitedSent, stable_limited_slot, limited_ports_kept, same_limited_slot, only_limited_run, empty_together, Agrees, SlotRecord, fabric_held, held_for, LimitedAgrees, figures_after, proposals_in, fold-append, sum_by-cons, agrees_of, ideal_of, list_of, is_from, is_to, number_of, arriving_is, cell_listed, found, quiet_limited_slots, quiet_limited_slot, limited_lists_kept, limited_outputs_kept, all_go_on, departures_one, transfers_both, transfers_one, departures_on, hold_as_many, most_ports}
 use Rattle.cq_engine.specs.Engine.{HasGoneOn, ports_of}
 use Rattle.cq_engine.specs.Resting.{HasRested}
 use Rattle.cq_simulate.proofs.Steps.{IsFree, few_left, fewer_come, enough_are, of_admitted, come_here, fewer_left, none_come, slot_err}
