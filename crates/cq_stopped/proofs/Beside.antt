@@ -1,9 +1,10 @@
--- What is within bounds in a run of the fabric. A list and a buffer get one cell more in a slot at most: of the two
--- that cross to an output one makes up for the cell that leaves, if any waits there. Those cells for an output that
--- were there, and those that came for it, are there still or have left, so all are keyed as the switch keys them. A
--- phase makes no more proposals than the number of ports squared, and none where no cell waits at an input; and in each
--- slot in which a cell waits or comes one leaves, so there are no more such slots than cells that came.
-use Rattle.cq_stopped.proofs.Terms.{arith, rules, Arrival, ◌≡◌, ℕ, zero, suc, ◌+◌, ◌⊎◌, List, [], ◌∷◌, length, None, Some, inl, inr, ⊎_elim, drop, ◌∙◌, ◌≤◌, ap, length-drop, ◌*◌, ◌-◌, fold, max, cases_lt, common_steps, length-replicate, get_or-replicate, get_or_past, length-insert, sum_by-append, sum_by-cons, AllByRecursion, flat_map, slice_get, slice_index_or, sum, arriving, Queued, present, Marked, arriving_from, CameFor, arrived_has, limited_empty_agree, after_sent, arrived, keyed, old_sound, same_slot, Sound, orders_are, SendsAlike, Fabric, IsAmong, buffer, empty_fabric, input, SlotRecord, fabric_held, LimitedRecord, slots_in, proposals_in, Transfers, HasFor, orders_of, IsStable, Partners, proposals, machine_at, opening, Switch, length_put, waiting-empty, all_wait, nothing_left, come_count-first, counted, sent_buffer, moved_has, partner_offers, sender, empty_together, most_ports}
+-- What is within bounds in a run of the fabric. A list gets one cell more in a slot at most, and a buffer has no more
+-- cells than wait in all, which are no more than came. Those cells for an output that were there, and those that came
+-- for it, are there still or have left, so all are keyed as the switch keys them. A phase makes no more proposals than
+-- the number of ports squared, and none where no cell waits at an input; and in each slot in which a cell waits or
+-- comes one leaves, so there are no more such slots than cells that came.
+use Rattle.std.proofs.lemmas.List.Sums.{get_or-le-sum_by}
+use Rattle.cq_stopped.proofs.Terms.{IsFabric, IsCount, get_or-map-range_with_len, length-map-range_with_len, has_there, arith, rules, Arrival, ◌≡◌, ℕ, zero, suc, ◌+◌, ◌⊎◌, List, [], ◌∷◌, length, None, Some, ◌∙◌, ◌≤◌, ap, ◌*◌, ◌-◌, fold, max, cases_lt, common_steps, length-replicate, get_or-replicate, get_or_past, length-insert, sum_by-append, sum_by-cons, AllByRecursion, flat_map, slice_index_or, sum, arriving, Queued, present, Marked, arriving_from, CameFor, arrived_has, limited_empty_agree, after_sent, arrived, keyed, old_sound, same_slot, Sound, SendsAlike, Fabric, buffer, empty_fabric, input, SlotRecord, fabric_held, LimitedRecord, slots_in, proposals_in, HasFor, machine_at, opening, Switch, waiting-empty, all_wait, nothing_left, come_count-first, counted, moved_has, empty_together, most_ports}
 use Rattle.cq_ideal.proofs.FlowRun.{come_count}
 use Rattle.cq_simulate.proofs.FabricCounts.{none_proposed as simulate_none, proposals_few, shorter, square_few}
 use Rattle.cq_stopped.proofs.Ran.{IsKeyed}
@@ -11,44 +12,38 @@ use Rattle.cq_stopped.proofs.Stepping.{KnownRun, KnownSlot}
 use Rattle.cq_stopped.proofs.Configured.{AreLow, KeepsLow}
 use Rattle.cq_stopped.proofs.Queueing.{ranked_low, told_low}
 
--- ## Lists that get longer and shorter
-
--- the first cell of a list, or what is left of it
-first_or_rest : (xs : List Queued) (q : Queued) → (slice_get xs 0 ≡ Some q) ⊎ IsAmong q (drop 1 xs) → IsAmong q xs
-first_or_rest [] q has = ⊎_elim (λ none. absurd (let P : ⊥ = cc in P)) (λ more. more) has
-first_or_rest (x ∷ xs) q has = ⊎_elim (λ first. let same : x ≡ q = cc in inl same) (λ more. inr more) has
-
-module _ (m : Partners) (old new : Fabric) (moves : Transfers m old new) where
-  one_crosses : (slot : ℕ) → Sound slot old → IsStable (orders_of old.inputs) m → (j : ℕ) →
-      length (buffer new j) ≤ length (buffer old j) + 1
-  one_crosses slot sound stable j = ⊎_elim (λ r.
-      let f = partner_offers old new (orders_of old.inputs) m sound.order sound.fabric
-      (orders_are old sound.apart) stable moves r.0 j r.1 in
-      search (arith, rules, length_put f.0 (buffer old j))) (λ none. search (arith, rules)) (sender m j)
-
 -- ## What waits
 
 -- how many cells wait in a fabric
 abbrev pub waits : Fabric → ℕ
 waits f = sum (fabric_held f)
 
+pub none_first : (ports : ℕ) (ranks : List (List ℕ)) → waits (empty_fabric ports ranks) ≡ 0
+none_first ports ranks = let agree = (limited_empty_agree ports ranks).states in omega (arith, all_wait, waiting-empty)
+
+-- no buffer has more
+buffer_few : (f : Fabric) → IsFabric f → (j : ℕ) → length (buffer f j) ≤ waits f
+unfolding fabric_held
+buffer_few f is j =
+    let held = get_or-le-sum_by (λ (n : ℕ). n) (fabric_held f) j 0 in
+    grind (arith, common_steps, held, get_or-map-range_with_len, length-map-range_with_len, get_or_past, cases_lt)
+
 -- ## Before a slot, and over it
 
 pub record IsWithin (slot : ℕ) (f : Fabric) : Type 0 where
   pub lists : (i : ℕ) → length (input f i) ≤ slot
-  pub buffers : (j : ℕ) → length (buffer f j) ≤ slot
   pub states : AllByRecursion AreLow f.ranks
 
--- what is recorded of a slot before this one
-pub record IsRecordedWithin (last : ℕ) (r : SlotRecord) : Type 0 where
-  pub longest : (i : ℕ) → length (input r.arrived i) ≤ last
-  pub cushions : (j : ℕ) → length (buffer r.arrived j) ≤ last
+-- what is recorded of a slot
+pub record IsRecordedWithin (r : SlotRecord) : Type 0 where
+  pub longest : (i : ℕ) → IsCount (length (input r.arrived i))
+  pub cushions : (j : ℕ) → IsCount (length (buffer r.arrived j))
 
--- after so many slots from this one on, with these records, where the last slot is this one or later
-pub record RunsWithin (came : List Arrival) (slot n last : ℕ) (f : Marked Fabric) (rs : List LimitedRecord)
+-- after so many slots from this one on, with these records
+pub record RunsWithin (came : List Arrival) (slot n : ℕ) (f : Marked Fabric) (rs : List LimitedRecord)
     (g : Marked Fabric) : Type 0 where
   pub states : AllByRecursion AreLow g.state.ranks
-  pub records : AllByRecursion (IsRecordedWithin last) (slots_in rs)
+  pub records : AllByRecursion IsRecordedWithin (slots_in rs)
   pub proposed : sum (flat_map proposals_in (slots_in rs)) + 8192 * waits g.state
       ≤ 8192 * (waits f.state + come_count (arriving_from came slot n))
 
@@ -62,9 +57,6 @@ module _ (w : Switch) where
 
     sent_is : Sound (slot + 1) r.of_slot.sent
     sent_is = search (rules, after_sent)
-
-    left_is : (j : ℕ) → buffer r.of_slot.sent j ≡ drop 1 (buffer r.of_slot.filled j)
-    left_is j = grind (arith, common_steps, sent_buffer)
 
     arrived_many : length r.of_slot.arrived.inputs ≡ length w.machines
     arrived_many = k.step.arrive.ports ∙ k.ports
@@ -83,7 +75,7 @@ module _ (w : Switch) where
         of_filled j q has = search (rules, of_arrived j, moved_has, arrived_is)
 
         of_gone : (j : ℕ) (q : Queued) → slice_index_or r.of_slot.gone j None ≡ Some q → P q
-        of_gone j q left = grind (arith, common_steps, of_filled j, first_or_rest)
+        of_gone j q left = grind (arith, common_steps, of_filled j, has_there)
 
     -- ## What stays within bounds
 
@@ -95,25 +87,23 @@ module _ (w : Switch) where
       arrived_list : (i : ℕ) → length (input r.of_slot.arrived i) ≤ slot + 1
       arrived_list i = search (arith, rules, length-insert)
 
-      arrived_buffer : (j : ℕ) → length (buffer r.of_slot.arrived j) ≤ slot
-      arrived_buffer j = grind (arith, common_steps)
-
       next_within : IsWithin (slot + 1) g.state
       next_within = record {
         lists =
             let first = shorter r.of_slot.first r.of_slot.arrived r.of_slot.filled k.step.fill in
             let second = shorter r.of_slot.second r.of_slot.sent g.state k.step.finish in
             search (arith, rules, arrived, arrived_list, first, second);
-        buffers = λ j.
-            let filled = one_crosses r.of_slot.first r.of_slot.arrived r.of_slot.filled k.step.fill (slot + 1)
-            arrived_is k.step.first_chosen j in search (arith, rules, left_is, length-drop, one_crosses, sent_is);
         states = rw (k.step.finish.ranks, k.step.depart.ranks, k.step.fill.ranks)
             (told_low w.machines keeps r.of_slot.gone r.of_slot.arrived.ranks ranked
             (λ j q left. (of_gone (IsKeyed w) k.keyed j q left).rank));
       }
 
-      recorded : (last : ℕ) → slot + 1 ≤ last → IsRecordedWithin last r.of_slot
-      recorded last le = search (arith, rules, arrived_list, arrived_buffer)
+      recorded : IsCount (slot + 1) → IsCount (waits f.state) → IsRecordedWithin r.of_slot
+      recorded low few =
+          record {
+            longest = λ i. omega (arith, arrived_list i);
+            cushions = λ j. rw k.step.arrive.buffers (omega (arith, buffer_few f.state k.agrees.fabric j));
+          }
 
     -- ## How many proposals a slot makes
 
@@ -131,17 +121,14 @@ module _ (w : Switch) where
         let less = (counted w.machines slot r.admission.cells k.ideal _ beside.sent).fewer in omega arith
 
     -- a phase makes no more than the number of ports squared
-    phase_few : (moment : Fabric) (m : Partners) → length w.machines ≤ most_ports →
-        length moment.inputs ≡ length w.machines →
-        Sound (slot + 1) moment → IsStable (orders_of moment.inputs) m → proposals (orders_of moment.inputs) m ≤ 4096
-    phase_few moment m few many sound stable =
-        let most = proposals_few moment m stable.matching sound.fabric in grind (arith, common_steps, square_few)
-
     proposed_few : length w.machines ≤ most_ports → sum (proposals_in r.of_slot) ≤ 8192
     unfolding proposals_in
     proposed_few few =
-        let first = phase_few r.of_slot.arrived r.of_slot.first few arrived_many arrived_is k.step.first_chosen in
-        search (arith, rules, phase_few, sent_many, sent_is)
+        let first = rw arrived_many at
+        (proposals_few r.of_slot.arrived r.of_slot.first k.step.first_chosen.matching arrived_is.fabric) in
+        let second = rw sent_many at
+        (proposals_few r.of_slot.sent r.of_slot.second k.step.second_chosen.matching sent_is.fabric) in
+        let square = square_few (length w.machines) few in search (arith, rules)
 
     -- nothing is proposed where nothing waits and nothing comes
     no_lists : waits f.state ≡ 0 → (i : ℕ) → length (input f.state i) ≡ 0
@@ -160,25 +147,25 @@ module _ (w : Switch) where
 
   -- ## In a run
 
-  pub run_within : length w.machines ≤ most_ports → ((j : ℕ) → KeepsLow (machine_at w.machines j)) → (slot n last : ℕ)
-      (f g : Marked Fabric) (rs : List LimitedRecord) → KnownRun w slot n f rs g → slot + n ≤ last →
-      IsWithin slot f.state → RunsWithin w.came slot n last f rs g
+  pub run_within : length w.machines ≤ most_ports → ((j : ℕ) → KeepsLow (machine_at w.machines j)) → (slot n : ℕ)
+      (f g : Marked Fabric) (rs : List LimitedRecord) → KnownRun w slot n f rs g → IsCount (slot + n) →
+      IsCount (waits f.state + come_count (arriving_from w.came slot n)) → IsWithin slot f.state →
+      RunsWithin w.came slot n f rs g
   unfolding arriving_from come_count
-  run_within few keeps slot zero last f g [] run le within = grind (arith, common_steps)
-  run_within few keeps slot (suc n) last f g (r ∷ rs) run le within =
+  run_within few keeps slot zero f g [] run low all within = grind (arith, common_steps)
+  run_within few keeps slot (suc n) f g (r ∷ rs) run low all within =
       let on = next_within slot f run.0 r run.1 keeps within in
-      let rest = run_within few keeps (slot + 1) n last run.0 g rs run.2 (omega arith) on in
+      let less = fewer_wait slot f run.0 r run.1 in
+      let rest = run_within few keeps (slot + 1) n run.0 g rs run.2 (omega arith) (omega (arith, run.1.fewer)) on in
       let here = slot_proposed slot f run.0 r run.1 few in
-      search (arith, rules, recorded slot f run.0 r run.1 keeps within last, sum_by-append (λ (n : ℕ). n))
-  run_within few keeps slot _ last f g _ run le within = absurd run
+      search (arith, rules, recorded slot f run.0 r run.1 keeps within, sum_by-append (λ (n : ℕ). n))
+  run_within few keeps slot _ f g _ run low all within = absurd run
 
-  pub all_proposed : (slots last : ℕ) (ranks : List (List ℕ)) (g : Marked Fabric) (rs : List LimitedRecord) →
-      RunsWithin w.came 0 slots last (opening w ranks) rs g →
-      sum (flat_map proposals_in (slots_in rs)) ≤ 8192 * length w.came
+  pub all_proposed : (slots : ℕ) (ranks : List (List ℕ)) (g : Marked Fabric) (rs : List LimitedRecord) →
+      RunsWithin w.came 0 slots (opening w ranks) rs g → sum (flat_map proposals_in (slots_in rs)) ≤ 8192 * length
+      w.came
   unfolding arriving_from
-  all_proposed slots last ranks g rs run =
-      let agree = (limited_empty_agree (length w.machines) ranks).states in
-      omega (arith, all_wait, waiting-empty, come_count-first)
+  all_proposed slots ranks g rs run = omega (arith, none_first (length w.machines) ranks, come_count-first)
 
 -- the greatest is no more than all together
 pub most_of_all : (a : ℕ) (xs : List ℕ) → fold max a xs ≤ a + sum xs

@@ -82,7 +82,7 @@ module _ (t : Tables) (captures : List (List Captured)) where
 abbrev IsStamp : ℕ → Type 0
 IsStamp n = n < 2 ^ 63
 
-least_of : (a : ℕ) (ns : List ℕ) → fold min a ns ≤ a
+pub least_of : (a : ℕ) (ns : List ℕ) → fold min a ns ≤ a
 least_of a [] = omega arith
 least_of a (n ∷ ns) = let rest = least_of (min a n) ns in omega arith
 

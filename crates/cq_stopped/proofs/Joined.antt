@@ -24,8 +24,7 @@ module _ {X : Type 0} where
 
   pub has_at_place : (xss : List (List X)) (i : ℕ) (x : X) → Has (list_at xss i) x → Has (all_of xss) x
   has_at_place [] i x has = absurd has
-  has_at_place (xs ∷ xss) zero x has = has_left xs (all_of xss) x has
-  has_at_place (xs ∷ xss) (suc i) x has = has_right xs (all_of xss) x (has_at_place xss i x has)
+  has_at_place (xs ∷ xss) i x has = grind (arith, common_steps, has_left, has_right, has_at_place xss)
 
   -- what each pair of items tells
   pub pairs_in : (R S : X → X → Type 0) (xs : List X) → ((x y : X) → Has xs x → Has xs y → R x y → S x y) →

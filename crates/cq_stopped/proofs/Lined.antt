@@ -1,9 +1,9 @@
 -- The departures and the transfers of a run: what a slot adds to the departures, at each output the cell that it sent,
 -- if it sent one; that departures stand in order, slot by slot and those of a slot by output; that transfers which a
 -- log can hold do so, and are in range; and the figures that are read off them.
-use Rattle.cq_stopped.proofs.Terms.{◌≡◌, ℕ, zero, suc, ◌+◌, ◌<◌, List, [], ◌∷◌, ◌++◌, Option, Some, None, refl, arith, rules, ◌≤◌, ◌⊎◌, length, map, ◌-◌, eqb, Bool, true, false, fold, max, ◌∙◌, eq-eqb, ne_eqb, and_from, and_parts, cases_lt, eqb-true, common_steps, map-append, get_or_past, length-map, filter-append, sum_by-cons, AllByRecursion, range_with_len, cons_option, enumerate_from, ◌==◌, filter, slice_index_or, ◌&&◌, count_by, filter_map, is_some, option_map, Arrival, Departure, Queued, Transfer, listed, slots_of, departures_of, departures_from, departures_in, SlotRecord, LimitedRecord, slots_in, figures_of, input_figures, output_figures, sends, sent_by, wait_at, came_to, gone_in, EachPair, all_both, all_weaker, Differ, all_from_has, all_of_has, Has, has_kept, kept_has, AreApart, Stands, no_more, pairs_kept, figures_told, input_told, output_told, sent_told, sent_at, seen_as, IsTransferBefore, is_named, named_in, Named, State, fold-max, sent_slots, has_number, AreNumbered, IsMoved, AreWritten, ◌^◌, any_has, has_any, pairs_joined, Figures, InputFigures, slots_of-append, Seen}
+use Rattle.cq_stopped.proofs.Terms.{list_any, filter_none, ◌≡◌, ℕ, zero, suc, ◌+◌, ◌<◌, List, [], ◌∷◌, ◌++◌, Option, Some, None, refl, arith, rules, ◌≤◌, ◌⊎◌, length, map, ◌-◌, eqb, Bool, true, false, ◌∙◌, eq-eqb, ne_eqb, and_from, and_parts, cases_lt, eqb-true, common_steps, map-append, get_or_past, length-map, filter-append, sum_by-cons, AllByRecursion, range_with_len, cons_option, enumerate_from, ◌==◌, filter, slice_index_or, ◌&&◌, count_by, filter_map, is_some, option_map, Arrival, Departure, Queued, Transfer, listed, slots_of, departures_of, departures_from, departures_in, SlotRecord, LimitedRecord, slots_in, figures_of, input_figures, output_figures, sent_by, wait_at, came_to, gone_in, EachPair, all_both, all_weaker, Differ, all_from_has, all_of_has, Has, has_kept, kept_has, AreApart, Stands, no_more, pairs_kept, figures_told, input_told, output_told, sent_told, sent_at, seen_as, IsTransferBefore, named_in, Named, State, has_number, AreNumbered, IsMoved, AreWritten, ◌^◌, any_has, has_any, pairs_joined, Figures, InputFigures, Seen}
 use Rattle.cq_stopped.proofs.Joined.{pairs_in}
-use Rattle.cq_stopped.proofs.Ran.{left_at, came_in, came_of}
+use Rattle.cq_stopped.proofs.Ran.{left_at, came_in, came_of, is_name_at}
 
 -- ## What a slot adds to the departures
 
@@ -15,21 +15,17 @@ pub each_departs : (slot : ℕ) (P : Departure → Type 0) (gone : List (Option 
     ((k j : ℕ) (q : Queued) → j ≡ a + k → slice_index_or gone k None ≡ Some q → P (departure slot j q)) →
     AllByRecursion P (departures_from slot a gone)
 each_departs slot P [] a each = tt
-each_departs slot P (None ∷ gone) a each =
-    each_departs slot P gone (a + 1) (λ k j q is at. each (suc k) j q (omega arith) at)
-each_departs slot P (Some q ∷ gone) a each = (
-  each zero a q (omega arith) refl,
-  each_departs slot P gone (a + 1) (λ k j p is at. each (suc k) j p (omega arith) at),
-)
+each_departs slot P (o ∷ gone) a each =
+    let rest = each_departs slot P gone (a + 1) (λ k j q is at. each (suc k) j q (omega arith) at) in
+    let here = each zero a in grind (arith, common_steps)
 
 module _ (j : ℕ) where
   abbrev is_its : Departure → Bool
   is_its d = d.output == j
 
   none_its : (slot a : ℕ) (gone : List (Option Queued)) → j < a → filter is_its (departures_from slot a gone) ≡ []
-  none_its slot a [] past = refl
-  none_its slot a (None ∷ gone) past = none_its slot (a + 1) gone (omega arith)
-  none_its slot a (Some q ∷ gone) past = grind (arith, common_steps, ne_eqb, none_its slot (a + 1) gone)
+  none_its slot a gone past =
+      filter_none is_its _ (each_departs slot (λ d. is_its d ≡ false) gone a (search (arith, rules, ne_eqb)))
 
   abbrev told_of : ℕ → Option Queued → List Departure
   told_of slot o = cons_option (option_map (departure slot j) o) []
@@ -39,8 +35,7 @@ module _ (j : ℕ) where
       filter is_its (departures_from slot a gone) ≡ told_of slot (slice_index_or gone k None)
   its_one slot a k [] is = refl
   its_one slot a zero gone is = grind (arith, common_steps, eq-eqb, none_its)
-  its_one slot a (suc k) (None ∷ gone) is = its_one slot (a + 1) k gone (omega arith)
-  its_one slot a (suc k) (Some q ∷ gone) is = grind (arith, common_steps, ne_eqb, its_one slot (a + 1) k gone)
+  its_one slot a (suc k) (o ∷ gone) is = grind (arith, common_steps, ne_eqb, its_one slot (a + 1) k gone)
 
   -- what left an output with this slot
   pub left_more : (slot : ℕ) (sent : List Departure) (gone : List (Option Queued)) →
@@ -75,7 +70,7 @@ slot_in_order : (slot a : ℕ) (gone : List (Option Queued)) → EachPair Depart
 slot_in_order slot a [] = tt
 slot_in_order slot a (None ∷ gone) = slot_in_order slot (a + 1) gone
 slot_in_order slot a (Some q ∷ gone) =
-    let all = each_departs slot (DepartsBefore (record { slot = slot; output = a; queued = q })) gone (a + 1) in
+    let all = each_departs slot (DepartsBefore (departure slot a q)) gone (a + 1) in
     search (arith, rules, all, slot_in_order slot (a + 1) gone)
 
 pub departures_in_order : (slot : ℕ) (slots : List (List (Option Queued))) →
@@ -114,13 +109,6 @@ are_moved ports end (t ∷ note) low written times =
 -- which it sent. And as many names are of an input as cells came to it: names of one input have different slots, and
 -- they are just those in which a cell came.
 
-slots_are : (slot : ℕ) (rs : List SlotRecord) → AreNumbered slot rs →
-    slots_of (departures_of slot (gone_in rs)) ≡ fold max 0 (map (λ (r : SlotRecord). r.slot + 1) (filter sends rs))
-unfolding departures_of departures_in
-slots_are slot [] are = refl
-slots_are slot (r ∷ rs) are =
-    let rest = slots_are (slot + 1) rs are.1 in search (arith, rules, slots_of-append, sent_slots, fold-max)
-
 module _ (j : ℕ) where
   -- the departure of a record
   abbrev its_departure : SlotRecord → Option Departure
@@ -153,21 +141,6 @@ module _ (j : ℕ) where
 
 -- ## Names of an input
 
--- a cell of this input that is nowhere else spoken of
-abbrev some_arrival : ℕ → ℕ → Arrival
-some_arrival t i =
-    record {
-      slot = t;
-      cell = record {
-        id = record { input = i; packet = 0; index = 0 };
-        output = 0;
-        class = 0;
-        last = false;
-        at = 0;
-        len = 0;
-      };
-    }
-
 came_count : (cs : List (List (Option Queued))) (i a : ℕ) (rs : List LimitedRecord) →
     ((t k : ℕ) → t ≡ a + k → came_in cs t i ≡ came_in (came_of rs) k i) →
     length (filter (λ (t : ℕ). is_some (came_in cs t i)) (range_with_len a (length rs)))
@@ -178,7 +151,7 @@ came_count cs i a (r ∷ rs) known =
     grind (arith, common_steps, sum_by-cons, came_count cs i (a + 1) rs (λ t k e. known t (suc k) (omega arith)))
 
 module _ (names : List Named) (rs : List LimitedRecord) (differ : EachPair Differ names)
-    (named_is : (a : Arrival) → is_named names a ≡ is_some (came_in (came_of rs) a.slot a.cell.id.input)) (i : ℕ) where
+    (named_at : (t k : ℕ) → list_any (is_name_at t k) names ≡ is_some (came_in (came_of rs) t k)) (i : ℕ) where
   abbrev own : Named → Bool
   own c = c.input == i
 
@@ -195,7 +168,7 @@ module _ (names : List Named) (rs : List LimitedRecord) (differ : EachPair Diffe
   -- names of the input have different slots, in which a cell comes
   name_comes : (c : Named) → Has names c → c.input ≡ i → comes c.slot ≡ true
   name_comes c has same =
-      let is = named_is (some_arrival c.slot i) in search (arith, rules, any_has, and_from, eq-eqb)
+      let is = named_at c.slot i in search (arith, rules, any_has, and_from, eq-eqb)
 
   abbrev IsOfSlot : Named → ℕ → Type 0
   IsOfSlot c t = c.slot ≡ t
@@ -215,7 +188,7 @@ module _ (names : List Named) (rs : List LimitedRecord) (differ : EachPair Diffe
       let most = no_more IsSlotOf slots mine (search (arith, rules, pairs_in, AreApart, pairs_kept, range_rises))
       (all_from_has (Stands IsSlotOf mine) slots (λ t has.
       let it = has_any (λ (d : Named). eqb d.slot t && eqb d.input i) names
-      (named_is (some_arrival t i) ∙ (kept_has comes numbers t has).1) in
+      (named_at t i ∙ (kept_has comes numbers t has).1) in
       search (arith, rules, and_parts, has_kept, eqb-true))) in
       let count = came_count (came_of rs) i 0 rs (λ t k e. let same : t ≡ k = omega arith in rw same refl) in
       omega arith
@@ -230,8 +203,9 @@ inputs_same st f a (suc n) each = grind (arith, common_steps, inputs_same st f (
 
 module _ (came : List Arrival) (st : State) (rs : List LimitedRecord) (numbered : AreNumbered 0 (slots_in rs))
     (differ : EachPair Differ (named_in st))
-    (named_is : (a : Arrival) → is_named (named_in st) a ≡ is_some (came_in (came_of rs) a.slot a.cell.id.input))
+    (named_at : (t i : ℕ) → list_any (is_name_at t i) (named_in st) ≡ is_some (came_in (came_of rs) t i))
     (x : Figures) (ports : ℕ) (figures : x ≡ figures_of ports (slots_in rs))
+    (slots : (figures_of ports (slots_in rs)).slots ≡ slots_of (departures_of 0 (gone_in (slots_in rs))))
     (sent : sent_told came st ≡ departures_of 0 (gone_in (slots_in rs))) where
   input_same : (i : ℕ) → input_told st i (seen_as (input_figures (slots_in rs) i)) ≡ input_figures (slots_in rs) i
   unfolding input_figures
@@ -240,4 +214,4 @@ module _ (came : List Arrival) (st : State) (rs : List LimitedRecord) (numbered 
   pub figures_are : st.head.ports ≡ ports → st.head.proposals ≡ x.proposals → st.head.most ≡ x.most →
       st.inputs ≡ map seen_as x.inputs → x ≡ figures_told came st
   unfolding figures_told figures_of
-  figures_are many proposals most inputs = search (arith, rules, slots_are, inputs_same, input_same, output_same)
+  figures_are many proposals most inputs = search (arith, rules, inputs_same, input_same, output_same)

@@ -94,14 +94,12 @@ module _ (ms : List Machine) (slot : ℕ) where
 
 low_at : (states : List (List ℕ)) (j : ℕ) → AllByRecursion AreLow states → AreLow (slice_index_or states j [])
 low_at [] j all = tt
-low_at (s ∷ states) zero all = all.0
-low_at (s ∷ states) (suc j) all = low_at states j all.1
+low_at (s ∷ states) j all = grind (arith, common_steps, low_at states)
 
 low_set : (states : List (List ℕ)) (j : ℕ) (s : List ℕ) → AllByRecursion AreLow states → AreLow s →
     AllByRecursion AreLow (slice_set states j s)
 low_set [] j s all low = tt
-low_set (t ∷ states) zero s all low = (low, all.1)
-low_set (t ∷ states) (suc j) s all low = (all.0, low_set states j s all.1 low)
+low_set (t ∷ states) j s all low = grind (arith, common_steps, low_set states)
 
 module _ (ms : List Machine) (keeps : (j : ℕ) → KeepsLow (machine_at ms j)) where
   -- the rank states stay low

@@ -2,7 +2,7 @@
 -- it. At each output there left some cells, and others wait; all of these are keyed as the switch keys them, no two of
 -- them have the same name, and of each flow those ahead came first. They are just the cells that came in, by what was
 -- recorded slot by slot.
-use Rattle.cq_stopped.proofs.Terms.{◌≡◌, ◌≢◌, ℕ, ◌<◌, ◌≤◌, ◌^◌, List, [], ◌++◌, length, map, Option, Some, ◌==◌, filter, slice_index_or, AllByRecursion, arriving_at, Departure, Queued, IdealState, Agrees, Fabric, IsAmong, input, LimitedRecord, came_to, list_of, machine_at, EachPair, Has, Switch}
+use Rattle.cq_stopped.proofs.Terms.{Bool, Named, ◌&&◌, ◌≡◌, ◌≢◌, ℕ, ◌<◌, ◌≤◌, ◌^◌, List, [], ◌++◌, length, map, Option, Some, ◌==◌, filter, slice_index_or, AllByRecursion, arriving_at, Departure, Queued, IdealState, Agrees, Fabric, IsAmong, input, LimitedRecord, came_to, list_of, machine_at, EachPair, Has, Switch}
 use Rattle.cq_ideal.proofs.FlowStands.{Stands}
 
 -- a cell with its key, as the switch keys it
@@ -47,6 +47,10 @@ came_in cs t i = came_to (slice_index_or cs t []) i
 -- what came in each slot of these records
 abbrev pub came_of : List LimitedRecord → List (List (Option Queued))
 came_of rs = map (λ r. r.of_slot.came) rs
+
+-- whether a name is of slot t and input i
+abbrev pub is_name_at : ℕ → ℕ → Named → Bool
+is_name_at t i c = c.slot == t && c.input == i
 
 -- a departure before slot n, not before its cell came, at the output of its cell
 pub record IsSentRight (w : Switch) (n : ℕ) (d : Departure) : Type 0 where

@@ -3,10 +3,10 @@
 -- are one, and of all others the names differ. Each name in the state is of such a cell, and comes to it: each list to
 -- the list of its input, each buffer to that of its output, and each departure to itself. So the clauses hold that ask
 -- for a sound state, but for the fourth.
-use Rattle.cq_stopped.proofs.Terms.{rules, ◌≡◌, ℕ, ◌<◌, List, [], length, Option, refl, sym, ◌∙◌, inl, inr, arith, Bool, true, ◌++◌, map, Some, None, ap, ⊎_elim, ◌≤◌, false_from_ne_true, and_from, and_parts, eq-eqb, eqb-true, common_steps, list_any, filter_map, ◌&&◌, ◌==◌, is_some, slice_index_or, filter, option_map, IsSome, Arrival, IsBefore, is_for, Departure, Queued, Transfer, HasWaited, IdealState, apart_from, not_before_itself, Fabric, buffer, input, fabric_in, HasFor, list_of, machine_at, EachPair, all_pairs, all_weaker, cell_with, Differ, Has, all_from_has, all_of_has, has_left, has_right, pair_of_has, has_cases, has_image, image_has, kept_has, pairs_cross, pairs_left, pairs_right, pairs_with, departure_of, sent_told, named_as, sent_as, state_of, HaveSlack, AreArrivals, IsBufferedBefore, IsTransferBefore, StandInOrder, KeepArrivalOrder, OfOneFlow, AreBelowFloors, IsBelowFloor, Switch, HasShape, class_in, class_of, is_named, named_in, output_in, output_of, queued_in, buffer_told, fabric_told, list_told, queued_of, arriving_cell, is_ahead, Taken, Named, Sent, told_state, State, has_all, any_has, has_any, pairs_joined, pairs_mapped}
+use Rattle.cq_stopped.proofs.Terms.{rules, ◌≡◌, ℕ, ◌<◌, List, [], length, Option, refl, sym, ◌∙◌, inl, inr, arith, true, ◌++◌, map, Some, None, ap, ⊎_elim, ◌≤◌, false_from_ne_true, and_from, and_parts, eq-eqb, eqb-true, common_steps, list_any, filter_map, ◌==◌, is_some, slice_index_or, filter, option_map, IsSome, IsBefore, is_for, Departure, Queued, Transfer, HasWaited, IdealState, apart_from, not_before_itself, Fabric, buffer, input, fabric_in, HasFor, list_of, machine_at, EachPair, all_pairs, all_weaker, cell_with, Differ, Has, all_from_has, all_of_has, has_left, has_right, pair_of_has, has_cases, has_image, image_has, kept_has, pairs_cross, pairs_left, pairs_right, pairs_with, departure_of, sent_told, named_as, sent_as, state_of, HaveSlack, AreArrivals, IsBufferedBefore, IsTransferBefore, StandInOrder, KeepArrivalOrder, OfOneFlow, AreBelowFloors, IsBelowFloor, Switch, HasShape, class_in, class_of, named_in, output_in, output_of, queued_in, buffer_told, fabric_told, list_told, queued_of, arriving_cell, is_ahead, Taken, Named, Sent, told_state, State, has_all, any_has, has_any, pairs_joined, pairs_mapped}
 use Rattle.cq_stopped.proofs.Joined.{pairs_in, all_of, has_number, pairs_by_number, pairs_of_all, has_at_place, is_at, pairs_both, filter_images, sift, told_again, by_places, image_pairs}
 use Rattle.cq_stopped.proofs.Lined.{AreMoved, DepartsBefore}
-use Rattle.cq_stopped.proofs.Ran.{Follows, IsOwn, IsSentRight, Known, left_at, pool_at, IsHeld, came_in}
+use Rattle.cq_stopped.proofs.Ran.{Follows, IsOwn, IsSentRight, Known, left_at, pool_at, IsHeld, came_in, is_name_at}
 use Rattle.cq_stopped.proofs.Stepping.{own_at}
 
 -- the name of a cell of which this is known
@@ -54,17 +54,11 @@ module _ {w : Switch} (at : Taken) {ideal : IdealState} {cs : List (List (Option
       let own = own_at w at.frozen.next f ideal cs at.sent known j q has in
       let there = (known.agrees.same j q).1 has in search (arith, rules, kept_at, has_right, left_at)
 
-  placed : (i : ℕ) (q : Queued) → Has (input f i) q → q.key.input ≡ i
-  placed i q has = known.placed i q has
-
-  crossed_to : (j : ℕ) (q : Queued) → Has (buffer f j) q → q.cell.output ≡ j
-  crossed_to j q has = known.agrees.fabric.own j q has
-
   pub waits_at : (i : ℕ) (q : Queued) → Has (input f i) q → Waits q
   waits_at i q has = waits_for q.cell.output q refl (inl (i, has, refl))
 
   pub waits_behind : (j : ℕ) (q : Queued) → Has (buffer f j) q → Waits q
-  waits_behind j q has = waits_for j q (crossed_to j q has) (inr has)
+  waits_behind j q has = waits_for j q (known.agrees.fabric.own j q has) (inr has)
 
   right_at : (d : Departure) → Has at.sent d → IsSentRight w at.frozen.next d
   right_at d has = all_of_has (IsSentRight w at.frozen.next) at.sent d known.departed has
@@ -188,22 +182,16 @@ module _ {w : Switch} (at : Taken) {ideal : IdealState} {cs : List (List (Option
 
   -- ## An arrival is named where its cell came in
 
-  abbrev is_its : ℕ → ℕ → Named → Bool
-  is_its t i c = c.slot == t && c.input == i
-
-  is_named_at : (t i : ℕ) → list_any (is_its t i) (named_in st) ≡ is_some (came_in cs t i)
-  is_named_at t i = by (came_in cs t i) refl
+  pub named_at : (t i : ℕ) → list_any (is_name_at t i) (named_in st) ≡ is_some (came_in cs t i)
+  named_at t i = by (came_in cs t i) refl
     where
-      by : (o : Option Queued) → came_in cs t i ≡ o → list_any (is_its t i) (named_in st) ≡ is_some o
+      by : (o : Option Queued) → came_in cs t i ≡ o → list_any (is_name_at t i) (named_in st) ≡ is_some o
       by (Some q) is =
           let it = known.held t i q is in
-          any_has (is_its t i) (named_in st) (named_as q) (name_held t i q it) (search (rules, and_from, eq-eqb))
-      by None is = false_from_ne_true (list_any (is_its t i) (named_in st)) (λ some.
-          let it = has_any (is_its t i) (named_in st) some in
+          any_has (is_name_at t i) (named_in st) (named_as q) (name_held t i q it) (search (rules, and_from, eq-eqb))
+      by None is = false_from_ne_true (list_any (is_name_at t i) (named_in st)) (λ some.
+          let it = has_any (is_name_at t i) (named_in st) some in
           let one = is_of_one it.0 it.1 in search (arith, rules, and_parts, eqb-true))
-
-  pub named_is : (a : Arrival) → is_named (named_in st) a ≡ is_some (came_in cs a.slot a.cell.id.input)
-  named_is a = is_named_at a.slot a.cell.id.input
 
   -- ## What is told is what there was, and has slack: the third clause
 
@@ -214,13 +202,13 @@ module _ {w : Switch} (at : Taken) {ideal : IdealState} {cs : List (List (Option
   list_again : (i : ℕ) → list_told w.came st i ≡ input f i
   unfolding state_of
   list_again i = ap (filter_map (queued_of w.came)) (filter_images named_as (λ (c : Named). c.input == i) listed
-      ∙ ap (map named_as) (sift (λ (q : Queued). q.key.input) at.frozen.lists placed i))
+      ∙ ap (map named_as) (sift (λ (q : Queued). q.key.input) at.frozen.lists known.placed i))
       ∙ told_again named_as (queued_of w.came) (input f i) (λ q has. cell_again q (waits_at i q has).kept)
 
   buffer_again : (j : ℕ) → buffer_told w.came st j ≡ buffer f j
   unfolding state_of
   buffer_again j = ap (filter (is_for j)) (search (arith, rules, told_again, is_at, cell_again, waits_behind))
-      ∙ sift (λ (q : Queued). q.cell.output) at.frozen.buffers crossed_to j
+      ∙ sift (λ (q : Queued). q.cell.output) at.frozen.buffers known.agrees.fabric.own j
 
   pub fabric_same : fabric_told w.came st ≡ f
   unfolding fabric_told state_of
@@ -259,10 +247,10 @@ module _ {w : Switch} (at : Taken) {ideal : IdealState} {cs : List (List (Option
   queued_pairs : EachPair Differ (queued_in st)
   unfolding state_of
   queued_pairs = pairs_joined Differ (map named_as listed) (map named_as buffered) (pairs_mapped named_as Differ
-      listed (search (arith, rules, each_listed Other, same_waiting, waits_at, itself, placed)))
+      listed (search (arith, rules, each_listed Other, same_waiting, waits_at, itself, known.placed)))
       (pairs_mapped named_as Differ buffered (let all = pairs_of_all Other at.frozen.buffers in
       let pairs = pairs_with IsBefore Other Waits in
-      search (arith, rules, all, pairs, same_waiting, itself, all_from_has, waits_behind, crossed_to)))
+      search (arith, rules, all, pairs, same_waiting, itself, all_from_has, waits_behind, known.agrees.fabric.own)))
       (λ c d first second. search (arith, rules, image_has, all_of, Differ, crossed))
 
   pub arrivals_are : AreArrivals w.came st
@@ -337,7 +325,7 @@ module _ {w : Switch} (at : Taken) {ideal : IdealState} {cs : List (List (Option
   -- buffer by buffer; departures and transfers are told as the run made them.
 
   out : (j : ℕ) (q : Queued) → Has (buffer f j) q → output_of w.came (named_as q) ≡ j
-  out j q has = its_output q (waits_behind j q has).kept ∙ crossed_to j q has
+  out j q has = its_output q (waits_behind j q has).kept ∙ known.agrees.fabric.own j q has
 
   left_by : (d : Departure) → Has at.sent d → output_of w.came (named_as d.queued) ≡ d.output
   left_by d has = its_output d.queued (has_left_it d has).kept ∙ sym (right_at d has).own
@@ -349,11 +337,11 @@ module _ {w : Switch} (at : Taken) {ideal : IdealState} {cs : List (List (Option
       let Timely : Sent → Type 0 = λ d. (d.cell.slot ≤ d.slot) × (d.slot < at.frozen.next) in
       record {
         lists = image_pairs named_as (λ (a b : Named). a.input ≤ b.input) listed (each_listed _
-            (search (arith, rules, placed))
-            (λ i k a b lt first second. let x = placed i a first in let y = placed k b second in omega arith));
+            (search (arith, rules, known.placed))
+            (λ i k a b lt first second. omega (arith, known.placed i a first, known.placed k b second)));
         keys = image_pairs named_as
             (λ (a b : Named). a.input ≡ b.input → output_of w.came a ≡ output_of w.came b → is_ahead a b ≡ true)
-            listed (each_listed _ (search (arith, rules, its_output, waits_at)) (search (arith, rules, placed)));
+            listed (each_listed _ (search (arith, rules, its_output, waits_at)) (search (arith, rules, known.placed)));
         buffers = image_pairs named_as (IsBufferedBefore w.came) buffered (pairs_of_all _ at.frozen.buffers
             (λ j. pairs_in IsBefore _ (buffer f j) (search (arith, rules, out))
             (known.agrees.fabric.rising j)) (search (arith, rules, out)));

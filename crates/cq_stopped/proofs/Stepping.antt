@@ -1,7 +1,7 @@
 -- One slot of a run that may be stopped. The ideal switch goes on beside the fabric. At each output the cells that
 -- come queue up behind those that left and those that wait, and where one leaves it is the first that waits: what left
 -- and then what waits is the same list. So what is known before the slot is known after it.
-use Rattle.cq_stopped.proofs.Terms.{rules, ◌≡◌, ℕ, zero, suc, ◌+◌, ◌<◌, ◌≤◌, List, [], ◌∷◌, ◌++◌, drop, length, Option, Some, None, Ok, refl, sym, ap, ◌∙◌, ◌⊎◌, inr, ⊎_elim, arith, length-append, cases_eq, cases_lt, common_steps, append_assoc, get_or-append-add, get_or-map, get_or_append_left, get_or_past, length-map, append-nil, get_or-replicate, length-replicate, AllByRecursion, slice_get, slice_index_or, arrival_at, arriving, arriving_at, Cell, Departure, Queued, admitted_arrives, Came, came_from, AreOfClasses, present, Served, listed, served, HasWaited, Marked, admission, arriving_from, departures_of, empty_ideal, IdealState, all_told, departures_from, departures_in, filled, fronts, ideal_slot, put_all, rests, AreForPorts, ranking, CameFor, Keyed, limited_empty_agree, among_insert, left_among, keyed, ports_kept, same_slot, SendsAlike, Agrees, Fabric, IsAmong, input, empty_fabric, FabricSlot, LimitedFabricSlot, LimitedRecord, slots_in, came_to, list_arrived, Transfers, KeepLaws, gone_in, list_of, IsInputBest, IsStable, Partners, machine_at, all_both, all_weaker, found_at, has_there, Has, all_from_has, all_of_has, has_cases, has_left, has_right, opening, Runs, Switch, fewer, HasFor, length-filled, rest_of, among_put_all, list_after, put_all_keeps, put_all_new, stable_slot, admission_for_ports, arrivals_for, place_of, RunBy}
+use Rattle.cq_stopped.proofs.Terms.{inl, rules, ◌≡◌, ℕ, zero, suc, ◌+◌, ◌<◌, ◌≤◌, List, [], ◌∷◌, ◌++◌, drop, length, Option, Some, None, Ok, sym, ap, ◌∙◌, ◌⊎◌, inr, ⊎_elim, arith, length-append, cases_lt, common_steps, append_assoc, get_or-append-add, get_or-map, get_or_append_left, get_or_past, length-map, append-nil, get_or-replicate, length-replicate, AllByRecursion, slice_get, slice_index_or, arrival_at, arriving, arriving_at, Cell, Departure, Queued, admitted_arrives, Came, came_from, AreOfClasses, present, Served, listed, served, HasWaited, Marked, admission, arriving_from, departures_of, empty_ideal, IdealState, all_told, departures_from, departures_in, filled, fronts, ideal_slot, put_all, rests, AreForPorts, ranking, CameFor, Keyed, limited_empty_agree, among_insert, left_among, keyed, ports_kept, same_slot, SendsAlike, Agrees, Fabric, IsAmong, input, empty_fabric, FabricSlot, LimitedFabricSlot, LimitedRecord, slots_in, came_to, list_arrived, Transfers, KeepLaws, gone_in, list_of, IsInputBest, IsStable, Partners, machine_at, all_both, all_weaker, found_at, has_there, Has, all_from_has, all_of_has, has_cases, has_left, has_right, opening, Runs, Switch, fewer, HasFor, length-filled, rest_of, among_put_all, list_after, put_all_keeps, put_all_new, stable_slot, admission_for_ports, arrivals_for, place_of, RunBy}
 use Rattle.cq_ideal.specs.IdealSlot.{Sent}
 use Rattle.cq_stopped.proofs.Configured.{IsConfigured}
 use Rattle.cq_stopped.proofs.Lined.{each_departs, left_more}
@@ -12,13 +12,12 @@ use Rattle.cq_stopped.proofs.Ran.{IsHeld, IsKeyed, IsOwn, IsSentRight, Known, La
 all_present : (P : Cell → Type 0) (cells : List (Option Cell)) →
     ((k : ℕ) (cell : Cell) → arrival_at cells k ≡ Some cell → P cell) → AllByRecursion P (present cells)
 all_present P [] each = tt
-all_present P (None ∷ cells) each = all_present P cells (λ k cell is. each (suc k) cell is)
-all_present P (Some cell ∷ cells) each = (each zero cell refl, all_present P cells (λ k. each (suc k)))
+all_present P (o ∷ cells) each =
+    let rest = all_present P cells (λ k. each (suc k)) in let here = each zero in grind (arith, common_steps)
 
 pub came_or_was : (f : Fabric) (came : Option Queued) (xs : List Queued) (q : Queued) →
     IsAmong q (list_arrived f came xs) → (came ≡ Some q) ⊎ IsAmong q xs
-came_or_was f None xs q has = inr has
-came_or_was f (Some c) xs q has = grind (arith, common_steps, among_insert)
+came_or_was f came xs q has = grind (arith, common_steps, among_insert)
 
 still_among : (m : Partners) (old new : Fabric) → Transfers m old new → (i : ℕ) (q : Queued) →
     IsAmong q (input new i) → IsAmong q (input old i)
@@ -26,14 +25,18 @@ still_among m old new moves i q has = search (arith, rules, left_among)
 
 -- what came up to a slot, and what came in it
 module _ (cs : List (List (Option Queued))) (c : List (Option Queued)) (n : ℕ) (long : length cs ≡ n) (i : ℕ) where
-  pub came_before : (t : ℕ) → t < n → came_in (cs ++ c ∷ []) t i ≡ came_in cs t i
-  came_before t lt = grind (arith, common_steps, get_or_append_left)
+  came_still : (t : ℕ) (q : Queued) → came_in cs t i ≡ Some q → came_in (cs ++ c ∷ []) t i ≡ Some q
+  came_still t q is = grind (arith, common_steps, get_or_append_left, get_or_past, cases_lt t n)
 
-  pub came_now : came_in (cs ++ c ∷ []) n i ≡ came_to c i
+  came_now : came_in (cs ++ c ∷ []) n i ≡ came_to c i
   came_now = grind (arith, common_steps, came_in, get_or-append-add)
 
-  pub none_later : (t : ℕ) → n < t → came_in (cs ++ c ∷ []) t i ≡ None
-  none_later t lt = grind (arith, common_steps, length-append, get_or_past)
+came_then : (cs : List (List (Option Queued))) (c : List (Option Queued)) (t i : ℕ) (q : Queued) →
+    came_in (cs ++ c ∷ []) t i ≡ Some q → (came_in cs t i ≡ Some q) ⊎ ((length cs ≡ t) × (came_to c i ≡ Some q))
+came_then [] c t i q is = grind (arith, common_steps)
+came_then (d ∷ cs) c zero i q is = inl is
+came_then (d ∷ cs) c (suc t) i q is =
+    ⊎_elim (λ was. inl was) (λ now. inr (ap suc now.0, now.1)) (came_then cs c t i q is)
 
 -- a cell of the fabric is one of its output
 pub own_at : (w : Switch) (n : ℕ) (f : Fabric) (ideal : IdealState) (cs : List (List (Option Queued)))
@@ -265,19 +268,16 @@ module _ (w : Switch) (ranks : List (List ℕ)) (configured : IsConfigured w ran
       departed = departed_next;
       long = length-append cs (came ∷ []) ∙ ap (λ (m : ℕ). m + 1) known.long;
       origin = λ j q inside has.
-          let before = came_before cs came n known.long q.key.input q.key.slot in
+          let still = came_still cs came n known.long q.key.input q.key.slot q in
           let now = came_now cs came n known.long in
           let new = was_or_new j q in let pool = pool_is j inside in
-          search (arith, rules, all_of_has, IsOwn w n j, pool_at j sent ideal, before, its_came, now, new, pool);
-      held = λ t i q is. ⊎_elim
-          (search (arith, rules, came_before cs came, many, held_at, pool_keeps q.cell.output q))
-          (λ (ge : n ≤ t). ⊎_elim (λ (same : n ≡ t).
-          let at = sym (came_now cs came n known.long i) ∙ (rw same is) in
+          search (arith, rules, still, its_came, now, new, pool);
+      held = λ t i q is. ⊎_elim (search (arith, rules, known.held, many, held_at, pool_keeps q.cell.output q))
+          (λ now. let same : n ≡ t = sym known.long ∙ now.0 in
+          let at = now.1 in
           let c = its_came i q at in
           let inside = its_keys.outputs i q at in
-          search (arith, rules, held_at, has_right, put_all_new)) (search (arith, rules, none_later))
-          (cases_eq n t))
-          (cases_lt t n);
+          search (arith, rules, held_at, has_right, put_all_new)) (came_then cs came t i q is);
     }
 
     slot_known : KnownSlot w n (arriving w.came n) f r g

@@ -3,53 +3,42 @@
 -- of its cell; the figures, since as many names are of an input as cells came to it; and the marks and the counts,
 -- since the arrivals that are not named are those that were refused. The text of that state is read as what was left,
 -- so what goes on from there is the run.
-use Rattle.cq_stopped.proofs.Terms.{rules, ◌≡◌, ℕ, zero, suc, ◌+◌, ◌-◌, ◌<◌, ◌≤◌, ◌^◌, List, [], ◌∷◌, length, map, fold, min, max, refl, sym, ap, ◌∙◌, arith, common_steps, length-map, length-map-range_with_len, AllByRecursion, enumerate_from, flat_map, slice_index_or, Queued, Scheduled, arriving_from, departures_of, Fabric, cushion_of, input, SlotRecord, fabric_in, marked_in, LimitedRecord, slots_in, figures_of, input_figures, slacks, gone_in, list_of, each_pair, EachPair, all_both, Differ, Has, all_from_has, all_of_has, has_image, has_left, has_right, image_has, figures_told, frozen_told, taken_of, opening, IsWhole, IsParted, seen_as, sent_as, state_of, IsRead, Kept, Runs, Switch, switch_of, named_in, queued_in, Taken, ports_of, Tables, machine_of, openings_of, AreRankNumbers, IsInRange, IsNamed, IsSeen, IsSent, state_text, Named, Sent, State, told_state, CanBeTakenUp, StoppedRunsAreSound, few_kept, of_images, all_weaker, transfers_of_run, Transfer, written_in_run, arriving_length, counts_more, figures_fold, stable_limited_run, empty_list, limited_numbered, IsFabricRun, refused_in_run, all_made}
+use Rattle.cq_stopped.proofs.Terms.{come_count-first, IsCount, IsInputBest, recorded, slots_of_figures, rules, ◌≡◌, ℕ, zero, suc, ◌+◌, ◌-◌, ◌<◌, ◌≤◌, ◌^◌, List, [], ◌∷◌, length, map, fold, max, refl, sym, ap, ◌∙◌, arith, common_steps, length-map, length-map-range_with_len, AllByRecursion, enumerate_from, flat_map, slice_index_or, Queued, Scheduled, arriving_from, departures_of, Fabric, cushion_of, input, SlotRecord, fabric_in, marked_in, LimitedRecord, slots_in, figures_of, input_figures, slacks, gone_in, list_of, each_pair, EachPair, all_both, Differ, Has, all_from_has, all_of_has, has_image, has_left, has_right, image_has, figures_told, frozen_told, taken_of, opening, IsWhole, IsParted, seen_as, sent_as, state_of, IsRead, Kept, Runs, Switch, switch_of, named_in, queued_in, Taken, ports_of, Tables, machine_of, openings_of, AreRankNumbers, IsInRange, IsNamed, IsSeen, IsSent, state_text, Named, Sent, State, told_state, CanBeTakenUp, StoppedRunsAreSound, few_kept, of_images, all_weaker, transfers_of_run, Transfer, written_in_run, arriving_length, counts_more, figures_fold, stable_limited_run, empty_list, limited_numbered, IsFabricRun, refused_in_run, all_made}
 use Rattle.cq_audit.proofs.Following.{run_within as of_its_slots}
 use Rattle.cq_resume.proofs.Joining.{parts_join as join}
 use Rattle.cq_resume.proofs.OneAnswer.{read_exact}
-use Rattle.cq_stopped.proofs.Beside.{all_proposed, most_of_all, IsRecordedWithin, RunsWithin, empty_within, run_within}
-use Rattle.cq_stopped.proofs.Configured.{AreLow, IsConfigured, configured}
+use Rattle.cq_stopped.proofs.Beside.{none_first, all_proposed, most_of_all, IsRecordedWithin, RunsWithin, empty_within, run_within}
+use Rattle.cq_stopped.proofs.Configured.{least_of, AreLow, IsConfigured, configured}
 use Rattle.cq_stopped.proofs.Lined.{figures_are, are_moved, AreMoved, DepartsBefore, departures_in_order}
 use Rattle.cq_stopped.proofs.Ran.{IsSentRight, Known, came_of}
-use Rattle.cq_stopped.proofs.Standing.{is_of_one, state_sized, states_many, fabric_same, sent_same, arrivals_are, named_is, below_floors, keep_order, stand_in_order, has_shape, slack_kept}
+use Rattle.cq_stopped.proofs.Standing.{is_of_one, state_sized, states_many, fabric_same, sent_same, arrivals_are, named_at, below_floors, keep_order, stand_in_order, has_shape, slack_kept}
 use Rattle.cq_stopped.proofs.Stepping.{Ended, stopped_is}
 use Rattle.cq_stopped.proofs.Walk.{packets_are, tally_are}
 use Rattle.cq_stopped.specs.Read.{kept_in_run, IsReadAs, ReadRunsGoOn, StoppedRunsAreRead}
 
 -- ## Figures of inputs
 
-module _ (last : ℕ) where
-  abbrev IsFew : ℕ → Type 0
-  IsFew n = n ≤ last
+most_few : (a : ℕ) (ns : List ℕ) → IsCount a → AllByRecursion IsCount ns → IsCount (fold max a ns)
+most_few a [] le all = le
+most_few a (n ∷ ns) le all = most_few (max a n) ns (omega arith) all.1
 
-  most_few : (a : ℕ) (ns : List ℕ) → a ≤ last → AllByRecursion IsFew ns → fold max a ns ≤ last
-  most_few a [] le all = le
-  most_few a (n ∷ ns) le all = most_few (max a n) ns (omega arith) all.1
+cushions_few : (f : Fabric) → ((j : ℕ) → IsCount (length (list_of f.buffers j))) → (a : ℕ) (cells : List Queued) →
+    AllByRecursion IsCount (map (λ (at : ℕ × Queued). cushion_of f at.1 - at.0) (enumerate_from a cells))
+cushions_few f few a [] = tt
+cushions_few f few a (c ∷ cells) = grind (arith, common_steps, few_kept, cushions_few f few (a + 1) cells)
 
-  least_few : (a : ℕ) (ns : List ℕ) → a ≤ last → fold min a ns ≤ last
-  least_few a [] le = le
-  least_few a (n ∷ ns) le = least_few (min a n) ns (omega arith)
+slacks_few : (i : ℕ) (rs : List SlotRecord) → AllByRecursion IsRecordedWithin rs →
+    AllByRecursion IsCount (flat_map (λ (r : SlotRecord). slacks r.arrived i) rs)
+unfolding slacks
+slacks_few i [] all = tt
+slacks_few i (r ∷ rs) all = grind (arith, common_steps, all_both, cushions_few, slacks_few i rs all.1)
 
-  cushions_few : (f : Fabric) → ((j : ℕ) → length (list_of f.buffers j) ≤ last) → (a : ℕ) (cells : List Queued) →
-      AllByRecursion IsFew (map (λ (at : ℕ × Queued). cushion_of f at.1 - at.0) (enumerate_from a cells))
-  cushions_few f few a [] = tt
-  cushions_few f few a (c ∷ cells) = grind (arith, common_steps, few_kept, cushions_few f few (a + 1) cells)
-
-  longest_few : (i : ℕ) (rs : List SlotRecord) → AllByRecursion (IsRecordedWithin last) rs →
-      AllByRecursion IsFew (map (λ (r : SlotRecord). length (input r.arrived i)) rs)
-  longest_few i [] all = tt
-  longest_few i (r ∷ rs) all = (all.0.longest i, longest_few i rs all.1)
-
-  slacks_few : (i : ℕ) (rs : List SlotRecord) → AllByRecursion (IsRecordedWithin last) rs →
-      AllByRecursion IsFew (flat_map (λ (r : SlotRecord). slacks r.arrived i) rs)
-  unfolding slacks
-  slacks_few i [] all = tt
-  slacks_few i (r ∷ rs) all = grind (arith, common_steps, all_both, cushions_few, slacks_few i rs all.1)
-
-  one_seen : last < 2 ^ 63 → (i : ℕ) (rs : List SlotRecord) → AllByRecursion (IsRecordedWithin last) rs →
-      IsSeen (seen_as (input_figures rs i))
-  unfolding input_figures
-  one_seen low i rs all = search (arith, rules, most_few, longest_few, slacks_few, least_few)
+one_seen : (i : ℕ) (rs : List SlotRecord) → AllByRecursion IsRecordedWithin rs → IsSeen (seen_as (input_figures rs i))
+unfolding input_figures
+one_seen i rs all =
+    let longest = of_images (λ (r : SlotRecord). length (input r.arrived i)) IsCount rs
+    (all_weaker IsRecordedWithin (λ r. IsCount (length (input r.arrived i))) (λ r is. is.longest i) rs all) in
+    search (arith, rules, most_few, slacks_few, least_of)
 
 rank_numbers : (states : List (List ℕ)) → AllByRecursion AreLow states →
     ((j : ℕ) → j < length states → length (slice_index_or states j []) ≤ 32) → AllByRecursion AreRankNumbers states
@@ -93,19 +82,22 @@ module _ (w : Switch) (ranks : List (List ℕ)) (configured : IsConfigured w ran
       let stable = stable_limited_run w.machines w.limits 0 (arriving_from w.came 0 next) (opening w ranks)
       (marked_in at.frozen) rs runs in
       let many = length-map rs (λ (r : LimitedRecord). r.of_slot.came) in
-      let long : length rs ≤ 2 ^ 64 = omega (arith, known.long, many) in
       let written = written_in_run ports w.classes w.came configured.traffic configured.names w.limits w.machines next
-      (opening w ranks) (marked_in at.frozen) rs configured.few long (empty_list ports) stable in
+      (opening w ranks) (marked_in at.frozen) rs configured.few (omega (arith, known.long)) (empty_list ports) stable in
       let times = of_its_slots w.limits w.machines 0 _ _ _ rs stable in
       let note = transfers_of_run (slots_in rs) in
-      let before : AllByRecursion (λ (t : Transfer). t.slot < next) note =
-      all_weaker _ _ (λ t is. omega (arith, is.1, arriving_length w.came 0 next)) note times in
-      let moved : AreMoved ports next note = are_moved ports next note low written before in
-      grind (arith, common_steps, AreMoved)
+      let before = all_weaker _ (λ (t : Transfer). t.slot < next)
+      (λ t is. omega (arith, is.1, arriving_length w.came 0 next)) note times in
+      let moved = are_moved ports next note low written before in grind (arith, common_steps, AreMoved)
 
-  within : RunsWithin w.came 0 at.frozen.next at.frozen.next (opening w ranks) rs (marked_in at.frozen)
-  within = run_within w configured.few configured.low 0 at.frozen.next at.frozen.next (opening w ranks)
-      (marked_in at.frozen) rs stopped.slots (omega arith) (empty_within ports ranks configured.openings_low)
+  within : RunsWithin w.came 0 at.frozen.next (opening w ranks) rs (marked_in at.frozen)
+  unfolding arriving_from
+  within =
+      let none = none_first ports ranks in
+      let all = come_count-first w.came at.frozen.next in
+      run_within w configured.few configured.low 0 at.frozen.next (opening w ranks) (marked_in at.frozen) rs
+      stopped.slots (omega (arith, low)) (omega (arith, configured.few_cells))
+      (empty_within ports ranks configured.openings_low)
 
   figures_are_of : at.frozen.figures ≡ figures_of ports (slots_in rs)
   figures_are_of = ap (λ (k : Kept). k.figures) parted.kept ∙ sym (figures_fold ports (slots_in rs))
@@ -115,7 +107,7 @@ module _ (w : Switch) (ranks : List (List ℕ)) (configured : IsConfigured w ran
   figures_low : (at.frozen.figures.proposals < 2 ^ 63) × (at.frozen.figures.most < 2 ^ 63)
   unfolding figures_of
   figures_low =
-      let all = all_proposed w at.frozen.next at.frozen.next ranks (marked_in at.frozen) rs within in
+      let all = all_proposed w at.frozen.next ranks (marked_in at.frozen) rs within in
       search (arith, rules, most_of_all, figures_are_of)
 
   seen_many : length (map seen_as at.frozen.figures.inputs) ≡ ports
@@ -125,8 +117,7 @@ module _ (w : Switch) (ranks : List (List ℕ)) (configured : IsConfigured w ran
   seen_right : AllByRecursion IsSeen (map seen_as at.frozen.figures.inputs)
   unfolding figures_of
   seen_right =
-      let seen = one_seen at.frozen.next low in
-      let all = all_made _ _ 0 ports (λ i _ lt. seen i (slots_in rs) within.records) in
+      let all = all_made _ _ 0 ports (λ i _ lt. one_seen i (slots_in rs) within.records) in
       rw figures_are_of (of_images seen_as IsSeen _ all)
 
   states_right : AllByRecursion AreRankNumbers at.frozen.ranks
@@ -171,14 +162,16 @@ module _ (w : Switch) (ranks : List (List ℕ)) (configured : IsConfigured w ran
       let once = each_pair Differ (named_in st) (arrivals_are at known).once in
       let known = known in
       let numbered = limited_numbered w.limits w.machines 0 _ _ _ rs runs in
-      search (arith, rules, sent_same, known, figures_are, within, named_is, came_of, figures_are_of)
+      let run = recorded IsInputBest w.limits w.machines 0 _ _ _ rs runs in
+      let in_slots = slots_of_figures IsInputBest w.machines ports _ _ _ (slots_in rs) run in
+      search (arith, rules, sent_same, known, figures_are, within, named_at, came_of, figures_are_of)
 
   taken_same : at ≡ taken_of w st
   unfolding frozen_told state_of
   taken_same =
       let fabric = fabric_same at known in
       let tally = tally_are w ranks st rs (marked_in at.frozen) configured.few configured.packets runs
-      (named_is at known) configured.limits in
+      (λ a. named_at at known a.slot a.cell.id.input) configured.limits in
       search (arith, rules, sent_same at known, known, tally, figures_same)
 
   -- ## It can be taken up
@@ -189,7 +182,7 @@ module _ (w : Switch) (ranks : List (List ℕ)) (configured : IsConfigured w ran
       let known = known in
       let order = stand_in_order at known departs moved in
       let packets = packets_are w ranks st rs (marked_in at.frozen) configured.few configured.packets runs
-      (named_is at known) in
+      (λ a. named_at at known a.slot a.cell.id.input) in
       search (rules, in_range, has_shape, arrivals_are, slack_kept, keep_order, below_floors, taken_same)
 
 pub stopped_runs_are_sound : StoppedRunsAreSound
@@ -225,13 +218,9 @@ whole_is t s rs is =
 run_is : (t : Tables) (s : Scheduled) (kept : Kept) → IsWhole (switch_of t s) (openings_of t.setup) kept →
     (rs : List LimitedRecord) × IsFabricRun t s.came rs × (kept ≡ kept_in_run t rs)
 run_is t s kept is =
-    let rs = is.records in
-    let lost = refused_in_run rs in
+    let lost = refused_in_run is.records in
     let ports = length-map t.setup.kinds (λ kind. machine_of kind t.setup.classes) in
-    let run : IsFabricRun t s.came rs = search (arith, rules) in
-    let same : kept ≡ kept_in_run t rs =
-    search (arith, rules, figures_fold (ports_of t.setup) (slots_in rs), counts_more t.limits [] lost) in
-    (rs, run, same)
+    search (arith, rules, figures_fold (ports_of t.setup) (slots_in is.records), counts_more t.limits [] lost)
 
 pub read_runs_go_on : ReadRunsGoOn
 read_runs_go_on t s slots at x made tables recorded early parted read =

@@ -4,7 +4,8 @@
 -- walk over the arrivals that compares each with the mark before it ends, with the mark of the run: each packet is
 -- named whole or not at all, and the mark is that of the packet that began last. And what was refused slot by slot is,
 -- counted by any test, what is not named input by input.
-use Rattle.cq_stopped.proofs.Terms.{rules, ◌≡◌, ℕ, zero, suc, ◌+◌, ◌<◌, ◌≤◌, eqb, Bool, true, false, List, [], ◌∷◌, length, Option, None, Some, refl, ap, sym, ◌∙◌, arith, length-append, map, and_parts, and_right, cases_Bool, cases_lt, eq-eqb, eqb-true, le-ltb, lt-leb, cases_eq, ne_eqb, common_steps, get_or-map, get_or-replicate, length-map, length-replicate, map-append, filter-append, get_or-map-range_with_len, unwrap_or-slice_get, AllByRecursion, cons_option, range_with_len, filter, is_some, not, flat_map, arrival_at, Arrival, arriving, arriving_at, Cell, Queued, is_from, admitted_at, marks_kept, Marked, admission, held_after, mark_after, mark_at, marks_after, unless, refused, arriving_from, cells_refused, packets_refused, refused_counts, refused_in, with_refused, fabric_judged, Fabric, fabric_held, LimitedRecord, admissions_in, all_both, all_from_has, found_at, ComeBehind, IsLine, coming, has_limit, mark_on, ArePackets, has_name, unnamed, opening, Runs, AreWholePackets, Switch, is_named, key_of, named_in, Named, State, flat_same, ArrivesIn, refused_here, where_up, Refused, is_between, one_comes, whole, all_stand, tallies_up, packets_alike, tally_is, IsTally, cells_in, Name, filter_none, most_ports}
+use Rattle.cq_stopped.proofs.Terms.{sum_by, sum_by-cons, ◌&&◌, ◌==◌, all_weaker, all_in_row, sum_by_same, tally, tally_by_parts, tally_turned, rules, ◌≡◌, ℕ, zero, suc, ◌+◌, ◌<◌, ◌≤◌, eqb, Bool, true, false, List, [], ◌∷◌, length, Option, None, Some, refl, ap, sym, ◌∙◌, arith, length-append, map, and_parts, and_right, cases_Bool, cases_lt, eq-eqb, eqb-true, le-ltb, lt-leb, common_steps, get_or-map, get_or-replicate, length-map, length-replicate, map-append, filter-append, AllByRecursion, cons_option, range_with_len, filter, is_some, not, flat_map, arrival_at, Arrival, arriving, arriving_at, Cell, Queued, is_from, admitted_at, marks_kept, Marked, admission, held_after, mark_after, mark_at, marks_after, unless, refused, arriving_from, cells_refused, packets_refused, refused_counts, refused_in, with_refused, fabric_judged, Fabric, fabric_held, LimitedRecord, admissions_in, all_both, all_from_has, found_at, ComeBehind, IsLine, coming, has_limit, mark_on, ArePackets, has_name, unnamed, opening, Runs, AreWholePackets, Switch, is_named, key_of, named_in, Named, State, ArrivesIn, refused_here, where_up, Refused, is_between, one_comes, whole, all_stand, tallies_up, packets_alike, tally_is, IsTally, cells_in, Name, filter_none, most_ports}
+use Rattle.cq_ideal.proofs.RestAtInput.{is_shown}
 use Rattle.cq_ideal.proofs.Standing.{StandAt, of_input, refused_are as refused_of_input, stand_in}
 use Rattle.cq_resume.proofs.Adding.{Tallied, left_before, mark_at as walk_mark}
 use Rattle.cq_stopped.proofs.Ran.{came_in, came_of}
@@ -42,10 +43,6 @@ module _ (i slot end : ℕ) where
       arriving_at came slot i ≡ Some cell →
       coming i slot end came ≡ record { slot = slot; cell = cell } ∷ coming i (slot + 1) end came
   one_comes_now came cell lt whole found = search (rules, one_comes, some_at, all_from_has)
-
-  comes_none_past : (came : List Arrival) → end ≤ slot → coming i slot end came ≡ []
-  comes_none_past came past = filter_none (is_between slot end) (filter (is_from i) came)
-      (all_from_has _ _ (search (arith, rules, lt-leb, and_right, le-ltb, cases_lt)))
 
 -- ## One step of the walk
 
@@ -91,13 +88,6 @@ module _ (w : Switch) (i : ℕ) (few : i < most_ports) (whole : IsLine (filter (
     (named : Arrival → Bool)
     (cs : List (List (Option Queued))) (end : ℕ)
     (named_is : (a : Arrival) → named a ≡ is_some (came_in cs a.slot a.cell.id.input)) where
-  arrival_is : (slot : ℕ) → arrival_at (arriving w.came slot) i ≡ arriving_at w.came slot i
-  unfolding arriving
-  arrival_is slot =
-      let none = None in
-      unwrap_or-slice_get (arriving w.came slot) i none
-      ∙ get_or-map-range_with_len (arriving_at w.came slot) 0 most_ports i i none few (omega arith)
-
   module _ (slot : ℕ) (f g : Marked Fabric) (r : LimitedRecord) (many : i < length f.marks)
       (admits : r.admission ≡ admission w.limits (fabric_held f.state) f.marks (arriving w.came slot))
       (marks : g.marks ≡ r.admission.marks) where
@@ -106,7 +96,7 @@ module _ (w : Switch) (i : ℕ) (few : i < most_ports) (whole : IsLine (filter (
     unfolding admission
     mark_is =
         let it = mark_moves w.limits (fabric_held f.state) f.marks (arriving w.came slot) i many in
-        (it.0, rw (admits, ← arrival_is slot) it.1)
+        (it.0, rw (admits, ← is_shown i few w.came slot) it.1)
 
     marks_long : length g.marks ≡ length f.marks
     unfolding admission
@@ -114,7 +104,7 @@ module _ (w : Switch) (i : ℕ) (few : i < most_ports) (whole : IsLine (filter (
 
     taken_is : arrival_at r.admission.cells i ≡ unless (mark_at r.admission.marks i) (arriving_at w.came slot i)
     unfolding admission
-    taken_is = grind (arith, common_steps, admitted_at, arrival_is)
+    taken_is = grind (arith, common_steps, admitted_at, is_shown)
 
     -- one slot more, whose arrival is this or none
     slot_more : (o : Option Cell) → arriving_at w.came slot i ≡ o → slot < end → (lost : List Cell) (last : Bool) →
@@ -125,14 +115,14 @@ module _ (w : Switch) (i : ℕ) (few : i < most_ports) (whole : IsLine (filter (
         Walks w i named end slot (mark_at f.marks i) last
         (cons_option (where_up (mark_at r.admission.marks i) (arrival_at (arriving w.came slot) i)) lost)
     slot_more None none lt lost last follow here rest =
-        let same = none_comes_now i slot end w.came none in let moved = mark_is.1 in search (arith, rules, arrival_is)
+        let same = none_comes_now i slot end w.came none in let moved = mark_is.1 in search (arith, rules, is_shown)
     slot_more (Some cell) some lt lost last follow here rest =
         let up = mark_at r.admission.marks i in
         let a : Arrival = record { slot = slot; cell = cell } in
         let others = coming i (slot + 1) end w.came in
         let same = one_comes_now i slot end w.came cell lt whole some in
         let at = found_at w.came slot i cell some in
-        let moved = mark_is.1 in search (arith, rules, taken_is, step_follows, step_ends, arrival_is)
+        let moved = mark_is.1 in search (arith, rules, taken_is, step_follows, step_ends, is_shown)
 
   pub walked : (slot n : ℕ) (f g : Marked Fabric) (rs : List LimitedRecord) →
       Runs w slot (arriving_from w.came slot n) f rs g → slot + n ≡ end → i < length f.marks →
@@ -142,7 +132,8 @@ module _ (w : Switch) (i : ℕ) (few : i < most_ports) (whole : IsLine (filter (
       (refused_here w.limits i (arriving_from w.came slot n) (admissions_in rs))
   unfolding arriving_from
   walked slot zero f g [] run all many known follow =
-      let none = comes_none_past i slot end w.came (omega arith) in
+      let none = filter_none (is_between slot end) (filter (is_from i) w.came)
+      (all_from_has _ _ (search (arith, rules, lt-leb, and_right, le-ltb, cases_lt))) in
       record { ends = simp (none, run); lost_are = simp none }
   walked slot (suc n) f g (r ∷ rs) run all many known follow =
       let step = run.1 in
@@ -156,32 +147,12 @@ module _ (w : Switch) (i : ℕ) (few : i < most_ports) (whole : IsLine (filter (
 
 -- ## Cells, counted by input
 
-module _ (p : Cell → Bool) where
-  -- the cells of these inputs
-  abbrev of_inputs : ℕ → ℕ → List Cell → List Cell
-  of_inputs a n xs = flat_map (λ i. of_input i xs) (range_with_len a n)
-
-  none_in : (a n : ℕ) → of_inputs a n [] ≡ []
-  none_in a zero = refl
-  none_in a (suc n) = none_in (a + 1) n
-
-  none_more : (x : Cell) (xs : List Cell) (a n : ℕ) → x.id.input < a → of_inputs a n (x ∷ xs) ≡ of_inputs a n xs
-  none_more x xs a zero past = refl
-  none_more x xs a (suc n) past = grind (arith, common_steps, ne_eqb, none_more x xs (a + 1) n)
-
-  one_more : (x : Cell) (xs : List Cell) (a n : ℕ) → a ≤ x.id.input → x.id.input < a + n →
-      length (filter p (of_inputs a n (x ∷ xs))) ≡ length (filter p (x ∷ of_inputs a n xs))
-  one_more x xs a zero from to = absurd (omega arith)
-  one_more x xs a (suc n) from to =
-      let rest = one_more x xs (a + 1) n in
-      grind (arith, common_steps, cases_eq, eq-eqb, ne_eqb, filter-append, length-append, none_more)
-
-  by_inputs : (xs : List Cell) (n : ℕ) → AllByRecursion (λ (c : Cell). c.id.input < n) xs →
-      length (filter p (of_inputs 0 n xs)) ≡ length (filter p xs)
-  by_inputs [] n low = simp none_in
-  by_inputs (x ∷ xs) n low =
-      let rest = by_inputs xs n low.1 in
-      let here = one_more x xs 0 n (omega arith) (omega arith) in grind (arith, common_steps)
+-- of lists of arrivals, one list after another, list by list
+counted_flat : (p : Cell → Bool) (f : ℕ → List Arrival) (is : List ℕ) →
+    length (filter p (cells_in (flat_map f is))) ≡ sum_by (λ i. length (filter p (cells_in (f i)))) is
+counted_flat p f [] = refl
+counted_flat p f (i ∷ is) =
+    grind (arith, common_steps, map-append, filter-append, length-append, sum_by-cons, counted_flat p f is)
 
 -- counts of cells of which each test passes as many are the same
 same_counts : (xs ys : List Cell) → ((p : Cell → Bool) → length (filter p xs) ≡ length (filter p ys)) →
@@ -190,17 +161,11 @@ unfolding cells_refused packets_refused
 same_counts xs ys same [] = refl
 same_counts xs ys same (r ∷ counts) = grind (arith, common_steps, r.output, same_counts xs ys same counts)
 
-cells_flat : (f : ℕ → List Arrival) (is : List ℕ) → cells_in (flat_map f is) ≡ flat_map (λ i. cells_in (f i)) is
-cells_flat f [] = refl
-cells_flat f (i ∷ is) = grind (arith, common_steps, map-append, cells_in, cells_flat f is)
-
 -- ## What is refused is of an input that has a mark
 
 refused_low : (a : ℕ) (marks : List Bool) (cells : List (Option Cell)) (n : ℕ) → StandAt a cells →
     a + length marks ≤ n → AllByRecursion (λ (c : Cell). c.id.input < n) (refused marks cells)
-refused_low a (mark ∷ marks) (None ∷ cells) n at le = grind (arith, common_steps, refused_low (a + 1) marks cells n at)
-refused_low a (mark ∷ marks) (Some cell ∷ cells) n at le =
-    grind (arith, common_steps, refused_low (a + 1) marks cells n at.1)
+refused_low a (mark ∷ marks) (o ∷ cells) n at le = grind (arith, common_steps, refused_low (a + 1) marks cells n)
 refused_low a marks cells n at le = tt
 
 module _ (w : Switch) where
@@ -227,7 +192,7 @@ no_cell =
 abbrev as_name : Named → Name
 as_name c = record { queued = record { cell = no_cell; key = key_of c }; sent = None }
 
-has_as_name : (names : List Named) (a : Arrival) → has_name (map as_name names) a ≡ is_named names a
+has_as_name : (names : List Named) (a : Arrival) → is_named names a ≡ has_name (map as_name names) a
 has_as_name [] a = refl
 has_as_name (c ∷ names) a = grind (arith, common_steps, has_as_name names a)
 
@@ -246,9 +211,6 @@ module _ (w : Switch) (ranks : List (List ℕ)) (st : State) (rs : List LimitedR
   abbrev names : List Name
   names = map as_name (named_in st)
 
-  line_is : (i : ℕ) → i < ports → IsLine (coming i 0 next w.came)
-  line_is i inside = whole w.limits ports next w.came names are i inside
-
   marks_down : (i : ℕ) → i < ports → mark_at (opening w ranks).marks i ≡ false
   marks_down i inside = get_or-replicate ports i false false inside
 
@@ -256,10 +218,10 @@ module _ (w : Switch) (ranks : List (List ℕ)) (st : State) (rs : List LimitedR
       (mark_at g.marks i) (refused_here w.limits i (arriving_from w.came 0 next) (admissions_in rs))
   walk i inside =
       let many = length-replicate ports false in
-      let start = line_follows w.limits (coming i 0 next w.came) (line_is i inside) in
+      let start = line_follows w.limits _ (whole w.limits ports next w.came names are i inside) in
       walked w i (omega arith) (are.lines i inside) (λ a. has_name names a) (came_of rs) next
-      (λ a. has_as_name (named_in st) a ∙ named_is a) 0 next (opening w ranks) g rs runs (omega arith) (omega arith)
-      (λ t k e. rw e (search (arith, rules, came_in, came_of))) (rw (marks_down i inside) start)
+      (λ a. sym (has_as_name (named_in st) a) ∙ named_is a) 0 next (opening w ranks) g rs runs (omega arith)
+      (omega arith) (λ t k e. rw e (search (arith, rules, came_in, came_of))) (rw (marks_down i inside) start)
 
   ends_marked : (i : ℕ) → i < ports → walk_mark w.limits next w.came names i ≡ Some (mark_at g.marks i)
   ends_marked i inside = rw (marks_down i inside) at (walk i inside).ends
@@ -291,7 +253,13 @@ module _ (w : Switch) (ranks : List (List ℕ)) (st : State) (rs : List LimitedR
       let lost = refused_in (admissions_in rs) in
       let many = length-replicate ports false in
       let low = rw many at (marks_many w 0 next (opening w ranks) g rs runs (stand_in w.came 0 next)).1 in
-      search (arith, rules, flat_same, of_input, cells_in, lost_here, cells_flat, by_inputs p lost ports low)
+      let here : ℕ → ℕ = λ i. length (filter p (cells_in (unnamed names (coming i 0 next w.came)))) in
+      let parts = tally_by_parts p (λ c. 0) (λ (c : Cell). c.id.input) 1 (λ _. ports) lost
+      (search (arith, rules, all_weaker)) in
+      let same = sum_by_same (λ i. tally (λ (c : Cell). p c && c.id.input == i) lost) here (range_with_len 0 ports)
+      (all_in_row _ 0 ports (λ i lt. tally_turned p (λ c. c.id.input == i) lost
+      ∙ ap (λ (l : List Cell). length (filter p l)) (lost_here i (omega arith)))) in
+      omega (arith, counted_flat p (λ i. unnamed names (coming i 0 next w.came)) (range_with_len 0 ports))
 
   abbrev counts : List Refused
   counts = with_refused (refused_in (admissions_in rs)) (refused_counts w.limits [])
@@ -301,14 +269,11 @@ module _ (w : Switch) (ranks : List (List ℕ)) (st : State) (rs : List LimitedR
 
   -- ## The fourth clause, the marks and the counts
 
-  same_names : (a : Arrival) → is_named (named_in st) a ≡ has_name names a
-  same_names a = sym (has_as_name (named_in st) a)
-
   pub packets_are : AreWholePackets w st
-  packets_are = (packets_alike w st names same_names).1
+  packets_are = (packets_alike w st names (has_as_name (named_in st))).1
       (all_stand w.limits next w.came names ports are g.marks counts known)
 
   pub tally_are : length w.limits ≡ ports → ports ≡ st.head.ports →
       IsTally w st (record { marks = g.marks; refused = counts })
-  tally_are limits many = tally_is w st names same_names _ (limits ∙ many)
+  tally_are limits many = tally_is w st names (has_as_name (named_in st)) _ (limits ∙ many)
       (tallies_up w.limits next w.came names ports are g.marks counts known _ limits refl refl)
