@@ -1,6 +1,6 @@
 -- A tag fault of the crossbar run from its opening state on is that of the ideal switch, in whatever slot it comes:
 -- both act alike in every slot, and a fault of the ideal switch ends its whole run.
-use Rattle.cq_parts.proofs.Terms.{◌≡◌, List, length, Err, ℕ, ap, subst, length-map, TagFault, schedule_of, empty_limited_fabric, LimitedFabricStops, Captured, switch_of, Tables, Arrival, traffic_is, arrivals, IsTraffic, limited_whole_fault, first_slots, empty_limited, stable_limited_stop, begin, same_limited_stop, IsWholeFault, AreTables, classes_of, ports_of, machine_of, machines_of, openings_of, slots_fit, departures_limited, IsInputBest}
+use Rattle.cq_parts.proofs.Terms.{◌≡◌, List, length, Err, ap, length-map, TagFault, schedule_of, Captured, switch_of, Tables, Arrival, traffic_is, arrivals, limited_whole_fault, stable_limited_stop, begin, same_limited_stop, IsWholeFault, AreTables, classes_of, ports_of, machine_of, machines_of, openings_of, slots_fit, departures_limited}
 use Rattle.cq_simulate.specs.IdealRuns.{ideal_departures, ran_ideal}
 
 pub whole_fault : (t : Tables) (captures : List (List Captured)) (fault : TagFault) → AreTables t →
@@ -11,17 +11,11 @@ unfolding ideal_departures ran_ideal
 whole_fault t captures fault are each is =
     let came : List Arrival = arrivals t captures in
     let ms = machines_of t.setup in
-    let ranks = openings_of t.setup in
     let p = ports_of t.setup in
-    let classes = classes_of t.setup in
-    let traffic : IsTraffic p classes came = traffic_is t captures are each in
-    let ports : length (machines_of t.setup) ≡ ports_of t.setup =
-    length-map t.setup.kinds (λ kind. machine_of kind t.setup.classes) in
-    let stops : LimitedFabricStops IsInputBest t.limits ms 0 (first_slots came is.count)
-    (empty_limited_fabric p ranks) is.records fault = subst (λ (n : ℕ). LimitedFabricStops IsInputBest t.limits ms
-    0 (first_slots came is.count) (empty_limited_fabric n ranks) is.records fault) ports is.stops in
-    ap departures_limited (limited_whole_fault t.limits ms p ranks came is.count fault (same_limited_stop t.limits ms
-    classes 0 (first_slots came is.count) (empty_limited_fabric p ranks) (empty_limited p ranks) is.records
-    fault (begin t.limits ms classes p ranks (first_slots came is.count)
-    (slots_fit p classes came 0 is.count traffic)) (stable_limited_stop ms t.limits 0
-    (first_slots came is.count) (empty_limited_fabric p ranks) is.records fault stops)))
+    let ranks = openings_of t.setup in
+    let ports = length-map t.setup.kinds (λ kind. machine_of kind t.setup.classes) in
+    let stops = stable_limited_stop ms t.limits 0 _ _ is.records fault (rw ports at is.stops) in
+    let begun = begin t.limits ms (classes_of t.setup) p ranks _ (slots_fit p (classes_of t.setup) came 0 is.count
+    (traffic_is t captures are each)) in
+    ap departures_limited (limited_whole_fault t.limits ms p ranks came is.count fault
+    (same_limited_stop t.limits ms (classes_of t.setup) 0 _ _ _ is.records fault begun stops))

@@ -1,17 +1,13 @@
 -- What `resume` reads of what `part` left: the configuration and the captures that `part` read, and the text that it
 -- wrote. And where it alone wrote, under a name of its own, these are there.
-use Rattle.cq_parts.proofs.Terms.{rules, ◌≡◌, ◌≢◌, ℕ, List, [], ◌∷◌, length, ◌≤◌, Some, arith, subst, Ok, get, Captured, Tables, Contents, Resume, Resuming, Reader, captures_in, judged, state_in, tables_in, all_replaced, all_weaker, get_same, captures_same, tables_same, untouched, text_is, Plan, longest_file}
+use Rattle.cq_parts.proofs.Terms.{common_steps, le-ltb, rules, ◌≡◌, ◌≢◌, ℕ, List, [], ◌∷◌, length, ◌≤◌, Some, arith, subst, Ok, get, Captured, Tables, Contents, Resume, Resuming, Reader, captures_in, judged, tables_in, all_replaced, all_weaker, get_same, captures_same, tables_same, untouched, Plan, longest_file}
 use Rattle.cq_parts.specs.Parts.{IsLeftByPart, IsWrittenByPart, PartLeavesTheRest}
 
 module _ (r : Reader) (config state : List ℕ) where
-  module _ (left : Contents) (t : Tables) (captures : List (List Captured)) (text : List ℕ)
-      (configured : tables_in config left ≡ Ok t) (captured : captures_in r t left ≡ Ok captures)
-      (told : get left state ≡ Some text) (short : length text ≤ longest_file) where
-    text_left : state_in state left ≡ Ok text
-    text_left = search (arith, rules, text_is)
-
-    pub aimed : judged r (Resume config state) left ≡ Ok (Resuming t captures text)
-    aimed = search (arith, rules, text_left)
+  pub aimed : (left : Contents) (t : Tables) (captures : List (List Captured)) (text : List ℕ) →
+      tables_in config left ≡ Ok t → captures_in r t left ≡ Ok captures → get left state ≡ Some text →
+      length text ≤ longest_file → judged r (Resume config state) left ≡ Ok (Resuming t captures text)
+  aimed left t captures text configured captured told short = grind (arith, common_steps, le-ltb)
 
   module _ (slots : ℕ) (m left : Contents) (is : IsWrittenByPart r config state slots m left) where
     written : all_replaced ((state, is.stops.text) ∷ []) (Some m) ≡ Some left
@@ -30,17 +26,15 @@ module _ (r : Reader) (config state : List ℕ) where
         let read = is.stops.read.captured in
         let stay = is.captures_stay in search (arith, rules, captures_same, all_weaker, same_under)
 
-    told_left : get left state ≡ Some is.stops.text
-    told_left = let is_written = written in search (arith, rules, get_same)
-
     is_left : IsLeftByPart r config state slots m left
     is_left =
+        let is_written = written in
         record {
           early = is.early;
           plan = is.plan;
           stops = is.stops;
           same = record { configured = configured_left; captured = captures_left };
-          told = told_left;
+          told = search (arith, rules, get_same);
         }
 
 pub part_leaves_the_rest : (r : Reader) → PartLeavesTheRest r

@@ -2,7 +2,7 @@
 -- What goes on from there keeps what the run keeps, and comes to an end where the run does (`read_runs_go_on`); both
 -- write the same of it. A tag fault that is met from there is one of the whole run, and so that of the ideal switch,
 -- for which `run` is refused.
-use Rattle.cq_parts.proofs.Terms.{common_steps, arith, rules, ◌≡◌, ◌∙◌, ◌<◌, ◌^◌, ℕ, List, refl, ap, sym, subst, Ok, Err, IsOkAnd, Result, TagFault, Scheduled, schedule_of, LimitedRecord, Captured, IsScheduleOf, Switch, switch_of, Tables, Contents, Run, Aim, Denies, Meets, Resuming, Reader, captures_in, ideally_sent, judged, tables_in, sent_or_tag, IsRead, IsRefusal, Kept, StateRefusal, Taken, departures_in_run, read_runs_go_on, stopped_runs_are_read, GoesOnAsRun, IsReadAs, kept_in_run, traffic_is, AreGiven, IsEmulation, KeepsUp, IsPartText, Plan, Refusal}
+use Rattle.cq_parts.proofs.Terms.{common_steps, arith, rules, ◌≡◌, ◌∙◌, ◌<◌, ◌^◌, ℕ, List, refl, ap, sym, subst, Ok, Err, IsOkAnd, Result, TagFault, Scheduled, schedule_of, LimitedRecord, Captured, IsScheduleOf, Switch, switch_of, Tables, Contents, Run, Aim, Denies, Meets, Resuming, Reader, captures_in, ideally_sent, judged, tables_in, sent_or_tag, IsRead, Kept, Taken, departures_in_run, read_runs_go_on, stopped_runs_are_read, GoesOnAsRun, IsReadAs, kept_in_run, traffic_is, AreGiven, IsEmulation, KeepsUp, IsPartText, Plan, Refusal}
 use Rattle.cq_resume.specs.declared.refusal.StateRefusal.TheVariants as of_state
 use Rattle.cq_run.proofs.Crossed.{keeps_up}
 use Rattle.cq_run.specs.Plan.{crossed, resumed}
@@ -84,15 +84,12 @@ module _ (r : Reader) (config : List ℕ) (m : Contents) (t : Tables) (captures 
           search (rules, configured, captured)
 
       -- the text itself is refused for nothing
-      never : (why : StateRefusal) → (why ≡ of_state.NoMemory → ⊥) → IsRefusal w text why → ⊥
-      never why other is = other (read_as.never_refused why is)
-
       denied : (refusal : Refusal) → Denies aim refusal → judged r (Run config) m ≡ Err refusal
       denied (refused.Tag fault) is = run_refused fault (ap sent_or_tag (whole_fault t captures fault given.tables
           given.each ((goes is.from is.read).whole_fault fault is.stops)))
-      denied (refused.State (stopped.Line n)) is = absurd (never (of_state.Text n) (λ e. cc) is)
-      denied (refused.State stopped.Shape) is = absurd (never of_state.Shape (λ e. cc) is)
-      denied (refused.State (stopped.Unsound clause)) is = absurd (never (of_state.Unsound clause) (λ e. cc) is)
+      denied (refused.State (stopped.Line n)) is = cc (read_as.never_refused (of_state.Text n) is)
+      denied (refused.State stopped.Shape) is = cc (read_as.never_refused of_state.Shape is)
+      denied (refused.State (stopped.Unsound clause)) is = cc (read_as.never_refused (of_state.Unsound clause) is)
       denied refusal is = absurd is
 
       pub aim_of_run : IsAimOfRun r config m aim
