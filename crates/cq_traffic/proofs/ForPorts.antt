@@ -1,6 +1,6 @@
 -- What arrives in a slot is for the ports and of the classes, and each cell comes at its own input. It is found among
 -- all cells that come, and what holds of each of these holds of it.
-use Rattle.cq_traffic.proofs.Terms.{common_steps, ◌≡◌, ℕ, zero, suc, ◌+◌, ◌<◌, List, [], ◌∷◌, rules, map, Some, None, arith, get_or, AllByRecursion, range_with_len, cases_lt, get_or_past, get_or-map-range_with_len, length-map-range_with_len, unwrap_or-slice_get, Cell, arrival_at, Arrival, arriving, arriving_at, IsInRange, IsTraffic, arriving_from, cell_listed, found, arriving_is, most_ports}
+use Rattle.cq_traffic.proofs.Terms.{is_shown, length-arriving, common_steps, ◌≡◌, ℕ, zero, suc, ◌+◌, ◌<◌, List, [], ◌∷◌, rules, Some, None, arith, AllByRecursion, cases_lt, get_or_past, unwrap_or-slice_get, Cell, arrival_at, Arrival, arriving, arriving_at, IsInRange, IsTraffic, arriving_from, cell_listed, found, most_ports}
 use Rattle.cq_ideal.specs.Ranking.{AreForPorts}
 
 -- what is known of the cells that arrive
@@ -23,11 +23,9 @@ arriving_fits ports classes (a ∷ came) t k cell all is =
 pub place_of : (came : List Arrival) (t input inputs : ℕ) (cell : Cell) → inputs ≡ most_ports →
     arrival_at (arriving came t) input ≡ Some cell → arriving_at came t input ≡ Some cell
 place_of came t input inputs cell are at =
-    let here : get_or (map (arriving_at came t) (range_with_len 0 inputs)) input None ≡ Some cell =
-    rw (← arriving_is came t inputs are, ← unwrap_or-slice_get (arriving came t) input None) at in
-    let inside = get_or-map-range_with_len (arriving_at came t) 0 inputs input input None in
-    let past = get_or_past (map (arriving_at came t) (range_with_len 0 inputs)) input None in
-    search (arith, rules, cases_lt input inputs, inside, past, length-map-range_with_len)
+    let past = get_or_past (arriving came t) input None in
+    let shown = unwrap_or-slice_get (arriving came t) input None in
+    search (arith, rules, cases_lt input inputs, is_shown input, past, length-arriving)
 
 pub arrivals_for : (ports classes : ℕ) (came : List Arrival) (t : ℕ) → IsTraffic ports classes came →
     AreForPorts ports classes (arriving came t)

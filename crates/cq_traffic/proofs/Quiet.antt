@@ -1,6 +1,6 @@
 -- Stretches of slots in which no cell arrives. No cell comes before the next arrival, so up to it there is nothing that
 -- comes at any input.
-use Rattle.cq_traffic.proofs.Terms.{rules, ◌≡◌, ℕ, zero, suc, ◌+◌, ◌<◌, ◌≤◌, List, [], ◌∷◌, map, replicate, Option, Some, None, refl, ◌∙◌, arith, min, unwrap_or, AllByRecursion, range_with_len, cases_lt, ne_eqb, no_arrivals, Arrival, arriving, arriving_at, end_of, arriving_is, arriving_from, common_steps, all_weaker, most_ports}
+use Rattle.cq_traffic.proofs.Terms.{fill_by_all, sym, length-replicate, get_or-replicate, rules, ◌≡◌, ℕ, zero, suc, ◌+◌, ◌<◌, ◌≤◌, List, [], ◌∷◌, replicate, Option, Some, None, refl, ◌∙◌, arith, min, unwrap_or, AllByRecursion, cases_lt, ne_eqb, no_arrivals, Arrival, arriving, arriving_at, end_of, arriving_is, arriving_from, common_steps, all_weaker, most_ports}
 use Rattle.cq_cells.specs.NextArrival.{ArrivesIn, IsNextArrival}
 use Rattle.cq_traffic.specs.Stretch.{IsQuiet, IsQuietUntil}
 
@@ -10,14 +10,11 @@ not_at : (came : List Arrival) (t i : ℕ) → AllByRecursion (λ a. a.slot ≡ 
 not_at [] t i all = refl
 not_at (a ∷ came) t i all = grind (arith, common_steps, ne_eqb, not_at came t i)
 
-none_at : (came : List Arrival) (t : ℕ) → AllByRecursion (λ a. a.slot ≡ t → ⊥) came → (a n : ℕ) →
-    map (arriving_at came t) (range_with_len a n) ≡ replicate n None
-none_at came t all a zero = refl
-none_at came t all a (suc n) = λ k. not_at came t a all k ∷ none_at came t all (a + 1) n k
-
 none_arrive : (came : List Arrival) (t inputs : ℕ) → inputs ≡ most_ports → AllByRecursion (λ a. a.slot ≡ t → ⊥) came →
     arriving came t ≡ replicate inputs None
-none_arrive came t inputs are all = arriving_is came t inputs are ∙ none_at came t all 0 inputs
+none_arrive came t inputs are all =
+    arriving_is came t inputs are ∙ sym (fill_by_all (arriving_at came t) (replicate inputs None) inputs None
+    (length-replicate inputs None) (search (arith, rules, not_at, get_or-replicate)))
 
 before_end : (came : List Arrival) (slot : ℕ) → ArrivesIn slot came → slot < end_of came
 before_end [] slot at = absurd at

@@ -1,12 +1,12 @@
 -- The words of this crate's proofs that stand elsewhere, each passed on from its place.
-pub use Rattle.cq_base.proofs.Library.{AllByRecursion, Bool, List, None, Option, Some, [], ap, arith, cases_eq, cases_lt, common_steps, cond, eq-eqb, get_or, get_or-map-range_with_len, get_or_past, is_some, length, length-map-range_with_len, map, map-range_with_len_more, min, ne_eqb, range_with_len, refl, replicate, rules, subst, suc, sym, unwrap_or, unwrap_or-slice_get, zero, ℕ, ⊎_elim, ◌++◌, ◌+◌, ◌<◌, ◌==◌, ◌∙◌, ◌∷◌, ◌≡◌, ◌≤◌}
+pub use Rattle.cq_base.proofs.Library.{AllByRecursion, Bool, List, None, Option, Some, [], ap, arith, cases_eq, cases_lt, common_steps, cond, eq-eqb, fill_by_all, get_or-replicate, get_or_past, is_some, length, length-replicate, map, map-range_with_len_more, min, ne_eqb, range_with_len, refl, replicate, rules, suc, sym, unwrap_or, unwrap_or-slice_get, zero, ℕ, ◌++◌, ◌+◌, ◌<◌, ◌==◌, ◌∙◌, ◌∷◌, ◌≡◌, ◌≤◌}
 pub use Rattle.cq_base.specs.Arrivals.{arrival_at, no_arrivals}
 pub use Rattle.cq_base.specs.Arriving.{Arrival, arriving, arriving_at, end_of, enough}
 unfoldable pub use Rattle.cq_base.specs.Arriving.{traffic_of}
 pub use Rattle.cq_base.specs.Limits.{most_ports}
 pub use Rattle.cq_base.specs.declared.cell.Cell.{Cell}
 pub use Rattle.cq_cells.specs.Traffic.{IsInRange, IsTraffic, is_from, is_to, number_of}
-pub use Rattle.cq_ideal.proofs.FlowFound.{all_found, arriving_is, cell_listed, found_here, found_none, other_input, other_slot}
+pub use Rattle.cq_ideal.proofs.{FlowFound.arriving_is, FlowFound.cell_listed, FlowFound.found_here, FlowFound.found_none, FlowFound.length-arriving, FlowFound.other_input, FlowFound.other_slot, RestAtInput.is_shown}
 unfoldable pub use Rattle.cq_ideal.proofs.FlowFound.{found}
 pub use Rattle.cq_ideal.proofs.Waiting.{total_more, total_none}
 unfoldable pub use Rattle.cq_ideal.proofs.Waiting.{total}
