@@ -4,7 +4,7 @@
 -- the number of ports squared, and none where no cell waits at an input; and in each slot in which a cell waits or
 -- comes one leaves, so there are no more such slots than cells that came.
 use Rattle.std.proofs.lemmas.List.Sums.{get_or-le-sum_by}
-use Rattle.cq_stopped.proofs.Terms.{IsFabric, IsCount, get_or-map-range_with_len, length-map-range_with_len, has_there, arith, rules, Arrival, ◌≡◌, ℕ, zero, suc, ◌+◌, ◌⊎◌, List, [], ◌∷◌, length, None, Some, ◌∙◌, ◌≤◌, ap, ◌*◌, ◌-◌, fold, max, cases_lt, common_steps, length-replicate, get_or-replicate, get_or_past, length-insert, sum_by-append, sum_by-cons, AllByRecursion, flat_map, slice_index_or, sum, arriving, Queued, present, Marked, arriving_from, CameFor, arrived_has, limited_empty_agree, after_sent, arrived, keyed, old_sound, same_slot, Sound, SendsAlike, Fabric, buffer, empty_fabric, input, SlotRecord, fabric_held, LimitedRecord, slots_in, proposals_in, HasFor, machine_at, opening, Switch, waiting-empty, all_wait, nothing_left, come_count-first, counted, moved_has, empty_together, most_ports}
+use Rattle.cq_stopped.proofs.Terms.{IsFabric, IsCount, get_or-map-range_with_len, length-map-range_with_len, has_there, arith, rules, Arrival, ◌≡◌, ℕ, zero, suc, ◌+◌, ◌⊎◌, List, [], ◌∷◌, length, None, Some, ◌∙◌, ◌≤◌, ◌*◌, ◌-◌, fold, max, cases_lt, common_steps, length-replicate, get_or-replicate, get_or_past, length-insert, sum_by-append, sum_by-cons, AllByRecursion, flat_map, slice_index_or, sum, arriving, Queued, present, Marked, arriving_from, CameFor, arrived_has, limited_empty_agree, after_sent, arrived, keyed, old_sound, same_slot, Sound, SendsAlike, Fabric, buffer, empty_fabric, input, SlotRecord, fabric_held, LimitedRecord, slots_in, proposals_in, HasFor, machine_at, opening, Switch, waiting-empty, all_wait, nothing_left, come_count-first, counted, moved_has, empty_together, most_ports}
 use Rattle.cq_ideal.proofs.FlowRun.{come_count}
 use Rattle.cq_simulate.proofs.FabricCounts.{none_proposed as simulate_none, proposals_few, shorter, square_few}
 use Rattle.cq_stopped.proofs.Ran.{IsKeyed}
@@ -62,8 +62,7 @@ module _ (w : Switch) where
     arrived_many = k.step.arrive.ports ∙ k.ports
 
     sent_many : length r.of_slot.sent.inputs ≡ length w.machines
-    sent_many = ap (λ (l : List (List Queued)). length l) k.step.depart.inputs ∙ k.step.fill.moves.ports.0
-        ∙ arrived_many
+    sent_many = grind (arith, common_steps, arrived_many)
 
     -- what holds of each cell that was there or came holds of each at every moment of the slot
     module _ (P : Queued → Type 0) (all : (j : ℕ) (q : Queued) → HasFor f.state j q ⊎ CameFor r.of_slot.came j q → P q)
@@ -81,8 +80,7 @@ module _ (w : Switch) where
 
     module _ (keeps : (j : ℕ) → KeepsLow (machine_at w.machines j)) (within : IsWithin slot f.state) where
       ranked : AllByRecursion AreLow r.of_slot.arrived.ranks
-      ranked = ranked_low w.machines keeps slot 0 r.admission.cells f.state.ranks
-          (record { came = r.of_slot.came; ranks = r.of_slot.arrived.ranks }) within.states k.step.arrive.ranked
+      ranked = grind (arith, common_steps, ranked_low)
 
       arrived_list : (i : ℕ) → length (input r.of_slot.arrived i) ≤ slot + 1
       arrived_list i = search (arith, rules, length-insert)
@@ -99,11 +97,7 @@ module _ (w : Switch) where
       }
 
       recorded : IsCount (slot + 1) → IsCount (waits f.state) → IsRecordedWithin r.of_slot
-      recorded low few =
-          record {
-            longest = λ i. omega (arith, arrived_list i);
-            cushions = λ j. rw k.step.arrive.buffers (omega (arith, buffer_few f.state k.agrees.fabric j));
-          }
+      recorded low few = grind (arith, common_steps, arrived_list, buffer_few)
 
     -- ## How many proposals a slot makes
 
@@ -138,8 +132,7 @@ module _ (w : Switch) where
         grind (arith, common_steps, empty.inputs, get_or_past, cases_lt)
 
     none_proposed : waits f.state ≡ 0 → came ≡ 0 → sum (proposals_in r.of_slot) ≡ 0
-    none_proposed none quiet = simulate_none w.machines slot r.admission.cells f.state g.state r.of_slot k.best
-        (no_lists none) quiet
+    none_proposed none quiet = search (rules, simulate_none, no_lists)
 
     slot_proposed : length w.machines ≤ most_ports →
         sum (proposals_in r.of_slot) + 8192 * waits g.state ≤ 8192 * (waits f.state + came)

@@ -43,10 +43,7 @@ module _ {X : Type 0} where
   pub pairs_both : (R S : X → X → Type 0) (xs : List X) → EachPair R xs → EachPair S xs →
       EachPair (λ x y. R x y × S x y) xs
   pairs_both R S [] first second = tt
-  pairs_both R S (x ∷ xs) first second = (
-    all_give (R x) (S x) (λ y. R x y × S x y) (λ y one two. (one, two)) xs first.0 second.0,
-    pairs_both R S xs first.1 second.1,
-  )
+  pairs_both R S (x ∷ xs) first second = grind (arith, common_steps, all_give, pairs_both R S xs first.1 second.1)
 
 module _ {X Y : Type 0} (f : X → Y) where
   pub image_pairs : (R : Y → Y → Type 0) (xs : List X) → EachPair (λ x y. R (f x) (f y)) xs → AllPairs R (map f xs)
@@ -76,8 +73,7 @@ module _ {X : Type 0} (number : X → ℕ) where
   later a xs xss own k x has = let e = own (suc k) x has in omega arith
 
   none_past : (a i : ℕ) (xss : List (List X)) → i < a → AreNumbered a xss → filter (is_numbered i) (all_of xss) ≡ []
-  none_past a i xss lt own =
-      filter_none (is_numbered i) (all_of xss) (all_from_has _ (all_of xss) (search (arith, rules, is_at, own, ne_eqb)))
+  none_past a i xss lt own = grind (arith, common_steps, filter_none, all_from_has, is_at, ne_eqb)
 
   sifted : (a i : ℕ) (xss : List (List X)) → AreNumbered a xss → (k : ℕ) → a + k ≡ i →
       filter (is_numbered i) (all_of xss) ≡ list_at xss k
@@ -106,8 +102,7 @@ module _ {X Y : Type 0} (number : X → ℕ) (f : X → Y) where
   of_number j xs = map f (filter (λ x. number x == j) xs)
 
   pub has_number : (xs : List X) (y : X) (j : ℕ) → number y ≡ j → Has xs y → Has (of_number j xs) (f y)
-  has_number xs y j same has = has_image f (filter (λ x. number x == j) xs) y
-      (has_kept (λ x. number x == j) xs y has (eq-eqb (number y) j same))
+  has_number xs y j same has = grind (arith, common_steps, has_image, has_kept, eq-eqb)
 
   module _ (R : Y → Y → Type 0) where
     first_pairs : (x : X) (xs : List X) → EachPair R (of_number (number x) (x ∷ xs)) →

@@ -1,7 +1,7 @@
 -- The departures and the transfers of a run: what a slot adds to the departures, at each output the cell that it sent,
 -- if it sent one; that departures stand in order, slot by slot and those of a slot by output; that transfers which a
 -- log can hold do so, and are in range; and the figures that are read off them.
-use Rattle.cq_stopped.proofs.Terms.{list_any, filter_none, ◌≡◌, ℕ, zero, suc, ◌+◌, ◌<◌, List, [], ◌∷◌, ◌++◌, Option, Some, None, refl, arith, rules, ◌≤◌, ◌⊎◌, length, map, ◌-◌, eqb, Bool, true, false, ◌∙◌, eq-eqb, ne_eqb, and_from, and_parts, cases_lt, eqb-true, common_steps, map-append, get_or_past, length-map, filter-append, sum_by-cons, AllByRecursion, range_with_len, cons_option, enumerate_from, ◌==◌, filter, slice_index_or, ◌&&◌, count_by, filter_map, is_some, option_map, Arrival, Departure, Queued, Transfer, listed, slots_of, departures_of, departures_from, departures_in, SlotRecord, LimitedRecord, slots_in, figures_of, input_figures, output_figures, sent_by, wait_at, came_to, gone_in, EachPair, all_both, all_weaker, Differ, all_from_has, all_of_has, Has, has_kept, kept_has, AreApart, Stands, no_more, pairs_kept, figures_told, input_told, output_told, sent_told, sent_at, seen_as, IsTransferBefore, named_in, Named, State, has_number, AreNumbered, IsMoved, AreWritten, ◌^◌, any_has, has_any, pairs_joined, Figures, InputFigures, Seen}
+use Rattle.cq_stopped.proofs.Terms.{list_any, filter_none, ◌≡◌, ℕ, zero, suc, ◌+◌, ◌<◌, List, [], ◌∷◌, ◌++◌, Option, Some, None, refl, arith, rules, ◌≤◌, ◌⊎◌, length, map, ◌-◌, eqb, Bool, true, false, ◌∙◌, eq-eqb, ne_eqb, and_from, and_parts, cases_lt, eqb-true, common_steps, map-append, get_or_past, length-map, filter-append, sum_by-cons, AllByRecursion, range_with_len, cons_option, enumerate_from, ◌==◌, filter, slice_index_or, ◌&&◌, count_by, filter_map, is_some, option_map, Arrival, Departure, Queued, Transfer, listed, slots_of, departures_of, departures_from, departures_in, SlotRecord, LimitedRecord, slots_in, figures_of, input_figures, output_figures, sent_by, wait_at, came_to, gone_in, EachPair, all_both, all_weaker, Differ, all_from_has, all_of_has, Has, has_kept, kept_has, AreApart, Stands, no_more, pairs_kept, figures_told, input_told, output_told, sent_told, seen_as, IsTransferBefore, named_in, Named, State, has_number, AreNumbered, IsMoved, AreWritten, ◌^◌, any_has, has_any, pairs_joined, Figures, InputFigures, Seen}
 use Rattle.cq_stopped.proofs.Joined.{pairs_in}
 use Rattle.cq_stopped.proofs.Ran.{left_at, came_in, came_of, is_name_at}
 
@@ -102,8 +102,7 @@ pub record AreMoved (ports end : ℕ) (note : List Transfer) : Type 0 where
 pub are_moved : (ports end : ℕ) (note : List Transfer) → end < 2 ^ 63 → AreWritten ports note →
     AllByRecursion (λ t. t.slot < end) note → AreMoved ports end note
 are_moved ports end [] low written times = record { pairs = tt; all = tt; times = tt }
-are_moved ports end (t ∷ note) low written times =
-    let rest = are_moved ports end note low written.3 times.1 in search (arith, rules)
+are_moved ports end (t ∷ note) low written times = search (rules, are_moved ports end note low written.3 times.1)
 
 -- ## The figures. What an output sent and how long it kept a cell are read off its departures, one for each slot in
 -- which it sent. And as many names are of an input as cells came to it: names of one input have different slots, and
@@ -135,9 +134,7 @@ module _ (j : ℕ) where
   pub output_same : (rs : List SlotRecord) (sent : List Departure) → AreNumbered 0 rs →
       sent ≡ departures_of 0 (gone_in rs) → output_told sent j ≡ output_figures rs j
   unfolding output_figures
-  output_same rs sent are is =
-      let its : sent_at sent j ≡ filter_map its_departure rs = rw is (its_all 0 rs are) in
-      simp (its, sent_count rs, waits rs)
+  output_same rs sent are is = grind (arith, common_steps, its_all, sent_count, waits)
 
 -- ## Names of an input
 
@@ -167,8 +164,7 @@ module _ (names : List Named) (rs : List LimitedRecord) (differ : EachPair Diffe
 
   -- names of the input have different slots, in which a cell comes
   name_comes : (c : Named) → Has names c → c.input ≡ i → comes c.slot ≡ true
-  name_comes c has same =
-      let is = named_at c.slot i in search (arith, rules, any_has, and_from, eq-eqb)
+  name_comes c has same = grind (arith, common_steps, any_has, and_from, eq-eqb)
 
   abbrev IsOfSlot : Named → ℕ → Type 0
   IsOfSlot c t = c.slot ≡ t

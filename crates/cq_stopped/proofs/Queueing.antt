@@ -84,8 +84,7 @@ module _ (ms : List Machine) (slot : ℕ) where
   pub came_where : (i : ℕ) (cells : List (Option Cell)) (ranks : List (List ℕ)) (r : Ranking) →
       ranking ms slot i cells ranks ≡ Ok r → (k : ℕ) → is_some (came_to r.came k) ≡ is_some (arrival_at cells k)
   came_where i [] ranks r h k = grind (arith, common_steps, only_ok)
-  came_where i (None ∷ cells) ranks r h k =
-      grind (arith, common_steps, after_input_ok, came_where (i + 1) cells ranks)
+  came_where i (None ∷ cells) ranks r h k = search (rules, after_input_ok, came_where (i + 1) cells ranks)
   came_where i (Some cell ∷ cells) ranks r h zero = grind (arith, common_steps, one_behind)
   came_where i (Some cell ∷ cells) ranks r h (suc k) =
       let b = one_behind i cell cells ranks r h in rw (← b.3) (came_where (i + 1) cells (after ranks cell) b.1 b.2 k)

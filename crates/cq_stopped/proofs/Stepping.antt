@@ -1,7 +1,7 @@
 -- One slot of a run that may be stopped. The ideal switch goes on beside the fabric. At each output the cells that
 -- come queue up behind those that left and those that wait, and where one leaves it is the first that waits: what left
 -- and then what waits is the same list. So what is known before the slot is known after it.
-use Rattle.cq_stopped.proofs.Terms.{inl, rules, ◌≡◌, ℕ, zero, suc, ◌+◌, ◌<◌, ◌≤◌, List, [], ◌∷◌, ◌++◌, drop, length, Option, Some, None, Ok, sym, ap, ◌∙◌, ◌⊎◌, inr, ⊎_elim, arith, length-append, cases_lt, common_steps, append_assoc, get_or-append-add, get_or-map, get_or_append_left, get_or_past, length-map, append-nil, get_or-replicate, length-replicate, AllByRecursion, slice_get, slice_index_or, arrival_at, arriving, arriving_at, Cell, Departure, Queued, admitted_arrives, Came, came_from, AreOfClasses, present, Served, listed, served, HasWaited, Marked, admission, arriving_from, departures_of, empty_ideal, IdealState, all_told, departures_from, departures_in, filled, fronts, ideal_slot, put_all, rests, AreForPorts, ranking, CameFor, Keyed, limited_empty_agree, among_insert, left_among, keyed, ports_kept, same_slot, SendsAlike, Agrees, Fabric, IsAmong, input, empty_fabric, FabricSlot, LimitedFabricSlot, LimitedRecord, slots_in, came_to, list_arrived, Transfers, KeepLaws, gone_in, list_of, IsInputBest, IsStable, Partners, machine_at, all_both, all_weaker, found_at, has_there, Has, all_from_has, all_of_has, has_cases, has_left, has_right, opening, Runs, Switch, fewer, HasFor, length-filled, rest_of, among_put_all, list_after, put_all_keeps, put_all_new, stable_slot, admission_for_ports, arrivals_for, place_of, RunBy}
+use Rattle.cq_stopped.proofs.Terms.{inl, rules, ◌≡◌, ℕ, zero, suc, ◌+◌, ◌<◌, ◌≤◌, List, [], ◌∷◌, ◌++◌, drop, length, Option, Some, None, Ok, sym, ap, ◌∙◌, ◌⊎◌, ⊎_elim, arith, length-append, cases_lt, common_steps, append_assoc, get_or-append-add, get_or-map, get_or_append_left, get_or_past, length-map, append-nil, get_or-replicate, length-replicate, AllByRecursion, slice_get, slice_index_or, arrival_at, arriving, arriving_at, Cell, Departure, Queued, admitted_arrives, Came, came_from, AreOfClasses, present, Served, listed, served, HasWaited, Marked, admission, arriving_from, departures_of, empty_ideal, IdealState, all_told, departures_from, departures_in, filled, fronts, ideal_slot, put_all, rests, AreForPorts, ranking, CameFor, Keyed, limited_empty_agree, among_insert, left_among, keyed, ports_kept, same_slot, SendsAlike, Agrees, Fabric, IsAmong, input, empty_fabric, FabricSlot, LimitedFabricSlot, LimitedRecord, slots_in, came_to, list_arrived, Transfers, KeepLaws, gone_in, list_of, IsInputBest, IsStable, Partners, machine_at, all_both, all_weaker, found_at, has_there, Has, all_from_has, all_of_has, has_cases, has_left, has_right, opening, Runs, Switch, fewer, HasFor, length-filled, rest_of, among_put_all, list_after, put_all_keeps, put_all_new, stable_slot, admission_for_ports, arrivals_for, place_of, RunBy}
 use Rattle.cq_ideal.specs.IdealSlot.{Sent}
 use Rattle.cq_stopped.proofs.Configured.{IsConfigured}
 use Rattle.cq_stopped.proofs.Lined.{each_departs, left_more}
@@ -35,8 +35,7 @@ came_then : (cs : List (List (Option Queued))) (c : List (Option Queued)) (t i :
     came_in (cs ++ c ∷ []) t i ≡ Some q → (came_in cs t i ≡ Some q) ⊎ ((length cs ≡ t) × (came_to c i ≡ Some q))
 came_then [] c t i q is = grind (arith, common_steps)
 came_then (d ∷ cs) c zero i q is = inl is
-came_then (d ∷ cs) c (suc t) i q is =
-    ⊎_elim (λ was. inl was) (λ now. inr (ap suc now.0, now.1)) (came_then cs c t i q is)
+came_then (d ∷ cs) c (suc t) i q is = grind (arith, common_steps, came_then cs c t i q is)
 
 -- a cell of the fabric is one of its output
 pub own_at : (w : Switch) (n : ℕ) (f : Fabric) (ideal : IdealState) (cs : List (List (Option Queued)))
@@ -249,9 +248,7 @@ module _ (w : Switch) (ranks : List (List ℕ)) (configured : IsConfigured w ran
     -- a cell that is known by its slot and its input
     held_at : (t i : ℕ) (q : Queued) → q.key.slot ≡ t → q.key.input ≡ i → q.cell.output < length w.machines →
         Has (left q.cell.output ++ full q.cell.output) q → IsHeld next sent_next t i q
-    held_at t i q slot input inside there =
-        let lists_are = lists_next in
-        record { slot = slot; input = input; inside = omega arith; held = rw (pool_is q.cell.output inside) there }
+    held_at t i q slot input inside there = grind (arith, common_steps, lists_next, pool_is)
 
     -- ## Together
 
@@ -308,8 +305,7 @@ module _ (w : Switch) (ranks : List (List ℕ)) (configured : IsConfigured w ran
       Runs w a (arriving_from w.came a m) f rs g →
       Ended a m end f rs g (cs ++ came_of rs) (sent ++ departures_of a (gone_in (slots_in rs)))
   unfolding departures_of arriving_from
-  run_known zero a end f g [] ideal cs sent known is run =
-      let e : end ≡ a = omega arith in record { ideal = ideal; known = simp (append-nil, run, e) known; slots = run }
+  run_known zero a end f g [] ideal cs sent known is run = grind (arith, common_steps, append-nil)
   run_known (suc m) a end f g (r ∷ rs) ideal cs sent known is run =
       let next = known_next a f run.0 r ideal cs sent known run.1 in
       search (arith, rules, append_assoc, slot_known, run_known m (a + 1) end run.0 g rs _ _ _ next)
@@ -317,8 +313,7 @@ module _ (w : Switch) (ranks : List (List ℕ)) (configured : IsConfigured w ran
 
   -- nothing is known of the empty fabric but that
   known_first : Known w 0 (empty_fabric (length w.machines) ranks) (empty_ideal (length w.machines) ranks) [] []
-  known_first =
-      search (arith, rules, limited_empty_agree, length-replicate, Lane, Has, get_or-replicate, get_or_past, cases_lt)
+  known_first = search (rules, limited_empty_agree, length-replicate, Lane, get_or-replicate, get_or_past, cases_lt)
 
   pub stopped_is : (n : ℕ) (rs : List LimitedRecord) (f : Marked Fabric) →
       Runs w 0 (arriving_from w.came 0 n) (opening w ranks) rs f →

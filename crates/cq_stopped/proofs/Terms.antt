@@ -48,7 +48,7 @@ unfoldable pub use Rattle.cq_laws.specs.Measures.{figures_of, input_figures, out
 pub use Rattle.cq_laws.specs.Phases.{Transfers, came_to, list_arrived}
 unfoldable pub use Rattle.cq_laws.specs.Records.{transfers_of_run}
 pub use Rattle.cq_resume.proofs.GoesOn.{Differ, cell_with, found_at}
-pub use Rattle.cq_resume.specs.Counted.{IsTally, departure_of, input_told, output_told, sent_by as sent_at, sent_told, taken_of}
+pub use Rattle.cq_resume.specs.Counted.{IsTally, departure_of, input_told, output_told, sent_told, taken_of}
 unfoldable pub use Rattle.cq_resume.specs.Counted.{figures_told, frozen_told}
 pub use Rattle.cq_resume.specs.Finding.{ArePackets, ComeBehind, IsLine, coming, has_limit, has_name, mark_on, unnamed}
 pub use Rattle.cq_resume.specs.Parts.{IsParted, IsWhole, opening}

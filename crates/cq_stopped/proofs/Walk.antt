@@ -132,9 +132,7 @@ module _ (w : Switch) (i : ℕ) (few : i < most_ports) (whole : IsLine (filter (
       (refused_here w.limits i (arriving_from w.came slot n) (admissions_in rs))
   unfolding arriving_from
   walked slot zero f g [] run all many known follow =
-      let none = filter_none (is_between slot end) (filter (is_from i) w.came)
-      (all_from_has _ _ (search (arith, rules, lt-leb, and_right, le-ltb, cases_lt))) in
-      record { ends = simp (none, run); lost_are = simp none }
+      search (rules, filter_none, is_between, all_from_has, lt-leb, and_right, le-ltb, cases_lt)
   walked slot (suc n) f g (r ∷ rs) run all many known follow =
       let step = run.1 in
       let long = marks_long slot f run.0 r many step.admits step.marks in
@@ -151,8 +149,7 @@ module _ (w : Switch) (i : ℕ) (few : i < most_ports) (whole : IsLine (filter (
 counted_flat : (p : Cell → Bool) (f : ℕ → List Arrival) (is : List ℕ) →
     length (filter p (cells_in (flat_map f is))) ≡ sum_by (λ i. length (filter p (cells_in (f i)))) is
 counted_flat p f [] = refl
-counted_flat p f (i ∷ is) =
-    grind (arith, common_steps, map-append, filter-append, length-append, sum_by-cons, counted_flat p f is)
+counted_flat p f (i ∷ is) = search (rules, map-append, filter-append, length-append, sum_by-cons, counted_flat p f is)
 
 -- counts of cells of which each test passes as many are the same
 same_counts : (xs ys : List Cell) → ((p : Cell → Bool) → length (filter p xs) ≡ length (filter p ys)) →
@@ -228,8 +225,7 @@ module _ (w : Switch) (ranks : List (List ℕ)) (st : State) (rs : List LimitedR
 
   many_marks : length g.marks ≡ ports
   unfolding arriving_from
-  many_marks = (marks_many w 0 next (opening w ranks) g rs runs (stand_in w.came 0 next)).0
-      ∙ length-replicate ports false
+  many_marks = grind (arith, common_steps, marks_many, stand_in, length-replicate)
 
   marks_walked : map (λ (m : Bool). Some m) g.marks ≡ map (walk_mark w.limits next w.came names) (range_with_len 0
       ports)
