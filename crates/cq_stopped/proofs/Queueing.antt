@@ -196,7 +196,6 @@ module _ (j slot : ℕ) where
       let slot_is = (come zero q refl).0 in
       let input_is : q.key.input ≡ a = (let is = (come zero q refl).1 in omega arith) in
       let waits = all_back (IsEarlier a) left xs earlier in
-      let own : IsEarlier (a + 1) q = search (arith, rules) in
       cond_both (is_for j q) (put q xs) xs (λ l. EachPair Follows (left ++ put_all j came l))
       (λ here. pairs_put_all came (a + 1) left (put q xs) (come_on a (Some q) came come)
       (search (arith, rules, all_both, earlier_on, all_front, all_put)) (λ k p x at output among before class.

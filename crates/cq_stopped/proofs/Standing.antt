@@ -292,7 +292,6 @@ module _ {w : Switch} (at : Taken) {ideal : IdealState} {cs : List (List (Option
   goes_first a b first second flow earlier =
       let both = of_one a b first.kept second.kept flow in
       let j = a.cell.output in
-      let there : Has (list_of ideal.lists a.cell.output) b = rw both.output second.there in
       let pairs = pairs_both IsBefore Follows (list_of ideal.lists j) (known.agrees.rising j)
       (pairs_right Follows (left_at j at.sent) (list_of ideal.lists j) (pairs_at j first.kept.inside)) in
       search (arith, rules, pair_of_has, Follows)
@@ -308,8 +307,7 @@ module _ {w : Switch} (at : Taken) {ideal : IdealState} {cs : List (List (Option
             (each_sent _ (search (arith, rules, of_one, has_left_it, right_at)));
         after = has_all _ (map sent_as at.sent) (λ d has. let image = image_has sent_as at.sent d has in
             has_all (After d) queued (search (arith, rules, is_waiting, waits_after)));
-        queued = has_all _ queued (λ a first. let x = is_waiting a first in
-            has_all (Ahead a) queued (search (arith, rules, is_waiting, goes_first)));
+        queued = has_all _ queued (λ a first. has_all (Ahead a) queued (search (arith, rules, is_waiting, goes_first)));
       }
 
   -- ## The sixth clause: what waits is not above the floor of its class

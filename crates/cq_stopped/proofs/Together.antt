@@ -122,7 +122,6 @@ module _ (w : Switch) (ranks : List (List ℕ)) (configured : IsConfigured w ran
 
   states_right : AllByRecursion AreRankNumbers at.frozen.ranks
   states_right =
-      let many = states_many at known in
       search (arith, rules, state_sized at known, known, rank_numbers at.frozen.ranks within.states)
 
   -- the name of a cell that the run keeps
@@ -145,7 +144,6 @@ module _ (w : Switch) (ranks : List (List ℕ)) (configured : IsConfigured w ran
   unfolding state_of
   in_range =
       let many : length at.frozen.lists ≡ ports = known.ports in
-      let next = low in
       let figures = figures_low in
       let inputs_told = seen_many in
       let outputs_told = states_many at known in
@@ -160,7 +158,6 @@ module _ (w : Switch) (ranks : List (List ℕ)) (configured : IsConfigured w ran
   unfolding state_of
   figures_same =
       let once = each_pair Differ (named_in st) (arrivals_are at known).once in
-      let known = known in
       let numbered = limited_numbered w.limits w.machines 0 _ _ _ rs runs in
       let run = recorded IsInputBest w.limits w.machines 0 _ _ _ rs runs in
       let in_slots = slots_of_figures IsInputBest w.machines ports _ _ _ (slots_in rs) run in

@@ -117,9 +117,6 @@ module _ (w : Switch) (i : ℕ) (few : i < most_ports) (whole : IsLine (filter (
     slot_more None none lt lost last follow here rest =
         let same = none_comes_now i slot end w.came none in let moved = mark_is.1 in search (arith, rules, is_shown)
     slot_more (Some cell) some lt lost last follow here rest =
-        let up = mark_at r.admission.marks i in
-        let a : Arrival = record { slot = slot; cell = cell } in
-        let others = coming i (slot + 1) end w.came in
         let same = one_comes_now i slot end w.came cell lt whole some in
         let at = found_at w.came slot i cell some in
         let moved = mark_is.1 in search (arith, rules, taken_is, step_follows, step_ends, is_shown)
