@@ -18,13 +18,10 @@ module _ (r : Reader) (config state : List ℕ) where
     same_under name other = untouched ((state, is.stops.text) ∷ []) m left name written (other, tt)
 
     configured_left : tables_in config left ≡ Ok is.stops.tables
-    configured_left =
-        let read = is.stops.read.configured in search (arith, rules, is.configuration_stays, tables_same, same_under)
+    configured_left = grind (arith, common_steps, tables_same, same_under)
 
     captures_left : captures_in r is.stops.tables left ≡ Ok is.stops.captures
-    captures_left =
-        let read = is.stops.read.captured in
-        let stay = is.captures_stay in search (arith, rules, captures_same, all_weaker, same_under)
+    captures_left = grind (arith, common_steps, captures_same, all_weaker, same_under)
 
     is_left : IsLeftByPart r config state slots m left
     is_left =
