@@ -27,10 +27,11 @@ pub record AreOfPhase (ports slot phase : ℕ) (lines : List Transfer) : Type 0 
   pub now : AllByRecursion (λ t. (t.slot ≡ slot) × (t.phase ≡ phase)) lines
   pub rise : RiseByInput lines
 
--- the lines of a phase
+-- whether a line is of a phase
 abbrev pub is_at : ℕ → ℕ → Transfer → Bool
 is_at slot phase t = t.slot == slot && t.phase == phase
 
+-- the lines of a phase
 abbrev pub in_phase : ℕ → ℕ → List Transfer → List Transfer
 in_phase slot phase note = filter (is_at slot phase) note
 

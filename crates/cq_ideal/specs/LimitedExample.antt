@@ -34,6 +34,7 @@ first_of_two input = cell_of input 0 0 false
 abbrev pub second_of_two : ℕ → Cell
 second_of_two input = cell_of input 0 1 true
 
+-- output 0 has limit 1, and the others have none
 abbrev pub limit_one : List (Option ℕ)
 limit_one = Some 1 ∷ None ∷ None ∷ []
 
@@ -81,6 +82,7 @@ discard_admissions =
       marks = true ∷ false ∷ false ∷ [];
     } ∷ []
 
+-- the run of the four slots: what was admitted and refused, what left, and what is there in the end
 abbrev pub discard_ran : LimitedRan
 discard_ran =
     record {

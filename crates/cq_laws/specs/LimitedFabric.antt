@@ -58,10 +58,11 @@ LimitedWholeRun MayChoose limits ms came start rs end =
 abbrev pub empty_limited_fabric : ℕ → List (List ℕ) → Marked Fabric
 empty_limited_fabric ports ranks = unmarked ports (empty_fabric ports ranks)
 
--- what was judged in each slot, and what went through it
+-- what was judged in each slot
 abbrev pub admissions_in : List LimitedRecord → List Admission
 admissions_in rs = map (λ r. r.admission) rs
 
+-- and what went through it
 abbrev pub slots_in : List LimitedRecord → List SlotRecord
 slots_in rs = map (λ r. r.of_slot) rs
 

@@ -27,5 +27,6 @@ pub record IsShifted (count less more : ℕ) (old new : Ahead) : Type 0 where
   pub stays : old.count ≤ count → new ≡ old
   pub moves : count < old.count → new ≡ record { count = old.count - less + more; last = old.last }
 
+-- so it is with each finger
 abbrev pub AreShifted : ℕ → ℕ → ℕ → List Ahead → List Ahead → Type 0
 AreShifted count less more old new = (k : ℕ) → IsShifted count less more (finger_at old k) (finger_at new k)

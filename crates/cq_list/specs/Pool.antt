@@ -39,9 +39,11 @@ chain nodes (suc n) place = followed place (nodes place) (chain nodes n)
 abbrev pub linked : Nodes → Queue → List (ℕ × Queued)
 linked nodes queue = chain nodes queue.len queue.first
 
+-- their places in the pool
 abbrev pub places : List (ℕ × Queued) → List ℕ
 places chained = map (λ e. e.0) chained
 
+-- and their cells
 abbrev pub cells : List (ℕ × Queued) → List Queued
 cells chained = map (λ e. e.1) chained
 

@@ -37,10 +37,11 @@ input_told s i x =
       slack = x.slack;
     }
 
--- those from output j, and what was seen of it: how many they are, and the longest wait of one of them
+-- those from output j
 abbrev pub sent_by : List Departure → ℕ → List Departure
 sent_by sent j = filter (λ d. d.output == j) sent
 
+-- what was seen of it: how many they are, and the longest wait of one of them
 abbrev pub output_told : List Departure → ℕ → OutputFigures
 output_told sent j =
     record {

@@ -40,6 +40,7 @@ IsGone came next d g = (g.slot ≡ d.slot) × IsTold came next d.cell g.queued
 abbrev pub AreFound : List Arrival → ℕ → List Named → List Queued → Type 0
 AreFound came next names told = AllZip (IsTold came next) names told
 
+-- and each of these departures, in their order
 abbrev pub AreGone : List Arrival → ℕ → List Sent → List Gone → Type 0
 AreGone came next sent gone = AllZip (IsGone came next) sent gone
 
@@ -47,18 +48,21 @@ AreGone came next sent gone = AllZip (IsGone came next) sent gone
 abbrev pub IsMissed : List Arrival → ℕ → Named → Type 0
 IsMissed came next c = told_of came next c ≡ None
 
--- a name stands before another: by input, and then by slot of arrival; or it is no later than that
+-- a name stands before another: by input, and then by slot of arrival
 abbrev pub IsNameBefore : Name → Name → Type 0
 IsNameBefore a b = (a.queued.key.input < b.queued.key.input) ⊎
     ((a.queued.key.input ≡ b.queued.key.input) × (a.queued.key.slot < b.queued.key.slot))
 
+-- or it stands in the same place at the latest
 abbrev pub IsNameNotAfter : Name → Name → Type 0
 IsNameNotAfter a b = (a.queued.key.input < b.queued.key.input) ⊎
     ((a.queued.key.input ≡ b.queued.key.input) × (a.queued.key.slot ≤ b.queued.key.slot))
 
+-- the name of a cell that waits
 abbrev pub waiting_name : Queued → Name
 waiting_name q = record { queued = q; sent = None }
 
+-- and that of a cell that was sent
 abbrev pub sent_name : Gone → Name
 sent_name g = record { queued = g.queued; sent = Some g.slot }
 
@@ -76,22 +80,28 @@ pub record IsFound (came : List Arrival) (s : State) (f : Found) : Type 0 where
 
 -- ## In order
 
+-- a cell is of no later input than another
 abbrev pub IsNoLaterInput : Queued → Queued → Type 0
 IsNoLaterInput a b = a.key.input ≤ b.key.input
 
+-- of two cells of one list for one output the first is the more urgent
 abbrev pub IsListedBefore : Queued → Queued → Type 0
 IsListedBefore a b = a.key.input ≡ b.key.input → a.cell.output ≡ b.cell.output → IsBefore a b
 
+-- a buffered cell stands before another: by output, and then by key
 abbrev pub IsBufferedBefore : Queued → Queued → Type 0
 IsBufferedBefore a b = (a.cell.output < b.cell.output) ⊎ ((a.cell.output ≡ b.cell.output) × IsBefore a b)
 
+-- a departure is before another: by slot, and then by output
 abbrev pub IsSentBefore : Gone → Gone → Type 0
 IsSentBefore a b = (a.slot < b.slot) ⊎ ((a.slot ≡ b.slot) × (a.queued.cell.output < b.queued.cell.output))
 
+-- the lists stand by input, and the cells of each for one output by their keys
 pub record ListsStand (listed : List Queued) : Type 0 where
   pub inputs : AllPairs IsNoLaterInput listed
   pub keys : AllPairs IsListedBefore listed
 
+-- the buffers stand by output, and the cells of each by their keys
 abbrev pub BuffersStand : List Queued → Type 0
 BuffersStand buffered = AllPairs IsBufferedBefore buffered
 
@@ -99,6 +109,7 @@ BuffersStand buffered = AllPairs IsBufferedBefore buffered
 abbrev pub IsTimely : ℕ → Gone → Type 0
 IsTimely next g = (g.queued.key.slot ≤ g.slot) × (g.slot < next)
 
+-- the departures stand by slot and then by output, and each has its time
 pub record SentStand (next : ℕ) (sent : List Gone) : Type 0 where
   pub ordered : AllPairs IsSentBefore sent
   pub timely : AllByRecursion (IsTimely next) sent
@@ -137,14 +148,17 @@ Leaves a b (Some s) None = ⊤
 Leaves a b None (Some t) = ⊥
 Leaves a b None None = IsBefore a b
 
+-- so it is with two names, where they are of one flow
 abbrev pub LeavesEarlier : Name → Name → Type 0
 LeavesEarlier a b = InOneFlow a b → Leaves a.queued b.queued a.sent b.sent
 
+-- the cells of each flow leave in the order of arrival
 abbrev pub FlowsStand : List Name → Type 0
 FlowsStand names = AllPairs LeavesEarlier names
 
 -- ## Floors
 
+-- a cell is of its class's level, and its rank no greater than the floor of its class
 pub record StandsBelow (setup : Setup) (ranks : List (List ℕ)) (q : Queued) : Type 0 where
   pub level : q.key.level ≡ (machine_at (machines_of setup) q.cell.output).level q.cell.class
   pub rank : q.key.rank
@@ -162,6 +176,7 @@ IsWholePacket limits next came names a =
     AllByRecursion (λ b. has_name names b ≡ true) (packet_before came next a)
     ⊎ (AllByRecursion (λ b. has_name names b ≡ false) (packet_before came next a) × HasLimit limits a.cell.output)
 
+-- each packet that has begun is whole in this sense
 abbrev pub PacketsStand : List (Option ℕ) → ℕ → List Arrival → List Name → Type 0
 PacketsStand limits next came names =
     AllByRecursion (λ a. a.cell.id.index ≡ 0 → a.slot < next → IsWholePacket limits next came names a) came
@@ -194,6 +209,7 @@ ComesNext a b = (a.slot < b.slot) ×
     (((b.cell.id.packet ≡ a.cell.id.packet) × (b.cell.id.index ≡ a.cell.id.index + 1) × (b.cell.output ≡ a.cell.output))
     ⊎ ((a.cell.id.packet < b.cell.id.packet) × (b.cell.id.index ≡ 0)))
 
+-- these cells come one after another behind that one
 abbrev pub ComeBehind : Arrival → List Arrival → Type 0
 ComeBehind a [] = ⊤
 ComeBehind a (b ∷ line) = ComesNext a b × ComeBehind b line
@@ -217,9 +233,11 @@ pub record ArePackets (ports : ℕ) (came : List Arrival) : Type 0 where
 abbrev pub coming : ℕ → ℕ → ℕ → List Arrival → List Arrival
 coming input from next came = filter (λ a. nat_le from a.slot && nat_lt a.slot next) (filter (is_from input) came)
 
+-- whether an output has a limit
 abbrev pub has_limit : List (Option ℕ) → ℕ → Bool
 has_limit limits j = is_some (slice_index_or limits j None)
 
+-- whether two answers are one
 abbrev pub is_same : Bool → Bool → Bool
 is_same true b = b
 is_same false b = not b

@@ -26,9 +26,11 @@ use Rattle.cq_state.specs.declared.state.State.{State}
 abbrev pub named_as : Queued → Named
 named_as q = record { level = q.key.level; rank = q.key.rank; slot = q.key.slot; input = q.key.input }
 
+-- a departure by the name of its cell
 abbrev pub sent_as : Departure → Sent
 sent_as d = record { slot = d.slot; cell = named_as d.queued }
 
+-- what was seen of a list, of all that was seen of its input
 abbrev pub seen_as : InputFigures → Seen
 seen_as x = record { longest = x.longest; slack = x.slack }
 

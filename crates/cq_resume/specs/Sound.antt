@@ -43,10 +43,11 @@ pub record StandInOrder (w : Switch) (s : State) : Type 0 where
 abbrev pub HaveSlack : Switch → State → Type 0
 HaveSlack w s = HasSlack 1 (fabric_told w.came s)
 
--- the arrivals are all named; or none of them is
+-- the arrivals are all named
 abbrev pub AllNamed : State → List Arrival → Type 0
 AllNamed s arrivals = All (λ b. is_named (named_in s) b ≡ true) arrivals
 
+-- none of them is named
 abbrev pub NoneNamed : State → List Arrival → Type 0
 NoneNamed s arrivals = All (λ b. is_named (named_in s) b ≡ false) arrivals
 
@@ -78,6 +79,7 @@ pub record IsBelowFloor (w : Switch) (s : State) (c : Named) : Type 0 where
       ≤ (machine_at w.machines (output_of w.came c)).floor (slice_index_or s.ranks (output_of w.came c) [])
       (class_of w.came c)
 
+-- so each cell that waits does
 abbrev pub AreBelowFloors : Switch → State → Type 0
 AreBelowFloors w s = All (IsBelowFloor w s) (queued_in s)
 

@@ -30,10 +30,11 @@ pub record AreFoundIn (t : Tables) (c : Scheduled) (s : State) (f : Found) : Typ
   pub found : IsFound c.came s f
   pub arrivals : AreArrivals c.came s
 
--- the cells are those of a switch of this setup
+-- the cell is one of a switch of this setup
 abbrev pub IsCellFor : Setup → Queued → Type 0
 IsCellFor setup q = (q.cell.output < length setup.kinds) × (q.cell.class < length setup.classes)
 
+-- so is each cell that waits
 abbrev pub AreCellsFor : Setup → Found → Type 0
 AreCellsFor setup f =
     AllByRecursion (IsCellFor setup) f.listed.items × AllByRecursion (IsCellFor setup) f.buffered.items

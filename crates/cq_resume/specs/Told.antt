@@ -15,19 +15,21 @@ use Rattle.cq_state.specs.declared.state.State.{State}
 abbrev pub arriving_cell : List Arrival → Named → Option Cell
 arriving_cell came c = arriving_at came c.slot c.input
 
--- the output and the class of a cell, and 0 where there is none
+-- the output of a cell, and 0 where there is none
 abbrev pub output_in : Option Cell → ℕ
 output_in None = 0
 output_in (Some cell) = cell.output
 
+-- its class, and 0 where there is none
 abbrev pub class_in : Option Cell → ℕ
 class_in None = 0
 class_in (Some cell) = cell.class
 
--- its output and its class
+-- the output of the cell of this name
 abbrev pub output_of : List Arrival → Named → ℕ
 output_of came c = output_in (arriving_cell came c)
 
+-- and its class
 abbrev pub class_of : List Arrival → Named → ℕ
 class_of came c = class_in (arriving_cell came c)
 
@@ -43,10 +45,11 @@ is_ahead a b = is_before (key_of a) (key_of b)
 abbrev pub queued_of : List Arrival → Named → Option Queued
 queued_of came c = option_map (λ cell. record { cell = cell; key = key_of c }) (arriving_cell came c)
 
--- the cells that wait, at inputs and at outputs, and all cells that are named
+-- the cells that wait, at inputs and at outputs
 abbrev pub queued_in : State → List Named
 queued_in s = s.listed ++ s.buffered
 
+-- all cells that are named: those, and the ones that were sent
 abbrev pub named_in : State → List Named
 named_in s = queued_in s ++ map (λ d. d.cell) s.sent
 
@@ -54,10 +57,11 @@ named_in s = queued_in s ++ map (λ d. d.cell) s.sent
 abbrev pub is_named : List Named → Arrival → Bool
 is_named names a = list_any (λ c. c.slot == a.slot && c.input == a.cell.id.input) names
 
--- the list of input i, and the buffer of output j
+-- the list of input i
 abbrev pub list_told : List Arrival → State → ℕ → List Queued
 list_told came s i = filter_map (queued_of came) (filter (λ c. c.input == i) s.listed)
 
+-- and the buffer of output j
 abbrev pub buffer_told : List Arrival → State → ℕ → List Queued
 buffer_told came s j = filter (is_for j) (filter_map (queued_of came) s.buffered)
 

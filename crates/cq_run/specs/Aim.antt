@@ -28,7 +28,7 @@ pub data Aim : Type 0 where
   -- the text, under this name, of the state of the crossbar switch after so many slots with the packets of these
   -- captures
   Parting : Tables → List (List Captured) → (slots : ℕ) → (name : List ℕ) → Aim
-  -- what the crossbar switch does with the packets of these captures from the state on whose text this is
+  -- what the crossbar switch does with the packets of these captures, where it goes on from the state of this text
   Resuming : Tables → List (List Captured) → (text : List ℕ) → Aim
 
 -- the plan meets the aim

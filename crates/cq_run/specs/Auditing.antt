@@ -17,8 +17,7 @@ use Rattle.cq_run.specs.declared.refusal.Refusal.TheVariants.{Audit}
 use Rattle.cq_run.specs.declared.stop.Halt.{Halt}
 use Rattle.cq_run.specs.declared.stop.Halt.TheVariants.{Refused, NoMemory}
 
--- ## What a refusal of the log comes to
-
+-- what a refusal of the log comes to; want of memory is none
 abbrev pub halt_for_log : AuditRefusal → Halt
 halt_for_log of_log.NoMemory = NoMemory
 halt_for_log refusal = Refused (Audit (Log refusal))

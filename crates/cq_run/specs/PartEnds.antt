@@ -55,12 +55,14 @@ pub record IsResuming (t : Tables) (captures : List (List Captured)) (text : Lis
 
 -- ## Why the program stops
 
+-- where a text is not taken as a state
 abbrev pub halt_for_state : StateRefusal → Halt
 halt_for_state (of_state.Text line) = Refused (State (Line line))
 halt_for_state of_state.Shape = Refused (State Shape)
 halt_for_state (of_state.Unsound clause) = Refused (State (Unsound clause))
 halt_for_state of_state.NoMemory = NoMemory
 
+-- and where a state has no text
 abbrev pub halt_for_text : StateLong → Halt
 halt_for_text of_text.Long = Refused (State Long)
 halt_for_text of_text.NoMemory = NoMemory

@@ -95,10 +95,11 @@ short_or long bytes = if nat_lt longest_text (length bytes) then Err long else O
 abbrev pub short_in : Refusal → List ℕ → Contents → Result (List ℕ) Refusal
 short_in long name m = named m name >>= short_or long
 
--- the trace or the log of this name
+-- the bytes of a trace or of a log; one that is too long gets this no before it is looked at
 abbrev pub text_or_long : Denial → List ℕ → Result (List ℕ) Refusal
 text_or_long long bytes = short_or (Denied long) bytes
 
+-- the trace or the log of this name
 abbrev pub text_in : Denial → List ℕ → Contents → Result (List ℕ) Refusal
 text_in long name m = named m name >>= text_or_long long
 

@@ -29,10 +29,11 @@ pub record IsFabricRun (t : Tables) (came : List Arrival) (rs : List LimitedReco
   pub runs : LimitedWholeRun IsInputBest t.limits (machines_of t.setup) came
       (empty_limited_fabric (ports_of t.setup) (openings_of t.setup)) rs end
 
--- the departures of a run, and its refused cells
+-- the departures of a run
 abbrev pub departures_in_run : List LimitedRecord → List Departure
 departures_in_run rs = departures_of 0 (gone_in (slots_in rs))
 
+-- and its refused cells
 abbrev pub refused_in_run : List LimitedRecord → List Cell
 refused_in_run rs = refused_in (admissions_in rs)
 

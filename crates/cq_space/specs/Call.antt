@@ -1,6 +1,7 @@
--- The calls of a file space that can fail. Those that begin something have the name.
+-- The calls of a file space.
 use Rattle.std.specs.Prelude.{ℕ, List}
 
+-- the calls that can fail; those that begin something have the name
 pub data Call : Type 0 where
   StartRead : (name : List ℕ) → Call
   Read : Call

@@ -23,6 +23,7 @@ at_most a b c h k = omega arith
 itself : (a : ℕ) → a ≤ a
 itself a = omega arith
 
+-- what files in memory keep lasts
 pub cuts_last : Lasts KeepsCuts
 cuts_last = record {
   none =
@@ -49,12 +50,14 @@ cuts_last = record {
   };
 }
 
+-- so does what they keep where no writing is begun
 pub unbegun_lasts : Lasts IsUnbegun
 unbegun_lasts = record {
   none = λ s. record { kept = cuts_last.none s; begun = refl };
   both = λ s t u h k. record { kept = cuts_last.both s t u h.kept k.kept; begun = k.begun ∙ h.begun };
 }
 
+-- and what a sink in memory keeps
 pub cut_lasts : Lasts KeepsCut
 cut_lasts = record {
   none = λ s. record { cut = refl; faults = itself s.faults; later = itself s.starved; counted = inl refl };

@@ -15,9 +15,11 @@ use Rattle.cq_state.specs.StateText.{Line}
 abbrev pub number_at : List (Option ℕ) → ℕ → ℕ
 number_at fs i = unwrap_or (get_or fs i None) 0
 
+-- what the line of an input tells
 abbrev pub seen_of : List (Option ℕ) → Seen
 seen_of fs = record { longest = number_at fs 1; slack = get_or fs 2 None }
 
+-- the numbers that the line of a rank machine tells, behind its output
 abbrev pub rank_of : List (Option ℕ) → List ℕ
 rank_of fs = map (λ f. unwrap_or f 0) (drop 1 fs)
 
@@ -30,9 +32,11 @@ named_of fs i = record {
   input = number_at fs (i + 3);
 }
 
+-- the departure that a line tells
 abbrev pub sent_of : List (Option ℕ) → Sent
 sent_of fs = record { slot = number_at fs 0; cell = named_of fs 1 }
 
+-- the transfer that a line tells
 abbrev pub moved_of : List (Option ℕ) → Transfer
 moved_of fs = record {
   slot = number_at fs 0;
@@ -42,6 +46,7 @@ moved_of fs = record {
   id = record { input = number_at fs 2; packet = number_at fs 4; index = number_at fs 5 };
 }
 
+-- the head, with what the line of the shape tells
 abbrev pub with_shape : Head → List (Option ℕ) → Head
 with_shape h fs = record h {
   ports = number_at fs 0;
@@ -50,6 +55,7 @@ with_shape h fs = record h {
   total = number_at fs 3;
 }
 
+-- the head, with what the line of the sum tells
 abbrev pub with_sum : Head → List (Option ℕ) → Head
 with_sum h fs = record h { proposals = number_at fs 0; most = number_at fs 1 }
 
@@ -67,18 +73,21 @@ added kind.Sent fs s = record s { sent = s.sent ++ sent_of fs ∷ [] }
 added kind.Moved fs s = record s { moved = s.moved ++ moved_of fs ∷ [] }
 added kind.End fs s = s
 
--- what the numbers of a line are below
+-- the numbers of the line of the shape are below these
 abbrev pub AreShape : List (Option ℕ) → Type 0
 AreShape fs = (number_at fs 0 < 2 ^ 16) × (number_at fs 1 < 2 ^ 16) × (number_at fs 2 < 2 ^ 63) × (number_at fs 3 <
     2 ^ 63)
 
+-- those of the line of an input
 abbrev pub AreSeen : List (Option ℕ) → Type 0
 AreSeen fs = (number_at fs 1 < 2 ^ 63) × (number_at fs 2 < 2 ^ 63)
 
+-- those of a cell whose level stands in this place
 abbrev pub AreNamedAt : List (Option ℕ) → ℕ → Type 0
 AreNamedAt fs i = (i < 2) × (number_at fs i < 2 ^ 8) × (number_at fs (i + 2) < 2 ^ 63) × (number_at fs (i + 3) < 2 ^
     16)
 
+-- and those of the line of a transfer
 pub record AreMoved (fs : List (Option ℕ)) : Type 0 where
   pub slot : number_at fs 0 < 2 ^ 63
   pub phase : number_at fs 1 < 2 ^ 8

@@ -88,24 +88,27 @@ head_lines h =
 abbrev pub line_by : {X : Type 0} → Kind → (X → List (Option ℕ)) → X → Line
 line_by k fields x = record { kind = k; fields = fields x }
 
--- the line of input i, and that of the rank machine of output j
+-- the line of input i
 abbrev pub input_line : ℕ → Seen → Line
 input_line i x = record { kind = kind.Input; fields = Some i ∷ Some x.longest ∷ x.slack ∷ [] }
 
+-- and that of the rank machine of output j
 abbrev pub rank_line : ℕ → List ℕ → Line
 rank_line j ns = numbers kind.Rank (j ∷ ns)
 
--- the numbers that name a cell, and the line of one that waits
+-- the numbers that name a cell
 abbrev pub cell_numbers : Named → List ℕ
 cell_numbers c = c.level ∷ c.rank ∷ c.slot ∷ c.input ∷ []
 
+-- the line of a cell that waits
 abbrev pub cell_line : Kind → Named → Line
 cell_line k c = numbers k (cell_numbers c)
 
--- the line of a departure, and that of a transfer
+-- the line of a departure
 abbrev pub sent_line : Sent → Line
 sent_line d = numbers kind.Sent (d.slot ∷ cell_numbers d.cell)
 
+-- and that of a transfer
 abbrev pub moved_line : Transfer → Line
 moved_line t = numbers kind.Moved (t.slot ∷ t.phase ∷ t.input ∷ t.output ∷ t.id.packet ∷ t.id.index ∷ [])
 

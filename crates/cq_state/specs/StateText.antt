@@ -38,6 +38,7 @@ needed ports Sent = 0
 needed ports Moved = 0
 needed ports k = 1
 
+-- whether there may be more of a kind than are needed
 abbrev pub is_free : Kind → Bool
 is_free Listed = true
 is_free Buffered = true
@@ -53,6 +54,7 @@ between least most = record { least = least; most = most; or_none = false }
 abbrev pub count : Range
 count = between 0 (2 ^ 63 - 1)
 
+-- and the same where there may be none
 abbrev pub count_or_none : Range
 count_or_none = record { least = 0; most = 2 ^ 63 - 1; or_none = true }
 

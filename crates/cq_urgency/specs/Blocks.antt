@@ -51,6 +51,7 @@ without_first (block ∷ blocks) = if length block == 1 then blocks else drop 1 
 abbrev pub in_order : List (List Queued) → List ℕ → List (List Queued)
 in_order pool order = map (λ number. block_at pool number) order
 
+-- 1 where it is so
 abbrev pub bit : Bool → ℕ
 bit true = 1
 bit false = 0
