@@ -158,9 +158,9 @@ impl<R: Rank> Engine<R> {
     /// An engine that goes on from a state in which another stood still, with an input and an output for each rank, and
     /// is not stopped. The ranks take on the states of their machines. List i has room for `from_inputs[i]` cells and
     /// buffer j for `to_outputs[j]`, those that it begins with included, which have to fit; output j has the limit
-    /// `limits[j]`, or none. All memory that a slot needs is taken here. The first slot looks at all cells that wait,
-    /// since nothing is known yet of their slack. The error is want of memory, and comes too where an output holds more
-    /// cells than 64 bits count, which no memory has.
+    /// `limits[j]`, or none. In a slot so many workers at most propose at once. All memory that a slot needs is taken
+    /// here. The first slot looks at all cells that wait, since nothing is known yet of their slack. The error is want
+    /// of memory, and comes too where an output holds more cells than 64 bits count, which no memory has.
     pub fn thaw(
         alloc: Global,
         ranks: Vec<R>,

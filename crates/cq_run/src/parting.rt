@@ -76,8 +76,8 @@ fn text_of_parted(
     )?)
 }
 
-/// What the crossbar switch does with these captures, one for each port, from the state on whose text this is. What it
-/// did before stands ahead of it.
+/// What the crossbar switch does with these captures, one for each port, where it goes on from the state of this text.
+/// What it did before stands ahead of it.
 pub fn resume_by_crossbar<R: Threads + Sync, G: Gate>(
     rt: &R,
     alloc: Global,

@@ -54,8 +54,8 @@ pub fn read_configuration<F: Files>(
     }
 }
 
-/// The bytes of the file of this name, a trace or a log. Where it has more than 268,435,456 of them an audit says this
-/// no, and they are not looked at.
+/// The bytes of the file of this name, a trace or a log, if it has at most 268,435,456 of them. Where it has more, the
+/// audit says no by `long`. They are not looked at.
 pub fn read_text<F: Files>(
     alloc: Global,
     files: &mut F,
