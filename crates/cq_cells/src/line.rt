@@ -18,7 +18,9 @@ pub struct Row {
     pub start: u64,
     /// The number of its cells.
     pub cells: u32,
+    /// The output that it goes to.
     pub output: Port,
+    /// Its class.
     pub class: Class,
     /// How many bytes of it were captured.
     pub len: u32,

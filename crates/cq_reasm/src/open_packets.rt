@@ -12,6 +12,7 @@ use slab::Slab;
 use std::alloc::Global;
 use std::marker::Model;
 
+/// A packet that is open: its number, how many of its cells were taken, and their bytes in order.
 #[derive(Drop)]
 pub struct OpenPacket {
     number: u32,
@@ -19,6 +20,8 @@ pub struct OpenPacket {
     body: Vec<u8>,
 }
 
+/// The packets that are open, each at the place of its input and class. Contracts see at each place the packet that is
+/// open there, if one is.
 #[derive(Drop)]
 pub struct OpenPackets {
     alloc: Global,

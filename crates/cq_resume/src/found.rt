@@ -16,23 +16,31 @@ use std::alloc::{AllocError, Global};
 /// A cell that was sent, and when.
 #[derive(Clone, Copy)]
 pub struct Gone {
+    /// The slot in which it was sent.
     pub slot: Slot,
+    /// The cell, with its key.
     pub queued: Queued,
 }
 
 /// A cell that a state names, and when it was sent, if it was.
 #[derive(Clone, Copy)]
 pub struct Name {
+    /// The cell, with its key.
     pub queued: Queued,
+    /// The slot in which it was sent. None where it waits.
     pub sent: Option<Slot>,
 }
 
-/// The cells that a state names, in the order of its lines, and all of them by input and then by slot of arrival.
+/// The cells that a state names, in the order of its lines, and once more all together.
 #[derive(Drop)]
 pub struct Found {
+    /// Those in the lists of the inputs.
     pub listed: Vec<Queued>,
+    /// Those in the buffers of the outputs.
     pub buffered: Vec<Queued>,
+    /// Those that were sent.
     pub sent: Vec<Gone>,
+    /// All of them, by input and then by slot of arrival.
     pub names: Vec<Name>,
 }
 

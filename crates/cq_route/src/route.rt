@@ -34,6 +34,7 @@ impl Tables {
         }
     }
 
+    /// The class of a packet that arrives at the input with these fields.
     pub(crate) fn class_for(&self, input: Port, fields: &FrameParts) -> Class
         ensures { result ≡ class_for self.now input fields.now }
     {

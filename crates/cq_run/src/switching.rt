@@ -18,10 +18,12 @@ use cq_simulate::{
 use std::alloc::Global;
 use std::thread::Threads;
 
-/// What was sent, and the stamp from which its slots are counted, in nanoseconds.
+/// What was sent, and from when its slots are counted.
 #[derive(Drop)]
 pub struct Switched {
+    /// The departures, in order of slot, then output.
     pub sent: Departures,
+    /// The stamp from which slots are counted, in nanoseconds.
     pub t0: u64,
 }
 
@@ -44,10 +46,12 @@ impl Switched {
     }
 }
 
-/// What the crossbar switch did, and the stamp from which its slots are counted, in nanoseconds.
+/// What the crossbar switch did, and from when its slots are counted.
 #[derive(Drop)]
 pub struct Crossed {
+    /// What it did.
     pub run: PackedFabricRun,
+    /// The stamp from which slots are counted, in nanoseconds.
     pub t0: u64,
 }
 

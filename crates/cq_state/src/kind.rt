@@ -103,11 +103,14 @@ impl Kind {
     }
 }
 
-/// A line that is due: its kind, behind how many lines of its kind it comes, and how many ports there are.
+/// A line that is due.
 #[derive(Clone, Copy)]
 pub struct Due {
+    /// Its kind.
     pub kind: Kind,
+    /// Behind how many lines of its kind it comes.
     pub seen: u64,
+    /// How many ports there are, or 0 where no line has told it.
     pub ports: u16,
 }
 

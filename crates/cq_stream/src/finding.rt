@@ -16,6 +16,7 @@ use std::thread::yield_now;
 // Where the first record begins.
 const FIRST: u64 = FILE_HEADER as u64;
 
+/// Waits for the next order.
 pub(crate) fn next_order<R: Wait>(rt: &R, orders: &mut Consumer<Order>) -> Order
     ensures ring { SameConsumer orders.old orders.new }
     ensures received { received orders.new ≡ received orders.old ++ result ∷ [] }
@@ -29,6 +30,7 @@ pub(crate) fn next_order<R: Wait>(rt: &R, orders: &mut Consumer<Order>) -> Order
     unreachable!()
 }
 
+/// Does what the order says. Told to send, it tells the watch first. The answer is the fault that it met, if it did.
 pub(crate) fn obey<R: Wait, W: Watch>(
     rt: &R,
     order: Order,

@@ -50,6 +50,7 @@ impl DoneOf {
     ghost use Rattle.std.specs.Prelude.{◌≡◌};
     ghost use Rattle.cq_stream.specs.Stream.{promised};
 
+    /// The promise of what this reader leaves.
     pub(crate) fn of(reader: &Reader) -> DoneOf
         ensures { promised result ≡ reader.now }
     {

@@ -114,8 +114,11 @@ fn port_in(alloc: Global, index: usize, value: &Value) -> Result<PortEntry, Tabl
 /// The ports that elements tell.
 #[derive(Drop)]
 pub struct PortEntries {
+    /// The files of each port, in order.
     pub files: Vec<PortRow>,
+    /// The discipline of each output, in order.
     pub kinds: Vec<Kind>,
+    /// The limit of each output in cells, in order. None where it has no limit.
     pub limits: Vec<Option<u64>>,
 }
 

@@ -13,8 +13,11 @@ use toml::{Table, Value};
 /// A table of the document, with its place.
 #[derive(Clone, Copy)]
 pub struct Entries<'a> {
+    /// What gives memory for names and for the paths of refusals.
     pub alloc: Global,
+    /// Where the table stands.
     pub place: Place,
+    /// Its keys, with their values.
     pub table: &'a Table,
 }
 

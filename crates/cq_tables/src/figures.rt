@@ -12,7 +12,7 @@ use crate::refusal::TableRefusal;
 use crate::version::Version;
 use cq_base::{Class, Port};
 
-/// The version, and the figures as the fields of these names in the tables.
+/// The version, and the figures as the fields of these names in [`Tables`](cq_route::Tables), which say what they mean.
 #[derive(Clone, Copy)]
 pub struct Figures {
     pub version: Version,

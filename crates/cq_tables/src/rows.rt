@@ -111,8 +111,11 @@ const PORT_KEYS: [&str; 4] = ["read", "write", "discipline", "limit"];
 /// A port, as its table tells it.
 #[derive(Drop)]
 pub struct PortEntry {
+    /// Its files.
     pub files: PortRow,
+    /// The discipline of its output.
     pub kind: Kind,
+    /// The limit of its output in cells. None where it has no limit.
     pub limit: Option<u64>,
 }
 
