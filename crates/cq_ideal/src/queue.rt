@@ -26,7 +26,7 @@ impl Model for Queue {
 }
 
 impl Queue {
-    /// No cell waits, and there is room for so many.
+    /// No cell waits, and there is room for so many. The error is want of memory.
     pub fn new(alloc: Global, room: u64) -> Result<Queue, NoMemory>
         ensures cells { IfOk result (λ queue. queue.cells ≡ []) }
         ensures room { IfOk result (λ queue. queue.room ≡ room) }

@@ -37,7 +37,7 @@ fn none_wait(queues: &[Queue]) -> bool
 }
 
 impl Queues {
-    /// No cell waits, and the list of each output can hold so many.
+    /// No cell waits, and the list of each output can hold so many. The error is want of memory.
     pub fn new(alloc: Global, rooms: &[u64]) -> Result<Queues, NoMemory>
         ensures lists { IfOk result (λ queues. queues.lists ≡ replicate (length rooms.now) []) }
         ensures rooms { IfOk result (λ queues. queues.rooms ≡ rooms.now) }

@@ -44,7 +44,7 @@ impl Model for OpenPackets {
 }
 
 impl OpenPackets {
-    /// So many places, and no packet is open.
+    /// So many places, and no packet is open. The error is want of memory.
     pub fn new(alloc: Global, places: usize) -> Result<OpenPackets, NoMemory>
         ensures { IfOk result (λ t. t ≡ replicate places None) }
     {
@@ -59,7 +59,7 @@ impl OpenPackets {
     }
 
     /// Puts the piece of the cell with this number behind those of the packet that is open at the place, or
-    /// opens the packet with it, with memory for so many bytes.
+    /// opens the packet with it, with memory for so many bytes. The error is want of memory, and then all is as before.
     pub fn add(
         &mut self,
         place: usize,

@@ -58,7 +58,7 @@ fn forget(last: &mut [Option<Name>])
 }
 
 /// Whether the cells of each flow were sent in the order of arrival, and those that wait arrived after them and are
-/// to be sent in that order. The names stand by input and then by slot of arrival.
+/// to be sent in that order. The names stand by input and then by slot of arrival. The error is want of memory.
 pub fn keep_arrival_order(alloc: Global, names: &[Name], ports: u16) -> Result<bool, NoMemory>
     requires ordered { AllPairs IsNameBefore names.now }
     requires ports { ports ≤ most_ports }

@@ -95,7 +95,7 @@ fn walk(
 }
 
 /// What the arrivals before the next slot come to that are not named. None where a packet is named in part, or where
-/// one is not named whose output has no limit.
+/// one is not named whose output has no limit. The error is want of memory.
 pub fn tally_packets(
     alloc: Global,
     schedule: &Schedule,

@@ -1,4 +1,5 @@
-//! Building the bytes that a command comes to. Here nothing is read and nothing is written.
+//! Building the bytes that a command comes to. Here nothing is read and nothing is written. The error of each call is
+//! want of memory.
 ghost use Rattle.std.specs.Prelude.{◌≡◌, ◌∷◌, ◌++◌, ◌≤◌, [], All, IfOk, OnOk, length};
 ghost use Rattle.cq_run.specs.Terms.{HaveLeftOf, audited, capture_out, captures_out, check_line, checked, counted, file_alone, switched, under_names, yes_line, report_with, log_of, trace_of};
 

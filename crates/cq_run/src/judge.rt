@@ -248,8 +248,8 @@ fn send_ideally<R: Threads + Sync>(
     Ok(build_switched(alloc, tables, captures, switched)?)
 }
 
-/// What `run` comes to for a configuration, where captures are decoded by readers ahead of judging. The watch is told
-/// of each that begins, and changes no answer.
+/// What `run` comes to for a configuration, or its first refusal, where captures are decoded by readers ahead of
+/// judging. The watch is told of each that begins, and changes no answer.
 pub fn run_ahead<R, F: Files, G: Gate, W: Watch + 'static>(
     rt: R,
     alloc: Global,

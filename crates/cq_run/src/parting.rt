@@ -1,4 +1,5 @@
-//! Stopping a run over the captures that were read, and taking one up.
+//! Stopping a run over the captures that were read, and taking one up. The error of each call is why the run halts: a
+//! rank does not fit, the state is refused, its text would be too long, or memory ran out.
 //!
 //! What a function owns it lends to its last call, and drops by name behind it: this is one step of a proof, where the
 //! end of a scope is one for each field.

@@ -1,4 +1,5 @@
-//! Reading what a command names. Nothing is written here.
+//! Reading what a command names. Nothing is written here. The error of each call is why the run halts: what was read is
+//! refused, a name was unread, or memory ran out.
 ghost use Rattle.std.specs.Prelude.{◌≡◌, ◌≤◌, ◌∷◌, ◌++◌, [], IfErr, IfOk, IsTrue, OnOk, length};
 ghost use Rattle.cq_run.specs.Terms.{AreTables, ports_of, Fails, Reads, fault_of, Closed, IsFileOf, Halts, Judges, InTurn, Reader, is_no, meaning_of, halt_for, capture_in, captures_in, packets_at, short_in, state_in, tables_in, text_in, longest_file};
 

@@ -1,4 +1,5 @@
-//! Running a switch over the captures that were read.
+//! Running a switch over the captures that were read. The error of each call is why the run halts: a rank does not fit,
+//! an audit says no, or memory ran out.
 //!
 //! What a function owns it lends to its last call, and drops by name behind it, as in `judge`.
 ghost use Rattle.std.specs.Prelude.{◌≡◌, ◌≤◌, List, All, IfOk, IfErr, Ok, OnOk, length};

@@ -25,7 +25,8 @@ use std::thread::Threads;
 /// - `WriteFault`: the count of faults of the file space rose in a call that writes the name of the line, once
 ///   the files before it were whole, or that of `out` rose once all files were. The file of the line is as
 ///   before or has a front of its bytes, and those after it are as before.
-/// - `NoMemory`: there was not the memory to keep the words of a command, or to build all that is to be written.
+/// - `NoMemory`: there was not the memory to keep the words of a command and what they name, or to build all that is to
+///   be written.
 /// - `AuditNo`: the trace or the log that is audited is wrong, and the line says what is wrong first.
 /// - `State`: the state from which a run is to go on is refused, and the line says what is wrong first, or that of a
 ///   run that stops would be too long.

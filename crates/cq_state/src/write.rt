@@ -32,7 +32,7 @@ impl From<NoMemory> for StateLong {
 /// The most bytes that the text of a state may have.
 pub const LONGEST_TEXT: usize = LONGEST_FILE;
 
-/// The text of a state.
+/// The text of a state. The error is that it would have more than [`LONGEST_TEXT`] bytes, or want of memory.
 pub fn text_of(alloc: Global, state: &State) -> Result<Vec<u8>, StateLong>
     ensures text { IfOk result (λ text. text.items ≡ state_text state.now) }
     ensures short { IfOk result (λ text. length text.items ≤ longest_text) }

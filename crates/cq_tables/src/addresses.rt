@@ -101,7 +101,8 @@ fn address_in(
     address_row(entries, ports, known)
 }
 
-/// The addresses that the elements tell, among so many ports.
+/// The addresses that the elements tell, among so many ports. The error is the first check that does not hold, or want
+/// of memory.
 pub fn address_rows(
     alloc: Global,
     values: &[Value],

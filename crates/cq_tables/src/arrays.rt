@@ -1,4 +1,5 @@
-//! The arrays of a configuration, element by element.
+//! The arrays of a configuration, element by element. The error of each is the first check that does not hold, or want
+//! of memory.
 ghost use Rattle.std.specs.Prelude.{◌≡◌, ◌≤◌, ◌<◌, ◌++◌, ◌∷◌, [], None, IfOk, IfErr, IfSome, OnOk, All, map};
 ghost use Rattle.cq_tables.specs.Terms.{level_count, view, Refuses, each, first, class_keys, class_row, element_check, port_keys, port_kind, port_limit, port_row, rule_keys, rule_row, members};
 

@@ -1,4 +1,5 @@
-//! The tables of a document, and how their keys are read.
+//! The tables of a document, and how their keys are read. The error of each reading is the refusal for what is wrong at
+//! the key, or want of memory.
 ghost use Rattle.std.specs.Prelude.{◌≡◌, ◌≤◌, ◌<◌, ℕ, List, None, Some, IfOk, IfErr, IfSome, length, map};
 ghost use Rattle.std.specs.Int.{IsInRange};
 ghost use Rattle.cq_tables.specs.Terms.{get_member, view, table_view, Refuses, at, elements_at, number_below, found, found_or, key_check, optional, required, path, array_of, discipline, file_name, integer_in, integer_value, kind_value, text_value, wide_from, wide_value};

@@ -24,7 +24,7 @@ pub struct Figures {
     pub default_class: Class,
 }
 
-/// The figures of the table, each in its range.
+/// The figures of the table, each in its range. The error is the first check that does not hold, or want of memory.
 #[tactic(auto, unfolding(crate::specs::Check::first))]
 pub fn figures_in(entries: Entries) -> Result<Figures, TableRefusal>
     ensures held { IfOk result (λ _. first (checks_of (table_view entries.entry.table.now)

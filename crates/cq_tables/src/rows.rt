@@ -1,4 +1,5 @@
-//! The rows of the arrays, each read from one element.
+//! The rows of the arrays, each read from one element. The error of each is the first check that does not hold, or want
+//! of memory.
 ghost use Rattle.std.specs.Prelude.{◌≡◌, ◌≤◌, ◌<◌, None, IfOk, IfErr, IfSome, map};
 ghost use Rattle.cq_tables.specs.Terms.{level_count, view, table_view, Refuses, at, first, class_keys, class_row, level_in, level_keys, port_keys, port_kind, port_limit, port_row, rule_keys, rule_row, checks_of, no_other, table_checks, element_path, members, table_type};
 

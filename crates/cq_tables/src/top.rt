@@ -1,4 +1,4 @@
-//! The arrays of the top table.
+//! The arrays of the top table. The error of each is the first check that does not hold, or want of memory.
 ghost use Rattle.std.specs.Prelude.{◌≡◌, ◌≢◌, ◌≤◌, ◌<◌, None, IfOk, IfErr, IfSome, All, length, map};
 ghost use Rattle.std.specs.Int.{IsInRange};
 ghost use Rattle.std.specs.List.{AllPairs};
