@@ -3,8 +3,13 @@ ghost use Rattle.std.specs.Prelude.{◌≡◌, ◌<◌, ◌≤◌, ◌+◌, ◌^
 ghost use Rattle.cq_base.specs.Limits.{most_ports};
 ghost use Rattle.cq_ledger.specs.Views.{bit};
 
+use cq_base::{MOST_PORTS, Port};
+
+// The most words of a ledger: that of the claims, and one for each output.
+const MOST_WORDS: usize = MOST_PORTS + 1;
+
 /// The words at the start, in the first places: nobody is claimed, and nobody has proposed.
-pub(crate) fn first_words(ports: u16) -> [u64; 65]
+pub(crate) fn first_words(ports: u16) -> [u64; MOST_WORDS]
     requires { ports ≤ most_ports }
     ensures { take (ports + 1) result ≡ 0 ∷ replicate ports ports }
 {
@@ -13,14 +18,14 @@ pub(crate) fn first_words(ports: u16) -> [u64; 65]
     words
 }
 
-fn filled(word: u64) -> [u64; 65]
-    ensures { result ≡ replicate 65 word }
+fn filled(word: u64) -> [u64; MOST_WORDS]
+    ensures { result ≡ replicate (most_ports + 1) word }
 {
-    [word; 65]
+    [word; MOST_WORDS]
 }
 
 /// The number with the bit of an input alone.
-pub(crate) fn bit_of(input: u16) -> u64
+pub(crate) fn bit_of(input: Port) -> u64
     requires { input < 64 }
     ensures { result ≡ 2 ^ input }
 {
@@ -28,7 +33,7 @@ pub(crate) fn bit_of(input: u16) -> u64
 }
 
 /// Whether the number has the bit of an input.
-pub(crate) fn has_bit(word: u64, input: u16) -> bool
+pub(crate) fn has_bit(word: u64, input: Port) -> bool
     ensures { IsTrue result ↔ (bit word input ≡ 1) }
 {
     input < 64 && (word >> input) & 1 == 1
