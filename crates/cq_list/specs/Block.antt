@@ -9,6 +9,10 @@ use Rattle.cq_list.specs.Split.{count_of}
 abbrev pub most_places : ℕ
 most_places = 64
 
+-- the places of each half of a full block
+abbrev pub half_places : ℕ
+half_places = 32
+
 -- each output has as many of the places as its count says, and there are at most 64 places, of the first 64 outputs
 pub record AreCounts (places counts : List ℕ) : Type 0 where
   pub counted : (j : ℕ) → j < most_ports → slice_index counts j ≡ count_of j places

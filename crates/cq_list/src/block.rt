@@ -2,7 +2,7 @@
 ghost use Rattle.std.specs.Prelude.{◌≡◌, ◌+◌, ◌<◌, ◌≤◌, ◌++◌, [], Some, length, take, insert, remove, slice_get};
 ghost use Rattle.cq_base.specs.Limits.{most_ports};
 ghost use Rattle.cq_list.specs.Split.{is_output, place_of_nth, count_of};
-ghost use Rattle.cq_list.specs.Block.{most_places};
+ghost use Rattle.cq_list.specs.Block.{half_places, most_places};
 
 use arrayvec::ArrayVec;
 use cq_base::{MOST_PORTS, Port};
@@ -10,6 +10,9 @@ use std::marker::Model;
 
 /// The most places of a block.
 pub const MOST_PLACES: usize = 64;
+
+/// The places of each half of a full block.
+pub const HALF_PLACES: usize = MOST_PLACES / 2;
 
 /// At most 64 places of a list, each with its output, and how many of them are each output's. Contracts see the
 /// outputs.
@@ -152,11 +155,11 @@ impl Block {
     pub fn split_off(&mut self) -> Block
         requires { length self.old ≡ most_places }
         ensures whole { self.old ≡ self.new ++ result }
-        ensures front { length self.new ≡ 32 }
-        ensures back { length result ≡ 32 }
+        ensures front { length self.new ≡ half_places }
+        ensures back { length result ≡ half_places }
     {
         let mut back = Block::new();
-        'moved: for _ in 0..32_usize {
+        'moved: for _ in 0..HALF_PLACES {
             let output = self.remove(self.len() - 1);
             back.insert(0, output);
         }

@@ -7,7 +7,7 @@ ghost use Rattle.cq_list.specs.Split.{is_output, place_of_nth, count_of};
 ghost use Rattle.cq_list.specs.Places.{CanGrow, HasGrown, IsSpot, IsAhead, AreFilled, IsFilledUp, joined, least_places, pulled};
 ghost use Rattle.cq_list.specs.Block.{most_places};
 
-use crate::block::{Block, MOST_PLACES};
+use crate::block::{Block, HALF_PLACES, MOST_PLACES};
 use cq_base::{NoMemory, Port};
 use std::alloc::Global;
 use std::collections::VecDeque;
@@ -235,10 +235,10 @@ fn insert_and_split(block: &mut Block, place: usize, output: Port) -> Block
     ensures back { least_places ≤ length result }
 {
     let mut back = block.split_off();
-    if place < 32 {
+    if place < HALF_PLACES {
         block.insert(place, output);
     } else {
-        back.insert(place - 32, output);
+        back.insert(place - HALF_PLACES, output);
     }
     back
 }
@@ -348,7 +348,7 @@ fn fill_up(blocks: &mut VecDeque<Block>, at: usize)
     }
     let behind = &blocks[next];
     let many = behind.len();
-    if many <= 32 {
+    if many <= HALF_PLACES {
         join_next(blocks, at);
     } else {
         pull_next(blocks, at);
@@ -408,7 +408,7 @@ fn fill_first(first: &mut Block, others: &mut VecDeque<Block>)
     ensures filled { IsFilledUp first.old others.old.items first.new others.new.items }
     ensures capacity { deque_capacity others.new ≡ deque_capacity others.old }
 {
-    if others[0].len() <= 32 {
+    if others[0].len() <= HALF_PLACES {
         let next = others.pop_front().unwrap();
         first.append(&next);
     } else {

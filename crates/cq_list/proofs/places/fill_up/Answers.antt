@@ -6,14 +6,14 @@ use Rattle.cq_list.proofs.places.fill_up.Goals as goal
 pub returns-then-len-gt-LEAST_PLACES-clause-longer : goal.returns-then-len-gt-LEAST_PLACES-clause-longer
 returns-then-len-gt-LEAST_PLACES-clause-longer c = search (arith, rules, get_or_read)
 
-pub returns-then-many-le32 : goal.returns-then-many-le32
-returns-then-many-le32 c =
+pub returns-then-many-le-HALF_PLACES : goal.returns-then-many-le-HALF_PLACES
+returns-then-many-le-HALF_PLACES c =
     let inside : c.args.at + 1 < length c.args.blocks.now.items =
     let inside = c.requires.inside in omega arith in
     rw c.join_next.ensures.joined (search (rules, joined_in, filled_joined, spot_joined, longer_joined))
 
-pub returns-else-many-le32 : goal.returns-else-many-le32
-returns-else-many-le32 c =
+pub returns-else-many-le-HALF_PLACES : goal.returns-else-many-le-HALF_PLACES
+returns-else-many-le-HALF_PLACES c =
     let inside : c.args.at + 1 < length c.args.blocks.now.items = omega arith in
     let read = ap length (get_or_read c.args.blocks.now.items _ _ inside c.index-behind.ensures []) in
     let long : 32 < length (get_or c.args.blocks.now.items (c.args.at + 1) []) = omega arith in
