@@ -32,6 +32,6 @@ pub record BeginsWith (text : List ℕ) (f : Option ℕ) (rest : List ℕ) : Typ
 abbrev pub Fits : Option ℕ → Type 0
 Fits f = IfSome f (λ n. n < 2 ^ 128)
 
--- and each of these fields
+-- 128 bits hold each of these fields
 abbrev pub AllFit : List (Option ℕ) → Type 0
 AllFit fs = AllByRecursion Fits fs
