@@ -7,6 +7,10 @@ use Rattle.cq_base.specs.declared.cell.Queued.{Queued}
 abbrev pub most_cells : ℕ
 most_cells = 64
 
+-- the cells of each half of a full block
+abbrev pub half_cells : ℕ
+half_cells = 32
+
 -- so many cells of an array of 64, from its head on
 pub record IsPiece (cells : List Queued) (head len : ℕ) : Type 0 where
   pub inside : head + len ≤ most_cells
@@ -30,15 +34,17 @@ block_at blocks place = slice_index_or blocks place []
 abbrev pub cells_in_all : List (List Queued) → ℕ
 cells_in_all blocks = sum_by (λ block. length block) blocks
 
--- with the block at this place split in two, of which the first has 32 cells
+-- with the full block at this place split in two halves
 abbrev pub halved : List (List Queued) → ℕ → List (List Queued)
 halved blocks place =
-    insert (slice_set blocks place (take 32 (block_at blocks place))) (place + 1) (drop 32 (block_at blocks place))
+    insert (slice_set blocks place (take half_cells (block_at blocks place))) (place + 1)
+    (drop half_cells (block_at blocks place))
 
 -- with the upper half of one block in the place of another one
 abbrev pub parted : List (List Queued) → ℕ → ℕ → List (List Queued)
 parted blocks from to =
-    slice_set (slice_set blocks to (drop 32 (block_at blocks from))) from (take 32 (block_at blocks from))
+    slice_set (slice_set blocks to (drop half_cells (block_at blocks from))) from
+    (take half_cells (block_at blocks from))
 
 -- without the first cell, and without its block where this was the only cell of it
 abbrev pub without_first : List (List Queued) → List (List Queued)

@@ -5,7 +5,7 @@ use Rattle.cq_base.specs.declared.key.Key.{Key}
 use Rattle.cq_base.specs.declared.cell.Queued.{Queued}
 use Rattle.cq_base.specs.Key.{is_before}
 use Rattle.cq_base.specs.Cells.{IsRising}
-use Rattle.cq_urgency.specs.Blocks.{flattened, block_at, cells_in_all}
+use Rattle.cq_urgency.specs.Blocks.{flattened, block_at, cells_in_all, half_cells}
 
 -- the cells in the order of their keys, and how many more there is room for
 pub record Buffered : Type 0 where
@@ -19,7 +19,7 @@ cells_in buffers = map (λ buffer. buffer.cells) buffers
 -- no block is empty, and each but the first has 32 cells at least
 abbrev pub AreFilled : List (List Queued) → Type 0
 AreFilled [] = Unit {0}
-AreFilled (block ∷ blocks) = (0 < length block) × AllByRecursion (λ other. 32 ≤ length other) blocks
+AreFilled (block ∷ blocks) = (0 < length block) × AllByRecursion (λ other. half_cells ≤ length other) blocks
 
 -- what holds of the blocks of each buffer: the cells rise in their keys, and there can be as many blocks as ever are
 -- needed
@@ -28,7 +28,7 @@ pub record IsBuffer (blocks : List (List Queued)) (most len room : ℕ) : Type 0
   pub filled : AreFilled blocks
   pub counted : len ≡ length (flattened blocks)
   pub fits : len ≤ room
-  pub enough : most ≡ room / 32 + 1
+  pub enough : most ≡ room / half_cells + 1
 
 -- whether a block begins with a lesser key
 abbrev pub starts_before : Key → List Queued → Bool

@@ -1,13 +1,16 @@
 //! A few cells that wait next to each other.
 ghost use Rattle.std.specs.Prelude.{◌≡◌, ◌+◌, ◌-◌, ◌<◌, ◌≤◌, [], ◌∷◌, Some, length, take, drop, insert, slice_get};
 ghost use Rattle.cq_base.specs.Cells.{IsRising, cushion};
-ghost use Rattle.cq_urgency.specs.Blocks.{IsPiece, most_cells};
+ghost use Rattle.cq_urgency.specs.Blocks.{IsPiece, half_cells, most_cells};
 
 use cq_base::{Key, Queued};
 use std::marker::Model;
 
 /// The most cells of a block.
 pub const MOST_CELLS: usize = 64;
+
+/// The cells of each half of a full block.
+pub const HALF_CELLS: usize = MOST_CELLS / 2;
 
 /// At most 64 cells in order. Contracts see the cells.
 ///
@@ -159,11 +162,11 @@ impl Block {
         self.len = 1;
     }
 
-    /// Leaves the first 32 cells of a full block alone.
+    /// Leaves the first half of a full block alone.
     pub fn keep_half(&mut self)
         requires { length self.old ≡ most_cells }
-        ensures { self.new ≡ take 32 self.old }
+        ensures { self.new ≡ take half_cells self.old }
     {
-        self.len = 32;
+        self.len = HALF_CELLS;
     }
 }

@@ -1,9 +1,9 @@
 //! Cells in blocks, in an order of blocks.
 ghost use Rattle.std.specs.Prelude.{◌≡◌, ◌≢◌, ℕ, ◌+◌, ◌<◌, ◌≤◌, ◌^◌, ◌∷◌, ◌++◌, [], Some, IfOk, length, take, drop, insert, slice_get, slice_set, slice_index_or, vec_capacity};
 ghost use Rattle.std.specs.List.{sum_by};
-ghost use Rattle.cq_urgency.specs.Blocks.{flattened, block_at, cells_in_all, halved, parted, without_first, times, has, ComesIn, most_cells};
+ghost use Rattle.cq_urgency.specs.Blocks.{flattened, block_at, cells_in_all, half_cells, halved, parted, without_first, times, has, ComesIn, most_cells};
 
-use crate::block::Block;
+use crate::block::{Block, HALF_CELLS};
 use cq_base::{NoMemory, Queued};
 use std::alloc::Global;
 use std::collections::VecDeque;
@@ -79,12 +79,12 @@ fn move_upper(pool: &mut Vec<Block>, from: usize, to: usize)
     requires to { to < length pool.old.items }
     requires apart { to ≢ from }
     requires full { length (block_at pool.old.items from) ≡ most_cells }
-    requires first { block_at pool.old.items to ≡ take 1 (drop 32 (block_at pool.old.items from)) }
+    requires first { block_at pool.old.items to ≡ take 1 (drop half_cells (block_at pool.old.items from)) }
     ensures moved { pool.new.items ≡ parted pool.old.items from to }
     ensures capacity { vec_capacity pool.new ≡ vec_capacity pool.old }
 {
-    'moved: for place in 1..32_usize {
-        let queued = pool[from].at(place + 32);
+    'moved: for place in 1..HALF_CELLS {
+        let queued = pool[from].at(place + HALF_CELLS);
         pool[to].insert(place, queued);
     }
     pool[from].keep_half();
@@ -97,12 +97,12 @@ fn put_upper(pool: &mut Vec<Block>, free: &mut Vec<usize>, number: usize) -> usi
     requires full { length (block_at pool.old.items number) ≡ most_cells }
     requires within { (n : ℕ) → times n free.old.items ≤ has pool.old.items n }
     requires memory { length free.old.items ≡ 0 → length pool.old.items < vec_capacity pool.old }
-    ensures comes { ComesIn (slice_set pool.old.items number (take 32 (block_at pool.old.items number)))
-        free.old.items pool.new.items free.new.items (drop 32 (block_at pool.old.items number)) result }
+    ensures comes { ComesIn (slice_set pool.old.items number (take half_cells (block_at pool.old.items number)))
+        free.old.items pool.new.items free.new.items (drop half_cells (block_at pool.old.items number)) result }
     ensures pool { vec_capacity pool.new ≡ vec_capacity pool.old }
     ensures free { vec_capacity free.new ≡ vec_capacity free.old }
 {
-    let first = pool[number].at(32);
+    let first = pool[number].at(HALF_CELLS);
     let other = put_block(pool, free, first);
     move_upper(pool, number, other);
     other
@@ -276,11 +276,11 @@ impl Blocks {
         let other = put_upper(&mut self.pool, &mut self.free, number);
         self.order.insert(block + 1, other).unwrap();
         if block == 0 {
-            self.counts.push_front_reserved(32);
+            self.counts.push_front_reserved(HALF_CELLS);
             return;
         }
-        self.counts[block - 1] = 32;
-        self.counts.insert(block, 32).unwrap();
+        self.counts[block - 1] = HALF_CELLS;
+        self.counts.insert(block, HALF_CELLS).unwrap();
     }
 
     // Takes the first block away.

@@ -1,10 +1,10 @@
 //! The buffer of cells that wait at one output.
 ghost use Rattle.std.specs.Prelude.{◌≡◌, ◌+◌, ◌<◌, ◌≤◌, ◌/◌, ◌^◌, [], Some, IfOk, IfSome, length, drop, slice_get, is_some, if◌then◌else◌};
 ghost use Rattle.cq_base.specs.Cells.{HasOtherKey, IsRising, cushion, put};
-ghost use Rattle.cq_urgency.specs.Blocks.{flattened, block_at, most_cells};
+ghost use Rattle.cq_urgency.specs.Blocks.{flattened, block_at, half_cells, most_cells};
 ghost use Rattle.cq_urgency.specs.OutputBuffer.{AreFilled, AreBegun, IsSpot, starts_before};
 
-use crate::block::MOST_CELLS;
+use crate::block::{HALF_CELLS, MOST_CELLS};
 use crate::blocks::{Blocks, Spot};
 use cq_base::{Key, NoMemory, Queued, Sequence};
 use std::alloc::Global;
@@ -127,18 +127,19 @@ fn cushion_in(blocks: &Blocks, key: Key, len: u64) -> u64
     (blocks.ahead(spot.block, len as usize) + spot.within) as u64
 }
 
-// Where it stands once its block was split into two of 32.
+// Where it stands once its block was split into two halves.
 fn in_halves(spot: Spot) -> Spot
     requires { spot.block + 1 < 2 ^ 64 }
-    ensures front { spot.within ≤ 32 → result ≡ spot }
-    ensures back { 32 < spot.within → (result.block ≡ spot.block + 1) × (result.within + 32 ≡ spot.within) }
+    ensures front { spot.within ≤ half_cells → result ≡ spot }
+    ensures back { half_cells < spot.within →
+        (result.block ≡ spot.block + 1) × (result.within + half_cells ≡ spot.within) }
 {
-    if spot.within <= 32 {
+    if spot.within <= HALF_CELLS {
         return spot;
     }
     Spot {
         block: spot.block + 1,
-        within: spot.within - 32,
+        within: spot.within - HALF_CELLS,
     }
 }
 
@@ -148,7 +149,7 @@ fn spot_with_room(blocks: &mut Blocks, key: Key, room: u64) -> Spot
     requires filled { AreFilled blocks.old.blocks }
     requires some { 0 < length blocks.old.blocks }
     requires fits { length (flattened blocks.old.blocks) ≤ room }
-    requires enough { blocks.old.most ≡ room / 32 + 1 }
+    requires enough { blocks.old.most ≡ room / half_cells + 1 }
     ensures cells { flattened blocks.new.blocks ≡ flattened blocks.old.blocks }
     ensures filled { AreFilled blocks.new.blocks }
     ensures most { blocks.new.most ≡ blocks.old.most }
@@ -169,7 +170,7 @@ fn put_into(blocks: &mut Blocks, queued: Queued, room: u64)
     requires filled { AreFilled blocks.old.blocks }
     requires other_key { HasOtherKey queued (flattened blocks.old.blocks) }
     requires fits { length (flattened blocks.old.blocks) ≤ room }
-    requires enough { blocks.old.most ≡ room / 32 + 1 }
+    requires enough { blocks.old.most ≡ room / half_cells + 1 }
     ensures cells { flattened blocks.new.blocks ≡ put queued (flattened blocks.old.blocks) }
     ensures filled { AreFilled blocks.new.blocks }
     ensures most { blocks.new.most ≡ blocks.old.most }
@@ -189,7 +190,7 @@ impl OutputBuffer {
         ensures spare { IfOk result (λ buffer. buffer.spare ≡ room) }
     {
         Ok(OutputBuffer {
-            blocks: Blocks::new(alloc, room as usize / 32 + 1)?,
+            blocks: Blocks::new(alloc, room as usize / HALF_CELLS + 1)?,
             len: 0,
             room,
         })
