@@ -64,8 +64,11 @@ pub enum Command {
     },
 }
 
-// The greatest number of slots after which a run can stop: 2^63 - 1.
-const MOST_SLOTS: u64 = 9_223_372_036_854_775_807;
+// The greatest number of slots after which a run can stop.
+const MOST_SLOTS: u64 = (1 << 63) - 1;
+
+// The most slots in which made packets come.
+const MOST_SOAK_SLOTS: u64 = 20_000;
 
 /// The number of slots after which a run is to stop.
 pub fn slots_of(slots: &str) -> Option<u64>
@@ -80,6 +83,6 @@ pub fn soak(seed: &str, ports: &str, slots: &str) -> Option<Command>
 {
     let seed = number(seed, 0, u64::MAX)?;
     let ports = number(ports, 1, MOST_PORTS as u64)? as u16;
-    let slots = number(slots, 1, 20_000)? as u32;
+    let slots = number(slots, 1, MOST_SOAK_SLOTS)? as u32;
     Some(Command::Soak { seed, ports, slots })
 }
