@@ -154,26 +154,40 @@ impl Run {
     }
 
     /// Whether a run from this disk on stops after so many slots and writes its state alone, and what goes on from
-    /// there does all of the run.
-    fn is_resumed<R: Threads + Sync>(
+    /// there, where the gate is told of its workers' steps, does all of the run.
+    fn is_resumed<R: Threads + Sync, G: Gate>(
         &self,
         rt: &R,
         alloc: Global,
         slots: &str,
         disk: &mut Disk,
+        gate: &G,
     ) -> bool {
         let part: Call = (&["part", "c.toml", slots, "s.txt"], (0, "", ""));
         let resume = ["resume", "c.toml", "s.txt"];
         tells(rt, alloc, part, disk, &OpenGate)
             && disk.lacks(WRITTEN)
-            && self.is_done(rt, alloc, &resume, disk, &OpenGate)
+            && self.is_done(rt, alloc, &resume, disk, gate)
     }
 
     /// Whether a run that stops after so many slots writes its state alone, and what goes on from there does all of the
     /// run.
     pub fn goes_on<R: Threads + Sync>(&self, rt: &R, alloc: Global, slots: &str) -> bool {
         let mut disk = self.disk(alloc, 1);
-        self.is_resumed(rt, alloc, slots, &mut disk)
+        self.is_resumed(rt, alloc, slots, &mut disk, &OpenGate)
+    }
+
+    /// Whether what goes on from the first slot with so many workers does all of the run, where the gate is told of
+    /// their steps.
+    pub fn goes_on_watched<R: Threads + Sync, G: Gate>(
+        &self,
+        rt: &R,
+        alloc: Global,
+        workers: u8,
+        gate: &G,
+    ) -> bool {
+        let mut disk = self.disk(alloc, workers);
+        self.is_resumed(rt, alloc, "0", &mut disk, gate)
     }
 
     /// Whether the ideal switch sends from this disk on what the run sends, and touches no log.

@@ -1,4 +1,5 @@
-//! Two workers of one phase meet in a run of the whole program. It shows that both are at work at once.
+//! Two workers of one phase meet in a run of the whole program, and in one that goes on. It shows that both are at work
+//! at once.
 
 use cq_base::Port;
 use cq_crew::{Gate, LedgerSeat, Outcome};
@@ -9,18 +10,27 @@ use std::sync::atomic::AtomicU64;
 use std::sync::atomic::Ordering::SeqCst;
 use std::thread::Threads;
 
-/// Whether two workers do all of a run and meet, each with a proposal, none in vain.
+/// Whether two workers met at the gate, each with a proposal, none in vain.
+fn have_met(gate: &Meeting) -> bool {
+    // The first phase alone has two workers and two proposals.
+    [gate.in_vain(), gate.miscounted()] == [0, 0] && gate.proposals() == [1, 1, 0]
+}
+
+/// Whether two workers do all of a run and meet.
 fn meet<R: Threads + Sync>(rt: &R, alloc: Global) -> bool {
     let gate = Meeting::of(2);
-    let crosses = TWO_FOR_ONE.crosses_watched(rt, alloc, 2, &gate);
-    let faults = [gate.in_vain(), gate.miscounted()];
-    // The first phase alone has two workers and two proposals.
-    crosses && faults == [0, 0] && gate.proposals() == [1, 1, 0]
+    TWO_FOR_ONE.crosses_watched(rt, alloc, 2, &gate) && have_met(&gate)
+}
+
+/// Whether two workers do all of a run that goes on from its first slot, and meet.
+fn meet_again<R: Threads + Sync>(rt: &R, alloc: Global) -> bool {
+    let gate = Meeting::of(2);
+    TWO_FOR_ONE.goes_on_watched(rt, alloc, 2, &gate) && have_met(&gate)
 }
 
 #[test]
 fn two_workers_meet(rt: HostRuntime) {
-    assert!(rt; meet(&rt, rt.alloc()));
+    assert!(rt; meet(&rt, rt.alloc()) && meet_again(&rt, rt.alloc()));
 }
 
 /// Counts the claims that it is told of, and those of workers beyond the first two.
