@@ -2,7 +2,7 @@
 -- with the same digits are one. Digits with more digits behind them say a greater number, and 0 stands at the front
 -- of no other digit. So a text that goes on with digits behind those of one number begins with no lesser number, and
 -- with none at all behind a 0.
-use Rattle.cq_lines.proofs.Terms.{rules, ◌≡◌, ℕ, zero, suc, ◌+◌, ◌-◌, ◌*◌, ◌/◌, ◌%◌, ◌^◌, ◌<◌, ◌≤◌, ◌⊎◌, List, [], ◌∷◌, ◌++◌, map, drop, get_or, Option, None, Some, refl, ap, sym, subst, ◌∙◌, arith, lit≤, append_assoc, IsInRange, digits_of, number_from_digits_after, AllBelowBase, AllByRecursion, append-nil, number_digits_of, all_below_base_digits_of, first_digits_of, decimal, EndsDigits, BeginsWith, all_back, all_both, all_weaker, of_images, map-append, common_steps}
+use Rattle.cq_lines.proofs.Terms.{rules, ◌≡◌, ℕ, zero, suc, ◌+◌, ◌-◌, ◌*◌, ◌^◌, ◌<◌, ◌≤◌, ◌⊎◌, List, [], ◌∷◌, ◌++◌, map, drop, get_or, Option, None, Some, refl, ap, sym, subst, ◌∙◌, arith, lit≤, append_assoc, IsInRange, digits_of, number_from_digits_after, AllBelowBase, AllByRecursion, append-nil, number_digits_of, all_below_base_digits_of, first_digits_of, decimal, EndsDigits, BeginsWith, all_back, all_both, all_weaker, of_images, map-append, common_steps}
 use Rattle.cq_base.proofs.Decimals.{decimal_small, decimal_above, decimal_more}
 use Rattle.std.proofs.Math.ListN.{get_or-map}
 use Rattle.std.proofs.lemmas.Int.Digits.{number_after_append, number_after_ge}
@@ -11,12 +11,10 @@ abbrev pub AreDigits : List ℕ → Type 0
 AreDigits ds = AllByRecursion (IsInRange 48 57) ds
 
 digits_from_values : (ds : List ℕ) → AllBelowBase 10 ds → AreDigits (map (λ d. 48 + d) ds)
-digits_from_values ds a = of_images (λ d. 48 + d) (IsInRange 48 57) ds
-    (all_weaker (λ d. d < 10) (λ d. IsInRange 48 57 (48 + d)) (λ d small. (omega arith, omega arith)) ds a)
+digits_from_values ds a = grind (arith, common_steps, of_images, all_weaker)
 
 pub decimal_digits : (n : ℕ) → AreDigits (decimal n)
-decimal_digits zero = let e = decimal_small 0 (lit≤ tt) in
-    subst AreDigits (sym e) ((lit≤ tt, lit≤ tt), tt)
+decimal_digits zero = grind (arith, common_steps, decimal_small)
 decimal_digits (suc k) = subst AreDigits (sym (decimal_above (suc k) (omega arith))) (digits_from_values _
     (all_below_base_digits_of 10 (suc k) (lit≤ tt)))
 
@@ -47,8 +45,7 @@ pub digits_go_on : (a b x y : List ℕ) → AreDigits a → AreDigits b → Ends
     (ds : List ℕ) × (b ≡ a ++ ds) × (x ≡ ds ++ y)
 digits_go_on [] b x y p q ends e = (b, refl, e)
 digits_go_on (c ∷ a) [] x y p q ends e = absurd (subst EndsDigits (sym e) ends p.0)
-digits_go_on (c ∷ a) (d ∷ b) x y p q ends e =
-    let same : c ≡ d = cc in search (arith, rules, digits_go_on a b x y p.1 q.1 ends)
+digits_go_on (c ∷ a) (d ∷ b) x y p q ends e = grind (arith, common_steps, digits_go_on a b x y p.1 q.1 ends)
 
 nothing_goes_on : (ds x y : List ℕ) → AreDigits ds → EndsDigits x → x ≡ ds ++ y → ds ≡ []
 nothing_goes_on [] x y p ends e = refl
@@ -66,8 +63,7 @@ decimal_is_some n e =
     let zero_said : n ≡ 0 = sym (said_decimal n) ∙ ap (said_after 0) e in search (arith, rules, decimal_small)
 
 alone_behind_zero : (n d : ℕ) (ds : List ℕ) → decimal n ≡ 48 ∷ d ∷ ds → ⊥
-alone_behind_zero zero d ds e = let none : List ℕ = [] in
-    let clash = ap (drop 1) (sym (decimal_small 0 (lit≤ tt)) ∙ e) in absurd (let P : ⊥ = cc in P)
+alone_behind_zero zero d ds e = grind (arith, common_steps, decimal_small)
 alone_behind_zero (suc k) d ds e = let first = first_digit (suc k) (omega arith) in
     let is = ap (λ cs. get_or cs 0 48) e in omega arith
 
@@ -110,14 +106,11 @@ none_goes_on text rest after m d small e f why n end fits begins =
     let said = more_digits m n d more.0 (more.1 ∙ append_assoc (decimal m) one more.0) in omega arith
 
 pub digit_alone : (text rest : List ℕ) (n d : ℕ) → d < 10 → n ≡ d → text ≡ (48 + d) ∷ rest → text ≡ decimal n ++ rest
-digit_alone text rest n d small is e =
-    let digit : 48 + d ≡ 48 + n % 10 = omega arith in
-    e ∙ ap (λ c. c ∷ rest) digit ∙ ap (λ ds. ds ++ rest) (sym (decimal_small n (omega arith)))
+digit_alone text rest n d small is e = grind (arith, common_steps, decimal_small)
 
 pub one_digit_more : (text rest after : List ℕ) (m n d : ℕ) → d < 10 → 0 < m → n ≡ m * 10 + d →
     text ≡ decimal m ++ rest → rest ≡ (48 + d) ∷ after → text ≡ decimal n ++ after
-one_digit_more text rest after m n d small above is e f =
-    let whole : n / 10 ≡ m = omega arith in search (arith, rules, decimal_more, append_assoc)
+one_digit_more text rest after m n d small above is e f = grind (arith, common_steps, decimal_more, append_assoc)
 
 -- ## Fields
 

@@ -37,9 +37,7 @@ ending_begun (f ∷ fs) after = grind (arith, common_steps, append_assoc, ending
 next_field : (gs : List (Option ℕ)) (rest after more : List ℕ) → rest ≡ 32 ∷ after → rest ≡ ending gs ++ more →
     (g : Option ℕ) × (hs : List (Option ℕ)) × (gs ≡ g ∷ hs) × BeginsWith after g (ending hs ++ more)
 next_field [] rest after more e h = let is = ap (λ l. get_or l 0 0) (sym e ∙ h) in absurd (omega arith)
-next_field (g ∷ hs) rest after more e h =
-    let same = sym e ∙ h in
-    search (arith, rules, append_assoc, may_follow, ending_ends)
+next_field (g ∷ hs) rest after more e h = grind (arith, common_steps, append_assoc, may_follow, ending_ends)
 
 pub one_read_more : (text : List ℕ) (to : List (Option ℕ)) (count : ℕ) (rest after next : List ℕ) (f : Option ℕ) →
     ReadSoFar text to count rest → count < length to → rest ≡ 32 ∷ after → BeginsWith after f next →
@@ -128,32 +126,21 @@ pub record IsGathered (start word text bytes : List ℕ) (end : ℕ) (fs : List 
 
 pub still_before : (start text new : List ℕ) → take (length start) text ≡ start → take (length text) new ≡ text →
     take (length start) new ≡ start
-still_before start text new a b =
-    let few : length start ≤ length text = omega (arith, ap length a, length-take (length start) text) in
-    sym (take-take (length start) (length text) new few) ∙ ap (take (length start)) b ∙ a
+still_before start text new a b = grind (arith, common_steps, length-take, take-take)
 
 pub gathers_on : (start word text bytes text_on bytes_on : List ℕ) (end at end_on : ℕ) (fs : List (Option ℕ)) (i : ℕ)
     (d : Option ℕ) → i < length fs → IsGathered start word text bytes end (take i fs) →
     text_on ++ take at bytes ≡ text ++ take end bytes → take (length text) text_on ≡ text →
     take end_on bytes_on ≡ take at bytes ++ 32 ∷ field (get_or fs i d) → end_on < 128 → length bytes_on ≡ 128 →
     IsGathered start word text_on bytes_on end_on (take (i + 1) fs)
-gathers_on start word text bytes text_on bytes_on end at end_on fs i d inside had same begins put room long = record {
-  spelled =
-      let more = begun_more (take i fs) (get_or fs i d) in
-      search (arith, rules, append_assoc, more, take_more fs i d inside, had.spelled, same, put);
-  before = still_before start text text_on had.before begins;
-  room = room;
-  long = long;
-}
+gathers_on start word text bytes text_on bytes_on end at end_on fs i d inside had same begins put room long =
+    grind (arith, common_steps, begun_more, append_assoc, take_more, still_before)
 
 pub line_ends : (start word text bytes new : List ℕ) (end : ℕ) (fs : List (Option ℕ)) (i : ℕ) → length fs ≤ i →
     IsGathered start word text bytes end (take i fs) → new ≡ text ++ take (end + 1) (set bytes end 10) →
     new ≡ start ++ line word fs
 line_ends start word text bytes new end fs i past had put =
-    let inside : end < length bytes = omega (arith, had.room, had.long) in
-    let last = take_more_set bytes end 10 inside in
-    let all = ending_begun fs [] in
-    search (arith, rules, last, all, append_assoc, append-nil, take_all i fs past, had.spelled, put)
+    grind (arith, common_steps, take_more_set, ending_begun, append_assoc, append-nil, take_all)
 
 -- ## Within ranges
 
