@@ -1,8 +1,7 @@
 -- What the fields of a line tell. Fields are in the ranges of a kind of line exactly where they are the numbers of
 -- what the line tells, and these are in their own ranges. Fields are taken one by one, for each range asks for its
 -- own.
-use Rattle.cq_state.proofs.Terms.{rules, ◌≡◌, ℕ, zero, suc, ◌-◌, ◌^◌, ◌<◌, ◌≤◌, true, false, List, [], ◌∷◌, length, map, get_or, Option, None, Some, refl, ap, sym, ◌∙◌, arith, common_steps, length-map, ⊤, unwrap_or, AllByRecursion, Transfer, Range, Within, InRange, any_number, Head, Seen, Named, Shape, Moved, between, count, count_or_none, port, cell, ranges, IsCount, IsHead, IsSeen, AreRankNumbers, IsNamed, IsSent, IsMoved, cell_numbers, number_at, seen_of, rank_of, named_of, sent_of, moved_of}
-use Rattle.cq_state.specs.declared.state.Sent.{Sent}
+use Rattle.cq_state.proofs.Terms.{rules, ◌≡◌, ℕ, zero, suc, ◌-◌, ◌^◌, ◌<◌, ◌≤◌, true, false, List, [], ◌∷◌, length, map, get_or, Option, None, Some, refl, ap, sym, ◌∙◌, arith, common_steps, length-map, ⊤, unwrap_or, AllByRecursion, Range, Within, InRange, any_number, Seen, Named, Shape, Moved, between, count, count_or_none, port, cell, ranges, IsCount, IsSeen, AreRankNumbers, IsNamed, IsSent, IsMoved, cell_numbers, number_at, seen_of, rank_of, named_of, sent_of, moved_of}
 
 -- ## From numbers to fields
 
@@ -18,7 +17,7 @@ fits_within [] (f ∷ fs) h = absurd h
 fits_within (r ∷ rs) [] h = absurd h
 fits_within (r ∷ rs) (f ∷ fs) h = search (arith, rules, fits_within rs fs h.1)
 
-pub own_within : (i : ℕ) → i < 2 ^ 128 → InRange (between i i) (Some i)
+own_within : (i : ℕ) → i < 2 ^ 128 → InRange (between i i) (Some i)
 own_within i small = search (arith, rules)
 
 pub seen_within : (i : ℕ) (x : Seen) → i < 2 ^ 128 → IsSeen x →
@@ -44,36 +43,14 @@ rank_within j ns small is = record {
     at zero inside = own_within j small
     at (suc i) inside = search (arith, rules, length-map, numbers_within)
 
-low_in_range : (ports n : ℕ) → ports ≤ 64 → n < ports → InRange (port ports) (Some n)
+pub low_in_range : (ports n : ℕ) → ports ≤ 64 → n < ports → InRange (port ports) (Some n)
 low_in_range ports n few low = (omega arith, omega arith, omega arith)
 
-count_in_range : (n : ℕ) → IsCount n → InRange count (Some n)
+pub count_in_range : (n : ℕ) → IsCount n → InRange count (Some n)
 count_in_range n is = let small : n < 2 ^ 63 = is in (omega arith, omega arith, omega arith)
 
-named_fits : (ports : ℕ) (c : Named) → ports ≤ 64 → IsNamed ports c → Fits (cell ports) (map Some (cell_numbers c))
+pub named_fits : (ports : ℕ) (c : Named) → ports ≤ 64 → IsNamed ports c → Fits (cell ports) (map Some (cell_numbers c))
 named_fits ports c few is = grind (arith, common_steps, count_in_range, low_in_range)
-
-pub named_within : (ports : ℕ) (c : Named) → ports ≤ 64 → IsNamed ports c →
-    Within (cell ports) 0 (map Some (cell_numbers c))
-named_within ports c few is = fits_within _ _ (named_fits ports c few is)
-
-pub sent_within : (ports : ℕ) (d : Sent) → ports ≤ 64 → IsSent ports d →
-    Within (count ∷ cell ports) 0 (map Some (d.slot ∷ cell_numbers d.cell))
-sent_within ports d few is = fits_within _ _ (count_in_range d.slot is.0, named_fits ports d.cell few is.1)
-
-pub moved_within : (ports : ℕ) (t : Transfer) → ports ≤ 64 → IsMoved ports t →
-    Within (ranges ports 0 Moved) 0 (map Some (t.slot ∷ t.phase ∷ t.input ∷ t.output ∷ t.id.packet ∷ t.id.index ∷ []))
-moved_within ports t few is = grind (arith, common_steps, fits_within, count_in_range, low_in_range)
-
-pub shape_within : (h : Head) → IsHead h → Within (ranges 0 0 Shape) 0 (map Some (h.ports ∷ h.classes ∷ h.t0 ∷ h.total ∷
-    []))
-shape_within h is = grind (arith, common_steps, fits_within, count_in_range)
-
-pub count_within : (n : ℕ) → IsCount n → Within (count ∷ []) 0 (Some n ∷ [])
-count_within n is = fits_within _ _ (count_in_range n is, tt)
-
-pub counts_within : (m n : ℕ) → IsCount m → IsCount n → Within (count ∷ count ∷ []) 0 (Some m ∷ Some n ∷ [])
-counts_within m n is also = fits_within _ _ (count_in_range m is, (count_in_range n also, tt))
 
 -- ## From fields to numbers
 

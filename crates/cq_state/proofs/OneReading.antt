@@ -1,10 +1,12 @@
 -- A state's text is read in one way. The words of the kinds differ, and each ends where its first field or the line
--- ends, so a line tells its kind, and then its fields. The kinds that are due rise in the table, so a kind is due
--- once, and a line leads to one place.
-use Rattle.cq_state.proofs.Terms.{rules, ◌≡◌, ℕ, ◌<◌, ◌≤◌, ltb, cond, List, [], ◌∷◌, ◌++◌, Option, refl, arith, append_assoc, ⊤, append-nil, Kind, Version, Next, Shape, Sum, Input, Rank, Listed, Buffered, Sent, Moved, End, Line, Place, ComesAt, Comes, MayEnd, word, spelled, start, kinds, IsStateExact}
+-- ends, so a line tells its kind, and then its fields. The kinds of the table are different, so a kind is due once, and
+-- a line leads to one place.
+use Rattle.cq_state.proofs.Terms.{rules, ◌≡◌, ℕ, ltb, cond, List, [], ◌∷◌, ◌++◌, Option, refl, arith, append_assoc, append-nil, Kind, Line, Place, ComesAt, Comes, MayEnd, word, spelled, start, kinds, IsStateExact, ◌≢◌, AllByRecursion}
+use Rattle.cq_base.specs.Items.{EachPair}
 use Rattle.cq_lines.specs.Lines.{line, ending}
 use Rattle.cq_lines.proofs.Exact.{OneWay, exact}
 use Rattle.cq_lines.proofs.Walk.{one_line, line_is_some}
+use Rattle.cq_state.proofs.Written.{line_of}
 
 -- ## A line tells its kind
 
@@ -22,57 +24,35 @@ one_kind j k fs gs a b e = search (arith, rules, append-nil, append_assoc, no_wo
 
 same_line : (x y : Line) (a b : List ℕ) → spelled x ++ a ≡ spelled y ++ b → (x ≡ y) × (a ≡ b)
 same_line x y a b e =
-    let kind = one_kind x.kind y.kind x.fields y.fields a b e in search (arith, rules, one_line, of_parts)
-  where
-    of_parts : Kind → List (Option ℕ) → Line
-    of_parts k fs = record { kind = k; fields = fs }
+    let kind = one_kind x.kind y.kind x.fields y.fields a b e in search (arith, rules, one_line, line_of)
 
 -- ## A kind is due once
 
-order : Kind → ℕ
-order Version = 1
-order Next = 2
-order Shape = 3
-order Sum = 4
-order Input = 5
-order Rank = 6
-order Listed = 7
-order Buffered = 8
-order Sent = 9
-order Moved = 10
-order End = 11
+-- these kinds are different
+abbrev AreApart : List Kind → Type 0
+AreApart due = EachPair (λ j k. j ≢ k) due
 
--- these kinds rise, from above a number on
-abbrev Above : ℕ → List Kind → Type 0
-Above n [] = ⊤
-Above n (k ∷ due) = (n < order k) × Above (order k) due
+comes_other : (j : Kind) (due : List Kind) (seen ports : ℕ) (x : Line) (next : Place) →
+    AllByRecursion (λ k. j ≢ k) due → ComesAt due seen ports x next → j ≢ x.kind
+comes_other j [] seen ports x next a c = absurd c
+comes_other j (k ∷ due) seen ports x next a c = search (rules, comes_other j due 0 ports x next a.1)
 
-above_less : (m n : ℕ) (due : List Kind) → m ≤ n → Above n due → Above m due
-above_less m n [] l a = tt
-above_less m n (k ∷ due) l a = let high = a.0 in (omega arith, a.1)
-
-comes_above : (n : ℕ) (due : List Kind) (seen ports : ℕ) (x : Line) (next : Place) → Above n due →
-    ComesAt due seen ports x next → n < order x.kind
-comes_above n [] seen ports x next a c = absurd c
-comes_above n (k ∷ due) seen ports x next a c = search (rules, comes_above (order k) due 0 ports x next a.1)
-
-one_place : (n : ℕ) (due : List Kind) (seen ports : ℕ) (x : Line) (q r : Place) → Above n due →
+one_place : (due : List Kind) (seen ports : ℕ) (x : Line) (q r : Place) → AreApart due →
     ComesAt due seen ports x q → ComesAt due seen ports x r → q ≡ r
-one_place n [] seen ports x q r a c d = absurd c
-one_place n (k ∷ due) seen ports x q r a c d =
-    search (arith, rules, comes_above, one_place (order k) due 0 ports x q r a.1)
+one_place [] seen ports x q r a c d = absurd c
+one_place (k ∷ due) seen ports x q r a c d =
+    search (arith, rules, comes_other k due 0 ports x, one_place due 0 ports x q r a.1)
 
-still_above : (n : ℕ) (due : List Kind) (seen ports : ℕ) (x : Line) (q : Place) → Above n due →
-    ComesAt due seen ports x q → Above n q.due
-still_above n [] seen ports x q a c = absurd c
-still_above n (k ∷ due) seen ports x q a c = search (rules, above_less, still_above (order k) due 0 ports x q a.1)
+still_apart : (due : List Kind) (seen ports : ℕ) (x : Line) (q : Place) → AreApart due →
+    ComesAt due seen ports x q → AreApart q.due
+still_apart [] seen ports x q a c = absurd c
+still_apart (k ∷ due) seen ports x q a c = search (rules, still_apart due 0 ports x q a.1)
 
-rising : Above 0 kinds
-unfolding order
-rising = search arith
+all_apart : AreApart kinds
+all_apart = search rules
 
 pub state_is_exact : IsStateExact
-state_is_exact = exact spelled Comes (λ p. Above 0 p.due) way start MayEnd rising
+state_is_exact = exact spelled Comes (λ p. AreApart p.due) way start MayEnd all_apart
   where
-    way : OneWay spelled Comes (λ p. Above 0 p.due)
-    way = search (arith, rules, same_line, one_place, still_above, line_is_some)
+    way : OneWay spelled Comes (λ p. AreApart p.due)
+    way = search (arith, rules, same_line, one_place, still_apart, line_is_some)

@@ -1,11 +1,26 @@
 -- Reading a state's text line by line. What is gathered is what the lines that were read tell, and one line more adds
--- what it tells. Where the text may end, its lines are those of a state, so what is gathered is that state.
-use Rattle.cq_state.proofs.Terms.{rules, ◌≡◌, ◌≢◌, ℕ, ◌+◌, ◌^◌, ◌<◌, ◌≤◌, true, List, [], ◌∷◌, ◌++◌, length, refl, ap, sym, ◌∙◌, arith, length-append, common_steps, ◌==◌, eqb-true, append-nil, one_line_more, Kind, State, AreLow, added, gathered, nothing, place_of, IsInRange, state_text, Line, Place, ComesAt, Comes, MayEnd, spelled, IsStateFault}
-use Rattle.cq_state.proofs.Bounds.{are_low}
+-- what it tells: its numbers are within what the state keeps of them, since they are within the ranges of its kind.
+-- Where the text may end, its lines are those of a state, so what is gathered is that state.
+use Rattle.cq_state.proofs.Terms.{rules, ◌≡◌, ◌≢◌, ℕ, ◌+◌, ◌^◌, ◌<◌, ◌≤◌, true, List, [], ◌∷◌, ◌++◌, length, refl, ap, sym, ◌∙◌, arith, length-append, common_steps, ◌==◌, eqb-true, append-nil, one_line_more, Kind, State, AreLow, added, gathered, nothing, place_of, IsInRange, state_text, Line, Place, ComesAt, Comes, MayEnd, spelled, IsStateFault, get_or, Option, Range, Within, any_number, Moved, ranges, further, number_at}
 use Rattle.cq_state.proofs.Due.{ReadSoFar}
 use Rattle.cq_state.proofs.OneText.{each_told, state_again}
 use Rattle.cq_state.proofs.Written.{Completes}
 use Rattle.cq_state.specs.declared.next.Place as kept
+
+-- ## The numbers of a line
+
+number_low : (rs : List Range) (further : ℕ) (fs : List (Option ℕ)) (i : ℕ) → Within rs further fs → i < length rs →
+    number_at fs i ≤ (get_or rs i any_number).most
+number_low rs further fs i within inside = search (arith, rules)
+
+number_below : (rs : List Range) (further : ℕ) (fs : List (Option ℕ)) (i n : ℕ) → Within rs further fs → i < length rs →
+    (get_or rs i any_number).most < n → number_at fs i < n
+number_below rs further fs i n within inside low = let most = number_low rs further fs i within inside in omega arith
+
+are_low : (k : Kind) (fs : List (Option ℕ)) (ports index : ℕ) → ports < 2 ^ 16 →
+    Within (ranges ports index k) (further k) fs → AreLow k fs
+are_low Moved fs ports index few w = grind (arith, common_steps, number_low, number_below)
+are_low _ fs ports index few w = grind (arith, common_steps, number_low, number_below)
 
 -- the numbers of a line that comes are no greater than what is kept of them
 pub low_line : (due : List Kind) (seen ports : ℕ) (x : Line) (next : Place) → ports < 2 ^ 16 →

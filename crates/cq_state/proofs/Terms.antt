@@ -6,7 +6,7 @@ pub use Rattle.cq_lines.specs.Ranges.{InRange, Within, any_number}
 pub use Rattle.cq_lines.specs.declared.range.Range.{Range}
 pub use Rattle.cq_state.specs.Gather.{AreLow, AreNamedAt, added, gathered, moved_of, named_of, nothing, number_at, rank_of, seen_of, sent_of}
 pub use Rattle.cq_state.specs.{Places.place_of, declared.kind.Kind.Kind, declared.state.Head.Head, declared.state.Named.Named, declared.state.Seen.Seen, declared.state.State.State}
-pub use Rattle.cq_state.specs.State.{AreRankNumbers, IsCount, IsHead, IsInRange, IsMoved, IsNamed, IsSeen, IsSent, cell_line, cell_numbers, head_lines, input_line, line_by, moved_line, numbered, numbers, rank_line, sent_line, state_text}
+pub use Rattle.cq_state.specs.State.{AreRankNumbers, IsCount, IsHead, IsInRange, IsMoved, IsNamed, IsSeen, IsSent, cell_line, cell_numbers, head_lines, input_line, line_by, moved_line, numbered, numbers, parts, rank_line, sent_line, state_text}
 unfoldable pub use Rattle.cq_state.specs.State.{state_lines}
 pub use Rattle.cq_state.specs.StateText.{Comes, ComesAt, HasAll, HasRoom, IsStateExact, IsStateFault, IsStateText, Line, MayEnd, Place, between, cell, count, count_or_none, further, is_free, kinds, needed, port, ports_behind, ranges, spelled, start, word}
 pub use Rattle.cq_state.specs.declared.kind.Kind.TheVariants.{Buffered, End, Input, Listed, Moved, Next, Rank, Sent, Shape, Sum, Version}

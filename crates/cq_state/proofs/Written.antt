@@ -2,9 +2,12 @@
 -- part of the text comes where its kind is due, behind so many lines of it, if what stands behind the part completes
 -- the text from there on. And where a kind has all its lines, what completes the text where the next kind is due does
 -- so here.
-use Rattle.cq_state.proofs.Terms.{common_steps, rules, ◌≡◌, ℕ, ◌+◌, ◌^◌, ◌<◌, ◌≤◌, List, [], ◌∷◌, ◌++◌, length, map, refl, sym, subst, arith, lit≤, inr, AllByRecursion, Within, Kind, Input, Rank, Listed, Buffered, Sent, Moved, End, State, Line, Place, Comes, HasRoom, MayEnd, needed, ranges, further, ports_behind, start, IsStateText, IsInRange, state_lines, state_text, numbers, numbered, input_line, rank_line, cell_line, sent_line, moved_line, all_weaker}
+use Rattle.cq_state.proofs.Terms.{common_steps, rules, ◌≡◌, ℕ, ◌+◌, ◌<◌, ◌≤◌, List, [], ◌∷◌, ◌++◌, length, map, refl, sym, subst, arith, lit≤, inr, AllByRecursion, Within, Kind, Input, Rank, Listed, Buffered, Sent, Moved, End, State, Line, Place, Comes, HasRoom, MayEnd, needed, ranges, further, ports_behind, start, IsStateText, IsInRange, state_lines, state_text, numbers, numbered, input_line, rank_line, cell_line, sent_line, moved_line, all_weaker, Option, ap, head_lines}
 use Rattle.cq_lines.specs.Texts.{Leads}
-use Rattle.cq_state.proofs.Fields.{fits_within, count_within, counts_within, shape_within, seen_within, rank_within, named_within, sent_within, moved_within}
+use Rattle.cq_state.proofs.Fields.{count_in_range, fits_within, low_in_range, named_fits, rank_within, seen_within}
+
+abbrev pub line_of : Kind → List (Option ℕ) → Line
+line_of k fs = record { kind = k; fields = fs }
 
 abbrev pub at : List Kind → ℕ → ℕ → Place
 at due seen ports = record { due = due; seen = seen; ports = ports }
@@ -26,47 +29,48 @@ one_more : (k : Kind) (due : List Kind) (seen ports ports_next : ℕ) (x : Line)
 unfolding Completes
 one_more k due seen ports ports_next x xs own room within told c = grind (arith, common_steps)
 
--- a part of lines of a free kind
-free_part : {X : Type 0} (k : Kind) (due : List Kind) (ports : ℕ) (line : X → Line) (own : (x : X) →
-    (line x).kind ≡ k) (room : (seen : ℕ) → HasRoom ports k seen) (told : (x : X) →
-    ports ≡ ports_behind ports k (line x).fields) (xs : List X) (rest : List Line) →
-    AllByRecursion (λ x. (seen : ℕ) → Within (ranges ports seen k) (further k) (line x).fields) xs → ((seen : ℕ) →
-    Completes (at (k ∷ due) seen ports) rest) → (seen : ℕ) → Completes (at (k ∷ due) seen ports) (map line xs ++ rest)
-free_part k due ports line own room told [] rest all after seen = after seen
-free_part k due ports line own room told (x ∷ xs) rest all after seen =
-    one_more k due seen ports ports (line x) (map line xs ++ rest) (own x) (room seen) (all.0 seen) (told x)
-    (free_part k due ports line own room told xs rest all.1 after (seen + 1))
+-- a part of lines of one kind
+part : {X : Type 0} (k : Kind) (due : List Kind) (ports : ℕ) (line : ℕ → X → Line) (own : (i : ℕ) (x : X) →
+    (line i x).kind ≡ k) (told : (i : ℕ) (x : X) → ports ≡ ports_behind ports k (line i x).fields) (xs : List X)
+    (rest : List Line) (n ends : ℕ) → ends ≡ n + length xs → ((i : ℕ) → i < ends → HasRoom ports k i) →
+    ((i : ℕ) → i < ends → AllByRecursion (λ x. Within (ranges ports i k) (further k) (line i x).fields) xs) →
+    Completes (at (k ∷ due) ends ports) rest → Completes (at (k ∷ due) n ports) (numbered line n xs ++ rest)
+part k due ports line own told [] rest n ends size room all after =
+    let same : ends ≡ n = omega arith in rw (← same) after
+part k due ports line own told (x ∷ xs) rest n ends size room all after =
+    one_more k due n ports ports (line n x) _ (own n x) (room n (omega arith)) (all n (omega arith)).0 (told n x)
+    (part k due ports line own told xs rest (n + 1) ends (omega arith) room (λ i low. (all i low).1) after)
 
--- a part of numbered lines
-numbered_part : {X : Type 0} (k : Kind) (due : List Kind) (ports : ℕ) (line : ℕ → X → Line) (own : (i : ℕ) (x : X) →
-    (line i x).kind ≡ k) (told : (i : ℕ) (x : X) →
-    ports ≡ ports_behind ports k (line i x).fields) (xs : List X) (rest : List Line) (n : ℕ) →
-    n + length xs ≤ needed ports k → ((i : ℕ) → i < 2 ^ 128 →
-    AllByRecursion (λ x. Within (ranges ports i k) (further k) (line i x).fields) xs) → needed ports k ≤ 64 →
-    Completes (at (k ∷ due) (n + length xs) ports) rest →
-    Completes (at (k ∷ due) n ports) (numbered line n xs ++ rest)
-numbered_part k due ports line own told [] rest n few all low after = grind (arith, common_steps)
-numbered_part k due ports line own told (x ∷ xs) rest n few all low after =
-    grind (arith, common_steps, one_more, numbered_part k due ports line own told xs rest (n + 1))
+-- lines without numbers are counted all the same
+abbrev pub plain : {X : Type 0} → (X → Line) → ℕ → X → Line
+plain line n x = line x
+
+pub map_numbered : {X : Type 0} (line : X → Line) (n : ℕ) (xs : List X) → map line xs ≡ numbered (plain line) n xs
+map_numbered line n [] = refl
+map_numbered line n (x ∷ xs) = ap (λ ls. line x ∷ ls) (map_numbered line (n + 1) xs)
 
 -- the lines from a part on
 abbrev from_moved : State → List Line
-from_moved s = map moved_line s.moved ++ numbers End [] ∷ []
+from_moved s = numbered (plain moved_line) 0 s.moved ++ numbers End [] ∷ []
 
 abbrev from_sent : State → List Line
-from_sent s = map sent_line s.sent ++ from_moved s
+from_sent s = numbered (plain sent_line) 0 s.sent ++ from_moved s
 
 abbrev from_buffered : State → List Line
-from_buffered s = map (cell_line Buffered) s.buffered ++ from_sent s
+from_buffered s = numbered (plain (cell_line Buffered)) 0 s.buffered ++ from_sent s
 
 abbrev from_listed : State → List Line
-from_listed s = map (cell_line Listed) s.listed ++ from_buffered s
+from_listed s = numbered (plain (cell_line Listed)) 0 s.listed ++ from_buffered s
 
 abbrev from_ranks : State → List Line
 from_ranks s = numbered rank_line 0 s.ranks ++ from_listed s
 
-abbrev from_inputs : State → List Line
+abbrev pub from_inputs : State → List Line
 from_inputs s = numbered input_line 0 s.inputs ++ from_ranks s
+
+pub lines_are : (s : State) → state_lines s ≡ head_lines s.head ++ from_inputs s
+unfolding state_lines
+lines_are s = search (rules, map_numbered)
 
 module _ (s : State) (is : IsInRange s) where
   few : s.head.ports ≤ 64
@@ -77,29 +81,22 @@ module _ (s : State) (is : IsInRange s) where
   end_due = one_more End [] 0 s.head.ports s.head.ports (numbers End []) [] refl (inr (lit≤ tt))
       (fits_within [] [] tt) refl (at (End ∷ []) 1 s.head.ports, refl, (lit≤ tt, tt))
 
-  sent_due : (seen : ℕ) → Completes (at (Sent ∷ Moved ∷ End ∷ []) seen s.head.ports) (from_sent s)
-  sent_due = search (arith, rules, free_part, all_weaker, sent_within, few, skip, moved_within, end_due)
-
-  listed_due : (seen : ℕ) → Completes (at (Listed ∷ Buffered ∷ Sent ∷ Moved ∷ End ∷ []) seen s.head.ports) (from_listed
-      s)
-  listed_due = search (arith, rules, skip, sent_due, free_part, all_weaker, named_within, few)
-
-  all_told : (n : ℕ) → n ≡ s.head.ports → (0 + n ≤ s.head.ports) × (s.head.ports ≤ 0 + n)
-  all_told n e = (omega arith, omega arith)
+  listed_due : Completes (at (Listed ∷ Buffered ∷ Sent ∷ Moved ∷ End ∷ []) 0 s.head.ports) (from_listed s)
+  listed_due =
+      search (arith, rules, skip, part, all_weaker, fits_within, named_fits, count_in_range, low_in_range, few, end_due)
 
   ranks_due : Completes (at (Rank ∷ Listed ∷ Buffered ∷ Sent ∷ Moved ∷ End ∷ []) 0 s.head.ports) (from_ranks s)
-  ranks_due =
-      let told = all_told (length s.ranks) is.outputs_told in
-      numbered_part Rank _ s.head.ports rank_line (λ _ _. refl) (λ _ _. refl) s.ranks _ 0 told.0 (λ j small. all_weaker
-      _ _ (λ ns. rank_within j ns small) s.ranks is.ranks) few (search (arith, rules, skip, listed_due))
+  ranks_due = part Rank _ s.head.ports rank_line (λ _ _. refl) (λ _ _. refl) s.ranks _ 0 s.head.ports
+      (let told = is.outputs_told in omega arith) (λ i low. inr low)
+      (λ j low. all_weaker _ _ (λ ns. rank_within j ns (let most = few in omega arith)) s.ranks is.ranks)
+      (skip Rank _ s.head.ports s.head.ports _ (omega arith) listed_due)
 
   inputs_due : Completes (at (Input ∷ Rank ∷ Listed ∷ Buffered ∷ Sent ∷ Moved ∷ End ∷ []) 0 s.head.ports)
       (from_inputs s)
-  inputs_due = grind (arith, common_steps, all_told, numbered_part, all_weaker, seen_within, few, skip, ranks_due)
+  inputs_due = search (arith, rules, part, all_weaker, seen_within, few, skip, ranks_due, is.inputs_told)
 
   whole : Completes start (state_lines s)
-  unfolding state_lines
-  whole = search (arith, rules, one_more, skip, count_within, shape_within, counts_within, inputs_due, fits_within)
+  whole = rw lines_are (search (arith, rules, one_more, skip, inputs_due, fits_within, count_in_range))
 
 -- the text of a state in range is that of its lines
 pub state_has_text : (s : State) → IsInRange s → IsStateText (state_lines s) (state_text s)

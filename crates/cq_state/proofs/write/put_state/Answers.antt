@@ -1,5 +1,5 @@
-use Rattle.cq_state.proofs.Terms.{arith, rules, ◌≡◌, ◌++◌, ◌∙◌, List, ℕ, IfErr, map, flat_map, subst, on_ok_weaker, state_text, state_lines, cell_line, sent_line, moved_line, spelled, IsTooLong}
-use Rattle.cq_state.proofs.Writing.{buffered_fits, listed_fits, long_on, moved_fits, sent_fits, state_put}
+use Rattle.cq_state.proofs.Terms.{arith, rules, append-nil, ◌≡◌, ◌++◌, ◌∙◌, List, ℕ, IfErr, map, flat_map, subst, on_ok_weaker, state_text, state_lines, cell_line, sent_line, moved_line, spelled, IsTooLong}
+use Rattle.cq_state.proofs.Writing.{long_with, put_behind, state_put}
 use Rattle.cq_state.specs.declared.kind.Kind.TheVariants as kind
 use Rattle.cq_state.proofs.write.put_state.Goals as goal
 
@@ -24,36 +24,29 @@ returns-in_err-put_each-clause-long c =
     let told = c.in_err-put_each.ensures {u = tt} in
     let long : IfErr c.from_residual-in_err-put_each.result (IsTooLong (c.put_ranks.new.text.items
     ++ flat_map spelled (map (cell_line kind.Listed) c.as_slice-3.result.now))) = search (rules, told.long) in
-    long_on _ _ _ (listed_fits c.args.state.now c.args.text.now.items c.put_head.new.text.items
-    c.put_inputs.new.text.items c.put_ranks.new.text.items (search (arith, rules)) (search (arith, rules))
-    (search (arith, rules))) (rw c.as_slice-3.ensures at long)
+    long_with _ c.args.state.now 2 _ c.put_head.new.text.items _ _ long (omega arith) (search (arith, rules))
+    (search (arith, rules)) (search (arith, rules, put_behind, append-nil))
 
 pub returns-in_err-put_each-2-clause-long : goal.returns-in_err-put_each-2-clause-long
 returns-in_err-put_each-2-clause-long c =
     let told = c.in_err-put_each-2.ensures {u = tt} in
     let long : IfErr c.from_residual-in_err-put_each-2.result (IsTooLong (c.put_each.new.text.items
     ++ flat_map spelled (map (cell_line kind.Buffered) c.as_slice-4.result.now))) = search (rules, told.long) in
-    long_on _ _ _ (buffered_fits c.args.state.now c.args.text.now.items c.put_head.new.text.items
-    c.put_inputs.new.text.items c.put_ranks.new.text.items (search (arith, rules)) (search (arith, rules))
-    (search (arith, rules)) c.put_each.new.text.items (search (arith, rules))) (rw c.as_slice-4.ensures at long)
+    long_with _ c.args.state.now 3 _ c.put_head.new.text.items _ _ long (omega arith) (search (arith, rules))
+    (search (arith, rules)) (search (arith, rules, put_behind, append-nil))
 
 pub returns-in_err-put_each-3-clause-long : goal.returns-in_err-put_each-3-clause-long
 returns-in_err-put_each-3-clause-long c =
     let told = c.in_err-put_each-3.ensures {u = tt} in
     let long : IfErr c.from_residual-in_err-put_each-3.result (IsTooLong (c.put_each-2.new.text.items
     ++ flat_map spelled (map sent_line c.as_slice-5.result.now))) = search (rules, told.long) in
-    long_on _ _ _ (sent_fits c.args.state.now c.args.text.now.items c.put_head.new.text.items
-    c.put_inputs.new.text.items c.put_ranks.new.text.items (search (arith, rules)) (search (arith, rules))
-    (search (arith, rules)) c.put_each.new.text.items (search (arith, rules))
-    c.put_each-2.new.text.items (search (arith, rules))) (rw c.as_slice-5.ensures at long)
+    long_with _ c.args.state.now 4 _ c.put_head.new.text.items _ _ long (omega arith) (search (arith, rules))
+    (search (arith, rules)) (search (arith, rules, put_behind, append-nil))
 
 pub returns-in_err-put_each-4-clause-long : goal.returns-in_err-put_each-4-clause-long
 returns-in_err-put_each-4-clause-long c =
     let told = c.in_err-put_each-4.ensures {u = tt} in
     let long : IfErr c.from_residual-in_err-put_each-4.result (IsTooLong (c.put_each-3.new.text.items
     ++ flat_map spelled (map moved_line c.as_slice-6.result.now))) = search (rules, told.long) in
-    long_on _ _ _ (moved_fits c.args.state.now c.args.text.now.items c.put_head.new.text.items
-    c.put_inputs.new.text.items c.put_ranks.new.text.items (search (arith, rules)) (search (arith, rules))
-    (search (arith, rules)) c.put_each.new.text.items (search (arith, rules))
-    c.put_each-2.new.text.items (search (arith, rules)) c.put_each-3.new.text.items (search (arith, rules)))
-    (rw c.as_slice-6.ensures at long)
+    long_with _ c.args.state.now 5 _ c.put_head.new.text.items _ _ long (omega arith) (search (arith, rules))
+    (search (arith, rules)) (search (arith, rules, put_behind, append-nil))
