@@ -1,6 +1,6 @@
 -- What the bytes from a place on come to: a packet where a whole record stands there, or else what is wrong with it.
 -- The three faults are tried in their order.
-use Rattle.cq_pcap.proofs.Terms.{rules, ◌≡◌, ℕ, ◌+◌, ◌*◌, ◌<◌, ◌≤◌, List, length, take, drop, arith, common_steps, Result, Ok, Err, nat_tests, Form, number_at, unit, Captured, PcapRefusal, CutHeader, LongRecord, CutBody, first_packet, subst}
+use Rattle.cq_pcap.proofs.Terms.{◌≡◌, ℕ, ◌+◌, ◌*◌, ◌<◌, ◌≤◌, List, length, take, drop, arith, common_steps, Result, Ok, Err, nat_tests, Form, number_at, unit, Captured, PcapRefusal, CutHeader, LongRecord, CutBody, first_packet}
 
 -- the captured length that the record at the front states
 abbrev pub stated : Form → List ℕ → ℕ
@@ -35,9 +35,7 @@ Says form place xs _ = ⊥
 pub first_says : (form : Form) (place : ℕ) (xs : List ℕ) (answer : Result Captured PcapRefusal) →
     first_packet form place xs ≡ answer → Says form place xs answer
 unfolding first_packet
-first_says form place xs answer e =
-    let P : Result Captured PcapRefusal → Type 0 = Says form place xs in
-    let own : P (first_packet form place xs) = search (arith, rules, nat_tests) in subst P e own
+first_says form place xs answer e = grind (arith, common_steps, nat_tests)
 
 -- and what is so is answered
 pub first_said : (form : Form) (place : ℕ) (xs : List ℕ) (answer : Result Captured PcapRefusal) →

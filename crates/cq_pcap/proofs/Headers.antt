@@ -40,19 +40,13 @@ pub header_place : (bytes : List ℕ) (fault : PcapRefusal) → header_form byte
 unfolding header_form
 header_place bytes fault e = search (arith, rules)
 
+ruleset header_tests = (version-Decides, link-Decides, form_found, nat_tests)
+
 -- and what is so is answered: a header of a form, whatever follows it, and each fault of a header
 pub header_read : (form : Form) (header rest : List ℕ) → IsHeader form header → header_form (header ++ rest) ≡ Ok form
 unfolding header_form
 header_read form header rest h =
-    let len = h.len in
-    let major = number_at-append form.big 2 header rest 4 in
-    let minor = number_at-append form.big 2 header rest 6 in
-    let kind = number_at-append form.big 4 header rest 20 in
-    let front = take-append-le 4 header rest in
-    let version = version-Decides form (header ++ rest) in
-    let link = link-Decides form (header ++ rest) in
-    let found = form_found form (header ++ rest) in
-    search (arith, rules, major, minor, kind, found, length-append, front, version, link, nat_tests)
+    grind (arith, common_steps, number_at-append, take-append-le, length-append, header_tests)
 
 no_form : (bytes : List ℕ) (found : Option Form) → form_at bytes ≡ found → ((form : Form) → ¬ HasMagic form bytes) →
     found ≡ None
@@ -66,7 +60,6 @@ header_faulty bytes NoHeader o h = grind (arith, common_steps, nat_tests)
 header_faulty bytes Magic o h =
     let none = no_form bytes (form_at bytes) refl h.1 in grind (arith, common_steps, nat_tests, none)
 header_faulty bytes Version o h = grind (arith, common_steps, nat_tests, form_found, is_false, version-Decides)
-header_faulty bytes LinkType o h =
-    grind (arith, common_steps, nat_tests, form_found, is_false, version-Decides, link-Decides)
+header_faulty bytes LinkType o h = search (rules, nat_tests, form_found, is_false, version-Decides, link-Decides)
 header_faulty bytes NoMemory o h = absurd h
 header_faulty bytes _ o h = absurd (cc)

@@ -115,10 +115,7 @@ module _ (form : Form) (bytes : List ℕ) (at : ℕ) (packets : List Captured)
   by_first : at < length bytes → (first : Result Captured PcapRefusal) → Says form at (drop at bytes) first →
       (IsWhole form (drop at bytes) → Known bytes) → Known bytes
   by_first left (Ok p) says more = more says.0
-  by_first left (Err fault) says more = inr (
-    fault,
-    faulty_at form bytes at fault (record { packets = packets; spelt = s; left = left }) says,
-  )
+  by_first left (Err fault) says more = grind (arith, common_steps, faulty_at)
 
 walk : (form : Form) (bytes : List ℕ) (n at : ℕ) (packets : List Captured) → AreBytes bytes → at ≤ length bytes →
     length bytes ≤ at + n → SpellsIn form (take at bytes) packets → Known bytes

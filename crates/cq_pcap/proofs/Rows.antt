@@ -2,6 +2,7 @@
 -- header on, they end at that place, and the bytes before it are a capture of their packets. A whole record at that
 -- place goes on so: the record read there is spelt by the bytes up to its end. A fault there is the file's, and where
 -- no byte is left the file is a capture.
+use Rattle.std.proofs.Common.{rules}
 use Rattle.cq_pcap.proofs.Terms.{◌≡◌, ℕ, ◌+◌, ◌-◌, ◌<◌, ◌≤◌, ◌^◌, List, [], ◌∷◌, ◌++◌, length, take, drop, ap, sym, arith, add-zero, common_steps, map-append, length-drop, length-take-le, drop-drop, take_all, take_rest, All-push, sum_by-cons, sum_by_push, Ok, Err, Some, None, sum_by, Form, PcapRefusal, Captured, rows_from, file_length, first_packet, header_form, AreRowsOf, AreRowsTo, AreSpelt, IsFaultAt, IsRowOf, offset_of, packet_at, packets_at, all_both}
 use Rattle.cq_pcap.specs.declared.capture.PacketRow.{PacketRow}
 use Rattle.cq_pcap.proofs.Firsts.{Says, first_says, stated}
@@ -89,8 +90,7 @@ rows_fault form bytes rows at refusal left e so_far =
 -- and so is a fault of the header
 pub header_fault : (bytes : List ℕ) (refusal : PcapRefusal) → header_form bytes ≡ Err refusal
     → IsFaultAt bytes None refusal
-header_fault bytes refusal e =
-    record { faulty = header_is bytes (Err refusal) e; there = header_place bytes refusal e }
+header_fault bytes refusal e = search (rules, header_is, header_place)
 
 -- no byte is left
 pub rows_all : (form : Form) (bytes : List ℕ) (rows : List PacketRow) (at : ℕ) → at ≡ length bytes

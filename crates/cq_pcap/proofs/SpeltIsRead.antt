@@ -68,20 +68,10 @@ records_read : (form : Form) (n place ends : ℕ) (rs : List Record) (rest : Lis
 records_read form n place ends [] rest left then fits at few =
     let here = then n few in
     let same : ends ≡ place = omega arith in cc (here, joined-nil left)
-records_read form zero place ends (r ∷ rs) rest left then fits at few =
-    let spelt = flat_map (spelling form.big) rs in
-    absurd (omega (arith, length-append (spelling form.big r ++ spelt) rest, length_is form r spelt fits.0))
+records_read form zero place ends (r ∷ rs) rest left then fits at few = search (rules, length-append, length_is)
 records_read form (suc n) place ends (r ∷ rs) rest left then fits at few =
-    let spelt = flat_map (spelling form.big) rs in
-    let long = length_is form r spelt fits.0 in
-    let room = length-append (spelling form.big r ++ spelt) rest in
-    let some : 0 < length (spelling form.big r ++ (spelt ++ rest)) =
-    omega (arith, length_is form r (spelt ++ rest) fits.0) in
-    let first = packet_first form n place (spelling form.big r ++ (spelt ++ rest)) (captured_of form r) some
-    (first_is form r (spelt ++ rest) fits.0 place) in
-    let last = records_read form n (place + (16 + length r.body)) ends rs rest left then fits.1 (omega arith)
-    (omega (arith, length-append spelt rest)) in
-    grind (arith, common_steps, append_assoc, first, after_is, last, joined-cons)
+    let on = records_read form n (place + (16 + length r.body)) ends rs rest left then fits.1 in
+    search (rules, length_is, length-append, packet_first, first_is, append_assoc, after_is, joined-cons, on)
 
 -- so is a capture
 capture_read : (form : Form) (front rest : List ℕ) (packets : List Captured) (left : Result (List Captured) PcapRefusal)
@@ -119,8 +109,7 @@ record_fault_read form bytes offset fault u e =
 header_fault_read : (bytes : List ℕ) (fault : PcapRefusal) → header_form bytes ≡ Err fault →
     packets_of bytes ≡ Err fault
 unfolding packets_of
-header_fault_read bytes fault e =
-    ap (λ (r : Result Form PcapRefusal). r >>= (λ form. packets_from form 24 (drop 24 bytes))) e
+header_fault_read bytes fault e = grind (arith, common_steps)
 
 -- each fault is read
 pub fault_is_read : (bytes : List ℕ) (fault : PcapRefusal) → IsFaulty bytes fault → packets_of bytes ≡ Err fault

@@ -37,6 +37,7 @@ pub fn reading_is_by_the_grammar()
 
 /// Where the stamps of packets are below 2^32 seconds, reading what is written of them gives their stamps,
 /// original lengths and bodies back.
+#[tactic(auto, using(crate::proofs::WrittenIsSpelt::written_is_spelt))]
 pub fn written_is_spelt()
     ensures { (packets : List OutPacket)
         → AllByRecursion IsWritable packets

@@ -1,11 +1,10 @@
-use Rattle.cq_pcap.proofs.Terms.{arith, rules}
+use Rattle.cq_pcap.proofs.Terms.{arith, rules, IfErr-weaker}
 use Rattle.cq_pcap.proofs.Numbers.{AreBytes}
-use Rattle.cq_pcap.proofs.Refused.{err_map}
 use Rattle.cq_pcap.proofs.Rows.{rows_fault, rows_more}
 use Rattle.cq_pcap.proofs.read.row_at.Goals as goal
 
 pub returns-in_err-row_of-clause-fault : goal.returns-in_err-row_of-clause-fault
-returns-in_err-row_of-clause-fault c = search (arith, rules, err_map, rows_fault)
+returns-in_err-row_of-clause-fault c = search (arith, rules, IfErr-weaker, rows_fault)
 
 pub returns-clause-more : goal.returns-clause-more
 returns-clause-more c rows so_far =
