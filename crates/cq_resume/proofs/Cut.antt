@@ -6,7 +6,7 @@
 -- are before the next one, and each is at one of the outputs, where it is counted. The figures of the outputs change
 -- departure by departure, each those of its own output. And the slots of a run: departures that stand by slot end with
 -- the last.
-use Rattle.cq_resume.proofs.Terms.{◌&&◌, rules, ◌≡◌, ℕ, ◌+◌, ◌-◌, ◌<◌, ◌≤◌, eqb, leb, ltb, Bool, true, false, List, [], ◌∷◌, length, get_or, take, drop, refl, sym, ap, ◌∙◌, length-drop, Bor, arith, ◌++◌, map, flat_map, common_steps, filter, Called, ComputesKey, Mut, IsPartitionPoint, IsNonDecreasingBy, always_returns_same, append-nil, get_or-drop, get_or-take, length-take-le, take-append-drop, map-append, take_all, take_more, filter-append, eq-eqb, leb-false, leb-true, ltb-false, ltb-true, ne_eqb, cases_eq, eqb-true, AllPairs, range_with_len, enumerate_from, IsRising, Queued, BuffersStand, IsBufferedBefore, flat_map-append, map-range_with_len_more, ◌^◌, set, replicate, length-append, AllByRecursion, Departure, OutputFigures, output_told, IsSentBefore, IsTimely, departed, with_departure, Gone, recursion_from_All, filter_all, filter_none, cases_Bool, get_or-map-range_with_len, set_one, slots_of, all_weaker, of_images, few_kept, map-constant, all_of_has, all_from_has, kept_has, each_pair, all_pairs, EachPair}
+use Rattle.cq_resume.proofs.Terms.{◌&&◌, rules, ◌≡◌, ℕ, ◌+◌, ◌-◌, ◌<◌, ◌≤◌, eqb, leb, ltb, Bool, true, false, List, [], ◌∷◌, length, get_or, take, drop, refl, ap, ◌∙◌, length-drop, Bor, arith, ◌++◌, map, flat_map, common_steps, filter, Called, ComputesKey, Mut, IsPartitionPoint, IsNonDecreasingBy, always_returns_same, append-nil, get_or-drop, get_or-take, length-take-le, take-append-drop, map-append, take_more, filter-append, eq-eqb, leb-false, leb-true, ltb-false, ltb-true, ne_eqb, cases_eq, eqb-true, AllPairs, range_with_len, enumerate_from, IsRising, Queued, BuffersStand, IsBufferedBefore, flat_map-append, map-range_with_len_more, ◌^◌, set, length-append, AllByRecursion, Departure, OutputFigures, output_told, IsSentBefore, IsTimely, departed, with_departure, Gone, recursion_from_All, filter_all, filter_none, cases_Bool, get_or-map-range_with_len, set_one, slots_of, all_weaker, of_images, few_kept, all_of_has, all_from_has, kept_has, each_pair, all_pairs, EachPair, pairs_mapped}
 use Rattle.std.proofs.lemmas.List.{take_rest}
 use Rattle.cq_resume.proofs.Each.{all_at}
 
@@ -99,10 +99,6 @@ module _ {X Y : Type 0} (f : X → Y) (lists : List (List X)) where
   lists_more i read cells now new inside so_far is same more =
       grind (arith, common_steps, take_more, flat_map-append, append-nil, map-append)
 
-  pub lists_all : (i : ℕ) (new : List Y) → length lists ≤ i → new ≡ map f (joined (take i lists)) →
-      new ≡ map f (joined lists)
-  lists_all i new past is = is ∙ ap (λ (l : List (List X)). map f (joined l)) (take_all i lists past)
-
 enumerate_put : {X : Type 0} (n : ℕ) (xs : List X) (x : X) →
     enumerate_from n (xs ++ x ∷ []) ≡ enumerate_from n xs ++ (n + length xs, x) ∷ []
 enumerate_put {X} n [] x = grind (arith, common_steps)
@@ -115,10 +111,6 @@ module _ {X Y : Type 0} (f : ℕ → X → Y) (xs : List X) where
   placed_more i d y now new inside so_far is more =
       grind (arith, common_steps, length-take-le, take_more, enumerate_put, map-append)
 
-  pub placed_all : (i : ℕ) (new : List Y) → length xs ≤ i →
-      new ≡ map (λ at. f at.0 at.1) (enumerate_from 0 (take i xs)) → new ≡ map (λ at. f at.0 at.1) (enumerate_from 0 xs)
-  placed_all i new past so_far = grind (arith, common_steps, take_all)
-
 -- two tests one after the other are one
 module _ {X : Type 0} (p q : X → Bool) where
   pub filter_both : (xs : List X) → filter p (filter q xs) ≡ filter (λ x. q x && p x) xs
@@ -128,9 +120,6 @@ module _ {X : Type 0} (p q : X → Bool) where
 -- ## All outputs
 
 ruleset read_on = (take_more, set_one, ne_eqb, cases_Bool, length-append, map-append)
-
-pub nothing_left : (ports : ℕ) → replicate ports (output_told [] 0) ≡ map (output_told []) (range_with_len 0 ports)
-nothing_left ports = sym (map-constant (output_told []) (output_told [] 0) (λ j. refl) 0 ports)
 
 module _ (sent : List Departure) (ports i : ℕ) (e : Departure) (now : List OutputFigures)
     (so_far : now ≡ map (output_told (take i sent)) (range_with_len 0 ports)) (inside : i < length sent)
@@ -145,11 +134,6 @@ module _ (sent : List Departure) (ports i : ℕ) (e : Departure) (now : List Out
   pub outputs_more : (x : OutputFigures) → x ≡ with_departure here.output (output_told (take i sent) here.output) here →
       set now here.output x ≡ map (output_told (take (i + 1) sent)) (range_with_len 0 ports)
   outputs_more x is = grind (arith, common_steps, append-nil, filter-append, read_on)
-
-pub outputs_last : (sent : List Departure) (ports i : ℕ) (now : List OutputFigures) →
-    now ≡ map (output_told (take i sent)) (range_with_len 0 ports) → length sent ≤ i →
-    now ≡ map (output_told sent) (range_with_len 0 ports)
-outputs_last sent ports i now so_far past = grind (arith, common_steps, take_all)
 
 -- ## Slots
 
@@ -171,13 +155,9 @@ all_departed : (P : Gone → Type 0) (Q : Departure → Type 0) → ((g : Gone) 
     AllByRecursion P gone → AllByRecursion Q (map departed gone)
 all_departed P Q give gone all = of_images departed Q gone (all_weaker P (λ g. Q (departed g)) give gone all)
 
-each_later : (gone : List Gone) → EachPair IsSentBefore gone → EachPair IsNoLater (map departed gone)
-each_later [] pairs = tt
-each_later (g ∷ gone) pairs =
-    (search (arith, rules, all_departed (IsSentBefore g) (IsNoLater (departed g)), each_later gone pairs.1))
-
 pub departed_rising : (gone : List Gone) → AllPairs IsSentBefore gone → AllPairs IsNoLater (map departed gone)
-departed_rising gone pairs = search (rules, all_pairs, IsNoLater, each_later, each_pair)
+departed_rising gone pairs = all_pairs IsNoLater (map departed gone) (pairs_mapped departed IsNoLater gone
+    (each_pair (λ a b. a.slot ≤ b.slot) gone (λ i j d lt inside. grind (arith, common_steps, pairs i j d))))
 
 pub departed_low : (next : ℕ) (gone : List Gone) → next < 2 ^ 63 → AllByRecursion (IsTimely next) gone →
     AllByRecursion (λ d. d.slot < 2 ^ 63) (map departed gone)

@@ -1,5 +1,5 @@
-use Rattle.cq_resume.proofs.Terms.{List, length, get_or, ap, arith, None, figures_at_input, Name, Seen}
-use Rattle.cq_resume.proofs.Cut.{placed_all, placed_more}
+use Rattle.cq_resume.proofs.Terms.{rules, take_all, List, length, get_or, ap, arith, None, figures_at_input, Name, Seen}
+use Rattle.cq_resume.proofs.Cut.{placed_more}
 use Rattle.cq_resume.proofs.taken.inputs_of.Goals as goal
 
 pub inputs-preserved : goal.inputs-preserved
@@ -15,5 +15,4 @@ inputs-preserved c =
     }) c.in_ok-push.ensures.items
 
 pub returns : goal.returns
-returns c = cc (placed_all (figures_at_input c.args.names.now) c.args.seen.now c.inputs.input c.inputs.inputs.items
-    c.inputs-test.false c.inputs.invariant)
+returns c = search (arith, rules, take_all)
