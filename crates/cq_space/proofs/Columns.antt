@@ -2,7 +2,7 @@
 -- The map is made from the last entry to the first, so a name has the value of its first entry. Two maps
 -- that answer alike are equal, so lemmas on maps compare what they answer, by an induction on the
 -- entries: the first entry of a name is at the head, or the head has another name.
-use Rattle.cq_space.proofs.Terms.{common_steps, rules, ◌≡◌, ℕ, ◌+◌, ◌<◌, ◌≤◌, Bool, true, cond, List, [], ◌∷◌, ◌++◌, length, get_or, set, refl, ap, sym, ◌∙◌, arith, Option, None, Some, position_or_len, is_eq-slice_cmp, bytes_eq-Decides, nat_cmp, eq_by_cmp_equiv, slice_cmp, nat_list_cmp_total, FinMap, get, get-empty, get-insert, get-remove, same_map, slice_cmp-IsAntisymmetric, nat_cmp-IsAntisymmetric, same_name, put, by_name, IsEntryOf, passes_at_first, length-set, get_or-set_same, get_or-set_other, nat_lt, string_bytes, length-append, unwrap_or, add-zero, length-map, map-append, map-set, get_or_append_left, get_or-map, set-get_or, get_or-append_seam, map-set_same, ltb-false, eq-eqb, ne_eqb, prefix_len-le-length, Global, position_or_len_push, position_or_len_is, Vec, position, option_map, Entry, State, Columns, columns_of, told_at, bytes_at, IsInPlace, with_bytes, SaysTheSame, position_or_len-map}
+use Rattle.cq_space.proofs.Terms.{common_steps, rules, ◌≡◌, ℕ, ◌+◌, ◌<◌, ◌≤◌, Bool, true, cond, List, [], ◌∷◌, ◌++◌, length, get_or, set, refl, sym, ◌∙◌, arith, Option, None, Some, position_or_len, is_eq-slice_cmp, bytes_eq-Decides, nat_cmp, eq_by_cmp_equiv, slice_cmp, nat_list_cmp_total, FinMap, get, get-empty, get-insert, get-remove, same_map, slice_cmp-IsAntisymmetric, nat_cmp-IsAntisymmetric, same_name, put, by_name, IsEntryOf, passes_at_first, length-set, get_or-set_same, get_or-set_other, string_bytes, length-append, unwrap_or, add-zero, length-map, map-append, map-set, get_or_append_left, get_or-map, set-get_or, get_or-append_seam, map-set_same, ltb-false, eq-eqb, ne_eqb, prefix_len-le-length, Global, position_or_len_push, position_or_len_is, Vec, position, option_map, Entry, State, Columns, columns_of, told_at, bytes_at, IsInPlace, with_bytes, SaysTheSame, position_or_len-map}
 use Rattle.std.specs.FinMap.{insert}
 use Rattle.cq_space.specs.declared.entries.State.TheVariants as state
 use Rattle.std.proofs.lemmas.List.Quantifiers.{position-Some}
@@ -30,8 +30,7 @@ module _ {X : Type 0} where
   get-first [] [] name even = get-empty (slice_cmp nat_cmp) name
   get-first [] (v ∷ values) name even = absurd (omega arith)
   get-first (n ∷ names) [] name even = absurd (omega arith)
-  get-first (n ∷ names) (value ∷ values) name even =
-      grind (arith, common_steps, get-put, get-first names values name)
+  get-first (n ∷ names) (value ∷ values) name even = grind (arith, common_steps, get-put, get-first names values name)
 
   pub by_name-set : (names : List (List ℕ)) (values : List (Option X)) (i : ℕ) (name : List ℕ) (x : X) →
       IsEntryOf names i name → length values ≡ length names →
@@ -41,8 +40,7 @@ module _ {X : Type 0} where
       same_answers _ _ (λ q.
       let first = passes_at_first (same_name q) names [] in
       let new = get-first names (set values i (Some x)) q (length-set values i (Some x) ∙ even) in
-      let old = get-first names values q even in
-      grind (arith, common_steps, inserted, new, old, first, is_same q name, get_or-set_same, get_or-set_other))
+      search (arith, rules, get-first names values q even, is_same q name, get_or-set_same, get_or-set_other))
 
   -- an entry without a value, put at the end, changes no value
   pub by_name-push : (names : List (List ℕ)) (values : List (Option X)) (name : List ℕ) →
@@ -80,13 +78,11 @@ entry_found names name i e =
 pub finds : (es found : List Entry) (name : List ℕ) (i : ℕ) → found ≡ es →
     Some i ≡ position (has_name name) found → IsEntryOf (columns_of es).names i name
 finds es found name i same answer =
-    let there = ap (position (has_name name)) (sym same) ∙ sym answer in
     entry_found _ name i (search (rules, length-map, string_bytes, position_or_len-map))
 
 pub finds_none : (es found : List Entry) (name : List ℕ) → found ≡ es → None ≡ position (has_name name) found →
     length (columns_of es).names ≤ position_or_len (same_name name) (columns_of es).names
-finds_none es found name same answer =
-    search (arith, rules, string_bytes, nat_lt, length-map, position_or_len-map, ltb-false)
+finds_none es found name same answer = search (rules, string_bytes, length-map, position_or_len-map, ltb-false)
 
 -- a new entry at the end
 

@@ -99,15 +99,13 @@ module _ (ins : Inside) {m : MemSpace} (view : mem_space ins ≡ m) where
 
   pub told_none : {found : List Entry} (name : List ℕ) → found ≡ es → None ≡ position (has_name name) found →
       get m.contents name ≡ None
-  told_none {found} name lent answer =
-      grind (arith, common_steps, finds_none es found name lent answer, get-first, get_or_past, length-map)
+  told_none {found} name lent answer = grind (arith, common_steps, finds_none, get-first, get_or_past, length-map)
 
   pub begins : {found : List Entry} (name : List ℕ) {i : ℕ} (e : Entry) → found ≡ es →
       Some i ≡ position (has_name name) found → e ≡ get_or es i e → true ≡ is_some e.bytes →
       BeginsReading (Some m.contents) name (mode_of (columns_of es) (state.Reads i 0))
   begins {found} name {i} e lent answer at some =
-      let is = finds es found name i lent answer in
-      grind (arith, common_steps, length-map, string_bytes, told_at-is, told_found, unwrap_or)
+      grind (arith, common_steps, finds es found name i lent answer, length-map, string_bytes, told_at-is, told_found)
 
   module _ (sound : IsSound ins) where
     -- a new value at the entry of a name, in entries that were lent and are back in their vector
@@ -119,27 +117,19 @@ module _ (ins : Inside) {m : MemSpace} (view : mem_space ins ≡ m) where
 
       pub gives_bytes : (bytes : List ℕ) → columns_of new ≡ with_bytes (columns_of lent) i bytes →
           contents_of (columns_of after.entries.items) ≡ insert m.contents name bytes
-      gives_bytes bytes changed =
-          let at = written_back mid lent new (λ c. with_bytes c i bytes) back long changed in
-          grind (arith, common_steps, by_name-set, are_even)
+      gives_bytes bytes changed = grind (arith, common_steps, written_back, by_name-set, are_even)
 
       pub bytes_are_set : (bytes : List ℕ) → m.mode ≡ Closed → columns_of new ≡ with_bytes (columns_of lent) i bytes →
           mem_space after ≡ record m { contents = insert m.contents name bytes }
-      bytes_are_set bytes closed changed =
-          let at = written_back mid lent new (λ c. with_bytes c i bytes) back long changed in
-          search (arith, rules, seen_as, gives_bytes)
+      bytes_are_set bytes closed changed = grind (arith, common_steps, written_back, seen_as, gives_bytes)
 
       pub reading_is_cut : (most : ℕ) → columns_of new ≡ with_read_cut (columns_of lent) i most →
           mem_space after ≡ record m { read_cuts = insert m.read_cuts name most }
-      reading_is_cut most changed =
-          let at = written_back mid lent new (λ c. with_read_cut c i most) back long changed in
-          grind (arith, common_steps, seen_as, are_even, by_name-set)
+      reading_is_cut most changed = grind (arith, common_steps, written_back, seen_as, are_even, by_name-set)
 
       pub writing_is_cut : (most : ℕ) → columns_of new ≡ with_write_cut (columns_of lent) i most →
           mem_space after ≡ record m { write_cuts = insert m.write_cuts name most }
-      writing_is_cut most changed =
-          let at = written_back mid lent new (λ c. with_write_cut c i most) back long changed in
-          grind (arith, common_steps, seen_as, are_even, by_name-set)
+      writing_is_cut most changed = grind (arith, common_steps, written_back, seen_as, are_even, by_name-set)
 
     stands : (s : State) → ins.state ≡ s → Stands ins s m
     stands s opened = grind (arith, common_steps)
@@ -148,15 +138,13 @@ module _ (ins : Inside) {m : MemSpace} (view : mem_space ins ≡ m) where
     pub of_read : {at place : ℕ} (P : Option ℕ → ℕ → Type 0) (e : Entry) → ins.state ≡ state.Reads at place →
         e ≡ get_or es at e → P e.read_cut place →
         P (cut_at m.mode m.read_cuts m.write_cuts) (moved_at m.mode m.contents)
-    of_read {at} {place} P e opened here holds =
-        let o = stands (state.Reads at place) opened in search (arith, rules, read_is, value_first)
+    of_read {at} {place} P e opened here holds = grind (arith, common_steps, stands, read_is, value_first)
 
     -- and so for the name that is written
     pub of_write : {at : ℕ} (P : Option ℕ → ℕ → Type 0) (e : Entry) {held : List ℕ} → ins.state ≡ state.Writes at →
         e ≡ get_or es at e → held ≡ held_in e → P e.write_cut (length held) →
         P (cut_at m.mode m.read_cuts m.write_cuts) (moved_at m.mode m.contents)
-    of_write {at} P e {held} opened here had holds =
-        let o = stands (state.Writes at) opened in search (arith, rules, bytes_first, value_first)
+    of_write {at} P e {held} opened here had holds = grind (arith, common_steps, stands, bytes_first, value_first)
 
     -- a write appends at the entry that is open
     pub appends : {at : ℕ} (new : Vec Entry Global) (count : ℕ) (e : Entry) (bytes : List ℕ) →
@@ -164,8 +152,7 @@ module _ (ins : Inside) {m : MemSpace} (view : mem_space ins ≡ m) where
         → columns_of new.items ≡ with_bytes (columns_of es) at (bytes_at (columns_of es) at ++ take count bytes) →
         Appends (told_space m) (told_space (mem_space (record ins { entries = new }))) bytes count
     appends {at} new count e bytes opened here some within changed =
-        let o = stands (state.Writes at) opened in
-        grind (arith, common_steps, held_is, bytes_first, by_name-set, are_even)
+        grind (arith, common_steps, stands, held_is, bytes_first, by_name-set, are_even)
 
     -- a read takes the next piece
     pub reads_on : {at place : ℕ} (most count : ℕ) (e : Entry) (held piece buf : List ℕ) (after : Space) →
