@@ -8,7 +8,8 @@ use Rattle.cq_cells.proofs.Ranges.{flat_same}
 use Rattle.cq_cells.specs.Schedule.{stamp_slot, start}
 use Rattle.cq_route.specs.Route.{route}
 use Rattle.cq_run.proofs.OnePlan.{one_plan}
-use Rattle.cq_run.proofs.Planned.{from_log, from_trace, part_rest, resume_rest, sent_of}
+use Rattle.cq_run.proofs.Reached.{rest_of, sent_of}
+use Rattle.cq_run.specs.declared.judge.Asked.TheVariants as asked
 use Rattle.cq_run.specs.Auditing.{IsAuditYes, IsLogDenied}
 use Rattle.cq_run.specs.Plan.{check_line}
 use Rattle.cq_run.specs.Workers.{WorkersChangeNothing, over, with_workers}
@@ -156,27 +157,24 @@ module _ (n : ℕ) (t : Tables) where
         Follows (Ok (Exactly (switched t cs sent))) (Ok (Exactly (switched u cs sent)))
     ideal cs sent = grind (arith, common_steps, same, switched_same)
 
-    audit : (cs : List (List Captured)) → Follows (from_trace r t cs m) (from_trace r u cs m)
-    audit cs = then_both (text_in why.LongTrace t.trace m) (λ trace. from_log t cs trace m)
-        (λ trace. from_log u cs trace m) (λ trace. then_both (text_in why.LongLog t.log m)
-        (λ log. sent_of (λ v c sent. Auditing v c sent trace log) r t cs m)
-        (λ log. sent_of (λ v c sent. Auditing v c sent trace log) r u cs m)
+    audit : (cs : List (List Captured)) → Follows (rest_of asked.Audit r t cs m) (rest_of asked.Audit r u cs m)
+    audit cs = then_both (text_in why.LongTrace t.trace m) _ _ (λ trace. then_both (text_in why.LongLog t.log m) _ _
         (λ log. sends cs (λ v c sent. Auditing v c sent trace log) (λ sent. auditing cs sent trace log)))
 
     resume : (name : List ℕ) (cs : List (List Captured)) →
-        Follows (resume_rest name r t cs m) (resume_rest name r u cs m)
+        Follows (rest_of (asked.Resume name) r t cs m) (rest_of (asked.Resume name) r u cs m)
     resume name cs = search (rules, then_both, resuming)
 
     follows : (command : Command) → Follows (judged r (over one command) m) (judged r (over other command) m)
     follows (Pass from to) = alike (judged r (Pass from to) m)
     follows (Soak seed ports slots) = alike (judged r (Soak seed ports slots) m)
     follows (Check old) = rw (first, second) check
-    follows (Ideal old) = both (sent_of (λ v c sent. Exactly (switched v c sent)))
-        (λ cs. sends cs (λ v c sent. Exactly (switched v c sent)) (ideal cs))
-    follows (Run old) = both (sent_of Crossing) (λ cs. sends cs Crossing (crossing cs))
-    follows (Audit old) = both from_trace audit
-    follows (Part old slots state) = both (part_rest slots state) (λ cs. parting cs slots state)
-    follows (Resume old state) = both (resume_rest state) (resume state)
+    follows (Ideal old) =
+        both (rest_of asked.Ideal) (λ cs. sends cs (λ v c sent. Exactly (switched v c sent)) (ideal cs))
+    follows (Run old) = both (rest_of asked.Run) (λ cs. sends cs Crossing (crossing cs))
+    follows (Audit old) = both (rest_of asked.Audit) audit
+    follows (Part old slots state) = both (rest_of (asked.Part slots state)) (λ cs. parting cs slots state)
+    follows (Resume old state) = both (rest_of (asked.Resume state)) (resume state)
 
 -- ## Both ways
 

@@ -6,11 +6,10 @@ use Rattle.std.specs.FinMap.{remove}
 use Rattle.cq_run.proofs.Stays.{Stays}
 
 -- a call that failed after something else was done failed also since that began, where it counted no fault
-pub fails_after : {S : Type 0} (space : S → Space) (may_fail : Call → S → S → Type 0) (keeps : S → S → Type 0)
-    (kind : Mode → Call → Type 0) (old mid new : S) → Lasts keeps → (space mid).faults ≡ (space old).faults →
-    keeps old mid
-    → Fails space may_fail keeps kind mid new → Fails space may_fail keeps kind old new
-fails_after space may_fail keeps kind old mid new lasts same kept h = grind (arith, common_steps, lasts.both)
+pub fails_after : {S : Type 0} {space : S → Space} {may_fail : Call → S → S → Type 0} {keeps : S → S → Type 0}
+    {kind : Mode → Call → Type 0} {old mid new : S} → Lasts keeps → (space mid).faults ≡ (space old).faults →
+    keeps old mid → Fails space may_fail keeps kind mid new → Fails space may_fail keeps kind old new
+fails_after lasts same kept h = grind (arith, common_steps, lasts.both)
 
 -- it is as before
 pub counts_same : (pace : Pace) (U : Type 0) (old new : ℕ) → new ≡ old → Uncounted pace U old new

@@ -19,72 +19,54 @@ file_from : (ws : List (List ℕ × List ℕ)) (name : List ℕ) (old mid new : 
 file_from [] name old mid new t l h = h
 file_from (w ∷ ws) name old mid new t l h = grind (arith, common_steps)
 
--- a command whose plan was cut short ends so
-cut_ends : (p : Pace) (r : Reader) (R U V : List ℕ → Type 0) (T : Type 0) (command : Command) (plan : Plan)
-    (old mid new : World) (at : Unwritten) (end : Result (Unit {0}) Stop) → IsErrAnd end (λ stop. stop ≡ Cut at) →
-    IsPlanned r command old.files plan
-    → ((name : List ℕ) → U name → V name) → mid.files.told ≡ old.files.told → mid.files.faults ≡ old.files.faults →
-    mid.out ≡ old.out → IsCut U T plan mid new at → CommandEnds p r R V T command old new end
-cut_ends p r R U V T command plan old mid new at (Ok x) e j i t l o h = absurd e
-cut_ends p r R U V T command plan old mid new at (Err stop) e j i t l o h = search (arith, rules, file_from)
-
 -- without a plan the command halts
 decides_halt : (p : Pace) (j : Contents → Result Aim Refusal) (R : List ℕ → Type 0) (old new : Space) (halt : Halt) →
     Decides p j R old new (Err halt) → CommandHalts p j R old new halt
 decides_halt p j R old new halt h = grind (arith, common_steps)
 
-module _ {S : Type 0} (space : S → Space) (may_fail : Call → S → S → Type 0) (unbegun : S → S → Type 0)
-    (pace : Pace) (command : Command) (old mid : S) (out : Taken) where
-  -- the file space at this moment, where standard output is as it was
-  abbrev at : S → World
-  at s = record { files = space s; out = out }
+-- the file space at this moment, where standard output is as it was
+abbrev at : {S : Type 0} → (S → Space) → Taken → S → World
+at space out s = record { files = space s; out = out }
 
-  pub judging_ends : (r : Reader) (U : List ℕ → Type 0) (T : Type 0) (halt : Halt) (end : Result (Unit {0}) Stop) →
-      IsErrAnd end (λ stop. stop ≡ Halted halt) → IsJudged space may_fail unbegun pace command old mid (Err halt) →
-      CommandEnds pace r (λ name. Fails space may_fail unbegun (Reads name) old mid) U T command (at old) (at mid) end
-  judging_ends r U T halt (Ok x) e h = absurd e
-  judging_ends r U T halt (Err stop) e h =
-      grind (arith, common_steps, decides_halt pace _ _ _ _ halt (h.judges r), h.judges r)
+module _ {S : Type 0} {space : S → Space} {may_fail : Call → S → S → Type 0} {unbegun : S → S → Type 0}
+    {pace : Pace} {command : Command} {old mid : S} (r : Reader) (out : Taken) where
+  pub judging_ends : {halt : Halt} → IsJudged space may_fail unbegun pace command old mid (Err halt) →
+      CommandEnds pace r (λ name. Fails space may_fail unbegun (Reads name) old mid) (λ _. Unit {0}) (Unit {0}) command
+      (at space out old) (at space out mid) (Err (Halted halt))
+  judging_ends {halt} h = grind (arith, common_steps, decides_halt pace _ _ _ _ halt (h.judges r), h.judges r)
 
-  module _ (plan : Plan) (judged : IsJudged space may_fail unbegun pace command old mid (Ok plan)) (r : Reader)
-      (R : List ℕ → Type 0) (T : Type 0) where
+  module _ {plan : Plan} (judged : IsJudged space may_fail unbegun pace command old mid (Ok plan)) where
     is_planned : IsPlanned r command (space old) plan
-    is_planned =
-        let d = judged.judges r in search (arith, rules, told_map)
+    is_planned = let d = judged.judges r in search (arith, rules, told_map)
 
     uncounted : (space mid).faults ≡ (space old).faults
     uncounted = same_faults command (space old) (space mid) (judged.judges r).2.uncounted
 
     -- the plan is done
-    pub performed : (W : List ℕ → Type 0) (new : World) → IsDone plan (at mid) new →
-        CommandEnds pace r R W T command (at old) new (Ok tt)
-    performed W new h = grind (arith, common_steps, is_planned, uncounted)
+    pub performed : {new : World} → IsDone plan (at space out mid) new →
+        CommandEnds pace r (λ _. Unit {0}) (λ _. Unit {0}) (Unit {0}) command (at space out old) new (Ok tt)
+    performed h = grind (arith, common_steps, is_planned, uncounted)
 
     -- or cut short
-    pub cut_short : (keeps : S → S → Type 0) (new : S) (out_new : Taken) (unwritten : Unwritten)
-        (end : Result (Unit {0}) Stop) → IsErrAnd end (λ stop. stop ≡ Cut unwritten) → Lasts keeps → keeps old mid →
-        IsCut (λ name. Fails space may_fail keeps (Writes name) mid new) T plan (at mid)
-        (record { files = space new; out = out_new }) unwritten →
-        CommandEnds pace r R (λ name. Fails space may_fail keeps (Writes name) old new) T command (at old)
-        (record { files = space new; out = out_new }) end
-    cut_short keeps new out_new unwritten end e lasts kept h =
-        cut_ends pace r R _ (λ name. Fails space may_fail keeps (Writes name) old new) T command plan (at old) (at mid)
-        (record { files = space new; out = out_new }) unwritten end e is_planned
-        (λ name. fails_after space may_fail keeps (Writes name) old mid new lasts uncounted kept) judged.told
-        uncounted refl h
+    pub cut_short : (keeps : S → S → Type 0) (new : S) (out_new : Taken) (T : Type 0) (unwritten : Unwritten) →
+        Lasts keeps → keeps old mid →
+        IsCut (λ name. Fails space may_fail keeps (Writes name) mid new) T plan (at space out mid)
+        (at space out_new new) unwritten →
+        CommandEnds pace r (λ _. Unit {0}) (λ name. Fails space may_fail keeps (Writes name) old new) T command
+        (at space out old) (at space out_new new) (Err (Cut unwritten))
+    cut_short keeps new out_new T unwritten lasts kept h =
+        let since : (name : List ℕ) → Fails space may_fail keeps (Writes name) mid new →
+        Fails space may_fail keeps (Writes name) old new = search (arith, rules, fails_after, uncounted) in
+        search (arith, rules, file_from, is_planned, uncounted, since)
 
 -- no writing was begun where the run halted, and the status tells whether it did
 
 pub halts_so : {P : Type 0} (end : Result (Unit {0}) Stop) → P → WhereHalted end P
 halts_so end h = grind (arith, common_steps)
 
-pub never_halts : (P : Type 0) (end : Result (Unit {0}) Stop) (unwritten : Unwritten) →
-    IsErrAnd end (λ stop. stop ≡ Cut unwritten) → WhereHalted end P
-never_halts P end unwritten e = grind (arith, common_steps)
-
-pub halted_so : {P : Type 0} (end : Result (Unit {0}) Stop) (answer : Status) → answer ≡ status_of end →
+pub halted_so : {P : Type 0} (end : Result (Unit {0}) Stop) {answer : Status} → answer ≡ status_of end →
     WhereHalted end P → answer ≢ status.Done → answer ≢ status.WriteFault → P
-halted_so end answer e h done cut = grind (arith, common_steps)
+halted_so end e h done cut = grind (arith, common_steps)
 
 -- ## What the status says of such an end
 
@@ -157,30 +139,33 @@ module _ (p : Pace) (a : Reader) (R W : List ℕ → Type 0) (T : Type 0) where
   command_causes command old new (Err (Cut (File name))) h = grind (arith, common_steps, cut_causes, cut_rose)
   command_causes command old new (Err (Cut Output)) h = grind (arith, common_steps, cut_causes)
 
-  -- the top call's status is that of its end
-  pub causes_at : (command : Option Command) (old new : World) (end : Result (Unit {0}) Stop) (answer : Status) →
-      answer ≡ status_of end → EndsFor p a R W T command old new end →
-      StatusCauses p (judged_or_words a command) (known_by command old.files) old new answer
-  causes_at None old new end answer e h = rw e (search (arith, rules))
-  causes_at (Some c) old new end answer e h = rw e (command_causes c old new end h)
-
   not_words : (command : Command) (old new : World) (end : Result (Unit {0}) Stop) →
       CommandEnds p a R W T command old new end → status_of end ≡ status.Words → ⊥
   not_words command old new end h e = grind (arith, common_steps, never_words, words_is)
 
-  -- words that are no command end with the status of such words, and no others do
-  pub words_end : (command : Option Command) (old new : World) (end : Result (Unit {0}) Stop) (answer : Status) →
-      answer ≡ status_of end → EndsFor p a R W T command old new end → command ≡ None → answer ≡ status.Words
-  words_end command old new end answer e h none = grind (arith, common_steps)
+  causes_for : (command : Option Command) (old new : World) (end : Result (Unit {0}) Stop) →
+      EndsFor p a R W T command old new end →
+      StatusCauses p (judged_or_words a command) (known_by command old.files) old new (status_of end)
+  causes_for None old new end h = search (arith, rules)
+  causes_for (Some c) old new end h = command_causes c old new end h
 
-  pub only_words : (command : Option Command) (old new : World) (end : Result (Unit {0}) Stop) (answer : Status) →
-      answer ≡ status_of end → EndsFor p a R W T command old new end → answer ≡ status.Words → command ≡ None
-  only_words command old new end answer e h w = grind (arith, common_steps, not_words)
+-- the answer of the top call is the status of its end
+module _ (p : Pace) (a : Reader) (R W : List ℕ → Type 0) (T : Type 0) (command : Option Command) (old new : World)
+    (end : Result (Unit {0}) Stop) {answer : Status} (is : answer ≡ status_of end)
+    (ends : EndsFor p a R W T command old new end) where
+  pub causes_at : {asked : Option Command} → asked ≡ command →
+      StatusCauses p (judged_or_words a asked) (known_by asked old.files) old new answer
+  causes_at same = rw (is, same) (causes_for p a R W T command old new end ends)
+
+  -- words that are no command end with the status of such words, and no others do
+  pub words_end : command ≡ None → answer ≡ status.Words
+  words_end none = grind (arith, common_steps)
+
+  pub only_words : answer ≡ status.Words → command ≡ None
+  only_words w = grind (arith, common_steps, not_words p a R W T)
 
   -- ## The headline
 
-  -- the same of an end that is known by its status
-  pub emulated_at : (command : Option Command) (old new : World) (end : Result (Unit {0}) Stop) →
-      status_of end ≡ status.Done → EndsFor p a R W T command old new end → (c : Command) → command ≡ Some c →
+  pub emulated_at : (c : Command) → command ≡ Some c → answer ≡ status.Done →
       IfSome old.files.told (λ m. (plan : Plan) × Emulates a c m plan × IsDone plan old new)
-  emulated_at command old new end done h c e = grind (arith, common_steps, not_done_not_cut)
+  emulated_at c e done = grind (arith, common_steps, not_done_not_cut)

@@ -4,7 +4,7 @@ use Rattle.cq_run.proofs.Terms.{rules, arith, ◌≡◌, ◌∙◌, ℕ, List, [
 use Rattle.cq_run.proofs.Chain.{counts_after, judges_computed, judges_computed_err}
 use Rattle.cq_run.proofs.Told.{told_any, told_map, told_two}
 use Rattle.cq_run.proofs.Crossed.{emulates, plan_is, sent_ok}
-use Rattle.cq_run.proofs.Reached.{computed_halts, computed_plans, given_ends, given_so, read_told, Reached, begun, read_on, Settles, settled}
+use Rattle.cq_run.proofs.Reached.{computed_halts, computed_plans, given_so, read_told, Reached, begun, read_on, Settles, settled}
 use Rattle.cq_run.proofs.OnePort.{all_leave_is, none_limited}
 use Rattle.cq_run.proofs.Stays.{capture_stays, text_stays, short_stays}
 use Rattle.cq_run.specs.declared.denial.Denial.TheVariants.{LongLog, LongTrace}
@@ -12,7 +12,6 @@ use Rattle.cq_run.proofs.Stopped.{goes_best, goes_slack, stops_best, stops_slack
 use Rattle.cq_run.proofs.TextRead.{text_stands}
 use Rattle.cq_run.specs.Headline.{IsStopped, IsTakenUp}
 use Rattle.cq_run.specs.declared.refusal.StateFault.TheVariants as stopped
-use Rattle.cq_run.specs.declared.judge.Asked.{Asked}
 use Rattle.cq_run.specs.declared.judge.Asked.TheVariants as asked
 
 -- what a command knows of a file space has its count of faults
@@ -32,12 +31,6 @@ pub counts_known : (p : Pace) (U V : Type 0) (command : Command) (old new : Spac
     Uncounted p U (known_to command old).faults (known_to command new).faults → Uncounted p V old.faults new.faults
 counts_known p U V command old new f h = grind (arith, common_steps, counts_after, known_faults)
 
--- ## Judging a configuration, its captures, and then what the ideal switch sends of them
-
-abbrev pub sent_of : (Tables → List (List Captured) → List Departure → Aim) → Reader → Tables → List (List Captured) →
-    Contents → Result Aim Refusal
-sent_of aim_of r t captures m = ideally_sent t captures >>= (λ sent. Ok (aim_of t captures sent))
-
 -- what is judged of a command that is this one
 pub judged_as : {S : Type 0} (space : S → Space) (may_fail : Call → S → S → Type 0) (keeps : S → S → Type 0) (p : Pace)
     (command x : Command) (old new : S) (result : Result Plan Halt) → command ≡ x →
@@ -46,24 +39,29 @@ judged_as space may_fail keeps p command x old new result e h = rw e h
 
 -- ## Judging made traffic
 
-module _ {S : Type 0} (space : S → Space) (may_fail : Call → S → S → Type 0) (keeps : S → S → Type 0)
-    (seed ports slots : ℕ) (s : S) (closed : (space s).mode ≡ Closed) (kept : keeps s s) where
-  abbrev aim : Aim
-  aim = Reporting (soak_tables ports) (soak_captures seed ports slots)
+abbrev soak_aim : (seed ports slots : ℕ) → Aim
+soak_aim seed ports slots = Reporting (soak_tables ports) (soak_captures seed ports slots)
 
-  abbrev sent : Result (List Departure) Refusal
-  sent = ideally_sent (soak_tables ports) (soak_captures seed ports slots)
+abbrev soak_sent : (seed ports slots : ℕ) → Result (List Departure) Refusal
+soak_sent seed ports slots = ideally_sent (soak_tables ports) (soak_captures seed ports slots)
 
-  reported_ok : (r : Result (List Departure) Refusal) → IsOk r → (r >>= (λ _. Ok aim)) ≡ Ok aim
-  reported_ok r h = grind (arith, common_steps)
+reported_ok : (r : Result (List Departure) Refusal) (aim : Aim) → IsOk r → (r >>= (λ _. Ok aim)) ≡ Ok aim
+reported_ok r aim h = grind (arith, common_steps)
 
+module _ {S : Type 0} {space : S → Space} {may_fail : Call → S → S → Type 0} {keeps : S → S → Type 0}
+    {seed ports slots : ℕ} {s : S} (closed : (space s).mode ≡ Closed) (kept : keeps s s) where
   -- nothing is read: the run is computed
-  pub soak_judged : (result : Result Plan Halt) → IfOk result (Meets aim) → IfOk result (λ plan. plan.writes ≡ []) →
-      IfOk result (λ _. IsOk sent) → IfErr result (IsHaltOf sent) →
+  pub soak_judged : (result : Result Plan Halt) → IfOk result (Meets (soak_aim seed ports slots)) →
+      IfOk result (λ plan. plan.writes ≡ []) → IfOk result (λ _. IsOk (soak_sent seed ports slots)) →
+      IfErr result (IsHaltOf (soak_sent seed ports slots)) →
       IsJudged space may_fail keeps InTurn (Soak seed ports slots) s s result
   soak_judged (Ok plan) meets none is halts =
       record {
-        judges = λ r. (aim, meets, judges_computed closed (reported_ok sent is));
+        judges = λ r. (
+          soak_aim seed ports slots,
+          meets,
+          judges_computed closed (reported_ok (soak_sent seed ports slots) _ is),
+        );
         kept = kept;
         names = rw none tt;
         emulates = λ r. told_any (space s).told _ (λ m. tt);
@@ -77,39 +75,28 @@ pub all_any : (ws : List (List ℕ × List ℕ)) → AllByRecursion (λ _. Unit 
 all_any [] = tt
 all_any (w ∷ ws) = (tt, all_any ws)
 
--- what the ideal switch is to do
-abbrev pub switching : Tables → List (List Captured) → List Departure → Aim
-switching tables captures sent = Exactly (switched tables captures sent)
+-- ## Judging a configuration, its captures, and then what the ideal switch sends of them
 
 module _ {S : Type 0} {space : S → Space} {may_fail : Call → S → S → Type 0} {keeps : S → S → Type 0} {p : Pace}
     {old : S} {config : List ℕ} where
-  -- reading ends it
-  pub run_ends : {new : S} {halt : Halt} → EndsGiven space may_fail keeps p config old new halt →
-      IsJudged space may_fail keeps p (Run config) old new (Err halt)
-  run_ends ended = given_ends (λ s. refl) (sent_of Crossing) (λ r. refl) (λ name. tt) ended
-
-  -- and what is made of what was read
+  -- what is made of what was read
   pub run_judged : {now : S} {given : Given} → IsGiven space keeps config old now given →
       (result : Result Plan Halt) → IfOk result (IsCrossing given.tables given.captures) →
       IfErr result (IsHaltOf (ideally_sent given.tables given.captures)) →
       IsJudged space may_fail keeps p (Run config) old now result
-  run_judged {given = given} is (Ok plan) crossing refused =
-      computed_plans _ _ (given_so (λ s. refl) (sent_of Crossing) (λ r. refl) is) crossing.is_sent
-      (crossing.records, crossing.keeps_up.runs, crossing.written) (all_any plan.writes) (λ r. told_map
-      (space old).told _ _ (emulates given.tables given.captures plan crossing r config) (read_told is r))
-  run_judged is (Err halt) crossing refused =
-      computed_halts _ _ (given_so (λ s. refl) (sent_of Crossing) (λ r. refl) is) halt refused
+  run_judged {given = given} is (Ok plan) crossing refused = computed_plans _ _ (given_so asked.Run is)
+      crossing.is_sent (crossing.records, crossing.keeps_up.runs, crossing.written) (all_any plan.writes) (λ r.
+      told_map (space old).told _ _ (emulates given.tables given.captures plan crossing r config) (read_told is r))
+  run_judged is (Err halt) crossing refused = computed_halts _ _ (given_so asked.Run is) halt refused
 
   -- the same of the ideal switch
   pub ideal_judged : {now : S} {given : Given} → IsGiven space keeps config old now given →
       (result : Result Plan Halt) → IfOk result (IsIdeal given.tables given.captures) →
       IfErr result (IsHaltOf (ideally_sent given.tables given.captures)) →
       IsJudged space may_fail keeps p (Ideal config) old now result
-  ideal_judged is (Ok plan) ideal refused =
-      computed_plans _ _ (given_so (λ s. refl) (sent_of switching) (λ r. refl) is) ideal.is_sent ideal.written
+  ideal_judged is (Ok plan) ideal refused = computed_plans _ _ (given_so asked.Ideal is) ideal.is_sent ideal.written
       (all_any plan.writes) (λ r. told_any (space old).told _ (λ m. tt))
-  ideal_judged is (Err halt) ideal refused =
-      computed_halts _ _ (given_so (λ s. refl) (sent_of switching) (λ r. refl) is) halt refused
+  ideal_judged is (Err halt) ideal refused = computed_halts _ _ (given_so asked.Ideal is) halt refused
 
 -- ## Passing: what leaves a switch of one port, from the one capture that is read
 
@@ -168,9 +155,6 @@ last t captures trace log = ideally_sent t captures >>= (λ sent. Ok (Auditing t
 abbrev pub from_log : Tables → List (List Captured) → List ℕ → Contents → Result Aim Refusal
 from_log t captures trace m = text_in LongLog t.log m >>= (λ log. last t captures trace log)
 
-abbrev pub from_trace : Reader → Tables → List (List Captured) → Contents → Result Aim Refusal
-from_trace r t captures m = text_in LongTrace t.trace m >>= (λ trace. from_log t captures trace m)
-
 pub halt_settles : {t : Tables} {captures : List (List Captured)} {trace log : List ℕ} (halt : Halt) →
     IsAuditHalted t captures trace log halt → Settles (last t captures trace log) (Err halt)
 halt_settles halt h = grind (arith, common_steps)
@@ -198,48 +182,39 @@ module _ (given : Given) (trace log : List ℕ) where
   }
 
 module _ {S : Type 0} {space : S → Space} {keeps : S → S → Type 0} {old s1 : S} {config : List ℕ} {given : Given}
-    (is : IsGiven space keeps config old s1 given) where
-  -- the trace is left
-  pub at_trace : Reached space keeps (Audit config) old s1 (λ r. from_trace r given.tables given.captures)
-  at_trace = given_so (λ s. refl) from_trace (λ r. refl) is
+    (is : IsGiven space keeps config old s1 given) (lasts : Lasts keeps) {s2 : S} (kept : keeps s1 s2)
+    {Q : List ℕ → Type 0} {trace : List ℕ}
+    (traced : Judges InTurn (text_in LongTrace given.tables.trace) Q (space s1) (space s2) (Ok trace)) where
+  -- the log is left
+  pub at_log : Reached space keeps (Audit config) old s2 (λ r. from_log given.tables given.captures trace)
+  at_log = read_on (λ r. from_log given.tables given.captures) lasts (given_so asked.Audit is) kept
+      (λ r. text_stays LongTrace given.tables.trace) (λ r. traced)
 
-  module _ (lasts : Lasts keeps) {s2 : S} (kept : keeps s1 s2) {Q : List ℕ → Type 0} {trace : List ℕ}
-      (traced : Judges InTurn (text_in LongTrace given.tables.trace) Q (space s1) (space s2) (Ok trace)) where
-    -- the log is left
-    pub at_log : Reached space keeps (Audit config) old s2 (λ r. from_log given.tables given.captures trace)
-    at_log = read_on (λ r. from_log given.tables given.captures) lasts at_trace kept
-        (λ r. text_stays LongTrace given.tables.trace) (λ r. traced)
+  module _ {s3 : S} (kept_on : keeps s2 s3) {T : List ℕ → Type 0} {log : List ℕ}
+      (logged : Judges InTurn (text_in LongLog given.tables.log) T (space s2) (space s3) (Ok log)) where
+    -- the ideal run is left
+    at_last : Reached space keeps (Audit config) old s3 (λ r m. last given.tables given.captures trace log)
+    at_last = read_on (λ r log m. last given.tables given.captures trace log) lasts at_log kept_on
+        (λ r. text_stays LongLog given.tables.log) (λ r. logged)
 
-    module _ {s3 : S} (kept_on : keeps s2 s3) {T : List ℕ → Type 0} {log : List ℕ}
-        (logged : Judges InTurn (text_in LongLog given.tables.log) T (space s2) (space s3) (Ok log)) where
-      -- the ideal run is left
-      pub at_last : Reached space keeps (Audit config) old s3 (λ r m. last given.tables given.captures trace log)
-      at_last = read_on (λ r log m. last given.tables given.captures trace log) lasts at_log kept_on
-          (λ r. text_stays LongLog given.tables.log) (λ r. logged)
-
-      -- neither the log nor the trace is denied
-      pub audit_plans : {may_fail : Call → S → S → Type 0} {plan : Plan} →
-          IsAuditPassed given.tables given.captures trace log → plan ≡ audited →
-          IsJudged space may_fail keeps InTurn (Audit config) old s3 (Ok plan)
-      audit_plans {plan = plan} passed written =
-          let told = (space old).told in
-          computed_plans _ _ at_last passed.ideally (passed.meets, written) (rw written tt)
-          (λ r. told_two told _ _ _ (emulates_at given trace log r config plan passed written) (read_told is r)
-          (told_two told _ _ _ (λ m a b. (a, b)) (rw is.told at traced.ok)
-          (rw (traced.told, is.told) at logged.ok)))
-
-      pub audit_judged : {may_fail : Call → S → S → Type 0} (result : Result Plan Halt) →
-          IfOk result (λ _. IsAuditPassed given.tables given.captures trace log) →
-          IfOk result (λ plan. plan ≡ audited) → IfErr result (IsAuditHalted given.tables given.captures trace log) →
-          IsJudged space may_fail keeps InTurn (Audit config) old s3 result
-      audit_judged (Ok plan) passed written halted = audit_plans passed written
-      audit_judged (Err halt) passed written halted = search (rules, settled, at_last, halt_settles)
+    -- where an audit passes neither the log nor the trace is denied
+    pub audit_judged : {may_fail : Call → S → S → Type 0} (result : Result Plan Halt) →
+        IfOk result (λ _. IsAuditPassed given.tables given.captures trace log) →
+        IfOk result (λ plan. plan ≡ audited) → IfErr result (IsAuditHalted given.tables given.captures trace log) →
+        IsJudged space may_fail keeps InTurn (Audit config) old s3 result
+    audit_judged (Ok plan) passed written halted =
+        let told = (space old).told in
+        computed_plans _ _ at_last passed.ideally (passed.meets, written) (rw written tt)
+        (λ r. told_two told _ _ _ (emulates_at given trace log r config plan passed written) (read_told is r)
+        (told_two told _ _ _ (λ m a b. (a, b)) (rw is.told at traced.ok)
+        (rw (traced.told, is.told) at logged.ok)))
+    audit_judged (Err halt) passed written halted = search (rules, settled, at_last, halt_settles)
 
 -- ## Stopping a run and taking one up: the configuration, its captures, and then the text of a state
 
 -- what denies such an aim can come where contents are not told
 module _ (t : Tables) (captures : List (List Captured)) where
-  pub part_settles : (slots : ℕ) (name : List ℕ) (halt : Halt) → IsPartHalt t captures slots halt →
+  part_settles : (slots : ℕ) (name : List ℕ) (halt : Halt) → IsPartHalt t captures slots halt →
       Settles (Ok (Parting t captures slots name)) (Err halt)
   part_settles slots name halt h = grind (arith, common_steps)
 
@@ -280,46 +255,26 @@ module _ (t : Tables) (captures : List (List Captured)) (text : List ℕ) {r : R
     written = is.written;
   }
 
-abbrev pub part_rest : ℕ → List ℕ → Reader → Tables → List (List Captured) → Contents → Result Aim Refusal
-part_rest slots name r t captures m = Ok (Parting t captures slots name)
-
-abbrev pub resume_rest : List ℕ → Reader → Tables → List (List Captured) → Contents → Result Aim Refusal
-resume_rest name r t captures m = state_in name m >>= (λ text. Ok (Resuming t captures text))
-
 module _ {S : Type 0} {space : S → Space} {keeps : S → S → Type 0} {old now : S} {config : List ℕ} {given : Given}
     (is : IsGiven space keeps config old now given) (name : List ℕ) where
-  pub at_part : (slots : ℕ) → Reached space keeps (Part config slots name) old now
-      (λ r m. Ok (Parting given.tables given.captures slots name))
-  at_part slots = given_so (λ s. refl) (part_rest slots name) (λ r. refl) is
-
-  pub part_plans : {may_fail : Call → S → S → Type 0} {slots : ℕ} {text : List ℕ} {plan : Plan} →
-      AreGiven given.tables given.captures → IsPartText given.tables given.captures slots text →
-      plan ≡ file_alone name text → IsJudged space may_fail keeps InTurn (Part config slots name) old now (Ok plan)
-  part_plans {slots = slots} {text = text} {plan = plan} are text_is written =
-      settled (at_part slots) (Ok plan)
-      (Parting given.tables given.captures slots name, refl, (text, text_is, written))
-      (rw written (refl, tt)) (λ r.
-      told_map (space old).told _ _ (λ m are_read. stops_as _ _ text are are_read text_is written) (read_told is r))
-
   pub part_judged : {may_fail : Call → S → S → Type 0} {slots : ℕ} (result : Result Plan Halt) →
       IfOk result (λ _. AreGiven given.tables given.captures) → IfOk result (λ plan. (text : List ℕ)
       × IsPartText given.tables given.captures slots text × (plan ≡ file_alone name text)) →
       IfErr result (IsPartHalt given.tables given.captures slots) →
       IsJudged space may_fail keeps InTurn (Part config slots name) old now result
-  part_judged (Ok plan) are text halted = part_plans are text.1 text.2
-  part_judged {slots = slots} (Err halt) are text halted =
-      settled (at_part slots) (Err halt) (part_settles given.tables given.captures slots name halt halted) tt (λ r. tt)
-
-  pub at_text : Reached space keeps (Resume config name) old now
-      (λ r. resume_rest name r given.tables given.captures)
-  at_text = given_so (λ s. refl) (resume_rest name) (λ r. refl) is
+  part_judged {slots = slots} (Ok plan) are (text, text_is, written) halted =
+      settled (given_so (asked.Part slots name) is) (Ok plan) (_, refl, (text, text_is, written))
+      (rw written (refl, tt)) (λ r. told_map (space old).told _ _
+      (λ m are_read. stops_as _ _ text are are_read text_is written) (read_told is r))
+  part_judged {slots = slots} (Err halt) are text halted = settled (given_so (asked.Part slots name) is) (Err halt)
+      (part_settles given.tables given.captures slots name halt halted) tt (λ r. tt)
 
   module _ (lasts : Lasts keeps) {new : S} (kept : keeps now new) {Q : List ℕ → Type 0} {text : List ℕ}
       (read : Judges InTurn (state_in name) Q (space now) (space new) (Ok text)) where
     at_state : Reached space keeps (Resume config name) old new
         (λ r m. Ok (Resuming given.tables given.captures text))
-    at_state = read_on (λ r text m. Ok (Resuming given.tables given.captures text)) lasts at_text kept
-        (λ r. short_stays (State stopped.Long) name) (λ r. read)
+    at_state = read_on (λ r text m. Ok (Resuming given.tables given.captures text)) lasts
+        (given_so (asked.Resume name) is) kept (λ r. short_stays (State stopped.Long) name) (λ r. read)
 
     -- and what is made of both
     pub resume_judged : {may_fail : Call → S → S → Type 0} (result : Result Plan Halt) →
@@ -327,29 +282,16 @@ module _ {S : Type 0} {space : S → Space} {keeps : S → S → Type 0} {old no
         IfErr result (IsResumeHalt given.tables given.captures text) →
         IsJudged space may_fail keeps InTurn (Resume config name) old new result
     resume_judged (Ok plan) met refused =
-        settled at_state (Ok plan)
-        (Resuming given.tables given.captures text, refl, (met.kept, met.goes_on, met.written))
-        (all_any plan.writes) (λ r. told_two (space old).told _ _ _
-        (λ m are_read d. goes_as _ _ text are_read d met) (read_told is r) (rw is.told at read.ok))
+        settled at_state (Ok plan) (_, refl, (met.kept, met.goes_on, met.written)) (all_any plan.writes)
+        (λ r. told_two (space old).told _ _ _ (λ m are_read d. goes_as _ _ text are_read d met) (read_told is r)
+        (rw is.told at read.ok))
     resume_judged (Err halt) met refused = search (rules, settled, at_state, resume_settles)
 
--- ## Whatever is asked of a configuration, reading it or its captures ends judging
-
-pub asked_ends : {S : Type 0} {space : S → Space} {may_fail : Call → S → S → Type 0} {keeps : S → S → Type 0} {p : Pace}
-    {config : List ℕ} {old new : S} {halt : Halt} (asked : Asked) →
-    EndsGiven space may_fail keeps p config old new halt →
-    IsJudged space may_fail keeps p (command_asking config asked) old new (Err halt)
-asked_ends asked.Ideal ended = given_ends (λ s. refl) (sent_of switching) (λ r. refl) (λ name. tt) ended
-asked_ends asked.Run ended = run_ends ended
-asked_ends asked.Audit ended = given_ends (λ s. refl) from_trace (λ r. refl) (λ name. tt) ended
-asked_ends (asked.Part slots name) ended = given_ends (λ s. refl) (part_rest slots name) (λ r. refl) (λ name. tt) ended
-asked_ends (asked.Resume name) ended = given_ends (λ s. refl) (resume_rest name) (λ r. refl) (λ name. tt) ended
-
 -- what was kept of a run that goes on is built
-pub resuming_is : (t : Tables) (captures : List (List Captured)) (text : List ℕ) (c : Crossed) (plan : Plan) →
+pub resuming_is : {t : Tables} {captures : List (List Captured)} {text : List ℕ} (c : Crossed) {plan : Plan} →
     AreGiven t captures → IsResumedText t captures text (kept_by c) →
     plan.writes ≡ captures_out t captures c.run.sent.items 0 t.ports ++ (t.trace, trace_of c.run.sent.items)
     ∷ (t.log, log_of c.run.note.items) ∷ [] →
     plan.text ≡ report_with c.run.figures c.run.refused.items → IsResuming t captures text plan
 unfolding resumed
-resuming_is t captures text c plan are goes writes report = search (arith, rules, plan_is plan _ _ writes report)
+resuming_is c {plan} are goes writes report = search (arith, rules, plan_is plan _ _ writes report)

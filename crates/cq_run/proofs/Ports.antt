@@ -151,7 +151,7 @@ module _ {S : Type 0} (space : S → Space) {keeps : S → S → Type 0} {row : 
     Whole result = Judges Ahead (captures_from r limit input (row ∷ rows)) Ever (space old) (space new) result
 
     ever : (name : List ℕ) → Since name → Ever name
-    ever name = fails_after space may_fail keeps (Reads name) old mid new lasts b.uncounted kept
+    ever name = fails_after lasts b.uncounted kept
 
     -- the first capture ends it, whatever the later ones came to
     capture_ends : {halt : Halt} {later : Result (List (List Captured)) Halt} →

@@ -1,7 +1,10 @@
 -- What is known at a moment of judging a command. All that was judged so far was accepted: no fault was counted, the
 -- file space is closed, its contents are as before, and of these the command comes to what is left to judge. So where a
 -- name that is read next is unread or refused, or what was read is judged, that is what the command comes to.
-use Rattle.cq_run.proofs.Terms.{rules, arith, ◌≡◌, ◌∙◌, ◌⊎◌, ℕ, IsTrue, List, subst, inl, inr, length, Option, IfOk, IfSome, Result, Ok, Err, common_steps, AllByRecursion, Captured, Tables, Call, Fails, Lasts, Reads, Closed, Contents, Space, Command, Given, Refusal, Halt, NoMemory, Refused, Unread, Aim, Denies, Meets, EndsGiven, IsGiven, judged_of_given, Emulates, AreRead, IsJudged, IsHaltOf, Judges, Pace, InTurn, Plan, Decides, IsDenial, known_to, Reader, meaning_of, ◌>>=◌, MayRead, MayWrite, captures_in, judged, tables_in, AreTables, ports_of}
+use Rattle.cq_run.proofs.Terms.{refl, rules, arith, ◌≡◌, ◌∙◌, ◌⊎◌, ℕ, IsTrue, List, subst, inl, inr, length, Option, IfOk, IfSome, Result, Ok, Err, common_steps, AllByRecursion, Captured, Tables, Call, Fails, Lasts, Reads, Closed, Contents, Space, Command, Given, Refusal, Halt, NoMemory, Refused, Unread, Aim, Auditing, Crossing, Denies, Exactly, Meets, Parting, Resuming, Departure, switched, command_asking, ideally_sent, state_in, text_in, EndsGiven, IsGiven, judged_of_given, Emulates, AreRead, IsJudged, IsHaltOf, Judges, Pace, InTurn, Plan, Decides, IsDenial, known_to, Reader, meaning_of, ◌>>=◌, MayRead, MayWrite, captures_in, judged, tables_in, AreTables, ports_of}
+use Rattle.cq_run.specs.declared.denial.Denial.TheVariants.{LongLog, LongTrace}
+use Rattle.cq_run.specs.declared.judge.Asked.{Asked}
+use Rattle.cq_run.specs.declared.judge.Asked.TheVariants as asked
 use Rattle.cq_run.proofs.Chain.{ComesTo, comes_to_itself, goes_on, judges_back, judges_computed_err, judges_more, judges_then, counts_same, judges_after, judges_at, fails_after}
 use Rattle.cq_run.proofs.TextRead.{from_front}
 use Rattle.cq_run.proofs.Stays.{Stays, captures_from_stay, tables_stay}
@@ -26,6 +29,44 @@ refused_settles r f halt h = grind (arith, common_steps)
 denied_at : (j : Contents → Result Aim Refusal) (told : Option Contents) (aim : Aim) (refusal : Refusal) →
     IsTrue (meaning_of refusal).untold → Denies aim refusal → IfSome told (λ m. j m ≡ Ok aim) → IsDenial j told refusal
 denied_at j told aim refusal untold denied is = grind (arith, common_steps)
+
+-- what the ideal switch sends is judged last
+abbrev pub sent_of : (Tables → List (List Captured) → List Departure → Aim) → Reader → Tables → List (List Captured) →
+    Contents → Result Aim Refusal
+sent_of aim_of r t captures m = ideally_sent t captures >>= (λ sent. Ok (aim_of t captures sent))
+
+-- what is judged of what a configuration gives, where this is asked of it
+abbrev pub rest_of : Asked → Reader → Tables → List (List Captured) → Contents → Result Aim Refusal
+rest_of asked.Ideal r t captures m = sent_of (λ v c sent. Exactly (switched v c sent)) r t captures m
+rest_of asked.Run r t captures m = sent_of Crossing r t captures m
+rest_of asked.Audit r t captures m =
+    text_in LongTrace t.trace m >>= (λ trace. text_in LongLog t.log m >>= (λ log.
+    sent_of (λ v c sent. Auditing v c sent trace log) r t captures m))
+rest_of (asked.Part slots name) r t captures m = Ok (Parting t captures slots name)
+rest_of (asked.Resume name) r t captures m = state_in name m >>= (λ text. Ok (Resuming t captures text))
+
+-- so the command is judged that asks this; it knows all of the files, and may read any name
+asks : (config : List ℕ) (asked : Asked) (r : Reader) →
+    judged r (command_asking config asked) ≡ judged_of_given r config (rest_of asked r)
+asks config asked.Ideal r = refl
+asks config asked.Run r = refl
+asks config asked.Audit r = refl
+asks config (asked.Part slots name) r = refl
+asks config (asked.Resume name) r = refl
+
+asks_known : (config : List ℕ) (asked : Asked) (s : Space) → known_to (command_asking config asked) s ≡ s
+asks_known config asked.Ideal s = refl
+asks_known config asked.Run s = refl
+asks_known config asked.Audit s = refl
+asks_known config (asked.Part slots name) s = refl
+asks_known config (asked.Resume name) s = refl
+
+asks_any : (config : List ℕ) (asked : Asked) (name : List ℕ) → MayRead (command_asking config asked) name
+asks_any config asked.Ideal name = tt
+asks_any config asked.Run name = tt
+asks_any config asked.Audit name = tt
+asks_any config (asked.Part slots state) name = tt
+asks_any config (asked.Resume state) name = tt
 
 -- what is known at such a moment, of a command that knows all of the files
 pub record Reached {S : Type 0} (space : S → Space) (keeps : S → S → Type 0) (command : Command) (old now : S)
@@ -55,29 +96,6 @@ module _ {S : Type 0} {space : S → Space} {keeps : S → S → Type 0} {comman
       Reached space keeps command old old (λ r. judged r command)
   begun knows lasts closed = grind (arith, common_steps, comes_to_itself, lasts.none old)
 
-  -- once a configuration is read, what is judged of what it gives is left
-  pub given_so : {config : List ℕ} → ((s : Space) → known_to command s ≡ s) →
-      (rest : Reader → Tables → List (List Captured) → Contents → Result Aim Refusal) →
-      ((r : Reader) → judged r command ≡ judged_of_given r config (rest r)) → {now : S} {given : Given} →
-      IsGiven space keeps config old now given →
-      Reached space keeps command old now (λ r. rest r given.tables given.captures)
-  given_so {config} knows rest same {now} {given} is = record {
-    knows = knows;
-    comes = λ r.
-        let told = (space old).told in
-        let P : (Contents → Result Aim Refusal) → Type 0 = λ j. IfSome told (ComesTo (judged r command) j) in
-        goes_on (judged r command) (captures_in r given.tables) (rest r given.tables) told given.captures
-        (captures_from_stay r given.tables.limit_bytes 0 given.tables.ports) (is.captures r)
-        (goes_on (judged r command) (tables_in config)
-        (λ (t : Tables) (m : Contents). captures_in r t m >>= (λ captures. rest r t captures m)) told
-        given.tables (tables_stay config) is.tables
-        (subst P (same r) (comes_to_itself (judged r command) told)));
-    kept = is.kept;
-    closed = is.closed;
-    told = is.told;
-    uncounted = is.uncounted;
-  }
-
   -- what was read next is accepted
   pub read_on : {A : Type 0} {mid new : S} {j : Reader → Contents → Result A Refusal}
       (f : Reader → A → Contents → Result Aim Refusal) → Lasts keeps →
@@ -104,6 +122,28 @@ module _ {S : Type 0} {space : S → Space} {keeps : S → S → Type 0} {comman
         (λ m c. c.same ∙ e) (reached.comes r) in
         grind (arith, common_steps)
 
+-- once a configuration is read, what is judged of what it gives is left
+pub given_so : {S : Type 0} {space : S → Space} {keeps : S → S → Type 0} {config : List ℕ} {old now : S} {given : Given}
+    (asked : Asked) → IsGiven space keeps config old now given →
+    Reached space keeps (command_asking config asked) old now (λ r. rest_of asked r given.tables given.captures)
+given_so {space = space} {config = config} {old = old} {given = given} asked is = record {
+  knows = asks_known config asked;
+  comes = λ r.
+      let told = (space old).told in
+      let t = given.tables in
+      let whole = judged r (command_asking config asked) in
+      let P : (Contents → Result Aim Refusal) → Type 0 = λ j. IfSome told (ComesTo whole j) in
+      goes_on whole (captures_in r t) (rest_of asked r t) told given.captures
+      (captures_from_stay r t.limit_bytes 0 t.ports) (is.captures r)
+      (goes_on whole (tables_in config)
+      (λ (u : Tables) (m : Contents). captures_in r u m >>= (λ captures. rest_of asked r u captures m)) told t
+      (tables_stay config) is.tables (subst P (asks config asked r) (comes_to_itself whole told)));
+  kept = is.kept;
+  closed = is.closed;
+  told = is.told;
+  uncounted = is.uncounted;
+}
+
 module _ {S : Type 0} {space : S → Space} {may_fail : Call → S → S → Type 0} {keeps : S → S → Type 0}
     {command : Command} {p : Pace} {old new : S} where
   -- judging ends without a plan
@@ -118,15 +158,6 @@ module _ {S : Type 0} {space : S → Space} {may_fail : Call → S → S → Typ
     closed = (h from_front).closed;
     told = (h from_front).told;
   }
-
-  -- reading a configuration ends judging of what it gives, where any name may be read
-  pub given_ends : {config : List ℕ} {halt : Halt} → ((s : Space) → known_to command s ≡ s) →
-      (rest : Reader → Tables → List (List Captured) → Contents → Result Aim Refusal) →
-      ((r : Reader) → judged r command ≡ judged_of_given r config (rest r)) →
-      ((name : List ℕ) → MayRead command name) → EndsGiven space may_fail keeps p config old new halt →
-      IsJudged space may_fail keeps p command old new (Err halt)
-  given_ends {config} {halt} knows rest same any ended =
-      halted knows (λ r. judges_more (λ name u. (any name, u)) (rw (← same r) at (ended.ends r (rest r)))) ended.kept
 
   -- what is read next ends judging
   pub read_ends : {A : Type 0} {mid : S} {j : Reader → Contents → Result A Refusal}
@@ -192,6 +223,15 @@ module _ {S : Type 0} {space : S → Space} {may_fail : Call → S → S → Typ
         IsJudged space may_fail keeps p command old new (Ok plan)
     computed_plans {x} {plan} e meets names emulates = grind (arith, common_steps, settled reached (Ok plan))
 
+-- whatever is asked of a configuration, reading it or its captures ends judging
+pub asked_ends : {S : Type 0} {space : S → Space} {may_fail : Call → S → S → Type 0} {keeps : S → S → Type 0} {p : Pace}
+    {config : List ℕ} {old new : S} {halt : Halt} (asked : Asked) →
+    EndsGiven space may_fail keeps p config old new halt →
+    IsJudged space may_fail keeps p (command_asking config asked) old new (Err halt)
+asked_ends {config = config} asked ended =
+    halted (asks_known config asked) (λ r. judges_more (λ name u. (asks_any config asked name, u))
+    (rw (← asks config asked r) at (ended.ends r (rest_of asked r)))) ended.kept
+
 -- ## Reading a configuration and its captures, in turn or ahead
 
 module _ {S : Type 0} {space : S → Space} {may_fail : Call → S → S → Type 0} {keeps : S → S → Type 0}
@@ -209,7 +249,7 @@ module _ {S : Type 0} {space : S → Space} {may_fail : Call → S → S → Typ
       (Err halt)) → keeps mid new → EndsGiven space may_fail keeps p config old new halt
   captures_end {mid} {t} {Q} {halt} lasts read kept h kept_on = record {
     ends = λ r rest. judges_after _ read (tables_stay config)
-        (λ name. fails_after space may_fail keeps (Reads name) old mid new lasts read.uncounted kept)
+        (λ name. fails_after lasts read.uncounted kept)
         (judges_then _ (λ name u. u) (h r));
     kept = lasts.both old mid new kept kept_on;
   }

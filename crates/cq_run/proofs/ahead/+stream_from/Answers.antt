@@ -1,5 +1,5 @@
 use Rattle.cq_run.proofs.Terms.{◌≡◌, [], arith, nil_from_length}
-use Rattle.cq_run.proofs.Ports.{Unread, begun_is, begun_small, file_ends, none_arrive, one_more, together}
+use Rattle.cq_run.proofs.Ports.{begun_is, begun_small, file_ends, none_arrive, one_more, together}
 use Rattle.cq_run.proofs.Told.{exit_is}
 use Rattle.cq_run.proofs.ahead.+stream_from.Goals as goal
 
@@ -8,10 +8,7 @@ use Rattle.cq_run.proofs.ahead.+stream_from.Goals as goal
 pub returns-in-None-clause-judges : goal.returns-in-None-clause-judges
 returns-in-None-clause-judges g t c = λ r.
     let none : c.args.rows.now ≡ [] = nil_from_length c.args.rows.now c.in-None.ensures.cases in
-    let F = g.F.Files in
-    let files = c.args.files.now in
-    rw (none, c.of.ensures, c.new.ensures.items) (none_arrive r c.args.tables.now.limit_bytes c.args.input
-    (Unread F.space F.may_fail F.unbegun files files) (F.space files) c.requires.closed)
+    rw (none, c.of.ensures, c.new.ensures.items) (none_arrive r _ _ _ _ c.requires.closed)
 
 -- ## No writing was begun
 
@@ -33,15 +30,13 @@ finish_port-requires-clause-small g t c = begun_small c.in_ok-begun-in-Some.ensu
 pub returns-in_err-begun-in-Some-clause-judges : goal.returns-in_err-begun-in-Some-clause-judges
 returns-in_err-begun-in-Some-clause-judges g t c = λ r.
     rw (exit_is _ c.from_residual.ensures.1, c.in-Some.ensures.cases.0)
-    (file_ends r c.args.tables.now.limit_bytes c.args.input c.in-Some.row.now c.in-Some.rest.now
-    (c.in_err-begun-in-Some.ensures.halts r) c.begin_port.ensures.closed c.begin_port.ensures.told)
+    (file_ends r _ _ _ _ (c.in_err-begun-in-Some.ensures.halts r) c.begin_port.ensures.closed c.begin_port.ensures.told)
 
 pub returns-in_ok-begun-in-Some-clause-judges : goal.returns-in_ok-begun-in-Some-clause-judges
 returns-in_ok-begun-in-Some-clause-judges g t c = λ r.
     rw c.in-Some.ensures.cases.0
     (together _ c.in_ok-begun-in-Some.ensures.begun c.begin_port.ensures.closed c.begin_port.ensures.told
-    c.begin_port.ensures.kept g.met.F.Files.lasts_unbegun r c.args.input c.in-Some.rest.now _ _
-    c.finish_port.result c.stream_from-later.result c.in_front.result c.finish_port.ensures.spelt
+    c.begin_port.ensures.kept g.met.F.Files.lasts_unbegun r _ _ _ _ _ _ _ c.finish_port.ensures.spelt
     c.finish_port.ensures.halts (c.stream_from-later.ensures.judges r) c.in_front.ensures)
 
 pub returns-in_ok-begun-in-Some-clause-each : goal.returns-in_ok-begun-in-Some-clause-each

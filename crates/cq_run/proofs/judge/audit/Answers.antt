@@ -1,12 +1,13 @@
 use Rattle.cq_run.proofs.Terms.{inl, Err}
-use Rattle.cq_run.proofs.Planned.{at_log, at_trace, audit_judged}
+use Rattle.cq_run.proofs.Planned.{at_log, audit_judged}
 use Rattle.cq_run.proofs.Told.{exit_is}
-use Rattle.cq_run.proofs.Reached.{read_ends}
+use Rattle.cq_run.proofs.Reached.{given_so, read_ends}
+use Rattle.cq_run.specs.declared.judge.Asked.TheVariants as asked
 use Rattle.cq_run.proofs.judge.audit.Goals as goal
 
 pub returns-in_err-trace : goal.returns-in_err-trace
 returns-in_err-trace g c = λ config start is. rw (exit_is _ c.from_residual.ensures.1)
-    (read_ends _ g.met.F.Files.lasts_unbegun (at_trace is) c.read_text.ensures.kept
+    (read_ends _ g.met.F.Files.lasts_unbegun (given_so asked.Audit is) c.read_text.ensures.kept
     (λ r. c.in_err-trace.ensures.judges) (λ asked u. (tt, u.1)))
 
 pub returns-in_err-log : goal.returns-in_err-log

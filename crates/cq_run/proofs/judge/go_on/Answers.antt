@@ -12,6 +12,5 @@ returns-in_err-crossed-clause-refused g c = search (arith, rules, exit_is)
 pub returns-clause-resuming : goal.returns-clause-resuming
 returns-clause-resuming g c =
     let resumed = rw c.as_slice.ensures at c.in_ok-crossed.ensures.resumed in
-    resuming_is c.args.tables.now c.args.captures c.args.text c.in_ok-crossed.crossed
-    c.in_ok-build_crossed.field-0 resumed.given resumed.resumed c.in_ok-build_crossed.ensures.writes
+    resuming_is c.in_ok-crossed.crossed resumed.given resumed.resumed c.in_ok-build_crossed.ensures.writes
     c.in_ok-build_crossed.ensures.text

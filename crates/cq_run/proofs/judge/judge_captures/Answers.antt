@@ -1,6 +1,7 @@
-use Rattle.cq_run.proofs.Planned.{at_text, ideal_judged, part_judged, resume_judged, run_judged}
+use Rattle.cq_run.proofs.Planned.{ideal_judged, part_judged, resume_judged, run_judged}
 use Rattle.cq_run.proofs.Told.{exit_is}
-use Rattle.cq_run.proofs.Reached.{read_ends}
+use Rattle.cq_run.proofs.Reached.{given_so, read_ends}
+use Rattle.cq_run.specs.declared.judge.Asked.TheVariants as asked
 use Rattle.cq_run.proofs.judge.judge_captures.Goals as goal
 
 pub returns-in-Ideal : goal.returns-in-Ideal
@@ -32,5 +33,5 @@ returns-in_ok-text-in-Resume g c = λ config start is. rw c.in-Resume.is (resume
 
 pub returns-in_err-text-in-Resume : goal.returns-in_err-text-in-Resume
 returns-in_err-text-in-Resume g c = λ config start is. rw (c.in-Resume.is, exit_is _ c.from_residual.ensures.1)
-    (read_ends _ g.met.F.Files.lasts_unbegun (at_text is _) c.read_stopped.ensures.kept
+    (read_ends _ g.met.F.Files.lasts_unbegun (given_so (asked.Resume _) is) c.read_stopped.ensures.kept
     (λ r. c.in_err-text-in-Resume.ensures.judges) (λ asked u. (tt, u.1)))

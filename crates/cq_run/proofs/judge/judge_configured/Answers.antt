@@ -1,5 +1,4 @@
-use Rattle.cq_run.proofs.Planned.{asked_ends}
-use Rattle.cq_run.proofs.Reached.{tables_end}
+use Rattle.cq_run.proofs.Reached.{asked_ends, tables_end}
 use Rattle.cq_run.proofs.Told.{exit_is}
 use Rattle.cq_run.proofs.judge.judge_configured.Goals as goal
 

@@ -1,5 +1,4 @@
-use Rattle.cq_run.proofs.Planned.{asked_ends}
-use Rattle.cq_run.proofs.Reached.{captures_end, given_read}
+use Rattle.cq_run.proofs.Reached.{asked_ends, captures_end, given_read}
 use Rattle.cq_run.proofs.TextRead.{from_front}
 use Rattle.cq_run.proofs.Told.{exit_is}
 use Rattle.cq_run.proofs.judge.judge_tables.Goals as goal

@@ -23,6 +23,5 @@ loop-writes-preserved g c = record {
 pub returns-in-Err-clause-why : goal.returns-in-Err-clause-why
 returns-in-Err-clause-why g c =
     let named : c.name.result.now ≡ c.into_name.result = c.name.ensures ∙ sym c.into_name.ensures in
-    rw named at (fails_after g.F.Files.space g.F.Files.may_fail g.F.Files.keeps (Writes c.name.result.now)
-    c.args.files.now c.loop-writes.files c.write_whole.new.files g.met.F.Files.lasts
-    c.loop-writes.invariant.uncounted c.loop-writes.invariant.kept c.in-Err.ensures.why)
+    rw named at (fails_after g.met.F.Files.lasts c.loop-writes.invariant.uncounted c.loop-writes.invariant.kept
+    c.in-Err.ensures.why)

@@ -11,8 +11,7 @@ ports-init g c = search (arith, rules, reads_none, g.F.Files.space, g.met.F.File
 pub ports-preserved : goal.ports-preserved
 ports-preserved g c =
     record {
-      judged = λ r. reads_more r c.args.tables.now.limit_bytes c.as_slice-rows.result.now c.ports.input
-          c.index-rows-input.result c.ports-test.true c.index-rows-input.is c.in_ok-put_capture.ensures
+      judged = λ r. reads_more r _ _ _ _ c.ports-test.true c.index-rows-input.is c.in_ok-put_capture.ensures
           (c.ports.invariant.judged r) (c.in_ok-capture.ensures.judges r);
       each = ap (λ (cs : List (List Captured)). length cs) c.in_ok-put_capture.ensures
           ∙ length-append c.ports.captures.items _ ∙ omega (arith, c.ports.invariant.each);
@@ -21,16 +20,13 @@ ports-preserved g c =
 
 pub returns-in_err-capture-clause-judges : goal.returns-in_err-capture-clause-judges
 returns-in_err-capture-clause-judges g c = λ r. rw (exit_is _ c.from_residual.ensures.1, sym c.as_slice-rows.ensures)
-    (ends_all r c.args.tables.now.limit_bytes c.as_slice-rows.result.now c.ports.input c.index-rows-input.result
-    c.ports-test.true c.index-rows-input.is (λ name. fails_after g.F.Files.space g.F.Files.may_fail g.F.Files.unbegun
-    (Reads name) c.args.files.now c.ports.files c.read_port.new.files g.met.F.Files.lasts_unbegun
+    (ends_all r _ _ _ _ c.ports-test.true c.index-rows-input.is (λ name. fails_after g.met.F.Files.lasts_unbegun
     (c.ports.invariant.judged r).uncounted c.ports.invariant.kept) (c.ports.invariant.judged r)
     (c.in_err-capture.ensures.judges r))
 
 pub returns-clause-judges : goal.returns-clause-judges
 returns-clause-judges g c = λ r. rw (c.of.ensures, sym c.as_slice-rows.ensures)
-    (reads_all r c.args.tables.now.limit_bytes c.as_slice-rows.result.now (omega (arith, c.ports-test.false))
-    (c.ports.invariant.judged r))
+    (reads_all r _ _ (omega (arith, c.ports-test.false)) (c.ports.invariant.judged r))
 
 pub returns-clause-each : goal.returns-clause-each
 returns-clause-each g c = search (arith, rules)
@@ -39,15 +35,10 @@ pub read_port-requires-clause-closed : goal.read_port-requires-clause-closed
 read_port-requires-clause-closed g c = (c.ports.invariant.judged from_front).closed
 
 pub returns-in_err-put_capture-clause-judges : goal.returns-in_err-put_capture-clause-judges
-returns-in_err-put_capture-clause-judges g c = λ r. rw (exit_is _ c.from_residual-in_err-put_capture.ensures.1) record {
-  ok = tt;
-  halt = (c.in_ok-capture.ensures.judges r).uncounted
-      ∙ (c.ports.invariant.judged r).uncounted;
-  closed = (c.in_ok-capture.ensures.judges r).closed;
-  told =
-      (c.in_ok-capture.ensures.judges r).told ∙ (c.ports.invariant.judged r).told;
-  uncounted = tt;
-}
+returns-in_err-put_capture-clause-judges g c = λ r.
+    let was = c.ports.invariant.judged r in
+    let now = c.in_ok-capture.ensures.judges r in
+    rw (exit_is _ c.from_residual-in_err-put_capture.ensures.1) (search (arith, rules))
 
 -- ## No writing was begun
 

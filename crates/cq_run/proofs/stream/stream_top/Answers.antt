@@ -1,4 +1,4 @@
-use Rattle.cq_run.proofs.Terms.{◌∙◌, map, string_bytes, subst, sym, Option, Some, Command, Run, Ahead, known_by, StatusCauses, judged_or_words, world}
+use Rattle.cq_run.proofs.Terms.{map, string_bytes, Option, Some, Command, Run, Ahead, world}
 use Rattle.cq_run.proofs.Ends.{causes_at, emulated_at, halted_so, only_words, words_end}
 use Rattle.cq_run.proofs.TextRead.{from_front}
 use Rattle.cq_run.proofs.Within.{others, streams}
@@ -28,26 +28,24 @@ returns-in-Some g c =
     let whole = world g.F.Files.space g.O.Sink.taken g.O.Sink.faults in
     let old = whole c.args.files.now c.args.out.now in
     let new = whole c.stream-end.new.files c.stream-end.new.out in
-    let command : Option Command = Some (Run c.in-Some.config.now) in
+    let runs = c.in-Some.ensures.runs in
     let is = c.answer.ensures.status in
+    let command : Option Command = Some (Run c.in-Some.config.now) in
     record {
       answer = rw (e.0, e.1) (λ r. record {
         end = c.stream-end.result;
-        ends = rw c.in-Some.ensures.runs (c.stream-end.ensures.ends r);
+        ends = rw runs (c.stream-end.ensures.ends r);
         status = is;
         tells = c.answer.ensures.tells;
       });
-      causes = rw (e.0, e.1) (λ r.
-          let P : Option Command → Type 0 =
-          λ o. StatusCauses Ahead (judged_or_words r o) (known_by o old.files) old new c.answer.result in
-          subst P (sym c.in-Some.ensures.runs) (causes_at Ahead r _ _ _ command old new c.stream-end.result
-          c.answer.result is (c.stream-end.ensures.ends r)));
-      headline = rw (e.0, c.in-Some.ensures.runs) (λ r wanted run done. emulated_at Ahead r _ _ _ command old new
-          c.stream-end.result (sym is ∙ done) (c.stream-end.ensures.ends r) wanted run);
-      no_command = rw (e.0, c.in-Some.ensures.runs) (words_end Ahead from_front _ _ _ command old new
-          c.stream-end.result c.answer.result is (c.stream-end.ensures.ends from_front));
-      words_only = rw (e.0, c.in-Some.ensures.runs) (only_words Ahead from_front _ _ _ command old new
-          c.stream-end.result c.answer.result is (c.stream-end.ensures.ends from_front));
-      unbegun = halted_so c.stream-end.result c.answer.result is c.stream-end.ensures.unbegun;
+      causes = rw (e.0, e.1) (λ r. causes_at Ahead r _ _ _ command old new c.stream-end.result is
+          (c.stream-end.ensures.ends r) runs);
+      headline = rw (e.0, runs) (λ r. emulated_at Ahead r _ _ _ command old new c.stream-end.result is
+          (c.stream-end.ensures.ends r));
+      no_command = rw (e.0, runs) (words_end Ahead from_front _ _ _ command old new c.stream-end.result is
+          (c.stream-end.ensures.ends from_front));
+      words_only = rw (e.0, runs) (only_words Ahead from_front _ _ _ command old new c.stream-end.result is
+          (c.stream-end.ensures.ends from_front));
+      unbegun = halted_so _ is c.stream-end.ensures.unbegun;
       closed = c.stream-end.ensures.closed;
     }

@@ -1,4 +1,4 @@
-use Rattle.cq_run.proofs.Terms.{arith, rules, map, string_bytes, ◌∙◌, sym, command_for, InTurn, world}
+use Rattle.cq_run.proofs.Terms.{arith, rules, refl, map, string_bytes, command_for, InTurn, world}
 use Rattle.cq_run.proofs.Ends.{causes_at, emulated_at, halted_so, only_words, words_end}
 use Rattle.cq_run.proofs.TextRead.{from_front}
 use Rattle.cq_run.proofs.top.switch_top.Goals as goal
@@ -12,14 +12,12 @@ returns g c =
     let is = c.answer.ensures.status in
     record {
       answer = search (arith, rules, c.run-end.ensures.ends);
-      causes = λ r. causes_at InTurn r _ _ _ command old new c.run-end.result c.answer.result is
-          (c.run-end.ensures.ends r);
-      headline = λ r wanted asked done. emulated_at InTurn r _ _ _ command old new c.run-end.result (sym is ∙ done)
-          (c.run-end.ensures.ends r) wanted asked;
-      no_command = words_end InTurn from_front _ _ _ command old new c.run-end.result c.answer.result is
+      causes = λ r. causes_at _ r _ _ _ _ _ _ _ is (c.run-end.ensures.ends r) refl;
+      headline = λ r. emulated_at InTurn r _ _ _ command old new c.run-end.result is (c.run-end.ensures.ends r);
+      no_command = words_end InTurn from_front _ _ _ command old new c.run-end.result is
           (c.run-end.ensures.ends from_front);
-      words_only = only_words InTurn from_front _ _ _ command old new c.run-end.result c.answer.result is
+      words_only = only_words InTurn from_front _ _ _ command old new c.run-end.result is
           (c.run-end.ensures.ends from_front);
-      unbegun = halted_so c.run-end.result c.answer.result is c.run-end.ensures.unbegun;
+      unbegun = halted_so _ is c.run-end.ensures.unbegun;
       closed = c.run-end.ensures.closed;
     }
