@@ -1,6 +1,6 @@
 -- The captures of the outputs, one after another: those that were made and those that are still to be made are all.
 -- Each is that which was built at its output.
-use Rattle.cq_run.proofs.Terms.{common_steps, rules, ◌≡◌, ◌<◌, ◌≤◌, ◌∙◌, ℕ, ◌+◌, List, [], ◌∷◌, ◌++◌, length, drop, get_or, refl, sym, add-one, append_assoc, arith, Result, Ok, append-nil, drop_all, drop_more, length-drop, trace_of, log_of, Departure, TagFault, Transfer, arrivals, Captured, AreTables, ports_of, PortRow, Tables, Plan, capture_out, captures_out, switched, IsSwitched, sent_or_tag, Switched, ArePacked, HaveLeftOf, Arrival, t0_of, packets_of, IsRecorded, IsTraffic, LimitedRecord, report_with, under_names, classes_of, always_slack, best_in_each, slot_by_slot, IsFabricRun, IsKeptOf, unpacked_run, ideal_departures, PackedFabricRun, Contents, AreGiven, AreRead, IsEmulation, KeepsUp, crossed, reported, Reader, IsCrossed, IsCrossing, Crossed, left_in_packets, Packing, each_packet_once}
+use Rattle.cq_run.proofs.Terms.{common_steps, rules, ◌≡◌, ◌<◌, ◌≤◌, ◌∙◌, ℕ, ◌+◌, List, [], ◌∷◌, ◌++◌, length, drop, get_or, refl, sym, add-one, append_assoc, arith, Result, Ok, append-nil, drop_all, drop_more, length-drop, trace_of, log_of, Departure, TagFault, Transfer, arrivals, Captured, AreTables, ports_of, PortRow, Tables, Plan, Meets, Reporting, Halt, IfOk, Err, capture_out, captures_out, switched, IsSwitched, sent_or_tag, Switched, ArePacked, HaveLeftOf, Arrival, t0_of, packets_of, IsRecorded, IsTraffic, LimitedRecord, report_with, under_names, classes_of, always_slack, best_in_each, slot_by_slot, IsFabricRun, IsKeptOf, unpacked_run, ideal_departures, PackedFabricRun, Contents, AreGiven, AreRead, IsEmulation, KeepsUp, crossed, reported, Reader, IsCrossed, IsCrossing, Crossed, left_in_packets, Packing, each_packet_once}
 
 -- a plan of these names and this text
 pub plan_is : (plan : Plan) (writes : List (List ℕ × List ℕ)) (text : List ℕ) → plan.writes ≡ writes →
@@ -12,9 +12,9 @@ pub sent_ok : (sent : List Departure) (x : Result (List Departure) TagFault) →
 sent_ok sent x h = grind (arith, common_steps)
 
 -- what the ideal switch sends leaves in whole packets
-pub switched_whole : (t : Tables) (captures : List (List Captured)) (s : Switched) → AreTables t →
+pub switched_whole : {t : Tables} {captures : List (List Captured)} {s : Switched} → AreTables t →
     length captures ≡ ports_of t.setup → IsSwitched t captures s → HaveLeftOf t captures s.sent.items s.t0
-switched_whole t captures s are many is = grind (arith, common_steps, left_in_packets)
+switched_whole are many is = grind (arith, common_steps, left_in_packets)
 
 -- one more capture under its name, and all of them
 module _ (rows : List PortRow) (k : ℕ) where
@@ -42,7 +42,7 @@ module _ (t : Tables) (captures : List (List Captured)) (sent : List Departure) 
   captures_of_more k row rows = rw add-one refl
 
   -- the captures that were built, from this output on
-  module _ (places : List Packing) (packed : ArePacked t captures sent places) (output : ℕ)
+  module _ {places : List Packing} (packed : ArePacked t captures sent places) (output : ℕ)
       (there : output < ports_of t.setup) where
     in_places : output < length places
     in_places = let outputs : length places ≡ ports_of t.setup = packed.outputs in omega arith
@@ -50,7 +50,7 @@ module _ (t : Tables) (captures : List (List Captured)) (sent : List Departure) 
     pub some_left : drop output places ≡ [] → ⊥
     some_left none = grind (arith, common_steps, in_places, length-drop output places)
 
-    module _ (place : Packing) (rest : List Packing) (first : drop output places ≡ place ∷ rest) where
+    module _ {place : Packing} {rest : List Packing} (first : drop output places ≡ place ∷ rest) where
       parts : get_or places output place ∷ drop (output + 1) places ≡ place ∷ rest
       parts = sym (drop_more places output place in_places) ∙ first
 
@@ -66,7 +66,7 @@ module _ (t : Tables) (captures : List (List Captured)) (sent : List Departure) 
       under_names rows left ≡ captures_out t captures sent k rows
   unfolding captures_out
   packed_under places packed [] k left is fit = refl
-  packed_under places packed (row ∷ rows) k [] is fit = absurd (some_left places packed k (omega arith) is)
+  packed_under places packed (row ∷ rows) k [] is fit = absurd (some_left packed k (omega arith) is)
   packed_under places packed (row ∷ rows) k (place ∷ left) is fit =
       grind (arith, common_steps, rest_is, file_is, captures_of_more, packed_under places packed rows (k + 1) left)
 
@@ -80,23 +80,23 @@ module _ (t : Tables) (captures : List (List Captured)) (sent : List Departure) 
     packed_all = grind (arith, common_steps, rows_fit, packed_under)
 
   -- these and the trace, and then the log
-  pub traced_writes : (made traced : List (List ℕ × List ℕ)) (trace : List ℕ) →
+  pub traced_writes : {made traced : List (List ℕ × List ℕ)} {trace : List ℕ} →
       made ≡ captures_out t captures sent 0 t.ports → traced ≡ made ++ (t.trace, trace) ∷ [] → trace ≡ trace_of sent →
       traced ≡ captures_out t captures sent 0 t.ports ++ (t.trace, trace_of sent) ∷ []
-  traced_writes made traced trace all put is = cc
+  traced_writes all put is = cc
 
-  pub crossed_writes : (traced logged : List (List ℕ × List ℕ)) (log : List ℕ) (note : List Transfer) →
+  pub crossed_writes : {traced logged : List (List ℕ × List ℕ)} {log : List ℕ} (note : List Transfer) →
       traced ≡ captures_out t captures sent 0 t.ports ++ (t.trace, trace_of sent) ∷ [] →
       logged ≡ traced ++ (t.log, log) ∷ [] → log ≡ log_of note →
       logged ≡ captures_out t captures sent 0 t.ports ++ (t.trace, trace_of sent) ∷ (t.log, log_of note) ∷ []
-  crossed_writes traced logged log note all put is = grind (arith, common_steps, append_assoc)
+  crossed_writes note all put is = grind (arith, common_steps, append_assoc)
 
   -- a plan with these and the trace
-  pub switched_is : (plan : Plan) (traced : List (List ℕ × List ℕ)) →
+  pub switched_is : {plan : Plan} {traced : List (List ℕ × List ℕ)} →
       traced ≡ captures_out t captures sent 0 t.ports ++ (t.trace, trace_of sent) ∷ [] →
       plan.writes ≡ traced → plan.text ≡ [] → plan ≡ switched t captures sent
   unfolding switched
-  switched_is plan traced all writes none = search (arith, rules)
+  switched_is all writes none = search (arith, rules)
 
 -- ## What is kept of a run of the crossbar switch, and the plan that is made of it
 
@@ -121,15 +121,18 @@ pub is_crossed : (t : Tables) (captures : List (List Captured)) (came : List Arr
 is_crossed t captures came run stamp given e s traffic kept sent =
     grind (arith, common_steps, keeps_up, keeps_up t captures kept.records given)
 
-module _ (t : Tables) (captures : List (List Captured)) (c : Crossed) (is : IsCrossed t captures c) (plan : Plan) where
+module _ {t : Tables} {captures : List (List Captured)} {c : Crossed} (is : IsCrossed t captures c) where
   -- a plan with its report alone
-  pub plan_reported : plan.writes ≡ [] → plan.text ≡ report_with c.run.figures c.run.refused.items →
-      plan ≡ reported t is.records
+  pub reporting : (result : Result Plan Halt) → IfOk result (λ plan. plan.writes ≡ []) →
+      IfOk result (λ plan. plan.text ≡ report_with c.run.figures c.run.refused.items) →
+      IfOk result (λ plan. Meets (Reporting t captures) plan)
   unfolding reported
-  plan_reported writes text = plan_is plan _ _ writes (rw (is.figures, is.refused) at text)
+  reporting (Ok plan) writes text =
+      (is.records, is.keeps_up.runs, plan_is plan _ _ writes (rw (is.figures, is.refused) at text))
+  reporting (Err halt) writes text = tt
 
   -- one with its captures, its trace, its log and its report is what the crossbar switch does
-  pub crossing :
+  pub crossing : {plan : Plan} →
       plan.writes ≡ captures_out t captures c.run.sent.items 0 t.ports
       ++ (t.trace, trace_of c.run.sent.items) ∷ (t.log, log_of c.run.note.items) ∷ [] →
       plan.text ≡ report_with c.run.figures c.run.refused.items → IsCrossing t captures plan

@@ -2,7 +2,7 @@
 -- status says. Each end has one status, and what the end says of the verdict is what the status says of it. The table
 -- of refusals is used for three facts alone: no refusal has a status of an end that is none, one with the status of
 -- read faults comes only where contents are told, and words are refused only where they are no command.
-use Rattle.cq_run.proofs.Terms.{common_steps, arith, ◌≡◌, ℕ, List, refl, rules, [], ◌∷◌, ◌≢◌, ◌⊎◌, IsTrue, Result, Ok, Err, IsErrAnd, Option, None, Some, IfSome, MatchOption, IsOkAnd, Call, Fails, Lasts, Reads, Writes, Contents, Space, Command, Refusal, Halt, Aim, Meets, IsJudged, Pace, Uncounted, Plan, CommandHalts, Decides, IsDenial, known_to, known_by, Reader, Taken, World, IsUntouched, IsCut, IsDone, IsCutAtFile, Rose, Words, Capture, Refused, Unread, NoMemory, Emulates, meaning_of, judged, judged_or_words, StatusCauses, Status}
+use Rattle.cq_run.proofs.Terms.{common_steps, arith, ◌≡◌, ℕ, List, rules, [], ◌∷◌, ◌≢◌, ◌⊎◌, IsTrue, Result, Ok, Err, Option, None, Some, IfSome, MatchOption, IsOkAnd, Call, Fails, Lasts, Reads, Writes, Contents, Space, Command, Refusal, Halt, Aim, Meets, IsJudged, Pace, Uncounted, Plan, CommandHalts, Decides, IsDenial, known_to, known_by, Reader, Taken, World, IsUntouched, IsCut, IsDone, IsCutAtFile, Rose, Words, Capture, Refused, Unread, NoMemory, Emulates, meaning_of, judged, judged_or_words, StatusCauses, Status}
 use Rattle.cq_run.specs.declared.stop.Stop.{Stop}
 use Rattle.cq_run.specs.declared.stop.Stop.TheVariants.{Cut, Halted}
 use Rattle.cq_run.specs.declared.stop.Unwritten.{Unwritten}

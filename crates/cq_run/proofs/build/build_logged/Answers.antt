@@ -4,6 +4,4 @@ use Rattle.cq_run.proofs.build.build_logged.Goals as goal
 
 pub returns-clause-writes : goal.returns-clause-writes
 returns-clause-writes c = c.of.ensures.writes
-    ∙ crossed_writes c.args.tables.now c.args.captures c.args.run.sent.items c.in_ok-writes.writes.items
-    c.put_write.new.writes.items c.in_ok-log.log.items c.args.note.items c.in_ok-writes.ensures
-    c.in_ok-put_write.ensures c.in_ok-log.ensures
+    ∙ crossed_writes _ _ _ _ c.in_ok-writes.ensures c.in_ok-put_write.ensures c.in_ok-log.ensures

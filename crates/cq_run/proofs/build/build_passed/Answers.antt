@@ -8,5 +8,4 @@ unreachable-requires c = search (arith, rules, some_left)
 pub returns : goal.returns
 returns c =
     let some = c.requires.tables.setup.ports in
-    rw (file_is c.args.tables.now c.args.captures c.args.run.sent.items c.in_ok-places.places c.in_ok-places.ensures 0
-    (omega arith) c.in-Some.place c.pop_first.new.self c.in-Some.ensures) at c.build_file.ensures
+    rw (file_is _ _ _ c.in_ok-places.ensures 0 (omega arith) c.in-Some.ensures) at c.build_file.ensures

@@ -6,7 +6,6 @@ pub build_captures-requires : goal.build_captures-requires
 build_captures-requires c = search (arith, rules, rows_fit)
 
 pub returns : goal.returns
-returns c = traced_writes c.args.tables.now c.args.captures c.args.run.sent.items c.in_ok-writes.writes.items
-    c.put_write.new.writes.items c.in_ok-trace.trace.items
+returns c = traced_writes _ _ _
     (c.in_ok-writes.ensures ∙ packed_all _ _ _ _ c.in_ok-places.ensures c.requires.tables _ c.as_slice-2.ensures)
     c.in_ok-put_write.ensures (c.in_ok-trace.ensures ∙ ap trace_of c.as_slice.ensures)

@@ -1,4 +1,4 @@
-use Rattle.cq_run.proofs.Terms.{arith, rules, ap, sym, ◌∙◌, ◌≡◌, ◌∷◌, [], length, List, Captured, Plan, sent_by}
+use Rattle.cq_run.proofs.Terms.{arith, rules, ap, sym, ◌∙◌, ◌≡◌, ◌∷◌, [], length, List, Captured, Plan}
 use Rattle.cq_run.proofs.Crossed.{switched_whole}
 use Rattle.cq_run.proofs.Told.{exit_is}
 use Rattle.cq_run.proofs.judge.pass_on.Goals as goal
@@ -9,8 +9,7 @@ switch_by_crossbar-requires-clause-captures g c κs within = search (arith, rule
 pub build_passed-requires : goal.build_passed-requires
 build_passed-requires g c =
     let one = ap (λ (cs : List (List Captured)). length cs) c.in_ok-captures.ensures ∙ sym c.requires.port in
-    rw c.into_switched.ensures (switched_whole c.args.tables.now c.in_ok-captures.captures
-    (sent_by c.in_ok-crossed.crossed) c.requires.tables one
+    rw c.into_switched.ensures (switched_whole c.requires.tables one
     (rw c.as_slice.ensures at c.in_ok-crossed.ensures.crossed.switched))
 
 pub returns-in_err-crossed-clause-refused : goal.returns-in_err-crossed-clause-refused

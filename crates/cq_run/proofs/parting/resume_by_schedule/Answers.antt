@@ -18,5 +18,4 @@ returns-in_err-taken-clause-refused g c = λ captures is. rw (exit_is _ c.from_r
 -- a tag fault
 pub returns-in_err-run-clause-refused : goal.returns-in_err-run-clause-refused
 returns-in_err-run-clause-refused g c = λ captures is. rw (exit_is _ c.from_residual-in_err-run.ensures.1)
-    (resume_halt c.args.tables.now captures _ is c.args.text _ c.in_ok-taken.ensures.read _
-    c.in_err-run.ensures.refused)
+    (resume_halt _ _ _ is _ _ c.in_ok-taken.ensures.read _ c.in_err-run.ensures.refused)

@@ -17,5 +17,5 @@ returns-clause-text c = λ captures slots first many parted.
 pub returns-in_err-state_bytes-clause-refused : goal.returns-in_err-state_bytes-clause-refused
 returns-in_err-state_bytes-clause-refused c = λ captures slots first many parted.
     rw (exit_is _ c.from_residual.ensures.1)
-    (part_long c.args.tables.now captures _ refl slots _ parted _ (search (arith, rules, same_state, first, many)) _
+    (part_long _ _ _ refl _ _ parted _ (search (arith, rules, same_state, first, many)) _
     c.in_err-state_bytes.ensures.long)

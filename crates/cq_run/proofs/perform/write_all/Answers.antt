@@ -1,4 +1,4 @@
-use Rattle.cq_run.proofs.Terms.{arith, refl, rules, ◌≡◌, ◌∙◌, sym, Writes}
+use Rattle.cq_run.proofs.Terms.{arith, refl, rules, ◌≡◌, ◌∙◌, sym}
 use Rattle.cq_run.proofs.Chain.{fails_after}
 use Rattle.cq_run.proofs.perform.write_all.Goals as goal
 

@@ -11,8 +11,7 @@ pub returns-in-Ok-clause-judges : goal.returns-in-Ok-clause-judges
 returns-in-Ok-clause-judges g c = λ r.
     let file = c.in_ok-bytes.ensures.file in
     record {
-      ok = capture_is r c.args.name c.args.input c.args.limit c.in_ok-bytes.bytes.items file.short
-          (g.F.Files.space c.args.files.now).told c.in-Ok.capture file.whole c.in-Ok.ensures.spelt;
+      ok = capture_is r _ _ _ _ file.short _ _ file.whole c.in-Ok.ensures.spelt;
       halt = tt;
       closed = c.read_file.ensures.closed;
       told = c.read_file.ensures.told;
@@ -24,10 +23,9 @@ returns-in-Err-clause-judges g c = λ r.
     let file = c.in_ok-bytes.ensures.file in
     record {
       ok = tt;
-      halt = rw c.unreadable.ensures
-          (capture_halts r c.args.name c.args.input c.args.limit c.in_ok-bytes.bytes.items file.short InTurn _
-          (g.F.Files.space c.args.files.now) (g.F.Files.space c.read_file.new.files)
-          (fault_of c.in-Err.refusal) file.whole c.in-Err.ensures.faulty c.in_ok-bytes.ensures.uncounted);
+      halt = rw c.unreadable.ensures (capture_halts r _ _ _ _ file.short InTurn _
+          (g.F.Files.space c.args.files.now) (g.F.Files.space c.read_file.new.files) (fault_of c.in-Err.refusal)
+          file.whole c.in-Err.ensures.faulty c.in_ok-bytes.ensures.uncounted);
       closed = c.read_file.ensures.closed;
       told = c.read_file.ensures.told;
       uncounted = tt;

@@ -1,4 +1,4 @@
-use Rattle.cq_run.proofs.Terms.{rules, ◌∙◌, ap, arith, sym, length, List, length-append, Captured, Reads}
+use Rattle.cq_run.proofs.Terms.{rules, ◌∙◌, ap, arith, sym, length, List, length-append, Captured}
 use Rattle.cq_run.proofs.Chain.{fails_after}
 use Rattle.cq_run.proofs.TextRead.{from_front}
 use Rattle.cq_run.proofs.Ports.{ends_all, reads_more, reads_all, reads_none}
