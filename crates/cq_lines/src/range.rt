@@ -1,5 +1,5 @@
 //! The ranges in which the fields of a line must be.
-ghost use Rattle.std.specs.Prelude.{◌≡◌, ◌≢◌, ◌↔◌, ℕ, ◌+◌, ◌-◌, ◌<◌, ◌≤◌, List, ◌++◌, length, take, get_or, Option, IfSome, IfNone, IsTrue, false};
+ghost use Rattle.std.specs.Prelude.{◌≡◌, ◌≢◌, ◌↔◌, ℕ, ◌+◌, ◌≤◌, List, ◌++◌, length, take, get_or, Option, IfSome, IfNone, IsTrue, false};
 ghost use Rattle.cq_lines.specs.Lines.{ending};
 ghost use Rattle.cq_lines.specs.Ranges.{InRange, Within, any_number};
 
@@ -26,14 +26,6 @@ impl Range {
             most,
             or_none: false,
         }
-    }
-
-    /// The numbers below a number.
-    pub fn below(end: u128) -> Range
-        requires { 0 < end }
-        ensures { result ≡ record { least = 0; most = end - 1; or_none = false } }
-    {
-        Range::between(0, end - 1)
     }
 
     fn has(&self, field: Option<u128>) -> bool

@@ -4,7 +4,7 @@ use std::alloc::Global;
 
 // Whether the line has its fields behind its word, two below four, and one such or none.
 fn has_fields(line: &[u8]) -> bool {
-    let count = Range::below(4);
+    let count = Range::between(0, 3);
     let slack = Range {
         or_none: true,
         ..count
