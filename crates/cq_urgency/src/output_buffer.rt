@@ -144,12 +144,12 @@ fn in_halves(spot: Spot) -> Spot
 }
 
 // The same in a block with room: a full block is split in two.
-fn spot_with_room(blocks: &mut Blocks, key: Key, room: u64) -> Spot
+fn spot_with_room(blocks: &mut Blocks, key: Key, _room: u64) -> Spot
     requires rising { IsRising (flattened blocks.old.blocks) }
     requires filled { AreFilled blocks.old.blocks }
     requires some { 0 < length blocks.old.blocks }
-    requires fits { length (flattened blocks.old.blocks) ≤ room }
-    requires enough { blocks.old.most ≡ room / half_cells + 1 }
+    requires fits { length (flattened blocks.old.blocks) ≤ _room }
+    requires enough { blocks.old.most ≡ _room / half_cells + 1 }
     ensures cells { flattened blocks.new.blocks ≡ flattened blocks.old.blocks }
     ensures filled { AreFilled blocks.new.blocks }
     ensures most { blocks.new.most ≡ blocks.old.most }

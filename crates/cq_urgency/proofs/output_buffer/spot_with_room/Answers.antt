@@ -16,7 +16,7 @@ pub in_halves-requires : goal.in_halves-requires
 in_halves-requires c =
     let all = full c.len.result _ _ c.len.ensures.len c.len.ensures.fits c.if-len-lt-MOST_CELLS.false c.block.ensures in
     let spot = c.spot_of-spot.ensures in
-    let few = room_to_split c.args.blocks.now.blocks c.spot_of-spot.result.block c.args.blocks.now.most c.args.room
+    let few = room_to_split c.args.blocks.now.blocks c.spot_of-spot.result.block c.args.blocks.now.most c.args._room
     c.requires.filled spot.inside all (longer _ _ _ _ spot all) c.requires.fits c.requires.enough in
     omega arith
 
