@@ -356,10 +356,10 @@ fn fill_up(blocks: &mut VecDeque<Block>, at: usize)
 }
 
 // A place taken out. The last block stays where it runs empty.
-fn remove_at(blocks: &mut VecDeque<Block>, place: usize, spot: Spot)
+fn remove_at(blocks: &mut VecDeque<Block>, _place: usize, spot: Spot)
     requires filled { AreFilled blocks.old.items }
-    requires spot { IsSpot blocks.old.items place spot.block spot.within }
-    ensures places { concat blocks.new.items ≡ remove (concat blocks.old.items) place }
+    requires spot { IsSpot blocks.old.items _place spot.block spot.within }
+    ensures places { concat blocks.new.items ≡ remove (concat blocks.old.items) _place }
     ensures filled { AreFilled blocks.new.items }
     ensures capacity { deque_capacity blocks.new ≡ deque_capacity blocks.old }
 {

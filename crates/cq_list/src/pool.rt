@@ -70,15 +70,15 @@ fn is_same(key: Key, other: Key) -> bool
 }
 
 // A finger, where it has more nodes ahead than the one that was found and the last of them is more urgent.
-fn further(nodes: &Slab<Node>, queue: Queue, found: Ahead, finger: Ahead, key: Key) -> Ahead
-    requires chained { IsChained (get nodes.now) queue }
+fn further(nodes: &Slab<Node>, _queue: Queue, found: Ahead, finger: Ahead, key: Key) -> Ahead
+    requires chained { IsChained (get nodes.now) _queue }
     requires count { found.count ≤
-        position_or_len (λ x. not (is_before x.key key)) (cells (linked (get nodes.now) queue)) }
-    requires last { EndsAt (places (linked (get nodes.now) queue)) found.count found.last }
-    requires finger { EndsAt (places (linked (get nodes.now) queue)) finger.count finger.last }
+        position_or_len (λ x. not (is_before x.key key)) (cells (linked (get nodes.now) _queue)) }
+    requires last { EndsAt (places (linked (get nodes.now) _queue)) found.count found.last }
+    requires finger { EndsAt (places (linked (get nodes.now) _queue)) finger.count finger.last }
     ensures count { result.count ≤
-        position_or_len (λ x. not (is_before x.key key)) (cells (linked (get nodes.now) queue)) }
-    ensures last { EndsAt (places (linked (get nodes.now) queue)) result.count result.last }
+        position_or_len (λ x. not (is_before x.key key)) (cells (linked (get nodes.now) _queue)) }
+    ensures last { EndsAt (places (linked (get nodes.now) _queue)) result.count result.last }
 {
     if finger.count > found.count && nodes[finger.last].queued.key.precedes(key) {
         return finger;
@@ -230,13 +230,13 @@ fn put_first(nodes: &mut Slab<Node>, queue: Queue, queued: Queued) -> usize
 }
 
 // A node behind one of a queue's, and its place.
-fn put_behind(nodes: &mut Slab<Node>, queue: Queue, queued: Queued, ahead: Ahead) -> usize
+fn put_behind(nodes: &mut Slab<Node>, _queue: Queue, queued: Queued, ahead: Ahead) -> usize
     requires room { HasRoomFor nodes.old 1 }
-    requires linked { IsLinked (get nodes.old) queued.cell.output queue }
+    requires linked { IsLinked (get nodes.old) queued.cell.output _queue }
     requires some { 0 < ahead.count }
-    requires last { EndsAt (places (linked (get nodes.old) queue)) ahead.count ahead.last }
-    ensures chained { chain (get nodes.new) (queue.len + 1) queue.first ≡
-        insert (linked (get nodes.old) queue) ahead.count (result, queued) }
+    requires last { EndsAt (places (linked (get nodes.old) _queue)) ahead.count ahead.last }
+    ensures chained { chain (get nodes.new) (_queue.len + 1) _queue.first ≡
+        insert (linked (get nodes.old) _queue) ahead.count (result, queued) }
     ensures others { OthersStay queued.cell.output (get nodes.old) (get nodes.new) }
     ensures len { slab_len nodes.new ≡ slab_len nodes.old + 1 }
     ensures capacity { nodes.new.capacity ≡ nodes.old.capacity }

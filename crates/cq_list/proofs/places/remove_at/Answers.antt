@@ -20,7 +20,7 @@ returns c =
     let left = ap length c.remove.ensures.rest in
     record {
       places = removed_at _ _ _ _ _ spot c.index_mut-block.ensures.value _ c.remove.ensures.rest
-          ∙ ap (λ l. remove l c.args.place) c.fill_up.ensures.places;
+          ∙ ap (λ l. remove l c.args._place) c.fill_up.ensures.places;
       filled = filled_set c.fill_up.new.blocks.items c.args.spot.block _ c.fill_up.ensures.filled
           (λ l. let longer = c.fill_up.ensures.longer l in omega arith);
       capacity = c.fill_up.ensures.capacity;
