@@ -26,12 +26,18 @@ pub(crate) fn hand_from(offers: &Offers, input: Port, place: u16) -> Hand
 
 /// What a proposal comes to where the output's word was this one.
 #[tactic(auto, unfolding(cq_prefs::specs::Proposals::answer_of))]
-pub(crate) fn answered(offers: &Offers, input: Port, place: u16, asked: Ask, found: u64) -> Outcome
-    requires place { place < length (outputs_of offers.now input) }
-    requires output { asked.output ≡ output_at offers.now input place }
-    requires position { asked.position ≡ position_of offers.now asked.output input }
-    requires found { IsOtherWord offers.now input place found }
-    ensures { result ≡ answer_of offers.now input place found }
+pub(crate) fn answered(
+    offers: &Offers,
+    _input: Port,
+    _place: u16,
+    asked: Ask,
+    found: u64,
+) -> Outcome
+    requires place { _place < length (outputs_of offers.now _input) }
+    requires output { asked.output ≡ output_at offers.now _input _place }
+    requires position { asked.position ≡ position_of offers.now asked.output _input }
+    requires found { IsOtherWord offers.now _input _place found }
+    ensures { result ≡ answer_of offers.now _input _place found }
 {
     if found == offers.ports() as u64 {
         return Outcome::Held;
