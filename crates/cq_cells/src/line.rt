@@ -214,8 +214,8 @@ fn start_before(rows: &[Row], number: usize) -> Slot
 }
 
 // How many packets have arrived whole before the slot. Of those that have begun only the last may not have.
-fn ended(rows: &[Row], cell_bytes: u32, slot: Slot, near: usize) -> usize
-    requires { AreRows cell_bytes rows.now }
+fn ended(rows: &[Row], _cell_bytes: u32, slot: Slot, near: usize) -> usize
+    requires { AreRows _cell_bytes rows.now }
     ensures few { result ≤ length rows.now }
     ensures ended { IsEnded rows.now slot result }
 {
