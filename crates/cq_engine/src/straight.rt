@@ -65,9 +65,9 @@ fn note_each(came: &Newcomers, inputs: usize, slot: Slot, note: &mut Room<Transf
 }
 
 // What was seen of an input to which this cell came. That is the same for each cell, so the contract alone names it.
-fn input_passed(figures: InputFigures, queued: Queued) -> InputFigures
+fn input_passed(figures: InputFigures, _queued: Queued) -> InputFigures
     requires { figures.cells < 2 ^ 64 - 1 }
-    ensures { result ≡ input_passed (Some queued) figures }
+    ensures { result ≡ input_passed (Some _queued) figures }
 {
     InputFigures {
         cells: figures.cells + 1,
