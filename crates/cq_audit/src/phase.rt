@@ -24,14 +24,14 @@ pub enum PhaseFault {
 pub fn stable_told(
     lists: &[InputList],
     offers: &Offers,
-    slot: Slot,
-    phase: u8,
+    _slot: Slot,
+    _phase: u8,
     lines: &[Transfer],
 ) -> Result<Pairs, PhaseFault>
     requires few { length lists.now ≤ most_ports }
     requires offers { offers.now ≡ orders_of (cells_of lists.now) }
-    requires lines { AreOfPhase (length lists.now) slot phase lines.now }
-    ensures stable { IfOk result (IsStableTold (cells_of lists.now) slot phase lines.now) }
+    requires lines { AreOfPhase (length lists.now) _slot _phase lines.now }
+    ensures stable { IfOk result (IsStableTold (cells_of lists.now) _slot _phase lines.now) }
     ensures fault { IfErr result (IsPhaseFault (cells_of lists.now) lines.now) }
 {
     let pairs = match told(lists, lines) {

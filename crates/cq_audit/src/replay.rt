@@ -194,11 +194,11 @@ impl<R: Rank> Replay<R> {
     /// All slots from this one on up to the other, in which no cell arrives and none waits, and of which there is no
     /// line. They take no longer than one slot: each machine is told once that its output was idle, however many slots
     /// there are, so that both are given for the clauses alone.
-    pub fn rest(&mut self, slot: Slot, to: Slot)
-        requires in_step { IsInStep (map R.machine self.old.fixed) slot self.old }
+    pub fn rest(&mut self, _slot: Slot, _to: Slot)
+        requires in_step { IsInStep (map R.machine self.old.fixed) _slot self.old }
         requires empty { IsEmptyFabric self.old.fabric.state }
-        requires later { slot < to }
-        ensures { HasRested (map R.machine self.old.fixed) slot to self.old self.new }
+        requires later { _slot < _to }
+        ensures { HasRested (map R.machine self.old.fixed) _slot _to self.old self.new }
     {
         self.ranks.rest();
     }

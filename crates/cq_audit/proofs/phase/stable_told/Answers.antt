@@ -7,5 +7,5 @@ first_blocking-requires c = search (arith, rules, told_size, offers_long)
 
 pub returns-in-None-clause-stable : goal.returns-in-None-clause-stable
 returns-in-None-clause-stable c =
-    judged_stable c.args.lists.now c.args.lines.now c.args.slot c.args.phase c.in-Ok.pairs c.args.offers.now
+    judged_stable c.args.lists.now c.args.lines.now c.args._slot c.args._phase c.in-Ok.pairs c.args.offers.now
     c.requires.offers c.in-Ok.ensures.pairs c.in-Ok.ensures.right c.requires.lines c.in-None.ensures.none

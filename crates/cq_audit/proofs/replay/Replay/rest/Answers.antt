@@ -6,7 +6,7 @@ use Rattle.cq_audit.proofs.replay.Replay.rest.Goals.{After-self}
 
 -- the parts are in step where the slots begin
 stands : (g : given.Over) (c : After-self g) →
-    IsInStep (map g.R.Rank.machine c.self.inside.ranks.fixed) c.args.slot
+    IsInStep (map g.R.Rank.machine c.self.inside.ranks.fixed) c.args._slot
     (shown c.self.inside.ranks c.self.inside.queues c.self.inside.limiter)
 stands g c = search (arith, rules, in_step_here)
 
