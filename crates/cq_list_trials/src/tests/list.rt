@@ -86,9 +86,9 @@ fn a_cell_goes_ahead_of_less_urgent_ones_and_is_found(rt: HostRuntime) {
 }
 
 // The first cell for an output leaves.
-fn depart(list: &mut InputList, output: u16, slot: u32) -> Option<Queued>
-    requires { ArrivedBefore slot list.old.cells }
-    ensures arrived { ArrivedBefore (slot + 1) list.new.cells }
+fn depart(list: &mut InputList, output: u16, _slot: u32) -> Option<Queued>
+    requires { ArrivedBefore _slot list.old.cells }
+    ensures arrived { ArrivedBefore (_slot + 1) list.new.cells }
     ensures room { list.new.spare + length list.new.cells ≡ list.old.spare + length list.old.cells }
     ensures outputs { list.new.outputs ≡ list.old.outputs }
 {

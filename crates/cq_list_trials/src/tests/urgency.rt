@@ -64,9 +64,9 @@ fn equal_ranks_wait_in_the_order_of_their_arrival(rt: HostRuntime) -> Result<(),
 }
 
 // The first cell leaves.
-fn leave(buffer: &mut OutputBuffer, slot: u32) -> Option<Queued>
-    requires { ArrivedBefore slot buffer.old.cells }
-    ensures arrived { ArrivedBefore (slot + 1) buffer.new.cells }
+fn leave(buffer: &mut OutputBuffer, _slot: u32) -> Option<Queued>
+    requires { ArrivedBefore _slot buffer.old.cells }
+    ensures arrived { ArrivedBefore (_slot + 1) buffer.new.cells }
     ensures room { buffer.new.spare + length buffer.new.cells ≡ buffer.old.spare + length buffer.old.cells }
 {
     buffer.pop()
