@@ -45,8 +45,7 @@ impl Fair {
         ensures state { IfOk result (λ r. r.state ≡ all_zero classes.now) }
     {
         let classes = Classes::of(alloc, classes)?;
-        let mut numbers = Vec::new(alloc);
-        numbers.resize(classes.len() as usize + LEVELS, 0)?;
+        let numbers = vec![in alloc; 0; classes.len() as usize + LEVELS]?;
         Ok(Fair {
             classes,
             numbers,
