@@ -175,9 +175,7 @@ impl Schedule {
 fn no_cells(alloc: Global, outputs: usize) -> Result<Vec<u64>, NoMemory>
     ensures { IfOk result (λ counts. counts.items ≡ replicate outputs 0) }
 {
-    let mut counts = Vec::new(alloc);
-    counts.resize(outputs, 0)?;
-    Ok(counts)
+    Ok(vec![in alloc; 0; outputs]?)
 }
 
 // The lines of all inputs, of whose cells each is counted for its output. The error is want of memory.
