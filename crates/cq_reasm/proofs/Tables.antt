@@ -1,6 +1,6 @@
 -- The open packets lie in a slab under keys, no key stands at two places, and each packet of the slab stands at one.
 -- So what happens under one key changes what is seen at its own place, and at no other.
-use Rattle.cq_reasm.proofs.Terms.{common_steps, rules, ◌≡◌, ◌≢◌, ℕ, zero, suc, ◌-◌, ◌<◌, List, [], ◌++◌, take, length, map, get_or, set, Option, None, Some, refl, sym, ap, subst, ◌∙◌, ⊎_elim, ◌⊎◌, inr, arith, replicate, IsSome, option_map, same_Some, cases_eq, get_or-set_same, get_or-set_other, set-get_or, length-map, take_all, Open, grown, with_piece, get_or_read, ext_get_or, length-set}
+use Rattle.cq_reasm.proofs.Terms.{common_steps, rules, ◌≡◌, ◌≢◌, ℕ, zero, suc, ◌<◌, List, length, map, get_or, set, Option, None, Some, refl, sym, ap, subst, ◌∙◌, ⊎_elim, ◌⊎◌, inr, arith, replicate, IsSome, option_map, same_Some, cases_eq, get_or-set_same, get_or-set_other, set-get_or, length-map, Open, grown, with_piece, get_or_read, ext_get_or, length-set}
 use Rattle.std.proofs.Math.ListN.{get_or-map}
 use Rattle.std.proofs.lemmas.List.{get_or-map as read_map}
 use Rattle.slab.specs.Slab.{Slab, get, ContainsKey}
@@ -44,11 +44,6 @@ seen_empty packets (suc places) = let rest = seen_empty packets places in cc
 pub nothing_seen : (packets : Slab OpenPacket) (keys : List (Option ℕ)) (places : ℕ) → keys ≡ replicate places None →
     map (packet_under packets) keys ≡ replicate places None
 nothing_seen packets keys places e = ap (map (packet_under packets)) e ∙ seen_empty packets places
-
--- a list that was empty, filled up
-pub filled : (was now : List (Option ℕ)) (n l : ℕ) → was ≡ [] → l ≡ 0 → now ≡ take n was ++ replicate (n - l) None →
-    now ≡ replicate n None
-filled was now n l e z h = grind (arith, common_steps, take_all)
 
 -- ## The key at a place
 

@@ -48,8 +48,7 @@ impl OpenPackets {
     pub fn new(alloc: Global, places: usize) -> Result<OpenPackets, NoMemory>
         ensures { IfOk result (λ t. t ≡ replicate places None) }
     {
-        let mut keys = Vec::new(alloc);
-        keys.resize(places, None)?;
+        let keys = vec![in alloc; None; places]?;
         let packets = Slab::new(alloc);
         Ok(OpenPackets {
             alloc,
