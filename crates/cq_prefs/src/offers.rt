@@ -54,9 +54,7 @@ pub struct Ask {
 fn no_orders(alloc: Global, ports: u16) -> Result<Vec<Preference>, NoMemory>
     ensures { IfOk result (λ orders. orders.items ≡ replicate ports []) }
 {
-    let mut orders = Vec::new(alloc);
-    orders.resize(ports as usize, Preference::none())?;
-    Ok(orders)
+    Ok(vec![in alloc; Preference::none(); ports as usize]?)
 }
 
 impl Offers {
