@@ -98,9 +98,7 @@ fn port_rows(alloc: Global, ports: Port) -> Result<Vec<PortRow>, NoMemory>
 fn no_limits(alloc: Global, ports: Port) -> Result<Vec<Option<u64>>, NoMemory>
     ensures { IfOk result (λ limits. limits.items ≡ replicate ports None) }
 {
-    let mut limits = Vec::new(alloc);
-    limits.resize(ports as usize, None)?;
-    Ok(limits)
+    Ok(vec![in alloc; None; ports as usize]?)
 }
 
 // The address of each output.
