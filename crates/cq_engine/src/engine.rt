@@ -83,29 +83,21 @@ impl<R: Rank> Model for Engine<R> {
 fn no_figures(alloc: Global, ports: usize) -> Result<Figures, NoMemory>
     ensures { IfOk result (λ figures. figures ≡ no_figures ports) }
 {
-    let mut inputs = Vec::new(alloc);
-    inputs.resize(
-        ports,
-        InputFigures {
-            cells: 0,
-            longest: 0,
-            slack: None,
-        },
-    )?;
-    let mut outputs = Vec::new(alloc);
-    outputs.resize(
-        ports,
-        OutputFigures {
-            cells: 0,
-            wait: None,
-        },
-    )?;
+    let input = InputFigures {
+        cells: 0,
+        longest: 0,
+        slack: None,
+    };
+    let output = OutputFigures {
+        cells: 0,
+        wait: None,
+    };
     Ok(Figures {
         slots: 0,
         proposals: 0,
         most: 0,
-        inputs: Sequence::of(inputs),
-        outputs: Sequence::of(outputs),
+        inputs: Sequence::of(vec![in alloc; input; ports]?),
+        outputs: Sequence::of(vec![in alloc; output; ports]?),
     })
 }
 
