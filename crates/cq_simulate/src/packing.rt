@@ -46,8 +46,7 @@ pub fn packets_of_all(
 fn rooms_of(alloc: Global, ports: u16, sent: &[PackedDeparture]) -> Result<Vec<usize>, NoMemory>
     ensures { IfOk result (λ rooms. length rooms.items ≡ ports) }
 {
-    let mut rooms = Vec::with_capacity(alloc, ports as usize)?;
-    rooms.resize(ports as usize, FILE_HEADER)?;
+    let mut rooms = vec![in alloc; FILE_HEADER; ports as usize]?;
     'departures: for packed in sent {
         let departure = packed.departure();
         if let Some(room) = rooms.get_mut(departure.output as usize) {
