@@ -45,9 +45,7 @@ fn begins(names: &[Name], at: usize) -> bool
 fn none_seen(alloc: Global, flows: usize) -> Result<Vec<Option<Name>>, NoMemory>
     ensures { IfOk result (λ last. last.items ≡ replicate flows None) }
 {
-    let mut last = Vec::new(alloc);
-    last.resize(flows, None)?;
-    Ok(last)
+    Ok(vec![in alloc; None; flows]?)
 }
 
 // So again, in the same places.

@@ -144,15 +144,11 @@ fn with_departure(figures: OutputFigures, departure: Departure) -> OutputFigures
 fn nothing_sent(alloc: Global, ports: u16) -> Result<Vec<OutputFigures>, NoMemory>
     ensures { IfOk result (λ outputs. outputs.items ≡ replicate ports (record { cells = 0; wait = None })) }
 {
-    let mut outputs = Vec::new(alloc);
-    outputs.resize(
-        ports as usize,
-        OutputFigures {
-            cells: 0,
-            wait: None,
-        },
-    )?;
-    Ok(outputs)
+    let nothing = OutputFigures {
+        cells: 0,
+        wait: None,
+    };
+    Ok(vec![in alloc; nothing; ports as usize]?)
 }
 
 // What was seen of each output.
