@@ -122,10 +122,9 @@ fn plain_setup(alloc: Global) -> Result<Setup, NoMemory>
 fn one_port(alloc: Global, read: &str, write: &str) -> Result<Vec<PortRow>, NoMemory>
     ensures { IfOk result (λ ports. ports.items ≡ plain_ports read.now write.now) }
 {
-    let mut ports = Vec::new(alloc);
-    ports.push(PortRow {
+    let port = PortRow {
         read: Some(Name::of(alloc, read)?),
         write: Name::of(alloc, write)?,
-    })?;
-    Ok(ports)
+    };
+    Ok(Vec::from_array(alloc, [port])?)
 }
