@@ -84,7 +84,7 @@ fn port_rows(alloc: Global, ports: Port) -> Result<Vec<PortRow>, NoMemory>
     ensures { IfOk result (λ rows. rows.items ≡ replicate ports soak_port) }
 {
     let mut rows = Vec::with_capacity(alloc, ports as usize)?;
-    'ports: for port in 0..ports {
+    'ports: for _ in 0..ports {
         let row = PortRow {
             read: None,
             write: Name::of(alloc, "")?,

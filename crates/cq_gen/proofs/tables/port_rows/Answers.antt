@@ -2,4 +2,4 @@ use Rattle.cq_gen.proofs.Terms.{arith, rules, replicate-append-replicate, soak_p
 use Rattle.cq_gen.proofs.tables.port_rows.Goals as goal
 
 pub ports-preserved : goal.ports-preserved
-ports-preserved c = search (arith, rules, replicate-append-replicate c.ports.port 1 soak_port)
+ports-preserved c = search (arith, rules, replicate-append-replicate c.ports.counter 1 soak_port)
