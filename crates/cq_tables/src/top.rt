@@ -84,7 +84,7 @@ pub fn ports(alloc: Global, top: &Table) -> Result<PortEntries, TableRefusal>
         place,
         table: top,
     };
-    let values = entries.required_elements("port", 1, MOST_PORTS)?;
+    let values = entries.required_elements(Array::Ports.key(), 1, MOST_PORTS)?;
     port_rows(alloc, values)
 }
 
