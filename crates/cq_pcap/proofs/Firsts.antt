@@ -1,6 +1,6 @@
 -- What the bytes from a place on come to: a packet where a whole record stands there, or else what is wrong with it.
 -- The three faults are tried in their order.
-use Rattle.cq_pcap.proofs.Terms.{◌≡◌, ℕ, ◌+◌, ◌*◌, ◌<◌, ◌≤◌, List, length, take, drop, arith, common_steps, Result, Ok, Err, nat_tests, Form, number_at, unit, Captured, PcapRefusal, CutHeader, LongRecord, CutBody, first_packet}
+use Rattle.cq_pcap.proofs.Terms.{◌≡◌, ℕ, ◌+◌, ◌*◌, ◌<◌, ◌≤◌, List, length, take, drop, arith, common_steps, Result, Ok, Err, nat_tests, Form, number_at, unit, Captured, longest_body, PcapRefusal, CutHeader, LongRecord, CutBody, first_packet}
 
 -- the captured length that the record at the front states
 abbrev pub stated : Form → List ℕ → ℕ
@@ -9,7 +9,7 @@ stated form xs = number_at form.big 4 xs 8
 -- a whole record stands at the front
 pub record IsWhole (form : Form) (xs : List ℕ) : Type 0 where
   pub figures : 16 ≤ length xs
-  pub most : stated form xs ≤ 262144
+  pub most : stated form xs ≤ longest_body
   pub body : 16 + stated form xs ≤ length xs
 
 -- its packet
@@ -26,9 +26,9 @@ abbrev pub Says : Form → ℕ → List ℕ → Result Captured PcapRefusal → 
 Says form place xs (Ok p) = IsWhole form xs × (p ≡ front_packet form xs)
 Says form place xs (Err (CutHeader offset)) = (offset ≡ place) × (length xs < 16)
 Says form place xs (Err (LongRecord offset len)) =
-    (offset ≡ place) × (16 ≤ length xs) × (len ≡ stated form xs) × (262144 < len)
+    (offset ≡ place) × (16 ≤ length xs) × (len ≡ stated form xs) × (longest_body < len)
 Says form place xs (Err (CutBody offset)) =
-    (offset ≡ place) × (16 ≤ length xs) × (stated form xs ≤ 262144) × (length xs < 16 + stated form xs)
+    (offset ≡ place) × (16 ≤ length xs) × (stated form xs ≤ longest_body) × (length xs < 16 + stated form xs)
 Says form place xs _ = ⊥
 
 -- what is answered is so

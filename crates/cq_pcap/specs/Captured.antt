@@ -8,6 +8,10 @@ pub record Captured : Type 0 where
   pub original : ℕ
   pub body : List ℕ
 
+-- the most captured bytes of a packet
+abbrev pub longest_body : ℕ
+longest_body = 262144
+
 -- the rows of packets whose first record begins at a place of the file: each record has sixteen bytes of figures
 -- before its captured bytes
 abbrev pub rows_from : ℕ → List Captured → List PacketRow

@@ -4,7 +4,7 @@ use Rattle.cq_pcap.specs.declared.form.Form.{Form}
 use Rattle.cq_pcap.specs.declared.read.PcapRefusal.{PcapRefusal}
 use Rattle.cq_pcap.specs.declared.read.PcapRefusal.TheVariants.{NoHeader, Magic, Version, LinkType, CutHeader, CutBody, LongRecord, NoMemory}
 use Rattle.cq_pcap.specs.Form.{number_at}
-use Rattle.cq_pcap.specs.Captured.{Captured}
+use Rattle.cq_pcap.specs.Captured.{Captured, longest_body}
 use Rattle.cq_pcap.specs.Record.{HasMagic, HasVersion, HasLinkType, SpellsIn}
 
 -- the bytes before a place are a capture of this form, and bytes are left from there on
@@ -29,10 +29,10 @@ IsFaulty bytes LinkType =
 IsFaulty bytes (CutHeader offset) = (form : Form) × IsSpeltUpTo form bytes offset × (length bytes < offset + 16)
 IsFaulty bytes (LongRecord offset len) =
     (form : Form) × IsSpeltUpTo form bytes offset × (offset + 16 ≤ length bytes)
-    × (len ≡ stated_length form bytes offset) × (262144 < len)
+    × (len ≡ stated_length form bytes offset) × (longest_body < len)
 IsFaulty bytes (CutBody offset) =
     (form : Form) × IsSpeltUpTo form bytes offset × (offset + 16 ≤ length bytes)
-    × (stated_length form bytes offset ≤ 262144) × (length bytes < offset + 16 + stated_length form bytes offset)
+    × (stated_length form bytes offset ≤ longest_body) × (length bytes < offset + 16 + stated_length form bytes offset)
 IsFaulty bytes NoMemory = ⊥
 
 -- the fault that a refusal names; want of memory is none

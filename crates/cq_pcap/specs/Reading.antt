@@ -4,7 +4,7 @@ use Rattle.std.specs.Prelude.{ℕ, zero, suc, ◌+◌, ◌*◌, ◌%◌, ◌^◌
 use Rattle.std.specs.Option.{ok_or}
 use Rattle.cq_pcap.specs.declared.form.Form.{Form}
 use Rattle.cq_pcap.specs.Form.{form_at, number_at, unit}
-use Rattle.cq_pcap.specs.Captured.{Captured}
+use Rattle.cq_pcap.specs.Captured.{Captured, longest_body}
 use Rattle.cq_pcap.specs.declared.read.PcapRefusal.{PcapRefusal}
 use Rattle.cq_pcap.specs.declared.read.PcapRefusal.TheVariants.{NoHeader, Magic, Version, LinkType, CutHeader, LongRecord, CutBody}
 
@@ -38,7 +38,7 @@ unfoldable pub first_packet : Form → ℕ → List ℕ → Result Captured Pcap
 first_packet form place bytes =
     let len = number_at form.big 4 bytes 8 in
     if nat_lt (length bytes) 16 then Err (CutHeader place)
-    else if nat_lt 262144 len then Err (LongRecord place len)
+    else if nat_lt longest_body len then Err (LongRecord place len)
     else if nat_lt (length bytes) (16 + len) then Err (CutBody place)
     else Ok (record {
       stamp = number_at form.big 4 bytes 0 * 1000000000 + number_at form.big 4 bytes 4 * unit form.nano;

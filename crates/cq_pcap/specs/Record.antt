@@ -3,7 +3,7 @@ use Rattle.std.specs.Prelude.{◌≡◌, ℕ, ◌+◌, ◌*◌, ◌%◌, ◌<◌
 use Rattle.std.specs.List.{flat_map, AllByRecursion}
 use Rattle.cq_pcap.specs.declared.form.Form.{Form}
 use Rattle.cq_pcap.specs.Form.{bytes_in, magic, number_at, unit}
-use Rattle.cq_pcap.specs.Captured.{Captured}
+use Rattle.cq_pcap.specs.Captured.{Captured, longest_body}
 
 -- the first four bytes are the magic of the form
 abbrev pub HasMagic : Form → List ℕ → Type 0
@@ -43,7 +43,7 @@ pub record Fits (r : Record) : Type 0 where
   pub seconds : r.seconds < 2 ^ 32
   pub subseconds : r.subseconds < 2 ^ 32
   pub original : r.original < 2 ^ 32
-  pub body : length r.body ≤ 262144
+  pub body : length r.body ≤ longest_body
 
 -- what is kept of a record: subseconds of any size are added as they stand
 abbrev pub captured_of : Form → Record → Captured

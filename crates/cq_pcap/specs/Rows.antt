@@ -5,7 +5,7 @@ use Rattle.cq_base.specs.Limits.{longest_file}
 use Rattle.cq_pcap.specs.declared.capture.PacketRow.{PacketRow}
 use Rattle.cq_pcap.specs.declared.form.Form.{Form}
 use Rattle.cq_pcap.specs.declared.read.PcapRefusal.{PcapRefusal}
-use Rattle.cq_pcap.specs.Captured.{Captured, rows_from, file_length}
+use Rattle.cq_pcap.specs.Captured.{Captured, rows_from, file_length, longest_body}
 use Rattle.cq_pcap.specs.declared.read.PcapRefusal.TheVariants.{CutHeader, LongRecord, CutBody}
 use Rattle.cq_pcap.specs.Faults.{IsFaulty}
 use Rattle.cq_pcap.specs.Record.{Spells, SpellsIn}
@@ -25,7 +25,7 @@ pub record AreRowsOf (bytes : List ℕ) (rows : List PacketRow) : Type 0 where
   pub inside : AllByRecursion (λ row. row.at + row.len ≤ length bytes) rows
   pub stamps : AllByRecursion (λ p. p.stamp < 2 ^ 63) (packets_at bytes rows)
   pub small : file_length (packets_at bytes rows) ≤ longest_file
-  pub bodies : All (λ p. length p.body ≤ 262144) (packets_at bytes rows)
+  pub bodies : All (λ p. length p.body ≤ longest_body) (packets_at bytes rows)
 
 -- the first bytes of a file, up to a place, are a capture of this form, and these are the rows of its packets
 pub record AreRowsTo (form : Form) (bytes : List ℕ) (at : ℕ) (rows : List PacketRow) : Type 0 where
@@ -78,4 +78,4 @@ pub record IsRowOf (form : Form) (bytes : List ℕ) (place : ℕ) (row : PacketR
   pub at : row.at ≡ place + 16
   pub fits : 16 + row.len ≤ length bytes
   pub early : row.stamp < 2 ^ 63
-  pub short : row.len ≤ 262144
+  pub short : row.len ≤ longest_body

@@ -1,7 +1,7 @@
 -- The capture that is written: little-endian with nanoseconds.
 use Rattle.std.specs.Prelude.{ℕ, ◌/◌, ◌%◌, ◌^◌, ◌*◌, ◌<◌, ◌≤◌, List, [], ◌∷◌, ◌++◌, length, false}
 use Rattle.std.specs.List.{flat_map}
-use Rattle.cq_pcap.specs.Captured.{Captured}
+use Rattle.cq_pcap.specs.Captured.{Captured, longest_body}
 use Rattle.cq_pcap.specs.Record.{Record, spelling}
 use Rattle.cq_pcap.specs.declared.write.OutPacket.{OutPacket}
 
@@ -36,4 +36,4 @@ read_again p = record { stamp = p.stamp; original = p.original; body = p.body }
 pub record IsWritable (p : OutPacket) : Type 0 where
   pub stamp : p.stamp < 2 ^ 32 * 1000000000
   pub original : p.original < 2 ^ 32
-  pub body : length p.body ≤ 262144
+  pub body : length p.body ≤ longest_body

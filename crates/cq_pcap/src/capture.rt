@@ -3,7 +3,7 @@
 ghost use Rattle.std.specs.Prelude.{◌≡◌, ◌<◌, ◌≤◌, ◌^◌, [], Ok, All, length, slice_get, IfSome};
 ghost use Rattle.std.specs.List.{AllByRecursion};
 ghost use Rattle.cq_base.specs.Limits.{longest_file};
-ghost use Rattle.cq_pcap.specs.Captured.{file_length, rows_from};
+ghost use Rattle.cq_pcap.specs.Captured.{file_length, longest_body, rows_from};
 ghost use Rattle.cq_pcap.specs.Reading.{packets_of};
 ghost use Rattle.cq_pcap.specs.Record.{Spells};
 ghost use Rattle.cq_pcap.specs.Rows.{AreSpelt, packets_at};
@@ -70,7 +70,7 @@ impl Capture {
         ensures rows { result.now ≡ rows_from 24 self.now }
         ensures stamps { AllByRecursion (λ p. p.stamp < 2 ^ 63) self.now }
         ensures small { file_length self.now ≤ longest_file }
-        ensures bodies { All (λ p. length p.body ≤ 262144) self.now }
+        ensures bodies { All (λ p. length p.body ≤ longest_body) self.now }
     {
         self.rows.as_slice()
     }

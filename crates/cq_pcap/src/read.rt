@@ -64,7 +64,7 @@ const MINOR: u16 = 4;
 const ETHERNET: u32 = 1;
 
 // The most captured bytes that a record may have.
-const LONGEST: u32 = 262_144;
+const LONGEST_BODY: u32 = 262_144;
 
 // In nanoseconds.
 const SECOND: u64 = 1_000_000_000;
@@ -115,7 +115,7 @@ fn row_of(form: Form, bytes: &[u8], place: usize) -> Result<PacketRow, PcapRefus
         return Err(PcapRefusal::CutHeader { offset });
     }
     let len = form.word(bytes, 8);
-    if len > LONGEST {
+    if len > LONGEST_BODY {
         return Err(PcapRefusal::LongRecord {
             offset,
             length: len,

@@ -1,5 +1,6 @@
 //! Captures that are written.
 ghost use Rattle.std.specs.Prelude.{◌≡◌, ◌≤◌, ◌++◌, [], length, All, IfOk, OnErr, OnOk};
+ghost use Rattle.cq_pcap.specs.Captured.{longest_body};
 ghost use Rattle.cq_pcap.specs.Written.{record_of, written};
 
 use crate::{FILE_HEADER, RECORD_HEADER};
@@ -47,7 +48,7 @@ pub fn put_packet(
     original: u32,
     body: &[u8],
 ) -> Result<(), NoMemory>
-    requires { length body.now ≤ 262144 }
+    requires { length body.now ≤ longest_body }
     ensures record { OnOk result (out.new.items ≡
         out.old.items ++ record_of (record { stamp = stamp; original = original; body = body.now })) }
     ensures as_before { OnErr result (out.new.items ≡ out.old.items) }
@@ -73,7 +74,7 @@ pub fn put_packet(
 /// the pcap file format, version 2.4, little-endian with nanoseconds. The seconds of a stamp are
 /// written modulo 2^32. The error is want of memory.
 pub fn capture_bytes(alloc: Global, packets: &[OutPacket]) -> Result<Vec<u8>, NoMemory>
-    requires { All (λ p. length p.body ≤ 262144) packets.now }
+    requires { All (λ p. length p.body ≤ longest_body) packets.now }
     ensures { IfOk result (λ v. v.items ≡ written packets.now) }
 {
     let size = packets.iter().fold(FILE_HEADER, |size, packet| {

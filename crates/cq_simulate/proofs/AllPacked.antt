@@ -2,7 +2,7 @@
 -- are the others, and each output stands where a walk over its own departures would stand (`SoFar`), with the packets
 -- of that walk in its bytes (`Walked`). One departure more goes on with the walk at its output, and passes by those
 -- at all others.
-use Rattle.cq_simulate.proofs.Terms.{rules, ◌≡◌, ◌≢◌, ℕ, ◌+◌, ◌<◌, ◌≤◌, All, List, [], ◌∷◌, ◌++◌, length, map, drop, get_or, set, Option, Some, None, refl, sym, ap, ◌∙◌, subst, arith, suc, Bool, true, false, take, zero, cond, common_steps, IfSome, cases_eq, cond-true, cond-false, eq-eqb, ne_eqb, and_from, and_left, and_right, append-nil, drop_more, get_or-set_other, get_or-set_same, length-drop, length-set, map-append, take_more, take-append-drop, get_or_default, unpacked, Departure, Captured, rows_from, ports_of, Tables, ArePacked, HaveLeftOf, ends_packet_at, leaving, packets_out, CanBeJoined, IsEmptied, Took, left_with, records_of, Fits, opened, piece_at, filter, filter-append, All-push, leaves_in_flow, left_in_flow, JoinerView, IsOtherPair, open_after, open_at, packet_at, packets_of, length-rows_from, PackedDeparture, written_with, OutPacket, PacketRow, flat_map-map, length-map-range_with_len, ◌-◌, ◌*◌, flat_map, min, ◌==◌, range_with_len, flat_map-append, Cell, cells, cells_of, cell_of, arrivals, came_in_flow, AreTables, of_packet, AreCutFrom, Piece, Open, bytes_taken, with_piece, pieces_give_frame, range_more}
+use Rattle.cq_simulate.proofs.Terms.{rules, ◌≡◌, ◌≢◌, ℕ, ◌+◌, ◌<◌, ◌≤◌, All, List, [], ◌∷◌, ◌++◌, length, map, drop, get_or, set, Option, Some, None, refl, sym, ap, ◌∙◌, subst, arith, suc, Bool, true, false, take, zero, cond, common_steps, IfSome, cases_eq, cond-true, cond-false, eq-eqb, ne_eqb, and_from, and_left, and_right, append-nil, drop_more, get_or-set_other, get_or-set_same, length-drop, length-set, map-append, take_more, take-append-drop, get_or_default, unpacked, Departure, Captured, longest_body, rows_from, ports_of, Tables, ArePacked, HaveLeftOf, ends_packet_at, leaving, packets_out, CanBeJoined, IsEmptied, Took, left_with, records_of, Fits, opened, piece_at, filter, filter-append, All-push, leaves_in_flow, left_in_flow, JoinerView, IsOtherPair, open_after, open_at, packet_at, packets_of, length-rows_from, PackedDeparture, written_with, OutPacket, PacketRow, flat_map-map, length-map-range_with_len, ◌-◌, ◌*◌, flat_map, min, ◌==◌, range_with_len, flat_map-append, Cell, cells, cells_of, cell_of, arrivals, came_in_flow, AreTables, of_packet, AreCutFrom, Piece, Open, bytes_taken, with_piece, pieces_give_frame, range_more}
 use Rattle.cq_pcap.specs.Written.{written}
 use Rattle.cq_simulate.specs.declared.packing.Packing.{Packing}
 use Rattle.cq_simulate.proofs.Departed.{departed_captured, departed_class, departed_output}
@@ -172,12 +172,12 @@ abbrev listed : Option OutPacket → List OutPacket
 listed None = []
 listed (Some p) = p ∷ []
 
-all_pushed : (packets : List OutPacket) (o : Option OutPacket) → All (λ p. length p.body ≤ 262144) packets →
-    IfSome o (λ p. length p.body ≤ 262144) → All (λ p. length p.body ≤ 262144) (packets ++ listed o)
+all_pushed : (packets : List OutPacket) (o : Option OutPacket) → All (λ p. length p.body ≤ longest_body) packets →
+    IfSome o (λ p. length p.body ≤ longest_body) → All (λ p. length p.body ≤ longest_body) (packets ++ listed o)
 all_pushed packets None all small = rw (append-nil packets) all
-all_pushed packets (Some p) all small = All-push (λ (x : OutPacket). length x.body ≤ 262144) packets p all small
+all_pushed packets (Some p) all small = All-push (λ (x : OutPacket). length x.body ≤ longest_body) packets p all small
 
-none_large : (packets : List OutPacket) → packets ≡ [] → All (λ p. length p.body ≤ 262144) packets
+none_large : (packets : List OutPacket) → packets ≡ [] → All (λ p. length p.body ≤ longest_body) packets
 none_large packets none k d inside = grind (arith, common_steps)
 
 -- the cells of a flow among some departures and then others
@@ -198,7 +198,7 @@ pub record SoFar (t : Tables) (captures : List (List Captured)) (sent : List Dep
   pub open_packets : (i c : ℕ) → c < length t.setup.classes →
       open_at joiner i c ≡ opened captures None (left_in_flow i c output (take k sent))
   pub made : packets ≡ packets_out t captures (take k sent) output
-  pub small : All (λ p. length p.body ≤ 262144) packets
+  pub small : All (λ p. length p.body ≤ longest_body) packets
 
 module _ (t : Tables) (captures : List (List Captured)) (sent : List Departure) (output k : ℕ) (e : Departure)
     (inside : k < length sent) where
@@ -261,7 +261,7 @@ module _ (t : Tables) (captures : List (List Captured)) (sent : List Departure) 
       leaves = grind (arith, common_steps, eq-eqb)
 
       pub went_on : (o : Option OutPacket) {more : List OutPacket} → o ≡ left_with t captures d →
-          more ≡ packets ++ listed o → IfSome o (λ p. length p.body ≤ 262144) →
+          more ≡ packets ++ listed o → IfSome o (λ p. length p.body ≤ longest_body) →
           SoFar t captures sent output (k + 1) joiner_new more
       went_on o is pushed small = grind (arith, common_steps, open_next, leaves, next_out, all_pushed)
 

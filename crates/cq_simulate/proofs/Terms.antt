@@ -7,7 +7,7 @@ pub use Rattle.cq_base.specs.Cells.{IsBefore, is_for}
 pub use Rattle.cq_base.specs.Items.{EachPair, Has}
 pub use Rattle.cq_base.specs.Limits.{most_ports}
 pub use Rattle.cq_base.specs.{Packed.unpacked, Room.RoomView, declared.cell.Departure.Departure, declared.cell.Queued.Queued, declared.cell.TagFault.TagFault, declared.cell.Transfer.Transfer, declared.figures.Figures.Figures, declared.setup.Setup.Setup}
-pub use Rattle.cq_pcap.specs.Captured.{Captured, rows_from}
+pub use Rattle.cq_pcap.specs.Captured.{Captured, longest_body, rows_from}
 pub use Rattle.cq_route.specs.Route.{route}
 pub use Rattle.cq_cells.proofs.Packets.{came_more, few_by, length_packet, row_of, rows_are}
 pub use Rattle.cq_cells.proofs.Pieces.{cells_above, piece_begins}

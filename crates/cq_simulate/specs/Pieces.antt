@@ -3,7 +3,7 @@
 use Rattle.std.specs.Prelude.{ℕ, ◌≡◌, ◌+◌, ◌<◌, ◌≤◌, true, if◌then◌else◌, List, [], ◌∷◌, ◌++◌, length, take, drop, Option, None, Some, IfSome}
 use Rattle.cq_base.specs.declared.cell.Cell.{Cell}
 use Rattle.cq_cells.specs.Schedule.{packet_at, packets_of}
-use Rattle.cq_pcap.specs.Captured.{Captured}
+use Rattle.cq_pcap.specs.Captured.{Captured, longest_body}
 use Rattle.cq_reasm.specs.Joining.{IsNext, IsOtherPair, JoinerView, open_after, open_at}
 use Rattle.cq_reasm.specs.Open.{Open, bytes_taken}
 use Rattle.cq_base.specs.declared.cell.Departure.{Departure}
@@ -69,4 +69,4 @@ pub record Took (t : Tables) (captures : List (List Captured)) (d : Departure) (
   pub others : (i c : ℕ) → c < old.joiner.classes → IsOtherPair i c d.queued.cell →
       open_at new.joiner i c ≡ open_at old.joiner i c
   pub bytes : new.bytes.items ≡ old.bytes.items ++ records_of (left_with t captures d)
-  pub small : IfSome (left_with t captures d) (λ p. length p.body ≤ 262144)
+  pub small : IfSome (left_with t captures d) (λ p. length p.body ≤ longest_body)

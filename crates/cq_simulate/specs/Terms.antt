@@ -2,7 +2,7 @@
 pub use Rattle.cq_base.specs.{Arrivals.no_arrivals, declared.cell.Cell.Cell, declared.cell.Departure.Departure}
 pub use Rattle.cq_base.specs.Arriving.{arriving, end_of, traffic_of, Arrival}
 pub use Rattle.cq_base.specs.Limits.{most_classes, most_ports}
-pub use Rattle.cq_pcap.specs.Captured.{Captured}
+pub use Rattle.cq_pcap.specs.Captured.{Captured, longest_body}
 pub use Rattle.cq_route.specs.Tables.{AreTables, IsSetup, classes_of, ports_of}
 pub use Rattle.cq_route.specs.declared.tables.Tables.{Tables}
 pub use Rattle.cq_cells.specs.{NextArrival.ArrivesIn, Scheduled.Scheduled, Scheduled.schedule_of}

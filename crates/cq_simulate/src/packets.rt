@@ -1,7 +1,7 @@
 //! The packets that leave an output.
 ghost use Rattle.std.specs.Prelude.{◌≡◌, ◌+◌, ◌*◌, ◌<◌, ◌≤◌, ℕ, All, IfOk, IfSome, None, OnOk, [], length};
 ghost use Rattle.cq_cells.specs.Schedule.{packets_of as packets_at};
-ghost use Rattle.cq_simulate.specs.Terms.{t0_of, packet_at, ports_of, IsOtherPair, open_after, open_at, HaveLeftOf, packets_out, Fits, IsCaptured, left_with, piece_at};
+ghost use Rattle.cq_simulate.specs.Terms.{longest_body, t0_of, packet_at, ports_of, IsOtherPair, open_after, open_at, HaveLeftOf, packets_out, Fits, IsCaptured, left_with, piece_at};
 
 use cq_base::{Cell, Departure, NoMemory, Port, Slot};
 use cq_pcap::{Capture, OutPacket};
@@ -26,7 +26,7 @@ pub fn packets_of(
     requires { HaveLeftOf tables.now captures.now sent.now t0 }
     ensures packets { IfOk result (λ packets. packets.items ≡ packets_out tables.now captures.now sent.now output) }
     ensures nowhere { ports_of tables.now.setup ≤ output → IfOk result (λ packets. packets.items ≡ []) }
-    ensures bodies { IfOk result (λ packets. All (λ p. length p.body ≤ 262144) packets.items) }
+    ensures bodies { IfOk result (λ packets. All (λ p. length p.body ≤ longest_body) packets.items) }
 {
     let inputs = captures.len() as u16;
     let classes = tables.setup.classes.as_slice().len() as u16;
@@ -62,7 +62,7 @@ fn put_together(
     requires nothing { (input class : ℕ) → open_at joiner.old input class ≡ None }
     requires none { packets.old.items ≡ [] }
     ensures packets { OnOk result (packets.new.items ≡ packets_out tables.now captures.now sent.now output) }
-    ensures bodies { OnOk result (All (λ p. length p.body ≤ 262144) packets.new.items) }
+    ensures bodies { OnOk result (All (λ p. length p.body ≤ longest_body) packets.new.items) }
 {
     'departures: for departure in sent {
         if departure.output == output {
@@ -93,7 +93,7 @@ pub(crate) fn take(
         (open_at joiner.old departure.now.queued.cell.id.input departure.now.queued.cell.class)
         departure.now.queued.cell }
     ensures packet { IfOk result (λ left. left ≡ left_with tables.now captures.now departure.now) }
-    ensures body { IfOk result (λ left. IfSome left (λ p. length p.body ≤ 262144)) }
+    ensures body { IfOk result (λ left. IfSome left (λ p. length p.body ≤ longest_body)) }
     ensures inputs { joiner.new.inputs ≡ joiner.old.inputs }
     ensures classes { joiner.new.classes ≡ joiner.old.classes }
     ensures pair { OnOk result (open_at joiner.new departure.now.queued.cell.id.input departure.now.queued.cell.class ≡
@@ -141,7 +141,7 @@ fn leaving(slot: Slot, joined: Joined, captures: &[Capture], tables: &Tables, t0
     ensures stamp { result.stamp ≡ t0_of captures.now + slot * tables.now.slot_ns }
     ensures original { result.original ≡ (packet_at captures.now joined.input joined.packet).original }
     ensures body { result.body ≡ joined.body }
-    ensures small { length (packet_at captures.now joined.input joined.packet).body ≤ 262144 }
+    ensures small { length (packet_at captures.now joined.input joined.packet).body ≤ longest_body }
 {
     OutPacket {
         stamp: stamp_of(slot, tables, t0),
@@ -163,7 +163,7 @@ pub(crate) fn original_of(captures: &[Capture], input: Port, packet: u32) -> u32
     requires input { input < length captures.now }
     requires packet { packet < length (packets_at captures.now input) }
     ensures original { result ≡ (packet_at captures.now input packet).original }
-    ensures small { length (packet_at captures.now input packet).body ≤ 262144 }
+    ensures small { length (packet_at captures.now input packet).body ≤ longest_body }
 {
     let capture = &captures[input as usize];
     capture.rows()[packet as usize].original

@@ -1,6 +1,7 @@
 //! Captures of the format's own values, byte by byte.
 ghost use Rattle.std.specs.Prelude.{◌≤◌, All, IfOk, length};
 ghost use Rattle.cq_base.specs.Limits.{longest_file};
+ghost use Rattle.cq_pcap.specs.Captured.{longest_body};
 
 use cq_base::{NoMemory, Sequence};
 use cq_pcap::{
@@ -229,7 +230,7 @@ fn the_longest_body_has_262144_bytes(rt: HostRuntime) {
 
 // Whether these bytes are written for the packets.
 fn are_written_as(alloc: Global, packets: &[OutPacket], wanted: &[u8]) -> bool
-    requires { All (λ p. length p.body ≤ 262144) packets.now }
+    requires { All (λ p. length p.body ≤ longest_body) packets.now }
 {
     match capture_bytes(alloc, packets) {
         Ok(bytes) => bytes.as_slice() == wanted,
@@ -239,7 +240,7 @@ fn are_written_as(alloc: Global, packets: &[OutPacket], wanted: &[u8]) -> bool
 
 // That packet, to be written.
 fn out_packet(alloc: Global) -> Result<OutPacket, NoMemory>
-    ensures { IfOk result (λ p. length p.body ≤ 262144) }
+    ensures { IfOk result (λ p. length p.body ≤ longest_body) }
 {
     let body = [0xab, 0xcd].to_vec(alloc)?;
     Ok(OutPacket {
