@@ -1,4 +1,4 @@
--- The limits of a switch, and of the files of a run.
+-- The limits of a switch, of made traffic, and of the files of a run.
 use Rattle.std.specs.Prelude.{ℕ, ◌^◌}
 
 -- the most ports
@@ -16,6 +16,10 @@ level_count = 16
 -- the most workers
 abbrev pub most_workers : ℕ
 most_workers = 64
+
+-- the most slots in which made packets come
+abbrev pub most_soak_slots : ℕ
+most_soak_slots = 20000
 
 -- the most bytes of a file that is kept whole: a capture, a state, a log or a trace that is read
 abbrev pub longest_file : ℕ

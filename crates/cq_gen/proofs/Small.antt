@@ -1,6 +1,6 @@
 -- Made packets are small: each fits a record, and all records of an input fit a file. So the file that is written is
 -- read again as the same packets, and no fault of a file can come.
-use Rattle.cq_gen.proofs.Terms.{rules, ◌≡◌, ℕ, ◌*◌, ◌<◌, ◌≤◌, ◌^◌, List, [], ◌∷◌, length, map, Ok, Err, IfSome, refl, ap, sym, subst, ◌∙◌, arith, length-append, common_steps, length-map, length-map-range_with_len, AllByRecursion, flat_map, Captured, IsWritable, read_again, record_of, written, frame_of, packet_of, packets_to, to_write, fault_of, packets_of, PcapRefusal, OutPacket, spelt_is_read, written_is_spelt, all_made}
+use Rattle.cq_gen.proofs.Terms.{rules, ◌≡◌, ℕ, ◌*◌, ◌<◌, ◌≤◌, ◌^◌, List, [], ◌∷◌, length, map, Ok, Err, IfSome, refl, ap, sym, subst, ◌∙◌, arith, length-append, common_steps, length-map, length-map-range_with_len, AllByRecursion, flat_map, most_soak_slots, Captured, IsWritable, read_again, record_of, written, frame_of, packet_of, packets_to, to_write, fault_of, packets_of, PcapRefusal, OutPacket, spelt_is_read, written_is_spelt, all_made}
 use Rattle.cq_pcap.specs.declared.read.PcapRefusal.TheVariants as refusal
 
 -- a packet of 60 bytes, with a stamp below 2^32 seconds
@@ -9,11 +9,11 @@ record IsSmall (p : Captured) : Type 0 where
   original : p.original ≡ 60
   body : length p.body ≡ 60
 
-packet_small : (ports slot input word : ℕ) → slot < 20000 → IsSmall (packet_of ports slot input word)
+packet_small : (ports slot input word : ℕ) → slot < most_soak_slots → IsSmall (packet_of ports slot input word)
 unfolding packet_of frame_of
 packet_small ports slot input word early = record { stamp = omega arith; original = refl; body = refl }
 
-packets_small : (words : List ℕ) (ports slots input : ℕ) → slots ≤ 20000 →
+packets_small : (words : List ℕ) (ports slots input : ℕ) → slots ≤ most_soak_slots →
     AllByRecursion IsSmall (packets_to words ports slots input)
 unfolding packets_to
 packets_small words ports slots input few = grind (arith, common_steps, all_made IsSmall, packet_small ports)
@@ -42,7 +42,7 @@ again : (ps : List Captured) → map read_again (map to_write ps) ≡ ps
 again [] = refl
 again (p ∷ ps) = ap (λ (qs : List Captured). p ∷ qs) (again ps)
 
-module _ (words : List ℕ) (ports slots input : ℕ) (few : slots ≤ 20000) (bytes : List ℕ)
+module _ (words : List ℕ) (ports slots input : ℕ) (few : slots ≤ most_soak_slots) (bytes : List ℕ)
     (wrote : bytes ≡ written (map to_write (packets_to words ports slots input))) where
   packets : List Captured
   packets = packets_to words ports slots input

@@ -2,7 +2,7 @@
 ghost use Rattle.std.specs.Prelude.{◌≡◌, ◌*◌, ◌<◌, ◌≤◌, length, map, IfOk};
 ghost use Rattle.std.specs.Int.{IsInRange};
 ghost use Rattle.std.specs.List.{range_with_len};
-ghost use Rattle.cq_base.specs.Limits.{most_ports};
+ghost use Rattle.cq_base.specs.Limits.{most_ports, most_soak_slots};
 ghost use Rattle.cq_gen.specs.Packets.{packets_to};
 
 use crate::packets::file_to;
@@ -20,7 +20,7 @@ fn capture_at(
     input: Port,
 ) -> Result<Capture, NoMemory>
     requires ports { IsInRange 1 most_ports ports }
-    requires slots { slots ≤ 20000 }
+    requires slots { slots ≤ most_soak_slots }
     requires input { input < ports }
     requires words { length words.now ≡ slots * ports }
     ensures { IfOk result (λ capture. capture ≡ packets_to words.now ports slots input) }
@@ -44,7 +44,7 @@ pub fn captures_of(
     slots: u32,
 ) -> Result<Vec<Capture>, NoMemory>
     requires ports { IsInRange 1 most_ports ports }
-    requires slots { slots ≤ 20000 }
+    requires slots { slots ≤ most_soak_slots }
     requires words { length words.now ≡ slots * ports }
     ensures { IfOk result (λ captures. captures.items ≡ map (packets_to words.now ports slots)
         (range_with_len 0 ports)) }

@@ -1,7 +1,7 @@
 //! The packets that come to an input.
 ghost use Rattle.std.specs.Prelude.{◌≡◌, ◌++◌, ◌*◌, ◌<◌, ◌≤◌, length, map, IfOk, OnOk};
 ghost use Rattle.std.specs.Int.{IsInRange};
-ghost use Rattle.cq_base.specs.Limits.{most_ports};
+ghost use Rattle.cq_base.specs.Limits.{most_ports, most_soak_slots};
 ghost use Rattle.cq_gen.specs.Packets.{frame_of, output_address, packet_of, packets_to, to_write};
 ghost use Rattle.cq_pcap.specs.Written.{record_of, written};
 
@@ -67,7 +67,7 @@ pub fn file_to(
     input: Port,
 ) -> Result<Vec<u8>, NoMemory>
     requires ports { IsInRange 1 most_ports ports }
-    requires slots { slots ≤ 20000 }
+    requires slots { slots ≤ most_soak_slots }
     requires input { input < ports }
     requires words { length words.now ≡ slots * ports }
     ensures { IfOk result (λ bytes. bytes.items ≡ written (map to_write (packets_to words.now ports slots input))) }

@@ -1,7 +1,7 @@
 //! Made traffic, whole.
 ghost use Rattle.std.specs.Prelude.{◌≡◌, length, All, IfOk};
 ghost use Rattle.std.specs.Int.{IsInRange};
-ghost use Rattle.cq_base.specs.Limits.{most_ports};
+ghost use Rattle.cq_base.specs.Limits.{most_ports, most_soak_slots};
 ghost use Rattle.cq_gen.specs.Packets.{soak_captures};
 ghost use Rattle.cq_gen.specs.Tables.{soak_tables};
 ghost use Rattle.cq_route.specs.Tables.{AreTables, ports_of};
@@ -34,7 +34,7 @@ pub struct Soak {
 /// The error is want of memory. The same seed, ports and slots make the same traffic.
 pub fn make(alloc: Global, seed: u64, ports: u16, slots: u32) -> Result<Soak, NoMemory>
     requires ports { IsInRange 1 most_ports ports }
-    requires slots { IsInRange 1 20000 slots }
+    requires slots { IsInRange 1 most_soak_slots slots }
     ensures tables { IfOk result (λ soak. soak.tables ≡ soak_tables ports) }
     ensures in_range { IfOk result (λ soak. AreTables soak.tables) }
     ensures ports { IfOk result (λ soak. ports_of soak.tables.setup ≡ ports) }

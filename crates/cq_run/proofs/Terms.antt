@@ -19,7 +19,7 @@ pub use Rattle.cq_cells.proofs.Rising.{short_is, traffic_is}
 pub use Rattle.cq_cells.specs.Schedule.{arrivals_of, t0_of, packet_at, packets_of, start}
 unfoldable pub use Rattle.cq_base.specs.Pieces.{cells_of}
 pub use Rattle.cq_base.specs.Items.{EachPair, Has}
-pub use Rattle.cq_base.specs.Limits.{longest_file, most_ports}
+pub use Rattle.cq_base.specs.Limits.{longest_file, most_ports, most_soak_slots}
 unfoldable pub use Rattle.cq_cells.specs.Schedule.{arrivals, arrivals_at, cell_of, cells}
 pub use Rattle.cq_cells.specs.Traffic.{IsInRange, IsLater, IsRecorded, IsTraffic}
 pub use Rattle.cq_scfq.specs.Disciplines.{machines_of, openings_of}

@@ -1,5 +1,5 @@
 -- The numbers of a command that words are are in their ranges.
-use Rattle.cq_run.proofs.Terms.{◌≡◌, ℕ, Bool, cond, List, [], ◌∷◌, arith, Option, None, Some, option_map, leb-true, common_steps, command_for, most_slots, with_three, Command, IsWithinRange, Ahead, InTurn, pace_of, number_from, as_run, run_of, streamed, most_ports}
+use Rattle.cq_run.proofs.Terms.{◌≡◌, ℕ, Bool, cond, List, [], ◌∷◌, arith, Option, None, Some, option_map, leb-true, common_steps, command_for, most_slots, with_three, Command, IsWithinRange, Ahead, InTurn, pace_of, number_from, as_run, run_of, streamed, most_ports, most_soak_slots}
 use Rattle.std.specs.Int.{IsInRange}
 
 -- a number that a text writes is in its range
@@ -9,7 +9,8 @@ in_range least most text n e = grind (arith, common_steps, leb-true)
 three_within : (word first second third : List ℕ) (command : Command) →
     with_three word first second third ≡ Some command → IsWithinRange command
 three_within word first second third command e =
-    grind (arith, common_steps, in_range 0 most_slots second, in_range 1 most_ports second, in_range 1 20000 third)
+    let slots = in_range 1 most_soak_slots third in
+    grind (arith, common_steps, in_range 0 most_slots second, in_range 1 most_ports second, slots)
 
 tested : (b : Bool) (o : Option Command) (command : Command) → cond b o None ≡ Some command → o ≡ Some command
 tested b o command e = grind (arith, common_steps)

@@ -2,7 +2,7 @@
 use Rattle.std.specs.Prelude.{◌≡◌, ◌<◌, ◌^◌, ◌⊎◌, ℕ, List, IsTrue, Option, None, Some, MatchOption, Result, Ok, Err, IsOkAnd}
 use Rattle.std.specs.FinMap.{empty}
 use Rattle.std.specs.Int.{IsInRange}
-use Rattle.cq_base.specs.Limits.{most_ports}
+use Rattle.cq_base.specs.Limits.{most_ports, most_soak_slots}
 use Rattle.cq_space.specs.Space.{Closed, Contents, Space}
 use Rattle.cq_words.specs.declared.command.Command.{Command}
 use Rattle.cq_words.specs.declared.command.Command.TheVariants.{Pass, Check, Ideal, Run, Soak, Audit, Part, Resume}
@@ -72,4 +72,4 @@ IsWithinRange (Run config) = Unit {0}
 IsWithinRange (Audit config) = Unit {0}
 IsWithinRange (Part config slots state) = slots < 2 ^ 63
 IsWithinRange (Resume config state) = Unit {0}
-IsWithinRange (Soak seed ports slots) = IsInRange 1 most_ports ports × IsInRange 1 20000 slots
+IsWithinRange (Soak seed ports slots) = IsInRange 1 most_ports ports × IsInRange 1 most_soak_slots slots

@@ -1,7 +1,7 @@
 -- The terms of this crate's clauses, each passed on from where it is defined.
 pub use Rattle.cq_base.specs.declared.cell.Departure.{Departure}
 pub use Rattle.cq_base.specs.Decimal.{decimal}
-pub use Rattle.cq_base.specs.Limits.{longest_file, most_ports}
+pub use Rattle.cq_base.specs.Limits.{longest_file, most_ports, most_soak_slots}
 pub use Rattle.cq_base.specs.Texts.{log_of, trace_of}
 pub use Rattle.cq_space.specs.Failing.{Fails, Reads, FailsTaking, Writes}
 pub use Rattle.cq_space.specs.Space.{Closed}

@@ -4,7 +4,7 @@
 //! end of a scope is one for each field.
 ghost use Rattle.std.specs.Prelude.{◌≡◌, ℕ, ◌≤◌, ◌<◌, ◌^◌, List, ◌∷◌, [], All, IfErr, IfOk, IsOk, Ok, length};
 ghost use Rattle.std.specs.Int.{IsInRange};
-ghost use Rattle.cq_run.specs.Terms.{Closed, StopsInTime, command_asking, Fails, Reads, Judges, tables_in, checked, AreGiven, AreTables, ports_of, file_alone, IsPartHalt, IsPartText, soak_captures, soak_tables, plain_tables, Meets, Reporting, IsJudged, IsHaltOf, Ahead, InTurn, IsGiven, IsResumeHalt, IsResuming, IsWithinRange, IsCrossing, IsIdeal, IsPassing, ideally_sent, most_ports, report_with};
+ghost use Rattle.cq_run.specs.Terms.{Closed, StopsInTime, command_asking, Fails, Reads, Judges, tables_in, checked, AreGiven, AreTables, ports_of, file_alone, IsPartHalt, IsPartText, soak_captures, soak_tables, plain_tables, Meets, Reporting, IsJudged, IsHaltOf, Ahead, InTurn, IsGiven, IsResumeHalt, IsResuming, IsWithinRange, IsCrossing, IsIdeal, IsPassing, ideally_sent, most_ports, most_soak_slots, report_with};
 
 use crate::ahead::stream_from;
 use crate::build::{
@@ -320,7 +320,7 @@ fn soak<R: Threads + Sync, G: Gate>(
     gate: &G,
 ) -> Result<Work, Halt>
     requires ports { IsInRange 1 most_ports ports }
-    requires slots { IsInRange 1 20000 slots }
+    requires slots { IsInRange 1 most_soak_slots slots }
     ensures meets { IfOk result (λ plan. Meets (Reporting (soak_tables ports) (soak_captures seed ports slots)) plan) }
     ensures writes { IfOk result (λ plan. plan.writes ≡ []) }
     ensures sent { IfOk result (λ _. IsOk (ideally_sent (soak_tables ports) (soak_captures seed ports slots))) }

@@ -2,7 +2,7 @@
 use Rattle.std.specs.Prelude.{ℕ, Bool, false, not, ◌==◌, if◌then◌else◌, List, [], ◌∷◌, Option, None, Some, option_map, codes}
 use Rattle.std.specs.List.{list_all}
 use Rattle.std.specs.Str.{bytes_eq}
-use Rattle.cq_base.specs.Limits.{most_ports}
+use Rattle.cq_base.specs.Limits.{most_ports, most_soak_slots}
 use Rattle.cq_words.specs.Numbers.{number_from}
 use Rattle.cq_words.specs.declared.command.Command.{Command}
 use Rattle.cq_words.specs.declared.command.Command.TheVariants.{Pass, Check, Ideal, Run, Soak, Audit, Part, Resume}
@@ -36,7 +36,8 @@ soak_of _ _ _ = None
 -- SEED, PORTS and SLOTS: each is in its own range
 abbrev pub numbered : List ℕ → List ℕ → List ℕ → Option Command
 numbered seed ports slots =
-    soak_of (number_from 0 18446744073709551615 seed) (number_from 1 most_ports ports) (number_from 1 20000 slots)
+    soak_of (number_from 0 18446744073709551615 seed) (number_from 1 most_ports ports)
+    (number_from 1 most_soak_slots slots)
 
 -- the greatest number of slots after which a run can stop: 2^63 - 1
 abbrev pub most_slots : ℕ

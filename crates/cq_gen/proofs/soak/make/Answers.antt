@@ -1,10 +1,11 @@
-use Rattle.cq_gen.proofs.Terms.{rules, ap, sym, subst, ◌∙◌, arith, mul-le, AreTables, ports_of, Tables}
+use Rattle.cq_gen.proofs.Terms.{rules, ap, sym, subst, ◌∙◌, arith, mul-le, most_ports, most_soak_slots, AreTables, ports_of, Tables}
 use Rattle.cq_gen.proofs.InRange.{tables_in_range, tables_ports}
 use Rattle.cq_gen.proofs.Made.{captures_count, captures_lengths, captures_made, captures_of_draws}
 use Rattle.cq_gen.proofs.soak.make.Goals as goal
 
 pub overflow_mul-slots : goal.overflow_mul-slots
-overflow_mul-slots c = omega (arith, mul-le c.args.slots c.args.ports 20000 64 c.requires.slots.1 c.requires.ports.1)
+overflow_mul-slots c =
+    omega (arith, mul-le c.args.slots c.args.ports most_soak_slots most_ports c.requires.slots.1 c.requires.ports.1)
 
 pub returns-clause-in_range : goal.returns-clause-in_range
 returns-clause-in_range c = subst AreTables (sym c.in_ok-tables.ensures) (tables_in_range c.args.ports c.requires.ports)
