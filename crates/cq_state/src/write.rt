@@ -163,6 +163,7 @@ trait Told {
 fn put_each<T: Told>(text: &mut Vec<u8>, kind: Kind, items: &[T]) -> Result<(), StateLong>
     ensures lines { OnOk result (text.new.items
         ≡ text.old.items ++ flat_map spelled (map (line_by kind T.fields) items.now)) }
+    ensures short { OnOk result (length text.old.items ≤ longest_text → length text.new.items ≤ longest_text) }
     ensures long { IfErr result (IsTooLong
         (text.old.items ++ flat_map spelled (map (line_by kind T.fields) items.now))) }
 {

@@ -1,4 +1,4 @@
-use Rattle.cq_state.proofs.Terms.{rules, ◌+◌, ap, line_by}
+use Rattle.cq_state.proofs.Terms.{arith, rules, ◌+◌, ap, line_by}
 use Rattle.cq_state.proofs.Writing.{line_put, lines_long, lines_put}
 use Rattle.cq_state.proofs.Written.{map_numbered, plain}
 use Rattle.cq_state.proofs.write.put_each.Goals as goal
@@ -7,7 +7,7 @@ pub returns-in_err-enough-clause-long : goal.returns-in_err-enough-clause-long
 returns-in_err-enough-clause-long g c =
     let line = line_by c.args.kind g.T.Told.fields in
     let put = line_put c.args.items.now c.args.text.now.items (plain line) c.items.item-index c.item-item.result _ _ _
-    c.items-test.true c.items.invariant (ap line c.item-item.is) c.in_ok-put.ensures in
+    c.items-test.true c.items.invariant.lines (ap line c.item-item.is) c.in_ok-put.ensures in
     let told = c.in_err-enough.ensures {u = tt} in
     rw (map_numbered line 0 c.args.items.now) (lines_long c.args.items.now c.args.text.now.items (plain line)
     (c.items.item-index + 1) _ _ put (search (rules, told.long)))
@@ -15,9 +15,12 @@ returns-in_err-enough-clause-long g c =
 pub items-preserved : goal.items-preserved
 items-preserved g c =
     let line = line_by c.args.kind g.T.Told.fields in
-    line_put c.args.items.now c.args.text.now.items (plain line) c.items.item-index c.item-item.result _ _ _
-    c.items-test.true c.items.invariant (ap line c.item-item.is) c.in_ok-put.ensures
+    record {
+      lines = line_put c.args.items.now c.args.text.now.items (plain line) c.items.item-index c.item-item.result _ _ _
+          c.items-test.true c.items.invariant.lines (ap line c.item-item.is) c.in_ok-put.ensures;
+      short = search (arith, rules);
+    }
 
 pub returns-clause-lines : goal.returns-clause-lines
 returns-clause-lines g c = rw (map_numbered (line_by c.args.kind g.T.Told.fields) 0 c.args.items.now)
-    (lines_put c.args.items.now c.args.text.now.items _ c.items.item-index _ c.items-test.false c.items.invariant)
+    (lines_put c.args.items.now c.args.text.now.items _ c.items.item-index _ c.items-test.false c.items.invariant.lines)
