@@ -122,11 +122,11 @@ module _ (t : Tables) (captures : List (List Captured)) (rs : List LimitedRecord
           (trace_or_log t (apart_in config m t configured)) written
 
       trace_left : text_in why.LongTrace t.trace left ≡ Ok (trace_of sent)
-      trace_left = text_is (refused.Audit why.LongTrace) t.trace (Some left) (trace_of sent)
+      trace_left = text_is (refused.Audit why.LongTrace) longest_file t.trace (Some left) (trace_of sent)
           (all_back (λ w. length w.1 ≤ longest_file) outputs _ short).0 stand_last.0
 
       log_left : text_in why.LongLog t.log left ≡ Ok (log_of note)
-      log_left = text_is (refused.Audit why.LongLog) t.log (Some left) (log_of note)
+      log_left = text_is (refused.Audit why.LongLog) longest_file t.log (Some left) (log_of note)
           (all_back (λ w. length w.1 ≤ longest_file) outputs _ short).1.0 stand_last.1
 
       ideally : ideally_sent t captures ≡ Ok sent

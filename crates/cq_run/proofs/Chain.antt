@@ -93,13 +93,8 @@ module _ {A B : Type 0} {j : Contents → Result A Refusal} (f : A → Contents 
   pub judges_both : {y : B} → Judges p (f x) S mid new (Ok y) → Judges p (both j f) S old new (Ok y)
   judges_both {y} h = search (arith, rules)
 
--- more may be said of names that are unread
-pub halts_more : {A : Type 0} (p : Pace) (j : Contents → Result A Refusal) (R S : List ℕ → Type 0) (old new : Space)
-    (halt : Halt) → ((name : List ℕ) → R name → S name)
-    → Halts p j R old new halt → Halts p j S old new halt
-halts_more p j R S old new halt i h = grind (arith, common_steps)
-
 module _ {A : Type 0} {j : Contents → Result A Refusal} {p : Pace} {old new : Space} where
+  -- more may be said of names that are unread
   pub judges_more : {R S : List ℕ → Type 0} {result : Result A Halt} → ((name : List ℕ) → R name → S name) →
       Judges p j R old new result → Judges p j S old new result
   judges_more i h = grind (arith, common_steps)

@@ -170,9 +170,9 @@ module _ (given : Given) (trace log : List ℕ) where
     captures = given.captures;
     read = read;
     trace = trace;
-    traced = text_stands (Audited LongTrace) given.tables.trace m trace texts.0;
+    traced = text_stands (Audited LongTrace) _ given.tables.trace m trace texts.0;
     log = log;
-    logged = text_stands (Audited LongLog) given.tables.log m log texts.1;
+    logged = text_stands (Audited LongLog) _ given.tables.log m log texts.1;
     audit = passed.meets.log_is;
     stable = passed.stable;
     slack = passed.slack;
@@ -274,7 +274,7 @@ module _ {S : Type 0} {space : S → Space} {keeps : S → S → Type 0} {old no
     at_state : Reached space keeps (Resume config name) old new
         (λ r m. Ok (Resuming given.tables given.captures text))
     at_state = read_on (λ r text m. Ok (Resuming given.tables given.captures text)) lasts
-        (given_so (asked.Resume name) is) kept (λ r. short_stays (State stopped.Long) name) (λ r. read)
+        (given_so (asked.Resume name) is) kept (λ r. short_stays (State stopped.Long) _ name) (λ r. read)
 
     -- and what is made of both
     pub resume_judged : {may_fail : Call → S → S → Type 0} (result : Result Plan Halt) →

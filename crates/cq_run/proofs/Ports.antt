@@ -89,16 +89,16 @@ Unread space may_fail keeps old new asked = Fails space may_fail keeps (Reads as
 module _ (r : Reader) (input limit : ℕ) where
   -- its packets are what arrives there
   arrived : (told : Option Contents) (packets : List Captured) (read : Option (List ℕ)) (begun : Option Decoding)
-      → IsBegunFor read limit told begun → MatchOption begun (packets ≡ []) (λ d. Spells (source d) packets)
+      → IsBegunFor read input limit told begun → MatchOption begun (packets ≡ []) (λ d. Spells (source d) packets)
       → IfSome told (λ m. packets_at r input limit read m ≡ Ok packets)
   arrived told packets None None b h = grind (arith, common_steps, told_any)
   arrived told packets (Some name) (Some d) b h =
-      capture_is r name input limit (source d) b.1.short told packets b.1.whole h
+      capture_is r name input limit (source d) told packets b.1.whole h
   arrived told packets read begun b h = absurd b
 
   -- what is wrong with its bytes ends judging
   halted : (R : List ℕ → Type 0) (old new : Space) (halt : Halt) (read : Option (List ℕ)) (begun : Option Decoding)
-      → IsBegunFor read limit old.told begun → MatchOption begun ⊥ (λ d. IsHaltFor input (source d) halt)
+      → IsBegunFor read input limit old.told begun → MatchOption begun ⊥ (λ d. IsHaltFor input (source d) halt)
       → Uncounted Ahead (AnyName R) old.faults new.faults → Halts Ahead (packets_at r input limit read) R old new halt
   halted R old new halt None None b h k = absurd h
   halted R old new halt (Some name) (Some d) b h k = grind (arith, common_steps, capture_halts)
@@ -123,8 +123,8 @@ module _ (r : Reader) (limit input : ℕ) (row : PortRow) (rows : List PortRow) 
       Judges Ahead (captures_from r limit input (row ∷ rows)) R old new (Err halt)
   file_ends {R} {old} {new} {halt} h c t = grind (arith, common_steps, first_ends, halts_at)
 
-module _ {row : PortRow} {limit : ℕ} {old mid : Space} {begun : Option Decoding}
-    (b : HasBegun row limit old mid begun) where
+module _ {row : PortRow} {input limit : ℕ} {old mid : Space} {begun : Option Decoding}
+    (b : HasBegun row input limit old mid begun) where
   pub begun_is : IfSome begun IsBegun
   begun_is = search (arith, rules)
 
@@ -132,10 +132,10 @@ module _ {row : PortRow} {limit : ℕ} {old mid : Space} {begun : Option Decodin
   begun_small small = search (arith, rules)
 
 -- what failed since the first file was read failed since this call began, for no fault was counted before
-module _ {S : Type 0} (space : S → Space) {keeps : S → S → Type 0} {row : PortRow} {limit : ℕ} {old mid : S}
-    {begun : Option Decoding} (b : HasBegun row limit (space old) (space mid) begun)
+module _ {S : Type 0} (space : S → Space) {keeps : S → S → Type 0} {row : PortRow} {input limit : ℕ} {old mid : S}
+    {begun : Option Decoding} (b : HasBegun row input limit (space old) (space mid) begun)
     (closed : (space mid).mode ≡ Closed) (told : (space mid).told ≡ (space old).told) (kept : keeps old mid)
-    (lasts : Lasts keeps) (r : Reader) (input : ℕ) (rows : List PortRow) (may_fail : Call → S → S → Type 0) (new : S)
+    (lasts : Lasts keeps) (r : Reader) (rows : List PortRow) (may_fail : Call → S → S → Type 0) (new : S)
   where
     abbrev Since : List ℕ → Type 0
     Since = Unread space may_fail keeps mid new

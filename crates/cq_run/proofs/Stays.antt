@@ -1,9 +1,10 @@
 -- Judging where a name is not there. A judgement that accepts the contents comes to the same without some name,
 -- unless it is to read that name: then it misses it. This holds of the bytes of one name, and of one judgement after
 -- another.
-use Rattle.cq_run.proofs.Terms.{arith, ◌≡◌, ◌⊎◌, ◌∙◌, ℕ, cond, List, [], ◌∷◌, ap, inl, Option, None, Some, Result, Ok, Err, ◌+◌, common_steps, nat_list_cmp_total, get, get-remove, exact_bytes, tells_apart, Contents, PortRow, read_or_refused, Refusal, Missing, Denial, Reader, ◌>>=◌, named, tables_in, read_or_refused_for, capture_in, capture_of, packets_at, captures_from, short_in, short_or, text_in, eq_by_cmp_equiv, IsToRead}
+use Rattle.cq_run.proofs.Terms.{arith, ◌≡◌, ◌⊎◌, ◌∙◌, ℕ, cond, List, [], ◌∷◌, ap, inl, Option, None, Some, Result, Ok, Err, ◌+◌, common_steps, nat_list_cmp_total, get, get-remove, exact_bytes, tells_apart, Contents, PortRow, read_or_refused, Refusal, Missing, Denial, Reader, ◌>>=◌, named, tables_in, read_or_refused_for, capture_in, packets_at, captures_from, short_in, short_or, text_in, eq_by_cmp_equiv, longest_file}
 use Rattle.std.specs.FinMap.{remove}
-use Rattle.cq_run.specs.declared.refusal.Refusal.TheVariants.{Audit}
+use Rattle.cq_run.specs.declared.refusal.Refusal.TheVariants.{Audit, Capture}
+use Rattle.cq_run.specs.declared.refusal.CaptureFault.TheVariants.{Long}
 
 -- without a name the judgement comes to the same, or misses that name
 unfoldable pub Stays : {A : Type 0} → (Contents → Result A Refusal) → Type 0
@@ -21,14 +22,16 @@ named_then asked f m name x h =
 pub tables_stay : (name : List ℕ) → Stays (tables_in name)
 tables_stay name = named_then name (λ (bytes : List ℕ). read_or_refused_for (read_or_refused bytes))
 
-pub capture_stays : (r : Reader) (name : List ℕ) (input limit : ℕ) → Stays (capture_in r name input limit)
-capture_stays r name input limit = named_then name (capture_of r input limit)
-
-pub short_stays : (long : Refusal) (name : List ℕ) → Stays (short_in long name)
-short_stays long name = named_then name (short_or long)
+pub short_stays : (long : Refusal) (limit : ℕ) (name : List ℕ) → Stays (short_in long limit name)
+short_stays long limit name = named_then name (short_or long limit)
 
 pub text_stays : (long : Denial) (name : List ℕ) → Stays (text_in long name)
-text_stays long name = short_stays (Audit long) name
+text_stays long name = short_stays (Audit long) longest_file name
+
+pub capture_stays : (r : Reader) (name : List ℕ) (input limit : ℕ) → Stays (capture_in r name input limit)
+unfolding Stays
+capture_stays r name input limit m asked x h =
+    grind (arith, common_steps, short_stays (Capture input (Long limit)) limit name m asked)
 
 pub packets_stay : (r : Reader) (input limit : ℕ) (read : Option (List ℕ)) → Stays (packets_at r input limit read)
 unfolding Stays
@@ -44,7 +47,3 @@ captures_from_stay r limit input (row ∷ rows) m name x h =
 pub get-remove_same : (m : Contents) (name : List ℕ) → get (remove m name) name ≡ None
 get-remove_same m name = get-remove nat_list_cmp_total m name name
     ∙ ap (λ b. cond b None (get m name)) ((eq_by_cmp_equiv nat_list_cmp_total).refl name)
-
-pub capture_is_to_read : (r : Reader) (told : Option Contents) (name : List ℕ) (input limit : ℕ) →
-    IsToRead (capture_in r name input limit) told name
-capture_is_to_read r told name input limit = grind (arith, common_steps, get-remove_same)

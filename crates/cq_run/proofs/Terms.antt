@@ -55,7 +55,7 @@ pub use Rattle.cq_run.specs.Plan.{audited, capture_out, checked, passed, file_al
 unfoldable pub use Rattle.cq_run.specs.Plan.{captures_out, crossed, reported, resumed, switched}
 pub use Rattle.cq_run.specs.Refusals.{is_fault, is_no, meaning_of}
 pub use Rattle.cq_run.specs.Switching.{IsCrossed, IsCrossing, IsIdeal, IsPassing, IsSwitched, halt_for, halt_of, sent_by, under_names}
-pub use Rattle.cq_run.specs.Verdict.{MayRead, MayWrite, capture_in, capture_of, captures_in, found_or_missing, ideally_sent, judged, judged_or_words, named, packets_at, read_or_faulty, read_or_refused_for, sent_or_tag, short_in, short_or, state_in, tables_in, text_in, ◌>>=◌}
+pub use Rattle.cq_run.specs.Verdict.{MayRead, MayWrite, capture_in, captures_in, file_in, found_or_missing, ideally_sent, judged, judged_or_words, named, packets_at, read_or_faulty, read_or_refused_for, sent_or_tag, short_in, short_or, state_in, tables_in, text_in, ◌>>=◌}
 unfoldable pub use Rattle.cq_run.specs.Verdict.{captures_from}
 pub use Rattle.cq_run.specs.World.{IsUntouched, Taken, World, taken_by, world}
 pub use Rattle.cq_run.specs.{declared.denial.Denial.Denial, declared.refusal.CaptureFault.CaptureFault, declared.refusal.Refusal.Refusal, declared.stop.Halt.Halt, declared.switching.Crossed.Crossed, declared.switching.Switched.Switched}

@@ -1,29 +1,29 @@
 -- What is told of a text, as the trace or the log of an audit or the state of a stopped run, from what was read under
 -- its name: its bytes, where they are not too many. The name that was asked for is the one that is to be read, or a
 -- copy of it.
-use Rattle.cq_run.proofs.Terms.{rules, ◌≡◌, ◌<◌, ◌≤◌, ◌⊎◌, ℕ, IsTrue, List, length, inl, inr, arith, codes, false, Option, Some, IfSome, Result, Ok, Err, IsErrOf, Vec, nat_le, le-ltb, lt-ltb, get, Global, Contents, bytes_of, Refusal, Missing, Configuration, IsRefused, IsToRead, meaning_of, short_in, tables_in, first, read_or_refused, common_steps, ◌∙◌, sym, slice_index, Captured, PcapRefusal, IsFaulty, Spells, Space, Halts, AnyName, Pace, Uncounted, Reader, halt_for, capture_in, Lacks, ReadRefusal, spelt_or_faulty, fault_is_read, spelt_is_read, longest_file, is_fault}
+use Rattle.cq_run.proofs.Terms.{rules, ◌≡◌, ◌<◌, ◌≤◌, ◌⊎◌, ℕ, IsTrue, List, length, inl, inr, arith, codes, false, Option, Some, IfSome, Result, Ok, Err, IsErrOf, Vec, nat_le, le-ltb, lt-ltb, get, Global, Contents, bytes_of, Refusal, Missing, Configuration, IsRefused, IsToRead, meaning_of, short_in, tables_in, first, read_or_refused, common_steps, ◌∙◌, sym, slice_index, Captured, PcapRefusal, IsFaulty, Spells, Space, Halts, AnyName, Pace, Uncounted, Reader, halt_for, capture_in, file_in, Lacks, ReadRefusal, spelt_or_faulty, fault_is_read, spelt_is_read, is_fault}
 use Rattle.cq_run.specs.declared.refusal.CaptureFault.TheVariants.{Read}
 use Rattle.cq_space.specs.declared.whole.ReadRefusal.TheVariants as whole
 use Rattle.cq_run.proofs.Stays.{get-remove_same}
 use Rattle.cq_pcap.specs.Reading.{packets_of}
 
-module _ (long : Refusal) (name : List ℕ) where
-  pub text_is : (told : Option Contents) (bytes : List ℕ) → length bytes ≤ longest_file →
+module _ (long : Refusal) (limit : ℕ) (name : List ℕ) where
+  pub text_is : (told : Option Contents) (bytes : List ℕ) → length bytes ≤ limit →
       IfSome told (λ m. get m name ≡ Some bytes)
-      → IfSome told (λ m. short_in long name m ≡ Ok bytes)
+      → IfSome told (λ m. short_in long limit name m ≡ Ok bytes)
   text_is told bytes short at = grind (arith, common_steps, le-ltb)
 
   pub text_long : (told : Option Contents) (asked : List ℕ) → IsTrue (meaning_of long).untold → asked ≡ name →
-      IfSome told (λ m. longest_file < length (bytes_of m asked))
-      → IsRefused (short_in long name) told long
+      IfSome told (λ m. limit < length (bytes_of m asked))
+      → IsRefused (short_in long limit name) told long
   text_long told asked untold a h = grind (arith, common_steps, lt-ltb)
 
   pub text_missed : (told : Option Contents) (asked : List ℕ) → asked ≡ name → Lacks told asked →
-      IsRefused (short_in long name) told (Missing asked)
+      IsRefused (short_in long limit name) told (Missing asked)
   text_missed told asked a h = grind (arith, common_steps)
 
   pub text_is_to_read : (told : Option Contents) (asked : List ℕ) → asked ≡ name →
-      IsToRead (short_in long name) told asked
+      IsToRead (short_in long limit name) told asked
   text_is_to_read told asked a = grind (arith, common_steps, get-remove_same)
 
 -- ## What was accepted
@@ -31,9 +31,9 @@ module _ (long : Refusal) (name : List ℕ) where
 same_text : (a b : List ℕ) → ◌≡◌ {A = Result (List ℕ) Refusal} (Ok a) (Ok b) → a ≡ b
 same_text a b h = let same : a ≡ b = cc h in same
 
-pub text_stands : (long : Refusal) (name : List ℕ) (m : Contents) (bytes : List ℕ) → short_in long name m ≡ Ok bytes →
-    get m name ≡ Some bytes
-text_stands long name m bytes h = search (arith, rules, same_text)
+pub text_stands : (long : Refusal) (limit : ℕ) (name : List ℕ) (m : Contents) (bytes : List ℕ) →
+    short_in long limit name m ≡ Ok bytes → get m name ≡ Some bytes
+text_stands long limit name m bytes h = search (arith, rules, same_text)
 
 -- a name that is missing was read with no fault
 pub missing_is_no_fault : (r : ReadRefusal) (P : Type 0) → r ≡ whole.Missing →
@@ -75,19 +75,18 @@ one_answer r s bytes are = go (spelt_or_faulty bytes are)
 faulty_told : (bytes : List ℕ) (fault : PcapRefusal) → IsFaulty bytes fault → IsTrue (is_fault (Read fault))
 faulty_told bytes fault h = grind (arith, common_steps)
 
-module _ (r : Reader) (name : List ℕ) (input limit : ℕ) (bytes : List ℕ) (short : length bytes ≤ limit) where
-  pub capture_is : (told : Option Contents) (packets : List Captured) → IfSome told (λ m. get m name ≡ Some bytes) →
-      Spells bytes packets
+module _ (r : Reader) (name : List ℕ) (input limit : ℕ) (bytes : List ℕ) where
+  pub capture_is : (told : Option Contents) (packets : List Captured) →
+      IfSome told (λ m. file_in name input limit m ≡ Ok bytes) → Spells bytes packets
       → IfSome told (λ m. capture_in r name input limit m ≡ Ok packets)
-  capture_is told packets at spelt =
-      let read = r.spelt bytes packets spelt in grind (arith, common_steps, le-ltb)
+  capture_is told packets at spelt = let read = r.spelt bytes packets spelt in grind (arith, common_steps)
 
   -- a refusal of the reading stops it for its fault, or for want of memory
   pub capture_halts : (p : Pace) (R : List ℕ → Type 0) (old new : Space) (found : Option PcapRefusal) →
-      IfSome old.told (λ m. get m name ≡ Some bytes) → IfSome found (IsFaulty bytes)
+      IfSome old.told (λ m. file_in name input limit m ≡ Ok bytes) → IfSome found (IsFaulty bytes)
       → Uncounted p (AnyName R) old.faults new.faults →
       Halts p (capture_in r name input limit) R old new (halt_for input found)
-  capture_halts p R old new found at faulty kept = grind (arith, common_steps, faulty_told, le-ltb)
+  capture_halts p R old new found at faulty kept = grind (arith, common_steps, faulty_told)
 
 -- a file that was read was read with no fault
 pub read_is_no_fault : (v : Vec ℕ Global) (P : Type 0) → IsErrOf {T = Vec ℕ Global} (Ok v) whole.Fault ⊎ P → P

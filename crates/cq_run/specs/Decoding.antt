@@ -22,13 +22,13 @@ IsBegun (There intake reader) =
 IsBegun (Here bytes) = Unit {0}
 
 -- what was begun for an input: the decoding of its file, and nothing where it has none
-abbrev pub IsBegunFor : Option (List ℕ) → ℕ → Option Contents → Option Decoding → Type 0
-IsBegunFor None limit contents None = Unit {0}
-IsBegunFor (Some name) limit contents (Some decoding) =
-    IsBegun decoding × IsFileOf name limit contents (source decoding)
-IsBegunFor _ limit contents _ = ⊥
+abbrev pub IsBegunFor : Option (List ℕ) → ℕ → ℕ → Option Contents → Option Decoding → Type 0
+IsBegunFor None input limit contents None = Unit {0}
+IsBegunFor (Some name) input limit contents (Some decoding) =
+    IsBegun decoding × IsFileOf name input limit contents (source decoding)
+IsBegunFor _ input limit contents _ = ⊥
 
 -- the file of a port was read with no fault, and this was begun for its input
-pub record HasBegun (row : PortRow) (limit : ℕ) (old new : Space) (begun : Option Decoding) : Type 0 where
-  pub decoding : IsBegunFor row.read limit old.told begun
+pub record HasBegun (row : PortRow) (input limit : ℕ) (old new : Space) (begun : Option Decoding) : Type 0 where
+  pub decoding : IsBegunFor row.read input limit old.told begun
   pub uncounted : new.faults ≡ old.faults

@@ -25,7 +25,7 @@ pub use Rattle.cq_run.specs.Decoding.{HasBegun, IsBegun, source}
 pub use Rattle.cq_run.specs.Ending.{stop_status, EndsIn, WhereHalted, status_of}
 pub use Rattle.cq_run.specs.Given.{IsGiven}
 pub use Rattle.cq_run.specs.Headline.{AreGiven, Emulates}
-pub use Rattle.cq_run.specs.Input.{IsHaltFor, IsFileOf, IsInFront}
+pub use Rattle.cq_run.specs.Input.{IsHaltFor, IsInFront}
 pub use Rattle.cq_run.specs.Judging.{Halts, Judges, IsHaltOf}
 pub use Rattle.cq_run.specs.Line.{Says, line, halt_text, unwritten_text, stop_text, Tells}
 pub use Rattle.cq_run.specs.Pace.{Ahead, InTurn, Pace, pace_of}
@@ -36,7 +36,7 @@ pub use Rattle.cq_run.specs.Plan.{audited, capture_out, captures_out, check_line
 pub use Rattle.cq_run.specs.Refusals.{is_no, meaning_of, denial_text, log_text, refusal_text, state_fault_text}
 pub use Rattle.cq_run.specs.Running.{IsEmptied, reader_of}
 pub use Rattle.cq_run.specs.Switching.{IsSwitched, sent_by, under_names, IsCrossing, IsIdeal, IsPassing, halt_for, halt_of, IsCrossed}
-pub use Rattle.cq_run.specs.Verdict.{captures_from, packets_at, ideally_sent, sent_or_tag, capture_in, captures_in, short_in, state_in, tables_in, text_in, verdict}
+pub use Rattle.cq_run.specs.Verdict.{captures_from, packets_at, ideally_sent, sent_or_tag, capture_in, captures_in, file_in, short_in, state_in, tables_in, text_in, verdict}
 pub use Rattle.cq_run.specs.Workers.{WorkersChangeNothing}
 pub use Rattle.cq_run.specs.World.{world, taken_by}
 pub use Rattle.cq_run.specs.Writing.{IsDone, IsCut, IsCutAtFile, all_replaced}

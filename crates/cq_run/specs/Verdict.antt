@@ -56,19 +56,28 @@ tables_in name m = do
   bytes ← named m name
   read_or_refused_for (read_or_refused bytes)
 
+-- the bytes of a file that may have so many; one that is longer is refused so before it is looked at
+abbrev pub short_or : Refusal → ℕ → List ℕ → Result (List ℕ) Refusal
+short_or long limit bytes = if nat_lt limit (length bytes) then Err long else Ok bytes
+
+-- the bytes of this name
+abbrev pub short_in : Refusal → ℕ → List ℕ → Contents → Result (List ℕ) Refusal
+short_in long limit name m = named m name >>= short_or long limit
+
+-- the bytes of an input's capture of this name
+abbrev pub file_in : List ℕ → ℕ → ℕ → Contents → Result (List ℕ) Refusal
+file_in name input limit m = short_in (Capture input (Long limit)) limit name m
+
 -- the packets that are read of an input's capture, or what is wrong with it
 abbrev pub read_or_faulty : ℕ → Result (List Captured) PcapRefusal → Result (List Captured) Refusal
 read_or_faulty input (Ok packets) = Ok packets
 read_or_faulty input (Err fault) = Err (Capture input (Read fault))
 
--- the packets of an input's capture; a file that is too long is refused before it is looked at
-abbrev pub capture_of : Reader → ℕ → ℕ → List ℕ → Result (List Captured) Refusal
-capture_of r input limit bytes =
-    if nat_lt limit (length bytes) then Err (Capture input (Long limit)) else read_or_faulty input (r.read bytes)
-
 -- the packets of the capture of this name
 abbrev pub capture_in : Reader → List ℕ → ℕ → ℕ → Contents → Result (List Captured) Refusal
-capture_in r name input limit m = named m name >>= capture_of r input limit
+capture_in r name input limit m = do
+  bytes ← file_in name input limit m
+  read_or_faulty input (r.read bytes)
 
 -- the packets that arrive at an input: it has none where no file is read for it
 abbrev pub packets_at : Reader → ℕ → ℕ → Option (List ℕ) → Contents → Result (List Captured) Refusal
@@ -87,25 +96,13 @@ captures_from r limit input (row ∷ rows) m = do
 abbrev pub captures_in : Reader → Tables → Contents → Result (List (List Captured)) Refusal
 captures_in r tables m = captures_from r tables.limit_bytes 0 tables.ports m
 
--- the bytes of a text; a file that is too long is refused so before it is looked at
-abbrev pub short_or : Refusal → List ℕ → Result (List ℕ) Refusal
-short_or long bytes = if nat_lt longest_text (length bytes) then Err long else Ok bytes
-
--- the text of this name
-abbrev pub short_in : Refusal → List ℕ → Contents → Result (List ℕ) Refusal
-short_in long name m = named m name >>= short_or long
-
--- the bytes of a trace or of a log; one that is too long gets this no before it is looked at
-abbrev pub text_or_long : Denial → List ℕ → Result (List ℕ) Refusal
-text_or_long long bytes = short_or (Denied long) bytes
-
--- the trace or the log of this name
+-- the trace or the log of this name; one that is too long gets this no
 abbrev pub text_in : Denial → List ℕ → Contents → Result (List ℕ) Refusal
-text_in long name m = named m name >>= text_or_long long
+text_in long name m = short_in (Denied long) longest_text name m
 
 -- the text of a state of this name
 abbrev pub state_in : List ℕ → Contents → Result (List ℕ) Refusal
-state_in name m = short_in (State stopped.Long) name m
+state_in name m = short_in (State stopped.Long) longest_text name m
 
 -- the departures of a run, or its tag fault
 abbrev pub sent_or_tag : Result (List Departure) TagFault → Result (List Departure) Refusal

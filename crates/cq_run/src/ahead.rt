@@ -62,7 +62,7 @@ fn begin_port<R: Threads + Wait + Copy + Send + 'static, F: Files, W: Watch + 's
 ) -> Result<Option<Decoding>, Halt>
     requires closed { (F.space files.old).mode ≡ Closed }
     requires limit { limit ≤ longest_file }
-    ensures begun { IfOk result (HasBegun row.now limit (F.space files.old) (F.space files.new)) }
+    ensures begun { IfOk result (HasBegun row.now input limit (F.space files.old) (F.space files.new)) }
     ensures halts { IfErr result (λ halt. (r : Reader) → Halts InTurn (packets_at r input limit row.now.read)
         (λ asked. Fails F.space F.may_fail F.unbegun (Reads asked) files.old files.new)
         (F.space files.old) (F.space files.new) halt) }
@@ -75,7 +75,7 @@ fn begin_port<R: Threads + Wait + Copy + Send + 'static, F: Files, W: Watch + 's
         Some(name) => {
             let name = Name::of(alloc, name.text())?;
             let bytes = read_file(alloc, files, name, input, limit)?;
-            Ok(Some(begin(rt, alloc, bytes, input, watch.again())?))
+            Ok(Some(begin(rt, alloc, bytes.into_vec(), input, watch.again())?))
         }
     }
 }

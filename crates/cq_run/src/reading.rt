@@ -1,7 +1,7 @@
 //! Reading what a command names. Nothing is written here. The error of each call is why the run halts: what was read is
 //! refused, a name was unread, or memory ran out.
-ghost use Rattle.std.specs.Prelude.{◌≡◌, ◌≤◌, ◌∷◌, ◌++◌, [], IfErr, IfOk, IsTrue, OnOk, length};
-ghost use Rattle.cq_run.specs.Terms.{AreTables, ports_of, Fails, Reads, fault_of, Closed, IsFileOf, Halts, Judges, InTurn, Reader, is_no, meaning_of, halt_for, capture_in, captures_in, packets_at, short_in, state_in, tables_in, text_in, longest_file};
+ghost use Rattle.std.specs.Prelude.{◌≡◌, ◌≤◌, ◌∷◌, ◌++◌, [], IfOk, IsTrue, OnOk, length};
+ghost use Rattle.cq_run.specs.Terms.{AreTables, ports_of, Fails, Reads, fault_of, Closed, Judges, InTurn, Reader, is_no, meaning_of, halt_for, capture_in, captures_in, file_in, packets_at, short_in, state_in, tables_in, text_in, longest_file};
 
 use crate::{CaptureFault, Denial, Halt, Refusal, StateFault};
 use cq_base::{Name, NoMemory, Sequence};
@@ -71,7 +71,8 @@ pub fn read_text<F: Files>(
     ensures kept { F.unbegun files.old files.new }
 {
     let asked = Name::of(alloc, name.text())?;
-    read_short(alloc, files, asked, Refusal::Audit { denial: long })
+    let refusal = Refusal::Audit { denial: long };
+    read_short(alloc, files, asked, LONGEST_TEXT, refusal)
 }
 
 /// The text of the state of a stopped run, from the file of this name, if that has at most 268,435,456 bytes. It is not
@@ -90,28 +91,28 @@ pub fn read_stopped<F: Files>(
     let long = Refusal::State {
         fault: StateFault::Long,
     };
-    read_short(alloc, files, name, long)
+    read_short(alloc, files, name, LONGEST_TEXT, long)
 }
 
-// The bytes of the file of this name, if it has at most 268,435,456 of them. Where it has more, this is the refusal.
+// The bytes of the file of this name, if it has at most `limit` of them. Where it has more, this is the refusal.
 fn read_short<F: Files>(
     alloc: Global,
     files: &mut F,
     name: Name,
+    limit: u64,
     long: Refusal,
 ) -> Result<Sequence<u8>, Halt>
     requires closed { (F.space files.old).mode ≡ Closed }
+    requires limit { limit ≤ longest_file }
     requires untold { IsTrue (meaning_of long).untold }
-    ensures judges { Judges InTurn (short_in long name)
+    ensures judges { Judges InTurn (short_in long limit name)
         (λ asked. (asked ≡ name) × Fails F.space F.may_fail F.unbegun (Reads asked) files.old files.new)
         (F.space files.old) (F.space files.new) result }
+    ensures short { IfOk result (λ bytes. length bytes ≤ limit) }
     ensures kept { F.unbegun files.old files.new }
 {
-    match read_whole(alloc, files, name.text(), LONGEST_TEXT) {
-        Ok(bytes) => {
-            let text = Sequence::of(bytes);
-            Ok(text)
-        }
+    match read_whole(alloc, files, name.text(), limit) {
+        Ok(bytes) => Ok(Sequence::of(bytes)),
         Err(ReadRefusal::Missing) => Err(Halt::Refused {
             refusal: Refusal::Missing { name },
         }),
@@ -129,32 +130,20 @@ pub fn read_file<F: Files>(
     name: Name,
     input: u16,
     limit: u64,
-) -> Result<Vec<u8>, Halt>
+) -> Result<Sequence<u8>, Halt>
     requires closed { (F.space files.old).mode ≡ Closed }
     requires limit { limit ≤ longest_file }
-    ensures file { IfOk result (λ bytes. IsFileOf name limit (F.space files.old).told bytes.items) }
-    ensures halts { IfErr result (λ halt. (r : Reader) → Halts InTurn (capture_in r name input limit)
+    ensures judges { Judges InTurn (file_in name input limit)
         (λ asked. (asked ≡ name) × Fails F.space F.may_fail F.unbegun (Reads asked) files.old files.new)
-        (F.space files.old) (F.space files.new) halt) }
-    ensures uncounted { OnOk result ((F.space files.new).faults ≡ (F.space files.old).faults) }
-    ensures told { (F.space files.new).told ≡ (F.space files.old).told }
-    ensures closed { (F.space files.new).mode ≡ Closed }
+        (F.space files.old) (F.space files.new) result }
+    ensures short { IfOk result (λ bytes. length bytes ≤ limit) }
     ensures kept { F.unbegun files.old files.new }
 {
-    match read_whole(alloc, files, name.text(), limit) {
-        Ok(bytes) => Ok(bytes),
-        Err(ReadRefusal::Missing) => Err(Halt::Refused {
-            refusal: Refusal::Missing { name },
-        }),
-        Err(ReadRefusal::Fault) => Err(Halt::Unread { name }),
-        Err(ReadRefusal::Long { limit }) => Err(Halt::Refused {
-            refusal: Refusal::Capture {
-                input,
-                fault: CaptureFault::Long { limit },
-            },
-        }),
-        Err(ReadRefusal::NoMemory) => Err(Halt::NoMemory),
-    }
+    let long = Refusal::Capture {
+        input,
+        fault: CaptureFault::Long { limit },
+    };
+    read_short(alloc, files, name, limit, long)
 }
 
 /// The capture of an input, from the file of this name, if that has at most `limit` bytes: what any reader that goes
@@ -174,7 +163,7 @@ pub fn read_input<F: Files>(
     ensures kept { F.unbegun files.old files.new }
 {
     let bytes = read_file(alloc, files, name, input, limit)?;
-    match read_capture(alloc, bytes) {
+    match read_capture(alloc, bytes.into_vec()) {
         Ok(capture) => Ok(capture),
         Err(refusal) => Err(unreadable(input, refusal)),
     }

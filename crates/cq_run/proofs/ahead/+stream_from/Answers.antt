@@ -36,7 +36,7 @@ pub returns-in_ok-begun-in-Some-clause-judges : goal.returns-in_ok-begun-in-Some
 returns-in_ok-begun-in-Some-clause-judges g t c = λ r.
     rw c.in-Some.ensures.cases.0
     (together _ c.in_ok-begun-in-Some.ensures.begun c.begin_port.ensures.closed c.begin_port.ensures.told
-    c.begin_port.ensures.kept g.met.F.Files.lasts_unbegun r _ _ _ _ _ _ _ c.finish_port.ensures.spelt
+    c.begin_port.ensures.kept g.met.F.Files.lasts_unbegun r _ _ _ _ _ _ c.finish_port.ensures.spelt
     c.finish_port.ensures.halts (c.stream_from-later.ensures.judges r) c.in_front.ensures)
 
 pub returns-in_ok-begun-in-Some-clause-each : goal.returns-in_ok-begun-in-Some-clause-each
