@@ -92,7 +92,7 @@ fn found_all<S: Copy, T: Copy, F: Fn(S) -> Option<T>>(
     ensures found { IfOk result (λ found. AllZip (λ s t. F.post find s (Some t)) items.now found.items) }
     ensures refused { IfErr result (IsOnlyFor 1 ((s : S) × Has items.now s × F.post find s None)) }
 {
-    let mut all = Vec::new(alloc);
+    let mut all = Vec::with_capacity(alloc, items.len()).or(Err(StateRefusal::NoMemory))?;
     'items: for item in items {
         let Some(found) = find(*item) else {
             return Err(StateRefusal::Unsound { clause: 1 });

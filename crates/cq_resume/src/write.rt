@@ -143,7 +143,7 @@ pub fn state_bytes(
         proposals: frozen.figures.proposals,
         most: frozen.figures.most,
     };
-    let state = told(alloc, head, frozen, sent, note).or(Err(StateLong::NoMemory))?;
+    let state = told(alloc, head, frozen, sent, note)?;
     let text = text_of(alloc, &state);
     drop(state);
     text
