@@ -8,7 +8,7 @@ use cq_base::{Name, NoMemory, Sequence};
 use cq_pcap::{Capture, PcapRefusal, read_capture};
 use cq_route::{PortRow, Tables};
 use cq_space::{Files, ReadRefusal, read_whole};
-use cq_tables::{TableRefusal, read_tables};
+use cq_tables::{TOO_LONG, TableRefusal, read_tables};
 use std::alloc::Global;
 
 // The greatest length of a configuration, in bytes.
@@ -16,9 +16,6 @@ const LONGEST_CONFIGURATION: u64 = cq_base::LONGEST_CONFIGURATION as u64;
 
 // The greatest length of a trace and of a log that are audited, and of the text of a state, in bytes.
 const LONGEST_TEXT: u64 = cq_state::LONGEST_TEXT as u64;
-
-// The code of a configuration that is too long. It is a fault of the whole text, whose path is `-`.
-const TOO_LONG: u8 = 10;
 
 /// The tables of the configuration of this name.
 pub fn read_configuration<F: Files>(

@@ -24,4 +24,4 @@ mod version;
 pub use cq_route::{AddressRow, PortRow, RuleRow, Tables};
 pub use laws::version_two_keeps_classes;
 pub use read::read_tables;
-pub use refusal::TableRefusal;
+pub use refusal::{TOO_LONG, TableRefusal};

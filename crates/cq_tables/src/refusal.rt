@@ -79,6 +79,9 @@ impl Wrong {
     }
 }
 
+/// The number of the refusal of a text that is longer than a configuration may be. Its path is `-`.
+pub const TOO_LONG: u8 = Wrong::TooLong as u8;
+
 // The refusal for what is wrong at a path, or for want of memory for the path.
 fn refuse(wrong: Wrong, named: Result<Name, NoMemory>) -> TableRefusal
     ensures { (p : List ℕ) → IfOk named (λ name. name ≡ p) → Refuses (Some (refused p wrong)) result }
