@@ -1,29 +1,23 @@
 -- The inputs that wait, as places and pairs change. An input that gets a partner, or has no output left, is taken out
 -- of the list, and one that is parted goes back in by its number if it has an output left. The others stay as they
 -- were, and all stand in order of number.
-use Rattle.cq_pair.proofs.Terms.{common_steps, rules, ℕ, zero, suc, ◌≡◌, ◌≢◌, ◌+◌, ◌<◌, ◌≤◌, Bool, true, false, is_none, eqb, ⊎_elim, List, [], ◌∷◌, length, set, get_or, replicate, Option, Some, None, refl, ap, arith, filter, IsDistinct, IsNonDecreasingBy, range_with_len, AllPairs, IsDistinct-from_apart, get_or-range_with_len, cases_lt, and-true, cases_eq, cond_both, cond-true, cond-false, eq-eqb, ne_eqb, lt-ltb, le-ltb, and_left, and_right, get_or-set_same, get_or-set_other, filter_agree, length-range_with_len, Orders, AreOffers, ports, outputs_of, Partners, partner_of, State, start, is_free, matching_of, free_inputs, length-put, few_kept, next_place-start, nobody, partner-is, with_input, without, inputs_with_offers, is_waiting, waiting_inputs}
+use Rattle.cq_pair.proofs.Terms.{common_steps, rules, ℕ, zero, suc, ◌≡◌, ◌≢◌, ◌+◌, ◌<◌, ◌≤◌, Bool, true, false, is_none, eqb, List, [], ◌∷◌, length, set, get_or, replicate, Option, Some, None, refl, ap, arith, filter, IsDistinct, IsNonDecreasingBy, range_with_len, AllPairs, IsDistinct-from_apart, get_or-range_with_len, cases_lt, and-true, cases_eq, cond_both, cond-true, eq-eqb, ne_eqb, lt-ltb, le-ltb, and_left, and_right, get_or-set_same, get_or-set_other, filter_agree, length-range_with_len, Orders, AreOffers, ports, outputs_of, Partners, partner_of, State, start, is_free, matching_of, free_inputs, length-put, few_kept, next_place-start, nobody, partner-is, with_input, without, inputs_with_offers, is_waiting, waiting_inputs}
 use Rattle.std.proofs.lemmas.List.Kept.{AllPairs-from_increasing, IsStrictlyIncreasing-filter}
 
 -- ## A test that changes at one number
-
-filter-yes : (p : ℕ → Bool) (x : ℕ) (xs : List ℕ) → p x ≡ true → filter p (x ∷ xs) ≡ x ∷ filter p xs
-filter-yes p x xs e = cond-true (p x) (x ∷ filter p xs) (filter p xs) e
-
-filter-no : (p : ℕ → Bool) (x : ℕ) (xs : List ℕ) → p x ≡ false → filter p (x ∷ xs) ≡ filter p xs
-filter-no p x xs e = cond-false (p x) (x ∷ filter p xs) (filter p xs) e
 
 -- it fails at i, and is as before elsewhere
 left_out : (p q : ℕ → Bool) (i : ℕ) → q i ≡ false → ((k : ℕ) → k ≢ i → q k ≡ p k) → (xs : List ℕ) →
     filter q xs ≡ without i (filter p xs)
 left_out p q i out same [] = refl
 left_out p q i out same (x ∷ xs) =
-    search (rules, filter-no, cond_both, eq-eqb, ne_eqb, filter-yes, cases_eq, left_out p q i out same xs)
+    grind (arith, common_steps, cond_both, eq-eqb, ne_eqb, cases_eq, left_out p q i out same xs)
 
 agree_above : (p q : ℕ → Bool) (i : ℕ) → ((k : ℕ) → k ≢ i → q k ≡ p k) → (a n : ℕ) → i < a →
     filter q (range_with_len a n) ≡ filter p (range_with_len a n)
 agree_above p q i same a zero l = refl
 agree_above p q i same a (suc n) l =
-    grind (arith, common_steps, cond_both, filter-yes, filter-no, agree_above p q i same (a + 1) n)
+    grind (arith, common_steps, cond_both, agree_above p q i same (a + 1) n)
 
 goes_first : (p : ℕ → Bool) (i a n : ℕ) → i < a →
     with_input i (filter p (range_with_len a n)) ≡ i ∷ filter p (range_with_len a n)
@@ -35,12 +29,7 @@ put_back : (p q : ℕ → Bool) (i : ℕ) → p i ≡ false → q i ≡ true →
     i < a + n → filter q (range_with_len a n) ≡ with_input i (filter p (range_with_len a n))
 put_back p q i out back same a zero l u = absurd (omega arith)
 put_back p q i out back same a (suc n) l u =
-    ⊎_elim (search (arith, rules, filter-yes, rest, agree_above, goes_first, filter-no))
-    (search (arith, rules, put_back p q i out back same (a + 1) n))
-    (cases_eq a i)
-  where
-    rest : List ℕ
-    rest = range_with_len (a + 1) n
+    grind (arith, common_steps, cases_eq a i, agree_above, goes_first, put_back p q i out back same (a + 1) n)
 
 -- ## In order of number
 
