@@ -25,10 +25,6 @@ passed_at_point p (x ∷ xs) (suc n) few point =
 
 -- ## How many pass
 
-passes_more : {X : Type 0} (p : X → Bool) (x : X) (xs : List X) → p x ≡ true →
-    length (filter p (x ∷ xs)) ≡ suc (length (filter p xs))
-passes_more p x xs e = ap (λ b. length (cond b (x ∷ filter p xs) (filter p xs))) e
-
 pub cushion-append : (key : Key) (xs ys : List Queued) → cushion key (xs ++ ys) ≡ cushion key xs + cushion key ys
 cushion-append key xs ys = grind (arith, common_steps, filter-append, length-append)
 
@@ -39,7 +35,7 @@ cushion_le key (x ∷ xs) = grind (arith, common_steps, cond_both, cushion_le ke
 pub cushion_all : (key : Key) (xs : List Queued) → AllByRecursion (λ x. is_before x.key key ≡ true) xs →
     cushion key xs ≡ length xs
 cushion_all key [] a = refl
-cushion_all key (x ∷ xs) a = passes_more (λ y. is_before y.key key) x xs a.0 ∙ ap suc (cushion_all key xs a.1)
+cushion_all key (x ∷ xs) a = search (arith, rules, cushion_all key xs a.1)
 
 pub cushion_none : (key : Key) (xs : List Queued) → AllByRecursion (λ x. is_before x.key key ≡ false) xs →
     cushion key xs ≡ 0
@@ -56,4 +52,4 @@ put_is c (x ∷ xs) r other = cond_both (is_before c.key x.key) (c ∷ x ∷ xs)
     (λ l. insert (x ∷ xs) (cushion c.key (x ∷ xs)) c ≡ l) (λ e. ap (λ n. insert (x ∷ xs) n c)
     (cushion_none c.key (x ∷ xs) (all_weaker (IsBefore c) (λ y. is_before y.key c.key ≡ false)
     (λ y. key_laws.one_way c.key y.key) (x ∷ xs) (e, before_all c x xs e r.0))))
-    (λ e. search (arith, rules, passes_more, after_other, put_is c xs r.1 other.1))
+    (λ e. search (arith, rules, after_other, put_is c xs r.1 other.1))
