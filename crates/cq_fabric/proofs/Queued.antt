@@ -1,6 +1,6 @@
 -- Lists and buffers with their rooms. A cell that goes into a list takes the room that the list has for it, and a
 -- cell that leaves gives it back, so that no list and no buffer can hold more cells, or fewer, than before.
-use Rattle.cq_fabric.proofs.Terms.{zero, suc, common_steps, rules, ◌≡◌, ℕ, ◌+◌, ◌<◌, ◌≤◌, cond, List, [], ◌∷◌, ◌++◌, length, map, get_or, take, drop, Option, Some, None, refl, ap, ◌∙◌, ⊎_elim, arith, replicate, is_some, slice_get, cases_lt, cond_both, length-map, get_or_default, get_or_past, ext_get_or, drop_all, take_all, append-nil, get_or-replicate, length-insert, Queued, is_for, first_for, without_first, fronts, rests, Waiting, cells_of, Buffered, cells_in, list_of, FirstKeysDiffer, orders_of, output_order, Moves, Orders, Partners, IsMatching, are_orders, HaveCells, HaveRoom, MovesRoom, list_spare, buffer_spare, partner_or_free, length_put, came_to, list_arrived, first_at, Queues, FitLists, KeysApart, CanCross, FitEach, AreSquare, list_room, buffer_room, fabric_of, no_list, list_at, list_with, front_of, popped, has_there, most_ports}
+use Rattle.cq_fabric.proofs.Terms.{zero, suc, common_steps, rules, ◌≡◌, ℕ, ◌+◌, ◌<◌, ◌≤◌, cond, List, [], ◌∷◌, ◌++◌, length, map, get_or, take, drop, Option, Some, None, refl, ap, ◌∙◌, ⊎_elim, arith, replicate, is_some, slice_get, cases_lt, cond_both, length-map, get_or_default, get_or_past, ext_get_or, drop_all, take_all, append-nil, get_or-replicate, length-insert, Queued, is_for, first_for, without_first, fronts, rests, Waiting, cells_of, Buffered, cells_in, list_of, FirstKeysDiffer, orders_of, output_order, Moves, Orders, Partners, IsMatching, are_orders, HaveCells, HaveRoom, MovesRoom, list_spare, buffer_spare, partner_or_free, length_put, came_to, list_arrived, first_at, Queues, FitLists, KeysApart, CanCross, FitEach, AreSquare, list_room, buffer_room, fabric_of, no_list, list_at, list_with, front_of, popped, has_there, most_ports, cells-at, list_spare-at}
 use Rattle.std.proofs.Math.ListN.{get_or-map}
 
 -- what a slice of a vector leaves of the vector
@@ -18,14 +18,8 @@ shown lists buffers =
       to_outputs = map buffer_room buffers;
     }
 
-pub cells-at : (lists : List Waiting) (i : ℕ) → list_of (cells_of lists) i ≡ (list_at lists i).cells
-cells-at lists i = get_or-map (λ (w : Waiting). w.cells) lists i no_list
-
 pub room-at : (lists : List Waiting) (i : ℕ) → get_or (map list_room lists) i 0 ≡ list_room (list_at lists i)
 room-at lists i = get_or-map (λ (w : Waiting). length w.cells + w.spare) lists i no_list
-
-list_spare-at : (lists : List Waiting) (i : ℕ) → list_spare lists i ≡ (list_at lists i).spare
-list_spare-at lists i = get_or-map (λ (w : Waiting). w.spare) lists i no_list
 
 -- a room is what waits and what is spare
 list_room-is : (lists : List Waiting) (i : ℕ) →

@@ -1,8 +1,7 @@
 -- Lists that change in slot after slot, each in the cells for the partner of its input: a cell came, or the first one
 -- went. The cells of a list are those of its input and came in different slots, so all keys differ. And each list is as
 -- before but for the partner, so the orders are so but for the pairs.
-use Rattle.cq_list_trials.proofs.Terms.{rules, ◌≡◌, ℕ, ◌+◌, ◌<◌, ◌≤◌, true, false, List, [], length, get_or, set, Some, refl, sym, ap, ◌∙◌, subst, ⊎_elim, arith, All, slice_get, cases_eq, cases_lt, eq-eqb, eqb-true, length-map, length-set, get_or_past, get_or_default, get_or-set_same, get_or-set_other, find_at, passes_at_first, same_Some, slice_get_within, slice_get-get_or, Queued, KeepsOrder, MoreUrgentAhead, ArrivedBefore, is_for, first_for, place_for, without_first, with_arrival, all_at, each_pair_at, first_le, all_left, all_insert, arrived_newest, Waiting, cells_of, list_of, FirstKeysDiffer, first_key, key_before, orders_of, Partners, partner_of, AreSameWithout}
-use Rattle.std.proofs.Math.ListN.{get_or-map}
+use Rattle.cq_list_trials.proofs.Terms.{rules, ◌≡◌, ℕ, ◌+◌, ◌<◌, ◌≤◌, true, false, List, length, get_or, set, Some, refl, sym, ap, ◌∙◌, subst, ⊎_elim, arith, All, slice_get, cases_eq, cases_lt, eq-eqb, eqb-true, length-map, length-set, get_or_past, get_or_default, get_or-set_same, get_or-set_other, find_at, passes_at_first, same_Some, slice_get_within, slice_get-get_or, Queued, KeepsOrder, MoreUrgentAhead, ArrivedBefore, is_for, first_for, place_for, without_first, with_arrival, all_at, each_pair_at, first_le, all_left, all_insert, arrived_newest, Waiting, cells_of, list_of, FirstKeysDiffer, first_key, key_before, orders_of, Partners, partner_of, AreSameWithout, cells-at, no_list}
 use Rattle.cq_base.specs.declared.key.Key.{Key}
 use Rattle.cq_base.specs.Key.{is_before}
 use Rattle.cq_base.proofs.Keys.{key_laws}
@@ -56,12 +55,6 @@ changed_same j old new changed =
     (λ gone. same_but_taken (Some j) old new j refl gone) changed
 
 -- ## All lists
-
-abbrev no_list : Waiting
-no_list = record { cells = []; outputs = 0; spare = 0 }
-
-cells-at : (lists : List Waiting) (i : ℕ) → list_of (cells_of lists) i ≡ (get_or lists i no_list).cells
-cells-at lists i = get_or-map (λ (w : Waiting). w.cells) lists i no_list
 
 -- first cells for one output in different lists have different keys, which name their inputs
 pub own_keys : (slot : ℕ) (lists : List Waiting) → AreOwn slot lists → FirstKeysDiffer (cells_of lists)

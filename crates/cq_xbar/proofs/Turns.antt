@@ -6,18 +6,18 @@ use Rattle.std.proofs.Math.ListN.{get_or-map}
 
 -- ## The lists and the buffers
 
-no_list : Waiting
+abbrev pub no_list : Waiting
 no_list = record { cells = []; outputs = 0; spare = 0 }
 
-no_buffer : Buffered
+abbrev pub no_buffer : Buffered
 no_buffer = record { cells = []; spare = 0 }
 
 -- the list of input i
-pub list_at : List Waiting → ℕ → Waiting
+abbrev pub list_at : List Waiting → ℕ → Waiting
 list_at lists i = get_or lists i no_list
 
 -- the buffer of output j
-pub buffer_at : List Buffered → ℕ → Buffered
+abbrev pub buffer_at : List Buffered → ℕ → Buffered
 buffer_at buffers j = get_or buffers j no_buffer
 
 -- a list after its first cell for its partner, if it has one, left it
@@ -30,19 +30,15 @@ abbrev pub with_cell : Queued → Buffered → Buffered
 with_cell c b = record { cells = put c b.cells; spare = b.spare - 1 }
 
 pub cells-at : (lists : List Waiting) (i : ℕ) → list_of (cells_of lists) i ≡ (list_at lists i).cells
-unfolding list_at no_list
 cells-at lists i = get_or-map (λ (w : Waiting). w.cells) lists i no_list
 
 cells_in-at : (buffers : List Buffered) (j : ℕ) → list_of (cells_in buffers) j ≡ (buffer_at buffers j).cells
-unfolding buffer_at no_buffer
 cells_in-at buffers j = get_or-map (λ (b : Buffered). b.cells) buffers j no_buffer
 
 pub list_spare-at : (lists : List Waiting) (i : ℕ) → list_spare lists i ≡ (list_at lists i).spare
-unfolding list_at no_list
 list_spare-at lists i = get_or-map (λ (w : Waiting). w.spare) lists i no_list
 
 buffer_spare-at : (buffers : List Buffered) (j : ℕ) → buffer_spare buffers j ≡ (buffer_at buffers j).spare
-unfolding buffer_at no_buffer
 buffer_spare-at buffers j = get_or-map (λ (b : Buffered). b.spare) buffers j no_buffer
 
 -- an input with a partner has a cell for it
@@ -83,7 +79,6 @@ module _ {m : Partners} {lists : List Waiting} {buffers : List Buffered} {n : �
 
   -- the next input's list is as before, and has a cell for its partner
   next_list : (d : Waiting) → n < length lists → get_or lists' n d ≡ list_at lists n
-  unfolding list_at
   next_list d l = get_or_default lists' n d no_list (omega arith) ∙ x.waits n (omega arith)
 
   pub cell_next : (j : ℕ) (d : Waiting) → HaveCells m (cells_of lists) → partner_of m n ≡ Some j →
@@ -94,7 +89,6 @@ module _ {m : Partners} {lists : List Waiting} {buffers : List Buffered} {n : �
       (as_many : length buffers ≡ length m) where
     -- and so is the buffer of its partner
     next_buffer : get_or buffers' j e ≡ buffer_at buffers j
-    unfolding buffer_at
     next_buffer = search (rules, get_or_default, pairs.ports, pairs.once)
 
     pub room_next : HaveRoom m buffers → 0 < (get_or buffers' j e).spare
@@ -104,7 +98,6 @@ module _ {m : Partners} {lists : List Waiting} {buffers : List Buffered} {n : �
     crossed_one : (c : Queued) (w : Waiting) (b : Buffered) → first_for j (list_at lists n).cells ≡ Some c →
         n < length lists → w ≡ list_left (Some j) (list_at lists n) → b ≡ with_cell c (buffer_at buffers j) →
         Crossed m lists buffers (n + 1) (set lists' n w) (set buffers' j b)
-    unfolding list_at buffer_at
     crossed_one c w b first inside is_left is_with =
         let there : j < length buffers = let within = pairs.ports n j p in omega arith in
         search (rules, length-set, get_or-set_other, get_or-set_same, cases_lt, pairs.once, same_Some)
@@ -167,7 +160,6 @@ module _ {m : Partners} {lists : List Waiting} {buffers : List Buffered} {lists'
       }
 
   pub crossed_outputs : map (λ w. w.outputs) lists' ≡ map (λ w. w.outputs) lists
-  unfolding list_at no_list
   crossed_outputs =
       let out : Waiting → ℕ = λ w. w.outputs in
       ext_get_or 0 (map out lists') (map out lists) (length-map lists' out ∙ x.sizes.0 ∙ sym (length-map lists out))
