@@ -156,11 +156,11 @@ within_rooms items v held view_is j = rw (← view_is) (go items held j)
 abbrev none_in : List Queued → Bool
 none_in cells = eqb (length cells) 0
 
-pub none_wait : (items : List QueueView) (lists : List (List Queued)) (b : Bool) →
-    b ≡ list_all (λ q. eqb (length q.cells) 0) items → map cells_in items ≡ lists →
+pub none_wait : {X : Type 0} (cells_of : X → List Queued) (items : List X) (lists : List (List Queued)) (b : Bool) →
+    b ≡ list_all (λ x. eqb (length (cells_of x)) 0) items → map cells_of items ≡ lists →
     IsTrue b ↔ All (λ cells. cells ≡ []) lists
-none_wait items lists b e l =
-    grind (arith, common_steps, list_all-map none_in cells_in items, list_all-from_AllPass none_in lists)
+none_wait cells_of items lists b e l =
+    grind (arith, common_steps, list_all-map none_in cells_of items, list_all-from_AllPass none_in lists)
 
 -- ## Their machines
 
