@@ -3,7 +3,7 @@
 -- is transferred, the lists change in its pairs. All keys of waiting cells differ before and after: a cell that comes
 -- has a key that none had, and cells that leave take theirs away. So the first cells of different lists have
 -- different keys, as the offers ask.
-use Rattle.cq_fabric.proofs.Terms.{common_steps, rules, ◌≡◌, ◌≢◌, ℕ, ◌+◌, ◌<◌, ◌≤◌, ◌⊎◌, true, List, [], length, map, get_or, set, replicate, Option, Some, None, refl, sym, ap, ◌∙◌, ⊎_elim, arith, All, insert, IsDistinct, cases_eq, cases_lt, length-map, length-replicate, get_or_default, get_or_past, get_or-replicate, get_or-set_same, get_or-set_other, length-set, Queued, Key, MoreUrgentAhead, cushion, with_arrival, place_of_arrival, first_for, Waiting, cells_of, list_of, FirstKeysDiffer, AreOrdersOf, first_key, key_before, orders_of, Moves, list_taken, Orders, no_offers, ports, Partners, partner_of, with_pair, are_orders, IsAmong, came_to, among_insert, left_among, KeysApart, ComeApart, Comes, no_list, list_at, list_with, empty_list, AreSameWithout, one_orders, place_in-le-length, IsSameBut, same_list, same_but_arrival, same_but_taken, same_without, most_ports, cells-at}
+use Rattle.cq_fabric.proofs.Terms.{common_steps, rules, ◌≡◌, ◌≢◌, ℕ, ◌+◌, ◌<◌, ◌≤◌, ◌⊎◌, true, List, [], length, map, get_or, set, replicate, Option, Some, None, refl, sym, ap, ◌∙◌, ⊎_elim, arith, All, insert, IsDistinct, cases_eq, cases_lt, length-map, length-replicate, get_or_default, get_or_past, get_or-replicate, get_or-set_same, get_or-set_other, length-set, Queued, Key, MoreUrgentAhead, cushion, with_arrival, place_of_arrival, first_for, Waiting, cells_of, list_of, FirstKeysDiffer, AreOrdersOf, first_key, key_before, orders_of, Moves, list_taken, Orders, no_offers, ports, Partners, partner_of, with_pair, are_orders, IsAmong, came_to, among_insert, was_waiting, KeysApart, ComeApart, Comes, no_list, list_at, list_with, empty_list, AreSameWithout, one_orders, place_in-le-length, IsSameBut, same_list, same_but_arrival, same_but_taken, same_without, most_ports, cells-at}
 use Rattle.std.proofs.Math.ListN.{get_or-map}
 use Rattle.cq_prefs.proofs.BehindFirst.{comes_behind, same_offers}
 use Rattle.cq_fabric.proofs.Queued.{firsts_apart}
@@ -142,11 +142,8 @@ module _ {came : List (Option Queued)} {buffers : List (List Queued)} {old now :
 
 module _ (m : Partners) (lists lists' : List Waiting) (buffers buffers' : List (List Queued))
     (apart : KeysApart (cells_of lists)) (moves : Moves m (cells_of lists) buffers (cells_of lists') buffers') where
-  was_there : (i : ℕ) (c : Queued) → IsAmong c (list_of (cells_of lists') i) → IsAmong c (list_of (cells_of lists) i)
-  was_there i c h = search (arith, rules, left_among)
-
   pub moved_apart : KeysApart (cells_of lists')
-  moved_apart i k c d a b e = apart i k c d (was_there i c a) (was_there k d b) e
+  moved_apart i k c d a b e = apart i k c d (was_waiting moves i c a) (was_waiting moves k d b) e
 
   taken_same : (p : Option ℕ) (old new : List Queued) → new ≡ list_taken p old → IsSameBut p old new
   taken_same None old new e = same_list None old new e

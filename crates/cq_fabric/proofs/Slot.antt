@@ -3,7 +3,7 @@
 -- ones of this slot, and each cell that waits has slack 1, so that the more urgent cells for an output stand below
 -- the cushion of one that comes. Of the rooms it is enough that the buffer of each output for which a cell waits or
 -- comes has room for one: where the first matching fills that room, the output sends a cell and has it again.
-use Rattle.cq_fabric.proofs.Terms.{common_steps, rules, ◌≡◌, ℕ, zero, suc, ◌+◌, ◌-◌, ◌<◌, ◌≤◌, true, List, [], ◌∷◌, length, get_or, drop, Option, Some, None, refl, sym, ap, ◌∙◌, subst, inl, inr, ⊎_elim, arith, ◌⊎◌, IfSome, filter, cases_lt, cond_both, eqb-true, eq-eqb, get_or-map, get_or_past, length-drop, length-map, same_Some, Cell, Queued, Key, arrival_at, ArrivedBefore, is_for, Machine, count_for, LimiterView, AreForPorts, Ranking, fronts, list_of, orders_of, list_taken, Partners, partner_of, IsMatching, IsStable, HaveCells, partner_or_free, length_put, SendsAlike, Fabric, IsAmong, waiting_for, came_to, list_arrived, Arrives, Transfers, Departs, SlotRecord, FabricSlot, first_at, among_insert, left_among, Sound, came_from, keyed_from, rest_of, HoldsFabric, IsNewest, Queues, ComeApart, FitLists, CanCross, fabric_of, Keyed, arrived_sound, moved_sound, sent_sound, same_slot, sound_from, has_there, all_from_has}
+use Rattle.cq_fabric.proofs.Terms.{common_steps, rules, ◌≡◌, ℕ, zero, suc, ◌+◌, ◌-◌, ◌<◌, ◌≤◌, true, List, [], ◌∷◌, length, get_or, drop, Option, Some, None, refl, sym, ap, ◌∙◌, subst, ⊎_elim, arith, ◌⊎◌, IfSome, filter, cases_lt, cond_both, eqb-true, eq-eqb, get_or-map, get_or_past, length-drop, length-map, same_Some, Cell, Queued, Key, arrival_at, ArrivedBefore, is_for, Machine, count_for, LimiterView, AreForPorts, Ranking, fronts, list_of, orders_of, Partners, IsMatching, IsStable, HaveCells, partner_or_free, length_put, SendsAlike, IsAmong, waiting_for, came_to, Arrives, Transfers, Departs, SlotRecord, FabricSlot, first_at, was_waiting, Sound, came_from, keyed_from, rest_of, HoldsFabric, IsNewest, Queues, ComeApart, FitLists, CanCross, fabric_of, Keyed, arrived_sound, moved_sound, sent_sound, same_slot, sound_from, has_there, all_from_has, came_or_was}
 use Rattle.std.proofs.lemmas.List.FromFn.{length-range_with_len}
 use Rattle.cq_base.proofs.Pooled.{looked_few}
 use Rattle.cq_prefs.specs.Moves.{transfers_of}
@@ -48,18 +48,9 @@ can_cross slot q ranks sound room =
       keys = firsts.keys;
     }
 
-came_or_was : (f : Fabric) (q : Option Queued) (xs : List Queued) (c : Queued) → IsAmong c (list_arrived f q xs) →
-    (q ≡ Some c) ⊎ IsAmong c xs
-came_or_was f None xs c h = inr h
-came_or_was f (Some n) xs c h = ⊎_elim (λ e. inl (ap Some e)) (λ k. inr k) (among_insert xs _ n c h)
-
 -- a list without its first cell is shorter by one, or empty as before
 length_rest : (xs : List Queued) → length (drop 1 xs) ≡ length xs - 1
 length_rest xs = omega (arith, length-drop 1 xs)
-
-taken_among : (p : Option ℕ) (xs : List Queued) (c : Queued) → IsAmong c (list_taken p xs) → IsAmong c xs
-taken_among None xs c h = h
-taken_among (Some j) xs c h = left_among j xs c h
 
 -- how many transfers a matching has
 pub few_cross : (m : Partners) (lists : List (List Queued)) (slot phase : ℕ) → IsMatching (orders_of lists) m →
@@ -183,7 +174,7 @@ module _ {ms : List Machine} {slot : ℕ} {q0 : Queues} {ranks0 : List (List ℕ
 
           pub can_cross_second : CanCross q3
           can_cross_second = can_cross (slot + 1) q3 ranks2 sound3 (λ i j c h e. search
-              (arith, rules, taken_among (partner_of m1 i) (list_of q1.inputs i) c, room1 i j c, no_longer j))
+              (arith, rules, was_waiting moved1.moves i c, room1 i j c, no_longer j))
 
           module _ {m2 : Partners} {q4 : Queues} (moved2 : HaveMoved m2 q3 q4) where
             -- what is recorded of the slot

@@ -14,6 +14,11 @@ pub record Keyed (slot ports : ℕ) (came : List (Option Queued)) : Type 0 where
   pub input_is : (k : ℕ) (q : Queued) → came_to came k ≡ Some q → q.key.input ≡ k
   pub outputs : (k : ℕ) (q : Queued) → came_to came k ≡ Some q → q.cell.output < ports
 
+-- a cell in a list after a cell may have come was there or is the one that came
+pub came_or_was : (f : Fabric) (came : Option Queued) (xs : List Queued) (c : Queued) →
+    IsAmong c (list_arrived f came xs) → (came ≡ Some c) ⊎ IsAmong c xs
+came_or_was f came xs c has = grind (arith, common_steps, among_insert)
+
 -- a cell for output j came
 abbrev pub CameFor : List (Option Queued) → ℕ → Queued → Type 0
 CameFor came j c = (k : ℕ) × (came_to came k ≡ Some c) × (c.cell.output ≡ j)

@@ -5,7 +5,7 @@
 -- same output. And each cell is where it was or has crossed to its output, and the first cell for an output that a
 -- list gave is in it no more: so no key is twice, and the cells for each output stay the same.
 use Rattle.cq_laws.proofs.Terms.{rules, ◌≡◌, ◌≢◌, ℕ, suc, ◌+◌, ◌<◌, ◌≤◌, ◌⊎◌, ◌↔◌, List, Option, Some, None, refl, sym, ap, ◌∙◌, inl, inr, ⊎_elim, arith, common_steps, slice_get, eq-eqb, same_Some, Key, cushion_of, Queued, Fabric, input, buffer, IsAmong, IsFabric, ListsKeepOrder, Transfers, EachRises, HasSlack, put, KeepsOrder, cushion, is_for, first_for, place_for, without_first, key_laws, first_le, each_pair_left, IsListed, place_in, outputs_of, partner_of, depth, HasBetterInput, IsOutputOrder, AreOrdersOf, orders_of, list_taken, HasFor, IsMostUrgentFor, has_there, stands_at, Partners, IsStable}
-use Rattle.cq_laws.proofs.Members.{from_first, first_at, first_of, left_at, left_among, left_or_first, among_put, put_new, put_old, rising_put}
+use Rattle.cq_laws.proofs.Members.{from_first, first_at, first_of, left_at, left_or_first, among_put, put_new, put_old, rising_put, was_waiting}
 use Rattle.cq_laws.proofs.Cushions.{cushion_grows, cushion_grows_by_one, cushion_has}
 use Rattle.cq_laws.proofs.Sound.{same_cell, Apart, Early, Sound, one_in_order, orders_are}
 use Rattle.cq_laws.proofs.Rises.{first_least, is_partner, sender}
@@ -112,9 +112,6 @@ module _ (old new : Fabric) (m : Partners) (fabric : IsFabric old) (order : List
   buffer_keeps : (j : ℕ) (c : Queued) → IsAmong c (buffer old j) → IsAmong c (buffer new j)
   buffer_keeps j c h = grind (arith, common_steps, same_or_got j, put_old)
 
-  was_waiting : (i : ℕ) (c : Queued) → IsAmong c (input new i) → IsAmong c (input old i)
-  was_waiting i c h = search (arith, rules, left_among)
-
   pub has_after : (j : ℕ) (c : Queued) → HasFor old j c → HasFor new j c
   has_after j c (inr b) = inr (buffer_keeps j c b)
   has_after j c (inl w) = ⊎_elim (λ l. inl (w.0, rw moves.moves.taken l, w.2)) (λ r.
@@ -122,7 +119,7 @@ module _ (old new : Fabric) (m : Partners) (fabric : IsFabric old) (order : List
       (left_or_taken (partner_of m w.0) (input old w.0) c w.1)
 
   pub has_before : (j : ℕ) (c : Queued) → HasFor new j c → HasFor old j c
-  has_before j c h = ⊎_elim (λ w. inl (w.0, was_waiting w.0 c w.1, w.2)) (λ b. ⊎_elim (λ k. inr k)
+  has_before j c h = ⊎_elim (λ w. inl (w.0, was_waiting moves.moves w.0 c w.1, w.2)) (λ b. ⊎_elim (λ k. inr k)
       (λ r. let f = from_first j (input old r.0) c r.2 in inl (r.0, f.0, f.1)) (from_buffer j c b)) h
 
   -- ## Head of line
@@ -139,14 +136,15 @@ module _ (old new : Fabric) (m : Partners) (fabric : IsFabric old) (order : List
   moved_waits : (i r j : ℕ) (c f : Queued) → IsAmong c (input new i) → partner_of m r ≡ Some j →
       first_for j (input old r) ≡ Some f → c.key ≢ f.key
   moved_waits i r j c f h p is e =
-      let same = apart.waiting i r c f (was_waiting i c h) (from_first j (input old r) f is).0 e in
+      let same = apart.waiting i r c f (was_waiting moves.moves i c h) (from_first j (input old r) f is).0 e in
       not_left j (input old r) f (order r) is (search (arith, rules))
 
   moved_apart : Apart new
   moved_apart =
       record {
-        waiting = λ i k c d a b e. apart.waiting i k c d (was_waiting i c a) (was_waiting k d b) e;
-        between = λ i j c d a b e. ⊎_elim (λ y. apart.between i j c d (was_waiting i c a) y e)
+        waiting = λ i k c d a b e.
+            apart.waiting i k c d (was_waiting moves.moves i c a) (was_waiting moves.moves k d b) e;
+        between = λ i j c d a b e. ⊎_elim (λ y. apart.between i j c d (was_waiting moves.moves i c a) y e)
             (λ y. moved_waits i y.0 j c d a y.1 y.2 e) (from_buffer j d b);
         crossed = λ j l c d a b e. same_cell old apart j l c d (has_before j c (inr a)) (has_before l d (inr b)) e;
       }
@@ -155,7 +153,7 @@ module _ (old new : Fabric) (m : Partners) (fabric : IsFabric old) (order : List
   moved_fabric =
       record {
         square = cc;
-        outputs = λ i c h. rw moves.moves.ports.0 (fabric.outputs i c (was_waiting i c h));
+        outputs = λ i c h. rw moves.moves.ports.0 (fabric.outputs i c (was_waiting moves.moves i c h));
         own = λ j c h. grind (arith, has_before j c (inr h), fabric.own j c);
         rising = λ j. ⊎_elim (λ e. rw e (fabric.rising j)) (λ g. rw g.is (rising_put g.cell (buffer old j)
             (fabric.rising j) (λ d. apart.between g.at j g.cell d (from_first j (input old g.at) g.cell g.first).0)))
@@ -165,7 +163,7 @@ module _ (old new : Fabric) (m : Partners) (fabric : IsFabric old) (order : List
   moved_early : (slot : ℕ) → Early slot old → Early slot new
   moved_early slot early =
       record {
-        waiting = λ i c h. early.waiting i c (was_waiting i c h);
+        waiting = λ i c h. early.waiting i c (was_waiting moves.moves i c h);
         crossed = λ j c h. ⊎_elim (λ w. early.waiting w.0 c w.1) (λ k. early.crossed j c k) (has_before j c (inr h));
       }
 

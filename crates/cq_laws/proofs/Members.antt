@@ -1,8 +1,9 @@
 -- The cells of a list, as members and by their places. First what a place shows of a member, then where the first
 -- cell for an output stands, then what becomes of the members where that cell is taken out, where a cell is put in
 -- the order of keys, and where one is inserted at a place.
-use Rattle.cq_laws.proofs.Terms.{rules, ◌≡◌, ◌≢◌, ℕ, zero, suc, ◌+◌, ◌<◌, ◌≤◌, ◌⊎◌, Bool, true, List, [], ◌∷◌, Some, refl, sym, ap, inl, inr, ⊎_elim, arith, common_steps, slice_get, find, insert, position_or_len, eqb-true, cond_both, Queued, IsAmong, IsRising, put, is_for, first_for, place_for, without_first, first_here, first_later, all_from_has, stands_at, has_there, has_cases, has_left, has_right, drop, take, take-append-drop}
+use Rattle.cq_laws.proofs.Terms.{rules, ◌≡◌, ◌≢◌, ℕ, zero, suc, ◌+◌, ◌<◌, ◌≤◌, ◌⊎◌, Bool, true, List, [], ◌∷◌, Some, refl, sym, ap, inl, inr, ⊎_elim, arith, common_steps, slice_get, find, insert, position_or_len, eqb-true, cond_both, Queued, IsAmong, IsRising, put, is_for, first_for, place_for, without_first, first_here, first_later, all_from_has, stands_at, has_there, has_cases, has_left, has_right, drop, take, take-append-drop, Partners, list_of}
 use Rattle.cq_base.proofs.Putting.{rising_put as put_rises}
+use Rattle.cq_prefs.specs.Moves.{Moves}
 
 -- ## The first cell for an output
 
@@ -61,6 +62,12 @@ left_or_first j (x ∷ xs) c h = grind (arith, common_steps, cond_both, left_or_
 pub left_among : (j : ℕ) (xs : List Queued) (c : Queued) → IsAmong c (without_first j xs) → IsAmong c xs
 left_among j xs c h =
     let r = stands_at (without_first j xs) c h in let s = left_at j xs r.0 c r.1 in has_there xs s.place c s.at
+
+-- so a cell that waits at an input after a transfer waited there
+pub was_waiting : {m : Partners} {lists lists' buffers buffers' : List (List Queued)} →
+    Moves m lists buffers lists' buffers' → (i : ℕ) (c : Queued) → IsAmong c (list_of lists' i) →
+    IsAmong c (list_of lists i)
+was_waiting moves i c h = search (arith, rules, left_among)
 
 -- ## A cell put in the order of keys
 
