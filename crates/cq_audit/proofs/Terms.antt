@@ -43,7 +43,7 @@ pub use Rattle.cq_laws.specs.LimitedFabric.{IsLimitedFault, LimitedFabricRun, Li
 pub use Rattle.cq_laws.specs.{LimitedQuiet.quiet_limited_slots, SlotBySlot.AfterBy}
 pub use Rattle.cq_laws.specs.Phases.{Arrives, Transfers}
 unfoldable pub use Rattle.cq_laws.specs.Records.{transfers_in, transfers_of_run}
-pub use Rattle.cq_fabric.proofs.Limits.{admits_are, admitted_room, holds_first, nothing_for, numbers_fit, still_holds}
+pub use Rattle.cq_fabric.proofs.Limits.{admits_are, admitted_room, holds_first, numbers_fit, still_holds}
 pub use Rattle.cq_fabric.specs.Queues.{ComeApart, FitLists, Queues, fabric_of}
 pub use Rattle.cq_traffic.proofs.ForPorts.{arrivals_for, one_found, slots_fit}
 pub use Rattle.cq_traffic.proofs.FromInputs.{arrives_found, come_from, first_more, from_here, from_last, no_more_from, one_if, some_one}
@@ -56,7 +56,7 @@ pub use Rattle.cq_ideal.proofs.{FlowFound.all_found, LimitedParts.limited_parts,
 pub use Rattle.cq_ideal.specs.{IdealRun.empty_ideal, IdealSlot.fronts, Limiter.ComeToPorts, Limiter.LimiterView, Parts.RanksView}
 pub use Rattle.cq_lines.specs.{Lines.ending, Lines.BeginsWith}
 pub use Rattle.cq_lines.proofs.{Spelling.one_number, Walk.ending_ends, Walk.one_ending}
-pub use Rattle.cq_laws.proofs.{Came.came_from, InputBest.stable_limited_run, Joined.all_go_on, KeptParts.transfers_one, LimitedSlots.same_limited_fault, LimitedWhole.begin, LimitedWhole.same_limited_run, Members.first_at, QuietSlots.quiet_transfers, Rises.sender}
+pub use Rattle.cq_laws.proofs.{Came.came_from, Held.nothing_for, InputBest.stable_limited_run, Joined.all_go_on, KeptParts.transfers_one, LimitedSlots.same_limited_fault, LimitedWhole.begin, LimitedWhole.same_limited_run, Members.first_at, QuietSlots.quiet_transfers, Rises.sender}
 pub use Rattle.cq_laws.specs.{Agreement.SendsAlike, Agreement.Agrees, Holding.held_for, LimitedAgreement.LimitedAgrees, LimitedAgreement.LimitedRunsAlike, Quiet.idled}
 pub use Rattle.cq_fabric.specs.Held.{HoldsFabric}
 pub use Rattle.cq_fabric.proofs.{Kept.limited_lists_kept, Kept.limited_outputs_kept, Known.AreRanked, Known.BuffersHaveRoom, Known.HaveArrived, Known.HaveJudged, Known.HaveMoved, Known.HaveSent, Rested.rested_agrees, Rested.rested_limited_run, Rested.still_held}

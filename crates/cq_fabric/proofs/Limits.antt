@@ -1,7 +1,7 @@
 -- What the outputs of a fabric hold. Between two slots these are as many cells as the lists of an ideal switch have
 -- with which the fabric agrees. So the numbers that a limiter keeps are followed through a slot by the lists of that
 -- switch: it takes in the same cells and sends the same, and agrees again.
-use Rattle.cq_fabric.proofs.Terms.{common_steps, rules, ◌≡◌, ◌≢◌, ℕ, zero, suc, ◌+◌, ◌<◌, ◌≤◌, ◌^◌, Bool, List, [], ◌∷◌, length, map, get_or, drop, replicate, Option, Some, None, Ok, refl, sym, ap, ◌∙◌, arith, get_or-set_same, get_or-set_other, length-set, IfSome, slice_get, ext_get_or, get_or-replicate, length-map, length-replicate, get_or-map-range_with_len, length-map-range_with_len, Cell, Queued, Machine, admission, admitted, marked, marks_after, count_for, IdealState, filled, fronts, ideal_slot, rests, HoldsLists, LimiterView, held_without, Ranking, ranking, each_once, Agrees, SendsAlike, Fabric, fabric_held, held_for, waiting_for, fabric_admission, came_to, list_of, HoldsFabric, Queues, fabric_of, holds_filled, by_marks, sent_from, came_for, hold_as_many}
+use Rattle.cq_fabric.proofs.Terms.{common_steps, rules, ◌≡◌, ◌≢◌, ℕ, ◌+◌, ◌<◌, ◌≤◌, ◌^◌, Bool, List, [], ◌∷◌, length, map, get_or, drop, replicate, Option, Some, None, Ok, refl, sym, ap, ◌∙◌, arith, get_or-set_same, get_or-set_other, length-set, IfSome, slice_get, ext_get_or, get_or-replicate, length-map, length-replicate, get_or-map-range_with_len, length-map-range_with_len, Cell, Queued, Machine, admission, admitted, marked, marks_after, count_for, IdealState, filled, fronts, ideal_slot, rests, HoldsLists, LimiterView, held_without, Ranking, ranking, each_once, Agrees, SendsAlike, Fabric, fabric_held, held_for, fabric_admission, came_to, list_of, HoldsFabric, Queues, fabric_of, holds_filled, by_marks, sent_from, came_for, hold_as_many, empty_list, nothing_for}
 use Rattle.std.proofs.Math.ListN.{get_or-map as get_or_map}
 use Rattle.cq_fabric.specs.Released.{HasReleased}
 use Rattle.cq_fabric.proofs.Known.{AreRanked, BuffersHaveRoom, HaveJudged, bit}
@@ -16,16 +16,6 @@ held_at f j inside = get_or-map-range_with_len (λ (k : ℕ). held_for k f) 0 (l
 
 -- ## Before the first slot
 
--- no output holds a cell where no list and no buffer has one
-pub nothing_for : (j n : ℕ) → waiting_for j (replicate n []) ≡ 0
-nothing_for j zero = refl
-nothing_for j (suc n) = let rest = nothing_for j n in omega arith
-
-pub nothing_in : (j n : ℕ) → length (get_or {A = List Queued} (replicate n []) j []) ≡ 0
-nothing_in j zero = refl
-nothing_in zero (suc n) = refl
-nothing_in (suc j) (suc n) = nothing_in j n
-
 pub holds_first : (n : ℕ) (ranks : List (List ℕ)) (q : Queues) (l : LimiterView) → q.inputs ≡ replicate n [] →
     q.buffers ≡ replicate n [] → length l.limits ≡ n → l.held ≡ replicate n 0 → HoldsFabric (fabric_of q ranks) l
 holds_first n ranks q l inputs buffers limits held =
@@ -35,7 +25,7 @@ holds_first n ranks q l inputs buffers limits held =
     record {
       ports = limits ∙ sym long;
       held = ext_get_or 0 l.held (fabric_held f) (ap length held ∙ length-replicate n 0 ∙ sym (held_long f ∙ long))
-          (λ j inside. search (arith, rules, length-replicate, get_or-replicate, held_at, nothing_for, nothing_in));
+          (λ j inside. search (arith, rules, length-replicate, get_or-replicate, held_at, nothing_for, empty_list));
     }
 
 -- ## Before a slot

@@ -49,6 +49,6 @@ pub use Rattle.cq_ideal.specs.IdealRun.{empty_ideal}
 pub use Rattle.cq_prefs.proofs.{Changes.IsSameBut, Changes.same_list, Changes.same_but_arrival, Changes.same_but_taken, Changes.same_without, OneOrder.one_orders, OutputOrder.is_output_order, Places.place_in-le-length}
 pub use Rattle.cq_prefs.specs.Renewal.{AreSameWithout}
 pub use Rattle.cq_laws.proofs.WholeRuns.{empty_agree_at, empty_list}
-pub use Rattle.cq_laws.proofs.{AfterArrivals.Keyed, AfterArrivals.arrived_sound, AfterArrivals.came_or_was, AfterDepartures.sent_sound, AfterTransfer.moved_sound, Held.hold_as_many, NothingRefused.none_come, NothingRefused.run_with, OneSlot.same_slot, OneSlot.sound_from, QuietSlots.empty_is, QuietSlots.quiet_run}
+pub use Rattle.cq_laws.proofs.{AfterArrivals.Keyed, AfterArrivals.arrived_sound, AfterArrivals.came_or_was, AfterDepartures.sent_sound, AfterTransfer.moved_sound, Held.hold_as_many, Held.nothing_for, NothingRefused.none_come, NothingRefused.run_with, OneSlot.same_slot, OneSlot.sound_from, QuietSlots.empty_is, QuietSlots.quiet_run}
 pub use Rattle.cq_laws.specs.{FabricRun.FabricRun, LimitedQuiet.quiet_limited_slots}
 pub use Rattle.cq_base.proofs.Having.{all_from_has, has_there}

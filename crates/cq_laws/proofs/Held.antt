@@ -1,6 +1,6 @@
 -- Where a fabric agrees with an ideal switch, each output holds as many cells in the one as in the other: the ideal
 -- switch is the one whose lists are the cells of the fabric for each output, put in the order of their keys.
-use Rattle.cq_laws.proofs.Terms.{common_steps, ◌≡◌, ℕ, List, [], ◌∷◌, length, map, refl, arith, range_with_len, length-append, Queued, IdealState, ideal_held, Agrees, Fabric, cells_for, waiting_for, held_for, fabric_held, ideal_of, in_order, length_put}
+use Rattle.cq_laws.proofs.Terms.{common_steps, ◌≡◌, ℕ, List, [], ◌∷◌, length, map, refl, arith, range_with_len, length-append, Queued, IdealState, ideal_held, Agrees, Fabric, cells_for, waiting_for, held_for, fabric_held, ideal_of, in_order, length_put, replicate, zero, suc}
 use Rattle.cq_laws.proofs.IdealOf.{only_ideal, waits}
 
 length_in_order : (xs : List Queued) → length (in_order xs) ≡ length xs
@@ -21,3 +21,8 @@ hold_so f (j ∷ js) = λ k. holds_as_many f j k ∷ hold_so f js k
 pub hold_as_many : (slot : ℕ) (f : Fabric) (ideal : IdealState) → Agrees slot f ideal → fabric_held f ≡ ideal_held ideal
 unfolding fabric_held ideal_of
 hold_as_many slot f ideal agrees = cc (only_ideal slot f ideal agrees, hold_so f (range_with_len 0 (length f.inputs)))
+
+-- no output holds a cell where no list has one
+pub nothing_for : (j n : ℕ) → waiting_for j (replicate n []) ≡ 0
+nothing_for j zero = refl
+nothing_for j (suc n) = let rest = nothing_for j n in omega arith

@@ -8,7 +8,8 @@ use Rattle.cq_laws.specs.LimitedFabric.{LimitedRecord}
 use Rattle.cq_laws.proofs.InputBest.{stable_slot}
 use Rattle.cq_laws.specs.Fabric.{input}
 use Rattle.cq_laws.specs.Holding.{fabric_held, held_for}
-use Rattle.cq_fabric.proofs.Limits.{nothing_for, nothing_in}
+use Rattle.cq_laws.proofs.Held.{nothing_for}
+use Rattle.cq_laws.proofs.WholeRuns.{empty_list}
 use Rattle.cq_fabric.proofs.Kept.{lists_kept, outputs_kept}
 use Rattle.cq_slot_trials.proofs.Arriving.{admitted_most, count_most, refusals_most}
 
@@ -75,8 +76,8 @@ module _ (ports : ℕ) (fixed states : List (List ℕ)) (from_inputs to_outputs 
 
   pub grown_first : HasGrown 0 e
   grown_first = subst (HasGrown 0) (sym is) (record {
-    lists = λ i. let none = nothing_in i ports in omega arith;
-    held = λ j. let none = nothing_in j ports in let nobody = nothing_for j ports in omega arith;
+    lists = λ i. let none = ap length (empty_list ports i) in omega arith;
+    held = λ j. let none = ap length (empty_list ports j) in let nobody = nothing_for j ports in omega arith;
     proposals = omega arith;
   })
 
