@@ -1,7 +1,7 @@
 -- A fabric can go on from where it stands, whether it is fresh or was taken up. What waits in it came before the slot
 -- that it stands at, and what is to come comes from that slot on, so both together are no more than what comes in all:
 -- at each input, for each output, and of all cells.
-use Rattle.cq_simulate.proofs.Terms.{length-filter_both, ◌≡◌, ℕ, zero, suc, ◌+◌, ◌-◌, ◌*◌, ◌≤◌, ◌<◌, ◌^◌, Bool, false, List, [], ◌∷◌, length, map, replicate, Option, refl, sym, ◌∙◌, arith, rules, common_steps, ◌==◌, All, sum, flat_map, range_with_len, slice_index, cases_lt, le-leb, le-ltb, lt-leb, lt-ltb, ne_eqb, length-map, length-replicate, get_or-map-range_with_len, sum_by-cons, Arrival, RoomView, Departure, Queued, Transfer, IsTraffic, is_from, is_to, number_of, Scheduled, Setup, CanGoOn, EngineView, fresh_engine, thawed_engine, total, total_more, total_none, zero_fits, Fabric, input, fabric_held, held_for, waiting_for, empty_list, Machine, class_count, GoesOn, came_before, goes_on, switch_of, Taken, classes_of, ports_of, Tables, fixed_of, machine_from, machine_of, machines_of, ArePortsFor, GoesOnFrom, IsReadyOn, to_come, CanBeTakenUp, IsScheduleFor, Ports, All-from_recursion, IsSoundFabric}
+use Rattle.cq_simulate.proofs.Terms.{length-filter_both, ◌≡◌, ℕ, zero, suc, ◌+◌, ◌-◌, ◌*◌, ◌≤◌, ◌<◌, ◌^◌, Bool, false, List, [], ◌∷◌, length, map, Option, refl, sym, ◌∙◌, arith, rules, common_steps, ◌==◌, All, sum, flat_map, range_with_len, slice_index, cases_lt, le-leb, le-ltb, lt-leb, lt-ltb, ne_eqb, length-map, length-replicate, get_or-map-range_with_len, sum_by-cons, Arrival, RoomView, Departure, Queued, Transfer, IsTraffic, is_from, is_to, number_of, Scheduled, Setup, CanGoOn, EngineView, fresh_engine, thawed_engine, total, total_more, total_none, zero_fits, Fabric, input, fabric_held, held_for, empty_list, Machine, class_count, GoesOn, came_before, goes_on, switch_of, Taken, classes_of, ports_of, Tables, fixed_of, machine_from, machine_of, machines_of, ArePortsFor, GoesOnFrom, IsReadyOn, to_come, CanBeTakenUp, IsScheduleFor, Ports, All-from_recursion, IsSoundFabric, nothing_for}
 use Rattle.cq_simulate.proofs.FabricCounts.{at_inputs, total_most}
 use Rattle.cq_simulate.proofs.FabricSteps.{all_at_inputs}
 use Rattle.cq_simulate.specs.ScheduleFor.{by_port}
@@ -95,15 +95,11 @@ goes_from {t} {s} e sent note fit has machines classes from to running few sent_
 
 -- ## A fresh one
 
-none_waiting_for : (j n : ℕ) → waiting_for j (replicate n []) ≡ 0
-none_waiting_for j zero = refl
-none_waiting_for j (suc n) = let rest = none_waiting_for j n in omega arith
-
 pub holds_none : (came : List Arrival) (ports : ℕ) (fixed states : List (List ℕ)) (from to : List ℕ)
     (limits : List (Option ℕ)) → length fixed ≡ ports → HoldsSome came (fresh_engine ports fixed states from to limits)
 holds_none came ports fixed states from to limits many =
     let lost = zero_fits (2 ^ 64 - 1) limits in
-    search (arith, rules, length-replicate, empty_list, none_waiting_for)
+    search (arith, rules, length-replicate, empty_list, nothing_for)
 
 -- ## One that was taken up
 

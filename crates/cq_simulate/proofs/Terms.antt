@@ -75,7 +75,7 @@ pub use Rattle.cq_laws.proofs.WholeRuns.{empty_agree, empty_list, empty_together
 pub use Rattle.cq_laws.specs.{Agreement.Agrees, Frozen.ideal_of, Records.gone_in}
 pub use Rattle.cq_laws.specs.Fabric.{Fabric, IsAmong, IsEmptyFabric, IsFabric, buffer, empty_fabric, input}
 pub use Rattle.cq_laws.specs.FabricSlot.{FabricSlot, SlotRecord}
-pub use Rattle.cq_laws.specs.Holding.{held_for, waiting_for}
+pub use Rattle.cq_laws.specs.Holding.{held_for}
 unfoldable pub use Rattle.cq_laws.specs.Holding.{fabric_held}
 pub use Rattle.cq_laws.specs.LimitedAgreement.{LimitedAgrees, LimitedEndsAlike, LimitedRunsAlike}
 pub use Rattle.cq_laws.specs.LimitedFabric.{IsLimitedFault, LimitedFabricRun, LimitedFabricSlot, LimitedRecord, LimitedWholeRun, admissions_in, empty_limited_fabric, slots_in}
@@ -126,6 +126,6 @@ pub use Rattle.cq_state.specs.declared.state.Named.{Named}
 pub use Rattle.cq_prefs.specs.Orders.{Orders}
 pub use Rattle.cq_prefs.proofs.{InputOrder.OutputsInRange, InputOrder.are_offers, Places.outputs_at_most}
 pub use Rattle.cq_laws.specs.{Frozen.fabric_in, Frozen.marked_in, Frozen.IsSoundFabric, LimitedQuiet.quiet_limited_slots, LimitedQuiet.quiet_limited_slot, Phases.Transfers, Phases.came_to, Phases.list_arrived, Places.HasFor, declared.frozen.Frozen.Frozen}
-pub use Rattle.cq_laws.proofs.{ActingAlike.best_act_alike_from_empty, ActingAlike.best_act_alike, AddingUp.figures_fold, Came.came_from, EndsTogether.slots_of_figures, Held.hold_as_many, Joined.all_go_on, KeptParts.departures_one, KeptParts.transfers_both, KeptParts.transfers_one, KeptParts.departures_on, Members.first_at, Parted.run_of_whole}
+pub use Rattle.cq_laws.proofs.{ActingAlike.best_act_alike_from_empty, ActingAlike.best_act_alike, AddingUp.figures_fold, Came.came_from, EndsTogether.slots_of_figures, Held.hold_as_many, Held.nothing_for, Joined.all_go_on, KeptParts.departures_one, KeptParts.transfers_both, KeptParts.transfers_one, KeptParts.departures_on, Members.first_at, Parted.run_of_whole}
 pub use Rattle.cq_resume.specs.Parts.{IsParted}
 pub use Rattle.cq_engine.proofs.{Kept.limited_lists_kept, Kept.limited_outputs_kept}
