@@ -22,15 +22,15 @@ one_more : (sent : LimitedSent) (admissions : List Admission) (gone : List (List
     then_limited sent (behind admissions gone x) ≡ behind (sent.admission ∷ admissions) (sent.gone ∷ gone) x
 one_more sent admissions gone fault = grind (arith, common_steps)
 
-none_leaves : (slot j n : ℕ) → departures_from slot j (replicate n None) ≡ []
-none_leaves slot j zero = refl
-none_leaves slot j (suc n) = none_leaves slot (j + 1) n
+pub no_departures : (n slot j : ℕ) → departures_from slot j (replicate n None) ≡ []
+no_departures zero slot j = refl
+no_departures (suc n) slot j = no_departures n slot (j + 1)
 
 none_departs : (ports n slot : ℕ) → departures_of slot (replicate n (replicate ports None)) ≡ []
 unfolding departures_of departures_in
 none_departs ports zero slot = refl
 none_departs ports (suc n) slot =
-    grind (arith, common_steps, none_leaves slot 0 ports, none_departs ports n (slot + 1))
+    grind (arith, common_steps, no_departures ports slot 0, none_departs ports n (slot + 1))
 
 refuse_none : (marks : List Bool) (n : ℕ) → refused_in (replicate n (nothing_refused marks no_arrivals)) ≡ []
 refuse_none marks zero = refl

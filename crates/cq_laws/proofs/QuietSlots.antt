@@ -1,6 +1,6 @@
 -- Where no cell waits and none comes, nothing is offered: the matching of nobody is the only one, nothing moves, and
 -- no figure changes. Only the rank machines are told that their outputs were idle.
-use Rattle.cq_laws.proofs.Terms.{common_steps, rules, ◌≡◌, ℕ, zero, suc, ◌+◌, false, List, [], ◌∷◌, length, map, Option, Some, None, refl, ap, ◌∙◌, arith, All, min, is_some, filter_map, replicate, fold, enumerate_from, list_any, length-map, length-replicate, ext_get_or, sum_by-replicate, Queued, Figures, no_arrivals, Machine, Fabric, empty_fabric, IsEmptyFabric, Transfers, FabricSlot, FabricRun, InputFigures, departures_from, departures_in, departures_of, idle_at, length-idle, nobody_sends, none_at, nothing_left, ranked_none, all_empty, Orders, ports, outputs_of, partner_of, spent, proposals, orders_of, transfers_of, gone_in, transfers_in, transfers_of_run, slacks, proposals_in, either_by, input_after, output_after, figures_after, OutputFigures, most_ports, IdealState, IsInputBest, cond, max, sum}
+use Rattle.cq_laws.proofs.Terms.{common_steps, rules, ◌≡◌, ℕ, zero, suc, ◌+◌, false, List, [], ◌∷◌, length, map, Option, Some, None, refl, ap, ◌∙◌, arith, All, min, is_some, filter_map, replicate, fold, enumerate_from, list_any, length-map, length-replicate, ext_get_or, sum_by-replicate, Queued, Figures, no_arrivals, Machine, Fabric, empty_fabric, IsEmptyFabric, Transfers, FabricSlot, FabricRun, InputFigures, departures_in, departures_of, idle_at, length-idle, nobody_sends, none_at, nothing_left, ranked_none, all_empty, Orders, ports, outputs_of, partner_of, spent, proposals, orders_of, transfers_of, gone_in, transfers_in, transfers_of_run, slacks, proposals_in, either_by, input_after, output_after, figures_after, OutputFigures, most_ports, IdealState, IsInputBest, cond, max, sum, no_departures}
 use Rattle.cq_laws.specs.Quiet.{idled, quiet_slot, quiet_slots, idled_for, KeepLaws}
 use Rattle.cq_laws.proofs.AddingUp.{map-constant}
 use Rattle.cq_laws.proofs.OneRun.{outputs_at}
@@ -115,10 +115,6 @@ pub empty_is : (f : Fabric) → IsEmptyFabric f → length f.buffers ≡ length 
 empty_is f empty square = grind (arith, common_steps, all_none)
 
 -- ## Many such slots
-
-pub no_departures : (n slot j : ℕ) → departures_from slot j (no_cells n) ≡ []
-no_departures zero slot j = refl
-no_departures (suc n) slot j = no_departures n slot (j + 1)
 
 module _ (ms : List Machine) (n : ℕ) where
   pub quiet_transfers_of_run : (count slot : ℕ) (ranks : List (List ℕ)) →

@@ -69,7 +69,7 @@ pub use Rattle.cq_laws.proofs.LimitedEnds.{limited_ends, one_limited_whole}
 pub use Rattle.cq_laws.proofs.LimitedSlots.{admission_for_ports, limited_ports_kept, same_limited_slot}
 pub use Rattle.cq_laws.proofs.OneRun.{only_limited_run, outputs_at}
 pub use Rattle.cq_laws.proofs.OneSlot.{after_sent, arrived}
-pub use Rattle.cq_laws.proofs.QuietSlots.{no_departures, quiet_figures, quiet_transfers}
+pub use Rattle.cq_laws.proofs.QuietSlots.{quiet_figures, quiet_transfers}
 pub use Rattle.cq_laws.proofs.Sound.{orders_are}
 pub use Rattle.cq_laws.proofs.WholeRuns.{empty_agree, empty_list, empty_together}
 pub use Rattle.cq_laws.specs.{Agreement.Agrees, Frozen.ideal_of, Records.gone_in}
@@ -118,7 +118,7 @@ pub use Rattle.cq_cells.proofs.Stamps.{length-rows_from}
 pub use Rattle.cq_cells.proofs.Ranges.{range_more}
 pub use Rattle.cq_scfq.specs.declared.discipline.Discipline.{Discipline}
 pub use Rattle.cq_ideal.proofs.EnoughSlots.{waiting-empty}
-pub use Rattle.cq_ideal.proofs.{EachLeaves.each_leaves_or_is_refused, EachLeaves.refuses_none_elsewhere, FlowLaw.all_in_range, FlowLaw.class_in_slot, FlowLaw.none_came, FlowOn.flow_on, FlowOn.whole_on, LastSlot.slots_of-append, LastSlot.slots_of-departures, LimitedLast.last_departs, LimitedLast.limited_slots, Standing.StandAt, Standing.stand_in}
+pub use Rattle.cq_ideal.proofs.{LimitedParts.no_departures, EachLeaves.each_leaves_or_is_refused, EachLeaves.refuses_none_elsewhere, FlowLaw.all_in_range, FlowLaw.class_in_slot, FlowLaw.none_came, FlowOn.flow_on, FlowOn.whole_on, LastSlot.slots_of-append, LastSlot.slots_of-departures, LimitedLast.last_departs, LimitedLast.limited_slots, Standing.StandAt, Standing.stand_in}
 pub use Rattle.cq_ideal.specs.{EachOnce.KeepTheirOutput, EachOnce.LeaveOrAreRefused, Fresh.fresh_ideal, OneSlot.CanHaveSlot, OneSlot.HasHadSlot, OneSlot.IsSameSwitch}
 pub use Rattle.cq_reasm.specs.{Cutting.AreCutFrom, Open.Open, Open.bytes_taken, Open.with_piece, Piece.Piece}
 pub use Rattle.cq_reasm.proofs.Pieces.{pieces_give_frame}
