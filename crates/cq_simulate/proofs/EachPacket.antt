@@ -215,7 +215,7 @@ module _ (P : Cell → Type 0) where
   all_refused (mark ∷ marks) [] all = tt
   all_refused (mark ∷ marks) (cell ∷ cells) all = grind (arith, common_steps, all_refused marks cells)
 
-  all_judged : (limits : List (Option ℕ)) (marks : List Bool) (traffic : List (List (Option Cell)))
+  pub all_judged : (limits : List (Option ℕ)) (marks : List Bool) (traffic : List (List (Option Cell)))
       (admissions : List Admission) → AreJudged limits marks traffic admissions →
       AllByRecursion (λ cells. AllByRecursion P (present cells)) traffic → AllByRecursion P (refused_in admissions)
   unfolding admission
@@ -224,7 +224,7 @@ module _ (P : Cell → Type 0) where
   all_judged limits marks (cells ∷ traffic) (a ∷ admissions) judged all =
       grind (arith, common_steps, all_refused, all_judged limits a.marks traffic admissions judged.1 all.1)
 
-  all_arriving : (came : List Arrival) → AllByRecursion (λ a. P a.cell) came → (t : ℕ) →
+  pub all_arriving : (came : List Arrival) → AllByRecursion (λ a. P a.cell) came → (t : ℕ) →
       AllByRecursion P (present (arriving came t))
   unfolding arriving
   all_arriving came all t = search (rules, all_present, all_found, all_weaker)

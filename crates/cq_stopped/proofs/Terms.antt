@@ -77,7 +77,7 @@ pub use Rattle.cq_base.proofs.Having.{all_from_has, all_of_has, any_has, has_all
 pub use Rattle.cq_base.proofs.Pooled.{AreApart, Stands, all_pairs, each_pair, has_number, no_more, pairs_cross, pairs_joined, pairs_kept, pairs_left, pairs_mapped, pairs_right, pairs_with}
 pub use Rattle.cq_laws.proofs.{EndsTogether.slots_of_figures, Recorded.recorded}
 pub use Rattle.cq_ideal.proofs.EnoughSlots.{waiting-empty}
-pub use Rattle.cq_ideal.proofs.{Ends.nothing_left, FlowCount.come_count-first, FlowPut.NoLater, FlowPut.in_order_put, Packets.refused_here, Parted.arriving_length, Refusals.counts_more}
+pub use Rattle.cq_ideal.proofs.{Ends.nothing_left, FlowCount.come_count-first, FlowLaw.all_in_range, FlowPut.NoLater, FlowPut.in_order_put, Packets.refused_here, Parted.arriving_length, Refusals.counts_more}
 pub use Rattle.cq_ideal.specs.{Limiter.where_up, declared.refused.Refused.Refused}
 pub use Rattle.cq_state.specs.declared.state.Seen.{Seen}
 pub use Rattle.cq_laws.proofs.{AfterTransfer.moved_has, Falls.rest_of, IdealLists.among_put_all, IdealLists.list_after, IdealLists.put_all_keeps, IdealLists.put_all_new, InputBest.stable_slot, InputBest.stable_limited_run, LimitedSlots.admission_for_ports, WholeRuns.empty_together, WholeRuns.empty_list}
@@ -86,5 +86,5 @@ pub use Rattle.cq_resume.proofs.{Coming.is_between, Coming.one_comes, Judging.pa
 pub use Rattle.cq_resume.specs.declared.found.Name.{Name}
 pub use Rattle.cq_traffic.proofs.{ForPorts.arrivals_for, ForPorts.place_of}
 pub use Rattle.cq_simulate.proofs.{FabricSteps.all_wait, OnceASlot.AreNumbered}
-pub use Rattle.cq_simulate.proofs.{Departed.small_cells, OnceASlot.limited_numbered, Runnable.keeps_laws, Runnable.kind, Runnable.machine_is, Runnable.right_classes, Runnable.right_size, Tallies.all_in_row, Tallies.sum_by_same, Tallies.tally, Tallies.tally_by_parts, Tallies.tally_turned}
+pub use Rattle.cq_simulate.proofs.{Departed.small_cells, EachPacket.all_arriving, EachPacket.all_judged, OnceASlot.limited_numbered, Runnable.keeps_laws, Runnable.kind, Runnable.machine_is, Runnable.right_classes, Runnable.right_size, Tallies.all_in_row, Tallies.sum_by_same, Tallies.tally, Tallies.tally_by_parts, Tallies.tally_turned}
 pub use Rattle.cq_simulate.specs.{FabricRuns.IsFabricRun, FabricRuns.refused_in_run}

@@ -4,9 +4,9 @@
 -- walk over the arrivals that compares each with the mark before it ends, with the mark of the run: each packet is
 -- named whole or not at all, and the mark is that of the packet that began last. And what was refused slot by slot is,
 -- counted by any test, what is not named input by input.
-use Rattle.cq_stopped.proofs.Terms.{sum_by, sum_by-cons, ◌&&◌, ◌==◌, all_weaker, all_in_row, sum_by_same, tally, tally_by_parts, tally_turned, rules, ◌≡◌, ℕ, zero, suc, ◌+◌, ◌<◌, ◌≤◌, eqb, Bool, true, false, List, [], ◌∷◌, length, Option, None, Some, refl, ap, sym, ◌∙◌, arith, length-append, map, and_parts, and_right, cases_Bool, cases_lt, eq-eqb, eqb-true, le-ltb, lt-leb, common_steps, get_or-map, get_or-replicate, length-map, length-replicate, map-append, filter-append, AllByRecursion, cons_option, range_with_len, filter, is_some, not, flat_map, arrival_at, Arrival, arriving, arriving_at, Cell, Queued, is_from, admitted_at, marks_kept, Marked, admission, held_after, mark_after, mark_at, marks_after, unless, refused, arriving_from, cells_refused, packets_refused, refused_counts, refused_in, with_refused, fabric_judged, Fabric, fabric_held, LimitedRecord, admissions_in, all_both, all_from_has, found_at, ComeBehind, IsLine, coming, has_limit, mark_on, ArePackets, has_name, unnamed, opening, Runs, AreWholePackets, Switch, is_named, key_of, named_in, Named, State, ArrivesIn, refused_here, where_up, Refused, is_between, one_comes, whole, all_stand, tallies_up, packets_alike, tally_is, IsTally, cells_in, Name, filter_none, most_ports}
+use Rattle.cq_stopped.proofs.Terms.{sum_by, sum_by-cons, ◌&&◌, ◌==◌, all_weaker, all_in_row, sum_by_same, tally, tally_by_parts, tally_turned, rules, ◌≡◌, ℕ, zero, suc, ◌+◌, ◌<◌, ◌≤◌, eqb, Bool, true, false, List, [], ◌∷◌, length, Option, None, Some, refl, ap, sym, ◌∙◌, arith, length-append, map, and_parts, and_right, cases_Bool, cases_lt, eq-eqb, eqb-true, le-ltb, lt-leb, common_steps, get_or-map, get_or-replicate, length-map, length-replicate, map-append, filter-append, cons_option, range_with_len, filter, is_some, not, flat_map, arrival_at, Arrival, arriving, arriving_at, Cell, Queued, is_from, admitted_at, marks_kept, Marked, admission, held_after, mark_after, mark_at, marks_after, unless, refused, arriving_from, cells_refused, packets_refused, refused_counts, refused_in, with_refused, fabric_judged, Fabric, fabric_held, LimitedRecord, admissions_in, all_from_has, found_at, ComeBehind, IsLine, coming, has_limit, mark_on, ArePackets, has_name, unnamed, opening, Runs, AreWholePackets, Switch, is_named, key_of, named_in, Named, State, ArrivesIn, refused_here, where_up, Refused, is_between, one_comes, whole, all_stand, tallies_up, packets_alike, tally_is, IsTally, cells_in, Name, filter_none, most_ports, all_arriving, all_in_range, all_judged}
 use Rattle.cq_ideal.proofs.RestAtInput.{is_shown}
-use Rattle.cq_ideal.proofs.Standing.{StandAt, of_input, refused_are as refused_of_input, stand_in}
+use Rattle.cq_ideal.proofs.Standing.{of_input, refused_are as refused_of_input, stand_in}
 use Rattle.cq_resume.proofs.Adding.{Tallied, left_before, mark_at as walk_mark}
 use Rattle.cq_stopped.proofs.Ran.{came_in, came_of}
 use Rattle.cq_stopped.proofs.Joined.{by_places}
@@ -155,27 +155,14 @@ unfolding cells_refused packets_refused
 same_counts xs ys same [] = refl
 same_counts xs ys same (r ∷ counts) = grind (arith, common_steps, r.output, same_counts xs ys same counts)
 
--- ## What is refused is of an input that has a mark
-
-refused_low : (a : ℕ) (marks : List Bool) (cells : List (Option Cell)) (n : ℕ) → StandAt a cells →
-    a + length marks ≤ n → AllByRecursion (λ (c : Cell). c.id.input < n) (refused marks cells)
-refused_low a (mark ∷ marks) (o ∷ cells) n at le = grind (arith, common_steps, refused_low (a + 1) marks cells n)
-refused_low a marks cells n at le = tt
-
-module _ (w : Switch) where
-  -- each input keeps its mark, and what is refused is of an input that has one
-  marks_many : (slot n : ℕ) (f g : Marked Fabric) (rs : List LimitedRecord) →
-      Runs w slot (arriving_from w.came slot n) f rs g → AllByRecursion (StandAt 0) (arriving_from w.came slot n) →
-      (length g.marks ≡ length f.marks)
-      × AllByRecursion (λ (c : Cell). c.id.input < length f.marks) (refused_in (admissions_in rs))
-  unfolding arriving_from admission
-  marks_many slot zero f g [] run at = (ap (λ (h : Marked Fabric). length h.marks) run, tt)
-  marks_many slot (suc n) f g (r ∷ rs) run at =
-      let rest = marks_many (slot + 1) n run.0 g rs run.2 at.1 in
-      let kept : length run.0.marks ≡ length f.marks = grind (arith, common_steps, marks_kept) in
-      let low = refused_low 0 r.admission.marks (arriving w.came slot) (length f.marks) at.0 in
-      search (arith, rules, low, all_both, marks_kept)
-  marks_many slot _ f g _ run at = absurd run
+-- each input keeps its mark
+marks_many : (w : Switch) (slot n : ℕ) (f g : Marked Fabric) (rs : List LimitedRecord) →
+    Runs w slot (arriving_from w.came slot n) f rs g → length g.marks ≡ length f.marks
+unfolding arriving_from admission
+marks_many w slot zero f g [] run = ap (λ (h : Marked Fabric). length h.marks) run
+marks_many w slot (suc n) f g (r ∷ rs) run =
+    grind (arith, common_steps, marks_kept, marks_many w (slot + 1) n run.0 g rs run.2)
+marks_many w slot _ f g _ run = absurd run
 
 -- ## Names that stand for those of a state
 
@@ -221,8 +208,7 @@ module _ (w : Switch) (ranks : List (List ℕ)) (st : State) (rs : List LimitedR
   ends_marked i inside = rw (marks_down i inside) at (walk i inside).ends
 
   many_marks : length g.marks ≡ ports
-  unfolding arriving_from
-  many_marks = grind (arith, common_steps, marks_many, stand_in, length-replicate)
+  many_marks = marks_many w 0 next (opening w ranks) g rs runs ∙ length-replicate ports false
 
   marks_walked : map (λ (m : Bool). Some m) g.marks ≡ map (walk_mark w.limits next w.came names) (range_with_len 0
       ports)
@@ -244,8 +230,9 @@ module _ (w : Switch) (ranks : List (List ℕ)) (st : State) (rs : List LimitedR
   unfolding left_before arriving_from
   lost_counted p =
       let lost = refused_in (admissions_in rs) in
-      let many = length-replicate ports false in
-      let low = rw many at (marks_many w 0 next (opening w ranks) g rs runs (stand_in w.came 0 next)).1 in
+      let is_low : Cell → Type 0 = λ c. c.id.input < ports in
+      let low = all_judged is_low w.limits (opening w ranks).marks (arriving_from w.came 0 next) (admissions_in rs)
+      (search (arith, rules, fabric_judged)) (all_in_range _ w.came 0 next (all_arriving is_low w.came are.inputs)) in
       let here : ℕ → ℕ = λ i. length (filter p (cells_in (unnamed names (coming i 0 next w.came)))) in
       let parts = tally_by_parts p (λ c. 0) (λ (c : Cell). c.id.input) 1 (λ _. ports) lost
       (search (arith, rules, all_weaker)) in
