@@ -1,7 +1,7 @@
 -- One slot of a run that may be stopped. The ideal switch goes on beside the fabric. At each output the cells that
 -- come queue up behind those that left and those that wait, and where one leaves it is the first that waits: what left
 -- and then what waits is the same list. So what is known before the slot is known after it.
-use Rattle.cq_stopped.proofs.Terms.{inl, rules, ◌≡◌, ℕ, zero, suc, ◌+◌, ◌<◌, ◌≤◌, List, [], ◌∷◌, ◌++◌, drop, length, Option, Some, None, Ok, ap, ◌∙◌, ◌⊎◌, ⊎_elim, arith, length-append, cases_lt, common_steps, append_assoc, get_or-append-add, get_or-map, get_or_append_left, get_or_past, length-map, append-nil, get_or-replicate, length-replicate, AllByRecursion, slice_get, slice_index_or, arrival_at, arriving, arriving_at, Cell, Departure, Queued, admitted_arrives, Came, came_from, AreOfClasses, present, Served, listed, served, HasWaited, Marked, admission, arriving_from, departures_of, empty_ideal, IdealState, all_told, departures_from, departures_in, filled, fronts, ideal_slot, put_all, rests, AreForPorts, ranking, CameFor, Keyed, limited_empty_agree, among_insert, left_among, keyed, ports_kept, same_slot, SendsAlike, Agrees, Fabric, IsAmong, input, empty_fabric, FabricSlot, LimitedFabricSlot, LimitedRecord, slots_in, came_to, list_arrived, Transfers, KeepLaws, gone_in, list_of, IsInputBest, IsStable, Partners, machine_at, all_both, all_weaker, found_at, has_there, Has, all_from_has, all_of_has, has_cases, has_left, has_right, opening, Runs, Switch, fewer, HasFor, length-filled, rest_of, among_put_all, list_after, put_all_keeps, put_all_new, stable_slot, admission_for_ports, arrivals_for, place_of, RunBy}
+use Rattle.cq_stopped.proofs.Terms.{inl, rules, ◌≡◌, ℕ, zero, suc, ◌+◌, ◌<◌, ◌≤◌, List, [], ◌∷◌, ◌++◌, drop, length, Option, Some, None, Ok, ap, ◌∙◌, ◌⊎◌, ⊎_elim, arith, length-append, cases_lt, common_steps, append_assoc, get_or-append-add, get_or-map, get_or_append_left, get_or_past, length-map, append-nil, get_or-replicate, length-replicate, AllByRecursion, slice_get, slice_index_or, arrival_at, arriving, arriving_at, Cell, Departure, Queued, admitted_arrives, Came, came_from, AreOfClasses, present, Served, listed, served, HasWaited, Marked, admission, arriving_from, departures_of, empty_ideal, IdealState, all_told, departures_from, departures_in, filled, fronts, ideal_slot, put_all, rests, AreForPorts, ranking, CameFor, Keyed, limited_empty_agree, keyed, ports_kept, same_slot, SendsAlike, Agrees, Fabric, IsAmong, input, empty_fabric, FabricSlot, LimitedFabricSlot, LimitedRecord, slots_in, came_to, KeepLaws, gone_in, list_of, IsInputBest, IsStable, machine_at, all_both, all_weaker, found_at, has_there, Has, all_from_has, all_of_has, has_cases, has_left, has_right, opening, Runs, Switch, fewer, HasFor, length-filled, rest_of, among_put_all, list_after, put_all_keeps, put_all_new, stable_slot, admission_for_ports, arrivals_for, place_of, RunBy, came_or_was, was_waiting}
 use Rattle.cq_ideal.specs.IdealSlot.{Sent}
 use Rattle.cq_stopped.proofs.Configured.{IsConfigured}
 use Rattle.cq_stopped.proofs.Lined.{each_departs, left_more}
@@ -14,14 +14,6 @@ all_present : (P : Cell → Type 0) (cells : List (Option Cell)) →
 all_present P [] each = tt
 all_present P (o ∷ cells) each =
     let rest = all_present P cells (λ k. each (suc k)) in let here = each zero in grind (arith, common_steps)
-
-pub came_or_was : (f : Fabric) (came : Option Queued) (xs : List Queued) (q : Queued) →
-    IsAmong q (list_arrived f came xs) → (came ≡ Some q) ⊎ IsAmong q xs
-came_or_was f came xs q has = grind (arith, common_steps, among_insert)
-
-still_among : (m : Partners) (old new : Fabric) → Transfers m old new → (i : ℕ) (q : Queued) →
-    IsAmong q (input new i) → IsAmong q (input old i)
-still_among m old new moves i q has = search (arith, rules, left_among)
 
 -- what came up to a slot, and what came in it
 module _ (cs : List (List (Option Queued))) (c : List (Option Queued)) (n : ℕ) (long : length cs ≡ n) (i : ℕ) where
@@ -259,8 +251,8 @@ module _ (w : Switch) (ranks : List (List ℕ)) (configured : IsConfigured w ran
       states = (its_served 0 (omega arith)).states ∙ known.states;
       lanes = next_lane;
       placed = λ i c among.
-          let second = still_among r.of_slot.second r.of_slot.sent g.state step.runs.finish i c among in
-          let first = still_among r.of_slot.first r.of_slot.arrived r.of_slot.filled step.runs.fill i c in
+          let second = was_waiting step.runs.finish.moves i c among in
+          let first = was_waiting step.runs.fill.moves i c in
           search (arith, rules, first, second, arrived_placed i c);
       departed = departed_next;
       long = length-append cs (came ∷ []) ∙ ap (λ (m : ℕ). m + 1) known.long;

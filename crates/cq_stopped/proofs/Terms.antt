@@ -31,9 +31,9 @@ pub use Rattle.cq_state.specs.State.{AreRankNumbers, IsCount, IsInRange, IsMoved
 pub use Rattle.cq_state.specs.{declared.state.Named.Named, declared.state.Sent.Sent, declared.state.State.State}
 pub use Rattle.cq_prefs.specs.FirstCells.{list_of}
 pub use Rattle.cq_prefs.specs.Pairing.{IsInputBest, IsStable, Partners}
-pub use Rattle.cq_laws.proofs.AfterArrivals.{CameFor, Keyed, arrived_has}
+pub use Rattle.cq_laws.proofs.AfterArrivals.{CameFor, Keyed, arrived_has, came_or_was}
 pub use Rattle.cq_laws.proofs.LimitedWhole.{fabric_judged, limited_empty_agree}
-pub use Rattle.cq_laws.proofs.Members.{among_insert, among_put, left_among}
+pub use Rattle.cq_laws.proofs.Members.{among_put, was_waiting}
 pub use Rattle.cq_laws.proofs.OneSlot.{after_sent, arrived, keyed, old_sound, ports_kept, same_slot}
 pub use Rattle.cq_laws.proofs.Sound.{Sound, apart_from, not_before_itself}
 pub use Rattle.cq_laws.specs.Agreement.{Agrees, SendsAlike}
