@@ -221,7 +221,8 @@ impl<R: Rank> Engine<R> {
     /// workers, and changes nothing of what is found.
     ///
     /// No memory is needed for a slot to succeed: a phase of two workers or more takes a ledger, and is settled
-    /// by one thread where there is none.
+    /// by one thread where there is none. The first slot after `thaw` takes some to look at all cells of a list at
+    /// once, and looks for each where there is none.
     ///
     /// The error is the first rank, in order of input, that does not fit 128 bits. Then `sent`, `note`, the figures,
     /// the counts of what was refused, the lists, the buffers and the next slot are as before, and the engine is
@@ -279,7 +280,8 @@ impl<R: Rank> Engine<R> {
             return Ok(());
         }
         self.queues.arrive(&self.came);
-        count_inputs(look, &mut self.figures.inputs, &self.queues, &self.came);
+        let inputs = &mut self.figures.inputs;
+        count_inputs(alloc, look, inputs, &self.queues, &self.came);
         let workers = self.workers;
         let core = &mut self.core;
         let queues = &mut self.queues;

@@ -1,13 +1,14 @@
 //! The figures of a run, slot by slot.
-ghost use Rattle.std.specs.Prelude.{◌≡◌, ℕ, ◌-◌, [], ◌<◌, ◌^◌, length, map, max, min, slice_get, Some, is_some, if◌then◌else◌};
-ghost use Rattle.std.specs.List.{enumerate_from, reduce};
+ghost use Rattle.std.specs.Prelude.{◌≡◌, ℕ, ◌-◌, ◌<◌, ◌^◌, length, map, max, min, slice_get, Some, is_some, if◌then◌else◌};
+ghost use Rattle.std.specs.List.{enumerate_from};
 ghost use Rattle.cq_base.specs.declared.figures.InputFigures.{InputFigures as OfInput};
 ghost use Rattle.cq_base.specs.declared.figures.OutputFigures.{OutputFigures as OfOutput};
-ghost use Rattle.cq_engine.specs.Terms.{Queued, list_of, either_by, slacks, came_to, IsNewest, fabric_of, arriving_slack, input_counted, output_counted, slack_seen};
+ghost use Rattle.cq_engine.specs.Terms.{Queued, list_of, either_by, came_to, IsNewest, arriving_slack, input_counted, output_counted, slack_seen};
 
 use cq_base::{InputFigures, OutputFigures, Queued, Sequence, Slot};
 use cq_fabric::Queues;
 use cq_ideal::Newcomers;
+use std::alloc::Global;
 
 /// Which of the waiting cells a slot looks at for the least slack.
 #[derive(Clone, Copy)]
@@ -57,21 +58,14 @@ fn slack_of(queues: &Queues, input: usize, came: Option<Queued>) -> Option<u64>
     }
 }
 
-// The least slack of the cells that wait at an input, if one waits.
-fn least_slack(queues: &Queues, input: usize) -> Option<u64>
-    requires { input < length queues.now.inputs }
-    ensures { result ≡ reduce min (slacks (fabric_of queues.now []) input) }
-{
-    let count = queues.len_of(input);
-    let mut least = None;
-    'places: for place in 0..count {
-        least = lesser(least, Some(queues.slack_at(input, place)));
-    }
-    least
-}
-
 // The slack that is seen at an input, if a cell is looked at there.
-fn slack_seen(look: Look, queues: &Queues, input: usize, came: Option<Queued>) -> Option<u64>
+fn slack_seen(
+    alloc: Global,
+    look: Look,
+    queues: &Queues,
+    input: usize,
+    came: Option<Queued>,
+) -> Option<u64>
     requires input { input < length queues.now.inputs }
     requires output { (c : Queued) → came ≡ Some c → c.cell.output < length queues.now.inputs }
     requires newest { (c : Queued) → came ≡ Some c → IsNewest c (list_of queues.now.inputs input) }
@@ -79,13 +73,14 @@ fn slack_seen(look: Look, queues: &Queues, input: usize, came: Option<Queued>) -
 {
     match look {
         Look::Arriving => slack_of(queues, input, came),
-        Look::All => least_slack(queues, input),
+        Look::All => queues.least_slack(alloc, input),
     }
 }
 
 // The least slack that was seen at an input, with what is seen of it now. None is less than 0, so once that was seen
 // none is looked for.
 fn least_seen(
+    alloc: Global,
     look: Look,
     least: Option<u64>,
     queues: &Queues,
@@ -100,7 +95,7 @@ fn least_seen(
     if let Some(0) = least {
         return least;
     }
-    lesser(least, slack_seen(look, queues, input, came))
+    lesser(least, slack_seen(alloc, look, queues, input, came))
 }
 
 // How many cells there are: one or none.
@@ -113,6 +108,7 @@ fn count_of(queued: Option<Queued>) -> u64
 // What was seen of an input, with a slot more.
 #[tactic(auto, unfolding(crate::specs::Measuring::input_counted))]
 fn input_counted(
+    alloc: Global,
     look: Look,
     figures: InputFigures,
     queues: &Queues,
@@ -128,7 +124,7 @@ fn input_counted(
     InputFigures {
         cells: figures.cells + count_of(came),
         longest: figures.longest.max(queues.len_of(input)),
-        slack: least_seen(look, figures.slack, queues, input, came),
+        slack: least_seen(alloc, look, figures.slack, queues, input, came),
     }
 }
 
@@ -147,6 +143,7 @@ fn output_counted(figures: OutputFigures, slot: Slot, gone: Queued) -> OutputFig
 /// Adds the cells that came to the inputs to what was seen of them, once they stand in their lists, and what is seen
 /// of the slacks.
 pub fn count_inputs(
+    alloc: Global,
     look: Look,
     inputs: &mut Sequence<InputFigures>,
     queues: &Queues,
@@ -161,6 +158,7 @@ pub fn count_inputs(
 {
     'inputs: for input in 0..queues.ports() as usize {
         let counted = input_counted(
+            alloc,
             look,
             inputs.as_slice()[input],
             queues,

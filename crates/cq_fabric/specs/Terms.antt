@@ -8,6 +8,7 @@ pub use Rattle.cq_prefs.specs.FirstCells.{first_key, key_before, list_of, orders
 pub use Rattle.cq_prefs.specs.Moves.{Moves, transfers_of}
 pub use Rattle.cq_prefs.specs.Pairing.{IsMatching}
 pub use Rattle.cq_xbar.specs.Crossbar.{HasTransferred}
+pub use Rattle.cq_laws.specs.Measures.{either_by, slacks}
 pub use Rattle.cq_laws.specs.Phases.{came_to, list_arrived}
 pub use Rattle.cq_fabric.specs.Crossing.{CanCrossInPairs, CanFollow}
 pub use Rattle.cq_fabric.specs.Holding.{CanHold, CanStand, CanWait}

@@ -1,9 +1,9 @@
 //! The lists of all inputs, and the buffers of all outputs.
-ghost use Rattle.std.specs.Prelude.{◌≡◌, ◌≢◌, ◌==◌, ◌+◌, ◌-◌, ◌^◌, ◌<◌, ◌≤◌, ◌++◌, ℕ, [], All, IfOk, IsTrue, Some, drop, length, map, replicate, slice_get, slice_index, take};
-ghost use Rattle.std.specs.List.{list_all, position_or_len};
+ghost use Rattle.std.specs.Prelude.{◌≡◌, ◌≢◌, ◌==◌, ◌+◌, ◌-◌, ◌^◌, ◌<◌, ◌≤◌, ◌++◌, ℕ, [], All, IfOk, IfSome, IsTrue, Some, drop, length, map, min, replicate, slice_get, slice_index, take};
+ghost use Rattle.std.specs.List.{list_all, position_or_len, reduce};
 ghost use Rattle.cq_base.specs.declared.cell.Queued.{Queued as OfCell};
 ghost use Rattle.cq_base.specs.Cells.{MoreUrgentAhead, with_arrival};
-ghost use Rattle.cq_fabric.specs.Terms.{cushion, fronts, rests, cells_of, cells_in, first_key, key_before, list_of, orders_of, Moves, transfers_of, IsMatching, HasTransferred, came_to, list_arrived, CanCrossInPairs, CanFollow, CanHold, IsNewest, CanCross, ComeApart, Comes, FitEach, FitLists, Fits, buffer_room, fabric_of, list_at, list_room, list_with, most_ports};
+ghost use Rattle.cq_fabric.specs.Terms.{cushion, fronts, rests, cells_of, cells_in, first_key, key_before, list_of, orders_of, Moves, transfers_of, IsMatching, HasTransferred, came_to, list_arrived, CanCrossInPairs, CanFollow, CanHold, IsNewest, CanCross, ComeApart, Comes, FitEach, FitLists, Fits, buffer_room, fabric_of, list_at, list_room, list_with, most_ports, either_by, slacks};
 
 use crate::gone::Gone;
 use crate::standing::{all_told, filled_buffer, filled_each, filled_list};
@@ -41,6 +41,28 @@ impl Model for Queues {
     } };
 
     ghost invariant = { λ a. AreOffered a.lists.items a.buffers.items a.offers };
+}
+
+// The lesser of the least number so far, if there is one, and of one more.
+fn lesser(least: Option<u64>, more: u64) -> u64
+    ensures { Some result ≡ either_by min least (Some more) }
+{
+    match least {
+        None => more,
+        Some(least) => least.min(more),
+    }
+}
+
+// The cell at a place of a list. It is read off the cells of the list if they could be told.
+fn cell_at(list: &InputList, told: &Option<Sequence<Queued>>, place: u64) -> Queued
+    requires place { place < length list.now.cells }
+    requires told { IfSome told.now (λ cells. cells ≡ list.now.cells) }
+    ensures { slice_get list.now.cells place ≡ Some result }
+{
+    match told {
+        Some(cells) => cells.as_slice()[place as usize],
+        None => list.at(place),
+    }
 }
 
 // Whether the first cell of a list for an output is more urgent than one with this key.
@@ -281,9 +303,11 @@ impl Queues {
             .saturating_sub(place)
     }
 
-    /// The slack of the cell that stands at a place in the list of an input.
-    pub fn slack_at(&self, input: usize, place: u64) -> u64
+    // The slack of the cell that stands at a place in the list of an input, of which these are the cells if they could
+    // be told.
+    fn slack_at(&self, input: usize, told: &Option<Sequence<Queued>>, place: u64) -> u64
         requires input { input < length self.now.inputs }
+        requires told { IfSome told.now (λ cells. cells ≡ list_of self.now.inputs input) }
         requires place { place < length (list_of self.now.inputs input) }
         ensures { (c : OfCell) → slice_get (list_of self.now.inputs input) place ≡ Some c →
             result ≡ cushion c.key (list_of self.now.buffers c.cell.output) - place }
@@ -291,10 +315,24 @@ impl Queues {
         let list = &self.lists[input];
         // Its contract tells that each cell is for one of the outputs.
         let _waiting = list.outputs();
-        let queued = list.at(place);
+        let queued = cell_at(list, told, place);
         self.buffers[queued.cell.output as usize]
             .cushion(queued.key)
             .saturating_sub(place)
+    }
+
+    /// The least slack of the cells that wait at an input, if one waits. They are told at once where there is memory
+    /// for that, and else each is looked for.
+    pub fn least_slack(&self, alloc: Global, input: usize) -> Option<u64>
+        requires { input < length self.now.inputs }
+        ensures { result ≡ reduce min (slacks (fabric_of self.now []) input) }
+    {
+        let told = self.lists[input].cells(alloc).ok();
+        let mut least = None;
+        'places: for place in 0..self.len_of(input) {
+            least = Some(lesser(least, self.slack_at(input, &told, place)));
+        }
+        least
     }
 
     /// The cells arrive, each at its input.

@@ -1,6 +1,6 @@
 -- The least slack of a list, cell after cell: the least of the slacks so far and of one more is the lesser of the two.
-use Rattle.cq_engine.proofs.Terms.{rules, [], refl, arith, take_all, input, fabric_of, common_steps, ◌≡◌, ℕ, zero, suc, ◌+◌, ◌-◌, ◌<◌, List, ◌∷◌, ◌++◌, length, get_or, take, Option, Some, sym, ◌∙◌, min, slice_get, reduce, enumerate_from, get_or-map, length-map, take_more, get_or-enumerate_from, length-enumerate_from, same_Some, slice_get-get_or, slice_get_within, Queued, Fabric, cushion_of, either_by, slacks}
-use Rattle.cq_engine.proofs.measure.least_slack.Goals as goal
+use Rattle.cq_fabric.proofs.Terms.{rules, [], refl, arith, take_all, input, fabric_of, common_steps, ◌≡◌, ℕ, zero, suc, ◌+◌, ◌-◌, ◌<◌, List, ◌∷◌, ◌++◌, length, get_or, take, Option, Some, sym, ◌∙◌, min, slice_get, reduce, enumerate_from, get_or-map, length-map, take_more, get_or-enumerate_from, length-enumerate_from, same_Some, slice_get-get_or, slice_get_within, item_inside, seen_at, Queued, Fabric, cushion_of, either_by, slacks}
+use Rattle.cq_fabric.proofs.queues.Queues.least_slack.Goals as goal
 
 -- ## The least of some numbers
 
@@ -25,12 +25,6 @@ slack_there f i p c at =
     let here = same_Some c (get_or cells p c) (sym at ∙ slice_get-get_or cells p c inside) in
     search (arith, rules, length-enumerate_from 0 cells, get_or-enumerate_from 0 cells p (0, c) inside)
 
--- the cell at a place
-cell_there : (cells : List Queued) (p : ℕ) → p < length cells → (c : Queued) × (slice_get cells p ≡ Some c)
-cell_there [] p inside = absurd (omega arith)
-cell_there (c ∷ cells) zero inside = (c, refl)
-cell_there (c ∷ cells) (suc p) inside = cell_there cells p (omega arith)
-
 -- one cell more is looked at
 looked_at : (f : Fabric) (i p : ℕ) (c : Queued) (slack : ℕ) (least more : Option ℕ) →
     least ≡ reduce min (take p (slacks f i)) → slice_get (input f i) p ≡ Some c → slack ≡ cushion_of f c - p →
@@ -41,12 +35,24 @@ looked_at f i p c slack least more so_far at is told =
     let inside : p < length (slacks f i) = omega arith in
     grind (arith, common_steps, slack_there f i p c at, reduce_push, take_more (slacks f i) p 0 inside)
 
+-- the cell at a place
+cell_there : (cells : List Queued) (p : ℕ) → p < length cells → (c : Queued) × (slice_get cells p ≡ Some c)
+cell_there [] p inside = absurd (omega arith)
+cell_there (c ∷ cells) zero inside = (c, refl)
+cell_there (c ∷ cells) (suc p) inside = cell_there cells p (omega arith)
+
+pub index-requires : goal.index-requires
+index-requires c = search (arith, rules, item_inside)
+
+pub slack_at-requires-clause-told : goal.slack_at-requires-clause-told
+slack_at-requires-clause-told c = search (arith, rules, seen_at, item_inside)
+
 pub places-init : goal.places-init
 places-init c = refl
 
 pub places-preserved : goal.places-preserved
 places-preserved c =
-    let here = cell_there (input (fabric_of c.args.queues.now []) c.args.input) c.places.place (omega arith) in
+    let here = cell_there (input (fabric_of c.args.self.now []) c.args.input) c.places.place (omega arith) in
     search (arith, rules, looked_at, c.slack_at.ensures here.0 here.1)
 
 pub returns : goal.returns

@@ -1,6 +1,0 @@
-use Rattle.cq_engine.proofs.Terms.{◌≡◌, [], take, min, reduce, slacks, fabric_of}
-use Rattle.cq_engine.proofs.measure.least_slack.Given as goal
-
--- the cells before this place are looked at
-abbrev pub invariant-places : goal.invariant-places
-invariant-places l = l.least ≡ reduce min (take l.place (slacks (fabric_of l.queues []) l.input))
