@@ -269,7 +269,9 @@ fn say_state<S: Sink>(sink: &mut S, fault: StateFault) -> Result<(), WriteFault>
         StateFault::Long => say_line(sink, b"state: S4"),
         StateFault::Line { line } => say_number(sink, b"state: S1 at line ", line),
         StateFault::Shape => say_line(sink, b"state: S2"),
-        StateFault::Unsound { clause } => say_number(sink, b"state: S3 clause ", clause as u64),
+        StateFault::Unsound { clause } => {
+            say_number(sink, b"state: S3 clause ", u64::from(clause))
+        }
     }
 }
 
