@@ -1,9 +1,9 @@
 use Rattle.cq_pair.proofs.Terms.{rules, arith}
-use Rattle.cq_prefs.proofs.Offering.{offers_if, no_offers_if, offers-more, offers-same, few_offers}
+use Rattle.cq_prefs.proofs.Offering.{offers-more, offers-same, few_offers}
 use Rattle.cq_pair.proofs.free_inputs.FreeInputs.fill.Goals as goal
 
 pub push-requires : goal.push-requires
 push-requires c = search (arith, rules, few_offers)
 
 pub loop-input-preserved : goal.loop-input-preserved
-loop-input-preserved c = search (arith, rules, offers-more, offers_if, offers-same, no_offers_if)
+loop-input-preserved c = search (arith, rules, offers-more, offers-same)
