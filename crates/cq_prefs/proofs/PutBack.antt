@@ -1,7 +1,7 @@
 -- A number that leaves an order and goes in before the first that it comes before stands where it stood. Those ahead of
 -- it come before it, so it goes past them, and it comes before the one that followed it. So of an order it is enough to
 -- know what is left without the number, and whether the number is in it.
-use Rattle.cq_prefs.proofs.Terms.{rules, ◌≡◌, ◌≢◌, ℕ, suc, ◌<◌, ◌≤◌, eqb, not, cond, Bool, true, List, [], ◌∷◌, length, refl, sym, ap, ⊎_elim, arith, common_steps, insert, remove, IsDistinct, position_or_len, cond-true, cond-false, cases_Bool, cases_eq, eq-eqb, ne_eqb, put_by, place_in, IsListed, without, AllByRecursion, all_of_has, Has, most_ports}
+use Rattle.cq_prefs.proofs.Terms.{rules, ◌∙◌, ◌≡◌, ◌≢◌, ℕ, suc, ◌<◌, ◌≤◌, eqb, not, cond, Bool, true, List, [], ◌∷◌, length, refl, sym, ap, ⊎_elim, arith, common_steps, insert, remove, IsDistinct, position_or_len, cond-true, cond-false, cases_Bool, cases_eq, eq-eqb, ne_eqb, put_by, place_in, IsListed, without, AllByRecursion, all_of_has, Has, most_ports}
 use Rattle.cq_prefs.proofs.ByKey.{put_is, length-put}
 use Rattle.cq_prefs.proofs.Members.{Apart, among, listed, place_head, place_next, Rises}
 use Rattle.cq_prefs.proofs.OneOrder.{apart}
@@ -46,15 +46,22 @@ module _ (b : ℕ → ℕ → Bool) (one_way : (x y : ℕ) → b x y ≡ true �
       let rest = goes_back x ys a.1 r.1 in
       search (arith, rules, all_of_has, without_none, goes_first, cases_eq, cases_Bool, cond-false)
 
-  -- an order that is known but for x, which is in it
-  pub put_back :
-      (x at : ℕ) (left ys : List ℕ) → Apart ys → Rises b ys → Has ys x → left ≡ without x ys →
-      at ≡ position_or_len (b x) left → insert left at x ≡ ys
-  put_back x at left ys a r m e place = grind (arith, common_steps, put_is, goes_back)
+-- no number is twice, each comes before all that stand behind it, and no two come before each other
+pub record IsPut (b : ℕ → ℕ → Bool) (ys : List ℕ) : Type 0 where
+  pub apart : Apart ys
+  pub rises : Rises b ys
+  pub one_way : (x y : ℕ) → b x y ≡ true → b y x ≡ true → ⊥
 
-  pub room_back : (x : ℕ) (left ys : List ℕ) → Apart ys → Rises b ys → Has ys x → left ≡ without x ys →
-      length ys ≤ most_ports → length left < most_ports
-  room_back x left ys a r m e few = grind (arith, common_steps, goes_back, length-put)
+-- an order that is known but for x, which is in it or not
+module _ {b : ℕ → ℕ → Bool} {ys : List ℕ} (put : IsPut b ys) (x : ℕ) {left : List ℕ} (known : left ≡ without x ys) where
+  pub put_back : (at : ℕ) → Has ys x → at ≡ position_or_len (b x) left → insert left at x ≡ ys
+  put_back at m place = grind (arith, common_steps, put_is, goes_back b put.one_way)
+
+  pub room_back : Has ys x → length ys ≤ most_ports → length left < most_ports
+  room_back m few = grind (arith, common_steps, goes_back b put.one_way, length-put)
+
+  pub none_back : (Has ys x → ⊥) → left ≡ ys
+  none_back none = known ∙ without_none x ys none
 
 -- a port that does not stand in an order
 pub not_there : (x : ℕ) (xs : List ℕ) → (IsListed xs x → ⊥) → xs ≡ without x xs

@@ -8,17 +8,17 @@
 -- is renewed.
 -- One order that is known but for one port, which left it. Where there is no cell, what is left is the whole order.
 -- Where there is one, the port goes back in at the place that its first cell tells.
-use Rattle.cq_prefs.proofs.Terms.{common_steps, rules, ◌≡◌, ◌≢◌, ℕ, ◌+◌, ◌<◌, ◌≤◌, eqb, Bool, true, false, List, [], ◌∷◌, length, get_or, set, Option, Some, None, refl, sym, ap, ◌∙◌, subst, ⊎_elim, arith, not, replicate, ◌⊎◌, map, ltb, filter, All, insert, IsDistinct, range_with_len, position_or_len, cond-true, cases_Bool, cases_eq, cases_lt, eq-eqb, ne_eqb, eqb-true, length-map-range_with_len, get_or-map-range_with_len, length-map, length-set, get_or_past, get_or_default, get_or-set_same, get_or-set_other, ext_get_or, length-replicate, Queued, Waiting, cells_of, AreWaiting, list_of, output_order, input_order, orders_of, HasCellFor, FirstKeysDiffer, first_key, key_at, key_before, Orders, AreOffers, ports, outputs_of, inputs_of, Partners, partner_of, ArePairs, with_pair, without, is_partner, is_pair, AreSameWithout, first_for, place_for, Key, kept_has, Has, has_kept, most_ports}
+use Rattle.cq_prefs.proofs.Terms.{common_steps, rules, ◌≡◌, ◌≢◌, ℕ, ◌+◌, ◌<◌, ◌≤◌, eqb, Bool, true, false, List, [], ◌∷◌, length, get_or, set, Option, Some, None, refl, sym, ap, ◌∙◌, subst, ⊎_elim, arith, not, replicate, ◌⊎◌, map, filter, All, IsDistinct, range_with_len, cond-true, cases_Bool, cases_eq, cases_lt, eq-eqb, ne_eqb, eqb-true, length-map-range_with_len, get_or-map-range_with_len, length-map, length-set, get_or_past, get_or_default, get_or-set_same, get_or-set_other, ext_get_or, length-replicate, Queued, Waiting, cells_of, AreWaiting, list_of, output_order, input_order, orders_of, HasCellFor, FirstKeysDiffer, Orders, AreOffers, ports, outputs_of, inputs_of, Partners, partner_of, ArePairs, with_pair, without, is_partner, is_pair, AreSameWithout, first_for, kept_has, Has, has_kept, most_ports}
 use Rattle.std.proofs.lemmas.List.{get_or-map}
 use Rattle.std.proofs.lemmas.Simd.{map-map}
-use Rattle.cq_prefs.proofs.InputOrder.{OutputsInRange, outputs_at, inputs_at, are_offers, key_at-first, cell_of_key, is_input_order}
+use Rattle.cq_prefs.proofs.InputOrder.{OutputsInRange, outputs_at, inputs_at, are_offers, is_input_order}
 use Rattle.cq_prefs.proofs.Members.{among, listed}
 use Rattle.cq_prefs.proofs.OneOrder.{same_orders, apart, stands_ahead, ahead_one_way, outputs_rise, more_urgent, urgent_one_way, inputs_rise}
 use Rattle.cq_prefs.proofs.OutputOrder.{is_output_order, has_output}
 use Rattle.cq_prefs.proofs.Places.{output_in_range, outputs_at_most, inputs_at_most}
 use Rattle.cq_prefs.proofs.Pairs.{nobody, no_pairs, joined_pairs}
 use Rattle.cq_prefs.proofs.ByKey.{outputs_below}
-use Rattle.cq_prefs.proofs.PutBack.{put_back, room_back, without_none}
+use Rattle.cq_prefs.proofs.PutBack.{IsPut}
 
 -- ## The lists
 
@@ -29,14 +29,11 @@ cells_at lists i d l = get_or-map (λ (w : Waiting). w.cells) lists i d [] l
 pub in_range_of : (lists : List Waiting) (n : ℕ) → All (λ w. AreWaiting w.outputs w.cells) lists →
     All (λ w. w.outputs ≡ n) lists → length lists ≡ n → OutputsInRange (cells_of lists)
 in_range_of lists n waiting same size i j c found =
-    let long = length-map lists (λ (w : Waiting). w.cells) in
     let d : Waiting = record { cells = []; outputs = 0; spare = 0 } in
-    let w = get_or lists i d in
-    ⊎_elim (λ l.
-    let member = has_output w.cells j c (sym (ap (first_for j) (cells_at lists i d l)) ∙ found) in
-    search (arith, rules, outputs_below)) (λ past.
-    let none : list_of (cells_of lists) i ≡ [] = get_or_past (cells_of lists) i [] (omega arith) in
-    cc) (cases_lt i (length lists))
+    let here = cells_at lists i d in
+    let below = waiting i d in
+    let inside = cases_lt i (length lists) in
+    search (arith, rules, outputs_below, has_output, here, below, same i d, length-map, get_or_past, inside)
 
 -- ## The orders
 
@@ -120,8 +117,7 @@ pub all_renewed : (m : Partners) (n : ℕ) (o t : Orders) → Renewing m n o t �
 all_renewed m n o t r end =
     let nobody : (i : ℕ) → n ≤ i → partner_of m i ≡ None = λ i l. get_or_past m i None (omega arith) in
     same_orders o t (ext_get_or [] o.outputs t.outputs r.ports.0 (λ i _. r.outputs_done i (nobody i)))
-    (ext_get_or [] o.inputs t.inputs r.ports.1 (λ j _.
-    r.inputs_done j (λ i l h. let no : None ≡ Some j = sym (nobody i l) ∙ h in let P : ⊥ = cc in P)))
+    (ext_get_or [] o.inputs t.inputs r.ports.1 (search (rules, r.inputs_done, nobody)))
 
 -- where no input of a range has a partner, the range is renewed as it stands
 pub none_between : (m : Partners) (a b : ℕ) (o t : Orders) → Renewing m a o t → a ≤ b →
@@ -145,10 +141,8 @@ in_range_still m o lists pairs v size long same i j c found =
     let order = is_output_order (list_of lists i) in
     let member : Has (outputs_of t i) j = subst (λ (l : List ℕ). Has l j) (sym (outputs_at lists i))
     (among (output_order (list_of lists i)) j ((order.offered j).1 (c, found))) in
-    ⊎_elim (λ pair. let below = pairs.ports i j (partner_if (partner_of m i) j pair) in omega arith)
-    (λ no_pair.
-    let left : Has (filter (λ k. not (is_pair m i k)) (outputs_of t i)) j =
-    has_kept (λ k. not (is_pair m i k)) (outputs_of t i) j member (ap not no_pair) in
+    ⊎_elim (search (arith, rules, pairs.ports, partner_if)) (λ no_pair.
+    let left = has_kept (λ k. not (is_pair m i k)) (outputs_of t i) j member (ap not no_pair) in
     search (arith, rules, kept_has, same.outputs, output_in_range, listed))
     (cases_Bool (is_pair m i j))
 
@@ -248,52 +242,17 @@ module _ (n j : ℕ) (lists : List Waiting) (inside : n < length lists) (within 
       let next = next_renewed x row list at column e f in
       search (arith, rules, all_renewed m (length m), none_between m (n + 1) (length m), pair_else)
 
--- ## The order of an input
+-- ## The order of an input, and that of an output
 
-module _ (cells : List Queued) (j : ℕ) (left : List ℕ) (known : left ≡ without j (output_order cells)) where
-  output_there : HasCellFor cells j → Has (output_order cells) j
-  output_there has = among (output_order cells) j (((is_output_order cells).offered j).1 has)
+pub output_put : (cells : List Queued) → IsPut (stands_ahead cells) (output_order cells)
+output_put cells = search (rules, is_output_order cells, ahead_one_way, apart, outputs_rise)
 
-  pub output_gone : first_for j cells ≡ None → left ≡ output_order cells
-  output_gone none =
-      search (arith, rules, without_none j (output_order cells), is_output_order cells, listed (output_order cells) j)
+pub output_there : (cells : List Queued) (j : ℕ) → HasCellFor cells j → Has (output_order cells) j
+output_there cells j has = among (output_order cells) j (((is_output_order cells).offered j).1 has)
 
-  pub output_room : HasCellFor cells j → length (output_order cells) ≤ most_ports → length left < most_ports
-  output_room has =
-      let order = is_output_order cells in
-      search (arith, rules, room_back, ahead_one_way, apart, outputs_rise, output_there)
+pub output_gone : (cells : List Queued) (j : ℕ) → first_for j cells ≡ None → Has (output_order cells) j → ⊥
+output_gone cells j none m = search (arith, rules, is_output_order cells, listed)
 
-  pub output_back : (place at : ℕ) → HasCellFor cells j → place ≡ place_for j cells →
-      at ≡ position_or_len (λ k. ltb place (place_for k cells)) left → insert left at j ≡ output_order cells
-  output_back place at has is found =
-      let order = is_output_order cells in
-      let back = put_back (stands_ahead cells) (ahead_one_way cells) j at left in
-      search (arith, rules, back, apart, outputs_rise, output_there)
-
--- ## The order of an output
-
-module _ (lists : List (List Queued)) (differ : FirstKeysDiffer lists) (j i : ℕ) (left : List ℕ)
-    (known : left ≡ without i (input_order lists j)) where
-  input_there : (key : Key) → key_at (map (first_key j) lists) i ≡ Some key → Has (input_order lists j) i
-  input_there key has = among (input_order lists j) i (((is_input_order lists j differ).offered i).1
-      (cell_of_key (first_for j (list_of lists i)) key (sym (key_at-first j lists i) ∙ has)))
-
-  pub input_gone : key_at (map (first_key j) lists) i ≡ None → left ≡ input_order lists j
-  input_gone none =
-      let order = is_input_order lists j differ in
-      search (arith, rules, without_none i (input_order lists j), key_at-first j lists i, listed)
-
-  pub input_room : (key : Key) → key_at (map (first_key j) lists) i ≡ Some key →
-      length (input_order lists j) ≤ most_ports →
-      length left < most_ports
-  input_room key has =
-      let order = is_input_order lists j differ in
-      search (arith, rules, room_back, more_urgent, urgent_one_way, apart, inputs_rise, input_there)
-
-  pub input_back : (key : Key) (at : ℕ) → key_at (map (first_key j) lists) i ≡ Some key →
-      at ≡ position_or_len (λ k. key_before (Some key) (key_at (map (first_key j) lists) k)) left →
-      insert left at i ≡ input_order lists j
-  input_back key at has found =
-      let order = is_input_order lists j differ in
-      let back = put_back (more_urgent lists j) (urgent_one_way lists j) i at left in
-      search (arith, rules, back, apart, inputs_rise, input_there)
+pub input_put : (lists : List (List Queued)) (j : ℕ) → FirstKeysDiffer lists →
+    IsPut (more_urgent lists j) (input_order lists j)
+input_put lists j differ = search (rules, is_input_order, urgent_one_way lists j, apart, inputs_rise)

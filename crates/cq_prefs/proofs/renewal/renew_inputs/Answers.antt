@@ -1,6 +1,8 @@
-use Rattle.cq_prefs.proofs.Terms.{arith, rules, ◌∙◌, sym, ap, position_or_len, cells_of}
+use Rattle.cq_prefs.proofs.Terms.{arith, rules, ◌∙◌, sym, cells_of, map, first_key}
 use Rattle.cq_prefs.proofs.Halving.{left_parts}
-use Rattle.cq_prefs.proofs.Renewing.{input_gone, input_room, input_back}
+use Rattle.cq_prefs.proofs.InputOrder.{key_of_member, member_of_key}
+use Rattle.cq_prefs.proofs.PutBack.{none_back, put_back, room_back}
+use Rattle.cq_prefs.proofs.Renewing.{input_put}
 use Rattle.cq_prefs.proofs.renewal.renew_inputs.Goals as goal
 
 pub place_by_key-at-requires : goal.place_by_key-at-requires
@@ -8,14 +10,18 @@ place_by_key-at-requires c = left_parts _ c.in-Some.key c.args.input _
     (c.as_slice.ensures.ports ∙ c.leave.ensures ∙ c.requires.others)
 
 pub insert-requires-clause-room : goal.insert-requires-clause-room
-insert-requires-clause-room c = search (arith, rules, input_room)
+insert-requires-clause-room c =
+    let there = member_of_key (map (first_key c.args.output) (cells_of c.args.lists.now)) c.args.input c.in-Some.key in
+    room_back (input_put _ _ c.requires.keys) c.args.input (c.leave.ensures ∙ c.requires.others)
+    (there (sym c.key_of.ensures ∙ c.in-Some.is)) c.requires.few
 
 pub returns-in-Some : goal.returns-in-Some
 returns-in-Some c =
-    c.insert.ensures
-    ∙ input_back (cells_of c.args.lists.now) c.requires.keys c.args.output c.args.input c.leave.new.self
-    (c.leave.ensures ∙ c.requires.others) c.in-Some.key c.place_by_key-at.result (sym c.key_of.ensures ∙ c.in-Some.is)
-    (c.place_by_key-at.ensures.place ∙ ap (position_or_len _) c.as_slice.ensures.ports)
+    let back = put_back (input_put (cells_of c.args.lists.now) c.args.output c.requires.keys) c.args.input
+    (c.leave.ensures ∙ c.requires.others) in
+    search (arith, rules, back, member_of_key)
 
 pub returns-in_default : goal.returns-in_default
-returns-in_default c = search (arith, rules, input_gone)
+returns-in_default c =
+    none_back (input_put _ _ c.requires.keys) c.args.input (c.leave.ensures ∙ c.requires.others)
+    (search (arith, rules, key_of_member))

@@ -1,6 +1,7 @@
 use Rattle.cq_prefs.proofs.Terms.{arith, rules, ◌∙◌, sym, ap, position_or_len, taken_none}
 use Rattle.cq_prefs.proofs.Halving.{output_parts}
-use Rattle.cq_prefs.proofs.Renewing.{output_gone, output_room, output_back}
+use Rattle.cq_prefs.proofs.PutBack.{none_back, put_back, room_back}
+use Rattle.cq_prefs.proofs.Renewing.{output_gone, output_put, output_there}
 use Rattle.cq_prefs.proofs.ByKey.{found_place}
 use Rattle.cq_prefs.proofs.renewal.renew_outputs.Goals as goal
 
@@ -9,16 +10,21 @@ place_by_place-at-requires c = output_parts c.args.list.now.cells c.in-Some.plac
     (c.as_slice.ensures.ports ∙ c.leave.ensures ∙ c.requires.others)
 
 pub insert-requires-clause-room : goal.insert-requires-clause-room
-insert-requires-clause-room c = search (arith, rules, found_place, output_room)
+insert-requires-clause-room c =
+    let found = found_place c.args.output c.args.list.now.cells c.in-Some.place
+    (sym c.place_for.ensures ∙ c.in-Some.is) in
+    room_back (output_put _) c.args.output (c.leave.ensures ∙ c.requires.others) (output_there _ _ found.1)
+    c.requires.few
 
 pub returns-in-Some : goal.returns-in-Some
 returns-in-Some c =
     let found = found_place c.args.output c.args.list.now.cells c.in-Some.place
     (sym c.place_for.ensures ∙ c.in-Some.is) in
     c.insert.ensures
-    ∙ output_back c.args.list.now.cells c.args.output c.leave.new.self (c.leave.ensures ∙ c.requires.others)
-    c.in-Some.place c.place_by_place-at.result found.1 found.0
-    (c.place_by_place-at.ensures.place ∙ ap (position_or_len _) c.as_slice.ensures.ports)
+    ∙ put_back (output_put _) c.args.output (c.leave.ensures ∙ c.requires.others) _ (output_there _ _ found.1)
+    (rw found.0 at (c.place_by_place-at.ensures.place ∙ ap (position_or_len _) c.as_slice.ensures.ports))
 
 pub returns-in_default : goal.returns-in_default
-returns-in_default c = search (arith, rules, taken_none, output_gone)
+returns-in_default c =
+    none_back (output_put _) c.args.output (c.leave.ensures ∙ c.requires.others)
+    (search (arith, rules, taken_none, output_gone))
