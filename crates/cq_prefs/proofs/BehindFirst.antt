@@ -2,11 +2,11 @@
 -- below the cushion, since it is more urgent, ahead of the first one that is less urgent, and ahead of the end. So it
 -- stays the first, and the newcomer's output stands behind it in the list of all the cells' outputs, where a repeat
 -- is not seen.
-use Rattle.cq_prefs.proofs.Terms.{rules, ◌≡◌, ◌≢◌, ℕ, zero, suc, ◌<◌, cond, Bool, true, List, [], ◌∷◌, length, map, Option, Some, None, refl, sym, ap, ◌∙◌, ⊎_elim, arith, ◌&&◌, insert, option_map, cases_eq, eq-eqb, ne_eqb, length-map, ext_get_or, find_at, length-map-range_with_len, slice_get_within, same_Some, Queued, IsBefore, MoreUrgentAhead, is_for, first_for, place_for, place_of_later, place_of_arrival, with_arrival, key_laws, first_here, first_later, list_of, output_order, input_order, orders_of, first_key, key_before}
+use Rattle.cq_prefs.proofs.Terms.{common_steps, rules, ◌≡◌, ◌≢◌, ℕ, zero, suc, ◌<◌, cond, Bool, true, List, [], ◌∷◌, length, map, Option, Some, refl, sym, ap, ◌∙◌, ⊎_elim, arith, ◌&&◌, insert, option_map, cases_eq, eq-eqb, ne_eqb, length-map, ext_get_or, find_at, slice_get_within, same_Some, Queued, IsBefore, MoreUrgentAhead, is_for, first_for, place_for, place_of_later, place_of_arrival, with_arrival, key_laws, first_here, first_later, list_of, output_order, orders_of, first_key, key_before, places_by_key, range_with_len}
 use Rattle.cq_base.specs.Key.{is_before}
 use Rattle.cq_prefs.proofs.ByKey.{first_is_for}
 use Rattle.cq_prefs.proofs.Changes.{same_but_arrival}
-use Rattle.cq_prefs.proofs.InputOrder.{key_at-first, inputs_at, outputs_at}
+use Rattle.std.proofs.Math.ListN.{get_or-map}
 use Rattle.cq_prefs.proofs.OneOrder.{same_orders}
 
 -- ## Where it goes in
@@ -25,11 +25,9 @@ first_ahead c f (x ∷ xs) h before =
     let later : Queued → Bool = λ y. is_for c.cell.output y && is_before c.key y.key in
     let past = first_later later x xs in
     ⊎_elim (λ is.
-    let same = same_Some x f (sym (shown_here x xs c.cell.output is) ∙ h) in
-    let here = first_here (is_for c.cell.output) x xs (eq-eqb x.cell.output c.cell.output is) in
-    search (arith, rules, key_laws.one_way)) (λ other.
-    let here = first_later (is_for c.cell.output) x xs (ne_eqb x.cell.output c.cell.output other) in
-    search (arith, rules, shown_later x xs c.cell.output other, ne_eqb, first_ahead c f xs))
+    let here = first_here (is_for c.cell.output) x xs in
+    search (arith, rules, key_laws.one_way, same_Some, shown_here, here, eq-eqb)) (λ other.
+    search (arith, rules, first_later, shown_later, ne_eqb, first_ahead c f xs))
     (cases_eq x.cell.output c.cell.output)
 
 -- so the newcomer goes in behind it
@@ -60,8 +58,7 @@ module _ (c : Queued) where
 more_urgent_first : (c : Queued) (first : Option Queued) →
     key_before (option_map (λ (q : Queued). q.key) first) (Some c.key) ≡ true →
     (f : Queued) × (first ≡ Some f) × IsBefore f c
-more_urgent_first c None before = absurd (let P : ⊥ = cc in P)
-more_urgent_first c (Some f) before = (f, refl, before)
+more_urgent_first c first before = grind (arith, common_steps)
 
 -- a cell that comes while a more urgent one for its output waits
 pub comes_behind : (cushion : ℕ) (c : Queued) (xs : List Queued) →
@@ -74,20 +71,19 @@ comes_behind cushion c xs before ahead =
 
 -- ## All offers
 
+-- what is the same of each list is the same of all
+map_alike : {Y : Type 0} (f : List Queued → Y) (old new : List (List Queued)) → length new ≡ length old →
+    ((i : ℕ) → f (list_of new i) ≡ f (list_of old i)) → map f new ≡ map f old
+map_alike f old new long each = ext_get_or (f []) (map f new) (map f old)
+    (length-map new f ∙ long ∙ sym (length-map old f))
+    (λ i _. get_or-map f new i [] ∙ each i ∙ sym (get_or-map f old i []))
+
 -- lists that make the same offers one by one make the same ones together
 pub same_offers : (old new : List (List Queued)) → length new ≡ length old →
     ((i : ℕ) → OfferAlike (list_of old i) (list_of new i)) → orders_of new ≡ orders_of old
 same_offers old new long each =
-    let row = length-map old output_order in
-    let row' = length-map new output_order in
-    let column = length-map-range_with_len (input_order old) 0 (length old) in
-    let column' = length-map-range_with_len (input_order new) 0 (length new) in
-    let keys : (k : ℕ) → map (first_key k) new ≡ map (first_key k) old = λ k.
-    let size = length-map old (first_key k) in
-    let size' = length-map new (first_key k) in
-    ext_get_or None (map (first_key k) new) (map (first_key k) old) (omega arith) (λ i _. key_at-first k new i
-    ∙ ap (option_map (λ (q : Queued). q.key)) ((each i).firsts k) ∙ sym (key_at-first k old i)) in
-    same_orders (orders_of new) (orders_of old) (ext_get_or [] (orders_of new).outputs (orders_of old).outputs
-    (omega arith) (λ i _. outputs_at new i ∙ (each i).order ∙ sym (outputs_at old i))) (ext_get_or []
-    (orders_of new).inputs (orders_of old).inputs (omega arith) (λ j l.
-    let inside : j < length new = omega arith in search (arith, rules, inputs_at)))
+    let rows = map_alike output_order old new long (λ i. (each i).order) in
+    let keys = λ (k : ℕ). map_alike (first_key k) old new long
+    (λ i. ap (option_map (λ (q : Queued). q.key)) ((each i).firsts k)) in
+    same_orders (orders_of new) (orders_of old) rows
+    (λ t. map (λ k. places_by_key (keys k t)) (range_with_len 0 (long t)))
