@@ -1,5 +1,5 @@
 -- The matching is read off the words, one output after another.
-use Rattle.cq_ledger.proofs.Terms.{rules, ℕ, ◌≡◌, ◌≢◌, ◌+◌, ◌<◌, List, length, get_or, set, Option, Some, None, sym, ◌∙◌, ap, arith, add-one, common_steps, cases_eq, get_or-set_same, get_or-set_other, length-set, Orders, AreOffers, ports, outputs_of, inputs_of, Partners, partner_of, matching_of-is, State, position_held, Holds, holder, matching_of, IsSound, same_at_place, input_in_range, output_in_range, inputs_at_most, holder-holds, some, get_elem?, Shows}
+use Rattle.cq_ledger.proofs.Terms.{rules, ℕ, ◌≡◌, ◌≢◌, ◌+◌, ◌<◌, List, length, get_or, set, Some, None, sym, ◌∙◌, ap, arith, add-one, common_steps, cases_eq, get_or-set_same, get_or-set_other, length-set, Orders, AreOffers, ports, outputs_of, inputs_of, Partners, partner_of, matching_of-is, State, position_held, Holds, holder, matching_of, IsSound, same_at_place, input_in_range, output_in_range, inputs_at_most, holder-holds, none_unless, some, get_elem?, Shows}
 use Rattle.cq_ledger.proofs.Views.{at_known}
 
 -- the matching has the pairs of the outputs below n and of those whom they hold, and no others
@@ -7,9 +7,6 @@ pub record IsRead (o : Orders) (s : State) (m : Partners) (n : ℕ) : Type 0 whe
   pub size : length m ≡ ports o
   pub there : (k q : ℕ) → partner_of m k ≡ Some q → (q < n) × Holds o s q k
   pub back : (k q : ℕ) → q < n → Holds o s q k → partner_of m k ≡ Some q
-
-none_unless : (p : Option ℕ) → ((q : ℕ) → p ≡ Some q → ⊥) → p ≡ None
-none_unless p h = grind (arith, common_steps, h)
 
 -- an output that was not read is free
 pub output_free : (o : Orders) (s : State) (m : Partners) (n : ℕ) → IsRead o s m n → (x : ℕ) → partner_of m x ≢ Some n

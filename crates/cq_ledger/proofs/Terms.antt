@@ -3,7 +3,7 @@ pub use Rattle.cq_base.proofs.Library.{List, None, Option, Some, [], add-one, ap
 pub use Rattle.cq_base.specs.Limits.{most_ports}
 pub use Rattle.atomic_table.proofs.Lists.{at_longer, at_set, at_snoc, set_again, set_else, set_here}
 pub use Rattle.cq_prefs.proofs.Counts.{events-quiet, events_at_most, sum-places}
-pub use Rattle.cq_prefs.proofs.Holding.{held_once, holder-holds, keeper-from, keeper-holds, matching_of-is}
+pub use Rattle.cq_prefs.proofs.Holding.{held_once, holder-holds, keeper-from, keeper-holds, matching_of-is, none_unless}
 pub use Rattle.cq_prefs.proofs.Places.{get_or-place_in, input_in_range, inputs_at_most, output_in_range, outputs_at_most, place_in-le-length, same_at_place}
 pub use Rattle.cq_prefs.proofs.Steps.{IsStep, held-start, next_output-offered, next_place-start, sound-after, step}
 pub use Rattle.cq_prefs.specs.Orders.{AreOffers, IsOffered, Orders, inputs_of, outputs_of, place_of, ports, position_of}

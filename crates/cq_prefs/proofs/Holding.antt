@@ -43,7 +43,7 @@ keeper-from o v s w i j h =
     (and_from _ _ (eq-eqb _ _ h.0) (lt-ltb _ _ h.1))
     (λ k also. held_once o v s w i k j (holds-yes o s i k also) h)
 
-none_unless : (p : Option ℕ) → ((j : ℕ) → p ≡ Some j → ⊥) → p ≡ None
+pub none_unless : {X : Type 0} (p : Option X) → ((x : X) → p ≡ Some x → ⊥) → p ≡ None
 none_unless p h = grind (arith, common_steps, h)
 
 -- the partner of an input in the matching of the state
