@@ -1,7 +1,7 @@
 -- What an arrival and a transfer change in the offers. A cell that goes into a list, or the first cell for an output
 -- that leaves it, changes neither the first cells for the other outputs nor the order in which these stand. So with the
 -- pair of the input and of this output taken out, the orders are as before.
-use Rattle.cq_prefs.proofs.Terms.{common_steps, rules, ◌≡◌, ◌≢◌, ℕ, zero, suc, eqb, not, cond, Bool, true, false, List, [], ◌∷◌, length, map, Option, Some, None, refl, sym, ap, arith, ◌∙◌, filter, insert, cond_both, cond-false, cases_eq, cases_lt, eq-eqb, ne_eqb, eqb-true, not-true, length-map, Queued, is_for, first_for, without_first, list_of, FirstKeysDiffer, without_repeats, output_order, input_order, orders_of, first_key, key_at, Partners, partner_of, without, is_partner, is_pair, AreSameWithout, kept_has, has_kept, pairs_kept, pairs_kept_with, same_pairs, eqb-false}
+use Rattle.cq_prefs.proofs.Terms.{common_steps, rules, ◌≡◌, ◌≢◌, ℕ, zero, suc, eqb, not, cond, Bool, true, false, List, [], ◌∷◌, length, map, Option, Some, None, refl, sym, ap, arith, filter, insert, cond_both, cond-false, cases_eq, cases_lt, eq-eqb, ne_eqb, eqb-true, not-true, length-map, Queued, is_for, first_for, without_first, list_of, FirstKeysDiffer, without_repeats, output_order, input_order, orders_of, first_key, key_at, Partners, partner_of, without, is_partner, is_pair, AreSameWithout, kept_has, has_kept, pairs_kept, pairs_kept_with, same_pairs, eqb-false}
 use Rattle.cq_prefs.proofs.InputOrder.{key_at-first, is_input_order, outputs_at, inputs_at, no_inputs_past}
 use Rattle.cq_prefs.proofs.Members.{among, listed}
 use Rattle.cq_prefs.proofs.OneOrder.{more_urgent, urgent_one_way, inputs_rise}
@@ -63,10 +63,8 @@ same_list p old new e = grind (arith, common_steps)
 same_but : (p : Option ℕ) (old new : List Queued) (j : ℕ) → p ≡ Some j →
     ((k : ℕ) → k ≢ j → first_for k new ≡ first_for k old) → without j (outputs old) ≡ without j (outputs new) →
     IsSameBut p old new
-same_but p old new j partner firsts e = rw partner (record {
-  firsts = λ k apart. firsts k (eqb-false k j apart);
-  order = left_out j (outputs old) ∙ ap without_repeats e ∙ sym (left_out j (outputs new));
-})
+same_but p old new j partner firsts e = rw partner
+    (search (arith, rules, eqb-false, left_out j (outputs old), left_out j (outputs new)))
 
 pub same_but_arrival : (p : Option ℕ) (old new : List Queued) (place : ℕ) (c : Queued) → p ≡ Some c.cell.output →
     new ≡ insert old place c → IsSameBut p old new
@@ -84,11 +82,10 @@ same_but_taken p old new j partner e =
 module _ (m : Partners) (old new : List (List Queued)) (k : ℕ)
     (firsts : (i : ℕ) → is_pair m i k ≡ false → first_for k (list_of new i) ≡ first_for k (list_of old i))
     (old_differ : FirstKeysDiffer old) (new_differ : FirstKeysDiffer new) where
-  kept : ℕ → Bool
+  abbrev kept : ℕ → Bool
   kept i = not (is_pair m i k)
 
   no_pair : (i : ℕ) → kept i ≡ true → is_pair m i k ≡ false
-  unfolding kept
   no_pair i e = not-true _ e
 
   same_key : (i : ℕ) → kept i ≡ true → key_at (map (first_key k) old) i ≡ key_at (map (first_key k) new) i
@@ -96,10 +93,8 @@ module _ (m : Partners) (old new : List (List Queued)) (k : ℕ)
 
   pub same_inputs :
       filter (λ i. not (is_pair m i k)) (input_order old k) ≡ filter (λ i. not (is_pair m i k)) (input_order new k)
-  unfolding kept
   same_inputs =
-      let a = is_input_order old k old_differ in
-      let b = is_input_order new k new_differ in
+      let a = is_input_order old k old_differ in let b = is_input_order new k new_differ in
       same_pairs (λ i n. more_urgent old k i n ≡ true) (urgent_one_way old k)
       (filter kept (input_order old k)) (filter kept (input_order new k))
       (pairs_kept _ kept (input_order old k) (inputs_rise old k (input_order old k) a))

@@ -1,7 +1,7 @@
 -- How many proposals there are. Each event moves one input on by one place, so the events are the sum of the places. No
 -- order is longer than there are ports. Where nobody is free each input stands behind its partner, or at the end of its
 -- order, and that is what it spent.
-use Rattle.cq_prefs.proofs.Terms.{ℕ, ◌≡◌, ◌*◌, ◌≤◌, List, [], ◌∷◌, length, get_or, Option, Some, None, suc, refl, arith, rules, range_with_len, sum, map, sum_by-set, sum_by-le, get_or_default, ext_get_or, length-map-range_with_len, get_or-map-range_with_len, Orders, AreOffers, ports, outputs_of, partner_of, spent, proposals, State, next_place, start, IsQuiescent, IsSound, next_output, propose, matching_of, state_after, AreEvents, common_steps}
+use Rattle.cq_prefs.proofs.Terms.{ℕ, ◌≡◌, ◌*◌, ◌≤◌, List, [], ◌∷◌, length, get_or, Option, suc, refl, arith, rules, range_with_len, sum, map, sum_by-set, sum_by-le, get_or_default, ext_get_or, length-map-range_with_len, get_or-map-range_with_len, Orders, AreOffers, ports, outputs_of, partner_of, spent, proposals, State, next_place, start, IsQuiescent, IsSound, next_output, propose, matching_of, state_after, AreEvents, common_steps}
 use Rattle.cq_prefs.proofs.Places.{input_in_range, outputs_at_most}
 use Rattle.cq_prefs.proofs.Steps.{sound-after, next_place-start, step}
 use Rattle.cq_prefs.proofs.Quiet.{IsKept, kept}
@@ -33,8 +33,7 @@ events_at_most o v events es =
 
 spent-is : (o : Orders) (s : State) (i : ℕ) → IsKept o s i → (p : Option ℕ) → partner_of (matching_of o s) i ≡ p →
     next_place s i ≡ spent (outputs_of o i) p
-spent-is o s i k None e = k.unmatched e
-spent-is o s i k (Some j) e = k.matched j e
+spent-is o s i k p e = grind (arith, common_steps, k.matched)
 
 places-quiet : (o : Orders) → AreOffers o → (s : State) → IsSound o s → IsQuiescent o s →
     s.places ≡ map (λ i. spent (outputs_of o i) (partner_of (matching_of o s) i)) (range_with_len 0 (ports o))

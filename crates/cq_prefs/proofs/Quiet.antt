@@ -1,7 +1,7 @@
 -- A state in which nobody is free. Each input is held by the output that it asked last, or has asked its whole order.
 -- Each output that it has asked holds it or a better one, and it likes the others less than the one that holds it: so
 -- the matching is stable. In another stable matching it has no better partner, or it would have passed that one.
-use Rattle.cq_prefs.proofs.Terms.{ℕ, ◌≡◌, ◌≢◌, ◌⊎◌, inl, ◌+◌, ◌<◌, ◌≤◌, List, length, get_or, Option, Some, None, refl, arith, rules, ⊎_elim, cases_lt, Orders, AreOffers, outputs_of, inputs_of, place_of, position_of, IsOffered, Partners, partner_of, depth, IsMatching, IsStable, IsInputBest, HasBetterOutput, HasBetterInput, State, position_held, next_place, IsQuiescent, IsSound, matching_of, state_after, AreEvents, common_steps}
+use Rattle.cq_prefs.proofs.Terms.{ℕ, ◌≡◌, ◌≢◌, ◌⊎◌, inl, ◌+◌, ◌<◌, ◌≤◌, List, length, get_or, Option, Some, None, arith, rules, ⊎_elim, cases_lt, Orders, AreOffers, outputs_of, inputs_of, place_of, IsOffered, Partners, partner_of, depth, IsMatching, IsStable, IsInputBest, HasBetterOutput, HasBetterInput, State, position_held, next_place, IsQuiescent, IsSound, matching_of, state_after, AreEvents, common_steps}
 use Rattle.cq_prefs.proofs.Places.{position_of-at, place_in-le-length}
 use Rattle.cq_prefs.proofs.Steps.{sound-after}
 use Rattle.cq_prefs.proofs.Holding.{matching-of, partner-holds, partner-from}
@@ -21,11 +21,9 @@ settled : (o : Orders) → AreOffers o → (s : State) → IsSound o s → IsQui
     partner_of (matching_of o s) i ≢ Some j →
     HasBetterOutput o (matching_of o s) i j ⊎ HasBetterInput o (matching_of o s) i j
 settled o v s w q i j offered apart = ⊎_elim (λ (l : place_of o i j < next_place s i).
-    let below : position_held s j ≤ position_of o j i = w.asked_before i j l in
-    let shown = v.shown i j offered in
-    let differ : position_held s j ≢ position_of o j i = λ e. apart (partner-from o v s w i j (e, shown)) in
     let holder = get_or (inputs_of o j) (position_held s j) 0 in
-    search (arith, rules, position_of-at o v j (position_held s j), partner-from o v s w holder j))
+    let at = position_of-at o v j (position_held s j) in
+    search (arith, rules, w.asked_before, v.shown, partner-from o v s w i j, at, partner-from o v s w holder j))
     (λ (l : next_place s i ≤ place_of o i j).
     let is = kept o v s w q i in inl (grind (arith, common_steps, is.matched)))
     (cases_lt (place_of o i j) (next_place s i))
@@ -50,6 +48,5 @@ input_best-quiet o v events es q =
     let w = sound-after o v events es in
     record {
       stable = stable-quiet o v (state_after o events) w q;
-      best = λ n stable i. no_better o v (state_after o events) w q n stable.matching
-          (none_passed-after o v events es n stable) i _ _ refl refl;
+      best = search (arith, rules, no_better, none_passed-after);
     }
