@@ -1,7 +1,8 @@
 -- Each kind of step keeps the rule. A proposal is the event of the hand's input on the state that words and views show,
 -- and every other kind of step leaves that state as it is: the list of events behind the rule is the same, or longer by
 -- that input.
-use Rattle.cq_ledger.proofs.Terms.{arith, rules, ℕ, suc, ◌≡◌, ◌≢◌, ◌<◌, ◌≤◌, ◌++◌, List, [], ◌∷◌, get_or, set, Some, None, refl, sym, ◌∙◌, ap, set-get_or, set_again, Orders, AreOffers, ports, State, next_place, start, propose, outcome_of, state_after, IsFree, output_in_range, next_output-offered, View, IsLedger, core_state, first_words, blank, output_at, words_proposed, proposed, answer_of, words_claimed, claim_taken, claim_refused, joined, spent, Sits, IsClaimed, IsUnclaimed, most_ports}
+use Rattle.cq_ledger.proofs.Terms.{arith, rules, ℕ, ◌≡◌, ◌≢◌, ◌<◌, ◌≤◌, ◌++◌, List, [], ◌∷◌, get_or, set, Some, None, refl, sym, ◌∙◌, ap, set-get_or, set_again, Orders, AreOffers, ports, State, next_place, start, state_after, output_in_range, next_output-offered, View, IsLedger, core_state, first_words, blank, words_claimed, claim_taken, claim_refused, joined, spent, Sits, IsClaimed, IsUnclaimed, most_ports}
+use Rattle.cq_ledger.specs.Moments.{IsEvent}
 use Rattle.cq_ledger.proofs.Claiming.{claim-keeps, refuse-keeps}
 use Rattle.cq_ledger.proofs.CoreState.{core_state-is}
 use Rattle.cq_ledger.proofs.Proposing.{propose-keeps}
@@ -27,24 +28,17 @@ module _ (o : Orders) (words : List ℕ) (views : List View) (k : IsLedger o wor
       core_state o words' views' ≡ core_state o words views
   as_before words' views' k' same = core_state-is o words' views' k' ∙ same ∙ sym is
 
-  module _ (i p : ℕ) (hand : v.hand ≡ Some (i, p)) (same_offers : v.offers ≡ o) where
-    here : next_place s i ≡ p
-    here = k.hands.place id i p v at hand
-
-    pub proposal-free : IsFree o (core_state o words views) i
-    proposal-free = rw is (k.hands.free id i p v at hand)
-
-    pub proposal-shows : core_state o (words_proposed o words i p) (set views id
-        (proposed v i p (get_or words (suc (output_at o i p)) 0))) ≡ propose o (core_state o words views) i
-    unfolding propose-keeps
-    proposal-shows =
-        let k' = propose-keeps o words views k id i v at (rw here hand) same_offers in
-        rw (is, ← here) (core_state-is o _ _ k')
-
-    pub proposal-outcome : answer_of o i p (get_or words (suc (output_at o i p)) 0)
-        ≡ outcome_of o (core_state o words views) i
-    proposal-outcome =
-        let f = k.hands.free id i p v at hand in search (arith, rules, output_in_range, next_output-offered, is, here)
+  pub proposal-event : (i p : ℕ) → v.hand ≡ Some (i, p) → v.offers ≡ o → IsEvent o words views id i p v
+  unfolding propose-keeps
+  proposal-event i p hand same_offers =
+      let here : next_place s i ≡ p = k.hands.place id i p v at hand in
+      let f = k.hands.free id i p v at hand in
+      let k' = propose-keeps o words views k id i v at (rw here hand) same_offers in
+      record {
+        free = rw is f;
+        state = rw (is, ← here) (core_state-is o _ _ k');
+        outcome = search (arith, rules, output_in_range, next_output-offered, is, here);
+      }
 
   module _ (i : ℕ) where
     pub taken-shows : i < ports o → IsUnclaimed words i → v.hand ≡ None → v.offers ≡ o →
