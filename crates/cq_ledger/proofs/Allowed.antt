@@ -1,5 +1,5 @@
 -- The rule allows each kind of step, and what each tells its seat is so.
-use Rattle.cq_ledger.proofs.Terms.{rules, ℕ, suc, ◌≡◌, ◌≢◌, ◌⊎◌, ◌*◌, ◌<◌, ◌≤◌, ◌^◌, min, List, get_or, set, Some, None, refl, sym, ◌∙◌, arith, bit_or, ⊎_elim, common_steps, none, cases_eq, get_or-le-sum_by, set_here, set_else, set_again, Orders, ports, position_of, IsOffered, state_after, events_at_most, output_in_range, sound-after, next_output-offered, View, Seated, Ruled, IsWord, proposal, IsClaim, claim, look, IsLedger, output_at, words_proposed, proposed, words_claimed, claim_taken, claim_refused, blank, joined, spent, Sits, bit, claim_word}
+use Rattle.cq_ledger.proofs.Terms.{rules, ℕ, suc, ◌≡◌, ◌≢◌, ◌*◌, ◌<◌, ◌≤◌, ◌^◌, min, List, get_or, set, Some, None, sym, ◌∙◌, arith, bit_or, common_steps, none, cases_eq, get_or-le-sum_by, set_here, set_else, set_again, Orders, ports, position_of, IsOffered, state_after, events_at_most, output_in_range, sound-after, next_output-offered, View, Seated, Ruled, IsWord, proposal, IsClaim, claim, look, IsLedger, output_at, words_proposed, proposed, words_claimed, claim_taken, claim_refused, blank, joined, spent, Sits, bit, claim_word}
 use Rattle.atomic_table.specs.Table.{step, Allows, Splits, Joins}
 use Rattle.cq_ledger.proofs.Claiming.{claim-keeps}
 use Rattle.cq_ledger.proofs.Events.{refused-keeps}
@@ -20,10 +20,12 @@ proposal-keeps o words views k id i p v at h e =
     let here = k.hands.place id i p v at h in
     rw (← here) (propose-keeps o words views k id i v at (rw here h) e)
 
-pub proposal-allowed : (o : Orders) (slots id i p : ℕ) (me : Seated) → me.0.hand ≡ Some (i, p) → me.0.offers ≡ o →
-    Allows (Ruled o) slots id me (suc (output_at o i p)) (λ n. min n (position_of o (output_at o i p) i))
-    (proposal (step slots (suc (output_at o i p)) (position_of o (output_at o i p) i) 0 none) me)
-proposal-allowed o slots id i p me h e s k size at bound =
+-- at an output, a position and a word that were computed
+pub proposal-allowed : (key o : Orders) → key ≡ o → (slots id i p : ℕ) (me : Seated) → me.0.hand ≡ Some (i, p) →
+    me.0.offers ≡ o → (n q j : ℕ) → j ≡ output_at o i p → q ≡ position_of o j i → n ≡ suc j →
+    Allows (Ruled key) slots id me n (λ x. min x q) (proposal (step slots n q 0 none) me)
+proposal-allowed key o same slots id i p me h e n q j is_output is_position is_word =
+    rw (same, is_word, is_position, is_output) (λ s k size at bound.
     let found = get_or s.words (suc (output_at o i p)) 0 in
     let k' = proposal-keeps o s.words s.views k id i p me.0 at h e in
     let w = sound-after o k.offers k.events k.are_events in
@@ -38,15 +40,7 @@ proposal-allowed o slots id i p me h e s k size at bound =
     let word : IsWord o (output_at o i p) found = rw shown (w.held_in (output_at o i p) r) in
     let apart : found ≢ position_of o (output_at o i p) i =
     λ own. free.unheld (output_at o i p) (sym shown ∙ own, k.offers.shown i (output_at o i p) offered) in
-    search (arith, rules)
-
--- the same at an output, a position and a word that were computed
-pub proposal-allowed-at : (key offers : Orders) → key ≡ offers → (slots id i p : ℕ) (me : Seated) →
-    me.0.hand ≡ Some (i, p) → me.0.offers ≡ offers →
-    (n q j : ℕ) → j ≡ output_at offers i p → q ≡ position_of offers j i → n ≡ suc j →
-    Allows (Ruled key) slots id me n (λ x. min x q) (proposal (step slots n q 0 none) me)
-proposal-allowed-at key offers same slots id i p me h e n q j is_output is_position is_word =
-    rw (same, is_word, is_position, is_output) (proposal-allowed offers slots id i p me h e)
+    search (arith, rules))
 
 module _ (o : Orders) (slots id i : ℕ) (me : Seated) (r : i < ports o) (empty : me.0.hand ≡ None)
     (same_offers : me.0.offers ≡ o)
@@ -59,31 +53,14 @@ module _ (o : Orders) (slots id i : ℕ) (me : Seated) (r : i < ports o) (empty 
   May v = IsLedger o (words_claimed s.words i) (set s.views id v) × IsClaim me i found (v, me.1)
 
   may_take : bit found i ≡ 0 → May (claim_taken me.0 i)
-  may_take clear = (
-    claim-keeps o s.words s.views k id i me.0 at r clear empty same_offers,
-    record {
-      taken = λ e. refl;
-      refused = λ e. absurd (omega arith);
-      claimed = k.claims.claimed id i me.0 at;
-      seen = k.claims.seen id i me.0 at;
-    },
-  )
+  may_take clear = search (arith, rules, claim-keeps, k.claims.claimed, k.claims.seen)
 
   may_not : bit found i ≡ 1 → May (claim_refused me.0 i)
-  may_not is_set = (
-    refused-keeps o s.words s.views k id me.0 at i is_set same_offers,
-    record {
-      taken = λ e. absurd (omega arith);
-      refused = λ e. refl;
-      claimed = λ h. is_set;
-      seen = λ h. is_set;
-    },
-  )
+  may_not is_set = search (arith, rules, refused-keeps)
 
   -- by the bit that is found
   pub claim-may : (v : View) × May v
-  claim-may = ⊎_elim (λ clear. (claim_taken me.0 i, may_take clear))
-      (search (arith, rules, bit-lt, may_not)) (cases_eq (bit found i) 0)
+  claim-may = search (arith, rules, bit-lt, may_take, may_not, cases_eq)
 
 pub split-allowed : (o : Orders) (id : ℕ) (v : View) → Splits (Ruled o) id v v (blank v.offers)
 split-allowed o id v s k at = split-keeps o s.words s.views k id v at

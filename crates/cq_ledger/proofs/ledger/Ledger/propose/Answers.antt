@@ -1,5 +1,5 @@
 use Rattle.cq_ledger.proofs.Terms.{◌+◌, ◌∙◌, arith, add-one, ap, sym, output_in_range, answer_of, hand_after}
-use Rattle.cq_ledger.proofs.Allowed.{proposal-allowed-at}
+use Rattle.cq_ledger.proofs.Allowed.{proposal-allowed}
 use Rattle.cq_ledger.proofs.SeatFields.{matched, proposed-seat}
 use Rattle.cq_ledger.proofs.ledger.Ledger.propose.Goals as goal
 
@@ -16,7 +16,7 @@ fetch_min-found-requires c =
       (let r = output_in_range c.self.inside.offers c.asked-asked.ensures.offers c.in-Some.hand.0
           c.asked-asked.result.output c.asked-asked.ensures.offered in
           omega arith),
-      proposal-allowed-at c.self.inside.table.shared.key c.self.inside.offers c.self.invariant.0 _
+      proposal-allowed c.self.inside.table.shared.key c.self.inside.offers c.self.invariant.0 _
           c.seat.inside.seat.id c.in-Some.hand.0 c.in-Some.hand.1 c.seat.inside.seat.me
           (c.seat.invariant.in_hand ∙ c.in-Some.is) m.offers_are
           (c.asked-asked.result.output + 1) c.asked-asked.result.position c.asked-asked.result.output
