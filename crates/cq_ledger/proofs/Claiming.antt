@@ -118,6 +118,4 @@ module _ (o : Orders) (words : List ℕ) (views : List View) (k : IsLedger o wor
       (hands_from k.hands (λ b q p u a h. let x = had b u a in (x.0, x.1, x.2.1 ∙ h))
       (λ q. ⊎_elim (λ z. inl z) (λ x. inr (in_hand_still views id v refused_now at_id q (λ p h. h) x))))
       (let a = made_with views id v refused_now at_id in omega arith)
-      (λ b u a h. let x = had b u a in
-      let y = k.idle b x.0 x.1 (x.2.0 ∙ h) in
-      (sym x.2.1 ∙ y.0, sym x.2.2 ∙ y.1))
+      (search (rules, had, k.idle))

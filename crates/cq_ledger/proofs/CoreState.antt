@@ -7,8 +7,7 @@ use Rattle.cq_ledger.proofs.Views.{bit-lt}
 -- ## One hand
 
 in_hand-some : (h : Option (ℕ × ℕ)) (i p : ℕ) → place_in_hand h i ≡ Some p → h ≡ Some (i, p)
-in_hand-some None i p e = absurd (let P : ⊥ = cc in P)
-in_hand-some (Some x) i p e = grind (arith, common_steps, cond_both, eqb-true)
+in_hand-some h i p e = grind (arith, common_steps, cond_both, eqb-true)
 
 in_hand-has : (i p : ℕ) (h : Option (ℕ × ℕ)) → h ≡ Some (i, p) → place_in_hand h i ≡ Some p
 in_hand-has i p h e = grind (arith, common_steps, cond_both, true≢false, eq-eqb)

@@ -1,5 +1,5 @@
 -- A view in another one's place, and the rule where the words stay and the views alone change.
-use Rattle.cq_ledger.proofs.Terms.{rules, common_steps, subst, ℕ, ◌≡◌, ◌≢◌, ◌⊎◌, ⊎_elim, ◌+◌, ◌<◌, List, length, set, Some, None, IsFree, next_place, sym, ap, ◌∙◌, arith, sum_by, cases_eq, sum_by-set, at_set, set_here, set_else, Orders, State, state_after, View, AreClaims, AreHands, IsLedger, IsViewOf, Sits, HasClaimed, HasSeen, IsClaimed, IsClaimedByOne, IsInAHand, Waits, bit, claim_word}
+use Rattle.cq_ledger.proofs.Terms.{rules, common_steps, ℕ, ◌≡◌, ◌≢◌, ◌⊎◌, ⊎_elim, ◌+◌, ◌<◌, List, length, set, Some, None, IsFree, next_place, sym, ap, ◌∙◌, arith, sum_by, cases_eq, sum_by-set, at_set, set_here, set_else, Orders, State, state_after, View, AreClaims, AreHands, IsLedger, IsViewOf, Sits, HasClaimed, HasSeen, IsClaimed, IsClaimedByOne, IsInAHand, Waits, bit, claim_word}
 use Rattle.cq_ledger.proofs.Views.{at_known, same_at}
 
 -- what a hand with this input and place asks for
@@ -20,20 +20,17 @@ module _ (views : List View) (id : ℕ) (v now : View) (at_id : Sits views id v)
   -- who has claimed an input still has
   pub by_one_still : (q : ℕ) → (HasClaimed v q → HasClaimed now q) → IsClaimedByOne views q →
       IsClaimedByOne (set views id now) q
-  by_one_still q has x = ⊎_elim (λ y. (id, now, sits_now, has (rw y.1 x.3))) (λ y. (x.0, x.1, y.1, x.3))
-      (stays x.0 x.1 x.2)
+  by_one_still q has x = search (arith, rules, sits_now, stays)
 
   -- an input that is in a hand still is, if it was not in this one or stays in it
   pub in_hand_still : (q : ℕ) → ((p : ℕ) → v.hand ≡ Some (q, p) → now.hand ≡ Some (q, p)) → IsInAHand views q →
       IsInAHand (set views id now) q
-  in_hand_still q same x = ⊎_elim (λ y. (id, now, x.2, sits_now, same x.2 (ap (λ (u : View). u.hand) y.1 ∙ x.4)))
-      (λ y. (x.0, x.1, x.2, y.1, x.4)) (stays x.0 x.1 x.3)
+  in_hand_still q same x = search (arith, rules, sits_now, stays)
 
   -- what the view in a place has of the one that stood there before
   pub stood : (P : View → View → Type 0) → P v now → ((u : View) → P u u) → (b : ℕ) (u : View) →
       Sits (set views id now) b u → (x : View) × Sits views b x × P x u
-  stood P mine same b u a = ⊎_elim (λ y. (v, rw y.0 at_id, rw (← y.1) mine)) (λ y. (u, y.1, same u))
-      (at_set views id b now u a)
+  stood P mine same b u a = search (rules, at_set)
 
   -- the hands, by what is in this one, which no other has, and what in another
   pub hands_with : (o : Orders) (s t : State) (words words' : List ℕ) → AreHands o s words views →
@@ -90,8 +87,7 @@ hands_from k had waits =
 pub offers_with : (o : Orders) (views : List View) (id : ℕ) (now : View) →
     ((a : ℕ) (v : View) → Sits views a v → IsViewOf o v) → IsViewOf o now → (a : ℕ) (v : View) →
     Sits (set views id now) a v → IsViewOf o v
-offers_with o views id now same mine a v at =
-    ⊎_elim (λ x. subst (IsViewOf o) x.1 mine) (λ x. same a v x.1) (at_set views id a now v at)
+offers_with o views id now same mine a v at = search (rules, at_set, same)
 
 -- no event: what the views have claimed, seen, made and in their hands is dealt out anew
 unfoldable pub dealt : (o : Orders) (words : List ℕ) (views now : List View) (k : IsLedger o words views) →
@@ -99,18 +95,4 @@ unfoldable pub dealt : (o : Orders) (words : List ℕ) (views now : List View) (
     AreHands o (state_after o k.events) words now →
     sum_by (λ (y : View). y.made) now ≡ sum_by (λ (y : View). y.made) views →
     ((a : ℕ) (v : View) → Sits now a v → v.claims ≡ 0 → (v.hand ≡ None) × (v.made ≡ 0)) → IsLedger o words now
-dealt o words views now k same claims hands made idle =
-    record {
-      offers = k.offers;
-      few = k.few;
-      size = k.size;
-      same = same;
-      claims = claims;
-      events = k.events;
-      are_events = k.are_events;
-      positions = k.positions;
-      hands = hands;
-      unclaimed = k.unclaimed;
-      made = made ∙ k.made;
-      idle = idle;
-    }
+dealt o words views now k same claims hands made idle = search (rules)

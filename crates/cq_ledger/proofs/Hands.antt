@@ -1,6 +1,6 @@
 -- What one proposal does to the hand that made it, and to the free inputs: who is free after it is in the new hand, or
 -- was free before.
-use Rattle.cq_ledger.proofs.Terms.{common_steps, rules, ℕ, ◌≡◌, ◌≢◌, ◌⊎◌, ◌+◌, ◌<◌, ◌≤◌, length, get_or, Option, Some, None, refl, sym, ◌∙◌, ap, arith, ⊎_elim, cases_lt, cases_eq, ltb-true, lt-ltb, le-ltb, eq-eqb, ne_eqb, Orders, AreOffers, ports, outputs_of, inputs_of, place_of, position_of, IsStep, step, State, position_held, next_place, Holds, IsFree, next_output, propose, holder, IsSound, Outcome, hand_at, hand_after, output_at, answer_of, get_or-place_in, same_at_place, output_in_range, holder-holds, inputs_at_most}
+use Rattle.cq_ledger.proofs.Terms.{common_steps, rules, ℕ, ◌≡◌, ◌≢◌, ◌⊎◌, ◌+◌, ◌<◌, ◌≤◌, length, get_or, Option, Some, None, refl, ◌∙◌, ap, arith, ⊎_elim, cases_lt, cases_eq, ltb-true, lt-ltb, le-ltb, eq-eqb, ne_eqb, Orders, AreOffers, ports, outputs_of, inputs_of, place_of, position_of, IsStep, step, State, position_held, next_place, Holds, IsFree, next_output, propose, holder, IsSound, Outcome, hand_at, hand_after, output_at, answer_of, get_or-place_in, same_at_place, output_in_range, holder-holds, inputs_at_most}
 
 pub hand_at-shows : (o : Orders) (k p i q : ℕ) → hand_at o k p ≡ Some (i, q) →
     (k ≡ i) × (p ≡ q) × (p < length (outputs_of o k))
@@ -67,9 +67,7 @@ module _ (o : Orders) (v : AreOffers o) (s : State) (w : IsSound o s) (i : ℕ) 
   -- the one that is refused is free still
   pub refused_free : position_held s j ≤ position_of o j i → next_place s i + 1 < length (outputs_of o i) →
       (IsFree o t i) × (next_place t i ≡ next_place s i + 1)
-  refused_free l left =
-      let here = unheld_now i (λ q _ b. f.unheld q b) (λ here. grind (arith, f.unheld j, st.held_asked)) in
-      let a = st.moved_on in (record { left = omega arith; unheld = here }, a)
+  refused_free l left = search (arith, rules, unheld_now, f.unheld, st.held_asked, st.moved_on)
 
   -- what the new hand shows
   pub record IsHand (k q : ℕ) : Type 0 where
@@ -81,10 +79,8 @@ module _ (o : Orders) (v : AreOffers o) (s : State) (w : IsSound o s) (i : ℕ) 
   hand-shows k q h =
       ⊎_elim (λ l. ⊎_elim
       (λ e. absurd (let a = hand-held o i (next_place s i) (position_held s j) e in let P : ⊥ = cc in P))
-      (λ n. let h' = sym (hand-displaced o i (next_place s i) (position_held s j) n l) ∙ h in
-      let a = hand_at-shows o (holder o s j) (place_of o (holder o s j) j + 1) k q h' in
-      let hold = holder-holds o v s w j (output_in_range o v i j st.offered) n in
-      let d = displaced_free (holder o s j) hold l a.2 in search (rules))
+      (λ n. let hold = holder-holds o v s w j (output_in_range o v i j st.offered) n in
+      search (rules, hand-displaced, hand_at-shows, displaced_free (holder o s j) hold l))
       (cases_eq (position_held s j) (ports o)))
       (λ l. search (rules, hand-rejected, taken_if, hand_at-shows, refused_free))
       (cases_lt (position_of o j i) (position_held s j))

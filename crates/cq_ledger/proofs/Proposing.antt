@@ -108,6 +108,5 @@ module _ (o : Orders) (words : List ℕ) (views : List View) (k : IsLedger o wor
             let b : bit (claim_word words) i ≡ 0 = rw e at (was_set q 0 h) in omega arith))
             (λ n. st.others_stay q n ∙ k.unclaimed q (was_set q 0 h)) (cases_eq q i);
         made = let a = made_with views id v view_now at_id in let b = k.made in omega arith;
-        idle = λ b u a c. ⊎_elim (λ x. let same = x.1 in search (rules)) (λ x. k.idle b u x.1 c)
-            (at_set views id b view_now u a);
+        idle = search (rules, k.idle, at_set);
       }

@@ -28,8 +28,7 @@ start-keeps o v few =
       hands = grind (arith, common_steps, only o (blank o), bit-zero);
       unclaimed = λ q h. next_place-start o q;
       made = refl;
-      idle = λ b u a h. let e = only o (blank o) b u a in
-          (sym (ap (λ (y : View). y.hand) e), sym (ap (λ (y : View). y.made) e));
+      idle = grind (arith, common_steps, only o (blank o));
     }
 
 module _ (o : Orders) (words : List ℕ) (views : List View) (k : IsLedger o words views) (other : Orders)
@@ -55,9 +54,7 @@ module _ (o : Orders) (words : List ℕ) (views : List View) (k : IsLedger o wor
         claimed = λ b q u a h. k.claims.claimed b q u (with_claim b q u a h) h;
         by_one =
             λ q h. let x = k.claims.by_one q h in (x.0, x.1, at_longer views (blank other ∷ []) x.0 x.1 x.2, x.3);
-        apart =
-            λ b c q x y ax ay hx hy. k.claims.apart b c q x y (with_claim b q x ax hx) (with_claim c q y ay hy) hx
-            hy;
+        apart = search (rules, with_claim, k.claims.apart);
         in_range = k.claims.in_range;
         seen = λ b q u a h. k.claims.seen b q u (with_seen b q u a h) h;
       })
@@ -74,8 +71,7 @@ half_of o v (inr gone) = inr (ap (λ (y : View). blank y.offers) gone)
 -- a split: the old view stays
 pub split-keeps : (o : Orders) (words : List ℕ) (views : List View) (k : IsLedger o words views) (id : ℕ) (v : View) →
     Sits views id v → IsLedger o words (set views id v ++ blank v.offers ∷ [])
-split-keeps o words views k id v at =
-    rw (set_again views id v at) (longer-keeps o words views k v.offers (half_of o v (k.same id v at)))
+split-keeps o words views k id v at = search (rules, set_again, longer-keeps, half_of, k.same)
 
 module _ (o : Orders) (words : List ℕ) (views : List View) (k : IsLedger o words views) (id : ℕ) (v : View)
     (at_id : Sits views id v) (gone : ℕ) (w : View) (apart : gone ≢ id) (at_gone : Sits views gone w)
@@ -91,18 +87,16 @@ module _ (o : Orders) (words : List ℕ) (views : List View) (k : IsLedger o wor
       let n : id ≢ gone = λ e. apart (sym e) in set_else half gone id spent n ∙ sits_now views id v (joined v w) at_id
 
   -- where a view stood before, and where it is now
-  pub Home : ℕ → ℕ → Type 0
+  abbrev pub Home : ℕ → ℕ → Type 0
   Home b c = ((c ≡ gone) × (b ≡ id)) ⊎ ((c ≢ gone) × (b ≡ c))
 
   pub same_home : (b b' c : ℕ) → Home b c → Home b' c → b ≡ b'
-  unfolding Home
   same_home b b' c x y = grind (arith, common_steps)
 
-  pub Kind : ℕ → View → Type 0
+  abbrev pub Kind : ℕ → View → Type 0
   Kind b u = (spent ≡ u) ⊎ (((b ≡ id) × (joined v w ≡ u)) ⊎ ((b ≢ gone) × (b ≢ id) × Sits views b u))
 
   pub kind : (b : ℕ) (u : View) → Sits whole b u → Kind b u
-  unfolding Kind
   kind b u a = search (rules, at_set half gone b spent u a, at_set views id b (joined v w) u)
 
   pub record Claimed (b q : ℕ) : Type 0 where
@@ -113,12 +107,10 @@ module _ (o : Orders) (words : List ℕ) (views : List View) (k : IsLedger o wor
     pub home : Home b at
 
   pub claimed_by : (b q : ℕ) (u : View) → Kind b u → bit u.claims q ≡ 1 → Claimed b q
-  unfolding Kind Home
   claimed_by b q u m h = ⊎_elim (λ e. grind (arith, common_steps, bit-zero q)) (⊎_elim
       (search (arith, rules, bit-either)) (search (arith, rules))) m
 
   pub idle_now : (b : ℕ) (u : View) → Kind b u → u.claims ≡ 0 → (u.hand ≡ None) × (u.made ≡ 0)
-  unfolding Kind
   idle_now b u m h =
       let mine = k.idle id v at_id in search (arith, rules, neither)
 
@@ -136,7 +128,6 @@ module _ (o : Orders) (words : List ℕ) (views : List View) (k : IsLedger o wor
       let b = made_with half gone w spent (set_else views id gone (joined v w) apart ∙ at_gone) in omega arith
 
   unfoldable pub join-keeps : IsLedger o words whole
-  unfolding Kind
   join-keeps =
       dealt o words views whole k
       (offers_with o half gone spent (offers_with o views id (joined v w) k.same (inl same_offers)) (inr refl))

@@ -1,4 +1,4 @@
-use Rattle.cq_ledger.proofs.Terms.{rules, ◌≡◌, ◌∙◌, ap, arith, sym, ports, claim_taken, hand_at, Seated}
+use Rattle.cq_ledger.proofs.Terms.{rules, ◌≡◌, ◌∙◌, ap, arith, sym, ports, claim_taken, hand_at}
 use Rattle.cq_ledger.proofs.Allowed.{claim-allowed-at}
 use Rattle.cq_ledger.proofs.SeatFields.{matched, taken-seat}
 use Rattle.cq_ledger.proofs.Views.{bit-lt}
@@ -29,13 +29,7 @@ invariant_of-seat-2 c =
     (c.hand_from-seat-inside.ensures ∙ ap (λ o. hand_at o c.args.input 0) (sym m.offers_are))
 
 pub returns-clause-seat : goal.returns-clause-seat
-returns-clause-seat c =
-    let m = matched c.args.self.now c.args.seat.now _ _ _ _ c.self.view_is c.seat.view_is c.requires.seat in
-    record {
-      table = c.fetch_or-found.ensures.0 ∙ m.table_is ∙ m.table_seen;
-      offers = ap (λ (x : Seated). x.0.offers) (taken (goal.at.returns-clause-seat c).Else-has_bit)
-          ∙ m.offers_are ∙ m.offers_seen;
-    }
+returns-clause-seat c = let is = taken (goal.at.returns-clause-seat c).Else-has_bit in search (arith, rules, matched)
 
 pub returns-clause-taken : goal.returns-clause-taken
 returns-clause-taken c = search (arith, rules, taken)
