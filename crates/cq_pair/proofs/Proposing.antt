@@ -4,7 +4,7 @@
 -- The steps of one proposal put together: the input goes on to its next place, whom the output held is parted, and
 -- the output takes the input. What is then shown is the state after the event, with its pairs, its free inputs and
 -- its count.
-use Rattle.cq_pair.proofs.Terms.{common_steps, rules, ℕ, ◌≡◌, ◌≢◌, ◌+◌, ◌<◌, ◌≤◌, ◌∷◌, mul-le-mul, List, length, get_or, set, Option, Some, None, refl, sym, ◌∙◌, ap, arith, cases_lt, lt-ltb, eq-eqb, ne_eqb, get_or-set_other, length-set, Orders, ports, inputs_of, position_of, partner_of, IsFreeInput, State, position_held, Holds, IsSound, next_output, holder, propose, answer_of, outcome_of, matching_of, input_in_range, inputs_at_most, events_at_most, holder-holds, matching-of, partner-free, partner-from, Progress, IsReached, IsAsk, MovesOn, Parts, CanTake, Takes, most_ports, same_Some, held_once, cases_eq, get_or-set_same, set-get_or, AreOffers, Partners, next_place, IsFree, same_at_place, output_in_range, IsStep, step, sound-step, matching_of-is, partner-holds}
+use Rattle.cq_pair.proofs.Terms.{common_steps, rules, ℕ, ◌≡◌, ◌≢◌, ◌+◌, ◌<◌, ◌≤◌, ◌∷◌, mul-le-mul, List, length, get_or, set, Option, Some, None, refl, sym, ◌∙◌, arith, cases_lt, lt-ltb, eq-eqb, ne_eqb, get_or-set_other, length-set, Orders, ports, inputs_of, position_of, partner_of, IsFreeInput, State, position_held, Holds, IsSound, next_output, holder, propose, answer_of, outcome_of, matching_of, input_in_range, inputs_at_most, events_at_most, holder-holds, matching-of, partner-free, partner-from, Progress, IsReached, IsAsk, MovesOn, Parts, CanTake, Takes, most_ports, same_Some, held_once, cases_eq, get_or-set_same, set-get_or, AreOffers, Partners, next_place, IsFree, same_at_place, output_in_range, IsStep, step, sound-step, matching_of-is, partner-holds}
 use Rattle.cq_prefs.specs.declared.outcome.Outcome.{Outcome}
 use Rattle.cq_prefs.specs.declared.outcome.Outcome.TheVariants.{Held, Displaced, Rejected}
 use Rattle.cq_pair.proofs.Reached.{sound-reached, free_known, asked_known, asked_offered, reached-step}
@@ -57,8 +57,7 @@ module _ (o : Orders) (v : AreOffers o) (s : State) (w : IsSound o s) where
         let same : (q : ℕ) → position_held (propose o s i) q ≡ position_held s q = λ q.
         let asked = st.held_asked in let other = st.held_other q in grind (arith, cases_eq) in
         matching_of-is o v (propose o s i) (sound-step o v s w i f) (matching_of o s) (matching-of o v s).size
-        (λ k q e. let a = partner-holds o v s k q e in (same q ∙ a.0, a.1))
-        (λ k q a. partner-from o v s w k q (sym (same q) ∙ a.0, a.1))
+        (search (rules, same, partner-holds)) (search (rules, same, partner-from))
 
     module _ (less : position_of o (next_output o s i) i < position_held s (next_output o s i)) where
       -- a matching without the input that the asked output held, with the one that proposed
@@ -73,23 +72,13 @@ module _ (o : Orders) (v : AreOffers o) (s : State) (w : IsSound o s) where
           let here = get_or-set_same m i (Some j) None (omega arith) in
           let shown = v.shown i j st.offered in
           matching_of-is o v (propose o s i) (sound-step o v s w i f) (set m i (Some j)) (length-set m i _ ∙ size)
-          (λ k q e.
-          let else = get_or-set_other m i k (Some j) None in
-          let other = st.held_other q in
-          grind (arith, common_steps, cases_eq k i, there k q, same_Some))
-          (λ k q a.
-          let else = get_or-set_other m i k (Some j) None in
-          let other = st.held_other q in search (arith, rules, same_at_place, cases_eq))
+          (search (arith, rules, get_or-set_other, st.held_other, there, same_Some, cases_eq))
+          (search (arith, rules, get_or-set_other, st.held_other, same_at_place, cases_eq))
 
       pub matching-empty : position_held s (next_output o s i) ≡ ports o →
           set (matching_of o s) i (Some (next_output o s i)) ≡ matching_of o (propose o s i)
       matching-empty e = matching-taken (matching_of o s) (matching-of o v s).size
-          (λ k q a. (
-            partner-holds o v s k q a,
-            λ same. unheld-empty (next_output o s i) e k
-                (a ∙ ap (λ n. Some n) same),
-          ))
-          (λ k q a n. partner-from o v s w k q a)
+          (search (rules, partner-holds, unheld-empty)) (search (rules, partner-from))
 
       pub matching-displaced : position_held s (next_output o s i) ≢ ports o →
           set (set (matching_of o s) (holder o s (next_output o s i)) None) i (Some (next_output o s i))
@@ -100,9 +89,8 @@ module _ (o : Orders) (v : AreOffers o) (s : State) (w : IsSound o s) where
           let k' : ℕ = holder o s j in
           let held = holder-holds o v s w j r n in
           matching-taken (set (matching_of o s) k' None) (length-set (matching_of o s) _ _ ∙ (matching-of o v s).size)
-          (others j r n) (λ k q a m.
-          let apart : k ≢ k' = λ e. m (held_once o v s w k' q j (rw e at a) held) in
-          get_or-set_other (matching_of o s) k' k None None apart ∙ partner-from o v s w k q a)
+          (others j r n)
+          (search (arith, rules, held_once, get_or-set_other, partner-from))
 
 -- ## The steps put together
 
@@ -215,5 +203,4 @@ module _ {o : Orders} {c : Progress} {i j h : ℕ} {ahead : Option ℕ} (a : IsA
 
   pub held_inside : h ≢ ports o → h < length (inputs_of o j)
   held_inside n =
-      let hold = holder-holds o a.offers c.state sound (next_output o c.state i) next_known (λ e. n (a.held ∙ e)) in
-      search (arith, rules)
+      search (arith, rules, holder-holds, sound, next_known)

@@ -1,7 +1,7 @@
 -- What is reached by proposals. At the beginning the inputs that wait are those with an offer. Whoever stands in the
 -- list of free inputs is free, and where the list is empty nobody is, so what is held is the matching best for the
 -- inputs.
-use Rattle.cq_pair.proofs.Terms.{rules, ℕ, ◌≡◌, ◌+◌, ◌*◌, ◌<◌, ◌≤◌, List, [], ◌∷◌, Option, None, length, get_or, replicate, sym, ◌∙◌, ap, arith, subst, common_steps, range_with_len, length-replicate, filter_passes, Orders, AreOffers, ports, IsOffered, IsInputBest, proposals, State, start, IsFree, IsQuiescent, IsSound, is_free, free_inputs, next_output, propose, matching_of, input_in_range, output_in_range, inputs_at_most, sound-start, sound-after, held-start, next_output-offered, nobody, free_if, free_only_if, matching-of, matching_of-is, events_at_most, events-quiet, Progress, IsReached, ShowsWaiting, waiting_inputs, has_number, has_kept, Has}
+use Rattle.cq_pair.proofs.Terms.{rules, ℕ, ◌≡◌, ◌+◌, ◌*◌, ◌<◌, ◌≤◌, List, [], ◌∷◌, Option, None, length, get_or, replicate, sym, ◌∙◌, ap, arith, subst, common_steps, range_with_len, length-replicate, filter_passes, Orders, AreOffers, ports, IsOffered, IsInputBest, proposals, State, start, IsFree, IsQuiescent, IsSound, is_free, free_inputs, next_output, propose, matching_of, input_in_range, output_in_range, inputs_at_most, sound-start, sound-after, held-start, next_output-offered, nobody, free_if, free_only_if, matching-of, matching_of-is, events_at_most, events-quiet, Progress, IsReached, ShowsWaiting, has_number, has_kept, Has}
 use Rattle.cq_prefs.proofs.Quiet.{input_best-quiet}
 use Rattle.cq_pair.proofs.Waiting.{waiting-free}
 
@@ -71,14 +71,12 @@ pub reached-step : (o : Orders) → AreOffers o → (c d : Progress) (i : ℕ) �
     d.state ≡ propose o c.state i →
     d.matching ≡ matching_of o (propose o c.state i) → ShowsWaiting o d → d.made ≡ c.made + 1 → IsReached o d
 reached-step o v c d i r f state matching waiting made =
-    let F : State → Type 0 = λ s. IsFree o s i in
-    let held = matching ∙ ap (matching_of o) (sym state) in
     record {
       events = i ∷ r.events;
-      are_events = (r.are_events, subst F r.state f);
-      state = state ∙ ap (λ t. propose o t i) r.state;
-      matching = held;
-      free = waiting ∙ ap (waiting_inputs o d.state.places) held ∙ waiting-free o v d.state;
+      are_events = search (rules);
+      state = search (rules);
+      matching = search (rules);
+      free = search (rules, waiting-free);
       made = omega arith;
     }
 

@@ -35,17 +35,15 @@ put_back p q i out back same a (suc n) l u =
 
 -- the numbers of a range that pass a test rise
 kept_rise : (p : ℕ → Bool) (n : ℕ) → AllPairs (λ x y. x < y) (filter p (range_with_len 0 n))
-kept_rise p n = AllPairs-from_increasing (filter p (range_with_len 0 n))
-    (IsStrictlyIncreasing-filter p (range_with_len 0 n) (λ k inside.
-    let long = length-range_with_len 0 n in omega (arith, get_or-range_with_len)))
+kept_rise p n = search
+    (arith, rules, AllPairs-from_increasing, IsStrictlyIncreasing-filter, length-range_with_len, get_or-range_with_len)
 
 -- ## Who waits
 
 module _ (o : Orders) (places : List ℕ) (m : Partners) where
   -- no input waits twice
   pub waiting_differ : IsDistinct eqb (waiting_inputs o places m)
-  waiting_differ = IsDistinct-from_apart eqb _ (λ i j d l inside. ne_eqb _ _ (λ same.
-      let less = kept_rise (is_waiting o places m) (ports o) i j d l inside in omega arith))
+  waiting_differ = search (arith, rules, IsDistinct-from_apart, ne_eqb, kept_rise)
 
   -- they wait in order of number
   pub waiting_rise : IsNonDecreasingBy (λ k. k) (waiting_inputs o places m)
@@ -70,9 +68,7 @@ module _ (o : Orders) (places : List ℕ) (m : Partners) (i : ℕ) where
   -- an input goes on to place x and has an output left, or has none
   pub moved_still : (x : ℕ) → i < length places → get_or places i 0 < length (outputs_of o i) →
       x < length (outputs_of o i) → waiting_inputs o places m ≡ waiting_inputs o (set places i x) m
-  moved_still x inside before now =
-      let here : (k : ℕ) → k ≡ i → is_waiting o places m k ≡ is_waiting o (set places i x) m k = λ k is. search
-      (arith, rules, lt-ltb, get_or-set_same) in search (arith, rules, filter_agree, waits-place, cases_eq)
+  moved_still x inside before now = search (arith, rules, filter_agree, waits-place, cases_eq, lt-ltb, get_or-set_same)
 
   pub moved_out : (x : ℕ) → i < length places → length (outputs_of o i) ≤ x →
       without i (waiting_inputs o places m) ≡ waiting_inputs o (set places i x) m

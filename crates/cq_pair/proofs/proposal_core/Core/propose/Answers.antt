@@ -9,9 +9,7 @@ move_on-requires c =
     search (arith, rules, input_known, places_known, few_made, waiting-reached)
 
 pub returns-in_default : goal.returns-in_default
-returns-in_default c =
-    let r = rejected c.asked_by-asked.ensures.ask c.move_on.ensures c.in_default.is in
-    record { reached = r.reached; event = r.event; made = r.made; outcome = r.answer }
+returns-in_default c = let r = rejected c.asked_by-asked.ensures.ask c.move_on.ensures c.in_default.is in search (rules)
 
 -- ## The output held nobody
 
@@ -22,8 +20,7 @@ take-requires c =
 pub returns-then-asked-ports : goal.returns-then-asked-ports
 returns-then-asked-ports c =
     let r = holding c.asked_by-asked.ensures.ask c.move_on.ensures c.in-Some.is
-    (c.if-asked-ports.true ∙ c.ports.ensures.value) c.take.ensures in
-    record { reached = r.reached; event = r.event; made = r.made; outcome = r.answer }
+    (c.if-asked-ports.true ∙ c.ports.ensures.value) c.take.ensures in search (rules)
 
 -- ## The output held another input
 
@@ -40,14 +37,7 @@ pub part-requires : goal.part-requires
 part-requires c =
     let can = can_part c.asked_by-asked.ensures.ask c.move_on.ensures c.inputs_of.ensures refl c.ports.ensures.value
     c.if-asked-ports.false in
-    record {
-      input = (let known = can.0 in let places = can.1 in omega arith);
-      known = can.0;
-      few = c.asked_by-asked.ensures.few;
-      matching = can.2;
-      partner = can.3;
-      waiting = c.move_on.ensures.waiting;
-    }
+    search (arith, rules)
 
 pub take-requires-2 : goal.take-requires-2
 take-requires-2 c = can_take_then c.asked_by-asked.ensures.ask c.move_on.ensures c.inputs_of.ensures refl
@@ -56,5 +46,4 @@ take-requires-2 c = can_take_then c.asked_by-asked.ensures.ask c.move_on.ensures
 pub returns : goal.returns
 returns c =
     let r = displaced c.asked_by-asked.ensures.ask c.move_on.ensures c.inputs_of.ensures refl c.ports.ensures.value
-    c.if-asked-ports.false c.part.ensures c.in-Some.is c.take-2.ensures in
-    record { reached = r.reached; event = r.event; made = r.made; outcome = r.answer }
+    c.if-asked-ports.false c.part.ensures c.in-Some.is c.take-2.ensures in search (rules)
