@@ -1,6 +1,6 @@
 -- How many cells each output holds, counted in one walk over the lists: at first those of the buffers, and of each
 -- list those for the output more.
-use Rattle.cq_engine.proofs.Terms.{common_steps, rules, ◌≡◌, ℕ, ◌+◌, ◌<◌, ◌≤◌, List, [], ◌∷◌, ◌++◌, length, map, get_or, set, take, sym, ◌∙◌, subst, arith, All, filter, cases_eq, cond_both, eq-eqb, ne_eqb, ext_get_or, get_or-map, get_or-set_other, get_or-set_same, length-map, take_all, take_more, slice_get-get_or, Queued, is_for, list_of, Fabric, IsAmong, buffer, input, fabric_held, waiting_for, held_at, held_long, has_there}
+use Rattle.cq_engine.proofs.Terms.{common_steps, rules, ◌≡◌, ℕ, ◌+◌, ◌<◌, ◌≤◌, List, [], ◌∷◌, ◌++◌, length, map, get_or, set, take, sym, ◌∙◌, arith, All, filter, cases_eq, cond_both, eq-eqb, ne_eqb, ext_get_or, get_or-map, get_or-set_other, get_or-set_same, length-map, take_all, take_more, slice_get-get_or, Queued, is_for, list_of, Fabric, IsAmong, buffer, input, fabric_held, waiting_for, held_at, held_long, has_there}
 use Rattle.cq_laws.proofs.Cushions.{bit, bit_false, bit_true}
 
 -- how many of the cells are for output j
@@ -54,9 +54,8 @@ module _ (f : Fabric) (i : ℕ) (held : List ℕ) (so_far : HeldSoFar f i held) 
   pub cells_inside : ((k : ℕ) (c : Queued) → IsAmong c (input f k) → c.cell.output < length f.inputs) →
       All (λ c. c.cell.output < length held) cells
   cells_inside outputs k d within =
-      let among : IsAmong (get_or cells k d) (input f i) =
-      subst (IsAmong (get_or cells k d)) here (has_there cells k (get_or cells k d) (slice_get-get_or cells k d within))
-      in search (arith, rules)
+      let there = has_there cells k (get_or cells k d) (slice_get-get_or cells k d within) in
+      search (arith, rules, outputs)
 
   pub held_next : (new : List ℕ) → length new ≡ length held →
       ((j : ℕ) → j < length held → get_or new j 0 ≡ get_or held j 0 + number_for j cells) → HeldSoFar f (i + 1) new

@@ -5,7 +5,7 @@
 -- transfer empties the lists and puts each cell alone into the buffer of its output, which sends it. After that nothing
 -- waits and nothing is offered, and the second matching is empty. The lists and buffers in between are made here for
 -- the proof alone.
-use Rattle.cq_engine.proofs.Terms.{common_steps, rules, ◌≡◌, ℕ, zero, suc, ◌+◌, ◌-◌, ◌*◌, ◌<◌, ◌≤◌, true, List, [], ◌∷◌, ◌++◌, length, map, drop, get_or, replicate, Option, Some, None, refl, sym, ap, ◌∙◌, ⊎_elim, arith, All, IfSome, min, slice_get, cons_option, enumerate_from, filter_map, range_with_len, reduce, sum_by, option_map, option_to_list, cases_lt, cond_both, eq-eqb, row_fits, same_Some, append-nil, ext_get_or, get_or_past, length-map, get_or-map-range_with_len, length-map-range_with_len, sum-map, sum_by-cons, Cell, Queued, Transfer, Figures, InputFigures, cushion, first_for, is_for, Machine, all_told, fronts, rests, LimiterView, list_of, orders_of, output_order, Moves, list_taken, noted, transfers_of, outputs_of, ports, IsListed, Partners, partner_of, partner_place, depth, spent, proposals, IsFreeOutput, IsInputBest, IsStable, Fabric, cushion_of, either_by, slacks, came_to, list_arrived, HoldsFabric, Queues, fabric_of, AreRanked, BuffersHaveRoom, HaveArrived, HaveJudged, HaveSent, ListsHaveRoom, fits_lists, held_before, keyed, IsInStep, IsSeen, arriving_slack, input_counted, slack_seen, GoStraight, crossing, crossings, input_passed, Look, among, place_head, kept_more}
+use Rattle.cq_engine.proofs.Terms.{common_steps, rules, ◌≡◌, ℕ, ◌+◌, ◌-◌, ◌*◌, ◌<◌, ◌≤◌, true, List, [], ◌∷◌, ◌++◌, length, map, drop, get_or, replicate, Option, Some, None, refl, sym, ap, ◌∙◌, ⊎_elim, arith, All, IfSome, min, enumerate_from, filter_map, range_with_len, reduce, sum_by, option_map, option_to_list, cases_lt, cond_both, eq-eqb, row_fits, same_Some, append-nil, ext_get_or, get_or_past, length-map, get_or-map-range_with_len, length-map-range_with_len, sum-map, sum_by-cons, Cell, Queued, Transfer, Figures, InputFigures, cushion, first_for, is_for, Machine, all_told, fronts, rests, LimiterView, list_of, orders_of, output_order, Moves, list_taken, transfers_of, outputs_of, ports, IsListed, Partners, partner_of, partner_place, spent, proposals, IsFreeOutput, IsInputBest, IsStable, cushion_of, slacks, came_to, HoldsFabric, Queues, fabric_of, AreRanked, BuffersHaveRoom, HaveArrived, HaveJudged, HaveSent, ListsHaveRoom, fits_lists, held_before, keyed, IsInStep, IsSeen, arriving_slack, input_counted, slack_seen, GoStraight, crossing, crossings, input_passed, Look, among, place_head, none_unless, kept_more}
 use Rattle.std.proofs.Math.ListN.{get_or-map}
 use Rattle.std.proofs.lemmas.List.FromFn.{length-range_with_len}
 use Rattle.cq_base.proofs.Pooled.{looked_few}
@@ -31,34 +31,18 @@ first_alone : (c : Queued) → first_for c.cell.output (c ∷ []) ≡ Some c
 first_alone c = grind (arith, common_steps, cond_both, for_own)
 
 left_alone : (q : Option Queued) → [] ≡ list_taken (wanted q) (alone q)
-left_alone None = refl
-left_alone (Some c) = grind (arith, common_steps, cond_both, for_own)
-
-arrives_alone : (f : Fabric) (q : Option Queued) → alone q ≡ list_arrived f q []
-arrives_alone f None = refl
-arrives_alone f (Some c) = grind (arith, common_steps)
-
-noted_alone : (slot i : ℕ) (q : Option Queued) → noted slot 1 i (alone q) (wanted q) ≡ crossing slot i q
-noted_alone slot i None = refl
-noted_alone slot i (Some c) = grind (arith, common_steps, first_alone)
+left_alone q = grind (arith, common_steps, cond_both, for_own)
 
 -- an input offers what it has, and to no other
-first_choice : (q : Option Queued) → depth (output_order (alone q)) (wanted q) ≡ 0
-first_choice None = refl
-first_choice (Some c) = place_head [] c.cell.output c.cell.output refl
-
 offers_wanted : (q : Option Queued) (j : ℕ) → wanted q ≡ Some j → IsListed (output_order (alone q)) j
-offers_wanted None j h = absurd (let P : ⊥ = cc in P)
-offers_wanted (Some c) j h = grind (arith, common_steps, place_head, same_Some)
+offers_wanted q j h = grind (arith, common_steps, place_head, same_Some)
 
 wants_offered : (q : Option Queued) (j : ℕ) → IsListed (output_order (alone q)) j → wanted q ≡ Some j
-wants_offered None j h = absurd (omega arith)
-wants_offered (Some c) j h = grind (arith, common_steps, among (c.cell.output ∷ []) j h)
+wants_offered q j h = grind (arith, common_steps, among (output_order (alone q)) j h)
 
 -- the cell that is for it
 cell_of : (q : Option Queued) (j : ℕ) → wanted q ≡ Some j → (c : Queued) × (q ≡ Some c) × (c.cell.output ≡ j)
-cell_of None j h = absurd (let P : ⊥ = cc in P)
-cell_of (Some c) j h = (c, refl, same_Some c.cell.output j h)
+cell_of q j h = grind (arith, common_steps, same_Some)
 
 -- ## Lists of such cells
 
@@ -73,33 +57,17 @@ abbrev size : {Y : Type 0} → Option Y → ℕ
 size None = 0
 size (Some y) = 1
 
-size_cons : {Y : Type 0} (o : Option Y) (ys : List Y) → length (cons_option o ys) ≡ size o + length ys
-size_cons None ys = omega arith
-size_cons (Some y) ys = omega arith
-
 sum_sizes : {X Y : Type 0} (f : X → ℕ) (h : X → Option Y) (xs : List X) → ((x : X) → f x ≡ size (h x)) →
     sum_by f xs ≡ length (filter_map h xs)
 sum_sizes f h [] same = refl
-sum_sizes f h (x ∷ xs) same = grind (arith, common_steps, sum_by-cons, size_cons, sum_sizes f h xs same)
-
-front_alone : (q : Option Queued) → slice_get (alone q) 0 ≡ q
-front_alone None = refl
-front_alone (Some c) = refl
+sum_sizes f h (x ∷ xs) same = grind (arith, common_steps, sum_by-cons, sum_sizes f h xs same)
 
 fronts_alone : (gone : List (Option Queued)) → fronts (map alone gone) ≡ gone
 fronts_alone [] = refl
-fronts_alone (q ∷ gone) = grind (arith, common_steps, front_alone, fronts_alone gone)
-
-rest_alone : (q : Option Queued) → drop 1 (alone q) ≡ []
-rest_alone None = refl
-rest_alone (Some c) = refl
+fronts_alone (q ∷ gone) = grind (arith, common_steps, fronts_alone gone)
 
 no_cell : (lists : List (List Queued)) → All (λ cells. cells ≡ []) lists → (i : ℕ) → list_of lists i ≡ []
 no_cell lists empty i = grind (arith, common_steps, get_or_past, cases_lt)
-
-none_if : {X : Type 0} (o : Option X) → ((x : X) → o ≡ Some x → ⊥) → o ≡ None
-none_if None h = refl
-none_if (Some x) h = absurd (h x refl)
 
 rests_alone : (buffers : List (List Queued)) (gone : List (Option Queued)) → length gone ≡ length buffers →
     All (λ cells. cells ≡ []) buffers → buffers ≡ rests (map alone gone)
@@ -109,7 +77,7 @@ rests_alone buffers gone long empty =
     let rest : List Queued → List Queued = λ xs. drop 1 xs in
     ext_get_or nil buffers (rests (map alone gone)) (grind (arith, common_steps, length-map)) (λ j below.
     let left = get_or-map rest (map alone gone) j nil in
-    let was = get_or-map alone gone j none in search (rules, no_cell buffers empty, left, was, rest_alone))
+    let was = get_or-map alone gone j none in search (rules, no_cell buffers empty, left, was))
 
 -- ## What is noted, input by input
 
@@ -138,8 +106,7 @@ crossings_few slot n came = grind (arith, common_steps, looked_few, length-range
 
 -- no more than there are pairs of ports
 pub at_most_square : (n : ℕ) → n ≤ n * n
-at_most_square zero = omega arith
-at_most_square (suc k) = grind (arith, common_steps, row_fits)
+at_most_square n = grind (arith, common_steps, row_fits)
 
 -- ## The slot
 
@@ -207,7 +174,7 @@ module _ {ms : List Machine} {slot : ℕ} {q : Queues} {ranks0 : List (List ℕ)
   -- ## The first matching
 
   at_best : (i : ℕ) → partner_place (orders_of lists) pairs i ≡ 0
-  at_best i = grind (arith, common_steps, order_is, partner_is, first_choice)
+  at_best i = grind (arith, common_steps, order_is, partner_is, place_head)
 
   once : (i k j : ℕ) → partner_of pairs i ≡ Some j → partner_of pairs k ≡ Some j → i ≡ k
   once i k j h g =
@@ -224,8 +191,7 @@ module _ {ms : List Machine} {slot : ℕ} {q : Queues} {ranks0 : List (List ℕ)
   proposes_once : (i : ℕ) (o : Option Queued) → outputs_of (orders_of lists) i ≡ output_order (alone o) →
       partner_of pairs i ≡ wanted o →
       spent (outputs_of (orders_of lists) i) (partner_of pairs i) ≡ size (crossing slot i o)
-  proposes_once i None order partner = grind (arith, common_steps)
-  proposes_once i (Some c) order partner = grind (arith, common_steps, place_head)
+  proposes_once i o order partner = grind (arith, common_steps, place_head)
 
   all_proposed : length (crossings slot n came) ≡ proposals (orders_of lists) pairs
   unfolding crossings
@@ -233,12 +199,12 @@ module _ {ms : List Machine} {slot : ℕ} {q : Queues} {ranks0 : List (List ℕ)
 
   all_noted : transfers_of pairs lists slot 1 ≡ crossings slot n came
   unfolding crossings transfers_of
-  all_noted = grind (arith, common_steps, pairs_long, same_kept, list_is, partner_is, noted_alone)
+  all_noted = grind (arith, common_steps, pairs_long, same_kept, list_is, partner_is, first_alone)
 
   -- ## The phases
 
   arrived : HaveArrived q came listed
-  arrived = grind (arith, common_steps, lists_long, list_is, arrives_alone, no_list)
+  arrived = grind (arith, common_steps, lists_long, list_is, no_list)
 
   buffer_is : (j : ℕ) → list_of (map alone gone) j ≡ alone (came_to gone j)
   buffer_is j = let none : Option Queued = None in get_or-map alone gone j none
@@ -246,8 +212,7 @@ module _ {ms : List Machine} {slot : ℕ} {q : Queues} {ranks0 : List (List ℕ)
   -- an output to which nobody crosses sends nothing
   none_sent : (j : ℕ) → IsFreeOutput pairs j → came_to gone j ≡ None
   none_sent j free =
-      none_if (came_to gone j) (λ c is. ⊎_elim (λ inside. let from = straight.sent.only j c inside is in
-      free from.input (pair_of from.input c from.at ∙ ap Some from.output))
+      none_unless (came_to gone j) (λ c is. ⊎_elim (search (rules, straight.sent.only j c, free, pair_of))
       (λ past. grind (arith, common_steps, get_or_past)) (cases_lt j n))
 
   ruleset pair_facts = (partner_is, list_is, pair_cell, buffer_is, pair_gone, none_sent)
@@ -275,41 +240,28 @@ module _ {ms : List Machine} {slot : ℕ} {q : Queues} {ranks0 : List (List ℕ)
   -- ## The figures
 
   -- each of the cells had no cell before it
-  least : Option Queued → Option ℕ
+  abbrev least : Option Queued → Option ℕ
   least o = option_map (λ c. 0) o
 
   no_cushion : (c : Queued) → cushion c.key (list_of q.buffers c.cell.output) ≡ 0
   no_cushion c = ap (cushion c.key) (no_buffer c.cell.output)
 
   arriving_least : (i : ℕ) (o : Option Queued) → arriving_slack listed i o ≡ least o
-  unfolding least
-  arriving_least i None = refl
-  arriving_least i (Some c) = grind (arith, common_steps, no_cushion)
+  arriving_least i o = grind (arith, common_steps, no_cushion)
 
   all_least : (o : Option Queued) →
       reduce min (map (λ at. cushion_of (fabric_of listed []) at.1 - at.0) (enumerate_from 0 (alone o))) ≡ least o
-  unfolding least
-  all_least None = refl
-  all_least (Some c) = grind (arith, common_steps, no_cushion)
+  all_least o = grind (arith, common_steps, no_cushion)
 
   seen_least : (looks : Look) (i : ℕ) → slack_seen looks listed i (came_to came i) ≡ least (came_to came i)
   unfolding slacks
   seen_least look.Arriving i = arriving_least i (came_to came i)
   seen_least look.All i = rw (list_is i) (all_least (came_to came i))
 
-  no_less : (s : Option ℕ) → s ≡ either_by min s None
-  no_less None = refl
-  no_less (Some m) = refl
-
-  least_of : (s : Option ℕ) → Some 0 ≡ either_by min s (Some 0)
-  least_of None = refl
-  least_of (Some m) = let e : 0 ≡ min m 0 = omega arith in ap Some e
-
   one_passed : (looks : Look) (i : ℕ) (o : Option Queued) (x : InputFigures) → list_of lists i ≡ alone o →
       slack_seen looks listed i o ≡ least o → input_passed o x ≡ input_counted looks listed i o x
-  unfolding input_counted least
-  one_passed looks i None x list slack = grind (arith, common_steps, no_less)
-  one_passed looks i (Some c) x list slack = grind (arith, common_steps, least_of)
+  unfolding input_counted
+  one_passed looks i o x list slack = grind (arith, common_steps)
 
   pub counted_passed : (looks : Look) (xs : List InputFigures) →
       map (λ at. input_passed (came_to came at.0) at.1) (enumerate_from 0 xs)

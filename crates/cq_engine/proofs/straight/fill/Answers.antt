@@ -1,15 +1,10 @@
 -- The cells that came, put at the places of their outputs. Two of them are for one output where the place is taken by
 -- one that came before.
-use Rattle.cq_engine.proofs.Terms.{rules, ◌∙◌, sym, arith, length-set, came_to, common_steps, ◌≡◌, ℕ, ◌+◌, ◌<◌, List, length, Option, Some, None, refl, is_some, slice_set, true, false, cases_lt, get_or-set_other, get_or-set_same, same_Some, Queued, AreApart, AreSent}
+use Rattle.cq_engine.proofs.Terms.{rules, ◌∙◌, sym, arith, length-set, came_to, common_steps, ◌≡◌, ℕ, ◌+◌, ◌<◌, List, length, Option, Some, None, is_some, slice_set, true, false, cases_lt, get_or-set_other, get_or-set_same, same_Some, Queued, some_of, AreApart, AreSent}
 use Rattle.cq_engine.proofs.straight.fill.Goals as goal
 
 free_of : (o : Option Queued) → is_some o ≡ false → o ≡ None
-free_of None e = refl
-free_of (Some c) e = absurd (let P : ⊥ = cc in P)
-
-taken_of : (o : Option Queued) → is_some o ≡ true → (c : Queued) × (o ≡ Some c)
-taken_of None e = absurd (let P : ⊥ = cc in P)
-taken_of (Some c) e = (c, refl)
+free_of o e = grind (arith, common_steps)
 
 module _ (inputs outputs : ℕ) (came gone : List (Option Queued)) (sent : AreSent inputs outputs came gone) where
   -- a cell that came before is not for an output whose place is free
@@ -54,7 +49,7 @@ apart_past inputs came apart none i k a b i_in k_in at_a at_b same = search (rul
 pub returns-then-is_some-clause-apart : goal.returns-then-is_some-clause-apart
 returns-then-is_some-clause-apart c =
     let queued = c.in-Some.queued in
-    let there = taken_of (came_to c.inputs.gone queued.cell.output) (search (arith, rules)) in
+    let there = some_of (came_to c.inputs.gone queued.cell.output) (search (arith, rules)) in
     let at = sym c.at.ensures ∙ c.in-Some.is in
     let never = not_apart c.inputs.input c.args.ports c.args.came.now c.inputs.gone c.inputs.invariant.sent
     c.args.ports queued there.0 at there.1 (c.requires.outputs c.inputs.input queued at) c.inputs-test.true in

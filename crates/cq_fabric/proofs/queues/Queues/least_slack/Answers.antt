@@ -1,5 +1,5 @@
 -- The least slack of a list, cell after cell: the least of the slacks so far and of one more is the lesser of the two.
-use Rattle.cq_fabric.proofs.Terms.{rules, [], refl, arith, take_all, input, fabric_of, common_steps, ◌≡◌, ℕ, zero, suc, ◌+◌, ◌-◌, ◌<◌, List, ◌∷◌, ◌++◌, length, get_or, take, Option, Some, sym, ◌∙◌, min, slice_get, reduce, enumerate_from, get_or-map, length-map, take_more, get_or-enumerate_from, length-enumerate_from, same_Some, slice_get-get_or, slice_get_within, item_inside, seen_at, Queued, Fabric, cushion_of, either_by, slacks}
+use Rattle.cq_fabric.proofs.Terms.{rules, [], refl, arith, take_all, input, fabric_of, common_steps, ◌≡◌, ℕ, ◌+◌, ◌-◌, ◌<◌, List, ◌∷◌, ◌++◌, length, get_or, take, Option, Some, min, ⊎_elim, slice_get, reduce, enumerate_from, get_or-map, length-map, take_more, get_or-enumerate_from, length-enumerate_from, get_or_from_slice_get, slice_get_cases, slice_get_within, item_inside, seen_at, Queued, Fabric, cushion_of, either_by, slacks}
 use Rattle.cq_fabric.proofs.queues.Queues.least_slack.Goals as goal
 
 -- ## The least of some numbers
@@ -19,27 +19,22 @@ slack_there : (f : Fabric) (i p : ℕ) (c : Queued) → slice_get (input f i) p 
 unfolding slacks
 slack_there f i p c at =
     let cells = input f i in
-    let inside = slice_get_within cells p c at in
     let slack : ℕ × Queued → ℕ = λ t. cushion_of f t.1 - t.0 in
     let read = get_or-map slack (enumerate_from 0 cells) p (0, c) 0 in
-    let here = same_Some c (get_or cells p c) (sym at ∙ slice_get-get_or cells p c inside) in
-    search (arith, rules, length-enumerate_from 0 cells, get_or-enumerate_from 0 cells p (0, c) inside)
+    let here = get_or_from_slice_get cells p c c at in
+    search (arith, rules, slice_get_within, length-enumerate_from 0 cells, get_or-enumerate_from 0 cells p (0, c))
 
 -- one cell more is looked at
-looked_at : (f : Fabric) (i p : ℕ) (c : Queued) (slack : ℕ) (least more : Option ℕ) →
-    least ≡ reduce min (take p (slacks f i)) → slice_get (input f i) p ≡ Some c → slack ≡ cushion_of f c - p →
+looked_at : (f : Fabric) (i p slack : ℕ) (least more : Option ℕ) → least ≡ reduce min (take p (slacks f i)) →
+    p < length (input f i) → ((c : Queued) → slice_get (input f i) p ≡ Some c → slack ≡ cushion_of f c - p) →
     more ≡ either_by min least (Some slack) → more ≡ reduce min (take (p + 1) (slacks f i))
-looked_at f i p c slack least more so_far at is told =
-    let within = slice_get_within (input f i) p c at in
+looked_at f i p slack least more so_far below each told =
     let long = length-slacks f i in
     let inside : p < length (slacks f i) = omega arith in
-    grind (arith, common_steps, slack_there f i p c at, reduce_push, take_more (slacks f i) p 0 inside)
-
--- the cell at a place
-cell_there : (cells : List Queued) (p : ℕ) → p < length cells → (c : Queued) × (slice_get cells p ≡ Some c)
-cell_there [] p inside = absurd (omega arith)
-cell_there (c ∷ cells) zero inside = (c, refl)
-cell_there (c ∷ cells) (suc p) inside = cell_there cells p (omega arith)
+    ⊎_elim (λ x.
+    let is = each x.0 x.2 in
+    grind (arith, common_steps, slack_there f i p x.0 x.2, reduce_push, take_more (slacks f i) p 0 inside))
+    (λ past. absurd (omega arith)) (slice_get_cases (input f i) p).1
 
 pub index-requires : goal.index-requires
 index-requires c = search (arith, rules, item_inside)
@@ -52,8 +47,8 @@ places-init c = refl
 
 pub places-preserved : goal.places-preserved
 places-preserved c =
-    let here = cell_there (input (fabric_of c.args.self.now []) c.args.input) c.places.place (omega arith) in
-    search (arith, rules, looked_at, c.slack_at.ensures here.0 here.1)
+    looked_at (fabric_of c.args.self.now []) c.args.input c.places.place c.slack_at.result c.places.least _
+    c.places.invariant (omega arith) c.slack_at.ensures c.lesser.ensures
 
 pub returns : goal.returns
 returns c = search (arith, rules, length-slacks, take_all)
