@@ -1,12 +1,9 @@
-use Rattle.cq_engine.proofs.Terms.{rules, None, sym, ◌∙◌, arith, InputFigures, all_changed, next_changed, still_few}
+use Rattle.cq_engine.proofs.Terms.{rules, sym, ◌∙◌, arith, InputFigures, all_changed, next_changed, still_few}
 use Rattle.cq_engine.proofs.measure.count_inputs.Goals as goal
-
-abbrev none : InputFigures
-none = record { cells = 0; longest = 0; slack = None }
 
 pub input_counted-counted-requires-clause-count : goal.input_counted-counted-requires-clause-count
 input_counted-counted-requires-clause-count c =
-    still_few c.inputs.invariant (λ (y : InputFigures). y.cells) none (omega arith) c.requires.counts c.as_slice.ensures
+    still_few c.inputs.invariant (λ (y : InputFigures). y.cells) _ (omega arith) c.requires.counts c.as_slice.ensures
 
 pub input_counted-counted-requires-clause-output : goal.input_counted-counted-requires-clause-output
 input_counted-counted-requires-clause-output c q is = c.requires.outputs c.inputs.input q (sym c.at.ensures ∙ is)

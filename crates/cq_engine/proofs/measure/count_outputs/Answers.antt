@@ -1,6 +1,5 @@
-use Rattle.cq_engine.proofs.Terms.{◌≡◌, ℕ, output_counted, None, ◌∙◌, arith, rules, OutputFigures, all_changed, next_changed, next_kept, still_few}
+use Rattle.cq_engine.proofs.Terms.{◌≡◌, ℕ, output_counted, None, arith, rules, OutputFigures, all_changed, next_changed, next_kept, still_few}
 use Rattle.cq_engine.proofs.measure.count_outputs.Goals as goal
-use Rattle.cq_engine.proofs.measure.count_outputs.Goals.{in-Some, in_default}
 
 abbrev none : OutputFigures
 none = record { cells = 0; wait = None }
@@ -16,12 +15,9 @@ output_counted-counted-requires c = still_few c.outputs.invariant (λ (y : Outpu
 
 pub outputs-preserved : goal.outputs-preserved
 outputs-preserved c =
-    elim c.match-gone-output.branch [
-      | in-Some w ↦ next_changed c.outputs.invariant none _ (omega arith) _ w.as_slice.ensures
-          (search (arith, rules)) _ (w.outputs-is ∙ w.set.ensures)
-      | in_default w ↦
-          next_kept c.outputs.invariant none (omega arith) (search (arith, rules, nothing_counted)) _ w.outputs-is
-    ]
+    let changed = next_changed c.outputs.invariant none in
+    let kept = next_kept c.outputs.invariant none in
+    search (arith, rules, changed, kept, nothing_counted)
 
 pub returns : goal.returns
 returns c = all_changed c.outputs.invariant (omega arith)

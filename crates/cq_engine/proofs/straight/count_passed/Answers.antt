@@ -1,6 +1,5 @@
-use Rattle.cq_engine.proofs.Terms.{None, ◌∙◌, arith, rules, InputFigures, all_changed, next_changed, next_kept, still_few}
+use Rattle.cq_engine.proofs.Terms.{None, arith, rules, InputFigures, all_changed, next_changed, next_kept, still_few}
 use Rattle.cq_engine.proofs.straight.count_passed.Goals as goal
-use Rattle.cq_engine.proofs.straight.count_passed.Goals.{in-Some, in_default}
 
 abbrev none : InputFigures
 none = record { cells = 0; longest = 0; slack = None }
@@ -11,11 +10,9 @@ input_passed-counted-requires c =
 
 pub inputs-preserved : goal.inputs-preserved
 inputs-preserved c =
-    elim c.match-at.branch [
-      | in-Some w ↦ next_changed c.inputs.invariant none _ (omega arith) _ w.as_slice.ensures
-          (search (arith, rules)) _ (w.inputs-is ∙ w.set.ensures)
-      | in_default w ↦ next_kept c.inputs.invariant none (omega arith) (search (arith, rules)) _ w.inputs-is
-    ]
+    let changed = next_changed c.inputs.invariant none in
+    let kept = next_kept c.inputs.invariant none in
+    search (arith, rules, changed, kept)
 
 pub returns : goal.returns
 returns c = all_changed c.inputs.invariant (omega arith)
