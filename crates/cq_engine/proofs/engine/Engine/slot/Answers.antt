@@ -1,5 +1,5 @@
 use Rattle.cq_engine.proofs.Terms.{answer_to, rules, sym, ◌≡◌, ◌+◌, ◌*◌, ◌<◌, ◌≤◌, ◌++◌, ℕ, List, length, get_or, map, refl, ap, ◌∙◌, arith, append_assoc, length-append, IfSome, Option, length-map, Queued, Figures, admitted, fronts, ranking, transfers_of, came_to, EngineView, HoldsFabric, fabric_of, HaveArrived, HaveJudged, HaveSent, admits_are, still_holds, came_newest, came_outputs, can_cross_first, can_cross_second, come_apart, few_cross, fits_lists, held_before, its_admission, GoStraight, crossings, length-told, HasJudged, Cell, LimiterView, Queues, RoomView, Transfer}
-use Rattle.cq_engine.specs.{Crossing.CanBeCrossed, Crossing.HasCrossed, Sending.CanSend}
+use Rattle.cq_engine.specs.{Crossing.HasCrossed, Sending.CanSend}
 use Rattle.cq_engine.proofs.Shown.{Begun, at_most, begun, buffers_room, can_take_in, lists_room, taken}
 use Rattle.cq_engine.proofs.Done.{slot_done}
 use Rattle.cq_engine.proofs.Slot.{HaveCrossed, Whole, moved_of, whole_slot}
@@ -209,8 +209,9 @@ depart-requires g c =
     let moved = moved_of (crossed c.cross-first.ensures) in
     let holds = held_before (taken begins c.in_default.ensures.taken) (arrived g at.After-arrive)
     (buffers_room begins c.take_in.new.limiter.marks) moved begins.running.holds (judged c.take_in.ensures.judged) in
-    can_send g at.After-take_in begins (ports_seen g at.After-self) (fronts buffers)
-    (search (arith, rules, length-map)) refl holds
+    let long = length-map buffers _ ∙ moved.moves.ports.1 ∙ ap length c.arrive.ensures.buffers
+    ∙ c.ports-ports.ensures.buffers in
+    can_send g at.After-take_in begins (ports_seen g at.After-self) (fronts buffers) long refl holds
 
 pub cross-second-requires-clause-can : goal.cross-second-requires-clause-can
 cross-second-requires-clause-can g c =
