@@ -1,5 +1,5 @@
 -- What claims, proposals and joins do to what a seat has claimed and seen: nothing of it is ever lost.
-use Rattle.cq_crew.proofs.Terms.{common_steps, rules, ℕ, ◌≡◌, inl, inr, ◌+◌, ◌-◌, ◌*◌, ◌<◌, Option, Some, None, refl, ap, arith, IsSome, option_map, cases_lt, cases_eq, ports, IsFew, LedgerState, SeatState, IsSeatOf, IsProposed, HasClaimed, HasTried, HaveTried, ProposesFor, Grows, IsIdleAfter, HasWorked}
+use Rattle.cq_crew.proofs.Terms.{common_steps, rules, ℕ, ◌≡◌, ◌+◌, ◌-◌, ◌*◌, ◌<◌, Option, Some, None, refl, ap, arith, IsSome, option_map, cases_lt, cases_eq, ports, IsFew, LedgerState, SeatState, IsSeatOf, IsProposed, HasClaimed, HasTried, HaveTried, ProposesFor, Grows, IsIdleAfter, HasWorked}
 use Rattle.cq_prefs.specs.declared.outcome.Outcome.{Outcome}
 use Rattle.cq_ledger.specs.declared.view.View.{View}
 use Rattle.cq_ledger.specs.Steps.{claim_refused, claim_taken, first_tried, joined}
@@ -22,8 +22,7 @@ grows-joined v w = grind (arith, common_steps, bit-left)
 -- ## What was tried
 
 pub tried-grown : (v w : View) → Grows v w → (i : ℕ) → HasTried v i → HasTried w i
-tried-grown v w g i (inl h) = inl (g.claims i h)
-tried-grown v w g i (inr h) = inr (g.seen i h)
+tried-grown v w g i h = search (rules, g.claims, g.seen)
 
 -- the first input, and then those after it
 pub tried-first : (v w : View) (k : ℕ) → Grows v w → HasTried v k → (n : ℕ) → HaveTried w (k + 1) n → HaveTried w k n
