@@ -49,11 +49,9 @@ module _ (c : Queued) where
       place_for c.cell.output xs < length xs → OfferAlike xs (insert xs place c)
   behind_first [] place ahead inside = absurd (omega arith)
   behind_first (x ∷ xs) zero ahead inside = absurd (omega arith)
-  behind_first (x ∷ xs) (suc place) ahead inside = ⊎_elim (λ is.
+  behind_first (x ∷ xs) (suc place) ahead inside =
       let apart = same_but_arrival (Some c.cell.output) xs (insert xs place c) place c refl refl in
-      search (arith, rules, shown_here, ne_eqb, cases_eq, x.cell.output))
-      (λ other. search (arith, rules, first_later, ne_eqb, x.cell.output, behind_first xs place))
-      (cases_eq x.cell.output c.cell.output)
+      search (arith, rules, shown_here, first_later, ne_eqb, cases_eq, x.cell.output, behind_first xs place)
 
 more_urgent_first : (c : Queued) (first : Option Queued) →
     key_before (option_map (λ (q : Queued). q.key) first) (Some c.key) ≡ true →
