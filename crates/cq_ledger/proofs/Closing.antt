@@ -14,8 +14,7 @@ none_made (x ∷ xs) h = grind (arith, common_steps, sum_by-cons, none_made xs (
 one_made : (views : List View) (id : ℕ) (v : View) → Sits views id v →
     ((a : ℕ) (u : View) → a ≢ id → Sits views a u → u.made ≡ 0) → sum_by (λ (y : View). y.made) views ≡ v.made
 one_made views id v e h =
-    let none = none_made (set views id spent)
-    (λ a u at. grind (arith, common_steps, at_set views id a spent u at, h a u)) in
+    let none = none_made (set views id spent) (search (arith, rules, at_set, h)) in
     let sum = made_with views id v spent e in omega arith
 
 module _ (o : Orders) (words : List ℕ) (views : List View) (k : IsLedger o words views) (id : ℕ) (v : View)

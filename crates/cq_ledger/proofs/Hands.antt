@@ -101,8 +101,7 @@ module _ (o : Orders) (v : AreOffers o) (s : State) (w : IsSound o s) (i : ℕ) 
         n,
         record {
           left = let a = g.left in omega arith;
-          unheld = λ q h. ⊎_elim (λ e. apart (rw e at h)) (λ m. g.unheld q (st.held_other q m ∙ h.0, h.1))
-              (cases_eq q j);
+          unheld = search (arith, rules, st.held_other, g.unheld, cases_eq);
         },
       ) in search (arith, rules, inputs_at_most, get_or-place_in, hand-displaced, hand_at-left, cases_lt, cases_eq))
       (cases_eq k i)

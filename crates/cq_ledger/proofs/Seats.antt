@@ -1,6 +1,6 @@
 -- Making the first seat, a split and a join keep the rule, and are no event: the words stay, and what the seats have
 -- claimed, seen, made and in their hands is only dealt out anew.
-use Rattle.cq_ledger.proofs.Terms.{ℕ, zero, suc, ◌≡◌, ◌≢◌, ◌⊎◌, inl, inr, subst, ◌+◌, ◌≤◌, List, [], ◌∷◌, ◌++◌, set, replicate, Some, None, refl, sym, ◌∙◌, ap, arith, bit_or, ⊎_elim, rules, sum_by, cases_eq, length-replicate, get_or-replicate, sum_by_push, at_set, set_else, set_again, at_longer, at_snoc, Orders, AreOffers, ports, held-start, next_place-start, IsLedger, IsViewOf, blank, joined, spent, Sits, bit, View, common_steps, most_ports}
+use Rattle.cq_ledger.proofs.Terms.{ℕ, zero, suc, ◌≡◌, ◌≢◌, ◌⊎◌, inl, inr, subst, ◌+◌, ◌≤◌, List, [], ◌∷◌, ◌++◌, set, replicate, None, refl, sym, ◌∙◌, ap, arith, bit_or, ⊎_elim, rules, sum_by, cases_eq, length-replicate, get_or-replicate, sum_by_push, at_set, set_else, set_again, at_longer, at_snoc, Orders, AreOffers, ports, held-start, next_place-start, IsLedger, IsViewOf, blank, joined, spent, Sits, bit, View, common_steps, most_ports}
 use Rattle.cq_ledger.proofs.Dealt.{sits_now, made_with, hands_from, offers_with, dealt}
 use Rattle.cq_ledger.proofs.Views.{same_at, bit-zero, no_bits, bit-either, bit-left, bit-right}
 
@@ -40,12 +40,6 @@ module _ (o : Orders) (words : List ℕ) (views : List View) (k : IsLedger o wor
   pub with_claim : (b q : ℕ) (u : View) → Sits longer b u → bit u.claims q ≡ 1 → Sits views b u
   with_claim b q u a h = grind (arith, common_steps, at_snoc views (blank other) u b a, bit-zero q)
 
-  pub with_seen : (b q : ℕ) (u : View) → Sits longer b u → bit u.seen q ≡ 1 → Sits views b u
-  with_seen b q u a h = grind (arith, common_steps, at_snoc views (blank other) u b a, bit-zero q)
-
-  pub with_hand : (b q p : ℕ) (u : View) → Sits longer b u → u.hand ≡ Some (q, p) → Sits views b u
-  with_hand b q p u a h = grind (arith, common_steps, at_snoc views (blank other) u b a)
-
   unfoldable pub longer-keeps : IsLedger o words longer
   longer-keeps =
       dealt o words views longer k
@@ -56,9 +50,10 @@ module _ (o : Orders) (words : List ℕ) (views : List View) (k : IsLedger o wor
             λ q h. let x = k.claims.by_one q h in (x.0, x.1, at_longer views (blank other ∷ []) x.0 x.1 x.2, x.3);
         apart = search (rules, with_claim, k.claims.apart);
         in_range = k.claims.in_range;
-        seen = λ b q u a h. k.claims.seen b q u (with_seen b q u a h) h;
+        seen = λ b q u a h.
+            grind (arith, common_steps, at_snoc views (blank other) u b a, bit-zero q, k.claims.seen b q u);
       })
-      (hands_from k.hands (λ b q p u a h. (u, with_hand b q p u a h, h))
+      (hands_from k.hands (λ b q p u a h. (u, grind (arith, common_steps, at_snoc views (blank other) u b a), h))
       (λ q z. search (rules, at_longer)))
       (let a = sum_by_push (λ (y : View). y.made) views (blank other) in omega arith)
       (λ b u a h. grind (arith, common_steps, at_snoc views (blank other) u b a, k.idle b u))
