@@ -1,56 +1,17 @@
 -- What each step of the loop over the slots asks for, where so many slots are left as are not yet over.
-use Rattle.cq_simulate.proofs.Terms.{common_steps, rules, ◌≡◌, ◌↔◌, ℕ, suc, ◌+◌, ◌-◌, ◌<◌, ◌≤◌, ◌^◌, Bool, false, List, [], ◌++◌, length, map, replicate, Option, Result, Ok, Err, refl, sym, ap, ◌∙◌, subst, arith, ⊎_elim, zero, None, ◌∷◌, append_assoc, IsTrue, All, IfOk, slice_index_or, cases_lt, IfOk-weaker, Cell, Departure, Queued, TagFault, no_arrivals, Arrival, arriving, end_of, enough, traffic_of, RoomView, Machine, Marked, Admission, nothing_refused, admission, admitted, marked, refused, IdealSwitch, HasRoomFor, HaveLeft, marked_state, count_for, IdealState, departures_in, ideal_slot, departures_limited, LimitedRan, LimitedSent, limited_run, limited_slot, nothing_came, ideal_admission, ideal_held, then_limited, with_admission, CanCount, IsReady, waiting, counted, arriving_from, slots_of, none_waits, nothing_left, all_slots, arrivals_for, for_here, come_for, come_for-traffic_of, IsQuiet, come_count, arriving_parts, arriving_here, departures_of, no_departures, quiet_slots, length-replicate, append-nil, length-append, get_or-replicate, IsShort, number_of, is_to, refused_counts, with_refused, counts_fit, zero_fits, present, come_count-traffic_of, none_after, run_fault, run_step, counts_more, each_once, waiting-empty, CanHaveSlot, HasHadSlot, IsSameSwitch, slots_of-append, slots_of-departures, most_ports}
+use Rattle.cq_simulate.proofs.Terms.{common_steps, rules, ◌≡◌, ◌↔◌, ℕ, suc, ◌+◌, ◌-◌, ◌<◌, ◌≤◌, ◌^◌, Bool, false, List, [], ◌++◌, length, map, replicate, Option, Result, Ok, Err, refl, sym, ap, ◌∙◌, subst, arith, ⊎_elim, zero, None, ◌∷◌, IsTrue, All, IfOk, slice_index_or, cases_lt, IfOk-weaker, Cell, Departure, Queued, TagFault, no_arrivals, Arrival, arriving, end_of, enough, traffic_of, RoomView, Machine, Marked, Admission, nothing_refused, admission, admitted, marked, refused, IdealSwitch, HasRoomFor, HaveLeft, marked_state, count_for, IdealState, departures_in, ideal_slot, departures_limited, LimitedSent, limited_run, limited_slot, nothing_came, ideal_admission, ideal_held, with_admission, CanCount, IsReady, waiting, counted, arriving_from, slots_of, none_waits, nothing_left, all_slots, arrivals_for, for_here, come_for, come_for-traffic_of, IsQuiet, come_count, arriving_parts, departures_of, no_departures, quiet_slots, length-replicate, append-nil, length-append, get_or-replicate, number_of, is_to, refused_counts, with_refused, counts_fit, zero_fits, present, come_count-traffic_of, none_after, run_fault, run_step, counts_more, each_once, waiting-empty, CanHaveSlot, HasHadSlot, IsSameSwitch, arriving_length, first_slots, gone_long, departures_append, slots_within, first_more, LimitedRan}
 use Rattle.cq_ideal.specs.Ideal.{answer_to, its_slot}
 use Rattle.cq_ideal.specs.IdealSlot.{Sent}
 use Rattle.cq_ideal.specs.Rest.{HasRested}
 use Rattle.cq_ideal.proofs.LimitedParts.{behind, limited_parts, limited_going_on, limited_stays_empty}
 
--- The run of the ideal switch, slot by slot. What was sent so far, and then what is sent in the slots that are left,
--- is what the whole run sends. Of the cells that come in a slot each is admitted or refused. So the cells that wait
+-- The run of the ideal switch, slot by slot. The slots so far are a run, which the slots that are left go on with, and
+-- what was sent is what that run sent. Of the cells that come in a slot each is admitted or refused. So the cells that wait
 -- and those that are still to come are no more than there is room for, in each list and in all, and those that were
 -- refused and those that are still to come are no more than all that come. And those that wait or come are no more
 -- than the slots that are left after the last arrival: in each of these a cell leaves, while one waits. So the slots
 -- do not end before the cells. Once no cell is to come and none waits, the slots that are left send nothing and meet
 -- no fault.
-
--- ## What a run sends
-
--- the departures of a run from this slot on, or its fault
-abbrev pub sent_from : ℕ → Result LimitedRan TagFault → Result (List Departure) TagFault
-sent_from slot (Ok ran) = Ok (departures_of slot ran.gone)
-sent_from slot (Err fault) = Err fault
-
--- with these departures before them
-abbrev pub sent_after : List Departure → Result (List Departure) TagFault → Result (List Departure) TagFault
-sent_after sent (Ok rest) = Ok (sent ++ rest)
-sent_after sent (Err fault) = Err fault
-
--- what the slots from this one on send
-unfoldable pub run_from : List (Option ℕ) → List Machine → List Arrival → ℕ → ℕ → Marked IdealState →
-    Result (List Departure) TagFault
-run_from limits ms came slot n state = sent_from slot (limited_run limits ms slot (arriving_from came slot n) state)
-
-then_sent : (slot : ℕ) (sent : LimitedSent) (x : Result LimitedRan TagFault) →
-    sent_from slot (then_limited sent x) ≡ sent_after (departures_in slot sent.gone) (sent_from (slot + 1) x)
-unfolding departures_of
-then_sent slot sent x = grind (arith, common_steps)
-
-module _ (limits : List (Option ℕ)) (ms : List Machine) (came : List Arrival) where
-  next_sent : (slot n : ℕ) (state : Marked IdealState) (sent : LimitedSent) →
-      limited_slot limits ms slot (arriving came slot) state ≡ Ok sent →
-      run_from limits ms came slot (suc n) state ≡ sent_after (departures_in slot sent.gone)
-      (run_from limits ms came (slot + 1) n sent.after)
-  unfolding run_from
-  next_sent slot n state sent is =
-      let later = arriving_from came (slot + 1) n in
-      ap (λ (l : List (List (Option Cell))). sent_from slot (limited_run limits ms slot l state))
-      (arriving_here came slot n)
-      ∙ ap (sent_from slot) (run_step limits ms slot (arriving came slot) later state sent is)
-      ∙ then_sent slot sent (limited_run limits ms (slot + 1) later sent.after)
-
-sent_after-twice : (a b : List Departure) (x : Result (List Departure) TagFault) →
-    sent_after a (sent_after b x) ≡ sent_after (a ++ b) x
-sent_after-twice a b x = grind (arith, common_steps, append_assoc)
 
 -- ## What a slot admits
 
@@ -98,15 +59,19 @@ of_admitted limits ms slot cells old of_slot is =
 
 -- ## The loop
 
--- what is known before a slot, where so many slots are left and these cells were refused
+-- What is known before a slot, where so many slots are left of a run that could begin: what the slots so far came to,
+-- which refused these cells, and what was sent in them.
 pub record Running (ms : List Machine) (came : List Arrival) (first : IdealSwitch) (first_sent : RoomView Departure)
     (slot n : ℕ) (now : IdealSwitch) (sent : RoomView Departure) : Type 0 where
+  pub ready : IsReady ms came first first_sent
   pub left : slot + n ≡ enough came
   pub running : now.stopped ≡ false
   pub next : now.next ≡ slot
   pub same : IsSameSwitch first now
-  pub whole : run_from first.limits ms came 0 (enough came) (marked_state first)
-      ≡ sent_after sent.items (run_from first.limits ms came slot n (marked_state now))
+  pub ran : LimitedRan
+  pub is : limited_run first.limits ms 0 (first_slots came slot) (marked_state first) ≡ Ok ran
+  pub after : ran.after ≡ marked_state now
+  pub departed : sent.items ≡ departures_of 0 ran.gone
   pub lost : List Cell
   pub refused : now.refused ≡ refused_counts first.limits lost
   pub ports : length now.state.lists ≡ length first.fixed
@@ -115,7 +80,6 @@ pub record Running (ms : List Machine) (came : List Arrival) (first : IdealSwitc
   pub spare : waiting now.state.lists + come_count (arriving_from came slot n) + length first.fixed ≤ sent.spare
   pub few : waiting now.state.lists + come_count (arriving_from came slot n) + (end_of came - slot) ≤ n
   pub many : length lost + come_count (arriving_from came slot n) ≤ length came
-  pub early : slots_of sent.items ≤ slot
 
 -- it is the same switch after a later slot too
 pub same_on : {first now after : IdealSwitch} → IsSameSwitch first now → IsSameSwitch now after →
@@ -126,14 +90,16 @@ pub enough_are : (came : List Arrival) → enough came ≡ end_of came + length 
 unfolding enough
 enough_are came = refl
 
-pub running_first : (ms : List Machine) (came : List Arrival) (first : IdealSwitch)
-    (first_sent : RoomView Departure) → IsReady ms came first first_sent →
-    Running ms came first first_sent 0 (enough came) first first_sent
-running_first ms came first first_sent ready =
+pub running_first : (ms : List Machine) (came : List Arrival) (first : IdealSwitch) (sent : RoomView Departure)
+    (n : ℕ) → IsReady ms came first sent → n ≡ enough came → Running ms came first sent 0 n first sent
+unfolding limited_run arriving_from departures_of
+running_first ms came first sent n ready all_left =
     let all = come_count-traffic_of came in
     let each = λ (j : ℕ). come_for-traffic_of j came in
     let none = waiting-empty (length first.fixed) in
     let slots = all_slots came in
+    let begun : limited_run first.limits ms 0 (first_slots came 0) (marked_state first)
+    ≡ Ok (record { admissions = []; gone = []; after = marked_state first }) = refl in
     grind (arith, common_steps, waiting, come_count, come_for, enough_are, length-replicate, get_or-replicate)
 
 pub come_here : (came : List Arrival) (slot n : ℕ) →
@@ -149,13 +115,33 @@ none_come came (suc n) slot le = grind (arith, common_steps, none_after, come_co
 
 module _ {ms : List Machine} {came : List Arrival} {first : IdealSwitch} {first_sent sent : RoomView Departure}
     {slot n : ℕ} {now : IdealSwitch} (r : Running ms came first first_sent slot n now sent) where
+  -- the run over these slots too
+  run_behind : (later all : List (List (Option Cell))) → first_slots came slot ++ later ≡ all →
+      limited_run first.limits ms 0 all (marked_state first)
+      ≡ behind r.ran.admissions r.ran.gone (limited_run first.limits ms slot later r.ran.after)
+  run_behind later all is =
+      let long = arriving_length came 0 slot in
+      ap (λ (l : List (List (Option Cell))). limited_run first.limits ms 0 l (marked_state first)) (sym is)
+      ∙ limited_parts first.limits ms 0 slot (first_slots came slot) later (marked_state first) (omega arith)
+      ∙ ap (limited_going_on first.limits ms slot later) r.is
+
+  -- and what they sent
+  sent_behind : (more : List (List (Option Queued))) →
+      departures_of 0 (r.ran.gone ++ more) ≡ sent.items ++ departures_of slot more
+  sent_behind more =
+      let long = gone_long first.limits ms 0 (first_slots came slot) (marked_state first) r.ran r.is in
+      let slots = arriving_length came 0 slot in
+      departures_append 0 slot r.ran.gone more (omega arith)
+      ∙ ap (λ (ds : List Departure). ds ++ departures_of slot more) (sym r.departed)
+
   -- where a cell is still to come or waits, a slot is left
   pub slot_left : (end_of came ≤ slot → waiting now.state.lists ≡ 0 → ⊥) → 0 < n
   slot_left more = ⊎_elim (λ some. some) (λ none. absurd (more (omega arith) (omega arith))) (cases_lt 0 n)
 
   -- no count of refused cells and packets is near its type's end
-  pub can_count : length first.fixed ≤ most_ports → IsShort came → CanCount (length first.fixed) now.refused
-  can_count ports short =
+  pub can_count : CanCount (length first.fixed) now.refused
+  can_count =
+      let short : enough came ≤ 2 ^ 63 + 2 ^ 35 = r.ready.short in
       let are = enough_are came in
       let p = length first.fixed in
       let lost = r.lost in
@@ -165,11 +151,13 @@ module _ {ms : List Machine} {came : List Arrival} {first : IdealSwitch} {first_
   -- ## The end of the loop
 
   pub running_over : end_of came ≤ slot → waiting now.state.lists ≡ 0 →
-      run_from first.limits ms came 0 (enough came) (marked_state first) ≡ Ok sent.items
-  unfolding run_from
+      departures_limited (limited_run first.limits ms 0 (traffic_of came) (marked_state first)) ≡ Ok sent.items
+  unfolding traffic_of arriving_from
   running_over le none =
       let rest = limited_stays_empty first.limits ms came n slot (marked_state now) le none in
-      grind (arith, common_steps, append-nil)
+      let all = arriving_parts came 0 slot slot n (enough came) (omega arith) (sym r.left) in
+      let run = run_behind (arriving_from came slot n) (traffic_of came) all in
+      cc (run, rest.is, sent_behind rest.ran.gone, rest.none, append-nil sent.items)
 
 -- what is left is no more than the slots that are left after one of them, in which a cell leaves where one waits
 pub fewer_left : (before after here rest end slot n : ℕ) → after ≤ before + here - 1 →
@@ -184,6 +172,7 @@ module _ {ms : List Machine} {came : List Arrival} {first : IdealSwitch} {first_
       marked_state after ≡ of_slot.after → after.refused ≡ with_refused of_slot.admission.refused now.refused →
       HaveLeft slot of_slot.gone sent sent_new → after.stopped ≡ false → after.next ≡ slot + 1 →
       IsSameSwitch now after → Running ms came first first_sent (slot + 1) n after sent_new
+  unfolding limited_run departures_of
   running_next {after} {sent_new} {of_slot} is state refused left running next same =
       let o = of_admitted first.limits ms slot (arriving came slot) (marked_state now) of_slot is in
       let c = counted ms slot of_slot.admission.cells now.state o.sent o.ran in
@@ -191,15 +180,23 @@ module _ {ms : List Machine} {came : List Arrival} {first : IdealSwitch} {first_
       let gone = ap (λ (l : List (Option Queued)). length (departures_in slot l)) o.gone in
       let waits = ap (λ (s : IdealState). waiting s.lists) becomes in
       let come = come_here came slot n in
-      let later = run_from first.limits ms came (slot + 1) n of_slot.after in
+      let cells = arriving came slot in
       record {
+        ready = r.ready;
         left = omega arith;
         running = running;
         next = next;
         same = same_on r.same same;
-        whole =
-            let step = next_sent first.limits ms came slot n (marked_state now) of_slot is in
-            search (rules, sent_after-twice);
+        ran = record {
+          admissions = r.ran.admissions ++ of_slot.admission ∷ [];
+          gone = r.ran.gone ++ of_slot.gone ∷ [];
+          after = of_slot.after;
+        };
+        is =
+            let run = run_behind r (cells ∷ []) (first_slots came (slot + 1)) (sym (first_more came slot)) in
+            let step = run_step first.limits ms slot cells [] (marked_state now) of_slot is in cc;
+        after = sym state;
+        departed = cc (sent_behind r (of_slot.gone ∷ []), left.items, append-nil (departures_in slot of_slot.gone));
         lost = r.lost ++ of_slot.admission.refused;
         refused = cc (counts_more first.limits r.lost of_slot.admission.refused);
         ports = ap (λ (s : IdealState). length s.lists) becomes ∙ c.ports ∙ r.ports;
@@ -207,14 +204,17 @@ module _ {ms : List Machine} {came : List Arrival} {first : IdealSwitch} {first_
         spare = omega arith;
         few = search (arith, rules, waiting, come_count, r.few, fewer_left, present, none_after, none_come);
         many = search (arith, rules, length-append);
-        early = search (arith, rules, slots_of-append, slots_of-departures);
       }
 
   pub running_fault : (fault : TagFault) →
       limited_slot first.limits ms slot (arriving came slot) (marked_state now) ≡ Err fault →
-      run_from first.limits ms came 0 (enough came) (marked_state first) ≡ Err fault
-  unfolding run_from
-  running_fault fault is = grind (arith, common_steps, arriving_here, run_fault)
+      departures_limited (limited_run first.limits ms 0 (traffic_of came) (marked_state first)) ≡ Err fault
+  unfolding traffic_of arriving_from
+  running_fault fault is =
+      let later = arriving_from came (slot + 1) n in
+      let all = arriving_parts came 0 slot slot (suc n) (enough came) (omega arith) (sym r.left) in
+      let stop = run_fault first.limits ms slot (arriving came slot) later (marked_state now) fault is in
+      cc (run_behind r (arriving came slot ∷ later) (traffic_of came) all)
 
 -- What a slot sent stands in a list of its own, in which nothing stood before, until the departures of the run take it
 -- over. So what holds of that list holds of the departures of the run.
@@ -259,66 +259,57 @@ fewer_come count less slot zero n later e = grind (arith, common_steps)
 fewer_come count less slot (suc k) n later e = grind (arith, common_steps, fewer_come count less (slot + 1) k n later)
 
 -- the slots of the stretch send nothing
-nothing_departs : (k slot ports : ℕ) (gone : List (List (Option Queued))) →
-    departures_of slot (replicate k (replicate ports None) ++ gone) ≡ departures_of (slot + k) gone
+nothing_departs : (k slot ports : ℕ) → departures_of slot (replicate k (replicate ports None)) ≡ []
 unfolding departures_of departures_in
-nothing_departs zero slot ports gone = grind (arith, common_steps)
-nothing_departs (suc k) slot ports gone =
-    search (rules, no_departures ports slot 0, nothing_departs k (slot + 1) ports gone)
+nothing_departs zero slot ports = refl
+nothing_departs (suc k) slot ports = simp (no_departures, nothing_departs k (slot + 1) ports)
 
-sent_behind : (k slot ports : ℕ) (admissions : List Admission) (x : Result LimitedRan TagFault) →
-    sent_from slot (behind admissions (replicate k (replicate ports None)) x) ≡ sent_from (slot + k) x
-sent_behind k slot ports admissions x = grind (arith, common_steps, nothing_departs)
+module _ (M : List ℕ → Machine) {came : List Arrival} {first : IdealSwitch} {first_sent sent : RoomView Departure}
+    {slot m next : ℕ} {now new : IdealSwitch} (r : Running (map M first.fixed) came first first_sent slot m now sent)
+    (quiet : IsQuiet came slot next) (rested : HasRested (map M now.fixed) slot next now new) where
+  rests : limited_run first.limits (map M first.fixed) slot (replicate (next - slot) no_arrivals) (marked_state now)
+      ≡ Ok (nothing_came (next - slot) (length now.fixed) (marked_state new))
+  rests = grind (arith, common_steps)
 
-same_run : (limits : List (Option ℕ)) (ms : List Machine) (came : List Arrival) (ports k slot n m : ℕ)
-    (s t : Marked IdealState) → m ≡ k + n → ((t : ℕ) → slot ≤ t → t < slot + k → arriving came t ≡ no_arrivals) →
-    limited_run limits ms slot (replicate k no_arrivals) s ≡ Ok (nothing_came k ports t) →
-    run_from limits ms came slot m s ≡ run_from limits ms came (slot + k) n t
-unfolding run_from
-same_run limits ms came ports k slot n m s t left quiet ran =
-    let rest = arriving_from came (slot + k) n in
-    let long = length-replicate k no_arrivals in
-    let parts : arriving_from came slot m ≡ replicate k no_arrivals ++ rest =
-    sym (arriving_parts came slot (slot + k) k n m refl left)
-    ∙ ap (λ (l : List (List (Option Cell))). l ++ rest) (quiet_slots came slot k quiet) in
-    ap (λ (l : List (List (Option Cell))). sent_from slot (limited_run limits ms slot l s)) parts
-    ∙ ap (sent_from slot) (limited_parts limits ms slot (slot + k) (replicate k no_arrivals) rest s (omega arith))
-    ∙ ap (λ (x : Result LimitedRan TagFault). sent_from slot (limited_going_on limits ms (slot + k) rest x)) ran
-    ∙ sent_behind k slot ports (replicate k (nothing_refused t.marks no_arrivals))
-    (limited_run limits ms (slot + k) rest t)
-
-module _ {ms : List Machine} {came : List Arrival} {first : IdealSwitch} {first_sent sent : RoomView Departure}
-    {slot m : ℕ} {now : IdealSwitch} (r : Running ms came first first_sent slot m now sent) where
-  pub running_rest : (ports k n : ℕ) (after : IdealSwitch) → m ≡ k + n →
-      ((t : ℕ) → slot ≤ t → t < slot + k → arriving came t ≡ no_arrivals) → (0 < k → slot + k ≤ end_of came) →
-      limited_run first.limits ms slot (replicate k no_arrivals) (marked_state now)
-      ≡ Ok (nothing_came k ports (marked_state after)) →
-      after.next ≡ slot + k → after.stopped ≡ false → after.state.lists ≡ now.state.lists →
-      after.refused ≡ now.refused → IsSameSwitch now after → Running ms came first first_sent (slot + k) n after sent
-  running_rest ports k n after left quiet late ran next running lists refused same =
-      let waits = ap waiting lists in
-      let fewer : come_count (arriving_from came (slot + k) n) ≤ come_count (arriving_from came slot m) =
-      rw left (fewer_come (λ t l. come_count (arriving_from came t l)) (λ t l. omega (arith, come_here came t l)) slot
-      k n (slot + k) refl) in
+  pub running_rest : (n : ℕ) → next + n ≡ enough came →
+      Running (map M first.fixed) came first first_sent next n new sent
+  running_rest n left =
+      let k = next - slot in
+      let gone = replicate k (replicate (length now.fixed) None) in
+      let parts : m ≡ k + n = omega arith in
+      let waits = ap waiting rested.lists in
+      let fewer : come_count (arriving_from came next n) ≤ come_count (arriving_from came slot m) =
+      rw parts (fewer_come (λ t l. come_count (arriving_from came t l)) (λ t l. omega (arith, come_here came t l)) slot
+      k n next (omega arith)) in
       record {
-        left = omega arith;
-        running = running;
-        next = next;
-        same = same_on r.same same;
-        whole = r.whole ∙ ap (sent_after sent.items)
-            (same_run first.limits ms came ports k slot n m (marked_state now) (marked_state after) left quiet ran);
+        ready = r.ready;
+        left = left;
+        running = rested.running;
+        next = rested.next;
+        same = search (arith, rules);
+        ran = record {
+          admissions = r.ran.admissions ++ replicate k (nothing_refused new.marks no_arrivals);
+          gone = r.ran.gone ++ gone;
+          after = marked_state new;
+        };
+        is =
+            let none = quiet_slots came slot k (λ t from to. quiet.none t from (omega arith)) in
+            let all = ap (λ (l : List (List (Option Cell))). first_slots came slot ++ l) (sym none)
+            ∙ arriving_parts came 0 slot slot k next (omega arith) (omega arith) in
+            cc (run_behind r (replicate k no_arrivals) (first_slots came next) all, rests);
+        after = refl;
+        departed = cc (sent_behind r gone, nothing_departs k slot (length now.fixed), append-nil sent.items);
         lost = r.lost;
-        refused = refused ∙ r.refused;
-        ports = ap (λ (l : List (List Queued)). length l) lists ∙ r.ports;
+        refused = rested.refused ∙ r.refused;
+        ports = ap (λ (l : List (List Queued)). length l) rested.lists ∙ r.ports;
         each = λ j inside.
-            let less : come_for j (arriving_from came (slot + k) n) ≤ come_for j (arriving_from came slot m) =
-            rw left (fewer_come (λ t l. come_for j (arriving_from came t l))
-            (λ t l. omega (arith, for_here j came t l)) slot k n (slot + k) refl) in
+            let less : come_for j (arriving_from came next n) ≤ come_for j (arriving_from came slot m) =
+            rw parts (fewer_come (λ t l. come_for j (arriving_from came t l))
+            (λ t l. omega (arith, for_here j came t l)) slot k n next (omega arith)) in
             search (arith, rules, r.each);
         spare = omega arith;
-        few = search (arith, rules, late, cases_lt 0 k);
+        few = search (arith, rules, quiet.more, cases_lt slot next);
         many = omega arith;
-        early = omega arith;
       }
 
 -- ## The test
@@ -328,12 +319,6 @@ pub not_over : (b : Bool) (end slot : ℕ) (lists : List (List Queued)) → b �
 not_over b end slot lists going iff le none = grind (arith, common_steps, nothing_left)
 
 -- ## The steps
-
-pub whole_run : (limits : List (Option ℕ)) (ms : List Machine) (came : List Arrival) (state : Marked IdealState) →
-    departures_limited (limited_run limits ms 0 (traffic_of came) state)
-    ≡ run_from limits ms came 0 (enough came) state
-unfolding run_from arriving_from traffic_of
-whole_run limits ms came state = grind (arith, common_steps)
 
 slot_ok : (x : Result LimitedSent TagFault) → Ok tt ≡ answer_to x → (sent : LimitedSent) × (x ≡ Ok sent)
 slot_ok (Ok sent) e = (sent, refl)
@@ -361,88 +346,81 @@ module _ {ms : List Machine} {slot ports : ℕ} {cells : List (Option Cell)} {ol
         sent_new.spare + length left.items ≡ sent.spare → HasHad ms slot cells old new sent sent_new
     handed {sent} {sent_new} items spare = grind (arith, common_steps, IfOk-weaker, left_with_all)
 
-module _ (M : List ℕ → Machine) {came : List Arrival} {first : IdealSwitch} {first_sent : RoomView Departure}
-    (ready : IsReady (map M first.fixed) came first first_sent) where
-  abbrev pub Before : ℕ → IdealSwitch → RoomView Departure → Type 0
-  Before slot now sent = Running (map M first.fixed) came first first_sent slot (enough came - slot) now sent
+-- The run stands at this slot, which is to be run: a cell is to come, or one waits.
+pub record Standing (M : List ℕ → Machine) (came : List Arrival) (first : IdealSwitch)
+    (first_sent : RoomView Departure) (slot : ℕ) (now : IdealSwitch) (sent : RoomView Departure) : Type 0 where
+  pub runs : Running (map M first.fixed) came first first_sent slot (enough came - slot) now sent
+  pub more : end_of came ≤ slot → waiting now.state.lists ≡ 0 → ⊥
 
-  pub at_first : Before 0 first first_sent
-  at_first = subst (λ (n : ℕ). Running (map M first.fixed) came first first_sent 0 n first first_sent) (omega arith)
-      (running_first (map M first.fixed) came first first_sent ready)
+module _ {M : List ℕ → Machine} {came : List Arrival} {first : IdealSwitch} {first_sent sent : RoomView Departure}
+    {slot : ℕ} {now : IdealSwitch} (here : Standing M came first first_sent slot now sent) where
+  pub a_slot_left : slot < enough came
+  a_slot_left = let left = slot_left here.runs here.more in omega arith
 
-  module _ {slot : ℕ} {now : IdealSwitch} {sent : RoomView Departure} (r : Before slot now sent)
-      (more : end_of came ≤ slot → waiting now.state.lists ≡ 0 → ⊥) where
-    pub a_slot_left : slot < enough came
-    a_slot_left = let left = slot_left r more in omega arith
+  r_next : Running (map M first.fixed) came first first_sent slot (suc (enough came - (slot + 1))) now sent
+  r_next = search (arith, rules, Running, a_slot_left)
 
-    r_next : Running (map M first.fixed) came first first_sent slot (suc (enough came - (slot + 1))) now sent
-    r_next = search (arith, rules, Running, a_slot_left)
+  early : slot < 2 ^ 64 - 1
+  early = let l = a_slot_left in let short : enough came ≤ 2 ^ 63 + 2 ^ 35 = here.runs.ready.short in omega arith
 
-    early : slot < 2 ^ 64 - 1
-    early = let l = a_slot_left in let short : enough came ≤ 2 ^ 63 + 2 ^ 35 = ready.short in omega arith
+  room_left : (cells : List (Option Cell)) → cells ≡ arriving came slot → HasRoomFor cells now
+  room_left cells are j inside = grind (arith, common_steps, for_here j came slot (enough came - (slot + 1)))
 
-    room_left : (cells : List (Option Cell)) → cells ≡ arriving came slot → HasRoomFor cells now
-    room_left cells are j inside = grind (arith, common_steps, for_here j came slot (enough came - (slot + 1)))
+  room_to_count : CanCount (length now.fixed) now.refused
+  room_to_count = rw here.runs.same.fixed (can_count here.runs)
 
-    room_to_count : CanCount (length now.fixed) now.refused
-    room_to_count = rw r.same.fixed (can_count r ready.ports ready.short)
+  -- the slot finds all that it asks for, with a free list for what is sent
+  pub can_have : {cells : List (Option Cell)} {leaving : RoomView Departure} → cells ≡ arriving came slot →
+      IsFree (length first.fixed) leaving → CanHaveSlot (map M now.fixed) slot cells now leaving
+  can_have {cells} are free = search (arith, rules, early, room_left, room_to_count, arrivals_for)
 
-    -- the slot finds all that it asks for, with a free list for what is sent
-    pub can_have : {cells : List (Option Cell)} {leaving : RoomView Departure} → cells ≡ arriving came slot →
-        IsFree (length first.fixed) leaving → CanHaveSlot (map M now.fixed) slot cells now leaving
-    can_have {cells} are free = search (arith, rules, early, room_left, room_to_count, arrivals_for)
+  -- and the departures of the run can take over what leaves there
+  pub can_take_over : {cells : List (Option Cell)} {after : IdealSwitch} {leaving left : RoomView Departure} →
+      IsFree (length first.fixed) leaving → HasHad (map M now.fixed) slot cells now after leaving left →
+      length left.items ≤ sent.spare
+  can_take_over free had = search (arith, rules, few_left)
 
-    -- and the departures of the run can take over what leaves there
-    pub can_take_over : {cells : List (Option Cell)} {after : IdealSwitch} {leaving left : RoomView Departure} →
-        IsFree (length first.fixed) leaving → HasHad (map M now.fixed) slot cells now after leaving left →
-        length left.items ≤ sent.spare
-    can_take_over free had = search (arith, rules, few_left)
+  as_now : (cells : List (Option Cell)) → cells ≡ arriving came slot →
+      its_slot (map M now.fixed) slot cells now
+      ≡ limited_slot first.limits (map M first.fixed) slot (arriving came slot) (marked_state now)
+  as_now cells are = grind (arith, common_steps)
 
-    as_now : (cells : List (Option Cell)) → cells ≡ arriving came slot →
-        its_slot (map M now.fixed) slot cells now
-        ≡ limited_slot first.limits (map M first.fixed) slot (arriving came slot) (marked_state now)
-    as_now cells are = grind (arith, common_steps)
+  pub at_next : (cells : List (Option Cell)) (after : IdealSwitch) (sent_new : RoomView Departure) →
+      cells ≡ arriving came slot → HasHad (map M now.fixed) slot cells now after sent sent_new →
+      Running (map M first.fixed) came first first_sent (slot + 1) (enough came - (slot + 1)) after sent_new
+  at_next cells after sent_new are had = grind (arith, common_steps, slot_ok, running_next, r_next, as_now)
 
-    pub at_next : (cells : List (Option Cell)) (after : IdealSwitch) (sent_new : RoomView Departure) →
-        cells ≡ arriving came slot → HasHad (map M now.fixed) slot cells now after sent sent_new →
-        Before (slot + 1) after sent_new
-    at_next cells after sent_new are had = grind (arith, common_steps, slot_ok, running_next, r_next, as_now)
+  pub at_fault : (cells : List (Option Cell)) (fault : TagFault) → cells ≡ arriving came slot →
+      Err fault ≡ answer_to (its_slot (map M now.fixed) slot cells now) →
+      departures_limited (limited_run first.limits (map M first.fixed) 0 (traffic_of came) (marked_state first))
+      ≡ Err fault
+  at_fault cells fault are answer = running_fault r_next fault
+      (sym (as_now cells are) ∙ slot_err (its_slot (map M now.fixed) slot cells now) fault answer)
 
-    pub at_fault : (cells : List (Option Cell)) (fault : TagFault) → cells ≡ arriving came slot →
-        Err fault ≡ answer_to (its_slot (map M now.fixed) slot cells now) →
-        departures_limited (limited_run first.limits (map M first.fixed) 0 (traffic_of came) (marked_state first))
-        ≡ Err fault
-    at_fault cells fault are answer = whole_run first.limits (map M first.fixed) came (marked_state first)
-        ∙ running_fault r_next fault
-        (sym (as_now cells are) ∙ slot_err (its_slot (map M now.fixed) slot cells now) fault answer)
-
+module _ (M : List ℕ → Machine) {came : List Arrival} {first : IdealSwitch} {first_sent sent : RoomView Departure}
+    {slot n : ℕ} {now : IdealSwitch} (r : Running (map M first.fixed) came first first_sent slot n now sent) where
   -- a stretch is skipped
-  module _ {slot next : ℕ} {now new : IdealSwitch} {sent : RoomView Departure} (r : Before slot now sent)
-      (quiet : IsQuiet came slot next) (rested : HasRested (map M now.fixed) slot next now new) where
-    ran : limited_run first.limits (map M first.fixed) slot (replicate (next - slot) no_arrivals) (marked_state now)
-        ≡ Ok (nothing_came (next - slot) (length now.fixed) (marked_state new))
-    ran = grind (arith, common_steps)
+  pub stands : {next : ℕ} {new : IdealSwitch} → IsQuiet came slot next →
+      HasRested (map M now.fixed) slot next now new → (end_of came ≤ slot → waiting now.state.lists ≡ 0 → ⊥) →
+      Standing M came first first_sent next new sent
+  stands {next} {new} quiet rested more =
+      let ends = enough_are came in
+      let within : next ≤ enough came = ⊎_elim (λ lt. let before = quiet.more lt in omega arith) (λ ge. omega arith)
+      (cases_lt slot next) in
+      record {
+        runs = running_rest M r quiet rested (enough came - next) (omega arith);
+        more = λ le none. grind (arith, common_steps, waiting, cases_lt);
+      }
 
-    pub at_rest : Before next new sent
-    at_rest =
-        let left : enough came - slot ≡ next - slot + (enough came - next) =
-        ⊎_elim (λ lt. let before = quiet.more lt in omega arith) (λ ge. omega arith) (cases_lt slot next) in
-        let there : slot + (next - slot) ≡ next = omega arith in
-        rw there at (running_rest r (length now.fixed) (next - slot) (enough came - next) new left
-        (λ t from to. quiet.none t from (omega arith)) (λ some. let before = quiet.more (omega arith) in omega arith)
-        ran (rested.next ∙ sym there) rested.running rested.lists rested.refused
-        (record { fixed = rested.fixed; limits = rested.limits; rooms = rested.rooms }))
+  pub at_end : (end_of came ≤ slot) × All (λ cells. cells ≡ []) now.state.lists →
+      departures_limited (limited_run first.limits (map M first.fixed) 0 (traffic_of came) (marked_state first))
+      ≡ Ok sent.items
+  at_end over = search (rules, running_over, none_waits)
 
-    pub more_at_rest : (end_of came ≤ slot → waiting now.state.lists ≡ 0 → ⊥) → end_of came ≤ next →
-        waiting new.state.lists ≡ 0 → ⊥
-    more_at_rest more le none = grind (arith, common_steps, waiting, cases_lt)
-
-  module _ {slot : ℕ} {now : IdealSwitch} {sent : RoomView Departure} (r : Before slot now sent) where
-    pub at_end : (end_of came ≤ slot) × All (λ cells. cells ≡ []) now.state.lists →
-        departures_limited (limited_run first.limits (map M first.fixed) 0 (traffic_of came) (marked_state first))
-        ≡ Ok sent.items
-    at_end over = search (rules, whole_run, running_over, none_waits)
-
-    -- so no departure is of a late slot
-    pub early_at_end : slots_of sent.items ≤ 2 ^ 63 + 2 ^ 35
-    early_at_end = grind (arith, common_steps)
+  -- so no departure is of a late slot
+  pub early_at_end : slots_of sent.items ≤ 2 ^ 63 + 2 ^ 35
+  early_at_end =
+      let within = slots_within 0 r.ran.gone in
+      let long = gone_long first.limits (map M first.fixed) 0 (first_slots came slot) (marked_state first) _ r.is in
+      let slots = arriving_length came 0 slot in
+      let short : enough came ≤ 2 ^ 63 + 2 ^ 35 = r.ready.short in rw r.departed (omega arith)

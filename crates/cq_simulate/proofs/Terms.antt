@@ -34,9 +34,9 @@ pub use Rattle.cq_ideal.proofs.FlowRun.{flow_came, no_port}
 unfoldable pub use Rattle.cq_ideal.proofs.FlowRun.{come_count}
 pub use Rattle.cq_ideal.proofs.FlowStands.{HasWaited, Stands, is_kind, is_of_flow, shown}
 unfoldable pub use Rattle.cq_ideal.proofs.FlowStands.{of_flow}
-pub use Rattle.cq_ideal.proofs.LimitedEnds.{limited_found_end, limited_same_sent, limited_whole_fault, run_as_before, slots_as_before}
+pub use Rattle.cq_ideal.proofs.LimitedEnds.{gone_long, limited_found_end, limited_same_sent, limited_whole_fault, run_as_before, slots_as_before}
 pub use Rattle.cq_ideal.proofs.LimitedRuns.{is_run_of, judged, run_fault, run_step}
-pub use Rattle.cq_ideal.proofs.Parted.{arriving_here, arriving_length, arriving_parts}
+pub use Rattle.cq_ideal.proofs.Parted.{arriving_here, arriving_length, arriving_parts, departures_append}
 pub use Rattle.cq_ideal.proofs.Refusals.{counts_more, each_once, one_slot_more}
 pub use Rattle.cq_ideal.proofs.RestAtInput.{comes_from, is_from_on, line_at, rest_of}
 pub use Rattle.cq_ideal.proofs.Waiting.{counted, total_more, total_none, total_same}
@@ -53,8 +53,8 @@ pub use Rattle.cq_ideal.specs.IdealSlot.{IdealState, ideal_slot}
 unfoldable pub use Rattle.cq_ideal.specs.IdealSlot.{departures_in}
 pub use Rattle.cq_ideal.specs.LimitedEnding.{departures_limited, slots_of_limited_run}
 unfoldable pub use Rattle.cq_ideal.specs.LimitedEnding.{whole_limited_run}
-pub use Rattle.cq_ideal.specs.LimitedIdeal.{LimitedRan, LimitedSent, empty_limited, ideal_admission, ideal_held, limited_run, nothing_came, then_limited, unlimited, with_admission}
-unfoldable pub use Rattle.cq_ideal.specs.LimitedIdeal.{limited_slot}
+pub use Rattle.cq_ideal.specs.LimitedIdeal.{LimitedRan, LimitedSent, empty_limited, ideal_admission, ideal_held, nothing_came, then_limited, unlimited, with_admission}
+unfoldable pub use Rattle.cq_ideal.specs.LimitedIdeal.{limited_run, limited_slot}
 pub use Rattle.cq_ideal.specs.Ranking.{AreForPorts, ranking}
 pub use Rattle.cq_ideal.specs.Refused.{refused_counts, refused_in, with_refused}
 unfoldable pub use Rattle.cq_ideal.specs.Refused.{packets_refused}
@@ -93,7 +93,7 @@ unfoldable pub use Rattle.cq_resume.specs.Told.{fabric_told}
 pub use Rattle.cq_resume.specs.declared.taken.Taken.{Taken}
 pub use Rattle.cq_engine.specs.Engine.{CanBeMade, CanGoOn, EngineView, HaveBufferRoom, HaveListRoom, IsMadeAs, IsReadyFor, SlotDone, fresh_engine, frozen_of, thawed_engine, its_admission, marked_fabric}
 pub use Rattle.cq_traffic.proofs.ForPorts.{arrivals_for, slots_fit}
-pub use Rattle.cq_traffic.proofs.FromInputs.{arrives_found, bit, from_here, no_more_from, one_if, some_one}
+pub use Rattle.cq_traffic.proofs.FromInputs.{arrives_found, bit, first_more, from_here, no_more_from, one_if, some_one}
 unfoldable pub use Rattle.cq_traffic.proofs.FromInputs.{come_from}
 pub use Rattle.cq_traffic.proofs.Quiet.{arrives_before, before_both, none_up_to, quiet_of, quiet_slots}
 pub use Rattle.cq_traffic.proofs.ToOutputs.{come_for-traffic_of, for_here, no_more_to}
@@ -118,7 +118,7 @@ pub use Rattle.cq_cells.proofs.Stamps.{length-rows_from}
 pub use Rattle.cq_cells.proofs.Ranges.{range_more}
 pub use Rattle.cq_scfq.specs.declared.discipline.Discipline.{Discipline}
 pub use Rattle.cq_ideal.proofs.EnoughSlots.{waiting-empty}
-pub use Rattle.cq_ideal.proofs.{LimitedParts.no_departures, EachLeaves.each_leaves_or_is_refused, EachLeaves.refuses_none_elsewhere, FlowLaw.all_in_range, FlowLaw.class_in_slot, FlowLaw.none_came, FlowOn.flow_on, FlowOn.whole_on, LastSlot.slots_of-append, LastSlot.slots_of-departures, LimitedLast.last_departs, LimitedLast.limited_slots, Standing.StandAt, Standing.stand_in}
+pub use Rattle.cq_ideal.proofs.{LimitedParts.no_departures, EachLeaves.each_leaves_or_is_refused, EachLeaves.refuses_none_elsewhere, FlowLaw.all_in_range, FlowLaw.class_in_slot, FlowLaw.none_came, FlowOn.flow_on, FlowOn.whole_on, LastSlot.slots_within, LimitedLast.last_departs, LimitedLast.limited_slots, Standing.StandAt, Standing.stand_in}
 pub use Rattle.cq_ideal.specs.{EachOnce.KeepTheirOutput, EachOnce.LeaveOrAreRefused, Fresh.fresh_ideal, OneSlot.CanHaveSlot, OneSlot.HasHadSlot, OneSlot.IsSameSwitch}
 pub use Rattle.cq_reasm.specs.{Cutting.AreCutFrom, Open.Open, Open.bytes_taken, Open.with_piece, Piece.Piece}
 pub use Rattle.cq_reasm.proofs.Pieces.{pieces_give_frame}

@@ -1,23 +1,18 @@
-use Rattle.cq_simulate.proofs.Terms.{rules, ◌≡◌, ◌≤◌, map, sym, ◌∙◌, arith, err_from_is_err_and, end_of, waiting}
-use Rattle.cq_simulate.proofs.Steps.{Before, HasHad, a_slot_left, at_end, at_fault, at_first, at_next, at_rest, can_have, can_take_over, early_at_end, free_again, handed, left_here, more_at_rest, not_over}
+use Rattle.cq_simulate.proofs.Terms.{rules, map, sym, ◌∙◌, arith, err_from_is_err_and, end_of}
+use Rattle.cq_simulate.proofs.Steps.{HasHad, Standing, a_slot_left, at_end, at_fault, at_next, can_have, can_take_over, early_at_end, free_again, handed, left_here, not_over, running_first, stands as stands_at}
 use Rattle.cq_simulate.proofs.ideal_run.run_slots.Given as given
 use Rattle.cq_simulate.proofs.ideal_run.run_slots.Goals as goal
 use Rattle.cq_simulate.proofs.ideal_run.run_slots.Goals.{After-arrivals, In_ok-slot}
 
 -- ## What is known
 
--- once quiet slots are skipped, the run stands at this slot
+-- once quiet slots are skipped, the run stands at a slot that is to be run
 stands : (g : given.Over) (c : After-arrivals g) →
-    Before g.R.Rank.machine c.requires.ready
-    c.skip-slot.result c.skip-slot.new.ideal c.slots.sent
-stands g c = search (arith, rules, at_rest)
-
--- and is not over there
-going : (g : given.Over) (c : After-arrivals g) → end_of c.args.schedule.now.came ≤ c.skip-slot.result →
-    waiting c.skip-slot.new.ideal.state.lists ≡ 0 → ⊥
-going g c = more_at_rest g.R.Rank.machine c.requires.ready c.slots.invariant.runs c.skip-slot.ensures.quiet
-    c.skip-slot.ensures.rested (not_over c.is_over.result (end_of c.args.schedule.now.came) c.slots.slot
-    c.slots.ideal.state.lists c.slots-test.true c.is_over.ensures)
+    Standing g.R.Rank.machine c.args.schedule.now.came c.args.ideal.now c.args.sent.now c.skip-slot.result
+    c.skip-slot.new.ideal c.slots.sent
+stands g c = stands_at g.R.Rank.machine c.slots.invariant.runs c.skip-slot.ensures.quiet c.skip-slot.ensures.rested
+    (not_over c.is_over.result (end_of c.args.schedule.now.came) c.slots.slot c.slots.ideal.state.lists
+    c.slots-test.true c.is_over.ensures)
 
 -- what the switch says of the slot
 had : (g : given.Over) (c : In_ok-slot g) →
@@ -28,36 +23,33 @@ had g c = search (arith, rules)
 -- ## The loop
 
 pub slots-init : goal.slots-init
-slots-init g c = search (arith, rules, at_first)
+slots-init g c = search (arith, rules, running_first)
 
 pub slot-requires : goal.slot-requires
 slot-requires g c =
-    let at = (goal.at.slot-requires g c).After-arrivals in
-    can_have g.R.Rank.machine c.requires.ready (stands g at) (going g at) (c.arrivals.ensures
-    ∙ c.skip-slot.ensures.came) c.slots.invariant.free
+    can_have (stands g (goal.at.slot-requires g c).After-arrivals) (c.arrivals.ensures ∙ c.skip-slot.ensures.came)
+    c.slots.invariant.free
 
 pub returns-in_err-slot-clause-refused : goal.returns-in_err-slot-clause-refused
 returns-in_err-slot-clause-refused g c =
-    let at = (goal.at.returns-in_err-slot-clause-refused g c).After-arrivals in
+    let here = stands g (goal.at.returns-in_err-slot-clause-refused g c).After-arrivals in
     let p = err_from_is_err_and c.from_residual-in_err-slot.result c.from_residual-in_err-slot.ensures.1 in
-    rw (p.1, p.2) (at_fault g.R.Rank.machine c.requires.ready (stands g at) (going g at) c.arrivals.result.now
-    c.in_err-slot.field-0.0 (c.arrivals.ensures ∙ c.skip-slot.ensures.came)
-    (sym c.in_err-slot.was ∙ c.slot.ensures.answer))
+    rw (p.1, p.2) (at_fault here c.arrivals.result.now c.in_err-slot.field-0.0 (c.arrivals.ensures
+    ∙ c.skip-slot.ensures.came) (sym c.in_err-slot.was ∙ c.slot.ensures.answer))
 
 pub slots-smaller : goal.slots-smaller
 slots-smaller g c =
-    let at = (goal.at.slots-smaller g c).After-arrivals in
-    let left = a_slot_left g.R.Rank.machine c.requires.ready (stands g at) (going g at) in omega arith
+    let left = a_slot_left (stands g (goal.at.slots-smaller g c).After-arrivals) in omega arith
 
 pub take_all-requires : goal.take_all-requires
-take_all-requires g c = search (arith, rules, can_take_over, stands, going, had)
+take_all-requires g c = search (arith, rules, can_take_over, stands, had)
 
 pub slots-preserved : goal.slots-preserved
 slots-preserved g c =
     let at = goal.at.slots-preserved g c in
     record {
-      runs = at_next g.R.Rank.machine c.requires.ready (stands g at.After-arrivals) (going g at.After-arrivals)
-          c.arrivals.result.now c.slot.new.self c.take_all.new.self (c.arrivals.ensures ∙ c.skip-slot.ensures.came)
+      runs = at_next (stands g at.After-arrivals) c.arrivals.result.now c.slot.new.self c.take_all.new.self
+          (c.arrivals.ensures ∙ c.skip-slot.ensures.came)
           (handed c.slots.invariant.free (had g at.In_ok-slot) c.take_all.ensures.items c.take_all.ensures.spare);
       free = free_again c.slots.invariant.free (left_here c.slots.invariant.free (had g at.In_ok-slot)).1
           c.take_all.ensures.none_left c.take_all.ensures.room;
@@ -65,7 +57,7 @@ slots-preserved g c =
 
 pub returns-clause-sent : goal.returns-clause-sent
 returns-clause-sent g c =
-    at_end g.R.Rank.machine c.requires.ready c.slots.invariant.runs (c.is_over.ensures.0 c.slots-test.false)
+    at_end g.R.Rank.machine c.slots.invariant.runs (c.is_over.ensures.0 c.slots-test.false)
 
 pub returns-clause-early : goal.returns-clause-early
 returns-clause-early g c = search (arith, rules, early_at_end)
