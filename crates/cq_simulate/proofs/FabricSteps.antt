@@ -1,8 +1,8 @@
 -- What each step of the loop over the slots of the fabric asks for, where so many slots are left as are not yet over.
-use Rattle.cq_simulate.proofs.Terms.{common_steps, rules, ◌≡◌, ◌↔◌, ℕ, suc, ◌+◌, ◌-◌, ◌<◌, ◌≤◌, ◌^◌, Bool, true, false, List, [], ◌++◌, length, map, replicate, Option, Some, Err, refl, sym, ap, ◌∙◌, subst, arith, zero, ◌*◌, ◌∷◌, ⊎_elim, length-append, append_assoc, IsTrue, sum, slice_index, find, cases_lt, and_left, leb-false, ne_eqb, arrival_at, no_arrivals, Arrival, arriving, end_of, arriving_at, is_at, RoomView, Cell, Departure, TagFault, Transfer, EngineView, HaveBufferRoom, HaveListRoom, IsMadeAs, IsReadyFor, SlotDone, answer_to, its_admission, marked_fabric, HaveLeft, CanCount, AreForPorts, ranking, IsEmptyFabric, Fabric, input, LimitedFabricRun, admissions_in, LimitedRecord, IsLimitedFault, LimitedFabricSlot, slots_in, IsInputBest, Machine, class_count, counts_fit, none_counted, all_counted_both, refused_in, HasPartedTo, HasRunOn, IsReadyOn, IsReadyPart, NoneCome, StopsWithin, RanTo, WentOn, to_come, arrivals_for, arrives_found, from_here, one_if, come_from, some_one, no_more_from, for_here, come_for, no_more_to, IsQuiet, append-nil, length-map, get_or_past, map-append, take_all, take-append-le, departures_in, no_departures, IdealState, quiet_figures, quiet_transfers, transfers_in, transfers_of_run, flat_map, range_with_len, map-range_with_len_more, Queued, Figures, nothing_left, present, come_count, none_after, come_count-first, arriving_length, arriving_here, arriving_parts, one_slot_more, counted, waiting, total, total_same, Marked, arriving_from, departures_of, LimitedSent, stable_limited_slot, limited_ports_kept, same_limited_slot, only_limited_run, empty_together, Agrees, SlotRecord, fabric_held, held_for, LimitedAgrees, figures_after, proposals_in, fold-append, sum_by-cons, agrees_of, ideal_of, list_of, is_from, is_to, number_of, arriving_is, cell_listed, found, quiet_limited_slots, quiet_limited_slot, limited_lists_kept, limited_outputs_kept, all_go_on, departures_one, transfers_both, transfers_one, departures_on, hold_as_many, most_ports}
+use Rattle.cq_simulate.proofs.Terms.{common_steps, rules, ◌≡◌, ◌↔◌, ℕ, suc, ◌+◌, ◌-◌, ◌<◌, ◌≤◌, ◌^◌, Bool, true, false, List, [], ◌++◌, length, map, replicate, Option, Some, Err, refl, sym, ap, ◌∙◌, subst, arith, zero, ◌*◌, ◌∷◌, ⊎_elim, length-append, append_assoc, IsTrue, sum, slice_index, find, cases_lt, and_left, leb-false, ne_eqb, arrival_at, no_arrivals, Arrival, arriving, end_of, arriving_at, is_at, RoomView, Cell, Departure, TagFault, Transfer, EngineView, HaveBufferRoom, HaveListRoom, IsMadeAs, IsReadyFor, SlotDone, answer_to, its_admission, marked_fabric, HaveLeft, CanCount, AreForPorts, ranking, IsEmptyFabric, Fabric, input, LimitedFabricRun, admissions_in, LimitedRecord, IsLimitedFault, LimitedFabricSlot, slots_in, IsInputBest, Machine, class_count, counts_fit, none_counted, all_counted_both, refused_in, HasRunOn, IsReadyOn, NoneCome, StopsWithin, RanTo, WentOn, to_come, arrivals_for, arrives_found, from_here, one_if, come_from, some_one, no_more_from, for_here, come_for, no_more_to, IsQuiet, append-nil, length-map, get_or_past, map-append, take_all, take-append-le, departures_in, no_departures, IdealState, quiet_figures, quiet_transfers, transfers_in, transfers_of_run, flat_map, range_with_len, map-range_with_len_more, Queued, Figures, nothing_left, present, come_count, none_after, come_count-first, arriving_length, arriving_here, arriving_parts, one_slot_more, counted, waiting, total, total_same, Marked, arriving_from, departures_of, LimitedSent, stable_limited_slot, limited_ports_kept, same_limited_slot, only_limited_run, empty_together, Agrees, SlotRecord, fabric_held, held_for, LimitedAgrees, figures_after, proposals_in, fold-append, sum_by-cons, agrees_of, ideal_of, list_of, is_from, is_to, number_of, arriving_is, cell_listed, found, quiet_limited_slots, quiet_limited_slot, limited_lists_kept, limited_outputs_kept, all_go_on, departures_one, transfers_both, transfers_one, departures_on, hold_as_many, most_ports}
 use Rattle.cq_engine.specs.Engine.{HasGoneOn, ports_of}
 use Rattle.cq_engine.specs.Resting.{HasRested}
-use Rattle.cq_simulate.proofs.Steps.{IsFree, few_left, fewer_come, enough_are, of_admitted, come_here, fewer_left, none_come, slot_err}
+use Rattle.cq_simulate.proofs.Steps.{IsFree, few_left, fewer_come, of_admitted, come_here, fewer_left, none_come, slot_err}
 use Rattle.cq_laws.specs.Quiet.{idled, quiet_slot}
 use Rattle.cq_simulate.proofs.FabricCounts.{at_inputs, cross_few, none_proposed, square_few, total_next}
 
@@ -83,11 +83,13 @@ proposals_more x r = refl
 abbrev pub over_by : List Arrival → ℕ → ℕ
 over_by came next = next + (end_of came - next) + length came
 
--- what is known before a slot, where so many slots are left. Of a run to its end (`whole`) that are enough slots, and
--- it was not over before.
+-- what is known before a slot of a run that could begin, where so many slots are left, and these are no late ones. Of
+-- a run to its end (`whole`) that are enough slots, and it was not over before.
 pub record Crossing (whole : Bool) (ms : List Machine) (came : List Arrival) (first : EngineView)
     (first_sent : RoomView Departure) (first_note : RoomView Transfer) (slot n : ℕ) (now : EngineView)
     (sent : RoomView Departure) (note : RoomView Transfer) : Type 0 where
+  pub ready : IsReadyOn ms came first first_sent first_note
+  pub early : slot + n ≤ 2 ^ 63 + 2 ^ 36
   pub ideal : Marked IdealState
   pub agrees : LimitedAgrees slot (marked_fabric now) ideal
   pub next : now.next ≡ slot
@@ -161,15 +163,17 @@ all_at_inputs f p same = ap (λ (n : ℕ). total (λ i. length (input f i)) 0 n)
 
 pub crossing_first : (whole : Bool) (ms : List Machine) (came : List Arrival) (first : EngineView)
     (sent : RoomView Departure) (note : RoomView Transfer) (n : ℕ) → IsReadyOn ms came first sent note →
-    (whole ≡ true → first.next + n ≡ over_by came first.next) →
+    first.next + n ≤ 2 ^ 63 + 2 ^ 36 → (whole ≡ true → first.next + n ≡ over_by came first.next) →
     Crossing whole ms came first sent note first.next n first sent note
 unfolding arriving_from departures_of transfers_of_run
-crossing_first whole ms came first sent note n ready slots =
+crossing_first whole ms came first sent note n ready early slots =
     let p = ports_of first in
     let come = come_few first.next n came in
     let wait : waiting (ideal_of first.fabric).lists ≡ sum (fabric_held first.fabric) =
     all_wait first.next first.fabric (ideal_of first.fabric) (agrees_of first.next first.fabric ready.sound) in
     record {
+      ready = ready;
+      early = early;
       ideal = record { state = ideal_of first.fabric; marks = first.marks };
       agrees = record { states = agrees_of first.next first.fabric ready.sound; marks = refl };
       next = refl;
@@ -264,13 +268,13 @@ module _ {whole : Bool} {ms : List Machine} {came : List Arrival} {first : Engin
 module _ {whole : Bool} {ms : List Machine} {came : List Arrival} {first : EngineView} {first_sent : RoomView Departure}
     {first_note : RoomView Transfer} {slot n : ℕ} {now : EngineView} {sent : RoomView Departure}
     {note : RoomView Transfer} (c : Crossing whole ms came first first_sent first_note slot (suc n) now sent note) where
-  pub crossing_next : {after : EngineView} {leaving left sent_new : RoomView Departure} {note_new : RoomView Transfer}
-      {classes : ℕ} → (whole ≡ true → end_of came ≤ slot → IsEmptyFabric now.fabric → ⊥) → ports_of first ≤ most_ports →
-      AreForPorts (ports_of first) classes (arriving came slot) →
+  pub crossing_next : {after : EngineView} {leaving left sent_new : RoomView Departure} {note_new : RoomView Transfer} →
+      (whole ≡ true → end_of came ≤ slot → IsEmptyFabric now.fabric → ⊥) →
       Passed ms slot (arriving came slot) now after leaving left sent sent_new note note_new →
       Crossing whole ms came first first_sent first_note (slot + 1) n after sent_new note_new
-  crossing_next {after} {leaving} {left} {sent_new} {note_new} {classes} more few for_ports passed =
+  crossing_next {after} {leaving} {left} {sent_new} {note_new} more passed =
       let cells = arriving came slot in
+      let classes = class_count ms in
       let p = ports_of first in
       let f = marked_fabric now in
       let g = marked_fabric after in
@@ -281,7 +285,8 @@ module _ {whole : Bool} {ms : List Machine} {came : List Arrival} {first : Engin
       let ideal = c.ideal in
       let step : LimitedFabricSlot IsInputBest first.limits ms slot cells f r g = rw c.went.limits at done.is_slot in
       let stable = stable_limited_slot ms first.limits slot cells f g r step in
-      let come : AreForPorts (length now.fabric.inputs) classes cells = rw c.ports for_ports in
+      let come : AreForPorts (length now.fabric.inputs) classes cells =
+      rw c.ports (arrivals_for p classes came slot c.ready.traffic) in
       let alike = same_limited_slot first.limits ms slot classes cells f g ideal r c.agrees come stable in
       let of_slot : LimitedSent = record { admission = r.admission; gone = r.of_slot.gone; after = alike.next } in
       let here = come_here came slot n in
@@ -292,6 +297,8 @@ module _ {whole : Bool} {ms : List Machine} {came : List Arrival} {first : Engin
       let one_more = map-append (λ (r : LimitedRecord). r.of_slot) c.records (r ∷ []) in
       let both = length-append c.records (r ∷ []) in
       record {
+        ready = c.ready;
+        early = omega arith;
         ideal = alike.next;
         agrees = alike.agrees;
         next = passed.went_on.next;
@@ -348,9 +355,7 @@ unfolding quiet_slot departures_in
 quiet_gone ms slot ports ranks = no_departures ports slot 0
 
 module _ {whole : Bool} {ms : List Machine} {came : List Arrival} {first : EngineView}
-    {first_sent sent : RoomView Departure} {first_note note : RoomView Transfer} (ports classes : ℕ)
-    (few : ports_of first ≤ most_ports)
-    (for_ports : (t : ℕ) → AreForPorts (ports_of first) classes (arriving came t)) where
+    {first_sent sent : RoomView Departure} {first_note note : RoomView Transfer} (ports : ℕ) where
   pub crossing_rest : (k slot n m : ℕ) (ranks : List (List ℕ)) (marks : List Bool) (now after : EngineView) →
       m ≡ k + n → Crossing whole ms came first first_sent first_note slot m now sent note →
       ((t : ℕ) → slot ≤ t → t < slot + k → arriving came t ≡ no_arrivals) →
@@ -382,8 +387,8 @@ module _ {whole : Bool} {ms : List Machine} {came : List Arrival} {first : Engin
       } in
       let count : m ≡ suc (k + n) = omega arith in
       let after_one : Crossing whole ms came first first_sent first_note (slot + 1) (k + n) middle sent note =
-      crossing_next (rw count at c) (λ is le empty. let some = more is (omega arith) in omega arith) few
-      (for_ports slot) (rw (← quiet_here) at passed) in
+      crossing_next (rw count at c) (λ is le empty. let some = more is (omega arith) in omega arith)
+      (rw (← quiet_here) at passed) in
       let there : slot + 1 + k ≡ slot + suc k = omega arith in
       rw there at (crossing_rest k (slot + 1) n (k + n) (idled ms ports ranks) marks middle after refl after_one
       (λ t from to. quiet t (omega arith) (omega arith)) (λ is pos. let some = more is (omega arith) in omega arith)
@@ -409,20 +414,17 @@ pub record CanRun (M : List ℕ → Machine) (slot : ℕ) (cells : List (Option 
 pub record Stands (whole : Bool) (end : ℕ) (M : List ℕ → Machine) (came : List Arrival) (first : EngineView)
     (first_sent : RoomView Departure) (first_note : RoomView Transfer) (slot : ℕ) (now : EngineView)
     (sent : RoomView Departure) (note : RoomView Transfer) : Type 0 where
-  pub ready : IsReadyOn (map M first.fixed) came first first_sent first_note
-  pub few : end ≤ 2 ^ 63 + 2 ^ 36
   pub crossing : Crossing whole (map M first.fixed) came first first_sent first_note slot (end - slot) now sent note
   pub more : whole ≡ true → end_of came ≤ slot → IsEmptyFabric now.fabric → ⊥
   pub some : slot < end
 
 -- of a run that is not to its end
-never : {X : Type 0} → false ≡ true → X
+pub never : {X : Type 0} → false ≡ true → X
 never is = absurd (let P : ⊥ = cc in P)
 
 -- a stretch is skipped
 module _ {whole : Bool} {end : ℕ} (M : List ℕ → Machine) {came : List Arrival} {first : EngineView}
     {first_sent sent : RoomView Departure} {first_note note : RoomView Transfer} {slot next : ℕ} {now new : EngineView}
-    (ready : IsReadyOn (map M first.fixed) came first first_sent first_note)
     (b : Crossing whole (map M first.fixed) came first first_sent first_note slot (end - slot) now sent note)
     (late : slot ≤ next) (within : next ≤ end)
     (quiet : (t : ℕ) → slot ≤ t → t < next → arriving came t ≡ no_arrivals)
@@ -437,10 +439,8 @@ module _ {whole : Bool} {end : ℕ} (M : List ℕ → Machine) {came : List Arri
   at_rest =
       let left : end - slot ≡ next - slot + (end - next) = omega arith in
       let there : slot + (next - slot) ≡ next = omega arith in
-      let classes = class_count (map M first.fixed) in
-      rw there at (crossing_rest (length now.fixed) classes ready.ports
-      (λ t. arrivals_for (length first.fixed) classes came t ready.traffic) (next - slot) slot (end - next)
-      (end - slot) now.fabric.ranks now.marks now new left b (λ t from to. quiet t from (omega arith))
+      rw there at (crossing_rest (length now.fixed) (next - slot) slot (end - next) (end - slot) now.fabric.ranks
+      now.marks now new left b (λ t from to. quiet t from (omega arith))
       (λ is some. let before = to_come is (omega arith) in omega arith) ran rested.figures
       (rested.next ∙ sym there) rested.running rested.refused (search rules))
 
@@ -460,7 +460,7 @@ module _ {whole : Bool} {end : ℕ} {M : List ℕ → Machine} {came : List Arri
   same_ports = ap (λ (l : List (List ℕ)). length l) here.crossing.made.fixed
 
   for_ports : AreForPorts (length first.fixed) (class_count (map M first.fixed)) (arriving came slot)
-  for_ports = arrivals_for (length first.fixed) (class_count (map M first.fixed)) came slot here.ready.traffic
+  for_ports = arrivals_for (length first.fixed) (class_count (map M first.fixed)) came slot here.crossing.ready.traffic
 
   list_room : (cells : List (Option Cell)) → cells ≡ arriving came slot → HaveListRoom cells now
   list_room cells are i cell at =
@@ -508,7 +508,7 @@ module _ {whole : Bool} {end : ℕ} {M : List ℕ → Machine} {came : List Arri
       Crossing whole (map M first.fixed) came first first_sent first_note (slot + 1) (end - (slot + 1)) after sent_new
       note_new
   next_here cells after {leaving} {left} sent_new note_new are passed =
-      crossing_next c_next here.more here.ready.ports for_ports
+      crossing_next c_next here.more
       (subst (λ (fixed : List (List ℕ)). Passed (map M fixed) slot (arriving came slot) now after leaving left sent
       sent_new note note_new) here.crossing.made.fixed (rw are at passed))
 
@@ -524,58 +524,28 @@ module _ {whole : Bool} {end : ℕ} {M : List ℕ → Machine} {came : List Arri
 
 -- ## A run to its end
 
-module _ (M : List ℕ → Machine) {came : List Arrival} {first : EngineView} {first_sent : RoomView Departure}
-    {first_note : RoomView Transfer} (ready : IsReadyOn (map M first.fixed) came first first_sent first_note) where
-  abbrev pub Runs : ℕ → EngineView → RoomView Departure → RoomView Transfer → Type 0
-  Runs slot now sent note = Crossing true (map M first.fixed) came first first_sent first_note slot
-      (over_by came first.next - slot) now sent note
-
-  few_all : over_by came first.next ≤ 2 ^ 63 + 2 ^ 36
-  few_all = search (arith, rules, enough_are)
-
-  pub run_begins : Runs first.next first first_sent first_note
-  run_begins = grind (arith, common_steps, crossing_first)
-
+module _ (M : List ℕ → Machine) {came : List Arrival} {first : EngineView} {first_sent sent : RoomView Departure}
+    {first_note note : RoomView Transfer} {slot : ℕ} {now : EngineView} (runs : Crossing true (map M first.fixed) came
+    first first_sent first_note slot (over_by came first.next - slot) now sent note) where
   -- quiet slots are skipped
-  module _ {slot : ℕ} {now : EngineView} {sent : RoomView Departure} {note : RoomView Transfer}
-      (runs : Runs slot now sent note) where
-    pub run_stands : {next : ℕ} {new : EngineView} → (end_of came ≤ slot → IsEmptyFabric now.fabric → ⊥) →
-        IsQuiet came slot next →
-        HasRested (map M now.fixed) slot next now new →
-        Stands true (over_by came first.next) M came first first_sent first_note next new sent note
-    run_stands {next} {new} more quiet rested =
-        let left = crossing_left runs refl more in
-        let some : slot < over_by came first.next = omega arith in search (arith, rules, at_rest, few_all)
-
-    pub run_ends : (end_of came ≤ slot) × IsEmptyFabric now.fabric →
-        HasRunOn (map M first.fixed) came first now first_sent sent first_note note
-    run_ends over = crossing_over runs refl over.0 over.1
+  pub run_stands : {next : ℕ} {new : EngineView} → (end_of came ≤ slot → IsEmptyFabric now.fabric → ⊥) →
+      IsQuiet came slot next → HasRested (map M now.fixed) slot next now new →
+      Stands true (over_by came first.next) M came first first_sent first_note next new sent note
+  run_stands {next} {new} more quiet rested =
+      let left = crossing_left runs refl more in
+      let some : slot < over_by came first.next = omega arith in search (arith, rules, at_rest)
 
 -- ## A run up to a slot
 
 module _ (M : List ℕ → Machine) {came : List Arrival} {last : ℕ} {first : EngineView}
-    {first_sent : RoomView Departure} {first_note : RoomView Transfer}
-    (ready : IsReadyPart (map M first.fixed) came last first first_sent first_note) where
-  abbrev pub Parts : ℕ → EngineView → RoomView Departure → RoomView Transfer → Type 0
-  Parts slot now sent note =
-      Crossing false (map M first.fixed) came first first_sent first_note slot (last - slot) now sent note
+    {first_sent sent : RoomView Departure} {first_note note : RoomView Transfer} {slot : ℕ} {now : EngineView}
+    (parts : Crossing false (map M first.fixed) came first first_sent first_note slot (last - slot) now sent note) where
+  -- slots in which nothing comes are skipped, if any are
+  pub part_rests : {next : ℕ} {new : EngineView} → slot ≤ last → slot ≤ next →
+      (slot < next → (next ≤ last) × NoneCome came slot next) → HasRested (map M now.fixed) slot next now new →
+      Crossing false (map M first.fixed) came first first_sent first_note next (last - next) new sent note
+      × (next ≤ last)
+  part_rests {next} before late skipped rested = grind (arith, common_steps, cases_lt, at_rest, never)
 
-  few_slots : last ≤ 2 ^ 63 + 2 ^ 36
-  few_slots = omega arith
-
-  pub part_begins : Parts first.next first first_sent first_note
-  part_begins = grind (arith, common_steps, crossing_first, never)
-
-  module _ {slot : ℕ} {now : EngineView} {sent : RoomView Departure} {note : RoomView Transfer}
-      (parts : Parts slot now sent note) where
-    -- slots in which nothing comes are skipped, if any are
-    pub part_rests : {next : ℕ} {new : EngineView} → slot ≤ last → slot ≤ next →
-        (slot < next → (next ≤ last) × NoneCome came slot next) →
-        HasRested (map M now.fixed) slot next now new → Parts next new sent note × (next ≤ last)
-    part_rests {next} before late skipped rested = grind (arith, common_steps, cases_lt, at_rest, never)
-
-    pub part_stands : slot < last → Stands false last M came first first_sent first_note slot now sent note
-    part_stands some = grind (arith, common_steps, few_slots, never)
-
-    pub part_ends : slot ≡ last → HasPartedTo (map M first.fixed) came last first now first_sent sent first_note note
-    part_ends = search (arith, rules, few_slots)
+  pub part_stands : slot < last → Stands false last M came first first_sent first_note slot now sent note
+  part_stands some = grind (arith, common_steps, never)

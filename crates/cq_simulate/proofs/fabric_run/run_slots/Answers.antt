@@ -1,6 +1,6 @@
 use Rattle.cq_simulate.proofs.Terms.{◌+◌, ◌-◌, true, zero, ap, is_err, ◌∙◌, arith, rules, ◌<◌, sym, err_from_is_err_and, end_of, IsEmptyFabric, quiet_of}
-use Rattle.cq_simulate.proofs.FabricSteps.{over_by, CanRun, Stands, can_run_here, can_take_over, fault_here, goes_on, left_here, next_here, places_here, quiet_if, run_begins, run_ends, run_stands}
-use Rattle.cq_simulate.proofs.Steps.{free_again, left_with_all}
+use Rattle.cq_simulate.proofs.FabricSteps.{over_by, CanRun, Stands, can_run_here, can_take_over, crossing_first, crossing_over, fault_here, goes_on, left_here, next_here, places_here, quiet_if, run_stands}
+use Rattle.cq_simulate.proofs.Steps.{enough_are, free_again, left_with_all}
 use Rattle.cq_simulate.proofs.fabric_run.run_slots.Given as given
 use Rattle.cq_simulate.proofs.fabric_run.run_slots.Goals as goal
 use Rattle.cq_simulate.proofs.fabric_run.run_slots.Goals.{After-arrivals}
@@ -12,7 +12,7 @@ stands : (g : given.Over) (c : After-arrivals g) →
     Stands true (over_by c.args.schedule.now.came c.args.engine.now.next) g.R.Rank.machine c.args.schedule.now.came
     c.args.engine.now c.args.sent.now c.args.note.now c.skip-slot.result c.skip-slot.new.engine c.slots.sent
     c.slots.note
-stands g c = run_stands g.R.Rank.machine c.requires.ready c.slots.invariant.runs (goes_on c.is_over.result
+stands g c = run_stands g.R.Rank.machine c.slots.invariant.runs (goes_on c.is_over.result
     (end_of c.args.schedule.now.came) c.slots.slot (IsEmptyFabric c.slots.engine.fabric) c.slots-test.true
     c.is_over.ensures) (quiet_if c.skip-slot.ensures.late (λ lt.
     let told = (c.skip-slot.ensures.told (c.skip-slot.ensures.idle lt)).1 in search (rules, quiet_of)))
@@ -28,7 +28,7 @@ can g c = can_run_here (stands g c) c.arrivals.result.now (c.arrivals.ensures �
 -- ## The loop
 
 pub slots-init : goal.slots-init
-slots-init g c = search (arith, rules, run_begins)
+slots-init g c = search (arith, rules, crossing_first, enough_are)
 
 pub slot-requires : goal.slot-requires
 slot-requires g c =
@@ -75,4 +75,5 @@ slots-preserved g c =
     }
 
 pub returns-clause-run : goal.returns-clause-run
-returns-clause-run g c = search (arith, rules, run_ends)
+returns-clause-run g c =
+    let over = c.is_over.ensures.0 c.slots-test.false in search (arith, rules, crossing_over)

@@ -1,5 +1,5 @@
 use Rattle.cq_simulate.proofs.Terms.{◌+◌, ◌-◌, ◌≤◌, false, ap, ◌∙◌, arith, rules, sym, is_err, err_from_is_err_and}
-use Rattle.cq_simulate.proofs.FabricSteps.{CanRun, Stands, can_run_here, fault_here, left_here, next_here, part_begins, part_ends, part_rests, part_stands, room_here}
+use Rattle.cq_simulate.proofs.FabricSteps.{CanRun, Stands, can_run_here, crossing_first, fault_here, left_here, never, next_here, part_rests, part_stands, room_here}
 use Rattle.cq_simulate.proofs.parted_run.run_before.Given as given
 use Rattle.cq_simulate.proofs.parted_run.run_before.Goals as goal
 use Rattle.cq_simulate.proofs.parted_run.run_before.Goals.{After-arrivals-arrivals}
@@ -22,7 +22,7 @@ can g c = can_run_here (stands g c) c.arrivals-arrivals.result.now
 -- ## The loop
 
 pub slots-init : goal.slots-init
-slots-init g c = search (arith, rules, part_begins)
+slots-init g c = search (arith, rules, crossing_first, never)
 
 pub slot-requires : goal.slot-requires
 slot-requires g c =
@@ -58,12 +58,12 @@ slots-preserved g c =
 pub returns-then-slot-last-clause-run : goal.returns-then-slot-last-clause-run
 returns-then-slot-last-clause-run g c =
     let rests =
-    part_rests g.R.Rank.machine c.requires.ready c.slots.invariant.crossing c.slots.invariant.before
+    part_rests g.R.Rank.machine c.slots.invariant.crossing c.slots.invariant.before
     c.skip-slot.ensures.late
     (λ lt. let told = (c.skip-slot.ensures.told (c.skip-slot.ensures.idle lt)).1 in search rules)
     c.skip-slot.ensures.rested in
-    let within : c.skip-slot.result ≤ c.args.last = rests.1 in
-    part_ends g.R.Rank.machine c.requires.ready rests.0 (omega arith)
+    let parts = rests.0 in
+    let within : c.skip-slot.result ≤ c.args.last = rests.1 in search (arith, rules)
 
 pub returns-clause-run : goal.returns-clause-run
-returns-clause-run g c = search (arith, rules, part_ends)
+returns-clause-run g c = search (arith, rules)
