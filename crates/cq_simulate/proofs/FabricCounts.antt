@@ -1,7 +1,7 @@
 -- One slot of the fabric by its numbers. The cells that wait at the inputs grow by those that arrive and fall by one
 -- for each transfer. A phase has no more proposals than the number of ports squared, and none where no cell waits at
 -- an input.
-use Rattle.cq_simulate.proofs.Terms.{common_steps, rules, ◌≡◌, ℕ, zero, suc, ◌+◌, ◌*◌, ◌≤◌, List, [], ◌∷◌, length, length-append, Option, Some, None, refl, ap, ◌∙◌, subst, arith, mul-le-mul, sum, range_with_len, filter_map, cons_option, length-map, nil_from_length, length-insert, length-map-range_with_len, get_or-map-range_with_len, sum_by-le, arrival_at, is_for, Cell, Queued, Transfer, present, outputs_at, Fabric, IsFabric, input, SlotRecord, FabricSlot, proposals_in, transfers_in, list_of, orders_of, output_order, Partners, partner_of, spent, proposals, IsMatching, IsInputBest, Machine, one_if, total, total_none, came_from, first_at, Transfers, came_to, list_arrived, OutputsInRange, are_offers, outputs_at_most, has_there, most_ports}
+use Rattle.cq_simulate.proofs.Terms.{common_steps, rules, ◌≡◌, ℕ, zero, suc, ◌+◌, ◌*◌, ◌≤◌, List, [], ◌∷◌, length, length-append, Option, Some, None, refl, ap, ◌∙◌, subst, arith, mul-le-mul, sum, range_with_len, filter_map, cons_option, length-map, nil_from_length, length-insert, length-map-range_with_len, get_or-map-range_with_len, sum_by-le, arrival_at, is_for, Cell, Queued, Transfer, present, outputs_at, Fabric, IsFabric, input, SlotRecord, FabricSlot, proposals_in, transfers_in, list_of, orders_of, output_order, Partners, partner_of, spent, proposals, IsMatching, IsInputBest, Machine, one_if, total, total_none, came_from, first_at, Transfers, came_to, list_arrived, OutputsInRange, are_offers, outputs_at_most, has_there, most_ports, fabric_listed, map, sum_by-cons}
 use Rattle.cq_prefs.specs.Moves.{list_taken, noted, transfers_of}
 use Rattle.cq_prefs.specs.Orders.{Orders, ports, outputs_of}
 
@@ -18,6 +18,11 @@ pub total_next : (f : ℕ → ℕ) (a b n : ℕ) → b ≡ suc a → total f b n
 unfolding total
 total_next f a b zero e = refl
 total_next f a b (suc n) e = grind (arith, common_steps, total, total_next f (a + 1) (b + 1) n)
+
+pub summed : (f : ℕ → ℕ) (a n : ℕ) → sum (map f (range_with_len a n)) ≡ total f a n
+unfolding total
+summed f a zero = refl
+summed f a (suc n) = grind (arith, common_steps, sum_by-cons, summed f (a + 1) n)
 
 -- ## Arrivals
 
@@ -38,6 +43,10 @@ all_arrivals (o ∷ cells) (suc n) =
 -- how many cells wait at the first n inputs
 unfoldable pub at_inputs : Fabric → ℕ → ℕ
 at_inputs f n = total (λ i. length (input f i)) 0 n
+
+pub all_listed : (f : Fabric) (n : ℕ) → length f.inputs ≡ n → sum (fabric_listed f) ≡ at_inputs f n
+unfolding at_inputs fabric_listed
+all_listed f n same = rw same (summed (λ i. length (input f i)) 0 n)
 
 longer_one : (f : Fabric) (came : Option Queued) (cell : Option Cell) (xs : List Queued) →
     ((c : Queued) → came ≡ Some c → cell ≡ Some c.cell) → length (list_arrived f came xs) ≤ length xs + one_if cell

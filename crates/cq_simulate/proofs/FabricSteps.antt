@@ -1,10 +1,10 @@
 -- What each step of the loop over the slots of the fabric asks for, where so many slots are left as are not yet over.
-use Rattle.cq_simulate.proofs.Terms.{common_steps, rules, ◌≡◌, ◌↔◌, ℕ, suc, ◌+◌, ◌-◌, ◌<◌, ◌≤◌, ◌^◌, Bool, true, false, List, [], ◌++◌, length, map, replicate, Option, Some, Err, refl, sym, ap, ◌∙◌, subst, arith, zero, ◌*◌, ◌∷◌, ⊎_elim, length-append, append_assoc, IsTrue, sum, slice_index, find, cases_lt, and_left, leb-false, ne_eqb, arrival_at, no_arrivals, Arrival, arriving, end_of, arriving_at, is_at, RoomView, Cell, Departure, TagFault, Transfer, EngineView, HaveBufferRoom, HaveListRoom, IsMadeAs, IsReadyFor, SlotDone, answer_to, its_admission, marked_fabric, HaveLeft, CanCount, AreForPorts, ranking, IsEmptyFabric, Fabric, input, LimitedFabricRun, admissions_in, LimitedRecord, IsLimitedFault, LimitedFabricSlot, slots_in, IsInputBest, Machine, class_count, counts_fit, none_counted, all_counted_both, refused_in, HasRunOn, IsReadyOn, NoneCome, StopsWithin, RanTo, WentOn, to_come, arrivals_for, arrives_found, from_here, one_if, come_from, some_one, no_more_from, for_here, come_for, no_more_to, IsQuiet, append-nil, length-map, get_or_past, map-append, take_all, take-append-le, departures_in, no_departures, IdealState, quiet_figures, quiet_transfers, transfers_in, transfers_of_run, flat_map, range_with_len, map-range_with_len_more, Queued, Figures, nothing_left, present, come_count, none_after, come_count-first, arriving_length, arriving_here, arriving_parts, one_slot_more, counted, waiting, total, total_same, Marked, arriving_from, departures_of, LimitedSent, stable_limited_slot, limited_ports_kept, same_limited_slot, only_limited_run, empty_together, Agrees, SlotRecord, fabric_held, held_for, LimitedAgrees, figures_after, proposals_in, fold-append, sum_by-cons, agrees_of, ideal_of, list_of, is_from, is_to, number_of, arriving_is, cell_listed, found, quiet_limited_slots, quiet_limited_slot, limited_lists_kept, limited_outputs_kept, all_go_on, departures_one, transfers_both, transfers_one, departures_on, hold_as_many, most_ports}
+use Rattle.cq_simulate.proofs.Terms.{common_steps, rules, ◌≡◌, ◌↔◌, ℕ, suc, ◌+◌, ◌-◌, ◌<◌, ◌≤◌, ◌^◌, Bool, true, false, List, [], ◌++◌, length, map, replicate, Option, Some, Err, refl, sym, ap, ◌∙◌, subst, arith, zero, ◌*◌, ◌∷◌, ⊎_elim, length-append, append_assoc, IsTrue, sum, slice_index, find, cases_lt, and_left, leb-false, ne_eqb, arrival_at, no_arrivals, Arrival, arriving, end_of, arriving_at, is_at, RoomView, Cell, Departure, TagFault, Transfer, EngineView, HaveBufferRoom, HaveListRoom, IsMadeAs, IsReadyFor, SlotDone, answer_to, its_admission, marked_fabric, HaveLeft, CanCount, AreForPorts, ranking, IsEmptyFabric, Fabric, input, LimitedFabricRun, admissions_in, LimitedRecord, IsLimitedFault, LimitedFabricSlot, slots_in, IsInputBest, Machine, class_count, counts_fit, none_counted, all_counted_both, refused_in, HasRunOn, IsReadyOn, NoneCome, StopsWithin, RanTo, WentOn, to_come, arrivals_for, arrives_found, from_here, one_if, come_from, some_one, no_more_from, for_here, come_for, no_more_to, IsQuiet, append-nil, length-map, get_or_past, map-append, take_all, take-append-le, departures_in, no_departures, IdealState, quiet_figures, quiet_transfers, transfers_in, transfers_of_run, range_with_len, map-range_with_len_more, Queued, Figures, nothing_left, present, come_count, none_after, come_count-first, arriving_length, arriving_here, arriving_parts, one_slot_more, counted, waiting, total, total_same, Marked, arriving_from, departures_of, LimitedSent, stable_limited_slot, limited_ports_kept, same_limited_slot, only_limited_run, empty_together, Agrees, SlotRecord, fabric_held, held_for, LimitedAgrees, figures_after, proposals_in, fold-append, sum_by-cons, agrees_of, ideal_of, is_from, is_to, number_of, arriving_is, cell_listed, found, quiet_limited_slots, quiet_limited_slot, limited_lists_kept, limited_outputs_kept, all_go_on, departures_one, transfers_both, transfers_one, departures_on, hold_as_many, most_ports}
 use Rattle.cq_engine.specs.Engine.{HasGoneOn, ports_of}
 use Rattle.cq_engine.specs.Resting.{HasRested}
 use Rattle.cq_simulate.proofs.Steps.{IsFree, few_left, fewer_come, of_admitted, come_here, fewer_left, none_come, slot_err}
 use Rattle.cq_laws.specs.Quiet.{idled, quiet_slot}
-use Rattle.cq_simulate.proofs.FabricCounts.{at_inputs, cross_few, none_proposed, square_few, total_next}
+use Rattle.cq_simulate.proofs.FabricCounts.{all_listed, at_inputs, cross_few, none_proposed, square_few}
 
 -- What is still to come. The first arrival of a slot from this one on is the same among all arrivals as among those
 -- that are still to come. So in any slots from this one on no more cells come than are to come, and no more for an
@@ -146,21 +146,6 @@ pub all_wait : (slot : ℕ) (f : Fabric) (ideal : IdealState) → Agrees slot f 
 all_wait slot f ideal agrees =
     waiting-sum ideal.lists ∙ ap (λ (l : List ℕ). sum l) (sym (hold_as_many slot f ideal agrees))
 
-inputs_joined : (lists : List (List Queued)) →
-    total (λ i. length (list_of lists i)) 0 (length lists) ≡ length (flat_map (λ (cells : List Queued). cells) lists)
-unfolding total
-inputs_joined [] = refl
-inputs_joined (cells ∷ lists) =
-    let next : total (λ i. length (list_of (cells ∷ lists) i)) (0 + 1) (length lists) ≡ total
-    (λ i. length (list_of lists i)) 0 (length lists) =
-    total_next (λ i. length (list_of (cells ∷ lists) i)) 0 (0 + 1) (length lists) refl in
-    let rest = inputs_joined lists in search (arith, rules, length-append)
-
-pub all_at_inputs : (f : Fabric) (p : ℕ) → length f.inputs ≡ p →
-    at_inputs f p ≡ length (flat_map (λ (cells : List Queued). cells) f.inputs)
-unfolding at_inputs
-all_at_inputs f p same = ap (λ (n : ℕ). total (λ i. length (input f i)) 0 n) (sym same) ∙ inputs_joined f.inputs
-
 pub crossing_first : (whole : Bool) (ms : List Machine) (came : List Arrival) (first : EngineView)
     (sent : RoomView Departure) (note : RoomView Transfer) (n : ℕ) → IsReadyOn ms came first sent note →
     first.next + n ≤ 2 ^ 63 + 2 ^ 36 → (whole ≡ true → first.next + n ≡ over_by came first.next) →
@@ -185,7 +170,7 @@ crossing_first whole ms came first sent note n ready early slots =
       lists = λ i inside. let had = ready.lists i inside in let from = from_few first.next n came i in omega arith;
       buffers = λ j inside. let had = ready.buffers j inside in let to = for_few first.next n came j in omega arith;
       spare = omega arith;
-      room = let at = all_at_inputs first.fabric p ready.inputs in omega arith;
+      room = let at = all_listed first.fabric p ready.inputs in omega arith;
       proposed = omega arith;
       many = omega arith;
       few = λ is. let all = slots is in omega arith;

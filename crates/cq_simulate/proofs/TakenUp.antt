@@ -1,9 +1,8 @@
 -- A fabric can go on from where it stands, whether it is fresh or was taken up. What waits in it came before the slot
 -- that it stands at, and what is to come comes from that slot on, so both together are no more than what comes in all:
 -- at each input, for each output, and of all cells.
-use Rattle.cq_simulate.proofs.Terms.{length-filter_both, ◌≡◌, ℕ, zero, suc, ◌+◌, ◌-◌, ◌*◌, ◌≤◌, ◌<◌, ◌^◌, Bool, false, List, [], ◌∷◌, length, map, Option, refl, sym, ◌∙◌, arith, rules, common_steps, ◌==◌, All, sum, flat_map, range_with_len, slice_index, cases_lt, le-leb, le-ltb, lt-leb, lt-ltb, ne_eqb, length-map, length-replicate, get_or-map-range_with_len, sum_by-cons, Arrival, RoomView, Departure, Queued, Transfer, IsTraffic, is_from, is_to, number_of, Scheduled, Setup, CanGoOn, EngineView, fresh_engine, thawed_engine, total, total_more, total_none, zero_fits, Fabric, input, fabric_held, held_for, empty_list, Machine, class_count, GoesOn, came_before, goes_on, switch_of, Taken, classes_of, ports_of, Tables, fixed_of, machine_from, machine_of, machines_of, ArePortsFor, GoesOnFrom, IsReadyOn, to_come, CanBeTakenUp, IsScheduleFor, Ports, All-from_recursion, IsSoundFabric, nothing_for}
-use Rattle.cq_simulate.proofs.FabricCounts.{at_inputs, total_most}
-use Rattle.cq_simulate.proofs.FabricSteps.{all_at_inputs}
+use Rattle.cq_simulate.proofs.Terms.{length-filter_both, ◌≡◌, ℕ, ◌+◌, ◌-◌, ◌*◌, ◌≤◌, ◌<◌, ◌^◌, Bool, false, List, [], ◌∷◌, length, map, Option, refl, sym, ◌∙◌, arith, rules, common_steps, ◌==◌, All, sum, range_with_len, slice_index, cases_lt, le-leb, le-ltb, lt-leb, lt-ltb, ne_eqb, length-map, length-replicate, get_or-map-range_with_len, Arrival, RoomView, Departure, Transfer, IsTraffic, is_from, is_to, number_of, Scheduled, Setup, CanGoOn, EngineView, fresh_engine, thawed_engine, total, total_more, total_none, zero_fits, input, fabric_held, held_for, empty_list, Machine, class_count, GoesOn, came_before, goes_on, switch_of, Taken, classes_of, ports_of, Tables, fixed_of, machine_from, machine_of, machines_of, ArePortsFor, GoesOnFrom, IsReadyOn, to_come, CanBeTakenUp, IsScheduleFor, Ports, All-from_recursion, IsSoundFabric, nothing_for, fabric_listed}
+use Rattle.cq_simulate.proofs.FabricCounts.{summed, total_most}
 use Rattle.cq_simulate.specs.ScheduleFor.{by_port}
 
 -- ## What came and what is to come
@@ -31,31 +30,12 @@ of_kinds kind (a ∷ xs) n =
     (grind (arith, common_steps)) in
     omega arith
 
-summed : (f : ℕ → ℕ) (a n : ℕ) → sum (map f (range_with_len a n)) ≡ total f a n
-unfolding total
-summed f a zero = refl
-summed f a (suc n) = grind (arith, common_steps, sum_by-cons, summed f (a + 1) n)
-
 -- where none of these numbers is more than the arrivals of its kind, all together are no more than the arrivals
 kinds_few : (f : ℕ → ℕ) (kind : Arrival → ℕ) (xs : List Arrival) (n : ℕ) →
-    ((k : ℕ) → f k ≤ number_of (λ a. kind a == k) xs) → total f 0 n ≤ length xs
+    ((k : ℕ) → f k ≤ number_of (λ a. kind a == k) xs) → sum (map f (range_with_len 0 n)) ≤ length xs
 kinds_few f kind xs n few =
     let each = total_most f (λ k. number_of (λ a. kind a == k) xs) (λ k. 0) 0 n (λ k. omega (arith, few k)) in
-    search (arith, rules, total_none, of_kinds)
-
--- so all outputs hold no more cells than came, and so the lists of all inputs
-held_before : (f : Fabric) (xs : List Arrival) → ((j : ℕ) → held_for j f ≤ number_of (is_to j) xs) →
-    sum (fabric_held f) ≤ length xs
-unfolding fabric_held
-held_before f xs few =
-    rw (summed (λ j. held_for j f) 0 (length f.inputs))
-    (kinds_few (λ j. held_for j f) (λ a. a.cell.output) xs (length f.inputs) few)
-
-listed_before : (f : Fabric) (xs : List Arrival) → ((i : ℕ) → length (input f i) ≤ number_of (is_from i) xs) →
-    length (flat_map (λ (cells : List Queued). cells) f.inputs) ≤ length xs
-unfolding at_inputs
-listed_before f xs few = rw (all_at_inputs f (length f.inputs) refl) at
-    (kinds_few (λ i. length (input f i)) (λ a. a.cell.id.input) xs (length f.inputs) few)
+    rw (summed f 0 n) (search (arith, rules, total_none, of_kinds))
 
 -- ## It goes on
 
@@ -88,10 +68,15 @@ pub goes_from : {t : Tables} {s : Scheduled} (e : EngineView) (sent : RoomView D
     e.to_outputs ≡ by_port is_to t s.came → e.stopped ≡ false → length s.came ≤ 2 ^ 34 →
     sent.spare ≡ length s.came + ports_of t.setup → note.spare ≡ length s.came + 2 * ports_of t.setup →
     IsReadyOn (map machine_from e.fixed) s.came e sent note
+unfolding fabric_held fabric_listed
 goes_from {t} {s} e sent note fit has machines classes from to running few sent_room note_room =
     let many = machine_count machine_from e.fixed t.setup machines in
     let every = all_parts e.next s.came in
-    search (arith, rules, held_before, listed_before, both_parts, room_at, has.lost)
+    let before = came_before e.next s.came in
+    let ports = length e.fabric.inputs in
+    let held = kinds_few (λ j. held_for j e.fabric) (λ a. a.cell.output) before ports has.buffers in
+    let listed = kinds_few (λ i. length (input e.fabric i)) (λ a. a.cell.id.input) before ports has.lists in
+    search (arith, rules, both_parts, room_at, has.lost)
 
 -- ## A fresh one
 

@@ -100,6 +100,7 @@ pub use Rattle.cq_traffic.proofs.ToOutputs.{come_for-traffic_of, for_here, no_mo
 unfoldable pub use Rattle.cq_traffic.proofs.ToOutputs.{come_for}
 pub use Rattle.cq_simulate.specs.FabricRuns.{AlwaysHasSlack, AreChosen, AreInputBest, AreStable, IsFabricRun, IsKeptOf, SendsSlotBySlot, departures_in_run, refused_in_run, unpacked_run}
 pub use Rattle.cq_simulate.specs.GoingOn.{HasKept, HasPartedTo, HasRunOn, IsReadyOn, IsReadyPart, IsRefusalOn, RanTo, StopsWithin, WentOn, to_come}
+unfoldable pub use Rattle.cq_simulate.specs.GoingOn.{fabric_listed}
 pub use Rattle.cq_simulate.specs.IdealRuns.{IsRefusalOf, counts_limited, slots_ran}
 unfoldable pub use Rattle.cq_simulate.specs.IdealRuns.{ideal_departures, ideal_refusals, ran_ideal}
 pub use Rattle.cq_simulate.specs.Packets.{ArePacked, HaveLeftOf, LeaveInOrder, LeaveWhole, LeftInOrder, LeftInPackets, ends_packet_at, leaving, of_packet}

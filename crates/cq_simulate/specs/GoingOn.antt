@@ -1,7 +1,7 @@
 -- Only proofs use this. A fabric that can go on from any slot over the cells that are still to come, and what its run
 -- leaves: up to its end, up to a slot, or up to a tag fault.
-use Rattle.std.specs.Prelude.{◌≡◌, ℕ, ◌+◌, ◌*◌, ◌<◌, ◌≤◌, ◌^◌, ◌++◌, nat_le, All, List, filter, false, fold, length, slice_index, sum, take, ⊤}
-use Rattle.std.specs.List.{flat_map}
+use Rattle.std.specs.Prelude.{◌≡◌, ℕ, ◌+◌, ◌*◌, ◌<◌, ◌≤◌, ◌^◌, ◌++◌, nat_le, All, List, filter, false, fold, length, map, slice_index, sum, take, ⊤}
+use Rattle.std.specs.List.{range_with_len}
 use Rattle.cq_base.specs.Arrivals.{no_arrivals}
 use Rattle.cq_base.specs.Arriving.{Arrival, arriving, end_of}
 use Rattle.cq_base.specs.Room.{RoomView}
@@ -32,6 +32,10 @@ use Rattle.cq_simulate.specs.declared.refusal.RunRefusal.TheVariants as refusal
 abbrev pub to_come : ℕ → List Arrival → List Arrival
 to_come next came = filter (λ a. nat_le next a.slot) came
 
+-- how many cells wait at each input
+unfoldable pub fabric_listed : Fabric → List ℕ
+fabric_listed f = map (λ i. length (input f i)) (range_with_len 0 (length f.inputs))
+
 -- The engine can go on over what is still to come: its fabric is one that a fabric can go on from, and no more cells
 -- wait or are to come than arrive in all. There is room in each list for the cells that wait there or arrive at its
 -- input, in each buffer for those that wait anywhere for its output or arrive for it, in the list of departures for
@@ -54,8 +58,8 @@ pub record IsReadyOn (ms : List Machine) (came : List Arrival) (engine : EngineV
   pub buffers : (j : ℕ) → j < ports_of engine →
       held_for j engine.fabric + number_of (is_to j) (to_come engine.next came) ≤ slice_index engine.to_outputs j
   pub sent_room : sum (fabric_held engine.fabric) + length (to_come engine.next came) + ports_of engine ≤ sent.spare
-  pub note_room : length (flat_map (λ cells. cells) engine.fabric.inputs) + length (to_come engine.next came)
-      + 2 * ports_of engine ≤ note.spare
+  pub note_room : sum (fabric_listed engine.fabric) + length (to_come engine.next came) + 2 * ports_of engine
+      ≤ note.spare
   pub proposals : engine.figures.proposals < 2 ^ 63
   pub refused : All (λ r. (r.packets + length (to_come engine.next came) < 2 ^ 63)
       × (r.cells + length (to_come engine.next came) < 2 ^ 63)) engine.refused
