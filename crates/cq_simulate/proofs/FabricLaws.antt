@@ -69,10 +69,6 @@ module _ (t : Tables) (came : List Arrival) where
     all_slots_send none in_range =
         grind (arith, common_steps, slots_sent, last_departs_without_limits, sends_as_ideal, as_many_slots)
 
-  pub kept_as_ideal : (run : kept.FabricRun) → IsTraffic (ports_of t.setup) (classes_of t.setup) came →
-      IsKeptOf t came run → ideal_departures t came ≡ Ok run.sent.items
-  kept_as_ideal run traffic kept = sends_as_ideal kept.records traffic kept.is_run ∙ ap Ok (sym kept.sent)
-
   pub kept_refuses : (run : kept.FabricRun) → IsTraffic (ports_of t.setup) (classes_of t.setup) came →
       IsKeptOf t came run → ideal_refusals t came ≡ Ok run.refused.items
   kept_refuses run traffic kept =

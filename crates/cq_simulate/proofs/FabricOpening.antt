@@ -1,6 +1,6 @@
 -- How the run of a fabric that is made for tables begins, and what its end says of the tables. What the calls say that
 -- made it is one record. From it the engine can begin.
-use Rattle.cq_simulate.proofs.Terms.{refl, common_steps, rules, ◌≡◌, ℕ, ◌+◌, ◌*◌, ◌≤◌, ◌^◌, List, [], length, map, Option, ap, arith, take_all, length-map, length-map-range_with_len, Arrival, traffic_of, RoomView, Departure, Transfer, Scheduled, CanBeMade, EngineView, fresh_engine, frozen_of, thawed_engine, Frozen, GoesOnFrom, marked_fabric, departures_limited, limited_run, counts_more, refused_in, admissions_in, AreTables, ports_of, IsSetup, classes_of, Tables, fixed_of, machine_from, state_of, machines_of, openings_of, IsKeptOf, unpacked_run, kept_of, ArePortsFor, IsFreshFor, IsIdealFor, HasKept, IsReadyOn, IsRefusalOn, IsRefusalOf, ideal_departures, ran_ideal, limited_same_sent, limited_whole_fault, slots_fit, IsScheduleFor, PackedFabricRun, Ports, RunRefusal, IsShort, IsTraffic, is_from, is_to, IdealSwitch, marked_state, Machine, class_count, IsReady, IsResumed, RunsOn, Switch, switch_of, Taken, best_act_alike_from_empty, figures_fold, Discipline, fresh_ideal, ◌-◌, subst, TagFault, HasPartedTo, StopsWithin, IsPartFault, IsResumeFault, IsParted}
+use Rattle.cq_simulate.proofs.Terms.{refl, common_steps, rules, ◌≡◌, ℕ, ◌+◌, ◌*◌, ◌≤◌, ◌^◌, List, [], length, map, ap, arith, take_all, length-map, length-map-range_with_len, Arrival, traffic_of, RoomView, Departure, Transfer, Scheduled, EngineView, fresh_engine, frozen_of, Frozen, GoesOnFrom, marked_fabric, departures_limited, limited_run, counts_more, refused_in, admissions_in, ports_of, IsSetup, classes_of, Tables, fixed_of, machine_from, machines_of, openings_of, IsKeptOf, unpacked_run, kept_of, IsFreshFor, IsIdealFor, HasKept, IsReadyOn, IsRefusalOn, IsRefusalOf, ideal_departures, ran_ideal, limited_same_sent, limited_whole_fault, slots_fit, IsScheduleFor, PackedFabricRun, RunRefusal, IsShort, IsTraffic, is_from, is_to, IdealSwitch, marked_state, Machine, IsReady, IsResumed, RunsOn, Switch, switch_of, Taken, best_act_alike_from_empty, figures_fold, Discipline, fresh_ideal, ◌-◌, subst, TagFault, HasPartedTo, StopsWithin, IsPartFault, IsResumeFault, IsParted}
 use Rattle.cq_simulate.proofs.TakenUp.{goes_from, holds_none, machine_count, room_at, machines_many}
 use Rattle.cq_simulate.specs.ScheduleFor.{by_port}
 use Rattle.cq_simulate.specs.declared.refusal.RunRefusal.TheVariants as refusal
@@ -11,9 +11,6 @@ use Rattle.cq_simulate.specs.declared.refusal.RunRefusal.TheVariants as refusal
 -- ## A new switch
 
 module _ {t : Tables} {came : List Arrival} {first : IdealSwitch} (fresh : IsIdealFor t came first) where
-  pub ideal_ports : length first.fixed ≡ ports_of t.setup
-  ideal_ports = machine_count machine_from first.fixed t.setup fresh.machines
-
   abbrev ideal_begins : IdealSwitch
   ideal_begins = fresh_ideal (ports_of t.setup) first.fixed (openings_of t.setup) t.limits (by_port is_to t came)
 
@@ -27,7 +24,7 @@ module _ {t : Tables} {came : List Arrival} {first : IdealSwitch} (fresh : IsIde
   pub ready_ideal : (sent : RoomView Departure) → IsSetup t.setup →
       IsTraffic (ports_of t.setup) (classes_of t.setup) came → IsShort came → sent.items ≡ [] →
       sent.spare ≡ length came + ports_of t.setup → IsReady (map machine_from first.fixed) came first sent
-  ready_ideal sent setup traffic short nothing spare = rw fresh.fresh (begun ideal_begins refl ideal_ports) where
+  ready_ideal sent setup traffic short nothing spare = rw fresh.fresh (begun ideal_begins refl (machine_count machine_from first.fixed t.setup fresh.machines)) where
     begun : (now : IdealSwitch) → now ≡ ideal_begins → length first.fixed ≡ ports_of t.setup →
         IsReady (map machine_from first.fixed) came now sent
     begun now is many =
@@ -40,43 +37,6 @@ module _ {t : Tables} {came : List Arrival} {first : IdealSwitch} (fresh : IsIde
 pub ranks_many : (t : Tables) (ranks : List Discipline) → map machine_from (map fixed_of ranks) ≡ machines_of t.setup →
     length ranks ≡ ports_of t.setup
 ranks_many t ranks machines = grind (arith, common_steps, length-map, machine_count)
-
--- so an engine can be made of them
-pub can_be_made : (t : Tables) (came : List Arrival) (p : Ports) {from to : List ℕ} {limits : List (Option ℕ)} →
-    AreTables t → ArePortsFor t came p → from ≡ p.from_inputs.items → to ≡ p.to_outputs.items → limits ≡ t.limits →
-    CanBeMade (map machine_from (map fixed_of p.ranks.items)) (length p.ranks.items) from to limits t.workers
-can_be_made t came p tables are from to same = search (arith, rules, length-map-range_with_len)
-
--- and one that was is fresh
-pub fresh_for : (t : Tables) (came : List Arrival) (p : Ports) (engine : EngineView) {from to : List ℕ}
-    {limits : List (Option ℕ)} → ArePortsFor t came p → from ≡ p.from_inputs.items → to ≡ p.to_outputs.items →
-    limits ≡ t.limits →
-    engine
-    ≡ fresh_engine (length p.ranks.items) (map fixed_of p.ranks.items) (map state_of p.ranks.items) from to limits →
-    IsFreshFor t came engine
-fresh_for t came p engine are from to same is = grind (arith, common_steps, are.many, are.openings)
-
--- and one that goes on from a state is of the tables
-pub thawed_for : (t : Tables) (came : List Arrival) (p : Ports) (x : Frozen) (engine : EngineView) {from to : List ℕ}
-    {limits : List (Option ℕ)} → ArePortsFor t came p → from ≡ p.from_inputs.items → to ≡ p.to_outputs.items →
-    limits ≡ t.limits → engine ≡ thawed_engine (map fixed_of p.ranks.items) limits from to x →
-    GoesOnFrom t came x engine
-thawed_for t came p x engine are from to same is = grind (arith, common_steps)
-
--- and so is an ideal switch of them
-pub ideal_is_for : (t : Tables) (came : List Arrival) (ranks : List Discipline) (ideal : IdealSwitch)
-    {rooms : List ℕ} {limits : List (Option ℕ)} → map machine_from (map fixed_of ranks) ≡ machines_of t.setup →
-    map state_of ranks ≡ openings_of t.setup → class_count (machines_of t.setup) ≡ length t.setup.classes →
-    rooms ≡ by_port is_to t came → limits ≡ t.limits →
-    ideal ≡ fresh_ideal (length ranks) (map fixed_of ranks) (map state_of ranks) limits rooms →
-    IsIdealFor t came ideal
-ideal_is_for t came ranks ideal machines openings classes to same is = grind (arith, common_steps, ranks_many)
-
--- ## A fresh engine
-
-module _ {t : Tables} {came : List Arrival} {first : EngineView} (fresh : IsFreshFor t came first) where
-  pub port_count : length first.fixed ≡ length t.setup.kinds
-  port_count = machine_count machine_from first.fixed t.setup fresh.machines
 
 -- ## What it runs
 
@@ -113,12 +73,6 @@ pub record IsMade (t : Tables) (s : Scheduled) (first : EngineView) (sent : Room
   pub nothing_noted : note.items ≡ []
   pub note_room : note.spare ≡ length s.came + 2 * ports_of t.setup
 
-pub made_for : {t : Tables} {s : Scheduled} {first : EngineView} {sent : RoomView Departure} {note : RoomView Transfer}
-    {ports total : ℕ} → IsScheduleFor t s → ports ≡ ports_of t.setup → total ≡ length s.came → total ≤ 2 ^ 34 →
-    IsFreshFor t s.came first → sent.items ≡ [] → sent.spare ≡ total + ports → note.items ≡ [] →
-    note.spare ≡ total + 2 * ports → IsMade t s first sent note
-made_for fit many all few fresh nothing_sent sent_room nothing_noted note_room = grind (arith, common_steps)
-
 module _ {t : Tables} {s : Scheduled} {first : EngineView} {sent : RoomView Departure} {note : RoomView Transfer}
     (made : IsMade t s first sent note) where
   -- as it was made
@@ -130,7 +84,7 @@ module _ {t : Tables} {s : Scheduled} {first : EngineView} {sent : RoomView Depa
   pub can_begin : IsReadyOn (map machine_from first.fixed) s.came first sent note
   can_begin =
       let none = holds_none s.came (ports_of t.setup) first.fixed (openings_of t.setup) (by_port is_from t s.came)
-      (by_port is_to t s.came) t.limits (port_count made.fresh) in
+      (by_port is_to t s.came) t.limits (machine_count machine_from first.fixed t.setup made.fresh.machines) in
       rw made.fresh.fresh (goes_from begins sent note made.fit none made.fresh.machines made.fresh.classes refl refl
       refl
       made.few made.sent_room made.note_room)

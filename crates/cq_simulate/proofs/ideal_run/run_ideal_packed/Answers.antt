@@ -1,5 +1,6 @@
 use Rattle.cq_simulate.proofs.Terms.{rules, ◌≡◌, map, arith, err_from_is_err_and, traffic_of, marked_state, departures_limited, limited_run, machine_from, ideal_departures}
-use Rattle.cq_simulate.proofs.FabricOpening.{ideal_ports, ready_ideal, run_of_tables}
+use Rattle.cq_simulate.proofs.FabricOpening.{ready_ideal, run_of_tables}
+use Rattle.cq_simulate.proofs.TakenUp.{machine_count}
 use Rattle.cq_simulate.proofs.ideal_run.run_ideal_packed.Goals as goal
 use Rattle.cq_simulate.proofs.ideal_run.run_ideal_packed.Goals.{In_ok-ideal}
 
@@ -18,7 +19,7 @@ run_slots-ran-requires-clause-ready c =
     c.in_ok-sent.ensures.items (omega arith)
 
 pub run_slots-ran-requires-clause-ports : goal.run_slots-ran-requires-clause-ports
-run_slots-ran-requires-clause-ports c = search (arith, rules, ideal_ports)
+run_slots-ran-requires-clause-ports c = search (arith, rules, machine_count)
 
 pub returns-in_err-ran-clause-refused : goal.returns-in_err-ran-clause-refused
 returns-in_err-ran-clause-refused c = search (arith, rules, err_from_is_err_and, run_of)

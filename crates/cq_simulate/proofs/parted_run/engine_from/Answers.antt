@@ -1,5 +1,4 @@
-use Rattle.cq_simulate.proofs.Terms.{arith, rules, IfOk-weaker}
-use Rattle.cq_simulate.proofs.FabricOpening.{can_be_made, thawed_for}
+use Rattle.cq_simulate.proofs.Terms.{arith, rules, IfOk-weaker, length-map-range_with_len}
 use Rattle.cq_simulate.proofs.TakenUp.{can_thaw}
 use Rattle.cq_simulate.proofs.parted_run.engine_from.Goals as goal
 
@@ -7,7 +6,7 @@ pub thaw-requires : goal.thaw-requires
 thaw-requires c =
     let goes_on = can_thaw c.requires.sound c.requires.fit c.in_ok-ports.ports c.in_ok-ports.ensures
     c.as_slice-from.ensures.value c.as_slice-to.ensures.value c.as_slice-limits.ensures in
-    search (arith, rules, can_be_made)
+    search (arith, rules, length-map-range_with_len)
 
 pub returns : goal.returns
-returns c = search (arith, rules, IfOk-weaker, thawed_for)
+returns c = search (arith, rules, IfOk-weaker)

@@ -1,5 +1,6 @@
 use Rattle.cq_simulate.proofs.Terms.{rules, ap, arith, err_from_is_err_and, EngineView}
-use Rattle.cq_simulate.proofs.FabricOpening.{IsMade, can_begin, made_for, part_fault, parted_of, port_count}
+use Rattle.cq_simulate.proofs.FabricOpening.{IsMade, can_begin, part_fault, parted_of}
+use Rattle.cq_simulate.proofs.TakenUp.{machine_count}
 use Rattle.cq_simulate.proofs.parted_run.part_fresh.Given as given
 use Rattle.cq_simulate.proofs.parted_run.part_fresh.Goals as goal
 use Rattle.cq_simulate.proofs.parted_run.part_fresh.Goals.{In_ok-note}
@@ -7,7 +8,7 @@ use Rattle.cq_simulate.proofs.parted_run.part_fresh.Goals.{In_ok-note}
 -- the engine is made for the tables and the schedule, with room for all that it is to send and to note
 made : (g : given.Over) (c : In_ok-note g) →
     IsMade c.args.tables.now c.args.schedule.now c.args.engine.now c.in_ok-sent.sent c.in_ok-note.note
-made g c = search (arith, rules, made_for)
+made g c = search (arith, rules)
 
 pub run_before-requires-clause-ready : goal.run_before-requires-clause-ready
 run_before-requires-clause-ready g c =
@@ -36,4 +37,4 @@ returns-clause-parted g c =
 
 -- the fabric that stands still has a list for each port
 pub returns-clause-ports : goal.returns-clause-ports
-returns-clause-ports g c = search (arith, rules, port_count)
+returns-clause-ports g c = search (arith, rules, machine_count)

@@ -1,9 +1,8 @@
-use Rattle.cq_simulate.proofs.Terms.{arith, rules, IfOk-weaker}
-use Rattle.cq_simulate.proofs.FabricOpening.{can_be_made, fresh_for}
+use Rattle.cq_simulate.proofs.Terms.{arith, rules, IfOk-weaker, length-map-range_with_len}
 use Rattle.cq_simulate.proofs.ports.engine_for.Goals as goal
 
 pub new-requires : goal.new-requires
-new-requires c = search (arith, rules, can_be_made)
+new-requires c = search (arith, rules, length-map-range_with_len)
 
 pub returns : goal.returns
-returns c = search (arith, rules, IfOk-weaker, fresh_for)
+returns c = search (arith, rules, IfOk-weaker)

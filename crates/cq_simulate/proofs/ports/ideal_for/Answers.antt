@@ -1,5 +1,5 @@
 use Rattle.cq_simulate.proofs.Terms.{◌≡◌, arith, rules, IfOk-weaker, is_to, length-map-range_with_len}
-use Rattle.cq_simulate.proofs.FabricOpening.{ideal_is_for, ranks_many}
+use Rattle.cq_simulate.proofs.FabricOpening.{ranks_many}
 use Rattle.cq_simulate.specs.ScheduleFor.{by_port}
 use Rattle.cq_simulate.proofs.ports.ideal_for.Goals as goal
 
@@ -10,6 +10,5 @@ pub returns : goal.returns
 returns c =
     let are = c.in_ok-ranks.ensures in
     let to : c.as_slice.result.now ≡ by_port is_to c.args.tables.now c.args.schedule.now.came = search (arith, rules) in
-    IfOk-weaker c.new.result _ _ (λ ideal is. ideal_is_for c.args.tables.now c.args.schedule.now.came
-    c.in_ok-ranks.ranks.items ideal are.machines are.states (are.classes (omega arith)) to c.as_slice-2.ensures is)
-    c.new.ensures
+    let many = ranks_many c.args.tables.now c.in_ok-ranks.ranks.items are.machines in
+    search (arith, rules, IfOk-weaker, are.classes)
