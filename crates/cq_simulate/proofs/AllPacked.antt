@@ -2,7 +2,7 @@
 -- are the others, and each output stands where a walk over its own departures would stand (`SoFar`), with the packets
 -- of that walk in its bytes (`Walked`). One departure more goes on with the walk at its output, and passes by those
 -- at all others.
-use Rattle.cq_simulate.proofs.Terms.{rules, ◌≡◌, ◌≢◌, ℕ, ◌+◌, ◌<◌, ◌≤◌, All, List, [], ◌∷◌, ◌++◌, length, map, drop, get_or, set, Option, Some, None, refl, sym, ap, ◌∙◌, subst, arith, suc, Bool, true, false, take, zero, cond, common_steps, IfSome, cases_eq, cond-true, cond-false, eq-eqb, ne_eqb, and_from, and_left, and_right, append-nil, drop_more, get_or-set_other, get_or-set_same, length-drop, length-set, map-append, take_more, take-append-drop, get_or_default, unpacked, Departure, Captured, longest_body, rows_from, ports_of, Tables, ArePacked, HaveLeftOf, ends_packet_at, leaving, packets_out, CanBeJoined, IsEmptied, Took, left_with, records_of, Fits, opened, piece_at, filter, filter-append, All-push, leaves_in_flow, left_in_flow, JoinerView, IsOtherPair, open_after, open_at, packet_at, packets_of, length-rows_from, PackedDeparture, written_with, OutPacket, PacketRow, flat_map-map, length-map-range_with_len, ◌-◌, ◌*◌, flat_map, min, ◌==◌, range_with_len, flat_map-append, Cell, cells, cells_of, cell_of, arrivals, came_in_flow, AreTables, of_packet, AreCutFrom, Piece, Open, bytes_taken, with_piece, pieces_give_frame, range_more}
+use Rattle.cq_simulate.proofs.Terms.{rules, ◌≡◌, ◌≢◌, ℕ, ◌+◌, ◌<◌, ◌≤◌, All, List, [], ◌∷◌, ◌++◌, length, map, drop, get_or, set, Option, Some, None, refl, sym, ap, ◌∙◌, subst, arith, suc, true, false, take, zero, cond, common_steps, IfSome, cases_eq, cond-true, cond-false, eq-eqb, ne_eqb, and_from, and_left, and_right, append-nil, drop_more, get_or-set_other, get_or-set_same, length-drop, length-set, map-append, take_more, take-append-drop, get_or_default, unpacked, Departure, Captured, longest_body, rows_from, ports_of, Tables, ArePacked, HaveLeftOf, ends_packet_at, leaving, packets_out, CanBeJoined, IsEmptied, Took, left_with, records_of, Fits, opened, piece_at, filter, filter-append, All-push, leaves_in_flow, left_in_flow, JoinerView, IsOtherPair, open_after, open_at, packet_at, packets_of, length-rows_from, PackedDeparture, written_with, OutPacket, PacketRow, flat_map-map, length-map-range_with_len, ◌-◌, ◌*◌, flat_map, min, ◌==◌, range_with_len, flat_map-append, Cell, cells, cells_of, cell_of, arrivals, came_in_flow, AreTables, of_packet, AreCutFrom, Piece, Open, bytes_taken, with_piece, pieces_give_frame, range_more, filter_none, recursion_from_All}
 use Rattle.cq_pcap.specs.Written.{written}
 use Rattle.cq_simulate.specs.declared.packing.Packing.{Packing}
 use Rattle.cq_simulate.proofs.Departed.{departed_captured, departed_class, departed_output}
@@ -271,17 +271,12 @@ pub at_first : (t : Tables) (captures : List (List Captured)) (sent : List Depar
 unfolding packets_out
 at_first t captures sent output joiner packets inputs classes none nothing = search (rules, none_large)
 
-none_of : (p : Departure → Bool) (xs : List Departure) → ((k : ℕ) (e : Departure) → k < length xs → p (get_or xs k e)
-    ≡ false) → filter p xs ≡ []
-none_of p [] h = refl
-none_of p (x ∷ xs) h = cond-false (p x) (x ∷ filter p xs) (filter p xs) (h 0 x (omega arith))
-    ∙ none_of p xs (λ k e l. h (suc k) e (omega arith))
-
 -- at what is no port nothing departs
 pub nowhere : {t : Tables} {captures : List (List Captured)} {sent : List Departure} {stamp : ℕ} (output : ℕ) →
     HaveLeftOf t captures sent stamp → ports_of t.setup ≤ output → packets_out t captures sent output ≡ []
 unfolding packets_out
-nowhere {t} {captures} {sent} output of_run none = search (rules, none_of, departed_output, and_left, ne_eqb)
+nowhere {t} {captures} {sent} output of_run none =
+    search (rules, filter_none, recursion_from_All, departed_output, and_left, ne_eqb)
 
 -- with a cell that is not the last nothing leaves
 pub none_left : (bytes : List ℕ) (left is : Option OutPacket) → left ≡ is → left ≡ None → bytes ≡ bytes ++ records_of is

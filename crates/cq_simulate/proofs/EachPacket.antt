@@ -7,7 +7,7 @@ use Rattle.cq_simulate.proofs.FabricLaws.{slot_by_slot}
 use Rattle.cq_simulate.proofs.OfPackets.{by_packet, line_cells, packet_cells, packets_come}
 use Rattle.cq_simulate.proofs.Runnable.{runnable}
 use Rattle.cq_simulate.specs.EachPacket.{EachPacketOnce, number_for, number_from, output_of, times_left, times_refused}
-use Rattle.cq_simulate.proofs.Tallies.{all_in_row, sum_by_both, sum_by_same, tally, tally-map, tally_both, tally_by_parts, tally_of_kind, tally_same, tally_turned, one_is, one_where}
+use Rattle.cq_simulate.proofs.Tallies.{all_in_row, sum_by_both, sum_by_same, tally, tally-map, tally_both, tally_by_parts, tally_of_kind, tally_same, one_is, one_where}
 
 -- Each packet leaves its output or is refused there, once, and so are all of them together. Where a packet is one of
 -- those that are taken in at its input its last cell leaves in its flow, and where it is not its first cell is one of
@@ -39,7 +39,7 @@ module _ (t : Tables) (captures : List (List Captured)) where
     -- ## Those of one packet
 
     of_packet : (p : Cell → Bool) →
-        tally (λ a. p a.cell && a.cell.id.packet == k) (arrivals_at t captures input)
+        tally (λ a. a.cell.id.packet == k && p a.cell) (arrivals_at t captures input)
         ≡ tally (λ i. p (cell_of t captures input k i)) (range_with_len 0 (cells t captures input k))
     unfolding arrivals_at cell_of
     of_packet p =
@@ -51,8 +51,8 @@ module _ (t : Tables) (captures : List (List Captured)) where
         by_packet t captures input own (λ n. n == k) (λ n m. refl) ks
         ∙ ap (flat_map (packet_cells t captures input)) (one_is k 0 many (omega arith) (omega arith))
         ∙ append-nil (packet_cells t captures input k) in
-        sym (tally-map (λ cell. p cell && own cell) (λ (a : Arrival). a.cell) line)
-        ∙ tally_turned p own (map (λ (a : Arrival). a.cell) line)
+        sym (tally-map (λ cell. own cell && p cell) (λ (a : Arrival). a.cell) line)
+        ∙ sym (tally_both p own (map (λ (a : Arrival). a.cell) line))
         ∙ ap (λ (cells : List Cell). tally p (filter own cells)) (line_cells t captures input ks)
         ∙ ap (tally p) alone
         ∙ tally-map p (cell_of t captures input k) (range_with_len 0 (cells t captures input k))
@@ -60,7 +60,7 @@ module _ (t : Tables) (captures : List (List Captured)) where
     -- ## Its last cell, and its first
 
     pub one_last : (j : ℕ) →
-        tally (λ a. (a.cell.output == j && a.cell.last) && a.cell.id.packet == k) (arrivals_at t captures input)
+        tally (λ a. a.cell.id.packet == k && (a.cell.output == j && a.cell.last)) (arrivals_at t captures input)
         ≡ bit (output_of t captures input k == j)
     unfolding cell_of cells
     one_last j =
@@ -71,7 +71,7 @@ module _ (t : Tables) (captures : List (List Captured)) where
         (eq-eqb (n - 1 + 1) n (omega arith)) (λ i e. let same = eqb-true (i + 1) n e in omega arith)
 
     pub one_first : (j : ℕ) →
-        tally (λ a. (a.cell.output == j && is_first a.cell) && a.cell.id.packet == k) (arrivals_at t captures input)
+        tally (λ a. a.cell.id.packet == k && (a.cell.output == j && is_first a.cell)) (arrivals_at t captures input)
         ≡ bit (output_of t captures input k == j)
     unfolding cell_of cells
     one_first j = of_packet (λ cell. cell.output == j && is_first cell)
@@ -81,7 +81,7 @@ module _ (t : Tables) (captures : List (List Captured)) where
 
 -- ## Tests of a cell, in another order
 
-input_first : (here input packet : Bool) → (here && (input && packet)) ≡ (input && (here && packet))
+input_first : (here input packet : Bool) → (here && (input && packet)) ≡ (input && (packet && here))
 input_first here input packet = grind (arith, common_steps)
 
 -- ## One packet, then all
@@ -107,11 +107,11 @@ module _ (t : Tables) (captures : List (List Captured)) (sent : List Departure) 
     goes = output_of t captures input k == j
 
     abbrev ends : Cell → Bool
-    ends cell = cell.last && cell.id.packet == k
+    ends cell = cell.id.packet == k && cell.last
 
     -- the test of a cell that begins it there
     abbrev begins : Cell → Bool
-    begins cell = (cell.output == j && is_first cell) && cell.id.packet == k
+    begins cell = cell.id.packet == k && (cell.output == j && is_first cell)
 
     -- in the flow of its class it is the only packet of its number
     flow_test : (here : Bool) (cell : Cell) → IsOfPacket t captures cell →
@@ -122,7 +122,7 @@ module _ (t : Tables) (captures : List (List Captured)) (sent : List Departure) 
     -- its last cell came in its flow, if it goes here
     came_last : tally ends (came_in_flow input class j arrived) ≡ bit goes
     came_last =
-        let in_line : Arrival → Bool = λ a. (a.cell.output == j && a.cell.last) && a.cell.id.packet == k in
+        let in_line : Arrival → Bool = λ a. a.cell.id.packet == k && (a.cell.output == j && a.cell.last) in
         tally-map ends (λ (a : Arrival). a.cell) (filter (comes_in_flow input class j) arrived)
         ∙ tally_both (λ (a : Arrival). ends a.cell) (comes_in_flow input class j) arrived
         ∙ tally_same (λ a. comes_in_flow input class j a && ends a.cell) (λ a. is_from input a && in_line a) arrived

@@ -24,12 +24,13 @@ module _ {t : Tables} {came : List Arrival} {first : IdealSwitch} (fresh : IsIde
   pub ready_ideal : (sent : RoomView Departure) → IsSetup t.setup →
       IsTraffic (ports_of t.setup) (classes_of t.setup) came → IsShort came → sent.items ≡ [] →
       sent.spare ≡ length came + ports_of t.setup → IsReady (map machine_from first.fixed) came first sent
-  ready_ideal sent setup traffic short nothing spare = rw fresh.fresh (begun ideal_begins refl (machine_count machine_from first.fixed t.setup fresh.machines)) where
-    begun : (now : IdealSwitch) → now ≡ ideal_begins → length first.fixed ≡ ports_of t.setup →
-        IsReady (map machine_from first.fixed) came now sent
-    begun now is many =
+  ready_ideal sent setup traffic short nothing spare = rw fresh.fresh (begun ideal_begins refl) where
+    begun : (now : IdealSwitch) → now ≡ ideal_begins → IsReady (map machine_from first.fixed) came now sent
+    begun now is =
         let machines = fresh.machines in
-        let classes = fresh.classes in grind (arith, common_steps, length-map-range_with_len, room_at)
+        let classes = fresh.classes in
+        let many = machine_count machine_from first.fixed t.setup machines in
+        grind (arith, common_steps, length-map-range_with_len, room_at)
 
 -- ## What an engine is made of
 

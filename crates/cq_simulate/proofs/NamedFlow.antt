@@ -3,7 +3,7 @@
 -- have the same cells: of a flow there arrives one cell in a slot at most.
 -- What waits for an output in a sound state stands there as in a run: in the order of the keys, each cell with the
 -- level of its class and a rank below the floor, and each arrived in an earlier slot.
-use Rattle.cq_simulate.proofs.Terms.{common_steps, rules, map-append, ◌≡◌, ℕ, ◌<◌, Bool, true, false, List, [], ◌∷◌, ◌++◌, length, map, filter, Option, Some, refl, sym, ap, ◌∙◌, subst, inl, ⊎_elim, arith, ◌⊎◌, ◌+◌, ◌≤◌, not, cond, fold, ◌&&◌, ◌==◌, All, slice_index_or, nat_lt, if◌then◌else◌, AllByRecursion, AllPairs, and_from, and_parts, cases_lt, eq-eqb, eqb-true, lt-ltb, ltb-true, cases_eq, cond-false, cond-true, le-ltb, ne_eqb, Arrival, IsBefore, Departure, Queued, IsLater, IsTraffic, comes_in_flow, leaves_in_flow, left_in_flow, is_kind, shown, HasWaited, Stands, line_at, is_from_on, rest_of, Agrees, Fabric, input, ideal_of, list_of, departure_of, sent_told, firsts_at, is_refused, latest, IsSound, OfOneFlow, IsBelowFloor, AllNamed, AreWholePackets, NoneNamed, HasShape, Switch, HasLimit, arriving_cell, class_of, fabric_told, is_ahead, is_named, key_of, named_in, output_of, queued_in, queued_of, list_told, class_in, packet_before, EachPair, each_pair, buffer_is, comes, found_at, in_buffer, in_list, in_order, is_cell_of, its_output, its_slot, list_is, of_traffic, ports_are, queued_differ, queued_named, some_cell, Has, all_from_has, all_of_has, has_cases, has_image, has_kept, has_left, has_right, image_has, kept_has, pair_of_has, IsInRange, Sent, State, NoLater, all_weaker, Machine, machine_at, AreOfPackets, key_laws, HasFor, all_has, looked_up, pairs_kept, pairs_kept_with, pairs_looked_up, pairs_with, Named, any_has, has_any, any_alike, pairs_mapped, pairs_joined, has_looked_up, same_pairs}
+use Rattle.cq_simulate.proofs.Terms.{common_steps, rules, map-append, ◌≡◌, ℕ, ◌<◌, Bool, true, false, List, [], ◌∷◌, ◌++◌, length, map, filter, Option, Some, refl, sym, ap, ◌∙◌, subst, inl, ⊎_elim, arith, ◌⊎◌, ◌+◌, ◌≤◌, not, cond, fold, ◌&&◌, ◌==◌, All, slice_index_or, nat_lt, if◌then◌else◌, AllByRecursion, AllPairs, and_from, and_parts, cases_lt, eq-eqb, eqb-true, lt-ltb, ltb-true, cases_eq, cond-false, cond-true, le-ltb, ne_eqb, Arrival, IsBefore, Departure, Queued, IsLater, IsTraffic, comes_in_flow, leaves_in_flow, left_in_flow, is_kind, shown, HasWaited, Stands, line_at, rest_of, Agrees, Fabric, input, ideal_of, list_of, departure_of, sent_told, firsts_at, is_refused, latest, IsSound, OfOneFlow, IsBelowFloor, AllNamed, AreWholePackets, NoneNamed, HasShape, Switch, HasLimit, arriving_cell, class_of, fabric_told, is_ahead, is_named, key_of, named_in, output_of, queued_in, queued_of, list_told, class_in, packet_before, EachPair, each_pair, buffer_is, comes, found_at, in_buffer, in_list, in_order, is_cell_of, its_output, its_slot, list_is, of_traffic, ports_are, queued_differ, queued_named, some_cell, Has, all_from_has, all_of_has, has_cases, has_image, has_kept, has_left, has_right, image_has, kept_has, pair_of_has, IsInRange, Sent, State, NoLater, all_weaker, Machine, machine_at, AreOfPackets, key_laws, HasFor, all_has, looked_up, pairs_kept, pairs_kept_with, pairs_looked_up, pairs_with, Named, any_has, has_any, any_alike, pairs_mapped, pairs_joined, has_looked_up, same_pairs, filter_none, filter_all}
 use Rattle.std.proofs.lemmas.Simd.{map-map}
 use Rattle.cq_ideal.proofs.RestAtInput.{cells_of}
 
@@ -99,18 +99,11 @@ early_of next line = filter (is_early next) line
 abbrev pub IsEarlier : Arrival → Arrival → Type 0
 IsEarlier a b = a.slot < b.slot
 
--- behind one that is not early none is
-late_only : (next : ℕ) (line : List Arrival) → AllByRecursion (λ a. next ≤ a.slot) line →
-    (early_of next line ≡ []) × (rest_of next line ≡ line)
-late_only next [] late = (refl, refl)
-late_only next (a ∷ line) late =
-    grind (arith, common_steps, cond-false, le-ltb, cond-true, is_from_on, rest_of, late_only next line late.1)
-
 pub parted_at : (next : ℕ) (line : List Arrival) → EachPair IsEarlier line →
     line ≡ early_of next line ++ rest_of next line
 parted_at next [] rising = refl
 parted_at next (a ∷ line) rising =
-    search (rules, lt-ltb, all_weaker, late_only, le-ltb, cases_lt, parted_at next line rising.1)
+    search (rules, lt-ltb, all_weaker, filter_none, filter_all, le-ltb, cases_lt, parted_at next line rising.1)
 
 -- ## By number
 

@@ -1,9 +1,10 @@
 -- What arrives at an input are its packets, one after another, each from its first cell to its last. Cell 0 of a
 -- packet is its first cell and no other is, and the next packet has the next number. At what is no input nothing
 -- arrives.
-use Rattle.cq_simulate.proofs.Terms.{get_or_past, common_steps, rules, cond, filter, filter-append, Bool, ◌≡◌, ℕ, zero, suc, ◌+◌, ◌<◌, ◌≤◌, List, [], ◌∷◌, ◌++◌, length, map, refl, inr, arith, flat_map, range_with_len, cases_lt, ne_eqb, Arrival, arriving, enough, traffic_of, Cell, cells_above, at_input, traffic_is, arrivals, arrivals_at, arrivals_of, cell_of, cells, IsTraffic, come_in_order, AreOfPackets, cells_at, Captured, AreTables, ports_of, Tables, arrivals_for, map-append, true, sym, ap, ◌∙◌, AllByRecursion, eq-eqb, flat_map-append, ◌&&◌, ◌==◌, Departure, came_in_flow, is_from, packet_at, packets_of, route, LeftInOrder, LeftInPackets, of_packet}
+use Rattle.cq_simulate.proofs.Terms.{get_or_past, common_steps, rules, cond, filter, filter-append, Bool, ◌≡◌, ℕ, zero, suc, ◌+◌, ◌<◌, ◌≤◌, List, [], ◌∷◌, ◌++◌, length, map, refl, inr, arith, flat_map, range_with_len, cases_lt, ne_eqb, Arrival, arriving, enough, traffic_of, Cell, cells_above, at_input, traffic_is, arrivals, arrivals_at, arrivals_of, cell_of, cells, IsTraffic, come_in_order, AreOfPackets, cells_at, Captured, AreTables, ports_of, Tables, arrivals_for, map-append, true, sym, ap, ◌∙◌, AllByRecursion, flat_map-append, ◌&&◌, ◌==◌, Departure, came_in_flow, is_from, packet_at, packets_of, route, LeftInOrder, LeftInPackets, of_packet, filter_none, all_weaker, filter_both, filter_agree, cases_eq}
 use Rattle.std.proofs.lemmas.Simd.{map-map}
 use Rattle.cq_simulate.proofs.Runnable.{later_rise}
+use Rattle.cq_simulate.proofs.Tallies.{one_is}
 use Rattle.cq_cells.specs.Traffic.{IsInRange}
 
 -- where all pass a test or none does
@@ -81,14 +82,12 @@ packets_come t captures input tables as_many = search (rules, of_packets, none_c
 
 -- ## Numbers that rise
 
-beyond : (p : ℕ → Bool) (a n k : ℕ) → k < a → filter (λ g. g == k) (filter p (range_with_len a n)) ≡ []
-beyond p a zero k before = refl
-beyond p a (suc n) k before = grind (arith, common_steps, ne_eqb, beyond p (a + 1) n k)
-
 alone : (p : ℕ → Bool) (a n k : ℕ) → a ≤ k → k < a + n → p k ≡ true →
     filter (λ g. g == k) (filter p (range_with_len a n)) ≡ k ∷ []
-alone p a zero k from to is = absurd (omega arith)
-alone p a (suc n) k from to is = grind (arith, common_steps, ne_eqb, eq-eqb, beyond p (a + 1) n a, alone p (a + 1) n k)
+alone p a n k from to is =
+    filter_both (λ g. g == k) p (range_with_len a n)
+    ∙ filter_agree _ (λ g. g == k) (λ g. grind (arith, common_steps, cases_eq, ne_eqb)) (range_with_len a n)
+    ∙ one_is k a n from to
 
 each_alone : (p q : ℕ → Bool) (a n b m : ℕ) → a ≤ b → b + m ≤ a + n →
     flat_map (λ k. filter (λ g. g == k) (filter p (range_with_len a n))) (filter q (filter p (range_with_len b m)))
@@ -118,8 +117,7 @@ module _ (t : Tables) (captures : List (List Captured)) (input : ℕ) where
   pub none_at : (ports classes : ℕ) (came : List Arrival) → AllByRecursion (IsInRange ports classes) came →
       ports ≤ input →
       filter (is_from input) came ≡ []
-  none_at ports classes [] all past = refl
-  none_at ports classes (a ∷ came) all past = search (rules, ne_eqb, none_at ports classes came all.1 past)
+  none_at ports classes came all past = search (rules, filter_none, all_weaker, ne_eqb)
 
   -- of the cells that come to the input those of a flow
   abbrev in_flow : ℕ → ℕ → Cell → Bool

@@ -6,12 +6,12 @@ use Rattle.cq_ideal.specs.Rest.{HasRested}
 use Rattle.cq_ideal.proofs.LimitedParts.{behind, limited_parts, limited_going_on, limited_stays_empty}
 
 -- The run of the ideal switch, slot by slot. The slots so far are a run, which the slots that are left go on with, and
--- what was sent is what that run sent. Of the cells that come in a slot each is admitted or refused. So the cells that wait
--- and those that are still to come are no more than there is room for, in each list and in all, and those that were
--- refused and those that are still to come are no more than all that come. And those that wait or come are no more
--- than the slots that are left after the last arrival: in each of these a cell leaves, while one waits. So the slots
--- do not end before the cells. Once no cell is to come and none waits, the slots that are left send nothing and meet
--- no fault.
+-- what was sent is what that run sent. Of the cells that come in a slot each is admitted or refused. So the cells that
+-- wait and those that are still to come are no more than there is room for, in each list and in all, and those that
+-- were refused and those that are still to come are no more than all that come. And those that wait or come are no
+-- more than the slots that are left after the last arrival: in each of these a cell leaves, while one waits. So the
+-- slots do not end before the cells. Once no cell is to come and none waits, the slots that are left send nothing and
+-- meet no fault.
 
 -- ## What a slot admits
 

@@ -1,7 +1,7 @@
 -- How many of a list pass a test. A tally of what passes one test, taken of what passes another, is one of what
 -- passes both; of numbers in a row of which one passes it is 1; and of two sums, one within the other, either may be
 -- taken first. So the tally of a list is the sum of those of its parts, where each item that passes is in one of them.
-use Rattle.cq_simulate.proofs.Terms.{bit, rules, ◌≡◌, ℕ, zero, suc, ◌+◌, ◌<◌, ◌≤◌, Bool, true, false, cond, List, [], ◌∷◌, length, map, filter, refl, sym, ◌∙◌, arith, common_steps, ◌&&◌, ◌==◌, sum_by, AllByRecursion, range_with_len, and_right, cases_eq, eq-eqb, ne_eqb, length-filter, sum_by-cons, cases_Bool, ap}
+use Rattle.cq_simulate.proofs.Terms.{bit, rules, ◌≡◌, ℕ, zero, suc, ◌+◌, ◌<◌, ◌≤◌, Bool, true, false, cond, List, [], ◌∷◌, length, map, filter, refl, sym, ◌∙◌, arith, common_steps, ◌&&◌, ◌==◌, sum_by, AllByRecursion, range_with_len, and_right, cases_eq, eq-eqb, ne_eqb, length-filter, sum_by-cons, cases_Bool, ap, filter_both}
 
 -- how many pass
 abbrev pub tally : {X : Type 0} → (X → Bool) → List X → ℕ
@@ -15,8 +15,7 @@ module _ {X : Type 0} where
 
   -- what passes the second test, and of this what passes the first
   pub tally_both : (p q : X → Bool) (xs : List X) → tally p (filter q xs) ≡ tally (λ x. q x && p x) xs
-  tally_both p q [] = refl
-  tally_both p q (x ∷ xs) = search (arith, rules, one_more, tally_both p q xs)
+  tally_both p q xs = ap length (filter_both p q xs)
 
   pub tally_turned : (p q : X → Bool) (xs : List X) → tally (λ x. p x && q x) xs ≡ tally p (filter q xs)
   tally_turned p q [] = refl
@@ -28,11 +27,11 @@ module _ {X : Type 0} where
 
   -- of some kinds, what is of this kind and passes: it is there where the kind is one of these
   pub tally_of_kind : (kind : X → ℕ) (k : ℕ) (taken : ℕ → Bool) (p : X → Bool) (xs : List X) →
-      tally (λ x. p x && kind x == k) (filter (λ x. taken (kind x)) xs)
-      ≡ cond (taken k) (tally (λ x. p x && kind x == k) xs) 0
+      tally (λ x. kind x == k && p x) (filter (λ x. taken (kind x)) xs)
+      ≡ cond (taken k) (tally (λ x. kind x == k && p x) xs) 0
   tally_of_kind kind k taken p [] = grind (arith, common_steps)
   tally_of_kind kind k taken p (x ∷ xs) =
-      grind (arith, common_steps, cases_eq, and_right, ne_eqb, one_more, tally_of_kind kind k taken p xs)
+      grind (arith, common_steps, cases_eq, ne_eqb, one_more, tally_of_kind kind k taken p xs)
 
 pub tally-map : {X Y : Type 0} (p : X → Bool) (f : Y → X) (ys : List Y) → tally p (map f ys) ≡ tally (λ y. p (f y)) ys
 tally-map p f [] = refl

@@ -1,5 +1,5 @@
 -- The words of this crate's proofs that stand elsewhere, each passed on from its place.
-pub use Rattle.cq_base.proofs.Library.{All, All-from_recursion, All-push, AllByRecursion, AllPairs, Bool, Err, IfErr-weaker, IfOk, IfOk-weaker, IfSome, IsTrue, List, None, Ok, Option, Result, Some, [], and_from, and_left, and_parts, and_right, ap, append-nil, append_assoc, arith, cases_Bool, cases_eq, cases_lt, common_steps, cond, cond-false, cond-true, cond_both, cons_option, drop, drop_more, enumerate_from, eq-eqb, eqb-true, err_from_is_err_and, false, filter, filter-append, filter_map, find, flat_map, flat_map-append, flat_map-map, fold, fold-append, get_or, get_or-map, get_or-map-range_with_len, get_or-replicate, get_or-set_other, get_or-set_same, get_or_default, get_or_from_slice_get, get_or_past, if◌then◌else◌, inl, inr, is_err, is_some, le-leb, le-ltb, leb-false, length, length-append, length-drop, length-filter, length-filter_both, length-insert, length-map, length-map-range_with_len, length-replicate, length-set, list_any, lt-leb, lt-ltb, ltb-true, map, map-append, map-range_with_len_more, max, min, mul-le-mul, nat_lt, ne_eqb, nil_from_length, not, option_map, range_with_len, recursion_from_All, refl, replicate, rules, set, slice_get_within, slice_index, slice_index_or, subst, suc, sum, sum-map, sum_by, sum_by-cons, sum_by-le, sym, take, take-append-drop, take-append-le, take_all, take_more, true, vec_len, zero, ℕ, ⊎_elim, ◌&&◌, ◌*◌, ◌++◌, ◌+◌, ◌-◌, ◌<◌, ◌==◌, ◌^◌, ◌↔◌, ◌∙◌, ◌∷◌, ◌≡◌, ◌≢◌, ◌≤◌, ◌⊎◌}
+pub use Rattle.cq_base.proofs.Library.{All, All-from_recursion, All-push, AllByRecursion, AllPairs, Bool, Err, IfErr-weaker, IfOk, IfOk-weaker, IfSome, IsTrue, List, None, Ok, Option, Result, Some, [], and_from, and_left, and_parts, and_right, ap, append-nil, append_assoc, arith, cases_Bool, cases_eq, cases_lt, common_steps, cond, cond-false, cond-true, cond_both, cons_option, drop, drop_more, enumerate_from, eq-eqb, eqb-true, err_from_is_err_and, false, filter, filter-append, filter_agree, filter_map, find, flat_map, flat_map-append, flat_map-map, fold, fold-append, get_or, get_or-map, get_or-map-range_with_len, get_or-replicate, get_or-set_other, get_or-set_same, get_or_default, get_or_from_slice_get, get_or_past, if◌then◌else◌, inl, inr, is_err, is_some, le-leb, le-ltb, leb-false, length, length-append, length-drop, length-filter, length-filter_both, length-insert, length-map, length-map-range_with_len, length-replicate, length-set, list_any, lt-leb, lt-ltb, ltb-true, map, map-append, map-range_with_len_more, max, min, mul-le-mul, nat_lt, ne_eqb, nil_from_length, not, option_map, range_with_len, recursion_from_All, refl, replicate, rules, set, slice_get_within, slice_index, slice_index_or, subst, suc, sum, sum-map, sum_by, sum_by-cons, sum_by-le, sym, take, take-append-drop, take-append-le, take_all, take_more, true, vec_len, zero, ℕ, ⊎_elim, ◌&&◌, ◌*◌, ◌++◌, ◌+◌, ◌-◌, ◌<◌, ◌==◌, ◌^◌, ◌↔◌, ◌∙◌, ◌∷◌, ◌≡◌, ◌≢◌, ◌≤◌, ◌⊎◌}
 pub use Rattle.cq_base.specs.Arrivals.{arrival_at, no_arrivals}
 pub use Rattle.cq_base.specs.Arriving.{Arrival, arriving_at, end_of, is_at}
 unfoldable pub use Rattle.cq_base.specs.Arriving.{arriving, enough, traffic_of}
@@ -82,6 +82,7 @@ pub use Rattle.cq_laws.specs.LimitedFabric.{IsLimitedFault, LimitedFabricRun, Li
 pub use Rattle.cq_laws.specs.Measures.{no_figures, sends}
 unfoldable pub use Rattle.cq_laws.specs.Measures.{figures_after, figures_of, output_after, proposals_in}
 unfoldable pub use Rattle.cq_laws.specs.Records.{transfers_in, transfers_of_run}
+pub use Rattle.cq_resume.proofs.Cut.{filter_both}
 pub use Rattle.cq_resume.proofs.GoesOn.{GoesOn, buffer_is, came_before, comes, found_at, goes_on, in_buffer, in_list, in_order, is_cell_of, its_output, its_slot, list_is, of_traffic, ports_are, queued_differ, queued_named, some_cell}
 pub use Rattle.cq_resume.specs.Counted.{departure_of, firsts_at, is_refused, latest, marks_told, output_told, sent_told, taken_of}
 unfoldable pub use Rattle.cq_resume.specs.Counted.{figures_told, frozen_told}
@@ -108,7 +109,7 @@ unfoldable pub use Rattle.cq_simulate.specs.Packets.{packets_out}
 pub use Rattle.cq_simulate.specs.Pieces.{CanBeJoined, Fits, IsCaptured, IsEmptied, Took, left_with, opened, piece_at, records_of}
 pub use Rattle.cq_simulate.specs.{declared.fabric_run.PackedFabricRun.PackedFabricRun, declared.ports.Ports.Ports, declared.refusal.RunRefusal.RunRefusal}
 pub use Rattle.cq_simulate.specs.Terms.{ArePortsFor, AreTables, CanBeTakenUp, Cell, FabricRun, GoesOnFrom, IsFreshFor, IsIdealFor, IsPartFault, IsQuiet, IsReady, IsResumeFault, IsScheduleFor, IsSetup, NoneCome, Tables, classes_of, kept_of, ports_of}
-pub use Rattle.cq_base.proofs.Each.{all_filter, all_weaker, all_flat, all_made}
+pub use Rattle.cq_base.proofs.Each.{all_filter, all_weaker, all_flat, all_made, filter_all, filter_none}
 pub use Rattle.cq_base.specs.{declared.figures.OutputFigures.OutputFigures, declared.key.Key.Key, declared.packed.PackedDeparture.PackedDeparture, declared.setup.Kind.Kind, declared.setup.Kind.TheVariants.FirstCome}
 pub use Rattle.cq_base.proofs.Keys.{key_laws}
 pub use Rattle.cq_pcap.proofs.Writing.{written_with}
