@@ -2,7 +2,7 @@
 -- are the others, and each output stands where a walk over its own departures would stand (`SoFar`), with the packets
 -- of that walk in its bytes (`Walked`). One departure more goes on with the walk at its output, and passes by those
 -- at all others.
-use Rattle.cq_simulate.proofs.Terms.{rules, ◌≡◌, ◌≢◌, ℕ, ◌+◌, ◌<◌, ◌≤◌, All, List, [], ◌∷◌, ◌++◌, length, map, drop, get_or, set, Option, Some, None, refl, sym, ap, ◌∙◌, subst, arith, suc, true, false, take, zero, cond, common_steps, IfSome, cases_eq, cond-true, cond-false, eq-eqb, ne_eqb, and_from, and_left, and_right, append-nil, drop_more, get_or-set_other, get_or-set_same, length-drop, length-set, map-append, take_more, take-append-drop, get_or_default, unpacked, Departure, Captured, longest_body, rows_from, ports_of, Tables, ArePacked, HaveLeftOf, ends_packet_at, leaving, packets_out, CanBeJoined, IsEmptied, Took, left_with, records_of, Fits, opened, piece_at, filter, filter-append, All-push, leaves_in_flow, left_in_flow, JoinerView, IsOtherPair, open_after, open_at, packet_at, packets_of, length-rows_from, PackedDeparture, written_with, OutPacket, PacketRow, flat_map-map, length-map-range_with_len, ◌-◌, ◌*◌, flat_map, min, ◌==◌, range_with_len, flat_map-append, Cell, cells, cells_of, cell_of, arrivals, came_in_flow, AreTables, of_packet, AreCutFrom, Piece, Open, bytes_taken, with_piece, pieces_give_frame, range_more, filter_none, recursion_from_All}
+use Rattle.cq_simulate.proofs.Terms.{rules, ◌≡◌, ◌≢◌, ℕ, ◌+◌, ◌<◌, ◌≤◌, All, List, [], ◌∷◌, ◌++◌, length, map, drop, get_or, set, Option, Some, None, refl, sym, ap, ◌∙◌, subst, arith, suc, true, false, take, zero, cond, common_steps, IfSome, cases_eq, cond-true, cond-false, eq-eqb, ne_eqb, and_from, and_left, and_right, append-nil, drop_more, get_or-set_other, get_or-set_same, length-drop, length-set, map-append, take_more, take-append-drop, get_or_default, unpacked, Departure, Captured, longest_body, rows_from, ports_of, Tables, ArePacked, HaveLeftOf, ends_packet_at, leaving, packets_out, CanBeJoined, IsEmptied, Took, left_with, records_of, Fits, opened, piece_at, filter, filter-append, All-push, leaves_in_flow, left_in_flow, JoinerView, open_after, open_at, packet_at, packets_of, length-rows_from, PackedDeparture, written_with, OutPacket, PacketRow, flat_map-map, length-map-range_with_len, ◌-◌, ◌*◌, flat_map, min, ◌==◌, range_with_len, flat_map-append, Cell, cells, cells_of, cell_of, arrivals, came_in_flow, AreTables, of_packet, AreCutFrom, Piece, Open, bytes_taken, with_piece, pieces_give_frame, range_more, filter_none, recursion_from_All, JoinsOn}
 use Rattle.cq_pcap.specs.Written.{written}
 use Rattle.cq_simulate.specs.declared.packing.Packing.{Packing}
 use Rattle.cq_simulate.proofs.Departed.{departed_captured, departed_class, departed_output}
@@ -245,12 +245,8 @@ module _ (t : Tables) (captures : List (List Captured)) (sent : List Departure) 
         of_run.tables of_run.captures c output (l.packets c output)
         (left_in_flow i c output (take k sent)) d.queued.cell (left_in_flow i c output (drop (k + 1) sent)) (cc))
 
-    module _ {joiner : JoinerView} (joiner_new : JoinerView) {packets : List OutPacket}
-        (so_far : SoFar t captures sent output k joiner packets) (inputs : joiner_new.inputs ≡ joiner.inputs)
-        (classes : joiner_new.classes ≡ joiner.classes) (pair : open_at joiner_new d.queued.cell.id.input
-        d.queued.cell.class ≡ open_after (open_at joiner d.queued.cell.id.input d.queued.cell.class) d.queued.cell
-        (piece_at captures d.queued.cell)) (others : (i c : ℕ) → c < joiner.classes → IsOtherPair i c d.queued.cell →
-        open_at joiner_new i c ≡ open_at joiner i c) where
+    module _ {joiner joiner_new : JoinerView} {packets : List OutPacket}
+        (so_far : SoFar t captures sent output k joiner packets) (joined : JoinsOn captures d joiner joiner_new) where
       open_next : (i c : ℕ) → c < length t.setup.classes → open_at joiner_new i c ≡ opened captures None
           (left_in_flow i c output (take (k + 1) sent))
       open_next i c few =
@@ -358,9 +354,8 @@ module _ {t : Tables} {captures : List (List Captured)} {sent : List Departure} 
             record {
               packets = own.packets ++ listed o;
               so_far =
-                  went_on t captures sent d.output so_far.done d inside its_output new.joiner own.so_far
-                  took_here.inputs
-                  took_here.classes took_here.pair took_here.others o refl refl took_here.small;
+                  went_on t captures sent d.output so_far.done d inside its_output own.so_far took_here.joined o refl
+                  refl took_here.small;
               bytes = took_here.bytes ∙ ap (λ (bs : List ℕ). bs ++ records_of o) own.bytes ∙ written_on o;
             }
 

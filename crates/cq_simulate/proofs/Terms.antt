@@ -106,7 +106,7 @@ pub use Rattle.cq_simulate.specs.IdealRuns.{IsRefusalOf, counts_limited, slots_r
 unfoldable pub use Rattle.cq_simulate.specs.IdealRuns.{ideal_departures, ideal_refusals, ran_ideal}
 pub use Rattle.cq_simulate.specs.Packets.{ArePacked, HaveLeftOf, LeaveInOrder, LeaveWhole, LeftInOrder, LeftInPackets, ends_packet_at, leaving, of_packet}
 unfoldable pub use Rattle.cq_simulate.specs.Packets.{packets_out}
-pub use Rattle.cq_simulate.specs.Pieces.{CanBeJoined, Fits, IsCaptured, IsEmptied, Took, left_with, opened, piece_at, records_of}
+pub use Rattle.cq_simulate.specs.Pieces.{CanBeJoined, Fits, IsCaptured, IsEmptied, JoinsOn, Took, left_with, opened, piece_at, records_of}
 pub use Rattle.cq_simulate.specs.{declared.fabric_run.PackedFabricRun.PackedFabricRun, declared.ports.Ports.Ports, declared.refusal.RunRefusal.RunRefusal}
 pub use Rattle.cq_simulate.specs.Terms.{ArePortsFor, AreTables, CanBeTakenUp, Cell, FabricRun, GoesOnFrom, IsFreshFor, IsIdealFor, IsPartFault, IsQuiet, IsReady, IsResumeFault, IsScheduleFor, IsSetup, NoneCome, Tables, classes_of, kept_of, ports_of}
 pub use Rattle.cq_base.proofs.Each.{all_filter, all_weaker, all_flat, all_made, filter_all, filter_none}

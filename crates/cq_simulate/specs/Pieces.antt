@@ -59,14 +59,17 @@ pub record CanBeJoined (captures : List (List Captured)) (joiner : JoinerView) (
   pub captured : IsCaptured captures d.queued.cell
   pub fits : Fits captures (open_at joiner d.queued.cell.id.input d.queued.cell.class) d.queued.cell
 
--- it was taken: its packet has left, if it was the last, and what is open of other inputs and classes is as before
-pub record Took (t : Tables) (captures : List (List Captured)) (d : Departure) (old new : Packing) : Type 0 where
-  pub inputs : new.joiner.inputs ≡ old.joiner.inputs
-  pub classes : new.joiner.classes ≡ old.joiner.classes
-  pub pair : open_at new.joiner d.queued.cell.id.input d.queued.cell.class
-      ≡ open_after (open_at old.joiner d.queued.cell.id.input d.queued.cell.class) d.queued.cell
+-- it was joined to what is open of its input and class, and what is open of others is as before
+pub record JoinsOn (captures : List (List Captured)) (d : Departure) (old new : JoinerView) : Type 0 where
+  pub inputs : new.inputs ≡ old.inputs
+  pub classes : new.classes ≡ old.classes
+  pub pair : open_at new d.queued.cell.id.input d.queued.cell.class
+      ≡ open_after (open_at old d.queued.cell.id.input d.queued.cell.class) d.queued.cell
       (piece_at captures d.queued.cell)
-  pub others : (i c : ℕ) → c < old.joiner.classes → IsOtherPair i c d.queued.cell →
-      open_at new.joiner i c ≡ open_at old.joiner i c
+  pub others : (i c : ℕ) → c < old.classes → IsOtherPair i c d.queued.cell → open_at new i c ≡ open_at old i c
+
+-- it was taken: it was joined, and its packet has left, if it was the last
+pub record Took (t : Tables) (captures : List (List Captured)) (d : Departure) (old new : Packing) : Type 0 where
+  pub joined : JoinsOn captures d old.joiner new.joiner
   pub bytes : new.bytes.items ≡ old.bytes.items ++ records_of (left_with t captures d)
   pub small : IfSome (left_with t captures d) (λ p. length p.body ≤ longest_body)

@@ -1,4 +1,4 @@
-use Rattle.cq_simulate.proofs.Terms.{rules, arith, sym, ◌∙◌, append-nil, None, Some}
+use Rattle.cq_simulate.proofs.Terms.{rules, arith, append-nil, None, Some, sym, ◌∙◌}
 use Rattle.cq_simulate.proofs.Departed.{departed_captured, departed_class}
 use Rattle.cq_simulate.proofs.AllPacked.{at_first, at_other, cell_fits, went_on}
 use Rattle.cq_simulate.proofs.packets.put_together.Goals as goal
@@ -22,23 +22,17 @@ take-requires-clause-fits c = search (arith, rules, cell_fits, departed_class)
 
 pub departures-preserved : goal.departures-preserved
 departures-preserved c =
-    let t = c.args.tables.now in
-    let captures = c.args.captures.now in
-    let sent = c.args.sent.now in
-    let k = c.departures.departure-index in
-    let inv = c.departures.invariant in
     elim c.if-departure-output.branch [
-      | then-departure-output+in_ok-left+in-Some+in_ok-push-in-Some w ↦
-          rw (w.joiner-is, w.packets-is) (went_on t captures sent c.args.output k _ c.departures-test.true
-          w.if-departure-output.true w.take.new.joiner inv w.take.ensures.inputs w.take.ensures.classes
-          w.in_ok-left.ensures.pair w.take.ensures.others (Some w.in-Some.packet)
-          (sym w.in-Some.is ∙ w.in_ok-left.ensures.packet) w.in_ok-push-in-Some.ensures.items
+      | then-departure-output+in_ok-left+in-Some+in_ok-push-in-Some w ↦ rw (w.joiner-is, w.packets-is)
+          (went_on c.args.tables.now c.args.captures.now c.args.sent.now c.args.output c.departures.departure-index _
+          c.departures-test.true w.if-departure-output.true c.departures.invariant (search (arith, rules))
+          (Some w.in-Some.packet) (sym w.in-Some.is ∙ w.in_ok-left.ensures.packet) w.in_ok-push-in-Some.ensures.items
           (rw w.in-Some.is at w.in_ok-left.ensures.body))
-      | then-departure-output+in_ok-left+in-None w ↦
-          rw (w.joiner-is, w.packets-is) (went_on t captures sent c.args.output k _ c.departures-test.true
-          w.if-departure-output.true w.take.new.joiner inv w.take.ensures.inputs w.take.ensures.classes
-          w.in_ok-left.ensures.pair w.take.ensures.others None (sym w.in-None.is ∙ w.in_ok-left.ensures.packet)
-          (sym (append-nil c.departures.packets.items)) tt)
+      | then-departure-output+in_ok-left+in-None w ↦ rw (w.joiner-is, w.packets-is)
+          (went_on c.args.tables.now c.args.captures.now c.args.sent.now c.args.output c.departures.departure-index _
+          c.departures-test.true w.if-departure-output.true c.departures.invariant (search (arith, rules)) None
+          (sym w.in-None.is ∙ w.in_ok-left.ensures.packet) (sym (append-nil c.departures.packets.items)) tt)
       | else-departure-output w ↦ rw (w.joiner-is, w.packets-is)
-          (at_other t captures sent c.args.output k _ c.departures-test.true inv w.if-departure-output.false)
+          (at_other c.args.tables.now c.args.captures.now c.args.sent.now c.args.output c.departures.departure-index _
+          c.departures-test.true c.departures.invariant w.if-departure-output.false)
     ]
