@@ -113,10 +113,6 @@ pub record Crossing (whole : Bool) (ms : List Machine) (came : List Arrival) (fi
   pub going : whole ≡ true → (m : ℕ) (f : Marked Fabric) → m < length records → RanTo ms came first m records f →
       end_of came ≤ first.next + m → IsEmptyFabric f.state → ⊥
 
--- a later slot changes none of it either
-pub made_on : {first now after : EngineView} → IsMadeAs first now → IsMadeAs now after → IsMadeAs first after
-made_on was is = grind (arith, common_steps)
-
 -- the slot was done, and what left in it, which stood in a list of its own, stands behind what was sent
 pub record Passed (ms : List Machine) (slot : ℕ) (cells : List (Option Cell)) (now after : EngineView)
     (leaving left sent sent_new : RoomView Departure) (note note_new : RoomView Transfer) : Type 0 where
@@ -287,7 +283,7 @@ module _ {whole : Bool} {ms : List Machine} {came : List Arrival} {first : Engin
         ideal = alike.next;
         agrees = alike.agrees;
         next = passed.went_on.next;
-        made = made_on c.made passed.made;
+        made = search (arith, rules);
         ports = limited_ports_kept first.limits ms slot classes cells f g ideal r c.agrees come stable ∙ c.ports;
         records = c.records ++ r ∷ [];
         long = omega arith;

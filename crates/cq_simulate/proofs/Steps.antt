@@ -1,5 +1,5 @@
 -- What each step of the loop over the slots asks for, where so many slots are left as are not yet over.
-use Rattle.cq_simulate.proofs.Terms.{common_steps, rules, ◌≡◌, ◌↔◌, ℕ, suc, ◌+◌, ◌-◌, ◌<◌, ◌≤◌, ◌^◌, Bool, false, List, [], ◌++◌, length, map, replicate, Option, Result, Ok, Err, refl, sym, ap, ◌∙◌, subst, arith, ⊎_elim, zero, None, ◌∷◌, IsTrue, All, IfOk, slice_index_or, cases_lt, IfOk-weaker, Cell, Departure, Queued, TagFault, no_arrivals, Arrival, arriving, end_of, enough, traffic_of, RoomView, Machine, Marked, Admission, nothing_refused, admission, admitted, marked, refused, IdealSwitch, HasRoomFor, HaveLeft, marked_state, count_for, IdealState, departures_in, ideal_slot, departures_limited, LimitedSent, limited_run, limited_slot, nothing_came, ideal_admission, ideal_held, with_admission, CanCount, IsReady, waiting, counted, arriving_from, slots_of, none_waits, nothing_left, all_slots, arrivals_for, for_here, come_for, come_for-traffic_of, IsQuiet, come_count, arriving_parts, departures_of, no_departures, quiet_slots, length-replicate, append-nil, length-append, get_or-replicate, number_of, is_to, refused_counts, with_refused, counts_fit, zero_fits, present, come_count-traffic_of, none_after, run_fault, run_step, counts_more, each_once, waiting-empty, CanHaveSlot, HasHadSlot, IsSameSwitch, arriving_length, first_slots, gone_long, departures_append, slots_within, first_more, LimitedRan}
+use Rattle.cq_simulate.proofs.Terms.{common_steps, rules, ◌≡◌, ◌↔◌, ℕ, suc, ◌+◌, ◌-◌, ◌<◌, ◌≤◌, ◌^◌, Bool, false, List, [], ◌++◌, length, map, replicate, Option, Result, Ok, Err, refl, sym, ap, ◌∙◌, arith, ⊎_elim, zero, None, ◌∷◌, IsTrue, All, IfOk, slice_index_or, cases_lt, IfOk-weaker, Cell, Departure, Queued, TagFault, no_arrivals, Arrival, arriving, end_of, enough, traffic_of, RoomView, Machine, Marked, Admission, nothing_refused, admission, admitted, refused, IdealSwitch, HasRoomFor, HaveLeft, marked_state, count_for, IdealState, departures_in, ideal_slot, departures_limited, LimitedSent, limited_run, limited_slot, nothing_came, ideal_admission, ideal_held, with_admission, CanCount, IsReady, waiting, counted, arriving_from, slots_of, none_waits, nothing_left, all_slots, arrivals_for, for_here, come_for, come_for-traffic_of, IsQuiet, come_count, arriving_parts, departures_of, no_departures, quiet_slots, length-replicate, append-nil, length-append, get_or-replicate, number_of, is_to, refused_counts, with_refused, counts_fit, zero_fits, present, come_count-traffic_of, none_after, run_fault, run_step, counts_more, each_once, waiting-empty, CanHaveSlot, HasHadSlot, IsSameSwitch, arriving_length, first_slots, gone_long, departures_append, slots_within, first_more, LimitedRan, subst, marked}
 use Rattle.cq_ideal.specs.Ideal.{answer_to, its_slot}
 use Rattle.cq_ideal.specs.IdealSlot.{Sent}
 use Rattle.cq_ideal.specs.Rest.{HasRested}
@@ -81,11 +81,6 @@ pub record Running (ms : List Machine) (came : List Arrival) (first : IdealSwitc
   pub few : waiting now.state.lists + come_count (arriving_from came slot n) + (end_of came - slot) ≤ n
   pub many : length lost + come_count (arriving_from came slot n) ≤ length came
 
--- it is the same switch after a later slot too
-pub same_on : {first now after : IdealSwitch} → IsSameSwitch first now → IsSameSwitch now after →
-    IsSameSwitch first after
-same_on was is = grind (arith, common_steps)
-
 pub enough_are : (came : List Arrival) → enough came ≡ end_of came + length came
 unfolding enough
 enough_are came = refl
@@ -138,16 +133,6 @@ module _ {ms : List Machine} {came : List Arrival} {first : IdealSwitch} {first_
   pub slot_left : (end_of came ≤ slot → waiting now.state.lists ≡ 0 → ⊥) → 0 < n
   slot_left more = ⊎_elim (λ some. some) (λ none. absurd (more (omega arith) (omega arith))) (cases_lt 0 n)
 
-  -- no count of refused cells and packets is near its type's end
-  pub can_count : CanCount (length first.fixed) now.refused
-  can_count =
-      let short : enough came ≤ 2 ^ 63 + 2 ^ 35 = r.ready.short in
-      let are = enough_are came in
-      let p = length first.fixed in
-      let lost = r.lost in
-      rw (r.refused ∙ counts_more first.limits [] lost) (counts_fit lost p (length lost)
-      (refused_counts first.limits []) (zero_fits (p + length lost) first.limits (omega arith)) (omega arith))
-
   -- ## The end of the loop
 
   pub running_over : end_of came ≤ slot → waiting now.state.lists ≡ 0 →
@@ -186,7 +171,7 @@ module _ {ms : List Machine} {came : List Arrival} {first : IdealSwitch} {first_
         left = omega arith;
         running = running;
         next = next;
-        same = same_on r.same same;
+        same = search (arith, rules);
         ran = record {
           admissions = r.ran.admissions ++ of_slot.admission ∷ [];
           gone = r.ran.gone ++ of_slot.gone ∷ [];
@@ -366,8 +351,15 @@ module _ {M : List ℕ → Machine} {came : List Arrival} {first : IdealSwitch} 
   room_left : (cells : List (Option Cell)) → cells ≡ arriving came slot → HasRoomFor cells now
   room_left cells are j inside = grind (arith, common_steps, for_here j came slot (enough came - (slot + 1)))
 
+  -- no count of refused cells and packets is near its type's end
   room_to_count : CanCount (length now.fixed) now.refused
-  room_to_count = rw here.runs.same.fixed (can_count here.runs)
+  room_to_count =
+      let short : enough came ≤ 2 ^ 63 + 2 ^ 35 = here.runs.ready.short in
+      let are = enough_are came in
+      let p = length first.fixed in
+      let lost = here.runs.lost in
+      rw (here.runs.same.fixed, here.runs.refused ∙ counts_more first.limits [] lost) (counts_fit lost p (length lost)
+      (refused_counts first.limits []) (zero_fits (p + length lost) first.limits (omega arith)) (omega arith))
 
   -- the slot finds all that it asks for, with a free list for what is sent
   pub can_have : {cells : List (Option Cell)} {leaving : RoomView Departure} → cells ≡ arriving came slot →

@@ -1,5 +1,5 @@
-use Rattle.cq_simulate.proofs.Terms.{◌+◌, ◌-◌, true, zero, ap, is_err, ◌∙◌, arith, rules, ◌<◌, sym, err_from_is_err_and, end_of, IsEmptyFabric, quiet_of}
-use Rattle.cq_simulate.proofs.FabricSteps.{over_by, CanRun, Stands, can_run_here, can_take_over, crossing_first, crossing_over, fault_here, goes_on, left_here, next_here, places_here, quiet_if, run_stands}
+use Rattle.cq_simulate.proofs.Terms.{ap, is_err, ◌+◌, ◌-◌, true, zero, ◌∙◌, arith, rules, ◌<◌, sym, err_from_is_err_and, end_of, IsEmptyFabric, quiet_of}
+use Rattle.cq_simulate.proofs.FabricSteps.{over_by, Stands, can_run_here, can_take_over, crossing_first, crossing_over, fault_here, goes_on, left_here, next_here, places_here, quiet_if, run_stands}
 use Rattle.cq_simulate.proofs.Steps.{enough_are, free_again, left_with_all}
 use Rattle.cq_simulate.proofs.fabric_run.run_slots.Given as given
 use Rattle.cq_simulate.proofs.fabric_run.run_slots.Goals as goal
@@ -18,13 +18,6 @@ stands g c = run_stands g.R.Rank.machine c.slots.invariant.runs (goes_on c.is_ov
     let told = (c.skip-slot.ensures.told (c.skip-slot.ensures.idle lt)).1 in search (rules, quiet_of)))
     c.skip-slot.ensures.rested
 
--- and finds all that it asks for, with a list of its own for what leaves
-can : (g : given.Over) (c : After-arrivals g) →
-    CanRun g.R.Rank.machine c.skip-slot.result c.arrivals.result.now c.skip-slot.new.engine c.slots.leaving
-    c.slots.note
-can g c = can_run_here (stands g c) c.arrivals.result.now (c.arrivals.ensures ∙ c.skip-slot.ensures.came)
-    c.slots.leaving (places_here (stands g c) c.slots.invariant.free)
-
 -- ## The loop
 
 pub slots-init : goal.slots-init
@@ -32,7 +25,9 @@ slots-init g c = search (arith, rules, crossing_first, enough_are)
 
 pub slot-requires : goal.slot-requires
 slot-requires g c =
-    let can = can g (goal.at.slot-requires g c).After-arrivals in search (arith, rules, sym)
+    let here = stands g (goal.at.slot-requires g c).After-arrivals in
+    let can = can_run_here here c.arrivals.result.now (c.arrivals.ensures ∙ c.skip-slot.ensures.came) c.slots.leaving
+    (places_here here c.slots.invariant.free) in search (arith, rules, sym)
 
 pub returns-in_err-slot-clause-refused : goal.returns-in_err-slot-clause-refused
 returns-in_err-slot-clause-refused g c =
@@ -46,7 +41,7 @@ returns-in_err-slot-clause-refused g c =
     })
 
 pub overflow_add-slot : goal.overflow_add-slot
-overflow_add-slot g c = omega (arith, can g (goal.at.overflow_add-slot g c).After-arrivals)
+overflow_add-slot g c = let here = stands g (goal.at.overflow_add-slot g c).After-arrivals in omega arith
 
 pub slots-smaller : goal.slots-smaller
 slots-smaller g c =

@@ -1,5 +1,5 @@
-use Rattle.cq_simulate.proofs.Terms.{◌+◌, ◌-◌, ◌≤◌, false, ap, ◌∙◌, arith, rules, sym, is_err, err_from_is_err_and}
-use Rattle.cq_simulate.proofs.FabricSteps.{CanRun, Stands, can_run_here, crossing_first, fault_here, left_here, never, next_here, part_rests, part_stands, room_here}
+use Rattle.cq_simulate.proofs.Terms.{ap, is_err, ◌+◌, ◌-◌, ◌≤◌, false, ◌∙◌, arith, rules, sym, err_from_is_err_and}
+use Rattle.cq_simulate.proofs.FabricSteps.{Stands, can_run_here, crossing_first, fault_here, left_here, never, next_here, part_rests, part_stands, room_here}
 use Rattle.cq_simulate.proofs.parted_run.run_before.Given as given
 use Rattle.cq_simulate.proofs.parted_run.run_before.Goals as goal
 use Rattle.cq_simulate.proofs.parted_run.run_before.Goals.{After-arrivals-arrivals}
@@ -12,13 +12,6 @@ stands : (g : given.Over) (c : After-arrivals-arrivals g) →
     c.args.note.now c.skip-slot.result c.skip-slot.new.engine c.slots.sent c.slots.note
 stands g c = search (arith, rules, part_stands, part_rests, c.skip-slot.ensures.told, c.skip-slot.ensures.idle)
 
--- and finds all that it asks for
-can : (g : given.Over) (c : After-arrivals-arrivals g) →
-    CanRun g.R.Rank.machine c.skip-slot.result c.arrivals-arrivals.result.now
-    c.skip-slot.new.engine c.slots.sent c.slots.note
-can g c = can_run_here (stands g c) c.arrivals-arrivals.result.now
-    (c.arrivals-arrivals.ensures ∙ c.skip-slot.ensures.came) c.slots.sent (room_here (stands g c))
-
 -- ## The loop
 
 pub slots-init : goal.slots-init
@@ -26,7 +19,9 @@ slots-init g c = search (arith, rules, crossing_first, never)
 
 pub slot-requires : goal.slot-requires
 slot-requires g c =
-    let can = can g (goal.at.slot-requires g c).After-arrivals-arrivals in search (arith, rules, sym)
+    let here = stands g (goal.at.slot-requires g c).After-arrivals-arrivals in
+    let can = can_run_here here c.arrivals-arrivals.result.now (c.arrivals-arrivals.ensures
+    ∙ c.skip-slot.ensures.came) c.slots.sent (room_here here) in search (arith, rules, sym)
 
 pub returns-in_err-slot-clause-fault : goal.returns-in_err-slot-clause-fault
 returns-in_err-slot-clause-fault g c =
