@@ -23,9 +23,8 @@ unread bytes refusal rows until =
 one_end : (rows others : List PacketRow) (rest : List Item)
     → items_of rows ++ rest ≡ items_of others → rows ≡ others
 one_end [] [] rest e = refl
-one_end [] (o ∷ others) rest e = absurd (let P : ⊥ = cc e in P)
-one_end (r ∷ rows) [] rest e = absurd (let P : ⊥ = cc e in P)
 one_end (r ∷ rows) (o ∷ others) rest e = grind (arith, common_steps, one_end rows others rest)
+one_end rows others rest e = absurd (let P : ⊥ = cc e in P)
 
 some_item : (rows : List PacketRow) (rest : List Item) → items_of rows ++ rest ≡ [] → ⊥
 some_item [] rest e = cc e

@@ -1,7 +1,7 @@
 -- What a reader has sent while it stands at a place of the file: a row for each record before that place, after what
 -- had been sent before. Each row that is found goes on with it. At the end of the bytes, or at their fault, these are
 -- the rows of the file.
-use Rattle.cq_stream.proofs.Terms.{rules, arith, ◌≡◌, ℕ, List, [], ◌∷◌, ◌++◌, length, map, append_assoc, common_steps, map-append, None, PacketRow, AreRowsTo, Item, Row, HasSent}
+use Rattle.cq_stream.proofs.Terms.{arith, ◌≡◌, ℕ, List, [], ◌∷◌, ◌++◌, length, map, append_assoc, common_steps, map-append, None, PacketRow, AreRowsTo, Item, Row, HasSent}
 use Rattle.cq_pcap.specs.declared.form.Form.{Form}
 use Rattle.cq_pcap.proofs.Rows.{rows_all}
 
@@ -16,11 +16,8 @@ pub sends_more : (form : Form) (bytes : List ℕ) (at next : ℕ) (row : PacketR
     → after ≡ so_far ++ Row row ∷ []
     → ((rows : List PacketRow) → AreRowsTo form bytes at rows → AreRowsTo form bytes next (rows ++ row ∷ []))
     → SendsTo form bytes at before so_far → SendsTo form bytes next before after
-sends_more form bytes at next row before so_far after e goes_on s = record {
-  rows = s.rows ++ row ∷ [];
-  stand = goes_on s.rows s.stand;
-  sent = search (arith, rules, append_assoc, map-append);
-}
+sends_more form bytes at next row before so_far after e goes_on s =
+    grind (arith, common_steps, append_assoc, map-append, goes_on s.rows s.stand)
 
 -- no byte is left
 pub sends_all : (form : Form) (bytes : List ℕ) (at : ℕ) (before after : List Item) → at ≡ length bytes
