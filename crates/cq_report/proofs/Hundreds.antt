@@ -1,7 +1,7 @@
 -- The digits of numbers. A number below a thousand has at most three digits, and from a hundred on the last two stand
 -- behind those of its hundreds. So a number is put by its hundreds first, with a blank behind them, and then its last
 -- two digits and a blank in place of that one.
-use Rattle.cq_report.proofs.Terms.{rules, ◌≡◌, ℕ, ◌+◌, ◌-◌, ◌<◌, ◌≤◌, ◌/◌, ◌%◌, ◌^◌, List, [], ◌∷◌, ◌++◌, length, take, set, sym, ◌∙◌, arith, append_assoc, length-append, lit≤, ap, common_steps, take-set_at, cases_lt, length-take-le, take-take, take_at, decimal_more, decimal_small, length-decimal-le, length-decimal_more}
+use Rattle.cq_report.proofs.Terms.{rules, ◌≡◌, ℕ, ◌+◌, ◌-◌, ◌<◌, ◌≤◌, ◌/◌, ◌%◌, ◌^◌, List, [], ◌∷◌, ◌++◌, length, take, set, arith, append_assoc, length-append, lit≤, ap, common_steps, take-set_at, cases_lt, length-take-le, take-take, take_at, decimal_more, decimal_small, length-decimal-le, length-decimal_more}
 use Rattle.cq_base.specs.Decimal.{decimal}
 
 pub few_digits : (n : ℕ) → n < 2 ^ 64 → length (decimal n) ≤ 20
@@ -30,12 +30,9 @@ two_longer n more = grind (arith, common_steps, two_more, length-append)
 without_last : (bytes front : List ℕ) (end last : ℕ) → end ≤ length bytes → take end bytes ≡ front ++ last ∷ [] →
     take (end - 1) bytes ≡ front
 without_last bytes front end last inside ends =
-    let long : length (take end bytes) ≡ end = length-take-le end bytes inside in
-    let same : length (take end bytes) ≡ length (front ++ last ∷ []) = ap length ends in
-    let one : length (front ++ last ∷ []) ≡ length front + 1 = length-append front (last ∷ []) in
-    let below : end - 1 ≤ end = omega arith in
-    let place : length front ≡ end - 1 = omega arith in
-    sym (take-take (end - 1) end bytes below) ∙ ap (take (end - 1)) ends ∙ take_at front (last ∷ []) (end - 1) place
+    let long = length-take-le end bytes inside in
+    let one = length-append front (last ∷ []) in
+    grind (arith, common_steps, ap length ends, take-take (end - 1) end bytes, take_at front (last ∷ []))
 
 -- the last two digits in place of the blank
 pub two_digits_behind : (n behind : ℕ) (front mid new : List ℕ) → 100 ≤ n → behind ≤ length mid →
@@ -43,16 +40,10 @@ pub two_digits_behind : (n behind : ℕ) (front mid new : List ℕ) → 100 ≤ 
     new ≡ take (behind - 1) mid ++ (48 + n % 100 / 10) ∷ (48 + n % 100 % 10) ∷ 32 ∷ [] →
     new ≡ front ++ (decimal n ++ 32 ∷ [])
 two_digits_behind n behind front mid new more inside ends put =
-    let hundreds : List ℕ = decimal (n / 100) in
-    let digits : List ℕ = (48 + n % 100 / 10) ∷ (48 + n % 100 % 10) ∷ [] in
-    let parted = ends ∙ sym (append_assoc front hundreds (32 ∷ [])) in
-    search (arith, rules, without_last, append_assoc, two_more)
+    search (arith, rules, without_last mid (front ++ decimal (n / 100)) behind 32, append_assoc, two_more)
 
 -- the line feed in place of the blank
 pub line_feed_behind : (bytes front word : List ℕ) (end : ℕ) → 1 ≤ end → end ≤ length bytes →
     take end bytes ≡ front ++ (word ++ 32 ∷ []) → take end (set bytes (end - 1) 10) ≡ front ++ (word ++ 10 ∷ [])
 line_feed_behind bytes front word end some inside ends =
-    take-set_at bytes (end - 1) end 10 (omega arith) (omega arith)
-    ∙ ap (λ (xs : List ℕ). xs ++ 10 ∷ [])
-    (without_last bytes (front ++ word) end 32 inside (ends ∙ sym (append_assoc front word (32 ∷ []))))
-    ∙ append_assoc front word (10 ∷ [])
+    search (arith, rules, take-set_at bytes (end - 1) end 10, without_last bytes (front ++ word) end 32, append_assoc)

@@ -1,9 +1,9 @@
 -- Texts of lines. In a text one line more stands behind the lines before it.
-use Rattle.cq_report.proofs.Terms.{common_steps, rules, ◌≡◌, ℕ, ◌+◌, ◌<◌, List, [], ◌∷◌, ◌++◌, length, take, get_or, ap, ◌∙◌, append_assoc, arith, flat_map, append-nil, flat_map_more, take_more, length-take-le, numbered_lines}
+use Rattle.cq_report.proofs.Terms.{common_steps, rules, ◌≡◌, ℕ, ◌+◌, ◌<◌, List, [], ◌∷◌, ◌++◌, length, take, get_or, append_assoc, arith, flat_map, append-nil, flat_map_more, take_more, length-take-le, numbered_lines}
 
 numbered_end : {X : Type 0} (line : ℕ → X → List ℕ) (n : ℕ) (xs : List X) (x : X) (m : ℕ) → m ≡ n + length xs →
     numbered_lines line n (xs ++ x ∷ []) ≡ numbered_lines line n xs ++ line m x
-numbered_end line n [] x m e = append-nil (line n x) ∙ ap (λ (k : ℕ). line k x) (let same : n ≡ m = omega arith in same)
+numbered_end line n [] x m e = grind (arith, common_steps, append-nil)
 numbered_end line n (y ∷ xs) x m e = grind (arith, common_steps, append_assoc, numbered_end line (n + 1) xs x m)
 
 -- one numbered line more

@@ -1,4 +1,4 @@
-use Rattle.cq_report.proofs.Terms.{◌≤◌, take, arith}
+use Rattle.cq_report.proofs.Terms.{◌≤◌, arith}
 use Rattle.cq_report.proofs.Hundreds.{two_digits_behind, two_longer}
 use Rattle.cq_report.proofs.sheet.+put_long.Goals as goal
 
@@ -6,7 +6,4 @@ pub returns-clause-text : goal.returns-clause-text
 returns-clause-text t c =
     let more : 100 ≤ c.args.number = omega (arith, c.if-number-lt1000.false) in
     let longer = two_longer c.args.number more in
-    two_digits_behind c.args.number c.put_long-behind.result (take c.args.at c.args.bytes.now)
-    c.put_long-behind.new.bytes
-    _ more (omega (arith, longer, c.requires, c.put_long-behind.ensures.end, c.put_long-behind.ensures.long))
-    c.put_long-behind.ensures.text c.put_pair.ensures.text
+    two_digits_behind _ _ _ _ _ more (omega arith) c.put_long-behind.ensures.text c.put_pair.ensures.text
