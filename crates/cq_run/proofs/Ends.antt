@@ -2,17 +2,15 @@
 -- status says. Each end has one status, and what the end says of the verdict is what the status says of it. The table
 -- of refusals is used for three facts alone: no refusal has a status of an end that is none, one with the status of
 -- read faults comes only where contents are told, and words are refused only where they are no command.
-use Rattle.cq_run.proofs.Terms.{common_steps, arith, ◌≡◌, ℕ, List, rules, [], ◌∷◌, ◌≢◌, ◌⊎◌, IsTrue, Result, Ok, Err, Option, None, Some, IfSome, MatchOption, IsOkAnd, Call, Fails, Lasts, Reads, Writes, Contents, Space, Command, Refusal, Halt, Aim, Meets, IsJudged, Pace, Uncounted, Plan, CommandHalts, Decides, IsDenial, known_to, known_by, Reader, Taken, World, IsUntouched, IsCut, IsDone, IsCutAtFile, Rose, Words, Capture, Refused, Unread, NoMemory, Emulates, meaning_of, judged, judged_or_words, StatusCauses, Status}
+use Rattle.cq_run.proofs.Terms.{common_steps, arith, ◌≡◌, ℕ, List, rules, [], ◌∷◌, ◌≢◌, ◌⊎◌, IsTrue, Result, Ok, Err, Option, None, Some, IfSome, MatchOption, IsOkAnd, Call, Fails, Lasts, Reads, Writes, Contents, Space, Command, Refusal, Halt, Aim, Meets, IsJudged, Pace, Uncounted, Plan, CommandHalts, Decides, IsDenial, known_to, known_by, Reader, Taken, World, IsUntouched, IsCut, IsDone, IsCutAtFile, Rose, Words, Capture, Refused, Unread, NoMemory, Emulates, meaning_of, judged, judged_or_words, StatusCauses, Status, ◌+◌, PortRow, captures_from}
 use Rattle.cq_run.specs.declared.stop.Stop.{Stop}
 use Rattle.cq_run.specs.declared.stop.Stop.TheVariants.{Cut, Halted}
 use Rattle.cq_run.specs.declared.stop.Unwritten.{Unwritten}
 use Rattle.cq_run.specs.Ending.{CommandEnds, IsPlanned, CallsFor, EndsFor, WhereHalted, status_of}
 use Rattle.cq_run.proofs.Chain.{fails_after, counts_same}
-use Rattle.cq_run.proofs.Planned.{same_faults, counts_known, rose_known}
+use Rattle.cq_run.proofs.Planned.{known_faults, same_faults, counts_known}
 use Rattle.cq_run.proofs.Told.{told_map, told_any}
 use Rattle.cq_base.specs.declared.status.Status.TheVariants as status
-use Rattle.cq_run.specs.declared.stop.Unwritten.TheVariants.{File, Output}
-use Rattle.cq_run.proofs.Never.{never_words}
 
 file_from : (ws : List (List ℕ × List ℕ)) (name : List ℕ) (old mid new : Space) → mid.told ≡ old.told →
     mid.faults ≡ old.faults → IsCutAtFile ws name mid new → IsCutAtFile ws name old new
@@ -122,7 +120,21 @@ module _ (p : Pace) (v : Contents → Result Aim Refusal) (known : Option Conten
       StatusCauses p v known old new status.WriteFault
   cut_causes plan by rose = search (arith, rules, told_map)
 
--- only words that are no command are refused as such
+-- Only words that are no command are refused as such. No judgement of contents refuses them: they are judged before any
+-- file is asked for.
+
+-- the words are not refused
+abbrev IsOfContents : {A : Type 0} → Result A Refusal → Type 0
+IsOfContents r = r ≡ Err Words → ⊥
+
+never_captures : (r : Reader) (limit input : ℕ) (rows : List PortRow) (m : Contents) →
+    IsOfContents (captures_from r limit input rows m)
+unfolding captures_from
+never_captures r limit input [] m h = cc
+never_captures r limit input (row ∷ rows) m h = grind (arith, common_steps, never_captures r limit (input + 1) rows m)
+
+pub never_words : (r : Reader) (command : Command) (m : Contents) → IsOfContents (judged r command m)
+never_words r command m h = grind (arith, common_steps, never_captures)
 
 words_is : (r : Refusal) → (meaning_of r).status ≡ status.Words → r ≡ Words
 words_is r e = grind (arith, common_steps)
@@ -134,10 +146,9 @@ module _ (p : Pace) (a : Reader) (R W : List ℕ → Type 0) (T : Type 0) where
   command_causes command old new (Ok x) h = grind (arith, common_steps)
   command_causes command old new (Err (Halted (Refused r))) h =
       search (arith, rules, refusal_causes, counts_known, outruns_is, denial_causes, counts_same, same_faults)
-  command_causes command old new (Err (Halted (Unread name))) h = search (arith, rules, rose_known)
+  command_causes command old new (Err (Halted (Unread name))) h = grind (arith, common_steps, known_faults)
   command_causes command old new (Err (Halted NoMemory)) h = search (arith, rules, memory_causes, counts_known)
-  command_causes command old new (Err (Cut (File name))) h = grind (arith, common_steps, cut_causes, cut_rose)
-  command_causes command old new (Err (Cut Output)) h = grind (arith, common_steps, cut_causes)
+  command_causes command old new (Err (Cut at)) h = grind (arith, common_steps, cut_causes, cut_rose)
 
   not_words : (command : Command) (old new : World) (end : Result (Unit {0}) Stop) →
       CommandEnds p a R W T command old new end → status_of end ≡ status.Words → ⊥
@@ -146,8 +157,7 @@ module _ (p : Pace) (a : Reader) (R W : List ℕ → Type 0) (T : Type 0) where
   causes_for : (command : Option Command) (old new : World) (end : Result (Unit {0}) Stop) →
       EndsFor p a R W T command old new end →
       StatusCauses p (judged_or_words a command) (known_by command old.files) old new (status_of end)
-  causes_for None old new end h = search (arith, rules)
-  causes_for (Some c) old new end h = command_causes c old new end h
+  causes_for command old new end h = grind (arith, common_steps, command_causes)
 
 -- the answer of the top call is the status of its end
 module _ (p : Pace) (a : Reader) (R W : List ℕ → Type 0) (T : Type 0) (command : Option Command) (old new : World)

@@ -3,7 +3,6 @@ pub mod Put
 pub mod Stays
 pub mod Crossed
 pub mod Chain
-pub mod Never
 pub mod Ports
 pub mod Told
 pub mod Planned

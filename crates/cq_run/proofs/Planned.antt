@@ -1,30 +1,26 @@
 -- From one judgement after another to a plan that meets what is aimed at: for each command what is judged of what it
 -- reads, and a plan that it comes to.
-use Rattle.cq_run.proofs.Terms.{rules, arith, ◌≡◌, ◌∙◌, ℕ, List, [], ◌∷◌, refl, sym, ap, ◌++◌, Result, Ok, Err, IfOk, IfErr, IsOk, common_steps, AllByRecursion, Departure, soak_captures, soak_tables, Captured, Tables, Call, Rose, Contents, Space, Closed, Command, Ideal, Run, Soak, Pass, Audit, Part, Resume, Given, Refusal, Halt, Aim, Reporting, Meets, Exactly, Auditing, Parting, Resuming, IsGiven, IsPassage, AreRead, IsAudited, AreGiven, IsJudged, IsHaltOf, Judges, Pace, InTurn, Uncounted, Plan, known_to, Reader, ◌>>=◌, ideally_sent, capture_in, text_in, state_in, capture_out, passed, audited, captures_out, resumed, file_alone, IsCrossing, IsIdeal, IsPassing, plain_tables, AreTables, Lasts, capture_of_all, trace_of, log_of, Audited, State, IsAuditHalted, IsAuditPassed, report_with, Crossed, IsPartHalt, IsResumeHalt, IsResuming, kept_by, IsPartText, IsResumedText, written}
+use Rattle.cq_run.proofs.Terms.{resumed_best, resumed_slack, parted_best, parted_slack, rules, arith, ◌≡◌, ◌∙◌, ℕ, List, [], ◌∷◌, refl, sym, ap, ◌++◌, Result, Ok, Err, IfOk, IfErr, IsOk, common_steps, AllByRecursion, Departure, soak_captures, soak_tables, Captured, Tables, Call, Contents, Space, Closed, Command, Ideal, Run, Soak, Pass, Audit, Part, Resume, Given, Refusal, Halt, Aim, Reporting, Meets, Exactly, Auditing, Parting, Resuming, IsGiven, IsPassage, AreRead, IsAudited, AreGiven, IsJudged, IsHaltOf, Judges, Pace, InTurn, Uncounted, Plan, known_to, Reader, ◌>>=◌, ideally_sent, capture_in, text_in, state_in, capture_out, passed, audited, captures_out, resumed, file_alone, IsCrossing, IsIdeal, IsPassing, plain_tables, AreTables, Lasts, capture_of_all, trace_of, log_of, Audited, State, IsAuditHalted, IsAuditPassed, report_with, Crossed, IsPartHalt, IsResumeHalt, IsResuming, kept_by, IsPartText, IsResumedText, written}
+use Rattle.cq_run.proofs.Stopped.{taken_up}
 use Rattle.cq_run.proofs.Chain.{counts_after, judges_computed, judges_computed_err}
 use Rattle.cq_run.proofs.Told.{told_any, told_map, told_two}
 use Rattle.cq_run.proofs.Crossed.{emulates, plan_is, sent_ok}
 use Rattle.cq_run.proofs.Reached.{computed_halts, computed_plans, given_so, read_told, Reached, begun, read_on, Settles, settled}
 use Rattle.cq_run.proofs.OnePort.{all_leave_is, none_limited}
-use Rattle.cq_run.proofs.Stays.{capture_stays, text_stays, short_stays}
+use Rattle.cq_run.proofs.Stays.{capture_stays, short_stays}
 use Rattle.cq_run.specs.declared.denial.Denial.TheVariants.{LongLog, LongTrace}
-use Rattle.cq_run.proofs.Stopped.{goes_best, goes_slack, stops_best, stops_slack}
 use Rattle.cq_run.proofs.TextRead.{text_stands}
 use Rattle.cq_run.specs.Headline.{IsStopped, IsTakenUp}
 use Rattle.cq_run.specs.declared.refusal.StateFault.TheVariants as stopped
 use Rattle.cq_run.specs.declared.judge.Asked.TheVariants as asked
 
 -- what a command knows of a file space has its count of faults
-known_faults : (command : Command) (s : Space) → (known_to command s).faults ≡ s.faults
+pub known_faults : (command : Command) (s : Space) → (known_to command s).faults ≡ s.faults
 known_faults command s = grind (arith, common_steps)
 
 pub same_faults : (command : Command) (old new : Space) →
     (known_to command new).faults ≡ (known_to command old).faults → new.faults ≡ old.faults
 same_faults command old new e = sym (known_faults command new) ∙ e ∙ known_faults command old
-
-pub rose_known : (command : Command) (old new : Space) →
-    Rose (known_to command old).faults (known_to command new).faults → Rose old.faults new.faults
-rose_known command old new r = omega (arith, known_faults command old, known_faults command new)
 
 -- the count of faults that a command knows of is that of the file space
 pub counts_known : (p : Pace) (U V : Type 0) (command : Command) (old new : Space) → (U → V) →
@@ -141,8 +137,7 @@ module _ {S : Type 0} {space : S → Space} {keeps : S → S → Type 0}
           IfErr result (IsHaltOf (ideally_sent (plain_tables from to) (packets ∷ []))) →
           IsJudged space may_fail keeps InTurn (Pass from to) old new result
       passing_judged (Ok plan) is refused =
-          computed_plans _ _ at_packets is.is_sent (plan_passed from to packets plan is)
-          (rw is.writes (refl, tt))
+          computed_plans _ _ at_packets is.is_sent (plan_passed from to packets plan is) (rw is.writes (refl, tt))
           (λ r. told_map (space old).told _ _ (passage_at from to packets plan is r are) (h r).ok)
       passing_judged (Err halt) is refused = computed_halts _ _ at_packets halt refused
 
@@ -188,14 +183,14 @@ module _ {S : Type 0} {space : S → Space} {keeps : S → S → Type 0} {old s1
   -- the log is left
   pub at_log : Reached space keeps (Audit config) old s2 (λ r. from_log given.tables given.captures trace)
   at_log = read_on (λ r. from_log given.tables given.captures) lasts (given_so asked.Audit is) kept
-      (λ r. text_stays LongTrace given.tables.trace) (λ r. traced)
+      (λ r. short_stays (Audited LongTrace) _ given.tables.trace) (λ r. traced)
 
   module _ {s3 : S} (kept_on : keeps s2 s3) {T : List ℕ → Type 0} {log : List ℕ}
       (logged : Judges InTurn (text_in LongLog given.tables.log) T (space s2) (space s3) (Ok log)) where
     -- the ideal run is left
     at_last : Reached space keeps (Audit config) old s3 (λ r m. last given.tables given.captures trace log)
     at_last = read_on (λ r log m. last given.tables given.captures trace log) lasts at_log kept_on
-        (λ r. text_stays LongLog given.tables.log) (λ r. logged)
+        (λ r. short_stays (Audited LongLog) _ given.tables.log) (λ r. logged)
 
     -- where an audit passes neither the log nor the trace is denied
     pub audit_judged : {may_fail : Call → S → S → Type 0} (result : Result Plan Halt) →
@@ -234,26 +229,28 @@ module _ (t : Tables) (captures : List (List Captured)) (text : List ℕ) {r : R
     given = given;
     text = text;
     stopped = is;
-    input_best = stops_best t captures text given slots is;
-    slack = stops_slack t captures text given slots is;
+    input_best = parted_best t captures given.tables given.each slots is.at is.parted;
+    slack = parted_slack t captures given.tables given.each slots is.at is.parted;
     written = written;
   }
 
   goes_as : AreRead r config m t captures → state_in state m ≡ Ok text → IsResuming t captures text plan →
       IsTakenUp r config state m plan
-  goes_as read found is = record {
-    tables = t;
-    captures = captures;
-    read = read;
-    given = is.given;
-    text = text;
-    found = search (arith, rules, text_stands);
-    kept = is.kept;
-    goes_on = is.goes_on;
-    input_best = goes_best t captures text is.given is.kept is.goes_on;
-    slack = goes_slack t captures text is.given is.kept is.goes_on;
-    written = is.written;
-  }
+  goes_as read found is =
+      let goes = is.goes_on in
+      let can = taken_up goes.read in record {
+        tables = t;
+        captures = captures;
+        read = read;
+        given = is.given;
+        text = text;
+        found = search (arith, rules, text_stands);
+        kept = is.kept;
+        goes_on = is.goes_on;
+        input_best = resumed_best t captures is.given.tables is.given.each goes.from is.kept can goes.resumed;
+        slack = resumed_slack t captures is.given.tables is.given.each goes.from is.kept can goes.resumed;
+        written = is.written;
+      }
 
 module _ {S : Type 0} {space : S → Space} {keeps : S → S → Type 0} {old now : S} {config : List ℕ} {given : Given}
     (is : IsGiven space keeps config old now given) (name : List ℕ) where

@@ -1,9 +1,9 @@
 -- Judging where a name is not there. A judgement that accepts the contents comes to the same without some name,
 -- unless it is to read that name: then it misses it. This holds of the bytes of one name, and of one judgement after
 -- another.
-use Rattle.cq_run.proofs.Terms.{arith, ◌≡◌, ◌⊎◌, ◌∙◌, ℕ, cond, List, [], ◌∷◌, ap, inl, Option, None, Some, Result, Ok, Err, ◌+◌, common_steps, nat_list_cmp_total, get, get-remove, exact_bytes, tells_apart, Contents, PortRow, read_or_refused, Refusal, Missing, Denial, Reader, ◌>>=◌, named, tables_in, read_or_refused_for, capture_in, packets_at, captures_from, short_in, short_or, text_in, eq_by_cmp_equiv, longest_file}
+use Rattle.cq_run.proofs.Terms.{arith, ◌≡◌, ◌⊎◌, ◌∙◌, ℕ, cond, List, [], ◌∷◌, ap, inl, Option, None, Result, Ok, Err, ◌+◌, common_steps, nat_list_cmp_total, get, get-remove, exact_bytes, tells_apart, Contents, PortRow, read_or_refused, Refusal, Missing, Reader, ◌>>=◌, named, tables_in, read_or_refused_for, capture_in, packets_at, captures_from, short_in, short_or, eq_by_cmp_equiv}
 use Rattle.std.specs.FinMap.{remove}
-use Rattle.cq_run.specs.declared.refusal.Refusal.TheVariants.{Audit, Capture}
+use Rattle.cq_run.specs.declared.refusal.Refusal.TheVariants.{Capture}
 use Rattle.cq_run.specs.declared.refusal.CaptureFault.TheVariants.{Long}
 
 -- without a name the judgement comes to the same, or misses that name
@@ -25,9 +25,6 @@ tables_stay name = named_then name (λ (bytes : List ℕ). read_or_refused_for (
 pub short_stays : (long : Refusal) (limit : ℕ) (name : List ℕ) → Stays (short_in long limit name)
 short_stays long limit name = named_then name (short_or long limit)
 
-pub text_stays : (long : Denial) (name : List ℕ) → Stays (text_in long name)
-text_stays long name = short_stays (Audit long) longest_file name
-
 pub capture_stays : (r : Reader) (name : List ℕ) (input limit : ℕ) → Stays (capture_in r name input limit)
 unfolding Stays
 capture_stays r name input limit m asked x h =
@@ -35,8 +32,7 @@ capture_stays r name input limit m asked x h =
 
 pub packets_stay : (r : Reader) (input limit : ℕ) (read : Option (List ℕ)) → Stays (packets_at r input limit read)
 unfolding Stays
-packets_stay r input limit None = λ m name x h. inl h
-packets_stay r input limit (Some name) = capture_stays r name input limit
+packets_stay r input limit read m name x h = grind (arith, common_steps, capture_stays)
 
 pub captures_from_stay : (r : Reader) (limit input : ℕ) (rows : List PortRow) → Stays (captures_from r limit input rows)
 unfolding captures_from Stays

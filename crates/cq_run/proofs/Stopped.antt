@@ -1,6 +1,6 @@
 -- What stopping a run and taking one up come to, from what is known of the schedule of the captures: the text of the
 -- state in which the run stands, what the run keeps that goes on, and why there is none.
-use Rattle.cq_run.proofs.Terms.{arith, common_steps, ◌≡◌, ◌≤◌, ℕ, List, length, Departure, Transfer, Captured, classes_of, Tables, openings_of, unpacked_run, PackedFabricRun, RunRefusal, AreGiven, IsPartHalt, IsResumeHalt, IsResumedBy, halt_for_state, halt_for_text, IsPartText, IsResumedText, halt_of, Scheduled, schedule_of, Frozen, IsRead, IsRefusal, state_of, IsResumed, Kept, Switch, switch_of, StateRefusal, parted_best, parted_slack, resumed_best, resumed_slack, resumed_counts, resumed_whole, AlwaysHasSlack, AreInputBest, CanBeTakenUp, IsPartFault, IsResumeFault, kept_of, IsTooLong, state_text, StateLong, longest_file}
+use Rattle.cq_run.proofs.Terms.{arith, common_steps, ◌≡◌, ◌≤◌, ℕ, List, length, Departure, Transfer, Captured, classes_of, Tables, openings_of, unpacked_run, PackedFabricRun, RunRefusal, AreGiven, IsPartHalt, IsResumeHalt, IsResumedBy, halt_for_state, halt_for_text, IsPartText, halt_of, Scheduled, schedule_of, Frozen, IsRead, IsRefusal, state_of, IsResumed, Switch, switch_of, StateRefusal, resumed_counts, resumed_whole, CanBeTakenUp, IsPartFault, IsResumeFault, kept_of, IsTooLong, state_text, StateLong, longest_file}
 use Rattle.cq_run.specs.Parting.{IsPartedAt}
 use Rattle.cq_resume.specs.declared.taken.Taken.{Taken}
 use Rattle.cq_state.specs.declared.state.State.{State}
@@ -16,23 +16,6 @@ same_state x sent sent' note note' a a' b b' n n' e f g h i = cc
 -- what was read can be taken up
 pub taken_up : {w : Switch} {text : List ℕ} {from : Taken} → IsRead w text from → CanBeTakenUp w from
 taken_up read = record { state = read.state; comes = read.comes }
-
--- the matchings of the run that stops and of the one that goes on are those of orders by first cells, and no slack is
--- below 0 after arrivals
-module _ (t : Tables) (captures : List (List Captured)) (text : List ℕ) (given : AreGiven t captures) where
-  module _ (slots : ℕ) (stops : IsPartText t captures slots text) where
-    pub stops_best : AreInputBest stops.parted.records
-    stops_best = parted_best t captures given.tables given.each slots stops.at stops.parted
-
-    pub stops_slack : AlwaysHasSlack stops.parted.records
-    stops_slack = parted_slack t captures given.tables given.each slots stops.at stops.parted
-
-  module _ (kept : Kept) (goes : IsResumedText t captures text kept) where
-    pub goes_best : AreInputBest goes.resumed.records
-    goes_best = resumed_best t captures given.tables given.each goes.from kept (taken_up goes.read) goes.resumed
-
-    pub goes_slack : AlwaysHasSlack goes.resumed.records
-    goes_slack = resumed_slack t captures given.tables given.each goes.from kept (taken_up goes.read) goes.resumed
 
 -- over the schedule of the captures
 module _ (t : Tables) (captures : List (List Captured)) (schedule : Scheduled)
