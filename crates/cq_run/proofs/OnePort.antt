@@ -1,7 +1,7 @@
 -- A switch of one port sends each cell in the slot in which it comes. Cells come one after another, at most one in a
 -- slot. So no cell waits when a slot begins; the cell that comes is alone in the one list, and leaves.
 -- The departures are the arrivals, and every packet leaves with its last cell, which alone is marked as last.
-use Rattle.cq_run.proofs.Terms.{common_steps, ◌≡◌, ℕ, zero, suc, ◌+◌, ◌<◌, ◌≤◌, Bool, true, false, cond, List, [], ◌∷◌, map, replicate, Option, Some, None, Result, Ok, Err, refl, sym, ap, ◌∙◌, subst, ⊎_elim, arith, rules, ◌-◌, ◌*◌, length, flat_map, ◌==◌, find, append-nil, option_map, AllByRecursion, range_with_len, AllPairs, filter, cases_eq, cond-true, eq-eqb, and_from, Arrival, arriving, arriving_at, is_at, end_of, enough, traffic_of, Departure, TagFault, filter-append, arrivals, arrivals_at, arrivals_of, cell_of, cells, cells_of, t0_of, packet_at, start, IsInRange, IsLater, IsTraffic, traffic_is, departures_limited, whole_limited_run, LimitedRan, empty_limited, unlimited, all_weaker, run_as_before, same_sent, Captured, AreTables, classes_of, ports_of, Tables, machines_of, openings_of, ideal_departures, ran_ideal, ends_packet_at, leaving, packets_out, all_leave, as_it_leaves, ne_eqb, Cell, Queued, Machine, after_input, ranking, arriving_is, first_slot, ranked_none, NoLimits, all_slots, before_end, OutPacket, one_is, most_ports}
+use Rattle.cq_run.proofs.Terms.{common_steps, ◌⊎◌, inl, inr, ◌≡◌, ℕ, zero, suc, ◌+◌, ◌<◌, ◌≤◌, Bool, cond, List, [], ◌∷◌, map, replicate, Option, Some, None, Result, Ok, Err, refl, sym, ap, ◌∙◌, subst, ⊎_elim, arith, rules, ◌-◌, ◌*◌, length, flat_map, ◌==◌, append-nil, AllByRecursion, range_with_len, AllPairs, filter, cases_eq, cond-true, eq-eqb, and_from, Arrival, arriving, arriving_at, end_of, enough, traffic_of, Departure, TagFault, filter-append, arrivals, arrivals_at, arrivals_of, cell_of, cells, cells_of, t0_of, packet_at, start, IsInRange, IsLater, IsTraffic, traffic_is, departures_limited, whole_limited_run, LimitedRan, empty_limited, unlimited, all_weaker, run_as_before, same_sent, Captured, AreTables, classes_of, ports_of, Tables, machines_of, openings_of, ideal_departures, ran_ideal, ends_packet_at, leaving, packets_out, all_leave, as_it_leaves, ne_eqb, Cell, Queued, Machine, after_input, ranking, arriving_is, first_slot, ranked_none, NoLimits, all_slots, before_end, OutPacket, one_is, most_ports}
 use Rattle.cq_ideal.specs.Ending.{arriving_from}
 use Rattle.cq_ideal.specs.IdealRun.{Ran, departures_of, ideal_run, departures_ran, empty_ideal}
 use Rattle.cq_ideal.specs.IdealSlot.{IdealState, Sent, departures_in, filled, fronts, ideal_sends, ideal_slot, put_all, rests}
@@ -29,30 +29,23 @@ all_none f a zero e = refl
 all_none f a (suc n) e = grind (arith, common_steps, all_none f (a + 1) n)
 
 -- none comes before its slot, or at another input
-none_before : (slot : ℕ) (came : List Arrival) (t k : ℕ) → InTurnFrom slot came → t < slot → arriving_at came t k ≡ None
-none_before slot [] t k turn less = refl
-none_before slot (a ∷ came) t k turn less = grind (arith, common_steps, none_before (a.slot + 1) came t k turn.1)
-
-none_elsewhere : (slot : ℕ) (came : List Arrival) (t k : ℕ) → InTurnFrom slot came → 0 < k → arriving_at came t k ≡ None
-none_elsewhere slot [] t k turn some = refl
-none_elsewhere slot (a ∷ came) t k turn some = search (rules, none_elsewhere (a.slot + 1) came t k turn.1 some)
+none_there : (slot : ℕ) (came : List Arrival) (t k : ℕ) → InTurnFrom slot came → (t < slot) ⊎ (0 < k) →
+    arriving_at came t k ≡ None
+none_there slot [] t k turn out = refl
+none_there slot (a ∷ came) t k turn out = grind (arith, common_steps, none_there (a.slot + 1) came t k turn.1)
 
 module _ (inputs : ℕ) (many : suc inputs ≡ most_ports) where
   none_comes : (slot : ℕ) (came : List Arrival) (t : ℕ) → InTurnFrom slot came → t < slot →
       arriving came t ≡ replicate (suc inputs) None
   none_comes slot came t turn less = arriving_is came t (suc inputs) many
-      ∙ all_none (arriving_at came t) 0 (suc inputs) (λ k _. none_before slot came t k turn less)
+      ∙ all_none (arriving_at came t) 0 (suc inputs) (λ k _. none_there slot came t k turn (inl less))
 
   one_comes : (s : ℕ) (a : Arrival) (came : List Arrival) → a.slot ≡ s → InTurnFrom s (a ∷ came) →
       arriving (a ∷ came) s ≡ Some a.cell ∷ replicate inputs None
   one_comes s a came e turn =
-      let here : is_at s 0 a ≡ true = and_from (a.slot == s) (a.cell.id.input == 0) (eq-eqb a.slot s e)
-      (eq-eqb a.cell.id.input 0 turn.0.input) in
-      let first : arriving_at (a ∷ came) s 0 ≡ Some a.cell = ap (option_map (λ (x : Arrival). x.cell))
-      (cond-true (is_at s 0 a) (Some a) (find (is_at s 0) came) here) in
       let others = all_none (arriving_at (a ∷ came) s) 1 inputs
-      (λ k l. none_elsewhere s (a ∷ came) s k turn (omega arith)) in
-      cc (arriving_is (a ∷ came) s (suc inputs) many)
+      (λ k l. none_there s (a ∷ came) s k turn (inr (omega arith))) in
+      grind (arith, common_steps, arriving_is (a ∷ came) s (suc inputs) many, and_from, eq-eqb)
 
   same_later : (a : Arrival) (came : List Arrival) (t : ℕ) → a.slot < t → arriving (a ∷ came) t ≡ arriving came t
   same_later a came t less =
@@ -97,8 +90,7 @@ module _ (ms : List Machine) (slot : ℕ) (ranks : List (List ℕ)) where
       q.cell.output ≡ 0 → ideal_sends ms (alone ranks)
       (cond fits (after_input (Some q) (ranking ms slot 1 (replicate n None) given)) (Err fault)) ≡ Ok sent
       → (sent.gone ≡ Some q ∷ []) × (sent.after ≡ alone sent.after.ranks)
-  sends_one n q given fault true sent out h = grind (arith, common_steps, sends_of, filled_one, ranked_none)
-  sends_one n q given fault false sent out h = absurd (let P : ⊥ = cc h in P)
+  sends_one n q given fault fits sent out h = grind (arith, common_steps, sends_of, filled_one, ranked_none)
 
   one_sent : (n : ℕ) (cell : Cell) (sent : Sent) → cell.output ≡ 0 →
       ideal_slot ms slot (Some cell ∷ replicate n None) (alone ranks) ≡ Ok sent
@@ -168,10 +160,9 @@ module _ (ms : List Machine) (inputs : ℕ) (many : suc inputs ≡ most_ports) w
       let later = each_in_its_slot n (s + 1) end came (rw e at turn.1) before.1 (omega arith) in
       busy_slot n s a came e turn later ranks ran h)
       (λ (ne : a.slot ≡ s → ⊥).
-      let next : IsNextFrom (s + 1) a =
-      record { from = omega arith; input = turn.0.input; output = turn.0.output } in
-      idle_slot n s (a ∷ came) (next, turn.1)
-      (each_in_its_slot n (s + 1) end (a ∷ came) (next, turn.1) before (omega arith)) ranks ran h) (cases_eq a.slot s)
+      let next : InTurnFrom (s + 1) (a ∷ came) = search (arith, rules) in
+      idle_slot n s (a ∷ came) next
+      (each_in_its_slot n (s + 1) end (a ∷ came) next before (omega arith)) ranks ran h) (cases_eq a.slot s)
 
 -- ## Departures are arrivals
 
@@ -182,34 +173,23 @@ BeginsFrom slot (a ∷ came) = slot ≤ a.slot
 
 begins_later : (a : Arrival) (came : List Arrival) → a.cell.id.input ≡ 0 →
     AllByRecursion (λ b. b.cell.id.input ≡ 0) came → AllPairs IsLater (a ∷ came) → BeginsFrom (a.slot + 1) came
-begins_later a [] here all later = tt
-begins_later a (b ∷ came) here all later =
-    let after : a.slot < b.slot = later 0 1 a (omega arith) (omega arith) (here ∙ sym all.0) in omega arith
+begins_later a came here all later = grind (arith, common_steps, later 0 1 a)
 
 in_turn : (classes slot : ℕ) (came : List Arrival) → AllByRecursion (IsInRange 1 classes) came →
     AllPairs IsLater came → BeginsFrom slot came → InTurnFrom slot came
 in_turn classes slot [] ranges later first = tt
 in_turn classes slot (a ∷ came) ranges later first =
-    let input : a.cell.id.input ≡ 0 = let l = ranges.0.input in omega arith in
-    let output : a.cell.output ≡ 0 = let l = ranges.0.output in omega arith in
-    let inputs =
-    all_weaker (IsInRange 1 classes) (λ b. b.cell.id.input ≡ 0) (λ b r. let l = r.input in omega arith) came
-    ranges.1 in (
-      record { from = first; input = input; output = output },
-      in_turn classes (a.slot + 1) came ranges.1
-          (λ i j d less inside. later (suc i) (suc j) d (omega arith) (omega arith))
-          (begins_later a came input inputs later),
-    )
+    let inputs : AllByRecursion (λ b. b.cell.id.input ≡ 0) came = search (arith, rules, all_weaker) in
+    let next = λ (i j : ℕ). later (suc i) (suc j) in
+    search (arith, rules, begins_later a came, in_turn classes (a.slot + 1) came, next)
 
 ran_ok : (P : List Departure → Type 0) (x : Result Ran TagFault) (sent : List Departure) →
     departures_ran x ≡ Ok sent → ((ran : Ran) → x ≡ Ok ran → P (departures_of 0 ran.gone)) → P sent
-ran_ok P (Ok ran) sent h f = let same : departures_of 0 ran.gone ≡ sent = cc h in subst P same (f ran refl)
-ran_ok P (Err fault) sent h f = absurd (let Q : ⊥ = cc h in Q)
+ran_ok P x sent h f = grind (arith, common_steps)
 
 -- no output has a limit
 pub none_limited : NoLimits (None ∷ [])
-none_limited zero = refl
-none_limited (suc j) = refl
+none_limited j = grind (arith, common_steps)
 
 same_departures : (x : Result LimitedRan TagFault) → departures_ran (unlimited x) ≡ departures_limited x
 same_departures x = grind (arith, common_steps)
@@ -230,11 +210,9 @@ sent_in_slot t came sent one none traffic h =
     let turn : InTurnFrom 0 came =
     in_turn (classes_of t.setup) 0 came (subst P one traffic.in_range) traffic.one_by_one (begins came) in
     ran_ok (λ l. AreInSlot came l) (ideal_run ms 0 (traffic_of came) (empty_ideal ports ranks)) sent
-    (same_sent ms ports ranks came ∙ sym (ap departures_ran (run_as_before t.limits ms ports ranks came none))
-    ∙ same_departures whole ∙ h)
+    (cc (same_sent ms ports ranks came, run_as_before t.limits ms ports ranks came none, same_departures whole, h))
     (λ ran is. each_in_its_slot ms 63 refl (enough came) 0 (end_of came) came turn (before_end came) (omega arith)
-    ranks ran (ap (λ (l : List _). ideal_run ms 0 l (alone ranks)) (all_slots came)
-    ∙ sym (ap (ideal_run ms 0 (traffic_of came)) (starts_alone ports ranks one)) ∙ is))
+    ranks ran (cc (all_slots came, starts_alone ports ranks one, is)))
   where
     begins : (came : List Arrival) → BeginsFrom 0 came
     begins [] = tt
@@ -309,6 +287,4 @@ module _ (t : Tables) (packets : List Captured) where
   all_leave_is sent are single none h =
       let in_slot : AreInSlot (arrivals t one) sent =
       sent_in_slot t (arrivals t one) sent single none (traffic_is t one are (sym single)) h in
-      outs t one sent in_slot.output
-      ∙ ap (λ (l : List Arrival). map (with_slot t one) (filter is_last l)) (in_slot.cells ∙ arrivals_are)
-      ∙ ap (map (with_slot t one)) (lasts t one (length packets) 0) ∙ as_passed (length packets) 0
+      grind (arith, common_steps, outs, in_slot.output, in_slot.cells, arrivals_are, lasts, as_passed)
