@@ -2,7 +2,7 @@
 -- run the setup and the limits, and what is written the names of the files and the length of a slot. So the same
 -- arrives whatever that number is; and each verdict, each plan that meets it, and each reason that denies it, is made
 -- of what arrives and of these. Numbers can be exchanged, so it holds both ways.
-use Rattle.cq_run.proofs.Terms.{rules, arith, common_steps, ◌≡◌, ◌+◌, ℕ, zero, suc, List, [], ◌∷◌, length, refl, ap, sym, subst, Arrival, IsOkAnd, Result, Ok, Err, arrivals, arrivals_at, arrivals_of, cell_of, cells, Captured, Tables, Departure, LimitedRecord, IsFabricRun, PortRow, Kept, captures_out, checked, crossed, resumed, switched, ideal_departures, ran_ideal, packets_out, Contents, IsPartText, IsResumedText, Aim, Denies, Meets, Crossing, Auditing, Parting, Resuming, Exactly, Refusal, Plan, Reader, ◌>>=◌, judged, ideally_sent, sent_or_tag, tables_in, text_in, judged_of_given, IsNo, AuditRefusal, Command, Audit, Check, Ideal, Part, Pass, Resume, Run, Soak}
+use Rattle.cq_run.proofs.Terms.{rules, arith, common_steps, ◌≡◌, ◌+◌, ℕ, zero, suc, List, [], ◌∷◌, length, refl, ap, sym, Arrival, IsOkAnd, Result, Ok, Err, arrivals, arrivals_at, arrivals_of, cell_of, cells, Captured, Tables, Departure, LimitedRecord, IsFabricRun, PortRow, Kept, captures_out, checked, crossed, resumed, switched, ideal_departures, ran_ideal, packets_out, Contents, Aim, Denies, Meets, Crossing, Auditing, Parting, Resuming, Exactly, Refusal, Plan, Reader, ◌>>=◌, judged, ideally_sent, sent_or_tag, tables_in, judged_of_given, Command, Audit, Check, Ideal, Part, Resume, Run}
 use Rattle.std.specs.Prelude.{max}
 use Rattle.cq_cells.proofs.Ranges.{flat_same}
 use Rattle.cq_cells.specs.Schedule.{stamp_slot, start}
@@ -10,7 +10,6 @@ use Rattle.cq_route.specs.Route.{route}
 use Rattle.cq_run.proofs.OnePlan.{one_plan}
 use Rattle.cq_run.proofs.Reached.{rest_of, sent_of}
 use Rattle.cq_run.specs.declared.judge.Asked.TheVariants as asked
-use Rattle.cq_run.specs.Auditing.{IsAuditYes, IsLogDenied}
 use Rattle.cq_run.specs.Plan.{check_line}
 use Rattle.cq_run.specs.Workers.{WorkersChangeNothing, over, with_workers}
 use Rattle.cq_run.specs.declared.denial.Denial.TheVariants as why
@@ -99,41 +98,15 @@ module _ (n : ℕ) (t : Tables) where
     crossing : (sent : List Departure) → Follows (Ok (Crossing t cs sent)) (Ok (Crossing u cs sent))
     crossing sent = search (arith, rules, run_same, crossed_same, sym)
 
-    yes : (sent : List Departure) (trace log : List ℕ) → IsAuditYes t cs sent trace log → IsAuditYes u cs sent trace log
-    yes sent trace log is = record { log_is = rw arrivals_same is.log_is; trace_is = is.trace_is }
-
-    denied_by : (log : List ℕ) (e : AuditRefusal) → IsLogDenied t cs log e → IsLogDenied u cs log e
-    denied_by log e d = subst (λ (came : List Arrival). IsNo t.setup t.limits came log e) (sym arrivals_same) d
-
-    no : (sent : List Departure) (trace log : List ℕ) (refusal : Refusal) →
-        Denies (Auditing t cs sent trace log) refusal → Denies (Auditing u cs sent trace log) refusal
-    no sent trace log refusal d = search (arith, rules, denied_by, arrivals_same)
-
     auditing : (sent : List Departure) (trace log : List ℕ) →
         Follows (Ok (Auditing t cs sent trace log)) (Ok (Auditing u cs sent trace log))
-    auditing sent trace log = aimed (Auditing t cs sent trace log) (Auditing u cs sent trace log)
-        (λ plan is. (yes sent trace log is.0, is.1)) (no sent trace log)
-
-    text : (slots : ℕ) (bytes : List ℕ) → IsPartText t cs slots bytes → IsPartText u cs slots bytes
-    text slots bytes is = grind (arith, common_steps, arrivals_same)
-
-    no_text : (slots : ℕ) (name : List ℕ) (refusal : Refusal) → Denies (Parting t cs slots name) refusal →
-        Denies (Parting u cs slots name) refusal
-    no_text slots name refusal d = search (arith, rules, arrivals_same)
+    auditing sent trace log = grind (arith, common_steps, aimed, arrivals_same)
 
     parting : (slots : ℕ) (name : List ℕ) → Follows (Ok (Parting t cs slots name)) (Ok (Parting u cs slots name))
-    parting slots name = aimed (Parting t cs slots name) (Parting u cs slots name)
-        (λ plan (bytes, is, written). (bytes, text slots bytes is, written)) (no_text slots name)
-
-    goes_on : (bytes : List ℕ) (kept : Kept) → IsResumedText t cs bytes kept → IsResumedText u cs bytes kept
-    goes_on bytes kept is = grind (arith, common_steps, arrivals_same)
-
-    not_on : (bytes : List ℕ) (refusal : Refusal) → Denies (Resuming t cs bytes) refusal →
-        Denies (Resuming u cs bytes) refusal
-    not_on bytes refusal d = search (arith, rules, arrivals_same)
+    parting slots name = grind (arith, common_steps, aimed, arrivals_same)
 
     resuming : (bytes : List ℕ) → Follows (Ok (Resuming t cs bytes)) (Ok (Resuming u cs bytes))
-    resuming bytes = grind (arith, common_steps, aimed, goes_on, resumed_same, not_on)
+    resuming bytes = grind (arith, common_steps, aimed, arrivals_same, resumed_same)
 
   -- ## Each command
 
@@ -158,16 +131,13 @@ module _ (n : ℕ) (t : Tables) where
     ideal cs sent = grind (arith, common_steps, same, switched_same)
 
     audit : (cs : List (List Captured)) → Follows (rest_of asked.Audit r t cs m) (rest_of asked.Audit r u cs m)
-    audit cs = then_both (text_in why.LongTrace t.trace m) _ _ (λ trace. then_both (text_in why.LongLog t.log m) _ _
-        (λ log. sends cs (λ v c sent. Auditing v c sent trace log) (λ sent. auditing cs sent trace log)))
+    audit cs = search (rules, then_both, sends, auditing)
 
     resume : (name : List ℕ) (cs : List (List Captured)) →
         Follows (rest_of (asked.Resume name) r t cs m) (rest_of (asked.Resume name) r u cs m)
     resume name cs = search (rules, then_both, resuming)
 
     follows : (command : Command) → Follows (judged r (over one command) m) (judged r (over other command) m)
-    follows (Pass from to) = alike (judged r (Pass from to) m)
-    follows (Soak seed ports slots) = alike (judged r (Soak seed ports slots) m)
     follows (Check old) = rw (first, second) check
     follows (Ideal old) =
         both (rest_of asked.Ideal) (λ cs. sends cs (λ v c sent. Exactly (switched v c sent)) (ideal cs))
@@ -175,17 +145,12 @@ module _ (n : ℕ) (t : Tables) where
     follows (Audit old) = both (rest_of asked.Audit) audit
     follows (Part old slots state) = both (rest_of (asked.Part slots state)) (λ cs. parting cs slots state)
     follows (Resume old state) = both (rest_of (asked.Resume state)) (resume state)
+    follows _ = alike _
 
 -- ## Both ways
 
 pub workers_change_nothing : (r : Reader) → WorkersChangeNothing r
 workers_change_nothing r command m one other d =
-    let second = judged r (over other command) m in
     let there = follows d.workers d.tables r m one other d.first d.second command in
     let back = follows d.tables.workers (with_workers d.workers d.tables) r m other one d.second d.first command in
-    record {
-      met = λ plan. (there.met plan, back.met plan);
-      one_plan = λ a b x y. met_once second a b (there.met a x) y;
-      denied = λ refusal. (there.denied refusal, back.denied refusal);
-      refused = λ refusal. (there.refused refusal, back.refused refusal);
-    }
+    search (arith, rules, met_once)
