@@ -2,7 +2,7 @@
 -- written, so over what is left the same tables and captures are judged; the trace and the log stand there as they were
 -- written. The run with input-best matchings is a stable one, and its log is read as what it is spelt from. A yes that
 -- holds is never denied.
-use Rattle.cq_run.proofs.Terms.{rules, ◌≡◌, ◌≢◌, ◌≤◌, ◌^◌, ◌+◌, ◌∙◌, ◌++◌, ℕ, List, [], ◌∷◌, length, Option, None, Some, refl, ap, inl, arith, sym, IfSome, IsOkAnd, Result, Ok, IsOk, get, AllByRecursion, Arrival, log_of, trace_of, Departure, Transfer, short_is, small_cells, traffic_is, arrivals, IsTraffic, all_weaker, limited_not_more, LimitedRecord, slots_in, Captured, all_both, all_back, classes_of, ports_of, Tables, machines_of, openings_of, as_many_slots, sends_as_ideal, stable_limited_whole, departures_in_run, slots_ran, ideal_departures, ran_ideal, Contents, files_in, read_or_refused, Audit, Denial, Refusal, Halt, IsHaltOf, Aim, Auditing, Denies, Meets, KeepsUp, audited, captures_out, crossed, Reader, ◌>>=◌, captures_in, found_or_missing, ideally_sent, judged, read_or_refused_for, sent_or_tag, tables_in, text_in, all_replaced, PortRow, common_steps, whole_limited_run, empty_limited, IsAuditHalted, IsAuditPassed, audit_is_exact, stable_log, trace_is_exact, IsYes, opening_fabric, IsNo, AuditRefusal, transfers_of_run, empty_list, DiffersFirst, all_stable, stable_sends, stable_slack, longest_file}
+use Rattle.cq_run.proofs.Terms.{rules, ◌≡◌, ◌≢◌, ◌≤◌, ◌^◌, ◌+◌, ◌∙◌, ◌++◌, ℕ, List, [], ◌∷◌, length, Option, None, Some, refl, ap, inl, arith, sym, IfSome, IsOkAnd, Result, Ok, IsOk, get, AllByRecursion, Arrival, log_of, trace_of, Departure, Transfer, short_is, small_cells, traffic_is, arrivals, IsTraffic, all_weaker, limited_not_more, LimitedRecord, slots_in, Captured, all_both, all_back, classes_of, ports_of, Tables, machines_of, openings_of, as_many_slots, sends_as_ideal, stable_limited_whole, departures_in_run, ideal_departures, ran_ideal, Contents, files_in, read_or_refused, Audit, Denial, Refusal, Halt, IsHaltOf, Aim, Auditing, Denies, Meets, KeepsUp, audited, captures_out, crossed, Reader, ◌>>=◌, captures_in, found_or_missing, ideally_sent, judged, read_or_refused_for, sent_or_tag, tables_in, text_in, all_replaced, common_steps, whole_limited_run, empty_limited, IsAuditHalted, IsAuditPassed, audit_is_exact, stable_log, trace_is_exact, IsYes, opening_fabric, IsNo, AuditRefusal, transfers_of_run, empty_list, DiffersFirst, all_stable, stable_sends, stable_slack, longest_file}
 use Rattle.cq_audit.specs.declared.refusal.AuditRefusal.TheVariants as of_log
 use Rattle.cq_tables.specs.Check.{Refused}
 use Rattle.cq_run.specs.declared.denial.Denial.TheVariants as why
@@ -58,8 +58,7 @@ module _ (t : Tables) (captures : List (List Captured)) (rs : List LimitedRecord
     few_slots : length rs ≤ 2 ^ 64
     few_slots =
         let came : List Arrival = arrivals t captures in
-        let same : slots_ran t came ≡ length rs = as_many_slots t came rs traffic keeps.runs in
-        omega (arith, limited_not_more, short_is)
+        omega (arith, as_many_slots t came rs traffic keeps.runs, limited_not_more, short_is)
 
     -- its log is that of a stable run
     log_is : IsYes t.setup t.limits (arrivals t captures) (log_of note)
@@ -67,14 +66,8 @@ module _ (t : Tables) (captures : List (List Captured)) (rs : List LimitedRecord
         let came : List Arrival = arrivals t captures in
         let start = opening_fabric t.setup in
         let stable = stable_limited_whole t.limits (machines_of t.setup) came start keeps.runs.end rs keeps.runs.runs in
-        record {
-          note = note;
-          read = stable_log (ports_of t.setup) (classes_of t.setup) came traffic
-              (small_cells t captures keeps.given.tables.cell_bytes.0 keeps.given.recorded)
-              t.limits (machines_of t.setup) start keeps.runs.end rs keeps.given.tables.setup.ports.1 few_slots
-              (λ i. empty_list (ports_of t.setup) i) stable;
-          run = record { records = rs; end = keeps.runs.end; runs = stable; moved = refl };
-        }
+        let read = stable_log (ports_of t.setup) (classes_of t.setup) came traffic in
+        search (arith, rules, read, small_cells, few_slots, empty_list)
 
     meets : Meets aim audited
     meets = (record { log_is = log_is; trace_is = refl }, refl)
@@ -82,16 +75,13 @@ module _ (t : Tables) (captures : List (List Captured)) (rs : List LimitedRecord
     -- a log of which this holds is refused for nothing
     never_refused : (e : AuditRefusal) → e ≢ of_log.NoMemory → IsLogDenied t captures (log_of note) e → ⊥
     never_refused e some denied =
-        let exact = audit_is_exact t.setup t.limits (arrivals t captures) in
-        exact.never_both (log_of note) e some log_is denied
+        (audit_is_exact t.setup t.limits (arrivals t captures)).never_both (log_of note) e some log_is denied
 
     never_denied : (denial : Denial) → IsDenied t captures sent (trace_of sent) (log_of note) denial → ⊥
-    never_denied why.LongTrace denied = denied
-    never_denied why.LongLog denied = denied
     never_denied (why.Log of_log.NoMemory) denied = denied
     never_denied (why.Log refusal) denied = never_refused refusal (λ e. cc) denied
-    never_denied (why.Trace n) denied =
-        let exact = trace_is_exact in exact.differ (trace_of sent) (trace_of sent) n denied.1 refl
+    never_denied (why.Trace n) denied = trace_is_exact.differ (trace_of sent) (trace_of sent) n denied.1 refl
+    never_denied _ denied = denied
 
     -- ## What is judged of what was left
 
@@ -106,15 +96,11 @@ module _ (t : Tables) (captures : List (List Captured)) (rs : List LimitedRecord
           untouched files m left name written (all_both (λ w. w.0 ≢ name) outputs _ named (none.trace, (none.log, tt)))
 
       same_read : (o : Option (List ℕ)) → IfSome o (IsUnwritten t) → IfSome o (λ name. get left name ≡ get m name)
-      same_read None none = tt
-      same_read (Some name) none = same_under name none
+      same_read o none = grind (arith, common_steps, same_under)
 
       captures_left : captures_in r t left ≡ Ok captures
-      captures_left = captures_same m left r t.limit_bytes 0 t.ports (all_weaker
-          (λ (row : PortRow). IfSome row.read (IsUnwritten t))
-          (λ (row : PortRow). IfSome row.read (λ name. get left name ≡ get m name))
-          (λ row none. same_read row.read none) t.ports (reads_unwritten t (apart_in config m t configured)))
-          ∙ captured
+      captures_left = captures_same m left r t.limit_bytes 0 t.ports
+          (search (arith, rules, all_weaker, same_read, reads_unwritten, apart_in)) ∙ captured
 
       -- the last two stand there
       stand_last : (get left t.trace ≡ Some (trace_of sent)) × (get left t.log ≡ Some (log_of note))
@@ -122,12 +108,10 @@ module _ (t : Tables) (captures : List (List Captured)) (rs : List LimitedRecord
           (trace_or_log t (apart_in config m t configured)) written
 
       trace_left : text_in why.LongTrace t.trace left ≡ Ok (trace_of sent)
-      trace_left = text_is (refused.Audit why.LongTrace) longest_file t.trace (Some left) (trace_of sent)
-          (all_back (λ w. length w.1 ≤ longest_file) outputs _ short).0 stand_last.0
+      trace_left = search (arith, rules, text_is, all_back, stand_last)
 
       log_left : text_in why.LongLog t.log left ≡ Ok (log_of note)
-      log_left = text_is (refused.Audit why.LongLog) longest_file t.log (Some left) (log_of note)
-          (all_back (λ w. length w.1 ≤ longest_file) outputs _ short).1.0 stand_last.1
+      log_left = search (arith, rules, text_is, all_back, stand_last)
 
       ideally : ideally_sent t captures ≡ Ok sent
       ideally = ap sent_or_tag (sends_as_ideal t (arrivals t captures) rs traffic keeps.runs)

@@ -1,6 +1,6 @@
 -- The files that an accepted configuration names. No two names clash, so a file that is read is none that is written,
 -- and the trace is not the log.
-use Rattle.cq_run.proofs.Terms.{rules, arith, ◌≡◌, ◌≢◌, ◌++◌, ◌&&◌, ℕ, suc, Bool, true, false, not, List, [], ◌∷◌, Option, None, Some, Ok, codes, is_some, refl, sym, inl, inr, IfSome, common_steps, AllByRecursion, list_any, and_from, not_from_false, bytes_eq-Decides, all_weaker, PortRow, Tables, at, first, unless, Named, apart_from, checks_in, clash, file_check, files_in, files_of, names_of, read_at, read_of, read_or_refused, tables_of, top_of, written_at, first_parts, Ports, Element, Top, DuplicateFile, EachPair, Has, has_left, has_right, pair_of_has}
+use Rattle.cq_run.proofs.Terms.{rules, arith, ◌≡◌, ◌≢◌, ◌++◌, ◌&&◌, ℕ, suc, Bool, true, false, not, List, [], ◌∷◌, Option, None, Some, Ok, codes, is_some, refl, sym, inl, inr, IfSome, common_steps, AllByRecursion, list_any, and_from, not_from_false, bytes_eq-Decides, all_weaker, PortRow, Tables, at, first, unless, Named, apart_from, checks_in, clash, file_check, files_in, files_of, names_of, read_at, read_or_refused, tables_of, top_of, written_at, first_parts, Ports, Element, Top, DuplicateFile, EachPair, Has, has_left, has_right, pair_of_has}
 use Rattle.std.proofs.lemmas.List.Folds.{list_any-append}
 
 -- ## Checks that hold
@@ -9,10 +9,6 @@ use Rattle.std.proofs.lemmas.List.Folds.{list_any-append}
 files_checked : (text : List ℕ) → first (checks_in text (top_of text)) ≡ None →
     file_check (tables_of (top_of text)) ≡ None
 files_checked text h = search (arith, rules, is_some, first_parts)
-
-files_apart : (text : List ℕ) (t : Tables) → read_or_refused text ≡ Ok t → file_check t ≡ None
-unfolding read_or_refused
-files_apart text t h = search (arith, rules, files_checked)
 
 -- ## Names that do not clash
 
@@ -30,7 +26,8 @@ pairs_in earlier (n ∷ names) h =
     search (arith, rules, first_parts, all_weaker, list_any-append, no_clash, pairs_in (earlier ++ n ∷ []) names)
 
 pub names_apart : (text : List ℕ) (t : Tables) → read_or_refused text ≡ Ok t → ArePairs (files_in t)
-names_apart text t h = (pairs_in [] (files_in t) (files_apart text t h)).1
+unfolding read_or_refused
+names_apart text t h = (pairs_in [] (files_in t) (search (arith, rules, files_checked))).1
 
 -- ## Two names
 
@@ -49,9 +46,7 @@ each_written : (P : List ℕ → Type 0) (i : ℕ) (rows : List PortRow) →
 each_written P i [] h = tt
 each_written P i (row ∷ rows) h =
     let w : Named = written_at (Element Ports i) (codes "write") row.write in (
-      h w
-          (has_left (names_of i row) (files_of (suc i) rows) w (has_right (read_of i row) (w ∷ []) w (inl refl)))
-          refl,
+      h w (search (arith, rules, has_left, has_right)) refl,
       each_written P (suc i) rows (λ n k e. h n (has_right (names_of i row) (files_of (suc i) rows) n k) e),
     )
 
@@ -84,14 +79,12 @@ module _ (t : Tables) (pairs : ArePairs (files_in t)) where
 
   -- so it is with each that they read
   pub reads_unwritten : AllByRecursion (λ row. IfSome row.read (IsUnwritten t)) t.ports
-  reads_unwritten =
-      each_read (IsUnwritten t) 0 t.ports
-      (λ r k read. record {
-        outputs = each_written (λ (w : List ℕ). w ≢ r.file) 0 t.ports
-            (λ n l written. unlike r n k (inr (inr l)) read written);
-        trace = unlike r (written_at Top (codes "trace") t.trace) k (inl refl) read refl;
-        log = unlike r (written_at Top (codes "log") t.log) k (inr (inl refl)) read refl;
-      })
+  reads_unwritten = each_read (IsUnwritten t) 0 t.ports (λ r k read. record {
+    outputs = each_written (λ (w : List ℕ). w ≢ r.file) 0 t.ports
+        (λ n l written. unlike r n k (inr (inr l)) read written);
+    trace = unlike r (written_at Top (codes "trace") t.trace) k (inl refl) read refl;
+    log = unlike r (written_at Top (codes "log") t.log) k (inr (inl refl)) read refl;
+  })
 
   -- and the trace is not the log
   pub trace_or_log : t.trace ≢ t.log
