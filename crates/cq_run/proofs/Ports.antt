@@ -2,11 +2,11 @@
 -- the rest, is reading them all, and what ends one of these ends the whole. Where files are read ahead, reading leaves
 -- contents as they are, so the first capture is judged as if nothing had come between. Where it ends the whole, the
 -- later inputs say nothing but what the count of faults may show.
-use Rattle.cq_run.proofs.Terms.{rules, ◌≡◌, ◌<◌, ◌≤◌, ◌∙◌, ℕ, ◌+◌, List, [], ◌∷◌, ◌++◌, length, take, drop, get_or, refl, ap, sym, arith, length-take-le, Result, Ok, Err, Option, None, Some, IfSome, IfOk, IfErr, MatchOption, common_steps, take_all, take_more, Contents, Space, Closed, Captured, PortRow, Refusal, Halt, Judges, Halts, InTurn, Ahead, AnyName, Uncounted, Reader, ◌>>=◌, packets_at, captures_from, Spells, Call, Fails, Lasts, Reads, NoMemory, longest_file}
+use Rattle.cq_run.proofs.Terms.{rules, ◌≡◌, ◌<◌, ◌≤◌, ◌∙◌, ℕ, ◌+◌, List, [], ◌∷◌, ◌++◌, length, take, drop, get_or, refl, arith, length-take-le, Result, Ok, Err, Option, None, Some, IfSome, IfOk, IfErr, MatchOption, common_steps, take_all, take_more, Contents, Space, Closed, Captured, PortRow, Refusal, Halt, Judges, Halts, InTurn, Ahead, AnyName, Uncounted, Reader, ◌>>=◌, packets_at, captures_from, Spells, Call, Fails, Lasts, Reads, NoMemory}
 use Rattle.cq_run.proofs.Stays.{captures_from_stay, packets_stay}
 use Rattle.cq_run.proofs.Chain.{judges_then, judges_after, judges_any, judges_both, judges_computed, judges_as, counts_of, halts_at, name_after, fails_after}
 use Rattle.cq_run.specs.declared.decoding.Decoding.{Decoding}
-use Rattle.cq_run.specs.Decoding.{HasBegun, IsBegun, IsBegunFor, source}
+use Rattle.cq_run.specs.Decoding.{HasBegun, IsBegunFor, source}
 use Rattle.cq_run.specs.Input.{IsHaltFor, IsInFront}
 use Rattle.cq_run.proofs.TextRead.{capture_halts, capture_is}
 use Rattle.cq_run.proofs.Told.{told_any}
@@ -50,13 +50,10 @@ module _ (r : Reader) (limit : ℕ) (rows : List PortRow) (k : ℕ) (row : PortR
   abbrev then_this : List Packets → Contents → Result (List Packets) Refusal
   then_this made m = packets_at r k limit row.read m >>= (λ q. Ok (made ++ q ∷ []))
 
-  take_more_is : take (k + 1) rows ≡ take k rows ++ row ∷ []
-  take_more_is = take_more rows k row inside ∙ ap (λ (r : PortRow). take k rows ++ r ∷ []) (sym is)
-
   more_is : (m : Contents) → (captures_from r limit 0 (take k rows) m >>= (λ made. then_this made m)) ≡ captures_from
       r limit 0 (take (k + 1) rows) m
   unfolding captures_from
-  more_is m = grind (arith, common_steps, take_more_is, split_at r limit 0 k (take k rows) row [] m, length_before)
+  more_is m = grind (arith, common_steps, take_more, split_at r limit 0 k (take k rows) row [] m, length_before)
 
   -- one port more
   pub reads_more : {Q R : List ℕ → Type 0} {old mid new : Space} {made : List Packets} {q : Packets}
@@ -92,17 +89,14 @@ module _ (r : Reader) (input limit : ℕ) where
       → IsBegunFor read input limit told begun → MatchOption begun (packets ≡ []) (λ d. Spells (source d) packets)
       → IfSome told (λ m. packets_at r input limit read m ≡ Ok packets)
   arrived told packets None None b h = grind (arith, common_steps, told_any)
-  arrived told packets (Some name) (Some d) b h =
-      capture_is r name input limit (source d) told packets b.1.whole h
+  arrived told packets (Some name) (Some d) b h = grind (arith, common_steps, capture_is r name input limit (source d))
   arrived told packets read begun b h = absurd b
 
   -- what is wrong with its bytes ends judging
   halted : (R : List ℕ → Type 0) (old new : Space) (halt : Halt) (read : Option (List ℕ)) (begun : Option Decoding)
       → IsBegunFor read input limit old.told begun → MatchOption begun ⊥ (λ d. IsHaltFor input (source d) halt)
       → Uncounted Ahead (AnyName R) old.faults new.faults → Halts Ahead (packets_at r input limit read) R old new halt
-  halted R old new halt None None b h k = absurd h
-  halted R old new halt (Some name) (Some d) b h k = grind (arith, common_steps, capture_halts)
-  halted R old new halt read begun b h k = absurd b
+  halted R old new halt read begun b h k = grind (arith, common_steps, capture_halts)
 
 -- ## The first input, and those after it
 
@@ -122,14 +116,6 @@ module _ (r : Reader) (limit input : ℕ) (row : PortRow) (rows : List PortRow) 
       Halts InTurn (packets_at r input limit row.read) R old new halt → new.mode ≡ Closed → new.told ≡ old.told →
       Judges Ahead (captures_from r limit input (row ∷ rows)) R old new (Err halt)
   file_ends {R} {old} {new} {halt} h c t = grind (arith, common_steps, first_ends, halts_at)
-
-module _ {row : PortRow} {input limit : ℕ} {old mid : Space} {begun : Option Decoding}
-    (b : HasBegun row input limit old mid begun) where
-  pub begun_is : IfSome begun IsBegun
-  begun_is = search (arith, rules)
-
-  pub begun_small : limit ≤ longest_file → IfSome begun (λ d. length (source d) ≤ longest_file)
-  begun_small small = search (arith, rules)
 
 -- what failed since the first file was read failed since this call began, for no fault was counted before
 module _ {S : Type 0} (space : S → Space) {keeps : S → S → Type 0} {row : PortRow} {input limit : ℕ} {old mid : S}

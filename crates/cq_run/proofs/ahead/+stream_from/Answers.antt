@@ -1,5 +1,5 @@
-use Rattle.cq_run.proofs.Terms.{◌≡◌, [], arith, nil_from_length}
-use Rattle.cq_run.proofs.Ports.{begun_is, begun_small, file_ends, none_arrive, one_more, together}
+use Rattle.cq_run.proofs.Terms.{rules, ◌≡◌, [], arith, nil_from_length}
+use Rattle.cq_run.proofs.Ports.{file_ends, none_arrive, one_more, together}
 use Rattle.cq_run.proofs.Told.{exit_is}
 use Rattle.cq_run.proofs.ahead.+stream_from.Goals as goal
 
@@ -22,10 +22,10 @@ returns-in_ok-begun-in-Some-clause-kept g t c =
 -- ## What the readers and the rows before come to
 
 pub finish_port-requires-clause-begun : goal.finish_port-requires-clause-begun
-finish_port-requires-clause-begun g t c = begun_is c.in_ok-begun-in-Some.ensures.begun
+finish_port-requires-clause-begun g t c = search (arith, rules)
 
 pub finish_port-requires-clause-small : goal.finish_port-requires-clause-small
-finish_port-requires-clause-small g t c = begun_small c.in_ok-begun-in-Some.ensures.begun (omega arith)
+finish_port-requires-clause-small g t c = search (arith, rules)
 
 pub returns-in_err-begun-in-Some-clause-judges : goal.returns-in_err-begun-in-Some-clause-judges
 returns-in_err-begun-in-Some-clause-judges g t c = λ r.
@@ -40,6 +40,4 @@ returns-in_ok-begun-in-Some-clause-judges g t c = λ r.
     c.finish_port.ensures.halts (c.stream_from-later.ensures.judges r) c.in_front.ensures)
 
 pub returns-in_ok-begun-in-Some-clause-each : goal.returns-in_ok-begun-in-Some-clause-each
-returns-in_ok-begun-in-Some-clause-each g t c = rw c.in-Some.ensures.cases.0
-    (one_more c.in-Some.row.now c.in-Some.rest.now c.finish_port.result c.stream_from-later.result c.in_front.result
-    c.stream_from-later.ensures.each c.in_front.ensures)
+returns-in_ok-begun-in-Some-clause-each g t c = search (arith, rules, one_more)
