@@ -1,6 +1,6 @@
 -- The captures of the outputs, one after another: those that were made and those that are still to be made are all.
 -- Each is that which was built at its output.
-use Rattle.cq_run.proofs.Terms.{common_steps, rules, ◌≡◌, ◌<◌, ◌≤◌, ◌∙◌, ℕ, ◌+◌, List, [], ◌∷◌, ◌++◌, length, drop, get_or, refl, sym, add-one, append_assoc, arith, Result, Ok, append-nil, drop_all, drop_more, length-drop, trace_of, log_of, Departure, TagFault, Transfer, arrivals, Captured, AreTables, ports_of, PortRow, Tables, Plan, Meets, Reporting, Halt, IfOk, Err, capture_out, captures_out, switched, IsSwitched, sent_or_tag, Switched, ArePacked, HaveLeftOf, Arrival, t0_of, packets_of, IsRecorded, IsTraffic, LimitedRecord, report_with, under_names, classes_of, always_slack, best_in_each, slot_by_slot, IsFabricRun, IsKeptOf, unpacked_run, ideal_departures, PackedFabricRun, Contents, AreGiven, AreRead, IsEmulation, KeepsUp, crossed, reported, Reader, IsCrossed, IsCrossing, Crossed, left_in_packets, Packing, each_packet_once}
+use Rattle.cq_run.proofs.Terms.{common_steps, rules, ◌≡◌, ◌<◌, ◌≤◌, ◌∙◌, ℕ, ◌+◌, List, [], ◌∷◌, ◌++◌, length, drop, get_or, refl, sym, append_assoc, arith, Result, Ok, append-nil, drop_all, drop_more, length-drop, trace_of, log_of, Departure, TagFault, Transfer, arrivals, Captured, AreTables, ports_of, PortRow, Tables, Plan, Meets, Reporting, Halt, IfOk, capture_out, captures_out, switched, IsSwitched, sent_or_tag, Switched, ArePacked, HaveLeftOf, Arrival, t0_of, packets_of, IsRecorded, IsTraffic, LimitedRecord, report_with, under_names, classes_of, always_slack, best_in_each, slot_by_slot, IsFabricRun, IsKeptOf, unpacked_run, ideal_departures, PackedFabricRun, Contents, AreGiven, AreRead, IsEmulation, KeepsUp, crossed, reported, Reader, IsCrossed, IsCrossing, Crossed, left_in_packets, Packing, each_packet_once}
 
 -- a plan of these names and this text
 pub plan_is : (plan : Plan) (writes : List (List ℕ × List ℕ)) (text : List ℕ) → plan.writes ≡ writes →
@@ -34,13 +34,6 @@ module _ (rows : List PortRow) (k : ℕ) where
     all_under left over made = cc (append-nil writes, drop_all k rows over)
 
 module _ (t : Tables) (captures : List (List Captured)) (sent : List Departure) where
-  -- the first output, and those after it
-  captures_of_more : (k : ℕ) (row : PortRow) (rows : List PortRow) →
-      captures_out t captures sent k (row ∷ rows) ≡ (row.write, capture_out t captures sent k) ∷ captures_out t
-      captures sent (k + 1) rows
-  unfolding captures_out
-  captures_of_more k row rows = rw add-one refl
-
   -- the captures that were built, from this output on
   module _ {places : List Packing} (packed : ArePacked t captures sent places) (output : ℕ)
       (there : output < ports_of t.setup) where
@@ -57,18 +50,14 @@ module _ (t : Tables) (captures : List (List Captured)) (sent : List Departure) 
       pub file_is : place.bytes.items ≡ capture_out t captures sent output
       file_is = grind (arith, common_steps, parts, in_places)
 
-      rest_is : drop (output + 1) places ≡ rest
-      rest_is = cc parts
-
   -- each of those under its name
   pub packed_under : (places : List Packing) → ArePacked t captures sent places → (rows : List PortRow) (k : ℕ)
       (left : List Packing) → drop k places ≡ left → k + length rows ≤ ports_of t.setup →
       under_names rows left ≡ captures_out t captures sent k rows
   unfolding captures_out
   packed_under places packed [] k left is fit = refl
-  packed_under places packed (row ∷ rows) k [] is fit = absurd (some_left packed k (omega arith) is)
-  packed_under places packed (row ∷ rows) k (place ∷ left) is fit =
-      grind (arith, common_steps, rest_is, file_is, captures_of_more, packed_under places packed rows (k + 1) left)
+  packed_under places packed (row ∷ rows) k left is fit =
+      grind (arith, common_steps, some_left, parts, file_is, packed_under places packed rows (k + 1))
 
   -- those of all outputs
   module _ (places : List Packing) (packed : ArePacked t captures sent places) (are : AreTables t)
@@ -127,9 +116,7 @@ module _ {t : Tables} {captures : List (List Captured)} {c : Crossed} (is : IsCr
       IfOk result (λ plan. plan.text ≡ report_with c.run.figures c.run.refused.items) →
       IfOk result (λ plan. Meets (Reporting t captures) plan)
   unfolding reported
-  reporting (Ok plan) writes text =
-      (is.records, is.keeps_up.runs, plan_is plan _ _ writes (rw (is.figures, is.refused) at text))
-  reporting (Err halt) writes text = tt
+  reporting result writes text = grind (arith, common_steps, plan_is)
 
   -- one with its captures, its trace, its log and its report is what the crossbar switch does
   pub crossing : {plan : Plan} →
