@@ -1,14 +1,14 @@
 -- What is known at a moment of judging a command. All that was judged so far was accepted: no fault was counted, the
 -- file space is closed, its contents are as before, and of these the command comes to what is left to judge. So where a
 -- name that is read next is unread or refused, or what was read is judged, that is what the command comes to.
-use Rattle.cq_run.proofs.Terms.{refl, rules, arith, ◌≡◌, ◌∙◌, ◌⊎◌, ℕ, IsTrue, List, subst, inl, inr, length, Option, IfOk, IfSome, Result, Ok, Err, common_steps, AllByRecursion, Captured, Tables, Call, Fails, Lasts, Reads, Closed, Contents, Space, Command, Given, Refusal, Halt, NoMemory, Refused, Unread, Aim, Auditing, Crossing, Denies, Exactly, Meets, Parting, Resuming, Departure, switched, command_asking, ideally_sent, state_in, text_in, EndsGiven, IsGiven, judged_of_given, Emulates, AreRead, IsJudged, IsHaltOf, Judges, Pace, InTurn, Plan, Decides, IsDenial, known_to, Reader, meaning_of, ◌>>=◌, MayRead, MayWrite, captures_in, judged, tables_in, AreTables, ports_of}
+use Rattle.cq_run.proofs.Terms.{rules, arith, ◌≡◌, ◌∙◌, ◌⊎◌, ℕ, IsTrue, List, subst, inl, inr, length, Option, IfOk, IfSome, Result, Ok, Err, common_steps, AllByRecursion, Captured, Tables, Call, Fails, Lasts, Reads, Closed, Contents, Space, Command, Given, Refusal, Halt, NoMemory, Refused, Unread, Aim, Auditing, Crossing, Denies, Exactly, Meets, Parting, Resuming, Departure, switched, command_asking, ideally_sent, state_in, text_in, EndsGiven, IsGiven, judged_of_given, Emulates, AreRead, IsJudged, IsHaltOf, Judges, Pace, InTurn, Plan, Decides, IsDenial, known_to, Reader, meaning_of, ◌>>=◌, MayRead, MayWrite, captures_in, judged, tables_in, AreTables, ports_of}
 use Rattle.cq_run.specs.declared.denial.Denial.TheVariants.{LongLog, LongTrace}
 use Rattle.cq_run.specs.declared.judge.Asked.{Asked}
 use Rattle.cq_run.specs.declared.judge.Asked.TheVariants as asked
 use Rattle.cq_run.proofs.Chain.{ComesTo, comes_to_itself, goes_on, judges_back, judges_computed_err, judges_more, judges_then, counts_same, judges_after, judges_at, fails_after}
 use Rattle.cq_run.proofs.TextRead.{from_front}
 use Rattle.cq_run.proofs.Stays.{Stays, captures_from_stay, tables_stay}
-use Rattle.cq_run.proofs.Told.{told_map, told_two}
+use Rattle.cq_run.proofs.Told.{told_map}
 
 -- ## What is computed of all that was read
 
@@ -48,25 +48,13 @@ rest_of (asked.Resume name) r t captures m = state_in name m >>= (λ text. Ok (R
 -- so the command is judged that asks this; it knows all of the files, and may read any name
 asks : (config : List ℕ) (asked : Asked) (r : Reader) →
     judged r (command_asking config asked) ≡ judged_of_given r config (rest_of asked r)
-asks config asked.Ideal r = refl
-asks config asked.Run r = refl
-asks config asked.Audit r = refl
-asks config (asked.Part slots name) r = refl
-asks config (asked.Resume name) r = refl
+asks config asked r = search (arith, rules)
 
 asks_known : (config : List ℕ) (asked : Asked) (s : Space) → known_to (command_asking config asked) s ≡ s
-asks_known config asked.Ideal s = refl
-asks_known config asked.Run s = refl
-asks_known config asked.Audit s = refl
-asks_known config (asked.Part slots name) s = refl
-asks_known config (asked.Resume name) s = refl
+asks_known config asked s = grind (arith, common_steps)
 
 asks_any : (config : List ℕ) (asked : Asked) (name : List ℕ) → MayRead (command_asking config asked) name
-asks_any config asked.Ideal name = tt
-asks_any config asked.Run name = tt
-asks_any config asked.Audit name = tt
-asks_any config (asked.Part slots state) name = tt
-asks_any config (asked.Resume state) name = tt
+asks_any config asked name = grind (arith, common_steps)
 
 -- what is known at such a moment, of a command that knows all of the files
 pub record Reached {S : Type 0} (space : S → Space) (keeps : S → S → Type 0) (command : Command) (old now : S)
@@ -104,15 +92,9 @@ module _ {S : Type 0} {space : S → Space} {keeps : S → S → Type 0} {comman
       ((r : Reader) → Judges q (j r) Q (space mid) (space new) (Ok x)) →
       Reached space keeps command old new (λ r. f r x)
   read_on {mid = mid} {new = new} {j = j} f lasts reached kept {q} {Q} {x} stays h =
-      record {
-        knows = reached.knows;
-        comes = λ r. goes_on (judged r command) (j r) (f r) (space old).told x (stays r)
-            (rw reached.told at (h r).ok) (reached.comes r);
-        kept = lasts.both old mid new reached.kept kept;
-        closed = (h from_front).closed;
-        told = (h from_front).told ∙ reached.told;
-        uncounted = (h from_front).uncounted ∙ reached.uncounted;
-      }
+      let front = h from_front in
+      let comes = λ (r : Reader). goes_on (judged r command) (j r) (f r) (space old).told x (stays r)
+      (rw reached.told at (h r).ok) (reached.comes r) in search (arith, rules, comes, lasts.both)
 
   module _ {now : S} {v : Result Aim Refusal} (reached : Reached space keeps command old now (λ r m. v)) where
     aims : (p : Pace) (r : Reader) (R : List ℕ → Type 0) (aim : Aim) → v ≡ Ok aim →
@@ -135,8 +117,7 @@ given_so {space = space} {config = config} {old = old} {given = given} asked is 
       let P : (Contents → Result Aim Refusal) → Type 0 = λ j. IfSome told (ComesTo whole j) in
       goes_on whole (captures_in r t) (rest_of asked r t) told given.captures
       (captures_from_stay r t.limit_bytes 0 t.ports) (is.captures r)
-      (goes_on whole (tables_in config)
-      (λ (u : Tables) (m : Contents). captures_in r u m >>= (λ captures. rest_of asked r u captures m)) told t
+      (goes_on whole (tables_in config) _ told t
       (tables_stay config) is.tables (subst P (asks config asked r) (comes_to_itself whole told)));
   kept = is.kept;
   closed = is.closed;
@@ -150,14 +131,10 @@ module _ {S : Type 0} {space : S → Space} {may_fail : Call → S → S → Typ
   halted : {halt : Halt} → ((s : Space) → known_to command s ≡ s) → ((r : Reader) →
       Judges p (judged r command) (Failed space may_fail keeps command old new) (space old) (space new) (Err halt)) →
       keeps old new → IsJudged space may_fail keeps p command old new (Err halt)
-  halted {halt} knows h kept = record {
-    judges = λ r. known command knows p r _ (space old) (space new) (Err halt) (inl (h r));
-    kept = kept;
-    names = tt;
-    emulates = λ r. tt;
-    closed = (h from_front).closed;
-    told = (h from_front).told;
-  }
+  halted {halt} knows h kept =
+      let front = h from_front in
+      let halts = λ (r : Reader). known command knows p r _ (space old) (space new) (Err halt) (inl (h r)) in
+      search (arith, rules, halts)
 
   -- what is read next ends judging
   pub read_ends : {A : Type 0} {mid : S} {j : Reader → Contents → Result A Refusal}
@@ -262,20 +239,11 @@ pub given_read : {S : Type 0} {space : S → Space} {keeps : S → S → Type 0}
     length captures ≡ ports_of t.setup → keeps mid new →
     IsGiven space keeps config old new (record { tables = t; captures = captures })
 given_read {old = old} {mid = mid} {new = new} {t = t} {captures = captures} lasts in_range read kept h each kept_on =
-    record {
-      tables = read.ok;
-      captures = λ r. rw read.told at (h r).ok;
-      in_range = in_range;
-      each = each;
-      kept = lasts.both old mid new kept kept_on;
-      closed = (h from_front).closed;
-      told = (h from_front).told ∙ read.told;
-      uncounted = (h from_front).uncounted ∙ read.uncounted;
-    }
+    let front = h from_front in
+    let arrive = λ (r : Reader). rw read.told at (h r).ok in search (arith, rules, arrive, lasts.both)
 
 -- of contents that are told it is what they give
 pub read_told : {S : Type 0} {space : S → Space} {keeps : S → S → Type 0} {config : List ℕ} {old new : S}
     {given : Given} → IsGiven space keeps config old new given → (r : Reader) →
     IfSome (space old).told (λ m. AreRead r config m given.tables given.captures)
-read_told {space = space} {old = old} is r =
-    told_two (space old).told _ _ _ (λ m a b. record { configured = a; captured = b }) is.tables (is.captures r)
+read_told {space = space} {old = old} is r = grind (arith, common_steps, is.captures r)

@@ -1,22 +1,19 @@
-use Rattle.cq_run.proofs.Terms.{◌≡◌, ℕ, List, refl, Result, Ok, Tables, Lasts, Closed, Contents, Space, Check, Aim, Exactly, Judges, InTurn, checked, Reader, ◌>>=◌, tables_in, Refusal, Call, Err, Halt, IfErr, IfOk, IsJudged, NoMemory, Plan}
+use Rattle.cq_run.proofs.Terms.{◌≡◌, ℕ, List, refl, Result, Ok, Tables, Lasts, Closed, Space, Check, Exactly, Judges, InTurn, checked, ◌>>=◌, tables_in, Call, Err, Halt, IfErr, IfOk, IsJudged, NoMemory, Plan}
 use Rattle.cq_run.proofs.Reached.{Reached, begun, no_memory, read_ends, read_on, settled}
 use Rattle.cq_run.proofs.Stays.{tables_stay}
 use Rattle.cq_run.proofs.Told.{told_any, exit_is}
 use Rattle.cq_run.proofs.judge.check.Goals as goal
 
--- what is judged once the tables are read
-abbrev aim_of : Reader → Tables → Contents → Result Aim Refusal
-aim_of r tables m = Ok (Exactly (checked tables))
-
 module _ {S : Type 0} {space : S → Space} {keeps : S → S → Type 0} {config : List ℕ} {old : S}
     (lasts : Lasts keeps) (closed : (space old).mode ≡ Closed) where
-  at_tables : Reached space keeps (Check config) old old (λ r m. tables_in config m >>= (λ t. aim_of r t m))
+  at_tables : Reached space keeps (Check config) old old (λ r m. tables_in config m >>= (λ t. Ok (Exactly (checked t))))
   at_tables = begun (λ s. refl) lasts closed
 
   at_plan : {new : S} → keeps old new → {Q : List ℕ → Type 0} {tables : Tables} →
       Judges InTurn (tables_in config) Q (space old) (space new) (Ok tables) →
       Reached space keeps (Check config) old new (λ r m. Ok (Exactly (checked tables)))
-  at_plan kept h = read_on aim_of lasts at_tables kept (λ r. tables_stay config) (λ r. h)
+  at_plan kept h =
+      read_on (λ r t m. Ok (Exactly (checked t))) lasts at_tables kept (λ r. tables_stay config) (λ r. h)
 
   -- the line of the tables, or no memory for it
   at_line : {may_fail : Call → S → S → Type 0} {new : S} (kept : keeps old new) {Q : List ℕ → Type 0} {tables : Tables}

@@ -1,4 +1,4 @@
-use Rattle.cq_run.proofs.Terms.{arith, rules, ap, sym, ◌∙◌, ◌≡◌, ◌∷◌, [], length, List, Captured, Plan}
+use Rattle.cq_run.proofs.Terms.{arith, rules, ap, sym, ◌∙◌, ◌≡◌, ◌∷◌, [], length, List, Captured}
 use Rattle.cq_run.proofs.Crossed.{switched_whole}
 use Rattle.cq_run.proofs.Told.{exit_is}
 use Rattle.cq_run.proofs.judge.pass_on.Goals as goal
@@ -20,13 +20,4 @@ returns-clause-passing g c =
     let one : c.in_ok-captures.captures ≡ c.args.capture ∷ [] = c.in_ok-captures.ensures in
     let is = rw (c.as_slice.ensures, one) at c.in_ok-crossed.ensures.crossed in
     let written = rw (c.into_switched.ensures, one) at c.in_ok-build_passed.ensures in
-    let sent = c.in_ok-crossed.crossed.run.sent.items in
-    record {
-      sent = sent;
-      is_sent = is.switched.sent;
-      records = is.records;
-      keeps_up = is.keeps_up;
-      departed = is.departed;
-      writes = ap (λ (plan : Plan). plan.writes) written;
-      text = ap (λ (plan : Plan). plan.text) written;
-    }
+    search (arith, rules)
