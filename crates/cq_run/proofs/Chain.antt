@@ -1,7 +1,7 @@
 -- One judgement after another. Where the first ends without an answer, so do both; where it has one, both end as the
 -- second does. A name that the second is to read is to be read by both, since the first comes to the same without it,
 -- or misses it. First, the count of faults where an answer tells of none.
-use Rattle.cq_run.proofs.Terms.{rules, arith, ◌≡◌, ◌∙◌, ◌⊎◌, ℕ, List, ap, refl, inl, Option, None, Some, IfSome, Result, Ok, Err, common_steps, Contents, Space, Closed, Mode, Refusal, Missing, Halt, ◌>>=◌, Halts, IsHaltOf, Judges, InTurn, Pace, Ahead, Uncounted, AnyName, Call, Fails, Lasts}
+use Rattle.cq_run.proofs.Terms.{rules, arith, ◌≡◌, ◌∙◌, ◌⊎◌, ℕ, List, ap, Option, None, Some, IfSome, Result, Ok, Err, common_steps, Contents, Space, Closed, Mode, Refusal, Missing, Halt, ◌>>=◌, Halts, IsHaltOf, Judges, InTurn, Pace, Ahead, Uncounted, AnyName, Call, Fails, Lasts}
 use Rattle.std.specs.FinMap.{remove}
 use Rattle.cq_run.proofs.Stays.{Stays}
 
@@ -45,8 +45,7 @@ pub record ComesTo {B : Type 0} (whole rest : Contents → Result B Refusal) (m 
 
 pub comes_to_itself : {B : Type 0} (whole : Contents → Result B Refusal) (told : Option Contents) →
     IfSome told (ComesTo whole whole)
-comes_to_itself whole None = tt
-comes_to_itself whole (Some m) = record { same = refl; without = λ name. inl refl }
+comes_to_itself whole told = grind (arith, common_steps)
 
 -- once the first is accepted, what comes behind it is left
 pub goes_on : {A B : Type 0} (whole : Contents → Result B Refusal) (j : Contents → Result A Refusal)

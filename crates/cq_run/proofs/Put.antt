@@ -22,8 +22,7 @@ front_of_longer a b n = grind (arith, common_steps, take-append-drop, append_ass
 -- the first of two texts was cut short
 puts_cut : {E : Type 0} (a b : List ℕ) (old new : Taken) {fault : E} (r : Result (Unit {0}) E) → IsErr r →
     Puts a old new (Err fault) → Puts (a ++ b) old new r
-puts_cut a b old new (Ok x) err h = cc
-puts_cut a b old new (Err e) err h = grind (arith, common_steps, front_of_longer a b h.bytes.0)
+puts_cut a b old new r err h = grind (arith, common_steps, front_of_longer a b)
 
 -- the first of two texts was put whole, and then the second was put
 puts_then : {E : Type 0} (a b : List ℕ) (old mid new : Taken) (r : Result (Unit {0}) E) →
@@ -41,8 +40,7 @@ joined_is (p ∷ q ∷ ps) = ap (λ (rest : List ℕ). piece_text p ++ rest) (jo
 -- a piece, as the whole of a call puts it
 pub puts_all : {text text' : List ℕ} {old new : Taken} (r : Result (Unit {0}) WriteFault) → text ≡ text' →
     PutsAll old.bytes new.bytes old.faults new.faults text r → Puts text' old new r
-puts_all (Ok x) e h = rw (← e) (record { bytes = h.ok; cause = h.cause })
-puts_all (Err f) e h = rw (← e) (record { bytes = h.err; cause = h.cause })
+puts_all r e h = grind (arith, common_steps)
 
 module _ (ps : List Piece) where
   -- the line of the pieces from a place on

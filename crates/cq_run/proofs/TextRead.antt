@@ -1,7 +1,7 @@
 -- What is told of a text, as the trace or the log of an audit or the state of a stopped run, from what was read under
 -- its name: its bytes, where they are not too many. The name that was asked for is the one that is to be read, or a
 -- copy of it.
-use Rattle.cq_run.proofs.Terms.{rules, ◌≡◌, ◌<◌, ◌≤◌, ◌⊎◌, ℕ, IsTrue, List, length, inl, inr, arith, codes, false, Option, Some, IfSome, Result, Ok, Err, IsErrOf, Vec, nat_le, le-ltb, lt-ltb, get, Global, Contents, bytes_of, Refusal, Missing, Configuration, IsRefused, IsToRead, meaning_of, short_in, tables_in, first, read_or_refused, common_steps, ◌∙◌, sym, slice_index, Captured, PcapRefusal, IsFaulty, Spells, Space, Halts, AnyName, Pace, Uncounted, Reader, halt_for, capture_in, file_in, Lacks, ReadRefusal, spelt_or_faulty, fault_is_read, spelt_is_read, is_fault}
+use Rattle.cq_run.proofs.Terms.{rules, ◌≡◌, ◌<◌, ◌≤◌, ◌⊎◌, ℕ, IsTrue, List, length, inl, inr, arith, codes, false, Option, Some, IfSome, Ok, Err, IsErrOf, Vec, nat_le, le-ltb, lt-ltb, get, Global, Contents, bytes_of, Refusal, Missing, Configuration, IsRefused, IsToRead, meaning_of, short_in, tables_in, first, read_or_refused, common_steps, ◌∙◌, sym, slice_index, Captured, PcapRefusal, IsFaulty, Spells, Space, Halts, AnyName, Pace, Uncounted, Reader, halt_for, capture_in, file_in, Lacks, ReadRefusal, spelt_or_faulty, fault_is_read, spelt_is_read, is_fault}
 use Rattle.cq_run.specs.declared.refusal.CaptureFault.TheVariants.{Read}
 use Rattle.cq_space.specs.declared.whole.ReadRefusal.TheVariants as whole
 use Rattle.cq_run.proofs.Stays.{get-remove_same}
@@ -28,12 +28,9 @@ module _ (long : Refusal) (limit : ℕ) (name : List ℕ) where
 
 -- ## What was accepted
 
-same_text : (a b : List ℕ) → ◌≡◌ {A = Result (List ℕ) Refusal} (Ok a) (Ok b) → a ≡ b
-same_text a b h = let same : a ≡ b = cc h in same
-
 pub text_stands : (long : Refusal) (limit : ℕ) (name : List ℕ) (m : Contents) (bytes : List ℕ) →
     short_in long limit name m ≡ Ok bytes → get m name ≡ Some bytes
-text_stands long limit name m bytes h = search (arith, rules, same_text)
+text_stands long limit name m bytes h = search (arith, rules)
 
 -- a name that is missing was read with no fault
 pub missing_is_no_fault : (r : ReadRefusal) (P : Type 0) → r ≡ whole.Missing →

@@ -17,12 +17,8 @@ tested b o command e = grind (arith, common_steps)
 
 pub words_within : (words : List (List ℕ)) (command : Command) → command_for words ≡ Some command →
     IsWithinRange command
-words_within [] command e = absurd (let P : ⊥ = cc in P)
-words_within (word ∷ []) command e = grind (arith, common_steps)
-words_within (word ∷ a ∷ []) command e = grind (arith, common_steps)
-words_within (word ∷ a ∷ b ∷ []) command e = grind (arith, common_steps)
 words_within (word ∷ a ∷ b ∷ c ∷ []) command e = three_within word a b c command (tested _ _ command e)
-words_within (word ∷ a ∷ b ∷ c ∷ d ∷ more) command e = grind (arith, common_steps)
+words_within words command e = grind (arith, common_steps)
 
 -- ## The words `stream CONFIG` are judged as `run CONFIG`, ahead
 

@@ -11,13 +11,7 @@ returns-in_err-bytes-clause-judges g c = λ r. rw (exit_is _ c.from_residual.ens
 pub returns-in-Ok-clause-judges : goal.returns-in-Ok-clause-judges
 returns-in-Ok-clause-judges g c = λ r.
     let file = c.in_ok-bytes.ensures.judges in
-    record {
-      ok = capture_is r _ _ _ _ _ _ file.ok (rw c.into_vec.ensures at c.in-Ok.ensures.spelt);
-      halt = tt;
-      closed = file.closed;
-      told = file.told;
-      uncounted = file.uncounted;
-    }
+    let ok = capture_is r _ _ _ _ _ _ file.ok (rw c.into_vec.ensures at c.in-Ok.ensures.spelt) in search (arith, rules)
 
 pub returns-in-Err-clause-judges : goal.returns-in-Err-clause-judges
 returns-in-Err-clause-judges g c = λ r.

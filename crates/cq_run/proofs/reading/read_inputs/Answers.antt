@@ -1,4 +1,4 @@
-use Rattle.cq_run.proofs.Terms.{rules, ◌∙◌, ap, arith, sym, length, List, length-append, Captured}
+use Rattle.cq_run.proofs.Terms.{rules, arith, sym, length-append}
 use Rattle.cq_run.proofs.Chain.{fails_after}
 use Rattle.cq_run.proofs.TextRead.{from_front}
 use Rattle.cq_run.proofs.Ports.{ends_all, reads_more, reads_all, reads_none}
@@ -9,14 +9,12 @@ pub ports-init : goal.ports-init
 ports-init g c = search (arith, rules, reads_none, g.F.Files.space, g.met.F.Files.lasts_unbegun.none)
 
 pub ports-preserved : goal.ports-preserved
-ports-preserved g c =
-    record {
-      judged = λ r. reads_more r _ _ _ _ c.ports-test.true c.index-rows-input.is c.in_ok-put_capture.ensures
-          (c.ports.invariant.judged r) (c.in_ok-capture.ensures.judges r);
-      each = ap (λ (cs : List (List Captured)). length cs) c.in_ok-put_capture.ensures
-          ∙ length-append c.ports.captures.items _ ∙ omega (arith, c.ports.invariant.each);
-      kept = g.met.F.Files.lasts_unbegun.both _ _ _ c.ports.invariant.kept c.read_port.ensures.kept;
-    }
+ports-preserved g c = record {
+  judged = λ r. reads_more r _ _ _ _ c.ports-test.true c.index-rows-input.is c.in_ok-put_capture.ensures
+      (c.ports.invariant.judged r) (c.in_ok-capture.ensures.judges r);
+  each = search (arith, rules, length-append);
+  kept = g.met.F.Files.lasts_unbegun.both _ _ _ c.ports.invariant.kept c.read_port.ensures.kept;
+}
 
 pub returns-in_err-capture-clause-judges : goal.returns-in_err-capture-clause-judges
 returns-in_err-capture-clause-judges g c = λ r. rw (exit_is _ c.from_residual.ensures.1, sym c.as_slice-rows.ensures)

@@ -1,4 +1,4 @@
-use Rattle.cq_run.proofs.Terms.{map, string_bytes, Option, Some, Command, Run, Ahead, world}
+use Rattle.cq_run.proofs.Terms.{map, string_bytes, Option, Some, Command, Run, Ahead}
 use Rattle.cq_run.proofs.Ends.{causes_at, emulated_at, halted_so, only_words, words_end}
 use Rattle.cq_run.proofs.TextRead.{from_front}
 use Rattle.cq_run.proofs.Within.{others, streams}
@@ -8,44 +8,28 @@ use Rattle.cq_run.proofs.stream.stream_top.Goals as goal
 pub returns-in-None : goal.returns-in-None
 returns-in-None g c =
     let e = others c.streamed.result (λ t. t.now) (map string_bytes c.args.words.now) c.streamed.ensures.streamed
-    c.in-None.is in
-    let all = c.switch_top.ensures in
-    record {
-      answer = rw (e.0, e.1) all.answer;
-      causes = rw (e.0, e.1) all.causes;
-      headline = rw (e.0) all.headline;
-      no_command = rw (e.0) all.no_command;
-      words_only = rw (e.0) all.words_only;
-      unbegun = all.unbegun;
-      closed = all.closed;
-    }
+    c.in-None.is in rw (e.0, e.1) c.switch_top.ensures
 
 -- `stream CONFIG`: the end is that of the command `run CONFIG`, at the pace that reads ahead
 pub returns-in-Some : goal.returns-in-Some
 returns-in-Some g c =
     let e = streams c.streamed.result (λ t. t.now) (map string_bytes c.args.words.now) c.streamed.ensures.streamed
     c.in-Some.config c.in-Some.is in
-    let whole = world g.F.Files.space g.O.Sink.taken g.O.Sink.faults in
-    let old = whole c.args.files.now c.args.out.now in
-    let new = whole c.stream-end.new.files c.stream-end.new.out in
     let runs = c.in-Some.ensures.runs in
+    let ends = c.stream-end.ensures.ends in
     let is = c.answer.ensures.status in
     let command : Option Command = Some (Run c.in-Some.config.now) in
     record {
       answer = rw (e.0, e.1) (λ r. record {
         end = c.stream-end.result;
-        ends = rw runs (c.stream-end.ensures.ends r);
+        ends = rw runs (ends r);
         status = is;
         tells = c.answer.ensures.tells;
       });
-      causes = rw (e.0, e.1) (λ r. causes_at Ahead r _ _ _ command old new c.stream-end.result is
-          (c.stream-end.ensures.ends r) runs);
-      headline = rw (e.0, runs) (λ r. emulated_at Ahead r _ _ _ command old new c.stream-end.result is
-          (c.stream-end.ensures.ends r));
-      no_command = rw (e.0, runs) (words_end Ahead from_front _ _ _ command old new c.stream-end.result is
-          (c.stream-end.ensures.ends from_front));
-      words_only = rw (e.0, runs) (only_words Ahead from_front _ _ _ command old new c.stream-end.result is
-          (c.stream-end.ensures.ends from_front));
+      causes = rw (e.0, e.1) (λ r. causes_at Ahead r _ _ _ command _ _ _ is (ends r) runs);
+      headline = rw (e.0, runs) (λ r. emulated_at Ahead r _ _ _ command _ _ _ is (ends r));
+      no_command = rw (e.0, runs) (words_end Ahead from_front _ _ _ command _ _ _ is (ends from_front));
+      words_only = rw (e.0, runs) (only_words Ahead from_front _ _ _ command _ _ _ is (ends from_front));
       unbegun = halted_so _ is c.stream-end.ensures.unbegun;
       closed = c.stream-end.ensures.closed;
     }

@@ -1,4 +1,4 @@
-use Rattle.cq_run.proofs.Terms.{arith, rules, ap, recursion_from_All, Scheduled}
+use Rattle.cq_run.proofs.Terms.{arith, rules, recursion_from_All}
 use Rattle.cq_run.proofs.Audits.{both_passed, log_denied, ranks_fit, run_refused, trace_denied}
 use Rattle.cq_run.proofs.Told.{exit_is}
 use Rattle.cq_run.proofs.switching.audit_over.Goals as goal
@@ -11,15 +11,12 @@ audit_log-requires c = search (arith, rules, recursion_from_All, ranks_fit, c.in
 -- ## A run that is refused
 
 pub returns-in_err-text-clause-halted : goal.returns-in_err-text-clause-halted
-returns-in_err-text-clause-halted c = λ captures is. rw (exit_is _ c.from_residual.ensures.1)
-    (run_refused _ captures _ _ _ (ap (λ (s : Scheduled). s.came) is) _ c.in_err-text.ensures.refused)
+returns-in_err-text-clause-halted c = λ captures is. search (arith, rules, exit_is, run_refused)
 
 -- ## The log, and then the trace
 
 pub returns-in_err-audit_log-clause-halted : goal.returns-in_err-audit_log-clause-halted
-returns-in_err-audit_log-clause-halted c = λ captures is. rw (exit_is _ c.from_residual-in_err-audit_log.ensures.1)
-    (log_denied _ captures _ _ _ (ap (λ (s : Scheduled). s.came) is) _ c.in_ok-text.ensures.text.1 _
-    (rw c.as_slice.ensures at c.in_err-audit_log.ensures.no))
+returns-in_err-audit_log-clause-halted c = λ captures is. search (arith, rules, exit_is, log_denied)
 
 pub returns-clause-halted : goal.returns-clause-halted
 returns-clause-halted c = λ captures is. search (arith, rules, trace_denied)

@@ -8,5 +8,4 @@ returns-clause-crossed g c = search (arith, rules, is_crossed)
 pub returns-clause-reportable : goal.returns-clause-reportable
 returns-clause-reportable g c =
     let kept = c.in_ok-run.ensures.run in
-    rw kept.figures (once_each_slot c.args.tables.now c.in_ok-schedule.schedule.came kept.records
-    kept.is_run)
+    rw kept.figures (once_each_slot _ _ kept.records kept.is_run)

@@ -1,23 +1,19 @@
-use Rattle.cq_run.proofs.Terms.{arith, rules, refl, map, string_bytes, command_for, InTurn, world}
+use Rattle.cq_run.proofs.Terms.{arith, rules, refl, map, string_bytes, command_for, InTurn}
 use Rattle.cq_run.proofs.Ends.{causes_at, emulated_at, halted_so, only_words, words_end}
 use Rattle.cq_run.proofs.TextRead.{from_front}
 use Rattle.cq_run.proofs.top.switch_top.Goals as goal
 
 pub returns : goal.returns
 returns g c =
-    let whole = world g.F.Files.space g.O.Sink.taken g.O.Sink.faults in
-    let old = whole c.args.files.now c.args.out.now in
-    let new = whole c.run-end.new.files c.run-end.new.out in
     let command = command_for (map string_bytes c.args.words.now) in
+    let ends = c.run-end.ensures.ends in
     let is = c.answer.ensures.status in
     record {
-      answer = search (arith, rules, c.run-end.ensures.ends);
-      causes = λ r. causes_at _ r _ _ _ _ _ _ _ is (c.run-end.ensures.ends r) refl;
-      headline = λ r. emulated_at InTurn r _ _ _ command old new c.run-end.result is (c.run-end.ensures.ends r);
-      no_command = words_end InTurn from_front _ _ _ command old new c.run-end.result is
-          (c.run-end.ensures.ends from_front);
-      words_only = only_words InTurn from_front _ _ _ command old new c.run-end.result is
-          (c.run-end.ensures.ends from_front);
+      answer = search (arith, rules, ends);
+      causes = λ r. causes_at _ r _ _ _ _ _ _ _ is (ends r) refl;
+      headline = λ r. emulated_at InTurn r _ _ _ command _ _ _ is (ends r);
+      no_command = words_end InTurn from_front _ _ _ command _ _ _ is (ends from_front);
+      words_only = only_words InTurn from_front _ _ _ command _ _ _ is (ends from_front);
       unbegun = halted_so _ is c.run-end.ensures.unbegun;
       closed = c.run-end.ensures.closed;
     }
