@@ -60,16 +60,11 @@ same_wrong : (lists : List (List Queued)) (xs ys : List Transfer) (i : ℕ) →
 same_wrong lists xs ys i same wrong = search (arith, rules, same)
 
 module _ (t : Transfer) (rest : List Transfer) where
-  lesser_before : (front : List Transfer) → RiseByInput (front ++ t ∷ rest) →
-      AllByRecursion (λ u. u.input < t.input) front
-  lesser_before [] rise = tt
-  lesser_before (u ∷ front) rise =
-      ((all_back (λ v. u.input < v.input) front (t ∷ rest) rise.0).0, lesser_before front rise.1)
-
-  greater_behind : (front : List Transfer) → RiseByInput (front ++ t ∷ rest) →
-      AllByRecursion (λ u. t.input < u.input) rest
-  greater_behind [] rise = rise.0
-  greater_behind (u ∷ front) rise = greater_behind front rise.1
+  both_sides : (front : List Transfer) → RiseByInput (front ++ t ∷ rest) →
+      AllByRecursion (λ u. u.input < t.input) front × AllByRecursion (λ u. t.input < u.input) rest
+  both_sides [] rise = (tt, rise.0)
+  both_sides (u ∷ front) rise = let others = both_sides front rise.1 in
+      (((all_back (λ v. u.input < v.input) front (t ∷ rest) rise.0).0, others.0), others.1)
 
 module _ (front : List Transfer) (t : Transfer) (lesser : AllByRecursion (λ u. u.input < t.input) front) where
   -- an input that has a line among those before is lesser
@@ -91,17 +86,17 @@ module _ (front : List Transfer) (t : Transfer) (lesser : AllByRecursion (λ u. 
 
 module _ (lists : List (List Queued)) (lines front rest : List Transfer) (t : Transfer) (m : Partners)
     (parts : lines ≡ front ++ t ∷ rest) (rise : RiseByInput lines) (had : ToldBy lists front m) where
-  rises : RiseByInput (front ++ t ∷ rest)
-  rises = rw parts at rise
+  sides : AllByRecursion (λ u. u.input < t.input) front × AllByRecursion (λ u. t.input < u.input) rest
+  sides = both_sides t rest front (rw parts at rise)
 
   less : AllByRecursion (λ u. u.input < t.input) front
-  less = lesser_before t rest front rises
+  less = sides.0
 
   -- it is wrong
   pub wrong_line : (first_id t.output (list_of lists t.input) ≢ Some t.id)
       ⊎ ((k : ℕ) × (partner_of m k ≡ Some t.output)) → IsFirstWrong lists lines t.input
   wrong_line why =
-      let same = lesser_line front t less rest (greater_behind t rest front rises) in
+      let same = lesser_line front t less rest sides.1 in
       let own = own_line front t less rest in
       let before = told_before front t less in
       rw parts (record {

@@ -12,8 +12,7 @@ returns-then-not-is_right-clause-wrong c = wrong_at _ _ _ _ _ _ c.lines-test.tru
     c.lines.invariant c.index-lists-line.is (search rules)
 
 pub join-requires : goal.join-requires
-join-requires c = can_join _ _ _ _ _ _ c.lines-test.true c.requires.lines c.requires.rise c.lines.invariant
-    c.index-lists-line.is (search rules)
+join-requires c = search (arith, rules, can_join)
 
 pub lines-preserved : goal.lines-preserved
 lines-preserved c = rw c.join.ensures (right_at _ _ _ _ _ _ c.lines-test.true c.requires.lines c.requires.rise
