@@ -37,8 +37,7 @@ module _ (o : Orders) (m : Partners) (i : ℕ) where
     -- all that are ahead were looked at
     pub at_end : (found : Option ℕ) → LeastUntil n found → length xs ≤ n →
         IfSome found (λ j. (l : ℕ) → IsBlocking o m i l → j ≤ l) × IfNone found ((l : ℕ) → IsBlocking o m i l → ⊥)
-    at_end None had all = (tt, λ l blocks. grind (arith, common_steps, all_ahead, is_ahead, had.least))
-    at_end (Some j) had all = (λ l blocks. grind (arith, common_steps, all_ahead, is_ahead, had.least), tt)
+    at_end found had all = grind (arith, common_steps, all_ahead, is_ahead, had.least)
 
     -- the output at place n
     module _ (offers : AreOffers o) (inside : n < length xs) where

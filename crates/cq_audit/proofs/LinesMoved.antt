@@ -50,9 +50,7 @@ module _ (lists : List (List Queued)) (lines : List Transfer) where
     -- the line of an input names its first cell for an output, so there is one
     pub names_first : (i : ℕ) (t : Transfer) → line_of_input i lines ≡ Some t →
         first_id t.output (list_of lists i) ≡ Some t.id
-    names_first i t stands =
-        ⊎_elim (λ same. same) (λ other. absurd (right i (record { line = t; stands = stands; wrong = inl other })))
-        (same_id (first_id t.output (list_of lists i)) t.id)
+    names_first i t stands = grind (arith, common_steps, same_id (first_id t.output (list_of lists i)) t.id, right i)
 
     has_cell : (i : ℕ) (t : Transfer) → line_of_input i lines ≡ Some t → HasCellFor (list_of lists i) t.output
     has_cell i t stands = grind (arith, common_steps, some_of, names_first i t stands)
@@ -97,10 +95,8 @@ lines_by_input f [] a zero same rise all = refl
 lines_by_input f (t ∷ lines) a zero same rise all = absurd (grind arith)
 lines_by_input f [] a (suc n) same rise all = grind (arith, common_steps, lines_by_input f [] (a + 1) n)
 lines_by_input f (t ∷ lines) a (suc n) same rise all = ⊎_elim (λ (at : t.input ≡ a).
-    let rest = lines_by_input f lines (a + 1) n (λ i low high. same i (omega arith) (omega arith)
-    ∙ line_later i t lines (λ is. let P : ⊥ = omega arith in P)) rise.1
-    (later_between a n t.input lines (omega arith) rise.0 all.1) in
-    grind (arith, common_steps))
+    let next = later_between a n t.input lines (omega arith) rise.0 all.1 in
+    grind (arith, common_steps, line_later, lines_by_input f lines (a + 1) n))
     (λ (other : t.input ≢ a).
     search (arith, rules, all_weaker, later_between, no_line, lines_by_input f (t ∷ lines) (a + 1) n))
     (cases_eq t.input a)

@@ -24,10 +24,7 @@ same_goes_on (c ∷ a) b parted goes_on e = parted c a a refl (sym e)
 -- texts that both begin with f, and behind it have no byte in common, while one of them goes on
 found_at : {a b : List ℕ} (f x y : List ℕ) → a ≡ f ++ x → b ≡ f ++ y → Parted x y → ((x ≡ []) × (y ≡ []) → ⊥) →
     (n : ℕ) × DiffersFirst a b n
-found_at f x y e h parted on =
-    let found : DiffersFirst _ _ (feeds f + 1) =
-    record { front = f; left = x; right = y; left_is = e; right_is = h; parted = parted; goes_on = on; number = refl }
-    in (feeds f + 1, found)
+found_at f x y e h parted on = (feeds f + 1, search (arith, rules))
 
 -- and so where a byte stands ahead of both
 behind_byte : (c d : ℕ) (a b : List ℕ) → c ≡ d → (n : ℕ) × DiffersFirst a b n →
@@ -37,10 +34,9 @@ behind_byte c d a b same (n, found) = found_at (c ∷ found.front) found.left fo
 
 some_line : (a b : List ℕ) → a ≢ b → (n : ℕ) × DiffersFirst a b n
 some_line [] [] apart = absurd (apart refl)
-some_line [] (d ∷ b) apart = found_at [] [] (d ∷ b) refl refl (search rules) (search rules)
-some_line (c ∷ a) [] apart = found_at [] (c ∷ a) [] refl refl (search rules) (search rules)
 some_line (c ∷ a) (d ∷ b) apart =
     search (arith, rules, behind_byte c d a b, found_at [] (c ∷ a) (d ∷ b) refl refl, cases_eq c d, some_line a b)
+some_line a b apart = found_at [] a b refl refl (search rules) (search rules)
 
 pub trace_is_exact : IsTraceExact
 trace_is_exact = grind (arith, common_steps, same_goes_on, append_cancel_left, same_front, some_line)

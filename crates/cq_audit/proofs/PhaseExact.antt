@@ -63,8 +63,7 @@ module _ (lists : List (List Queued)) (slot phase : ℕ) (lines : List Transfer)
   -- an input that has a partner has a cell for it, and so a line
   output_noted : (i : ℕ) (p : Option ℕ) → ((j : ℕ) → p ≡ Some j → HasCellFor (list_of lists i) j) →
       p ≡ option_map (λ (t : Transfer). t.output) (noted slot phase i (list_of lists i) p)
-  output_noted i None offered = refl
-  output_noted i (Some j) offered = let cell = offered j refl in grind (arith, common_steps)
+  output_noted i p offered = grind (arith, common_steps)
 
   partner_told : (i : ℕ) → i < length m → partner_of m i ≡ output_told lines i
   unfolding note

@@ -4,26 +4,22 @@ use Rattle.cq_audit.proofs.blocking.least_blocking.Goals as goal
 use Rattle.cq_audit.proofs.blocking.least_blocking.Goals.{then-is_none_or+then-not-has_better_input, else-is_none_or, else-is_none_or-via-then-is_none_or+else-not-has_better_input, else-is_none_or-via-else-is_none_or}
 
 pub has_better_input-requires-clause-output : goal.has_better_input-requires-clause-output
-has_better_input-requires-clause-output c = in_range _ _ _ _ c.preferred-output-items.ensures _ c.requires.offers
-    c.outputs-test.true c.requires.ports
+has_better_input-requires-clause-output c = search (arith, rules, in_range)
 
 pub has_better_input-requires-clause-offered : goal.has_better_input-requires-clause-offered
-has_better_input-requires-clause-offered c =
-    is_offered _ _ _ _ c.preferred-output-items.ensures _ c.requires.offers c.outputs-test.true
+has_better_input-requires-clause-offered c = search (arith, rules, is_offered)
 
 pub outputs-preserved : goal.outputs-preserved
 outputs-preserved c =
     let test = c.is_none_or.ensures in
+    let kept_on = kept _ _ _ _ c.preferred-output-items.ensures _ c.requires.offers c.outputs-test.true
+    c.outputs.invariant in
     elim c.if-is_none_or.branch [
-      | then-is_none_or+then-not-has_better_input w ↦ rw w.least-is
-          (taken _ _ _ _ c.preferred-output-items.ensures _ c.requires.offers c.outputs-test.true c.outputs.invariant
-          (search (arith, rules)) (search (arith, rules)))
-      | else-is_none_or w ↦ rw w.least-is
-          (kept _ _ _ _ c.preferred-output-items.ensures _ c.requires.offers c.outputs-test.true c.outputs.invariant
-          (elim w.else-is_none_or.branch [
-            | else-is_none_or-via-then-is_none_or+else-not-has_better_input v ↦ inl (search (arith, rules))
-            | else-is_none_or-via-else-is_none_or v ↦ inr (search (arith, rules))
-          ]))
+      | then-is_none_or+then-not-has_better_input w ↦ rw w.least-is (search (arith, rules, taken))
+      | else-is_none_or w ↦ rw w.least-is (kept_on (elim w.else-is_none_or.branch [
+        | else-is_none_or-via-then-is_none_or+else-not-has_better_input v ↦ inl (search (arith, rules))
+        | else-is_none_or-via-else-is_none_or v ↦ inr (search (arith, rules))
+      ]))
     ]
 
 pub returns-clause-least : goal.returns-clause-least
