@@ -106,11 +106,8 @@ module _ (ports slot phase : ℕ) where
       AllByRecursion (IsTransferBefore t) rest → AreParted ports slot phase rest lines behind →
       AreParted ports slot phase (t ∷ rest) (t ∷ lines) behind
   at_front t rest lines behind here of later had =
-      let both = and_parts _ _ here in
-      let own_slot = eqb-true t.slot slot both.0 in
-      let own_phase = eqb-true t.phase phase both.1 in
       let front = all_front (IsTransferBefore t) lines behind (rw had.whole at later) in
-      search (arith, rules, all_give)
+      search (arith, rules, all_give, and_parts, eqb-true)
 
   -- a line behind this phase has only lines behind it behind it
   all_behind : (t : Transfer) (rest : List Transfer) → (slot < t.slot) ⊎ ((slot ≡ t.slot) × (phase < t.phase)) →

@@ -46,9 +46,7 @@ module _ (ms : List Machine) where
       let first = one_move r.first s.first r.slot 1 r.arrived s.arrived r.filled s.filled arrive.1 x.first_chosen
       y.first_chosen (cc) x.fill y.fill in
       let depart = one_departure ms r.gone s.gone r.filled s.filled r.sent s.sent first.1 x.depart y.depart in
-      let second = one_move r.second s.second r.slot 2 r.sent s.sent g h depart.1 x.second_chosen y.second_chosen
-      (cc) x.finish y.finish in
-      search (rules, same_record)
+      search (rules, same_record, one_move r.second s.second r.slot 2 r.sent s.sent g h depart.1)
 
 pub slot_at : (MayChoose : Orders → Partners → Type 0) (ms : List Machine) (slot : ℕ) (cells : List (Option Cell))
     (f g : Fabric)
@@ -96,6 +94,5 @@ module _ (limits : List (Option ℕ)) (ms : List Machine) where
       let parts = one_parting (slot + 1) (transfers_in r.of_slot) _ (transfers_in s.of_slot) _
       (all_weaker _ _ (λ t at. omega arith) _ here) (run_later (slot + 1) traffic x.0 g rs x.2)
       (all_weaker _ _ (λ t at. omega arith) _ there) (run_later (slot + 1) traffic y.0 h ss y.2) moved in
-      let one = one_limited_slot slot cells f x.0 y.0 r s x.1 y.1 parts.0 in
-      search (arith, rules, one_stable_run (slot + 1) traffic x.0 g h rs ss x.2 (rw (← one.1) at y.2) parts.1)
+      search (arith, rules, one_limited_slot slot cells f x.0 y.0 r s, one_stable_run (slot + 1) traffic x.0 g h rs ss)
   one_stable_run slot traffic f g h rs ss x y moved = absurd y

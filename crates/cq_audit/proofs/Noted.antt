@@ -110,8 +110,7 @@ module _ (ports : ℕ) where
       ComesTellable ports cells → FabricSlot IsStable ms slot cells old r new → AllListed ports old → Through r new
   through_slot ms slot cells old new r come step all =
       let arrived = after_arrivals ms slot cells r.came old r.arrived come step.arrive all in
-      let filled = after_transfers r.first r.arrived r.filled step.fill arrived in
-      search (arith, rules, after_transfers r.second r.sent new step.finish)
+      search (arith, rules, after_transfers r.second r.sent new, after_transfers r.first r.arrived r.filled)
 
   -- what is admitted comes
   admitted_tellable : (limits : List (Option ℕ)) (cells : List (Option Cell)) (old : Marked Fabric) →
@@ -165,8 +164,8 @@ module _ (ports classes : ℕ) (came : List Arrival) (traffic : IsTraffic ports 
       (rs : List LimitedRecord) → ports ≤ most_ports → length rs ≤ 2 ^ 64 → ((i : ℕ) → input start.state i ≡ []) →
       LimitedFabricRun IsStable limits ms 0 (arriving_from came 0 n) start rs end →
       AreWritten ports (transfers_of_run (slots_in rs))
-  written_in_run limits ms n start end rs few long empty run = run_written limits ms ports few 0
-      (arriving_from came 0 n) start end rs (omega arith) (slots_tellable 0 n) (λ i. rw (empty i) tt) run
+  written_in_run limits ms n start end rs few long empty run =
+      run_written limits ms ports few 0 _ start end rs (omega arith) (slots_tellable 0 n) (λ i. rw (empty i) tt) run
 
   -- and where it is whole they are those of a log
   pub stable_log : (limits : List (Option ℕ)) (ms : List Machine) (start end : Marked Fabric)

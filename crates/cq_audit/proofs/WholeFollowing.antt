@@ -5,7 +5,7 @@
 -- the run. So of two faults of phases neither stands before the other, for a run that goes on past a phase has made
 -- the transfers of a stable matching there, as its lines say. For the same reason no fault stands within a whole run
 -- that moves what the lines say, and none behind it, for the run is over there. And two such runs are one.
-use Rattle.cq_audit.proofs.Terms.{common_steps, rules, ◌≡◌, ℕ, ◌+◌, ◌<◌, ◌≤◌, List, [], ◌∷◌, ◌++◌, length, take, drop, Option, refl, sym, arith, append_assoc, ◌-◌, AllByRecursion, cases_lt, take-append-drop, take-take, Arrival, end_of, Transfer, Marked, arriving_from, first_slots, arriving_length, Machine, IsStable, Fabric, IsEmptyFabric, LimitedFabricRun, LimitedFabricSlot, LimitedRecord, slots_in, transfers_of_run, AfterBy, reach, run_of_whole, Reaches, StableRun, before_slot, all_weaker, suc, ◌⊎◌, inl, inr, ap, ◌∙◌, ⊎_elim, cases_order, Partners, one_arrival, one_departure, IsNoOf, phase_refusal, IsStableTold, in_phase, Begins, BeginsFirst, IsFaultAt, IsLeftAt, IsOfStableRun, PhaseFault, AuditRefusal, Left}
+use Rattle.cq_audit.proofs.Terms.{common_steps, rules, ◌≡◌, ℕ, ◌+◌, ◌<◌, ◌≤◌, List, [], ◌∷◌, ◌++◌, length, take, drop, Option, refl, sym, arith, append_assoc, ◌-◌, AllByRecursion, cases_lt, take-append-drop, take-take, Arrival, end_of, Transfer, Marked, arriving_from, first_slots, arriving_length, Machine, IsStable, Fabric, IsEmptyFabric, LimitedFabricRun, LimitedFabricSlot, LimitedRecord, slots_in, transfers_of_run, AfterBy, reach, run_of_whole, Reaches, StableRun, before_slot, all_weaker, suc, ◌⊎◌, inl, inr, ⊎_elim, cases_order, Partners, one_arrival, one_departure, IsNoOf, phase_refusal, IsStableTold, in_phase, Begins, BeginsFirst, IsFaultAt, IsLeftAt, IsOfStableRun, PhaseFault, AuditRefusal, Left}
 use Rattle.cq_audit.proofs.BySlot.{before_all, before_is, before_later, phase_before, phase_later, phase_now}
 use Rattle.cq_audit.proofs.Following.{each_moved, one_move, one_stable_run, run_later, run_within}
 use Rattle.cq_audit.proofs.PhaseExact.{phase_is_exact}
@@ -65,10 +65,7 @@ module _ (limits : List (Option ℕ)) (ms : List Machine) (came : List Arrival) 
           let r = reach (LimitedFabricSlot IsStable limits ms) came start rs m n end le run in
           let parts = moved_parts (take m rs) (drop m rs) in
           let whole = take-append-drop m rs in
-          let earlier = all_before m start r.state (take m rs) r.after in
-          let later = run_later limits ms m (arriving_from came m (n - m)) r.state end (drop m rs) r.rest in
-          let first = before_is m (moved (take m rs)) (moved (drop m rs)) earlier later in
-          let same = before_later m n note le in search (arith, rules)
+          let same = before_later m n note le in search (arith, rules, all_before, run_later, before_is)
 
       pub reaches : (m n : ℕ) (rs : List LimitedRecord) (end : Marked Fabric) (h : Halfway m n rs end) →
           Going m rs → Reaches limits ms came start note m h.state
@@ -88,8 +85,7 @@ module _ (limits : List (Option ℕ)) (ms : List Machine) (came : List Arrival) 
           let run = whole_run a.records a.end a.runs in
           let other = whole_run b.records b.end b.runs in
           let h = halfway n (length b.records) b.records b.end (omega arith) other b.told in
-          let going = whole_going n b.records b.end lt b.runs n h.state (omega arith) h.after a.runs.all_came in
-          search (arith, rules, one_stable_run, going)
+          search (arith, rules, one_stable_run, whole_going n b.records b.end lt b.runs)
 
       pub one_length : (a b : IsFollowed) → length a.records ≡ length b.records
       one_length a b = grind (arith, common_steps, not_longer, cases_lt)
@@ -130,8 +126,7 @@ module _ (limits : List (Option ℕ)) (ms : List Machine) (came : List Arrival) 
 
       -- where the second phase begins the first is
       first_of : (slot phase : ℕ) (f : Fabric) → Begun slot phase f → phase ≡ 2 → IsSettled slot 1
-      first_of slot phase f (inl a) is = absurd (omega arith)
-      first_of slot phase f (inr b) is = search (arith, rules)
+      first_of slot phase f begun is = grind (arith, common_steps)
 
       none_passed : (slot phase : ℕ) (fault : PhaseFault) → IsSettled slot 2 → FaultAt slot phase fault → ⊥
       none_passed slot phase fault s f =
@@ -139,11 +134,10 @@ module _ (limits : List (Option ℕ)) (ms : List Machine) (came : List Arrival) 
 
       -- in one slot there is one
       one_phase : (slot p q : ℕ) (a b : PhaseFault) → FaultAt slot p a → FaultAt slot q b → p ≡ q
-      one_phase slot p q a b x y = ⊎_elim (λ first. ⊎_elim (λ same. first.0 ∙ sym same.0)
-          (λ other. absurd (none_settled slot p a (rw first.0 (first_of slot q y.fabric y.begins other.0)) x)) y.begins)
-          (λ second. ⊎_elim
-          (λ other. absurd (none_settled slot q b (rw other.0 (first_of slot p x.fabric x.begins second.0)) y))
-          (λ same. second.0 ∙ sym same.0) y.begins) x.begins
+      one_phase slot p q a b x y =
+          let of_x = first_of slot p x.fabric x.begins in
+          let of_y = first_of slot q y.fabric y.begins in
+          grind (arith, common_steps, none_settled slot p a, none_settled slot q b, of_x, of_y)
 
       -- ## A run that goes on past a slot
 
@@ -163,9 +157,7 @@ module _ (limits : List (Option ℕ)) (ms : List Machine) (came : List Arrival) 
           let h = halfway slot n rs end (omega arith) run told in
           let left : n - slot ≡ suc (n - slot - 1) = omega arith in
           let earlier = all_before slot start h.state (take slot rs) h.after in
-          next_settled slot (n - slot - 1) h.state (drop slot rs) end (reaches slot n rs end h going)
-          (λ phase. sym (phase_later slot phase (moved (take slot rs)) (moved (drop slot rs)) earlier)
-          ∙ ap (in_phase slot phase) (sym h.parted) ∙ phase_before slot phase n note lt) (rw left at h.rest)
+          search (arith, rules, next_settled slot (n - slot - 1), reaches slot n rs end h, phase_later, phase_before)
 
       -- ## Two faults
 
@@ -175,8 +167,7 @@ module _ (limits : List (Option ℕ)) (ms : List Machine) (came : List Arrival) 
       reached_at slot phase fault f = grind (arith, common_steps)
 
       none_later : (s t p q : ℕ) (a b : PhaseFault) → FaultAt s p a → FaultAt t q b → s < t → ⊥
-      none_later s t p q a b x y lt = let r = reached_at t q b y in
-          none_passed s p a (passed s t r.1.records r.0 lt r.1.runs r.1.moved (grind (arith, common_steps))) x
+      none_later s t p q a b x y lt = grind (arith, common_steps, reached_at t q b y, none_passed s p a, passed s t)
 
       one_fault_at : (s t p q : ℕ) (a b : PhaseFault) → FaultAt s p a → FaultAt t q b → (s ≡ t) × (p ≡ q) × (a ≡ b)
       one_fault_at s t p q a b x y = ⊎_elim (λ same.
@@ -210,8 +201,7 @@ module _ (limits : List (Option ℕ)) (ms : List Machine) (came : List Arrival) 
       none_left : (n : ℕ) → IsOfStableRun limits ms came start note → IsLeftAt limits ms came start note n → ⊥
       unfolding followed_left followed_whole
       none_left n is l =
-          let long = one_length (followed_whole is) (followed_left n l) in
-          let told = (followed_whole is).told in grind (arith, common_steps)
+          grind (arith, common_steps, one_length (followed_whole is) (followed_left n l), (followed_whole is).told)
 
       one_left : (m n : ℕ) → IsLeftAt limits ms came start note m → IsLeftAt limits ms came start note n → m ≡ n
       unfolding followed_left
