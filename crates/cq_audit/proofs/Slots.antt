@@ -223,10 +223,8 @@ module _ {n : ℕ} {q : Queues} {l : LimiterView} (new : AreNew n q l) (ranks : 
   pub in_step_first : {ms : List Machine} → AreForOneSwitch ms → length ms ≡ n → length ranks.states ≡ n →
       IsInStep ms 0 (shown ranks q l)
   in_step_first one ports long =
-      let none : List Queued = [] in
-      let many = length-replicate n none in
       let held = (holds_first n ranks.states q l new.inputs new.buffers new.limits new.held).held in
-      search (arith, rules, first_fabric, empty_agree n ranks.states)
+      search (arith, rules, first_fabric, empty_agree n ranks.states, length-replicate)
 
 -- ## After slots in which nothing happens
 

@@ -70,13 +70,12 @@ module _ (limits : List (Option ℕ)) (ms : List Machine) (came : List Arrival) 
             whole_limited_run limits ms came (empty_limited ports ranks) ≡ Err fault
         fault_there fault is =
             let start = empty_limited ports ranks in
-            let long = arriving_length came 0 slot in
-            let at : slot ≡ 0 + length (first_slots came slot) = omega arith in
+            let at : slot ≡ 0 + length (first_slots came slot) = omega (arith, arriving_length came 0 slot) in
             let here = (same_limited_fault limits ms slot (arriving came slot) f beside.after fault agree_now).1 is in
-            let first = first_more came slot in
             let parts = limited_parts limits ms 0 slot (first_slots came slot) (arriving came slot ∷ []) start at in
             let stops = run_fault limits ms slot (arriving came slot) [] beside.after fault here in
-            limited_whole_fault limits ms ports ranks came (slot + 1) fault (rw (first, parts, beside.ran, stops))
+            limited_whole_fault limits ms ports ranks came (slot + 1) fault
+            (cc (first_more came slot, parts, beside.ran, stops))
 
         -- the ranks of what is admitted in the next slot fit
         pub ranks_fit : IsOk (whole_limited_run limits ms came (empty_limited ports ranks)) →
@@ -224,12 +223,11 @@ module _ {M : List ℕ → Machine} {came : List Arrival} {lines : List Transfer
         let more_moved = moved_more b.records had.of_slot in
         let joined = all_go_on (LimitedFabricSlot IsStable first.limits (map M first.fixed))
         (IsLimitedFault first.limits (map M first.fixed)) in
-        let before = none_next (ports_in now) slot left had.in_order had.behind in
-        let made = made_on b.made had.made in
         let long = arriving_length came 0 slot in
         let in_step = rw (← had.made.fixed) at had.in_step in
         let in_order = rw (← had.made.fixed) at had.in_order in
-        search (arith, rules, first_more, joined, take-append-le, not_over, append_assoc, length-append)
+        let made = made_on b.made had.made in
+        search (arith, rules, first_more, joined, take-append-le, not_over, append_assoc, length-append, none_next)
 
     -- ## A fault
 

@@ -29,9 +29,7 @@ logged c as_many = search (arith, rules)
 pub returns-in_err-lines-clause-no : goal.returns-in_err-lines-clause-no
 returns-in_err-lines-clause-no c =
     let at = goal.at.returns-in_err-lines-clause-no c in
-    let p = err_from_is_err_and c.from_residual-in_err-lines.result c.from_residual-in_err-lines.ensures.1 in
-    let many = counted at.After-len-ports ∙ ranked at.In_ok-ranks in
-    let cause = rw many at c.in_err-lines.ensures.cause in rw (p.1, p.2) (search (arith, rules))
+    let many = counted at.After-len-ports ∙ ranked at.In_ok-ranks in search (arith, rules, err_from_is_err_and)
 
 pub new-requires-2-clause-machines : goal.new-requires-2-clause-machines
 new-requires-2-clause-machines c = search (arith, rules, c.in_ok-ranks.ensures.one_switch)
@@ -41,8 +39,7 @@ new-requires-2-clause-limits c = cc (ranked (goal.at.new-requires-2-clause-limit
 
 pub new-requires-2-clause-ports : goal.new-requires-2-clause-ports
 new-requires-2-clause-ports c =
-    let many = ranked (goal.at.new-requires-2-clause-ports c).In_ok-ranks in
-    let ports = c.requires.ports in omega arith
+    let many = ranked (goal.at.new-requires-2-clause-ports c).In_ok-ranks in omega (arith, c.requires.ports)
 
 pub replay_run-requires : goal.replay_run-requires
 replay_run-requires c =

@@ -27,9 +27,7 @@ slot-requires g c =
 
 pub returns-in-Err : goal.returns-in-Err
 returns-in-Err g c =
-    let at = (goal.at.returns-in-Err g c).After-skip-slot in
-    rw c.of_slot.ensures (at_fault (there g at) (more g at) _ _ (c.arrivals-arrivals.ensures ∙ c.arrive.ensures)
-    c.in-Err.ensures.fault)
+    let at = (goal.at.returns-in-Err g c).After-skip-slot in search (arith, rules, at_fault (there g at) (more g at))
 
 pub slots-smaller : goal.slots-smaller
 slots-smaller g c =
@@ -38,21 +36,15 @@ slots-smaller g c =
 
 pub slots-preserved : goal.slots-preserved
 slots-preserved g c =
-    let at = (goal.at.slots-preserved g c).After-skip-slot in
-    at_next (there g at) (more g at) _ _ _ _
-    (c.arrivals-arrivals.ensures ∙ c.arrive.ensures) c.in-Ok.ensures.slot
+    let at = (goal.at.slots-preserved g c).After-skip-slot in search (arith, rules, at_next (there g at) (more g at))
 
 pub overflow_add-slot : goal.overflow_add-slot
 overflow_add-slot g c =
     let at = (goal.at.overflow_add-slot g c).After-skip-slot in
-    let can = can_replay (there g at) (more g at) c.requires _
-    (c.arrivals-arrivals.ensures ∙ c.arrive.ensures) c.clear.ensures.items in
-    let early = can.early in omega arith
+    let can = can_replay (there g at) (more g at) c.requires in search (arith, rules, can)
 
 pub left_over-requires : goal.left_over-requires
 left_over-requires g c = rest_is_short c.slots.invariant
 
 pub returns : goal.returns
-returns g c =
-    let over = c.is_over.ensures.0 c.slots-test.false in
-    at_end c.slots.invariant over.0 over.1 c.left_over.result c.left_over.ensures.none c.left_over.ensures.some
+returns g c = let over = c.is_over.ensures.0 c.slots-test.false in search (arith, rules, at_end)

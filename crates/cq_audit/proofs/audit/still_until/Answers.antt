@@ -1,4 +1,3 @@
-use Rattle.cq_audit.proofs.Terms.{ℕ, sym, subst, IsStillUntil}
 use Rattle.cq_audit.proofs.Skips.{until_arrival, until_here, until_line}
 use Rattle.cq_audit.proofs.audit.still_until.Goals as goal
 
@@ -7,9 +6,8 @@ returns-in-Some c = until_here c.args.schedule.now.came c.args.slot c.args.lines
     c.requires.none_before c.in-Some.ensures.value c.if-line-slot.true
 
 pub returns-in-Some-2 : goal.returns-in-Some-2
-returns-in-Some-2 c = subst (λ (n : ℕ). IsStillUntil c.args.schedule.now.came c.args.lines.now c.args.slot n)
-    (sym c.min.ensures) (until_line c.quiet_until.ensures c.args.lines.now c.in-Some.line.now c.requires.none_before
-    c.requires.least c.in-Some.ensures.value)
+returns-in-Some-2 c = rw c.min.ensures (until_line c.quiet_until.ensures _ _ c.requires.none_before c.requires.least
+    c.in-Some.ensures.value)
 
 pub returns-in-None : goal.returns-in-None
 returns-in-None c = until_arrival c.quiet_until-in-None.ensures c.args.lines.now c.in-None.ensures.value

@@ -1,4 +1,4 @@
-use Rattle.cq_audit.proofs.Terms.{arith, lit≤, sym, ◌∙◌, numbers_behind, one_ending}
+use Rattle.cq_audit.proofs.Terms.{rules, arith, sym, ◌∙◌, numbers_behind, one_ending}
 use Rattle.cq_audit.proofs.LogLines.{begins_with_slot, line_of_parts, parts_of_line}
 use Rattle.cq_audit.proofs.transfer.take_transfer.Goals as goal
 
@@ -8,8 +8,7 @@ returns-in_err-slot-clause-none c = rw c.from_residual.ensures (λ t more is e.
 
 pub returns-in_err-count-clause-none : goal.returns-in_err-count-clause-none
 returns-in_err-count-clause-none c = rw c.from_residual-in_err-count.ensures (λ t more is e.
-    c.in_err-count.ensures.none (numbers_behind t) more (omega arith) (lit≤ tt)
-    (parts_of_line _ _ more _ t c.in_ok-slot.ensures.found e).1)
+    search (arith, rules, parts_of_line, c.in_err-count.ensures.none (numbers_behind t) more))
 
 pub returns-in_err-transfer-clause-none : goal.returns-in_err-transfer-clause-none
 returns-in_err-transfer-clause-none c = rw c.from_residual-in_err-transfer.ensures (λ t more is e.
