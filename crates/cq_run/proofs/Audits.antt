@@ -104,8 +104,7 @@ module _ (t : Tables) (captures : List (List Captured)) (rs : List LimitedRecord
 
       -- the last two stand there
       stand_last : (get left t.trace ≡ Some (trace_of sent)) × (get left t.log ≡ Some (log_of note))
-      stand_last = last_two outputs m left t.trace (trace_of sent) t.log (log_of note)
-          (trace_or_log t (apart_in config m t configured)) written
+      stand_last = last_two outputs m left t.trace _ t.log _ (trace_or_log t (apart_in config m t configured)) written
 
       trace_left : text_in why.LongTrace t.trace left ≡ Ok (trace_of sent)
       trace_left = search (arith, rules, text_is, all_back, stand_last)

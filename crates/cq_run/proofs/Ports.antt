@@ -2,7 +2,7 @@
 -- the rest, is reading them all, and what ends one of these ends the whole. Where files are read ahead, reading leaves
 -- contents as they are, so the first capture is judged as if nothing had come between. Where it ends the whole, the
 -- later inputs say nothing but what the count of faults may show.
-use Rattle.cq_run.proofs.Terms.{rules, ◌≡◌, ◌<◌, ◌≤◌, ◌∙◌, ℕ, ◌+◌, List, [], ◌∷◌, ◌++◌, length, take, drop, get_or, refl, arith, length-take-le, Result, Ok, Err, Option, None, Some, IfSome, IfOk, IfErr, MatchOption, common_steps, take_all, take_more, Contents, Space, Closed, Captured, PortRow, Refusal, Halt, Judges, Halts, InTurn, Ahead, AnyName, Uncounted, Reader, ◌>>=◌, packets_at, captures_from, Spells, Call, Fails, Lasts, Reads, NoMemory}
+use Rattle.cq_run.proofs.Terms.{rules, ◌≡◌, ◌<◌, ◌≤◌, ℕ, ◌+◌, List, [], ◌∷◌, ◌++◌, length, take, drop, get_or, refl, arith, length-take-le, Result, Ok, Err, Option, None, Some, IfSome, IfOk, IfErr, MatchOption, common_steps, take_all, take_more, Contents, Space, Closed, Captured, PortRow, Refusal, Halt, Judges, Halts, InTurn, Ahead, AnyName, Uncounted, Reader, ◌>>=◌, packets_at, captures_from, Spells, Call, Fails, Lasts, Reads, NoMemory}
 use Rattle.cq_run.proofs.Stays.{captures_from_stay, packets_stay}
 use Rattle.cq_run.proofs.Chain.{judges_then, judges_after, judges_any, judges_both, judges_computed, judges_as, counts_of, halts_at, name_after, fails_after}
 use Rattle.cq_run.specs.declared.decoding.Decoding.{Decoding}
@@ -142,25 +142,16 @@ module _ {S : Type 0} (space : S → Space) {keeps : S → S → Type 0} {row : 
     -- the first capture ends it, whatever the later ones came to
     capture_ends : {halt : Halt} {later : Result (List (List Captured)) Halt} →
         MatchOption begun ⊥ (λ d. IsHaltFor input (source d) halt) → Later later → Whole (Err halt)
-    capture_ends {halt} {later} h g = first_ends r limit input row rows (record {
-      ok = tt;
-      halt = halted r input limit Ever (space old) (space new) halt row.read begun b.decoding h
-          (name_after Ahead Since Ever (space old).faults (space mid).faults (space new).faults ever b.uncounted
-          (counts_of (captures_from r limit (input + 1) rows) Since (space mid) (space new) later g));
-      closed = g.closed;
-      told = g.told ∙ told;
-      uncounted = tt;
-    })
+    capture_ends {halt} {later} h g =
+        let here = halted r input limit Ever (space old) (space new) halt row.read begun b.decoding h
+        (name_after Ahead Since Ever (space old).faults (space mid).faults (space new).faults ever b.uncounted
+        (counts_of (captures_from r limit (input + 1) rows) Since (space mid) (space new) later g)) in
+        first_ends r limit input row rows (search (arith, rules))
 
     module _ (packets : List Captured) (h : MatchOption begun (packets ≡ []) (λ d. Spells (source d) packets)) where
       first : Judges Ahead (packets_at r input limit row.read) Ever (space old) (space mid) (Ok packets)
-      first = record {
-        ok = arrived r input limit (space old).told packets row.read begun b.decoding h;
-        halt = tt;
-        closed = closed;
-        told = told;
-        uncounted = b.uncounted;
-      }
+      first =
+          let ok = arrived r input limit (space old).told packets row.read begun b.decoding h in search (arith, rules)
 
       -- the first capture is sound, and a later one ends it
       later_ends : {halt : Halt} → Later (Err halt) → Whole (Err halt)

@@ -108,22 +108,16 @@ module _ {S : Type 0} {space : S → Space} {keeps : S → S → Type 0} {comman
 pub given_so : {S : Type 0} {space : S → Space} {keeps : S → S → Type 0} {config : List ℕ} {old now : S} {given : Given}
     (asked : Asked) → IsGiven space keeps config old now given →
     Reached space keeps (command_asking config asked) old now (λ r. rest_of asked r given.tables given.captures)
-given_so {space = space} {config = config} {old = old} {given = given} asked is = record {
-  knows = asks_known config asked;
-  comes = λ r.
-      let told = (space old).told in
-      let t = given.tables in
-      let whole = judged r (command_asking config asked) in
-      let P : (Contents → Result Aim Refusal) → Type 0 = λ j. IfSome told (ComesTo whole j) in
-      goes_on whole (captures_in r t) (rest_of asked r t) told given.captures
-      (captures_from_stay r t.limit_bytes 0 t.ports) (is.captures r)
-      (goes_on whole (tables_in config) _ told t
-      (tables_stay config) is.tables (subst P (asks config asked r) (comes_to_itself whole told)));
-  kept = is.kept;
-  closed = is.closed;
-  told = is.told;
-  uncounted = is.uncounted;
-}
+given_so {space = space} {config = config} {old = old} {given = given} asked is =
+    let told = (space old).told in
+    let t = given.tables in
+    let comes = λ (r : Reader).
+    let whole = judged r (command_asking config asked) in
+    let P : (Contents → Result Aim Refusal) → Type 0 = λ j. IfSome told (ComesTo whole j) in
+    goes_on whole (captures_in r t) (rest_of asked r t) told given.captures
+    (captures_from_stay r t.limit_bytes 0 t.ports) (is.captures r) (goes_on whole (tables_in config) _ told t
+    (tables_stay config) is.tables (subst P (asks config asked r) (comes_to_itself whole told))) in
+    search (arith, rules, comes, asks_known)
 
 module _ {S : Type 0} {space : S → Space} {may_fail : Call → S → S → Type 0} {keeps : S → S → Type 0}
     {command : Command} {p : Pace} {old new : S} where
@@ -161,15 +155,9 @@ module _ {S : Type 0} {space : S → Space} {may_fail : Call → S → S → Typ
       IfOk result (λ plan. AllByRecursion (λ write. MayWrite command write.0) plan.writes) →
       ((r : Reader) → IfOk result (λ plan. IfSome (space old).told (λ m. Emulates r command m plan))) →
       IsJudged space may_fail keeps p command old new result
-  settled reached (Ok plan) (aim, e, meets) names emulates = record {
-    judges = λ r. known command reached.knows p r _ (space old) (space new) (Ok plan)
-        (aim, meets, aims reached p r _ aim e);
-    kept = reached.kept;
-    names = names;
-    emulates = emulates;
-    closed = reached.closed;
-    told = reached.told;
-  }
+  settled reached (Ok plan) (aim, e, meets) names emulates =
+      let judges = λ (r : Reader). known command reached.knows p r (Failed space may_fail keeps command old new)
+      (space old) (space new) (Ok plan) (aim, meets, aims reached p r _ aim e) in search (arith, rules, judges)
   settled reached (Err (Refused refusal)) (untold, inl e) names emulates =
       halted reached.knows (λ r. judges_back (λ name u. u) (reached.comes r) reached.told reached.uncounted
       (judges_computed_err reached.closed (e, untold))) reached.kept

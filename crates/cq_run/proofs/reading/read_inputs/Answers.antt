@@ -1,4 +1,4 @@
-use Rattle.cq_run.proofs.Terms.{rules, arith, sym, length-append}
+use Rattle.cq_run.proofs.Terms.{Reader, rules, arith, sym, length-append}
 use Rattle.cq_run.proofs.Chain.{fails_after}
 use Rattle.cq_run.proofs.TextRead.{from_front}
 use Rattle.cq_run.proofs.Ports.{ends_all, reads_more, reads_all, reads_none}
@@ -9,12 +9,10 @@ pub ports-init : goal.ports-init
 ports-init g c = search (arith, rules, reads_none, g.F.Files.space, g.met.F.Files.lasts_unbegun.none)
 
 pub ports-preserved : goal.ports-preserved
-ports-preserved g c = record {
-  judged = λ r. reads_more r _ _ _ _ c.ports-test.true c.index-rows-input.is c.in_ok-put_capture.ensures
-      (c.ports.invariant.judged r) (c.in_ok-capture.ensures.judges r);
-  each = search (arith, rules, length-append);
-  kept = g.met.F.Files.lasts_unbegun.both _ _ _ c.ports.invariant.kept c.read_port.ensures.kept;
-}
+ports-preserved g c =
+    let judged = λ (r : Reader). reads_more r _ _ _ _ c.ports-test.true c.index-rows-input.is
+    c.in_ok-put_capture.ensures (c.ports.invariant.judged r) (c.in_ok-capture.ensures.judges r) in
+    search (arith, rules, judged, length-append, g.met.F.Files.lasts_unbegun.both)
 
 pub returns-in_err-capture-clause-judges : goal.returns-in_err-capture-clause-judges
 returns-in_err-capture-clause-judges g c = λ r. rw (exit_is _ c.from_residual.ensures.1, sym c.as_slice-rows.ensures)

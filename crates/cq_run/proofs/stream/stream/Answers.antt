@@ -11,8 +11,4 @@ pub returns-in_err-name-clause-unbegun : goal.returns-in_err-name-clause-unbegun
 returns-in_err-name-clause-unbegun g c = halts_so _ (g.met.F.Files.lasts_unbegun.none _)
 
 pub returns : goal.returns
-returns g c = record {
-  ends = λ r. rw (sym c.in_ok-name.ensures) (c.conclude.ensures.ends _ _ _ r c.run_ahead-judged.ensures);
-  unbegun = c.conclude.ensures.unbegun _ c.run_ahead-judged.ensures.kept;
-  closed = c.conclude.ensures.closed;
-}
+returns g c = rw (sym c.in_ok-name.ensures) (search (arith, rules, c.conclude.ensures.ends, c.conclude.ensures.unbegun))

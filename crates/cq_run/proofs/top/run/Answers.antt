@@ -7,11 +7,7 @@ pub obey-requires-clause-range : goal.obey-requires-clause-range
 obey-requires-clause-range g c κs within = search (arith, rules, words_within, string_bytes)
 
 pub returns-in-Some : goal.returns-in-Some
-returns-in-Some g c = record {
-  ends = λ r. rw (sym c.in_ok-command.ensures.command ∙ c.in-Some.is) (c.obey.ensures.ends r);
-  unbegun = c.obey.ensures.unbegun;
-  closed = c.obey.ensures.closed;
-}
+returns-in-Some g c = rw (sym c.in_ok-command.ensures.command ∙ c.in-Some.is) c.obey.ensures
 
 pub returns-in_err-command-clause-unbegun : goal.returns-in_err-command-clause-unbegun
 returns-in_err-command-clause-unbegun g c = halts_so _ (g.met.F.Files.lasts_unbegun.none _)
