@@ -1,11 +1,11 @@
 -- The words of this crate's proofs that stand elsewhere, each passed on from its place.
-pub use Rattle.cq_base.proofs.Library.{AllByRecursion, AllPairs, Bool, Err, Global, IfErr, IfOk, IfSome, IsErr, IsErrAnd, IsErrOf, IsOk, IsOkAnd, IsTrue, List, MatchOption, None, Ok, Option, Result, Some, Vec, [], add-one, and_from, ap, append-nil, append_assoc, append_known, arith, bytes_eq-Decides, cases_eq, codes, common_steps, cond, cond-true, drop, drop_all, drop_more, eq-eqb, eq_by_cmp_equiv, exact_bytes, false, filter, filter-append, find, flat_map, get, get-insert, get-remove, get_or, if◌then◌else◌, inl, inr, is_some, le-ltb, leb-true, length, length-append, length-drop, length-take-le, list_any, lt-ltb, map, nat_le, nat_list_cmp_total, nat_lt, ne_eqb, nil_from_length, not, not_from_false, option_map, option_map_or, range_with_len, recursion_from_All, refl, replicate, rules, slice_index, slice_index_or, string_bytes, subst, suc, sym, take, take-append-add, take-append-drop, take_all, take_at, take_more, tells_apart, true, vec_len, zero, ℕ, ⊎_elim, ◌&&◌, ◌*◌, ◌++◌, ◌+◌, ◌-◌, ◌<◌, ◌==◌, ◌^◌, ◌∙◌, ◌∷◌, ◌≡◌, ◌≢◌, ◌≤◌, ◌⊎◌}
-pub use Rattle.cq_base.specs.Arriving.{Arrival, arriving, arriving_at, end_of, is_at, traffic_of}
+pub use Rattle.cq_base.proofs.Library.{AllByRecursion, AllPairs, Bool, Err, Global, IfErr, IfOk, IfSome, IsErr, IsErrAnd, IsErrOf, IsOk, IsOkAnd, IsTrue, List, MatchOption, None, Ok, Option, Result, Some, Vec, [], and_from, ap, append-nil, append_assoc, append_known, arith, bytes_eq-Decides, cases_eq, codes, common_steps, cond, cond-true, drop, drop_all, drop_more, eq-eqb, eq_by_cmp_equiv, exact_bytes, false, filter, filter-append, flat_map, get, get-insert, get-remove, get_or, inl, inr, is_some, le-ltb, leb-true, length, length-append, length-drop, length-take-le, list_any, lt-ltb, map, nat_le, nat_list_cmp_total, ne_eqb, nil_from_length, not, not_from_false, option_map, range_with_len, recursion_from_All, refl, replicate, rules, slice_index, string_bytes, subst, suc, sym, take, take-append-add, take-append-drop, take_all, take_at, take_more, tells_apart, true, vec_len, zero, ℕ, ⊎_elim, ◌&&◌, ◌*◌, ◌++◌, ◌+◌, ◌-◌, ◌<◌, ◌==◌, ◌^◌, ◌∙◌, ◌∷◌, ◌≡◌, ◌≢◌, ◌≤◌, ◌⊎◌}
+pub use Rattle.cq_base.specs.Arriving.{Arrival, arriving, arriving_at, end_of, traffic_of}
 unfoldable pub use Rattle.cq_base.specs.Arriving.{enough}
 pub use Rattle.cq_base.specs.{declared.cell.Departure.Departure, declared.cell.TagFault.TagFault, declared.cell.Transfer.Transfer}
 pub use Rattle.cq_space.specs.{Call.Call, Causes.Rose}
 pub use Rattle.cq_space.specs.Failing.{Fails, Lasts, Reads, Writes}
-pub use Rattle.cq_space.specs.Space.{Closed, Contents, Lacks, Mode, Space, bytes_of, replaced}
+pub use Rattle.cq_space.specs.Space.{Closed, Contents, Lacks, Mode, Space, bytes_of}
 pub use Rattle.cq_pcap.specs.Captured.{Captured}
 pub use Rattle.cq_pcap.specs.{Faults.IsFaulty, Faults.fault_of, declared.read.PcapRefusal.PcapRefusal}
 unfoldable pub use Rattle.cq_route.specs.Plain.{plain_tables}
@@ -13,7 +13,7 @@ pub use Rattle.cq_route.specs.Tables.{AreTables, classes_of, ports_of}
 pub use Rattle.cq_route.specs.{declared.tables.PortRow.PortRow, declared.tables.Tables.Tables}
 pub use Rattle.cq_tables.specs.Check.{at, unless}
 unfoldable pub use Rattle.cq_tables.specs.Check.{first}
-pub use Rattle.cq_tables.specs.Document.{Named, apart_from, checks_in, clash, file_check, files_in, files_of, names_of, read_at, read_of, tables_of, top_of, written_at}
+pub use Rattle.cq_tables.specs.Document.{Named, apart_from, checks_in, clash, file_check, files_in, files_of, names_of, read_at, tables_of, top_of, written_at}
 unfoldable pub use Rattle.cq_tables.specs.Document.{read_or_refused}
 pub use Rattle.cq_cells.proofs.Rising.{short_is, traffic_is}
 pub use Rattle.cq_cells.specs.Schedule.{arrivals_of, t0_of, packet_at, packets_of, start}
@@ -29,13 +29,12 @@ pub use Rattle.cq_ideal.specs.LimitedIdeal.{LimitedRan, empty_limited, unlimited
 pub use Rattle.cq_laws.specs.LimitedFabric.{LimitedRecord, slots_in}
 pub use Rattle.cq_laws.proofs.InputBest.{stable_limited_whole}
 pub use Rattle.cq_simulate.proofs.FabricLaws.{always_slack, as_many_slots, best_in_each, once_each_slot, sends_as_ideal, slot_by_slot}
-pub use Rattle.cq_simulate.specs.FabricRuns.{AlwaysHasSlack, AreInputBest, IsFabricRun, IsKeptOf, departures_in_run, unpacked_run}
-pub use Rattle.cq_simulate.specs.IdealRuns.{IsRefusalOf, slots_ran}
+pub use Rattle.cq_simulate.specs.FabricRuns.{IsFabricRun, IsKeptOf, departures_in_run, unpacked_run}
 unfoldable pub use Rattle.cq_simulate.specs.IdealRuns.{ideal_departures, ran_ideal}
 pub use Rattle.cq_simulate.specs.Packets.{ArePacked, HaveLeftOf, ends_packet_at, leaving}
 unfoldable pub use Rattle.cq_simulate.specs.Packets.{packets_out}
 pub use Rattle.cq_simulate.specs.{declared.fabric_run.PackedFabricRun.PackedFabricRun, declared.refusal.RunRefusal.RunRefusal}
-pub use Rattle.cq_words.specs.Words.{command_for, form_of, most_slots, with_config, with_three, with_two}
+pub use Rattle.cq_words.specs.Words.{command_for, most_slots, with_three}
 pub use Rattle.cq_words.specs.declared.command.Command.{Command}
 pub use Rattle.cq_words.specs.declared.command.Command.TheVariants.{Audit, Check, Ideal, Part, Pass, Resume, Run, Soak}
 pub use Rattle.cq_run.specs.Aim.{Aim, Auditing, Crossing, Denies, Exactly, Meets, Parting, Reporting, Resuming}
@@ -47,21 +46,21 @@ pub use Rattle.cq_run.specs.Line.{Puts, TakesText}
 unfoldable pub use Rattle.cq_run.specs.Line.{line}
 pub use Rattle.cq_run.specs.Pace.{Ahead, AnyName, InTurn, Pace, Uncounted, pace_of}
 pub use Rattle.cq_run.specs.PartEnds.{IsPartHalt, IsResumeHalt, IsResumedBy, IsResuming, halt_for_state, halt_for_text, kept_by}
-pub use Rattle.cq_run.specs.Parting.{IsPartRefusal, IsPartText, IsResumeRefusal, IsResumedText}
+pub use Rattle.cq_run.specs.Parting.{IsPartText, IsResumedText}
 pub use Rattle.cq_run.specs.Passing.{all_leave, as_it_leaves, capture_of_all}
 pub use Rattle.cq_run.specs.Pieces.{joined, piece_text}
 pub use Rattle.cq_run.specs.Planning.{CommandHalts, Decides, IsDenial, IsWithinRange, known_by, known_to}
 pub use Rattle.cq_run.specs.Plan.{audited, capture_out, checked, passed, file_alone}
 unfoldable pub use Rattle.cq_run.specs.Plan.{captures_out, crossed, reported, resumed, switched}
-pub use Rattle.cq_run.specs.Refusals.{is_fault, is_no, meaning_of}
-pub use Rattle.cq_run.specs.Switching.{IsCrossed, IsCrossing, IsIdeal, IsPassing, IsSwitched, halt_for, halt_of, sent_by, under_names}
+pub use Rattle.cq_run.specs.Refusals.{is_fault, meaning_of}
+pub use Rattle.cq_run.specs.Switching.{IsCrossed, IsCrossing, IsIdeal, IsPassing, IsSwitched, halt_for, halt_of, under_names}
 pub use Rattle.cq_run.specs.Verdict.{MayRead, MayWrite, capture_in, captures_in, file_in, found_or_missing, ideally_sent, judged, judged_or_words, named, packets_at, read_or_faulty, read_or_refused_for, sent_or_tag, short_in, short_or, state_in, tables_in, text_in, ◌>>=◌}
 unfoldable pub use Rattle.cq_run.specs.Verdict.{captures_from}
-pub use Rattle.cq_run.specs.World.{IsUntouched, Taken, World, taken_by, world}
-pub use Rattle.cq_run.specs.{declared.denial.Denial.Denial, declared.refusal.CaptureFault.CaptureFault, declared.refusal.Refusal.Refusal, declared.stop.Halt.Halt, declared.switching.Crossed.Crossed, declared.switching.Switched.Switched}
+pub use Rattle.cq_run.specs.World.{IsUntouched, Taken, World, taken_by}
+pub use Rattle.cq_run.specs.{declared.denial.Denial.Denial, declared.refusal.Refusal.Refusal, declared.stop.Halt.Halt, declared.switching.Crossed.Crossed, declared.switching.Switched.Switched}
 pub use Rattle.cq_run.specs.declared.refusal.Refusal.TheVariants.{Audit as Audited, Capture, Configuration, Missing, State, Words}
 pub use Rattle.cq_run.specs.declared.stop.Halt.TheVariants.{NoMemory, Refused, Unread}
-pub use Rattle.cq_run.specs.Terms.{IsAuditHalted, IsAuditPassed, IsCut, IsCutAtFile, IsDone, IsJudged, Plan, Reader, SameReader, Spells, StatusCauses, all_replaced, decimal, log_of, report_with, soak_captures, soak_tables, taken, trace_of}
+pub use Rattle.cq_run.specs.Terms.{IsAuditHalted, IsAuditPassed, IsCut, IsCutAtFile, IsDone, IsJudged, Plan, Reader, SameReader, Spells, StatusCauses, all_replaced, log_of, report_with, soak_captures, soak_tables, taken, trace_of}
 pub use Rattle.cq_base.proofs.Each.{all_back, all_both, all_weaker}
 pub use Rattle.cq_base.specs.{declared.cell.Cell.Cell, declared.cell.Queued.Queued, declared.status.Status.Status}
 pub use Rattle.cq_space.proofs.Replaced.{get_same}
@@ -73,8 +72,8 @@ pub use Rattle.cq_base.proofs.Having.{has_left, has_right, pair_of_has}
 pub use Rattle.cq_tables.proofs.Versions.{first_parts}
 pub use Rattle.cq_tables.specs.{declared.place.Array.TheVariants.Ports, declared.place.Place.TheVariants.Element, declared.place.Place.TheVariants.Top, declared.refusal.Wrong.TheVariants.DuplicateFile}
 pub use Rattle.cq_cells.specs.{Scheduled.Scheduled, Scheduled.schedule_of}
-pub use Rattle.cq_rank.specs.{Machine.Machine, Machine.machine_at}
-pub use Rattle.cq_ideal.specs.{Admission.NoLimits, Ranking.Ranking, Ranking.after_input, Ranking.keyed, Ranking.ranking}
+pub use Rattle.cq_rank.specs.Machine.{Machine}
+pub use Rattle.cq_ideal.specs.{Admission.NoLimits, Ranking.after_input, Ranking.ranking}
 pub use Rattle.cq_ideal.proofs.{Ends.all_slots, FlowCount.before_end, FlowFound.arriving_is, Parted.first_slot, Resting.ranked_none}
 pub use Rattle.cq_audit.proofs.{AuditExact.audit_is_exact, Noted.stable_log, OneDifference.trace_is_exact}
 pub use Rattle.cq_audit.specs.{Audit.IsYes, Audit.opening_fabric, Audit.IsNo, Trace.DiffersFirst, declared.refusal.AuditRefusal.AuditRefusal}
