@@ -16,8 +16,7 @@ pub returns-in-None-clause-kept : goal.returns-in-None-clause-kept
 returns-in-None-clause-kept g t c = g.met.F.Files.lasts_unbegun.none _
 
 pub returns-in_ok-begun-in-Some-clause-kept : goal.returns-in_ok-begun-in-Some-clause-kept
-returns-in_ok-begun-in-Some-clause-kept g t c =
-    g.met.F.Files.lasts_unbegun.both _ _ _ c.begin_port.ensures.kept c.stream_from-later.ensures.kept
+returns-in_ok-begun-in-Some-clause-kept g t c = search (arith, rules, g.met.F.Files.lasts_unbegun.both)
 
 -- ## What the readers and the rows before come to
 

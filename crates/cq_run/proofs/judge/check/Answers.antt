@@ -21,8 +21,7 @@ module _ {S : Type 0} {space : S → Space} {keeps : S → S → Type 0} {config
       IfOk result (λ plan. plan ≡ checked tables) → IfErr result (λ halt. halt ≡ NoMemory) →
       IsJudged space may_fail keeps InTurn (Check config) old new result
   at_line kept {tables = tables} h (Ok plan) line memory =
-      let is : plan ≡ checked tables = line in
-      settled (at_plan kept h) (Ok plan) (Exactly (checked tables), refl, is) (rw is tt)
+      settled (at_plan kept h) (Ok plan) (Exactly (checked tables), refl, line) (rw line tt)
       (λ r. told_any (space old).told _ (λ m. tt))
   at_line kept h (Err halt) line memory = let is : halt ≡ NoMemory = memory in rw is (no_memory (at_plan kept h))
 

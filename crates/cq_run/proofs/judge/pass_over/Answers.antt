@@ -6,7 +6,7 @@ use Rattle.cq_run.proofs.judge.pass_over.Goals as goal
 
 pub pass_on-requires-clause-port : goal.pass_on-requires-clause-port
 unfolding plain_tables
-pass_on-requires-clause-port g c κs within = search (arith, rules)
+pass_on-requires-clause-port g c = search (arith, rules)
 
 pub returns-in_err-capture : goal.returns-in_err-capture
 returns-in_err-capture g c =

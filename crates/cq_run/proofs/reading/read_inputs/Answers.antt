@@ -39,12 +39,10 @@ returns-in_err-put_capture-clause-judges g c = λ r.
 -- ## No writing was begun
 
 pub returns-in_err-capture-clause-kept : goal.returns-in_err-capture-clause-kept
-returns-in_err-capture-clause-kept g c =
-    g.met.F.Files.lasts_unbegun.both _ _ _ c.ports.invariant.kept c.read_port.ensures.kept
+returns-in_err-capture-clause-kept g c = search (arith, rules, g.met.F.Files.lasts_unbegun.both)
 
 pub returns-in_err-put_capture-clause-kept : goal.returns-in_err-put_capture-clause-kept
-returns-in_err-put_capture-clause-kept g c =
-    g.met.F.Files.lasts_unbegun.both _ _ _ c.ports.invariant.kept c.read_port.ensures.kept
+returns-in_err-put_capture-clause-kept g c = search (arith, rules, g.met.F.Files.lasts_unbegun.both)
 
 pub returns-clause-kept : goal.returns-clause-kept
 returns-clause-kept g c = c.ports.invariant.kept
