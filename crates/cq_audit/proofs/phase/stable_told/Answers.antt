@@ -6,6 +6,5 @@ pub first_blocking-requires : goal.first_blocking-requires
 first_blocking-requires c = search (arith, rules, told_size, offers_long)
 
 pub returns-in-None-clause-stable : goal.returns-in-None-clause-stable
-returns-in-None-clause-stable c =
-    judged_stable c.args.lists.now c.args.lines.now c.args._slot c.args._phase c.in-Ok.pairs c.args.offers.now
-    c.requires.offers c.in-Ok.ensures.pairs c.in-Ok.ensures.right c.requires.lines c.in-None.ensures.none
+returns-in-None-clause-stable c = judged_stable _ _ _ _ _ _ c.requires.offers c.in-Ok.ensures.pairs
+    c.in-Ok.ensures.right c.requires.lines c.in-None.ensures.none
