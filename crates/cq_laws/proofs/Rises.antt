@@ -1,6 +1,6 @@
--- Partners of a matching, and the cells that they give: an output has an input whose partner it is, or none, and an
--- input has a cell for its partner. The first cell for an output is no less urgent than any other for it.
-use Rattle.cq_laws.proofs.Terms.{◌≡◌, ◌≢◌, ℕ, zero, suc, ◌⊎◌, List, [], ◌∷◌, Option, Some, None, inl, inr, ⊎_elim, arith, slice_get, cases_lt, cases_eq, eqb-true, eq-eqb, same_Some, Queued, Fabric, input, IsFabric, Transfers, IsBefore, KeepsOrder, is_for, first_for, each_pair_at, first_le, Orders, partner_of, HasCellFor, AreOrdersOf, rules, Partners, IsStable}
+-- Partners of a matching: an output has an input whose partner it is, or none. The first cell for an output in a list is
+-- no less urgent than any other for it.
+use Rattle.cq_laws.proofs.Terms.{◌≡◌, ◌≢◌, ℕ, zero, suc, ◌⊎◌, List, [], ◌∷◌, Option, Some, None, inl, inr, ⊎_elim, arith, slice_get, cases_lt, cases_eq, eqb-true, eq-eqb, same_Some, Queued, IsBefore, KeepsOrder, is_for, first_for, each_pair_at, first_le, partner_of, rules, Partners}
 use Rattle.cq_laws.proofs.Members.{first_at}
 
 pub is_partner : (x : Option ℕ) (j : ℕ) → (x ≡ Some j) ⊎ (x ≢ Some j)
@@ -18,9 +18,3 @@ pub first_least : (j : ℕ) (xs : List Queued) (s : ℕ) (c f : Queued) → Keep
     c.cell.output ≡ j → first_for j xs ≡ Some f → (f ≡ c) ⊎ IsBefore f c
 first_least j xs s c f order at out is =
     search (arith, rules, first_at (is_for j) xs f is, first_le, eq-eqb, each_pair_at, eqb-true, cases_lt, same_Some)
-
-module _ (old new : Fabric) (o : Orders) (m : Partners) (order : (i : ℕ) → KeepsOrder (input old i))
-    (fabric : IsFabric old) (are : AreOrdersOf old.inputs o) (stable : IsStable o m) (moves : Transfers m old new)
-  where
-    pub partner_offers : (i j : ℕ) → partner_of m i ≡ Some j → HasCellFor (input old i) j
-    partner_offers i j e = ((are.outputs i).offered j).0 (stable.matching.offered i j e)
