@@ -17,12 +17,6 @@ module _ (r : Reader) (config state : List ℕ) where
     same_under : (name : List ℕ) → state ≢ name → get left name ≡ get m name
     same_under name other = untouched ((state, is.stops.text) ∷ []) m left name written (other, tt)
 
-    configured_left : tables_in config left ≡ Ok is.stops.tables
-    configured_left = grind (arith, common_steps, tables_same, same_under)
-
-    captures_left : captures_in r is.stops.tables left ≡ Ok is.stops.captures
-    captures_left = grind (arith, common_steps, captures_same, all_weaker, same_under)
-
     is_left : IsLeftByPart r config state slots m left
     is_left =
         let is_written = written in
@@ -30,7 +24,10 @@ module _ (r : Reader) (config state : List ℕ) where
           early = is.early;
           plan = is.plan;
           stops = is.stops;
-          same = record { configured = configured_left; captured = captures_left };
+          same = record {
+            configured = grind (arith, common_steps, tables_same, same_under);
+            captured = grind (arith, common_steps, captures_same, all_weaker, same_under);
+          };
           told = search (arith, rules, get_same);
         }
 

@@ -2,7 +2,7 @@
 -- What goes on from there keeps what the run keeps, and comes to an end where the run does (`read_runs_go_on`); both
 -- write the same of it. A tag fault that is met from there is one of the whole run, and so that of the ideal switch,
 -- for which `run` is refused.
-use Rattle.cq_parts.proofs.Terms.{common_steps, arith, rules, ◌≡◌, ◌∙◌, ◌<◌, ◌^◌, ℕ, List, refl, ap, sym, subst, Ok, Err, IsOkAnd, Result, TagFault, Scheduled, schedule_of, LimitedRecord, Captured, IsScheduleOf, Switch, switch_of, Tables, Contents, Run, Aim, Denies, Meets, Resuming, Reader, captures_in, ideally_sent, judged, tables_in, sent_or_tag, IsRead, Kept, Taken, departures_in_run, read_runs_go_on, stopped_runs_are_read, GoesOnAsRun, IsReadAs, kept_in_run, traffic_is, AreGiven, IsEmulation, KeepsUp, IsPartText, Plan, Refusal}
+use Rattle.cq_parts.proofs.Terms.{common_steps, arith, rules, ◌≡◌, ◌<◌, ◌^◌, ℕ, List, refl, ap, sym, subst, Ok, Err, IsOkAnd, Result, Scheduled, schedule_of, LimitedRecord, Captured, IsScheduleOf, Switch, switch_of, Tables, Contents, Run, Aim, Denies, Meets, Resuming, Reader, captures_in, judged, tables_in, sent_or_tag, IsRead, Taken, departures_in_run, read_runs_go_on, stopped_runs_are_read, GoesOnAsRun, IsReadAs, kept_in_run, traffic_is, AreGiven, IsEmulation, KeepsUp, IsPartText, Plan, Refusal}
 use Rattle.cq_resume.specs.declared.refusal.StateRefusal.TheVariants as of_state
 use Rattle.cq_run.proofs.Crossed.{keeps_up}
 use Rattle.cq_run.specs.Plan.{crossed, resumed}
@@ -32,12 +32,6 @@ module _ (r : Reader) (config : List ℕ) (m : Contents) (t : Tables) (captures 
     ran : (whole : Plan) → IsEmulation r config m whole → Ran whole
     ran whole e = grind (arith, common_steps, same_plan)
 
-    -- ## What `run` is refused for
-
-    run_refused : (fault : TagFault) → ideally_sent t captures ≡ Err (refused.Tag fault) →
-        judged r (Run config) m ≡ Err (refused.Tag fault)
-    run_refused fault faulty = grind (arith, common_steps)
-
     -- ## What was left
 
     module _ (slots : ℕ) (early : slots < 2 ^ 63) (text : List ℕ) (part : IsPartText t captures slots text) where
@@ -52,8 +46,8 @@ module _ (r : Reader) (config : List ℕ) (m : Contents) (t : Tables) (captures 
 
       -- the text is read as what was left
       read_as : IsReadAs w text part.at
-      read_as = subst (λ (bytes : List ℕ). IsReadAs w bytes part.at) (sym part.told)
-          (stopped_runs_are_read t s slots part.at made given.tables given.recorded early part.parted)
+      read_as =
+          rw part.told (stopped_runs_are_read t s slots part.at made given.tables given.recorded early part.parted)
 
       -- and what is read of it goes on as the run
       goes : (x : Taken) → IsRead w text x → GoesOnAsRun t s x
@@ -71,22 +65,21 @@ module _ (r : Reader) (config : List ℕ) (m : Contents) (t : Tables) (captures 
       only : (whole plan : Plan) → IsEmulation r config m whole → Meets aim plan → plan ≡ whole
       only whole plan e (kept, is, written) =
           let it = ran whole e in
-          let same : kept ≡ kept_in_run t it.records =
-          (goes is.from is.read).run it.records kept it.keeps_up.runs is.resumed in
-          written ∙ ap (λ (k : Kept). resumed t captures k) same ∙ sym it.written
+          cc ((goes is.from is.read).run it.records kept it.keeps_up.runs is.resumed)
 
       -- the run that goes on from there is one that keeps up
       writes : (plan : Plan) → Meets aim plan → IsEmulation r config m plan
       writes plan (kept, is, written) =
           let it = (goes is.from is.read).ends kept is.resumed in
           let up = keeps_up t captures it.0 given (traffic_is t captures given.tables given.each) it.1 in
-          let same = written ∙ ap (λ (k : Kept). resumed t captures k) it.2 ∙ sym (same_plan t captures it.0) in
-          search (rules, configured, captured)
+          search (rules, configured, captured, same_plan)
 
       -- the text itself is refused for nothing
       denied : (refusal : Refusal) → Denies aim refusal → judged r (Run config) m ≡ Err refusal
-      denied (refused.Tag fault) is = run_refused fault (ap sent_or_tag (whole_fault t captures fault given.tables
-          given.each ((goes is.from is.read).whole_fault fault is.stops)))
+      denied (refused.Tag fault) is =
+          let on = (goes is.from is.read).whole_fault fault is.stops in
+          let faulty = ap sent_or_tag (whole_fault t captures fault given.tables given.each on) in
+          grind (arith, common_steps)
       denied (refused.State (stopped.Line n)) is = cc (read_as.never_refused (of_state.Text n) is)
       denied (refused.State stopped.Shape) is = cc (read_as.never_refused of_state.Shape is)
       denied (refused.State (stopped.Unsound clause)) is = cc (read_as.never_refused (of_state.Unsound clause) is)
