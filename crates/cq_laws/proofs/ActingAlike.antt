@@ -1,15 +1,11 @@
 -- Both switches act alike, with limits and without: with stable matchings, and so with input-best ones. From empty
 -- states on they refuse as much at each output, since their admissions are the same.
-use Rattle.cq_laws.proofs.Terms.{common_steps, arith, rules, ◌≡◌, ℕ, List, Option, Result, Ok, AllByRecursion, Cell, TagFault, Machine, Marked, AreForPorts, IsInputBest, IsStable, ActAlikeFromEmptyWithoutLimits, ActAlikeWithoutLimits, Fabric, LimitedFabricRun, LimitedRecord, empty_limited_fabric, LimitedRan, empty_limited, ActAlike, ActAlikeFromEmpty, LimitedRunsAlike}
-use Rattle.cq_laws.proofs.InputBest.{stable_too, stable_limited_slot, stable_limited_run, stable_limited_stop}
+use Rattle.cq_laws.proofs.Terms.{arith, rules, ℕ, List, Option, AllByRecursion, Cell, Machine, Marked, AreForPorts, IsInputBest, IsStable, ActAlikeFromEmptyWithoutLimits, ActAlikeWithoutLimits, Fabric, LimitedFabricRun, LimitedRecord, empty_limited_fabric, empty_limited, ActAlike, ActAlikeFromEmpty, LimitedRunsAlike}
+use Rattle.cq_laws.proofs.InputBest.{stable_too, stable_limited_too}
 use Rattle.cq_laws.proofs.LimitedSlots.{same_limited_slot, same_limited_fault}
 use Rattle.cq_laws.proofs.LimitedWhole.{begin, same_limited_run, same_limited_stop}
 use Rattle.cq_laws.proofs.OneSlot.{same_slot, same_fault}
 use Rattle.cq_laws.proofs.WholeRuns.{empty_agree, same_run, same_stop, traffic_for_empty}
-
-same_admissions : (a b : LimitedRan) (x : Result LimitedRan TagFault) → x ≡ Ok a → x ≡ Ok b →
-    a.admissions ≡ b.admissions
-same_admissions a b x e f = grind (arith, common_steps)
 
 module _ (limits : List (Option ℕ)) (ms : List Machine) where
   pub stable_act_alike : ActAlike IsStable limits ms
@@ -22,7 +18,8 @@ module _ (limits : List (Option ℕ)) (ms : List Machine) where
       }
 
   pub best_act_alike : ActAlike IsInputBest limits ms
-  best_act_alike = search (rules, stable_act_alike, stable_limited_slot, stable_limited_run, stable_limited_stop)
+  best_act_alike =
+      let also = stable_limited_too ms limits in search (rules, stable_act_alike, also.slot, also.run, also.stop)
 
   runs_from_empty : (ports class_count : ℕ) (ranks : List (List ℕ)) (traffic : List (List (Option Cell)))
       (rs : List LimitedRecord) (g : Marked Fabric) → AllByRecursion (AreForPorts ports class_count) traffic →
@@ -39,7 +36,7 @@ module _ (limits : List (Option ℕ)) (ms : List Machine) where
         stop = λ ports class_count ranks traffic rs fault come run.
             let start = begin limits ms class_count ports ranks traffic come in
             best_act_alike.stop 0 class_count traffic _ _ rs fault start.agrees start.come run;
-        refused = search (arith, rules, runs_from_empty, same_admissions);
+        refused = search (arith, rules, runs_from_empty);
       }
 
 -- ## Without limits
@@ -54,12 +51,10 @@ module _ (ms : List Machine) where
 
   pub best_alike_from_empty_without_limits : ActAlikeFromEmptyWithoutLimits IsInputBest ms
   best_alike_from_empty_without_limits =
-      let also = stable_too ms in
+      let alike = best_alike_without_limits in
       record {
-        run = λ ports class_count ranks traffic rs g come run. same_run ms class_count 0 traffic _ g _ rs
-            (empty_agree ports ranks) (traffic_for_empty ports ranks class_count traffic come)
-            (also.run 0 traffic _ g rs run);
-        stop = λ ports class_count ranks traffic rs fault come run. same_stop ms class_count 0 traffic _ _ rs fault
-            (empty_agree ports ranks) (traffic_for_empty ports ranks class_count traffic come)
-            (also.stop 0 traffic _ rs fault run);
+        run = λ ports class_count ranks traffic rs g come. alike.run 0 class_count traffic _ g _ rs
+            (empty_agree ports ranks) (traffic_for_empty ports ranks class_count traffic come);
+        stop = λ ports class_count ranks traffic rs fault come. alike.stop 0 class_count traffic _ _ rs fault
+            (empty_agree ports ranks) (traffic_for_empty ports ranks class_count traffic come);
       }

@@ -1,7 +1,7 @@
 -- The figures of all records, with one record more. A sum, a count and a greatest number of a list with one part more
 -- are those of the list and of the part, put together; and so are a least and a greatest that may be none, since it
 -- does not matter which two numbers are compared first.
-use Rattle.cq_laws.proofs.Terms.{common_steps, rules, ◌≡◌, ℕ, zero, suc, ◌+◌, List, [], ◌∷◌, ◌++◌, map, Some, refl, sym, ap, ◌∙◌, append_assoc, arith, max, min, fold, replicate, range_with_len, enumerate_from, flat_map, reduce, append-nil, map_push, flat_map-append, fold-append, sum_by_push, filter_map-append, Figures, SlotRecord, proposals_in, input_figures, output_figures, figures_of, either_by, input_after, output_after, figures_after, no_figures}
+use Rattle.cq_laws.proofs.Terms.{common_steps, rules, ◌≡◌, ℕ, zero, suc, ◌+◌, List, [], ◌∷◌, ◌++◌, map, refl, sym, ap, ◌∙◌, append_assoc, arith, max, min, fold, replicate, range_with_len, enumerate_from, flat_map, reduce, append-nil, map_push, flat_map-append, fold-append, sum_by_push, filter_map-append, Figures, SlotRecord, proposals_in, input_figures, output_figures, figures_of, either_by, input_after, output_after, figures_after, no_figures}
 
 -- ## Lists with one part more
 
@@ -16,8 +16,7 @@ module _ (f : ℕ → ℕ → ℕ) (assoc : (a b c : ℕ) → f (f a b) c ≡ f 
 
   pub reduce-append : (xs ys : List ℕ) → reduce f (xs ++ ys) ≡ either_by f (reduce f xs) (reduce f ys)
   reduce-append [] ys = refl
-  reduce-append (x ∷ xs) [] = ap (λ l. reduce f (x ∷ l)) (append-nil xs)
-  reduce-append (x ∷ xs) (y ∷ ys) = ap (λ (n : ℕ). Some n) (fold-append f x xs (y ∷ ys) ∙ fold-front (fold f x xs) y ys)
+  reduce-append (x ∷ xs) ys = grind (arith, common_steps, append-nil, fold-append, fold-front)
 
 pub min_assoc : (a b c : ℕ) → min (min a b) c ≡ min a (min b c)
 min_assoc a b c = omega arith
@@ -50,11 +49,10 @@ pub figures_more : (ports : ℕ) (rs : List SlotRecord) (r : SlotRecord) →
     figures_of ports (rs ++ r ∷ []) ≡ figures_after (figures_of ports rs) r
 unfolding figures_of figures_after
 figures_more ports rs r =
-    let most = fold-max (fold max 0 (flat_map proposals_in rs)) (proposals_in r) in
     let now = rs ++ r ∷ [] in
     let inputs = map-enumerate (input_figures rs) (input_figures now) (input_after r) (input_more rs r) 0 ports in
     let outputs = map-enumerate (output_figures rs) (output_figures now) (output_after r) (output_more rs r) 0 ports in
-    grind (arith, common_steps, most, inputs, outputs)
+    grind (arith, common_steps, fold-max (fold max 0 (flat_map proposals_in rs)), inputs, outputs)
 
 -- ## From none to all
 

@@ -6,7 +6,7 @@ use Rattle.cq_laws.proofs.Terms.{common_steps, rules, ◌≡◌, ◌≢◌, ℕ,
 use Rattle.cq_laws.proofs.Members.{among_insert, insert_new, insert_old}
 use Rattle.cq_laws.proofs.Cushions.{cushion_rises}
 use Rattle.cq_laws.proofs.Falls.{arrivals_fall}
-use Rattle.cq_laws.proofs.Sound.{Apart, Early, Sound}
+use Rattle.cq_laws.proofs.Sound.{Sound}
 
 -- the cells that came have this slot, their input, and an output of the switch
 pub record Keyed (slot ports : ℕ) (came : List (Option Queued)) : Type 0 where
@@ -28,9 +28,6 @@ module _ (ms : List Machine) (slot : ℕ) (cells : List (Option Cell)) (came : L
   arrived_from : (i : ℕ) (c : Queued) → IsAmong c (input new i) → (came_to came i ≡ Some c) ⊎ IsAmong c (input old i)
   arrived_from i c h = search (arith, rules, among_insert)
 
-  arrived_new : (i : ℕ) (c : Queued) → came_to came i ≡ Some c → IsAmong c (input new i)
-  arrived_new i c e = grind (arith, common_steps, insert_new)
-
   in_buffer : (j : ℕ) (c : Queued) → IsAmong c (buffer new j) → IsAmong c (buffer old j)
   in_buffer j c h = subst (λ b. IsAmong c (list_of b j)) arrive.buffers h
 
@@ -42,12 +39,6 @@ module _ (ms : List Machine) (slot : ℕ) (cells : List (Option Cell)) (came : L
     new_old : (k : ℕ) (q d : Queued) → came_to came k ≡ Some q → d.key.slot < slot → q.key ≢ d.key
     new_old k q d e lt same = let s = keyed.slot_is k q e in let t = ap (λ (x : Key). x.slot) same in omega arith
 
-    arrived_apart : Apart new
-    arrived_apart = search (rules, same_Some, new_old, arrived_from, in_buffer)
-
-    arrived_early : Early (slot + 1) new
-    arrived_early = search (rules, arrived_from, in_buffer)
-
     ordered : (i : ℕ) (q : Option Queued) → came_to came i ≡ q → KeepsOrder (list_arrived old q (input old i))
     ordered i None e = sound.order i
     ordered i (Some n) e = keeps_order_arrival (cushion_of old n) n (input old i) (sound.order i)
@@ -55,7 +46,7 @@ module _ (ms : List Machine) (slot : ℕ) (cells : List (Option Cell)) (came : L
         (λ s x at out lt. search (arith, rules, cushion_rises x.key n.key (buffer old x.cell.output) lt))
 
     pub arrived_sound : Sound (slot + 1) new
-    arrived_sound = search (arith, rules, arrived_fabric, arrived_apart, arrived_early, ordered)
+    arrived_sound = search (arith, rules, same_Some, new_old, arrived_fabric, arrived_from, in_buffer, ordered)
 
     pub arrived_slack : HasSlack 0 new
     arrived_slack i t c at = grind (arith, common_steps, arrivals_fall ms slot cells came old new arrive i t c at)
@@ -64,4 +55,4 @@ module _ (ms : List Machine) (slot : ℕ) (cells : List (Option Cell)) (came : L
     arrived_has j c h = search (rules, arrived_from, in_buffer)
 
     pub has_arrived : (j : ℕ) (c : Queued) → HasFor old j c ⊎ CameFor came j c → HasFor new j c
-    has_arrived j c h = search (arith, rules, arrived_new, insert_old)
+    has_arrived j c h = search (arith, rules, insert_new, insert_old)

@@ -1,11 +1,7 @@
 -- What departures keep: they take the first cell out of each buffer, and nothing else changes.
-use Rattle.cq_laws.proofs.Terms.{rules, ◌≡◌, ℕ, ◌+◌, List, [], ◌∷◌, length, Option, ap, ◌∙◌, subst, inr, arith, drop, common_steps, length-map, Queued, Machine, Fabric, input, buffer, IsAmong, IsFabric, Departs, HasSlack, IsRising, rests, list_of}
+use Rattle.cq_laws.proofs.Terms.{rules, ◌≡◌, ℕ, ◌+◌, List, [], ◌∷◌, length, Option, ap, ◌∙◌, subst, arith, drop, common_steps, length-map, Queued, Machine, Fabric, input, buffer, IsAmong, IsFabric, Departs, HasSlack, IsRising, rests, list_of, take, take-append-drop, has_right}
 use Rattle.cq_laws.proofs.Falls.{departures_fall, rest_of}
-use Rattle.cq_laws.proofs.Sound.{Apart, Early, Sound}
-
-among_rest : (xs : List Queued) (c : Queued) → IsAmong c (drop 1 xs) → IsAmong c xs
-among_rest [] c h = absurd h
-among_rest (x ∷ xs) c h = inr h
+use Rattle.cq_laws.proofs.Sound.{Sound}
 
 pub rising_rest : (xs : List Queued) → IsRising xs → IsRising (drop 1 xs)
 rising_rest [] r = tt
@@ -20,7 +16,8 @@ module _ (ms : List Machine) (gone : List (Option Queued)) (slot : ℕ) (old new
   sent_buffer j = ap (λ b. list_of b j) depart.buffers ∙ rest_of old.buffers j
 
   was_crossed : (j : ℕ) (c : Queued) → IsAmong c (buffer new j) → IsAmong c (buffer old j)
-  was_crossed j c h = among_rest (buffer old j) c (subst (IsAmong c) (sent_buffer j) h)
+  was_crossed j c h = rw (← take-append-drop 1 (buffer old j))
+      (has_right (take 1 (buffer old j)) _ c (rw (sent_buffer j) at h))
 
   same_input : (i : ℕ) (c : Queued) → IsAmong c (input new i) → IsAmong c (input old i)
   same_input i c h = subst (λ l. IsAmong c (list_of l i)) depart.inputs h
@@ -29,14 +26,8 @@ module _ (ms : List Machine) (gone : List (Option Queued)) (slot : ℕ) (old new
   sent_fabric fabric =
       search (rules, length_rests, fabric.outputs, same_input, fabric.own, was_crossed, sent_buffer, rising_rest)
 
-  sent_apart : Apart old → Apart new
-  sent_apart apart = search (rules, apart.waiting, same_input, apart.between, was_crossed, apart.crossed)
-
-  sent_early : Early slot old → Early slot new
-  sent_early early = search (rules, early.waiting, same_input, early.crossed, was_crossed)
-
   pub sent_sound : Sound slot old → Sound slot new
-  sent_sound sound = grind (arith, common_steps, sent_fabric, sound.order, sent_apart, sent_early)
+  sent_sound sound = search (arith, rules, sent_fabric, same_input, was_crossed)
 
   pub sent_slack : (n : ℕ) → HasSlack (1 + n) old → HasSlack n new
   sent_slack n slack i t c at = grind (arith, common_steps, departures_fall ms gone old new depart i t c at)

@@ -2,7 +2,7 @@
 -- and states that agree are empty together. So the least number of slots after which the one is over is that of the
 -- other. In the last slot a cell departs, as it does in the ideal switch, so the figures tell the number of slots.
 -- And what goes on behind the end is quiet slots.
-use Rattle.cq_laws.proofs.Terms.{cases_lt, ⊎_elim, common_steps, rules, ◌≡◌, ℕ, ◌+◌, ◌-◌, ◌≤◌, cond, List, [], ◌∷◌, length, take, drop, map, Option, Some, None, Err, refl, sym, subst, arith, replicate, filter, fold, is_some, max, AllByRecursion, list_any, cases_Bool, cond_both, length-take-le, take-append-drop, take_all, append-nil, Cell, Queued, TagFault, Machine, IsForSwitch, AreForPorts, IsInputBest, IsStable, Partners, EndsAlike, RunsAlike, Fabric, IsEmptyFabric, empty_fabric, BeginsWhole, FabricRun, FabricStops, WholeRun, FabricSlot, SlotRecord, idled_for, quiet_slots, no_arrivals, IdealAfter, IdealEnds, arriving_from, first_slots, slots_of, slots_of_run, whole_ideal_run, IsEmptyIdeal, departures_of, empty_ideal, departures_from, departures_in, ends, fewer_slots, found_end, not_more, whole_fault, arriving_length, quiet_from, Orders, figures_of, sends, AfterBy, fold-append, all_slots, slots_of-append, last_departs, gone_in, IdealState, ◌++◌, ap, ◌∙◌, figures_after, no_figures, transfers_of_run}
+use Rattle.cq_laws.proofs.Terms.{cases_lt, ⊎_elim, common_steps, rules, ◌≡◌, ℕ, ◌+◌, ◌-◌, ◌≤◌, cond, List, [], ◌∷◌, length, take, drop, map, Option, Some, None, Err, refl, sym, subst, arith, replicate, filter, fold, is_some, max, AllByRecursion, list_any, cases_Bool, cond_both, length-take-le, take-append-drop, take_all, append-nil, Cell, Queued, TagFault, Machine, IsForSwitch, AreForPorts, IsInputBest, IsStable, Partners, EndsAlike, RunsAlike, Fabric, IsEmptyFabric, empty_fabric, BeginsWhole, FabricRun, FabricStops, WholeRun, FabricSlot, SlotRecord, idled_for, quiet_slots, no_arrivals, IdealAfter, IdealEnds, arriving_from, first_slots, slots_of, slots_of_run, whole_ideal_run, IsEmptyIdeal, departures_of, empty_ideal, departures_from, departures_in, ends, fewer_slots, found_end, not_more, whole_fault, arriving_length, quiet_from, Orders, figures_of, sends, AfterBy, fold-append, all_slots, slots_of-append, last_departs, gone_in, IdealState, ◌++◌, ap, ◌∙◌}
 use Rattle.cq_base.specs.Arriving.{Arrival, enough, traffic_of}
 use Rattle.cq_laws.proofs.AddingUp.{figures_fold, fold-max}
 use Rattle.cq_laws.proofs.InputBest.{stable_too}
@@ -42,17 +42,15 @@ module _ (ms : List Machine) (ports class_count : ℕ) (ranks : List (List ℕ))
         let b = beside (length rs) rs g fit run in
         let ends = ends_with (FabricSlot IsStable ms) came start rs IsEmptyFabric
         (IdealAfter ms came (empty_ideal ports ranks)) IsEmptyIdeal g b.after w (rw b.ran)
-        ((empty_together _ g b.after b.agrees).0 w.empty) (λ m u v lt late after at done.
-        let fit = fewer_fit (AreForPorts ports class_count) came m (length rs) (omega arith) fit in
-        over_too m (take m rs) v u (beside m (take m rs) v fit after) at done) in
+        ((empty_together _ g b.after b.agrees).0 w.empty) (λ m u v lt late.
+        search (arith, rules, over_too, beside, fewer_fit (AreForPorts ports class_count) came m (length rs))) in
         let long = arriving_length came 0 (length rs) in search (arith, rules, found_end, ends)
 
   pub stop_alike : (n : ℕ) (rs : List SlotRecord) (fault : TagFault) → Fit n →
       FabricStops IsStable ms 0 (first_slots came n) (empty_fabric ports ranks) rs fault →
       whole_ideal_run ms came (empty_ideal ports ranks) ≡ Err fault
   stop_alike n rs fault fit stop =
-      let stops = same_stop ms class_count 0 (first_slots came n) (empty_fabric ports ranks) in
-      search (rules, whole_fault ms ports ranks came n, stops, empty_agree, traffic_for_empty)
+      search (rules, whole_fault ms ports ranks came n, empty_agree, traffic_for_empty, same_stop ms class_count 0)
 
 -- ## The number of slots
 
@@ -70,11 +68,8 @@ slots_add : (MayChoose : Orders → Partners → Type 0) (ms : List Machine) (sl
 unfolding departures_of departures_in
 slots_add MayChoose ms slot [] f g [] run = refl
 slots_add MayChoose ms slot (cells ∷ traffic) f g (r ∷ rs) run =
-    let here : r.slot ≡ slot = run.1.numbered in
-    let both = slots_of-append (departures_in slot r.gone) (departures_of (slot + 1) (gone_in rs)) in
-    let in_slot = sent_slots slot 0 r.gone in
     let rest = slots_add MayChoose ms (slot + 1) traffic run.0 g rs run.2 in
-    grind (arith, cond_both, fold-max, cases_Bool (sends r))
+    grind (arith, cond_both, fold-max, cases_Bool (sends r), sent_slots slot 0 r.gone, slots_of-append)
 slots_add MayChoose ms slot traffic f g rs run = absurd run
 
 -- so the figures tell the slot of the last departure
@@ -92,8 +87,7 @@ pub slots_told : (ms : List Machine) (ports class_count : ℕ) (ranks : List (Li
 slots_told ms ports class_count ranks came rs g fit all w =
     let alike = end_alike ms ports class_count ranks came rs g fit w in
     let run = run_of_whole (FabricSlot IsStable ms) came (empty_fabric ports ranks) rs IsEmptyFabric g w in
-    let count = slots_of_figures IsStable ms ports (first_slots came (length rs)) (empty_fabric ports ranks) g rs run in
-    cc (last_departs ms ports ranks came all (record { gone = gone_in rs; after = alike.after }) alike.ran)
+    let last = last_departs ms ports ranks came all _ alike.ran in search (arith, rules, slots_of_figures)
 
 -- ## Slots behind the end
 
@@ -128,9 +122,7 @@ module _ (ms : List Machine) (ports class_count : ℕ) (ranks : List (List ℕ))
   cut = grind (arith, not_more, run_length, best_run, arriving_length, length-take-le)
 
   empty_end : IsEmptyFabric at_end.state
-  empty_end =
-      let b = fewer n at_end.state (take n rs) (not_more ms ports ranks came) at_end.after in
-      over_too ms ports class_count ranks came n (take n rs) at_end.state done.0 b done.1.after done.1.empty
+  empty_end = search (rules, over_too, fewer, not_more, at_end, done)
 
   is_whole : WholeRun IsInputBest ms came (empty_fabric ports ranks) (take n rs) at_end.state
   is_whole =
@@ -166,21 +158,9 @@ module _ (ms : List Machine) (ports class_count : ℕ) (ranks : List (List ℕ))
 
   pub begins_whole : BeginsWhole IsInputBest ms came (empty_fabric ports ranks) rs
   begins_whole =
-      let ss = take n rs in
-      let both : rs ≡ ss ++ idle = sym (take-append-drop n rs) ∙ ap (λ (l : List SlotRecord). ss ++ l) quiet in
-      let from_start : 0 + length ss ≡ n = let long = cut in omega arith in
-      let k = enough came - n in
-      let p = length at_end.state.inputs in
-      let ranks = at_end.state.ranks in
-      record {
-        slots = n;
-        end = at_end.state;
-        whole = is_whole;
-        departures = let sent = departures_on ss idle 0 n from_start in let none = quiet_departures ms p k n ranks in
-            cc (both, append-nil (departures_of 0 (gone_in ss)));
-        transfers = let crossed = transfers_both ss idle in let none = quiet_transfers_of_run ms p k n ranks in
-            cc (both, append-nil (transfers_of_run ss));
-        figures = λ q. let first = figures_fold q ss in let all = figures_fold q (ss ++ idle) in
-            let on = fold-append figures_after (no_figures q) ss idle in
-            let none = quiet_figures_of_run ms p k n ranks (figures_of q ss) in cc both;
-      }
+      let both = sym (take-append-drop n rs) ∙ ap (λ (l : List SlotRecord). take n rs ++ l) quiet in
+      let sent = departures_on (take n rs) idle 0 n (omega (arith, cut)) in
+      let none = quiet_transfers_of_run in
+      let same = quiet_figures_of_run in
+      let moved = transfers_both (take n rs) idle in
+      search (arith, rules, is_whole, sent, moved, quiet_departures, none, append-nil, figures_fold, fold-append, same)

@@ -2,7 +2,7 @@
 -- slot, so a cell that comes has another key; and each has slack 1, so that the more urgent cells for an output stand
 -- below the cushion of one that comes. All keys differ in each state of a slot, so the cells that cross have keys
 -- that are new in their buffers.
-use Rattle.cq_laws.proofs.Terms.{rules, ◌≡◌, ℕ, ◌+◌, List, length, Option, Some, Ok, sym, arith, Cell, Queued, Machine, IdealState, IsStable, Partners, Agrees, FirstsCanCross, FitsList, Fabric, buffer, input, Arrives, Departs, Transfers, came_to, Ranking, ranking, all_from_has, orders_of, AreForPorts}
+use Rattle.cq_laws.proofs.Terms.{rules, ◌≡◌, ℕ, ◌+◌, List, length, Option, Some, Ok, sym, arith, Cell, Queued, Machine, IdealState, IsStable, Partners, Agrees, FirstsCanCross, FitsList, Fabric, buffer, input, Arrives, Departs, Transfers, came_to, ranking, all_from_has, orders_of, AreForPorts}
 use Rattle.cq_laws.proofs.AfterArrivals.{arrived_sound}
 use Rattle.cq_laws.proofs.AfterDepartures.{sent_sound}
 use Rattle.cq_laws.proofs.AfterTransfer.{moved_sound}
@@ -27,10 +27,9 @@ module _ (ms : List Machine) (slot class_count : ℕ) (cells : List (Option Cell
       ranking ms slot 0 cells f.ranks ≡ Ok (record { came = came; ranks = ranks }) → (i : ℕ) (c : Queued) →
       came_to came i ≡ Some c → FitsList f i c
   fits_list ranks ranked i c is =
-      let r : Ranking = record { came = came; ranks = ranks } in
-      let keyed = keyed_from ms slot (length f.inputs) class_count cells f.ranks r ranked come in
+      let keyed = keyed_from ms slot (length f.inputs) class_count cells f.ranks _ ranked come in
       let sound = sound_from slot f ideal agrees in
-      let arrival = (came_from ms slot 0 cells f.ranks r ranked i c is).cell_is in
+      let arrival = (came_from ms slot 0 cells f.ranks _ ranked i c is).cell_is in
       record {
         inside = come.inputs i c.cell arrival;
         output = keyed.outputs i c is;

@@ -1,7 +1,7 @@
 -- How far a slack falls. An arriving cell goes in at its cushion or ahead of it; no other cell of the list goes back
 -- by more than a place, and no buffer changes. A departure takes one cell from a buffer, so it lowers each cushion by
 -- one at most, and no input thread changes.
-use Rattle.cq_laws.proofs.Terms.{rules, ◌≡◌, ℕ, suc, ◌⊎◌, List, ◌∷◌, Option, Some, None, refl, sym, ap, ◌∙◌, inr, arith, drop, slice_get, Cell, Queued, Machine, Fabric, input, cushion_of, came_to, list_arrived, Arrives, Departs, cushion, rests, list_of, ArrivesWithSlack, Falls, EachFalls, EachArrivesOrFalls}
+use Rattle.cq_laws.proofs.Terms.{rules, ◌≡◌, ℕ, suc, ◌⊎◌, List, ◌∷◌, Option, Some, refl, sym, ap, ◌∙◌, arith, drop, slice_get, Cell, Queued, Machine, Fabric, input, cushion_of, came_to, list_arrived, Arrives, Departs, cushion, rests, list_of, ArrivesWithSlack, Falls, EachFalls, EachArrivesOrFalls}
 use Rattle.cq_laws.proofs.Members.{inserted_at}
 use Rattle.cq_laws.proofs.Cushions.{cushion_tail}
 
@@ -13,8 +13,7 @@ module _ (ms : List Machine) (slot : ℕ) (cells : List (Option Cell)) (came : L
   fall : (i t : ℕ) (c : Queued) (q : Option Queued) → came_to came i ≡ q →
       slice_get (list_arrived old q (input old i)) t ≡ Some c →
       ArrivesWithSlack came new i t c ⊎ Falls 1 old new i t c
-  fall i t c None e at = let same = same_cushion c in inr (record { before = t; stood = at; fallen = omega arith })
-  fall i t c (Some n) e at = search (rules, same_cushion, inserted_at)
+  fall i t c q e at = search (arith, rules, same_cushion, inserted_at)
 
   pub arrivals_fall : EachArrivesOrFalls came old new
   arrivals_fall i t c at = fall i t c (came_to came i) refl (ap (λ xs. slice_get xs t) (sym (arrive.lists i)) ∙ at)

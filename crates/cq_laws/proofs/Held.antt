@@ -11,12 +11,9 @@ length-waits : (j : ℕ) (lists : List (List Queued)) → length (waits j lists)
 length-waits j [] = refl
 length-waits j (cells ∷ lists) = grind (arith, common_steps, length-append, length-waits j lists)
 
-holds_as_many : (f : Fabric) (j : ℕ) → length (in_order (cells_for j f)) ≡ held_for j f
-holds_as_many f j = grind (arith, common_steps, length_in_order, length-append, waits, length-waits)
-
 hold_so : (f : Fabric) (js : List ℕ) → map length (map (λ j. in_order (cells_for j f)) js) ≡ map (λ j. held_for j f) js
 hold_so f [] = refl
-hold_so f (j ∷ js) = λ k. holds_as_many f j k ∷ hold_so f js k
+hold_so f (j ∷ js) = grind (arith, common_steps, length_in_order, length-append, waits, length-waits, hold_so f js)
 
 pub hold_as_many : (slot : ℕ) (f : Fabric) (ideal : IdealState) → Agrees slot f ideal → fabric_held f ≡ ideal_held ideal
 unfolding fabric_held ideal_of

@@ -1,6 +1,6 @@
 -- The lists of the ideal switch after arrivals. The list of an output has what it had and what came for it, and no
 -- key twice, so it stays in the order of keys.
-use Rattle.cq_laws.proofs.Terms.{common_steps, rules, ◌≡◌, ◌≢◌, ℕ, zero, suc, ◌<◌, ◌⊎◌, cond, List, [], ◌∷◌, length, Option, Some, None, refl, sym, ap, ◌∙◌, inl, inr, ⊎_elim, arith, cases_lt, cond_both, eqb-true, eq-eqb, ne_eqb, true≢false, same_Some, get_or_past, get_or-map-range_with_len, Queued, IsAmong, came_to, IsRising, put, is_for, put_all, filled, list_of, length-filled}
+use Rattle.cq_laws.proofs.Terms.{common_steps, rules, ◌≡◌, ◌≢◌, ℕ, zero, suc, ◌<◌, ◌⊎◌, cond, List, [], ◌∷◌, length, Option, Some, None, refl, inl, inr, ⊎_elim, arith, cases_lt, cond_both, eqb-true, eq-eqb, ne_eqb, true≢false, same_Some, get_or_past, get_or-map-range_with_len, Queued, IsAmong, came_to, IsRising, put, is_for, put_all, filled, list_of, length-filled}
 use Rattle.cq_laws.proofs.Members.{among_put, put_new, put_old, rising_put}
 use Rattle.cq_laws.proofs.AfterArrivals.{CameFor}
 
@@ -20,11 +20,9 @@ put_all_keeps j (Some q ∷ came) xs c h =
 
 pub put_all_new : (j : ℕ) (came : List (Option Queued)) (xs : List Queued) (c : Queued) (k : ℕ) →
     came_to came k ≡ Some c → c.cell.output ≡ j → IsAmong c (put_all j came xs)
-put_all_new j (None ∷ came) xs c (suc k) e out = put_all_new j came xs c k e out
-put_all_new j (Some q ∷ came) xs c zero e out =
-    grind (arith, common_steps, same_Some, put_all_keeps, cond_both, put_new, true≢false, eq-eqb)
-put_all_new j (Some q ∷ came) xs c (suc k) e out = put_all_new j came (cond (is_for j q) (put q xs) xs) c k e out
-put_all_new j came xs c k e out = cc
+put_all_new j [] xs c k e out = cc
+put_all_new j (o ∷ came) xs c k e out =
+    grind (arith, common_steps, same_Some, put_all_keeps, cond_both, put_new, true≢false, eq-eqb, put_all_new j came)
 
 -- no key came that the list has
 abbrev NewTo : List (Option Queued) → List Queued → Type 0
@@ -38,13 +36,11 @@ pub rising_put_all : (j : ℕ) (came : List (Option Queued)) (xs : List Queued) 
     CameOnce came → IsRising (put_all j came xs)
 rising_put_all j [] xs r new once = r
 rising_put_all j (None ∷ came) xs r new once = rising_put_all j came xs r (λ k. new (suc k)) (λ k l q s a b e.
-    let n = once (suc k) (suc l) q s a b e in omega arith)
+    omega (arith, once (suc k) (suc l) q s a b e))
 rising_put_all j (Some q ∷ came) xs r new once = rising_put_all j came (cond (is_for j q) (put q xs) xs)
     (cond_both (is_for j q) (put q xs) xs IsRising (λ _. rising_put q xs r (λ d h. new zero q d refl h)) (λ _. r))
-    (cond_both (is_for j q) (put q xs) xs (NewTo came) (λ _ k s d a h e. ⊎_elim (λ same.
-    let no = once (suc k) zero s q a refl (e ∙ ap (λ (x : Queued). x.key) (sym same)) in
-    absurd (omega arith)) (λ m. new (suc k) s d a m e) (among_put d q xs h)) (λ _ k. new (suc k)))
-    (λ k l s t a b e. let n = once (suc k) (suc l) s t a b e in omega arith)
+    (λ k s d a h e. grind (arith, common_steps, cond_both, among_put, new (suc k) s d a, once (suc k) zero s q a refl))
+    (λ k l s t a b e. omega (arith, once (suc k) (suc l) s t a b e))
 
 put_all_none : (j : ℕ) (came : List (Option Queued)) (xs : List Queued) →
     ((k : ℕ) (q : Queued) → came_to came k ≡ Some q → q.cell.output ≢ j) → put_all j came xs ≡ xs

@@ -3,7 +3,7 @@
 -- of their keys, one after the other, each new one is before or behind every other, so the list rises, and it has the
 -- same members. So the lists made of the cells that the fabric has for each output rise and have these cells: that is
 -- agreement. And two lists that rise and have the same members are one list.
-use Rattle.cq_laws.proofs.Terms.{flat_map, common_steps, rules, ◌≡◌, ◌≢◌, ℕ, ◌≤◌, List, [], ◌∷◌, length, sym, ◌∙◌, inl, inr, ⊎_elim, arith, zero, suc, ◌⊎◌, filter, cases_lt, eqb-true, eq-eqb, ext_get_or, get_or_past, get_or-map-range_with_len, length-map-range_with_len, Queued, IdealState, Agrees, Fabric, IsAmong, IsFabric, buffer, ListsKeepOrder, IsBefore, IsRising, KeysDiffer, KeepsOrder, is_for, list_of, IsSoundFabric, ideal_of, in_order, cells_for, HasFor, has_cases, has_left, has_right, has_kept, kept_has, all_of_has, none_had, all_from_has, same_pairs, pairs_joined, pairs_kept_with}
+use Rattle.cq_laws.proofs.Terms.{flat_map, common_steps, rules, ◌≡◌, ◌≢◌, ℕ, ◌≤◌, List, [], ◌∷◌, length, sym, ◌∙◌, ⊎_elim, arith, zero, suc, filter, cases_lt, eqb-true, eq-eqb, ext_get_or, get_or_past, get_or-map-range_with_len, length-map-range_with_len, Queued, IdealState, Agrees, Fabric, IsAmong, IsFabric, buffer, ListsKeepOrder, IsBefore, IsRising, KeysDiffer, KeepsOrder, is_for, list_of, IsSoundFabric, ideal_of, in_order, cells_for, HasFor, has_cases, has_left, has_right, has_kept, kept_has, all_of_has, none_had, all_from_has, same_pairs, pairs_joined, pairs_kept_with}
 use Rattle.cq_laws.proofs.Members.{among_put, put_new, put_old, rising_put}
 use Rattle.cq_laws.proofs.Sound.{apart_from, not_before_itself, Apart, never_both}
 
@@ -23,8 +23,7 @@ module _ (j : ℕ) where
   waits_at : (lists : List (List Queued)) (c : Queued) → IsAmong c (waits lists) →
       (i : ℕ) × IsAmong c (list_of lists i) × (c.cell.output ≡ j)
   waits_at [] c h = absurd h
-  waits_at (cells ∷ lists) c h = ⊎_elim
-      (λ l. let r = kept_has (is_for j) cells c l in (zero, r.0, eqb-true c.cell.output j r.1))
+  waits_at (cells ∷ lists) c h = ⊎_elim (λ l. search (arith, rules, kept_has (is_for j) cells c l, eqb-true))
       (λ k. let r = waits_at lists c k in (suc r.0, r.1, r.2)) (has_cases (filter (is_for j) cells) (waits lists) c h)
 
   at_waits : (lists : List (List Queued)) (i : ℕ) (c : Queued) → IsAmong c (list_of lists i) → c.cell.output ≡ j →
@@ -54,10 +53,8 @@ module _ (j : ℕ) where
   from_cells f c h = grind (arith, common_steps, waits_at f.inputs c, has_cases (waits f.inputs) (buffer f j) c h)
 
   cells_differ : (f : Fabric) → IsFabric f → ListsKeepOrder f → Apart f → KeysDiffer (cells_for j f)
-  cells_differ f fabric order apart = pairs_joined _ (waits f.inputs) (buffer f j)
-      (waits_differ f.inputs order (λ i k c d a b e. (apart.waiting i k c d a b e).0))
-      (differ_rising (buffer f j) (fabric.rising j)) (λ c d l r.
-      let at = waits_at f.inputs c l in apart.between at.0 j c d at.1 r)
+  cells_differ f fabric order apart =
+      search (rules, pairs_joined, waits_differ, differ_rising, fabric.rising, waits_at, apart.waiting, apart.between)
 
 -- ## Cells in the order of their keys
 
@@ -78,8 +75,7 @@ rising_in_order (x ∷ xs) differ = rising_put x (in_order xs) (rising_in_order 
 
 -- there are none for what is no output
 none_past : (f : Fabric) → IsFabric f → (j : ℕ) (c : Queued) → length f.inputs ≤ j → HasFor f j c → ⊥
-none_past f fabric j c past (inl w) = search (arith, rules, fabric.outputs)
-none_past f fabric j c past (inr b) = search (arith, rules, get_or_past)
+none_past f fabric j c past h = search (arith, rules, fabric.outputs, get_or_past)
 
 -- ## The ideal switch of these cells
 
@@ -110,6 +106,5 @@ only_ideal slot f a x =
     let b = ideal_of f in
     let y = agrees_of slot f (sound_from slot f a x) in
     let lists = ext_get_or [] a.lists b.lists (x.ports ∙ sym y.ports) (λ j _.
-    same_pairs IsBefore never_both (list_of a.lists j) (list_of b.lists j) (x.rising j) (y.rising j)
-    (λ c h. (y.same j c).1 ((x.same j c).0 h)) (λ c h. (x.same j c).1 ((y.same j c).0 h))) in
+    search (arith, rules, same_pairs IsBefore never_both, x.rising j, y.rising j, x.same j, y.same j)) in
     let ranks = sym x.ranks ∙ y.ranks in λ k. record { lists = lists k; ranks = ranks k }

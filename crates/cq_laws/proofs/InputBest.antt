@@ -1,6 +1,6 @@
 -- A run with input-best matchings is a run with stable ones, for each input-best matching is stable. A whole run is a
 -- whole one too: the records tell which matchings were chosen, so no run of theirs with stable ones is over sooner.
-use Rattle.cq_laws.proofs.Terms.{common_steps, arith, ℕ, List, Option, rules, ◌+◌, [], ◌∷◌, take, Arrival, Cell, TagFault, Machine, Marked, IsStable, IsInputBest, Fabric, IsEmptyFabric, SlotRecord, FabricSlot, IsFault, LimitedRecord, LimitedFabricSlot, LimitedFabricRun, LimitedFabricStops, LimitedWholeRun, IsLimitedFault, AreAlso, RunBy, StopBy, WholeBy, AfterBy}
+use Rattle.cq_laws.proofs.Terms.{common_steps, arith, ℕ, List, Option, rules, ◌+◌, [], ◌∷◌, take, Arrival, Cell, TagFault, Machine, Marked, IsStable, IsInputBest, Fabric, IsEmptyFabric, SlotRecord, FabricSlot, IsFault, LimitedRecord, LimitedFabricSlot, LimitedFabricRun, LimitedWholeRun, IsLimitedFault, AreAlso, RunBy, StopBy, WholeBy, AfterBy}
 use Rattle.cq_laws.proofs.Parted.{ends_with}
 
 -- ## Where each slot of one kind is one of another, so are runs
@@ -65,12 +65,6 @@ module _ (ms : List Machine) where
         (rs : List LimitedRecord) → LimitedFabricRun IsInputBest limits ms slot traffic f rs g →
         LimitedFabricRun IsStable limits ms slot traffic f rs g
     stable_limited_run = stable_limited_too.run
-
-    pub stable_limited_stop : (slot : ℕ) (traffic : List (List (Option Cell))) (f : Marked Fabric)
-        (rs : List LimitedRecord) (fault : TagFault) →
-        LimitedFabricStops IsInputBest limits ms slot traffic f rs fault →
-        LimitedFabricStops IsStable limits ms slot traffic f rs fault
-    stable_limited_stop = stable_limited_too.stop
 
 pub stable_limited_whole : (limits : List (Option ℕ)) (ms : List Machine) (came : List Arrival)
     (start g : Marked Fabric) (rs : List LimitedRecord) → LimitedWholeRun IsInputBest limits ms came start rs g →

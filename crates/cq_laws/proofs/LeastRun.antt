@@ -1,5 +1,5 @@
 -- The least slack of a whole run, slot by slot.
-use Rattle.cq_laws.proofs.Terms.{rules, ◌≡◌, ℕ, suc, ◌+◌, ◌<◌, List, [], ◌∷◌, length, Option, Some, None, refl, arith, ap, ◌∙◌, common_steps, min, fold, slice_get, option_and_then, filter_map, replicate, AllByRecursion, reduce, cons_option, length-replicate, Cell, Figures, Machine, AreForPorts, IdealState, IsStable, Fabric, empty_fabric, SlotRecord, FabricRun, Agrees, least_slack, HasMoreSlack, InputFigures, empty_ideal, either_by, figures_of, figures_after, no_figures, slack_on_arrival}
+use Rattle.cq_laws.proofs.Terms.{rules, ◌≡◌, ℕ, suc, ◌+◌, ◌<◌, List, [], ◌∷◌, length, Option, Some, None, refl, arith, common_steps, min, fold, slice_get, option_and_then, filter_map, replicate, AllByRecursion, reduce, cons_option, length-replicate, Cell, Figures, Machine, AreForPorts, IdealState, IsStable, Fabric, empty_fabric, SlotRecord, FabricRun, Agrees, least_slack, HasMoreSlack, InputFigures, empty_ideal, either_by, figures_of, figures_after, no_figures, slack_on_arrival}
 use Rattle.cq_laws.proofs.AddingUp.{reduce-append, min_assoc, figures_fold}
 use Rattle.cq_laws.proofs.OneSlot.{same_slot}
 use Rattle.cq_laws.proofs.WholeRuns.{empty_agree, no_place, traffic_for_empty}
@@ -18,12 +18,9 @@ module _ (ms : List Machine) (class_count : ℕ) where
       ≡ either_by min (least_slack x i) (reduce min (filter_map (slack_on_arrival i) rs))
   least_run slot [] f g ideal [] x i agrees come run has inside = search (arith, rules)
   least_run slot (cells ∷ traffic) f g ideal (r ∷ rs) x i agrees come run has inside =
-      let least_after-here = least_after x r i inside in
-      let by_arrivals-here = by_arrivals ms slot class_count cells f run.0 ideal r agrees come.0 run.1 x has i in
-      let more_after-here = more_after ms slot class_count cells f run.0 ideal r agrees come.0 run.1 x has.ports in
-      let reduce-cons-here = reduce-cons (slack_on_arrival i r) (filter_map (slack_on_arrival i) rs) in
+      let more = more_after ms slot class_count cells f run.0 ideal r agrees come.0 run.1 x has.ports in
       let one = same_slot ms slot class_count cells f run.0 ideal r agrees come.0 run.1 in
-      search (arith, rules, least_run (slot + 1) traffic run.0 g one.next rs (figures_after x r) i one.agrees)
+      search (arith, rules, least_after, by_arrivals, reduce-cons, least_run (slot + 1) traffic run.0)
   least_run slot traffic f g ideal rs x i agrees come run has inside = absurd run
 
 -- before the first slot no input has a least slack, and no cell waits
@@ -42,10 +39,6 @@ pub least_of_run : (ms : List Machine) (ports class_count : ℕ) (ranks : List (
     FabricRun IsStable ms 0 traffic (empty_fabric ports ranks) rs g → i < ports →
     least_slack (figures_of ports rs) i ≡ reduce min (filter_map (slack_on_arrival i) rs)
 least_of_run ms ports class_count ranks traffic rs g i come run inside =
-    let none : InputFigures = record { cells = 0; longest = 0; slack = None } in
-    let long = length-replicate ports none in
-    ap (λ (x : Figures). least_slack x i) (figures_fold ports rs)
-    ∙ least_run ms class_count 0 traffic (empty_fabric ports ranks) g (empty_ideal ports ranks) rs (no_figures ports)
-    i (empty_agree ports ranks) (traffic_for_empty ports ranks class_count traffic come) run
-    (more_at_first ports ranks) (omega arith)
-    ∙ ap (λ (o : Option ℕ). either_by min o (reduce min (filter_map (slack_on_arrival i) rs))) (no_least ports i)
+    let start = empty_fabric ports ranks in
+    let all = least_run ms class_count 0 traffic start g (empty_ideal ports ranks) rs (no_figures ports) i in
+    search (arith, rules, figures_fold, all, empty_agree, traffic_for_empty, more_at_first, no_least, length-replicate)

@@ -2,7 +2,8 @@
 -- slack rises at two matchings, falls by one at most at the departures between them, and by one at most at the next
 -- arrivals. So it never falls, and each cell that waits has more slack than the least so far. After arrivals it has
 -- no less, so that of all slacks then only those of the cells that have arrived can be the least.
-use Rattle.cq_laws.proofs.Terms.{common_steps, rules, ◌≡◌, ℕ, zero, suc, ◌+◌, ◌-◌, ◌<◌, ◌≤◌, ◌⊎◌, Bool, true, false, List, [], ◌∷◌, length, map, Option, Some, None, refl, sym, ap, ◌∙◌, inl, inr, ⊎_elim, arith, ◌==◌, min, fold, insert, slice_get, option_and_then, AllByRecursion, enumerate_from, position_or_len, reduce, option_map, cases_lt, eq-eqb, ne_eqb, length-map, get_or_past, length-enumerate_from, same_Some, slice_get-get_or, Cell, Queued, Figures, place_of_arrival, Machine, AreForPorts, IdealState, IsStable, Fabric, input, cushion_of, came_to, Arrives, EachArrivesOr, EachRises, SlotRecord, FabricSlot, Agrees, InputFigures, first_here, first_later, slacks, either_by, input_after, figures_after, slack_on_arrival, all_from_has, Has, Falls, least_slack, HasMoreSlack}
+use Rattle.cq_laws.proofs.Terms.{common_steps, rules, ◌≡◌, ℕ, zero, suc, ◌+◌, ◌-◌, ◌<◌, ◌≤◌, ◌⊎◌, Bool, true, false, List, [], ◌∷◌, length, map, Option, Some, None, refl, inl, inr, ⊎_elim, arith, ◌==◌, min, fold, insert, slice_get, option_and_then, AllByRecursion, enumerate_from, position_or_len, reduce, option_map, cases_lt, eq-eqb, ne_eqb, length-map, get_or_past, length-enumerate_from, same_Some, slice_get-get_or, Cell, Queued, Figures, place_of_arrival, Machine, AreForPorts, IdealState, IsStable, Fabric, input, cushion_of, came_to, Arrives, EachArrivesOr, EachRises, SlotRecord, FabricSlot, Agrees, InputFigures, first_here, first_later, slacks, either_by, input_after, figures_after, slack_on_arrival, all_from_has, Has, Falls, least_slack, HasMoreSlack}
+use Rattle.std.proofs.lemmas.List.Edits.{get_or-insert_at, length-insert}
 use Rattle.cq_laws.proofs.Falls.{arrivals_fall, departures_fall}
 use Rattle.cq_laws.proofs.Sound.{one_in_order}
 use Rattle.cq_laws.proofs.OneSlot.{keyed, old_sound, arrived, first, second, slack_arrived, ports_kept}
@@ -21,12 +22,10 @@ least_among x (y ∷ ys) = search (arith, rules, least_among (min x y) ys)
 same_least : (kept told : Option ℕ) (all : List ℕ) →
     ((v : ℕ) → Has all v → (told ≡ Some v) ⊎ ((low : ℕ) × (kept ≡ Some low) × (low ≤ v))) →
     ((v : ℕ) → told ≡ Some v → Has all v) → either_by min kept (reduce min all) ≡ either_by min kept told
-same_least kept None [] low there = refl
-same_least kept (Some v) [] low there = absurd (there v refl)
+same_least kept told [] low there = grind (arith, common_steps, there)
 same_least kept told (x ∷ xs) low there =
-    let one = low (fold min x xs) (least_among x xs) in
     let below = λ (v : ℕ) (e : told ≡ Some v). least_bounds x xs v (there v e) in
-    grind (arith, common_steps, same_Some, below)
+    grind (arith, common_steps, same_Some, below, low (fold min x xs) (least_among x xs))
 
 -- the kept number and those that are new have a least, which is no greater than any of them
 new_least : (kept : Option ℕ) (all : List ℕ) (v : ℕ) → Has all v →
@@ -60,9 +59,8 @@ position-insert q [] (suc p) n le here others = absurd (omega arith)
 position-insert q (x ∷ xs) (suc p) n le here others = search (rules, first_later, position-insert q xs p n)
 
 at_insert : (xs : List Queued) (p : ℕ) (n : Queued) → p ≤ length xs → slice_get (insert xs p n) p ≡ Some n
-at_insert xs zero n le = refl
-at_insert [] (suc p) n le = absurd (omega arith)
-at_insert (x ∷ xs) (suc p) n le = at_insert xs p n (omega arith)
+at_insert xs p n le =
+    grind (arith, common_steps, get_or-insert_at xs p n n, slice_get-get_or (insert xs p n) p n, length-insert)
 
 -- ## The figures of an input
 
@@ -70,8 +68,7 @@ figures_at : (r : SlotRecord) (n : ℕ) (xs : List InputFigures) (i m : ℕ) →
     slice_get (map (λ (at : ℕ × InputFigures). input_after r at.0 at.1) (enumerate_from n xs)) i
     ≡ option_map (input_after r m) (slice_get xs i)
 figures_at r n [] i m e = refl
-figures_at r n (x ∷ xs) zero m e = let at : n ≡ m = omega arith in ap (λ k. Some (input_after r k x)) at
-figures_at r n (x ∷ xs) (suc i) m e = figures_at r (n + 1) xs i m (omega arith)
+figures_at r n (x ∷ xs) i m e = grind (arith, common_steps, figures_at r (n + 1) xs)
 
 slack_after : (r : SlotRecord) (i : ℕ) (xs : List InputFigures) → i < length xs →
     option_and_then (λ y. y.slack) (option_map (input_after r i) (slice_get xs i))
@@ -88,10 +85,6 @@ least_after x r i inside = cc (figures_at r 0 x.inputs i i (omega arith), slack_
 pub length-after : (x : Figures) (r : SlotRecord) → length (figures_after x r).inputs ≡ length x.inputs
 unfolding figures_after
 length-after x r = grind (arith, common_steps, length-map, length-enumerate_from)
-
--- a cell waits only at an input that there is
-inside_input : (f : Fabric) (i t : ℕ) (c : Queued) → slice_get (input f i) t ≡ Some c → i < length f.inputs
-inside_input f i t c at = grind (arith, common_steps, get_or_past, cases_lt)
 
 -- ## Over one slot
 
@@ -118,9 +111,8 @@ module _ (ms : List Machine) (slot class_count : ℕ) (cells : List (Option Cell
       position_or_len (λ x. x.key.slot == r.slot) (input r.arrived i)
       ≡ place_of_arrival (cushion_of f c) c (input f i)
   arrival_place i c came =
-      let old = old_sound ms slot class_count cells f g ideal r agrees come step in
       let new = keyed ms slot class_count cells f g ideal r agrees come step in
-      search (arith, rules, old, new, all_from_has, ne_eqb, position-insert, eq-eqb)
+      search (arith, rules, new, all_from_has, ne_eqb, position-insert, eq-eqb, old_sound ms slot class_count cells f)
 
   pub arrival_at_place : (i : ℕ) (c : Queued) → came_to r.came i ≡ Some c →
       slice_get (input r.arrived i) (place_of_arrival (cushion_of f c) c (input f i)) ≡ Some c
@@ -135,11 +127,8 @@ module _ (ms : List Machine) (slot class_count : ℕ) (cells : List (Option Cell
     unfolding slack_on_arrival slacks
     low i v h =
         let at = listed_slack r.arrived 0 (input r.arrived i) v h in
-        let within = slack_arrived ms slot class_count cells f g ideal r agrees come step i at.0 at.1 at.2 in
-        let order = (arrived ms slot class_count cells f g ideal r agrees come step).order i in
-        let here = one_in_order (input r.arrived i) at.0 in
         let fall = arrivals_fall ms slot cells r.came f r.arrived step.arrive i at.0 at.1 at.2 in
-        search (arith, rules, fall, arrival_place i, here, arrival_at_place i)
+        search (arith, rules, fall, arrival_place i, one_in_order, arrival_at_place i, slack_arrived, arrived ms slot)
 
     there_on : (i v : ℕ) (o : Option Queued) → came_to r.came i ≡ o →
         option_map (λ c. cushion_of r.arrived c - position_or_len (λ q. q.key.slot == r.slot) (input r.arrived i)) o
@@ -147,9 +136,8 @@ module _ (ms : List Machine) (slot class_count : ℕ) (cells : List (Option Cell
     unfolding slacks
     there_on i v None came e = absurd (let P : ⊥ = cc in P)
     there_on i v (Some c) came e =
-        let place = arrival_place i c came in
         let p = place_of_arrival (cushion_of f c) c (input f i) in
-        search (arith, rules, slack_listed r.arrived 0 (input r.arrived i) p p c, arrival_at_place)
+        search (arith, rules, slack_listed r.arrived 0 (input r.arrived i) p p c, arrival_at_place, arrival_place)
 
     pub by_arrivals : (i : ℕ) →
         either_by min (least_slack x i) (reduce min (slacks r.arrived i))
@@ -163,14 +151,13 @@ module _ (ms : List Machine) (slot class_count : ℕ) (cells : List (Option Cell
     pub more_after : HasMoreSlack (figures_after x r) g
     unfolding slacks
     more_after =
-        let ports = ports_kept ms slot class_count cells f g ideal r agrees come step in
         record {
-          ports = length-after x r ∙ as_many ∙ sym ports;
+          ports = search (arith, rules, length-after, ports_kept);
           more = λ i t c at.
               let rise = slot_rises i t c at in
               let within = slack_arrived ms slot class_count cells f g ideal r agrees come step i rise.before c
               rise.stood in
               let new = new_least (least_slack x i) (slacks r.arrived i) _ (slack_listed r.arrived 0
               (input r.arrived i) rise.before rise.before c (omega arith) rise.stood) in
-              search (arith, rules, least_after, inside_input) fits 4000;
+              search (arith, rules, least_after, get_or_past, cases_lt) fits 4000;
         }

@@ -1,6 +1,6 @@
 -- Where runs with limits end. Beside the fabric the ideal switch runs, and after each slot both are empty together; so
 -- both end after the same slot.
-use Rattle.cq_laws.proofs.Terms.{rules, ◌≡◌, ◌+◌, ℕ, List, length, take, Option, arith, AllByRecursion, Arrival, Machine, Marked, IdealState, AreForPorts, IsInputBest, IsStable, LimitedEndsAlike, LimitedRunsAlike, LimitedFabricRun, LimitedFabricSlot, LimitedRecord, LimitedWholeRun, empty_limited_fabric, Fabric, IsEmptyFabric, empty_limited, arriving_length, LimitedIdealAfter, first_slots, IsEmptyIdeal}
+use Rattle.cq_laws.proofs.Terms.{rules, ◌≡◌, ℕ, List, length, Option, arith, AllByRecursion, Arrival, Machine, Marked, IdealState, AreForPorts, IsInputBest, IsStable, LimitedEndsAlike, LimitedRunsAlike, LimitedFabricRun, LimitedFabricSlot, LimitedRecord, LimitedWholeRun, empty_limited_fabric, Fabric, IsEmptyFabric, empty_limited, arriving_length, LimitedIdealAfter, first_slots, IsEmptyIdeal}
 use Rattle.cq_laws.proofs.LimitedWhole.{same_limited_run, begin}
 use Rattle.cq_laws.proofs.OneRun.{only_limited_run}
 use Rattle.cq_laws.proofs.Parted.{ends_with, fewer_fit, one_whole, run_of_whole}
@@ -33,19 +33,11 @@ module _ (limits : List (Option ℕ)) (ms : List Machine) (ports class_count : �
       let start = empty_limited_fabric ports ranks in
       let run = run_of_whole (LimitedFabricSlot IsStable limits ms) came start rs (λ f. IsEmptyFabric f.state) g w in
       let b = beside (length rs) rs g fit run in
-      let same = arriving_length came 0 (length rs) in
-      let long : 0 + length (first_slots came (length rs)) ≡ length rs = omega arith in
-      record {
-        after = b.after;
-        ends = ends_with (LimitedFabricSlot IsStable limits ms) came start rs (λ f. IsEmptyFabric f.state)
-            (LimitedIdealAfter limits ms came (empty_limited ports ranks)) (λ s. IsEmptyIdeal s.state) g b.after w
-            (rw b.ran) ((empty_together _ g.state b.after.state b.agrees.states).0 w.empty)
-            (λ m u v lt late after.
-            let fit = fewer_fit (AreForPorts ports class_count) came m (length rs) (omega arith) fit in
-            over_too m (take m rs) v u (beside m (take m rs) v fit after));
-        ran = b.ran;
-        agrees = rw long at b.agrees;
-      }
+      let ends = ends_with (LimitedFabricSlot IsStable limits ms) came start rs (λ f. IsEmptyFabric f.state)
+      (LimitedIdealAfter limits ms came (empty_limited ports ranks)) (λ s. IsEmptyIdeal s.state) g b.after w (rw b.ran)
+      ((empty_together _ g.state b.after.state b.agrees.states).0 w.empty) (λ m u v lt late.
+      search (arith, rules, over_too, beside, fewer_fit (AreForPorts ports class_count) came m (length rs))) in
+      let long = arriving_length came 0 (length rs) in search (arith, rules, ends)
 
 -- and there is one whole run, if there is one
 pub one_limited_whole : (limits : List (Option ℕ)) (ms : List Machine) (came : List Arrival) (start g h : Marked Fabric)

@@ -1,8 +1,8 @@
 -- Whole runs with limits, slot by slot from states that agree, and the runs without limits that they are: those of
 -- the arrivals that the ideal switch admits, which are those that the fabric admits.
 use Rattle.cq_laws.proofs.Recorded.{recorded}
-use Rattle.cq_laws.proofs.Terms.{common_steps, rules, ◌≡◌, ℕ, ◌+◌, List, [], ◌∷◌, length, Option, Err, refl, arith, sym, subst, AllByRecursion, Cell, TagFault, Machine, IdealState, AreForPorts, Partners, IsStable, FabricRun, FabricStops, Fabric, LimitedRecord, LimitedFabricSlot, LimitedFabricRun, LimitedFabricStops, admissions_in, slots_in, empty_limited_fabric, HasSlack, limited_run, admitted_traffic, empty_limited, run_step, run_fault, admitted_step, admitted_are, Orders, LimitedAgrees, ActsAlike, LimitedRunsAlike, AreJudged, Marked}
-use Rattle.cq_laws.proofs.LimitedSlots.{same_admission, same_limited_fault, same_limited_slot, limited_slack_arrived}
+use Rattle.cq_laws.proofs.Terms.{common_steps, rules, ◌≡◌, ℕ, ◌+◌, List, [], ◌∷◌, length, Option, Err, refl, arith, sym, subst, AllByRecursion, Cell, TagFault, Machine, IdealState, AreForPorts, Partners, IsStable, FabricRun, FabricStops, Fabric, LimitedRecord, LimitedFabricRun, LimitedFabricStops, admissions_in, slots_in, empty_limited_fabric, HasSlack, limited_run, admitted_traffic, empty_limited, run_step, run_fault, admitted_step, admitted_are, Orders, LimitedAgrees, LimitedRunsAlike, AreJudged, Marked}
+use Rattle.cq_laws.proofs.LimitedSlots.{same_admission, same_limited_fault, same_limited_slot, limited_ports_kept, limited_slack_arrived}
 use Rattle.cq_laws.proofs.WholeRuns.{empty_agree, traffic_for_empty}
 
 module _ (limits : List (Option ℕ)) (ms : List Machine) (class_count : ℕ) where
@@ -12,24 +12,6 @@ module _ (limits : List (Option ℕ)) (ms : List Machine) (class_count : ℕ) wh
     pub agrees : LimitedAgrees slot f ideal
     pub come : AllByRecursion (AreForPorts (length f.state.inputs) class_count) traffic
 
-  -- after a slot they stand so again
-  record Went (slot : ℕ) (cells : List (Option Cell)) (traffic : List (List (Option Cell)))
-      (ideal : Marked IdealState) (r : LimitedRecord) (g : Marked Fabric) : Type 0 where
-    alike : ActsAlike limits ms slot cells ideal r g
-    slack : HasSlack 0 r.of_slot.arrived
-    stands : Stands (slot + 1) traffic g alike.next
-
-  go : (slot : ℕ) (cells : List (Option Cell)) (traffic : List (List (Option Cell))) (f g : Marked Fabric)
-      (ideal : Marked IdealState) (r : LimitedRecord) → Stands slot (cells ∷ traffic) f ideal →
-      LimitedFabricSlot IsStable limits ms slot cells f r g → Went slot cells traffic ideal r g
-  go slot cells traffic f g ideal r s step =
-      let one = same_limited_slot limits ms slot class_count cells f g ideal r s.agrees s.come.0 step in
-      record {
-        alike = one;
-        slack = limited_slack_arrived limits ms slot class_count cells f g ideal r s.agrees s.come.0 step;
-        stands = search (arith, rules);
-      }
-
   -- ## They act alike
 
   pub same_limited_run : (slot : ℕ) (traffic : List (List (Option Cell))) (f g : Marked Fabric)
@@ -38,8 +20,8 @@ module _ (limits : List (Option ℕ)) (ms : List Machine) (class_count : ℕ) wh
   unfolding limited_run
   same_limited_run slot [] f g ideal [] s run = search (arith, rules)
   same_limited_run slot (cells ∷ traffic) f g ideal (r ∷ rs) s run =
-      let went = go slot cells traffic f run.0 ideal r s run.1 in
-      search (arith, rules, same_limited_run (slot + 1) traffic run.0 g went.alike.next rs went.stands run.2)
+      let one = same_limited_slot limits ms slot class_count cells f run.0 ideal r s.agrees s.come.0 run.1 in
+      search (arith, rules, limited_ports_kept, same_limited_run (slot + 1) traffic run.0 g one.next rs)
   same_limited_run slot traffic f g ideal rs s run = absurd run
 
   pub same_limited_stop : (slot : ℕ) (traffic : List (List (Option Cell))) (f : Marked Fabric)
@@ -50,9 +32,9 @@ module _ (limits : List (Option ℕ)) (ms : List Machine) (class_count : ℕ) wh
   same_limited_stop slot (cells ∷ traffic) f ideal [] fault s run = run_fault limits ms slot cells traffic ideal fault
       ((same_limited_fault limits ms slot cells f ideal fault s.agrees).1 run)
   same_limited_stop slot (cells ∷ traffic) f ideal (r ∷ rs) fault s run =
-      let went = go slot cells traffic f run.0 ideal r s run.1 in
-      let rest = same_limited_stop (slot + 1) traffic run.0 went.alike.next rs fault went.stands run.2 in
-      cc (run_step limits ms slot cells traffic ideal _ went.alike.sent)
+      let one = same_limited_slot limits ms slot class_count cells f run.0 ideal r s.agrees s.come.0 run.1 in
+      let rest = same_limited_stop (slot + 1) traffic run.0 one.next rs fault in
+      search (arith, rules, run_step limits ms slot cells traffic ideal _ one.sent, limited_ports_kept, rest)
 
   -- after the arrivals of each slot no input thread is greater than its cushion
   pub limited_run_slack : (slot : ℕ) (traffic : List (List (Option Cell))) (f g : Marked Fabric)
@@ -60,8 +42,8 @@ module _ (limits : List (Option ℕ)) (ms : List Machine) (class_count : ℕ) wh
       LimitedFabricRun IsStable limits ms slot traffic f rs g → AllByRecursion (λ r. HasSlack 0 r.of_slot.arrived) rs
   limited_run_slack slot [] f g ideal [] s run = tt
   limited_run_slack slot (cells ∷ traffic) f g ideal (r ∷ rs) s run =
-      let went = go slot cells traffic f run.0 ideal r s run.1 in
-      (went.slack, limited_run_slack (slot + 1) traffic run.0 g went.alike.next rs went.stands run.2)
+      let one = same_limited_slot limits ms slot class_count cells f run.0 ideal r s.agrees s.come.0 run.1 in
+      search (arith, rules, limited_slack_arrived, limited_ports_kept, limited_run_slack (slot + 1) traffic run.0)
   limited_run_slack slot traffic f g ideal rs s run = absurd run
 
   -- ## They are runs of what is admitted
@@ -82,10 +64,10 @@ module _ (limits : List (Option ℕ)) (ms : List Machine) (class_count : ℕ) wh
   stop_through slot [] f ideal rs fault s run = absurd run
   stop_through slot (cells ∷ traffic) f ideal [] fault s run = cc (same_admission limits slot cells f ideal s.agrees)
   stop_through slot (cells ∷ traffic) f ideal (r ∷ rs) fault s run =
-      let went = go slot cells traffic f run.0 ideal r s run.1 in
+      let one = same_limited_slot limits ms slot class_count cells f run.0 ideal r s.agrees s.come.0 run.1 in
       subst (λ came. FabricStops IsStable ms slot came f.state (slots_in (r ∷ rs)) fault)
-      (sym (admitted_step limits ms slot cells traffic ideal _ went.alike.sent))
-      (run.0.state, run.1.runs, stop_through (slot + 1) traffic run.0 went.alike.next rs fault went.stands run.2)
+      (sym (admitted_step limits ms slot cells traffic ideal _ one.sent))
+      (search (arith, rules, limited_ports_kept, stop_through (slot + 1) traffic run.0 one.next rs fault))
 
 -- ## Each slot is judged, and the empty states agree
 

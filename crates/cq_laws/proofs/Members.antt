@@ -107,8 +107,7 @@ pub insert_new : (xs : List Queued) (p : ℕ) (n : Queued) → IsAmong n (insert
 insert_new xs p n = has_right (take p xs) (n ∷ drop p xs) n (inl refl)
 
 pub insert_old : (xs : List Queued) (p : ℕ) (n c : Queued) → IsAmong c xs → IsAmong c (insert xs p n)
-insert_old xs p n c h = ⊎_elim (has_left (take p xs) (n ∷ drop p xs) c) (λ k. has_right (take p xs) _ c (inr k))
-    (has_cases (take p xs) (drop p xs) c (rw (take-append-drop p xs) h))
+insert_old xs p n c h = grind (arith, common_steps, has_left, has_right, has_cases (take p xs), take-append-drop p xs)
 
 pub among_insert : (xs : List Queued) (p : ℕ) (n c : Queued) → IsAmong c (insert xs p n) → (n ≡ c) ⊎ IsAmong c xs
 among_insert xs p n c h =

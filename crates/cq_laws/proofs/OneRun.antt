@@ -65,13 +65,11 @@ offer_of lists m stable i j e =
 pub one_transfer : (m : Partners) (old a b : Fabric) → IsStable (orders_of old.inputs) m → Transfers m old a →
     Transfers m old b → a ≡ b
 one_transfer m old a b stable x y =
-    let inputs = same_lists_at a.inputs b.inputs (x.moves.ports.0 ∙ sym y.moves.ports.0)
-    (λ i. x.moves.taken i ∙ sym (y.moves.taken i)) in
     let buffers = same_lists_at a.buffers b.buffers (x.moves.ports.1 ∙ sym y.moves.ports.1) (λ j. ⊎_elim (λ r.
     let f = offer_of old.inputs m stable r.0 j r.1 in
     cc (x.moves.given r.0 j f.0 r.1 f.1, y.moves.given r.0 j f.0 r.1 f.1))
     (λ none. cc (x.moves.kept j none, y.moves.kept j none)) (sender m j)) in
-    same_fabric a b inputs buffers (x.ranks ∙ sym y.ranks)
+    search (arith, rules, same_fabric, same_lists_at a.inputs b.inputs)
 
 pub one_departure : (ms : List Machine) (u v : List (Option Queued)) (a b c d : Fabric) → a ≡ b → Departs ms u a c →
     Departs ms v b d → (u ≡ v) × (c ≡ d)
@@ -93,8 +91,7 @@ one_slot ms slot cells f g g' r r' x y =
     let depart = one_departure ms r.gone r'.gone r.filled r'.filled r.sent r'.sent filled x.depart y.depart in
     let second = one_input_best _ r.second r'.second x.second_chosen (rw (← depart.1) at y.second_chosen) in
     let finish : Transfers r.second r.sent g' = rw (← depart.1, ← second) at y.finish in
-    let end = one_transfer r.second r.sent g g' x.second_chosen.stable x.finish finish in
-    grind (arith, same_record r r')
+    grind (arith, same_record r r', one_transfer r.second r.sent g g' x.second_chosen.stable x.finish finish)
 
 -- ## One run
 

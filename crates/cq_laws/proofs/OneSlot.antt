@@ -78,8 +78,7 @@ module _ (ms : List Machine) (slot class_count : ℕ) (cells : List (Option Cell
     (r : SlotRecord) (agrees : Agrees slot f ideal) (come : AreForPorts (length f.inputs) class_count cells)
     (step : FabricSlot IsStable ms slot cells f r f') where
   pub keyed : Keyed slot (length f.inputs) r.came
-  keyed = keyed_from ms slot (length f.inputs) class_count cells f.ranks
-      (record { came = r.came; ranks = r.arrived.ranks }) step.arrive.ranked come
+  keyed = keyed_from ms slot (length f.inputs) class_count cells f.ranks _ step.arrive.ranked come
 
   pub old_sound : Sound slot f
   old_sound = sound_from slot f ideal agrees
@@ -111,8 +110,7 @@ module _ (ms : List Machine) (slot class_count : ℕ) (cells : List (Option Cell
 
   full_rises : (j : ℕ) → IsRising (full j)
   full_rises j = rw (full_is j) (rising_put_all j r.came (list_of ideal.lists j) (agrees.rising j) (λ k q d e h same.
-      let lt = ⊎_elim (λ w. old_sound.early.waiting w.0 d w.1) (λ b. old_sound.early.crossed j d b)
-      ((agrees.same j d).0 h) in
+      let lt = ⊎_elim (λ w. old_sound.early.waiting w.0 d w.1) (old_sound.early.crossed j d) ((agrees.same j d).0 h) in
       let slots = ap (λ (x : Key). x.slot) same in omega (arith, keyed.slot_is k q e))
       (λ k l q s e e' same. cc (keyed.input_is k q e, keyed.input_is l s e')))
 
@@ -159,21 +157,15 @@ module _ (ms : List Machine) (slot class_count : ℕ) (cells : List (Option Cell
   pub same_slot : SendsAlike ms slot cells ideal r.gone f'
   unfolding ideal_slot
   same_slot =
+      let sound = second.sound in
+      let sent = first.slack 0 slack_arrived in
+      let slack = second.slack 0 (sent_slack ms r.gone (slot + 1) r.filled r.sent step.depart 0 sent) in
+      let ports = length_rests lists ∙ as_many ∙ sym ports_kept in
       record {
         next = after;
         sent = grind (arith, common_steps, after, same_gone);
-        agrees = record {
-          fabric = second.sound.fabric;
-          ports = length_rests lists ∙ as_many ∙ sym ports_kept;
-          ranks = grind (arith, common_steps, same_gone);
-          rising = λ j. rw (rest_of lists j) (rising_rest (full j) (full_rises j));
-          same = after_same;
-          order = second.sound.order;
-          differ = differ_from f' second.sound.fabric second.sound.order second.sound.apart;
-          earlier = all_before (slot + 1) f' second.sound.early;
-          slack = second.slack 0 (sent_slack ms r.gone (slot + 1) r.filled r.sent step.depart 0
-              (first.slack 0 slack_arrived));
-        };
+        agrees =
+            search (arith, rules, same_gone, rest_of, rising_rest, full_rises, after_same, differ_from, all_before);
       }
 
 -- ## Each phase keeps a fabric, and that each output has one rank state
@@ -182,8 +174,7 @@ pub arrivals_keep : (ms : List Machine) (slot class_count : ℕ) (cells : List (
     (came : List (Option Queued)) (old new : Fabric) → IsWholeFabric old →
     AreForPorts (length old.inputs) class_count cells → Arrives ms slot cells came old new → IsWholeFabric new
 arrivals_keep ms slot class_count cells came old new whole come arrive =
-    let keyed = keyed_from ms slot (length old.inputs) class_count cells old.ranks
-    (record { came = came; ranks = new.ranks }) arrive.ranked come in
+    let keyed = keyed_from ms slot (length old.inputs) class_count cells old.ranks _ arrive.ranked come in
     search (arith, rules, ranks_kept, arrived_fabric)
 
 pub transfer_keeps : (m : Partners) (old new : Fabric) → IsWholeFabric old → ListsKeepOrder old → Apart old →

@@ -4,8 +4,7 @@ use Rattle.cq_laws.proofs.Terms.{common_steps, rules, ◌≡◌, ℕ, suc, ◌+�
 
 pub fewer_fit : (P : List (Option Cell) → Type 0) (came : List Arrival) (m n : ℕ) → m ≤ n →
     AllByRecursion P (first_slots came n) → AllByRecursion P (first_slots came m)
-fewer_fit P came m n le all = all_front P (first_slots came m) (arriving_from came m (n - m))
-    (rw (arriving_parts came 0 m m (n - m) n (omega arith) (omega arith)) all)
+fewer_fit P came m n le all = search (arith, rules, all_front, arriving_parts came 0 m m (n - m) n)
 
 module _ {S R : Type 0} (Step : ℕ → List (Option Cell) → S → R → S → Type 0) where
   pub run_length : (slot : ℕ) (traffic : List (List (Option Cell))) (f g : S) (rs : List R) →

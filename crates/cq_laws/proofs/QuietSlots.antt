@@ -1,6 +1,6 @@
 -- Where no cell waits and none comes, nothing is offered: the matching of nobody is the only one, nothing moves, and
 -- no figure changes. Only the rank machines are told that their outputs were idle.
-use Rattle.cq_laws.proofs.Terms.{common_steps, rules, ◌≡◌, ℕ, zero, suc, ◌+◌, false, List, [], ◌∷◌, length, map, Option, Some, None, refl, ap, ◌∙◌, arith, All, min, is_some, filter_map, replicate, fold, enumerate_from, list_any, length-map, length-replicate, ext_get_or, sum_by-replicate, Queued, Figures, no_arrivals, Machine, Fabric, empty_fabric, IsEmptyFabric, Transfers, FabricSlot, FabricRun, InputFigures, departures_in, departures_of, idle_at, length-idle, nobody_sends, none_at, nothing_left, ranked_none, all_empty, Orders, ports, outputs_of, partner_of, spent, proposals, orders_of, transfers_of, gone_in, transfers_in, transfers_of_run, slacks, proposals_in, either_by, input_after, output_after, figures_after, OutputFigures, most_ports, IdealState, IsInputBest, cond, max, sum, no_departures}
+use Rattle.cq_laws.proofs.Terms.{common_steps, rules, ◌≡◌, ℕ, zero, suc, ◌+◌, false, List, [], ◌∷◌, length, map, Option, None, refl, ap, arith, All, min, is_some, filter_map, replicate, fold, enumerate_from, list_any, length-map, length-replicate, ext_get_or, sum_by-replicate, Queued, Figures, no_arrivals, Machine, Fabric, empty_fabric, IsEmptyFabric, Transfers, FabricSlot, FabricRun, InputFigures, departures_in, departures_of, idle_at, length-idle, nobody_sends, none_at, nothing_left, ranked_none, all_empty, ports, outputs_of, proposals, orders_of, transfers_of, gone_in, transfers_in, transfers_of_run, slacks, proposals_in, either_by, input_after, output_after, figures_after, OutputFigures, most_ports, IdealState, IsInputBest, no_departures}
 use Rattle.cq_laws.specs.Quiet.{idled, quiet_slot, quiet_slots, idled_for, KeepLaws}
 use Rattle.cq_laws.proofs.AddingUp.{map-constant}
 use Rattle.cq_laws.proofs.OneRun.{outputs_at}
@@ -8,20 +8,13 @@ use Rattle.cq_laws.proofs.WholeRuns.{empty_list}
 
 -- ## Nothing is offered
 
-module _ (n : ℕ) where
-  abbrev o : Orders
-  o = orders_of (replicate n [])
+no_outputs : (n i : ℕ) → outputs_of (orders_of (replicate n [])) i ≡ []
+no_outputs n i = cc (outputs_at (replicate n []) i, empty_list n i)
 
-  no_outputs : (i : ℕ) → outputs_of o i ≡ []
-  no_outputs i = cc (outputs_at (replicate n []) i, empty_list n i)
-
-  nothing_spent : (i : ℕ) → spent (outputs_of o i) (partner_of (replicate n None) i) ≡ 0
-  nothing_spent i = ap (spent (outputs_of o i)) (none_at n i) ∙ ap length (no_outputs i)
-
-  pub none_proposed : proposals (orders_of (replicate n [])) (replicate n None) ≡ 0
-  none_proposed =
-      let count = ports o in
-      let zeros = sum_by-replicate (λ (x : ℕ). x) count 0 in search (arith, rules, map-constant, nothing_spent)
+pub none_proposed : (n : ℕ) → proposals (orders_of (replicate n [])) (replicate n None) ≡ 0
+none_proposed n =
+    let zeros = sum_by-replicate (λ (x : ℕ). x) (ports (orders_of (replicate n []))) 0 in
+    search (arith, rules, map-constant, none_at, no_outputs)
 
 pub nobody_best : (n : ℕ) → IsInputBest (orders_of (replicate n [])) (replicate n None)
 nobody_best n = search (arith, rules, none_at, no_outputs, length-replicate, length-map)
@@ -36,11 +29,8 @@ pub quiet : (ms : List Machine) (slot n : ℕ) (ranks : List (List ℕ)) →
     (empty_fabric n (idled ms n ranks))
 unfolding quiet_slot idled
 quiet ms slot n ranks =
-    let best = nobody_best n in
-    let fill = nothing_moves n (empty_fabric n ranks) in
-    let finish = nothing_moves n (empty_fabric n (idled ms n ranks)) in
-    let sent = nobody_sends n in
-    let left = nothing_left n in search (arith, rules, ranked_none, none_at)
+    let left = nothing_left n in
+    search (arith, rules, nobody_best, nothing_moves, ranked_none, none_at, nobody_sends)
 
 pub quiet_run : (ms : List Machine) (count slot n : ℕ) (ranks : List (List ℕ)) →
     FabricRun IsInputBest ms slot (replicate count no_arrivals) (empty_fabric n ranks)
@@ -72,20 +62,14 @@ same_by_place : {X : Type 0} (g : ℕ → X → X) → ((i : ℕ) (x : X) → g 
 same_by_place g same n [] = refl
 same_by_place g same n (x ∷ xs) = λ k. same n x k ∷ same_by_place g same (n + 1) xs k
 
-no_slacks : (n i : ℕ) (ranks : List (List ℕ)) → slacks (empty_fabric n ranks) i ≡ []
-unfolding slacks
-no_slacks n i ranks = grind (arith, common_steps, empty_list)
-
 either-none : (f : ℕ → ℕ → ℕ) (o : Option ℕ) → either_by f o None ≡ o
-either-none f None = refl
-either-none f (Some x) = refl
+either-none f o = grind (arith, common_steps)
 
 same_input : (ms : List Machine) (slot n : ℕ) (ranks : List (List ℕ)) (i : ℕ) (x : InputFigures) →
     input_after (quiet_slot ms slot n ranks) i x ≡ x
-unfolding input_after quiet_slot
+unfolding input_after quiet_slot slacks
 same_input ms slot n ranks i x =
-    let came = none_at {X = Queued} most_ports i in
-    grind (arith, came, empty_list n i, no_slacks n i ranks, either-none min x.slack)
+    grind (arith, common_steps, empty_list n i, either-none min x.slack, none_at {X = Queued} most_ports i)
 
 same_output : (ms : List Machine) (slot n : ℕ) (ranks : List (List ℕ)) (j : ℕ) (x : OutputFigures) →
     output_after (quiet_slot ms slot n ranks) j x ≡ x
@@ -97,12 +81,9 @@ pub quiet_figures : (ms : List Machine) (slot n : ℕ) (ranks : List (List ℕ))
 unfolding figures_after quiet_slot proposals_in
 quiet_figures ms slot n ranks x =
     let r = quiet_slot ms slot n ranks in
-    let none : proposals_in r ≡ 0 ∷ 0 ∷ [] = λ k. none_proposed n k ∷ none_proposed n k ∷ [] in
-    let slots = ap (λ b. cond b (max x.slots (r.slot + 1)) x.slots) (none_sends n) in
-    let proposals = ap (λ l. x.proposals + sum l) none in
-    let most = ap (λ l. max x.most (fold max 0 l)) none in
     let inputs = same_by_place (input_after r) (same_input ms slot n ranks) 0 x.inputs in
-    let outputs = same_by_place (output_after r) (same_output ms slot n ranks) 0 x.outputs in grind arith
+    let outputs = same_by_place (output_after r) (same_output ms slot n ranks) 0 x.outputs in
+    grind (arith, common_steps, none_sends n, none_proposed n)
 
 -- ## A fabric in which no cell waits
 
@@ -144,10 +125,8 @@ module _ (ms : List Machine) (n : ℕ) where
 
   idled_twice : (ranks : List (List ℕ)) → KeepLaws ms ranks → idled ms n (idled ms n ranks) ≡ idled ms n ranks
   idled_twice ranks keep =
-      let long = length-idle ms n ranks in
-      let again = length-idle ms n (idled ms n ranks) in
-      ext_get_or [] (idled ms n (idled ms n ranks)) (idled ms n ranks) again (λ j inside.
-      grind (arith, common_steps, idle_at, (keep.laws j (omega arith)).idle_once, keep.sized j))
+      let once = idled ms n ranks in
+      search (arith, rules, ext_get_or [] (idled ms n once) once, length-idle, idle_at, keep.laws, keep.sized)
 
   pub idled_once : (count : ℕ) (ranks : List (List ℕ)) → KeepLaws ms ranks →
       idled_for ms (count + 1) n ranks ≡ idled ms n ranks

@@ -1,5 +1,5 @@
--- Partners of a matching: an output has an input whose partner it is, or none. The first cell for an output in a list is
--- no less urgent than any other for it.
+-- Partners of a matching: an output has an input whose partner it is, or none. And the first cell for an output in a
+-- list is no less urgent than any other for it.
 use Rattle.cq_laws.proofs.Terms.{◌≡◌, ◌≢◌, ℕ, zero, suc, ◌⊎◌, List, [], ◌∷◌, Option, Some, None, inl, inr, ⊎_elim, arith, slice_get, cases_lt, cases_eq, eqb-true, eq-eqb, same_Some, Queued, IsBefore, KeepsOrder, is_for, first_for, each_pair_at, first_le, partner_of, rules, Partners}
 use Rattle.cq_laws.proofs.Members.{first_at}
 

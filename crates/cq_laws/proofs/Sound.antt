@@ -74,11 +74,10 @@ one_in_order xs s t c order a b = one_place _ xs s t c (λ n. not_before_itself 
 
 pub differ_from : (f : Fabric) → IsFabric f → ListsKeepOrder f → Apart f → NoKeyTwice f
 differ_from f fabric order apart (Waiting i s) (Waiting k t) c d a b e =
-    let r = apart.waiting i k c d (has_there (input f i) s c a) (has_there (input f k) t d b) e in
-    grind (arith, r, one_in_order (input f i) s t c (order i) a)
+    search (arith, rules, apart.waiting i k c d, has_there, one_in_order (input f i) s t c (order i))
 differ_from f fabric order apart (Waiting i s) (Crossed j t) c d a b e = search (rules, apart.between, has_there)
 differ_from f fabric order apart (Crossed j t) (Waiting i s) c d a b e =
-    absurd (apart.between i j d c (has_there (input f i) s d b) (has_there (buffer f j) t c a) (sym e))
+    search (rules, apart.between i j d c, has_there)
 differ_from f fabric order apart (Crossed j s) (Crossed l t) c d a b e =
     search (arith, rules, has_there (buffer f j) s c a, has_there (buffer f l) t d b, one_place, not_before_itself)
 

@@ -1,5 +1,5 @@
 -- The words of this crate's proofs that stand elsewhere, each passed on from its place.
-pub use Rattle.cq_base.proofs.Library.{All, AllByRecursion, Bool, Err, List, None, Ok, Option, Result, Some, [], ap, append-nil, append_assoc, arith, cases_Bool, cases_eq, cases_lt, common_steps, cond, cond_both, cons_option, drop, enumerate_from, eq-eqb, eqb-true, ext_get_or, false, filter, filter_map, filter_map-append, find, flat_map, flat_map-append, fold, fold-append, get_or-map-range_with_len, get_or-set_other, get_or-set_same, get_or_default, get_or_past, inl, inr, insert, is_some, length, length-append, length-enumerate_from, length-map, length-map-range_with_len, length-replicate, length-take-le, list_any, map, map-append, map_push, max, min, ne_eqb, option_and_then, option_map, position_or_len, range_with_len, reduce, refl, replicate, rules, same_Some, set, slice_get, slice_get-get_or, subst, suc, sum, sum_by-replicate, sum_by_push, sym, take, take-append-drop, take_all, true, true≢false, zero, ℕ, ⊎_elim, ◌++◌, ◌+◌, ◌-◌, ◌<◌, ◌==◌, ◌↔◌, ◌∙◌, ◌∷◌, ◌≡◌, ◌≢◌, ◌≤◌, ◌⊎◌}
+pub use Rattle.cq_base.proofs.Library.{All, AllByRecursion, Bool, Err, List, None, Ok, Option, Some, [], ap, append-nil, append_assoc, arith, cases_Bool, cases_eq, cases_lt, common_steps, cond, cond_both, cons_option, drop, enumerate_from, eq-eqb, eqb-true, ext_get_or, false, filter, filter_map, filter_map-append, find, flat_map, flat_map-append, fold, fold-append, get_or-map-range_with_len, get_or-set_other, get_or-set_same, get_or_default, get_or_past, inl, inr, insert, is_some, length, length-append, length-enumerate_from, length-map, length-map-range_with_len, length-replicate, length-take-le, list_any, map, map-append, map_push, max, min, ne_eqb, option_and_then, option_map, position_or_len, range_with_len, reduce, refl, replicate, rules, same_Some, set, slice_get, slice_get-get_or, subst, suc, sum_by-replicate, sum_by_push, sym, take, take-append-drop, take_all, true, true≢false, zero, ℕ, ⊎_elim, ◌++◌, ◌+◌, ◌-◌, ◌<◌, ◌==◌, ◌↔◌, ◌∙◌, ◌∷◌, ◌≡◌, ◌≢◌, ◌≤◌, ◌⊎◌}
 pub use Rattle.cq_base.proofs.Keys.{key_laws}
 pub use Rattle.cq_base.proofs.Lists.{each_pair_at, each_pair_left, first_here, first_later, first_le, keeps_order_arrival}
 pub use Rattle.cq_base.specs.{Arrivals.arrival_at, Arriving.end_of, declared.figures.InputFigures.InputFigures, declared.key.Key.Key}
@@ -9,7 +9,7 @@ unfoldable pub use Rattle.cq_base.specs.Key.{is_before}
 pub use Rattle.cq_base.specs.Limits.{most_ports}
 pub use Rattle.cq_ideal.proofs.Admitted.{admitted_for_ports, marks_kept, no_arrivals_refuse_none}
 pub use Rattle.cq_ideal.proofs.LimitedEnds.{ends, fewer_slots, found_end, limited_found_end, limited_whole_fault, not_more, whole_fault}
-pub use Rattle.cq_ideal.proofs.LimitedRuns.{admitted_are, admitted_step, none_refused_in, run_fault, run_step}
+pub use Rattle.cq_ideal.proofs.LimitedRuns.{admitted_are, admitted_step, none_in, none_refused_in, run_fault, run_step}
 pub use Rattle.cq_ideal.proofs.Parted.{arriving_length, arriving_parts, departures_append, next_slot, quiet_from}
 pub use Rattle.cq_ideal.proofs.Resting.{all_empty, idle_at, length-idle, nobody_sends, none_at, nothing_left, ranked_none}
 pub use Rattle.cq_ideal.specs.Admission.{RefusesNone, marked, nothing_refused}
@@ -20,7 +20,7 @@ pub use Rattle.cq_ideal.specs.IdealRun.{IsEmptyIdeal, Ran, empty_ideal, then_ran
 unfoldable pub use Rattle.cq_ideal.specs.IdealRun.{departures_of, ideal_run}
 pub use Rattle.cq_ideal.specs.IdealSlot.{Sent, departures_from, fronts, put_all, rests}
 unfoldable pub use Rattle.cq_ideal.specs.IdealSlot.{all_told, departures_in, filled, ideal_slot}
-pub use Rattle.cq_ideal.specs.LimitedIdeal.{LimitedRan, empty_limited, ideal_admission}
+pub use Rattle.cq_ideal.specs.LimitedIdeal.{empty_limited, ideal_admission}
 unfoldable pub use Rattle.cq_ideal.specs.LimitedIdeal.{admitted_traffic, limited_run, limited_slot}
 pub use Rattle.cq_ideal.specs.Ranking.{Ranking, ranking}
 pub use Rattle.cq_prefs.proofs.InputOrder.{are_offers, are_orders}
@@ -29,7 +29,7 @@ pub use Rattle.cq_prefs.specs.Moves.{list_taken, noted}
 unfoldable pub use Rattle.cq_prefs.specs.Moves.{transfers_of}
 pub use Rattle.cq_prefs.specs.Orders.{IsListed, Orders, outputs_of, ports}
 unfoldable pub use Rattle.cq_prefs.specs.Orders.{place_in}
-pub use Rattle.cq_prefs.specs.Pairing.{HasBetterInput, depth, partner_of, proposals, spent, with_pair}
+pub use Rattle.cq_prefs.specs.Pairing.{HasBetterInput, depth, partner_of, proposals, with_pair}
 pub use Rattle.cq_laws.specs.Agreement.{RunsAlike, SendsAlike}
 pub use Rattle.cq_laws.specs.Frozen.{IsSoundFabric, in_order}
 unfoldable pub use Rattle.cq_laws.specs.Frozen.{ideal_of}

@@ -24,15 +24,11 @@ one_by_one h k own_h own_k a (suc n) e i low high =
 
 -- ## Partners
 
-module _ (slot phase i : ℕ) (cells : List Queued) where
-  own_noted : (p : Option ℕ) (t : Transfer) → noted slot phase i cells p ≡ Some t → t.input ≡ i
-  own_noted p t e = grind (arith, common_steps)
-
 pub transfers_tell : (lists : List (List Queued)) (m n : Partners) (slot phase : ℕ) → IsStable (orders_of lists) m →
     IsStable (orders_of lists) n → transfers_of m lists slot phase ≡ transfers_of n lists slot phase → m ≡ n
 unfolding transfers_of
 transfers_tell lists m n slot phase stable_m stable_n e =
     let size = stable_m.matching.size ∙ sym stable_n.matching.size in
     let notes : Partners → ℕ → Option Transfer = λ p i. noted slot phase i (list_of lists i) (partner_of p i) in
-    let own : (p : Partners) → OwnInput (notes p) = λ p i. own_noted slot phase i (list_of lists i) (partner_of p i) in
+    let own : (p : Partners) → OwnInput (notes p) = search (arith, rules) in
     search (arith, rules, ext_get_or None m n, offer_of, one_by_one (notes m) (notes n) (own m) (own n) 0 (length m))

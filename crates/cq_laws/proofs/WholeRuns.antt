@@ -1,6 +1,6 @@
 -- Whole runs, slot by slot from states that agree. The empty states agree, so what holds of agreeing states holds
 -- from the first slot on.
-use Rattle.cq_laws.proofs.Terms.{common_steps, rules, ◌≡◌, ℕ, suc, ◌+◌, ◌↔◌, List, [], ◌∷◌, length, Option, Some, Err, refl, ap, ◌∙◌, inl, inr, arith, ⊎_elim, All, slice_get, replicate, AllByRecursion, length-replicate, get_or_past, get_or_default, cases_lt, Cell, Queued, TagFault, Machine, AreForPorts, IsStable, Fabric, IsAmong, next_slot, empty_fabric, IsEmptyFabric, HasSlack, SlotRecord, FabricRun, FabricStops, IsEmptyIdeal, ideal_run, empty_ideal, list_of, RunsAlike, none_had, IdealState, Agrees}
+use Rattle.cq_laws.proofs.Terms.{common_steps, rules, ◌≡◌, ℕ, ◌+◌, ◌↔◌, List, [], ◌∷◌, length, Option, Some, Err, refl, ap, ◌∙◌, inl, inr, arith, ⊎_elim, All, slice_get, replicate, AllByRecursion, length-replicate, get_or_past, get_or_default, cases_lt, Cell, Queued, TagFault, Machine, AreForPorts, IsStable, Fabric, IsAmong, next_slot, empty_fabric, IsEmptyFabric, HasSlack, SlotRecord, FabricRun, FabricStops, IsEmptyIdeal, ideal_run, empty_ideal, list_of, RunsAlike, none_had, IdealState, Agrees}
 use Rattle.cq_laws.proofs.OneSlot.{same_fault, same_slot, slack_arrived, ports_kept}
 
 module _ (ms : List Machine) (class_count : ℕ) where
@@ -68,8 +68,7 @@ empty_together slot f ideal agrees = (
 -- ## The empty states agree
 
 pub empty_list : (n i : ℕ) → list_of (replicate n []) i ≡ []
-empty_list (suc n) (suc i) = empty_list n i
-empty_list n i = refl
+empty_list n i = grind (arith, common_steps)
 
 module _ (ports : ℕ) (ranks : List (List ℕ)) where
   pub no_place : (i t : ℕ) (c : Queued) → slice_get (list_of (replicate ports []) i) t ≡ Some c → ⊥

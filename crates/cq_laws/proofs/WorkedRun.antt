@@ -55,10 +55,8 @@ ComesTo old r i = input r.arrived i ≡ list_arrived old (came_to r.came i) (inp
 -- of three inputs, and past them
 at_inputs : (old : Fabric) (r : SlotRecord) → ComesTo old r 0 → ComesTo old r 1 → ComesTo old r 2 →
     ((i : ℕ) → ComesTo old r (suc (suc (suc i)))) → (i : ℕ) → ComesTo old r i
-at_inputs old r a b c past zero = a
-at_inputs old r a b c past (suc zero) = b
-at_inputs old r a b c past (suc (suc zero)) = c
 at_inputs old r a b c past (suc (suc (suc i))) = past i
+at_inputs old r a b c past i = grind (arith, common_steps)
 
 -- ## The slots
 
