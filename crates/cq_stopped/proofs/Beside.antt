@@ -61,17 +61,11 @@ module _ (w : Switch) where
     arrived_many : length r.of_slot.arrived.inputs ≡ length w.machines
     arrived_many = k.step.arrive.ports ∙ k.ports
 
-    sent_many : length r.of_slot.sent.inputs ≡ length w.machines
-    sent_many = grind (arith, common_steps, arrived_many)
-
     -- what holds of each cell that was there or came holds of each at every moment of the slot
     module _ (P : Queued → Type 0) (all : (j : ℕ) (q : Queued) → HasFor f.state j q ⊎ CameFor r.of_slot.came j q → P q)
       where
-        of_arrived : (j : ℕ) (q : Queued) → HasFor r.of_slot.arrived j q → P q
-        of_arrived j q has = search (arith, rules, arrived_has, keyed, old_sound, all j)
-
         of_filled : (j : ℕ) (q : Queued) → HasFor r.of_slot.filled j q → P q
-        of_filled j q has = search (rules, of_arrived j, moved_has, arrived_is)
+        of_filled j q has = search (arith, rules, arrived_has, keyed, old_sound, all j, moved_has, arrived_is)
 
         of_gone : (j : ℕ) (q : Queued) → slice_index_or r.of_slot.gone j None ≡ Some q → P q
         of_gone j q left = grind (arith, common_steps, of_filled j, has_there)
@@ -96,9 +90,6 @@ module _ (w : Switch) where
             (λ j q left. (of_gone (IsKeyed w) k.keyed j q left).rank));
       }
 
-      recorded : IsCount (slot + 1) → IsCount (waits f.state) → IsRecordedWithin r.of_slot
-      recorded low few = grind (arith, common_steps, arrived_list, buffer_few)
-
     -- ## How many proposals a slot makes
 
     abbrev came : ℕ
@@ -117,22 +108,13 @@ module _ (w : Switch) where
     -- a phase makes no more than the number of ports squared
     proposed_few : length w.machines ≤ most_ports → sum (proposals_in r.of_slot) ≤ 8192
     unfolding proposals_in
-    proposed_few few =
-        let first = rw arrived_many at
-        (proposals_few r.of_slot.arrived r.of_slot.first k.step.first_chosen.matching arrived_is.fabric) in
-        let second = rw sent_many at
-        (proposals_few r.of_slot.sent r.of_slot.second k.step.second_chosen.matching sent_is.fabric) in
-        let square = square_few (length w.machines) few in search (arith, rules)
-
-    -- nothing is proposed where nothing waits and nothing comes
-    no_lists : waits f.state ≡ 0 → (i : ℕ) → length (input f.state i) ≡ 0
-    no_lists none i =
-        let before = all_wait slot f.state k.ideal k.agrees in
-        let empty = (empty_together slot f.state k.ideal k.agrees).1 (nothing_left k.ideal.lists (before ∙ none)) in
-        grind (arith, common_steps, empty.inputs, get_or_past, cases_lt)
+    proposed_few few = search (arith, rules, proposals_few, arrived_is, sent_is, arrived_many, square_few)
 
     none_proposed : waits f.state ≡ 0 → came ≡ 0 → sum (proposals_in r.of_slot) ≡ 0
-    none_proposed none quiet = search (rules, simulate_none, no_lists)
+    none_proposed none quiet =
+        let before = all_wait slot f.state k.ideal k.agrees in
+        let empty = (empty_together slot f.state k.ideal k.agrees).1 (nothing_left k.ideal.lists (before ∙ none)) in
+        search (arith, rules, simulate_none, empty.inputs, get_or_past, cases_lt)
 
     slot_proposed : length w.machines ≤ most_ports →
         sum (proposals_in r.of_slot) + 8192 * waits g.state ≤ 8192 * (waits f.state + came)
@@ -150,8 +132,7 @@ module _ (w : Switch) where
       let on = next_within slot f run.0 r run.1 keeps within in
       let less = fewer_wait slot f run.0 r run.1 in
       let rest = run_within few keeps (slot + 1) n run.0 g rs run.2 (omega arith) (omega (arith, run.1.fewer)) on in
-      let here = slot_proposed slot f run.0 r run.1 few in
-      search (arith, rules, recorded slot f run.0 r run.1 keeps within, sum_by-append (λ (n : ℕ). n))
+      grind (arith, common_steps, sum_by-append (λ (n : ℕ). n), arrived_list, buffer_few, slot_proposed slot f run.0)
   run_within few keeps slot _ f g _ run low all within = absurd run
 
   pub all_proposed : (slots : ℕ) (ranks : List (List ℕ)) (g : Marked Fabric) (rs : List LimitedRecord) →

@@ -1,7 +1,7 @@
 -- What is known of a switch that tables configure, with what arrives at it: its ports and classes, its machines, that
 -- keep the laws of machines and begin in a state of their size, and its arrivals, of which there are not many. They
 -- come packet after packet at each input.
-use Rattle.cq_stopped.proofs.Terms.{common_steps, rules, ◌≡◌, ℕ, zero, suc, ◌+◌, ◌-◌, ◌*◌, ◌<◌, ◌≤◌, ◌^◌, min, List, [], ◌∷◌, length, map, flat_map, arith, length-append, fold, replicate, slice_index_or, AllByRecursion, range_with_len, length-map, Scheduled, IsRecorded, IsTraffic, KeepsLaws, Machine, machine_at, all_both, ArePackets, IsScheduleOf, Switch, switch_of, AreTables, IsSetup, Tables, machine_of, machines_of, opening_of, openings_of, AreRecorded, of_images, FitsLine, ClassRow, Kind, FirstCome, Fair, Setup, few_by, Captured, schedule_known, small_cells, keeps_laws, kind, machine_is, right_classes, right_size, level_count, longest_file, most_classes, most_ports}
+use Rattle.cq_stopped.proofs.Terms.{common_steps, rules, ◌≡◌, ℕ, zero, suc, ◌+◌, ◌-◌, ◌*◌, ◌<◌, ◌≤◌, ◌^◌, min, List, [], ◌∷◌, length, map, flat_map, arith, length-append, fold, replicate, slice_index_or, AllByRecursion, range_with_len, length-map, Scheduled, IsRecorded, IsTraffic, KeepsLaws, Machine, machine_at, all_both, ArePackets, IsScheduleOf, Switch, switch_of, AreTables, Tables, machine_of, opening_of, openings_of, AreRecorded, of_images, FitsLine, ClassRow, Kind, FirstCome, Fair, few_by, Captured, schedule_known, small_cells, keeps_laws, kind, machine_is, right_classes, right_size, level_count, longest_file, most_classes, most_ports}
 use Rattle.cq_cells.specs.Schedule.{arrivals, arrivals_at, t0_of, packets_of}
 
 -- all numbers of a rank state fit 128 bits
@@ -55,14 +55,6 @@ machines_low [] rows j = machine_low FirstCome []
 machines_low (k ∷ kinds) rows zero = machine_low k rows
 machines_low (k ∷ kinds) rows (suc j) = machines_low kinds rows j
 
-module _ (setup : Setup) (j : ℕ) (inside : j < length setup.kinds) where
-  small_size : length setup.classes ≤ most_classes → (machine_at (machines_of setup) j).size ≤ 32
-  small_size few = search (arith, rules, kind, machine_is)
-
-  low_level : (c : ℕ) → c < length setup.classes → IsSetup setup →
-      (machine_at (machines_of setup) j).level c ≤ level_count - 1
-  low_level c known is = search (arith, rules, machine_is, kind)
-
 -- ## The captures
 
 module _ (t : Tables) (captures : List (List Captured)) where
@@ -105,13 +97,9 @@ pub configured : (t : Tables) (s : Scheduled) (made : IsScheduleOf t s) → AreT
     IsConfigured (switch_of t s) (openings_of t.setup)
 configured t s made tables recorded =
     let setup = t.setup in
-    let many = length-map setup.kinds (λ (k : Kind). machine_of k setup.classes) in
     let known = schedule_known t s tables made in
     let few : length made.captures ≤ most_ports = omega arith in
     let stamp : s.t0 < 2 ^ 63 = rw made.schedule (first_low made.captures recorded) in
-    let names = small_cells t made.captures (omega arith) recorded in
-    let short = all_short t made.captures tables few recorded in
     let low = machines_low setup.kinds setup.classes in
-    let openings = length-map setup.kinds (λ (k : Kind). opening_of k setup.classes) in
     let openings_low = openings_all setup.kinds setup.classes in
-    search (arith, rules, keeps_laws, right_classes, low_level, small_size, right_size)
+    search (arith, rules, keeps_laws, right_classes, kind, machine_is, right_size, length-map, small_cells, all_short)

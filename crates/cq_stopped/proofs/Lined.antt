@@ -1,7 +1,7 @@
 -- The departures and the transfers of a run: what a slot adds to the departures, at each output the cell that it sent,
 -- if it sent one; that departures stand in order, slot by slot and those of a slot by output; that transfers which a
 -- log can hold do so, and are in range; and the figures that are read off them.
-use Rattle.cq_stopped.proofs.Terms.{list_any, filter_none, ◌≡◌, ℕ, zero, suc, ◌+◌, ◌<◌, List, [], ◌∷◌, ◌++◌, Option, Some, None, refl, arith, rules, ◌≤◌, ◌⊎◌, length, map, ◌-◌, eqb, Bool, true, false, ◌∙◌, eq-eqb, ne_eqb, and_from, and_parts, cases_lt, eqb-true, common_steps, map-append, get_or_past, length-map, filter-append, sum_by-cons, AllByRecursion, range_with_len, cons_option, enumerate_from, ◌==◌, filter, slice_index_or, ◌&&◌, count_by, filter_map, is_some, option_map, Arrival, Departure, Queued, Transfer, listed, slots_of, departures_of, departures_from, departures_in, SlotRecord, LimitedRecord, slots_in, figures_of, input_figures, output_figures, sent_by, wait_at, came_to, gone_in, EachPair, all_both, all_weaker, Differ, all_from_has, all_of_has, Has, has_kept, kept_has, AreApart, Stands, no_more, pairs_kept, figures_told, input_told, output_told, sent_told, seen_as, IsTransferBefore, named_in, Named, State, has_number, AreNumbered, IsMoved, AreWritten, ◌^◌, any_has, has_any, pairs_joined, Figures, InputFigures, Seen}
+use Rattle.cq_stopped.proofs.Terms.{list_any, filter_none, ◌≡◌, ℕ, zero, suc, ◌+◌, ◌<◌, List, [], ◌∷◌, ◌++◌, Option, Some, None, refl, arith, rules, ◌≤◌, ◌⊎◌, length, map, ◌-◌, Bool, true, false, ◌∙◌, eq-eqb, ne_eqb, and_from, and_parts, cases_lt, eqb-true, common_steps, map-append, get_or_past, length-map, filter-append, sum_by-cons, AllByRecursion, range_with_len, cons_option, enumerate_from, ◌==◌, filter, slice_index_or, count_by, filter_map, is_some, option_map, Arrival, Departure, Queued, Transfer, listed, slots_of, departures_of, departures_from, departures_in, SlotRecord, LimitedRecord, slots_in, figures_of, input_figures, output_figures, sent_by, wait_at, came_to, gone_in, EachPair, all_both, all_weaker, Differ, all_from_has, all_of_has, Has, has_kept, kept_has, AreApart, Stands, no_more, pairs_kept, figures_told, input_told, output_told, sent_told, seen_as, IsTransferBefore, named_in, Named, State, has_number, AreNumbered, IsMoved, AreWritten, ◌^◌, any_has, has_any, pairs_joined, Figures, InputFigures, Seen}
 use Rattle.cq_stopped.proofs.Joined.{pairs_in}
 use Rattle.cq_stopped.proofs.Ran.{left_at, came_in, came_of, is_name_at}
 
@@ -41,13 +41,7 @@ module _ (j : ℕ) where
   pub left_more : (slot : ℕ) (sent : List Departure) (gone : List (Option Queued)) →
       left_at j (sent ++ departures_in slot gone) ≡ left_at j sent ++ listed (slice_index_or gone j None)
   unfolding departures_in
-  left_more slot sent gone =
-      let here = its_one slot 0 j gone (omega arith) in
-      search (arith, rules, filter-append, map-append, left_at, listed_is)
-    where
-      listed_is : (o : Option Queued) → map (λ (d : Departure). d.queued) (told_of slot o) ≡ listed o
-      listed_is None = refl
-      listed_is (Some q) = refl
+  left_more slot sent gone = grind (arith, common_steps, filter-append, map-append, its_one slot 0 j)
 
 -- ## Departures in order
 
@@ -70,8 +64,7 @@ slot_in_order : (slot a : ℕ) (gone : List (Option Queued)) → EachPair Depart
 slot_in_order slot a [] = tt
 slot_in_order slot a (None ∷ gone) = slot_in_order slot (a + 1) gone
 slot_in_order slot a (Some q ∷ gone) =
-    let all = each_departs slot (DepartsBefore (departure slot a q)) gone (a + 1) in
-    search (arith, rules, all, slot_in_order slot (a + 1) gone)
+    search (arith, rules, slot_in_order slot (a + 1) gone, each_departs slot (DepartsBefore (departure slot a q)))
 
 pub departures_in_order : (slot : ℕ) (slots : List (List (Option Queued))) →
     EachPair DepartsBefore (departures_of slot slots)
@@ -117,8 +110,7 @@ module _ (j : ℕ) where
       filter (is_its j) (departures_of slot (gone_in rs)) ≡ filter_map its_departure rs
   unfolding departures_of departures_in
   its_all slot [] are = refl
-  its_all slot (r ∷ rs) are =
-      let rest = its_all (slot + 1) rs are.1 in search (arith, rules, its_one j slot 0 j r.gone, filter-append)
+  its_all slot (r ∷ rs) are = grind (arith, common_steps, its_one j slot 0 j, filter-append, its_all (slot + 1) rs)
 
   waits : (rs : List SlotRecord) →
       map (λ (d : Departure). d.slot - d.queued.key.slot) (filter_map its_departure rs) ≡ filter_map (wait_at j) rs
@@ -179,15 +171,12 @@ module _ (names : List Named) (rs : List LimitedRecord) (differ : EachPair Diffe
       let numbers = range_with_len 0 (length rs) in
       let few = no_more IsOfSlot mine slots
       (search (arith, rules, pairs_in, Differ, AreApart, kept_has, eqb-true, pairs_kept))
-      (all_from_has (Stands IsOfSlot slots) mine (λ c has.
-      search (arith, rules, kept_has, name_comes, eqb-true, comes_inside, has_kept, has_number))) in
+      (search (arith, rules, all_from_has, kept_has, name_comes, eqb-true, comes_inside, has_kept, has_number)) in
       let most = no_more IsSlotOf slots mine (search (arith, rules, pairs_in, AreApart, pairs_kept, range_rises))
       (all_from_has (Stands IsSlotOf mine) slots (λ t has.
-      let it = has_any (λ (d : Named). eqb d.slot t && eqb d.input i) names
-      (named_at t i ∙ (kept_has comes numbers t has).1) in
+      let it = has_any (is_name_at t i) names (named_at t i ∙ (kept_has comes numbers t has).1) in
       search (arith, rules, and_parts, has_kept, eqb-true))) in
-      let count = came_count (came_of rs) i 0 rs (λ t k e. let same : t ≡ k = omega arith in rw same refl) in
-      omega arith
+      omega (arith, came_count (came_of rs) i 0 rs (λ t k e. let same : t ≡ k = omega arith in rw same refl))
 
 -- ## Together
 

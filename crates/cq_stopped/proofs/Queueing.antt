@@ -3,7 +3,7 @@
 -- output. A cell that comes has another name than each that came before it, and of its flow each came in an earlier
 -- slot. In the order of keys none of these stands behind it: each has its level and no greater rank. So of each two
 -- cells, what left the output and then what waits there, the one ahead goes before the other as it did.
-use Rattle.cq_stopped.proofs.Terms.{rules, ◌≡◌, ℕ, zero, suc, ◌+◌, ◌<◌, ◌≤◌, ◌^◌, Bool, true, false, cond, List, [], ◌∷◌, length, Option, Some, None, Result, Ok, Err, refl, arith, ◌++◌, ap, ⊎_elim, cases_eq, ltb-true, both_ways, cases_lt, cond_both, eq-eqb, eqb-true, le-ltb, lt-ltb, false_from_ne_true, common_steps, get_or-set_other, get_or-set_same, length-set, same_Some, AllByRecursion, is_some, slice_index_or, slice_set, arrival_at, is_for, put, Cell, Queued, came_from, only_ok, all_told, put_all, Ranking, ranking, all_put, among_put, IsAmong, came_to, KeepLaws, Machine, machine_at, EachPair, all_weaker, all_both, all_front, all_back, after_input_ok, key_laws, TagFault, Key, NoLater, in_order_put, given_floor, all_from_has, all_of_has, all_made}
+use Rattle.cq_stopped.proofs.Terms.{rules, ◌≡◌, ℕ, zero, suc, ◌+◌, ◌<◌, ◌≤◌, ◌^◌, Bool, true, false, cond, List, [], ◌∷◌, length, Option, Some, None, Result, Ok, Err, refl, arith, ◌++◌, cases_eq, ltb-true, both_ways, cases_lt, cond_both, eq-eqb, eqb-true, le-ltb, lt-ltb, false_from_ne_true, common_steps, get_or-set_other, get_or-set_same, length-set, same_Some, AllByRecursion, is_some, slice_index_or, slice_set, arrival_at, is_for, put, Cell, Queued, came_from, only_ok, all_told, put_all, Ranking, ranking, all_put, among_put, IsAmong, came_to, KeepLaws, Machine, machine_at, EachPair, all_weaker, all_both, all_front, all_back, after_input_ok, key_laws, TagFault, Key, NoLater, in_order_put, given_floor, all_from_has, all_of_has, all_made}
 use Rattle.cq_base.specs.Key.{is_before}
 use Rattle.cq_ideal.specs.Ranking.{keyed}
 use Rattle.cq_stopped.proofs.Configured.{AreLow, KeepsLow}
@@ -11,8 +11,7 @@ use Rattle.cq_stopped.proofs.Ran.{Follows}
 
 fits : (b : Bool) (x : Result Ranking TagFault) (fault : TagFault) (r : Ranking) → cond b x (Err fault) ≡ Ok r →
     (b ≡ true) × (x ≡ Ok r)
-fits true x fault r h = (refl, h)
-fits false x fault r h = absurd (let P : ⊥ = cc in P)
+fits b x fault r h = grind (arith, common_steps)
 
 module _ (ms : List Machine) (slot : ℕ) where
   -- the rank states after a cell got its rank
@@ -39,11 +38,6 @@ module _ (ms : List Machine) (slot : ℕ) where
 
     still_keep : KeepLaws ms (after ranks cell)
     still_keep = grind (arith, common_steps, length-set, sized, get_or-set_same, get_or-set_other, cases_eq)
-
-    rises : (j d : ℕ) → j < length ranks → d < (machine_at ms j).classes →
-        (machine_at ms j).floor (slice_index_or ranks j []) d
-        ≤ (machine_at ms j).floor (slice_index_or (after ranks cell) j []) d
-    rises j d inside class = search (rules, get_or-set_same, given_floor, sized, get_or-set_other, cases_eq)
 
   -- what a cell at an input gets
   abbrev one_at : ℕ → List (List ℕ) → Cell → Queued
@@ -78,16 +72,15 @@ module _ (ms : List Machine) (slot : ℕ) where
       let it = ranked_from (i + 1) cells (after ranks cell) b.1 keeps (λ l other is. rw same (known (suc l) other is))
       b.2 k q at' in
       let c = came_from ms slot (i + 1) cells (after ranks cell) b.1 b.2 k q at' in
-      let own = known (suc k) q.cell c.cell_is in search (arith, rules, rises)
+      search (arith, rules, get_or-set_same, given_floor, sized, get_or-set_other, cases_eq, known (suc k) q.cell)
 
   -- a cell came just where one arrives
   pub came_where : (i : ℕ) (cells : List (Option Cell)) (ranks : List (List ℕ)) (r : Ranking) →
       ranking ms slot i cells ranks ≡ Ok r → (k : ℕ) → is_some (came_to r.came k) ≡ is_some (arrival_at cells k)
   came_where i [] ranks r h k = grind (arith, common_steps, only_ok)
   came_where i (None ∷ cells) ranks r h k = search (rules, after_input_ok, came_where (i + 1) cells ranks)
-  came_where i (Some cell ∷ cells) ranks r h zero = grind (arith, common_steps, one_behind)
-  came_where i (Some cell ∷ cells) ranks r h (suc k) =
-      let b = one_behind i cell cells ranks r h in rw (← b.3) (came_where (i + 1) cells (after ranks cell) b.1 b.2 k)
+  came_where i (Some cell ∷ cells) ranks r h k =
+      search (arith, rules, one_behind i cell cells ranks r h, came_where (i + 1) cells (after ranks cell))
 
 -- ## The numbers of the rank states fit 128 bits, since the run would stop at the first rank that does not
 
@@ -113,8 +106,7 @@ module _ (ms : List Machine) (keeps : (j : ℕ) → KeepsLow (machine_at ms j)) 
       ((j : ℕ) (q : Queued) → slice_index_or gone j None ≡ Some q → q.key.rank < 2 ^ 128) →
       AllByRecursion AreLow (all_told ms gone states)
   unfolding all_told
-  told_low gone states all sent =
-      all_made AreLow _ 0 (length states) (λ j _ lt. let here = sent j in search (arith, rules, low_at))
+  told_low gone states all sent = all_made AreLow _ 0 (length states) (search (arith, rules, low_at, sent))
 
 -- ## A lesser key
 
@@ -138,15 +130,9 @@ module _ (R : Queued → Queued → Type 0) (q : Queued) where
   waiting_pairs : (xs : List Queued) → EachPair NoLater xs → EachPair R xs → AllByRecursion (λ x. R x q) xs →
       AllByRecursion MayStandBehind xs → EachPair R (put q xs)
   waiting_pairs [] order pairs ahead after = (tt, tt)
-  waiting_pairs (x ∷ xs) order pairs ahead after = cond_both (is_before q.key x.key) (q ∷ x ∷ xs) (x ∷ put q xs)
-      (λ l. EachPair R l) (λ h. (
-        (
-          after.0 (key_laws.one_way q.key x.key h),
-          all_from_has (R q) xs (search (arith, rules, all_of_has, none_before, NoLater)),
-        ),
-        pairs,
-      ))
-      (λ _. (all_put (R x) q xs ahead.0 pairs.0, waiting_pairs xs order.1 pairs.1 ahead.1 after.1))
+  waiting_pairs (x ∷ xs) order pairs ahead after =
+      let rest = waiting_pairs xs order.1 pairs.1 ahead.1 after.1 in
+      search (arith, rules, cond_both, key_laws.one_way, all_from_has, all_of_has, none_before, all_put)
 
   pub put_pairs : (left xs : List Queued) → EachPair NoLater xs → EachPair R (left ++ xs) →
       AllByRecursion (λ x. R x q) (left ++ xs) → AllByRecursion MayStandBehind xs → EachPair R (left ++ put q xs)
@@ -199,8 +185,7 @@ module _ (j slot : ℕ) where
       cond_both (is_for j q) (put q xs) xs (λ l. EachPair Follows (left ++ put_all j came l))
       (λ here. pairs_put_all came (a + 1) left (put q xs) (come_on a (Some q) came come)
       (search (arith, rules, all_both, earlier_on, all_front, all_put)) (λ k p x at output among before class.
-      ⊎_elim (λ same. absurd (omega (arith, ap (λ (y : Queued). y.key.slot) same)))
-      (λ was. old (suc k) p x at output was before class) (among_put x q xs among))
+      search (arith, rules, among_put x q xs among, old (suc k)))
       (in_order_put q xs order)
       (put_pairs Follows q left xs order pairs (search (arith, rules, all_weaker, ahead))
       (all_from_has _ xs (λ x among. stands_behind a q slot_is input_is x (all_of_has (IsEarlier a) xs x waits among)

@@ -3,7 +3,7 @@
 -- are one, and of all others the names differ. Each name in the state is of such a cell, and comes to it: each list to
 -- the list of its input, each buffer to that of its output, and each departure to itself. So the clauses hold that ask
 -- for a sound state, but for the fourth.
-use Rattle.cq_stopped.proofs.Terms.{rules, ◌≡◌, ℕ, ◌<◌, List, [], length, Option, refl, sym, ◌∙◌, inl, inr, arith, true, ◌++◌, map, Some, None, ap, ⊎_elim, ◌≤◌, false_from_ne_true, and_from, and_parts, eq-eqb, eqb-true, common_steps, list_any, filter_map, ◌==◌, is_some, slice_index_or, filter, option_map, IsSome, IsBefore, is_for, Departure, Queued, Transfer, HasWaited, IdealState, apart_from, not_before_itself, Fabric, buffer, input, fabric_in, HasFor, list_of, machine_at, EachPair, all_pairs, all_weaker, cell_with, Differ, Has, all_from_has, all_of_has, has_left, has_right, pair_of_has, has_cases, has_image, image_has, kept_has, pairs_cross, pairs_left, pairs_right, pairs_with, departure_of, sent_told, named_as, sent_as, state_of, HaveSlack, AreArrivals, IsBufferedBefore, IsTransferBefore, StandInOrder, KeepArrivalOrder, OfOneFlow, AreBelowFloors, IsBelowFloor, Switch, HasShape, class_in, class_of, named_in, output_in, output_of, queued_in, buffer_told, fabric_told, list_told, queued_of, arriving_cell, is_ahead, Taken, Named, Sent, told_state, State, has_all, any_has, has_any, pairs_joined, pairs_mapped}
+use Rattle.cq_stopped.proofs.Terms.{rules, ◌≡◌, ℕ, ◌<◌, List, [], length, Option, refl, sym, ◌∙◌, inl, inr, arith, true, ◌++◌, map, Some, None, ap, ⊎_elim, ◌≤◌, false_from_ne_true, and_from, and_parts, eq-eqb, eqb-true, common_steps, map-append, list_any, filter_map, ◌==◌, is_some, slice_index_or, filter, option_map, IsSome, IsBefore, is_for, Departure, Queued, Transfer, HasWaited, IdealState, apart_from, not_before_itself, Fabric, buffer, input, fabric_in, HasFor, list_of, machine_at, EachPair, all_pairs, all_weaker, cell_with, Differ, Has, all_from_has, all_of_has, has_left, has_right, pair_of_has, has_cases, has_image, image_has, kept_has, pairs_cross, pairs_left, pairs_right, pairs_with, sent_told, named_as, sent_as, state_of, HaveSlack, AreArrivals, IsBufferedBefore, IsTransferBefore, StandInOrder, KeepArrivalOrder, OfOneFlow, AreBelowFloors, IsBelowFloor, Switch, HasShape, class_in, class_of, named_in, output_in, output_of, queued_in, buffer_told, fabric_told, list_told, queued_of, arriving_cell, is_ahead, Taken, Named, Sent, told_state, State, has_all, any_has, has_any, pairs_joined, pairs_mapped}
 use Rattle.cq_stopped.proofs.Joined.{pairs_in, all_of, has_number, pairs_by_number, pairs_of_all, has_at_place, is_at, pairs_both, filter_images, sift, told_again, by_places, image_pairs}
 use Rattle.cq_stopped.proofs.Lined.{AreMoved, DepartsBefore}
 use Rattle.cq_stopped.proofs.Ran.{Follows, IsOwn, IsSentRight, Known, left_at, pool_at, IsHeld, came_in, is_name_at}
@@ -87,25 +87,20 @@ module _ {w : Switch} (at : Taken) {ideal : IdealState} {cs : List (List (Option
   follows_left : (d : Departure) (q : Queued) → Has at.sent d → Waits q → d.queued.cell.output ≡ q.cell.output →
       Follows d.queued q
   follows_left d q has waits outputs =
-      let gone = has_left_it d has in
-      let j = q.cell.output in
-      search (arith, rules, pairs_cross Follows, Follows, left_at j at.sent, left_at, pairs_at j waits.kept.inside, Has)
+      search (arith, rules, has_left_it d has, pairs_cross Follows, Follows, left_at, pairs_at, Has)
 
   -- what waits has another name than what left
   differ_left : (d : Departure) (q : Queued) → Has at.sent d → Waits q → Differ (named_as q) (named_as d.queued)
-  differ_left d q has waits slot place =
-      let gone = has_left_it d has in search (arith, rules, follows_left d q has waits)
+  differ_left d q has waits slot place = search (rules, follows_left d q has waits, has_left_it d has)
 
   -- of two that left one output the second follows the first, and so does what that tells
   each_sent : (R : Departure → Departure → Type 0) →
       ((d e : Departure) → Has at.sent d → Has at.sent e → (d.output ≡ e.output → Follows d.queued e.queued) → R d e) →
       EachPair R at.sent
   each_sent R tells =
-      let inside = all_weaker (IsSentRight w at.frozen.next) (λ (d : Departure). d.output < length w.machines)
-      (λ d right. right.inside) at.sent known.departed in
       pairs_in (λ (d e : Departure). d.output ≡ e.output → Follows d.queued e.queued) R at.sent tells
       (pairs_by_number (λ (d : Departure). d.output) (λ (d : Departure). d.queued) Follows
-      (λ j. j < length w.machines) at.sent inside
+      (λ j. j < length w.machines) at.sent (search (rules, all_weaker, known.departed))
       (λ j lt. pairs_left Follows (left_at j at.sent) (list_of ideal.lists j) (pairs_at j lt)))
 
   -- and so of the lists: each cell stands in its list by what is known of it there
@@ -149,9 +144,7 @@ module _ {w : Switch} (at : Taken) {ideal : IdealState} {cs : List (List (Option
 
   pub is_of_one : (c : Named) → Has (named_in st) c → IsNameOf IsKept c
   unfolding state_of
-  is_of_one c has = ⊎_elim (search (arith, rules, is_waiting))
-      (λ (sent : Has gone c). let it = of_sent c sent in search (arith, rules, has_left_it it.0 it.1))
-      (has_cases (queued_in st) gone c has)
+  is_of_one c has = search (arith, rules, has_cases (queued_in st) gone c has, is_waiting, of_sent, has_left_it)
 
   -- what a name tells
   its_output : (q : Queued) → IsKept q → output_of w.came (named_as q) ≡ q.cell.output
@@ -160,10 +153,9 @@ module _ {w : Switch} (at : Taken) {ideal : IdealState} {cs : List (List (Option
   its_class : (q : Queued) → IsKept q → class_of w.came (named_as q) ≡ q.cell.class
   its_class q kept = ap class_in kept.own.keyed.arrives
 
-  waits_named : (q : Queued) → Has (map named_as listed ++ map named_as buffered) (named_as q) →
-      Has (named_in st) (named_as q)
+  waits_named : (q : Queued) → Has (listed ++ buffered) q → Has (named_in st) (named_as q)
   unfolding state_of
-  waits_named q has = search (rules, has_left)
+  waits_named q has = let image = has_image named_as (listed ++ buffered) q has in search (rules, map-append, has_left)
 
   name_left : (d : Departure) → Has at.sent d → Has (named_in st) (named_as d.queued)
   unfolding state_of
@@ -173,12 +165,10 @@ module _ {w : Switch} (at : Taken) {ideal : IdealState} {cs : List (List (Option
   name_held : (t i : ℕ) (q : Queued) → IsHeld ideal at.sent t i q → Has (named_in st) (named_as q)
   name_held t i q it =
       let j = q.cell.output in
-      ⊎_elim (search (arith, rules, image_has, kept_has, name_left)) (λ (there : Has (list_of ideal.lists j) q).
-      ⊎_elim (λ at_input. waits_named q (has_left (map named_as listed) _ (named_as q)
-      (has_image named_as listed q (has_at_place at.frozen.lists at_input.0 q at_input.1))))
-      (λ crossed. waits_named q (has_right (map named_as listed) _ (named_as q)
-      (has_image named_as buffered q (has_at_place at.frozen.buffers j q crossed))))
-      ((known.agrees.same j q).0 there)) (has_cases (left_at j at.sent) (list_of ideal.lists j) q it.held)
+      ⊎_elim (search (arith, rules, image_has, kept_has, name_left)) (λ there. waits_named q (⊎_elim
+      (λ w. has_left listed _ q (has_at_place at.frozen.lists w.0 q w.1))
+      (λ b. has_right listed _ q (has_at_place at.frozen.buffers j q b)) ((known.agrees.same j q).0 there)))
+      (has_cases (left_at j at.sent) (list_of ideal.lists j) q it.held)
 
   -- ## An arrival is named where its cell came in
 
@@ -186,9 +176,7 @@ module _ {w : Switch} (at : Taken) {ideal : IdealState} {cs : List (List (Option
   named_at t i = by (came_in cs t i) refl
     where
       by : (o : Option Queued) → came_in cs t i ≡ o → list_any (is_name_at t i) (named_in st) ≡ is_some o
-      by (Some q) is =
-          let it = known.held t i q is in
-          any_has (is_name_at t i) (named_in st) (named_as q) (name_held t i q it) (search (rules, and_from, eq-eqb))
+      by (Some q) is = search (rules, any_has, name_held t i q, known.held t i q is, and_from, eq-eqb)
       by None is = false_from_ne_true (list_any (is_name_at t i) (named_in st)) (λ some.
           let it = has_any (is_name_at t i) (named_in st) some in
           let one = is_of_one it.0 it.1 in search (arith, rules, and_parts, eqb-true))
@@ -219,12 +207,9 @@ module _ {w : Switch} (at : Taken) {ideal : IdealState} {cs : List (List (Option
   pub slack_kept : HaveSlack w st
   slack_kept = rw fabric_same known.agrees.slack
 
-  departure_again : (d : Departure) → Has at.sent d → departure_of w.came (sent_as d) ≡ Some d
-  departure_again d has = let it = has_left_it d has in search (arith, rules, right_at, cell_again)
-
   pub sent_same : at.sent ≡ sent_told w.came st
   unfolding state_of
-  sent_same = sym (told_again sent_as (departure_of w.came) at.sent departure_again)
+  sent_same = search (arith, rules, told_again, right_at, has_left_it, cell_again)
 
   -- ## The first clause: each name is of an arrival before the next slot, and none is there twice. Two that wait under
   -- one name are one cell, and that stands at one place; what left has other names than what waits; and what left one
@@ -290,11 +275,7 @@ module _ {w : Switch} (at : Taken) {ideal : IdealState} {cs : List (List (Option
   goes_first : (a b : Queued) → Waits a → Waits b → Flow (named_as a) (named_as b) → a.key.slot < b.key.slot →
       IsBefore a b
   goes_first a b first second flow earlier =
-      let both = of_one a b first.kept second.kept flow in
-      let j = a.cell.output in
-      let pairs = pairs_both IsBefore Follows (list_of ideal.lists j) (known.agrees.rising j)
-      (pairs_right Follows (left_at j at.sent) (list_of ideal.lists j) (pairs_at j first.kept.inside)) in
-      search (arith, rules, pair_of_has, Follows)
+      search (arith, rules, pairs_right, pairs_at, pair_of_has, Follows, pairs_both IsBefore Follows, of_one)
 
   pub keep_order : KeepArrivalOrder w st
   unfolding state_of
@@ -335,14 +316,12 @@ module _ {w : Switch} (at : Taken) {ideal : IdealState} {cs : List (List (Option
       let Timely : Sent → Type 0 = λ d. (d.cell.slot ≤ d.slot) × (d.slot < at.frozen.next) in
       record {
         lists = image_pairs named_as (λ (a b : Named). a.input ≤ b.input) listed (each_listed _
-            (search (arith, rules, known.placed))
-            (λ i k a b lt first second. omega (arith, known.placed i a first, known.placed k b second)));
+            (search (arith, rules, known.placed)) (search (arith, rules, known.placed)));
         keys = image_pairs named_as
             (λ (a b : Named). a.input ≡ b.input → output_of w.came a ≡ output_of w.came b → is_ahead a b ≡ true)
             listed (each_listed _ (search (arith, rules, its_output, waits_at)) (search (arith, rules, known.placed)));
         buffers = image_pairs named_as (IsBufferedBefore w.came) buffered (pairs_of_all _ at.frozen.buffers
-            (λ j. pairs_in IsBefore _ (buffer f j) (search (arith, rules, out))
-            (known.agrees.fabric.rising j)) (search (arith, rules, out)));
+            (search (arith, rules, pairs_in IsBefore, out, known.agrees.fabric.rising)) (search (arith, rules, out)));
         sent = search (arith, rules, image_pairs, pairs_in, left_by);
         sent_times = has_all Timely (map sent_as at.sent) (search (arith, rules, image_has, right_at));
         moved = all_pairs IsTransferBefore at.note moved.pairs;

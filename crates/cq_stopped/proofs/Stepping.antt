@@ -1,7 +1,7 @@
 -- One slot of a run that may be stopped. The ideal switch goes on beside the fabric. At each output the cells that
 -- come queue up behind those that left and those that wait, and where one leaves it is the first that waits: what left
 -- and then what waits is the same list. So what is known before the slot is known after it.
-use Rattle.cq_stopped.proofs.Terms.{inl, rules, ◌≡◌, ℕ, zero, suc, ◌+◌, ◌<◌, ◌≤◌, List, [], ◌∷◌, ◌++◌, drop, length, Option, Some, None, Ok, ap, ◌∙◌, ◌⊎◌, ⊎_elim, arith, length-append, cases_lt, common_steps, append_assoc, get_or-append-add, get_or-map, get_or_append_left, get_or_past, length-map, append-nil, get_or-replicate, length-replicate, AllByRecursion, slice_get, slice_index_or, arrival_at, arriving, arriving_at, Cell, Departure, Queued, admitted_arrives, Came, came_from, AreOfClasses, present, Served, listed, served, HasWaited, Marked, admission, arriving_from, departures_of, empty_ideal, IdealState, all_told, departures_from, departures_in, filled, fronts, ideal_slot, put_all, rests, AreForPorts, ranking, CameFor, Keyed, limited_empty_agree, keyed, ports_kept, same_slot, SendsAlike, Agrees, Fabric, IsAmong, input, empty_fabric, FabricSlot, LimitedFabricSlot, LimitedRecord, slots_in, came_to, KeepLaws, gone_in, list_of, IsInputBest, IsStable, machine_at, all_both, all_weaker, found_at, has_there, Has, all_from_has, all_of_has, has_cases, has_left, has_right, opening, Runs, Switch, fewer, HasFor, length-filled, rest_of, among_put_all, list_after, put_all_keeps, put_all_new, stable_slot, admission_for_ports, arrivals_for, place_of, RunBy, came_or_was, was_waiting}
+use Rattle.cq_stopped.proofs.Terms.{rules, ◌≡◌, ℕ, zero, suc, ◌+◌, ◌<◌, ◌≤◌, List, [], ◌∷◌, ◌++◌, length, Option, Some, None, Ok, ◌∙◌, ◌⊎◌, ⊎_elim, arith, length-append, cases_lt, common_steps, append_assoc, get_or-append-add, get_or-map, get_or_append_left, get_or_past, length-map, append-nil, get_or-replicate, length-replicate, AllByRecursion, slice_get, slice_index_or, arrival_at, arriving, arriving_at, Cell, Departure, Queued, admitted_arrives, Came, came_from, AreOfClasses, present, Served, listed, served, HasWaited, Marked, admission, arriving_from, departures_of, empty_ideal, IdealState, all_told, departures_from, departures_in, filled, fronts, ideal_slot, put_all, rests, AreForPorts, ranking, CameFor, Keyed, limited_empty_agree, keyed, ports_kept, same_slot, SendsAlike, Agrees, Fabric, IsAmong, input, empty_fabric, FabricSlot, LimitedFabricSlot, LimitedRecord, slots_in, came_to, KeepLaws, gone_in, list_of, IsInputBest, IsStable, machine_at, all_both, all_weaker, found_at, has_there, Has, all_from_has, all_of_has, has_cases, has_left, has_right, opening, Runs, Switch, fewer, HasFor, length-filled, rest_of, among_put_all, list_after, put_all_keeps, put_all_new, stable_slot, admission_for_ports, arrivals_for, place_of, RunBy, came_or_was, was_waiting}
 use Rattle.cq_ideal.specs.IdealSlot.{Sent}
 use Rattle.cq_stopped.proofs.Configured.{IsConfigured}
 use Rattle.cq_stopped.proofs.Lined.{each_departs, left_more}
@@ -12,8 +12,7 @@ use Rattle.cq_stopped.proofs.Ran.{IsHeld, IsKeyed, IsOwn, IsSentRight, Known, La
 all_present : (P : Cell → Type 0) (cells : List (Option Cell)) →
     ((k : ℕ) (cell : Cell) → arrival_at cells k ≡ Some cell → P cell) → AllByRecursion P (present cells)
 all_present P [] each = tt
-all_present P (o ∷ cells) each =
-    let rest = all_present P cells (λ k. each (suc k)) in let here = each zero in grind (arith, common_steps)
+all_present P (o ∷ cells) each = grind (arith, common_steps, all_present P cells (λ k. each (suc k)), each zero)
 
 -- what came up to a slot, and what came in it
 module _ (cs : List (List (Option Queued))) (c : List (Option Queued)) (n : ℕ) (long : length cs ≡ n) (i : ℕ) where
@@ -25,9 +24,8 @@ module _ (cs : List (List (Option Queued))) (c : List (Option Queued)) (n : ℕ)
 
 came_then : (cs : List (List (Option Queued))) (c : List (Option Queued)) (t i : ℕ) (q : Queued) →
     came_in (cs ++ c ∷ []) t i ≡ Some q → (came_in cs t i ≡ Some q) ⊎ ((length cs ≡ t) × (came_to c i ≡ Some q))
-came_then [] c t i q is = grind (arith, common_steps)
-came_then (d ∷ cs) c zero i q is = inl is
-came_then (d ∷ cs) c (suc t) i q is = grind (arith, common_steps, came_then cs c t i q is)
+came_then cs c t i q is =
+    grind (arith, common_steps, get_or_append_left, get_or-append-add, get_or_past, cases_lt t (length cs))
 
 -- a cell of the fabric is one of its output
 pub own_at : (w : Switch) (n : ℕ) (f : Fabric) (ideal : IdealState) (cs : List (List (Option Queued)))
@@ -106,12 +104,8 @@ module _ (w : Switch) (ranks : List (List ℕ)) (configured : IsConfigured w ran
     is_keyed : (k : ℕ) (q : Queued) → came_to came k ≡ Some q → IsKeyed w q
     is_keyed k q at =
         let c = its_came k q at in
-        let ranked = its_rank k q at in
-        let input : q.key.input ≡ k = omega arith in
-        let arrive : arriving_at w.came q.key.slot q.key.input ≡ Some q.cell =
-        rw (c.slot_is, input) (arrives k q.cell c.cell_is) in
-        let found = found_at w.came q.key.slot q.key.input q.cell arrive in
-        search (arith, rules, come.inputs, come.outputs, come.classes)
+        let arrive = arrives k q.cell c.cell_is in
+        search (arith, rules, come.inputs, come.outputs, come.classes, its_rank k q, found_at w.came n k q.cell)
 
     -- ## What the ideal switch does
 
@@ -147,23 +141,18 @@ module _ (w : Switch) (ranks : List (List ℕ)) (configured : IsConfigured w ran
 
     gone_is : (j : ℕ) → j < length w.machines → slice_index_or r.of_slot.gone j None ≡ slice_get (full j) 0
     gone_is j inside =
-        let none = None in
-        let long = lists_many in
-        let first = get_or-map (λ (zs : List Queued). slice_get zs 0) lists j [] none (omega arith) in
-        grind (arith, common_steps, made_is, full_is)
+        let first = get_or-map (λ (zs : List Queued). slice_get zs 0) lists j [] None in
+        grind (arith, common_steps, first, lists_many, made_is, full_is)
 
     none_gone : (j : ℕ) → length w.machines ≤ j → slice_index_or r.of_slot.gone j None ≡ None
     none_gone j outside = grind (arith, common_steps, lists_many, length-map, made_is, get_or_past)
-
-    next_is : (j : ℕ) → list_of next.lists j ≡ drop 1 (full j)
-    next_is j = grind (arith, common_steps, made_is, rest_of, full_is)
 
     abbrev sent_next : List Departure
     sent_next = sent ++ departures_in n r.of_slot.gone
 
     -- what left and what waits
     pool_is : (j : ℕ) → j < length w.machines → pool_at j sent_next next ≡ left j ++ full j
-    pool_is j inside = search (arith, rules, left_more, left_at, listed, gone_is, next_is, append_assoc)
+    pool_is j inside = grind (arith, common_steps, left_more, listed, gone_is, made_is, rest_of, full_is, append_assoc)
 
     -- it did so before the slot, or came
     was_or_new : (j : ℕ) (q : Queued) → Has (left j ++ full j) q → Has (left j ++ waiting j) q ⊎ CameFor came j q
@@ -178,15 +167,12 @@ module _ (w : Switch) (ranks : List (List ℕ)) (configured : IsConfigured w ran
       lane : Lane w n j (slice_index_or ideal.ranks j []) (left j) (waiting j)
       lane = known.lanes j inside
 
-      older : (q : Queued) → IsOwn w n j q → IsOwn w (n + 1) j q
-      older q own = grind (arith, common_steps, keyed)
-
       new_own : (q : Queued) → CameFor came j q → IsOwn w (n + 1) j q
       new_own q new = let c = its_came new.0 q new.1 in let keyed = is_keyed new.0 q new.1 in search (arith, rules)
 
       own_all : AllByRecursion (IsOwn w (n + 1) j) (left j ++ full j)
       own_all = all_from_has (IsOwn w (n + 1) j) (left j ++ full j)
-          (λ q has. grind (arith, common_steps, was_or_new j q, older q, new_own q, all_of_has (IsOwn w n j)))
+          (λ q has. grind (arith, common_steps, was_or_new j q, new_own q, all_of_has (IsOwn w n j), keyed))
 
       earlier : AllByRecursion (IsEarlier j n 0) (left j ++ waiting j)
       earlier = grind (arith, common_steps, all_weaker, IsOwn, IsEarlier, left_at)
@@ -210,9 +196,8 @@ module _ (w : Switch) (ranks : List (List ℕ)) (configured : IsConfigured w ran
       next_lane : Lane w (n + 1) j (slice_index_or next.ranks j []) (left_at j sent_next) (list_of next.lists j)
       next_lane =
           let is = pool_is j inside in
-          let order = lane.stands.order in
-          let pairs = pairs_put_all j n came 0 (left j) (waiting j) comes earlier old_ahead order lane.pairs in
-          record { stands = its_served.stands; own = rw is own_all; pairs = rw is pairs }
+          let pairs = pairs_put_all j n came 0 (left j) (waiting j) comes earlier old_ahead lane.stands.order in
+          record { stands = its_served.stands; own = rw is own_all; pairs = rw is (pairs lane.pairs) }
 
     -- ## Where cells stand
 
@@ -231,56 +216,40 @@ module _ (w : Switch) (ranks : List (List ℕ)) (configured : IsConfigured w ran
 
     -- ## What came
 
-    abbrev came_next : List (List (Option Queued))
-    came_next = cs ++ came ∷ []
-
-    lists_next : length next.lists ≡ length w.machines
-    lists_next = grind (arith, common_steps, made_is, length-map, lists_many)
-
     -- a cell that is known by its slot and its input
     held_at : (t i : ℕ) (q : Queued) → q.key.slot ≡ t → q.key.input ≡ i → q.cell.output < length w.machines →
         Has (left q.cell.output ++ full q.cell.output) q → IsHeld next sent_next t i q
-    held_at t i q slot input inside there = grind (arith, common_steps, lists_next, pool_is)
+    held_at t i q slot input inside there = grind (arith, common_steps, made_is, length-map, lists_many, pool_is)
 
     -- ## Together
 
-    known_next : Known w (n + 1) g.state next came_next sent_next
+    known_next : Known w (n + 1) g.state next (cs ++ came ∷ []) sent_next
     known_next = record {
       agrees = alike.agrees;
       ports = search (arith, rules, ports_kept, come, stable);
       states = (its_served 0 (omega arith)).states ∙ known.states;
       lanes = next_lane;
-      placed = λ i c among.
-          let second = was_waiting step.runs.finish.moves i c among in
-          let first = was_waiting step.runs.fill.moves i c in
-          search (arith, rules, first, second, arrived_placed i c);
+      placed =
+          search (arith, rules, was_waiting step.runs.finish.moves, was_waiting step.runs.fill.moves, arrived_placed);
       departed = departed_next;
-      long = length-append cs (came ∷ []) ∙ ap (λ (m : ℕ). m + 1) known.long;
+      long = grind (arith, common_steps, length-append);
       origin = λ j q inside has.
-          let still = came_still cs came n known.long q.key.input q.key.slot q in
           let now = came_now cs came n known.long in
-          let new = was_or_new j q in let pool = pool_is j inside in
-          search (arith, rules, still, its_came, now, new, pool);
+          search (arith, rules, came_still cs came n known.long, its_came, now, was_or_new j q, pool_is j inside);
       held = λ t i q is. ⊎_elim (search (arith, rules, known.held, many, held_at, pool_keeps q.cell.output q))
-          (λ now. let at = now.1 in
-          let c = its_came i q at in
-          let inside = its_keys.outputs i q at in
-          search (arith, rules, held_at, has_right, put_all_new)) (came_then cs came t i q is);
+          (λ now. search (arith, rules, its_came i q now.1, its_keys.outputs i q, held_at, has_right, put_all_new))
+          (came_then cs came t i q is);
     }
 
     slot_known : KnownSlot w n (arriving w.came n) f r g
     unfolding admission
     slot_known =
-        record {
-          ideal = ideal;
-          agrees = known.agrees;
-          ports = known.ports;
-          come = come;
-          best = step.runs;
-          step = stable;
-          keyed = λ j q has. search (arith, rules, own_at w n f.state ideal cs sent known j q, is_keyed);
-          fewer = grind (arith, common_steps, present, fewer);
-        }
+        let own = own_at w n f.state ideal cs sent known in
+        let all : (j : ℕ) (q : Queued) → HasFor f.state j q ⊎ CameFor came j q → IsKeyed w q =
+        λ j q has. search (arith, rules, own j q, is_keyed) in
+        let less : length (present r.admission.cells) ≤ length (present (arriving w.came n)) =
+        grind (arith, common_steps, present, fewer) in
+        search (arith, rules, come, stable)
 
   -- ## A run of a configured switch up to a slot: what is known of the empty fabric is known after each slot
 
@@ -309,5 +278,4 @@ module _ (w : Switch) (ranks : List (List ℕ)) (configured : IsConfigured w ran
   pub stopped_is : (n : ℕ) (rs : List LimitedRecord) (f : Marked Fabric) →
       Runs w 0 (arriving_from w.came 0 n) (opening w ranks) rs f →
       Ended 0 n n (opening w ranks) rs f (came_of rs) (departures_of 0 (gone_in (slots_in rs)))
-  stopped_is n rs f runs = run_known n 0 n (opening w ranks) f rs (empty_ideal (length w.machines) ranks) [] []
-      known_first (omega arith) runs
+  stopped_is n rs f runs = search (arith, rules, run_known n 0 n (opening w ranks) f rs _ [] [] known_first)

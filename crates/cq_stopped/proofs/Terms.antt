@@ -1,23 +1,23 @@
 -- The words of this crate's proofs that stand elsewhere, each passed on from its place.
-pub use Rattle.cq_base.proofs.Library.{AllByRecursion, AllPairs, Bool, Err, IsSome, List, None, Ok, Option, Result, Some, [], and_from, and_parts, and_right, ap, append-nil, append_assoc, arith, both_ways, cases_Bool, cases_eq, cases_lt, common_steps, cond, cond_both, cons_option, count_by, drop, enumerate_from, eq-eqb, eqb, eqb-true, false, false_from_ne_true, fill_by_all, filter, filter-append, filter_map, flat_map, fold, get_or-append-add, get_or-map, get_or-map-range_with_len, get_or-replicate, get_or-set_other, get_or-set_same, get_or_append_left, get_or_past, inl, inr, is_some, le-ltb, length, length-append, length-insert, length-map, length-map-range_with_len, length-replicate, length-set, list_any, lt-leb, lt-ltb, ltb-true, map, map-append, max, min, ne_eqb, not, option_map, range_with_len, refl, replicate, rules, same_Some, slice_get, slice_index_or, slice_set, suc, sum, sum_by, sum_by-append, sum_by-cons, sym, true, zero, ℕ, ⊎_elim, ◌&&◌, ◌*◌, ◌++◌, ◌+◌, ◌-◌, ◌<◌, ◌==◌, ◌^◌, ◌∙◌, ◌∷◌, ◌≡◌, ◌≢◌, ◌≤◌, ◌⊎◌}
+pub use Rattle.cq_base.proofs.Library.{AllByRecursion, AllPairs, Bool, Err, IsSome, List, None, Ok, Option, Result, Some, [], and_from, and_parts, and_right, ap, append-nil, append_assoc, arith, both_ways, cases_Bool, cases_eq, cases_lt, common_steps, cond, cond_both, cons_option, count_by, enumerate_from, eq-eqb, eqb, eqb-true, false, false_from_ne_true, fill_by_all, filter, filter-append, filter_map, flat_map, fold, get_or-append-add, get_or-map, get_or-map-range_with_len, get_or-replicate, get_or-set_other, get_or-set_same, get_or_append_left, get_or_past, inl, inr, is_some, le-ltb, length, length-append, length-insert, length-map, length-map-range_with_len, length-replicate, length-set, list_any, lt-leb, lt-ltb, ltb-true, map, map-append, max, min, ne_eqb, not, option_map, range_with_len, refl, replicate, rules, same_Some, slice_get, slice_index_or, slice_set, suc, sum, sum_by, sum_by-append, sum_by-cons, sym, true, zero, ℕ, ⊎_elim, ◌&&◌, ◌*◌, ◌++◌, ◌+◌, ◌-◌, ◌<◌, ◌==◌, ◌^◌, ◌∙◌, ◌∷◌, ◌≡◌, ◌≢◌, ◌≤◌, ◌⊎◌}
 pub use Rattle.cq_base.specs.{Arrivals.arrival_at, declared.cell.Cell.Cell, declared.cell.Departure.Departure, declared.cell.Queued.Queued, declared.cell.Transfer.Transfer}
 pub use Rattle.cq_base.specs.Arriving.{Arrival, arriving_at}
 unfoldable pub use Rattle.cq_base.specs.Arriving.{arriving}
 pub use Rattle.cq_base.specs.Cells.{IsBefore, is_for, put}
 pub use Rattle.cq_base.specs.Items.{EachPair, Has}
 pub use Rattle.cq_base.specs.Limits.{level_count, longest_file, most_classes, most_ports}
-pub use Rattle.cq_route.specs.Tables.{AreTables, IsSetup, ports_of}
+pub use Rattle.cq_route.specs.Tables.{AreTables, ports_of}
 pub use Rattle.cq_route.specs.declared.tables.Tables.{Tables}
 pub use Rattle.cq_cells.specs.Scheduled.{Scheduled}
 pub use Rattle.cq_cells.specs.Traffic.{IsRecorded, IsTraffic, is_from}
 pub use Rattle.cq_rank.specs.Machine.{KeepsLaws, Machine, machine_at}
-pub use Rattle.cq_scfq.specs.Disciplines.{machine_of, machines_of, opening_of, openings_of}
+pub use Rattle.cq_scfq.specs.Disciplines.{machine_of, opening_of, openings_of}
 pub use Rattle.cq_ideal.proofs.Admitted.{admitted_arrives, admitted_at, marks_kept}
 pub use Rattle.cq_ideal.proofs.Came.{Came, came_from}
 pub use Rattle.cq_ideal.proofs.{EnoughSlots.fewer, FlowStands.HasWaited}
 pub use Rattle.cq_ideal.proofs.FlowRank.{AreOfClasses, after_input_ok, only_ok, present}
 pub use Rattle.cq_ideal.proofs.FlowSlot.{Served, listed, served}
-pub use Rattle.cq_ideal.specs.Admission.{Marked, held_after, mark_after, mark_at, marks_after, refused, unless}
+pub use Rattle.cq_ideal.specs.Admission.{Marked, held_after, mark_after, mark_at, marks_after, unless}
 unfoldable pub use Rattle.cq_ideal.specs.Admission.{admission}
 pub use Rattle.cq_ideal.specs.{Ending.slots_of, IdealRun.empty_ideal}
 unfoldable pub use Rattle.cq_ideal.specs.Ending.{arriving_from}
@@ -30,7 +30,7 @@ unfoldable pub use Rattle.cq_ideal.specs.Refused.{cells_refused, packets_refused
 pub use Rattle.cq_state.specs.State.{AreRankNumbers, IsCount, IsInRange, IsMoved, IsNamed, IsSeen, IsSent, state_text}
 pub use Rattle.cq_state.specs.{declared.state.Named.Named, declared.state.Sent.Sent, declared.state.State.State}
 pub use Rattle.cq_prefs.specs.FirstCells.{list_of}
-pub use Rattle.cq_prefs.specs.Pairing.{IsInputBest, IsStable, Partners}
+pub use Rattle.cq_prefs.specs.Pairing.{IsInputBest, IsStable}
 pub use Rattle.cq_laws.proofs.AfterArrivals.{CameFor, Keyed, arrived_has, came_or_was}
 pub use Rattle.cq_laws.proofs.LimitedWhole.{fabric_judged, limited_empty_agree}
 pub use Rattle.cq_laws.proofs.Members.{among_put, was_waiting}
@@ -45,10 +45,10 @@ pub use Rattle.cq_laws.specs.{Places.HasFor, Quiet.KeepLaws, Records.gone_in}
 pub use Rattle.cq_laws.specs.LimitedFabric.{LimitedFabricSlot, LimitedRecord, admissions_in, slots_in}
 pub use Rattle.cq_laws.specs.Measures.{sent_by, wait_at}
 unfoldable pub use Rattle.cq_laws.specs.Measures.{figures_of, input_figures, output_figures, proposals_in, slacks}
-pub use Rattle.cq_laws.specs.Phases.{Transfers, came_to, list_arrived}
+pub use Rattle.cq_laws.specs.Phases.{came_to}
 unfoldable pub use Rattle.cq_laws.specs.Records.{transfers_of_run}
 pub use Rattle.cq_resume.proofs.GoesOn.{Differ, cell_with, found_at}
-pub use Rattle.cq_resume.specs.Counted.{IsTally, departure_of, input_told, output_told, sent_told, taken_of}
+pub use Rattle.cq_resume.specs.Counted.{IsTally, input_told, output_told, sent_told, taken_of}
 unfoldable pub use Rattle.cq_resume.specs.Counted.{figures_told, frozen_told}
 pub use Rattle.cq_resume.specs.Finding.{ArePackets, ComeBehind, IsLine, coming, has_limit, has_name, mark_on, unnamed}
 pub use Rattle.cq_resume.specs.Parts.{IsParted, IsWhole, opening}
@@ -65,7 +65,7 @@ pub use Rattle.cq_stopped.specs.Stopped.{AreRecorded, CanBeTakenUp, StoppedRunsA
 pub use Rattle.cq_audit.proofs.Noted.{AreWritten, FitsLine, written_in_run}
 pub use Rattle.cq_base.proofs.Each.{all_back, all_both, all_front, all_weaker, few_kept, of_images, all_give, all_made, filter_all, filter_none}
 pub use Rattle.cq_base.proofs.Putting.{all_put}
-pub use Rattle.cq_base.specs.{declared.cell.TagFault.TagFault, declared.figures.Figures.Figures, declared.figures.InputFigures.InputFigures, declared.key.Key.Key, declared.setup.ClassRow.ClassRow, declared.setup.Kind.Kind, declared.setup.Kind.TheVariants.FirstCome, declared.setup.Kind.TheVariants.Fair, declared.setup.Setup.Setup}
+pub use Rattle.cq_base.specs.{declared.cell.TagFault.TagFault, declared.figures.Figures.Figures, declared.figures.InputFigures.InputFigures, declared.key.Key.Key, declared.setup.ClassRow.ClassRow, declared.setup.Kind.Kind, declared.setup.Kind.TheVariants.FirstCome, declared.setup.Kind.TheVariants.Fair}
 pub use Rattle.cq_base.proofs.Keys.{key_laws}
 pub use Rattle.cq_pcap.specs.Captured.{Captured}
 pub use Rattle.cq_cells.proofs.{Packets.few_by}

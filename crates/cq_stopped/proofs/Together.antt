@@ -3,7 +3,7 @@
 -- of its cell; the figures, since as many names are of an input as cells came to it; and the marks and the counts,
 -- since the arrivals that are not named are those that were refused. The text of that state is read as what was left,
 -- so what goes on from there is the run.
-use Rattle.cq_stopped.proofs.Terms.{come_count-first, IsCount, IsInputBest, recorded, slots_of_figures, rules, ◌≡◌, ℕ, zero, suc, ◌+◌, ◌-◌, ◌<◌, ◌≤◌, ◌^◌, List, [], ◌∷◌, length, map, fold, max, refl, sym, ap, ◌∙◌, arith, common_steps, length-map, length-map-range_with_len, AllByRecursion, enumerate_from, flat_map, slice_index_or, Queued, Scheduled, arriving_from, departures_of, Fabric, cushion_of, input, SlotRecord, fabric_in, marked_in, LimitedRecord, slots_in, figures_of, input_figures, slacks, gone_in, list_of, each_pair, EachPair, all_both, Differ, Has, all_from_has, all_of_has, has_image, has_left, has_right, image_has, figures_told, frozen_told, taken_of, opening, IsWhole, IsParted, seen_as, sent_as, state_of, IsRead, Kept, Runs, Switch, switch_of, named_in, queued_in, Taken, ports_of, Tables, machine_of, openings_of, AreRankNumbers, IsInRange, IsNamed, IsSeen, IsSent, state_text, Named, Sent, State, told_state, CanBeTakenUp, StoppedRunsAreSound, few_kept, of_images, all_weaker, transfers_of_run, Transfer, written_in_run, arriving_length, counts_more, figures_fold, stable_limited_run, empty_list, limited_numbered, IsFabricRun, refused_in_run, all_made}
+use Rattle.cq_stopped.proofs.Terms.{come_count-first, IsCount, IsInputBest, recorded, slots_of_figures, rules, ◌≡◌, ℕ, zero, suc, ◌+◌, ◌-◌, ◌<◌, ◌≤◌, ◌^◌, List, [], ◌∷◌, length, map, fold, max, sym, ap, ◌∙◌, arith, common_steps, length-map, length-map-range_with_len, AllByRecursion, enumerate_from, flat_map, slice_index_or, Queued, Scheduled, arriving_from, departures_of, Fabric, cushion_of, input, SlotRecord, fabric_in, marked_in, LimitedRecord, slots_in, figures_of, input_figures, slacks, gone_in, list_of, each_pair, EachPair, all_both, Differ, Has, all_from_has, all_of_has, has_image, has_left, has_right, image_has, figures_told, frozen_told, taken_of, opening, IsWhole, IsParted, seen_as, sent_as, state_of, IsRead, Kept, Runs, Switch, switch_of, named_in, queued_in, Taken, ports_of, Tables, machine_of, openings_of, AreRankNumbers, IsInRange, IsNamed, IsSeen, IsSent, state_text, Named, Sent, State, told_state, CanBeTakenUp, StoppedRunsAreSound, few_kept, of_images, all_weaker, transfers_of_run, written_in_run, arriving_length, counts_more, figures_fold, stable_limited_run, empty_list, limited_numbered, IsFabricRun, refused_in_run, all_made}
 use Rattle.cq_audit.proofs.Following.{run_within as of_its_slots}
 use Rattle.cq_resume.proofs.Joining.{parts_join as join}
 use Rattle.cq_resume.proofs.OneAnswer.{read_exact}
@@ -36,9 +36,8 @@ slacks_few i (r ∷ rs) all = grind (arith, common_steps, all_both, cushions_few
 one_seen : (i : ℕ) (rs : List SlotRecord) → AllByRecursion IsRecordedWithin rs → IsSeen (seen_as (input_figures rs i))
 unfolding input_figures
 one_seen i rs all =
-    let longest = of_images (λ (r : SlotRecord). length (input r.arrived i)) IsCount rs
-    (all_weaker IsRecordedWithin (λ r. IsCount (length (input r.arrived i))) (λ r is. is.longest i) rs all) in
-    search (arith, rules, most_few, slacks_few, least_of)
+    let longest = of_images (λ (r : SlotRecord). length (input r.arrived i)) IsCount rs in
+    search (arith, rules, all_weaker, longest, most_few, slacks_few, least_of)
 
 rank_numbers : (states : List (List ℕ)) → AllByRecursion AreLow states →
     ((j : ℕ) → j < length states → length (slice_index_or states j []) ≤ 32) → AllByRecursion AreRankNumbers states
@@ -79,24 +78,19 @@ module _ (w : Switch) (ranks : List (List ℕ)) (configured : IsConfigured w ran
   moved : AreMoved ports at.frozen.next at.note
   moved =
       let next = at.frozen.next in
-      let stable = stable_limited_run w.machines w.limits 0 (arriving_from w.came 0 next) (opening w ranks)
-      (marked_in at.frozen) rs runs in
+      let stable = stable_limited_run w.machines w.limits 0 _ (opening w ranks) (marked_in at.frozen) rs runs in
       let many = length-map rs (λ (r : LimitedRecord). r.of_slot.came) in
       let written = written_in_run ports w.classes w.came configured.traffic configured.names w.limits w.machines next
       (opening w ranks) (marked_in at.frozen) rs configured.few (omega (arith, known.long)) (empty_list ports) stable in
-      let times = of_its_slots w.limits w.machines 0 _ _ _ rs stable in
-      let note = transfers_of_run (slots_in rs) in
-      let before = all_weaker _ (λ (t : Transfer). t.slot < next)
-      (λ t is. omega (arith, is.1, arriving_length w.came 0 next)) note times in
-      let moved = are_moved ports next note low written before in grind (arith, common_steps, AreMoved)
+      let moved = are_moved ports next (transfers_of_run (slots_in rs)) low written in
+      search (arith, rules, moved, all_weaker, arriving_length, AreMoved, of_its_slots)
 
   within : RunsWithin w.came 0 at.frozen.next (opening w ranks) rs (marked_in at.frozen)
   unfolding arriving_from
   within =
-      let none = none_first ports ranks in
       let all = come_count-first w.came at.frozen.next in
       run_within w configured.few configured.low 0 at.frozen.next (opening w ranks) (marked_in at.frozen) rs
-      stopped.slots (omega (arith, low)) (omega (arith, configured.few_cells))
+      stopped.slots (omega (arith, low)) (omega (arith, configured.few_cells, none_first ports ranks))
       (empty_within ports ranks configured.openings_low)
 
   figures_are_of : at.frozen.figures ≡ figures_of ports (slots_in rs)
@@ -116,9 +110,8 @@ module _ (w : Switch) (ranks : List (List ℕ)) (configured : IsConfigured w ran
 
   seen_right : AllByRecursion IsSeen (map seen_as at.frozen.figures.inputs)
   unfolding figures_of
-  seen_right =
-      let all = all_made _ _ 0 ports (λ i _ lt. one_seen i (slots_in rs) within.records) in
-      rw figures_are_of (of_images seen_as IsSeen _ all)
+  seen_right = rw figures_are_of (of_images seen_as IsSeen _
+      (all_made _ _ 0 ports (λ i _ lt. one_seen i (slots_in rs) within.records)))
 
   states_right : AllByRecursion AreRankNumbers at.frozen.ranks
   states_right =
@@ -144,13 +137,10 @@ module _ (w : Switch) (ranks : List (List ℕ)) (configured : IsConfigured w ran
   unfolding state_of
   in_range =
       let many : length at.frozen.lists ≡ ports = known.ports in
-      let figures = figures_low in
-      let inputs_told = seen_many in
       let outputs_told = states_many at known in
-      let listed = rw (← many) at (queued_right st.listed (has_left st.listed st.buffered)) in
-      let buffered = rw (← many) at (queued_right st.buffered (has_right st.listed st.buffered)) in
-      let sent = rw (← many) at sent_right in
-      let moved = rw (← many) at moved.all in search (arith, rules, seen_right, states_right)
+      let listed = queued_right st.listed (has_left st.listed st.buffered) in
+      let buffered = queued_right st.buffered (has_right st.listed st.buffered) in
+      search (arith, rules, seen_right, states_right, listed, buffered, sent_right, moved.all, figures_low, seen_many)
 
   -- ## It comes to what was left
 
@@ -158,18 +148,16 @@ module _ (w : Switch) (ranks : List (List ℕ)) (configured : IsConfigured w ran
   unfolding state_of
   figures_same =
       let once = each_pair Differ (named_in st) (arrivals_are at known).once in
-      let numbered = limited_numbered w.limits w.machines 0 _ _ _ rs runs in
       let run = recorded IsInputBest w.limits w.machines 0 _ _ _ rs runs in
       let in_slots = slots_of_figures IsInputBest w.machines ports _ _ _ (slots_in rs) run in
-      search (arith, rules, sent_same, known, figures_are, within, named_at, came_of, figures_are_of)
+      search (arith, rules, sent_same, known, figures_are, within, named_at, came_of, figures_are_of, limited_numbered)
 
   taken_same : at ≡ taken_of w st
   unfolding frozen_told state_of
   taken_same =
-      let fabric = fabric_same at known in
       let tally = tally_are w ranks st rs (marked_in at.frozen) configured.few configured.packets runs
       (λ a. named_at at known a.slot a.cell.id.input) configured.limits in
-      search (arith, rules, sent_same at known, known, tally, figures_same)
+      search (arith, rules, fabric_same at known, sent_same at known, known, tally, figures_same)
 
   -- ## It can be taken up
 
@@ -189,14 +177,9 @@ stopped_runs_are_sound t s slots at made tables recorded early parted = search (
 
 read_as : (w : Switch) (at : Taken) → CanBeTakenUp w at → IsReadAs w (state_text (told_state w at)) at
 read_as w at can =
-    let text = state_text (told_state w at) in
     let exact = read_exact w in
-    let read : IsRead w text at = record { state = told_state w at; spelled = refl; comes = can } in
-    record {
-      read = read;
-      alone = λ x other. exact.one_state text x at other read;
-      never_refused = λ r why. exact.never_refused text at r read why;
-    }
+    let read : IsRead w (state_text (told_state w at)) at = search rules in
+    search (rules, exact.one_state, exact.never_refused)
 
 pub stopped_runs_are_read : StoppedRunsAreRead
 stopped_runs_are_read t s slots at made tables recorded early parted = search (rules, read_as, stopped_runs_are_sound)
@@ -207,9 +190,8 @@ stopped_runs_are_read t s slots at made tables recorded early parted = search (r
 whole_is : (t : Tables) (s : Scheduled) (rs : List LimitedRecord) → IsFabricRun t s.came rs →
     IsWhole (switch_of t s) (openings_of t.setup) (kept_in_run t rs)
 whole_is t s rs is =
-    let lost = refused_in_run rs in
     let ports = length-map t.setup.kinds (λ kind. machine_of kind t.setup.classes) in
-    search (arith, rules, figures_fold (ports_of t.setup) (slots_in rs), counts_more t.limits [] lost)
+    search (arith, rules, figures_fold (ports_of t.setup) (slots_in rs), counts_more t.limits [] (refused_in_run rs))
 
 -- and the whole one is the run
 run_is : (t : Tables) (s : Scheduled) (kept : Kept) → IsWhole (switch_of t s) (openings_of t.setup) kept →
@@ -222,12 +204,6 @@ run_is t s kept is =
 pub read_runs_go_on : ReadRunsGoOn
 read_runs_go_on t s slots at x made tables recorded early parted read =
     let told = stopped_runs_are_read t s slots at made tables recorded early parted in
-    let same = told.alone x read in
-    rw same (record {
-      run = search (rules, join.run, whole_is);
-      resumes = search (rules, join.resumes, whole_is);
-      ends = λ kept on. run_is t s kept
-          (join.whole (switch_of t s) (openings_of t.setup) slots at kept early parted on);
-      fault = search (rules, join.fault);
-      whole_fault = search (rules, join.whole_fault);
-    })
+    let whole = join.whole (switch_of t s) (openings_of t.setup) slots at in
+    rw (told.alone x read)
+    (search (rules, join.run, join.resumes, whole_is, run_is, whole, join.fault, join.whole_fault))

@@ -4,7 +4,7 @@
 -- walk over the arrivals that compares each with the mark before it ends, with the mark of the run: each packet is
 -- named whole or not at all, and the mark is that of the packet that began last. And what was refused slot by slot is,
 -- counted by any test, what is not named input by input.
-use Rattle.cq_stopped.proofs.Terms.{sum_by, sum_by-cons, ◌&&◌, ◌==◌, all_weaker, all_in_row, sum_by_same, tally, tally_by_parts, tally_turned, rules, ◌≡◌, ℕ, zero, suc, ◌+◌, ◌<◌, ◌≤◌, eqb, Bool, true, false, List, [], ◌∷◌, length, Option, None, Some, refl, ap, sym, ◌∙◌, arith, length-append, map, and_parts, and_right, cases_Bool, cases_lt, eq-eqb, eqb-true, le-ltb, lt-leb, common_steps, get_or-map, get_or-replicate, length-map, length-replicate, map-append, filter-append, cons_option, range_with_len, filter, is_some, not, flat_map, arrival_at, Arrival, arriving, arriving_at, Cell, Queued, is_from, admitted_at, marks_kept, Marked, admission, held_after, mark_after, mark_at, marks_after, unless, refused, arriving_from, cells_refused, packets_refused, refused_counts, refused_in, with_refused, fabric_judged, Fabric, fabric_held, LimitedRecord, admissions_in, all_from_has, found_at, ComeBehind, IsLine, coming, has_limit, mark_on, ArePackets, has_name, unnamed, opening, Runs, AreWholePackets, Switch, is_named, key_of, named_in, Named, State, ArrivesIn, refused_here, where_up, Refused, is_between, one_comes, whole, all_stand, tallies_up, packets_alike, tally_is, IsTally, cells_in, Name, filter_none, most_ports, all_arriving, all_in_range, all_judged}
+use Rattle.cq_stopped.proofs.Terms.{sum_by, sum_by-cons, ◌&&◌, ◌==◌, all_weaker, all_in_row, sum_by_same, tally, tally_by_parts, tally_turned, rules, ◌≡◌, ℕ, zero, suc, ◌+◌, ◌<◌, ◌≤◌, eqb, Bool, true, false, List, [], ◌∷◌, length, Option, None, Some, refl, ap, sym, ◌∙◌, arith, length-append, map, and_parts, and_right, cases_Bool, cases_lt, eq-eqb, eqb-true, le-ltb, lt-leb, common_steps, get_or-map, get_or-replicate, length-map, length-replicate, map-append, filter-append, cons_option, range_with_len, filter, is_some, not, flat_map, arrival_at, Arrival, arriving, arriving_at, Cell, Queued, is_from, admitted_at, marks_kept, Marked, admission, held_after, mark_after, mark_at, marks_after, unless, arriving_from, cells_refused, packets_refused, refused_counts, refused_in, with_refused, fabric_judged, Fabric, fabric_held, LimitedRecord, admissions_in, all_from_has, found_at, ComeBehind, IsLine, coming, has_limit, mark_on, ArePackets, has_name, unnamed, opening, Runs, AreWholePackets, Switch, is_named, key_of, named_in, Named, State, ArrivesIn, refused_here, where_up, Refused, is_between, one_comes, whole, all_stand, tallies_up, packets_alike, tally_is, IsTally, cells_in, Name, filter_none, most_ports, all_arriving, all_in_range, all_judged}
 use Rattle.cq_ideal.proofs.RestAtInput.{is_shown}
 use Rattle.cq_ideal.proofs.Standing.{of_input, refused_are as refused_of_input, stand_in}
 use Rattle.cq_resume.proofs.Adding.{Tallied, left_before, mark_at as walk_mark}
@@ -44,7 +44,7 @@ module _ (i slot end : ℕ) where
       coming i slot end came ≡ record { slot = slot; cell = cell } ∷ coming i (slot + 1) end came
   one_comes_now came cell lt whole found = search (rules, one_comes, some_at, all_from_has)
 
--- ## One step of the walk
+-- ## What follows a mark
 
 module _ (limits : List (Option ℕ)) where
   -- cells of packets one after another, after a mark: the first goes on with a packet that was refused only where its
@@ -55,26 +55,7 @@ module _ (limits : List (Option ℕ)) where
       ComeBehind a line × (eqb a.cell.id.index 0 ≡ false → mark ≡ true → has_limit limits a.cell.output ≡ true)
 
   line_follows : (line : List Arrival) → IsLine line → Follow false line
-  line_follows [] is = tt
-  line_follows (a ∷ line) is = (is.1, λ later up. absurd (let P : ⊥ = cc in P))
-
-  module _ (named : Arrival → Bool) (a : Arrival) (rest : List Arrival) (mark next : Bool) (held : List ℕ)
-      (follow : Follow mark (a ∷ rest)) (turns : next ≡ mark_after limits held mark (Some a.cell))
-      (named_is : named a ≡ not next) where
-    -- a refused cell is for an output that has a limit
-    limited_here : next ≡ true → has_limit limits a.cell.output ≡ true
-    limited_here up = search (arith, rules, cases_Bool)
-
-    step_ends : (m : Bool) → mark_on named (has_limit limits) next rest ≡ Some m →
-        mark_on named (has_limit limits) mark (a ∷ rest) ≡ Some m
-    step_ends m ends = grind (arith, common_steps, limited_here)
-
-    step_follows : Follow next rest
-    step_follows = goes rest follow.0
-      where
-        goes : (line : List Arrival) → ComeBehind a line → Follow next line
-        goes [] behind = tt
-        goes (c ∷ line) behind = (behind.1, grind (arith, common_steps, limited_here, eq-eqb))
+  line_follows line is = grind (arith, common_steps)
 
 -- ## Slot by slot
 
@@ -119,7 +100,7 @@ module _ (w : Switch) (i : ℕ) (few : i < most_ports) (whole : IsLine (filter (
     slot_more (Some cell) some lt lost last follow here rest =
         let same = one_comes_now i slot end w.came cell lt whole some in
         let at = found_at w.came slot i cell some in
-        let moved = mark_is.1 in search (arith, rules, taken_is, step_follows, step_ends, is_shown)
+        let moved = mark_is.1 in search (arith, rules, taken_is, is_shown, cases_Bool, eq-eqb)
 
   pub walked : (slot n : ℕ) (f g : Marked Fabric) (rs : List LimitedRecord) →
       Runs w slot (arriving_from w.came slot n) f rs g → slot + n ≡ end → i < length f.marks →
@@ -133,8 +114,7 @@ module _ (w : Switch) (i : ℕ) (few : i < most_ports) (whole : IsLine (filter (
   walked slot (suc n) f g (r ∷ rs) run all many known follow =
       let step = run.1 in
       let long = marks_long slot f run.0 r many step.admits step.marks in
-      let here = came_where w.machines slot 0 r.admission.cells f.state.ranks
-      (record { came = r.of_slot.came; ranks = r.of_slot.arrived.ranks }) step.runs.arrive.ranked i in
+      let here = came_where w.machines slot 0 r.admission.cells f.state.ranks _ step.runs.arrive.ranked i in
       slot_more slot f run.0 r many step.admits step.marks (arriving_at w.came slot i) refl (omega arith) _ _ follow
       (rw (known slot zero (omega arith)) here) (walked (slot + 1) n run.0 g rs run.2 (omega arith) (omega arith)
       (λ t k e. known t (suc k) (omega arith)))
@@ -214,9 +194,8 @@ module _ (w : Switch) (ranks : List (List ℕ)) (st : State) (rs : List LimitedR
       ports)
   marks_walked =
       let ends = walk_mark w.limits next w.came names in
-      let some = map (λ (m : Bool). Some m) g.marks in
       let many = length-map g.marks (λ (m : Bool). Some m) ∙ many_marks in
-      search (arith, rules, by_places ends (Some false) some, many_marks, ends_marked, get_or-map)
+      search (arith, rules, by_places ends (Some false), many_marks, ends_marked, get_or-map)
 
   -- what was refused, by input
   lost_here : (i : ℕ) → i < ports →
@@ -250,8 +229,7 @@ module _ (w : Switch) (ranks : List (List ℕ)) (st : State) (rs : List LimitedR
   -- ## The fourth clause, the marks and the counts
 
   pub packets_are : AreWholePackets w st
-  packets_are = (packets_alike w st names (has_as_name (named_in st))).1
-      (all_stand w.limits next w.came names ports are g.marks counts known)
+  packets_are = (packets_alike w st names (has_as_name (named_in st))).1 (search (rules, all_stand, known))
 
   pub tally_are : length w.limits ≡ ports → ports ≡ st.head.ports →
       IsTally w st (record { marks = g.marks; refused = counts })
