@@ -50,25 +50,14 @@ map_numbered line n [] = refl
 map_numbered line n (x ∷ xs) = ap (λ ls. line x ∷ ls) (map_numbered line (n + 1) xs)
 
 -- the lines from a part on
-abbrev from_moved : State → List Line
-from_moved s = numbered (plain moved_line) 0 s.moved ++ numbers End [] ∷ []
-
-abbrev from_sent : State → List Line
-from_sent s = numbered (plain sent_line) 0 s.sent ++ from_moved s
-
-abbrev from_buffered : State → List Line
-from_buffered s = numbered (plain (cell_line Buffered)) 0 s.buffered ++ from_sent s
-
 abbrev from_listed : State → List Line
-from_listed s = numbered (plain (cell_line Listed)) 0 s.listed ++ from_buffered s
+from_listed s = numbered (plain (cell_line Listed)) 0 s.listed ++ (numbered (plain (cell_line Buffered)) 0 s.buffered
+    ++ (numbered (plain sent_line) 0 s.sent ++ (numbered (plain moved_line) 0 s.moved ++ numbers End [] ∷ [])))
 
 abbrev from_ranks : State → List Line
 from_ranks s = numbered rank_line 0 s.ranks ++ from_listed s
 
-abbrev pub from_inputs : State → List Line
-from_inputs s = numbered input_line 0 s.inputs ++ from_ranks s
-
-pub lines_are : (s : State) → state_lines s ≡ head_lines s.head ++ from_inputs s
+pub lines_are : (s : State) → state_lines s ≡ head_lines s.head ++ (numbered input_line 0 s.inputs ++ from_ranks s)
 unfolding state_lines
 lines_are s = search (rules, map_numbered)
 
@@ -92,7 +81,7 @@ module _ (s : State) (is : IsInRange s) where
       (skip Rank _ s.head.ports s.head.ports _ (omega arith) listed_due)
 
   inputs_due : Completes (at (Input ∷ Rank ∷ Listed ∷ Buffered ∷ Sent ∷ Moved ∷ End ∷ []) 0 s.head.ports)
-      (from_inputs s)
+      (numbered input_line 0 s.inputs ++ from_ranks s)
   inputs_due = search (arith, rules, part, all_weaker, seen_within, few, skip, ranks_due, is.inputs_told)
 
   whole : Completes start (state_lines s)
