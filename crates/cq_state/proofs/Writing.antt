@@ -64,17 +64,16 @@ state_put s t0 t1 t2 t3 t4 t5 t6 t7 t8 head inputs ranks listed buffered sent mo
     (head_lines s.head) _ head (search (arith, rules, put_behind, one_line))
 
 -- where it is too long with one of the parts behind the head, all of it is
-part_fits : (head part : List Line) (ps : List (List Line)) (k : ℕ) (t0 t1 now : List ℕ) → k < length ps →
-    part ≡ get_or ps k [] → t1 ≡ t0 ++ text head → now ≡ t1 ++ text (flat_map (λ xs. xs) (take k ps)) →
-    length (now ++ text part) ≤ length (t0 ++ text (head ++ flat_map (λ xs. xs) ps))
-part_fits head part ps k t0 t1 now inside own first e =
+part_fits : (head : List Line) (ps : List (List Line)) (k : ℕ) (t0 t1 now : List ℕ) → k < length ps →
+    t1 ≡ t0 ++ text head → now ≡ t1 ++ text (flat_map (λ xs. xs) (take k ps)) →
+    length (now ++ text (get_or ps k [])) ≤ length (t0 ++ text (head ++ flat_map (λ xs. xs) ps))
+part_fits head ps k t0 t1 now inside first e =
     let all = ap (λ qs. length (text (flat_map (λ (xs : List Line). xs) qs))) (take-append-drop (k + 1) ps) in
     let more = take_more ps k [] inside in grind (arith, common_steps, flat_map-append, length-append)
 
-pub long_with : {A : Type 0} (r : Result A StateLong) (s : State) (k : ℕ) (t0 t1 now : List ℕ) (part : List Line) →
-    IfErr r (IsTooLong (now ++ text part)) → k < 7 → part ≡ get_or (drop 1 (parts s)) k [] →
-    t1 ≡ t0 ++ text (head_lines s.head) → now ≡ t1 ++ text (flat_map (λ xs. xs) (take k (drop 1 (parts s)))) →
-    IfErr r (IsTooLong (t0 ++ state_text s))
+pub long_with : {A : Type 0} (r : Result A StateLong) (s : State) (k : ℕ) (t0 t1 now : List ℕ) → k < 7 →
+    IfErr r (IsTooLong (now ++ text (get_or (drop 1 (parts s)) k []))) → t1 ≡ t0 ++ text (head_lines s.head) →
+    now ≡ t1 ++ text (flat_map (λ xs. xs) (take k (drop 1 (parts s)))) → IfErr r (IsTooLong (t0 ++ state_text s))
 unfolding state_lines
-long_with r s k t0 t1 now part long inside own head e = long_on r (now ++ text part) _
-    (part_fits (head_lines s.head) part (drop 1 (parts s)) k t0 t1 now inside own head e) long
+long_with r s k t0 t1 now inside long head e =
+    long_on r _ _ (part_fits (head_lines s.head) (drop 1 (parts s)) k t0 t1 now inside head e) long
