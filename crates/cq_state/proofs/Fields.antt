@@ -72,20 +72,15 @@ spread : (rs : List Range) (fs : List (Option ℕ)) → Within rs 0 fs → fs �
 spread rs fs w = grind (arith, common_steps, all_first)
 
 -- where no `-` may stand, a number within its range stands
-record IsNumber (fs : List (Option ℕ)) (i least most : ℕ) : Type 0 where
-  is : get_or fs i None ≡ Some (number_at fs i)
-  low : least ≤ number_at fs i
-  high : number_at fs i ≤ most
-  fits : number_at fs i < 2 ^ 128
+record IsNumber (f : Option ℕ) (least most : ℕ) : Type 0 where
+  is : f ≡ Some (unwrap_or f 0)
+  low : least ≤ unwrap_or f 0
+  high : unwrap_or f 0 ≤ most
+  fits : unwrap_or f 0 < 2 ^ 128
 
-number_told : (least most : ℕ) (f : Option ℕ) → InRange (between least most) f → (f ≡ Some (unwrap_or f 0)) × (least
-    ≤ unwrap_or f 0) × (unwrap_or f 0 ≤ most) × (unwrap_or f 0 < 2 ^ 128)
-number_told least most None is = absurd (let clash : false ≡ true = is in let P : ⊥ = cc in P)
-number_told least most (Some n) is = (refl, is.0, is.1, is.2)
-
-is_number : (fs : List (Option ℕ)) (i least most : ℕ) → InRange (between least most) (get_or fs i None) →
-    IsNumber fs i least most
-is_number fs i least most h = grind (arith, common_steps, number_told)
+is_number : (f : Option ℕ) (least most : ℕ) → InRange (between least most) f → IsNumber f least most
+is_number None least most is = absurd (let clash : false ≡ true = is in let P : ⊥ = cc in P)
+is_number (Some n) least most is = search rules
 
 pub version_told : (fs : List (Option ℕ)) → Within (between 1 1 ∷ []) 0 fs → fs ≡ Some 1 ∷ []
 version_told fs w = grind (arith, common_steps, spread, is_number, w.each)
@@ -123,12 +118,12 @@ pub moved_told : (ports : ℕ) (fs : List (Option ℕ)) → 1 ≤ ports → With
     (fs ≡ map Some (number_at fs 0 ∷ number_at fs 1 ∷ number_at fs 2 ∷ number_at fs 3 ∷ number_at fs 4 ∷ number_at fs
     5 ∷ [])) × IsMoved ports (moved_of fs)
 moved_told ports fs some w =
-    let slot = is_number fs 0 0 (2 ^ 63 - 1) (w.each 0 (omega arith)) in
-    let phase = is_number fs 1 1 2 (w.each 1 (omega arith)) in
-    let input = is_number fs 2 0 (ports - 1) (w.each 2 (omega arith)) in
-    let output = is_number fs 3 0 (ports - 1) (w.each 3 (omega arith)) in
-    let packet = is_number fs 4 0 (2 ^ 32 - 1) (w.each 4 (omega arith)) in
-    let index = is_number fs 5 0 (2 ^ 32 - 1) (w.each 5 (omega arith)) in
+    let slot = is_number (get_or fs 0 None) 0 (2 ^ 63 - 1) (w.each 0 (omega arith)) in
+    let phase = is_number (get_or fs 1 None) 1 2 (w.each 1 (omega arith)) in
+    let input = is_number (get_or fs 2 None) 0 (ports - 1) (w.each 2 (omega arith)) in
+    let output = is_number (get_or fs 3 None) 0 (ports - 1) (w.each 3 (omega arith)) in
+    let packet = is_number (get_or fs 4 None) 0 (2 ^ 32 - 1) (w.each 4 (omega arith)) in
+    let index = is_number (get_or fs 5 None) 0 (2 ^ 32 - 1) (w.each 5 (omega arith)) in
     (cc (spread (ranges ports 0 Moved) fs w), search (arith, rules))
 
 pub seen_told : (i : ℕ) (fs : List (Option ℕ)) → Within (between i i ∷ count ∷ count_or_none ∷ []) 0 fs →
@@ -139,12 +134,12 @@ rest_told : (gs : List (Option ℕ)) → ((i : ℕ) → i < length gs → InRang
     (gs ≡ map Some (map (λ f. unwrap_or f 0) gs)) × AllByRecursion (λ n. n < 2 ^ 128) (map (λ f. unwrap_or f 0) gs)
 rest_told [] each = (refl, tt)
 rest_told (g ∷ gs) each =
-    let first = number_told 0 (2 ^ 128 - 1) g (each 0 (omega arith)) in
+    let first = is_number g 0 (2 ^ 128 - 1) (each 0 (omega arith)) in
     let rest = rest_told gs (λ i inside. each (suc i) (omega arith)) in (search (arith, rules))
 
 pub rank_told : (j : ℕ) (fs : List (Option ℕ)) → Within (between j j ∷ []) 32 fs →
     (fs ≡ Some j ∷ map Some (rank_of fs)) × AreRankNumbers (rank_of fs)
 rank_told j [] w = let enough : 1 ≤ 0 = w.enough in absurd (omega arith)
 rank_told j (f ∷ gs) w =
-    let own = number_told j j f (w.each 0 (omega arith)) in
+    let own = is_number f j j (w.each 0 (omega arith)) in
     let rest = rest_told gs (λ i inside. w.each (suc i) (omega arith)) in search (arith, rules, length-map)
