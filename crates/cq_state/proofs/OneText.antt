@@ -33,11 +33,10 @@ goes_on k due seen ports x xs c = search (arith, rules)
 
 -- ## One line
 
-module _ (k : Kind) (not_free : IsTrue (is_free k) → ⊥) (needs_one : (ports : ℕ) → needed ports k ≡ 1) (due : List
-    Kind) where
+module _ (k : Kind) (once : (ports : ℕ) → (is_free k ≡ false) × (needed ports k ≡ 1)) (due : List Kind) where
   no_more : (ports : ℕ) (xs : List Line) → Completes (at (k ∷ due) 1 ports) xs → Completes (at due 0 ports) xs
   no_more ports [] c = (ends k due 1 ports c).1
-  no_more ports (x ∷ xs) c = grind (arith, common_steps, goes_on k due 1 ports x xs c)
+  no_more ports (x ∷ xs) c = grind (arith, common_steps, once ports, goes_on k due 1 ports x xs c)
 
   record OneTold (ports : ℕ) (xs : List Line) : Type 0 where
     fields : List (Option ℕ)
@@ -47,9 +46,9 @@ module _ (k : Kind) (not_free : IsTrue (is_free k) → ⊥) (needs_one : (ports 
     rest : Completes (at due 0 (ports_behind ports k fields)) behind
 
   one_told : (ports : ℕ) (xs : List Line) → Completes (at (k ∷ due) 0 ports) xs → OneTold ports xs
-  one_told ports [] c = let enough = (ends k due 0 ports c).0 in let needs = needs_one ports in absurd (omega arith)
+  one_told ports [] c = absurd (omega (arith, ends k due 0 ports c, once ports))
   one_told ports (x ∷ xs) c =
-      grind (arith, common_steps, no_more (ports_behind ports k x.fields) xs, goes_on k due 0 ports x xs c)
+      grind (arith, common_steps, once ports, no_more (ports_behind ports k x.fields) xs, goes_on k due 0 ports x xs c)
 
 -- ## Many lines
 
@@ -129,9 +128,6 @@ state_again s is =
 
 -- ## What a text tells
 
-false_is_not_true : IsTrue false → ⊥
-false_is_not_true e = let clash : false ≡ true = e in let P : ⊥ = cc in P
-
 nothing_behind : (ports : ℕ) (xs : List Line) → Completes (at [] 0 ports) xs → xs ≡ []
 unfolding Completes
 nothing_behind ports [] c = refl
@@ -139,11 +135,11 @@ nothing_behind ports (x ∷ xs) c = absurd c.1.1
 
 pub each_told : (xs : List Line) → Completes start xs → (s : State) × IsInRange s × (xs ≡ state_lines s)
 each_told xs c =
-    let version = one_told Version false_is_not_true (λ _. refl) (drop 1 kinds) 0 xs c in
-    let next = one_told Next false_is_not_true (λ _. refl) (drop 2 kinds) 0 version.behind version.rest in
-    let shape = one_told Shape false_is_not_true (λ _. refl) (drop 3 kinds) 0 next.behind next.rest in
+    let version = one_told Version (λ _. (refl, refl)) (drop 1 kinds) 0 xs c in
+    let next = one_told Next (λ _. (refl, refl)) (drop 2 kinds) 0 version.behind version.rest in
+    let shape = one_told Shape (λ _. (refl, refl)) (drop 3 kinds) 0 next.behind next.rest in
     let ports : ℕ = number_at shape.fields 0 in
-    let sum = one_told Sum false_is_not_true (λ _. refl) (drop 4 kinds) ports shape.behind shape.rest in
+    let sum = one_told Sum (λ _. (refl, refl)) (drop 4 kinds) ports shape.behind shape.rest in
     let is_shape = shape_told shape.fields shape.within in
     let next_told = count_told next.fields next.within in
     let sum_told = counts_told sum.fields sum.within in
@@ -161,8 +157,8 @@ each_told xs c =
     (λ _ fs. sent_told ports fs some) buffered.behind 0 (inl refl) buffered.rest in
     let moved = many_told Moved (drop 10 kinds) ports (λ _. refl) (λ _ t. (moved_line t).fields) moved_of
     (IsMoved ports) (λ _ fs. moved_told ports fs some) sent.behind 0 (inl refl) sent.rest in
-    let end = one_told End false_is_not_true (λ _. refl) [] ports moved.behind moved.rest in
-    let none : moved.behind ≡ line_of End end.fields ∷ [] = search (arith, rules, nothing_behind) in
+    let end = one_told End (λ _. (refl, refl)) [] ports moved.behind moved.rest in
+    let none : moved.behind ≡ line_of End end.fields ∷ [] = rw (nothing_behind ports end.behind end.rest) at end.is in
     let is_version = version_told version.fields version.within in
     let is_end = end_told end.fields end.within in
     let s : State =
