@@ -1,6 +1,5 @@
-use Rattle.cq_state.proofs.Terms.{arith, rules, append-nil, ◌≡◌, ◌++◌, ◌∙◌, List, ℕ, IfErr, map, flat_map, subst, on_ok_weaker, state_text, state_lines, cell_line, sent_line, moved_line, spelled, IsTooLong}
+use Rattle.cq_state.proofs.Terms.{arith, rules, append-nil, ◌≡◌, ◌++◌, on_ok_weaker, state_text, state_lines}
 use Rattle.cq_state.proofs.Writing.{long_with, put_behind, state_put}
-use Rattle.cq_state.specs.declared.kind.Kind.TheVariants as kind
 use Rattle.cq_state.proofs.write.put_state.Goals as goal
 
 pub returns : goal.returns
