@@ -1,5 +1,5 @@
 -- Each line's cells arrive at its own input, so what is asked of an input is found in its line.
-use Rattle.cq_cells.proofs.Terms.{rules, ◌≡◌, ◌≢◌, ℕ, IfSome, and_right, cond_both, eqb-true, zero, suc, ◌+◌, ◌<◌, ◌≤◌, max, Bool, ◌&&◌, List, [], ◌∷◌, ◌++◌, length, filter, take, slice_index_or, None, option_map, refl, arith, common_steps, AllByRecursion, find, ne_eqb, append-nil, take_more, flat_map-append, filter-append, Arrival, arriving_at, end_of, AreOwn, all_of, is_from}
+use Rattle.cq_cells.proofs.Terms.{rules, ◌≡◌, ◌≢◌, ℕ, IfSome, and_right, cond_both, eqb-true, zero, suc, ◌+◌, ◌<◌, ◌≤◌, max, Bool, ◌&&◌, List, [], ◌∷◌, ◌++◌, length, filter, take, slice_index_or, None, option_map, refl, arith, common_steps, AllByRecursion, find, ne_eqb, append-nil, take_more, flat_map-append, filter-append, Arrival, arriving_at, end_of, AreOwn, all_of, is_from, filter_all, filter_none, all_weaker, eq-eqb}
 use Rattle.cq_cells.proofs.Looked.{is_in}
 
 abbrev pub AllFrom : ℕ → List Arrival → Type 0
@@ -9,13 +9,7 @@ AllFrom input line = AllByRecursion (λ (a : Arrival). a.cell.id.input ≡ input
 
 -- a line has no cell of another input
 other_line : (input i : ℕ) (line : List Arrival) → AllFrom i line → i ≢ input → filter (is_from input) line ≡ []
-other_line input i [] own other = refl
-other_line input i (a ∷ line) own other = grind (arith, common_steps, ne_eqb, other_line input i line own.1 other)
-
--- of its own input all
-own_line : (i : ℕ) (line : List Arrival) → AllFrom i line → filter (is_from i) line ≡ line
-own_line i [] own = refl
-own_line i (a ∷ line) own = grind (arith, common_steps, own_line i line own.1)
+other_line input i line own other = search (rules, filter_none, all_weaker, ne_eqb)
 
 -- lines of other inputs have none
 none_from : (input i : ℕ) (lines : List (List Arrival)) → AreOwn i lines →
@@ -30,7 +24,7 @@ pub counted : (input i k : ℕ) (lines : List (List Arrival)) → AreOwn i lines
     filter (is_from input) (all_of lines) ≡ slice_index_or lines k []
 counted input i k [] own at h = absurd (omega arith)
 counted input i zero (line ∷ lines) own at h =
-    search (arith, rules, filter-append, none_from i (i + 1) lines, append-nil, own_line i)
+    search (arith, rules, filter-append, none_from i (i + 1) lines, append-nil, filter_all, all_weaker, eq-eqb)
 counted input i (suc k) (line ∷ lines) own at h =
     grind (arith, common_steps, filter-append, other_line input i line own.0, counted input (i + 1) k lines own.1)
 
