@@ -24,12 +24,9 @@ length-rows_from place [] = refl
 length-rows_from place (p ∷ ps) = ap suc (length-rows_from (place + 16 + length p.body) ps)
 
 -- row k is that of packet k
-pub record IsRowOf (p : Captured) (row : PacketRow) : Type 0 where
-  pub stamp : row.stamp ≡ p.stamp
-  pub len : row.len ≡ length p.body
-
 pub row_is_of : (place : ℕ) (ps : List Captured) (k : ℕ) (d : PacketRow) (e : Captured) → k < length ps →
-    IsRowOf (slice_index_or ps k e) (slice_index_or (rows_from place ps) k d)
+    ((slice_index_or (rows_from place ps) k d).stamp ≡ (slice_index_or ps k e).stamp)
+    × ((slice_index_or (rows_from place ps) k d).len ≡ length (slice_index_or ps k e).body)
 row_is_of place [] k d e h = absurd (omega arith)
-row_is_of place (p ∷ ps) zero d e h = record { stamp = refl; len = refl }
+row_is_of place (p ∷ ps) zero d e h = (refl, refl)
 row_is_of place (p ∷ ps) (suc k) d e h = row_is_of (place + 16 + length p.body) ps k d e (omega arith)
