@@ -1,7 +1,7 @@
 -- A line is laid out: where its packets go, what each step of it adds, and what stands at its end.
-use Rattle.cq_cells.proofs.Terms.{rules, ◌≡◌, ℕ, ◌+◌, ◌-◌, ◌/◌, ◌^◌, ◌<◌, ◌≤◌, max, List, length, map, slice_index_or, arith, common_steps, AllByRecursion, end_of, Captured, rows_from, file_length, PacketRow, Tables, route, AreTables, ports_of, Row, AreAdded, AreRows, line_arrivals, cells_of, packets_of, cells, start, stamp_slot, arrivals_at, few_kept, t0_of, IsRecorded, [], sym, ◌∙◌, range_with_len, length-map, get_or-map, fill_by_all, route_output, packet_at, packet_in, is_to}
-use Rattle.cq_cells.proofs.Packets.{start_by, row_of, came_by, ends_by, longer_by, length_packet, end_packet, IsSoFar, few_by, early_by, line_is, rows_are}
-use Rattle.cq_cells.proofs.Stamps.{length-rows_from, row_is_of}
+use Rattle.cq_cells.proofs.Terms.{rules, ◌≡◌, ℕ, ◌+◌, ◌-◌, ◌/◌, ◌^◌, ◌<◌, ◌≤◌, max, List, length, map, slice_index_or, arith, common_steps, end_of, Captured, rows_from, PacketRow, Tables, route, AreTables, ports_of, Row, AreAdded, AreRows, line_arrivals, cells_of, packets_of, cells, start, stamp_slot, arrivals_at, few_kept, t0_of, IsRecorded, [], sym, ◌∙◌, range_with_len, length-map, get_or-map, fill_by_all, route_output, packet_at, packet_in, is_to}
+use Rattle.cq_cells.proofs.Packets.{start_by, row_of, came_by, length_packet, end_packet, ends_by, longer_by, IsSoFar, few_by, early_by, line_is, rows_are}
+use Rattle.cq_cells.proofs.Stamps.{row_is_of}
 
 -- ## Routes
 
@@ -41,11 +41,6 @@ pub record AreRead (captures : List (List Captured)) (input : ℕ) (ps : List Ca
   pub placed : places ≡ rows_from 24 ps
   pub many : length places ≡ length (packets_of captures input)
   pub recorded : IsRecorded (packets_of captures input)
-
-pub are_read : (captures : List (List Captured)) (input : ℕ) (ps : List Captured) (places : List PacketRow) →
-    ps ≡ packets_of captures input → places ≡ rows_from 24 ps → AllByRecursion (λ p. p.stamp < 2 ^ 63) ps →
-    file_length ps ≤ 2 ^ 28 → AreRead captures input ps places
-are_read captures input ps places same placed stamps small = grind (arith, common_steps, length-rows_from)
 
 -- a row is that of packet k, which goes to a port, and with it the counts stay small
 pub record IsMade (t : Tables) (captures : List (List Captured)) (input k : ℕ) (row : Row) (all : ℕ)

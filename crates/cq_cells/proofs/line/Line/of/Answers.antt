@@ -1,6 +1,7 @@
 use Rattle.cq_cells.proofs.Terms.{rules, slice_index_or, arith, ℕ, ◌+◌, ap, ◌∙◌, ◌<◌, length, get_or_read}
-use Rattle.cq_cells.proofs.Laid.{many_ways, AreRead, IsMade, IsWhole, are_read, at_end, next_row}
+use Rattle.cq_cells.proofs.Laid.{many_ways, AreRead, IsMade, IsWhole, at_end, next_row}
 use Rattle.cq_cells.proofs.Packets.{so_far_more}
+use Rattle.cq_cells.proofs.Stamps.{length-rows_from}
 use Rattle.cq_cells.proofs.line.Line.of.Goals as goal
 use Rattle.cq_cells.proofs.line.Line.of.Goals.{After-packets, After-row_of-row, After-rows-packets}
 
@@ -9,22 +10,19 @@ use Rattle.cq_cells.proofs.line.Line.of.Goals.{After-packets, After-row_of-row, 
 -- the packets are those of the input
 read : (c : After-rows-packets) →
     AreRead c.args.captures.now c.args.input c.index-captures-input.result c.rows-packets.result.now
-read c = search (arith, rules, are_read, get_or_read)
+read c = search (arith, rules, length-rows_from, get_or_read)
 
 -- the row is that of the packet at which the loop stands, and with its cells the counts stay small
 made : (c : After-row_of-row) → IsMade c.args.tables.now c.args.captures.now c.args.input c.packets.k
     c.row_of-row.result c.packets.cells c.args.to_output.now c.packets.to_output
 made c =
     let known : AreRead c.args.captures.now c.args.input c.index-captures-input.result c.rows-packets.result.now =
-    search (arith, rules, are_read, get_or_read) in
+    search (arith, rules, length-rows_from, get_or_read) in
     search (arith, rules, next_row, known)
 
 -- its output is counted
 counted : (c : After-row_of-row) → c.row_of-row.result.output < length c.packets.to_output
-counted c =
-    let to_port = (made c).to_port in
-    let outputs = c.requires.outputs in
-    let ports = c.packets.invariant.so_far.ports in omega arith
+counted c = let to_port = (made c).to_port in omega arith
 
 -- in the end the line stands whole
 whole : (c : After-packets) → AreRead c.args.captures.now c.args.input c.index-captures-input.result
@@ -93,11 +91,4 @@ invariant_of-result c =
 pub returns : goal.returns
 returns c =
     let known = read (goal.at.returns c).After-rows-packets in
-    let line = whole (goal.at.returns c).After-packets known in
-    record {
-      line = line.line;
-      few = omega (arith, line.all, line.few);
-      recorded = known.recorded;
-      outputs = c.packets.invariant.so_far.ports;
-      counts = line.each;
-    }
+    let line = whole (goal.at.returns c).After-packets known in search (arith, rules)
