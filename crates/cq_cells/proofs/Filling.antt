@@ -14,9 +14,6 @@ pub record Filling (came : List Arrival) (slot n : ℕ) (old now : List (Option 
   pub done : (i : ℕ) → i < n → get_or now i None ≡ arriving_at came slot i
   pub left : (i : ℕ) → n ≤ i → get_or now i None ≡ get_or old i None
 
-pub filling_first : (came : List Arrival) (slot : ℕ) (old : List (Option Cell)) → Filling came slot 0 old old
-filling_first came slot old = grind (arith, common_steps)
-
 pub filling_next : (came : List Arrival) (slot n : ℕ) (old now new : List (Option Cell)) (cell : Option Cell) →
     Filling came slot n old now → n < length now → cell ≡ arriving_at came slot n → new ≡ set now n cell →
     Filling came slot (n + 1) old new

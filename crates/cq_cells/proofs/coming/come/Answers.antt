@@ -1,5 +1,5 @@
 use Rattle.cq_cells.proofs.Terms.{rules, ◌≡◌, [], arith, get_or_read, arriving_at, all_of}
-use Rattle.cq_cells.proofs.Filling.{filling_first, filling_next, all_filled, still_stand}
+use Rattle.cq_cells.proofs.Filling.{filling_next, all_filled, still_stand}
 use Rattle.cq_cells.proofs.Owned.{arriving_at_line, arrives_own}
 use Rattle.cq_cells.proofs.coming.come.Goals as goal
 use Rattle.cq_cells.proofs.coming.come.Goals.{After-cell_near-cell}
@@ -12,21 +12,12 @@ given c =
     rw (arriving_at_line c.args.slot c.lines.input c.args.lines.now c.requires.own c.lines-test.true, ← line)
     c.cell_near-cell.ensures
 
-pub lines-init : goal.lines-init
-lines-init c = filling_first (all_of c.args.lines.now) c.args.slot c.args.arrivals.now
-
 pub put-requires-clause-own : goal.put-requires-clause-own
 put-requires-clause-own c = rw (given (goal.at.put-requires-clause-own c).After-cell_near-cell)
     (arrives_own (all_of c.args.lines.now) c.args.slot c.lines.input)
 
 pub lines-preserved : goal.lines-preserved
-lines-preserved c =
-    let places = c.lines.invariant.places in
-    let all = c.requires.stand.places in
-    let few = c.requires.few in
-    let inside = c.lines-test.true in
-    filling_next _ _ _ _ _ _ _ c.lines.invariant (omega arith)
-    (given (goal.at.lines-preserved c).After-cell_near-cell) c.put.ensures
+lines-preserved c = search (arith, rules, filling_next, given)
 
 pub returns : goal.returns
 returns c = search (arith, rules, all_filled, still_stand)
