@@ -1,4 +1,4 @@
-use Rattle.cq_cells.proofs.Terms.{few_kept, rules, arith, ◌≡◌, ℕ, ◌+◌, List, ap, cases_eq, append-nil, flat_map-append, map-range_with_len_more, Arrival, all_of, arrivals_at, is_to, number_of}
+use Rattle.cq_cells.proofs.Terms.{few_kept, rules, arith, ◌≡◌, ℕ, ◌+◌, List, cases_eq, append-nil, flat_map-append, map-range_with_len_more, Arrival, all_of, arrivals_at, is_to, number_of}
 use Rattle.cq_cells.proofs.Packets.{number-append}
 use Rattle.cq_cells.proofs.schedule.lines_of.Goals as goal
 
@@ -14,15 +14,8 @@ inputs-preserved g c =
     ≡ number_of (is_to j) (all_of c.inputs.lines.items) + number_of (is_to j) line =
     λ j. rw (c.push_reserved.ensures.items, flat_map-append, append-nil)
     (number-append j (all_of c.inputs.lines.items) line) in
-    record {
-      lines = search (arith, rules, more);
-      filled = search (arith, rules);
-      room = search (arith, rules);
-      recorded = search (arith, rules, cases_eq, c.inputs.invariant.recorded);
-      ports = search (arith, rules);
-      counts = λ j h.
-          let here = c.in_ok-line.ensures.counts j (omega arith) in
-          let had = c.inputs.invariant.counts j h in
-          omega (arith, added j, here, had, ap (number_of (is_to j)) c.in_ok-line.ensures.line);
-      small = λ j h. search (arith, rules, few_kept, c.in_ok-line.ensures.counts, c.inputs.invariant.small);
-    }
+    let recorded = c.inputs.invariant.recorded in
+    let had = c.inputs.invariant.counts in
+    let small = c.inputs.invariant.small in
+    let here = c.in_ok-line.ensures.counts in
+    search (arith, rules, more, added, cases_eq, few_kept, recorded, had, small, here)

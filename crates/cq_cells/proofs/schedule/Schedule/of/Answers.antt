@@ -12,13 +12,7 @@ invariant_of-result g c = search (arith, rules, sizes, own_lines, c.in_ok-lines.
 
 pub returns : goal.returns
 returns g c =
-    let captures = c.args.captures.now in
-    let came : all_of c.in_ok-lines.lines.items ≡ arrivals c.args.tables.now captures =
-    all_lines c.args.tables.now captures c.in_ok-lines.lines.items c.in_ok-lines.ensures.lines in
+    let came : all_of c.in_ok-lines.lines.items ≡ arrivals c.args.tables.now c.args.captures.now =
+    all_lines c.args.tables.now c.args.captures.now c.in_ok-lines.lines.items c.in_ok-lines.ensures.lines in
     let recorded = c.in_ok-lines.ensures.recorded in
-    record {
-      schedule = search (arith, rules, length-map-range_with_len, came, c.t0_of-t0.ensures);
-      traffic = rw came (traffic_is c.args.tables.now captures c.requires.tables c.requires.captures);
-      short = rw came (short_is c.args.tables.now captures c.requires.tables c.requires.captures recorded);
-      recorded = recorded;
-    }
+    search (arith, rules, length-map-range_with_len, came, c.t0_of-t0.ensures, traffic_is, short_is, recorded)
