@@ -1,6 +1,6 @@
 -- The walks over all inputs ended with a mark: so all packets stand, and the marks and the counts are those of what is
 -- left out. Or one stopped: so a packet does not stand.
-use Rattle.cq_resume.proofs.Terms.{common_steps, rules, ◌≡◌, ℕ, ◌<◌, Bool, false, List, length, map, get_or, Option, None, Some, sym, arith, range_with_len, get_or-map, get_or_default, length-map, same_lists, get_or-map-range_with_len, length-map-range_with_len, Arrival, Refused, latest, ArePackets, PacketsStand, TalliesUp, coming, firsts_before, has_limit, has_name, is_left_out, Name, Tally}
+use Rattle.cq_resume.proofs.Terms.{common_steps, rules, ◌≡◌, ℕ, ◌<◌, Bool, false, List, length, map, get_or, Option, None, Some, sym, arith, range_with_len, get_or-map, length-map, get_or-map-range_with_len, length-map-range_with_len, Arrival, Refused, latest, ArePackets, PacketsStand, TalliesUp, coming, firsts_before, has_limit, has_name, is_left_out, Name, Tally, fill_by_all}
 use Rattle.cq_resume.proofs.Adding.{Tallied, mark_at, tallied_counts}
 use Rattle.cq_resume.proofs.Tallied.{line_ends, line_stands, LineStands, as_first, mark_is, packets_stand, whole}
 
@@ -34,14 +34,8 @@ module _ (limits : List (Option ℕ)) (next : ℕ) (came : List Arrival) (names 
     told i = is_left_out names next came (latest (firsts_before i next came))
 
     pub all_marks : marks ≡ map told (range_with_len 0 ports)
-    all_marks =
-        let size = many in
-        let long = length-map-range_with_len told 0 ports in
-        same_lists marks (map told (range_with_len 0 ports)) (omega arith) (λ k d inside.
-        let low : k < ports = omega arith in
-        let is = mark_is limits ports next came names are k low (stands k low) (get_or marks k false)
-        (mark_there k low) in
-        search (arith, rules, get_or_default marks k d false, get_or-map-range_with_len told 0 ports k k d))
+    all_marks = fill_by_all told marks ports false many (λ k low.
+        mark_is limits ports next came names are k low (stands k low) (get_or marks k false) (mark_there k low))
 
     pub tallies_up : (x : Tally) → length limits ≡ ports → x.marks ≡ marks → x.refused ≡ refused →
         TalliesUp limits next came names x
