@@ -1,7 +1,7 @@
 -- Of a text there is one answer. A text of a state in range is that of no other such state, and each of its lines is
 -- allowed. So the text tells the state, whether that has the switch's shape, and which clauses hold of it; and of two
 -- clauses that are the first to fail neither is before the other.
-use Rattle.cq_resume.proofs.Terms.{◌≡◌, ◌≢◌, ℕ, zero, suc, ◌≤◌, List, refl, sym, ap, ◌∙◌, ⊎_elim, arith, cases_lt, taken_of, Clause, IsFirstUnsound, IsSound, HasShape, Switch, IsInRange, State, Taken, StateRefusal}
+use Rattle.cq_resume.proofs.Terms.{◌≡◌, ◌≢◌, ℕ, zero, suc, ◌≤◌, List, refl, sym, ◌∙◌, ⊎_elim, arith, cases_lt, Clause, IsFirstUnsound, IsSound, HasShape, Switch, IsInRange, State, Taken, StateRefusal, rules}
 use Rattle.cq_resume.specs.Reading.{HasOtherShape, IsRead, IsReadExact, IsRefusal}
 use Rattle.cq_resume.specs.declared.refusal.StateRefusal.TheVariants as refusal
 use Rattle.cq_state.proofs.{OneReading.state_is_exact, OneText.have_one_text}
@@ -37,15 +37,11 @@ module _ (w : Switch) (text : List ℕ) where
   one_read : (x y : Taken) → IsRead w text x → IsRead w text y → x ≡ y
   one_read x y r s =
       let a = r.comes in
-      let b = s.comes in
-      let same = one_state r.state s.state a.in_range b.in_range r.spelled s.spelled in
-      a.told ∙ ap (λ (s : State). taken_of w s) same ∙ sym b.told
+      let b = s.comes in cc (one_state r.state s.state a.in_range b.in_range r.spelled s.spelled)
 
   never_refused : (x : Taken) (r : StateRefusal) → IsRead w text x → IsRefusal w text r → r ≡ refusal.NoMemory
-  never_refused x (refusal.Text line) read fault =
-      absurd (no_fault read.state line read.comes.in_range read.spelled fault)
-  never_refused x refusal.Shape read other =
-      absurd (no_other read.state read.comes.in_range read.spelled read.comes.shape other)
+  never_refused x (refusal.Text line) read fault = absurd (search (arith, rules, no_fault read.state))
+  never_refused x refusal.Shape read other = absurd (search (arith, rules, no_other read.state))
   never_refused x (refusal.Unsound k) read first =
       let same = one_state first.state read.state first.in_range read.comes.in_range first.spelled read.spelled in
       absurd (first.unsound.fails (each_clause w first.state (rw same read.comes.sound) k))
@@ -53,20 +49,17 @@ module _ (w : Switch) (text : List ℕ) where
 
   one_refusal : (r s : StateRefusal) → r ≢ refusal.NoMemory → s ≢ refusal.NoMemory → IsRefusal w text r →
       IsRefusal w text s → r ≡ s
-  one_refusal (refusal.Text m) (refusal.Text n) some other r s =
-      ap (λ (n : ℕ). refusal.Text n) (state_is_exact.one_fault text m n r s)
+  one_refusal (refusal.Text m) (refusal.Text n) some other r s = cc (state_is_exact.one_fault text m n r s)
   one_refusal (refusal.Text m) refusal.Shape some other r s = absurd (no_fault s.state m s.in_range s.spelled r)
   one_refusal (refusal.Text m) (refusal.Unsound k) some other r s = absurd (no_fault s.state m s.in_range s.spelled r)
   one_refusal refusal.Shape (refusal.Text n) some other r s = absurd (no_fault r.state n r.in_range r.spelled s)
   one_refusal refusal.Shape refusal.Shape some other r s = refl
-  one_refusal refusal.Shape (refusal.Unsound k) some other r s =
-      absurd (no_other s.state s.in_range s.spelled s.shape r)
+  one_refusal refusal.Shape (refusal.Unsound k) some other r s = absurd (search (rules, no_other s.state))
   one_refusal (refusal.Unsound j) (refusal.Text n) some other r s = absurd (no_fault r.state n r.in_range r.spelled s)
-  one_refusal (refusal.Unsound j) refusal.Shape some other r s =
-      absurd (no_other r.state r.in_range r.spelled r.shape s)
+  one_refusal (refusal.Unsound j) refusal.Shape some other r s = absurd (search (rules, no_other r.state))
   one_refusal (refusal.Unsound j) (refusal.Unsound k) some other r s =
       let same = one_state s.state r.state s.in_range r.in_range s.spelled r.spelled in
-      ap (λ (n : ℕ). refusal.Unsound n) (one_first w r.state j k r.unsound (rw same at s.unsound))
+      cc (one_first w r.state j k r.unsound (rw same at s.unsound))
   one_refusal refusal.NoMemory s some other _ _ = absurd (some refl)
   one_refusal r refusal.NoMemory some other _ _ = absurd (other refl)
 
