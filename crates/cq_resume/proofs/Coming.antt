@@ -1,6 +1,6 @@
 -- The cells that arrive at one input, from a slot on. They rise by slot, so the next slot with an arrival is that of
 -- the first of them, and behind it are those from the slot after that on.
-use Rattle.cq_resume.proofs.Terms.{common_steps, rules, ◌≡◌, ℕ, ◌+◌, ◌<◌, ◌≤◌, leb, ltb, Bool, List, [], ◌∷◌, None, Some, refl, inl, inr, arith, ◌&&◌, filter, AllByRecursion, and_parts, eqb-true, and_from, and_left, eq-eqb, le-leb, lt-leb, lt-ltb, cases_lt, Arrival, arriving_at, Cell, is_from, ComeBehind, IsLine, coming, ArrivesIn, IsNextArrival, all_of_has, has_kept, Has, EachPair}
+use Rattle.cq_resume.proofs.Terms.{common_steps, rules, ◌≡◌, ℕ, ◌+◌, ◌<◌, ◌≤◌, leb, ltb, Bool, List, [], ◌∷◌, None, Some, refl, inl, inr, arith, ◌&&◌, filter, AllByRecursion, and_parts, eqb-true, and_from, and_left, eq-eqb, le-leb, lt-leb, lt-ltb, cases_lt, Arrival, arriving_at, Cell, is_from, ComeBehind, IsLine, coming, ArrivesIn, IsNextArrival, all_of_has, has_kept, Has, EachPair, filter_none, all_weaker, false}
 
 -- ## What arrives in a slot at an input
 
@@ -27,15 +27,10 @@ found_there slot input (a ∷ came) arrives none = grind (arith, common_steps, e
 abbrev pub IsEarlier : Arrival → Arrival → Type 0
 IsEarlier a b = a.slot < b.slot
 
-behind_later : (slot : ℕ) (a : Arrival) (line : List Arrival) → slot ≤ a.slot → ComeBehind a line →
-    AllByRecursion (λ b. slot < b.slot) line
-behind_later slot a [] le behind = tt
-behind_later slot a (b ∷ line) le behind = grind (arith, common_steps, behind_later slot b line)
-
 behind_rising : (a : Arrival) (line : List Arrival) → ComeBehind a line → EachPair IsEarlier (a ∷ line)
 behind_rising a [] behind = (tt, tt)
 behind_rising a (b ∷ line) behind =
-    (behind_later a.slot a (b ∷ line) (omega arith) behind, behind_rising b line behind.1)
+    let rest = behind_rising b line behind.1 in search (arith, rules, all_weaker (IsEarlier b))
 
 line_rising : (line : List Arrival) → IsLine line → EachPair IsEarlier line
 line_rising [] is = tt
@@ -46,16 +41,9 @@ line_rising (a ∷ line) is = behind_rising a line is.1
 abbrev pub is_between : ℕ → ℕ → Arrival → Bool
 is_between from next a = leb from a.slot && ltb a.slot next
 
--- none is left
-none_from : (from next : ℕ) (line : List Arrival) → AllByRecursion (λ a. a.slot < from) line →
-    filter (is_between from next) line ≡ []
-none_from from next [] all = refl
-none_from from next (a ∷ line) all = grind (arith, common_steps, and_left, lt-leb, none_from from next line all.1)
-
-none_before : (from next slot : ℕ) (line : List Arrival) → next ≤ slot →
-    AllByRecursion (λ a. from ≤ a.slot → slot ≤ a.slot) line → filter (is_between from next) line ≡ []
-none_before from next slot [] le all = refl
-none_before from next slot (a ∷ line) le all = grind (arith, common_steps, none_before from next slot line le all.1)
+not_between : (from next slot : ℕ) (a : Arrival) → next ≤ slot → (from ≤ a.slot → slot ≤ a.slot) →
+    is_between from next a ≡ false
+not_between from next slot a le late = grind (arith, common_steps)
 
 -- those behind a slot are those from the next one on
 behind_same : (from next slot : ℕ) (line : List Arrival) → from ≤ slot → AllByRecursion (λ b. slot < b.slot) line →
@@ -80,11 +68,11 @@ next_in from next slot x (a ∷ line) rising (inr has) at le lt all =
 
 module _ (input from next : ℕ) (came : List Arrival) where
   pub none_comes : IsNextArrival (filter (is_from input) came) from None → coming input from next came ≡ []
-  none_comes none = none_from from next (filter (is_from input) came) none
+  none_comes none = search (arith, rules, filter_none, all_weaker, and_left, lt-leb)
 
   pub none_comes_yet : (slot : ℕ) → IsNextArrival (filter (is_from input) came) from (Some slot) → next ≤ slot →
       coming input from next came ≡ []
-  none_comes_yet slot is le = none_before from next slot (filter (is_from input) came) le is.none_before
+  none_comes_yet slot is le = search (arith, rules, filter_none, all_weaker, not_between, is.none_before)
 
   module _ (slot : ℕ) (is : IsNextArrival (filter (is_from input) came) from (Some slot)) (lt : slot < next)
       (whole : IsLine (filter (is_from input) came)) where
