@@ -10,14 +10,9 @@ pub has_shape-requires-clause-told : goal.has_shape-requires-clause-told
 has_shape-requires-clause-told c = c.in_ok-state.ensures.read.0.outputs_told
 
 pub judge-requires : goal.judge-requires
-judge-requires c = let known = schedule_known _ _ c.requires.tables c.requires.schedule in record {
-  tables = c.requires.tables;
-  ports = known.ports;
-  traffic = known.traffic;
-  packets = known.packets;
-  in_range = c.in_ok-state.ensures.read.0;
-  shape = c.has_shape.ensures.0 c.if-not-has_shape.false;
-}
+judge-requires c =
+    let known = schedule_known _ _ c.requires.tables c.requires.schedule in
+    search (arith, rules, c.in_ok-state.ensures.read, c.has_shape.ensures)
 
 pub returns-clause-written : goal.returns-clause-written
 returns-clause-written c = search (arith, rules, text_again c.args.tables.now c.args.schedule.now c.args.bytes.now)

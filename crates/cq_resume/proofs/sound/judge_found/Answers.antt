@@ -1,6 +1,6 @@
 -- What each step asks follows from the range and the shape of the state, and of cells that were found. What a step that
 -- fails says of the clauses, and that a state is sound that passes all, is in the lemmas.
-use Rattle.cq_resume.proofs.Terms.{arith, rules, ◌∙◌, err_from_is_err_and, PacketsStand, AreOrdered, HaveRoom}
+use Rattle.cq_resume.proofs.Terms.{arith, rules, err_from_is_err_and, PacketsStand, AreOrdered, HaveRoom}
 use Rattle.cq_resume.proofs.Judging.{can_take_up, cells_for, few_ports, names_for, outputs_low, ports_are, tally_from, is_sound, leave_refused, packets_refused, stand_refused}
 use Rattle.cq_resume.proofs.sound.judge_found.Goals as goal
 use Rattle.cq_resume.proofs.sound.judge_found.Goals.{In-Some, In_ok-judge_places}
@@ -25,14 +25,8 @@ pub tally_packets-requires-clause-ordered : goal.tally_packets-requires-clause-o
 tally_packets-requires-clause-ordered c = rw c.deref.ensures.value c.requires.known.found.ordered
 
 pub judge_ranks-requires : goal.judge_ranks-requires
-judge_ranks-requires c = let known = c.requires.known in record {
-  ordered = known.found.ordered;
-  ports = few_ports _ _ _ _ known;
-  names = names_for _ _ _ _ known;
-  ranks = known.range.outputs_told ∙ ports_are _ _ _ _ known;
-  sized = known.shape.ranks;
-  cells = cells_for _ _ _ _ known;
-}
+judge_ranks-requires c =
+    search (arith, rules, few_ports, names_for, ports_are, cells_for, c.requires.known)
 
 -- ## Why it is refused
 

@@ -1,4 +1,4 @@
-use Rattle.cq_resume.proofs.Terms.{◌∙◌, ap, map, departed}
+use Rattle.cq_resume.proofs.Terms.{◌∙◌, ap, map, departed, arith, rules}
 use Rattle.cq_resume.proofs.taken.places_of.Goals as goal
 
 pub queues_of-queues-requires-clause-listed : goal.queues_of-queues-requires-clause-listed
@@ -14,11 +14,4 @@ outputs_of-requires c =
 
 pub returns : goal.returns
 returns c =
-    let sent = c.in_ok-sent.ensures ∙ ap (map departed) c.sent_of-sent.ensures in
-    record {
-      lists = rw c.deref.ensures.value at c.in_ok-lists.ensures.lists;
-      buffers = rw c.deref-2.ensures.value at c.in_ok-lists.ensures.buffers;
-      sent = c.of.ensures ∙ sent;
-      slots = rw (c.deref-3.ensures.value, sent) at c.slots_of-slots.ensures;
-      outputs = rw (c.deref-4.ensures.value, sent) at c.in_ok-outputs.ensures;
-    }
+    let sent = c.in_ok-sent.ensures ∙ ap (map departed) c.sent_of-sent.ensures in search (arith, rules, sent)
