@@ -1,14 +1,11 @@
 -- A list that stands by a number is cut where the number begins and where it ends, and what is between are all items
 -- that have it. First a list whose items pass a test between two places and nowhere else; then the places that halving
 -- finds. What halving finds in cells that stand in order: the cells of one output, of cells that stand by output,
--- which stand by their keys. Lists that are made item by item: copies, and what the items before a place come to. What
--- the items of a list come to with their places, item by item. Departures are made so too: they stand by slot, they
--- are before the next one, and each is at one of the outputs, where it is counted. The figures of the outputs change
--- departure by departure, each those of its own output. And the slots of a run: departures that stand by slot end with
--- the last.
-use Rattle.cq_resume.proofs.Terms.{◌&&◌, rules, ◌≡◌, ℕ, ◌+◌, ◌-◌, ◌<◌, ◌≤◌, eqb, leb, ltb, Bool, true, false, List, [], ◌∷◌, length, get_or, take, drop, refl, ap, ◌∙◌, length-drop, Bor, arith, ◌++◌, map, flat_map, common_steps, filter, Called, ComputesKey, Mut, IsPartitionPoint, IsNonDecreasingBy, always_returns_same, append-nil, get_or-drop, get_or-take, length-take-le, take-append-drop, map-append, take_more, filter-append, eq-eqb, leb-false, leb-true, ltb-false, ltb-true, ne_eqb, cases_eq, eqb-true, AllPairs, range_with_len, enumerate_from, IsRising, Queued, BuffersStand, IsBufferedBefore, flat_map-append, map-range_with_len_more, ◌^◌, set, length-append, AllByRecursion, Departure, OutputFigures, output_told, IsSentBefore, IsTimely, departed, with_departure, Gone, recursion_from_All, filter_all, filter_none, cases_Bool, get_or-map-range_with_len, set_one, slots_of, all_weaker, of_images, few_kept, all_of_has, all_from_has, kept_has, each_pair, all_pairs, EachPair, pairs_mapped}
+-- which stand by their keys. What the items of a list come to with their places, item by item. The departures of the
+-- cells that were sent stand by slot, and are before the next one. The figures of the outputs change departure by
+-- departure, each those of its own output. And the slots of a run: departures that stand by slot end with the last.
+use Rattle.cq_resume.proofs.Terms.{◌&&◌, rules, ◌≡◌, ℕ, ◌+◌, ◌-◌, ◌<◌, ◌≤◌, eqb, leb, ltb, Bool, true, false, List, [], ◌∷◌, length, get_or, take, drop, refl, ap, ◌∙◌, length-drop, Bor, arith, ◌++◌, map, common_steps, filter, Called, ComputesKey, Mut, IsPartitionPoint, IsNonDecreasingBy, always_returns_same, append-nil, get_or-drop, get_or-take, length-take-le, take-append-drop, map-append, take_more, filter-append, eq-eqb, leb-false, leb-true, ltb-false, ltb-true, ne_eqb, cases_eq, eqb-true, AllPairs, range_with_len, enumerate_from, IsRising, Queued, BuffersStand, IsBufferedBefore, ◌^◌, set, length-append, AllByRecursion, Departure, OutputFigures, output_told, IsSentBefore, IsTimely, departed, with_departure, Gone, recursion_from_All, filter_all, filter_none, cases_Bool, get_or-map-range_with_len, set_one, slots_of, all_weaker, of_images, few_kept, all_of_has, all_from_has, kept_has, each_pair, all_pairs, EachPair, pairs_mapped, All-from_recursion}
 use Rattle.std.proofs.lemmas.List.{take_rest}
-use Rattle.cq_resume.proofs.Each.{all_at}
 
 -- a test computes what each of its calls answers
 pub computes : {F X K : Type 0} {g : Mut F (Bor X × Unit {0}) K} {f : F} (key : X → K) →
@@ -67,37 +64,12 @@ module _ (j : ℕ) where
   pub buffer_rises : (xs : List Queued) → BuffersStand xs → IsRising (filter (λ q. eqb q.cell.output j) xs)
   buffer_rises xs stand = rising_kept xs (each_pair IsBufferedBefore xs stand)
 
--- an item of a list that owns its memory is read and copied
-pub copy_more : {X : Type 0} (xs : List X) (i : ℕ) (read copy : X) (now new : List X) → i < length xs →
-    now ≡ take i xs → read ≡ get_or xs i read → copy ≡ read → new ≡ now ++ copy ∷ [] → new ≡ take (i + 1) xs
-copy_more {X} xs i read copy now new inside so_far is same more = grind (arith, common_steps, take_more)
-
 -- the cells of an input, and those for an output
 abbrev pub listed_at : List Queued → ℕ → List Queued
 listed_at listed i = filter (λ q. eqb q.key.input i) listed
 
 abbrev pub buffered_at : List Queued → ℕ → List Queued
 buffered_at buffered j = filter (λ q. eqb q.cell.output j) buffered
-
--- what numbers from 0 on come to
-pub ranged_more : {Y : Type 0} (f : ℕ → Y) (i : ℕ) (y : Y) (now new : List Y) → now ≡ map f (range_with_len 0 i) →
-    y ≡ f i → new ≡ now ++ y ∷ [] → new ≡ map f (range_with_len 0 (i + 1))
-ranged_more {Y} f i y now new so_far is more = grind (arith, common_steps, map-range_with_len_more)
-
-pub ranged_last : {Y : Type 0} (f : ℕ → Y) (i n : ℕ) (made : List Y) → made ≡ map f (range_with_len 0 i) → i ≡ n →
-    made ≡ map f (range_with_len 0 n)
-ranged_last f i n made so_far all = so_far ∙ ap (λ (k : ℕ). map f (range_with_len 0 k)) all
-
--- what the items of several lists come to, one list after the other
-module _ {X Y : Type 0} (f : X → Y) (lists : List (List X)) where
-  abbrev joined : List (List X) → List X
-  joined ls = flat_map (λ cells. cells) ls
-
-  pub lists_more : (i : ℕ) (read cells : List X) (now new : List Y) → i < length lists →
-      now ≡ map f (joined (take i lists)) → read ≡ get_or lists i read → cells ≡ read → new ≡ now ++ map f cells →
-      new ≡ map f (joined (take (i + 1) lists))
-  lists_more i read cells now new inside so_far is same more =
-      grind (arith, common_steps, take_more, flat_map-append, append-nil, map-append)
 
 enumerate_put : {X : Type 0} (n : ℕ) (xs : List X) (x : X) →
     enumerate_from n (xs ++ x ∷ []) ≡ enumerate_from n xs ++ (n + length xs, x) ∷ []
@@ -117,24 +89,6 @@ module _ {X : Type 0} (p q : X → Bool) where
   filter_both [] = refl
   filter_both (x ∷ xs) = grind (arith, common_steps, filter_both xs)
 
--- ## All outputs
-
-ruleset read_on = (take_more, set_one, ne_eqb, cases_Bool, length-append, map-append)
-
-module _ (sent : List Departure) (ports i : ℕ) (e : Departure) (now : List OutputFigures)
-    (so_far : now ≡ map (output_told (take i sent)) (range_with_len 0 ports)) (inside : i < length sent)
-    (own : (get_or sent i e).output < ports) where
-  abbrev here : Departure
-  here = get_or sent i e
-
-  -- what stands at the departure's output
-  pub figures_there : (z : OutputFigures) → get_or now here.output z ≡ output_told (take i sent) here.output
-  figures_there z = grind (arith, common_steps, get_or-map-range_with_len)
-
-  pub outputs_more : (x : OutputFigures) → x ≡ with_departure here.output (output_told (take i sent) here.output) here →
-      set now here.output x ≡ map (output_told (take (i + 1) sent)) (range_with_len 0 ports)
-  outputs_more x is = grind (arith, common_steps, append-nil, filter-append, read_on)
-
 -- ## Slots
 
 abbrev pub IsNoLater : Departure → Departure → Type 0
@@ -150,37 +104,39 @@ pub slots_last : (sent : List Departure) (d : Departure) → EachPair IsNoLater 
 slots_last [] d rising some = absurd (omega arith)
 slots_last (e ∷ sent) d rising some = grind (arith, common_steps, slots_last sent d)
 
--- what gone cells give their departures have
-all_departed : (P : Gone → Type 0) (Q : Departure → Type 0) → ((g : Gone) → P g → Q (departed g)) → (gone : List Gone) →
-    AllByRecursion P gone → AllByRecursion Q (map departed gone)
-all_departed P Q give gone all = of_images departed Q gone (all_weaker P (λ g. Q (departed g)) give gone all)
-
 pub departed_rising : (gone : List Gone) → AllPairs IsSentBefore gone → AllPairs IsNoLater (map departed gone)
 departed_rising gone pairs = all_pairs IsNoLater (map departed gone) (pairs_mapped departed IsNoLater gone
     (each_pair (λ a b. a.slot ≤ b.slot) gone (λ i j d lt inside. grind (arith, common_steps, pairs i j d))))
 
 pub departed_low : (next : ℕ) (gone : List Gone) → next < 2 ^ 63 → AllByRecursion (IsTimely next) gone →
     AllByRecursion (λ d. d.slot < 2 ^ 63) (map departed gone)
-departed_low next gone early =
-    all_departed (IsTimely next) (λ (d : Departure). d.slot < 2 ^ 63) (λ g is. let less = is.1 in omega arith) gone
-
-pub departed_for : (ports : ℕ) (gone : List Gone) → AllByRecursion (λ g. g.queued.cell.output < ports) gone →
-    AllByRecursion (λ d. d.output < ports) (map departed gone)
-departed_for ports = search (rules, all_departed)
+departed_low next gone early all = search (arith, rules, of_images departed, all_weaker (IsTimely next))
 
 -- ## One departure at its output
 
+ruleset read_on = (take_more, set_one, ne_eqb, cases_Bool, length-append, map-append, append-nil, filter-append)
+
 module _ (sent : List Departure) (ports i : ℕ) (e : Departure) (now : List OutputFigures)
     (so_far : now ≡ map (output_told (take i sent)) (range_with_len 0 ports)) (inside : i < length sent)
-    (all : AllByRecursion (λ d. d.output < ports) sent) (read : OutputFigures)
-    (is : read ≡ get_or now (get_or sent i e).output read) where
-  there : read ≡ output_told (take i sent) (get_or sent i e).output
-  there = grind (arith, common_steps, figures_there, all_at)
+    (all : AllByRecursion (λ d. d.output < ports) sent) where
+  abbrev here : Departure
+  here = get_or sent i e
 
-  -- it has sent no more cells than there are departures before this one
-  pub fewer_sent : read.cells ≤ i
-  fewer_sent = grind (arith, common_steps, there, few_kept, length-take-le)
+  own : here.output < ports
+  own = All-from_recursion (λ (d : Departure). d.output < ports) sent all i e inside
 
-  pub departure_counted : (x : OutputFigures) → x ≡ with_departure (get_or sent i e).output read (get_or sent i e) →
-      set now (get_or sent i e).output x ≡ map (output_told (take (i + 1) sent)) (range_with_len 0 ports)
-  departure_counted x counted = grind (arith, common_steps, outputs_more, all_at, there)
+  outputs_more : (x : OutputFigures) → x ≡ with_departure here.output (output_told (take i sent) here.output) here →
+      set now here.output x ≡ map (output_told (take (i + 1) sent)) (range_with_len 0 ports)
+  outputs_more x is = let its = own in grind (arith, common_steps, read_on)
+
+  module _ (read : OutputFigures) (is : read ≡ get_or now here.output read) where
+    there : read ≡ output_told (take i sent) here.output
+    there = let its = own in grind (arith, common_steps, get_or-map-range_with_len)
+
+    -- it has sent no more cells than there are departures before this one
+    pub fewer_sent : read.cells ≤ i
+    fewer_sent = grind (arith, common_steps, there, few_kept, length-take-le)
+
+    pub departure_counted : (x : OutputFigures) → x ≡ with_departure here.output read here →
+        set now here.output x ≡ map (output_told (take (i + 1) sent)) (range_with_len 0 ports)
+    departure_counted x counted = outputs_more x (rw there at counted)

@@ -29,7 +29,7 @@ pub use Rattle.cq_resume.specs.Told.{arriving_cell, buffer_told, is_ahead, is_na
 unfoldable pub use Rattle.cq_resume.specs.Told.{fabric_told}
 pub use Rattle.cq_resume.specs.{declared.found.Found.Found, declared.found.Gone.Gone, declared.found.Name.Name, declared.packets.Tally.Tally, declared.refusal.StateRefusal.StateRefusal, declared.taken.Taken.Taken}
 pub use Rattle.cq_resume.specs.Terms.{AreTables, CanCount, CanTakeUp, IsTransferBefore, classes_of, departed, figures_at_input, machine_of, machines_of, named_as, ports_of, with_departure}
-pub use Rattle.cq_base.proofs.Each.{all_back, all_both, all_front, all_weaker, few_kept, filter_all, filter_none, images_held, of_images}
+pub use Rattle.cq_base.proofs.Each.{all_back, all_both, all_front, all_weaker, few_kept, filter_all, filter_none, images_held, of_images, counted_more}
 pub use Rattle.cq_base.specs.{Arrivals.no_arrivals, declared.cell.TagFault.TagFault, declared.figures.InputFigures.InputFigures, declared.key.Key.Key, declared.setup.ClassRow.ClassRow, declared.setup.Kind.Kind, declared.setup.Kind.TheVariants.Fair, declared.setup.Kind.TheVariants.FirstCome, declared.setup.Kind.TheVariants.Priority, declared.setup.Setup.Setup}
 pub use Rattle.cq_base.proofs.Keys.{key_laws}
 pub use Rattle.cq_pcap.specs.Captured.{Captured}
