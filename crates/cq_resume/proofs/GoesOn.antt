@@ -4,7 +4,7 @@
 use Rattle.cq_resume.proofs.Terms.{common_steps, rules, ◌≡◌, ◌≢◌, ℕ, zero, suc, ◌+◌, ◌<◌, ◌≤◌, ◌^◌, Bool, true, List, [], ◌∷◌, length, get_or, map, Option, None, Some, refl, ap, arith, length-append, ◌==◌, IsSome, filter, nat_lt, slice_get, AllByRecursion, enumerate_from, filter_map, range_with_len, option_map, cases_lt, eq-eqb, eqb-true, lt-ltb, ne_eqb, get_or_past, length-map, filter-append, get_or-map-range_with_len, length-enumerate_from, length-map-range_with_len, Arrival, IsBefore, is_for, Cell, Departure, Queued, OutputFigures, IsTraffic, is_from, is_to, number_of, cells_refused, packets_refused, refused_at, refused_counts, Refused, Fabric, buffer, input, AreCountsOf, AreOwn, HasPorts, IsSoundFabric, fabric_in, departure_of, figures_told, frozen_told, refused_arrivals, sent_told, IsSound, HasShape, Switch, arriving_cell, buffer_told, fabric_told, is_ahead, key_of, list_told, named_in, output_in, output_of, queued_in, queued_of, IsInRange, Named, Sent, State, few_kept, InputFigures, Key, held_for, waiting_for, Apart, Early, all_before, differ_from, IsFabric, ListsKeepOrder, Frozen, AreSized, all_of_has, all_from_has, all_has, has_left, has_right, has_kept, kept_has, Has, AreApart, Stands, no_more, each_pair, pairs_left, pairs_cross, pairs_kept_with, looked_up, pairs_looked_up, kept_few, looked_few, image_at, numbers_few, EachPair}
 use Rattle.cq_ideal.proofs.Waiting.{total, total_more, total_none}
 pub use Rattle.cq_resume.proofs.Coming.{FoundAt, found_at}
-pub use Rattle.cq_resume.proofs.Zipped.{Differ}
+pub use Rattle.cq_resume.proofs.Zipped.{Differ, sifted}
 use Rattle.cq_resume.specs.Sound.{IsBufferedBefore, IsSentBefore}
 use Rattle.cq_resume.specs.Finding.{IsBufferedBefore as IsFoundBefore}
 
@@ -243,12 +243,9 @@ module _ (w : Switch) (s : State) (in_range : IsInRange s) (shape : HasShape w s
   sides = grind (arith, common_steps, length-map-range_with_len, ports_are)
 
   is_fabric : IsFabric f
-  is_fabric = record {
-    square = sides.1;
-    outputs = λ i c among. let many = sides.0 in search (arith, rules, of_traffic, in_list i c among);
-    own = λ j c among. (in_buffer j c among).here;
-    rising = λ j. of_buffer (EachPair IsBefore) tt j (buffer_stands j);
-  }
+  is_fabric =
+      let rising = of_buffer (EachPair IsBefore) tt in
+      search (arith, rules, sides, of_traffic, in_list, in_buffer, rising, buffer_stands)
 
   keep_order : ListsKeepOrder f
   keep_order i = of_list (EachPair Leads) tt i (list_stands i)

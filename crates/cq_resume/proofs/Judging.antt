@@ -6,7 +6,7 @@
 -- arrived first leaves first. What a sound state comes to is said of found cells too. Where a step of judging fails it
 -- names the first clause that fails, since those before it are known; and a state is sound of which all are known.
 use Rattle.cq_resume.proofs.Terms.{common_steps, arith, rules, ◌≡◌, ◌<◌, ◌↔◌, ◌⊎◌, eqb, Bool, true, false, List, [], ◌∷◌, length, map, refl, ◌∙◌, ℕ, sym, ap, All, IsPermutation, ◌&&◌, filter, AllByRecursion, AllZip, list_any, enumerate_from, range_with_len, filter_agree, list_any-IsPermutation, sum_by-IsPermutation, Arrival, Queued, IsTally, figures_told, frozen_told, input_told, output_told, sent_told, taken_of, AreFound, IsWholePacket, PacketsStand, TalliesUp, has_name, names_of, IsFound, AllNamed, AreWholePackets, NoneNamed, HasLimit, Switch, is_named, named_in, packet_before, buffer_told, fabric_told, Gone, Name, Tally, State, length-filter, slots_of, departed, figures_at_input, Found, Taken, Seen, ◌++◌, get_or, ◌≤◌, AllPairs, cases_order, map-append, All-permutation, IsPermutation-sym, IsBefore, FlowsStand, IsGone, IsNameBefore, IsTold, InOneFlow, Leaves, LeavesEarlier, sent_name, waiting_name, IsFoundBefore, IsListedBefore, IsNoLaterInput, IsGoneBefore, IsTimely, StandsBelow, StandBelow, AreOrdered, AreArrivals, KeepArrivalOrder, OfOneFlow, AreBelowFloors, IsBelowFloor, StandInOrder, is_ahead, queued_in, output_of, Named, Sent, All-from_recursion, recursion_from_All, Transfer, machines_of, None, Some, inl, inr, ⊎_elim, ◌-◌, zero, suc, take, ◌+◌, filter_map, slice_get, cases_Bool, cases_eq, cases_lt, eq-eqb, eqb-true, get_or_past, map-id, get_or-map-range_with_len, length-map-range_with_len, is_for, buffer, cushion_of, input, SlackStands, cushion_in, thread_in, HaveSlack, list_told, queued_of, length-map, Scheduled, AreCellsFor, AreNamesFor, HaveRoom, IsCellFor, IsFirstOfTwo, AreFoundIn, IsForPorts, Clause, IsFirstOf, IsFirstUnsound, IsSound, switch_of, CanTakeUp, classes_of, ports_of, Tables, machine_of, IsInRange, IsNamed, below_more, below_none, all_weaker, all_both, all_front, all_back, of_images, Setup, has_at, has_there, all_of_has, all_has, has_all, has_left, has_right, has_cases, has_image, image_has, pair_of_has, Has, each_pair, all_pairs, pairs_right, pairs_cross, EachPair, pairs_of_images, most_ports, StateRefusal}
-use Rattle.cq_resume.proofs.Zipped.{zip_by, same_mapped, IsOf, names_zip, told_is, told_facts, zip_both, zip_has, zip_mate, alls_alike, pairs_alike, all_alike, gone_for, told_for, Differ}
+use Rattle.cq_resume.proofs.Zipped.{zip_by, same_mapped, IsOf, names_zip, sifted, told_is, told_facts, zip_both, zip_has, zip_mate, pairs_alike, all_alike, gone_for, told_for, Differ}
 use Rattle.cq_resume.proofs.Each.{all_same}
 use Rattle.cq_resume.proofs.Cut.{buffered_at, filter_both, listed_at}
 use Rattle.cq_resume.specs.Sound.{IsBufferedBefore, IsSentBefore}
@@ -107,16 +107,10 @@ module _ (i : ℕ) where
 
 -- ## The fabric that is told of
 
-module _ (came : List Arrival) (next : ℕ) where
-  found_of_input : (i : ℕ) (names : List Named) (found : List Queued) → AreFound came next names found →
-      filter_map (queued_of came) (filter (λ c. eqb c.input i) names) ≡ filter (λ q. eqb q.key.input i) found
-  found_of_input i = zip_by (IsTold came next)
-      (λ names found. filter_map (queued_of came) (filter (λ c. eqb c.input i) names)
-      ≡ filter (λ q. eqb q.key.input i) found) refl (search (arith, rules, told_facts, told_is))
-
-  all_found : (names : List Named) (found : List Queued) → AreFound came next names found →
-      filter_map (queued_of came) names ≡ found
-  all_found names found zips = search (arith, rules, same_mapped (IsTold came next) (queued_of came), map-id found)
+all_found : (came : List Arrival) (next : ℕ) (names : List Named) (found : List Queued) →
+    AreFound came next names found → filter_map (queued_of came) names ≡ found
+all_found came next names found zips =
+    search (arith, rules, same_mapped (IsTold came next) (queued_of came), map-id found)
 
 -- ## Names that stand for those of a state
 
@@ -161,12 +155,12 @@ module _ (w : Switch) (s : State) (f : Found) (found : IsFound w.came s f) where
       let keys = pairs_alike Told _ _ (listed w.came next) s.listed f.listed.items found.listed in
       let buffers = pairs_alike Told _ _ (buffered w.came next) s.buffered f.buffered.items found.buffered in
       let sends = pairs_alike Left _ _ (sent w.came next) s.sent f.sent.items found.sent in
-      let times = alls_alike Left _ _ (timely w.came next) s.sent f.sent.items found.sent in
+      let times = all_alike Left _ _ (timely w.came next) s.sent f.sent.items found.sent in
       let early = λ (t : Transfer). t.slot < next in (
         (λ stand. search (arith, rules, recursion_from_All)),
         (λ is. let moved = All-from_recursion early s.moved is.4 in
             let in_order = sends.1 is.2.ordered in
-            let in_time = times.1 is.2.timely in search (arith, rules)),
+            let in_time = All-from_recursion _ s.sent (times.1 is.2.timely) in search (arith, rules)),
       )
 
   -- ## Floors
@@ -318,7 +312,7 @@ module _ (w : Switch) (s : State) (f : Found) (found : IsFound w.came s f) where
   -- ## Slack
 
   pub list_is : (i : ℕ) → list_told w.came s i ≡ filter (of_input i) f.listed.items
-  list_is i = found_of_input w.came s.head.next i s.listed f.listed.items found.listed
+  list_is i = grind (arith, common_steps, sifted w.came i s.listed, all_found)
 
   pub buffer_is : (j : ℕ) → buffer_told w.came s j ≡ filter (is_for j) f.buffered.items
   buffer_is j = grind (arith, common_steps, all_found)

@@ -2,9 +2,9 @@
 -- Items that stand in order of a number, taken number by number and laid end on end, are the same list. The cells of
 -- the lists stand in order of their inputs and those of the buffers in order of their outputs, and all of these are
 -- ports. Each name arrives, so its cell is told by it, and a departure by the slot and the name of its cell.
-use Rattle.cq_resume.proofs.Terms.{common_steps, rules, ◌≡◌, ℕ, zero, suc, ◌+◌, ◌<◌, ◌≤◌, List, [], ◌∷◌, length, map, flat_map, Option, Some, refl, arith, ◌==◌, filter, AllByRecursion, AllPairs, enumerate_from, filter_map, range_with_len, option_map, cases_eq, eq-eqb, flat_same, ne_eqb, length-map, length-map-range_with_len, Cell, Queued, Scheduled, IsTraffic, departure_of, figures_told, frozen_told, input_told, machine_of, sent_told, AreTables, IsScheduleOf, IsSound, HasShape, Switch, Tables, arriving_cell, buffer_told, fabric_told, list_told, named_as, named_in, queued_of, switch_of, IsInRange, IsNamed, Named, Seen, Sent, State, Taken, all_of_has, all_from_has, has_left, has_right, has_image, Has, each_pair, looked_up, pairs_looked_up, EachPair}
+use Rattle.cq_resume.proofs.Terms.{common_steps, rules, ◌≡◌, ℕ, zero, suc, ◌+◌, ◌<◌, ◌≤◌, List, [], ◌∷◌, length, map, flat_map, Option, Some, refl, arith, ◌==◌, filter, AllByRecursion, AllPairs, enumerate_from, filter_map, range_with_len, option_map, cases_eq, eq-eqb, flat_same, ne_eqb, length-map, length-map-range_with_len, Cell, Queued, Scheduled, IsTraffic, departure_of, figures_told, frozen_told, input_told, machine_of, sent_told, AreTables, IsScheduleOf, IsSound, HasShape, Switch, Tables, arriving_cell, buffer_told, fabric_told, list_told, named_as, named_in, queued_of, switch_of, IsInRange, IsNamed, Named, Seen, Sent, State, Taken, all_of_has, all_from_has, has_left, has_right, has_image, Has, each_pair, looked_up, pairs_looked_up, EachPair, filter_none, all_weaker}
 use Rattle.std.proofs.lemmas.List.Folds.{flat_map-map}
-use Rattle.cq_resume.proofs.GoesOn.{comes, of_traffic, its_input, its_output, some_cell}
+use Rattle.cq_resume.proofs.GoesOn.{comes, of_traffic, its_input, its_output, some_cell, sifted}
 use Rattle.cq_resume.proofs.Scheduling.{schedule_known}
 use Rattle.cq_resume.specs.Sound.{IsBufferedBefore}
 use Rattle.cq_resume.specs.Reading.{IsRead, seen_as, sent_as, text_of_taken}
@@ -20,10 +20,6 @@ module _ {X : Type 0} (number : X → ℕ) where
   abbrev by_number : List X → ℕ → ℕ → List X
   by_number xs a n = flat_map (numbered xs) (range_with_len a n)
 
-  none_below : (xs : List X) (k i : ℕ) → i < k → AllByRecursion (λ x. k ≤ number x) xs → numbered xs i ≡ []
-  none_below [] k i lt all = refl
-  none_below (x ∷ xs) k i lt all = grind (arith, common_steps, ne_eqb, none_below xs k i lt all.1)
-
   no_items : (a n : ℕ) → by_number [] a n ≡ []
   no_items a zero = refl
   no_items a (suc n) = no_items (a + 1) n
@@ -38,8 +34,7 @@ module _ {X : Type 0} (number : X → ℕ) where
       AllByRecursion (λ y. number x ≤ number y) xs → by_number (x ∷ xs) a n ≡ x ∷ by_number xs a n
   first x xs a zero low high all = absurd (omega arith)
   first x xs a (suc n) low high all =
-      let none = none_below xs (number x) a in
-      search (arith, rules, past, cases_eq, ne_eqb, eq-eqb, first x xs (a + 1) n)
+      search (arith, rules, past, cases_eq, ne_eqb, eq-eqb, filter_none, all_weaker, first x xs (a + 1) n)
 
   ordered : (xs : List X) (n : ℕ) → EachPair (λ x y. number x ≤ number y) xs → AllByRecursion (λ x. number x < n) xs →
       by_number xs 0 n ≡ xs
@@ -79,12 +74,6 @@ module _ (w : Switch) (s : State) (in_range : IsInRange s) (shape : HasShape w s
       let some = arrives d.cell (has_right _ _ d.cell (has_image (λ (e : Sent). e.cell) s.sent d has)) in
       grind (arith, common_steps))
 
-  -- those of an input are the cells of its names
-  sifted : (i : ℕ) (xs : List Named) → filter_map cell_of (filter (λ (c : Named). c.input == i) xs)
-      ≡ filter (λ (q : Queued). q.key.input == i) (filter_map cell_of xs)
-  sifted i [] = refl
-  sifted i (c ∷ xs) = grind (arith, common_steps, sifted i xs)
-
   -- cells that wait stand in order of a number below that of the ports, and are told number by number
   module _ (number : Queued → ℕ) (R : Named → Named → Type 0)
       (no_less : (c d : Named) (q r : Queued) → R c d → cell_of c ≡ Some q → cell_of d ≡ Some r → number q ≤ number r)
@@ -103,7 +92,7 @@ module _ (w : Switch) (s : State) (in_range : IsInRange s) (shape : HasShape w s
   lists_again : map named_as (flat_map (λ l. l) (map (list_told w.came s) (range_with_len 0 s.head.ports))) ≡ s.listed
   lists_again = again (λ q. q.key.input) (λ c d. c.input ≤ d.input) (search (arith, rules, its_input)) s.listed
       sound.order.lists (λ c q has is. let own = all_of_has (IsNamed s.head.ports) s.listed c in_range.listed has in
-      search (arith, rules, its_input)) (list_told w.came s) (λ i. sifted i s.listed) (search (rules, has_left))
+      search (arith, rules, its_input)) (list_told w.came s) (λ i. sifted w.came i s.listed) (search (rules, has_left))
 
   buffers_again : map named_as (flat_map (λ l. l) (map (buffer_told w.came s) (range_with_len 0 s.head.ports)))
       ≡ s.buffered

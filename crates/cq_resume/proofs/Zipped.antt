@@ -6,7 +6,7 @@
 -- are the same; and where no two are the same they do. The name of an arrival, if there is one, stands where halving
 -- finds the first that is not ahead of it. So no cell is named twice exactly where the names that were found stand
 -- strictly in order: order changes nothing of which names are the same.
-use Rattle.cq_resume.proofs.Terms.{rules, arith, ◌≡◌, ℕ, ◌+◌, ◌<◌, ◌≤◌, ◌↔◌, List, [], ◌∷◌, ◌++◌, length, get_or, map, take, refl, subst, None, Some, Bool, common_steps, All, filter_map, Option, IsSome, AllByRecursion, AllPairs, AllZip, take_all, take_more, All-from_recursion, recursion_from_All, cases_Bool, lt-ltb, ltb-true, Arrival, Queued, AreGone, AreFound, IsTold, names_of, told_of, IsGone, arriving_cell, key_of, named_in, queued_of, Gone, Name, Named, State, IsOfSwitch, IsTraffic, Sent, ◌≢◌, ◌⊎◌, eqb, ltb, true, false, sym, Bor, ◌&&◌, ◌||◌, IsPermutation, Called, ComputesKey, Mut, AllAdjacentBelow, IsDistinct, list_any, IsPartitionPoint, IsPartitionedBy, IsSortedByKey, Ordering, is_lt, nat_cmp, ordering_then, and_from, and_left, and_parts, and_right, cases_eq, cases_lt, cases_order, eq-eqb, eqb-true, le-ltb, ne_eqb, or_cases, or_left, or_right, false_from_ne_true, always_returns_same, get_or_default, list_any_at, list_any_none, IsDistinct-IsPermutation, IsDistinct-from_apart, apart_from_distinct, ge_from_not_lt, IsNameBefore, IsNameNotAfter, IsPermutation-sym, AreArrivals, all_has, all_of_has, all_from_has, Has, each_pair, all_pairs, EachPair, StateRefusal}
+use Rattle.cq_resume.proofs.Terms.{rules, arith, ◌≡◌, ℕ, ◌+◌, ◌<◌, ◌≤◌, ◌↔◌, List, [], ◌∷◌, ◌++◌, length, get_or, map, take, refl, subst, None, Some, Bool, common_steps, filter_map, Option, IsSome, AllByRecursion, AllPairs, AllZip, take_all, take_more, All-from_recursion, cases_Bool, lt-ltb, ltb-true, Arrival, Queued, AreGone, AreFound, IsTold, names_of, told_of, IsGone, arriving_cell, key_of, named_in, queued_of, Gone, Name, Named, State, IsOfSwitch, IsTraffic, Sent, ◌≢◌, ◌⊎◌, eqb, ltb, true, false, sym, Bor, ◌&&◌, ◌||◌, IsPermutation, Called, ComputesKey, Mut, AllAdjacentBelow, IsDistinct, list_any, IsPartitionPoint, IsPartitionedBy, IsSortedByKey, Ordering, is_lt, nat_cmp, ordering_then, and_from, and_left, and_parts, and_right, cases_eq, cases_lt, cases_order, eq-eqb, eqb-true, le-ltb, ne_eqb, or_cases, or_left, or_right, false_from_ne_true, always_returns_same, get_or_default, list_any_at, list_any_none, IsDistinct-IsPermutation, IsDistinct-from_apart, apart_from_distinct, ge_from_not_lt, IsNameBefore, IsNameNotAfter, IsPermutation-sym, AreArrivals, all_has, all_of_has, all_from_has, Has, each_pair, all_pairs, EachPair, StateRefusal, filter}
 use Rattle.cq_resume.specs.Sound.{IsOnlyFor}
 use Rattle.cq_resume.specs.declared.refusal.StateRefusal.TheVariants as refusal
 use Rattle.cq_resume.proofs.Coming.{found_at}
@@ -49,11 +49,6 @@ module _ {A B : Type 0} (R : A → B → Type 0) where
       (ys : List B) → AllZip R xs ys → AllByRecursion P xs ↔ AllByRecursion Q ys
   all_alike P Q same = zip_by (λ xs ys. AllByRecursion P xs ↔ AllByRecursion Q ys) ((λ _. tt), (λ _. tt))
       (λ x y xs ys own zips rest. let here = same x y own in grind (arith, common_steps))
-
-  pub alls_alike : (P : A → Type 0) (Q : B → Type 0) → ((x : A) (y : B) → R x y → P x ↔ Q y) → (xs : List A)
-      (ys : List B) → AllZip R xs ys → All P xs ↔ AllByRecursion Q ys
-  alls_alike P Q same xs ys zips =
-      search (arith, rules, all_alike P Q same xs ys zips, recursion_from_All P xs, All-from_recursion P xs)
 
   -- what holds of each item by its own
   pub each_left : (P : A → Type 0) → ((x : A) (y : B) → R x y → P x) → (xs : List A) (ys : List B) → AllZip R xs ys →
@@ -98,6 +93,13 @@ module _ (came : List Arrival) (next : ℕ) (c : Named) where
 
   pub can_be_told : c.slot < next → IsSome (arriving_cell came c) → told_of came next c ≡ None → ⊥
   can_be_told early some none = search (arith, rules, lt-ltb)
+
+-- those of an input are the cells of its names
+pub sifted : (came : List Arrival) (i : ℕ) (xs : List Named) →
+    filter_map (queued_of came) (filter (λ c. eqb c.input i) xs)
+    ≡ filter (λ q. eqb q.key.input i) (filter_map (queued_of came) xs)
+sifted came i [] = refl
+sifted came i (c ∷ xs) = grind (arith, common_steps, sifted came i xs)
 
 -- ## All names
 
